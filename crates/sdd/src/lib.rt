@@ -3,17 +3,17 @@
 //! Scripts are in `sdd_script`, so that a program without them needs none of their crates.
 #![tactic(auto)]
 
+pub use sdd_core::{Epoch, Limits, Refused, Tag};
+pub use sdd_domain::{Domain, Local, Receipt};
+pub use sdd_machine::machine::{Did, Machine, Step, safety};
+pub use sdd_participants::{Deferred, Idle, Job, Tally};
 pub use sdd_space::laws::{
     comes_back, epoch_moves_by_one, owned_is_shown, shared_is_shown, shows_what_was_made,
     values_fit_slots,
 };
 pub use sdd_space::{
-    AtomicOwned, AtomicRaw, AtomicShared, Caller, Cells, Collectors, Deferrals, InPlaceItems, Giver,
-    Guard, Guards, Item, Items, Limits, Look, LookThrough, Owned, OwnedPtrPair, PrivateCollector,
+    AtomicOwned, AtomicRaw, AtomicShared, Caller, Cells, Collectors, Deferrals, Giver, Guard,
+    Guards, InPlaceItems, Item, Items, Look, LookThrough, Owned, OwnedPtrPair, PrivateCollector,
     Ptr, RawCells, RawItems, RawPtr, Several, Shared, SharedItems, SharedPtrPair, Shows, Space,
 };
-pub use sdd_core::{Epoch, Refused, Tag};
-pub use sdd_domain::{Domain, Local, Receipt};
-pub use sdd_machine::machine::{Did, Machine, Step, safety};
-pub use sdd_participants::{Deferred, Idle, Job, Tally};
 pub use sdd_world::{Place, Turn, World};

@@ -12,7 +12,7 @@ ghost use Rattle.sdd_atomics.specs.Sizes.{AreSmall};
 use crate::plays::Found;
 use crate::words::{first_slot, word_count};
 use atomic_table::{Closed, Refused, Seat, Table, TableRule};
-use sdd_shared_values::{Bank, ValueFraction, ValuesName, Treasury};
+use sdd_shared_values::{Bank, Treasury, ValueFraction, ValuesName};
 use sdd_views::{Sizes, View};
 use std::alloc::Global;
 
@@ -69,7 +69,11 @@ impl DomainTable {
     /// The words of a domain of these sizes, as they are before anybody takes part, with all stakes at home.
     ///
     /// Where memory is wanting the stakes come back.
-    pub fn new(alloc: Global, plan: &TableLayout, laid: Vec<ValueFraction>) -> Result<DomainTable, Vec<ValueFraction>>
+    pub fn new(
+        alloc: Global,
+        plan: &TableLayout,
+        laid: Vec<ValueFraction>,
+    ) -> Result<DomainTable, Vec<ValueFraction>>
         requires small { AreSmall plan.now.sizes }
         requires laid { AreLaid plan.now.title.book plan.now.sizes.participants plan.now.sizes.slots laid.items }
         ensures { MatchResult result (λ board. plan_of board ≡ plan.now) (λ back. back.items ≡ laid.items) }

@@ -8,9 +8,9 @@ ghost use Rattle.sdd_atomics.specs.DomainTable.{id_of, book_of, places_of, slots
 ghost use Rattle.sdd_atomics.specs.Grips.{IsGripOf, IsUnitOf};
 ghost use Rattle.sdd_atomics.specs.DomainSeat.{view};
 
-use crate::domain_table::{DomainTable, DomainSeat};
-use sdd_shared_values::ValueFraction;
+use crate::domain_table::{DomainSeat, DomainTable};
 use sdd_rights::{ReadFraction, WHOLE};
+use sdd_shared_values::ValueFraction;
 
 impl DomainTable {
     /// Where the last stake in a slot is at home.
@@ -33,7 +33,11 @@ impl DomainTable {
 
 /// Cuts all units but one off the last stake in a slot, all of whose stakes the token took last: one goes with the slot's owner, the rest to the bank.
 #[inline]
-pub fn cut_rest(board: &DomainTable, token: &mut DomainSeat, slot: u32) -> (ReadFraction, ValueFraction)
+pub fn cut_rest(
+    board: &DomainTable,
+    token: &mut DomainSeat,
+    slot: u32,
+) -> (ReadFraction, ValueFraction)
     requires home { token.old.table_id ≡ id_of board.now }
     requires inside { slot < slots_of board.now }
     requires row { (value : Gv) × (others : CarriedFractions) × HasAll (book_of board.now) slot (places_of board.now) 0 (IsValue value) others token.old.me.1 }

@@ -7,4 +7,4 @@ mod plays;
 pub mod steps;
 pub mod words;
 
-pub use domain_table::{DomainTable, TableLayout, DomainSeat};
+pub use domain_table::{DomainSeat, DomainTable, TableLayout};

@@ -14,10 +14,10 @@ ghost use Rattle.sdd_atomics.specs.DomainSeat.{view, epoch, words_known, Stepped
 pub mod counts;
 pub mod slots;
 
-use crate::domain_table::{DomainTable, DomainSeat};
+use crate::domain_table::{DomainSeat, DomainTable};
 use crate::plays::{
-    Advance, Bar, Close, End, Lock, LookAtCount, LookAtLock, LookAtState, Publish, Read, Register,
-    NewSeat, Unlock, Write,
+    Advance, Bar, Close, End, Lock, LookAtCount, LookAtLock, LookAtState, NewSeat, Publish, Read,
+    Register, Unlock, Write,
 };
 use crate::words::{GLOBAL, LOCK, count_word, state_word};
 

@@ -7,8 +7,8 @@ ghost use Rattle.sdd_space.specs.Owned.{cell_of, cells_home};
 ghost use Rattle.sdd_space.specs.CallerId.{IsExact, IsSeated};
 ghost use Rattle.sdd_bench.specs.Leaves.{IsFilled, Leaves};
 
-use sdd_space::{AtomicOwned, Cells, Guard, Guards, Items, Look, Owned, Space};
 use sdd_core::{Refused, Tag};
+use sdd_space::{AtomicOwned, Cells, Guard, Guards, Items, Look, Owned, Space};
 
 /// Opens a guard, puts two items into cells, loads from them that often, and gives all back.
 #[inline(always)]

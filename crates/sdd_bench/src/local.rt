@@ -1,6 +1,6 @@
 //! The operations by a participant of a domain.
 ghost use Rattle.std.specs.Prelude.{◌≡◌, All, Err};
-ghost use Rattle.sdd_space.specs.Limits.{AreInRange};
+ghost use Rattle.sdd_core.specs.Limits.{AreInRange};
 ghost use Rattle.sdd_space.specs.CallerId.{IsSeated};
 ghost use Rattle.sdd_domain.specs.Domain.{slots_in};
 ghost use Rattle.sdd_domain.specs.Receipt.{Receipt as EndedCounts};
@@ -8,10 +8,10 @@ ghost use Rattle.sdd_domain.specs.Space.{seat_of};
 
 use crate::operation::Task;
 use crate::turns;
-use sdd_space::{Limits, Owned};
-use sdd_core::Refused;
+use sdd_core::{Limits, Refused};
 use sdd_domain::{Domain, Local, Receipt};
 use sdd_participants::Tally;
+use sdd_space::Owned;
 use std::alloc::Global;
 
 /// Half of the slots.

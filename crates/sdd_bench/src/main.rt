@@ -12,8 +12,7 @@ mod turns;
 mod world;
 
 use operation::{Operation, named};
-use sdd_space::Limits;
-use sdd_core::Refused;
+use sdd_core::{Limits, Refused};
 use sdd_participants::Tally;
 use std::alloc::Global;
 use std::process::ExitCode;

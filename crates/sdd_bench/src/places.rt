@@ -4,8 +4,7 @@ ghost use Rattle.sdd_domain.specs.Domain.{slots_in};
 ghost use Rattle.sdd_domain.specs.Receipt.{Receipt as EndedCounts};
 
 use crate::local::keep;
-use sdd_space::Limits;
-use sdd_core::Refused;
+use sdd_core::{Limits, Refused};
 use sdd_domain::{Domain, Local, Receipt};
 use sdd_participants::Tally;
 use std::alloc::Global;

@@ -9,10 +9,10 @@ ghost use Rattle.sdd_space.specs.Shared as shared;
 ghost use Rattle.sdd_bench.specs.Leaves.{Leaves};
 
 use crate::operation::Guarding;
-use sdd_space::laws::comes_back;
-use sdd_space::{Deferrals, Guard, Guards, Items, Look, Owned, RawItems, Shared, SharedItems};
 use sdd_core::Refused;
 use sdd_participants::Idle;
+use sdd_space::laws::comes_back;
+use sdd_space::{Deferrals, Guard, Guards, Items, Look, Owned, RawItems, Shared, SharedItems};
 
 /// Does something with guards that often.
 #[inline(always)]

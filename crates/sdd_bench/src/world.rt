@@ -1,6 +1,6 @@
 //! The operations in a world of one participant.
 ghost use Rattle.std.specs.Prelude.{◌≡◌, [], Err, IfOk};
-ghost use Rattle.sdd_space.specs.Limits.{AreInRange};
+ghost use Rattle.sdd_core.specs.Limits.{AreInRange};
 ghost use Rattle.sdd_space.specs.Out.{out};
 ghost use Rattle.sdd_space.specs.CallerId.{IsExact, IsSeated};
 ghost use Rattle.sdd_space.specs.Whole.{IsCounted};
@@ -9,9 +9,9 @@ ghost use Rattle.sdd_bench.specs.Leaves.{Leaves};
 
 use crate::operation::Guarding;
 use crate::{cells, turns};
-use sdd_space::{Limits, Space};
-use sdd_core::Refused;
+use sdd_core::{Limits, Refused};
 use sdd_participants::{Idle, Tally};
+use sdd_space::Space;
 use sdd_world::World;
 use std::alloc::Global;
 

@@ -7,13 +7,13 @@ ghost use Rattle.sdd_cell_acts.specs.Lines.{making_cell};
 ghost use Rattle.sdd_script_model.specs.Script.{Acts};
 
 use sdd_core::{Refused, Tag};
+use sdd_participants::CellContents;
 use sdd_script_model::OwnerKind;
 use sdd_script_names::Interpreter;
 use sdd_script_names::items::date_if_waiting;
 use sdd_script_names::owners::{fits, take_filling};
 use sdd_script_names::participants::under;
 use sdd_script_text::{Action, Call, CellName, GuardName, ItemName, OwnerName, PlaceName, Reply};
-use sdd_participants::CellContents;
 use sdd_turn_commands::cells::{cell_around, cell_loaded, close_at, slot_in, tag_if, tag_of};
 use sdd_world::inner::has_no_cell;
 use std::alloc::AllocError;
@@ -79,7 +79,13 @@ pub fn tag(stage: &mut Interpreter, name: PlaceName, cell: CellName) -> Reply
 }
 
 /// `P tagif C T if T`: a cell has the first tag where it had the second, and whether it had is told.
-pub fn set_tag_if(stage: &mut Interpreter, name: PlaceName, cell: CellName, tag: Tag, was: Tag) -> Reply
+pub fn set_tag_if(
+    stage: &mut Interpreter,
+    name: PlaceName,
+    cell: CellName,
+    tag: Tag,
+    was: Tag,
+) -> Reply
     ensures acts { Acts stage.old (Call.At name (Action.TagIf cell tag was)) result stage.new }
 {
     let Some(attending) = stage.hand.places.get(name.0) else {

@@ -6,13 +6,15 @@ ghost use Rattle.sdd_participants.specs.declared.standing.CellContents.{CellCont
 ghost use Rattle.sdd_script_model.specs.Script.{Acts};
 
 use sdd_core::{Refused, Tag};
+use sdd_participants::CellContents;
 use sdd_script_names::Interpreter;
 use sdd_script_names::items::{item_seen, slot_compared};
-use sdd_script_names::owners::{fits, give_filling, put_back, shared_cell_of, take_filling, told_back};
+use sdd_script_names::owners::{
+    fits, give_filling, put_back, shared_cell_of, take_filling, told_back,
+};
 use sdd_script_names::participants::under;
 use sdd_script_text::{Action, Call, CellName, GuardName, ItemName, OwnerName, PlaceName, Reply};
 use sdd_space_commands::holding::{AnyCell, AnyOwner};
-use sdd_participants::CellContents;
 use sdd_turn_commands::exchanges::{copy_held, exchange_at, share_held, swap_in, take_out};
 use std::alloc::AllocError;
 
@@ -110,7 +112,11 @@ pub fn exchange(
 }
 
 /// `P into C`: the cell is spent, and the owner in it, if there is one, comes out. Refused where memory for its name is, and then nothing has changed.
-pub fn into_owner(stage: &mut Interpreter, name: PlaceName, cell: CellName) -> Result<Reply, AllocError>
+pub fn into_owner(
+    stage: &mut Interpreter,
+    name: PlaceName,
+    cell: CellName,
+) -> Result<Reply, AllocError>
     ensures acts { MatchResult result (λ reply. Acts stage.old (Call.At name (Action.Into cell)) reply stage.new) (λ _. stage.new ≡ stage.old) }
 {
     let Some(attending) = stage.hand.places.get(name.0) else {

@@ -1,8 +1,8 @@
 //! Cells of owners that are alone.
 use crate::example::{AMPLE, Example, Setting};
 use crate::steps::{close, opened, owned, seen};
-use sdd_space::Space;
 use sdd_core::Tag;
+use sdd_space::Space;
 use std::process::Abort;
 
 /// A swap answers what the cell held and its tag. It is left with nothing, which the weak exchange gives back.

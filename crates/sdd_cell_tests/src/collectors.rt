@@ -1,8 +1,8 @@
 //! Private collectors: what they are given goes at its third change, and at their close at latest.
 use crate::example::{AMPLE, Example, in_a_world};
 use crate::steps::{close, collectors, opened, shared, shows};
-use sdd_space::{Limits, Space};
-use sdd_core::Refused;
+use sdd_core::{Limits, Refused};
+use sdd_space::Space;
 use std::process::Abort;
 
 /// An owned and a shared item are collected, and both go at the close.

@@ -3,7 +3,8 @@ ghost use Rattle.std.specs.Prelude.{◌≡◌};
 ghost use Rattle.sdd_space.specs.CallerId.{IsSeated};
 
 use crate::steps::accelerated;
-use sdd_space::{Item, Limits, Space};
+use sdd_core::Limits;
+use sdd_space::{Item, Space};
 use sdd_world::{Place, World};
 use std::marker::Model;
 use std::process::Abort;

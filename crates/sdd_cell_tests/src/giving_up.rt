@@ -7,7 +7,8 @@ ghost use Rattle.sdd_cell_tests.specs.Value.{holdings_of};
 use crate::Value;
 use crate::example::{AMPLE, Setting};
 use crate::steps::{owned, raw, shared};
-use sdd_space::{Cells, Items, Limits, RawCells, RawPtr};
+use sdd_core::Limits;
+use sdd_space::{Cells, Items, RawCells, RawPtr};
 use std::process::Abort;
 
 /// A value with the owner of another is retired.

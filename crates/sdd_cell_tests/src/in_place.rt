@@ -1,8 +1,8 @@
 //! Items that are changed and dropped in their place.
 use crate::example::{AMPLE, Example, in_a_world};
 use crate::steps::{close, opened, shared};
-use sdd_space::Space;
 use sdd_core::Refused;
+use sdd_space::Space;
 use std::process::Abort;
 
 /// An owner that may have others beside it.

@@ -7,10 +7,10 @@ ghost use Rattle.sdd_space.specs.Shared.{slots_home, cells_home};
 
 use crate::example::AMPLE;
 use crate::steps::{close, opened, seen, shared};
-use sdd_space::{AtomicShared, Cells, Items, Limits, Shared, SharedItems, Space, inner};
-use sdd_core::Refused;
+use sdd_core::{Limits, Refused};
 use sdd_participants::Standing;
 use sdd_rights::SharedRights;
+use sdd_space::{AtomicShared, Cells, Items, Shared, SharedItems, Space, inner};
 use sdd_world::inner::{add_owners, let_go_but_one, standing_of};
 use sdd_world::{Place, World};
 use std::marker::Model;

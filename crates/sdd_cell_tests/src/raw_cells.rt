@@ -5,8 +5,8 @@ ghost use Rattle.sdd_space.specs.CallerId.{IsSeated};
 
 use crate::example::{AMPLE, Example, in_a_world};
 use crate::steps::{owned, raw};
-use sdd_space::{AtomicRaw, Guards, RawCells, RawPtr, Space};
 use sdd_core::Tag;
+use sdd_space::{AtomicRaw, Guards, RawCells, RawPtr, Space};
 use std::process::Abort;
 
 /// A cell that has this pointer compares tags and pointers. It is left with nothing.

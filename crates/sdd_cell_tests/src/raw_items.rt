@@ -1,8 +1,8 @@
 //! Items that are out as raw, with nobody's right.
 use crate::example::{AMPLE, Example, in_a_world};
 use crate::steps::{close, opened, owned};
-use sdd_space::Space;
 use sdd_core::{Refused, Tag};
+use sdd_space::Space;
 use std::process::Abort;
 
 struct GoesRaw;

@@ -1,6 +1,6 @@
 //! Pointers to nothing: their texts, their tags, and which are equal.
-use sdd_space::{Ptr, RawPtr};
 use sdd_core::Tag;
+use sdd_space::{Ptr, RawPtr};
 use std::test::Fail;
 
 #[test]

@@ -1,8 +1,8 @@
 //! Owners that may have others beside them, pointers to their items, and cells that hold such owners.
 use crate::example::{AMPLE, Example, Setting};
 use crate::steps::{close, opened, seen, shared};
-use sdd_space::Space;
 use sdd_core::Tag;
+use sdd_space::Space;
 use std::process::Abort;
 
 /// The last owner is told, and a guard sees the value still.

@@ -8,8 +8,8 @@ pub mod owned;
 pub mod raw;
 pub mod shared;
 
-use sdd_space::{Guard, Guards, Item, Look, Ptr};
 use sdd_core::Tag;
+use sdd_space::{Guard, Guards, Item, Look, Ptr};
 use std::process::Abort;
 
 /// Of an exchange: the number whose owner came back, which waits from now on, the number that the pointer shows, and its tag.

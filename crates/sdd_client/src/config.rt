@@ -10,9 +10,9 @@ ghost use Rattle.sdd_space.specs.World.{World, IsPlaceOf};
 ghost use Rattle.sdd_world.specs.Place.{index_of};
 ghost use Rattle.sdd_client.specs.Config.{IsSetTo, cell_of, cells_home, replaced};
 
+use sdd_core::{Refused, Tag};
 use sdd_space::laws::shared_is_shown;
 use sdd_space::{AtomicShared, Cells, Guard, Item, Items, Look, Shared};
-use sdd_core::{Refused, Tag};
 use sdd_world::{Place, World};
 
 /// A value that is read as a whole under a guard, and replaced as a whole.

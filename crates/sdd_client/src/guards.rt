@@ -13,9 +13,9 @@ ghost use Rattle.sdd_space.specs.CallerId.{IsSeated, IsExact, MayNest};
 ghost use Rattle.sdd_participants.specs.EpochState.{is_open};
 ghost use Rattle.sdd_world.specs.Place.{index_of};
 
+use sdd_participants::{Idle, Standing};
 use sdd_space::laws::epoch_moves_by_one;
 use sdd_space::{Guard, Guards, Item, Owned};
-use sdd_participants::{Idle, Standing};
 use sdd_world::{Place, World};
 
 /// Opens a guard, accelerates it and closes it.

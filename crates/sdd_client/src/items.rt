@@ -7,9 +7,9 @@ ghost use Rattle.sdd_space.specs.World.{place_at, value_at};
 ghost use Rattle.sdd_space.specs.Owned.{slot_of, slots_home};
 ghost use Rattle.sdd_participants.specs.EpochState.{has_garbage};
 
+use sdd_core::Refused;
 use sdd_space::laws::{comes_back, owned_is_shown};
 use sdd_space::{Guard, Guards, Items, Look, Owned, RawItems};
-use sdd_core::Refused;
 
 /// Makes an item, reads it and retires it; answers what was read, which is what was put in.
 pub fn made_and_read<S: Look<u64> + Items<u64>>(

@@ -12,9 +12,9 @@ ghost use Rattle.sdd_domain.specs.LocalState.{IsLone};
 ghost use Rattle.sdd_domain.specs.Space.{seat_of};
 
 use crate::guards::accelerated;
-use sdd_space::{Guard, Item, Items, Owned};
 use sdd_core::Refused;
 use sdd_domain::{Domain, Local};
+use sdd_space::{Guard, Item, Items, Owned};
 use sdd_world::{Place, World};
 
 /// Makes an item and retires it: it waits with the participant.

@@ -6,9 +6,9 @@ ghost use Rattle.sdd_space.specs.World.{World, IsPlaceOf};
 ghost use Rattle.sdd_world.specs.Place.{index_of};
 ghost use Rattle.sdd_domain.specs.Space.{seat_of};
 
-use sdd_space::{Items, Look, Owned};
 use sdd_core::Refused;
 use sdd_domain::Local;
+use sdd_space::{Items, Look, Owned};
 use sdd_world::{Place, World};
 
 /// Makes an item and looks at it without a guard: answers what is seen, which is what was put in.

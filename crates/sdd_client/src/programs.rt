@@ -2,7 +2,7 @@
 ghost use Rattle.std.specs.Prelude.{◌≡◌, ℕ, ◌+◌, ◌^◌, ◌<◌, ◌≤◌, MatchResult, length};
 ghost use Rattle.sdd_participants.specs.Slab.{IsEmptyAt};
 ghost use Rattle.sdd_participants.specs.Tally.{no_items};
-ghost use Rattle.sdd_space.specs.Limits.{AreInRange};
+ghost use Rattle.sdd_core.specs.Limits.{AreInRange};
 ghost use Rattle.sdd_space.specs.World.{World, IsGuarded, IsPlaceOf};
 ghost use Rattle.sdd_space.specs.Whole.{taken};
 ghost use Rattle.sdd_space.specs.Out.{out, HoldsNothing};
@@ -13,9 +13,9 @@ ghost use Rattle.sdd_space.specs.Passing.{HavePassed};
 
 use crate::guards::four_guards;
 use crate::items::made_and_read;
-use sdd_space::{Item, Limits, Owned};
-use sdd_core::Refused;
+use sdd_core::{Limits, Refused};
 use sdd_participants::Tally;
+use sdd_space::{Item, Owned};
 use sdd_world::{Place, World};
 use std::alloc::Global;
 

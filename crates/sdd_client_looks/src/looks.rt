@@ -9,8 +9,8 @@ ghost use Rattle.sdd_space.specs.Steps.{opened};
 ghost use Rattle.sdd_space.specs.World.{World, IsPlaceOf, value_at};
 ghost use Rattle.sdd_world.specs.Place.{index_of};
 
-use sdd_space::{Guard, Guards, Item, Items, Look, Owned};
 use sdd_core::Refused;
+use sdd_space::{Guard, Guards, Item, Items, Look, Owned};
 use sdd_world::{Place, World};
 
 /// What was found of one item.

@@ -1,6 +1,6 @@
 -- What the program is to do, by its arguments
 use Rattle.std.specs.Prelude.{◌≡◌, ℕ, List, [], ◌∷◌, codes}
-use Rattle.sdd_space.specs.declared.limits.Limits.{Limits}
+use Rattle.sdd_core.specs.declared.limits.Limits.{Limits}
 use Rattle.sdd_script_text.specs.Call.{IsWordOf}
 use Rattle.sdd_command.specs.declared.arguments.Choice.{Choice}
 use Rattle.sdd_command.specs.declared.arguments.Choice.TheVariants.{Script, Steps, Usage}

@@ -1,9 +1,9 @@
 //! What the program's arguments ask for.
 ghost use Rattle.std.specs.Prelude.{◌↔◌, IsTrue, drop, map, MatchOption, string_bytes};
-ghost use Rattle.sdd_space.specs.declared.limits.Limits.{Limits};
+ghost use Rattle.sdd_core.specs.declared.limits.Limits.{Limits};
 ghost use Rattle.sdd_command.specs.Choice.{AreLimits, AreSteps, Chooses};
 
-use sdd_space::Limits;
+use sdd_core::Limits;
 use sdd_script_text::inner::number;
 
 /// What the arguments ask for.

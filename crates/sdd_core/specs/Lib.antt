@@ -1,3 +1,4 @@
 pub mod Epoch
+pub mod Limits
 pub mod Refused
 pub mod Tag

@@ -1,5 +1,5 @@
 -- A domain as its callers see it
-use Rattle.sdd_space.specs.declared.limits.Limits.{Limits}
+use Rattle.sdd_core.specs.declared.limits.Limits.{Limits}
 use Rattle.atomic_table.specs.Seated.{TableId}
 use Rattle.std.specs.Prelude.{ℕ}
 use Rattle.sdd_rights.specs.Units as token

@@ -4,7 +4,7 @@ use Rattle.atomic_table.specs.Seated.{TableId}
 use Rattle.sdd_rights.specs.Units as token
 use Rattle.sdd_rights.specs.Right.{home_of_table}
 use Rattle.sdd_space.specs.OwnerOrCell as holding
-use Rattle.sdd_space.specs.declared.limits.Limits.{Limits}
+use Rattle.sdd_core.specs.declared.limits.Limits.{Limits}
 use Rattle.sdd_domain.specs.LocalState.{LocalState}
 
 abbrev pub SpaceId : Type 0

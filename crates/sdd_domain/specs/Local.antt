@@ -9,7 +9,7 @@ use Rattle.sdd_views.specs.declared.ShownValue.{ShownValue}
 use Rattle.sdd_word_invariant.specs.Codes.{free_word, waiting_word}
 use Rattle.sdd_domain_invariant.specs.Fillings.{newest}
 use Rattle.sdd_standings.specs.Cells.{null_pointer}
-use Rattle.sdd_space.specs.declared.limits.Limits.{Limits}
+use Rattle.sdd_core.specs.declared.limits.Limits.{Limits}
 use Rattle.sdd_space.specs.World.{World, IsBlank}
 use Rattle.sdd_domain.specs.LocalState.{LocalState, word_of}
 use Rattle.sdd_domain.specs.Tied.{Entries}

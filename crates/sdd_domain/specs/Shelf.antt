@@ -1,6 +1,6 @@
 -- The places of a domain's values
 use Rattle.std.specs.Prelude.{◌≡◌}
-use Rattle.sdd_space.specs.declared.limits.Limits.{Limits}
+use Rattle.sdd_core.specs.declared.limits.Limits.{Limits}
 use Rattle.sdd_shared_values.specs.declared.shared_values.SharedValues.{SharedValues}
 use Rattle.sdd_views.specs.declared.Sizes.{Sizes}
 use Rattle.sdd_atomics.specs.declared.domain_table.DomainTable.{DomainTable}

@@ -7,7 +7,7 @@ ghost use Rattle.sdd_domain.specs.Waits.{ripe, due_at, Arrives, HasArrived};
 ghost use Rattle.sdd_domain.specs.Posed.{IsPosed};
 
 use crate::due_items::DueItems;
-use sdd_atomics::{DomainTable, DomainSeat, steps};
+use sdd_atomics::{DomainSeat, DomainTable, steps};
 use sdd_participants::Participant;
 
 /// Another count was found: what waits has seen one change more, and what has seen three then is due. Where nothing waited that is all, and it is false.

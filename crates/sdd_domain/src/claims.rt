@@ -7,11 +7,16 @@ ghost use Rattle.sdd_domain.specs.Claims.{IsKnownFree, IsUnmoved, Gains, Misses,
 
 use crate::free_slot_hints::FreeSlotHints;
 use sdd_atomics::steps::slots::{FREE, claim, look};
-use sdd_atomics::{DomainTable, DomainSeat};
+use sdd_atomics::{DomainSeat, DomainTable};
 use sdd_core::Refused;
 
 /// One try at a slot, which is claimed if it is found free. So many exchanges more may be lost.
-fn attempt(board: &DomainTable, token: &mut DomainSeat, slot: u32, left: &mut u64) -> Result<bool, Refused>
+fn attempt(
+    board: &DomainTable,
+    token: &mut DomainSeat,
+    slot: u32,
+    left: &mut u64,
+) -> Result<bool, Refused>
     requires home { token.old.table_id ≡ id_of board.now }
     requires knows { Knows board.now token.old }
     requires rests { (view token.old).stakes.moves ≡ None }

@@ -16,13 +16,13 @@ ghost use Rattle.sdd_domain.specs.Receipt.{Receipt as EndedCounts, AreSettled, H
 use crate::domain::Domain;
 use crate::receipt::Receipt;
 use atomic_table::Closed;
-use sdd_space::Item;
 use sdd_atomics::steps::counts::take_counts;
 use sdd_atomics::steps::slots::{FREE, look_for_value};
 use sdd_atomics::words::state_word;
-use sdd_atomics::{DomainTable, DomainSeat, steps};
+use sdd_atomics::{DomainSeat, DomainTable, steps};
 use sdd_domain_invariant::gather_home;
-use sdd_shared_values::{ValueFraction, FractionList, ValuesName};
+use sdd_shared_values::{FractionList, ValueFraction, ValuesName};
+use sdd_space::Item;
 use sdd_views::Sizes;
 use std::alloc::Global;
 use std::mem;
@@ -147,7 +147,11 @@ pub fn are_over<T: Item<T>>(receipts: &Vec<Receipt<T>>) -> bool
 }
 
 /// Takes the counts of all receipts in.
-pub fn take_all_counts<T: Item<T>>(board: &DomainTable, token: &mut DomainSeat, mut receipts: Vec<Receipt<T>>)
+pub fn take_all_counts<T: Item<T>>(
+    board: &DomainTable,
+    token: &mut DomainSeat,
+    mut receipts: Vec<Receipt<T>>,
+)
     requires home { token.old.table_id ≡ id_of board.now }
     requires homes { All (λ (r : Ended). r.home.tables ≡ id_of board.now ∷ []) receipts.items }
     requires over { All (λ (r : Ended). r.waits ≡ false) receipts.items }
@@ -162,7 +166,11 @@ pub fn take_all_counts<T: Item<T>>(board: &DomainTable, token: &mut DomainSeat, 
 }
 
 /// All stakes, of a closed table in which all slots are free.
-pub fn gather_all_stakes(closed: &mut Closed<ValueFraction, Global>, title: &ValuesName, sizes: &Sizes) -> FractionList
+pub fn gather_all_stakes(
+    closed: &mut Closed<ValueFraction, Global>,
+    title: &ValuesName,
+    sizes: &Sizes,
+) -> FractionList
     requires small { AreSmall sizes.now }
     requires home { AreHome title.now.book sizes.now (slots_len closed.old.slots) closed.old }
     requires free { (i : ℕ) → i < sizes.now.slots → codes.full (slot_at sizes.now (slots_items closed.old.words) i) ≡ 0 }

@@ -1,5 +1,5 @@
 ghost use Rattle.std.specs.Prelude.{◌≡◌, ℕ, List, false, ◌+◌, ◌^◌, ◌≤◌, ◌⊎◌, [], All, IfErr, IfOk, MatchResult, length, vec_capacity};
-ghost use Rattle.sdd_space.specs.Limits.{AreInRange};
+ghost use Rattle.sdd_core.specs.Limits.{AreInRange};
 ghost use Rattle.sdd_shared_values.specs.Memory.{IsHoldOf, IsHoldOfShelf};
 ghost use Rattle.sdd_shared_values.specs.SharedValues.{AreVacant};
 ghost use Rattle.sdd_domain_invariant.specs.FractionsAtHome.{homes_for};
@@ -7,16 +7,16 @@ ghost use Rattle.sdd_atomics.specs.DomainTable.{sizes_of};
 ghost use Rattle.sdd_domain.specs.Shelf.{sizes_in, IsShelfOf};
 ghost use Rattle.sdd_domain.specs.Receipt.{Receipt as EndedCounts, AddsUp, AreSettled, capped, sum_of, with_reclaimed};
 
-use crate::holds_own_domain::HoldsOwnDomain;
 use crate::closing::{are_over, gather_all_stakes, settle_all, settled, take_all_counts};
+use crate::holds_own_domain::HoldsOwnDomain;
 use crate::receipt::Receipt;
-use sdd_space::{Item, Limits};
 use sdd_atomics::{DomainTable, TableLayout};
-use sdd_core::Refused;
+use sdd_core::{Limits, Refused};
 use sdd_domain_invariant::{gather_all, lay_all};
-use sdd_values::Freeable;
-use sdd_shared_values::{VacantValues, SharedValues, ValueFraction, FractionList};
 use sdd_participants::Tally;
+use sdd_shared_values::{FractionList, SharedValues, VacantValues, ValueFraction};
+use sdd_space::Item;
+use sdd_values::Freeable;
 use sdd_views::Sizes;
 use std::alloc::{AllocError, Global};
 use std_alloc::room::may_hold;
@@ -46,7 +46,10 @@ fn sizes_for(limits: &Limits) -> Sizes
 }
 
 /// Room for so many values, none of which is there.
-fn new_plot<T>(alloc: Global, slots: usize) -> Result<(VacantValues<T>, FractionList, Freeable<T, Global>), AllocError>
+fn new_plot<T>(
+    alloc: Global,
+    slots: usize,
+) -> Result<(VacantValues<T>, FractionList, Freeable<T, Global>), AllocError>
     ensures size { IfOk result (λ made. made.0.size ≡ slots) }
     ensures stock { IfOk result (λ made. AreVacant made.0.book 0 slots made.1.lots) }
     ensures hold { IfOk result (λ made. IsHoldOf made.0 alloc made.2) }
@@ -58,7 +61,11 @@ fn new_plot<T>(alloc: Global, slots: usize) -> Result<(VacantValues<T>, Fraction
 }
 
 /// Room for the stakes of so many places in so many slots. They have no bytes.
-fn new_homes(alloc: Global, participants: usize, slots: usize) -> Result<Vec<ValueFraction>, AllocError>
+fn new_homes(
+    alloc: Global,
+    participants: usize,
+    slots: usize,
+) -> Result<Vec<ValueFraction>, AllocError>
     requires few { participants ≤ 1024 }
     requires small { slots ≤ 2 ^ 24 }
     ensures empty { IfOk result (λ laid. laid.items ≡ []) }

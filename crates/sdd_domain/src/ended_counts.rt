@@ -6,7 +6,7 @@ ghost use Rattle.sdd_atomics.specs.DomainSeat.{view};
 ghost use Rattle.sdd_domain.specs.Receipt.{HasLeft, IsTallied};
 
 use sdd_atomics::steps::counts::cut_counts;
-use sdd_atomics::{DomainTable, DomainSeat};
+use sdd_atomics::{DomainSeat, DomainTable};
 use sdd_participants::Tally;
 use sdd_witness::Witness;
 use std::marker::Model;

@@ -1,6 +1,6 @@
 //! Which values a domain takes.
-use sdd_space::Item;
 use sdd_shared_values::ValueInvariant;
+use sdd_space::Item;
 
 /// Values that hold what is of their domain: who makes an item shows that its value does, and who reclaims it may rest on it.
 pub struct HoldsOwnDomain;

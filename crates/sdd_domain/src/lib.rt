@@ -1,7 +1,6 @@
 //! A domain: what participants in several threads share, values and guards over them.
 #![tactic(auto)]
 
-mod holds_own_domain;
 mod changes;
 mod claims;
 mod closing;
@@ -10,6 +9,7 @@ mod draining;
 mod due_items;
 mod ended_counts;
 mod free_slot_hints;
+mod holds_own_domain;
 pub mod local;
 mod local_core;
 pub mod receipt;

@@ -9,10 +9,10 @@ use crate::domain::Domain;
 use crate::local_core::LocalCore;
 use crate::receipt::Receipt;
 use crate::reclaiming::LocalGiver;
-use sdd_space::Item;
 use sdd_core::Refused;
-use sdd_shared_values::GhostValues;
 use sdd_participants::Tally;
+use sdd_shared_values::GhostValues;
+use sdd_space::Item;
 use std::marker::Model;
 
 mod laws;

@@ -9,10 +9,10 @@ use crate::domain::Domain;
 use crate::ended_counts::EndedCounts;
 use crate::local_core::detached_local::DetachedLocal;
 use crate::reclaiming::LocalGiver;
-use sdd_space::Item;
 use sdd_atomics::DomainTable;
-use sdd_shared_values::GhostValues;
 use sdd_participants::Tally;
+use sdd_shared_values::GhostValues;
+use sdd_space::Item;
 use sdd_witness::Witness;
 use std::marker::Model;
 

@@ -19,11 +19,11 @@ ghost use Rattle.sdd_domain.specs.Reclaiming.{kept_of, rest_of};
 ghost use Rattle.sdd_domain.specs.Space.{seat_of, known_of};
 
 use crate::local_core::LocalCore;
+use sdd_shared_values::GhostValues;
 use sdd_space::inner::{
     right_of_cell, right_of_owner, right_of_raw_cell, right_of_shared, right_of_shared_cell,
 };
 use sdd_space::{AtomicOwned, AtomicRaw, AtomicShared, Giver, Item, Owned, Shared};
-use sdd_shared_values::GhostValues;
 use std::marker::Model;
 
 /// A participant with the ledger of what it moved into slots, also while it reclaims.

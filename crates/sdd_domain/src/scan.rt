@@ -6,7 +6,7 @@ ghost use Rattle.sdd_atomics.specs.DomainTable.{id_of, places_of};
 ghost use Rattle.sdd_atomics.specs.DomainSeat.{epoch, IsSameBut, Stepped};
 ghost use Rattle.sdd_domain.specs.Scan.{looked_to, Raises, Scanned};
 
-use sdd_atomics::{DomainTable, DomainSeat, steps};
+use sdd_atomics::{DomainSeat, DomainTable, steps};
 
 /// The next place has no guard open, or has published this count.
 fn passes(board: &DomainTable, token: &mut DomainSeat, place: usize, count: u64) -> bool

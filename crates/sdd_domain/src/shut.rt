@@ -9,13 +9,19 @@ ghost use Rattle.sdd_domain_invariant.specs.HomeSteps.{unsighted};
 ghost use Rattle.sdd_atomics.specs.DomainSeat.{view, epoch, Knows};
 ghost use Rattle.sdd_domain.specs.Posed.{IsPurse, AreLentTo};
 
-use sdd_atomics::{DomainTable, DomainSeat, steps};
-use sdd_values::{SectionState, ReadSection, end_round};
-use sdd_shared_values::settle;
+use sdd_atomics::{DomainSeat, DomainTable, steps};
 use sdd_rights::WHOLE;
+use sdd_shared_values::settle;
+use sdd_values::{ReadSection, SectionState, end_round};
 
 /// Ends a tenure, by the one part of it that was out, and publishes that no guard is open: all stakes that were lent to it go home.
-pub fn shut(board: &DomainTable, token: &mut DomainSeat, place: usize, tenure: &mut ReadSection, part: ReadSection)
+pub fn shut(
+    board: &DomainTable,
+    token: &mut DomainSeat,
+    place: usize,
+    tenure: &mut ReadSection,
+    part: ReadSection,
+)
     requires home { token.old.table_id ≡ id_of board.now }
     requires knows { Knows board.now token.old }
     requires rests { (view token.old).stakes.moves ≡ None }

@@ -4,10 +4,10 @@ ghost use Rattle.sdd_shared_values.specs.SharedValues.{showing};
 use crate::domain::Domain;
 use crate::local::Local;
 use crate::reclaiming::LocalGiver;
+use sdd_core::Refused;
+use sdd_rights::{Right, StandingKind};
 use sdd_space::inner::value_of_ptr;
 use sdd_space::{Caller, Guard, Guards, Item, Items, Look, LookThrough, Ptr, Shows};
-use sdd_core::Refused;
-use sdd_rights::{StandingKind, Right};
 
 impl<T: Item<T>> Shows<T> for Local<'_, T> {
     ghost use Rattle.sdd_domain.specs.Homes.{home_in};
@@ -181,7 +181,11 @@ impl<T: Item<T>> Items<T> for Local<'_, T> {
         membership.new_item(value, kind, ledger)
     }
 
-    fn new_item_with<F: FnOnce() -> T>(&mut self, make: F, kind: StandingKind) -> Result<Right, (F, Refused)> {
+    fn new_item_with<F: FnOnce() -> T>(
+        &mut self,
+        make: F,
+        kind: StandingKind,
+    ) -> Result<Right, (F, Refused)> {
         let LocalGiver { membership, ledger } = &mut self.partner;
         membership.new_item_with(make, kind, ledger)
     }

@@ -21,12 +21,12 @@ ghost use Rattle.sdd_domain.specs.Values.{with_filled, LetsWait, WasFilled};
 ghost use Rattle.sdd_atomics.specs.DomainSeat.{view, epoch, slots, Knows, Taught, Moved};
 
 use crate::holds_own_domain::HoldsOwnDomain;
-use sdd_space::Item;
 use sdd_atomics::grips::{cut_rest, join_rest, unit_of};
 use sdd_atomics::steps::slots::{cut, enter_unit, give_back, house, retire, take_out};
-use sdd_atomics::{DomainTable, DomainSeat};
-use sdd_shared_values::SharedValues;
+use sdd_atomics::{DomainSeat, DomainTable};
 use sdd_rights::ReadFraction;
+use sdd_shared_values::SharedValues;
+use sdd_space::Item;
 use sdd_witness::Witness;
 
 /// Moves a value into the place of a slot that was claimed, whose owner is a token of its own then, which shows the value, with a unit of the place's

@@ -9,12 +9,17 @@ ghost use Rattle.sdd_word_invariant.specs.Slots.{slot_at};
 ghost use Rattle.sdd_domain_invariant.specs.FractionsAtHome.{stake_at, none_away, all_vacant, AreLaidTo, AreLaid, AreHome};
 
 use atomic_table::Closed;
-use sdd_shared_values::{ValueFraction, FractionList, ValuesName};
+use sdd_shared_values::{FractionList, ValueFraction, ValuesName};
 use sdd_views::Sizes;
 use std::alloc::Allocator;
 
 /// The stakes in the last slot, as one.
-fn gather_slot(laid: &mut Vec<ValueFraction>, title: &ValuesName, slot: u32, participants: u32) -> ValueFraction
+fn gather_slot(
+    laid: &mut Vec<ValueFraction>,
+    title: &ValuesName,
+    slot: u32,
+    participants: u32,
+) -> ValueFraction
     requires laid { AreLaidTo title.now.book participants (stake_at participants (slot + 1) 0) none_away all_vacant laid.old.items }
     requires few { participants < most }
     ensures whole { IsWhole title.now.book slot result.lot }
@@ -31,7 +36,12 @@ fn gather_slot(laid: &mut Vec<ValueFraction>, title: &ValuesName, slot: u32, par
 }
 
 /// All stakes that were laid for a table which couldn't be made, as they were in the stock.
-pub fn gather_all(mut laid: Vec<ValueFraction>, title: &ValuesName, participants: u32, slots: u32) -> FractionList
+pub fn gather_all(
+    mut laid: Vec<ValueFraction>,
+    title: &ValuesName,
+    participants: u32,
+    slots: u32,
+) -> FractionList
     requires laid { AreLaid title.now.book participants slots laid.items }
     requires few { participants < most }
     ensures { AreVacant title.now.book 0 slots result.lots }

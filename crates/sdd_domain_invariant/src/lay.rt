@@ -3,7 +3,7 @@ ghost use Rattle.std.specs.Prelude.{◌≡◌, ◌+◌, ◌<◌, ◌≤◌, [], 
 ghost use Rattle.sdd_shared_values.specs.SharedValues.{most, IsWhole, IsVacant, AreVacant};
 ghost use Rattle.sdd_domain_invariant.specs.FractionsAtHome.{stake_at, homes_for, none_away, all_vacant, AreLaidTo, AreLaid};
 
-use sdd_shared_values::{ValueFraction, FractionList, ValuesName};
+use sdd_shared_values::{FractionList, ValueFraction, ValuesName};
 
 /// Deals the stakes in one slot: one unit for each place, and the rest.
 fn lay_slot(laid: &mut Vec<ValueFraction>, whole: ValueFraction, slot: u32, participants: u32)

@@ -6,9 +6,9 @@ ghost use Rattle.sdd_domain.specs.Domain.{slots_in};
 ghost use Rattle.sdd_domain_tests.specs.Slots.{IsReceiptIn, AreReceiptsIn};
 
 use crate::steps::{close, closed, ended, is_tally, new_domain, opened, registered};
-use sdd_space::{Guard, Limits};
-use sdd_core::Refused;
+use sdd_core::{Limits, Refused};
 use sdd_domain::{Domain, Local, Receipt};
+use sdd_space::Guard;
 use std::process::Abort;
 use std::thread::{Threads, join};
 

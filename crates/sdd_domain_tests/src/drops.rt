@@ -4,8 +4,9 @@ ghost use Rattle.sdd_space.specs.CallerId.{IsSeated};
 ghost use Rattle.sdd_domain.specs.Space.{seat_of};
 
 use crate::steps::{ONE_SLOT, closed, ended, is_tally, new_domain, registered, turn};
-use sdd_space::{Giver, Item, Limits, Owned};
+use sdd_core::Limits;
 use sdd_domain::Local;
+use sdd_space::{Giver, Item, Owned};
 use std::alloc::Global;
 use std::process::Abort;
 use std::sync::Arc;

@@ -11,8 +11,9 @@ use crate::steps::{
     ONE_SLOT, add, close_and_scan, closed, ended, is_tally, new_domain, not_closed, opened,
     registered, turn, turns,
 };
-use sdd_space::{Limits, Owned};
+use sdd_core::Limits;
 use sdd_domain::Local;
+use sdd_space::Owned;
 use std::process::Abort;
 
 /// Three slots.

@@ -7,9 +7,9 @@ use crate::steps::{
     ONE_SLOT, close, close_and_scan, closed, ended, has, has_no_slot, is_tally, made, new_domain,
     opened, registered, retire, shows, turn,
 };
-use sdd_space::{Limits, Owned};
-use sdd_core::Refused;
+use sdd_core::{Limits, Refused};
 use sdd_domain::Local;
+use sdd_space::Owned;
 use std::cell::Cell;
 use std::process::Abort;
 

@@ -7,8 +7,7 @@ ghost use Rattle.sdd_domain_tests.specs.Slots.{AreReceiptsIn};
 
 use crate::domains::{accelerated, refusal, registered_at_last, shown};
 use crate::steps::{ONE_SLOT, add, close, closed, ended, is_tally, new_domain, opened, registered};
-use sdd_space::Limits;
-use sdd_core::Refused;
+use sdd_core::{Limits, Refused};
 use sdd_domain::{Domain, Local, Receipt};
 use std::process::Abort;
 

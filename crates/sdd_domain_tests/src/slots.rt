@@ -7,9 +7,9 @@ use crate::steps::{
     ONE_SLOT, add, closed, ended, has_no_slot, is_tally, made, new_domain, not_closed, registered,
     retire, turns,
 };
-use sdd_space::Limits;
-use sdd_space::inner::slot_of_owner;
+use sdd_core::Limits;
 use sdd_domain::Local;
+use sdd_space::inner::slot_of_owner;
 use std::process::Abort;
 
 /// Three slots for each participant.

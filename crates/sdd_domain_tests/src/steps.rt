@@ -8,10 +8,10 @@ ghost use Rattle.sdd_domain.specs.Receipt.{AddsUp};
 ghost use Rattle.sdd_domain.specs.Domain.{slots_in};
 ghost use Rattle.sdd_domain_tests.specs.Slots.{IsReceiptIn, AreReceiptsIn, AreOfAll};
 
-use sdd_space::{Guard, Item, Limits, Owned};
-use sdd_core::Refused;
+use sdd_core::{Limits, Refused};
 use sdd_domain::{Domain, Local, Receipt};
 use sdd_participants::Tally;
+use sdd_space::{Guard, Item, Owned};
 use std::process::Abort;
 
 /// One participant has one slot.

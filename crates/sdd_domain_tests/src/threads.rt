@@ -10,8 +10,9 @@ use crate::steps::{
     ONE_SLOT, add_all, close, close_and_scan, closed, ended, has_no_slot, is_tally, made,
     new_domain, opened, registered, retire, shows, turn, turns,
 };
-use sdd_space::{Limits, Owned};
+use sdd_core::Limits;
 use sdd_domain::{Domain, Local, Receipt};
+use sdd_space::Owned;
 use std::process::Abort;
 use std::thread::{Threads, join};
 

@@ -10,13 +10,15 @@ ghost use Rattle.sdd_script_model.specs.Shown.{item_in};
 ghost use Rattle.sdd_script_model.specs.ScriptState.{BeginsLine};
 ghost use Rattle.sdd_script_model.specs.Script.{Acts, Answers};
 
+use sdd_participants::LimboEntry;
 use sdd_script_model::Val;
 use sdd_script_names::Interpreter;
 use sdd_script_names::items::{date_waiting, items_in, slots_among};
 use sdd_script_names::jobs::jobs_among;
 use sdd_script_names::participants::{NamedGuard, note_opening, under};
-use sdd_script_text::{Action, Answer, Call, GuardName, ItemName, JobName, Names, PlaceName, Reply};
-use sdd_participants::LimboEntry;
+use sdd_script_text::{
+    Action, Answer, Call, GuardName, ItemName, JobName, Names, PlaceName, Reply,
+};
 use sdd_turn_commands::guards::{
     accelerate_at, close_at, defer_at, epoch_at, garbage_at, open_at, stir_at,
 };

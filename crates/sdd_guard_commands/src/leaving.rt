@@ -5,11 +5,11 @@ ghost use Rattle.sdd_space.specs.World.{standing_at};
 ghost use Rattle.sdd_guard_commands.specs.Leaving.{SpendsOwner, SpendsCell, SpendsCollector, SpendsGuard, LeavesRaw};
 
 use crate::guards::close_guard;
+use sdd_participants::{Standing, Tally};
 use sdd_script_model::Val;
 use sdd_script_names::{Environment, Interpreter};
 use sdd_script_text::{GuardName, PlaceName};
 use sdd_space_commands::holding::{AnyCell, AnyOwner};
-use sdd_participants::{Standing, Tally};
 use sdd_world::World;
 use sdd_world::inner::{
     leave, leave_cell, leave_collector, leave_raw, leave_shared, leave_shared_cell, standing_of,

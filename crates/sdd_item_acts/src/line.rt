@@ -10,7 +10,11 @@ use sdd_script_names::Interpreter;
 use sdd_script_text::{Action, Call, PlaceName, Reply};
 
 /// An action on an item or an owner. None where the action is another.
-pub fn act(stage: &mut Interpreter, name: PlaceName, action: Action) -> Result<Option<Reply>, Refused>
+pub fn act(
+    stage: &mut Interpreter,
+    name: PlaceName,
+    action: Action,
+) -> Result<Option<Reply>, Refused>
     ensures acts { MatchResult result
         (λ o. MatchOption o (¬ (IsItemAct action) × (stage.new ≡ stage.old))
         (λ reply. IsItemAct action × Acts stage.old (Call.At name action) reply stage.new))

@@ -4,13 +4,13 @@
 ghost use Rattle.std.specs.Prelude.{◌≡◌, ◌<◌, None, Some, MatchResult};
 ghost use Rattle.sdd_script_model.specs.Script.{Acts};
 
-use sdd_space::inner::{slot_of_owner, slot_of_shared};
 use sdd_core::Refused;
 use sdd_script_names::Interpreter;
 use sdd_script_names::items::slot_since;
 use sdd_script_names::owners::{shared_of, take_shared, take_sole};
 use sdd_script_names::participants::under;
 use sdd_script_text::{Action, Call, GuardName, ItemName, OwnerName, PlaceName, Reply};
+use sdd_space::inner::{slot_of_owner, slot_of_shared};
 use sdd_space_commands::holding::AnyOwner;
 use sdd_turn_commands::owners::{clone_held, release_owner, retire_item, share_item};
 use std::alloc::AllocError;

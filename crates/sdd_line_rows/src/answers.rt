@@ -2,10 +2,10 @@
 
 use sdd_core::Refused;
 use sdd_core::inner::epoch_of_count;
+use sdd_participants::Tally;
 use sdd_script_text::{
     Answer, GuardName, ItemName, JobName, Names, PlaceName, Reply, print_all, print_fault,
 };
-use sdd_participants::Tally;
 use std::alloc::{AllocError, Global};
 use std::test::Fail;
 

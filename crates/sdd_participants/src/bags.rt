@@ -116,7 +116,12 @@ impl Bags {
     }
 
     /// What waits for a collector comes out, into the bag that is handed in, the oldest first.
-    pub fn take_for<S: StandingLookup>(&mut self, collector: u32, standings: &S, bag: &mut Vec<LimboEntry>)
+    pub fn take_for<S: StandingLookup>(
+        &mut self,
+        collector: u32,
+        standings: &S,
+        bag: &mut Vec<LimboEntry>,
+    )
         requires { length bag.old.items + length self.old.waiting ≤ vec_capacity bag.old }
         ensures left { self.new ≡ record self.old { waiting = rest_of (is_kept_for collector (S.standings standings.now)) self.old.waiting } }
         ensures taken { bag.new.items ≡ bag.old.items ++ chosen_of (is_kept_for collector (S.standings standings.now)) self.old.waiting }
@@ -142,7 +147,12 @@ fn is_kept_for<S: StandingLookup>(what: LimboEntry, collector: u32, standings: &
 }
 
 /// Moves what waits for a collector from a bag to another one.
-fn pick<S: StandingLookup>(from: &mut Vec<LimboEntry>, collector: u32, standings: &S, to: &mut Vec<LimboEntry>)
+fn pick<S: StandingLookup>(
+    from: &mut Vec<LimboEntry>,
+    collector: u32,
+    standings: &S,
+    to: &mut Vec<LimboEntry>,
+)
     requires { length to.old.items + length from.old.items ≤ vec_capacity to.old }
     ensures picked { to.new.items ≡ to.old.items ++ filter (is_kept_for collector (S.standings standings.now)) from.old.items }
     ensures left { from.new.items ≡ filter (λ what. not (is_kept_for collector (S.standings standings.now) what)) from.old.items }
@@ -153,7 +163,12 @@ fn pick<S: StandingLookup>(from: &mut Vec<LimboEntry>, collector: u32, standings
 }
 
 /// Adds what waits for a collector to a bag.
-fn copy_kept<S: StandingLookup>(from: &[LimboEntry], collector: u32, standings: &S, to: &mut Vec<LimboEntry>)
+fn copy_kept<S: StandingLookup>(
+    from: &[LimboEntry],
+    collector: u32,
+    standings: &S,
+    to: &mut Vec<LimboEntry>,
+)
     requires { length to.old.items + length from.now ≤ vec_capacity to.old }
     ensures copied { to.new.items ≡ to.old.items ++ filter (is_kept_for collector (S.standings standings.now)) from.now }
     ensures reserved { vec_capacity to.new ≡ vec_capacity to.old }

@@ -327,7 +327,12 @@ impl EpochState {
     }
 
     /// What waits for a collector, with whomever, comes out, into the empty bag that is handed in.
-    pub fn take_for<S: StandingLookup>(&mut self, collector: u32, standings: &S, bag: &mut Vec<LimboEntry>)
+    pub fn take_for<S: StandingLookup>(
+        &mut self,
+        collector: u32,
+        standings: &S,
+        bag: &mut Vec<LimboEntry>,
+    )
         requires empty { bag.old.items ≡ [] }
         requires reserved { sum_by waiting_count self.old.places ≤ vec_capacity bag.old }
         ensures left { self.new ≡ time_without (is_kept_for collector (S.standings standings.now)) self.old }

@@ -2,19 +2,19 @@
 #![tactic(auto)]
 
 pub mod bags;
+pub mod epoch_state;
 pub mod jobs;
 pub mod place_states;
-pub mod standing;
 pub mod slab;
+pub mod standing;
 pub mod tally;
-pub mod epoch_state;
 pub mod waiting;
 
 pub use bags::Bags;
+pub use epoch_state::{CountdownState, EpochState, Participant};
 pub use jobs::{Deferred, Idle, Job, Jobs};
 pub use place_states::{PlaceState, PlaceStates};
-pub use standing::{CellContents, RawCellContents, Standing, StandingLookup};
 pub use slab::Slab;
+pub use standing::{CellContents, RawCellContents, Standing, StandingLookup};
 pub use tally::Tally;
-pub use epoch_state::{CountdownState, Participant, EpochState};
 pub use waiting::LimboEntry;

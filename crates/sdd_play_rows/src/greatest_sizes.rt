@@ -1,7 +1,7 @@
 //! Ample memory at the greatest sizes. A body that refuses with `NoMemory` beyond some size meets every contract.
 
-use sdd_space::Limits;
 use sdd_command::USUAL_LIMITS;
+use sdd_core::Limits;
 use sdd_script::{
     Action, Call, Ended, ItemName, OwnerName, PlaceName, Reader, Reply, Value, Writer, play, run,
 };

@@ -1,11 +1,10 @@
 //! Plays: how they end, and what they write.
 
 use crate::devices::{Page, Trickle};
-use sdd_space::Limits;
 use sdd_command::USUAL_LIMITS;
-use sdd_core::Refused;
-use sdd_script::{Action, Call, Ended, PlaceName, Reader, Value, Writer, play, run};
+use sdd_core::{Limits, Refused};
 use sdd_participants::Tally;
+use sdd_script::{Action, Call, Ended, PlaceName, Reader, Value, Writer, play, run};
 use std::alloc::{AllocError, Global};
 
 /// The shortest way of an item: it is made and retired, and goes at the third later opening that finds another epoch.

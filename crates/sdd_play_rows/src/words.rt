@@ -1,7 +1,7 @@
 //! What the arguments choose, and the status of each end.
 
-use sdd_space::Limits;
 use sdd_command::{Choice, Outcome, USUAL_LIMITS, chosen, line, status};
+use sdd_core::Limits;
 use sdd_script::Ended;
 use std::alloc::{AllocError, Global};
 use std::test::Fail;

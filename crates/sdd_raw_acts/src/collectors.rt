@@ -9,7 +9,6 @@ ghost use Rattle.sdd_script_model.specs.Held.{owners_in, slots_waiting_for};
 ghost use Rattle.sdd_script_model.specs.Shown.{item_in};
 ghost use Rattle.sdd_script_model.specs.Script.{Acts, Answers};
 
-use sdd_space::inner::number_of_collector;
 use sdd_core::Refused;
 use sdd_script_model::Val;
 use sdd_script_names::Interpreter;
@@ -18,6 +17,7 @@ use sdd_script_names::participants::under;
 use sdd_script_text::{
     Action, Answer, Call, CollectorName, GuardName, ItemName, Names, OwnerName, PlaceName, Reply,
 };
+use sdd_space::inner::number_of_collector;
 use sdd_turn_commands::collectors::{close_at, collector_at, give_to};
 use sdd_world::World;
 use std::alloc::{AllocError, Global};

@@ -9,7 +9,11 @@ use sdd_script_names::Interpreter;
 use sdd_script_text::{Action, Call, PlaceName, Reply};
 
 /// An action on an item in its place or out as raw, or with a collector, but for its close. None where the action is another.
-pub fn act(stage: &mut Interpreter, name: PlaceName, action: Action) -> Result<Option<Reply>, Refused>
+pub fn act(
+    stage: &mut Interpreter,
+    name: PlaceName,
+    action: Action,
+) -> Result<Option<Reply>, Refused>
     ensures acts { MatchResult result
         (λ o. MatchOption o (¬ (IsRawAct action) × (stage.new ≡ stage.old))
         (λ reply. IsRawAct action × Acts stage.old (Call.At name action) reply stage.new))

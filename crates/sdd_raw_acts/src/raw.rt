@@ -4,13 +4,13 @@
 ghost use Rattle.std.specs.Prelude.{◌≡◌, Some, MatchResult};
 ghost use Rattle.sdd_script_model.specs.Script.{Acts};
 
-use sdd_space::inner::slot_of_owner;
 use sdd_core::Refused;
 use sdd_script_names::Interpreter;
 use sdd_script_names::items::{date_if_waiting, is_number, slot_given, slot_since, told};
 use sdd_script_names::owners::{take_sole, value_of};
 use sdd_script_names::participants::under;
 use sdd_script_text::{Action, Call, GuardName, ItemName, OwnerName, PlaceName, Reply};
+use sdd_space::inner::slot_of_owner;
 use sdd_space_commands::holding::AnyOwner;
 use sdd_space_commands::raw::{ComeBack, DropOwner, GoRaw, PutNumber, SeeRaw};
 use sdd_turn_commands::step_at;

@@ -5,7 +5,7 @@ ghost use Rattle.std.specs.Prelude.{◌≡◌, ◌≢◌, ◌+◌, ◌-◌, ◌<
 ghost use Rattle.sdd_rights.specs.Example.{Fits};
 ghost use Rattle.sdd_rights.specs.declared.example.Standing.TheVariants.{Free as is_free, Owned as is_owned};
 
-use crate::fraction::{GhostKeys, Fraction, WHOLE};
+use crate::fraction::{Fraction, GhostKeys, WHOLE};
 
 /// What stands of a slot.
 #[derive(Clone, Copy)]
@@ -29,7 +29,11 @@ pub fn space_of(size: usize) -> (GhostKeys<Standing>, Fraction<Standing>, Fracti
 }
 
 /// A value for a free slot, and its owner.
-pub fn put<T: Drop>(slot: &mut Option<T>, kept: &mut Fraction<Standing>, value: T) -> Fraction<Standing>
+pub fn put<T: Drop>(
+    slot: &mut Option<T>,
+    kept: &mut Fraction<Standing>,
+    value: T,
+) -> Fraction<Standing>
     requires fits { Fits slot.old kept.old }
     requires free { slot.old ≡ None }
     ensures fits { Fits slot.new kept.new }
@@ -46,7 +50,11 @@ pub fn put<T: Drop>(slot: &mut Option<T>, kept: &mut Fraction<Standing>, value: 
 }
 
 /// The value of an owner.
-pub fn get<'a, T>(slot: &'a Option<T>, kept: &Fraction<Standing>, owner: &Fraction<Standing>) -> &'a T
+pub fn get<'a, T>(
+    slot: &'a Option<T>,
+    kept: &Fraction<Standing>,
+    owner: &Fraction<Standing>,
+) -> &'a T
     requires fits { Fits slot.now kept.now }
     requires home { owner.now.home ≡ kept.now.home }
     requires number { owner.now.number ≡ kept.now.number }
@@ -59,7 +67,11 @@ pub fn get<'a, T>(slot: &'a Option<T>, kept: &Fraction<Standing>, owner: &Fracti
 }
 
 /// The value of an owner, out of its slot, which is free again.
-pub fn take<T: Drop>(slot: &mut Option<T>, kept: &mut Fraction<Standing>, owner: Fraction<Standing>) -> T
+pub fn take<T: Drop>(
+    slot: &mut Option<T>,
+    kept: &mut Fraction<Standing>,
+    owner: Fraction<Standing>,
+) -> T
     requires fits { Fits slot.old kept.old }
     requires home { owner.home ≡ kept.old.home }
     requires number { owner.number ≡ kept.old.number }

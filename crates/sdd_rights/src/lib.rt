@@ -25,12 +25,14 @@
 #![tactic(auto)]
 
 pub mod example;
-mod read_fraction;
 mod fraction;
+mod read_fraction;
 mod right;
 mod rights;
 
+pub use fraction::{Fraction, GhostKeys, WHOLE};
 pub use read_fraction::ReadFraction;
-pub use fraction::{GhostKeys, Fraction, WHOLE};
-pub use right::{NameWitness, StandingKind, RawRight, Right, SharedRight, SharedRights, UniqueRight};
+pub use right::{
+    NameWitness, RawRight, Right, SharedRight, SharedRights, StandingKind, UniqueRight,
+};
 pub use rights::RightsAuthority;

@@ -4,8 +4,8 @@ ghost use Rattle.sdd_rights.specs.StandingKind.{right_units, is_shared, IsOwner}
 ghost use Rattle.sdd_views.specs.declared.CellKind.{CellKind};
 ghost use Rattle.sdd_rights.specs.Owner.{witness_of_owner, witness_of_cell, is_cell, cell_kind, codes-prop};
 
+use crate::fraction::{Fraction, GhostKeys, WHOLE};
 use crate::read_fraction::ReadFraction;
-use crate::fraction::{GhostKeys, Fraction, WHOLE};
 use sdd_witness::Witness;
 
 /// How a number of slots or cells stands, as all its units agree.
@@ -30,7 +30,8 @@ impl StandingKind {
     {
         match self {
             StandingKind::Owned => WHOLE - 1,
-            StandingKind::Free | StandingKind::Raw | StandingKind::Shared | StandingKind::Retired => 1,
+            StandingKind::Free | StandingKind::Raw | StandingKind::Shared | StandingKind::Retired =>
+                1,
         }
     }
 }
@@ -70,7 +71,13 @@ impl Right {
     }
 
     /// The right to a slot of a domain, by the token of its owner and a unit of the number of the slot's place. The domain has so many slots.
-    pub fn of_witness(number: u32, size: usize, kind: StandingKind, witness: Witness, grip: ReadFraction) -> Right
+    pub fn of_witness(
+        number: u32,
+        size: usize,
+        kind: StandingKind,
+        witness: Witness,
+        grip: ReadFraction,
+    ) -> Right
         requires owner { witness.views ≡ witness_of_owner number (is_shared kind) grip.shown }
         requires place { grip.number ≡ number }
         requires inside { number < size }

@@ -5,9 +5,9 @@ ghost use Rattle.sdd_rights.specs.Right.{number_of, home_of, kind_of, raw_number
 ghost use Rattle.sdd_rights.specs.RightsAuthority.{kept_at, whole, granted};
 ghost use Rattle.sdd_rights.specs.SharedRights as shares;
 
+use crate::fraction::{Fraction, GhostKeys, WHOLE};
 use crate::read_fraction::ReadFraction;
-use crate::fraction::{GhostKeys, Fraction, WHOLE};
-use crate::right::{NameWitness, StandingKind, RawRight, Right, SharedRights};
+use crate::right::{NameWitness, RawRight, Right, SharedRights, StandingKind};
 use sdd_witness::Witness;
 use std::alloc::{AllocError, Global};
 use std::marker::Model;
@@ -34,7 +34,11 @@ impl Model for RightsAuthority {
 
 impl RightsAuthority {
     /// A new home of that many numbers, all of this kind and kept whole.
-    pub fn new(alloc: Global, size: usize, kind: StandingKind) -> Result<RightsAuthority, AllocError>
+    pub fn new(
+        alloc: Global,
+        size: usize,
+        kind: StandingKind,
+    ) -> Result<RightsAuthority, AllocError>
         ensures size { IfOk result (λ r. r.home.size ≡ size) }
         ensures kept { IfOk result (λ r. r.kept ≡ replicate size (whole kind)) }
     {

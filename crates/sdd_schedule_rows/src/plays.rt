@@ -1,8 +1,8 @@
 //! Devices that fail, and memory that is refused.
 
 use crate::devices::{Page, Trickle};
-use sdd_script_text::{Ended, Reader, Writer};
 use sdd_schedules::play_steps;
+use sdd_script_text::{Ended, Reader, Writer};
 use std::alloc::{AllocError, Global};
 
 /// An item is retired, and goes at the third change of its holder.

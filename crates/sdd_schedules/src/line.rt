@@ -4,9 +4,9 @@ ghost use Rattle.std.specs.Prelude.{◌≡◌, ℕ, ◌≤◌, length, MatchOpti
 ghost use Rattle.sdd_schedules.specs.Line.{IsBelow, IsTextOf, IsStepText};
 ghost use Rattle.sdd_schedules.specs.Reading.{called, steps_at};
 
-use sdd_script_text::inner::{number, split_word};
 use sdd_machine::Step;
 use sdd_machine::machine::{MAX_ITEMS, MAX_PLACES};
+use sdd_script_text::inner::{number, split_word};
 use std::str;
 
 /// The step whose text a line is, without a line feed, or `None` where it is that of no step: a verb, the number of a

@@ -8,9 +8,9 @@ ghost use Rattle.sdd_schedules.specs.Schedule.{AreSteps, IsSteps, IsSchedule};
 
 use crate::line::parse;
 use sdd_core::Refused;
+use sdd_machine::Step;
 use sdd_script_text::MOST_CALLS;
 use sdd_script_text::inner::first_line;
-use sdd_machine::Step;
 use std::alloc::Global;
 
 /// What a text is as a schedule.

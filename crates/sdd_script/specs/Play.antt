@@ -1,6 +1,6 @@
 -- The play of a script: what is to be written for what is read
 use Rattle.std.specs.Prelude.{◌≡◌, ℕ, List}
-use Rattle.sdd_space.specs.declared.limits.Limits.{Limits}
+use Rattle.sdd_core.specs.declared.limits.Limits.{Limits}
 use Rattle.sdd_script_text.specs.Answer.{text_of_all, text_of_fault}
 use Rattle.sdd_script_text.specs.Script.{AreCalls, IsFirstFault}
 use Rattle.sdd_script_text.specs.declared.call.Call.{Call}

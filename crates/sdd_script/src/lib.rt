@@ -9,9 +9,9 @@ pub mod scene;
 pub use player::play;
 pub use runner::run;
 pub use scene::Scene;
+pub use sdd_schedules::play_steps;
 pub use sdd_script_model::Val;
 pub use sdd_script_text::{
     Action, Answer, Call, CellName, CollectorName, Ended, Fault, GuardName, ItemName, JobName,
     Names, OwnerName, PlaceName, Reader, Reply, Sink, Source, Value, Writer,
 };
-pub use sdd_schedules::play_steps;

@@ -7,9 +7,9 @@ ghost use Rattle.sdd_script_model.specs.Script.{Acts, Answers, Step};
 
 use sdd_core::Refused;
 use sdd_guard_commands::{guards, participants};
+use sdd_raw_acts::collectors;
 use sdd_script_names::Interpreter;
 use sdd_script_text::{Action, Answer, Call, CollectorName, PlaceName, Reply};
-use sdd_raw_acts::collectors;
 
 /// One line. `NoMemory` alone refuses it.
 pub fn step(stage: &mut Interpreter, call: &Call) -> Result<Answer, Refused>

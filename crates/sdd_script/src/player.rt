@@ -1,6 +1,6 @@
 //! Plays of scripts: from the bytes of calls to the bytes of their answers.
 ghost use Rattle.std.specs.Prelude.{◌≡◌, ◌↔◌, List, IfOk, IfErr};
-ghost use Rattle.sdd_space.specs.Limits.{AreInRange};
+ghost use Rattle.sdd_core.specs.Limits.{AreInRange};
 ghost use Rattle.sdd_script_text.specs.Answer.{text_of_all};
 ghost use Rattle.sdd_script_text.specs.declared.answer.Answer.{Answer};
 ghost use Rattle.sdd_script_text.specs.declared.call.Call.{Call};
@@ -8,8 +8,7 @@ ghost use Rattle.sdd_script_text.specs.Play.{Plays, IsSilent, read_failures, wri
 ghost use Rattle.sdd_script.specs.Play.{AreAnswers, Prints};
 
 use crate::runner::run;
-use sdd_space::Limits;
-use sdd_core::Refused;
+use sdd_core::{Limits, Refused};
 use sdd_script_text::{
     Call, Ended, ReadEnd, Script, Sink, Source, parse_all, print_all, print_fault, read_to_end,
     write_all,

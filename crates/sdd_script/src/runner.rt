@@ -1,12 +1,11 @@
 //! Runs of scripts.
 ghost use Rattle.std.specs.Prelude.{◌≡◌, ◌⊎◌, IfOk, MatchResult};
-ghost use Rattle.sdd_space.specs.Limits.{AreInRange};
+ghost use Rattle.sdd_core.specs.Limits.{AreInRange};
 ghost use Rattle.sdd_script_model.specs.Script.{IsRun};
 
 use crate::line::step;
 use crate::scene::Scene;
-use sdd_space::Limits;
-use sdd_core::Refused;
+use sdd_core::{Limits, Refused};
 use sdd_guard_commands::leaving::close;
 use sdd_script_names::Interpreter;
 use sdd_script_text::{Answer, Call};

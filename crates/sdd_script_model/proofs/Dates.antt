@@ -6,7 +6,7 @@ use Rattle.sdd_participants.specs.Slab.{entry_at, with_entry}
 use Rattle.sdd_participants.proofs.Adopting.{same-or-not}
 use Rattle.sdd_space.specs.WorldStep.{WorldStep, IsFirst}
 use Rattle.sdd_space.specs.WorldStep.WorldStep.{registers, ends, opens, closes, stirs, accelerates, makes, shares, retires, releases, defers, collects, closes_collector, edits, drops, puts_out_raw, takes_back_raw, changes_cells, changes_pointers, closes_cell}
-use Rattle.sdd_space.specs.declared.limits.Limits.{Limits}
+use Rattle.sdd_core.specs.declared.limits.Limits.{Limits}
 use Rattle.sdd_space.specs.InPlace.{IsAlone}
 use Rattle.sdd_space.specs.Steps.{with_standing, without_cell, spilled, held_in, dropped_out, vacated}
 use Rattle.sdd_space.specs.World.{value_at}

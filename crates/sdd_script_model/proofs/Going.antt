@@ -17,8 +17,8 @@ use Rattle.sdd_space.specs.Out.{is_out}
 use Rattle.sdd_space.specs.Steps.{registered, ended, opened, reclaims, made_as, nulled, retired, closed, stirred, accelerated, deferred, owner_given, with_standing}
 use Rattle.sdd_space.specs.Under.{Stays}
 use Rattle.sdd_space.specs.Whole.{IsWhole}
-use Rattle.sdd_space.specs.declared.limits.Limits.{Limits}
-use Rattle.sdd_space.specs.Limits.{AreInRange}
+use Rattle.sdd_core.specs.declared.limits.Limits.{Limits}
+use Rattle.sdd_core.specs.Limits.{AreInRange}
 use Rattle.sdd_space.specs.World.{IsPlaceOf, place_at, standing_at, value_at}
 use Rattle.sdd_space.specs.Accounts.{times_held}
 use Rattle.sdd_space.proofs.Accounts.{accounted-as, accounted-blank}

@@ -1,7 +1,7 @@
 -- What began to wait under a guard can't go as long as it is open
 use Rattle.std.proofs.lemmas.List.Sums.{get_or-le-sum_by}
 use Rattle.sdd_participants.specs.EpochState as time
-use Rattle.sdd_space.specs.declared.limits.Limits.{Limits}
+use Rattle.sdd_core.specs.declared.limits.Limits.{Limits}
 use Rattle.sdd_space.specs.WorldStep.{WorldStep, IsFirst}
 use Rattle.sdd_space.specs.WorldStep.WorldStep.{opens, makes, changes_cells}
 use Rattle.sdd_participants.specs.Slab.{IsEmptyAt}

@@ -11,7 +11,7 @@ use Rattle.sdd_participants.specs.Slab.{IsEmptyAt, IsFull}
 use Rattle.sdd_participants.specs.declared.standing.CellContents.{CellContents}
 use Rattle.sdd_participants.specs.declared.standing.Standing.TheVariants.{Owned, Raw, Shared}
 use Rattle.sdd_standings.specs.Slots.{IsSharedBy, is_waiting}
-use Rattle.sdd_space.specs.declared.limits.Limits.{Limits}
+use Rattle.sdd_core.specs.declared.limits.Limits.{Limits}
 use Rattle.sdd_space.specs.OwnerOrCell.{OwnerOrCell, owned, shared, atomic_owned, atomic_shared, atomic_raw}
 use Rattle.sdd_space.specs.World.{World, IsGuarded, place_at, standing_at}
 use Rattle.sdd_space.specs.Collecting.{collector_closed, waiting_for}

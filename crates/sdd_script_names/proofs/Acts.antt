@@ -14,8 +14,8 @@ use Rattle.sdd_space.specs.OwnerOrCell as holding
 use Rattle.sdd_space.specs.Steps.{deferred, with_standing}
 use Rattle.sdd_space.specs.Under.{Stays}
 use Rattle.sdd_space.specs.Whole.{IsWhole}
-use Rattle.sdd_space.specs.declared.limits.Limits.{Limits}
-use Rattle.sdd_space.specs.Limits.{AreInRange}
+use Rattle.sdd_core.specs.declared.limits.Limits.{Limits}
+use Rattle.sdd_core.specs.Limits.{AreInRange}
 use Rattle.sdd_space.specs.World.{World, IsNew, IsPlaceOf, standing_at}
 use Rattle.sdd_space.specs.Shared as shared
 use Rattle.sdd_world.specs.Place.{index_of}

@@ -2,11 +2,11 @@
 ghost use Rattle.std.specs.Prelude.{◌≡◌, ◌<◌, ◌⊎◌, [], IfOk, MatchResult};
 
 use crate::name_table::NameTable;
-use crate::participants::{NamedParticipant, NamedGuard};
-use sdd_space::{Limits, PrivateCollector};
-use sdd_core::Refused;
+use crate::participants::{NamedGuard, NamedParticipant};
+use sdd_core::{Limits, Refused};
 use sdd_script_model::Val;
 use sdd_script_text::{Answer, Names, Reply};
+use sdd_space::PrivateCollector;
 use sdd_space_commands::holding::{AnyCell, AnyOwner};
 use sdd_world::World;
 use std::alloc::Global;
@@ -56,7 +56,7 @@ impl Model for Interpreter {
 }
 
 impl Interpreter {
-    ghost use Rattle.sdd_space.specs.Limits.{AreInRange};
+    ghost use Rattle.sdd_core.specs.Limits.{AreInRange};
     ghost use Rattle.sdd_script_model.specs.ScriptState.{IsStart};
 
     /// A new world, of which nothing has a name.

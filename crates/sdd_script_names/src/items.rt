@@ -15,11 +15,11 @@ ghost use Rattle.sdd_script_text.specs.declared.name.ItemName.{ItemName as Named
 ghost use Rattle.sdd_participants.specs.Collecting.{is_private_to};
 ghost use Rattle.sdd_standings.specs.Slots as slots;
 
-use sdd_space::inner::{slot_of_owner, slot_of_shared};
-use sdd_space::{Owned, Shared};
+use sdd_participants::{LimboEntry, Standing};
 use sdd_script_model::{Body, Val};
 use sdd_script_text::{ItemName, Reply, Value};
-use sdd_participants::{Standing, LimboEntry};
+use sdd_space::inner::{slot_of_owner, slot_of_shared};
+use sdd_space::{Owned, Shared};
 use sdd_world::World;
 use sdd_world::inner::{standing_of, value_in};
 use std::alloc::{AllocError, Global};

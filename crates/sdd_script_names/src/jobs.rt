@@ -5,8 +5,8 @@ ghost use Rattle.sdd_script_model.specs.Held.{places_among};
 ghost use Rattle.sdd_script_model.specs.Shown.{job_in};
 ghost use Rattle.sdd_script_text.specs.declared.name.JobName.{JobName as Named};
 
-use sdd_script_text::JobName;
 use sdd_participants::LimboEntry;
+use sdd_script_text::JobName;
 use std::alloc::{AllocError, Global};
 
 /// The names of the jobs among what waits, in ascending order: of each the name that its place of the table of jobs had last.

@@ -9,9 +9,9 @@ ghost use Rattle.sdd_script_model.specs.ScriptState.{slot_of};
 ghost use Rattle.sdd_script_model.specs.declared.val.Val.{Val};
 
 use crate::name_table::NameTable;
-use sdd_space::{AtomicShared, Owned, Shared};
 use sdd_script_model::{Body, OwnerKind, Val};
 use sdd_script_text::{OwnerName, Reply, Value};
+use sdd_space::{AtomicShared, Owned, Shared};
 use sdd_space_commands::holding::{AnyCell, AnyOwner, CellOwner};
 use sdd_world::World;
 

@@ -4,8 +4,8 @@ ghost use Rattle.sdd_world.specs.Place.{index_of};
 ghost use Rattle.sdd_script_names.specs.Environment.{attending, guarding, opened_since, AreOpen};
 
 use crate::name_table::NameTable;
-use sdd_space::Guard;
 use sdd_script_text::{GuardName, PlaceName};
+use sdd_space::Guard;
 use sdd_world::Place;
 
 /// A participant of a script.
@@ -50,7 +50,12 @@ pub fn under<'p, 'g>(
 }
 
 /// An opening that isn't nested is the participant's last outermost one, in this line.
-pub fn note_opening(places: &mut NameTable<NamedParticipant>, name: u64, since: u64, is_nested: bool)
+pub fn note_opening(
+    places: &mut NameTable<NamedParticipant>,
+    name: u64,
+    since: u64,
+    is_nested: bool,
+)
     requires { name < length places.old.entries.items }
     ensures { map attending places.new.entries.items
         ≡ (if is_nested then map attending places.old.entries.items else opened_since (map attending places.old.entries.items) name since) }

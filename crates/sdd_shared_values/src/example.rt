@@ -4,13 +4,13 @@ ghost use Rattle.sdd_shared_values.specs.ValueFractions.{AllFreeFor};
 ghost use Rattle.sdd_shared_values.specs.Seats.{lots, plain};
 ghost use Rattle.sdd_shared_values.specs.SharedValues.{CanShow, Shows, showing, IsFull, IsVacant, HasWhole, vacant, all_turned};
 
-use crate::vacant_values::VacantValues;
 use crate::seats::settle;
-use crate::shared_values::{ValueInvariant, SharedValues};
+use crate::shared_values::{SharedValues, ValueInvariant};
+use crate::vacant_values::VacantValues;
 use crate::value_fraction::ValueFraction;
 use atomic_table::{Seat, Shared, TableRule};
-use sdd_values::{EndedSection, ReadSection, end_round};
 use sdd_rights::WHOLE;
+use sdd_values::{EndedSection, ReadSection, end_round};
 use std::alloc::{AllocError, Allocator};
 
 /// A value that is shown can be shown again under the same tenure: by one stake, both are the same value.
@@ -146,10 +146,13 @@ pub fn counts_down<V, K, P: TableRule<ValueFraction, V, K>>(
 }
 
 /// A shelf of vacant places is closed by the stakes and the hold that came with its plot.
-pub fn closes_what_was_founded<F: ValueInvariant<u64>, A: Allocator, V, K, P: TableRule<ValueFraction, V, K>>(
-    alloc: &A,
-    table: &Shared<ValueFraction, V, K, P>,
-) -> Result<(), AllocError> {
+pub fn closes_what_was_founded<
+    F: ValueInvariant<u64>,
+    A: Allocator,
+    V,
+    K,
+    P: TableRule<ValueFraction, V, K>,
+>(alloc: &A, table: &Shared<ValueFraction, V, K, P>) -> Result<(), AllocError> {
     let (plot, stock, hold) = VacantValues::new(alloc, 2)?;
     let shelf: SharedValues<u64, F> = plot.found(table);
     shelf.close(alloc, stock, hold);

@@ -3,21 +3,21 @@
 #![tactic(auto)]
 
 mod bank;
-mod unused_memory;
 pub mod example;
+mod fraction_list;
 mod ghost_values;
-mod vacant_values;
 mod seats;
 mod shared_values;
+mod unused_memory;
+mod vacant_values;
 mod value_fraction;
-mod fraction_list;
 mod values_name;
 
 pub use bank::{Bank, Deals, Treasury};
-pub use ghost_values::GhostValues;
-pub use vacant_values::VacantValues;
-pub use seats::settle;
-pub use shared_values::{ValueInvariant, SharedValues};
-pub use value_fraction::ValueFraction;
 pub use fraction_list::FractionList;
+pub use ghost_values::GhostValues;
+pub use seats::settle;
+pub use shared_values::{SharedValues, ValueInvariant};
+pub use vacant_values::VacantValues;
+pub use value_fraction::ValueFraction;
 pub use values_name::ValuesName;

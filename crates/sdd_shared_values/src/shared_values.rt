@@ -4,13 +4,13 @@ ghost use Rattle.atomic_table.specs.Seated.{TableId, table_id_coded};
 ghost use Rattle.sdd_shared_values.specs.Seats.{lots, OnlyLends};
 ghost use Rattle.sdd_shared_values.specs.SharedValues.{shelf_owns, shelf_shares, CanShow, Shows, IsFull, IsVacant, HasWhole, AreWhole, showing, vacant, all_turned, AreVacant};
 
+use crate::fraction_list::FractionList;
 use crate::unused_memory::UnusedMemory;
 use crate::value_fraction::ValueFraction;
-use crate::fraction_list::FractionList;
 use crate::values_name::ValuesName;
 use atomic_table::{Seat, Shared, TableRule};
-use sdd_values::{Freeable, ReadSection};
 use sdd_rights::ReadFraction;
+use sdd_values::{Freeable, ReadSection};
 use std::alloc::Allocator;
 use std::marker::{Model, PhantomData};
 

@@ -3,10 +3,10 @@ ghost use Rattle.std.specs.Prelude.{◌≡◌, ℕ, IfOk};
 ghost use Rattle.sdd_shared_values.specs.SharedValues.{plot_owns, AreVacant};
 ghost use Rattle.std_alloc.specs.Vec.Ownership.{FitsInBlock};
 
-use crate::unused_memory::UnusedMemory;
-use crate::shared_values::{ValueInvariant, SharedValues};
-use crate::value_fraction::ValueFraction;
 use crate::fraction_list::FractionList;
+use crate::shared_values::{SharedValues, ValueInvariant};
+use crate::unused_memory::UnusedMemory;
+use crate::value_fraction::ValueFraction;
 use crate::values_name::ValuesName;
 use atomic_table::{Shared, TableRule};
 use sdd_values::{Freeable, UninitBlock};
@@ -42,7 +42,9 @@ impl<T> VacantValues<T> {
     }
 
     /// Vacant places, as many as there is room for.
-    pub(crate) fn of<A: Allocator>(room: UninitBlock<T, A>) -> (VacantValues<T>, FractionList, Freeable<T, A>)
+    pub(crate) fn of<A: Allocator>(
+        room: UninitBlock<T, A>,
+    ) -> (VacantValues<T>, FractionList, Freeable<T, A>)
         requires fits { FitsInBlock T.row room.len }
         ensures size { result.0.size ≡ room.len }
         ensures stock { AreVacant result.0.book 0 room.len result.1.lots }

@@ -11,7 +11,6 @@ pub mod Owned
 pub mod Shared
 pub mod RawPtr
 pub mod RawCell
-pub mod Limits
 pub mod Loans
 pub mod Whole
 pub mod Jobs

@@ -12,7 +12,7 @@ use Rattle.sdd_participants.specs.declared.epoch_state.Participant.{Participant}
 use Rattle.sdd_standings.specs.Slots.{is_waiting}
 use Rattle.sdd_standings.specs.Cells.{null_pointer}
 use Rattle.sdd_space.specs.OwnerOrCell.{SpaceId}
-use Rattle.sdd_space.specs.declared.limits.Limits.{Limits}
+use Rattle.sdd_core.specs.declared.limits.Limits.{Limits}
 
 pub record World (T : Type 0) : Type 0 where
   pub home : SpaceId

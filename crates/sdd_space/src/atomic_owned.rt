@@ -23,7 +23,7 @@ use crate::raw_ptr::RawPtr;
 use crate::space::{Cells, Items};
 use sdd_core::{Refused, Tag};
 use sdd_participants::{CellContents, Standing};
-use sdd_rights::{StandingKind, Right, UniqueRight};
+use sdd_rights::{Right, StandingKind, UniqueRight};
 use std::marker::PhantomData;
 
 /// An owner, if there is one, and a pointer.

@@ -23,7 +23,7 @@ use crate::shared::Shared;
 use crate::space::{Cells, Items, SharedItems};
 use sdd_core::{Refused, Tag};
 use sdd_participants::{CellContents, Standing};
-use sdd_rights::{StandingKind, Right, SharedRight};
+use sdd_rights::{Right, SharedRight, StandingKind};
 use std::marker::PhantomData;
 
 /// An owner, if there is one, and a pointer.

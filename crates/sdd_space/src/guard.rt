@@ -5,7 +5,7 @@ use crate::item::Item;
 use crate::space::{Deferrals, Guards};
 use sdd_core::inner::epoch_of_count;
 use sdd_core::{Epoch, Refused};
-use sdd_values::{SectionState, ReadSection};
+use sdd_values::{ReadSection, SectionState};
 
 /// An open guard: its participant has published a count, and a scan gives up while this count is behind.
 ///

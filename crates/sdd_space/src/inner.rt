@@ -28,9 +28,9 @@ use crate::raw_ptr::RawPtr;
 use crate::shared::Shared;
 use crate::space::Several;
 use sdd_core::{Refused, Tag};
-use sdd_values::{SectionState, ReadSection};
 use sdd_participants::{CellContents, RawCellContents, Standing};
-use sdd_rights::{StandingKind, RawRight, Right};
+use sdd_rights::{RawRight, Right, StandingKind};
+use sdd_values::{ReadSection, SectionState};
 
 /// The owner whose right this is.
 pub fn owner_of<T>(right: Right) -> Owned<T>

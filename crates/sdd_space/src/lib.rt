@@ -9,7 +9,6 @@ pub mod guard;
 pub mod inner;
 pub mod item;
 pub mod laws;
-pub mod limits;
 pub mod look;
 pub mod owned;
 pub mod private_collector;
@@ -23,7 +22,6 @@ pub use atomic_raw::AtomicRaw;
 pub use atomic_shared::{AtomicShared, SharedPtrPair};
 pub use guard::Guard;
 pub use item::{Giver, Item};
-pub use limits::Limits;
 pub use look::{Look, LookThrough, Shows};
 pub use owned::Owned;
 pub use private_collector::PrivateCollector;
@@ -31,6 +29,6 @@ pub use ptr::Ptr;
 pub use raw_ptr::RawPtr;
 pub use shared::Shared;
 pub use space::{
-    Caller, Cells, Collectors, Deferrals, InPlaceItems, Guards, Items, RawCells, RawItems, Several,
+    Caller, Cells, Collectors, Deferrals, Guards, InPlaceItems, Items, RawCells, RawItems, Several,
     SharedItems, Space,
 };

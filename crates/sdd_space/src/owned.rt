@@ -25,7 +25,7 @@ use crate::raw_ptr::RawPtr;
 use crate::space::{InPlaceItems, Items, RawItems};
 use sdd_core::{Refused, Tag};
 use sdd_participants::Standing;
-use sdd_rights::{StandingKind, Right, UniqueRight};
+use sdd_rights::{Right, StandingKind, UniqueRight};
 use std::marker::PhantomData;
 
 /// The one owner of an item.

@@ -28,7 +28,7 @@ use crate::shared::Shared;
 use crate::space::{Collectors, RawCells};
 use sdd_core::Refused;
 use sdd_participants::Standing;
-use sdd_rights::{StandingKind, RawRight};
+use sdd_rights::{RawRight, StandingKind};
 use std::marker::PhantomData;
 
 /// A collector of items that end with it at latest.

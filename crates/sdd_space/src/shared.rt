@@ -25,7 +25,7 @@ use crate::ptr::Ptr;
 use crate::space::{InPlaceItems, Items, SharedItems};
 use sdd_core::Refused;
 use sdd_participants::Standing;
-use sdd_rights::{StandingKind, Right, SharedRight};
+use sdd_rights::{Right, SharedRight, StandingKind};
 use std::marker::PhantomData;
 
 /// One owner of an item that others may own too: other `Shared`, and cells.

@@ -13,13 +13,13 @@ ghost use Rattle.sdd_space_commands.specs.Owners.{cell_holding, cell_number, fil
 
 use crate::holding::{AnyCell, CellOwner};
 use crate::step::CellCommand;
+use sdd_core::Tag;
+use sdd_participants::CellContents;
+use sdd_script_model::Val;
 use sdd_space::inner::{slot_of_owner, slot_of_ptr, slot_of_shared};
 use sdd_space::{
     AtomicOwned, AtomicShared, Cells, Collectors, Guard, Items, RawCells, RawPtr, SharedItems,
 };
-use sdd_core::Tag;
-use sdd_script_model::Val;
-use sdd_participants::CellContents;
 
 /// A new cell, filled with this.
 pub struct MakeCell {

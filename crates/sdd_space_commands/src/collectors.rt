@@ -17,10 +17,10 @@ ghost use Rattle.sdd_space_commands.specs.Owners.{owner_holding};
 
 use crate::holding::AnyOwner;
 use crate::step::CellCommand;
-use sdd_space::{Cells, Collectors, Guard, Items, PrivateCollector, RawCells, SharedItems};
 use sdd_core::Refused;
 use sdd_script_model::Val;
 use sdd_script_text::Reply;
+use sdd_space::{Cells, Collectors, Guard, Items, PrivateCollector, RawCells, SharedItems};
 
 /// A new collector, for which nothing waits.
 pub struct MakeCollector;

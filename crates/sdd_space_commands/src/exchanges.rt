@@ -17,11 +17,13 @@ ghost use Rattle.sdd_space.specs.Shared as shared;
 
 use crate::holding::{AnyCell, CellOwner};
 use crate::step::CellCommand;
-use sdd_space::inner::slot_of_ptr;
-use sdd_space::{AtomicShared, Cells, Collectors, Guard, Items, Ptr, RawCells, Shared, SharedItems};
 use sdd_core::{Refused, Tag};
-use sdd_script_model::Val;
 use sdd_participants::CellContents;
+use sdd_script_model::Val;
+use sdd_space::inner::slot_of_ptr;
+use sdd_space::{
+    AtomicShared, Cells, Collectors, Guard, Items, Ptr, RawCells, Shared, SharedItems,
+};
 
 /// The cell holds this from now on, with this tag. Out come what it held, and the tag before.
 pub struct SwapIn<'a> {

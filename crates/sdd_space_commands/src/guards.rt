@@ -10,10 +10,10 @@ ghost use Rattle.sdd_space.specs.Steps.{closed, deferred, stirred, accelerated};
 ghost use Rattle.sdd_script_model.specs.declared.val.Val.{Val};
 
 use crate::step::SpaceCommand;
-use sdd_space::{Deferrals, InPlaceItems, Guard, Guards, Items, Look, RawItems, SharedItems};
 use sdd_core::{Epoch, Refused};
-use sdd_script_model::Val;
 use sdd_participants::Idle;
+use sdd_script_model::Val;
+use sdd_space::{Deferrals, Guard, Guards, InPlaceItems, Items, Look, RawItems, SharedItems};
 
 /// The epoch that a guard shows.
 pub struct ShowEpoch<'a> {

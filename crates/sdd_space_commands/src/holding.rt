@@ -3,9 +3,9 @@ ghost use Rattle.std.specs.Prelude.{◌≡◌, Some};
 ghost use Rattle.sdd_space_commands.specs.Owners.{owner_holding, cell_kind};
 ghost use Rattle.sdd_script_model.specs.ScriptState.{slot_of};
 
+use sdd_script_model::{OwnerKind, Val};
 use sdd_space::inner::{slot_of_owner, slot_of_shared};
 use sdd_space::{AtomicOwned, AtomicShared, Owned, Shared};
-use sdd_script_model::{OwnerKind, Val};
 
 /// An owner of a script: an item's only one, or one of several.
 pub enum AnyOwner {

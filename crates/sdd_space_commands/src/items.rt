@@ -10,8 +10,8 @@ ghost use Rattle.sdd_script_model.specs.Held.{standing_first, holding_first};
 
 use crate::holding::AnyOwner;
 use crate::step::CellCommand;
-use sdd_space::{AtomicOwned, Cells, Collectors, Items, Owned, RawCells, Shared, SharedItems};
 use sdd_script_model::{Body, OwnerKind, Val};
+use sdd_space::{AtomicOwned, Cells, Collectors, Items, Owned, RawCells, Shared, SharedItems};
 
 /// A new item, which holds this, and a cell for its link.
 pub struct MakeItem {

@@ -12,10 +12,12 @@ ghost use Rattle.sdd_space.specs.Shared as shared_owner;
 ghost use Rattle.sdd_participants.specs.declared.standing.Standing.TheVariants as standing;
 
 use crate::step::SpaceCommand;
-use sdd_space::{Deferrals, InPlaceItems, Guards, Items, Look, Owned, Ptr, RawItems, Shared, SharedItems};
 use sdd_core::Refused;
-use sdd_script_model::Val;
 use sdd_participants::Idle;
+use sdd_script_model::Val;
+use sdd_space::{
+    Deferrals, Guards, InPlaceItems, Items, Look, Owned, Ptr, RawItems, Shared, SharedItems,
+};
 
 /// The only owner retires its item, which waits with the participant.
 pub struct RetireItem {

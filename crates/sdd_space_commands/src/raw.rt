@@ -16,12 +16,14 @@ ghost use Rattle.sdd_script_model.specs.ScriptState as desk;
 
 use crate::holding::AnyOwner;
 use crate::step::SpaceCommand;
-use sdd_space::inner::raw_ptr_of;
-use sdd_space::{Deferrals, InPlaceItems, Guard, Guards, Items, Look, Owned, RawItems, SharedItems};
 use sdd_core::{Refused, Tag};
+use sdd_participants::{Idle, RawCellContents};
 use sdd_script_model::Val;
 use sdd_script_text::Reply;
-use sdd_participants::{Idle, RawCellContents};
+use sdd_space::inner::raw_ptr_of;
+use sdd_space::{
+    Deferrals, Guard, Guards, InPlaceItems, Items, Look, Owned, RawItems, SharedItems,
+};
 
 /// The number of an owner's item is changed in its place; an owner of the same item comes back.
 pub struct PutNumber {

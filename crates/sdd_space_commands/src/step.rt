@@ -6,11 +6,12 @@ ghost use Rattle.sdd_space.specs.CallerId.{IsSeated, IsExact};
 ghost use Rattle.sdd_space.specs.World.{World};
 ghost use Rattle.sdd_script_model.specs.declared.val.Val.{Val};
 
-use sdd_space::{
-    Cells, Collectors, Deferrals, InPlaceItems, Guards, Items, Look, RawCells, RawItems, SharedItems,
-};
-use sdd_script_model::Val;
 use sdd_participants::Idle;
+use sdd_script_model::Val;
+use sdd_space::{
+    Cells, Collectors, Deferrals, Guards, InPlaceItems, Items, Look, RawCells, RawItems,
+    SharedItems,
+};
 
 /// What a participant does with guards, owners and pointers, in a space that nobody else changes, where jobs do nothing.
 pub trait SpaceCommand {

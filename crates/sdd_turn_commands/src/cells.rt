@@ -14,12 +14,12 @@ ghost use Rattle.sdd_script_model.specs.ScriptState.{slot_of};
 ghost use Rattle.sdd_space_commands.specs.Owners.{cell_holding, cell_number, filling_holding, filling_kind, holding_around};
 
 use crate::turn::cell_step_at;
-use sdd_space::Guard;
 use sdd_core::Tag;
+use sdd_participants::CellContents;
 use sdd_script_model::Val;
+use sdd_space::Guard;
 use sdd_space_commands::cells::{CloseCell, LoadCell, MakeCell, PeekCell, ReadTag, TagIf};
 use sdd_space_commands::holding::{AnyCell, CellOwner};
-use sdd_participants::CellContents;
 use sdd_world::{Place, World};
 
 /// A new cell, filled with this.
@@ -34,7 +34,12 @@ pub fn cell_around(world: &mut World<Val>, place: &Place, filling: CellOwner) ->
 }
 
 /// What a cell holds, and its tag, as a pointer shows them that is loaded under a guard of the participant.
-pub fn cell_loaded(world: &mut World<Val>, place: &Place, cell: &AnyCell, guard: &Guard) -> CellContents
+pub fn cell_loaded(
+    world: &mut World<Val>,
+    place: &Place,
+    cell: &AnyCell,
+    guard: &Guard,
+) -> CellContents
     requires place { IsPlaceOf world.old (index_of place.now) }
     requires home { IsOf world.old.home (cell_holding cell.now) }
     requires reader { reader_of guard.now ≡ reader_at world.old (index_of place.now) }

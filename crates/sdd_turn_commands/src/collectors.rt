@@ -17,10 +17,10 @@ ghost use Rattle.sdd_script_model.specs.Val.{holdings_of};
 ghost use Rattle.sdd_space_commands.specs.Owners.{owner_holding};
 
 use crate::turn::cell_step_at;
-use sdd_space::{Guard, PrivateCollector};
 use sdd_core::Refused;
 use sdd_script_model::Val;
 use sdd_script_text::Reply;
+use sdd_space::{Guard, PrivateCollector};
 use sdd_space_commands::collectors::{CloseCollector, GiveToCollector, MakeCollector};
 use sdd_space_commands::holding::AnyOwner;
 use sdd_world::{Place, World};

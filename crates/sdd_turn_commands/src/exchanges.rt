@@ -18,13 +18,13 @@ ghost use Rattle.sdd_space_commands.specs.Owners.{cell_holding, cell_kind, cell_
 ghost use Rattle.sdd_space.specs.Shared as shared;
 
 use crate::turn::cell_step_at;
+use sdd_core::{Refused, Tag};
+use sdd_participants::CellContents;
+use sdd_script_model::Val;
 use sdd_space::inner::null_with;
 use sdd_space::{AtomicShared, Guard, Ptr, Shared};
-use sdd_core::{Refused, Tag};
-use sdd_script_model::Val;
 use sdd_space_commands::exchanges::{CopyCell, ExchangeIn, ShareHeld, SwapIn, TakeOut};
 use sdd_space_commands::holding::{AnyCell, CellOwner};
-use sdd_participants::CellContents;
 use sdd_world::inner::ptr_at;
 use sdd_world::{Place, World};
 

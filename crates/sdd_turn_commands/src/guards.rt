@@ -12,9 +12,9 @@ ghost use Rattle.sdd_script_model.specs.declared.val.Val.{Val};
 ghost use Rattle.sdd_script_model.specs.Val.{holdings_of};
 
 use crate::turn::step_at;
-use sdd_space::Guard;
 use sdd_core::{Epoch, Refused};
 use sdd_script_model::Val;
+use sdd_space::Guard;
 use sdd_space_commands::guards::{
     Accelerate, CloseGuard, DeferJob, SetGarbage, ShowEpoch, ShowGarbage,
 };

@@ -14,8 +14,8 @@ ghost use Rattle.sdd_space_commands.specs.Owners.{owner_holding};
 ghost use Rattle.sdd_script_model.specs.Held.{standing_first, holding_first};
 
 use crate::turn::cell_step_at;
-use sdd_space::Guard;
 use sdd_script_model::{Body, OwnerKind, Val};
+use sdd_space::Guard;
 use sdd_space_commands::holding::AnyOwner;
 use sdd_space_commands::items::MakeItem;
 use sdd_world::inner::ptr_at;

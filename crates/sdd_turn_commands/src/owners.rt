@@ -14,9 +14,9 @@ ghost use Rattle.sdd_space.specs.Shared as shared_owner;
 ghost use Rattle.sdd_participants.specs.declared.standing.Standing.TheVariants as standing;
 
 use crate::turn::step_at;
-use sdd_space::{Guard, Owned, Shared};
 use sdd_core::Refused;
 use sdd_script_model::Val;
+use sdd_space::{Guard, Owned, Shared};
 use sdd_space_commands::owners::{CloneOwner, ReleaseOwner, RetireItem, ShareItem};
 use sdd_world::inner::ptr_at;
 use sdd_world::{Place, World};

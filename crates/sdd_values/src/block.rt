@@ -2,8 +2,8 @@
 ghost use Rattle.std.specs.Prelude.{◌≡◌, ◌<◌, ℕ, Option, List, [], length, slice_index_or};
 ghost use Rattle.sdd_values.specs.Block.{block_owns, block_shares, stakes_coded, IsHome, IsFreeFor, stake_at, lent, settled, unlent};
 
-use crate::raw_slice::RawSlice;
 use crate::ended_section::EndedSection;
+use crate::raw_slice::RawSlice;
 use sdd_rights::Fraction;
 use std::marker::Model;
 

@@ -32,7 +32,12 @@ pub fn sees_one<'g, T>(
 }
 
 /// A reader opens two guards, looks, closes the outer guard first, looks again, and closes. Then the value is taken.
-pub fn takes_after<T>(places: &mut LentValues<T>, tenures: &mut ReadSections, reader: usize, at: usize) -> T
+pub fn takes_after<T>(
+    places: &mut LentValues<T>,
+    tenures: &mut ReadSections,
+    reader: usize,
+    at: usize,
+) -> T
     requires inside { at < length places.old.values }
     requires reader { (reader < places.old.readers) × (reader < tenures.old.home.size) }
     requires count { length tenures.old.kept ≡ tenures.old.home.size }
@@ -60,7 +65,10 @@ fn crosses<X: Send + Sync>(value: X) -> X
 }
 
 /// Places and tenures may cross threads where the values may.
-pub fn crosses_threads<T: Send + Sync>(places: LentValues<T>, tenures: ReadSections) -> (LentValues<T>, ReadSections)
+pub fn crosses_threads<T: Send + Sync>(
+    places: LentValues<T>,
+    tenures: ReadSections,
+) -> (LentValues<T>, ReadSections)
     ensures { (result.0 ≡ places) × (result.1 ≡ tenures) }
 {
     (crosses(places), crosses(tenures))

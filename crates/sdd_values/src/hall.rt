@@ -8,7 +8,7 @@ ghost use Rattle.sdd_values.specs.ReadSections.{kept_at};
 ghost use Rattle.sdd_values.specs.Hall.{value_in, kept_in};
 
 use crate::lent_values::LentValues;
-use crate::read_sections::{SectionState, ReadSection, ReadSections};
+use crate::read_sections::{ReadSection, ReadSections, SectionState};
 use sdd_rights::WHOLE;
 use std::marker::Model;
 

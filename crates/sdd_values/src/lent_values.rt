@@ -6,9 +6,9 @@ ghost use Rattle.sdd_values.specs.Block.{IsHome, IsFreeFor, stake_at, lent, sett
 ghost use Rattle.sdd_values.specs.LentValues.{value_at};
 
 use crate::block::Block;
-use crate::uninit_block::{Freeable, UninitBlock};
-use crate::raw_slice::RawSlice;
 use crate::ended_section::EndedSection;
+use crate::raw_slice::RawSlice;
+use crate::uninit_block::{Freeable, UninitBlock};
 use core::slots::Slots;
 use sdd_rights::Fraction;
 use std::alloc::{AllocError, Global};

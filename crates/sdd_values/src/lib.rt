@@ -17,18 +17,18 @@
 #![tactic(auto)]
 
 mod block;
+mod ended_section;
 pub mod example;
 pub mod hall;
 mod lent_values;
-mod uninit_block;
-pub mod seen;
 mod nullable;
 mod raw_slice;
-mod ended_section;
 mod read_sections;
+pub mod seen;
+mod uninit_block;
 
-pub use lent_values::LentValues;
-pub use uninit_block::{Freeable, UninitBlock};
-pub use nullable::Nullable;
 pub use ended_section::{EndedSection, end_round};
-pub use read_sections::{SectionState, ReadSection, ReadSections};
+pub use lent_values::LentValues;
+pub use nullable::Nullable;
+pub use read_sections::{ReadSection, ReadSections, SectionState};
+pub use uninit_block::{Freeable, UninitBlock};

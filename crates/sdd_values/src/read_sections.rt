@@ -3,7 +3,7 @@ ghost use Rattle.std.specs.Prelude.{◌≡◌, ◌≢◌, ◌+◌, ◌-◌, ◌<
 ghost use Rattle.sdd_values.specs.ReadSections.{kept_at, whole};
 
 use crate::ended_section::{EndedSection, end_round};
-use sdd_rights::{GhostKeys, Fraction, WHOLE};
+use sdd_rights::{Fraction, GhostKeys, WHOLE};
 use std::alloc::{AllocError, Global};
 use std::marker::Model;
 

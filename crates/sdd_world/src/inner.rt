@@ -18,17 +18,20 @@ ghost use Rattle.sdd_space.specs.Collector as collectors;
 ghost use Rattle.sdd_world.specs.Place.{index_of};
 
 use crate::world::{Place, World};
+use sdd_core::Refused;
+use sdd_participants::{Job, LimboEntry, Standing};
+use sdd_rights::{SharedRights, StandingKind};
 use sdd_space::inner::{
     ptr_to, right_in_shared, right_of_cell, right_of_collector, right_of_owner, right_of_shared,
     right_of_shared_cell, shared_of,
 };
 use sdd_space::{AtomicOwned, AtomicShared, Guard, Item, Owned, PrivateCollector, Ptr, Shared};
-use sdd_core::Refused;
-use sdd_participants::{Job, Standing, LimboEntry};
-use sdd_rights::{StandingKind, SharedRights};
 
 /// The items that the next opening of a participant reclaims, and the jobs that it runs.
-pub fn reclaims_next<'w, T: Item<T>, J: Job>(world: &'w World<T, J>, place: &Place) -> &'w [LimboEntry]
+pub fn reclaims_next<'w, T: Item<T>, J: Job>(
+    world: &'w World<T, J>,
+    place: &Place,
+) -> &'w [LimboEntry]
     requires { IsPlaceOf world.now (index_of place.now) }
     ensures { result.now ≡ reclaims world.now (index_of place.now) }
 {
@@ -168,7 +171,10 @@ pub fn add_owners<T: Item<T>, J: Job>(
 }
 
 /// Owners go that came in one piece, all but one, which is an owner as any other. With it the item has one at least, so nothing waits.
-pub fn release_all_but_one<T: Item<T>, J: Job>(world: &mut World<T, J>, several: SharedRights) -> Shared<T>
+pub fn release_all_but_one<T: Item<T>, J: Job>(
+    world: &mut World<T, J>,
+    several: SharedRights,
+) -> Shared<T>
     requires { shares.home_of several ≡ world.old.home.slots }
     ensures home { shared.slots_home result ≡ world.old.home.slots }
     ensures slot { shared.slot_of result ≡ shares.number_of several }

@@ -6,13 +6,13 @@ ghost use Rattle.sdd_rights.specs.Right.{number_of};
 ghost use Rattle.sdd_space.specs.Ptr.{shown_by};
 
 use crate::world::{Place, World};
-use sdd_space::{
-    Caller, Cells, Collectors, Deferrals, InPlaceItems, Guard, Guards, Item, Items, Look, LookThrough,
-    Ptr, RawCells, RawItems, RawPtr, Several, SharedItems, Shows, Space, inner,
-};
 use sdd_core::{Refused, Tag};
 use sdd_participants::{CellContents, Idle, Job, RawCellContents};
-use sdd_rights::{StandingKind, RawRight, Right, SharedRights};
+use sdd_rights::{RawRight, Right, SharedRights, StandingKind};
+use sdd_space::{
+    Caller, Cells, Collectors, Deferrals, Guard, Guards, InPlaceItems, Item, Items, Look,
+    LookThrough, Ptr, RawCells, RawItems, RawPtr, Several, SharedItems, Shows, Space, inner,
+};
 
 /// One participant's turn at a world: the space in which it makes its calls.
 pub struct Turn<'w, T: Item<T>, J: Job = Idle> {
@@ -195,7 +195,11 @@ impl<T: Item<T>, J: Job> Items<T> for Turn<'_, T, J> {
         }
     }
 
-    fn new_item_with<F: FnOnce() -> T>(&mut self, make: F, kind: StandingKind) -> Result<Right, (F, Refused)> {
+    fn new_item_with<F: FnOnce() -> T>(
+        &mut self,
+        make: F,
+        kind: StandingKind,
+    ) -> Result<Right, (F, Refused)> {
         let world = &mut *self.world;
         if world.core.is_full() {
             return Err((make, Refused::NoSlot));
@@ -243,7 +247,11 @@ impl<T: Item<T>, J: Job> InPlaceItems<T> for Turn<'_, T, J> {
         Ok(world.core.get_mut(right, f))
     }
 
-    fn drop_in_place(&mut self, right: Right, kind: StandingKind) -> Result<bool, (Right, Refused)> {
+    fn drop_in_place(
+        &mut self,
+        right: Right,
+        kind: StandingKind,
+    ) -> Result<bool, (Right, Refused)> {
         let world = &mut *self.world;
         match world.core.refused_in_place(&right, kind) {
             Some(Refused::NotAlone) => Ok(world.core.release(self.place, right, kind)),
@@ -257,7 +265,11 @@ impl<T: Item<T>, J: Job> InPlaceItems<T> for Turn<'_, T, J> {
 }
 
 impl<T: Item<T>, J: Job> Several<T> for Turn<'_, T, J> {
-    fn make_several(&mut self, value: T, owners: u64) -> Result<(Right, SharedRights), (T, Refused)> {
+    fn make_several(
+        &mut self,
+        value: T,
+        owners: u64,
+    ) -> Result<(Right, SharedRights), (T, Refused)> {
         let world = &mut *self.world;
         match world.core.make_several(value, owners) {
             Ok(made) => Ok(made),
@@ -266,7 +278,11 @@ impl<T: Item<T>, J: Job> Several<T> for Turn<'_, T, J> {
     }
 
     #[inline]
-    fn split_off(&mut self, _right: &Right, several: SharedRights) -> (Right, Option<SharedRights>) {
+    fn split_off(
+        &mut self,
+        _right: &Right,
+        several: SharedRights,
+    ) -> (Right, Option<SharedRights>) {
         several.split_off()
     }
 }

@@ -9,17 +9,17 @@ ghost use Rattle.sdd_space.specs.Guard.{reader_of};
 ghost use Rattle.sdd_space.specs.CallerId.{reader_at};
 ghost use Rattle.sdd_space.specs.Under.{Stays};
 ghost use Rattle.sdd_space.specs.Out.{IsNullCell, out};
-ghost use Rattle.sdd_space.specs.Limits.{AreInRange};
+ghost use Rattle.sdd_core.specs.Limits.{AreInRange};
 ghost use Rattle.sdd_space.specs.Steps.{made, retired, owner_given, nulled, cell_closed, without_cell, opened, changed, closed, stirred, accelerated, registered, ended, reclaims};
 
 mod closing;
 mod laws;
 
-use sdd_space::{Guard, Item, Limits, inner};
-use sdd_core::Refused;
+use sdd_core::{Limits, Refused};
+use sdd_participants::{EpochState, Idle, Job, LimboEntry, Standing, Tally};
+use sdd_rights::{RawRight, Right, StandingKind};
+use sdd_space::{Guard, Item, inner};
 use sdd_world_core::WorldCore;
-use sdd_participants::{Idle, Job, Standing, Tally, EpochState, LimboEntry};
-use sdd_rights::{StandingKind, RawRight, Right};
 use std::alloc::Global;
 use std::marker::Model;
 

@@ -19,10 +19,10 @@ mod places;
 mod raw_cells;
 mod reclaiming;
 
+use sdd_participants::{EpochState, Job, Jobs, Tally};
 use sdd_space::Item;
 use sdd_values::ReadSections;
 use sdd_world_slots::{WorldCells, WorldSlots};
-use sdd_participants::{Job, Jobs, Tally, EpochState};
 use std::alloc::{AllocError, Global};
 use std::marker::Model;
 

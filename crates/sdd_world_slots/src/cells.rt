@@ -6,7 +6,7 @@ ghost use Rattle.sdd_participants.specs.Slab.{IsEmptyAt, IsFull, entry_at};
 
 use sdd_core::Tag;
 use sdd_participants::{CellContents, RawCellContents, Slab};
-use sdd_rights::{NameWitness, StandingKind, RawRight, Right, RightsAuthority};
+use sdd_rights::{NameWitness, RawRight, Right, RightsAuthority, StandingKind};
 use std::alloc::{AllocError, Global};
 use std::marker::Model;
 use std::mem::replace;
@@ -251,7 +251,10 @@ impl Cells {
 }
 
 /// That many cells hold no owner, and as raw cells point to nothing.
-fn nothing_held(alloc: Global, size: u32) -> Result<(Vec<Option<Right>>, Vec<RawCellContents>), AllocError>
+fn nothing_held(
+    alloc: Global,
+    size: u32,
+) -> Result<(Vec<Option<Right>>, Vec<RawCellContents>), AllocError>
     ensures held { IfOk result (λ made. made.0.items ≡ replicate size None) }
     ensures pointers { IfOk result (λ made. made.1.items ≡ replicate size null_pointer) }
 {

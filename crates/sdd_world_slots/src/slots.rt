@@ -7,9 +7,9 @@ ghost use Rattle.sdd_rights.specs.SharedRights as shares;
 ghost use Rattle.sdd_participants.specs.Slab.{IsEmptyAt, IsFull};
 ghost use Rattle.sdd_standings.specs.Slots.{standing_at, value_at, with_made, with_standing, with_value, without_slot, first_standing, released_standing, released_to, has_others, owners_of, IsOwnedBy, IsSharedBy, IsWaiting};
 
+use sdd_participants::{Slab, Standing, StandingLookup};
+use sdd_rights::{NameWitness, Right, RightsAuthority, SharedRights, StandingKind};
 use sdd_values::{EndedSection, LentValues, ReadSection};
-use sdd_participants::{Standing, StandingLookup, Slab};
-use sdd_rights::{NameWitness, StandingKind, Right, RightsAuthority, SharedRights};
 use std::alloc::{AllocError, Global};
 use std::marker::Model;
 
@@ -388,7 +388,8 @@ impl<T> Slots<T> {
         let _ = self.slot_of(right);
         match kind {
             StandingKind::Shared => self.owners_with(right),
-            StandingKind::Free | StandingKind::Owned | StandingKind::Raw | StandingKind::Retired => 1,
+            StandingKind::Free | StandingKind::Owned | StandingKind::Raw | StandingKind::Retired =>
+                1,
         }
     }
 
@@ -428,6 +429,7 @@ fn first_standing(kind: StandingKind) -> Standing
 {
     match kind {
         StandingKind::Shared => Standing::Shared(1),
-        StandingKind::Free | StandingKind::Owned | StandingKind::Raw | StandingKind::Retired => Standing::Owned,
+        StandingKind::Free | StandingKind::Owned | StandingKind::Raw | StandingKind::Retired =>
+            Standing::Owned,
     }
 }

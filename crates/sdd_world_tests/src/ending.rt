@@ -4,8 +4,7 @@ ghost use Rattle.sdd_space.specs.World.{IsPlaceOf};
 ghost use Rattle.sdd_world.specs.Place.{index_of};
 
 use crate::steps::{AMPLE, closed, joined, made, new_world, retire, shows};
-use sdd_space::Limits;
-use sdd_core::Refused;
+use sdd_core::{Limits, Refused};
 use sdd_world::{Place, World};
 use std::process::Abort;
 

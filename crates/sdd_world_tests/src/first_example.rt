@@ -1,8 +1,8 @@
 //! The thread of the first example in the original crate's README: a number that is owned, a guard, a pointer that is
 //! good under it, and an owner that goes first.
 use crate::steps::{AMPLE, closed, joined, new_world};
-use sdd_space::{Guard, Owned};
 use sdd_core::Tag;
+use sdd_space::{Guard, Owned};
 use sdd_world::World;
 
 #[test]

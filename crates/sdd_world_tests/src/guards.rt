@@ -8,9 +8,9 @@ ghost use Rattle.sdd_domain.specs.Space.{seat_of};
 ghost use Rattle.sdd_world_tests.specs.Stays.{Stays};
 
 use crate::steps::{closed, joined, new_world};
-use sdd_space::{Guard, Guards, Item, Limits};
-use sdd_core::Refused;
+use sdd_core::{Limits, Refused};
 use sdd_domain::{Domain, Local};
+use sdd_space::{Guard, Guards, Item};
 use sdd_world::{Place, World};
 use std::process::Abort;
 

@@ -3,9 +3,9 @@ ghost use Rattle.std.specs.Prelude.{◌≡◌};
 ghost use Rattle.sdd_space.specs.CallerId.{IsSeated};
 
 use crate::steps::AMPLE;
-use sdd_space::{Deferrals, Guard, Guards, Limits};
-use sdd_core::Refused;
+use sdd_core::{Limits, Refused};
 use sdd_participants::{Deferred, Job};
+use sdd_space::{Deferrals, Guard, Guards};
 use sdd_world::World;
 use std::process::Abort;
 use std::sync::Arc;

@@ -1,7 +1,6 @@
 //! Worlds that can't be made.
 use crate::steps::{AMPLE, closed};
-use sdd_space::Limits;
-use sdd_core::Refused;
+use sdd_core::{Limits, Refused};
 use sdd_world::World;
 
 #[test]

@@ -1,7 +1,7 @@
 //! What `Debug` prints of a guard and a pointer, and which pointers are equal.
 use crate::steps::{AMPLE, close, closed, joined, made, new_world, opened, pointer, retire};
-use sdd_space::Ptr;
 use sdd_core::Tag;
+use sdd_space::Ptr;
 use sdd_world::World;
 use std::test::Fail;
 

@@ -10,8 +10,8 @@ ghost use Rattle.sdd_world_tests.specs.Stays.{Stays};
 use crate::steps::{
     AMPLE, close, closed, joined, made, new_world, opened, pointer, refused, retire, seen, shows,
 };
-use sdd_space::{Guard, Limits, Owned, Space};
-use sdd_core::Refused;
+use sdd_core::{Limits, Refused};
+use sdd_space::{Guard, Owned, Space};
 use sdd_world::{Place, Turn, World};
 use std::process::Abort;
 

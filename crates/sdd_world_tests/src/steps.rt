@@ -7,9 +7,9 @@ ghost use Rattle.sdd_space.specs.World.{IsPlaceOf};
 ghost use Rattle.sdd_world.specs.Place.{index_of};
 ghost use Rattle.sdd_world_tests.specs.Stays.{Stays};
 
-use sdd_space::{Guard, Limits, Owned, Ptr};
-use sdd_core::Refused;
+use sdd_core::{Limits, Refused};
 use sdd_participants::Tally;
+use sdd_space::{Guard, Owned, Ptr};
 use sdd_world::{Place, World};
 use std::process::Abort;
 

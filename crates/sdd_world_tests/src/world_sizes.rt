@@ -1,7 +1,6 @@
 //! Ample memory for worlds of the greatest sizes. A body that refuses with `NoMemory` beyond some size meets every contract.
 use crate::steps::{closed, joined};
-use sdd_space::Limits;
-use sdd_core::Refused;
+use sdd_core::{Limits, Refused};
 use sdd_world::World;
 
 /// Each limit at the end of its range, but for slots and cells: an eighth of the most, as more take a minute.

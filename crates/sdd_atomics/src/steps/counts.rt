@@ -7,7 +7,7 @@ ghost use Rattle.sdd_atomics.specs.DomainTable.{id_of};
 ghost use Rattle.sdd_atomics.specs.Counts.{witness_of_counts};
 ghost use Rattle.sdd_atomics.specs.DomainSeat.{view, Taught};
 
-use crate::domain_table::{DomainTable, DomainSeat};
+use crate::domain_table::{DomainSeat, DomainTable};
 use crate::plays::{CutCounts, TakeCounts};
 use sdd_witness::{Witness, part, rejoin};
 

@@ -19,10 +19,11 @@ ghost use Rattle.sdd_rights.specs.Owner.{witness_of_owner};
 ghost use Rattle.sdd_atomics.specs.Owner.{IsCutOff};
 ghost use Rattle.sdd_atomics.specs.DomainSeat.{view, epoch, slots, Taught, Moved, MovedAlone, Knows};
 
-use crate::domain_table::{DomainTable, DomainSeat};
+use crate::domain_table::{DomainSeat, DomainTable};
 use crate::plays::{
-    Claim, Discard, EnterUnit, GiveBack, Hold, FillSlot, FillSharedSlot, ReleaseHold, LookAtSlot, LookAtGuard,
-    LookForValue, CutOwner, LearnOwned, Retire, TakeHeld, JoinOwner, TakeOut, SeeOwned,
+    Claim, CutOwner, Discard, EnterUnit, FillSharedSlot, FillSlot, GiveBack, Hold, JoinOwner,
+    LearnOwned, LookAtGuard, LookAtSlot, LookForValue, ReleaseHold, Retire, SeeOwned, TakeHeld,
+    TakeOut,
 };
 use crate::words::state_word;
 use sdd_shared_values::ValueFraction;

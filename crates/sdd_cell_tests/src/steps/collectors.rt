@@ -5,8 +5,8 @@ ghost use Rattle.sdd_space.specs.CallerId.{IsSeated};
 ghost use Rattle.sdd_space.specs.Shared as shared;
 
 use crate::steps::{close, opened, owned};
-use sdd_space::{Collectors, Guards, Items, Owned, PrivateCollector, RawCells, Shared};
 use sdd_core::Refused;
+use sdd_space::{Collectors, Guards, Items, Owned, PrivateCollector, RawCells, Shared};
 use std::process::Abort;
 
 /// A collector for which nothing waits.

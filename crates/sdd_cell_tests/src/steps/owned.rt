@@ -6,10 +6,10 @@ ghost use Rattle.sdd_space.specs.Owned.{slot_of, slots_home, cells_home, IsOfSlo
 ghost use Rattle.sdd_space.specs.CallerId.{IsSeated};
 
 use crate::steps::{Read, close, opened, seen};
-use sdd_space::{
-    AtomicOwned, Cells, InPlaceItems, Guard, Item, Items, Look, Owned, Ptr, RawItems, RawPtr, Space,
-};
 use sdd_core::{Refused, Tag};
+use sdd_space::{
+    AtomicOwned, Cells, Guard, InPlaceItems, Item, Items, Look, Owned, Ptr, RawItems, RawPtr, Space,
+};
 use std::process::Abort;
 
 /// The owner of a new item.
@@ -174,7 +174,11 @@ pub fn asked<S: Cells<u64>>(
 }
 
 /// The item has another number from now on. The one before.
-pub fn put<S: InPlaceItems<u64>>(s: &mut S, owner: &mut Owned<u64>, value: u64) -> Result<u64, Refused>
+pub fn put<S: InPlaceItems<u64>>(
+    s: &mut S,
+    owner: &mut Owned<u64>,
+    value: u64,
+) -> Result<u64, Refused>
     requires seated { IsSeated (S.seat s.old) }
     requires home { slots_home owner.old ≡ (S.seat s.old).home.slots }
     ensures seat { S.seat s.new ≡ S.seat s.old }

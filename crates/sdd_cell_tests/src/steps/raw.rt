@@ -4,8 +4,8 @@ ghost use Rattle.sdd_space.specs.RawCell.{cells_home};
 ghost use Rattle.sdd_space.specs.CallerId.{IsSeated};
 
 use crate::steps::{close, opened};
-use sdd_space::{AtomicRaw, Guards, Item, RawCells, RawPtr};
 use sdd_core::Tag;
+use sdd_space::{AtomicRaw, Guards, Item, RawCells, RawPtr};
 use std::process::Abort;
 
 /// A cell with this pointer.

@@ -6,10 +6,11 @@ ghost use Rattle.sdd_space.specs.Shared.{slot_of, slots_home, cells_home, IsOfSl
 ghost use Rattle.sdd_space.specs.CallerId.{IsSeated};
 
 use crate::steps::{Read, close, opened, seen};
-use sdd_space::{
-    AtomicShared, Cells, InPlaceItems, Guard, Guards, Item, Items, Look, Ptr, Shared, SharedItems, Space,
-};
 use sdd_core::{Refused, Tag};
+use sdd_space::{
+    AtomicShared, Cells, Guard, Guards, InPlaceItems, Item, Items, Look, Ptr, Shared, SharedItems,
+    Space,
+};
 use std::process::Abort;
 
 /// The owner of a new item.
@@ -235,7 +236,11 @@ pub fn copied_cell<S: Guards<u64> + Cells<u64>>(
 }
 
 /// The item has another number from now on. The one before.
-pub fn put<S: InPlaceItems<u64>>(s: &mut S, owner: &mut Shared<u64>, value: u64) -> Result<u64, Refused>
+pub fn put<S: InPlaceItems<u64>>(
+    s: &mut S,
+    owner: &mut Shared<u64>,
+    value: u64,
+) -> Result<u64, Refused>
     requires seated { IsSeated (S.seat s.old) }
     requires home { slots_home owner.old ≡ (S.seat s.old).home.slots }
     ensures seat { S.seat s.new ≡ S.seat s.old }
@@ -250,7 +255,11 @@ pub fn put<S: InPlaceItems<u64>>(s: &mut S, owner: &mut Shared<u64>, value: u64)
 }
 
 /// The owner goes in place, and tells whether it was the last.
-pub fn dropped_in_place<S: InPlaceItems<u64>>(rt: &impl Abort, s: &mut S, owner: Shared<u64>) -> bool
+pub fn dropped_in_place<S: InPlaceItems<u64>>(
+    rt: &impl Abort,
+    s: &mut S,
+    owner: Shared<u64>,
+) -> bool
     requires seated { IsSeated (S.seat s.old) }
     requires home { slots_home owner ≡ (S.seat s.old).home.slots }
     ensures seat { S.seat s.new ≡ S.seat s.old }

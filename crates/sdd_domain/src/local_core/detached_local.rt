@@ -7,10 +7,11 @@ use crate::domain::Domain;
 use crate::due_items::DueItems;
 use crate::free_slot_hints::FreeSlotHints;
 use crate::local_core::LocalCore;
-use sdd_space::{Item, Limits};
 use sdd_atomics::DomainSeat;
-use sdd_values::ReadSection;
+use sdd_core::Limits;
 use sdd_participants::{Participant, Tally};
+use sdd_space::Item;
+use sdd_values::ReadSection;
 use std::marker::Model;
 
 /// A membership with no guard open, which takes no part in its domain until it wakes there.

@@ -14,13 +14,13 @@ ghost use Rattle.sdd_domain.specs.Sight.{IsOnce};
 use crate::claims::{claim_free, finds_free};
 use crate::local_core::LocalCore;
 use crate::values::{let_wait, put_value};
-use sdd_space::inner::tenure_of;
-use sdd_space::{Guard, Item};
 use sdd_atomics::steps::slots::{recall, take_in, watch};
 use sdd_core::Refused;
-use sdd_shared_values::GhostValues;
 use sdd_participants::LimboEntry;
-use sdd_rights::{StandingKind, Right};
+use sdd_rights::{Right, StandingKind};
+use sdd_shared_values::GhostValues;
+use sdd_space::inner::tenure_of;
+use sdd_space::{Guard, Item};
 
 /// An owner of this kind may be one of several.
 #[inline]
@@ -29,7 +29,8 @@ fn is_one_of_several(kind: StandingKind) -> bool
 {
     match kind {
         StandingKind::Shared => true,
-        StandingKind::Free | StandingKind::Owned | StandingKind::Raw | StandingKind::Retired => false,
+        StandingKind::Free | StandingKind::Owned | StandingKind::Raw | StandingKind::Retired =>
+            false,
     }
 }
 

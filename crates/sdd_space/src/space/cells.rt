@@ -23,7 +23,7 @@ use crate::raw_ptr::RawPtr;
 use crate::space::caller::Caller;
 use sdd_core::{Refused, Tag};
 use sdd_participants::{CellContents, Standing};
-use sdd_rights::{StandingKind, Right};
+use sdd_rights::{Right, StandingKind};
 
 /// The cells of a world or domain that hold owners.
 ///

@@ -16,7 +16,7 @@ use crate::item::Item;
 use crate::space::caller::Caller;
 use sdd_core::Refused;
 use sdd_participants::Standing;
-use sdd_rights::{StandingKind, RawRight, Right};
+use sdd_rights::{RawRight, Right, StandingKind};
 
 /// Items that wait for a collector.
 pub trait Collectors<T: Item<T>>: Caller<T> {

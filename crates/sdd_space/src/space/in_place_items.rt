@@ -15,7 +15,7 @@ ghost use Rattle.sdd_space.specs.Steps.{with_value, dropped, owner_given};
 use crate::item::Item;
 use crate::space::caller::Caller;
 use sdd_core::Refused;
-use sdd_rights::{StandingKind, Right};
+use sdd_rights::{Right, StandingKind};
 
 /// Items that are changed and dropped in their place.
 pub trait InPlaceItems<T: Item<T>>: Caller<T> {

@@ -16,7 +16,7 @@ use crate::guard::Guard;
 use crate::item::Item;
 use crate::space::caller::Caller;
 use sdd_core::Refused;
-use sdd_rights::{StandingKind, Right};
+use sdd_rights::{Right, StandingKind};
 
 /// The items of a world or domain, as one participant makes them, looks at them and lets them go.
 ///
@@ -42,7 +42,11 @@ pub trait Items<T: Item<T>>: Caller<T> {
             (λ e. IsFull (Self.world self.old).standings × (e ≡ (value, Refused.NoSlot)) × (Self.world self.new ≡ Self.world self.old)) };
 
     /// Makes a value and puts it into a free slot, for an owner of this kind; where none is free it isn't made.
-    fn new_item_with<F: FnOnce() -> T>(&mut self, make: F, kind: StandingKind) -> Result<Right, (F, Refused)>
+    fn new_item_with<F: FnOnce() -> T>(
+        &mut self,
+        make: F,
+        kind: StandingKind,
+    ) -> Result<Right, (F, Refused)>
         requires seated { IsSeated (Self.seat self.old) }
         requires callable { F.pre make }
         requires home { (value : T) → F.post make value → AreOf (Self.seat self.old).home (T.holds value) }

@@ -10,7 +10,7 @@ use crate::guard::Guard;
 use crate::item::Item;
 use crate::space::caller::Caller;
 use sdd_participants::Standing;
-use sdd_rights::{StandingKind, Right};
+use sdd_rights::{Right, StandingKind};
 
 /// Items that are out as raw, and that nobody owns.
 pub trait RawItems<T: Item<T>>: Caller<T> {

@@ -13,7 +13,7 @@ use crate::item::Item;
 use crate::space::caller::Caller;
 use sdd_core::Refused;
 use sdd_participants::Standing;
-use sdd_rights::{StandingKind, Right, SharedRights};
+use sdd_rights::{Right, SharedRights, StandingKind};
 
 /// Items that several owners have from the first moment on, as the entry of a list: it is no part of what every space offers.
 pub trait Several<T: Item<T>>: Caller<T> {

@@ -11,7 +11,7 @@ use crate::item::Item;
 use crate::space::caller::Caller;
 use sdd_core::Refused;
 use sdd_participants::Standing;
-use sdd_rights::{StandingKind, Right};
+use sdd_rights::{Right, StandingKind};
 
 /// Items with several owners.
 pub trait SharedItems<T: Item<T>>: Caller<T> {

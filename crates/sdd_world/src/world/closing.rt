@@ -7,9 +7,9 @@ ghost use Rattle.sdd_world_core.specs.Closing.{NothingIsOut};
 ghost use Rattle.sdd_world.specs.Closing.{aged_out, all_aged_out, Closes, AllGo, Accounts, Sweeps, with_reclaimed};
 
 use super::World;
-use sdd_space::Item;
 use sdd_core::Refused;
 use sdd_participants::{Job, Tally};
+use sdd_space::Item;
 
 impl<T: Item<T>, J: Job> World<T, J> {
     /// Ends the world: reclaims what waits, with what it gives up in turn, and answers the tally. Participants need not have ended.

@@ -11,8 +11,8 @@ ghost use Rattle.sdd_space.specs.Ledger.{LedgerLaws};
 ghost use Rattle.sdd_space.specs.Under.{KeepsCollectedUnderGuards, KeepsFreshUnderGuards, KeepsUnderGuards};
 
 use super::World;
-use sdd_space::Item;
 use sdd_participants::Job;
+use sdd_space::Item;
 
 impl<T: Item<T>, J: Job> World<T, J> {
     /// What the parts of a world keep true of each other: a value where a slot is taken, each item that waits once, each participant abreast of the

@@ -12,10 +12,10 @@ ghost use Rattle.sdd_space.specs.Whole.{IsWhole};
 ghost use Rattle.sdd_world_core.specs.Lending.{AreLent};
 
 use super::WorldCore;
-use sdd_space::Item;
 use sdd_core::{Refused, Tag};
 use sdd_participants::{CellContents, Job, Standing};
-use sdd_rights::{StandingKind, Right};
+use sdd_rights::{Right, StandingKind};
+use sdd_space::Item;
 
 impl<T: Item<T>, J: Job> WorldCore<T, J> {
     /// No cell is free.

@@ -8,8 +8,8 @@ ghost use Rattle.sdd_values.specs.Block.{IsHome};
 ghost use Rattle.sdd_world_core.specs.Closing.{paced};
 
 use super::WorldCore;
+use sdd_participants::{CountdownState, Job, LimboEntry};
 use sdd_space::Item;
-use sdd_participants::{Job, CountdownState, LimboEntry};
 
 impl<T: Item<T>, J: Job> WorldCore<T, J> {
     /// A change of a place: what is due is reclaimed.

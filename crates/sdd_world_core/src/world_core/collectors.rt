@@ -11,13 +11,19 @@ ghost use Rattle.sdd_space.specs.Whole.{IsWhole};
 ghost use Rattle.sdd_world_core.specs.Lending.{AreLent};
 
 use super::WorldCore;
+use sdd_participants::{Job, LimboEntry, Standing};
+use sdd_rights::{RawRight, Right, StandingKind};
 use sdd_space::Item;
-use sdd_participants::{Job, Standing, LimboEntry};
-use sdd_rights::{StandingKind, RawRight, Right};
 
 impl<T: Item<T>, J: Job> WorldCore<T, J> {
     /// An owner of this kind lets its item go, and is told whether it was the last. The last one's item waits with a place, for a collector.
-    pub fn collect(&mut self, place: usize, collector: u32, right: Right, kind: StandingKind) -> bool
+    pub fn collect(
+        &mut self,
+        place: usize,
+        collector: u32,
+        right: Right,
+        kind: StandingKind,
+    ) -> bool
         requires place { IsPlaceOf self.old.world place }
         requires home { home_of right ≡ self.old.world.home.slots }
         requires kind { kind_of right ≡ kind }

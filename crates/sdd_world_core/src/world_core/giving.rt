@@ -17,9 +17,9 @@ ghost use Rattle.sdd_space.specs.Whole.{IsWhole};
 ghost use Rattle.sdd_world_core.specs.Lending.{AreLent};
 
 use super::WorldCore;
-use sdd_space::{AtomicOwned, AtomicRaw, AtomicShared, Giver, Item, Owned, Shared, inner};
 use sdd_participants::Job;
-use sdd_rights::{StandingKind, Right};
+use sdd_rights::{Right, StandingKind};
+use sdd_space::{AtomicOwned, AtomicRaw, AtomicShared, Giver, Item, Owned, Shared, inner};
 
 /// Retires for a place what it is given.
 struct Retirement<'c, T: Item<T>, J: Job> {
@@ -59,9 +59,11 @@ impl<T: Item<T>, J: Job> Giver<T> for Retirement<'_, T, J> {
         ensures exact { IsExact (seat_for self.old.core.now.world self.old.place self.old.core.ghost_name) →
             self.new.core.now.world ≡ given self.old.core.now.world self.old.place (holding_of owner) }
     {
-        let _ = self
-            .core
-            .release(self.place, inner::right_of_owner(owner), StandingKind::Owned);
+        let _ = self.core.release(
+            self.place,
+            inner::right_of_owner(owner),
+            StandingKind::Owned,
+        );
     }
 
     fn shared(&mut self, owner: Shared<T>)
@@ -75,9 +77,11 @@ impl<T: Item<T>, J: Job> Giver<T> for Retirement<'_, T, J> {
         ensures exact { IsExact (seat_for self.old.core.now.world self.old.place self.old.core.ghost_name) →
             self.new.core.now.world ≡ given self.old.core.now.world self.old.place (shared.holding_of owner) }
     {
-        let _ = self
-            .core
-            .release(self.place, inner::right_of_shared(owner), StandingKind::Shared);
+        let _ = self.core.release(
+            self.place,
+            inner::right_of_shared(owner),
+            StandingKind::Shared,
+        );
     }
 
     fn atomic_owned(&mut self, cell: AtomicOwned<T>)
@@ -91,8 +95,7 @@ impl<T: Item<T>, J: Job> Giver<T> for Retirement<'_, T, J> {
         ensures exact { IsExact (seat_for self.old.core.now.world self.old.place self.old.core.ghost_name) →
             self.new.core.now.world ≡ given self.old.core.now.world self.old.place (cell_holding cell) }
     {
-        self.core
-            .close_cell(self.place, inner::right_of_cell(cell), StandingKind::Owned);
+        self.core.close_cell(self.place, inner::right_of_cell(cell), StandingKind::Owned);
     }
 
     fn atomic_shared(&mut self, cell: AtomicShared<T>)
@@ -106,7 +109,11 @@ impl<T: Item<T>, J: Job> Giver<T> for Retirement<'_, T, J> {
         ensures exact { IsExact (seat_for self.old.core.now.world self.old.place self.old.core.ghost_name) →
             self.new.core.now.world ≡ given self.old.core.now.world self.old.place (shared.cell_holding cell) }
     {
-        self.core.close_cell(self.place, inner::right_of_shared_cell(cell), StandingKind::Shared);
+        self.core.close_cell(
+            self.place,
+            inner::right_of_shared_cell(cell),
+            StandingKind::Shared,
+        );
     }
 
     fn atomic_raw(&mut self, cell: AtomicRaw<T>)

@@ -10,9 +10,9 @@ ghost use Rattle.sdd_values.specs.ReadSections.{kept_at};
 ghost use Rattle.sdd_world_core.specs.Lending.{AreLent, IsPartAt, shared, given_up};
 
 use super::WorldCore;
-use sdd_space::Item;
-use sdd_values::{SectionState, ReadSection};
 use sdd_participants::{Job, LimboEntry};
+use sdd_space::Item;
+use sdd_values::{ReadSection, SectionState};
 
 impl<T: Item<T>, J: Job> WorldCore<T, J> {
     /// Opens one more guard of a place, and answers its part of the place's tenure. For a change an empty bag is lent.

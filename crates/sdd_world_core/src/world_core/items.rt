@@ -14,10 +14,10 @@ ghost use Rattle.sdd_space.specs.Whole.{IsWhole};
 ghost use Rattle.sdd_world_core.specs.Lending.{AreLent};
 
 use super::WorldCore;
-use sdd_space::Item;
 use sdd_core::Refused;
 use sdd_participants::{Job, Standing};
-use sdd_rights::{StandingKind, Right, SharedRights};
+use sdd_rights::{Right, SharedRights, StandingKind};
+use sdd_space::Item;
 
 impl<T: Item<T>, J: Job> WorldCore<T, J> {
     /// How many slots there are.

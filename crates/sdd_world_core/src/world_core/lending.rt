@@ -9,10 +9,10 @@ ghost use Rattle.sdd_space.specs.Under.{Stays};
 ghost use Rattle.sdd_world_core.specs.Lending.{AreLent, IsPartAt};
 
 use super::WorldCore;
-use sdd_space::{Item, Ptr, inner};
-use sdd_values::ReadSection;
 use sdd_participants::{Job, Standing};
 use sdd_rights::Right;
+use sdd_space::{Item, Ptr, inner};
+use sdd_values::ReadSection;
 
 impl<T: Item<T>, J: Job> WorldCore<T, J> {
     /// The value of an owner's item, for as long as a part of the place's tenure is borrowed.

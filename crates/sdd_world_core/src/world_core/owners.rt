@@ -10,11 +10,11 @@ ghost use Rattle.sdd_space.specs.Whole.{IsWhole};
 ghost use Rattle.sdd_world_core.specs.Lending.{AreLent};
 
 use super::WorldCore;
-use sdd_space::Item;
 use sdd_core::Refused;
+use sdd_participants::{Job, LimboEntry, Standing};
+use sdd_rights::{Right, SharedRights, StandingKind};
+use sdd_space::Item;
 use sdd_world_slots::MOST_OWNERS;
-use sdd_participants::{Job, Standing, LimboEntry};
-use sdd_rights::{StandingKind, Right, SharedRights};
 
 impl<T: Item<T>, J: Job> WorldCore<T, J> {
     /// One owner more of the item in a slot, if it is shared.

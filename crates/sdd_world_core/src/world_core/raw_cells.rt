@@ -9,9 +9,9 @@ ghost use Rattle.sdd_space.specs.Whole.{IsWhole};
 ghost use Rattle.sdd_world_core.specs.Lending.{AreLent};
 
 use super::WorldCore;
-use sdd_space::Item;
 use sdd_participants::{Job, RawCellContents};
 use sdd_rights::RawRight;
+use sdd_space::Item;
 
 impl<T: Item<T>, J: Job> WorldCore<T, J> {
     /// A free cell is a raw one, and points to this.

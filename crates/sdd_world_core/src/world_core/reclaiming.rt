@@ -9,8 +9,8 @@ ghost use Rattle.sdd_values.specs.Block.{IsHome};
 ghost use Rattle.sdd_world_core.specs.Lending.{AreLent};
 
 use super::WorldCore;
-use sdd_space::Item;
 use sdd_participants::{Job, LimboEntry};
+use sdd_space::Item;
 
 impl<T: Item<T>, J: Job> WorldCore<T, J> {
     /// A job waits with a place, if a place of the table of jobs is free, and which that is is told; else it comes back.

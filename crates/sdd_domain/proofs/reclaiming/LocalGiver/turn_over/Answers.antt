@@ -1,6 +1,6 @@
 use Rattle.std.proofs.Common.{◌≡◌, sym, ap, ◌∙◌, arith}
 use Rattle.sdd_participants.specs.declared.epoch_state.Participant.{Participant}
-use Rattle.sdd_space.specs.declared.limits.Limits.{Limits}
+use Rattle.sdd_core.specs.declared.limits.Limits.{Limits}
 use Rattle.sdd_domain.specs.Local.{LocalModel}
 use Rattle.sdd_domain.specs.LocalState.{LocalState, IsLone}
 use Rattle.sdd_domain.proofs.Exact.{closed_none}

@@ -2,7 +2,7 @@ use Rattle.std.proofs.Common.{◌≡◌, ◌<◌, ◌≤◌, rules, IsTrue, sym,
 use Rattle.sdd_shared_values.specs.SharedValues.{showing}
 use Rattle.sdd_participants.specs.declared.epoch_state.Participant.{Participant}
 use Rattle.sdd_participants.specs.EpochState as time
-use Rattle.sdd_space.specs.declared.limits.Limits.{Limits}
+use Rattle.sdd_core.specs.declared.limits.Limits.{Limits}
 use Rattle.sdd_space.specs.Steps.{opened}
 use Rattle.sdd_domain.specs.Homes.{home_in}
 use Rattle.sdd_domain.specs.LocalState.{LocalState, IsLone, HasOpenGuard, IsEntered}

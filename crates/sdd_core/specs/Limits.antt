@@ -1,6 +1,6 @@
 -- The limits of a world or domain
 use Rattle.std.specs.Prelude.{◌-◌, ◌^◌, ◌≤◌}
-use Rattle.sdd_space.specs.declared.limits.Limits.{Limits}
+use Rattle.sdd_core.specs.declared.limits.Limits.{Limits}
 
 -- each limit is in its range
 pub record AreInRange (l : Limits) : Type 0 where

@@ -18,7 +18,7 @@ pub struct Limits {
 }
 
 impl Limits {
-    ghost use Rattle.sdd_space.specs.Limits.{AreInRange};
+    ghost use Rattle.sdd_core.specs.Limits.{AreInRange};
 
     /// Each limit is in its range.
     pub fn are_in_range(&self) -> bool
