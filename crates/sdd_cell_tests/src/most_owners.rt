@@ -11,7 +11,7 @@ use sdd_core::{Limits, Refused};
 use sdd_participants::Standing;
 use sdd_rights::SharedRights;
 use sdd_space::{AtomicShared, Cells, Items, Shared, SharedItems, Space, inner};
-use sdd_world::inner::{add_owners, let_go_but_one, standing_of};
+use sdd_world::inner::{add_owners, release_all_but_one, standing_of};
 use sdd_world::{Place, World};
 use std::marker::Model;
 use std::process::Abort;
@@ -117,7 +117,7 @@ impl Crowd {
             cell,
             more,
         } = self;
-        let last = let_go_but_one(&mut world, more);
+        let last = release_all_but_one(&mut world, more);
         all_go(rt, &mut world.at(&place), owner, cell, last);
         match world.close() {
             Ok(tally) => assert_eq!(rt; (tally.made, tally.reclaimed), (1, 1)),

@@ -3,6 +3,8 @@
 #![tactic(auto)]
 
 #[cfg(test)]
+mod counted_owners;
+#[cfg(test)]
 mod domains;
 #[cfg(test)]
 mod drops;

@@ -1,1 +1,3 @@
 pub mod CountedOwners
+pub mod Config
+pub mod Node

@@ -1,4 +1,13 @@
-//! Small programs over what is proved by hand, which nothing of the library uses: each shows one part of it by itself.
+//! Programs in ordinary code over a world, over a domain, and over what is proved by hand, that rest on contracts and laws
+//! alone; nothing of the library uses them. Its must-fail edits are what a caller gets wrong.
 #![tactic(auto)]
 
+pub mod config;
 pub mod counted_owners;
+pub mod guards;
+pub mod items;
+pub mod lone;
+pub mod looks;
+pub mod nodes;
+pub mod owners;
+pub mod programs;

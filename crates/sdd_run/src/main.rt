@@ -1,11 +1,11 @@
 //! The program `sdd-run`: plays the script or the schedule of standard input, and prints a line for each call or step.
 //!
-//! Here the host's arguments, input and printing meet the program's decisions, which stand under clauses: `sdd_command`
+//! Here the host's arguments, input and printing meet the program's decisions, which stand under clauses: `sdd_script_text`
 //! says what the arguments ask for, what is printed besides a play, on which stream, and the status, and `sdd_script::play` and
 //! `sdd_script::play_steps` what a play reads and writes. No clause says what the host gives or prints.
 #![tactic(auto)]
 
-use sdd_command::{
+use sdd_script_text::{
     Choice, Outcome, after_printing, asked, failure, line, status, without_arguments,
 };
 use sdd_script::{Reader, Writer, play, play_steps};

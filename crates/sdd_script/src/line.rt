@@ -7,7 +7,7 @@ ghost use Rattle.sdd_script_model.specs.Script.{Acts, Answers, Step};
 
 use sdd_core::Refused;
 use sdd_guard_commands::{guards, participants};
-use sdd_raw_acts::collectors;
+use sdd_item_commands::collectors;
 use sdd_script_names::Interpreter;
 use sdd_script_text::{Action, Answer, Call, CollectorName, PlaceName, Reply};
 
@@ -67,16 +67,16 @@ fn act(stage: &mut Interpreter, name: PlaceName, action: Action) -> Result<Reply
     if let Some(reply) = sdd_guard_commands::act(stage, name, action) {
         return Ok(reply);
     }
-    if let Some(reply) = sdd_item_acts::act(stage, name, action)? {
+    if let Some(reply) = sdd_item_commands::act_on_item(stage, name, action)? {
         return Ok(reply);
     }
-    if let Some(reply) = sdd_raw_acts::act(stage, name, action)? {
+    if let Some(reply) = sdd_item_commands::act_on_raw(stage, name, action)? {
         return Ok(reply);
     }
-    if let Some(reply) = sdd_cell_acts::act(stage, name, action)? {
+    if let Some(reply) = sdd_item_commands::act_on_cell(stage, name, action)? {
         return Ok(reply);
     }
-    let Some(reply) = sdd_cell_acts::act_on_held(stage, name, action)? else {
+    let Some(reply) = sdd_item_commands::act_on_held(stage, name, action)? else {
         unreachable!()
     };
     Ok(reply)

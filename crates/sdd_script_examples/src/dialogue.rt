@@ -11,7 +11,7 @@
 
 use crate::plays::played;
 use crate::verdict::Verdict;
-use sdd_command::USUAL_LIMITS;
+use sdd_script_text::USUAL_LIMITS;
 use sdd_core::Limits;
 use sdd_participants::Tally;
 use sdd_script::{Ended, Reply, run};

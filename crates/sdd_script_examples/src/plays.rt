@@ -1,7 +1,7 @@
 //! Plays of scripts and of schedules.
 
 use crate::verdict::Verdict;
-use sdd_command::USUAL_LIMITS;
+use sdd_script_text::USUAL_LIMITS;
 use sdd_core::Limits;
 use sdd_script::{Ended, Reader, Writer, play, play_steps};
 use std::alloc::{AllocError, Global};

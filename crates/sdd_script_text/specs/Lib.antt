@@ -6,3 +6,5 @@ pub mod Name
 pub mod Play
 pub mod Reading
 pub mod Script
+pub mod Choice
+pub mod Outcome

@@ -16,7 +16,7 @@ use std::mem::replace;
 ///
 /// A cell holds owners of its own kind alone: of an owned item, or of a shared one. Memory is taken when the cells are made, and never again. No call's
 /// cost depends on how many cells there are.
-pub struct Cells {
+pub struct WorldCells {
     rights: RightsAuthority,
     cells: Slab<CellContents>,
     /// The right of the owner that a cell holds.
@@ -27,7 +27,7 @@ pub struct Cells {
     pointers: Vec<RawCellContents>,
 }
 
-impl Model for Cells {
+impl Model for WorldCells {
     ghost use Rattle.std.specs.Prelude.{◌≡◌, length};
     ghost use Rattle.sdd_rights.specs.Right.{badge_home};
     ghost use Rattle.sdd_standings.specs.Cells.{Cells, AreKept};
@@ -39,11 +39,11 @@ impl Model for Cells {
     ghost invariant = { λ c. AreKept c.rights.home (badge_home c.slots) c.rights.kept c.cells c.held.items × (length c.pointers.items ≡ c.rights.home.size) };
 }
 
-impl Cells {
+impl WorldCells {
     ghost use Rattle.sdd_standings.specs.Cells.{cell_with, slot_held, with_cell, without_cell, with_pointer, MayHold};
 
     /// That many cells, all free, in a home of their own, for owners of these slots.
-    pub fn new(alloc: Global, size: u32, slots: NameWitness) -> Result<Cells, AllocError>
+    pub fn new(alloc: Global, size: u32, slots: NameWitness) -> Result<WorldCells, AllocError>
         ensures size { IfOk result (λ cells. cells.home.size ≡ size) }
         ensures cells { IfOk result (λ cells. cells.cells ≡ replicate size None) }
         ensures slots { IfOk result (λ cells. cells.slots ≡ badge_home slots) }
@@ -56,7 +56,7 @@ impl Cells {
         };
         let cells = Slab::new(alloc, size, nothing)?;
         let (held, pointers) = nothing_held(alloc, size)?;
-        Ok(Cells {
+        Ok(WorldCells {
             rights,
             cells,
             held,
@@ -233,7 +233,7 @@ impl Cells {
     pub fn destroy(self)
         requires { All (λ cell. IsNone cell) self.cells }
     {
-        let Cells {
+        let WorldCells {
             mut rights,
             cells: _,
             mut held,

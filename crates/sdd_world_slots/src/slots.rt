@@ -19,13 +19,13 @@ pub const MOST_OWNERS: u64 = 1 << 62;
 /// Slots for values, each free or with a value and a standing.
 ///
 /// Memory is taken when the slots are made, and never again. No call's cost depends on how many slots there are.
-pub struct Slots<T> {
+pub struct WorldSlots<T> {
     rights: RightsAuthority,
     standings: Slab<Standing>,
     places: LentValues<T>,
 }
 
-impl<T> Model for Slots<T> {
+impl<T> Model for WorldSlots<T> {
     ghost use Rattle.sdd_standings.specs.Slots.{Slots, AreKept};
 
     ghost Value = { Slots T };
@@ -41,9 +41,9 @@ impl<T> Model for Slots<T> {
     ghost invariant = { λ s. AreKept s.rights.home s.rights.kept s.standings s.places.values };
 }
 
-impl<T> Slots<T> {
+impl<T> WorldSlots<T> {
     /// That many slots, all free, in a home of their own.
-    pub fn new(alloc: Global, size: u32, readers: u32) -> Result<Slots<T>, AllocError>
+    pub fn new(alloc: Global, size: u32, readers: u32) -> Result<WorldSlots<T>, AllocError>
         ensures size { IfOk result (λ slots. slots.home.size ≡ size) }
         ensures standings { IfOk result (λ slots. slots.standings ≡ replicate size None) }
         ensures values { IfOk result (λ slots. slots.values ≡ replicate size None) }
@@ -52,7 +52,7 @@ impl<T> Slots<T> {
         let rights = RightsAuthority::new(alloc, size as usize, StandingKind::Free)?;
         let standings = Slab::new(alloc, size, Standing::Retired)?;
         let places = LentValues::new(alloc, size as usize, readers)?;
-        Ok(Slots {
+        Ok(WorldSlots {
             rights,
             standings,
             places,
@@ -329,7 +329,7 @@ impl<T> Slots<T> {
             (self.new ≡ with_value self.old (number_of right.now) now) }
     {
         let slot = self.slot_of(right);
-        self.places.get_mut(slot as usize, f)
+        self.places.edit(slot as usize, f)
     }
 
     /// Takes the value of an owner that is alone, which is lent to nobody. The slot is free then.
@@ -371,7 +371,7 @@ impl<T> Slots<T> {
     pub fn destroy(self)
         requires { All (λ standing. IsNone standing) self.standings }
     {
-        let Slots {
+        let WorldSlots {
             rights: _,
             standings: _,
             places,
@@ -413,7 +413,7 @@ impl<T> Slots<T> {
     }
 }
 
-impl<T> StandingLookup for Slots<T> {
+impl<T> StandingLookup for WorldSlots<T> {
     ghost use Rattle.sdd_standings.specs.Slots.{Slots};
 
     ghost standings = { λ s. s.standings };

@@ -5,5 +5,5 @@ use Rattle.sdd_participants.proofs.bags.copy_kept.Given as goal
 
 abbrev pub invariant-loop-what : goal.invariant-loop-what
 invariant-loop-what g l =
-    (l.to.items ≡ l.fn.to.items ++ filter (is_kept_for l.collector (g.S.Standings.standings l.standings)) (take l.what-index l.from))
+    (l.to.items ≡ l.fn.to.items ++ filter (is_kept_for l.collector (g.S.StandingLookup.standings l.standings)) (take l.what-index l.from))
     × (vec_capacity l.to ≡ vec_capacity l.fn.to)

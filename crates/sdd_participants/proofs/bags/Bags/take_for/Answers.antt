@@ -8,7 +8,7 @@ use Rattle.sdd_participants.proofs.bags.Bags.take_for.Goals as goal
 
 pub pick-requires-2 : goal.pick-requires-2
 pick-requires-2 g c =
-    let chosen = is_kept_for c.args.collector (g.S.Standings.standings c.args.standings.now) in
+    let chosen = is_kept_for c.args.collector (g.S.StandingLookup.standings c.args.standings.now) in
     let own = c.self.inside in
     let all : length c.args.self.now.waiting ≡ length (waiting_of own.next.items own.previous.items own.current.items) =
     ap (λ (b : Bags). length b.waiting) (sym c.self.view_is) in
@@ -27,7 +27,7 @@ pick-requires-2 g c =
 
 pub pick-requires-3 : goal.pick-requires-3
 pick-requires-3 g c =
-    let chosen = is_kept_for c.args.collector (g.S.Standings.standings c.args.standings.now) in
+    let chosen = is_kept_for c.args.collector (g.S.StandingLookup.standings c.args.standings.now) in
     let own = c.self.inside in
     let all : length c.args.self.now.waiting ≡ length (waiting_of own.next.items own.previous.items own.current.items) =
     ap (λ (b : Bags). length b.waiting) (sym c.self.view_is) in
@@ -52,14 +52,14 @@ pick-requires-3 g c =
 
 pub returns-clause-left : goal.returns-clause-left
 returns-clause-left g c =
-    let chosen = is_kept_for c.args.collector (g.S.Standings.standings c.args.standings.now) in
+    let chosen = is_kept_for c.args.collector (g.S.StandingLookup.standings c.args.standings.now) in
     let own = c.self.inside in
     rw (← c.self.view_is, c.pick-3.ensures.left, c.pick-2.ensures.left, c.pick.ensures.left)
     (ap (λ w. record { waiting = w; room = own.room }) (sym (rest-waiting chosen own.next.items own.previous.items own.current.items)))
 
 pub returns-clause-taken : goal.returns-clause-taken
 returns-clause-taken g c =
-    let chosen = is_kept_for c.args.collector (g.S.Standings.standings c.args.standings.now) in
+    let chosen = is_kept_for c.args.collector (g.S.StandingLookup.standings c.args.standings.now) in
     let own = c.self.inside in
     rw (
       ← c.self.view_is,

@@ -9,7 +9,7 @@ use Rattle.sdd_participants.proofs.epoch_state.EpochState.take_for.Goals as goal
 
 pub take_from-requires-clause-room : goal.take_from-requires-clause-room
 take_from-requires-clause-room g c =
-    let chosen = is_kept_for c.args.collector (g.S.Standings.standings c.args.standings.now) in
+    let chosen = is_kept_for c.args.collector (g.S.StandingLookup.standings c.args.standings.now) in
     let t = c.args.self.now in
     let i = c.loop-place.place in
     let inside : i < length t.places = omega (arith, c.loop-place.invariant.end, c.loop-place-test.true) in
@@ -18,7 +18,7 @@ take_from-requires-clause-room g c =
 
 pub loop-place-preserved : goal.loop-place-preserved
 loop-place-preserved g c =
-    let chosen = is_kept_for c.args.collector (g.S.Standings.standings c.args.standings.now) in
+    let chosen = is_kept_for c.args.collector (g.S.StandingLookup.standings c.args.standings.now) in
     let t = c.args.self.now in
     let u = c.loop-place.self in
     let i = c.loop-place.place in
@@ -35,7 +35,7 @@ loop-place-preserved g c =
 
 pub returns-clause-count : goal.returns-clause-count
 returns-clause-count g c =
-    let chosen = is_kept_for c.args.collector (g.S.Standings.standings c.args.standings.now) in
+    let chosen = is_kept_for c.args.collector (g.S.StandingLookup.standings c.args.standings.now) in
     let t = c.args.self.now in
     let i = c.loop-place.place in
     let all : length t.places ≤ i = omega (arith, c.loop-place.invariant.end, c.loop-place-test.false) in

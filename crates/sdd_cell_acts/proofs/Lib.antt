@@ -1,2 +1,0 @@
-pub mod CellActs
-pub mod ExchangeActs

@@ -1,2 +1,0 @@
-mod Replacing
-mod Emptiness

@@ -1,5 +1,0 @@
-use Rattle.std.proofs.Common.{refl}
-use Rattle.sdd_client.proofs.programs.make_read_and_retire.Goals as goal
-
-pub unreachable-requires : goal.unreachable-requires
-unreachable-requires c = (c.counts_what_is_out.ensures c.args.world.now).room c.requires.room (rw c.at-turn.ensures.world at (c.in-Err.ensures.exact refl).0)

@@ -1,0 +1,18 @@
+use Rattle.std.proofs.Common.{rules}
+use denote.Builtin.{u64}
+use Rattle.sdd_space.specs.Owned.{right_of}
+use Rattle.sdd_space.specs.CallerId.{IsExact}
+use Rattle.sdd_domain.specs.LocalState.{IsLone}
+use Rattle.sdd_domain.specs.Space.{seat_of}
+use Rattle.sdd_domain.specs.Values.{one_value}
+use Rattle.sdd_examples.proofs.Emptiness.{full_is_not_blank}
+use Rattle.sdd_examples.proofs.lone.first_item.Goals as goal
+
+pub unreachable-requires : goal.unreachable-requires
+unreachable-requires c = let lone : IsLone c.in_ok-local.local.member = search rules in
+    let exact : IsExact (seat_of c.in_ok-local.local) = search rules in
+    full_is_not_blank _ _ _ (c.in_ok-local.ensures.blank lone).standings c.requires.slots (c.in_default.ensures.exact exact).0
+
+-- the owner's item has one value
+pub returns : goal.returns
+returns c = one_value u64 (right_of c.in-Ok.owner) c.get_guarded_ref-seen.result.now 7 c.get_guarded_ref-seen.ensures.value c.in-Ok.ensures.shown

@@ -1,0 +1,60 @@
+-- The lines on items and their owners, on items in their place and out as raw, on cells, and with collectors
+use Rattle.sdd_script_model.specs.declared.owner_kind.OwnerKind.TheVariants as ownership
+use Rattle.sdd_script_model.specs.declared.owner_kind.OwnerKind.{OwnerKind}
+use Rattle.sdd_script_text.specs.declared.call.Value.{Value}
+use Rattle.sdd_script_text.specs.declared.call.Action.{Action}
+use Rattle.sdd_script_text.specs.declared.call.Action.TheVariants as call
+use Rattle.sdd_script_text.specs.declared.name.OwnerName.{OwnerName}
+use Rattle.std.specs.Prelude.{Option}
+
+-- an action on an item or an owner
+abbrev pub IsItemAct : Action → Type 0
+IsItemAct (call.Owned value) = Unit {0}
+IsItemAct (call.Shared value) = Unit {0}
+IsItemAct (call.Read owner) = Unit {0}
+IsItemAct (call.Look item guard) = Unit {0}
+IsItemAct (call.Retire owner) = Unit {0}
+IsItemAct (call.Release owner) = Unit {0}
+IsItemAct (call.Clone owner) = Unit {0}
+IsItemAct (call.Upgrade item guard) = Unit {0}
+IsItemAct other = ⊥
+
+-- the line that makes an item that is so owned
+abbrev pub making : OwnerKind → Value → Action
+making ownership.Sole value = call.Owned value
+making ownership.Shared value = call.Shared value
+
+-- an action on an item in its place or out as raw, or with a collector, but for its close
+abbrev pub IsRawAct : Action → Type 0
+IsRawAct (call.Put owner number) = Unit {0}
+IsRawAct (call.Drop owner) = Unit {0}
+IsRawAct (call.Raw owner) = Unit {0}
+IsRawAct (call.Unraw item) = Unit {0}
+IsRawAct (call.See item guard) = Unit {0}
+IsRawAct call.Collector = Unit {0}
+IsRawAct (call.Collect owner guard collector) = Unit {0}
+IsRawAct other = ⊥
+
+-- an action on a cell as a whole
+abbrev pub IsCellAct : Action → Type 0
+IsCellAct (call.CellOwned owner) = Unit {0}
+IsCellAct (call.CellShared owner) = Unit {0}
+IsCellAct (call.Load cell guard) = Unit {0}
+IsCellAct (call.Tag cell) = Unit {0}
+IsCellAct (call.TagIf cell tag was) = Unit {0}
+IsCellAct (call.CloseCell cell) = Unit {0}
+IsCellAct other = ⊥
+
+-- an action on the owner that a cell holds
+abbrev pub IsHeldAct : Action → Type 0
+IsHeldAct (call.Swap cell owner tag) = Unit {0}
+IsHeldAct (call.Exchange cell guard item was owner tag) = Unit {0}
+IsHeldAct (call.Into cell) = Unit {0}
+IsHeldAct (call.Copy cell guard) = Unit {0}
+IsHeldAct (call.Share cell guard) = Unit {0}
+IsHeldAct other = ⊥
+
+-- the line that makes a cell that holds owners of this kind
+abbrev pub making_cell : OwnerKind → Option OwnerName → Action
+making_cell ownership.Sole x = call.CellOwned x
+making_cell ownership.Shared x = call.CellShared x

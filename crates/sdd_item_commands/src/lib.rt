@@ -1,0 +1,13 @@
+//! What participants of a script do with items and their owners, with items in their place and out as raw, with cells and
+//! the owners that they hold, and with collectors.
+#![tactic(auto)]
+
+pub mod cells;
+pub mod collectors;
+pub mod exchanges;
+pub mod items;
+mod line;
+pub mod owners;
+pub mod raw;
+
+pub use line::{act_on_cell, act_on_held, act_on_item, act_on_raw};

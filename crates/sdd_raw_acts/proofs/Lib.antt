@@ -1,2 +1,0 @@
-pub mod RawActs
-pub mod CollectorActs

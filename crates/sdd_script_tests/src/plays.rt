@@ -1,0 +1,4 @@
+//! Plays: what the words of the command line choose, how plays end and what they write then, and the greatest sizes.
+mod greatest_sizes;
+mod words;
+mod worked;
