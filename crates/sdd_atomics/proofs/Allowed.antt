@@ -11,7 +11,7 @@ use Rattle.atomic_table.specs.Table.{State, step, Allows, Enters, carried_after}
 use Rattle.sdd_witness.specs.Steps.{AllowsBeside}
 use Rattle.atomic_table.specs.declared.shared.Seat.{Seat}
 use Rattle.sdd_shared_values.specs.declared.value_fraction.ValueFraction.{ValueFraction}
-use Rattle.sdd_shared_values.specs.SharedValues.{IsVacant, lot}
+use Rattle.sdd_shared_values.specs.SharedValues.{IsNoValueCode, lot}
 use Rattle.sdd_shared_values.specs.ValueFractions.{FractionContent}
 use Rattle.sdd_shared_values.specs.Bank.{Comes, Leaves, AllowsDeal}
 use Rattle.sdd_views.specs.declared.EpochView.{EpochView}
@@ -21,7 +21,7 @@ use Rattle.sdd_word_invariant.specs.Words.{global_word, lock_word, state_word, c
 use Rattle.sdd_word_invariant.specs.Codes.{free_word, owned_word, waiting_word}
 use Rattle.sdd_word_invariant.specs.Epoch.{HasPlace, IsClosed, IsOpen, Scans}
 use Rattle.sdd_views.specs.Views.{nobody, owner_of}
-use Rattle.sdd_word_invariant.specs.Steps.{Keeps, passed_by, knowing, scanning, IsNext, Registers, Reads, Counts, Publishes, Ends, Locks, LooksAtLock, LooksAtState, LooksAtCount, Advances, Unlocks}
+use Rattle.sdd_word_invariant.specs.EpochSteps.{Keeps, passed_by, knowing, scanning, IsNext, Registers, Reads, Counts, Publishes, Ends, Locks, LooksAtLock, LooksAtState, LooksAtCount, Advances, Unlocks}
 use Rattle.sdd_word_invariant.specs.Slots.{OwnsAlone, Holds}
 use Rattle.sdd_word_invariant.specs.SlotSteps.{blank, changed, OnEpoch, PublishesAll, IsDue, LooksAtSlot, TakesHold, LetsGo, LooksForGuard, AtSlot}
 use Rattle.sdd_word_invariant.specs.Barred.{IsNobodys, Bars, LooksForValue}
@@ -30,10 +30,10 @@ use Rattle.sdd_word_invariant.proofs.EpochSteps as over
 use Rattle.sdd_word_invariant.proofs.Barred.{Spares}
 use Rattle.sdd_word_invariant.proofs.Sums.{is_same}
 use Rattle.sdd_domain_invariant.specs.FractionsAtHome.{CarriedFractions, Moves, spare}
-use Rattle.sdd_domain_invariant.specs.Banked.{IsBank, banked, founder}
+use Rattle.sdd_domain_invariant.specs.BankInvariant.{IsBank, banked, founder}
 use Rattle.sdd_domain_invariant.specs.Records.{IsIn}
 use Rattle.sdd_domain_invariant.specs.DomainInvariant.{DomainInvariant}
-use Rattle.sdd_domain_invariant.specs.HomeSteps.{SeatState, HasAll, IsValue, Purse, ClaimsAll, Houses, EntersUnit, TakesOut, TakesHeld, IsDeposit, RetiresOne, GivesAll, DiscardsAll, Watches, Recalls, ClosesHome, EndsAll, OfSlot}
+use Rattle.sdd_domain_invariant.specs.FractionSteps.{SeatState, CarriesAll, IsValue, CarriesSeen, ClaimsAll, FillsSlot, EntersUnit, TakesOut, TakesHeld, IsDeposit, RetiresOne, GivesAll, DiscardsAll, SeesOwned, LearnsOwned, ClosesHome, EndsAll, OfSlot}
 use Rattle.sdd_domain_invariant.proofs.Lift.{lift_epoch, lift_publish, lift_end}
 use Rattle.sdd_domain_invariant.proofs.Steps.{own_place}
 use Rattle.sdd_domain_invariant.proofs.Steps as steps
@@ -58,15 +58,15 @@ one_slot_moved : (w : View) (i j : ℕ) → Moves w i → Moves w j → i ≡ j
 one_slot_moved w i j m m' = one_moved w j i m' m
 
 -- who has all stakes in a slot sees by the last what it shows
-last_shown : (γ i n o : ℕ) (value : Gv) (rest xs : CarriedFractions) → HasAll γ i n o (IsValue value) rest xs → shown_last xs ≡ value
+last_shown : (γ i n o : ℕ) (value : Gv) (rest xs : CarriedFractions) → CarriesAll γ i n o (IsValue value) rest xs → shown_last xs ≡ value
 last_shown γ i n o value rest [] row = absurd row
 last_shown γ i n o value rest (x ∷ xs) row = row.1.1.1
 
 -- so it knows what the step told that moved this value in
 pub as_housed : (γ slot n o : ℕ) (a b : Bool) (value : Gv) (rest : CarriedFractions) (me me' : SeatState) → b ≡ a → Moves me.0 slot
-    → HasAll γ slot n o (IsValue value) rest me.1 → HousesMoved a me me' → Houses slot b value me me'
+    → CarriesAll γ slot n o (IsValue value) rest me.1 → HousesMoved a me me' → FillsSlot slot b value me me'
 as_housed γ slot n o a b value rest me me' is moves row e =
-    subst (λ (t : Bool × Gv). Houses slot t.0 t.1 me me') (λ d. (sym is d, last_shown γ slot n o value rest me.1 row d)) (e slot moves)
+    subst (λ (t : Bool × Gv). FillsSlot slot t.0 t.1 me me') (λ d. (sym is d, last_shown γ slot n o value rest me.1 row d)) (e slot moves)
 
 first_owned : View → ℕ
 first_owned w = elim w.slots.owns [ [] ↦ 0 | i ∷ is ↦ i ]
@@ -233,19 +233,19 @@ module _ (γ : ℕ) (sizes : Sizes) (slots id : ℕ) (me : SeatState) where
     near_place near = let e = ap (λ (z : Sizes). z.participants) same in omega arith
 
     pub may_close : (i : ℕ) → i ≡ state_word v.place → IsOpen v → ¬ (Scans v) → v.place < sizes.participants → me.0.stakes.moves ≡ None
-        → Purse γ sizes.participants v.place me.0.stakes.sees me.1 → May i (λ _. 1) (λ _. ClosesHome me 1)
+        → CarriesSeen γ sizes.participants v.place me.0.stakes.sees me.1 → May i (λ _. 1) (λ _. ClosesHome me 1)
     may_close i is is_open free near rests purse = as_known i (state_word v.place) (λ _. 1) (λ _ _. ClosesHome me 1) is
         (steps.closes slots id me live is_open free (near_place near) rests
-        (subst (λ (t : ℕ × Sizes). Purse t.0 t.1.participants v.place me.0.stakes.sees me.1) (λ d. (sym book d, sym same d)) purse))
+        (subst (λ (t : ℕ × Sizes). CarriesSeen t.0 t.1.participants v.place me.0.stakes.sees me.1) (λ d. (sym book d, sym same d)) purse))
 
     pub may_look_for_guard : (i place : ℕ) → i ≡ state_word place → place < sizes.participants → place ≡ me.0.slots.looked
         → May i (λ x. x) (Told (LooksForGuard i) me)
     may_look_for_guard i place is low next = as_known i (state_word place) (λ x. x) (λ j. Told (LooksForGuard j) me) is
         (steps.looks_for_guard slots id me live place (let e = ap (λ (z : Sizes). z.participants) same in omega arith) next)
 
-    row_as_known : (slot o : ℕ) (Is : Gv → Type 0) (rest : CarriedFractions) → HasAll γ slot sizes.participants o Is rest me.1
-        → HasAll me.0.stakes.book slot me.0.sizes.participants o Is rest me.1
-    row_as_known slot o Is rest = subst (λ (t : ℕ × Sizes). HasAll t.0 slot t.1.participants o Is rest me.1) (λ d. (sym book d, sym same d))
+    row_as_known : (slot o : ℕ) (Is : Gv → Type 0) (rest : CarriedFractions) → CarriesAll γ slot sizes.participants o Is rest me.1
+        → CarriesAll me.0.stakes.book slot me.0.sizes.participants o Is rest me.1
+    row_as_known slot o Is rest = subst (λ (t : ℕ × Sizes). CarriesAll t.0 slot t.1.participants o Is rest me.1) (λ d. (sym book d, sym same d))
 
     -- with the bank
     module _ (bd : ℕ) (slot : ℕ) (inside : slot < sizes.slots) where
@@ -264,10 +264,10 @@ module _ (γ : ℕ) (sizes : Sizes) (slots id : ℕ) (me : SeatState) where
       n = sizes.participants
 
       pub may_house : Moves me.0 slot → OwnsAlone me.0 slot → (shared : Bool) (value : Gv) (rest : CarriedFractions)
-          → HasAll γ slot n (spare n) (IsValue value) rest me.1 → (l : FractionContent) → l ≡ lot γ slot l.round l.shown (spare n - 1)
+          → CarriesAll γ slot n (spare n) (IsValue value) rest me.1 → (l : FractionContent) → l ≡ lot γ slot l.round l.shown (spare n - 1)
           → Deals Comes (λ k. k ≡ l) (λ _. HousesMoved shared me)
       may_house moves mine shared value rest row l is = deal_known Comes (λ k. k ≡ l) (λ _. HousesMoved shared me) (λ s b h long at there ours ne.
-          let known = subst (λ (z : Sizes). HasAll me.0.stakes.book slot me.0.sizes.participants (spare z.participants) (IsValue value) rest me.1) (sym same)
+          let known = subst (λ (z : Sizes). CarriesAll me.0.stakes.book slot me.0.sizes.participants (spare z.participants) (IsValue value) rest me.1) (sym same)
           (row_as_known slot (spare n) (IsValue value) rest row) in
           let lot_known = subst (λ (t : ℕ × Sizes). l ≡ lot t.0 slot l.round l.shown (spare t.1.participants - 1)) (λ d. (sym book d, sym same d)) is in
           let a = steps.houses slots id me live slot known_slot bd moves mine shared value rest known l lot_known s b h long at there ours ne in record {
@@ -280,7 +280,7 @@ module _ (γ : ℕ) (sizes : Sizes) (slots id : ℕ) (me : SeatState) where
             ours = a.ours;
             goes = a.goes;
             offered = a.offered;
-            then = λ other m. subst (λ (t : ℕ × Gv). Houses t.0 shared t.1 me (a.view, carried_after me.1 a.act))
+            then = λ other m. subst (λ (t : ℕ × Gv). FillsSlot t.0 shared t.1 me (a.view, carried_after me.1 a.act))
                 (λ d. (one_slot_moved me.0 slot other moves m d, sym (last_shown γ slot n (spare n) value rest me.1 row) d)) a.then;
           })
 
@@ -317,7 +317,7 @@ module _ (γ : ℕ) (sizes : Sizes) (slots id : ℕ) (me : SeatState) where
           a.1,
           a.2,
           a.3,
-          (λ other b g e. owner_told slot other shared b value g e (λ k c x. Watches k c x me (a.0, carried_after me.1 a.1)) a.4),
+          (λ other b g e. owner_told slot other shared b value g e (λ k c x. SeesOwned k c x me (a.0, carried_after me.1 a.1)) a.4),
         ))
 
     pub may_recall : (slot jd : ℕ) (shared : Bool) (value : Gv)
@@ -329,7 +329,7 @@ module _ (γ : ℕ) (sizes : Sizes) (slots id : ℕ) (me : SeatState) where
           a.1,
           a.2,
           a.3,
-          (λ other b g e. owner_told slot other shared b value g e (λ k c x. Recalls k c x me (a.0, carried_after me.1 a.1)) a.4),
+          (λ other b g e. owner_told slot other shared b value g e (λ k c x. LearnsOwned k c x me (a.0, carried_after me.1 a.1)) a.4),
         ))
 
     -- of a slot
@@ -344,8 +344,8 @@ module _ (γ : ℕ) (sizes : Sizes) (slots id : ℕ) (me : SeatState) where
       at_slot : (f : ℕ → ℕ) (told : ℕ → ℕ → SeatState → Type 0) → Own (slot_word me.0.sizes slot) f (told (slot_word me.0.sizes slot)) → May i f (told i)
       at_slot f told = as_known i (slot_word me.0.sizes slot) f told there
 
-      row_known : (Is : _ → Type 0) (rest : CarriedFractions) → HasAll γ slot sizes.participants 0 Is rest me.1
-          → HasAll me.0.stakes.book slot me.0.sizes.participants 0 Is rest me.1
+      row_known : (Is : _ → Type 0) (rest : CarriedFractions) → CarriesAll γ slot sizes.participants 0 Is rest me.1
+          → CarriesAll me.0.stakes.book slot me.0.sizes.participants 0 Is rest me.1
       row_known Is rest = row_as_known slot 0 Is rest
 
       all_looked : sizes.participants ≤ me.0.slots.looked → me.0.sizes.participants ≤ me.0.slots.looked
@@ -364,10 +364,10 @@ module _ (γ : ℕ) (sizes : Sizes) (slots id : ℕ) (me : SeatState) where
       may_retire mine free drawn rests value told = at_slot (λ _. waiting_word 0) (λ j _. OfSlot RetiresOne j me (waiting_word 0))
           (steps.retires slots id me live slot within mine free drawn rests value told)
 
-      pub may_give_back : Moves me.0 slot → IsDue me.0 slot → (rest : CarriedFractions) → HasAll γ slot sizes.participants 0 IsVacant rest me.1
+      pub may_give_back : Moves me.0 slot → IsDue me.0 slot → (rest : CarriedFractions) → CarriesAll γ slot sizes.participants 0 IsNoValueCode rest me.1
           → May i (λ _. free_word 0) (λ _. OfSlot GivesAll i me (free_word 0))
       may_give_back moves due rest row = at_slot (λ _. free_word 0) (λ j _. OfSlot GivesAll j me (free_word 0))
-          (steps.gives_all slots id me live slot within moves due rest (row_known IsVacant rest row))
+          (steps.gives_all slots id me live slot within moves due rest (row_known IsNoValueCode rest row))
 
       pub may_hold : OwnsAlone me.0 slot → me.0.slots.holds ≡ None → May i (λ x. x) (Told (AtSlot TakesHold i) me)
       may_hold mine free = at_slot (λ x. x) (λ j. Told (AtSlot TakesHold j) me) (steps.takes_hold slots id me live slot within mine free)
@@ -376,9 +376,9 @@ module _ (γ : ℕ) (sizes : Sizes) (slots id : ℕ) (me : SeatState) where
       may_let_go held = at_slot (λ x. x) (λ j. Told (AtSlot LetsGo j) me) (steps.lets_go slots id me live slot within held)
 
       pub may_discard : Moves me.0 slot → Holds me.0 slot → sizes.participants ≤ me.0.slots.looked → (rest : CarriedFractions)
-          → HasAll γ slot sizes.participants 0 IsVacant rest me.1 → May i (λ _. free_word 0) (λ _. OfSlot DiscardsAll i me (free_word 0))
+          → CarriesAll γ slot sizes.participants 0 IsNoValueCode rest me.1 → May i (λ _. free_word 0) (λ _. OfSlot DiscardsAll i me (free_word 0))
       may_discard moves held all rest row = at_slot (λ _. free_word 0) (λ j _. OfSlot DiscardsAll j me (free_word 0))
-          (steps.discards slots id me live slot within moves held (all_looked all) rest (row_known IsVacant rest row))
+          (steps.discards slots id me live slot within moves held (all_looked all) rest (row_known IsNoValueCode rest row))
 
 -- the bank is of the board's plan
 pub as_banked : (b : DomainTable) (Goes : List FractionContent → FractionContent → List FractionContent → Type 0) (slots id : ℕ) (me : SeatState) (bd : ℕ) (Offered : FractionContent → Type 0)

@@ -9,7 +9,7 @@ use Rattle.atomic_table.specs.declared.owned.Closed.{Closed}
 use Rattle.sdd_shared_values.specs.declared.value_fraction.ValueFraction.{ValueFraction}
 use Rattle.sdd_views.specs.declared.View.{View}
 use Rattle.sdd_views.specs.declared.Sizes.{Sizes}
-use Rattle.sdd_domain_invariant.specs.FractionsAtHome.{stake_at, homes_for, share, away, full_at, Has, IsShown, AreHome}
+use Rattle.sdd_domain_invariant.specs.FractionsAtHome.{stake_at, homes_for, share, away, full_at, Has, MatchesSlotWord, AreHome}
 use Rattle.sdd_domain_invariant.specs.DomainInvariant.{DomainInvariant}
 use Rattle.sdd_domain_invariant.proofs.Tokens.{all_home}
 
@@ -28,7 +28,7 @@ home_at_end γ sizes closed id v all fin full = let n : ℕ = sizes.participants
         each = λ i p near low. let inside = slot_low n sizes.slots i p low in let a = all_home γ sizes s h id v fin.1.1 all i p inside near in (
           a.0,
           fin.4 (stake_at n i p) a.0 a.1,
-          subst (λ (ws : List ℕ). Has γ i (share n (away n (full_at sizes ws i)) p) (IsShown
+          subst (λ (ws : List ℕ). Has γ i (share n (away n (full_at sizes ws i)) p) (MatchesSlotWord
               (full_at sizes ws i)) a.0) fin.2 a.2,
         );
       };

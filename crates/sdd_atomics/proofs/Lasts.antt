@@ -4,11 +4,11 @@ use base.Stored.{Gv}
 use Rattle.atomic_table.specs.Table as table
 use Rattle.sdd_shared_values.specs.ValueFractions.{FractionContent}
 use Rattle.sdd_shared_values.specs.SharedValues.{most, lot}
-use Rattle.sdd_shared_values.specs.Grips.{lot_of}
+use Rattle.sdd_shared_values.specs.ReadFractions.{lot_of}
 use Rattle.sdd_shared_values.specs.declared.value_fraction.ValueFraction.{ValueFraction}
 use Rattle.sdd_rights.specs.declared.read_fraction.ReadFraction.{ReadFraction}
 use Rattle.sdd_domain_invariant.specs.FractionsAtHome.{CarriedFractions, stake_at, share, Has}
-use Rattle.sdd_domain_invariant.specs.HomeSteps.{HasAll, IsValue}
+use Rattle.sdd_domain_invariant.specs.FractionSteps.{CarriesAll, IsValue}
 use Rattle.sdd_domain_invariant.proofs.Tops.{share_last, units_else}
 use Rattle.sdd_atomics.specs.Grips.{IsGripOf}
 
@@ -18,13 +18,13 @@ pub record StartsWith (k : ℕ) (xs : CarriedFractions) : Type 0 where
   pub there : xs ≡ (k, last) ∷ table.rest xs
 
 module _ (γ i n o : ℕ) (Is : Gv → Type 0) (rest : CarriedFractions) where
-  pub all_start : (k : ℕ) (xs : CarriedFractions) → k ≡ stake_at n i n → HasAll γ i n o Is rest xs → StartsWith k xs
+  pub all_start : (k : ℕ) (xs : CarriedFractions) → k ≡ stake_at n i n → CarriesAll γ i n o Is rest xs → StartsWith k xs
   all_start k [] is row = absurd row
   all_start k (x ∷ xs) is row = record { last = x.1; there = λ d. ((row.0 ∙ sym is) d, x.1) ∷ xs }
 
   -- and it is the last stake in the slot
-  pub all_has : (k : ℕ) (x : ValueFraction) (xs : CarriedFractions) → xs ≡ (k, x) ∷ table.rest xs → HasAll γ i n o Is rest xs → Has γ i (share n o n) Is x
-  all_has k x xs e row = (subst (HasAll γ i n o Is rest) e row).1
+  pub all_has : (k : ℕ) (x : ValueFraction) (xs : CarriedFractions) → xs ≡ (k, x) ∷ table.rest xs → CarriesAll γ i n o Is rest xs → Has γ i (share n o n) Is x
+  all_has k x xs e row = (subst (CarriesAll γ i n o Is rest) e row).1
 
 -- as a lot
 pub lot_last : (γ i n o : ℕ) (Is : Gv → Type 0) (x : ValueFraction) → Has γ i (share n o n) Is x → x.lot ≡ lot γ i x.lot.round x.lot.shown (most - n - o)
@@ -32,9 +32,9 @@ lot_last γ i n o Is x has = subst (λ (u : ℕ). x.lot ≡ lot γ i x.lot.round
 
 -- it has other units then
 pub last_else : (γ i n o o' u : ℕ) (Is : Gv → Type 0) (rest : CarriedFractions) (k : ℕ) (x y : ValueFraction) (xs ys : CarriedFractions) → xs ≡ (k, x) ∷ table.rest xs
-    → ys ≡ (k, y) ∷ table.rest xs → u ≡ most - n - o' → y.lot ≡ record x.lot { units = u } → HasAll γ i n o Is rest xs → HasAll γ i n o' Is rest ys
-last_else γ i n o o' u Is rest k x y xs ys was now units is row = subst (HasAll γ i n o' Is rest) (sym now)
-    (units_else γ i n o o' Is rest k x y (table.rest xs) u units is (subst (HasAll γ i n o Is rest) was row))
+    → ys ≡ (k, y) ∷ table.rest xs → u ≡ most - n - o' → y.lot ≡ record x.lot { units = u } → CarriesAll γ i n o Is rest xs → CarriesAll γ i n o' Is rest ys
+last_else γ i n o o' u Is rest k x y xs ys was now units is row = subst (CarriesAll γ i n o' Is rest) (sym now)
+    (units_else γ i n o o' Is rest k x y (table.rest xs) u units is (subst (CarriesAll γ i n o Is rest) was row))
 
 -- some of its units, as a lot
 pub part_of : (γ i u m : ℕ) (l k : FractionContent) → l ≡ lot γ i l.round l.shown u → k ≡ record l { units = m } → k ≡ lot γ i k.round k.shown m

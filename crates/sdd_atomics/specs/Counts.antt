@@ -3,7 +3,7 @@ use Rattle.std.specs.Prelude.{List, [], ◌∷◌}
 use base.Stored.{Gv}
 use Rattle.sdd_views.specs.declared.CountsView.{CountsView}
 use Rattle.sdd_views.specs.contracts.View.{the_row}
-use Rattle.sdd_domain_invariant.specs.HomeSteps.{counts_token}
+use Rattle.sdd_domain_invariant.specs.FractionSteps.{counts_token}
 
 -- the views of a witness that knows these counts
 abbrev pub witness_of_counts : CountsView → List Gv

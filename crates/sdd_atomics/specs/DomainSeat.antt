@@ -6,13 +6,13 @@ use Rattle.atomic_table.specs.declared.shared.Seat.{Seat}
 use Rattle.sdd_views.specs.declared.EpochView.{EpochView}
 use Rattle.sdd_views.specs.declared.SlotsView.{SlotsView}
 use Rattle.sdd_views.specs.declared.View.{View}
-use Rattle.sdd_word_invariant.specs.Steps.{Publishes}
+use Rattle.sdd_word_invariant.specs.EpochSteps.{Publishes}
 use Rattle.sdd_word_invariant.specs.SlotSteps.{changed}
 use Rattle.sdd_shared_values.specs.declared.value_fraction.ValueFraction.{ValueFraction}
 use Rattle.sdd_views.specs.Views.{owner_of}
 use Rattle.sdd_domain_invariant.specs.FractionsAtHome.{CarriedFractions, Moves}
-use Rattle.sdd_domain_invariant.specs.Banked.{founded}
-use Rattle.sdd_domain_invariant.specs.HomeSteps.{SeatState, Houses, Watches, Recalls, ClosesHome}
+use Rattle.sdd_domain_invariant.specs.BankInvariant.{founded}
+use Rattle.sdd_domain_invariant.specs.FractionSteps.{SeatState, FillsSlot, SeesOwned, LearnsOwned, ClosesHome}
 use Rattle.sdd_atomics.specs.declared.domain_table.DomainTable.{DomainTable}
 use Rattle.sdd_atomics.specs.DomainTable.{sizes_of, book_of}
 
@@ -74,15 +74,15 @@ shown_last (x ∷ xs) = x.1.lot.shown
 
 -- the value of the slot that it moves was moved in, for an owner that may be one of several
 abbrev pub HousesMoved : Bool → SeatState → SeatState → Type 0
-HousesMoved shared me me' = (slot : ℕ) → Moves me.0 slot → Houses slot shared (shown_last me.1) me me'
+HousesMoved shared me me' = (slot : ℕ) → Moves me.0 slot → FillsSlot slot shared (shown_last me.1) me me'
 
 -- a guard sees a slot beside the token of its owner
 abbrev pub WatchesOwned : View → SeatState → SeatState → Type 0
-WatchesOwned w me me' = (slot : ℕ) (shared : Bool) (value : Gv) → w ≡ owner_of slot shared value → Watches slot shared value me me'
+WatchesOwned w me me' = (slot : ℕ) (shared : Bool) (value : Gv) → w ≡ owner_of slot shared value → SeesOwned slot shared value me me'
 
 -- a participant learns beside the token of a slot's owner what it knows of the slot
 abbrev pub RecallsOwned : View → SeatState → SeatState → Type 0
-RecallsOwned w me me' = (slot : ℕ) (shared : Bool) (value : Gv) → w ≡ owner_of slot shared value → Recalls slot shared value me me'
+RecallsOwned w me me' = (slot : ℕ) (shared : Bool) (value : Gv) → w ≡ owner_of slot shared value → LearnsOwned slot shared value me me'
 
 -- no guard is open, nothing is seen, and all stakes are at home
 abbrev pub HasClosed : Seat ValueFraction View → Seat ValueFraction View → Type 0

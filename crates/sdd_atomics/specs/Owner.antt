@@ -3,7 +3,7 @@ use Rattle.std.specs.Prelude.{◌≡◌, List, [], ◌∷◌}
 use base.Stored.{Gv}
 use Rattle.sdd_views.specs.declared.View.{View}
 use Rattle.sdd_views.specs.contracts.View.{the_row}
-use Rattle.sdd_domain_invariant.specs.HomeSteps.{departing}
+use Rattle.sdd_domain_invariant.specs.FractionSteps.{departing}
 
 -- these are the views of the owner that a participant with this view has cut off
 abbrev pub IsCutOff : View → List Gv → Type 0

@@ -27,7 +27,7 @@ pub struct TableLayout {
 pub struct DomainRule;
 
 impl TableRule<ValueFraction, View, TableLayout> for DomainRule {
-    ghost use Rattle.sdd_domain_invariant.specs.Banked.{founder};
+    ghost use Rattle.sdd_domain_invariant.specs.BankInvariant.{founder};
     ghost use Rattle.sdd_domain_invariant.specs.DomainInvariant.{DomainInvariant};
 
     ghost holds = { λ plan s. DomainInvariant plan.title.book plan.sizes s };
@@ -39,7 +39,7 @@ impl TableRule<ValueFraction, View, TableLayout> for DomainRule {
 pub struct Vault;
 
 impl Treasury<View> for Vault {
-    ghost use Rattle.sdd_domain_invariant.specs.Banked as bank;
+    ghost use Rattle.sdd_domain_invariant.specs.BankInvariant as bank;
 
     ghost ours = { bank.IsBank };
 

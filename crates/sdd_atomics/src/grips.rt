@@ -3,7 +3,7 @@ ghost use Rattle.std.specs.Prelude.{◌≡◌, ◌-◌, ◌<◌};
 ghost use base.Stored.{Gv};
 ghost use Rattle.sdd_shared_values.specs.SharedValues.{lot};
 ghost use Rattle.sdd_domain_invariant.specs.FractionsAtHome.{CarriedFractions, stake_at, spare};
-ghost use Rattle.sdd_domain_invariant.specs.HomeSteps.{HasAll, IsValue};
+ghost use Rattle.sdd_domain_invariant.specs.FractionSteps.{CarriesAll, IsValue};
 ghost use Rattle.sdd_atomics.specs.DomainTable.{id_of, book_of, places_of, slots_of};
 ghost use Rattle.sdd_atomics.specs.Grips.{IsGripOf, IsUnitOf};
 ghost use Rattle.sdd_atomics.specs.DomainSeat.{view};
@@ -40,10 +40,10 @@ pub fn cut_rest(
 ) -> (ReadFraction, ValueFraction)
     requires home { token.old.table_id ≡ id_of board.now }
     requires inside { slot < slots_of board.now }
-    requires row { (value : Gv) × (others : CarriedFractions) × HasAll (book_of board.now) slot (places_of board.now) 0 (IsValue value) others token.old.me.1 }
+    requires row { (value : Gv) × (others : CarriedFractions) × CarriesAll (book_of board.now) slot (places_of board.now) 0 (IsValue value) others token.old.me.1 }
     ensures token { (token.new.table_id ≡ token.old.table_id) × (token.new.id ≡ token.old.id) × (view token.new ≡ view token.old) }
-    ensures row { (value : Gv) (others : CarriedFractions) → HasAll (book_of board.now) slot (places_of board.now) 0 (IsValue value) others token.old.me.1
-        → HasAll (book_of board.now) slot (places_of board.now) (spare (places_of board.now)) (IsValue value) others token.new.me.1
+    ensures row { (value : Gv) (others : CarriedFractions) → CarriesAll (book_of board.now) slot (places_of board.now) 0 (IsValue value) others token.old.me.1
+        → CarriesAll (book_of board.now) slot (places_of board.now) (spare (places_of board.now)) (IsValue value) others token.new.me.1
         × IsGripOf (book_of board.now) slot value result.0 }
     ensures rest { result.1.lot ≡ lot (book_of board.now) slot result.1.lot.round result.1.lot.shown (spare (places_of board.now) - 1) }
 {
@@ -61,11 +61,11 @@ pub fn join_rest(board: &DomainTable, token: &mut DomainSeat, slot: u32, rest: V
     requires inside { slot < slots_of board.now }
     requires rest { rest.lot ≡ lot (book_of board.now) slot rest.lot.round rest.lot.shown (spare (places_of board.now)) }
     requires row { (value : Gv) × (others : CarriedFractions)
-        × HasAll (book_of board.now) slot (places_of board.now) (spare (places_of board.now)) (IsValue value) others token.old.me.1 }
+        × CarriesAll (book_of board.now) slot (places_of board.now) (spare (places_of board.now)) (IsValue value) others token.old.me.1 }
     ensures token { (token.new.table_id ≡ token.old.table_id) × (token.new.id ≡ token.old.id) × (view token.new ≡ view token.old) }
     ensures row { (value : Gv) (others : CarriedFractions)
-        → HasAll (book_of board.now) slot (places_of board.now) (spare (places_of board.now)) (IsValue value) others token.old.me.1
-        → HasAll (book_of board.now) slot (places_of board.now) 0 (IsValue value) others token.new.me.1 }
+        → CarriesAll (book_of board.now) slot (places_of board.now) (spare (places_of board.now)) (IsValue value) others token.old.me.1
+        → CarriesAll (book_of board.now) slot (places_of board.now) 0 (IsValue value) others token.new.me.1 }
 {
     let home = board.last_home(slot);
     let last = token.slot_mut(&board.table.shared, home);

@@ -1,11 +1,11 @@
 //! What each step tells.
 ghost use Rattle.std.specs.Prelude.{[], true, false};
-ghost use Rattle.sdd_word_invariant.specs.Steps.{Registers, Reads, Counts, Locks, LooksAtLock, LooksAtState, LooksAtCount, Advances, Unlocks};
+ghost use Rattle.sdd_word_invariant.specs.EpochSteps.{Registers, Reads, Counts, Locks, LooksAtLock, LooksAtState, LooksAtCount, Advances, Unlocks};
 ghost use Rattle.sdd_word_invariant.specs.SlotSteps.{OnEpoch, PublishesAll, LooksAtSlot, TakesHold, LetsGo, LooksForGuard, AtSlot};
 ghost use Rattle.sdd_word_invariant.specs.Barred.{Bars, LooksForValue};
 ghost use Rattle.sdd_views.specs.Views.{owner_token};
-ghost use Rattle.sdd_domain_invariant.specs.Banked.{founded, bank_of};
-ghost use Rattle.sdd_domain_invariant.specs.HomeSteps.{ClaimsAll, TakesOut, TakesHeld, IsDeposit, RetiresOne, GivesAll, DiscardsAll, ClosesHome, EndsAll, EntersUnit, OfSlot, parting, departing, regained, uncounting, counts_of, counting};
+ghost use Rattle.sdd_domain_invariant.specs.BankInvariant.{founded, bank_of};
+ghost use Rattle.sdd_domain_invariant.specs.FractionSteps.{ClaimsAll, TakesOut, TakesHeld, IsDeposit, RetiresOne, GivesAll, DiscardsAll, ClosesHome, EndsAll, EntersUnit, OfSlot, parting, departing, regained, uncounting, counts_of, counting};
 ghost use Rattle.sdd_atomics.specs.DomainSeat.{Sits, Told, HousesMoved, WatchesOwned, RecallsOwned};
 
 use atomic_table::{Join, Play, Split};

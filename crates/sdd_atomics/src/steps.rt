@@ -3,12 +3,12 @@ ghost use Rattle.std.specs.Prelude.{◌≡◌, ◌+◌, ◌^◌, ◌<◌, [], No
 ghost use Rattle.sdd_word_invariant.specs.Words as words;
 ghost use Rattle.sdd_word_invariant.specs.Epoch.{IsClosed, IsOpen, Scans};
 ghost use Rattle.sdd_views.specs.Views.{nobody};
-ghost use Rattle.sdd_word_invariant.specs.Steps.{IsNext, Registers, Reads, Counts, Locks, LooksAtLock, LooksAtState, LooksAtCount, Advances, Unlocks};
-ghost use Rattle.sdd_word_invariant.specs.Parts.{idle};
+ghost use Rattle.sdd_word_invariant.specs.EpochSteps.{IsNext, Registers, Reads, Counts, Locks, LooksAtLock, LooksAtState, LooksAtCount, Advances, Unlocks};
+ghost use Rattle.sdd_word_invariant.specs.WordInvariant.{idle};
 ghost use Rattle.sdd_atomics.specs.DomainTable.{id_of, sizes_of, book_of, places_of};
 ghost use Rattle.sdd_word_invariant.specs.SlotSteps.{blank};
 ghost use Rattle.sdd_word_invariant.specs.Barred.{IsNobodys, Bars};
-ghost use Rattle.sdd_domain_invariant.specs.HomeSteps.{Purse, EndsAll};
+ghost use Rattle.sdd_domain_invariant.specs.FractionSteps.{CarriesSeen, EndsAll};
 ghost use Rattle.sdd_atomics.specs.DomainSeat.{view, epoch, words_known, Stepped, Taught, HasPublished, HasClosed, Knows};
 
 pub mod counts;
@@ -96,7 +96,7 @@ pub fn close(board: &DomainTable, token: &mut DomainSeat, place: usize)
     requires home { token.old.table_id ≡ id_of board.now }
     requires knows { Knows board.now token.old }
     requires rests { (view token.old).stakes.moves ≡ None }
-    requires purse { Purse (book_of board.now) (places_of board.now) place (view token.old).stakes.sees token.old.me.1 }
+    requires purse { CarriesSeen (book_of board.now) (places_of board.now) place (view token.old).stakes.sees token.old.me.1 }
     requires own { (place ≡ (epoch token.old).place) × (place < places_of board.now) }
     requires open { IsOpen (epoch token.old) × ¬ (Scans (epoch token.old)) }
     ensures { HasClosed token.old token.new }

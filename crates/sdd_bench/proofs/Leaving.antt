@@ -11,9 +11,9 @@ use Rattle.sdd_participants.specs.declared.epoch_state.Participant.{Participant}
 use Rattle.sdd_participants.specs.declared.standing.Standing.TheVariants.{Owned, Retired}
 use Rattle.sdd_space.specs.OwnerOrCell.{OwnerOrCell}
 use Rattle.sdd_space.specs.World.{World, place_at, standing_at}
-use Rattle.sdd_space.specs.Steps.{opened, closed, changed, made, retired, all_reclaimed}
-use Rattle.sdd_space.specs.Steps as steps
-use Rattle.sdd_space.specs.Own.{IsOpened, IsClosed, opened_at, closed_with}
+use Rattle.sdd_space.specs.WorldChanges.{opened, closed, changed, made, retired, all_reclaimed}
+use Rattle.sdd_space.specs.WorldChanges as steps
+use Rattle.sdd_space.specs.ParticipantChanges.{GuardOpened, GuardClosed, opened_at, closed_with}
 use Rattle.sdd_space.specs.Out.{is_out, out, HoldsNothing}
 use Rattle.sdd_space.specs.CallerId.{CallerId, IsExact}
 use Rattle.sdd_space.proofs.Whole.{all_awaiting-guards, below-or-past}
@@ -33,7 +33,7 @@ opened-guards count given p true b e f = rw e refl
 opened-guards count given p false true e f = rw (e, f) refl
 opened-guards count given p false false e f = rw (e, f) (all_awaiting-guards given (rotated count (nested p)))
 
-opens-one : (old new : Participant) → IsOpened old new → new.guards ≡ old.guards + 1
+opens-one : (old new : Participant) → GuardOpened old new → new.guards ≡ old.guards + 1
 opens-one old new o = ap (λ (p : Participant). p.guards) o.own ∙ opened-guards o.count o.given old (is_open old) (old.found == o.count) refl refl
 
 -- and a close one less
@@ -44,7 +44,7 @@ closed-guards marked p n g false e =
     let last : p.guards ≤ 1 = grind (arith, nat_tests, e) in
     rw (e, there) (omega (arith, g, last))
 
-closes-one : (old new : Participant) (n : ℕ) → old.guards ≡ n + 1 → IsClosed old new → new.guards ≡ n
+closes-one : (old new : Participant) (n : ℕ) → old.guards ≡ n + 1 → GuardClosed old new → new.guards ≡ n
 closes-one old new n g c =
     ap (λ (p : Participant). p.guards) c.own ∙ closed-guards c.marked (adopting c.left old) n g (nat_lt 1 old.guards) refl
 
@@ -114,8 +114,8 @@ in-turn s0 s1 s2 o0 o1 o2 w0 w1 w2 l m =
 
 -- a guard opened, what leaves all, and the guard closed
 pub under-guard : (s0 s1 s2 s3 : CallerId) (o0 o1 o2 o3 : Participant) (w0 w1 w2 w3 : World ℕ) →
-    s1 ≡ s0 → IsOpened o0 o1 → (IsExact s0 → w1 ≡ opened nothing w0 s0.place) → Leaves s1 o1 w1 s2 o2 w2 →
-    s3 ≡ s2 → IsClosed o2 o3 → (IsExact s2 → w3 ≡ closed w2 s2.place) → Leaves s0 o0 w0 s3 o3 w3
+    s1 ≡ s0 → GuardOpened o0 o1 → (IsExact s0 → w1 ≡ opened nothing w0 s0.place) → Leaves s1 o1 w1 s2 o2 w2 →
+    s3 ≡ s2 → GuardClosed o2 o3 → (IsExact s2 → w3 ≡ closed w2 s2.place) → Leaves s0 o0 w0 s3 o3 w3
 under-guard s0 s1 s2 s3 o0 o1 o2 o3 w0 w1 w2 w3 first opening is_opened l last closing is_closed =
     record {
       seat = last ∙ l.seat ∙ first;

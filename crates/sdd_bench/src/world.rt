@@ -3,8 +3,8 @@ ghost use Rattle.std.specs.Prelude.{◌≡◌, [], Err, IfOk};
 ghost use Rattle.sdd_core.specs.Limits.{AreInRange};
 ghost use Rattle.sdd_space.specs.Out.{out};
 ghost use Rattle.sdd_space.specs.CallerId.{IsExact, IsSeated};
-ghost use Rattle.sdd_space.specs.Whole.{IsCounted};
-ghost use Rattle.sdd_space.specs.World.{IsGuarded};
+ghost use Rattle.sdd_space.specs.WorldInvariant.{IsCounted};
+ghost use Rattle.sdd_space.specs.World.{AnyGuardOpen};
 ghost use Rattle.sdd_bench.specs.Leaves.{Leaves};
 
 use crate::operation::Guarding;
@@ -46,7 +46,7 @@ pub fn run(alloc: Global, limits: Limits, work: Work, turns: u64) -> Result<(Tal
 
 fn in_world(world: &mut World<u64>, work: Work, turns: u64) -> Result<u64, Refused>
     requires { world.old.time.places ≡ [] }
-    ensures quiet { ¬ (IsGuarded world.new) }
+    ensures quiet { ¬ (AnyGuardOpen world.new) }
     ensures out { out world.new ≡ out world.old }
 {
     let place = world.register()?;

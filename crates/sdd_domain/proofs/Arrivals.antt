@@ -13,15 +13,15 @@ use Rattle.sdd_views.specs.declared.SlotsView.{SlotsView}
 use Rattle.sdd_views.specs.declared.WaitingItem.{WaitingItem}
 use Rattle.sdd_views.specs.declared.View.{View}
 use Rattle.sdd_word_invariant.specs.Epoch.{IsLone}
-use Rattle.sdd_word_invariant.specs.Steps.{knowing, counted, published, Reads, Counts}
+use Rattle.sdd_word_invariant.specs.EpochSteps.{knowing, counted, published, Reads, Counts}
 use Rattle.sdd_word_invariant.specs.Sums.{total}
 use Rattle.sdd_word_invariant.specs.Slots.{waits_in}
 use Rattle.sdd_word_invariant.specs.SlotSteps.{older, changed}
 use Rattle.sdd_word_invariant.proofs.Sums.{total_map}
 use Rattle.sdd_atomics.specs.declared.domain_table.DomainTable.{DomainTable}
 use Rattle.sdd_atomics.specs.DomainSeat.{view, epoch, slots, Stepped, HasPublished}
-use Rattle.sdd_domain.specs.Waits.{what_of, waiting_of, ripe, unripe, aged_at, due_at, arrived_at, Arrives, HasArrived}
-use Rattle.sdd_domain.specs.Posed.{IsPosed}
+use Rattle.sdd_domain.specs.WaitingItems.{what_of, waiting_of, ripe, unripe, aged_at, due_at, arrived_at, Arrives, HasArrived}
+use Rattle.sdd_domain.specs.BetweenCalls.{IsBetweenCalls}
 use Rattle.sdd_domain.proofs.Reclaims.{aged_alike, left_alike, due_alike, all_left}
 use Rattle.sdd_domain.proofs.Posing.{posed_arrived, has_place}
 
@@ -91,8 +91,8 @@ module _ (count : ℕ) (own : Participant) where
 
 module _ (b : DomainTable) (p : ℕ) (own : Participant) (count : ℕ) where
   -- the same count is found again
-  pub arrived_same : (s t u : Seat ValueFraction View) → IsPosed b p own s → own.guards ≡ 0 → Stepped Reads s count t → own.found ≡ count → HasPublished t u
-      → IsPosed b p (nested own) u × Arrives count own s u
+  pub arrived_same : (s t u : Seat ValueFraction View) → IsBetweenCalls b p own s → own.guards ≡ 0 → Stepped Reads s count t → own.found ≡ count → HasPublished t u
+      → IsBetweenCalls b p (nested own) u × Arrives count own s u
   arrived_same s t u q shut read same pub_ =
       let g : ℕ = pub_.4.0 in let e : EpochView = epoch s in
       let counts : e.count ≡ count = q.count ∙ same in
@@ -122,7 +122,7 @@ module _ (b : DomainTable) (p : ℕ) (own : Participant) (count : ℕ) where
         },
       )
 
-  module _ (s t u w : Seat ValueFraction View) (q : IsPosed b p own s) (read : Stepped Reads s count t) (apart : own.found ≢ count)
+  module _ (s t u w : Seat ValueFraction View) (q : IsBetweenCalls b p own s) (read : Stepped Reads s count t) (apart : own.found ≢ count)
       (write : Stepped Counts t count u) (pub_ : HasPublished u w) where
     known_now : epoch u ≡ counted (knowing (epoch s) count) count
     known_now = write.1 ∙ ap (λ (x : EpochView). counted x count) read.1.0
@@ -133,7 +133,7 @@ module _ (b : DomainTable) (p : ℕ) (own : Participant) (count : ℕ) where
         ∙ ap (λ (l : SlotsView). record l { waits = map older l.waits }) (write.0.2 ∙ read.0.2))
 
     -- another count is found: what waits has seen one change more, and what is due comes out of the bags
-    pub arrived_moved : own.guards ≡ 0 → ripe s.me.0.slots.waits ≡ [] → IsPosed b p (nested (rotated count own)) w × Arrives count own s w
+    pub arrived_moved : own.guards ≡ 0 → ripe s.me.0.slots.waits ≡ [] → IsBetweenCalls b p (nested (rotated count own)) w × Arrives count own s w
     arrived_moved shut settled =
         let g : ℕ = pub_.4.0 in let e : EpochView = epoch s in let xs : List WaitingItem = s.me.0.slots.waits in
         let epochs : epoch w ≡ published (counted (knowing e count) count) g = pub_.4.1 ∙ ap (λ (x : EpochView). published x g) known_now in
@@ -168,7 +168,7 @@ module _ (b : DomainTable) (p : ℕ) (own : Participant) (count : ℕ) where
         )
 
 -- a participant is posed still once it is decided that nothing waits
-pub posed_settled : (b : DomainTable) (p : ℕ) (own : Participant) (token : Seat ValueFraction View) → own.bags.waiting ≡ [] → IsPosed b p own token → IsPosed b p (settled own) token
+pub posed_settled : (b : DomainTable) (p : ℕ) (own : Participant) (token : Seat ValueFraction View) → own.bags.waiting ≡ [] → IsBetweenCalls b p own token → IsBetweenCalls b p (settled own) token
 posed_settled b p own token none q = let paced : (settled own).countdown ≡ 128 = ap (λ (ws : List Waiting). elim ws [ [] ↦ 128 | x ∷ xs ↦ 127 ]) none in record {
   home = q.home;
   purse = q.purse;

@@ -4,16 +4,16 @@ use Rattle.std.specs.Prelude.{if◌then◌else◌, nat_lt}
 use base.Stored.{Gv}
 use Rattle.sdd_participants.specs.declared.epoch_state.Participant.{Participant}
 use Rattle.sdd_participants.specs.EpochState.{is_open, counted_down}
-use Rattle.sdd_space.specs.Own.{closed_with}
+use Rattle.sdd_space.specs.ParticipantChanges.{closed_with}
 use Rattle.std.proofs.lemmas.Bool.{true≢false}
 use Rattle.sdd_participants.specs.EpochState as time
 use Rattle.sdd_space.specs.OwnerOrCell.{OwnerOrCell}
 use Rattle.sdd_space.specs.Ptr.{KeepsShown}
 use Rattle.sdd_space.specs.World.{World}
-use Rattle.sdd_space.specs.Steps.{opened, nested, caught_up, changed, all_reclaimed}
-use Rattle.sdd_space.specs.Steps as steps
-use Rattle.sdd_domain.specs.LocalState.{LocalState, IsLone, HasOpenGuard, IsEntered, Closes}
-use Rattle.sdd_domain.specs.Tied.{AreTied}
+use Rattle.sdd_space.specs.WorldChanges.{opened, nested, caught_up, changed, all_reclaimed}
+use Rattle.sdd_space.specs.WorldChanges as steps
+use Rattle.sdd_domain.specs.LocalState.{LocalState, IsLone, HasOpenGuard, IsEntered, GuardCloses}
+use Rattle.sdd_domain.specs.WordsAndValues.{AreTied}
 use Rattle.sdd_domain.specs.Local.{LocalModel, world_of}
 use Rattle.sdd_domain.specs.Space.{Shows, is_lone}
 use Rattle.sdd_domain.specs.Laws.{own_is_place}
@@ -36,13 +36,13 @@ pub lone_is : (m : LocalState) → IsTrue (is_lone m) → IsLone m
 lone_is m exact = grind arith
 
 -- where a guard is open after a close, it wasn't the last
-pub still_guarded : (old new : LocalState) → Closes old new → IsTrue (is_open new.own) → old.own.guards ≢ 1
+pub still_guarded : (old new : LocalState) → GuardCloses old new → IsTrue (is_open new.own) → old.own.guards ≢ 1
 still_guarded old new is opens last = let own = ap (λ (m : LocalState). m.own) is.member in
     let none : is_open (closed_with false old.own) ≡ false = closed_last old.own last in
     absurd (true≢false (sym opens ∙ (ap is_open own ∙ none)))
 
 -- the close of the only guard leaves none
-pub closed_none : (old new : LocalState) → Closes old new → old.own.guards ≡ 1 → ¬ (HasOpenGuard new)
+pub closed_none : (old new : LocalState) → GuardCloses old new → old.own.guards ≡ 1 → ¬ (HasOpenGuard new)
 closed_none old new is last some_open = absurd (still_guarded old new is (open_guards new.own some_open) last)
 
 pub guarded_is : {T : Type 0} (v p : LocalModel T) → v ≡ p → IsTrue (is_open p.member.own) → HasOpenGuard v.member

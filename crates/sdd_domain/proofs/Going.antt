@@ -17,15 +17,15 @@ use Rattle.sdd_word_invariant.specs.Sums.{total}
 use Rattle.sdd_word_invariant.specs.Slots.{waits_in}
 use Rattle.sdd_word_invariant.proofs.Codes.{sound, free_is}
 use Rattle.sdd_word_invariant.proofs.Owning.{item_gone, item_kept}
-use Rattle.sdd_domain_invariant.specs.Fillings.{newest}
+use Rattle.sdd_domain_invariant.specs.FilledInvariant.{newest}
 use Rattle.sdd_space.specs.OwnerOrCell.{OwnerOrCell}
 use Rattle.sdd_space.specs.World.{World, standing_at, value_at}
-use Rattle.sdd_space.specs.Steps.{waiting_value, taken_out, given_all, all_reclaimed, slot_reclaimed}
-use Rattle.sdd_space.specs.Steps as steps
+use Rattle.sdd_space.specs.WorldChanges.{waiting_value, taken_out, given_all, all_reclaimed, slot_reclaimed}
+use Rattle.sdd_space.specs.WorldChanges as steps
 use Rattle.sdd_domain.specs.LocalState.{LocalState, IsLone, Reclaims, word_of}
-use Rattle.sdd_domain.specs.Waits.{what_of, waiting_of, ripe, unripe}
+use Rattle.sdd_domain.specs.WaitingItems.{what_of, waiting_of, ripe, unripe}
 use Rattle.sdd_domain.specs.Values.{one_showing}
-use Rattle.sdd_domain.specs.Tied.{Agrees, AreTied, is_plain_word}
+use Rattle.sdd_domain.specs.WordsAndValues.{Agrees, AreTied, is_plain_word}
 use Rattle.sdd_domain.specs.Local.{LocalModel, listing, standing_by, value_by, standing_in, value_in, world_of}
 use Rattle.sdd_domain.proofs.Listings.{listing_at, listing_set}
 use Rattle.sdd_domain.proofs.Reclaims.{first_goes, no_more}

@@ -9,18 +9,18 @@ use Rattle.sdd_participants.specs.declared.epoch_state.Participant.{Participant}
 use Rattle.sdd_participants.specs.EpochState.{settled}
 use Rattle.sdd_participants.specs.EpochState as time
 use Rattle.sdd_space.specs.OwnerOrCell.{OwnerOrCell}
-use Rattle.sdd_space.specs.Own.{all_awaiting}
+use Rattle.sdd_space.specs.ParticipantChanges.{all_awaiting}
 use Rattle.sdd_space.specs.Ptr.{KeepsShown}
-use Rattle.sdd_space.specs.Steps.{opened, nested}
+use Rattle.sdd_space.specs.WorldChanges.{opened, nested}
 use Rattle.sdd_space.specs.World.{World, place_at}
 use Rattle.sdd_space.proofs.Own.{all_awaiting-found, opens}
-use Rattle.sdd_domain.specs.Homes.{home_in}
+use Rattle.sdd_domain.specs.SpaceIds.{home_in}
 use Rattle.sdd_domain.specs.LocalState.{LocalState, IsLone, HasOpenGuard, CanNest, IsEntered, GoesOn}
-use Rattle.sdd_domain.specs.Tied.{AreTied, IsTied}
+use Rattle.sdd_domain.specs.WordsAndValues.{AreTied, WordsMatchValues}
 use Rattle.sdd_domain.specs.Local.{LocalModel, world_of}
 use Rattle.sdd_domain.specs.Space.{Shows, is_lone}
 use Rattle.sdd_domain.specs.Sound.{IsSound}
-use Rattle.sdd_domain.specs.Waits.{arrived_at}
+use Rattle.sdd_domain.specs.WaitingItems.{arrived_at}
 use Rattle.sdd_domain.specs.Laws.{own_is_place}
 use Rattle.sdd_domain.proofs.Alone.{steps_alone}
 use Rattle.sdd_domain.proofs.Arrivals.{stayed, moved, as_open}
@@ -108,17 +108,17 @@ module _ {T : Type 0} (v : LocalModel T) (m : LocalState) {A : Type 0} (IsReader
   Did r = MatchResult r (λ a. IsReader a × CanNest v.member × (m ≡ record v.member { own = time.nested v.member.own }))
       (λ e. (e ≡ Refused.TooManyGuards) × ¬ (CanNest v.member) × (m ≡ v.member))
 
-  world_nested : m ≡ record v.member { own = time.nested v.member.own } → HasOpenGuard v.member → IsTied v.member v.entries → IsLone v.member
+  world_nested : m ≡ record v.member { own = time.nested v.member.own } → HasOpenGuard v.member → WordsMatchValues v.member v.entries → IsLone v.member
       → world_of (record v { member = m }) ≡ opened holds (world_of v) v.member.place
   world_nested did some_open tied one = let first = (tied one).place in ap (λ (y : LocalState). world_of (record v { member = y })) did
       ∙ nests v holds some_open (steps_alone nested v (record v { member = record v.member { own = time.nested v.member.own } }) first first refl)
 
-  pub nested_sound : (r : Result A Refused) → Did r → HasOpenGuard v.member → IsTied v.member v.entries → IsSound holds v → IsSound holds (record v { member = m })
+  pub nested_sound : (r : Result A Refused) → Did r → HasOpenGuard v.member → WordsMatchValues v.member v.entries → IsSound holds v → IsSound holds (record v { member = m })
   nested_sound (Ok a) did some_open tied sound = sound_opened holds v m sound (ap (λ (y : LocalState). y.due) did.2 ∙ sound.settled) (ap home_in did.2)
       (world_nested did.2 some_open tied)
   nested_sound (Err e) did some_open tied sound = subst (λ (y : LocalState). IsSound holds (record v { member = y })) (sym did.2) sound
 
-  answered : (r : Result A Refused) → Did r → HasOpenGuard v.member → IsTied v.member v.entries → IsLone v.member
+  answered : (r : Result A Refused) → Did r → HasOpenGuard v.member → WordsMatchValues v.member v.entries → IsLone v.member
       → MatchResult r (λ _. time.CanNest (world_of v).time v.member.place × (world_of (record v { member = m }) ≡ opened holds (world_of v) v.member.place))
       (λ e. (e ≡ Refused.TooManyGuards) × ¬ (time.CanNest (world_of v).time v.member.place) × (world_of (record v { member = m }) ≡ world_of v))
   answered (Ok a) did some_open tied one = (can_nest v did.1, world_nested did.2 some_open tied one)
@@ -128,7 +128,7 @@ module _ {T : Type 0} (v : LocalModel T) (m : LocalState) {A : Type 0} (IsReader
     ap (λ (x : LocalState). world_of (record v { member = x })) did.2,
   )
 
-  pub nested_exact : (r : Result A Refused) (p : LocalModel T) → v ≡ p → Did r → HasOpenGuard v.member → IsTied v.member v.entries → IsTrue (is_lone p.member)
+  pub nested_exact : (r : Result A Refused) (p : LocalModel T) → v ≡ p → Did r → HasOpenGuard v.member → WordsMatchValues v.member v.entries → IsTrue (is_lone p.member)
       → MatchResult r (λ _. time.CanNest (world_of p).time p.member.place × (world_of (record v { member = m }) ≡ opened holds (world_of p) p.member.place))
       (λ e. (e ≡ Refused.TooManyGuards) × ¬ (time.CanNest (world_of p).time p.member.place) × (world_of (record v { member = m }) ≡ world_of p))
   nested_exact r p is did some_open tied exact = subst (λ (q : LocalModel T).

@@ -7,8 +7,8 @@ use Rattle.sdd_core.specs.declared.limits.Limits.{Limits}
 use Rattle.sdd_views.specs.declared.Sizes.{Sizes}
 use Rattle.sdd_rights.specs.Right.{home_of_table}
 use Rattle.sdd_shared_values.specs.declared.shared_values.SharedValues.{SharedValues}
-use Rattle.sdd_domain.specs.Shelf.{sizes_in, IsShelfOf}
-use Rattle.sdd_domain.specs.Homes.{home_at, home_of_slots, home_in}
+use Rattle.sdd_domain.specs.DomainValues.{sizes_in, IsShelfOf}
+use Rattle.sdd_domain.specs.SpaceIds.{home_at, home_of_slots, home_in}
 use Rattle.sdd_domain.specs.LocalState.{LocalState}
 use Rattle.sdd_space.specs.OwnerOrCell.{SpaceId, OwnerOrCell, owned, shared, atomic_owned, atomic_shared, atomic_raw, AreOf}
 

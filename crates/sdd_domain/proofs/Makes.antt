@@ -21,15 +21,15 @@ use Rattle.sdd_views.specs.declared.ShownValue.{ShownValue}
 use Rattle.sdd_word_invariant.specs.Codes.{waiting, full}
 use Rattle.sdd_word_invariant.specs.SlotSteps.{behind}
 use Rattle.sdd_word_invariant.proofs.Codes.{free_is, owned_is}
-use Rattle.sdd_domain_invariant.specs.Fillings.{newest}
+use Rattle.sdd_domain_invariant.specs.FilledInvariant.{newest}
 use Rattle.sdd_domain_invariant.proofs.Fillings.{newest_now, newest_before}
 use Rattle.sdd_space.specs.OwnerOrCell.{OwnerOrCell}
 use Rattle.sdd_space.specs.Ptr.{KeepsShown}
 use Rattle.sdd_space.specs.World.{value_at}
-use Rattle.sdd_space.specs.Steps.{made_as}
+use Rattle.sdd_space.specs.WorldChanges.{made_as}
 use Rattle.sdd_domain.specs.LocalState.{LocalState, IsLone, IsUsedUp, MakesAt, word_of}
 use Rattle.sdd_domain.specs.Items.{HasValue, IsRightTo}
-use Rattle.sdd_domain.specs.Tied.{Entries, Agrees, AreTied, IsTied, is_plain_word}
+use Rattle.sdd_domain.specs.WordsAndValues.{Entries, Agrees, AreTied, WordsMatchValues, is_plain_word}
 use Rattle.sdd_domain.specs.Local.{LocalModel, listing, standing_by, value_by, owner_standing, standing_in, value_in, world_of}
 use Rattle.sdd_domain.specs.Space.{ShowsBy, Shows, is_lone}
 use Rattle.sdd_domain.proofs.Listings.{listing_at, listing_long, listing_past, listing_set, listing_all}
@@ -180,12 +180,12 @@ module _ (R : RattleType) (v : LocalModel R.Denot) (m : LocalState) (es : Entrie
     is_made : after ≡ made_partaker v (number_of right) (is_shared kind) x (showing R x)
     is_made = λ d. record { member = did.0.member d; entries = did.2 d }
 
-    did_tied : IsTied v.member v.entries → IsTied m es
+    did_tied : WordsMatchValues v.member v.entries → WordsMatchValues m es
     did_tied tied one = let lone : IsLone v.member = sym (ap (λ (z : LocalState). z.limits.participants) did.0.member) ∙ one in
         subst (λ (p : LocalModel R.Denot). AreTied p.member p.entries) (sym is_made)
         (tied_made v (number_of right) (is_shared kind) x (showing R x) (tied lone) did.0.inside (did.0.lone lone))
 
-    pub did_world : IsTied v.member v.entries → IsLone v.member → IsEmptyAt (world_of v).standings (number_of right)
+    pub did_world : WordsMatchValues v.member v.entries → IsLone v.member → IsEmptyAt (world_of v).standings (number_of right)
         × (world_of after ≡ made_as (world_of v) (number_of right) x (first_standing kind))
     did_world tied lone = (
       empty_then v (number_of right) (is_shared kind) x (showing R x) (tied lone) did.0.inside (did.0.lone lone),
@@ -193,12 +193,12 @@ module _ (R : RattleType) (v : LocalModel R.Denot) (m : LocalState) (es : Entrie
           ∙ ap (made_as (world_of v) (number_of right) x) (sym (first_by kind))),
     )
 
-    keeps_by : (holds : R.Denot → List OwnerOrCell) (b : Bool) → (IsTrue b → IsLone v.member) → IsTied v.member v.entries → (i : ℕ) (u : R.Denot)
+    keeps_by : (holds : R.Denot → List OwnerOrCell) (b : Bool) → (IsTrue b → IsLone v.member) → WordsMatchValues v.member v.entries → (i : ℕ) (u : R.Denot)
         → ShowsBy b (showing R) holds v i u → ShowsBy b (showing R) holds (made_partaker v (number_of right) (is_shared kind) x (showing R x)) i u
     keeps_by holds true lone tied i u h = value_kept v (number_of right) (is_shared kind) x (showing R x) (tied (lone refl)) did.0.inside (did.0.lone (lone refl)) i u h
     keeps_by holds false lone tied i u h = h
 
-    did_keep : (holds : R.Denot → List OwnerOrCell) → IsTied v.member v.entries → KeepsShown (Shows (showing R) holds v) (Shows (showing R) holds after)
+    did_keep : (holds : R.Denot → List OwnerOrCell) → WordsMatchValues v.member v.entries → KeepsShown (Shows (showing R) holds v) (Shows (showing R) holds after)
     did_keep holds tied i u h = subst (λ (p : LocalModel R.Denot). Shows (showing R) holds p i u) (sym is_made)
         (keeps_by holds (is_lone v.member) (λ exact. lone_is v.member exact) tied i u h)
 
@@ -207,9 +207,9 @@ module _ (R : RattleType) (v : LocalModel R.Denot) (m : LocalState) (es : Entrie
     Answers r = MatchResult r (λ right. (x : R.Denot) × P x × MakesAt (number_of right) (is_shared kind) (showing R x) v.member m
         × IsRightTo v.member kind (showing R x) right × (es ≡ set v.entries (number_of right) (Some (x, showing R x)))) (Was Back Why)
 
-    pub answered_tied : (r : Result Right (B × Refused)) → Answers r → IsTied v.member v.entries → IsTied m es
+    pub answered_tied : (r : Result Right (B × Refused)) → Answers r → WordsMatchValues v.member v.entries → WordsMatchValues m es
     answered_tied (Ok right) a tied = did_tied a.0 right (a.2, a.3, a.4) tied
-    answered_tied (Err e) a tied = subst (λ (p : LocalModel R.Denot). IsTied p.member p.entries) (λ d. record { member = sym a.1 d; entries = sym a.4 d }) tied
+    answered_tied (Err e) a tied = subst (λ (p : LocalModel R.Denot). WordsMatchValues p.member p.entries) (λ d. record { member = sym a.1 d; entries = sym a.4 d }) tied
 
     pub answered_owns : (r : Result Right (B × Refused)) → Answers r → IfOk r (λ right. (x : R.Denot) × P x × HasValue (showing R x) right)
     answered_owns (Ok right) a = (a.0, a.1, a.3.value)
@@ -222,12 +222,12 @@ module _ (R : RattleType) (v : LocalModel R.Denot) (m : LocalState) (es : Entrie
         (n.0, subst (λ (q : LocalModel R.Denot). IsFull (world_of q).standings) is (used_up v n.1))
 
     pub answered_keeps : (holds : R.Denot → List OwnerOrCell) (r : Result Right (B × Refused)) (p : LocalModel R.Denot) → v ≡ p → Answers r
-        → IsTied v.member v.entries → KeepsShown (Shows (showing R) holds p) (Shows (showing R) holds after)
+        → WordsMatchValues v.member v.entries → KeepsShown (Shows (showing R) holds p) (Shows (showing R) holds after)
     answered_keeps holds (Ok right) p is a tied i u h = did_keep a.0 right (a.2, a.3, a.4) holds tied i u (subst (λ (q : LocalModel R.Denot). Shows (showing R) holds q i u) (sym is) h)
     answered_keeps holds (Err e) p is a tied i u h = subst (λ (q : LocalModel R.Denot). Shows (showing R) holds q i u)
         (sym is ∙ (λ d. record { member = sym a.1 d; entries = sym a.4 d })) h
 
-    pub answered_world : (r : Result Right (B × Refused)) (p : LocalModel R.Denot) → v ≡ p → Answers r → IsTied v.member v.entries → IsTrue (is_lone p.member)
+    pub answered_world : (r : Result Right (B × Refused)) (p : LocalModel R.Denot) → v ≡ p → Answers r → WordsMatchValues v.member v.entries → IsTrue (is_lone p.member)
         → MatchResult r (λ right. IsEmptyAt (world_of p).standings (number_of right)
         × ((x : R.Denot) × P x × (world_of after ≡ made_as (world_of p) (number_of right) x (first_standing kind))))
         (λ e. IsFull (world_of p).standings × (Back e × (e.1 ≡ Refused.NoSlot)) × (world_of after ≡ world_of p))
@@ -244,7 +244,7 @@ module _ (R : RattleType) (v : LocalModel R.Denot) (m : LocalState) (es : Entrie
 
   pub answered_exact : {B : Type 0} (P : R.Denot → Type 0) (back : B) (Why : B × Refused
       → Type 0) (r : Result Right (B × Refused)) (p : LocalModel R.Denot) → v ≡ p
-      → Answers P (λ e. e.0 ≡ back) Why r → IsTied v.member v.entries → IsTrue (is_lone p.member)
+      → Answers P (λ e. e.0 ≡ back) Why r → WordsMatchValues v.member v.entries → IsTrue (is_lone p.member)
       → MatchResult r (λ right. IsEmptyAt (world_of p).standings (number_of right)
       × ((x : R.Denot) × P x × (world_of after ≡ made_as (world_of p) (number_of right) x (first_standing kind))))
       (λ e. IsFull (world_of p).standings × (e ≡ (back, Refused.NoSlot)) × (world_of after ≡ world_of p))

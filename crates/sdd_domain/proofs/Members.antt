@@ -9,7 +9,7 @@ use Rattle.sdd_shared_values.specs.declared.value_fraction.ValueFraction.{ValueF
 use Rattle.sdd_views.specs.declared.View.{View}
 use Rattle.sdd_word_invariant.specs.Sums.{times}
 use Rattle.sdd_domain_invariant.specs.Records.{IsIn}
-use Rattle.sdd_domain_invariant.specs.HomeSteps.{SeatState, Watches, Recalls}
+use Rattle.sdd_domain_invariant.specs.FractionSteps.{SeatState, SeesOwned, LearnsOwned}
 use Rattle.sdd_domain_invariant.proofs.Records.{in_head}
 use Rattle.std.specs.Prelude.{◌≢◌, Bool, [], ◌∷◌}
 use Rattle.sdd_rights.specs.declared.right.Right.{Right}
@@ -44,7 +44,7 @@ with_view m id v = record m {
   words = v.words;
 }
 
-pub looks_at : (m : LocalState) (slot : ℕ) (shared : Bool) (value : Gv) (s u z : Seat ValueFraction View) → MovedAlone (Watches slot shared value) s u
+pub looks_at : (m : LocalState) (slot : ℕ) (shared : Bool) (value : Gv) (s u z : Seat ValueFraction View) → MovedAlone (SeesOwned slot shared value) s u
     → z ≡ record u { me = (u.me.0, z.me.1) } → LooksAt slot shared value (with_token m s) (with_token m z)
 looks_at m slot shared value s u z watched is = let w = watched.2 in
     let table : z.table_id ≡ s.table_id = ap (λ (x : Seat ValueFraction View). x.table_id) is ∙ watched.0 in
@@ -65,7 +65,7 @@ module _ (slot : ℕ) (shared : Bool) (value : Gv) (old new : LocalState) (looks
       (in_head (record { slot = slot; shared = shared; value = value }) old.shown slot value refl refl))
 
 -- beside a slot's owner a lone participant knows it
-pub recalls_to : (m : LocalState) (slot : ℕ) (shared : Bool) (value : Gv) (s t : Seat ValueFraction View) → MovedAlone (Recalls slot shared value) s t
+pub recalls_to : (m : LocalState) (slot : ℕ) (shared : Bool) (value : Gv) (s t : Seat ValueFraction View) → MovedAlone (LearnsOwned slot shared value) s t
     → s.me.0.epoch.all ≡ m.limits.participants → IsLone m → KnowsOwner (with_token m s) slot shared value
 recalls_to m slot shared value s t recalled all lone = let r = recalled.2.1 (all ∙ lone) in record { newest = r.newest; alive = r.alive }
 

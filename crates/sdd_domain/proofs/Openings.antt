@@ -8,10 +8,10 @@ use Rattle.sdd_participants.specs.EpochState.{due_next}
 use Rattle.sdd_participants.specs.EpochState as time
 use Rattle.sdd_views.specs.declared.WaitingItem.{WaitingItem}
 use Rattle.sdd_word_invariant.specs.SlotSteps.{older}
-use Rattle.sdd_space.specs.Steps.{nested, rotated}
+use Rattle.sdd_space.specs.WorldChanges.{nested, rotated}
 use Rattle.sdd_domain.specs.LocalState.{LocalState, IsLone, IsEntered}
-use Rattle.sdd_domain.specs.Waits.{what_of, waiting_of, ripe, unripe}
-use Rattle.sdd_domain.specs.Tied.{AreTied}
+use Rattle.sdd_domain.specs.WaitingItems.{what_of, waiting_of, ripe, unripe}
+use Rattle.sdd_domain.specs.WordsAndValues.{AreTied}
 use Rattle.sdd_domain.specs.Local.{LocalModel}
 use Rattle.sdd_domain.proofs.Arrivals.{same_items}
 use Rattle.sdd_domain.proofs.Reclaims.{aged_alike, left_alike, due_alike, all_left}

@@ -25,21 +25,21 @@ use Rattle.sdd_word_invariant.specs.Sums.{times}
 use Rattle.sdd_word_invariant.specs.Slots.{waits_in}
 use Rattle.sdd_word_invariant.proofs.Codes.{owned_is, waiting_is, sound}
 use Rattle.sdd_word_invariant.proofs.Sums.{is_same, is_other, total_snoc}
-use Rattle.sdd_domain_invariant.specs.Fillings.{newest}
+use Rattle.sdd_domain_invariant.specs.FilledInvariant.{newest}
 use Rattle.sdd_domain_invariant.specs.Records.{IsIn}
 use Rattle.sdd_domain_invariant.proofs.Records.{in_tail}
 use Rattle.sdd_space.specs.OwnerOrCell.{OwnerOrCell, AreOf}
 use Rattle.sdd_space.specs.Ptr.{KeepsShown}
 use Rattle.sdd_space.specs.World.{World, value_at, standing_at}
-use Rattle.sdd_space.specs.Steps.{owner_given, retired}
+use Rattle.sdd_space.specs.WorldChanges.{owner_given, retired}
 use Rattle.sdd_domain.specs.LocalState.{LocalState, IsLone, KnowsOwner, LooksAt, RetiresAt, word_of}
-use Rattle.sdd_domain.specs.Homes.{home_in}
+use Rattle.sdd_domain.specs.SpaceIds.{home_in}
 use Rattle.sdd_domain.specs.Items.{HasValue}
-use Rattle.sdd_domain.specs.Sight.{IsOnce}
+use Rattle.sdd_domain.specs.SeenSlots.{IsOnce}
 use Rattle.sdd_domain.specs.Values.{one_showing, one_value}
 use Rattle.sdd_domain.specs.Laws.{same_value, shows_is_value}
-use Rattle.sdd_domain.specs.Waits.{what_of}
-use Rattle.sdd_domain.specs.Tied.{Agrees, AreTied, IsTied, is_plain_word}
+use Rattle.sdd_domain.specs.WaitingItems.{what_of}
+use Rattle.sdd_domain.specs.WordsAndValues.{Agrees, AreTied, WordsMatchValues, is_plain_word}
 use Rattle.sdd_domain.specs.Local.{LocalModel, listing, standing_by, value_by, standing_in, value_in, world_of}
 use Rattle.sdd_domain.specs.Space.{ShowsBy, Shows, is_lone}
 use Rattle.sdd_domain.specs.Space as space
@@ -103,7 +103,7 @@ module _ (R : RattleType) (v : LocalModel R.Denot) (m : LocalState) (right : Rig
     lone_then : IsTrue (is_lone m) → IsLone v.member
     lone_then exact = sym (ap (λ (y : LocalState). y.limits.participants) only_looks) ∙ lone_is m exact
 
-    module _ (tied : IsTied v.member v.entries) (codes : (place : ℕ) (y : R.Denot) (g : Gv) → slice_index_or v.entries place None ≡ Some (y, g) → g
+    module _ (tied : WordsMatchValues v.member v.entries) (codes : (place : ℕ) (y : R.Denot) (g : Gv) → slice_index_or v.entries place None ≡ Some (y, g) → g
         ≡ showing R y)
         (recalled : IsLone v.member → KnowsOwner v.member (number_of right) (is_shared (kind_of right)) (showing R x)) where
       is_value : IsLone v.member → value_at (world_of after) (number_of right) ≡ Some x
@@ -128,7 +128,7 @@ module _ (R : RattleType) (v : LocalModel R.Denot) (m : LocalState) (right : Rig
         → ShowsBy b (showing R) holds after i u
     keeps_by holds once true i u h = ap (λ (w : World R.Denot). value_at w i) same_world ∙ h
     keeps_by holds once false i u h = dite (dec_lt 0 (times (number_of right) v.member.slots.sees))
-        (λ sees. subst (λ (y : LocalState). space.Sees (showing R) holds y i u) (sym (looks.seen sees).0) h)
+        (λ sees. subst (λ (y : LocalState). space.SeesValue (showing R) holds y i u) (sym (looks.seen sees).0) h)
         (λ blind. let is = looks.unseen blind in let there : IsIn m.shown i (showing R u) = subst (λ (y : LocalState). IsIn y.shown i (showing R u)) (sym is)
         (in_tail (record { slot = number_of right; shared = is_shared (kind_of right); value = showing R x }) v.member.shown i (showing R u) h.known) in record {
           known = there;
@@ -142,7 +142,7 @@ module _ (R : RattleType) (v : LocalModel R.Denot) (m : LocalState) (right : Rig
         subst (λ (b : Bool). ShowsBy b (showing R) holds after i u) (ap is_lone (sym only_looks)) (keeps_by holds once (is_lone v.member) i u before)
 
 -- ---- what an owner tells is what its slot shows to a lone participant
-module _ (R : RattleType) (v : LocalModel R.Denot) (right : Right) (tied : IsTied v.member v.entries)
+module _ (R : RattleType) (v : LocalModel R.Denot) (right : Right) (tied : WordsMatchValues v.member v.entries)
     (codes : (place : ℕ) (y : R.Denot) (g : Gv) → slice_index_or v.entries place None ≡ Some (y, g) → g ≡ showing R y)
     (recalled : IsLone v.member → (g : Gv) × HasValue g right × KnowsOwner v.member (number_of right) (is_shared (kind_of right)) g) where
   -- the value that it moved into the slot last is in it, and is what the owner tells
@@ -255,8 +255,8 @@ module _ {T : Type 0} (v : LocalModel T) (m : LocalState) (k : ℕ) (shared : Bo
         ∙ sym (ap (λ (y : ℕ). value_by y (slice_index_or v.entries j None)) (ap (word_of v.member) e ∙ owned v t k shared g knows)))
         (λ ne. ap (λ (y : ℕ). value_by y (slice_index_or v.entries j None)) (word_then j ne)))) ∙ was
 
-  module _ (tied : IsTied v.member v.entries) (knows : IsLone v.member → KnowsOwner v.member k shared g) where
-    pub tied_later : IsTied m v.entries
+  module _ (tied : WordsMatchValues v.member v.entries) (knows : IsLone v.member → KnowsOwner v.member k shared g) where
+    pub tied_later : WordsMatchValues m v.entries
     tied_later one = let lone = lone_still one in subst (λ (y : LocalState). AreTied y v.entries) (sym (is_later lone)) (tied_waits (tied lone) (knows lone))
 
     pub world_later : IsLone v.member → world_of later ≡ owner_given (world_of v) v.member.place k (standing_at (world_of v) k)
@@ -269,11 +269,11 @@ module _ {T : Type 0} (v : LocalModel T) (m : LocalState) (k : ℕ) (shared : Bo
         → ShowsBy b shown holds later i u
     keeps_when shown holds true lone i u h = ap (λ (y : LocalState). value_at (world_of (record { member = y; entries = v.entries })) i) (is_later (lone refl))
         ∙ value_waits (tied (lone refl)) (knows (lone refl)) i u h
-    keeps_when shown holds false lone i u h = subst (λ (y : LocalState). space.Sees shown holds y i u) (sym is.member) h
+    keeps_when shown holds false lone i u h = subst (λ (y : LocalState). space.SeesValue shown holds y i u) (sym is.member) h
 
 -- for an answer
 module _ {T : Type 0} (v : LocalModel T) (m : LocalState) (right : Right) (count : ℕ) (is : RetiresAt (number_of right) count v.member m)
-    (tied : IsTied v.member v.entries)
+    (tied : WordsMatchValues v.member v.entries)
     (knows : IsLone v.member → (g : Gv) × KnowsOwner v.member (number_of right) (is_shared (kind_of right)) g) (p : LocalModel T) (same : v ≡ p) where
   lone_of : IsTrue (is_lone p.member) → IsLone v.member
   lone_of exact = lone_is v.member (subst (λ (q : LocalModel T). IsTrue (is_lone q.member)) (sym same) exact)
@@ -283,7 +283,7 @@ module _ {T : Type 0} (v : LocalModel T) (m : LocalState) (right : Right) (count
       ≡ Some (if is_shared (kind_of right) then Shared 1 else Owned)) same
       (stands v (tied lone) (number_of right) (is_shared (kind_of right)) (knows lone).0 (knows lone).1)
 
-  pub release_tied : IsTied m v.entries
+  pub release_tied : WordsMatchValues m v.entries
   release_tied one = let lone = sym (ap (λ (y : LocalState). y.limits.participants) is.member) ∙ one in
       tied_later v m (number_of right) (is_shared (kind_of right)) (knows lone).0 count is tied (λ _. (knows lone).1) one
 
@@ -305,7 +305,7 @@ module _ {T : Type 0} (v : LocalModel T) (m : LocalState) (right : Right) (count
       → ShowsBy b shown holds (record { member = m; entries = v.entries }) i u
   keeps_late shown holds true lone i u h = keeps_when v m (number_of right) (is_shared (kind_of right)) (knows (lone refl)).0 count is tied
       (λ _. (knows (lone refl)).1) shown holds true lone i u h
-  keeps_late shown holds false lone i u h = subst (λ (y : LocalState). space.Sees shown holds y i u) (sym is.member) h
+  keeps_late shown holds false lone i u h = subst (λ (y : LocalState). space.SeesValue shown holds y i u) (sym is.member) h
 
   pub release_keeps : (shown : T → Gv) (holds : T → List OwnerOrCell)
       → KeepsShown (Shows shown holds p) (Shows shown holds (record { member = m; entries = v.entries }))

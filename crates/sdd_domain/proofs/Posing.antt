@@ -17,30 +17,30 @@ use Rattle.sdd_views.specs.declared.FractionsView.{FractionsView}
 use Rattle.sdd_views.specs.declared.WaitingItem.{WaitingItem}
 use Rattle.sdd_views.specs.declared.View.{View}
 use Rattle.sdd_word_invariant.specs.Epoch.{HasPlace, IsLone, IsOpen}
-use Rattle.sdd_word_invariant.specs.Steps.{knowing, counted, published}
+use Rattle.sdd_word_invariant.specs.EpochSteps.{knowing, counted, published}
 use Rattle.sdd_word_invariant.specs.Sums.{total, times}
 use Rattle.sdd_word_invariant.specs.Slots.{items_at, waits_in}
 use Rattle.sdd_word_invariant.specs.SlotSteps.{retired_now, retired, noted, without}
 use Rattle.sdd_views.specs.Views.{owner_of}
 use Rattle.sdd_word_invariant.proofs.Sums.{is_other, total_snoc}
 use Rattle.sdd_atomics.specs.declared.domain_table.DomainTable.{DomainTable}
-use Rattle.sdd_shared_values.specs.Seats.{OnlyLends}
-use Rattle.sdd_shared_values.specs.SharedValues.{IsVacant}
+use Rattle.sdd_shared_values.specs.CarriedFractions.{OnlyLends}
+use Rattle.sdd_shared_values.specs.SharedValues.{IsNoValueCode}
 use Rattle.sdd_views.specs.declared.Sizes.{Sizes}
 use Rattle.sdd_word_invariant.specs.Codes.{owned_word}
 use Rattle.sdd_domain_invariant.specs.FractionsAtHome.{CarriedFractions, Has, stake_at}
 use Rattle.sdd_domain_invariant.specs.Records.{slot_shown, IsIn}
 use Rattle.sdd_domain_invariant.proofs.Records.{in_head, in_either, in_times}
-use Rattle.sdd_domain_invariant.specs.HomeSteps.{SeatState, IsValue, Watches, Recalls, regained, undrawing, remembering, resting, with_made}
+use Rattle.sdd_domain_invariant.specs.FractionSteps.{SeatState, IsValue, SeesOwned, LearnsOwned, regained, undrawing, remembering, resting, with_made}
 use Rattle.sdd_atomics.specs.DomainTable.{book_of, places_of, slots_of}
 use Rattle.sdd_atomics.specs.DomainSeat.{view, epoch, slots, Taught, Moved, MovedAlone}
 use Rattle.sdd_atomics.specs.Owner.{disowned}
-use Rattle.sdd_domain.specs.Sight.{IsOnce}
-use Rattle.sdd_domain.specs.Waits.{what_of, waiting_of, ripe, unripe, GivesOneBack}
+use Rattle.sdd_domain.specs.SeenSlots.{IsOnce}
+use Rattle.sdd_domain.specs.WaitingItems.{what_of, waiting_of, ripe, unripe, GivesOneBack}
 use Rattle.sdd_domain.proofs.Reclaims.{first_goes, no_more}
 use Rattle.sdd_domain.specs.Claims.{Gains}
 use Rattle.sdd_domain.specs.Values.{with_filled, LetsWait}
-use Rattle.sdd_domain.specs.Posed.{IsPurse, AreLentTo, IsPosed}
+use Rattle.sdd_domain.specs.BetweenCalls.{CarriesSeenOnly, AreLentTo, IsBetweenCalls}
 use Rattle.sdd_domain.proofs.Ripe.{unripe_too}
 use Rattle.sdd_domain.proofs.Moving.{row_out, rest_out, now_seen, still_seen}
 
@@ -60,17 +60,17 @@ waiting_too slot shared value y count v = record v {
 }
 
 module _ (b : DomainTable) (p : ℕ) where
-  pub has_place : (own : Participant) (s : Seat ValueFraction View) → IsPosed b p own s → HasPlace (epoch s)
+  pub has_place : (own : Participant) (s : Seat ValueFraction View) → IsBetweenCalls b p own s → HasPlace (epoch s)
   has_place own s q = dite (dec_lt 0 own.guards) (λ some_open. let e = q.opened some_open in omega arith)
       (λ none. let e = q.closed (omega arith) in omega arith)
 
   -- while a guard is open a lone participant knows the count that it found, which fits its type
-  pub known_fits : (own : Participant) (s : Seat ValueFraction View) → IsPosed b p own s → 0 < own.guards → own.found < 2 ^ 64 → IsLone (epoch s)
+  pub known_fits : (own : Participant) (s : Seat ValueFraction View) → IsBetweenCalls b p own s → 0 < own.guards → own.found < 2 ^ 64 → IsLone (epoch s)
       → (epoch s).known < 2 ^ 64
   known_fits own s q some_open fits one = let known = q.lone some_open one in let count = q.count in omega arith
 
   -- beside an owner nothing changes
-  pub same_recalled : (slot : ℕ) (shared : Bool) (value : Gv) (s t : Seat ValueFraction View) → MovedAlone (Recalls slot shared value) s t → t ≡ s
+  pub same_recalled : (slot : ℕ) (shared : Bool) (value : Gv) (s t : Seat ValueFraction View) → MovedAlone (LearnsOwned slot shared value) s t → t ≡ s
   same_recalled slot shared value s t e = λ d. record t { table_id = e.0 d; id = e.1 d; me = e.2.0 d }
 
   -- what is known once the item of an owner that was taken in waits
@@ -90,7 +90,7 @@ module _ (b : DomainTable) (p : ℕ) where
       }
 
   -- the token after an owner was taken in and its item retired
-  pub retires_to : (own : Participant) (slot : ℕ) (shared : Bool) (value : Gv) (s t u : Seat ValueFraction View) → IsPosed b p own s
+  pub retires_to : (own : Participant) (slot : ℕ) (shared : Bool) (value : Gv) (s t u : Seat ValueFraction View) → IsBetweenCalls b p own s
       → Taught (λ v _ w. w ≡ regained v (owner_of slot shared value)) s 0 t → Moved (LetsWait slot) t 4 u
       → (count : ℕ) × (u.me.0 ≡ waiting_too slot shared value 4 count (view s)) × ((epoch s).known ≤ count) × (IsLone (epoch s) → count ≡ (epoch s).known)
       × (IsOpen (epoch s) → count ≤ (epoch s).since + 1)
@@ -104,13 +104,13 @@ module _ (b : DomainTable) (p : ℕ) where
         subst (λ (x : EpochView). IsOpen x → r.0 ≤ x.since + 1) epochs r.4,
       )
 
-  pub posed_retires : (own : Participant) (slot : ℕ) (shared : Bool) (value : Gv) (s t u : Seat ValueFraction View) → IsPosed b p own s → slot < slots_of b
-      → Taught (λ v _ w. w ≡ regained v (owner_of slot shared value)) s 0 t → Moved (LetsWait slot) t 4 u → IsPosed b p (awaiting (Item slot) own) u
+  pub posed_retires : (own : Participant) (slot : ℕ) (shared : Bool) (value : Gv) (s t u : Seat ValueFraction View) → IsBetweenCalls b p own s → slot < slots_of b
+      → Taught (λ v _ w. w ≡ regained v (owner_of slot shared value)) s 0 t → Moved (LetsWait slot) t 4 u → IsBetweenCalls b p (awaiting (Item slot) own) u
   posed_retires own slot shared value s t u q low took e = let r = retires_to own slot shared value s t u q took e in
       let others : u.me.1 ≡ s.me.1 = e.2.3 ∙ took.2 in
-      subst (λ (v : View). IsPosed b p (awaiting (Item slot) own) (record u { me = (v, u.me.1) })) (sym r.1) record {
+      subst (λ (v : View). IsBetweenCalls b p (awaiting (Item slot) own) (record u { me = (v, u.me.1) })) (sym r.1) record {
         home = e.0 ∙ (took.0 ∙ q.home);
-        purse = subst (λ (xs : CarriedFractions). IsPurse (book_of b) (places_of b) p s.me.0.stakes.sees xs) (sym others) q.purse;
+        purse = subst (λ (xs : CarriedFractions). CarriesSeenOnly (book_of b) (places_of b) p s.me.0.stakes.sees xs) (sym others) q.purse;
         sight = record { owns = q.sight.owns; sees = q.sight.sees; once = q.sight.once };
         unseen = q.unseen;
         rests = q.rests;
@@ -136,12 +136,12 @@ module _ (b : DomainTable) (p : ℕ) where
       }
 
   -- the first that was due was moved out
-  pub posed_reclaims : (own : Participant) (slot : ℕ) (rest : List LimboEntry) (s t : Seat ValueFraction View) → IsPosed b p own s
-      → map what_of (ripe (slots s).waits) ≡ Item slot ∷ rest → Taught (GivesOneBack slot) s 0 t → IsPosed b p own t
+  pub posed_reclaims : (own : Participant) (slot : ℕ) (rest : List LimboEntry) (s t : Seat ValueFraction View) → IsBetweenCalls b p own s
+      → map what_of (ripe (slots s).waits) ≡ Item slot ∷ rest → Taught (GivesOneBack slot) s 0 t → IsBetweenCalls b p own t
   posed_reclaims own slot rest s t q first e = let goes = first_goes slot rest s.me.0.slots.waits first e.3.1 in
-      subst (λ (v : View). IsPosed b p own (record t { me = (v, t.me.1) })) (sym e.3.0) record {
+      subst (λ (v : View). IsBetweenCalls b p own (record t { me = (v, t.me.1) })) (sym e.3.0) record {
         home = e.0 ∙ q.home;
-        purse = subst (λ (xs : CarriedFractions). IsPurse (book_of b) (places_of b) p s.me.0.stakes.sees xs) (sym e.2) q.purse;
+        purse = subst (λ (xs : CarriedFractions). CarriesSeenOnly (book_of b) (places_of b) p s.me.0.stakes.sees xs) (sym e.2) q.purse;
         sight = record { owns = q.sight.owns; sees = q.sight.sees; once = q.sight.once };
         unseen = q.unseen;
         rests = q.rests;
@@ -164,19 +164,19 @@ module _ (b : DomainTable) (p : ℕ) where
         idle = q.idle;
       }
 
-  pub posed_arrived : (own new : Participant) (c g : ℕ) (xs : List WaitingItem) (s t : Seat ValueFraction View) → IsPosed b p own s → t.table_id ≡ s.table_id
+  pub posed_arrived : (own new : Participant) (c g : ℕ) (xs : List WaitingItem) (s t : Seat ValueFraction View) → IsBetweenCalls b p own s → t.table_id ≡ s.table_id
       → t.me.1 ≡ s.me.1 → t.me.0.sizes ≡ s.me.0.sizes
       → record t.me.0.stakes { counts = s.me.0.stakes.counts } ≡ s.me.0.stakes → epoch t ≡ published (counted (knowing (epoch s) c) c) g → c ≤
       g → (IsLone (epoch s) → g ≡ c)
       → slots t ≡ record s.me.0.slots { waits = xs } → ((i : ℕ) → total (waits_in i) xs ≤ items_at i (view s))
       → new.found ≡ c → new.guards ≡ 0 → new.bags.waiting ≡ map waiting_of (unripe xs) → new.bags.room ≡ own.bags.room
-      → new.countdown ≤ 128 → (new.countdown ≡ 128 → new.bags.waiting ≡ []) → IsPosed b p (nested new) t
+      → new.countdown ≤ 128 → (new.countdown ≡ 128 → new.bags.waiting ≡ []) → IsBetweenCalls b p (nested new) t
   posed_arrived own new c g xs s t q table others sizes stakes epochs low one_only keeps fewer found none bags room pace idle =
       let is : t.me.0 ≡ record t.me.0 { epoch = published (counted (knowing (epoch s) c) c) g; slots = record s.me.0.slots { waits = xs } }
       = λ i. record t.me.0 { epoch = epochs i; slots = keeps i } in
-      subst (λ (v : View). IsPosed b p (nested new) (record t { me = (v, t.me.1) })) (sym is) record {
+      subst (λ (v : View). IsBetweenCalls b p (nested new) (record t { me = (v, t.me.1) })) (sym is) record {
         home = table ∙ q.home;
-        purse = subst (λ (k : List ShownValue × CarriedFractions). IsPurse (book_of b) (places_of b) p k.0 k.1)
+        purse = subst (λ (k : List ShownValue × CarriedFractions). CarriesSeenOnly (book_of b) (places_of b) p k.0 k.1)
             (λ d. (sym (ap (λ (k : FractionsView). k.sees) stakes) d, sym others d)) q.purse;
         sight = record {
           owns = ap (λ (k : FractionsView). k.owns) stakes ∙ q.sight.owns;
@@ -205,7 +205,7 @@ module _ (b : DomainTable) (p : ℕ) where
       }
 
   -- a slot that it claimed has an item, whose owner left it
-  pub made_view : (own : Participant) (slot : ℕ) (shared : Bool) (value : Gv) (s t u : Seat ValueFraction View) → IsPosed b p own s → Gains slot s t
+  pub made_view : (own : Participant) (slot : ℕ) (shared : Bool) (value : Gv) (s t u : Seat ValueFraction View) → IsBetweenCalls b p own s → Gains slot s t
       → view u ≡ disowned (resting (with_filled slot shared value (view t)))
       → view u ≡ with_filled slot shared value (with_made (record (view s) { words = noted slot (owned_word 0) (view s) }))
   made_view own slot shared value s t u q gains is = let v : View = view s in is ∙ (ap (λ (w : View). disowned (resting
@@ -216,15 +216,15 @@ module _ (b : DomainTable) (p : ℕ) where
         words = noted slot (owned_word 0) v;
       }))
 
-  pub posed_makes : (own : Participant) (slot : ℕ) (shared : Bool) (value : Gv) (s t u : Seat ValueFraction View) → IsPosed b p own s → Gains slot s t
+  pub posed_makes : (own : Participant) (slot : ℕ) (shared : Bool) (value : Gv) (s t u : Seat ValueFraction View) → IsBetweenCalls b p own s → Gains slot s t
       → u.table_id ≡ t.table_id → view u ≡ disowned (resting (with_filled slot shared value (view t))) → u.me.1 ≡ drop (suc (places_of b)) t.me.1
-      → IsPosed b p own u × (u.me.1 ≡ s.me.1)
+      → IsBetweenCalls b p own u × (u.me.1 ≡ s.me.1)
   posed_makes own slot shared value s t u q gains table is given =
       let row = row_out (book_of b) (places_of b) slot s.me t.me.1 q.knows.1 (ap (λ (z : Sizes). z.participants) q.knows.0) gains.row in
-      let others : u.me.1 ≡ s.me.1 = rest_out (book_of b) slot (places_of b) (places_of b) 0 IsVacant s.me.1 t.me.1 u.me.1 refl row given in (
-        subst (λ (w : View). IsPosed b p own (record u { me = (w, u.me.1) })) (sym (made_view own slot shared value s t u q gains is)) record {
+      let others : u.me.1 ≡ s.me.1 = rest_out (book_of b) slot (places_of b) (places_of b) 0 IsNoValueCode s.me.1 t.me.1 u.me.1 refl row given in (
+        subst (λ (w : View). IsBetweenCalls b p own (record u { me = (w, u.me.1) })) (sym (made_view own slot shared value s t u q gains is)) record {
           home = table ∙ (gains.table ∙ q.home);
-          purse = subst (λ (xs : CarriedFractions). IsPurse (book_of b) (places_of b) p s.me.0.stakes.sees xs) (sym others) q.purse;
+          purse = subst (λ (xs : CarriedFractions). CarriesSeenOnly (book_of b) (places_of b) p s.me.0.stakes.sees xs) (sym others) q.purse;
           sight = record { owns = q.sight.owns; sees = q.sight.sees; once = q.sight.once };
           unseen = q.unseen;
           rests = q.rests;
@@ -253,11 +253,11 @@ module _ (b : DomainTable) (p : ℕ) where
   abbrev pub with_sight : List ℕ → List ShownValue → View → View
   with_sight sees records v = record v { slots = record v.slots { sees = sees }; stakes = record v.stakes { sees = records } }
 
-  posed_seeing : (own : Participant) (sees : List ℕ) (records : List ShownValue) (s u : Seat ValueFraction View) → IsPosed b p own s → 0 < own.guards
+  posed_seeing : (own : Participant) (sees : List ℕ) (records : List ShownValue) (s u : Seat ValueFraction View) → IsBetweenCalls b p own s → 0 < own.guards
       → u.table_id ≡ s.table_id → view u ≡ with_sight sees records (view s) → map slot_shown records ≡ sees → IsOnce records
-      → IsPurse (book_of b) (places_of b) p records u.me.1 → IsPosed b p own u
+      → CarriesSeenOnly (book_of b) (places_of b) p records u.me.1 → IsBetweenCalls b p own u
   posed_seeing own sees records s u q some_open table is told once purse =
-      subst (λ (w : View). IsPosed b p own (record u { me = (w, u.me.1) })) (sym is) record {
+      subst (λ (w : View). IsBetweenCalls b p own (record u { me = (w, u.me.1) })) (sym is) record {
         home = table ∙ q.home;
         purse = purse;
         sight = record { owns = q.sight.owns; sees = told; once = once };
@@ -289,7 +289,7 @@ module _ (b : DomainTable) (p : ℕ) where
     pub view : u.me.0 ≡ with_sight sees records s.me.0
     pub told : map slot_shown records ≡ sees
     pub once : IsOnce records
-    pub purse : IsPurse (book_of b) (places_of b) p records u.me.1
+    pub purse : CarriesSeenOnly (book_of b) (places_of b) p records u.me.1
     pub lent : AreLentTo t u.me.1
     pub there : IsIn records slot value
 
@@ -303,8 +303,8 @@ module _ (b : DomainTable) (p : ℕ) where
       (λ (x : IsIn records i g). ⊎_elim (λ (y : (slot ≡ i) × (value ≡ h)). absurd (unknown g y.0 x))
       (λ (y : IsIn records i h). once i g h x y) (in_either r records i h c)) (in_either r records i g a)
 
-  pub watched : (own : Participant) (t slot : ℕ) (shared : Bool) (value : Gv) (s u : Seat ValueFraction View) → IsPosed b p own s → AreLentTo t s.me.1
-      → MovedAlone (Watches slot shared value) s u → HasSeen t slot value s u
+  pub watched : (own : Participant) (t slot : ℕ) (shared : Bool) (value : Gv) (s u : Seat ValueFraction View) → IsBetweenCalls b p own s → AreLentTo t s.me.1
+      → MovedAlone (SeesOwned slot shared value) s u → HasSeen t slot value s u
   watched own t slot shared value s u q lent e = let w = e.2 in let γ : ℕ = book_of b in let n : ℕ = places_of b in let xs : CarriedFractions = s.me.1 in
       let known : List ShownValue = s.me.0.stakes.sees in dite (dec_lt 0 (times slot s.me.0.slots.sees))
       (λ sees. let same = (w.0 sees).0 in record {
@@ -313,7 +313,7 @@ module _ (b : DomainTable) (p : ℕ) where
         view = ap (λ (m : SeatState). m.0) same;
         told = q.sight.sees;
         once = q.sight.once;
-        purse = subst (λ (ys : CarriedFractions). IsPurse γ n p known ys) (sym (ap (λ (m : SeatState). m.1) same)) q.purse;
+        purse = subst (λ (ys : CarriedFractions). CarriesSeenOnly γ n p known ys) (sym (ap (λ (m : SeatState). m.1) same)) q.purse;
         lent = subst (AreLentTo t) (sym (ap (λ (m : SeatState). m.1) same)) lent;
         there = (w.0 sees).1;
       })
@@ -327,13 +327,13 @@ module _ (b : DomainTable) (p : ℕ) where
         view = ap (λ (m : SeatState). m.0) o.2;
         told = ap (λ (l : List ℕ). slot ∷ l) q.sight.sees;
         once = once_more slot shared value known q.sight.once (λ c. blind (subst (λ (l : List ℕ). 0 < times slot l) q.sight.sees c));
-        purse = subst (λ (ys : CarriedFractions). IsPurse γ n p (r ∷ known) ys) (sym ys) both.0;
+        purse = subst (λ (ys : CarriedFractions). CarriesSeenOnly γ n p (r ∷ known) ys) (sym ys) both.0;
         lent = subst (AreLentTo t) (sym ys) both.1;
         there = in_head r known slot value refl refl;
       })
 
-  pub posed_shows : (own : Participant) (t slot : ℕ) (value : Gv) (s u z : Seat ValueFraction View) → IsPosed b p own s → 0 < own.guards → u.table_id ≡ s.table_id
-      → HasSeen t slot value s u → z ≡ record u { me = (u.me.0, z.me.1) } → OnlyLends t u.me.1 z.me.1 → IsPosed b p own z × AreLentTo t z.me.1
+  pub posed_shows : (own : Participant) (t slot : ℕ) (value : Gv) (s u z : Seat ValueFraction View) → IsBetweenCalls b p own s → 0 < own.guards → u.table_id ≡ s.table_id
+      → HasSeen t slot value s u → z ≡ record u { me = (u.me.0, z.me.1) } → OnlyLends t u.me.1 z.me.1 → IsBetweenCalls b p own z × AreLentTo t z.me.1
   posed_shows own t slot value s u z q some_open table seen is lends =
       let still = still_seen (book_of b) (places_of b) p t seen.records u.me.1 z.me.1 lends seen.purse seen.lent in (
         posed_seeing own seen.sees seen.records s z q some_open (ap (λ (x : Seat ValueFraction View). x.table_id) is ∙ table)

@@ -11,7 +11,7 @@ use Rattle.sdd_word_invariant.specs.Sums.{total}
 use Rattle.sdd_word_invariant.specs.Slots.{waits_in}
 use Rattle.sdd_word_invariant.specs.SlotSteps.{older, without_item}
 use Rattle.sdd_word_invariant.proofs.Sums.{is_same, is_other, total_has}
-use Rattle.sdd_domain.specs.Waits.{what_of, waiting_of, is_ripe, ripe, unripe}
+use Rattle.sdd_domain.specs.WaitingItems.{what_of, waiting_of, is_ripe, ripe, unripe}
 
 pub either_way : (b : Bool) → (b ≡ true) ⊎ (b ≡ false)
 either_way true = inl refl

@@ -15,11 +15,11 @@ use Rattle.sdd_word_invariant.specs.SlotSteps.{behind}
 use Rattle.sdd_word_invariant.specs.Sums.{total}
 use Rattle.sdd_word_invariant.specs.Slots.{waits_in}
 use Rattle.sdd_word_invariant.proofs.Codes.{free_is}
-use Rattle.sdd_domain_invariant.specs.Fillings.{newest}
+use Rattle.sdd_domain_invariant.specs.FilledInvariant.{newest}
 use Rattle.sdd_domain.specs.LocalState.{LocalState, IsLone, IsNew, word_of}
 use Rattle.sdd_participants.specs.declared.waiting.LimboEntry.{LimboEntry}
-use Rattle.sdd_domain.specs.Waits.{what_of, waiting_of, ripe, unripe}
-use Rattle.sdd_domain.specs.Tied.{Entries, IsTied, is_plain_word}
+use Rattle.sdd_domain.specs.WaitingItems.{what_of, waiting_of, ripe, unripe}
+use Rattle.sdd_domain.specs.WordsAndValues.{Entries, WordsMatchValues, is_plain_word}
 use Rattle.sdd_domain.specs.Local.{LocalModel, IsBlankAlone, listing, standing_by, value_by, standing_in, value_in, world_of}
 use Rattle.sdd_domain.proofs.Listings.{listing_same}
 
@@ -45,7 +45,7 @@ module _ {T : Type 0} (home : TableId) (book : ℕ) (most : Limits) (m : LocalSt
   place_first : IsLone m → m.place ≡ 0
   place_first one = let p = is.place in let l = ap (λ (x : Limits). x.participants) is.limits in omega arith
 
-  pub tied_new : IsTied m es
+  pub tied_new : WordsMatchValues m es
   tied_new one = record {
     place = place_first one;
     slots = is.sizes.1 ∙ sym slots_are;

@@ -3,7 +3,7 @@ use Rattle.std.proofs.Common.{◌≡◌, ◌+◌, ◌≤◌, not, List, [], ◌�
 use mathlib.Core.Bool.{Bool, true, false, cond}
 use Rattle.sdd_participants.specs.Waiting.{Waiting}
 use Rattle.sdd_views.specs.declared.WaitingItem.{WaitingItem}
-use Rattle.sdd_domain.specs.Waits.{waiting_of, is_ripe, ripe, unripe}
+use Rattle.sdd_domain.specs.WaitingItems.{waiting_of, is_ripe, ripe, unripe}
 
 module _ {A : Type 0} where
   cond_snoc : (b : Bool) (x : A) (ys zs : List A) → cond b (x ∷ (ys ++ zs)) (ys ++ zs) ≡ cond b (x ∷ ys) ys ++ zs

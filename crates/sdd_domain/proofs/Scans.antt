@@ -5,7 +5,7 @@ use native.Mathlib.Decide.{ℕ_discrete}
 use Rattle.std.proofs.Math.Decide.{dec_lt}
 use Rattle.sdd_views.specs.declared.EpochView.{EpochView}
 use Rattle.sdd_word_invariant.specs.Epoch.{IsLone}
-use Rattle.sdd_word_invariant.specs.Steps.{knowing, scanning, unlocked, Reads, Locks, Unlocks}
+use Rattle.sdd_word_invariant.specs.EpochSteps.{knowing, scanning, unlocked, Reads, Locks, Unlocks}
 use Rattle.sdd_domain.specs.Scan.{Raises, Scanned, looked_to}
 
 -- what is known after the lock was had and k places were looked at

@@ -25,16 +25,16 @@ use Rattle.sdd_participants.specs.declared.tally.Tally.{Tally}
 use Rattle.sdd_participants.specs.declared.epoch_state.Participant.{Participant}
 use Rattle.sdd_core.specs.declared.limits.Limits.{Limits}
 use Rattle.sdd_space.specs.OwnerOrCell.{SpaceId, OwnerOrCell, AreOf}
-use Rattle.sdd_space.specs.World.{World, IsGuarded, standing_at}
+use Rattle.sdd_space.specs.World.{World, AnyGuardOpen, standing_at}
 use Rattle.sdd_space.specs.WorldStep.{IsFirst}
-use Rattle.sdd_space.specs.Steps.{opened}
-use Rattle.sdd_space.specs.Whole.{IsWhole, IsAbreast, AreHoused, times_with, jobs_with, once_if}
+use Rattle.sdd_space.specs.WorldChanges.{opened}
+use Rattle.sdd_space.specs.WorldInvariant.{IsWhole, KeepsUp, PlacesMatchStates, times_with, jobs_with, once_if}
 use Rattle.sdd_space.proofs.Accounts.{blank-at}
 use Rattle.sdd_space.proofs.Four.{AllClosed, all-closed, not-guarded}
 use Rattle.sdd_space.proofs.Housed.{Whole-opened, Whole-made_as, Whole-owner_given, live-taken}
-use Rattle.sdd_domain.specs.Homes.{home_in}
+use Rattle.sdd_domain.specs.SpaceIds.{home_in}
 use Rattle.sdd_domain.specs.LocalState.{LocalState, word_of, IsLone, IsNew, RetiresAt, KnowsOwner}
-use Rattle.sdd_domain.specs.Tied.{Entries, IsTied}
+use Rattle.sdd_domain.specs.WordsAndValues.{Entries, WordsMatchValues}
 use Rattle.sdd_domain.specs.Local.{LocalModel, IsBlankAlone, value_in, world_of}
 use Rattle.sdd_domain.specs.Space.{ShowsBy, Shows, is_lone}
 use Rattle.sdd_domain.proofs.Listings.{listing_at, listing_past}
@@ -87,7 +87,7 @@ alone_time most = record {
   room = most.slots;
 }
 
-alone_abreast : (most : Limits) (p : ℕ) → IsAbreast 0 (time.place_at (alone_time most) p)
+alone_abreast : (most : Limits) (p : ℕ) → KeepsUp 0 (time.place_at (alone_time most) p)
 alone_abreast most zero = record { found = omega arith; near = λ opens. absurd cc; young = λ k d l. absurd (omega arith); countdown = omega arith; quiet = λ _. refl }
 alone_abreast most (suc p) = record { found = omega arith; near = λ opens. absurd cc; young = λ k d l. absurd (omega arith); countdown = omega arith; quiet = λ _. refl }
 
@@ -118,7 +118,7 @@ module _ {T : Type 0} where
       (λ (e : time.place_at (world_of p).time q ≡ time.nobody). ap time.is_open e) (alike (suc p.member.place) q p.member.own time.nobody)
 
   -- a guard is open in its world exactly while one of its own is
-  pub shut_there : (p : LocalModel T) → (p.member.own.guards ≡ 0) ↔ ¬ (IsGuarded (world_of p))
+  pub shut_there : (p : LocalModel T) → (p.member.own.guards ≡ 0) ↔ ¬ (AnyGuardOpen (world_of p))
   shut_there p = (
     (λ shut. not-guarded (world_of p) (all_shut p shut)),
     (λ quiet. no_guards p.member.own (ap time.is_open (own_is_place p) ∙ all-closed (world_of p) quiet p.member.place)),
@@ -138,8 +138,8 @@ module _ {T : Type 0} where
         ∙ ap (λ (s : Option Standing). once_if (is_waiting s)) (blank-at most.slots k));
     jobs_once = λ j. ap (λ (t : EpochState). sum_by (jobs_with j) t.places) is.time
         ∙ sym (ap (λ js. once_if (is_some (slice_index_or js j None))) is.jobs ∙ ap (λ s. once_if (is_some s)) (blank-at most.jobs j));
-    abreast = λ p. subst (λ (t : EpochState). IsAbreast t.count (time.place_at t p)) (sym is.time) (alone_abreast most p);
-    housed = subst (λ (t : EpochState). AreHoused t) (sym is.time) (record { lengths = refl; shut = alone_shut most; bare = alone_bare most });
+    abreast = λ p. subst (λ (t : EpochState). KeepsUp t.count (time.place_at t p)) (sym is.time) (alone_abreast most p);
+    housed = subst (λ (t : EpochState). PlacesMatchStates t) (sym is.time) (record { lengths = refl; shut = alone_shut most; bare = alone_bare most });
     counted = λ _. let a = ap (λ (t : Tally). t.made) is.tally in let b = ap (λ (t : Tally). t.reclaimed) is.tally in
         let c = ap (λ (t : Tally). t.in_place) is.tally in
         let d = ap (λ (ss : List (Option Standing)). count_by is_some ss) is.standings ∙ none_taken Standing most.slots in omega arith;
@@ -169,7 +169,7 @@ module _ {T : Type 0} where
         (λ one. let lone : IsLone v.member = ap (λ (h : SpaceId). h.readers.size) (sym home) ∙ one in
         whole_by v (record v { member = m }) step keeps (same lone) (sound.whole lone))
 
-    pub sound_release : (right : Right) (count : ℕ) → IsTied v.member v.entries → RetiresAt (number_of right) count v.member m
+    pub sound_release : (right : Right) (count : ℕ) → WordsMatchValues v.member v.entries → RetiresAt (number_of right) count v.member m
         → (IsLone v.member → (g : Gv) × KnowsOwner v.member (number_of right) (is_shared (kind_of right)) g) → IsSound holds (record v { member = m })
     sound_release right count tied is knows = sound_then (ap (λ (y : LocalState). y.due) is.member ∙ sound.settled) (ap home_in is.member)
         (λ one. let lone : IsLone v.member = sym (ap (λ (y : LocalState). y.limits.participants) is.member) ∙ one in
@@ -224,7 +224,7 @@ module _ (R : RattleType) (holds : R.Denot → List OwnerOrCell) (v : LocalModel
       (sound.home place value g (sym (get_or-set_other v.entries k place (Some (x, showing R x)) None ne) ∙ is)))
 
   pub sound_made : (r : Result Right (B × Refused)) → Answers R v m es kind P Back Why r → ((x : R.Denot) → P x → AreOf (home_in v.member) (holds x))
-      → IsTied v.member v.entries → IsSound holds v → IsSound holds (record { member = m; entries = es })
+      → WordsMatchValues v.member v.entries → IsSound holds v → IsSound holds (record { member = m; entries = es })
   sound_made (Ok right) a at tied sound = let home : home_in m ≡ home_in v.member = ap home_in a.2.member in record {
     settled = ap (λ (z : LocalState). z.due) a.2.member ∙ sound.settled;
     home = entered_home (number_of right) a.0 a.4 (subst (λ (h : SpaceId). AreOf h (holds a.0)) (sym home) (at a.0 a.1)) home sound;

@@ -8,7 +8,7 @@ use Rattle.sdd_shared_values.specs.declared.value_fraction.ValueFraction.{ValueF
 use Rattle.sdd_views.specs.declared.Sizes.{Sizes}
 use Rattle.sdd_views.specs.declared.View.{View}
 use Rattle.sdd_domain_invariant.specs.FractionsAtHome.{CarriedFractions, spare}
-use Rattle.sdd_domain_invariant.specs.HomeSteps.{HasAll, IsValue, TakesOut, IsDeposit, moving, forgetting}
+use Rattle.sdd_domain_invariant.specs.FractionSteps.{CarriesAll, IsValue, TakesOut, IsDeposit, moving, forgetting}
 use Rattle.sdd_atomics.specs.declared.domain_table.DomainTable.{DomainTable}
 use Rattle.sdd_atomics.specs.DomainTable.{book_of, places_of}
 use Rattle.sdd_atomics.specs.DomainSeat.{view, Knows}
@@ -25,14 +25,14 @@ module _ (b : DomainTable) (slot : ℕ) (s t u : Seat ValueFraction View) (knows
   deposit_known l is = subst (λ (k : ℕ × Sizes). l ≡ lot k.0 slot l.round l.shown (spare k.1.participants)) (λ d. (knows.1 d, knows.0 d)) is
 
   module _ (out : TakesOut slot s.me t.me) where
-    pub row_taken : HasAll γ slot n (spare n) (IsValue out.value) s.me.1 t.me.1
-    row_taken = subst (λ (k : ℕ × Sizes). HasAll k.0 slot k.1.participants (spare k.1.participants) (IsValue out.value) s.me.1 t.me.1)
+    pub row_taken : CarriesAll γ slot n (spare n) (IsValue out.value) s.me.1 t.me.1
+    row_taken = subst (λ (k : ℕ × Sizes). CarriesAll k.0 slot k.1.participants (spare k.1.participants) (IsValue out.value) s.me.1 t.me.1)
         (λ d. (knows.1 d, knows.0 d)) out.stakes
 
     module _ (joined : (u.table_id ≡ t.table_id) × (u.id ≡ t.id) × (view u ≡ view t))
-        (rows : (value : Gv) (others : CarriedFractions) → HasAll γ slot n (spare n) (IsValue value) others t.me.1
-        → HasAll γ slot n 0 (IsValue value) others u.me.1) where
-      pub row_joined : HasAll γ slot n 0 (IsValue out.value) s.me.1 u.me.1
+        (rows : (value : Gv) (others : CarriedFractions) → CarriesAll γ slot n (spare n) (IsValue value) others t.me.1
+        → CarriesAll γ slot n 0 (IsValue value) others u.me.1) where
+      pub row_joined : CarriesAll γ slot n 0 (IsValue out.value) s.me.1 u.me.1
       row_joined = rows out.value s.me.1 row_taken
 
       pub view_joined : view u ≡ moving slot (forgetting slot (view s))

@@ -5,7 +5,7 @@ use Rattle.sdd_participants.specs.declared.tally.Tally.{Tally}
 use Rattle.sdd_participants.specs.Tally.{one_more, one_made, one_reclaimed}
 use Rattle.sdd_views.specs.declared.CountsView.{CountsView}
 use Rattle.sdd_views.specs.Views.{no_counts}
-use Rattle.sdd_domain_invariant.specs.HomeSteps.{counts_added}
+use Rattle.sdd_domain_invariant.specs.FractionSteps.{counts_added}
 use Rattle.sdd_domain.specs.Receipt.{Receipt, capped, sum_of, with_reclaimed, IsTallied, AddsUp, HasTaken, made_in, reclaimed_in, in_place_in}
 
 -- an item more

@@ -8,7 +8,7 @@ use Rattle.sdd_word_invariant.specs.Words.{words_behind}
 use Rattle.sdd_word_invariant.specs.Codes.{alive, waiting, full}
 use Rattle.sdd_word_invariant.specs.SlotSteps.{behind}
 use Rattle.sdd_word_invariant.proofs.Codes.{sound, free_is, owned_is, waiting_is}
-use Rattle.sdd_domain.specs.Tied.{is_plain_word}
+use Rattle.sdd_domain.specs.WordsAndValues.{is_plain_word}
 
 pub plain_is : (x : ℕ) → IsTrue (is_plain_word x) → (x ≡ 0) ⊎ ((x ≡ 1) ⊎ (x ≡ 4))
 plain_is x plain = grind arith

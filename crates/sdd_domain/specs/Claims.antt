@@ -1,14 +1,14 @@
 -- What a try at a slot makes of what is known
 use Rattle.std.specs.Prelude.{◌≡◌, ℕ, ◌<◌, slice_index}
 use Rattle.atomic_table.specs.declared.shared.Seat.{Seat}
-use Rattle.sdd_shared_values.specs.SharedValues.{IsVacant}
+use Rattle.sdd_shared_values.specs.SharedValues.{IsNoValueCode}
 use Rattle.sdd_shared_values.specs.declared.value_fraction.ValueFraction.{ValueFraction}
 use Rattle.sdd_views.specs.declared.View.{View}
 use Rattle.sdd_word_invariant.specs.Codes.{free_word, owned_word}
 use Rattle.sdd_word_invariant.specs.Epoch.{IsLone}
 use Rattle.sdd_word_invariant.specs.SlotSteps.{behind}
 use Rattle.sdd_domain_invariant.specs.FractionsAtHome.{CarriedFractions}
-use Rattle.sdd_domain_invariant.specs.HomeSteps.{SeatState, HasAll, book_of, places_of, making}
+use Rattle.sdd_domain_invariant.specs.FractionSteps.{SeatState, CarriesAll, book_of, places_of, making}
 
 module _ {S : Type 0} where
   -- nothing has changed
@@ -34,7 +34,7 @@ module _ {S : Type 0} where
 
 -- all stakes in the slot are out, and those that were out before
 unfoldable pub AllOut : ℕ → SeatState → CarriedFractions → Type 0
-AllOut slot me xs = HasAll (book_of me) slot (places_of me) 0 IsVacant me.1 xs
+AllOut slot me xs = CarriesAll (book_of me) slot (places_of me) 0 IsNoValueCode me.1 xs
 
 -- the participant owns a slot more, for an item that it makes, whose value it is to move in
 pub record Gains (slot : ℕ) (s s' : Seat ValueFraction View) : Type 0 where

@@ -11,9 +11,9 @@ use Rattle.sdd_core.specs.declared.limits.Limits.{Limits}
 use Rattle.sdd_atomics.specs.declared.domain_table.DomainTable.{DomainTable}
 use Rattle.sdd_atomics.specs.DomainTable.{sizes_of}
 use Rattle.sdd_domain.specs.DueItems.{Pending}
-use Rattle.sdd_domain.specs.Posed.{IsPosed, IsTenureOf, AreLentTo, IsReady}
+use Rattle.sdd_domain.specs.BetweenCalls.{IsBetweenCalls, IsTenureOf, AreLentTo, IsReady}
 use Rattle.sdd_domain.specs.Receipt.{IsTallied}
-use Rattle.sdd_domain.specs.Shelf.{sizes_in}
+use Rattle.sdd_domain.specs.DomainValues.{sizes_in}
 
 -- on the board of its domain it is as between two calls, with no guard open
 pub record IsDormant (limits : Limits) (place : ℕ) (own : Participant) (due : Pending) (known_slots : ℕ) (tenure : Fraction SectionState) (token : Seat ValueFraction View)
@@ -22,7 +22,7 @@ pub record IsDormant (limits : Limits) (place : ℕ) (own : Participant) (due : 
   pub sizes : sizes_of board ≡ sizes_in limits
   pub shut : own.guards ≡ 0
   pub settled : due.items ≡ []
-  pub posed : IsPosed board place own token
+  pub posed : IsBetweenCalls board place own token
   pub tenure_is : IsTenureOf own tenure
   pub lent : AreLentTo tenure.round token.me.1
   pub ready : IsReady board own due known_slots token.me.0.slots.waits

@@ -7,13 +7,13 @@ use Rattle.sdd_participants.specs.declared.standing.Standing.{Standing}
 use Rattle.sdd_participants.specs.declared.standing.Standing.TheVariants.{Owned, Shared, Retired}
 use Rattle.sdd_views.specs.declared.ShownValue.{ShownValue}
 use Rattle.sdd_word_invariant.specs.Codes.{free_word, waiting_word}
-use Rattle.sdd_domain_invariant.specs.Fillings.{newest}
+use Rattle.sdd_domain_invariant.specs.FilledInvariant.{newest}
 use Rattle.sdd_standings.specs.Cells.{null_pointer}
 use Rattle.sdd_core.specs.declared.limits.Limits.{Limits}
 use Rattle.sdd_space.specs.World.{World, IsBlank}
 use Rattle.sdd_domain.specs.LocalState.{LocalState, word_of}
-use Rattle.sdd_domain.specs.Tied.{Entries}
-use Rattle.sdd_domain.specs.Homes.{home_in}
+use Rattle.sdd_domain.specs.WordsAndValues.{Entries}
+use Rattle.sdd_domain.specs.SpaceIds.{home_in}
 
 -- its membership, and the ledger of what it moved into slots
 pub record LocalModel (T : Type 0) : Type 0 where

@@ -8,7 +8,7 @@ use Rattle.sdd_participants.specs.declared.waiting.LimboEntry.{LimboEntry}
 use Rattle.sdd_participants.specs.declared.waiting.LimboEntry.TheVariants.{Item}
 use Rattle.sdd_participants.specs.EpochState.{newcomer, nested, settled, awaiting}
 use Rattle.sdd_space.specs.Guard.{ReaderId}
-use Rattle.sdd_space.specs.Own.{closed_with}
+use Rattle.sdd_space.specs.ParticipantChanges.{closed_with}
 use Rattle.sdd_participants.specs.declared.tally.Tally.{Tally}
 use Rattle.sdd_participants.specs.Tally.{no_items, one_made, one_reclaimed}
 use Rattle.sdd_views.specs.declared.Sizes.{Sizes}
@@ -20,8 +20,8 @@ use Rattle.sdd_word_invariant.specs.Slots.{waits_in}
 use Rattle.sdd_views.specs.Views.{bare}
 use Rattle.sdd_word_invariant.specs.SlotSteps.{blank, behind, retired_now, without_item}
 use Rattle.sdd_domain_invariant.specs.Records.{IsIn}
-use Rattle.sdd_domain_invariant.specs.Fillings.{newest}
-use Rattle.sdd_domain.specs.Waits.{aged_at, due_at, arrived_at}
+use Rattle.sdd_domain_invariant.specs.FilledInvariant.{newest}
+use Rattle.sdd_domain.specs.WaitingItems.{aged_at, due_at, arrived_at}
 
 -- the domain, the book of its values' places, its limits, the place, whose guards are the participant's, what it keeps of its own, the greatest count that it knows,
 -- the global count at its last publish (0 before the first), what it made and reclaimed, how many of each its domain has,
@@ -115,7 +115,7 @@ pub record Reclaims (slot : ℕ) (value : Gv) (old new : LocalState) : Type 0 wh
 
 -- a guard is closed; without an open one nothing happens. The last close shows nothing any more, and at countdown 0 scans, which may
 -- raise the count, to one more than it was at the publish at most; where the participant is lone the scan does, but at the last count
-pub record Closes (old new : LocalState) : Type 0 where
+pub record GuardCloses (old new : LocalState) : Type 0 where
   pub member : new ≡ record old { own = closed_with false old.own; known = new.known; slots = new.slots; shown = new.shown }
   pub unseen : old.own.guards ≡ 1 → (new.slots ≡ record old.slots { sees = [] }) × (new.shown ≡ [])
   pub seen : old.own.guards ≢ 1 → (new.slots ≡ old.slots) × (new.shown ≡ old.shown)
@@ -159,13 +159,13 @@ pub record MakesAt (slot : ℕ) (shared : Bool) (value : Gv) (old new : LocalSta
   pub lone : IsLone old → IsFree old slot
 
 -- its guards see the slot
-abbrev pub Sees : LocalState → ℕ → Type 0
-Sees m slot = 0 < times slot m.slots.sees
+abbrev pub GuardsSee : LocalState → ℕ → Type 0
+GuardsSee m slot = 0 < times slot m.slots.sees
 
 -- its guards see a slot, if they didn't before, which shows this
 pub record LooksAt (slot : ℕ) (shared : Bool) (value : Gv) (old new : LocalState) : Type 0 where
-  pub seen : Sees old slot → (new ≡ old) × IsIn old.shown slot value
-  pub unseen : ¬ (Sees old slot) → new ≡ record old {
+  pub seen : GuardsSee old slot → (new ≡ old) × IsIn old.shown slot value
+  pub unseen : ¬ (GuardsSee old slot) → new ≡ record old {
     slots = record old.slots { sees = slot ∷ old.slots.sees };
     shown = record { slot = slot; shared = shared; value = value } ∷ old.shown;
   }

@@ -2,7 +2,7 @@
 use Rattle.std.specs.Prelude.{◌≡◌, ℕ, ◌+◌, ◌^◌, ◌<◌, ◌≤◌}
 use Rattle.sdd_views.specs.declared.EpochView.{EpochView}
 use Rattle.sdd_word_invariant.specs.Epoch.{IsOpen, Scans, IsLone}
-use Rattle.sdd_word_invariant.specs.Steps.{Advances}
+use Rattle.sdd_word_invariant.specs.EpochSteps.{Advances}
 
 -- the looks went on to the place k
 abbrev pub looked_to : EpochView → ℕ → EpochView

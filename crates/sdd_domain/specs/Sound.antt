@@ -2,9 +2,9 @@
 use Rattle.std.specs.Prelude.{ℕ, ◌≡◌, List, [], Some, None, slice_index_or}
 use base.Stored.{Gv}
 use Rattle.sdd_space.specs.OwnerOrCell.{OwnerOrCell, AreOf}
-use Rattle.sdd_space.specs.Whole.{IsWhole}
+use Rattle.sdd_space.specs.WorldInvariant.{IsWhole}
 use Rattle.sdd_domain.specs.LocalState.{IsLone}
-use Rattle.sdd_domain.specs.Homes.{home_in}
+use Rattle.sdd_domain.specs.SpaceIds.{home_in}
 use Rattle.sdd_domain.specs.Local.{LocalModel, world_of}
 
 -- nothing is left to reclaim; what its values hold is of its domain; where it is lone its world is whole

@@ -9,19 +9,19 @@ use Rattle.sdd_space.specs.World.{value_at}
 use Rattle.sdd_views.specs.declared.ShownValue.{ShownValue}
 use Rattle.sdd_domain_invariant.specs.Records.{IsIn}
 use Rattle.sdd_domain.specs.LocalState.{LocalState}
-use Rattle.sdd_domain.specs.Homes.{SpaceId, home_in}
+use Rattle.sdd_domain.specs.SpaceIds.{SpaceId, home_in}
 use Rattle.sdd_domain.specs.Items as items
 use Rattle.sdd_domain.specs.Local.{LocalModel, world_of}
 
 -- by these records the slot shows this value and no other; and what the value holds is of this home
-pub record IsShown {T : Type 0} (shown : T → Gv) (holds : T → List OwnerOrCell) (at : SpaceId) (records : List ShownValue) (slot : ℕ) (value : T) : Type 0 where
+pub record RecordsShow {T : Type 0} (shown : T → Gv) (holds : T → List OwnerOrCell) (at : SpaceId) (records : List ShownValue) (slot : ℕ) (value : T) : Type 0 where
   pub known : IsIn records slot (shown value)
   pub only : (g : Gv) → IsIn records slot g → g ≡ shown value
   pub home : AreOf at (holds value)
 
 -- one of its guards sees the slot, which shows this value
-abbrev pub Sees : {T : Type 0} → (T → Gv) → (T → List OwnerOrCell) → LocalState → ℕ → T → Type 0
-Sees shown holds m = IsShown shown holds (home_in m) m.shown
+abbrev pub SeesValue : {T : Type 0} → (T → Gv) → (T → List OwnerOrCell) → LocalState → ℕ → T → Type 0
+SeesValue shown holds m = RecordsShow shown holds (home_in m) m.shown
 
 -- no other participant may be
 abbrev pub is_lone : LocalState → Bool
@@ -46,7 +46,7 @@ module _ {T : Type 0} where
   -- what a slot shows: to a lone participant the value that is in it, and else what one of its guards sees there
   abbrev pub ShowsBy : Bool → (T → Gv) → (T → List OwnerOrCell) → LocalModel T → ℕ → T → Type 0
   ShowsBy true shown holds p slot value = value_at (world_of p) slot ≡ Some value
-  ShowsBy false shown holds p slot value = Sees shown holds p.member slot value
+  ShowsBy false shown holds p slot value = SeesValue shown holds p.member slot value
 
   abbrev pub Shows : (T → Gv) → (T → List OwnerOrCell) → LocalModel T → ℕ → T → Type 0
   Shows shown holds p = ShowsBy (is_lone p.member) shown holds p

@@ -5,7 +5,7 @@ use base.Stored.{Gv, gnil, gnum, gcons}
 use denote.RattleType.{RattleType}
 use Rattle.sdd_views.specs.declared.View.{View}
 use Rattle.sdd_word_invariant.specs.SlotSteps.{Retires}
-use Rattle.sdd_domain_invariant.specs.HomeSteps.{SeatState, IsNewest, undrawing, remembering}
+use Rattle.sdd_domain_invariant.specs.FractionSteps.{SeatState, IsNewest, undrawing, remembering}
 use Rattle.sdd_shared_values.specs.SharedValues.{showing}
 use Rattle.sdd_rights.specs.declared.right.Right.{Right}
 use Rattle.sdd_rights.specs.Owner.{one-shown}

@@ -3,8 +3,8 @@ ghost use Rattle.std.specs.Prelude.{◌≡◌, ◌≤◌, ℕ, [], true, false};
 ghost use Rattle.sdd_participants.specs.EpochState.{nested};
 ghost use Rattle.sdd_participants.specs.EpochState as time;
 ghost use Rattle.sdd_atomics.specs.DomainSeat.{slots};
-ghost use Rattle.sdd_domain.specs.Waits.{ripe, due_at, Arrives, HasArrived};
-ghost use Rattle.sdd_domain.specs.Posed.{IsPosed};
+ghost use Rattle.sdd_domain.specs.WaitingItems.{ripe, due_at, Arrives, HasArrived};
+ghost use Rattle.sdd_domain.specs.BetweenCalls.{IsBetweenCalls};
 
 use crate::due_items::DueItems;
 use sdd_atomics::{DomainSeat, DomainTable, steps};
@@ -39,12 +39,12 @@ pub fn arrive(
     own: &mut Participant,
     due: &mut DueItems,
 ) -> bool
-    requires posed { IsPosed board.now place own.old token.old }
+    requires posed { IsBetweenCalls board.now place own.old token.old }
     requires closed { own.old.guards ≡ 0 }
     requires settled { ripe (slots token.old).waits ≡ [] }
     requires none { due.old.items ≡ [] }
     requires room { own.old.bags.room ≤ due.old.room }
-    ensures posed { IsPosed board.now place (nested own.new) token.new }
+    ensures posed { IsBetweenCalls board.now place (nested own.new) token.new }
     ensures arrived { (count : ℕ) × Arrives count own.old token.old token.new × HasArrived count result own.old own.new
         × (due.new.items ≡ due_at count own.old) }
     ensures room { own.old.bags.room ≤ due.new.room }

@@ -7,7 +7,7 @@ pub struct HoldsOwnDomain;
 
 impl<T: Item<T>> ValueInvariant<T> for HoldsOwnDomain {
     ghost use Rattle.sdd_space.specs.OwnerOrCell.{AreOf};
-    ghost use Rattle.sdd_domain.specs.Homes.{home_of_slots};
+    ghost use Rattle.sdd_domain.specs.SpaceIds.{home_of_slots};
 
     ghost fits = { λ table book size value. AreOf (home_of_slots table book size) (T.holds value) };
 }

@@ -1,7 +1,7 @@
 //! A participant of a domain. Where it is lone, it shows the world that its domain is then.
 ghost use Rattle.std.specs.Prelude.{◌≡◌, ◌⊎◌, IfErr, IfOk, MatchResult};
 ghost use Rattle.sdd_domain.specs.Domain.{home_of, book_of, limits_of};
-ghost use Rattle.sdd_domain.specs.Homes.{home_at, home_in};
+ghost use Rattle.sdd_domain.specs.SpaceIds.{home_at, home_in};
 ghost use Rattle.sdd_domain.specs.LocalState.{HasOpenGuard, IsLone, IsNew, waits};
 ghost use Rattle.sdd_domain.specs.Space.{slots_home};
 

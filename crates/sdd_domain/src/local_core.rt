@@ -3,14 +3,14 @@ ghost use Rattle.std.specs.Prelude.{◌≡◌, ◌↔◌, ◌⊎◌, ◌+◌, �
 ghost use Rattle.sdd_shared_values.specs.SharedValues.{showing};
 ghost use Rattle.sdd_participants.specs.EpochState.{accelerated, due_next, has_garbage, nested, settled, with_garbage};
 ghost use Rattle.sdd_views.specs.Views.{nobody};
-ghost use Rattle.sdd_word_invariant.specs.Steps.{Takes};
+ghost use Rattle.sdd_word_invariant.specs.EpochSteps.{Takes};
 ghost use Rattle.sdd_word_invariant.specs.SlotSteps.{blank};
 ghost use Rattle.sdd_atomics.specs.DomainTable.{id_of, sizes_of, places_of};
 ghost use Rattle.sdd_atomics.specs.DomainSeat.{epoch, words_known, IsSameBut};
 ghost use Rattle.sdd_domain.specs.Domain.{home_of, book_of, limits_of};
-ghost use Rattle.sdd_domain.specs.Homes.{home_at, home_in};
+ghost use Rattle.sdd_domain.specs.SpaceIds.{home_at, home_in};
 ghost use Rattle.sdd_domain.specs.Items.{slots_home};
-ghost use Rattle.sdd_domain.specs.LocalState.{waits, CanNest, HasOpenGuard, IsNew, IsEntered, GoesOn, LocalState, Reclaims, Closes, IsTold};
+ghost use Rattle.sdd_domain.specs.LocalState.{waits, CanNest, HasOpenGuard, IsNew, IsEntered, GoesOn, LocalState, Reclaims, GuardCloses, IsTold};
 ghost use Rattle.sdd_space.specs.Guard.{reader_of};
 ghost use Rattle.sdd_space.specs.OwnerOrCell.{AreOf};
 ghost use Rattle.sdd_values.specs.declared.read_sections.SectionState.TheVariants.{Closed as is_closed};
@@ -59,7 +59,7 @@ impl<'d, T: Item<T>> Model for LocalCore<'d, T> {
     ghost use Rattle.std.specs.Prelude.{◌≡◌};
     ghost use Rattle.sdd_domain.specs.Domain.{book_of};
     ghost use Rattle.sdd_domain.specs.LocalState.{LocalState};
-    ghost use Rattle.sdd_domain.specs.Posed.{IsPosed, AreLentTo, IsTenureOf, IsReady};
+    ghost use Rattle.sdd_domain.specs.BetweenCalls.{IsBetweenCalls, AreLentTo, IsTenureOf, IsReady};
     ghost use Rattle.sdd_domain.specs.Receipt.{IsTallied};
 
     ghost Value = { LocalState };
@@ -82,7 +82,7 @@ impl<'d, T: Item<T>> Model for LocalCore<'d, T> {
       due = l.due.items;
     } };
 
-    ghost invariant = { λ l. IsPosed l.domain.now.board l.place l.own l.token × (l.nesting ≡ l.domain.now.limits.nesting) × IsTenureOf l.own l.tenure × AreLentTo l.tenure.round l.token.me.1
+    ghost invariant = { λ l. IsBetweenCalls l.domain.now.board l.place l.own l.token × (l.nesting ≡ l.domain.now.limits.nesting) × IsTenureOf l.own l.tenure × AreLentTo l.tenure.round l.token.me.1
         × IsReady l.domain.now.board l.own l.due l.known.slots l.token.me.0.slots.waits
         × IsTallied 0 l.tally l.token.me.0.stakes.counts };
 }
@@ -365,7 +365,7 @@ impl<'d, T: Item<T>> LocalCore<'d, T> {
     #[inline]
     pub(crate) fn close_guard(&mut self, guard: Guard)
         requires { reader_of guard ≡ self.old.reader }
-        ensures { Closes self.old self.new }
+        ensures { GuardCloses self.old self.new }
     {
         let mut part = part_of_guard(guard);
         self.tenure.apart(&mut part);
@@ -383,7 +383,7 @@ impl<'d, T: Item<T>> LocalCore<'d, T> {
         requires last { self.old.own.guards ≡ 1 }
         requires reader { (part.home ≡ self.old.reader.home) × (part.number ≡ self.old.reader.number) }
         requires single { part.units ≡ 1 }
-        ensures { Closes self.old self.new }
+        ensures { GuardCloses self.old self.new }
     {
         let board = &self.domain.board;
         let place = self.place;

@@ -25,13 +25,13 @@ pub struct EndedLocal<T: Item<T>> {
 
 impl<T: Item<T>> Model for EndedLocal<T> {
     ghost use Rattle.sdd_domain.specs.Local.{LocalModel};
-    ghost use Rattle.sdd_domain.specs.Tied.{IsTied};
+    ghost use Rattle.sdd_domain.specs.WordsAndValues.{WordsMatchValues};
 
     ghost Value = { LocalModel T };
 
     ghost view = { λ e. record { member = e.dormant; entries = e.ledger.entries } };
 
-    ghost invariant = { λ e. IsTied e.dormant e.ledger.entries };
+    ghost invariant = { λ e. WordsMatchValues e.dormant e.ledger.entries };
 }
 
 /// What is left of a participant.

@@ -1,16 +1,16 @@
 //! A change reclaims what is due, and a value that is reclaimed gives up what it holds.
 ghost use Rattle.std.specs.Prelude.{◌≡◌, ◌+◌, ◌≤◌, ℕ, List, [], length};
 ghost use Rattle.sdd_space.specs.KnownEpochs.{KnowsOn};
-ghost use Rattle.sdd_space.specs.Own.{GrowsOn, all_awaiting};
+ghost use Rattle.sdd_space.specs.ParticipantChanges.{KeepsMoreWaiting, all_awaiting};
 ghost use Rattle.sdd_space.specs.Owned as owned;
 ghost use Rattle.sdd_space.specs.RawCell as raw_cell;
 ghost use Rattle.sdd_space.specs.CallerId.{IsSeated, IsExact};
 ghost use Rattle.sdd_space.specs.Shared as shared;
-ghost use Rattle.sdd_space.specs.Steps.{given, given_all, all_reclaimed};
-ghost use Rattle.sdd_space.specs.Steps as steps;
+ghost use Rattle.sdd_space.specs.WorldChanges.{given, given_all, all_reclaimed};
+ghost use Rattle.sdd_space.specs.WorldChanges as steps;
 ghost use Rattle.sdd_participants.specs.EpochState.{awaiting, settled};
 ghost use Rattle.sdd_participants.specs.declared.waiting.LimboEntry.TheVariants.{Item as item};
-ghost use Rattle.sdd_domain.specs.Homes.{home_in};
+ghost use Rattle.sdd_domain.specs.SpaceIds.{home_in};
 ghost use Rattle.sdd_domain.specs.Local.{LocalModel};
 ghost use Rattle.sdd_domain.specs.LocalState.{HasOpenGuard, IsLone};
 ghost use Rattle.sdd_domain.specs.Receipt.{with_reclaimed};
@@ -34,13 +34,13 @@ pub struct LocalGiver<'d, T: Item<T>> {
 
 impl<'d, T: Item<T>> Model for LocalGiver<'d, T> {
     ghost use Rattle.sdd_domain.specs.Local.{LocalModel};
-    ghost use Rattle.sdd_domain.specs.Tied.{IsTied};
+    ghost use Rattle.sdd_domain.specs.WordsAndValues.{WordsMatchValues};
 
     ghost Value = { LocalModel T };
 
     ghost view = { λ p. record { member = p.membership; entries = p.ledger.entries } };
 
-    ghost invariant = { λ p. IsTied p.membership p.ledger.entries };
+    ghost invariant = { λ p. WordsMatchValues p.membership p.ledger.entries };
 }
 
 /// It retires what it is given.
@@ -61,7 +61,7 @@ impl<T: Item<T>> Giver<T> for LocalGiver<'_, T> {
         requires seated { IsSeated (seat_of self.old) }
         requires home { owned.slots_home owner ≡ (home_in self.old.member).slots }
         ensures seat { seat_of self.new ≡ seat_of self.old }
-        ensures own { GrowsOn self.old.member.own self.new.member.own }
+        ensures own { KeepsMoreWaiting self.old.member.own self.new.member.own }
         ensures known { KnowsOn (known_of self.old) (known_of self.new) }
         ensures kept { kept_of self.new ≡ kept_of self.old }
         ensures waits { self.new.member.own ≡ awaiting (item (owned.slot_of owner)) self.old.member.own }
@@ -75,7 +75,7 @@ impl<T: Item<T>> Giver<T> for LocalGiver<'_, T> {
         requires seated { IsSeated (seat_of self.old) }
         requires home { shared.slots_home owner ≡ (home_in self.old.member).slots }
         ensures seat { seat_of self.new ≡ seat_of self.old }
-        ensures own { GrowsOn self.old.member.own self.new.member.own }
+        ensures own { KeepsMoreWaiting self.old.member.own self.new.member.own }
         ensures known { KnowsOn (known_of self.old) (known_of self.new) }
         ensures kept { kept_of self.new ≡ kept_of self.old }
         ensures exact { IsExact (seat_of self.old) → world_of self.new ≡ given (world_of self.old) self.old.member.place (shared.holding_of owner) }
@@ -88,7 +88,7 @@ impl<T: Item<T>> Giver<T> for LocalGiver<'_, T> {
         requires seated { IsSeated (seat_of self.old) }
         requires home { owned.cells_home cell ≡ (home_in self.old.member).cells }
         ensures seat { seat_of self.new ≡ seat_of self.old }
-        ensures own { GrowsOn self.old.member.own self.new.member.own }
+        ensures own { KeepsMoreWaiting self.old.member.own self.new.member.own }
         ensures known { KnowsOn (known_of self.old) (known_of self.new) }
         ensures kept { kept_of self.new ≡ kept_of self.old }
         ensures exact { IsExact (seat_of self.old) → world_of self.new ≡ given (world_of self.old) self.old.member.place (owned.cell_holding cell) }
@@ -100,7 +100,7 @@ impl<T: Item<T>> Giver<T> for LocalGiver<'_, T> {
         requires seated { IsSeated (seat_of self.old) }
         requires home { shared.cells_home cell ≡ (home_in self.old.member).cells }
         ensures seat { seat_of self.new ≡ seat_of self.old }
-        ensures own { GrowsOn self.old.member.own self.new.member.own }
+        ensures own { KeepsMoreWaiting self.old.member.own self.new.member.own }
         ensures known { KnowsOn (known_of self.old) (known_of self.new) }
         ensures kept { kept_of self.new ≡ kept_of self.old }
         ensures exact { IsExact (seat_of self.old) → world_of self.new ≡ given (world_of self.old) self.old.member.place (shared.cell_holding cell) }
@@ -112,7 +112,7 @@ impl<T: Item<T>> Giver<T> for LocalGiver<'_, T> {
         requires seated { IsSeated (seat_of self.old) }
         requires home { raw_cell.cells_home cell ≡ (home_in self.old.member).cells }
         ensures seat { seat_of self.new ≡ seat_of self.old }
-        ensures own { GrowsOn self.old.member.own self.new.member.own }
+        ensures own { KeepsMoreWaiting self.old.member.own self.new.member.own }
         ensures known { KnowsOn (known_of self.old) (known_of self.new) }
         ensures kept { kept_of self.new ≡ kept_of self.old }
         ensures exact { IsExact (seat_of self.old) → world_of self.new ≡ given (world_of self.old) self.old.member.place (raw_cell.cell_holding cell) }
@@ -124,7 +124,7 @@ impl<T: Item<T>> Giver<T> for LocalGiver<'_, T> {
 impl<T: Item<T>> LocalGiver<'_, T> {
     /// What is due is reclaimed, one after another, and what each value held is retired then.
     fn reclaim_due(&mut self)
-        ensures own { GrowsOn self.old.member.own self.new.member.own }
+        ensures own { KeepsMoreWaiting self.old.member.own self.new.member.own }
         ensures none { self.old.member.due ≡ [] → self.new.member.own ≡ self.old.member.own }
         ensures known { KnowsOn (known_of self.old) (known_of self.new) }
         ensures rest { rest_of self.new ≡ rest_of self.old }

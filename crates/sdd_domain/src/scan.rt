@@ -1,7 +1,7 @@
 //! A scan of all places.
 ghost use Rattle.std.specs.Prelude.{◌≡◌, ℕ, ◌<◌, true, false};
 ghost use Rattle.sdd_word_invariant.specs.Epoch.{IsOpen, Scans};
-ghost use Rattle.sdd_word_invariant.specs.Steps.{IsNext, Locks, passed_by};
+ghost use Rattle.sdd_word_invariant.specs.EpochSteps.{IsNext, Locks, passed_by};
 ghost use Rattle.sdd_atomics.specs.DomainTable.{id_of, places_of};
 ghost use Rattle.sdd_atomics.specs.DomainSeat.{epoch, IsSameBut, Stepped};
 ghost use Rattle.sdd_domain.specs.Scan.{looked_to, Raises, Scanned};

@@ -10,7 +10,7 @@ use sdd_space::inner::value_of_ptr;
 use sdd_space::{Caller, Guard, Guards, Item, Items, Look, LookThrough, Ptr, Shows};
 
 impl<T: Item<T>> Shows<T> for Local<'_, T> {
-    ghost use Rattle.sdd_domain.specs.Homes.{home_in};
+    ghost use Rattle.sdd_domain.specs.SpaceIds.{home_in};
     ghost use Rattle.sdd_domain.specs.Items.{HasValue};
     ghost use Rattle.sdd_domain.specs.Space.{Shows};
     ghost use Rattle.sdd_domain.specs.Values.{one_value};
@@ -63,7 +63,7 @@ impl<T: Item<T>> LookThrough<T> for Local<'_, T> {
 impl<T: Item<T>> Shows<T> for Domain<T> {
     ghost use Rattle.sdd_domain.specs.Domain.{home_of, book_of, limits_of};
     ghost use Rattle.sdd_domain.specs.Items.{HasValue};
-    ghost use Rattle.sdd_domain.specs.Homes.{home_at};
+    ghost use Rattle.sdd_domain.specs.SpaceIds.{home_at};
     ghost use Rattle.sdd_domain.specs.Values.{one_value};
 
     ghost home = { λ d. home_at (home_of d) (book_of d) (limits_of d) };

@@ -1,19 +1,19 @@
 //! A value comes into the place of a slot, and leaves it.
 ghost use Rattle.std.specs.Prelude.{◌≡◌, ◌<◌, suc, drop, [], ◌∷◌, None};
 ghost use base.Stored.{Gv};
-ghost use Rattle.sdd_shared_values.specs.SharedValues.{IsVacant, showing};
+ghost use Rattle.sdd_shared_values.specs.SharedValues.{IsNoValueCode, showing};
 ghost use Rattle.sdd_word_invariant.specs.Codes.{free_word, waiting_word};
 ghost use Rattle.sdd_word_invariant.specs.Epoch.{HasPlace, IsLone};
 ghost use Rattle.sdd_word_invariant.specs.Slots.{Holds};
 ghost use Rattle.sdd_word_invariant.specs.SlotSteps.{IsDue};
 ghost use Rattle.sdd_domain_invariant.specs.FractionsAtHome.{CarriedFractions, Moves};
-ghost use Rattle.sdd_domain_invariant.specs.HomeSteps.{HasAll, resting};
+ghost use Rattle.sdd_domain_invariant.specs.FractionSteps.{CarriesAll, resting};
 ghost use Rattle.sdd_domain_invariant.specs.Records.{IsIn};
 ghost use Rattle.sdd_atomics.specs.DomainTable.{id_of, book_of, places_of, slots_of};
 ghost use Rattle.sdd_space.specs.OwnerOrCell.{AreOf};
-ghost use Rattle.sdd_domain.specs.Homes.{home_of_slots};
-ghost use Rattle.sdd_domain.specs.Shelf.{IsShelfOf};
-ghost use Rattle.sdd_domain.specs.Waits.{GivesOneBack};
+ghost use Rattle.sdd_domain.specs.SpaceIds.{home_of_slots};
+ghost use Rattle.sdd_domain.specs.DomainValues.{IsShelfOf};
+ghost use Rattle.sdd_domain.specs.WaitingItems.{GivesOneBack};
 ghost use Rattle.sdd_rights.specs.Owner.{witness_of_owner};
 ghost use Rattle.sdd_atomics.specs.Owner.{disowned};
 ghost use Rattle.sdd_atomics.specs.Grips.{IsGripOf, IsUnitOf};
@@ -48,7 +48,7 @@ pub fn put_value<T: Item<T>>(
     requires place { HasPlace (epoch token.old) }
     requires own { Moves (view token.old) slot × ((slots token.old).owns ≡ slot ∷ []) × ((view token.old).stakes.owns ≡ []) }
     requires free { ((slots token.old).holds ≡ None) × ((slots token.old).drawn ≡ []) }
-    requires row { (rest : CarriedFractions) × HasAll (book_of board.now) slot (places_of board.now) 0 IsVacant rest token.old.me.1 }
+    requires row { (rest : CarriedFractions) × CarriesAll (book_of board.now) slot (places_of board.now) 0 IsNoValueCode rest token.old.me.1 }
     ensures home { (token.new.table_id ≡ token.old.table_id) × (token.new.id ≡ token.old.id) }
     ensures view { view token.new ≡ disowned (resting (with_filled slot shared (showing T.row value) (view token.old))) }
     ensures given { token.new.me.1 ≡ drop (suc (places_of board.now)) token.old.me.1 }

@@ -20,7 +20,7 @@ use Rattle.sdd_word_invariant.proofs.Frame.{each_set, each_snoc}
 use Rattle.sdd_word_invariant.proofs.Sums.{is_same, is_other, total_set, total_snoc, total_has, total_two}
 use Rattle.sdd_domain_invariant.specs.FractionsAtHome.{spare, full_at, Moves}
 use Rattle.sdd_domain_invariant.proofs.Records.{IsAlike}
-use Rattle.sdd_domain_invariant.specs.Banked.{founded, bank_of, drawn_at, moved_in, moves_at, one_where, offices, deposited, banked, IsBank, outside, Balances, BankPart}
+use Rattle.sdd_domain_invariant.specs.BankInvariant.{founded, bank_of, drawn_at, moved_in, moves_at, one_where, offices, deposited, banked, IsBank, outside, Balances, BankInvariant}
 
 -- ---- who moves a slot's value
 moved_is : (i : ℕ) (o : Option ℕ) → 0 < moved_in i o → o ≡ Some i
@@ -120,11 +120,11 @@ alike_steady v w same = let is = same.0 in record {
 pub alike_units : (v w : View) → IsAlike v w → HasUnits v → HasUnits w
 alike_units v w same low i = let d = ap (times i) same.4 in let a = ap (times i) same.1 in let b = ap (times i) same.5 in let l = low i in omega arith
 
-module _ (γ : ℕ) (sizes : Sizes) (ws : List ℕ) (vs : List View) (p : BankPart γ sizes ws vs) where
+module _ (γ : ℕ) (sizes : Sizes) (ws : List ℕ) (vs : List View) (p : BankInvariant γ sizes ws vs) where
   -- all offices and units are where they were, or with another
   pub shifted : (ws' : List ℕ) (vs' : List View) → total offices vs' ≡ total offices vs → ((j : ℕ) (u : View) → get_elem? vs' j ≡ some u → HasUnits u)
       → ((i : ℕ) → total (drawn_at i) vs' ≡ total (drawn_at i) vs) → ((i : ℕ) → i < sizes.slots → outside sizes ws' vs' i ≡ outside sizes ws vs i)
-      → ((j : ℕ) (u : View) → get_elem? vs' j ≡ some u → KeepsOffice vs u) → BankPart γ sizes ws' vs'
+      → ((j : ℕ) (u : View) → get_elem? vs' j ≡ some u → KeepsOffice vs u) → BankInvariant γ sizes ws' vs'
   shifted ws' vs' sum low drawn same old = record {
     single = let o = p.single in omega arith;
     low = low;
@@ -140,7 +140,7 @@ module _ (γ : ℕ) (sizes : Sizes) (ws : List ℕ) (vs : List View) (p : BankPa
 
   -- a new token
   pub arrives : (t : View) → t.stakes.founds ≡ false → t.stakes.bank ≡ false → t.slots.drawn ≡ [] → t.stakes.moves ≡ None
-      → BankPart γ sizes ws (vs ++ t ∷ [])
+      → BankInvariant γ sizes ws (vs ++ t ∷ [])
   arrives t founds bank drawn rests = shifted ws (vs ++ t ∷ [])
       (let a = total_snoc offices vs t in let e : offices t ≡ 0 = λ d. one_where (bank d) + one_where (founds d) in omega arith)
       (each_snoc HasUnits vs t p.low (λ i. let z = ap (times i) drawn in omega arith))
@@ -161,7 +161,7 @@ module _ (γ : ℕ) (sizes : Sizes) (ws : List ℕ) (vs : List View) (p : BankPa
         omega arith
 
     pub steady : (ws' : List ℕ) (w : View) → IsSteady v w → HasUnits w
-        → ((i : ℕ) → i < sizes.slots → outside sizes ws' (set vs id w) i ≡ outside sizes ws vs i) → BankPart γ sizes ws' (set vs id w)
+        → ((i : ℕ) → i < sizes.slots → outside sizes ws' (set vs id w) i ≡ outside sizes ws vs i) → BankInvariant γ sizes ws' (set vs id w)
     steady ws' w s mine same = shifted ws' (set vs id w) (steady_offices w s)
         (each_set HasUnits HasUnits vs id w mine (λ j u _ e. p.low j u e))
         (λ i. let t = total_set (drawn_at i) vs id v w at in let e = ap (times i) s.drawn in omega arith) same
@@ -169,18 +169,18 @@ module _ (γ : ℕ) (sizes : Sizes) (ws : List ℕ) (vs : List View) (p : BankPa
 
     -- and it moves the values that it moved, and slots are as full as they were
     pub calm : (ws' : List ℕ) (w : View) → IsSteady v w → w.stakes.moves ≡ v.stakes.moves → HasUnits w
-        → ((i : ℕ) → i < sizes.slots → full_at sizes ws' i ≡ full_at sizes ws i) → BankPart γ sizes ws' (set vs id w)
+        → ((i : ℕ) → i < sizes.slots → full_at sizes ws' i ≡ full_at sizes ws i) → BankInvariant γ sizes ws' (set vs id w)
     calm ws' w s moves mine same = steady ws' w s mine (λ i near. outside_same sizes ws ws' vs (set vs id w) i (same i near)
         (let t = total_set (moves_at i) vs id v w at in let e = ap (moved_in i) moves in omega arith))
 
     pub alike : (ws' : List ℕ) (w : View) → IsAlike v w → ((i : ℕ) → i < sizes.slots → full_at sizes ws' i ≡ full_at sizes ws i)
-        → BankPart γ sizes ws' (set vs id w)
+        → BankInvariant γ sizes ws' (set vs id w)
     alike ws' w same full = calm ws' w (alike_steady v w same) (ap (λ (s : FractionsView). s.moves) same.0) (alike_units v w same (p.low id v at)) full
 
     -- it comes to move the value of a free slot, or moved it and leaves it free: before and after nothing of it is outside; the others are as they were
     pub moves_over : (ws' : List ℕ) (w : View) (slot : ℕ) → IsSteady v w → HasUnits w → outside sizes ws vs slot ≡ 0
         → outside sizes ws' (set vs id w) slot ≡ 0 → ((i : ℕ) → i ≢ slot → moves_at i w ≡ moves_at i v)
-        → ((i : ℕ) → i < sizes.slots → i ≢ slot → full_at sizes ws' i ≡ full_at sizes ws i) → BankPart γ sizes ws' (set vs id w)
+        → ((i : ℕ) → i < sizes.slots → i ≢ slot → full_at sizes ws' i ≡ full_at sizes ws i) → BankInvariant γ sizes ws' (set vs id w)
     moves_over ws' w slot s mine before after moves same = steady ws' w s mine (λ i near. dite (ℕ_discrete i slot)
         (λ e. ap (outside sizes ws' (set vs id w)) e ∙ (after ∙ sym (ap (outside sizes ws vs) e ∙ before)))
         (λ ne. outside_same sizes ws ws' vs (set vs id w) i (same i near ne)
@@ -215,7 +215,7 @@ module _ (γ : ℕ) (sizes : Sizes) (ws : List ℕ) (vs : List View) (p : BankPa
 
     -- units go to a token of their own, with their owners
     pub parts : (w t : View) → KeepsPost w → t.stakes.founds ≡ false → t.stakes.bank ≡ false → t.stakes.moves ≡ None → HasUnits w → HasUnits t
-        → ((i : ℕ) → drawn_at i w + drawn_at i t ≡ drawn_at i v) → BankPart γ sizes ws (set vs id w ++ t ∷ [])
+        → ((i : ℕ) → drawn_at i w + drawn_at i t ≡ drawn_at i v) → BankInvariant γ sizes ws (set vs id w ++ t ∷ [])
     parts w t post founds bank rests low low' drawn = let us : List View = set vs id w in shifted ws (us ++ t ∷ [])
         (let a = total_set offices vs id v w at in let b = total_snoc offices us t in let e = kept_offices w post in
         let z : offices t ≡ 0 = (λ d. one_where (bank d) + one_where (founds d)) in omega arith)
@@ -231,7 +231,7 @@ module _ (γ : ℕ) (sizes : Sizes) (ws : List ℕ) (vs : List View) (p : BankPa
     pub joins : (other : ℕ) (t t' w : View) → get_elem? (set vs id w) other ≡ some t → other ≢ id → KeepsPost w → t.stakes.founds ≡ false
         → t.stakes.bank ≡ false → t.stakes.moves ≡ None → t'.stakes.founds ≡ false → t'.stakes.bank ≡ false → t'.stakes.moves ≡ None
         → t'.slots.drawn ≡ [] → HasUnits w → ((i : ℕ) → drawn_at i w ≡ drawn_at i v + drawn_at i t)
-        → BankPart γ sizes ws (set (set vs id w) other t')
+        → BankInvariant γ sizes ws (set (set vs id w) other t')
     joins other t t' w there apart post founds bank rests founds' bank' rests' drawn' low drawn = let us : List View = set vs id w in
         shifted ws (set us other t')
         (let a = total_set offices vs id v w at in let b = total_set offices us other t t' there in let e = kept_offices w post in
@@ -248,7 +248,7 @@ module _ (γ : ℕ) (sizes : Sizes) (ws : List ℕ) (vs : List View) (p : BankPa
         (λ j u _ e. each_set (KeepsOffice vs) (KeepsOffice vs) vs id w (kept_office w post) (λ j u _ e. same_office vs j u e) j u e))
 
     -- the bank is founded, which has nothing yet
-    pub bank_founded : v.stakes.founds ≡ true → v.stakes.book ≡ γ → BankPart γ sizes ws (set vs id (founded v) ++ bank_of v ∷ [])
+    pub bank_founded : v.stakes.founds ≡ true → v.stakes.book ≡ γ → BankInvariant γ sizes ws (set vs id (founded v) ++ bank_of v ∷ [])
     bank_founded may book = let w : View = founded v in let t : View = bank_of v in let us : List View = set vs id w in
         let vs' : List View = us ++ t ∷ [] in
         let drawn : (i : ℕ) → total (drawn_at i) vs' ≡ total (drawn_at i) vs
@@ -294,7 +294,7 @@ module _ (γ : ℕ) (sizes : Sizes) (ws : List ℕ) (vs : List View) (p : BankPa
 
       pub deals : (w : View) (ls : List FractionContent) → AreDeposits γ ls → w.stakes.bank ≡ v.stakes.bank → w.stakes.founds ≡ v.stakes.founds → HasUnits w
           → ((i : ℕ) → i < sizes.slots → units_at i ls + drawn_at i w + outside sizes ws vs i
-          ≡ units_at i (banked b) + drawn_at i v + outside sizes ws (after w ls) i) → BankPart γ sizes ws (after w ls)
+          ≡ units_at i (banked b) + drawn_at i v + outside sizes ws (after w ls) i) → BankInvariant γ sizes ws (after w ls)
       deals w ls are bank founds mine balance = let b' : View = with_deposits ls b in let vs' : List View = after w ls in let old = p.banks bd b there is in
           let held : get_elem? vs' bd ≡ some b' = set_here (set vs id w) bd b' (at_length (set vs id w) bd b (still_there w)) in
           let few : total offices vs' ≤ 1 = (let t = total_dealt offices w ls refl in

@@ -18,7 +18,7 @@ use Rattle.sdd_word_invariant.specs.Slots.{slot_at}
 use Rattle.sdd_word_invariant.proofs.Barred.{Spares}
 use Rattle.sdd_word_invariant.proofs.Frame.{each_set, each_snoc}
 use Rattle.sdd_word_invariant.proofs.Sums.{total_set, total_snoc, span_same, span_set}
-use Rattle.sdd_domain_invariant.specs.Counts.{made_by, gone_by, over_by, over, ended_places, full_slots, CountsByPlace, CountsPart}
+use Rattle.sdd_domain_invariant.specs.Counts.{made_by, gone_by, over_by, over, ended_places, full_slots, CountsByPlace, CountsInvariant}
 
 -- ---- places that have ended, or are barred
 over_is : (x : ℕ) → 3 ≤ x → over x ≡ 1
@@ -78,14 +78,14 @@ pub one_full : (sizes : Sizes) (ws : List ℕ) (slot y : ℕ) → slot < sizes.s
 one_full sizes ws slot y low long = span_set full ws (first_slot sizes) sizes.slots slot y low (omega arith)
 
 -- ---- the part
-module _ (sizes : Sizes) (ws : List ℕ) (vs : List View) (c : CountsPart sizes ws vs) where
+module _ (sizes : Sizes) (ws : List ℕ) (vs : List View) (c : CountsInvariant sizes ws vs) where
   abbrev n : ℕ
   n = sizes.participants
 
   module _ (id : ℕ) (v : View) (at : get_elem? vs id ≡ some v) where
     -- what is made, given back, or ends is counted
     pub counted : (ws' : List ℕ) (w : View) → made_by w + gone_by v + full_slots sizes ws ≡ made_by v + gone_by w + full_slots sizes ws'
-        → over_by w + ended_places ws n ≤ over_by v + ended_places ws' n → CountsByPlace w → CountsPart sizes ws' (set vs id w)
+        → over_by w + ended_places ws n ≤ over_by v + ended_places ws' n → CountsByPlace w → CountsInvariant sizes ws' (set vs id w)
     counted ws' w items places mine = record {
       items = let a = total_set made_by vs id v w at in let b = total_set gone_by vs id v w at in let d = c.items in omega arith;
       places = let a = total_set over_by vs id v w at in let d = c.places in omega arith;
@@ -94,18 +94,18 @@ module _ (sizes : Sizes) (ws : List ℕ) (vs : List View) (c : CountsPart sizes 
 
     -- nothing is
     pub uncounted : (ws' : List ℕ) (w : View) → w.stakes.counts ≡ v.stakes.counts → (HasPlace v.epoch → HasPlace w.epoch)
-        → full_slots sizes ws' ≡ full_slots sizes ws → ended_places ws n ≤ ended_places ws' n → CountsPart sizes ws' (set vs id w)
+        → full_slots sizes ws' ≡ full_slots sizes ws → ended_places ws n ≤ ended_places ws' n → CountsInvariant sizes ws' (set vs id w)
     uncounted ws' w same lives filled ended = let m = ap (λ (x : CountsView). x.made) same in let g = ap (λ (x : CountsView). x.gone) same in
         let o = ap (λ (x : CountsView). x.over) same in counted ws' w (omega arith) (omega arith)
         (λ none never. let old = c.each id v at (dite (dec_lt 0 v.epoch.state) (λ live. absurd (let l = lives live in omega arith)) (λ z. omega arith))
         (omega arith) in (m ∙ old.0, g ∙ old.1))
 
     -- on no word
-    pub uncounted_alone : (w : View) → w.stakes.counts ≡ v.stakes.counts → w.epoch.state ≡ v.epoch.state → CountsPart sizes ws (set vs id w)
+    pub uncounted_alone : (w : View) → w.stakes.counts ≡ v.stakes.counts → w.epoch.state ≡ v.epoch.state → CountsInvariant sizes ws (set vs id w)
     uncounted_alone w same state = uncounted ws w same (λ live. omega arith) refl (omega arith)
 
   -- a new token
-  pub more_counts : (t : View) → made_by t ≡ 0 → gone_by t ≡ 0 → over_by t ≡ 0 → CountsPart sizes ws (vs ++ t ∷ [])
+  pub more_counts : (t : View) → made_by t ≡ 0 → gone_by t ≡ 0 → over_by t ≡ 0 → CountsInvariant sizes ws (vs ++ t ∷ [])
   more_counts t made gone over = record {
     items = let a = total_snoc made_by vs t in let b = total_snoc gone_by vs t in let d = c.items in omega arith;
     places = let a = total_snoc over_by vs t in let d = c.places in omega arith;

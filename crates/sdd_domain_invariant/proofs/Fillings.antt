@@ -9,12 +9,12 @@ use Rattle.sdd_views.specs.declared.ShownValue.{ShownValue}
 use Rattle.sdd_views.specs.declared.FractionsView.{FractionsView}
 use Rattle.sdd_views.specs.declared.View.{View}
 use Rattle.sdd_views.specs.declared.Sizes.{Sizes}
-use Rattle.sdd_word_invariant.specs.Epoch.{HasPlace, EpochPart}
-use Rattle.sdd_word_invariant.specs.Parts.{epoch_of}
+use Rattle.sdd_word_invariant.specs.Epoch.{HasPlace, EpochInvariant}
+use Rattle.sdd_word_invariant.specs.WordInvariant.{epoch_of}
 use Rattle.sdd_word_invariant.proofs.Epoch.{no_other}
 use Rattle.sdd_word_invariant.proofs.Sums.{at_filter}
-use Rattle.sdd_domain_invariant.specs.Fillings.{newest, HasRecord, Tells, FilledPart}
-use Rattle.sdd_domain_invariant.specs.HomeSteps.{without_record}
+use Rattle.sdd_domain_invariant.specs.FilledInvariant.{newest, HasRecord, Tells, FilledInvariant}
+use Rattle.sdd_domain_invariant.specs.FractionSteps.{without_record}
 use Rattle.sdd_domain_invariant.proofs.Records.{IsAlike}
 
 -- ---- the newest record
@@ -61,14 +61,14 @@ pub told_by : (w v : View) → ((r : ShownValue) → HasRecord w.stakes.owns r �
     → (r : ShownValue) → Tells w r → Tells v r
 told_by w v owns waits r t = ⊎_elim (owns r) (waits r) t
 
-module _ (sizes : Sizes) (vs : List View) (f : FilledPart sizes vs) where
+module _ (sizes : Sizes) (vs : List View) (f : FilledInvariant sizes vs) where
   -- what a lone participant knows of such a slot
   pub knows_told : sizes.participants ≡ 1 → (j : ℕ) (v : View) → get_elem? vs j ≡ some v → HasPlace v.epoch → (r : ShownValue) → IsTold vs r
       → newest r.slot v.stakes.filled ≡ Some r
   knows_told one j v at live r t = f.knows one j t.0 v t.1 r at live t.2 t.3
 
   -- a new token without a place
-  pub filled_more : (t : View) → TellsNoMore t vs → ¬ (HasPlace t.epoch) → FilledPart sizes (vs ++ t ∷ [])
+  pub filled_more : (t : View) → TellsNoMore t vs → ¬ (HasPlace t.epoch) → FilledInvariant sizes (vs ++ t ∷ [])
   filled_more t tells none = record {
     knows = λ one j k v u r e live e' told.
         let known : IsTold vs r = ⊎_elim (λ (a : get_elem? vs k ≡ some u). (k, u, a, told))
@@ -87,7 +87,7 @@ module _ (sizes : Sizes) (vs : List View) (f : FilledPart sizes vs) where
 
     -- it tells of no slot more, and moved nothing in; if it has a place now it had one, or nothing was told at all
     pub filled_after : (w : View) → w.stakes.filled ≡ v.stakes.filled → TellsNoMore w vs
-        → (sizes.participants ≡ 1 → HasPlace w.epoch → HasPlace v.epoch ⊎ NoneTold vs) → FilledPart sizes (set vs id w)
+        → (sizes.participants ≡ 1 → HasPlace w.epoch → HasPlace v.epoch ⊎ NoneTold vs) → FilledInvariant sizes (set vs id w)
     filled_after w same tells had = record {
       knows = λ one j k x u r e live e' told.
           let known : IsTold vs r = ⊎_elim (λ (a : (k ≡ id) × (w ≡ u)). tells r (subst (λ (y : View). Tells y r) (sym a.1) told))
@@ -102,18 +102,18 @@ module _ (sizes : Sizes) (vs : List View) (f : FilledPart sizes vs) where
 
     -- the same where it tells of the same
     pub filled_same : (w : View) → w.stakes.filled ≡ v.stakes.filled → w.stakes.owns ≡ v.stakes.owns → w.stakes.waits ≡ v.stakes.waits
-        → (HasPlace w.epoch → HasPlace v.epoch) → FilledPart sizes (set vs id w)
+        → (HasPlace w.epoch → HasPlace v.epoch) → FilledInvariant sizes (set vs id w)
     filled_same w same owns waits had = filled_after w same (tells_same w owns waits) (λ _ live. inl (had live))
 
     -- what it knows of stakes is as before
-    pub filled_alike : (w : View) → IsAlike v w → (sizes.participants ≡ 1 → HasPlace w.epoch → HasPlace v.epoch ⊎ NoneTold vs) → FilledPart sizes (set vs id w)
+    pub filled_alike : (w : View) → IsAlike v w → (sizes.participants ≡ 1 → HasPlace w.epoch → HasPlace v.epoch ⊎ NoneTold vs) → FilledInvariant sizes (set vs id w)
     filled_alike w same had = filled_after w (ap (λ (s : FractionsView). s.filled) same.0)
         (tells_same w (ap (λ (s : FractionsView). s.owns) same.0) (ap (λ (s : FractionsView). s.waits) same.0)) had
 
     -- it moved something into a slot of which nothing was told
-    pub filled_housed : (ws : List ℕ) → EpochPart sizes.participants ws (map epoch_of vs) → HasPlace v.epoch → (now : ShownValue)
+    pub filled_housed : (ws : List ℕ) → EpochInvariant sizes.participants ws (map epoch_of vs) → HasPlace v.epoch → (now : ShownValue)
         → ((r : ShownValue) → IsTold vs r → now.slot ≢ r.slot) → (w : View) → w.stakes.owns ≡ now ∷ v.stakes.owns → w.stakes.waits ≡ v.stakes.waits
-        → w.stakes.filled ≡ now ∷ v.stakes.filled → FilledPart sizes (set vs id w)
+        → w.stakes.filled ≡ now ∷ v.stakes.filled → FilledInvariant sizes (set vs id w)
     filled_housed ws epochs live now apart w owns waits filled = record {
       knows = λ one j k x u r e placed e' told.
           let old : IsTold vs r → newest r.slot (now ∷ v.stakes.filled) ≡ Some r

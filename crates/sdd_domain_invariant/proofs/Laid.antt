@@ -7,7 +7,7 @@ use lib.ListN.{get_elem?}
 use base.Stored.{Gv}
 use Rattle.atomic_table.proofs.Lists.{at_longer, at_last}
 use Rattle.sdd_shared_values.specs.ValueFractions.{FractionContent}
-use Rattle.sdd_shared_values.specs.SharedValues.{most, lot, vacant, IsWhole, IsVacant, AreVacant}
+use Rattle.sdd_shared_values.specs.SharedValues.{most, lot, vacant, HasAllUnits, IsNoValueCode, AreVacant}
 use Rattle.sdd_shared_values.specs.declared.value_fraction.ValueFraction.{ValueFraction}
 use Rattle.sdd_domain_invariant.specs.FractionsAtHome.{stake_at, homes_for, share, Has, AreLaidTo}
 use Rattle.sdd_domain_invariant.proofs.Places.{one_slot, one_stake}
@@ -131,7 +131,7 @@ module _ (γ i n : ℕ) where
       (subst (λ (u : ℕ). y.lot ≡ lot γ i y.lot.round y.lot.shown u) (e' ∙ sym (ap (share n o) e ∙ share_last n o)) is, so)
 
 -- ---- the stakes of a stock
-pub vacant_more : (γ i j n m : ℕ) (h : FractionContent) (hs : List FractionContent) → j ≡ i + 1 → m ≡ n + 1 → IsWhole γ i h → IsVacant h.shown → AreVacant γ j n hs
+pub vacant_more : (γ i j n m : ℕ) (h : FractionContent) (hs : List FractionContent) → j ≡ i + 1 → m ≡ n + 1 → HasAllUnits γ i h → IsNoValueCode h.shown → AreVacant γ j n hs
     → AreVacant γ i m (h ∷ hs)
 vacant_more γ i j n m h hs e e' whole vacant rest = subst (λ (k : ℕ). AreVacant γ i k (h ∷ hs)) (let f : suc n ≡ m = omega arith in f) (
   whole ∙ (λ d. lot γ i h.round (vacant d) most),

@@ -17,25 +17,25 @@ use Rattle.sdd_views.specs.declared.View.{View}
 use Rattle.sdd_views.specs.declared.Sizes.{Sizes}
 use Rattle.sdd_word_invariant.specs.Words.{first_slot, state_word}
 use Rattle.sdd_word_invariant.specs.Epoch.{HasPlace, IsClosed, IsOpen}
-use Rattle.sdd_word_invariant.specs.Steps.{Steps, Publishes, Ends}
+use Rattle.sdd_word_invariant.specs.EpochSteps.{Steps, Publishes, Ends}
 use Rattle.sdd_word_invariant.specs.Slots.{waits_in}
 use Rattle.sdd_word_invariant.specs.SlotSteps.{older, changed, OnEpoch, PublishesAll}
-use Rattle.sdd_word_invariant.specs.Parts.{epoch_of, Parts}
+use Rattle.sdd_word_invariant.specs.WordInvariant.{epoch_of, Parts}
 use Rattle.atomic_table.proofs.Lists.{at_map, set_again, set_else}
 use Rattle.sdd_word_invariant.proofs.Frame.{each_set}
 use Rattle.sdd_word_invariant.proofs.Sums.{total_map}
 use Rattle.sdd_word_invariant.proofs.Lift.{blind}
 use Rattle.sdd_word_invariant.specs.Barred.{AreBarred, AreQuiet}
 use Rattle.sdd_word_invariant.proofs.Barred.{Spares, one_spared, all_spared, NoneQuiet, none_quiet, Hushes, one_hushed, all_hushed}
-use Rattle.sdd_domain_invariant.specs.FractionsAtHome.{FractionsAtHome, full_at, Moves, SeesFrom, IsOut, IsMover, HomesPart}
-use Rattle.sdd_domain_invariant.specs.Banked.{BankPart}
+use Rattle.sdd_domain_invariant.specs.FractionsAtHome.{FractionsAtHome, full_at, Moves, SeesFrom, FractionIsTaken, IsMover, FractionsInvariant}
+use Rattle.sdd_domain_invariant.specs.BankInvariant.{BankInvariant}
 use Rattle.sdd_domain_invariant.proofs.Banks.{with_deposits}
 use Rattle.sdd_domain_invariant.proofs.Banks as banks
-use Rattle.sdd_domain_invariant.specs.Records.{RecordsPart}
-use Rattle.sdd_domain_invariant.specs.Counts.{CountsPart}
-use Rattle.sdd_domain_invariant.specs.Fillings.{FilledPart}
+use Rattle.sdd_domain_invariant.specs.Records.{RecordsInvariant}
+use Rattle.sdd_domain_invariant.specs.Counts.{CountsInvariant}
+use Rattle.sdd_domain_invariant.specs.FilledInvariant.{FilledInvariant}
 use Rattle.sdd_domain_invariant.specs.DomainInvariant.{DomainInvariant}
-use Rattle.sdd_domain_invariant.specs.HomeSteps.{SeatState, leaving}
+use Rattle.sdd_domain_invariant.specs.FractionSteps.{SeatState, leaving}
 use Rattle.sdd_domain_invariant.proofs.Part.{none_out, still_mover, before_slots}
 use Rattle.sdd_domain_invariant.proofs.Part as part
 use Rattle.sdd_domain_invariant.proofs.Counts.{ended_spared, ended_more, as_full, counted, uncounted, uncounted_alone}
@@ -48,11 +48,11 @@ pub record Follows (γ : ℕ) (sizes : Sizes) (id i : ℕ) (me : SeatState) (tol
   pub stakes : FractionsView
   pub act : Act ValueFraction
   pub valid : Valid s.homes me.1 act
-  pub homes : HomesPart γ sizes (set s.words i y) (set s.views id (record w { stakes = stakes })) (homes_after s.homes me.1 act)
-  pub records : RecordsPart sizes (set s.views id (record w { stakes = stakes })) (homes_after s.homes me.1 act)
-  pub counts : CountsPart sizes (set s.words i y) (set s.views id (record w { stakes = stakes }))
-  pub filled : FilledPart sizes (set s.views id (record w { stakes = stakes }))
-  pub bank : BankPart γ sizes (set s.words i y) (set s.views id (record w { stakes = stakes }))
+  pub homes : FractionsInvariant γ sizes (set s.words i y) (set s.views id (record w { stakes = stakes })) (homes_after s.homes me.1 act)
+  pub records : RecordsInvariant sizes (set s.views id (record w { stakes = stakes })) (homes_after s.homes me.1 act)
+  pub counts : CountsInvariant sizes (set s.words i y) (set s.views id (record w { stakes = stakes }))
+  pub filled : FilledInvariant sizes (set s.views id (record w { stakes = stakes }))
+  pub bank : BankInvariant γ sizes (set s.words i y) (set s.views id (record w { stakes = stakes }))
   pub tells : told (get_or s.words i 0) (record w { stakes = stakes }, carried_after me.1 act)
 
 module _ (γ : ℕ) (sizes : Sizes) (slots id : ℕ) (me : SeatState) (i : ℕ) (f : ℕ → ℕ) where
@@ -111,7 +111,7 @@ module _ (γ : ℕ) (sizes : Sizes) (slots id : ℕ) (me : SeatState) (i : ℕ) 
 
   -- a step that takes and gives none, and has a place still if it had one; and had one if it has one, or there is no owner yet
   pub record IsCalm (s : State ValueFraction View) (y : ℕ) (w : View) : Type 0 where
-    pub more : (j p : ℕ) → IsOut me.0 j p → IsOut w j p
+    pub more : (j p : ℕ) → FractionIsTaken me.0 j p → FractionIsTaken w j p
     pub same : (j : ℕ) → j < sizes.slots → full_at sizes (set s.words i y) j ≡ full_at sizes s.words j
     pub mover : IsMover w
     pub alike : IsAlike me.0 w
@@ -179,7 +179,7 @@ module _ (γ : ℕ) (sizes : Sizes) (slots : ℕ) where
       (λ s w h at t. let v : View = me.0 in let e : EpochView = t.0 in
       let calm : SlotsView → Type 0 = λ x. IsCalm γ sizes slots id me i (λ _. y) s y (record v { epoch = e; slots = x }) in
       let same = λ (j : ℕ) (_ : j < sizes.slots). before_slots sizes s.words i y j low in let n : ℕ = sizes.participants in
-      let more : (j p : ℕ) → IsOut v j p → IsOut (record v { epoch = e }) j p
+      let more : (j p : ℕ) → FractionIsTaken v j p → FractionIsTaken (record v { epoch = e }) j p
       = λ j p out. ⊎_elim (λ (m : Moves v j). inl m) (λ (o : SeesFrom v j p). inr (o.0, (stays e t.2).1 ∙ o.1)) out in
       let movers = still_mover v (record v { epoch = e }) refl (λ _. (stays e t.2).0) (λ _ o. o) (λ _ o. o) (h.homes.moving id v at) in
       subst (IsCalm γ sizes slots id me i (λ _. y) s y) (sym t.1) (changed_or_not v calm
@@ -215,7 +215,7 @@ module _ (γ : ℕ) (sizes : Sizes) (slots : ℕ) where
       (λ s w h at t. let now : View = leaving v in let fits = h.kept.parts.epoch.each id v.epoch (at_map epoch_of s.views id v at) in
       let was = fits.state (omega arith) in let same = λ (j : ℕ) (_ : j < sizes.slots). before_slots sizes s.words i 3 j (omega arith) in
       let wide = h.kept.parts.epoch.wide in
-      let is : w ≡ record v { epoch = Rattle.sdd_word_invariant.specs.Steps.ended v.epoch } = t.1 ∙ ap (λ (e : EpochView). record v { epoch = e }) t.2 in
+      let is : w ≡ record v { epoch = Rattle.sdd_word_invariant.specs.EpochSteps.ended v.epoch } = t.1 ∙ ap (λ (e : EpochView). record v { epoch = e }) t.2 in
       subst (Follows γ sizes id i me (λ _. told) s 3) (sym is) record {
         stakes = now.stakes;
         act = keeps;
@@ -234,8 +234,8 @@ module _ (γ : ℕ) (sizes : Sizes) (slots : ℕ) where
 -- a step on no word
 module _ (γ : ℕ) (sizes : Sizes) (id : ℕ) (v : View) (s : State ValueFraction View) (h : DomainInvariant γ sizes s) (at : get_elem? s.views id ≡ some v) where
   pub stands : (w : View) → w.places ≡ v.places → Parts sizes s.words (set s.views id w) → (hs : FractionsAtHome)
-      → HomesPart γ sizes s.words (set s.views id w) hs → RecordsPart sizes (set s.views id w) hs → CountsPart sizes s.words (set s.views id w)
-      → FilledPart sizes (set s.views id w) → BankPart γ sizes s.words (set s.views id w)
+      → FractionsInvariant γ sizes s.words (set s.views id w) hs → RecordsInvariant sizes (set s.views id w) hs → CountsInvariant sizes s.words (set s.views id w)
+      → FilledInvariant sizes (set s.views id w) → BankInvariant γ sizes s.words (set s.views id w)
       → DomainInvariant γ sizes record { words = s.words; homes = hs; views = set s.views id w }
   stands w same parts hs homes records counts filled bank = record {
     kept = record {
@@ -257,9 +257,9 @@ module _ (γ : ℕ) (sizes : Sizes) (id : ℕ) (v : View) (s : State ValueFracti
   }
 
   -- which changes only what is known of stakes, but for what was made
-  pub stands_by : (t : FractionsView) → t.counts ≡ v.stakes.counts → (hs : FractionsAtHome) → HomesPart γ sizes s.words (set s.views id (record v { stakes = t })) hs
-      → RecordsPart sizes (set s.views id (record v { stakes = t })) hs → FilledPart sizes (set s.views id (record v { stakes = t }))
-      → BankPart γ sizes s.words (set s.views id (record v { stakes = t }))
+  pub stands_by : (t : FractionsView) → t.counts ≡ v.stakes.counts → (hs : FractionsAtHome) → FractionsInvariant γ sizes s.words (set s.views id (record v { stakes = t })) hs
+      → RecordsInvariant sizes (set s.views id (record v { stakes = t })) hs → FilledInvariant sizes (set s.views id (record v { stakes = t }))
+      → BankInvariant γ sizes s.words (set s.views id (record v { stakes = t }))
       → DomainInvariant γ sizes record { words = s.words; homes = hs; views = set s.views id (record v { stakes = t }) }
   stands_by t same hs homes records filled bank = stands (record v { stakes = t }) refl
       (blind sizes s.words s.views id v v at (subst (Parts sizes s.words) (sym (set_again s.views id v at)) h.kept.parts) t) hs homes records
@@ -267,9 +267,9 @@ module _ (γ : ℕ) (sizes : Sizes) (id : ℕ) (v : View) (s : State ValueFracti
 
   -- which changes what the bank has, too
   pub stands_dealt : (w : View) → w.places ≡ v.places → Parts sizes s.words (set s.views id w) → (hs : FractionsAtHome)
-      → HomesPart γ sizes s.words (set s.views id w) hs → RecordsPart sizes (set s.views id w) hs → CountsPart sizes s.words (set s.views id w)
-      → FilledPart sizes (set s.views id w) → (bd : ℕ) (b : View) → get_elem? s.views bd ≡ some b → ¬ (id ≡ bd) → (ls : List FractionContent)
-      → BankPart γ sizes s.words (set (set s.views id w) bd (with_deposits ls b))
+      → FractionsInvariant γ sizes s.words (set s.views id w) hs → RecordsInvariant sizes (set s.views id w) hs → CountsInvariant sizes s.words (set s.views id w)
+      → FilledInvariant sizes (set s.views id w) → (bd : ℕ) (b : View) → get_elem? s.views bd ≡ some b → ¬ (id ≡ bd) → (ls : List FractionContent)
+      → BankInvariant γ sizes s.words (set (set s.views id w) bd (with_deposits ls b))
       → DomainInvariant γ sizes record { words = s.words; homes = hs; views = set (set s.views id w) bd (with_deposits ls b) }
   stands_dealt w same parts hs lie told made fill bd b there ne ls bank = let vs : List View = set s.views id w in
       let b' : View = with_deposits ls b in let now : get_elem? vs bd ≡ some b = set_else s.views id bd w (λ e. ne (sym e)) ∙ there in

@@ -18,9 +18,9 @@ use Rattle.sdd_word_invariant.specs.Slots.{items_at, OwnsAlone, Sees}
 use Rattle.sdd_word_invariant.specs.Sums.{times}
 use Rattle.sdd_word_invariant.proofs.Frame.{each_set, each_snoc}
 use Rattle.sdd_word_invariant.proofs.Epoch.{at_length}
-use Rattle.sdd_domain_invariant.specs.FractionsAtHome.{FractionsAtHome, CarriedFractions, stake_at, share, away, full_at, Has, IsShown, Moves, SeesFrom, IsOut, NoneOut, LiesAt, IsAtHome, IsMover, HomesPart}
+use Rattle.sdd_domain_invariant.specs.FractionsAtHome.{FractionsAtHome, CarriedFractions, stake_at, share, away, full_at, Has, MatchesSlotWord, Moves, SeesFrom, FractionIsTaken, NoneOut, LiesAt, IsAtHome, IsMover, FractionsInvariant}
 use Rattle.sdd_domain_invariant.specs.Records.{slot_shown, IsIn}
-use Rattle.sdd_domain_invariant.specs.HomeSteps.{IsValue}
+use Rattle.sdd_domain_invariant.specs.FractionSteps.{IsValue}
 use Rattle.sdd_domain_invariant.proofs.Places.{one_slot, one_stake}
 use Rattle.sdd_domain_invariant.proofs.Records.{in_times}
 use Rattle.sdd_domain_invariant.proofs.Rows.{Taken, Given, AllGiven, taken_lies, given_lies}
@@ -30,7 +30,7 @@ use Rattle.sdd_domain_invariant.proofs.Tops.{share_one}
 pub none_out : (v : View) → v.stakes.moves ≡ None → IsMover v
 none_out v rests i m = let e : None ≡ Some i = sym rests ∙ m in absurd cc
 
-pub only_seen : (v : View) → v.stakes.moves ≡ None → (i p : ℕ) → IsOut v i p → SeesFrom v i p
+pub only_seen : (v : View) → v.stakes.moves ≡ None → (i p : ℕ) → FractionIsTaken v i p → SeesFrom v i p
 only_seen v rests i p out = ⊎_elim (λ (m : Moves v i). let e : None ≡ Some i = sym rests ∙ m in absurd cc) (λ (s : SeesFrom v i p). s) out
 
 -- a participant that keeps its place and its owners, and has the same out
@@ -40,8 +40,8 @@ still_mover v w same lives owns waits is i m = let o = is i (sym same ∙ m) in
     (lives o.0, ⊎_elim (λ (a : OwnsAlone v i). inl (owns i a)) (λ (a : 0 < items_at i v). inr (waits i a)) o.1)
 
 -- what lies at home as full as the slot is
-shown_as : (γ i n p f f' : ℕ) (y : ValueFraction) → f' ≡ f → Has γ i (share n (away n f) p) (IsShown f) y → Has γ i (share n (away n f') p) (IsShown f') y
-shown_as γ i n p f f' y e h = subst (λ (z : ℕ). Has γ i (share n (away n z) p) (IsShown z) y) (sym e) h
+shown_as : (γ i n p f f' : ℕ) (y : ValueFraction) → f' ≡ f → Has γ i (share n (away n f) p) (MatchesSlotWord f) y → Has γ i (share n (away n f') p) (MatchesSlotWord f') y
+shown_as γ i n p f f' y e h = subst (λ (z : ℕ). Has γ i (share n (away n z) p) (MatchesSlotWord z) y) (sym e) h
 
 -- what lies at home once one stake was taken lay there before
 pub one_taken : (hs : FractionsAtHome) (spot j : ℕ) (y : ValueFraction) → get_elem? (set hs spot none) j ≡ some (some y) → get_elem? hs j ≡ some (some y)
@@ -56,12 +56,12 @@ before_slots sizes ws j y i low = ap full (get_or-set_other ws j (slot_word size
 pub of_another : (sizes : Sizes) (ws : List ℕ) (i y j : ℕ) → j ≢ i → full_at sizes (set ws (slot_word sizes i) y) j ≡ full_at sizes ws j
 of_another sizes ws i y j ne = ap full (get_or-set_other ws (slot_word sizes i) (slot_word sizes j) y 0 (λ e. ne (omega arith)))
 
-module _ (γ : ℕ) (sizes : Sizes) (ws : List ℕ) (vs : List View) (hs : FractionsAtHome) (part : HomesPart γ sizes ws vs hs) where
+module _ (γ : ℕ) (sizes : Sizes) (ws : List ℕ) (vs : List View) (hs : FractionsAtHome) (part : FractionsInvariant γ sizes ws vs hs) where
   abbrev n : ℕ
   n = sizes.participants
 
   -- a new token, which has nothing out
-  pub arrives : (t : View) → ((i p : ℕ) → ¬ (IsOut t i p)) → IsMover t → HomesPart γ sizes ws (vs ++ t ∷ []) hs
+  pub arrives : (t : View) → ((i p : ℕ) → ¬ (FractionIsTaken t i p)) → IsMover t → FractionsInvariant γ sizes ws (vs ++ t ∷ []) hs
   arrives t nothing mover = record {
     few = part.few;
     deep = part.deep;
@@ -75,18 +75,18 @@ module _ (γ : ℕ) (sizes : Sizes) (ws : List ℕ) (vs : List View) (hs : Fract
     here w = set_here vs id w (at_length vs id v at)
 
     -- what isn't out after the step was not out before
-    none_before : (w : View) (i p : ℕ) → (IsOut v i p → IsOut w i p) → NoneOut (set vs id w) i p → NoneOut vs i p
+    none_before : (w : View) (i p : ℕ) → (FractionIsTaken v i p → FractionIsTaken w i p) → NoneOut (set vs id w) i p → NoneOut vs i p
     none_before w i p more away j u e out = dite (ℕ_discrete j id)
         (λ same. let is : u ≡ v = some-injective u v (sym e ∙ (ap (get_elem? vs) same ∙ at)) in
-        away id w (here w) (more (subst (λ (x : View). IsOut x i p) is out)))
+        away id w (here w) (more (subst (λ (x : View). FractionIsTaken x i p) is out)))
         (λ other. away j u (set_else vs id j w other ∙ e) out)
 
     movers : (w : View) → IsMover w → (j : ℕ) (u : View) → get_elem? (set vs id w) j ≡ some u → IsMover u
     movers w mover = each_set IsMover IsMover vs id w mover (λ j u _ e. part.moving j u e)
 
     -- it takes and gives none
-    pub calm : (ws' : List ℕ) (w : View) → ((i p : ℕ) → IsOut v i p → IsOut w i p)
-        → ((i : ℕ) → i < sizes.slots → full_at sizes ws' i ≡ full_at sizes ws i) → IsMover w → HomesPart γ sizes ws' (set vs id w) hs
+    pub calm : (ws' : List ℕ) (w : View) → ((i p : ℕ) → FractionIsTaken v i p → FractionIsTaken w i p)
+        → ((i : ℕ) → i < sizes.slots → full_at sizes ws' i ≡ full_at sizes ws i) → IsMover w → FractionsInvariant γ sizes ws' (set vs id w) hs
     calm ws' w more same mover = record {
       few = part.few;
       deep = part.deep;
@@ -97,9 +97,9 @@ module _ (γ : ℕ) (sizes : Sizes) (ws : List ℕ) (vs : List View) (hs : Fract
 
     -- all stakes in a slot are taken
     pub takes : (i o : ℕ) (Is : Gv → Type 0) (c : CarriedFractions) (t : Taken γ n i o Is hs c (suc n)) (ws' : List ℕ) (w : View) → Moves w i
-        → ((j p : ℕ) → j ≢ i → IsOut v j p → IsOut w j p)
+        → ((j p : ℕ) → j ≢ i → FractionIsTaken v j p → FractionIsTaken w j p)
         → ((j : ℕ) → j < sizes.slots → j ≢ i → full_at sizes ws' j ≡ full_at sizes ws j) → IsMover w
-        → HomesPart γ sizes ws' (set vs id w) (homes_after hs c t.act)
+        → FractionsInvariant γ sizes ws' (set vs id w) (homes_after hs c t.act)
     takes i o Is c t ws' w mine more same mover =
         let other : (j p : ℕ) → p ≤ n → j ≢ i → (q : ℕ) → q < suc n → stake_at n j p ≢ stake_at n i q
         = λ j p near ne q l e. ne (one_slot n j i p q near (omega arith) e) in record {
@@ -115,10 +115,10 @@ module _ (γ : ℕ) (sizes : Sizes) (ws : List ℕ) (vs : List View) (hs : Fract
 
     -- all stakes in a slot are given home
     pub gives : (i o : ℕ) (Is : Gv → Type 0) (rest xs : CarriedFractions) (g : Given γ n i o Is hs rest xs (suc n)) (ws' : List ℕ) (w : View)
-        → away n (full_at sizes ws' i) ≡ o → ((s : Gv) → Is s → IsShown (full_at sizes ws' i) s)
-        → ((j p : ℕ) → j ≢ i → IsOut v j p → IsOut w j p)
+        → away n (full_at sizes ws' i) ≡ o → ((s : Gv) → Is s → MatchesSlotWord (full_at sizes ws' i) s)
+        → ((j p : ℕ) → j ≢ i → FractionIsTaken v j p → FractionIsTaken w j p)
         → ((j : ℕ) → j < sizes.slots → j ≢ i → full_at sizes ws' j ≡ full_at sizes ws j) → IsMover w
-        → HomesPart γ sizes ws' (set vs id w) (homes_after hs xs g.act)
+        → FractionsInvariant γ sizes ws' (set vs id w) (homes_after hs xs g.act)
     gives i o Is rest xs g ws' w owners shown more same mover =
         let other : (j p : ℕ) → p ≤ n → j ≢ i → (q : ℕ) → q < suc n → stake_at n j p ≢ stake_at n i q
         = λ j p near ne q l e. ne (one_slot n j i p q near (omega arith) e) in record {
@@ -126,8 +126,8 @@ module _ (γ : ℕ) (sizes : Sizes) (ws : List ℕ) (vs : List View) (hs : Fract
           deep = g.long ∙ part.deep;
           home = λ j p y low near lies. ⊎_elim
               (λ (h : (j ≡ i) × Has γ i (share n o p) Is y).
-              subst (λ (j : ℕ). Has γ j (share n (away n (full_at sizes ws' j)) p) (IsShown (full_at sizes ws' j)) y) (sym h.0)
-              (subst (λ (k : ℕ). Has γ i (share n k p) (IsShown (full_at sizes ws' i)) y) (sym owners) (h.1.0, shown y.lot.shown h.1.1)))
+              subst (λ (j : ℕ). Has γ j (share n (away n (full_at sizes ws' j)) p) (MatchesSlotWord (full_at sizes ws' j)) y) (sym h.0)
+              (subst (λ (k : ℕ). Has γ i (share n k p) (MatchesSlotWord (full_at sizes ws' i)) y) (sym owners) (h.1.0, shown y.lot.shown h.1.1)))
               (λ (h : (j ≢ i) × LiesAt n hs j p y).
               shown_as γ j n p (full_at sizes ws j) (full_at sizes ws' j) y (same j low h.0) (part.home j p y low near h.1))
               (given_lies γ n i o Is hs rest xs g j p y near lies);
@@ -138,8 +138,8 @@ module _ (γ : ℕ) (sizes : Sizes) (ws : List ℕ) (vs : List View) (hs : Fract
         }
 
     -- the stake of one place is taken
-    pub takes_one : (i q : ℕ) → q ≤ n → (w : View) → IsOut w i q → ((j p : ℕ) → IsOut v j p → IsOut w j p) → IsMover w
-        → HomesPart γ sizes ws (set vs id w) (set hs (stake_at n i q) none)
+    pub takes_one : (i q : ℕ) → q ≤ n → (w : View) → FractionIsTaken w i q → ((j p : ℕ) → FractionIsTaken v j p → FractionIsTaken w j p) → IsMover w
+        → FractionsInvariant γ sizes ws (set vs id w) (set hs (stake_at n i q) none)
     takes_one i q near w mine more mover = let spot : ℕ = stake_at n i q in record {
       few = part.few;
       deep = length-set hs spot none ∙ part.deep;
@@ -147,7 +147,7 @@ module _ (γ : ℕ) (sizes : Sizes) (ws : List ℕ) (vs : List View) (hs : Fract
       back = λ j p low near' away. dite (ℕ_discrete (stake_at n j p) spot)
           (λ e. let slot = one_slot n j i p q near' near e in
           let place : p ≡ q = one_stake n i p q (subst (λ (j : ℕ). stake_at n j p ≡ spot) slot e) in
-          absurd (away id w (here w) (subst (λ (t : ℕ × ℕ). IsOut w t.0 t.1) (λ k. (sym slot k, sym place k)) mine)))
+          absurd (away id w (here w) (subst (λ (t : ℕ × ℕ). FractionIsTaken w t.0 t.1) (λ k. (sym slot k, sym place k)) mine)))
           (λ ne. let b = part.back j p low near' (none_before w j p (more j p) away) in (b.0, set_else hs spot (stake_at n j p) none ne ∙ b.1));
       moving = movers w mover;
     }
@@ -157,7 +157,7 @@ module _ (γ : ℕ) (sizes : Sizes) (ws : List ℕ) (vs : List View) (hs : Fract
         → map slot_shown v.stakes.sees ≡ v.slots.sees
         → q ≡ v.epoch.place → v.stakes.moves ≡ None → ((i : ℕ) → Sees v i → full_at sizes ws' i ≡ 1)
         → ((i : ℕ) → i < sizes.slots → full_at sizes ws' i ≡ full_at sizes ws i) → IsMover w
-        → HomesPart γ sizes ws' (set vs id w) (homes_after hs xs g.act)
+        → FractionsInvariant γ sizes ws' (set vs id w) (homes_after hs xs g.act)
     closes q near low_place xs g ws' w told place rests seen same mover = record {
       few = part.few;
       deep = g.long ∙ part.deep;
@@ -168,7 +168,7 @@ module _ (γ : ℕ) (sizes : Sizes) (ws : List ℕ) (vs : List View) (hs : Fract
           let owners : ℕ = away n (full_at sizes ws' i) in
           let units : share n owners p ≡ 1 = ap (share n owners) of ∙ share_one n owners q low_place in
           let f = seen t.0 (subst (λ (l : List ℕ). 0 < times t.0 l) told (in_times v.stakes.sees t.0 t.1 t.2)) in
-          subst (λ (k : ℕ). Has γ i k (IsShown (full_at sizes ws' i)) y) (sym units) (subst (λ (m : ℕ). Has γ m 1 (IsShown (full_at sizes ws' m)) y) (sym slot)
+          subst (λ (k : ℕ). Has γ i k (MatchesSlotWord (full_at sizes ws' i)) y) (sym units) (subst (λ (m : ℕ). Has γ m 1 (MatchesSlotWord (full_at sizes ws' m)) y) (sym slot)
           (t.4.0, (λ _. t.4.1.0, λ z. absurd (omega arith)))))
           (λ (t : LiesAt n hs i p y). shown_as γ i n p (full_at sizes ws i) (full_at sizes ws' i) y (same i low) (part.home i p y low near' t))
           (g.home (stake_at n i p) y lies);
@@ -183,5 +183,5 @@ module _ (γ : ℕ) (sizes : Sizes) (ws : List ℕ) (vs : List View) (hs : Fract
       moving = movers w mover;
     }
       where
-        seen_only : (i p : ℕ) → IsOut v i p → SeesFrom v i p
+        seen_only : (i p : ℕ) → FractionIsTaken v i p → SeesFrom v i p
         seen_only i p out = only_seen v rests i p out

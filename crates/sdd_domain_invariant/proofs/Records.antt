@@ -17,8 +17,8 @@ use Rattle.sdd_word_invariant.specs.Sums.{total, is, times}
 use Rattle.sdd_word_invariant.proofs.Frame.{each_set, each_snoc}
 use Rattle.sdd_word_invariant.proofs.Sums.{is_same, is_other, both_set, total_has, total_kept, total_gone, total_some, at_filter}
 use Rattle.sdd_domain_invariant.specs.FractionsAtHome.{FractionsAtHome, LiesAt, Moves}
-use Rattle.sdd_domain_invariant.specs.Records.{slot_shown, IsIn, KnowsShown, IsKnown, IsTelling, RecordsPart}
-use Rattle.sdd_domain_invariant.specs.HomeSteps.{without_record}
+use Rattle.sdd_domain_invariant.specs.Records.{slot_shown, IsIn, KnowsShown, IsKnown, IsTelling, RecordsInvariant}
+use Rattle.sdd_domain_invariant.specs.FractionSteps.{without_record}
 
 -- ---- records in a list
 in_pick : (r : ShownValue) (rs : List ShownValue) (i : ℕ) (g : Gv) (k : ℕ) (s : ShownValue) → get_elem? (r ∷ rs) k ≡ some s → s.slot ≡ i → s.value ≡ g
@@ -151,7 +151,7 @@ pub known_after : (vs : List View) (id : ℕ) (w : View) (i : ℕ) (g : Gv) → 
 known_after vs id w i g k = ⊎_elim (λ (t : (k.0 ≡ id) × (w ≡ k.1)). inl (subst (λ (u : View). KnowsShown u i g) (sym t.1) k.3))
     (λ (t : (k.0 ≢ id) × (get_elem? vs k.0 ≡ some k.1)). inr (k.0, k.1, t.1, k.3)) (at_set vs id k.0 w k.1 k.2)
 
-module _ (sizes : Sizes) (vs : List View) (hs : FractionsAtHome) (part : RecordsPart sizes vs hs) where
+module _ (sizes : Sizes) (vs : List View) (hs : FractionsAtHome) (part : RecordsInvariant sizes vs hs) where
   abbrev n : ℕ
   n = sizes.participants
 
@@ -159,7 +159,7 @@ module _ (sizes : Sizes) (vs : List View) (hs : FractionsAtHome) (part : Records
   pub kept_by : (vs' : List View) (hs' : FractionsAtHome) → ((j : ℕ) (v : View) → get_elem? vs' j ≡ some v → IsTelling v)
       → ((i : ℕ) (g : Gv) → IsKnown vs' i g → IsKnown vs i g)
       → ((i p : ℕ) (y : ValueFraction) → i < sizes.slots → p ≤ n → LiesAt n hs' i p y → LiesAt n hs i p y ⊎ ((g : Gv) → IsKnown vs i g → y.lot.shown ≡ g))
-      → ((j k : ℕ) (v w : View) → get_elem? vs' j ≡ some v → get_elem? vs' k ≡ some w → NotSeen v w) → RecordsPart sizes vs' hs'
+      → ((j k : ℕ) (v w : View) → get_elem? vs' j ≡ some v → get_elem? vs' k ≡ some w → NotSeen v w) → RecordsInvariant sizes vs' hs'
   kept_by vs' hs' each known lies apart = record {
     each = each;
     agree = λ i g h a b. part.agree i g h (known i g a) (known i h b);
@@ -178,7 +178,7 @@ module _ (sizes : Sizes) (vs : List View) (hs : FractionsAtHome) (part : Records
 
   -- a new token, which moves none, and sees none
   pub arrives : (t : View) → IsTelling t → ((i : ℕ) (g : Gv) → KnowsShown t i g → IsKnown vs i g) → t.stakes.moves ≡ None → t.slots.sees ≡ []
-      → RecordsPart sizes (vs ++ t ∷ []) hs
+      → RecordsInvariant sizes (vs ++ t ∷ []) hs
   arrives t tells known rests blind = let still : (i : ℕ) → ¬ (Moves t i) = λ i m. let e : None ≡ Some i = sym rests ∙ m in cc in
       kept_by (vs ++ t ∷ []) hs (each_snoc IsTelling vs t part.each tells)
       (λ i g k. ⊎_elim (λ (a : get_elem? vs k.0 ≡ some k.1). (k.0, k.1, a, k.3))
@@ -196,7 +196,7 @@ module _ (sizes : Sizes) (vs : List View) (hs : FractionsAtHome) (part : Records
     -- the same of one participant's step
     pub kept : (w : View) (hs' : FractionsAtHome) → IsTelling w → ((i : ℕ) (g : Gv) → KnowsShown w i g → IsKnown vs i g)
         → ((i p : ℕ) (y : ValueFraction) → i < sizes.slots → p ≤ n → LiesAt n hs' i p y → LiesAt n hs i p y ⊎ ((g : Gv) → IsKnown vs i g → y.lot.shown ≡ g))
-        → NotSeen w w → ((j : ℕ) (u : View) → j ≢ id → get_elem? vs j ≡ some u → NotSeen w u × NotSeen u w) → RecordsPart sizes (set vs id w) hs'
+        → NotSeen w w → ((j : ℕ) (u : View) → j ≢ id → get_elem? vs j ≡ some u → NotSeen w u × NotSeen u w) → RecordsInvariant sizes (set vs id w) hs'
     kept w hs' tells known lies self others = kept_by (set vs id w) hs'
         (each_set IsTelling IsTelling vs id w tells (λ j u _ e. part.each j u e))
         (λ i g k. ⊎_elim (λ (t : KnowsShown w i g). known i g t) (λ (t : IsKnown vs i g). t) (known_after vs id w i g k))
@@ -205,12 +205,12 @@ module _ (sizes : Sizes) (vs : List View) (hs : FractionsAtHome) (part : Records
     -- as long as it moves no more than before, and sees no more
     pub no_more : (w : View) (hs' : FractionsAtHome) → IsTelling w → ((i : ℕ) (g : Gv) → KnowsShown w i g → IsKnown vs i g)
         → ((i p : ℕ) (y : ValueFraction) → i < sizes.slots → p ≤ n → LiesAt n hs' i p y → LiesAt n hs i p y ⊎ ((g : Gv) → IsKnown vs i g → y.lot.shown ≡ g))
-        → ((i : ℕ) → Moves w i → Moves v i) → ((i : ℕ) → Sees w i → Sees v i) → RecordsPart sizes (set vs id w) hs'
+        → ((i : ℕ) → Moves w i → Moves v i) → ((i : ℕ) → Sees w i → Sees v i) → RecordsInvariant sizes (set vs id w) hs'
     no_more w hs' tells known lies moves sees = kept w hs' tells known lies
         (λ i m s. part.apart id id v v i at at (moves i m) (sees i s))
         (λ j u _ e. ((λ i m. part.apart id j v u i at e (moves i m)), (λ i m s. part.apart j id u v i e at m (sees i s))))
 
-    pub calm : (w : View) → IsAlike v w → RecordsPart sizes (set vs id w) hs
+    pub calm : (w : View) → IsAlike v w → RecordsInvariant sizes (set vs id w) hs
     calm w same = no_more w hs (telling_alike v w same (part.each id v at))
         (λ i g k. mine i g (known_by w i g (λ h. inl (subst (λ (s : FractionsView). IsIn s.owns i g) same.0 h))
         (λ h. inr (inl (subst (λ (s : FractionsView). IsIn s.sees i g) same.0 h)))
@@ -221,7 +221,7 @@ module _ (sizes : Sizes) (vs : List View) (hs : FractionsAtHome) (part : Records
     -- it comes to move the value of a slot that nobody sees, and takes stakes
     pub comes_to_move : (slot : ℕ) (w : View) (hs' : FractionsAtHome) → IsTelling w → ((i : ℕ) (g : Gv) → KnowsShown w i g → IsKnown vs i g)
         → ((i p : ℕ) (y : ValueFraction) → i < sizes.slots → p ≤ n → LiesAt n hs' i p y → LiesAt n hs i p y) → w.slots.sees ≡ v.slots.sees
-        → ((i : ℕ) → Moves w i → i ≡ slot) → ((j : ℕ) (u : View) → get_elem? vs j ≡ some u → ¬ (Sees u slot)) → RecordsPart sizes (set vs id w) hs'
+        → ((i : ℕ) → Moves w i → i ≡ slot) → ((j : ℕ) (u : View) → get_elem? vs j ≡ some u → ¬ (Sees u slot)) → RecordsInvariant sizes (set vs id w) hs'
     comes_to_move slot w hs' tells known lies same moves blind = let sees : (i : ℕ) → Sees w i → Sees v i
         = λ i s. subst (λ (l : List ℕ). 0 < times i l) same s in
         kept w hs' tells known (λ i p y low near l. inl (lies i p y low near l))
@@ -233,7 +233,7 @@ module _ (sizes : Sizes) (vs : List View) (hs : FractionsAtHome) (part : Records
         → ((i : ℕ) (g : Gv) → KnowsShown w i g → ((i ≡ slot) × (g ≡ value)) ⊎ IsKnown vs i g)
         → ((i p : ℕ) (y : ValueFraction) → i < sizes.slots → p ≤ n → LiesAt n hs' i p y
         → ((i ≡ slot) × (y.lot.shown ≡ value)) ⊎ ((i ≢ slot) × LiesAt n hs i p y))
-        → ((i : ℕ) → ¬ (Moves w i)) → ((i : ℕ) → Sees w i → Sees v i) → RecordsPart sizes (set vs id w) hs'
+        → ((i : ℕ) → ¬ (Moves w i)) → ((i : ℕ) → Sees w i → Sees v i) → RecordsInvariant sizes (set vs id w) hs'
     comes_to_know slot value w hs' tells none knows lies still sees = let now : (i : ℕ) (g : Gv) → IsKnown (set vs id w) i g
         → ((i ≡ slot) × (g ≡ value)) ⊎ IsKnown vs i g
         = λ i g k. ⊎_elim (λ (t : KnowsShown w i g). knows i g t) (λ (t : IsKnown vs i g). inr t) (known_after vs id w i g k) in

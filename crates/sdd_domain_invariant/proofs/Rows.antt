@@ -12,7 +12,7 @@ use Rattle.sdd_views.specs.declared.ShownValue.{ShownValue}
 use Rattle.sdd_word_invariant.specs.Sums.{times}
 use Rattle.sdd_word_invariant.proofs.Sums.{is_same, is_other}
 use Rattle.sdd_domain_invariant.specs.FractionsAtHome.{FractionsAtHome, CarriedFractions, stake_at, homes_for, share, Has, LiesAt, IsAtHome}
-use Rattle.sdd_domain_invariant.specs.HomeSteps.{HasRow, IsValue, Purse}
+use Rattle.sdd_domain_invariant.specs.FractionSteps.{CarriesFirst, IsValue, CarriesSeen}
 use Rattle.sdd_domain_invariant.specs.Records.{slot_shown, IsIn}
 use Rattle.sdd_domain_invariant.proofs.Places.{inside, one_slot, one_stake}
 use Rattle.sdd_domain_invariant.proofs.Records.{in_head, in_tail}
@@ -28,7 +28,7 @@ module _ (γ n i o : ℕ) (Is : Gv → Type 0) where
   pub record Taken (hs : FractionsAtHome) (c : CarriedFractions) (k : ℕ) : Type 0 where
     pub act : Act ValueFraction
     pub valid : Valid hs c act
-    pub row : HasRow γ i n o Is c k (carried_after c act)
+    pub row : CarriesFirst γ i n o Is c k (carried_after c act)
     pub long : length (homes_after hs c act) ≡ length hs
     pub else : (j : ℕ) → ((p : ℕ) → p < k → j ≢ stake_at n i p) → get_elem? (homes_after hs c act) j ≡ get_elem? hs j
     pub gone : (p : ℕ) (y : ValueFraction) → p < k → ¬ (LiesAt n (homes_after hs c act) i p y)
@@ -68,7 +68,7 @@ module _ (γ n i o : ℕ) (Is : Gv → Type 0) where
     pub home : (p : ℕ) (y : ValueFraction) → p < k → LiesAt n (homes_after hs xs act) i p y → Has γ i (share n o p) Is y
     pub else : (j : ℕ) → ((p : ℕ) → p < k → j ≢ stake_at n i p) → get_elem? (homes_after hs xs act) j ≡ get_elem? hs j
 
-  pub gives_row : (m : ℕ) → i < m → (k : ℕ) → k ≤ suc n → (hs : FractionsAtHome) (rest xs : CarriedFractions) → length hs ≡ homes_for n m → HasRow γ i n o Is rest k xs
+  pub gives_row : (m : ℕ) → i < m → (k : ℕ) → k ≤ suc n → (hs : FractionsAtHome) (rest xs : CarriedFractions) → length hs ≡ homes_for n m → CarriesFirst γ i n o Is rest k xs
       → Given hs rest xs k
   gives_row m low zero near hs rest xs deep row = record {
     act = keeps;
@@ -123,7 +123,7 @@ module _ (γ n q m : ℕ) (near : q ≤ n) where
         → ((i : ℕ) × (g : Gv) × IsIn records i g × (j ≡ stake_at n i q) × Has γ i 1 (IsValue g) y) ⊎ (get_elem? hs j ≡ some (some y))
 
   pub gives_purse : (records : List ShownValue) → ((i : ℕ) → 0 < times i (map slot_shown records) → i < m) → (hs : FractionsAtHome) (xs : CarriedFractions)
-      → length hs ≡ homes_for n m → Purse γ n q records xs → AllGiven records hs xs
+      → length hs ≡ homes_for n m → CarriesSeen γ n q records xs → AllGiven records hs xs
   gives_purse [] low hs [] deep purse = record {
     act = keeps;
     valid = tt;

@@ -11,7 +11,7 @@ use base.Stored.{Gv}
 use Rattle.std.proofs.lemmas.List.{get_or_past}
 use Rattle.atomic_table.specs.Table.{State, keeps, takes, Allows, carried_after, homes_after}
 use Rattle.atomic_table.proofs.Lists.{at_map, exchanged, set_again}
-use Rattle.sdd_shared_values.specs.SharedValues.{IsFull, IsVacant, lot}
+use Rattle.sdd_shared_values.specs.SharedValues.{IsFull, IsNoValueCode, lot}
 use Rattle.sdd_shared_values.specs.declared.value_fraction.ValueFraction.{ValueFraction}
 use Rattle.sdd_views.specs.declared.ShownValue.{ShownValue}
 use Rattle.sdd_views.specs.declared.EndedView.{EndedView}
@@ -22,11 +22,11 @@ use Rattle.sdd_views.specs.declared.Sizes.{Sizes}
 use Rattle.sdd_word_invariant.specs.Words.{slot_word, state_word}
 use Rattle.sdd_word_invariant.specs.Codes.{codes, alive, waiting, full, free_word, owned_word, waiting_word}
 use Rattle.sdd_word_invariant.specs.Epoch.{HasPlace, IsOpen, Scans, IsLone}
-use Rattle.sdd_word_invariant.specs.Steps.{Steps}
+use Rattle.sdd_word_invariant.specs.EpochSteps.{Steps}
 use Rattle.sdd_word_invariant.specs.Sums.{total, times, is as is_at}
 use Rattle.sdd_word_invariant.specs.Slots.{slot_at, owners_at, items_at, OwnsAlone, Sees, Holds}
 use Rattle.sdd_word_invariant.specs.SlotSteps.{others as tail, without, retired, given_back, discarded, seeing, AtSlot, Claims, Retires, GivesBack, LooksAtSlot, TakesHold, LetsGo, Discards, LooksForGuard, ClosesAll, IsDue}
-use Rattle.sdd_word_invariant.specs.Parts.{epoch_of}
+use Rattle.sdd_word_invariant.specs.WordInvariant.{epoch_of}
 use Rattle.sdd_word_invariant.specs.Barred.{IsNobodys, IsBarred, AreBarred, AreQuiet, past, past_quiet, Bars, LooksForValue}
 use Rattle.sdd_word_invariant.proofs.Barred.{Spares, one_spared, Hushes, one_hushed}
 use Rattle.sdd_word_invariant.proofs.Barred as barring
@@ -37,7 +37,7 @@ use Rattle.sdd_word_invariant.proofs.Owning.{item_gone, item_kept}
 use Rattle.sdd_word_invariant.proofs.Owning as owning
 use Rattle.sdd_word_invariant.proofs.Holding as holding
 use Rattle.sdd_word_invariant.proofs.Lift.{blind, blind_units}
-use Rattle.sdd_word_invariant.specs.Parts.{Parts}
+use Rattle.sdd_word_invariant.specs.WordInvariant.{Parts}
 use Rattle.sdd_word_invariant.proofs.Lone.{finds}
 use Rattle.sdd_word_invariant.proofs.SlotWords.{owner_in, owners_in}
 use Rattle.sdd_shared_values.specs.ValueFractions.{FractionContent}
@@ -47,13 +47,13 @@ use Rattle.sdd_shared_values.proofs.Deposits.{draws_all, brings}
 use Rattle.sdd_word_invariant.proofs.Sums.{is_same, is_other, without_same, without_other, total_has, total_two, total_zero, total_only}
 use Rattle.sdd_word_invariant.proofs.Waits.{waits_once}
 use Rattle.sdd_witness.specs.Steps.{AllowsAlone, AllowsBeside}
-use Rattle.sdd_domain_invariant.specs.FractionsAtHome.{CarriedFractions, stake_at, share, spare, away, full_at, Has, IsShown, Moves, SeesFrom, NoneOut, IsOut, LiesAt}
+use Rattle.sdd_domain_invariant.specs.FractionsAtHome.{CarriedFractions, stake_at, share, spare, away, full_at, Has, MatchesSlotWord, Moves, SeesFrom, NoneOut, FractionIsTaken, LiesAt}
 use Rattle.sdd_domain_invariant.specs.DomainInvariant.{DomainInvariant}
-use Rattle.sdd_domain_invariant.specs.Banked.{drawn_at, moves_at, banked, IsBank, outside}
-use Rattle.sdd_domain_invariant.specs.HomeSteps.{SeatState, HasAll, IsValue, Purse, moving, making, giving, resting, telling, drawing, undrawing, untold, remembering, forgetting, sighting, unsighted, IsNewest, ClaimsAll, Houses, EntersUnit, TakesOut, TakesHeld, IsDeposit, RetiresOne, GivesAll, DiscardsAll, Watches, Recalls, ClosesHome, OfSlot}
+use Rattle.sdd_domain_invariant.specs.BankInvariant.{drawn_at, moves_at, banked, IsBank, outside}
+use Rattle.sdd_domain_invariant.specs.FractionSteps.{SeatState, CarriesAll, IsValue, CarriesSeen, moving, making, giving, resting, telling, drawing, undrawing, untold, remembering, forgetting, sighting, unsighted, IsNewest, ClaimsAll, FillsSlot, EntersUnit, TakesOut, TakesHeld, IsDeposit, RetiresOne, GivesAll, DiscardsAll, SeesOwned, LearnsOwned, ClosesHome, OfSlot}
 use Rattle.sdd_domain_invariant.specs.Records.{IsIn, KnowsShown, IsKnown, IsTelling}
 use Rattle.sdd_domain_invariant.specs.Counts.{ended_places}
-use Rattle.sdd_domain_invariant.specs.Fillings.{HasRecord, Tells, FilledPart}
+use Rattle.sdd_domain_invariant.specs.FilledInvariant.{HasRecord, Tells, FilledInvariant}
 use Rattle.sdd_domain_invariant.proofs.Part.{none_out, only_seen, of_another, before_slots, one_taken}
 use Rattle.sdd_domain_invariant.proofs.Part as part
 use Rattle.sdd_domain_invariant.proofs.Banks.{moves_none, moves_one, moves_other, moves_rest, outside_free, outside_moved, outside_there, outside_same, total_below, with_deposits, banked_then}
@@ -71,7 +71,7 @@ use Rattle.sdd_domain_invariant.proofs.Lift.{Keeps, Follows, IsCalm, keeps_ended
 full_owned : (x : ℕ) → 0 < alive x → full x ≡ 1
 full_owned x h = (sound.lives x h).1
 
-vacant_shown : (f : ℕ) (g : Gv) → f ≡ 0 → IsVacant g → IsShown f g
+vacant_shown : (f : ℕ) (g : Gv) → f ≡ 0 → IsNoValueCode g → MatchesSlotWord f g
 vacant_shown f g empty vacant = (λ e. absurd (omega arith), λ _. vacant)
 
 -- a word that has an owner, or waits, isn't both, nor free
@@ -136,11 +136,11 @@ module _ (slots id : ℕ) (me : SeatState) (live : HasPlace me.0.epoch) where
 
   -- it moves nothing in, and tells of as many owners as before, or of none
   module _ (s : State ValueFraction View) (h : DomainInvariant γ sizes s) (at : get_elem? s.views id ≡ some v) where
-    filled_by : (w : View) → w.stakes.filled ≡ v.stakes.filled → TellsNoMore w s.views → FilledPart sizes (set s.views id w)
+    filled_by : (w : View) → w.stakes.filled ≡ v.stakes.filled → TellsNoMore w s.views → FilledInvariant sizes (set s.views id w)
     filled_by w same tells = filled_after sizes s.views h.filled id v at w same tells (λ _ _. inl live)
 
     still_filled : (w : View) → w.stakes.filled ≡ v.stakes.filled → w.stakes.owns ≡ v.stakes.owns → w.stakes.waits ≡ v.stakes.waits
-        → FilledPart sizes (set s.views id w)
+        → FilledInvariant sizes (set s.views id w)
     still_filled w same owns waits = filled_same sizes s.views h.filled id v at w same owns waits (λ _. live)
 
     -- the records that it has are among those that it had
@@ -149,13 +149,13 @@ module _ (slots id : ℕ) (me : SeatState) (live : HasPlace me.0.epoch) where
     tells_old_by w owns waits = tells_old sizes s.views h.filled id v at w (told_by w v owns waits)
 
   -- what it has out but for the stakes that it may take is out still: what its guards see
-  still_seen : (w : View) → v.stakes.moves ≡ None → w.slots.sees ≡ v.slots.sees → w.epoch.place ≡ v.epoch.place → (j p : ℕ) → IsOut v j p → IsOut w j p
+  still_seen : (w : View) → v.stakes.moves ≡ None → w.slots.sees ≡ v.slots.sees → w.epoch.place ≡ v.epoch.place → (j p : ℕ) → FractionIsTaken v j p → FractionIsTaken w j p
   still_seen w rests sees place j p out = let o = only_seen v rests j p out in
       inr (subst (λ (l : List ℕ). 0 < times j l) (sym sees) o.0, place ∙ o.1)
 
   -- the same of one that moves the value of a slot, but for this slot
-  seen_but : (w : View) (slot : ℕ) → Moves v slot → w.slots.sees ≡ v.slots.sees → w.epoch.place ≡ v.epoch.place → (j p : ℕ) → j ≢ slot → IsOut v j p
-      → IsOut w j p
+  seen_but : (w : View) (slot : ℕ) → Moves v slot → w.slots.sees ≡ v.slots.sees → w.epoch.place ≡ v.epoch.place → (j p : ℕ) → j ≢ slot → FractionIsTaken v j p
+      → FractionIsTaken w j p
   seen_but w slot mine sees place j p ne out = ⊎_elim (λ (m : Moves v j). absurd (ne (one_moved v slot j mine m)))
       (λ (o : SeesFrom v j p). inr (subst (λ (l : List ℕ). 0 < times j l) (sym sees) o.0, place ∙ o.1)) out
 
@@ -193,13 +193,13 @@ module _ (slots id : ℕ) (me : SeatState) (live : HasPlace me.0.epoch) where
 
       -- where nobody sees the slot or has stakes in it out, all may be taken, which show what its word says
       pub all_taken : (o : ℕ) → away n (full_at sizes s.words slot) ≡ o → (Is : Gv → Type 0)
-          → ((p : ℕ) (y : ValueFraction) → p ≤ n → LiesAt n s.homes slot p y → IsShown (full_at sizes s.words slot) y.lot.shown → Is y.lot.shown)
+          → ((p : ℕ) (y : ValueFraction) → p ≤ n → LiesAt n s.homes slot p y → MatchesSlotWord (full_at sizes s.words slot) y.lot.shown → Is y.lot.shown)
           → ((j : ℕ) (u : View) → get_elem? s.views j ≡ some u → ¬ (Sees u slot) × ¬ (Moves u slot))
           → Taken γ n slot o Is s.homes me.1 (suc n)
       all_taken o elsewhere Is shown unseen = takes_row γ n slot o Is s.homes me.1 (suc n) (λ p l.
           let b = h.homes.back slot p inside (omega arith) (λ j u e out. ⊎_elim (λ (m : Moves u slot). (unseen j u e).1 m)
           (λ (o : SeesFrom u slot p). (unseen j u e).0 o.0) out) in
-          let has = subst (λ (k : ℕ). Has γ slot (share n k p) (IsShown (full_at sizes s.words slot)) b.0) elsewhere
+          let has = subst (λ (k : ℕ). Has γ slot (share n k p) (MatchesSlotWord (full_at sizes s.words slot)) b.0) elsewhere
           (h.homes.home slot p b.0 inside (omega arith) b.1) in (b.0, b.1, (has.0, shown p b.0 (omega arith) b.1 has.1)))
 
       -- no place ends by a step on a slot
@@ -221,7 +221,7 @@ module _ (slots id : ℕ) (me : SeatState) (live : HasPlace me.0.epoch) where
         exchanged x (free_word 0) (owned_word 0) (λ y. Follows γ sizes id i me told s y w)
         (λ hit. let free = free_is 0 (omega arith) in let dead : alive x ≡ 0 = ap alive hit ∙ free.0 in let quiet : waiting x ≡ 0 = ap waiting hit ∙ free.1 in
         let empty : full x ≡ 0 = ap full hit ∙ free.2 in
-        let tk = all_taken s h 0 (ap (away n) empty) IsVacant (λ p y _ _ sh. sh.1 empty) (λ j u e. (
+        let tk = all_taken s h 0 (ap (away n) empty) IsNoValueCode (λ p y _ _ sh. sh.1 empty) (λ j u e. (
           owning.fresh codes sound sizes s.words s.views h.kept.parts.slots id v at slot empty j u e,
           still_free γ sizes s h slot j u e dead quiet,
         )) in let now : View = making slot (owned_word 0) v in
@@ -229,7 +229,7 @@ module _ (slots id : ℕ) (me : SeatState) (live : HasPlace me.0.epoch) where
           stakes = now.stakes;
           act = tk.act;
           valid = tk.valid;
-          homes = part.takes γ sizes s.words s.views s.homes h.homes id v at slot 0 IsVacant me.1 tk (set s.words i (owned_word 0)) now refl
+          homes = part.takes γ sizes s.words s.views s.homes h.homes id v at slot 0 IsNoValueCode me.1 tk (set s.words i (owned_word 0)) now refl
               (λ j p _. still_seen now rests refl refl j p) (others s.words (owned_word 0))
               (λ j m. let e : j ≡ slot = one_moved now slot j refl m in let one = is_same slot slot refl in
               (live, inl (subst (λ (k : ℕ). 0 < times k (slot ∷ v.slots.owns)) (sym e) (omega arith))));
@@ -238,7 +238,7 @@ module _ (slots id : ℕ) (me : SeatState) (live : HasPlace me.0.epoch) where
               (λ o. let a = ((h.kept.parts.slots.each id v at).alone slot o).0 in omega arith)
               (λ o. let a = total_has (items_at slot) s.views id v at in let sum = h.kept.parts.slots.waited slot in omega arith) (owned_word 0))
               (records.mine sizes s.views s.homes h.records id v at)
-              (λ j p y _ near l. (taken_lies γ n slot 0 IsVacant s.homes me.1 tk j p y near l).1) refl (λ j m. one_moved now slot j refl m)
+              (λ j p y _ near l. (taken_lies γ n slot 0 IsNoValueCode s.homes me.1 tk j p y near l).1) refl (λ j m. one_moved now slot j refl m)
               (owning.fresh codes sound sizes s.words s.views h.kept.parts.slots id v at slot empty);
           counts = counted sizes s.words s.views h.counts id v at (set s.words i (owned_word 0)) now
               (let f = one_full sizes s.words slot (owned_word 0) inside h.kept.parts.slots.long in
@@ -275,8 +275,8 @@ module _ (slots id : ℕ) (me : SeatState) (live : HasPlace me.0.epoch) where
 
       -- a value was moved in, and what its owner doesn't keep of it goes to the bank
       pub houses : Moves v slot → OwnsAlone v slot → (shared : Bool) (value : Gv) (rest : CarriedFractions)
-          → HasAll γ slot n (spare n) (IsValue value) rest me.1 → (l : FractionContent) → l ≡ lot γ slot l.round l.shown (spare n - 1)
-          → MayDeal Comes (λ k. k ≡ l) (λ _. Houses slot shared value me)
+          → CarriesAll γ slot n (spare n) (IsValue value) rest me.1 → (l : FractionContent) → l ≡ lot γ slot l.round l.shown (spare n - 1)
+          → MayDeal Comes (λ k. k ≡ l) (λ _. FillsSlot slot shared value me)
       houses mine own shared value rest row l is s b h _ at there bank ne = let w : View = resting (telling slot shared value (drawing slot v)) in
           let r : ShownValue = record { slot = slot; shared = shared; value = value } in let unknown = unknown_owned γ sizes s h slot id v at mine own in
           let few = h.homes.few in
@@ -346,7 +346,7 @@ module _ (slots id : ℕ) (me : SeatState) (live : HasPlace me.0.epoch) where
       -- where nobody sees a slot, and its value may be moved out by this one alone, all stakes in it are taken, and the bank's deposit of it, as none is drawn
       moves_out : (s : State ValueFraction View) (b : View) (h : DomainInvariant γ sizes s) → get_elem? s.views id ≡ some v → get_elem? s.views bd ≡ some b → IsBank b
           → ¬ (id ≡ bd) → v.stakes.moves ≡ None → full_at sizes s.words slot ≡ 1 → total (drawn_at slot) s.views ≡ 0 → (Is : Gv → Type 0)
-          → ((p : ℕ) (y : ValueFraction) → p ≤ n → LiesAt n s.homes slot p y → IsShown (full_at sizes s.words slot) y.lot.shown → Is y.lot.shown)
+          → ((p : ℕ) (y : ValueFraction) → p ≤ n → LiesAt n s.homes slot p y → MatchesSlotWord (full_at sizes s.words slot) y.lot.shown → Is y.lot.shown)
           → OwnsAlone v slot ⊎ (0 < items_at slot v)
           → ((j : ℕ) (u : View) → get_elem? s.views j ≡ some u → ¬ (Sees u slot))
           → ((j : ℕ) (u : View) → get_elem? s.views j ≡ some u → id ≢ j → ¬ (Moves u slot))
@@ -354,7 +354,7 @@ module _ (slots id : ℕ) (me : SeatState) (live : HasPlace me.0.epoch) where
           → IsTelling (record v { stakes = t })
           → ((j : ℕ) (g : Gv) → KnowsShown (record v { stakes = t }) j g → KnowsShown v j g)
           → t.filled ≡ v.stakes.filled → TellsNoMore (record v { stakes = t }) s.views → (Then : FractionContent → SeatState → Type 0)
-          → ((l : FractionContent) (xs : CarriedFractions) → IsDeposit slot me l → HasAll γ slot n (spare n) Is me.1 xs → Then l (record v { stakes = t }, xs))
+          → ((l : FractionContent) (xs : CarriedFractions) → IsDeposit slot me l → CarriesAll γ slot n (spare n) Is me.1 xs → Then l (record v { stakes = t }, xs))
           → Deal (DomainInvariant γ sizes) Leaves IsBank banked s b id me bd (λ _. Unit {0}) Then
       moves_out s b h at there bank ne rests filled undrawn Is shown may unseen still t same is bank_is founds_is tells known kept no_more Then told =
           let w : View = record v { stakes = t } in
@@ -484,25 +484,25 @@ module _ (slots id : ℕ) (me : SeatState) (live : HasPlace me.0.epoch) where
         ))
 
     -- it was moved out
-    pub gives_all : Moves v slot → IsDue v slot → (rest : CarriedFractions) → HasAll γ slot n 0 IsVacant rest me.1
+    pub gives_all : Moves v slot → IsDue v slot → (rest : CarriedFractions) → CarriesAll γ slot n 0 IsNoValueCode rest me.1
         → May i (λ _. free_word 0) (λ _. OfSlot GivesAll i me (free_word 0))
     gives_all mine due rest row = let told : ℕ → SeatState → Type 0 = λ _. OfSlot GivesAll i me (free_word 0) in let y : ℕ = free_word 0 in
         lift_homes γ sizes slots id me i (λ _. y) (λ _. AtSlot GivesBack i v y) told
         (spares (λ _. y) (λ _. AtSlot GivesBack i v y) (λ r w t. ap (λ (u : View). u.places) (t slot refl).0))
         (steps.gives_back id v live slot 0 due.0 due.1 due.2 due.3 due.4 inside (omega arith))
         (λ s w h at t. let c = t slot refl in let now : View = given_back slot y v in
-        let g = gives_row γ n slot 0 IsVacant sizes.slots inside (suc n) (omega arith) s.homes rest me.1 h.homes.deep row in
+        let g = gives_row γ n slot 0 IsNoValueCode sizes.slots inside (suc n) (omega arith) s.homes rest me.1 h.homes.deep row in
         let empty = (free_is 0 (omega arith)).2 in
         subst (Follows γ sizes id i me told s y) (sym c.0) record {
           stakes = (giving now).stakes;
           act = g.act;
           valid = g.valid;
-          homes = part.gives γ sizes s.words s.views s.homes h.homes id v at slot 0 IsVacant rest me.1 g (set s.words i y) (giving now)
+          homes = part.gives γ sizes s.words s.views s.homes h.homes id v at slot 0 IsNoValueCode rest me.1 g (set s.words i y) (giving now)
               (ap (λ (x : ℕ). away n (full x)) (here s.words y (within s h)) ∙ ap (away n) empty)
               (λ g vacant. vacant_shown (full_at sizes (set s.words i y) slot) g (ap full (here s.words y (within s h)) ∙ empty) vacant)
               (seen_but (giving now) slot mine refl refl) (others s.words y) (none_out (giving now) refl);
           records = let waits : 0 < items_at slot v = (let once = c.1 in omega arith) in
-              comes_home γ sizes s h slot id v at 0 IsVacant rest me.1 g (unknown_waiting γ sizes s h slot id v at mine waits) (giving now)
+              comes_home γ sizes s h slot id v at 0 IsNoValueCode rest me.1 g (unknown_waiting γ sizes s h slot id v at mine waits) (giving now)
               (rested_tells v (h.records.each id v at) slot mine (giving now) refl (λ _ _. refl) (none_owns γ sizes s h slot id v at waits id v at)
               (λ j ne. item_kept slot j ne v.slots.waits) (λ o. let z = item_gone slot v.slots.waits in omega arith) refl)
               refl refl;
@@ -518,7 +518,7 @@ module _ (slots id : ℕ) (me : SeatState) (live : HasPlace me.0.epoch) where
               (outside_free sizes (set s.words i y) (set s.views id (giving now)) slot (ap full (here s.words y (within s h)) ∙ empty))
               (λ k ne. sym (moves_other k v slot mine ne)) (others s.words y);
           tells = at_once GivesAll y (giving now, carried_after me.1 g.act)
-              (now, (refl, c.1), refl, g.carried ∙ sym (rest_is γ slot n 0 IsVacant rest (suc n) me.1 row));
+              (now, (refl, c.1), refl, g.carried ∙ sym (rest_is γ slot n 0 IsNoValueCode rest (suc n) me.1 row));
         })
 
     -- the value of an item whose slot is held is to be moved out, after a look at each place
@@ -540,25 +540,25 @@ module _ (slots id : ℕ) (me : SeatState) (live : HasPlace me.0.epoch) where
         (λ l me'. TakesHeld slot me me' × IsDeposit slot me l) (λ l xs is row. ((refl, row), is))
 
     -- it has gone
-    pub discards : Moves v slot → Holds v slot → n ≤ v.slots.looked → (rest : CarriedFractions) → HasAll γ slot n 0 IsVacant rest me.1
+    pub discards : Moves v slot → Holds v slot → n ≤ v.slots.looked → (rest : CarriedFractions) → CarriesAll γ slot n 0 IsNoValueCode rest me.1
         → May i (λ _. free_word 0) (λ _. OfSlot DiscardsAll i me (free_word 0))
     discards mine held all rest row = let y : ℕ = free_word 0 in let told : ℕ → SeatState → Type 0 = λ _. OfSlot DiscardsAll i me y in
         lift_homes γ sizes slots id me i (λ _. y) (λ _. AtSlot Discards i v y) told (spares (λ _. y) (λ _. AtSlot Discards i v y) (λ r w t. ap (λ (u
         : View). u.places) (t slot refl)))
         (steps.discards id v live slot 0 inside held all (omega arith))
         (λ s w h at t. let now : View = discarded slot y v in
-        let g = gives_row γ n slot 0 IsVacant sizes.slots inside (suc n) (omega arith) s.homes rest me.1 h.homes.deep row in
+        let g = gives_row γ n slot 0 IsNoValueCode sizes.slots inside (suc n) (omega arith) s.homes rest me.1 h.homes.deep row in
         let empty = (free_is 0 (omega arith)).2 in
         subst (Follows γ sizes id i me told s y) (sym (t slot refl)) record {
           stakes = (giving now).stakes;
           act = g.act;
           valid = g.valid;
-          homes = part.gives γ sizes s.words s.views s.homes h.homes id v at slot 0 IsVacant rest me.1 g (set s.words i y) (giving now)
+          homes = part.gives γ sizes s.words s.views s.homes h.homes id v at slot 0 IsNoValueCode rest me.1 g (set s.words i y) (giving now)
               (ap (λ (x : ℕ). away n (full x)) (here s.words y (within s h)) ∙ ap (away n) empty)
               (λ g vacant. vacant_shown (full_at sizes (set s.words i y) slot) g (ap full (here s.words y (within s h)) ∙ empty) vacant)
               (seen_but (giving now) slot mine refl refl) (others s.words y) (none_out (giving now) refl);
           records = let own = (h.kept.parts.slots.each id v at).held slot held in
-              comes_home γ sizes s h slot id v at 0 IsVacant rest me.1 g (unknown_owned γ sizes s h slot id v at mine own) (giving now)
+              comes_home γ sizes s h slot id v at 0 IsNoValueCode rest me.1 g (unknown_owned γ sizes s h slot id v at mine own) (giving now)
               (rested_tells v (h.records.each id v at) slot mine (giving now) refl (λ i ne. without_other slot i ne v.slots.owns)
               (λ o. let z = without_same slot v.slots.owns in omega arith) (λ _ _. refl) (none_waits γ sizes s h slot id v at own id v at) refl)
               refl refl;
@@ -578,7 +578,7 @@ module _ (slots id : ℕ) (me : SeatState) (live : HasPlace me.0.epoch) where
               (outside_free sizes (set s.words i y) (set s.views id (giving now)) slot (ap full (here s.words y (within s h)) ∙ empty))
               (λ k ne. sym (moves_other k v slot mine ne)) (others s.words y);
           tells = at_once DiscardsAll y (giving now, carried_after me.1 g.act)
-              (refl, g.carried ∙ sym (rest_is γ slot n 0 IsVacant rest (suc n) me.1 row));
+              (refl, g.carried ∙ sym (rest_is γ slot n 0 IsNoValueCode rest (suc n) me.1 row));
         })
 
     -- look at the word
@@ -636,7 +636,7 @@ module _ (slots id : ℕ) (me : SeatState) (live : HasPlace me.0.epoch) where
     -- a guard comes to see it beside its owner, who knows what it shows
     pub watches : IsOpen v.epoch → v.epoch.place < n → v.stakes.moves ≡ None → (jd : ℕ) (u : View) (shared : Bool) (value : Gv) → OwnsAlone u slot
         → ¬ (Holds u slot) → get_elem? u.stakes.owns 0 ≡ some (record { slot = slot; shared = shared; value = value })
-        → AllowsBeside (DomainInvariant γ sizes) slots id me jd u (Watches slot shared value me)
+        → AllowsBeside (DomainInvariant γ sizes) slots id me jd u (SeesOwned slot shared value me)
     watches is_open near rests jd u shared value own free first s h _ at there = let p = h.kept.parts in let r = h.records in
         let record_now : ShownValue = record { slot = slot; shared = shared; value = value } in
         let told : IsIn u.stakes.owns slot value = (0, record_now, first, refl, refl) in
@@ -739,7 +739,7 @@ module _ (slots id : ℕ) (me : SeatState) (live : HasPlace me.0.epoch) where
   -- beside a slot's owner it learns what it knows of the slot, and nothing changes
   pub recalls : (jd : ℕ) (u : View) (slot : ℕ) (shared : Bool) (value : Gv) → OwnsAlone u slot
       → get_elem? u.stakes.owns 0 ≡ some (record { slot = slot; shared = shared; value = value })
-      → AllowsBeside (DomainInvariant γ sizes) slots id me jd u (Recalls slot shared value me)
+      → AllowsBeside (DomainInvariant γ sizes) slots id me jd u (LearnsOwned slot shared value me)
   recalls jd u slot shared value own first s h _ at there = (
     v,
     keeps,
@@ -787,7 +787,7 @@ module _ (slots id : ℕ) (me : SeatState) (live : HasPlace me.0.epoch) where
       }))
 
   -- the last guard is closed, whose stakes go home
-  pub closes : IsOpen v.epoch → ¬ (Scans v.epoch) → v.epoch.place < n → v.stakes.moves ≡ None → Purse γ n v.epoch.place v.stakes.sees me.1
+  pub closes : IsOpen v.epoch → ¬ (Scans v.epoch) → v.epoch.place < n → v.stakes.moves ≡ None → CarriesSeen γ n v.epoch.place v.stakes.sees me.1
       → May (state_word v.epoch.place) (λ _. 1) (λ _. ClosesHome me 1)
   closes is_open free near rests purse = let j : ℕ = state_word v.epoch.place in let q : ℕ = v.epoch.place in let le : q ≤ n = omega arith in
       lift_homes γ sizes slots id me j (λ _. 1) (λ _. ClosesAll v 1) (λ _. ClosesHome me 1)
@@ -800,7 +800,7 @@ module _ (slots id : ℕ) (me : SeatState) (live : HasPlace me.0.epoch) where
       let r = h.records in let told = r.each id v at in let mine = records.mine sizes s.views s.homes r id v at in
       let g = gives_purse γ n q sizes.slots le v.stakes.sees (λ k a. low k (subst (λ (l : List ℕ). 0 < times k l) told.sees a))
       s.homes me.1 h.homes.deep purse in
-      let now : View = record v { epoch = Rattle.sdd_word_invariant.specs.Steps.closed v.epoch; slots = Rattle.sdd_word_invariant.specs.SlotSteps.unseeing v } in
+      let now : View = record v { epoch = Rattle.sdd_word_invariant.specs.EpochSteps.closed v.epoch; slots = Rattle.sdd_word_invariant.specs.SlotSteps.unseeing v } in
       let same = λ (k : ℕ). before_slots sizes s.words j 1 k (omega arith) in
       subst (Follows γ sizes id j me (λ _. ClosesHome me 1) s 1) (sym t) record {
         stakes = record v.stakes { sees = [] };

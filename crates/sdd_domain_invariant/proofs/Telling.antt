@@ -22,9 +22,9 @@ use Rattle.sdd_word_invariant.proofs.SlotWords.{owners_in}
 use Rattle.sdd_word_invariant.proofs.Sums.{is_same, is_other, without_same, without_other, total_has, total_two, total_snoc}
 use Rattle.sdd_domain_invariant.specs.FractionsAtHome.{CarriedFractions, share, Has, Moves, LiesAt}
 use Rattle.sdd_domain_invariant.specs.DomainInvariant.{DomainInvariant}
-use Rattle.sdd_domain_invariant.specs.HomeSteps.{moving, making, resting, telling, untold, remembering, forgetting}
-use Rattle.sdd_domain_invariant.specs.Records.{slot_shown, IsIn, IsKnown, IsTelling, RecordsPart}
-use Rattle.sdd_domain_invariant.specs.Fillings.{HasRecord}
+use Rattle.sdd_domain_invariant.specs.FractionSteps.{moving, making, resting, telling, untold, remembering, forgetting}
+use Rattle.sdd_domain_invariant.specs.Records.{slot_shown, IsIn, IsKnown, IsTelling, RecordsInvariant}
+use Rattle.sdd_domain_invariant.specs.FilledInvariant.{HasRecord}
 use Rattle.sdd_domain_invariant.proofs.Records.{in_head, in_tail, in_either, in_none, in_both, in_front, in_back, in_others, in_kept, known_by}
 use Rattle.sdd_domain_invariant.proofs.Records as records
 use Rattle.sdd_domain_invariant.proofs.Fillings.{NoneTold}
@@ -205,7 +205,7 @@ module _ (γ : ℕ) (sizes : Sizes) (s : State ValueFraction View) (h : DomainIn
   pub comes_home : (o : ℕ) (Is : Gv → Type 0) (rest xs : CarriedFractions) (g : Given γ sizes.participants i o Is s.homes rest xs (suc sizes.participants))
       → ((g : Gv) → ¬ (IsKnown s.views i g)) → (w : View) → IsTelling w
       → record w.stakes { counts = v.stakes.counts } ≡ record v.stakes { moves = None } → w.slots.sees ≡ v.slots.sees
-      → RecordsPart sizes (set s.views id w) (homes_after s.homes xs g.act)
+      → RecordsInvariant sizes (set s.views id w) (homes_after s.homes xs g.act)
   comes_home o Is rest xs g never w tells is seen = let n : ℕ = sizes.participants in
       records.no_more sizes s.views s.homes h.records id v at w (homes_after s.homes xs g.act) tells
       (λ k g' a. records.mine sizes s.views s.homes h.records id v at k g' (known_by w k g'

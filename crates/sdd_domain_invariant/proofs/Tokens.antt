@@ -9,7 +9,7 @@ use lib.ListN.{get_elem?}
 use base.Stored.{Gv}
 use Rattle.atomic_table.specs.Table.{State, Enters, Splits, Joins, opening}
 use Rattle.atomic_table.proofs.Lists.{at_map, at_longer, set_else}
-use Rattle.sdd_shared_values.specs.SharedValues.{IsVacant, most}
+use Rattle.sdd_shared_values.specs.SharedValues.{IsNoValueCode, most}
 use Rattle.sdd_shared_values.specs.declared.value_fraction.ValueFraction.{ValueFraction}
 use Rattle.sdd_views.specs.declared.ShownValue.{ShownValue}
 use Rattle.sdd_views.specs.declared.CountsView.{CountsView}
@@ -22,20 +22,20 @@ use Rattle.sdd_word_invariant.specs.Slots.{slot_at, OwnsAlone}
 use Rattle.sdd_word_invariant.specs.SlotSteps.{first, others}
 use Rattle.sdd_word_invariant.specs.Epoch.{HasPlace}
 use Rattle.sdd_views.specs.Views.{owner_token, owner_of}
-use Rattle.sdd_word_invariant.specs.Parts.{epoch_of, idle}
+use Rattle.sdd_word_invariant.specs.WordInvariant.{epoch_of, idle}
 use Rattle.sdd_word_invariant.proofs.Codes.{sound}
 use Rattle.sdd_word_invariant.proofs.Lift as kept
 use Rattle.sdd_word_invariant.proofs.Frame.{each_set, each_snoc}
 use Rattle.sdd_word_invariant.proofs.Sums.{is_same, is_other, total_set, total_snoc, total_has, total_two, total_only, total_append, span_zero}
-use Rattle.sdd_domain_invariant.specs.FractionsAtHome.{stake_at, share, away, full_at, Has, IsShown, Moves, SeesFrom, IsOut, LiesAt, AreLaid, HomesPart}
-use Rattle.sdd_domain_invariant.specs.Banked.{BankPart, founder, founded, bank_of}
+use Rattle.sdd_domain_invariant.specs.FractionsAtHome.{stake_at, share, away, full_at, Has, MatchesSlotWord, Moves, SeesFrom, FractionIsTaken, LiesAt, AreLaid, FractionsInvariant}
+use Rattle.sdd_domain_invariant.specs.BankInvariant.{BankInvariant, founder, founded, bank_of}
 use Rattle.sdd_domain_invariant.proofs.Banks.{HasUnits, outside_free}
 use Rattle.sdd_domain_invariant.proofs.Banks as banks
 use Rattle.sdd_domain_invariant.specs.DomainInvariant.{DomainInvariant}
-use Rattle.sdd_domain_invariant.specs.HomeSteps.{parting, departing, regained, uncounting, counts_of, counts_token, counting}
-use Rattle.sdd_domain_invariant.specs.Records.{IsIn, KnowsShown, IsKnown, IsTelling, RecordsPart}
-use Rattle.sdd_domain_invariant.specs.Counts.{made_by, gone_by, over_by, full_slots, HasNoCounts, CountsByPlace, CountsPart}
-use Rattle.sdd_domain_invariant.specs.Fillings.{HasRecord, FilledPart}
+use Rattle.sdd_domain_invariant.specs.FractionSteps.{parting, departing, regained, uncounting, counts_of, counts_token, counting}
+use Rattle.sdd_domain_invariant.specs.Records.{IsIn, KnowsShown, IsKnown, IsTelling, RecordsInvariant}
+use Rattle.sdd_domain_invariant.specs.Counts.{made_by, gone_by, over_by, full_slots, HasNoCounts, CountsByPlace, CountsInvariant}
+use Rattle.sdd_domain_invariant.specs.FilledInvariant.{HasRecord, FilledInvariant}
 use Rattle.sdd_domain_invariant.proofs.Counts.{ended_few, uncounted_alone, more_counts}
 use Rattle.sdd_domain_invariant.proofs.Places.{inside}
 use Rattle.sdd_domain_invariant.proofs.Part.{none_out, only_seen}
@@ -46,7 +46,7 @@ use Rattle.sdd_domain_invariant.proofs.Fillings.{IsTold, has_none, has_either, t
 use Rattle.sdd_domain_invariant.proofs.Steps.{still_free}
 use Rattle.sdd_domain_invariant.proofs.Telling.{none_moved}
 
-nothing_out : (v : View) → v.stakes.moves ≡ None → v.slots.sees ≡ [] → (i p : ℕ) → ¬ (IsOut v i p)
+nothing_out : (v : View) → v.stakes.moves ≡ None → v.slots.sees ≡ [] → (i p : ℕ) → ¬ (FractionIsTaken v i p)
 nothing_out v rests blind i p out = let o = only_seen v rests i p out in let a = ap (times i) blind in let b = o.0 in absurd (omega arith)
 
 set_front : {A : Type 0} (l m : List A) (i : ℕ) (a b : A) → get_elem? l i ≡ some a → set (l ++ m) i b ≡ set l i b ++ m
@@ -62,16 +62,16 @@ module _ (γ : ℕ) (sizes : Sizes) where
         r.0,
         record {
           kept = r.1;
-          homes = subst (λ (w : View). HomesPart γ sizes s.words (s.views ++ w ∷ []) s.homes) (sym r.2.0)
+          homes = subst (λ (w : View). FractionsInvariant γ sizes s.words (s.views ++ w ∷ []) s.homes) (sym r.2.0)
               (part.arrives γ sizes s.words s.views s.homes h.homes t (nothing_out t refl refl) (none_out t refl));
-          records = subst (λ (w : View). RecordsPart sizes (s.views ++ w ∷ []) s.homes) (sym r.2.0)
+          records = subst (λ (w : View). RecordsInvariant sizes (s.views ++ w ∷ []) s.homes) (sym r.2.0)
               (records.arrives sizes s.views s.homes h.records t (telling_none t refl refl refl refl refl refl)
               (λ i g k. absurd (knows_none t refl refl refl i g k)) refl refl);
-          counts = subst (λ (w : View). CountsPart sizes s.words (s.views ++ w ∷ [])) (sym r.2.0)
+          counts = subst (λ (w : View). CountsInvariant sizes s.words (s.views ++ w ∷ [])) (sym r.2.0)
               (more_counts sizes s.words s.views h.counts t refl refl refl);
-          filled = subst (λ (w : View). FilledPart sizes (s.views ++ w ∷ [])) (sym r.2.0)
+          filled = subst (λ (w : View). FilledInvariant sizes (s.views ++ w ∷ [])) (sym r.2.0)
               (filled_more sizes s.views h.filled t (tells_none t s.views refl refl) (λ z. absurd (omega arith)));
-          bank = subst (λ (w : View). BankPart γ sizes s.words (s.views ++ w ∷ [])) (sym r.2.0)
+          bank = subst (λ (w : View). BankInvariant γ sizes s.words (s.views ++ w ∷ [])) (sym r.2.0)
               (banks.arrives γ sizes s.words s.views h.bank t refl refl refl refl);
         },
         r.2.1,
@@ -87,9 +87,9 @@ module _ (γ : ℕ) (sizes : Sizes) where
       deep = length-map xs some ∙ laid.long;
       home = λ i p y low near lies. let l = laid.each i p near (inside n sizes.slots i p low near) in
           let same : l.0 ≡ y = some-injective l.0 y (some-injective (some l.0) (some y) (sym (at_map some xs (stake_at n i p) l.0 l.1) ∙ lies)) in
-          let has = subst (Has γ i (share n 0 p) IsVacant) same l.2 in let word = none (Rattle.sdd_word_invariant.specs.Words.slot_word sizes i) in
+          let has = subst (Has γ i (share n 0 p) IsNoValueCode) same l.2 in let word = none (Rattle.sdd_word_invariant.specs.Words.slot_word sizes i) in
           let empty : full_at sizes ws i ≡ 0 = ap full word ∙ sound.free.2 in
-          subst (λ (k : ℕ). Has γ i (share n k p) (IsShown (full_at sizes ws i)) y) (sym (ap (away n) empty)) (has.0, (λ e. absurd (omega arith), λ _. has.1));
+          subst (λ (k : ℕ). Has γ i (share n k p) (MatchesSlotWord (full_at sizes ws i)) y) (sym (ap (away n) empty)) (has.0, (λ e. absurd (omega arith), λ _. has.1));
       back = λ i p low near away. let l = laid.each i p near (inside n sizes.slots i p low near) in (l.0, at_map some xs (stake_at n i p) l.0 l.1);
       moving = λ j v e. none_out v (subst (λ (u : View). u.stakes.moves ≡ None) (only j v e) refl);
     };
@@ -151,7 +151,7 @@ module _ (γ : ℕ) (sizes : Sizes) where
         homes = part.arrives γ sizes s.words (set s.views id w) s.homes
             (part.calm γ sizes s.words s.views s.homes h.homes id v at s.words w (λ i p out. out) (λ i _. refl) (none_out w rests))
             t (nothing_out t refl refl) (none_out t refl);
-        records = subst (λ (us : List View). RecordsPart sizes us s.homes) (set_front s.views (t ∷ []) id v w at)
+        records = subst (λ (us : List View). RecordsInvariant sizes us s.homes) (set_front s.views (t ∷ []) id v w at)
             (records.no_more sizes vs s.homes came id v (at_longer s.views (t ∷ []) id v at) w s.homes
             record {
               owns = λ i g k. absurd (in_none i g k);
@@ -163,7 +163,7 @@ module _ (γ : ℕ) (sizes : Sizes) where
             (λ i g k. known_by w i g (λ a. absurd (in_none i g a)) (λ a. mine_then i g (inr (inl a))) (λ a. mine_then i g (inr (inr a))) k)
             (λ i p y _ _ l. inl l) (λ i m. m) (λ i a. a));
         counts = more_counts sizes s.words (set s.views id w) (uncounted_alone sizes s.words s.views h.counts id v at w refl refl) t refl refl refl;
-        filled = subst (FilledPart sizes) (set_front s.views (t ∷ []) id v w at)
+        filled = subst (FilledInvariant sizes) (set_front s.views (t ∷ []) id v w at)
             (filled_after sizes vs known_then id v (at_longer s.views (t ∷ []) id v at) w refl
             (tells_old sizes vs known_then id v (at_longer s.views (t ∷ []) id v at) w
             (told_by w v (λ r a. absurd (has_none r [] refl a)) (λ r a. inr a))) (λ _ live. inl live));
@@ -320,11 +320,11 @@ module _ (γ : ℕ) (sizes : Sizes) where
   -- all stakes in a slot that is free are at home, and show that it is vacant
   pub free_at_home : (s : State ValueFraction View) → DomainInvariant γ sizes s → (i p : ℕ) → i < sizes.slots → p ≤ sizes.participants
       → alive (slot_at sizes s.words i) ≡ 0 → waiting (slot_at sizes s.words i) ≡ 0 → full (slot_at sizes s.words i) ≡ 0
-      → (y : ValueFraction) × LiesAt sizes.participants s.homes i p y × Has γ i (share sizes.participants 0 p) IsVacant y
+      → (y : ValueFraction) × LiesAt sizes.participants s.homes i p y × Has γ i (share sizes.participants 0 p) IsNoValueCode y
   free_at_home s h i p low near dead quiet empty = let n : ℕ = sizes.participants in let b = h.homes.back i p low near (λ j u e out. ⊎_elim
       (λ (m : Moves u i). still_free γ sizes s h i j u e dead quiet m)
       (λ (o : SeesFrom u i p). let f = (h.kept.parts.slots.each j u e).full i o.0 in absurd (omega arith)) out) in
-      let has = subst (λ (k : ℕ). Has γ i (share n k p) (IsShown (full_at sizes s.words i)) b.0) (ap (away n) empty) (h.homes.home i p b.0 low near b.1) in
+      let has = subst (λ (k : ℕ). Has γ i (share n k p) (MatchesSlotWord (full_at sizes s.words i)) b.0) (ap (away n) empty) (h.homes.home i p b.0 low near b.1) in
       (b.0, b.1, (has.0, has.1.1 empty))
 
   -- once a token knows that all places have ended, nobody has one
@@ -337,7 +337,7 @@ module _ (γ : ℕ) (sizes : Sizes) where
   pub all_home : (s : State ValueFraction View) → DomainInvariant γ sizes s → (id : ℕ) (v : View) → get_elem? s.views id ≡ some v → sizes.participants ≤ v.places.ended
       → (i p : ℕ) → i < sizes.slots → p ≤ sizes.participants
       → (y : ValueFraction) × LiesAt sizes.participants s.homes i p y
-      × Has γ i (share sizes.participants (away sizes.participants (full_at sizes s.words i)) p) (IsShown (full_at sizes s.words i)) y
+      × Has γ i (share sizes.participants (away sizes.participants (full_at sizes s.words i)) p) (MatchesSlotWord (full_at sizes s.words i)) y
   all_home s h id v at all i p low near = let b = h.homes.back i p low near (λ j u e out. no_place s h id v at all j u e (⊎_elim
       (λ (m : Moves u i). (h.homes.moving j u e i m).0)
       (λ (o : SeesFrom u i p). let open_guard = (h.kept.parts.slots.each j u e).guarded i o.0 in

@@ -5,11 +5,11 @@ use native.Mathlib.Decide.{ℕ_discrete}
 use prog.Atomic.{either}
 use base.Stored.{Gv}
 use Rattle.sdd_shared_values.specs.ValueFractions.{FractionContent}
-use Rattle.sdd_shared_values.specs.Seats.{lots, with_lots}
-use Rattle.sdd_shared_values.specs.SharedValues.{most, lot, units_in, Parts, HasWhole, top_turned, all_turned}
+use Rattle.sdd_shared_values.specs.CarriedFractions.{lots, with_lots}
+use Rattle.sdd_shared_values.specs.SharedValues.{most, lot, units_in, AreUnlentFractions, HasWhole, top_turned, all_turned}
 use Rattle.sdd_shared_values.specs.declared.value_fraction.ValueFraction.{ValueFraction}
 use Rattle.sdd_domain_invariant.specs.FractionsAtHome.{CarriedFractions, share, Has}
-use Rattle.sdd_domain_invariant.specs.HomeSteps.{HasRow, HasAll}
+use Rattle.sdd_domain_invariant.specs.FractionSteps.{CarriesFirst, CarriesAll}
 
 pub share_one : (n o p : ℕ) → p < n → share n o p ≡ 1
 share_one n o p l = ap (λ b. either b (most - n - o) 1) (ne_eqb p n (λ e. omega arith))
@@ -26,8 +26,8 @@ same_lots [] = refl
 same_lots (x ∷ xs) = ap (λ (l : CarriedFractions). x ∷ l) (same_lots xs)
 
 module _ (γ i n : ℕ) where
-  parts : (o : ℕ) (Is : Gv → Type 0) (few : n + o < most) (rest : CarriedFractions) (m : ℕ) (xs : CarriedFractions) → HasRow γ i n o Is rest m xs
-      → Parts γ i (take m (lots xs))
+  parts : (o : ℕ) (Is : Gv → Type 0) (few : n + o < most) (rest : CarriedFractions) (m : ℕ) (xs : CarriedFractions) → CarriesFirst γ i n o Is rest m xs
+      → AreUnlentFractions γ i (take m (lots xs))
   parts o Is few rest zero xs row = tt
   parts o Is few rest (suc m) [] row = absurd row
   parts o Is few rest (suc m) (x ∷ xs) row = let h : FractionContent = x.1.lot in let e = row.1.0 in let u : h.units ≡ share n o m = ap (λ (l : FractionContent). l.units) e in (
@@ -36,14 +36,14 @@ module _ (γ i n : ℕ) where
     parts o Is few rest m xs row.2,
   )
 
-  sum : (o : ℕ) (Is : Gv → Type 0) (rest : CarriedFractions) (m : ℕ) → m ≤ n → (xs : CarriedFractions) → HasRow γ i n o Is rest m xs → units_in (take m (lots xs)) ≡ m
+  sum : (o : ℕ) (Is : Gv → Type 0) (rest : CarriedFractions) (m : ℕ) → m ≤ n → (xs : CarriedFractions) → CarriesFirst γ i n o Is rest m xs → units_in (take m (lots xs)) ≡ m
   sum o Is rest zero le xs row = refl
   sum o Is rest (suc m) le [] row = absurd row
   sum o Is rest (suc m) le (x ∷ xs) row = let u : x.1.lot.units ≡ 1 = ap (λ (l : FractionContent). l.units) row.1.0 ∙ share_one n o m (omega arith) in
       let s = sum o Is rest m (omega arith) xs row.2 in omega arith
 
   -- all units but the place's own, where there is no owner
-  pub whole : (Is : Gv → Type 0) → n < most → (rest xs : CarriedFractions) → HasAll γ i n 0 Is rest xs → HasWhole γ i (suc n) Is (lots xs)
+  pub whole : (Is : Gv → Type 0) → n < most → (rest xs : CarriedFractions) → CarriesAll γ i n 0 Is rest xs → HasWhole γ i (suc n) Is (lots xs)
   whole Is few rest [] row = absurd row
   whole Is few rest (x ∷ xs) row = let u : x.1.lot.units ≡ most - n - 0 = ap (λ (l : FractionContent). l.units) row.1.0 ∙ share_last n 0 in
       let s = sum 0 Is rest n (omega arith) xs row.2 in record {
@@ -55,8 +55,8 @@ module _ (γ i n : ℕ) where
         whole = omega arith;
       }
 
-  rows_turned : (o : ℕ) (Is Js : Gv → Type 0) (a : ℕ) (g : Gv) → Js g → (rest : CarriedFractions) (m : ℕ) (xs : CarriedFractions) → HasRow γ i n o Is rest m xs
-      → HasRow γ i n o Js rest m (with_lots xs (top_turned a g m (lots xs)))
+  rows_turned : (o : ℕ) (Is Js : Gv → Type 0) (a : ℕ) (g : Gv) → Js g → (rest : CarriedFractions) (m : ℕ) (xs : CarriedFractions) → CarriesFirst γ i n o Is rest m xs
+      → CarriesFirst γ i n o Js rest m (with_lots xs (top_turned a g m (lots xs)))
   rows_turned o Is Js a g so rest zero xs row = same_lots xs ∙ row
   rows_turned o Is Js a g so rest (suc m) [] row = absurd row
   rows_turned o Is Js a g so rest (suc m) (x ∷ xs) row = (
@@ -66,12 +66,12 @@ module _ (γ i n : ℕ) where
   )
 
   -- and still once they show something else
-  pub all_after : (o : ℕ) (Is Js : Gv → Type 0) (g : Gv) (rest xs ys : CarriedFractions) → Js g → HasAll γ i n o Is rest xs → (a : ℕ) × (ys ≡ all_turned a g (suc n) xs)
-      → HasAll γ i n o Js rest ys
-  all_after o Is Js g rest xs ys so row e = subst (HasAll γ i n o Js rest) (sym e.1) (rows_turned o Is Js e.0 g so rest (suc n) xs row)
+  pub all_after : (o : ℕ) (Is Js : Gv → Type 0) (g : Gv) (rest xs ys : CarriedFractions) → Js g → CarriesAll γ i n o Is rest xs → (a : ℕ) × (ys ≡ all_turned a g (suc n) xs)
+      → CarriesAll γ i n o Js rest ys
+  all_after o Is Js g rest xs ys so row e = subst (CarriesAll γ i n o Js rest) (sym e.1) (rows_turned o Is Js e.0 g so rest (suc n) xs row)
 
   -- what is behind them
-  pub rest_is : (o : ℕ) (Is : Gv → Type 0) (rest : CarriedFractions) (m : ℕ) (xs : CarriedFractions) → HasRow γ i n o Is rest m xs → drop m xs ≡ rest
+  pub rest_is : (o : ℕ) (Is : Gv → Type 0) (rest : CarriedFractions) (m : ℕ) (xs : CarriedFractions) → CarriesFirst γ i n o Is rest m xs → drop m xs ≡ rest
   rest_is o Is rest zero xs row = row
   rest_is o Is rest (suc m) [] row = absurd row
   rest_is o Is rest (suc m) (x ∷ xs) row = rest_is o Is rest m xs row.2
@@ -87,7 +87,7 @@ module _ (γ i n : ℕ) where
   )
 
   -- the stakes of the places are the same
-  row_alike : (o o' : ℕ) (Is : Gv → Type 0) (rest : CarriedFractions) (m : ℕ) → m ≤ n → (zs : CarriedFractions) → HasRow γ i n o Is rest m zs → HasRow γ i n o' Is rest m zs
+  row_alike : (o o' : ℕ) (Is : Gv → Type 0) (rest : CarriedFractions) (m : ℕ) → m ≤ n → (zs : CarriedFractions) → CarriesFirst γ i n o Is rest m zs → CarriesFirst γ i n o' Is rest m zs
   row_alike o o' Is rest zero le zs row = row
   row_alike o o' Is rest (suc m) le [] row = absurd row
   row_alike o o' Is rest (suc m) le (z ∷ zs) row = (
@@ -98,6 +98,6 @@ module _ (γ i n : ℕ) where
 
   -- the last stake has other units then
   pub units_else : (o o' : ℕ) (Is : Gv → Type 0) (rest : CarriedFractions) (k : ℕ) (x y : ValueFraction) (xs : CarriedFractions) (u : ℕ) → u ≡ most - n - o'
-      → y.lot ≡ record x.lot { units = u } → HasAll γ i n o Is rest ((k, x) ∷ xs) → HasAll γ i n o' Is rest ((k, y) ∷ xs)
+      → y.lot ≡ record x.lot { units = u } → CarriesAll γ i n o Is rest ((k, x) ∷ xs) → CarriesAll γ i n o' Is rest ((k, y) ∷ xs)
   units_else o o' Is rest k x y xs u units is row =
       (row.0, last_with o o' Is x y u units row.1 is, row_alike o o' Is rest n (omega arith) xs row.2)

@@ -41,7 +41,7 @@ abbrev pub CountsByPlace : View → Type 0
 CountsByPlace v = v.epoch.state ≡ 0 → over_by v ≡ 0 → HasNoCounts v
 
 -- the words, and what all participants know: what was made has gone again or lies in a slot, and each place that has ended is counted once at most
-pub record CountsPart (sizes : Sizes) (ws : List ℕ) (vs : List View) : Type 0 where
+pub record CountsInvariant (sizes : Sizes) (ws : List ℕ) (vs : List View) : Type 0 where
   pub items : total made_by vs ≡ total gone_by vs + full_slots sizes ws
   pub places : total over_by vs ≤ ended_places ws sizes.participants
   pub each : (j : ℕ) (v : View) → get_elem? vs j ≡ some v → CountsByPlace v

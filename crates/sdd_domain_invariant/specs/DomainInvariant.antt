@@ -4,19 +4,19 @@ use Rattle.atomic_table.specs.Table.{State}
 use Rattle.sdd_shared_values.specs.declared.value_fraction.ValueFraction.{ValueFraction}
 use Rattle.sdd_views.specs.declared.View.{View}
 use Rattle.sdd_views.specs.declared.Sizes.{Sizes}
-use Rattle.sdd_word_invariant.specs.Parts.{WordInvariant}
-use Rattle.sdd_domain_invariant.specs.FractionsAtHome.{HomesPart}
-use Rattle.sdd_domain_invariant.specs.Records.{RecordsPart}
-use Rattle.sdd_domain_invariant.specs.Counts.{CountsPart}
-use Rattle.sdd_domain_invariant.specs.Fillings.{FilledPart}
-use Rattle.sdd_domain_invariant.specs.Banked.{BankPart}
+use Rattle.sdd_word_invariant.specs.WordInvariant.{WordInvariant}
+use Rattle.sdd_domain_invariant.specs.FractionsAtHome.{FractionsInvariant}
+use Rattle.sdd_domain_invariant.specs.Records.{RecordsInvariant}
+use Rattle.sdd_domain_invariant.specs.Counts.{CountsInvariant}
+use Rattle.sdd_domain_invariant.specs.FilledInvariant.{FilledInvariant}
+use Rattle.sdd_domain_invariant.specs.BankInvariant.{BankInvariant}
 
 -- the words and what all participants know, the stakes at home, what is known of what slots show, what was made,
 -- what a lone participant knows of owners, and what the bank has
 pub record DomainInvariant (γ : ℕ) (sizes : Sizes) (s : State ValueFraction View) : Type 0 where
   pub kept : WordInvariant sizes s
-  pub homes : HomesPart γ sizes s.words s.views s.homes
-  pub records : RecordsPart sizes s.views s.homes
-  pub counts : CountsPart sizes s.words s.views
-  pub filled : FilledPart sizes s.views
-  pub bank : BankPart γ sizes s.words s.views
+  pub homes : FractionsInvariant γ sizes s.words s.views s.homes
+  pub records : RecordsInvariant sizes s.views s.homes
+  pub counts : CountsInvariant sizes s.words s.views
+  pub filled : FilledInvariant sizes s.views
+  pub bank : BankInvariant γ sizes s.words s.views

@@ -8,7 +8,7 @@ use prog.Atomic.{either}
 use base.Stored.{Gv}
 use Rattle.core.specs.Mem.Slots.{slots_items, slots_filled, slots_len}
 use Rattle.atomic_table.specs.declared.owned.Closed.{Closed}
-use Rattle.sdd_shared_values.specs.SharedValues.{IsFull, IsVacant, most, lot}
+use Rattle.sdd_shared_values.specs.SharedValues.{IsFull, IsNoValueCode, most, lot}
 use Rattle.sdd_shared_values.specs.declared.value_fraction.ValueFraction.{ValueFraction}
 use Rattle.sdd_views.specs.declared.View.{View}
 use Rattle.sdd_views.specs.declared.Sizes.{Sizes}
@@ -53,8 +53,8 @@ abbrev pub Has : ℕ → ℕ → ℕ → (Gv → Type 0) → ValueFraction → T
 Has γ i units Is y = (y.lot ≡ lot γ i y.lot.round y.lot.shown units) × Is y.lot.shown
 
 -- what units at home show: a value, but where the slot is free
-abbrev pub IsShown : ℕ → Gv → Type 0
-IsShown f g = (f ≡ 1 → IsFull g) × (f ≡ 0 → IsVacant g)
+abbrev pub MatchesSlotWord : ℕ → Gv → Type 0
+MatchesSlotWord f g = (f ≡ 1 → IsFull g) × (f ≡ 0 → IsNoValueCode g)
 
 -- it moves the value of the slot i, in or out
 abbrev pub Moves : View → ℕ → Type 0
@@ -65,11 +65,11 @@ abbrev pub SeesFrom : View → ℕ → ℕ → Type 0
 SeesFrom v i p = Sees v i × (v.epoch.place ≡ p)
 
 -- the p-th stake in the slot i is out with it: with all others, as the value is moved, or alone, as a guard of its place sees the slot
-abbrev pub IsOut : View → ℕ → ℕ → Type 0
-IsOut v i p = Moves v i ⊎ SeesFrom v i p
+abbrev pub FractionIsTaken : View → ℕ → ℕ → Type 0
+FractionIsTaken v i p = Moves v i ⊎ SeesFrom v i p
 
 abbrev pub NoneOut : List View → ℕ → ℕ → Type 0
-NoneOut vs i p = (j : ℕ) (v : View) → get_elem? vs j ≡ some v → ¬ (IsOut v i p)
+NoneOut vs i p = (j : ℕ) (v : View) → get_elem? vs j ≡ some v → ¬ (FractionIsTaken v i p)
 
 -- who moves a value has a place, and owns it alone, or its item waits with it
 abbrev pub IsMover : View → Type 0
@@ -83,11 +83,11 @@ abbrev pub IsAtHome : ℕ → FractionsAtHome → ℕ → ℕ → Type 0
 IsAtHome n hs i p = (y : ValueFraction) × LiesAt n hs i p y
 
 -- the book of the values' places, the words, what all participants know, and what lies at home: a stake is there unless someone has it out
-pub record HomesPart (γ : ℕ) (sizes : Sizes) (ws : List ℕ) (vs : List View) (hs : FractionsAtHome) : Type 0 where
+pub record FractionsInvariant (γ : ℕ) (sizes : Sizes) (ws : List ℕ) (vs : List View) (hs : FractionsAtHome) : Type 0 where
   pub few : suc (suc sizes.participants) < most
   pub deep : length hs ≡ homes_for sizes.participants sizes.slots
   pub home : (i p : ℕ) (y : ValueFraction) → i < sizes.slots → p ≤ sizes.participants → LiesAt sizes.participants hs i p y
-      → Has γ i (share sizes.participants (away sizes.participants (full_at sizes ws i)) p) (IsShown (full_at sizes ws i)) y
+      → Has γ i (share sizes.participants (away sizes.participants (full_at sizes ws i)) p) (MatchesSlotWord (full_at sizes ws i)) y
   pub back : (i p : ℕ) → i < sizes.slots → p ≤ sizes.participants → NoneOut vs i p → IsAtHome sizes.participants hs i p
   pub moving : (j : ℕ) (v : View) → get_elem? vs j ≡ some v → IsMover v
 
@@ -99,7 +99,7 @@ pub record AreLaidTo (γ n k : ℕ) (elsewhere : ℕ → ℕ) (Is : ℕ → Gv �
 
 -- before anybody takes part: in each home its stake, which shows that the place is vacant
 abbrev pub all_vacant : ℕ → Gv → Type 0
-all_vacant i = IsVacant
+all_vacant i = IsNoValueCode
 
 abbrev pub none_away : ℕ → ℕ
 none_away i = 0
@@ -111,7 +111,7 @@ AreLaid γ n m stakes = AreLaidTo γ n (homes_for n m) none_away all_vacant stak
 pub record AreHome {A : Type 0} (γ : ℕ) (sizes : Sizes) (k : ℕ) (closed : Closed ValueFraction A) : Type 0 where
   pub laid : AreLaidTo γ sizes.participants (homes_for sizes.participants sizes.slots)
       (λ i. away sizes.participants (full_at sizes (slots_items closed.words) i))
-      (λ i. IsShown (full_at sizes (slots_items closed.words) i)) (slots_items closed.slots)
+      (λ i. MatchesSlotWord (full_at sizes (slots_items closed.words) i)) (slots_items closed.slots)
   pub low : k ≤ slots_len closed.slots
   pub here : (j : ℕ) → j < k → slice_index_or (slots_filled closed.slots) j false ≡ true
   pub gone : (j : ℕ) → k ≤ j → slice_index_or (slots_filled closed.slots) j false ≡ false

@@ -1,7 +1,7 @@
 pub mod FractionsAtHome
 pub mod Records
 pub mod Counts
-pub mod Fillings
-pub mod Banked
+pub mod FilledInvariant
+pub mod BankInvariant
 pub mod DomainInvariant
-pub mod HomeSteps
+pub mod FractionSteps

@@ -34,7 +34,7 @@ pub record IsTelling (v : View) : Type 0 where
   pub waiting : (i : ℕ) → 0 < items_at i v → ¬ (Moves v i) → (g : Gv) × IsIn v.stakes.waits i g
 
 -- all that is known of a slot is one value, which the stakes at home show; and nobody sees a slot whose value is moved
-pub record RecordsPart (sizes : Sizes) (vs : List View) (hs : FractionsAtHome) : Type 0 where
+pub record RecordsInvariant (sizes : Sizes) (vs : List View) (hs : FractionsAtHome) : Type 0 where
   pub each : (j : ℕ) (v : View) → get_elem? vs j ≡ some v → IsTelling v
   pub agree : (i : ℕ) (g h : Gv) → IsKnown vs i g → IsKnown vs i h → g ≡ h
   pub home : (i p : ℕ) (g : Gv) (y : ValueFraction) → i < sizes.slots → p ≤ sizes.participants → IsKnown vs i g → LiesAt sizes.participants hs i p y

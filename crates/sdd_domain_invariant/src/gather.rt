@@ -3,7 +3,7 @@ ghost use Rattle.std.specs.Prelude.{◌≡◌, ◌+◌, ◌<◌};
 ghost use mathlib.Core.Option.{some};
 ghost use lib.ListN.{get_elem?};
 ghost use Rattle.core.specs.Mem.Slots.{slots_items};
-ghost use Rattle.sdd_shared_values.specs.SharedValues.{most, IsWhole, IsVacant, AreVacant};
+ghost use Rattle.sdd_shared_values.specs.SharedValues.{most, HasAllUnits, IsNoValueCode, AreVacant};
 ghost use Rattle.sdd_word_invariant.specs.Codes.{full};
 ghost use Rattle.sdd_word_invariant.specs.Slots.{slot_at};
 ghost use Rattle.sdd_domain_invariant.specs.FractionsAtHome.{stake_at, none_away, all_vacant, AreLaidTo, AreLaid, AreHome};
@@ -22,8 +22,8 @@ fn gather_slot(
 ) -> ValueFraction
     requires laid { AreLaidTo title.now.book participants (stake_at participants (slot + 1) 0) none_away all_vacant laid.old.items }
     requires few { participants < most }
-    ensures whole { IsWhole title.now.book slot result.lot }
-    ensures vacant { IsVacant result.lot.shown }
+    ensures whole { HasAllUnits title.now.book slot result.lot }
+    ensures vacant { IsNoValueCode result.lot.shown }
     ensures laid { AreLaidTo title.now.book participants (stake_at participants slot 0) none_away all_vacant laid.new.items }
 {
     let _ = title;
@@ -89,8 +89,8 @@ pub fn gather_home<A: Allocator>(
     requires left { left.old ≡ stake_at sizes.now.participants (slot + 1) 0 }
     requires home { AreHome title.now.book sizes.now left.old closed.old }
     requires free { full (slot_at sizes.now (slots_items closed.old.words) slot) ≡ 0 }
-    ensures whole { IsWhole title.now.book slot result.lot }
-    ensures vacant { IsVacant result.lot.shown }
+    ensures whole { HasAllUnits title.now.book slot result.lot }
+    ensures vacant { IsNoValueCode result.lot.shown }
     ensures home { AreHome title.now.book sizes.now left.new closed.new }
     ensures left { left.new ≡ stake_at sizes.now.participants slot 0 }
     ensures words { closed.new.words ≡ closed.old.words }

@@ -1,6 +1,6 @@
 //! The stakes in the places of a new shelf, dealt to their homes.
 ghost use Rattle.std.specs.Prelude.{◌≡◌, ◌+◌, ◌<◌, ◌≤◌, [], vec_len, vec_capacity};
-ghost use Rattle.sdd_shared_values.specs.SharedValues.{most, IsWhole, IsVacant, AreVacant};
+ghost use Rattle.sdd_shared_values.specs.SharedValues.{most, HasAllUnits, IsNoValueCode, AreVacant};
 ghost use Rattle.sdd_domain_invariant.specs.FractionsAtHome.{stake_at, homes_for, none_away, all_vacant, AreLaidTo, AreLaid};
 
 use sdd_shared_values::{FractionList, ValueFraction, ValuesName};
@@ -10,8 +10,8 @@ fn lay_slot(laid: &mut Vec<ValueFraction>, whole: ValueFraction, slot: u32, part
     requires laid { AreLaidTo whole.lot.book participants (stake_at participants slot 0) none_away all_vacant laid.old.items }
     requires room { vec_len laid.old + participants < vec_capacity laid.old }
     requires few { participants < most }
-    requires whole { IsWhole whole.lot.book slot whole.lot }
-    requires vacant { IsVacant whole.lot.shown }
+    requires whole { HasAllUnits whole.lot.book slot whole.lot }
+    requires vacant { IsNoValueCode whole.lot.shown }
     ensures laid { AreLaidTo whole.lot.book participants (stake_at participants (slot + 1) 0) none_away all_vacant laid.new.items }
     ensures capacity { vec_capacity laid.new ≡ vec_capacity laid.old }
 {

@@ -5,7 +5,7 @@ use Rattle.std.proofs.lemmas.Bool.Decides.{nat_tests}
 use Rattle.sdd_participants.specs.declared.epoch_state.Participant.{Participant}
 use Rattle.sdd_participants.specs.declared.waiting.LimboEntry.TheVariants.{Item}
 use Rattle.sdd_participants.specs.EpochState.{is_open, nested, rotated, awaiting}
-use Rattle.sdd_space.specs.Own.{IsOpened, all_awaiting, changed_at}
+use Rattle.sdd_space.specs.ParticipantChanges.{GuardOpened, all_awaiting, changed_at}
 
 guards-stay : (slots : List ℕ) (p : Participant) → (all_awaiting slots p).guards ≡ p.guards
 guards-stay [] p = refl
@@ -20,5 +20,5 @@ guards-opened false false count slots p = guards-stay slots (rotated count (nest
 some-open : (n : ℕ) → nat_lt 0 (n + 1) ≡ true
 some-open n = grind (arith, nat_tests)
 
-pub opened-open : (p q : Participant) → IsOpened p q → IsTrue (is_open q)
+pub opened-open : (p q : Participant) → GuardOpened p q → IsTrue (is_open q)
 opened-open p q o = ap is_open o.own ∙ ap (λ (n : ℕ). nat_lt 0 n) (guards-opened (is_open p) (p.found == o.count) o.count o.given p) ∙ some-open p.guards

@@ -9,7 +9,7 @@ use Rattle.sdd_participants.specs.declared.standing.Standing.TheVariants.{Shared
 use Rattle.sdd_standings.specs.Slots.{IsSharedBy}
 use Rattle.sdd_world_slots.proofs.SlotsKept.{inside-some}
 use Rattle.sdd_space.specs.World.{World, standing_at, value_at}
-use Rattle.sdd_space.specs.Steps.{held_in, made_shared, owner_given, with_cell}
+use Rattle.sdd_space.specs.WorldChanges.{held_in, made_shared, owner_given, with_cell}
 use Rattle.sdd_space.proofs.Standings.{owner-given}
 use Rattle.sdd_examples.specs.Config.{IsSetTo, replaced}
 

@@ -5,7 +5,7 @@ ghost use Rattle.sdd_space.specs.Guard.{reader_of};
 ghost use Rattle.sdd_space.specs.OwnerOrCell.{AreOf};
 ghost use Rattle.sdd_space.specs.Ptr.{KeepsShown};
 ghost use Rattle.sdd_space.specs.CallerId.{IsExact, IsSeated, reader_at};
-ghost use Rattle.sdd_space.specs.Steps.{cell_closed};
+ghost use Rattle.sdd_space.specs.WorldChanges.{cell_closed};
 ghost use Rattle.sdd_space.specs.World.{World, IsPlaceOf};
 ghost use Rattle.sdd_world.specs.Place.{index_of};
 ghost use Rattle.sdd_examples.specs.Config.{IsSetTo, cell_of, cells_home, replaced};

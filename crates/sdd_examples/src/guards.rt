@@ -1,13 +1,13 @@
 //! Guards in a world, and what can be known under them.
 ghost use Rattle.std.specs.Prelude.{◌≡◌, IsTrue, Some, ℕ, ◌+◌, ◌^◌, ◌<◌, ◌≤◌, None};
-ghost use Rattle.sdd_space.specs.World.{World, IsGuarded, IsPlaceOf, place_at, standing_at, value_at};
+ghost use Rattle.sdd_space.specs.World.{World, AnyGuardOpen, IsPlaceOf, place_at, standing_at, value_at};
 ghost use Rattle.sdd_space.specs.Out.{out};
-ghost use Rattle.sdd_space.specs.Left.{Waits, accelerated_guard, four_guards};
-ghost use Rattle.sdd_space.specs.Passing.{Passes};
-ghost use Rattle.sdd_space.specs.Whole.{IsCounted, taken};
-ghost use Rattle.sdd_space.specs.Left.{left};
+ghost use Rattle.sdd_space.specs.ReclaimBound.{Waits, accelerated_guard, four_guards};
+ghost use Rattle.sdd_space.specs.AcceleratedGuards.{Passes};
+ghost use Rattle.sdd_space.specs.WorldInvariant.{IsCounted, taken};
+ghost use Rattle.sdd_space.specs.ReclaimBound.{left};
 ghost use Rattle.sdd_space.specs.Adopting.{AdoptsWhatIsLeft};
-ghost use Rattle.sdd_space.specs.Under.{CallsUnder};
+ghost use Rattle.sdd_space.specs.UnderGuards.{CallsUnder};
 ghost use Rattle.sdd_space.specs.Owned.{slot_of, slots_home};
 ghost use Rattle.sdd_space.specs.CallerId.{IsSeated, IsExact, MayNest};
 ghost use Rattle.sdd_participants.specs.EpochState.{is_open};
@@ -21,7 +21,7 @@ use sdd_world::{Place, World};
 /// Opens a guard, accelerates it and closes it.
 pub fn accelerated_guard<T: Item<T>>(world: &mut World<T>, place: &Place)
     requires place { IsPlaceOf world.old (index_of place.now) }
-    requires quiet { ¬ (IsGuarded world.old) }
+    requires quiet { ¬ (AnyGuardOpen world.old) }
     requires nesting { 1 ≤ world.old.time.nesting }
     ensures passed { world.new ≡ accelerated_guard T.holds world.old (index_of place.now) }
     ensures passes { Passes T.holds world.old (index_of place.now) }
@@ -48,12 +48,12 @@ pub fn accelerated<T: Item<T>, S: Guards<T>>(s: &mut S)
 /// Four accelerated guards, one after another: what waited with the participant is reclaimed.
 pub fn four_guards<T: Item<T>>(world: &mut World<T>, place: &Place)
     requires place { IsPlaceOf world.old (index_of place.now) }
-    requires quiet { ¬ (IsGuarded world.old) }
+    requires quiet { ¬ (AnyGuardOpen world.old) }
     requires nesting { 1 ≤ world.old.time.nesting }
     requires early { world.old.time.count + 4 ≤ 2 ^ 64 }
     ensures passed { world.new ≡ four_guards T.holds world.old (index_of place.now) }
     ensures reclaimed { (k seen : ℕ) → Waits world.old (index_of place.now) k seen → standing_at world.new k ≡ None }
-    ensures quiet { ¬ (IsGuarded world.new) }
+    ensures quiet { ¬ (AnyGuardOpen world.new) }
     ensures made { world.new.tally.made ≡ world.old.tally.made }
     ensures in_place { world.new.tally.in_place ≡ world.old.tally.in_place }
     ensures out { out world.new ≤ out world.old }

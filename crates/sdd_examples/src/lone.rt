@@ -1,9 +1,9 @@
 //! The only participant of a domain is answered as a participant of a world is: one function does for both.
 ghost use Rattle.std.specs.Prelude.{◌≡◌, ◌⊎◌, ◌+◌, ◌^◌, ◌<◌, ◌≤◌, ℕ, MatchResult, None};
 ghost use Rattle.sdd_participants.specs.Slab.{IsEmptyAt, IsFull};
-ghost use Rattle.sdd_space.specs.Left.{Waits, accelerated_guard, four_guards};
+ghost use Rattle.sdd_space.specs.ReclaimBound.{Waits, accelerated_guard, four_guards};
 ghost use Rattle.sdd_space.specs.CallerId.{IsSeated, IsExact};
-ghost use Rattle.sdd_space.specs.Steps.{made, retired};
+ghost use Rattle.sdd_space.specs.WorldChanges.{made, retired};
 ghost use Rattle.sdd_space.specs.World.{World, IsPlaceOf, standing_at};
 ghost use Rattle.sdd_world.specs.Place.{index_of};
 ghost use Rattle.sdd_domain.specs.Domain.{limits_of};

@@ -3,13 +3,13 @@ ghost use Rattle.std.specs.Prelude.{◌≡◌, ℕ, ◌+◌, ◌^◌, ◌<◌, �
 ghost use Rattle.sdd_participants.specs.Slab.{IsEmptyAt};
 ghost use Rattle.sdd_participants.specs.Tally.{no_items};
 ghost use Rattle.sdd_core.specs.Limits.{AreInRange};
-ghost use Rattle.sdd_space.specs.World.{World, IsGuarded, IsPlaceOf};
-ghost use Rattle.sdd_space.specs.Whole.{taken};
+ghost use Rattle.sdd_space.specs.World.{World, AnyGuardOpen, IsPlaceOf};
+ghost use Rattle.sdd_space.specs.WorldInvariant.{taken};
 ghost use Rattle.sdd_space.specs.Out.{out, HoldsNothing};
-ghost use Rattle.sdd_space.specs.Steps.{made, retired};
+ghost use Rattle.sdd_space.specs.WorldChanges.{made, retired};
 ghost use Rattle.sdd_world.specs.Closing.{Accounts};
 ghost use Rattle.sdd_world.specs.Place.{index_of};
-ghost use Rattle.sdd_space.specs.Passing.{HavePassed};
+ghost use Rattle.sdd_space.specs.AcceleratedGuards.{HavePassed};
 
 use crate::guards::four_guards;
 use crate::items::made_and_read;
@@ -31,7 +31,7 @@ pub const SMALL: Limits = Limits {
 
 /// Ends a world that has everything back.
 pub fn ended<T: Item<T>>(world: World<T>) -> Tally
-    requires quiet { ¬ (IsGuarded world) }
+    requires quiet { ¬ (AnyGuardOpen world) }
     requires spent { out world ≡ 0 }
     ensures { Accounts world.tally result }
 {

@@ -20,10 +20,10 @@ use Rattle.sdd_space.specs.Out.{IsNullCell, is_out}
 use Rattle.sdd_space.specs.declared.private_collector.PrivateCollector.{PrivateCollector}
 use Rattle.sdd_space.specs.Collector as collector
 use Rattle.sdd_space.specs.Owned as owned
-use Rattle.sdd_space.specs.World.{World, IsGuarded, IsPlaceOf, place_at, standing_at, value_at}
-use Rattle.sdd_space.specs.Steps.{retired, owner_given, with_standing, spilled, cell_closed, without_cell, held_in}
-use Rattle.sdd_space.specs.Whole.{IsWhole}
-use Rattle.sdd_space.specs.Accounts.{IsAccounted, owner_count}
+use Rattle.sdd_space.specs.World.{World, AnyGuardOpen, IsPlaceOf, place_at, standing_at, value_at}
+use Rattle.sdd_space.specs.WorldChanges.{retired, owner_given, with_standing, spilled, cell_closed, without_cell, held_in}
+use Rattle.sdd_space.specs.WorldInvariant.{IsWhole}
+use Rattle.sdd_space.specs.OwnerCounts.{IsAccounted, owner_count}
 use Rattle.sdd_space.proofs.Accounts.{accounted-as}
 use Rattle.sdd_space.proofs.Standings.{owner-given}
 use Rattle.sdd_world.specs.Closing.{AllGo, cell_held, held_by}
@@ -32,7 +32,7 @@ use Rattle.sdd_world.proofs.Sweeping.{all-uncounted}
 use Rattle.sdd_script_model.specs.declared.val.Val.{Val, out-Val}
 use Rattle.sdd_script_model.specs.Val.{body_of, owner_in, link_of, holdings_of}
 use Rattle.sdd_script_model.specs.ScriptState.{ScriptState, OpenSince, holding_at, opening_at, place_in, slot_at, slot_of, cell_of, collector_of, name_at, in_world, without_owner}
-use Rattle.sdd_script_model.specs.Sound.{IsSound, IsAttended, IsStocked, IsLayered, AreKept, AreAtHome, Keeper, Keeps, is_of, owns, named_owners}
+use Rattle.sdd_script_model.specs.Sound.{IsSound, ParticipantsMatch, SlotsHaveNames, HoldsOnlyOlder, EachCellHasKeeper, AreAtHome, Keeper, Keeps, is_of, owns, named_owners}
 use Rattle.sdd_script_model.specs.Sound.Keeper.{value_in, name_of, collector_named}
 use Rattle.sdd_script_model.specs.Script.{Acts, HasOpen, Meets}
 use Rattle.sdd_guard_commands.specs.Leaving.{SpendsOwner, SpendsCell, SpendsCollector, SpendsGuard, LeavesRaw}
@@ -130,7 +130,7 @@ module _ (d : ScriptState) (s : IsSound d) (shut : (g : ℕ) → opening_at d.gu
   pub all-shut : (p : ℕ) → IsTrue (is_open (place_at d.world p)) → ⊥
   all-shut p o = omega (arith, ltb-true 0 (place_at d.world p).guards o, no-guards p)
 
-  pub unguarded : IsGuarded d.world → ⊥
+  pub unguarded : AnyGuardOpen d.world → ⊥
   unguarded (p, x, lt, here, o) = all-shut p (subst (λ y. IsTrue (is_open y)) (sym (get_or_default d.world.time.places p nobody x lt ∙ here)) o)
 
   -- what lets go of something is sound after it, where these parts are
@@ -140,7 +140,7 @@ module _ (d : ScriptState) (s : IsSound d) (shut : (g : ℕ) → opening_at d.gu
     still-place : (p : ℕ) → IsPlaceOf d.world p → IsPlaceOf new.world p
     still-place p h = rw (l.places, l.phases) h
 
-    attended-let : IsAttended new
+    attended-let : ParticipantsMatch new
     attended-let = record {
       inside = λ n x e. still-place x.place (s.attended.inside n x (ap (λ (xs : List (Option OpenSince)). opening_at xs n) (sym places) ∙ e));
       apart = rw places s.attended.apart;
@@ -152,7 +152,7 @@ module _ (d : ScriptState) (s : IsSound d) (shut : (g : ℕ) → opening_at d.gu
           (was.0, rw l.phases was.1));
     }
 
-    pub sound-let : IsStocked new → AreKept new → IsLayered new → AreCounted new new.world → AreAtHome new new.owners → AreAtHome new new.cells →
+    pub sound-let : SlotsHaveNames new → EachCellHasKeeper new → HoldsOnlyOlder new → AreCounted new new.world → AreAtHome new new.owners → AreAtHome new new.cells →
         AreAtHome new new.collectors → IsSound new
     sound-let stocked keepers layered counted owners_home cells_home collectors_home = record {
       stocked = stocked;

@@ -19,8 +19,8 @@ use Rattle.sdd_participants.specs.declared.waiting.LimboEntry.TheVariants.{Item,
 use Rattle.sdd_space.specs.WorldStep.WorldStep.{registers, ends, closes, stirs, accelerates, opens, defers}
 use Rattle.sdd_space.specs.Guard.{reader_of}
 use Rattle.sdd_space.specs.CallerId.{reader_at}
-use Rattle.sdd_space.specs.Steps.{registered, ended, opened, reclaims, closed, stirred, accelerated, deferred}
-use Rattle.sdd_space.specs.Whole.{IsWhole}
+use Rattle.sdd_space.specs.WorldChanges.{registered, ended, opened, reclaims, closed, stirred, accelerated, deferred}
+use Rattle.sdd_space.specs.WorldInvariant.{IsWhole}
 use Rattle.sdd_space.specs.World.{World, IsPlaceOf}
 use Rattle.sdd_world.specs.Place.{index_of}
 use Rattle.sdd_world.specs.declared.world.Place.{Place}

@@ -14,9 +14,9 @@ use Rattle.sdd_space.specs.Collecting.{collector_closed, waiting_for, without_co
 use Rattle.sdd_space.specs.Collector as collector
 use Rattle.sdd_space.specs.OwnerOrCell as holding
 use Rattle.sdd_space.specs.Out.{IsNullCell}
-use Rattle.sdd_space.specs.Steps.{held_in, pointing}
-use Rattle.sdd_space.specs.Whole.{IsWhole}
-use Rattle.sdd_space.specs.World.{World, IsGuarded, IsPlaceOf}
+use Rattle.sdd_space.specs.WorldChanges.{held_in, pointing}
+use Rattle.sdd_space.specs.WorldInvariant.{IsWhole}
+use Rattle.sdd_space.specs.World.{World, AnyGuardOpen, IsPlaceOf}
 use Rattle.sdd_world.specs.Place.{index_of}
 use Rattle.sdd_script_text.specs.declared.name.PlaceName.{PlaceName}
 use Rattle.sdd_script_text.specs.declared.name.GuardName.{GuardName}
@@ -32,7 +32,7 @@ use Rattle.sdd_script_model.specs.Val.{holdings_of}
 use Rattle.sdd_script_model.specs.Collecting.{Collects}
 use Rattle.sdd_script_model.specs.ScriptState.{ScriptState, IsDated, collector_of, holding_at, in_world, opening_at, slot_of, without_collector}
 use Rattle.sdd_script_model.specs.Held.{owners_in, slots_waiting_for, waits_among}
-use Rattle.sdd_script_model.specs.Script.{Acts, Answers, HasOpen, IsCollector, IsOwner, IsParticipant, Meets}
+use Rattle.sdd_script_model.specs.Script.{Acts, Answers, HasOpen, IsCollector, IsOwnerName, IsParticipant, Meets}
 use Rattle.sdd_script_model.specs.Shown.{item_in}
 use Rattle.sdd_space_commands.specs.declared.holding.AnyOwner.{AnyOwner}
 use Rattle.sdd_space_commands.specs.declared.holding.AnyOwner.TheVariants.{Sole, Share}
@@ -146,7 +146,7 @@ module _ (h : Environment) (t : IsTied h) (whole : IsWhole h.world) (name : Plac
         number = number-is h t r.0 y its
 
         is-valid : (x : AnyOwner) → Some x ≡ slice_index_or h.owners.entries.items o.0 None →
-            HasOpen (desk_of h) n g.0 × IsOwner (desk_of h) o.0 × IsCollector (desk_of h) r.0
+            HasOpen (desk_of h) n g.0 × IsOwnerName (desk_of h) o.0 × IsCollector (desk_of h) r.0
         is-valid x mine = (valid, subst (λ s. IsSome (slot_of s)) (sym (entry x mine)) (owner-is x), ap is_some number)
 
         by : (x : AnyOwner) (given : Reply) → Some x ≡ slice_index_or h.owners.entries.items o.0 None →
@@ -166,12 +166,12 @@ module _ (h : Environment) (t : IsTied h) (whole : IsWhole h.world) (name : Plac
 
   -- ---- a collector is closed
 
-  pub close-refused : (r : CollectorName) (x : PrivateCollector Val) → Some x ≡ slice_index_or h.collectors.entries.items r.0 None → IsGuarded h.world →
+  pub close-refused : (r : CollectorName) (x : PrivateCollector Val) → Some x ≡ slice_index_or h.collectors.entries.items r.0 None → AnyGuardOpen h.world →
       Meets (desk_of h) (At name (call.CloseCollector r)) (reply.Refused GuardOpen) (desk_of h)
   close-refused r x mine guarded = ((here, ap is_some (number-is h t r.0 x mine)), (guarded, refl))
 
   module _ (r : CollectorName) (x : PrivateCollector Val) (mine : Some x ≡ slice_index_or h.collectors.entries.items r.0 None)
-      (quiet : ¬ (IsGuarded h.world)) (null : IsNullCell h.world (collector.collector_of x)) (w : World Val)
+      (quiet : ¬ (AnyGuardOpen h.world)) (null : IsNullCell h.world (collector.collector_of x)) (w : World Val)
       (collectors : Vec (Option (PrivateCollector Val))) (dates : Vec ℕ)
       (world : w ≡ collector_closed holdings_of h.world p (collector.collector_of x))
       (taken : collectors.items ≡ slice_set h.collectors.entries.items r.0 None) (long : length dates.items ≡ length h.dates.items)

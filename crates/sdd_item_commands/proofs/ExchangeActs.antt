@@ -17,9 +17,9 @@ use Rattle.sdd_space.specs.declared.atomic_shared.AtomicShared.{AtomicShared}
 use Rattle.sdd_space.specs.WorldStep.WorldStep.{shares}
 use Rattle.sdd_space.specs.OwnerOrCell as holding
 use Rattle.sdd_space.specs.OwnerOrCell.{OwnerOrCell}
-use Rattle.sdd_space.specs.Steps.{with_cell, with_standing, without_cell}
-use Rattle.sdd_space.specs.Under.{Stays}
-use Rattle.sdd_space.specs.Whole.{IsWhole}
+use Rattle.sdd_space.specs.WorldChanges.{with_cell, with_standing, without_cell}
+use Rattle.sdd_space.specs.UnderGuards.{CannotGo}
+use Rattle.sdd_space.specs.WorldInvariant.{IsWhole}
 use Rattle.sdd_space.specs.World.{World, IsPlaceOf, standing_at}
 use Rattle.sdd_space.specs.Shared as shared
 use Rattle.sdd_world.specs.Place.{index_of}
@@ -43,7 +43,7 @@ use Rattle.sdd_script_names.specs.declared.participants.NamedParticipant.{NamedP
 use Rattle.sdd_script_names.specs.declared.participants.NamedGuard.{NamedGuard}
 use Rattle.sdd_script_names.specs.declared.interpreter.Environment.{Environment}
 use Rattle.sdd_script_model.specs.ScriptState.{ScriptState, holding_at, cell_of, slot_of, sole_slot, shared_slot, shared_cell, opening_at}
-use Rattle.sdd_script_model.specs.Script.{Meets, HasOpen, IsCellName, IsSharedCell, CanCompare, Fits, IsNameOf, IsGivenBack, IsShareFull, MayShare, shared_once_more, slot_compared, slot_put, owner_as, owners_put, owners_taken}
+use Rattle.sdd_script_model.specs.Script.{Meets, HasOpen, IsCellName, IsSharedCell, CanCompare, FitsCell, IsNameOf, IsGivenBack, IsShareFull, MayShare, shared_once_more, slot_compared, slot_put, owner_as, owners_put, owners_taken}
 use Rattle.sdd_script_model.specs.Script.AreCalls.{none as no_call, one_more}
 use Rattle.sdd_script_model.specs.Shown.{IsCell, item_held}
 use Rattle.sdd_script_names.specs.Environment.{attending, named_owner, Fills, FitsIn, IsGiven, given_back, CanPutBack, owners_back, CanCompareAt}
@@ -104,19 +104,19 @@ owner-as (cell.Sole x) k d = refl
 owner-as (cell.Share x) k d = refl
 
 -- what goes into it
-pub fits-as : (d : ScriptState) (x : AnyCell) (y : Option OwnerName) → FitsIn d.owners (cell_kind x) y → Fits d (Some (cell_holding x)) y
+pub fits-as : (d : ScriptState) (x : AnyCell) (y : Option OwnerName) → FitsIn d.owners (cell_kind x) y → FitsCell d (Some (cell_holding x)) y
 fits-as d (cell.Sole x) None fits = refl
 fits-as d (cell.Share x) None fits = refl
 fits-as d (cell.Sole x) (Some o) fits = fits
 fits-as d (cell.Share x) (Some o) fits = fits
 
-pub fits-in : (d : ScriptState) (x : AnyCell) (y : Option OwnerName) → Fits d (Some (cell_holding x)) y → FitsIn d.owners (cell_kind x) y
+pub fits-in : (d : ScriptState) (x : AnyCell) (y : Option OwnerName) → FitsCell d (Some (cell_holding x)) y → FitsIn d.owners (cell_kind x) y
 fits-in d (cell.Sole x) None fits = tt
 fits-in d (cell.Share x) None fits = tt
 fits-in d (cell.Sole x) (Some o) fits = fits
 fits-in d (cell.Share x) (Some o) fits = fits
 
-fits-none : (d : ScriptState) (y : Option OwnerName) → Fits d None y → ⊥
+fits-none : (d : ScriptState) (y : Option OwnerName) → FitsCell d None y → ⊥
 fits-none d None fits = absurd (cc)
 fits-none d (Some o) fits = fits
 
@@ -332,8 +332,8 @@ module _ (h : Environment) (t : IsTied h) (whole : IsWhole h.world) where
 
       -- this goes into it, which is of its kind
       module _ (y : Option OwnerName) (tag : Tag) (fits : FitsIn d.owners (cell_kind x) y) where
-        abbrev put : Fits d (holding_at d.cells c.0) y
-        put = subst (λ z. Fits d z y) (sym entry) (fits-as d x y fits)
+        abbrev put : FitsCell d (holding_at d.cells c.0) y
+        put = subst (λ z. FitsCell d z y) (sym entry) (fits-as d x y fits)
 
         abbrev after_swapped : ScriptState
         after_swapped = record d {
@@ -392,7 +392,7 @@ module _ (h : Environment) (t : IsTied h) (whole : IsWhole h.world) where
 
     -- what an exchange compares with stays
     pub compared-stays : (g : ℕ) (held : NamedGuard) → slice_index_or h.guards.entries.items g None ≡ Some held → held.place ≡ p →
-        (i : Option ItemName) → CanCompare d n i → IfSome (slot_compared d i) (Stays h.world p)
+        (i : Option ItemName) → CanCompare d n i → IfSome (slot_compared d i) (CannotGo h.world p)
     compared-stays g held here own None can = tt
     compared-stays g held here own (Some i) can = stays-here h t whole name a there g i.0 held here own can
 
@@ -450,12 +450,12 @@ same-back h w owners kind y between next f world fills same back =
 -- ---- no cell of this name, or none that this goes into
 
 pub no-fit : (h : Environment) (c : ℕ) (y : Option OwnerName) → None ≡ slice_index_or h.cells.entries.items c None →
-    Fits (desk_of h) (holding_at (desk_of h).cells c) y → ⊥
+    FitsCell (desk_of h) (holding_at (desk_of h).cells c) y → ⊥
 no-fit h c y none fits =
     let entry : holding_at (desk_of h).cells c ≡ None =
     get_or-map (option_map cell_holding) h.cells.entries.items c None ∙ ap (option_map cell_holding) (sym none) in
-    fits-none (desk_of h) y (subst (λ z. Fits (desk_of h) z y) entry fits)
+    fits-none (desk_of h) y (subst (λ z. FitsCell (desk_of h) z y) entry fits)
 
 pub fits-not : (h : Environment) (c : ℕ) (x : AnyCell) (y : Option OwnerName) → slice_index_or h.cells.entries.items c None ≡ Some x →
-    ¬ (FitsIn (desk_of h).owners (cell_kind x) y) → Fits (desk_of h) (holding_at (desk_of h).cells c) y → ⊥
-fits-not h c x y mine never fits = never (fits-in (desk_of h) x y (subst (λ z. Fits (desk_of h) z y) (named-cell h c x mine) fits))
+    ¬ (FitsIn (desk_of h).owners (cell_kind x) y) → FitsCell (desk_of h) (holding_at (desk_of h).cells c) y → ⊥
+fits-not h c x y mine never fits = never (fits-in (desk_of h) x y (subst (λ z. FitsCell (desk_of h) z y) (named-cell h c x mine) fits))

@@ -12,8 +12,8 @@ use Rattle.sdd_space.specs.declared.shared.Shared.{Shared}
 use Rattle.sdd_space.specs.WorldStep.{IsFirst}
 use Rattle.sdd_space.specs.WorldStep.WorldStep.{makes, changes_cells}
 use Rattle.sdd_space.specs.OwnerOrCell.{OwnerOrCell}
-use Rattle.sdd_space.specs.Steps.{made_as, nulled}
-use Rattle.sdd_space.specs.Whole.{IsWhole}
+use Rattle.sdd_space.specs.WorldChanges.{made_as, nulled}
+use Rattle.sdd_space.specs.WorldInvariant.{IsWhole}
 use Rattle.sdd_space.specs.World.{World, IsPlaceOf, value_at}
 use Rattle.sdd_world.specs.Place.{index_of}
 use Rattle.sdd_script_text.specs.declared.name.PlaceName.{PlaceName}
@@ -41,7 +41,7 @@ use Rattle.sdd_script_model.specs.Script.{Acts, Meets, HasOpen, IsParticipant, I
 use Rattle.sdd_script_model.specs.Made.{IsPutIn, RefusesItem, owners_left, put_in}
 use Rattle.sdd_script_model.specs.Script as script
 use Rattle.sdd_script_model.specs.Script.AreCalls.{none as no_call, one_more}
-use Rattle.sdd_script_model.specs.Shown.{Shows, told_of}
+use Rattle.sdd_script_model.specs.Shown.{RepliesValue, told_of}
 use Rattle.sdd_script_names.specs.Environment.{attending, BecomesBody}
 use Rattle.sdd_space_commands.specs.Owners.{owner_holding}
 use Rattle.sdd_script_names.specs.Interpreter.{desk_of, IsTied}
@@ -78,13 +78,13 @@ module _ (h : Environment) (t : IsTied h) (whole : IsWhole h.world) where
     told-meets a (body.Owned x) meets = meets
     told-meets a (body.Shared x) meets = meets
 
-    read-does : (o : OwnerName) (b : Body Val) → ((k : ℕ) × (slot_of (holding_at d.owners o.0) ≡ Some k) × Shows d k (told_of h.names.items b)) × (d ≡ d) →
+    read-does : (o : OwnerName) (b : Body Val) → ((k : ℕ) × (slot_of (holding_at d.owners o.0) ≡ Some k) × RepliesValue d k (told_of h.names.items b)) × (d ≡ d) →
         script.Does d n (place_of d n) (call.Read o) (told_of h.names.items b) d
     read-does o (body.Number m) does = does
     read-does o (body.Owned x) does = does
     read-does o (body.Shared x) does = does
 
-    look-does : (i : ItemName) (g : GuardName) (b : Body Val) → Shows d (slot_at d i.0) (told_of h.names.items b) × (d ≡ d) →
+    look-does : (i : ItemName) (g : GuardName) (b : Body Val) → RepliesValue d (slot_at d i.0) (told_of h.names.items b) × (d ≡ d) →
         script.Does d n (place_of d n) (call.Look i g) (told_of h.names.items b) d
     look-does i g (body.Number m) does = does
     look-does i g (body.Owned x) does = does
@@ -116,7 +116,7 @@ module _ (h : Environment) (t : IsTied h) (whole : IsWhole h.world) where
       is-owner x (stage.named-owner h t whole o.0 x entry),
       ap (map (option_map owner_holding)) taken ∙ map-set (option_map owner_holding) h.owners.entries.items o.0 None,
     ) where
-      is-owner : (x : AnyOwner) → holding_at d.owners o.0 ≡ Some (owner_holding x) → script.IsOwner d o.0
+      is-owner : (x : AnyOwner) → holding_at d.owners o.0 ≡ Some (owner_holding x) → script.IsOwnerName d o.0
       is-owner (Sole x) e = ap (λ s. is_some (slot_of s)) e
       is-owner (Share x) e = ap (λ s. is_some (slot_of s)) e
 

@@ -5,7 +5,7 @@ use Rattle.std.proofs.Math.ListN.{get_or-map}
 use Rattle.std.proofs.lemmas.List.{length-set}
 use Rattle.sdd_rights.specs.Units.{GhostName}
 use Rattle.sdd_space.specs.OwnerOrCell.{AreOf}
-use Rattle.sdd_space.specs.Whole.{IsWhole}
+use Rattle.sdd_space.specs.WorldInvariant.{IsWhole}
 use Rattle.sdd_script_text.specs.declared.call.Value.{Value}
 use Rattle.sdd_script_text.specs.declared.call.Value.TheVariants.{Number, Of}
 use Rattle.sdd_script_model.specs.declared.val.Body.{Body}
@@ -17,7 +17,7 @@ use Rattle.sdd_space_commands.specs.declared.holding.AnyOwner.{AnyOwner}
 use Rattle.sdd_space_commands.specs.declared.holding.AnyOwner.TheVariants.{Sole, Share}
 use Rattle.sdd_script_names.specs.declared.interpreter.Environment.{Environment}
 use Rattle.sdd_script_model.specs.ScriptState.{holding_at, slot_of}
-use Rattle.sdd_script_model.specs.Script.{IsOwner, IsThereToPut}
+use Rattle.sdd_script_model.specs.Script.{IsOwnerName, IsThereToPut}
 use Rattle.sdd_space_commands.specs.Owners.{owner_holding}
 use Rattle.sdd_script_names.specs.Interpreter.{desk_of, IsTied}
 use Rattle.sdd_script_names.specs.Environment.{BecomesBody, IsMissing}
@@ -42,7 +42,7 @@ module _ (h : Environment) where
     entry : (x : Option AnyOwner) → slice_index_or h.owners.entries.items o.0 None ≡ x → holding_at (desk_of h).owners o.0 ≡ option_map owner_holding x
     entry x e = get_or-map (option_map owner_holding) h.owners.entries.items o.0 None ∙ ap (option_map owner_holding) e
 
-    by : (x : Option AnyOwner) → slice_index_or h.owners.entries.items o.0 None ≡ x → IsOwner (desk_of h) o.0
+    by : (x : Option AnyOwner) → slice_index_or h.owners.entries.items o.0 None ≡ x → IsOwnerName (desk_of h) o.0
     by None e = absurd (there e)
     by (Some (Sole x)) e = ap (λ s. is_some (slot_of s)) (entry (Some (Sole x)) e)
     by (Some (Share x)) e = ap (λ s. is_some (slot_of s)) (entry (Some (Share x)) e)

@@ -10,8 +10,8 @@ use Rattle.sdd_space.specs.declared.owned.Owned.{Owned}
 use Rattle.sdd_space.specs.declared.shared.Shared.{Shared}
 use Rattle.sdd_space.specs.WorldStep.WorldStep.{shares, retires, releases}
 use Rattle.sdd_space.specs.OwnerOrCell as holding
-use Rattle.sdd_space.specs.Steps.{retired, owner_given, with_standing}
-use Rattle.sdd_space.specs.Whole.{IsWhole}
+use Rattle.sdd_space.specs.WorldChanges.{retired, owner_given, with_standing}
+use Rattle.sdd_space.specs.WorldInvariant.{IsWhole}
 use Rattle.sdd_space.specs.World.{World, IsPlaceOf, standing_at}
 use Rattle.sdd_space.specs.Owned as owned
 use Rattle.sdd_space.specs.Shared as shared

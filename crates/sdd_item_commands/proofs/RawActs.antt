@@ -11,8 +11,8 @@ use Rattle.sdd_space.specs.declared.owned.Owned.{Owned}
 use Rattle.sdd_space.specs.OwnerOrCell as holding
 use Rattle.sdd_space.specs.OwnerOrCell.{OwnerOrCell}
 use Rattle.sdd_space.specs.InPlace.{MayInPlace, RefusedInPlace}
-use Rattle.sdd_space.specs.Steps.{with_standing}
-use Rattle.sdd_space.specs.Whole.{IsWhole}
+use Rattle.sdd_space.specs.WorldChanges.{with_standing}
+use Rattle.sdd_space.specs.WorldInvariant.{IsWhole}
 use Rattle.sdd_space.specs.World.{World, standing_at, value_at}
 use Rattle.sdd_space.specs.Owned as owned
 use Rattle.sdd_world.specs.Place.{index_of}
@@ -31,7 +31,7 @@ use Rattle.sdd_script_model.specs.Val.{body_of}
 use Rattle.sdd_script_model.specs.ScriptState.{ScriptState, IsThere, opening_at, holding_at, slot_at, slot_of, sole_slot}
 use Rattle.sdd_script_model.specs.Held.{slot_held}
 use Rattle.sdd_script_model.specs.InPlace.{OwnsNumber, Puts, Drops, RefusesDrop, IsRaw}
-use Rattle.sdd_script_model.specs.Script.{Acts, Meets, HasOpen, IsOwner}
+use Rattle.sdd_script_model.specs.Script.{Acts, Meets, HasOpen, IsOwnerName}
 use Rattle.sdd_script_model.specs.Shown.{told_of}
 use Rattle.sdd_space_commands.specs.declared.holding.AnyOwner.{AnyOwner}
 use Rattle.sdd_space_commands.specs.declared.holding.AnyOwner.TheVariants.{Sole, Share}
@@ -99,7 +99,7 @@ pub same-value : (h : Environment) (x : AnyOwner) (j k : ℕ) (v : Val) → slot
 same-value h x j k v e f shown = let both : Some j ≡ Some k = sym e ∙ f in let same : j ≡ k = cc in rw (← same) shown
 
 -- who owns a number is an owner
-pub owned-is : (d : ScriptState) (o : ℕ) → OwnsNumber d o → IsOwner d o
+pub owned-is : (d : ScriptState) (o : ℕ) → OwnsNumber d o → IsOwnerName d o
 owned-is d o owns = ap is_some owns.3
 
 module _ (h : Environment) (t : IsTied h) (whole : IsWhole h.world) (name : PlaceName) (a : NamedParticipant)
@@ -177,7 +177,7 @@ module _ (h : Environment) (t : IsTied h) (whole : IsWhole h.world) (name : Plac
     owner-is (Sole x) = refl
     owner-is (Share x) = refl
 
-    is-owner : IsOwner d o.0
+    is-owner : IsOwnerName d o.0
     is-owner = subst (λ s. IsSome (slot_of s)) (sym entry) (owner-is x)
 
     -- a number is changed in its place

@@ -11,7 +11,7 @@ use Rattle.std.proofs.lemmas.List.{ext_get_or, length-set, length-map, take_all}
 use Rattle.sdd_machine.specs.Bags.{has}
 use Rattle.sdd_machine.proofs.Places.{at_place, open_is}
 use Rattle.sdd_machine.proofs.InBags.{contains-both, or_nothing}
-use Rattle.sdd_machine.specs.Views.{Fits, freed_post}
+use Rattle.sdd_machine.specs.Views.{IsMachineState, freed_post}
 use Rattle.sdd_machine.specs.Table.{is_free, is_open, is_ended, Place, free_place, new_state}
 use Rattle.sdd_machine.specs.Views.{places_of}
 use Rattle.sdd_machine.specs.declared.machine.places.Scan.{Scan}
@@ -237,7 +237,7 @@ gathered_has p xs ts q i same l e =
     e
 
 -- after an adopt a free place has empty bags
-gathered_free : (p : ℕ) (xs : List PlacePhase) (b : BagsOfPlaces) (rs : List Bool) (o : Option Scan) → Fits xs b rs o → p < length xs →
+gathered_free : (p : ℕ) (xs : List PlacePhase) (b : BagsOfPlaces) (rs : List Bool) (o : Option Scan) → IsMachineState xs b rs o → p < length xs →
     is_open (get_or xs p free_post).phase ≡ true →
     (q : ℕ) → is_free (get_or (map freed_post xs) q free_post).phase ≡ true → get_or (gathered p xs b.trios) q no_items ≡ no_items
 gathered_free p xs b rs o f l opened q is =
@@ -256,8 +256,8 @@ gathered_free p xs b rs o f l opened q is =
       | false ↦ λ k. f.free q k
     ] free)
 
-pub fits_gathered : (p : ℕ) (xs : List PlacePhase) (b : BagsOfPlaces) (rs : List Bool) (o : Option Scan) → Fits xs b rs o → p < length xs →
-    is_open (get_or xs p free_post).phase ≡ true → Fits (map freed_post xs) (record b { trios = gathered p xs b.trios }) rs o
+pub fits_gathered : (p : ℕ) (xs : List PlacePhase) (b : BagsOfPlaces) (rs : List Bool) (o : Option Scan) → IsMachineState xs b rs o → p < length xs →
+    is_open (get_or xs p free_post).phase ≡ true → IsMachineState (map freed_post xs) (record b { trios = gathered p xs b.trios }) rs o
 fits_gathered p xs b rs o f l opened =
     let t = get_or b.trios p no_items in
     record {
@@ -287,7 +287,7 @@ new_seen n m xs rs b e f g =
     ∙ ap (λ (ss : List Bool). record (new_state (record { places = n; items = m })) { retired = ss }) f))
 
 pub fits_new : (n m : ℕ) (xs : List PlacePhase) (rs : List Bool) (b : BagsOfPlaces) → xs ≡ replicate n free_post → rs ≡ replicate m false →
-    b ≡ record { items = m; trios = replicate n no_items } → n ≤ 1024 → Fits xs b rs None
+    b ≡ record { items = m; trios = replicate n no_items } → n ≤ 1024 → IsMachineState xs b rs None
 fits_new n m xs rs b e f g few =
     let size : length xs ≡ n = ap (λ (ys : List PlacePhase). length ys) e ∙ length-replicate n free_post in
     record {

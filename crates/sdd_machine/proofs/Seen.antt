@@ -25,7 +25,7 @@ use Rattle.std.proofs.lemmas.Bool.{ne_eqb, eq-eqb}
 use Rattle.sdd_machine.specs.Table.{holds, adopts, is_free, published, posted, rotated, finds_another, read_of, taken_out, is_reading, Items, after, retiring, is_ended, is_open, freed, left, taking}
 use Rattle.sdd_machine.proofs.Places.{at_place, place-freed, open_is, reading_is, in_range}
 use Rattle.sdd_machine.proofs.Fates.{contains-put}
-use Rattle.sdd_machine.specs.Views.{free_post, place_of, places_of, Fits, freed_post, emptied, left_in, gathered, IsHeldOpen, IsHeld}
+use Rattle.sdd_machine.specs.Views.{free_post, place_of, places_of, IsMachineState, freed_post, emptied, left_in, gathered, IsHeldOpen, IsHeld}
 
 pub place-seen : (xs : List PlacePhase) (ts : List ThreeBags) (p : ℕ) → length ts ≡ length xs →
     get_or (places_of xs ts) p free_place ≡ place_of (get_or xs p free_post) (get_or ts p no_items)
@@ -106,9 +106,9 @@ has_rotated t i h =
     (λ b. or_left (set.contains t.current i || set.contains t.prev i) (set.contains t.next i) (or_right (set.contains t.current i) (set.contains t.prev i) b))
     (or_cases (set.contains (set.empty {R = nat_cmp}) i || set.contains t.current i) (set.contains t.prev i) h)
 
-fits_set : (xs : List PlacePhase) (b : BagsOfPlaces) (rs : List Bool) (o : Option Scan) (p : ℕ) (u : ThreeBags) → Fits xs b rs o → p < length b.trios →
+fits_set : (xs : List PlacePhase) (b : BagsOfPlaces) (rs : List Bool) (o : Option Scan) (p : ℕ) (u : ThreeBags) → IsMachineState xs b rs o → p < length b.trios →
     (is_free (get_or xs p free_post).phase ≡ true → u ≡ no_items) →
-    ((i : ℕ) → has u i ≡ true → get_or rs i false ≡ true) → Fits xs (record b { trios = set b.trios p u }) rs o
+    ((i : ℕ) → has u i ≡ true → get_or rs i false ≡ true) → IsMachineState xs (record b { trios = set b.trios p u }) rs o
 fits_set xs b rs o p u f l g h = record {
   held = f.held;
   free = λ q. at_place p q (λ t. is_free (get_or xs q free_post).phase ≡ true → get_or (set b.trios p u) q no_items ≡ no_items)
@@ -124,8 +124,8 @@ fits_set xs b rs o p u f l g h = record {
       (λ ne g. f.waits q i (subst (λ (k : ThreeBags). has k i ≡ true) (get_or-set_other b.trios p q u no_items (λ e. ne (sym e))) g));
 }
 
-pub fits_rotated : (xs : List PlacePhase) (b : BagsOfPlaces) (rs : List Bool) (o : Option Scan) (p : ℕ) → Fits xs b rs o → p < length b.trios →
-    Fits xs (record b { trios = set b.trios p (bags.rotated (get_or b.trios p no_items)) }) rs o
+pub fits_rotated : (xs : List PlacePhase) (b : BagsOfPlaces) (rs : List Bool) (o : Option Scan) (p : ℕ) → IsMachineState xs b rs o → p < length b.trios →
+    IsMachineState xs (record b { trios = set b.trios p (bags.rotated (get_or b.trios p no_items)) }) rs o
 fits_rotated xs b rs o p f l =
     fits_set xs b rs o p (bags.rotated (get_or b.trios p no_items)) f l
     (λ is. ap bags.rotated (f.free p is)) (λ i h. f.waits p i (has_rotated (get_or b.trios p no_items) i h))
@@ -147,11 +147,11 @@ retired_more rs i j l h =
     (λ e. subst (λ (k : ℕ). get_or (set rs i true) k false ≡ true) e (get_or-set_same rs i true false l))
     (λ ne. get_or-set_other rs i j true false (λ e. ne (sym e)) ∙ ⊎_elim (λ e. absurd (ne e)) (λ g. g) h)
 
-pub fits_put : (xs : List PlacePhase) (b : BagsOfPlaces) (rs : List Bool) (o : Option Scan) (p i : ℕ) → Fits xs b rs o → p < length b.trios →
+pub fits_put : (xs : List PlacePhase) (b : BagsOfPlaces) (rs : List Bool) (o : Option Scan) (p i : ℕ) → IsMachineState xs b rs o → p < length b.trios →
     is_free (get_or xs p free_post).phase ≡ false → i < length rs →
-    Fits xs (record b { trios = set b.trios p (put i (get_or b.trios p no_items)) }) (set rs i true) o
+    IsMachineState xs (record b { trios = set b.trios p (put i (get_or b.trios p no_items)) }) (set rs i true) o
 fits_put xs b rs o p i f l busy m =
-    let g : Fits xs b (set rs i true) o =
+    let g : IsMachineState xs b (set rs i true) o =
     record {
       held = f.held;
       free = f.free;
@@ -282,8 +282,8 @@ held_written xs (Some x) p y h other =
     ∙ h
 
 pub fits_written : (v : State) (c : ℕ) (xs : List PlacePhase) (b : BagsOfPlaces) (rs : List Bool) (o : Option Scan) (p : ℕ) (y : PlacePhase) →
-    seen c xs b.trios rs o ≡ v → Fits xs b rs o →
-    (holds p v.scan ≡ true → is_open (place_at v p).phase ≡ false) → p < length xs → is_free y.phase ≡ false → Fits (set xs p y) b rs o
+    seen c xs b.trios rs o ≡ v → IsMachineState xs b rs o →
+    (holds p v.scan ≡ true → is_open (place_at v p).phase ≡ false) → p < length xs → is_free y.phase ≡ false → IsMachineState (set xs p y) b rs o
 fits_written v c xs b rs o p y e f other l busy = record {
   free = λ q. at_place p q (λ t. is_free (get_or (set xs p y) q free_post).phase ≡ true → trio_at b.trios q ≡ no_items)
       (λ s is. absurd (true≢false (sym (subst (λ (j : ℕ). is_free (get_or (set xs p y) j free_post).phase ≡ true) (sym s) is)
@@ -298,6 +298,6 @@ fits_written v c xs b rs o p y e f other l busy = record {
 }
 
 pub fits_scanned : (v : State) (c : ℕ) (xs : List PlacePhase) (b : BagsOfPlaces) (rs : List Bool) (x o : Option Scan) → seen c xs b.trios rs x ≡ v →
-    Fits xs b rs x → IsHeld v o → Fits xs b rs o
+    IsMachineState xs b rs x → IsHeld v o → IsMachineState xs b rs o
 fits_scanned v c xs b rs x o e f h =
     record { held = seen_held v c xs b.trios rs x o e f.same h; free = f.free; few = f.few; same = f.same; room = f.room; waits = f.waits }

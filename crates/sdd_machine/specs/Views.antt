@@ -31,7 +31,7 @@ IsHeld state (Some scan) = is_open (place_at state scan.holder).phase ≡ true
 
 -- as many bags as places, what is in a bag was retired, a free place has empty bags, and the holder of the lock is
 -- open
-pub record Fits (posts : List PlacePhase) (bags : BagsOfPlaces) (retired : List Bool) (scan : Option Scan) : Type 0 where
+pub record IsMachineState (posts : List PlacePhase) (bags : BagsOfPlaces) (retired : List Bool) (scan : Option Scan) : Type 0 where
   pub held : IsHeldOpen posts scan
   pub free : (place : ℕ) → is_free (slice_index_or posts place free_post).phase ≡ true → trio_at bags.trios place ≡ no_items
   pub few : length posts ≤ 1024

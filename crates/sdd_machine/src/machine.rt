@@ -52,7 +52,7 @@ impl Model for Machine {
 
     ghost coded = { Prim.hlevel (codes, items_code) };
 
-    ghost use Rattle.sdd_machine.specs.Views.{places_of, Fits};
+    ghost use Rattle.sdd_machine.specs.Views.{places_of, IsMachineState};
 
     ghost view = { λ a. record {
       count = a.count;
@@ -61,7 +61,7 @@ impl Model for Machine {
       scan = a.scan;
     } };
 
-    ghost invariant = { λ a. Fits a.posts.items a.bags a.retired.items a.scan };
+    ghost invariant = { λ a. IsMachineState a.posts.items a.bags a.retired.items a.scan };
 }
 
 impl Machine {

@@ -224,7 +224,7 @@ abbrev pub waiting_count : Participant → ℕ
 waiting_count p = length p.bags.waiting
 
 -- each place has its room and its phase, there is memory for as many as there may be, where one has ended the mark is set, and a guard may be opened
-pub record IsTimely (places : List Participant) (phases : PlaceStates) (marked : Bool) (nesting room capacity : ℕ) : Type 0 where
+pub record IsEpochState (places : List Participant) (phases : PlaceStates) (marked : Bool) (nesting room capacity : ℕ) : Type 0 where
   pub reserved : All (λ (p : Participant). p.bags.room ≡ room) places
   pub phased : length phases.entries ≡ length places
   pub kept : phases.room ≤ capacity

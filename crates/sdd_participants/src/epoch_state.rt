@@ -46,7 +46,7 @@ pub struct EpochState {
 }
 
 impl Model for EpochState {
-    ghost use Rattle.sdd_participants.specs.EpochState.{EpochState, IsTimely};
+    ghost use Rattle.sdd_participants.specs.EpochState.{EpochState, IsEpochState};
     ghost use Rattle.std.specs.Prelude.{vec_capacity};
 
     ghost Value = { EpochState };
@@ -61,7 +61,7 @@ impl Model for EpochState {
       room = t.room;
     } };
 
-    ghost invariant = { λ t. IsTimely t.places.items t.phases t.marked t.nesting t.room (vec_capacity t.places) };
+    ghost invariant = { λ t. IsEpochState t.places.items t.phases t.marked t.nesting t.room (vec_capacity t.places) };
 }
 
 impl Participant {

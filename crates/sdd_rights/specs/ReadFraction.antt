@@ -6,12 +6,12 @@ use denote.Sharing.{one, beside}
 use Rattle.sdd_rights.specs.Units.{share_of, units, tokens}
 
 -- the code of a value, and not of nothing
-abbrev pub IsFull : Gv → Type 0
-IsFull gnil = ⊥
-IsFull (gnum n) = ⊥
-IsFull (gcons a b) = Unit {0}
+abbrev pub IsValueCode : Gv → Type 0
+IsValueCode gnil = ⊥
+IsValueCode (gnum n) = ⊥
+IsValueCode (gcons a b) = Unit {0}
 
-pub IsFull-prop : (g : Gv) → IsProp (IsFull g)
+pub IsFull-prop : (g : Gv) → IsProp (IsValueCode g)
 IsFull-prop gnil = λ x y. absurd x
 IsFull-prop (gnum n) = λ x y. absurd x
 IsFull-prop (gcons a b) = λ x y i. x

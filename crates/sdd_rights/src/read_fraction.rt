@@ -3,7 +3,7 @@ ghost use Rattle.std.specs.Prelude.{ℕ};
 ghost use Rattle.std.specs.Coded.{prop_coded};
 ghost use base.Stored.{Gv};
 ghost use Rattle.sdd_rights.specs.Units.{gv_coded};
-ghost use Rattle.sdd_rights.specs.ReadFraction.{IsFull, IsFull-prop, grip_owns, grip_shares};
+ghost use Rattle.sdd_rights.specs.ReadFraction.{IsValueCode, IsFull-prop, grip_owns, grip_shares};
 
 use crate::fraction::GhostKeys;
 use std::marker::{Model, PhantomData};
@@ -22,7 +22,7 @@ pub struct ReadFraction {
     pub ghost round: { ℕ },
     /// What all units of the number show.
     pub ghost shown: { Gv } by { gv_coded },
-    pub ghost full: { IsFull shown } by { prop_coded (IsFull-prop shown) },
+    pub ghost full: { IsValueCode shown } by { prop_coded (IsFull-prop shown) },
 }
 
 impl Model for ReadFraction {

@@ -5,10 +5,10 @@
 //! `sdd_script::play_steps` what a play reads and writes. No clause says what the host gives or prints.
 #![tactic(auto)]
 
+use sdd_script::{Reader, Writer, play, play_steps};
 use sdd_script_text::{
     Choice, Outcome, after_printing, asked, failure, line, status, without_arguments,
 };
-use sdd_script::{Reader, Writer, play, play_steps};
 use std::process::ExitCode;
 use std::rt::Env;
 use std::{env, io};

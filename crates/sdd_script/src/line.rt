@@ -1,9 +1,9 @@
 //! One line of a script.
 ghost use Rattle.std.specs.Prelude.{◌≡◌, ◌≢◌, ◌+◌, ◌^◌, ◌<◌, MatchResult};
-ghost use Rattle.sdd_space.specs.Left.{GoesInTime};
+ghost use Rattle.sdd_space.specs.ReclaimBound.{GoesInTime};
 ghost use Rattle.sdd_script_model.specs.Val.{holdings_of};
 ghost use Rattle.sdd_script_model.specs.ScriptState.{BeginsLine, later};
-ghost use Rattle.sdd_script_model.specs.Script.{Acts, Answers, Step};
+ghost use Rattle.sdd_script_model.specs.Script.{Acts, Answers, LineStep};
 
 use sdd_core::Refused;
 use sdd_guard_commands::{guards, participants};
@@ -14,7 +14,7 @@ use sdd_script_text::{Action, Answer, Call, CollectorName, PlaceName, Reply};
 /// One line. `NoMemory` alone refuses it.
 pub fn step(stage: &mut Interpreter, call: &Call) -> Result<Answer, Refused>
     requires more { stage.old.moment + 1 < 2 ^ 64 }
-    ensures step { MatchResult result (λ answer. Step stage.old call.now answer stage.new × GoesInTime holdings_of stage.new.world)
+    ensures step { MatchResult result (λ answer. LineStep stage.old call.now answer stage.new × GoesInTime holdings_of stage.new.world)
         (λ refused. (refused ≡ Refused.NoMemory) × (stage.new ≡ later stage.old)) }
 {
     stage.hand.moment += 1;

@@ -11,11 +11,10 @@
 
 use crate::plays::played;
 use crate::verdict::Verdict;
-use sdd_script_text::USUAL_LIMITS;
 use sdd_core::Limits;
 use sdd_participants::Tally;
 use sdd_script::{Ended, Reply, run};
-use sdd_script_text::{Script, parse_all};
+use sdd_script_text::{Script, USUAL_LIMITS, parse_all};
 use std::alloc::{AllocError, Global};
 
 /// The lines of a script, and the answers that are expected of them.

@@ -1,9 +1,9 @@
 //! Plays of scripts and of schedules.
 
 use crate::verdict::Verdict;
-use sdd_script_text::USUAL_LIMITS;
 use sdd_core::Limits;
 use sdd_script::{Ended, Reader, Writer, play, play_steps};
+use sdd_script_text::USUAL_LIMITS;
 use std::alloc::{AllocError, Global};
 
 /// How a play of a script within these limits ends, and what it writes.

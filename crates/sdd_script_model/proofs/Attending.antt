@@ -8,8 +8,8 @@ use Rattle.sdd_participants.specs.declared.place_states.PlaceState.{PlaceState}
 use Rattle.sdd_participants.specs.declared.place_states.PlaceState.TheVariants.{Ended}
 use Rattle.sdd_participants.proofs.Adopting.{keeps-closed}
 use Rattle.sdd_core.specs.declared.limits.Limits.{Limits}
-use Rattle.sdd_space.specs.Own.{all_awaiting, opened_at}
-use Rattle.sdd_space.specs.Steps as steps
+use Rattle.sdd_space.specs.ParticipantChanges.{all_awaiting, opened_at}
+use Rattle.sdd_space.specs.WorldChanges as steps
 use Rattle.sdd_space.proofs.Whole.{one_where, count-cons, all_awaiting-guards}
 use Rattle.sdd_space.proofs.Own.{Gives, Gives-owner_given, Gives-cell_closed, Gives-dropped, Gives-all_reclaimed}
 use Rattle.sdd_space.proofs.Own as own

@@ -9,14 +9,14 @@ use Rattle.sdd_participants.specs.Slab.{Entries, IsEmptyAt, entry_at, with_entry
 use Rattle.sdd_participants.specs.declared.standing.CellContents.{CellContents}
 use Rattle.sdd_participants.specs.declared.standing.Standing.TheVariants.{Shared}
 use Rattle.sdd_standings.specs.Slots.{IsSharedBy, is_waiting}
-use Rattle.sdd_space.specs.Accounts.{holds_slot, is_of}
+use Rattle.sdd_space.specs.OwnerCounts.{holds_slot, is_of}
 use Rattle.sdd_space.specs.WorldStep.{WorldStep}
 use Rattle.sdd_space.specs.WorldStep.WorldStep.{changes_cells, closes_cell, shares}
 use Rattle.sdd_space.specs.OwnerOrCell.{OwnerOrCell, IsOf}
 use Rattle.sdd_space.specs.OwnerOrCell as holding
 use Rattle.sdd_space.specs.Out.{is_out}
-use Rattle.sdd_space.specs.Steps.{held_in, with_cell, with_standing, without_cell, cell_closed}
-use Rattle.sdd_space.specs.Whole.{IsWhole}
+use Rattle.sdd_space.specs.WorldChanges.{held_in, with_cell, with_standing, without_cell, cell_closed}
+use Rattle.sdd_space.specs.WorldInvariant.{IsWhole}
 use Rattle.sdd_space.specs.World.{World, IsPlaceOf, standing_at}
 use Rattle.sdd_space.proofs.Accounts.{accounted-shared, accounted-with_cell}
 use Rattle.sdd_space.proofs.Housed.{Whole-cells}
@@ -26,10 +26,10 @@ use Rattle.sdd_script_text.specs.declared.name.OwnerName.{OwnerName}
 use Rattle.sdd_script_model.specs.declared.val.Val.{Val}
 use Rattle.sdd_script_model.specs.Val.{holdings_of}
 use Rattle.sdd_script_model.specs.ScriptState.{ScriptState, IsDated, holding_at, cell_of, slot_of, sole_slot, shared_slot, in_world}
-use Rattle.sdd_script_model.specs.Script.{AreCalls, IsOwner, FitsSole, FitsShared, Fits, MayShare, shared_once_more, slot_put, owners_put, owners_taken, cell_as, owner_as}
+use Rattle.sdd_script_model.specs.Script.{AreCalls, IsOwnerName, FitsSole, FitsShared, FitsCell, MayShare, shared_once_more, slot_put, owners_put, owners_taken, cell_as, owner_as}
 use Rattle.sdd_script_model.specs.Script.AreCalls.{none as no_call, one_more}
 use Rattle.sdd_script_model.specs.Shown.{IsCell}
-use Rattle.sdd_script_model.specs.Sound.{IsSound, AreDeferred, AreKept, AreAtHome, named_owners, owns}
+use Rattle.sdd_script_model.specs.Sound.{IsSound, AreDeferred, EachCellHasKeeper, AreAtHome, named_owners, owns}
 use Rattle.sdd_script_model.proofs.Entry.{is-there, inside}
 use Rattle.sdd_script_model.proofs.Stocked.{stocked-as, no_slot-same, no_slot-standing, no_slot-cell_closed, slot-inside}
 use Rattle.sdd_script_model.proofs.Keepers.{keepers-filled, keepers-named, keepers-closed, closed-bare, closed-same, named-cell}
@@ -47,7 +47,7 @@ use Rattle.sdd_script_model.proofs.Going.{at_home-spent, at_home-given}
 -- it has a name, if it is an owner
 abbrev pub IsPut : ScriptState → Option OwnerName → Type 0
 IsPut d None = Unit {0}
-IsPut d (Some o) = IsOwner d o.0
+IsPut d (Some o) = IsOwnerName d o.0
 
 sole-owner : (x : Option OwnerOrCell) → IsSome (sole_slot x) → IsSome (slot_of x)
 sole-owner None e = absurd (cc)
@@ -73,7 +73,7 @@ pub put-shared : (d : ScriptState) (x : Option OwnerName) → FitsShared d x →
 put-shared d None fits = tt
 put-shared d (Some o) fits = shared-owner (holding_at d.owners o.0) fits
 
-pub put-fits : (d : ScriptState) (cell : Option OwnerOrCell) (x : Option OwnerName) → Fits d cell x → IsPut d x
+pub put-fits : (d : ScriptState) (cell : Option OwnerOrCell) (x : Option OwnerName) → FitsCell d cell x → IsPut d x
 put-fits d cell None fits = tt
 put-fits d None (Some o) fits = absurd fits
 put-fits d (Some (holding.owned k home)) (Some o) fits = absurd fits
@@ -199,7 +199,7 @@ module _ (d : ScriptState) (s : IsSound d) where
       dated-cells : IsDated d after_cells
       dated-cells = dated-same d after_cells refl refl
 
-      sound-cells : AreKept after_cells → AreCounted after_cells after_cells.world → AreAtHome d owners → AreAtHome d names → IsSound after_cells
+      sound-cells : EachCellHasKeeper after_cells → AreCounted after_cells after_cells.world → AreAtHome d owners → AreAtHome d names → IsSound after_cells
       sound-cells kept counted owners_home cells_home =
           let keeps = keeps-time d.world after_cells.world refl in
           record {

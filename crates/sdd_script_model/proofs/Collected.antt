@@ -16,9 +16,9 @@ use Rattle.sdd_space.specs.Collecting.{collected, owner_collected}
 use Rattle.sdd_space.specs.OwnerOrCell.{OwnerOrCell, atomic_raw}
 use Rattle.sdd_space.specs.OwnerOrCell as holding
 use Rattle.sdd_space.specs.Out.{is_out}
-use Rattle.sdd_space.specs.Steps.{nulled, pointing, retired, with_standing}
-use Rattle.sdd_space.specs.Accounts.{owner_count}
-use Rattle.sdd_space.specs.Whole.{IsWhole}
+use Rattle.sdd_space.specs.WorldChanges.{nulled, pointing, retired, with_standing}
+use Rattle.sdd_space.specs.OwnerCounts.{owner_count}
+use Rattle.sdd_space.specs.WorldInvariant.{IsWhole}
 use Rattle.sdd_space.specs.World.{World, IsPlaceOf, place_at, standing_at}
 use Rattle.sdd_space.proofs.Housed.{Whole-cells}
 use Rattle.sdd_space.proofs.Standings.{out-inside, out-some, out-waits-not}

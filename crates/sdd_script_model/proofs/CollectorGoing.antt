@@ -14,9 +14,9 @@ use Rattle.sdd_participants.specs.declared.waiting.LimboEntry.{LimboEntry}
 use Rattle.sdd_participants.specs.declared.waiting.LimboEntry.TheVariants.{Item, Job}
 use Rattle.sdd_space.specs.WorldStep.WorldStep.{closes_collector}
 use Rattle.sdd_space.specs.Collecting.{collector_closed, is_for, waiting_for, without_collector as freed_collector}
-use Rattle.sdd_space.specs.Steps.{all_reclaimed, freed, held_in, reclaimed, taken_out, waiting_value}
-use Rattle.sdd_space.specs.Whole.{IsWhole}
-use Rattle.sdd_space.specs.World.{World, IsGuarded, IsPlaceOf, place_at, standing_at}
+use Rattle.sdd_space.specs.WorldChanges.{all_reclaimed, freed, held_in, reclaimed, taken_out, waiting_value}
+use Rattle.sdd_space.specs.WorldInvariant.{IsWhole}
+use Rattle.sdd_space.specs.World.{World, AnyGuardOpen, IsPlaceOf, place_at, standing_at}
 use Rattle.sdd_space.proofs.Accounts.{accounted-all_reclaimed}
 use Rattle.sdd_space.proofs.Guarded.{guarded}
 use Rattle.sdd_space.proofs.Standings.{out-waits-not}
@@ -35,7 +35,7 @@ use Rattle.sdd_script_model.specs.ScriptState.{ScriptState, OpenSince, IsDated, 
 use Rattle.sdd_script_model.specs.Script.{AreCalls, NamesWhatGoes, NamesWhatRuns}
 use Rattle.sdd_script_model.specs.Script.AreCalls.{none as no_call, one_more}
 use Rattle.sdd_script_model.specs.Shown.{item_in}
-use Rattle.sdd_script_model.specs.Sound.{IsSound, AreDeferred, AreKept, named_owners}
+use Rattle.sdd_script_model.specs.Sound.{IsSound, AreDeferred, EachCellHasKeeper, named_owners}
 use Rattle.sdd_script_model.proofs.Attending.{KeepsGuards, keeps-gives, attended-acts}
 use Rattle.sdd_script_model.proofs.Counting.{AreCounted, counted-into_none}
 use Rattle.sdd_script_model.proofs.Dates.{dated-among, early-dated}
@@ -91,7 +91,7 @@ items-jobs (Job j ∷ xs) w p h = absurd h
 
 module _ (d : ScriptState) (s : IsSound d) (whole : IsWhole d.world) (p c n : ℕ) (live : IsPlaceOf d.world p)
     (named : collector_of (holding_at d.collectors n) ≡ Some c) (bare : held_in (entry_at d.world.cells c) ≡ None)
-    (quiet : IsGuarded d.world → ⊥) (new_dates : List ℕ) where
+    (quiet : AnyGuardOpen d.world → ⊥) (new_dates : List ℕ) where
   abbrev pub after_uncollected : ScriptState
   after_uncollected = record (in_world (without_collector d n) (collector_closed holdings_of d.world p c)) { dates = new_dates }
 
@@ -120,7 +120,7 @@ module _ (d : ScriptState) (s : IsSound d) (whole : IsWhole d.world) (p c n : �
   shut : (q : ℕ) → IsTrue (is_open (place_at after_uncollected.world q)) → ⊥
   shut q o = quiet (guarded d.world q (subst (λ g. IsTrue (nat_lt 0 g)) (keeps.guards q) o))
 
-  kept-cells : AreKept (in_world (without_collector d n) after_uncollected.world)
+  kept-cells : EachCellHasKeeper (in_world (without_collector d n) after_uncollected.world)
   kept-cells =
       all-kept (without_collector d n) p gone start
       (keepers-uncollected d (in_world (without_collector d n) start) n c s.cells named refl refl refl refl)
@@ -186,7 +186,7 @@ module _ (d : ScriptState) (s : IsSound d) (whole : IsWhole d.world) (p c n : �
 -- ---- what the close of a collector answers
 
 module _ (d : ScriptState) (s : IsSound d) (whole : IsWhole d.world) (c : ℕ) (name : PlaceName) (k : CollectorName)
-    (named : collector_of (holding_at d.collectors k.0) ≡ Some c) (quiet : IsGuarded d.world → ⊥) where
+    (named : collector_of (holding_at d.collectors k.0) ≡ Some c) (quiet : AnyGuardOpen d.world → ⊥) where
   -- no guard has a name
   pub no-guard : (g : ℕ) (y : OpenSince) → opening_at d.guards g ≡ Some y → ⊥
   no-guard g y e = quiet (guarded d.world y.place (lt-ltb 0 (place_at d.world y.place).guards (open-guard d s g y e)))

@@ -13,8 +13,8 @@ use Rattle.sdd_space.specs.OwnerOrCell.{OwnerOrCell, owned, shared, atomic_owned
 use Rattle.sdd_space.specs.WorldStep.{IsFirst}
 use Rattle.sdd_space.specs.Out.{is_out}
 use Rattle.sdd_space.specs.World.{World, IsBlank, standing_at, value_at}
-use Rattle.sdd_space.specs.Steps.{made_as, nulled, retired, owner_given, with_standing, with_cell, without_cell, cell_closed, opened, held_in}
-use Rattle.sdd_space.specs.Accounts.{is_owner_of, is_of, holds_slot, times_held, IsAccounted}
+use Rattle.sdd_space.specs.WorldChanges.{made_as, nulled, retired, owner_given, with_standing, with_cell, without_cell, cell_closed, opened, held_in}
+use Rattle.sdd_space.specs.OwnerCounts.{is_owner_of, is_of, holds_slot, times_held, IsAccounted}
 use Rattle.sdd_space.proofs.Whole.{one_where, count-cons}
 use Rattle.sdd_space.proofs.Standings.{out-some, out-inside}
 use Rattle.sdd_space.proofs.Accounts.{sum-out, accounted-as, accounted-blank, accounted-nulled, accounted-made_as, accounted-owner_given, accounted-shared, accounted-with_cell, accounted-without_cell, accounted-cell_closed, accounted-opened, outside-out, in_value-out, in_cell-out}

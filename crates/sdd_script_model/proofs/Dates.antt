@@ -8,9 +8,9 @@ use Rattle.sdd_space.specs.WorldStep.{WorldStep, IsFirst}
 use Rattle.sdd_space.specs.WorldStep.WorldStep.{registers, ends, opens, closes, stirs, accelerates, makes, shares, retires, releases, defers, collects, closes_collector, edits, drops, puts_out_raw, takes_back_raw, changes_cells, changes_pointers, closes_cell}
 use Rattle.sdd_core.specs.declared.limits.Limits.{Limits}
 use Rattle.sdd_space.specs.InPlace.{IsAlone}
-use Rattle.sdd_space.specs.Steps.{with_standing, without_cell, spilled, held_in, dropped_out, vacated}
+use Rattle.sdd_space.specs.WorldChanges.{with_standing, without_cell, spilled, held_in, dropped_out, vacated}
 use Rattle.sdd_space.specs.World.{value_at}
-use Rattle.sdd_space.specs.Whole.{is_of_slot}
+use Rattle.sdd_space.specs.WorldInvariant.{is_of_slot}
 use Rattle.sdd_space.specs.Collecting.{is_for, waiting_for, without_collector}
 use Rattle.sdd_space.proofs.Listed.{listed-without}
 use Rattle.sdd_space.proofs.Whole.{times_among, times-aged}

@@ -6,9 +6,9 @@ use Rattle.std.proofs.lemmas.List.Sorted.{sum_by-IsPermutation, IsPermutation-sy
 use Rattle.std.proofs.lemmas.List.Sums.{get_or-le-sum_by}
 use Rattle.sdd_participants.specs.EpochState.{due_next, nobody}
 use Rattle.sdd_space.specs.Jobs.{RunsJobsOnce}
-use Rattle.sdd_space.specs.Steps.{owner_given, cell_closed, given_all, opened}
-use Rattle.sdd_space.specs.Steps as steps
-use Rattle.sdd_space.specs.Whole.{is_of_job, jobs_with}
+use Rattle.sdd_space.specs.WorldChanges.{owner_given, cell_closed, given_all, opened}
+use Rattle.sdd_space.specs.WorldChanges as steps
+use Rattle.sdd_space.specs.WorldInvariant.{is_of_job, jobs_with}
 use Rattle.sdd_space.specs.World.{IsPlaceOf}
 use Rattle.sdd_space.proofs.Jobs.{runs-once, length-all_reclaimed}
 use Rattle.sdd_space.proofs.Listed.{listed-aged}

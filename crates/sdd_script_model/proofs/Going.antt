@@ -14,13 +14,13 @@ use Rattle.sdd_space.specs.WorldStep.WorldStep.{registers, ends, closes, stirs, 
 use Rattle.sdd_space.specs.OwnerOrCell.{OwnerOrCell, SpaceId, IsOf}
 use Rattle.sdd_space.specs.OwnerOrCell as holding
 use Rattle.sdd_space.specs.Out.{is_out}
-use Rattle.sdd_space.specs.Steps.{registered, ended, opened, reclaims, made_as, nulled, retired, closed, stirred, accelerated, deferred, owner_given, with_standing}
-use Rattle.sdd_space.specs.Under.{Stays}
-use Rattle.sdd_space.specs.Whole.{IsWhole}
+use Rattle.sdd_space.specs.WorldChanges.{registered, ended, opened, reclaims, made_as, nulled, retired, closed, stirred, accelerated, deferred, owner_given, with_standing}
+use Rattle.sdd_space.specs.UnderGuards.{CannotGo}
+use Rattle.sdd_space.specs.WorldInvariant.{IsWhole}
 use Rattle.sdd_core.specs.declared.limits.Limits.{Limits}
 use Rattle.sdd_core.specs.Limits.{AreInRange}
 use Rattle.sdd_space.specs.World.{IsPlaceOf, place_at, standing_at, value_at}
-use Rattle.sdd_space.specs.Accounts.{times_held}
+use Rattle.sdd_space.specs.OwnerCounts.{times_held}
 use Rattle.sdd_space.proofs.Accounts.{accounted-as, accounted-blank}
 use Rattle.sdd_participants.specs.declared.tally.Tally.{Tally}
 use Rattle.sdd_script_text.specs.declared.name.ItemName.{ItemName}
@@ -99,7 +99,7 @@ module _ (d : ScriptState) (s : IsSound d) where
   open-guard g y e = attending.open-guard d s.attended g y e
 
   pub can-point : (n k : ℕ) (x : OpenSince) → opening_at d.places n ≡ Some x → IsTrue (is_open (place_at d.world x.place)) → IsSome (standing_at d.world k) →
-      (IsTrue (is_waiting (standing_at d.world k)) → x.since ≤ date_at d k) → Stays d.world x.place k
+      (IsTrue (is_waiting (standing_at d.world k)) → x.since ≤ date_at d k) → CannotGo d.world x.place k
   can-point n k x there o taken since = kept.can-point d s.kept n k x there o taken since
 
   module _ (whole : IsWhole d.world) where

@@ -12,10 +12,10 @@ use Rattle.sdd_participants.specs.declared.standing.Standing.TheVariants.{Shared
 use Rattle.sdd_space.specs.Owned as owned
 use Rattle.sdd_space.specs.Shared as shared
 use Rattle.sdd_space.specs.OwnerOrCell.{atomic_owned}
-use Rattle.sdd_space.specs.Left.{Waits}
-use Rattle.sdd_space.specs.Steps as steps
-use Rattle.sdd_space.specs.Steps.{retired, with_standing, owner_given, cell_closed, freed, given_all, taken_out, waiting_value, reclaimed, all_reclaimed}
-use Rattle.sdd_space.specs.Accounts.{IsAccounted, is_owner_of, times_held}
+use Rattle.sdd_space.specs.ReclaimBound.{Waits}
+use Rattle.sdd_space.specs.WorldChanges as steps
+use Rattle.sdd_space.specs.WorldChanges.{retired, with_standing, owner_given, cell_closed, freed, given_all, taken_out, waiting_value, reclaimed, all_reclaimed}
+use Rattle.sdd_space.specs.OwnerCounts.{IsAccounted, is_owner_of, times_held}
 use Rattle.sdd_space.proofs.Accounts.{in_value-out}
 use Rattle.sdd_space.proofs.Entries.{one-place}
 use Rattle.sdd_space.proofs.Opening.{Nests, IsChange, how, before, due-here, opened-stays, opened-goes, keeps-owner_given, keeps-cell_closed, keeps-given_all}
@@ -30,7 +30,7 @@ use Rattle.sdd_script_model.specs.declared.val.Body.TheVariants.{Number, Owned, 
 use Rattle.sdd_script_model.specs.Val.{owner_in, link_home}
 use Rattle.sdd_script_model.specs.ScriptState.{ScriptState, IsThere, IsDated, slot_at, name_at, date_at, in_world}
 use Rattle.sdd_script_model.specs.Shown.{item_in}
-use Rattle.sdd_script_model.specs.Sound.{IsStocked, AreKept, named_owners}
+use Rattle.sdd_script_model.specs.Sound.{SlotsHaveNames, EachCellHasKeeper, named_owners}
 use Rattle.sdd_script_model.specs.Held.{slots_of, slots_in, owners_in, slots_among, waits_among}
 use Rattle.sdd_script_model.proofs.Stocked.{item-there, slot-inside}
 use Rattle.sdd_script_model.proofs.Keepers.{given-same, body-given, closed-bare, one-kept_on, waiting-there, keepers-as}
@@ -192,7 +192,7 @@ body-waits w p c s home b bare idle waits = by b waits where
 module _ (d : ScriptState) (p : ℕ) (start : World Val) (s : ℕ) where
   -- the item of slot s doesn't wait yet; the values that are still there are those of the start
   pub record IsBefore (w : World Val) : Type 0 where
-    pub kept : AreKept (in_world d w)
+    pub kept : EachCellHasKeeper (in_world d w)
     pub values : (k : ℕ) (v : Val) → value_at w k ≡ Some v → value_at start k ≡ Some v
     pub idle : is_waiting (standing_at w s) ≡ false
 
@@ -213,7 +213,7 @@ module _ (d : ScriptState) (p : ℕ) (start : World Val) (s : ℕ) where
       rw (i.values k v there) (body-waits (freed w k) p (link_of v) s (link_home v) (body_of v) bare (freed-idle w k i.idle) waits)
 
   -- and each value that is there then was there before
-  out-values : (w : World Val) (k : ℕ) (v : Option Val) → ((u : Val) → v ≡ Some u → value_at w k ≡ Some u) → AreKept (in_world d w) →
+  out-values : (w : World Val) (k : ℕ) (v : Option Val) → ((u : Val) → v ≡ Some u → value_at w k ≡ Some u) → EachCellHasKeeper (in_world d w) →
       (j : ℕ) (u : Val) → value_at (taken_out holdings_of w p k v) j ≡ Some u → value_at w j ≡ Some u
   out-values w k None is i j u h = h
   out-values w k (Some v) is i j u h =
@@ -291,7 +291,7 @@ held-by-one w s (j ∷ js) some =
 
 -- ---- an opening of p, whose desk is sound
 
-module _ (d : ScriptState) (p : ℕ) (l : p < length d.world.time.places) (stocked : IsStocked d) (kept : AreKept d) (whole : IsWhole d.world)
+module _ (d : ScriptState) (p : ℕ) (l : p < length d.world.time.places) (stocked : SlotsHaveNames d) (kept : EachCellHasKeeper d) (whole : IsWhole d.world)
     (accounts : IsAccounted holdings_of (named_owners d) d.world) where
   abbrev after : World Val
   after = steps.opened holdings_of d.world p
@@ -401,7 +401,7 @@ contain-slots (Job j ∷ xs) s (suc n, l, e) = contain-slots xs s (n, omega (ari
 
 -- ---- the names of slots that are taken, each there once
 
-module _ (d : ScriptState) (stocked : IsStocked d) (slots : List ℕ) (taken : (s : ℕ) → Contains slots s → IsSome (standing_at d.world s))
+module _ (d : ScriptState) (stocked : SlotsHaveNames d) (slots : List ℕ) (taken : (s : ℕ) → Contains slots s → IsSome (standing_at d.world s))
     (once : (s : ℕ) → times_in s slots ≤ 1) (found : List ItemName) (is : found ≡ map (item_in d.names) slots) where
   -- a name is found exactly if its item is there, in one of them
   found-there : (i : ItemName) → Contains found i ↔ (IsThere d i.0 × Contains slots (slot_at d i.0))
@@ -441,7 +441,7 @@ module _ (d : ScriptState) (stocked : IsStocked d) (slots : List ℕ) (taken : (
     )),
   )
 
-module _ (d : ScriptState) (p : ℕ) (stocked : IsStocked d) (whole : IsWhole d.world) (slots : List ℕ) (are : slots ≡ slots_among (reclaims d.world p)) where
+module _ (d : ScriptState) (p : ℕ) (stocked : SlotsHaveNames d) (whole : IsWhole d.world) (slots : List ℕ) (are : slots ≡ slots_among (reclaims d.world p)) where
   pub slot-reclaimed : (s : ℕ) → Contains slots s → Contains (reclaims d.world p) (Item s)
   slot-reclaimed s c = slots-contain (reclaims d.world p) s (subst (λ ks. Contains ks s) are c)
 

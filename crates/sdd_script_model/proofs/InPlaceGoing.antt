@@ -4,16 +4,16 @@ use Rattle.std.specs.Prelude.{◌==◌, IsTrue, ◌↔◌}
 use Rattle.std.proofs.lemmas.Bool.{false≢true, cases_eq}
 use Rattle.sdd_participants.specs.declared.standing.Standing.TheVariants.{Owned, Raw, Shared}
 use Rattle.sdd_standings.specs.Slots.{IsSharedBy, is_waiting}
-use Rattle.sdd_space.specs.Accounts.{owner_count, times_held}
+use Rattle.sdd_space.specs.OwnerCounts.{owner_count, times_held}
 use Rattle.sdd_space.specs.WorldStep.WorldStep.{puts_out_raw, takes_back_raw, edits, drops, releases}
 use Rattle.sdd_space.specs.OwnerOrCell.{OwnerOrCell}
 use Rattle.sdd_space.specs.OwnerOrCell as holding
 use Rattle.sdd_space.specs.InPlace.{IsAlone, MayInPlace}
 use Rattle.sdd_space.specs.Out.{is_out}
-use Rattle.sdd_space.specs.Steps as steps
-use Rattle.sdd_space.specs.Steps.{with_standing, with_value, vacated, dropped, dropped_out, owner_given, given_all}
-use Rattle.sdd_space.specs.Whole.{IsWhole}
-use Rattle.sdd_space.specs.World.{World, IsGuarded, IsPlaceOf, standing_at, value_at}
+use Rattle.sdd_space.specs.WorldChanges as steps
+use Rattle.sdd_space.specs.WorldChanges.{with_standing, with_value, vacated, dropped, dropped_out, owner_given, given_all}
+use Rattle.sdd_space.specs.WorldInvariant.{IsWhole}
+use Rattle.sdd_space.specs.World.{World, AnyGuardOpen, IsPlaceOf, standing_at, value_at}
 use Rattle.sdd_space.proofs.Accounts.{accounted-put_out_raw, accounted-taken_back_raw, accounted-with_value, accounted-dropped, in_value-out}
 use Rattle.sdd_space.proofs.Standings.{out-some, out-waits-not}
 use Rattle.sdd_space.proofs.Whole.{count-cons, one_where}
@@ -299,7 +299,7 @@ module _ (d : ScriptState) (s : IsSound d) (whole : IsWhole d.world) (p : ℕ) (
   after_drop w = record (in_world (without_owner d o) w) { dates = dates_spilled d w (slot_held (body_of v)) }
 
   alone-leaves : (h : OwnerOrCell) (w : World Val) → holding_at d.owners o ≡ Some h → slot_of (Some h) ≡ Some k → IsAlone (standing_at d.world k) →
-      ¬ (IsGuarded d.world) → w ≡ dropped holdings_of d.world p k → LeavesSound d (after_drop w)
+      ¬ (AnyGuardOpen d.world) → w ≡ dropped holdings_of d.world p k → LeavesSound d (after_drop w)
   alone-leaves h w named slot alone quiet world =
       let may : MayInPlace d.world k = record { alone = alone; quiet = quiet } in
       subst (λ u. LeavesSound d (after_drop u)) (sym world) (record {

@@ -5,9 +5,9 @@ use Rattle.sdd_rights.specs.Units.{GhostName}
 use Rattle.sdd_space.specs.Owned as owned
 use Rattle.sdd_space.specs.Shared as shared
 use Rattle.sdd_space.specs.OwnerOrCell.{owned, shared, atomic_owned, atomic_shared, atomic_raw}
-use Rattle.sdd_space.specs.Steps as steps
-use Rattle.sdd_space.specs.Steps.{owner_given, spilled, cell_closed, freed, taken_out, waiting_value, reclaimed, all_reclaimed, given_all, vacated, dropped_out, dropped}
-use Rattle.sdd_space.specs.Accounts.{IsAccounted}
+use Rattle.sdd_space.specs.WorldChanges as steps
+use Rattle.sdd_space.specs.WorldChanges.{owner_given, spilled, cell_closed, freed, taken_out, waiting_value, reclaimed, all_reclaimed, given_all, vacated, dropped_out, dropped}
+use Rattle.sdd_space.specs.OwnerCounts.{IsAccounted}
 use Rattle.sdd_space.proofs.Accounts.{sum-out, outside-out}
 use Rattle.sdd_space.proofs.Standings.{out-some, owner-given}
 use Rattle.sdd_script_model.proofs.Entry.{at-same, at-other, at-pushed, at-end, at-default, inside, not-free}
@@ -16,7 +16,7 @@ use Rattle.sdd_script_model.specs.declared.val.Body.{Body}
 use Rattle.sdd_script_model.specs.declared.val.Body.TheVariants.{Number, Owned, Shared}
 use Rattle.sdd_script_model.specs.Val.{owner_in, link_home}
 use Rattle.sdd_script_model.specs.ScriptState.{ScriptState, holding_at, cell_of, collector_of, slot_of, in_world}
-use Rattle.sdd_script_model.specs.Sound.{AreKept, Keeper, value_in, name_of, collector_named, Keeps, named_owners, owns}
+use Rattle.sdd_script_model.specs.Sound.{EachCellHasKeeper, Keeper, value_in, name_of, collector_named, Keeps, named_owners, owns}
 
 -- ---- who keeps what
 
@@ -66,8 +66,8 @@ collector-inside hs n c e = inside hs n (some-name (holding_at hs n) e) where
   some-name None e = absurd (cc)
   some-name (Some h) e = refl
 
-pub keepers-as : (d new : ScriptState) → AreKept d → new.world.values ≡ d.world.values → new.world.cells ≡ d.world.cells → new.cells ≡ d.cells →
-    new.collectors ≡ d.collectors → AreKept new
+pub keepers-as : (d new : ScriptState) → EachCellHasKeeper d → new.world.values ≡ d.world.values → new.world.cells ≡ d.world.cells → new.cells ≡ d.cells →
+    new.collectors ≡ d.collectors → EachCellHasKeeper new
 keepers-as d new i values cells named collecting = record {
   keeper = λ c some. let k = i.keeper c (rw cells at some) in (k.0, keeps-as d new values named collecting k.0 c k.1);
   taken = λ k c h. rw cells (i.taken k c (before k c h));
@@ -78,9 +78,9 @@ keepers-as d new i values cells named collecting = record {
   before = keeps-as new d (sym values) (sym named) (sym collecting)
 
 -- a cell with a name holds something else
-pub keepers-filled : (d new : ScriptState) (n c : ℕ) (cell : Cell) → AreKept d → cell_of (holding_at d.cells n) ≡ Some c →
+pub keepers-filled : (d new : ScriptState) (n c : ℕ) (cell : Cell) → EachCellHasKeeper d → cell_of (holding_at d.cells n) ≡ Some c →
     new.world.values ≡ d.world.values → new.world.cells ≡ with_entry d.world.cells c cell → new.cells ≡ d.cells →
-    new.collectors ≡ d.collectors → AreKept new
+    new.collectors ≡ d.collectors → EachCellHasKeeper new
 keepers-filled d new n c cell i is values cells named collecting = record {
   keeper = λ x some. let k = i.keeper x (was x some) in (k.0, keeps-as d new values named collecting k.0 x k.1);
   taken = λ k x h. still x (i.taken k x (before k x h));
@@ -117,7 +117,7 @@ keepers-filled d new n c cell i is values cells named collecting = record {
 
 -- ---- one keeper more, with a cell that was free
 
-module _ (d new : ScriptState) (i : AreKept d) (k : Keeper) (c : ℕ) (cell : Cell) (empty : IsEmptyAt d.world.cells c)
+module _ (d new : ScriptState) (i : EachCellHasKeeper d) (k : Keeper) (c : ℕ) (cell : Cell) (empty : IsEmptyAt d.world.cells c)
     (cells : new.world.cells ≡ with_entry d.world.cells c cell) (own : Keeps new k c)
     (old_or_new : (j : Keeper) (x : ℕ) → Keeps new j x → ((j ≡ k) × (x ≡ c)) ⊎ Keeps d j x)
     (still : (j : Keeper) (x : ℕ) → Keeps d j x → Keeps new j x)
@@ -142,7 +142,7 @@ module _ (d new : ScriptState) (i : AreKept d) (k : Keeper) (c : ℕ) (cell : Ce
   apart-more a b x (inr p) (inl q) = absurd (nobody-kept a (rw q.1 at p))
   apart-more a b x (inr p) (inr q) = i.apart a b x p q
 
-  one-more : AreKept new
+  one-more : EachCellHasKeeper new
   one-more = record {
     keeper = λ x some.
         elim (entry-more x) [
@@ -171,7 +171,7 @@ abbrev pub null : Cell
 null = record { held = None; tag = no_tag }
 
 -- a value is put into a free slot, with a cell for its link
-module _ (d new : ScriptState) (c k : ℕ) (v : Val) (i : AreKept d) (free_cell : IsEmptyAt d.world.cells c) (free_slot : IsEmptyAt d.world.standings k)
+module _ (d new : ScriptState) (c k : ℕ) (v : Val) (i : EachCellHasKeeper d) (free_cell : IsEmptyAt d.world.cells c) (free_slot : IsEmptyAt d.world.standings k)
     (link : link_of v ≡ c) (filled : map is_some d.world.values ≡ map is_some d.world.standings)
     (values : new.world.values ≡ slice_set d.world.values k (Some v)) (cells : new.world.cells ≡ with_entry d.world.cells c null)
     (named : new.cells ≡ d.cells) (collecting : new.collectors ≡ d.collectors) where
@@ -206,11 +206,11 @@ module _ (d new : ScriptState) (c k : ℕ) (v : Val) (i : AreKept d) (free_cell 
   still-made (name_of n) x h = rw named h
   still-made (collector_named n) x h = rw collecting h
 
-  pub keepers-made : AreKept new
+  pub keepers-made : EachCellHasKeeper new
   keepers-made = one-more d new i (value_in k) c null free_cell cells own-made made-or-old still-made (λ s e. refl)
 
 -- a cell that was free is given a name
-module _ (d new : ScriptState) (c : ℕ) (h : Holding) (cell : Cell) (i : AreKept d) (empty : IsEmptyAt d.world.cells c) (is : cell_of (Some h) ≡ Some c)
+module _ (d new : ScriptState) (c : ℕ) (h : Holding) (cell : Cell) (i : EachCellHasKeeper d) (empty : IsEmptyAt d.world.cells c) (is : cell_of (Some h) ≡ Some c)
     (values : new.world.values ≡ d.world.values) (cells : new.world.cells ≡ with_entry d.world.cells c cell)
     (named : new.cells ≡ d.cells ++ Some h ∷ []) (collecting : new.collectors ≡ d.collectors) where
   name-given : (n : ℕ) → ((n ≡ length d.cells) × (holding_at new.cells n ≡ Some h)) ⊎ (holding_at new.cells n ≡ holding_at d.cells n)
@@ -239,11 +239,11 @@ module _ (d new : ScriptState) (c : ℕ) (h : Holding) (cell : Cell) (i : AreKep
       rw named (ap cell_of (at-pushed d.cells (Some h) None n (omega (arith, lt))) ∙ g)
   still-named (collector_named n) x g = rw collecting g
 
-  pub keepers-named : AreKept new
+  pub keepers-named : EachCellHasKeeper new
   keepers-named = one-more d new i (name_of (length d.cells)) c cell empty cells own-named named-or-old still-named (λ s e. absurd (cc))
 
 -- a cell that was free is given to a new collector
-module _ (d new : ScriptState) (c : ℕ) (h : Holding) (i : AreKept d) (empty : IsEmptyAt d.world.cells c) (is : collector_of (Some h) ≡ Some c)
+module _ (d new : ScriptState) (c : ℕ) (h : Holding) (i : EachCellHasKeeper d) (empty : IsEmptyAt d.world.cells c) (is : collector_of (Some h) ≡ Some c)
     (values : new.world.values ≡ d.world.values) (cells : new.world.cells ≡ with_entry d.world.cells c null)
     (named : new.cells ≡ d.cells) (collecting : new.collectors ≡ d.collectors ++ Some h ∷ []) where
   collector-given : (n : ℕ) → ((n ≡ length d.collectors) × (holding_at new.collectors n ≡ Some h)) ⊎ (holding_at new.collectors n ≡ holding_at d.collectors n)
@@ -272,13 +272,13 @@ module _ (d new : ScriptState) (c : ℕ) (h : Holding) (i : AreKept d) (empty : 
       let lt : n < length d.collectors = collector-inside d.collectors n x g in
       rw collecting (ap collector_of (at-pushed d.collectors (Some h) None n (omega (arith, lt))) ∙ g)
 
-  pub keepers-collecting : AreKept new
+  pub keepers-collecting : EachCellHasKeeper new
   keepers-collecting =
       one-more d new i (collector_named (length d.collectors)) c null empty cells own-collected collected-or-old still-collected (λ s e. absurd (cc))
 
 -- ---- one keeper fewer, with its cell
 
-module _ (d new : ScriptState) (i : AreKept d) (k : Keeper) (c : ℕ) (is : Keeps d k c) (cells : new.world.cells ≡ without_entry d.world.cells c)
+module _ (d new : ScriptState) (i : EachCellHasKeeper d) (k : Keeper) (c : ℕ) (is : Keeps d k c) (cells : new.world.cells ≡ without_entry d.world.cells c)
     (was : (j : Keeper) (x : ℕ) → Keeps new j x → (j ≢ k) × Keeps d j x) (still : (j : Keeper) (x : ℕ) → j ≢ k → Keeps d j x → Keeps new j x) where
   entry-fewer : (x : ℕ) → x ≢ c → entry_at new.world.cells x ≡ entry_at d.world.cells x
   entry-fewer x ne = rw cells (at-other d.world.cells c x None None ne)
@@ -290,7 +290,7 @@ module _ (d new : ScriptState) (i : AreKept d) (k : Keeper) (c : ℕ) (is : Keep
   other-keeper : (j : Keeper) (x : ℕ) → Keeps d j x → x ≢ c → j ≢ k
   other-keeper j x h ne e = ne (sym (one-kept d k c x is (rw e at h)))
 
-  one-fewer : AreKept new
+  one-fewer : EachCellHasKeeper new
   one-fewer = record {
     keeper = λ x some.
         (let ne : x ≢ c = λ e. not-free (entry_at new.world.cells x) some (rw (e, cells) (at-default d.world.cells c None)) in
@@ -306,8 +306,8 @@ module _ (d new : ScriptState) (i : AreKept d) (k : Keeper) (c : ℕ) (is : Keep
   }
 
 -- a cell with a name is spent
-pub keepers-closed : (d new : ScriptState) (n c : ℕ) → AreKept d → cell_of (holding_at d.cells n) ≡ Some c → new.world.values ≡ d.world.values →
-    new.world.cells ≡ without_entry d.world.cells c → new.cells ≡ slice_set d.cells n None → new.collectors ≡ d.collectors → AreKept new
+pub keepers-closed : (d new : ScriptState) (n c : ℕ) → EachCellHasKeeper d → cell_of (holding_at d.cells n) ≡ Some c → new.world.values ≡ d.world.values →
+    new.world.cells ≡ without_entry d.world.cells c → new.cells ≡ slice_set d.cells n None → new.collectors ≡ d.collectors → EachCellHasKeeper new
 keepers-closed d new n c i is values cells named collecting = one-fewer d new i (name_of n) c is cells was still where
   was : (j : Keeper) (x : ℕ) → Keeps new j x → (j ≢ name_of n) × Keeps d j x
   was (value_in s) x h = (λ e. absurd (cc), (h.0, ap (λ vs. slice_index_or vs s None) (sym values) ∙ h.1, h.2))
@@ -327,8 +327,8 @@ keepers-closed d new n c i is values cells named collecting = one-fewer d new i 
   still (collector_named m) x ne h = rw collecting h
 
 -- and so is a collector
-pub keepers-uncollected : (d new : ScriptState) (n c : ℕ) → AreKept d → collector_of (holding_at d.collectors n) ≡ Some c → new.world.values ≡ d.world.values →
-    new.world.cells ≡ without_entry d.world.cells c → new.cells ≡ d.cells → new.collectors ≡ slice_set d.collectors n None → AreKept new
+pub keepers-uncollected : (d new : ScriptState) (n c : ℕ) → EachCellHasKeeper d → collector_of (holding_at d.collectors n) ≡ Some c → new.world.values ≡ d.world.values →
+    new.world.cells ≡ without_entry d.world.cells c → new.cells ≡ d.cells → new.collectors ≡ slice_set d.collectors n None → EachCellHasKeeper new
 keepers-uncollected d new n c i is values cells named collecting = one-fewer d new i (collector_named n) c is cells was still where
   was : (j : Keeper) (x : ℕ) → Keeps new j x → (j ≢ collector_named n) × Keeps d j x
   was (value_in s) x h = (λ e. absurd (cc), (h.0, ap (λ vs. slice_index_or vs s None) (sym values) ∙ h.1, h.2))
@@ -349,7 +349,7 @@ keepers-uncollected d new n c i is values cells named collecting = one-fewer d n
       rw collecting (ap collector_of (at-other d.collectors n m None None (λ e. ne (ap collector_named e))) ∙ h)
 
 -- a value is gone, with its link
-module _ (d new : ScriptState) (i : AreKept d) (k : ℕ) (v : Val) (there : value_at d.world k ≡ Some v)
+module _ (d new : ScriptState) (i : EachCellHasKeeper d) (k : ℕ) (v : Val) (there : value_at d.world k ≡ Some v)
     (values : new.world.values ≡ slice_set d.world.values k None) (cells : new.world.cells ≡ without_entry d.world.cells (link_of v))
     (named : new.cells ≡ d.cells) (collecting : new.collectors ≡ d.collectors) where
   was-kept : (j : Keeper) (x : ℕ) → Keeps new j x → (j ≢ value_in k) × Keeps d j x
@@ -371,11 +371,11 @@ module _ (d new : ScriptState) (i : AreKept d) (k : ℕ) (v : Val) (there : valu
   still-kept (name_of n) x ne h = ap (λ hs. cell_of (holding_at hs n)) named ∙ h
   still-kept (collector_named n) x ne h = ap (λ hs. collector_of (holding_at hs n)) collecting ∙ h
 
-  pub keepers-gone : AreKept new
+  pub keepers-gone : EachCellHasKeeper new
   keepers-gone = one-fewer d new i (value_in k) (link_of v) (v, there, refl) cells was-kept still-kept
 
 -- a value is another, with the same link
-module _ (d new : ScriptState) (i : AreKept d) (k : ℕ) (was now : Val) (there : value_at d.world k ≡ Some was) (link : link_of now ≡ link_of was)
+module _ (d new : ScriptState) (i : EachCellHasKeeper d) (k : ℕ) (was now : Val) (there : value_at d.world k ≡ Some was) (link : link_of now ≡ link_of was)
     (values : new.world.values ≡ slice_set d.world.values k (Some now)) (cells : new.world.cells ≡ d.world.cells)
     (named : new.cells ≡ d.cells) (collecting : new.collectors ≡ d.collectors) where
   value-edited : (s : ℕ) → ((s ≡ k) × (value_at new.world s ≡ Some now)) ⊎ ((s ≢ k) × (value_at new.world s ≡ value_at d.world s))
@@ -404,7 +404,7 @@ module _ (d new : ScriptState) (i : AreKept d) (k : ℕ) (was now : Val) (there 
   after-edit (name_of n) x h = ap (λ hs. cell_of (holding_at hs n)) named ∙ h
   after-edit (collector_named n) x h = ap (λ hs. collector_of (holding_at hs n)) collecting ∙ h
 
-  pub keepers-edited : AreKept new
+  pub keepers-edited : EachCellHasKeeper new
   keepers-edited = record {
     keeper = λ c some. let j = i.keeper c (rw cells at some) in (j.0, after-edit j.0 c j.1);
     taken = λ j c h. rw cells (i.taken j c (before-edit j c h));
@@ -453,7 +453,7 @@ body-given w p c home b none = by b where
       closes (owner_given w p (shared.slot_of o) (standing_at w (shared.slot_of o))) g.0 g.1
 
 -- the one owner drops its item: its value is gone, and gives up what it holds
-pub keepers-dropped : (d : ScriptState) (p k : ℕ) (v : Val) → value_at d.world k ≡ Some v → AreKept d → AreKept (in_world d (dropped holdings_of d.world p k))
+pub keepers-dropped : (d : ScriptState) (p k : ℕ) (v : Val) → value_at d.world k ≡ Some v → EachCellHasKeeper d → EachCellHasKeeper (in_world d (dropped holdings_of d.world p k))
 keepers-dropped d p k v there i =
     let g = body-given (vacated d.world k) p (link_of v) (link_home v) (body_of v) (i.bare k (link_of v) (v, there, refl)) in
     keepers-gone d (in_world d (dropped holdings_of d.world p k)) i k v there
@@ -464,8 +464,8 @@ keepers-dropped d p k v there i =
 
 module _ (d : ScriptState) (p : ℕ) where
   -- a value is taken out of its slot, and gives up what it holds
-  out-kept : (w : World Val) (k : ℕ) (v : Option Val) → ((u : Val) → v ≡ Some u → value_at w k ≡ Some u) → AreKept (in_world d w) →
-      AreKept (in_world d (taken_out holdings_of w p k v))
+  out-kept : (w : World Val) (k : ℕ) (v : Option Val) → ((u : Val) → v ≡ Some u → value_at w k ≡ Some u) → EachCellHasKeeper (in_world d w) →
+      EachCellHasKeeper (in_world d (taken_out holdings_of w p k v))
   out-kept w k None is i = i
   out-kept w k (Some v) is i =
       let there = is v refl in
@@ -475,20 +475,20 @@ module _ (d : ScriptState) (p : ℕ) where
   pub waiting-there : (w : World Val) (k : ℕ) (s : Option Standing) (v : Val) → waiting_value w k s ≡ Some v → value_at w k ≡ Some v
   waiting-there w k s v e = grind arith
 
-  pub one-kept_on : (w : World Val) (x : What) → AreKept (in_world d w) → AreKept (in_world d (reclaimed holdings_of w p x))
+  pub one-kept_on : (w : World Val) (x : What) → EachCellHasKeeper (in_world d w) → EachCellHasKeeper (in_world d (reclaimed holdings_of w p x))
   one-kept_on w (Item k) i = out-kept w k (waiting_value w k (standing_at w k)) (waiting-there w k (standing_at w k)) i
   one-kept_on w (Job j) i = keepers-as (in_world d w) (in_world d (reclaimed holdings_of w p (Job j))) i refl refl refl refl
 
-  pub all-kept : (xs : List What) (w : World Val) → AreKept (in_world d w) → AreKept (in_world d (all_reclaimed holdings_of w p xs))
+  pub all-kept : (xs : List What) (w : World Val) → EachCellHasKeeper (in_world d w) → EachCellHasKeeper (in_world d (all_reclaimed holdings_of w p xs))
   all-kept [] w i = i
   all-kept (x ∷ xs) w i = all-kept xs (reclaimed holdings_of w p x) (one-kept_on w x i)
 
-  in_time : (w u : World Val) → u.values ≡ w.values → u.cells ≡ w.cells → AreKept (in_world d w) → AreKept (in_world d u)
+  in_time : (w u : World Val) → u.values ≡ w.values → u.cells ≡ w.cells → EachCellHasKeeper (in_world d w) → EachCellHasKeeper (in_world d u)
   in_time w u values cells i = keepers-as (in_world d w) (in_world d u) i values cells refl refl
 
-  pub keepers-opened : AreKept d → AreKept (in_world d (steps.opened holdings_of d.world p))
+  pub keepers-opened : EachCellHasKeeper d → EachCellHasKeeper (in_world d (steps.opened holdings_of d.world p))
   keepers-opened i = by (is_open (place_at d.world p)) (finds_another (steps.nested d.world p).time p) where
-    by : (b c : Bool) → (let u = steps.nested d.world p in AreKept (in_world d (if b then u else (if c then steps.changed holdings_of u p else u))))
+    by : (b c : Bool) → (let u = steps.nested d.world p in EachCellHasKeeper (in_world d (if b then u else (if c then steps.changed holdings_of u p else u))))
     by true c = in_time d.world (steps.nested d.world p) refl refl i
     by false false = in_time d.world (steps.nested d.world p) refl refl i
     by false true =
@@ -500,7 +500,7 @@ module _ (d : ScriptState) (p : ℕ) where
 -- ---- what has a name is there
 
 -- the cell of a name
-pub named-cell : (d : ScriptState) (n c : ℕ) → AreKept d → cell_of (holding_at d.cells n) ≡ Some c → IsSome (entry_at d.world.cells c)
+pub named-cell : (d : ScriptState) (n c : ℕ) → EachCellHasKeeper d → cell_of (holding_at d.cells n) ≡ Some c → IsSome (entry_at d.world.cells c)
 named-cell d n c i is = i.taken (name_of n) c is
 
 -- the item of an owner that has a name is out

@@ -5,9 +5,9 @@ use Rattle.sdd_core.specs.declared.limits.Limits.{Limits}
 use Rattle.sdd_space.specs.WorldStep.{WorldStep, IsFirst}
 use Rattle.sdd_space.specs.WorldStep.WorldStep.{opens, makes, changes_cells}
 use Rattle.sdd_participants.specs.Slab.{IsEmptyAt}
-use Rattle.sdd_space.specs.Steps.{made_as, nulled}
-use Rattle.sdd_space.specs.Under.{IsSafe, Stays}
-use Rattle.sdd_space.specs.Whole.{is_of_slot}
+use Rattle.sdd_space.specs.WorldChanges.{made_as, nulled}
+use Rattle.sdd_space.specs.UnderGuards.{IsSafe, CannotGo}
+use Rattle.sdd_space.specs.WorldInvariant.{is_of_slot}
 use Rattle.sdd_space.proofs.Whole.{one_where, times_among}
 use Rattle.sdd_space.proofs.Housed.{Whole-cells}
 use Rattle.sdd_space.proofs.Nesting.{none-if}
@@ -218,12 +218,12 @@ module _ (d : ScriptState) (a : IsAttended d) (kept : IsKept d) where
 -- a participant whose guard is open can point to what did not begin to wait before
 module _ (d : ScriptState) (kept : IsKept d) where
   pub can-point : (n s : ℕ) (x : OpenSince) → opening_at d.places n ≡ Some x → IsTrue (is_open (place_at d.world x.place)) → IsSome (standing_at d.world s) →
-      (IsTrue (is_waiting (standing_at d.world s)) → x.since ≤ date_at d s) → Stays d.world x.place s
+      (IsTrue (is_waiting (standing_at d.world s)) → x.since ≤ date_at d s) → CannotGo d.world x.place s
   can-point n s x there o taken since = by (standing_at d.world s) refl taken where
-    waits : is_waiting (standing_at d.world s) ≡ true → Stays d.world x.place s
+    waits : is_waiting (standing_at d.world s) ≡ true → CannotGo d.world x.place s
     waits is = (kept n s x there o is (since is)).stays
 
-    by : (z : Option Standing) → standing_at d.world s ≡ z → IsSome z → Stays d.world x.place s
+    by : (z : Option Standing) → standing_at d.world s ≡ z → IsSome z → CannotGo d.world x.place s
     by None is some = absurd (false≢true some)
     by (Some Owned) is some = inl (ap is_out is)
     by (Some Raw) is some = inl (ap is_out is)

@@ -13,16 +13,16 @@ use Rattle.sdd_participants.specs.declared.standing.Standing.TheVariants.{Shared
 use Rattle.sdd_space.specs.OwnerOrCell.{SpaceId}
 use Rattle.sdd_space.specs.Out.{is_out}
 use Rattle.sdd_space.specs.World.{World, IsBlank, place_at, standing_at, value_at}
-use Rattle.sdd_space.specs.Accounts.{times_held}
-use Rattle.sdd_space.specs.Steps.{made_as, ran, nulled, retired, owner_given, with_standing, cell_closed, freed, taken_out, waiting_value, reclaimed, all_reclaimed, changed, caught_up, opened, vacated, dropped_out, dropped, with_value}
-use Rattle.sdd_space.specs.Steps as steps
+use Rattle.sdd_space.specs.OwnerCounts.{times_held}
+use Rattle.sdd_space.specs.WorldChanges.{made_as, ran, nulled, retired, owner_given, with_standing, cell_closed, freed, taken_out, waiting_value, reclaimed, all_reclaimed, changed, caught_up, opened, vacated, dropped_out, dropped, with_value}
+use Rattle.sdd_space.specs.WorldChanges as steps
 use Rattle.sdd_space.proofs.Accounts.{outside-out, in_value-out}
 use Rattle.sdd_space.proofs.InPlace.{given_all-values}
 use Rattle.sdd_space.proofs.Opening.{keeps-owner_given, keeps-cell_closed, keeps-given_all}
 use Rattle.sdd_script_model.specs.declared.val.Val.{Val}
 use Rattle.sdd_script_model.specs.Val.{body_of, holdings_of}
 use Rattle.sdd_script_model.specs.ScriptState.{ScriptState, name_at, in_world}
-use Rattle.sdd_script_model.specs.Sound.{IsLayered, IsStocked, named_owners}
+use Rattle.sdd_script_model.specs.Sound.{HoldsOnlyOlder, SlotsHaveNames, named_owners}
 use Rattle.sdd_script_model.proofs.Counting.{AreCounted, times_in, times-held, out-there}
 
 -- where a list was written it has what was written there, or what it had
@@ -111,7 +111,7 @@ times-freed vs k j i some =
 module _ (d : ScriptState) where
   -- in this world
   abbrev pub AreLayered : World Val → Type 0
-  AreLayered w = IsLayered (in_world d w)
+  AreLayered w = HoldsOnlyOlder (in_world d w)
 
   layered-freed : (w : World Val) (k : ℕ) → AreLayered w → AreLayered (freed w k)
   layered-freed w k l = λ j i some. l j i (times-freed w.values k j i some)
@@ -147,7 +147,7 @@ module _ (d : ScriptState) where
       ]
 
 -- whatever has names, in that world
-pub layered-for : (d new : ScriptState) (w : World Val) → new.world ≡ w → new.names ≡ d.names → AreLayered d w → IsLayered new
+pub layered-for : (d new : ScriptState) (w : World Val) → new.world ≡ w → new.names ≡ d.names → AreLayered d w → HoldsOnlyOlder new
 layered-for d new w world names l = rw (world, names) l
 
 blank-at : {E : Type 0} (n k : ℕ) → slice_index_or (replicate {A = Option E} n None) k None ≡ None
@@ -156,7 +156,7 @@ blank-at (suc n) zero = refl
 blank-at (suc n) (suc k) = blank-at n k
 
 -- a world without items
-pub layered-start : (d : ScriptState) (t : EpochState) (slots cells jobs : ℕ) → IsBlank t slots cells jobs d.world → IsLayered d
+pub layered-start : (d : ScriptState) (t : EpochState) (slots cells jobs : ℕ) → IsBlank t slots cells jobs d.world → HoldsOnlyOlder d
 layered-start d t slots cells jobs blank =
     λ j k some.
     (let none : value_at d.world j ≡ None = ap (λ (vs : List (Option Val)). slice_index_or vs j None) blank.values ∙ blank-at slots j in
@@ -167,7 +167,7 @@ filled-long : {A B : Type 0} (vs : List (Option A)) (ss : List (Option B)) → m
 filled-long vs ss e = sym (length-map vs is_some) ∙ ap (λ (bs : List Bool). length bs) e ∙ length-map ss is_some
 
 -- an item is made: its value holds owners of items that are there, which were made before
-module _ (d : ScriptState) (l : IsLayered d) (a : AreCounted d d.world) (stocked : IsStocked d) (filled : map is_some d.world.values ≡ map is_some d.world.standings)
+module _ (d : ScriptState) (l : HoldsOnlyOlder d) (a : AreCounted d d.world) (stocked : SlotsHaveNames d) (filled : map is_some d.world.values ≡ map is_some d.world.standings)
     (e : ScriptState) (c k : ℕ) (v : Val) (s : Standing) (free : IsEmptyAt d.world.standings k)
     (moved : (j : ℕ) → named_owners d j ≡ named_owners e j + times_in j (body_of v)) where
   abbrev made_names : List ℕ
@@ -201,5 +201,5 @@ module _ (d : ScriptState) (l : IsLayered d) (a : AreCounted d d.world) (stocked
       let its : slice_index made_names j ≡ name_at d j = get_or-set_other d.names k j (length d.slots) 0 apart in
       omega (arith, mine, its, l j i before)
 
-  pub layered-made : (new : ScriptState) → new.world ≡ made_as (nulled d.world c) k v s → new.names ≡ made_names → IsLayered new
+  pub layered-made : (new : ScriptState) → new.world ≡ made_as (nulled d.world c) k v s → new.names ≡ made_names → HoldsOnlyOlder new
   layered-made new world names = rw (world, names) (λ j i some. made-older j i (cases_eq j k) some)

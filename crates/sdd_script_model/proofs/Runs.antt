@@ -1,16 +1,16 @@
 -- A run, line by line
 use Rattle.std.proofs.Common.{List, [], ◌∷◌, ◌++◌, refl, subst}
-use Rattle.sdd_space.specs.Left.{GoesInTime}
+use Rattle.sdd_space.specs.ReclaimBound.{GoesInTime}
 use Rattle.sdd_script_text.specs.declared.call.Call.{Call}
 use Rattle.sdd_script_text.specs.declared.answer.Answer.{Answer}
 use Rattle.sdd_script_model.specs.Val.{holdings_of}
 use Rattle.sdd_script_model.specs.ScriptState.{ScriptState}
-use Rattle.sdd_script_model.specs.Script.{Step, Runs}
+use Rattle.sdd_script_model.specs.Script.{LineStep, Runs}
 
 -- one line more
 pub runs-push : (start : ScriptState) (calls : List Call) (answers : List Answer) (mid : ScriptState) (call : Call) (answer : Answer) (new : ScriptState) →
-    Runs start calls answers mid → Step mid call answer new → GoesInTime holdings_of new.world → Runs start (calls ++ call ∷ []) (answers ++ answer ∷ []) new
-runs-push start [] [] mid call answer new same step time = (new, subst (λ d. Step d call answer new) same step, time, refl)
+    Runs start calls answers mid → LineStep mid call answer new → GoesInTime holdings_of new.world → Runs start (calls ++ call ∷ []) (answers ++ answer ∷ []) new
+runs-push start [] [] mid call answer new same step time = (new, subst (λ d. LineStep d call answer new) same step, time, refl)
 runs-push start [] (a ∷ answers) mid call answer new none step time = absurd none
 runs-push start (c ∷ calls) [] mid call answer new none step time = absurd none
 runs-push start (c ∷ calls) (a ∷ answers) mid call answer new (next, first, kept, rest) step time =

@@ -12,8 +12,8 @@ pub use Rattle.sdd_participants.specs.declared.standing.CellContents.{CellConten
 pub use Rattle.sdd_standings.specs.Slots.{is_waiting}
 pub use Rattle.sdd_space.specs.OwnerOrCell.{OwnerOrCell}
 pub use Rattle.sdd_space.specs.Out.{is_out}
-pub use Rattle.sdd_space.specs.Steps.{held_in, reclaims}
-pub use Rattle.sdd_space.specs.Whole.{IsWhole, is_of_slot, once_if}
+pub use Rattle.sdd_space.specs.WorldChanges.{held_in, reclaims}
+pub use Rattle.sdd_space.specs.WorldInvariant.{IsWhole, is_of_slot, once_if}
 pub use Rattle.sdd_space.specs.World.{World, place_at, standing_at, value_at}
 pub use Rattle.sdd_space.proofs.Whole.{one_where, times_among, count-cons, some-waits, filled-there}
 pub use Rattle.sdd_script_model.specs.declared.val.Val.{Val}

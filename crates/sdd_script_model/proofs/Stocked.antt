@@ -1,7 +1,7 @@
 -- Which item is in which slot, after each step of a call
 use Rattle.sdd_participants.specs.EpochState.{EpochState, is_open, finds_another, due_next}
-use Rattle.sdd_space.specs.Steps as steps
-use Rattle.sdd_space.specs.Steps.{retired, with_standing, owner_given, cell_closed, freed, taken_out, waiting_value, reclaimed, all_reclaimed, vacated, dropped_out, dropped}
+use Rattle.sdd_space.specs.WorldChanges as steps
+use Rattle.sdd_space.specs.WorldChanges.{retired, with_standing, owner_given, cell_closed, freed, taken_out, waiting_value, reclaimed, all_reclaimed, vacated, dropped_out, dropped}
 use Rattle.sdd_space.proofs.Opening.{keeps-owner_given, keeps-cell_closed, keeps-given_all}
 use Rattle.sdd_space.proofs.Standings.{out-some}
 use Rattle.sdd_script_model.proofs.Entry.{at-same, at-other, at-pushed, at-end, at-default, as-each, inside, not-free}
@@ -9,7 +9,7 @@ use Rattle.sdd_script_model.proofs.StockWords.{◌≡◌, ◌≢◌, ℕ, ◌<�
 use Rattle.std.proofs.lemmas.List.{length_push}
 use Rattle.sdd_participants.specs.declared.standing.Standing.TheVariants.{Shared, Retired}
 use Rattle.sdd_script_model.specs.ScriptState.{ScriptState, IsThere, slot_at, name_at}
-use Rattle.sdd_script_model.specs.Sound.{IsStocked}
+use Rattle.sdd_script_model.specs.Sound.{SlotsHaveNames}
 
 -- the same slots are there, and none is taken that was free
 pub record TakesNoSlot {T : Type 0} (old new : World T) : Type 0 where
@@ -106,8 +106,8 @@ module _ {T : Type 0} where
             record { taken = all.taken; slots = all.slots }
 
 -- no item is made, and no slot is taken
-pub stocked-as : (d new : ScriptState) → IsStocked d → new.slots ≡ d.slots → new.names ≡ d.names → length new.dates ≡ length d.dates →
-    TakesNoSlot d.world new.world → IsStocked new
+pub stocked-as : (d new : ScriptState) → SlotsHaveNames d → new.slots ≡ d.slots → new.names ≡ d.names → length new.dates ≡ length d.dates →
+    TakesNoSlot d.world new.world → SlotsHaveNames new
 stocked-as d new i slots names dates none = record {
   named = λ s t. rw (slots, names) (i.named s (none.taken s t));
   names = ap length names ∙ i.names ∙ sym none.slots;
@@ -116,7 +116,7 @@ stocked-as d new i slots names dates none = record {
 }
 
 -- the next item is made in slot k, which was free
-module _ (d : ScriptState) (k : ℕ) (i : IsStocked d) (empty : IsEmptyAt d.world.standings k) where
+module _ (d : ScriptState) (k : ℕ) (i : SlotsHaveNames d) (empty : IsEmptyAt d.world.standings k) where
   abbrev more : List ℕ
   more = d.slots ++ k ∷ []
 
@@ -136,7 +136,7 @@ module _ (d : ScriptState) (k : ℕ) (i : IsStocked d) (empty : IsEmptyAt d.worl
       rw name (omega (arith, lt, length_push d.slots k), at-pushed d.slots k 0 (name_at d s) (omega (arith, lt)) ∙ was.1)
 
   pub stocked-made : (new : ScriptState) (first : Standing) → new.slots ≡ d.slots ++ k ∷ [] → new.names ≡ slice_set d.names k (length d.slots) →
-      length new.dates ≡ length d.dates → new.world.standings ≡ with_entry d.world.standings k first → IsStocked new
+      length new.dates ≡ length d.dates → new.world.standings ≡ with_entry d.world.standings k first → SlotsHaveNames new
   stocked-made new first slots names dates stands = record {
     named = λ s t.
         rw (slots, names) (
@@ -153,7 +153,7 @@ module _ (d : ScriptState) (k : ℕ) (i : IsStocked d) (empty : IsEmptyAt d.worl
 
 -- ---- what is in a slot that is taken
 
-module _ (d : ScriptState) (i : IsStocked d) (s : ℕ) (some : IsSome (standing_at d.world s)) where
+module _ (d : ScriptState) (i : SlotsHaveNames d) (s : ℕ) (some : IsSome (standing_at d.world s)) where
   -- the item that it has last is there, in this slot
   pub item-there : IsThere d (name_at d s) × (slot_at d (name_at d s) ≡ s)
   item-there =

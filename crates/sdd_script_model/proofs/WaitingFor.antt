@@ -12,7 +12,7 @@ use Rattle.sdd_script_text.specs.declared.name.ItemName.{ItemName}
 use Rattle.sdd_script_model.specs.ScriptState.{ScriptState, IsThere, slot_at}
 use Rattle.sdd_script_model.specs.Held.{owners_in, slots_among, slots_in, slots_waiting_for}
 use Rattle.sdd_script_model.specs.Shown.{item_in}
-use Rattle.sdd_script_model.specs.Sound.{IsStocked}
+use Rattle.sdd_script_model.specs.Sound.{SlotsHaveNames}
 use Rattle.sdd_script_model.proofs.StockWords.{◌≡◌, ℕ, zero, suc, ◌+◌, ◌<◌, ◌≤◌, ◌==◌, Bool, true, false, if◌then◌else◌, List, [], ◌∷◌, ◌++◌, Option, Some, None, IsSome, map, length, slice_index_or, inl, inr, refl, sym, ap, ◌∙◌, eq-eqb, arith, nat_tests, All, Contains, ◌↔◌, cases_eq, cases_lt, What, Item, Job, Standing, is_waiting, IsWhole, is_of_slot, World, standing_at, value_at, one_where, times_among, count-cons, some-waits, filled-there, Val}
 use Rattle.sdd_script_model.proofs.Gone.{among-slots, counted-contains, counted-there, names-found, slots-contain, times_in}
 use Rattle.sdd_script_model.proofs.Stocked.{slot-inside}
@@ -125,7 +125,7 @@ module _ (w : World Val) (c s : ℕ) where
 
 -- ---- the slots of a desk in which something waits for the collector
 
-module _ (d : ScriptState) (stocked : IsStocked d) (whole : IsWhole d.world) (c : ℕ) where
+module _ (d : ScriptState) (stocked : SlotsHaveNames d) (whole : IsWhole d.world) (c : ℕ) where
   abbrev pub slots_for : List ℕ
   slots_for = slots_waiting_for d.world c (length d.names)
 

@@ -5,8 +5,8 @@ use Rattle.sdd_standings.specs.Slots.{IsSharedBy}
 use Rattle.sdd_space.specs.OwnerOrCell.{OwnerOrCell}
 use Rattle.sdd_space.specs.OwnerOrCell as holding
 use Rattle.sdd_space.specs.InPlace.{IsAlone}
-use Rattle.sdd_space.specs.World.{World, IsGuarded, standing_at, value_at}
-use Rattle.sdd_space.specs.Steps.{dropped, with_standing, with_value}
+use Rattle.sdd_space.specs.World.{World, AnyGuardOpen, standing_at, value_at}
+use Rattle.sdd_space.specs.WorldChanges.{dropped, with_standing, with_value}
 use Rattle.sdd_script_text.specs.declared.answer.Reply.{Reply}
 use Rattle.sdd_script_text.specs.declared.answer.Reply.TheVariants as reply
 use Rattle.sdd_script_model.specs.declared.val.Body.TheVariants.{Number}
@@ -29,15 +29,15 @@ pub record Puts (old : World Val) (k number : ℕ) (new : World Val) : Type 0 wh
 
 -- p gives this owner up, and its item is dropped in its place if it was alone. Of a shared one it is told which
 abbrev pub Drops : World Val → ℕ → OwnerOrCell → Reply → World Val → Type 0
-Drops w p (holding.owned k home) reply.Done new = (standing_at w k ≡ Some Owned) × ¬ (IsGuarded w) × (new ≡ dropped holdings_of w p k)
-Drops w p (holding.shared k home) (reply.Truth true) new = (standing_at w k ≡ Some (Shared 1)) × ¬ (IsGuarded w) × (new ≡ dropped holdings_of w p k)
+Drops w p (holding.owned k home) reply.Done new = (standing_at w k ≡ Some Owned) × ¬ (AnyGuardOpen w) × (new ≡ dropped holdings_of w p k)
+Drops w p (holding.shared k home) (reply.Truth true) new = (standing_at w k ≡ Some (Shared 1)) × ¬ (AnyGuardOpen w) × (new ≡ dropped holdings_of w p k)
 Drops w p (holding.shared k home) (reply.Truth false) new =
     (owners : ℕ) × IsSharedBy owners (standing_at w k) × (1 < owners) × (new ≡ with_standing w k (Shared (owners - 1)))
 Drops w p h given new = ⊥
 
 -- it is alone, and a guard is open
 abbrev pub RefusesDrop : World Val → OwnerOrCell → Type 0
-RefusesDrop w h = (k : ℕ) × (slot_of (Some h) ≡ Some k) × IsAlone (standing_at w k) × IsGuarded w
+RefusesDrop w h = (k : ℕ) × (slot_of (Some h) ≡ Some k) × IsAlone (standing_at w k) × AnyGuardOpen w
 
 -- the item is out as raw
 abbrev pub IsRaw : ScriptState → ℕ → Type 0

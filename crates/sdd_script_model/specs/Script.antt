@@ -13,14 +13,14 @@ use Rattle.sdd_participants.specs.declared.standing.Standing.TheVariants.{Owned,
 use Rattle.sdd_standings.specs.Slots.{IsSharedBy, is_waiting}
 use Rattle.sdd_core.specs.declared.limits.Limits.{Limits}
 use Rattle.sdd_space.specs.OwnerOrCell.{OwnerOrCell, owned, shared, atomic_owned, atomic_shared, atomic_raw}
-use Rattle.sdd_space.specs.World.{World, IsGuarded, place_at, standing_at}
+use Rattle.sdd_space.specs.World.{World, AnyGuardOpen, place_at, standing_at}
 use Rattle.sdd_space.specs.Collecting.{collector_closed, waiting_for}
 use Rattle.sdd_standings.specs.Cells.{null_pointer}
 use Rattle.sdd_space.specs.InPlace.{MayInPlace, RefusedInPlace}
-use Rattle.sdd_space.specs.Steps.{registered, ended, retired, opened, closed, stirred, accelerated, deferred, reclaims, owner_given, with_standing, without_cell, cell_closed, pointing}
-use Rattle.sdd_space.specs.Steps as steps
+use Rattle.sdd_space.specs.WorldChanges.{registered, ended, retired, opened, closed, stirred, accelerated, deferred, reclaims, owner_given, with_standing, without_cell, cell_closed, pointing}
+use Rattle.sdd_space.specs.WorldChanges as steps
 use Rattle.sdd_space.specs.WorldStep.{WorldStep}
-use Rattle.sdd_space.specs.Left.{GoesInTime}
+use Rattle.sdd_space.specs.ReclaimBound.{GoesInTime}
 use Rattle.sdd_script_text.specs.declared.name.ItemName.{ItemName}
 use Rattle.sdd_script_text.specs.declared.name.JobName.{JobName}
 use Rattle.sdd_script_text.specs.declared.name.OwnerName.{OwnerName}
@@ -36,7 +36,7 @@ use Rattle.sdd_script_text.specs.declared.answer.Reply.TheVariants as reply
 use Rattle.sdd_script_model.specs.declared.val.Val.{Val}
 use Rattle.sdd_script_model.specs.Val.{holdings_of}
 use Rattle.sdd_script_model.specs.Made.{Makes, RefusesItem, put_in}
-use Rattle.sdd_script_model.specs.Shown.{Shows, IsCell, item_held, item_in}
+use Rattle.sdd_script_model.specs.Shown.{RepliesValue, IsCell, item_held, item_in}
 use Rattle.sdd_script_model.specs.Collecting.{Collects}
 use Rattle.sdd_script_model.specs.InPlace.{OwnsNumber, Puts, Drops, RefusesDrop, IsRaw}
 use Rattle.sdd_script_model.specs.ScriptState.{ScriptState, OpenSince, IsStart, IsDated, IsThere, WaitsAt, Leaves, opening_at, holding_at, slot_at, date_at, place_of, since_of, slot_of, sole_slot, shared_slot, shared_cell, collector_of, in_world, with_owner, without_owner, with_collector, without_collector, with_item, with_job, with_newcomer, without_participant, with_guard, without_guard, later}
@@ -57,8 +57,8 @@ abbrev pub HasOpen : ScriptState → (n g : ℕ) → Type 0
 HasOpen d n g = IsParticipant d n × IsOf (place_of d n) (opening_at d.guards g)
 
 -- the name is that of an owner, of either kind or of one
-abbrev pub IsOwner : ScriptState → ℕ → Type 0
-IsOwner d o = IsSome (slot_of (holding_at d.owners o))
+abbrev pub IsOwnerName : ScriptState → ℕ → Type 0
+IsOwnerName d o = IsSome (slot_of (holding_at d.owners o))
 
 abbrev pub IsSole : ScriptState → ℕ → Type 0
 IsSole d o = IsSome (sole_slot (holding_at d.owners o))
@@ -78,14 +78,14 @@ abbrev pub IsCollector : ScriptState → ℕ → Type 0
 IsCollector d k = IsSome (collector_of (holding_at d.collectors k))
 
 -- what goes into a cell of this kind is none, or there and of its kind
-abbrev pub Fits : ScriptState → Option OwnerOrCell → Option OwnerName → Type 0
-Fits d cell None = IsSome (desk.cell_of cell)
-Fits d None (Some o) = ⊥
-Fits d (Some (owned k home)) (Some o) = ⊥
-Fits d (Some (shared k home)) (Some o) = ⊥
-Fits d (Some (atomic_owned c home)) (Some o) = IsSole d o.0
-Fits d (Some (atomic_shared c home)) (Some o) = IsShared d o.0
-Fits d (Some (atomic_raw c home)) (Some o) = ⊥
+abbrev pub FitsCell : ScriptState → Option OwnerOrCell → Option OwnerName → Type 0
+FitsCell d cell None = IsSome (desk.cell_of cell)
+FitsCell d None (Some o) = ⊥
+FitsCell d (Some (owned k home)) (Some o) = ⊥
+FitsCell d (Some (shared k home)) (Some o) = ⊥
+FitsCell d (Some (atomic_owned c home)) (Some o) = IsSole d o.0
+FitsCell d (Some (atomic_shared c home)) (Some o) = IsShared d o.0
+FitsCell d (Some (atomic_raw c home)) (Some o) = ⊥
 
 -- what goes into a new cell for only owners, or for shared ones
 abbrev pub FitsSole : ScriptState → Option OwnerName → Type 0
@@ -108,7 +108,7 @@ CanCompare d n (Some i) = CanPointTo d n i.0
 -- what a value takes is there
 abbrev pub IsThereToPut : ScriptState → Value → Type 0
 IsThereToPut d (Number n) = Unit {0}
-IsThereToPut d (Of o) = IsOwner d o.0
+IsThereToPut d (Of o) = IsOwnerName d o.0
 
 -- what an action of participant n names is there, and of the right kind
 abbrev pub IsValid : ScriptState → ℕ → Action → Type 0
@@ -122,12 +122,12 @@ IsValid d n (call.Defer g) = HasOpen d n g.0
 IsValid d n (call.Close g) = HasOpen d n g.0
 IsValid d n (call.Owned value) = IsParticipant d n × IsThereToPut d value
 IsValid d n (call.Shared value) = IsParticipant d n × IsThereToPut d value
-IsValid d n (call.Read o) = IsParticipant d n × IsOwner d o.0
+IsValid d n (call.Read o) = IsParticipant d n × IsOwnerName d o.0
 IsValid d n (call.Retire o) = IsParticipant d n × IsSole d o.0
 IsValid d n (call.Release o) = IsParticipant d n × IsShared d o.0
 IsValid d n (call.Clone o) = IsParticipant d n × IsShared d o.0
 IsValid d n (call.Put o number) = IsParticipant d n × OwnsNumber d o.0
-IsValid d n (call.Drop o) = IsParticipant d n × IsOwner d o.0
+IsValid d n (call.Drop o) = IsParticipant d n × IsOwnerName d o.0
 IsValid d n (call.Raw o) = IsParticipant d n × IsSole d o.0
 IsValid d n (call.Unraw i) = IsParticipant d n × IsThere d i.0
 IsValid d n (call.See i g) = HasOpen d n g.0 × IsThere d i.0
@@ -137,15 +137,15 @@ IsValid d n (call.CellOwned x) = IsParticipant d n × FitsSole d x
 IsValid d n (call.CellShared x) = IsParticipant d n × FitsShared d x
 IsValid d n (call.Load c g) = HasOpen d n g.0 × IsCellName d c.0
 IsValid d n (call.Tag c) = IsParticipant d n × IsCellName d c.0
-IsValid d n (call.Swap c x tag) = IsParticipant d n × Fits d (holding_at d.cells c.0) x
+IsValid d n (call.Swap c x tag) = IsParticipant d n × FitsCell d (holding_at d.cells c.0) x
 IsValid d n (call.TagIf c tag was) = IsParticipant d n × IsCellName d c.0
-IsValid d n (call.Exchange c g i was x tag) = HasOpen d n g.0 × CanCompare d n i × Fits d (holding_at d.cells c.0) x
+IsValid d n (call.Exchange c g i was x tag) = HasOpen d n g.0 × CanCompare d n i × FitsCell d (holding_at d.cells c.0) x
 IsValid d n (call.Into c) = IsParticipant d n × IsCellName d c.0
 IsValid d n (call.Copy c g) = HasOpen d n g.0 × IsSharedCell d c.0
 IsValid d n (call.Share c g) = HasOpen d n g.0 × IsSharedCell d c.0
 IsValid d n (call.CloseCell c) = IsParticipant d n × IsCellName d c.0
 IsValid d n call.Collector = IsParticipant d n
-IsValid d n (call.Collect o g k) = HasOpen d n g.0 × IsOwner d o.0 × IsCollector d k.0
+IsValid d n (call.Collect o g k) = HasOpen d n g.0 × IsOwnerName d o.0 × IsCollector d k.0
 IsValid d n (call.CloseCollector k) = IsParticipant d n × IsCollector d k.0
 
 -- ---- what an action answers and leaves
@@ -265,8 +265,8 @@ Does d n p (call.Shared value) (reply.Item o i) new =
     (i.0 ≡ length d.slots) × ((k : ℕ) × (world : World Val) × Makes d value (Shared 1) k world
     × GivesOwner (with_item (put_in d value) k) world (shared k d.world.home.slots) o new)
 Does d n p (call.Shared value) (reply.Refused refused) new = RefusesItem d.world refused × (new ≡ d)
-Does d n p (call.Read o) given new = ((k : ℕ) × (slot_of (holding_at d.owners o.0) ≡ Some k) × Shows d k given) × (new ≡ d)
-Does d n p (call.Look i g) given new = Shows d (slot_at d i.0) given × (new ≡ d)
+Does d n p (call.Read o) given new = ((k : ℕ) × (slot_of (holding_at d.owners o.0) ≡ Some k) × RepliesValue d k given) × (new ≡ d)
+Does d n p (call.Look i g) given new = RepliesValue d (slot_at d i.0) given × (new ≡ d)
 -- none where the item has one owner that can't be shared, or the last one went
 Does d n p (call.Upgrade i g) reply.Nothing new = ((owners : ℕ) → standing_at d.world (slot_at d i.0) ≢ Some (Shared owners)) × (new ≡ d)
 Does d n p (call.Upgrade i g) given new = AddsOwner d (slot_at d i.0) given new
@@ -291,7 +291,7 @@ Does d n p (call.Unraw i) reply.Nothing new = ¬ (IsRaw d i.0) × (new ≡ d)
 Does d n p (call.Unraw i) (reply.Owner o) new =
     IsRaw d i.0 × GivesOwner d (with_standing d.world (slot_at d i.0) Owned) (owned (slot_at d i.0) d.world.home.slots) o new
 Does d n p (call.See i g) reply.Nothing new = ¬ (IsRaw d i.0) × (new ≡ d)
-Does d n p (call.See i g) given new = IsRaw d i.0 × Shows d (slot_at d i.0) given × (new ≡ d)
+Does d n p (call.See i g) given new = IsRaw d i.0 × RepliesValue d (slot_at d i.0) given × (new ≡ d)
 Does d n p (call.CellOwned x) given new = MakesCell d x (cell_as None) given new
 Does d n p (call.CellShared x) given new = MakesCell d x (cell_as (Some (atomic_shared 0 d.world.home.cells))) given new
 Does d n p (call.Load c g) (reply.Pointer i tag) new = ((k : ℕ) × (cell : CellContents) × IsCell d c.0 k cell × (i ≡ item_held d cell) × (tag ≡ cell.tag)) × (new ≡ d)
@@ -338,9 +338,9 @@ Does d n p (call.Collect o g k) given new =
     (c : ℕ) × (h : OwnerOrCell) × (w : World Val) × (collector_of (holding_at d.collectors k.0) ≡ Some c) × (holding_at d.owners o.0 ≡ Some h)
     × Collects d.world p c h given w × Leaves (in_world (without_owner d o.0) w) new
 Does d n p (call.CloseCollector k) reply.Done new =
-    (c : ℕ) × (collector_of (holding_at d.collectors k.0) ≡ Some c) × ¬ (IsGuarded d.world)
+    (c : ℕ) × (collector_of (holding_at d.collectors k.0) ≡ Some c) × ¬ (AnyGuardOpen d.world)
     × Leaves (in_world (without_collector d k.0) (collector_closed holdings_of d.world p c)) new
-Does d n p (call.CloseCollector k) (reply.Refused GuardOpen) new = IsGuarded d.world × (new ≡ d)
+Does d n p (call.CloseCollector k) (reply.Refused GuardOpen) new = AnyGuardOpen d.world × (new ≡ d)
 -- no other reply is given
 Does d n p action other new = ⊥
 
@@ -402,13 +402,13 @@ pub record Answers (old : ScriptState) (call : Call) (answer : Answer) (new : Sc
   pub runs : NamesWhatRuns old call answer.reply answer.ran
 
 -- one line: the call, its answer, and the desk left behind
-abbrev pub Step : ScriptState → Call → Answer → ScriptState → Type 0
-Step old call answer new = Answers (later old) call answer new
+abbrev pub LineStep : ScriptState → Call → Answer → ScriptState → Type 0
+LineStep old call answer new = Answers (later old) call answer new
 
 -- one line after another; after each, what waits goes in time
 abbrev pub Runs : ScriptState → List Call → List Answer → ScriptState → Type 0
 Runs old [] [] new = new ≡ old
-Runs old (call ∷ calls) (answer ∷ answers) new = (mid : ScriptState) × Step old call answer mid × GoesInTime holdings_of mid.world × Runs mid calls answers new
+Runs old (call ∷ calls) (answer ∷ answers) new = (mid : ScriptState) × LineStep old call answer mid × GoesInTime holdings_of mid.world × Runs mid calls answers new
 Runs old [] (answer ∷ answers) new = ⊥
 Runs old (call ∷ calls) [] new = ⊥
 

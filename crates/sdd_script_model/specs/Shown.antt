@@ -30,8 +30,8 @@ told_of names (Owned o) = reply.Holding (item_in names (owned.slot_of o))
 told_of names (Shared o) = reply.Holding (item_in names (shared.slot_of o))
 
 -- the value of the item in slot k, as a reply
-abbrev pub Shows : ScriptState → ℕ → Reply → Type 0
-Shows d k given = (v : Val) × (value_at d.world k ≡ Some v) × (given ≡ told_of d.names (body_of v))
+abbrev pub RepliesValue : ScriptState → ℕ → Reply → Type 0
+RepliesValue d k given = (v : Val) × (value_at d.world k ≡ Some v) × (given ≡ told_of d.names (body_of v))
 
 -- the item that a cell holds, or none
 abbrev pub item_held : ScriptState → CellContents → Option ItemName

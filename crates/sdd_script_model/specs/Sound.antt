@@ -5,15 +5,15 @@ use Rattle.sdd_participants.specs.Slab.{Entries, entry_at}
 use Rattle.sdd_standings.specs.Slots.{is_waiting}
 use Rattle.sdd_space.specs.OwnerOrCell.{OwnerOrCell, IsOf}
 use Rattle.sdd_space.specs.World.{IsPlaceOf, place_at, standing_at, value_at}
-use Rattle.sdd_space.specs.Steps.{held_in}
-use Rattle.sdd_space.specs.Accounts.{IsAccounted, is_owner_of, times_held}
-use Rattle.sdd_space.specs.Under.{IsSafe}
+use Rattle.sdd_space.specs.WorldChanges.{held_in}
+use Rattle.sdd_space.specs.OwnerCounts.{IsAccounted, is_owner_of, times_held}
+use Rattle.sdd_space.specs.UnderGuards.{IsSafe}
 use Rattle.sdd_script_model.specs.declared.val.Val.{Val}
 use Rattle.sdd_script_model.specs.Val.{holdings_of, link_of}
 use Rattle.sdd_script_model.specs.ScriptState.{ScriptState, OpenSince, opening_at, holding_at, slot_at, name_at, date_at, cell_of, collector_of}
 
 -- which item is in which slot
-pub record IsStocked (d : ScriptState) : Type 0 where
+pub record SlotsHaveNames (d : ScriptState) : Type 0 where
   -- a slot that is not free is that of the item that it has: so what is out as raw is out under its item's name
   pub named : (s : ℕ) → IsSome (standing_at d.world s) → (name_at d s < length d.slots) × (slot_at d (name_at d s) ≡ s)
   pub names : length d.names ≡ length d.world.standings
@@ -33,7 +33,7 @@ Keeps d (name_of n) c = cell_of (holding_at d.cells n) ≡ Some c
 Keeps d (collector_named n) c = collector_of (holding_at d.collectors n) ≡ Some c
 
 -- the cells that are taken are those that something keeps, each one thing; links hold nothing
-pub record AreKept (d : ScriptState) : Type 0 where
+pub record EachCellHasKeeper (d : ScriptState) : Type 0 where
   pub keeper : (c : ℕ) → IsSome (entry_at d.world.cells c) → (k : Keeper) × Keeps d k c
   pub taken : (k : Keeper) (c : ℕ) → Keeps d k c → IsSome (entry_at d.world.cells c)
   pub apart : (j k : Keeper) (c : ℕ) → Keeps d j c → Keeps d k c → j ≡ k
@@ -58,7 +58,7 @@ abbrev pub AreAtHome : ScriptState → List (Option OwnerOrCell) → Type 0
 AreAtHome d hs = (n : ℕ) (h : OwnerOrCell) → holding_at hs n ≡ Some h → IsOf d.world.home h
 
 -- who is there, and which guards are open
-pub record IsAttended (d : ScriptState) : Type 0 where
+pub record ParticipantsMatch (d : ScriptState) : Type 0 where
   pub inside : (n : ℕ) (x : OpenSince) → opening_at d.places n ≡ Some x → IsPlaceOf d.world x.place
   pub apart : (n m : ℕ) (x y : OpenSince) → opening_at d.places n ≡ Some x → opening_at d.places m ≡ Some y → x.place ≡ y.place → n ≡ m
   pub opened : (p : ℕ) → (place_at d.world p).guards ≡ count_by (is_of p) d.guards
@@ -71,13 +71,13 @@ pub record IsAttended (d : ScriptState) : Type 0 where
   pub placed : 0 < length d.slots + length d.cells → (p : ℕ) × IsSome (phase_at d.world.time p)
 
 -- what began to wait since a participant's last outermost opening can't go as long as a guard of it is open
-abbrev pub IsKept : ScriptState → Type 0
-IsKept d = (n s : ℕ) (x : OpenSince) → opening_at d.places n ≡ Some x → IsTrue (is_open (place_at d.world x.place)) →
+abbrev pub KeepsRecentItems : ScriptState → Type 0
+KeepsRecentItems d = (n s : ℕ) (x : OpenSince) → opening_at d.places n ≡ Some x → IsTrue (is_open (place_at d.world x.place)) →
     IsTrue (is_waiting (standing_at d.world s)) → x.since ≤ date_at d s → IsSafe d.world x.place s
 
 -- what a value holds is an owner of an item that was made before its own: so with no owner outside, and none out as raw, all goes
-abbrev pub IsLayered : ScriptState → Type 0
-IsLayered d = (j k : ℕ) → 1 ≤ times_held holdings_of k (value_at d.world j) → name_at d k < name_at d j
+abbrev pub HoldsOnlyOlder : ScriptState → Type 0
+HoldsOnlyOlder d = (j k : ℕ) → 1 ≤ times_held holdings_of k (value_at d.world j) → name_at d k < name_at d j
 
 -- each place of the table of jobs that is taken has a job's name, no two the same
 pub record AreDeferred (jobs : ℕ) (deferred : List ℕ) (table : Entries (Unit {0})) : Type 0 where
@@ -86,15 +86,15 @@ pub record AreDeferred (jobs : ℕ) (deferred : List ℕ) (table : Entries (Unit
   pub long : length deferred ≡ length table
 
 pub record IsSound (d : ScriptState) : Type 0 where
-  pub stocked : IsStocked d
-  pub cells : AreKept d
-  pub layered : IsLayered d
+  pub stocked : SlotsHaveNames d
+  pub cells : EachCellHasKeeper d
+  pub layered : HoldsOnlyOlder d
   pub accounts : IsAccounted holdings_of (named_owners d) d.world
   pub owners_home : AreAtHome d d.owners
   pub cells_home : AreAtHome d d.cells
   pub collectors_home : AreAtHome d d.collectors
-  pub attended : IsAttended d
-  pub kept : IsKept d
+  pub attended : ParticipantsMatch d
+  pub kept : KeepsRecentItems d
   -- in a line so far
   pub early : (s : ℕ) → date_at d s ≤ d.moment
   pub made : d.world.tally.made ≡ length d.slots

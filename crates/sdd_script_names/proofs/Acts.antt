@@ -11,9 +11,9 @@ use Rattle.sdd_participants.specs.declared.standing.Standing.TheVariants as stan
 use Rattle.sdd_standings.specs.Slots.{IsSharedBy}
 use Rattle.sdd_space.specs.declared.shared.Shared.{Shared}
 use Rattle.sdd_space.specs.OwnerOrCell as holding
-use Rattle.sdd_space.specs.Steps.{deferred, with_standing}
-use Rattle.sdd_space.specs.Under.{Stays}
-use Rattle.sdd_space.specs.Whole.{IsWhole}
+use Rattle.sdd_space.specs.WorldChanges.{deferred, with_standing}
+use Rattle.sdd_space.specs.UnderGuards.{CannotGo}
+use Rattle.sdd_space.specs.WorldInvariant.{IsWhole}
 use Rattle.sdd_core.specs.declared.limits.Limits.{Limits}
 use Rattle.sdd_core.specs.Limits.{AreInRange}
 use Rattle.sdd_space.specs.World.{World, IsNew, IsPlaceOf, standing_at}
@@ -141,7 +141,7 @@ module _ (h : Environment) (t : IsTied h) (whole : IsWhole h.world) where
 
     -- an item that this participant can point to can't go while its guard is open
     pub stays-here : (g i : ℕ) (held : NamedGuard) → slice_index_or h.guards.entries.items g None ≡ Some held → held.place ≡ p →
-        CanPointTo d n i → Stays h.world p (slot_at d i)
+        CanPointTo d n i → CannotGo h.world p (slot_at d i)
     stays-here g i held here own can =
         let since : since_of d n ≡ a.since = ap since_in (sym there) in
         can-point d t.sound n (slot_at d i) (record { place = p; since = a.since }) (sym there) (open-here g held here own) can.0.taken

@@ -16,7 +16,7 @@ use Rattle.sdd_space_commands.specs.declared.holding.AnyOwner.TheVariants.{Sole,
 use Rattle.sdd_script_names.specs.declared.interpreter.Environment.{Environment}
 use Rattle.sdd_script_names.specs.declared.participants.NamedParticipant.{NamedParticipant}
 use Rattle.sdd_script_model.specs.ScriptState.{ScriptState, opening_at, holding_at, since_of, since_in}
-use Rattle.sdd_script_model.specs.Script.{Acts, IsParticipant, IsOwner, IsSole, IsShared, IsCellName, IsValid, CanPointTo}
+use Rattle.sdd_script_model.specs.Script.{Acts, IsParticipant, IsOwnerName, IsSole, IsShared, IsCellName, IsValid, CanPointTo}
 use Rattle.sdd_script_names.specs.Environment.{attending, CanPointAt}
 use Rattle.sdd_space_commands.specs.Owners.{owner_holding, cell_holding}
 use Rattle.sdd_script_names.specs.Interpreter.{desk_of}
@@ -83,7 +83,7 @@ module _ (h : Environment) where
   owner-entry : (o : ℕ) (x : Option AnyOwner) → slice_index_or h.owners.entries.items o None ≡ x → holding_at d.owners o ≡ option_map owner_holding x
   owner-entry o x e = get_or-map (option_map owner_holding) h.owners.entries.items o None ∙ ap (option_map owner_holding) e
 
-  pub no-owner : (o : ℕ) → None ≡ slice_index_or h.owners.entries.items o None → ¬ (IsOwner d o)
+  pub no-owner : (o : ℕ) → None ≡ slice_index_or h.owners.entries.items o None → ¬ (IsOwnerName d o)
   no-owner o none there = let entry = owner-entry o None (sym none) in false≢true (rw entry at there)
 
   pub no-sole : (o : ℕ) → ((owner : Owned Val) → slice_index_or h.owners.entries.items o None ≢ Some (Sole owner)) → ¬ (IsSole d o)

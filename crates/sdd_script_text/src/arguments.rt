@@ -3,8 +3,8 @@ ghost use Rattle.std.specs.Prelude.{◌↔◌, IsTrue, drop, map, MatchOption, s
 ghost use Rattle.sdd_core.specs.declared.limits.Limits.{Limits};
 ghost use Rattle.sdd_script_text.specs.Choice.{AreLimits, AreSteps, Chooses};
 
-use sdd_core::Limits;
 use crate::inner::number;
+use sdd_core::Limits;
 
 /// What the arguments ask for.
 #[derive(Clone, Copy, Debug, PartialEq, Eq)]

@@ -18,9 +18,9 @@ use Rattle.atomic_table.specs.Seated.{carried}
 use mathlib.Core.Option.{some}
 use lib.ListN.{get_elem?}
 use Rattle.sdd_shared_values.specs.ValueFractions.{FractionContent, holding, purse, settled, AllFreeFor}
-use Rattle.sdd_shared_values.specs.Seats.{OnlyLends}
+use Rattle.sdd_shared_values.specs.CarriedFractions.{OnlyLends}
 use Rattle.sdd_shared_values.proofs.Looks.{lent_to, keeps_settled, keeps_all_to}
-use Rattle.sdd_shared_values.specs.Seats.{lots, with_lots, relotted}
+use Rattle.sdd_shared_values.specs.CarriedFractions.{lots, with_lots, relotted}
 use Rattle.sdd_shared_values.specs.contracts.value_fraction.ValueFraction as stake
 use Rattle.sdd_shared_values.specs.declared.value_fraction.ValueFraction.{ValueFraction}
 

@@ -6,8 +6,8 @@ use base.Stored.{Gv, gnil, gnum, gcons}
 use denote.RattleType.{RattleType}
 use Rattle.sdd_values.specs.Block.{IsFreeFor}
 use Rattle.sdd_shared_values.specs.ValueFractions.{FractionContent, unlent, settled, AllFreeFor}
-use Rattle.sdd_shared_values.specs.Seats.{lots, plain, OnlyLends}
-use Rattle.sdd_shared_values.specs.SharedValues.{units_in, showing, IsFull, CanShow, Shows, Parts, AllOf, AreWhole, HasWhole, turned, top_turned, all_turned}
+use Rattle.sdd_shared_values.specs.CarriedFractions.{lots, plain, OnlyLends}
+use Rattle.sdd_shared_values.specs.SharedValues.{units_in, showing, IsFull, CanShow, HasFractionShowing, AreUnlentFractions, AllOf, AreWhole, HasWhole, turned, top_turned, all_turned}
 use Rattle.sdd_shared_values.specs.declared.value_fraction.ValueFraction.{ValueFraction}
 use Rattle.sdd_shared_values.proofs.Carried.{lots_with, lots_long, same_length}
 use Rattle.sdd_shared_values.proofs.Collect.{top_long}
@@ -63,8 +63,8 @@ shown_of (gnum n) = gnil
 shown_of (gcons a b) = b
 
 -- two looks by the same one stake show the same value
-pub same-look : (R : RattleType) (γ i t : ℕ) (x y : R.Denot) (xs ys : Carries) → length xs ≡ 1 → OnlyLends t xs ys → Shows γ i (showing R x) (lots xs)
-    → Shows γ i (showing R y) (lots ys) → y ≡ x
+pub same-look : (R : RattleType) (γ i t : ℕ) (x y : R.Denot) (xs ys : Carries) → length xs ≡ 1 → OnlyLends t xs ys → HasFractionShowing γ i (showing R x) (lots xs)
+    → HasFractionShowing γ i (showing R y) (lots ys) → y ≡ x
 same-look R γ i t x y xs ys one only before after =
     let same : settled (lots ys) ≡ settled (lots xs) = sym (lots_plain ys) ∙ ap lots only.0 ∙ lots_plain xs in
     let a = settled_at (lots xs) before.place before.one before.there in
@@ -91,7 +91,7 @@ take_turned a g zero hs = refl
 take_turned a g (suc n) [] = refl
 take_turned a g (suc n) (h ∷ hs) = ap (λ (l : List FractionContent). record h { round = a; shown = g } ∷ l) (take_turned a g n hs)
 
-turned_parts : (γ i a : ℕ) (g : Gv) (hs : List FractionContent) → Parts γ i hs → Parts γ i (turned a g hs)
+turned_parts : (γ i a : ℕ) (g : Gv) (hs : List FractionContent) → AreUnlentFractions γ i hs → AreUnlentFractions γ i (turned a g hs)
 turned_parts γ i a g [] parts = tt
 turned_parts γ i a g (h ∷ hs) parts = (ap (λ (l : FractionContent). record l { round = a; shown = g }) parts.0, parts.1, turned_parts γ i a g hs parts.2)
 
@@ -109,7 +109,7 @@ whole-turned γ i n a g Is Js xs so has = let hs : List FractionContent = lots x
       others = turned a g has.others;
       there = top ∙ ap (turned a g) has.there;
       so = so;
-      parts = subst (Parts γ i) (sym top) (turned_parts γ i a g (take n hs) has.parts);
+      parts = subst (AreUnlentFractions γ i) (sym top) (turned_parts γ i a g (take n hs) has.parts);
       whole = ap units_in top ∙ turned_units a g (take n hs) ∙ has.whole;
     }
 
@@ -120,7 +120,7 @@ first_of (suc n) (x ∷ hs) h rest e = ap (λ (l : List FractionContent). get_el
 
 -- a seat that has all units of a full number can show its value
 pub whole-shows : (γ i n t : ℕ) (hs : List FractionContent) → HasWhole γ i n IsFull hs → CanShow γ i t hs
-whole-shows γ i n t hs has = let h : FractionContent = has.newest in let e = (subst (Parts γ i) has.there has.parts).0 in
+whole-shows γ i n t hs has = let h : FractionContent = has.newest in let e = (subst (AreUnlentFractions γ i) has.there has.parts).0 in
     record {
       place = 0;
       one = h;
@@ -136,7 +136,7 @@ settled_take zero hs = refl
 settled_take (suc n) [] = refl
 settled_take (suc n) (h ∷ hs) = ap (λ (l : List FractionContent). unlent h ∷ l) (settled_take n hs)
 
-parts_settled : (γ i : ℕ) (hs : List FractionContent) → Parts γ i hs → settled hs ≡ hs
+parts_settled : (γ i : ℕ) (hs : List FractionContent) → AreUnlentFractions γ i hs → settled hs ≡ hs
 parts_settled γ i [] parts = refl
 parts_settled γ i (h ∷ hs) parts = λ j. (ap unlent parts.0 ∙ sym parts.0) j ∷ parts_settled γ i hs parts.2 j
 
@@ -150,7 +150,7 @@ whole-settled γ i n Is xs ys same has = let hs : List FractionContent = lots xs
       others = has.others;
       there = top ∙ has.there;
       so = has.so;
-      parts = subst (Parts γ i) (sym top) has.parts;
+      parts = subst (AreUnlentFractions γ i) (sym top) has.parts;
       whole = ap units_in top ∙ has.whole;
     }
 

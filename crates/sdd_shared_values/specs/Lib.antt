@@ -1,8 +1,8 @@
 pub mod ValueFractions
-pub mod Seats
+pub mod CarriedFractions
 pub mod SharedValues
 pub mod Memory
 pub mod GhostValues
-pub mod Grips
+pub mod ReadFractions
 pub mod Bank
 pub mod Deposits

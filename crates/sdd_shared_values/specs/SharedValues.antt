@@ -14,10 +14,10 @@ use denote.RawPtr.{Ptr, block_ptr, block_of, count_of, InBlock, lies_at, room_fo
 use denote.Sharing.{said}
 use denote.Struct.Lending.{lent_at}
 use Rattle.atomic_table.specs.Seated.{fact}
-pub use Rattle.sdd_rights.specs.ReadFraction.{IsFull}
+pub use Rattle.sdd_rights.specs.ReadFraction.{IsValueCode}
 use Rattle.sdd_values.specs.Block.{IsFreeFor}
 use Rattle.sdd_shared_values.specs.ValueFractions.{FractionContent, part}
-use Rattle.sdd_shared_values.specs.Seats.{lots, with_lots}
+use Rattle.sdd_shared_values.specs.CarriedFractions.{lots, with_lots}
 use Rattle.sdd_shared_values.specs.declared.value_fraction.ValueFraction.{ValueFraction}
 
 -- ---- what units show
@@ -32,8 +32,8 @@ full_shown g = gcons gnil g
 abbrev pub showing : (R : RattleType) → R.Denot → Gv
 showing R x = full_shown (R.coded.code x)
 
-abbrev pub IsVacant : Gv → Type 0
-IsVacant g = g ≡ vacant
+abbrev pub IsNoValueCode : Gv → Type 0
+IsNoValueCode g = g ≡ vacant
 
 -- ---- what a place keeps
 -- room for a value, named so that it is the same formula at a type parameter and at what stands for it
@@ -97,8 +97,8 @@ abbrev pub most : ℕ
 most = 2 ^ 63 - 1
 
 -- it has all units of the number i but the place's own, and isn't lent
-abbrev pub IsWhole : ℕ → ℕ → FractionContent → Type 0
-IsWhole γ i h = h ≡ lot γ i h.round h.shown most
+abbrev pub HasAllUnits : ℕ → ℕ → FractionContent → Type 0
+HasAllUnits γ i h = h ≡ lot γ i h.round h.shown most
 
 -- ---- a look
 -- one of these stakes is in a full place's number, and may be lent to the tenure t, or is
@@ -108,11 +108,11 @@ pub record CanShow (γ i t : ℕ) (hs : List FractionContent) : Type 0 where
   pub there : get_elem? hs place ≡ some one
   pub of_book : one.book ≡ γ
   pub of_number : one.number ≡ i
-  pub full : IsFull one.shown
+  pub full : IsValueCode one.shown
   pub free : IsFreeFor t one.lent
 
 -- one of these stakes is in the number, and what it shows is g
-pub record Shows (γ i : ℕ) (g : Gv) (hs : List FractionContent) : Type 0 where
+pub record HasFractionShowing (γ i : ℕ) (g : Gv) (hs : List FractionContent) : Type 0 where
   pub place : ℕ
   pub one : FractionContent
   pub there : get_elem? hs place ≡ some one
@@ -135,9 +135,9 @@ abbrev pub AreWhole : ℕ → ℕ → ℕ → Gv → ℕ → List FractionConten
 AreWhole γ i a g n hs = AllOf γ i a g (take n hs) × (units_in (take n hs) ≡ most)
 
 -- each is of the number i, and isn't lent
-abbrev pub Parts : ℕ → ℕ → List FractionContent → Type 0
-Parts γ i [] = Unit {0}
-Parts γ i (h ∷ hs) = (h ≡ lot γ i h.round h.shown h.units) × (0 < h.units) × Parts γ i hs
+abbrev pub AreUnlentFractions : ℕ → ℕ → List FractionContent → Type 0
+AreUnlentFractions γ i [] = Unit {0}
+AreUnlentFractions γ i (h ∷ hs) = (h ≡ lot γ i h.round h.shown h.units) × (0 < h.units) × AreUnlentFractions γ i hs
 
 -- the n stakes that were taken last have all units of the number i but the place's own, none of them is lent, and what the newest shows is so
 pub record HasWhole (γ i n : ℕ) (IsSo : Gv → Type 0) (hs : List FractionContent) : Type 0 where
@@ -145,7 +145,7 @@ pub record HasWhole (γ i n : ℕ) (IsSo : Gv → Type 0) (hs : List FractionCon
   pub others : List FractionContent
   pub there : take n hs ≡ newest ∷ others
   pub so : IsSo newest.shown
-  pub parts : Parts γ i (take n hs)
+  pub parts : AreUnlentFractions γ i (take n hs)
   pub whole : units_in (take n hs) ≡ most
 
 -- they agree on something else now

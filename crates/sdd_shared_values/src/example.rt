@@ -1,8 +1,8 @@
 //! The calls of a shelf, one after the other, over the rule of any table.
 ghost use Rattle.std.specs.Prelude.{◌≡◌, ◌<◌, ℕ, None, length};
 ghost use Rattle.sdd_shared_values.specs.ValueFractions.{AllFreeFor};
-ghost use Rattle.sdd_shared_values.specs.Seats.{lots, plain};
-ghost use Rattle.sdd_shared_values.specs.SharedValues.{CanShow, Shows, showing, IsFull, IsVacant, HasWhole, vacant, all_turned};
+ghost use Rattle.sdd_shared_values.specs.CarriedFractions.{lots, plain};
+ghost use Rattle.sdd_shared_values.specs.SharedValues.{CanShow, HasFractionShowing, showing, IsFull, IsNoValueCode, HasWhole, vacant, all_turned};
 
 use crate::seats::settle;
 use crate::shared_values::{SharedValues, ValueInvariant};
@@ -46,7 +46,7 @@ pub fn takes_what_was_put<T, F: ValueInvariant<T>, V, K, P: TableRule<ValueFract
 ) -> T
     requires table { seat.old.table_id ≡ table.now.table_id }
     requires inside { at < shelf.now.size }
-    requires whole { HasWhole shelf.now.book at count IsVacant (lots seat.old.me.1) }
+    requires whole { HasWhole shelf.now.book at count IsNoValueCode (lots seat.old.me.1) }
     requires free { AllFreeFor tenure.old.round (lots seat.old.me.1) }
     requires all { tenure.old.units ≡ WHOLE }
     requires fits { F.fits shelf.now.table shelf.now.book shelf.now.size value }
@@ -91,7 +91,7 @@ pub fn shows_what_was_shown<'g, T, F: ValueInvariant<T>, V, K, P: TableRule<Valu
     requires inside { at < shelf.now.size }
     requires free { AllFreeFor first.now.name (lots seat.old.me.1) }
     requires stake { CanShow shelf.now.book at next.now.round (lots (plain seat.old.me.1)) }
-    ensures value { Shows shelf.now.book at (showing T.row result.now) (lots (plain seat.old.me.1)) }
+    ensures value { HasFractionShowing shelf.now.book at (showing T.row result.now) (lots (plain seat.old.me.1)) }
 {
     settle(seat, table, first);
     shelf.show(at, seat, table, next)

@@ -1,7 +1,7 @@
 //! What was lent to a tenure is lent no more, once it has ended.
 ghost use Rattle.core.specs.Prelude.{◌≡◌};
 ghost use Rattle.sdd_shared_values.specs.ValueFractions.{AllFreeFor};
-ghost use Rattle.sdd_shared_values.specs.Seats.{lots, plain};
+ghost use Rattle.sdd_shared_values.specs.CarriedFractions.{lots, plain};
 
 use crate::value_fraction::ValueFraction;
 use atomic_table::{Seat, Shared, TableRule};

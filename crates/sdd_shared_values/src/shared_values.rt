@@ -1,8 +1,8 @@
 //! Values side by side in memory that threads share.
 ghost use Rattle.std.specs.Prelude.{◌≡◌, ◌<◌, ℕ};
 ghost use Rattle.atomic_table.specs.Seated.{TableId, table_id_coded};
-ghost use Rattle.sdd_shared_values.specs.Seats.{lots, OnlyLends};
-ghost use Rattle.sdd_shared_values.specs.SharedValues.{shelf_owns, shelf_shares, CanShow, Shows, IsFull, IsVacant, HasWhole, AreWhole, showing, vacant, all_turned, AreVacant};
+ghost use Rattle.sdd_shared_values.specs.CarriedFractions.{lots, OnlyLends};
+ghost use Rattle.sdd_shared_values.specs.SharedValues.{shelf_owns, shelf_shares, CanShow, HasFractionShowing, IsFull, IsNoValueCode, HasWhole, AreWhole, showing, vacant, all_turned, AreVacant};
 
 use crate::fraction_list::FractionList;
 use crate::unused_memory::UnusedMemory;
@@ -87,7 +87,7 @@ impl<T, F: ValueInvariant<T>> SharedValues<T, F> {
         requires stake { CanShow self.now.book at tenure.now.round (lots seat.old.me.1) }
         ensures seat { seat.new ≡ record seat.old { me = (seat.old.me.0, seat.new.me.1) } }
         ensures lent { OnlyLends tenure.now.round seat.old.me.1 seat.new.me.1 }
-        ensures value { Shows self.now.book at (showing T.row result.now) (lots seat.old.me.1) }
+        ensures value { HasFractionShowing self.now.book at (showing T.row result.now) (lots seat.old.me.1) }
         ensures fits { F.fits self.now.table self.now.book self.now.size result.now }
     {
         let _ = seat;
@@ -141,7 +141,7 @@ impl<T, F: ValueInvariant<T>> SharedValues<T, F> {
     )
         requires table { seat.old.table_id ≡ table.now.table_id }
         requires inside { at < self.now.size }
-        requires whole { HasWhole self.now.book at count IsVacant (lots seat.old.me.1) }
+        requires whole { HasWhole self.now.book at count IsNoValueCode (lots seat.old.me.1) }
         requires fits { F.fits self.now.table self.now.book self.now.size value }
         ensures seat { (round : ℕ) × (seat.new ≡ record seat.old { me = (seat.old.me.0, all_turned round (showing T.row value) count seat.old.me.1) }) }
     {

@@ -22,7 +22,7 @@ impl Model for ValueFraction {
 
 impl ValueFraction {
     ghost use Rattle.sdd_shared_values.specs.SharedValues.{IsFull};
-    ghost use Rattle.sdd_shared_values.specs.Grips.{lot_of};
+    ghost use Rattle.sdd_shared_values.specs.ReadFractions.{lot_of};
     ghost use Rattle.sdd_shared_values.specs.Bank.{AllowsDeal, Comes};
 
     /// Some units, as a stake of their own. At least one stays.

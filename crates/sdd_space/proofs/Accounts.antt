@@ -15,12 +15,12 @@ use Rattle.sdd_participants.specs.declared.standing.Standing.{Standing}
 use Rattle.sdd_participants.specs.declared.standing.Standing.TheVariants.{Owned, Raw, Shared, Retired, Private as privately}
 use Rattle.sdd_participants.specs.declared.standing.CellContents.{CellContents}
 use Rattle.sdd_space.specs.World.{World, IsBlank, standing_at, value_at, place_at}
-use Rattle.sdd_space.specs.Steps.{made_as, with_standing, retired, nulled, with_cell, without_cell, spilled, cell_closed, held_in, owner_given, given, given_all, freed, vacated, with_value, dropped_out, dropped, taken_out, waiting_value, slot_reclaimed, reclaimed, all_reclaimed, caught_up, changed, opened}
-use Rattle.sdd_space.specs.Steps as steps
+use Rattle.sdd_space.specs.WorldChanges.{made_as, with_standing, retired, nulled, with_cell, without_cell, spilled, cell_closed, held_in, owner_given, given, given_all, freed, vacated, with_value, dropped_out, dropped, taken_out, waiting_value, slot_reclaimed, reclaimed, all_reclaimed, caught_up, changed, opened}
+use Rattle.sdd_space.specs.WorldChanges as steps
 use Rattle.sdd_space.specs.OwnerOrCell.{OwnerOrCell, owned, shared, atomic_owned, atomic_shared, atomic_raw}
 use Rattle.sdd_space.specs.WorldStep.{IsFirst}
 use Rattle.sdd_space.specs.Out.{is_out}
-use Rattle.sdd_space.specs.Accounts.{owner_count, is_owner_of, is_of, holds_slot, times_held, inner_owners, IsAccounted}
+use Rattle.sdd_space.specs.OwnerCounts.{owner_count, is_owner_of, is_of, holds_slot, times_held, inner_owners, IsAccounted}
 use Rattle.sdd_space.proofs.Weights.{in_range}
 use Rattle.sdd_space.proofs.Whole.{one_where, count-cons, filled-there}
 

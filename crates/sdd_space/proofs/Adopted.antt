@@ -12,7 +12,7 @@ use Rattle.sdd_participants.specs.EpochState as time
 use Rattle.sdd_participants.specs.declared.epoch_state.Participant.{Participant}
 use Rattle.sdd_participants.proofs.Adopting.{adopts, frees-below}
 use Rattle.sdd_space.specs.World.{World, place_at}
-use Rattle.sdd_space.specs.Whole.{IsWhole}
+use Rattle.sdd_space.specs.WorldInvariant.{IsWhole}
 use Rattle.sdd_space.specs.Adopting.{AdoptsWhatIsLeft}
 use Rattle.sdd_space.proofs.Whole.{below-or-past}
 use Rattle.sdd_space.proofs.Housed.{nothing-waits}

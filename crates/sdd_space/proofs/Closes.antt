@@ -9,7 +9,7 @@ use Rattle.sdd_participants.specs.PlaceStates.{is_ended}
 use Rattle.sdd_participants.specs.EpochState.{EpochState, IsLive, with_place, nobody, is_open, phase_at, place_at, closed, left_by, scanned, rested}
 use Rattle.sdd_participants.specs.declared.epoch_state.Participant.{Participant}
 use Rattle.sdd_participants.proofs.Adopting.{Scans, Scans-nothing, scans-if, scans-there, scans-place, adopting-nothing}
-use Rattle.sdd_space.specs.Own.{IsClosed, closed_with}
+use Rattle.sdd_space.specs.ParticipantChanges.{GuardClosed, closed_with}
 use Rattle.sdd_space.proofs.Housed.{each-place}
 
 -- what is the same of a place that changes, is the same of each
@@ -100,7 +100,7 @@ goes-up m n (inr e) = (omega (arith, e), omega (arith, e))
 -- a close of p, as p has it
 own-scanned : (t : EpochState) (p : ℕ) → IsLive t p → nat_lt 1 (place_at t p).guards ≡ false → is_open (place_at t p) ≡ true → (b : Bool) →
     ((place_at t p).countdown == 0) ≡ b → (s : EpochState) → (scan : Scans p t s) → (b ≡ false → s ≡ t) →
-    IsClosed (place_at t p) (place_at (with_place s p (rested t.marked (place_at s p))) p)
+    GuardClosed (place_at t p) (place_at (with_place s p (rested t.marked (place_at s p))) p)
 own-scanned t p l one o true none s scan same =
     let a = scan.adopting_first in
     let there = get_or-set_same s.places p (rested t.marked (place_at s p)) nobody (scans-there l.0 scan) in
@@ -125,7 +125,7 @@ scan-none : (t : EpochState) (p : ℕ) (b : Bool) → b ≡ false → (if b then
 scan-none t p b e = rw e refl
 
 own-last : (t : EpochState) (p : ℕ) → IsLive t p → nat_lt 1 (place_at t p).guards ≡ false → (b : Bool) → is_open (place_at t p) ≡ b →
-    IsClosed (place_at t p) (place_at (if b then left_by t p else t) p)
+    GuardClosed (place_at t p) (place_at (if b then left_by t p else t) p)
 own-last t p l one true o =
     let b = (place_at t p).countdown == 0 in
     own-scanned t p l one o b refl (if b then scanned t p else t) (scans-if t p l b) (scan-none t p b)
@@ -139,7 +139,7 @@ own-last t p l one false o =
       scans = λ h. absurd (h refl);
     }
 
-own-if : (t : EpochState) (p : ℕ) → IsLive t p → (b : Bool) → nat_lt 1 (place_at t p).guards ≡ b → IsClosed (place_at t p) (place_at (closed t p) p)
+own-if : (t : EpochState) (p : ℕ) → IsLive t p → (b : Bool) → nat_lt 1 (place_at t p).guards ≡ b → GuardClosed (place_at t p) (place_at (closed t p) p)
 own-if t p l true e =
     let x = place_at t p in
     let y : Participant = record x { guards = x.guards - 1 } in
@@ -153,5 +153,5 @@ own-if t p l true e =
     }
 own-if t p l false e = rw e (own-last t p l e (is_open (place_at t p)) refl)
 
-pub own-closed : (t : EpochState) (p : ℕ) → IsLive t p → IsClosed (place_at t p) (place_at (closed t p) p)
+pub own-closed : (t : EpochState) (p : ℕ) → IsLive t p → GuardClosed (place_at t p) (place_at (closed t p) p)
 own-closed t p l = own-if t p l (nat_lt 1 (place_at t p).guards) refl

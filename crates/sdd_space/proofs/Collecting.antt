@@ -10,10 +10,10 @@ use Rattle.sdd_participants.specs.Collecting.{is_private_to}
 use Rattle.sdd_standings.specs.Slots.{is_waiting}
 use Rattle.sdd_space.specs.World.{World, standing_at, value_at}
 use Rattle.sdd_space.specs.OwnerOrCell.{OwnerOrCell}
-use Rattle.sdd_space.specs.Whole.{IsWhole, is_of_slot}
+use Rattle.sdd_space.specs.WorldInvariant.{IsWhole, is_of_slot}
 use Rattle.sdd_space.specs.Collecting.{is_for, waiting_for, without_collector, collector_closed, CollectedEnds}
 use Rattle.sdd_space.proofs.Listed.{listed-without, none-left, none-taken}
-use Rattle.sdd_space.specs.Steps.{all_reclaimed, freed, reclaimed, taken_out, waiting_value}
+use Rattle.sdd_space.specs.WorldChanges.{all_reclaimed, freed, reclaimed, taken_out, waiting_value}
 use Rattle.std.proofs.lemmas.List.{get_or-set_other}
 use Rattle.sdd_space.proofs.Opening.{Stands, all-goes, all-stands, keeps-given_all}
 use Rattle.sdd_space.proofs.Standings.{waits-out-not}

@@ -3,7 +3,7 @@ use Rattle.std.proofs.Common.{◌≡◌, ℕ, List, [], ◌∷◌, ◌++◌, ref
 use Rattle.sdd_space.specs.OwnerOrCell.{SpaceId, OwnerOrCell, AreOf}
 use Rattle.sdd_space.specs.CallerId.{CallerId, IsExact}
 use Rattle.sdd_space.specs.World.{World}
-use Rattle.sdd_space.specs.Steps.{given, given_all}
+use Rattle.sdd_space.specs.WorldChanges.{given, given_all}
 
 pub first-of : (home : SpaceId) (hs js : List OwnerOrCell) → AreOf home (hs ++ js) → AreOf home hs
 first-of home [] js are = tt

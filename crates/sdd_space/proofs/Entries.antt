@@ -12,11 +12,11 @@ use Rattle.sdd_participants.specs.EpochState as time
 use Rattle.sdd_participants.specs.declared.epoch_state.Participant.{Participant}
 use Rattle.sdd_standings.specs.Slots.{is_waiting}
 use Rattle.sdd_space.specs.World.{World, standing_at, place_at}
-use Rattle.sdd_space.specs.Steps.{opened}
+use Rattle.sdd_space.specs.WorldChanges.{opened}
 use Rattle.sdd_space.specs.OwnerOrCell.{OwnerOrCell}
-use Rattle.sdd_space.specs.Own.{all_awaiting, opened_at}
-use Rattle.sdd_space.specs.Whole.{is_of_slot, times_with, once_if, IsWhole}
-use Rattle.sdd_space.specs.Left.{Waits}
+use Rattle.sdd_space.specs.ParticipantChanges.{all_awaiting, opened_at}
+use Rattle.sdd_space.specs.WorldInvariant.{is_of_slot, times_with, once_if, IsWhole}
+use Rattle.sdd_space.specs.ReclaimBound.{Waits}
 use Rattle.sdd_space.proofs.Own.{opens}
 use Rattle.sdd_space.proofs.Whole.{below-or-past, count-cons, times_among, times_listed, times-aged}
 use Rattle.sdd_space.proofs.Opening.{Nests, IsChange, all_awaiting-waiting}

@@ -10,13 +10,13 @@ use Rattle.sdd_participants.specs.EpochState.{EpochState, with_place, nobody, is
 use Rattle.sdd_participants.specs.EpochState as time
 use Rattle.sdd_participants.specs.declared.epoch_state.Participant.{Participant}
 use Rattle.sdd_standings.specs.Slots.{is_waiting}
-use Rattle.sdd_space.specs.World.{IsGuarded, World, standing_at, value_at, place_at, IsPlaceOf}
-use Rattle.sdd_space.specs.Steps.{opened, closed, accelerated, reclaims}
-use Rattle.sdd_space.specs.Steps as steps
+use Rattle.sdd_space.specs.World.{AnyGuardOpen, World, standing_at, value_at, place_at, IsPlaceOf}
+use Rattle.sdd_space.specs.WorldChanges.{opened, closed, accelerated, reclaims}
+use Rattle.sdd_space.specs.WorldChanges as steps
 use Rattle.sdd_space.specs.OwnerOrCell.{OwnerOrCell}
-use Rattle.sdd_space.specs.Own.{opened_at}
-use Rattle.sdd_space.specs.Whole.{times_waiting, IsWhole}
-use Rattle.sdd_space.specs.Left.{Waits, accelerated_guard, FourGuardsReclaim}
+use Rattle.sdd_space.specs.ParticipantChanges.{opened_at}
+use Rattle.sdd_space.specs.WorldInvariant.{times_waiting, IsWhole}
+use Rattle.sdd_space.specs.ReclaimBound.{Waits, accelerated_guard, FourGuardsReclaim}
 use Rattle.sdd_space.proofs.Own.{opens, Gives-all_reclaimed}
 use Rattle.sdd_space.proofs.Own as own
 use Rattle.sdd_space.proofs.Whole.{below-or-past, filled-there, some-waits, all_awaiting-guards, times_among, times-aged}
@@ -40,10 +40,10 @@ shut true h = absurd (h refl)
 shut false h = refl
 
 -- no guard is open exactly where each participant has none
-pub all-closed : {T : Type 0} (w : World T) → (IsGuarded w → ⊥) → AllClosed w
+pub all-closed : {T : Type 0} (w : World T) → (AnyGuardOpen w → ⊥) → AllClosed w
 all-closed w h = λ q. shut (is_open (place_at w q)) (λ o. h (open-inside w.time.places q (below-or-past q (length w.time.places)) o))
 
-pub not-get_guarded : {T : Type 0} (w : World T) → AllClosed w → IsGuarded w → ⊥
+pub not-get_guarded : {T : Type 0} (w : World T) → AllClosed w → AnyGuardOpen w → ⊥
 not-get_guarded w h (k, x, l, here, o) =
     let there : IsTrue (is_open (place_at w k)) = subst (λ (z : Participant). IsTrue (is_open z)) (sym here ∙ whichever w.time.places k x nobody l) o in
     let never : false ≡ true = sym (h k) ∙ there in

@@ -4,7 +4,7 @@ use Rattle.std.specs.Prelude.{Any}
 use Rattle.std.proofs.lemmas.List.{get_or_past}
 use Rattle.sdd_participants.specs.EpochState.{nobody, is_open}
 use Rattle.sdd_participants.specs.declared.epoch_state.Participant.{Participant}
-use Rattle.sdd_space.specs.World.{World, IsGuarded, place_at}
+use Rattle.sdd_space.specs.World.{World, AnyGuardOpen, place_at}
 use Rattle.sdd_space.proofs.Whole.{below-or-past}
 
 pub whichever : (ps : List Participant) (k : ℕ) (d e : Participant) → k < length ps → slice_index_or ps k d ≡ slice_index_or ps k e
@@ -19,5 +19,5 @@ open-inside ps q (inr past) o =
     let never : IsTrue (is_open nobody) = subst (λ (x : Participant). IsTrue (is_open x)) (get_or_past ps q nobody past) o in absurd (cc)
 
 -- whose guard is open is there
-pub guarded : {T : Type 0} (w : World T) (p : ℕ) → IsTrue (is_open (place_at w p)) → IsGuarded w
+pub guarded : {T : Type 0} (w : World T) (p : ℕ) → IsTrue (is_open (place_at w p)) → AnyGuardOpen w
 guarded w p o = open-inside w.time.places p (below-or-past p (length w.time.places)) o

@@ -25,11 +25,11 @@ use Rattle.sdd_space.specs.World.{World, standing_at, place_at}
 use Rattle.sdd_participants.specs.Collecting.{rest_of, time_without, without}
 use Rattle.sdd_participants.specs.declared.waiting.LimboEntry.{LimboEntry}
 use Rattle.sdd_space.specs.Collecting.{collector_closed, is_for, waiting_for, without_collector}
-use Rattle.sdd_space.specs.Steps.{waiting_as, made_as, with_standing, with_value, dropped, owner_given, retired, cell_closed, deferred, all_reclaimed, changed}
-use Rattle.sdd_space.specs.Steps as steps
+use Rattle.sdd_space.specs.WorldChanges.{waiting_as, made_as, with_standing, with_value, dropped, owner_given, retired, cell_closed, deferred, all_reclaimed, changed}
+use Rattle.sdd_space.specs.WorldChanges as steps
 use Rattle.sdd_space.specs.OwnerOrCell.{OwnerOrCell}
-use Rattle.sdd_space.specs.Whole.{IsAbreast, AreHoused, IsWhole, is_of_job}
-use Rattle.sdd_space.specs.Own.{all_awaiting}
+use Rattle.sdd_space.specs.WorldInvariant.{KeepsUp, PlacesMatchStates, IsWhole, is_of_job}
+use Rattle.sdd_space.specs.ParticipantChanges.{all_awaiting}
 use Rattle.sdd_space.specs.Out.{is_out}
 use Rattle.sdd_space.specs.WorldStep.{IsFirst}
 use Rattle.sdd_space.proofs.Own.{Gives, Gives-all_reclaimed, Gives-owner_given, Gives-cell_closed, Gives-dropped}
@@ -38,7 +38,7 @@ use Rattle.sdd_space.proofs.Whole as whole
 use Rattle.sdd_space.proofs.Listed.{listed-closed, listed-registered}
 use Rattle.sdd_space.proofs.Jobs.{JobsOnce}
 use Rattle.sdd_space.proofs.Jobs as jobs
-use Rattle.sdd_space.specs.Left.{Waits}
+use Rattle.sdd_space.specs.ReclaimBound.{Waits}
 use Rattle.sdd_space.proofs.Opening.{how, Nests, IsChange}
 use Rattle.sdd_space.proofs.Entries.{waits-place}
 
@@ -64,7 +64,7 @@ pub each-place : (t : EpochState) (p : ℕ) (x : Participant) (P : ℕ → Parti
     (r : ℕ) → P r (time.place_at (with_place t p x) r)
 each-place t p x P l a b r = housed-at t p x P l a b r (same-or-not r p)
 
-housed-put : (t : EpochState) (p : ℕ) (x : Participant) → IsTaken t p → (IsTrue (is_open x) → phase_at t p ≡ Some Live) → AreHoused t → AreHoused (with_place t p x)
+housed-put : (t : EpochState) (p : ℕ) (x : Participant) → IsTaken t p → (IsTrue (is_open x) → phase_at t p ≡ Some Live) → PlacesMatchStates t → PlacesMatchStates (with_place t p x)
 housed-put t p x l opened h =
     record {
       lengths = h.lengths ∙ sym (length-set t.places p x);
@@ -73,11 +73,11 @@ housed-put t p x l opened h =
     }
 
 -- a live place may be anything
-housed-live : (t : EpochState) (p : ℕ) (x : Participant) → IsLive t p → AreHoused t → AreHoused (with_place t p x)
+housed-live : (t : EpochState) (p : ℕ) (x : Participant) → IsLive t p → PlacesMatchStates t → PlacesMatchStates (with_place t p x)
 housed-live t p x l h = housed-put t p x (live-taken t p l) (λ _. live-is t p l) h
 
 -- as many guards as before
-housed-keeps : (t : EpochState) (p : ℕ) (x : Participant) → IsTaken t p → x.guards ≡ (time.place_at t p).guards → AreHoused t → AreHoused (with_place t p x)
+housed-keeps : (t : EpochState) (p : ℕ) (x : Participant) → IsTaken t p → x.guards ≡ (time.place_at t p).guards → PlacesMatchStates t → PlacesMatchStates (with_place t p x)
 housed-keeps t p x l e h = housed-put t p x l (λ o. h.shut p (subst (λ (n : ℕ). IsTrue (nat_lt 0 n)) e o)) h
 
 taken-put : (t : EpochState) (p : ℕ) (x : Participant) → IsTaken t p → IsTaken (with_place t p x) p
@@ -90,7 +90,7 @@ place-without t chosen p = get_or-map (without chosen) t.places p nobody
 taken-without : (t : EpochState) (chosen : LimboEntry → Bool) (p : ℕ) → IsTaken t p → IsTaken (time_without chosen t) p
 taken-without t chosen p l = record { there = omega (arith, l.there, length-map t.places (without chosen)); taken = l.taken }
 
-housed-without : (t : EpochState) (chosen : LimboEntry → Bool) → AreHoused t → AreHoused (time_without chosen t)
+housed-without : (t : EpochState) (chosen : LimboEntry → Bool) → PlacesMatchStates t → PlacesMatchStates (time_without chosen t)
 housed-without t chosen h = record {
   lengths = h.lengths ∙ sym (length-map t.places (without chosen));
   shut = λ p o. h.shut p (subst (λ (x : Participant). IsTrue (is_open x)) (place-without t chosen p) o);
@@ -106,18 +106,18 @@ module _ {T : Type 0} where
   pub items : {w : World T} → IsWhole w → HasItems w
   items i = record { filled = i.filled; once = i.once; abreast = i.abreast; counted = i.counted }
 
-  pub with-places : {w : World T} → HasItems w → JobsOnce w → AreHoused w.time → IsWhole w
+  pub with-places : {w : World T} → HasItems w → JobsOnce w → PlacesMatchStates w.time → IsWhole w
   with-places i j h = record { filled = i.filled; once = i.once; jobs_once = j; abreast = i.abreast; housed = h; counted = i.counted }
 
-  housed-gives : {u v : World T} (p : ℕ) → IsTaken u.time p → AreHoused u.time → Gives p u v → IsTaken v.time p × AreHoused v.time
+  housed-gives : {u v : World T} (p : ℕ) → IsTaken u.time p → PlacesMatchStates u.time → Gives p u v → IsTaken v.time p × PlacesMatchStates v.time
   housed-gives {u} {v} p l h g =
       let x = all_awaiting g.slots (place_at u p) in
-      subst (λ (t : EpochState). IsTaken t p × AreHoused t) (sym g.time)
+      subst (λ (t : EpochState). IsTaken t p × PlacesMatchStates t) (sym g.time)
       (taken-put u.time p x l, housed-keeps u.time p x l (all_awaiting-guards g.slots (place_at u p)) h)
 
   module _ (holds : T → List OwnerOrCell) where
     -- a change
-    housed-changed : (w : World T) (p : ℕ) → IsTaken w.time p → AreHoused w.time → AreHoused (changed holds w p).time
+    housed-changed : (w : World T) (p : ℕ) → IsTaken w.time p → PlacesMatchStates w.time → PlacesMatchStates (changed holds w p).time
     housed-changed w p l h =
         let x = time.rotated w.time.count (place_at w p) in
         let start = steps.rotated w p in
@@ -141,10 +141,10 @@ module _ {T : Type 0} where
     Whole-changed w p l i = with-places (whole.Items-changed holds w p l.there (items i)) (jobs.once-changed holds w p l.there i.jobs_once)
         (housed-changed w p l i.housed)
 
-    housed-nested : (w : World T) (p : ℕ) → IsLive w.time p → AreHoused w.time → AreHoused (steps.nested w p).time
+    housed-nested : (w : World T) (p : ℕ) → IsLive w.time p → PlacesMatchStates w.time → PlacesMatchStates (steps.nested w p).time
     housed-nested w p l h = housed-live w.time p (time.nested (place_at w p)) l h
 
-    housed-changes : (w : World T) (p : ℕ) → IsLive w.time p → AreHoused w.time → AreHoused (changed holds (steps.nested w p) p).time
+    housed-changes : (w : World T) (p : ℕ) → IsLive w.time p → PlacesMatchStates w.time → PlacesMatchStates (changed holds (steps.nested w p) p).time
     housed-changes w p l h =
         housed-changed (steps.nested w p) p (taken-put w.time p (time.nested (place_at w p)) (live-taken w.time p l)) (housed-nested w p l h)
 
@@ -152,16 +152,16 @@ module _ {T : Type 0} where
     Whole-changes_nested w p l i = with-places (whole.Items-changes_nested holds w p l.0 (items i)) (jobs.once-changes_nested holds w p l.0 i.jobs_once)
         (housed-changes w p l i.housed)
 
-    housed-opened : (w : World T) (p : ℕ) → IsLive w.time p → AreHoused w.time → Nests holds w p ⊎ IsChange holds w p → AreHoused (steps.opened holds w p).time
-    housed-opened w p l h (inl n) = subst (λ (u : World T). AreHoused u.time) (sym n.nests) (housed-nested w p l h)
-    housed-opened w p l h (inr c) = subst (λ (u : World T). AreHoused u.time) (sym c.change) (housed-changes w p l h)
+    housed-opened : (w : World T) (p : ℕ) → IsLive w.time p → PlacesMatchStates w.time → Nests holds w p ⊎ IsChange holds w p → PlacesMatchStates (steps.opened holds w p).time
+    housed-opened w p l h (inl n) = subst (λ (u : World T). PlacesMatchStates u.time) (sym n.nests) (housed-nested w p l h)
+    housed-opened w p l h (inr c) = subst (λ (u : World T). PlacesMatchStates u.time) (sym c.change) (housed-changes w p l h)
 
     pub Whole-opened : (w : World T) (p : ℕ) → IsLive w.time p → IsWhole w → IsWhole (steps.opened holds w p)
     Whole-opened w p l i = with-places (whole.Items-opened holds w p l.0 (items i)) (jobs.once-opened holds w p l.0 i.jobs_once)
         (housed-opened w p l i.housed (how holds w p l.0))
 
     -- a collector is closed
-    housed-collector_closed : (w : World T) (p c : ℕ) → IsTaken w.time p → AreHoused w.time → AreHoused (collector_closed holds w p c).time
+    housed-collector_closed : (w : World T) (p c : ℕ) → IsTaken w.time p → PlacesMatchStates w.time → PlacesMatchStates (collector_closed holds w p c).time
     housed-collector_closed w p c l h =
         let start = without_collector w c in
         let start_taken = taken-without w.time (is_for w c) p l in
@@ -183,7 +183,7 @@ module _ {T : Type 0} where
   pub Whole-with_value : (w : World T) (k : ℕ) (v : T) → is_out (standing_at w k) ≡ true → IsWhole w → IsWhole (with_value w k v)
   Whole-with_value w k v out i = with-places (whole.Items-with_value w k v out (items i)) i.jobs_once i.housed
 
-  pub Whole-paced : (w : World T) (p : ℕ) (pace : CountdownState) → IsTaken w.time p → IsAbreast w.time.count (time.paced pace (place_at w p)) → IsWhole w →
+  pub Whole-paced : (w : World T) (p : ℕ) (pace : CountdownState) → IsTaken w.time p → KeepsUp w.time.count (time.paced pace (place_at w p)) → IsWhole w →
       IsWhole (record w { time = time.paced_at w.time p pace })
   Whole-paced w p pace l a i =
       with-places (whole.Items-paced w p pace l.there a (items i)) (jobs.once-place w p (time.paced pace (place_at w p)) l.there refl i.jobs_once)
@@ -248,10 +248,10 @@ open-there ps p o (inr past) =
     let never : IsTrue (is_open nobody) = subst (λ (x : Participant). IsTrue (is_open x)) (get_or_past ps p nobody past) o in absurd (cc)
 
 -- a close
-housed-scans : (t u : EpochState) (p : ℕ) → Scans p t u → AreHoused t → AreHoused u
+housed-scans : (t u : EpochState) (p : ℕ) → Scans p t u → PlacesMatchStates t → PlacesMatchStates u
 housed-scans t u p s h =
     let a = s.adopting_first in
-    subst (λ (v : EpochState). AreHoused v) (sym s.is)
+    subst (λ (v : EpochState). PlacesMatchStates v) (sym s.is)
     (record {
       lengths = a.phased ∙ h.lengths ∙ sym a.places;
       shut = λ r o. a.stays_live r (h.shut r (subst (λ (n : ℕ). IsTrue (nat_lt 0 n)) (a.stays r).guards o));
@@ -263,7 +263,7 @@ live-scans t u p l s =
     let living = ap (λ (v : EpochState). time.lives v) s.is ∙ s.adopting_first.living in
     (scans-there l.0 s, subst (λ (bs : List Bool). IsTrue (slice_index_or bs p false)) (sym living) l.1)
 
-housed-last : (t : EpochState) (p : ℕ) → IsLive t p → AreHoused t → (b : Bool) → AreHoused (if b then time.left_by t p else t)
+housed-last : (t : EpochState) (p : ℕ) → IsLive t p → PlacesMatchStates t → (b : Bool) → PlacesMatchStates (if b then time.left_by t p else t)
 housed-last t p l h true =
     let scans = (time.place_at t p).countdown == 0 in
     let u : EpochState = if scans then time.scanned t p else t in
@@ -271,7 +271,7 @@ housed-last t p l h true =
     housed-live u p (rested t.marked (time.place_at u p)) (live-scans t u p l s) (housed-scans t u p s h)
 housed-last t p l h false = h
 
-housed-closed : (t : EpochState) (p : ℕ) → IsLive t p → AreHoused t → (b : Bool) → nat_lt 1 (time.place_at t p).guards ≡ b → AreHoused (time.closed t p)
+housed-closed : (t : EpochState) (p : ℕ) → IsLive t p → PlacesMatchStates t → (b : Bool) → nat_lt 1 (time.place_at t p).guards ≡ b → PlacesMatchStates (time.closed t p)
 housed-closed t p l h true e = rw e (housed-live t p (record (time.place_at t p) { guards = (time.place_at t p).guards - 1 }) l h)
 housed-closed t p l h false e = rw e (housed-last t p l h (is_open (time.place_at t p)))
 
@@ -282,7 +282,7 @@ set-phase : (xs : Entries PlaceState) (p r : ℕ) (x : PlaceState) → p < lengt
 set-phase xs p r x l (inl e) = inl (e, rw e (get_or-set_same xs p (Some x) None l))
 set-phase xs p r x l (inr apart) = inr (apart, get_or-set_other xs p r (Some x) None apart)
 
-module _ (t : EpochState) (p : ℕ) (l : p < length t.phases) (h : AreHoused t) (x : PlaceState) (q : ℕ) where
+module _ (t : EpochState) (p : ℕ) (l : p < length t.phases) (h : PlacesMatchStates t) (x : PlaceState) (q : ℕ) where
   abbrev now : Option PlaceState
   now = slice_index_or (slice_set t.phases p (Some x)) q None
 
@@ -298,8 +298,8 @@ module _ (t : EpochState) (p : ℕ) (l : p < length t.phases) (h : AreHoused t) 
   phase-bare (inl (e, s)) none = absurd (cc)
   phase-bare (inr (apart, s)) none = h.bare q (sym s ∙ none)
 
-housed-phased : (t : EpochState) (p : ℕ) (x : PlaceState) → p < length t.phases → (IsTrue (is_open (time.place_at t p)) → ⊥) ⊎ (x ≡ Live) → AreHoused t →
-    AreHoused (record t { phases = slice_set t.phases p (Some x) })
+housed-phased : (t : EpochState) (p : ℕ) (x : PlaceState) → p < length t.phases → (IsTrue (is_open (time.place_at t p)) → ⊥) ⊎ (x ≡ Live) → PlacesMatchStates t →
+    PlacesMatchStates (record t { phases = slice_set t.phases p (Some x) })
 housed-phased t p x l why h =
     record {
       lengths = length-set t.phases p (Some x) ∙ h.lengths;
@@ -312,7 +312,7 @@ fresh-bare : (room : ℕ) (x : Participant) → (x ≡ newcomer room) ⊎ (x ≡
 fresh-bare room x (inl e) = rw e (refl, refl)
 fresh-bare room x (inr e) = rw e (refl, refl)
 
-module _ (t : EpochState) (h : AreHoused t) where
+module _ (t : EpochState) (h : PlacesMatchStates t) where
   abbrev more : EpochState
   more = record t { places = t.places ++ newcomer t.room ∷ []; phases = t.phases ++ Some Live ∷ [] }
 
@@ -330,7 +330,7 @@ module _ (t : EpochState) (h : AreHoused t) where
         λ none. new.0,
       )
 
-  housed-more : AreHoused more
+  housed-more : PlacesMatchStates more
   housed-more =
       record {
         lengths = length-append t.phases (Some Live ∷ []) ∙ ap (λ n. n + 1) h.lengths ∙ sym (length-append t.places (newcomer t.room ∷ []));
@@ -338,7 +338,7 @@ module _ (t : EpochState) (h : AreHoused t) where
         bare = λ q. (more-at q (below-or-past q (length t.places))).1;
       }
 
-vacant-bare : (t : EpochState) (p : ℕ) → AreHoused t → IsVacant t p → p < length t.places → phase_at t p ≡ None
+vacant-bare : (t : EpochState) (p : ℕ) → PlacesMatchStates t → IsVacant t p → p < length t.places → phase_at t p ≡ None
 vacant-bare t p h (inl empty) l = empty.1
 vacant-bare t p h (inr next) l = absurd (omega (arith, l, next.0))
 
@@ -368,8 +368,8 @@ guard-taken w p i o =
     }
 
 -- a newcomer at a free place: first the place is live, and then the participant is new
-housed-new : (t : EpochState) (p : ℕ) → p < length t.places → AreHoused t →
-    AreHoused (record t { places = slice_set t.places p (newcomer t.room); phases = slice_set t.phases p (Some Live) })
+housed-new : (t : EpochState) (p : ℕ) → p < length t.places → PlacesMatchStates t →
+    PlacesMatchStates (record t { places = slice_set t.places p (newcomer t.room); phases = slice_set t.phases p (Some Live) })
 housed-new t p l h =
     let u : EpochState = record t { phases = slice_set t.phases p (Some Live) } in
     let inside : p < length t.phases = omega (arith, l, h.lengths) in
@@ -377,7 +377,7 @@ housed-new t p l h =
     housed-put u p (newcomer t.room) (record { there = l; taken = λ none. let clash : Some Live ≡ None = sym live ∙ none in cc }) (λ _. live)
     (housed-phased t p Live inside (inr refl) h)
 
-housed-registered : (t : EpochState) (p : ℕ) → AreHoused t → (b : Bool) → nat_lt p (length t.places) ≡ b → AreHoused (time.registered t p)
+housed-registered : (t : EpochState) (p : ℕ) → PlacesMatchStates t → (b : Bool) → nat_lt p (length t.places) ≡ b → PlacesMatchStates (time.registered t p)
 housed-registered t p h true e = let l : p < length t.places = grind (arith, nat_tests, e) in rw e (housed-new t p l h)
 housed-registered t p h false e = rw e (housed-more t h)
 
@@ -470,7 +470,7 @@ pub registered-adds : (t : EpochState) (p : ℕ) → AddsNothing t (time.registe
 registered-adds t p = registered-nothing t p (nat_lt p (length t.places)) refl
 
 -- a world without places
-pub housed-none : (t : EpochState) → t.places ≡ [] → t.phases ≡ [] → AreHoused t
+pub housed-none : (t : EpochState) → t.places ≡ [] → t.phases ≡ [] → PlacesMatchStates t
 housed-none t places phases =
     record {
       lengths = ap (λ (xs : Entries PlaceState). length xs) phases ∙ sym (ap (λ (ps : List Participant). length ps) places);

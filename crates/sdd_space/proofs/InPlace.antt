@@ -8,9 +8,9 @@ use Rattle.sdd_core.specs.declared.refused.Refused.TheVariants.{GuardOpen, NotAl
 use Rattle.sdd_participants.specs.declared.standing.Standing.{Standing}
 use Rattle.sdd_participants.specs.declared.standing.Standing.TheVariants.{Owned, Shared}
 use Rattle.sdd_standings.specs.Slots.{IsSharedBy, has_others, owners_of}
-use Rattle.sdd_space.specs.World.{World, IsGuarded, standing_at, value_at}
+use Rattle.sdd_space.specs.World.{World, AnyGuardOpen, standing_at, value_at}
 use Rattle.sdd_space.specs.OwnerOrCell.{OwnerOrCell}
-use Rattle.sdd_space.specs.Steps.{given_all, vacated, dropped_out, dropped}
+use Rattle.sdd_space.specs.WorldChanges.{given_all, vacated, dropped_out, dropped}
 use Rattle.sdd_space.proofs.Opening.{keeps-given_all}
 use Rattle.sdd_space.specs.InPlace.{IsAlone, RefusedInPlace}
 
@@ -29,12 +29,12 @@ several n s i h = let more : nat_lt 1 n ≡ true = sym (ap has_others i.shared) 
 
 module _ {T : Type 0} (w : World T) (k : ℕ) where
   -- the one owner is refused by a guard alone
-  pub refused-sole : (e : Refused) → standing_at w k ≡ Some Owned → RefusedInPlace w k e → IsGuarded w × (e ≡ GuardOpen)
+  pub refused-sole : (e : Refused) → standing_at w k ≡ Some Owned → RefusedInPlace w k e → AnyGuardOpen w × (e ≡ GuardOpen)
   refused-sole e is (inl h) = let never : false ≡ true = sym (ap has_others is) ∙ h.0 in absurd (cc)
   refused-sole e is (inr h) = (h.1, h.2)
 
   pub refused-shared : (n : ℕ) (e : Refused) → IsSharedBy n (standing_at w k) → RefusedInPlace w k e →
-      ((1 < n) × (e ≡ NotAlone)) ⊎ ((n ≡ 1) × IsGuarded w × (e ≡ GuardOpen))
+      ((1 < n) × (e ≡ NotAlone)) ⊎ ((n ≡ 1) × AnyGuardOpen w × (e ≡ GuardOpen))
   refused-shared n e i (inl h) = inl (several n (standing_at w k) i h.0, h.1)
   refused-shared n e i (inr h) = inr (alone-one n (standing_at w k) i h.0, h.1, h.2)
 

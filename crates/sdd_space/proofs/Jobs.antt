@@ -16,10 +16,10 @@ use Rattle.sdd_participants.specs.declared.standing.Standing.TheVariants.{Retire
 use Rattle.sdd_space.specs.World.{World, place_at, standing_at, value_at}
 use Rattle.sdd_participants.specs.Collecting.{without}
 use Rattle.sdd_space.specs.Collecting.{collector_closed, is_for, waiting_for, without_collector}
-use Rattle.sdd_space.specs.Steps.{deferred, waiting_as, retired, reclaims, cell_closed, owner_given, given_all, freed, vacated, dropped_out, dropped, taken_out, waiting_value, reclaimed, all_reclaimed, changed}
-use Rattle.sdd_space.specs.Steps as steps
+use Rattle.sdd_space.specs.WorldChanges.{deferred, waiting_as, retired, reclaims, cell_closed, owner_given, given_all, freed, vacated, dropped_out, dropped, taken_out, waiting_value, reclaimed, all_reclaimed, changed}
+use Rattle.sdd_space.specs.WorldChanges as steps
 use Rattle.sdd_space.specs.OwnerOrCell.{OwnerOrCell}
-use Rattle.sdd_space.specs.Whole.{is_of_job, jobs_with, once_if, times_deferred}
+use Rattle.sdd_space.specs.WorldInvariant.{is_of_job, jobs_with, once_if, times_deferred}
 use Rattle.sdd_space.specs.Out.{is_out}
 use Rattle.sdd_space.specs.Jobs.{RunsJobsOnce}
 use Rattle.sdd_space.proofs.Listed.{count-cons, listed-place, listed-same, listed-awaiting, listed-aged, listed-without}

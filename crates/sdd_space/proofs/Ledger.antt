@@ -12,7 +12,7 @@ use Rattle.sdd_participants.specs.declared.standing.CellContents.{CellContents}
 use Rattle.sdd_participants.specs.declared.standing.Standing.{Standing}
 use Rattle.sdd_participants.specs.declared.standing.Standing.TheVariants.{Owned, Raw, Shared, Retired, Private as privately}
 use Rattle.sdd_participants.specs.declared.waiting.LimboEntry.TheVariants.{Item}
-use Rattle.sdd_space.specs.Accounts.{IsAccounted, owner_count, holds_slot, is_of, times_held}
+use Rattle.sdd_space.specs.OwnerCounts.{IsAccounted, owner_count, holds_slot, is_of, times_held}
 use Rattle.sdd_space.specs.WorldStep.{WorldStep}
 use Rattle.sdd_space.specs.Collecting.{collector_closed, waiting_for, without_collector}
 use Rattle.sdd_space.specs.OwnerOrCell.{OwnerOrCell}
@@ -21,8 +21,8 @@ use Rattle.sdd_space.specs.Ledger.{Claim, owner_of, right_to, nothing, owner_hel
 use Rattle.sdd_space.specs.Ledger.CallsBeside.{no_call, one_call}
 use Rattle.sdd_space.specs.Ledger.Moves.{registers, ends, opens, closes, stirs, accelerates, defers, changes_pointers, makes, shares, retires, releases, collects, drops, puts_out_raw, takes_back_raw, edits, makes_cell, changes_cell, spends_cell, closes_cell, closes_collector}
 use Rattle.sdd_space.specs.Out.{IsNullCell}
-use Rattle.sdd_space.specs.Steps.{held_in, with_cell, with_value}
-use Rattle.sdd_space.specs.Whole.{IsWhole, once_if}
+use Rattle.sdd_space.specs.WorldChanges.{held_in, with_cell, with_value}
+use Rattle.sdd_space.specs.WorldInvariant.{IsWhole, once_if}
 use Rattle.sdd_space.specs.World.{World, IsBlank, standing_at, value_at}
 use Rattle.sdd_space.proofs.Accounts.{none-filled, filled-inside, blank-at, blank-sum, fewer, cell-inner, sum-out, accounted-out, accounted-blank, accounted-owner_given, accounted-with_cell, accounted-without_cell, accounted-cell_closed, accounted-all_reclaimed, accounted-opened, accounted-dropped, accounted-with_value, accounted-made_as, accounted-shared, accounted-put_out_raw, accounted-taken_back_raw}
 use Rattle.sdd_space.proofs.Left.{Whole-called}

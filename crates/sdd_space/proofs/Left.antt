@@ -14,15 +14,15 @@ use Rattle.sdd_participants.specs.Collecting.{without}
 use Rattle.sdd_space.specs.Collecting.{collected, collector_closed, is_for, waiting_for, without_collector}
 use Rattle.std.proofs.Math.ListN.{get_or-map}
 use Rattle.sdd_space.specs.World.{World, standing_at, value_at, place_at, IsPlaceOf}
-use Rattle.sdd_space.specs.Steps.{made_as, with_standing, with_value, dropped, retired, owner_given, cell_closed, deferred, opened, closed, registered, ended, reclaims}
+use Rattle.sdd_space.specs.WorldChanges.{made_as, with_standing, with_value, dropped, retired, owner_given, cell_closed, deferred, opened, closed, registered, ended, reclaims}
 use Rattle.sdd_space.specs.OwnerOrCell.{OwnerOrCell}
-use Rattle.sdd_space.specs.Own.{all_awaiting}
-use Rattle.sdd_space.specs.Whole.{IsWhole}
+use Rattle.sdd_space.specs.ParticipantChanges.{all_awaiting}
+use Rattle.sdd_space.specs.WorldInvariant.{IsWhole}
 use Rattle.sdd_space.proofs.Listed.{rest-contains}
 use Rattle.sdd_space.proofs.Collecting.{goes}
 use Rattle.sdd_space.specs.Out.{is_out}
-use Rattle.sdd_space.specs.Left.{Waits, left, IsHeldUp, OpeningsLower, NoCallRaises, GoesAtLatest, Stays, GoesInTime}
-use Rattle.sdd_space.specs.Left.Stays.{starts, one_opening, one_call}
+use Rattle.sdd_space.specs.ReclaimBound.{Waits, left, IsHeldUp, OpeningsLower, NoCallRaises, GoesAtLatest, WaitsThrough, GoesInTime}
+use Rattle.sdd_space.specs.ReclaimBound.WaitsThrough.{starts, one_opening, one_call}
 use Rattle.sdd_space.specs.WorldStep.{WorldStep}
 use Rattle.sdd_space.specs.WorldStep.WorldStep.{registers, ends, opens, closes, stirs, accelerates, makes, shares, retires, releases, defers, collects, closes_collector, edits, drops, puts_out_raw, takes_back_raw, changes_cells, closes_cell, changes_pointers}
 use Rattle.sdd_space.proofs.Own.{Gives, Gives-all_reclaimed, Gives-owner_given, Gives-cell_closed, Gives-dropped, all_awaiting-found}
@@ -559,7 +559,7 @@ module _ {T : Type 0} where
         record { whole = i; later = later; waits = waits; lower = omega (arith, o.lower, lower) }
     wanes-call w v new q k seen n o i (inr (later, waits, inr held)) free there = absurd (free held)
 
-    wanes : (q k seen : ℕ) {n : ℕ} {w new : World T} → Stays holds q k n w new → IsWhole w → Waits w q k seen → Waning w new q k seen n
+    wanes : (q k seen : ℕ) {n : ℕ} {w new : World T} → WaitsThrough holds q k n w new → IsWhole w → Waits w q k seen → Waning w new q k seen n
     wanes q k seen (starts w) i h = record { whole = i; later = seen; waits = h; lower = omega arith }
     wanes q k seen (one_opening n w v path live shut there) i h =
         let o = wanes q k seen path i h in

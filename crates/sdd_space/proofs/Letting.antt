@@ -4,9 +4,9 @@ use Rattle.std.specs.Prelude.{if◌then◌else◌}
 use Rattle.sdd_participants.specs.declared.waiting.LimboEntry.TheVariants.{Item}
 use Rattle.sdd_participants.specs.EpochState as time
 use Rattle.sdd_participants.specs.declared.epoch_state.Participant.{Participant}
-use Rattle.sdd_space.specs.Own.{IsSpilled}
+use Rattle.sdd_space.specs.ParticipantChanges.{HasContentsGivenUp}
 
 -- the last owner's item waits, and another's does not
-pub spills-if : (last : Bool) (k : ℕ) (p q : Participant) → q ≡ (if last then time.awaiting (Item k) p else p) → IsSpilled p q
+pub spills-if : (last : Bool) (k : ℕ) (p q : Participant) → q ≡ (if last then time.awaiting (Item k) p else p) → HasContentsGivenUp p q
 spills-if true k p q e = (Some k, e)
 spills-if false k p q e = (None, e)

@@ -8,7 +8,7 @@ use Rattle.sdd_participants.specs.declared.place_states.PlaceState.TheVariants.{
 use Rattle.sdd_participants.specs.declared.epoch_state.Participant.{Participant}
 use Rattle.sdd_participants.specs.EpochState as time
 use Rattle.sdd_participants.specs.EpochState.{EpochState, IsLive, KeepsPlaces, lives, nobody, newcomer, place_at, with_place, is_open, opened, caught_up}
-use Rattle.sdd_space.specs.Own.{closed_with}
+use Rattle.sdd_space.specs.ParticipantChanges.{closed_with}
 use Rattle.sdd_space.proofs.Closes.{how-closed, own-closed}
 use Rattle.sdd_space.proofs.Whole.{one_where}
 

@@ -15,11 +15,11 @@ use Rattle.sdd_participants.specs.declared.standing.Standing.{Standing}
 use Rattle.sdd_participants.specs.declared.standing.Standing.TheVariants.{Owned, Raw, Shared, Retired, Private as privately}
 use Rattle.sdd_standings.specs.Slots.{is_waiting}
 use Rattle.sdd_space.specs.World.{World, standing_at, value_at, place_at}
-use Rattle.sdd_space.specs.Steps.{with_standing, retired, spilled, cell_closed, held_in, owner_given, given, given_all, freed, taken_out, waiting_value, reclaimed, all_reclaimed, changed, opened, reclaims}
-use Rattle.sdd_space.specs.Steps as steps
+use Rattle.sdd_space.specs.WorldChanges.{with_standing, retired, spilled, cell_closed, held_in, owner_given, given, given_all, freed, taken_out, waiting_value, reclaimed, all_reclaimed, changed, opened, reclaims}
+use Rattle.sdd_space.specs.WorldChanges as steps
 use Rattle.sdd_space.specs.OwnerOrCell.{OwnerOrCell, owned, shared, atomic_owned, atomic_shared, atomic_raw}
-use Rattle.sdd_space.specs.Own.{all_awaiting}
-use Rattle.sdd_space.specs.Whole.{is_of_slot}
+use Rattle.sdd_space.specs.ParticipantChanges.{all_awaiting}
+use Rattle.sdd_space.specs.WorldInvariant.{is_of_slot}
 use Rattle.sdd_space.specs.Out.{is_out}
 use Rattle.sdd_space.proofs.Standings.{waits-out-not, out-apart, owner-given}
 use Rattle.sdd_space.proofs.Own.{Gives-all_reclaimed}

@@ -12,8 +12,8 @@ use Rattle.sdd_participants.specs.declared.standing.Standing.TheVariants.{Owned,
 use Rattle.sdd_participants.specs.declared.standing.CellContents.{CellContents}
 use Rattle.sdd_space.specs.World.{World, place_at, standing_at, value_at}
 use Rattle.sdd_space.specs.Collecting.{collector_closed, waiting_for, without_collector}
-use Rattle.sdd_space.specs.Steps.{made_as, with_standing, waiting_as, retired, nulled, with_cell, without_cell, cell_closed, given, given_all, held_in, freed, vacated, with_value, dropped, taken_out, waiting_value, reclaimed, all_reclaimed, opened, changed, spilled}
-use Rattle.sdd_space.specs.Steps as steps
+use Rattle.sdd_space.specs.WorldChanges.{made_as, with_standing, waiting_as, retired, nulled, with_cell, without_cell, cell_closed, given, given_all, held_in, freed, vacated, with_value, dropped, taken_out, waiting_value, reclaimed, all_reclaimed, opened, changed, spilled}
+use Rattle.sdd_space.specs.WorldChanges as steps
 use Rattle.sdd_space.specs.OwnerOrCell.{OwnerOrCell, owned, shared, atomic_owned, atomic_shared, atomic_raw}
 use Rattle.sdd_space.specs.Out.{is_out, out, HoldsNothing, IsNullCell, IsOut, AreOut, OutLaws}
 use Rattle.sdd_core.specs.declared.tag.Tag.TheVariants.{None as no_tag}

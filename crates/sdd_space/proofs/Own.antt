@@ -14,9 +14,9 @@ use Rattle.sdd_space.specs.World.{World, standing_at, value_at, place_at}
 use Rattle.std.proofs.Math.ListN.{get_or-map}
 use Rattle.sdd_participants.specs.Collecting.{without}
 use Rattle.sdd_space.specs.Collecting.{collector_closed, is_for, waiting_for, without_collector}
-use Rattle.sdd_space.specs.Own.{all_awaiting, IsCollected, GrowsOn, changed_at, opened_at}
-use Rattle.sdd_space.specs.Steps.{retired, spilled, cell_closed, held_in, owner_given, given, given_all, freed, vacated, dropped_out, dropped, taken_out, waiting_value, slot_reclaimed, reclaimed, all_reclaimed, changed, opened, caught_up}
-use Rattle.sdd_space.specs.Steps as steps
+use Rattle.sdd_space.specs.ParticipantChanges.{all_awaiting, IsCollected, KeepsMoreWaiting, changed_at, opened_at}
+use Rattle.sdd_space.specs.WorldChanges.{retired, spilled, cell_closed, held_in, owner_given, given, given_all, freed, vacated, dropped_out, dropped, taken_out, waiting_value, slot_reclaimed, reclaimed, all_reclaimed, changed, opened, caught_up}
+use Rattle.sdd_space.specs.WorldChanges as steps
 use Rattle.sdd_space.specs.OwnerOrCell.{OwnerOrCell, owned, shared, atomic_owned, atomic_shared, atomic_raw}
 use Rattle.sdd_space.proofs.Standings.{owner-given}
 
@@ -64,7 +64,7 @@ module _ {T : Type 0} where
             ∙ again u.time p _ _;
       }
 
-  pub gives-grows : {p : ℕ} {u v : World T} → p < length u.time.places → Gives p u v → GrowsOn (place_at u p) (place_at v p)
+  pub gives-grows : {p : ℕ} {u v : World T} → p < length u.time.places → Gives p u v → KeepsMoreWaiting (place_at u p) (place_at v p)
   gives-grows {p} {u} {v} l g =
       λ start h. (h.0 ++ g.slots, Gives-here l g ∙ ap (λ (x : Participant). all_awaiting g.slots x) h.1 ∙ sym (all_awaiting-append h.0 g.slots start))
 

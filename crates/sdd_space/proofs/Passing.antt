@@ -6,13 +6,13 @@ use Rattle.std.specs.Prelude.{◌^◌, is_some}
 use Rattle.sdd_participants.specs.EpochState.{EpochState, due_next, newcomer, nobody, is_open, with_place}
 use Rattle.sdd_participants.specs.EpochState as time
 use Rattle.sdd_participants.specs.declared.standing.Standing.TheVariants.{Owned, Retired}
-use Rattle.sdd_space.specs.World.{World, IsGuarded, IsPlaceOf, place_at, standing_at}
-use Rattle.sdd_space.specs.Steps.{made, retired, registered, freed, taken_out, waiting_value, reclaimed, all_reclaimed, opened, closed, accelerated}
-use Rattle.sdd_space.specs.Steps as steps
+use Rattle.sdd_space.specs.World.{World, AnyGuardOpen, IsPlaceOf, place_at, standing_at}
+use Rattle.sdd_space.specs.WorldChanges.{made, retired, registered, freed, taken_out, waiting_value, reclaimed, all_reclaimed, opened, closed, accelerated}
+use Rattle.sdd_space.specs.WorldChanges as steps
 use Rattle.sdd_space.specs.OwnerOrCell.{OwnerOrCell}
-use Rattle.sdd_space.specs.Left.{accelerated_guard}
+use Rattle.sdd_space.specs.ReclaimBound.{accelerated_guard}
 use Rattle.sdd_participants.specs.Slab.{IsEmptyAt}
-use Rattle.sdd_space.specs.Passing.{HavePassed, ItemsPass, GuardsPass}
+use Rattle.sdd_space.specs.AcceleratedGuards.{HavePassed, ItemsPass, GuardsPass}
 use Rattle.sdd_space.specs.Out.{is_out}
 use Rattle.sdd_space.proofs.Out.{out-laws}
 use Rattle.sdd_space.proofs.Own.{Gives-all_reclaimed}
@@ -106,13 +106,13 @@ module _ {T : Type 0} where
   still-open w p k q l o (inr apart) =
       subst (λ (z : Participant). IsTrue (is_open z)) (get_or-set_other w.time.places p q (time.awaiting (Item k) (place_at w p)) nobody apart) o
 
-  retired-guards : (w : World T) (p k : ℕ) → p < length w.time.places → IsGuarded (retired w p k) → IsGuarded w
+  retired-guards : (w : World T) (p k : ℕ) → p < length w.time.places → AnyGuardOpen (retired w p k) → AnyGuardOpen w
   retired-guards w p k l (q, x, inside, here, o) =
       let there : IsTrue (is_open (place_at (retired w p k) q)) =
       subst (λ (z : Participant). IsTrue (is_open z)) (sym here ∙ whichever (retired w p k).time.places q x nobody inside) o in
       open-inside w.time.places q (below-or-past q (length w.time.places)) (still-open w p k q l there (same-or-not q p))
 
-  pub registered-guards : (w : World T) (p : ℕ) → IsGuarded (registered w p) → IsGuarded w
+  pub registered-guards : (w : World T) (p : ℕ) → AnyGuardOpen (registered w p) → AnyGuardOpen w
   registered-guards w p (q, x, inside, here, o) =
       let there : IsTrue (is_open (place_at (registered w p) q)) =
       subst (λ (z : Participant). IsTrue (is_open z)) (sym here ∙ whichever (registered w p).time.places q x nobody inside) o in

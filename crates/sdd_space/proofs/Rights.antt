@@ -12,9 +12,9 @@ use Rattle.sdd_participants.specs.declared.standing.Standing.{Standing}
 use Rattle.sdd_participants.specs.declared.waiting.LimboEntry.{LimboEntry}
 use Rattle.sdd_participants.specs.declared.waiting.LimboEntry.TheVariants.{Item, Job}
 use Rattle.sdd_space.specs.OwnerOrCell.{OwnerOrCell, owned, shared, atomic_owned, atomic_shared, atomic_raw}
-use Rattle.sdd_space.specs.Steps as steps
-use Rattle.sdd_space.specs.Steps.{owner_given, with_cell, without_cell, spilled, cell_closed, given, given_all, freed, vacated, taken_out, dropped_out, waiting_value, reclaimed, all_reclaimed, changed, caught_up, opened, made_as, with_value, held_in}
-use Rattle.sdd_space.specs.Whole.{once_if}
+use Rattle.sdd_space.specs.WorldChanges as steps
+use Rattle.sdd_space.specs.WorldChanges.{owner_given, with_cell, without_cell, spilled, cell_closed, given, given_all, freed, vacated, taken_out, dropped_out, waiting_value, reclaimed, all_reclaimed, changed, caught_up, opened, made_as, with_value, held_in}
+use Rattle.sdd_space.specs.WorldInvariant.{once_if}
 use Rattle.sdd_space.specs.World.{World, place_at, standing_at, value_at}
 use Rattle.sdd_space.specs.Ledger.{is_right_to, times_kept}
 use Rattle.sdd_space.proofs.Accounts.{sum-out}

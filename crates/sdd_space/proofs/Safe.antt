@@ -15,13 +15,13 @@ use Rattle.sdd_participants.specs.declared.standing.Standing.TheVariants.{Owned,
 use Rattle.sdd_standings.specs.Slots.{is_waiting}
 use Rattle.sdd_space.specs.World.{World, standing_at, place_at}
 use Rattle.sdd_space.specs.Collecting.{collected}
-use Rattle.sdd_space.specs.Steps.{with_standing, waiting_as, retired, owner_given, cell_closed, freed, taken_out, waiting_value, reclaimed, all_reclaimed, changed, opened, reclaims}
-use Rattle.sdd_space.specs.Steps as steps
+use Rattle.sdd_space.specs.WorldChanges.{with_standing, waiting_as, retired, owner_given, cell_closed, freed, taken_out, waiting_value, reclaimed, all_reclaimed, changed, opened, reclaims}
+use Rattle.sdd_space.specs.WorldChanges as steps
 use Rattle.sdd_space.specs.OwnerOrCell.{OwnerOrCell}
-use Rattle.sdd_space.specs.Whole.{IsWhole, is_of_slot}
-use Rattle.sdd_space.specs.Left.{Waits}
+use Rattle.sdd_space.specs.WorldInvariant.{IsWhole, is_of_slot}
+use Rattle.sdd_space.specs.ReclaimBound.{Waits}
 use Rattle.sdd_space.specs.Out.{is_out}
-use Rattle.sdd_space.specs.Under.{IsUnder, IsSafe}
+use Rattle.sdd_space.specs.UnderGuards.{IsUnder, IsSafe}
 use Rattle.sdd_space.specs.WorldStep.{WorldStep}
 use Rattle.sdd_space.specs.WorldStep.WorldStep.{registers, ends, opens, closes, stirs, accelerates, makes, shares, retires, releases, defers, collects, closes_collector, edits, drops, puts_out_raw, takes_back_raw, changes_cells, closes_cell, changes_pointers}
 use Rattle.sdd_space.proofs.Whole.{count-cons, times_among, times-aged}

@@ -8,7 +8,7 @@ use Rattle.sdd_rights.specs.declared.right.StandingKind.TheVariants as kind
 use Rattle.sdd_participants.specs.declared.standing.Standing.TheVariants.{Shared as shared_by}
 use Rattle.sdd_standings.specs.Slots.{IsOwnedBy, IsSharedBy, owners_of}
 use Rattle.sdd_space.specs.World.{World, standing_at}
-use Rattle.sdd_space.specs.Steps.{with_standing}
+use Rattle.sdd_space.specs.WorldChanges.{with_standing}
 use Rattle.sdd_space.specs.Ptr.{slot_named}
 use Rattle.sdd_space.specs.Shared.{slot_of}
 use Rattle.sdd_space.specs.declared.ptr.Ptr.{Ptr}

@@ -10,12 +10,12 @@ use Rattle.sdd_participants.specs.declared.standing.CellContents.{CellContents}
 use Rattle.sdd_participants.specs.declared.standing.Standing.{Standing}
 use Rattle.sdd_participants.specs.declared.waiting.LimboEntry.{LimboEntry}
 use Rattle.sdd_participants.specs.declared.waiting.LimboEntry.TheVariants.{Item, Job}
-use Rattle.sdd_space.specs.Accounts.{holds_slot, times_held}
+use Rattle.sdd_space.specs.OwnerCounts.{holds_slot, times_held}
 use Rattle.sdd_space.specs.Collecting.{collector_closed, waiting_for, without_collector}
 use Rattle.sdd_space.specs.OwnerOrCell.{OwnerOrCell, owned, shared, atomic_owned, atomic_shared, atomic_raw}
 use Rattle.sdd_space.specs.Ledger.{Claim, owner_of, right_to, inside, times_kept}
-use Rattle.sdd_space.specs.Steps as steps
-use Rattle.sdd_space.specs.Steps.{owner_given, without_cell, cell_closed, given, given_all, freed, vacated, taken_out, dropped_out, dropped, waiting_value, reclaimed, all_reclaimed, changed, caught_up, opened, held_in}
+use Rattle.sdd_space.specs.WorldChanges as steps
+use Rattle.sdd_space.specs.WorldChanges.{owner_given, without_cell, cell_closed, given, given_all, freed, vacated, taken_out, dropped_out, dropped, waiting_value, reclaimed, all_reclaimed, changed, caught_up, opened, held_in}
 use Rattle.sdd_space.specs.World.{World, place_at, standing_at, value_at}
 use Rattle.sdd_space.proofs.Rights.{given-same, spilled-same}
 

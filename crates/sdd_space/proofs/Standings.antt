@@ -6,7 +6,7 @@ use Rattle.sdd_participants.specs.declared.standing.Standing.{Standing}
 use Rattle.sdd_participants.specs.declared.standing.Standing.TheVariants.{Owned, Raw, Shared, Retired, Private as privately}
 use Rattle.sdd_standings.specs.Slots.{is_waiting}
 use Rattle.sdd_space.specs.World.{World, standing_at}
-use Rattle.sdd_space.specs.Steps.{retired, with_standing, owner_given}
+use Rattle.sdd_space.specs.WorldChanges.{retired, with_standing, owner_given}
 use Rattle.sdd_space.specs.InPlace.{IsAlone}
 use Rattle.sdd_space.specs.Out.{is_out}
 

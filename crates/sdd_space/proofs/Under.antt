@@ -14,16 +14,16 @@ use Rattle.sdd_participants.specs.declared.standing.Standing.{Standing}
 use Rattle.sdd_participants.specs.declared.standing.Standing.TheVariants.{Owned, Raw, Shared, Retired, Private as privately}
 use Rattle.sdd_standings.specs.Slots.{is_waiting, IsWaiting}
 use Rattle.sdd_space.specs.World.{World, standing_at, value_at, place_at, IsPlaceOf}
-use Rattle.sdd_space.specs.Steps.{made_as, with_standing, waiting_as, owner_given, cell_closed, deferred, opened, closed, registered, ended, reclaims}
+use Rattle.sdd_space.specs.WorldChanges.{made_as, with_standing, waiting_as, owner_given, cell_closed, deferred, opened, closed, registered, ended, reclaims}
 use Rattle.sdd_space.specs.OwnerOrCell.{OwnerOrCell}
-use Rattle.sdd_space.specs.Own.{all_awaiting}
-use Rattle.sdd_space.specs.Whole.{IsWhole}
-use Rattle.sdd_space.specs.Left.{Waits}
+use Rattle.sdd_space.specs.ParticipantChanges.{all_awaiting}
+use Rattle.sdd_space.specs.WorldInvariant.{IsWhole}
+use Rattle.sdd_space.specs.ReclaimBound.{Waits}
 use Rattle.sdd_space.specs.Out.{is_out}
-use Rattle.sdd_space.specs.Under.{more, IsUnder, StaysUnder, CallsUnder, KeepsUnderGuards, KeepsCollectedUnderGuards, KeepsFreshUnderGuards}
+use Rattle.sdd_space.specs.UnderGuards.{more, IsUnder, StaysUnder, CallsUnder, KeepsUnderGuards, KeepsCollectedUnderGuards, KeepsFreshUnderGuards}
 use Rattle.sdd_space.specs.WorldStep.{WorldStep}
 use Rattle.sdd_space.specs.WorldStep.WorldStep.{registers, ends, opens, closes, stirs, accelerates, makes, shares, retires, releases, defers, collects, closes_collector, edits, drops, puts_out_raw, takes_back_raw, changes_cells, closes_cell, changes_pointers}
-use Rattle.sdd_space.specs.Under.CallsUnder.{none, more_calls}
+use Rattle.sdd_space.specs.UnderGuards.CallsUnder.{none, more_calls}
 use Rattle.sdd_space.proofs.Own.{Gives, Gives-owner_given, Gives-cell_closed}
 use Rattle.sdd_space.proofs.Own as own
 use Rattle.sdd_space.proofs.Guarded.{guarded}

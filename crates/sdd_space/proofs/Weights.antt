@@ -20,7 +20,7 @@ use Rattle.sdd_participants.specs.declared.standing.CellContents.{CellContents}
 use Rattle.sdd_participants.specs.declared.standing.RawCellContents.{RawCellContents}
 use Rattle.sdd_standings.specs.Slots.{is_waiting}
 use Rattle.sdd_space.specs.World.{World, KeepsSizes, weight, is_loose, standing_at, value_at, place_at}
-use Rattle.sdd_space.specs.Steps.{made_as, with_standing, waiting_as, retired, spilled, cell_closed, held_in, owner_given, given, given_all, freed, vacated, dropped_out, dropped, taken_out, waiting_value, slot_reclaimed, reclaimed, all_reclaimed, deferred, ran}
+use Rattle.sdd_space.specs.WorldChanges.{made_as, with_standing, waiting_as, retired, spilled, cell_closed, held_in, owner_given, given, given_all, freed, vacated, dropped_out, dropped, taken_out, waiting_value, slot_reclaimed, reclaimed, all_reclaimed, deferred, ran}
 use Rattle.sdd_space.specs.OwnerOrCell.{OwnerOrCell, owned, shared, atomic_owned, atomic_shared, atomic_raw}
 use Rattle.sdd_space.specs.Out.{is_out}
 use Rattle.sdd_space.specs.WorldStep.{IsFirst}

@@ -28,12 +28,12 @@ use Rattle.sdd_standings.specs.Slots.{is_waiting, IsWaiting}
 use Rattle.sdd_space.specs.World.{World, standing_at, value_at, place_at}
 use Rattle.sdd_participants.specs.Collecting.{rest_of, without}
 use Rattle.sdd_space.specs.Collecting.{collector_closed, is_for, waiting_for, without_collector}
-use Rattle.sdd_space.specs.Steps.{made_as, with_standing, waiting_as, retired, deferred, spilled, cell_closed, held_in, owner_given, given, given_all, freed, vacated, dropped_out, dropped, with_value, taken_out, waiting_value, slot_reclaimed, reclaimed, all_reclaimed, changed}
-use Rattle.sdd_space.specs.Steps as steps
+use Rattle.sdd_space.specs.WorldChanges.{made_as, with_standing, waiting_as, retired, deferred, spilled, cell_closed, held_in, owner_given, given, given_all, freed, vacated, dropped_out, dropped, with_value, taken_out, waiting_value, slot_reclaimed, reclaimed, all_reclaimed, changed}
+use Rattle.sdd_space.specs.WorldChanges as steps
 use Rattle.sdd_space.specs.OwnerOrCell.{OwnerOrCell, owned, shared, atomic_owned, atomic_shared, atomic_raw}
 use Rattle.sdd_space.specs.Out.{is_out}
-use Rattle.sdd_space.specs.Whole.{is_of_slot, times_with, once_if, times_waiting, taken, IsAbreast, IsCounted}
-use Rattle.sdd_space.specs.Own.{all_awaiting}
+use Rattle.sdd_space.specs.WorldInvariant.{is_of_slot, times_with, once_if, times_waiting, taken, KeepsUp, IsCounted}
+use Rattle.sdd_space.specs.ParticipantChanges.{all_awaiting}
 use Rattle.sdd_space.proofs.Own.{Gives-range, Gives-given, Gives-reclaimed, Gives-all_reclaimed, changes}
 pub use Rattle.sdd_space.proofs.Listed.{count-cons}
 use Rattle.sdd_space.proofs.Listed.{listed-place, listed-same, listed-awaiting, listed-aged, listed-additive, listed-without}
@@ -54,14 +54,14 @@ times_listed k ws = count_by (λ (w : Waiting). is_of_slot k w.what) ws
 pub record HasItems {T : Type 0} (w : World T) : Type 0 where
   pub filled : map is_some w.values ≡ map is_some w.standings
   pub once : (k : ℕ) → times_waiting w k ≡ once_if (is_waiting (standing_at w k))
-  pub abreast : (p : ℕ) → IsAbreast w.time.count (place_at w p)
+  pub abreast : (p : ℕ) → KeepsUp w.time.count (place_at w p)
   pub counted : IsCounted w.tally (taken w)
 
 -- so much waits, and these are to be reclaimed yet
 pub record IsWholeBut {T : Type 0} (xs : List LimboEntry) (w : World T) : Type 0 where
   pub filled : map is_some w.values ≡ map is_some w.standings
   pub once : (k : ℕ) → times_waiting w k + times_among k xs ≡ once_if (is_waiting (standing_at w k))
-  pub abreast : (p : ℕ) → IsAbreast w.time.count (place_at w p)
+  pub abreast : (p : ℕ) → KeepsUp w.time.count (place_at w p)
   pub counted : IsCounted w.tally (taken w)
 
 -- one place changes
@@ -73,14 +73,14 @@ pub times-same : (t : EpochState) (p k : ℕ) (x : Participant) → p < length t
     sum_by (times_with k) (with_place t p x).places ≡ sum_by (times_with k) t.places
 times-same t p k x l e = listed-same (is_of_slot k) t p x l e
 
-abreast-at : (t : EpochState) (count p q : ℕ) (x : Participant) → p < length t.places → IsAbreast count x → ((r : ℕ) → IsAbreast count (time.place_at t r)) →
+abreast-at : (t : EpochState) (count p q : ℕ) (x : Participant) → p < length t.places → KeepsUp count x → ((r : ℕ) → KeepsUp count (time.place_at t r)) →
     (q ≡ p) ⊎ (q ≢ p) →
-    IsAbreast count (time.place_at (with_place t p x) q)
+    KeepsUp count (time.place_at (with_place t p x) q)
 abreast-at t count p q x l a all (inl e) = rw (e, get_or-set_same t.places p x nobody l) a
 abreast-at t count p q x l a all (inr apart) = rw (get_or-set_other t.places p q x nobody apart) (all q)
 
-pub abreast-place : (t : EpochState) (count p : ℕ) (x : Participant) → p < length t.places → IsAbreast count x → ((r : ℕ) → IsAbreast count (time.place_at t r)) →
-    (q : ℕ) → IsAbreast count (time.place_at (with_place t p x) q)
+pub abreast-place : (t : EpochState) (count p : ℕ) (x : Participant) → p < length t.places → KeepsUp count x → ((r : ℕ) → KeepsUp count (time.place_at t r)) →
+    (q : ℕ) → KeepsUp count (time.place_at (with_place t p x) q)
 abreast-place t count p x l a all q = abreast-at t count p q x l a all (same-or-not q p)
 
 -- an item or a job begins to wait
@@ -88,7 +88,7 @@ stirred-bound : (d : ℕ) → d ≤ 128 → (b : Bool) → (d == 128) ≡ b → 
 stirred-bound d h true e = rw e (omega arith)
 stirred-bound d h false e = let apart : d ≢ 128 = grind (arith, nat_tests, e) in rw e (omega arith)
 
-pub abreast-awaiting : (count : ℕ) (what : LimboEntry) (x : Participant) → IsAbreast count x → IsAbreast count (time.awaiting what x)
+pub abreast-awaiting : (count : ℕ) (what : LimboEntry) (x : Participant) → KeepsUp count x → KeepsUp count (time.awaiting what x)
 abreast-awaiting count what x a =
     let low : stirred x.countdown ≤ 127 = stirred-bound x.countdown a.countdown (x.countdown == 128) refl in
     record {
@@ -100,7 +100,7 @@ abreast-awaiting count what x a =
     }
 
 -- what is chosen is taken out
-abreast-without : (count : ℕ) (chosen : LimboEntry → Bool) (x : Participant) → IsAbreast count x → IsAbreast count (without chosen x)
+abreast-without : (count : ℕ) (chosen : LimboEntry → Bool) (x : Participant) → KeepsUp count x → KeepsUp count (without chosen x)
 abreast-without count chosen x a = record {
   found = a.found;
   near = a.near;
@@ -109,10 +109,10 @@ abreast-without count chosen x a = record {
   quiet = λ e. ap (rest_of chosen) (a.quiet e);
 }
 
-abreast-all : (count : ℕ) (chosen : LimboEntry → Bool) (ps : List Participant) (p : ℕ) → IsAbreast count (slice_index_or ps p nobody) →
-    IsAbreast count (slice_index_or (map (without chosen) ps) p nobody)
+abreast-all : (count : ℕ) (chosen : LimboEntry → Bool) (ps : List Participant) (p : ℕ) → KeepsUp count (slice_index_or ps p nobody) →
+    KeepsUp count (slice_index_or (map (without chosen) ps) p nobody)
 abreast-all count chosen ps p a =
-    subst (λ (x : Participant). IsAbreast count x) (sym (get_or-map (without chosen) ps p nobody)) (abreast-without count chosen (slice_index_or ps p nobody) a)
+    subst (λ (x : Participant). KeepsUp count x) (sym (get_or-map (without chosen) ps p nobody)) (abreast-without count chosen (slice_index_or ps p nobody) a)
 
 pub times-awaiting : (j : ℕ) (what : LimboEntry) (x : Participant) → times_with j (time.awaiting what x) ≡ times_with j x + cond (is_of_slot j what) 1 0
 times-awaiting j what x = listed-awaiting (is_of_slot j) what x
@@ -130,7 +130,7 @@ pub times-aged : (k : ℕ) (ws : List Waiting) → times_listed k (left (aged ws
 times-aged k ws = listed-aged (is_of_slot k) ws
 
 -- a change, before and after what is due is reclaimed
-abreast-rotated : (count : ℕ) (x : Participant) → x.countdown ≤ 128 → (x.countdown ≡ 128 → x.bags.waiting ≡ []) → IsAbreast count (time.rotated count x)
+abreast-rotated : (count : ℕ) (x : Participant) → x.countdown ≤ 128 → (x.countdown ≡ 128 → x.bags.waiting ≡ []) → KeepsUp count (time.rotated count x)
 abreast-rotated count x low quiet =
     record {
       found = omega arith;
@@ -148,7 +148,7 @@ settled-quiet : (x : Participant) (ws : List Waiting) → x.bags.waiting ≡ ws 
 settled-quiet x [] e h = refl
 settled-quiet x (w ∷ ws) e h = absurd (omega (arith, rw e at h))
 
-abreast-settled : (count : ℕ) (x : Participant) → IsAbreast count x → IsAbreast count (time.settled x)
+abreast-settled : (count : ℕ) (x : Participant) → KeepsUp count x → KeepsUp count (time.settled x)
 abreast-settled count x a =
     record {
       found = a.found;
@@ -243,8 +243,8 @@ quiet-each t u p a none quiet r (inl e) h =
     absurd (omega (arith, same, here, none))
 quiet-each t u p a none quiet r (inr apart) h = quiet-other (time.place_at t r) (time.place_at u r) (a.stays r) (quiet r) (a.others r apart) h
 
-abreast-adopted : (t u : EpochState) (p count : ℕ) → Adopts p t u → (time.place_at t p).countdown ≡ 0 → ((r : ℕ) → IsAbreast count (time.place_at t r)) →
-    (r : ℕ) → IsAbreast count (time.place_at u r)
+abreast-adopted : (t u : EpochState) (p count : ℕ) → Adopts p t u → (time.place_at t p).countdown ≡ 0 → ((r : ℕ) → KeepsUp count (time.place_at t r)) →
+    (r : ℕ) → KeepsUp count (time.place_at u r)
 abreast-adopted t u p count a none all r =
     let s = a.stays r in
     let i = all r in
@@ -273,11 +273,11 @@ append-last [] x (suc p) h = inr refl
 append-last (y ∷ ps) x zero h = absurd (omega (arith, h))
 append-last (y ∷ ps) x (suc p) h = append-last ps x p (omega (arith, h))
 
-nobody-abreast : (count : ℕ) → IsAbreast count nobody
+nobody-abreast : (count : ℕ) → KeepsUp count nobody
 nobody-abreast count =
     record { found = omega arith; near = λ o. absurd (cc); young = All-nil (λ (w : Waiting). w.seen ≤ 2); countdown = omega arith; quiet = λ _. refl }
 
-new-abreast : (count room : ℕ) (x : Participant) → (x ≡ newcomer room) ⊎ (x ≡ nobody) → IsAbreast count x
+new-abreast : (count room : ℕ) (x : Participant) → (x ≡ newcomer room) ⊎ (x ≡ nobody) → KeepsUp count x
 new-abreast count room x (inl e) =
     rw e (record { found = omega arith; near = λ o. absurd (cc); young = All-nil (λ (w : Waiting). w.seen ≤ 2); countdown = omega arith; quiet = λ _. refl })
 new-abreast count room x (inr e) = rw e (nobody-abreast count)
@@ -521,7 +521,7 @@ module _ {T : Type 0} where
 
   -- only a place changed, and nothing that waits there
   Whole-place : (w : World T) (p : ℕ) (x : Participant) → p < length w.time.places → x.bags.waiting ≡ (place_at w p).bags.waiting →
-      IsAbreast w.time.count x → HasItems w →
+      KeepsUp w.time.count x → HasItems w →
       HasItems (record w { time = with_place w.time p x })
   Whole-place w p x l e a i =
       record {
@@ -671,12 +671,12 @@ module _ {T : Type 0} where
       (record { found = a.found; near = a.near; young = a.young; countdown = omega arith; quiet = λ e. absurd (omega (arith, e)) }) i
 
   -- a change, after which p has its pace again
-  pub Items-paced : (w : World T) (p : ℕ) (pace : CountdownState) → p < length w.time.places → IsAbreast w.time.count (time.paced pace (place_at w p)) → HasItems w →
+  pub Items-paced : (w : World T) (p : ℕ) (pace : CountdownState) → p < length w.time.places → KeepsUp w.time.count (time.paced pace (place_at w p)) → HasItems w →
       HasItems (record w { time = time.paced_at w.time p pace })
   Items-paced w p pace l a i = Whole-place w p (time.paced pace (place_at w p)) l refl a i
 
   pub abreast-paced : (holds : T → List OwnerOrCell) (w : World T) (p : ℕ) → p < length w.time.places → HasItems w →
-      IsAbreast (changed holds w p).time.count (time.paced (pace_of (place_at w p)) (place_at (changed holds w p) p))
+      KeepsUp (changed holds w p).time.count (time.paced (pace_of (place_at w p)) (place_at (changed holds w p) p))
   abreast-paced holds w p l i =
       let a = i.abreast p in
       let c = changes holds w p l in
@@ -759,7 +759,7 @@ module _ {T : Type 0} where
       record {
         filled = i.filled;
         once = λ k. a.totals (times_listed k) (listed-additive (is_of_slot k)) ∙ i.once k;
-        abreast = λ r. subst (λ (n : ℕ). IsAbreast n (time.place_at u r)) count (abreast-adopted w.time u p w.time.count a none i.abreast r);
+        abreast = λ r. subst (λ (n : ℕ). KeepsUp n (time.place_at u r)) count (abreast-adopted w.time u p w.time.count a none i.abreast r);
         counted = i.counted;
       }
 
@@ -808,7 +808,7 @@ module _ {T : Type 0} where
 
   -- a newcomer takes a place, or one place more
   registered-abreast : (w : World T) (p : ℕ) → HasItems w → (p < length w.time.places) ⊎ (length w.time.places ≤ p) →
-      IsAbreast w.time.count (slice_index_or (w.time.places ++ newcomer w.time.room ∷ []) p nobody)
+      KeepsUp w.time.count (slice_index_or (w.time.places ++ newcomer w.time.room ∷ []) p nobody)
   registered-abreast w p i (inl l) = rw (get_or-append w.time.places (newcomer w.time.room ∷ []) nobody p l) (i.abreast p)
   registered-abreast w p i (inr past) =
       new-abreast w.time.count w.time.room (slice_index_or (w.time.places ++ newcomer w.time.room ∷ []) p nobody)

@@ -3,8 +3,8 @@ use Rattle.std.specs.Prelude.{ℕ, ◌≡◌, IsTrue, None}
 use Rattle.sdd_participants.specs.PlaceStates.{is_ended}
 use Rattle.sdd_participants.specs.EpochState.{phase_at}
 use Rattle.sdd_space.specs.World.{World, IsPlaceOf, place_at}
-use Rattle.sdd_space.specs.Steps.{closed}
-use Rattle.sdd_space.specs.Left.{Waits}
+use Rattle.sdd_space.specs.WorldChanges.{closed}
+use Rattle.sdd_space.specs.ReclaimBound.{Waits}
 
 module _ {T : Type 0} where
   -- the last guard of p is open, the next close of it scans, and p has found the count

@@ -7,7 +7,7 @@ use Rattle.sdd_participants.specs.declared.standing.Standing.TheVariants.{Owned,
 use Rattle.sdd_space.specs.OwnerOrCell.{OwnerOrCell}
 use Rattle.sdd_standings.specs.Slots.{IsWaiting}
 use Rattle.sdd_space.specs.World.{World, HasPlace, standing_at, value_at}
-use Rattle.sdd_space.specs.Steps.{all_reclaimed, waiting_as, with_standing, without_cell}
+use Rattle.sdd_space.specs.WorldChanges.{all_reclaimed, waiting_as, with_standing, without_cell}
 
 module _ {T : Type 0} where
   -- the item in the slot waits for the collector, with p

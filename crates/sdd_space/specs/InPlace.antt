@@ -5,7 +5,7 @@ use Rattle.sdd_core.specs.declared.refused.Refused.TheVariants.{GuardOpen, NotAl
 use Rattle.sdd_participants.specs.declared.standing.Standing.{Standing}
 use Rattle.sdd_participants.specs.declared.standing.Standing.TheVariants.{Owned, Shared}
 use Rattle.sdd_standings.specs.Slots.{has_others}
-use Rattle.sdd_space.specs.World.{World, IsGuarded, standing_at}
+use Rattle.sdd_space.specs.World.{World, AnyGuardOpen, standing_at}
 
 -- the item has one owner
 abbrev pub IsAlone : Option Standing → Type 0
@@ -14,9 +14,9 @@ IsAlone s = (s ≡ Some Owned) ⊎ (s ≡ Some (Shared 1))
 -- its owner is alone, and no guard is open
 pub record MayInPlace {T : Type 0} (w : World T) (k : ℕ) : Type 0 where
   pub alone : IsAlone (standing_at w k)
-  pub quiet : ¬ (IsGuarded w)
+  pub quiet : ¬ (AnyGuardOpen w)
 
 -- why an owner may not: others own the item, or else a guard is open
 abbrev pub RefusedInPlace : {T : Type 0} → World T → ℕ → Refused → Type 0
 RefusedInPlace w k e =
-    (IsTrue (has_others (standing_at w k)) × (e ≡ NotAlone)) ⊎ (IsAlone (standing_at w k) × IsGuarded w × (e ≡ GuardOpen))
+    (IsTrue (has_others (standing_at w k)) × (e ≡ NotAlone)) ⊎ (IsAlone (standing_at w k) × AnyGuardOpen w × (e ≡ GuardOpen))

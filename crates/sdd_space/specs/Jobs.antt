@@ -4,8 +4,8 @@ use Rattle.sdd_participants.specs.declared.waiting.LimboEntry.TheVariants.{Job}
 use Rattle.sdd_participants.specs.Slab.{entry_at}
 use Rattle.sdd_space.specs.OwnerOrCell.{OwnerOrCell}
 use Rattle.sdd_space.specs.World.{World, IsPlaceOf}
-use Rattle.sdd_space.specs.Steps.{opened, reclaims}
-use Rattle.sdd_space.specs.Whole.{once_if, times_deferred}
+use Rattle.sdd_space.specs.WorldChanges.{opened, reclaims}
+use Rattle.sdd_space.specs.WorldInvariant.{once_if, times_deferred}
 
 pub record RunsJobsOnce {T : Type 0} (holds : T → List OwnerOrCell) (w : World T) : Type 0 where
   -- a job waits once exactly where a place of the table of jobs is taken

@@ -8,14 +8,14 @@ use Rattle.sdd_participants.specs.declared.standing.CellContents.{CellContents}
 use Rattle.sdd_participants.specs.declared.standing.RawCellContents.{RawCellContents}
 use Rattle.sdd_standings.specs.Slots.{IsSharedBy}
 use Rattle.sdd_space.specs.OwnerOrCell.{OwnerOrCell, owned, shared, atomic_owned, atomic_shared, atomic_raw}
-use Rattle.sdd_space.specs.World.{World, IsBlank, place_at, standing_at, value_at, IsGuarded, IsPlaceOf}
-use Rattle.sdd_space.specs.Whole.{IsWhole, once_if}
+use Rattle.sdd_space.specs.World.{World, IsBlank, place_at, standing_at, value_at, AnyGuardOpen, IsPlaceOf}
+use Rattle.sdd_space.specs.WorldInvariant.{IsWhole, once_if}
 use Rattle.sdd_space.specs.Out.{IsNullCell}
 use Rattle.sdd_space.specs.InPlace.{IsAlone, MayInPlace}
 use Rattle.sdd_space.specs.WorldStep.{IsFirst}
 use Rattle.sdd_space.specs.Collecting.{collected, collector_closed}
-use Rattle.sdd_space.specs.Accounts.{owner_count, is_owner_of, inner_owners}
-use Rattle.sdd_space.specs.Steps.{made_as, with_standing, with_value, with_cell, without_cell, dropped, retired, deferred, owner_given, cell_closed, held_in, opened, closed, stirred, accelerated, registered, ended}
+use Rattle.sdd_space.specs.OwnerCounts.{owner_count, is_owner_of, inner_owners}
+use Rattle.sdd_space.specs.WorldChanges.{made_as, with_standing, with_value, with_cell, without_cell, dropped, retired, deferred, owner_given, cell_closed, held_in, opened, closed, stirred, accelerated, registered, ended}
 
 -- what there is so much of: owners of the slot's item, or rights to the cell
 pub data Claim : Type 0 where
@@ -113,7 +113,7 @@ module _ {T : Type 0} (holds : T → List OwnerOrCell) where
         Moves w (owner_held cell.held) (with_cell w c cell) (owner_held old.held)
     spends_cell : (w : World T) (c : ℕ) (old : CellContents) → entry_at w.cells c ≡ Some old → Moves w (one (right_to c)) (without_cell w c) (owner_held old.held)
     closes_cell : (w : World T) (p c : ℕ) → IsPlaceOf w p → Moves w (one (right_to c)) (cell_closed w p c) nothing
-    closes_collector : (w : World T) (p c : ℕ) → IsPlaceOf w p → ¬ (IsGuarded w) → IsNullCell w c →
+    closes_collector : (w : World T) (p c : ℕ) → IsPlaceOf w p → ¬ (AnyGuardOpen w) → IsNullCell w c →
         Moves w (one (right_to c)) (collector_closed holds w p c) nothing
 
   -- it is the right to the cell that the call sets

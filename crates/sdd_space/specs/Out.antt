@@ -1,7 +1,7 @@
 -- How much of a world is out of its hands
 use Rattle.std.specs.Prelude.{ℕ, ◌+◌, ◌<◌, ◌≡◌, ◌≤◌, Bool, true, false, List, [], ◌∷◌, Option, None, Some, is_some, IsSome, IsTrue, count_by, length}
 use Rattle.sdd_participants.specs.Slab.{IsEmptyAt, IsFull, entry_at}
-use Rattle.sdd_space.specs.Whole.{taken}
+use Rattle.sdd_space.specs.WorldInvariant.{taken}
 use Rattle.sdd_participants.specs.declared.standing.Standing.{Standing}
 use Rattle.sdd_participants.specs.declared.standing.Standing.TheVariants.{Owned, Raw, Shared, Retired, Private}
 use Rattle.sdd_participants.specs.declared.standing.CellContents.{CellContents}
@@ -9,7 +9,7 @@ use Rattle.sdd_participants.specs.declared.standing.RawCellContents.{RawCellCont
 use Rattle.sdd_space.specs.OwnerOrCell.{OwnerOrCell, owned, shared, atomic_owned, atomic_shared, atomic_raw}
 use Rattle.sdd_space.specs.World.{World, HasPlace, standing_at, value_at}
 use Rattle.sdd_space.specs.Collecting.{collected, collector_closed}
-use Rattle.sdd_space.specs.Steps.{made, made_shared, with_standing, with_value, vacated, dropped, retired, deferred, nulled, with_cell, with_pointer, without_cell, cell_closed, opened, given, given_all, ended}
+use Rattle.sdd_space.specs.WorldChanges.{made, made_shared, with_standing, with_value, vacated, dropped, retired, deferred, nulled, with_cell, with_pointer, without_cell, cell_closed, opened, given, given_all, ended}
 
 -- the slot's item has an owner, or is out as raw
 abbrev pub is_out : Option Standing → Bool

@@ -32,7 +32,7 @@ module _ {T : Type 0} where
   cell_seen p = record { held = slot_named p; tag = tag_of p }
 
   -- it shows the value that its slot shows, and null shows none
-  pub record IsShown (shows : ℕ → T → Type 0) (p : Ptr T) : Type 0 where
+  pub record PtrIsShown (shows : ℕ → T → Type 0) (p : Ptr T) : Type 0 where
     pub full : (k : ℕ) → slot_named p ≡ Some k → (value : T) × (shown_by p ≡ Some value) × shows k value
     pub null : slot_named p ≡ None → shown_by p ≡ None
 

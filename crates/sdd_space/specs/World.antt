@@ -65,8 +65,8 @@ module _ {T : Type 0} where
   IsPlaceOf w p = time.IsLive w.time p
 
   -- some guard is open
-  abbrev pub IsGuarded : World T → Type 0
-  IsGuarded w = Any (λ p. IsTrue (time.is_open p)) w.time.places
+  abbrev pub AnyGuardOpen : World T → Type 0
+  AnyGuardOpen w = Any (λ p. IsTrue (time.is_open p)) w.time.places
 
 -- a slot that no participant's bags have
 abbrev pub is_loose : Option Standing → Bool

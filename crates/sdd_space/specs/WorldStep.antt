@@ -7,10 +7,10 @@ use Rattle.sdd_participants.specs.declared.standing.Standing.TheVariants.{Owned,
 use Rattle.sdd_participants.specs.declared.standing.CellContents.{CellContents}
 use Rattle.sdd_participants.specs.declared.standing.RawCellContents.{RawCellContents}
 use Rattle.sdd_space.specs.OwnerOrCell.{OwnerOrCell}
-use Rattle.sdd_space.specs.World.{World, place_at, standing_at, IsGuarded, IsPlaceOf}
+use Rattle.sdd_space.specs.World.{World, place_at, standing_at, AnyGuardOpen, IsPlaceOf}
 use Rattle.sdd_space.specs.InPlace.{IsAlone, MayInPlace}
 use Rattle.sdd_space.specs.Collecting.{collected, collector_closed}
-use Rattle.sdd_space.specs.Steps.{made_as, with_standing, with_value, dropped, retired, deferred, owner_given, cell_closed, opened, closed, stirred, accelerated, registered, ended}
+use Rattle.sdd_space.specs.WorldChanges.{made_as, with_standing, with_value, dropped, retired, deferred, owner_given, cell_closed, opened, closed, stirred, accelerated, registered, ended}
 
 -- a new item stands so: out with its one owner, who may share it or not
 abbrev pub IsFirst : Standing → Type 0
@@ -31,7 +31,7 @@ module _ {T : Type 0} (holds : T → List OwnerOrCell) where
     defers : (w : World T) (p j : ℕ) → IsPlaceOf w p → IsEmptyAt w.jobs j → WorldStep w (deferred w p j)
     -- the one owner's item waits for a collector from now on
     collects : (w : World T) (p c k : ℕ) → IsPlaceOf w p → IsAlone (standing_at w k) → WorldStep w (collected w p c k)
-    closes_collector : (w : World T) (p c : ℕ) → IsPlaceOf w p → ¬ (IsGuarded w) → WorldStep w (collector_closed holds w p c)
+    closes_collector : (w : World T) (p c : ℕ) → IsPlaceOf w p → ¬ (AnyGuardOpen w) → WorldStep w (collector_closed holds w p c)
     edits : (w : World T) (k : ℕ) (value : T) → MayInPlace w k → WorldStep w (with_value w k value)
     drops : (w : World T) (p k : ℕ) → IsPlaceOf w p → MayInPlace w k → WorldStep w (dropped holds w p k)
     puts_out_raw : (w : World T) (k : ℕ) → standing_at w k ≡ Some Owned → WorldStep w (with_standing w k Raw)

@@ -6,11 +6,11 @@ ghost use Rattle.sdd_space.specs.World.{World, standing_at};
 ghost use Rattle.sdd_space.specs.CallerId.{IsSeated, IsExact};
 ghost use Rattle.sdd_space.specs.Refusals.{IsContended, IsRefusedBy};
 ghost use Rattle.sdd_space.specs.Undisturbed.{Undisturbed, Unmoved};
-ghost use Rattle.sdd_space.specs.Own.{IsSpilled};
-ghost use Rattle.sdd_space.specs.Ptr.{IsShown, cell_seen, slot_named, shown_by, tag_of};
+ghost use Rattle.sdd_space.specs.ParticipantChanges.{HasContentsGivenUp};
+ghost use Rattle.sdd_space.specs.Ptr.{PtrIsShown, cell_seen, slot_named, shown_by, tag_of};
 ghost use Rattle.sdd_space.specs.RawPtr as raw;
 ghost use Rattle.sdd_space.specs.Guard.{reader_of};
-ghost use Rattle.sdd_space.specs.Steps.{made, nulled, with_cell, without_cell, with_standing, cell_closed};
+ghost use Rattle.sdd_space.specs.WorldChanges.{made, nulled, with_cell, without_cell, with_standing, cell_closed};
 ghost use Rattle.sdd_space.specs.Owned.{right_of, slot_of, slots_home, cell_right, cell_of, cells_home, cell_with, IsOfSlots};
 ghost use Rattle.sdd_core.specs.declared.tag.Tag.TheVariants.{None as no_tag};
 ghost use Rattle.sdd_participants.specs.Slab.{IsEmptyAt, IsFull, entry_at};
@@ -164,7 +164,7 @@ impl<T: Item<T>> AtomicOwned<T> {
         requires home { cells_home self.now ≡ (S.seat s.old).home.cells }
         requires reader { reader_of guard.now ≡ (S.seat s.old).reader }
         ensures undisturbed { Undisturbed S.seat S.own S.known S.shows s.old s.new }
-        ensures shown { IsShown (S.shows s.new) result }
+        ensures shown { PtrIsShown (S.shows s.new) result }
         ensures owned { IsExact (S.seat s.old) → IfSome (slot_named result) (λ slot. standing_at (S.world s.old) slot ≡ Some Standing.Owned) }
         ensures exact { IsExact (S.seat s.old) → (entry_at (S.world s.old).cells (cell_of self.now) ≡ Some (cell_seen result)) ×
             (S.world s.new ≡ S.world s.old) }
@@ -230,7 +230,7 @@ impl<T: Item<T>> AtomicOwned<T> {
         ensures old { IfOk result (λ o. option_map slot_of o.0 ≡ slot_named current.entry) }
         ensures now { IfOk result (λ o. cell_seen o.1 ≡ cell_with next.0 next.1) }
         ensures back { IfErr result (λ e. option_map right_of e.0 ≡ option_map right_of next.0) }
-        ensures shown { MatchResult result (λ o. IsShown (S.shows s.new) o.1) (λ e. IsShown (S.shows s.new) e.1) }
+        ensures shown { MatchResult result (λ o. PtrIsShown (S.shows s.new) o.1) (λ e. PtrIsShown (S.shows s.new) e.1) }
         ensures exact { IsExact (S.seat s.old) → MatchResult result
             (λ _. (entry_at (S.world s.old).cells (cell_of self.now) ≡ Some (cell_seen current.entry)) ×
             (S.world s.new ≡ with_cell (S.world s.old) (cell_of self.now) (cell_with next.0 next.1)))
@@ -265,7 +265,7 @@ impl<T: Item<T>> AtomicOwned<T> {
         ensures old { IfOk result (λ o. option_map slot_of o.0 ≡ slot_named current.entry) }
         ensures now { IfOk result (λ o. cell_seen o.1 ≡ cell_with next.0 next.1) }
         ensures back { IfErr result (λ e. option_map right_of e.0 ≡ option_map right_of next.0) }
-        ensures shown { MatchResult result (λ o. IsShown (S.shows s.new) o.1) (λ e. IsShown (S.shows s.new) e.1) }
+        ensures shown { MatchResult result (λ o. PtrIsShown (S.shows s.new) o.1) (λ e. PtrIsShown (S.shows s.new) e.1) }
         ensures exact { IsExact (S.seat s.old) → MatchResult result
             (λ _. (entry_at (S.world s.old).cells (cell_of self.now) ≡ Some (cell_seen current.entry)) ×
             (S.world s.new ≡ with_cell (S.world s.old) (cell_of self.now) (cell_with next.0 next.1)))
@@ -292,7 +292,7 @@ impl<T: Item<T>> AtomicOwned<T> {
         requires seated { IsSeated (S.seat s.old) }
         requires home { cells_home self ≡ (S.seat s.old).home.cells }
         ensures unmoved { Unmoved S.seat S.known S.shows s.old s.new }
-        ensures own { IsSpilled (S.own s.old) (S.own s.new) }
+        ensures own { HasContentsGivenUp (S.own s.old) (S.own s.new) }
         ensures exact { IsExact (S.seat s.old) → S.world s.new ≡ cell_closed (S.world s.old) (S.seat s.old).place (cell_of self) }
     {
         if let Some(right) = s.into_contents(self.into_right()) {

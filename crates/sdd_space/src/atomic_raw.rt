@@ -6,7 +6,7 @@ ghost use Rattle.sdd_space.specs.Undisturbed.{Undisturbed};
 ghost use Rattle.sdd_space.specs.RawPtr as raw;
 ghost use Rattle.sdd_space.specs.Guard.{reader_of};
 ghost use Rattle.sdd_space.specs.Out.{IsNullCell};
-ghost use Rattle.sdd_space.specs.Steps.{pointing, with_pointer, without_cell};
+ghost use Rattle.sdd_space.specs.WorldChanges.{pointing, with_pointer, without_cell};
 ghost use Rattle.sdd_space.specs.RawCell.{cell_of, cells_home};
 ghost use Rattle.sdd_standings.specs.Cells.{null_pointer};
 ghost use Rattle.sdd_participants.specs.declared.standing.RawCellContents.{RawCellContents};

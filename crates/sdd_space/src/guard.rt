@@ -28,12 +28,12 @@ impl Guard {
     ghost use Rattle.sdd_space.specs.World.{World, place_at};
     ghost use Rattle.sdd_space.specs.CallerId.{IsSeated, IsExact, IsLone, MayNest};
     ghost use Rattle.sdd_space.specs.Refusals.{IsRefusedBy};
-    ghost use Rattle.sdd_space.specs.Own.{IsOpened, IsClosed};
+    ghost use Rattle.sdd_space.specs.ParticipantChanges.{GuardOpened, GuardClosed};
     ghost use Rattle.sdd_space.specs.KnownEpochs.{KnowsOn, KnowsOpened, KnowsClosed, IsNear, IsRaisedBy};
     ghost use Rattle.sdd_space.specs.Undisturbed.{Undisturbed, Unmoved};
     ghost use Rattle.sdd_space.specs.Ptr.{KeepsShown};
     ghost use Rattle.sdd_space.specs.Guard.{reader_of};
-    ghost use Rattle.sdd_space.specs.Steps.{opened, closed, deferred, stirred, accelerated};
+    ghost use Rattle.sdd_space.specs.WorldChanges.{opened, closed, deferred, stirred, accelerated};
     ghost use Rattle.sdd_participants.specs.EpochState.{CanNest, is_open, with_garbage, has_garbage};
     ghost use Rattle.sdd_participants.specs.EpochState as time;
 
@@ -47,7 +47,7 @@ impl Guard {
         ensures seat { S.seat s.new ≡ S.seat s.old }
         ensures reader { IfOk result (λ guard. reader_of guard ≡ (S.seat s.old).reader) }
         ensures own { MatchResult result
-            (λ _. MayNest (S.seat s.old) (S.own s.old) × IsOpened (S.own s.old) (S.own s.new))
+            (λ _. MayNest (S.seat s.old) (S.own s.old) × GuardOpened (S.own s.old) (S.own s.new))
             (λ e. (e ≡ Refused.TooManyGuards) × ¬ (MayNest (S.seat s.old) (S.own s.old)) × (S.own s.new ≡ S.own s.old)) }
         ensures known { MatchResult result
             (λ _. KnowsOpened (S.known s.old) (S.own s.old) (S.own s.new) (S.known s.new))
@@ -88,7 +88,7 @@ impl Guard {
         requires seated { IsSeated (S.seat s.old) }
         requires reader { reader_of self ≡ (S.seat s.old).reader }
         ensures seat { S.seat s.new ≡ S.seat s.old }
-        ensures own { IsClosed (S.own s.old) (S.own s.new) }
+        ensures own { GuardClosed (S.own s.old) (S.own s.new) }
         ensures known { KnowsClosed (S.known s.old) (S.known s.new) (S.own s.new) }
         ensures lone { IsLone (S.seat s.old) → IsRaisedBy (S.own s.old) (S.known s.old).told (S.known s.new).told }
         ensures exact { IsExact (S.seat s.old) → S.world s.new ≡ closed (S.world s.old) (S.seat s.old).place }

@@ -8,7 +8,7 @@ ghost use Rattle.sdd_space.specs.World.{World};
 ghost use Rattle.sdd_space.specs.CallerId.{IsSeated, IsExact};
 ghost use Rattle.sdd_space.specs.Refusals.{IsRefusedBy};
 ghost use Rattle.sdd_space.specs.Undisturbed.{Undisturbed};
-ghost use Rattle.sdd_space.specs.Steps.{made_as};
+ghost use Rattle.sdd_space.specs.WorldChanges.{made_as};
 ghost use Rattle.sdd_participants.specs.Slab.{IsEmptyAt, IsFull};
 ghost use Rattle.sdd_space.specs.RawPtr as raw;
 ghost use Rattle.sdd_space.specs.Ptr.{slot_named, shown_by, tag_of};

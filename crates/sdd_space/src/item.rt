@@ -4,8 +4,8 @@ ghost use Rattle.sdd_space.specs.OwnerOrCell.{OwnerOrCell, AreOf};
 ghost use Rattle.sdd_space.specs.World.{World};
 ghost use Rattle.sdd_space.specs.CallerId.{CallerId, IsSeated, IsExact};
 ghost use Rattle.sdd_space.specs.KnownEpochs.{KnownEpochs, KnowsOn};
-ghost use Rattle.sdd_space.specs.Own.{GrowsOn};
-ghost use Rattle.sdd_space.specs.Steps.{given, given_all};
+ghost use Rattle.sdd_space.specs.ParticipantChanges.{KeepsMoreWaiting};
+ghost use Rattle.sdd_space.specs.WorldChanges.{given, given_all};
 ghost use Rattle.sdd_space.specs.Owned.{slots_home, cells_home, holding_of, cell_holding};
 ghost use Rattle.sdd_space.specs.Shared as shared;
 ghost use Rattle.sdd_space.specs.RawCell as raw_cell;
@@ -39,7 +39,7 @@ pub trait Giver<I> {
         requires seated { IsSeated (seat self.old) }
         requires home { slots_home owner ≡ (seat self.old).home.slots }
         ensures seat { seat self.new ≡ seat self.old }
-        ensures own { GrowsOn (own self.old) (own self.new) }
+        ensures own { KeepsMoreWaiting (own self.old) (own self.new) }
         ensures known { KnowsOn (known self.old) (known self.new) }
         ensures kept { kept self.new ≡ kept self.old }
         ensures exact { IsExact (seat self.old) → world self.new ≡ given (world self.old) (seat self.old).place (holding_of owner) };
@@ -49,7 +49,7 @@ pub trait Giver<I> {
         requires seated { IsSeated (seat self.old) }
         requires home { shared.slots_home owner ≡ (seat self.old).home.slots }
         ensures seat { seat self.new ≡ seat self.old }
-        ensures own { GrowsOn (own self.old) (own self.new) }
+        ensures own { KeepsMoreWaiting (own self.old) (own self.new) }
         ensures known { KnowsOn (known self.old) (known self.new) }
         ensures kept { kept self.new ≡ kept self.old }
         ensures exact { IsExact (seat self.old) → world self.new ≡ given (world self.old) (seat self.old).place (shared.holding_of owner) };
@@ -59,7 +59,7 @@ pub trait Giver<I> {
         requires seated { IsSeated (seat self.old) }
         requires home { cells_home cell ≡ (seat self.old).home.cells }
         ensures seat { seat self.new ≡ seat self.old }
-        ensures own { GrowsOn (own self.old) (own self.new) }
+        ensures own { KeepsMoreWaiting (own self.old) (own self.new) }
         ensures known { KnowsOn (known self.old) (known self.new) }
         ensures kept { kept self.new ≡ kept self.old }
         ensures exact { IsExact (seat self.old) → world self.new ≡ given (world self.old) (seat self.old).place (cell_holding cell) };
@@ -69,7 +69,7 @@ pub trait Giver<I> {
         requires seated { IsSeated (seat self.old) }
         requires home { shared.cells_home cell ≡ (seat self.old).home.cells }
         ensures seat { seat self.new ≡ seat self.old }
-        ensures own { GrowsOn (own self.old) (own self.new) }
+        ensures own { KeepsMoreWaiting (own self.old) (own self.new) }
         ensures known { KnowsOn (known self.old) (known self.new) }
         ensures kept { kept self.new ≡ kept self.old }
         ensures exact { IsExact (seat self.old) → world self.new ≡ given (world self.old) (seat self.old).place (shared.cell_holding cell) };
@@ -79,7 +79,7 @@ pub trait Giver<I> {
         requires seated { IsSeated (seat self.old) }
         requires home { raw_cell.cells_home cell ≡ (seat self.old).home.cells }
         ensures seat { seat self.new ≡ seat self.old }
-        ensures own { GrowsOn (own self.old) (own self.new) }
+        ensures own { KeepsMoreWaiting (own self.old) (own self.new) }
         ensures known { KnowsOn (known self.old) (known self.new) }
         ensures kept { kept self.new ≡ kept self.old }
         ensures exact { IsExact (seat self.old) → world self.new ≡ given (world self.old) (seat self.old).place (raw_cell.cell_holding cell) };
@@ -98,7 +98,7 @@ pub trait Item<I>: Sized {
         requires seated { IsSeated (G.seat giver.old) }
         requires home { AreOf (G.seat giver.old).home (holds self) }
         ensures seat { G.seat giver.new ≡ G.seat giver.old }
-        ensures own { GrowsOn (G.own giver.old) (G.own giver.new) }
+        ensures own { KeepsMoreWaiting (G.own giver.old) (G.own giver.new) }
         ensures known { KnowsOn (G.known giver.old) (G.known giver.new) }
         ensures kept { G.kept giver.new ≡ G.kept giver.old }
         ensures exact { IsExact (G.seat giver.old) → G.world giver.new ≡ given_all (G.world giver.old) (G.seat giver.old).place (holds self) };

@@ -2,12 +2,12 @@ ghost use Rattle.std.specs.Fn.{FnOnceReturnsAtMut};
 ghost use Rattle.std.specs.Prelude.{◌≡◌, ◌≢◌, ◌⊎◌, IfErr, IfOk, IfSome, IsSome, MatchOption, MatchResult, Some, None, option_map};
 ghost use Rattle.sdd_rights.specs.Right.{kind_of};
 ghost use Rattle.sdd_space.specs.OwnerOrCell.{AreOf};
-ghost use Rattle.sdd_space.specs.World.{World, IsGuarded, standing_at, value_at};
+ghost use Rattle.sdd_space.specs.World.{World, AnyGuardOpen, standing_at, value_at};
 ghost use Rattle.sdd_space.specs.CallerId.{IsSeated, IsExact, IsLone};
 ghost use Rattle.sdd_space.specs.KnownEpochs.{KnowsOn};
 ghost use Rattle.sdd_space.specs.Undisturbed.{Undisturbed, Unmoved};
-ghost use Rattle.sdd_space.specs.Own.{GrowsOn};
-ghost use Rattle.sdd_space.specs.Steps.{made, retired, with_standing, with_value, dropped};
+ghost use Rattle.sdd_space.specs.ParticipantChanges.{KeepsMoreWaiting};
+ghost use Rattle.sdd_space.specs.WorldChanges.{made, retired, with_standing, with_value, dropped};
 ghost use Rattle.sdd_space.specs.Owned.{right_of, slot_of, slots_home, IsOfSlots};
 ghost use Rattle.sdd_core.specs.declared.tag.Tag.TheVariants.{None as no_tag};
 ghost use Rattle.sdd_space.specs.Ptr.{slot_named, shown_by, tag_of, KeepsOthers, KeepsShown};
@@ -220,10 +220,10 @@ impl<T: Item<T>> Owned<T> {
         ensures shown { IfOk result (λ r. (was : T) × (now : T) × S.owns_value s.old (right_of self.old) was ×
             FnOnceReturnsAtMut F.FnOnce f was r now × S.owns_value s.new (right_of self.new) now) }
         ensures exact { IsExact (S.seat s.old) → MatchResult result
-            (λ r. ¬ (IsGuarded (S.world s.old)) ×
+            (λ r. ¬ (AnyGuardOpen (S.world s.old)) ×
             ((was : T) × (now : T) × (value_at (S.world s.old) (slot_of self.old) ≡ Some was) × FnOnceReturnsAtMut F.FnOnce f was r now ×
             (S.world s.new ≡ with_value (S.world s.old) (slot_of self.old) now)))
-            (λ e. IsGuarded (S.world s.old) × (e.1 ≡ Refused.GuardOpen) × (S.world s.new ≡ S.world s.old)) }
+            (λ e. AnyGuardOpen (S.world s.old) × (e.1 ≡ Refused.GuardOpen) × (S.world s.new ≡ S.world s.old)) }
         ensures keeps { MatchResult result (λ _. KeepsOthers (slot_of self.old) (S.shows s.old) (S.shows s.new))
             (λ _. KeepsShown (S.shows s.old) (S.shows s.new)) }
     {
@@ -237,13 +237,13 @@ impl<T: Item<T>> Owned<T> {
         requires seated { IsSeated (S.seat s.old) }
         requires home { slots_home self ≡ (S.seat s.old).home.slots }
         ensures seat { S.seat s.new ≡ S.seat s.old }
-        ensures own { MatchResult result (λ _. GrowsOn (S.own s.old) (S.own s.new)) (λ _. S.own s.new ≡ S.own s.old) }
+        ensures own { MatchResult result (λ _. KeepsMoreWaiting (S.own s.old) (S.own s.new)) (λ _. S.own s.new ≡ S.own s.old) }
         ensures known { KnowsOn (S.known s.old) (S.known s.new) }
         ensures owned { IsExact (S.seat s.old) → standing_at (S.world s.old) (slot_of self) ≡ Some Standing.Owned }
         ensures back { IfErr result (λ e. (right_of e.0 ≡ right_of self) × (e.1 ≡ Refused.GuardOpen)) }
         ensures exact { IsExact (S.seat s.old) → MatchResult result
-            (λ _. ¬ (IsGuarded (S.world s.old)) × (S.world s.new ≡ dropped T.holds (S.world s.old) (S.seat s.old).place (slot_of self)))
-            (λ e. IsGuarded (S.world s.old) × (e.1 ≡ Refused.GuardOpen) × (S.world s.new ≡ S.world s.old)) }
+            (λ _. ¬ (AnyGuardOpen (S.world s.old)) × (S.world s.new ≡ dropped T.holds (S.world s.old) (S.seat s.old).place (slot_of self)))
+            (λ e. AnyGuardOpen (S.world s.old) × (e.1 ≡ Refused.GuardOpen) × (S.world s.new ≡ S.world s.old)) }
         ensures keeps { MatchResult result (λ _. KeepsOthers (slot_of self) (S.shows s.old) (S.shows s.new))
             (λ _. KeepsShown (S.shows s.old) (S.shows s.new)) }
     {

@@ -1,14 +1,14 @@
 ghost use Rattle.std.specs.Prelude.{ℕ, ◌≡◌, ◌≢◌, ◌↔◌, IfErr, IfOk, IsTrue, MatchResult, Some, if◌then◌else◌};
-ghost use Rattle.sdd_space.specs.World.{World, IsGuarded, standing_at};
+ghost use Rattle.sdd_space.specs.World.{World, AnyGuardOpen, standing_at};
 ghost use Rattle.sdd_space.specs.CallerId.{IsSeated, IsExact};
 ghost use Rattle.sdd_space.specs.Refusals.{IsRefusedBy};
 ghost use Rattle.sdd_space.specs.KnownEpochs.{KnowsOn};
 ghost use Rattle.sdd_space.specs.Undisturbed.{Undisturbed, Unmoved};
-ghost use Rattle.sdd_space.specs.Own.{IsCollected};
+ghost use Rattle.sdd_space.specs.ParticipantChanges.{IsCollected};
 ghost use Rattle.sdd_space.specs.Ptr.{KeepsShown};
 ghost use Rattle.sdd_space.specs.Guard.{reader_of};
 ghost use Rattle.sdd_space.specs.Out.{IsNullCell};
-ghost use Rattle.sdd_space.specs.Steps.{pointing};
+ghost use Rattle.sdd_space.specs.WorldChanges.{pointing};
 ghost use Rattle.sdd_space.specs.Collecting.{collected, owner_collected, collector_closed};
 ghost use Rattle.sdd_space.specs.Collector.{collector_of, cells_home};
 ghost use Rattle.sdd_space.specs.Owned as owned;
@@ -136,9 +136,9 @@ impl<T: Item<T>> PrivateCollector<T> {
         ensures known { KnowsOn (S.known s.old) (S.known s.new) }
         ensures back { IfErr result (λ e. (e.0 ≡ self) × (e.1 ≡ Refused.GuardOpen)) }
         ensures exact { IsExact (S.seat s.old) → MatchResult result
-            (λ _. ¬ (IsGuarded (S.world s.old)) × IsNullCell (S.world s.old) (collector_of self) ×
+            (λ _. ¬ (AnyGuardOpen (S.world s.old)) × IsNullCell (S.world s.old) (collector_of self) ×
             (S.world s.new ≡ collector_closed T.holds (S.world s.old) (S.seat s.old).place (collector_of self)))
-            (λ e. IsGuarded (S.world s.old) × (e.1 ≡ Refused.GuardOpen) × (S.world s.new ≡ S.world s.old)) }
+            (λ e. AnyGuardOpen (S.world s.old) × (e.1 ≡ Refused.GuardOpen) × (S.world s.new ≡ S.world s.old)) }
         ensures others { (k : ℕ) (value : T) →
             (IsExact (S.seat s.old) → standing_at (S.world s.old) k ≢ Some (Standing.Private (collector_of self))) → S.shows s.old k value →
             S.shows s.new k value }

@@ -184,7 +184,7 @@ impl<'g, T: Item<T>> Ptr<'g, T> {
     ghost use Rattle.sdd_space.specs.CallerId.{IsSeated, IsExact};
     ghost use Rattle.sdd_space.specs.Refusals.{IsRefusedBy};
     ghost use Rattle.sdd_space.specs.Undisturbed.{Undisturbed};
-    ghost use Rattle.sdd_space.specs.Steps.{with_standing};
+    ghost use Rattle.sdd_space.specs.WorldChanges.{with_standing};
     ghost use Rattle.sdd_space.specs.Shared.{IsOfSlots, right_of, slot_of};
     ghost use Rattle.sdd_space.specs.Ptr.{IsNull, shown_by, slot_named};
 

@@ -178,7 +178,7 @@ impl<T: Item<T>> RawPtr<T> {
     ghost use Rattle.sdd_space.specs.Undisturbed.{Undisturbed};
     ghost use Rattle.sdd_space.specs.Guard.{reader_of};
     ghost use Rattle.sdd_space.specs.RawPtr.{slot_named, cell_seen};
-    ghost use Rattle.sdd_space.specs.Ptr.{IsShown};
+    ghost use Rattle.sdd_space.specs.Ptr.{PtrIsShown};
     ghost use Rattle.sdd_space.specs.Ptr as guarded;
 
     /// A pointer to the item, with the same tag, where it is out as raw; it shows its value for as long as the guard is borrowed, whatever becomes of the
@@ -188,7 +188,7 @@ impl<T: Item<T>> RawPtr<T> {
         requires reader { reader_of guard.now ≡ (S.seat s.old).reader }
         ensures undisturbed { Undisturbed S.seat S.own S.known S.shows s.old s.new }
         ensures same { IfSome result (λ ptr. guarded.cell_seen ptr ≡ cell_seen self) }
-        ensures shown { IfSome result (λ ptr. IsShown (S.shows s.new) ptr) }
+        ensures shown { IfSome result (λ ptr. PtrIsShown (S.shows s.new) ptr) }
         ensures exact { IsExact (S.seat s.old) →
             (IsSome result ↔ IfSome (slot_named self) (λ slot. standing_at (S.world s.old) slot ≡ Some Raw)) × (S.world s.new ≡ S.world s.old) }
     {

@@ -2,13 +2,13 @@ ghost use Rattle.std.specs.Fn.{FnOnceReturnsAtMut};
 ghost use Rattle.std.specs.Prelude.{ℕ, ◌≡◌, ◌+◌, ◌^◌, ◌<◌, ◌↔◌, ◌⊎◌, ◌-◌, IfErr, IfOk, IfSome, IsSome, IsTrue, MatchBool, MatchOption, MatchResult, Some, None, option_map, if◌then◌else◌};
 ghost use Rattle.sdd_rights.specs.Right.{kind_of};
 ghost use Rattle.sdd_space.specs.OwnerOrCell.{AreOf};
-ghost use Rattle.sdd_space.specs.World.{World, IsGuarded, standing_at, value_at};
+ghost use Rattle.sdd_space.specs.World.{World, AnyGuardOpen, standing_at, value_at};
 ghost use Rattle.sdd_space.specs.CallerId.{IsSeated, IsExact, IsLone};
 ghost use Rattle.sdd_space.specs.Refusals.{IsRefusedBy};
 ghost use Rattle.sdd_space.specs.KnownEpochs.{KnowsOn};
 ghost use Rattle.sdd_space.specs.Undisturbed.{Undisturbed, Unmoved};
-ghost use Rattle.sdd_space.specs.Own.{GrowsOn};
-ghost use Rattle.sdd_space.specs.Steps.{made_shared, with_standing, with_value, dropped, owner_given};
+ghost use Rattle.sdd_space.specs.ParticipantChanges.{KeepsMoreWaiting};
+ghost use Rattle.sdd_space.specs.WorldChanges.{made_shared, with_standing, with_value, dropped, owner_given};
 ghost use Rattle.sdd_space.specs.Shared.{right_of, slot_of, slots_home};
 ghost use Rattle.sdd_core.specs.declared.tag.Tag.TheVariants.{None as no_tag};
 ghost use Rattle.sdd_space.specs.Ptr.{slot_named, shown_by, tag_of, KeepsOthers, KeepsShown};
@@ -265,10 +265,10 @@ impl<T: Item<T>> Shared<T> {
         ensures shown { IfOk result (λ r. (was : T) × (now : T) × S.owns_value s.old (right_of self.old) was ×
             FnOnceReturnsAtMut F.FnOnce f was r now × S.owns_value s.new (right_of self.new) now) }
         ensures exact { IsExact (S.seat s.old) → (owners : ℕ) × IsSharedBy owners (standing_at (S.world s.old) (slot_of self.old)) × MatchResult result
-            (λ r. (owners ≡ 1) × ¬ (IsGuarded (S.world s.old)) ×
+            (λ r. (owners ≡ 1) × ¬ (AnyGuardOpen (S.world s.old)) ×
             ((was : T) × (now : T) × (value_at (S.world s.old) (slot_of self.old) ≡ Some was) × FnOnceReturnsAtMut F.FnOnce f was r now ×
             (S.world s.new ≡ with_value (S.world s.old) (slot_of self.old) now)))
-            (λ e. ((1 < owners) × (e.1 ≡ Refused.NotAlone) ⊎ (owners ≡ 1) × IsGuarded (S.world s.old) × (e.1 ≡ Refused.GuardOpen)) ×
+            (λ e. ((1 < owners) × (e.1 ≡ Refused.NotAlone) ⊎ (owners ≡ 1) × AnyGuardOpen (S.world s.old) × (e.1 ≡ Refused.GuardOpen)) ×
             (S.world s.new ≡ S.world s.old)) }
         ensures keeps { MatchResult result (λ _. KeepsOthers (slot_of self.old) (S.shows s.old) (S.shows s.new))
             (λ _. KeepsShown (S.shows s.old) (S.shows s.new)) }
@@ -285,14 +285,14 @@ impl<T: Item<T>> Shared<T> {
         requires seated { IsSeated (S.seat s.old) }
         requires home { slots_home self ≡ (S.seat s.old).home.slots }
         ensures seat { S.seat s.new ≡ S.seat s.old }
-        ensures own { MatchResult result (λ _. GrowsOn (S.own s.old) (S.own s.new)) (λ _. S.own s.new ≡ S.own s.old) }
+        ensures own { MatchResult result (λ _. KeepsMoreWaiting (S.own s.old) (S.own s.new)) (λ _. S.own s.new ≡ S.own s.old) }
         ensures known { KnowsOn (S.known s.old) (S.known s.new) }
         ensures back { IfErr result (λ e. (right_of e.0 ≡ right_of self) × IsRefusedBy (S.seat s.old) Refused.GuardOpen e.1) }
         ensures exact { IsExact (S.seat s.old) → (owners : ℕ) × IsSharedBy owners (standing_at (S.world s.old) (slot_of self)) × MatchResult result
             (λ last. MatchBool last
-            ((owners ≡ 1) × ¬ (IsGuarded (S.world s.old)) × (S.world s.new ≡ dropped T.holds (S.world s.old) (S.seat s.old).place (slot_of self)))
+            ((owners ≡ 1) × ¬ (AnyGuardOpen (S.world s.old)) × (S.world s.new ≡ dropped T.holds (S.world s.old) (S.seat s.old).place (slot_of self)))
             ((1 < owners) × (S.world s.new ≡ with_standing (S.world s.old) (slot_of self) (Standing.Shared (owners - 1)))))
-            (λ e. (owners ≡ 1) × IsGuarded (S.world s.old) × (e.1 ≡ Refused.GuardOpen) × (S.world s.new ≡ S.world s.old)) }
+            (λ e. (owners ≡ 1) × AnyGuardOpen (S.world s.old) × (e.1 ≡ Refused.GuardOpen) × (S.world s.new ≡ S.world s.old)) }
         ensures others { KeepsOthers (slot_of self) (S.shows s.old) (S.shows s.new) }
         ensures keeps { MatchResult result (λ last. ¬ (IsTrue last) → KeepsShown (S.shows s.old) (S.shows s.new))
             (λ _. KeepsShown (S.shows s.old) (S.shows s.new)) }

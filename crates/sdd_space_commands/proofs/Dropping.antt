@@ -5,8 +5,8 @@ use Rattle.sdd_participants.specs.declared.standing.Standing.{Standing}
 use Rattle.sdd_participants.specs.declared.standing.Standing.TheVariants.{Shared}
 use Rattle.sdd_standings.specs.Slots.{IsSharedBy}
 use Rattle.sdd_space.specs.OwnerOrCell as holding
-use Rattle.sdd_space.specs.World.{World, IsGuarded, standing_at}
-use Rattle.sdd_space.specs.Steps.{dropped, with_standing}
+use Rattle.sdd_space.specs.World.{World, AnyGuardOpen, standing_at}
+use Rattle.sdd_space.specs.WorldChanges.{dropped, with_standing}
 use Rattle.sdd_rights.specs.Units as token
 use Rattle.sdd_script_text.specs.declared.answer.Reply.TheVariants as reply
 use Rattle.sdd_script_model.specs.declared.val.Val.{Val}
@@ -14,7 +14,7 @@ use Rattle.sdd_script_model.specs.Val.{holdings_of}
 use Rattle.sdd_script_model.specs.InPlace.{Drops}
 
 pub drops-shared : (w new : World Val) (p k owners : ℕ) (home : token.GhostName) (last : Bool) → IsSharedBy owners (standing_at w k)
-    → MatchBool last ((owners ≡ 1) × ¬ (IsGuarded w) × (new ≡ dropped holdings_of w p k)) ((1 < owners) × (new ≡ with_standing w k (Shared (owners - 1))))
+    → MatchBool last ((owners ≡ 1) × ¬ (AnyGuardOpen w) × (new ≡ dropped holdings_of w p k)) ((1 < owners) × (new ≡ with_standing w k (Shared (owners - 1))))
     → Drops w p (holding.shared k home) (reply.Truth last) new
 drops-shared w new p k owners home true is went = (is.shared ∙ ap (λ (n : ℕ). Some (Shared n)) went.0, went.1, went.2)
 drops-shared w new p k owners home false is went = (owners, is, went.0, went.1)

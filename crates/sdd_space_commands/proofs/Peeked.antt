@@ -4,7 +4,7 @@ use Rattle.std.proofs.lemmas.List.{set-set, set-get_or}
 use Rattle.sdd_core.specs.declared.tag.Tag.TheVariants.{None as no_tag}
 use Rattle.sdd_participants.specs.Slab.{Entries, entry_at}
 use Rattle.sdd_participants.specs.declared.standing.CellContents.{CellContents}
-use Rattle.sdd_space.specs.Steps.{with_cell, nulled, held_in}
+use Rattle.sdd_space.specs.WorldChanges.{with_cell, nulled, held_in}
 use Rattle.sdd_space.specs.World.{World}
 use Rattle.sdd_script_model.proofs.Entry.{inside, is-there, at-same}
 

@@ -8,8 +8,8 @@ ghost use Rattle.sdd_space.specs.Collector.{collector_of, cells_home};
 ghost use Rattle.sdd_space.specs.Guard.{reader_of};
 ghost use Rattle.sdd_space.specs.OwnerOrCell.{IsOf};
 ghost use Rattle.sdd_space.specs.Out.{IsNullCell};
-ghost use Rattle.sdd_space.specs.Steps.{pointing};
-ghost use Rattle.sdd_space.specs.World.{IsGuarded};
+ghost use Rattle.sdd_space.specs.WorldChanges.{pointing};
+ghost use Rattle.sdd_space.specs.World.{AnyGuardOpen};
 ghost use Rattle.sdd_script_model.specs.declared.val.Val.{Val};
 ghost use Rattle.sdd_script_model.specs.Collecting.{Collects};
 ghost use Rattle.sdd_script_model.specs.Val.{holdings_of};
@@ -92,9 +92,9 @@ impl CellCommand for CloseCollector {
 
     ghost does = { λ step _ place before result after. (IfErr result (λ e. e.0 ≡ step.collector))
         × MatchResult result
-        (λ _. ¬ (IsGuarded before) × IsNullCell before (collector_of step.collector)
+        (λ _. ¬ (AnyGuardOpen before) × IsNullCell before (collector_of step.collector)
         × (after ≡ collector_closed holdings_of before place (collector_of step.collector)))
-        (λ e. IsGuarded before × (e.1 ≡ refused.GuardOpen) × (after ≡ before)) };
+        (λ e. AnyGuardOpen before × (e.1 ≡ refused.GuardOpen) × (after ≡ before)) };
 
     fn done<S: Items<Val> + SharedItems<Val> + Cells<Val> + RawCells<Val> + Collectors<Val>>(
         self,

@@ -6,7 +6,7 @@ ghost use Rattle.sdd_participants.specs.declared.standing.CellContents.{CellCont
 ghost use Rattle.sdd_standings.specs.Slots.{IsSharedBy};
 ghost use Rattle.sdd_space.specs.OwnerOrCell.{IsOf};
 ghost use Rattle.sdd_space.specs.Ptr.{cell_seen, slot_named};
-ghost use Rattle.sdd_space.specs.Steps.{with_cell, with_standing, without_cell};
+ghost use Rattle.sdd_space.specs.WorldChanges.{with_cell, with_standing, without_cell};
 ghost use Rattle.sdd_space.specs.World.{standing_at};
 ghost use Rattle.sdd_space.specs.Guard.{reader_of};
 ghost use Rattle.sdd_script_model.specs.declared.val.Val.{Val};

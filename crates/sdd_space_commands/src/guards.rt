@@ -6,7 +6,7 @@ ghost use Rattle.sdd_participants.specs.EpochState.{has_garbage};
 ghost use Rattle.sdd_participants.specs.Slab.{IsEmptyAt, IsFull};
 ghost use Rattle.sdd_space.specs.Guard.{reader_of};
 ghost use Rattle.sdd_space.specs.World.{place_at};
-ghost use Rattle.sdd_space.specs.Steps.{closed, deferred, stirred, accelerated};
+ghost use Rattle.sdd_space.specs.WorldChanges.{closed, deferred, stirred, accelerated};
 ghost use Rattle.sdd_script_model.specs.declared.val.Val.{Val};
 
 use crate::step::SpaceCommand;

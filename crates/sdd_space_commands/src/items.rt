@@ -1,7 +1,7 @@
 //! How items are made.
 ghost use Rattle.std.specs.Prelude.{◌≡◌, ◌<◌, ℕ};
 ghost use Rattle.sdd_participants.specs.Slab.{IsEmptyAt, IsFull};
-ghost use Rattle.sdd_space.specs.Steps.{made_as, nulled};
+ghost use Rattle.sdd_space.specs.WorldChanges.{made_as, nulled};
 ghost use Rattle.sdd_space.specs.OwnerOrCell.{AreOf};
 ghost use Rattle.sdd_script_model.specs.declared.val.Val.{Val};
 ghost use Rattle.sdd_script_model.specs.Val.{body_of, owner_in, link_of, link_home};

@@ -4,7 +4,7 @@ ghost use Rattle.sdd_space.specs.Guard.{reader_of};
 ghost use Rattle.sdd_space.specs.OwnerOrCell.{IsOf};
 ghost use Rattle.sdd_space.specs.InPlace.{MayInPlace, RefusedInPlace};
 ghost use Rattle.sdd_space.specs.Owned.{slot_of, slots_home};
-ghost use Rattle.sdd_space.specs.Steps.{with_standing};
+ghost use Rattle.sdd_space.specs.WorldChanges.{with_standing};
 ghost use Rattle.sdd_space.specs.World.{standing_at, value_at};
 ghost use Rattle.sdd_script_model.specs.InPlace.{Puts, Drops, RefusesDrop};
 ghost use Rattle.sdd_script_model.specs.Val.{Renumbers};

@@ -53,16 +53,16 @@ abbrev pub MayHold : GhostName → StandingKind → Option Right → Type 0
 MayHold slots k right = IfSome right (λ r. (home_of r ≡ slots) × (kind_of r ≡ k))
 
 -- what is kept of a cell's number, and the right that the cell keeps, fit what the cell holds: all in it is of the cell's kind
-abbrev pub Fits : GhostName → Kept → Option CellContents → Option Right → Type 0
-Fits slots kept None right = (kept ≡ whole kind.Free) × (right ≡ None)
-Fits slots kept (Some cell) right = (kept ≡ granted kept.kind) × (slot_held right ≡ cell.held) × MayHold slots kept.kind right
+abbrev pub CellMatches : GhostName → Kept → Option CellContents → Option Right → Type 0
+CellMatches slots kept None right = (kept ≡ whole kind.Free) × (right ≡ None)
+CellMatches slots kept (Some cell) right = (kept ≡ granted kept.kind) × (slot_held right ≡ cell.held) × MayHold slots kept.kind right
 
 abbrev pub right_at : List (Option Right) → ℕ → Option Right
 right_at rights k = slice_index_or rights k None
 
 -- each number of the home is kept as its cell stands, with the right to what it holds
-pub record AreKept (home slots : GhostName) (kept : List Kept) (cells : Entries CellContents) (rights : List (Option Right)) : Type 0 where
+pub record CellsMatch (home slots : GhostName) (kept : List Kept) (cells : Entries CellContents) (rights : List (Option Right)) : Type 0 where
   pub sized : length cells ≡ home.size
   pub kept_rowed : length kept ≡ home.size
   pub rowed : length rights ≡ home.size
-  pub each : (k : ℕ) → Fits slots (slice_index_or kept k (whole kind.Free)) (entry_at cells k) (right_at rights k)
+  pub each : (k : ℕ) → CellMatches slots (slice_index_or kept k (whole kind.Free)) (entry_at cells k) (right_at rights k)

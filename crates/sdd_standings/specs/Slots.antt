@@ -116,7 +116,7 @@ abbrev pub IsBounded : Option Standing → Type 0
 IsBounded standing = (owners : ℕ) → standing ≡ Some (Shared owners) → IsSharedBy owners standing
 
 -- each number of the home is kept as it stands, and a value is exactly where a slot is not free
-pub record AreKept {T : Type 0} (home : GhostName) (kept : List Kept) (standings : Entries Standing) (values : List (Option T)) : Type 0 where
+pub record SlotsMatch {T : Type 0} (home : GhostName) (kept : List Kept) (standings : Entries Standing) (values : List (Option T)) : Type 0 where
   pub sized : length standings ≡ home.size
   pub told : kept ≡ map kept_of standings
   pub filled : map is_some values ≡ map is_some standings

@@ -6,7 +6,7 @@ ghost use Rattle.sdd_participants.specs.declared.standing.CellContents.{CellCont
 ghost use Rattle.sdd_space.specs.Guard.{reader_of};
 ghost use Rattle.sdd_space.specs.OwnerOrCell.{IsOf};
 ghost use Rattle.sdd_space.specs.CallerId.{reader_at};
-ghost use Rattle.sdd_space.specs.Steps.{cell_closed, held_in, with_cell};
+ghost use Rattle.sdd_space.specs.WorldChanges.{cell_closed, held_in, with_cell};
 ghost use Rattle.sdd_space.specs.World.{World, IsPlaceOf};
 ghost use Rattle.sdd_world.specs.Place.{index_of};
 ghost use Rattle.sdd_script_model.specs.declared.val.Val.{Val};

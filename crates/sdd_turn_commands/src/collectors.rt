@@ -8,8 +8,8 @@ ghost use Rattle.sdd_space.specs.Guard.{reader_of};
 ghost use Rattle.sdd_space.specs.OwnerOrCell.{IsOf};
 ghost use Rattle.sdd_space.specs.Out.{IsNullCell};
 ghost use Rattle.sdd_space.specs.CallerId.{reader_at};
-ghost use Rattle.sdd_space.specs.Steps.{pointing};
-ghost use Rattle.sdd_space.specs.World.{World, IsGuarded, IsPlaceOf};
+ghost use Rattle.sdd_space.specs.WorldChanges.{pointing};
+ghost use Rattle.sdd_space.specs.World.{World, AnyGuardOpen, IsPlaceOf};
 ghost use Rattle.sdd_world.specs.Place.{index_of};
 ghost use Rattle.sdd_script_model.specs.declared.val.Val.{Val};
 ghost use Rattle.sdd_script_model.specs.Collecting.{Collects};
@@ -71,9 +71,9 @@ pub fn close_at(
     requires collector { cells_home collector ≡ world.old.home.cells }
     ensures back { IfErr result (λ e. e.0 ≡ collector) }
     ensures closed { MatchResult result
-        (λ _. ¬ (IsGuarded world.old) × IsNullCell world.old (collector_of collector)
+        (λ _. ¬ (AnyGuardOpen world.old) × IsNullCell world.old (collector_of collector)
         × (world.new ≡ collector_closed holdings_of world.old (index_of place.now) (collector_of collector)))
-        (λ e. IsGuarded world.old × (e.1 ≡ Refused.GuardOpen) × (world.new ≡ world.old)) }
+        (λ e. AnyGuardOpen world.old × (e.1 ≡ Refused.GuardOpen) × (world.new ≡ world.old)) }
 {
     cell_step_at(world, place, CloseCollector { collector })
 }

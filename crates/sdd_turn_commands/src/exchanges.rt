@@ -6,8 +6,8 @@ ghost use Rattle.sdd_participants.specs.declared.standing.CellContents.{CellCont
 ghost use Rattle.sdd_standings.specs.Slots.{IsSharedBy};
 ghost use Rattle.sdd_space.specs.OwnerOrCell.{IsOf};
 ghost use Rattle.sdd_space.specs.Ptr.{cell_seen, slot_named};
-ghost use Rattle.sdd_space.specs.Steps.{with_cell, with_standing, without_cell};
-ghost use Rattle.sdd_space.specs.Under.{Stays};
+ghost use Rattle.sdd_space.specs.WorldChanges.{with_cell, with_standing, without_cell};
+ghost use Rattle.sdd_space.specs.UnderGuards.{CannotGo};
 ghost use Rattle.sdd_space.specs.World.{World, IsPlaceOf, standing_at};
 ghost use Rattle.sdd_space.specs.Guard.{reader_of};
 ghost use Rattle.sdd_space.specs.CallerId.{reader_at};
@@ -38,7 +38,7 @@ fn ptr_compared<'g>(
 ) -> Ptr<'g, Val>
     requires place { IsPlaceOf world.old (index_of place.now) }
     requires reader { reader_of guard.now ≡ reader_at world.old (index_of place.now) }
-    requires stays { IfSome slot (Stays world.old (index_of place.now)) }
+    requires stays { IfSome slot (CannotGo world.old (index_of place.now)) }
     ensures seen { cell_seen result ≡ record { held = slot; tag = tag } }
     ensures world { world.new ≡ world.old }
 {
@@ -79,7 +79,7 @@ pub fn exchange_at(
 ) -> Result<CellOwner, (CellOwner, CellContents)>
     requires place { IsPlaceOf world.old (index_of place.now) }
     requires reader { reader_of guard.now ≡ reader_at world.old (index_of place.now) }
-    requires stays { IfSome was.held (Stays world.old (index_of place.now)) }
+    requires stays { IfSome was.held (CannotGo world.old (index_of place.now)) }
     requires home { IsOf world.old.home (cell_holding cell.now) }
     requires of_kind { filling_kind next ≡ cell_kind cell.now }
     requires owner { IfSome (filling_holding next) (IsOf world.old.home) }

@@ -6,7 +6,7 @@ ghost use Rattle.sdd_participants.specs.Slab.{IsEmptyAt, IsFull};
 ghost use Rattle.sdd_space.specs.Guard.{reader_of};
 ghost use Rattle.sdd_space.specs.CallerId.{reader_at};
 ghost use Rattle.sdd_space.specs.World.{World, IsPlaceOf, place_at};
-ghost use Rattle.sdd_space.specs.Steps.{opened, closed, stirred, accelerated, deferred};
+ghost use Rattle.sdd_space.specs.WorldChanges.{opened, closed, stirred, accelerated, deferred};
 ghost use Rattle.sdd_world.specs.Place.{index_of};
 ghost use Rattle.sdd_script_model.specs.declared.val.Val.{Val};
 ghost use Rattle.sdd_script_model.specs.Val.{holdings_of};

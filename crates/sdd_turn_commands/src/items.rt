@@ -1,12 +1,12 @@
 //! Items, in a turn at a world.
 ghost use Rattle.std.specs.Prelude.{◌≡◌, ◌<◌, ℕ, Some};
 ghost use Rattle.sdd_participants.specs.Slab.{IsEmptyAt, IsFull};
-ghost use Rattle.sdd_space.specs.Steps.{made_as, nulled};
+ghost use Rattle.sdd_space.specs.WorldChanges.{made_as, nulled};
 ghost use Rattle.sdd_space.specs.World.{World, IsPlaceOf, value_at};
 ghost use Rattle.sdd_space.specs.OwnerOrCell.{AreOf};
 ghost use Rattle.sdd_space.specs.Guard.{reader_of};
 ghost use Rattle.sdd_space.specs.CallerId.{reader_at};
-ghost use Rattle.sdd_space.specs.Under.{Stays};
+ghost use Rattle.sdd_space.specs.UnderGuards.{CannotGo};
 ghost use Rattle.sdd_world.specs.Place.{index_of};
 ghost use Rattle.sdd_script_model.specs.declared.val.Val.{Val};
 ghost use Rattle.sdd_script_model.specs.Val.{body_of, owner_in, link_of, link_home};
@@ -49,7 +49,7 @@ pub fn value_shown<'g>(
 ) -> &'g Val
     requires place { IsPlaceOf world.old (index_of place.now) }
     requires reader { reader_of guard.now ≡ reader_at world.old (index_of place.now) }
-    requires stays { Stays world.old (index_of place.now) slot }
+    requires stays { CannotGo world.old (index_of place.now) slot }
     ensures shown { value_at world.old slot ≡ Some result.now }
     ensures world { world.new ≡ world.old }
 {

@@ -2,12 +2,12 @@
 ghost use Rattle.std.specs.Prelude.{◌≡◌, ◌≢◌, ◌+◌, ◌^◌, ◌<◌, ℕ, IfOk, IsTrue, ◌↔◌, Some, MatchOption, MatchResult};
 ghost use Rattle.sdd_participants.specs.declared.standing.Standing.TheVariants.{Shared as shared_by};
 ghost use Rattle.sdd_standings.specs.Slots.{IsSharedBy};
-ghost use Rattle.sdd_space.specs.Steps.{retired, owner_given, with_standing};
+ghost use Rattle.sdd_space.specs.WorldChanges.{retired, owner_given, with_standing};
 ghost use Rattle.sdd_space.specs.World.{World, IsPlaceOf, standing_at};
 ghost use Rattle.sdd_space.specs.Owned.{slot_of, slots_home};
 ghost use Rattle.sdd_space.specs.Guard.{reader_of};
 ghost use Rattle.sdd_space.specs.CallerId.{reader_at};
-ghost use Rattle.sdd_space.specs.Under.{Stays};
+ghost use Rattle.sdd_space.specs.UnderGuards.{CannotGo};
 ghost use Rattle.sdd_world.specs.Place.{index_of};
 ghost use Rattle.sdd_script_model.specs.declared.val.Val.{Val};
 ghost use Rattle.sdd_space.specs.Shared as shared_owner;
@@ -67,7 +67,7 @@ pub fn share_item(
 ) -> Result<Option<Shared<Val>>, Refused>
     requires place { IsPlaceOf world.old (index_of place.now) }
     requires reader { reader_of guard.now ≡ reader_at world.old (index_of place.now) }
-    requires stays { Stays world.old (index_of place.now) slot }
+    requires stays { CannotGo world.old (index_of place.now) slot }
     ensures owner { IfOk result (λ o. MatchOption o (Unit {0})
         (λ owner. (shared_owner.slot_of owner ≡ slot) × (shared_owner.slots_home owner ≡ world.old.home.slots))) }
     ensures shared { MatchResult result

@@ -23,17 +23,17 @@ use Rattle.sdd_rights.specs.Units.{tokens}
 use Rattle.sdd_rights.proofs.Steps.{tokens_in, tokens_cut, tokens_glue}
 use Rattle.sdd_rights.proofs.Counting.{counts-whole}
 use Rattle.std.proofs.lemmas.Bool.{cases_eq as same-place}
-use Rattle.sdd_values.specs.Block.{AreHome, IsFreeFor, lasts_in, stake, stakes_of, rest, shared, held, spot}
+use Rattle.sdd_values.specs.Block.{AreUnlent, IsFreeFor, lasts_in, stake, stakes_of, rest, shared, held, spot}
 
-pub home_set : (stakes : List (Option ℕ)) (r : ℕ) → AreHome stakes → AreHome (slice_set stakes r None)
+pub home_set : (stakes : List (Option ℕ)) (r : ℕ) → AreUnlent stakes → AreUnlent (slice_set stakes r None)
 home_set [] r home = tt
 home_set (None ∷ stakes) zero home = home
 home_set (None ∷ stakes) (suc r) home = home_set stakes r home
 home_set (Some t ∷ stakes) r home = absurd home
 
-pub all_home : (stakes : List (Option ℕ)) → ((r : ℕ) → slice_index_or stakes r None ≡ None) → AreHome stakes
+pub all_home : (stakes : List (Option ℕ)) → ((r : ℕ) → slice_index_or stakes r None ≡ None) → AreUnlent stakes
 all_home [] home = tt
-all_home (s ∷ stakes) home = subst (λ (u : Option ℕ). AreHome (u ∷ stakes)) (sym (home 0)) (all_home stakes (λ r. home (suc r)))
+all_home (s ∷ stakes) home = subst (λ (u : Option ℕ). AreUnlent (u ∷ stakes)) (sym (home 0)) (all_home stakes (λ r. home (suc r)))
 
 module _ {M : Type 1} {𝓤 : Ura M} (𝓛 : Logic 𝓤) where
   open 𝓛 use {H, A}
@@ -92,7 +92,7 @@ module _ {M : Type 1} {𝓤 : Ura M} (𝓛 : Logic 𝓤) where
       use1 𝓛 (later (‵ (stakes_of a (slice_set stakes r (Some t))) ⊛ ‵ (lasts_in t a))) (lends_one a t r stakes (omega arith) free) $ await ! tt $ split ! $
       move ! (2 ∷ 0 ∷ []) $ fjoin ! $ now ! $ done !
 
-  gathers : (a k : ℕ) (stakes : List (Option ℕ)) → AreHome stakes → 0 < k → k + length stakes ≤ 2 ^ 63
+  gathers : (a k : ℕ) (stakes : List (Option ℕ)) → AreUnlent stakes → 0 < k → k + length stakes ≤ 2 ^ 63
       → ⟦ tokens a k ⟧ ∗ ⟦ stakes_of a stakes ⟧ ⊢ ⟦ tokens a (k + length stakes) ⟧
   gathers a k [] home some fits = qed 𝓛 (‵ (tokens a k) ∷ ‵ ftrue ∷ []) ∵ move ! (1 ∷ []) $ drop ! $
       rewrite ! 0 (λ (m : ℕ). ‵ (tokens a m)) (let e : k ≡ k + 0 = omega arith in e) refl $ done !
@@ -103,7 +103,7 @@ module _ {M : Type 1} {𝓤 : Ura M} (𝓛 : Logic 𝓤) where
       rewrite ! 0 (λ (m : ℕ). ‵ (tokens a m)) (let e : k + 1 + length stakes ≡ k + suc (length stakes) = omega arith in e) refl $ done !
   gathers a k (Some t ∷ stakes) home some fits = absurd home
 
-  deals : (a k : ℕ) (stakes : List (Option ℕ)) → AreHome stakes → 0 < k → k + length stakes ≤ 2 ^ 63
+  deals : (a k : ℕ) (stakes : List (Option ℕ)) → AreUnlent stakes → 0 < k → k + length stakes ≤ 2 ^ 63
       → ⟦ tokens a (k + length stakes) ⟧ ⊢ ⟦ tokens a k ⟧ ∗ ⟦ stakes_of a stakes ⟧
   deals a k [] home some fits = qed 𝓛 (‵ (tokens a (k + 0)) ∷ []) ∵ rewrite ! 0 (λ (m : ℕ). ‵ (tokens a m)) (let e : k + 0 ≡ k = omega arith in e) refl $
       nothing ! $ move ! (1 ∷ 0 ∷ []) $ done !
@@ -133,13 +133,13 @@ module _ {M : Type 1} {𝓤 : Ura M} (𝓛 : Logic 𝓤) where
       by_name (inl e) = subst (λ (m : ℕ). Both m ⊢ Other) (sym e) (via 𝓤 (never 𝓤) (𝓛.lfts.lft-dead (a ∷ []) full_share) (never_e 𝓤 Other))
       by_name (inr other) = guard_i 𝓤 (n ≡ a → ⊥) (Both n) other
 
-  pub all_tokens : (a : ℕ) (stakes : List (Option ℕ)) → AreHome stakes → length stakes < 2 ^ 63
+  pub all_tokens : (a : ℕ) (stakes : List (Option ℕ)) → AreUnlent stakes → length stakes < 2 ^ 63
       → ⟦ tokens a (rest stakes) ⟧ ∗ ⟦ stakes_of a stakes ⟧ ⊢ ⟦ flft (a ∷ []) full_share ⟧
   all_tokens a stakes home fits = qed 𝓛 (‵ (tokens a (rest stakes)) ∷ ‵ (stakes_of a stakes) ∷ []) ∵
       use2 𝓛 (‵ (tokens a (rest stakes + length stakes))) (gathers a (rest stakes) stakes home (omega arith) (omega arith)) $
       rewrite ! 0 (λ (m : ℕ). ‵ (tokens a m)) (let e : rest stakes + length stakes ≡ 2 ^ 63 = omega arith in e) refl $ by ! (tokens_whole a)
 
-  pub new_tokens : (a : ℕ) (stakes : List (Option ℕ)) → AreHome stakes → length stakes < 2 ^ 63
+  pub new_tokens : (a : ℕ) (stakes : List (Option ℕ)) → AreUnlent stakes → length stakes < 2 ^ 63
       → ⟦ flft (a ∷ []) full_share ⟧ ⊢ ⟦ tokens a (rest stakes) ⟧ ∗ ⟦ stakes_of a stakes ⟧
   new_tokens a stakes home fits = qed 𝓛 (‵ (flft (a ∷ []) full_share) ∷ []) ∵ use1 𝓛 (‵ (tokens a (2 ^ 63)))
       (tokens_in 𝓛 a (2 ^ 63) full_share (Counts-all 63)) $
@@ -159,18 +159,18 @@ module _ {M : Type 1} {𝓤 : Ura M} (𝓛 : Logic 𝓤) where
     abbrev state : List (Option ℕ) → Option ℕ → Fml
     state stakes h = held R p x stakes h
 
-    ends : (stakes : List (Option ℕ)) → AreHome stakes → length stakes < 2 ^ 63 → (h : Option ℕ) → ⟦ state stakes h ⟧ ⊢ H.⇛ ⟦ Whole ⟧
+    ends : (stakes : List (Option ℕ)) → AreUnlent stakes → length stakes < 2 ^ 63 → (h : Option ℕ) → ⟦ state stakes h ⟧ ⊢ H.⇛ ⟦ Whole ⟧
     ends stakes home fits None = qed 𝓛 (‵ (state stakes None) ∷ []) ∵ updating ! $ fsplit ! $ now ! $ keep ! (0 ∷ []) $ done !
     ends stakes home fits (Some a) = qed 𝓛 (‵ (state stakes (Some a)) ∷ []) ∵ updating ! $ fsplit ! $ fsplit ! $ drop ! $ move ! (1 ∷ []) $ fsplit ! $
         use2 𝓛 (‵ (flft (a ∷ []) full_share)) (all_tokens a stakes home fits) $ lft_end ! tt $ lent_back ! tt $ now ! $ done !
 
-    pub to_plain : (stakes : List (Option ℕ)) → AreHome stakes → ⟦ spot R p x stakes ⟧ ⊢ H.⇛ (⟦ Whole ⟧ ∗ ⟦ fact (length stakes < 2 ^ 63) ⟧)
+    pub to_plain : (stakes : List (Option ℕ)) → AreUnlent stakes → ⟦ spot R p x stakes ⟧ ⊢ H.⇛ (⟦ Whole ⟧ ∗ ⟦ fact (length stakes < 2 ^ 63) ⟧)
     to_plain stakes home = qed 𝓛 (‵ (spot R p x stakes) ∷ []) ∵ updating ! $ fsplit ! $ move ! (1 ∷ []) $ fpick ! (λ fits. drop ! $ fpick ! (λ h.
         use1 𝓛 (later (‵ Whole)) (ends stakes home fits h) $ await ! tt $ nothing ! $ fpack ! (length stakes < 2 ^ 63) (λ _. ftrue) fits $
         move ! (1 ∷ 0 ∷ []) $ now ! $ done !))
 
-    pub from_plain : (stakes : List (Option ℕ)) → AreHome stakes → ⟦ Whole ⟧ ∗ ⟦ fact (length stakes < 2 ^ 63) ⟧ ⊢ ⟦ spot R p x stakes ⟧
-    from_plain stakes home = qed 𝓛 (‵ Whole ∷ ‵ (fact (length stakes < 2 ^ 63)) ∷ []) ∵ nothing ! $ fpack ! (AreHome stakes) (λ _. ftrue) home $
+    pub from_plain : (stakes : List (Option ℕ)) → AreUnlent stakes → ⟦ Whole ⟧ ∗ ⟦ fact (length stakes < 2 ^ 63) ⟧ ⊢ ⟦ spot R p x stakes ⟧
+    from_plain stakes home = qed 𝓛 (‵ Whole ∷ ‵ (fact (length stakes < 2 ^ 63)) ∷ []) ∵ nothing ! $ fpack ! (AreUnlent stakes) (λ _. ftrue) home $
         move ! (1 ∷ 0 ∷ []) $ fjoin ! $
         fpack ! (Option ℕ) (state stakes) None $ fjoin ! $ done !
 
@@ -179,7 +179,7 @@ module _ {M : Type 1} {𝓤 : Ura M} (𝓛 : Logic 𝓤) where
         → ⟦ state stakes h ⟧ ∗ ⟦ fdead (t ∷ []) ⟧ ⊢ H.⇛ ⟦ state (slice_set stakes r None) h ⟧
     settles_held t r stakes free None = qed 𝓛 (‵ (state stakes None) ∷ ‵ (fdead (t ∷ [])) ∷ []) ∵ updating ! $ fsplit ! $ move ! (1 ∷ []) $
         fpick ! (λ home. drop ! $
-        nothing ! $ fpack ! (AreHome (slice_set stakes r None)) (λ _. ftrue) (home_set stakes r home) $ move ! (1 ∷ 0 ∷ []) $ fjoin ! $ now ! $
+        nothing ! $ fpack ! (AreUnlent (slice_set stakes r None)) (λ _. ftrue) (home_set stakes r home) $ move ! (1 ∷ 0 ∷ []) $ fjoin ! $ now ! $
         keep ! (0 ∷ []) $ done !)
     settles_held t r stakes free (Some a) = let after : List (Option ℕ) = slice_set stakes r None in
         qed 𝓛 (‵ (state stakes (Some a)) ∷ ‵ (fdead (t ∷ [])) ∷ []) ∵ updating ! $ fsplit ! $ move ! (1 ∷ []) $ fsplit ! $ move ! (1 ∷ 3 ∷ []) $

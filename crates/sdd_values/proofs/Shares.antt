@@ -20,7 +20,7 @@ use Rattle.atomic_table.specs.Seated.{fact}
 use Rattle.sdd_witness.proofs.Kept.{kept_laws, Lends-kept}
 use Rattle.sdd_rights.specs.Units.{tokens}
 use Rattle.sdd_rights.proofs.Steps.{Lends-tokens}
-use Rattle.sdd_values.specs.Block.{AreHome, shared, stakes_of, rest, held, spot, held_shares, spot_shares, spots, spots_shares}
+use Rattle.sdd_values.specs.Block.{AreUnlent, shared, stakes_of, rest, held, spot, held_shares, spot_shares, spots, spots_shares}
 
 -- ---- a value and its stakes
 module _ (R : RattleType) (L : RowLaws R) where
@@ -38,7 +38,7 @@ module _ (R : RattleType) (L : RowLaws R) where
 
 module _ {M : Type 1} {𝓤 : Ura M} (𝓛 : Logic 𝓤) (R : RattleType) (L : RowLaws R) (l : Lft) (s : Shares 𝓛 R l) where
   Lends-held : (p : Ptr) (x : R.Denot) (stakes : List (Option ℕ)) (h : Option ℕ) → Lends 𝓛 (held R p x stakes h) (held_shares R p x h) l
-  Lends-held p x stakes None = Lends-first 𝓛 (lies_at R full_share p x) (fact (AreHome stakes)) (lent_at R p x) l (Lends-lies 𝓛 R l p x (s x))
+  Lends-held p x stakes None = Lends-first 𝓛 (lies_at R full_share p x) (fact (AreUnlent stakes)) (lent_at R p x) l (Lends-lies 𝓛 R l p x (s x))
   Lends-held p x stakes (Some a) = let t : Lft → Fml = lent_at R p x in let lives : Lft → Fml = one (λ q. flft (a ∷ []) q) in
       Lends-both 𝓛 (shared R p x a) (fsep (tokens a (rest stakes)) (stakes_of a stakes)) (said (t (a ∷ []))) lives l
       (Lends-first 𝓛 (t (a ∷ [])) (flent (a ∷ []) (lies_at R full_share p x)) (said (t (a ∷ []))) l

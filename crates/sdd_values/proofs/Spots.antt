@@ -20,10 +20,10 @@ use denote.Moves.{moves_from}
 use denote.Steps.{nothing}
 use Rattle.core.proofs.slice.Lists.{any-default}
 use Rattle.atomic_table.specs.Seated.{fact}
-use Rattle.sdd_values.specs.Block.{AreHome, IsFreeFor, spot, held_shares, spot_shares, spots, spots_shares}
+use Rattle.sdd_values.specs.Block.{AreUnlent, IsFreeFor, spot, held_shares, spot_shares, spots, spots_shares}
 use Rattle.sdd_values.proofs.Rounds.{to_plain, from_plain, settles_spot}
 
-pub home_new : (k : ℕ) → AreHome (replicate k None)
+pub home_new : (k : ℕ) → AreUnlent (replicate k None)
 home_new zero = tt
 home_new (suc k) = home_new k
 
@@ -112,7 +112,7 @@ module _ {M : Type 1} {𝓤 : Ura M} (𝓛 : Logic 𝓤) (R : RattleType) (b : �
       use2 𝓛 (‵ (one_at o x s)) (from_plain 𝓛 R (block_ptr b o) x s (home_new k)) $ move ! (1 ∷ []) $
       use1 𝓛 (‵ (all_at (o + size) xs (replicate (length xs) s))) (lays_out k (o + size) xs small) $ move ! (1 ∷ 0 ∷ []) $ fjoin ! $ done !
 
-  pub comes_out : (o : ℕ) (xs : List X) (ss : List Stakes) → length ss ≡ length xs → All AreHome ss → ⟦ all_at o xs ss ⟧ ⊢ H.⇛ ⟦ cells (mem R) xs b o ⟧
+  pub comes_out : (o : ℕ) (xs : List X) (ss : List Stakes) → length ss ≡ length xs → All AreUnlent ss → ⟦ all_at o xs ss ⟧ ⊢ H.⇛ ⟦ cells (mem R) xs b o ⟧
   comes_out o [] ss long home = qed 𝓛 (‵ ftrue ∷ []) ∵ updating ! $ now ! $ done !
   comes_out o (x ∷ xs) [] long home = absurd (omega arith)
   comes_out o (x ∷ xs) (s ∷ ss) long home = qed 𝓛 (‵ (all_at o (x ∷ xs) (s ∷ ss)) ∷ []) ∵ updating ! $ fsplit ! $

@@ -4,7 +4,7 @@ use Rattle.std.specs.Prelude.{Option, None, Some, replicate, slice_index_or, sli
 use lib.ListN.{length-set, length-replicate}
 pub use Rattle.std.proofs.lemmas.List.{get_or-set_same as set-there, get_or-set_other as set-elsewhere}
 pub use Rattle.std.proofs.lemmas.Bool.{cases_eq as same-place}
-use Rattle.sdd_values.specs.Block.{stake_at, IsHome, IsFreeFor, AllLent, lent, settled, unlent}
+use Rattle.sdd_values.specs.Block.{stake_at, IsUnlent, IsFreeFor, AllLent, lent, settled, unlent}
 use Rattle.sdd_values.specs.LentValues.{AreStakes}
 
 abbrev IsFilled : {X : Type 0} → Option X → Type 0
@@ -36,7 +36,7 @@ row-settled r zero (s ∷ ss) = refl
 row-settled r (suc k) (s ∷ ss) = row-settled r k ss
 
 -- ---- stakes
-pub home-unlent : (n m at : ℕ) → IsHome (unlent n m) at
+pub home-unlent : (n m at : ℕ) → IsUnlent (unlent n m) at
 home-unlent n m at reader = by_row n at
   where
     row : ℕ → List (Option ℕ)
@@ -82,7 +82,7 @@ settled-elsewhere r ss k q other = ap (λ (s : List (Option ℕ)). slice_index_o
     ∙ set-elsewhere (slice_index_or ss k []) r q None None other
 
 -- what only one reader had is home once that reader's stakes are
-pub home-after : (r : ℕ) (ss : List (List (Option ℕ))) (k : ℕ) → ((q : ℕ) → (q ≡ r → ⊥) → stake_at ss k q ≡ None) → IsHome (settled r ss) k
+pub home-after : (r : ℕ) (ss : List (List (Option ℕ))) (k : ℕ) → ((q : ℕ) → (q ≡ r → ⊥) → stake_at ss k q ≡ None) → IsUnlent (settled r ss) k
 home-after r ss k others q = by_reader (same-place q r)
   where
     by_reader : (q ≡ r) ⊎ (q ≡ r → ⊥) → stake_at (settled r ss) k q ≡ None
@@ -128,7 +128,7 @@ lent-at at r t ss = by_row (set-at ss at row' []) (set-at row r (Some t) None)
 
 module _ (IsSo : ℕ → ℕ → ℕ → Type 0) (ss : List (List (Option ℕ))) (all : AllLent IsSo ss) where
   -- nothing of a value is lent where nothing may be
-  pub all-home : (at : ℕ) → ((r t : ℕ) → IsSo at r t → ⊥) → IsHome ss at
+  pub all-home : (at : ℕ) → ((r t : ℕ) → IsSo at r t → ⊥) → IsUnlent ss at
   all-home at never r = none-or (stake_at ss at r) (λ t e. never r t (all at r t e))
 
   -- a stake may be lent to a tenure where it can be lent to no other
@@ -169,18 +169,18 @@ module _ {T : Type 0} (values : List (Option T)) (ss : List (List (Option ℕ)))
     empty = λ k e. by_place k e (same-place k at);
   }
     where
-      by_place : (k : ℕ) → slice_index_or (slice_set values at (Some x)) k None ≡ None → (k ≡ at) ⊎ (k ≡ at → ⊥) → IsHome ss k
+      by_place : (k : ℕ) → slice_index_or (slice_set values at (Some x)) k None ≡ None → (k ≡ at) ⊎ (k ≡ at → ⊥) → IsUnlent ss k
       by_place k e (inl is) = are.empty k (ap (λ (j : ℕ). slice_index_or values j None) is ∙ empty)
       by_place k e (inr n) = are.empty k (sym (set-elsewhere values at k (Some x) None n) ∙ e)
 
-  pub are-taken : (at : ℕ) → IsHome ss at → AreStakes (slice_set values at None) ss m
+  pub are-taken : (at : ℕ) → IsUnlent ss at → AreStakes (slice_set values at None) ss m
   are-taken at home = record {
     each = λ k near. let long = length-set values at None in are.each k (omega (arith, long, near));
     empty = λ k e. by_place k e (same-place k at);
   }
     where
-      by_place : (k : ℕ) → slice_index_or (slice_set values at None) k None ≡ None → (k ≡ at) ⊎ (k ≡ at → ⊥) → IsHome ss k
-      by_place k e (inl is) = subst (λ (j : ℕ). IsHome ss j) (sym is) home
+      by_place : (k : ℕ) → slice_index_or (slice_set values at None) k None ≡ None → (k ≡ at) ⊎ (k ≡ at → ⊥) → IsUnlent ss k
+      by_place k e (inl is) = subst (λ (j : ℕ). IsUnlent ss j) (sym is) home
       by_place k e (inr n) = are.empty k (sym (set-elsewhere values at k None None n) ∙ e)
 
   row-lent : (at r t k : ℕ) → length (slice_index_or (lent at r t ss) k []) ≡ length (slice_index_or ss k [])

@@ -36,18 +36,18 @@ abbrev pub stakes_coded : Coded (List (List (Option ℕ)))
 stakes_coded = coded_list (coded_list stake_coded)
 
 -- all of a value's stakes are home
-abbrev pub AreHome : List (Option ℕ) → Type 0
-AreHome [] = Unit {0}
-AreHome (None ∷ stakes) = AreHome stakes
-AreHome (Some t ∷ stakes) = ⊥
+abbrev pub AreUnlent : List (Option ℕ) → Type 0
+AreUnlent [] = Unit {0}
+AreUnlent (None ∷ stakes) = AreUnlent stakes
+AreUnlent (Some t ∷ stakes) = ⊥
 
 -- the stake of a reader in a value
 abbrev pub stake_at : List (List (Option ℕ)) → ℕ → ℕ → Option ℕ
 stake_at stakes at reader = slice_index_or (slice_index_or stakes at []) reader None
 
 -- no stake of a value is lent
-abbrev pub IsHome : List (List (Option ℕ)) → ℕ → Type 0
-IsHome stakes at = (reader : ℕ) → stake_at stakes at reader ≡ None
+abbrev pub IsUnlent : List (List (Option ℕ)) → ℕ → Type 0
+IsUnlent stakes at = (reader : ℕ) → stake_at stakes at reader ≡ None
 
 -- a stake that may be lent to the tenure t, or is
 abbrev pub IsFreeFor : ℕ → Option ℕ → Type 0
@@ -98,7 +98,7 @@ module _ (R : RattleType) (p : Ptr) (x : R.Denot) where
 
   -- the value lies there plain, and no stake is lent; or it is shared for a round
   abbrev pub held : List (Option ℕ) → Option ℕ → Fml
-  held stakes None = fsep (lies_at R full_share p x) (fact (AreHome stakes))
+  held stakes None = fsep (lies_at R full_share p x) (fact (AreUnlent stakes))
   held stakes (Some a) = fsep (shared a) (fsep (tokens a (rest stakes)) (stakes_of a stakes))
 
   abbrev pub spot : List (Option ℕ) → Fml
@@ -124,11 +124,11 @@ module _ (R : RattleType) (b : ℕ) where
   spots_shares o (x ∷ xs) (s ∷ ss) = beside (spot_shares R (block_ptr b o) x) (spots_shares (o + (mem R).size) xs ss)
 
 -- where the block lies: its size is one of memory, and there are stakes for each value
-abbrev pub Fits : (R : RattleType) → Ptr → List R.Denot → List (List (Option ℕ)) → Type 0
-Fits R p xs ss = InBlock p × (length xs * (mem R).size < 2 ^ 63) × (length ss ≡ length xs)
+abbrev pub IsBlockAt : (R : RattleType) → Ptr → List R.Denot → List (List (Option ℕ)) → Type 0
+IsBlockAt R p xs ss = InBlock p × (length xs * (mem R).size < 2 ^ 63) × (length ss ≡ length xs)
 
 abbrev pub block_owns : (R : RattleType) → Ptr → List R.Denot → List (List (Option ℕ)) → Fml
-block_owns R p xs ss = fsep (fact (Fits R p xs ss)) (spots R (block_of p) (count_of p) xs ss)
+block_owns R p xs ss = fsep (fact (IsBlockAt R p xs ss)) (spots R (block_of p) (count_of p) xs ss)
 
 abbrev pub block_shares : (R : RattleType) → Ptr → List R.Denot → List (List (Option ℕ)) → Lft → Fml
-block_shares R p xs ss = beside (said (fact (Fits R p xs ss))) (spots_shares R (block_of p) (count_of p) xs ss)
+block_shares R p xs ss = beside (said (fact (IsBlockAt R p xs ss))) (spots_shares R (block_of p) (count_of p) xs ss)

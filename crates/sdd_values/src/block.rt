@@ -1,6 +1,6 @@
 //! Values side by side, each of which is lent to readers or not.
 ghost use Rattle.std.specs.Prelude.{◌≡◌, ◌<◌, ℕ, Option, List, [], length, slice_index_or};
-ghost use Rattle.sdd_values.specs.Block.{block_owns, block_shares, stakes_coded, IsHome, IsFreeFor, stake_at, lent, settled, unlent};
+ghost use Rattle.sdd_values.specs.Block.{block_owns, block_shares, stakes_coded, IsUnlent, IsFreeFor, stake_at, lent, settled, unlent};
 
 use crate::ended_section::EndedSection;
 use crate::raw_slice::RawSlice;
@@ -36,7 +36,7 @@ impl<T> Block<T> {
 
     /// The values, of which none is lent.
     pub(crate) fn into_strip(self) -> RawSlice<T>
-        requires { (at : ℕ) → IsHome self.stakes at }
+        requires { (at : ℕ) → IsUnlent self.stakes at }
         ensures place { result.ptr ≡ self.ptr }
         ensures values { result.items ≡ self.values }
     {

@@ -1,6 +1,6 @@
 //! How a space uses places and tenures: readers look at a value, and it is taken when nobody can look at it any more.
 ghost use Rattle.std.specs.Prelude.{◌≡◌, ◌≢◌, ◌<◌, ℕ, IsSome, Some, None, length, slice_set};
-ghost use Rattle.sdd_values.specs.Block.{IsHome, IsFreeFor, stake_at, lent};
+ghost use Rattle.sdd_values.specs.Block.{IsUnlent, IsFreeFor, stake_at, lent};
 ghost use Rattle.sdd_values.specs.LentValues.{value_at};
 ghost use Rattle.sdd_values.specs.ReadSections.{kept_at};
 
@@ -43,7 +43,7 @@ pub fn takes_after<T>(
     requires count { length tenures.old.kept ≡ tenures.old.home.size }
     requires filled { IsSome (value_at places.old at) }
     requires closed { (kept_at tenures.old reader).units ≡ WHOLE }
-    requires home { (k : ℕ) → IsHome places.old.stakes k }
+    requires home { (k : ℕ) → IsUnlent places.old.stakes k }
     ensures value { value_at places.old at ≡ Some result }
 {
     tenures.begin(reader);

@@ -3,7 +3,7 @@
 //! It shows how a space keeps that law in its invariant, and what the law gives: a look asks only for a guard of the space, and a value can be taken
 //! when nobody has a guard.
 ghost use Rattle.std.specs.Prelude.{◌≡◌, ◌≢◌, ◌-◌, ◌<◌, ℕ, IsSome, None, Some, length, slice_set};
-ghost use Rattle.sdd_values.specs.Block.{IsHome, stake_at};
+ghost use Rattle.sdd_values.specs.Block.{IsUnlent, stake_at};
 ghost use Rattle.sdd_values.specs.ReadSections.{kept_at};
 ghost use Rattle.sdd_values.specs.Hall.{value_in, kept_in};
 
@@ -33,7 +33,7 @@ impl<T> Hall<T> {
     pub fn new(places: LentValues<T>, tenures: ReadSections) -> Hall<T>
         requires readers { places.readers ≡ tenures.home.size }
         requires count { length tenures.kept ≡ tenures.home.size }
-        requires home { (at : ℕ) → IsHome places.stakes at }
+        requires home { (at : ℕ) → IsUnlent places.stakes at }
         requires whole { (reader : ℕ) → reader < tenures.home.size → (kept_at tenures reader).units ≡ WHOLE }
         ensures places { result.places ≡ places }
         ensures tenures { result.tenures ≡ tenures }

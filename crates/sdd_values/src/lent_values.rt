@@ -2,7 +2,7 @@
 ghost use Rattle.std.specs.Fn.{FnOnceReturnsAtMut};
 ghost use Rattle.std.specs.Prelude.{◌≡◌, ◌<◌, ℕ, IfOk, IsSome, None, Some, length, option_copied, replicate, slice_set};
 ghost use Rattle.core.specs.Mem.Slots.{slots_items, slots_ptr, slots_len, IsFull};
-ghost use Rattle.sdd_values.specs.Block.{IsHome, IsFreeFor, stake_at, lent, settled, unlent};
+ghost use Rattle.sdd_values.specs.Block.{IsUnlent, IsFreeFor, stake_at, lent, settled, unlent};
 ghost use Rattle.sdd_values.specs.LentValues.{value_at};
 
 use crate::block::Block;
@@ -121,7 +121,7 @@ impl<T> LentValues<T> {
     pub fn take(&mut self, at: usize) -> T
         requires inside { at < length self.old.values }
         requires filled { IsSome (value_at self.old at) }
-        requires home { IsHome self.old.stakes at }
+        requires home { IsUnlent self.old.stakes at }
         ensures value { value_at self.old at ≡ Some result }
         ensures taken { self.new ≡ record self.old { values = slice_set self.old.values at None } }
     {
@@ -158,7 +158,7 @@ impl<T> LentValues<T> {
     pub fn replace(&mut self, at: usize, value: T) -> T
         requires inside { at < length self.old.values }
         requires filled { IsSome (value_at self.old at) }
-        requires home { IsHome self.old.stakes at }
+        requires home { IsUnlent self.old.stakes at }
         ensures was { value_at self.old at ≡ Some result }
         ensures now { self.new ≡ record self.old { values = slice_set self.old.values at (Some value) } }
     {
@@ -172,7 +172,7 @@ impl<T> LentValues<T> {
     pub fn edit<R, F: FnOnce(&mut T) -> R>(&mut self, at: usize, f: F) -> R
         requires inside { at < length self.old.values }
         requires filled { IsSome (value_at self.old at) }
-        requires home { IsHome self.old.stakes at }
+        requires home { IsUnlent self.old.stakes at }
         requires callable { F.IsAlwaysCallable f }
         ensures { (was : T) × (now : T) × (value_at self.old at ≡ Some was) × FnOnceReturnsAtMut F.FnOnce f was result now ×
             (self.new ≡ record self.old { values = slice_set self.old.values at (Some now) }) }

@@ -13,10 +13,10 @@ use Rattle.sdd_views.specs.declared.View.{View}
 use Rattle.sdd_views.specs.declared.Sizes.{Sizes}
 use Rattle.sdd_word_invariant.specs.Words.{state_word, slot_word}
 use Rattle.sdd_word_invariant.specs.Codes.{codes, full}
-use Rattle.sdd_word_invariant.specs.Epoch.{HasPlace, EpochPart}
-use Rattle.sdd_word_invariant.specs.Steps.{Steps}
+use Rattle.sdd_word_invariant.specs.Epoch.{HasPlace, EpochInvariant}
+use Rattle.sdd_word_invariant.specs.EpochSteps.{Steps}
 use Rattle.sdd_word_invariant.specs.Barred.{IsNobodys, IsOver, IsBarred, AreBarred, AreQuiet, past, past_quiet, Bars, LooksForValue}
-use Rattle.sdd_word_invariant.specs.Parts.{epoch_of, Parts}
+use Rattle.sdd_word_invariant.specs.WordInvariant.{epoch_of, Parts}
 use Rattle.sdd_word_invariant.proofs.Frame.{Each, each_set}
 use Rattle.sdd_word_invariant.proofs.Codes.{sound}
 use Rattle.sdd_word_invariant.proofs.Epoch as epochs
@@ -49,7 +49,7 @@ abbrev pub NoneQuiet : List View → Type 0
 NoneQuiet = Each (λ v. v.places.quiet ≡ 0)
 
 -- as long as somebody has a place
-pub none_quiet : (sizes : Sizes) (ws : List ℕ) (vs : List View) → EpochPart sizes.participants ws (map epoch_of vs) → Each (AreBarred sizes ws) vs
+pub none_quiet : (sizes : Sizes) (ws : List ℕ) (vs : List View) → EpochInvariant sizes.participants ws (map epoch_of vs) → Each (AreBarred sizes ws) vs
     → Each (AreQuiet sizes ws) vs → (id : ℕ) (v : View) → get_elem? vs id ≡ some v → HasPlace v.epoch → NoneQuiet vs
 none_quiet sizes ws vs epochs ended quiet id v at live j u e = let f = epochs.each id v.epoch (at_map epoch_of vs id v at) in
     let is = f.state live in let few = f.states in let low = f.inside live in dite (dec_lt 0 u.places.quiet)

@@ -6,7 +6,7 @@ use prog.Atomic.{either}
 use Rattle.std.proofs.lemmas.Bool.{le-leb}
 use Rattle.std.proofs.lemmas.Bool.Decides.{leb_tells}
 use Rattle.sdd_word_invariant.specs.Sums.{is}
-use Rattle.sdd_word_invariant.specs.Codes.{IsSound, codes, shared_base, free_word, owned_word, waiting_word, private_word, emptied_word, unowned, kind_alive, kind_waiting, kind_full, kind_valued, kind_emptying, emptying, emptying_word, left_word, alive, waiting, full, valued, counted, waits_for, names}
+use Rattle.sdd_word_invariant.specs.Codes.{IsWordReading, codes, shared_base, free_word, owned_word, waiting_word, private_word, emptied_word, unowned, kind_alive, kind_waiting, kind_full, kind_valued, kind_emptying, emptying, emptying_word, left_word, alive, waiting, full, valued, counted, waits_for, names}
 
 lives : (q : ℕ) → 0 < kind_alive q → (kind_waiting q ≡ 0) × (kind_full q ≡ 1)
 lives q h = dite (ℕ_discrete q 1) (λ e. (ap kind_waiting e, ap kind_full e))
@@ -153,7 +153,7 @@ pub held_is : (alive 3 ≡ 1) × (counted 3 ≡ 0)
 unfolding alive counted
 held_is = (refl, refl)
 
-pub sound : IsSound codes
+pub sound : IsWordReading codes
 sound = record {
   lives = λ x h. ⊎_elim (λ (t : (leb shared_base x ≡ true) × (shared_base ≤ x)). let s = shared x t.1 in let s0 = s.0 in
       let l = some_left x (omega arith) in (l.1, l.2))

@@ -9,9 +9,9 @@ use prog.Atomic.{either}
 use Rattle.atomic_table.proofs.Lists.{set_here, set_else, exchanged, at_longer}
 use Rattle.sdd_views.specs.declared.EpochView.{EpochView}
 use Rattle.sdd_word_invariant.specs.Words.{global_word, lock_word, state_word, count_word, after_places}
-use Rattle.sdd_word_invariant.specs.Epoch.{HasPlace, IsClosed, IsOpen, Scans, IsLone, MatchesWords, Apart, EpochPart}
+use Rattle.sdd_word_invariant.specs.Epoch.{HasPlace, IsClosed, IsOpen, Scans, IsLone, MatchesWords, Apart, EpochInvariant}
 use Rattle.sdd_views.specs.Views.{nobody}
-use Rattle.sdd_word_invariant.specs.Steps.{Steps, Rises, Keeps, registered, knowing, counted, published, closed, ended, scanning, passed_by, unlocked, IsNext, Registers, Reads, Counts, Publishes, Closes, Ends, Locks, LooksAtLock, LooksAtState, LooksAtCount, Advances, Unlocks}
+use Rattle.sdd_word_invariant.specs.EpochSteps.{Steps, Rises, Keeps, registered, knowing, counted, published, closed, ended, scanning, passed_by, unlocked, IsNext, Registers, Reads, Counts, Publishes, Closes, Ends, Locks, LooksAtLock, LooksAtState, LooksAtCount, Advances, Unlocks}
 use Rattle.sdd_word_invariant.proofs.Frame.{each_set, two_set, each_snoc, two_snoc}
 
 pub at_length : {A : Type 0} (l : List A) (i : ℕ) (a : A) → get_elem? l i ≡ some a → i < length l
@@ -64,11 +64,11 @@ module _ (n : ℕ) where
       )) f
 
   -- a step of the seat id, from v to w, with x in the word i
-  moved : (ws : List ℕ) (vs : List EpochView) (id i x : ℕ) (v w : EpochView) → EpochPart n ws vs → get_elem? vs id ≡ some v → MatchesWords n (set ws i x) w
+  moved : (ws : List ℕ) (vs : List EpochView) (id i x : ℕ) (v w : EpochView) → EpochInvariant n ws vs → get_elem? vs id ≡ some v → MatchesWords n (set ws i x) w
       → ((j : ℕ) (u : EpochView) → j ≢ id → get_elem? vs j ≡ some u → MatchesWords n ws u → Apart v u → Apart u v → MatchesWords n (set ws i x) u × Apart w u × Apart u w)
       → (n ≡ 1 → get_or (set ws i x) (state_word 0) 0 ≡ 0 → (k : ℕ) → get_or (set ws i x) k 0 ≡ 0)
       → (get_or (set ws i x) lock_word 0 ≢ 0 → (j : ℕ) × (u : EpochView) × (get_elem? (set vs id w) j ≡ some u) × Scans u)
-      → EpochPart n (set ws i x) (set vs id w)
+      → EpochInvariant n (set ws i x) (set vs id w)
   moved ws vs id i x v w t at mine others unused held = record {
     wide = let wide = t.wide in omega (arith, length-set ws i x);
     each = each_set (MatchesWords n ws) (MatchesWords n (set ws i x)) vs id w mine
@@ -85,7 +85,7 @@ module _ (n : ℕ) where
   used ws ws' v f live same one none = let i = f.inside live in let p : v.place ≡ 0 = omega arith in
       let s : get_or ws (state_word 0) 0 ≡ v.state = ap (λ (k : ℕ). get_or ws (state_word k) 0) (sym p) ∙ f.state live in omega arith
 
-  held_set : (ws : List ℕ) (vs : List EpochView) (id : ℕ) (v w : EpochView) → EpochPart n ws vs → get_elem? vs id ≡ some v → (Scans v → Scans w)
+  held_set : (ws : List ℕ) (vs : List EpochView) (id : ℕ) (v w : EpochView) → EpochInvariant n ws vs → get_elem? vs id ≡ some v → (Scans v → Scans w)
       → get_or ws lock_word 0 ≢ 0 → (j : ℕ) × (u : EpochView) × (get_elem? (set vs id w) j ≡ some u) × Scans u
   held_set ws vs id v w t at goes locked = let h = t.held locked in
       dite (ℕ_discrete h.0 id)
@@ -99,10 +99,10 @@ module _ (n : ℕ) where
       (λ other. (h.0, h.1, set_else vs id h.0 w other ∙ h.2, h.3))
 
   -- the same at a load
-  still : (ws : List ℕ) (vs : List EpochView) (id i : ℕ) (v w : EpochView) → EpochPart n ws vs → get_elem? vs id ≡ some v → MatchesWords n ws w
+  still : (ws : List ℕ) (vs : List EpochView) (id i : ℕ) (v w : EpochView) → EpochInvariant n ws vs → get_elem? vs id ≡ some v → MatchesWords n ws w
       → ((u : EpochView) → MatchesWords n ws u → Apart v u → Apart u v → Apart w u × Apart u w)
-      → (Scans v → Scans w) → EpochPart n (set ws i (get_or ws i 0)) (set vs id w)
-  still ws vs id i v w t at mine others goes = subst (λ (z : List ℕ). EpochPart n z (set vs id w)) (sym (set-get_or ws i 0)) record {
+      → (Scans v → Scans w) → EpochInvariant n (set ws i (get_or ws i 0)) (set vs id w)
+  still ws vs id i v w t at mine others goes = subst (λ (z : List ℕ). EpochInvariant n z (set vs id w)) (sym (set-get_or ws i 0)) record {
     wide = t.wide;
     each = each_set (MatchesWords n ws) (MatchesWords n ws) vs id w mine (λ j u apart e. t.each j u e);
     two = two_set Apart vs id w t.two (λ j u apart e. others u (t.each j u e) (t.two id j v u (λ z. apart (sym z)) at e) (t.two j id u v apart e at));
@@ -111,18 +111,18 @@ module _ (n : ℕ) where
   }
 
   -- the same view, at a load or a lost exchange
-  unmoved : (ws : List ℕ) (vs : List EpochView) (id i : ℕ) (v : EpochView) → EpochPart n ws vs → get_elem? vs id ≡ some v
-      → EpochPart n (set ws i (get_or ws i 0)) (set vs id v)
+  unmoved : (ws : List ℕ) (vs : List EpochView) (id i : ℕ) (v : EpochView) → EpochInvariant n ws vs → get_elem? vs id ≡ some v
+      → EpochInvariant n (set ws i (get_or ws i 0)) (set vs id v)
   unmoved ws vs id i v t at = still ws vs id i v v t at (t.each id v at) (λ u fu a b. (a, b)) (λ z. z)
 
   level : (v : EpochView) → Rises v v
   level v = record { known = omega arith; found = omega arith; guard = λ z. (z, refl, refl) }
 
   -- a step on a word of the seat's own place
-  own : (ws : List ℕ) (vs : List EpochView) (id i x : ℕ) (v w : EpochView) → EpochPart n ws vs → get_elem? vs id ≡ some v → HasPlace v
+  own : (ws : List ℕ) (vs : List EpochView) (id i x : ℕ) (v w : EpochView) → EpochInvariant n ws vs → get_elem? vs id ≡ some v → HasPlace v
       → ((i ≡ state_word v.place) × (0 < x)) ⊎ (i ≡ count_word v.place) → MatchesWords n (set ws i x) w
       → ((u : EpochView) → MatchesWords n ws u → Apart v u → Apart u v → Apart w u × Apart u w)
-      → (Scans v → Scans w) → EpochPart n (set ws i x) (set vs id w)
+      → (Scans v → Scans w) → EpochInvariant n (set ws i x) (set vs id w)
   own ws vs id i x v w t at live which mine others goes =
       let high : lock_word < i = ⊎_elim (λ (e : (i ≡ state_word v.place) × (0 < x)). let e0 = e.0 in omega arith) (λ (e : i ≡ count_word v.place). omega arith) which in
       let f = t.each id v at in let inside = f.inside live in let wide = t.wide in
@@ -229,7 +229,7 @@ module _ (n : ℕ) where
       )
 
   -- close
-  pub closes : (id : ℕ) (v : EpochView) → IsOpen v → ¬ (Scans v) → Steps (EpochPart n) id v (state_word v.place) (λ _. 1) (λ _. Closes v 1)
+  pub closes : (id : ℕ) (v : EpochView) → IsOpen v → ¬ (Scans v) → Steps (EpochInvariant n) id v (state_word v.place) (λ _. 1) (λ _. Closes v 1)
   closes id v is_open free ws vs t at small = let i : ℕ = state_word v.place in let w : EpochView = closed v in let f = t.each id v at in
       let wide = t.wide in let inside = f.inside (omega arith) in
       let zero_same = get_or-set_other ws i global_word 1 0 (λ e. omega arith) in (
@@ -284,7 +284,7 @@ module _ (n : ℕ) where
       )
 
   -- a lone participant that doesn't scan finds the lock free
-  unlocked_alone : (ws : List ℕ) (vs : List EpochView) (id : ℕ) (v : EpochView) → EpochPart n ws vs → get_elem? vs id ≡ some v → HasPlace v → ¬ (Scans v)
+  unlocked_alone : (ws : List ℕ) (vs : List EpochView) (id : ℕ) (v : EpochView) → EpochInvariant n ws vs → get_elem? vs id ≡ some v → HasPlace v → ¬ (Scans v)
       → IsLone v → get_or ws lock_word 0 ≡ 0
   unlocked_alone ws vs id v t at placed free a' = let x : ℕ = get_or ws lock_word 0 in let f = t.each id v at in let wide = t.wide in
       let inside = f.inside placed in let a : n ≡ 1 = sym (f.all (λ z. omega arith)) ∙ a' in
@@ -303,7 +303,7 @@ module _ (n : ℕ) where
   locks id v is_open free ws vs t at small = let x : ℕ = get_or ws lock_word 0 in let f = t.each id v at in let wide = t.wide in
       let inside = f.inside (omega arith) in
       let never : IsLone v → x ≡ 0 = unlocked_alone ws vs id v t at (omega arith) free in
-      exchanged x 0 1 (λ y. (w : EpochView) × EpochPart n (set ws lock_word y) (set vs id w) × Rises v w × Locks v x w)
+      exchanged x 0 1 (λ y. (w : EpochView) × EpochInvariant n (set ws lock_word y) (set vs id w) × Rises v w × Locks v x w)
       (λ hit. let w : EpochView = scanning v in let zero_same = get_or-set_other ws lock_word global_word 1 0 (λ e. omega arith) in (
         w,
         moved ws vs id lock_word 1 v w t at
@@ -362,8 +362,8 @@ module _ (n : ℕ) where
       )
 
   -- a look that passes the place q
-  passing : (ws : List ℕ) (vs : List EpochView) (id i : ℕ) (v : EpochView) (q : ℕ) → IsNext v q → EpochPart n ws vs → get_elem? vs id ≡ some v
-      → ((u : EpochView) → MatchesWords n ws u → IsOpen u → u.place ≡ q → v.count ≤ u.since) → EpochPart n (set ws i (get_or ws i 0)) (set vs id (passed_by v q))
+  passing : (ws : List ℕ) (vs : List EpochView) (id i : ℕ) (v : EpochView) (q : ℕ) → IsNext v q → EpochInvariant n ws vs → get_elem? vs id ≡ some v
+      → ((u : EpochView) → MatchesWords n ws u → IsOpen u → u.place ≡ q → v.count ≤ u.since) → EpochInvariant n (set ws i (get_or ws i 0)) (set vs id (passed_by v q))
   passing ws vs id i v q next t at here = let f = t.each id v at in
       still ws vs id i v (passed_by v q) t at
       record {
@@ -421,7 +421,7 @@ module _ (n : ℕ) where
       let l = f.locked next.0 in let inside = f.inside (omega arith) in let o = f.published l.1 in
       let o0 = o.count in let o1 = o.since in let o2 = o.once in
       let alone : IsLone v → x ≡ v.known = λ alone. f.lone (sym (f.all (λ z. omega arith)) ∙ alone) (omega arith) in
-      exchanged x v.count y (λ y. (w : EpochView) × EpochPart n (set ws global_word y) (set vs id w) × Rises v w × Advances v x w)
+      exchanged x v.count y (λ y. (w : EpochView) × EpochInvariant n (set ws global_word y) (set vs id w) × Rises v w × Advances v x w)
       (λ hit. let w : EpochView = knowing v y in let now = get_or-set_same ws global_word y 0 (omega arith) in
       let one_same = get_or-set_other ws global_word lock_word y 0 (λ e. omega arith) in let b = f.known in let a = f.found in (
         w,
@@ -467,7 +467,7 @@ module _ (n : ℕ) where
   -- take a place
   pub registers : (id p : ℕ) → p < n → Keeps n id (nobody n) (state_word p) (λ x. either (eqb x 0) 1 x) (Registers (state_word p) (nobody n))
   registers id p inside ws vs t at small = let i : ℕ = state_word p in let x : ℕ = get_or ws i 0 in let v : EpochView = nobody n in let wide = t.wide in
-      exchanged x 0 1 (λ y. (w : EpochView) × EpochPart n (set ws i y) (set vs id w) × Rises (nobody n) w × Registers (state_word p) (nobody n) x w)
+      exchanged x 0 1 (λ y. (w : EpochView) × EpochInvariant n (set ws i y) (set vs id w) × Rises (nobody n) w × Registers (state_word p) (nobody n) x w)
       (λ hit. let c : ℕ = get_or ws (count_word p) 0 in let g : ℕ = get_or ws global_word 0 in let w : EpochView = registered n p c g in
       let zero_same = get_or-set_other ws i global_word 1 0 (λ e. omega arith) in
       let other_place : (u : EpochView) → MatchesWords n ws u → HasPlace u → u.place ≢ p = λ u fu z e. let s = fu.state z in
@@ -505,8 +505,8 @@ module _ (n : ℕ) where
       (λ miss. (v, unmoved ws vs id i v t at, level v, λ p' is. ((λ e. absurd (miss e)), (λ _. refl))))
 
   -- a word behind the places' changes, by a step of a participant
-  pub behind : (ws : List ℕ) (vs : List EpochView) (id i x : ℕ) (v : EpochView) → EpochPart n ws vs → get_elem? vs id ≡ some v → HasPlace v → after_places n ≤ i
-      → EpochPart n (set ws i x) vs
+  pub behind : (ws : List ℕ) (vs : List EpochView) (id i x : ℕ) (v : EpochView) → EpochInvariant n ws vs → get_elem? vs id ≡ some v → HasPlace v → after_places n ≤ i
+      → EpochInvariant n (set ws i x) vs
   behind ws vs id i x v t at live high = record {
     wide = let w = t.wide in omega (arith, length-set ws i x);
     each = λ j u e. let f = t.each j u e in
@@ -518,8 +518,8 @@ module _ (n : ℕ) where
   }
 
   -- a place that is nobody's is barred, by somebody without a place
-  pub barred : (ws : List ℕ) (vs : List EpochView) (p : ℕ) → EpochPart n ws vs → p < n
-      → (get_or ws (state_word p) 0 ≡ 0) ⊎ (get_or ws (state_word p) 0 ≡ 3) → EpochPart n (set ws (state_word p) 4) vs
+  pub barred : (ws : List ℕ) (vs : List EpochView) (p : ℕ) → EpochInvariant n ws vs → p < n
+      → (get_or ws (state_word p) 0 ≡ 0) ⊎ (get_or ws (state_word p) 0 ≡ 3) → EpochInvariant n (set ws (state_word p) 4) vs
   barred ws vs p t inside nobodys = let i : ℕ = state_word p in let wide = t.wide in record {
     wide = omega (arith, length-set ws i 4);
     each = λ j u e. let f = t.each j u e in
@@ -537,10 +537,10 @@ module _ (n : ℕ) where
   }
 
   -- a step may have its participant know the count of its moment
-  pub knows : (ws : List ℕ) (vs : List EpochView) (id : ℕ) (v : EpochView) → EpochPart n ws vs → get_elem? vs id ≡ some v
-      → EpochPart n ws (set vs id (knowing v (get_or ws global_word 0)))
+  pub knows : (ws : List ℕ) (vs : List EpochView) (id : ℕ) (v : EpochView) → EpochInvariant n ws vs → get_elem? vs id ≡ some v
+      → EpochInvariant n ws (set vs id (knowing v (get_or ws global_word 0)))
   knows ws vs id v t at = let w : EpochView = knowing v (get_or ws global_word 0) in let f = t.each id v at in let k = f.known in let l = f.found in
-      subst (λ (z : List ℕ). EpochPart n z (set vs id w)) (set-get_or ws global_word 0) (still ws vs id global_word v w t at
+      subst (λ (z : List ℕ). EpochInvariant n z (set vs id w)) (set-get_or ws global_word 0) (still ws vs id global_word v w t at
       record {
         all = f.all;
         inside = f.inside;
@@ -557,7 +557,7 @@ module _ (n : ℕ) where
       (λ z. z))
 
   -- where there is one place, only one has it
-  pub no_other : (ws : List ℕ) (vs : List EpochView) (id j : ℕ) (v u : EpochView) → EpochPart n ws vs → n ≡ 1 → get_elem? vs id ≡ some v → HasPlace v
+  pub no_other : (ws : List ℕ) (vs : List EpochView) (id j : ℕ) (v u : EpochView) → EpochInvariant n ws vs → n ≡ 1 → get_elem? vs id ≡ some v → HasPlace v
       → j ≢ id → get_elem? vs j ≡ some u → ¬ (HasPlace u)
   no_other ws vs id j v u t one at live apart e z = let a = (t.two id j v u (λ c. apart (sym c)) at e).places live z in
       let p = (t.each id v at).inside live in let q = (t.each j u e).inside z in a (omega arith)
@@ -583,7 +583,7 @@ module _ (n : ℕ) where
   )
 
   -- a new token, which may be one without a size
-  pub seated : (a : ℕ) → (a ≢ 0 → a ≡ n) → (ws : List ℕ) (vs : List EpochView) → EpochPart n ws vs → EpochPart n ws (vs ++ nobody a ∷ [])
+  pub seated : (a : ℕ) → (a ≢ 0 → a ≡ n) → (ws : List ℕ) (vs : List EpochView) → EpochInvariant n ws vs → EpochInvariant n ws (vs ++ nobody a ∷ [])
   seated a is ws vs t = record {
     wide = t.wide;
     each = each_snoc (MatchesWords n ws) vs (nobody a) t.each (fresh a is ws);
@@ -593,7 +593,7 @@ module _ (n : ℕ) where
   }
 
   -- the start: all words are 0, and there is one token, which knows nothing
-  pub begins : (ws : List ℕ) → after_places n ≤ length ws → ((i : ℕ) → get_or ws i 0 ≡ 0) → EpochPart n ws (nobody n ∷ [])
+  pub begins : (ws : List ℕ) → after_places n ≤ length ws → ((i : ℕ) → get_or ws i 0 ≡ 0) → EpochInvariant n ws (nobody n ∷ [])
   begins ws wide none = record {
     wide = wide;
     each = λ j v e. subst (MatchesWords n ws) (only j v e) (fresh n (λ _. refl) ws);

@@ -10,11 +10,11 @@ use Rattle.sdd_views.specs.declared.View.{View}
 use Rattle.sdd_views.specs.declared.Sizes.{Sizes}
 use Rattle.sdd_word_invariant.specs.Words.{state_word, after_places}
 use Rattle.sdd_word_invariant.specs.Codes.{codes}
-use Rattle.sdd_word_invariant.specs.Epoch.{HasPlace, IsClosed, IsOpen, Scans, EpochPart}
+use Rattle.sdd_word_invariant.specs.Epoch.{HasPlace, IsClosed, IsOpen, Scans, EpochInvariant}
 use Rattle.sdd_views.specs.Views.{nobody}
-use Rattle.sdd_word_invariant.specs.Steps.{Steps, Keeps, published, closed, Registers}
+use Rattle.sdd_word_invariant.specs.EpochSteps.{Steps, Keeps, published, closed, Registers}
 use Rattle.sdd_word_invariant.specs.SlotSteps.{blank, changed, unseeing, OnEpoch, PublishesAll, ClosesAll}
-use Rattle.sdd_word_invariant.specs.Parts.{epoch_of, with_epoch, with_both, Parts}
+use Rattle.sdd_word_invariant.specs.WordInvariant.{epoch_of, with_epoch, with_both, Parts}
 use Rattle.sdd_word_invariant.proofs.Codes.{sound}
 use Rattle.sdd_word_invariant.proofs.Epoch as epochs
 use Rattle.sdd_word_invariant.proofs.SlotEpochs as slots
@@ -22,9 +22,9 @@ use Rattle.sdd_word_invariant.proofs.Lone.{still_blank, lone_spared}
 
 module _ (sizes : Sizes) where
   -- what the epoch's part sees of the views after a step
-  pub seen_after : (ws : List ℕ) (vs : List View) (id : ℕ) (w : View) → EpochPart sizes.participants ws (set (map epoch_of vs) id w.epoch)
-      → EpochPart sizes.participants ws (map epoch_of (set vs id w))
-  seen_after ws vs id w = subst (λ (l : List EpochView). EpochPart sizes.participants ws l) (sym (map-set epoch_of vs id w))
+  pub seen_after : (ws : List ℕ) (vs : List View) (id : ℕ) (w : View) → EpochInvariant sizes.participants ws (set (map epoch_of vs) id w.epoch)
+      → EpochInvariant sizes.participants ws (map epoch_of (set vs id w))
+  seen_after ws vs id w = subst (λ (l : List EpochView). EpochInvariant sizes.participants ws l) (sym (map-set epoch_of vs id w))
 
   module _ (id : ℕ) (v : View) (i : ℕ) (f : ℕ → ℕ) (low : i < after_places sizes.participants) where
     -- a step that takes no place, publishes nothing and closes nothing
@@ -69,7 +69,7 @@ module _ (sizes : Sizes) where
       let t = k.3 in let g : ℕ = t.0 in let w : View = with_both v (published v.epoch g) (changed v) in (
         w,
         record {
-          epoch = seen_after (set ws i 2) vs id w (subst (λ (e : EpochView). EpochPart sizes.participants (set ws i 2) (set (map epoch_of vs) id e)) t.1 k.1);
+          epoch = seen_after (set ws i 2) vs id w (subst (λ (e : EpochView). EpochInvariant sizes.participants (set ws i 2) (set (map epoch_of vs) id e)) t.1 k.1);
           slots = slots.publishes codes sound sizes ws vs p.slots id v at i 2 (omega arith) g shut now t.2 found;
           lone = lone_spared sizes ws vs p.lone id v at i 2 w (omega arith) refl (λ one z. p.lone.knows one id v at (omega arith));
         },
@@ -83,7 +83,7 @@ module _ (sizes : Sizes) where
       let w : View = with_both v (closed v.epoch) (unseeing v) in (
         w,
         record {
-          epoch = seen_after (set ws i 1) vs id w (subst (λ (e : EpochView). EpochPart sizes.participants (set ws i 1) (set (map epoch_of vs) id e)) k.2 k.1);
+          epoch = seen_after (set ws i 1) vs id w (subst (λ (e : EpochView). EpochInvariant sizes.participants (set ws i 1) (set (map epoch_of vs) id e)) k.2 k.1);
           slots = slots.closes codes sound sizes ws vs p.slots id v at i 1 (omega arith);
           lone = lone_spared sizes ws vs p.lone id v at i 1 w (omega arith) refl (λ one z. p.lone.knows one id v at (omega arith));
         },

@@ -17,10 +17,10 @@ use Rattle.sdd_word_invariant.specs.Sums.{is, times}
 use Rattle.sdd_word_invariant.specs.SlotSteps.{first, others, parted, joined}
 use Rattle.sdd_word_invariant.proofs.Sums.{total_append}
 use Rattle.std.specs.Prelude.{Some, None}
-use Rattle.sdd_word_invariant.specs.Epoch.{HasPlace, EpochPart}
-use Rattle.sdd_word_invariant.specs.Slots.{Holds, LonePart}
+use Rattle.sdd_word_invariant.specs.Epoch.{HasPlace, EpochInvariant}
+use Rattle.sdd_word_invariant.specs.Slots.{Holds, LoneInvariant}
 use Rattle.sdd_views.specs.Views.{nobody, owner_token}
-use Rattle.sdd_word_invariant.specs.Parts.{epoch_of, idle, Parts, WordInvariant}
+use Rattle.sdd_word_invariant.specs.WordInvariant.{epoch_of, idle, Parts, WordInvariant}
 use Rattle.sdd_word_invariant.specs.Barred.{AreBarred, AreQuiet}
 use Rattle.sdd_word_invariant.proofs.Frame.{Each, each_set, each_snoc}
 use Rattle.sdd_word_invariant.proofs.Codes.{sound}
@@ -48,7 +48,7 @@ blind_units sizes ws vs id u v was p t units = let us : List View = set vs id v 
     let w : View = record v { stakes = t; slots = record v.slots { drawn = units } } in
     let at : get_elem? us id ≡ some v = set_here vs id v (epochs.at_length vs id u was) in let f = p.slots.each id v at in
     subst (Parts sizes ws) (set_twice vs id v w) record {
-      epoch = subst (λ (l : List EpochView). EpochPart sizes.participants ws l) (sym (same_epochs us id v w at refl)) p.epoch;
+      epoch = subst (λ (l : List EpochView). EpochInvariant sizes.participants ws l) (sym (same_epochs us id v w at refl)) p.epoch;
       slots = view_step codes sound sizes ws us p.slots id v at w (λ _. refl) (λ _. refl)
           record { timed = f.timed; guarded = f.guarded; full = f.full; alone = f.alone; held = f.held }
           (let x = p.slots.two id id v v at at in record { since = x.since; looked = x.looked })
@@ -65,7 +65,7 @@ blind sizes ws vs id u v was p t = blind_units sizes ws vs id u v was p t v.slot
 pub blind_places : (sizes : Sizes) (ws : List ℕ) (vs : List View) (id : ℕ) (v : View) → get_elem? vs id ≡ some v → Parts sizes ws vs
     → (t : EndedView) → Parts sizes ws (set vs id (record v { places = t }))
 blind_places sizes ws vs id v at p t = let w : View = record v { places = t } in let f = p.slots.each id v at in record {
-  epoch = subst (λ (l : List EpochView). EpochPart sizes.participants ws l) (sym (same_epochs vs id v w at refl)) p.epoch;
+  epoch = subst (λ (l : List EpochView). EpochInvariant sizes.participants ws l) (sym (same_epochs vs id v w at refl)) p.epoch;
   slots = view_step codes sound sizes ws vs p.slots id v at w (λ _. refl) (λ _. refl)
       record { timed = f.timed; guarded = f.guarded; full = f.full; alone = f.alone; held = f.held }
       (let x = p.slots.two id id v v at at in record { since = x.since; looked = x.looked })
@@ -75,7 +75,7 @@ blind_places sizes ws vs id v at p t = let w : View = record v { places = t } in
 }
 
 -- one token more, which has no place
-snoc_lone : (sizes : Sizes) (ws : List ℕ) (vs : List View) (t : View) → ¬ (HasPlace t.epoch) → LonePart sizes ws vs → LonePart sizes ws (vs ++ t ∷ [])
+snoc_lone : (sizes : Sizes) (ws : List ℕ) (vs : List View) (t : View) → ¬ (HasPlace t.epoch) → LoneInvariant sizes ws vs → LoneInvariant sizes ws (vs ++ t ∷ [])
 snoc_lone sizes ws vs t none l = record {
   knows = λ one j u e z. ⊎_elim (λ (a : get_elem? vs j ≡ some u). l.knows one j u a z)
       (λ (a : t ≡ u). absurd (none (subst (λ (x : View). HasPlace x.epoch) (sym a) z))) (at_snoc vs t u j e);
@@ -92,7 +92,7 @@ module _ {S : Type 0} (sizes : Sizes) where
     w,
     record {
       parts = record {
-        epoch = subst (λ (l : List EpochView). EpochPart n s.words l) (sym (map-append epoch_of s.views (w ∷ [])))
+        epoch = subst (λ (l : List EpochView). EpochInvariant n s.words l) (sym (map-append epoch_of s.views (w ∷ [])))
             (seated n n (λ _. refl) s.words (map epoch_of s.views) k.parts.epoch);
         slots = sits codes sizes s.words s.views k.parts.slots w refl;
         lone = snoc_lone sizes s.words s.views w (λ z. absurd (omega arith)) k.parts.lone;
@@ -135,7 +135,7 @@ module _ {S : Type 0} (sizes : Sizes) where
       let w : View = with_owners v os ss units mine in let t : View = record (owner_token os' ss') { stakes = theirs } in
       let vs : List View = set s.views id w in record {
         parts = record {
-          epoch = subst (λ (l : List EpochView). EpochPart n s.words l)
+          epoch = subst (λ (l : List EpochView). EpochInvariant n s.words l)
               (sym (map-append epoch_of vs (t ∷ []) ∙ ap (λ (l : List EpochView). l ++ nobody 0 ∷ []) (same_epochs s.views id v w at refl)))
               (seated n 0 (λ z. absurd (z refl)) s.words (map epoch_of s.views) k.parts.epoch);
           slots = tokens.cuts codes sizes s.words s.views k.parts.slots id v at os ss units mine t os' ss' refl parts held;
@@ -160,7 +160,7 @@ module _ {S : Type 0} (sizes : Sizes) where
       let t' : View = owner_token [] [] in let vs : List View = set s.views id w in
       let was : get_elem? s.views other ≡ some t = sym (set_else s.views id other w apart) ∙ there in record {
         parts = record {
-          epoch = subst (λ (l : List EpochView). EpochPart n s.words l)
+          epoch = subst (λ (l : List EpochView). EpochInvariant n s.words l)
               (sym (same_epochs vs other t t' there refl ∙ same_epochs s.views id v w at refl)) k.parts.epoch;
           slots = tokens.takes_in codes sizes s.words s.views k.parts.slots id v at os ss units mine other t t' os' ss' refl refl parts apart was;
           lone = lone_same sizes s.words vs (lone_same sizes s.words s.views k.parts.lone id v at w refl (λ z. z)) other t there t' refl (λ z. z);

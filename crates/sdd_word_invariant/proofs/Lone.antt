@@ -7,10 +7,10 @@ use Rattle.atomic_table.proofs.Lists.{at_map, at_set}
 use Rattle.sdd_views.specs.declared.View.{View}
 use Rattle.sdd_views.specs.declared.Sizes.{Sizes}
 use Rattle.sdd_word_invariant.specs.Words.{after_places, slot_word, words_behind, all_words}
-use Rattle.sdd_word_invariant.specs.Epoch.{HasPlace, EpochPart}
-use Rattle.sdd_word_invariant.specs.Slots.{slot_at, LonePart}
+use Rattle.sdd_word_invariant.specs.Epoch.{HasPlace, EpochInvariant}
+use Rattle.sdd_word_invariant.specs.Slots.{slot_at, LoneInvariant}
 use Rattle.sdd_word_invariant.specs.SlotSteps.{behind, blank}
-use Rattle.sdd_word_invariant.specs.Parts.{epoch_of}
+use Rattle.sdd_word_invariant.specs.WordInvariant.{epoch_of}
 use Rattle.sdd_word_invariant.proofs.Epoch.{no_other}
 
 -- where all words are 0, those behind the places' are as before anybody took part
@@ -26,11 +26,11 @@ still_blank sizes ws long none = let n : ℕ = after_places sizes.participants i
     all_zero (drop n ws) (words_behind sizes) (omega (arith, length-drop n ws)) (λ i. get_or-drop n ws i 0 ∙ none (n + i))
 
 -- a word of the places' changes, by a token that knows nothing of the others
-pub lone_beside : (sizes : Sizes) (ws : List ℕ) (vs : List View) → LonePart sizes ws vs → (j y : ℕ) → j < after_places sizes.participants
-    → LonePart sizes (set ws j y) vs
+pub lone_beside : (sizes : Sizes) (ws : List ℕ) (vs : List View) → LoneInvariant sizes ws vs → (j y : ℕ) → j < after_places sizes.participants
+    → LoneInvariant sizes (set ws j y) vs
 lone_beside sizes ws vs l j y low = record { knows = λ one k u e z. l.knows one k u e z ∙ sym (drop-set-lt (after_places sizes.participants) ws j y low) }
 
-module _ (sizes : Sizes) (ws : List ℕ) (vs : List View) (l : LonePart sizes ws vs) (id : ℕ) (v : View) (at : get_elem? vs id ≡ some v) where
+module _ (sizes : Sizes) (ws : List ℕ) (vs : List View) (l : LoneInvariant sizes ws vs) (id : ℕ) (v : View) (at : get_elem? vs id ≡ some v) where
   -- what a lone participant finds is what it knew
   pub finds : sizes.participants ≡ 1 → HasPlace v.epoch → (i : ℕ) → slot_at sizes ws i ≡ get_or v.words (behind sizes i) 0
   finds one live i = let n : ℕ = after_places sizes.participants in
@@ -38,7 +38,7 @@ module _ (sizes : Sizes) (ws : List ℕ) (vs : List View) (l : LonePart sizes ws
       ∙ ap (λ (k : ℕ). get_or ws k 0) (let e : n + behind sizes i ≡ slot_word sizes i = omega arith in e)))
 
   -- no word changes
-  pub lone_same : (w : View) → w.words ≡ v.words → (HasPlace w.epoch → HasPlace v.epoch) → LonePart sizes ws (set vs id w)
+  pub lone_same : (w : View) → w.words ≡ v.words → (HasPlace w.epoch → HasPlace v.epoch) → LoneInvariant sizes ws (set vs id w)
   lone_same w same had = record {
     knows = λ one k u e z. ⊎_elim
         (λ (t : (k ≡ id) × (w ≡ u)). let live = subst (λ (x : View). HasPlace x.epoch) (sym t.1) z in
@@ -49,7 +49,7 @@ module _ (sizes : Sizes) (ws : List ℕ) (vs : List View) (l : LonePart sizes ws
 
   -- a word of the places' changes
   pub lone_spared : (j y : ℕ) (w : View) → j < after_places sizes.participants → w.words ≡ v.words
-      → (sizes.participants ≡ 1 → HasPlace w.epoch → v.words ≡ drop (after_places sizes.participants) ws) → LonePart sizes (set ws j y) (set vs id w)
+      → (sizes.participants ≡ 1 → HasPlace w.epoch → v.words ≡ drop (after_places sizes.participants) ws) → LoneInvariant sizes (set ws j y) (set vs id w)
   lone_spared j y w low same holds = let n : ℕ = after_places sizes.participants in record {
     knows = λ one k u e z. let there = drop-set-lt n ws j y low in ⊎_elim
         (λ (t : (k ≡ id) × (w ≡ u)). let live = subst (λ (x : View). HasPlace x.epoch) (sym t.1) z in
@@ -59,8 +59,8 @@ module _ (sizes : Sizes) (ws : List ℕ) (vs : List View) (l : LonePart sizes ws
   }
 
   -- a slot's word changes
-  pub lone_noted : EpochPart sizes.participants ws (map epoch_of vs) → HasPlace v.epoch → (i y : ℕ) (w : View) → w.words ≡ set v.words (behind sizes i) y
-      → LonePart sizes (set ws (slot_word sizes i) y) (set vs id w)
+  pub lone_noted : EpochInvariant sizes.participants ws (map epoch_of vs) → HasPlace v.epoch → (i y : ℕ) (w : View) → w.words ≡ set v.words (behind sizes i) y
+      → LoneInvariant sizes (set ws (slot_word sizes i) y) (set vs id w)
   lone_noted epochs live i y w is = let n : ℕ = after_places sizes.participants in record {
     knows = λ one k u e z. ⊎_elim
         (λ (t : (k ≡ id) × (w ≡ u)). let same : n + behind sizes i ≡ slot_word sizes i = omega arith in

@@ -10,13 +10,13 @@ use Rattle.sdd_views.specs.declared.WaitingItem.{WaitingItem}
 use Rattle.sdd_views.specs.declared.View.{View}
 use Rattle.sdd_views.specs.declared.Sizes.{Sizes}
 use Rattle.sdd_word_invariant.specs.Words.{global_word, slot_word}
-use Rattle.sdd_word_invariant.specs.Epoch.{IsOpen, EpochPart}
-use Rattle.sdd_word_invariant.specs.Steps.{knowing}
+use Rattle.sdd_word_invariant.specs.Epoch.{IsOpen, EpochInvariant}
+use Rattle.sdd_word_invariant.specs.EpochSteps.{knowing}
 use Rattle.sdd_word_invariant.specs.Sums.{times, total}
-use Rattle.sdd_word_invariant.specs.Codes.{WordReading, IsSound}
-use Rattle.sdd_word_invariant.specs.Slots.{slot_at, owners_at, waits_in, items_at, OwnsAlone, Sees, Holds, IsTimed, SlotsPart}
+use Rattle.sdd_word_invariant.specs.Codes.{WordReading, IsWordReading}
+use Rattle.sdd_word_invariant.specs.Slots.{slot_at, owners_at, waits_in, items_at, OwnsAlone, Sees, Holds, IsTimed, SlotsInvariant}
 use Rattle.sdd_word_invariant.specs.SlotSteps.{without, without_item, retired_now}
-use Rattle.sdd_word_invariant.specs.Parts.{epoch_of}
+use Rattle.sdd_word_invariant.specs.WordInvariant.{epoch_of}
 use Rattle.sdd_word_invariant.proofs.Sums.{total_snoc, total_has, total_kept, total_gone, at_filter, is_same, is_other, without_same, without_other}
 use Rattle.sdd_word_invariant.proofs.SlotWords.{slot_step, not_alone, alone_is, waiter_in}
 
@@ -31,7 +31,7 @@ item_gone i xs = total_gone (waits_in i) (λ (x : WaitingItem). not (eqb x.slot 
 pub item_kept : (i j : ℕ) → j ≢ i → (xs : List WaitingItem) → total (waits_in j) (without_item i xs) ≡ total (waits_in j) xs
 item_kept i j ne xs = total_kept (waits_in j) (λ (x : WaitingItem). not (eqb x.slot i)) (λ x t. is_other j x.slot (λ e. grind (arith, ne_eqb x.slot i))) xs
 
-module _ (z : WordReading) (sound : IsSound z) (sizes : Sizes) (ws : List ℕ) (vs : List View) (s : SlotsPart z sizes ws vs) (id : ℕ) (v : View)
+module _ (z : WordReading) (sound : IsWordReading z) (sizes : Sizes) (ws : List ℕ) (vs : List View) (s : SlotsInvariant z sizes ws vs) (id : ℕ) (v : View)
     (at : get_elem? vs id ≡ some v) where
   -- only what the participant owns of the slot i changes
   pub owns_step : (i y : ℕ) (os ss known : List ℕ) → i < sizes.slots → ¬ (Holds v i)
@@ -40,7 +40,7 @@ module _ (z : WordReading) (sound : IsSound z) (sizes : Sizes) (ws : List ℕ) (
       → z.waiting y ≡ z.waiting (slot_at sizes ws i) → (z.full (slot_at sizes ws i) ≡ 1 → z.full y ≡ 1)
       → (0 < owners_at i v) ⊎ (z.alive (slot_at sizes ws i) ≢ 1) ⊎ (z.counted (slot_at sizes ws i) ≢ 0)
       → (0 < times i os → (z.alive y ≡ 1) × (z.counted y ≡ 0))
-      → SlotsPart z sizes (set ws (slot_word sizes i) y) (set vs id (owning v os ss known))
+      → SlotsInvariant z sizes (set ws (slot_word sizes i) y) (set vs id (owning v os ss known))
   owns_step i y os ss known inside free here else same full why alone =
       let long = s.long in let w : View = owning v os ss known in let f = s.each id v at in
       let now : (j : ℕ) → j ≡ i → slot_at sizes (set ws (slot_word sizes i) y) j ≡ y
@@ -74,7 +74,7 @@ module _ (z : WordReading) (sound : IsSound z) (sizes : Sizes) (ws : List ℕ) (
   -- a free slot is claimed
   pub claims : (i y : ℕ) (known : List ℕ) → i < sizes.slots → z.alive (slot_at sizes ws i) ≡ 0 → z.waiting (slot_at sizes ws i) ≡ 0
       → z.alive y ≡ 1 → z.counted y ≡ 0
-      → SlotsPart z sizes (set ws (slot_word sizes i) y) (set vs id (owning v (i ∷ v.slots.owns) v.slots.shares known))
+      → SlotsInvariant z sizes (set ws (slot_word sizes i) y) (set vs id (owning v (i ∷ v.slots.owns) v.slots.shares known))
   claims i y known inside none quiet one firm = let l = sound.lives y (omega arith) in let one' = is_same i i refl in
       owns_step i y (i ∷ v.slots.owns) v.slots.shares known inside
       (λ h. not_held i (inl (λ e. omega arith)) ((s.each id v at).held i h))
@@ -85,7 +85,7 @@ module _ (z : WordReading) (sound : IsSound z) (sizes : Sizes) (ws : List ℕ) (
   -- one owner more is counted
   pub counts_up : (i y : ℕ) (known : List ℕ) → i < sizes.slots → z.alive y ≡ z.alive (slot_at sizes ws i) + 1 → z.waiting (slot_at sizes ws i) ≡ 0
       → z.counted (slot_at sizes ws i) ≢ 0
-      → SlotsPart z sizes (set ws (slot_word sizes i) y) (set vs id (owning v v.slots.owns (i ∷ v.slots.shares) known))
+      → SlotsInvariant z sizes (set ws (slot_word sizes i) y) (set vs id (owning v v.slots.owns (i ∷ v.slots.shares) known))
   counts_up i y known inside more quiet count = let l = sound.lives y (omega arith) in let one = is_same i i refl in
       owns_step i y v.slots.owns (i ∷ v.slots.shares) known inside
       (λ h. not_held i (inr count) ((s.each id v at).held i h))
@@ -96,7 +96,7 @@ module _ (z : WordReading) (sound : IsSound z) (sizes : Sizes) (ws : List ℕ) (
   -- a counted owner goes, which isn't the last
   pub counts_down : (i y : ℕ) (ss known : List ℕ) → i < sizes.slots → v.slots.shares ≡ i ∷ ss → z.alive y + 1 ≡ z.alive (slot_at sizes ws i)
       → z.counted (slot_at sizes ws i) ≢ 0 → z.waiting y ≡ 0 → z.full y ≡ 1
-      → SlotsPart z sizes (set ws (slot_word sizes i) y) (set vs id (owning v v.slots.owns ss known))
+      → SlotsInvariant z sizes (set ws (slot_word sizes i) y) (set vs id (owning v v.slots.owns ss known))
   counts_down i y ss known inside has less count quiet full = let one = is_same i i refl in
       let h : times i v.slots.shares ≡ times i (i ∷ ss) = ap (times i) has in let l = sound.lives (slot_at sizes ws i) (omega arith) in
       owns_step i y v.slots.owns ss known inside (λ h. not_held i (inr count) ((s.each id v at).held i h))
@@ -106,7 +106,7 @@ module _ (z : WordReading) (sound : IsSound z) (sizes : Sizes) (ws : List ℕ) (
 
   -- the only owner goes, and the item stays: it is raw from now on
   pub turns_raw : (i y : ℕ) (known : List ℕ) → i < sizes.slots → OwnsAlone v i → ¬ (Holds v i) → z.alive y ≡ 0 → z.waiting y ≡ 0 → z.full y ≡ 1
-      → SlotsPart z sizes (set ws (slot_word sizes i) y) (set vs id (owning v (without i v.slots.owns) v.slots.shares known))
+      → SlotsInvariant z sizes (set ws (slot_word sizes i) y) (set vs id (owning v (without i v.slots.owns) v.slots.shares known))
   turns_raw i y known inside mine free none quiet full = let a = (s.each id v at).alone i mine in let a0 = a.0 in
       let l = sound.lives (slot_at sizes ws i) (omega arith) in let o = alone_is z sound sizes ws vs s id i v at mine in let o0 = o.0 in
       let gone = without_same i v.slots.owns in
@@ -117,7 +117,7 @@ module _ (z : WordReading) (sound : IsSound z) (sizes : Sizes) (ws : List ℕ) (
   -- the word of an item without owners changes: one that waits privately is claimed by a close
   pub marks : (i y : ℕ) (known : List ℕ) → i < sizes.slots → z.alive (slot_at sizes ws i) ≡ 0 → z.alive y ≡ 0
       → z.waiting y ≡ z.waiting (slot_at sizes ws i) → z.full y ≡ 1
-      → SlotsPart z sizes (set ws (slot_word sizes i) y) (set vs id (owning v v.slots.owns v.slots.shares known))
+      → SlotsInvariant z sizes (set ws (slot_word sizes i) y) (set vs id (owning v v.slots.owns v.slots.shares known))
   marks i y known inside none none' same full = let never = not_held i (inl (λ e. omega arith)) in
       owns_step i y v.slots.owns v.slots.shares known inside
       (λ h. never ((s.each id v at).held i h)) (omega arith) (λ _ _. (refl, refl)) same (λ _. full) (inr (inl (λ e. omega arith))) (λ own. absurd (never own))
@@ -126,7 +126,7 @@ module _ (z : WordReading) (sound : IsSound z) (sizes : Sizes) (ws : List ℕ) (
   pub fresh : (i : ℕ) → z.full (slot_at sizes ws i) ≡ 0 → (j : ℕ) (u : View) → get_elem? vs j ≡ some u → ¬ (Sees u i)
   fresh i empty j u e sees = let f = (s.each j u e).full i sees in omega arith
 
-  module _ (epochs : EpochPart sizes.participants ws (map epoch_of vs)) where
+  module _ (epochs : EpochInvariant sizes.participants ws (map epoch_of vs)) where
     since_low : (j : ℕ) (u : View) → get_elem? vs j ≡ some u → IsOpen u.epoch → u.epoch.since ≤ get_or ws global_word 0
     since_low j u e is_open = let f = epochs.each j u.epoch (at_map epoch_of vs j u e) in let p = (f.published is_open).since in let k = f.known in omega arith
 
@@ -139,7 +139,7 @@ module _ (z : WordReading) (sound : IsSound z) (sizes : Sizes) (ws : List ℕ) (
 
     -- the only owner goes and the item waits, in one step
     pub retires : (i y : ℕ) (known : List ℕ) → i < sizes.slots → OwnsAlone v i → ¬ (Holds v i) → z.alive y ≡ 0 → z.waiting y ≡ 1
-        → SlotsPart z sizes (set ws (slot_word sizes i) y) (set vs id (retiring i known))
+        → SlotsInvariant z sizes (set ws (slot_word sizes i) y) (set vs id (retiring i known))
     retires i y known inside mine free none waits =
         let long = s.long in let w : View = retiring i known in let x : WaitingItem = retired_now i (get_or ws global_word 0) in let f = s.each id v at in
         let a = f.alone i mine in let a0 = a.0 in let l = sound.lives (slot_at sizes ws i) (omega arith) in let l0 = l.0 in
@@ -199,7 +199,7 @@ module _ (z : WordReading) (sound : IsSound z) (sizes : Sizes) (ws : List ℕ) (
     -- an item of three changes goes, and its slot is free
     pub gives_back : (k y : ℕ) (x : WaitingItem) (known : List ℕ) → get_elem? v.slots.waits k ≡ some x → 3 ≤ x.changes → x.slot < sizes.slots
         → z.alive y ≡ 0 → z.waiting y ≡ 0
-        → SlotsPart z sizes (set ws (slot_word sizes x.slot) y) (set vs id (giving_back x.slot known))
+        → SlotsInvariant z sizes (set ws (slot_word sizes x.slot) y) (set vs id (giving_back x.slot known))
     gives_back k y x known has ripe inside none quiet =
         let i : ℕ = x.slot in let long = s.long in let w : View = giving_back i known in let f = s.each id v at in
         let wait = waiter_in z sound sizes ws vs s id k v x at has in let single = (sound.waits (slot_at sizes ws i) wait).0 in

@@ -10,8 +10,8 @@ use Rattle.sdd_views.specs.declared.Sizes.{Sizes}
 use Rattle.sdd_word_invariant.specs.Words.{cell_word, slot_word}
 use Rattle.sdd_word_invariant.specs.Epoch.{IsOpen}
 use Rattle.sdd_word_invariant.specs.Sums.{times}
-use Rattle.sdd_word_invariant.specs.Codes.{WordReading, IsSound}
-use Rattle.sdd_word_invariant.specs.Slots.{slot_at, owners_at, Sees, Holds, IsGuarded, SlotsPart}
+use Rattle.sdd_word_invariant.specs.Codes.{WordReading, IsWordReading}
+use Rattle.sdd_word_invariant.specs.Slots.{slot_at, owners_at, Sees, Holds, SeenBeforeRetired, SlotsInvariant}
 use Rattle.sdd_word_invariant.specs.SlotSteps.{seeing}
 use Rattle.sdd_word_invariant.proofs.Sums.{is_other}
 use Rattle.sdd_word_invariant.proofs.SlotWords.{cell_step, view_step, none_waits, owners_in, owner_in, named_in, waiter_in}
@@ -21,15 +21,15 @@ use Rattle.sdd_word_invariant.proofs.Owning.{owning}
 sees_more : (v : View) (i a : ℕ) → Sees (seeing i v) a → (a ≡ i) ⊎ Sees v a
 sees_more v i a h = dite (ℕ_discrete a i) (λ e. inl e) (λ ne. let o = is_other a i (λ e. ne (sym e)) in inr (omega arith))
 
-module _ (z : WordReading) (sound : IsSound z) (sizes : Sizes) (ws : List ℕ) (vs : List View) (s : SlotsPart z sizes ws vs) (id : ℕ) (v : View)
+module _ (z : WordReading) (sound : IsWordReading z) (sizes : Sizes) (ws : List ℕ) (vs : List View) (s : SlotsInvariant z sizes ws vs) (id : ℕ) (v : View)
     (at : get_elem? vs id ≡ some v) where
   -- a guard sees a slot that is full, for which no item waits and which nobody holds
   sees_step : (i : ℕ) → IsOpen v.epoch → z.full (slot_at sizes ws i) ≡ 1
       → ((j k : ℕ) (u : View) (x : WaitingItem) → get_elem? vs j ≡ some u → get_elem? u.slots.waits k ≡ some x → x.slot ≢ i)
-      → ((j : ℕ) (u : View) → get_elem? vs j ≡ some u → ¬ (Holds u i)) → SlotsPart z sizes ws (set vs id (seeing i v))
+      → ((j : ℕ) (u : View) → get_elem? vs j ≡ some u → ¬ (Holds u i)) → SlotsInvariant z sizes ws (set vs id (seeing i v))
   sees_step i is_open full none free = let w : View = seeing i v in let f = s.each id v at in
       let safe : (j : ℕ) (u u' : View) → get_elem? vs j ≡ some u → u'.slots.waits ≡ u.slots.waits → u'.slots.holds ≡ u.slots.holds
-      → u'.slots.looked ≡ u.slots.looked → IsGuarded v u → IsGuarded w u'
+      → u'.slots.looked ≡ u.slots.looked → SeenBeforeRetired v u → SeenBeforeRetired w u'
       = λ j u u' e waits_same holds_same looked_same x. record {
         since = λ a k r sees his same.
             let his' : get_elem? u.slots.waits k ≡ some r = subst (λ (l : List WaitingItem). get_elem? l k ≡ some r) waits_same his in
@@ -52,7 +52,7 @@ module _ (z : WordReading) (sound : IsSound z) (sizes : Sizes) (ws : List ℕ) (
 
   -- that of an owner, who may be another, and who doesn't hold it
   pub watches_beside : (k : ℕ) (u : View) → get_elem? vs k ≡ some u → (i : ℕ) → IsOpen v.epoch → 0 < owners_at i u → ¬ (Holds u i)
-      → SlotsPart z sizes ws (set vs id (seeing i v))
+      → SlotsInvariant z sizes ws (set vs id (seeing i v))
   watches_beside k u there i is_open mine free = let o = owner_in z sound sizes ws vs s k i u there in
       let live : 0 < z.alive (slot_at sizes ws i) = omega arith in
       sees_step i is_open (sound.lives (slot_at sizes ws i) live).1 (none_waits z sound sizes ws vs s i live)
@@ -61,7 +61,7 @@ module _ (z : WordReading) (sound : IsSound z) (sizes : Sizes) (ws : List ℕ) (
       (λ ne. let t = owners_in z sound sizes ws vs s j k i x u ne e there in omega arith))
 
   -- that which a cell owns
-  pub loads : (d i : ℕ) → d < sizes.cells → IsOpen v.epoch → 0 < z.names i (get_or ws (cell_word sizes d) 0) → SlotsPart z sizes ws (set vs id (seeing i v))
+  pub loads : (d i : ℕ) → d < sizes.cells → IsOpen v.epoch → 0 < z.names i (get_or ws (cell_word sizes d) 0) → SlotsInvariant z sizes ws (set vs id (seeing i v))
   loads d i inside is_open names = let n = named_in z sound sizes ws vs s id d i v at inside in
       let live : 0 < z.alive (slot_at sizes ws i) = omega arith in
       sees_step i is_open (sound.lives (slot_at sizes ws i) live).1 (none_waits z sound sizes ws vs s i live)
@@ -70,7 +70,7 @@ module _ (z : WordReading) (sound : IsSound z) (sizes : Sizes) (ws : List ℕ) (
 
   -- that of a raw item, of which its word tells
   pub sees_raw : (i : ℕ) → IsOpen v.epoch → z.full (slot_at sizes ws i) ≡ 1 → z.alive (slot_at sizes ws i) ≡ 0 → z.waiting (slot_at sizes ws i) ≡ 0
-      → SlotsPart z sizes ws (set vs id (seeing i v))
+      → SlotsInvariant z sizes ws (set vs id (seeing i v))
   sees_raw i is_open full none quiet = sees_step i is_open full
       (λ j k u x e his same. let w = waiter_in z sound sizes ws vs s j k u x e his in
       let h = ap (λ (a : ℕ). z.waiting (slot_at sizes ws a)) same in omega arith)
@@ -79,7 +79,7 @@ module _ (z : WordReading) (sound : IsSound z) (sizes : Sizes) (ws : List ℕ) (
   -- a cell is claimed, written, exchanged or freed: what the cell owned and what the participant has are together as before
   pub puts : (d y : ℕ) (ss known : List ℕ) → d < sizes.cells
       → ((i : ℕ) → z.names i (get_or ws (cell_word sizes d) 0) + times i v.slots.shares ≡ z.names i y + times i ss)
-      → SlotsPart z sizes (set ws (cell_word sizes d) y) (set vs id (owning v v.slots.owns ss known))
+      → SlotsInvariant z sizes (set ws (cell_word sizes d) y) (set vs id (owning v v.slots.owns ss known))
   puts d y ss known inside same = let w : View = owning v v.slots.owns ss known in let f = s.each id v at in
       let there : (j : ℕ) → slot_at sizes (set ws (cell_word sizes d) y) j ≡ slot_at sizes ws j
       = λ j. get_or-set_other ws (cell_word sizes d) (slot_word sizes j) y 0 (λ e. omega arith) in
@@ -97,7 +97,7 @@ module _ (z : WordReading) (sound : IsSound z) (sizes : Sizes) (ws : List ℕ) (
 
   -- an owner whose slot's word says one owner, which isn't counted, has the only one
   pub settles : (i : ℕ) (ss known : List ℕ) → v.slots.shares ≡ i ∷ ss → z.alive (slot_at sizes ws i) ≡ 1 → z.counted (slot_at sizes ws i) ≡ 0
-      → SlotsPart z sizes ws (set vs id (owning v (i ∷ v.slots.owns) ss known))
+      → SlotsInvariant z sizes ws (set vs id (owning v (i ∷ v.slots.owns) ss known))
   settles i ss known has one firm = let w : View = owning v (i ∷ v.slots.owns) ss known in let f = s.each id v at in
       let mine : (j : ℕ) → times j v.slots.shares ≡ times j (i ∷ ss) = λ j. ap (times j) has in
       view_step z sound sizes ws vs s id v at w (λ j. let m = mine j in omega arith) (λ _. refl)

@@ -12,11 +12,11 @@ use Rattle.sdd_views.specs.declared.View.{View}
 use Rattle.sdd_views.specs.declared.Sizes.{Sizes}
 use Rattle.sdd_word_invariant.specs.Words.{first_cell}
 use Rattle.sdd_word_invariant.specs.Epoch.{IsClosed, IsOpen}
-use Rattle.sdd_word_invariant.specs.Steps.{Rises, published, closed}
-use Rattle.sdd_word_invariant.specs.Codes.{WordReading, IsSound}
-use Rattle.sdd_word_invariant.specs.Slots.{waits_in, Sees, IsTimed, SlotsPart}
+use Rattle.sdd_word_invariant.specs.EpochSteps.{Rises, published, closed}
+use Rattle.sdd_word_invariant.specs.Codes.{WordReading, IsWordReading}
+use Rattle.sdd_word_invariant.specs.Slots.{waits_in, Sees, IsTimed, SlotsInvariant}
 use Rattle.sdd_word_invariant.specs.SlotSteps.{older, changed, unseeing}
-use Rattle.sdd_word_invariant.specs.Parts.{with_epoch, with_both}
+use Rattle.sdd_word_invariant.specs.WordInvariant.{with_epoch, with_both}
 use Rattle.sdd_word_invariant.proofs.Sums.{total_map}
 use Rattle.sdd_word_invariant.proofs.SlotWords.{view_step, below}
 
@@ -25,10 +25,10 @@ of_map f [] i y e = absurd (some-ne-none y (sym e))
 of_map f (x ∷ xs) zero y e = (x, refl, some-injective _ _ e)
 of_map f (x ∷ xs) (suc i) y e = of_map f xs i y e
 
-module _ (z : WordReading) (sound : IsSound z) (sizes : Sizes) (ws : List ℕ) (vs : List View) (s : SlotsPart z sizes ws vs) (id : ℕ) (v : View)
+module _ (z : WordReading) (sound : IsWordReading z) (sizes : Sizes) (ws : List ℕ) (vs : List View) (s : SlotsInvariant z sizes ws vs) (id : ℕ) (v : View)
     (at : get_elem? vs id ≡ some v) (j y : ℕ) (low : j < first_cell sizes) where
   -- what is known rises, and an open guard stays as it is published
-  pub mild : (w : EpochView) → Rises v.epoch w → SlotsPart z sizes (set ws j y) (set vs id (with_epoch v w))
+  pub mild : (w : EpochView) → Rises v.epoch w → SlotsInvariant z sizes (set ws j y) (set vs id (with_epoch v w))
   mild w up = let known = up.known in let found = up.found in let f = s.each id v at in
       let stays : (i : ℕ) → Sees v i → IsOpen w × (w.since ≡ v.epoch.since) × (w.place ≡ v.epoch.place) = λ i sees. up.guard (f.guarded i sees) in
       below z sizes ws (set vs id (with_epoch v w)) j y low (
@@ -57,7 +57,7 @@ module _ (z : WordReading) (sound : IsSound z) (sizes : Sizes) (ws : List ℕ) (
     abbrev aged : View
     aged = with_both v (published v.epoch g) (record v.slots { waits = map older v.slots.waits })
 
-    ages : v.epoch.count ≢ v.epoch.found → SlotsPart z sizes (set ws j y) (set vs id aged)
+    ages : v.epoch.count ≢ v.epoch.found → SlotsInvariant z sizes (set ws j y) (set vs id aged)
     ages other = let f = s.each id v at in
         let blind : (i : ℕ) → ¬ (Sees v i) = λ i h. let o = f.guarded i h in omega arith in
         below z sizes ws (set vs id aged) j y low (view_step z sound sizes ws vs s id v at aged (λ _. refl)
@@ -85,8 +85,8 @@ module _ (z : WordReading) (sound : IsSound z) (sizes : Sizes) (ws : List ℕ) (
         )))
 
     -- a publish
-    pub publishes : SlotsPart z sizes (set ws j y) (set vs id (with_both v (published v.epoch g) (changed v)))
-    publishes = let slots = λ (t : SlotsView). SlotsPart z sizes (set ws j y) (set vs id (with_both v (published v.epoch g) t)) in
+    pub publishes : SlotsInvariant z sizes (set ws j y) (set vs id (with_both v (published v.epoch g) (changed v)))
+    publishes = let slots = λ (t : SlotsView). SlotsInvariant z sizes (set ws j y) (set vs id (with_both v (published v.epoch g) t)) in
         dite (ℕ_discrete v.epoch.count v.epoch.found)
         (λ e. subst slots (sym (ap (λ (t : _). cond t v.slots (record v.slots { waits = map older v.slots.waits })) (eq-eqb v.epoch.count v.epoch.found e)))
         (mild (published v.epoch g) record { known = rises; found = omega arith; guard = λ is_open. absurd (omega arith) }))
@@ -94,7 +94,7 @@ module _ (z : WordReading) (sound : IsSound z) (sizes : Sizes) (ws : List ℕ) (
         (ages ne))
 
   -- a close: what was seen is forgotten
-  pub closes : SlotsPart z sizes (set ws j y) (set vs id (with_both v (closed v.epoch) (unseeing v)))
+  pub closes : SlotsInvariant z sizes (set ws j y) (set vs id (with_both v (closed v.epoch) (unseeing v)))
   closes = let w : View = with_both v (closed v.epoch) (unseeing v) in let f = s.each id v at in below z sizes ws (set vs id w) j y low (
       view_step z sound sizes ws vs s id v at w (λ _. refl) (λ _. refl)
       record {

@@ -13,11 +13,11 @@ use Rattle.sdd_views.specs.declared.View.{View}
 use Rattle.sdd_views.specs.declared.Sizes.{Sizes}
 use Rattle.sdd_word_invariant.specs.Words.{global_word, state_word, slot_word}
 use Rattle.sdd_word_invariant.specs.Codes.{codes, shared_base, free_word, owned_word, waiting_word}
-use Rattle.sdd_word_invariant.specs.Epoch.{HasPlace, IsOpen, EpochPart}
-use Rattle.sdd_word_invariant.specs.Slots.{slot_at, owners_at, items_at, OwnsAlone, Holds, SlotsPart}
-use Rattle.sdd_word_invariant.specs.Steps.{Steps}
+use Rattle.sdd_word_invariant.specs.Epoch.{HasPlace, IsOpen, EpochInvariant}
+use Rattle.sdd_word_invariant.specs.Slots.{slot_at, owners_at, items_at, OwnsAlone, Holds, SlotsInvariant}
+use Rattle.sdd_word_invariant.specs.EpochSteps.{Steps}
 use Rattle.sdd_word_invariant.specs.SlotSteps.{noted, Knew, claimed, retired, given_back, seeing, Claims, Retires, GivesBack, AtSlot, held, release_hold, looked_past, discarded, TakesHold, LetsGo, Discards, LooksForGuard, LooksAtSlot}
-use Rattle.sdd_word_invariant.specs.Parts.{epoch_of, Parts}
+use Rattle.sdd_word_invariant.specs.WordInvariant.{epoch_of, Parts}
 use Rattle.sdd_word_invariant.proofs.Codes.{sound, free_is, owned_is, waiting_is}
 use Rattle.sdd_word_invariant.proofs.Epoch as epochs
 use Rattle.sdd_word_invariant.proofs.EpochSteps.{seen_after}
@@ -36,12 +36,12 @@ module _ (id : ℕ) (v : View) (live : HasPlace v.epoch) where
     at_epoch = at_map epoch_of vs id v at
 
     -- what is known of the epoch stays
-    same_epochs : EpochPart sizes.participants ws (set (map epoch_of vs) id v.epoch)
-    same_epochs = subst (λ (l : List EpochView). EpochPart sizes.participants ws l) (sym (set_again (map epoch_of vs) id v.epoch at_epoch)) p.epoch
+    same_epochs : EpochInvariant sizes.participants ws (set (map epoch_of vs) id v.epoch)
+    same_epochs = subst (λ (l : List EpochView). EpochInvariant sizes.participants ws l) (sym (set_again (map epoch_of vs) id v.epoch at_epoch)) p.epoch
 
     -- the other parts after a step on a slot's word
-    around : (slot y : ℕ) (w : View) → HasPlace w.epoch → w.words ≡ noted slot y v → EpochPart sizes.participants ws (set (map epoch_of vs) id w.epoch)
-        → SlotsPart codes sizes (set ws (slot_word sizes slot) y) (set vs id w) → Parts sizes (set ws (slot_word sizes slot) y) (set vs id w)
+    around : (slot y : ℕ) (w : View) → HasPlace w.epoch → w.words ≡ noted slot y v → EpochInvariant sizes.participants ws (set (map epoch_of vs) id w.epoch)
+        → SlotsInvariant codes sizes (set ws (slot_word sizes slot) y) (set vs id w) → Parts sizes (set ws (slot_word sizes slot) y) (set vs id w)
     around slot y w still is epoch slots = record {
       epoch = seen_after sizes (set ws (slot_word sizes slot) y) vs id w
           (epochs.behind sizes.participants ws (set (map epoch_of vs) id w.epoch) id (slot_word sizes slot) y w.epoch epoch
@@ -117,7 +117,7 @@ module _ (id : ℕ) (v : View) (live : HasPlace v.epoch) where
       let giving_back = λ (i : ℕ). owning.giving_back codes sound sizes ws vs p.slots id v at p.epoch i (noted slot y v) in (
         w,
         around ws vs p at slot y w live refl (same_epochs ws vs p at)
-            (subst (λ (i : ℕ). SlotsPart codes sizes (set ws (slot_word sizes i) y) (set vs id (giving_back i))) same
+            (subst (λ (i : ℕ). SlotsInvariant codes sizes (set ws (slot_word sizes i) y) (set vs id (giving_back i))) same
             (owning.gives_back codes sound sizes ws vs p.slots id v at p.epoch k y x (noted slot y v) has ripe (omega arith) word.0 word.1)),
         λ other is. (
           ap (λ (k : ℕ). given_back k y v) (same_slot slot other is),
@@ -136,11 +136,11 @@ module _ (id : ℕ) (v : View) (live : HasPlace v.epoch) where
 
   -- a load leaves the other parts
   module _ (ws : List ℕ) (vs : List View) (p : Parts sizes ws vs) (at : get_elem? vs id ≡ some v) where
-    loaded : (i : ℕ) (w : View) → w.epoch ≡ v.epoch → w.words ≡ v.words → SlotsPart codes sizes ws (set vs id w)
+    loaded : (i : ℕ) (w : View) → w.epoch ≡ v.epoch → w.words ≡ v.words → SlotsInvariant codes sizes ws (set vs id w)
         → Parts sizes (set ws i (get_or ws i 0)) (set vs id w)
     loaded i w same known slots = subst (λ (l : List ℕ). Parts sizes l (set vs id w)) (sym (set-get_or ws i 0)) record {
       epoch = seen_after sizes ws vs id w
-          (subst (λ (e : EpochView). EpochPart sizes.participants ws (set (map epoch_of vs) id e)) (sym same) (same_epochs ws vs p at));
+          (subst (λ (e : EpochView). EpochInvariant sizes.participants ws (set (map epoch_of vs) id e)) (sym same) (same_epochs ws vs p at));
       slots = slots;
       lone = lone_same sizes ws vs p.lone id v at w known (λ z. subst HasPlace same z);
     }
@@ -151,7 +151,7 @@ module _ (id : ℕ) (v : View) (live : HasPlace v.epoch) where
   takes_hold slot inside mine free ws vs p at small = let i : ℕ = slot_word sizes slot in let x : ℕ = get_or ws i 0 in let w : View = held slot v in
       let a = (p.slots.each id v at).alone slot mine in (
         w,
-        loaded ws vs p at i w refl refl (subst (λ (l : List ℕ). SlotsPart codes sizes l (set vs id w)) (set-get_or ws i 0)
+        loaded ws vs p at i w refl refl (subst (λ (l : List ℕ). SlotsInvariant codes sizes l (set vs id w)) (set-get_or ws i 0)
             (holding.takes_hold codes sound sizes ws vs p.slots id v at slot x v.words inside mine free a.0 a.1)),
         λ other is. (ap (λ (k : ℕ). held k v) (same_slot slot other is), knew_too slot other is x (knew ws vs p at slot)),
       )
@@ -162,7 +162,7 @@ module _ (id : ℕ) (v : View) (live : HasPlace v.epoch) where
   lets_go slot inside held ws vs p at small = let i : ℕ = slot_word sizes slot in let x : ℕ = get_or ws i 0 in let w : View = release_hold v in
       let f = p.slots.each id v at in let a = f.alone slot (f.held slot held) in (
         w,
-        loaded ws vs p at i w refl refl (subst (λ (l : List ℕ). SlotsPart codes sizes l (set vs id w)) (set-get_or ws i 0)
+        loaded ws vs p at i w refl refl (subst (λ (l : List ℕ). SlotsInvariant codes sizes l (set vs id w)) (set-get_or ws i 0)
             (holding.lets_go codes sound sizes ws vs p.slots id v at slot x v.words inside held a.0 a.1)),
         λ other is. (refl, knew_too slot other is x (knew ws vs p at slot)),
       )
@@ -188,7 +188,7 @@ module _ (id : ℕ) (v : View) (live : HasPlace v.epoch) where
       (λ e. (v, unmoved ws vs p at i, λ q is. ((λ no. absurd (no e)), (λ _. refl), own q is)))
       (λ no. let w : View = looked_past place v in (
         w,
-        loaded ws vs p at i w refl refl (subst (λ (k : ℕ). SlotsPart codes sizes ws (set vs id (record v { slots = record v.slots { looked = k } })))
+        loaded ws vs p at i w refl refl (subst (λ (k : ℕ). SlotsInvariant codes sizes ws (set vs id (record v { slots = record v.slots { looked = k } })))
             (let e : suc place ≡ place + 1 = omega arith in e)
             (holding.passes codes sound sizes ws vs p.slots id v at p.epoch place next no)),
         λ q is. ((λ _. ap (λ (k : ℕ). looked_past k v) (let e : place ≡ q = omega arith in e)), (λ e. absurd (no e)), own q is),

@@ -9,12 +9,12 @@ use Rattle.sdd_views.specs.declared.View.{View}
 use Rattle.sdd_views.specs.declared.Sizes.{Sizes}
 use Rattle.sdd_word_invariant.specs.Words.{first_cell, cell_word, slot_word}
 use Rattle.sdd_word_invariant.specs.Sums.{times}
-use Rattle.sdd_word_invariant.specs.Codes.{WordReading, IsSound}
-use Rattle.sdd_word_invariant.specs.Slots.{slot_at, owners_at, waits_in, items_at, OwnsAlone, Sees, Tallies, IsGuarded, SlotsPart}
+use Rattle.sdd_word_invariant.specs.Codes.{WordReading, IsWordReading}
+use Rattle.sdd_word_invariant.specs.Slots.{slot_at, owners_at, waits_in, items_at, OwnsAlone, Sees, Tallies, SeenBeforeRetired, SlotsInvariant}
 use Rattle.sdd_word_invariant.proofs.Frame.{each_set}
 use Rattle.sdd_word_invariant.proofs.Sums.{total_set, total_has, total_two, span_out, span_set, span_has, both_set, is_same}
 
-module _ (z : WordReading) (sound : IsSound z) (sizes : Sizes) (ws : List ℕ) (vs : List View) (s : SlotsPart z sizes ws vs) where
+module _ (z : WordReading) (sound : IsWordReading z) (sizes : Sizes) (ws : List ℕ) (vs : List View) (s : SlotsInvariant z sizes ws vs) where
   -- who waits for a slot, or owns it, or names it in a cell, is in the sums
   pub waiter_in : (j k : ℕ) (u : View) (x : WaitingItem) → get_elem? vs j ≡ some u → get_elem? u.slots.waits k ≡ some x
       → 0 < z.waiting (slot_at sizes ws x.slot)
@@ -49,9 +49,9 @@ module _ (z : WordReading) (sound : IsSound z) (sizes : Sizes) (ws : List ℕ) (
         → z.waiting y + items_at i v ≡ z.waiting (slot_at sizes ws i) + items_at i w → ((j : ℕ) → j ≢ i → items_at j v ≡ items_at j w)
         → ((j : ℕ) (u : View) → get_elem? vs j ≡ some u → Sees u i → z.full y ≡ 1)
         → ((j : ℕ) (u : View) → j ≢ id → get_elem? vs j ≡ some u → ¬ (OwnsAlone u i))
-        → Tallies z sizes (set ws (slot_word sizes i) y) w → IsGuarded w w
-        → ((j : ℕ) (u : View) → j ≢ id → get_elem? vs j ≡ some u → IsGuarded w u × IsGuarded u w)
-        → SlotsPart z sizes (set ws (slot_word sizes i) y) (set vs id w)
+        → Tallies z sizes (set ws (slot_word sizes i) y) w → SeenBeforeRetired w w
+        → ((j : ℕ) (u : View) → j ≢ id → get_elem? vs j ≡ some u → SeenBeforeRetired w u × SeenBeforeRetired u w)
+        → SlotsInvariant z sizes (set ws (slot_word sizes i) y) (set vs id w)
     slot_step i y w inside own own' wait wait' full free mine with_self with_others =
         let long = s.long in let here = get_or-set_same ws (slot_word sizes i) y 0 (omega arith) in
         let now : (j : ℕ) → j ≡ i → slot_at sizes (set ws (slot_word sizes i) y) j ≡ y
@@ -81,14 +81,14 @@ module _ (z : WordReading) (sound : IsSound z) (sizes : Sizes) (ws : List ℕ) (
                     (λ ne. let g = f.alone k own in (ap z.alive (there k ne) ∙ g.0, ap z.counted (there k ne) ∙ g.1));
                 held = f.held;
               });
-          two = both_set IsGuarded vs id w s.two with_self with_others;
+          two = both_set SeenBeforeRetired vs id w s.two with_self with_others;
         }
 
     pub cell_step : (d y : ℕ) (w : View) → d < sizes.cells
         → ((i : ℕ) → z.names i (get_or ws (cell_word sizes d) 0) + owners_at i v ≡ z.names i y + owners_at i w) → ((i : ℕ) → items_at i v ≡ items_at i w)
-        → Tallies z sizes (set ws (cell_word sizes d) y) w → IsGuarded w w
-        → ((j : ℕ) (u : View) → j ≢ id → get_elem? vs j ≡ some u → IsGuarded w u × IsGuarded u w)
-        → SlotsPart z sizes (set ws (cell_word sizes d) y) (set vs id w)
+        → Tallies z sizes (set ws (cell_word sizes d) y) w → SeenBeforeRetired w w
+        → ((j : ℕ) (u : View) → j ≢ id → get_elem? vs j ≡ some u → SeenBeforeRetired w u × SeenBeforeRetired u w)
+        → SlotsInvariant z sizes (set ws (cell_word sizes d) y) (set vs id w)
     cell_step d y w inside own wait mine with_self with_others = let long = s.long in
         let there : (j : ℕ) → slot_at sizes (set ws (cell_word sizes d) y) j ≡ slot_at sizes ws j
         = λ j. get_or-set_other ws (cell_word sizes d) (slot_word sizes j) y 0 (λ e. omega arith) in record {
@@ -104,19 +104,19 @@ module _ (z : WordReading) (sound : IsSound z) (sizes : Sizes) (ws : List ℕ) (
             alone = λ k own. let g = f.alone k own in (ap z.alive (there k) ∙ g.0, ap z.counted (there k) ∙ g.1);
             held = f.held;
           });
-          two = both_set IsGuarded vs id w s.two with_self with_others;
+          two = both_set SeenBeforeRetired vs id w s.two with_self with_others;
         }
 
     -- no word of slots or cells changes
     pub view_step : (w : View) → ((i : ℕ) → owners_at i v ≡ owners_at i w) → ((i : ℕ) → items_at i v ≡ items_at i w)
-        → Tallies z sizes ws w → IsGuarded w w → ((j : ℕ) (u : View) → j ≢ id → get_elem? vs j ≡ some u → IsGuarded w u × IsGuarded u w)
-        → SlotsPart z sizes ws (set vs id w)
+        → Tallies z sizes ws w → SeenBeforeRetired w w → ((j : ℕ) (u : View) → j ≢ id → get_elem? vs j ≡ some u → SeenBeforeRetired w u × SeenBeforeRetired u w)
+        → SlotsInvariant z sizes ws (set vs id w)
     view_step w own wait mine with_self with_others = record {
       long = s.long;
       owned = λ j. let t = total_set (owners_at j) vs id v w at in let a = s.owned j in let p = own j in omega arith;
       waited = λ j. let t = total_set (items_at j) vs id v w at in let a = s.waited j in let p = wait j in omega arith;
       each = each_set (Tallies z sizes ws) (Tallies z sizes ws) vs id w mine (λ j u apart e. s.each j u e);
-      two = both_set IsGuarded vs id w s.two with_self with_others;
+      two = both_set SeenBeforeRetired vs id w s.two with_self with_others;
     }
 
     -- another participant owns no slot alone whose owner steps, or whose word has another number of owners, or counts them
@@ -128,8 +128,8 @@ module _ (z : WordReading) (sound : IsSound z) (sizes : Sizes) (ws : List ℕ) (
         (λ (t : z.alive (slot_at sizes ws i) ≢ 1). t g0) (λ (t : z.counted (slot_at sizes ws i) ≢ 0). t g1) r) why
 
 -- a word below the cells'
-pub below : (z : WordReading) (sizes : Sizes) (ws : List ℕ) (vs : List View) (j y : ℕ) → j < first_cell sizes → SlotsPart z sizes ws vs
-    → SlotsPart z sizes (set ws j y) vs
+pub below : (z : WordReading) (sizes : Sizes) (ws : List ℕ) (vs : List View) (j y : ℕ) → j < first_cell sizes → SlotsInvariant z sizes ws vs
+    → SlotsInvariant z sizes (set ws j y) vs
 below z sizes ws vs j y low s =
     let there : (i : ℕ) → slot_at sizes (set ws j y) i ≡ slot_at sizes ws i = λ i. get_or-set_other ws j (slot_word sizes i) y 0 (λ e. omega arith) in record {
       long = length-set ws j y ∙ s.long;

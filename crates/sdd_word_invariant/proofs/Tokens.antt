@@ -12,8 +12,8 @@ use Rattle.sdd_views.specs.declared.View.{View}
 use Rattle.sdd_views.specs.declared.Sizes.{Sizes}
 use Rattle.sdd_word_invariant.specs.Words.{first_cell, cell_word, slot_word, all_words}
 use Rattle.sdd_word_invariant.specs.Sums.{total, times}
-use Rattle.sdd_word_invariant.specs.Codes.{WordReading, IsSound}
-use Rattle.sdd_word_invariant.specs.Slots.{slot_at, owners_at, waits_in, items_at, Sees, Holds, Tallies, IsGuarded, SlotsPart}
+use Rattle.sdd_word_invariant.specs.Codes.{WordReading, IsWordReading}
+use Rattle.sdd_word_invariant.specs.Slots.{slot_at, owners_at, waits_in, items_at, Sees, Holds, Tallies, SeenBeforeRetired, SlotsInvariant}
 use Rattle.sdd_views.specs.Views.{bare, owning_only}
 use Rattle.sdd_word_invariant.proofs.Frame.{each_set, each_snoc}
 use Rattle.sdd_word_invariant.proofs.Sums.{total_set, total_snoc, span_zero, both_set}
@@ -26,7 +26,7 @@ module _ (t : View) (os ss : List ℕ) (is : t.slots ≡ owning_only os ss) wher
   sees_none : (i : ℕ) → ¬ (Sees t i)
   sees_none i h = let e = ap (λ (s : SlotsView). times i s.sees) is in omega arith
 
-  plain_guarded : (u : View) → IsGuarded t u × IsGuarded u t
+  plain_guarded : (u : View) → SeenBeforeRetired t u × SeenBeforeRetired u t
   plain_guarded u = (
     record { since = λ i l x h. absurd (sees_none i h); looked = λ i h. absurd (sees_none i h) },
     record {
@@ -55,13 +55,13 @@ module _ (t : View) (os ss : List ℕ) (is : t.slots ≡ owning_only os ss) wher
 abbrev pub with_owners : View → List ℕ → List ℕ → List ℕ → FractionsView → View
 with_owners v os ss units known = record v { slots = record v.slots { owns = os; shares = ss; drawn = units }; stakes = known }
 
-module _ (z : WordReading) (sizes : Sizes) (ws : List ℕ) (vs : List View) (s : SlotsPart z sizes ws vs) where
+module _ (z : WordReading) (sizes : Sizes) (ws : List ℕ) (vs : List View) (s : SlotsInvariant z sizes ws vs) where
   -- a new token, whose owners another one lost
   joined : (t : View) (os ss : List ℕ) → t.slots ≡ owning_only os ss → (vs' : List View)
       → ((i : ℕ) → total (owners_at i) vs' + (times i os + times i ss) ≡ total (owners_at i) vs) → ((i : ℕ) → total (items_at i) vs' ≡ total (items_at i) vs)
       → ((i : ℕ) → 0 < times i os → (z.alive (slot_at sizes ws i) ≡ 1) × (z.counted (slot_at sizes ws i) ≡ 0))
       → ((j : ℕ) (u : View) → get_elem? vs' j ≡ some u → Tallies z sizes ws u)
-      → ((j l : ℕ) (u w : View) → get_elem? vs' j ≡ some u → get_elem? vs' l ≡ some w → IsGuarded u w) → SlotsPart z sizes ws (vs' ++ t ∷ [])
+      → ((j l : ℕ) (u w : View) → get_elem? vs' j ≡ some u → get_elem? vs' l ≡ some w → SeenBeforeRetired u w) → SlotsInvariant z sizes ws (vs' ++ t ∷ [])
   joined t os ss is vs' own wait alone each two = record {
     long = s.long;
     owned = λ i. let a = total_snoc (owners_at i) vs' t in let b = owners_of t os ss is i in let o = own i in let c = s.owned i in omega arith;
@@ -69,13 +69,13 @@ module _ (z : WordReading) (sizes : Sizes) (ws : List ℕ) (vs : List View) (s :
     each = each_snoc (Tallies z sizes ws) vs' t each (plain_tallies t os ss is z sizes ws alone);
     two = λ j l u w e e'. ⊎_elim
         (λ (a : get_elem? vs' j ≡ some u). ⊎_elim (λ (d : get_elem? vs' l ≡ some w). two j l u w a d)
-        (λ (d : t ≡ w). subst (IsGuarded u) d (plain_guarded t os ss is u).1) (at_snoc vs' t w l e'))
-        (λ (a : t ≡ u). subst (λ (x : View). IsGuarded x w) a (plain_guarded t os ss is w).0)
+        (λ (d : t ≡ w). subst (SeenBeforeRetired u) d (plain_guarded t os ss is u).1) (at_snoc vs' t w l e'))
+        (λ (a : t ≡ u). subst (λ (x : View). SeenBeforeRetired x w) a (plain_guarded t os ss is w).0)
         (at_snoc vs' t u j e);
   }
 
   -- one that knows nothing
-  pub sits : (t : View) → t.slots ≡ bare → SlotsPart z sizes ws (vs ++ t ∷ [])
+  pub sits : (t : View) → t.slots ≡ bare → SlotsInvariant z sizes ws (vs ++ t ∷ [])
   sits t is = joined t [] [] is vs (λ i. omega arith) (λ i. refl) (λ i own. absurd (omega arith)) s.each s.two
 
   module _ (id : ℕ) (v : View) (at : get_elem? vs id ≡ some v) (os ss units : List ℕ) (known : FractionsView) where
@@ -85,7 +85,7 @@ module _ (z : WordReading) (sizes : Sizes) (ws : List ℕ) (vs : List View) (s :
     -- some owners go to a new token, but for the one of a slot that is held
     pub cuts : (t : View) (os' ss' : List ℕ) → t.slots ≡ owning_only os' ss'
         → ((i : ℕ) → (times i v.slots.owns ≡ times i os + times i os') × (times i v.slots.shares ≡ times i ss + times i ss'))
-        → ((i : ℕ) → Holds v i → 0 < times i os) → SlotsPart z sizes ws (set vs id after ++ t ∷ [])
+        → ((i : ℕ) → Holds v i → 0 < times i os) → SlotsInvariant z sizes ws (set vs id after ++ t ∷ [])
     cuts t os' ss' is parts held = let w : View = after in let f = s.each id v at in
         joined t os' ss' is (set vs id w)
         (λ j. let a = total_set (owners_at j) vs id v w at in let b = parts j in omega arith)
@@ -94,7 +94,7 @@ module _ (z : WordReading) (sizes : Sizes) (ws : List ℕ) (vs : List View) (s :
         (each_set (Tallies z sizes ws) (Tallies z sizes ws) vs id w
         record { timed = f.timed; guarded = f.guarded; full = f.full; alone = λ i own. let b = (parts i).0 in f.alone i (omega arith); held = held }
         (λ j u _ e. s.each j u e))
-        (both_set IsGuarded vs id w s.two
+        (both_set SeenBeforeRetired vs id w s.two
         (let x = s.two id id v v at at in record { since = x.since; looked = x.looked })
         (λ j u apart e. let x = s.two id j v u at e in let y = s.two j id u v e at in
         (record { since = x.since; looked = x.looked }, record { since = y.since; looked = y.looked })))
@@ -102,7 +102,7 @@ module _ (z : WordReading) (sizes : Sizes) (ws : List ℕ) (vs : List View) (s :
     -- the owners of a token are taken in
     pub takes_in : (other : ℕ) (t t' : View) (os' ss' : List ℕ) → t.slots ≡ owning_only os' ss' → t'.slots ≡ bare
         → ((i : ℕ) → (times i os ≡ times i v.slots.owns + times i os') × (times i ss ≡ times i v.slots.shares + times i ss'))
-        → other ≢ id → get_elem? vs other ≡ some t → SlotsPart z sizes ws (set (set vs id after) other t')
+        → other ≢ id → get_elem? vs other ≡ some t → SlotsInvariant z sizes ws (set (set vs id after) other t')
     takes_in other t t' os' ss' is is' parts apart from = let w : View = after in let f = s.each id v at in let g = s.each other t from in
         let vs' : List View = set vs id w in
         let from' : get_elem? vs' other ≡ some t = set_else vs id other w apart ∙ from in
@@ -115,7 +115,7 @@ module _ (z : WordReading) (sizes : Sizes) (ws : List ℕ) (vs : List View) (s :
               (λ none. g.alone i (omega arith)) (λ more. f.alone i (omega arith));
           held = λ i h. let o = f.held i h in let b = (parts i).0 in omega arith;
         } (λ j u _ e. s.each j u e) in
-        let two' = both_set IsGuarded vs id w s.two
+        let two' = both_set SeenBeforeRetired vs id w s.two
         (let x = s.two id id v v at at in record { since = x.since; looked = x.looked })
         (λ j u apart e. let x = s.two id j v u at e in let y = s.two j id u v e at in
         (record { since = x.since; looked = x.looked }, record { since = y.since; looked = y.looked })) in record {
@@ -126,12 +126,12 @@ module _ (z : WordReading) (sizes : Sizes) (ws : List ℕ) (vs : List View) (s :
               let c = items_of t os' ss' is j in let d = items_of t' [] [] is' j in let k = s.waited j in omega arith;
           each = each_set (Tallies z sizes ws) (Tallies z sizes ws) vs' other t' (plain_tallies t' [] [] is' z sizes ws (λ i own. absurd (omega arith)))
               (λ j u _ e. each' j u e);
-          two = both_set IsGuarded vs' other t' two' (plain_guarded t' [] [] is' t').0 (λ j u _ e. plain_guarded t' [] [] is' u);
+          two = both_set SeenBeforeRetired vs' other t' two' (plain_guarded t' [] [] is' t').0 (λ j u _ e. plain_guarded t' [] [] is' u);
         }
 
 -- the start: all words are 0, and there is one token, which knows nothing
-pub starts : (z : WordReading) → IsSound z → (sizes : Sizes) (ws : List ℕ) (t : View) → length ws ≡ all_words sizes → ((i : ℕ) → get_or ws i 0 ≡ 0) → t.slots ≡ bare
-    → SlotsPart z sizes ws (t ∷ [])
+pub starts : (z : WordReading) → IsWordReading z → (sizes : Sizes) (ws : List ℕ) (t : View) → length ws ≡ all_words sizes → ((i : ℕ) → get_or ws i 0 ≡ 0) → t.slots ≡ bare
+    → SlotsInvariant z sizes ws (t ∷ [])
 starts z sound sizes ws t long none is = record {
   long = long;
   owned = λ i. let a = ap z.alive (none (slot_word sizes i)) in let b = sound.free.0 in
@@ -139,7 +139,7 @@ starts z sound sizes ws t long none is = record {
       let d = owners_of t [] [] is i in omega arith;
   waited = λ i. let a = ap z.waiting (none (slot_word sizes i)) in let b = sound.free.1 in let c = items_of t [] [] is i in omega arith;
   each = λ j v e. subst (Tallies z sizes ws) (only j v e) (plain_tallies t [] [] is z sizes ws (λ i own. absurd (omega arith)));
-  two = λ j l v w e e'. subst (λ (x : View). IsGuarded x w) (only j v e) (plain_guarded t [] [] is w).0;
+  two = λ j l v w e e'. subst (λ (x : View). SeenBeforeRetired x w) (only j v e) (plain_guarded t [] [] is w).0;
 }
   where
     only : (j : ℕ) (v : View) → get_elem? (t ∷ []) j ≡ some v → t ≡ v

@@ -11,9 +11,9 @@ use Rattle.sdd_views.specs.declared.WaitingItem.{WaitingItem}
 use Rattle.sdd_views.specs.declared.View.{View}
 use Rattle.sdd_views.specs.declared.Sizes.{Sizes}
 use Rattle.sdd_word_invariant.specs.Words.{slot_word}
-use Rattle.sdd_word_invariant.specs.Codes.{WordReading, IsSound}
+use Rattle.sdd_word_invariant.specs.Codes.{WordReading, IsWordReading}
 use Rattle.sdd_word_invariant.specs.Sums.{total, is, times}
-use Rattle.sdd_word_invariant.specs.Slots.{slot_at, items_at, waits_in, OwnsAlone, SlotsPart}
+use Rattle.sdd_word_invariant.specs.Slots.{slot_at, items_at, waits_in, OwnsAlone, SlotsInvariant}
 use Rattle.sdd_word_invariant.specs.SlotSteps.{without}
 use Rattle.sdd_word_invariant.proofs.Sums.{is_same, is_other, without_same, without_other, total_has}
 
@@ -56,7 +56,7 @@ unfolding slots_of
 length_map [] = refl
 length_map (x ∷ xs) = let r = length_map xs in omega arith
 
-module _ (z : WordReading) (sound : IsSound z) (sizes : Sizes) (ws : List ℕ) (vs : List View) (p : SlotsPart z sizes ws vs)
+module _ (z : WordReading) (sound : IsWordReading z) (sizes : Sizes) (ws : List ℕ) (vs : List View) (p : SlotsInvariant z sizes ws vs)
     (id : ℕ) (v : View) (at : get_elem? vs id ≡ some v) where
   at_most_one : (x : ℕ) → z.waiting x ≤ 1
   at_most_one x = dite (dec_lt 0 (z.waiting x)) (λ some_wait. let e = (sound.waits x some_wait).0 in omega arith) (λ none. omega arith)

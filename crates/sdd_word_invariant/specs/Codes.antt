@@ -27,7 +27,7 @@ pub record WordReading : Type 0 where
   pub names : ℕ → ℕ → ℕ
 
 -- what the rule asks of a reading: an item with an owner doesn't wait, one waits once at most, and a word is 0 at the start
-pub record IsSound (z : WordReading) : Type 0 where
+pub record IsWordReading (z : WordReading) : Type 0 where
   pub lives : (x : ℕ) → 0 < z.alive x → (z.waiting x ≡ 0) × (z.full x ≡ 1)
   pub valued : (x : ℕ) → 0 < z.alive x → z.valued x ≡ 1
   pub emptying : (x : ℕ) → 0 < z.emptying x → (z.emptying x ≡ 1) × (z.alive x ≡ 0) × (z.full x ≡ 1) × (z.valued x ≡ 0)

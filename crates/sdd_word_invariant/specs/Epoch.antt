@@ -52,7 +52,7 @@ pub record Apart (v w : EpochView) : Type 0 where
   pub passed : Scans v → IsOpen w → w.place < v.looked → v.count ≤ w.since
 
 -- n places, the words, and what all participants know; where there is one place, each word is 0 until it is taken
-pub record EpochPart (n : ℕ) (ws : List ℕ) (vs : List EpochView) : Type 0 where
+pub record EpochInvariant (n : ℕ) (ws : List ℕ) (vs : List EpochView) : Type 0 where
   pub wide : after_places n ≤ length ws
   pub each : (j : ℕ) (v : EpochView) → get_elem? vs j ≡ some v → MatchesWords n ws v
   pub two : (j k : ℕ) (v w : EpochView) → j ≢ k → get_elem? vs j ≡ some v → get_elem? vs k ≡ some w → Apart v w

@@ -3,7 +3,7 @@ pub mod Sums
 pub mod Codes
 pub mod Epoch
 pub mod Slots
-pub mod Steps
+pub mod EpochSteps
 pub mod SlotSteps
 pub mod Barred
-pub mod Parts
+pub mod WordInvariant

@@ -11,7 +11,7 @@ use Rattle.sdd_views.specs.declared.Sizes.{Sizes}
 use Rattle.sdd_word_invariant.specs.Words.{words_behind, state_word, slot_word}
 use Rattle.sdd_word_invariant.specs.Epoch.{HasPlace, IsOpen, IsLone}
 use Rattle.sdd_word_invariant.specs.Slots.{items_at}
-use Rattle.sdd_word_invariant.specs.Steps.{knowing, closed, Publishes}
+use Rattle.sdd_word_invariant.specs.EpochSteps.{knowing, closed, Publishes}
 
 -- the words behind the places' before anybody takes part
 abbrev pub blank : Sizes → List ℕ

@@ -52,20 +52,20 @@ pub record Tallies (z : WordReading) (sizes : Sizes) (ws : List ℕ) (v : View) 
 
 -- what is true of any two participants, and of one with itself: a guard that sees an item's slot has published at most at the item's
 -- retirement; and who holds a slot has not looked past a place whose guard sees it
-pub record IsGuarded (v w : View) : Type 0 where
+pub record SeenBeforeRetired (v w : View) : Type 0 where
   pub since : (i k : ℕ) (x : WaitingItem) → Sees v i → get_elem? w.slots.waits k ≡ some x → x.slot ≡ i → v.epoch.since ≤ x.retired_at
   pub looked : (i : ℕ) → Sees v i → Holds w i → w.slots.looked ≤ v.epoch.place
 
 -- the words, and what all participants know: the owners of a slot in views and in cells are as many as its word says,
 -- and an item waits with somebody exactly where the word says so
-pub record SlotsPart (z : WordReading) (sizes : Sizes) (ws : List ℕ) (vs : List View) : Type 0 where
+pub record SlotsInvariant (z : WordReading) (sizes : Sizes) (ws : List ℕ) (vs : List View) : Type 0 where
   pub long : length ws ≡ all_words sizes
   pub owned : (i : ℕ) → z.alive (slot_at sizes ws i) ≡ total (owners_at i) vs + span (z.names i) ws (first_cell sizes) sizes.cells
   pub waited : (i : ℕ) → z.waiting (slot_at sizes ws i) ≡ total (items_at i) vs
   pub each : (j : ℕ) (v : View) → get_elem? vs j ≡ some v → Tallies z sizes ws v
-  pub two : (j k : ℕ) (v w : View) → get_elem? vs j ≡ some v → get_elem? vs k ≡ some w → IsGuarded v w
+  pub two : (j k : ℕ) (v w : View) → get_elem? vs j ≡ some v → get_elem? vs k ≡ some w → SeenBeforeRetired v w
 
 -- where there is one place, its participant knows each word behind the places'
-pub record LonePart (sizes : Sizes) (ws : List ℕ) (vs : List View) : Type 0 where
+pub record LoneInvariant (sizes : Sizes) (ws : List ℕ) (vs : List View) : Type 0 where
   pub knows : sizes.participants ≡ 1 → (j : ℕ) (v : View) → get_elem? vs j ≡ some v → HasPlace v.epoch
       → v.words ≡ drop (after_places sizes.participants) ws

@@ -9,9 +9,9 @@ use Rattle.sdd_participants.specs.declared.standing.Standing.{Standing}
 use Rattle.sdd_participants.specs.declared.standing.Standing.TheVariants.{Owned, Raw, Shared, Retired, Private as privately}
 use Rattle.sdd_standings.specs.Slots.{is_waiting}
 use Rattle.sdd_space.specs.World.{World, standing_at, value_at}
-use Rattle.sdd_space.specs.Steps.{held_in}
+use Rattle.sdd_space.specs.WorldChanges.{held_in}
 use Rattle.sdd_space.specs.OwnerOrCell.{OwnerOrCell, owned, shared, atomic_owned, atomic_shared, atomic_raw}
-use Rattle.sdd_space.specs.Accounts.{owner_count, is_owner_of, is_of, holds_slot, times_held, IsAccounted}
+use Rattle.sdd_space.specs.OwnerCounts.{owner_count, is_owner_of, is_of, holds_slot, times_held, IsAccounted}
 use Rattle.sdd_space.proofs.Whole.{one_where, count-cons, filled-there}
 use Rattle.sdd_world.specs.Closing.{Owner, holder, slot_owned, cell_held, held_by, held_at, owns, Goes, AllGo}
 use Rattle.sdd_world.specs.Closing.Owner.{of_value, of_cell}

@@ -16,8 +16,8 @@ use Rattle.sdd_participants.specs.declared.epoch_state.CountdownState.{Countdown
 use Rattle.sdd_participants.specs.declared.standing.Standing.{Standing}
 use Rattle.sdd_participants.specs.declared.standing.Standing.TheVariants.{Shared, Retired}
 use Rattle.sdd_space.specs.World.{World, standing_at, place_at}
-use Rattle.sdd_space.specs.Steps.{retired, with_standing, without_cell, spilled, cell_closed, held_in, owner_given, given, given_all, freed, taken_out, waiting_value, reclaimed, all_reclaimed, changed}
-use Rattle.sdd_space.specs.Steps as steps
+use Rattle.sdd_space.specs.WorldChanges.{retired, with_standing, without_cell, spilled, cell_closed, held_in, owner_given, given, given_all, freed, taken_out, waiting_value, reclaimed, all_reclaimed, changed}
+use Rattle.sdd_space.specs.WorldChanges as steps
 use Rattle.sdd_space.specs.OwnerOrCell.{OwnerOrCell, owned, shared, atomic_owned, atomic_shared, atomic_raw}
 use Rattle.sdd_space.specs.Out.{is_out}
 use Rattle.sdd_space.proofs.Standings.{out-inside, owner-given}

@@ -3,7 +3,7 @@ use Rattle.std.proofs.Common.{◌≡◌, ℕ, refl, Some, Option}
 use Rattle.sdd_participants.specs.declared.standing.Standing.{Standing}
 use Rattle.sdd_space.specs.World.{World, standing_at, value_at}
 use Rattle.sdd_space.specs.Ptr.{KeepsShown}
-use Rattle.sdd_space.specs.Steps.{owner_given}
+use Rattle.sdd_space.specs.WorldChanges.{owner_given}
 use Rattle.sdd_space.proofs.Standings.{owner-given}
 
 module _ {T : Type 0} where

@@ -19,20 +19,20 @@ use Rattle.sdd_participants.specs.declared.standing.Standing.{Standing}
 use Rattle.sdd_participants.specs.declared.standing.Standing.TheVariants.{Owned, Raw, Shared, Retired, Private as privately}
 use Rattle.sdd_standings.specs.Slots.{is_waiting, IsWaiting}
 use Rattle.sdd_space.specs.World.{World, standing_at, value_at, place_at}
-use Rattle.sdd_space.specs.Steps.{without_cell, spilled, cell_closed, held_in, owner_given, given, given_all, freed, taken_out, waiting_value, reclaimed, all_reclaimed, changed}
-use Rattle.sdd_space.specs.Steps as steps
+use Rattle.sdd_space.specs.WorldChanges.{without_cell, spilled, cell_closed, held_in, owner_given, given, given_all, freed, taken_out, waiting_value, reclaimed, all_reclaimed, changed}
+use Rattle.sdd_space.specs.WorldChanges as steps
 use Rattle.sdd_space.specs.OwnerOrCell.{OwnerOrCell, owned, shared, atomic_owned, atomic_shared, atomic_raw}
-use Rattle.sdd_space.specs.Whole.{times_with, jobs_with, once_if, taken, IsWhole}
-use Rattle.sdd_space.specs.Accounts.{owner_count}
+use Rattle.sdd_space.specs.WorldInvariant.{times_with, jobs_with, once_if, taken, IsWhole}
+use Rattle.sdd_space.specs.OwnerCounts.{owner_count}
 use Rattle.sdd_world_core.specs.Closing.{NothingIsOut}
-use Rattle.sdd_world.specs.Closing.{aged_out, all_aged_out, Closes, Owner, Holder, holder, slot_owned, cell_held, with_fewer, held_by, held_at, owns, AreAllOf, Goes, AllGo, with_reclaimed, Stays, Sweeps, Accounts}
+use Rattle.sdd_world.specs.Closing.{aged_out, all_aged_out, ReclaimsAll, Owner, Holder, holder, slot_owned, cell_held, with_fewer, held_by, held_at, owns, AreAllOf, Goes, AllGo, with_reclaimed, KeepsItem, Sweeps, Accounts}
 use Rattle.sdd_world.specs.Closing.Owner.{of_value, of_cell}
 use Rattle.sdd_world.specs.Closing.Holder.{the_item, the_cell}
 use Rattle.sdd_world.specs.Closing.Goes.{waits, given as by_giving, held as by_holding}
 use Rattle.sdd_space.proofs.Weights.{in_range}
 use Rattle.sdd_space.proofs.Standings.{out-inside, out-some, owner-given}
 use Rattle.sdd_space.specs.Out.{is_out, out, HoldsNothing}
-use Rattle.sdd_space.specs.Whole.{IsCounted}
+use Rattle.sdd_space.specs.WorldInvariant.{IsCounted}
 use Rattle.sdd_participants.specs.declared.tally.Tally.{Tally}
 use Rattle.sdd_space.proofs.Whole.{one_where, waits-inside}
 use Rattle.sdd_space.proofs.Opening.{none-here}
@@ -805,7 +805,7 @@ module _ {T : Type 0} (holds : T → List OwnerOrCell) (old : World T) where
       slot-given new e k owners are (λ o c. given-up new o (goes o c) (all-gone new e (holder o) (goes o c))) (e.swept.slot k)
   all-gone new e _ (by_holding j i c of g) = e.swept.done j i c of (goes-some j g, ap is_some (all-gone new e (the_item j) g).0, tt)
 
-  stays-given : (new : World T) → Ended new → (k : ℕ) (a : Still (WasGiven new) k (standing_at new k) (value_at new k)) → Stays holds old new k
+  stays-given : (new : World T) → Ended new → (k : ℕ) (a : Still (WasGiven new) k (standing_at new k) (value_at new k)) → KeepsItem holds old new k
   stays-given new e k a =
       record {
         given = a.given;
@@ -818,7 +818,7 @@ module _ {T : Type 0} (holds : T → List OwnerOrCell) (old : World T) where
         value = a.value;
       }
 
-  slot-kept : (new : World T) → Ended new → (k : ℕ) → ¬ (Goes holds old (the_item k)) → StateAt (WasGiven new) new k → Stays holds old new k
+  slot-kept : (new : World T) → Ended new → (k : ℕ) → ¬ (Goes holds old (the_item k)) → StateAt (WasGiven new) new k → KeepsItem holds old new k
   slot-kept new e k h (still a) = stays-given new e k a
   slot-kept new e k h (retires g a b) = absurd (h g)
   slot-kept new e k h (gone g a b) = absurd (h g)
@@ -839,7 +839,7 @@ module _ {T : Type 0} (holds : T → List OwnerOrCell) (old : World T) where
   free-place None e = refl
   free-place (Some x) e = absurd (omega (arith, e))
 
-  ended : (new : World T) → Closes holds old new → IsWhole new → Ended new
+  ended : (new : World T) → ReclaimsAll holds old new → IsWhole new → Ended new
   ended new c i =
       record {
         swept = rw c.changes.1 (Swept-all_aged_out old c.changes.0 Swept-start);
@@ -849,7 +849,7 @@ module _ {T : Type 0} (holds : T → List OwnerOrCell) (old : World T) where
       }
 
   -- the closing sweeps away exactly what goes
-  pub sweeps : (new : World T) → Closes holds old new → IsWhole new → Sweeps holds old new
+  pub sweeps : (new : World T) → ReclaimsAll holds old new → IsWhole new → Sweeps holds old new
   sweeps new c i =
       let e = ended new c i in
       record {
@@ -882,7 +882,7 @@ module _ {T : Type 0} (holds : T → List OwnerOrCell) (old : World T) where
   cell-free-at-end new e all c (keeps a) (Some x) is = all-gone new e (the_cell c) (all.cells c (ap is_some is))
   cell-free-at-end new e all c (closed g a) x is = a
 
-  pub nothing-out : (new : World T) → Closes holds old new → IsWhole new → AllGo holds old → NothingIsOut new
+  pub nothing-out : (new : World T) → ReclaimsAll holds old new → IsWhole new → AllGo holds old → NothingIsOut new
   nothing-out new c i all =
       let e = ended new c i in (
         all-none new.standings (λ k. free-at-end new e all k (e.swept.slot k) (standing_at old k) refl),
@@ -900,10 +900,10 @@ module _ {T : Type 0} (holds : T → List OwnerOrCell) (old : World T) where
   cell-went new c none some (keeps a) = absurd (some-none some (sym a ∙ none))
   cell-went new c none some (closed g a) = g
 
-  swept-to : (new : World T) → Closes holds old new → Swept nothing new
+  swept-to : (new : World T) → ReclaimsAll holds old new → Swept nothing new
   swept-to new c = rw c.changes.1 (Swept-all_aged_out old c.changes.0 Swept-start)
 
-  pub all-went : (new : World T) → Closes holds old new → NothingIsOut new → AllGo holds old
+  pub all-went : (new : World T) → ReclaimsAll holds old new → NothingIsOut new → AllGo holds old
   all-went new c out =
       let e = swept-to new c in
       record {
@@ -912,7 +912,7 @@ module _ {T : Type 0} (holds : T → List OwnerOrCell) (old : World T) where
       }
 
   -- all that was there was reclaimed
-  pub all-counted : (new : World T) → Closes holds old new → NothingIsOut new → new.tally ≡ with_reclaimed (taken old) old.tally
+  pub all-counted : (new : World T) → ReclaimsAll holds old new → NothingIsOut new → new.tally ≡ with_reclaimed (taken old) old.tally
   all-counted new c out =
       let e = swept-to new c in
       let n : ℕ = e.count.0 in

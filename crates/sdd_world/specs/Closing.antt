@@ -9,9 +9,9 @@ use Rattle.sdd_participants.specs.declared.standing.Standing.TheVariants.{Owned,
 use Rattle.sdd_standings.specs.Slots.{IsWaiting}
 use Rattle.sdd_space.specs.OwnerOrCell.{OwnerOrCell, owned, shared, atomic_owned, atomic_shared, atomic_raw}
 use Rattle.sdd_space.specs.World.{World, place_at, standing_at, value_at}
-use Rattle.sdd_space.specs.Steps.{changed, held_in}
-use Rattle.sdd_space.specs.Whole.{taken, IsCounted}
-use Rattle.sdd_space.specs.Accounts.{owner_count}
+use Rattle.sdd_space.specs.WorldChanges.{changed, held_in}
+use Rattle.sdd_space.specs.WorldInvariant.{taken, IsCounted}
+use Rattle.sdd_space.specs.OwnerCounts.{owner_count}
 use Rattle.sdd_world_core.specs.Closing.{paced}
 
 -- nothing waits with anyone, nor at the place of anyone who has ended
@@ -29,7 +29,7 @@ module _ {T : Type 0} (holds : T → List OwnerOrCell) where
   all_aged_out w (p ∷ ps) = all_aged_out (aged_out w p) ps
 
 -- by such changes what waited was reclaimed, with what it gave up in turn; time is as before, but nothing waits
-pub record Closes {T : Type 0} (holds : T → List OwnerOrCell) (old new : World T) : Type 0 where
+pub record ReclaimsAll {T : Type 0} (holds : T → List OwnerOrCell) (old new : World T) : Type 0 where
   pub changes : (places : List ℕ) × (new ≡ all_aged_out holds old places)
   pub time : new.time ≡ emptied old.time
   pub home : new.home ≡ old.home
@@ -116,7 +116,7 @@ with_reclaimed zero t = t
 with_reclaimed (suc n) t = one_reclaimed (with_reclaimed n t)
 
 -- the item stays, with its value; exactly those of its owners are given up whose holder goes
-pub record Stays {T : Type 0} (holds : T → List OwnerOrCell) (old new : World T) (k : ℕ) : Type 0 where
+pub record KeepsItem {T : Type 0} (holds : T → List OwnerOrCell) (old new : World T) (k : ℕ) : Type 0 where
   pub given : List Owner
   pub distinct : AllPairs ◌≢◌ given
   pub all : (o : Owner) → (Contains given o ↔ ((owns holds old o ≡ Some k) × Goes holds old (holder o)))
@@ -126,7 +126,7 @@ pub record Stays {T : Type 0} (holds : T → List OwnerOrCell) (old new : World 
 -- what goes is free, and its items are counted as reclaimed; everything else is as before, but for the owners that went
 pub record Sweeps {T : Type 0} (holds : T → List OwnerOrCell) (old new : World T) : Type 0 where
   pub gone : (k : ℕ) → Goes holds old (the_item k) → (standing_at new k ≡ None) × (value_at new k ≡ None)
-  pub kept : (k : ℕ) → ¬ (Goes holds old (the_item k)) → Stays holds old new k
+  pub kept : (k : ℕ) → ¬ (Goes holds old (the_item k)) → KeepsItem holds old new k
   pub cells_gone : (c : ℕ) → Goes holds old (the_cell c) → entry_at new.cells c ≡ None
   pub cells_kept : (c : ℕ) → ¬ (Goes holds old (the_cell c)) → entry_at new.cells c ≡ entry_at old.cells c
   pub pointers : new.pointers ≡ old.pointers

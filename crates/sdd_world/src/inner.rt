@@ -5,14 +5,14 @@ ghost use Rattle.sdd_space.specs.World.{IsPlaceOf, place_at, standing_at, value_
 ghost use Rattle.sdd_space.specs.Guard.{reader_of};
 ghost use Rattle.sdd_space.specs.CallerId.{reader_at};
 ghost use Rattle.sdd_space.specs.Ptr.{slot_named, shown_by};
-ghost use Rattle.sdd_space.specs.Under.{Stays};
+ghost use Rattle.sdd_space.specs.UnderGuards.{CannotGo};
 ghost use Rattle.sdd_space.specs.Owned.{slot_of, slots_home, cell_of, cells_home};
 ghost use Rattle.sdd_space.specs.Shared as shared;
 ghost use Rattle.sdd_rights.specs.SharedRights as shares;
 ghost use Rattle.sdd_standings.specs.Slots.{IsSharedBy};
 ghost use Rattle.sdd_participants.specs.Slab.{IsFull};
 ghost use Rattle.sdd_participants.specs.declared.standing.Standing.TheVariants as standing;
-ghost use Rattle.sdd_space.specs.Steps.{reclaims, retired, owner_given, cell_closed, without_cell, with_standing};
+ghost use Rattle.sdd_space.specs.WorldChanges.{reclaims, retired, owner_given, cell_closed, without_cell, with_standing};
 ghost use Rattle.sdd_space.specs.Out.{IsNullCell};
 ghost use Rattle.sdd_space.specs.Collector as collectors;
 ghost use Rattle.sdd_world.specs.Place.{index_of};
@@ -70,7 +70,7 @@ pub fn ptr_at<'g, T: Item<T>, J: Job>(
 ) -> Ptr<'g, T>
     requires place { IsPlaceOf world.old (index_of place.now) }
     requires reader { reader_of guard.now ≡ reader_at world.old (index_of place.now) }
-    requires stays { Stays world.old (index_of place.now) slot }
+    requires stays { CannotGo world.old (index_of place.now) slot }
     ensures slot { slot_named result ≡ Some slot }
     ensures shown { shown_by result ≡ value_at world.old slot }
     ensures full { IsSome (shown_by result) }

@@ -4,13 +4,13 @@ ghost use Rattle.sdd_standings.specs.Slots.{IsOwnedBy};
 ghost use Rattle.sdd_participants.specs.EpochState.{CanNest, phase_at, IsVacant, IsCrowded, is_open, due_next};
 ghost use Rattle.sdd_participants.specs.Slab.{IsEmptyAt, IsFull};
 ghost use Rattle.sdd_space.specs.OwnerOrCell.{AreOf};
-ghost use Rattle.sdd_space.specs.World.{World, IsGuarded, IsPlaceOf, IsNew, place_at, standing_at, value_at};
+ghost use Rattle.sdd_space.specs.World.{World, AnyGuardOpen, IsPlaceOf, IsNew, place_at, standing_at, value_at};
 ghost use Rattle.sdd_space.specs.Guard.{reader_of};
 ghost use Rattle.sdd_space.specs.CallerId.{reader_at};
-ghost use Rattle.sdd_space.specs.Under.{Stays};
+ghost use Rattle.sdd_space.specs.UnderGuards.{CannotGo};
 ghost use Rattle.sdd_space.specs.Out.{IsNullCell, out};
 ghost use Rattle.sdd_core.specs.Limits.{AreInRange};
-ghost use Rattle.sdd_space.specs.Steps.{made, retired, owner_given, nulled, cell_closed, without_cell, opened, changed, closed, stirred, accelerated, registered, ended, reclaims};
+ghost use Rattle.sdd_space.specs.WorldChanges.{made, retired, owner_given, nulled, cell_closed, without_cell, opened, changed, closed, stirred, accelerated, registered, ended, reclaims};
 
 mod closing;
 mod laws;
@@ -35,7 +35,7 @@ pub struct World<T: Item<T>, J: Job = Idle> {
 impl<T: Item<T>, J: Job> Model for World<T, J> {
     ghost use Rattle.std.specs.Prelude.{◌≡◌, ◌≤◌, [], length, vec_capacity};
     ghost use Rattle.sdd_space.specs.World.{World, most};
-    ghost use Rattle.sdd_space.specs.Whole.{IsWhole};
+    ghost use Rattle.sdd_space.specs.WorldInvariant.{IsWhole};
     ghost use Rattle.sdd_world_core.specs.Lending.{AreLent};
 
     ghost Value = { World T };
@@ -70,7 +70,7 @@ impl<T: Item<T>, J: Job> World<T, J> {
     /// `BadLimits` where a limit is out of its range; `NoMemory` where the memory for all items and cells was refused.
     pub fn new(alloc: Global, limits: Limits) -> Result<World<T, J>, Refused>
         ensures new { IfOk result (IsNew limits 0) }
-        ensures spent { IfOk result (λ world. ¬ (IsGuarded world) × (out world ≡ 0)) }
+        ensures spent { IfOk result (λ world. ¬ (AnyGuardOpen world) × (out world ≡ 0)) }
         ensures limits { MatchResult result (λ _. AreInRange limits)
             (λ e. ((e ≡ Refused.BadLimits) × ¬ (AreInRange limits)) ⊎ ((e ≡ Refused.NoMemory) × AreInRange limits)) }
     {
@@ -82,7 +82,7 @@ impl<T: Item<T>, J: Job> World<T, J> {
     /// Refusals are those of `new`.
     pub fn starting_at(alloc: Global, limits: Limits, count: u64) -> Result<World<T, J>, Refused>
         ensures new { IfOk result (IsNew limits count) }
-        ensures spent { IfOk result (λ world. ¬ (IsGuarded world) × (out world ≡ 0)) }
+        ensures spent { IfOk result (λ world. ¬ (AnyGuardOpen world) × (out world ≡ 0)) }
         ensures limits { MatchResult result (λ _. AreInRange limits)
             (λ e. ((e ≡ Refused.BadLimits) × ¬ (AreInRange limits)) ⊎ ((e ≡ Refused.NoMemory) × AreInRange limits)) }
     {
@@ -118,7 +118,7 @@ impl<T: Item<T>, J: Job> World<T, J> {
             (λ e. ((e ≡ Refused.NoPlace) × IsCrowded self.old.time ⊎ (e ≡ Refused.NoMemory) × ¬ (IsCrowded self.old.time)) × (self.new ≡ self.old)) }
         ensures place { IfOk result (λ place. IsPlaceOf self.new (index_of place)) }
         ensures others { IfOk result (λ place. (p : ℕ) → IsPlaceOf self.old p → (p ≢ index_of place) × IsPlaceOf self.new p) }
-        ensures quiet { ¬ (IsGuarded self.old) → ¬ (IsGuarded self.new) }
+        ensures quiet { ¬ (AnyGuardOpen self.old) → ¬ (AnyGuardOpen self.new) }
     {
         let index = self.core.register()?;
         Ok(Place { index })
@@ -133,7 +133,7 @@ impl<T: Item<T>, J: Job> World<T, J> {
             (λ _. ¬ (IsTrue (is_open (place_at self.old (index_of place)))) × (self.new ≡ ended self.old (index_of place)))
             (λ e. IsTrue (is_open (place_at self.old (index_of place))) × (e ≡ (place, Refused.GuardOpen)) × (self.new ≡ self.old)) }
         ensures others { (p : ℕ) → p ≢ index_of place → IsPlaceOf self.old p → IsPlaceOf self.new p }
-        ensures quiet { ¬ (IsGuarded self.old) → ¬ (IsGuarded self.new) }
+        ensures quiet { ¬ (AnyGuardOpen self.old) → ¬ (AnyGuardOpen self.new) }
     {
         if self.time().is_open(place.index) {
             return Err((place, Refused::GuardOpen));
@@ -193,7 +193,7 @@ impl<T: Item<T>, J: Job> World<T, J> {
     pub(crate) fn lend<'g>(&mut self, place: &Place, slot: u32, guard: &'g Guard) -> &'g T
         requires place { IsPlaceOf self.old (index_of place.now) }
         requires reader { reader_of guard.now ≡ reader_at self.old (index_of place.now) }
-        requires stays { Stays self.old (index_of place.now) slot }
+        requires stays { CannotGo self.old (index_of place.now) slot }
         ensures value { value_at self.old slot ≡ Some result.now }
         ensures world { self.new ≡ self.old }
     {
@@ -218,7 +218,7 @@ impl<T: Item<T>, J: Job> World<T, J> {
 
     /// A guard of some participant is open.
     pub(crate) fn is_guarded(&self) -> bool
-        ensures { IsTrue result ↔ IsGuarded self.now }
+        ensures { IsTrue result ↔ AnyGuardOpen self.now }
     {
         self.core.is_guarded()
     }

@@ -8,8 +8,8 @@ use Rattle.sdd_participants.specs.Collecting.{without}
 use Rattle.sdd_participants.specs.declared.epoch_state.Participant.{Participant}
 use Rattle.sdd_space.specs.OwnerOrCell.{OwnerOrCell}
 use Rattle.sdd_space.specs.Loans.{Loans}
-use Rattle.sdd_space.specs.World.{World, IsGuarded, KeepsSizes, place_at}
-use Rattle.sdd_space.specs.Own.{all_awaiting}
+use Rattle.sdd_space.specs.World.{World, AnyGuardOpen, KeepsSizes, place_at}
+use Rattle.sdd_space.specs.ParticipantChanges.{all_awaiting}
 use Rattle.sdd_space.specs.Collecting.{collector_closed, is_for, without_collector}
 use Rattle.sdd_space.proofs.Own.{Gives-collector_closed}
 use Rattle.sdd_space.proofs.Whole.{all_awaiting-guards}
@@ -32,7 +32,7 @@ module _ {T : Type 0} (holds : T → List OwnerOrCell) (w : World T) (p c : ℕ)
       ∙ guards-without q
 
   -- nothing is lent, as no guard is open
-  pub lent-closed : (l : Loans) → (IsGuarded w → ⊥) → KeepsSizes w (collector_closed holds w p c) → AreLentOf w l →
+  pub lent-closed : (l : Loans) → (AnyGuardOpen w → ⊥) → KeepsSizes w (collector_closed holds w p c) → AreLentOf w l →
       AreLentOf (collector_closed holds w p c) l
   lent-closed l quiet sizes i =
       lent-quiet w (collector_closed holds w p c) l (readers-keep w (collector_closed holds w p c) sizes i.readers) guards-closed quiet i

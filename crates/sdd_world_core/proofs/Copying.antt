@@ -5,7 +5,7 @@ use Rattle.sdd_participants.specs.Slab.{IsEmptyAt}
 use Rattle.sdd_participants.specs.declared.standing.CellContents.{CellContents}
 use Rattle.sdd_participants.specs.declared.standing.Standing.TheVariants.{Shared}
 use Rattle.sdd_standings.specs.Slots.{IsSharedBy}
-use Rattle.sdd_space.specs.Steps.{with_cell, with_standing}
+use Rattle.sdd_space.specs.WorldChanges.{with_cell, with_standing}
 use Rattle.sdd_space.specs.World.{standing_at}
 use Rattle.sdd_world_core.specs.WorldCore.{WorldCore}
 

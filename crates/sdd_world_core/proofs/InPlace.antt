@@ -11,9 +11,9 @@ use Rattle.sdd_space.specs.OwnerOrCell.{OwnerOrCell, SpaceId, AreOf, ValueIsOf, 
 use Rattle.sdd_space.specs.Loans.{Loans}
 use Rattle.sdd_space.specs.World.{World, KeepsSizes, place_at, standing_at, value_at}
 use Rattle.sdd_space.specs.InPlace.{MayInPlace}
-use Rattle.sdd_space.specs.Own.{all_awaiting}
-use Rattle.sdd_space.specs.Steps.{with_value, given_all, vacated, dropped_out, dropped}
-use Rattle.sdd_space.specs.Whole.{IsWhole}
+use Rattle.sdd_space.specs.ParticipantChanges.{all_awaiting}
+use Rattle.sdd_space.specs.WorldChanges.{with_value, given_all, vacated, dropped_out, dropped}
+use Rattle.sdd_space.specs.WorldInvariant.{IsWhole}
 use Rattle.sdd_space.proofs.Housed.{Whole-dropped}
 use Rattle.sdd_space.proofs.Own.{Gives-dropped}
 use Rattle.sdd_space.proofs.Standings.{alone-out}

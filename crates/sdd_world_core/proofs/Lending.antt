@@ -10,7 +10,7 @@ use Rattle.sdd_participants.specs.EpochState as time
 use Rattle.sdd_participants.specs.declared.epoch_state.Participant.{Participant}
 use Rattle.sdd_participants.specs.declared.standing.Standing.{Standing}
 use Rattle.sdd_participants.specs.declared.standing.Standing.TheVariants.{Shared, Retired}
-use Rattle.sdd_values.specs.Block.{IsHome, IsFreeFor, lent, stake_at, unlent}
+use Rattle.sdd_values.specs.Block.{IsUnlent, IsFreeFor, lent, stake_at, unlent}
 use Rattle.sdd_values.specs.ReadSections.{ReadSections, Kept, kept_at, whole}
 use Rattle.sdd_values.specs.declared.read_sections.SectionState.{SectionState}
 use Rattle.sdd_values.specs.declared.read_sections.SectionState.TheVariants.{Open, Closed}
@@ -22,11 +22,11 @@ use Rattle.sdd_participants.specs.declared.standing.RawCellContents.{RawCellCont
 use Rattle.sdd_standings.specs.Slots.{is_waiting}
 use Rattle.sdd_space.specs.Loans.{Loans}
 use Rattle.sdd_space.specs.World.{World, KeepsSizes, IsPlaceOf, place_at, standing_at}
-use Rattle.sdd_space.specs.Steps.{waiting_as, retired, with_standing, owner_given, opened, closed, ended, registered, reclaims}
+use Rattle.sdd_space.specs.WorldChanges.{waiting_as, retired, with_standing, owner_given, opened, closed, ended, registered, reclaims}
 use Rattle.sdd_space.specs.Out.{is_out}
-use Rattle.sdd_space.specs.Own.{all_awaiting, opened_at, changed_at}
-use Rattle.sdd_space.specs.Whole.{IsWhole}
-use Rattle.sdd_space.specs.Under.{IsSafe, Stays}
+use Rattle.sdd_space.specs.ParticipantChanges.{all_awaiting, opened_at, changed_at}
+use Rattle.sdd_space.specs.WorldInvariant.{IsWhole}
+use Rattle.sdd_space.specs.UnderGuards.{IsSafe, CannotGo}
 use Rattle.sdd_space.specs.WorldStep.{WorldStep}
 use Rattle.sdd_space.specs.WorldStep.WorldStep.{registers, ends, opens, closes}
 use Rattle.sdd_space.proofs.Own as own
@@ -182,7 +182,7 @@ module _ {T : Type 0} where
   safe-cells : (w : World T) (h : SpaceId) (cells : Entries CellContents) (pointers : List RawCellContents) (p k : ℕ) → IsSafe w p k →
       IsSafe (record w { home = h; cells = cells; pointers = pointers }) p k
   safe-cells w h cells pointers p k i = record { guarded = i.guarded; stays = by i.stays } where
-    by : Stays w p k → Stays (record w { home = h; cells = cells; pointers = pointers }) p k
+    by : CannotGo w p k → CannotGo (record w { home = h; cells = cells; pointers = pointers }) p k
     by (inl out) = inl out
     by (inr u) = inr (record { guarded = u.guarded; waiting = u.waiting; holder = u.holder; seen = u.seen; waits = u.waits; safe = u.safe })
 
@@ -211,7 +211,7 @@ module _ {T : Type 0} where
   -- an item that is shared by more or fewer is safe as it was
   safe-shared : (v : World T) (k n m : ℕ) → standing_at v k ≡ Some (Shared n) → (p j : ℕ) → IsSafe v p j → IsSafe (with_standing v k (Shared m)) p j
   safe-shared v k n m is p j safe = record { guarded = safe.guarded; stays = by safe.stays (same-or-not j k) } where
-    by : Stays v p j → (j ≡ k) ⊎ (j ≢ k) → Stays (with_standing v k (Shared m)) p j
+    by : CannotGo v p j → (j ≡ k) ⊎ (j ≢ k) → CannotGo (with_standing v k (Shared m)) p j
     by (inl out) (inl e) = inl (rw (e, get_or-set_same v.standings k (Some (Shared m)) None (out-inside v.standings k (ap is_out is))) refl)
     by (inl out) (inr apart) = inl (rw (get_or-set_other v.standings k j (Some (Shared m)) None apart) out)
     by (inr u) (inl e) = let never : true ≡ false = sym u.waiting ∙ ap (λ (n : ℕ). is_waiting (standing_at v n)) e ∙ ap is_waiting is in absurd (cc)
@@ -312,15 +312,15 @@ module _ {T : Type 0} where
 
   -- what an opening reclaims is lent to nobody
   pub due-home : (holds : T → List OwnerOrCell) (w : World T) (l : Loans) (r : ℕ) → r < length w.time.places → IsWhole w → AreLentOf w l →
-      (k : ℕ) → Contains (reclaims w r) (Item k) → IsHome l.stakes k
+      (k : ℕ) → Contains (reclaims w r) (Item k) → IsUnlent l.stakes k
   due-home holds w l r there whole i k due =
       all-home (IsLentTo w l) l.stakes i.lent k (λ p t so. safe-not-due p k holds w r there whole so.0 due)
 
   -- where no guard is open nothing is lent
-  pub all-home-quiet : (w : World T) (l : Loans) → AreLentOf w l → ((p : ℕ) → IsTrue (is_open (place_at w p)) → ⊥) → (k : ℕ) → IsHome l.stakes k
+  pub all-home-quiet : (w : World T) (l : Loans) → AreLentOf w l → ((p : ℕ) → IsTrue (is_open (place_at w p)) → ⊥) → (k : ℕ) → IsUnlent l.stakes k
   all-home-quiet w l i quiet k = all-home (IsLentTo w l) l.stakes i.lent k (λ p t so. quiet p so.0.guarded)
 
-  pub lent-here : (w : World T) (l : Loans) (p k : ℕ) → Stays w p k → (kept_at l.tenures p).kind ≡ Open → AreLentOf w l →
+  pub lent-here : (w : World T) (l : Loans) (p k : ℕ) → CannotGo w p k → (kept_at l.tenures p).kind ≡ Open → AreLentOf w l →
       AreLentOf w (record l { stakes = lent k p (kept_at l.tenures p).round l.stakes })
   lent-here w l p k stays is i =
       let safe : IsSafe w p k = record { guarded = kind-open (place_at w p) (kept_at l.tenures p) (i.tenures p) is; stays = stays } in record {

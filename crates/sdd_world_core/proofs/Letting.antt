@@ -14,8 +14,8 @@ use Rattle.sdd_standings.specs.Slots.{IsOwnedBy, has_others, released_standing, 
 use Rattle.sdd_space.specs.OwnerOrCell.{OwnerOrCell}
 use Rattle.sdd_space.specs.Loans.{Loans}
 use Rattle.sdd_space.specs.World.{World, IsPlaceOf, standing_at}
-use Rattle.sdd_space.specs.Whole.{IsWhole}
-use Rattle.sdd_space.specs.Steps.{with_standing, owner_given}
+use Rattle.sdd_space.specs.WorldInvariant.{IsWhole}
+use Rattle.sdd_space.specs.WorldChanges.{with_standing, owner_given}
 use Rattle.sdd_space.specs.Collecting.{collected, owner_collected}
 use Rattle.sdd_space.specs.Out.{is_out}
 use Rattle.sdd_space.proofs.Housed.{IsTaken, Whole-owner_given, Whole-waits, live-taken}

@@ -5,7 +5,7 @@ use Rattle.sdd_participants.specs.Slab.{Entries, IsEmptyAt}
 use Rattle.sdd_participants.specs.declared.standing.Standing.{Standing}
 use Rattle.sdd_participants.specs.declared.standing.Standing.TheVariants.{Shared}
 use Rattle.sdd_space.specs.World.{World, standing_at}
-use Rattle.sdd_space.specs.Steps.{made_as, with_standing}
+use Rattle.sdd_space.specs.WorldChanges.{made_as, with_standing}
 
 module _ {T : Type 0} where
   -- an item that is shared by more once it was made stands as if it had been made so

@@ -10,7 +10,7 @@ use Rattle.sdd_values.specs.declared.read_sections.SectionState.{SectionState}
 use Rattle.sdd_values.specs.declared.read_sections.SectionState.TheVariants.{Open, Closed}
 use Rattle.sdd_space.specs.Loans.{Loans}
 use Rattle.sdd_space.specs.World.{World, place_at}
-use Rattle.sdd_space.specs.Under.{IsSafe}
+use Rattle.sdd_space.specs.UnderGuards.{IsSafe}
 use Rattle.sdd_world_core.specs.WorldCore.{WorldCore}
 
 -- the part of p's open tenure that a guard has

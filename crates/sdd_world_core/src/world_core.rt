@@ -3,7 +3,7 @@ ghost use Rattle.sdd_values.specs.Block.{unlent};
 ghost use Rattle.sdd_standings.specs.Cells.{null_pointer};
 ghost use Rattle.sdd_participants.specs.EpochState as time;
 ghost use Rattle.sdd_space.specs.OwnerOrCell.{ValuesAreOf};
-ghost use Rattle.sdd_space.specs.World.{IsBlank, IsGuarded};
+ghost use Rattle.sdd_space.specs.World.{IsBlank, AnyGuardOpen};
 ghost use Rattle.sdd_world_core.specs.Closing.{NothingIsOut};
 ghost use Rattle.sdd_world_core.specs.Lending.{AreLent};
 
@@ -115,7 +115,7 @@ impl<T: Item<T>, J: Job> WorldCore<T, J> {
 
     /// A guard of some place is open.
     pub fn is_guarded(&self) -> bool
-        ensures { IsTrue result ↔ IsGuarded self.now.world }
+        ensures { IsTrue result ↔ AnyGuardOpen self.now.world }
     {
         self.time.is_any_open()
     }

@@ -12,7 +12,7 @@ use Rattle.sdd_rights.specs.declared.right.StandingKind.TheVariants as kind
 use Rattle.sdd_participants.specs.Slab.{Entries}
 use Rattle.sdd_participants.specs.declared.standing.Standing.{Standing}
 use Rattle.sdd_participants.specs.declared.standing.Standing.TheVariants.{Owned, Raw, Shared, Retired, Private}
-use Rattle.sdd_standings.specs.Slots.{AreKept, IsWaiting, is_waiting, IsBounded, IsSharedBy, IsOwnedBy, kept_of, first_standing, owners_of}
+use Rattle.sdd_standings.specs.Slots.{SlotsMatch, IsWaiting, is_waiting, IsBounded, IsSharedBy, IsOwnedBy, kept_of, first_standing, owners_of}
 
 -- each of the same, mapped
 pub map-replicate : {X Y : Type 0} (f : X → Y) (n : ℕ) (x : X) → map f (replicate n x) ≡ replicate n (f x)
@@ -21,12 +21,12 @@ map-replicate {X} {Y} f (suc n) x = ap (λ (ys : List Y). f x ∷ ys) (map-repli
 
 -- what is kept of a number is what its standing says
 pub kept-there : {T : Type 0} {home : GhostName} {kept : List Kept} {standings : Entries Standing} {values : List (Option T)} (k : ℕ) →
-    AreKept home kept standings values → slice_index_or kept k (whole kind.Free) ≡ kept_of (slice_index_or standings k None)
+    SlotsMatch home kept standings values → slice_index_or kept k (whole kind.Free) ≡ kept_of (slice_index_or standings k None)
 kept-there {T} {home} {kept} {standings} k a = ap (λ (ks : List Kept). slice_index_or ks k (whole kind.Free)) a.told ∙ get_or-map kept_of standings k None
 
 -- a value is there where a standing is
 pub filled-there : {T : Type 0} {home : GhostName} {kept : List Kept} {standings : Entries Standing} {values : List (Option T)} (k : ℕ) →
-    AreKept home kept standings values → is_some (slice_index_or values k None) ≡ is_some (slice_index_or standings k None)
+    SlotsMatch home kept standings values → is_some (slice_index_or values k None) ≡ is_some (slice_index_or standings k None)
 filled-there {T} {home} {kept} {standings} {values} k a =
     sym (get_or-map is_some values k None) ∙ ap (λ (bs : List Bool). slice_index_or bs k false) a.filled ∙ get_or-map is_some standings k None
 
@@ -187,21 +187,21 @@ some-waiting (Some s) h = refl
 
 -- who agrees with what is kept finds the slot so
 pub owned-there : {T : Type 0} {home : GhostName} {kept : List Kept} {standings : Entries Standing} {values : List (Option T)} (k : ℕ) (of : StandingKind) →
-    AreKept home kept standings values → (slice_index_or kept k (whole kind.Free)).kind ≡ of →
+    SlotsMatch home kept standings values → (slice_index_or kept k (whole kind.Free)).kind ≡ of →
     IsOwnedBy of (slice_index_or standings k None)
 owned-there {T} {home} {kept} {standings} k of a e =
     let same : (kept_of (slice_index_or standings k None)).kind ≡ of = ap (λ (x : Kept). x.kind) (sym (kept-there k a)) ∙ e in
     record { alone = λ o. owned-only _ (same ∙ o); together = λ o. shared-only _ (a.bounded k) (same ∙ o) }
 
 pub taken-there : {T : Type 0} {home : GhostName} {kept : List Kept} {standings : Entries Standing} {values : List (Option T)} (k : ℕ) (of : StandingKind) →
-    AreKept home kept standings values → (slice_index_or kept k (whole kind.Free)).kind ≡ of → IsOwner of → IsSome (slice_index_or standings k None)
+    SlotsMatch home kept standings values → (slice_index_or kept k (whole kind.Free)).kind ≡ of → IsOwner of → IsSome (slice_index_or standings k None)
 taken-there {T} {home} {kept} {standings} k of a e h =
     let same : (kept_of (slice_index_or standings k None)).kind ≡ of = ap (λ (x : Kept). x.kind) (sym (kept-there k a)) ∙ e in
     taken-only _ (rw same h)
 
 -- what is in the place of a slot is a value where a standing is
 pub filled-here : {T : Type 0} {home : GhostName} {kept : List Kept} {standings : Entries Standing} {values : List (Option T)} (k : ℕ)
-    (v : Option T) → AreKept home kept standings values → k < home.size → v ≡ slice_index_or values k v →
+    (v : Option T) → SlotsMatch home kept standings values → k < home.size → v ≡ slice_index_or values k v →
     is_some v ≡ is_some (slice_index_or standings k None)
 filled-here {T} {home} {kept} {standings} {values} k v a h e =
     let sized : length values ≡ home.size =
@@ -226,7 +226,7 @@ none-at (x ∷ xs) h zero = is-none x (h zero x (omega arith))
 none-at (x ∷ xs) h (suc k) = none-at xs (λ j o l. h (suc j) o (omega arith)) k
 
 -- slots that are all free
-pub all-free : {T : Type 0} (home : GhostName) (n : ℕ) → home.size ≡ n → AreKept {T = T} home (replicate n (whole kind.Free)) (replicate n None) (replicate n None)
+pub all-free : {T : Type 0} (home : GhostName) (n : ℕ) → home.size ≡ n → SlotsMatch {T = T} home (replicate n (whole kind.Free)) (replicate n None) (replicate n None)
 all-free {T} home n e = record {
   sized = length-replicate n (let none : Option Standing = None in none) ∙ sym e;
   told = sym (map-replicate kept_of n None);
@@ -242,8 +242,8 @@ inside-some (e ∷ es) (suc k) h = omega (arith, inside-some es k h)
 
 -- a slot and its value change together
 pub keeps : {T : Type 0} {home : GhostName} {kept : List Kept} {standings : Entries Standing} {values : List (Option T)} (k : ℕ)
-    (s : Option Standing) (v : Option T) → is_some v ≡ is_some s → IsBounded s → AreKept home kept standings values →
-    AreKept home (slice_set kept k (kept_of s)) (slice_set standings k s) (slice_set values k v)
+    (s : Option Standing) (v : Option T) → is_some v ≡ is_some s → IsBounded s → SlotsMatch home kept standings values →
+    SlotsMatch home (slice_set kept k (kept_of s)) (slice_set standings k s) (slice_set values k v)
 keeps {T} {home} {kept} {standings} {values} k s v e b a = record {
   sized = length-set standings k s ∙ a.sized;
   told = ap (λ (ks : List Kept). slice_set ks k (kept_of s)) a.told ∙ sym (map-set kept_of standings k s);
@@ -254,8 +254,8 @@ keeps {T} {home} {kept} {standings} {values} k s v e b a = record {
 
 -- a slot that is not free stands otherwise, with its value
 pub keeps-value : {T : Type 0} {home : GhostName} {kept : List Kept} {standings : Entries Standing} {values : List (Option T)} (k : ℕ)
-    (s : Option Standing) → is_some s ≡ is_some (slice_index_or standings k None) → IsBounded s → AreKept home kept standings values →
-    AreKept home (slice_set kept k (kept_of s)) (slice_set standings k s) values
+    (s : Option Standing) → is_some s ≡ is_some (slice_index_or standings k None) → IsBounded s → SlotsMatch home kept standings values →
+    SlotsMatch home (slice_set kept k (kept_of s)) (slice_set standings k s) values
 keeps-value {T} {home} {kept} {standings} {values} k s e b a = record {
   sized = length-set standings k s ∙ a.sized;
   told = ap (λ (ks : List Kept). slice_set ks k (kept_of s)) a.told ∙ sym (map-set kept_of standings k s);
@@ -266,13 +266,13 @@ keeps-value {T} {home} {kept} {standings} {values} k s e b a = record {
 -- the same, where what is kept of it is told otherwise
 pub keeps-so : {T : Type 0} {home : GhostName} {kept : List Kept} {standings : Entries Standing} {values : List (Option T)} (k : ℕ)
     (s : Option Standing) (x : Kept) → kept_of s ≡ x → is_some s ≡ is_some (slice_index_or standings k None) → IsBounded s →
-    AreKept home kept standings values →
-    AreKept home (slice_set kept k x) (slice_set standings k s) values
+    SlotsMatch home kept standings values →
+    SlotsMatch home (slice_set kept k x) (slice_set standings k s) values
 keeps-so k s x e f b a = rw (← e) (keeps-value k s f b a)
 
 -- a slot that is not free has another value
 pub keeps-other : {T : Type 0} {home : GhostName} {kept : List Kept} {standings : Entries Standing} {values : List (Option T)} (k : ℕ) (v : T) →
-    is_some (slice_index_or values k None) ≡ true → AreKept home kept standings values → AreKept home kept standings (slice_set values k (Some v))
+    is_some (slice_index_or values k None) ≡ true → SlotsMatch home kept standings values → SlotsMatch home kept standings (slice_set values k (Some v))
 keeps-other {T} {home} {kept} {standings} {values} k v e a = record {
   sized = a.sized;
   told = a.told;

@@ -30,13 +30,13 @@ pub struct WorldCells {
 impl Model for WorldCells {
     ghost use Rattle.std.specs.Prelude.{◌≡◌, length};
     ghost use Rattle.sdd_rights.specs.Right.{badge_home};
-    ghost use Rattle.sdd_standings.specs.Cells.{Cells, AreKept};
+    ghost use Rattle.sdd_standings.specs.Cells.{Cells, CellsMatch};
 
     ghost Value = { Cells };
 
     ghost view = { λ c. record { home = c.rights.home; cells = c.cells; slots = badge_home c.slots; pointers = c.pointers.items } };
 
-    ghost invariant = { λ c. AreKept c.rights.home (badge_home c.slots) c.rights.kept c.cells c.held.items × (length c.pointers.items ≡ c.rights.home.size) };
+    ghost invariant = { λ c. CellsMatch c.rights.home (badge_home c.slots) c.rights.kept c.cells c.held.items × (length c.pointers.items ≡ c.rights.home.size) };
 }
 
 impl WorldCells {

@@ -1,5 +1,5 @@
 ghost use Rattle.std.specs.Fn.{FnOnceReturnsAtMut};
-ghost use Rattle.sdd_values.specs.Block.{IsHome, IsFreeFor, stake_at, lent, settled, unlent};
+ghost use Rattle.sdd_values.specs.Block.{IsUnlent, IsFreeFor, stake_at, lent, settled, unlent};
 ghost use Rattle.std.specs.Prelude.{ℕ, ◌≡◌, ◌≢◌, ◌+◌, ◌^◌, ◌<◌, ◌≤◌, ◌↔◌, All, IfErr, IfNone, IfOk, IfSome, IsNone, IsSome, IsTrue, MatchOption, MatchResult, None, OnErr, OnSome, Some, length, replicate, unwrap_or};
 ghost use Rattle.sdd_rights.specs.StandingKind.{IsOwner};
 ghost use Rattle.sdd_rights.specs.Right.{number_of, home_of, kind_of, badge_home};
@@ -26,7 +26,7 @@ pub struct WorldSlots<T> {
 }
 
 impl<T> Model for WorldSlots<T> {
-    ghost use Rattle.sdd_standings.specs.Slots.{Slots, AreKept};
+    ghost use Rattle.sdd_standings.specs.Slots.{Slots, SlotsMatch};
 
     ghost Value = { Slots T };
 
@@ -38,7 +38,7 @@ impl<T> Model for WorldSlots<T> {
       readers = s.places.readers;
     } };
 
-    ghost invariant = { λ s. AreKept s.rights.home s.rights.kept s.standings s.places.values };
+    ghost invariant = { λ s. SlotsMatch s.rights.home s.rights.kept s.standings s.places.values };
 }
 
 impl<T> WorldSlots<T> {
@@ -294,7 +294,7 @@ impl<T> WorldSlots<T> {
 
     /// Takes the value of a slot that waits, which is free then; of any other slot nothing.
     pub fn reclaim(&mut self, slot: u32) -> Option<T>
-        requires home { IsWaiting (standing_at self.old slot) → IsHome self.old.stakes slot }
+        requires home { IsWaiting (standing_at self.old slot) → IsUnlent self.old.stakes slot }
         ensures waited { IsSome result ↔ IsWaiting (standing_at self.old slot) }
         ensures was { IfSome result (λ value. value_at self.old slot ≡ Some value) }
         ensures freed { OnSome result (self.new ≡ without_slot self.old slot) }
@@ -323,7 +323,7 @@ impl<T> WorldSlots<T> {
     /// Changes the value of an owner's item, which is lent to nobody.
     pub fn get_mut<R, F: FnOnce(&mut T) -> R>(&mut self, right: &Right, f: F) -> R
         requires right { home_of right.now ≡ self.old.home }
-        requires home { IsHome self.old.stakes (number_of right.now) }
+        requires home { IsUnlent self.old.stakes (number_of right.now) }
         requires callable { F.IsAlwaysCallable f }
         ensures { (was : T) × (now : T) × (value_at self.old (number_of right.now) ≡ Some was) × FnOnceReturnsAtMut F.FnOnce f was result now ×
             (self.new ≡ with_value self.old (number_of right.now) now) }
@@ -336,7 +336,7 @@ impl<T> WorldSlots<T> {
     pub fn take(&mut self, right: Right) -> T
         requires right { home_of right ≡ self.old.home }
         requires alone { ¬ (IsTrue (has_others (standing_at self.old (number_of right)))) }
-        requires home { IsHome self.old.stakes (number_of right) }
+        requires home { IsUnlent self.old.stakes (number_of right) }
         ensures owned { IsOwnedBy (kind_of right) (standing_at self.old (number_of right)) }
         ensures value { value_at self.old (number_of right) ≡ Some result }
         ensures taken { self.new ≡ without_slot self.old (number_of right) }

@@ -2,7 +2,7 @@
 ghost use Rattle.std.specs.Prelude.{◌≡◌, ◌<◌};
 ghost use Rattle.sdd_views.specs.declared.CountsView.{CountsView};
 ghost use Rattle.sdd_domain_invariant.specs.Counts.{over_by};
-ghost use Rattle.sdd_domain_invariant.specs.HomeSteps.{counts_token, counting};
+ghost use Rattle.sdd_domain_invariant.specs.FractionSteps.{counts_token, counting};
 ghost use Rattle.sdd_atomics.specs.DomainTable.{id_of};
 ghost use Rattle.sdd_atomics.specs.Counts.{witness_of_counts};
 ghost use Rattle.sdd_atomics.specs.DomainSeat.{view, Taught};

@@ -10,10 +10,10 @@ ghost use Rattle.sdd_word_invariant.specs.Slots.{OwnsAlone, Holds};
 ghost use Rattle.sdd_word_invariant.specs.SlotSteps.{IsDue, LooksAtSlot, TakesHold, LetsGo, LooksForGuard};
 ghost use Rattle.sdd_word_invariant.specs.Barred.{LooksForValue};
 ghost use Rattle.sdd_views.specs.Views.{owner_of};
-ghost use Rattle.sdd_shared_values.specs.SharedValues.{IsVacant, lot};
+ghost use Rattle.sdd_shared_values.specs.SharedValues.{IsNoValueCode, lot};
 ghost use Rattle.sdd_domain_invariant.specs.FractionsAtHome.{CarriedFractions, Moves, spare};
 ghost use Rattle.sdd_domain_invariant.specs.Records.{IsIn};
-ghost use Rattle.sdd_domain_invariant.specs.HomeSteps.{HasAll, IsValue, ClaimsAll, Houses, EntersUnit, TakesOut, TakesHeld, IsDeposit, GivesAll, DiscardsAll, RetiresOne, Watches, Recalls, parting, regained};
+ghost use Rattle.sdd_domain_invariant.specs.FractionSteps.{CarriesAll, IsValue, ClaimsAll, FillsSlot, EntersUnit, TakesOut, TakesHeld, IsDeposit, GivesAll, DiscardsAll, RetiresOne, SeesOwned, LearnsOwned, parting, regained};
 ghost use Rattle.sdd_atomics.specs.DomainTable.{id_of, book_of, places_of, slots_of};
 ghost use Rattle.sdd_rights.specs.Owner.{witness_of_owner};
 ghost use Rattle.sdd_atomics.specs.Owner.{IsCutOff};
@@ -75,11 +75,11 @@ pub fn house(board: &DomainTable, token: &mut DomainSeat, rest: ValueFraction, s
     requires knows { Knows board.now token.old }
     requires place { HasPlace (epoch token.old) }
     requires row { (slot : ℕ) × (value : Gv) × (slot < slots_of board.now) × Moves (view token.old) slot × OwnsAlone (view token.old) slot
-        × ((others : CarriedFractions) × HasAll (book_of board.now) slot (places_of board.now) (spare (places_of board.now)) (IsValue value) others token.old.me.1)
+        × ((others : CarriedFractions) × CarriesAll (book_of board.now) slot (places_of board.now) (spare (places_of board.now)) (IsValue value) others token.old.me.1)
         × (rest.lot ≡ lot (book_of board.now) slot rest.lot.round rest.lot.shown (spare (places_of board.now) - 1)) }
     ensures { (slot : ℕ) (value : Gv) (others : CarriedFractions) → Moves (view token.old) slot
-        → HasAll (book_of board.now) slot (places_of board.now) (spare (places_of board.now)) (IsValue value) others token.old.me.1
-        → MovedAlone (Houses slot shared value) token.old token.new }
+        → CarriesAll (book_of board.now) slot (places_of board.now) (spare (places_of board.now)) (IsValue value) others token.old.me.1
+        → MovedAlone (FillsSlot slot shared value) token.old token.new }
 {
     if shared {
         rest.enter::<_, _, _, _, FillSharedSlot>(&board.bank, &board.table.shared, token);
@@ -146,7 +146,7 @@ pub fn give_back(board: &DomainTable, token: &mut DomainSeat, slot: u32)
     requires inside { slot < slots_of board.now }
     requires place { HasPlace (epoch token.old) }
     requires due { Moves (view token.old) slot × IsDue (view token.old) slot }
-    requires row { (rest : CarriedFractions) × HasAll (book_of board.now) slot (places_of board.now) 0 IsVacant rest token.old.me.1 }
+    requires row { (rest : CarriedFractions) × CarriesAll (book_of board.now) slot (places_of board.now) 0 IsNoValueCode rest token.old.me.1 }
     ensures { Moved (GivesAll slot) token.old (free_word 0) token.new }
 {
     board
@@ -167,7 +167,7 @@ pub fn watch(board: &DomainTable, token: &mut DomainSeat, owner: &Witness)
     requires owner { (owner.now.table_id ≡ id_of board.now)
         × ((slot : ℕ) × (shared : Bool) × (value : Gv) × (slot < slots_of board.now) × (owner.now.views ≡ witness_of_owner slot shared value)) }
     ensures { (slot : ℕ) (shared : Bool) (value : Gv) → owner.now.views ≡ witness_of_owner slot shared value
-        → MovedAlone (Watches slot shared value) token.old token.new }
+        → MovedAlone (SeesOwned slot shared value) token.old token.new }
 {
     step_beside::<_, _, _, _, SeeOwned>(&board.table.shared, token, owner);
 }
@@ -182,7 +182,7 @@ pub fn recall(board: &DomainTable, token: &mut DomainSeat, owner: &Witness)
     requires owner { (owner.now.table_id ≡ id_of board.now)
         × ((slot : ℕ) × (shared : Bool) × (value : Gv) × (slot < slots_of board.now) × (owner.now.views ≡ witness_of_owner slot shared value)) }
     ensures { (slot : ℕ) (shared : Bool) (value : Gv) → owner.now.views ≡ witness_of_owner slot shared value
-        → MovedAlone (Recalls slot shared value) token.old token.new }
+        → MovedAlone (LearnsOwned slot shared value) token.old token.new }
 {
     step_beside::<_, _, _, _, LearnOwned>(&board.table.shared, token, owner);
 }
@@ -262,7 +262,7 @@ pub fn discard(board: &DomainTable, token: &mut DomainSeat, slot: u32)
     requires place { HasPlace (epoch token.old) }
     requires held { Moves (view token.old) slot × Holds (view token.old) slot }
     requires looked { places_of board.now ≤ (slots token.old).looked }
-    requires row { (rest : CarriedFractions) × HasAll (book_of board.now) slot (places_of board.now) 0 IsVacant rest token.old.me.1 }
+    requires row { (rest : CarriedFractions) × CarriesAll (book_of board.now) slot (places_of board.now) 0 IsNoValueCode rest token.old.me.1 }
     ensures { Moved (DiscardsAll slot) token.old (free_word 0) token.new }
 {
     board

@@ -1,11 +1,11 @@
 //! What is always true of a participant, and of a lone one's world, as calls that give it out. They do nothing when the program runs.
 ghost use Rattle.std.specs.Prelude.{◌≡◌, ◌↔◌};
-ghost use Rattle.sdd_space.specs.Whole.{IsWhole};
-ghost use Rattle.sdd_space.specs.Left.{FourGuardsReclaim, GoesAtLatest, GoesInTime};
+ghost use Rattle.sdd_space.specs.WorldInvariant.{IsWhole};
+ghost use Rattle.sdd_space.specs.ReclaimBound.{FourGuardsReclaim, GoesAtLatest, GoesInTime};
 ghost use Rattle.sdd_space.specs.Ledger.{LedgerLaws};
-ghost use Rattle.sdd_space.specs.Passing.{GuardsPass};
-ghost use Rattle.sdd_space.specs.Under.{KeepsFreshUnderGuards, KeepsUnderGuards};
-ghost use Rattle.sdd_space.specs.World.{World, IsGuarded, IsPlaceOf};
+ghost use Rattle.sdd_space.specs.AcceleratedGuards.{GuardsPass};
+ghost use Rattle.sdd_space.specs.UnderGuards.{KeepsFreshUnderGuards, KeepsUnderGuards};
+ghost use Rattle.sdd_space.specs.World.{World, AnyGuardOpen, IsPlaceOf};
 ghost use Rattle.sdd_domain.specs.Local.{world_of};
 ghost use Rattle.sdd_domain.specs.LocalState.{IsLone};
 
@@ -19,7 +19,7 @@ impl<T: Item<T>> Local<'_, T> {
     pub fn is_whole(&self)
         ensures whole { IsLone self.now.member → IsWhole (world_of self.now) }
         ensures place { IsPlaceOf (world_of self.now) self.now.member.place }
-        ensures shut { (self.now.member.own.guards ≡ 0) ↔ ¬ (IsGuarded (world_of self.now)) }
+        ensures shut { (self.now.member.own.guards ≡ 0) ↔ ¬ (AnyGuardOpen (world_of self.now)) }
     {
         let _ledger = &self.partner.ledger;
     }

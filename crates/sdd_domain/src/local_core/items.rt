@@ -5,11 +5,11 @@ ghost use Rattle.sdd_rights.specs.StandingKind.{IsOwner, is_shared};
 ghost use Rattle.sdd_rights.specs.Right.{number_of, home_of, kind_of};
 ghost use Rattle.sdd_space.specs.Guard.{reader_of};
 ghost use Rattle.sdd_space.specs.OwnerOrCell.{AreOf};
-ghost use Rattle.sdd_domain.specs.Homes.{home_in};
+ghost use Rattle.sdd_domain.specs.SpaceIds.{home_in};
 ghost use Rattle.sdd_shared_values.specs.SharedValues.{showing};
 ghost use Rattle.sdd_domain.specs.LocalState.{IsFree, IsLone, IsUsedUp, KnowsOwner, MakesAt, LooksAt, RetiresAt};
 ghost use Rattle.sdd_domain.specs.Items.{slots_home, HasValue, IsRightTo};
-ghost use Rattle.sdd_domain.specs.Sight.{IsOnce};
+ghost use Rattle.sdd_domain.specs.SeenSlots.{IsOnce};
 
 use crate::claims::{claim_free, finds_free};
 use crate::local_core::LocalCore;

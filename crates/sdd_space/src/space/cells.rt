@@ -5,16 +5,16 @@ ghost use Rattle.sdd_space.specs.World.{standing_at};
 ghost use Rattle.sdd_core.specs.declared.tag.Tag.TheVariants.{None as no_tag};
 ghost use Rattle.sdd_space.specs.CallerId.{IsSeated, IsExact};
 ghost use Rattle.sdd_space.specs.Refusals.{IsContended, IsRefusedBy};
-ghost use Rattle.sdd_space.specs.Own.{IsSpilled};
+ghost use Rattle.sdd_space.specs.ParticipantChanges.{HasContentsGivenUp};
 ghost use Rattle.sdd_space.specs.Undisturbed.{Undisturbed, Unmoved};
 ghost use Rattle.sdd_rights.specs.StandingKind.{IsOwner};
 ghost use Rattle.sdd_rights.specs.Right.{number_of, home_of, kind_of};
 ghost use Rattle.sdd_standings.specs.Slots.{IsOwnedBy, IsSharedBy, first_standing};
 ghost use Rattle.sdd_standings.specs.Cells.{MayHold, cell_with, slot_held};
 ghost use Rattle.sdd_space.specs.Guard.{reader_of};
-ghost use Rattle.sdd_space.specs.Ptr.{IsShown, slot_named, cell_seen};
+ghost use Rattle.sdd_space.specs.Ptr.{PtrIsShown, slot_named, cell_seen};
 ghost use Rattle.sdd_space.specs.RawPtr as raw;
-ghost use Rattle.sdd_space.specs.Steps.{made_as, with_standing, with_cell, without_cell};
+ghost use Rattle.sdd_space.specs.WorldChanges.{made_as, with_standing, with_cell, without_cell};
 
 use crate::guard::Guard;
 use crate::item::Item;
@@ -86,7 +86,7 @@ pub trait Cells<T: Item<T>>: Caller<T> {
         requires home { home_of cell.now ≡ (Self.seat self.old).home.cells }
         requires reader { reader_of guard.now ≡ (Self.seat self.old).reader }
         ensures undisturbed { Undisturbed Self.seat Self.own Self.known Self.shows self.old self.new }
-        ensures shown { IsShown (Self.shows self.new) result }
+        ensures shown { PtrIsShown (Self.shows self.new) result }
         ensures owned { IsExact (Self.seat self.old) →
             IfSome (slot_named result) (λ slot. IsOwnedBy (kind_of cell.now) (standing_at (Self.world self.old) slot)) }
         ensures exact { IsExact (Self.seat self.old) →
@@ -122,7 +122,7 @@ pub trait Cells<T: Item<T>>: Caller<T> {
         ensures old { IfOk result (λ o. slot_held o.0 ≡ current.held) }
         ensures now { IfOk result (λ o. cell_seen o.1 ≡ cell_with new tag) }
         ensures back { IfErr result (λ e. e.0 ≡ new) }
-        ensures shown { MatchResult result (λ o. IsShown (Self.shows self.new) o.1) (λ e. IsShown (Self.shows self.new) e.1) }
+        ensures shown { MatchResult result (λ o. PtrIsShown (Self.shows self.new) o.1) (λ e. PtrIsShown (Self.shows self.new) e.1) }
         ensures exact { IsExact (Self.seat self.old) → MatchResult result
             (λ _. (entry_at (Self.world self.old).cells (number_of cell.now) ≡ Some current) ×
             (Self.world self.new ≡ with_cell (Self.world self.old) (number_of cell.now) (cell_with new tag)))
@@ -158,7 +158,7 @@ pub trait Cells<T: Item<T>>: Caller<T> {
         requires kind { kind_of cell.now ≡ StandingKind.Shared }
         requires reader { reader_of guard.now ≡ (Self.seat self.old).reader }
         ensures unmoved { Unmoved Self.seat Self.known Self.shows self.old self.new }
-        ensures own { IsSpilled (Self.own self.old) (Self.own self.new) }
+        ensures own { HasContentsGivenUp (Self.own self.old) (Self.own self.new) }
         ensures home { IfOk result (λ other. home_of other ≡ (Self.seat self.old).home.cells) }
         ensures kind { IfOk result (λ other. kind_of other ≡ StandingKind.Shared) }
         ensures back { IfErr result (λ e. (e ≡ Refused.NoCell) ⊎ IsRefusedBy (Self.seat self.old) Refused.TooManyOwners e) }

@@ -1,9 +1,9 @@
 ghost use Rattle.std.specs.Prelude.{◌≡◌, ◌≢◌, ◌↔◌, ℕ, IfErr, IsTrue, MatchResult, Some, if◌then◌else◌};
 ghost use Rattle.sdd_participants.specs.declared.waiting.LimboEntry.TheVariants.{Item};
 ghost use Rattle.sdd_participants.specs.EpochState as time;
-ghost use Rattle.sdd_space.specs.World.{IsGuarded, standing_at};
+ghost use Rattle.sdd_space.specs.World.{AnyGuardOpen, standing_at};
 ghost use Rattle.sdd_space.specs.CallerId.{IsSeated, IsExact};
-ghost use Rattle.sdd_space.specs.Own.{IsCollected};
+ghost use Rattle.sdd_space.specs.ParticipantChanges.{IsCollected};
 ghost use Rattle.sdd_space.specs.Collecting.{owner_collected, collector_closed};
 ghost use Rattle.sdd_space.specs.KnownEpochs.{KnowsOn};
 ghost use Rattle.sdd_space.specs.Undisturbed.{Unmoved};
@@ -47,9 +47,9 @@ pub trait Collectors<T: Item<T>>: Caller<T> {
         ensures known { KnowsOn (Self.known self.old) (Self.known self.new) }
         ensures back { IfErr result (λ e. (e.0 ≡ collector) × (e.1 ≡ Refused.GuardOpen)) }
         ensures exact { IsExact (Self.seat self.old) → MatchResult result
-            (λ _. ¬ (IsGuarded (Self.world self.old)) × IsNullCell (Self.world self.old) (raw_number_of collector) ×
+            (λ _. ¬ (AnyGuardOpen (Self.world self.old)) × IsNullCell (Self.world self.old) (raw_number_of collector) ×
             (Self.world self.new ≡ collector_closed T.holds (Self.world self.old) (Self.seat self.old).place (raw_number_of collector)))
-            (λ e. IsGuarded (Self.world self.old) × (e.1 ≡ Refused.GuardOpen) × (Self.world self.new ≡ Self.world self.old)) }
+            (λ e. AnyGuardOpen (Self.world self.old) × (e.1 ≡ Refused.GuardOpen) × (Self.world self.new ≡ Self.world self.old)) }
         ensures others { (k : ℕ) (value : T) →
             (IsExact (Self.seat self.old) → standing_at (Self.world self.old) k ≢ Some (Standing.Private (raw_number_of collector))) →
             Self.shows self.old k value → Self.shows self.new k value }

@@ -5,7 +5,7 @@ ghost use Rattle.sdd_participants.specs.Slab.{IsEmptyAt, IsFull};
 ghost use Rattle.sdd_space.specs.CallerId.{IsSeated, IsExact};
 ghost use Rattle.sdd_space.specs.Refusals.{IsRefusedBy};
 ghost use Rattle.sdd_space.specs.Undisturbed.{Unmoved};
-ghost use Rattle.sdd_space.specs.Steps.{deferred};
+ghost use Rattle.sdd_space.specs.WorldChanges.{deferred};
 
 use crate::item::Item;
 use crate::space::caller::Caller;

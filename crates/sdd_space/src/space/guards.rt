@@ -3,12 +3,12 @@ ghost use Rattle.sdd_participants.specs.EpochState.{CanNest, has_garbage, is_ope
 ghost use Rattle.sdd_participants.specs.EpochState as time;
 ghost use Rattle.sdd_space.specs.World.{place_at};
 ghost use Rattle.sdd_space.specs.CallerId.{IsSeated, IsExact, IsLone, MayNest};
-ghost use Rattle.sdd_space.specs.Own.{IsOpened, IsClosed};
+ghost use Rattle.sdd_space.specs.ParticipantChanges.{GuardOpened, GuardClosed};
 ghost use Rattle.sdd_space.specs.KnownEpochs.{KnowsOn, KnowsOpened, KnowsClosed, IsNear, IsRaisedBy};
 ghost use Rattle.sdd_space.specs.Undisturbed.{Undisturbed, Unmoved};
 ghost use Rattle.sdd_space.specs.Guard.{reader_of};
 ghost use Rattle.sdd_space.specs.Ptr.{KeepsShown};
-ghost use Rattle.sdd_space.specs.Steps.{opened, closed, stirred, accelerated};
+ghost use Rattle.sdd_space.specs.WorldChanges.{opened, closed, stirred, accelerated};
 
 use crate::guard::Guard;
 use crate::item::Item;
@@ -23,7 +23,7 @@ pub trait Guards<T: Item<T>>: Caller<T> {
         ensures seat { Self.seat self.new ≡ Self.seat self.old }
         ensures reader { IfOk result (λ guard. reader_of guard ≡ (Self.seat self.old).reader) }
         ensures own { MatchResult result
-            (λ _. MayNest (Self.seat self.old) (Self.own self.old) × IsOpened (Self.own self.old) (Self.own self.new))
+            (λ _. MayNest (Self.seat self.old) (Self.own self.old) × GuardOpened (Self.own self.old) (Self.own self.new))
             (λ e. (e ≡ Refused.TooManyGuards) × ¬ (MayNest (Self.seat self.old) (Self.own self.old)) × (Self.own self.new ≡ Self.own self.old)) }
         ensures known { MatchResult result
             (λ _. KnowsOpened (Self.known self.old) (Self.own self.old) (Self.own self.new) (Self.known self.new))
@@ -42,7 +42,7 @@ pub trait Guards<T: Item<T>>: Caller<T> {
         requires seated { IsSeated (Self.seat self.old) }
         requires reader { reader_of guard ≡ (Self.seat self.old).reader }
         ensures seat { Self.seat self.new ≡ Self.seat self.old }
-        ensures own { IsClosed (Self.own self.old) (Self.own self.new) }
+        ensures own { GuardClosed (Self.own self.old) (Self.own self.new) }
         ensures known { KnowsClosed (Self.known self.old) (Self.known self.new) (Self.own self.new) }
         ensures lone { IsLone (Self.seat self.old) → IsRaisedBy (Self.own self.old) (Self.known self.old).told (Self.known self.new).told }
         ensures exact { IsExact (Self.seat self.old) → Self.world self.new ≡ closed (Self.world self.old) (Self.seat self.old).place }

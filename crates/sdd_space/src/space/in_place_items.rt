@@ -1,16 +1,16 @@
 ghost use Rattle.std.specs.Fn.{FnOnceReturnsAtMut};
 ghost use Rattle.std.specs.Prelude.{◌≡◌, ◌⊎◌, IfErr, IfOk, IsTrue, MatchBool, MatchResult, Some};
 ghost use Rattle.sdd_space.specs.OwnerOrCell.{AreOf};
-ghost use Rattle.sdd_space.specs.World.{IsGuarded, standing_at, value_at};
+ghost use Rattle.sdd_space.specs.World.{AnyGuardOpen, standing_at, value_at};
 ghost use Rattle.sdd_space.specs.CallerId.{IsSeated, IsExact};
 ghost use Rattle.sdd_space.specs.Refusals.{IsRefusedBy};
-ghost use Rattle.sdd_space.specs.Own.{GrowsOn};
+ghost use Rattle.sdd_space.specs.ParticipantChanges.{KeepsMoreWaiting};
 ghost use Rattle.sdd_space.specs.KnownEpochs.{KnowsOn};
 ghost use Rattle.sdd_rights.specs.Right.{number_of, home_of, kind_of};
 ghost use Rattle.sdd_standings.specs.Slots.{IsOwnedBy, has_others};
 ghost use Rattle.sdd_space.specs.Ptr.{KeepsShown, KeepsOthers};
 ghost use Rattle.sdd_space.specs.InPlace.{IsAlone, MayInPlace, RefusedInPlace};
-ghost use Rattle.sdd_space.specs.Steps.{with_value, dropped, owner_given};
+ghost use Rattle.sdd_space.specs.WorldChanges.{with_value, dropped, owner_given};
 
 use crate::item::Item;
 use crate::space::caller::Caller;
@@ -70,7 +70,7 @@ pub trait InPlaceItems<T: Item<T>>: Caller<T> {
         requires home { home_of right ≡ (Self.seat self.old).home.slots }
         requires kind { kind_of right ≡ kind }
         ensures seat { Self.seat self.new ≡ Self.seat self.old }
-        ensures own { MatchResult result (λ _. GrowsOn (Self.own self.old) (Self.own self.new)) (λ _. Self.own self.new ≡ Self.own self.old) }
+        ensures own { MatchResult result (λ _. KeepsMoreWaiting (Self.own self.old) (Self.own self.new)) (λ _. Self.own self.new ≡ Self.own self.old) }
         ensures known { KnowsOn (Self.known self.old) (Self.known self.new) }
         ensures back { IfErr result (λ e. (e.0 ≡ right) × IsRefusedBy (Self.seat self.old) Refused.GuardOpen e.1) }
         ensures sole { kind ≡ StandingKind.Owned → IfErr result (λ e. e.1 ≡ Refused.GuardOpen) }
@@ -81,7 +81,7 @@ pub trait InPlaceItems<T: Item<T>>: Caller<T> {
             (Self.world self.new ≡ dropped T.holds (Self.world self.old) (Self.seat self.old).place (number_of right)))
             (IsTrue (has_others (standing_at (Self.world self.old) (number_of right))) × (Self.world self.new ≡
             owner_given (Self.world self.old) (Self.seat self.old).place (number_of right) (standing_at (Self.world self.old) (number_of right)))))
-            (λ e. IsAlone (standing_at (Self.world self.old) (number_of right)) × IsGuarded (Self.world self.old) × (e.1 ≡ Refused.GuardOpen) ×
+            (λ e. IsAlone (standing_at (Self.world self.old) (number_of right)) × AnyGuardOpen (Self.world self.old) × (e.1 ≡ Refused.GuardOpen) ×
             (Self.world self.new ≡ Self.world self.old)) }
         ensures others { KeepsOthers (number_of right) (Self.shows self.old) (Self.shows self.new) }
         ensures keeps { MatchResult result

@@ -10,7 +10,7 @@ ghost use Rattle.sdd_rights.specs.StandingKind.{IsOwner};
 ghost use Rattle.sdd_rights.specs.Right.{number_of, home_of, kind_of};
 ghost use Rattle.sdd_standings.specs.Slots.{IsOwnedBy, first_standing, has_others};
 ghost use Rattle.sdd_space.specs.Guard.{reader_of};
-ghost use Rattle.sdd_space.specs.Steps.{made_as, owner_given};
+ghost use Rattle.sdd_space.specs.WorldChanges.{made_as, owner_given};
 
 use crate::guard::Guard;
 use crate::item::Item;

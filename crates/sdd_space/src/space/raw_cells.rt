@@ -7,7 +7,7 @@ ghost use Rattle.sdd_space.specs.Undisturbed.{Undisturbed};
 ghost use Rattle.sdd_rights.specs.Right.{raw_number_of, raw_home_of};
 ghost use Rattle.sdd_space.specs.RawPtr as raw;
 ghost use Rattle.sdd_space.specs.Out.{IsNullCell};
-ghost use Rattle.sdd_space.specs.Steps.{with_pointer, pointing, without_cell};
+ghost use Rattle.sdd_space.specs.WorldChanges.{with_pointer, pointing, without_cell};
 
 use crate::item::Item;
 use crate::raw_ptr::RawPtr;

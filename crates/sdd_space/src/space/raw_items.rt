@@ -4,7 +4,7 @@ ghost use Rattle.sdd_space.specs.CallerId.{IsSeated, IsExact};
 ghost use Rattle.sdd_space.specs.Undisturbed.{Undisturbed};
 ghost use Rattle.sdd_rights.specs.Right.{number_of, home_of, kind_of};
 ghost use Rattle.sdd_space.specs.Guard.{reader_of};
-ghost use Rattle.sdd_space.specs.Steps.{with_standing};
+ghost use Rattle.sdd_space.specs.WorldChanges.{with_standing};
 
 use crate::guard::Guard;
 use crate::item::Item;

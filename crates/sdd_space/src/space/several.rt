@@ -7,7 +7,7 @@ ghost use Rattle.sdd_space.specs.OwnerOrCell.{AreOf};
 ghost use Rattle.sdd_rights.specs.Right.{number_of, home_of, kind_of};
 ghost use Rattle.sdd_rights.specs.SharedRights as shares;
 ghost use Rattle.sdd_participants.specs.Slab.{IsEmptyAt, IsFull};
-ghost use Rattle.sdd_space.specs.Steps.{made_as};
+ghost use Rattle.sdd_space.specs.WorldChanges.{made_as};
 
 use crate::item::Item;
 use crate::space::caller::Caller;

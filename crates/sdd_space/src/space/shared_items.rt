@@ -5,7 +5,7 @@ ghost use Rattle.sdd_space.specs.Refusals.{IsRefusedBy};
 ghost use Rattle.sdd_space.specs.Undisturbed.{Undisturbed};
 ghost use Rattle.sdd_rights.specs.Right.{number_of, home_of, kind_of};
 ghost use Rattle.sdd_standings.specs.Slots.{IsSharedBy, owners_of};
-ghost use Rattle.sdd_space.specs.Steps.{with_standing};
+ghost use Rattle.sdd_space.specs.WorldChanges.{with_standing};
 
 use crate::item::Item;
 use crate::space::caller::Caller;

@@ -1,10 +1,10 @@
 ghost use Rattle.std.specs.Prelude.{◌≡◌, ◌≢◌, [], ◌↔◌, ℕ, ◌⊎◌, IfErr, IfOk, IsOk, List, MatchResult};
 ghost use Rattle.sdd_participants.specs.EpochState.{without_waiting, place_at, with_place};
-ghost use Rattle.sdd_space.specs.World.{World, IsGuarded, KeepsSizes, HasPlace, IsPlaceOf};
-ghost use Rattle.sdd_space.specs.Whole.{taken};
+ghost use Rattle.sdd_space.specs.World.{World, AnyGuardOpen, KeepsSizes, HasPlace, IsPlaceOf};
+ghost use Rattle.sdd_space.specs.WorldInvariant.{taken};
 ghost use Rattle.sdd_space.specs.Out.{out, HoldsNothing};
 ghost use Rattle.sdd_world_core.specs.Closing.{NothingIsOut};
-ghost use Rattle.sdd_world.specs.Closing.{aged_out, all_aged_out, Closes, AllGo, Accounts, Sweeps, with_reclaimed};
+ghost use Rattle.sdd_world.specs.Closing.{aged_out, all_aged_out, ReclaimsAll, AllGo, Accounts, Sweeps, with_reclaimed};
 
 use super::World;
 use sdd_core::Refused;
@@ -19,12 +19,12 @@ impl<T: Item<T>, J: Job> World<T, J> {
     /// has been reclaimed. With either the world comes back, with the same participants.
     pub fn close(mut self) -> Result<Tally, (World<T, J>, Refused)>
         ensures closed { MatchResult result
-            (λ tally. ¬ (IsGuarded self) × ((end : World T J) × Closes T.holds self end × NothingIsOut end × (tally ≡ end.tally)))
-            (λ e. ((e.1 ≡ Refused.GuardOpen) × IsGuarded self × (e.0 ≡ self)) ⊎
-            ((e.1 ≡ Refused.OwnerOut) × ¬ (IsGuarded self) × Closes T.holds self e.0 × ¬ (NothingIsOut e.0))) }
-        ensures exactly { IsOk result ↔ (¬ (IsGuarded self) × AllGo T.holds self) }
-        ensures spent { ¬ (IsGuarded self) → out self ≡ 0 → IsOk result }
-        ensures plainly { HoldsNothing T.holds → (IsOk result ↔ (¬ (IsGuarded self) × (out self ≡ 0))) }
+            (λ tally. ¬ (AnyGuardOpen self) × ((end : World T J) × ReclaimsAll T.holds self end × NothingIsOut end × (tally ≡ end.tally)))
+            (λ e. ((e.1 ≡ Refused.GuardOpen) × AnyGuardOpen self × (e.0 ≡ self)) ⊎
+            ((e.1 ≡ Refused.OwnerOut) × ¬ (AnyGuardOpen self) × ReclaimsAll T.holds self e.0 × ¬ (NothingIsOut e.0))) }
+        ensures exactly { IsOk result ↔ (¬ (AnyGuardOpen self) × AllGo T.holds self) }
+        ensures spent { ¬ (AnyGuardOpen self) → out self ≡ 0 → IsOk result }
+        ensures plainly { HoldsNothing T.holds → (IsOk result ↔ (¬ (AnyGuardOpen self) × (out self ≡ 0))) }
         ensures tally { IfOk result (λ tally. tally ≡ with_reclaimed (taken self) self.tally) }
         ensures accounts { IfOk result (λ tally. Accounts self.tally tally) }
         ensures swept { IfErr result (λ e. e.1 ≡ Refused.OwnerOut → Sweeps T.holds self e.0) }
@@ -47,8 +47,8 @@ impl<T: Item<T>, J: Job> World<T, J> {
 
     /// Reclaims what waits. No guard is open, so nothing is lent.
     fn clear(&mut self)
-        requires quiet { ¬ (IsGuarded self.old) }
-        ensures { Closes T.holds self.old self.new }
+        requires quiet { ¬ (AnyGuardOpen self.old) }
+        ensures { ReclaimsAll T.holds self.old self.new }
     {
         for place in 0..self.time().len() {
             self.clear_place(place);
@@ -58,7 +58,7 @@ impl<T: Item<T>, J: Job> World<T, J> {
     /// Reclaims what waits with a place. No guard is open.
     fn clear_place(&mut self, place: usize)
         requires place { HasPlace self.old place }
-        requires quiet { ¬ (IsGuarded self.old) }
+        requires quiet { ¬ (AnyGuardOpen self.old) }
         ensures changes { (places : List ℕ) × (self.new ≡ all_aged_out T.holds self.old places) }
         ensures time { self.new.time ≡ with_place self.old.time place (without_waiting (place_at self.old.time place)) }
         ensures home { self.new.home ≡ self.old.home }
@@ -71,7 +71,7 @@ impl<T: Item<T>, J: Job> World<T, J> {
     /// A change of a place, which keeps its pace. No guard is open.
     fn age_out(&mut self, place: usize)
         requires place { HasPlace self.old place }
-        requires quiet { ¬ (IsGuarded self.old) }
+        requires quiet { ¬ (AnyGuardOpen self.old) }
         requires waits { (place_at self.old.time place).bags.waiting ≢ [] }
         ensures aged { self.new ≡ aged_out T.holds self.old place }
         ensures sizes { KeepsSizes self.old self.new }

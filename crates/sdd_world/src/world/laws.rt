@@ -1,14 +1,14 @@
 //! What is always true of a world, as calls that give it out. They do nothing when the program runs.
-ghost use Rattle.sdd_space.specs.Whole.{IsWhole};
+ghost use Rattle.sdd_space.specs.WorldInvariant.{IsWhole};
 ghost use Rattle.sdd_space.specs.Out.{OutLaws};
 ghost use Rattle.sdd_space.specs.Jobs.{RunsJobsOnce};
-ghost use Rattle.sdd_space.specs.Left.{FourGuardsReclaim, GoesAtLatest, GoesInTime};
+ghost use Rattle.sdd_space.specs.ReclaimBound.{FourGuardsReclaim, GoesAtLatest, GoesInTime};
 ghost use Rattle.sdd_space.specs.World.{World};
-ghost use Rattle.sdd_space.specs.Passing.{GuardsPass, ItemsPass};
+ghost use Rattle.sdd_space.specs.AcceleratedGuards.{GuardsPass, ItemsPass};
 ghost use Rattle.sdd_space.specs.Collecting.{CollectedEnds};
 ghost use Rattle.sdd_space.specs.Adopting.{AdoptsWhatIsLeft};
 ghost use Rattle.sdd_space.specs.Ledger.{LedgerLaws};
-ghost use Rattle.sdd_space.specs.Under.{KeepsCollectedUnderGuards, KeepsFreshUnderGuards, KeepsUnderGuards};
+ghost use Rattle.sdd_space.specs.UnderGuards.{KeepsCollectedUnderGuards, KeepsFreshUnderGuards, KeepsUnderGuards};
 
 use super::World;
 use sdd_participants::Job;

@@ -7,8 +7,8 @@ ghost use Rattle.sdd_standings.specs.Cells.{MayHold, cell_with, slot_held};
 ghost use Rattle.sdd_participants.specs.EpochState as time;
 ghost use Rattle.sdd_participants.specs.Slab.{entry_at, IsEmptyAt, IsFull};
 ghost use Rattle.sdd_space.specs.World.{KeepsSizes, standing_at, HasPlace};
-ghost use Rattle.sdd_space.specs.Steps.{with_standing, with_cell, without_cell, cell_closed};
-ghost use Rattle.sdd_space.specs.Whole.{IsWhole};
+ghost use Rattle.sdd_space.specs.WorldChanges.{with_standing, with_cell, without_cell, cell_closed};
+ghost use Rattle.sdd_space.specs.WorldInvariant.{IsWhole};
 ghost use Rattle.sdd_world_core.specs.Lending.{AreLent};
 
 use super::WorldCore;

@@ -3,8 +3,8 @@ ghost use Rattle.std.specs.Prelude.{◌≡◌, ℕ, ◌+◌, ◌≤◌, Contains
 ghost use Rattle.sdd_participants.specs.declared.waiting.LimboEntry.TheVariants.{Item};
 ghost use Rattle.sdd_participants.specs.EpochState as time;
 ghost use Rattle.sdd_space.specs.World.{most, weight, KeepsSizes, place_at, HasPlace};
-ghost use Rattle.sdd_space.specs.Steps.{rotated, settled, changed};
-ghost use Rattle.sdd_values.specs.Block.{IsHome};
+ghost use Rattle.sdd_space.specs.WorldChanges.{rotated, settled, changed};
+ghost use Rattle.sdd_values.specs.Block.{IsUnlent};
 ghost use Rattle.sdd_world_core.specs.Closing.{paced};
 
 use super::WorldCore;
@@ -17,7 +17,7 @@ impl<T: Item<T>, J: Job> WorldCore<T, J> {
         requires place { HasPlace self.old.world place }
         requires empty { spare.old.items ≡ [] }
         requires reserved { most self.old.world ≤ vec_capacity spare.old }
-        requires home { (k : ℕ) → Contains (time.due_next (place_at self.old.world place)) (Item k) → IsHome self.old.lending.stakes k }
+        requires home { (k : ℕ) → Contains (time.due_next (place_at self.old.world place)) (Item k) → IsUnlent self.old.lending.stakes k }
         ensures changed { self.new ≡ record self.old { world = changed T.holds self.old.world place } }
         ensures sizes { KeepsSizes self.old.world self.new.world }
         ensures empty { spare.new.items ≡ [] }
@@ -35,7 +35,7 @@ impl<T: Item<T>, J: Job> WorldCore<T, J> {
         requires place { HasPlace self.old.world place }
         requires empty { spare.old.items ≡ [] }
         requires reserved { most self.old.world ≤ vec_capacity spare.old }
-        requires home { (k : ℕ) → Contains (time.due_next (place_at self.old.world place)) (Item k) → IsHome self.old.lending.stakes k }
+        requires home { (k : ℕ) → Contains (time.due_next (place_at self.old.world place)) (Item k) → IsUnlent self.old.lending.stakes k }
         ensures changed { self.new ≡ record self.old { world = changed T.holds self.old.world place } }
         ensures sizes { KeepsSizes self.old.world self.new.world }
         ensures empty { spare.new.items ≡ [] }

@@ -2,12 +2,12 @@
 ghost use Rattle.std.specs.Prelude.{◌≡◌, ◌+◌, ◌≤◌, if◌then◌else◌, [], length, vec_capacity, IsTrue, ◌↔◌};
 ghost use Rattle.sdd_rights.specs.Right.{number_of, home_of, kind_of, raw_number_of, raw_home_of};
 ghost use Rattle.sdd_standings.specs.Slots.{IsOwnedBy, has_others, released_to};
-ghost use Rattle.sdd_space.specs.World.{most, weight, IsGuarded, KeepsSizes, standing_at, IsPlaceOf};
-ghost use Rattle.sdd_space.specs.Steps.{with_standing};
+ghost use Rattle.sdd_space.specs.World.{most, weight, AnyGuardOpen, KeepsSizes, standing_at, IsPlaceOf};
+ghost use Rattle.sdd_space.specs.WorldChanges.{with_standing};
 ghost use Rattle.sdd_space.specs.Out.{IsNullCell};
 ghost use Rattle.sdd_space.specs.Collecting.{collected, owner_collected, is_for, waiting_for, collector_closed};
 ghost use Rattle.sdd_participants.specs.Collecting.{time_without};
-ghost use Rattle.sdd_space.specs.Whole.{IsWhole};
+ghost use Rattle.sdd_space.specs.WorldInvariant.{IsWhole};
 ghost use Rattle.sdd_world_core.specs.Lending.{AreLent};
 
 use super::WorldCore;
@@ -51,7 +51,7 @@ impl<T: Item<T>, J: Job> WorldCore<T, J> {
     pub fn close_collector(&mut self, place: usize, collector: RawRight, bag: &mut Vec<LimboEntry>)
         requires place { IsPlaceOf self.old.world place }
         requires home { raw_home_of collector ≡ self.old.world.home.cells }
-        requires quiet { ¬ (IsGuarded self.old.world) }
+        requires quiet { ¬ (AnyGuardOpen self.old.world) }
         requires lent { AreLent self.old }
         requires empty { bag.old.items ≡ [] }
         requires reserved { most self.old.world ≤ vec_capacity bag.old }

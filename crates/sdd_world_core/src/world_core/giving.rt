@@ -8,12 +8,12 @@ ghost use Rattle.sdd_space.specs.OwnerOrCell.{AreOf};
 ghost use Rattle.sdd_space.specs.CallerId.{seat_for, IsSeated, IsExact};
 ghost use Rattle.sdd_space.specs.KnownEpochs.{KnowsOn, nothing_told};
 ghost use Rattle.sdd_space.specs.Loans.{Loans};
-ghost use Rattle.sdd_space.specs.Own.{GrowsOn};
+ghost use Rattle.sdd_space.specs.ParticipantChanges.{KeepsMoreWaiting};
 ghost use Rattle.sdd_space.specs.Owned.{slots_home, cells_home, holding_of, cell_holding};
 ghost use Rattle.sdd_space.specs.World.{KeepsSizes, place_at, HasPlace};
-ghost use Rattle.sdd_space.specs.Steps.{dropped, given, given_all};
+ghost use Rattle.sdd_space.specs.WorldChanges.{dropped, given, given_all};
 ghost use Rattle.sdd_space.specs.InPlace.{MayInPlace};
-ghost use Rattle.sdd_space.specs.Whole.{IsWhole};
+ghost use Rattle.sdd_space.specs.WorldInvariant.{IsWhole};
 ghost use Rattle.sdd_world_core.specs.Lending.{AreLent};
 
 use super::WorldCore;
@@ -53,7 +53,7 @@ impl<T: Item<T>, J: Job> Giver<T> for Retirement<'_, T, J> {
         requires home { slots_home owner ≡ self.old.core.now.world.home.slots }
         ensures seat { seat_for self.new.core.now.world self.new.place self.new.core.ghost_name ≡
             seat_for self.old.core.now.world self.old.place self.old.core.ghost_name }
-        ensures own { GrowsOn (place_at self.old.core.now.world self.old.place) (place_at self.new.core.now.world self.new.place) }
+        ensures own { KeepsMoreWaiting (place_at self.old.core.now.world self.old.place) (place_at self.new.core.now.world self.new.place) }
         ensures known { KnowsOn nothing_told nothing_told }
         ensures kept { self.new.core.now.lending ≡ self.old.core.now.lending }
         ensures exact { IsExact (seat_for self.old.core.now.world self.old.place self.old.core.ghost_name) →
@@ -71,7 +71,7 @@ impl<T: Item<T>, J: Job> Giver<T> for Retirement<'_, T, J> {
         requires home { shared.slots_home owner ≡ self.old.core.now.world.home.slots }
         ensures seat { seat_for self.new.core.now.world self.new.place self.new.core.ghost_name ≡
             seat_for self.old.core.now.world self.old.place self.old.core.ghost_name }
-        ensures own { GrowsOn (place_at self.old.core.now.world self.old.place) (place_at self.new.core.now.world self.new.place) }
+        ensures own { KeepsMoreWaiting (place_at self.old.core.now.world self.old.place) (place_at self.new.core.now.world self.new.place) }
         ensures known { KnowsOn nothing_told nothing_told }
         ensures kept { self.new.core.now.lending ≡ self.old.core.now.lending }
         ensures exact { IsExact (seat_for self.old.core.now.world self.old.place self.old.core.ghost_name) →
@@ -89,7 +89,7 @@ impl<T: Item<T>, J: Job> Giver<T> for Retirement<'_, T, J> {
         requires home { cells_home cell ≡ self.old.core.now.world.home.cells }
         ensures seat { seat_for self.new.core.now.world self.new.place self.new.core.ghost_name ≡
             seat_for self.old.core.now.world self.old.place self.old.core.ghost_name }
-        ensures own { GrowsOn (place_at self.old.core.now.world self.old.place) (place_at self.new.core.now.world self.new.place) }
+        ensures own { KeepsMoreWaiting (place_at self.old.core.now.world self.old.place) (place_at self.new.core.now.world self.new.place) }
         ensures known { KnowsOn nothing_told nothing_told }
         ensures kept { self.new.core.now.lending ≡ self.old.core.now.lending }
         ensures exact { IsExact (seat_for self.old.core.now.world self.old.place self.old.core.ghost_name) →
@@ -103,7 +103,7 @@ impl<T: Item<T>, J: Job> Giver<T> for Retirement<'_, T, J> {
         requires home { shared.cells_home cell ≡ self.old.core.now.world.home.cells }
         ensures seat { seat_for self.new.core.now.world self.new.place self.new.core.ghost_name ≡
             seat_for self.old.core.now.world self.old.place self.old.core.ghost_name }
-        ensures own { GrowsOn (place_at self.old.core.now.world self.old.place) (place_at self.new.core.now.world self.new.place) }
+        ensures own { KeepsMoreWaiting (place_at self.old.core.now.world self.old.place) (place_at self.new.core.now.world self.new.place) }
         ensures known { KnowsOn nothing_told nothing_told }
         ensures kept { self.new.core.now.lending ≡ self.old.core.now.lending }
         ensures exact { IsExact (seat_for self.old.core.now.world self.old.place self.old.core.ghost_name) →
@@ -121,7 +121,7 @@ impl<T: Item<T>, J: Job> Giver<T> for Retirement<'_, T, J> {
         requires home { raw_cell.cells_home cell ≡ self.old.core.now.world.home.cells }
         ensures seat { seat_for self.new.core.now.world self.new.place self.new.core.ghost_name ≡
             seat_for self.old.core.now.world self.old.place self.old.core.ghost_name }
-        ensures own { GrowsOn (place_at self.old.core.now.world self.old.place) (place_at self.new.core.now.world self.new.place) }
+        ensures own { KeepsMoreWaiting (place_at self.old.core.now.world self.old.place) (place_at self.new.core.now.world self.new.place) }
         ensures known { KnowsOn nothing_told nothing_told }
         ensures kept { self.new.core.now.lending ≡ self.old.core.now.lending }
         ensures exact { IsExact (seat_for self.old.core.now.world self.old.place self.old.core.ghost_name) →

@@ -3,9 +3,9 @@ ghost use Rattle.std.specs.Prelude.{◌≡◌, ℕ, ◌^◌, ◌<◌, ◌≤◌,
 ghost use Rattle.sdd_participants.specs.declared.waiting.LimboEntry.TheVariants.{Item};
 ghost use Rattle.sdd_participants.specs.EpochState as time;
 ghost use Rattle.sdd_space.specs.World.{most, KeepsSizes, IsPlaceOf};
-ghost use Rattle.sdd_space.specs.Steps.{opened, reclaims, closed, stirred, accelerated};
-ghost use Rattle.sdd_space.specs.Whole.{IsWhole};
-ghost use Rattle.sdd_values.specs.Block.{IsHome, IsFreeFor, stake_at};
+ghost use Rattle.sdd_space.specs.WorldChanges.{opened, reclaims, closed, stirred, accelerated};
+ghost use Rattle.sdd_space.specs.WorldInvariant.{IsWhole};
+ghost use Rattle.sdd_values.specs.Block.{IsUnlent, IsFreeFor, stake_at};
 ghost use Rattle.sdd_values.specs.ReadSections.{kept_at};
 ghost use Rattle.sdd_world_core.specs.Lending.{AreLent, IsPartAt, shared, given_up};
 
@@ -40,7 +40,7 @@ impl<T: Item<T>, J: Job> WorldCore<T, J> {
     fn enter(&mut self, place: usize, spare: &mut Vec<LimboEntry>)
         requires place { IsPlaceOf self.old.world place }
         requires few { time.CanNest self.old.world.time place }
-        requires home { (k : ℕ) → Contains (reclaims self.old.world place) (Item k) → IsHome self.old.lending.stakes k }
+        requires home { (k : ℕ) → Contains (reclaims self.old.world place) (Item k) → IsUnlent self.old.lending.stakes k }
         requires empty { spare.old.items ≡ [] }
         requires reserved { most self.old.world ≤ vec_capacity spare.old }
         ensures opened { self.new ≡ record self.old { world = opened T.holds self.old.world place } }

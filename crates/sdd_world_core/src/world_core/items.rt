@@ -8,9 +8,9 @@ ghost use Rattle.sdd_standings.specs.Slots.{IsOwnedBy, first_standing};
 ghost use Rattle.sdd_participants.specs.Slab.{IsEmptyAt, IsFull};
 ghost use Rattle.sdd_space.specs.OwnerOrCell.{AreOf};
 ghost use Rattle.sdd_space.specs.World.{KeepsSizes, standing_at, value_at};
-ghost use Rattle.sdd_space.specs.Steps.{made_as, with_value};
+ghost use Rattle.sdd_space.specs.WorldChanges.{made_as, with_value};
 ghost use Rattle.sdd_space.specs.InPlace.{MayInPlace, RefusedInPlace};
-ghost use Rattle.sdd_space.specs.Whole.{IsWhole};
+ghost use Rattle.sdd_space.specs.WorldInvariant.{IsWhole};
 ghost use Rattle.sdd_world_core.specs.Lending.{AreLent};
 
 use super::WorldCore;

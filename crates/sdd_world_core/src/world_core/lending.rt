@@ -2,10 +2,10 @@
 ghost use Rattle.std.specs.Prelude.{◌≡◌, Some, IsSome, IfSome, ◌↔◌};
 ghost use Rattle.sdd_rights.specs.Right.{number_of, home_of, kind_of};
 ghost use Rattle.sdd_standings.specs.Slots.{IsOwnedBy};
-ghost use Rattle.sdd_space.specs.Ptr.{IsShown, cell_seen, slot_named};
+ghost use Rattle.sdd_space.specs.Ptr.{PtrIsShown, cell_seen, slot_named};
 ghost use Rattle.sdd_participants.specs.Slab.{entry_at};
 ghost use Rattle.sdd_space.specs.World.{standing_at, value_at, HasPlace};
-ghost use Rattle.sdd_space.specs.Under.{Stays};
+ghost use Rattle.sdd_space.specs.UnderGuards.{CannotGo};
 ghost use Rattle.sdd_world_core.specs.Lending.{AreLent, IsPartAt};
 
 use super::WorldCore;
@@ -37,7 +37,7 @@ impl<T: Item<T>, J: Job> WorldCore<T, J> {
         requires part { IsPartAt self.old.world.home.readers place part.now }
         ensures seen { entry_at self.old.world.cells (number_of cell.now) ≡ Some (cell_seen result) }
         ensures owned { IfSome (slot_named result) (λ slot. IsOwnedBy (kind_of cell.now) (standing_at self.old.world slot)) }
-        ensures shown { IsShown (λ k value. value_at self.old.world k ≡ Some value) result }
+        ensures shown { PtrIsShown (λ k value. value_at self.old.world k ≡ Some value) result }
         ensures world { self.new.world ≡ self.old.world }
         ensures lent { AreLent self.new }
     {
@@ -51,7 +51,7 @@ impl<T: Item<T>, J: Job> WorldCore<T, J> {
     /// The value in a slot whose item stays there while a guard of the place is open.
     pub fn lend_from<'g>(&mut self, place: usize, slot: u32, part: &'g ReadSection) -> &'g T
         requires place { HasPlace self.old.world place }
-        requires stays { Stays self.old.world place slot }
+        requires stays { CannotGo self.old.world place slot }
         requires lent { AreLent self.old }
         requires part { IsPartAt self.old.world.home.readers place part.now }
         ensures value { value_at self.new.world slot ≡ Some result.now }

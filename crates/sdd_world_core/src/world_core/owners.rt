@@ -5,8 +5,8 @@ ghost use Rattle.sdd_rights.specs.SharedRights as shares;
 ghost use Rattle.sdd_standings.specs.Slots.{IsOwnedBy, IsSharedBy, has_others, released_standing, owners_of};
 ghost use Rattle.sdd_participants.specs.EpochState as time;
 ghost use Rattle.sdd_space.specs.World.{KeepsSizes, standing_at, HasPlace};
-ghost use Rattle.sdd_space.specs.Steps.{with_standing, retired, owner_given};
-ghost use Rattle.sdd_space.specs.Whole.{IsWhole};
+ghost use Rattle.sdd_space.specs.WorldChanges.{with_standing, retired, owner_given};
+ghost use Rattle.sdd_space.specs.WorldInvariant.{IsWhole};
 ghost use Rattle.sdd_world_core.specs.Lending.{AreLent};
 
 use super::WorldCore;

@@ -3,9 +3,9 @@ ghost use Rattle.std.specs.Prelude.{◌≡◌, ℕ, ◌+◌, ◌<◌, ◌≤◌,
 ghost use Rattle.sdd_participants.specs.declared.waiting.LimboEntry.TheVariants.{Item};
 ghost use Rattle.sdd_participants.specs.Slab.{IsEmptyAt, IsFull};
 ghost use Rattle.sdd_space.specs.World.{most, weight, KeepsSizes, HasPlace, IsPlaceOf};
-ghost use Rattle.sdd_space.specs.Steps.{deferred, slot_reclaimed, reclaimed, all_reclaimed};
-ghost use Rattle.sdd_space.specs.Whole.{IsWhole};
-ghost use Rattle.sdd_values.specs.Block.{IsHome};
+ghost use Rattle.sdd_space.specs.WorldChanges.{deferred, slot_reclaimed, reclaimed, all_reclaimed};
+ghost use Rattle.sdd_space.specs.WorldInvariant.{IsWhole};
+ghost use Rattle.sdd_values.specs.Block.{IsUnlent};
 ghost use Rattle.sdd_world_core.specs.Lending.{AreLent};
 
 use super::WorldCore;
@@ -32,7 +32,7 @@ impl<T: Item<T>, J: Job> WorldCore<T, J> {
     fn reclaim_item(&mut self, place: usize, slot: u32)
         requires place { HasPlace self.old.world place }
         requires room { weight self.old.world < most self.old.world }
-        requires home { IsHome self.old.lending.stakes slot }
+        requires home { IsUnlent self.old.lending.stakes slot }
         ensures { self.new ≡ record self.old { world = slot_reclaimed T.holds self.old.world place slot } }
     {
         let Some(value) = self.slots.reclaim(slot) else {
@@ -46,7 +46,7 @@ impl<T: Item<T>, J: Job> WorldCore<T, J> {
     fn reclaim(&mut self, place: usize, what: LimboEntry)
         requires place { HasPlace self.old.world place }
         requires room { weight self.old.world < most self.old.world }
-        requires home { (k : ℕ) → what ≡ Item k → IsHome self.old.lending.stakes k }
+        requires home { (k : ℕ) → what ≡ Item k → IsUnlent self.old.lending.stakes k }
         ensures { self.new ≡ record self.old { world = reclaimed T.holds self.old.world place what } }
     {
         match what {
@@ -59,7 +59,7 @@ impl<T: Item<T>, J: Job> WorldCore<T, J> {
     pub(super) fn reclaim_all(&mut self, place: usize, due: &[LimboEntry])
         requires place { HasPlace self.old.world place }
         requires room { weight self.old.world + length due.now ≤ most self.old.world }
-        requires home { (k : ℕ) → Contains due.now (Item k) → IsHome self.old.lending.stakes k }
+        requires home { (k : ℕ) → Contains due.now (Item k) → IsUnlent self.old.lending.stakes k }
         ensures reclaimed { self.new ≡ record self.old { world = all_reclaimed T.holds self.old.world place due.now } }
         ensures sizes { KeepsSizes self.old.world self.new.world }
     {

@@ -2,7 +2,7 @@ use Rattle.std.proofs.Common.{◌≡◌, ℕ, ◌-◌, refl, ap, ◌∙◌, arit
 use Rattle.sdd_shared_values.specs.ValueFractions.{FractionContent}
 use Rattle.sdd_shared_values.specs.SharedValues.{most}
 use Rattle.sdd_domain_invariant.specs.FractionsAtHome.{spare}
-use Rattle.sdd_domain_invariant.specs.HomeSteps.{IsValue}
+use Rattle.sdd_domain_invariant.specs.FractionSteps.{IsValue}
 use Rattle.sdd_atomics.specs.DomainTable.{book_of, places_of}
 use Rattle.sdd_atomics.proofs.Lasts.{all_start, all_has, lot_last, last_else, cut_grips}
 use Rattle.sdd_atomics.proofs.grips.cut_rest.Goals as goal

@@ -1,5 +1,5 @@
 use Rattle.std.proofs.Common.{arith}
-use Rattle.sdd_domain_invariant.specs.HomeSteps.{EndsAll}
+use Rattle.sdd_domain_invariant.specs.FractionSteps.{EndsAll}
 use Rattle.sdd_atomics.proofs.Allowed.{taught, may_end}
 use Rattle.sdd_atomics.proofs.steps.end.Goals as goal
 

@@ -2,14 +2,14 @@ use Rattle.std.proofs.Common.{◌≡◌, ◌≢◌, ℕ, true, false, List, sym,
 use Rattle.sdd_participants.specs.declared.epoch_state.Participant.{Participant}
 use Rattle.sdd_participants.specs.EpochState.{nested, settled, rotated}
 use Rattle.sdd_participants.specs.Waiting.{Waiting, aged, left}
-use Rattle.sdd_domain.specs.Posed.{IsPosed}
+use Rattle.sdd_domain.specs.BetweenCalls.{IsBetweenCalls}
 use Rattle.sdd_domain.proofs.Arrivals.{stayed, moved, due_stayed, due_moved, arrived_same, arrived_moved, posed_settled}
 use Rattle.sdd_domain.proofs.Reclaims.{either_way}
 use Rattle.sdd_domain.proofs.changes.arrive.Goals as goal
 
 pub returns-clause-posed : goal.returns-clause-posed
 returns-clause-posed c = let own : Participant = c.args.own.now in let count : ℕ = c.read-count.result in
-    let Posed = λ (o : Participant). IsPosed c.args.board.now c.args.place (nested o) c.publish-2.new.token in
+    let Posed = λ (o : Participant). IsBetweenCalls c.args.board.now c.args.place (nested o) c.publish-2.new.token in
     let posed : Posed (rotated count own) = (arrived_moved c.args.board.now c.args.place own count c.args.token.now c.read-count.new.token c.write.new.token
     c.publish-2.new.token c.requires.posed c.read-count.ensures (λ e. c.if-count-own.false (sym e)) c.write.ensures c.publish-2.ensures
     c.requires.closed c.requires.settled).0 in

@@ -1,6 +1,6 @@
 use Rattle.std.proofs.Common.{refl, ◌∙◌, subst, arith}
 use Rattle.sdd_views.specs.declared.EpochView.{EpochView}
-use Rattle.sdd_word_invariant.specs.Steps.{Takes}
+use Rattle.sdd_word_invariant.specs.EpochSteps.{Takes}
 use Rattle.sdd_atomics.proofs.Allowed.{same_but_on}
 use Rattle.sdd_domain.proofs.local_core.take_place.Goals as goal
 

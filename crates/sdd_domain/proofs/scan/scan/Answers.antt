@@ -3,7 +3,7 @@ use Rattle.atomic_table.specs.declared.shared.Seat.{Seat}
 use Rattle.sdd_views.specs.declared.EpochView.{EpochView}
 use Rattle.sdd_shared_values.specs.declared.value_fraction.ValueFraction.{ValueFraction}
 use Rattle.sdd_views.specs.declared.View.{View}
-use Rattle.sdd_word_invariant.specs.Steps.{Reads, Locks, unlocked}
+use Rattle.sdd_word_invariant.specs.EpochSteps.{Reads, Locks, unlocked}
 use Rattle.sdd_domain.proofs.Scans.{failed, passed}
 use Rattle.sdd_domain.proofs.scan.scan.Goals.{then-all_pass, else-all_pass}
 use Rattle.sdd_domain.proofs.scan.scan.Goals as goal

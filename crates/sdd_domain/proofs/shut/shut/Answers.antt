@@ -5,7 +5,7 @@ use Rattle.sdd_values.specs.declared.read_sections.SectionState.{SectionState}
 use Rattle.sdd_shared_values.specs.declared.value_fraction.ValueFraction.{ValueFraction}
 use Rattle.sdd_views.specs.declared.ShownValue.{ShownValue}
 use Rattle.sdd_views.specs.declared.View.{View}
-use Rattle.sdd_domain_invariant.specs.HomeSteps.{Purse}
+use Rattle.sdd_domain_invariant.specs.FractionSteps.{CarriesSeen}
 use Rattle.sdd_atomics.specs.DomainTable.{book_of, places_of}
 use Rattle.sdd_domain.proofs.Moving.{all_settled, may_settle, no_purse, none_lent}
 use Rattle.sdd_domain.proofs.shut.shut.Goals as goal
@@ -17,7 +17,7 @@ settle-requires-clause-lent c = may_settle c.args.tenure.now.round c.end_round-e
 
 pub close-requires-clause-purse : goal.close-requires-clause-purse
 close-requires-clause-purse c = let b = c.args.board.now in let settled = c.settle.ensures in
-    subst (λ (sees : List ShownValue). Purse (book_of b) (places_of b) c.args.place sees c.settle.new.seat.me.1)
+    subst (λ (sees : List ShownValue). CarriesSeen (book_of b) (places_of b) c.args.place sees c.settle.new.seat.me.1)
     (sym (ap (λ (s : Seat ValueFraction View). s.me.0.stakes.sees) settled))
     (all_settled (book_of b) (places_of b) c.args.place c.args.token.now.me.0.stakes.sees c.args.token.now.me.1 c.settle.new.seat.me.1
     (ap (λ (s : Seat ValueFraction View). s.me.1) settled) c.requires.purse)

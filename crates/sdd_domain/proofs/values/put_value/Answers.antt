@@ -1,14 +1,14 @@
 use Rattle.std.proofs.Common.{ℕ, ◌+◌, List, [], ◌∷◌, ap, sym, refl, ◌∙◌, subst, arith}
 use Rattle.atomic_table.specs.Seated.{TableId}
 use Rattle.sdd_space.specs.OwnerOrCell.{AreOf}
-use Rattle.sdd_domain.specs.Homes.{home_of_slots}
+use Rattle.sdd_domain.specs.SpaceIds.{home_of_slots}
 use base.Stored.{Gv}
-use Rattle.sdd_shared_values.specs.SharedValues.{IsVacant, showing}
+use Rattle.sdd_shared_values.specs.SharedValues.{IsNoValueCode, showing}
 use Rattle.sdd_views.specs.declared.View.{View}
 use Rattle.sdd_views.specs.contracts.View.{the_row}
 use Rattle.sdd_word_invariant.specs.Sums.{times}
 use Rattle.sdd_word_invariant.proofs.Sums.{is_same}
-use Rattle.sdd_domain_invariant.specs.HomeSteps.{parting, departing}
+use Rattle.sdd_domain_invariant.specs.FractionSteps.{parting, departing}
 use Rattle.sdd_atomics.specs.DomainTable.{book_of, places_of}
 use Rattle.sdd_domain.proofs.Moving.{may_move}
 use Rattle.sdd_domain.proofs.Owners.{row_put, view_cut, moves_cut, furnished, parted_view, departed_view}
@@ -16,7 +16,7 @@ use Rattle.sdd_domain.proofs.values.put_value.Goals as goal
 
 pub put-requires-clause-whole : goal.put-requires-clause-whole
 put-requires-clause-whole g c = let b = c.args.board.now in let sized = b.sized.0 in let few = sized.participants in let r = c.requires in
-    may_move (book_of b) c.args.slot (places_of b) (c.places-count.result + 1) (ap (λ (k : ℕ). k + 1) c.places-count.ensures) IsVacant
+    may_move (book_of b) c.args.slot (places_of b) (c.places-count.result + 1) (ap (λ (k : ℕ). k + 1) c.places-count.ensures) IsNoValueCode
     c.args.shelf.now.book r.shelf.book (omega arith) r.row.0 c.args.token.now.me.1 r.row.1
 
 pub put-requires-clause-fits : goal.put-requires-clause-fits

@@ -3,14 +3,14 @@ use Rattle.atomic_table.specs.declared.shared.Seat.{Seat}
 use Rattle.sdd_shared_values.specs.declared.value_fraction.ValueFraction.{ValueFraction}
 use base.Stored.{Gv}
 use Rattle.atomic_table.specs.Seated.{TableId}
-use Rattle.sdd_shared_values.specs.SharedValues.{IsFull, IsVacant, vacant, showing}
+use Rattle.sdd_shared_values.specs.SharedValues.{IsFull, IsNoValueCode, vacant, showing}
 use Rattle.sdd_views.specs.declared.Sizes.{Sizes}
 use Rattle.sdd_views.specs.declared.View.{View}
 use Rattle.sdd_word_invariant.specs.Slots.{items_at}
 use Rattle.sdd_word_invariant.specs.SlotSteps.{given_back}
-use Rattle.sdd_domain_invariant.specs.HomeSteps.{IsValue, IsNewest, forgetting, giving}
+use Rattle.sdd_domain_invariant.specs.FractionSteps.{IsValue, IsNewest, forgetting, giving}
 use Rattle.sdd_space.specs.OwnerOrCell.{AreOf}
-use Rattle.sdd_domain.specs.Homes.{home_of_slots}
+use Rattle.sdd_domain.specs.SpaceIds.{home_of_slots}
 use Rattle.sdd_atomics.specs.DomainTable.{book_of, places_of}
 use Rattle.sdd_domain.proofs.Moving.{may_move, all_full, row_after, rest_out, rests_again, shown_out}
 use Rattle.sdd_domain.proofs.Taking.{deposit_known, row_taken, row_joined, view_joined}
@@ -43,7 +43,7 @@ give_back-requires-clause-row g c = let b = c.args.board.now in let r = c.requir
     c.join_rest.ensures.row in (
       c.args.token.now.me.1,
       row_after (book_of b) c.args.slot (places_of b) (c.places-count.result + 1) (ap (λ (k : ℕ). k + 1) c.places-count.ensures)
-          (IsValue out.value) IsVacant vacant take.0 c.args.token.now.me.1 c.join_rest.new.token.me.1 c.take-value.new.seat.me.1 refl row
+          (IsValue out.value) IsNoValueCode vacant take.0 c.args.token.now.me.1 c.join_rest.new.token.me.1 c.take-value.new.seat.me.1 refl row
           (ap (λ (s : Seat ValueFraction View). s.me.1) take.1),
     )
 
@@ -53,14 +53,14 @@ returns-clause-given_back g c = let b = c.args.board.now in let n : ℕ = places
     let back = c.give_back.ensures in let v : View = c.args.token.now.me.0 in let slot : ℕ = c.args.slot in
     let row = row_joined b slot c.args.token.now c.take_out-rest.new.token c.join_rest.new.token r.knows out joined c.join_rest.ensures.row in
     let empty = row_after (book_of b) slot n (c.places-count.result + 1) (ap (λ (k : ℕ). k + 1) c.places-count.ensures)
-    (IsValue out.value) IsVacant vacant take.0 c.args.token.now.me.1 c.join_rest.new.token.me.1 c.take-value.new.seat.me.1 refl row
+    (IsValue out.value) IsNoValueCode vacant take.0 c.args.token.now.me.1 c.join_rest.new.token.me.1 c.take-value.new.seat.me.1 refl row
     (ap (λ (s : Seat ValueFraction View). s.me.1) take.1) in
     let moved = ap (λ (s : Seat ValueFraction View). s.me.0) take.1
     ∙ view_joined b slot c.args.token.now c.take_out-rest.new.token c.join_rest.new.token r.knows out joined c.join_rest.ensures.row in
     let same = ap (λ (w : View). w.sizes.participants) moved ∙ ap (λ (z : Sizes). z.participants) r.knows.0 in (
       back.0 ∙ (ap (λ (s : Seat ValueFraction View). s.table_id) take.1 ∙ (joined.0 ∙ taken.0)),
       back.1 ∙ (ap (λ (s : Seat ValueFraction View). s.id) take.1 ∙ (joined.1 ∙ taken.1)),
-      rest_out (book_of b) slot n c.take-value.new.seat.me.0.sizes.participants 0 IsVacant c.args.token.now.me.1 c.take-value.new.seat.me.1
+      rest_out (book_of b) slot n c.take-value.new.seat.me.0.sizes.participants 0 IsNoValueCode c.args.token.now.me.1 c.take-value.new.seat.me.1
           c.give_back.new.token.me.1 same empty back.2.3,
       (
         rests_again slot 0 (forgetting slot v) c.give_back.new.token.me.0 r.rests (back.2.2 ∙ ap giving (back.2.1.0 ∙ ap (given_back slot 0) moved)),

@@ -3,7 +3,7 @@ use base.Stored.{Gv}
 use Rattle.core.specs.Mem.Slots.{slots_items}
 use Rattle.sdd_shared_values.specs.ValueFractions.{FractionContent}
 use Rattle.sdd_shared_values.specs.SharedValues.{most}
-use Rattle.sdd_domain_invariant.specs.FractionsAtHome.{stake_at, homes_for, away, full_at, IsShown}
+use Rattle.sdd_domain_invariant.specs.FractionsAtHome.{stake_at, homes_for, away, full_at, MatchesSlotWord}
 use Rattle.sdd_domain_invariant.proofs.Places.{inside}
 use Rattle.sdd_domain_invariant.proofs.Laid.{next_stake, next_slot, found, one_joined, unit_of, rest_of}
 use Rattle.sdd_domain_invariant.proofs.gather.gather_home.Goals as goal
@@ -17,7 +17,7 @@ loop-place-init g c = let γ : ℕ = c.args.title.now.book in let z = c.args.siz
     let t = c.take_last_home-whole in let before = c.requires.left in let one = t.ensures.one in
     let e = next_slot n i (i + 1) (n - 0) refl (omega arith) in let left : t.new.left ≡ stake_at n i (n - 0) = omega arith in
     let words = t.ensures.same.0 in
-    let Is : ℕ → Gv → Type 0 = λ j. IsShown (full_at z (slots_items c.args.closed.now.words) j) in
+    let Is : ℕ → Gv → Type 0 = λ j. MatchesSlotWord (full_at z (slots_items c.args.closed.now.words) j) in
     let own : ℕ → ℕ = λ j. away n (full_at z (slots_items c.args.closed.now.words) j) in let none : own i ≡ 0 = ap (away n) c.requires.free in
     let has = found γ n own Is i (n - 0) (homes_for n z.slots) t.new.left (slots_items c.args.closed.now.slots) t.result (omega arith)
     (inside n z.slots i (n - 0) c.requires.inside (omega arith)) left t.ensures.stake c.requires.home.laid in record {
@@ -36,7 +36,7 @@ pub join-requires-clause-book : goal.join-requires-clause-book
 join-requires-clause-book g c = let γ : ℕ = c.args.title.now.book in let z = c.args.sizes.now in let n : ℕ = z.participants in let i : ℕ = c.args.slot in
     let p : ℕ = c.loop-place._place in let inv = c.loop-place.invariant in let t = c.take_last_home in let before = inv.left in let one = t.ensures.one in
     let e = next_stake n i (n - (p + 1)) (n - p) (omega arith) in let left : t.new.left ≡ stake_at n i (n - (p + 1)) = omega arith in
-    let Is : ℕ → Gv → Type 0 = λ j. IsShown (full_at z (slots_items c.loop-place.closed.words) j) in
+    let Is : ℕ → Gv → Type 0 = λ j. MatchesSlotWord (full_at z (slots_items c.loop-place.closed.words) j) in
     let own : ℕ → ℕ = λ j. away n (full_at z (slots_items c.loop-place.closed.words) j) in
     let unit = unit_of γ i n (own i) (Is i) (n - (p + 1)) t.result (omega arith) (found γ n own Is i (n - (p + 1)) (homes_for n z.slots) t.new.left
     (slots_items c.loop-place.closed.slots) t.result (omega arith) (inside n z.slots i (n - (p + 1)) c.requires.inside (omega arith)) left t.ensures.stake
@@ -47,7 +47,7 @@ pub join-requires-clause-number : goal.join-requires-clause-number
 join-requires-clause-number g c = let γ : ℕ = c.args.title.now.book in let z = c.args.sizes.now in let n : ℕ = z.participants in let i : ℕ = c.args.slot in
     let p : ℕ = c.loop-place._place in let inv = c.loop-place.invariant in let t = c.take_last_home in let before = inv.left in let one = t.ensures.one in
     let e = next_stake n i (n - (p + 1)) (n - p) (omega arith) in let left : t.new.left ≡ stake_at n i (n - (p + 1)) = omega arith in
-    let Is : ℕ → Gv → Type 0 = λ j. IsShown (full_at z (slots_items c.loop-place.closed.words) j) in
+    let Is : ℕ → Gv → Type 0 = λ j. MatchesSlotWord (full_at z (slots_items c.loop-place.closed.words) j) in
     let own : ℕ → ℕ = λ j. away n (full_at z (slots_items c.loop-place.closed.words) j) in
     let unit = unit_of γ i n (own i) (Is i) (n - (p + 1)) t.result (omega arith) (found γ n own Is i (n - (p + 1)) (homes_for n z.slots) t.new.left
     (slots_items c.loop-place.closed.slots) t.result (omega arith) (inside n z.slots i (n - (p + 1)) c.requires.inside (omega arith)) left t.ensures.stake
@@ -58,7 +58,7 @@ pub join-requires-clause-free : goal.join-requires-clause-free
 join-requires-clause-free g c = let γ : ℕ = c.args.title.now.book in let z = c.args.sizes.now in let n : ℕ = z.participants in let i : ℕ = c.args.slot in
     let p : ℕ = c.loop-place._place in let inv = c.loop-place.invariant in let t = c.take_last_home in let before = inv.left in let one = t.ensures.one in
     let e = next_stake n i (n - (p + 1)) (n - p) (omega arith) in let left : t.new.left ≡ stake_at n i (n - (p + 1)) = omega arith in
-    let Is : ℕ → Gv → Type 0 = λ j. IsShown (full_at z (slots_items c.loop-place.closed.words) j) in
+    let Is : ℕ → Gv → Type 0 = λ j. MatchesSlotWord (full_at z (slots_items c.loop-place.closed.words) j) in
     let own : ℕ → ℕ = λ j. away n (full_at z (slots_items c.loop-place.closed.words) j) in
     let unit = unit_of γ i n (own i) (Is i) (n - (p + 1)) t.result (omega arith) (found γ n own Is i (n - (p + 1)) (homes_for n z.slots) t.new.left
     (slots_items c.loop-place.closed.slots) t.result (omega arith) (inside n z.slots i (n - (p + 1)) c.requires.inside (omega arith)) left t.ensures.stake
@@ -69,7 +69,7 @@ pub loop-place-preserved : goal.loop-place-preserved
 loop-place-preserved g c = let γ : ℕ = c.args.title.now.book in let z = c.args.sizes.now in let n : ℕ = z.participants in let i : ℕ = c.args.slot in
     let p : ℕ = c.loop-place._place in let inv = c.loop-place.invariant in let t = c.take_last_home in let before = inv.left in let one = t.ensures.one in
     let e = next_stake n i (n - (p + 1)) (n - p) (omega arith) in let left : t.new.left ≡ stake_at n i (n - (p + 1)) = omega arith in
-    let Is : ℕ → Gv → Type 0 = λ j. IsShown (full_at z (slots_items c.loop-place.closed.words) j) in
+    let Is : ℕ → Gv → Type 0 = λ j. MatchesSlotWord (full_at z (slots_items c.loop-place.closed.words) j) in
     let own : ℕ → ℕ = λ j. away n (full_at z (slots_items c.loop-place.closed.words) j) in
     let unit = unit_of γ i n (own i) (Is i) (n - (p + 1)) t.result (omega arith) (found γ n own Is i (n - (p + 1)) (homes_for n z.slots) t.new.left
     (slots_items c.loop-place.closed.slots) t.result (omega arith) (inside n z.slots i (n - (p + 1)) c.requires.inside (omega arith)) left t.ensures.stake

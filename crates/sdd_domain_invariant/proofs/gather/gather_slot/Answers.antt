@@ -1,6 +1,6 @@
 use Rattle.std.proofs.Common.{◌≡◌, ℕ, ◌+◌, ◌-◌, length, refl, sym, ap, ◌∙◌, vec_len, arith}
 use Rattle.sdd_shared_values.specs.ValueFractions.{FractionContent}
-use Rattle.sdd_shared_values.specs.SharedValues.{most, IsVacant}
+use Rattle.sdd_shared_values.specs.SharedValues.{most, IsNoValueCode}
 use Rattle.sdd_domain_invariant.specs.FractionsAtHome.{none_away, all_vacant}
 use Rattle.sdd_domain_invariant.proofs.Laid.{next_stake, next_slot, popped, one_joined, unit_of, rest_of}
 use Rattle.sdd_domain_invariant.proofs.gather.gather_slot.Goals as goal
@@ -14,7 +14,7 @@ loop-place-init c = let γ : ℕ = c.args.title.now.book in let n : ℕ = c.args
     let pop = popped γ n none_away all_vacant i (n - 0) _ c.args.laid.now.items t.new.self.items t.result t.ensures.items (omega arith)
     (next_slot n i (i + 1) (n - 0) refl (omega arith)) c.requires.laid in record {
       laid = pop.0;
-      whole = rest_of γ i n 0 IsVacant (n - 0) (most - n + 0) t.result (omega arith) (omega arith) pop.1;
+      whole = rest_of γ i n 0 IsNoValueCode (n - 0) (most - n + 0) t.result (omega arith) (omega arith) pop.1;
       vacant = pop.1.1;
     }
 
@@ -52,6 +52,6 @@ loop-place-preserved c = let γ : ℕ = c.args.title.now.book in let n : ℕ = c
     (next_stake n i (n - (p + 1)) (n - p) (omega arith)) inv.laid in record {
       laid = pop.0;
       whole = one_joined γ i n c.loop-place.whole.lot t.result.lot c.join.new.self.lot (most - n + p) (most - n + (p + 1)) (omega arith) inv.whole
-          (unit_of γ i n 0 IsVacant (n - (p + 1)) t.result (omega arith) pop.1) c.join.ensures.joined;
+          (unit_of γ i n 0 IsNoValueCode (n - (p + 1)) t.result (omega arith) pop.1) c.join.ensures.joined;
       vacant = ap (λ (h : FractionContent). h.shown) c.join.ensures.joined ∙ inv.vacant;
     }

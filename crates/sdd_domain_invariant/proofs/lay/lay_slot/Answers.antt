@@ -1,6 +1,6 @@
 use Rattle.std.proofs.Common.{◌≡◌, ℕ, ◌+◌, ◌-◌, refl, ap, ◌∙◌, arith}
 use Rattle.sdd_shared_values.specs.ValueFractions.{FractionContent}
-use Rattle.sdd_shared_values.specs.SharedValues.{most, IsVacant}
+use Rattle.sdd_shared_values.specs.SharedValues.{most, IsNoValueCode}
 use Rattle.sdd_domain_invariant.specs.FractionsAtHome.{none_away, all_vacant}
 use Rattle.sdd_domain_invariant.proofs.Laid.{next_stake, next_slot, pushed, rest_less, unit_has, rest_has}
 use Rattle.sdd_domain_invariant.proofs.lay.lay_slot.Goals as goal
@@ -11,7 +11,7 @@ loop-place-preserved c = let n : ℕ = c.args.participants in let i : ℕ = c.ar
       laid = pushed γ n none_away all_vacant i p _ c.loop-place.laid.items c.push_reserved.new.self.items c.split.result c.push_reserved.ensures.items
           (omega arith)
           (next_stake n i p (p + 1) refl) inv.laid
-          (unit_has γ i n 0 IsVacant p (most - p) l c.split.result c.loop-place-test.true inv.rest c.split.ensures.part inv.vacant);
+          (unit_has γ i n 0 IsNoValueCode p (most - p) l c.split.result c.loop-place-test.true inv.rest c.split.ensures.part inv.vacant);
       rest = rest_less γ i n l m (most - p) (most - (p + 1)) (omega arith) inv.rest c.split.ensures.rest;
       vacant = ap (λ (h : FractionContent). h.shown) c.split.ensures.rest ∙ inv.vacant;
       room = (let a = c.push_reserved.ensures.len in let b = inv.room in omega arith);
@@ -23,4 +23,4 @@ returns-clause-laid c = let n : ℕ = c.args.participants in let i : ℕ = c.arg
     let inv = c.loop-place.invariant in let e : p ≡ n = omega arith in
     pushed γ n none_away all_vacant i p _ c.loop-place.laid.items c.push_reserved-2.new.self.items c.loop-place.rest c.push_reserved-2.ensures.items
     (omega arith)
-    (next_slot n i (i + 1) p refl e) inv.laid (rest_has γ i n 0 IsVacant p (most - p) c.loop-place.rest e (omega arith) inv.rest inv.vacant)
+    (next_slot n i (i + 1) p refl e) inv.laid (rest_has γ i n 0 IsNoValueCode p (most - p) c.loop-place.rest e (omega arith) inv.rest inv.vacant)

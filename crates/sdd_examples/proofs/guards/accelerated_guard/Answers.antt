@@ -1,5 +1,5 @@
 use Rattle.std.proofs.Common.{sym, ap, ◌∙◌}
-use Rattle.sdd_space.specs.Left.{accelerated_guard}
+use Rattle.sdd_space.specs.ReclaimBound.{accelerated_guard}
 use Rattle.sdd_space.specs.CallerId.{CallerId}
 use Rattle.sdd_examples.proofs.guards.accelerated_guard.Goals as goal
 

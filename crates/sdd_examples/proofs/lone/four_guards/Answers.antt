@@ -1,5 +1,5 @@
 use Rattle.std.proofs.Common.{◌≡◌, None, sym, ap, ◌∙◌, subst}
-use Rattle.sdd_space.specs.Left.{accelerated_guard}
+use Rattle.sdd_space.specs.ReclaimBound.{accelerated_guard}
 use Rattle.sdd_space.specs.CallerId.{CallerId}
 use Rattle.sdd_space.specs.World.{World, standing_at}
 use Rattle.sdd_examples.proofs.lone.four_guards.Goals as goal

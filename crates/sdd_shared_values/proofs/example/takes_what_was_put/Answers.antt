@@ -1,8 +1,8 @@
 use Rattle.std.proofs.Common.{◌≡◌, sym, subst, refl}
 use Rattle.sdd_shared_values.specs.ValueFractions.{AllFreeFor}
 use base.Stored.{Gv}
-use Rattle.sdd_shared_values.specs.Seats.{lots}
-use Rattle.sdd_shared_values.specs.SharedValues.{showing, IsVacant, IsFull, HasWhole}
+use Rattle.sdd_shared_values.specs.CarriedFractions.{lots}
+use Rattle.sdd_shared_values.specs.SharedValues.{showing, IsNoValueCode, IsFull, HasWhole}
 use Rattle.sdd_shared_values.proofs.Turns.{Carries, put-whole, put-free, whole-shows, whole-settled, same-value}
 use Rattle.sdd_shared_values.proofs.example.takes_what_was_put.Goals as goal
 
@@ -10,7 +10,7 @@ use Rattle.sdd_shared_values.proofs.example.takes_what_was_put.Goals as goal
 pub show-shown-requires-clause-stake : goal.show-shown-requires-clause-stake
 show-shown-requires-clause-stake g c = let put = c.put.ensures.seat in let γ = c.args.shelf.now.book in let i = c.args.at in let n = c.args.count in
     let ys = c.put.new.seat.me.1 in whole-shows γ i n c.args.tenure.now.round (lots ys)
-    (put-whole γ i n (showing g.row.T c.args.value) IsVacant IsFull c.args.seat.now.me.1 ys tt c.requires.whole (put.0, λ j. (put.1 j).me.1))
+    (put-whole γ i n (showing g.row.T c.args.value) IsNoValueCode IsFull c.args.seat.now.me.1 ys tt c.requires.whole (put.0, λ j. (put.1 j).me.1))
 
 -- src/example.rt:58:5
 pub settle-requires-clause-lent : goal.settle-requires-clause-lent
@@ -27,7 +27,7 @@ take-requires-clause-whole g c = let put = c.put.ensures.seat in let γ = c.args
     let ys = c.put.new.seat.me.1 in
     subst (λ (zs : Carries). HasWhole γ i n IsFull (lots zs)) (sym (λ j. (c.settle.ensures j).me.1))
     (whole-settled γ i n IsFull ys c.show-shown.new.seat.me.1 c.show-shown.ensures.lent.0
-    (put-whole γ i n (showing g.row.T c.args.value) IsVacant IsFull c.args.seat.now.me.1 ys tt c.requires.whole (put.0, λ j. (put.1 j).me.1)))
+    (put-whole γ i n (showing g.row.T c.args.value) IsNoValueCode IsFull c.args.seat.now.me.1 ys tt c.requires.whole (put.0, λ j. (put.1 j).me.1)))
 
 -- src/example.rt:38:1
 pub returns : goal.returns
@@ -37,6 +37,6 @@ returns g c = let put = c.put.ensures.seat in let γ = c.args.shelf.now.book in 
       value = same-value g.row.T γ i n taken.0 c.args.value c.take.result (lots c.settle.new.seat.me.1)
           (subst (λ (zs : Carries). HasWhole γ i n (λ (v : Gv). v ≡ w) (lots zs)) (sym (λ j. (c.settle.ensures j).me.1))
           (whole-settled γ i n (λ (v : Gv). v ≡ w) ys c.show-shown.new.seat.me.1 c.show-shown.ensures.lent.0
-          (put-whole γ i n w IsVacant (λ (v : Gv). v ≡ w) c.args.seat.now.me.1 ys refl c.requires.whole (put.0, λ j. (put.1 j).me.1))))
+          (put-whole γ i n w IsNoValueCode (λ (v : Gv). v ≡ w) c.args.seat.now.me.1 ys refl c.requires.whole (put.0, λ j. (put.1 j).me.1))))
           taken.1;
     }

@@ -11,7 +11,7 @@ use Rattle.atomic_table.proofs.Fields.{HandData}
 use base.Share.{three_quarters}
 use Rattle.sdd_values.specs.ReadSection.{ended_shares}
 use Rattle.sdd_shared_values.specs.ValueFractions.{FractionContent, AllFreeFor, settled}
-use Rattle.sdd_shared_values.specs.Seats.{lots, with_lots}
+use Rattle.sdd_shared_values.specs.CarriedFractions.{lots, with_lots}
 use Rattle.sdd_shared_values.proofs.Ghost.{with_end}
 use Rattle.sdd_shared_values.proofs.Carried.{with_all, same_length}
 use Rattle.atomic_table.specs.contracts.shared.Shared as table

@@ -4,7 +4,7 @@ use Rattle.sdd_participants.specs.Slab.{Entries}
 use Rattle.sdd_participants.specs.declared.standing.Standing.{Standing}
 use Rattle.sdd_participants.specs.declared.standing.Standing.TheVariants.{Owned, Raw}
 use Rattle.sdd_space.specs.Owned.{slot_of}
-use Rattle.sdd_space.specs.Steps.{with_standing}
+use Rattle.sdd_space.specs.WorldChanges.{with_standing}
 use Rattle.sdd_space.specs.World.{World, standing_at}
 use Rattle.sdd_space.proofs.laws.comes_back.Goals as goal
 

@@ -3,7 +3,7 @@ use Rattle.std.proofs.lemmas.List.{length-replicate}
 use Rattle.std.proofs.lemmas.Grind.{common_steps}
 use Rattle.sdd_word_invariant.specs.Words.{all_words}
 use Rattle.sdd_domain_invariant.proofs.Tokens.{begins, founds_bank}
-use Rattle.sdd_domain_invariant.specs.HomeSteps.{SeatState}
+use Rattle.sdd_domain_invariant.specs.FractionSteps.{SeatState}
 use Rattle.sdd_atomics.specs.declared.domain_table.TableLayout.{TableLayout}
 use Rattle.sdd_atomics.proofs.Zeros.{zeros}
 use Rattle.sdd_atomics.proofs.domain_table.DomainTable.new.Goals as goal

@@ -1,7 +1,7 @@
 use Rattle.std.proofs.Common.{sym, ap, ◌∙◌}
 use Rattle.sdd_views.specs.declared.View.{View}
 use Rattle.sdd_views.specs.Views.{owner_of}
-use Rattle.sdd_domain_invariant.specs.HomeSteps.{SeatState, regained}
+use Rattle.sdd_domain_invariant.specs.FractionSteps.{SeatState, regained}
 use Rattle.sdd_domain_invariant.proofs.Tokens.{joins_owner}
 use Rattle.sdd_atomics.proofs.Shown.{view_is}
 use Rattle.sdd_atomics.proofs.steps.slots.take_in.Goals as goal

@@ -10,9 +10,9 @@ use Rattle.sdd_rights.specs.declared.fraction.Fraction.{Fraction}
 use Rattle.sdd_values.specs.declared.read_sections.SectionState.{SectionState}
 use Rattle.sdd_values.specs.declared.read_sections.SectionState.TheVariants.{Closed}
 use Rattle.sdd_domain.specs.LocalState.{LocalState, IsEntered, GoesOn}
-use Rattle.sdd_domain.specs.Posed.{IsPosed, AreLentTo}
+use Rattle.sdd_domain.specs.BetweenCalls.{IsBetweenCalls, AreLentTo}
 use Rattle.sdd_domain.specs.Receipt.{IsTallied}
-use Rattle.sdd_domain.specs.Waits.{what_of, ripe, arrived_at, aged_at, due_at}
+use Rattle.sdd_domain.specs.WaitingItems.{what_of, ripe, arrived_at, aged_at, due_at}
 use Rattle.sdd_domain.proofs.Arrivals.{has_open, has_room, due_moved, quiet_due, due_ripe}
 use Rattle.sdd_domain.proofs.Members.{with_view}
 use Rattle.sdd_domain.proofs.Reclaims.{none_ripe}
@@ -34,7 +34,7 @@ invariant_of-self g c = let l = c.self.inside in let i = c.self.invariant in let
     let one : own.guards + 1 ≡ 1 = omega arith in
     let opened : nested own ≡ record own { guards = 1 } = λ d. record own { guards = one d } in
     let large : own.bags.room ≡ l.own.bags.room = has_room count l.own c.arrive-goes_on.result own a.2 in (
-      subst (λ (o : Participant). IsPosed b l.place o c.arrive-goes_on.new.token) opened c.arrive-goes_on.ensures.posed,
+      subst (λ (o : Participant). IsBetweenCalls b l.place o c.arrive-goes_on.new.token) opened c.arrive-goes_on.ensures.posed,
       i.1,
       record {
         units = (let s = ap (λ (t : Tenure). t.units) c.split.ensures.rest in let t = ap (λ (t : Tenure). t.units) c.set.ensures in let u = i.2.units in omega arith);

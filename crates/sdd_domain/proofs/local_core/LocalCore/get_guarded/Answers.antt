@@ -4,10 +4,10 @@ use base.Stored.{Gv}
 use Rattle.sdd_rights.specs.Owner.{witness_of_owner}
 use Rattle.sdd_rights.specs.Right.{number_of, kind_of, grip_of}
 use Rattle.sdd_rights.specs.StandingKind.{is_shared}
-use Rattle.sdd_domain_invariant.specs.HomeSteps.{Watches}
+use Rattle.sdd_domain_invariant.specs.FractionSteps.{SeesOwned}
 use Rattle.sdd_atomics.specs.DomainSeat.{MovedAlone}
-use Rattle.sdd_shared_values.specs.Seats.{lots}
-use Rattle.sdd_shared_values.specs.SharedValues.{CanShow, Shows, showing}
+use Rattle.sdd_shared_values.specs.CarriedFractions.{lots}
+use Rattle.sdd_shared_values.specs.SharedValues.{CanShow, HasFractionShowing, showing}
 use Rattle.sdd_domain_invariant.proofs.Records.{in_times}
 use Rattle.sdd_rights.specs.Units.{GhostName}
 use Rattle.sdd_atomics.specs.DomainTable.{id_of, book_of, places_of, slots_of}
@@ -15,11 +15,11 @@ use Rattle.atomic_table.specs.declared.shared.Seat.{Seat}
 use Rattle.sdd_shared_values.specs.declared.value_fraction.ValueFraction.{ValueFraction}
 use Rattle.sdd_views.specs.declared.View.{View}
 use Rattle.sdd_views.specs.declared.Sizes.{Sizes}
-use Rattle.sdd_domain.specs.Sight.{IsOnce}
+use Rattle.sdd_domain.specs.SeenSlots.{IsOnce}
 use Rattle.sdd_space.specs.OwnerOrCell.{AreOf}
-use Rattle.sdd_domain.specs.Homes.{home_in}
+use Rattle.sdd_domain.specs.SpaceIds.{home_in}
 use Rattle.sdd_domain.proofs.Housed.{on_board, from_shelf}
-use Rattle.sdd_domain.specs.Posed.{IsReady, AreLentTo}
+use Rattle.sdd_domain.specs.BetweenCalls.{IsReady, AreLentTo}
 use Rattle.sdd_domain.specs.Receipt.{IsTallied}
 use Rattle.sdd_domain.proofs.Moving.{can_show, shows_known}
 use Rattle.sdd_domain.proofs.Posing.{watched, posed_shows, same_recalled}
@@ -34,7 +34,7 @@ show-requires-clause-stake g c = let l = c.self.inside in let b = l.domain.now.b
     let own = c.witness-owner.ensures.owner (has_tables c.args.self.now c.args.right.now c.requires.home) in
     let shared : Bool = is_shared (kind_of c.args.right.now) in let shown : Gv = (grip_of c.args.right.now).shown in
     let recalled = c.recall.ensures slot shared shown own.owner in
-    let watch = subst (λ (x : Seat ValueFraction View). MovedAlone (Watches slot shared shown) x c.watch.new.token)
+    let watch = subst (λ (x : Seat ValueFraction View). MovedAlone (SeesOwned slot shared shown) x c.watch.new.token)
     (same_recalled b l.place slot shared shown l.token c.recall.new.token recalled) (c.watch.ensures slot shared shown own.owner) in
     let seen = watched b l.place l.own t slot shared shown l.token c.watch.new.token inv.0
     (subst (λ (t : ℕ). AreLentTo t l.token.me.1) (sym c.agree.ensures.round) inv.3) watch in
@@ -48,7 +48,7 @@ invariant_of-self g c = let l = c.self.inside in let b = l.domain.now.board in l
     let own = c.witness-owner.ensures.owner (has_tables c.args.self.now c.args.right.now c.requires.home) in
     let shared : Bool = is_shared (kind_of c.args.right.now) in let shown : Gv = (grip_of c.args.right.now).shown in
     let recalled = c.recall.ensures slot shared shown own.owner in
-    let watch = subst (λ (x : Seat ValueFraction View). MovedAlone (Watches slot shared shown) x c.watch.new.token)
+    let watch = subst (λ (x : Seat ValueFraction View). MovedAlone (SeesOwned slot shared shown) x c.watch.new.token)
     (same_recalled b l.place slot shared shown l.token c.recall.new.token recalled) (c.watch.ensures slot shared shown own.owner) in
     let some_open : 0 < l.own.guards = search rules in
     let seen = watched b l.place l.own t slot shared shown l.token c.watch.new.token inv.0
@@ -71,11 +71,11 @@ returns-clause-value g c = let l = c.self.inside in let b = l.domain.now.board i
     let own = c.witness-owner.ensures.owner (has_tables c.args.self.now c.args.right.now c.requires.home) in
     let shared : Bool = is_shared (kind_of c.args.right.now) in let shown : Gv = (grip_of c.args.right.now).shown in
     let recalled = c.recall.ensures slot shared shown own.owner in
-    let watch = subst (λ (x : Seat ValueFraction View). MovedAlone (Watches slot shared shown) x c.watch.new.token)
+    let watch = subst (λ (x : Seat ValueFraction View). MovedAlone (SeesOwned slot shared shown) x c.watch.new.token)
     (same_recalled b l.place slot shared shown l.token c.recall.new.token recalled) (c.watch.ensures slot shared shown own.owner) in
     let seen = watched b l.place l.own t slot shared shown l.token c.watch.new.token inv.0
     (subst (λ (t : ℕ). AreLentTo t l.token.me.1) (sym c.agree.ensures.round) inv.3) watch in
-    let shows = subst (λ (k : ℕ). Shows l.domain.now.shelf.book k (showing g.row.T c.show.result.now) (lots c.watch.new.token.me.1)) c.number.ensures
+    let shows = subst (λ (k : ℕ). HasFractionShowing l.domain.now.shelf.book k (showing g.row.T c.show.result.now) (lots c.watch.new.token.me.1)) c.number.ensures
     c.show.ensures.value in
     let is = seen.once slot shown (showing g.row.T c.show.result.now) seen.there
     (shows_known (book_of b) (places_of b) l.place slot l.domain.now.shelf.book (showing g.row.T c.show.result.now) seen.records
@@ -88,11 +88,11 @@ returns-clause-looks g c = let l = c.self.inside in let b = l.domain.now.board i
     let own = c.witness-owner.ensures.owner (has_tables c.args.self.now c.args.right.now c.requires.home) in
     let shared : Bool = is_shared (kind_of c.args.right.now) in let shown : Gv = (grip_of c.args.right.now).shown in
     let recalled = c.recall.ensures slot shared shown own.owner in
-    let watch = subst (λ (x : Seat ValueFraction View). MovedAlone (Watches slot shared shown) x c.watch.new.token)
+    let watch = subst (λ (x : Seat ValueFraction View). MovedAlone (SeesOwned slot shared shown) x c.watch.new.token)
     (same_recalled b l.place slot shared shown l.token c.recall.new.token recalled) (c.watch.ensures slot shared shown own.owner) in
     let seen = watched b l.place l.own t slot shared shown l.token c.watch.new.token inv.0
     (subst (λ (t : ℕ). AreLentTo t l.token.me.1) (sym c.agree.ensures.round) inv.3) watch in
-    let shows = subst (λ (k : ℕ). Shows l.domain.now.shelf.book k (showing g.row.T c.show.result.now) (lots c.watch.new.token.me.1)) c.number.ensures
+    let shows = subst (λ (k : ℕ). HasFractionShowing l.domain.now.shelf.book k (showing g.row.T c.show.result.now) (lots c.watch.new.token.me.1)) c.number.ensures
     c.show.ensures.value in
     let is = seen.once slot shown (showing g.row.T c.show.result.now) seen.there
     (shows_known (book_of b) (places_of b) l.place slot l.domain.now.shelf.book (showing g.row.T c.show.result.now) seen.records
@@ -107,7 +107,7 @@ returns-clause-once g c = let l = c.self.inside in let b = l.domain.now.board in
     let own = c.witness-owner.ensures.owner (has_tables c.args.self.now c.args.right.now c.requires.home) in
     let shared : Bool = is_shared (kind_of c.args.right.now) in let shown : Gv = (grip_of c.args.right.now).shown in
     let recalled = c.recall.ensures slot shared shown own.owner in
-    let watch = subst (λ (x : Seat ValueFraction View). MovedAlone (Watches slot shared shown) x c.watch.new.token)
+    let watch = subst (λ (x : Seat ValueFraction View). MovedAlone (SeesOwned slot shared shown) x c.watch.new.token)
     (same_recalled b l.place slot shared shown l.token c.recall.new.token recalled) (c.watch.ensures slot shared shown own.owner) in
     let seen = watched b l.place l.own t slot shared shown l.token c.watch.new.token inv.0
     (subst (λ (t : ℕ). AreLentTo t l.token.me.1) (sym c.agree.ensures.round) inv.3) watch in
@@ -121,11 +121,11 @@ returns-clause-recalled g c = let l = c.self.inside in let b = l.domain.now.boar
     let own = c.witness-owner.ensures.owner (has_tables c.args.self.now c.args.right.now c.requires.home) in
     let shared : Bool = is_shared (kind_of c.args.right.now) in let shown : Gv = (grip_of c.args.right.now).shown in
     let recalled = c.recall.ensures slot shared shown own.owner in
-    let watch = subst (λ (x : Seat ValueFraction View). MovedAlone (Watches slot shared shown) x c.watch.new.token)
+    let watch = subst (λ (x : Seat ValueFraction View). MovedAlone (SeesOwned slot shared shown) x c.watch.new.token)
     (same_recalled b l.place slot shared shown l.token c.recall.new.token recalled) (c.watch.ensures slot shared shown own.owner) in
     let seen = watched b l.place l.own t slot shared shown l.token c.watch.new.token inv.0
     (subst (λ (t : ℕ). AreLentTo t l.token.me.1) (sym c.agree.ensures.round) inv.3) watch in
-    let shows = subst (λ (k : ℕ). Shows l.domain.now.shelf.book k (showing g.row.T c.show.result.now) (lots c.watch.new.token.me.1)) c.number.ensures
+    let shows = subst (λ (k : ℕ). HasFractionShowing l.domain.now.shelf.book k (showing g.row.T c.show.result.now) (lots c.watch.new.token.me.1)) c.number.ensures
     c.show.ensures.value in
     let is = seen.once slot shown (showing g.row.T c.show.result.now) seen.there
     (shows_known (book_of b) (places_of b) l.place slot l.domain.now.shelf.book (showing g.row.T c.show.result.now) seen.records

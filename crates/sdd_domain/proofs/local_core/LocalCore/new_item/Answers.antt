@@ -1,6 +1,6 @@
 use Rattle.std.proofs.Common.{ap, sym, refl, ◌∙◌, subst}
 use Rattle.sdd_space.specs.OwnerOrCell.{AreOf}
-use Rattle.sdd_domain.specs.Homes.{home_in}
+use Rattle.sdd_domain.specs.SpaceIds.{home_in}
 use Rattle.sdd_domain.specs.LocalState.{LocalState}
 use Rattle.sdd_domain.proofs.Housed.{to_board, on_board}
 use Rattle.sdd_views.specs.declared.Sizes.{Sizes}
@@ -9,7 +9,7 @@ use Rattle.sdd_participants.specs.declared.tally.Tally.{Tally}
 use Rattle.sdd_participants.specs.Tally.{one_made}
 use Rattle.sdd_shared_values.specs.SharedValues.{showing}
 use Rattle.sdd_atomics.specs.DomainTable.{book_of, places_of}
-use Rattle.sdd_domain.specs.Posed.{AreLentTo, IsReady}
+use Rattle.sdd_domain.specs.BetweenCalls.{AreLentTo, IsReady}
 use Rattle.sdd_domain.specs.Receipt.{IsTallied}
 use Rattle.sdd_domain.proofs.Moving.{row_out}
 use Rattle.sdd_domain.proofs.Posing.{posed_makes, made_view}

@@ -10,7 +10,7 @@ use Rattle.sdd_rights.specs.StandingKind.{is_shared}
 use Rattle.sdd_rights.specs.Right.{number_of, kind_of, grip_of}
 use Rattle.sdd_domain.specs.Items.{HasValue}
 use Rattle.sdd_domain.specs.LocalState.{LocalState, IsLone, KnowsOwner}
-use Rattle.sdd_domain.specs.Posed.{IsPosed, AreLentTo, IsTenureOf, IsReady}
+use Rattle.sdd_domain.specs.BetweenCalls.{IsBetweenCalls, AreLentTo, IsTenureOf, IsReady}
 use Rattle.sdd_domain.specs.Receipt.{IsTallied}
 use Rattle.sdd_domain.proofs.Members.{with_token, recalls_to, has_tables}
 use Rattle.sdd_domain.proofs.Posing.{same_recalled}
@@ -22,7 +22,7 @@ invariant_of-self g c =
     let shared : Bool = is_shared (kind_of c.args.right.now) in let shown : Gv = (grip_of c.args.right.now).shown in
     let own = c.witness.ensures.owner (has_tables c.args.self.now c.args.right.now c.requires) in
     let same = same_recalled board l.place slot shared shown l.token c.recall.new.token (c.recall.ensures slot shared shown own.owner) in
-    subst (λ (x : Seat ValueFraction View). IsPosed board l.place l.own x × l.nesting ≡ l.domain.now.limits.nesting × IsTenureOf l.own l.tenure
+    subst (λ (x : Seat ValueFraction View). IsBetweenCalls board l.place l.own x × l.nesting ≡ l.domain.now.limits.nesting × IsTenureOf l.own l.tenure
     × AreLentTo l.tenure.round x.me.1 × IsReady board l.own l.due l.known.slots x.me.0.slots.waits × IsTallied 0 l.tally x.me.0.stakes.counts)
     (sym same) c.self.invariant
 

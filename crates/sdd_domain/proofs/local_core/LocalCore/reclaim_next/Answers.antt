@@ -8,11 +8,11 @@ use Rattle.sdd_views.specs.declared.Sizes.{Sizes}
 use Rattle.sdd_atomics.specs.DomainTable.{slots_of}
 use Rattle.sdd_views.specs.declared.View.{View}
 use Rattle.sdd_space.specs.OwnerOrCell.{AreOf}
-use Rattle.sdd_domain.specs.Homes.{home_in}
+use Rattle.sdd_domain.specs.SpaceIds.{home_in}
 use Rattle.sdd_domain.specs.LocalState.{LocalState, Reclaims}
-use Rattle.sdd_domain.specs.Posed.{AreLentTo}
+use Rattle.sdd_domain.specs.BetweenCalls.{AreLentTo}
 use Rattle.sdd_domain.specs.Receipt.{IsTallied}
-use Rattle.sdd_domain.specs.Waits.{what_of, ripe}
+use Rattle.sdd_domain.specs.WaitingItems.{what_of, ripe}
 use Rattle.sdd_domain.proofs.Housed.{on_board, from_board}
 use Rattle.sdd_domain.proofs.Members.{with_view}
 use Rattle.sdd_domain.proofs.Posing.{posed_reclaims}

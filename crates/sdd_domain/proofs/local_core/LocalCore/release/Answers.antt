@@ -4,7 +4,7 @@ use native.Mathlib.Decide.{dec_lt}
 use Rattle.std.proofs.Common.{List, [], ◌∷◌, ◌≡◌, ℕ, ◌<◌, map, length, rules, refl, sym, ap, ◌∙◌, subst, arith}
 use Rattle.std.proofs.lemmas.List.{length-map}
 use Rattle.sdd_word_invariant.specs.SlotSteps.{retired_now}
-use Rattle.sdd_domain.specs.Waits.{what_of, waiting_of, ripe, unripe}
+use Rattle.sdd_domain.specs.WaitingItems.{what_of, waiting_of, ripe, unripe}
 use Rattle.sdd_domain.proofs.Ripe.{ripe_snoc, fewer_unripe}
 use Rattle.sdd_rights.specs.Owner.{witness_of_owner}
 use Rattle.sdd_atomics.specs.DomainTable.{id_of, slots_of}
@@ -13,14 +13,14 @@ use Rattle.sdd_participants.specs.declared.waiting.LimboEntry.TheVariants.{Item}
 use Rattle.sdd_participants.specs.declared.epoch_state.Participant.{Participant}
 use Rattle.sdd_participants.specs.Bags.{Bags}
 use Rattle.sdd_participants.specs.EpochState.{awaiting, with_garbage}
-use Rattle.sdd_domain.specs.Posed.{IsPosed, AreLentTo, IsTenureOf, IsReady}
+use Rattle.sdd_domain.specs.BetweenCalls.{IsBetweenCalls, AreLentTo, IsTenureOf, IsReady}
 use Rattle.sdd_domain.specs.Receipt.{IsTallied}
 use Rattle.sdd_views.specs.declared.View.{View}
 use Rattle.atomic_table.specs.declared.shared.Seat.{Seat}
 use Rattle.sdd_views.specs.declared.Sizes.{Sizes}
 use Rattle.sdd_views.specs.Views.{owner_of}
 use Rattle.sdd_shared_values.specs.declared.value_fraction.ValueFraction.{ValueFraction}
-use Rattle.sdd_domain_invariant.specs.HomeSteps.{regained}
+use Rattle.sdd_domain_invariant.specs.FractionSteps.{regained}
 use Rattle.sdd_rights.specs.StandingKind.{is_shared}
 use Rattle.sdd_rights.specs.Right.{number_of, kind_of}
 use Rattle.sdd_atomics.specs.DomainSeat.{Taught, Moved}
@@ -46,7 +46,7 @@ invariant_of-self g c = let l = c.self.inside in let board = l.domain.now.board 
     (c.take_in.ensures slot shared shown views) in
     let retired = retires_to board l.place l.own slot shared shown l.token c.take_in.new.token c.let_wait.new.token i.0 took c.let_wait.ensures in
     let inside : slot < slots_of board = search rules in
-    subst (λ (o : Participant). IsPosed board l.place o c.let_wait.new.token
+    subst (λ (o : Participant). IsBetweenCalls board l.place o c.let_wait.new.token
     × l.nesting ≡ l.domain.now.limits.nesting × IsTenureOf o l.tenure × AreLentTo l.tenure.round c.let_wait.new.token.me.1
     × IsReady board o l.due l.known.slots c.let_wait.new.token.me.0.slots.waits × IsTallied 0 l.tally c.let_wait.new.token.me.0.stakes.counts) (sym own_is) (
       posed_retires board l.place l.own slot shared shown l.token c.take_in.new.token c.let_wait.new.token i.0 inside took c.let_wait.ensures,

@@ -3,14 +3,14 @@ use Rattle.sdd_participants.specs.declared.epoch_state.Participant.{Participant}
 use Rattle.sdd_participants.specs.declared.waiting.LimboEntry.{LimboEntry}
 use Rattle.sdd_participants.specs.Tally.{no_items}
 use Rattle.sdd_space.specs.KnownEpochs.{KnownEpochs, KnowsOn}
-use Rattle.sdd_space.specs.Own.{HasGrown}
-use Rattle.sdd_space.specs.Steps.{given_all, all_reclaimed}
+use Rattle.sdd_space.specs.ParticipantChanges.{HasMoreWaiting}
+use Rattle.sdd_space.specs.WorldChanges.{given_all, all_reclaimed}
 use Rattle.sdd_domain.specs.Local.{LocalModel, world_of}
 use Rattle.sdd_domain.specs.LocalState.{LocalState, IsLone}
 use Rattle.sdd_domain.specs.Receipt.{with_reclaimed}
 use Rattle.sdd_domain.specs.Reclaiming.{rest_of}
 use Rattle.sdd_domain.specs.Space.{known_of}
-use Rattle.sdd_domain.specs.Tied.{Entries}
+use Rattle.sdd_domain.specs.WordsAndValues.{Entries}
 use Rattle.sdd_domain.proofs.Giving.{knows_more}
 use Rattle.sdd_domain.proofs.Going.{tied_then, reclaims_on}
 use Rattle.sdd_domain.proofs.Sound.{lone_true}
@@ -46,7 +46,7 @@ loop-value-preserved g c = let T : Type 0 = g.row.T.Denot in let holds = g.T.Ite
     ∙ (ap (λ (y : LocalState). rest_of {T = g.row.T.Denot} (record { member = y; entries = v.entries })) did.1.member ∙ ap rest_of is) in
     let same : v.entries ≡ c.self.inside.ledger.entries = ap (λ (z : LocalModel g.row.T.Denot). z.entries) is
     ∙ (ap (λ (z : LocalModel g.row.T.Denot). z.entries) inv.rest ∙ sym (ap (λ (z : LocalModel g.row.T.Denot). z.entries) c.self.view_is)) in record {
-      own = λ start grown. give.own start (subst (λ (o : Participant). HasGrown start o) own (inv.own start grown));
+      own = λ start grown. give.own start (subst (λ (o : Participant). HasMoreWaiting start o) own (inv.own start grown));
       none = λ empty. absurd (let gone : [] ≡ _ = sym (ap (λ (z : LocalModel g.row.T.Denot). z.member.due) is ∙ (inv.none empty).1) ∙ did.1.first in cc);
       known = knows_more _ (known_of q) (known_of w) inv.known (subst (λ (k : KnownEpochs). KnowsOn k (known_of w)) (sym known) give.known);
       rest = rest ∙ inv.rest;
@@ -70,7 +70,7 @@ loop-value-preserved g c = let T : Type 0 = g.row.T.Denot in let holds = g.T.Ite
 
 pub returns-clause-own : goal.returns-clause-own
 returns-clause-own g c = λ start grown. let same = c.in_default.ensures.reclaimed.1 in
-    subst (λ (o : Participant). HasGrown start o)
+    subst (λ (o : Participant). HasMoreWaiting start o)
     (sym (ap (λ (y : LocalState). y.own) same ∙ ap (λ (z : LocalModel g.row.T.Denot). z.member.own) c.self-in-loop-value.view_is))
     (c.loop-value.invariant.own start grown)
 

@@ -1,7 +1,7 @@
 use Rattle.std.proofs.Common.{◌≡◌, [], length}
 use Rattle.sdd_space.specs.KnownEpochs.{KnowsOn}
-use Rattle.sdd_space.specs.Own.{GrowsOn}
-use Rattle.sdd_space.specs.Steps.{all_reclaimed}
+use Rattle.sdd_space.specs.ParticipantChanges.{KeepsMoreWaiting}
+use Rattle.sdd_space.specs.WorldChanges.{all_reclaimed}
 use Rattle.sdd_domain.specs.Local.{world_of}
 use Rattle.sdd_domain.specs.LocalState.{IsLone}
 use Rattle.sdd_domain.specs.Receipt.{with_reclaimed}
@@ -12,7 +12,7 @@ use Rattle.sdd_domain.proofs.reclaiming.LocalGiver.reclaim_due.Given as goal
 -- to reclaim what is left is to reclaim all
 abbrev pub invariant-loop-value : goal.invariant-loop-value
 invariant-loop-value g l = record {
-  own : GrowsOn l.fn.self.member.own l.self.member.own;
+  own : KeepsMoreWaiting l.fn.self.member.own l.self.member.own;
   none : l.fn.self.member.due ≡ [] → (l.self.member.own ≡ l.fn.self.member.own) × (l.self.member.due ≡ []);
   known : KnowsOn (known_of l.fn.self) (known_of l.self);
   rest : rest_of l.self ≡ rest_of l.fn.self;

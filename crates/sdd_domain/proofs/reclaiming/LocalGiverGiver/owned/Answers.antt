@@ -1,8 +1,8 @@
 use Rattle.std.proofs.Common.{ap, ◌∙◌, subst}
 use Rattle.sdd_rights.specs.declared.right.Right.{Right}
 use Rattle.sdd_rights.specs.Right.{number_of}
-use Rattle.sdd_space.specs.Own.{GrowsOn}
-use Rattle.sdd_space.specs.Steps.{owner_given}
+use Rattle.sdd_space.specs.ParticipantChanges.{KeepsMoreWaiting}
+use Rattle.sdd_space.specs.WorldChanges.{owner_given}
 use Rattle.sdd_space.specs.World.{standing_at}
 use Rattle.sdd_domain.specs.Local.{LocalModel, world_of}
 use Rattle.sdd_domain.specs.LocalState.{LocalState}
@@ -16,7 +16,7 @@ invariant_of-self g c = let r = c.release.ensures.retired in
 
 pub returns-clause-own : goal.returns-clause-own
 returns-clause-own g c = let r = c.release.ensures.retired in
-    subst (λ (p : LocalModel g.row.T.Denot). GrowsOn p.member.own c.release.new.self.own) c.self.view_is
+    subst (λ (p : LocalModel g.row.T.Denot). KeepsMoreWaiting p.member.own c.release.new.self.own) c.self.view_is
     (grows_by (number_of c.right_of_owner.result) (c.self.view_is 0).member.own c.release.new.self.own (ap (λ (m : LocalState). m.own) r.1.member))
 
 pub returns-clause-exact : goal.returns-clause-exact

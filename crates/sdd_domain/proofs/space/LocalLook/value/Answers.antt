@@ -1,6 +1,6 @@
 use Rattle.std.proofs.Common.{◌≡◌, subst, ◌∙◌, ap}
 use Rattle.sdd_space.specs.OwnerOrCell.{SpaceId, AreOf}
-use Rattle.sdd_domain.specs.Homes.{home_in}
+use Rattle.sdd_domain.specs.SpaceIds.{home_in}
 use Rattle.sdd_domain.specs.Local.{LocalModel}
 use Rattle.sdd_domain.specs.declared.local.Local.TheInside.{Inside}
 use Rattle.sdd_domain.proofs.Housed.{of_domain}

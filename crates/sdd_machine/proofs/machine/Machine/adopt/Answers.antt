@@ -3,7 +3,7 @@ use Rattle.std.proofs.lemmas.List.{with_items_is, length-map}
 use Rattle.sdd_machine.specs.declared.machine.places.PlacePhase.{PlacePhase}
 use Rattle.sdd_machine.specs.Table.{Place}
 use Rattle.sdd_machine.specs.Bags.{ThreeBags, BagsOfPlaces}
-use Rattle.sdd_machine.specs.Views.{free_post, Fits, freed_post, gathered}
+use Rattle.sdd_machine.specs.Views.{free_post, IsMachineState, freed_post, gathered}
 use Rattle.sdd_machine.proofs.Seen.{seen, at_seen, with_adopted, adopter_open, open_in_range}
 use Rattle.sdd_machine.specs.Table.{State, adopts, is_open}
 use Rattle.sdd_machine.proofs.Gather.{fits_gathered}
@@ -57,6 +57,6 @@ invariant_of-self c =
     c.gather.ensures ∙ ap (λ (ys : List PlacePhase). record c.self.inside.bags { trios = gathered place ys all_bags }) c.as_slice.ensures.value in
     let h : place < length xs = open_in_range xs place opened in
     let whole = fits_gathered place xs c.self.inside.bags all_retired scan c.self.invariant h opened in
-    let e : Fits (map freed_post xs) c.gather.new.bags all_retired scan =
-    subst (λ (b : BagsOfPlaces). Fits (map freed_post xs) b all_retired scan) (sym moved) whole in
-    subst (λ (ys : List PlacePhase). Fits ys c.gather.new.bags all_retired scan) (sym posts) e
+    let e : IsMachineState (map freed_post xs) c.gather.new.bags all_retired scan =
+    subst (λ (b : BagsOfPlaces). IsMachineState (map freed_post xs) b all_retired scan) (sym moved) whole in
+    subst (λ (ys : List PlacePhase). IsMachineState ys c.gather.new.bags all_retired scan) (sym posts) e

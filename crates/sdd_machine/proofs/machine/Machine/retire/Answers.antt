@@ -2,7 +2,7 @@ use Rattle.std.proofs.Common.{◌≡◌, ◌<◌, List, true, false, length, sym
 use Rattle.std.proofs.lemmas.Bool.{true≢false, false_from_ne_true}
 use Rattle.sdd_machine.specs.Table.{State, Place, is_free}
 use Rattle.sdd_machine.specs.Bags.{ThreeBags, BagsOfPlaces, trio_at, has}
-use Rattle.sdd_machine.specs.Views.{Fits, free_post}
+use Rattle.sdd_machine.specs.Views.{IsMachineState, free_post}
 use Rattle.sdd_machine.proofs.Seen.{seen, at_seen, within_bags, with_put, fits_put}
 use Rattle.sdd_machine.proofs.machine.Machine.retire.Goals as goal
 
@@ -32,7 +32,7 @@ invariant_of-self c =
     let m : c.args.item < length all_retired = subst (λ (s : State). c.args.item < length s.retired) (sym view) c.requires.item in
     let busy : is_free (get_or all_posts place free_post).phase ≡ false =
     sym (ap (λ (x : Place). is_free x.phase) (at_seen now count all_posts all_bags all_retired scan view same_length place)) ∙ c.requires.busy in
-    subst (λ (b : BagsOfPlaces). Fits all_posts b (set all_retired c.args.item true) scan) (sym c.put.ensures)
+    subst (λ (b : BagsOfPlaces). IsMachineState all_posts b (set all_retired c.args.item true) scan) (sym c.put.ensures)
     (fits_put all_posts c.self.inside.bags all_retired scan place c.args.item c.self.invariant l busy m)
 
 pub returns : goal.returns

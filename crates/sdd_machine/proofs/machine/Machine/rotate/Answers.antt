@@ -4,7 +4,7 @@ use Rattle.sdd_machine.specs.Bags.{ThreeBags, BagsOfPlaces, no_items}
 use Rattle.sdd_machine.proofs.Seen.{at_seen, within_seen, with_trio}
 use Rattle.std.specs.FinSet as set
 use Rattle.std.proofs.Common.{List}
-use Rattle.sdd_machine.specs.Views.{Fits}
+use Rattle.sdd_machine.specs.Views.{IsMachineState}
 use Rattle.sdd_machine.proofs.Seen.{fits_rotated, within_bags}
 use Rattle.sdd_machine.proofs.Seen.{seen}
 use Rattle.sdd_machine.specs.Bags as bags
@@ -40,5 +40,5 @@ invariant_of-self c =
     let all_retired = c.self.inside.retired.items in let scan = c.self.inside.scan in let place = c.args.place in
     let l : place < length all_bags =
     within_bags c.args.self.now count all_posts all_bags all_retired scan c.self.view_is c.self.invariant.same place c.requires in
-    subst (λ (b : BagsOfPlaces). Fits all_posts b all_retired scan) (sym c.rotate.ensures.moved)
+    subst (λ (b : BagsOfPlaces). IsMachineState all_posts b all_retired scan) (sym c.rotate.ensures.moved)
     (fits_rotated all_posts c.self.inside.bags all_retired scan place c.self.invariant l)

@@ -12,8 +12,8 @@ use Rattle.atomic_table.proofs.Walks.{proved, leaves}
 use Rattle.atomic_table.specs.Seated.{TableId, seen, carried, age, place as where_, names}
 use Rattle.atomic_table.proofs.Fields.{HandData}
 use Rattle.sdd_shared_values.specs.ValueFractions.{FractionContent, tenure_shares}
-use Rattle.sdd_shared_values.specs.Seats.{lots, with_lots, OnlyLends}
-use Rattle.sdd_shared_values.specs.SharedValues.{full_shown, rule, shelf_shares, CanShow, Shows as ShowsAt}
+use Rattle.sdd_shared_values.specs.CarriedFractions.{lots, with_lots, OnlyLends}
+use Rattle.sdd_shared_values.specs.SharedValues.{full_shown, rule, shelf_shares, CanShow, HasFractionShowing as ShowsAt}
 use Rattle.sdd_shared_values.proofs.Rules.{rule_at}
 use denote.Memory.{mem}
 use types.Run.{size_lit}

@@ -17,7 +17,7 @@ use Rattle.atomic_table.specs.Seated.{TableId, carried, age, place as where_, na
 use Rattle.atomic_table.proofs.Fields.{HandData}
 use Rattle.sdd_rights.specs.Units.{units, tokens}
 use Rattle.sdd_shared_values.specs.ValueFractions.{FractionContent, agreed_on, part, purse}
-use Rattle.sdd_shared_values.specs.Seats.{lots, with_lots}
+use Rattle.sdd_shared_values.specs.CarriedFractions.{lots, with_lots}
 use Rattle.sdd_shared_values.proofs.Rules.{rule_at}
 use denote.Memory.{mem}
 use types.Run.{size_lit}

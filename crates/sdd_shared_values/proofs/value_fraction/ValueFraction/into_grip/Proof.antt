@@ -1,10 +1,10 @@
 -- One unit that isn't lent is a grip.
 use Rattle.sdd_rights.proofs.Names.{◌≡◌, [], ◌∷◌, refl, sym, Val, SProp, emp, ‵, raw, ◌⊛◌, ◌$◌, ◌∵◌, !, qed, by, keep, drop, split, fjoin, use0, move, fsplit, rewrite, no_more, and_then, returns, enter, alloc_all, pass_all, free_all, look_at, get, sets, agg, tables, RattleType, owns, types_at, plain, nothing, alive, heard, Stays, stay_dropped, walk_of, Goes-dropped, fact, fact_i, yes, proved, leaves, token_val}
 use Rattle.std.specs.Prelude.{None}
-use Rattle.sdd_rights.specs.ReadFraction.{IsFull}
+use Rattle.sdd_rights.specs.ReadFraction.{IsValueCode}
 use Rattle.sdd_rights.proofs.Fields.{Hilt, hilt_made}
 use Rattle.sdd_shared_values.specs.ValueFractions.{FractionContent, holding}
-use Rattle.sdd_shared_values.specs.Grips.{lot_of}
+use Rattle.sdd_shared_values.specs.ReadFractions.{lot_of}
 use Rattle.sdd_shared_values.proofs.Fields.{peg_told}
 use Rattle.sdd_rights.specs.contracts.read_fraction.ReadFraction as grip
 use Rattle.sdd_shared_values.specs.contracts.value_fraction.ValueFraction as stake
@@ -20,7 +20,7 @@ into_grip_spec 𝓤 𝓛 𝓜 𝓡 wired =
     let hs : Stays En.signature.params En.kept = (stay_dropped arg yes, tt) in
     proved 𝓛 En hs c 𝓜 𝓡 (Goes-dropped 𝓛 0 arg yes (λ κs x f. refl), tt) #self fn (code.unfolded 𝓤 H 𝓜 𝓡 wired)
     (λ κs. ((λ _. token_val ∷ []), tt)) (λ κs. ((λ e vs so. peg_told vs so.0), tt)) (λ κs qs bounds a gh are.
-    let h : FractionContent = a.0.lot in let Full : Type 0 = IsFull h.shown in let One : Type 0 = h.units ≡ 1 in let Free : Type 0 = h.lent ≡ None in
+    let h : FractionContent = a.0.lot in let Full : Type 0 = IsValueCode h.shown in let One : Type 0 = h.units ≡ 1 in let Free : Type 0 = h.lent ≡ None in
     let y : (walk_of 𝓛 En hs c).Ghost = ((κs, qs, bounds, a, (token_val ∷ [], tt)), gh) in let Post : Val → SProp 𝓤 = (walk_of 𝓛 En hs c).post y in
     qed 𝓛 ((raw (alive 𝓛 En.signature κs qs) ⊛ ‵ (owns (types_at En.signature.params κs) a y.0.4)) ∷ raw (fact 𝓤 Full) ∷ raw (fact 𝓤 One) ∷
     raw (fact 𝓤 Free) ∷ []) ∵

@@ -2,7 +2,7 @@
 use Rattle.sdd_rights.proofs.Names.{◌≡◌, [], ◌∷◌, refl, Val, SProp, emp, ‵, raw, ◌⊛◌, ◌$◌, ◌∵◌, !, qed, by, keep, drop, split, fjoin, use0, move, fsplit, no_more, and_then, returns, enter, alloc_all, pass_all, free_all, look_at, get, sets, agg, tables, RattleType, owns, types_at, plain, nothing, alive, Stays, stay_dropped, walk_of, Goes-dropped, fact, fact_i, yes, proved, leaves, token_val}
 use Rattle.sdd_rights.proofs.Fields.{hilt_told}
 use Rattle.sdd_shared_values.specs.ValueFractions.{FractionContent}
-use Rattle.sdd_shared_values.specs.Grips.{lot_of}
+use Rattle.sdd_shared_values.specs.ReadFractions.{lot_of}
 use Rattle.sdd_shared_values.proofs.Fields.{Peg, peg_made}
 use Rattle.sdd_rights.specs.contracts.read_fraction.ReadFraction as grip
 use Rattle.sdd_shared_values.specs.contracts.value_fraction.ValueFraction as stake

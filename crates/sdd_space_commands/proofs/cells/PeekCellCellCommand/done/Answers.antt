@@ -1,5 +1,5 @@
 use Rattle.std.proofs.Common.{rules, ◌≡◌}
-use Rattle.sdd_space.specs.Steps.{held_in}
+use Rattle.sdd_space.specs.WorldChanges.{held_in}
 use Rattle.sdd_participants.specs.Slab.{entry_at}
 use Rattle.sdd_space_commands.specs.Owners.{cell_number}
 use Rattle.sdd_space_commands.proofs.Peeked.{as-before}

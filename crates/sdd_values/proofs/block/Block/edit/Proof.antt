@@ -15,7 +15,7 @@ use Rattle.core.proofs.slots.Bodies.{after}
 use Rattle.atomic_table.specs.Seated.{fact as fits_fact}
 use Rattle.atomic_table.proofs.Walks.{proved, leaves}
 use Rattle.std.specs.Prelude.{Option, slice_index_or, slice_set}
-use Rattle.sdd_values.specs.Block.{AreHome, IsHome, Fits, spot, spots}
+use Rattle.sdd_values.specs.Block.{AreUnlent, IsUnlent, IsBlockAt, spot, spots}
 use Rattle.sdd_values.specs.Lending.{with_value}
 use Rattle.sdd_values.proofs.Fields.{strip_of, BlockData, block_told, block_made}
 use Rattle.sdd_values.proofs.Rounds.{all_home, to_plain, from_plain}
@@ -47,7 +47,7 @@ module _ {M : Type 1} {𝓤 : Ura M} (𝓛 : Logic 𝓤) (R : RattleType) (rb ro
   abbrev Rest : Fml
   Rest = fsep (fits_fact (length stakes < 2 ^ 63)) (fsep (besides 𝓛 R bp op f.values f.stakes i) (cell_at full_share Row.mir (strip_of f.ptr ∷ []) rb ro))
 
-  back : Fits R f.ptr f.values f.stakes → i < length f.values → i < length f.stakes → AreHome stakes → (w : R.Denot)
+  back : IsBlockAt R f.ptr f.values f.stakes → i < length f.values → i < length f.stakes → AreUnlent stakes → (w : R.Denot)
       → ent 𝓤 (sep 𝓤 (sem 𝓛 ((mem R).own_at w bp at)) (sem 𝓛 Rest)) (sem 𝓛 ((mem Row).own_at (with_value f i w) rb ro))
   unfolding part_of
   back fit near in_stakes home w = let p : Ptr = f.ptr in let xs' = slice_set f.values i w in let vs : List Val = strip_of p ∷ [] in
@@ -56,7 +56,7 @@ module _ {M : Type 1} {𝓤 : Ura M} (𝓛 : Logic 𝓤) (R : RattleType) (rb ro
       use2 𝓛 (‵ (spot R here w stakes)) (from_plain 𝓛 R here w stakes home) $
       use2 𝓛 (‵ (spots R bp op xs' (slice_set f.stakes i stakes))) (spot_in 𝓛 R bp op f.values f.stakes i w stakes near in_stakes) $
       rewrite ! 0 (λ (ss : List (List (Option ℕ))). ‵ (spots R bp op xs' ss)) (set-get_or f.stakes i []) refl $
-      nothing ! $ fpack ! (Fits R p xs' f.stakes) (λ _. ftrue)
+      nothing ! $ fpack ! (IsBlockAt R p xs' f.stakes) (λ _. ftrue)
       (fit.0, subst (λ (n : ℕ). n * (mem R).size < 2 ^ 63) (sym (length-set f.values i w)) fit.1, fit.2 ∙ sym (length-set f.values i w)) $ fjoin ! $
       use0 𝓛 (‵ ((BlockData R).own_val (p, tt) vs)) (block_made R 𝓛 p) $ fjoin ! $ move ! (1 ∷ 0 ∷ []) $ fjoin ! $
       fpack ! (List Val) (λ us. fsep (cell_at full_share Row.mir us rb ro) (Row.own_val (with_value f i w) us)) vs $ done !
@@ -74,11 +74,11 @@ edit_spec 𝓤 𝓛 𝓜 𝓡 wired T L =
     let f : Br.Denot = a.0.now in let i : ℕ = a.1.0 in let p : Ptr = f.ptr in let xs = f.values in let ss = f.stakes in let s : ℕ = (mem R).size in
     let base : ℕ = block_of p in let start : ℕ = count_of p in let place : ℕ = i * s + start in let here : Ptr = block_ptr base place in
     let now : List (Option ℕ) = slice_index_or ss i [] in let others : Fml = fsep (flft κs.1.0 qs.1.0) ftrue in
-    let Inside : Type 0 = i < length xs in let Home : Type 0 = IsHome ss i in
+    let Inside : Type 0 = i < length xs in let Home : Type 0 = IsUnlent ss i in
     let y : (walk_of 𝓛 En hs c).Ghost = ((κs, qs, bounds, a, (vptr b o ∷ [], (vint w64 i ∷ [], tt))), gh) in
     let Post : Val → SProp 𝓤 = (walk_of 𝓛 En hs c).post y in let there : Val = vptr base place in
     qed 𝓛 (((‵ (flft κ q) ⊛ ‵ others) ⊛ ‵ (owns (types_at En.signature.params κs) a y.0.4)) ∷ raw (fact 𝓤 _) ∷ raw (fact 𝓤 Inside) ∷ raw (fact 𝓤 Home) ∷ []) ∵
-    keep ! (2 ∷ 3 ∷ 0 ∷ []) $ heard ! Inside (λ near. heard ! Home (λ unlent. let home : AreHome now = all_home now unlent in
+    keep ! (2 ∷ 3 ∷ 0 ∷ []) $ heard ! Inside (λ near. heard ! Home (λ unlent. let home : AreUnlent now = all_home now unlent in
     let d : T.Denot = hd xs (omega arith) in let x : T.Denot = slice_index_or xs i d in
     split ! $ split ! $ move ! (2 ∷ []) $ fsplit ! $ fsplit3 ! $ keep ! (1 ∷ 2 ∷ 4 ∷ 5 ∷ []) $
     enter ! 𝓣.C 𝓣.Λ fn (vptr b o ∷ vint w64 i ∷ []) Post $ alloc_all ! (λ l. pass_all ! refl ((tt, tt), ((tt, record { fits = are.1.0.1 }), tt)) $

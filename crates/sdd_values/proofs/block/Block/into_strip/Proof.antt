@@ -3,7 +3,7 @@ use Rattle.atomic_table.proofs.Names.{◌≡◌, ℕ, ◌*◌, ◌^◌, ◌<◌,
 use types.SemTy.{cells}
 use Rattle.std.specs.Prelude.{slice_index_or}
 use Rattle.atomic_table.proofs.Walks.{proved, leaves}
-use Rattle.sdd_values.specs.Block.{AreHome, IsHome}
+use Rattle.sdd_values.specs.Block.{AreUnlent, IsUnlent}
 use Rattle.sdd_values.proofs.Fields.{strip_of, strip_good, Ptr-Good, StripData, strip_made, block_told}
 use Rattle.sdd_values.proofs.Rounds.{all_home}
 use Rattle.sdd_values.proofs.Spots.{of_rows, comes_out}
@@ -24,14 +24,14 @@ into_strip_spec 𝓤 𝓛 𝓜 𝓡 wired T L =
     (λ κs. ((λ x. strip_of x.ptr ∷ []), tt)) (λ κs. ((λ x vs so. block_told R x.ptr vs so.0), tt)) (λ κs qs bounds a gh are.
     let κ : Lft = κs.0 in let q : Share = qs.0 in let p : Ptr = a.0.ptr in let xs = a.0.values in let ss = a.0.stakes in let bp : ℕ = block_of p in
     let op : ℕ = count_of p in
-    let Asked : Type 0 = (at : ℕ) → IsHome ss at in
+    let Asked : Type 0 = (at : ℕ) → IsUnlent ss at in
     let y : (walk_of 𝓛 En hs c).Ghost = ((κs, qs, bounds, a, (strip_of p ∷ [], tt)), gh) in let Post : Val → SProp 𝓤 = (walk_of 𝓛 En hs c).post y in
     let new : Ss.Denot = record { ptr = p; items = xs } in
     qed 𝓛 (((‵ (flft κ q) ⊛ ‵ ftrue) ⊛ ‵ (owns (types_at En.signature.params κs) a y.0.4)) ∷ raw (fact 𝓤 _) ∷ raw (fact 𝓤 Asked) ∷ []) ∵
     keep ! (2 ∷ 0 ∷ []) $ heard ! Asked (λ asked. split ! $ split ! $ move ! (2 ∷ []) $ fsplit ! $ fsplit ! $ keep ! (1 ∷ 3 ∷ []) $
     fsplit ! $ fpick ! (λ fit. drop ! $
     enter ! 𝓣.C 𝓣.Λ fn (strip_of p ∷ []) Post $ alloc_all ! (λ l. pass_all ! refl (strip_good p fit.0, tt) $
-    use1 𝓛 (later (‵ (cells (mem R) xs bp op))) (comes_out 𝓛 R bp op xs ss fit.2 (of_rows AreHome ss (λ i. all_home (slice_index_or ss i []) (asked i)))) $
+    use1 𝓛 (later (‵ (cells (mem R) xs bp op))) (comes_out 𝓛 R bp op xs ss fit.2 (of_rows AreUnlent ss (λ i. all_home (slice_index_or ss i []) (asked i)))) $
     await ! tt $
     nothing ! $ fpack ! (InBlock p × (length xs * (mem R).size < 2 ^ 63)) (λ _. ftrue) (fit.0, fit.1) $ fjoin ! $
     use0 𝓛 (‵ ((StripData R).own_val (p, tt) (strip_of p ∷ []))) (strip_made R 𝓛 p) $ fjoin ! $

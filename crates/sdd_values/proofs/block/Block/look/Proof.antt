@@ -16,7 +16,7 @@ use Rattle.std.specs.Prelude.{Option, Some, slice_index_or, slice_set}
 use Rattle.sdd_rights.specs.Units.{part_shares}
 use Rattle.sdd_rights.specs.contracts.fraction.Fraction as part
 use Rattle.sdd_rights.proofs.Fields.{Pin}
-use Rattle.sdd_values.specs.Block.{Fits, IsFreeFor, stake_at, lent, spot, spots}
+use Rattle.sdd_values.specs.Block.{IsBlockAt, IsFreeFor, stake_at, lent, spot, spots}
 use Rattle.sdd_values.proofs.Fields.{strip_of, BlockData, block_told}
 use Rattle.sdd_values.proofs.Rounds.{looks_at}
 use Rattle.sdd_values.proofs.Spots.{besides, spot_out, spot_in}
@@ -83,7 +83,7 @@ look_spec 𝓤 𝓛 𝓜 𝓡 wired T K L _ =
     -- [the spot; the value; T's token; the tenure's token; the rest; the other spots; the field; the cell; the open borrow; the names]
     move ! (0 ∷ 5 ∷ []) $ use2 𝓛 (‵ (spots R bp op (slice_set xs i x) ss')) (spot_in 𝓛 R bp op xs ss i x stakes' near (omega arith)) $
     rewrite ! 0 (λ (zs : List T.Denot). ‵ (spots R bp op zs ss')) (set-get_or xs i d) refl $
-    nothing ! $ fpack ! (Fits R p xs ss') (λ _. ftrue) (fit.0, fit.1, length-set ss i stakes' ∙ long) $ fjoin ! $
+    nothing ! $ fpack ! (IsBlockAt R p xs ss') (λ _. ftrue) (fit.0, fit.1, length-set ss i stakes' ∙ long) $ fjoin ! $
     let f' : Row.Denot = record f { stakes = ss' } in
     -- [what the block owns; the value; the tokens of T and the tenure; the rest; the field; the cell; the open borrow; the names]
     move ! (5 ∷ []) $ peeks ! D (Is D) (shows 𝓛 D) (p, tt) vs (λ is-so.

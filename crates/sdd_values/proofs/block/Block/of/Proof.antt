@@ -6,7 +6,7 @@ use Rattle.std.specs.Prelude.{None}
 use Rattle.atomic_table.proofs.Walks.{proved, leaves}
 use Rattle.atomic_table.specs.Seated.{strip}
 use Rattle.atomic_table.proofs.Dealing.{strip_lies}
-use Rattle.sdd_values.specs.Block.{Fits, spots}
+use Rattle.sdd_values.specs.Block.{IsBlockAt, spots}
 use Rattle.sdd_values.proofs.Fields.{strip_of, strip_good, Ptr-Good, strip_told, BlockData, block_made}
 use Rattle.sdd_values.proofs.Spots.{lays_out}
 use Rattle.sdd_values.specs.contracts.raw_slice.RawSlice as strips
@@ -35,7 +35,7 @@ of_spec 𝓤 𝓛 𝓜 𝓡 wired T L =
     keep ! (0 ∷ []) $ split ! $ split ! $ move ! (2 ∷ []) $ fsplit ! $ fsplit ! $ keep ! (1 ∷ 3 ∷ []) $
     use1 𝓛 (given (InBlock p × (length xs * (mem R).size < 2 ^ 63)) (‵ (strip R p xs))) (strip_lies 𝓛 R p xs) $ learn ! (λ fp. fsplit ! $ drop ! $
     let fk : k < 2 ^ 32 = are.1.0.1 in use1 𝓛 (‵ (spots R bp op xs ss)) (lays_out 𝓛 R bp k op xs (omega arith)) $
-    nothing ! $ fpack ! (Fits R p xs ss) (λ _. ftrue) (fp.0, fp.1, length-replicate (length xs) (replicate k None)) $ fjoin ! $
+    nothing ! $ fpack ! (IsBlockAt R p xs ss) (λ _. ftrue) (fp.0, fp.1, length-replicate (length xs) (replicate k None)) $ fjoin ! $
     use0 𝓛 (‵ ((BlockData R).own_val (p, tt) (strip_of p ∷ []))) (block_made R 𝓛 p) $ fjoin ! $
     enter ! 𝓣.C 𝓣.Λ fn (strip_of p ∷ vint w32 k ∷ []) Post $ alloc_all ! (λ l. pass_all ! refl (strip_good p fp.0, ((tt, record { fits = fk }), tt)) $
     sets ! (of_opd ! (get_in ! (fld ! refl (stop !)) (sub ! 0 refl (whole !)))) refl (Ptr-Good p fp.0) $

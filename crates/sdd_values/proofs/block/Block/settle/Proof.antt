@@ -6,7 +6,7 @@ use Rattle.core.specs.contracts.marker.PhantomData as marker
 use Rattle.atomic_table.proofs.Walks.{proved, leaves}
 use Rattle.std.specs.Prelude.{None, slice_index_or, slice_set}
 use Rattle.sdd_values.specs.ReadSection.{ended_shares}
-use Rattle.sdd_values.specs.Block.{Fits, IsFreeFor, stake_at, settled, spots}
+use Rattle.sdd_values.specs.Block.{IsBlockAt, IsFreeFor, stake_at, settled, spots}
 use Rattle.sdd_values.proofs.Fields.{Sign}
 use Rattle.sdd_values.proofs.Spots.{of_rows, settles_all}
 use Rattle.sdd_values.specs.contracts.block.Block as block
@@ -49,7 +49,7 @@ settle_spec 𝓤 𝓛 𝓜 𝓡 wired T L =
     -- [the spots; the field; the cell; the open borrow; the names; the end; the others]
     move ! (0 ∷ 6 ∷ []) $ use2 𝓛 (later (‵ (spots R bp op xs ss'))) (settles_all 𝓛 R bp t r op xs ss (of_rows
     (λ row. IsFreeFor t (slice_index_or row r None)) ss asked)) $ await ! tt $
-    nothing ! $ fpack ! (Fits R p xs ss') (λ _. ftrue) (fit.0, fit.1, length-map ss (λ stakes. slice_set stakes r None) ∙ fit.2) $ fjoin ! $
+    nothing ! $ fpack ! (IsBlockAt R p xs ss') (λ _. ftrue) (fit.0, fit.1, length-map ss (λ stakes. slice_set stakes r None) ∙ fit.2) $ fjoin ! $
     move ! (1 ∷ 0 ∷ []) $ fjoin ! $ move ! (1 ∷ 0 ∷ []) $ closes ! tt Row f' vs b o $ feq_i ! (List Val) (vptr b o ∷ []) (vptr b o ∷ []) refl $ fjoin3 ! $
     nothing ! $ nothing ! $ fjoin ! $ nothing ! $ fjoin ! $ move ! (1 ∷ 0 ∷ []) $ fjoin ! $ move ! (1 ∷ 2 ∷ []) $ join ! $
     sets ! (of_opd ! (unit_lit !)) refl (tt, tt) $ use0 𝓛 (raw (fact 𝓤 (p ≡ p))) (fact_i 𝓤 (p ≡ p) (emp 𝓤) refl) $

@@ -1,7 +1,7 @@
 use Rattle.std.proofs.Common.{◌<◌, ◌≢◌, [], length, arith}
 use Rattle.sdd_participants.specs.EpochState.{pace_of}
-use Rattle.sdd_space.specs.World.{IsGuarded, place_at}
-use Rattle.sdd_space.specs.Steps.{changed}
+use Rattle.sdd_space.specs.World.{AnyGuardOpen, place_at}
+use Rattle.sdd_space.specs.WorldChanges.{changed}
 use Rattle.sdd_space.proofs.Housed.{Whole-changed, Whole-paced, IsTaken, items, taken-changed}
 use Rattle.sdd_space.proofs.Weights.{KeepsSizes-trans}
 use Rattle.sdd_space.proofs.Whole.{abreast-paced}
@@ -13,7 +13,7 @@ use Rattle.sdd_world.proofs.world.World.age_out.Goals as goal
 
 pub change-requires-clause-home : goal.change-requires-clause-home
 change-requires-clause-home g c =
-    let quiet : IsGuarded c.self.inside.core.world → ⊥ = rw (← c.self.view_is) at c.requires.quiet in
+    let quiet : AnyGuardOpen c.self.inside.core.world → ⊥ = rw (← c.self.view_is) at c.requires.quiet in
     λ k due. home-quiet c.self.inside.core.world c.self.inside.core.lending c.self.invariant.3 quiet k
 
 pub invariant_of-self : goal.invariant_of-self
@@ -23,7 +23,7 @@ invariant_of-self g c =
     let p = c.args.place in
     let l : p < length w.time.places = rw (← c.self.view_is) at c.requires.place in
     let waits : (place_at w p).bags.waiting ≢ [] = rw (← c.self.view_is) at c.requires.waits in
-    let quiet : IsGuarded w → ⊥ = rw (← c.self.view_is) at c.requires.quiet in
+    let quiet : AnyGuardOpen w → ⊥ = rw (← c.self.view_is) at c.requires.quiet in
     let whole = c.self.invariant.2 in
     let taken : IsTaken w.time p = record { there = l; taken = λ none. waits (whole.housed.bare p none) } in
     let still = taken-changed holds w p taken in

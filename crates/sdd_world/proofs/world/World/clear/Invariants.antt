@@ -1,5 +1,5 @@
 use Rattle.std.proofs.Common.{◌≡◌, ℕ, List, length}
-use Rattle.sdd_space.specs.World.{IsGuarded}
+use Rattle.sdd_space.specs.World.{AnyGuardOpen}
 use Rattle.sdd_world.specs.Closing.{all_aged_out}
 use Rattle.sdd_world.proofs.Closing.{emptied_to}
 use Rattle.sdd_world.proofs.world.World.clear.Given as goal
@@ -10,6 +10,6 @@ invariant-loop-place g l = record {
   changes : (places : List ℕ) × (l.self ≡ all_aged_out g.T.Item.holds l.fn.self places);
   time : l.self.time ≡ emptied_to l.fn.self.time l.place;
   home : l.self.home ≡ l.fn.self.home;
-  quiet : ¬ (IsGuarded l.self);
+  quiet : ¬ (AnyGuardOpen l.self);
   end : l.place-end ≡ length l.fn.self.time.places;
 }

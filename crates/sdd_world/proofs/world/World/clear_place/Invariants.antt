@@ -1,5 +1,5 @@
 use Rattle.std.proofs.Common.{◌≡◌, ℕ, ◌<◌, List, length}
-use Rattle.sdd_space.specs.World.{IsGuarded, place_at}
+use Rattle.sdd_space.specs.World.{AnyGuardOpen, place_at}
 use Rattle.sdd_world.specs.Closing.{all_aged_out}
 use Rattle.sdd_world.proofs.Closing.{ahead, MovesWaiting}
 use Rattle.sdd_world.proofs.world.World.clear_place.Given as goal
@@ -11,7 +11,7 @@ invariant-loop-self g l = record {
   place : l.place < length l.self.time.places;
   only : MovesWaiting l.place l.fn.self l.self;
   home : l.self.home ≡ l.fn.self.home;
-  quiet : ¬ (IsGuarded l.self);
+  quiet : ¬ (AnyGuardOpen l.self);
 }
 
 abbrev pub decreases-loop-self : goal.decreases-loop-self

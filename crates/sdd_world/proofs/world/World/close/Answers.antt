@@ -1,6 +1,6 @@
 use Rattle.std.proofs.Common.{◌≡◌, subst, sym, refl, inl, inr, ap, ◌∙◌, IsTrue}
-use Rattle.sdd_space.specs.World.{World, IsGuarded}
-use Rattle.sdd_space.specs.Whole.{IsCounted, IsWhole, taken}
+use Rattle.sdd_space.specs.World.{World, AnyGuardOpen}
+use Rattle.sdd_space.specs.WorldInvariant.{IsCounted, IsWhole, taken}
 use Rattle.sdd_participants.specs.declared.tally.Tally.{Tally}
 use Rattle.sdd_world_core.specs.Closing.{NothingIsOut}
 use Rattle.sdd_world.proofs.Closing.{emptied-live}
@@ -9,7 +9,7 @@ use Rattle.sdd_world.proofs.world.World.close.Goals as goal
 
 pub returns-then-is_guarded : goal.returns-then-is_guarded
 returns-then-is_guarded g c =
-    let guarded : IsGuarded c.args.self = c.is_guarded.ensures.0 c.if-is_guarded.true in
+    let guarded : AnyGuardOpen c.args.self = c.is_guarded.ensures.0 c.if-is_guarded.true in
     record {
       closed = inl (refl, guarded, refl);
       exactly = (λ ok. cc, λ h. absurd (h.0 guarded));
@@ -32,7 +32,7 @@ returns-then-not-is_unused g c =
     let old = c.args.self in
     let end = c.clear.new.self in
     let whole : IsWhole end = rw (← c.self.view_is) c.self.invariant.2 in
-    let quiet : IsGuarded old → ⊥ = λ some. let any : IsTrue c.is_guarded.result = c.is_guarded.ensures.1 some in absurd (cc) in
+    let quiet : AnyGuardOpen old → ⊥ = λ some. let any : IsTrue c.is_guarded.result = c.is_guarded.ensures.1 some in absurd (cc) in
     let out : NothingIsOut end → ⊥ = λ none. let unused : IsTrue c.is_unused.result = c.is_unused.ensures.1 (rw (← c.self.view_is) at none) in absurd (cc) in
     record {
       closed = inr (refl, quiet, c.clear.ensures, out);
@@ -53,7 +53,7 @@ returns g c =
     let holds = g.T.Item.holds in
     let old = c.args.self in
     let end = c.clear.new.self in
-    let quiet : IsGuarded old → ⊥ = λ some. let any : IsTrue c.is_guarded.result = c.is_guarded.ensures.1 some in absurd (cc) in
+    let quiet : AnyGuardOpen old → ⊥ = λ some. let any : IsTrue c.is_guarded.result = c.is_guarded.ensures.1 some in absurd (cc) in
     let none : NothingIsOut end = rw (← c.self.view_is) (c.is_unused.ensures.0 c.if-not-is_unused.false) in
     let told : c.destroy.result ≡ end.tally = c.destroy.ensures ∙ ap (λ (w : World g.row.T.Denot). w.tally) c.self.view_is in
     let whole : IsWhole end = rw (← c.self.view_is) c.self.invariant.2 in

@@ -3,7 +3,7 @@ use Rattle.std.specs.Prelude.{is_some}
 use Rattle.sdd_participants.specs.Slab.{Entries, entry_at}
 use Rattle.sdd_participants.specs.declared.standing.Standing.{Standing}
 use Rattle.sdd_standings.specs.Slots.{is_waiting}
-use Rattle.sdd_space.specs.Whole.{times_with, jobs_with, once_if}
+use Rattle.sdd_space.specs.WorldInvariant.{times_with, jobs_with, once_if}
 use Rattle.sdd_space.proofs.Accounts.{blank-at}
 use Rattle.std.proofs.lemmas.Grind.{common_steps}
 use Rattle.sdd_space.proofs.Housed.{housed-none}

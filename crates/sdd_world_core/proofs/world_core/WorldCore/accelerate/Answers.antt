@@ -4,8 +4,8 @@ use Rattle.sdd_participants.specs.declared.epoch_state.Participant.{Participant}
 use Rattle.sdd_space.specs.OwnerOrCell.{OwnerOrCell}
 use Rattle.sdd_space.specs.Loans.{Loans}
 use Rattle.sdd_space.specs.World.{World, IsPlaceOf, place_at}
-use Rattle.sdd_space.specs.Whole.{IsWhole}
-use Rattle.sdd_space.specs.Steps.{accelerated}
+use Rattle.sdd_space.specs.WorldInvariant.{IsWhole}
+use Rattle.sdd_space.specs.WorldChanges.{accelerated}
 use Rattle.sdd_world_core.specs.Lending.{AreLentOf}
 use Rattle.sdd_space.specs.WorldStep.WorldStep.{accelerates}
 use Rattle.sdd_world_core.proofs.Lending.{lent-call, guards-placed, readers-placed}

@@ -8,8 +8,8 @@ use Rattle.sdd_participants.specs.declared.epoch_state.Participant.{Participant}
 use Rattle.sdd_participants.specs.declared.epoch_state.CountdownState.{CountdownState}
 use Rattle.sdd_space.specs.OwnerOrCell.{OwnerOrCell}
 use Rattle.sdd_space.specs.World.{World, place_at}
-use Rattle.sdd_space.specs.Steps.{all_reclaimed, changed}
-use Rattle.sdd_space.specs.Steps as steps
+use Rattle.sdd_space.specs.WorldChanges.{all_reclaimed, changed}
+use Rattle.sdd_space.specs.WorldChanges as steps
 use Rattle.sdd_world_core.specs.Closing.{paced}
 use Rattle.sdd_world_core.specs.WorldCore.{WorldCore}
 use Rattle.sdd_world_core.proofs.world_core.WorldCore.catch_up.Goals as goal

@@ -3,7 +3,7 @@ use Rattle.std.specs.Prelude.{unwrap_or}
 use Rattle.sdd_rights.specs.Right.{number_of}
 use Rattle.sdd_participants.specs.declared.standing.CellContents.{CellContents}
 use Rattle.sdd_standings.specs.Cells.{cell_with, slot_held}
-use Rattle.sdd_space.specs.Steps.{with_cell}
+use Rattle.sdd_space.specs.WorldChanges.{with_cell}
 use Rattle.sdd_world_core.proofs.Copying.{copied}
 use Rattle.sdd_world_core.proofs.world_core.WorldCore.clone_cell.Goals as goal
 

@@ -6,8 +6,8 @@ use Rattle.sdd_participants.specs.declared.waiting.LimboEntry.TheVariants.{Job}
 use Rattle.sdd_space.specs.OwnerOrCell.{OwnerOrCell}
 use Rattle.sdd_space.specs.Loans.{Loans}
 use Rattle.sdd_space.specs.World.{World, IsPlaceOf, place_at}
-use Rattle.sdd_space.specs.Whole.{IsWhole}
-use Rattle.sdd_space.specs.Steps.{deferred}
+use Rattle.sdd_space.specs.WorldInvariant.{IsWhole}
+use Rattle.sdd_space.specs.WorldChanges.{deferred}
 use Rattle.sdd_space.specs.WorldStep.WorldStep.{defers}
 use Rattle.sdd_world_core.specs.Lending.{AreLentOf}
 use Rattle.sdd_world_core.proofs.Lending.{lent-call, guards-placed, readers-placed}

@@ -10,7 +10,7 @@ use Rattle.sdd_standings.specs.Cells.{Cells}
 use Rattle.sdd_standings.specs.Slots.{Slots, standing_at, with_standing}
 use Rattle.sdd_space.specs.Out.{is_out}
 use Rattle.sdd_space.specs.WorldStep.WorldStep.{takes_back_raw}
-use Rattle.sdd_space.specs.Whole.{IsWhole}
+use Rattle.sdd_space.specs.WorldInvariant.{IsWhole}
 use Rattle.sdd_space.specs.World.{World}
 use Rattle.sdd_space.proofs.Housed.{Whole-restands}
 use Rattle.sdd_world_core.specs.Lending.{AreLentOf}

@@ -5,7 +5,7 @@ use Rattle.sdd_participants.specs.EpochState as time
 use Rattle.sdd_participants.specs.declared.waiting.LimboEntry.TheVariants.{Item}
 use Rattle.sdd_participants.specs.declared.standing.Standing.{Standing}
 use Rattle.sdd_participants.specs.declared.standing.Standing.TheVariants.{Owned, Raw, Retired}
-use Rattle.sdd_space.specs.Steps.{owner_given, retired, with_standing}
+use Rattle.sdd_space.specs.WorldChanges.{owner_given, retired, with_standing}
 use Rattle.sdd_space.specs.World.{World, standing_at}
 use Rattle.sdd_space.proofs.Weights.{in_range}
 use Rattle.sdd_world_core.specs.WorldCore.{WorldCore}

@@ -2,7 +2,7 @@ use Rattle.std.proofs.Common.{◌≡◌, ℕ, ◌+◌, ◌-◌, ap, ◌∙◌, a
 use Rattle.sdd_rights.specs.Right.{number_of}
 use Rattle.sdd_participants.specs.declared.standing.Standing.TheVariants.{Shared}
 use Rattle.sdd_space.specs.World.{World}
-use Rattle.sdd_space.specs.Steps.{made_as, with_standing}
+use Rattle.sdd_space.specs.WorldChanges.{made_as, with_standing}
 use Rattle.sdd_world_core.specs.WorldCore.{WorldCore}
 use Rattle.sdd_world_core.proofs.Several.{made-several, made-one}
 use Rattle.sdd_world_core.proofs.world_core.WorldCore.make_several.Goals as goal

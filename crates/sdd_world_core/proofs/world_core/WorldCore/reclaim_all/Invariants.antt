@@ -1,6 +1,6 @@
 use Rattle.std.proofs.Common.{◌≡◌, ◌+◌, ◌<◌, ◌≤◌, length, drop}
 use Rattle.sdd_space.specs.World.{most, weight, KeepsSizes}
-use Rattle.sdd_space.specs.Steps.{all_reclaimed}
+use Rattle.sdd_space.specs.WorldChanges.{all_reclaimed}
 use Rattle.sdd_world_core.proofs.world_core.WorldCore.reclaim_all.Given as goal
 
 -- to reclaim what is left is to reclaim all, and there is room for it

@@ -13,7 +13,7 @@ use Rattle.sdd_world_core.specs.WorldCore.{IsSound}
 use Rattle.sdd_world_core.specs.Lending.{AreLentOf}
 use Rattle.sdd_world_core.proofs.Lending.{lent-registered}
 use Rattle.sdd_space.specs.World.{World}
-use Rattle.sdd_space.specs.Whole.{IsWhole}
+use Rattle.sdd_space.specs.WorldInvariant.{IsWhole}
 use Rattle.sdd_space.proofs.Housed.{Whole-registered, registered-adds}
 use Rattle.sdd_world_core.proofs.world_core.WorldCore.register.Goals as goal
 

@@ -48,7 +48,7 @@ module _ {T : Type 0} where
   taken w = count_by is_some w.standings
 
 -- a participant keeps up with this count of epochs
-pub record IsAbreast (count : ℕ) (p : Participant) : Type 0 where
+pub record KeepsUp (count : ℕ) (p : Participant) : Type 0 where
   -- it has found no count above it
   pub found : p.found ≤ count
   -- what it has published is this count or the one before
@@ -64,7 +64,7 @@ abbrev pub IsCounted : Tally → ℕ → Type 0
 IsCounted t there = t.made + 1 < 2 ^ 128 → t.made ≡ t.reclaimed + t.in_place + there
 
 -- each place has its phase: only a live one has a guard open, and nothing waits at a free one
-pub record AreHoused (t : EpochState) : Type 0 where
+pub record PlacesMatchStates (t : EpochState) : Type 0 where
   pub lengths : length t.phases ≡ length t.places
   pub shut : (p : ℕ) → IsTrue (is_open (time.place_at t p)) → time.phase_at t p ≡ Some Live
   pub bare : (p : ℕ) → time.phase_at t p ≡ None → (time.place_at t p).bags.waiting ≡ []
@@ -76,6 +76,6 @@ pub record IsWhole {T : Type 0} (w : World T) : Type 0 where
   pub once : (k : ℕ) → times_waiting w k ≡ once_if (is_waiting (standing_at w k))
   -- a job waits once exactly where a place of the table of jobs is taken
   pub jobs_once : (j : ℕ) → times_deferred w j ≡ once_if (is_some (entry_at w.jobs j))
-  pub abreast : (p : ℕ) → IsAbreast w.time.count (place_at w p)
-  pub housed : AreHoused w.time
+  pub abreast : (p : ℕ) → KeepsUp w.time.count (place_at w p)
+  pub housed : PlacesMatchStates w.time
   pub counted : IsCounted w.tally (taken w)

@@ -4,7 +4,7 @@ use mathlib.Core.Option.{some}
 use lib.ListN.{get_elem?}
 use Rattle.sdd_views.specs.declared.EpochView.{EpochView}
 use Rattle.sdd_word_invariant.specs.Words.{state_word, count_word}
-use Rattle.sdd_word_invariant.specs.Epoch.{HasPlace, IsOpen, Scans, IsLone, EpochPart}
+use Rattle.sdd_word_invariant.specs.Epoch.{HasPlace, IsOpen, Scans, IsLone, EpochInvariant}
 
 -- the seat id, which knows v, takes a step on the word i: whatever the words and the others are,
 -- it knows something after it by which the part is kept, and of which more is told
@@ -20,8 +20,8 @@ pub record Rises (v w : EpochView) : Type 0 where
 
 -- the same of the epoch's part
 abbrev pub Keeps : ℕ → ℕ → EpochView → ℕ → (ℕ → ℕ) → (ℕ → EpochView → Type 0) → Type 0
-Keeps n id v i f then = (ws : List ℕ) (vs : List EpochView) → EpochPart n ws vs → get_elem? vs id ≡ some v → slice_index ws i < 2 ^ 64
-    → (w : EpochView) × EpochPart n (slice_set ws i (f (slice_index ws i))) (slice_set vs id w) × Rises v w × then (slice_index ws i) w
+Keeps n id v i f then = (ws : List ℕ) (vs : List EpochView) → EpochInvariant n ws vs → get_elem? vs id ≡ some v → slice_index ws i < 2 ^ 64
+    → (w : EpochView) × EpochInvariant n (slice_set ws i (f (slice_index ws i))) (slice_set vs id w) × Rises v w × then (slice_index ws i) w
 
 abbrev pub registered : ℕ → ℕ → ℕ → ℕ → EpochView
 registered n p c g = record { all = n; place = p; state = 1; count = c; since = 0; known = g; found = 0; scans = 0; looked = 0; ended = 0; adopts = None }

@@ -15,16 +15,16 @@ use Rattle.sdd_views.specs.declared.FractionsView.{FractionsView}
 use Rattle.sdd_word_invariant.specs.Slots.{items_at}
 use Rattle.sdd_shared_values.specs.declared.value_fraction.ValueFraction.{ValueFraction}
 use Rattle.sdd_shared_values.specs.ValueFractions.{AllFreeFor}
-use Rattle.sdd_shared_values.specs.Seats.{lots, plain}
+use Rattle.sdd_shared_values.specs.CarriedFractions.{lots, plain}
 use Rattle.sdd_domain_invariant.specs.FractionsAtHome.{CarriedFractions}
 use Rattle.sdd_domain_invariant.specs.Records.{slot_shown}
-use Rattle.sdd_domain_invariant.specs.HomeSteps.{Purse}
-use Rattle.sdd_domain.specs.Sight.{IsOnce}
+use Rattle.sdd_domain_invariant.specs.FractionSteps.{CarriesSeen}
+use Rattle.sdd_domain.specs.SeenSlots.{IsOnce}
 use Rattle.sdd_atomics.specs.declared.domain_table.DomainTable.{DomainTable}
 use Rattle.sdd_atomics.specs.DomainTable.{id_of, book_of, places_of, slots_of}
 use Rattle.sdd_views.specs.declared.WaitingItem.{WaitingItem}
 use Rattle.sdd_domain.specs.DueItems.{Pending}
-use Rattle.sdd_domain.specs.Waits.{what_of, waiting_of, ripe, unripe}
+use Rattle.sdd_domain.specs.WaitingItems.{what_of, waiting_of, ripe, unripe}
 use Rattle.sdd_atomics.specs.DomainSeat.{view, epoch, slots, Knows}
 
 -- it has published its count; what it knows is the count at that publish or the next
@@ -42,14 +42,14 @@ pub record IsQuiet (v : SlotsView) : Type 0 where
   pub looked : v.looked ≡ 0
 
 -- what is known of what slots show: of those that the guards see, one value for each
-pub record IsSight (stakes : FractionsView) (slots : SlotsView) : Type 0 where
+pub record SeesOnce (stakes : FractionsView) (slots : SlotsView) : Type 0 where
   pub owns : stakes.owns ≡ []
   pub sees : map slot_shown stakes.sees ≡ slots.sees
   pub once : IsOnce stakes.sees
 
 -- the stakes that are out: one in each slot that the guards see, which shows what is known
-unfoldable pub IsPurse : ℕ → ℕ → ℕ → List ShownValue → CarriedFractions → Type 0
-IsPurse γ n p sees xs = Purse γ n p sees (plain xs)
+unfoldable pub CarriesSeenOnly : ℕ → ℕ → ℕ → List ShownValue → CarriedFractions → Type 0
+CarriesSeenOnly γ n p sees xs = CarriesSeen γ n p sees (plain xs)
 
 -- those are lent to the tenure t at most
 unfoldable pub AreLentTo : ℕ → CarriedFractions → Type 0
@@ -57,10 +57,10 @@ AreLentTo t xs = AllFreeFor t (lots xs)
 
 -- the board, the place, what it keeps of its own, and its token
 module _ (b : DomainTable) (p : ℕ) (own : Participant) (token : Seat ValueFraction View) where
-  pub record IsPosed : Type 0 where
+  pub record IsBetweenCalls : Type 0 where
     pub home : token.table_id ≡ id_of b
-    pub purse : IsPurse (book_of b) (places_of b) p (view token).stakes.sees token.me.1
-    pub sight : IsSight (view token).stakes (slots token)
+    pub purse : CarriesSeenOnly (book_of b) (places_of b) p (view token).stakes.sees token.me.1
+    pub sight : SeesOnce (view token).stakes (slots token)
     pub unseen : own.guards ≡ 0 → (view token).stakes.sees ≡ []
     pub rests : (view token).stakes.moves ≡ None
     pub all : (epoch token).all ≡ places_of b

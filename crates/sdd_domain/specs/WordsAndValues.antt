@@ -6,8 +6,8 @@ use Rattle.sdd_word_invariant.specs.Words.{words_behind}
 use Rattle.sdd_word_invariant.specs.Codes.{free_word, owned_word, waiting_word, waiting, full}
 use Rattle.sdd_word_invariant.specs.Sums.{total}
 use Rattle.sdd_word_invariant.specs.Slots.{waits_in}
-use Rattle.sdd_domain_invariant.specs.Fillings.{newest}
-use Rattle.sdd_domain.specs.Waits.{what_of, waiting_of, ripe, unripe}
+use Rattle.sdd_domain_invariant.specs.FilledInvariant.{newest}
+use Rattle.sdd_domain.specs.WaitingItems.{what_of, waiting_of, ripe, unripe}
 use Rattle.sdd_domain.specs.LocalState.{LocalState, IsLone, word_of}
 
 -- which values are in slots, with their codes
@@ -38,5 +38,5 @@ pub record AreTied {T : Type 0} (m : LocalState) (entries : Entries T) : Type 0 
   pub due : m.due ≡ map what_of (ripe m.slots.waits)
   pub now : 0 < m.own.guards → m.known ≡ m.own.found
 
-abbrev pub IsTied : {T : Type 0} → LocalState → Entries T → Type 0
-IsTied m entries = IsLone m → AreTied m entries
+abbrev pub WordsMatchValues : {T : Type 0} → LocalState → Entries T → Type 0
+WordsMatchValues m entries = IsLone m → AreTied m entries

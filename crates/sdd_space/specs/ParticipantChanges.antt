@@ -13,12 +13,12 @@ all_awaiting [] p = p
 all_awaiting (k ∷ ks) p = all_awaiting ks (awaiting (Item k) p)
 
 -- it is start, but that items in some slots wait as well
-abbrev pub HasGrown : Participant → Participant → Type 0
-HasGrown start p = (given : List ℕ) × (p ≡ all_awaiting given start)
+abbrev pub HasMoreWaiting : Participant → Participant → Type 0
+HasMoreWaiting start p = (given : List ℕ) × (p ≡ all_awaiting given start)
 
 -- whatever old has grown from, new has grown from: some items more may wait, and nothing else has changed
-abbrev pub GrowsOn : Participant → Participant → Type 0
-GrowsOn old new = (start : Participant) → HasGrown start old → HasGrown start new
+abbrev pub KeepsMoreWaiting : Participant → Participant → Type 0
+KeepsMoreWaiting old new = (start : Participant) → HasMoreWaiting start old → HasMoreWaiting start new
 
 -- a change at this count: what has then seen three is gone, and what that gave up, in these slots, waits; then it is decided whether anything waits
 abbrev pub changed_at : ℕ → List ℕ → Participant → Participant
@@ -41,14 +41,14 @@ spilled None p = p
 spilled (Some k) p = awaiting (Item k) p
 
 -- an opening made new of old: it found a count, and where something was due, items in some slots were given up
-pub record IsOpened (old new : Participant) : Type 0 where
+pub record GuardOpened (old new : Participant) : Type 0 where
   pub count : ℕ
   pub given : List ℕ
   pub own : new ≡ opened_at count given old
   pub from_due : due_next old ≡ [] → given ≡ []
 
 -- a close of a guard made new of old, with the ended mark as it was found; only a scan may have adopted what others left
-pub record IsClosed (old new : Participant) : Type 0 where
+pub record GuardClosed (old new : Participant) : Type 0 where
   pub marked : Bool
   pub left : List Waiting
   pub own : new ≡ closed_with marked (adopting left old)
@@ -61,5 +61,5 @@ pub record IsCollected (old new : Participant) : Type 0 where
   pub own : new ≡ all_awaiting given (without chosen old)
 
 -- a close of a cell made new of old: as before, or one item more waits
-abbrev pub IsSpilled : Participant → Participant → Type 0
-IsSpilled old new = (held : Option ℕ) × (new ≡ spilled held old)
+abbrev pub HasContentsGivenUp : Participant → Participant → Type 0
+HasContentsGivenUp old new = (held : Option ℕ) × (new ≡ spilled held old)

@@ -4,45 +4,45 @@ use Rattle.std.specs.List.{filter}
 use base.Stored.{Gv}
 use Rattle.atomic_table.specs.Table.{Me}
 use Rattle.sdd_shared_values.specs.ValueFractions.{FractionContent}
-use Rattle.sdd_shared_values.specs.SharedValues.{IsFull, IsVacant, lot}
+use Rattle.sdd_shared_values.specs.SharedValues.{IsFull, IsNoValueCode, lot}
 use Rattle.sdd_shared_values.specs.declared.value_fraction.ValueFraction.{ValueFraction}
 use Rattle.sdd_views.specs.declared.ShownValue.{ShownValue}
 use Rattle.sdd_views.specs.declared.CountsView.{CountsView}
 use Rattle.sdd_views.specs.declared.View.{View}
 use Rattle.sdd_word_invariant.specs.SlotSteps.{behind, Knew, claimed, discarded, seeing, first, others, parted, joined, Retires, ClosesAll, GivesBack}
 use Rattle.sdd_views.specs.Views.{owner_token, at_rest, no_counts}
-use Rattle.sdd_word_invariant.specs.Steps.{ended}
+use Rattle.sdd_word_invariant.specs.EpochSteps.{ended}
 use Rattle.sdd_word_invariant.specs.Words.{slot_word}
 use Rattle.sdd_word_invariant.specs.Codes.{alive}
 use Rattle.sdd_word_invariant.specs.Epoch.{IsLone}
 use Rattle.sdd_word_invariant.specs.Slots.{Sees}
 use Rattle.sdd_domain_invariant.specs.FractionsAtHome.{CarriedFractions, stake_at, share, spare, Has}
 use Rattle.sdd_domain_invariant.specs.Records.{IsIn}
-use Rattle.sdd_domain_invariant.specs.Fillings.{newest}
+use Rattle.sdd_domain_invariant.specs.FilledInvariant.{newest}
 
 abbrev pub SeatState : Type 0
 SeatState = Me ValueFraction View
 
 -- the first m stakes in the slot i, of which so many units are elsewhere, the last of them taken last, and then the rest
-abbrev pub HasRow : ℕ → ℕ → ℕ → ℕ → (Gv → Type 0) → CarriedFractions → ℕ → CarriedFractions → Type 0
-HasRow γ i n o Is rest zero xs = xs ≡ rest
-HasRow γ i n o Is rest (suc m) [] = ⊥
-HasRow γ i n o Is rest (suc m) (x ∷ xs) = (x.0 ≡ stake_at n i m) × Has γ i (share n o m) Is x.1 × HasRow γ i n o Is rest m xs
+abbrev pub CarriesFirst : ℕ → ℕ → ℕ → ℕ → (Gv → Type 0) → CarriedFractions → ℕ → CarriedFractions → Type 0
+CarriesFirst γ i n o Is rest zero xs = xs ≡ rest
+CarriesFirst γ i n o Is rest (suc m) [] = ⊥
+CarriesFirst γ i n o Is rest (suc m) (x ∷ xs) = (x.0 ≡ stake_at n i m) × Has γ i (share n o m) Is x.1 × CarriesFirst γ i n o Is rest m xs
 
 -- all stakes in the slot i, and then the rest
-abbrev pub HasAll : ℕ → ℕ → ℕ → ℕ → (Gv → Type 0) → CarriedFractions → CarriedFractions → Type 0
-HasAll γ i n o Is rest xs = HasRow γ i n o Is rest (suc n) xs
+abbrev pub CarriesAll : ℕ → ℕ → ℕ → ℕ → (Gv → Type 0) → CarriedFractions → CarriedFractions → Type 0
+CarriesAll γ i n o Is rest xs = CarriesFirst γ i n o Is rest (suc n) xs
 
 -- a value that is shown, and it is this one
 abbrev pub IsValue : Gv → Gv → Type 0
 IsValue value g = IsFull g × (g ≡ value)
 
 -- the stakes of the place q in the slots of these records, in this order, each of which shows what its record says
-abbrev pub Purse : ℕ → ℕ → ℕ → List ShownValue → CarriedFractions → Type 0
-Purse γ n q [] [] = Unit {0}
-Purse γ n q [] (x ∷ xs) = ⊥
-Purse γ n q (r ∷ records) [] = ⊥
-Purse γ n q (r ∷ records) (x ∷ xs) = (x.0 ≡ stake_at n r.slot q) × Has γ r.slot 1 (IsValue r.value) x.1 × Purse γ n q records xs
+abbrev pub CarriesSeen : ℕ → ℕ → ℕ → List ShownValue → CarriedFractions → Type 0
+CarriesSeen γ n q [] [] = Unit {0}
+CarriesSeen γ n q [] (x ∷ xs) = ⊥
+CarriesSeen γ n q (r ∷ records) [] = ⊥
+CarriesSeen γ n q (r ∷ records) (x ∷ xs) = (x.0 ≡ stake_at n r.slot q) × Has γ r.slot 1 (IsValue r.value) x.1 × CarriesSeen γ n q records xs
 
 -- it moves the value of the slot from now on
 abbrev pub moving : ℕ → View → View
@@ -140,12 +140,12 @@ places_of me = me.0.sizes.participants
 -- the claim of a slot whose word is old as long as it is free: then all stakes in it are out, and show that it is vacant
 abbrev pub ClaimsAll : ℕ → ℕ → ℕ → SeatState → ℕ → SeatState → Type 0
 ClaimsAll slot old y me x me' =
-    (x ≡ old → (me'.0 ≡ making slot y me.0) × HasAll (book_of me) slot (places_of me) 0 IsVacant me.1 me'.1)
+    (x ≡ old → (me'.0 ≡ making slot y me.0) × CarriesAll (book_of me) slot (places_of me) 0 IsNoValueCode me.1 me'.1)
     × (x ≢ old → me' ≡ me) × Knew slot me.0 x
 
 -- the value of an owned slot was moved in, and all stakes in it, which show it, go home with a unit each; the owner has its unit, and the bank the rest
-abbrev pub Houses : ℕ → Bool → Gv → SeatState → SeatState → Type 0
-Houses slot shared value me me' = (me'.0 ≡ resting (telling slot shared value (drawing slot me.0))) × (me'.1 ≡ drop (suc (places_of me)) me.1)
+abbrev pub FillsSlot : ℕ → Bool → Gv → SeatState → SeatState → Type 0
+FillsSlot slot shared value me me' = (me'.0 ≡ resting (telling slot shared value (drawing slot me.0))) × (me'.1 ≡ drop (suc (places_of me)) me.1)
 
 -- its owner's unit goes to the bank
 abbrev pub EntersUnit : SeatState → SeatState → Type 0
@@ -160,13 +160,13 @@ IsNewest slot shared value v = newest slot v.stakes.filled ≡ Some (record { sl
 pub record TakesOut (slot : ℕ) (me me' : SeatState) : Type 0 where
   pub value : Gv
   pub view : me'.0 ≡ moving slot (forgetting slot me.0)
-  pub stakes : HasAll (book_of me) slot (places_of me) (spare (places_of me)) (IsValue value) me.1 me'.1
+  pub stakes : CarriesAll (book_of me) slot (places_of me) (spare (places_of me)) (IsValue value) me.1 me'.1
   pub remembered : IsIn me.0.stakes.waits slot value
   pub filled : IsLone me.0.epoch → (shared : Bool) × IsNewest slot shared value me.0
 
 -- the same of an item whose slot is held: its owner knows no more what it shows
 abbrev pub TakesHeld : ℕ → SeatState → SeatState → Type 0
-TakesHeld slot me me' = (me'.0 ≡ moving slot (untold me.0)) × HasAll (book_of me) slot (places_of me) (spare (places_of me)) IsFull me.1 me'.1
+TakesHeld slot me me' = (me'.0 ≡ moving slot (untold me.0)) × CarriesAll (book_of me) slot (places_of me) (spare (places_of me)) IsFull me.1 me'.1
 
 -- the lot is all that the bank had of the slot
 abbrev pub IsDeposit : ℕ → SeatState → FractionContent → Type 0
@@ -185,8 +185,8 @@ abbrev pub DiscardsAll : ℕ → SeatState → ℕ → SeatState → Type 0
 DiscardsAll slot me y me' = (me'.0 ≡ giving (discarded slot y me.0)) × (me'.1 ≡ drop (suc (places_of me)) me.1)
 
 -- a guard sees a slot beside its owner, who knows what it shows: it has the stake of its place out, if it didn't before
-abbrev pub Watches : ℕ → Bool → Gv → SeatState → SeatState → Type 0
-Watches slot shared value me me' = (Sees me.0 slot → (me' ≡ me) × IsIn me.0.stakes.sees slot value)
+abbrev pub SeesOwned : ℕ → Bool → Gv → SeatState → SeatState → Type 0
+SeesOwned slot shared value me me' = (Sees me.0 slot → (me' ≡ me) × IsIn me.0.stakes.sees slot value)
     × (¬ (Sees me.0 slot) → (y : ValueFraction) × Has (book_of me) slot 1 (IsValue value) y
     × (me' ≡ (sighting slot shared value me.0, (stake_at (places_of me) slot me.0.epoch.place, y) ∷ me.1)))
 
@@ -196,8 +196,8 @@ pub record IsRecalled (slot : ℕ) (shared : Bool) (value : Gv) (v : View) : Typ
   pub alive : alive (slice_index v.words (behind v.sizes slot)) ≡ 1
 
 -- beside a slot's owner a lone participant learns what it knows of the slot, and nothing changes
-abbrev pub Recalls : ℕ → Bool → Gv → SeatState → SeatState → Type 0
-Recalls slot shared value me me' = (me' ≡ me) × (IsLone me.0.epoch → IsRecalled slot shared value me.0)
+abbrev pub LearnsOwned : ℕ → Bool → Gv → SeatState → SeatState → Type 0
+LearnsOwned slot shared value me me' = (me' ≡ me) × (IsLone me.0.epoch → IsRecalled slot shared value me.0)
 
 -- the last guard is closed: all that it had goes home
 abbrev pub ClosesHome : SeatState → ℕ → SeatState → Type 0

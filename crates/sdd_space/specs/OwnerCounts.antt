@@ -5,7 +5,7 @@ use Rattle.sdd_participants.specs.declared.standing.Standing.TheVariants.{Owned,
 use Rattle.sdd_participants.specs.declared.standing.CellContents.{CellContents}
 use Rattle.sdd_space.specs.OwnerOrCell.{OwnerOrCell, owned, shared, atomic_owned, atomic_shared, atomic_raw}
 use Rattle.sdd_space.specs.World.{World, standing_at}
-use Rattle.sdd_space.specs.Steps.{held_in}
+use Rattle.sdd_space.specs.WorldChanges.{held_in}
 
 -- how many owners have to be given up until the item waits: all that it has, and one at least of an item that stands shared
 abbrev pub owner_count : Option Standing → ℕ

@@ -6,10 +6,10 @@ use Rattle.sdd_participants.specs.declared.standing.Standing.{Standing}
 use Rattle.sdd_standings.specs.Slots.{IsWaiting}
 use Rattle.sdd_space.specs.OwnerOrCell.{OwnerOrCell}
 use Rattle.sdd_space.specs.World.{World, place_at, standing_at, value_at, IsPlaceOf}
-use Rattle.sdd_space.specs.Steps.{retired}
+use Rattle.sdd_space.specs.WorldChanges.{retired}
 use Rattle.sdd_space.specs.Collecting.{collected}
 use Rattle.sdd_space.specs.WorldStep.{WorldStep}
-use Rattle.sdd_space.specs.Left.{Waits}
+use Rattle.sdd_space.specs.ReclaimBound.{Waits}
 use Rattle.sdd_space.specs.Out.{is_out}
 
 -- how many changes q can make while the guard stays open that p published: at most one for this count, if q has not found it yet, and one for the next
@@ -32,13 +32,13 @@ pub record StaysUnder {T : Type 0} (old new : World T) (p k : ℕ) (s : Option S
   pub value : value_at new k ≡ value_at old k
 
 -- while p's guard is open the slot's item can't go: it is out, or waits and can't see a third change
-abbrev pub Stays : {T : Type 0} → World T → (p k : ℕ) → Type 0
-Stays w p k = IsTrue (is_out (standing_at w k)) ⊎ IsUnder w p k
+abbrev pub CannotGo : {T : Type 0} → World T → (p k : ℕ) → Type 0
+CannotGo w p k = IsTrue (is_out (standing_at w k)) ⊎ IsUnder w p k
 
 -- and p's guard is open
 pub record IsSafe {T : Type 0} (w : World T) (p k : ℕ) : Type 0 where
   pub guarded : IsTrue (is_open (place_at w p))
-  pub stays : Stays w p k
+  pub stays : CannotGo w p k
 
 module _ {T : Type 0} (holds : T → List OwnerOrCell) where
   -- calls, one after another, while a guard of p is open all along

@@ -5,8 +5,8 @@ use Rattle.sdd_participants.specs.declared.waiting.LimboEntry.TheVariants.{Item}
 use Rattle.sdd_participants.specs.EpochState.{EpochState, finds_another, is_open, last_count}
 use Rattle.sdd_participants.specs.EpochState as time
 use Rattle.sdd_space.specs.OwnerOrCell.{OwnerOrCell}
-use Rattle.sdd_space.specs.World.{World, IsGuarded, IsPlaceOf, place_at, standing_at, value_at}
-use Rattle.sdd_space.specs.Steps.{opened, accelerated, closed}
+use Rattle.sdd_space.specs.World.{World, AnyGuardOpen, IsPlaceOf, place_at, standing_at, value_at}
+use Rattle.sdd_space.specs.WorldChanges.{opened, accelerated, closed}
 use Rattle.sdd_space.specs.WorldStep.{WorldStep}
 
 -- the slot's item waits with p, and has seen so many of p's changes
@@ -54,20 +54,20 @@ module _ {T : Type 0} (holds : T → List OwnerOrCell) (w : World T) where
 
   -- four accelerated guards of p, one after another, reclaim all that waits with it, where no other guard is open
   abbrev pub FourGuardsReclaim : Type 0
-  FourGuardsReclaim = (p k seen : ℕ) → IsPlaceOf w p → ¬ (IsGuarded w) → w.time.count + 4 ≤ 2 ^ 64 → Waits w p k seen →
+  FourGuardsReclaim = (p k seen : ℕ) → IsPlaceOf w p → ¬ (AnyGuardOpen w) → w.time.count + 4 ≤ 2 ^ 64 → Waits w p k seen →
       (standing_at (four_guards holds w p) k ≡ None) × (value_at (four_guards holds w p) k ≡ None)
 
 module _ {T : Type 0} (holds : T → List OwnerOrCell) (q k : ℕ) where
   -- calls, one after another, before which q is a participant, in which the slot is never free and no close of q is held up;
   -- so many of them are outermost openings of q
-  pub data Stays : (openings : ℕ) → World T → World T → Type 0 where
-    starts : (w : World T) → Stays 0 w w
-    one_opening : (n : ℕ) (v w : World T) → Stays n v w → IsPlaceOf w q → ¬ (IsTrue (is_open (place_at w q))) → standing_at (opened holds w q) k ≢ None →
-        Stays (n + 1) v (opened holds w q)
-    one_call : (n : ℕ) (u v w : World T) → Stays n u v → IsPlaceOf v q → WorldStep holds v w → ¬ ((w ≡ closed v q) × IsHeldUp v q) → standing_at w k ≢ None →
-        Stays n u w
+  pub data WaitsThrough : (openings : ℕ) → World T → World T → Type 0 where
+    starts : (w : World T) → WaitsThrough 0 w w
+    one_opening : (n : ℕ) (v w : World T) → WaitsThrough n v w → IsPlaceOf w q → ¬ (IsTrue (is_open (place_at w q))) → standing_at (opened holds w q) k ≢ None →
+        WaitsThrough (n + 1) v (opened holds w q)
+    one_call : (n : ℕ) (u v w : World T) → WaitsThrough n u v → IsPlaceOf v q → WorldStep holds v w → ¬ ((w ≡ closed v q) × IsHeldUp v q) → standing_at w k ≢ None →
+        WaitsThrough n u w
 
 -- the law: as long as an item waits and its holder has not ended, the holder has made fewer outermost openings than were left,
 -- where no close of the holder is held up
 abbrev pub GoesInTime : {T : Type 0} → (T → List OwnerOrCell) → World T → Type 0
-GoesInTime {T} holds w = (q k seen : ℕ) → Waits w q k seen → (n : ℕ) (new : World T) → Stays holds q k n w new → n < left w.time q seen
+GoesInTime {T} holds w = (q k seen : ℕ) → Waits w q k seen → (n : ℕ) (new : World T) → WaitsThrough holds q k n w new → n < left w.time q seen

@@ -21,6 +21,6 @@ abbrev pub Tells : View → ShownValue → Type 0
 Tells u r = HasRecord u.stakes.owns r ⊎ HasRecord u.stakes.waits r
 
 -- where there is one place, its participant knows what the token of each owner tells, and what is remembered of each item that waits
-pub record FilledPart (sizes : Sizes) (vs : List View) : Type 0 where
+pub record FilledInvariant (sizes : Sizes) (vs : List View) : Type 0 where
   pub knows : sizes.participants ≡ 1 → (j k : ℕ) (v u : View) (r : ShownValue) → get_elem? vs j ≡ some v → HasPlace v.epoch → get_elem? vs k ≡ some u
       → Tells u r → newest r.slot v.stakes.filled ≡ Some r

@@ -13,7 +13,7 @@ use Rattle.sdd_views.specs.declared.Sizes.{Sizes}
 use Rattle.sdd_word_invariant.specs.Sums.{total, is, times}
 use Rattle.sdd_word_invariant.specs.Slots.{owners_at}
 use Rattle.sdd_views.specs.Views.{at_rest, owner_token}
-use Rattle.sdd_word_invariant.specs.Parts.{idle}
+use Rattle.sdd_word_invariant.specs.WordInvariant.{idle}
 use Rattle.sdd_domain_invariant.specs.FractionsAtHome.{spare, full_at}
 
 -- how many of its owners of the slot i have their unit
@@ -59,7 +59,7 @@ pub record Balances (γ : ℕ) (sizes : Sizes) (ws : List ℕ) (vs : List View) 
 
 -- the book of the values' places, the words, and what all participants know: one token at most is the bank's, which balances, or may found the bank, and
 -- then nothing is outside; an owner has one unit at most; and where nothing is outside, none is drawn
-pub record BankPart (γ : ℕ) (sizes : Sizes) (ws : List ℕ) (vs : List View) : Type 0 where
+pub record BankInvariant (γ : ℕ) (sizes : Sizes) (ws : List ℕ) (vs : List View) : Type 0 where
   pub single : total offices vs ≤ 1
   pub low : (j : ℕ) (v : View) → get_elem? vs j ≡ some v → (i : ℕ) → drawn_at i v ≤ owners_at i v
   pub quiet : (i : ℕ) → i < sizes.slots → outside sizes ws vs i ≡ 0 → total (drawn_at i) vs ≡ 0

@@ -10,7 +10,7 @@ use Rattle.sdd_views.specs.declared.WaitingItem.{WaitingItem}
 use Rattle.sdd_views.specs.declared.View.{View}
 use Rattle.sdd_word_invariant.specs.Epoch.{IsLone}
 use Rattle.sdd_word_invariant.specs.Slots.{items_at}
-use Rattle.sdd_domain_invariant.specs.HomeSteps.{with_gone, forgetting}
+use Rattle.sdd_domain_invariant.specs.FractionSteps.{with_gone, forgetting}
 use Rattle.sdd_word_invariant.specs.SlotSteps.{given_back, older}
 
 -- an item of a slot, in the bags

@@ -1,17 +1,17 @@
 -- What an accelerated guard leaves, where no other is open
 use Rattle.std.specs.Prelude.{ℕ, ◌+◌, ◌^◌, ◌<◌, ◌≡◌, ◌≤◌, List, length}
 use Rattle.sdd_space.specs.OwnerOrCell.{OwnerOrCell}
-use Rattle.sdd_space.specs.World.{World, IsGuarded, IsPlaceOf}
-use Rattle.sdd_space.specs.Steps.{made, retired}
-use Rattle.sdd_space.specs.Whole.{taken}
+use Rattle.sdd_space.specs.World.{World, AnyGuardOpen, IsPlaceOf}
+use Rattle.sdd_space.specs.WorldChanges.{made, retired}
+use Rattle.sdd_space.specs.WorldInvariant.{taken}
 use Rattle.sdd_participants.specs.Slab.{IsEmptyAt}
 use Rattle.sdd_participants.specs.EpochState.{lives}
 use Rattle.sdd_space.specs.Out.{out, HoldsNothing}
-use Rattle.sdd_space.specs.Left.{accelerated_guard}
+use Rattle.sdd_space.specs.ReclaimBound.{accelerated_guard}
 
 -- no guard is open afterwards, as many items were made and dropped in place, and no more is out
 pub record Passes {T : Type 0} (holds : T → List OwnerOrCell) (w : World T) (p : ℕ) : Type 0 where
-  pub quiet : ¬ (IsGuarded (accelerated_guard holds w p))
+  pub quiet : ¬ (AnyGuardOpen (accelerated_guard holds w p))
   pub place : IsPlaceOf (accelerated_guard holds w p) p
   pub live : lives (accelerated_guard holds w p).time ≡ lives w.time
   pub nesting : (accelerated_guard holds w p).time.nesting ≡ w.time.nesting
@@ -22,7 +22,7 @@ pub record Passes {T : Type 0} (holds : T → List OwnerOrCell) (w : World T) (p
 
 -- so many items were made and retired at once, and wait now; no guard was opened, and as much is out
 pub record HavePassed {T : Type 0} (items : ℕ) (old new : World T) : Type 0 where
-  pub quiet : ¬ (IsGuarded old) → ¬ (IsGuarded new)
+  pub quiet : ¬ (AnyGuardOpen old) → ¬ (AnyGuardOpen new)
   pub as_much_out : out new ≡ out old
   pub taken : taken new ≡ taken old + items
   pub slots : length new.standings ≡ length old.standings
@@ -41,4 +41,4 @@ pub record ItemsPass (T : Type 0) : Type 0 where
 
 -- the law: each accelerated guard of a participant does, where no guard is open
 abbrev pub GuardsPass : {T : Type 0} → (T → List OwnerOrCell) → World T → Type 0
-GuardsPass holds w = (p : ℕ) → IsPlaceOf w p → ¬ (IsGuarded w) → Passes holds w p
+GuardsPass holds w = (p : ℕ) → IsPlaceOf w p → ¬ (AnyGuardOpen w) → Passes holds w p

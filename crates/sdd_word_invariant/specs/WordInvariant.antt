@@ -9,8 +9,8 @@ use Rattle.sdd_views.specs.declared.View.{View}
 use Rattle.sdd_views.specs.declared.Sizes.{Sizes}
 use Rattle.sdd_word_invariant.specs.Words.{mark_word}
 use Rattle.sdd_word_invariant.specs.Codes.{codes}
-use Rattle.sdd_word_invariant.specs.Epoch.{EpochPart}
-use Rattle.sdd_word_invariant.specs.Slots.{SlotsPart, LonePart}
+use Rattle.sdd_word_invariant.specs.Epoch.{EpochInvariant}
+use Rattle.sdd_word_invariant.specs.Slots.{SlotsInvariant, LoneInvariant}
 use Rattle.sdd_views.specs.Views.{nobody, none_ended, bare, no_rights, at_rest, no_pledges}
 use Rattle.sdd_word_invariant.specs.SlotSteps.{blank}
 use Rattle.sdd_word_invariant.specs.Barred.{AreBarred, AreQuiet}
@@ -40,9 +40,9 @@ idle sizes book = record {
 
 -- the parts that speak of words and of what each participant knows
 pub record Parts (sizes : Sizes) (ws : List ℕ) (vs : List View) : Type 0 where
-  pub epoch : EpochPart sizes.participants ws (map epoch_of vs)
-  pub slots : SlotsPart codes sizes ws vs
-  pub lone : LonePart sizes ws vs
+  pub epoch : EpochInvariant sizes.participants ws (map epoch_of vs)
+  pub slots : SlotsInvariant codes sizes ws vs
+  pub lone : LoneInvariant sizes ws vs
 
 module _ {S : Type 0} (sizes : Sizes) (s : State S View) where
   -- what ended places left, and the mark: the word is there; a place that has ended stays so, and a slot that is quiet then
