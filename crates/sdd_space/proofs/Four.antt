@@ -43,8 +43,8 @@ shut false h = refl
 pub all-closed : {T : Type 0} (w : World T) → (AnyGuardOpen w → ⊥) → AllClosed w
 all-closed w h = λ q. shut (is_open (place_at w q)) (λ o. h (open-inside w.time.places q (below-or-past q (length w.time.places)) o))
 
-pub not-get_guarded : {T : Type 0} (w : World T) → AllClosed w → AnyGuardOpen w → ⊥
-not-get_guarded w h (k, x, l, here, o) =
+pub not-guarded : {T : Type 0} (w : World T) → AllClosed w → AnyGuardOpen w → ⊥
+not-guarded w h (k, x, l, here, o) =
     let there : IsTrue (is_open (place_at w k)) = subst (λ (z : Participant). IsTrue (is_open z)) (sym here ∙ whichever w.time.places k x nobody l) o in
     let never : false ≡ true = sym (h k) ∙ there in
     absurd (cc)
