@@ -1,7 +1,7 @@
 -- What the calls of a lone participant do to its world
 use Rattle.std.proofs.Common.{◌≡◌, ℕ, suc, false, List, [], ◌∷◌, Some, None, get_or, replicate, slice_index_or, sym, ◌∙◌}
 use Rattle.std.specs.Prelude.{Option}
-use Rattle.sdd_participants.specs.declared.epoch_state.Participant.{Participant}
+use Rattle.sdd_participants.specs.declared.participant.Participant.{Participant}
 use Rattle.sdd_participants.specs.declared.place_states.PlaceState.TheVariants.{Live}
 use Rattle.sdd_participants.specs.declared.standing.Standing.{Standing}
 use Rattle.sdd_participants.specs.declared.tally.Tally.{Tally}

@@ -2,7 +2,7 @@
 use Rattle.std.proofs.Common.{◌≡◌, ◌≢◌, ℕ, ◌-◌, ◌<◌, not, Bool, true, false, IsTrue, List, [], refl, sym, ap, ◌∙◌, subst, eq-eqb, ne_eqb, arith}
 use Rattle.std.specs.Prelude.{if◌then◌else◌, nat_lt}
 use base.Stored.{Gv}
-use Rattle.sdd_participants.specs.declared.epoch_state.Participant.{Participant}
+use Rattle.sdd_participants.specs.declared.participant.Participant.{Participant}
 use Rattle.sdd_participants.specs.EpochState.{is_open, counted_down}
 use Rattle.sdd_space.specs.ParticipantChanges.{closed_with}
 use Rattle.std.proofs.lemmas.Bool.{true≢false}

@@ -2,7 +2,7 @@
 use Rattle.std.proofs.Common.{◌≡◌, ℕ, zero, suc, List, [], ◌∷◌, ◌++◌, Option, None, replicate, slice_index_or, slice_set, refl, sym, ap, ◌∙◌, arith}
 use Rattle.sdd_participants.specs.declared.waiting.LimboEntry.{LimboEntry}
 use Rattle.sdd_participants.specs.declared.waiting.LimboEntry.TheVariants.{Item}
-use Rattle.sdd_participants.specs.declared.epoch_state.Participant.{Participant}
+use Rattle.sdd_participants.specs.declared.participant.Participant.{Participant}
 use Rattle.sdd_participants.specs.EpochState.{awaiting}
 use Rattle.sdd_space.specs.KnownEpochs.{KnownEpochs, KnowsOn}
 use Rattle.sdd_space.specs.ParticipantChanges.{all_awaiting, KeepsMoreWaiting}

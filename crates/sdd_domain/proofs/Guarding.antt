@@ -5,7 +5,7 @@ use mathlib.Core.Logic.{dite}
 use native.Mathlib.Decide.{ℕ_discrete}
 use base.Stored.{Gv}
 use Rattle.sdd_core.specs.declared.refused.Refused.{Refused}
-use Rattle.sdd_participants.specs.declared.epoch_state.Participant.{Participant}
+use Rattle.sdd_participants.specs.declared.participant.Participant.{Participant}
 use Rattle.sdd_participants.specs.EpochState.{settled}
 use Rattle.sdd_participants.specs.EpochState as time
 use Rattle.sdd_space.specs.OwnerOrCell.{OwnerOrCell}

@@ -1,7 +1,7 @@
 -- What a participant shows goes on to be shown
 use Rattle.std.proofs.Common.{◌≡◌, ℕ, Bool, true, false, List, sym, subst}
 use base.Stored.{Gv}
-use Rattle.sdd_participants.specs.declared.epoch_state.Participant.{Participant}
+use Rattle.sdd_participants.specs.declared.participant.Participant.{Participant}
 use Rattle.sdd_space.specs.OwnerOrCell.{OwnerOrCell}
 use Rattle.sdd_space.specs.Ptr.{KeepsShown}
 use Rattle.sdd_domain.specs.LocalState.{LocalState}

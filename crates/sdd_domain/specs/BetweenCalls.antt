@@ -1,8 +1,8 @@
 -- What holds of a participant between two calls
 use Rattle.std.specs.Prelude.{◌≡◌, ℕ, ◌+◌, ◌^◌, ◌<◌, ◌≤◌, List, [], None, map, if◌then◌else◌}
 use Rattle.atomic_table.specs.declared.shared.Seat.{Seat}
-use Rattle.sdd_participants.specs.declared.epoch_state.Participant.{Participant}
-use Rattle.sdd_participants.specs.EpochState.{is_open}
+use Rattle.sdd_participants.specs.declared.participant.Participant.{Participant}
+use Rattle.sdd_participants.specs.EpochState.{is_open, no_garbage}
 use Rattle.sdd_rights.specs.declared.fraction.Fraction.{Fraction}
 use Rattle.sdd_values.specs.declared.read_sections.SectionState.{SectionState}
 use Rattle.sdd_values.specs.declared.read_sections.SectionState.TheVariants.{Closed, Open}
@@ -78,8 +78,8 @@ module _ (b : DomainTable) (p : ℕ) (own : Participant) (token : Seat ValueFrac
     pub waiting : (i : ℕ) → 0 < items_at i (view token) → i < slots_of b
     pub bags : own.bags.waiting ≡ map waiting_of (unripe (slots token).waits)
     pub room : own.bags.room ≡ slots_of b
-    pub pace : own.countdown ≤ 128
-    pub idle : own.countdown ≡ 128 → own.bags.waiting ≡ []
+    pub pace : own.countdown ≤ no_garbage
+    pub idle : own.countdown ≡ no_garbage → own.bags.waiting ≡ []
 
 -- the part of a tenure that the participant keeps: each of its open guards has one unit more, and the tenure is open exactly while one is
 pub record IsTenureOf (own : Participant) (part : Fraction SectionState) : Type 0 where

@@ -8,7 +8,7 @@ ghost use Rattle.sdd_domain.specs.BetweenCalls.{IsBetweenCalls};
 
 use crate::due_items::DueItems;
 use sdd_atomics::{DomainSeat, DomainTable, steps};
-use sdd_participants::Participant;
+use sdd_participants::{NO_GARBAGE, Participant};
 
 /// Another count was found: what waits has seen one change more, and what has seen three then is due. Where nothing waited that is all, and it is false.
 #[inline]
@@ -22,7 +22,7 @@ fn change(own: &mut Participant, due: &mut DueItems, count: u64) -> bool
 {
     own.found = count;
     if own.bags.is_empty() {
-        own.countdown = 128;
+        own.countdown = NO_GARBAGE;
         return false;
     }
     due.rotate(&mut own.bags);

@@ -204,12 +204,7 @@ impl<'d, T: Item<T>> LocalCore<'d, T> {
             token,
             place,
             nesting: domain.limits.nesting as u32,
-            own: Participant {
-                found: 0,
-                countdown: 128,
-                guards: 0,
-                bags,
-            },
+            own: Participant::new(bags),
             due,
             known,
             tenure: own_tenure(),
@@ -348,7 +343,7 @@ impl<'d, T: Item<T>> LocalCore<'d, T> {
     pub(crate) fn settle(&mut self)
         ensures { self.new ≡ record self.old { own = settled self.old.own } }
     {
-        self.own.countdown = if self.own.bags.is_empty() { 128 } else { 127 };
+        self.own.settle();
     }
 
     /// What is always true of a participant, as a call that does nothing when the program runs: it has a place, and while a guard is open the count
@@ -410,7 +405,7 @@ impl<'d, T: Item<T>> LocalCore<'d, T> {
     pub(crate) fn has_garbage(&self) -> bool
         ensures { result ≡ has_garbage self.now.own }
     {
-        self.own.countdown != 128
+        self.own.has_garbage()
     }
 
     /// Has the participant count down to a scan, as a retirement does.

@@ -16,7 +16,7 @@ use Rattle.sdd_participants.specs.Slab.{Entries}
 use Rattle.sdd_participants.specs.Bags.{Bags}
 use Rattle.sdd_participants.specs.declared.place_states.PlaceState.{PlaceState}
 use Rattle.sdd_participants.specs.declared.place_states.PlaceState.TheVariants.{Live, Ended}
-use Rattle.sdd_participants.specs.declared.epoch_state.Participant.{Participant}
+use Rattle.sdd_participants.specs.declared.participant.Participant.{Participant}
 
 -- which phase it is
 live-is : (x : Option PlaceState) → is_live x ≡ true → x ≡ Some Live

@@ -9,7 +9,7 @@ use Rattle.std.proofs.lemmas.List.Filters.{length-filter_both}
 use Rattle.std.proofs.lemmas.List.Sums.{sum_by-cons, sum_by_more_le}
 use Rattle.sdd_participants.specs.Waiting.{Waiting, having_seen}
 use Rattle.sdd_participants.specs.declared.waiting.LimboEntry.{LimboEntry}
-use Rattle.sdd_participants.specs.declared.epoch_state.Participant.{Participant}
+use Rattle.sdd_participants.specs.declared.participant.Participant.{Participant}
 use Rattle.sdd_participants.specs.Bags.{waiting_of}
 use Rattle.sdd_participants.specs.EpochState.{EpochState, nobody, place_at, with_place, waiting_count}
 use Rattle.sdd_participants.specs.Collecting.{chosen_of, rest_of, chosen_among, time_without, without}

@@ -10,7 +10,7 @@ use Rattle.sdd_participants.specs.Slab.{with_entry, without_entry}
 use Rattle.sdd_participants.specs.declared.place_states.PlaceState.TheVariants.{Live}
 use Rattle.sdd_participants.specs.EpochState as time
 use Rattle.sdd_participants.specs.EpochState.{EpochState, opened, caught_up, due_at, nobody, newcomer, place_at, with_place, is_open, passes, last_count, due_next}
-use Rattle.sdd_participants.specs.declared.epoch_state.Participant.{Participant}
+use Rattle.sdd_participants.specs.declared.participant.Participant.{Participant}
 use Rattle.sdd_participants.specs.Renaming.{what_by, waiting_by, participant_by, time_by}
 
 -- a filter that sees the images as what they are of

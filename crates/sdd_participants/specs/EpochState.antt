@@ -3,12 +3,13 @@ use Rattle.std.specs.Prelude.{ℕ, zero, suc, ◌+◌, ◌-◌, ◌^◌, ◌==�
 use Rattle.std.specs.List.{list_all}
 use Rattle.sdd_participants.specs.declared.waiting.LimboEntry.{LimboEntry}
 use Rattle.sdd_participants.specs.Waiting.{Waiting, fresh, anew, aged, due, left}
+use Rattle.sdd_participants.specs.Bags.{Bags}
 use Rattle.sdd_participants.specs.Slab.{Entries, entry_at, with_entry, without_entry, IsEmptyAt, IsFull}
 use Rattle.sdd_participants.specs.PlaceStates.{PlaceStates, is_live, is_ended}
 use Rattle.sdd_participants.specs.declared.place_states.PlaceState.{PlaceState}
 use Rattle.sdd_participants.specs.declared.place_states.PlaceState.TheVariants.{Live, Ended}
-use Rattle.sdd_participants.specs.declared.epoch_state.Participant.{Participant}
-use Rattle.sdd_participants.specs.declared.epoch_state.CountdownState.{CountdownState}
+use Rattle.sdd_participants.specs.declared.participant.Participant.{Participant}
+use Rattle.sdd_participants.specs.declared.participant.CountdownState.{CountdownState}
 
 -- the count of epochs, the ended mark, the places there are so far, what each of them is, how many there may be,
 -- how deep guards nest, and how much may wait with one
@@ -25,13 +26,28 @@ pub record EpochState : Type 0 where
 abbrev pub last_count : ℕ
 last_count = 2 ^ 64 - 1
 
+-- the countdown of a participant without garbage, and the one from the moment on when it has some, and after each scan:
+-- after so many outermost closes the next one scans
+abbrev pub no_garbage : ℕ
+no_garbage = 128
+
+abbrev pub closes_to_scan : ℕ
+closes_to_scan = 127
+
+-- the outermost closes from one scan to the next, with the one that scans
+abbrev pub scan_period : ℕ
+scan_period = 128
+
+-- a participant that has just registered, with these bags
+abbrev pub newcomer_with : Bags → Participant
+newcomer_with bags = record { found = 0; countdown = no_garbage; guards = 0; bags = bags }
+
+abbrev pub newcomer : ℕ → Participant
+newcomer room = newcomer_with (record { waiting = []; room = room })
+
 -- what stands at a number that is no place
 abbrev pub nobody : Participant
-nobody = record { found = 0; countdown = 128; guards = 0; bags = record { waiting = []; room = 0 } }
-
--- a participant that has just registered
-abbrev pub newcomer : ℕ → Participant
-newcomer room = record { found = 0; countdown = 128; guards = 0; bags = record { waiting = []; room = room } }
+nobody = newcomer 0
 
 abbrev pub place_at : EpochState → ℕ → Participant
 place_at t p = slice_index_or t.places p nobody
@@ -84,15 +100,15 @@ ended t p = record t { phases = with_entry t.phases p Ended; marked = true }
 abbrev pub CanNest : EpochState → ℕ → Type 0
 CanNest t p = (place_at t p).guards < t.nesting
 
--- there is garbage: 127 in place of 128, else as it was
+-- there is garbage
 abbrev pub stirred : ℕ → ℕ
-stirred countdown = if countdown == 128 then 127 else countdown
+stirred countdown = if countdown == no_garbage then closes_to_scan else countdown
 
 abbrev pub with_garbage : Participant → Participant
 with_garbage p = record p { countdown = stirred p.countdown }
 
 abbrev pub has_garbage : Participant → Bool
-has_garbage p = not (p.countdown == 128)
+has_garbage p = not (p.countdown == no_garbage)
 
 abbrev pub accelerated : Participant → Participant
 accelerated p = record p { countdown = 0 }
@@ -113,9 +129,9 @@ rotated count p = record p { found = count; bags = record p.bags { waiting = lef
 abbrev pub due_next : Participant → List LimboEntry
 due_next p = due (aged p.bags.waiting)
 
--- after a rotation and the drops: 128 if nothing waits, else 127
+-- after a rotation and the drops: there is garbage exactly where something waits
 abbrev pub settled : Participant → Participant
-settled p = record p { countdown = elim (p.bags.waiting) [ [] ↦ 128 | x ∷ xs ↦ 127 ] }
+settled p = record p { countdown = elim (p.bags.waiting) [ [] ↦ no_garbage | x ∷ xs ↦ closes_to_scan ] }
 
 -- the count that a participant found last, and its countdown
 abbrev pub pace_of : Participant → CountdownState
@@ -201,7 +217,8 @@ scanned t p = if (place_at t p).found == t.count then raised (record (adopted t 
 -- the countdown after an outermost close
 abbrev pub counted_down : Bool → ℕ → ℕ
 counted_down marked countdown =
-    if countdown == 0 then 127 else (if countdown == 128 then (if marked then 127 else 128) else countdown - 1)
+    if countdown == 0 then closes_to_scan
+    else (if countdown == no_garbage then (if marked then closes_to_scan else no_garbage) else countdown - 1)
 
 -- the last guard is closed, with the ended mark as it was found
 abbrev pub rested : Bool → Participant → Participant

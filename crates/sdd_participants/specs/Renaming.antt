@@ -4,7 +4,7 @@ use Rattle.sdd_participants.specs.declared.waiting.LimboEntry.{LimboEntry}
 use Rattle.sdd_participants.specs.Waiting.{Waiting, having_seen}
 use Rattle.sdd_participants.specs.declared.waiting.LimboEntry.TheVariants.{Item, Job}
 use Rattle.sdd_participants.specs.EpochState.{EpochState}
-use Rattle.sdd_participants.specs.declared.epoch_state.Participant.{Participant}
+use Rattle.sdd_participants.specs.declared.participant.Participant.{Participant}
 
 abbrev pub what_by : (ℕ → ℕ) → LimboEntry → LimboEntry
 what_by name (Item k) = Item (name k)

@@ -7,31 +7,13 @@ ghost use Rattle.std.specs.Prelude.{◌++◌};
 ghost use Rattle.sdd_participants.specs.EpochState.{EpochState, IsLive, KeepsPlaces, adopted, adopted_from, ended, newcomer, phase_at, rested, waiting_count, with_place, place_at, IsCrowded, IsVacant, CanNest, registered, with_garbage, has_garbage, accelerated, awaiting, nested, rotated, settled, pace_of, passes, raised, scanned, closed, stirred_at, accelerated_at, awaiting_at, nested_at, rotated_at, settled_at, paced_at, finds_another, is_open, due_next};
 
 use crate::bags::Bags;
+use crate::participant::{CountdownState, Participant};
 use crate::place_states::{PlaceState, PlaceStates};
 use crate::standing::StandingLookup;
 use crate::waiting::LimboEntry;
 use sdd_core::Refused;
 use std::alloc::{AllocError, Global};
 use std::marker::Model;
-
-/// What a participant keeps.
-#[derive(Drop)]
-pub struct Participant {
-    /// The last count that it found, which it has published while a guard is open.
-    pub found: u64,
-    /// 0 to 128: a close at 0 scans, and at 128 there is no garbage.
-    pub countdown: u8,
-    /// How many guards are open.
-    pub guards: u32,
-    pub bags: Bags,
-}
-
-/// How far a participant is: the last count that it found, and its countdown.
-#[derive(Clone, Copy, Debug, PartialEq, Eq)]
-pub struct CountdownState {
-    pub found: u64,
-    pub countdown: u8,
-}
 
 /// The epoch of a world and its participants.
 #[derive(Drop)]
@@ -62,63 +44,6 @@ impl Model for EpochState {
     } };
 
     ghost invariant = { λ t. IsEpochState t.places.items t.phases t.marked t.nesting t.room (vec_capacity t.places) };
-}
-
-impl Participant {
-    /// There is garbage from now on.
-    pub fn set_has_garbage(&mut self)
-        ensures { self.new ≡ with_garbage self.old }
-    {
-        if self.countdown == 128 {
-            self.countdown = 127;
-        }
-    }
-
-    /// The participant is a newcomer, with the bags that are there.
-    fn begin(&mut self)
-        ensures { self.new ≡ newcomer self.old.bags.room }
-    {
-        self.found = 0;
-        self.countdown = 128;
-        self.guards = 0;
-        self.bags.clear();
-    }
-
-    fn wait(&mut self, what: LimboEntry)
-        requires { length self.old.bags.waiting < self.old.bags.room }
-        ensures { self.new ≡ awaiting what self.old }
-    {
-        self.bags.push(what);
-        self.set_has_garbage();
-    }
-
-    fn settle(&mut self)
-        ensures { self.new ≡ settled self.old }
-    {
-        self.countdown = if self.bags.is_empty() { 128 } else { 127 };
-    }
-
-    fn passes(&self, count: u64) -> bool
-        ensures { result ≡ passes count self.now }
-    {
-        self.guards == 0 || self.found == count
-    }
-
-    /// The last guard is closed; the ended mark is as it was found.
-    pub fn leave(&mut self, marked: bool)
-        ensures { self.new ≡ rested marked self.old }
-    {
-        match self.countdown {
-            128 => {
-                if marked {
-                    self.countdown = 127;
-                }
-            }
-            0 => self.countdown = 127,
-            countdown => self.countdown = countdown - 1,
-        }
-        self.guards = 0;
-    }
 }
 
 impl EpochState {
@@ -171,12 +96,7 @@ impl EpochState {
         ensures { (result ≡ length self.old.places) × (self.new ≡ registered self.old result) }
     {
         let place = self.places.len();
-        self.places.push_reserved(Participant {
-            found: 0,
-            countdown: 128,
-            guards: 0,
-            bags,
-        });
+        self.places.push_reserved(Participant::new(bags));
         self.phases.add();
         place
     }
@@ -253,7 +173,7 @@ impl EpochState {
         requires { place < length self.now.places }
         ensures { result ≡ has_garbage (place_at self.now place) }
     {
-        self.places[place].countdown != 128
+        self.places[place].has_garbage()
     }
 
     pub fn set_has_garbage(&mut self, place: usize)

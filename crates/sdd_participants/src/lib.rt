@@ -4,6 +4,7 @@
 pub mod bags;
 pub mod epoch_state;
 pub mod jobs;
+pub mod participant;
 pub mod place_states;
 pub mod slab;
 pub mod standing;
@@ -11,8 +12,9 @@ pub mod tally;
 pub mod waiting;
 
 pub use bags::Bags;
-pub use epoch_state::{CountdownState, EpochState, Participant};
+pub use epoch_state::EpochState;
 pub use jobs::{Deferred, Idle, Job, Jobs};
+pub use participant::{CLOSES_TO_SCAN, CountdownState, NO_GARBAGE, Participant};
 pub use place_states::{PlaceState, PlaceStates};
 pub use slab::Slab;
 pub use standing::{CellContents, RawCellContents, Standing, StandingLookup};

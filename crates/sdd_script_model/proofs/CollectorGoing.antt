@@ -9,7 +9,7 @@ use Rattle.sdd_participants.specs.Collecting.{chosen_of, chosen_among, without}
 use Rattle.sdd_participants.specs.Slab.{entry_at}
 use Rattle.sdd_participants.specs.EpochState.{nobody, is_open}
 use Rattle.sdd_participants.specs.Waiting.{Waiting}
-use Rattle.sdd_participants.specs.declared.epoch_state.Participant.{Participant}
+use Rattle.sdd_participants.specs.declared.participant.Participant.{Participant}
 use Rattle.sdd_participants.specs.declared.waiting.LimboEntry.{LimboEntry}
 use Rattle.sdd_participants.specs.declared.waiting.LimboEntry.TheVariants.{Item, Job}
 use Rattle.sdd_space.specs.WorldStep.WorldStep.{closes_collector}

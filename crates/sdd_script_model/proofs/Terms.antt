@@ -7,7 +7,7 @@ pub use Rattle.std.proofs.lemmas.List.{length-set}
 pub use Rattle.sdd_participants.specs.declared.waiting.LimboEntry.{LimboEntry}
 pub use Rattle.sdd_participants.specs.declared.waiting.LimboEntry.TheVariants.{Item}
 pub use Rattle.sdd_participants.specs.EpochState.{EpochState, IsLive, IsVacant, is_open, nobody, phase_at, due_next}
-pub use Rattle.sdd_participants.specs.declared.epoch_state.Participant.{Participant}
+pub use Rattle.sdd_participants.specs.declared.participant.Participant.{Participant}
 pub use Rattle.sdd_participants.specs.declared.standing.Standing.{Standing}
 pub use Rattle.sdd_participants.specs.declared.standing.Standing.TheVariants.{Owned, Raw, Shared, Retired, Private as privately}
 pub use Rattle.sdd_standings.specs.Slots.{is_waiting}

@@ -9,7 +9,7 @@ use Rattle.sdd_participants.specs.declared.waiting.LimboEntry.TheVariants.{Item}
 use Rattle.sdd_participants.specs.PlaceStates.{is_ended}
 use Rattle.sdd_participants.specs.EpochState.{EpochState, with_place, nobody, is_open, phase_at, passes, last_count, rested}
 use Rattle.sdd_participants.specs.EpochState as time
-use Rattle.sdd_participants.specs.declared.epoch_state.Participant.{Participant}
+use Rattle.sdd_participants.specs.declared.participant.Participant.{Participant}
 use Rattle.sdd_participants.proofs.Adopting.{adopts, frees-below}
 use Rattle.sdd_space.specs.World.{World, place_at}
 use Rattle.sdd_space.specs.WorldInvariant.{IsWhole}

@@ -7,7 +7,7 @@ use Rattle.sdd_participants.specs.Waiting.{Waiting, anew}
 use Rattle.sdd_participants.specs.Bags.{Bags}
 use Rattle.sdd_participants.specs.PlaceStates.{is_ended}
 use Rattle.sdd_participants.specs.EpochState.{EpochState, IsLive, with_place, nobody, is_open, phase_at, place_at, closed, left_by, scanned, rested}
-use Rattle.sdd_participants.specs.declared.epoch_state.Participant.{Participant}
+use Rattle.sdd_participants.specs.declared.participant.Participant.{Participant}
 use Rattle.sdd_participants.proofs.Adopting.{Scans, Scans-nothing, scans-if, scans-there, scans-place, adopting-nothing}
 use Rattle.sdd_space.specs.ParticipantChanges.{GuardClosed, closed_with}
 use Rattle.sdd_space.proofs.Housed.{each-place}

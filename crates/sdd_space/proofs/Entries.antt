@@ -9,7 +9,7 @@ use Rattle.sdd_participants.specs.Waiting.{Waiting, having_seen, aged, left, due
 use Rattle.sdd_participants.specs.declared.waiting.LimboEntry.TheVariants.{Item}
 use Rattle.sdd_participants.specs.EpochState.{EpochState, with_place, nobody, due_next, is_open}
 use Rattle.sdd_participants.specs.EpochState as time
-use Rattle.sdd_participants.specs.declared.epoch_state.Participant.{Participant}
+use Rattle.sdd_participants.specs.declared.participant.Participant.{Participant}
 use Rattle.sdd_standings.specs.Slots.{is_waiting}
 use Rattle.sdd_space.specs.World.{World, standing_at, place_at}
 use Rattle.sdd_space.specs.WorldChanges.{opened}

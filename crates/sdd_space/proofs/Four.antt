@@ -8,7 +8,7 @@ use Rattle.sdd_participants.specs.Waiting.{Waiting, having_seen}
 use Rattle.sdd_participants.specs.declared.waiting.LimboEntry.TheVariants.{Item}
 use Rattle.sdd_participants.specs.EpochState.{EpochState, with_place, nobody, is_open, passes, last_count, due_next, rested, IsLive}
 use Rattle.sdd_participants.specs.EpochState as time
-use Rattle.sdd_participants.specs.declared.epoch_state.Participant.{Participant}
+use Rattle.sdd_participants.specs.declared.participant.Participant.{Participant}
 use Rattle.sdd_standings.specs.Slots.{is_waiting}
 use Rattle.sdd_space.specs.World.{AnyGuardOpen, World, standing_at, value_at, place_at, IsPlaceOf}
 use Rattle.sdd_space.specs.WorldChanges.{opened, closed, accelerated, reclaims}

@@ -3,7 +3,7 @@ use Rattle.std.proofs.Common.{◌≡◌, ◌⊎◌, inl, inr, ℕ, ◌<◌, ◌�
 use Rattle.std.specs.Prelude.{Any}
 use Rattle.std.proofs.lemmas.List.{get_or_past}
 use Rattle.sdd_participants.specs.EpochState.{nobody, is_open}
-use Rattle.sdd_participants.specs.declared.epoch_state.Participant.{Participant}
+use Rattle.sdd_participants.specs.declared.participant.Participant.{Participant}
 use Rattle.sdd_space.specs.World.{World, AnyGuardOpen, place_at}
 use Rattle.sdd_space.proofs.Whole.{below-or-past}
 

@@ -13,8 +13,8 @@ use Rattle.sdd_participants.specs.PlaceStates.{is_live}
 use Rattle.sdd_participants.specs.Slab.{Entries, IsEmptyAt}
 use Rattle.sdd_participants.specs.declared.place_states.PlaceState.{PlaceState}
 use Rattle.sdd_participants.specs.declared.place_states.PlaceState.TheVariants.{Live, Ended}
-use Rattle.sdd_participants.specs.declared.epoch_state.Participant.{Participant}
-use Rattle.sdd_participants.specs.declared.epoch_state.CountdownState.{CountdownState}
+use Rattle.sdd_participants.specs.declared.participant.Participant.{Participant}
+use Rattle.sdd_participants.specs.declared.participant.CountdownState.{CountdownState}
 use Rattle.sdd_participants.specs.declared.standing.Standing.{Standing}
 use Rattle.sdd_participants.specs.declared.standing.Standing.TheVariants.{Shared, Retired}
 use Rattle.sdd_participants.specs.declared.standing.CellContents.{CellContents}

@@ -10,7 +10,7 @@ use Rattle.sdd_participants.specs.declared.waiting.LimboEntry.TheVariants.{Item,
 use Rattle.sdd_participants.specs.EpochState.{EpochState, with_place, nobody, due_next}
 use Rattle.sdd_participants.specs.EpochState as time
 use Rattle.sdd_participants.specs.Slab.{Entries, IsEmptyAt, entry_at, without_entry}
-use Rattle.sdd_participants.specs.declared.epoch_state.Participant.{Participant}
+use Rattle.sdd_participants.specs.declared.participant.Participant.{Participant}
 use Rattle.sdd_participants.specs.declared.standing.Standing.{Standing}
 use Rattle.sdd_participants.specs.declared.standing.Standing.TheVariants.{Retired}
 use Rattle.sdd_space.specs.World.{World, place_at, standing_at, value_at}

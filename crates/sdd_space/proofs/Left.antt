@@ -8,7 +8,7 @@ use Rattle.sdd_participants.specs.Waiting.{Waiting, having_seen}
 use Rattle.sdd_participants.specs.declared.waiting.LimboEntry.TheVariants.{Item, Job}
 use Rattle.sdd_participants.specs.EpochState.{EpochState, with_place, nobody, is_open, passes, last_count, counted_down, phase_at, rested}
 use Rattle.sdd_participants.specs.EpochState as time
-use Rattle.sdd_participants.specs.declared.epoch_state.Participant.{Participant}
+use Rattle.sdd_participants.specs.declared.participant.Participant.{Participant}
 use Rattle.sdd_participants.specs.declared.standing.Standing.TheVariants.{Owned, Raw, Shared, Private as privately}
 use Rattle.sdd_participants.specs.Collecting.{without}
 use Rattle.sdd_space.specs.Collecting.{collected, collector_closed, is_for, waiting_for, without_collector}

@@ -9,7 +9,7 @@ use Rattle.sdd_participants.specs.Waiting.{Waiting, anew, fresh, aged, left, due
 use Rattle.sdd_participants.specs.EpochState.{EpochState, IsLive, with_place, nobody, newcomer, is_open, rested}
 use Rattle.sdd_participants.specs.EpochState as time
 use Rattle.sdd_participants.specs.Collecting.{chosen_of, chosen_among, rest_of, without}
-use Rattle.sdd_participants.specs.declared.epoch_state.Participant.{Participant}
+use Rattle.sdd_participants.specs.declared.participant.Participant.{Participant}
 
 pub count-cons : {X : Type 0} (p : X → Bool) (x : X) (xs : List X) → count_by p (x ∷ xs) ≡ cond (p x) 1 0 + count_by p xs
 count-cons p x xs = sum_by-cons (λ x. cond (p x) 1 0) x xs

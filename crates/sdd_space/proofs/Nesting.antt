@@ -5,7 +5,7 @@ use Rattle.std.proofs.lemmas.Grind.{common_steps}
 use Rattle.std.proofs.lemmas.List.{length-set, set-set, get_or_past, get_or_push, get_or-set_same, get_or-set_other}
 use Rattle.sdd_participants.specs.Slab.{with_entry}
 use Rattle.sdd_participants.specs.declared.place_states.PlaceState.TheVariants.{Live}
-use Rattle.sdd_participants.specs.declared.epoch_state.Participant.{Participant}
+use Rattle.sdd_participants.specs.declared.participant.Participant.{Participant}
 use Rattle.sdd_participants.specs.EpochState as time
 use Rattle.sdd_participants.specs.EpochState.{EpochState, IsLive, KeepsPlaces, lives, nobody, newcomer, place_at, with_place, is_open, opened, caught_up}
 use Rattle.sdd_space.specs.ParticipantChanges.{closed_with}

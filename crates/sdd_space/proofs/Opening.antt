@@ -10,7 +10,7 @@ use Rattle.sdd_participants.specs.declared.waiting.LimboEntry.TheVariants.{Item,
 use Rattle.sdd_participants.specs.EpochState.{EpochState, with_place, nobody, due_next, is_open}
 use Rattle.sdd_participants.specs.EpochState as time
 use Rattle.sdd_participants.specs.Slab.{entry_at, without_entry}
-use Rattle.sdd_participants.specs.declared.epoch_state.Participant.{Participant}
+use Rattle.sdd_participants.specs.declared.participant.Participant.{Participant}
 use Rattle.sdd_participants.specs.declared.standing.Standing.{Standing}
 use Rattle.sdd_participants.specs.declared.standing.Standing.TheVariants.{Owned, Raw, Shared, Retired, Private as privately}
 use Rattle.sdd_standings.specs.Slots.{is_waiting}

@@ -25,7 +25,7 @@ use Rattle.std.proofs.Math.ListN.{get_or-append}
 use Rattle.sdd_space.proofs.Whole.{one_where, set-taken, below-or-past, append-last}
 use Rattle.sdd_participants.proofs.Adopting.{keeps-closed, same-or-not}
 use Rattle.std.proofs.lemmas.List.{length-set, get_or-set_same, get_or-set_other}
-use Rattle.sdd_participants.specs.declared.epoch_state.Participant.{Participant}
+use Rattle.sdd_participants.specs.declared.participant.Participant.{Participant}
 use Rattle.sdd_participants.specs.declared.tally.Tally.{Tally}
 
 module _ {T : Type 0} (holds : T → List OwnerOrCell) (p made in_place : ℕ) where

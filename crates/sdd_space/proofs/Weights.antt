@@ -13,7 +13,7 @@ use Rattle.sdd_participants.specs.EpochState.{waiting_count, nobody}
 use Rattle.sdd_participants.specs.EpochState as time
 use Rattle.sdd_participants.specs.PlaceStates.{is_live}
 use Rattle.sdd_participants.specs.declared.place_states.PlaceState.{PlaceState}
-use Rattle.sdd_participants.specs.declared.epoch_state.Participant.{Participant}
+use Rattle.sdd_participants.specs.declared.participant.Participant.{Participant}
 use Rattle.sdd_participants.specs.declared.standing.Standing.{Standing}
 use Rattle.sdd_participants.specs.declared.standing.Standing.TheVariants.{Shared, Retired}
 use Rattle.sdd_participants.specs.declared.standing.CellContents.{CellContents}

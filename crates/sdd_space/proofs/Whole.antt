@@ -18,8 +18,8 @@ use Rattle.sdd_participants.specs.EpochState as time
 use Rattle.sdd_participants.specs.Slab.{Entries, entry_at, without_entry}
 use Rattle.sdd_participants.specs.Tally.{one_in_place, one_made, one_reclaimed}
 use Rattle.sdd_participants.specs.declared.tally.Tally.{Tally}
-use Rattle.sdd_participants.specs.declared.epoch_state.Participant.{Participant}
-use Rattle.sdd_participants.specs.declared.epoch_state.CountdownState.{CountdownState}
+use Rattle.sdd_participants.specs.declared.participant.Participant.{Participant}
+use Rattle.sdd_participants.specs.declared.participant.CountdownState.{CountdownState}
 use Rattle.sdd_participants.specs.declared.standing.Standing.{Standing}
 use Rattle.sdd_participants.specs.declared.standing.Standing.TheVariants.{Owned, Raw, Shared, Retired, Private as privately}
 use Rattle.sdd_participants.specs.declared.standing.CellContents.{CellContents}

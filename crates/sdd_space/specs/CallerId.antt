@@ -1,7 +1,7 @@
 -- Who calls, and on which loan of which world or domain
 use Rattle.std.specs.Prelude.{ℕ, ◌<◌, Bool, true, false, IsTrue, List, length, slice_index_or}
 use Rattle.sdd_participants.specs.EpochState.{lives}
-use Rattle.sdd_participants.specs.declared.epoch_state.Participant.{Participant}
+use Rattle.sdd_participants.specs.declared.participant.Participant.{Participant}
 use Rattle.sdd_space.specs.World.{World}
 use Rattle.sdd_space.specs.OwnerOrCell.{SpaceId}
 use Rattle.sdd_space.specs.Guard.{ReaderId}

@@ -1,7 +1,7 @@
 -- What a participant knows of the count of epochs
 use Rattle.std.specs.Prelude.{ℕ, ◌+◌, ◌^◌, ◌<◌, ◌≤◌, ◌≡◌, ◌≢◌, ◌⊎◌, IsTrue}
 use Rattle.sdd_participants.specs.EpochState.{is_open}
-use Rattle.sdd_participants.specs.declared.epoch_state.Participant.{Participant}
+use Rattle.sdd_participants.specs.declared.participant.Participant.{Participant}
 
 pub record KnownEpochs : Type 0 where
   -- the greatest count that it was told

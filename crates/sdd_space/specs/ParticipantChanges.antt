@@ -5,7 +5,7 @@ use Rattle.sdd_participants.specs.Collecting.{without}
 use Rattle.sdd_participants.specs.declared.waiting.LimboEntry.{LimboEntry}
 use Rattle.sdd_participants.specs.declared.waiting.LimboEntry.TheVariants.{Item}
 use Rattle.sdd_participants.specs.EpochState.{is_open, nested, rotated, settled, awaiting, adopting, due_next, counted_down}
-use Rattle.sdd_participants.specs.declared.epoch_state.Participant.{Participant}
+use Rattle.sdd_participants.specs.declared.participant.Participant.{Participant}
 
 -- the items in these slots wait from now on, one after another
 abbrev pub all_awaiting : List ℕ → Participant → Participant

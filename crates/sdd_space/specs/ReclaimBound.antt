@@ -2,7 +2,7 @@
 use Rattle.std.specs.Prelude.{ℕ, ◌+◌, ◌-◌, ◌*◌, ◌^◌, ◌<◌, ◌≤◌, ◌≡◌, ◌≢◌, ◌⊎◌, Contains, IsTrue, List, None, if◌then◌else◌}
 use Rattle.sdd_participants.specs.Waiting.{having_seen}
 use Rattle.sdd_participants.specs.declared.waiting.LimboEntry.TheVariants.{Item}
-use Rattle.sdd_participants.specs.EpochState.{EpochState, finds_another, is_open, last_count}
+use Rattle.sdd_participants.specs.EpochState.{EpochState, finds_another, is_open, last_count, scan_period}
 use Rattle.sdd_participants.specs.EpochState as time
 use Rattle.sdd_space.specs.OwnerOrCell.{OwnerOrCell}
 use Rattle.sdd_space.specs.World.{World, AnyGuardOpen, IsPlaceOf, place_at, standing_at, value_at}
@@ -17,8 +17,8 @@ Waits w p k seen = Contains (place_at w p).bags.waiting (having_seen seen (Item 
 -- the next one is a change where another count is there to be found; else the holder first counts down to a scan
 abbrev pub left : EpochState → (holder seen : ℕ) → ℕ
 left t q seen =
-    if finds_another t q then 1 + 128 * (2 - seen)
-    else (time.place_at t q).countdown + (if is_open (time.place_at t q) then 1 else 2) + 128 * (2 - seen)
+    if finds_another t q then 1 + scan_period * (2 - seen)
+    else (time.place_at t q).countdown + (if is_open (time.place_at t q) then 1 else 2) + scan_period * (2 - seen)
 
 -- a scan of q can't raise the count: it is the last one, or another participant has a guard open
 abbrev pub IsHeldUp : {T : Type 0} → World T → ℕ → Type 0

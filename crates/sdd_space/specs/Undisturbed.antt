@@ -1,6 +1,6 @@
 -- What a call leaves alone of the participant that calls
 use Rattle.std.specs.Prelude.{ℕ, ◌≡◌}
-use Rattle.sdd_participants.specs.declared.epoch_state.Participant.{Participant}
+use Rattle.sdd_participants.specs.declared.participant.Participant.{Participant}
 use Rattle.sdd_space.specs.CallerId.{CallerId}
 use Rattle.sdd_space.specs.KnownEpochs.{KnownEpochs, KnowsOn}
 use Rattle.sdd_space.specs.Ptr.{KeepsShown}

@@ -3,12 +3,12 @@ use Rattle.std.specs.Prelude.{ℕ, ◌+◌, ◌^◌, ◌<◌, ◌≤◌, ◌≡�
 use Rattle.sdd_participants.specs.declared.waiting.LimboEntry.{LimboEntry}
 use Rattle.sdd_participants.specs.Waiting.{Waiting}
 use Rattle.sdd_participants.specs.declared.waiting.LimboEntry.TheVariants.{Item, Job}
-use Rattle.sdd_participants.specs.EpochState.{EpochState, is_open}
+use Rattle.sdd_participants.specs.EpochState.{EpochState, is_open, no_garbage}
 use Rattle.sdd_participants.specs.EpochState as time
 use Rattle.sdd_participants.specs.Slab.{entry_at}
 use Rattle.sdd_participants.specs.declared.place_states.PlaceState.TheVariants.{Live}
 use Rattle.sdd_participants.specs.declared.tally.Tally.{Tally}
-use Rattle.sdd_participants.specs.declared.epoch_state.Participant.{Participant}
+use Rattle.sdd_participants.specs.declared.participant.Participant.{Participant}
 use Rattle.sdd_standings.specs.Slots.{is_waiting}
 use Rattle.sdd_space.specs.World.{World, place_at, standing_at}
 
@@ -55,9 +55,9 @@ pub record KeepsUp (count : ℕ) (p : Participant) : Type 0 where
   pub near : IsTrue (is_open p) → count ≤ p.found + 1
   -- what waits with it has seen two changes at most
   pub young : All (λ (w : Waiting). w.seen ≤ 2) p.bags.waiting
-  pub countdown : p.countdown ≤ 128
-  -- at 128 nothing waits with it
-  pub quiet : p.countdown ≡ 128 → p.bags.waiting ≡ []
+  pub countdown : p.countdown ≤ no_garbage
+  -- without garbage nothing waits with it
+  pub quiet : p.countdown ≡ no_garbage → p.bags.waiting ≡ []
 
 -- each item that was made has its slot, was reclaimed, or was dropped in place; while the numbers have room
 abbrev pub IsCounted : Tally → ℕ → Type 0

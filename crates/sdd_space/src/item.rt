@@ -1,5 +1,5 @@
 ghost use Rattle.std.specs.Prelude.{◌≡◌, List, []};
-ghost use Rattle.sdd_participants.specs.declared.epoch_state.Participant.{Participant};
+ghost use Rattle.sdd_participants.specs.declared.participant.Participant.{Participant};
 ghost use Rattle.sdd_space.specs.OwnerOrCell.{OwnerOrCell, AreOf};
 ghost use Rattle.sdd_space.specs.World.{World};
 ghost use Rattle.sdd_space.specs.CallerId.{CallerId, IsSeated, IsExact};

@@ -11,8 +11,8 @@ use Rattle.sdd_participants.specs.declared.waiting.LimboEntry.TheVariants.{Item,
 use Rattle.sdd_participants.specs.EpochState.{without_waiting, EpochState, IsLive, with_place, nobody, pace_of, due_next, rotated}
 use Rattle.sdd_participants.specs.EpochState as time
 use Rattle.sdd_participants.specs.Slab.{entry_at}
-use Rattle.sdd_participants.specs.declared.epoch_state.Participant.{Participant}
-use Rattle.sdd_participants.specs.declared.epoch_state.CountdownState.{CountdownState}
+use Rattle.sdd_participants.specs.declared.participant.Participant.{Participant}
+use Rattle.sdd_participants.specs.declared.participant.CountdownState.{CountdownState}
 use Rattle.sdd_participants.specs.declared.standing.Standing.{Standing}
 use Rattle.sdd_participants.specs.declared.standing.Standing.TheVariants.{Shared, Retired}
 use Rattle.sdd_space.specs.World.{World, standing_at, place_at}

@@ -5,7 +5,7 @@ use Rattle.std.proofs.lemmas.List.{length-map}
 use Rattle.sdd_participants.specs.EpochState.{EpochState, nobody}
 use Rattle.sdd_participants.specs.EpochState as time
 use Rattle.sdd_participants.specs.Collecting.{without}
-use Rattle.sdd_participants.specs.declared.epoch_state.Participant.{Participant}
+use Rattle.sdd_participants.specs.declared.participant.Participant.{Participant}
 use Rattle.sdd_space.specs.OwnerOrCell.{OwnerOrCell}
 use Rattle.sdd_space.specs.Loans.{Loans}
 use Rattle.sdd_space.specs.World.{World, AnyGuardOpen, KeepsSizes, place_at}

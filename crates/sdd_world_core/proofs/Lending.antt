@@ -7,7 +7,7 @@ use Rattle.std.proofs.lemmas.List.{get_or-set_same, get_or-set_other, get_or_pas
 use Rattle.sdd_participants.specs.declared.waiting.LimboEntry.TheVariants.{Item}
 use Rattle.sdd_participants.specs.EpochState.{EpochState, IsVacant, IsLive, nobody, with_place, is_open}
 use Rattle.sdd_participants.specs.EpochState as time
-use Rattle.sdd_participants.specs.declared.epoch_state.Participant.{Participant}
+use Rattle.sdd_participants.specs.declared.participant.Participant.{Participant}
 use Rattle.sdd_participants.specs.declared.standing.Standing.{Standing}
 use Rattle.sdd_participants.specs.declared.standing.Standing.TheVariants.{Shared, Retired}
 use Rattle.sdd_values.specs.Block.{IsUnlent, IsFreeFor, lent, stake_at, unlent}

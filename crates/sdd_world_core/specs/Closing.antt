@@ -1,6 +1,6 @@
 -- What the closing of a world asks of its core
 use Rattle.std.specs.Prelude.{ℕ, All, IsNone}
-use Rattle.sdd_participants.specs.declared.epoch_state.CountdownState.{CountdownState}
+use Rattle.sdd_participants.specs.declared.participant.CountdownState.{CountdownState}
 use Rattle.sdd_participants.specs.EpochState.{paced_at}
 use Rattle.sdd_space.specs.World.{World}
 

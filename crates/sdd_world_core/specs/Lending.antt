@@ -3,7 +3,7 @@ use Rattle.std.specs.Prelude.{ℕ, ◌+◌, ◌-◌, ◌^◌, ◌<◌, ◌≤◌
 use Rattle.sdd_rights.specs.Units as token
 use Rattle.sdd_rights.specs.declared.fraction.Fraction.{Fraction}
 use Rattle.sdd_participants.specs.EpochState.{is_open}
-use Rattle.sdd_participants.specs.declared.epoch_state.Participant.{Participant}
+use Rattle.sdd_participants.specs.declared.participant.Participant.{Participant}
 use Rattle.sdd_values.specs.Block.{AllLent, settled}
 use Rattle.sdd_values.specs.ReadSections.{Kept, kept_at, whole}
 use Rattle.sdd_values.specs.declared.read_sections.SectionState.{SectionState}

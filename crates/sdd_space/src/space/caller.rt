@@ -1,5 +1,5 @@
 ghost use Rattle.std.specs.Prelude.{◌≡◌, ◌↔◌, ℕ, None, Some, length};
-ghost use Rattle.sdd_participants.specs.declared.epoch_state.Participant.{Participant};
+ghost use Rattle.sdd_participants.specs.declared.participant.Participant.{Participant};
 ghost use Rattle.sdd_space.specs.World.{World, place_at, standing_at, value_at};
 ghost use Rattle.sdd_space.specs.CallerId.{CallerId, IsExact};
 ghost use Rattle.sdd_space.specs.KnownEpochs.{KnownEpochs};

@@ -8,7 +8,7 @@ ghost use Rattle.sdd_values.specs.Block.{IsUnlent};
 ghost use Rattle.sdd_world_core.specs.Closing.{paced};
 
 use super::WorldCore;
-use sdd_participants::{CountdownState, Job, LimboEntry};
+use sdd_participants::{CountdownState, Job, LimboEntry, NO_GARBAGE};
 use sdd_space::Item;
 
 impl<T: Item<T>, J: Job> WorldCore<T, J> {
@@ -57,7 +57,7 @@ impl<T: Item<T>, J: Job> WorldCore<T, J> {
         let found = self.time.count();
         let pace = CountdownState {
             found,
-            countdown: 128,
+            countdown: NO_GARBAGE,
         };
         self.time.set_pace(place, pace);
     }

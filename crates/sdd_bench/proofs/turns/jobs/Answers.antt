@@ -1,5 +1,5 @@
 use Rattle.std.proofs.Common.{ap}
-use Rattle.sdd_participants.specs.declared.epoch_state.Participant.{Participant}
+use Rattle.sdd_participants.specs.declared.participant.Participant.{Participant}
 use Rattle.sdd_bench.proofs.Leaving.{as-many, as-much, in-turn, under-guard}
 use Rattle.sdd_bench.proofs.turns.jobs.Goals as goal
 

@@ -1,5 +1,5 @@
 use Rattle.std.proofs.Common.{◌≡◌, ◌≢◌, ℕ, true, false, List, sym, ap, ◌∙◌, subst, inl, inr, ⊎_elim}
-use Rattle.sdd_participants.specs.declared.epoch_state.Participant.{Participant}
+use Rattle.sdd_participants.specs.declared.participant.Participant.{Participant}
 use Rattle.sdd_participants.specs.EpochState.{nested, settled, rotated}
 use Rattle.sdd_participants.specs.Waiting.{Waiting, aged, left}
 use Rattle.sdd_domain.specs.BetweenCalls.{IsBetweenCalls}

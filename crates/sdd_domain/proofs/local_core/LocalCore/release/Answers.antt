@@ -10,7 +10,7 @@ use Rattle.sdd_rights.specs.Owner.{witness_of_owner}
 use Rattle.sdd_atomics.specs.DomainTable.{id_of, slots_of}
 use Rattle.sdd_rights.specs.Units.{GhostName}
 use Rattle.sdd_participants.specs.declared.waiting.LimboEntry.TheVariants.{Item}
-use Rattle.sdd_participants.specs.declared.epoch_state.Participant.{Participant}
+use Rattle.sdd_participants.specs.declared.participant.Participant.{Participant}
 use Rattle.sdd_participants.specs.Bags.{Bags}
 use Rattle.sdd_participants.specs.EpochState.{awaiting, with_garbage}
 use Rattle.sdd_domain.specs.BetweenCalls.{IsBetweenCalls, AreLentTo, IsTenureOf, IsReady}

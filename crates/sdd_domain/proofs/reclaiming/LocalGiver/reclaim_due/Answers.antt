@@ -1,5 +1,5 @@
 use Rattle.std.proofs.Common.{◌≡◌, List, [], None, Some, length, slice_index_or, sym, refl, ap, ◌∙◌, subst, arith}
-use Rattle.sdd_participants.specs.declared.epoch_state.Participant.{Participant}
+use Rattle.sdd_participants.specs.declared.participant.Participant.{Participant}
 use Rattle.sdd_participants.specs.declared.waiting.LimboEntry.{LimboEntry}
 use Rattle.sdd_participants.specs.Tally.{no_items}
 use Rattle.sdd_space.specs.KnownEpochs.{KnownEpochs, KnowsOn}

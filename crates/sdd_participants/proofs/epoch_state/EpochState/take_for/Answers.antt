@@ -2,7 +2,7 @@ use Rattle.std.proofs.Common.{◌<◌, ◌≤◌, ◌++◌, ap, ap₂, arith, le
 use Rattle.std.proofs.lemmas.List.{take_all}
 use Rattle.std.specs.Prelude.{sum_by}
 use Rattle.sdd_participants.specs.EpochState.{EpochState, waiting_count}
-use Rattle.sdd_participants.specs.declared.epoch_state.Participant.{Participant}
+use Rattle.sdd_participants.specs.declared.participant.Participant.{Participant}
 use Rattle.sdd_participants.specs.Collecting.{is_kept_for, chosen_of, chosen_among}
 use Rattle.sdd_participants.proofs.Collecting.{among-more, among-or-left, place-below, room-below, taken-all, taken-next}
 use Rattle.sdd_participants.proofs.epoch_state.EpochState.take_for.Goals as goal
