@@ -20,7 +20,7 @@ use Rattle.sdd_rights.specs.Units.{share_of, units}
 use Rattle.sdd_rights.proofs.Steps.{agreed, packs, apart_at, Meets}
 use Rattle.sdd_values.specs.Block.{IsFreeFor, lasts_in}
 use Rattle.sdd_shared_values.specs.ValueFractions.{FractionContent, unlent, settled, AllFreeFor, agreed_on, part, lent_out, tokens_of, holding, purse, tenure_shares}
-use Rattle.sdd_shared_values.specs.SharedValues.{full_shown, IsFull, state, rule}
+use Rattle.sdd_shared_values.specs.SharedValues.{full_shown, IsValueCode, state, rule}
 use Rattle.sdd_shared_values.proofs.Ghost.{lends, shows_in}
 
 abbrev pub lent_to : ℕ → FractionContent → FractionContent
@@ -107,11 +107,11 @@ module _ {M : Type 1} {𝓤 : Ura M} (𝓛 : Logic 𝓤) where
         (agreed 𝓛 γ i (agreed_on b w) (agreed_on a g) r q) $ learn ! (λ same. check ! same $ split ! $
         use1 𝓛 (‵ (U b w 1)) (packs 𝓛 γ i (agreed_on b w) 1 r c) $ done !)))
 
-    module _ (a : ℕ) (g : Gv) (S : Fml) (full : IsFull g) (agrees : Agrees a g S) where
-      other : (b : ℕ) (w : Gv) → (IsFull w → ⊥) → (Z : Pr) → ⟦ part γ i b w 1 ⟧ ∗ ⟦ S ⟧ ⊢ Z
+    module _ (a : ℕ) (g : Gv) (S : Fml) (full : IsValueCode g) (agrees : Agrees a g S) where
+      other : (b : ℕ) (w : Gv) → (IsValueCode w → ⊥) → (Z : Pr) → ⟦ part γ i b w 1 ⟧ ∗ ⟦ S ⟧ ⊢ Z
       other b w not_full Z = qed 𝓛 (‵ (part γ i b w 1) ∷ ‵ S ∷ []) ∵ fsplit ! $ move ! (0 ∷ 2 ∷ []) $
           use2 𝓛 (given (agreed_on b w ≡ agreed_on a g) (‵ (U b w 1) ⊛ ‵ S)) (agrees b w) $ learn ! (λ met.
-          absurd (not_full (subst IsFull (let same = (coded× coded_ℕ itself).inj (b, w) (a, g) met in sym (λ j. (same j).1)) full)))
+          absurd (not_full (subst IsValueCode (let same = (coded× coded_ℕ itself).inj (b, w) (a, g) met in sym (λ j. (same j).1)) full)))
 
       looks_in : (v : Option (Option (ℕ × X))) → ⟦ st v ⟧ ∗ ⟦ S ⟧ ⊢ upd 𝓤 (⟦ I ⟧ ∗ ex 𝓤 (Told a g S))
       looks_in None = qed 𝓛 (‵ (st None) ∷ ‵ S ∷ []) ∵ fpick ! (λ b. by ! (other b (gnum 0) (λ z. z) _))
@@ -132,10 +132,10 @@ module _ {M : Type 1} {𝓤 : Ura M} (𝓛 : Logic 𝓤) where
       looks_by : A.inv I ∗ ⟦ S ⟧ ⊢ H.⇛ (ex 𝓤 (Told a g S))
       looks_by = inside ⟦ S ⟧ (ex 𝓤 (Told a g S)) looks_in
 
-    pub looks : (a : ℕ) (g : Gv) (n : ℕ) → IsFull g → A.inv I ∗ ⟦ U a g n ⟧ ⊢ H.⇛ (ex 𝓤 (Told a g (U a g n)))
+    pub looks : (a : ℕ) (g : Gv) (n : ℕ) → IsValueCode g → A.inv I ∗ ⟦ U a g n ⟧ ⊢ H.⇛ (ex 𝓤 (Told a g (U a g n)))
     looks a g n full = looks_by a g (U a g n) full (units_agree a g n)
 
-    pub looks_at_share : (a : ℕ) (g : Gv) (q : Share) → IsFull g →
+    pub looks_at_share : (a : ℕ) (g : Gv) (q : Share) → IsValueCode g →
         A.inv I ∗ ⟦ share_of γ i (agreed_on a g) q ⟧ ⊢ H.⇛ (ex 𝓤 (Told a g (share_of γ i (agreed_on a g) q)))
     looks_at_share a g q full = looks_by a g (share_of γ i (agreed_on a g) q) full (share_agrees a g q)
 
@@ -147,7 +147,7 @@ module _ {M : Type 1} {𝓤 : Ura M} (𝓛 : Logic 𝓤) where
     abbrev pub Seen : List FractionContent → ℕ → ℕ → FractionContent → Lft → X → Pr
     Seen hs n τ h κ x = guard 𝓤 (Tells h.shown x) (⟦ lent_at R p x κ ⟧ ∗ ⟦ purse (set hs n (lent_to τ h)) ⟧)
 
-    pub shows_now : (hs : List FractionContent) (n τ : ℕ) (h : FractionContent) (κ : Lft) → get_elem? hs n ≡ some h → h.book ≡ γ → h.number ≡ i → IsFull h.shown → IsFreeFor τ h.lent
+    pub shows_now : (hs : List FractionContent) (n τ : ℕ) (h : FractionContent) (κ : Lft) → get_elem? hs n ≡ some h → h.book ≡ γ → h.number ≡ i → IsValueCode h.shown → IsFreeFor τ h.lent
         → A.inv I ∗ ⟦ purse hs ⟧ ∗ ⟦ tenure_shares τ κ ⟧ ⊢ H.⇛ (ex 𝓤 (Seen hs n τ h κ))
     shows_now hs n τ h κ at of is full free = let a : ℕ = h.round in let g : Gv = h.shown in let k : ℕ = h.units in let h' : FractionContent = lent_to τ h in
         qed 𝓛 (‵ (finv I) ∷ ‵ (purse hs) ∷ ‵ (tenure_shares τ κ) ∷ []) ∵ updating ! $ move ! (1 ∷ []) $
@@ -167,7 +167,7 @@ module _ {M : Type 1} {𝓤 : Ura M} (𝓛 : Logic 𝓤) where
     abbrev pub Shows : FractionContent → Lft → X → Pr
     Shows h κ x = guard 𝓤 (Tells h.shown x) ⟦ lent_at R p x κ ⟧
 
-    pub shows_beside : (hs : List FractionContent) (n τ : ℕ) (h : FractionContent) (κ : Lft) → get_elem? hs n ≡ some h → h.book ≡ γ → h.number ≡ i → IsFull h.shown → IsFreeFor τ h.lent
+    pub shows_beside : (hs : List FractionContent) (n τ : ℕ) (h : FractionContent) (κ : Lft) → get_elem? hs n ≡ some h → h.book ≡ γ → h.number ≡ i → IsValueCode h.shown → IsFreeFor τ h.lent
         → ⟦ purse hs ⟧ ∗ (A.inv I ∗ ⟦ tenure_shares τ κ ⟧) ⊢ H.⇛ (⟦ purse (set hs n (lent_to τ h)) ⟧ ∗ ex 𝓤 (Shows h κ))
     shows_beside hs n τ h κ at of is full free = qed 𝓛 (‵ (purse hs) ∷ ‵ (finv I) ∷ ‵ (tenure_shares τ κ) ∷ []) ∵ updating ! $ move ! (1 ∷ 0 ∷ 2 ∷ []) $
         use3 𝓛 (later (exists (λ (x : X). given (Tells h.shown x) (‵ (lent_at R p x κ) ⊛ ‵ (purse (set hs n (lent_to τ h)))))))

@@ -21,7 +21,7 @@ use Rattle.sdd_rights.specs.Units.{units, tokens, share_of}
 use Rattle.sdd_rights.proofs.Steps.{apart_at, joins, splits, whole_out, whole_in, resets_now, tokens_in, tokens_cut, tokens_glue, Meets}
 use Rattle.sdd_rights.proofs.Counting.{counts-whole}
 use Rattle.sdd_shared_values.specs.ValueFractions.{agreed_on, part}
-use Rattle.sdd_shared_values.specs.SharedValues.{full_shown, IsFull, vacancy, state, rule, most}
+use Rattle.sdd_shared_values.specs.SharedValues.{full_shown, IsValueCode, vacancy, state, rule, most}
 
 abbrev IsOut : Gv → Type 0
 IsOut gnil = ⊥
@@ -104,12 +104,12 @@ module _ {M : Type 1} {𝓤 : Ura M} (𝓛 : Logic 𝓤) where
       TakenOut a g b x = guard 𝓤 ((g ≡ full_shown (R.coded.code x)) × FitsIn x) (⟦ U (agreed_on b (gnum 0)) most ⟧ ∗ ⟦ tokens a (2 ^ 63) ⟧ ∗ ⟦ flent (a ∷ [])
           (lies_at R full_share p x) ⟧)
 
-      takes_in : (a : ℕ) (g : Gv) (b : ℕ) → IsFull g → (v : St)
+      takes_in : (a : ℕ) (g : Gv) (b : ℕ) → IsValueCode g → (v : St)
           → ⟦ st v ⟧ ∗ (⟦ U (agreed_on a g) most ⟧ ∗ ⟦ tokens a most ⟧ ∗ ⟦ tokens b 1 ⟧) ⊢ upd 𝓤 (⟦ I ⟧ ∗ ex 𝓤 (TakenOut a g b))
       takes_in a g b full None = qed 𝓛 (‵ (st None) ∷ ‵ (U (agreed_on a g) most) ∷ ‵ (tokens a most) ∷ ‵ (tokens b 1) ∷ []) ∵
-          fpick ! (λ c. keep ! (0 ∷ 1 ∷ []) $ by ! (differ a c g (gnum 0) IsFull full (λ z. z) _))
+          fpick ! (λ c. keep ! (0 ∷ 1 ∷ []) $ by ! (differ a c g (gnum 0) IsValueCode full (λ z. z) _))
       takes_in a g b full (Some None) = qed 𝓛 (‵ (st (Some None)) ∷ ‵ (U (agreed_on a g) most) ∷ ‵ (tokens a most) ∷ ‵ (tokens b 1) ∷ []) ∵
-          fpick ! (λ c. fsplit ! $ keep ! (0 ∷ 2 ∷ []) $ by ! (differ a c g gnil IsFull full (λ z. z) _))
+          fpick ! (λ c. fsplit ! $ keep ! (0 ∷ 2 ∷ []) $ by ! (differ a c g gnil IsValueCode full (λ z. z) _))
       takes_in a g b full (Some (Some v)) = let c : ℕ = v.0 in let x : X = v.1 in let w : Gv = full_shown (R.coded.code x) in
           let Z : Pr = ⟦ I ⟧ ∗ ex 𝓤 (TakenOut a g b) in let h : Gv = agreed_on b (gnum 0) in
           qed 𝓛 (‵ (st (Some (Some v))) ∷ ‵ (U (agreed_on a g) most) ∷ ‵ (tokens a most) ∷ ‵ (tokens b 1) ∷ []) ∵ fsplit ! $ fpick ! (λ fits. drop ! $
@@ -128,7 +128,7 @@ module _ {M : Type 1} {𝓤 : Ura M} (𝓛 : Logic 𝓤) where
           move ! (1 ∷ 2 ∷ []) $ use2 𝓛 (‵ (tokens a (1 + most))) (tokens_glue 𝓛 a 1 most (omega arith) (omega arith)) $
           rewrite ! 0 (λ (m : ℕ). ‵ (tokens a m)) (let e : 1 + most ≡ 2 ^ 63 = omega arith in e) refl $ done !))
 
-      pub takes_out : (a : ℕ) (g : Gv) (b : ℕ) → IsFull g
+      pub takes_out : (a : ℕ) (g : Gv) (b : ℕ) → IsValueCode g
           → A.inv I ∗ (⟦ U (agreed_on a g) most ⟧ ∗ ⟦ tokens a most ⟧ ∗ ⟦ tokens b 1 ⟧) ⊢ H.⇛ (ex 𝓤 (TakenOut a g b))
       takes_out a g b full = inside (⟦ U (agreed_on a g) most ⟧ ∗ ⟦ tokens a most ⟧ ∗ ⟦ tokens b 1 ⟧) (ex 𝓤 (TakenOut a g b)) (takes_in a g b full)
 

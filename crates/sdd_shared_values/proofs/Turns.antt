@@ -7,7 +7,7 @@ use denote.RattleType.{RattleType}
 use Rattle.sdd_values.specs.Block.{IsFreeFor}
 use Rattle.sdd_shared_values.specs.ValueFractions.{FractionContent, unlent, settled, AllFreeFor}
 use Rattle.sdd_shared_values.specs.CarriedFractions.{lots, plain, OnlyLends}
-use Rattle.sdd_shared_values.specs.SharedValues.{units_in, showing, IsFull, CanShow, HasFractionShowing, AreUnlentFractions, AllOf, AreWhole, HasWhole, turned, top_turned, all_turned}
+use Rattle.sdd_shared_values.specs.SharedValues.{units_in, showing, IsValueCode, CanShow, HasFractionShowing, AreUnlentFractions, AllOf, AreWhole, HasWhole, turned, top_turned, all_turned}
 use Rattle.sdd_shared_values.specs.declared.value_fraction.ValueFraction.{ValueFraction}
 use Rattle.sdd_shared_values.proofs.Carried.{lots_with, lots_long, same_length}
 use Rattle.sdd_shared_values.proofs.Collect.{top_long}
@@ -53,7 +53,7 @@ shows-again γ i t xs ys can free only = let h : FractionContent = can.one in le
       there = u.there;
       of_book = ap (λ (l : FractionContent). l.book) e ∙ can.of_book;
       of_number = ap (λ (l : FractionContent). l.number) e ∙ can.of_number;
-      full = subst IsFull (sym (ap (λ (l : FractionContent). l.shown) e)) can.full;
+      full = subst IsValueCode (sym (ap (λ (l : FractionContent). l.shown) e)) can.full;
       free = free_at t (lots ys) k u.one (only.1 free) u.there;
     }
 
@@ -119,7 +119,7 @@ first_of (suc n) [] h rest e = absurd (subst (λ (l : List FractionContent). len
 first_of (suc n) (x ∷ hs) h rest e = ap (λ (l : List FractionContent). get_elem? l 0) e
 
 -- a seat that has all units of a full number can show its value
-pub whole-shows : (γ i n t : ℕ) (hs : List FractionContent) → HasWhole γ i n IsFull hs → CanShow γ i t hs
+pub whole-shows : (γ i n t : ℕ) (hs : List FractionContent) → HasWhole γ i n IsValueCode hs → CanShow γ i t hs
 whole-shows γ i n t hs has = let h : FractionContent = has.newest in let e = (subst (AreUnlentFractions γ i) has.there has.parts).0 in
     record {
       place = 0;

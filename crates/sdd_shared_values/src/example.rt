@@ -2,7 +2,7 @@
 ghost use Rattle.std.specs.Prelude.{◌≡◌, ◌<◌, ℕ, None, length};
 ghost use Rattle.sdd_shared_values.specs.ValueFractions.{AllFreeFor};
 ghost use Rattle.sdd_shared_values.specs.CarriedFractions.{lots, plain};
-ghost use Rattle.sdd_shared_values.specs.SharedValues.{CanShow, HasFractionShowing, showing, IsFull, IsNoValueCode, HasWhole, vacant, all_turned};
+ghost use Rattle.sdd_shared_values.specs.SharedValues.{CanShow, HasFractionShowing, showing, IsValueCode, IsNoValueCode, HasWhole, vacant, all_turned};
 
 use crate::seats::settle;
 use crate::shared_values::{SharedValues, ValueInvariant};
@@ -71,7 +71,7 @@ pub fn takes_what_was_shown<T, F: ValueInvariant<T>, V, K, P: TableRule<ValueFra
     requires table { seat.old.table_id ≡ table.now.table_id }
     requires inside { at < shelf.now.size }
     requires free { AllFreeFor ended.now.name (lots seat.old.me.1) }
-    requires whole { HasWhole shelf.now.book at count IsFull (lots (plain seat.old.me.1)) }
+    requires whole { HasWhole shelf.now.book at count IsValueCode (lots (plain seat.old.me.1)) }
     ensures seat { (round : ℕ) × (seat.new ≡ record seat.old { me = (seat.old.me.0, all_turned round vacant count (plain seat.old.me.1)) }) }
 {
     settle(seat, table, ended);
@@ -106,7 +106,7 @@ pub fn views_by_a_grip<T: Copy, F: ValueInvariant<T>>(
     requires inside { at < shelf.now.size }
     requires book { stake.old.lot.book ≡ shelf.now.book }
     requires number { stake.old.lot.number ≡ at }
-    requires full { IsFull stake.old.lot.shown }
+    requires full { IsValueCode stake.old.lot.shown }
     requires more { 1 < stake.old.lot.units }
     requires free { stake.old.lot.lent ≡ None }
     ensures value { stake.old.lot.shown ≡ showing T.row result.0 }
@@ -137,8 +137,8 @@ pub fn counts_down<V, K, P: TableRule<ValueFraction, V, K>>(
 )
     requires table { seat.old.table_id ≡ table.now.table_id }
     requires inside { at < shelf.now.size }
-    requires whole { HasWhole shelf.now.book at count IsFull (lots seat.old.me.1) }
-    ensures { HasWhole shelf.now.book at count IsFull (lots seat.new.me.1) }
+    requires whole { HasWhole shelf.now.book at count IsValueCode (lots seat.old.me.1) }
+    ensures { HasWhole shelf.now.book at count IsValueCode (lots seat.new.me.1) }
 {
     let number = shelf.take(at, seat, table, count);
     let next = number.saturating_sub(1);

@@ -2,7 +2,7 @@
 ghost use Rattle.std.specs.Prelude.{◌≡◌, ◌<◌, ℕ};
 ghost use Rattle.atomic_table.specs.Seated.{TableId, table_id_coded};
 ghost use Rattle.sdd_shared_values.specs.CarriedFractions.{lots, OnlyLends};
-ghost use Rattle.sdd_shared_values.specs.SharedValues.{shelf_owns, shelf_shares, CanShow, HasFractionShowing, IsFull, IsNoValueCode, HasWhole, AreWhole, showing, vacant, all_turned, AreVacant};
+ghost use Rattle.sdd_shared_values.specs.SharedValues.{shelf_owns, shelf_shares, CanShow, HasFractionShowing, IsValueCode, IsNoValueCode, HasWhole, AreWhole, showing, vacant, all_turned, AreVacant};
 
 use crate::fraction_list::FractionList;
 use crate::unused_memory::UnusedMemory;
@@ -118,7 +118,7 @@ impl<T, F: ValueInvariant<T>> SharedValues<T, F> {
     ) -> T
         requires table { seat.old.table_id ≡ table.now.table_id }
         requires inside { at < self.now.size }
-        requires whole { HasWhole self.now.book at count IsFull (lots seat.old.me.1) }
+        requires whole { HasWhole self.now.book at count IsValueCode (lots seat.old.me.1) }
         ensures seat { (round : ℕ) × (seat.new ≡ record seat.old { me = (seat.old.me.0, all_turned round vacant count seat.old.me.1) }) }
         ensures value { (round : ℕ) × AreWhole self.now.book at round (showing T.row result) count (lots seat.old.me.1) }
         ensures fits { F.fits self.now.table self.now.book self.now.size result }

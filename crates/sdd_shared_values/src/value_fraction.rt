@@ -21,7 +21,7 @@ impl Model for ValueFraction {
 }
 
 impl ValueFraction {
-    ghost use Rattle.sdd_shared_values.specs.SharedValues.{IsFull};
+    ghost use Rattle.sdd_shared_values.specs.SharedValues.{IsValueCode};
     ghost use Rattle.sdd_shared_values.specs.ReadFractions.{lot_of};
     ghost use Rattle.sdd_shared_values.specs.Bank.{AllowsDeal, Comes};
 
@@ -78,7 +78,7 @@ impl ValueFraction {
 
     /// One unit of a full place's number, as its owner's grip.
     pub fn into_grip(self) -> ReadFraction
-        requires full { IsFull self.lot.shown }
+        requires full { IsValueCode self.lot.shown }
         requires one { self.lot.units ≡ 1 }
         requires free { self.lot.lent ≡ None }
         ensures { lot_of result ≡ self.lot }

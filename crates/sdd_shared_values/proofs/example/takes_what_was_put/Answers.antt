@@ -2,7 +2,7 @@ use Rattle.std.proofs.Common.{◌≡◌, sym, subst, refl}
 use Rattle.sdd_shared_values.specs.ValueFractions.{AllFreeFor}
 use base.Stored.{Gv}
 use Rattle.sdd_shared_values.specs.CarriedFractions.{lots}
-use Rattle.sdd_shared_values.specs.SharedValues.{showing, IsNoValueCode, IsFull, HasWhole}
+use Rattle.sdd_shared_values.specs.SharedValues.{showing, IsNoValueCode, IsValueCode, HasWhole}
 use Rattle.sdd_shared_values.proofs.Turns.{Carries, put-whole, put-free, whole-shows, whole-settled, same-value}
 use Rattle.sdd_shared_values.proofs.example.takes_what_was_put.Goals as goal
 
@@ -10,7 +10,7 @@ use Rattle.sdd_shared_values.proofs.example.takes_what_was_put.Goals as goal
 pub show-shown-requires-clause-stake : goal.show-shown-requires-clause-stake
 show-shown-requires-clause-stake g c = let put = c.put.ensures.seat in let γ = c.args.shelf.now.book in let i = c.args.at in let n = c.args.count in
     let ys = c.put.new.seat.me.1 in whole-shows γ i n c.args.tenure.now.round (lots ys)
-    (put-whole γ i n (showing g.row.T c.args.value) IsNoValueCode IsFull c.args.seat.now.me.1 ys tt c.requires.whole (put.0, λ j. (put.1 j).me.1))
+    (put-whole γ i n (showing g.row.T c.args.value) IsNoValueCode IsValueCode c.args.seat.now.me.1 ys tt c.requires.whole (put.0, λ j. (put.1 j).me.1))
 
 -- src/example.rt:58:5
 pub settle-requires-clause-lent : goal.settle-requires-clause-lent
@@ -25,9 +25,9 @@ settle-requires-clause-lent g c = let put = c.put.ensures.seat in let zs = c.sho
 pub take-requires-clause-whole : goal.take-requires-clause-whole
 take-requires-clause-whole g c = let put = c.put.ensures.seat in let γ = c.args.shelf.now.book in let i = c.args.at in let n = c.args.count in
     let ys = c.put.new.seat.me.1 in
-    subst (λ (zs : Carries). HasWhole γ i n IsFull (lots zs)) (sym (λ j. (c.settle.ensures j).me.1))
-    (whole-settled γ i n IsFull ys c.show-shown.new.seat.me.1 c.show-shown.ensures.lent.0
-    (put-whole γ i n (showing g.row.T c.args.value) IsNoValueCode IsFull c.args.seat.now.me.1 ys tt c.requires.whole (put.0, λ j. (put.1 j).me.1)))
+    subst (λ (zs : Carries). HasWhole γ i n IsValueCode (lots zs)) (sym (λ j. (c.settle.ensures j).me.1))
+    (whole-settled γ i n IsValueCode ys c.show-shown.new.seat.me.1 c.show-shown.ensures.lent.0
+    (put-whole γ i n (showing g.row.T c.args.value) IsNoValueCode IsValueCode c.args.seat.now.me.1 ys tt c.requires.whole (put.0, λ j. (put.1 j).me.1)))
 
 -- src/example.rt:38:1
 pub returns : goal.returns

@@ -23,7 +23,7 @@ use denote.Memory.{mem}
 use types.Run.{size_lit}
 use Rattle.core.proofs.ptr.Rows.{times_below, one_below}
 use Rattle.core.proofs.slots.Bodies.{after}
-use Rattle.sdd_shared_values.specs.SharedValues.{full_shown, IsFull, rule, shelf_shares, most, AreWhole, HasWhole, top_turned}
+use Rattle.sdd_shared_values.specs.SharedValues.{full_shown, IsValueCode, rule, shelf_shares, most, AreWhole, HasWhole, top_turned}
 use Rattle.atomic_table.specs.contracts.shared.Shared as table
 use Rattle.atomic_table.specs.contracts.shared.Seat as seat
 use Rattle.sdd_shared_values.specs.contracts.value_fraction.ValueFraction as stake
@@ -87,7 +87,7 @@ take_spec 𝓤 𝓛 𝓜 𝓡 wired T F V K P L _ _ _ _ gF dF g d _ _ =
     let others : Fml = fsep (flft κs.1.1.1.0 qs.1.1.1.0) (fsep (flft κs.1.1.1.1.0 qs.1.1.1.1.0) (fsep (flft κs.1.1.1.1.1.0 qs.1.1.1.1.1.0)
     (fsep (flft κs.1.1.1.1.1.1.0 qs.1.1.1.1.1.1.0) (fsep (flft κs.1.1.1.1.1.1.1.0 qs.1.1.1.1.1.1.1.0) ftrue)))) in
     let Fit : T.Denot → Type 0 = gF.fits f.table γ N in
-    let AtTable : Type 0 = s.table_id ≡ z in let Inside : Type 0 = i < N in let All : Type 0 = HasWhole γ i k IsFull hold in
+    let AtTable : Type 0 = s.table_id ≡ z in let Inside : Type 0 = i < N in let All : Type 0 = HasWhole γ i k IsValueCode hold in
     let y : (walk_of 𝓛 En hs c).Ghost = (
       (
         κs,
