@@ -9,7 +9,7 @@ use base.Stored.{Gv}
 use Rattle.sdd_shared_values.specs.ValueFractions.{FractionContent, AllFreeFor, unlent}
 use Rattle.sdd_shared_values.specs.CarriedFractions.{lots, plain, OnlyLends}
 use Rattle.sdd_shared_values.specs.declared.value_fraction.ValueFraction.{ValueFraction}
-use Rattle.sdd_shared_values.specs.SharedValues.{most, IsFull, IsNoValueCode, CanShow, HasFractionShowing, HasWhole, AreWhole, all_turned}
+use Rattle.sdd_shared_values.specs.SharedValues.{most, IsValueCode, IsNoValueCode, CanShow, HasFractionShowing, HasWhole, AreWhole, all_turned}
 use Rattle.sdd_views.specs.declared.ShownValue.{ShownValue}
 use Rattle.sdd_views.specs.declared.View.{View}
 use Rattle.sdd_word_invariant.specs.SlotSteps.{given_back, Knew, LooksAtSlot}
@@ -41,12 +41,12 @@ module _ (γ i n k : ℕ) (count : k ≡ n + 1) where
   row_after Is Js g a rest xs ys so row e = all_after γ i n 0 Is Js g rest xs ys so row (a, e ∙ ap (λ (k : ℕ). all_turned a g k xs) as_many)
 
 -- stakes that show a value show that the place is full
-row_full : (γ i n o m : ℕ) (g : Gv) (rest xs : CarriedFractions) → CarriesFirst γ i n o (IsValue g) rest m xs → CarriesFirst γ i n o IsFull rest m xs
+row_full : (γ i n o m : ℕ) (g : Gv) (rest xs : CarriedFractions) → CarriesFirst γ i n o (IsValue g) rest m xs → CarriesFirst γ i n o IsValueCode rest m xs
 row_full γ i n o zero g rest xs row = row
 row_full γ i n o (suc m) g rest [] row = row
 row_full γ i n o (suc m) g rest (x ∷ xs) row = (row.0, (row.1.0, row.1.1.0), row_full γ i n o m g rest xs row.2)
 
-pub all_full : (γ i n : ℕ) (g : Gv) (rest xs : CarriedFractions) → CarriesAll γ i n 0 (IsValue g) rest xs → CarriesAll γ i n 0 IsFull rest xs
+pub all_full : (γ i n : ℕ) (g : Gv) (rest xs : CarriedFractions) → CarriesAll γ i n 0 (IsValue g) rest xs → CarriesAll γ i n 0 IsValueCode rest xs
 all_full γ i n g rest xs row = row_full γ i n 0 (suc n) g rest xs row
 
 -- the value that is moved out is the one that they show

@@ -4,7 +4,7 @@ use Rattle.std.specs.Prelude.{Bool, None}
 use base.Stored.{Gv}
 use Rattle.atomic_table.specs.declared.shared.Seat.{Seat}
 use Rattle.sdd_shared_values.specs.declared.value_fraction.ValueFraction.{ValueFraction}
-use Rattle.sdd_shared_values.specs.SharedValues.{IsFull, IsNoValueCode, all_turned}
+use Rattle.sdd_shared_values.specs.SharedValues.{IsValueCode, IsNoValueCode, all_turned}
 use Rattle.sdd_views.specs.declared.Sizes.{Sizes}
 use Rattle.sdd_views.specs.declared.View.{View}
 use Rattle.sdd_word_invariant.specs.SlotSteps.{first, others}
@@ -40,7 +40,7 @@ pub record IsFurnished (n slot : ℕ) (shared : Bool) (value : Gv) (s t : Seat V
 -- so it is after the value was moved in, all units but those of the stakes were cut off, and the step that tells of it
 module _ (b : DomainTable) (slot count : ℕ) (shared : Bool) (value : Gv) (s p c t : Seat ValueFraction View) (knows : Knows b s) (all : count ≡ places_of b + 1)
     (moves : Moves (view s) slot)
-    (rest : CarriedFractions) (row : CarriesAll (book_of b) slot (places_of b) 0 IsNoValueCode rest s.me.1) (a : ℕ) (full : IsFull value)
+    (rest : CarriedFractions) (row : CarriesAll (book_of b) slot (places_of b) 0 IsNoValueCode rest s.me.1) (a : ℕ) (full : IsValueCode value)
     (put : p ≡ record s { me = (s.me.0, all_turned a value count s.me.1) }) where
   pub row_put : CarriesAll (book_of b) slot (places_of b) 0 (IsValue value) rest p.me.1
   row_put = row_after (book_of b) slot (places_of b) count all IsNoValueCode (IsValue value) value a rest s.me.1 p.me.1 (full, refl) row

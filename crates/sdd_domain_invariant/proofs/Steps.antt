@@ -11,7 +11,7 @@ use base.Stored.{Gv}
 use Rattle.std.proofs.lemmas.List.{get_or_past}
 use Rattle.atomic_table.specs.Table.{State, keeps, takes, Allows, carried_after, homes_after}
 use Rattle.atomic_table.proofs.Lists.{at_map, exchanged, set_again}
-use Rattle.sdd_shared_values.specs.SharedValues.{IsFull, IsNoValueCode, lot}
+use Rattle.sdd_shared_values.specs.SharedValues.{IsValueCode, IsNoValueCode, lot}
 use Rattle.sdd_shared_values.specs.declared.value_fraction.ValueFraction.{ValueFraction}
 use Rattle.sdd_views.specs.declared.ShownValue.{ShownValue}
 use Rattle.sdd_views.specs.declared.EndedView.{EndedView}
@@ -531,7 +531,7 @@ module _ (slots id : ℕ) (me : SeatState) (live : HasPlace me.0.epoch) where
         (λ same. ap (drawn_at slot) (one_view s.views id j u v e at (sym same)) ∙ ap (times slot) empty)
         (λ ne. let low = h.bank.low j u e slot in
         let both = owners_in codes sound sizes s.words s.views p.slots id j slot v u ne at e in omega arith)) in
-        moves_out bd s b h at there bank ne rests filled undrawn IsFull (λ q y _ _ sh. sh.0 filled) (inl own)
+        moves_out bd s b h at there bank ne rests filled undrawn IsValueCode (λ q y _ _ sh. sh.0 filled) (inl own)
         (holding.unseen_held codes sound sizes s.words s.views p.slots id v at p.epoch slot held all)
         (λ j u e ne. still_owned γ sizes s h slot id j v u at e ne (omega arith))
         w.stakes refl refl refl refl (held_tells v tells slot owns rests (none_waits γ sizes s h slot id v at own id v at))

@@ -4,7 +4,7 @@ use Rattle.std.specs.List.{filter}
 use base.Stored.{Gv}
 use Rattle.atomic_table.specs.Table.{Me}
 use Rattle.sdd_shared_values.specs.ValueFractions.{FractionContent}
-use Rattle.sdd_shared_values.specs.SharedValues.{IsFull, IsNoValueCode, lot}
+use Rattle.sdd_shared_values.specs.SharedValues.{IsValueCode, IsNoValueCode, lot}
 use Rattle.sdd_shared_values.specs.declared.value_fraction.ValueFraction.{ValueFraction}
 use Rattle.sdd_views.specs.declared.ShownValue.{ShownValue}
 use Rattle.sdd_views.specs.declared.CountsView.{CountsView}
@@ -35,7 +35,7 @@ CarriesAll γ i n o Is rest xs = CarriesFirst γ i n o Is rest (suc n) xs
 
 -- a value that is shown, and it is this one
 abbrev pub IsValue : Gv → Gv → Type 0
-IsValue value g = IsFull g × (g ≡ value)
+IsValue value g = IsValueCode g × (g ≡ value)
 
 -- the stakes of the place q in the slots of these records, in this order, each of which shows what its record says
 abbrev pub CarriesSeen : ℕ → ℕ → ℕ → List ShownValue → CarriedFractions → Type 0
@@ -166,7 +166,7 @@ pub record TakesOut (slot : ℕ) (me me' : SeatState) : Type 0 where
 
 -- the same of an item whose slot is held: its owner knows no more what it shows
 abbrev pub TakesHeld : ℕ → SeatState → SeatState → Type 0
-TakesHeld slot me me' = (me'.0 ≡ moving slot (untold me.0)) × CarriesAll (book_of me) slot (places_of me) (spare (places_of me)) IsFull me.1 me'.1
+TakesHeld slot me me' = (me'.0 ≡ moving slot (untold me.0)) × CarriesAll (book_of me) slot (places_of me) (spare (places_of me)) IsValueCode me.1 me'.1
 
 -- the lot is all that the bank had of the slot
 abbrev pub IsDeposit : ℕ → SeatState → FractionContent → Type 0

@@ -8,7 +8,7 @@ use prog.Atomic.{either}
 use base.Stored.{Gv}
 use Rattle.core.specs.Mem.Slots.{slots_items, slots_filled, slots_len}
 use Rattle.atomic_table.specs.declared.owned.Closed.{Closed}
-use Rattle.sdd_shared_values.specs.SharedValues.{IsFull, IsNoValueCode, most, lot}
+use Rattle.sdd_shared_values.specs.SharedValues.{IsValueCode, IsNoValueCode, most, lot}
 use Rattle.sdd_shared_values.specs.declared.value_fraction.ValueFraction.{ValueFraction}
 use Rattle.sdd_views.specs.declared.View.{View}
 use Rattle.sdd_views.specs.declared.Sizes.{Sizes}
@@ -54,7 +54,7 @@ Has γ i units Is y = (y.lot ≡ lot γ i y.lot.round y.lot.shown units) × Is y
 
 -- what units at home show: a value, but where the slot is free
 abbrev pub MatchesSlotWord : ℕ → Gv → Type 0
-MatchesSlotWord f g = (f ≡ 1 → IsFull g) × (f ≡ 0 → IsNoValueCode g)
+MatchesSlotWord f g = (f ≡ 1 → IsValueCode g) × (f ≡ 0 → IsNoValueCode g)
 
 -- it moves the value of the slot i, in or out
 abbrev pub Moves : View → ℕ → Type 0

@@ -18,7 +18,7 @@ use Rattle.sdd_space.proofs.Housed.{live-is, ended-lives, registered-live, regis
 use Rattle.sdd_space.proofs.Nesting.{one-if, none-if, guards-closed, guards-registered, still-live}
 use Rattle.sdd_script_model.specs.ScriptState as desk
 use Rattle.sdd_script_model.specs.ScriptState.{IsStart, in_world}
-use Rattle.sdd_script_model.proofs.Terms.{◌≡◌, ◌≢◌, ◌⊎◌, ℕ, suc, ◌+◌, ◌<◌, ◌≤◌, ◌==◌, Bool, true, false, nat_lt, if◌then◌else◌, List, [], ◌∷◌, ◌++◌, Option, Some, None, IsSome, is_some, map, length, count_by, slice_index_or, slice_set, inl, inr, refl, sym, ap, ◌∙◌, subst, lt-ltb, arith, IsTrue, cases_eq, false≢true, length-set, Item, Time, IsLive, IsVacant, is_open, nobody, phase_at, due_next, Participant, Standing, World, IsPlaceOf, place_at, standing_at, retired, owner_given, cell_closed, opened, Val, holdings_of, ScriptState, OpenSince, opening_at, later, IsAttended, is_of, at-same, at-other, at-pushed, at-end, at-default, as-each, inside}
+use Rattle.sdd_script_model.proofs.Terms.{◌≡◌, ◌≢◌, ◌⊎◌, ℕ, suc, ◌+◌, ◌<◌, ◌≤◌, ◌==◌, Bool, true, false, nat_lt, if◌then◌else◌, List, [], ◌∷◌, ◌++◌, Option, Some, None, IsSome, is_some, map, length, count_by, slice_index_or, slice_set, inl, inr, refl, sym, ap, ◌∙◌, subst, lt-ltb, arith, IsTrue, cases_eq, false≢true, length-set, Item, EpochState, IsLive, IsVacant, is_open, nobody, phase_at, due_next, Participant, Standing, World, IsPlaceOf, place_at, standing_at, retired, owner_given, cell_closed, opened, Val, holdings_of, ScriptState, OpenSince, opening_at, later, ParticipantsMatch, is_of, at-same, at-other, at-pushed, at-end, at-default, as-each, inside}
 
 -- ---- what stands in a list of names
 
@@ -68,7 +68,7 @@ pub record KeepsGuards (old new : World Val) : Type 0 where
   pub places : length new.time.places ≡ length old.time.places
   pub guards : (q : ℕ) → (place_at new q).guards ≡ (place_at old q).guards
 
-live-by : (t u : Time) → u.phases ≡ t.phases → length u.places ≡ length t.places → (q : ℕ) → IsLive t q → IsLive u q
+live-by : (t u : EpochState) → u.phases ≡ t.phases → length u.places ≡ length t.places → (q : ℕ) → IsLive t q → IsLive u q
 live-by t u phases places q live =
     (omega (arith, live.0, places), subst (λ (ps : Entries PlaceState). IsTrue (slice_index_or (map is_live ps) q false)) (sym phases) live.1)
 
@@ -82,17 +82,17 @@ keeps-phase k (p, there) = (p, subst (λ (ps : Entries PlaceState). IsSome (slic
 -- the time is as before: an item is made, an owner more is there, a cell changes
 pub keeps-time : (v w : World Val) → w.time ≡ v.time → KeepsGuards v w
 keeps-time v w e = record {
-  phases = ap (λ (t : Time). t.phases) e;
-  places = ap (λ (t : Time). length t.places) e;
-  guards = λ q. ap (λ (t : Time). (time.place_at t q).guards) e;
+  phases = ap (λ (t : EpochState). t.phases) e;
+  places = ap (λ (t : EpochState). length t.places) e;
+  guards = λ q. ap (λ (t : EpochState). (time.place_at t q).guards) e;
 }
 
 -- one place is written, and has as many guards
 pub keeps-place : (v w : World Val) (p : ℕ) (x : Participant) → w.time ≡ time.with_place v.time p x → x.guards ≡ (place_at v p).guards → KeepsGuards v w
 keeps-place v w p x e same = record {
-  phases = ap (λ (t : Time). t.phases) e;
-  places = ap (λ (t : Time). length t.places) e ∙ length-set v.time.places p x;
-  guards = λ q. ap (λ (t : Time). (time.place_at t q).guards) e ∙ as-each (λ (y : Participant). y.guards) v.time.places p x nobody same q;
+  phases = ap (λ (t : EpochState). t.phases) e;
+  places = ap (λ (t : EpochState). length t.places) e ∙ length-set v.time.places p x;
+  guards = λ q. ap (λ (t : EpochState). (time.place_at t q).guards) e ∙ as-each (λ (y : Participant). y.guards) v.time.places p x nobody same q;
 }
 
 pub keeps-gives : {p : ℕ} {v w : World Val} → Gives p v w → KeepsGuards v w
@@ -149,10 +149,10 @@ module _ (w : World Val) (p : ℕ) (l : p < length w.time.places) where
       let end = steps.all_reclaimed holdings_of start p due in
       let g = Gives-all_reclaimed holdings_of start p due (in_before holdings_of w p l) in
       let nested = steps.nested w p in (
-        ap (λ (u : World Val). u.time.phases) c.change ∙ ap (λ (t : Time). t.phases) g.time,
+        ap (λ (u : World Val). u.time.phases) c.change ∙ ap (λ (t : EpochState). t.phases) g.time,
         ap (λ (u : World Val). length u.time.places) c.change
             ∙ length-set end.time.places p (time.settled (place_at end p))
-            ∙ ap (λ (t : Time). length t.places) g.time
+            ∙ ap (λ (t : EpochState). length t.places) g.time
             ∙ length-set start.time.places p (all_awaiting g.slots (place_at start p))
             ∙ length-set nested.time.places p (time.rotated w.time.count (place_at nested p))
             ∙ length-set w.time.places p (time.nested (place_at w p)),
@@ -184,13 +184,13 @@ pub placed-inside : (d : ScriptState) (p : ℕ) → IsPlaceOf d.world p → IsPl
 placed-inside d p live = λ some. (p, ap is_some (live-is d.world.time p live))
 
 -- no item or cell more
-pub placed-still : (d new : ScriptState) → IsAttended d → KeepsGuards d.world new.world → length new.slots ≡ length d.slots → length new.cells ≡ length d.cells →
+pub placed-still : (d new : ScriptState) → ParticipantsMatch d → KeepsGuards d.world new.world → length new.slots ≡ length d.slots → length new.cells ≡ length d.cells →
     IsPlaced new
 placed-still d new a k slots cells = λ some. keeps-phase k (a.placed (omega (arith, some, slots, cells)))
 
-module _ (d new : ScriptState) (a : IsAttended d) where
+module _ (d new : ScriptState) (a : ParticipantsMatch d) where
   attended-by : new.places ≡ d.places → new.guards ≡ d.guards → d.moment ≤ new.moment → ((q : ℕ) → IsPlaceOf d.world q → IsPlaceOf new.world q) →
-      ((q : ℕ) → (place_at new.world q).guards ≡ (place_at d.world q).guards) → IsPlaced new → IsAttended new
+      ((q : ℕ) → (place_at new.world q).guards ≡ (place_at d.world q).guards) → IsPlaced new → ParticipantsMatch new
   attended-by places guards moment live same placed =
       let was : (n : ℕ) (x : OpenSince) → opening_at new.places n ≡ Some x → opening_at d.places n ≡ Some x =
       λ n x e. ap (λ ps. opening_at ps n) (sym places) ∙ e in
@@ -206,20 +206,20 @@ module _ (d new : ScriptState) (a : IsAttended d) where
       }
 
   -- no guard is opened or closed, and nobody comes or goes
-  pub attended-same : KeepsGuards d.world new.world → new.places ≡ d.places → new.guards ≡ d.guards → d.moment ≤ new.moment → IsPlaced new → IsAttended new
+  pub attended-same : KeepsGuards d.world new.world → new.places ≡ d.places → new.guards ≡ d.guards → d.moment ≤ new.moment → IsPlaced new → ParticipantsMatch new
   attended-same k places guards moment placed = attended-by places guards moment (keeps-live k) k.guards placed
 
   -- and a participant acts
   pub attended-acts : KeepsGuards d.world new.world → new.places ≡ d.places → new.guards ≡ d.guards → d.moment ≤ new.moment → (p : ℕ) →
-      IsPlaceOf d.world p → IsAttended new
+      IsPlaceOf d.world p → ParticipantsMatch new
   attended-acts k places guards moment p live = attended-same k places guards moment (placed-inside new p (keeps-live k p live))
 
   -- the world's time is the same
-  attended-as : new.world.time ≡ d.world.time → new.places ≡ d.places → new.guards ≡ d.guards → d.moment ≤ new.moment → IsPlaced new → IsAttended new
+  attended-as : new.world.time ≡ d.world.time → new.places ≡ d.places → new.guards ≡ d.guards → d.moment ≤ new.moment → IsPlaced new → ParticipantsMatch new
   attended-as e = attended-same (keeps-time d.world new.world e)
 
 -- nobody is there at first
-pub attended-start : {limits : Limits} (d : ScriptState) → IsStart limits d → IsAttended d
+pub attended-start : {limits : Limits} (d : ScriptState) → IsStart limits d → ParticipantsMatch d
 attended-start d start =
     let nobody_there : (n : ℕ) (x : OpenSince) → opening_at d.places n ≡ Some x → ⊥ =
     λ n x e. let never : None ≡ Some x = sym (ap (λ ps. opening_at ps n) start.places) ∙ e in cc in
@@ -228,15 +228,15 @@ attended-start d start =
     record {
       inside = λ n x e. absurd (nobody_there n x e);
       apart = λ n m x y e f same. absurd (nobody_there n x e);
-      opened = λ p. ap (λ (t : Time). (time.place_at t p).guards) start.world.time ∙ sym (ap (count_by (is_of p)) start.guards);
+      opened = λ p. ap (λ (t : EpochState). (time.place_at t p).guards) start.world.time ∙ sym (ap (count_by (is_of p)) start.guards);
       since = λ g y e. absurd (no_guard g y e);
       early = λ n x e. absurd (nobody_there n x e);
       placed = λ some. absurd (omega (arith, some, ap length start.slots, ap length start.cells));
     }
 
-module _ (d : ScriptState) (a : IsAttended d) where
+module _ (d : ScriptState) (a : ParticipantsMatch d) where
   -- one line later
-  pub attended-later : IsAttended (later d)
+  pub attended-later : ParticipantsMatch (later d)
   attended-later = attended-as d (later d) a refl refl refl (omega arith) a.placed
 
   -- an open guard's participant is open
@@ -285,7 +285,7 @@ module _ (d : ScriptState) (a : IsAttended d) where
     entry : (n : ℕ) (x : OpenSince) → opening_at with_newcomer.places n ≡ Some x → ((n ≡ length d.places) × (newcomer ≡ x)) ⊎ (opening_at d.places n ≡ Some x)
     entry n x = pushed-entry d.places newcomer x n
 
-    newcomer-attended : IsAttended with_newcomer
+    newcomer-attended : ParticipantsMatch with_newcomer
     newcomer-attended = record {
       inside = λ n x e.
           elim (entry n x e) [
@@ -319,10 +319,10 @@ module _ (d : ScriptState) (a : IsAttended d) where
     }
 
     pub attended-registered : (new : ScriptState) → new.world.time ≡ time.registered d.world.time p →
-        new.places ≡ (desk.with_newcomer d p).places → new.guards ≡ d.guards → d.moment ≤ new.moment → IsAttended new
+        new.places ≡ (desk.with_newcomer d p).places → new.guards ≡ d.guards → d.moment ≤ new.moment → ParticipantsMatch new
     attended-registered new time places guards moment =
         attended-as with_newcomer new newcomer-attended time places guards moment
-        (placed-inside new p (subst (λ (t : Time). IsLive t p) (sym time) newcomer-live))
+        (placed-inside new p (subst (λ (t : EpochState). IsLive t p) (sym time) newcomer-live))
 
   -- ---- participant n, which has no guard open, ends
   module _ (n : ℕ) (x : OpenSince) (there : opening_at d.places n ≡ Some x) (closed : IsTrue (is_open (place_at d.world x.place)) → ⊥) where
@@ -334,7 +334,7 @@ module _ (d : ScriptState) (a : IsAttended d) where
         let phases = d.world.time.phases in
         at-same phases x.place (Some Ended) None (inside phases x.place (ap is_some (live-is d.world.time x.place (a.inside n x there))))
 
-    ended-attended : IsAttended without_one
+    ended-attended : ParticipantsMatch without_one
     ended-attended =
         let was = λ (m : ℕ) (y : OpenSince). left-entry d.places n m y in
         record {
@@ -353,10 +353,10 @@ module _ (d : ScriptState) (a : IsAttended d) where
         }
 
     pub attended-ended : (new : ScriptState) → new.world.time ≡ time.ended d.world.time x.place → new.places ≡ (desk.without_participant d n).places →
-        new.guards ≡ d.guards → d.moment ≤ new.moment → IsAttended new
+        new.guards ≡ d.guards → d.moment ≤ new.moment → ParticipantsMatch new
     attended-ended new time places guards moment =
         attended-as without_one new ended-attended time places guards moment
-        (λ some. (x.place, ap is_some (ap (λ (t : Time). phase_at t x.place) time ∙ its-phase)))
+        (λ some. (x.place, ap is_some (ap (λ (t : EpochState). phase_at t x.place) time ∙ its-phase)))
 
   -- ---- a guard of p is closed
   module _ (g p : ℕ) (y : OpenSince) (there : opening_at d.guards g ≡ Some y) (is : y.place ≡ p) where
@@ -376,7 +376,7 @@ module _ (d : ScriptState) (a : IsAttended d) where
     pub closed-guards : (q : ℕ) → (time.place_at (time.closed d.world.time p) q).guards + one_where (p == q) ≡ (place_at d.world q).guards
     closed-guards q = guards-closed d.world.time p q closer-live some
 
-    closed-attended : IsAttended without_guard
+    closed-attended : ParticipantsMatch without_guard
     closed-attended = record {
       inside = λ n x e. lives-closed x.place (a.inside n x e);
       apart = a.apart;
@@ -391,10 +391,10 @@ module _ (d : ScriptState) (a : IsAttended d) where
     }
 
     pub attended-closed : (new : ScriptState) → new.world.time ≡ time.closed d.world.time p → new.places ≡ d.places → new.guards ≡ (desk.without_guard d g).guards →
-        d.moment ≤ new.moment → IsAttended new
+        d.moment ≤ new.moment → ParticipantsMatch new
     attended-closed new time places guards moment =
         attended-as without_guard new closed-attended time places guards moment
-        (placed-inside new p (subst (λ (t : Time). IsLive t p) (sym time) (lives-closed p closer-live)))
+        (placed-inside new p (subst (λ (t : EpochState). IsLive t p) (sym time) (lives-closed p closer-live)))
 
   -- ---- participant n opens a guard at its place
   module _ (n : ℕ) (x : OpenSince) (there : opening_at d.places n ≡ Some x) where
@@ -463,7 +463,7 @@ module _ (d : ScriptState) (a : IsAttended d) where
           | inr old ↦ old-since nested is g y old
         ]
 
-    opened-attended : IsAttended with_guard
+    opened-attended : ParticipantsMatch with_guard
     opened-attended =
         let nested = is_open (place_at d.world x.place) in
         record {
@@ -482,7 +482,7 @@ module _ (d : ScriptState) (a : IsAttended d) where
         }
 
     pub attended-opened : (new : ScriptState) → new.world ≡ opened holdings_of d.world x.place →
-        new.places ≡ (desk.with_guard d n x.place).places → new.guards ≡ (desk.with_guard d n x.place).guards → d.moment ≤ new.moment → IsAttended new
+        new.places ≡ (desk.with_guard d n x.place).places → new.guards ≡ (desk.with_guard d n x.place).guards → d.moment ≤ new.moment → ParticipantsMatch new
     attended-opened new world places guards moment =
         attended-as with_guard new opened-attended (ap (λ (w : World Val). w.time) world) places guards moment
         (placed-inside new x.place (subst (λ (w : World Val). IsPlaceOf w x.place) (sym world) (lives-opened x.place (a.inside n x there))))

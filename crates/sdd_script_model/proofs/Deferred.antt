@@ -15,7 +15,7 @@ use Rattle.sdd_space.proofs.Listed.{listed-aged}
 use Rattle.sdd_space.proofs.Opening.{how, before, keeps-owner_given, keeps-cell_closed, keeps-given_all}
 use Rattle.sdd_script_text.specs.declared.name.JobName.{JobName}
 use Rattle.sdd_script_model.proofs.Entry.{at-same, at-other, inside, not-free}
-use Rattle.sdd_script_model.proofs.StockWords.{◌≡◌, ◌⊎◌, ℕ, zero, suc, ◌+◌, ◌<◌, ◌≤◌, ◌==◌, ◌↔◌, Bool, true, false, List, [], ◌∷◌, Option, Some, None, IsSome, is_some, map, length, count_by, slice_index_or, slice_set, inl, inr, refl, sym, ap, ◌∙◌, eq-eqb, cases_eq, cases_lt, arith, nat_tests, All, Contains, length-set, Entries, IsEmptyAt, entry_at, with_entry, What, Item, Job, Standing, reclaims, IsWhole, Holding, World, place_at, standing_at, one_where, count-cons, Val, holdings_of}
+use Rattle.sdd_script_model.proofs.StockWords.{◌≡◌, ◌⊎◌, ℕ, zero, suc, ◌+◌, ◌<◌, ◌≤◌, ◌==◌, ◌↔◌, Bool, true, false, List, [], ◌∷◌, Option, Some, None, IsSome, is_some, map, length, count_by, slice_index_or, slice_set, inl, inr, refl, sym, ap, ◌∙◌, eq-eqb, cases_eq, cases_lt, arith, nat_tests, All, Contains, length-set, Entries, IsEmptyAt, entry_at, with_entry, LimboEntry, Item, Job, Standing, reclaims, IsWhole, OwnerOrCell, World, place_at, standing_at, one_where, count-cons, Val, holdings_of}
 use Rattle.sdd_script_model.specs.ScriptState.{ScriptState, WaitsAt, job_at}
 use Rattle.sdd_script_model.specs.Shown.{job_in}
 use Rattle.sdd_script_model.specs.Sound.{AreDeferred}
@@ -31,7 +31,7 @@ module _ (w : World Val) (p : ℕ) where
   pub jobs-closed : (c : ℕ) → (cell_closed w p c).jobs ≡ w.jobs
   jobs-closed c = keeps-cell_closed p (λ (u : World Val). u.jobs ≡ w.jobs) (λ u j out e. e) (λ u b e. e) (λ u j n m at e. e) w c refl
 
-  pub jobs-given_all : (hs : List Holding) → (given_all w p hs).jobs ≡ w.jobs
+  pub jobs-given_all : (hs : List OwnerOrCell) → (given_all w p hs).jobs ≡ w.jobs
   jobs-given_all hs = keeps-given_all p (λ (u : World Val). u.jobs ≡ w.jobs) (λ u j out e. e) (λ u c e. e) (λ u j n m at e. e) w hs refl
 
 -- ---- a job is deferred, in place k of the table
@@ -127,18 +127,18 @@ module _ (w : World Val) (p : ℕ) (whole : IsWhole w) (live : IsPlaceOf w p) wh
 
 -- ---- the names that an opening answers
 
-times-places : (k : ℕ) (xs : List What) → count_by (is_of_job k) xs ≡ times_in k (places_among xs)
+times-places : (k : ℕ) (xs : List LimboEntry) → count_by (is_of_job k) xs ≡ times_in k (places_among xs)
 times-places k [] = refl
 times-places k (Item j ∷ xs) = omega (arith, times-places k xs, count-cons (is_of_job k) (Item j) xs)
 times-places k (Job j ∷ xs) = omega (arith, times-places k xs, count-cons (is_of_job k) (Job j) xs, count-cons (λ m. m == k) j (places_among xs))
 
-places-contain : (xs : List What) (k : ℕ) → Contains (places_among xs) k → Contains xs (Job k)
+places-contain : (xs : List LimboEntry) (k : ℕ) → Contains (places_among xs) k → Contains xs (Job k)
 places-contain [] k c = absurd (omega (arith, c.1))
 places-contain (Job j ∷ xs) k (zero, l, e) = (zero, omega arith, ap Job e)
 places-contain (Job j ∷ xs) k (suc n, l, e) = let rest = places-contain xs k (n, omega (arith, l), e) in (suc rest.0, omega (arith, rest.1), rest.2)
 places-contain (Item j ∷ xs) k c = let rest = places-contain xs k c in (suc rest.0, omega (arith, rest.1), rest.2)
 
-contain-places : (xs : List What) (k : ℕ) → Contains xs (Job k) → Contains (places_among xs) k
+contain-places : (xs : List LimboEntry) (k : ℕ) → Contains xs (Job k) → Contains (places_among xs) k
 contain-places [] k c = absurd (omega (arith, c.1))
 contain-places (Job j ∷ xs) k (zero, l, e) = (zero, omega arith, cc (e))
 contain-places (Job j ∷ xs) k (suc n, l, e) = let rest = contain-places xs k (n, omega (arith, l), e) in (suc rest.0, omega (arith, rest.1), rest.2)

@@ -24,7 +24,7 @@ use Rattle.sdd_space.proofs.Standings.{owner-given, out-some, out-waits-not, wai
 use Rattle.sdd_space.proofs.Whole.{some-waits, times-aged}
 use Rattle.sdd_script_text.specs.declared.name.ItemName.{ItemName}
 use Rattle.sdd_script_model.proofs.Entry.{at-other, at-default}
-use Rattle.sdd_script_model.proofs.StockWords.{◌≡◌, ◌≢◌, ◌⊎◌, ℕ, suc, ◌+◌, ◌-◌, ◌<◌, ◌≤◌, ◌==◌, ◌&&◌, ◌↔◌, Bool, true, false, nat_lt, if◌then◌else◌, List, [], ◌∷◌, ◌++◌, Option, Some, None, IsSome, is_some, map, length, count_by, slice_index_or, slice_set, inl, inr, refl, sym, ap, ◌∙◌, eq-eqb, ne_eqb, lt-ltb, cases_lt, arith, nat_tests, All, Contains, cases_eq, length-map, length-set, entry_at, without_entry, What, Item, Job, Standing, is_waiting, is_out, held_in, reclaims, IsWhole, is_of_slot, once_if, Holding, World, place_at, standing_at, value_at, one_where, times_among, count-cons, some-waits, filled-there, Val, holdings_of, body_of, link_of, zero, subst}
+use Rattle.sdd_script_model.proofs.StockWords.{◌≡◌, ◌≢◌, ◌⊎◌, ℕ, suc, ◌+◌, ◌-◌, ◌<◌, ◌≤◌, ◌==◌, ◌&&◌, ◌↔◌, Bool, true, false, nat_lt, if◌then◌else◌, List, [], ◌∷◌, ◌++◌, Option, Some, None, IsSome, is_some, map, length, count_by, slice_index_or, slice_set, inl, inr, refl, sym, ap, ◌∙◌, eq-eqb, ne_eqb, lt-ltb, cases_lt, arith, nat_tests, All, Contains, cases_eq, length-map, length-set, entry_at, without_entry, LimboEntry, Item, Job, Standing, is_waiting, is_out, held_in, reclaims, IsWhole, is_of_slot, once_if, OwnerOrCell, World, place_at, standing_at, value_at, one_where, times_among, count-cons, some-waits, filled-there, Val, holdings_of, body_of, link_of, zero, subst}
 use Rattle.sdd_script_model.specs.declared.val.Body.{Body}
 use Rattle.sdd_script_model.specs.declared.val.Body.TheVariants.{Number, Owned, Shared}
 use Rattle.sdd_script_model.specs.Val.{owner_in, link_home}
@@ -227,7 +227,7 @@ module _ (d : ScriptState) (p : ℕ) (start : World Val) (s : ℕ) where
       ]
 
   -- all that begins to wait was its owner's whose value was among these
-  pub all-give : (xs : List What) (w : World Val) → IsBefore w → is_waiting (standing_at (all_reclaimed holdings_of w p xs) s) ≡ true →
+  pub all-give : (xs : List LimboEntry) (w : World Val) → IsBefore w → is_waiting (standing_at (all_reclaimed holdings_of w p xs) s) ≡ true →
       1 ≤ times_in s (owners_in start (slots_among xs))
   all-give (Job j ∷ xs) w i waits =
       all-give xs (reclaimed holdings_of w p (Job j)) (record { kept = one-kept_on d p w (Job j) i.kept; values = i.values; idle = i.idle }) waits
@@ -381,18 +381,18 @@ counted-contains s (x ∷ xs) some =
     ]
 
 -- a slot is among these exactly if its item is
-pub among-slots : (s : ℕ) (xs : List What) → times_among s xs ≡ times_in s (slots_among xs)
+pub among-slots : (s : ℕ) (xs : List LimboEntry) → times_among s xs ≡ times_in s (slots_among xs)
 among-slots s [] = refl
 among-slots s (Item k ∷ xs) = omega (arith, among-slots s xs, count-cons (is_of_slot s) (Item k) xs, count-cons (λ k. k == s) k (slots_among xs))
 among-slots s (Job j ∷ xs) = omega (arith, among-slots s xs, count-cons (is_of_slot s) (Job j) xs)
 
-pub slots-contain : (xs : List What) (s : ℕ) → Contains (slots_among xs) s → Contains xs (Item s)
+pub slots-contain : (xs : List LimboEntry) (s : ℕ) → Contains (slots_among xs) s → Contains xs (Item s)
 slots-contain [] s c = absurd (omega (arith, c.1))
 slots-contain (Item k ∷ xs) s (zero, l, e) = (zero, omega arith, ap Item e)
 slots-contain (Item k ∷ xs) s (suc n, l, e) = let rest = slots-contain xs s (n, omega (arith, l), e) in (suc rest.0, omega (arith, rest.1), rest.2)
 slots-contain (Job j ∷ xs) s c = let rest = slots-contain xs s c in (suc rest.0, omega (arith, rest.1), rest.2)
 
-pub contain-slots : (xs : List What) (s : ℕ) → Contains xs (Item s) → Contains (slots_among xs) s
+pub contain-slots : (xs : List LimboEntry) (s : ℕ) → Contains xs (Item s) → Contains (slots_among xs) s
 contain-slots [] s c = absurd (omega (arith, c.1))
 contain-slots (Item k ∷ xs) s (zero, l, e) = (zero, omega arith, cc (e))
 contain-slots (Item k ∷ xs) s (suc n, l, e) = let rest = contain-slots xs s (n, omega (arith, l), e) in (suc rest.0, omega (arith, rest.1), rest.2)
@@ -520,17 +520,17 @@ module _ {T : Type 0} (w : World T) (p : ℕ) where
   counts-cell_closed c =
       keeps-cell_closed p (KeepsCounts w) counts-retired counts-cell counts-shared w c (record { slots = refl; made = refl; in_place = refl; home = refl })
 
-  pub counts-given_all : (hs : List Holding) → KeepsCounts w (given_all w p hs)
+  pub counts-given_all : (hs : List OwnerOrCell) → KeepsCounts w (given_all w p hs)
   counts-given_all hs =
       keeps-given_all p (KeepsCounts w) counts-retired counts-cell counts-shared w hs (record { slots = refl; made = refl; in_place = refl; home = refl })
 
-  module _ (holds : T → List Holding) where
+  module _ (holds : T → List OwnerOrCell) where
     out-counts : (u : World T) (k : ℕ) (v : Option T) → KeepsCounts w u → KeepsCounts w (taken_out holds u p k v)
     out-counts u k None i = i
     out-counts u k (Some v) i =
         keeps-given_all p (KeepsCounts w) counts-retired counts-cell counts-shared (freed u k) (holds v) (counts-freed u k i)
 
-    pub all-counts : (xs : List What) (u : World T) → KeepsCounts w u → KeepsCounts w (all_reclaimed holds u p xs)
+    pub all-counts : (xs : List LimboEntry) (u : World T) → KeepsCounts w u → KeepsCounts w (all_reclaimed holds u p xs)
     all-counts [] u i = i
     all-counts (Item k ∷ xs) u i =
         all-counts xs (reclaimed holds u p (Item k)) (out-counts u k (waiting_value u k (standing_at u k)) i)

@@ -11,7 +11,7 @@ use Rattle.sdd_space.specs.OwnerCounts.{IsAccounted}
 use Rattle.sdd_space.proofs.Accounts.{sum-out, outside-out}
 use Rattle.sdd_space.proofs.Standings.{out-some, owner-given}
 use Rattle.sdd_script_model.proofs.Entry.{at-same, at-other, at-pushed, at-end, at-default, inside, not-free}
-use Rattle.sdd_script_model.proofs.StockWords.{◌≡◌, ◌≢◌, ◌⊎◌, ℕ, ◌<◌, ◌≤◌, Bool, true, false, if◌then◌else◌, List, [], ◌∷◌, ◌++◌, Option, Some, None, IsSome, is_some, map, length, count_by, slice_index_or, slice_set, inl, inr, refl, sym, ap, ◌∙◌, arith, cases_eq, length-map, Entries, IsEmptyAt, entry_at, with_entry, without_entry, What, Item, Job, Standing, Cell, is_out, held_in, Holding, World, place_at, standing_at, value_at, filled-there, IsWhole, Val, holdings_of, body_of, link_of, one_where, eq-eqb}
+use Rattle.sdd_script_model.proofs.StockWords.{◌≡◌, ◌≢◌, ◌⊎◌, ℕ, ◌<◌, ◌≤◌, Bool, true, false, if◌then◌else◌, List, [], ◌∷◌, ◌++◌, Option, Some, None, IsSome, is_some, map, length, count_by, slice_index_or, slice_set, inl, inr, refl, sym, ap, ◌∙◌, arith, cases_eq, length-map, Entries, IsEmptyAt, entry_at, with_entry, without_entry, LimboEntry, Item, Job, Standing, CellContents, is_out, held_in, OwnerOrCell, World, place_at, standing_at, value_at, filled-there, IsWhole, Val, holdings_of, body_of, link_of, one_where, eq-eqb}
 use Rattle.sdd_script_model.specs.declared.val.Body.{Body}
 use Rattle.sdd_script_model.specs.declared.val.Body.TheVariants.{Number, Owned, Shared}
 use Rattle.sdd_script_model.specs.Val.{owner_in, link_home}
@@ -53,16 +53,16 @@ same_length : {A B : Type 0} (vs : List (Option A)) (ss : List (Option B)) → m
 same_length vs ss e = sym (length-map vs is_some) ∙ ap length e ∙ length-map ss is_some
 
 -- who has the name of a cell is named
-name-inside : (hs : List (Option Holding)) (n c : ℕ) → cell_of (holding_at hs n) ≡ Some c → n < length hs
+name-inside : (hs : List (Option OwnerOrCell)) (n c : ℕ) → cell_of (holding_at hs n) ≡ Some c → n < length hs
 name-inside hs n c e = inside hs n (some-name (holding_at hs n) e) where
-  some-name : (h : Option Holding) → cell_of h ≡ Some c → IsSome h
+  some-name : (h : Option OwnerOrCell) → cell_of h ≡ Some c → IsSome h
   some-name None e = absurd (cc)
   some-name (Some h) e = refl
 
 -- and who has the name of a collector
-collector-inside : (hs : List (Option Holding)) (n c : ℕ) → collector_of (holding_at hs n) ≡ Some c → n < length hs
+collector-inside : (hs : List (Option OwnerOrCell)) (n c : ℕ) → collector_of (holding_at hs n) ≡ Some c → n < length hs
 collector-inside hs n c e = inside hs n (some-name (holding_at hs n) e) where
-  some-name : (h : Option Holding) → collector_of h ≡ Some c → IsSome h
+  some-name : (h : Option OwnerOrCell) → collector_of h ≡ Some c → IsSome h
   some-name None e = absurd (cc)
   some-name (Some h) e = refl
 
@@ -78,7 +78,7 @@ keepers-as d new i values cells named collecting = record {
   before = keeps-as new d (sym values) (sym named) (sym collecting)
 
 -- a cell with a name holds something else
-pub keepers-filled : (d new : ScriptState) (n c : ℕ) (cell : Cell) → EachCellHasKeeper d → cell_of (holding_at d.cells n) ≡ Some c →
+pub keepers-filled : (d new : ScriptState) (n c : ℕ) (cell : CellContents) → EachCellHasKeeper d → cell_of (holding_at d.cells n) ≡ Some c →
     new.world.values ≡ d.world.values → new.world.cells ≡ with_entry d.world.cells c cell → new.cells ≡ d.cells →
     new.collectors ≡ d.collectors → EachCellHasKeeper new
 keepers-filled d new n c cell i is values cells named collecting = record {
@@ -117,7 +117,7 @@ keepers-filled d new n c cell i is values cells named collecting = record {
 
 -- ---- one keeper more, with a cell that was free
 
-module _ (d new : ScriptState) (i : EachCellHasKeeper d) (k : Keeper) (c : ℕ) (cell : Cell) (empty : IsEmptyAt d.world.cells c)
+module _ (d new : ScriptState) (i : EachCellHasKeeper d) (k : Keeper) (c : ℕ) (cell : CellContents) (empty : IsEmptyAt d.world.cells c)
     (cells : new.world.cells ≡ with_entry d.world.cells c cell) (own : Keeps new k c)
     (old_or_new : (j : Keeper) (x : ℕ) → Keeps new j x → ((j ≡ k) × (x ≡ c)) ⊎ Keeps d j x)
     (still : (j : Keeper) (x : ℕ) → Keeps d j x → Keeps new j x)
@@ -167,7 +167,7 @@ module _ (d new : ScriptState) (i : EachCellHasKeeper d) (k : Keeper) (c : ℕ) 
   }
 
 -- a cell that holds nothing
-abbrev pub null : Cell
+abbrev pub null : CellContents
 null = record { held = None; tag = no_tag }
 
 -- a value is put into a free slot, with a cell for its link
@@ -210,7 +210,7 @@ module _ (d new : ScriptState) (c k : ℕ) (v : Val) (i : EachCellHasKeeper d) (
   keepers-made = one-more d new i (value_in k) c null free_cell cells own-made made-or-old still-made (λ s e. refl)
 
 -- a cell that was free is given a name
-module _ (d new : ScriptState) (c : ℕ) (h : Holding) (cell : Cell) (i : EachCellHasKeeper d) (empty : IsEmptyAt d.world.cells c) (is : cell_of (Some h) ≡ Some c)
+module _ (d new : ScriptState) (c : ℕ) (h : OwnerOrCell) (cell : CellContents) (i : EachCellHasKeeper d) (empty : IsEmptyAt d.world.cells c) (is : cell_of (Some h) ≡ Some c)
     (values : new.world.values ≡ d.world.values) (cells : new.world.cells ≡ with_entry d.world.cells c cell)
     (named : new.cells ≡ d.cells ++ Some h ∷ []) (collecting : new.collectors ≡ d.collectors) where
   name-given : (n : ℕ) → ((n ≡ length d.cells) × (holding_at new.cells n ≡ Some h)) ⊎ (holding_at new.cells n ≡ holding_at d.cells n)
@@ -243,7 +243,7 @@ module _ (d new : ScriptState) (c : ℕ) (h : Holding) (cell : Cell) (i : EachCe
   keepers-named = one-more d new i (name_of (length d.cells)) c cell empty cells own-named named-or-old still-named (λ s e. absurd (cc))
 
 -- a cell that was free is given to a new collector
-module _ (d new : ScriptState) (c : ℕ) (h : Holding) (i : EachCellHasKeeper d) (empty : IsEmptyAt d.world.cells c) (is : collector_of (Some h) ≡ Some c)
+module _ (d new : ScriptState) (c : ℕ) (h : OwnerOrCell) (i : EachCellHasKeeper d) (empty : IsEmptyAt d.world.cells c) (is : collector_of (Some h) ≡ Some c)
     (values : new.world.values ≡ d.world.values) (cells : new.world.cells ≡ with_entry d.world.cells c null)
     (named : new.cells ≡ d.cells) (collecting : new.collectors ≡ d.collectors ++ Some h ∷ []) where
   collector-given : (n : ℕ) → ((n ≡ length d.collectors) × (holding_at new.collectors n ≡ Some h)) ⊎ (holding_at new.collectors n ≡ holding_at d.collectors n)
@@ -475,11 +475,11 @@ module _ (d : ScriptState) (p : ℕ) where
   pub waiting-there : (w : World Val) (k : ℕ) (s : Option Standing) (v : Val) → waiting_value w k s ≡ Some v → value_at w k ≡ Some v
   waiting-there w k s v e = grind arith
 
-  pub one-kept_on : (w : World Val) (x : What) → EachCellHasKeeper (in_world d w) → EachCellHasKeeper (in_world d (reclaimed holdings_of w p x))
+  pub one-kept_on : (w : World Val) (x : LimboEntry) → EachCellHasKeeper (in_world d w) → EachCellHasKeeper (in_world d (reclaimed holdings_of w p x))
   one-kept_on w (Item k) i = out-kept w k (waiting_value w k (standing_at w k)) (waiting-there w k (standing_at w k)) i
   one-kept_on w (Job j) i = keepers-as (in_world d w) (in_world d (reclaimed holdings_of w p (Job j))) i refl refl refl refl
 
-  pub all-kept : (xs : List What) (w : World Val) → EachCellHasKeeper (in_world d w) → EachCellHasKeeper (in_world d (all_reclaimed holdings_of w p xs))
+  pub all-kept : (xs : List LimboEntry) (w : World Val) → EachCellHasKeeper (in_world d w) → EachCellHasKeeper (in_world d (all_reclaimed holdings_of w p xs))
   all-kept [] w i = i
   all-kept (x ∷ xs) w i = all-kept xs (reclaimed holdings_of w p x) (one-kept_on w x i)
 
@@ -507,7 +507,7 @@ named-cell d n c i is = i.taken (name_of n) c is
 pub named-owner : (d : ScriptState) (o k : ℕ) → IsAccounted holdings_of (named_owners d) d.world → slot_of (holding_at d.owners o) ≡ Some k →
     is_out (standing_at d.world k) ≡ true
 named-owner d o k a is = outside-out holdings_of d.world k (named_owners d) a (counted d.owners o is) where
-  owner-owns : (h : Option Holding) → slot_of h ≡ Some k → owns k h ≡ true
+  owner-owns : (h : Option OwnerOrCell) → slot_of h ≡ Some k → owns k h ≡ true
   owner-owns None e = absurd (cc)
   owner-owns (Some (owned j home)) e = eq-eqb j k (cc)
   owner-owns (Some (shared j home)) e = eq-eqb j k (cc)
@@ -515,7 +515,7 @@ named-owner d o k a is = outside-out holdings_of d.world k (named_owners d) a (c
   owner-owns (Some (atomic_shared c home)) e = absurd (cc)
   owner-owns (Some (atomic_raw c home)) e = absurd (cc)
 
-  counted : (hs : List (Option Holding)) (o : ℕ) → slot_of (holding_at hs o) ≡ Some k → 1 ≤ count_by (owns k) hs
+  counted : (hs : List (Option OwnerOrCell)) (o : ℕ) → slot_of (holding_at hs o) ≡ Some k → 1 ≤ count_by (owns k) hs
   counted hs o e =
       let one : one_where (owns k (holding_at hs o)) ≡ 1 = rw (owner-owns (holding_at hs o) e) refl in
       omega (arith, one, sum-out (λ h. one_where (owns k h)) refl hs o)

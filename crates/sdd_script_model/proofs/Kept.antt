@@ -17,7 +17,7 @@ use Rattle.sdd_script_model.specs.ScriptState as desk
 use Rattle.sdd_script_model.specs.ScriptState.{BeginsLine, IsStart}
 use Rattle.sdd_script_model.proofs.Attending.{pushed-entry, left-entry, place, opens-one, open-place, vacant-apart, registered-guards, closed-guards, shut, entry-before}
 use Rattle.sdd_script_model.proofs.Dates.{idle-not-due, begins-out, date-before}
-use Rattle.sdd_script_model.proofs.Terms.{◌≡◌, ◌≢◌, ℕ, ◌<◌, ◌≤◌, Bool, true, false, nat_lt, List, Option, Some, None, IsSome, length, inl, inr, refl, sym, ap, ◌∙◌, subst, lt-ltb, ltb-true, arith, Contains, IsTrue, cases_eq, cases_lt, false≢true, nat_tests, length-set, What, Item, Time, IsVacant, is_open, Standing, Owned, Raw, Shared, Retired, privately, is_waiting, World, IsPlaceOf, place_at, standing_at, opened, reclaims, IsWhole, is_out, Val, holdings_of, ScriptState, OpenSince, IsDated, opening_at, date_at, later, IsAttended, IsKept}
+use Rattle.sdd_script_model.proofs.Terms.{◌≡◌, ◌≢◌, ℕ, ◌<◌, ◌≤◌, Bool, true, false, nat_lt, List, Option, Some, None, IsSome, length, inl, inr, refl, sym, ap, ◌∙◌, subst, lt-ltb, ltb-true, arith, Contains, IsTrue, cases_eq, cases_lt, false≢true, nat_tests, length-set, LimboEntry, Item, EpochState, IsVacant, is_open, Standing, Owned, Raw, Shared, Retired, privately, is_waiting, World, IsPlaceOf, place_at, standing_at, opened, reclaims, IsWhole, is_out, Val, holdings_of, ScriptState, OpenSince, IsDated, opening_at, date_at, later, ParticipantsMatch, KeepsRecentItems}
 
 -- each participant that has a guard open had one open before, since the same line
 abbrev pub WereOpen : ScriptState → ScriptState → Type 0
@@ -32,7 +32,7 @@ KeepsSafe v w = (p s : ℕ) → IsTrue (is_open (place_at w p)) → IsSafe v p s
 abbrev pub BeginsOut : World Val → World Val → Type 0
 BeginsOut v w = (s : ℕ) → is_waiting (standing_at w s) ≡ true → is_waiting (standing_at v s) ≡ false → is_out (standing_at v s) ≡ true
 
-module _ (d new : ScriptState) (kept : IsKept d) (dated : IsDated d new) where
+module _ (d new : ScriptState) (kept : KeepsRecentItems d) (dated : IsDated d new) where
   -- for a participant that had a guard open
   kept-from : KeepsSafe d.world new.world → BeginsOut d.world new.world → (n s : ℕ) (x : OpenSince) → opening_at d.places n ≡ Some x →
       IsTrue (is_open (place_at d.world x.place)) → IsTrue (is_open (place_at new.world x.place)) → is_waiting (standing_at new.world s) ≡ true →
@@ -42,24 +42,24 @@ module _ (d new : ScriptState) (kept : IsKept d) (dated : IsDated d new) where
     by true was = kept n s x there before was (omega (arith, since, date-before d new dated s waits was))
     by false was = record { guarded = before; stays = inl (begins s waits was) }
 
-  pub kept-by : WereOpen d new → KeepsSafe d.world new.world → BeginsOut d.world new.world → IsKept new
+  pub kept-by : WereOpen d new → KeepsSafe d.world new.world → BeginsOut d.world new.world → KeepsRecentItems new
   kept-by were keeps begins n s x there o waits since =
       let before = were n x there o in kept-from keeps begins n s x before.0 before.1 o waits since
 
   module _ (whole : IsWhole d.world) where
     -- one call
-    pub kept-call : WorldStep holdings_of d.world new.world → WereOpen d new → IsKept new
+    pub kept-call : WorldStep holdings_of d.world new.world → WereOpen d new → KeepsRecentItems new
     kept-call call were = kept-by were (λ p s o safe. safe-call p s holdings_of call whole safe o) (begins-out call whole)
 
     -- two calls, one after the other
     pub kept-two : (mid : World Val) → WorldStep holdings_of d.world mid → WorldStep holdings_of mid new.world → IsWhole mid →
-        ((p : ℕ) → IsTrue (is_open (place_at new.world p)) → IsTrue (is_open (place_at mid p))) → WereOpen d new → BeginsOut d.world new.world → IsKept new
+        ((p : ℕ) → IsTrue (is_open (place_at new.world p)) → IsTrue (is_open (place_at mid p))) → WereOpen d new → BeginsOut d.world new.world → KeepsRecentItems new
     kept-two mid first second whole_mid mid_open were begins =
         kept-by were (λ p s o safe. safe-call p s holdings_of second whole_mid (safe-call p s holdings_of first whole safe (mid_open p o)) o) begins
 
     -- an item is made, with its cell
     pub kept-made : (c k : ℕ) (value : Val) (x : Standing) → IsFirst x → IsEmptyAt d.world.standings k →
-        new.world ≡ made_as (nulled d.world c) k value x → WereOpen d new → IsKept new
+        new.world ≡ made_as (nulled d.world c) k value x → WereOpen d new → KeepsRecentItems new
     kept-made c k value x first empty world were =
         let mid = nulled d.world c in
         let whole_mid = Whole-cells d.world mid.cells whole in
@@ -69,15 +69,15 @@ module _ (d new : ScriptState) (kept : IsKept d) (dated : IsDated d new) where
         kept-two mid cells item whole_mid (λ p o. subst (λ (w : World Val). IsTrue (is_open (place_at w p))) world o) were (begins-out item whole_mid)
 
 -- nobody has a guard open
-pub kept-shut : (d : ScriptState) → ((p : ℕ) → IsTrue (is_open (place_at d.world p)) → ⊥) → IsKept d
+pub kept-shut : (d : ScriptState) → ((p : ℕ) → IsTrue (is_open (place_at d.world p)) → ⊥) → KeepsRecentItems d
 kept-shut d none n s x there o waits since = absurd (none x.place o)
 
 -- nobody is there
-pub kept-start : {limits : Limits} (d : ScriptState) → IsStart limits d → IsKept d
+pub kept-start : {limits : Limits} (d : ScriptState) → IsStart limits d → KeepsRecentItems d
 kept-start d start n s x there o waits since =
     absurd (let never : None ≡ Some x = sym (ap (λ ps. opening_at ps n) start.places) ∙ there in cc)
 
-pub kept-later : (d : ScriptState) → IsKept d → IsKept (later d)
+pub kept-later : (d : ScriptState) → KeepsRecentItems d → KeepsRecentItems (later d)
 kept-later d kept = kept
 
 -- ---- who had a guard open before
@@ -86,12 +86,12 @@ kept-later d kept = kept
 pub were-same : (d new : ScriptState) → new.places ≡ d.places → ((q : ℕ) → (place_at new.world q).guards ≡ (place_at d.world q).guards) → WereOpen d new
 were-same d new places same n x there o = (ap (λ ps. opening_at ps n) (sym places) ∙ there, subst (λ g. IsTrue (nat_lt 0 g)) (same x.place) o)
 
-module _ (d new : ScriptState) (a : IsAttended d) where
+module _ (d new : ScriptState) (a : ParticipantsMatch d) where
   pub were-registered : (p : ℕ) → IsVacant d.world.time p → length d.world.time.phases ≡ length d.world.time.places →
       new.world.time ≡ time.registered d.world.time p → new.places ≡ (desk.with_newcomer d p).places → WereOpen d new
   were-registered p vacant phased now places n x there o =
       let same : (place_at new.world x.place).guards ≡ (place_at d.world x.place).guards =
-      ap (λ (t : Time). (time.place_at t x.place).guards) now ∙ registered-guards d a p vacant phased x.place in
+      ap (λ (t : EpochState). (time.place_at t x.place).guards) now ∙ registered-guards d a p vacant phased x.place in
       let before : IsTrue (is_open (place_at d.world x.place)) = subst (λ g. IsTrue (nat_lt 0 g)) same o in
       elim (pushed-entry d.places (record { place = p; since = 0 }) x n (ap (λ ps. opening_at ps n) (sym places) ∙ there)) [
         | inr was ↦ (was, before)
@@ -102,7 +102,7 @@ module _ (d new : ScriptState) (a : IsAttended d) where
   pub were-ended : (n q : ℕ) → new.world.time ≡ time.ended d.world.time q → new.places ≡ (desk.without_participant d n).places → WereOpen d new
   were-ended n q now places m x there o = (
     (left-entry d.places n m x (ap (λ ps. opening_at ps m) (sym places) ∙ there)).1,
-    subst (λ (t : Time). IsTrue (is_open (time.place_at t x.place))) now o,
+    subst (λ (t : EpochState). IsTrue (is_open (time.place_at t x.place))) now o,
   )
 
   pub were-closed : (g p : ℕ) (y : OpenSince) → opening_at d.guards g ≡ Some y → y.place ≡ p → new.world.time ≡ time.closed d.world.time p →
@@ -111,7 +111,7 @@ module _ (d new : ScriptState) (a : IsAttended d) where
     ap (λ ps. opening_at ps n) (sym places) ∙ there,
     lt-ltb 0 (place_at d.world x.place).guards (
         let some = ltb-true 0 (place_at new.world x.place).guards o in
-        omega (arith, some, ap (λ (t : Time). (time.place_at t x.place).guards) now, closed-guards d a g p y guard is x.place)
+        omega (arith, some, ap (λ (t : EpochState). (time.place_at t x.place).guards) now, closed-guards d a g p y guard is x.place)
         ),
   )
 
@@ -129,7 +129,7 @@ fresh-safe w p s l whole out waits o =
       }
     ]
 
-module _ (d new : ScriptState) (a : IsAttended d) (kept : IsKept d) (whole : IsWhole d.world) (dated : IsDated d new)
+module _ (d new : ScriptState) (a : ParticipantsMatch d) (kept : KeepsRecentItems d) (whole : IsWhole d.world) (dated : IsDated d new)
     (earlier : BeginsLine d) (n : ℕ) (x : OpenSince) (there : opening_at d.places n ≡ Some x)
     (world : new.world ≡ opened holdings_of d.world x.place) (places : new.places ≡ (desk.with_guard d n x.place).places) where
   live : IsPlaceOf d.world x.place
@@ -171,7 +171,7 @@ module _ (d new : ScriptState) (a : IsAttended d) (kept : IsKept d) (whole : IsW
   still-own m y entry other same false is = absurd (other is (a.apart m n y x entry there same))
 
   -- participant n opens a guard at its place, in a line after all dates
-  pub kept-opened : IsKept new
+  pub kept-opened : KeepsRecentItems new
   kept-opened m s y entry o waits since =
       let nested = is_open (place_at d.world x.place) in
       let was = entry-before d a n x there nested m y (ap (λ ps. opening_at ps m) (sym places) ∙ entry) in
@@ -189,7 +189,7 @@ module _ (d new : ScriptState) (a : IsAttended d) (kept : IsKept d) (whole : IsW
 
 -- ---- what is not reclaimed
 
-there-counts : (s : ℕ) (xs : List What) → Contains xs (Item s) → 1 ≤ times_among s xs
+there-counts : (s : ℕ) (xs : List LimboEntry) → Contains xs (Item s) → 1 ≤ times_among s xs
 there-counts s xs (k, lt, e) =
     let own : is_of_slot s (Item s) ≡ true = grind (arith, nat_tests) in
     omega (arith, rw (e, own) at (get_or-le-sum_by (λ y. one_where (is_of_slot s y)) xs k (Item s) lt))
@@ -201,7 +201,7 @@ reclaimed-waits w p s l whole c = by (is_waiting (standing_at w s)) refl where
   by true is = is
   by false is = absurd (omega (arith, there-counts s (reclaims w p) c, idle-not-due w p s l.0 whole is))
 
-module _ (d : ScriptState) (a : IsAttended d) (kept : IsKept d) where
+module _ (d : ScriptState) (a : ParticipantsMatch d) (kept : KeepsRecentItems d) where
   -- what an opening reclaims began to wait before any guard was opened that is open
   pub unguarded : IsWhole d.world → (p s : ℕ) → IsPlaceOf d.world p → Contains (reclaims d.world p) (Item s) → (g : ℕ) (y : OpenSince) →
       opening_at d.guards g ≡ Some y → date_at d s < y.since
@@ -216,7 +216,7 @@ module _ (d : ScriptState) (a : IsAttended d) (kept : IsKept d) where
       ]
 
 -- a participant whose guard is open can point to what did not begin to wait before
-module _ (d : ScriptState) (kept : IsKept d) where
+module _ (d : ScriptState) (kept : KeepsRecentItems d) where
   pub can-point : (n s : ℕ) (x : OpenSince) → opening_at d.places n ≡ Some x → IsTrue (is_open (place_at d.world x.place)) → IsSome (standing_at d.world s) →
       (IsTrue (is_waiting (standing_at d.world s)) → x.since ≤ date_at d s) → CannotGo d.world x.place s
   can-point n s x there o taken since = by (standing_at d.world s) refl taken where

@@ -5,7 +5,7 @@ use Rattle.sdd_space.specs.WorldChanges.{retired, with_standing, owner_given, ce
 use Rattle.sdd_space.proofs.Opening.{keeps-owner_given, keeps-cell_closed, keeps-given_all}
 use Rattle.sdd_space.proofs.Standings.{out-some}
 use Rattle.sdd_script_model.proofs.Entry.{at-same, at-other, at-pushed, at-end, at-default, as-each, inside, not-free}
-use Rattle.sdd_script_model.proofs.StockWords.{◌≡◌, ◌≢◌, ℕ, ◌<◌, Bool, true, false, if◌then◌else◌, List, [], ◌∷◌, ◌++◌, Option, Some, None, IsSome, is_some, length, slice_index_or, slice_set, inl, inr, refl, sym, ap, ◌∙◌, subst, arith, cases_eq, length-set, IsEmptyAt, with_entry, without_entry, What, Item, Job, Standing, is_out, Holding, World, place_at, standing_at, value_at}
+use Rattle.sdd_script_model.proofs.StockWords.{◌≡◌, ◌≢◌, ℕ, ◌<◌, Bool, true, false, if◌then◌else◌, List, [], ◌∷◌, ◌++◌, Option, Some, None, IsSome, is_some, length, slice_index_or, slice_set, inl, inr, refl, sym, ap, ◌∙◌, subst, arith, cases_eq, length-set, IsEmptyAt, with_entry, without_entry, LimboEntry, Item, Job, Standing, is_out, OwnerOrCell, World, place_at, standing_at, value_at}
 use Rattle.std.proofs.lemmas.List.{length_push}
 use Rattle.sdd_participants.specs.declared.standing.Standing.TheVariants.{Shared, Retired}
 use Rattle.sdd_script_model.specs.ScriptState.{ScriptState, IsThere, slot_at, name_at}
@@ -69,17 +69,17 @@ module _ {T : Type 0} where
     pub no_slot-cell_closed : (c : ℕ) → TakesNoSlot w (cell_closed w p c)
     no_slot-cell_closed c = keeps-cell_closed p (TakesNoSlot w) retires frees_cell shares w c start
 
-    module _ (holds : T → List Holding) where
+    module _ (holds : T → List OwnerOrCell) where
       out-no_slot : (u : World T) (k : ℕ) (v : Option T) → TakesNoSlot w u → TakesNoSlot w (taken_out holds u p k v)
       out-no_slot u k None i = i
       out-no_slot u k (Some v) i =
           keeps-given_all p (TakesNoSlot w) retires frees_cell shares (freed u k) (holds v) (no_slot-then i (no_slot-freed u k))
 
-      one-no_slot : (u : World T) (x : What) → TakesNoSlot w u → TakesNoSlot w (reclaimed holds u p x)
+      one-no_slot : (u : World T) (x : LimboEntry) → TakesNoSlot w u → TakesNoSlot w (reclaimed holds u p x)
       one-no_slot u (Item k) i = out-no_slot u k (waiting_value u k (standing_at u k)) i
       one-no_slot u (Job j) i = record { taken = i.taken; slots = i.slots }
 
-      pub all-no_slot : (xs : List What) (u : World T) → TakesNoSlot w u → TakesNoSlot w (all_reclaimed holds u p xs)
+      pub all-no_slot : (xs : List LimboEntry) (u : World T) → TakesNoSlot w u → TakesNoSlot w (all_reclaimed holds u p xs)
       all-no_slot [] u i = i
       all-no_slot (x ∷ xs) u i = all-no_slot xs (reclaimed holds u p x) (one-no_slot u x i)
 

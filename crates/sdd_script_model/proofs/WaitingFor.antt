@@ -13,7 +13,7 @@ use Rattle.sdd_script_model.specs.ScriptState.{ScriptState, IsThere, slot_at}
 use Rattle.sdd_script_model.specs.Held.{owners_in, slots_among, slots_in, slots_waiting_for}
 use Rattle.sdd_script_model.specs.Shown.{item_in}
 use Rattle.sdd_script_model.specs.Sound.{SlotsHaveNames}
-use Rattle.sdd_script_model.proofs.StockWords.{◌≡◌, ℕ, zero, suc, ◌+◌, ◌<◌, ◌≤◌, ◌==◌, Bool, true, false, if◌then◌else◌, List, [], ◌∷◌, ◌++◌, Option, Some, None, IsSome, map, length, slice_index_or, inl, inr, refl, sym, ap, ◌∙◌, eq-eqb, arith, nat_tests, All, Contains, ◌↔◌, cases_eq, cases_lt, What, Item, Job, Standing, is_waiting, IsWhole, is_of_slot, World, standing_at, value_at, one_where, times_among, count-cons, some-waits, filled-there, Val}
+use Rattle.sdd_script_model.proofs.StockWords.{◌≡◌, ℕ, zero, suc, ◌+◌, ◌<◌, ◌≤◌, ◌==◌, Bool, true, false, if◌then◌else◌, List, [], ◌∷◌, ◌++◌, Option, Some, None, IsSome, map, length, slice_index_or, inl, inr, refl, sym, ap, ◌∙◌, eq-eqb, arith, nat_tests, All, Contains, ◌↔◌, cases_eq, cases_lt, LimboEntry, Item, Job, Standing, is_waiting, IsWhole, is_of_slot, World, standing_at, value_at, one_where, times_among, count-cons, some-waits, filled-there, Val}
 use Rattle.sdd_script_model.proofs.Gone.{among-slots, counted-contains, counted-there, names-found, slots-contain, times_in}
 use Rattle.sdd_script_model.proofs.Stocked.{slot-inside}
 
@@ -102,7 +102,7 @@ private-waits c (Some Retired) e = absurd (false≢true e)
 private-waits c (Some (privately k)) e = refl
 
 module _ (w : World Val) (c s : ℕ) where
-  same-slot : (b : Bool) → is_for w c (Item s) ≡ b → (x : What) → is_of_slot s x ≡ true → is_for w c x ≡ b
+  same-slot : (b : Bool) → is_for w c (Item s) ≡ b → (x : LimboEntry) → is_of_slot s x ≡ true → is_for w c x ≡ b
   same-slot b is (Item k) of = let same : k ≡ s = grind (arith, nat_tests, of) in ap (λ j. is_for w c (Item j)) same ∙ is
   same-slot b is (Job j) of = absurd (false≢true of)
 

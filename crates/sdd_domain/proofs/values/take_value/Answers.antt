@@ -3,7 +3,7 @@ use Rattle.atomic_table.specs.declared.shared.Seat.{Seat}
 use Rattle.sdd_shared_values.specs.declared.value_fraction.ValueFraction.{ValueFraction}
 use base.Stored.{Gv}
 use Rattle.atomic_table.specs.Seated.{TableId}
-use Rattle.sdd_shared_values.specs.SharedValues.{IsFull, IsNoValueCode, vacant, showing}
+use Rattle.sdd_shared_values.specs.SharedValues.{IsValueCode, IsNoValueCode, vacant, showing}
 use Rattle.sdd_views.specs.declared.Sizes.{Sizes}
 use Rattle.sdd_views.specs.declared.View.{View}
 use Rattle.sdd_word_invariant.specs.Slots.{items_at}
@@ -32,7 +32,7 @@ take-value-requires-clause-whole g c = let b = c.args.board.now in let sized = b
     let out = c.take_out-rest.ensures.taken.2 in
     let row = row_joined b c.args.slot c.args.token.now c.take_out-rest.new.token c.join_rest.new.token r.knows out c.join_rest.ensures.token
     c.join_rest.ensures.row in
-    may_move (book_of b) c.args.slot (places_of b) (c.places-count.result + 1) (ap (λ (k : ℕ). k + 1) c.places-count.ensures) IsFull
+    may_move (book_of b) c.args.slot (places_of b) (c.places-count.result + 1) (ap (λ (k : ℕ). k + 1) c.places-count.ensures) IsValueCode
     c.args.shelf.now.book r.shelf.book (omega arith) c.args.token.now.me.1 c.join_rest.new.token.me.1
     (all_full (book_of b) c.args.slot (places_of b) out.value c.args.token.now.me.1 c.join_rest.new.token.me.1 row)
 
