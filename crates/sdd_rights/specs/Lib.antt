@@ -1,5 +1,4 @@
 pub mod Units
-pub mod Example
 pub mod ReadFraction
 pub mod StandingKind
 pub mod Owner

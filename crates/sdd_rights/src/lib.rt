@@ -10,7 +10,7 @@
 //!
 //! Who keeps what: the space keeps at least one unit of each number beside what it knows of the slot, and owners have the others. When an owner
 //! comes back, `Fraction::agree` behind two `&` says that both know the same. So a space that holds a slot to be free contradicts an owner of that
-//! slot, and the space needs no test at run time. The module [`example`] shows it at one slot.
+//! slot, and the space needs no test at run time.
 //!
 //! [`RightsAuthority`] are the parts that a space keeps of its numbers. It grants a [`Right`] to a number and takes it back: the one owner of a
 //! number has all its units but one ([`UniqueRight`]), and each of several owners a single one ([`SharedRight`]). [`SharedRights`] are the rights of several
@@ -24,7 +24,6 @@
 //! two equal codes into two equal values.
 #![tactic(auto)]
 
-pub mod example;
 mod fraction;
 mod read_fraction;
 mod right;

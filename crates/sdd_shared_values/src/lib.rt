@@ -3,7 +3,6 @@
 #![tactic(auto)]
 
 mod bank;
-pub mod example;
 mod fraction_list;
 mod ghost_values;
 mod seats;

@@ -7,4 +7,3 @@ pub mod Sent
 pub mod Keeping
 pub mod Stakes
 pub mod Rooms
-pub mod Halls

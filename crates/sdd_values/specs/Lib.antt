@@ -4,5 +4,4 @@ pub mod Lending
 pub mod LentValues
 pub mod ReadSections
 pub mod UninitBlock
-pub mod Hall
 pub mod Nullable

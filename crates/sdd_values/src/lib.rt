@@ -12,19 +12,15 @@
 //!
 //! - A [`Nullable`] shows a value or nothing. A reference to one is a single word that can be copied, for a pointer that may be null.
 //!
-//! Below stands a block of values of any kind, which is proved by hand, as is the memory that it lies in. The modules [`example`], [`hall`] and
-//! [`seen`] show the use.
+//! Below stands a block of values of any kind, which is proved by hand, as is the memory that it lies in. `sdd_examples` shows the use.
 #![tactic(auto)]
 
 mod block;
 mod ended_section;
-pub mod example;
-pub mod hall;
 mod lent_values;
 mod nullable;
 mod raw_slice;
 mod read_sections;
-pub mod seen;
 mod uninit_block;
 
 pub use ended_section::{EndedSection, end_round};
