@@ -26,4 +26,5 @@ pub mod OwnerCounts
 pub mod Ledger
 pub mod Composed
 pub mod Refusals
+pub mod Releases
 pub mod Undisturbed

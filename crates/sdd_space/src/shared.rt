@@ -6,17 +6,16 @@ ghost use Rattle.sdd_space.specs.World.{World, AnyGuardOpen, standing_at, value_
 ghost use Rattle.sdd_space.specs.CallerId.{IsSeated, IsExact, IsLone};
 ghost use Rattle.sdd_space.specs.Refusals.{IsRefusedBy};
 ghost use Rattle.sdd_space.specs.KnownEpochs.{KnowsOn};
+ghost use Rattle.sdd_space.specs.Releases.{Releases, left_waiting};
 ghost use Rattle.sdd_space.specs.Undisturbed.{Undisturbed, Unmoved};
 ghost use Rattle.sdd_space.specs.ParticipantChanges.{KeepsMoreWaiting};
-ghost use Rattle.sdd_space.specs.WorldChanges.{made_shared, with_standing, with_value, dropped, owner_given};
+ghost use Rattle.sdd_space.specs.WorldChanges.{made_shared, with_standing, with_value, dropped};
 ghost use Rattle.sdd_space.specs.Shared.{right_of, slot_of, slots_home};
 ghost use Rattle.sdd_core.specs.declared.tag.Tag.TheVariants.{None as no_tag};
 ghost use Rattle.sdd_space.specs.Ptr.{slot_named, shown_by, tag_of, KeepsOthers, KeepsShown};
 ghost use Rattle.sdd_space.specs.Guard.{reader_of};
 ghost use Rattle.sdd_standings.specs.Slots.{IsSharedBy, owners_of};
 ghost use Rattle.sdd_participants.specs.Slab.{IsEmptyAt, IsFull};
-ghost use Rattle.sdd_participants.specs.EpochState as time;
-ghost use Rattle.sdd_participants.specs.declared.waiting.LimboEntry.TheVariants.{Item};
 
 use crate::guard::Guard;
 use crate::item::Item;
@@ -233,10 +232,9 @@ impl<T: Item<T>> Shared<T> {
         requires seated { IsSeated (S.seat s.old) }
         requires home { slots_home self ≡ (S.seat s.old).home.slots }
         ensures unmoved { Unmoved S.seat S.known S.shows s.old s.new }
-        ensures own { S.own s.new ≡ (if result then time.awaiting (Item (slot_of self)) (S.own s.old) else S.own s.old) }
-        ensures exact { IsExact (S.seat s.old) → (owners : ℕ) × IsSharedBy owners (standing_at (S.world s.old) (slot_of self)) ×
-            (IsTrue result ↔ (owners ≡ 1)) ×
-            (S.world s.new ≡ owner_given (S.world s.old) (S.seat s.old).place (slot_of self) (Some (Standing.Shared owners))) }
+        ensures own { S.own s.new ≡ left_waiting result (slot_of self) (S.own s.old) }
+        ensures released { IsExact (S.seat s.old) →
+            Releases (S.world s.old) (S.seat s.old).place (slot_of self) StandingKind.Shared result (S.world s.new) }
     {
         s.release(self.into_right(), StandingKind::Shared)
     }

@@ -1,16 +1,14 @@
 ghost use Rattle.std.specs.Prelude.{◌≡◌, ◌↔◌, ◌⊎◌, IfErr, IfOk, IsTrue, MatchResult, length, if◌then◌else◌};
-ghost use Rattle.sdd_participants.specs.declared.waiting.LimboEntry.TheVariants.{Item};
-ghost use Rattle.sdd_participants.specs.EpochState as time;
 ghost use Rattle.sdd_participants.specs.Slab.{IsEmptyAt, IsFull};
 ghost use Rattle.sdd_space.specs.OwnerOrCell.{AreOf};
-ghost use Rattle.sdd_space.specs.World.{standing_at};
 ghost use Rattle.sdd_space.specs.CallerId.{IsSeated, IsExact, IsLone};
+ghost use Rattle.sdd_space.specs.Releases.{Releases, left_waiting};
 ghost use Rattle.sdd_space.specs.Undisturbed.{Undisturbed, Unmoved};
 ghost use Rattle.sdd_rights.specs.StandingKind.{IsOwner};
 ghost use Rattle.sdd_rights.specs.Right.{number_of, home_of, kind_of};
-ghost use Rattle.sdd_standings.specs.Slots.{IsOwnedBy, first_standing, has_others};
+ghost use Rattle.sdd_standings.specs.Slots.{first_standing};
 ghost use Rattle.sdd_space.specs.Guard.{reader_of};
-ghost use Rattle.sdd_space.specs.WorldChanges.{made_as, owner_given};
+ghost use Rattle.sdd_space.specs.WorldChanges.{made_as};
 
 use crate::guard::Guard;
 use crate::item::Item;
@@ -80,13 +78,10 @@ pub trait Items<T: Item<T>>: Caller<T> {
         requires home { home_of right ≡ (Self.seat self.old).home.slots }
         requires kind { kind_of right ≡ kind }
         ensures unmoved { Unmoved Self.seat Self.known Self.shows self.old self.new }
-        ensures own { Self.own self.new ≡ (if result then time.awaiting (Item (number_of right)) (Self.own self.old) else Self.own self.old) }
+        ensures own { Self.own self.new ≡ left_waiting result (number_of right) (Self.own self.old) }
         ensures sole { kind_of right ≡ StandingKind.Owned → IsTrue result }
-        ensures owned { IsExact (Self.seat self.old) → IsOwnedBy (kind_of right) (standing_at (Self.world self.old) (number_of right)) }
-        ensures last { IsExact (Self.seat self.old) →
-            IsTrue result ↔ ¬ (IsTrue (has_others (standing_at (Self.world self.old) (number_of right)))) }
-        ensures exact { IsExact (Self.seat self.old) → Self.world self.new ≡
-            owner_given (Self.world self.old) (Self.seat self.old).place (number_of right) (standing_at (Self.world self.old) (number_of right)) };
+        ensures released { IsExact (Self.seat self.old) →
+            Releases (Self.world self.old) (Self.seat self.old).place (number_of right) (kind_of right) result (Self.world self.new) };
 
     /// How many slots there are.
     fn slots(&self) -> u64

@@ -2,8 +2,9 @@
 ghost use Rattle.std.specs.Prelude.{◌≡◌, ◌≢◌, ℕ, ◌+◌, ◌^◌, ◌<◌, ◌≤◌, if◌then◌else◌, Some, None, IsSome, MatchOption, MatchResult, IfOk, IfSome, IsTrue, ◌↔◌};
 ghost use Rattle.sdd_rights.specs.Right.{number_of, home_of, kind_of};
 ghost use Rattle.sdd_rights.specs.SharedRights as shares;
-ghost use Rattle.sdd_standings.specs.Slots.{IsOwnedBy, IsSharedBy, has_others, released_standing, owners_of};
+ghost use Rattle.sdd_standings.specs.Slots.{IsOwnedBy, IsSharedBy, released_standing, owners_of};
 ghost use Rattle.sdd_participants.specs.EpochState as time;
+ghost use Rattle.sdd_space.specs.Releases.{Releases};
 ghost use Rattle.sdd_space.specs.World.{KeepsSizes, standing_at, HasPlace};
 ghost use Rattle.sdd_space.specs.WorldChanges.{with_standing, retired, owner_given};
 ghost use Rattle.sdd_space.specs.WorldInvariant.{IsWhole};
@@ -111,11 +112,8 @@ impl<T: Item<T>, J: Job> WorldCore<T, J> {
         requires place { HasPlace self.old.world place }
         requires home { home_of right ≡ self.old.world.home.slots }
         requires kind { kind_of right ≡ kind }
-        ensures owned { IsOwnedBy (kind_of right) (standing_at self.old.world (number_of right)) }
-        ensures last { IsTrue result ↔ ¬ (IsTrue (has_others (standing_at self.old.world (number_of right)))) }
-        ensures gone { self.new ≡ record self.old {
-          world = owner_given self.old.world place (number_of right) (standing_at self.old.world (number_of right));
-        } }
+        ensures released { Releases self.old.world place (number_of right) (kind_of right) result self.new.world }
+        ensures rest { self.new ≡ record self.old { world = self.new.world } }
         ensures waits { (if result then retired self.old.world place (number_of right)
             else with_standing self.old.world (number_of right) (released_standing (standing_at self.old.world (number_of right)))) ≡ self.new.world }
         ensures sizes { KeepsSizes self.old.world self.new.world }

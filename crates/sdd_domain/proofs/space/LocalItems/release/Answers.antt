@@ -20,23 +20,14 @@ invariant_of-self-inside g c = let v : LocalModel g.row.T.Denot = (c.self-inside
     let r = c.release.ensures.retired in
     release_tied v c.release.new.self c.args.right r.0 r.1 c.self-inside.invariant c.release.ensures.recalled c.args.self.now (inner ∙ c.self.view_is)
 
-pub returns-clause-owned : goal.returns-clause-owned
-returns-clause-owned g c = let v : LocalModel g.row.T.Denot = (c.self-inside.view_is 0).partner in
+pub returns-clause-released : goal.returns-clause-released
+returns-clause-released g c = let v : LocalModel g.row.T.Denot = (c.self-inside.view_is 0).partner in
     let inner : v ≡ c.self.inside.partner = ap (λ (i : Inside g.row.T.Denot). i.partner) c.self-inside.view_is in
-    let r = c.release.ensures.retired in
-    release_owned v c.release.new.self c.args.right r.0 r.1 c.self-inside.invariant c.release.ensures.recalled c.args.self.now (inner ∙ c.self.view_is)
-
-pub returns-clause-last : goal.returns-clause-last
-returns-clause-last g c = let v : LocalModel g.row.T.Denot = (c.self-inside.view_is 0).partner in
-    let inner : v ≡ c.self.inside.partner = ap (λ (i : Inside g.row.T.Denot). i.partner) c.self-inside.view_is in
-    let r = c.release.ensures.retired in
-    release_last v c.release.new.self c.args.right r.0 r.1 c.self-inside.invariant c.release.ensures.recalled c.args.self.now (inner ∙ c.self.view_is)
-
-pub returns-clause-exact : goal.returns-clause-exact
-returns-clause-exact g c = let v : LocalModel g.row.T.Denot = (c.self-inside.view_is 0).partner in
-    let inner : v ≡ c.self.inside.partner = ap (λ (i : Inside g.row.T.Denot). i.partner) c.self-inside.view_is in
-    let r = c.release.ensures.retired in
-    release_world v c.release.new.self c.args.right r.0 r.1 c.self-inside.invariant c.release.ensures.recalled c.args.self.now (inner ∙ c.self.view_is)
+    let r = c.release.ensures.retired in λ exact. record {
+      owned = release_owned v c.release.new.self c.args.right r.0 r.1 c.self-inside.invariant c.release.ensures.recalled c.args.self.now (inner ∙ c.self.view_is) exact;
+      last = release_last v c.release.new.self c.args.right r.0 r.1 c.self-inside.invariant c.release.ensures.recalled c.args.self.now (inner ∙ c.self.view_is) exact;
+      world = release_world v c.release.new.self c.args.right r.0 r.1 c.self-inside.invariant c.release.ensures.recalled c.args.self.now (inner ∙ c.self.view_is) exact;
+    }
 
 pub returns-clause-unmoved : goal.returns-clause-unmoved
 returns-clause-unmoved g c = let v : LocalModel g.row.T.Denot = (c.self-inside.view_is 0).partner in
