@@ -48,8 +48,8 @@ fn in_domain(
     task: Task,
     turns: u64,
 ) -> Result<(Tally, u64), Refused>
-    requires { All (λ (r : Ended). r.home ≡ slots_in domain.now) receipts.old.items }
-    ensures { All (λ (r : Ended). r.home ≡ slots_in domain.now) receipts.new.items }
+    requires { All (λ (r : EndedCounts). r.home ≡ slots_in domain.now) receipts.old.items }
+    ensures { All (λ (r : EndedCounts). r.home ≡ slots_in domain.now) receipts.new.items }
 {
     if !beside {
         return by_one(domain, receipts, task, turns);
@@ -69,8 +69,8 @@ fn by_one(
     task: Task,
     turns: u64,
 ) -> Result<(Tally, u64), Refused>
-    requires { All (λ (r : Ended). r.home ≡ slots_in domain.now) receipts.old.items }
-    ensures { All (λ (r : Ended). r.home ≡ slots_in domain.now) receipts.new.items }
+    requires { All (λ (r : EndedCounts). r.home ≡ slots_in domain.now) receipts.old.items }
+    ensures { All (λ (r : EndedCounts). r.home ≡ slots_in domain.now) receipts.new.items }
 {
     let mut local = Local::register(domain)?;
     let done = worked(&mut local, task, turns);
@@ -90,9 +90,9 @@ pub fn keep(
     receipts: &mut Vec<Receipt<u64>>,
     receipt: Receipt<u64>,
 ) -> Result<(), Refused>
-    requires all { All (λ (r : Ended). r.home ≡ slots_in domain.now) receipts.old.items }
+    requires all { All (λ (r : EndedCounts). r.home ≡ slots_in domain.now) receipts.old.items }
     requires one { receipt.home ≡ slots_in domain.now }
-    ensures { All (λ (r : Ended). r.home ≡ slots_in domain.now) receipts.new.items }
+    ensures { All (λ (r : EndedCounts). r.home ≡ slots_in domain.now) receipts.new.items }
 {
     let _ = domain;
     match receipts.push(receipt) {

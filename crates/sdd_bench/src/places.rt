@@ -42,8 +42,8 @@ fn register_all(
     receipts: &mut Vec<Receipt<u64>>,
     participants: u64,
 ) -> Result<(), Refused>
-    requires { All (λ (r : Ended). r.home ≡ slots_in domain.now) receipts.old.items }
-    ensures { All (λ (r : Ended). r.home ≡ slots_in domain.now) receipts.new.items }
+    requires { All (λ (r : EndedCounts). r.home ≡ slots_in domain.now) receipts.old.items }
+    ensures { All (λ (r : EndedCounts). r.home ≡ slots_in domain.now) receipts.new.items }
 {
     if participants == 0 {
         return Ok(());

@@ -120,7 +120,7 @@ pub fn takes_part<R: Wait + Clock>(
     alloc: Global,
     course: &Course<'_>,
 ) -> Result<Findings, Trouble>
-    ensures { IfOk result (λ found. All (λ (r : Ended). r.home ≡ slots_in course.now.domain.now) found.receipts.items) }
+    ensures { IfOk result (λ found. All (λ (r : EndedCounts). r.home ≡ slots_in course.now.domain.now) found.receipts.items) }
 {
     let findings = works(rt, alloc, course);
     if findings.is_err() {
@@ -130,7 +130,7 @@ pub fn takes_part<R: Wait + Clock>(
 }
 
 fn works<R: Wait + Clock>(rt: &R, alloc: Global, course: &Course<'_>) -> Result<Findings, Trouble>
-    ensures { IfOk result (λ found. All (λ (r : Ended). r.home ≡ slots_in course.now.domain.now) found.receipts.items) }
+    ensures { IfOk result (λ found. All (λ (r : EndedCounts). r.home ≡ slots_in course.now.domain.now) found.receipts.items) }
 {
     let mut local = Local::register(course.domain)?;
     let spans = works_in_rounds(rt, alloc, course, &mut local);

@@ -175,7 +175,7 @@ fn time_of<R: Threads + Wait + Clock + Sync>(
 
 /// Closes the domain. When each participant worked.
 fn closed(domain: Domain<u64>, findings: Findings) -> Result<Vec<Vec<Span>>, Refused>
-    requires { All (λ (r : Ended). r.home ≡ slots_in domain) findings.receipts.items }
+    requires { All (λ (r : EndedCounts). r.home ≡ slots_in domain) findings.receipts.items }
 {
     let Findings { receipts, spans } = findings;
     match domain.close(receipts) {
@@ -194,7 +194,7 @@ fn runs<R: Threads + Wait + Clock + Sync>(
     crowd: Crowd,
     course: &Course<'_>,
 ) -> Result<Findings, Trouble>
-    ensures { IfOk result (λ found. All (λ (r : Ended). r.home ≡ slots_in course.now.domain.now) found.receipts.items) }
+    ensures { IfOk result (λ found. All (λ (r : EndedCounts). r.home ≡ slots_in course.now.domain.now) found.receipts.items) }
 {
     match crowd {
         Crowd::One => takes_part(rt, alloc, course),
@@ -208,10 +208,10 @@ fn two<R: Threads + Wait + Clock + Sync>(
     alloc: Global,
     course: &Course<'_>,
 ) -> Result<Findings, Trouble>
-    ensures { IfOk result (λ found. All (λ (r : Ended). r.home ≡ slots_in course.now.domain.now) found.receipts.items) }
+    ensures { IfOk result (λ found. All (λ (r : EndedCounts). r.home ≡ slots_in course.now.domain.now) found.receipts.items) }
 {
     let part = move || -> Result<Findings, Trouble>
-        ensures { IfOk result (λ found. All (λ (r : Ended). r.home ≡ slots_in course.entry.now.domain.now) found.receipts.items) }
+        ensures { IfOk result (λ found. All (λ (r : EndedCounts). r.home ≡ slots_in course.entry.now.domain.now) found.receipts.items) }
     { takes_part(rt, alloc, course) };
     let (first, second) = join(rt, &part, &part);
     together(course, first, second)
@@ -222,10 +222,10 @@ fn four<R: Threads + Wait + Clock + Sync>(
     alloc: Global,
     course: &Course<'_>,
 ) -> Result<Findings, Trouble>
-    ensures { IfOk result (λ found. All (λ (r : Ended). r.home ≡ slots_in course.now.domain.now) found.receipts.items) }
+    ensures { IfOk result (λ found. All (λ (r : EndedCounts). r.home ≡ slots_in course.now.domain.now) found.receipts.items) }
 {
     let part = move || -> Result<Findings, Trouble>
-        ensures { IfOk result (λ found. All (λ (r : Ended). r.home ≡ slots_in course.entry.now.domain.now) found.receipts.items) }
+        ensures { IfOk result (λ found. All (λ (r : EndedCounts). r.home ≡ slots_in course.entry.now.domain.now) found.receipts.items) }
     { two(rt, alloc, course) };
     let (first, second) = join(rt, &part, &part);
     together(course, first, second)
@@ -237,9 +237,9 @@ fn together(
     first: Result<Findings, Trouble>,
     second: Result<Findings, Trouble>,
 ) -> Result<Findings, Trouble>
-    requires first { IfOk first (λ found. All (λ (r : Ended). r.home ≡ slots_in course.now.domain.now) found.receipts.items) }
-    requires second { IfOk second (λ found. All (λ (r : Ended). r.home ≡ slots_in course.now.domain.now) found.receipts.items) }
-    ensures { IfOk result (λ found. All (λ (r : Ended). r.home ≡ slots_in course.now.domain.now) found.receipts.items) }
+    requires first { IfOk first (λ found. All (λ (r : EndedCounts). r.home ≡ slots_in course.now.domain.now) found.receipts.items) }
+    requires second { IfOk second (λ found. All (λ (r : EndedCounts). r.home ≡ slots_in course.now.domain.now) found.receipts.items) }
+    ensures { IfOk result (λ found. All (λ (r : EndedCounts). r.home ≡ slots_in course.now.domain.now) found.receipts.items) }
 {
     let _ = course;
     let mut all = first?;

@@ -120,7 +120,7 @@ pub fn settled(board: &DomainTable, slots: u32) -> Option<DomainSeat>
 /// Each participant in turn reclaims what waits with it, all together as many items as are left at most.
 // The last receipt stands in the place of the one that is being settled.
 pub fn settle_all<T: Item<T>>(domain: &Domain<T>, receipts: &mut Vec<Receipt<T>>, left: &mut usize)
-    requires homes { All (λ (r : Ended). r.home ≡ slots_in domain.now) receipts.old.items }
+    requires homes { All (λ (r : EndedCounts). r.home ≡ slots_in domain.now) receipts.old.items }
     ensures few { left.new ≤ left.old }
     ensures settled { AreSettled (left.old - left.new) receipts.old.items receipts.new.items }
 {
@@ -136,7 +136,7 @@ pub fn settle_all<T: Item<T>>(domain: &Domain<T>, receipts: &mut Vec<Receipt<T>>
 
 /// With none of the participants anything waits.
 pub fn are_over<T: Item<T>>(receipts: &Vec<Receipt<T>>) -> bool
-    ensures { result ≡ true → All (λ (r : Ended). r.waits ≡ false) receipts.now.items }
+    ensures { result ≡ true → All (λ (r : EndedCounts). r.waits ≡ false) receipts.now.items }
 {
     for receipt in receipts {
         if receipt.waits() {
@@ -153,8 +153,8 @@ pub fn take_all_counts<T: Item<T>>(
     mut receipts: Vec<Receipt<T>>,
 )
     requires home { token.old.table_id ≡ id_of board.now }
-    requires homes { All (λ (r : Ended). r.home.tables ≡ id_of board.now ∷ []) receipts.items }
-    requires over { All (λ (r : Ended). r.waits ≡ false) receipts.items }
+    requires homes { All (λ (r : EndedCounts). r.home.tables ≡ id_of board.now ∷ []) receipts.items }
+    requires over { All (λ (r : EndedCounts). r.waits ≡ false) receipts.items }
     requires none { (view token.old).stakes.counts ≡ no_counts }
     ensures home { token.new.table_id ≡ id_of board.now }
     ensures places { (view token.new).places ≡ (view token.old).places }

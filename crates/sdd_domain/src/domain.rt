@@ -152,12 +152,12 @@ impl<T: Item<T>> Domain<T> {
         self,
         mut receipts: Vec<Receipt<T>>,
     ) -> Result<Tally, (Domain<T>, Vec<Receipt<T>>, Refused)>
-        requires homes { All (λ (r : Ended). r.home ≡ slots_in self) receipts.items }
-        ensures settled { (waiting : ℕ) × (waiting ≤ (limits_of self).slots) × (settled : List Ended) × AreSettled waiting receipts.items settled
+        requires homes { All (λ (r : EndedCounts). r.home ≡ slots_in self) receipts.items }
+        ensures settled { (waiting : ℕ) × (waiting ≤ (limits_of self).slots) × (settled : List EndedCounts) × AreSettled waiting receipts.items settled
             × MatchResult result
-            (λ tally. (tally ≡ sum_of settled) × (tally ≡ with_reclaimed waiting (sum_of receipts.items)) × All (λ (r : Ended). r.waits ≡ false) settled)
+            (λ tally. (tally ≡ sum_of settled) × (tally ≡ with_reclaimed waiting (sum_of receipts.items)) × All (λ (r : EndedCounts). r.waits ≡ false) settled)
             (λ back. (back.0 ≡ self) × (back.1.items ≡ settled) × (back.2 ≡ Refused.OwnerOut)) }
-        ensures again { IfErr result (λ back. All (λ (r : Ended). r.home ≡ slots_in back.0) back.1.items) }
+        ensures again { IfErr result (λ back. All (λ (r : EndedCounts). r.home ≡ slots_in back.0) back.1.items) }
         ensures whole { IfOk result (λ tally. (length receipts.items ≤ (limits_of self).participants)
             × (length receipts.items ≡ (limits_of self).participants → AddsUp tally)) }
     {
