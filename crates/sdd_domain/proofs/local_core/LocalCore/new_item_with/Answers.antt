@@ -26,12 +26,12 @@ put_value-owner-requires-clause-row g c = let l = c.self.inside in let b = l.dom
 pub put_value-owner-requires-clause-fits : goal.put_value-owner-requires-clause-fits
 put_value-owner-requires-clause-fits g c = let l = c.self.inside in let b = l.domain.now.board in let q = c.self.invariant.0 in
     to_board b (c.self.view_is 0) (on_board l.domain.now.limits b l.token.table_id q.home l.domain.now.limited.1 (c.self.view_is 0) refl refl refl)
-    (g.T.Item.holds c.new_item-value.result)
-    (subst (λ (m : LocalState). AreOf (home_in m) (g.T.Item.holds c.new_item-value.result)) (sym c.self.view_is) (c.requires.home c.new_item-value.result c.new_item-value.ensures))
+    (g.T.Item.holds c.make-value.result)
+    (subst (λ (m : LocalState). AreOf (home_in m) (g.T.Item.holds c.make-value.result)) (sym c.self.view_is) (c.requires.home c.make-value.result c.make-value.ensures))
 
 pub invariant_of-self : goal.invariant_of-self
 invariant_of-self g c = let l = c.self.inside in let b = l.domain.now.board in let inv = c.self.invariant in let put = c.put_value-owner.ensures in
-    let made = showing g.row.T c.new_item-value.result in let shared = c.is_one_of_several-shared.result in let slot = c.in-Ok.slot in
+    let made = showing g.row.T c.make-value.result in let shared = c.is_one_of_several-shared.result in let slot = c.in-Ok.slot in
     let claimed = c.claim_free.new.token in let token = c.put_value-owner.new.token in
     let posed = posed_makes b l.place l.own slot shared made l.token claimed token inv.0 c.in-Ok.ensures.tried put.home.0 put.view put.given in (
       posed.0,
