@@ -6,7 +6,6 @@ use Rattle.std.proofs.lemmas.List.{get_or-set_same, get_or-set_other}
 use Rattle.sdd_core.specs.declared.tag.Tag.TheVariants.{None as no_tag}
 use Rattle.sdd_participants.specs.Slab.{IsEmptyAt, entry_at}
 use Rattle.sdd_participants.specs.declared.standing.Standing.TheVariants.{Shared, Retired}
-use Rattle.sdd_standings.specs.Slots.{IsSharedBy}
 use Rattle.sdd_world_slots.proofs.SlotsKept.{inside-some}
 use Rattle.sdd_space.specs.World.{World, standing_at, value_at}
 use Rattle.sdd_space.specs.WorldChanges.{held_in, made_shared, owner_given, with_cell}
@@ -38,20 +37,17 @@ module _ {T : Type 0} (w : World T) (p cell slot owners next : ℕ) (old value :
       (λ n _ _. (held, get_or-set_other filled.standings slot next (Some (Shared (n - 1))) None apart ∙ one))
 
   -- a swap and a release after it are the replacement
-  pub replaces : (u v x : World T) (held n : ℕ) (tag : Tag) → u ≡ made_shared w next value →
+  pub replaces : (u v x : World T) (held : ℕ) (tag : Tag) → u ≡ made_shared w next value →
       entry_at u.cells cell ≡ Some (record { held = Some held; tag = tag }) → v ≡ with_cell u cell (record { held = Some next; tag = no_tag }) →
-      IsSharedBy n (standing_at v held) → x ≡ owner_given v p held (Some (Shared n)) → value_at x next ≡ Some value →
+      x ≡ owner_given v p held (standing_at v held) → value_at x next ≡ Some value →
       IsSetTo x cell next 1 value × (x ≡ replaced w p cell slot owners next value)
-  replaces u v x held n tag make there swap shared gone shown =
+  replaces u v x held tag make there swap gone shown =
       let now : v ≡ filled = swap ∙ ap (λ (a : World T). with_cell a cell (record { held = Some next; tag = no_tag })) make in
       let one : Some held ≡ Some slot = ap held_in (sym there ∙ ap (λ (a : World T). entry_at a.cells cell) make ∙ set.held) in
       let same : held ≡ slot = cc in
-      let two : Some (Shared n) ≡ Some (Shared owners) =
-      sym shared.shared ∙ ap (λ (a : World T). standing_at a held) now ∙ ap (λ (k : ℕ). standing_at filled k) same ∙ was in
-      let as_many : n ≡ owners = cc in
       let is : x ≡ replaced w p cell slot owners next value =
-      gone ∙ ap (λ (a : World T). owner_given a p held (Some (Shared n))) now
-      ∙ ap (λ (k : ℕ). owner_given filled p k (Some (Shared n))) same
-      ∙ ap (λ (m : ℕ). owner_given filled p slot (Some (Shared m))) as_many in
+      gone ∙ ap (λ (a : World T). owner_given a p held (standing_at a held)) now
+      ∙ ap (λ (k : ℕ). owner_given filled p k (standing_at filled k)) same
+      ∙ ap (owner_given filled p slot) was in
       let h = subst (λ (a : World T). Holds a) (sym is) holds in
       (record { held = h.0; owned = h.1; shown = shown }, is)

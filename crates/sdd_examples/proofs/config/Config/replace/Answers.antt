@@ -16,13 +16,13 @@ returns-clause-exact g c = λ exact slot owners old set.
     let same : IsExact (seat c.shared_is_shown.new.s) = rw law.same first in
     let swapped = rw (c.in-Some.is, law.same) at (swap.exact same) in
     let second : IsExact (seat c.swap-before.new.s) = rw swap.undisturbed.seat same in
-    let gone = rw (swap.undisturbed.seat, law.same, make.undisturbed.seat) at (release.exact second) in
+    let gone = rw (swap.undisturbed.seat, law.same, make.undisturbed.seat) at (release.released second) in
     let third : IsExact (seat c.release.new.s) = rw release.unmoved.seat second in
     let put : g.S.Shows.shows c.shared_is_shown.new.s next c.args.value = rw law.same ((law.shown first c.args.value).0 make.shown) in
     let shown = (g.met.S.Caller.shows_is_value c.release.new.s third next c.args.value).0
     (release.unmoved.shown next c.args.value (swap.undisturbed.shown next c.args.value put)) in
     let done =
     replaces (world c.args.s.now) (seat c.args.s.now).place (cell_of c.args.self.now) slot owners next old c.args.value set made.0
-    (world c.new.new.s) (world c.swap-before.new.s) (world c.release.new.s) (slot_of c.in-Some.owner) gone.0 c.swap-before.result.1
-    made.1 swapped.0 swapped.1 gone.1 gone.3 shown in
+    (world c.new.new.s) (world c.swap-before.new.s) (world c.release.new.s) (slot_of c.in-Some.owner) c.swap-before.result.1
+    made.1 swapped.0 swapped.1 gone.world shown in
     (next, made.0, done.0, done.1)
