@@ -1,0 +1,5 @@
+use Rattle.sdd_core.specs.declared.tag.Tag.TheVariants.{None as no_tag}
+use Rattle.sdd_lists.proofs.stack.Stack.pop.Goals as goal
+
+pub returns-clause-list : goal.returns-clause-list
+returns-clause-list g c = λ e es list. c.pop_first.ensures.exact e no_tag es list

@@ -1,0 +1,115 @@
+//! The entries of queues and stacks.
+ghost use Rattle.std.specs.Prelude.{◌≡◌, IfErr, IfOk, MatchResult};
+ghost use Rattle.sdd_space.specs.OwnerOrCell.{AreOf};
+ghost use Rattle.sdd_space.specs.Undisturbed.{Undisturbed, Unmoved};
+ghost use Rattle.sdd_space.specs.ParticipantChanges.{HasContentsGivenUp};
+ghost use Rattle.sdd_space.specs.Refusals.{IsRefusedBy};
+ghost use Rattle.sdd_space.specs.CallerId.{IsSeated, IsExact};
+ghost use Rattle.sdd_space.specs.Shared.{cell_of, cells_home};
+ghost use Rattle.sdd_space.specs.WorldChanges.{cell_closed, nulled};
+ghost use Rattle.sdd_participants.specs.Slab.{IsEmptyAt, IsFull};
+
+use crate::linked_list::LinkedList;
+use sdd_core::Refused;
+use sdd_space::{AtomicShared, Cells, Giver, Item, Items};
+use std::ops::Deref;
+
+/// A value, and a link to the entry behind it.
+///
+/// It must be spent: put into a slot, or closed.
+pub struct LinkedEntry<T> {
+    instance: T,
+    next: AtomicShared<LinkedEntry<T>>,
+}
+
+impl<T: Item<LinkedEntry<T>>> LinkedEntry<T> {
+    ghost use Rattle.sdd_lists.specs.Entries.{link_of, link_home_of, value_of};
+
+    /// An entry with this value, whose link holds nothing.
+    ///
+    /// `NoCell` where no cell is free; `Contended`, in a domain alone, where as many exchanges were lost as its limits allow. The value comes back.
+    pub fn new<S: Cells<LinkedEntry<T>>>(
+        instance: T,
+        s: &mut S,
+    ) -> Result<LinkedEntry<T>, (T, Refused)>
+        requires seated { IsSeated (S.seat s.old) }
+        ensures undisturbed { Undisturbed S.seat S.own S.known S.shows s.old s.new }
+        ensures value { IfOk result (λ entry. value_of entry ≡ instance) }
+        ensures home { IfOk result (λ entry. link_home_of entry ≡ (S.seat s.old).home.cells) }
+        ensures back { IfErr result (λ e. (e.0 ≡ instance) × IsRefusedBy (S.seat s.old) Refused.NoCell e.1) }
+        ensures exact { IsExact (S.seat s.old) → MatchResult result
+            (λ entry. IsEmptyAt (S.world s.old).cells (link_of entry) × (S.world s.new ≡ nulled (S.world s.old) (link_of entry)))
+            (λ e. IsFull (S.world s.old).cells × (e ≡ (instance, Refused.NoCell)) × (S.world s.new ≡ S.world s.old)) }
+    {
+        match AtomicShared::null(s) {
+            Ok(next) => Ok(LinkedEntry { instance, next }),
+            Err(refused) => Err((instance, refused)),
+        }
+    }
+
+    /// Frees the link, and gives up what it holds. The value comes back.
+    pub fn close<S: Items<LinkedEntry<T>> + Cells<LinkedEntry<T>>>(self, s: &mut S) -> T
+        requires seated { IsSeated (S.seat s.old) }
+        requires home { link_home_of self ≡ (S.seat s.old).home.cells }
+        ensures value { result ≡ value_of self }
+        ensures unmoved { Unmoved S.seat S.known S.shows s.old s.new }
+        ensures own { HasContentsGivenUp (S.own s.old) (S.own s.new) }
+        ensures exact { IsExact (S.seat s.old) → S.world s.new ≡ cell_closed (S.world s.old) (S.seat s.old).place (link_of self) }
+    {
+        let LinkedEntry { instance, next } = self;
+        next.close(s);
+        instance
+    }
+}
+
+impl<T: Item<LinkedEntry<T>>> Item<LinkedEntry<T>> for LinkedEntry<T> {
+    ghost use Rattle.sdd_lists.specs.Entries.{holdings_of};
+
+    ghost holds = { holdings_of T.holds };
+
+    fn give_up<G: Giver<LinkedEntry<T>>>(self, giver: &mut G) {
+        let LinkedEntry { instance, next } = self;
+        instance.give_up(giver);
+        giver.atomic_shared(next);
+    }
+}
+
+impl<T: Item<LinkedEntry<T>>> LinkedList for LinkedEntry<T> {
+    ghost use Rattle.sdd_lists.specs.Entries.{link_of, link_home_of, link_part, value_of};
+    ghost use Rattle.sdd_space.proofs.Composed.{rest-of};
+    ghost use Rattle.sdd_space.specs.OwnerOrCell.{AreOf};
+
+    ghost link = { link_of };
+
+    ghost link_home = { link_home_of };
+
+    fn link_ref(&self) -> &AtomicShared<Self> {
+        &self.next
+    }
+
+    ghost link_is_held = { λ home v are. let parts : AreOf home (link_part v) = rest-of home (T.holds (value_of v)) (link_part v) are in parts.0 };
+}
+
+impl<T> AsRef<T> for LinkedEntry<T> {
+    ghost use Rattle.std.specs.Prelude.{◌≡◌};
+    ghost use Rattle.sdd_lists.specs.Entries.{value_of};
+
+    fn as_ref(&self) -> &T
+        ensures { result.now ≡ value_of self.now }
+    {
+        &self.instance
+    }
+}
+
+impl<T> Deref for LinkedEntry<T> {
+    ghost use Rattle.std.specs.Prelude.{◌≡◌};
+    ghost use Rattle.sdd_lists.specs.Entries.{value_of};
+
+    type Target = T;
+
+    ghost deref_gives = { λ entry value. value ≡ value_of entry };
+
+    fn deref(&self) -> &T {
+        &self.instance
+    }
+}

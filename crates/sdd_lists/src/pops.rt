@@ -1,0 +1,112 @@
+//! Entries that leave a list at its front.
+ghost use Rattle.std.specs.Prelude.{◌≡◌, ◌⊎◌, ℕ, IfErr, IfOk, List, [], ◌∷◌, MatchOption, MatchResult, Some};
+ghost use Rattle.sdd_space.specs.Guard.{reader_of};
+ghost use Rattle.sdd_space.specs.Undisturbed.{Undisturbed, Unmoved};
+ghost use Rattle.sdd_space.specs.ParticipantChanges.{KeepsMoreWaiting};
+ghost use Rattle.sdd_space.specs.Ptr.{slot_named};
+ghost use Rattle.sdd_space.specs.CallerId.{IsSeated, IsExact};
+ghost use Rattle.sdd_space.specs.Shared.{IsOfSlots, slots_home, cell_of, cells_home};
+ghost use Rattle.sdd_space.specs.World.{standing_at};
+ghost use Rattle.sdd_core.specs.declared.tag.Tag.{Tag};
+ghost use Rattle.sdd_standings.specs.Slots.{IsSharedBy};
+ghost use Rattle.sdd_lists.specs.Lists.{Entry, IsCrowded, IsKept, IsList, IsTaken, Pops, left};
+
+use crate::linked_list::LinkedList;
+use crate::moves::{delete, let_go_of_first, trim};
+use crate::walks::{Front, find_first};
+use sdd_core::Refused;
+use sdd_space::{AtomicShared, Cells, Guard, Items, LookThrough, Shared, SharedItems};
+
+/// Takes the first entry of the list in a cell that isn't deleted, and was found: it is deleted, and what is deleted before it is let go of with it.
+///
+/// `TooManyOwners` where 2^62 own the entry.
+pub(crate) fn take_first<T: LinkedList, S: Items<T> + SharedItems<T> + Cells<T> + LookThrough<T>>(
+    cell: &AtomicShared<T>,
+    front: Front<'_, T>,
+    guard: &Guard,
+    s: &mut S,
+) -> Result<Shared<T>, Refused>
+    requires seated { IsSeated (S.seat s.old) }
+    requires home { cells_home cell.now ≡ (S.seat s.old).home.cells }
+    requires reader { reader_of guard.now ≡ (S.seat s.old).reader }
+    requires link { cells_home front.link.now ≡ (S.seat s.old).home.cells }
+    ensures unmoved { Unmoved S.seat S.known S.shows s.old s.new }
+    ensures own { KeepsMoreWaiting (S.own s.old) (S.own s.new) }
+    ensures owner { IfOk result (λ owner. slots_home owner ≡ (S.seat s.old).home.slots) }
+    ensures back { IfErr result (λ e. (e ≡ Refused.TooManyOwners) ⊎ (e ≡ Refused.Contended)) }
+    ensures exact { IsExact (S.seat s.old) → (t : Tag) (es : List (Entry T)) → IsList T.link (S.world s.old) (cell_of cell.now) t es →
+        (e : Entry T) (rest : List (Entry T)) → left es ≡ e ∷ rest → slot_named front.entry.ptr ≡ Some e.slot →
+        cell_of front.entry.link.now ≡ T.link e.value → ((n : ℕ) × IsSharedBy n (standing_at (S.world s.old) e.slot)) → MatchResult result
+        (λ owner. IsTaken T.link (S.world s.old) (S.seat s.old).place (cell_of cell.now) t es e rest owner (S.world s.new))
+        (λ why. IsCrowded (S.world s.old) e why (S.world s.new)) }
+{
+    let owner = match front.ptr.get_shared(s) {
+        Ok(Some(owner)) => owner,
+        Ok(None) => return Err(Refused::Contended),
+        Err(refused) => return Err(refused),
+    };
+    if let Err(refused) = trim(cell, guard, s) {
+        let _ = owner.release(s);
+        return Err(refused);
+    }
+    let deleted = delete(front.link, s);
+    if !deleted {
+        let _ = owner.release(s);
+        return Err(Refused::Contended);
+    }
+    let_go_of_first(cell, front.link, s);
+    Ok(owner)
+}
+
+/// One owner more of an entry that was found. Nothing else changes.
+///
+/// `TooManyOwners` where 2^62 own the entry.
+pub(crate) fn keep_first<T: LinkedList, S: SharedItems<T>>(
+    front: Front<'_, T>,
+    s: &mut S,
+) -> Result<Shared<T>, Refused>
+    requires seated { IsSeated (S.seat s.old) }
+    ensures undisturbed { Undisturbed S.seat S.own S.known S.shows s.old s.new }
+    ensures owner { IfOk result (λ owner. slots_home owner ≡ (S.seat s.old).home.slots) }
+    ensures back { IfErr result (λ e. (e ≡ Refused.TooManyOwners) ⊎ (e ≡ Refused.Contended)) }
+    ensures exact { IsExact (S.seat s.old) → (e : Entry T) → slot_named front.entry.ptr ≡ Some e.slot →
+        ((n : ℕ) × IsSharedBy n (standing_at (S.world s.old) e.slot)) → MatchResult result
+        (λ owner. IsKept (S.world s.old) e owner (S.world s.new)) (λ why. IsCrowded (S.world s.old) e why (S.world s.new)) }
+{
+    match front.ptr.get_shared(s) {
+        Ok(Some(owner)) => Ok(owner),
+        Ok(None) => Err(Refused::Contended),
+        Err(refused) => Err(refused),
+    }
+}
+
+/// Pops the first entry of the list in a cell that isn't deleted: it is deleted, and what is deleted before it is let go of with it.
+///
+/// `TooManyOwners` where 2^62 own the entry; nothing has changed then.
+pub(crate) fn pop_first<T: LinkedList, S: Items<T> + SharedItems<T> + Cells<T> + LookThrough<T>>(
+    cell: &AtomicShared<T>,
+    guard: &Guard,
+    s: &mut S,
+) -> Result<Option<Shared<T>>, Refused>
+    requires seated { IsSeated (S.seat s.old) }
+    requires home { cells_home cell.now ≡ (S.seat s.old).home.cells }
+    requires reader { reader_of guard.now ≡ (S.seat s.old).reader }
+    ensures unmoved { Unmoved S.seat S.known S.shows s.old s.new }
+    ensures own { KeepsMoreWaiting (S.own s.old) (S.own s.new) }
+    ensures owner { IfOk result (IsOfSlots (S.seat s.old).home.slots) }
+    ensures back { IfErr result (λ e. (e ≡ Refused.TooManyOwners) ⊎ (e ≡ Refused.Contended)) }
+    ensures exact { IsExact (S.seat s.old) → (t : Tag) (es : List (Entry T)) → IsList T.link (S.world s.old) (cell_of cell.now) t es →
+        Pops T.link (S.world s.old) (S.seat s.old).place (cell_of cell.now) t es result (S.world s.new) }
+{
+    match find_first(cell, guard, s) {
+        Ok(Some(front)) => match take_first(cell, front, guard, s) {
+            Ok(owner) => Ok(Some(owner)),
+            Err(refused) => Err(refused),
+        },
+        Ok(None) => match trim(cell, guard, s) {
+            Ok(_) => Ok(None),
+            Err(refused) => Err(refused),
+        },
+        Err(refused) => Err(refused),
+    }
+}

@@ -1,0 +1,210 @@
+//! A container whose newest value comes out first.
+ghost use Rattle.std.specs.Prelude.{◌≡◌, ◌↔◌, ◌⊎◌, [], IfErr, IfOk, IsTrue, List, MatchResult, length, option_copied};
+ghost use Rattle.sdd_space.specs.Guard.{reader_of};
+ghost use Rattle.sdd_space.specs.OwnerOrCell.{AreOf};
+ghost use Rattle.sdd_space.specs.Undisturbed.{Undisturbed, Unmoved};
+ghost use Rattle.sdd_space.specs.ParticipantChanges.{KeepsMoreWaiting};
+ghost use Rattle.sdd_space.specs.Ptr.{PtrIsShown, slot_named, tag_of};
+ghost use Rattle.sdd_space.specs.Refusals.{IsRefusedBy};
+ghost use Rattle.sdd_space.specs.CallerId.{IsSeated, IsExact};
+ghost use Rattle.sdd_space.specs.Shared.{IsOfSlots, slots_home};
+ghost use Rattle.sdd_space.specs.WorldChanges.{nulled, without_cell};
+ghost use Rattle.sdd_core.specs.declared.tag.Tag.TheVariants.{None as no_tag};
+ghost use Rattle.sdd_participants.specs.Slab.{IsEmptyAt, IsFull};
+ghost use Rattle.sdd_lists.specs.Entries.{link_of};
+ghost use Rattle.sdd_lists.specs.Lists.{Entry, Pops, content, emptied, first_slot, first_value, left};
+
+use crate::linked_entry::LinkedEntry;
+use crate::moves::let_go_of_all;
+use crate::pops::pop_first;
+use crate::pushes::push_first;
+use crate::walks::{count, find_first, shown_in};
+use sdd_core::Refused;
+use sdd_space::{
+    AtomicShared, Cells, Guard, Item, Items, LookThrough, Ptr, Several, Shared, SharedItems,
+};
+
+/// Entries, of which the newest is popped first.
+pub struct Stack<T> {
+    newest: AtomicShared<LinkedEntry<T>>,
+}
+
+impl<T: Item<LinkedEntry<T>>> Stack<T> {
+    ghost use Rattle.sdd_lists.specs.Stack.{IsStack, PushesOnto, cell_in, home_in};
+
+    /// An empty stack.
+    ///
+    /// `NoCell` where no cell is free; `Contended`, in a domain alone, where as many exchanges were lost as its limits allow.
+    pub fn new<S: Cells<LinkedEntry<T>>>(s: &mut S) -> Result<Stack<T>, Refused>
+        requires seated { IsSeated (S.seat s.old) }
+        ensures undisturbed { Undisturbed S.seat S.own S.known S.shows s.old s.new }
+        ensures home { IfOk result (λ stack. home_in stack ≡ (S.seat s.old).home.cells) }
+        ensures back { IfErr result (IsRefusedBy (S.seat s.old) Refused.NoCell) }
+        ensures world { IsExact (S.seat s.old) → MatchResult result
+            (λ stack. IsEmptyAt (S.world s.old).cells (cell_in stack) × (S.world s.new ≡ nulled (S.world s.old) (cell_in stack)))
+            (λ e. IsFull (S.world s.old).cells × (e ≡ Refused.NoCell) × (S.world s.new ≡ S.world s.old)) }
+        ensures list { IsExact (S.seat s.old) → IfOk result (λ stack. IsStack (S.world s.new) (cell_in stack) []) }
+    {
+        match AtomicShared::null(s) {
+            Ok(newest) => Ok(Stack { newest }),
+            Err(refused) => Err(refused),
+        }
+    }
+
+    /// Pushes a value, and answers an owner of its entry. Deleted entries in front are let go of.
+    ///
+    /// `NoSlot` where no slot is free, else `NoCell` where no cell is; `Contended`, in a domain alone, where as many exchanges were lost as its limits allow.
+    /// The value comes back.
+    pub fn push<
+        S: Items<LinkedEntry<T>>
+            + Several<LinkedEntry<T>>
+            + Cells<LinkedEntry<T>>
+            + LookThrough<LinkedEntry<T>>,
+    >(&self, value: T, guard: &Guard, s: &mut S) -> Result<Shared<LinkedEntry<T>>, (T, Refused)>
+        requires seated { IsSeated (S.seat s.old) }
+        requires home { home_in self.now ≡ (S.seat s.old).home.cells }
+        requires value { AreOf (S.seat s.old).home (T.holds value) }
+        requires reader { reader_of guard.now ≡ (S.seat s.old).reader }
+        ensures unmoved { Unmoved S.seat S.known S.shows s.old s.new }
+        ensures own { KeepsMoreWaiting (S.own s.old) (S.own s.new) }
+        ensures owner { IfOk result (λ owner. slots_home owner ≡ (S.seat s.old).home.slots) }
+        ensures back { IfErr result (λ e. (e.0 ≡ value) × ((e.1 ≡ Refused.NoSlot) ⊎ IsRefusedBy (S.seat s.old) Refused.NoCell e.1)) }
+        ensures refused { IsExact (S.seat s.old) → IfErr result (λ e. (S.world s.new ≡ S.world s.old) ×
+            (IsFull (S.world s.old).standings × (e.1 ≡ Refused.NoSlot) ⊎
+            ¬ (IsFull (S.world s.old).standings) × IsFull (S.world s.old).cells × (e.1 ≡ Refused.NoCell))) }
+        ensures list { IsExact (S.seat s.old) → (es : List (Entry (LinkedEntry T))) → IsStack (S.world s.old) (cell_in self.now) es →
+            IfOk result (λ owner. PushesOnto (S.world s.old) (S.seat s.old).place (cell_in self.now) es value owner (S.world s.new)) }
+    {
+        let free = s.has_slot();
+        if !free {
+            return Err((value, Refused::NoSlot));
+        }
+        let entry = match LinkedEntry::new(value, s) {
+            Ok(entry) => entry,
+            Err(back) => return Err(back),
+        };
+        match push_first(&self.newest, entry, guard, s) {
+            Ok(owner) => Ok(owner),
+            Err((entry, refused)) => Err((entry.close(s), refused)),
+        }
+    }
+
+    /// Pops the newest entry that isn't deleted: it is deleted and let go of, with the deleted entries in front of it. None where there is none; deleted
+    /// entries are let go of then too.
+    ///
+    /// `TooManyOwners` where 2^62 own the entry, cells counted: nothing has changed then. `Contended`, in a domain alone.
+    pub fn pop<
+        S: Items<LinkedEntry<T>>
+            + SharedItems<LinkedEntry<T>>
+            + Cells<LinkedEntry<T>>
+            + LookThrough<LinkedEntry<T>>,
+    >(&self, guard: &Guard, s: &mut S) -> Result<Option<Shared<LinkedEntry<T>>>, Refused>
+        requires seated { IsSeated (S.seat s.old) }
+        requires home { home_in self.now ≡ (S.seat s.old).home.cells }
+        requires reader { reader_of guard.now ≡ (S.seat s.old).reader }
+        ensures unmoved { Unmoved S.seat S.known S.shows s.old s.new }
+        ensures own { KeepsMoreWaiting (S.own s.old) (S.own s.new) }
+        ensures owner { IfOk result (IsOfSlots (S.seat s.old).home.slots) }
+        ensures back { IfErr result (λ e. (e ≡ Refused.TooManyOwners) ⊎ (e ≡ Refused.Contended)) }
+        ensures list { IsExact (S.seat s.old) → (es : List (Entry (LinkedEntry T))) → IsStack (S.world s.old) (cell_in self.now) es →
+            Pops link_of (S.world s.old) (S.seat s.old).place (cell_in self.now) no_tag es result (S.world s.new) }
+    {
+        pop_first(&self.newest, guard, s)
+    }
+
+    /// A pointer to the newest entry that isn't deleted, without a tag; null where there is none.
+    pub fn peek<'g, S: Items<LinkedEntry<T>> + Cells<LinkedEntry<T>> + LookThrough<LinkedEntry<T>>>(
+        &self,
+        guard: &'g Guard,
+        s: &mut S,
+    ) -> Ptr<'g, LinkedEntry<T>>
+        requires seated { IsSeated (S.seat s.old) }
+        requires home { home_in self.now ≡ (S.seat s.old).home.cells }
+        requires reader { reader_of guard.now ≡ (S.seat s.old).reader }
+        ensures undisturbed { Undisturbed S.seat S.own S.known S.shows s.old s.new }
+        ensures world { IsExact (S.seat s.old) → S.world s.new ≡ S.world s.old }
+        ensures shown { PtrIsShown (S.shows s.new) result }
+        ensures tag { tag_of result ≡ no_tag }
+        ensures list { IsExact (S.seat s.old) → (es : List (Entry (LinkedEntry T))) → IsStack (S.world s.old) (cell_in self.now) es →
+            slot_named result ≡ first_slot (left es) }
+    {
+        let front = match find_first(&self.newest, guard, s) {
+            Ok(Some(front)) => front,
+            Ok(None) => return Ptr::null(),
+            Err(_) => return Ptr::null(),
+        };
+        front.ptr.without_tag()
+    }
+
+    /// How many entries aren't deleted.
+    pub fn len<S: Items<LinkedEntry<T>> + Cells<LinkedEntry<T>> + LookThrough<LinkedEntry<T>>>(
+        &self,
+        guard: &Guard,
+        s: &mut S,
+    ) -> u64
+        requires seated { IsSeated (S.seat s.old) }
+        requires home { home_in self.now ≡ (S.seat s.old).home.cells }
+        requires reader { reader_of guard.now ≡ (S.seat s.old).reader }
+        ensures undisturbed { Undisturbed S.seat S.own S.known S.shows s.old s.new }
+        ensures world { IsExact (S.seat s.old) → S.world s.new ≡ S.world s.old }
+        ensures list { IsExact (S.seat s.old) → (es : List (Entry (LinkedEntry T))) → IsStack (S.world s.old) (cell_in self.now) es →
+            result ≡ length (content es) }
+    {
+        count(&self.newest, guard, s)
+    }
+
+    /// Each entry is deleted.
+    pub fn is_empty<S: Items<LinkedEntry<T>> + Cells<LinkedEntry<T>> + LookThrough<LinkedEntry<T>>>(
+        &self,
+        guard: &Guard,
+        s: &mut S,
+    ) -> bool
+        requires seated { IsSeated (S.seat s.old) }
+        requires home { home_in self.now ≡ (S.seat s.old).home.cells }
+        requires reader { reader_of guard.now ≡ (S.seat s.old).reader }
+        ensures undisturbed { Undisturbed S.seat S.own S.known S.shows s.old s.new }
+        ensures world { IsExact (S.seat s.old) → S.world s.new ≡ S.world s.old }
+        ensures list { IsExact (S.seat s.old) → (es : List (Entry (LinkedEntry T))) → IsStack (S.world s.old) (cell_in self.now) es →
+            IsTrue result ↔ (left es ≡ []) }
+    {
+        self.peek(guard, s).is_null()
+    }
+
+    /// Ends the stack: each entry is deleted and let go of, the newest first, and the stack's cell is free.
+    pub fn close<S: Items<LinkedEntry<T>> + Cells<LinkedEntry<T>> + LookThrough<LinkedEntry<T>>>(
+        self,
+        guard: &Guard,
+        s: &mut S,
+    )
+        requires seated { IsSeated (S.seat s.old) }
+        requires home { home_in self ≡ (S.seat s.old).home.cells }
+        requires reader { reader_of guard.now ≡ (S.seat s.old).reader }
+        ensures unmoved { Unmoved S.seat S.known S.shows s.old s.new }
+        ensures own { KeepsMoreWaiting (S.own s.old) (S.own s.new) }
+        ensures list { IsExact (S.seat s.old) → (es : List (Entry (LinkedEntry T))) → IsStack (S.world s.old) (cell_in self) es →
+            S.world s.new ≡ without_cell (emptied link_of (S.world s.old) (S.seat s.old).place (cell_in self) no_tag es) (cell_in self) }
+    {
+        let Stack { newest } = self;
+        let_go_of_all(&newest, guard, s);
+        newest.close(s);
+    }
+
+    /// What the reader makes of the newest entry that isn't deleted, or of none.
+    pub fn peek_with<
+        R,
+        F: FnOnce(Option<&LinkedEntry<T>>) -> R,
+        S: Items<LinkedEntry<T>> + Cells<LinkedEntry<T>> + LookThrough<LinkedEntry<T>>,
+    >(&self, reader: F, guard: &Guard, s: &mut S) -> R
+        requires seated { IsSeated (S.seat s.old) }
+        requires home { home_in self.now ≡ (S.seat s.old).home.cells }
+        requires callable { F.IsAlwaysCallable reader }
+        requires reader_of_guard { reader_of guard.now ≡ (S.seat s.old).reader }
+        ensures undisturbed { Undisturbed S.seat S.own S.known S.shows s.old s.new }
+        ensures world { IsExact (S.seat s.old) → S.world s.new ≡ S.world s.old }
+        ensures list { IsExact (S.seat s.old) → (es : List (Entry (LinkedEntry T))) → IsStack (S.world s.old) (cell_in self.now) es →
+            (shown : _) × (option_copied shown ≡ first_value (left es)) × F.post reader shown result }
+    {
+        let shown = shown_in(&self.newest, guard, s);
+        reader(shown)
+    }
+}

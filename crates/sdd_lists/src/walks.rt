@@ -1,0 +1,194 @@
+//! Looks along a list, which change nothing.
+ghost use Rattle.std.specs.Prelude.{◌≡◌, ◌≤◌, ℕ, IfErr, IfOk, IfSome, List, [], ◌∷◌, MatchOption, MatchResult, Some, length, option_copied, if◌then◌else◌};
+ghost use Rattle.sdd_space.specs.Guard.{reader_of};
+ghost use Rattle.sdd_space.specs.Undisturbed.{Undisturbed};
+ghost use Rattle.sdd_space.specs.Ptr.{PtrIsShown, shown_by, slot_named};
+ghost use Rattle.sdd_space.specs.CallerId.{IsSeated, IsExact};
+ghost use Rattle.sdd_space.specs.Shared.{cell_of, cells_home};
+ghost use Rattle.sdd_space.specs.World.{standing_at};
+ghost use Rattle.sdd_standings.specs.Slots.{IsSharedBy};
+ghost use Rattle.sdd_participants.specs.Slab.{entry_at};
+ghost use Rattle.sdd_participants.specs.declared.standing.CellContents.{CellContents};
+ghost use Rattle.sdd_core.specs.declared.tag.Tag.{Tag};
+ghost use Rattle.sdd_lists.specs.Lists.{AreLinked, Entry, IsList, content, first_slot, first_value, is_deleting, left};
+
+use crate::linked_list::LinkedList;
+use sdd_core::{Refused, Tag};
+use sdd_space::laws::values_fit_slots;
+use sdd_space::{AtomicShared, Cells, Guard, Item, Items, LookThrough, Ptr};
+
+/// How many entries a list has at most, as no two of them are in one slot.
+pub(crate) fn reach<T: LinkedList, S: Items<T>>(s: &S) -> u64
+    ensures { IsExact (S.seat s.now) → (es : List (Entry T)) → AreLinked T.link (S.world s.now) es → length es ≤ result }
+{
+    values_fit_slots::<T, S>(s);
+    s.slots()
+}
+
+/// The entry that a cell holds, with its value and its link.
+#[derive(Drop)]
+pub(crate) struct Front<'g, T> {
+    pub(crate) ptr: Ptr<'g, T>,
+    pub(crate) entry: &'g T,
+    pub(crate) link: &'g AtomicShared<T>,
+}
+
+/// The entry that a cell holds, if it holds one.
+pub(crate) fn first_in<'g, T: LinkedList, S: Cells<T> + LookThrough<T>>(
+    cell: &AtomicShared<T>,
+    guard: &'g Guard,
+    s: &mut S,
+) -> Option<Front<'g, T>>
+    requires seated { IsSeated (S.seat s.old) }
+    requires home { cells_home cell.now ≡ (S.seat s.old).home.cells }
+    requires reader { reader_of guard.now ≡ (S.seat s.old).reader }
+    ensures undisturbed { Undisturbed S.seat S.own S.known S.shows s.old s.new }
+    ensures home { IfSome result (λ f. cells_home f.link.now ≡ (S.seat s.old).home.cells) }
+    ensures link { IfSome result (λ f. cell_of f.link.now ≡ T.link f.entry.now) }
+    ensures shown { IfSome result (λ f. PtrIsShown (S.shows s.new) f.ptr) }
+    ensures value { IfSome result (λ f. shown_by f.ptr ≡ Some f.entry.now) }
+    ensures world { IsExact (S.seat s.old) → S.world s.new ≡ S.world s.old }
+    ensures exact { IsExact (S.seat s.old) → (es : List (Entry T)) → AreLinked T.link (S.world s.old) es →
+        (held : CellContents) → entry_at (S.world s.old).cells (cell_of cell.now) ≡ Some held → held.held ≡ first_slot es →
+        MatchOption result (es ≡ []) (λ f. (e : Entry T) × (rest : List (Entry T)) × (es ≡ e ∷ rest) × (slot_named f.ptr ≡ Some e.slot) ×
+        (f.entry.now ≡ e.value) × ((n : ℕ) × IsSharedBy n (standing_at (S.world s.old) e.slot))) }
+{
+    let ptr = cell.load(guard, s);
+    let Some(entry) = ptr.as_ref(&*s) else {
+        return None;
+    };
+    s.shown_is_of_home();
+    Some(Front {
+        ptr,
+        entry,
+        link: entry.link_ref(),
+    })
+}
+
+/// The first entry of the list in a cell that isn't deleted.
+///
+/// `Contended` where there are as many deleted ones as slots and one more, as where links run in a ring.
+pub(crate) fn find_first<'g, T: LinkedList, S: Items<T> + Cells<T> + LookThrough<T>>(
+    cell: &AtomicShared<T>,
+    guard: &'g Guard,
+    s: &mut S,
+) -> Result<Option<Front<'g, T>>, Refused>
+    requires seated { IsSeated (S.seat s.old) }
+    requires home { cells_home cell.now ≡ (S.seat s.old).home.cells }
+    requires reader { reader_of guard.now ≡ (S.seat s.old).reader }
+    ensures undisturbed { Undisturbed S.seat S.own S.known S.shows s.old s.new }
+    ensures home { IfOk result (λ o. IfSome o (λ f. cells_home f.link.now ≡ (S.seat s.old).home.cells)) }
+    ensures link { IfOk result (λ o. IfSome o (λ f. cell_of f.link.now ≡ T.link f.entry.now)) }
+    ensures shown { IfOk result (λ o. IfSome o (λ f. PtrIsShown (S.shows s.new) f.ptr)) }
+    ensures value { IfOk result (λ o. IfSome o (λ f. shown_by f.ptr ≡ Some f.entry.now)) }
+    ensures back { IfErr result (λ e. e ≡ Refused.Contended) }
+    ensures world { IsExact (S.seat s.old) → S.world s.new ≡ S.world s.old }
+    ensures exact { IsExact (S.seat s.old) → (es : List (Entry T)) → AreLinked T.link (S.world s.old) es →
+        (held : CellContents) → entry_at (S.world s.old).cells (cell_of cell.now) ≡ Some held → held.held ≡ first_slot es →
+        MatchResult result (λ o. MatchOption o (left es ≡ []) (λ f. (e : Entry T) × (rest : List (Entry T)) × (left es ≡ e ∷ rest) ×
+        (slot_named f.ptr ≡ Some e.slot) × (f.entry.now ≡ e.value) × ((n : ℕ) × IsSharedBy n (standing_at (S.world s.old) e.slot))))
+        (λ _. ⊥) }
+{
+    let most = reach::<T, S>(s);
+    let Some(mut at) = first_in(cell, guard, s) else {
+        return Ok(None);
+    };
+    for _step in 0..most {
+        let Tag::Second = at.link.tag(s) else {
+            return Ok(Some(at));
+        };
+        let Some(next) = first_in(at.link, guard, s) else {
+            return Ok(None);
+        };
+        at = next;
+    }
+    Err(Refused::Contended)
+}
+
+/// The value of the first entry of the list in a cell that isn't deleted.
+///
+/// `Contended` where `find_first` is refused so.
+pub(crate) fn first_value_in<'g, T: LinkedList, S: Items<T> + Cells<T> + LookThrough<T>>(
+    cell: &AtomicShared<T>,
+    guard: &'g Guard,
+    s: &mut S,
+) -> Result<Option<&'g T>, Refused>
+    requires seated { IsSeated (S.seat s.old) }
+    requires home { cells_home cell.now ≡ (S.seat s.old).home.cells }
+    requires reader { reader_of guard.now ≡ (S.seat s.old).reader }
+    ensures undisturbed { Undisturbed S.seat S.own S.known S.shows s.old s.new }
+    ensures back { IfErr result (λ e. e ≡ Refused.Contended) }
+    ensures world { IsExact (S.seat s.old) → S.world s.new ≡ S.world s.old }
+    ensures exact { IsExact (S.seat s.old) → (t : Tag) (es : List (Entry T)) → IsList T.link (S.world s.old) (cell_of cell.now) t es →
+        MatchResult result (λ o. option_copied o ≡ first_value (left es)) (λ _. ⊥) }
+{
+    match find_first(cell, guard, s) {
+        Ok(Some(front)) => Ok(Some(front.entry)),
+        Ok(None) => Ok(None),
+        Err(refused) => Err(refused),
+    }
+}
+
+/// The same, or None where that is refused.
+pub(crate) fn shown_in<'g, T: LinkedList, S: Items<T> + Cells<T> + LookThrough<T>>(
+    cell: &AtomicShared<T>,
+    guard: &'g Guard,
+    s: &mut S,
+) -> Option<&'g T>
+    requires seated { IsSeated (S.seat s.old) }
+    requires home { cells_home cell.now ≡ (S.seat s.old).home.cells }
+    requires reader { reader_of guard.now ≡ (S.seat s.old).reader }
+    ensures undisturbed { Undisturbed S.seat S.own S.known S.shows s.old s.new }
+    ensures world { IsExact (S.seat s.old) → S.world s.new ≡ S.world s.old }
+    ensures exact { IsExact (S.seat s.old) → (t : Tag) (es : List (Entry T)) → IsList T.link (S.world s.old) (cell_of cell.now) t es →
+        option_copied result ≡ first_value (left es) }
+{
+    match first_value_in(cell, guard, s) {
+        Ok(shown) => shown,
+        Err(_) => None,
+    }
+}
+
+/// 1 for the link of an entry that isn't deleted, and else 0.
+fn one_if_kept<T: Item<T>, S: Cells<T>>(link: &AtomicShared<T>, s: &mut S) -> u64
+    requires seated { IsSeated (S.seat s.old) }
+    requires home { cells_home link.now ≡ (S.seat s.old).home.cells }
+    ensures undisturbed { Undisturbed S.seat S.own S.known S.shows s.old s.new }
+    ensures most { result ≤ 1 }
+    ensures exact { IsExact (S.seat s.old) → (S.world s.new ≡ S.world s.old) × ((cell : CellContents) ×
+        (entry_at (S.world s.old).cells (cell_of link.now) ≡ Some cell) × (result ≡ (if is_deleting cell.tag then 0 else 1))) }
+{
+    match link.tag(s) {
+        Tag::Second => 0,
+        _ => 1,
+    }
+}
+
+/// How many entries of the list in a cell aren't deleted.
+pub(crate) fn count<T: LinkedList, S: Items<T> + Cells<T> + LookThrough<T>>(
+    cell: &AtomicShared<T>,
+    guard: &Guard,
+    s: &mut S,
+) -> u64
+    requires seated { IsSeated (S.seat s.old) }
+    requires home { cells_home cell.now ≡ (S.seat s.old).home.cells }
+    requires reader { reader_of guard.now ≡ (S.seat s.old).reader }
+    ensures undisturbed { Undisturbed S.seat S.own S.known S.shows s.old s.new }
+    ensures world { IsExact (S.seat s.old) → S.world s.new ≡ S.world s.old }
+    ensures exact { IsExact (S.seat s.old) → (t : Tag) (es : List (Entry T)) → IsList T.link (S.world s.old) (cell_of cell.now) t es →
+        result ≡ length (content es) }
+{
+    let most = reach::<T, S>(s);
+    let mut count = 0;
+    let Some(mut at) = first_in(cell, guard, s) else {
+        return count;
+    };
+    for _step in 0..most {
+        count += one_if_kept(at.link, s);
+        let Some(next) = first_in(at.link, guard, s) else {
+            return count;
+        };
+        at = next;
+    }
+    count
+}
