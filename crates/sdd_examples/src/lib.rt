@@ -4,6 +4,7 @@
 
 pub mod config;
 pub mod counted_owners;
+pub mod counts;
 pub mod guards;
 pub mod items;
 pub mod lent_looks;
