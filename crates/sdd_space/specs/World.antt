@@ -80,11 +80,6 @@ weight w = sum_by waiting_count w.time.places + count_by is_loose w.standings + 
 abbrev pub most : {T : Type 0} → World T → ℕ
 most w = length w.standings + length w.jobs
 
--- there is room for each slot and each job to wait
-pub record IsRoomy {T : Type 0} (w : World T) : Type 0 where
-  pub counted : weight w ≤ most w
-  pub reserved : w.time.room ≡ most w
-
 -- the same home, as many places and slots, the same participants, and the same limits of nesting and room
 pub record KeepsSizes {T : Type 0} (old new : World T) : Type 0 where
   pub home : new.home ≡ old.home

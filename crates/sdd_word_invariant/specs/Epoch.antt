@@ -17,10 +17,6 @@ IsOpen v = v.state ≡ 2
 abbrev pub Scans : EpochView → Type 0
 Scans v = v.scans ≡ 1
 
--- it had a place, which has ended
-abbrev pub HasEnded : EpochView → Type 0
-HasEnded v = (v.ended ≡ 1) × (v.state ≡ 0)
-
 -- its participant is lone: no other may be
 abbrev pub IsLone : EpochView → Type 0
 IsLone v = v.all ≡ 1
