@@ -214,7 +214,7 @@ pub struct JoinOwner;
 impl Join<View> for JoinOwner {
     ghost both = { regained };
 
-    ghost spent = { owner_token [] [] };
+    ghost spent = { owner_token [] };
 }
 
 pub struct CutCounts;
@@ -230,5 +230,5 @@ pub struct TakeCounts;
 impl Join<View> for TakeCounts {
     ghost both = { counting };
 
-    ghost spent = { owner_token [] [] };
+    ghost spent = { owner_token [] };
 }

@@ -26,7 +26,7 @@ module _ (slot : ℕ) (shared : Bool) (value : Gv) (v : View) (owns : v.slots.ow
   }
 
   pub departed_view : departing (resting (telling slot shared value (drawing slot v))) ≡ owner_of slot shared value
-  departed_view = λ d. record (owner_token (ap first owns d) []) {
+  departed_view = λ d. record (owner_token (ap first owns d)) {
     stakes = record (at_rest 0) { owns = record { slot = slot; shared = shared; value = value } ∷ told d };
   }
 

@@ -36,7 +36,6 @@ pub record IsNear (v : EpochView) : Type 0 where
 -- no slot is held, and no owner is with the participant itself: each is a token of its own
 pub record IsQuiet (v : SlotsView) : Type 0 where
   pub owns : v.owns ≡ []
-  pub shares : v.shares ≡ []
   pub drawn : v.drawn ≡ []
   pub holds : v.holds ≡ None
   pub looked : v.looked ≡ 0

@@ -118,7 +118,7 @@ alike_steady v w same = let is = same.0 in record {
 }
 
 pub alike_units : (v w : View) → IsAlike v w → HasUnits v → HasUnits w
-alike_units v w same low i = let d = ap (times i) same.4 in let a = ap (times i) same.1 in let b = ap (times i) same.5 in let l = low i in omega arith
+alike_units v w same low i = let d = ap (times i) same.4 in let a = ap (times i) same.1 in let l = low i in omega arith
 
 module _ (γ : ℕ) (sizes : Sizes) (ws : List ℕ) (vs : List View) (p : BankInvariant γ sizes ws vs) where
   -- all offices and units are where they were, or with another

@@ -154,7 +154,7 @@ module _ (γ : ℕ) (sizes : Sizes) (slots id : ℕ) (me : SeatState) (i : ℕ) 
             (λ (o : SeesFrom me.0 j p). inr (o.0, stays (get_or s.words i 0) e t.2 (own.guarded j o.0) ∙ o.1)) out;
         same = λ j _. before_slots sizes s.words i y j low;
         mover = still_mover me.0 (record me.0 { epoch = e }) refl (lives (get_or s.words i 0) e t.2) (λ _ o. o) (λ _ o. o) (h.homes.moving id me.0 at);
-        alike = (refl, refl, refl, (λ _. refl), refl, refl);
+        alike = (refl, refl, refl, (λ _. refl), refl);
         counts = refl;
         lives = lives (get_or s.words i 0) e t.2;
         had = had s h e t.2;
@@ -187,7 +187,7 @@ module _ (γ : ℕ) (sizes : Sizes) (slots : ℕ) where
         more = more;
         same = same;
         mover = movers;
-        alike = (refl, refl, refl, (λ _. refl), refl, refl);
+        alike = (refl, refl, refl, (λ _. refl), refl);
         counts = refl;
         lives = λ _. (stays e t.2).0;
         had = λ _ _. inl live;
@@ -221,13 +221,13 @@ module _ (γ : ℕ) (sizes : Sizes) (slots : ℕ) where
         act = keeps;
         valid = tt;
         homes = part.calm γ sizes s.words s.views s.homes h.homes id v at (set s.words i 3) now (λ j p out. out) same (none_out now rests);
-        records = records.calm sizes s.views s.homes h.records id v at now (refl, refl, refl, (λ _. refl), refl, refl);
+        records = records.calm sizes s.views s.homes h.records id v at now (refl, refl, refl, (λ _. refl), refl);
         counts = counted sizes s.words s.views h.counts id v at (set s.words i 3) now
             (let f = as_full sizes s.words (set s.words i 3) same in omega arith)
             (let more = ended_more s.words v.epoch.place (omega arith) (omega arith) sizes.participants inside in omega arith)
             (λ _ none. absurd (omega arith));
         filled = filled_same sizes s.views h.filled id v at now refl refl refl (λ z. absurd (omega arith));
-        bank = banks.alike γ sizes s.words s.views h.bank id v at (set s.words i 3) now (refl, refl, refl, (λ _. refl), refl, refl) same;
+        bank = banks.alike γ sizes s.words s.views h.bank id v at (set s.words i 3) now (refl, refl, refl, (λ _. refl), refl) same;
         tells = tells;
       })
 

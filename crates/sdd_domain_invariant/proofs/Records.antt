@@ -106,7 +106,7 @@ told_seen v t i h = in_some v.stakes.sees i (subst (λ (l : List ℕ). 0 < times
 -- what it knows of slots and of stakes is as before
 abbrev pub IsAlike : View → View → Type 0
 IsAlike v w = (record w.stakes { counts = v.stakes.counts } ≡ v.stakes) × (w.slots.owns ≡ v.slots.owns) × (w.slots.sees ≡ v.slots.sees)
-    × ((i : ℕ) → items_at i w ≡ items_at i v) × (w.slots.drawn ≡ v.slots.drawn) × (w.slots.shares ≡ v.slots.shares)
+    × ((i : ℕ) → items_at i w ≡ items_at i v) × (w.slots.drawn ≡ v.slots.drawn)
 
 pub telling_alike : (v w : View) → IsAlike v w → IsTelling v → IsTelling w
 telling_alike v w same t = record {

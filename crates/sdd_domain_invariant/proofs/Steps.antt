@@ -259,11 +259,11 @@ module _ (slots id : ℕ) (me : SeatState) (live : HasPlace me.0.epoch) where
           valid = tt;
           homes = part.calm γ sizes s.words s.views s.homes h.homes id v at (set s.words i x) v (λ j p out. out) (λ j _. same_words s h j)
               (h.homes.moving id v at);
-          records = records.calm sizes s.views s.homes h.records id v at v (refl, refl, refl, (λ _. refl), refl, refl);
+          records = records.calm sizes s.views s.homes h.records id v at v (refl, refl, refl, (λ _. refl), refl);
           counts = uncounted sizes s.words s.views h.counts id v at (set s.words i x) v refl (λ l. l)
               (as_full sizes s.words (set s.words i x) (λ j _. same_words s h j)) (over_slot s h x);
           filled = still_filled s h at v refl refl refl;
-          bank = banks.alike γ sizes s.words s.views h.bank id v at (set s.words i x) v (refl, refl, refl, (λ _. refl), refl, refl)
+          bank = banks.alike γ sizes s.words s.views h.bank id v at (set s.words i x) v (refl, refl, refl, (λ _. refl), refl)
               (λ j _. same_words s h j);
           tells = at_once (λ slot. ClaimsAll slot (free_word 0) (owned_word 0)) x me ((λ hit. absurd (miss hit)), (λ _. refl), c.2);
         }))
@@ -590,7 +590,7 @@ module _ (slots id : ℕ) (me : SeatState) (live : HasPlace me.0.epoch) where
           more = λ j p out. out;
           same = λ j _. same_words s h j;
           mover = h.homes.moving id v at;
-          alike = (refl, refl, refl, (λ _. refl), refl, refl);
+          alike = (refl, refl, refl, (λ _. refl), refl);
           counts = refl;
           lives = λ l. l;
           had = λ _ l. inl l;
@@ -648,8 +648,8 @@ module _ (slots id : ℕ) (me : SeatState) (live : HasPlace me.0.epoch) where
           tt,
           stands_by γ sizes id v s h at v.stakes refl s.homes
               (part.calm γ sizes s.words s.views s.homes h.homes id v at s.words v (λ j p out. out) (λ j _. refl) (h.homes.moving id v at))
-              (records.calm sizes s.views s.homes r id v at v (refl, refl, refl, (λ _. refl), refl, refl)) (still_filled s h at v refl refl refl)
-              (banks.alike γ sizes s.words s.views h.bank id v at s.words v (refl, refl, refl, (λ _. refl), refl, refl) (λ _ _. refl)),
+              (records.calm sizes s.views s.homes r id v at v (refl, refl, refl, (λ _. refl), refl)) (still_filled s h at v refl refl refl)
+              (banks.alike γ sizes s.words s.views h.bank id v at s.words v (refl, refl, refl, (λ _. refl), refl) (λ _ _. refl)),
           (
             (λ _. (refl, subst (IsIn v.stakes.sees slot) (r.agree slot is.0 value (mine slot is.0 (inr (inl is.1))) known) is.1)),
             (λ unseen. absurd (unseen sees)),
@@ -715,7 +715,7 @@ module _ (slots id : ℕ) (me : SeatState) (live : HasPlace me.0.epoch) where
           more = λ j p out. out;
           same = λ j _. same_words s h j;
           mover = h.homes.moving id v at;
-          alike = (refl, refl, refl, (λ _. refl), refl, refl);
+          alike = (refl, refl, refl, (λ _. refl), refl);
           counts = refl;
           lives = λ l. l;
           had = λ _ l. inl l;
@@ -730,7 +730,7 @@ module _ (slots id : ℕ) (me : SeatState) (live : HasPlace me.0.epoch) where
           more = λ j p out. out;
           same = λ j _. same_words s h j;
           mover = h.homes.moving id v at;
-          alike = (refl, refl, refl, (λ _. refl), refl, refl);
+          alike = (refl, refl, refl, (λ _. refl), refl);
           counts = refl;
           lives = λ l. l;
           had = λ _ l. inl l;
@@ -771,7 +771,7 @@ module _ (slots id : ℕ) (me : SeatState) (live : HasPlace me.0.epoch) where
         more = λ k p out. out;
         same = same;
         mover = h.homes.moving id v at;
-        alike = (refl, refl, refl, (λ _. refl), refl, refl);
+        alike = (refl, refl, refl, (λ _. refl), refl);
         counts = refl;
         lives = λ l. l;
         had = λ _ l. inl l;
@@ -780,7 +780,7 @@ module _ (slots id : ℕ) (me : SeatState) (live : HasPlace me.0.epoch) where
         more = λ k p out. out;
         same = same;
         mover = h.homes.moving id v at;
-        alike = (refl, refl, refl, (λ _. refl), refl, refl);
+        alike = (refl, refl, refl, (λ _. refl), refl);
         counts = refl;
         lives = λ l. l;
         had = λ _ l. inl l;
@@ -881,7 +881,7 @@ module _ (γ : ℕ) (sizes : Sizes) (slots id : ℕ) (me : SeatState) (p state :
           more = λ j q out. out;
           same = same;
           mover = mover;
-          alike = (refl, refl, refl, (λ _. refl), refl, refl);
+          alike = (refl, refl, refl, (λ _. refl), refl);
           counts = refl;
           lives = λ l. l;
           had = λ _ l. inl l;
@@ -890,7 +890,7 @@ module _ (γ : ℕ) (sizes : Sizes) (slots id : ℕ) (me : SeatState) (p state :
           more = λ j q out. out;
           same = same;
           mover = mover;
-          alike = (refl, refl, refl, (λ _. refl), refl, refl);
+          alike = (refl, refl, refl, (λ _. refl), refl);
           counts = refl;
           lives = λ l. l;
           had = λ _ l. inl l;
@@ -962,7 +962,7 @@ module _ (γ : ℕ) (sizes : Sizes) (slots id : ℕ) (me : SeatState) (slot : �
         more = λ j q out. out;
         same = λ j _. ap (λ (l : List ℕ). full_at sizes l j) (as_before s h at);
         mover = h.homes.moving id me.0 at;
-        alike = (refl, refl, refl, (λ _. refl), refl, refl);
+        alike = (refl, refl, refl, (λ _. refl), refl);
         counts = refl;
         lives = λ l. l;
         had = λ _ l. inl l;

@@ -185,8 +185,8 @@ module _ (γ : ℕ) (sizes : Sizes) where
 
   -- and comes back
   pub joins_owner : (id : ℕ) (v : View) (other slot : ℕ) (shared : Bool) (value : Gv) → v.stakes.moves ≡ None
-      → Joins (DomainInvariant γ sizes) id v other (owner_of slot shared value) (regained v (owner_of slot shared value)) (owner_token [] [])
-  joins_owner id v other slot shared value rests s h at apart there = let t : View = owner_of slot shared value in let t' : View = owner_token [] [] in
+      → Joins (DomainInvariant γ sizes) id v other (owner_of slot shared value) (regained v (owner_of slot shared value)) (owner_token [])
+  joins_owner id v other slot shared value rests s h at apart there = let t : View = owner_of slot shared value in let t' : View = owner_token [] in
       let w : View = regained v t in let vs : List View = set s.views id w in let r = h.records in let told = r.each id v at in
       let now : ShownValue = record { slot = slot; shared = shared; value = value } in let mine = records.mine sizes s.views s.homes r id v at in
       let was : get_elem? s.views other ≡ some t = sym (set_else s.views id other w apart) ∙ there in
@@ -208,7 +208,7 @@ module _ (γ : ℕ) (sizes : Sizes) where
       (λ (b : IsIn v.stakes.owns i g). mine i g (inl b)) (in_either now v.stakes.owns i g a))
       (λ a. mine i g (inr (inl a))) (λ a. mine i g (inr (inr a))) k)
       (λ i p y _ _ l. inl l) (λ i m. m) (λ i a. a) in record {
-        kept = kept.joins_owners sizes id v other (slot ∷ []) [] w.stakes t.stakes s h.kept at apart there;
+        kept = kept.joins_owners sizes id v other (slot ∷ []) w.stakes t.stakes s h.kept at apart there;
         homes = part.calm γ sizes s.words vs s.homes
             (part.calm γ sizes s.words s.views s.homes h.homes id v at s.words w (λ i p out. out) (λ i _. refl) (none_out w rests))
             other t there s.words t' (λ i p out. absurd (nothing_out t refl refl i p out)) (λ i _. refl) (none_out t' refl);
@@ -226,7 +226,7 @@ module _ (γ : ℕ) (sizes : Sizes) where
   -- the counts of ended places go to a token of their own
   pub parts_counts : (id : ℕ) (v : View) → 0 < over_by v → Splits (DomainInvariant γ sizes) id v (uncounting v) (counts_of v)
   parts_counts id v over s h at = let t : View = counts_of v in let w : View = uncounting v in let c = h.counts in let p = h.kept.parts.slots in record {
-    kept = kept.cuts sizes id v v.slots.owns v.slots.shares v.slots.drawn [] [] w.stakes t.stakes (λ i. (omega arith, omega arith))
+    kept = kept.cuts sizes id v v.slots.owns v.slots.drawn [] w.stakes t.stakes (λ i. omega arith)
         (λ i held. (p.each id v at).held i held) s h.kept at;
     homes = part.arrives γ sizes s.words (set s.views id w) s.homes
         (part.calm γ sizes s.words s.views s.homes h.homes id v at s.words w (λ i p out. out) (λ i _. refl) (h.homes.moving id v at))
@@ -236,7 +236,6 @@ module _ (γ : ℕ) (sizes : Sizes) where
       refl,
       refl,
       (λ _. refl),
-      refl,
       refl,
     )) t
         (telling_none t refl refl refl refl refl refl) (λ i g k. absurd (knows_none t refl refl refl i g k)) refl refl;
@@ -259,7 +258,7 @@ module _ (γ : ℕ) (sizes : Sizes) where
   pub founds_bank : (id : ℕ) (v : View) → v.stakes.founds ≡ true → v.stakes.book ≡ γ → Splits (DomainInvariant γ sizes) id v (founded v) (bank_of v)
   founds_bank id v may book s h at = let t : View = bank_of v in let w : View = founded v in let told = h.records.each id v at in
       let us : List View = set s.views id w in let p = h.kept.parts.slots in record {
-        kept = kept.cuts sizes id v v.slots.owns v.slots.shares v.slots.drawn [] [] w.stakes t.stakes (λ i. (omega arith, omega arith))
+        kept = kept.cuts sizes id v v.slots.owns v.slots.drawn [] w.stakes t.stakes (λ i. omega arith)
             (λ i held. (p.each id v at).held i held) s h.kept at;
         homes = part.arrives γ sizes s.words us s.homes
             (part.calm γ sizes s.words s.views s.homes h.homes id v at s.words w (λ i p out. out) (λ i _. refl) (h.homes.moving id v at))
@@ -277,12 +276,12 @@ module _ (γ : ℕ) (sizes : Sizes) where
 
   -- and come to another
   pub joins_counts : (id : ℕ) (v : View) (other : ℕ) (d : CountsView)
-      → Joins (DomainInvariant γ sizes) id v other (counts_token d) (counting v (counts_token d)) (owner_token [] [])
-  joins_counts id v other d s h at apart there = let t : View = counts_token d in let t' : View = owner_token [] [] in let w : View = counting v t in
+      → Joins (DomainInvariant γ sizes) id v other (counts_token d) (counting v (counts_token d)) (owner_token [])
+  joins_counts id v other d s h at apart there = let t : View = counts_token d in let t' : View = owner_token [] in let w : View = counting v t in
       let vs : List View = set s.views id w in let c = h.counts in
       let was : get_elem? s.views other ≡ some t = sym (set_else s.views id other w apart) ∙ there in record {
-        kept = kept.takes_in sizes id v other v.slots.owns v.slots.shares v.slots.drawn [] [] w.stakes t.stakes (λ i.
-            (omega arith, omega arith)) s h.kept at apart there;
+        kept = kept.takes_in sizes id v other v.slots.owns v.slots.drawn [] w.stakes t.stakes (λ i.
+            omega arith) s h.kept at apart there;
         homes = part.calm γ sizes s.words vs s.homes
             (part.calm γ sizes s.words s.views s.homes h.homes id v at s.words w (λ i p out. out) (λ i _. refl) (h.homes.moving id v at))
             other t there s.words t' (λ i p out. absurd (nothing_out t refl refl i p out)) (λ i _. refl) (none_out t' refl);
@@ -292,9 +291,8 @@ module _ (γ : ℕ) (sizes : Sizes) where
           refl,
           (λ _. refl),
           refl,
-          refl,
         )) other t there t'
-            (refl, refl, refl, (λ _. refl), refl, refl);
+            (refl, refl, refl, (λ _. refl), refl);
         counts = record {
           items = let a = total_set made_by s.views id v w at in let a' = total_set made_by vs other t t' there in
               let b = total_set gone_by s.views id v w at in let b' = total_set gone_by vs other t t' there in let e = c.items in omega arith;

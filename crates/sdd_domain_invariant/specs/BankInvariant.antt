@@ -77,4 +77,4 @@ founded v = record v { stakes = record v.stakes { founds = false } }
 
 -- the bank that it founds
 abbrev pub bank_of : View → View
-bank_of v = record (owner_token [] []) { stakes = record (at_rest v.stakes.book) { bank = true } }
+bank_of v = record (owner_token []) { stakes = record (at_rest v.stakes.book) { bank = true } }

@@ -123,7 +123,7 @@ abbrev pub parting : View → View
 parting v = untold (parted v)
 
 abbrev pub departing : View → View
-departing v = record (owner_token (first v.slots.owns) []) { stakes = record (at_rest 0) { owns = v.stakes.owns } }
+departing v = record (owner_token (first v.slots.owns)) { stakes = record (at_rest 0) { owns = v.stakes.owns } }
 
 -- the owners that another token knows come, with what it knows of them
 abbrev pub regained : View → View → View
@@ -212,7 +212,7 @@ abbrev pub uncounting : View → View
 uncounting v = record v { stakes = record v.stakes { counts = no_counts } }
 
 abbrev pub counts_token : CountsView → View
-counts_token c = record (owner_token [] []) { stakes = record (at_rest 0) { counts = c } }
+counts_token c = record (owner_token []) { stakes = record (at_rest 0) { counts = c } }
 
 abbrev pub counts_of : View → View
 counts_of v = counts_token v.stakes.counts

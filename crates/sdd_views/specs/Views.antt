@@ -1,5 +1,5 @@
 -- What tokens know at first, and what that of an owner knows
-use Rattle.std.specs.Prelude.{ℕ, Bool, false, List, [], ◌∷◌, ◌++◌, None}
+use Rattle.std.specs.Prelude.{ℕ, Bool, false, List, [], ◌∷◌, None}
 use base.Stored.{Gv}
 use Rattle.sdd_views.specs.declared.EpochView.{EpochView}
 use Rattle.sdd_views.specs.declared.SlotsView.{SlotsView}
@@ -24,7 +24,6 @@ none_ended = record { ended = 0; quiet = 0 }
 abbrev pub bare : SlotsView
 bare = record {
   owns = [];
-  shares = [];
   drawn = [];
   sees = [];
   waits = [];
@@ -37,8 +36,8 @@ bare = record {
 }
 
 -- it owns these, each with its unit, and that is all
-abbrev pub owning_only : List ℕ → List ℕ → SlotsView
-owning_only owns shares = record bare { owns = owns; shares = shares; drawn = owns ++ shares }
+abbrev pub owning_only : List ℕ → SlotsView
+owning_only owns = record bare { owns = owns; drawn = owns }
 
 -- it has the right to no cell
 abbrev pub no_rights : CellsView
@@ -72,12 +71,12 @@ abbrev pub no_sizes : Sizes
 no_sizes = record { participants = 0; slots = 0; jobs = 0; cells = 0 }
 
 -- a token that knows its owners alone
-abbrev pub owner_token : List ℕ → List ℕ → View
-owner_token owns shares = record {
+abbrev pub owner_token : List ℕ → View
+owner_token owns = record {
   sizes = no_sizes;
   epoch = nobody 0;
   places = none_ended;
-  slots = owning_only owns shares;
+  slots = owning_only owns;
   cells = no_rights;
   stakes = at_rest 0;
   pledges = no_pledges;
@@ -87,10 +86,10 @@ owner_token owns shares = record {
 
 -- the token of the owner of a slot, which shows this; it may be one of several
 abbrev pub owner_of : ℕ → Bool → Gv → View
-owner_of slot shared value = record (owner_token (slot ∷ []) []) {
+owner_of slot shared value = record (owner_token (slot ∷ [])) {
   stakes = record (at_rest 0) { owns = record { slot = slot; shared = shared; value = value } ∷ [] };
 }
 
 -- the token of the right to a cell of this kind
 abbrev pub right_to : ℕ → CellKind → View
-right_to cell kind = record (owner_token [] []) { cells = record { rights = record { cell = cell; kind = kind } ∷ [] } }
+right_to cell kind = record (owner_token []) { cells = record { rights = record { cell = cell; kind = kind } ∷ [] } }

@@ -61,10 +61,8 @@ pub struct WaitingItem {
 
 /// What a participant knows of slots. A clause reads an array as a list, of any length.
 pub struct SlotsView {
-    /// The slots whose only owner it has, which isn't counted.
+    /// The slots of its owners, one entry for each owner. A slot's word says whether its owners are counted, so that there may be several.
     pub owns: [u64; 0],
-    /// The slots of its other owners, one entry for each owner.
-    pub shares: [u64; 0],
     /// The slots whose owner here has its unit of the value's place.
     pub drawn: [u64; 0],
     /// The slots that it sees under its guards, one entry for each time.
@@ -160,7 +158,7 @@ pub struct FractionsView {
     pub founds: bool,
     /// What lies in the bank, where it is the bank's.
     pub banked: [Deposit; 0],
-    /// What the slots show whose only owner it has, once the value was moved in.
+    /// What the slots show that it has owners of, once the value was moved in, one entry for each owner.
     pub owns: [ShownValue; 0],
     /// What the slots show that it sees under its guards, one entry for each time.
     pub sees: [ShownValue; 0],

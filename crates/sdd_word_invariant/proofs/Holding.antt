@@ -19,22 +19,22 @@ use Rattle.sdd_word_invariant.proofs.Sums.{without_same, without_other}
 use Rattle.sdd_word_invariant.proofs.SlotWords.{slot_step, view_step, not_alone, alone_is}
 
 -- it owns these slots, holds one of them or none, and has looked so far
-abbrev pub holding : View → List ℕ → List ℕ → Option ℕ → ℕ → List ℕ → View
-holding v os ss h q known = record v { slots = record v.slots { owns = os; shares = ss; holds = h; looked = q }; words = known }
+abbrev pub holding : View → List ℕ → Option ℕ → ℕ → List ℕ → View
+holding v os h q known = record v { slots = record v.slots { owns = os; holds = h; looked = q }; words = known }
 
 module _ (z : WordReading) (sound : IsWordReading z) (sizes : Sizes) (ws : List ℕ) (vs : List View) (s : SlotsInvariant z sizes ws vs) (id : ℕ) (v : View)
     (at : get_elem? vs id ≡ some v) where
   -- the owner of the slot i takes hold of it, or lets go
-  hold_step : (i y : ℕ) (os ss : List ℕ) (h : Option ℕ) (known : List ℕ) → i < sizes.slots → 0 < owners_at i v
+  hold_step : (i y : ℕ) (os : List ℕ) (h : Option ℕ) (known : List ℕ) → i < sizes.slots → 0 < owners_at i v
       → ((k : ℕ) → Holds v k → k ≡ i)
-      → z.alive y + owners_at i v ≡ z.alive (slot_at sizes ws i) + (times i os + times i ss)
-      → ((j : ℕ) → j ≢ i → (times j v.slots.owns ≡ times j os) × (times j v.slots.shares ≡ times j ss))
+      → z.alive y + owners_at i v ≡ z.alive (slot_at sizes ws i) + times i os
+      → ((j : ℕ) → j ≢ i → times j v.slots.owns ≡ times j os)
       → z.waiting y ≡ z.waiting (slot_at sizes ws i)
       → ((j : ℕ) (u : View) → get_elem? vs j ≡ some u → Sees u i → z.full y ≡ 1)
       → (0 < times i os → (z.alive y ≡ 1) × (z.counted y ≡ 0)) → ((k : ℕ) → h ≡ Some k → 0 < times k os)
-      → SlotsInvariant z sizes (set ws (slot_word sizes i) y) (set vs id (holding v os ss h 0 known))
-  hold_step i y os ss h known inside mine only here else same full alone held =
-      let long = s.long in let w : View = holding v os ss h 0 known in let f = s.each id v at in
+      → SlotsInvariant z sizes (set ws (slot_word sizes i) y) (set vs id (holding v os h 0 known))
+  hold_step i y os h known inside mine only here else same full alone held =
+      let long = s.long in let w : View = holding v os h 0 known in let f = s.each id v at in
       let now : (j : ℕ) → j ≡ i → slot_at sizes (set ws (slot_word sizes i) y) j ≡ y
       = λ j e. ap (λ (a : ℕ). slot_at sizes (set ws (slot_word sizes i) y) a) e ∙ get_or-set_same ws (slot_word sizes i) y 0 (omega arith) in
       let there : (j : ℕ) → j ≢ i → slot_at sizes (set ws (slot_word sizes i) y) j ≡ slot_at sizes ws j
@@ -48,7 +48,7 @@ module _ (z : WordReading) (sound : IsWordReading z) (sizes : Sizes) (ws : List 
             (λ ne. ap z.full (there k ne) ∙ f.full k sees);
         alone = λ k own. dite (ℕ_discrete k i)
             (λ e. let a = alone (subst (λ (d : ℕ). 0 < times d os) e own) in (ap z.alive (now k e) ∙ a.0, ap z.counted (now k e) ∙ a.1))
-            (λ ne. let e = (else k ne).0 in let g = f.alone k (omega arith) in (ap z.alive (there k ne) ∙ g.0, ap z.counted (there k ne) ∙ g.1));
+            (λ ne. let e = else k ne in let g = f.alone k (omega arith) in (ap z.alive (there k ne) ∙ g.0, ap z.counted (there k ne) ∙ g.1));
         held = held;
       }
       (let x = s.two id id v v at at in record { since = x.since; looked = λ _ _ _. omega arith })
@@ -57,25 +57,25 @@ module _ (z : WordReading) (sound : IsWordReading z) (sizes : Sizes) (ws : List 
 
   -- hold the slot of an only owner, which its word said or comes to say: of a count of one it becomes another word, to which no step adds an owner
   pub takes_hold : (i y : ℕ) (known : List ℕ) → i < sizes.slots → OwnsAlone v i → v.slots.holds ≡ None → z.alive y ≡ 1 → z.counted y ≡ 0
-      → SlotsInvariant z sizes (set ws (slot_word sizes i) y) (set vs id (holding v v.slots.owns v.slots.shares (Some i) 0 known))
+      → SlotsInvariant z sizes (set ws (slot_word sizes i) y) (set vs id (holding v v.slots.owns (Some i) 0 known))
   takes_hold i y known inside mine free one firm = let a = ((s.each id v at).alone i mine).0 in let l = sound.lives (slot_at sizes ws i) (omega arith) in
       let l' = sound.lives y (omega arith) in
-      hold_step i y v.slots.owns v.slots.shares (Some i) known inside (omega arith) (λ k h. let c : None ≡ Some k = sym free ∙ h in cc) (omega arith)
-      (λ _ _. (refl, refl)) (l'.0 ∙ sym l.0) (λ _ _ _ _. l'.1) (λ _. (one, firm)) (λ k e. let same : i ≡ k = cc in subst (OwnsAlone v) same mine)
+      hold_step i y v.slots.owns (Some i) known inside (omega arith) (λ k h. let c : None ≡ Some k = sym free ∙ h in cc) (omega arith)
+      (λ _ _. refl) (l'.0 ∙ sym l.0) (λ _ _ _ _. l'.1) (λ _. (one, firm)) (λ k e. let same : i ≡ k = cc in subst (OwnsAlone v) same mine)
 
   -- no longer
   pub lets_go : (i y : ℕ) (known : List ℕ) → i < sizes.slots → Holds v i → z.alive y ≡ 1 → z.counted y ≡ 0
-      → SlotsInvariant z sizes (set ws (slot_word sizes i) y) (set vs id (holding v v.slots.owns v.slots.shares None 0 known))
+      → SlotsInvariant z sizes (set ws (slot_word sizes i) y) (set vs id (holding v v.slots.owns None 0 known))
   lets_go i y known inside held one firm = let mine = (s.each id v at).held i held in let a = ((s.each id v at).alone i mine).0 in
       let l = sound.lives (slot_at sizes ws i) (omega arith) in let l' = sound.lives y (omega arith) in
-      hold_step i y v.slots.owns v.slots.shares None known inside (omega arith) (λ k h. let c : Some i ≡ Some k = sym held ∙ h in let e : k ≡ i = cc in e)
-      (omega arith) (λ _ _. (refl, refl)) (l'.0 ∙ sym l.0) (λ _ _ _ _. l'.1) (λ _. (one, firm)) (λ k e. let c : None ≡ Some k = e in cc)
+      hold_step i y v.slots.owns None known inside (omega arith) (λ k h. let c : Some i ≡ Some k = sym held ∙ h in let e : k ≡ i = cc in e)
+      (omega arith) (λ _ _. refl) (l'.0 ∙ sym l.0) (λ _ _ _ _. l'.1) (λ _. (one, firm)) (λ k e. let c : None ≡ Some k = e in cc)
 
   module _ (epochs : EpochInvariant sizes.participants ws (map epoch_of vs)) where
     -- look at the next place, the own one too: no guard is open there
     pub passes : (q : ℕ) → q ≡ v.slots.looked → get_or ws (state_word q) 0 ≢ 2
-        → SlotsInvariant z sizes ws (set vs id (holding v v.slots.owns v.slots.shares v.slots.holds (suc q) v.words))
-    passes q next shut = let w : View = holding v v.slots.owns v.slots.shares v.slots.holds (suc q) v.words in let f = s.each id v at in
+        → SlotsInvariant z sizes ws (set vs id (holding v v.slots.owns v.slots.holds (suc q) v.words))
+    passes q next shut = let w : View = holding v v.slots.owns v.slots.holds (suc q) v.words in let f = s.each id v at in
         let further : (j : ℕ) (u : View) → get_elem? vs j ≡ some u → (a : ℕ) → Sees u a → Holds v a → suc q ≤ u.epoch.place = λ j u e a sees h.
         let old = (s.two j id u v e at).looked a sees h in let is_open = (s.each j u e).guarded a sees in
         let g = (epochs.each j u.epoch (at_map epoch_of vs j u e)).state (omega arith) in
@@ -93,11 +93,11 @@ module _ (z : WordReading) (sound : IsWordReading z) (sizes : Sizes) (ws : List 
 
     -- the item goes at once, and the slot is free
     pub discards : (i y : ℕ) (known : List ℕ) → i < sizes.slots → Holds v i → sizes.participants ≤ v.slots.looked → z.alive y ≡ 0 → z.waiting y ≡ 0
-        → SlotsInvariant z sizes (set ws (slot_word sizes i) y) (set vs id (holding v (without i v.slots.owns) v.slots.shares None 0 known))
+        → SlotsInvariant z sizes (set ws (slot_word sizes i) y) (set vs id (holding v (without i v.slots.owns) None 0 known))
     discards i y known inside held all none quiet = let mine = (s.each id v at).held i held in let a = ((s.each id v at).alone i mine).0 in
-        let l = sound.lives (slot_at sizes ws i) (omega arith) in let o = alone_is z sound sizes ws vs s id i v at mine in let o0 = o.0 in
+        let l = sound.lives (slot_at sizes ws i) (omega arith) in let o = alone_is z sound sizes ws vs s id i v at mine in 
         let gone = without_same i v.slots.owns in
-        hold_step i y (without i v.slots.owns) v.slots.shares None known inside (omega arith)
+        hold_step i y (without i v.slots.owns) None known inside (omega arith)
         (λ k h. let c : Some i ≡ Some k = sym held ∙ h in let e : k ≡ i = cc in e) (omega arith)
-        (λ j ne. (sym (without_other i j ne v.slots.owns), refl))
+        (λ j ne. sym (without_other i j ne v.slots.owns))
         (quiet ∙ sym l.0) (λ j u e sees. absurd (unseen_held i held all j u e sees)) (λ own. absurd (omega arith)) (λ k e. let c : None ≡ Some k = e in cc)

@@ -127,18 +127,18 @@ module _ {S : Type 0} (sizes : Sizes) where
       only t (suc j) v e = absurd (some-ne-none v (sym e))
 
   -- owners are cut off as a token, but for the one of a slot that is held
-  pub cuts : (id : ℕ) (v : View) (os ss units os' ss' : List ℕ) (mine theirs : FractionsView)
-      → ((i : ℕ) → (times i v.slots.owns ≡ times i os + times i os') × (times i v.slots.shares ≡ times i ss + times i ss'))
+  pub cuts : (id : ℕ) (v : View) (os units os' : List ℕ) (mine theirs : FractionsView)
+      → ((i : ℕ) → times i v.slots.owns ≡ times i os + times i os')
       → ((i : ℕ) → Holds v i → 0 < times i os) → Splits (WordInvariant {S = S} sizes) id v
-      (with_owners v os ss units mine) (record (owner_token os' ss') { stakes = theirs })
-  cuts id v os ss units os' ss' mine theirs parts held s k at = let n : ℕ = sizes.participants in
-      let w : View = with_owners v os ss units mine in let t : View = record (owner_token os' ss') { stakes = theirs } in
+      (with_owners v os units mine) (record (owner_token os') { stakes = theirs })
+  cuts id v os units os' mine theirs parts held s k at = let n : ℕ = sizes.participants in
+      let w : View = with_owners v os units mine in let t : View = record (owner_token os') { stakes = theirs } in
       let vs : List View = set s.views id w in record {
         parts = record {
           epoch = subst (λ (l : List EpochView). EpochInvariant n s.words l)
               (sym (map-append epoch_of vs (t ∷ []) ∙ ap (λ (l : List EpochView). l ++ nobody 0 ∷ []) (same_epochs s.views id v w at refl)))
               (seated n 0 (λ z. absurd (z refl)) s.words (map epoch_of s.views) k.parts.epoch);
-          slots = tokens.cuts codes sizes s.words s.views k.parts.slots id v at os ss units mine t os' ss' refl parts held;
+          slots = tokens.cuts codes sizes s.words s.views k.parts.slots id v at os units mine t os' refl parts held;
           lone = snoc_lone sizes s.words vs t (λ z. absurd (omega arith)) (lone_same sizes s.words s.views k.parts.lone id v at w refl (λ z. z));
         };
         places = record {
@@ -151,18 +151,18 @@ module _ {S : Type 0} (sizes : Sizes) where
       }
 
   -- and taken in again
-  pub takes_in : (id : ℕ) (v : View) (other : ℕ) (os ss units os' ss' : List ℕ) (mine theirs : FractionsView)
-      → ((i : ℕ) → (times i os ≡ times i v.slots.owns + times i os') × (times i ss ≡ times i v.slots.shares + times i ss'))
-      → Joins (WordInvariant {S = S} sizes) id v other (record (owner_token os' ss') { stakes = theirs })
-      (with_owners v os ss units mine) (owner_token [] [])
-  takes_in id v other os ss units os' ss' mine theirs parts s k at apart there = let n : ℕ = sizes.participants in
-      let w : View = with_owners v os ss units mine in let t : View = record (owner_token os' ss') { stakes = theirs } in
-      let t' : View = owner_token [] [] in let vs : List View = set s.views id w in
+  pub takes_in : (id : ℕ) (v : View) (other : ℕ) (os units os' : List ℕ) (mine theirs : FractionsView)
+      → ((i : ℕ) → times i os ≡ times i v.slots.owns + times i os')
+      → Joins (WordInvariant {S = S} sizes) id v other (record (owner_token os') { stakes = theirs })
+      (with_owners v os units mine) (owner_token [])
+  takes_in id v other os units os' mine theirs parts s k at apart there = let n : ℕ = sizes.participants in
+      let w : View = with_owners v os units mine in let t : View = record (owner_token os') { stakes = theirs } in
+      let t' : View = owner_token [] in let vs : List View = set s.views id w in
       let was : get_elem? s.views other ≡ some t = sym (set_else s.views id other w apart) ∙ there in record {
         parts = record {
           epoch = subst (λ (l : List EpochView). EpochInvariant n s.words l)
               (sym (same_epochs vs other t t' there refl ∙ same_epochs s.views id v w at refl)) k.parts.epoch;
-          slots = tokens.takes_in codes sizes s.words s.views k.parts.slots id v at os ss units mine other t t' os' ss' refl refl parts apart was;
+          slots = tokens.takes_in codes sizes s.words s.views k.parts.slots id v at os units mine other t t' os' refl refl parts apart was;
           lone = lone_same sizes s.words vs (lone_same sizes s.words s.views k.parts.lone id v at w refl (λ z. z)) other t there t' refl (λ z. z);
         };
         places = record {
@@ -174,17 +174,17 @@ module _ {S : Type 0} (sizes : Sizes) where
 
   -- the only owner of the first slot goes to a token of its own, where none is held
   pub parts_owner : (id : ℕ) (v : View) (mine theirs : FractionsView) → v.slots.holds ≡ None → Splits (WordInvariant {S = S} sizes) id v
-      (record (parted v) { stakes = mine }) (record (owner_token (first v.slots.owns) []) { stakes = theirs })
-  parts_owner id v mine theirs free = cuts id v (others v.slots.owns) v.slots.shares (others v.slots.drawn) (first v.slots.owns) [] mine theirs
-      (λ i. (both i v.slots.owns, omega arith)) (λ i h. let c : None ≡ Some i = sym free ∙ h in cc)
+      (record (parted v) { stakes = mine }) (record (owner_token (first v.slots.owns)) { stakes = theirs })
+  parts_owner id v mine theirs free = cuts id v (others v.slots.owns) (others v.slots.drawn) (first v.slots.owns) mine theirs
+      (λ i. both i v.slots.owns) (λ i h. let c : None ≡ Some i = sym free ∙ h in cc)
     where
       both : (i : ℕ) (os : List ℕ) → times i os ≡ times i (others os) + times i (first os)
       both i [] = refl
       both i (x ∷ xs) = omega arith
 
   -- and comes back
-  pub joins_owners : (id : ℕ) (v : View) (other : ℕ) (os ss : List ℕ) (mine theirs : FractionsView)
-      → Joins (WordInvariant {S = S} sizes) id v other (record (owner_token os ss) { stakes = theirs })
-      (record (joined v (owner_token os ss)) { stakes = mine }) (owner_token [] [])
-  joins_owners id v other os ss mine theirs = takes_in id v other (os ++ v.slots.owns) (ss ++ v.slots.shares) ((os ++ ss) ++ v.slots.drawn) os ss mine theirs
-      (λ i. (let e = total_append (is i) os v.slots.owns in omega arith, let e = total_append (is i) ss v.slots.shares in omega arith))
+  pub joins_owners : (id : ℕ) (v : View) (other : ℕ) (os : List ℕ) (mine theirs : FractionsView)
+      → Joins (WordInvariant {S = S} sizes) id v other (record (owner_token os) { stakes = theirs })
+      (record (joined v (owner_token os)) { stakes = mine }) (owner_token [])
+  joins_owners id v other os mine theirs = takes_in id v other (os ++ v.slots.owns) (os ++ v.slots.drawn) os mine theirs
+      (λ i. let e = total_append (is i) os v.slots.owns in omega arith)

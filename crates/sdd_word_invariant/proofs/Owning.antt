@@ -21,8 +21,8 @@ use Rattle.sdd_word_invariant.proofs.Sums.{total_snoc, total_has, total_kept, to
 use Rattle.sdd_word_invariant.proofs.SlotWords.{slot_step, not_alone, alone_is, waiter_in}
 
 -- it owns other slots, and knows other words
-abbrev pub owning : View → List ℕ → List ℕ → List ℕ → View
-owning v os ss known = record v { slots = record v.slots { owns = os; shares = ss }; words = known }
+abbrev pub owning : View → List ℕ → List ℕ → View
+owning v os known = record v { slots = record v.slots { owns = os }; words = known }
 
 -- the items without those of the slot i
 pub item_gone : (i : ℕ) (xs : List WaitingItem) → total (waits_in i) (without_item i xs) ≡ 0
@@ -34,15 +34,15 @@ item_kept i j ne xs = total_kept (waits_in j) (λ (x : WaitingItem). not (eqb x.
 module _ (z : WordReading) (sound : IsWordReading z) (sizes : Sizes) (ws : List ℕ) (vs : List View) (s : SlotsInvariant z sizes ws vs) (id : ℕ) (v : View)
     (at : get_elem? vs id ≡ some v) where
   -- only what the participant owns of the slot i changes
-  pub owns_step : (i y : ℕ) (os ss known : List ℕ) → i < sizes.slots → ¬ (Holds v i)
-      → z.alive y + owners_at i v ≡ z.alive (slot_at sizes ws i) + (times i os + times i ss)
-      → ((j : ℕ) → j ≢ i → (times j v.slots.owns ≡ times j os) × (times j v.slots.shares ≡ times j ss))
+  pub owns_step : (i y : ℕ) (os known : List ℕ) → i < sizes.slots → ¬ (Holds v i)
+      → z.alive y + owners_at i v ≡ z.alive (slot_at sizes ws i) + times i os
+      → ((j : ℕ) → j ≢ i → times j v.slots.owns ≡ times j os)
       → z.waiting y ≡ z.waiting (slot_at sizes ws i) → (z.full (slot_at sizes ws i) ≡ 1 → z.full y ≡ 1)
       → (0 < owners_at i v) ⊎ (z.alive (slot_at sizes ws i) ≢ 1) ⊎ (z.counted (slot_at sizes ws i) ≢ 0)
       → (0 < times i os → (z.alive y ≡ 1) × (z.counted y ≡ 0))
-      → SlotsInvariant z sizes (set ws (slot_word sizes i) y) (set vs id (owning v os ss known))
-  owns_step i y os ss known inside free here else same full why alone =
-      let long = s.long in let w : View = owning v os ss known in let f = s.each id v at in
+      → SlotsInvariant z sizes (set ws (slot_word sizes i) y) (set vs id (owning v os known))
+  owns_step i y os known inside free here else same full why alone =
+      let long = s.long in let w : View = owning v os known in let f = s.each id v at in
       let now : (j : ℕ) → j ≡ i → slot_at sizes (set ws (slot_word sizes i) y) j ≡ y
       = λ j e. ap (λ (a : ℕ). slot_at sizes (set ws (slot_word sizes i) y) a) e ∙ get_or-set_same ws (slot_word sizes i) y 0 (omega arith) in
       let there : (j : ℕ) → j ≢ i → slot_at sizes (set ws (slot_word sizes i) y) j ≡ slot_at sizes ws j
@@ -58,9 +58,9 @@ module _ (z : WordReading) (sound : IsWordReading z) (sizes : Sizes) (ws : List 
             (λ ne. ap z.full (there k ne) ∙ f.full k sees);
         alone = λ k own. dite (ℕ_discrete k i)
             (λ e. let a = alone (subst (λ (d : ℕ). 0 < times d os) e own) in (ap z.alive (now k e) ∙ a.0, ap z.counted (now k e) ∙ a.1))
-            (λ ne. let e = (else k ne).0 in let g = f.alone k (omega arith) in (ap z.alive (there k ne) ∙ g.0, ap z.counted (there k ne) ∙ g.1));
+            (λ ne. let e = else k ne in let g = f.alone k (omega arith) in (ap z.alive (there k ne) ∙ g.0, ap z.counted (there k ne) ∙ g.1));
         held = λ k h. dite (ℕ_discrete k i) (λ e. absurd (free (subst (Holds v) e h)))
-            (λ ne. let o = f.held k h in let e = (else k ne).0 in omega arith);
+            (λ ne. let o = f.held k h in let e = else k ne in omega arith);
       }
       (let x = s.two id id v v at at in record { since = x.since; looked = x.looked })
       (λ j u apart e. let x = s.two id j v u at e in let y = s.two j id u v e at in
@@ -74,53 +74,31 @@ module _ (z : WordReading) (sound : IsWordReading z) (sizes : Sizes) (ws : List 
   -- a free slot is claimed
   pub claims : (i y : ℕ) (known : List ℕ) → i < sizes.slots → z.alive (slot_at sizes ws i) ≡ 0 → z.waiting (slot_at sizes ws i) ≡ 0
       → z.alive y ≡ 1 → z.counted y ≡ 0
-      → SlotsInvariant z sizes (set ws (slot_word sizes i) y) (set vs id (owning v (i ∷ v.slots.owns) v.slots.shares known))
+      → SlotsInvariant z sizes (set ws (slot_word sizes i) y) (set vs id (owning v (i ∷ v.slots.owns) known))
   claims i y known inside none quiet one firm = let l = sound.lives y (omega arith) in let one' = is_same i i refl in
-      owns_step i y (i ∷ v.slots.owns) v.slots.shares known inside
+      owns_step i y (i ∷ v.slots.owns) known inside
       (λ h. not_held i (inl (λ e. omega arith)) ((s.each id v at).held i h))
       (omega arith)
-      (λ j ne. let o = is_other j i (λ e. ne (sym e)) in (omega arith, refl))
+      (λ j ne. let o = is_other j i (λ e. ne (sym e)) in omega arith)
       (l.0 ∙ sym quiet) (λ _. l.1) (inr (inl (λ e. omega arith))) (λ _. (one, firm))
-
-  -- one owner more is counted
-  pub counts_up : (i y : ℕ) (known : List ℕ) → i < sizes.slots → z.alive y ≡ z.alive (slot_at sizes ws i) + 1 → z.waiting (slot_at sizes ws i) ≡ 0
-      → z.counted (slot_at sizes ws i) ≢ 0
-      → SlotsInvariant z sizes (set ws (slot_word sizes i) y) (set vs id (owning v v.slots.owns (i ∷ v.slots.shares) known))
-  counts_up i y known inside more quiet count = let l = sound.lives y (omega arith) in let one = is_same i i refl in
-      owns_step i y v.slots.owns (i ∷ v.slots.shares) known inside
-      (λ h. not_held i (inr count) ((s.each id v at).held i h))
-      (omega arith)
-      (λ j ne. let o = is_other j i (λ e. ne (sym e)) in (refl, omega arith))
-      (l.0 ∙ sym quiet) (λ _. l.1) (inr (inr count)) (λ own. absurd (not_held i (inr count) own))
-
-  -- a counted owner goes, which isn't the last
-  pub counts_down : (i y : ℕ) (ss known : List ℕ) → i < sizes.slots → v.slots.shares ≡ i ∷ ss → z.alive y + 1 ≡ z.alive (slot_at sizes ws i)
-      → z.counted (slot_at sizes ws i) ≢ 0 → z.waiting y ≡ 0 → z.full y ≡ 1
-      → SlotsInvariant z sizes (set ws (slot_word sizes i) y) (set vs id (owning v v.slots.owns ss known))
-  counts_down i y ss known inside has less count quiet full = let one = is_same i i refl in
-      let h : times i v.slots.shares ≡ times i (i ∷ ss) = ap (times i) has in let l = sound.lives (slot_at sizes ws i) (omega arith) in
-      owns_step i y v.slots.owns ss known inside (λ h. not_held i (inr count) ((s.each id v at).held i h))
-      (omega arith)
-      (λ j ne. let o = is_other j i (λ e. ne (sym e)) in let g : times j v.slots.shares ≡ times j (i ∷ ss) = ap (times j) has in (refl, omega arith))
-      (quiet ∙ sym l.0) (λ _. full) (inl (omega arith)) (λ own. absurd (not_held i (inr count) own))
 
   -- the only owner goes, and the item stays: it is raw from now on
   pub turns_raw : (i y : ℕ) (known : List ℕ) → i < sizes.slots → OwnsAlone v i → ¬ (Holds v i) → z.alive y ≡ 0 → z.waiting y ≡ 0 → z.full y ≡ 1
-      → SlotsInvariant z sizes (set ws (slot_word sizes i) y) (set vs id (owning v (without i v.slots.owns) v.slots.shares known))
+      → SlotsInvariant z sizes (set ws (slot_word sizes i) y) (set vs id (owning v (without i v.slots.owns) known))
   turns_raw i y known inside mine free none quiet full = let a = (s.each id v at).alone i mine in let a0 = a.0 in
-      let l = sound.lives (slot_at sizes ws i) (omega arith) in let o = alone_is z sound sizes ws vs s id i v at mine in let o0 = o.0 in
+      let l = sound.lives (slot_at sizes ws i) (omega arith) in let o = alone_is z sound sizes ws vs s id i v at mine in
       let gone = without_same i v.slots.owns in
-      owns_step i y (without i v.slots.owns) v.slots.shares known inside free (omega arith)
-      (λ j ne. (sym (without_other i j ne v.slots.owns), refl))
+      owns_step i y (without i v.slots.owns) known inside free (omega arith)
+      (λ j ne. sym (without_other i j ne v.slots.owns))
       (quiet ∙ sym l.0) (λ _. full) (inl (omega arith)) (λ own. absurd (omega arith))
 
   -- the word of an item without owners changes: one that waits privately is claimed by a close
   pub marks : (i y : ℕ) (known : List ℕ) → i < sizes.slots → z.alive (slot_at sizes ws i) ≡ 0 → z.alive y ≡ 0
       → z.waiting y ≡ z.waiting (slot_at sizes ws i) → z.full y ≡ 1
-      → SlotsInvariant z sizes (set ws (slot_word sizes i) y) (set vs id (owning v v.slots.owns v.slots.shares known))
+      → SlotsInvariant z sizes (set ws (slot_word sizes i) y) (set vs id (owning v v.slots.owns known))
   marks i y known inside none none' same full = let never = not_held i (inl (λ e. omega arith)) in
-      owns_step i y v.slots.owns v.slots.shares known inside
-      (λ h. never ((s.each id v at).held i h)) (omega arith) (λ _ _. (refl, refl)) same (λ _. full) (inr (inl (λ e. omega arith))) (λ own. absurd (never own))
+      owns_step i y v.slots.owns known inside
+      (λ h. never ((s.each id v at).held i h)) (omega arith) (λ _ _. refl) same (λ _. full) (inr (inl (λ e. omega arith))) (λ own. absurd (never own))
 
   -- nobody sees a slot that is free: so a claim finds no guard that saw it before
   pub fresh : (i : ℕ) → z.full (slot_at sizes ws i) ≡ 0 → (j : ℕ) (u : View) → get_elem? vs j ≡ some u → ¬ (Sees u i)
@@ -143,7 +121,7 @@ module _ (z : WordReading) (sound : IsWordReading z) (sizes : Sizes) (ws : List 
     retires i y known inside mine free none waits =
         let long = s.long in let w : View = retiring i known in let x : WaitingItem = retired_now i (get_or ws global_word 0) in let f = s.each id v at in
         let a = f.alone i mine in let a0 = a.0 in let l = sound.lives (slot_at sizes ws i) (omega arith) in let l0 = l.0 in
-        let full = (sound.waits y (omega arith)).1 in let o = alone_is z sound sizes ws vs s id i v at mine in let o0 = o.0 in let o1 = o.1 in
+        let full = (sound.waits y (omega arith)).1 in let o = alone_is z sound sizes ws vs s id i v at mine in
         let gone = without_same i v.slots.owns in let low = (epochs.each id v.epoch (at_map epoch_of vs id v at)).known in
         let now : (j : ℕ) → j ≡ i → slot_at sizes (set ws (slot_word sizes i) y) j ≡ y
         = λ j e. ap (λ (a : ℕ). slot_at sizes (set ws (slot_word sizes i) y) a) e ∙ get_or-set_same ws (slot_word sizes i) y 0 (omega arith) in

@@ -40,8 +40,8 @@ module _ (z : WordReading) (sound : IsWordReading z) (sizes : Sizes) (ws : List 
       let h = ap (λ (a : ℕ). z.waiting (slot_at sizes ws a)) e in omega arith
 
   -- a slot that is owned alone: nobody but its owner has one, nor a cell
-  pub alone_is : (j i : ℕ) (u : View) → get_elem? vs j ≡ some u → OwnsAlone u i → (times i u.slots.owns ≡ 1) × (times i u.slots.shares ≡ 0)
-  alone_is j i u at mine = let o = owner_in j i u at in let a = ((s.each j u at).alone i mine).0 in (omega arith, omega arith)
+  pub alone_is : (j i : ℕ) (u : View) → get_elem? vs j ≡ some u → OwnsAlone u i → times i u.slots.owns ≡ 1
+  alone_is j i u at mine = let o = owner_in j i u at in let a = ((s.each j u at).alone i mine).0 in omega arith
 
   module _ (id : ℕ) (v : View) (at : get_elem? vs id ≡ some v) where
     pub slot_step : (i y : ℕ) (w : View) → i < sizes.slots

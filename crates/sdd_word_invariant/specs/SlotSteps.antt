@@ -55,7 +55,6 @@ abbrev pub joined : View → View → View
 joined v w = record v {
   slots = record v.slots {
     owns = w.slots.owns ++ v.slots.owns;
-    shares = w.slots.shares ++ v.slots.shares;
     drawn = w.slots.drawn ++ v.slots.drawn;
   };
 }

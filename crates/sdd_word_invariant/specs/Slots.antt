@@ -16,7 +16,7 @@ slot_at sizes ws i = slice_index ws (slot_word sizes i)
 
 -- how many owners of the slot i it has
 abbrev pub owners_at : ℕ → View → ℕ
-owners_at i v = times i v.slots.owns + times i v.slots.shares
+owners_at i v = times i v.slots.owns
 
 abbrev pub waits_in : ℕ → WaitingItem → ℕ
 waits_in i x = is i x.slot
