@@ -197,7 +197,7 @@ module _ (γ : ℕ) (sizes : Sizes) (slots : ℕ) where
         same = same;
         mover = still_mover v (record v { epoch = e; slots = record v.slots { waits = map older v.slots.waits } }) refl (λ _. (stays e t.2).0) (λ _ o. o)
             (λ j o. let k = total_map (waits_in j) older (λ x. refl) v.slots.waits in omega arith) (h.homes.moving id v at);
-        alike = (refl, refl, refl, (λ j. total_map (waits_in j) older (λ x. refl) v.slots.waits), refl, refl);
+        alike = (refl, refl, refl, (λ j. total_map (waits_in j) older (λ x. refl) v.slots.waits), refl);
         counts = refl;
         lives = λ _. (stays e t.2).0;
         had = λ _ _. inl live;
