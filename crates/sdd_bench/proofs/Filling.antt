@@ -62,14 +62,16 @@ filled-on w v c e f = subst (λ (u : World ℕ). IsFilled u c) (sym e) f
 
 pub opened-filled : (w v : World ℕ) (p c : ℕ) → v ≡ opened nothing w p → IsFilled w c → IsFilled v c
 opened-filled w v p c e (slot, tag, is) =
-    (slot, tag, ap (λ (u : World ℕ). entry_at u.cells c) e ∙ ap (λ (cells : Entries CellContents). entry_at cells c) (opened-cells nothing (λ n. refl) p w) ∙ is)
+    (slot, tag, ap (λ (u : World ℕ). entry_at u.cells c) e ∙ ap (λ (cells : Entries CellContents). entry_at cells c) (opened-cells nothing (λ n. refl) p w)
+    ∙ is)
 
 -- a cell that holds something isn't one that is empty
 pub apart : (cells : Entries CellContents) (c d : ℕ) (x : CellContents) → entry_at cells c ≡ Some x → IsEmptyAt cells d → d ≢ c
 apart cells c d x full empty = λ e. let never : Some x ≡ None = sym full ∙ ap (λ (n : ℕ). entry_at cells n) (sym e) ∙ empty.1 in absurd (cc)
 
 -- a cell that holds an owner holds it still where another one is filled with a new item, and where another one is freed
-pub filled-beside : (w v : World ℕ) (c d k value : ℕ) (cell : CellContents) → v ≡ with_cell (made w k value) d cell → IsEmptyAt w.cells d → IsFilled w c → IsFilled v c
+pub filled-beside : (w v : World ℕ) (c d k value : ℕ) (cell : CellContents) → v ≡ with_cell (made w k value) d cell → IsEmptyAt w.cells d → IsFilled w c
+    → IsFilled v c
 filled-beside w v c d k value cell e empty (slot, tag, is) =
     let other = apart w.cells c d _ is empty in
     (slot, tag, ap (λ (u : World ℕ). entry_at u.cells c) e ∙ get_or-set_other w.cells d c (Some cell) None (λ e. other (sym e)) ∙ is)
@@ -87,5 +89,6 @@ filled-out w k c value cell slot empty =
     let m = (out-laws nothing w).making k value slot in
     let n = (out-laws nothing u).nulling c empty in
     let f = (out-laws nothing (nulled u c)).filling c cell (ap is_some (get_or-set_same w.cells c (Some null) None empty.0)) in
-    let twice : with_cell (nulled u c) c cell ≡ with_cell u c cell = ap (λ (cells : Entries CellContents). record u { cells = cells }) (set-set w.cells c (Some null) (Some cell)) in
+    let twice : with_cell (nulled u c) c cell ≡ with_cell u c cell =
+        ap (λ (cells : Entries CellContents). record u { cells = cells }) (set-set w.cells c (Some null) (Some cell)) in
     omega (arith, m, n, f, ap (λ (v : World ℕ). out v) twice)

@@ -104,7 +104,8 @@ abbrev pub nothing : ℕ → List OwnerOrCell
 nothing n = []
 
 -- one after another
-pub in-turn : (s0 s1 s2 : CallerId) (o0 o1 o2 : Participant) (w0 w1 w2 : World ℕ) → Leaves s0 o0 w0 s1 o1 w1 → Leaves s1 o1 w1 s2 o2 w2 → Leaves s0 o0 w0 s2 o2 w2
+pub in-turn : (s0 s1 s2 : CallerId) (o0 o1 o2 : Participant) (w0 w1 w2 : World ℕ) → Leaves s0 o0 w0 s1 o1 w1 → Leaves s1 o1 w1 s2 o2 w2
+    → Leaves s0 o0 w0 s2 o2 w2
 in-turn s0 s1 s2 o0 o1 o2 w0 w1 w2 l m =
     record {
       seat = m.seat ∙ l.seat;

@@ -152,7 +152,8 @@ module _ (d : ScriptState) (s : IsSound d) (shut : (g : ℕ) → opening_at d.gu
           (was.0, rw l.phases was.1));
     }
 
-    pub sound-let : SlotsHaveNames new → EachCellHasKeeper new → HoldsOnlyOlder new → AreCounted new new.world → AreAtHome new new.owners → AreAtHome new new.cells →
+    pub sound-let : SlotsHaveNames new → EachCellHasKeeper new → HoldsOnlyOlder new → AreCounted new new.world → AreAtHome new new.owners
+        → AreAtHome new new.cells →
         AreAtHome new new.collectors → IsSound new
     sound-let stocked keepers layered counted owners_home cells_home collectors_home = record {
       stocked = stocked;

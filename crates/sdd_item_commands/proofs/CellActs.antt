@@ -221,7 +221,8 @@ module _ (h : Environment) (t : IsTied h) where
           still d (At name (call.Load c g)) (reply.Pointer item cell.tag)
           ((valid, known), ((k, cell, is-cell c.0 x cell mine holds, told, refl), refl))
 
-      pub acts-tag_told : (cell : CellContents) (tag : Tag) → entry_at h.world.cells k ≡ Some cell → tag ≡ cell.tag → Acts d (At name (call.Tag c)) (reply.Tag tag) d
+      pub acts-tag_told : (cell : CellContents) (tag : Tag) → entry_at h.world.cells k ≡ Some cell → tag ≡ cell.tag
+          → Acts d (At name (call.Tag c)) (reply.Tag tag) d
       acts-tag_told cell tag holds told =
           still d (At name (call.Tag c)) (reply.Tag tag) ((here, known), ((k, cell, is-cell c.0 x cell mine holds, told), refl))
 
@@ -240,7 +241,8 @@ module _ (h : Environment) (t : IsTied h) where
             by (Some j) all = all j refl
 
       -- its tag changes, or not
-      pub acts-tagged : (tag was : Tag) (cell : CellContents) (b : Bool) (w : World Val) → entry_at h.world.cells k ≡ Some cell → (IsTrue b ↔ (cell.tag ≡ was)) →
+      pub acts-tagged : (tag was : Tag) (cell : CellContents) (b : Bool) (w : World Val) → entry_at h.world.cells k ≡ Some cell
+          → (IsTrue b ↔ (cell.tag ≡ was)) →
           w ≡ (if b then with_cell h.world k (record cell { tag = tag }) else h.world) →
           Does d (At name (call.TagIf c tag was)) (reply.Truth b) (record h { world = w })
       acts-tagged tag was cell true w holds decides world =

@@ -436,7 +436,8 @@ pub seen-as : (seen : CellContents) (o now : Option ℕ) (was : Tag) → seen �
 seen-as seen o now was is same = subst (λ z. seen ≡ record { held = z; tag = was }) same is
 
 -- what was to go into a cell is put back, and the desk is as it was
-pub same-back : (h : Environment) (w : World Val) (owners : Vec (Option AnyOwner)) (kind : OwnerKind) (y : Option OwnerName) (between : List (Option OwnerOrCell))
+pub same-back : (h : Environment) (w : World Val) (owners : Vec (Option AnyOwner)) (kind : OwnerKind) (y : Option OwnerName)
+    (between : List (Option OwnerOrCell))
     (next : CellOwner) (f : Option OwnerOrCell) → w ≡ h.world → Fills (desk_of h).owners kind y between next → f ≡ filling_holding next →
     map (option_map owner_holding) owners.items ≡ owners_back between y f →
     desk_of (record h { world = w; owners = record { entries = owners } }) ≡ desk_of h

@@ -78,7 +78,8 @@ module _ (h : Environment) (t : IsTied h) (whole : IsWhole h.world) where
     told-meets a (body.Owned x) meets = meets
     told-meets a (body.Shared x) meets = meets
 
-    read-does : (o : OwnerName) (b : Body Val) → ((k : ℕ) × (slot_of (holding_at d.owners o.0) ≡ Some k) × RepliesValue d k (told_of h.names.items b)) × (d ≡ d) →
+    read-does : (o : OwnerName) (b : Body Val) → ((k : ℕ) × (slot_of (holding_at d.owners o.0) ≡ Some k) × RepliesValue d k (told_of h.names.items b))
+        × (d ≡ d) →
         script.Does d n (place_of d n) (call.Read o) (told_of h.names.items b) d
     read-does o (body.Number m) does = does
     read-does o (body.Owned x) does = does

@@ -76,7 +76,8 @@ pub there-not : (h : Environment) (i : ℕ) → ¬ (CanPointAt h.world h.slots.i
 there-not h i cannot there = cannot (record { last = there.last; taken = there.taken; fresh = λ waits. omega arith })
 
 -- where the world and what names of owners stand for are as before, so is the desk
-pub same-desk : (h : Environment) (w : World Val) (owners : Vec (Option AnyOwner)) → w ≡ h.world → map (option_map owner_holding) owners.items ≡ (desk_of h).owners →
+pub same-desk : (h : Environment) (w : World Val) (owners : Vec (Option AnyOwner)) → w ≡ h.world
+    → map (option_map owner_holding) owners.items ≡ (desk_of h).owners →
     desk_of (record h { world = w; owners = record { entries = owners } }) ≡ desk_of h
 same-desk h w owners world same =
     ap (λ (u : World Val). record (desk_of h) { world = u; owners = map (option_map owner_holding) owners.items }) world

@@ -76,7 +76,8 @@ pub no_post : (xs ys : List PlacePhase) (p : ℕ) → ys ≡ xs → false ≡ lt
 no_post xs ys p e lt = sym (get_or_past ys p free_post (ltb-false p (length ys) (sym lt))) ∙ ap (λ (k : List PlacePhase). get_or k p free_post) e
 
 -- a write to a place's post
-pub with_post : (v : State) (c : ℕ) (xs : List PlacePhase) (ts : List ThreeBags) (rs : List Bool) (x : Option Scan) (p : ℕ) (y : PlacePhase) (f : Place → Place) →
+pub with_post : (v : State) (c : ℕ) (xs : List PlacePhase) (ts : List ThreeBags) (rs : List Bool) (x : Option Scan) (p : ℕ) (y : PlacePhase)
+    (f : Place → Place) →
     seen c xs ts rs x ≡ v → length ts ≡ length xs → f (place_of (get_or xs p free_post) (get_or ts p no_items)) ≡ place_of y (get_or ts p no_items) →
     seen c (set xs p y) ts rs x ≡ with_place v p f
 with_post v c xs ts rs x p y f e same g =
@@ -85,7 +86,8 @@ with_post v c xs ts rs x p y f e same g =
     ∙ ap (λ (s : State). with_place s p f) e
 
 -- a write to a place's bags
-pub with_trio : (v : State) (c : ℕ) (xs : List PlacePhase) (ts : List ThreeBags) (rs : List Bool) (x : Option Scan) (p : ℕ) (t : ThreeBags) (f : Place → Place) →
+pub with_trio : (v : State) (c : ℕ) (xs : List PlacePhase) (ts : List ThreeBags) (rs : List Bool) (x : Option Scan) (p : ℕ) (t : ThreeBags)
+    (f : Place → Place) →
     seen c xs ts rs x ≡ v → length ts ≡ length xs → f (place_of (get_or xs p free_post) (get_or ts p no_items)) ≡ place_of (get_or xs p free_post) t →
     seen c xs (set ts p t) rs x ≡ with_place v p f
 with_trio v c xs ts rs x p t f e same g =
@@ -106,7 +108,8 @@ has_rotated t i h =
     (λ b. or_left (set.contains t.current i || set.contains t.prev i) (set.contains t.next i) (or_right (set.contains t.current i) (set.contains t.prev i) b))
     (or_cases (set.contains (set.empty {R = nat_cmp}) i || set.contains t.current i) (set.contains t.prev i) h)
 
-fits_set : (xs : List PlacePhase) (b : BagsOfPlaces) (rs : List Bool) (o : Option Scan) (p : ℕ) (u : ThreeBags) → IsMachineState xs b rs o → p < length b.trios →
+fits_set : (xs : List PlacePhase) (b : BagsOfPlaces) (rs : List Bool) (o : Option Scan) (p : ℕ) (u : ThreeBags) → IsMachineState xs b rs o
+    → p < length b.trios →
     (is_free (get_or xs p free_post).phase ≡ true → u ≡ no_items) →
     ((i : ℕ) → has u i ≡ true → get_or rs i false ≡ true) → IsMachineState xs (record b { trios = set b.trios p u }) rs o
 fits_set xs b rs o p u f l g h = record {
@@ -259,7 +262,8 @@ seen_held v c xs ts rs x (Some y) e same h = sym (ap (λ (z : Place). is_open z.
 pub held_freed : (xs : List PlacePhase) (o : Option Scan) → IsHeldOpen xs o → IsHeldOpen (map freed_post xs) o
 held_freed xs None h = tt
 held_freed xs (Some x) h =
-    ap (λ (y : PlacePhase). is_open y.phase) (post_freed xs x.holder) ∙ subst (λ (k : Phase). is_open (cond (is_ended k) Free k) ≡ true) (sym (open_is _ h)) refl
+    ap (λ (y : PlacePhase). is_open y.phase) (post_freed xs x.holder)
+    ∙ subst (λ (k : Phase). is_open (cond (is_ended k) Free k) ≡ true) (sym (open_is _ h)) refl
 
 -- who adopts is open
 pub adopter_open : (xs : List PlacePhase) (o : Option Scan) (p : ℕ) → IsHeldOpen xs o → adopts p o ≡ true → is_open (get_or xs p free_post).phase ≡ true

@@ -170,7 +170,8 @@ taken_at (a ∷ b ∷ []) p r lp lr ne = absurd (omega arith)
 taken_at (a ∷ b ∷ c ∷ bs) zero zero lp lr ne = absurd (ne refl)
 taken_at (a ∷ b ∷ c ∷ bs) zero (suc r) lp lr ne =
     ap (λ (x : Items). record { current = x; prev = b; next = c } ∷ trios_of (emptied r bs)) (taken_away bs r a (omega arith))
-    ∙ ap (λ (ts : List ThreeBags). record { current = set.union a (all_of (trio_at (trios_of bs) r)); prev = b; next = c } ∷ ts) (emptied_trios bs r (omega arith))
+    ∙ ap (λ (ts : List ThreeBags). record { current = set.union a (all_of (trio_at (trios_of bs) r)); prev = b; next = c } ∷ ts)
+    (emptied_trios bs r (omega arith))
 taken_at (a ∷ b ∷ c ∷ bs) (suc p) zero lp lr ne =
     let l : p < length (trios_of bs) = omega arith in
     ap (λ (ds : List Items). no_items ∷ trios_of ds) (three bs p a b c l)

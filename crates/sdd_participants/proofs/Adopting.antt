@@ -447,7 +447,8 @@ there-is (x ∷ ps) zero d e l = refl
 there-is (x ∷ ps) (suc k) d e l = there-is ps k d e (omega (arith, l))
 
 -- the bags of q are taken out, adopted by p, and put back
-module _ (t : EpochState) (p q : ℕ) (lp : p < length t.places) (lq : q < length t.places) (apart : p ≢ q) (x y z : Participant) (taken old own left : Bags) where
+module _ (t : EpochState) (p q : ℕ) (lp : p < length t.places) (lq : q < length t.places) (apart : p ≢ q) (x y z : Participant)
+    (taken old own left : Bags) where
   abbrev bared : List Participant
   bared = slice_set t.places q (record x { bags = taken })
 

@@ -113,7 +113,8 @@ module _ (chosen : LimboEntry → Bool) where
   pub place-below : (t u : EpochState) (i : ℕ) → u ≡ taken_below t i → i < length t.places → place_at u i ≡ place_at t i
   place-below t u i e lt = ap (λ (v : EpochState). place_at v i) e ∙ place-yet t.places i lt
 
-  pub taken-next : (t u : EpochState) (i : ℕ) → u ≡ taken_below t i → i < length t.places → with_place u i (without chosen (place_at u i)) ≡ taken_below t (i + 1)
+  pub taken-next : (t u : EpochState) (i : ℕ) → u ≡ taken_below t i → i < length t.places
+      → with_place u i (without chosen (place_at u i)) ≡ taken_below t (i + 1)
   taken-next t u i e lt =
       let front = map (without chosen) (take i t.places) in
       let long : length front ≡ i = omega (arith, length-map (take i t.places) (without chosen), length-take i t.places, lt) in

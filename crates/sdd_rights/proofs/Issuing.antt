@@ -17,7 +17,8 @@ kept-issued parts more p n kind more_is kept kind_is units_is = let here : kept_
     ap (map kept_of) more_is ∙ map-append kept_of parts (p ∷ []) ∙ ap (λ (xs : List Kept). xs ++ kept_of p ∷ []) kept
     ∙ ap (λ (x : Kept). replicate n (whole kind) ++ x ∷ []) here ∙ replicate-more n (whole kind)
 
-pub each-issued : (home next : GhostName) (parts more : List (Fraction StandingKind)) (p : Fraction StandingKind) (n : ℕ) → more ≡ parts ++ p ∷ [] → next ≡ home → length more ≡ n + 1 →
+pub each-issued : (home next : GhostName) (parts more : List (Fraction StandingKind)) (p : Fraction StandingKind) (n : ℕ) → more ≡ parts ++ p ∷ []
+    → next ≡ home → length more ≡ n + 1 →
     length parts ≡ n → ArePartsUpTo home parts → p.home ≡ home → p.number ≡ n → ArePartsUpTo next more
 each-issued home next parts more p n more_is next_is size was each home_is number_is = rw (more_is, next_is) λ k d lt.
     let longer : length (parts ++ p ∷ []) ≡ n + 1 = ap length (sym more_is) ∙ size in

@@ -35,7 +35,8 @@ answer_at size past [] after step = refl
 answer_at size past (s ∷ before) after step = answer_at size (goes_on size past (s ∷ [])) before after step
 
 -- a publish that is possible tells what is due at it
-tells : (size : Size) (before : List Step) (place : ℕ) → possible (state size (history size before)) (Publish place) ≡ true → Tells size place (history size before)
+tells : (size : Size) (before : List Step) (place : ℕ) → possible (state size (history size before)) (Publish place) ≡ true
+    → Tells size place (history size before)
 tells size before place can =
     let moment = goes_on-append size [] before (Publish place ∷ []) ∙ ap (λ b. if b then Publish place ∷ history size before else history size before) can in
     (exact size (history size (before ++ Publish place ∷ [])) (goes_on_is size [] (before ++ Publish place ∷ []) tt)).told place (history size before) moment

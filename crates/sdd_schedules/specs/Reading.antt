@@ -7,7 +7,8 @@ use Rattle.sdd_schedules.specs.Line.{verb_of}
 
 -- the steps that name a place alone
 abbrev pub steps_at : ℕ → List Step
-steps_at place = Register place ∷ Read place ∷ Publish place ∷ Lock place ∷ Adopt place ∷ Look place ∷ Advance place ∷ Unlock place ∷ Close place ∷ End place ∷ []
+steps_at place = Register place ∷ Read place ∷ Publish place ∷ Lock place ∷ Adopt place ∷ Look place ∷ Advance place ∷ Unlock place ∷ Close place ∷ End place
+    ∷ []
 
 -- the first of the steps with this verb
 abbrev pub called : List ℕ → List Step → Option Step

@@ -49,7 +49,8 @@ pub record Goes (new : Environment) (e : ScriptState) : Type 0 where
 abbrev pub Does : ScriptState → Call → Reply → Environment → Type 0
 Does old call given new = IsTied new × Acts old call given (desk_of new)
 
-pub does : {new : Environment} {e : ScriptState} (old : ScriptState) (call : Call) (given : Reply) → Goes new e → Acts old call given e → Does old call given new
+pub does : {new : Environment} {e : ScriptState} (old : ScriptState) (call : Call) (given : Reply) → Goes new e → Acts old call given e
+    → Does old call given new
 does old call given goes acts = (goes.tied, subst (Acts old call given) (sym goes.desk) acts)
 
 pub goes : {new : Environment} {e : ScriptState} → desk_of new ≡ e → IsSound e →

@@ -27,7 +27,8 @@ abbrev pub HaveOwnTexts : {A : Type 0} → (A → List ℕ) → (A → Type 0) �
 HaveOwnTexts {A} text_of Fits = (a b : A) → Fits a → Fits b → text_of a ≡ text_of b → a ≡ b
 
 -- then no two lists of them have the same lines
-same_lines : {A : Type 0} (text_of : A → List ℕ) (Fits : A → Type 0) → HaveOwnTexts text_of Fits → (a b : List A) → AllByRecursion Fits a → AllByRecursion Fits b →
+same_lines : {A : Type 0} (text_of : A → List ℕ) (Fits : A → Type 0) → HaveOwnTexts text_of Fits → (a b : List A) → AllByRecursion Fits a
+    → AllByRecursion Fits b →
     map text_of a ≡ map text_of b → a ≡ b
 same_lines text_of Fits own [] [] h k e = refl
 same_lines text_of Fits own [] (d ∷ b) h k e = cc

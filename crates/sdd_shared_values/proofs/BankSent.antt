@@ -30,7 +30,8 @@ purse_keyless : (hs : List FractionContent) → Keyless (purse hs)
 purse_keyless [] = tt
 purse_keyless (h ∷ hs) = (((λ q c. entry_keyless halved h.book h.number _), lent_keyless h.lent h.round h.units), purse_keyless hs)
 
-pub bank_keyless : {V : Type 0} (c : V → Gv) (holds : State ValueFraction V → Type 0) (ours : V → Type 0) (banked : V → List FractionContent) (z : TableId) (id : ℕ)
+pub bank_keyless : {V : Type 0} (c : V → Gv) (holds : State ValueFraction V → Type 0) (ours : V → Type 0) (banked : V → List FractionContent) (z : TableId)
+    (id : ℕ)
     → Keyless (bank_owns the_row c holds ours banked z id)
 unfolding Rattle.atomic_table.specs.Seated.seal
 bank_keyless c holds ours banked z id = λ x. (

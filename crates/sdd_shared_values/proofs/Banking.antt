@@ -74,7 +74,8 @@ module _ {M : Type 1} {𝓤 : Ura M} (𝓛 : Logic 𝓤) where
       rewrite ! 0 (λ (n : Opt ℕ). ‵ (tokens_of n d.round (k + j))) (sym is.free) refl $ move ! (1 ∷ 0 ∷ []) $ fjoin ! $
       rewrite ! 0 (λ (x : FractionContent). ‵ (holding x)) (sym is.sum) refl $ done !)
 
-  leaves_by : (ls : List FractionContent) (l : FractionContent) (rest : List FractionContent) → Leaves ls l rest → ent 𝓤 ⟪ purse ls ⟫ (sep 𝓤 ⟪ purse rest ⟫ ⟪ holding l ⟫)
+  leaves_by : (ls : List FractionContent) (l : FractionContent) (rest : List FractionContent) → Leaves ls l rest
+      → ent 𝓤 ⟪ purse ls ⟫ (sep 𝓤 ⟪ purse rest ⟫ ⟪ holding l ⟫)
   leaves_by [] l rest it = absurd it
   leaves_by (h ∷ hs) l rest (inl it) = qed 𝓛 (‵ (holding h) ∷ ‵ (purse hs) ∷ []) ∵ rewrite ! 0 (λ (x : FractionContent). ‵ (holding x)) (sym it.0) refl $
       rewrite ! 1 (λ (x : List FractionContent). ‵ (purse x)) (sym it.1) refl $ move ! (1 ∷ 0 ∷ []) $ done !
@@ -85,7 +86,8 @@ module _ {M : Type 1} {𝓤 : Ura M} (𝓛 : Logic 𝓤) where
       use1 𝓛 (‵ (purse it.0) ⊛ ‵ (holding l)) (leaves_by hs l it.0 it.1) $ split ! $ move ! (2 ∷ 0 ∷ []) $ fjoin ! $
       rewrite ! 0 (λ (x : List FractionContent). ‵ (purse x)) (sym it.2) refl $ done !
 
-  comes_by : (ls : List FractionContent) (l : FractionContent) (more : List FractionContent) → Comes ls l more → ent 𝓤 (sep 𝓤 ⟪ purse ls ⟫ ⟪ holding l ⟫) ⟪ purse more ⟫
+  comes_by : (ls : List FractionContent) (l : FractionContent) (more : List FractionContent) → Comes ls l more
+      → ent 𝓤 (sep 𝓤 ⟪ purse ls ⟫ ⟪ holding l ⟫) ⟪ purse more ⟫
   comes_by [] l more it = qed 𝓛 (‵ (purse []) ∷ ‵ (holding l) ∷ []) ∵ move ! (1 ∷ 0 ∷ []) $ fjoin ! $
       rewrite ! 0 (λ (x : List FractionContent). ‵ (purse x)) (sym it) refl $ done !
   comes_by (h ∷ hs) l more (inl it) = qed 𝓛 (‵ (purse (h ∷ hs)) ∷ ‵ (holding l) ∷ []) ∵ move ! (1 ∷ 0 ∷ []) $ fjoin ! $
@@ -93,7 +95,8 @@ module _ {M : Type 1} {𝓤 : Ura M} (𝓛 : Logic 𝓤) where
   comes_by (h ∷ hs) l more (inr (inl it)) = qed 𝓛 (‵ (purse (h ∷ hs)) ∷ ‵ (holding l) ∷ []) ∵ fsplit ! $ move ! (0 ∷ 2 ∷ []) $
       use2 𝓛 (‵ (holding it.0)) (put_in h l it.0 it.1) $ fjoin ! $ rewrite ! 0 (λ (x : List FractionContent). ‵ (purse x)) (sym it.2) refl $ done !
   comes_by (h ∷ hs) l more (inr (inr it)) = qed 𝓛 (‵ (purse (h ∷ hs)) ∷ ‵ (holding l) ∷ []) ∵ fsplit ! $ move ! (1 ∷ 2 ∷ []) $
-      use2 𝓛 (‵ (purse it.0)) (comes_by hs l it.0 it.1) $ move ! (1 ∷ 0 ∷ []) $ fjoin ! $ rewrite ! 0 (λ (x : List FractionContent). ‵ (purse x)) (sym it.2) refl $ done !
+      use2 𝓛 (‵ (purse it.0)) (comes_by hs l it.0 it.1) $ move ! (1 ∷ 0 ∷ []) $ fjoin ! $
+      rewrite ! 0 (λ (x : List FractionContent). ‵ (purse x)) (sym it.2) refl $ done !
 
 module _ {M : Type 1} {𝓤 : Ura M} (𝓛 : Logic 𝓤) {V : Type 0} (cv : Coded V) (holds : State ValueFraction V → Type 0) (w p : Ptr) (z : TableId) where
   open 𝓛 use {H, A}
@@ -101,10 +104,12 @@ module _ {M : Type 1} {𝓤 : Ura M} (𝓛 : Logic 𝓤) {V : Type 0} (cv : Code
   abbrev R : RattleType
   R = stake.the_row
 
-  abbrev leaves : (ls : List FractionContent) (l : FractionContent) (rest : List FractionContent) → Leaves ls l rest → ent 𝓤 (sem 𝓛 (purse ls)) (sep 𝓤 (sem 𝓛 (purse rest)) (sem 𝓛 (holding l)))
+  abbrev leaves : (ls : List FractionContent) (l : FractionContent) (rest : List FractionContent) → Leaves ls l rest
+      → ent 𝓤 (sem 𝓛 (purse ls)) (sep 𝓤 (sem 𝓛 (purse rest)) (sem 𝓛 (holding l)))
   leaves = leaves_by 𝓛
 
-  abbrev comes : (ls : List FractionContent) (l : FractionContent) (more : List FractionContent) → Comes ls l more → ent 𝓤 (sep 𝓤 (sem 𝓛 (purse ls)) (sem 𝓛 (holding l))) (sem 𝓛 (purse more))
+  abbrev comes : (ls : List FractionContent) (l : FractionContent) (more : List FractionContent) → Comes ls l more
+      → ent 𝓤 (sep 𝓤 (sem 𝓛 (purse ls)) (sem 𝓛 (holding l))) (sem 𝓛 (purse more))
   comes = comes_by 𝓛
 
   abbrev Pr : Type 2
@@ -196,7 +201,8 @@ module _ {M : Type 1} {𝓤 : Ura M} (𝓛 : Logic 𝓤) {V : Type 0} (cv : Code
       use2 𝓛 (given (length hs' ≡ z.slots) (‵ (homed hs') ⊛ ‵ (out cs'))) (acts hs cs a long ok.0) $ learn ! (λ long'. split ! $
       by ! (acts hs' cs' a' long' ok.1))
 
-  module _ (q : Share) (id : ℕ) (me : Me S V) (bd : ℕ) (ours : V → Type 0) (banked : V → List FractionContent) (offered : FractionContent → Type 0) (then : FractionContent → Me S V → Type 0) where
+  module _ (q : Share) (id : ℕ) (me : Me S V) (bd : ℕ) (ours : V → Type 0) (banked : V → List FractionContent) (offered : FractionContent → Type 0)
+      (then : FractionContent → Me S V → Type 0) where
     abbrev Bank : Fml
     Bank = vault cv.code z bd ours banked
 
@@ -206,7 +212,8 @@ module _ {M : Type 1} {𝓤 : Ura M} (𝓛 : Logic 𝓤) {V : Type 0} (cv : Code
     -- both views are known, and both go
     pub draws : (n j : ℕ) → ¬ (n ≡ j) → AllowsDeal holds Leaves ours banked z.slots id me bd offered then
         → A.named n (fbor κ I) ∗ A.named j Bank ∗ A.lft κ q ∗ ⟦ sat id me ⟧ ⊢ H.⇛ (⟦ fex (FractionContent × Me S V) drawn ⟧ ∗ A.lft κ q)
-    draws n j ne law = let Q : Pr = ⟦ fex (FractionContent × Me S V) drawn ⟧ in opened_with q n j Bank ⟦ sat id me ⟧ Q ne (λ s so. let Z : Pr = ex 𝓤 (NextTo Q Bank s) in
+    draws n j ne law = let Q : Pr = ⟦ fex (FractionContent × Me S V) drawn ⟧ in
+        opened_with q n j Bank ⟦ sat id me ⟧ Q ne (λ s so. let Z : Pr = ex 𝓤 (NextTo Q Bank s) in
         qed 𝓛 ((‵ (homed s.homes) ⊛ ‵ (roster cv.code γ 0 s.views)) ∷ ‵ Bank ∷ ‵ (half id me.0) ∷ ‵ (out me.1) ∷ []) ∵ move ! (1 ∷ []) $
         fpick ! (λ b. fsplit3 ! $
         fpick ! (λ mine. drop ! $
@@ -238,7 +245,8 @@ module _ {M : Type 1} {𝓤 : Ura M} (𝓛 : Logic 𝓤) {V : Type 0} (cv : Code
     abbrev pub brought : Me S V → Fml
     brought u = fsep (fact ((l : FractionContent) × offered l × then l u)) (sat id u)
 
-    pub brings : (n j : ℕ) (given_ : FractionContent) → ((l : FractionContent) → offered l → l ≡ given_) → ¬ (n ≡ j) → AllowsDeal holds Comes ours banked z.slots id me bd offered then
+    pub brings : (n j : ℕ) (given_ : FractionContent) → ((l : FractionContent) → offered l → l ≡ given_) → ¬ (n ≡ j)
+        → AllowsDeal holds Comes ours banked z.slots id me bd offered then
         → A.named n (fbor κ I) ∗ A.named j Bank ∗ A.lft κ q ∗ (⟦ holding given_ ⟧ ∗ ⟦ sat id me ⟧) ⊢ H.⇛ (⟦ fex (Me S V) brought ⟧ ∗ A.lft κ q)
     brings n j l₀ one ne law = let Q : Pr = ⟦ fex (Me S V) brought ⟧ in
         opened_with q n j Bank (⟦ holding l₀ ⟧ ∗ ⟦ sat id me ⟧) Q ne (λ s so. let Z : Pr = ex 𝓤 (NextTo Q Bank s) in
@@ -262,7 +270,8 @@ module _ {M : Type 1} {𝓤 : Ura M} (𝓛 : Logic 𝓤) {V : Type 0} (cv : Code
         -- [the homes; what is carried; the roster; the bank's view; the seat's; the lots; what comes]
         use2 𝓛 (given (length t.homes ≡ z.slots) (‵ (homed t.homes) ⊛ ‵ (out me'.1))) (acts s.homes me.1 a so.2 r.valid) $ learn ! (λ long. split ! $
         move ! (5 ∷ 6 ∷ []) $
-        use2 𝓛 (‵ (purse (banked b'))) (comes (banked b) l₀ (banked b') (subst (λ (x : FractionContent). Comes (banked b) x (banked b')) (one l r.offered) r.goes)) $
+        use2 𝓛 (‵ (purse (banked b'))) (comes (banked b) l₀ (banked b')
+        (subst (λ (x : FractionContent). Comes (banked b) x (banked b')) (one l r.offered) r.goes)) $
         -- [the lots; the homes; what is carried; the roster; the bank's view; the seat's]
         suffices ! _ (upd_i 𝓤 Z) $ show ! (NextTo Q Bank s) t $ check ! (refl, r.holds, long) $ move ! (1 ∷ 3 ∷ []) $ join ! $ frame ! $
         move ! (2 ∷ 0 ∷ []) $ fjoin ! $ nothing ! $ fpack ! (ours b') (λ _. ftrue) r.ours $

@@ -79,7 +79,8 @@ module _ {M : Type 1} {𝓤 : Ura M} (𝓛 : Logic 𝓤) where
     abbrev pub Shuts : (xs : List (ℕ × ValueFraction)) → Share → Long xs → Pr
     Shuts xs q l = ⟦ purse l.0 ⟧ -∗ H.⇛ (⟦ out (with_lots xs l.0) ⟧ ∗ A.lft α q)
 
-    shut_on : (x : ℕ × ValueFraction) (xs : List (ℕ × ValueFraction)) (q : Share) (vs : List Val) (ls : List FractionContent) → length ls ≡ suc (length xs) → x.0 < n
+    shut_on : (x : ℕ × ValueFraction) (xs : List (ℕ × ValueFraction)) (q : Share) (vs : List Val) (ls : List FractionContent) → length ls ≡ suc (length xs)
+        → x.0 < n
         → let s = x.1 in let b = block_of p in let o = x.0 * (mem Sr).size + count_of p in
         ⟦ purse ls ⟧ ∗ (all 𝓤 (Shuts xs (Share.right q)) ∗ (⟦ Peg.own_val (tt, tt) vs ⟧ ∗ (⟦ cell_at full_share Sr.mir vs b o ⟧ ∗ (A.obor α (Share.left q)
         (Body (mem Sr) b o (δ x.0)) ∗ (A.obs (δ x.0) (Sr.coded.code s) ∗ A.auth (δ x.0) (Sr.coded.code s))))))
@@ -101,7 +102,8 @@ module _ {M : Type 1} {𝓤 : Ura M} (𝓛 : Logic 𝓤) where
     pub opens_all : (xs : List (ℕ × ValueFraction)) (q : Share) → ⟦ out xs ⟧ ∗ A.lft α q ⊢ H.⇛ (⟦ purse (lots xs) ⟧ ∗ all 𝓤 (Shuts xs q))
     opens_all [] q = qed 𝓛 (‵ ftrue ∷ ‵ (flft α q) ∷ []) ∵ updating ! $ now ! $ frame ! $ each ! (Shuts [] q) (λ l. assume ! (‵ (purse l.0)) $ updating ! $
         drop ! $ nothing ! $ now ! $ done !)
-    opens_all (x ∷ xs) q = let s : ValueFraction = x.1 in let h : FractionContent = s.lot in let b : ℕ = block_of p in let o : ℕ = x.0 * (mem Sr).size + count_of p in
+    opens_all (x ∷ xs) q = let s : ValueFraction = x.1 in let h : FractionContent = s.lot in let b : ℕ = block_of p in
+        let o : ℕ = x.0 * (mem Sr).size + count_of p in
         let q₁ : Share = Share.left q in let q₂ : Share = Share.right q in
         qed 𝓛 (‵ (out (x ∷ xs)) ∷ ‵ (flft α q) ∷ []) ∵ updating ! $ fsplit3 ! $ fpick ! (λ near. drop ! $ fsplit ! $ move ! (3 ∷ []) $
         use1 𝓛 (‵ (flft α q₁) ⊛ ‵ (flft α q₂)) (𝓛.lfts.lft_split α q) $ split ! $ move ! (2 ∷ 3 ∷ 0 ∷ []) $
@@ -121,7 +123,8 @@ lots_with [] (l ∷ ls) e = absurd (omega arith)
 lots_with (x ∷ xs) [] e = absurd (omega arith)
 lots_with (x ∷ xs) (l ∷ ls) e = ap (λ (ms : List FractionContent). l ∷ ms) (lots_with xs ls (omega arith))
 
-pub with_with : (xs : List (ℕ × ValueFraction)) (ls ms : List FractionContent) → length ls ≡ length xs → length ms ≡ length xs → with_lots (with_lots xs ls) ms ≡ with_lots xs ms
+pub with_with : (xs : List (ℕ × ValueFraction)) (ls ms : List FractionContent) → length ls ≡ length xs → length ms ≡ length xs
+    → with_lots (with_lots xs ls) ms ≡ with_lots xs ms
 with_with [] ls ms e f = refl
 with_with (x ∷ xs) [] ms e f = absurd (omega arith)
 with_with (x ∷ xs) (l ∷ ls) [] e f = absurd (omega arith)
@@ -137,8 +140,10 @@ set_long (x ∷ xs) zero l = ap suc (lots_long xs)
 set_long (x ∷ xs) (suc n) l = ap suc (set_long xs n l)
 
 -- a loan to the tenure leaves the rest as it was
-pub lent_on : (t : ℕ) (xs : List (ℕ × ValueFraction)) (n : ℕ) (h : FractionContent) → get_elem? (lots xs) n ≡ some h → OnlyLends t xs (with_lots xs (set (lots xs) n (lent_to t h)))
-lent_on t xs n h at = let ls : List FractionContent = lots xs in let ms : List FractionContent = set ls n (lent_to t h) in let long = set_long xs n (lent_to t h) in
+pub lent_on : (t : ℕ) (xs : List (ℕ × ValueFraction)) (n : ℕ) (h : FractionContent) → get_elem? (lots xs) n ≡ some h
+    → OnlyLends t xs (with_lots xs (set (lots xs) n (lent_to t h)))
+lent_on t xs n h at = let ls : List FractionContent = lots xs in let ms : List FractionContent = set ls n (lent_to t h) in
+    let long = set_long xs n (lent_to t h) in
     let e = lots_with xs ms long in (
       ap (λ (l : List FractionContent). with_lots (with_lots xs ms) (settled l)) e ∙ ap (λ (l : List FractionContent). with_lots (with_lots xs ms) l)
           (keeps_settled ls n t h at) ∙ with_with xs ms (settled ls) long (same_length xs),

@@ -115,7 +115,8 @@ module _ {M : Type 1} {𝓤 : Ura M} (𝓛 : Logic 𝓤) where
         use2 𝓛 (given (AllOf γ i a g fs) (‵ (part γ i a g m) ⊛ ‵ (purse fs))) (all_agree a g m fs all.2) $ learn ! (λ es. split ! $
         check ! (all.0 ∙ (λ j. lot γ i (sym e.0 j) (sym e.1 j) f.units), all.1, es) $ move ! (2 ∷ 1 ∷ []) $ fjoin ! $ move ! (1 ∷ 0 ∷ []) $ done !))
 
-    agree_first : (f : FractionContent) (fs : List FractionContent) → AreUnlentFractions γ i (f ∷ fs) → ⟦ purse (f ∷ fs) ⟧ ⊢ guard 𝓤 (AllOf γ i f.round f.shown (f ∷ fs)) ⟦ purse (f ∷ fs) ⟧
+    agree_first : (f : FractionContent) (fs : List FractionContent) → AreUnlentFractions γ i (f ∷ fs) → ⟦ purse (f ∷ fs) ⟧
+        ⊢ guard 𝓤 (AllOf γ i f.round f.shown (f ∷ fs)) ⟦ purse (f ∷ fs) ⟧
     agree_first f fs all = let a : ℕ = f.round in let g : Gv = f.shown in qed 𝓛 (‵ (purse (f ∷ fs)) ∷ []) ∵ fsplit ! $
         rewrite ! 0 (λ (l : FractionContent). ‵ (holding l)) all.0 refl $
         use2 𝓛 (given (AllOf γ i a g fs) (‵ (part γ i a g f.units) ⊛ ‵ (purse fs))) (all_agree a g f.units fs all.2) $ learn ! (λ es. split ! $
@@ -123,11 +124,13 @@ module _ {M : Type 1} {𝓤 : Ura M} (𝓛 : Logic 𝓤) where
         use1 𝓛 (‵ (holding (lot γ i a g f.units))) (id⊢ 𝓤 _) $ rewrite ! 0 (λ (l : FractionContent). ‵ (holding l)) (sym all.0) refl $ fjoin ! $ done !)
 
     -- the stakes that were taken last agree on what the newest shows
-    pub agree_top : (n : ℕ) (ls : List FractionContent) (f : FractionContent) (fs : List FractionContent) → take n ls ≡ f ∷ fs → AreUnlentFractions γ i (take n ls) → units_in (take n ls) ≡ most
+    pub agree_top : (n : ℕ) (ls : List FractionContent) (f : FractionContent) (fs : List FractionContent) → take n ls ≡ f ∷ fs
+        → AreUnlentFractions γ i (take n ls) → units_in (take n ls) ≡ most
         → ⟦ purse ls ⟧ ⊢ guard 𝓤 (AreWhole γ i f.round f.shown n ls) ⟦ purse ls ⟧
     agree_top n ls f fs e all sum = qed 𝓛 (‵ (purse ls) ∷ []) ∵ use1 𝓛 (‵ (purse (take n ls)) ⊛ ‵ (purse (drop n ls))) (cut_top n ls) $ split ! $
         rewrite ! 0 (λ (l : List FractionContent). ‵ (purse l)) e refl $
-        use1 𝓛 (given (AllOf γ i f.round f.shown (f ∷ fs)) (‵ (purse (f ∷ fs)))) (agree_first f fs (subst (λ (l : List FractionContent). AreUnlentFractions γ i l) e all)) $
+        use1 𝓛 (given (AllOf γ i f.round f.shown (f ∷ fs)) (‵ (purse (f ∷ fs))))
+        (agree_first f fs (subst (λ (l : List FractionContent). AreUnlentFractions γ i l) e all)) $
         learn ! (λ es. check ! (subst (λ (l : List FractionContent). AllOf γ i f.round f.shown l) (sym e) es, sum) $
         rewrite ! 0 (λ (l : List FractionContent). ‵ (purse l)) (sym e) refl $ use2 𝓛 (‵ (purse (take n ls ++ drop n ls))) (glue_top (take n ls) (drop n ls)) $
         rewrite ! 0 (λ (l : List FractionContent). ‵ (purse l)) (take_drop n ls) refl $ done !)

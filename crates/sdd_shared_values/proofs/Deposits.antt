@@ -103,7 +103,8 @@ pub record Brings (γ : ℕ) (ls : List FractionContent) (l : FractionContent) (
   pub others : (j : ℕ) → j ≢ l.number → units_at j more ≡ units_at j ls
 
 -- units come to the deposit of their number, or are the first of it
-pub brings : (γ : ℕ) (ls : List FractionContent) (l : FractionContent) → AreDeposits γ ls → l.book ≡ γ → l.lent ≡ None → 0 < l.units → (more : List FractionContent) × Brings γ ls l more
+pub brings : (γ : ℕ) (ls : List FractionContent) (l : FractionContent) → AreDeposits γ ls → l.book ≡ γ → l.lent ≡ None → 0 < l.units
+    → (more : List FractionContent) × Brings γ ls l more
 brings γ [] l are book free some = let o = of_same l.number l refl in (
   l ∷ [],
   record { comes = refl; deposits = (book, free, some, refl, tt); sum = omega arith; others = λ j ne. let a = of_other j l (λ x. ne (sym x)) in omega arith },

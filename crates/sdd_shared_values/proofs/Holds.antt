@@ -5,6 +5,7 @@ use Rattle.sdd_shared_values.specs.declared.vacant_values.VacantValues.{VacantVa
 use Rattle.sdd_shared_values.specs.declared.shared_values.SharedValues.{SharedValues}
 use Rattle.sdd_shared_values.specs.Memory.{IsOn, IsHoldOf, IsHoldOfShelf}
 
-pub holds_on : {T F A : Type 0} (plot : VacantValues T) (shelf : SharedValues T F) (alloc : A) (hold : Freeable T A) → IsOn plot shelf → IsHoldOf plot alloc hold
+pub holds_on : {T F A : Type 0} (plot : VacantValues T) (shelf : SharedValues T F) (alloc : A) (hold : Freeable T A) → IsOn plot shelf
+    → IsHoldOf plot alloc hold
     → IsHoldOfShelf shelf alloc hold
 holds_on plot shelf alloc hold on is = record { place = is.place ∙ sym on.place; size = is.size ∙ sym on.size; from = is.from }

@@ -62,7 +62,8 @@ module _ {M : Type 1} {𝓤 : Ura M} (𝓛 : Logic 𝓤) where
 
   pub purse_at : (hs : List FractionContent) (n : ℕ) (h : FractionContent) → get_elem? hs n ≡ some h → ⟦ purse hs ⟧ ⊢ ⟦ holding h ⟧ ∗ all 𝓤 (Swapped hs n)
   purse_at [] n h at = absurd (some-ne-none h (sym at))
-  purse_at (x ∷ hs) zero h at = qed 𝓛 (‵ (holding x) ∷ ‵ (purse hs) ∷ []) ∵ rewrite ! 0 (λ (y : FractionContent). ‵ (holding y)) (some-injective x h at) refl $ frame ! $
+  purse_at (x ∷ hs) zero h at = qed 𝓛 (‵ (holding x) ∷ ‵ (purse hs) ∷ []) ∵
+      rewrite ! 0 (λ (y : FractionContent). ‵ (holding y)) (some-injective x h at) refl $ frame ! $
       each ! (Swapped (x ∷ hs) zero) (λ y. assume ! (‵ (holding y)) $ done !)
   purse_at (x ∷ hs) (suc n) h at = qed 𝓛 (‵ (holding x) ∷ ‵ (purse hs) ∷ []) ∵ move ! (1 ∷ []) $
       use1 𝓛 (‵ (holding h) ⊛ raw (all 𝓤 (Swapped hs n))) (purse_at hs n h at) $ split ! $ frame ! $
@@ -147,7 +148,8 @@ module _ {M : Type 1} {𝓤 : Ura M} (𝓛 : Logic 𝓤) where
     abbrev pub Seen : List FractionContent → ℕ → ℕ → FractionContent → Lft → X → Pr
     Seen hs n τ h κ x = guard 𝓤 (Tells h.shown x) (⟦ lent_at R p x κ ⟧ ∗ ⟦ purse (set hs n (lent_to τ h)) ⟧)
 
-    pub shows_now : (hs : List FractionContent) (n τ : ℕ) (h : FractionContent) (κ : Lft) → get_elem? hs n ≡ some h → h.book ≡ γ → h.number ≡ i → IsValueCode h.shown → IsFreeFor τ h.lent
+    pub shows_now : (hs : List FractionContent) (n τ : ℕ) (h : FractionContent) (κ : Lft) → get_elem? hs n ≡ some h → h.book ≡ γ → h.number ≡ i
+        → IsValueCode h.shown → IsFreeFor τ h.lent
         → A.inv I ∗ ⟦ purse hs ⟧ ∗ ⟦ tenure_shares τ κ ⟧ ⊢ H.⇛ (ex 𝓤 (Seen hs n τ h κ))
     shows_now hs n τ h κ at of is full free = let a : ℕ = h.round in let g : Gv = h.shown in let k : ℕ = h.units in let h' : FractionContent = lent_to τ h in
         qed 𝓛 (‵ (finv I) ∷ ‵ (purse hs) ∷ ‵ (tenure_shares τ κ) ∷ []) ∵ updating ! $ move ! (1 ∷ []) $
@@ -167,7 +169,8 @@ module _ {M : Type 1} {𝓤 : Ura M} (𝓛 : Logic 𝓤) where
     abbrev pub Shows : FractionContent → Lft → X → Pr
     Shows h κ x = guard 𝓤 (Tells h.shown x) ⟦ lent_at R p x κ ⟧
 
-    pub shows_beside : (hs : List FractionContent) (n τ : ℕ) (h : FractionContent) (κ : Lft) → get_elem? hs n ≡ some h → h.book ≡ γ → h.number ≡ i → IsValueCode h.shown → IsFreeFor τ h.lent
+    pub shows_beside : (hs : List FractionContent) (n τ : ℕ) (h : FractionContent) (κ : Lft) → get_elem? hs n ≡ some h → h.book ≡ γ → h.number ≡ i
+        → IsValueCode h.shown → IsFreeFor τ h.lent
         → ⟦ purse hs ⟧ ∗ (A.inv I ∗ ⟦ tenure_shares τ κ ⟧) ⊢ H.⇛ (⟦ purse (set hs n (lent_to τ h)) ⟧ ∗ ex 𝓤 (Shows h κ))
     shows_beside hs n τ h κ at of is full free = qed 𝓛 (‵ (purse hs) ∷ ‵ (finv I) ∷ ‵ (tenure_shares τ κ) ∷ []) ∵ updating ! $ move ! (1 ∷ 0 ∷ 2 ∷ []) $
         use3 𝓛 (later (exists (λ (x : X). given (Tells h.shown x) (‵ (lent_at R p x κ) ⊛ ‵ (purse (set hs n (lent_to τ h)))))))

@@ -46,7 +46,8 @@ unsettled_at (x ∷ hs) (suc k) h at = let u = unsettled_at hs k h at in record 
 pub shows-again : (γ i t : ℕ) (xs ys : Carries) → CanShow γ i t (lots xs) → AllFreeFor t (lots xs) → OnlyLends t xs ys → CanShow γ i t (lots ys)
 shows-again γ i t xs ys can free only = let h : FractionContent = can.one in let k : ℕ = can.place in
     let same : settled (lots ys) ≡ settled (lots xs) = sym (lots_plain ys) ∙ ap lots only.0 ∙ lots_plain xs in
-    let u = unsettled_at (lots ys) k (unlent h) (ap (λ (l : List FractionContent). get_elem? l k) same ∙ settled_at (lots xs) k h can.there) in let e = u.same in
+    let u = unsettled_at (lots ys) k (unlent h) (ap (λ (l : List FractionContent). get_elem? l k) same ∙ settled_at (lots xs) k h can.there) in
+    let e = u.same in
     record {
       place = k;
       one = u.one;
@@ -63,7 +64,8 @@ shown_of (gnum n) = gnil
 shown_of (gcons a b) = b
 
 -- two looks by the same one stake show the same value
-pub same-look : (R : RattleType) (γ i t : ℕ) (x y : R.Denot) (xs ys : Carries) → length xs ≡ 1 → OnlyLends t xs ys → HasFractionShowing γ i (showing R x) (lots xs)
+pub same-look : (R : RattleType) (γ i t : ℕ) (x y : R.Denot) (xs ys : Carries) → length xs ≡ 1 → OnlyLends t xs ys
+    → HasFractionShowing γ i (showing R x) (lots xs)
     → HasFractionShowing γ i (showing R y) (lots ys) → y ≡ x
 same-look R γ i t x y xs ys one only before after =
     let same : settled (lots ys) ≡ settled (lots xs) = sym (lots_plain ys) ∙ ap lots only.0 ∙ lots_plain xs in

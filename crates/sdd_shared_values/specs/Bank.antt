@@ -71,10 +71,12 @@ module _ {V : Type 0} where
   abbrev pub dealt : State ValueFraction V → ℕ → List (ℕ × ValueFraction) → V → ℕ → V → Act ValueFraction → State ValueFraction V
   dealt s id c w bd b a = record { words = s.words; homes = homes_after s.homes c a; views = slice_set (slice_set s.views id w) bd b }
 
-  module _ (Holds : State ValueFraction V → Type 0) (Goes : List FractionContent → FractionContent → List FractionContent → Type 0) (Ours : V → Type 0) (banked : V → List FractionContent) where
+  module _ (Holds : State ValueFraction V → Type 0) (Goes : List FractionContent → FractionContent → List FractionContent → Type 0) (Ours : V → Type 0)
+      (banked : V → List FractionContent) where
     -- a deal of the seat id with the bank, which has the view b: both have new views and the seat an act, which keep the rule; by the bank's two views
     -- the lot goes, which is one that is offered; and `Then` holds of it and of the seat after
-    pub record Deal (s : State ValueFraction V) (b : V) (id : ℕ) (me : Me ValueFraction V) (bd : ℕ) (Offered : FractionContent → Type 0) (Then : FractionContent → Me ValueFraction V → Type 0)
+    pub record Deal (s : State ValueFraction V) (b : V) (id : ℕ) (me : Me ValueFraction V) (bd : ℕ) (Offered : FractionContent → Type 0)
+        (Then : FractionContent → Me ValueFraction V → Type 0)
         : Type 0 where
       pub view : V
       pub bank : V

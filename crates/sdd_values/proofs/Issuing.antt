@@ -15,7 +15,8 @@ all-issued P parts p d n was each here =
     (λ k below. rw (get_or_append_left parts (p ∷ []) d k (omega arith)) (each k below))
     (rw (get_or_push parts p d n was) here)
 
-pub each-issued : (home next : GhostName) (parts more : List (Fraction SectionState)) (p : Fraction SectionState) (n : ℕ) → more ≡ parts ++ p ∷ [] → next ≡ home → length more ≡ n + 1 →
+pub each-issued : (home next : GhostName) (parts more : List (Fraction SectionState)) (p : Fraction SectionState) (n : ℕ) → more ≡ parts ++ p ∷ []
+    → next ≡ home → length more ≡ n + 1 →
     length parts ≡ n → ArePartsUpTo home parts → p.home ≡ home → p.number ≡ n → ArePartsUpTo next more
 each-issued home next parts more p n more_is next_is size was each home_is number_is = rw (more_is, next_is) λ k d lt.
     let longer : length (parts ++ p ∷ []) ≡ n + 1 = ap length (sym more_is) ∙ size in

@@ -19,7 +19,8 @@ pub kept-changed : (parts : List (Fraction SectionState)) (k : ℕ) (p q : Fract
 kept-changed parts k p q x h e f = map-set kept_of parts k q ∙ ap (λ (y : Kept). slice_set (map kept_of parts) k y) (f (kept-there parts k p h e))
 
 -- where q comes in the place of p and has another round, another round is kept
-pub another-round : (parts : List (Fraction SectionState)) (k : ℕ) (p q : Fraction SectionState) → k < length parts → p ≡ slice_index_or parts k p → (q.round ≡ p.round → ⊥) →
+pub another-round : (parts : List (Fraction SectionState)) (k : ℕ) (p q : Fraction SectionState) → k < length parts → p ≡ slice_index_or parts k p
+    → (q.round ≡ p.round → ⊥) →
     (slice_index_or (map kept_of (slice_set parts k q)) k (whole Closed 0)).round ≡ (slice_index_or (map kept_of parts) k (whole Closed 0)).round → ⊥
 another-round parts k p q h e other same = let long = length-set parts k q in
     let after = kept-there (slice_set parts k q) k q (omega (arith, long, h)) (sym (get_or-set_same parts k q q h)) in

@@ -519,7 +519,8 @@ module _ {T : Type 0} (holds : T → List OwnerOrCell) (old : World T) where
   shut-keeps x ss ts cs ds c there same (of_value j i) h = (h.0, there j ∙ h.1, h.2)
   shut-keeps x ss ts cs ds c there same (of_cell d) h = rw same (none-set cs c d h)
 
-  other-cell : (cs : Entries CellContents) (c d : ℕ) → entry_at (without_entry cs c) d ≡ None → (d ≡ c) ⊎ (d ≢ c) → (entry_at cs d ≡ None) ⊎ (of_cell d ≡ of_cell c)
+  other-cell : (cs : Entries CellContents) (c d : ℕ) → entry_at (without_entry cs c) d ≡ None → (d ≡ c) ⊎ (d ≢ c) → (entry_at cs d ≡ None)
+      ⊎ (of_cell d ≡ of_cell c)
   other-cell cs c d h (inl e) = inr (ap of_cell e)
   other-cell cs c d h (inr apart) = inl (sym (get_or-set_other cs c d None None apart) ∙ h)
 

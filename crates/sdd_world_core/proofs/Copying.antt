@@ -9,7 +9,8 @@ use Rattle.sdd_space.specs.WorldChanges.{with_cell, with_standing}
 use Rattle.sdd_space.specs.World.{standing_at}
 use Rattle.sdd_world_core.specs.WorldCore.{WorldCore}
 
-module _ {T : Type 0} (v m n : WorldCore T) (k : ℕ) (old : CellContents) (new : n ≡ record m { world = with_cell m.world k old }) (free : IsEmptyAt m.world.cells k) where
+module _ {T : Type 0} (v m n : WorldCore T) (k : ℕ) (old : CellContents) (new : n ≡ record m { world = with_cell m.world k old })
+    (free : IsEmptyAt m.world.cells k) where
   -- there is one owner more of what was held, if anything was
   abbrev Shares : Option ℕ → Type 0
   Shares held = MatchOption held (m ≡ v)

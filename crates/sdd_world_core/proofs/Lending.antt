@@ -140,7 +140,8 @@ shares-first t mid new p near all home kept home' kept' =
     λ i. record { home = (home' ∙ home) i; kept = there i }
 
 -- what a guard that gives its part back leaves
-pub joins : (t new : ReadSections) (p n : ℕ) → new.home ≡ t.home → n ≡ 1 → new.kept ≡ slice_set t.kept p (record (kept_at t p) { units = (kept_at t p).units + n }) →
+pub joins : (t new : ReadSections) (p n : ℕ) → new.home ≡ t.home → n ≡ 1
+    → new.kept ≡ slice_set t.kept p (record (kept_at t p) { units = (kept_at t p).units + n }) →
     new ≡ set_at t p (record (kept_at t p) { units = (kept_at t p).units + 1 })
 joins t new p n home one kept =
     let there = kept ∙ ap (λ (m : ℕ). slice_set t.kept p (record (kept_at t p) { units = (kept_at t p).units + m })) one in
@@ -173,7 +174,8 @@ module _ {T : Type 0} where
     nesting = omega (arith, i.nesting, s.nesting);
   }
 
-  pub lent-call : (holds : T → List OwnerOrCell) (v w : World T) (l : Loans) → WorldStep holds v w → IsWhole v → (HasReaders v → HasReaders w) → SameGuards v w →
+  pub lent-call : (holds : T → List OwnerOrCell) (v w : World T) (l : Loans) → WorldStep holds v w → IsWhole v → (HasReaders v → HasReaders w)
+      → SameGuards v w →
       AreLentOf v l → AreLentOf w l
   lent-call holds v w l call whole readers same i =
       lent-keeps v w l (readers i.readers) same (λ p k safe o. safe-call p k holds call whole safe o) i
@@ -186,7 +188,8 @@ module _ {T : Type 0} where
     by (inl out) = inl out
     by (inr u) = inr (record { guarded = u.guarded; waiting = u.waiting; holder = u.holder; seen = u.seen; waits = u.waits; safe = u.safe })
 
-  pub lent-cells : (w : World T) (l : Loans) (h : SpaceId) (cells : Entries CellContents) (pointers : List RawCellContents) → h.readers ≡ w.home.readers → AreLentOf w l →
+  pub lent-cells : (w : World T) (l : Loans) (h : SpaceId) (cells : Entries CellContents) (pointers : List RawCellContents) → h.readers ≡ w.home.readers
+      → AreLentOf w l →
       AreLentOf (record w { home = h; cells = cells; pointers = pointers }) l
   lent-cells w l h cells pointers same i =
       let readers : HasReaders (record w { home = h; cells = cells; pointers = pointers }) = record {

@@ -15,7 +15,8 @@ pub record WorldCore (T : Type 0) : Type 0 where
   pub lending : Loans
 
 -- there is room for each slot and each job to wait, cells hold owners of these slots, values hold what is of this home, and each place may have a reader
-pub record IsSound {T : Type 0} (holds : T → List OwnerOrCell) (t : EpochState) (s : Slots T) (c : Cells) (jobs : Entries (Unit {0})) (r : ReadSections) : Type 0 where
+pub record IsSound {T : Type 0} (holds : T → List OwnerOrCell) (t : EpochState) (s : Slots T) (c : Cells) (jobs : Entries (Unit {0}))
+    (r : ReadSections) : Type 0 where
   pub counted : sum_by waiting_count t.places + count_by is_loose s.standings + count_by is_none jobs ≤ length s.standings + length jobs
   pub reserved : t.room ≡ length s.standings + length jobs
   pub held : c.slots ≡ s.home

@@ -102,7 +102,8 @@ same-everywhere (suc n) zero x = refl
 same-everywhere (suc n) (suc k) x = same-everywhere n k x
 
 -- cells that are all free
-pub all-cells-free : (home slots : GhostName) (n : ℕ) → home.size ≡ n → CellsMatch home slots (replicate n (whole kind.Free)) (replicate n None) (replicate n None)
+pub all-cells-free : (home slots : GhostName) (n : ℕ) → home.size ≡ n
+    → CellsMatch home slots (replicate n (whole kind.Free)) (replicate n None) (replicate n None)
 all-cells-free home slots n e = record {
   sized = length-replicate n (let none : Option CellContents = None in none) ∙ sym e;
   kept_rowed = length-replicate n (whole kind.Free) ∙ sym e;

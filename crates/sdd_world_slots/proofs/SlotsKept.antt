@@ -226,7 +226,8 @@ none-at (x ∷ xs) h zero = is-none x (h zero x (omega arith))
 none-at (x ∷ xs) h (suc k) = none-at xs (λ j o l. h (suc j) o (omega arith)) k
 
 -- slots that are all free
-pub all-free : {T : Type 0} (home : GhostName) (n : ℕ) → home.size ≡ n → SlotsMatch {T = T} home (replicate n (whole kind.Free)) (replicate n None) (replicate n None)
+pub all-free : {T : Type 0} (home : GhostName) (n : ℕ) → home.size ≡ n
+    → SlotsMatch {T = T} home (replicate n (whole kind.Free)) (replicate n None) (replicate n None)
 all-free {T} home n e = record {
   sized = length-replicate n (let none : Option Standing = None in none) ∙ sym e;
   told = sym (map-replicate kept_of n None);

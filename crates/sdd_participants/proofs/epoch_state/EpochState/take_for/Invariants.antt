@@ -6,7 +6,8 @@ use Rattle.sdd_participants.proofs.epoch_state.EpochState.take_for.Given as goal
 abbrev pub invariant-loop-place : goal.invariant-loop-place
 invariant-loop-place g l = record {
   left : l.self ≡ record l.fn.self {
-    places = map (without (is_kept_for l.collector (g.S.StandingLookup.standings l.standings))) (take l.place l.fn.self.places) ++ drop l.place l.fn.self.places;
+    places = map (without (is_kept_for l.collector (g.S.StandingLookup.standings l.standings)))
+        (take l.place l.fn.self.places) ++ drop l.place l.fn.self.places;
   };
   taken : l.bag.items ≡ chosen_among (is_kept_for l.collector (g.S.StandingLookup.standings l.standings)) (take l.place l.fn.self.places);
   reserved : vec_capacity l.bag ≡ vec_capacity l.fn.bag;

@@ -27,4 +27,5 @@ new_spec 𝓤 𝓛 𝓜 𝓡 wired U _ =
     use0 𝓛 (raw (fact 𝓤 (none ≡ none))) (fact_i 𝓤 (none ≡ none) (emp 𝓤) refl) $ use0 𝓛 (raw (fact 𝓤 (0 ≡ 0))) (fact_i 𝓤 (0 ≡ 0) (emp 𝓤) refl) $ join ! $
     use0 𝓛 (raw (fact 𝓤 (m ≡ m))) (fact_i 𝓤 (m ≡ m) (emp 𝓤) refl) $ join ! $ nothing ! $
     nothing ! $ fjoin ! $ returns ! (look_at ! 0 refl) $ free_all ! refl $ keep ! (3 ∷ 0 ∷ 2 ∷ 1 ∷ []) $
-    by ! (leaves 𝓛 En hs c y token_val (record { of = record {}; home = record { name = γ; size = m; tables = none; cells = false }; next = 0 }) (tt, tt) (tt, tt)))))
+    by ! (leaves 𝓛 En hs c y token_val (record { of = record {}; home = record { name = γ; size = m; tables = none; cells = false }; next = 0 }) (tt, tt)
+    (tt, tt)))))

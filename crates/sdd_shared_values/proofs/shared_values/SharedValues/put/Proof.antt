@@ -92,7 +92,8 @@ put_spec 𝓤 𝓛 𝓜 𝓡 wired T F V K P L _ _ _ _ gF dF g d _ _ =
     let others : Fml = fsep (flft μ qμ) (fsep (flft κs.1.1.1.1.0 qs.1.1.1.1.0) (fsep (flft κs.1.1.1.1.1.0 qs.1.1.1.1.1.0)
     (fsep (flft κs.1.1.1.1.1.1.0 qs.1.1.1.1.1.1.0) (fsep (flft κs.1.1.1.1.1.1.1.0 qs.1.1.1.1.1.1.1.0) ftrue)))) in
     let Fit : T.Denot → Type 0 = gF.fits f.table γ N in
-    let AtTable : Type 0 = s.table_id ≡ z in let Inside : Type 0 = i < N in let All : Type 0 = HasWhole γ i k IsNoValueCode hold in let InX : Type 0 = μ ⊑ T.lives in
+    let AtTable : Type 0 = s.table_id ≡ z in let Inside : Type 0 = i < N in let All : Type 0 = HasWhole γ i k IsNoValueCode hold in
+    let InX : Type 0 = μ ⊑ T.lives in
     let got = one E y₀.0.4.1.1.1.1.1.0 ((lawful E 𝓛).typed x y₀.0.4.1.1.1.1.1.0 are.1.1.1.1.1.0) in let vy : Val = got.0 in let fy : Good E vy = got.2 in
     let At : Six → (walk_of 𝓛 En hs c).Ghost = λ vss. ((κs, qs, y₀.0.2, a, vss), y₀.1) in
     let y : (walk_of 𝓛 En hs c).Ghost = At (vptr b o ∷ [], (vint w64 i ∷ [], (vptr b' o' ∷ [], (vptr b″ o″ ∷ [], (vint w64 k ∷ [], (vy ∷ [], tt)))))) in

@@ -51,7 +51,8 @@ enter_spec 𝓤 𝓛 𝓜 𝓡 wired V K P B Mv _ _ _ _ _ g d gB dB g' d' _ _ _ 
     let b″ : ℕ = a.1.1.1.0.ref_ptr.0 in let o″ : ℕ = a.1.1.1.0.ref_ptr.1 in let e : Br.Denot = a.1.0.now in
     let κ : Lft = κs.0 in let κ' : Lft = κs.1.0 in let κ″ : Lft = κs.1.1.0 in let t : Row.Denot = a.1.1.0.now in let h : Sr.Denot = a.1.1.1.0.now in
     let z : TableId = t.table_id in let α : Lft = age z in let cv : Coded V.Denot = W.coded in
-    let id : ℕ = h.id in let v : Me R.Denot V.Denot = h.me in let offered : FractionContent → Type 0 = (λ (l : FractionContent). l ≡ a.0.lot) in let then : FractionContent → Me R.Denot V.Denot
+    let id : ℕ = h.id in let v : Me R.Denot V.Denot = h.me in let offered : FractionContent → Type 0 = (λ (l : FractionContent). l ≡ a.0.lot) in
+    let then : FractionContent → Me R.Denot V.Denot
     → Type 0 = g'.then a.0.lot.number v in
     let others : Fml = fsep (flft κs.1.1.1.0 qs.1.1.1.0) (fsep (flft κs.1.1.1.1.0 qs.1.1.1.1.0) (fsep (flft κs.1.1.1.1.1.0 qs.1.1.1.1.1.0)
     (fsep (flft κs.1.1.1.1.1.1.0 qs.1.1.1.1.1.1.0) (fsep (flft κs.1.1.1.1.1.1.1.0 qs.1.1.1.1.1.1.1.0) ftrue)))) in

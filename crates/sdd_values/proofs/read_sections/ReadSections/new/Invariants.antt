@@ -11,6 +11,7 @@ invariant-loop-number l = record {
   next : l.book.next ≡ l._number;
   len : vec_len l.parts ≡ l._number;
   room : l.size ≤ vec_capacity l.parts;
-  closed : (k : ℕ) (d : Fraction SectionState) → k < l._number → ((slice_index_or l.parts.items k d).kind ≡ Closed) × ((slice_index_or l.parts.items k d).units ≡ 2 ^ 63);
+  closed : (k : ℕ) (d : Fraction SectionState) → k < l._number → ((slice_index_or l.parts.items k d).kind ≡ Closed)
+      × ((slice_index_or l.parts.items k d).units ≡ 2 ^ 63);
   each : ArePartsUpTo l.book.home l.parts.items;
 }

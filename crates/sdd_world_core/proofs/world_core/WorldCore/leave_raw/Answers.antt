@@ -22,7 +22,8 @@ module _ {T : Type 0} where
       ∙ ap (λ (ss : Entries Standing). record w { time = time.awaiting_at w.time p (Item k); standings = ss })
       (set-set w.standings k (Some Owned) (Some Retired))
 
-  left-as : (old mid new : WorldCore T) (p k n : ℕ) → standing_at old.world k ≡ Some Raw → n ≡ k → mid ≡ record old { world = with_standing old.world k Owned } →
+  left-as : (old mid new : WorldCore T) (p k n : ℕ) → standing_at old.world k ≡ Some Raw → n ≡ k
+      → mid ≡ record old { world = with_standing old.world k Owned } →
       new ≡ record mid { world = owner_given mid.world p n (standing_at mid.world n) } → new ≡ record old { world = retired old.world p k }
   left-as old mid new p k n is same back left =
       let w : World T = with_standing old.world k Owned in

@@ -32,7 +32,8 @@ lends holds w t l (Ok p) h n i k = rw h.1 (lent-registered holds w l p h.0 n i k
 lends holds w t l (Err e) h n i k = rw h k
 
 -- there is room for what waits, as before
-sound : {T : Type 0} (holds : T → List OwnerOrCell) (t u : EpochState) (s : Slots T) (c : Cells) (jobs : Entries (Unit {0})) (r : ReadSections) (answer : Result ℕ Refused) →
+sound : {T : Type 0} (holds : T → List OwnerOrCell) (t u : EpochState) (s : Slots T) (c : Cells) (jobs : Entries (Unit {0})) (r : ReadSections)
+    (answer : Result ℕ Refused) →
     MatchResult answer (λ p. IsVacant t p × (u ≡ time.registered t p)) (λ _. u ≡ t) → IsSound holds t s c jobs r → IsSound holds u s c jobs r
 sound holds t u s c jobs r (Ok p) h i =
     let a = registered-adds t p in

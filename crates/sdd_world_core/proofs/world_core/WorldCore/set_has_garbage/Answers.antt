@@ -15,10 +15,12 @@ use Rattle.sdd_world_core.proofs.world_core.WorldCore.set_has_garbage.Goals as g
 pub returns-clause-whole : goal.returns-clause-whole
 returns-clause-whole g c = rw (← c.self.view_is, c.set_has_garbage.ensures) (λ i. Whole-stirred _ c.args.place (rw (← c.self.view_is) at c.requires.place) i)
 
-lent-after : {T : Type 0} (holds : T → List OwnerOrCell) (w : World T) (l : Loans) (p : ℕ) → IsPlaceOf w p → IsWhole w → AreLentOf w l → AreLentOf (stirred w p) l
+lent-after : {T : Type 0} (holds : T → List OwnerOrCell) (w : World T) (l : Loans) (p : ℕ) → IsPlaceOf w p → IsWhole w → AreLentOf w l
+    → AreLentOf (stirred w p) l
 lent-after holds w l p live i k =
     let x : Participant = time.with_garbage (place_at w p) in
     lent-call holds w (record w { time = time.with_place w.time p x }) l (stirs w p live) i (λ h. readers-placed w p x h) (guards-placed w p x live.0 refl) k
 
 pub returns-clause-lent : goal.returns-clause-lent
-returns-clause-lent g c = rw (← c.self.view_is, c.set_has_garbage.ensures) (lent-after g.T.Item.holds _ _ c.args.place (rw (← c.self.view_is) at c.requires.place))
+returns-clause-lent g c = rw (← c.self.view_is, c.set_has_garbage.ensures)
+    (lent-after g.T.Item.holds _ _ c.args.place (rw (← c.self.view_is) at c.requires.place))

@@ -11,7 +11,8 @@ pub invariant_of-result : goal.invariant_of-result
 invariant_of-result c =
     let n = c.args.places in
     let a = length-replicate {A = Items} (3 * n) set.empty in
-    let z : length (trios_of (replicate (3 * n) set.empty)) ≡ n = ap (λ (ts : List ThreeBags). length ts) (new_trios n (3 * n) refl) ∙ length-replicate n no_items in
+    let z : length (trios_of (replicate (3 * n) set.empty)) ≡ n = ap (λ (ts : List ThreeBags). length ts) (new_trios n (3 * n) refl)
+    ∙ length-replicate n no_items in
     subst AreTrios (sym (ap (λ (s : ChainedBags). s.bags) c.in_ok-new.ensures)) (a ∙ ap (λ (k : ℕ). 3 * k) (sym z))
 
 pub returns : goal.returns

@@ -39,5 +39,6 @@ returns-clause-moved c =
     second ∙ (ap (λ (s : ChainedBags). record { items = s.items; bags = moved (3 * p + 1) (3 * p + 0) s.bags }) first
     ∙ ap (λ (s : ChainedBags). record { items = s.items; bags = moved (3 * p + 1) (3 * p + 0) (moved (3 * p + 2) (3 * p + 1) s.bags) }) cleared) in
     ap (λ (s : ChainedBags). record { items = s.items; trios = trios_of s.bags }) all
-    ∙ (ap (λ (ts : List ThreeBags). record { items = b.items; trios = ts }) (turned_trios b.bags p (3 * p + 0) (3 * p + 1) (3 * p + 2) (omega arith) refl refl l)
+    ∙ (ap (λ (ts : List ThreeBags). record { items = b.items; trios = ts })
+    (turned_trios b.bags p (3 * p + 0) (3 * p + 1) (3 * p + 2) (omega arith) refl refl l)
     ∙ ap (λ (s : BagsOfPlaces). record { items = s.items; trios = slice_set s.trios p (rotated (trio_at s.trios p)) }) v)

@@ -14,7 +14,8 @@ joined-requires-clause-once c =
     let l = within_chains ls cs c.args.self.now c.args.bag v c.requires.bag in
     let k = c.args.bag in let item = c.args.item in
     let second = get_or_read cs k old_chain l c.index-chain.ensures no_chain in
-    let none : occ item (all_items ls cs) ≡ 0 = nowhere ls cs item (λ j. ap (λ (b : ChainedBags). set.contains (bag_at b.bags j) item) v ∙ c.requires.nowhere j) in
+    let none : occ item (all_items ls cs) ≡ 0 = nowhere ls cs item
+    (λ j. ap (λ (b : ChainedBags). set.contains (bag_at b.bags j) item) v ∙ c.requires.nowhere j) in
     λ i. put_once ls c.as_mut_slice.result.now cs k item i c.of.result old_chain c.self.invariant none c.as_mut_slice.ensures.value c.of.ensures second
 
 pub invariant_of-self : goal.invariant_of-self
@@ -25,7 +26,8 @@ invariant_of-self c =
     let l = within_chains ls cs c.args.self.now c.args.bag v c.requires.bag in
     let k = c.args.bag in let item = c.args.item in
     let second = get_or_read cs k old_chain l c.index-chain.ensures no_chain in
-    let none : occ item (all_items ls cs) ≡ 0 = nowhere ls cs item (λ j. ap (λ (b : ChainedBags). set.contains (bag_at b.bags j) item) v ∙ c.requires.nowhere j) in
+    let none : occ item (all_items ls cs) ≡ 0 = nowhere ls cs item
+    (λ j. ap (λ (b : ChainedBags). set.contains (bag_at b.bags j) item) v ∙ c.requires.nowhere j) in
     let size : length new_links ≡ length ls = (let a = c.joined.auto.links in let b = ap length same in omega (arith, a, b)) in
     let fits : length new_links ≡ c.self.inside.links.len = size ∙ sym c.self.inside.links.ok.0 in
     let items : items_of new_links chain ≡ item ∷ items_of ls (get_or cs k no_chain) =
@@ -44,7 +46,8 @@ returns c =
     let l = within_chains ls cs c.args.self.now c.args.bag v c.requires.bag in
     let k = c.args.bag in let item = c.args.item in
     let second = get_or_read cs k old_chain l c.index-chain.ensures no_chain in
-    let none : occ item (all_items ls cs) ≡ 0 = nowhere ls cs item (λ j. ap (λ (b : ChainedBags). set.contains (bag_at b.bags j) item) v ∙ c.requires.nowhere j) in
+    let none : occ item (all_items ls cs) ≡ 0 = nowhere ls cs item
+    (λ j. ap (λ (b : ChainedBags). set.contains (bag_at b.bags j) item) v ∙ c.requires.nowhere j) in
     let size : length new_links ≡ length ls = (let a = c.joined.auto.links in let b = ap length same in omega (arith, a, b)) in
     let fits : length new_links ≡ c.self.inside.links.len = size ∙ sym c.self.inside.links.ok.0 in
     let items : items_of new_links chain ≡ item ∷ items_of ls (get_or cs k no_chain) =
