@@ -26,7 +26,7 @@ use crate::values::take_value;
 use sdd_atomics::words::state_word;
 use sdd_atomics::{DomainSeat, DomainTable, steps};
 use sdd_core::Refused;
-use sdd_participants::{Bags, LimboEntry, Participant, Tally};
+use sdd_participants::{Bags, LimboEntry, Participant, RunningTally, Tally};
 use sdd_rights::{GhostKeys, WHOLE};
 use sdd_space::inner::{guard_with, part_of_guard};
 use sdd_space::{Guard, Item};
@@ -52,7 +52,7 @@ pub struct LocalCore<'d, T: Item<T>> {
     known: FreeSlotHints,
     /// What its open guards don't have of its tenure: each of them has one unit.
     tenure: ReadSection,
-    tally: Tally,
+    tally: RunningTally,
 }
 
 impl<'d, T: Item<T>> Model for LocalCore<'d, T> {
@@ -208,7 +208,7 @@ impl<'d, T: Item<T>> LocalCore<'d, T> {
             due,
             known,
             tenure: own_tenure(),
-            tally: Tally::new(),
+            tally: RunningTally::new(),
         })
     }
 
@@ -229,7 +229,7 @@ impl<'d, T: Item<T>> LocalCore<'d, T> {
             tally,
         } = self;
         steps::end(&domain.board, &mut token, place);
-        EndedCounts::new(token, domain.limits.slots, tally)
+        EndedCounts::new(token, domain.limits.slots, tally.total())
     }
 
     /// Something waits with the participant.
@@ -266,7 +266,7 @@ impl<'d, T: Item<T>> LocalCore<'d, T> {
     pub fn tally(&self) -> Tally
         ensures { result ≡ self.now.tally }
     {
-        self.tally
+        self.tally.total()
     }
 
     /// A guard is open.

@@ -6,3 +6,4 @@ pub mod Renaming
 pub mod Beside
 pub mod Shown
 pub mod Collecting
+mod Counting

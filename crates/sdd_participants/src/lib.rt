@@ -2,6 +2,7 @@
 #![tactic(auto)]
 
 pub mod bags;
+mod counter;
 pub mod epoch_state;
 pub mod jobs;
 pub mod participant;
@@ -18,5 +19,5 @@ pub use participant::{CLOSES_TO_SCAN, CountdownState, NO_GARBAGE, Participant};
 pub use place_states::{PlaceState, PlaceStates};
 pub use slab::Slab;
 pub use standing::{CellContents, RawCellContents, Standing, StandingLookup};
-pub use tally::Tally;
+pub use tally::{RunningTally, Tally};
 pub use waiting::LimboEntry;

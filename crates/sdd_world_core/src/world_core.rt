@@ -19,7 +19,7 @@ mod places;
 mod raw_cells;
 mod reclaiming;
 
-use sdd_participants::{EpochState, Job, Jobs, Tally};
+use sdd_participants::{EpochState, Job, Jobs, RunningTally, Tally};
 use sdd_space::Item;
 use sdd_values::ReadSections;
 use sdd_world_slots::{WorldCells, WorldSlots};
@@ -33,7 +33,7 @@ pub struct WorldCore<T: Item<T>, J: Job> {
     cells: WorldCells,
     jobs: Jobs<J>,
     tenures: ReadSections,
-    tally: Tally,
+    tally: RunningTally,
 }
 
 impl<T: Item<T>, J: Job> Model for WorldCore<T, J> {
@@ -84,7 +84,7 @@ impl<T: Item<T>, J: Job> WorldCore<T, J> {
             cells,
             jobs,
             tenures,
-            tally: Tally::new(),
+            tally: RunningTally::new(),
         })
     }
 
@@ -103,7 +103,7 @@ impl<T: Item<T>, J: Job> WorldCore<T, J> {
         } = self;
         slots.destroy();
         cells.destroy();
-        tally
+        tally.total()
     }
 
     /// Every slot and every cell is free.
@@ -138,7 +138,7 @@ impl<T: Item<T>, J: Job> WorldCore<T, J> {
     pub fn tally(&self) -> Tally
         ensures { result ≡ self.now.world.tally }
     {
-        self.tally
+        self.tally.total()
     }
 }
 

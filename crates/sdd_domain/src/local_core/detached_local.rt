@@ -9,7 +9,7 @@ use crate::free_slot_hints::FreeSlotHints;
 use crate::local_core::LocalCore;
 use sdd_atomics::DomainSeat;
 use sdd_core::Limits;
-use sdd_participants::{Participant, Tally};
+use sdd_participants::{Participant, RunningTally, Tally};
 use sdd_space::Item;
 use sdd_values::ReadSection;
 use std::marker::Model;
@@ -24,7 +24,7 @@ pub struct DetachedLocal {
     due: DueItems,
     known: FreeSlotHints,
     tenure: ReadSection,
-    tally: Tally,
+    tally: RunningTally,
 }
 
 impl Model for DetachedLocal {
@@ -90,7 +90,7 @@ impl DetachedLocal {
     pub fn tally(&self) -> Tally
         ensures { result ≡ self.now.tally }
     {
-        self.tally
+        self.tally.total()
     }
 
     /// Takes part in its domain again. It comes back where the domain's limits are others.
