@@ -1,11 +1,11 @@
 -- The right to a number
 use Rattle.std.specs.Prelude.{ℕ, ◌≡◌, ◌≢◌, Bool, true, false, List, [], ◌∷◌}
 use base.Stored.{Gv}
-use Rattle.atomic_table.specs.Seated.{TableId}
 use Rattle.sdd_witness.specs.declared.witness.Witness.{Witness}
 use Rattle.sdd_views.specs.declared.CellKind.{CellKind}
-use Rattle.sdd_rights.specs.Owner.{witness_of_owner, witness_of_cell, is_cell}
+use Rattle.sdd_rights.specs.Owner.{witness_of_owner, witness_of_cell}
 use Rattle.sdd_rights.specs.Units.{GhostName}
+pub use Rattle.sdd_rights.specs.RightModel.{home_of_table, cells_of_table, home_in_table, home_by}
 use Rattle.sdd_rights.specs.declared.read_fraction.ReadFraction.{ReadFraction}
 use Rattle.sdd_rights.specs.declared.right.StandingKind.{StandingKind}
 use Rattle.sdd_rights.specs.declared.right.Right.{Right}
@@ -16,14 +16,6 @@ use Rattle.sdd_rights.specs.declared.right.NameWitness.{NameWitness}
 abbrev pub number_of : Right → ℕ
 number_of right = right.number
 
--- the home of the slots of a domain, which are those of its table; the places of their values are of this book
-abbrev pub home_of_table : TableId → ℕ → ℕ → GhostName
-home_of_table table book size = record { name = book; size = size; tables = table ∷ []; cells = false }
-
--- the home of its cells
-abbrev pub cells_of_table : TableId → ℕ → GhostName
-cells_of_table table size = record { name = 0; size = size; tables = table ∷ []; cells = true }
-
 -- these are the slots of a domain
 abbrev pub AreSlotsOfTable : GhostName → Type 0
 AreSlotsOfTable home = (home.tables ≢ []) × (home.cells ≡ false)
@@ -32,26 +24,13 @@ AreSlotsOfTable home = (home.tables ≢ []) × (home.cells ≡ false)
 abbrev pub AreCellsOfTable : GhostName → Type 0
 AreCellsOfTable home = (home.tables ≢ []) × (home.cells ≡ true)
 
-abbrev pub home_in_table : Bool → TableId → ℕ → ℕ → GhostName
-home_in_table true table book size = cells_of_table table size
-home_in_table false table book size = home_of_table table book size
-
--- with a witness it is a home of its table, and else the one of the part
-abbrev pub home_by : List Gv → TableId → ℕ → Bool → GhostName → GhostName
-home_by [] table book cell home = home
-home_by (g ∷ gs) table book cell home = home_in_table cell table book home.size
-
 -- the home whose number it is
 abbrev pub home_of : Right → GhostName
-home_of right = home_by right.witness.views right.witness.table_id right.grip.book (is_cell right.part.number) right.part.home
+home_of right = right.home
 
--- in a domain: the token of the owner of the slot
-abbrev pub witness_of : Right → Witness
-witness_of right = right.witness
-
--- in a domain: one unit of the number of the slot's place
-abbrev pub grip_of : Right → ReadFraction
-grip_of right = right.grip
+-- in a domain: what its witness knows
+abbrev pub views_of : Right → List Gv
+views_of right = right.views
 
 -- the witness is the token of the owner of this slot of the home's table, which may be one of several; the grip is of the slot's number in the home's book,
 -- and shows what the token does
@@ -68,7 +47,7 @@ pub record IsCellBy (home : GhostName) (cell : ℕ) (kind : CellKind) (witness :
 
 -- whether its owner is the only one that there may be
 abbrev pub kind_of : Right → StandingKind
-kind_of right = right.part.kind
+kind_of right = right.kind
 
 -- the number that a right of kind raw is to, and the home whose number it is
 abbrev pub raw_number_of : RawRight → ℕ

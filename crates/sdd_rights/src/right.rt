@@ -7,6 +7,8 @@ ghost use Rattle.sdd_rights.specs.Owner.{witness_of_owner, witness_of_cell, is_c
 use crate::fraction::{Fraction, GhostKeys, WHOLE};
 use crate::read_fraction::ReadFraction;
 use sdd_witness::Witness;
+use std::marker::Model;
+use std::mem::replace;
 
 /// How a number of slots or cells stands, as all its units agree.
 #[derive(Clone, Copy, Debug, PartialEq, Eq)]
@@ -60,8 +62,22 @@ pub struct Right {
 
 const _: () = prove!(size_of::<Right>() == 4);
 
+impl Model for Right {
+    ghost use Rattle.sdd_rights.specs.Owner.{is_cell};
+    ghost use Rattle.sdd_rights.specs.RightModel.{RightModel, home_by};
+
+    ghost Value = { RightModel };
+
+    ghost view = { λ r. record {
+      number = r.number;
+      home = home_by r.witness.views r.witness.table_id r.grip.book (is_cell r.part.number) r.part.home;
+      kind = r.part.kind;
+      views = r.witness.views;
+    } };
+}
+
 impl Right {
-    ghost use Rattle.sdd_rights.specs.Right.{number_of, home_of, kind_of, home_of_table, cells_of_table, AreSlotsOfTable, AreCellsOfTable, witness_of, grip_of, IsOwnerBy, IsCellBy};
+    ghost use Rattle.sdd_rights.specs.Right.{number_of, home_of, kind_of, views_of, home_of_table, cells_of_table, AreSlotsOfTable, AreCellsOfTable, IsOwnerBy, IsCellBy};
 
     /// The number that the right is to.
     pub fn number(&self) -> u32
@@ -85,8 +101,7 @@ impl Right {
         ensures number { number_of result ≡ number }
         ensures home { home_of result ≡ home_of_table witness.table_id grip.book size }
         ensures kind { kind_of result ≡ kind }
-        ensures witness { witness_of result ≡ witness }
-        ensures grip { grip_of result ≡ grip }
+        ensures views { views_of result ≡ witness.views }
     {
         let mut book = GhostKeys::new(size);
         let part = book.issue(&kind);
@@ -106,7 +121,7 @@ impl Right {
         ensures number { number_of result ≡ number }
         ensures home { home_of result ≡ cells_of_table witness.table_id size }
         ensures kind { kind_of result ≡ kind }
-        ensures witness { witness_of result ≡ witness }
+        ensures views { views_of result ≡ witness.views }
     {
         let mut book = GhostKeys::new(size);
         let _ = book.issue(&kind);
@@ -138,6 +153,27 @@ impl Right {
         }
     }
 
+    /// A right to a number of a home of its own, to stand in another's place.
+    fn to_nothing() -> Right {
+        let mut book = GhostKeys::new(1);
+        let mut whole = book.issue(&StandingKind::Shared);
+        Right::of_part(0, whole.split(1))
+    }
+
+    /// Takes the right out of where it is. One to nothing stands there, until it is put back.
+    pub fn take(&mut self) -> Right
+        ensures { result ≡ self.old }
+    {
+        replace(self, Right::to_nothing())
+    }
+
+    /// Puts a right there, and lets go of the one that stood there for ever.
+    pub fn put(&mut self, right: Right)
+        ensures { self.new ≡ right }
+    {
+        replace(self, right).forget();
+    }
+
     /// Lets go of the right for ever: nobody has it again, nor redeems it.
     pub fn forget(self) {
         let (_owner, grip) = self.into_owner();
@@ -147,8 +183,7 @@ impl Right {
     /// The token of the owner of the slot, and the unit of the number of its place, in a domain; of a right to a cell the cell's token, and a blank unit;
     /// blank ones else.
     pub fn into_owner(self) -> (Witness, ReadFraction)
-        ensures witness { result.0 ≡ witness_of self }
-        ensures grip { result.1 ≡ grip_of self }
+        ensures views { result.0.views ≡ views_of self }
         ensures owner { AreSlotsOfTable (home_of self) → IsOwnerBy (home_of self) (number_of self) (is_shared (kind_of self)) result.0 result.1 }
         ensures cell { AreCellsOfTable (home_of self) → IsCellBy (home_of self) (number_of self) (cell_kind (is_shared (kind_of self))) result.0 }
     {
@@ -163,9 +198,9 @@ impl Right {
 
     /// The token of the owner of the slot, or of the right to the cell, in a domain; a blank one else.
     pub fn witness(&self) -> &Witness
-        ensures witness { result.now ≡ witness_of self.now }
-        ensures owner { AreSlotsOfTable (home_of self.now) →
-            IsOwnerBy (home_of self.now) (number_of self.now) (is_shared (kind_of self.now)) result.now (grip_of self.now) }
+        ensures views { result.now.views ≡ views_of self.now }
+        ensures owner { AreSlotsOfTable (home_of self.now) → (grip : ReadFraction)
+            × IsOwnerBy (home_of self.now) (number_of self.now) (is_shared (kind_of self.now)) result.now grip }
         ensures cell { AreCellsOfTable (home_of self.now) →
             IsCellBy (home_of self.now) (number_of self.now) (cell_kind (is_shared (kind_of self.now))) result.now }
     {
@@ -174,9 +209,8 @@ impl Right {
 
     /// The unit of the number of the slot's place, in a domain; a blank one else.
     pub fn grip(&self) -> &ReadFraction
-        ensures grip { result.now ≡ grip_of self.now }
-        ensures owner { AreSlotsOfTable (home_of self.now) →
-            IsOwnerBy (home_of self.now) (number_of self.now) (is_shared (kind_of self.now)) (witness_of self.now) result.now }
+        ensures owner { AreSlotsOfTable (home_of self.now) → (witness : Witness) × (witness.views ≡ views_of self.now)
+            × IsOwnerBy (home_of self.now) (number_of self.now) (is_shared (kind_of self.now)) witness result.now }
     {
         &self.grip
     }
@@ -185,7 +219,7 @@ impl Right {
 /// The right of the one owner of a number.
 pub struct UniqueRight {
     pub right: Right,
-    pub ghost kind: { right.part.kind ≡ StandingKind.Owned },
+    pub ghost kind: { right.kind ≡ StandingKind.Owned },
 }
 
 const _: () = prove!(size_of::<UniqueRight>() == 4);
@@ -219,7 +253,7 @@ impl UniqueRight {
 /// The right of one owner of a number that others may own too.
 pub struct SharedRight {
     pub right: Right,
-    pub ghost kind: { right.part.kind ≡ StandingKind.Shared },
+    pub ghost kind: { right.kind ≡ StandingKind.Shared },
 }
 
 const _: () = prove!(size_of::<SharedRight>() == 4);
