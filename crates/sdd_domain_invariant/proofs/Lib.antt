@@ -3,6 +3,7 @@ pub mod Rows
 pub mod Tops
 pub mod Counts
 pub mod Banks
+pub mod Lasts
 pub mod Part
 pub mod Records
 pub mod Fillings
