@@ -1,10 +1,11 @@
 -- What the last fractions of slots show, after one step
-use Rattle.std.proofs.Common.{◌≡◌, ◌≢◌, ◌⊎◌, inl, inr, ℕ, suc, ◌+◌, ◌<◌, ◌≤◌, true, false, List, [], ◌∷◌, ◌++◌, set, sym, refl, ap, ◌∙◌, subst, ⊎_elim, arith, eq-eqb, ne_eqb}
+use Rattle.std.proofs.Common.{◌≡◌, ◌≢◌, ◌⊎◌, inl, inr, ℕ, suc, ◌+◌, ◌<◌, ◌≤◌, true, false, List, [], ◌∷◌, ◌++◌, map, length, get_or, set, sym, refl, ap, ◌∙◌, subst, ⊎_elim, arith, eq-eqb, ne_eqb, get_or-set_other, get_or-set_same}
 use Rattle.std.specs.Prelude.{Some}
 use mathlib.Core.Option.{some}
 use mathlib.Core.Logic.{dite}
 use native.Mathlib.Decide.{ℕ_discrete}
 use lib.ListN.{get_elem?}
+use lib.Seq.{set-get_or}
 use prog.Atomic.{either}
 use base.Stored.{Gv}
 use Rattle.atomic_table.specs.Table.{homes_after}
@@ -12,15 +13,20 @@ use Rattle.sdd_shared_values.specs.ValueFractions.{FractionContent}
 use Rattle.sdd_shared_values.specs.Bank.{IsPart, IsJoined, Leaves, Comes}
 use Rattle.sdd_shared_values.specs.Deposits.{units_at, AreDeposits}
 use Rattle.sdd_shared_values.specs.declared.value_fraction.ValueFraction.{ValueFraction}
+use Rattle.sdd_views.specs.declared.FractionsView.{FractionsView}
 use Rattle.sdd_views.specs.declared.View.{View}
 use Rattle.sdd_views.specs.declared.Sizes.{Sizes}
+use Rattle.sdd_word_invariant.specs.Words.{slot_word, first_slot}
+use Rattle.sdd_word_invariant.specs.Codes.{raw_word}
 use Rattle.sdd_word_invariant.specs.Epoch.{HasPlace}
 use Rattle.sdd_word_invariant.proofs.Frame.{each_set, each_snoc}
+use Rattle.sdd_word_invariant.proofs.Sums.{total_two}
 use Rattle.sdd_domain_invariant.specs.FractionsAtHome.{FractionsAtHome, CarriedFractions, LiesAt, share, Has}
 use Rattle.sdd_domain_invariant.specs.FilledInvariant.{newest}
-use Rattle.sdd_domain_invariant.specs.BankInvariant.{banked, IsBank}
+use Rattle.sdd_domain_invariant.specs.BankInvariant.{one_where, offices, deposited, banked, IsBank, BankInvariant}
 use Rattle.sdd_domain_invariant.specs.LastFractions.{ShowOnly, IsRaw, LastIs, ShowsLast, KnowsRaw, LastsInvariant}
 use Rattle.sdd_domain_invariant.proofs.Banks.{with_deposits, banked_then}
+use Rattle.sdd_domain_invariant.proofs.Records.{IsAlike}
 use Rattle.sdd_domain_invariant.proofs.Rows.{Given, given_lies}
 
 -- ---- deposits
@@ -87,12 +93,49 @@ NoneRaw sizes ws = (i : ℕ) → i < sizes.slots → ¬ (IsRaw sizes ws i)
 abbrev pub NoMoreRaw : Sizes → List ℕ → List ℕ → Type 0
 NoMoreRaw sizes ws ws' = (i : ℕ) → i < sizes.slots → IsRaw sizes ws' i → IsRaw sizes ws i
 
+module _ (sizes : Sizes) (ws : List ℕ) where
+  -- while all words are 0 none is
+  pub none_raw : ((j : ℕ) → get_or ws j 0 ≡ 0) → NoneRaw sizes ws
+  none_raw zeros i low is = let z = zeros (slot_word sizes i) in omega arith
+
+  -- a word before the slots' changes
+  pub raws_before : (j y : ℕ) → j < first_slot sizes → NoMoreRaw sizes ws (set ws j y)
+  raws_before j y low i near is = sym (get_or-set_other ws j (slot_word sizes i) y 0 (λ e. omega arith)) ∙ is
+
+  -- a word is looked at
+  pub raws_same : (j : ℕ) → NoMoreRaw sizes ws (set ws j (get_or ws j 0))
+  raws_same j i near is = subst (λ (l : List ℕ). IsRaw sizes l i) (set-get_or ws j 0) is
+
+  -- a slot's word changes, whose item isn't out as raw then
+  pub raws_other : (slot y : ℕ) → (i : ℕ) → i < sizes.slots → i ≢ slot → IsRaw sizes (set ws (slot_word sizes slot) y) i → IsRaw sizes ws i
+  raws_other slot y i near ne is = sym (get_or-set_other ws (slot_word sizes slot) (slot_word sizes i) y 0 (λ e. ne (omega arith))) ∙ is
+
+  pub not_raw : (slot y : ℕ) → slot_word sizes slot < length ws → y ≢ raw_word 0 → ¬ (IsRaw sizes (set ws (slot_word sizes slot) y) slot)
+  not_raw slot y low ne is = ne (sym (get_or-set_same ws (slot_word sizes slot) y 0 low) ∙ is)
+
+  pub raws_set : (slot y : ℕ) → slot_word sizes slot < length ws → y ≢ raw_word 0 → NoMoreRaw sizes ws (set ws (slot_word sizes slot) y)
+  raws_set slot y low ne i near is = dite (ℕ_discrete i slot)
+      (λ e. absurd (not_raw slot y low ne (subst (IsRaw sizes (set ws (slot_word sizes slot) y)) e is)))
+      (λ apart. raws_other slot y i near apart is)
+
 -- the one is the bank's only if the other is, and has the same then
 abbrev pub KeepsBank : View → View → Type 0
 KeepsBank v w = IsBank w → IsBank v × (banked w ≡ banked v)
 
 pub no_bank : (v w : View) → w.stakes.bank ≡ false → KeepsBank v w
 no_bank v w none is = let e : false ≡ true = sym none ∙ is in absurd cc
+
+-- two aren't the bank's
+pub one_bank : (γ : ℕ) (sizes : Sizes) (ws : List ℕ) (vs : List View) → BankInvariant γ sizes ws vs → (j k : ℕ) (v w : View) → j ≢ k
+    → get_elem? vs j ≡ some v → get_elem? vs k ≡ some w → IsBank v → ¬ (IsBank w)
+one_bank γ sizes ws vs p j k v w apart e e' is is' = let two = total_two offices vs j k v w apart e e' in let a = ap one_where is in
+    let b = ap one_where is' in let few = p.single in omega arith
+
+pub alike_bank : (v w : View) → IsAlike v w → KeepsBank v w
+alike_bank v w same is = (
+  ap (λ (s : FractionsView). s.bank) (sym same.0) ∙ is,
+  ap (λ (s : FractionsView). map (deposited s.book) s.banked) same.0,
+)
 
 module _ (sizes : Sizes) (ws : List ℕ) (vs : List View) (hs : FractionsAtHome) (part : LastsInvariant sizes ws vs hs) where
   abbrev n : ℕ

@@ -3,9 +3,9 @@ pub mod Rows
 pub mod Tops
 pub mod Counts
 pub mod Banks
-pub mod Lasts
 pub mod Part
 pub mod Records
+pub mod Lasts
 pub mod Fillings
 pub mod Telling
 pub mod Lift
