@@ -1,14 +1,15 @@
 -- An item is put out as raw, taken back, and seen under a guard meanwhile: these steps keep all parts.
-use Rattle.std.proofs.Common.{◌≡◌, ℕ, ◌<◌, eqb, List, get_or, set, sym, refl, ap, ◌∙◌, subst, arith}
-use lib.ListN.{get_elem?}
-use lib.Seq.{set-get_or}
+use Rattle.std.proofs.Common.{◌≢◌, ◌⊎◌, inl, inr, ℕ, ◌<◌, eqb, get_or, set, sym, refl, ap, ◌∙◌, subst, ⊎_elim}
+use mathlib.Core.Logic.{dite}
+use native.Mathlib.Decide.{ℕ_discrete, dec_lt}
 use prog.Atomic.{either}
 use Rattle.atomic_table.proofs.Lists.{exchanged}
 use Rattle.sdd_views.specs.declared.View.{View}
 use Rattle.sdd_word_invariant.specs.Words.{slot_word}
 use Rattle.sdd_word_invariant.specs.Codes.{codes, shared_base, owned_word, raw_word}
 use Rattle.sdd_word_invariant.specs.Epoch.{HasPlace, IsOpen}
-use Rattle.sdd_word_invariant.specs.Slots.{OwnsAlone, Holds, SlotsInvariant}
+use Rattle.sdd_word_invariant.specs.Slots.{OwnsAlone, Holds, Sees}
+use Rattle.sdd_word_invariant.specs.Sums.{times}
 use Rattle.sdd_word_invariant.specs.EpochSteps.{Steps}
 use Rattle.sdd_word_invariant.specs.SlotSteps.{noted, claimed, turned_raw, seeing, TurnsRaw, Regains, SeesRaw, AtSlot}
 use Rattle.sdd_word_invariant.specs.WordInvariant.{Parts}
@@ -59,20 +60,26 @@ module _ (id : ℕ) (v : View) (live : HasPlace v.epoch) where
       (AtSlot (λ slot. SeesRaw slot (raw_word generation)) (slot_word v.sizes slot) v)
   sees_raw slot g is_open low ws vs p at small = let i : ℕ = slot_word v.sizes slot in let x : ℕ = get_or ws i 0 in let old : ℕ = raw_word g in
       let w : View = seeing slot v in let told = steps.knew id v live ws vs p at slot in
-      exchanged x old old (λ _. (u : View) × Parts v.sizes (set ws i x) (set vs id u) × AtSlot (λ slot. SeesRaw slot old) i v x u)
-      (λ hit. let raw = raw_is g low in (
+      let stays : (x ≢ old) ⊎ Sees v slot → (u : View) × Parts v.sizes (set ws i x) (set vs id u) × AtSlot (λ slot. SeesRaw slot old) i v x u
+      = λ why. (
+        v,
+        steps.unmoved id v live ws vs p at i,
+        λ other is. let same = steps.same_slot id v live slot other is in (
+          (λ hit unseen. ⊎_elim (λ (miss : x ≢ old). absurd (miss hit)) (λ (sees : Sees v slot). absurd (unseen (subst (Sees v) same sees))) why),
+          (λ _. refl),
+          steps.knew_too id v live slot other is x told,
+        ),
+      ) in
+      dite (ℕ_discrete x old) (λ hit. dite (dec_lt 0 (times slot v.slots.sees)) (λ sees. stays (inr sees))
+      (λ unseen. let raw = raw_is g low in (
         w,
         steps.loaded id v live ws vs p at i w refl refl
             (seen.sees_raw codes sound v.sizes ws vs p.slots id v at slot is_open (ap codes.full hit ∙ raw.2) (ap codes.alive hit ∙ raw.0)
             (ap codes.waiting hit ∙ raw.1)),
-        λ other is. (
-          (λ _. ap (λ (k : ℕ). seeing k v) (steps.same_slot id v live slot other is)),
-          (λ no. absurd (no hit)),
+        λ other is. let same = steps.same_slot id v live slot other is in (
+          (λ _ _. ap (λ (k : ℕ). seeing k v) same),
+          (λ why. ⊎_elim (λ (miss : x ≢ old). absurd (miss hit)) (λ (sees : Sees v other). absurd (unseen (subst (Sees v) (sym same) sees))) why),
           steps.knew_too id v live slot other is x told,
         ),
-      ))
-      (λ miss. (
-        v,
-        steps.unmoved id v live ws vs p at i,
-        λ other is. ((λ e. absurd (miss e)), (λ _. refl), steps.knew_too id v live slot other is x told),
-      ))
+      )))
+      (λ miss. stays (inl miss))
