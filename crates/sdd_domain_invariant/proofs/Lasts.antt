@@ -1,5 +1,5 @@
 -- What the last fractions of slots show, after one step
-use Rattle.std.proofs.Common.{◌≡◌, ◌≢◌, ◌⊎◌, inl, inr, ℕ, suc, ◌+◌, ◌<◌, ◌≤◌, true, false, List, [], ◌∷◌, ◌++◌, map, length, get_or, set, sym, refl, ap, ◌∙◌, subst, ⊎_elim, arith, eq-eqb, ne_eqb, get_or-set_other, get_or-set_same}
+use Rattle.std.proofs.Common.{◌≡◌, ◌≢◌, ◌⊎◌, inl, ℕ, suc, ◌<◌, ◌≤◌, true, false, List, [], ◌∷◌, ◌++◌, map, length, get_or, set, sym, refl, ap, ◌∙◌, subst, ⊎_elim, arith, eq-eqb, ne_eqb, get_or-set_other, get_or-set_same}
 use Rattle.std.specs.Prelude.{Some}
 use mathlib.Core.Option.{some}
 use mathlib.Core.Logic.{dite}
@@ -79,10 +79,12 @@ module _ (i : ℕ) (g : Gv) where
       (λ (r : ((h' : FractionContent) × IsJoined h l h' × (more ≡ h' ∷ hs)) ⊎ ((hs' : List FractionContent) × Comes hs l hs' × (more ≡ h ∷ hs'))). ⊎_elim
       (λ (b : (h' : FractionContent) × IsJoined h l h' × (more ≡ h' ∷ hs)). let sum = b.1.sum in subst (ShowOnly i g) (sym b.2)
       ((λ e. ap (λ (c : FractionContent). c.shown) sum ∙ show.0 (ap (λ (c : FractionContent). c.number) (sym sum) ∙ e)), show.1))
-      (λ (d : (hs' : List FractionContent) × Comes hs l hs' × (more ≡ h ∷ hs')). let are' = subst (AreDeposits γ) d.2 are in subst (ShowOnly i g) (sym d.2)
-      (show.0, dite (ℕ_discrete h.number i)
-      (λ same. none_shown γ d.0 are'.4 (ap (λ (k : ℕ). units_at k d.0) (sym same) ∙ are'.3))
-      (λ ne. shown_joins γ hs l d.0 are'.4 of (let o = ap (λ (b : _). either b h.units 0) (ne_eqb h.number i ne) in omega arith) d.1 show.1))) r) comes
+      (λ (d : (hs' : List FractionContent) × Comes hs l hs' × (more ≡ h ∷ hs')). let are' = subst (AreDeposits γ) d.2 are in subst (ShowOnly i g) (sym d.2) (
+        show.0,
+        dite (ℕ_discrete h.number i)
+            (λ same. none_shown γ d.0 are'.4 (ap (λ (k : ℕ). units_at k d.0) (sym same) ∙ are'.3))
+            (λ ne. shown_joins γ hs l d.0 are'.4 of (let o = ap (λ (b : _). either b h.units 0) (ne_eqb h.number i ne) in omega arith) d.1 show.1),
+      )) r) comes
 
 -- ---- the part
 -- no item is out as raw
@@ -216,6 +218,25 @@ module _ (sizes : Sizes) (ws : List ℕ) (vs : List View) (hs : FractionsAtHome)
               (λ u. HasPlace u.epoch → KnowsRaw sizes ws' hs' u) vs id w
               (λ live. raw_of v w filled (part.raw one id v at (had live)))
               (λ j u _ e live. raw_of u u (λ _ _. refl) (part.raw one j u e live));
+        }
+
+    -- an item goes out as raw, of which it is known what it shows
+    pub lasts_out : (slot : ℕ) (ws' : List ℕ) (w : View) → KeepsBank v w → w.stakes.filled ≡ v.stakes.filled → (HasPlace w.epoch → HasPlace v.epoch)
+        → (n ≡ 1 → (j : ℕ) (u : View) → get_elem? vs j ≡ some u → HasPlace u.epoch → (z : ValueFraction) → LastIs sizes hs slot z
+        → newest slot u.stakes.filled ≡ Some (record { slot = slot; shared = false; value = z.lot.shown }))
+        → ((i : ℕ) → i < sizes.slots → i ≢ slot → IsRaw sizes ws' i → IsRaw sizes ws i) → LastsInvariant sizes ws' (set vs id w) hs
+    lasts_out slot ws' w bank filled had knows raws =
+        let now : (j : ℕ) (u u' : View) → get_elem? vs j ≡ some u → n ≡ 1 → HasPlace u.epoch → u'.stakes.filled ≡ u.stakes.filled → KnowsRaw sizes ws' hs u'
+        = λ j u u' e one live same i z low is l. ap (newest i) same ∙ dite (ℕ_discrete i slot)
+        (λ here. subst (λ (k : ℕ). newest k u.stakes.filled ≡ Some (record { slot = k; shared = false; value = z.lot.shown })) (sym here)
+        (knows one j u e live z (subst (λ (k : ℕ). LastIs sizes hs k z) here l)))
+        (λ ne. part.raw one j u e live i z low (raws i low ne is) l) in record {
+          alike = part.alike;
+          banks = each_set (λ u. IsBank u → ShowsLast sizes hs u) (λ u. IsBank u → ShowsLast sizes hs u) vs id w
+              (λ is i z low l. let b = bank is in subst (ShowOnly i z.lot.shown) (sym b.1) (part.banks id v at b.0 i z low l))
+              (λ j u _ e. part.banks j u e);
+          raw = λ one. each_set (λ u. HasPlace u.epoch → KnowsRaw sizes ws' hs u) (λ u. HasPlace u.epoch → KnowsRaw sizes ws' hs u) vs id w
+              (λ live. now id v w at one (had live) filled) (λ j u _ e live. now j u u e one live refl);
         }
 
   -- what the bank has is other than before

@@ -10,5 +10,6 @@ pub mod Fillings
 pub mod Telling
 pub mod Lift
 pub mod Steps
+pub mod RawSteps
 pub mod Tokens
 pub mod Laid

@@ -70,7 +70,7 @@ use Rattle.sdd_domain_invariant.proofs.Telling.{one_moved, none_moved, one_view,
 use Rattle.sdd_domain_invariant.proofs.Tops.{rest_is, share_one}
 use Rattle.sdd_domain_invariant.proofs.Lift.{Keeps, Follows, IsCalm, keeps_ended, lift_homes, lift_calm, stands, stands_by, stands_dealt}
 
-full_owned : (x : ℕ) → 0 < alive x → full x ≡ 1
+pub full_owned : (x : ℕ) → 0 < alive x → full x ≡ 1
 full_owned x h = (sound.lives x h).1
 
 vacant_shown : (f : ℕ) (g : Gv) → f ≡ 0 → IsNoValueCode g → MatchesSlotWord f g
@@ -90,7 +90,7 @@ module _ (γ : ℕ) (sizes : Sizes) (s : State ValueFraction View) (h : DomainIn
       (h.homes.moving j u e i m).1
 
   -- where a participant has an owner, or an item that waits, none else moves the value
-  still_owned : (id j : ℕ) (v u : View) → get_elem? s.views id ≡ some v → get_elem? s.views j ≡ some u → id ≢ j → 0 < owners_at i v → ¬ (Moves u i)
+  pub still_owned : (id j : ℕ) (v u : View) → get_elem? s.views id ≡ some v → get_elem? s.views j ≡ some u → id ≢ j → 0 < owners_at i v → ¬ (Moves u i)
   still_owned id j v u at e ne own m = let mine = owner_in codes sound sizes s.words s.views h.kept.parts.slots id i v at in
       let l = (sound.lives (slot_at sizes s.words i) (omega arith)).0 in ⊎_elim
       (λ (o : OwnsAlone u i). let g = ((h.kept.parts.slots.each j u e).alone i o).0 in
@@ -113,7 +113,7 @@ own_place γ sizes id v live y s h at p low e was = let f = h.kept.parts.epoch.e
     let is = f.state live in let few = f.states in absurd (omega arith)
 
 -- a lone participant is the only one of its domain
-one_place : (γ : ℕ) (sizes : Sizes) (s : State ValueFraction View) → DomainInvariant γ sizes s → (id : ℕ) (v : View) → get_elem? s.views id ≡ some v → IsLone v.epoch
+pub one_place : (γ : ℕ) (sizes : Sizes) (s : State ValueFraction View) → DomainInvariant γ sizes s → (id : ℕ) (v : View) → get_elem? s.views id ≡ some v → IsLone v.epoch
     → sizes.participants ≡ 1
 one_place γ sizes s h id v at one = let f = h.kept.parts.epoch.each id v.epoch (at_map epoch_of s.views id v at) in sym (f.all (λ z. omega arith)) ∙ one
 
@@ -138,15 +138,15 @@ module _ (slots id : ℕ) (me : SeatState) (live : HasPlace me.0.epoch) where
 
   -- it moves nothing in, and tells of as many owners as before, or of none
   module _ (s : State ValueFraction View) (h : DomainInvariant γ sizes s) (at : get_elem? s.views id ≡ some v) where
-    filled_by : (w : View) → w.stakes.filled ≡ v.stakes.filled → TellsNoMore w s.views → FilledInvariant sizes (set s.views id w)
+    pub filled_by : (w : View) → w.stakes.filled ≡ v.stakes.filled → TellsNoMore w s.views → FilledInvariant sizes (set s.views id w)
     filled_by w same tells = filled_after sizes s.views h.filled id v at w same tells (λ _ _. inl live)
 
-    still_filled : (w : View) → w.stakes.filled ≡ v.stakes.filled → w.stakes.owns ≡ v.stakes.owns → w.stakes.waits ≡ v.stakes.waits
+    pub still_filled : (w : View) → w.stakes.filled ≡ v.stakes.filled → w.stakes.owns ≡ v.stakes.owns → w.stakes.waits ≡ v.stakes.waits
         → FilledInvariant sizes (set s.views id w)
     still_filled w same owns waits = filled_same sizes s.views h.filled id v at w same owns waits (λ _. live)
 
     -- the records that it has are among those that it had
-    tells_old_by : (w : View) → ((r : ShownValue) → HasRecord w.stakes.owns r → Tells v r) → ((r : ShownValue) → HasRecord w.stakes.waits r → Tells v r)
+    pub tells_old_by : (w : View) → ((r : ShownValue) → HasRecord w.stakes.owns r → Tells v r) → ((r : ShownValue) → HasRecord w.stakes.waits r → Tells v r)
         → TellsNoMore w s.views
     tells_old_by w owns waits = tells_old sizes s.views h.filled id v at w (told_by w v owns waits)
 
@@ -166,18 +166,18 @@ module _ (slots id : ℕ) (me : SeatState) (live : HasPlace me.0.epoch) where
     i = slot_word sizes slot
 
     -- the word tells which slot it is
-    at_once : (R : ℕ → SeatState → ℕ → SeatState → Type 0) (x : ℕ) (me' : SeatState) → R slot me x me' → OfSlot R i me x me'
+    pub at_once : (R : ℕ → SeatState → ℕ → SeatState → Type 0) (x : ℕ) (me' : SeatState) → R slot me x me' → OfSlot R i me x me'
     at_once R x me' r other is = let same : slot ≡ other = omega arith in subst (λ (k : ℕ). R k me x me') same r
 
     -- the other slots are as full as before
-    others : (ws : List ℕ) (y j : ℕ) → j < sizes.slots → j ≢ slot → full_at sizes (set ws i y) j ≡ full_at sizes ws j
+    pub others : (ws : List ℕ) (y j : ℕ) → j < sizes.slots → j ≢ slot → full_at sizes (set ws i y) j ≡ full_at sizes ws j
     others ws y j _ ne = of_another sizes ws slot y j ne
 
-    here : (ws : List ℕ) (y : ℕ) → i < length ws → slot_at sizes (set ws i y) slot ≡ y
+    pub here : (ws : List ℕ) (y : ℕ) → i < length ws → slot_at sizes (set ws i y) slot ≡ y
     here ws y low = get_or-set_same ws i y 0 low
 
     -- a slot's word is none of a place's
-    spares : (f : ℕ → ℕ) (then : ℕ → View → Type 0) → ((r : ℕ) (w : View) → then r w → w.places ≡ v.places) → Keeps γ sizes slots id me i f then
+    pub spares : (f : ℕ → ℕ) (then : ℕ → View → Type 0) → ((r : ℕ) (w : View) → then r w → w.places ≡ v.places) → Keeps γ sizes slots id me i f then
     spares f then places = keeps_ended γ sizes slots id me i f then places (λ s h at p low e was. absurd (omega arith)) (inl live)
 
     claim_keeps : Keeps γ sizes slots id me i (λ x. either (eqb x (free_word 0)) (owned_word 0) x)
@@ -190,7 +190,7 @@ module _ (slots id : ℕ) (me : SeatState) (live : HasPlace me.0.epoch) where
     look_keeps = spares (λ x. x) (AtSlot LooksAtSlot i v) (λ r w t. ap (λ (u : View). u.places) (t slot refl).0)
 
     module _ (s : State ValueFraction View) (h : DomainInvariant γ sizes s) where
-      within : i < length s.words
+      pub within : i < length s.words
       within = let l = h.kept.parts.slots.long in omega arith
 
       -- where nobody sees the slot or has stakes in it out, all may be taken, which show what its word says
@@ -205,11 +205,11 @@ module _ (slots id : ℕ) (me : SeatState) (live : HasPlace me.0.epoch) where
           (h.homes.home slot p b.0 inside (omega arith) b.1) in (b.0, b.1, (has.0, shown p b.0 (omega arith) b.1 has.1)))
 
       -- no place ends by a step on a slot
-      over_slot : (y : ℕ) → ended_places s.words n ≤ ended_places (set s.words i y) n
+      pub over_slot : (y : ℕ) → ended_places s.words n ≤ ended_places (set s.words i y) n
       over_slot y = ended_spared sizes s.words i y (λ p low e was. absurd (omega arith)) n (omega arith)
 
       -- a load leaves the words
-      same_words : (j : ℕ) → full_at sizes (set s.words i (get_or s.words i 0)) j ≡ full_at sizes s.words j
+      pub same_words : (j : ℕ) → full_at sizes (set s.words i (get_or s.words i 0)) j ≡ full_at sizes s.words j
       same_words j = ap (λ (l : List ℕ). full_at sizes l j) (set-get_or s.words i 0)
 
     -- of a slot whose value it moves the bank has nothing

@@ -6,3 +6,4 @@ pub mod BankInvariant
 pub mod LastFractions
 pub mod DomainInvariant
 pub mod FractionSteps
+pub mod RawSteps
