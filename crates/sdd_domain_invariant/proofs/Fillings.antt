@@ -110,6 +110,25 @@ module _ (sizes : Sizes) (vs : List View) (f : FilledInvariant sizes vs) where
     filled_alike w same had = filled_after w (ap (λ (s : FractionsView). s.filled) same.0)
         (tells_same w (ap (λ (s : FractionsView). s.owns) same.0) (ap (λ (s : FractionsView). s.waits) same.0)) had
 
+    -- it tells of one slot more, into which whoever has the only place moved that last
+    pub filled_learned : (w : View) → w.stakes.filled ≡ v.stakes.filled → (HasPlace w.epoch → HasPlace v.epoch) → (now : ShownValue)
+        → ((r : ShownValue) → Tells w r → (r ≡ now) ⊎ IsTold vs r)
+        → (sizes.participants ≡ 1 → (j : ℕ) (u : View) → get_elem? vs j ≡ some u → HasPlace u.epoch → newest now.slot u.stakes.filled ≡ Some now)
+        → FilledInvariant sizes (set vs id w)
+    filled_learned w same had now tells knows = record {
+      knows = λ one j k x u r e live e' told.
+          let known : (r ≡ now) ⊎ IsTold vs r = ⊎_elim (λ (a : (k ≡ id) × (w ≡ u)). tells r (subst (λ (y : View). Tells y r) (sym a.1) told))
+          (λ (a : (k ≢ id) × (get_elem? vs k ≡ some u)). inr (k, u, a.1, told)) (at_set vs id k w u e') in
+          let old : (j : ℕ) (x : View) → get_elem? vs j ≡ some x → HasPlace x.epoch → newest r.slot x.stakes.filled ≡ Some r
+          = λ j x e live. ⊎_elim
+          (λ (a : r ≡ now). subst (λ (y : ShownValue). newest y.slot x.stakes.filled ≡ Some y) (sym a) (knows one j x e live))
+          (λ (a : IsTold vs r). knows_told one j x e live r a) known in
+          ⊎_elim
+          (λ (a : (j ≡ id) × (w ≡ x)). ap (λ (y : View). newest r.slot y.stakes.filled) (sym a.1)
+          ∙ (ap (newest r.slot) same ∙ old id v at (had (subst (λ (y : View). HasPlace y.epoch) (sym a.1) live))))
+          (λ (a : (j ≢ id) × (get_elem? vs j ≡ some x)). old j x a.1 live) (at_set vs id j w x e);
+    }
+
     -- it moved something into a slot of which nothing was told
     pub filled_housed : (ws : List ℕ) → EpochInvariant sizes.participants ws (map epoch_of vs) → HasPlace v.epoch → (now : ShownValue)
         → ((r : ShownValue) → IsTold vs r → now.slot ≢ r.slot) → (w : View) → w.stakes.owns ≡ now ∷ v.stakes.owns → w.stakes.waits ≡ v.stakes.waits

@@ -5,9 +5,11 @@ pub mod Counts
 pub mod Banks
 pub mod Part
 pub mod Records
+pub mod Lasts
 pub mod Fillings
 pub mod Telling
 pub mod Lift
 pub mod Steps
+pub mod RawSteps
 pub mod Tokens
 pub mod Laid

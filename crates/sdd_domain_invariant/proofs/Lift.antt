@@ -41,7 +41,10 @@ use Rattle.sdd_domain_invariant.proofs.Part as part
 use Rattle.sdd_domain_invariant.proofs.Counts.{ended_spared, ended_more, as_full, counted, uncounted, uncounted_alone}
 use Rattle.sdd_domain_invariant.proofs.Records.{IsAlike}
 use Rattle.sdd_domain_invariant.proofs.Records as records
-use Rattle.sdd_domain_invariant.proofs.Fillings.{NoneTold, filled_same, filled_alike}
+use Rattle.sdd_domain_invariant.proofs.Fillings.{filled_same, filled_alike}
+use Rattle.sdd_domain_invariant.specs.LastFractions.{LastsInvariant}
+use Rattle.sdd_domain_invariant.proofs.Lasts.{NoMoreRaw, none_raw, raws_before, alike_bank, lasts_fewer}
+use Rattle.sdd_domain_invariant.proofs.Telling.{none_told}
 
 -- what a step on the word i makes of the state, where y is in it then: what its participant knows of stakes, and what it takes or gives
 pub record Follows (γ : ℕ) (sizes : Sizes) (id i : ℕ) (me : SeatState) (told : ℕ → SeatState → Type 0) (s : State ValueFraction View) (y : ℕ) (w : View) : Type 0 where
@@ -53,6 +56,7 @@ pub record Follows (γ : ℕ) (sizes : Sizes) (id i : ℕ) (me : SeatState) (tol
   pub counts : CountsInvariant sizes (set s.words i y) (set s.views id (record w { stakes = stakes }))
   pub filled : FilledInvariant sizes (set s.views id (record w { stakes = stakes }))
   pub bank : BankInvariant γ sizes (set s.words i y) (set s.views id (record w { stakes = stakes }))
+  pub lasts : LastsInvariant sizes (set s.words i y) (set s.views id (record w { stakes = stakes })) (homes_after s.homes me.1 act)
   pub tells : told (get_or s.words i 0) (record w { stakes = stakes }, carried_after me.1 act)
 
 module _ (γ : ℕ) (sizes : Sizes) (slots id : ℕ) (me : SeatState) (i : ℕ) (f : ℕ → ℕ) where
@@ -105,11 +109,12 @@ module _ (γ : ℕ) (sizes : Sizes) (slots id : ℕ) (me : SeatState) (i : ℕ) 
           counts = b.counts;
           filled = b.filled;
           bank = b.bank;
+          lasts = b.lasts;
         },
         b.tells,
       )
 
-  -- a step that takes and gives none, and has a place still if it had one; and had one if it has one, or there is no owner yet
+  -- a step that takes and gives none, and puts no item out as raw, and has a place still if it had one; and had one if it has one, or all words are 0 yet
   pub record IsCalm (s : State ValueFraction View) (y : ℕ) (w : View) : Type 0 where
     pub more : (j p : ℕ) → FractionIsTaken me.0 j p → FractionIsTaken w j p
     pub same : (j : ℕ) → j < sizes.slots → full_at sizes (set s.words i y) j ≡ full_at sizes s.words j
@@ -117,7 +122,8 @@ module _ (γ : ℕ) (sizes : Sizes) (slots id : ℕ) (me : SeatState) (i : ℕ) 
     pub alike : IsAlike me.0 w
     pub counts : w.stakes.counts ≡ me.0.stakes.counts
     pub lives : HasPlace me.0.epoch → HasPlace w.epoch
-    pub had : sizes.participants ≡ 1 → HasPlace w.epoch → HasPlace me.0.epoch ⊎ NoneTold s.views
+    pub had : sizes.participants ≡ 1 → HasPlace w.epoch → HasPlace me.0.epoch ⊎ ((j : ℕ) → get_or s.words j 0 ≡ 0)
+    pub raws : NoMoreRaw sizes s.words (set s.words i y)
 
   pub lift_calm : (then : ℕ → View → Type 0) (told : ℕ → SeatState → Type 0) → Keeps then → Steps (Parts sizes) id me.0 i f then
       → ((r : ℕ) (w : View) → then r w → told r (w, me.1))
@@ -132,8 +138,12 @@ module _ (γ : ℕ) (sizes : Sizes) (slots id : ℕ) (me : SeatState) (i : ℕ) 
         records = records.calm sizes s.views s.homes h.records id me.0 at w c.alike;
         counts = uncounted sizes s.words s.views h.counts id me.0 at (set s.words i y) w c.counts c.lives
             (as_full sizes s.words (set s.words i y) c.same) (ended_spared sizes s.words i y (ends s w h at t).0 sizes.participants (omega arith));
-        filled = filled_alike sizes s.views h.filled id me.0 at w c.alike c.had;
+        filled = filled_alike sizes s.views h.filled id me.0 at w c.alike (λ one live. ⊎_elim (λ (was : HasPlace me.0.epoch). inl was)
+            (λ (zeros : (j : ℕ) → get_or s.words j 0 ≡ 0). inr (none_told γ sizes s h zeros)) (c.had one live));
         bank = banks.alike γ sizes s.words s.views h.bank id me.0 at (set s.words i y) w c.alike c.same;
+        lasts = lasts_fewer sizes s.words s.views s.homes h.lasts id me.0 at (set s.words i y) w s.homes (λ _ _ _ _ l. l) (alike_bank me.0 w c.alike)
+            (ap (λ (t : FractionsView). t.filled) c.alike.0) (λ one live. ⊎_elim (λ (was : HasPlace me.0.epoch). inl was)
+            (λ (zeros : (j : ℕ) → get_or s.words j 0 ≡ 0). inr (none_raw sizes s.words zeros)) (c.had one live)) c.raws;
         tells = tells (get_or s.words i 0) w t;
       })
 
@@ -142,7 +152,7 @@ module _ (γ : ℕ) (sizes : Sizes) (slots id : ℕ) (me : SeatState) (i : ℕ) 
       → ((r : ℕ) (e : EpochView) → R me.0.epoch r e → IsOpen me.0.epoch → e.place ≡ me.0.epoch.place)
       → ((r : ℕ) (e : EpochView) → R me.0.epoch r e → HasPlace me.0.epoch → HasPlace e)
       → ((s : State ValueFraction View) → DomainInvariant γ sizes s → (e : EpochView) → R me.0.epoch (get_or s.words i 0) e → sizes.participants ≡ 1 → HasPlace e
-      → HasPlace me.0.epoch ⊎ NoneTold s.views)
+      → HasPlace me.0.epoch ⊎ ((j : ℕ) → get_or s.words j 0 ≡ 0))
       → ((s : State ValueFraction View) → DomainInvariant γ sizes s → get_elem? s.views id ≡ some me.0 → Spares sizes s.words i (f (get_or s.words i 0)))
       → Steps (Parts sizes) id me.0 i f (OnEpoch R me.0)
       → ((r : ℕ) (w : View) → OnEpoch R me.0 r w → told r (w, me.1)) → Allows (DomainInvariant γ sizes) slots id me i f told
@@ -158,6 +168,7 @@ module _ (γ : ℕ) (sizes : Sizes) (slots id : ℕ) (me : SeatState) (i : ℕ) 
         counts = refl;
         lives = lives (get_or s.words i 0) e t.2;
         had = had s h e t.2;
+        raws = raws_before sizes s.words i y low;
       })
 
 -- a publish may make each item that waits a change older, and leaves all else of slots
@@ -191,6 +202,7 @@ module _ (γ : ℕ) (sizes : Sizes) (slots : ℕ) where
         counts = refl;
         lives = λ _. (stays e t.2).0;
         had = λ _ _. inl live;
+        raws = raws_before sizes s.words i y low;
       }
       record {
         more = more;
@@ -201,6 +213,7 @@ module _ (γ : ℕ) (sizes : Sizes) (slots : ℕ) where
         counts = refl;
         lives = λ _. (stays e t.2).0;
         had = λ _ _. inl live;
+        raws = raws_before sizes s.words i y low;
       }))
 
   -- the end of a place, which is counted
@@ -228,6 +241,8 @@ module _ (γ : ℕ) (sizes : Sizes) (slots : ℕ) where
             (λ _ none. absurd (omega arith));
         filled = filled_same sizes s.views h.filled id v at now refl refl refl (λ z. absurd (omega arith));
         bank = banks.alike γ sizes s.words s.views h.bank id v at (set s.words i 3) now (refl, refl, refl, (λ _. refl), refl) same;
+        lasts = lasts_fewer sizes s.words s.views s.homes h.lasts id v at (set s.words i 3) now s.homes (λ _ _ _ _ l. l) (λ is. (is, refl)) refl
+            (λ _ live. absurd (omega arith)) (raws_before sizes s.words i 3 (omega arith));
         tells = tells;
       })
 
@@ -235,9 +250,9 @@ module _ (γ : ℕ) (sizes : Sizes) (slots : ℕ) where
 module _ (γ : ℕ) (sizes : Sizes) (id : ℕ) (v : View) (s : State ValueFraction View) (h : DomainInvariant γ sizes s) (at : get_elem? s.views id ≡ some v) where
   pub stands : (w : View) → w.places ≡ v.places → Parts sizes s.words (set s.views id w) → (hs : FractionsAtHome)
       → FractionsInvariant γ sizes s.words (set s.views id w) hs → RecordsInvariant sizes (set s.views id w) hs → CountsInvariant sizes s.words (set s.views id w)
-      → FilledInvariant sizes (set s.views id w) → BankInvariant γ sizes s.words (set s.views id w)
+      → FilledInvariant sizes (set s.views id w) → BankInvariant γ sizes s.words (set s.views id w) → LastsInvariant sizes s.words (set s.views id w) hs
       → DomainInvariant γ sizes record { words = s.words; homes = hs; views = set s.views id w }
-  stands w same parts hs homes records counts filled bank = record {
+  stands w same parts hs homes records counts filled bank lasts = record {
     kept = record {
       parts = parts;
       places = record {
@@ -254,24 +269,27 @@ module _ (γ : ℕ) (sizes : Sizes) (id : ℕ) (v : View) (s : State ValueFracti
     counts = counts;
     filled = filled;
     bank = bank;
+    lasts = lasts;
   }
 
   -- which changes only what is known of stakes, but for what was made
   pub stands_by : (t : FractionsView) → t.counts ≡ v.stakes.counts → (hs : FractionsAtHome) → FractionsInvariant γ sizes s.words (set s.views id (record v { stakes = t })) hs
       → RecordsInvariant sizes (set s.views id (record v { stakes = t })) hs → FilledInvariant sizes (set s.views id (record v { stakes = t }))
       → BankInvariant γ sizes s.words (set s.views id (record v { stakes = t }))
+      → LastsInvariant sizes s.words (set s.views id (record v { stakes = t })) hs
       → DomainInvariant γ sizes record { words = s.words; homes = hs; views = set s.views id (record v { stakes = t }) }
-  stands_by t same hs homes records filled bank = stands (record v { stakes = t }) refl
+  stands_by t same hs homes records filled bank lasts = stands (record v { stakes = t }) refl
       (blind sizes s.words s.views id v v at (subst (Parts sizes s.words) (sym (set_again s.views id v at)) h.kept.parts) t) hs homes records
-      (uncounted_alone sizes s.words s.views h.counts id v at (record v { stakes = t }) same refl) filled bank
+      (uncounted_alone sizes s.words s.views h.counts id v at (record v { stakes = t }) same refl) filled bank lasts
 
   -- which changes what the bank has, too
   pub stands_dealt : (w : View) → w.places ≡ v.places → Parts sizes s.words (set s.views id w) → (hs : FractionsAtHome)
       → FractionsInvariant γ sizes s.words (set s.views id w) hs → RecordsInvariant sizes (set s.views id w) hs → CountsInvariant sizes s.words (set s.views id w)
       → FilledInvariant sizes (set s.views id w) → (bd : ℕ) (b : View) → get_elem? s.views bd ≡ some b → ¬ (id ≡ bd) → (ls : List FractionContent)
       → BankInvariant γ sizes s.words (set (set s.views id w) bd (with_deposits ls b))
+      → LastsInvariant sizes s.words (set (set s.views id w) bd (with_deposits ls b)) hs
       → DomainInvariant γ sizes record { words = s.words; homes = hs; views = set (set s.views id w) bd (with_deposits ls b) }
-  stands_dealt w same parts hs lie told made fill bd b there ne ls bank = let vs : List View = set s.views id w in
+  stands_dealt w same parts hs lie told made fill bd b there ne ls bank lasts = let vs : List View = set s.views id w in
       let b' : View = with_deposits ls b in let now : get_elem? vs bd ≡ some b = set_else s.views id bd w (λ e. ne (sym e)) ∙ there in
       let t = told.each bd b now in let mine = records.mine sizes vs hs told bd b now in record {
         kept = record {
@@ -295,4 +313,5 @@ module _ (γ : ℕ) (sizes : Sizes) (id : ℕ) (v : View) (s : State ValueFracti
         counts = uncounted_alone sizes s.words vs made bd b now b' refl refl;
         filled = filled_same sizes vs fill bd b now b' refl refl refl (λ live. live);
         bank = bank;
+        lasts = lasts;
       }

@@ -252,3 +252,26 @@ module _ (sizes : Sizes) (vs : List View) (hs : FractionsAtHome) (part : Records
           apart = λ j k a b i e e' m. both_set NotSeen vs id w (λ j k a b e e' i. part.apart j k a b i e e') (λ i m. absurd (still i m))
               (λ j u _ e. ((λ i m. absurd (still i m)), (λ i m s. part.apart j id u v i e at m (sees i s)))) j k a b e e' i m;
         }
+
+    -- it comes to know what a slot shows, by what lies at home in it, and takes of that at most
+    pub comes_to_learn : (slot q : ℕ) (value : Gv) (y : ValueFraction) → slot < sizes.slots → q ≤ n → LiesAt n hs slot q y
+        → ((p : ℕ) (z : ValueFraction) → p ≤ n → LiesAt n hs slot p z → z.lot.shown ≡ value) → (w : View) (hs' : FractionsAtHome) → IsTelling w
+        → ((i : ℕ) (g : Gv) → KnowsShown w i g → ((i ≡ slot) × (g ≡ value)) ⊎ IsKnown vs i g)
+        → ((i p : ℕ) (z : ValueFraction) → LiesAt n hs' i p z → LiesAt n hs i p z)
+        → NotSeen w w → ((j : ℕ) (u : View) → j ≢ id → get_elem? vs j ≡ some u → NotSeen w u × NotSeen u w) → RecordsInvariant sizes (set vs id w) hs'
+    comes_to_learn slot q value y inside near lies shown w hs' tells knows before self others =
+        let now : (i : ℕ) (g : Gv) → IsKnown (set vs id w) i g → ((i ≡ slot) × (g ≡ value)) ⊎ IsKnown vs i g
+        = λ i g k. ⊎_elim (λ (t : KnowsShown w i g). knows i g t) (λ (t : IsKnown vs i g). inr t) (known_after vs id w i g k) in
+        let old : (i : ℕ) (g : Gv) → i ≡ slot → IsKnown vs i g → g ≡ value
+        = λ i g e k. sym (part.home slot q g y inside near (subst (λ (a : ℕ). IsKnown vs a g) e k) lies) ∙ shown q y near lies in record {
+          each = each_set IsTelling IsTelling vs id w tells (λ j u _ e. part.each j u e);
+          agree = λ i g h a b. ⊎_elim
+              (λ (s : (i ≡ slot) × (g ≡ value)). ⊎_elim (λ (t : (i ≡ slot) × (h ≡ value)). s.1 ∙ sym t.1)
+              (λ (t : IsKnown vs i h). s.1 ∙ sym (old i h s.0 t)) (now i h b))
+              (λ (s : IsKnown vs i g). ⊎_elim (λ (t : (i ≡ slot) × (h ≡ value)). old i g t.0 s ∙ sym t.1)
+              (λ (t : IsKnown vs i h). part.agree i g h s t) (now i h b)) (now i g a);
+          home = λ i p g z low near' k l. ⊎_elim
+              (λ (s : (i ≡ slot) × (g ≡ value)). shown p z near' (subst (λ (a : ℕ). LiesAt n hs a p z) s.0 (before i p z l)) ∙ sym s.1)
+              (λ (s : IsKnown vs i g). part.home i p g z low near' s (before i p z l)) (now i g k);
+          apart = λ j k a b i e e' m. both_set NotSeen vs id w (λ j k a b e e' i. part.apart j k a b i e e') self others j k a b e e' i m;
+        }

@@ -10,7 +10,7 @@ use prog.Atomic.{either}
 use base.Stored.{Gv}
 use Rattle.std.proofs.lemmas.List.{get_or_past}
 use Rattle.atomic_table.specs.Table.{State, keeps, takes, Allows, carried_after, homes_after}
-use Rattle.atomic_table.proofs.Lists.{at_map, exchanged, set_again}
+use Rattle.atomic_table.proofs.Lists.{at_map, exchanged, set_again, set_else}
 use Rattle.sdd_shared_values.specs.SharedValues.{IsValueCode, IsNoValueCode, lot}
 use Rattle.sdd_shared_values.specs.declared.value_fraction.ValueFraction.{ValueFraction}
 use Rattle.sdd_views.specs.declared.ShownValue.{ShownValue}
@@ -30,7 +30,7 @@ use Rattle.sdd_word_invariant.specs.WordInvariant.{epoch_of}
 use Rattle.sdd_word_invariant.specs.Barred.{IsNobodys, IsBarred, AreBarred, AreQuiet, past, past_quiet, Bars, LooksForValue}
 use Rattle.sdd_word_invariant.proofs.Barred.{Spares, one_spared, Hushes, one_hushed}
 use Rattle.sdd_word_invariant.proofs.Barred as barring
-use Rattle.sdd_word_invariant.proofs.Codes.{sound, free_is, owned_is, waiting_is}
+use Rattle.sdd_word_invariant.proofs.Codes.{sound, free_is, owned_is, raw_is, waiting_is}
 use Rattle.sdd_word_invariant.proofs.EpochSteps as over
 use Rattle.sdd_word_invariant.proofs.SlotSteps as steps
 use Rattle.sdd_word_invariant.proofs.Owning.{item_gone, item_kept}
@@ -53,22 +53,24 @@ use Rattle.sdd_domain_invariant.specs.BankInvariant.{drawn_at, moves_at, banked,
 use Rattle.sdd_domain_invariant.specs.FractionSteps.{SeatState, CarriesAll, IsValue, CarriesSeen, moving, making, giving, resting, telling, drawing, undrawing, untold, remembering, forgetting, sighting, unsighted, IsNewest, ClaimsAll, FillsSlot, EntersUnit, TakesOut, TakesHeld, IsDeposit, RetiresOne, GivesAll, DiscardsAll, SeesOwned, LearnsOwned, ClosesHome, OfSlot}
 use Rattle.sdd_domain_invariant.specs.Records.{IsIn, KnowsShown, IsKnown, IsTelling}
 use Rattle.sdd_domain_invariant.specs.Counts.{ended_places}
-use Rattle.sdd_domain_invariant.specs.FilledInvariant.{HasRecord, Tells, FilledInvariant}
+use Rattle.sdd_domain_invariant.specs.FilledInvariant.{newest, HasRecord, Tells, FilledInvariant}
+use Rattle.sdd_domain_invariant.specs.LastFractions.{ShowOnly, LastsInvariant}
 use Rattle.sdd_domain_invariant.proofs.Part.{none_out, only_seen, of_another, before_slots, one_taken}
 use Rattle.sdd_domain_invariant.proofs.Part as part
 use Rattle.sdd_domain_invariant.proofs.Banks.{moves_none, moves_one, moves_other, moves_rest, outside_free, outside_moved, outside_there, outside_same, total_below, with_deposits, banked_then}
 use Rattle.sdd_domain_invariant.proofs.Banks as banks
-use Rattle.sdd_domain_invariant.proofs.Places.{one_slot}
+use Rattle.sdd_domain_invariant.proofs.Places.{one_slot, one_stake}
 use Rattle.sdd_domain_invariant.proofs.Counts.{ended_spared, as_full, one_full, counted, uncounted, uncounted_alone}
 use Rattle.sdd_domain_invariant.proofs.Records.{in_either, in_none, in_both, in_others, known_by, told_seen}
 use Rattle.sdd_domain_invariant.proofs.Records as records
-use Rattle.sdd_domain_invariant.proofs.Fillings.{TellsNoMore, has_none, has_either, has_old, told_by, tells_old, filled_after, filled_same, filled_housed}
-use Rattle.sdd_domain_invariant.proofs.Rows.{Taken, takes_row, gives_row, gives_purse, taken_lies, given_lies}
+use Rattle.sdd_domain_invariant.proofs.Fillings.{newest_before, TellsNoMore, has_none, has_either, has_old, told_by, tells_old, filled_after, filled_same, filled_housed}
+use Rattle.sdd_domain_invariant.proofs.Lasts.{none_shown, shown_leaves, shown_comes, shown_joins, raws_before, raws_same, raws_other, not_raw, raws_set, lasts_kept, lasts_fewer, lasts_given, lasts_dealt, one_bank}
+use Rattle.sdd_domain_invariant.proofs.Rows.{Taken, Given, takes_row, gives_row, gives_purse, taken_lies, given_lies}
 use Rattle.sdd_domain_invariant.proofs.Telling.{one_moved, none_moved, one_view, owns_it, claimed_tells, moving_tells, held_tells, retired_tells, housed_tells, rested_tells, none_owns, none_waits, unknown_owned, unknown_waiting, comes_home}
 use Rattle.sdd_domain_invariant.proofs.Tops.{rest_is, share_one}
 use Rattle.sdd_domain_invariant.proofs.Lift.{Keeps, Follows, IsCalm, keeps_ended, lift_homes, lift_calm, stands, stands_by, stands_dealt}
 
-full_owned : (x : ℕ) → 0 < alive x → full x ≡ 1
+pub full_owned : (x : ℕ) → 0 < alive x → full x ≡ 1
 full_owned x h = (sound.lives x h).1
 
 vacant_shown : (f : ℕ) (g : Gv) → f ≡ 0 → IsNoValueCode g → MatchesSlotWord f g
@@ -88,7 +90,7 @@ module _ (γ : ℕ) (sizes : Sizes) (s : State ValueFraction View) (h : DomainIn
       (h.homes.moving j u e i m).1
 
   -- where a participant has an owner, or an item that waits, none else moves the value
-  still_owned : (id j : ℕ) (v u : View) → get_elem? s.views id ≡ some v → get_elem? s.views j ≡ some u → id ≢ j → 0 < owners_at i v → ¬ (Moves u i)
+  pub still_owned : (id j : ℕ) (v u : View) → get_elem? s.views id ≡ some v → get_elem? s.views j ≡ some u → id ≢ j → 0 < owners_at i v → ¬ (Moves u i)
   still_owned id j v u at e ne own m = let mine = owner_in codes sound sizes s.words s.views h.kept.parts.slots id i v at in
       let l = (sound.lives (slot_at sizes s.words i) (omega arith)).0 in ⊎_elim
       (λ (o : OwnsAlone u i). let g = ((h.kept.parts.slots.each j u e).alone i o).0 in
@@ -111,7 +113,7 @@ own_place γ sizes id v live y s h at p low e was = let f = h.kept.parts.epoch.e
     let is = f.state live in let few = f.states in absurd (omega arith)
 
 -- a lone participant is the only one of its domain
-one_place : (γ : ℕ) (sizes : Sizes) (s : State ValueFraction View) → DomainInvariant γ sizes s → (id : ℕ) (v : View) → get_elem? s.views id ≡ some v → IsLone v.epoch
+pub one_place : (γ : ℕ) (sizes : Sizes) (s : State ValueFraction View) → DomainInvariant γ sizes s → (id : ℕ) (v : View) → get_elem? s.views id ≡ some v → IsLone v.epoch
     → sizes.participants ≡ 1
 one_place γ sizes s h id v at one = let f = h.kept.parts.epoch.each id v.epoch (at_map epoch_of s.views id v at) in sym (f.all (λ z. omega arith)) ∙ one
 
@@ -136,15 +138,15 @@ module _ (slots id : ℕ) (me : SeatState) (live : HasPlace me.0.epoch) where
 
   -- it moves nothing in, and tells of as many owners as before, or of none
   module _ (s : State ValueFraction View) (h : DomainInvariant γ sizes s) (at : get_elem? s.views id ≡ some v) where
-    filled_by : (w : View) → w.stakes.filled ≡ v.stakes.filled → TellsNoMore w s.views → FilledInvariant sizes (set s.views id w)
+    pub filled_by : (w : View) → w.stakes.filled ≡ v.stakes.filled → TellsNoMore w s.views → FilledInvariant sizes (set s.views id w)
     filled_by w same tells = filled_after sizes s.views h.filled id v at w same tells (λ _ _. inl live)
 
-    still_filled : (w : View) → w.stakes.filled ≡ v.stakes.filled → w.stakes.owns ≡ v.stakes.owns → w.stakes.waits ≡ v.stakes.waits
+    pub still_filled : (w : View) → w.stakes.filled ≡ v.stakes.filled → w.stakes.owns ≡ v.stakes.owns → w.stakes.waits ≡ v.stakes.waits
         → FilledInvariant sizes (set s.views id w)
     still_filled w same owns waits = filled_same sizes s.views h.filled id v at w same owns waits (λ _. live)
 
     -- the records that it has are among those that it had
-    tells_old_by : (w : View) → ((r : ShownValue) → HasRecord w.stakes.owns r → Tells v r) → ((r : ShownValue) → HasRecord w.stakes.waits r → Tells v r)
+    pub tells_old_by : (w : View) → ((r : ShownValue) → HasRecord w.stakes.owns r → Tells v r) → ((r : ShownValue) → HasRecord w.stakes.waits r → Tells v r)
         → TellsNoMore w s.views
     tells_old_by w owns waits = tells_old sizes s.views h.filled id v at w (told_by w v owns waits)
 
@@ -164,18 +166,18 @@ module _ (slots id : ℕ) (me : SeatState) (live : HasPlace me.0.epoch) where
     i = slot_word sizes slot
 
     -- the word tells which slot it is
-    at_once : (R : ℕ → SeatState → ℕ → SeatState → Type 0) (x : ℕ) (me' : SeatState) → R slot me x me' → OfSlot R i me x me'
+    pub at_once : (R : ℕ → SeatState → ℕ → SeatState → Type 0) (x : ℕ) (me' : SeatState) → R slot me x me' → OfSlot R i me x me'
     at_once R x me' r other is = let same : slot ≡ other = omega arith in subst (λ (k : ℕ). R k me x me') same r
 
     -- the other slots are as full as before
-    others : (ws : List ℕ) (y j : ℕ) → j < sizes.slots → j ≢ slot → full_at sizes (set ws i y) j ≡ full_at sizes ws j
+    pub others : (ws : List ℕ) (y j : ℕ) → j < sizes.slots → j ≢ slot → full_at sizes (set ws i y) j ≡ full_at sizes ws j
     others ws y j _ ne = of_another sizes ws slot y j ne
 
-    here : (ws : List ℕ) (y : ℕ) → i < length ws → slot_at sizes (set ws i y) slot ≡ y
+    pub here : (ws : List ℕ) (y : ℕ) → i < length ws → slot_at sizes (set ws i y) slot ≡ y
     here ws y low = get_or-set_same ws i y 0 low
 
     -- a slot's word is none of a place's
-    spares : (f : ℕ → ℕ) (then : ℕ → View → Type 0) → ((r : ℕ) (w : View) → then r w → w.places ≡ v.places) → Keeps γ sizes slots id me i f then
+    pub spares : (f : ℕ → ℕ) (then : ℕ → View → Type 0) → ((r : ℕ) (w : View) → then r w → w.places ≡ v.places) → Keeps γ sizes slots id me i f then
     spares f then places = keeps_ended γ sizes slots id me i f then places (λ s h at p low e was. absurd (omega arith)) (inl live)
 
     claim_keeps : Keeps γ sizes slots id me i (λ x. either (eqb x (free_word 0)) (owned_word 0) x)
@@ -188,7 +190,7 @@ module _ (slots id : ℕ) (me : SeatState) (live : HasPlace me.0.epoch) where
     look_keeps = spares (λ x. x) (AtSlot LooksAtSlot i v) (λ r w t. ap (λ (u : View). u.places) (t slot refl).0)
 
     module _ (s : State ValueFraction View) (h : DomainInvariant γ sizes s) where
-      within : i < length s.words
+      pub within : i < length s.words
       within = let l = h.kept.parts.slots.long in omega arith
 
       -- where nobody sees the slot or has stakes in it out, all may be taken, which show what its word says
@@ -203,12 +205,27 @@ module _ (slots id : ℕ) (me : SeatState) (live : HasPlace me.0.epoch) where
           (h.homes.home slot p b.0 inside (omega arith) b.1) in (b.0, b.1, (has.0, shown p b.0 (omega arith) b.1 has.1)))
 
       -- no place ends by a step on a slot
-      over_slot : (y : ℕ) → ended_places s.words n ≤ ended_places (set s.words i y) n
+      pub over_slot : (y : ℕ) → ended_places s.words n ≤ ended_places (set s.words i y) n
       over_slot y = ended_spared sizes s.words i y (λ p low e was. absurd (omega arith)) n (omega arith)
 
       -- a load leaves the words
-      same_words : (j : ℕ) → full_at sizes (set s.words i (get_or s.words i 0)) j ≡ full_at sizes s.words j
+      pub same_words : (j : ℕ) → full_at sizes (set s.words i (get_or s.words i 0)) j ≡ full_at sizes s.words j
       same_words j = ap (λ (l : List ℕ). full_at sizes l j) (set-get_or s.words i 0)
+
+    -- of a slot whose value it moves the bank has nothing
+    moved_unbanked : (s : State ValueFraction View) → DomainInvariant γ sizes s → get_elem? s.views id ≡ some v → Moves v slot → (j : ℕ) (b : View)
+        → get_elem? s.views j ≡ some b → IsBank b → (c : Gv) → ShowOnly slot c (banked b)
+    moved_unbanked s h at mine j b there is c = let o = h.bank.banks j b there is in none_shown slot c γ (banked b) o.deposits
+        (let sum = o.sums slot inside in let out = banks.moved_outside γ sizes s.words s.views h.bank id v at slot mine in omega arith)
+
+    -- all fractions in it go home, and the slot is free
+    goes_home : (s : State ValueFraction View) (h : DomainInvariant γ sizes s) → get_elem? s.views id ≡ some v → Moves v slot → (rest : CarriedFractions)
+        (g : Given γ n slot 0 IsNoValueCode s.homes rest me.1 (suc n)) (w : View) → w.stakes.bank ≡ v.stakes.bank → banked w ≡ banked v
+        → w.stakes.filled ≡ v.stakes.filled
+        → LastsInvariant sizes (set s.words i (free_word 0)) (set s.views id w) (homes_after s.homes me.1 g.act)
+    goes_home s h at mine rest g w bank same filled = lasts_given sizes s.words s.views s.homes h.lasts id v at γ slot 0 IsNoValueCode rest me.1 g
+        (λ a b e e'. e ∙ sym e') (set s.words i (free_word 0)) w (moved_unbanked s h at mine) (λ b. (sym bank ∙ b, same)) (λ k _. ap (newest k) filled)
+        (λ _. live) (not_raw sizes s.words slot (free_word 0) (within s h) (λ e. absurd (omega arith))) (raws_other sizes s.words slot (free_word 0))
 
     -- claim a free slot
     pub claims : v.stakes.moves ≡ None → May i (λ x. either (eqb x (free_word 0)) (owned_word 0) x)
@@ -250,6 +267,9 @@ module _ (slots id : ℕ) (me : SeatState) (live : HasPlace me.0.epoch) where
               (outside_free sizes s.words s.views slot empty)
               (banks.moving_outside γ sizes s.words s.views h.bank id v at (set s.words i (owned_word 0)) now slot refl)
               (λ k ne. moves_other k now slot refl ne ∙ sym (moves_rest k v rests)) (others s.words (owned_word 0));
+          lasts = lasts_fewer sizes s.words s.views s.homes h.lasts id v at (set s.words i (owned_word 0)) now (homes_after s.homes me.1 tk.act)
+              (λ j p y near l. (taken_lies γ n slot 0 IsNoValueCode s.homes me.1 tk j p y near l).1) (λ b. (b, refl)) refl (λ _ _. inl live)
+              (raws_set sizes s.words slot (owned_word 0) (within s h) (λ e. absurd (omega arith)));
           tells = at_once (λ slot. ClaimsAll slot (free_word 0) (owned_word 0)) x (now, carried_after me.1 tk.act)
               ((λ _. (refl, tk.row)), (λ no. absurd (no hit)), c.2);
         })
@@ -265,6 +285,8 @@ module _ (slots id : ℕ) (me : SeatState) (live : HasPlace me.0.epoch) where
           filled = still_filled s h at v refl refl refl;
           bank = banks.alike γ sizes s.words s.views h.bank id v at (set s.words i x) v (refl, refl, refl, (λ _. refl), refl)
               (λ j _. same_words s h j);
+          lasts = lasts_fewer sizes s.words s.views s.homes h.lasts id v at (set s.words i x) v s.homes (λ _ _ _ _ l. l) (λ b. (b, refl)) refl
+              (λ _ _. inl live) (raws_same sizes s.words i);
           tells = at_once (λ slot. ClaimsAll slot (free_word 0) (owned_word 0)) x me ((λ hit. absurd (miss hit)), (λ _. refl), c.2);
         }))
 
@@ -275,7 +297,7 @@ module _ (slots id : ℕ) (me : SeatState) (live : HasPlace me.0.epoch) where
 
       -- a value was moved in, and what its owner doesn't keep of it goes to the bank
       pub houses : Moves v slot → OwnsAlone v slot → (shared : Bool) (value : Gv) (rest : CarriedFractions)
-          → CarriesAll γ slot n (spare n) (IsValue value) rest me.1 → (l : FractionContent) → l ≡ lot γ slot l.round l.shown (spare n - 1)
+          → CarriesAll γ slot n (spare n) (IsValue value) rest me.1 → (l : FractionContent) → l ≡ lot γ slot l.round value (spare n - 1)
           → MayDeal Comes (λ k. k ≡ l) (λ _. FillsSlot slot shared value me)
       houses mine own shared value rest row l is s b h _ at there bank ne = let w : View = resting (telling slot shared value (drawing slot v)) in
           let r : ShownValue = record { slot = slot; shared = shared; value = value } in let unknown = unknown_owned γ sizes s h slot id v at mine own in
@@ -336,7 +358,17 @@ module _ (slots id : ℕ) (me : SeatState) (live : HasPlace me.0.epoch) where
                 (λ apart. let o = is_other k slot (λ e. apart (sym e)) in let same = brought.others k (λ e. apart (e ∙ number)) in
                 let u = outside_same sizes s.words s.words s.views vs' k refl
                 (let t = banks.total_dealt γ sizes s.words s.views h.bank id v at bd b there bank ne (moves_at k) w ls refl in
-                let z = moves_other k v slot mine apart in omega arith) in omega arith)));
+                let z = moves_other k v slot mine apart in omega arith) in omega arith)))
+                (lasts_dealt sizes s.words (set s.views id w) (homes_after s.homes me.1 g.act)
+                (lasts_given sizes s.words s.views s.homes h.lasts id v at γ slot (spare n) (IsValue value) rest me.1 g (λ c d e e'. e.1 ∙ sym e'.1)
+                s.words w (moved_unbanked s h at mine) (λ b. (b, refl)) (λ k apart. newest_before r v.stakes.filled k (λ e. apart (sym e))) (λ _. live)
+                (λ raw. let a = ap alive raw in let dead = (raw_is 0 (omega arith)).0 in omega arith) (λ _ _ _ raw. raw))
+                γ bd b (set_else s.views id bd w (λ e. ne (sym e)) ∙ there) bank ls (h.bank.banks bd b there bank).book brought.deposits
+                (λ k z low last show. shown_comes k z.lot.shown (banked b) l ls brought.comes show (λ same. ⊎_elim
+                (λ (d : (k ≡ slot) × Has γ slot (share n (spare n) n) (IsValue value) z).
+                ap (λ (c : FractionContent). c.shown) is ∙ sym d.1.1.1)
+                (λ (d : (k ≢ slot) × LiesAt n s.homes k n z). absurd (d.0 (sym same ∙ number)))
+                (given_lies γ n slot (spare n) (IsValue value) s.homes rest me.1 g k n z (omega arith) last))));
             ours = bank;
             goes = subst (Comes (banked b) l) (sym (banked_then γ ls b (h.bank.banks bd b there bank).book brought.deposits)) brought.comes;
             offered = refl;
@@ -399,13 +431,33 @@ module _ (slots id : ℕ) (me : SeatState) (live : HasPlace me.0.epoch) where
                 (λ apart. let others = goes.others k apart in
                 let u = outside_same sizes s.words s.words s.views vs' k refl
                 (let m = banks.total_dealt γ sizes s.words s.views h.bank id v at bd b there bank ne (moves_at k) w ls refl in
-                let z = moves_other k w slot is apart in let z' = moves_rest k v rests in omega arith) in omega arith)));
+                let z = moves_other k w slot is apart in let z' = moves_rest k v rests in omega arith) in omega arith)))
+                (lasts_dealt sizes s.words (set s.views id w) (homes_after s.homes me.1 tk.act)
+                (lasts_fewer sizes s.words s.views s.homes h.lasts id v at s.words w (homes_after s.homes me.1 tk.act)
+                (λ j p y near l. (taken_lies γ n slot (spare n) Is s.homes me.1 tk j p y near l).1)
+                (λ mine. absurd (one_bank γ sizes s.words s.views h.bank id bd v b ne at there (sym bank_is ∙ mine) bank)) kept (λ _ _. inl live)
+                (λ _ _ raw. raw))
+                γ bd b (set_else s.views id bd w (λ e. ne (sym e)) ∙ there) bank ls balance.book goes.deposits
+                (λ k z low last show. (shown_leaves k z.lot.shown (banked b) l ls goes.goes show).0));
             ours = bank;
             goes = subst (Leaves (banked b) l) (sym (banked_then γ ls b balance.book goes.deposits)) goes.goes;
             offered = tt;
             then = told l (carried_after me.1 tk.act)
                 (λ i. record l { book = goes.book i; number = goes.number i; units = whole i; lent = goes.free i }) tk.row;
           }
+
+      -- of a slot that it owns, and of which a unit is drawn, the bank has some units
+      owned_banked : (s : State ValueFraction View) → DomainInvariant γ sizes s → get_elem? s.views id ≡ some v → OwnsAlone v slot → 0 < drawn_at slot v
+          → (k : ℕ) (b : View) → get_elem? s.views k ≡ some b → IsBank b → 0 < units_at slot (banked b)
+      owned_banked s h at own some_drawn k b there bank = let one = ((h.kept.parts.slots.each id v at).alone slot own).0 in
+          let nobody = total_zero (moves_at slot) s.views (λ j u e. moves_none slot u (dite (ℕ_discrete id j)
+          (λ same m. let z = banks.none_drawn γ sizes s.words s.views h.bank id v at slot inside
+          (subst (λ (x : View). Moves x slot) (one_view s.views id j u v e at (sym same)) m) in absurd (omega arith))
+          (λ apart. still_owned γ sizes s h slot id j v u at e apart (omega arith)))) in
+          let filled = full_owned (slot_at sizes s.words slot) (omega arith) in
+          let was = outside_there sizes s.words s.views slot (λ empty. omega arith) nobody in
+          let low = total_below (drawn_at slot) (owners_at slot) s.views (λ j u e. h.bank.low j u e slot) in
+          let owned = h.kept.parts.slots.owned slot in let sum = (h.bank.banks k b there bank).sums slot inside in let few = h.homes.few in omega arith
 
       -- an owner's unit goes to the bank
       pub enters_unit : OwnsAlone v slot → (others : List ℕ) → v.slots.drawn ≡ slot ∷ others → (l : FractionContent) → l ≡ lot γ slot l.round l.shown 1
@@ -438,7 +490,16 @@ module _ (slots id : ℕ) (me : SeatState) (live : HasPlace me.0.epoch) where
                 let e = less k in dite (ℕ_discrete k slot)
                 (λ same. let o = is_same k slot (sym same) in let sum = brought.sum in let x = ap (λ (y : ℕ). units_at y ls) (same ∙ sym number) in
                 let y = ap (λ (y : ℕ). units_at y (banked b)) (same ∙ sym number) in omega arith)
-                (λ apart. let o = is_other k slot (λ e. apart (sym e)) in let same = brought.others k (λ e. apart (e ∙ number)) in omega arith)));
+                (λ apart. let o = is_other k slot (λ e. apart (sym e)) in let same = brought.others k (λ e. apart (e ∙ number)) in omega arith)))
+                (lasts_dealt sizes s.words (set s.views id w) s.homes
+                (lasts_fewer sizes s.words s.views s.homes h.lasts id v at s.words w s.homes (λ _ _ _ _ l. l) (λ b. (b, refl)) refl (λ _ _. inl live)
+                (λ _ _ raw. raw))
+                γ bd b (set_else s.views id bd w (λ e. ne (sym e)) ∙ there) bank ls (h.bank.banks bd b there bank).book brought.deposits
+                (λ k z low last show. dite (ℕ_discrete k slot)
+                (λ e. shown_joins k z.lot.shown γ (banked b) l ls brought.deposits (number ∙ sym e)
+                (let has = owned_banked s h at own (let c = ap (times slot) drawn in let o = is_same slot slot refl in omega arith) bd b there bank in
+                let c = ap (λ (x : ℕ). units_at x (banked b)) e in omega arith) brought.comes show)
+                (λ apart. shown_comes k z.lot.shown (banked b) l ls brought.comes show (λ e. absurd (apart (sym e ∙ number))))));
             ours = bank;
             goes = subst (Comes (banked b) l) (sym (banked_then γ ls b (h.bank.banks bd b there bank).book brought.deposits)) brought.comes;
             offered = refl;
@@ -517,6 +578,7 @@ module _ (slots id : ℕ) (me : SeatState) (live : HasPlace me.0.epoch) where
               (banks.moved_outside γ sizes s.words s.views h.bank id v at slot mine)
               (outside_free sizes (set s.words i y) (set s.views id (giving now)) slot (ap full (here s.words y (within s h)) ∙ empty))
               (λ k ne. sym (moves_other k v slot mine ne)) (others s.words y);
+          lasts = goes_home s h at mine rest g (giving now) refl refl refl;
           tells = at_once GivesAll y (giving now, carried_after me.1 g.act)
               (now, (refl, c.1), refl, g.carried ∙ sym (rest_is γ slot n 0 IsNoValueCode rest (suc n) me.1 row));
         })
@@ -577,6 +639,7 @@ module _ (slots id : ℕ) (me : SeatState) (live : HasPlace me.0.epoch) where
               (banks.moved_outside γ sizes s.words s.views h.bank id v at slot mine)
               (outside_free sizes (set s.words i y) (set s.views id (giving now)) slot (ap full (here s.words y (within s h)) ∙ empty))
               (λ k ne. sym (moves_other k v slot mine ne)) (others s.words y);
+          lasts = goes_home s h at mine rest g (giving now) refl refl refl;
           tells = at_once DiscardsAll y (giving now, carried_after me.1 g.act)
               (refl, g.carried ∙ sym (rest_is γ slot n 0 IsNoValueCode rest (suc n) me.1 row));
         })
@@ -594,6 +657,7 @@ module _ (slots id : ℕ) (me : SeatState) (live : HasPlace me.0.epoch) where
           counts = refl;
           lives = λ l. l;
           had = λ _ l. inl l;
+          raws = raws_same sizes s.words i;
         })
 
     -- retire the item, whose owner's unit is in the bank
@@ -630,6 +694,8 @@ module _ (slots id : ℕ) (me : SeatState) (live : HasPlace me.0.epoch) where
           bank = banks.calm γ sizes s.words s.views h.bank id v at (set s.words i y) now
               record { bank = refl; founds = refl; book = refl; banked = refl; drawn = refl } refl
               (λ k. let z = ap (times k) empty in omega arith) same;
+          lasts = lasts_fewer sizes s.words s.views s.homes h.lasts id v at (set s.words i y) now s.homes (λ _ _ _ _ l. l) (λ b. (b, refl)) refl
+              (λ _ _. inl live) (raws_set sizes s.words slot y (within s h) (λ e. absurd (omega arith)));
           tells = at_once RetiresOne y (now, me.1) (retired slot y c.0 v, (c.0, c.1, c.2, refl, c.4, c.5), refl, refl);
         })
 
@@ -649,7 +715,9 @@ module _ (slots id : ℕ) (me : SeatState) (live : HasPlace me.0.epoch) where
           stands_by γ sizes id v s h at v.stakes refl s.homes
               (part.calm γ sizes s.words s.views s.homes h.homes id v at s.words v (λ j p out. out) (λ j _. refl) (h.homes.moving id v at))
               (records.calm sizes s.views s.homes r id v at v (refl, refl, refl, (λ _. refl), refl)) (still_filled s h at v refl refl refl)
-              (banks.alike γ sizes s.words s.views h.bank id v at s.words v (refl, refl, refl, (λ _. refl), refl) (λ _ _. refl)),
+              (banks.alike γ sizes s.words s.views h.bank id v at s.words v (refl, refl, refl, (λ _. refl), refl) (λ _ _. refl))
+              (lasts_fewer sizes s.words s.views s.homes h.lasts id v at s.words v s.homes (λ _ _ _ _ l. l) (λ b. (b, refl)) refl (λ _ _. inl live)
+              (λ _ _ is. is)),
           (
             (λ _. (refl, subst (IsIn v.stakes.sees slot) (r.agree slot is.0 value (mine slot is.0 (inr (inl is.1))) known) is.1)),
             (λ unseen. absurd (unseen sees)),
@@ -701,7 +769,9 @@ module _ (slots id : ℕ) (me : SeatState) (live : HasPlace me.0.epoch) where
               )))
               (uncounted_alone sizes s.words s.views h.counts id v at now refl refl) (still_filled s h at now refl refl refl)
               (banks.calm γ sizes s.words s.views h.bank id v at s.words now
-              record { bank = refl; founds = refl; book = refl; banked = refl; drawn = refl } refl (h.bank.low id v at) (λ _ _. refl)),
+              record { bank = refl; founds = refl; book = refl; banked = refl; drawn = refl } refl (h.bank.low id v at) (λ _ _. refl))
+              (lasts_fewer sizes s.words s.views s.homes h.lasts id v at s.words now (set s.homes spot none)
+              (λ j p z _ lies. one_taken s.homes spot (stake_at n j p) z lies) (λ b. (b, refl)) refl (λ _ _. inl live) (λ _ _ is. is)),
           ((λ sees. absurd (unseen sees)), (λ _. (y, it, refl))),
         ))
 
@@ -719,6 +789,7 @@ module _ (slots id : ℕ) (me : SeatState) (live : HasPlace me.0.epoch) where
           counts = refl;
           lives = λ l. l;
           had = λ _ l. inl l;
+          raws = raws_same sizes s.words i;
         })
 
     pub lets_go : Holds v slot → May i (λ x. x) (λ r me'. (me'.1 ≡ me.1) × AtSlot LetsGo i v r me'.0)
@@ -734,6 +805,7 @@ module _ (slots id : ℕ) (me : SeatState) (live : HasPlace me.0.epoch) where
           counts = refl;
           lives = λ l. l;
           had = λ _ l. inl l;
+          raws = raws_same sizes s.words i;
         })
 
   -- beside a slot's owner it learns what it knows of the slot, and nothing changes
@@ -775,6 +847,7 @@ module _ (slots id : ℕ) (me : SeatState) (live : HasPlace me.0.epoch) where
         counts = refl;
         lives = λ l. l;
         had = λ _ l. inl l;
+        raws = raws_same sizes s.words j;
       })
       (λ ne. subst calm (sym (c.0 ne)) record {
         more = λ k p out. out;
@@ -784,6 +857,7 @@ module _ (slots id : ℕ) (me : SeatState) (live : HasPlace me.0.epoch) where
         counts = refl;
         lives = λ l. l;
         had = λ _ l. inl l;
+        raws = raws_same sizes s.words j;
       }))
 
   -- the last guard is closed, whose stakes go home
@@ -823,6 +897,15 @@ module _ (slots id : ℕ) (me : SeatState) (live : HasPlace me.0.epoch) where
         filled = still_filled s h at (unsighted now) refl refl refl;
         bank = banks.calm γ sizes s.words s.views h.bank id v at (set s.words j 1) (unsighted now)
             record { bank = refl; founds = refl; book = refl; banked = refl; drawn = refl } refl (h.bank.low id v at) (λ k _. same k);
+        lasts = lasts_kept sizes s.words s.views s.homes h.lasts id v at (set s.words j 1) (unsighted now) (homes_after s.homes me.1 g.act)
+            (λ k p y low' near' lies. ⊎_elim
+            (λ (d : (k' : ℕ) × (a : Gv) × IsIn v.stakes.sees k' a × (stake_at n k p ≡ stake_at n k' q) × Has γ k' 1 (IsValue a) y).
+            let slot = one_slot n k d.0 p q near' le d.3 in
+            let of : p ≡ q = one_stake n d.0 p q (subst (λ (l : ℕ). stake_at n l p ≡ stake_at n d.0 q) slot d.3) in
+            let known : IsKnown s.views k d.1 = subst (λ (l : ℕ). IsKnown s.views l d.1) (sym slot) (mine d.0 d.1 (inr (inl d.2))) in
+            inr ((λ e. absurd (omega arith)), λ z last. d.4.1.1 ∙ sym (r.home k n d.1 z low' (omega arith) known last)))
+            (λ (d : LiesAt n s.homes k p y). inl d) (g.home (stake_at n k p) y lies))
+            (λ b. (b, refl)) refl (λ _ _. inl live) (raws_before sizes s.words j 1 (omega arith));
         tells = (now, refl, refl, g.carried);
       })
 
@@ -885,6 +968,7 @@ module _ (γ : ℕ) (sizes : Sizes) (slots id : ℕ) (me : SeatState) (p state :
           counts = refl;
           lives = λ l. l;
           had = λ _ l. inl l;
+          raws = raws_before sizes s.words spot left (omega arith);
         })
         (λ (e : w ≡ me.0). subst calm (sym e) record {
           more = λ j q out. out;
@@ -894,6 +978,7 @@ module _ (γ : ℕ) (sizes : Sizes) (slots id : ℕ) (me : SeatState) (p state :
           counts = refl;
           lives = λ l. l;
           had = λ _ l. inl l;
+          raws = raws_before sizes s.words spot left (omega arith);
         }) which
 
   which_of : (r : ℕ) (w : View) → Bars state spot me.0 r w → ((r ≡ state) ⊎ IsBarred r) × (w ≡ past p me.0) ⊎ (w ≡ me.0)
@@ -966,4 +1051,5 @@ module _ (γ : ℕ) (sizes : Sizes) (slots id : ℕ) (me : SeatState) (slot : �
         counts = refl;
         lives = λ l. l;
         had = λ _ l. inl l;
+        raws = raws_same sizes s.words word;
       })

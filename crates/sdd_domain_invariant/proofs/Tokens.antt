@@ -1,5 +1,5 @@
 -- The start, a new token, owners that are cut off as a token and taken in again, and what is at home at the end
-use Rattle.std.proofs.Common.{◌≡◌, ◌≢◌, ◌⊎◌, inl, inr, ℕ, zero, suc, ◌+◌, ◌<◌, ◌≤◌, Bool, true, false, List, [], ◌∷◌, ◌++◌, length, get_or, set, sym, refl, ap, ◌∙◌, subst, ⊎_elim, arith}
+use Rattle.std.proofs.Common.{◌≡◌, ◌≢◌, ◌⊎◌, inl, inr, ℕ, zero, suc, ◌+◌, ◌<◌, ◌≤◌, Bool, true, false, List, [], ◌∷◌, ◌++◌, map, length, get_or, set, sym, refl, ap, ◌∙◌, subst, ⊎_elim, arith}
 use Rattle.std.proofs.lemmas.List.{length-map}
 use mathlib.Core.Option.{some, some-injective, some-ne-none}
 use mathlib.Core.Logic.{dite}
@@ -43,6 +43,8 @@ use Rattle.sdd_domain_invariant.proofs.Part as part
 use Rattle.sdd_domain_invariant.proofs.Records.{in_head, in_tail, in_either, in_none, known_by, telling_none, knows_none}
 use Rattle.sdd_domain_invariant.proofs.Records as records
 use Rattle.sdd_domain_invariant.proofs.Fillings.{IsTold, has_none, has_either, told_by, tells_none, tells_old, filled_more, filled_after, filled_same}
+use Rattle.sdd_domain_invariant.specs.LastFractions.{LastsInvariant}
+use Rattle.sdd_domain_invariant.proofs.Lasts.{KeepsBank, no_bank, lasts_more, lasts_fewer}
 use Rattle.sdd_domain_invariant.proofs.Steps.{still_free}
 use Rattle.sdd_domain_invariant.proofs.Telling.{none_moved}
 
@@ -55,6 +57,12 @@ set_front (x ∷ xs) m zero a b e = refl
 set_front (x ∷ xs) m (suc i) a b e = ap (λ (l : List _). x ∷ l) (set_front xs m i a b e)
 
 module _ (γ : ℕ) (sizes : Sizes) where
+  -- no word changes, and nothing at home
+  lasts_stay : (s : State ValueFraction View) → DomainInvariant γ sizes s → (id : ℕ) (v : View) → get_elem? s.views id ≡ some v → (w : View) → KeepsBank v w
+      → w.stakes.filled ≡ v.stakes.filled → (HasPlace w.epoch → HasPlace v.epoch) → LastsInvariant sizes s.words (set s.views id w) s.homes
+  lasts_stay s h id v at w bank filled had = lasts_fewer sizes s.words s.views s.homes h.lasts id v at s.words w s.homes (λ _ _ _ _ l. l) bank filled
+      (λ _ live. inl (had live)) (λ _ _ raw. raw)
+
   -- a new token, which knows nothing
   pub enters : (slots i : ℕ) (told : ℕ → View → Type 0) → ((r : ℕ) → told r (idle sizes γ)) → Enters (DomainInvariant γ sizes) slots i told
   enters slots i told tells s h long small = let t : View = idle sizes γ in
@@ -73,6 +81,8 @@ module _ (γ : ℕ) (sizes : Sizes) where
               (filled_more sizes s.views h.filled t (tells_none t s.views refl refl) (λ z. absurd (omega arith)));
           bank = subst (λ (w : View). BankInvariant γ sizes s.words (s.views ++ w ∷ [])) (sym r.2.0)
               (banks.arrives γ sizes s.words s.views h.bank t refl refl refl refl);
+          lasts = subst (λ (w : View). LastsInvariant sizes s.words (s.views ++ w ∷ []) s.homes) (sym r.2.0)
+              (lasts_more sizes s.words s.views s.homes h.lasts t (λ _. refl) (λ z. absurd (omega arith)));
         },
         r.2.1,
       )
@@ -115,11 +125,22 @@ module _ (γ : ℕ) (sizes : Sizes) where
           (ap full (none (Rattle.sdd_word_invariant.specs.Words.slot_word sizes i)) ∙ sound.free.2);
       banks = λ j v e is. let f : false ≡ true = ap (λ (u : View). u.stakes.bank) (only j v e) ∙ is in absurd cc;
     };
+    lasts = record {
+      alike = λ i p y z low near l lz. all_laid i p y low near l ∙ sym (all_laid i n z low (omega arith) lz);
+      banks = λ j v e is. let f : false ≡ true = ap (λ (u : View). u.stakes.bank) (only j v e) ∙ is in absurd cc;
+      raw = λ one j v e live. absurd (let f = ap (λ (w : View). w.epoch.state) (only j v e) in omega arith);
+    };
   }
     where
       only : (j : ℕ) (v : View) → get_elem? (founder sizes γ ∷ []) j ≡ some v → founder sizes γ ≡ v
       only zero v e = some-injective _ _ e
       only (suc j) v e = absurd (some-ne-none v (sym e))
+
+      all_laid : (i p : ℕ) (y : ValueFraction) → i < sizes.slots → p ≤ sizes.participants → LiesAt sizes.participants (map some xs) i p y
+          → IsNoValueCode y.lot.shown
+      all_laid i p y low near lies = let n : ℕ = sizes.participants in let l = laid.each i p near (inside n sizes.slots i p low near) in
+          subst (λ (x : ValueFraction). IsNoValueCode x.lot.shown)
+          (some-injective l.0 y (some-injective (some l.0) (some y) (sym (at_map some xs (stake_at n i p) l.0 l.1) ∙ lies))) l.2.1
 
       none_known : (i : ℕ) (g : Gv) → ¬ (IsKnown (founder sizes γ ∷ []) i g)
       none_known i g k = knows_none (founder sizes γ) refl refl refl i g (subst (λ (u : View). KnowsShown u i g) (sym (only k.0 k.1 k.2)) k.3)
@@ -173,6 +194,8 @@ module _ (γ : ℕ) (sizes : Sizes) where
             (λ i. let o = ap (λ (l : List ℕ). times i (first l)) owns in let a = total_append (is i) (first v.slots.owns) [] in omega arith)
             (λ i. let d = ap (λ (l : List ℕ). times i (others l)) drawn in let d' = ap (times i) drawn in
             let o = ap (λ (l : List ℕ). times i (first l)) owns in let a = total_append (is i) (first v.slots.owns) [] in omega arith);
+        lasts = lasts_more sizes s.words (set s.views id w) s.homes (lasts_stay s h id v at w (λ b. (b, refl)) refl (λ live. live)) t (λ _. refl)
+            (λ z. absurd (omega arith));
       }
 
   -- the first record is of the owner's token, and the others were known
@@ -221,6 +244,8 @@ module _ (γ : ℕ) (sizes : Sizes) where
         bank = banks.joins γ sizes s.words s.views h.bank id v at other t t' w there apart
             record { bank = refl; founds = refl; book = refl; banked = refl; moves = refl } refl refl refl refl refl refl refl
             (λ i. let low = h.bank.low id v at i in omega arith) (λ i. omega arith);
+        lasts = lasts_fewer sizes s.words vs s.homes (lasts_stay s h id v at w (λ b. (b, refl)) refl (λ live. live)) other t there s.words t' s.homes
+            (λ _ _ _ _ l. l) (no_bank t t' refl) refl (λ _ live. inl live) (λ _ _ raw. raw);
       }
 
   -- the counts of ended places go to a token of their own
@@ -252,6 +277,8 @@ module _ (γ : ℕ) (sizes : Sizes) where
     bank = banks.parts γ sizes s.words s.views h.bank id v at w t
         record { bank = refl; founds = refl; book = refl; banked = refl; moves = refl } refl refl refl (h.bank.low id v at) (λ i. omega arith)
         (λ i. omega arith);
+    lasts = lasts_more sizes s.words (set s.views id w) s.homes (lasts_stay s h id v at w (λ b. (b, refl)) refl (λ live. live)) t (λ _. refl)
+        (λ z. absurd (omega arith));
   }
 
   -- the bank is founded
@@ -272,6 +299,8 @@ module _ (γ : ℕ) (sizes : Sizes) where
         filled = filled_more sizes us (filled_same sizes s.views h.filled id v at w refl refl refl (λ live. live))
             t (tells_none t us refl refl) (λ z. absurd (omega arith));
         bank = banks.bank_founded γ sizes s.words s.views h.bank id v at may book;
+        lasts = lasts_more sizes s.words us s.homes (lasts_stay s h id v at w (λ b. (b, refl)) refl (λ live. live)) t (λ _. refl)
+            (λ z. absurd (omega arith));
       }
 
   -- and come to another
@@ -309,6 +338,8 @@ module _ (γ : ℕ) (sizes : Sizes) where
         bank = banks.joins γ sizes s.words s.views h.bank id v at other t t' w there apart
             record { bank = refl; founds = refl; book = refl; banked = refl; moves = refl } refl refl refl refl refl refl refl
             (h.bank.low id v at) (λ i. omega arith);
+        lasts = lasts_fewer sizes s.words vs s.homes (lasts_stay s h id v at w (λ b. (b, refl)) refl (λ live. live)) other t there s.words t' s.homes
+            (λ _ _ _ _ l. l) (no_bank t t' refl) refl (λ _ live. inl live) (λ _ _ raw. raw);
       }
 
   -- a token counts no more places than there are

@@ -3,5 +3,7 @@ pub mod Records
 pub mod Counts
 pub mod FilledInvariant
 pub mod BankInvariant
+pub mod LastFractions
 pub mod DomainInvariant
 pub mod FractionSteps
+pub mod RawSteps

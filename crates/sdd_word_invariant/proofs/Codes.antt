@@ -6,7 +6,7 @@ use prog.Atomic.{either}
 use Rattle.std.proofs.lemmas.Bool.{le-leb}
 use Rattle.std.proofs.lemmas.Bool.Decides.{leb_tells}
 use Rattle.sdd_word_invariant.specs.Sums.{is}
-use Rattle.sdd_word_invariant.specs.Codes.{IsWordReading, codes, shared_base, free_word, owned_word, waiting_word, private_word, emptied_word, unowned, kind_alive, kind_waiting, kind_full, kind_valued, kind_emptying, emptying, emptying_word, left_word, alive, waiting, full, valued, counted, waits_for, names}
+use Rattle.sdd_word_invariant.specs.Codes.{IsWordReading, codes, shared_base, free_word, owned_word, raw_word, waiting_word, private_word, emptied_word, unowned, kind_alive, kind_waiting, kind_full, kind_valued, kind_emptying, emptying, emptying_word, left_word, alive, waiting, full, valued, counted, waits_for, names}
 
 lives : (q : ℕ) → 0 < kind_alive q → (kind_waiting q ≡ 0) × (kind_full q ≡ 1)
 lives q h = dite (ℕ_discrete q 1) (λ e. (ap kind_waiting e, ap kind_full e))
@@ -118,6 +118,9 @@ free_is g low = let k = kind (free_word g) 0 low (omega arith) in (k.0, k.1, k.2
 
 pub owned_is : (g : ℕ) → owned_word g < shared_base → (alive (owned_word g) ≡ 1) × (waiting (owned_word g) ≡ 0) × (counted (owned_word g) ≡ 0)
 owned_is g low = let k = kind (owned_word g) 1 low (omega arith) in (k.0, k.1, k.3)
+
+pub raw_is : (g : ℕ) → raw_word g < shared_base → (alive (raw_word g) ≡ 0) × (waiting (raw_word g) ≡ 0) × (full (raw_word g) ≡ 1)
+raw_is g low = let k = kind (raw_word g) 2 low (omega arith) in (k.0, k.1, k.2)
 
 pub waiting_is : (g : ℕ) → waiting_word g < shared_base → (alive (waiting_word g) ≡ 0) × (waiting (waiting_word g) ≡ 1)
 waiting_is g low = let k = kind (waiting_word g) 4 low (omega arith) in (k.0, k.1)

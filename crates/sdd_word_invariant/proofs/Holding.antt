@@ -95,7 +95,7 @@ module _ (z : WordReading) (sound : IsWordReading z) (sizes : Sizes) (ws : List 
     pub discards : (i y : ℕ) (known : List ℕ) → i < sizes.slots → Holds v i → sizes.participants ≤ v.slots.looked → z.alive y ≡ 0 → z.waiting y ≡ 0
         → SlotsInvariant z sizes (set ws (slot_word sizes i) y) (set vs id (holding v (without i v.slots.owns) None 0 known))
     discards i y known inside held all none quiet = let mine = (s.each id v at).held i held in let a = ((s.each id v at).alone i mine).0 in
-        let l = sound.lives (slot_at sizes ws i) (omega arith) in let o = alone_is z sound sizes ws vs s id i v at mine in 
+        let l = sound.lives (slot_at sizes ws i) (omega arith) in let o = alone_is z sound sizes ws vs s id i v at mine in
         let gone = without_same i v.slots.owns in
         hold_step i y (without i v.slots.owns) None known inside (omega arith)
         (λ k h. let c : Some i ≡ Some k = sym held ∙ h in let e : k ≡ i = cc in e) (omega arith)

@@ -12,5 +12,6 @@ pub mod Tokens
 pub mod Waits
 pub mod EpochSteps
 pub mod SlotSteps
+pub mod RawSteps
 pub mod Lift
 pub mod Barred

@@ -1,5 +1,5 @@
 -- What a guard comes to see, and the steps on cells.
-use Rattle.std.proofs.Common.{◌≡◌, ◌≢◌, ◌⊎◌, ℕ, ◌+◌, ◌<◌, List, ◌∷◌, get_or, set, sym, refl, ap, ◌∙◌, subst, inl, inr, ⊎_elim, arith, get_or-set_other}
+use Rattle.std.proofs.Common.{◌≡◌, ◌≢◌, ◌⊎◌, ℕ, ◌<◌, List, get_or, set, sym, refl, ap, ◌∙◌, subst, inl, inr, ⊎_elim, arith}
 use mathlib.Core.Option.{some, some-injective}
 use mathlib.Core.Logic.{dite}
 use native.Mathlib.Decide.{ℕ_discrete}
@@ -7,15 +7,13 @@ use lib.ListN.{get_elem?}
 use Rattle.sdd_views.specs.declared.WaitingItem.{WaitingItem}
 use Rattle.sdd_views.specs.declared.View.{View}
 use Rattle.sdd_views.specs.declared.Sizes.{Sizes}
-use Rattle.sdd_word_invariant.specs.Words.{cell_word, slot_word}
+use Rattle.sdd_word_invariant.specs.Words.{cell_word}
 use Rattle.sdd_word_invariant.specs.Epoch.{IsOpen}
-use Rattle.sdd_word_invariant.specs.Sums.{times}
 use Rattle.sdd_word_invariant.specs.Codes.{WordReading, IsWordReading}
 use Rattle.sdd_word_invariant.specs.Slots.{slot_at, owners_at, Sees, Holds, SeenBeforeRetired, SlotsInvariant}
 use Rattle.sdd_word_invariant.specs.SlotSteps.{seeing}
 use Rattle.sdd_word_invariant.proofs.Sums.{is_other}
-use Rattle.sdd_word_invariant.proofs.SlotWords.{cell_step, view_step, none_waits, owners_in, owner_in, named_in, waiter_in}
-use Rattle.sdd_word_invariant.proofs.Owning.{owning}
+use Rattle.sdd_word_invariant.proofs.SlotWords.{view_step, none_waits, owners_in, owner_in, named_in, waiter_in}
 
 -- what is seen now was seen before, or is the new slot
 sees_more : (v : View) (i a : ℕ) → Sees (seeing i v) a → (a ≡ i) ⊎ Sees v a

@@ -36,11 +36,11 @@ module _ (id : ℕ) (v : View) (live : HasPlace v.epoch) where
     at_epoch = at_map epoch_of vs id v at
 
     -- what is known of the epoch stays
-    same_epochs : EpochInvariant sizes.participants ws (set (map epoch_of vs) id v.epoch)
+    pub same_epochs : EpochInvariant sizes.participants ws (set (map epoch_of vs) id v.epoch)
     same_epochs = subst (λ (l : List EpochView). EpochInvariant sizes.participants ws l) (sym (set_again (map epoch_of vs) id v.epoch at_epoch)) p.epoch
 
     -- the other parts after a step on a slot's word
-    around : (slot y : ℕ) (w : View) → HasPlace w.epoch → w.words ≡ noted slot y v → EpochInvariant sizes.participants ws (set (map epoch_of vs) id w.epoch)
+    pub around : (slot y : ℕ) (w : View) → HasPlace w.epoch → w.words ≡ noted slot y v → EpochInvariant sizes.participants ws (set (map epoch_of vs) id w.epoch)
         → SlotsInvariant codes sizes (set ws (slot_word sizes slot) y) (set vs id w) → Parts sizes (set ws (slot_word sizes slot) y) (set vs id w)
     around slot y w still is epoch slots = record {
       epoch = seen_after sizes (set ws (slot_word sizes slot) y) vs id w
@@ -51,20 +51,20 @@ module _ (id : ℕ) (v : View) (live : HasPlace v.epoch) where
     }
 
     -- nothing changes
-    unmoved : (i : ℕ) → Parts sizes (set ws i (get_or ws i 0)) (set vs id v)
+    pub unmoved : (i : ℕ) → Parts sizes (set ws i (get_or ws i 0)) (set vs id v)
     unmoved i = subst (λ (l : List ℕ). Parts sizes l (set vs id v)) (sym (set-get_or ws i 0))
         (subst (λ (l : List View). Parts sizes ws l) (sym (set_again vs id v at)) p)
 
     -- a lone participant finds what it knew
-    knew : (slot : ℕ) → Knew slot v (slot_at sizes ws slot)
+    pub knew : (slot : ℕ) → Knew slot v (slot_at sizes ws slot)
     knew slot one = let f = p.epoch.each id v.epoch at_epoch in finds sizes ws vs p.lone id v at (sym (f.all (λ z. omega arith)) ∙ one) live slot
 
   -- the word tells which slot it is
   module _ (slot other : ℕ) (is : slot_word sizes slot ≡ slot_word sizes other) where
-    same_slot : slot ≡ other
+    pub same_slot : slot ≡ other
     same_slot = omega arith
 
-    knew_too : (x : ℕ) → Knew slot v x → Knew other v x
+    pub knew_too : (x : ℕ) → Knew slot v x → Knew other v x
     knew_too x = subst (λ (k : ℕ). Knew k v x) same_slot
 
   -- claim a free slot
@@ -136,7 +136,7 @@ module _ (id : ℕ) (v : View) (live : HasPlace v.epoch) where
 
   -- a load leaves the other parts
   module _ (ws : List ℕ) (vs : List View) (p : Parts sizes ws vs) (at : get_elem? vs id ≡ some v) where
-    loaded : (i : ℕ) (w : View) → w.epoch ≡ v.epoch → w.words ≡ v.words → SlotsInvariant codes sizes ws (set vs id w)
+    pub loaded : (i : ℕ) (w : View) → w.epoch ≡ v.epoch → w.words ≡ v.words → SlotsInvariant codes sizes ws (set vs id w)
         → Parts sizes (set ws i (get_or ws i 0)) (set vs id w)
     loaded i w same known slots = subst (λ (l : List ℕ). Parts sizes l (set vs id w)) (sym (set-get_or ws i 0)) record {
       epoch = seen_after sizes ws vs id w

@@ -42,6 +42,9 @@ free_word generation = 16 * generation
 abbrev pub owned_word : ℕ → ℕ
 owned_word generation = 16 * generation + 1
 
+abbrev pub raw_word : ℕ → ℕ
+raw_word generation = 16 * generation + 2
+
 abbrev pub waiting_word : ℕ → ℕ
 waiting_word generation = 16 * generation + 4
 

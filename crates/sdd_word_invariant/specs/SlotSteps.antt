@@ -1,5 +1,5 @@
 -- What each step makes of what the participant knows of slots, and what it tells
-use Rattle.std.specs.Prelude.{◌≡◌, ◌≢◌, ℕ, ◌+◌, ◌*◌, ◌==◌, ◌<◌, ◌≤◌, not, if◌then◌else◌, List, [], ◌∷◌, ◌++◌, map, length, replicate, slice_index, slice_set, Some, None}
+use Rattle.std.specs.Prelude.{◌≡◌, ◌≢◌, ◌⊎◌, ℕ, ◌+◌, ◌*◌, ◌==◌, ◌<◌, ◌≤◌, not, if◌then◌else◌, List, [], ◌∷◌, ◌++◌, map, length, replicate, slice_index, slice_set, Some, None}
 use Rattle.std.specs.List.{filter}
 use mathlib.Core.Option.{some}
 use lib.ListN.{get_elem?}
@@ -10,7 +10,7 @@ use Rattle.sdd_views.specs.declared.View.{View}
 use Rattle.sdd_views.specs.declared.Sizes.{Sizes}
 use Rattle.sdd_word_invariant.specs.Words.{words_behind, state_word, slot_word}
 use Rattle.sdd_word_invariant.specs.Epoch.{HasPlace, IsOpen, IsLone}
-use Rattle.sdd_word_invariant.specs.Slots.{items_at}
+use Rattle.sdd_word_invariant.specs.Slots.{items_at, Sees}
 use Rattle.sdd_word_invariant.specs.EpochSteps.{knowing, closed, Publishes}
 
 -- the words behind the places' before anybody takes part
@@ -62,6 +62,10 @@ joined v w = record v {
 -- a slot is claimed, and its word is y then
 abbrev pub claimed : ℕ → ℕ → View → View
 claimed slot y v = record v { slots = record v.slots { owns = slot ∷ v.slots.owns }; words = noted slot y v }
+
+-- its only owner goes, and its item is out as raw
+abbrev pub turned_raw : ℕ → ℕ → View → View
+turned_raw slot y v = record v { slots = record v.slots { owns = without slot v.slots.owns }; words = noted slot y v }
 
 abbrev pub retired_now : ℕ → ℕ → WaitingItem
 retired_now slot count = record { slot = slot; retired_at = count; changes = 0; name = 0 }
@@ -129,6 +133,18 @@ ClosesAll v x w = w ≡ record v { epoch = closed v.epoch; slots = unseeing v }
 -- the claim of a slot whose word is old as long as it is free
 abbrev pub Claims : ℕ → ℕ → ℕ → View → ℕ → View → Type 0
 Claims slot old y v x w = (x ≡ old → w ≡ claimed slot y v) × (x ≢ old → w ≡ v) × Knew slot v x
+
+-- the item of an only owner is out as raw, and nobody owns it
+abbrev pub TurnsRaw : ℕ → View → ℕ → View → Type 0
+TurnsRaw slot v y w = w ≡ turned_raw slot y v
+
+-- an item that is out as raw, whose word is old then, is owned as after a claim
+abbrev pub Regains : ℕ → ℕ → ℕ → View → ℕ → View → Type 0
+Regains slot old y v x w = (x ≡ old → w ≡ claimed slot y v) × (x ≢ old → w ≡ v) × Knew slot v x
+
+-- the word of a slot is looked at under a guard, which sees the slot from now on where its item is out as raw, and its word is old, if it didn't before
+abbrev pub SeesRaw : ℕ → ℕ → View → ℕ → View → Type 0
+SeesRaw slot old v x w = (x ≡ old → ¬ (Sees v slot) → w ≡ seeing slot v) × ((x ≢ old) ⊎ Sees v slot → w ≡ v) × Knew slot v x
 
 -- an owned item waits from the count of this moment on, which is known after it: under an open guard the one at the publish, or one more.
 -- Fewer items than there are slots waited before

@@ -1,0 +1,254 @@
+-- What the last fractions of slots show, after one step
+use Rattle.std.proofs.Common.{◌≡◌, ◌≢◌, ◌⊎◌, inl, ℕ, suc, ◌<◌, ◌≤◌, true, false, List, [], ◌∷◌, ◌++◌, map, length, get_or, set, sym, refl, ap, ◌∙◌, subst, ⊎_elim, arith, eq-eqb, ne_eqb, get_or-set_other, get_or-set_same}
+use Rattle.std.specs.Prelude.{Some}
+use mathlib.Core.Option.{some}
+use mathlib.Core.Logic.{dite}
+use native.Mathlib.Decide.{ℕ_discrete}
+use lib.ListN.{get_elem?}
+use lib.Seq.{set-get_or}
+use prog.Atomic.{either}
+use base.Stored.{Gv}
+use Rattle.atomic_table.specs.Table.{homes_after}
+use Rattle.sdd_shared_values.specs.ValueFractions.{FractionContent}
+use Rattle.sdd_shared_values.specs.Bank.{IsPart, IsJoined, Leaves, Comes}
+use Rattle.sdd_shared_values.specs.Deposits.{units_at, AreDeposits}
+use Rattle.sdd_shared_values.specs.declared.value_fraction.ValueFraction.{ValueFraction}
+use Rattle.sdd_views.specs.declared.FractionsView.{FractionsView}
+use Rattle.sdd_views.specs.declared.View.{View}
+use Rattle.sdd_views.specs.declared.Sizes.{Sizes}
+use Rattle.sdd_word_invariant.specs.Words.{slot_word, first_slot}
+use Rattle.sdd_word_invariant.specs.Codes.{raw_word}
+use Rattle.sdd_word_invariant.specs.Epoch.{HasPlace}
+use Rattle.sdd_word_invariant.proofs.Frame.{each_set, each_snoc}
+use Rattle.sdd_word_invariant.proofs.Sums.{total_two}
+use Rattle.sdd_domain_invariant.specs.FractionsAtHome.{FractionsAtHome, CarriedFractions, LiesAt, share, Has}
+use Rattle.sdd_domain_invariant.specs.FilledInvariant.{newest}
+use Rattle.sdd_domain_invariant.specs.BankInvariant.{one_where, offices, deposited, banked, IsBank, BankInvariant}
+use Rattle.sdd_domain_invariant.specs.LastFractions.{ShowOnly, IsRaw, LastIs, ShowsLast, KnowsRaw, LastsInvariant}
+use Rattle.sdd_domain_invariant.proofs.Banks.{with_deposits, banked_then}
+use Rattle.sdd_domain_invariant.proofs.Records.{IsAlike}
+use Rattle.sdd_domain_invariant.proofs.Rows.{Given, given_lies}
+
+-- ---- deposits
+module _ (i : ℕ) (g : Gv) where
+  -- where there are no units of the slot there is no deposit of it
+  pub none_shown : (γ : ℕ) (ls : List FractionContent) → AreDeposits γ ls → units_at i ls ≡ 0 → ShowOnly i g ls
+  none_shown γ [] are none = tt
+  none_shown γ (h ∷ hs) are none = (
+    λ e. let u = ap (λ (b : _). either b h.units 0) (eq-eqb h.number i e) in let some_units = are.2 in absurd (omega arith),
+    none_shown γ hs are.4 (omega arith),
+  )
+
+  -- one goes out, or a part of one
+  pub shown_leaves : (ls : List FractionContent) (l : FractionContent) (rest : List FractionContent) → Leaves ls l rest → ShowOnly i g ls
+      → ShowOnly i g rest × (l.number ≡ i → l.shown ≡ g)
+  shown_leaves [] l rest goes show = absurd goes
+  shown_leaves (h ∷ hs) l rest goes show = ⊎_elim
+      (λ (a : (l ≡ h) × (rest ≡ hs)). (
+        subst (ShowOnly i g) (sym a.1) show.1,
+        λ e. ap (λ (c : FractionContent). c.shown) a.0 ∙ show.0 (ap (λ (c : FractionContent). c.number) (sym a.0) ∙ e),
+      ))
+      (λ (r : ((h' : FractionContent) × IsPart h l h' × (rest ≡ h' ∷ hs)) ⊎ ((hs' : List FractionContent) × Leaves hs l hs' × (rest ≡ h ∷ hs'))). ⊎_elim
+      (λ (b : (h' : FractionContent) × IsPart h l h' × (rest ≡ h' ∷ hs)). let same = b.1.same in let stays = b.1.stays in (
+        subst (ShowOnly i g) (sym b.2)
+            ((λ e. ap (λ (c : FractionContent). c.shown) stays ∙ show.0 (ap (λ (c : FractionContent). c.number) (sym stays) ∙ e)), show.1),
+        λ e. ap (λ (c : FractionContent). c.shown) same ∙ show.0 (ap (λ (c : FractionContent). c.number) (sym same) ∙ e),
+      ))
+      (λ (d : (hs' : List FractionContent) × Leaves hs l hs' × (rest ≡ h ∷ hs')). let t = shown_leaves hs l d.0 d.1 show.1 in
+      (subst (ShowOnly i g) (sym d.2) (show.0, t.0), t.1)) r) goes
+
+  -- one comes that shows it too, if it is of the slot
+  pub shown_comes : (ls : List FractionContent) (l : FractionContent) (more : List FractionContent) → Comes ls l more → ShowOnly i g ls
+      → (l.number ≡ i → l.shown ≡ g) → ShowOnly i g more
+  shown_comes [] l more comes show mine = subst (ShowOnly i g) (sym comes) (mine, tt)
+  shown_comes (h ∷ hs) l more comes show mine = ⊎_elim
+      (λ (a : more ≡ l ∷ h ∷ hs). subst (ShowOnly i g) (sym a) (mine, show))
+      (λ (r : ((h' : FractionContent) × IsJoined h l h' × (more ≡ h' ∷ hs)) ⊎ ((hs' : List FractionContent) × Comes hs l hs' × (more ≡ h ∷ hs'))). ⊎_elim
+      (λ (b : (h' : FractionContent) × IsJoined h l h' × (more ≡ h' ∷ hs)). let sum = b.1.sum in subst (ShowOnly i g) (sym b.2)
+      ((λ e. ap (λ (c : FractionContent). c.shown) sum ∙ show.0 (ap (λ (c : FractionContent). c.number) (sym sum) ∙ e)), show.1))
+      (λ (d : (hs' : List FractionContent) × Comes hs l hs' × (more ≡ h ∷ hs')). subst (ShowOnly i g) (sym d.2)
+      (show.0, shown_comes hs l d.0 d.1 show.1 mine)) r) comes
+
+  -- one comes of which there was some before
+  pub shown_joins : (γ : ℕ) (ls : List FractionContent) (l : FractionContent) (more : List FractionContent) → AreDeposits γ more → l.number ≡ i
+      → 0 < units_at i ls → Comes ls l more → ShowOnly i g ls → ShowOnly i g more
+  shown_joins γ [] l more are of has comes show = absurd (omega arith)
+  shown_joins γ (h ∷ hs) l more are of has comes show = ⊎_elim
+      (λ (a : more ≡ l ∷ h ∷ hs). let none = (subst (AreDeposits γ) a are).3 in
+      absurd (let e = ap (λ (k : ℕ). units_at k (h ∷ hs)) of in omega arith))
+      (λ (r : ((h' : FractionContent) × IsJoined h l h' × (more ≡ h' ∷ hs)) ⊎ ((hs' : List FractionContent) × Comes hs l hs' × (more ≡ h ∷ hs'))). ⊎_elim
+      (λ (b : (h' : FractionContent) × IsJoined h l h' × (more ≡ h' ∷ hs)). let sum = b.1.sum in subst (ShowOnly i g) (sym b.2)
+      ((λ e. ap (λ (c : FractionContent). c.shown) sum ∙ show.0 (ap (λ (c : FractionContent). c.number) (sym sum) ∙ e)), show.1))
+      (λ (d : (hs' : List FractionContent) × Comes hs l hs' × (more ≡ h ∷ hs')). let are' = subst (AreDeposits γ) d.2 are in subst (ShowOnly i g) (sym d.2) (
+        show.0,
+        dite (ℕ_discrete h.number i)
+            (λ same. none_shown γ d.0 are'.4 (ap (λ (k : ℕ). units_at k d.0) (sym same) ∙ are'.3))
+            (λ ne. shown_joins γ hs l d.0 are'.4 of (let o = ap (λ (b : _). either b h.units 0) (ne_eqb h.number i ne) in omega arith) d.1 show.1),
+      )) r) comes
+
+-- ---- the part
+-- no item is out as raw
+abbrev pub NoneRaw : Sizes → List ℕ → Type 0
+NoneRaw sizes ws = (i : ℕ) → i < sizes.slots → ¬ (IsRaw sizes ws i)
+
+-- what is out as raw then was so before
+abbrev pub NoMoreRaw : Sizes → List ℕ → List ℕ → Type 0
+NoMoreRaw sizes ws ws' = (i : ℕ) → i < sizes.slots → IsRaw sizes ws' i → IsRaw sizes ws i
+
+module _ (sizes : Sizes) (ws : List ℕ) where
+  -- while all words are 0 none is
+  pub none_raw : ((j : ℕ) → get_or ws j 0 ≡ 0) → NoneRaw sizes ws
+  none_raw zeros i low is = let z = zeros (slot_word sizes i) in omega arith
+
+  -- a word before the slots' changes
+  pub raws_before : (j y : ℕ) → j < first_slot sizes → NoMoreRaw sizes ws (set ws j y)
+  raws_before j y low i near is = sym (get_or-set_other ws j (slot_word sizes i) y 0 (λ e. omega arith)) ∙ is
+
+  -- a word is looked at
+  pub raws_same : (j : ℕ) → NoMoreRaw sizes ws (set ws j (get_or ws j 0))
+  raws_same j i near is = subst (λ (l : List ℕ). IsRaw sizes l i) (set-get_or ws j 0) is
+
+  -- a slot's word changes, whose item isn't out as raw then
+  pub raws_other : (slot y : ℕ) → (i : ℕ) → i < sizes.slots → i ≢ slot → IsRaw sizes (set ws (slot_word sizes slot) y) i → IsRaw sizes ws i
+  raws_other slot y i near ne is = sym (get_or-set_other ws (slot_word sizes slot) (slot_word sizes i) y 0 (λ e. ne (omega arith))) ∙ is
+
+  pub not_raw : (slot y : ℕ) → slot_word sizes slot < length ws → y ≢ raw_word 0 → ¬ (IsRaw sizes (set ws (slot_word sizes slot) y) slot)
+  not_raw slot y low ne is = ne (sym (get_or-set_same ws (slot_word sizes slot) y 0 low) ∙ is)
+
+  pub raws_set : (slot y : ℕ) → slot_word sizes slot < length ws → y ≢ raw_word 0 → NoMoreRaw sizes ws (set ws (slot_word sizes slot) y)
+  raws_set slot y low ne i near is = dite (ℕ_discrete i slot)
+      (λ e. absurd (not_raw slot y low ne (subst (IsRaw sizes (set ws (slot_word sizes slot) y)) e is)))
+      (λ apart. raws_other slot y i near apart is)
+
+-- the one is the bank's only if the other is, and has the same then
+abbrev pub KeepsBank : View → View → Type 0
+KeepsBank v w = IsBank w → IsBank v × (banked w ≡ banked v)
+
+pub no_bank : (v w : View) → w.stakes.bank ≡ false → KeepsBank v w
+no_bank v w none is = let e : false ≡ true = sym none ∙ is in absurd cc
+
+-- two aren't the bank's
+pub one_bank : (γ : ℕ) (sizes : Sizes) (ws : List ℕ) (vs : List View) → BankInvariant γ sizes ws vs → (j k : ℕ) (v w : View) → j ≢ k
+    → get_elem? vs j ≡ some v → get_elem? vs k ≡ some w → IsBank v → ¬ (IsBank w)
+one_bank γ sizes ws vs p j k v w apart e e' is is' = let two = total_two offices vs j k v w apart e e' in let a = ap one_where is in
+    let b = ap one_where is' in let few = p.single in omega arith
+
+pub alike_bank : (v w : View) → IsAlike v w → KeepsBank v w
+alike_bank v w same is = (
+  ap (λ (s : FractionsView). s.bank) (sym same.0) ∙ is,
+  ap (λ (s : FractionsView). map (deposited s.book) s.banked) same.0,
+)
+
+module _ (sizes : Sizes) (ws : List ℕ) (vs : List View) (hs : FractionsAtHome) (part : LastsInvariant sizes ws vs hs) where
+  abbrev n : ℕ
+  n = sizes.participants
+
+  -- a new token without a place; if it is the bank's it has nothing yet
+  pub lasts_more : (t : View) → (IsBank t → banked t ≡ []) → ¬ (HasPlace t.epoch) → LastsInvariant sizes ws (vs ++ t ∷ []) hs
+  lasts_more t empty none = record {
+    alike = part.alike;
+    banks = each_snoc (λ u. IsBank u → ShowsLast sizes hs u) vs t part.banks (λ is i z low last. subst (ShowOnly i z.lot.shown) (sym (empty is)) tt);
+    raw = λ one. each_snoc (λ u. HasPlace u.epoch → KnowsRaw sizes ws hs u) vs t (part.raw one) (λ live. absurd (none live));
+  }
+
+  module _ (id : ℕ) (v : View) (at : get_elem? vs id ≡ some v) where
+    -- what lies at home lay there, or isn't a last one and shows what that does; and it moved in what it had
+    pub lasts_kept : (ws' : List ℕ) (w : View) (hs' : FractionsAtHome)
+        → ((i p : ℕ) (y : ValueFraction) → i < sizes.slots → p ≤ n → LiesAt n hs' i p y
+        → LiesAt n hs i p y ⊎ ((p ≢ n) × ((z : ValueFraction) → LastIs sizes hs i z → y.lot.shown ≡ z.lot.shown)))
+        → KeepsBank v w → w.stakes.filled ≡ v.stakes.filled → (n ≡ 1 → HasPlace w.epoch → HasPlace v.epoch ⊎ NoneRaw sizes ws)
+        → NoMoreRaw sizes ws ws' → LastsInvariant sizes ws' (set vs id w) hs'
+    lasts_kept ws' w hs' lies bank filled had raws =
+        let last : (i : ℕ) (z : ValueFraction) → i < sizes.slots → LastIs sizes hs' i z → LastIs sizes hs i z
+        = λ i z low l. ⊎_elim (λ (a : LastIs sizes hs i z). a)
+        (λ (b : (n ≢ n) × ((y : ValueFraction) → LastIs sizes hs i y → z.lot.shown ≡ y.lot.shown)). absurd (b.0 refl)) (lies i n z low (omega arith) l) in
+        record {
+          alike = λ i p y z low near l lz. ⊎_elim (λ (a : LiesAt n hs i p y). part.alike i p y z low near a (last i z low lz))
+              (λ (b : (p ≢ n) × ((z : ValueFraction) → LastIs sizes hs i z → y.lot.shown ≡ z.lot.shown)). b.1 z (last i z low lz)) (lies i p y low near l);
+          banks = each_set (λ u. IsBank u → ShowsLast sizes hs' u)
+              (λ u. IsBank u → ShowsLast sizes hs' u) vs id w
+              (λ is i z low l. let b = bank is in subst (ShowOnly i z.lot.shown) (sym b.1) (part.banks id v at b.0 i z low (last i z low l)))
+              (λ j u _ e is i z low l. part.banks j u e is i z low (last i z low l));
+          raw = λ one. each_set (λ u. HasPlace u.epoch → KnowsRaw sizes ws' hs' u)
+              (λ u. HasPlace u.epoch → KnowsRaw sizes ws' hs' u) vs id w
+              (λ live i z low is l. ⊎_elim
+              (λ (was : HasPlace v.epoch). ap (newest i) filled ∙ part.raw one id v at was i z low (raws i low is) (last i z low l))
+              (λ (none : NoneRaw sizes ws). absurd (none i low (raws i low is))) (had one live))
+              (λ j u _ e live i z low is l. part.raw one j u e live i z low (raws i low is) (last i z low l));
+        }
+
+    -- what lies at home lay there
+    pub lasts_fewer : (ws' : List ℕ) (w : View) (hs' : FractionsAtHome)
+        → ((i p : ℕ) (y : ValueFraction) → p ≤ n → LiesAt n hs' i p y → LiesAt n hs i p y)
+        → KeepsBank v w → w.stakes.filled ≡ v.stakes.filled → (n ≡ 1 → HasPlace w.epoch → HasPlace v.epoch ⊎ NoneRaw sizes ws)
+        → NoMoreRaw sizes ws ws' → LastsInvariant sizes ws' (set vs id w) hs'
+    lasts_fewer ws' w hs' lies = lasts_kept ws' w hs' (λ i p y _ near l. inl (lies i p y near l))
+
+    -- all fractions of a slot come home, of which the bank has nothing, and which isn't out as raw
+    pub lasts_given : (γ slot o : ℕ) (Is : Gv → Type 0) (rest xs : CarriedFractions) (g : Given γ n slot o Is hs rest xs (suc n)) → ((a b : Gv) → Is a → Is b → a ≡ b)
+        → (ws' : List ℕ) (w : View) → ((j : ℕ) (b : View) → get_elem? vs j ≡ some b → IsBank b → (c : Gv) → ShowOnly slot c (banked b)) → KeepsBank v w
+        → ((i : ℕ) → i ≢ slot → newest i w.stakes.filled ≡ newest i v.stakes.filled) → (HasPlace w.epoch → HasPlace v.epoch)
+        → ¬ (IsRaw sizes ws' slot) → ((i : ℕ) → i < sizes.slots → i ≢ slot → IsRaw sizes ws' i → IsRaw sizes ws i)
+        → LastsInvariant sizes ws' (set vs id w) (homes_after hs xs g.act)
+    lasts_given γ slot o Is rest xs g single ws' w nothing bank filled had free raws =
+        let hs' : FractionsAtHome = homes_after hs xs g.act in
+        let which = λ (i p : ℕ) (y : ValueFraction) (near : p ≤ n) (l : LiesAt n hs' i p y). given_lies γ n slot o Is hs rest xs g i p y near l in
+        let show : (u u' : View) → IsBank u → banked u' ≡ banked u
+        → ShowsLast sizes hs u → ((c : Gv) → ShowOnly slot c (banked u)) → ShowsLast sizes hs' u'
+        = λ u u' is same old none i z low l. subst (ShowOnly i z.lot.shown) (sym same) (⊎_elim
+        (λ (a : (i ≡ slot) × Has γ slot (share n o n) Is z). subst (λ (k : ℕ). ShowOnly k z.lot.shown (banked u)) (sym a.0) (none z.lot.shown))
+        (λ (b : (i ≢ slot) × LiesAt n hs i n z). old i z low b.1) (which i n z (omega arith) l)) in
+        let raw_of : (u u' : View) → ((i : ℕ) → i ≢ slot → newest i u'.stakes.filled ≡ newest i u.stakes.filled)
+        → KnowsRaw sizes ws hs u → KnowsRaw sizes ws' hs' u'
+        = λ u u' same old i z low is l. ⊎_elim
+        (λ (a : (i ≡ slot) × Has γ slot (share n o n) Is z). absurd (free (subst (IsRaw sizes ws') a.0 is)))
+        (λ (b : (i ≢ slot) × LiesAt n hs i n z). same i b.0 ∙ old i z low (raws i low b.0 is) b.1) (which i n z (omega arith) l) in record {
+          alike = λ i p y z low near l lz. ⊎_elim
+              (λ (a : (i ≡ slot) × Has γ slot (share n o p) Is y). ⊎_elim
+              (λ (b : (i ≡ slot) × Has γ slot (share n o n) Is z). single y.lot.shown z.lot.shown a.1.1 b.1.1)
+              (λ (b : (i ≢ slot) × LiesAt n hs i n z). absurd (b.0 a.0)) (which i n z (omega arith) lz))
+              (λ (a : (i ≢ slot) × LiesAt n hs i p y). ⊎_elim
+              (λ (b : (i ≡ slot) × Has γ slot (share n o n) Is z). absurd (a.0 b.0))
+              (λ (b : (i ≢ slot) × LiesAt n hs i n z). part.alike i p y z low near a.1 b.1) (which i n z (omega arith) lz)) (which i p y near l);
+          banks = each_set (λ u. IsBank u → ShowsLast sizes hs' u)
+              (λ u. IsBank u → ShowsLast sizes hs' u) vs id w
+              (λ is. let b = bank is in show v w b.0 b.1 (part.banks id v at b.0) (nothing id v at b.0))
+              (λ j u _ e is. show u u is refl (part.banks j u e is) (nothing j u e is));
+          raw = λ one. each_set (λ u. HasPlace u.epoch → KnowsRaw sizes ws' hs' u)
+              (λ u. HasPlace u.epoch → KnowsRaw sizes ws' hs' u) vs id w
+              (λ live. raw_of v w filled (part.raw one id v at (had live)))
+              (λ j u _ e live. raw_of u u (λ _ _. refl) (part.raw one j u e live));
+        }
+
+    -- an item goes out as raw, of which it is known what it shows
+    pub lasts_out : (slot : ℕ) (ws' : List ℕ) (w : View) → KeepsBank v w → w.stakes.filled ≡ v.stakes.filled → (HasPlace w.epoch → HasPlace v.epoch)
+        → (n ≡ 1 → (j : ℕ) (u : View) → get_elem? vs j ≡ some u → HasPlace u.epoch → (z : ValueFraction) → LastIs sizes hs slot z
+        → newest slot u.stakes.filled ≡ Some (record { slot = slot; shared = false; value = z.lot.shown }))
+        → ((i : ℕ) → i < sizes.slots → i ≢ slot → IsRaw sizes ws' i → IsRaw sizes ws i) → LastsInvariant sizes ws' (set vs id w) hs
+    lasts_out slot ws' w bank filled had knows raws =
+        let now : (j : ℕ) (u u' : View) → get_elem? vs j ≡ some u → n ≡ 1 → HasPlace u.epoch → u'.stakes.filled ≡ u.stakes.filled → KnowsRaw sizes ws' hs u'
+        = λ j u u' e one live same i z low is l. ap (newest i) same ∙ dite (ℕ_discrete i slot)
+        (λ here. subst (λ (k : ℕ). newest k u.stakes.filled ≡ Some (record { slot = k; shared = false; value = z.lot.shown })) (sym here)
+        (knows one j u e live z (subst (λ (k : ℕ). LastIs sizes hs k z) here l)))
+        (λ ne. part.raw one j u e live i z low (raws i low ne is) l) in record {
+          alike = part.alike;
+          banks = each_set (λ u. IsBank u → ShowsLast sizes hs u) (λ u. IsBank u → ShowsLast sizes hs u) vs id w
+              (λ is i z low l. let b = bank is in subst (ShowOnly i z.lot.shown) (sym b.1) (part.banks id v at b.0 i z low l))
+              (λ j u _ e. part.banks j u e);
+          raw = λ one. each_set (λ u. HasPlace u.epoch → KnowsRaw sizes ws' hs u) (λ u. HasPlace u.epoch → KnowsRaw sizes ws' hs u) vs id w
+              (λ live. now id v w at one (had live) filled) (λ j u _ e live. now j u u e one live refl);
+        }
+
+  -- what the bank has is other than before
+  pub lasts_dealt : (γ bd : ℕ) (b : View) → get_elem? vs bd ≡ some b → IsBank b → (ls : List FractionContent) → b.stakes.book ≡ γ → AreDeposits γ ls
+      → ((i : ℕ) (z : ValueFraction) → i < sizes.slots → LastIs sizes hs i z → ShowOnly i z.lot.shown (banked b) → ShowOnly i z.lot.shown ls)
+      → LastsInvariant sizes ws (set vs bd (with_deposits ls b)) hs
+  lasts_dealt γ bd b there is ls book are shown = record {
+    alike = part.alike;
+    banks = each_set (λ u. IsBank u → ShowsLast sizes hs u) (λ u. IsBank u → ShowsLast sizes hs u) vs bd (with_deposits ls b)
+        (λ _ i z low l. subst (ShowOnly i z.lot.shown) (sym (banked_then γ ls b book are)) (shown i z low l (part.banks bd b there is i z low l)))
+        (λ j u _ e. part.banks j u e);
+    raw = λ one. each_set (λ u. HasPlace u.epoch → KnowsRaw sizes ws hs u)
+        (λ u. HasPlace u.epoch → KnowsRaw sizes ws hs u) vs bd (with_deposits ls b)
+        (λ live. part.raw one bd b there live) (λ j u _ e. part.raw one j u e);
+  }

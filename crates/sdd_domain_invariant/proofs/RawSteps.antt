@@ -1,0 +1,420 @@
+-- An item goes out as raw, is seen under a guard meanwhile, comes back, and its owner draws its unit: these steps keep the whole invariant.
+use Rattle.std.proofs.Common.{◌≡◌, ◌⊎◌, inl, inr, ℕ, zero, suc, ◌<◌, ◌≤◌, false, eqb, List, [], ◌∷◌, get_or, set, sym, refl, ap, ◌∙◌, subst, ⊎_elim, arith}
+use Rattle.std.specs.Prelude.{Some, None}
+use mathlib.Core.Option.{none, some, some-injective}
+use mathlib.Core.Logic.{dite}
+use native.Mathlib.Decide.{ℕ_discrete, dec_lt}
+use lib.ListN.{get_elem?}
+use lib.Seq.{set-get_or}
+use prog.Atomic.{either}
+use base.Stored.{Gv}
+use Rattle.atomic_table.specs.Table.{State, keeps, takes}
+use Rattle.atomic_table.proofs.Lists.{at_map, exchanged, set_again, set_else}
+use Rattle.sdd_shared_values.specs.ValueFractions.{FractionContent}
+use Rattle.sdd_shared_values.specs.Bank.{Leaves}
+use Rattle.sdd_shared_values.specs.Deposits.{units_at}
+use Rattle.sdd_shared_values.specs.declared.value_fraction.ValueFraction.{ValueFraction}
+use Rattle.sdd_shared_values.proofs.Deposits.{draws}
+use Rattle.sdd_views.specs.declared.ShownValue.{ShownValue}
+use Rattle.sdd_views.specs.declared.View.{View}
+use Rattle.sdd_views.specs.declared.Sizes.{Sizes}
+use Rattle.sdd_word_invariant.specs.Words.{slot_word}
+use Rattle.sdd_word_invariant.specs.Codes.{codes, alive, waiting, full, owned_word, raw_word}
+use Rattle.sdd_word_invariant.specs.Epoch.{HasPlace, IsOpen, IsLone}
+use Rattle.sdd_word_invariant.specs.Sums.{total, times}
+use Rattle.sdd_word_invariant.specs.Slots.{slot_at, OwnsAlone, Sees, Holds}
+use Rattle.sdd_word_invariant.specs.SlotSteps.{without, turned_raw, AtSlot, TurnsRaw, Regains, SeesRaw}
+use Rattle.sdd_word_invariant.specs.WordInvariant.{epoch_of, Parts}
+use Rattle.sdd_word_invariant.proofs.Codes.{sound, owned_is, raw_is}
+use Rattle.sdd_word_invariant.proofs.RawSteps as words
+use Rattle.sdd_word_invariant.proofs.Lift.{blind_units}
+use Rattle.sdd_word_invariant.proofs.SlotWords.{owners_in}
+use Rattle.sdd_word_invariant.proofs.Sums.{is_same, is_other, without_same, without_other, total_zero}
+use Rattle.sdd_domain_invariant.specs.FractionsAtHome.{stake_at, away, full_at, Has, Moves, SeesFrom, LiesAt, FractionsInvariant}
+use Rattle.sdd_domain_invariant.specs.BankInvariant.{drawn_at, moves_at, banked}
+use Rattle.sdd_domain_invariant.specs.Records.{IsIn, IsKnown, IsTelling}
+use Rattle.sdd_domain_invariant.specs.FilledInvariant.{newest, HasRecord}
+use Rattle.sdd_domain_invariant.specs.LastFractions.{LastIs}
+use Rattle.sdd_domain_invariant.specs.DomainInvariant.{DomainInvariant}
+use Rattle.sdd_domain_invariant.specs.FractionSteps.{SeatState, IsValue, untold, drawing, sighting, OfSlot}
+use Rattle.sdd_domain_invariant.specs.RawSteps.{TurnsRawOne, RegainsOne, SeesRawOne, DrawsUnit, regaining}
+use Rattle.sdd_domain_invariant.proofs.Part.{none_out, only_seen, one_taken}
+use Rattle.sdd_domain_invariant.proofs.Part as part
+use Rattle.sdd_domain_invariant.proofs.Banks.{moves_none, outside_there, outside_same, total_below, with_deposits, banked_then}
+use Rattle.sdd_domain_invariant.proofs.Banks as banks
+use Rattle.sdd_domain_invariant.proofs.Counts.{as_full, uncounted, uncounted_alone}
+use Rattle.sdd_domain_invariant.proofs.Records.{in_head, in_tail, in_either, in_none, known_by, told_seen}
+use Rattle.sdd_domain_invariant.proofs.Records as records
+use Rattle.sdd_domain_invariant.proofs.Fillings.{has_none, filled_learned}
+use Rattle.sdd_domain_invariant.proofs.Telling.{none_moved, one_view, owns_it}
+use Rattle.sdd_domain_invariant.proofs.Tops.{share_one}
+use Rattle.sdd_domain_invariant.proofs.Lasts.{shown_leaves, raws_other, raws_set, raws_same, lasts_out, lasts_fewer, lasts_dealt}
+use Rattle.sdd_domain_invariant.proofs.Lift.{Follows, lift_homes, stands_dealt}
+use Rattle.sdd_domain_invariant.proofs.Steps.{full_owned}
+use Rattle.sdd_domain_invariant.proofs.Steps as steps
+
+-- the first of these records, or another
+has_more : (r : ShownValue) (rs : List ShownValue) (q : ShownValue) (k : ℕ) → get_elem? (r ∷ rs) k ≡ some q → (q ≡ r) ⊎ HasRecord rs q
+has_more r rs q zero e = inl (sym (some-injective r q e))
+has_more r rs q (suc k) e = inr (k, e)
+
+-- the item of the only owner that it has goes out as raw
+turned_tells : (v : View) → IsTelling v → (slot : ℕ) → v.slots.owns ≡ slot ∷ [] → v.stakes.moves ≡ None → (y : ℕ) → IsTelling (untold (turned_raw slot y v))
+turned_tells v t slot owns rests y = record {
+  owns = λ i g h. absurd (in_none i g h);
+  owned = λ i o still. dite (ℕ_discrete i slot)
+      (λ e. absurd (let z = without_same slot v.slots.owns in let c = ap (λ (k : ℕ). times k (without slot v.slots.owns)) e in omega arith))
+      (λ ne. absurd (let c = without_other slot i ne v.slots.owns in let e = ap (times i) owns in let other = is_other i slot (λ x. ne (sym x)) in omega arith));
+  sees = t.sees;
+  waits = t.waits;
+  waiting = t.waiting;
+}
+
+-- it has the only owner of one slot more
+regained_tells : (v : View) → IsTelling v → (slot : ℕ) → v.stakes.moves ≡ None → (y : ℕ) (value : Gv) → IsTelling (regaining slot y value v)
+regained_tells v t slot rests y value = let r : ShownValue = record { slot = slot; shared = false; value = value } in
+    let w : View = regaining slot y value v in record {
+      owns = λ i g h. (
+        ⊎_elim (λ (e : (slot ≡ i) × (value ≡ g)). let o = is_same i slot e.0 in let l : OwnsAlone w i = omega arith in l)
+            (λ (k : IsIn v.stakes.owns i g). let o = (t.owns i g k).0 in let l : OwnsAlone w i = omega arith in l) (in_either r v.stakes.owns i g h),
+        none_moved w i rests,
+      );
+      owned = λ i o still. dite (ℕ_discrete slot i) (λ e. (value, in_head r v.stakes.owns i value e refl))
+          (λ ne. let b = t.owned i (let q = is_other i slot ne in omega arith) (none_moved v i rests) in (b.0, in_tail r v.stakes.owns i b.0 b.1));
+      sees = t.sees;
+      waits = t.waits;
+      waiting = t.waiting;
+    }
+
+module _ (slots id : ℕ) (me : SeatState) (live : HasPlace me.0.epoch) where
+  abbrev v : View
+  v = me.0
+
+  abbrev γ : ℕ
+  γ = me.0.stakes.book
+
+  abbrev sizes : Sizes
+  sizes = me.0.sizes
+
+  abbrev n : ℕ
+  n = me.0.sizes.participants
+
+  abbrev May : ℕ → (ℕ → ℕ) → (ℕ → SeatState → Type 0) → Type 0
+  May = steps.May slots id me live
+
+  module _ (slot : ℕ) (inside : slot < sizes.slots) where
+    abbrev i : ℕ
+    i = slot_word sizes slot
+
+    -- where nobody moves a slot's value the last fraction is at home
+    module _ (s : State ValueFraction View) (h : DomainInvariant γ sizes s) (still : (j : ℕ) (u : View) → get_elem? s.views j ≡ some u → ¬ (Moves u slot)) where
+      last_home : (z : ValueFraction) × LastIs sizes s.homes slot z
+      last_home = h.homes.back slot n inside (omega arith) (λ j u e out. ⊎_elim (λ (m : Moves u slot). still j u e m)
+          (λ (o : SeesFrom u slot n). let is_open = (h.kept.parts.slots.each j u e).guarded slot o.0 in
+          let near = (h.kept.parts.epoch.each j u.epoch (at_map epoch_of s.views j u e)).inside (omega arith) in absurd (omega arith)) out)
+
+      -- and what lies at home shows what that does
+      all_shown : (p : ℕ) (z : ValueFraction) → p ≤ n → LiesAt n s.homes slot p z → z.lot.shown ≡ last_home.0.lot.shown
+      all_shown p z near lies = h.lasts.alike slot p z last_home.0 inside near lies last_home.1
+
+    -- an item that is out as raw
+    module _ (s : State ValueFraction View) (h : DomainInvariant γ sizes s) (hit : slot_at sizes s.words slot ≡ raw_word 0) where
+      dead : alive (slot_at sizes s.words slot) ≡ 0
+      dead = ap alive hit ∙ (raw_is 0 (omega arith)).0
+
+      quiet : waiting (slot_at sizes s.words slot) ≡ 0
+      quiet = ap waiting hit ∙ (raw_is 0 (omega arith)).1
+
+      filled : full (slot_at sizes s.words slot) ≡ 1
+      filled = ap full hit ∙ (raw_is 0 (omega arith)).2
+
+      still : (j : ℕ) (u : View) → get_elem? s.views j ≡ some u → ¬ (Moves u slot)
+      still j u e = steps.still_free γ sizes s h slot j u e dead quiet
+
+      abbrev last : ValueFraction
+      last = (last_home s h still).0
+
+      abbrev lies : LastIs sizes s.homes slot last
+      lies = (last_home s h still).1
+
+      -- the slots are as full as before once it is owned
+      as_before : (y : ℕ) → full y ≡ 1 → (j : ℕ) → j < sizes.slots → full_at sizes (set s.words i y) j ≡ full_at sizes s.words j
+      as_before y one j low = dite (ℕ_discrete j slot)
+          (λ e. subst (λ (k : ℕ). full_at sizes (set s.words i y) k ≡ full_at sizes s.words k) (sym e)
+          (ap full (steps.here slots id me live slot inside s.words y (steps.within slots id me live slot inside s h)) ∙ (one ∙ sym filled)))
+          (λ ne. steps.others slots id me live slot inside s.words y j low ne)
+
+    -- nothing changes
+    unmoved : (s : State ValueFraction View) → DomainInvariant γ sizes s → get_elem? s.views id ≡ some v → (told : ℕ → SeatState → Type 0)
+        → told (get_or s.words i 0) me → Follows γ sizes id i me told s (get_or s.words i 0) v
+    unmoved s h at told tells = let x : ℕ = get_or s.words i 0 in record {
+      stakes = v.stakes;
+      act = keeps;
+      valid = tt;
+      homes = part.calm γ sizes s.words s.views s.homes h.homes id v at (set s.words i x) v (λ j p out. out)
+          (λ j _. steps.same_words slots id me live slot inside s h j) (h.homes.moving id v at);
+      records = records.calm sizes s.views s.homes h.records id v at v (refl, refl, refl, (λ _. refl), refl);
+      counts = uncounted sizes s.words s.views h.counts id v at (set s.words i x) v refl (λ l. l)
+          (as_full sizes s.words (set s.words i x) (λ j _. steps.same_words slots id me live slot inside s h j))
+          (steps.over_slot slots id me live slot inside s h x);
+      filled = steps.still_filled slots id me live s h at v refl refl refl;
+      bank = banks.alike γ sizes s.words s.views h.bank id v at (set s.words i x) v (refl, refl, refl, (λ _. refl), refl)
+          (λ j _. steps.same_words slots id me live slot inside s h j);
+      lasts = lasts_fewer sizes s.words s.views s.homes h.lasts id v at (set s.words i x) v s.homes (λ _ _ _ _ l. l) (λ b. (b, refl)) refl
+          (λ _ _. inl live) (raws_same sizes s.words i);
+      tells = tells;
+    }
+
+    -- it goes out as raw: its owner's unit is in the bank
+    pub turns_raw : v.slots.owns ≡ slot ∷ [] → ¬ (Holds v slot) → v.slots.drawn ≡ [] → v.stakes.moves ≡ None → (value : Gv)
+        → get_elem? v.stakes.owns 0 ≡ some (record { slot = slot; shared = false; value = value })
+        → May i (λ _. raw_word 0) (λ _. OfSlot TurnsRawOne i me (raw_word 0))
+    turns_raw owns free empty rests value first = let y : ℕ = raw_word 0 in let told : ℕ → SeatState → Type 0 = λ _. OfSlot TurnsRawOne i me y in
+        let own = owns_it v slot owns in let r : ShownValue = record { slot = slot; shared = false; value = value } in
+        lift_homes γ sizes slots id me i (λ _. y) (λ _. AtSlot TurnsRaw i v y) told
+        (steps.spares slots id me live slot inside (λ _. y) (λ _. AtSlot TurnsRaw i v y) (λ r w t. ap (λ (u : View). u.places) (t slot refl)))
+        (words.turns_raw id v live slot 0 inside own free (omega arith))
+        (λ s w h at t. let one = ((h.kept.parts.slots.each id v at).alone slot own).0 in
+        let was = full_owned (slot_at sizes s.words slot) (omega arith) in let now : View = untold (turned_raw slot y v) in
+        let low = steps.within slots id me live slot inside s h in
+        let word : slot_at sizes (set s.words i y) slot ≡ y = steps.here slots id me live slot inside s.words y low in
+        let same : (j : ℕ) → j < sizes.slots → full_at sizes (set s.words i y) j ≡ full_at sizes s.words j
+        = λ j near. dite (ℕ_discrete j slot)
+        (λ e. subst (λ (k : ℕ). full_at sizes (set s.words i y) k ≡ full_at sizes s.words k) (sym e)
+        (ap full word ∙ ((raw_is 0 (omega arith)).2 ∙ sym was)))
+        (λ ne. steps.others slots id me live slot inside s.words y j near ne) in
+        let mine = records.mine sizes s.views s.homes h.records id v at in
+        let known : IsKnown s.views slot value = mine slot value (inl (0, r, first, refl, refl)) in
+        subst (Follows γ sizes id i me told s y) (sym (t slot refl)) record {
+          stakes = now.stakes;
+          act = keeps;
+          valid = tt;
+          homes = part.calm γ sizes s.words s.views s.homes h.homes id v at (set s.words i y) now (λ j p out. out) same (none_out now rests);
+          records = records.no_more sizes s.views s.homes h.records id v at now s.homes (turned_tells v (h.records.each id v at) slot owns rests y)
+              (λ j g k. known_by now j g (λ a. absurd (in_none j g a)) (λ a. mine j g (inr (inl a))) (λ a. mine j g (inr (inr a))) k)
+              (λ j p z _ _ lies. inl lies) (λ j m. m) (λ j a. a);
+          counts = uncounted sizes s.words s.views h.counts id v at (set s.words i y) now refl (λ l. l)
+              (as_full sizes s.words (set s.words i y) same) (steps.over_slot slots id me live slot inside s h y);
+          filled = steps.filled_by slots id me live s h at now refl
+              (steps.tells_old_by slots id me live s h at now (λ r a. absurd (has_none r [] refl a)) (λ r a. inr a));
+          bank = banks.calm γ sizes s.words s.views h.bank id v at (set s.words i y) now
+              record { bank = refl; founds = refl; book = refl; banked = refl; drawn = refl } refl
+              (λ k. let z = ap (times k) empty in omega arith) same;
+          lasts = lasts_out sizes s.words s.views s.homes h.lasts id v at slot (set s.words i y) now (λ b. (b, refl)) refl (λ l. l)
+              (λ single j u e placed z last. subst (λ (g : Gv). newest slot u.stakes.filled ≡ Some (record { slot = slot; shared = false; value = g }))
+              (sym (h.records.home slot n value z inside (omega arith) known last))
+              (h.filled.knows single j id u v r e placed at (inl (0, first))))
+              (raws_other sizes s.words slot y);
+          tells = steps.at_once slots id me live slot inside TurnsRawOne y (now, me.1) (refl, refl);
+        })
+
+    -- it comes back: the last fraction, which is at home, tells what it shows
+    pub regains : v.stakes.moves ≡ None → May i (λ x. either (eqb x (raw_word 0)) (owned_word 0) x)
+        (OfSlot (λ slot. RegainsOne slot (raw_word 0) (owned_word 0)) i me)
+    regains rests = let told : ℕ → SeatState → Type 0 = OfSlot (λ slot. RegainsOne slot (raw_word 0) (owned_word 0)) i me in
+        let f : ℕ → ℕ = λ x. either (eqb x (raw_word 0)) (owned_word 0) x in
+        lift_homes γ sizes slots id me i f (AtSlot (λ slot. Regains slot (raw_word 0) (owned_word 0)) i v) told
+        (steps.spares slots id me live slot inside f (AtSlot (λ slot. Regains slot (raw_word 0) (owned_word 0)) i v)
+        (λ r w t. let c = t slot refl in dite (ℕ_discrete r (raw_word 0)) (λ e. ap (λ (u : View). u.places) (c.0 e))
+        (λ ne. ap (λ (u : View). u.places) (c.1 ne))))
+        (words.regains id v live slot 0 inside (omega arith) (omega arith))
+        (λ s w h at t. let x : ℕ = get_or s.words i 0 in let c = t slot refl in let low = steps.within slots id me live slot inside s h in
+        exchanged x (raw_word 0) (owned_word 0) (λ y. Follows γ sizes id i me told s y w)
+        (λ hit. let y : ℕ = owned_word 0 in let z : ValueFraction = last s h hit in let value : Gv = z.lot.shown in
+        let now : View = regaining slot y value v in let r : ShownValue = record { slot = slot; shared = false; value = value } in
+        let own = owned_is 0 (omega arith) in let same = as_before s h hit y (full_owned y (let o = own.0 in omega arith)) in
+        let mine = records.mine sizes s.views s.homes h.records id v at in
+        subst (Follows γ sizes id i me told s y) (sym (c.0 hit)) record {
+          stakes = now.stakes;
+          act = keeps;
+          valid = tt;
+          homes = part.calm γ sizes s.words s.views s.homes h.homes id v at (set s.words i y) now (λ j p out. out) same (none_out now rests);
+          records = records.comes_to_learn sizes s.views s.homes h.records id v at slot n value z inside (omega arith) (lies s h hit)
+              (all_shown s h (still s h hit)) now s.homes (regained_tells v (h.records.each id v at) slot rests y value)
+              (λ j g k. known_by now j g (λ a. ⊎_elim (λ (e : (slot ≡ j) × (value ≡ g)). inl (sym e.0, sym e.1))
+              (λ (b : IsIn v.stakes.owns j g). inr (mine j g (inl b))) (in_either r v.stakes.owns j g a))
+              (λ a. inr (mine j g (inr (inl a)))) (λ a. inr (mine j g (inr (inr a)))) k)
+              (λ j p z l. l)
+              (λ j m. absurd (none_moved now j rests m))
+              (λ j u _ e. ((λ k m. absurd (none_moved now k rests m)), (λ k m sees. h.records.apart j id u v k e at m sees)));
+          counts = uncounted sizes s.words s.views h.counts id v at (set s.words i y) now refl (λ l. l)
+              (as_full sizes s.words (set s.words i y) same) (steps.over_slot slots id me live slot inside s h y);
+          filled = filled_learned sizes s.views h.filled id v at now refl (λ l. l) r
+              (λ q told. ⊎_elim (λ (a : HasRecord (r ∷ v.stakes.owns) q). ⊎_elim (λ (b : q ≡ r). inl b) (λ (b : HasRecord v.stakes.owns q). inr (id, v, at, inl b))
+              (has_more r v.stakes.owns q a.0 a.1))
+              (λ (a : HasRecord v.stakes.waits q). inr (id, v, at, inr a)) told)
+              (λ one j u e placed. h.lasts.raw one j u e placed slot z inside hit (lies s h hit));
+          bank = banks.calm γ sizes s.words s.views h.bank id v at (set s.words i y) now
+              record { bank = refl; founds = refl; book = refl; banked = refl; drawn = refl } refl
+              (λ k. let l = h.bank.low id v at k in omega arith) same;
+          lasts = lasts_fewer sizes s.words s.views s.homes h.lasts id v at (set s.words i y) now s.homes (λ _ _ _ _ l. l) (λ b. (b, refl)) refl
+              (λ _ _. inl live) (raws_set sizes s.words slot y low (λ e. absurd (omega arith)));
+          tells = steps.at_once slots id me live slot inside (λ slot. RegainsOne slot (raw_word 0) (owned_word 0)) x (now, me.1)
+              ((λ _. (value, refl, λ lone. h.lasts.raw (steps.one_place γ sizes s h id v at lone) id v at live slot z inside hit (lies s h hit))), (λ no. absurd (no hit)), c.2);
+        })
+        (λ miss. subst (Follows γ sizes id i me told s x) (sym (c.1 miss)) (unmoved s h at told
+        (steps.at_once slots id me live slot inside (λ slot. RegainsOne slot (raw_word 0) (owned_word 0)) x me ((λ hit. absurd (miss hit)), (λ _. refl), c.2)))))
+
+    -- a guard sees it while it is out as raw
+    module _ (is_open : IsOpen v.epoch) (near : v.epoch.place < n) (rests : v.stakes.moves ≡ None) where
+      abbrev q : ℕ
+      q = v.epoch.place
+
+      abbrev spot : ℕ
+      spot = stake_at n slot q
+
+      -- the fraction of its own place is at home, as it doesn't see the slot yet
+      own_home : (s : State ValueFraction View) (h : DomainInvariant γ sizes s) → get_elem? s.views id ≡ some v → slot_at sizes s.words slot ≡ raw_word 0
+          → ¬ (Sees v slot) → (y : ValueFraction) × LiesAt n s.homes slot q y × Has γ slot 1 (IsValue y.lot.shown) y
+      own_home s h at hit unseen = let p = h.kept.parts in
+          let b = h.homes.back slot q inside (omega arith) (λ j x e out. ⊎_elim (λ (m : Moves x slot). still s h hit j x e m)
+          (λ (o : SeesFrom x slot q). dite (ℕ_discrete id j)
+          (λ same. unseen (subst (λ (z : View). Sees z slot) (one_view s.views id j x v e at (sym same)) o.0))
+          (λ ne. let theirs = (p.slots.each j x e).guarded slot o.0 in
+          let apart = (p.epoch.two id j v.epoch x.epoch ne (at_map epoch_of s.views id v at)
+          (at_map epoch_of s.views j x e)).places live (omega arith) in apart (sym o.1))) out) in let y : ValueFraction = b.0 in
+          let has = h.homes.home slot q y inside (omega arith) b.1 in (
+            y,
+            b.1,
+            subst (λ (k : ℕ). Has γ slot k (IsValue y.lot.shown) y) (share_one n (away n (full_at sizes s.words slot)) q near)
+                (has.0, (has.1.0 (filled s h hit), refl)),
+          )
+
+      pub sees_raw : May i (λ x. x) (OfSlot (λ slot. SeesRawOne slot (raw_word 0)) i me)
+      sees_raw = let told : ℕ → SeatState → Type 0 = OfSlot (λ slot. SeesRawOne slot (raw_word 0)) i me in
+          let R : ℕ → SeatState → ℕ → SeatState → Type 0 = λ slot. SeesRawOne slot (raw_word 0) in
+          lift_homes γ sizes slots id me i (λ x. x) (AtSlot (λ slot. SeesRaw slot (raw_word 0)) i v) told
+          (steps.spares slots id me live slot inside (λ x. x) (AtSlot (λ slot. SeesRaw slot (raw_word 0)) i v)
+          (λ r w t. let c = t slot refl in dite (ℕ_discrete r (raw_word 0))
+          (λ e. dite (dec_lt 0 (times slot v.slots.sees)) (λ sees. ap (λ (u : View). u.places) (c.1 (inr sees)))
+          (λ unseen. ap (λ (u : View). u.places) (c.0 e unseen)))
+          (λ ne. ap (λ (u : View). u.places) (c.1 (inl ne)))))
+          (words.sees_raw id v live slot 0 is_open (omega arith))
+          (λ s w h at t. let x : ℕ = get_or s.words i 0 in let c = t slot refl in let r = h.records in let tells = r.each id v at in
+          let mine = records.mine sizes s.views s.homes r id v at in dite (ℕ_discrete x (raw_word 0))
+          (λ hit. let z : ValueFraction = last s h hit in let value : Gv = z.lot.shown in
+          let knew = λ (lone : IsLone v.epoch). h.lasts.raw (steps.one_place γ sizes s h id v at lone) id v at live slot z inside hit (lies s h hit) in
+          dite (dec_lt 0 (times slot v.slots.sees))
+          (λ sees. let is = told_seen v tells slot sees in
+          let shows : is.0 ≡ value = sym (r.home slot n is.0 z inside (omega arith) (mine slot is.0 (inr (inl is.1))) (lies s h hit)) in
+          subst (Follows γ sizes id i me told s x) (sym (c.1 (inr sees))) (unmoved s h at told
+          (steps.at_once slots id me live slot inside R x me (
+            (λ _. (
+              value,
+              ((λ _. (refl, subst (IsIn v.stakes.sees slot) shows is.1)), (λ unseen. absurd (unseen sees))),
+              knew,
+            )),
+            (λ no. absurd (no hit)),
+            c.2,
+          ))))
+          (λ unseen. let b = own_home s h at hit unseen in let y : ValueFraction = b.0 in
+          let shows : y.lot.shown ≡ value = all_shown s h (still s h hit) q y (omega arith) b.1 in
+          let now : View = sighting slot false value v in let record_now : ShownValue = record { slot = slot; shared = false; value = value } in
+          let one = is_same slot slot refl in subst (Follows γ sizes id i me told s x) (sym (c.0 hit unseen)) record {
+            stakes = now.stakes;
+            act = takes spot y;
+            valid = b.1;
+            homes = subst (λ (ws : List ℕ). FractionsInvariant γ sizes ws (set s.views id now) (set s.homes spot none)) (sym (set-get_or s.words i 0))
+                (part.takes_one γ sizes s.words s.views s.homes h.homes id v at slot q (omega arith) now (inr (omega arith, refl))
+                (λ j p out. let o = only_seen v rests j p out in inr (let a = o.0 in omega arith, o.1))
+                (none_out now rests));
+            records = records.comes_to_learn sizes s.views s.homes r id v at slot n value z inside (omega arith) (lies s h hit)
+                (all_shown s h (still s h hit)) now (set s.homes spot none)
+                record {
+                  owns = tells.owns;
+                  owned = tells.owned;
+                  sees = ap (λ (l : List ℕ). slot ∷ l) tells.sees;
+                  waits = tells.waits;
+                  waiting = tells.waiting;
+                }
+                (λ j g k. known_by now j g (λ a. inr (mine j g (inl a))) (λ a. ⊎_elim
+                (λ (e : (slot ≡ j) × (value ≡ g)). inl (sym e.0, sym e.1))
+                (λ (d : IsIn v.stakes.sees j g). inr (mine j g (inr (inl d)))) (in_either record_now v.stakes.sees j g a)) (λ a. inr (mine j g (inr (inr a)))) k)
+                (λ j p u l. one_taken s.homes spot (stake_at n j p) u l)
+                (λ j m. absurd (none_moved v j rests m))
+                (λ j u _ e. (
+                  (λ k m. absurd (none_moved v k rests m)),
+                  (λ k m sees. dite (ℕ_discrete k slot) (λ same. still s h hit j u e (subst (Moves u) same m))
+                      (λ ne. r.apart j id u v k e at m (let o = is_other k slot (λ e. ne (sym e)) in omega arith))),
+                ));
+            counts = uncounted sizes s.words s.views h.counts id v at (set s.words i x) now refl (λ l. l)
+                (as_full sizes s.words (set s.words i x) (λ j _. steps.same_words slots id me live slot inside s h j))
+                (steps.over_slot slots id me live slot inside s h x);
+            filled = steps.still_filled slots id me live s h at now refl refl refl;
+            bank = banks.calm γ sizes s.words s.views h.bank id v at (set s.words i x) now
+                record { bank = refl; founds = refl; book = refl; banked = refl; drawn = refl } refl (h.bank.low id v at)
+                (λ j _. steps.same_words slots id me live slot inside s h j);
+            lasts = lasts_fewer sizes s.words s.views s.homes h.lasts id v at (set s.words i x) now (set s.homes spot none)
+                (λ j p u _ l. one_taken s.homes spot (stake_at n j p) u l) (λ b. (b, refl)) refl (λ _ _. inl live) (raws_same sizes s.words i);
+            tells = steps.at_once slots id me live slot inside R x (now, (spot, y) ∷ me.1) (
+              (λ _. (
+                value,
+                (
+                  (λ sees. absurd (unseen sees)),
+                  (λ _. (y, subst (λ (g : Gv). Has γ slot 1 (IsValue g) y) shows b.2, refl)),
+                ),
+                knew,
+              )),
+              (λ no. absurd (no hit)),
+              c.2,
+            );
+          }))
+          (λ miss. subst (Follows γ sizes id i me told s x) (sym (c.1 (inl miss))) (unmoved s h at told
+          (steps.at_once slots id me live slot inside R x me ((λ hit. absurd (miss hit)), (λ _. refl), c.2)))))
+
+    -- its owner draws its unit from the bank
+    pub draws_unit : (bd : ℕ) → OwnsAlone v slot → v.slots.drawn ≡ [] → v.stakes.moves ≡ None → (value : Gv) → IsIn v.stakes.owns slot value
+        → steps.MayDeal slots id me live slot inside bd Leaves (λ _. Unit {0}) (DrawsUnit slot value me)
+    draws_unit bd own empty rests value told s b h _ at there bank ne = let w : View = drawing slot v in let p = h.kept.parts in
+        let one = ((p.slots.each id v at).alone slot own).0 in let filled = full_owned (slot_at sizes s.words slot) (omega arith) in
+        let still : (j : ℕ) (u : View) → get_elem? s.views j ≡ some u → ¬ (Moves u slot)
+        = λ j u e. dite (ℕ_discrete id j)
+        (λ same m. none_moved v slot rests (subst (λ (x : View). Moves x slot) (one_view s.views id j u v e at (sym same)) m))
+        (λ apart. steps.still_owned γ sizes s h slot id j v u at e apart (omega arith)) in
+        let undrawn : total (drawn_at slot) s.views ≡ 0 = total_zero (drawn_at slot) s.views (λ j u e. dite (ℕ_discrete id j)
+        (λ same. ap (drawn_at slot) (one_view s.views id j u v e at (sym same)) ∙ ap (times slot) empty)
+        (λ apart. let low = h.bank.low j u e slot in
+        let both = owners_in codes sound sizes s.words s.views p.slots id j slot v u apart at e in omega arith)) in
+        let nobody = total_zero (moves_at slot) s.views (λ j u e. moves_none slot u (still j u e)) in
+        let was = outside_there sizes s.words s.views slot (λ empty. omega arith) nobody in
+        let balance = h.bank.banks bd b there bank in let deposits = balance.deposits in let sum = balance.sums slot inside in let few = h.homes.few in
+        let d = draws γ slot 1 (banked b) deposits (omega arith) (omega arith) in let l : FractionContent = d.0 in let ls : List FractionContent = d.1 in
+        let goes = d.3 in let vs' : List View = set (set s.views id w) bd (with_deposits ls b) in
+        let z = last_home s h still in
+        let shows = h.records.home slot n value z.0 inside (omega arith) (records.mine sizes s.views s.homes h.records id v at slot value (inl told)) z.1 in
+        let leaves = shown_leaves slot z.0.lot.shown (banked b) l ls goes.goes (h.lasts.banks bd b there bank slot z.0 inside z.1) in
+        let is : l.shown ≡ value = leaves.1 goes.number ∙ shows in
+        let tells = h.records.each id v at in record {
+          view = w;
+          bank = with_deposits ls b;
+          lot = l;
+          act = keeps;
+          valid = tt;
+          holds = stands_dealt γ sizes id v s h at w refl
+              (blind_units sizes s.words s.views id v v at (subst (Parts sizes s.words) (sym (set_again s.views id v at)) p) v.stakes (slot ∷ v.slots.drawn))
+              s.homes
+              (part.calm γ sizes s.words s.views s.homes h.homes id v at s.words w (λ j p out. out) (λ j _. refl) (h.homes.moving id v at))
+              (records.no_more sizes s.views s.homes h.records id v at w s.homes
+              record { owns = tells.owns; owned = tells.owned; sees = tells.sees; waits = tells.waits; waiting = tells.waiting }
+              (records.mine sizes s.views s.homes h.records id v at) (λ j p y _ _ l. inl l) (λ j m. m) (λ j a. a))
+              (uncounted_alone sizes s.words s.views h.counts id v at w refl refl) (steps.still_filled slots id me live s h at w refl refl refl) bd b there ne ls
+              (banks.deals γ sizes s.words s.views h.bank id v at bd b there bank ne w ls goes.deposits refl refl
+              (λ k. dite (ℕ_discrete k slot)
+              (λ e. let o = is_same k slot (sym e) in let c = ap (times k) empty in let m = ap (λ (j : ℕ). times j v.slots.owns) e in omega arith)
+              (λ apart. let o = is_other k slot (λ e. apart (sym e)) in let low = h.bank.low id v at k in omega arith))
+              (λ k near. let u = outside_same sizes s.words s.words s.views vs' k refl
+              (let t = banks.total_dealt γ sizes s.words s.views h.bank id v at bd b there bank ne (moves_at k) w ls refl in omega arith) in
+              dite (ℕ_discrete k slot)
+              (λ e. let o = is_same k slot (sym e) in let less = goes.less in let units = d.2 in let x = ap (λ (y : ℕ). units_at y ls) e in
+              let y = ap (λ (y : ℕ). units_at y (banked b)) e in omega arith)
+              (λ apart. let o = is_other k slot (λ e. apart (sym e)) in let same = goes.others k apart in omega arith)))
+              (lasts_dealt sizes s.words (set s.views id w) s.homes
+              (lasts_fewer sizes s.words s.views s.homes h.lasts id v at s.words w s.homes (λ _ _ _ _ l. l) (λ b. (b, refl)) refl (λ _ _. inl live)
+              (λ _ _ raw. raw))
+              γ bd b (set_else s.views id bd w (λ e. ne (sym e)) ∙ there) bank ls balance.book goes.deposits
+              (λ k z low last show. (shown_leaves k z.lot.shown (banked b) l ls goes.goes show).0));
+          ours = bank;
+          goes = subst (Leaves (banked b) l) (sym (banked_then γ ls b balance.book goes.deposits)) goes.goes;
+          offered = tt;
+          then = (refl, refl, λ i. record l { book = goes.book i; number = goes.number i; shown = is i; units = d.2 i; lent = goes.free i });
+        }

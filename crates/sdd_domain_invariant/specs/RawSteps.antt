@@ -1,0 +1,38 @@
+-- What each step on an item makes of the seat that goes out as raw, is seen meanwhile, and comes back
+use Rattle.std.specs.Prelude.{◌≡◌, ◌≢◌, ℕ, false, ◌∷◌}
+use base.Stored.{Gv}
+use Rattle.sdd_shared_values.specs.ValueFractions.{FractionContent}
+use Rattle.sdd_shared_values.specs.SharedValues.{lot}
+use Rattle.sdd_views.specs.declared.View.{View}
+use Rattle.sdd_word_invariant.specs.Epoch.{IsLone}
+use Rattle.sdd_word_invariant.specs.SlotSteps.{Knew, claimed, turned_raw}
+use Rattle.sdd_domain_invariant.specs.FractionSteps.{SeatState, IsNewest, SeesOwned, untold, drawing, book_of}
+
+-- the item of its only owner is out as raw, and it knows no more what the slot shows
+abbrev pub TurnsRawOne : ℕ → SeatState → ℕ → SeatState → Type 0
+TurnsRawOne slot me y me' = (me'.0 ≡ untold (turned_raw slot y me.0)) × (me'.1 ≡ me.1)
+
+-- it has the only owner of a slot that is out as raw, and knows what the slot shows
+abbrev pub regaining : ℕ → ℕ → Gv → View → View
+regaining slot y value v = record (claimed slot y v) {
+  stakes = record v.stakes { owns = record { slot = slot; shared = false; value = value } ∷ v.stakes.owns };
+}
+
+-- what a slot shows that is out as raw a lone participant moved in last, for an owner that was the only one
+abbrev pub KnewRaw : ℕ → Gv → View → Type 0
+KnewRaw slot value v = IsLone v.epoch → IsNewest slot false value v
+
+-- an owner of an item is made that is out as raw, whose word is old then; the owner has no unit yet
+abbrev pub RegainsOne : ℕ → ℕ → ℕ → SeatState → ℕ → SeatState → Type 0
+RegainsOne slot old y me x me' =
+    (x ≡ old → (value : Gv) × (me' ≡ (regaining slot y value me.0, me.1)) × KnewRaw slot value me.0)
+    × (x ≢ old → me' ≡ me) × Knew slot me.0 x
+
+-- a guard sees an item that is out as raw, whose word is old then
+abbrev pub SeesRawOne : ℕ → ℕ → SeatState → ℕ → SeatState → Type 0
+SeesRawOne slot old me x me' = (x ≡ old → (value : Gv) × SeesOwned slot false value me me' × KnewRaw slot value me.0)
+    × (x ≢ old → me' ≡ me) × Knew slot me.0 x
+
+-- the owner of a slot that shows this has its unit from now on, which is drawn from the bank
+abbrev pub DrawsUnit : ℕ → Gv → SeatState → FractionContent → SeatState → Type 0
+DrawsUnit slot value me l me' = (me'.0 ≡ drawing slot me.0) × (me'.1 ≡ me.1) × (l ≡ lot (book_of me) slot l.round value 1)
