@@ -9,5 +9,6 @@ pub mod Fillings
 pub mod Telling
 pub mod Lift
 pub mod Steps
+pub mod JobSteps
 pub mod Tokens
 pub mod Laid

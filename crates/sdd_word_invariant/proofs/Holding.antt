@@ -39,7 +39,7 @@ module _ (z : WordReading) (sound : IsWordReading z) (sizes : Sizes) (ws : List 
       = λ j e. ap (λ (a : ℕ). slot_at sizes (set ws (slot_word sizes i) y) a) e ∙ get_or-set_same ws (slot_word sizes i) y 0 (omega arith) in
       let there : (j : ℕ) → j ≢ i → slot_at sizes (set ws (slot_word sizes i) y) j ≡ slot_at sizes ws j
       = λ j ne. get_or-set_other ws (slot_word sizes i) (slot_word sizes j) y 0 (λ e. ne (omega arith)) in
-      slot_step z sound sizes ws vs s id v at i y w inside here (λ j ne. let e = else j ne in omega arith) (omega arith) (λ j ne. refl) full
+      slot_step z sound sizes ws vs s id v at i y w (omega arith) here (λ j ne. let e = else j ne in omega arith) (omega arith) (λ j ne. refl) full
       (not_alone z sound sizes ws vs s id v at i (inl mine))
       record {
         timed = f.timed;
@@ -95,7 +95,7 @@ module _ (z : WordReading) (sound : IsWordReading z) (sizes : Sizes) (ws : List 
     pub discards : (i y : ℕ) (known : List ℕ) → i < sizes.slots → Holds v i → sizes.participants ≤ v.slots.looked → z.alive y ≡ 0 → z.waiting y ≡ 0
         → SlotsInvariant z sizes (set ws (slot_word sizes i) y) (set vs id (holding v (without i v.slots.owns) None 0 known))
     discards i y known inside held all none quiet = let mine = (s.each id v at).held i held in let a = ((s.each id v at).alone i mine).0 in
-        let l = sound.lives (slot_at sizes ws i) (omega arith) in let o = alone_is z sound sizes ws vs s id i v at mine in 
+        let l = sound.lives (slot_at sizes ws i) (omega arith) in let o = alone_is z sound sizes ws vs s id i v at mine in
         let gone = without_same i v.slots.owns in
         hold_step i y (without i v.slots.owns) None known inside (omega arith)
         (λ k h. let c : Some i ≡ Some k = sym held ∙ h in let e : k ≡ i = cc in e) (omega arith)
