@@ -3,3 +3,4 @@ pub mod Zeros
 pub mod Shown
 pub mod Ending
 pub mod Lasts
+pub mod JobsAllowed

@@ -2,6 +2,7 @@
 use Rattle.std.specs.Prelude.{ℕ}
 use Rattle.atomic_table.specs.Seated.{TableId}
 use Rattle.sdd_views.specs.declared.Sizes.{Sizes}
+use Rattle.sdd_word_invariant.specs.Words.{most_waiting}
 use Rattle.sdd_atomics.specs.declared.domain_table.DomainTable.{DomainTable}
 use Rattle.sdd_atomics.specs.declared.domain_table.TableLayout.{TableLayout}
 
@@ -25,3 +26,7 @@ places_of b = (sizes_of b).participants
 
 abbrev pub slots_of : DomainTable → ℕ
 slots_of b = (sizes_of b).slots
+
+-- how much may wait in it: an item for each slot, and a job for each place of one
+abbrev pub most_waiting_of : DomainTable → ℕ
+most_waiting_of b = most_waiting (sizes_of b)

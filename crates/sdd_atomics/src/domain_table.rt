@@ -95,10 +95,10 @@ impl DomainTable {
         }
     }
 
-    /// Where the word of a slot is.
+    /// Where the word of a slot is, or of a job's place, whose number comes after those of the slots.
     #[inline]
     pub fn slot_word(&self, slot: u32) -> usize
-        requires { slot < (sizes_of self.now).slots }
+        requires { slot < words.most_waiting (sizes_of self.now) }
         ensures { result ≡ words.slot_word (sizes_of self.now) slot }
     {
         self.first_slot + slot as usize

@@ -5,7 +5,7 @@ ghost use Rattle.sdd_word_invariant.specs.SlotSteps.{OnEpoch, PublishesAll, Look
 ghost use Rattle.sdd_word_invariant.specs.Barred.{Bars, LooksForValue};
 ghost use Rattle.sdd_views.specs.Views.{owner_token};
 ghost use Rattle.sdd_domain_invariant.specs.BankInvariant.{founded, bank_of};
-ghost use Rattle.sdd_domain_invariant.specs.FractionSteps.{ClaimsAll, TakesOut, TakesHeld, IsDeposit, RetiresOne, GivesAll, DiscardsAll, ClosesHome, EndsAll, EntersUnit, OfSlot, parting, departing, regained, uncounting, counts_of, counting};
+ghost use Rattle.sdd_domain_invariant.specs.FractionSteps.{ClaimsAll, TakesOut, TakesHeld, IsDeposit, RetiresOne, GivesAll, DefersJob, GivesPlace, DiscardsAll, ClosesHome, EndsAll, EntersUnit, OfSlot, parting, departing, regained, uncounting, counts_of, counting};
 ghost use Rattle.sdd_atomics.specs.DomainSeat.{Sits, Told, HousesMoved, WatchesOwned, RecallsOwned};
 
 use atomic_table::{Join, Play, Split};
@@ -143,6 +143,18 @@ pub struct GiveBack;
 
 impl Play<ValueFraction, View> for GiveBack {
     ghost then = { λ step. OfSlot GivesAll step.word };
+}
+
+pub struct Defer;
+
+impl Play<ValueFraction, View> for Defer {
+    ghost then = { λ step. OfSlot (λ place. DefersJob place step.first step.second) step.word };
+}
+
+pub struct GivePlaceBack;
+
+impl Play<ValueFraction, View> for GivePlaceBack {
+    ghost then = { λ step. OfSlot GivesPlace step.word };
 }
 
 pub struct LookAtSlot;

@@ -35,11 +35,10 @@ pub fn count_word(place: usize) -> usize
 /// Where the slots' words begin.
 pub fn first_slot(sizes: &Sizes) -> u64
     requires places { sizes.now.participants ≤ 2 ^ 32 }
-    requires jobs { sizes.now.jobs ≤ 2 ^ 32 }
     requires cells { sizes.now.cells ≤ 2 ^ 32 }
     ensures { result ≡ words.first_slot sizes.now }
 {
-    LINE as u64 * sizes.participants + FIRST_PLACE as u64 + sizes.jobs + 2 * sizes.cells
+    LINE as u64 * sizes.participants + FIRST_PLACE as u64 + 2 * sizes.cells
 }
 
 /// How many words there are.
@@ -50,5 +49,5 @@ pub fn word_count(sizes: &Sizes) -> u64
     requires cells { sizes.now.cells ≤ 2 ^ 32 }
     ensures { result ≡ words.all_words sizes.now }
 {
-    first_slot(sizes) + sizes.slots
+    first_slot(sizes) + sizes.slots + sizes.jobs
 }

@@ -11,5 +11,6 @@ pub mod Telling
 pub mod Lift
 pub mod Steps
 pub mod RawSteps
+pub mod JobSteps
 pub mod Tokens
 pub mod Laid

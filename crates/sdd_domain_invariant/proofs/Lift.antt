@@ -308,7 +308,7 @@ module _ (γ : ℕ) (sizes : Sizes) (id : ℕ) (v : View) (s : State ValueFracti
         };
         homes = part.calm γ sizes s.words vs hs lie bd b now s.words b' (λ i p out. out) (λ i _. refl) (lie.moving bd b now);
         records = records.no_more sizes vs hs told bd b now b' hs
-            record { owns = t.owns; owned = t.owned; sees = t.sees; waits = t.waits; waiting = t.waiting }
+            record { owns = t.owns; owned = t.owned; sees = t.sees; waits = t.waits; waiting = t.waiting; inside = t.inside }
             mine (λ i p y _ _ l. inl l) (λ i m. m) (λ i a. a);
         counts = uncounted_alone sizes s.words vs made bd b now b' refl refl;
         filled = filled_same sizes vs fill bd b now b' refl refl refl (λ live. live);

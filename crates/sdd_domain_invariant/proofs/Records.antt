@@ -97,40 +97,11 @@ pub in_kept : (slot : ℕ) (rs : List ShownValue) (i : ℕ) (g : Gv) → i ≢ s
 in_kept slot rs i g ne h = let a = in_total rs i g h in let kept = same_other slot i rs ne in total_in (without_record slot rs) i (omega arith)
 
 -- ---- one participant
-pub sees_told : (v : View) → IsTelling v → (i : ℕ) (g : Gv) → IsIn v.stakes.sees i g → Sees v i
+pub sees_told : {m : ℕ} (v : View) → IsTelling m v → (i : ℕ) (g : Gv) → IsIn v.stakes.sees i g → Sees v i
 sees_told v t i g h = subst (λ (l : List ℕ). 0 < times i l) t.sees (in_times v.stakes.sees i g h)
 
-pub told_seen : (v : View) → IsTelling v → (i : ℕ) → Sees v i → (g : Gv) × IsIn v.stakes.sees i g
+pub told_seen : {m : ℕ} (v : View) → IsTelling m v → (i : ℕ) → Sees v i → (g : Gv) × IsIn v.stakes.sees i g
 told_seen v t i h = in_some v.stakes.sees i (subst (λ (l : List ℕ). 0 < times i l) (sym t.sees) h)
-
--- what it knows of slots and of stakes is as before
-abbrev pub IsAlike : View → View → Type 0
-IsAlike v w = (record w.stakes { counts = v.stakes.counts } ≡ v.stakes) × (w.slots.owns ≡ v.slots.owns) × (w.slots.sees ≡ v.slots.sees)
-    × ((i : ℕ) → items_at i w ≡ items_at i v) × (w.slots.drawn ≡ v.slots.drawn)
-
-pub telling_alike : (v w : View) → IsAlike v w → IsTelling v → IsTelling w
-telling_alike v w same t = record {
-  owns = λ i g h. let b = t.owns i g (subst (λ (s : FractionsView). IsIn s.owns i g) same.0 h) in
-      (subst (λ (l : List ℕ). 0 < times i l) (sym same.1) b.0, λ m. b.1 (ap (λ (s : FractionsView). s.moves) (sym same.0) ∙ m));
-  owned = λ i o still. let b = t.owned i (subst (λ (l : List ℕ). 0 < times i l) same.1 o) (λ m. still (ap (λ (s : FractionsView). s.moves) same.0 ∙ m)) in
-      (b.0, subst (λ (s : FractionsView). IsIn s.owns i b.0) (sym same.0) b.1);
-  sees = ap (λ (s : FractionsView). map slot_shown s.sees) same.0 ∙ (t.sees ∙ sym same.2);
-  waits = λ i g h. let b = t.waits i g (subst (λ (s : FractionsView). IsIn s.waits i g) same.0 h) in
-      (subst (λ (k : ℕ). 0 < k) (sym (same.3 i)) b.0, λ m. b.1 (ap (λ (s : FractionsView). s.moves) (sym same.0) ∙ m));
-  waiting = λ i o still. let b = t.waiting i (subst (λ (k : ℕ). 0 < k) (same.3 i) o) (λ m. still (ap (λ (s : FractionsView). s.moves) same.0 ∙ m)) in
-      (b.0, subst (λ (s : FractionsView). IsIn s.waits i b.0) (sym same.0) b.1);
-}
-
--- one that owns nothing, sees nothing, and with which no item waits
-pub telling_none : (w : View) → w.stakes.owns ≡ [] → w.slots.owns ≡ [] → w.stakes.sees ≡ [] → w.slots.sees ≡ [] → w.stakes.waits ≡ []
-    → w.slots.waits ≡ [] → IsTelling w
-telling_none w e e' f f' q q' = record {
-  owns = λ i g h. absurd (in_none i g (subst (λ (l : List ShownValue). IsIn l i g) e h));
-  owned = λ i o still. let t = ap (times i) e' in absurd (omega arith);
-  sees = ap (map slot_shown) f ∙ sym f';
-  waits = λ i g h. absurd (in_none i g (subst (λ (l : List ShownValue). IsIn l i g) q h));
-  waiting = λ i o still. let t = ap (total (waits_in i)) q' in absurd (omega arith);
-}
 
 -- it knows it of a slot of its own, of one that it sees, or of one whose item waits with it
 pub known_by : {P : Type 0} (v : View) (i : ℕ) (g : Gv) → (IsIn v.stakes.owns i g → P) → (IsIn v.stakes.sees i g → P) → (IsIn v.stakes.waits i g → P)
@@ -141,6 +112,39 @@ pub knows_none : (w : View) → w.stakes.owns ≡ [] → w.stakes.sees ≡ [] �
 knows_none w e f q i g k = let none : (l : List ShownValue) → l ≡ [] → ¬ (IsIn l i g)
     = λ l z h. in_none i g (subst (λ (l : List ShownValue). IsIn l i g) z h) in
     known_by w i g (none w.stakes.owns e) (none w.stakes.sees f) (none w.stakes.waits q) k
+
+-- what it knows of slots and of stakes is as before
+abbrev pub IsAlike : View → View → Type 0
+IsAlike v w = (record w.stakes { counts = v.stakes.counts } ≡ v.stakes) × (w.slots.owns ≡ v.slots.owns) × (w.slots.sees ≡ v.slots.sees)
+    × ((i : ℕ) → items_at i w ≡ items_at i v) × (w.slots.drawn ≡ v.slots.drawn)
+
+pub telling_alike : {m : ℕ} (v w : View) → IsAlike v w → IsTelling m v → IsTelling m w
+telling_alike v w same t = record {
+  owns = λ i g h. let b = t.owns i g (subst (λ (s : FractionsView). IsIn s.owns i g) same.0 h) in
+      (subst (λ (l : List ℕ). 0 < times i l) (sym same.1) b.0, λ m. b.1 (ap (λ (s : FractionsView). s.moves) (sym same.0) ∙ m));
+  owned = λ i o still. let b = t.owned i (subst (λ (l : List ℕ). 0 < times i l) same.1 o) (λ m. still (ap (λ (s : FractionsView). s.moves) same.0 ∙ m)) in
+      (b.0, subst (λ (s : FractionsView). IsIn s.owns i b.0) (sym same.0) b.1);
+  sees = ap (λ (s : FractionsView). map slot_shown s.sees) same.0 ∙ (t.sees ∙ sym same.2);
+  waits = λ i g h. let b = t.waits i g (subst (λ (s : FractionsView). IsIn s.waits i g) same.0 h) in
+      (subst (λ (k : ℕ). 0 < k) (sym (same.3 i)) b.0, λ m. b.1 (ap (λ (s : FractionsView). s.moves) (sym same.0) ∙ m));
+  waiting = λ i low o still. let b = t.waiting i low (subst (λ (k : ℕ). 0 < k) (same.3 i) o) (λ m. still (ap (λ (s : FractionsView). s.moves) same.0 ∙ m)) in
+      (b.0, subst (λ (s : FractionsView). IsIn s.waits i b.0) (sym same.0) b.1);
+  inside = λ i g k. t.inside i g (known_by w i g (λ h. inl (subst (λ (s : FractionsView). IsIn s.owns i g) same.0 h))
+      (λ h. inr (inl (subst (λ (s : FractionsView). IsIn s.sees i g) same.0 h)))
+      (λ h. inr (inr (subst (λ (s : FractionsView). IsIn s.waits i g) same.0 h))) k);
+}
+
+-- one that owns nothing, sees nothing, and with which no item waits
+pub telling_none : {m : ℕ} (w : View) → w.stakes.owns ≡ [] → w.slots.owns ≡ [] → w.stakes.sees ≡ [] → w.slots.sees ≡ [] → w.stakes.waits ≡ []
+    → w.slots.waits ≡ [] → IsTelling m w
+telling_none w e e' f f' q q' = record {
+  owns = λ i g h. absurd (in_none i g (subst (λ (l : List ShownValue). IsIn l i g) e h));
+  owned = λ i o still. let t = ap (times i) e' in absurd (omega arith);
+  sees = ap (map slot_shown) f ∙ sym f';
+  waits = λ i g h. absurd (in_none i g (subst (λ (l : List ShownValue). IsIn l i g) q h));
+  waiting = λ i low o still. let t = ap (total (waits_in i)) q' in absurd (omega arith);
+  inside = λ i g k. absurd (knows_none w e f q i g k);
+}
 
 -- what the one moves the other doesn't see
 abbrev pub NotSeen : View → View → Type 0
@@ -156,7 +160,7 @@ module _ (sizes : Sizes) (vs : List View) (hs : FractionsAtHome) (part : Records
   n = sizes.participants
 
   -- all that is known was known before; and what comes home shows it
-  pub kept_by : (vs' : List View) (hs' : FractionsAtHome) → ((j : ℕ) (v : View) → get_elem? vs' j ≡ some v → IsTelling v)
+  pub kept_by : (vs' : List View) (hs' : FractionsAtHome) → ((j : ℕ) (v : View) → get_elem? vs' j ≡ some v → IsTelling sizes.slots v)
       → ((i : ℕ) (g : Gv) → IsKnown vs' i g → IsKnown vs i g)
       → ((i p : ℕ) (y : ValueFraction) → i < sizes.slots → p ≤ n → LiesAt n hs' i p y → LiesAt n hs i p y ⊎ ((g : Gv) → IsKnown vs i g → y.lot.shown ≡ g))
       → ((j k : ℕ) (v w : View) → get_elem? vs' j ≡ some v → get_elem? vs' k ≡ some w → NotSeen v w) → RecordsInvariant sizes vs' hs'
@@ -177,10 +181,10 @@ module _ (sizes : Sizes) (vs : List View) (hs : FractionsAtHome) (part : Records
       (λ h. let o = t.waits i g h in o.1 (movers k.0 k.1 k.2 (inr o.0))) k.3
 
   -- a new token, which moves none, and sees none
-  pub arrives : (t : View) → IsTelling t → ((i : ℕ) (g : Gv) → KnowsShown t i g → IsKnown vs i g) → t.stakes.moves ≡ None → t.slots.sees ≡ []
+  pub arrives : (t : View) → IsTelling sizes.slots t → ((i : ℕ) (g : Gv) → KnowsShown t i g → IsKnown vs i g) → t.stakes.moves ≡ None → t.slots.sees ≡ []
       → RecordsInvariant sizes (vs ++ t ∷ []) hs
   arrives t tells known rests blind = let still : (i : ℕ) → ¬ (Moves t i) = λ i m. let e : None ≡ Some i = sym rests ∙ m in cc in
-      kept_by (vs ++ t ∷ []) hs (each_snoc IsTelling vs t part.each tells)
+      kept_by (vs ++ t ∷ []) hs (each_snoc (IsTelling sizes.slots) vs t part.each tells)
       (λ i g k. ⊎_elim (λ (a : get_elem? vs k.0 ≡ some k.1). (k.0, k.1, a, k.3))
       (λ (e : t ≡ k.1). known i g (subst (λ (u : View). KnowsShown u i g) (sym e) k.3)) (at_snoc vs t k.1 k.0 k.2))
       (λ i p y _ _ l. inl l)
@@ -194,16 +198,16 @@ module _ (sizes : Sizes) (vs : List View) (hs : FractionsAtHome) (part : Records
     mine i g k = (id, v, at, k)
 
     -- the same of one participant's step
-    pub kept : (w : View) (hs' : FractionsAtHome) → IsTelling w → ((i : ℕ) (g : Gv) → KnowsShown w i g → IsKnown vs i g)
+    pub kept : (w : View) (hs' : FractionsAtHome) → IsTelling sizes.slots w → ((i : ℕ) (g : Gv) → KnowsShown w i g → IsKnown vs i g)
         → ((i p : ℕ) (y : ValueFraction) → i < sizes.slots → p ≤ n → LiesAt n hs' i p y → LiesAt n hs i p y ⊎ ((g : Gv) → IsKnown vs i g → y.lot.shown ≡ g))
         → NotSeen w w → ((j : ℕ) (u : View) → j ≢ id → get_elem? vs j ≡ some u → NotSeen w u × NotSeen u w) → RecordsInvariant sizes (set vs id w) hs'
     kept w hs' tells known lies self others = kept_by (set vs id w) hs'
-        (each_set IsTelling IsTelling vs id w tells (λ j u _ e. part.each j u e))
+        (each_set (IsTelling sizes.slots) (IsTelling sizes.slots) vs id w tells (λ j u _ e. part.each j u e))
         (λ i g k. ⊎_elim (λ (t : KnowsShown w i g). known i g t) (λ (t : IsKnown vs i g). t) (known_after vs id w i g k))
         lies (both_set NotSeen vs id w (λ j k a b e e' i. part.apart j k a b i e e') self others)
 
     -- as long as it moves no more than before, and sees no more
-    pub no_more : (w : View) (hs' : FractionsAtHome) → IsTelling w → ((i : ℕ) (g : Gv) → KnowsShown w i g → IsKnown vs i g)
+    pub no_more : (w : View) (hs' : FractionsAtHome) → IsTelling sizes.slots w → ((i : ℕ) (g : Gv) → KnowsShown w i g → IsKnown vs i g)
         → ((i p : ℕ) (y : ValueFraction) → i < sizes.slots → p ≤ n → LiesAt n hs' i p y → LiesAt n hs i p y ⊎ ((g : Gv) → IsKnown vs i g → y.lot.shown ≡ g))
         → ((i : ℕ) → Moves w i → Moves v i) → ((i : ℕ) → Sees w i → Sees v i) → RecordsInvariant sizes (set vs id w) hs'
     no_more w hs' tells known lies moves sees = kept w hs' tells known lies
@@ -219,7 +223,7 @@ module _ (sizes : Sizes) (vs : List View) (hs : FractionsAtHome) (part : Records
         (λ i s. subst (λ (l : List ℕ). 0 < times i l) same.2 s)
 
     -- it comes to move the value of a slot that nobody sees, and takes stakes
-    pub comes_to_move : (slot : ℕ) (w : View) (hs' : FractionsAtHome) → IsTelling w → ((i : ℕ) (g : Gv) → KnowsShown w i g → IsKnown vs i g)
+    pub comes_to_move : (slot : ℕ) (w : View) (hs' : FractionsAtHome) → IsTelling sizes.slots w → ((i : ℕ) (g : Gv) → KnowsShown w i g → IsKnown vs i g)
         → ((i p : ℕ) (y : ValueFraction) → i < sizes.slots → p ≤ n → LiesAt n hs' i p y → LiesAt n hs i p y) → w.slots.sees ≡ v.slots.sees
         → ((i : ℕ) → Moves w i → i ≡ slot) → ((j : ℕ) (u : View) → get_elem? vs j ≡ some u → ¬ (Sees u slot)) → RecordsInvariant sizes (set vs id w) hs'
     comes_to_move slot w hs' tells known lies same moves blind = let sees : (i : ℕ) → Sees w i → Sees v i
@@ -229,7 +233,7 @@ module _ (sizes : Sizes) (vs : List View) (hs : FractionsAtHome) (part : Records
         (λ j u _ e. ((λ i m s. blind j u e (subst (Sees u) (moves i m) s)), (λ i m s. part.apart j id u v i e at m (sees i s))))
 
     -- it comes to know what a slot shows, of which nobody knew; and all stakes in it come home, and show it
-    pub comes_to_know : (slot : ℕ) (value : Gv) (w : View) (hs' : FractionsAtHome) → IsTelling w → ((g : Gv) → ¬ (IsKnown vs slot g))
+    pub comes_to_know : (slot : ℕ) (value : Gv) (w : View) (hs' : FractionsAtHome) → IsTelling sizes.slots w → ((g : Gv) → ¬ (IsKnown vs slot g))
         → ((i : ℕ) (g : Gv) → KnowsShown w i g → ((i ≡ slot) × (g ≡ value)) ⊎ IsKnown vs i g)
         → ((i p : ℕ) (y : ValueFraction) → i < sizes.slots → p ≤ n → LiesAt n hs' i p y
         → ((i ≡ slot) × (y.lot.shown ≡ value)) ⊎ ((i ≢ slot) × LiesAt n hs i p y))
@@ -238,7 +242,7 @@ module _ (sizes : Sizes) (vs : List View) (hs : FractionsAtHome) (part : Records
         → ((i ≡ slot) × (g ≡ value)) ⊎ IsKnown vs i g
         = λ i g k. ⊎_elim (λ (t : KnowsShown w i g). knows i g t) (λ (t : IsKnown vs i g). inr t) (known_after vs id w i g k) in
         let never : (i : ℕ) (g : Gv) → i ≡ slot → ¬ (IsKnown vs i g) = λ i g e k. none g (subst (λ (j : ℕ). IsKnown vs j g) e k) in record {
-          each = each_set IsTelling IsTelling vs id w tells (λ j u _ e. part.each j u e);
+          each = each_set (IsTelling sizes.slots) (IsTelling sizes.slots) vs id w tells (λ j u _ e. part.each j u e);
           agree = λ i g h a b. ⊎_elim
               (λ (s : (i ≡ slot) × (g ≡ value)). ⊎_elim (λ (t : (i ≡ slot) × (h ≡ value)). s.1 ∙ sym t.1)
               (λ (t : IsKnown vs i h). absurd (never i h s.0 t)) (now i h b))

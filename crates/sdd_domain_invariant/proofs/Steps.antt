@@ -304,7 +304,7 @@ module _ (slots id : ℕ) (me : SeatState) (live : HasPlace me.0.epoch) where
           let few = h.homes.few in
           let g = gives_row γ n slot (spare n) (IsValue value) sizes.slots inside (suc n) (omega arith) s.homes rest me.1 h.homes.deep row in
           let one = ((h.kept.parts.slots.each id v at).alone slot own).0 in let filled = full_owned (slot_at sizes s.words slot) (omega arith) in
-          let tells = housed_tells v (h.records.each id v at) slot mine own (none_waits γ sizes s h slot id v at own id v at) shared value in
+          let tells = housed_tells v (h.records.each id v at) slot mine inside own (none_waits γ sizes s h slot id v at own id v at) shared value in
           let known = records.mine sizes s.views s.homes h.records id v at in let number = ap (λ (k : FractionContent). k.number) is in
           let units = ap (λ (k : FractionContent). k.units) is in
           let d = brings γ (banked b) l (banks.has_deposits γ sizes s.words s.views h.bank id v at bd b there bank ne) (ap (λ (k : FractionContent). k.book) is)
@@ -328,7 +328,7 @@ module _ (slots id : ℕ) (me : SeatState) (live : HasPlace me.0.epoch) where
                 (ap (away n) filled)
                 (λ g so. (λ _. so.0, λ e. absurd (omega arith))) (seen_but w slot mine refl refl) (λ j _ _. refl) (none_out w refl))
                 (records.comes_to_know sizes s.views s.homes h.records id v at slot value w (homes_after s.homes me.1 g.act)
-                record { owns = tells.owns; owned = tells.owned; sees = tells.sees; waits = tells.waits; waiting = tells.waiting } unknown
+                record { owns = tells.owns; owned = tells.owned; sees = tells.sees; waits = tells.waits; waiting = tells.waiting; inside = tells.inside } unknown
                 (λ i g k. known_by w i g
                 (λ a. ⊎_elim (λ (e : (slot ≡ i) × (value ≡ g)). inl (sym e.0, sym e.1))
                 (λ (b : IsIn v.stakes.owns i g). inr (known i g (inl b))) (in_either r v.stakes.owns i g a))
@@ -383,7 +383,7 @@ module _ (slots id : ℕ) (me : SeatState) (live : HasPlace me.0.epoch) where
           → ((j : ℕ) (u : View) → get_elem? s.views j ≡ some u → ¬ (Sees u slot))
           → ((j : ℕ) (u : View) → get_elem? s.views j ≡ some u → id ≢ j → ¬ (Moves u slot))
           → (t : FractionsView) → t.counts ≡ v.stakes.counts → t.moves ≡ Some slot → t.bank ≡ v.stakes.bank → t.founds ≡ v.stakes.founds
-          → IsTelling (record v { stakes = t })
+          → IsTelling sizes.slots (record v { stakes = t })
           → ((j : ℕ) (g : Gv) → KnowsShown (record v { stakes = t }) j g → KnowsShown v j g)
           → t.filled ≡ v.stakes.filled → TellsNoMore (record v { stakes = t }) s.views → (Then : FractionContent → SeatState → Type 0)
           → ((l : FractionContent) (xs : CarriedFractions) → IsDeposit slot me l → CarriesAll γ slot n (spare n) Is me.1 xs → Then l (record v { stakes = t }, xs))
@@ -480,7 +480,7 @@ module _ (slots id : ℕ) (me : SeatState) (live : HasPlace me.0.epoch) where
                 w.slots.drawn) s.homes
                 (part.calm γ sizes s.words s.views s.homes h.homes id v at s.words w (λ j p out. out) (λ j _. refl) (h.homes.moving id v at))
                 (records.no_more sizes s.views s.homes h.records id v at w s.homes
-                record { owns = told.owns; owned = told.owned; sees = told.sees; waits = told.waits; waiting = told.waiting }
+                record { owns = told.owns; owned = told.owned; sees = told.sees; waits = told.waits; waiting = told.waiting; inside = told.inside }
                 mine (λ j p y _ _ l. inl l) (λ j m. m) (λ j a. a))
                 (uncounted_alone sizes s.words s.views h.counts id v at w refl refl) (still_filled s h at w refl refl refl) bd b there ne ls
                 (banks.deals γ sizes s.words s.views h.bank id v at bd b there bank ne w ls brought.deposits refl refl
@@ -527,7 +527,7 @@ module _ (slots id : ℕ) (me : SeatState) (live : HasPlace me.0.epoch) where
         (λ l. absurd (let w = (sound.lives (slot_at sizes s.words slot) l).0 in omega arith)) (λ none. omega arith) in
         let undrawn : total (drawn_at slot) s.views ≡ 0 = (let low = total_below (drawn_at slot) (owners_at slot) s.views (λ j u e. h.bank.low j u e slot) in
         let owned = p.slots.owned slot in omega arith) in
-        let there = tells.waiting slot waits (none_moved v slot rests) in let value : Gv = there.0 in
+        let there = tells.waiting slot inside waits (none_moved v slot rests) in let value : Gv = there.0 in
         let known = records.mine sizes s.views s.homes h.records id v at slot value (inr (inr there.1)) in
         let w : View = moving slot (forgetting slot v) in
         moves_out bd s b h at held bank ne rests filled undrawn (IsValue value)
@@ -550,7 +550,7 @@ module _ (slots id : ℕ) (me : SeatState) (live : HasPlace me.0.epoch) where
     gives_all mine due rest row = let told : ℕ → SeatState → Type 0 = λ _. OfSlot GivesAll i me (free_word 0) in let y : ℕ = free_word 0 in
         lift_homes γ sizes slots id me i (λ _. y) (λ _. AtSlot GivesBack i v y) told
         (spares (λ _. y) (λ _. AtSlot GivesBack i v y) (λ r w t. ap (λ (u : View). u.places) (t slot refl).0))
-        (steps.gives_back id v live slot 0 due.0 due.1 due.2 due.3 due.4 inside (omega arith))
+        (steps.gives_back id v live slot 0 due.0 due.1 due.2 due.3 due.4 (omega arith) (omega arith))
         (λ s w h at t. let c = t slot refl in let now : View = given_back slot y v in
         let g = gives_row γ n slot 0 IsNoValueCode sizes.slots inside (suc n) (omega arith) s.homes rest me.1 h.homes.deep row in
         let empty = (free_is 0 (omega arith)).2 in
@@ -756,6 +756,10 @@ module _ (slots id : ℕ) (me : SeatState) (live : HasPlace me.0.epoch) where
                 sees = ap (λ (l : List ℕ). slot ∷ l) tells.sees;
                 waits = tells.waits;
                 waiting = tells.waiting;
+                inside = λ j g k. known_by now j g (λ a. tells.inside j g (inl a))
+                    (λ a. ⊎_elim (λ (e : (slot ≡ j) × (value ≡ g)). subst (λ (l : ℕ). l < sizes.slots) e.0 inside)
+                    (λ (c : IsIn v.stakes.sees j g). tells.inside j g (inr (inl c))) (in_either record_now v.stakes.sees j g a))
+                    (λ a. tells.inside j g (inr (inr a))) k;
               }
               (λ j g k. known_by now j g (λ a. mine j g (inl a)) (λ a. ⊎_elim
               (λ (e : (slot ≡ j) × (value ≡ g)). subst (λ (z : ℕ × Gv). IsKnown s.views z.0 z.1) (λ d. (e.0 d, e.1 d)) known)
@@ -868,10 +872,8 @@ module _ (slots id : ℕ) (me : SeatState) (live : HasPlace me.0.epoch) where
       (keeps_ended γ sizes slots id me j (λ _. 1) (λ _. ClosesAll v 1) (λ r w t. ap (λ (u : View). u.places) t) (own_place γ sizes id v live 1) (inl live))
       (over.closes sizes id v is_open free near)
       (λ s w h at t. let f = h.kept.parts.slots.each id v at in let long = h.kept.parts.slots.long in
-      let low : (k : ℕ) → 0 < times k v.slots.sees → k < sizes.slots = λ k sees. dite (dec_lt k sizes.slots) (λ l. l) (λ past. absurd
-      (let a = f.full k sees in let z : slot_at sizes s.words k ≡ 0 = get_or_past s.words (slot_word sizes k) 0 (omega arith) in
-      let b = ap full z ∙ sound.free.2 in omega arith)) in
       let r = h.records in let told = r.each id v at in let mine = records.mine sizes s.views s.homes r id v at in
+      let low : (k : ℕ) → 0 < times k v.slots.sees → k < sizes.slots = λ k sees. let seen = told_seen v told k sees in told.inside k seen.0 (inr (inl seen.1)) in
       let g = gives_purse γ n q sizes.slots le v.stakes.sees (λ k a. low k (subst (λ (l : List ℕ). 0 < times k l) told.sees a))
       s.homes me.1 h.homes.deep purse in
       let now : View = record v { epoch = Rattle.sdd_word_invariant.specs.EpochSteps.closed v.epoch; slots = Rattle.sdd_word_invariant.specs.SlotSteps.unseeing v } in
@@ -883,7 +885,14 @@ module _ (slots id : ℕ) (me : SeatState) (live : HasPlace me.0.epoch) where
         homes = part.closes γ sizes s.words s.views s.homes h.homes id v at q le near me.1 g (set s.words j 1) (unsighted now) told.sees refl
             rests (λ k sees. same k ∙ f.full k sees) (λ k _. same k) (none_out (unsighted now) rests);
         records = records.no_more sizes s.views s.homes r id v at (unsighted now) (homes_after s.homes me.1 g.act)
-            record { owns = told.owns; owned = told.owned; sees = refl; waits = told.waits; waiting = told.waiting }
+            record {
+              owns = told.owns;
+              owned = told.owned;
+              sees = refl;
+              waits = told.waits;
+              waiting = told.waiting;
+              inside = λ k a c. told.inside k a (known_by (unsighted now) k a (λ d. inl d) (λ d. absurd (in_none k a d)) (λ d. inr (inr d)) c);
+            }
             (λ k a c. known_by (unsighted now) k a (λ d. mine k a (inl d)) (λ d. absurd (in_none k a d)) (λ d. mine k a (inr (inr d))) c)
             (λ k p y _ near' lies. ⊎_elim
             (λ (d : (k' : ℕ) × (a : Gv) × IsIn v.stakes.sees k' a × (stake_at n k p ≡ stake_at n k' q) × Has γ k' 1 (IsValue a) y).

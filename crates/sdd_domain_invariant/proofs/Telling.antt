@@ -53,9 +53,9 @@ module _ (v : View) (slot : ℕ) (owns : v.slots.owns ≡ slot ∷ []) where
   owns_no_more i ne = let e = ap (times i) owns in let o = is_other i slot (λ e. ne (sym e)) in omega arith
 
 -- ---- what a participant that takes a step knows of what slots show
-module _ (v : View) (t : IsTelling v) (slot : ℕ) where
+module _ {m : ℕ} (v : View) (t : IsTelling m v) (slot : ℕ) where
   -- it claims a slot
-  pub claimed_tells : v.stakes.moves ≡ None → ¬ (OwnsAlone v slot) → ¬ (0 < items_at slot v) → (y : ℕ) → IsTelling (making slot y v)
+  pub claimed_tells : v.stakes.moves ≡ None → ¬ (OwnsAlone v slot) → ¬ (0 < items_at slot v) → (y : ℕ) → IsTelling m (making slot y v)
   claimed_tells rests never quiet y = let w : View = making slot y v in record {
     owns = λ i g h. let o = (t.owns i g h).0 in (
       let l : OwnsAlone w i = omega arith in l,
@@ -65,22 +65,24 @@ module _ (v : View) (t : IsTelling v) (slot : ℕ) where
         (λ ne. t.owned i (let q = is_other i slot (λ e. ne (sym e)) in omega arith) (none_moved v i rests));
     sees = t.sees;
     waits = λ i g h. let o = (t.waits i g h).0 in (o, λ m. quiet (subst (λ (k : ℕ). 0 < items_at k v) (one_moved w slot i refl m) o));
-    waiting = λ i o still. t.waiting i o (none_moved v i rests);
+    waiting = λ i low o still. t.waiting i low o (none_moved v i rests);
+    inside = t.inside;
   }
 
   -- it moves the value of a slot whose only owner it hasn't, and remembers no more what its item shows
-  pub moving_tells : v.stakes.moves ≡ None → ¬ (OwnsAlone v slot) → IsTelling (moving slot (forgetting slot v))
+  pub moving_tells : v.stakes.moves ≡ None → ¬ (OwnsAlone v slot) → IsTelling m (moving slot (forgetting slot v))
   moving_tells rests never = let w : View = moving slot (forgetting slot v) in record {
     owns = λ i g h. let o = (t.owns i g h).0 in (o, λ m. never (subst (OwnsAlone v) (one_moved w slot i refl m) o));
     owned = λ i o still. t.owned i o (none_moved v i rests);
     sees = t.sees;
     waits = λ i g h. let o = in_others slot v.stakes.waits i g h in ((t.waits i g o.1).0, λ m. o.0 (one_moved w slot i refl m));
-    waiting = λ i o still. let b = t.waiting i o (none_moved v i rests) in
+    waiting = λ i low o still. let b = t.waiting i low o (none_moved v i rests) in
         in_kept slot v.stakes.waits i b.0 (λ e. still (ap (λ (k : ℕ). Some k) (sym e))) b.1;
+    inside = λ i g k. t.inside i g (known_by w i g (λ a. inl a) (λ a. inr (inl a)) (λ a. inr (inr (in_others slot v.stakes.waits i g a).1)) k);
   }
 
   module _ (owns : v.slots.owns ≡ slot ∷ []) where
-    pub held_tells : v.stakes.moves ≡ None → ¬ (0 < items_at slot v) → IsTelling (moving slot (untold v))
+    pub held_tells : v.stakes.moves ≡ None → ¬ (0 < items_at slot v) → IsTelling m (moving slot (untold v))
     held_tells rests quiet = record {
       owns = λ i g h. absurd (in_none i g h);
       owned = λ i o still. dite (ℕ_discrete i slot) (λ e. absurd (still (ap (λ (k : ℕ). Some k) (sym e))))
@@ -88,7 +90,8 @@ module _ (v : View) (t : IsTelling v) (slot : ℕ) where
       sees = t.sees;
       waits = λ i g h. let o = (t.waits i g h).0 in
           (o, λ m. quiet (subst (λ (k : ℕ). 0 < items_at k v) (one_moved (moving slot (untold v)) slot i refl m) o));
-      waiting = λ i o still. t.waiting i o (none_moved v i rests);
+      waiting = λ i low o still. t.waiting i low o (none_moved v i rests);
+      inside = λ i g k. t.inside i g (known_by (moving slot (untold v)) i g (λ a. absurd (in_none i g a)) (λ a. inr (inl a)) (λ a. inr (inr a)) k);
     }
 
     -- its item waits from now on
@@ -96,7 +99,7 @@ module _ (v : View) (t : IsTelling v) (slot : ℕ) where
     items_then y count i = total_snoc (waits_in i) v.slots.waits (retired_now slot count)
 
     pub retired_tells : (y count : ℕ) → v.stakes.moves ≡ None → (value : Gv) → IsIn v.stakes.owns slot value
-        → IsTelling (remembering (retired slot y count v))
+        → IsTelling m (remembering (retired slot y count v))
     retired_tells y count rests value told = let mine : List ShownValue = v.stakes.owns in let old : List ShownValue = v.stakes.waits in record {
       owns = λ i g h. absurd (in_none i g h);
       owned = λ i o still. dite (ℕ_discrete i slot)
@@ -110,16 +113,18 @@ module _ (v : View) (t : IsTelling v) (slot : ℕ) where
             (λ (b : IsIn old i g). let o = (t.waits i g b).0 in omega arith) (in_both i g mine old h),
         none_moved v i rests,
       );
-      waiting = λ i o still. dite (ℕ_discrete i slot)
+      waiting = λ i low o still. dite (ℕ_discrete i slot)
           (λ e. (value, in_front i value mine old (subst (λ (k : ℕ). IsIn mine k value) (sym e) told)))
           (λ ne. let now = items_then y count i in let z = is_other i slot (λ e. ne (sym e)) in
-          let b = t.waiting i (omega arith) (none_moved v i rests) in (b.0, in_back i b.0 mine old b.1));
+          let b = t.waiting i low (omega arith) (none_moved v i rests) in (b.0, in_back i b.0 mine old b.1));
+      inside = λ i g k. t.inside i g (known_by (remembering (retired slot y count v)) i g (λ a. absurd (in_none i g a)) (λ a. inr (inl a))
+          (λ a. ⊎_elim (λ (b : IsIn mine i g). inl b) (λ (b : IsIn old i g). inr (inr b)) (in_both i g mine old a)) k);
     }
 
   module _ (mine : Moves v slot) where
     -- a value was moved in
-    pub housed_tells : OwnsAlone v slot → ¬ (0 < items_at slot v) → (shared : Bool) (value : Gv) → IsTelling (resting (telling slot shared value v))
-    housed_tells own quiet shared value = let r : ShownValue = record { slot = slot; shared = shared; value = value } in
+    pub housed_tells : slot < m → OwnsAlone v slot → ¬ (0 < items_at slot v) → (shared : Bool) (value : Gv) → IsTelling m (resting (telling slot shared value v))
+    housed_tells low own quiet shared value = let r : ShownValue = record { slot = slot; shared = shared; value = value } in
         let w : View = resting (telling slot shared value v) in record {
           owns = λ i g h. (
             ⊎_elim (λ (e : (slot ≡ i) × (value ≡ g)). subst (OwnsAlone v) e.0 own) (λ (k : IsIn v.stakes.owns i g). (t.owns i g k).0)
@@ -130,13 +135,16 @@ module _ (v : View) (t : IsTelling v) (slot : ℕ) where
               (λ ne. let b = t.owned i o (λ m. ne (sym (one_moved v slot i mine m))) in (b.0, in_tail r v.stakes.owns i b.0 b.1));
           sees = t.sees;
           waits = λ i g h. ((t.waits i g h).0, none_moved w i refl);
-          waiting = λ i o still. t.waiting i o (λ m. quiet (subst (λ (k : ℕ). 0 < items_at k v) (one_moved v slot i mine m) o));
+          waiting = λ i low o still. t.waiting i low o (λ m. quiet (subst (λ (k : ℕ). 0 < items_at k v) (one_moved v slot i mine m) o));
+          inside = λ i g k. known_by w i g
+              (λ a. ⊎_elim (λ (e : (slot ≡ i) × (value ≡ g)). subst (λ (j : ℕ). j < m) e.0 low) (λ (b : IsIn v.stakes.owns i g). t.inside i g (inl b))
+              (in_either r v.stakes.owns i g a)) (λ a. t.inside i g (inr (inl a))) (λ a. t.inside i g (inr (inr a))) k;
         }
 
     -- a value was moved out
     pub rested_tells : (w : View) → record w.stakes { counts = v.stakes.counts } ≡ record v.stakes { moves = None }
         → ((i : ℕ) → i ≢ slot → times i w.slots.owns ≡ times i v.slots.owns)
-        → ¬ (OwnsAlone w slot) → ((i : ℕ) → i ≢ slot → items_at i w ≡ items_at i v) → ¬ (0 < items_at slot w) → w.slots.sees ≡ v.slots.sees → IsTelling w
+        → ¬ (OwnsAlone w slot) → ((i : ℕ) → i ≢ slot → items_at i w ≡ items_at i v) → ¬ (0 < items_at slot w) → w.slots.sees ≡ v.slots.sees → IsTelling m w
     rested_tells w is same never same' quiet seen = record {
       owns = λ i g h. let o = t.owns i g (subst (λ (k : FractionsView). IsIn k.owns i g) is h) in let b = o.0 in
           let e = same i (λ e. o.1 (mine ∙ ap (λ (k : ℕ). Some k) (sym e))) in (
@@ -150,9 +158,11 @@ module _ (v : View) (t : IsTelling v) (slot : ℕ) where
       waits = λ i g h. let o = t.waits i g (subst (λ (k : FractionsView). IsIn k.waits i g) is h) in let b = o.0 in
           let e = same' i (λ e. o.1 (mine ∙ ap (λ (k : ℕ). Some k) (sym e))) in
           (subst (λ (k : ℕ). 0 < k) (sym e) b, none_moved w i (ap (λ (k : FractionsView). k.moves) is));
-      waiting = λ i o still. dite (ℕ_discrete i slot) (λ e. absurd (quiet (subst (λ (k : ℕ). 0 < items_at k w) e o)))
-          (λ ne. let b = t.waiting i (subst (λ (k : ℕ). 0 < k) (same' i ne) o) (λ m. ne (one_moved v slot i mine m)) in
+      waiting = λ i low o still. dite (ℕ_discrete i slot) (λ e. absurd (quiet (subst (λ (k : ℕ). 0 < items_at k w) e o)))
+          (λ ne. let b = t.waiting i low (subst (λ (k : ℕ). 0 < k) (same' i ne) o) (λ m. ne (one_moved v slot i mine m)) in
           (b.0, subst (λ (k : FractionsView). IsIn k.waits i b.0) (sym is) b.1));
+      inside = λ i g k. t.inside i g (known_by w i g (λ a. inl (subst (λ (k : FractionsView). IsIn k.owns i g) is a))
+          (λ a. inr (inl (subst (λ (k : FractionsView). IsIn k.sees i g) is a))) (λ a. inr (inr (subst (λ (k : FractionsView). IsIn k.waits i g) is a))) k);
     }
 
 -- ---- all of them
@@ -203,7 +213,7 @@ module _ (γ : ℕ) (sizes : Sizes) (s : State ValueFraction View) (h : DomainIn
 
   -- all stakes in a slot of which nobody knows come home
   pub comes_home : (o : ℕ) (Is : Gv → Type 0) (rest xs : CarriedFractions) (g : Given γ sizes.participants i o Is s.homes rest xs (suc sizes.participants))
-      → ((g : Gv) → ¬ (IsKnown s.views i g)) → (w : View) → IsTelling w
+      → ((g : Gv) → ¬ (IsKnown s.views i g)) → (w : View) → IsTelling sizes.slots w
       → record w.stakes { counts = v.stakes.counts } ≡ record v.stakes { moves = None } → w.slots.sees ≡ v.slots.sees
       → RecordsInvariant sizes (set s.views id w) (homes_after s.homes xs g.act)
   comes_home o Is rest xs g never w tells is seen = let n : ℕ = sizes.participants in

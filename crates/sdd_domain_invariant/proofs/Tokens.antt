@@ -109,7 +109,7 @@ module _ (γ : ℕ) (sizes : Sizes) where
       each = λ j v e. subst CountsByPlace (only j v e) (λ _ _. (refl, refl));
     };
     records = record {
-      each = λ j v e. subst IsTelling (only j v e) (telling_none (founder sizes γ) refl refl refl refl refl refl);
+      each = λ j v e. subst (IsTelling sizes.slots) (only j v e) (telling_none (founder sizes γ) refl refl refl refl refl refl);
       agree = λ i g h a b. absurd (none_known i g a);
       home = λ i p g y low near a l. absurd (none_known i g a);
       apart = λ j k v w i e e' m. absurd (none_moved v i (subst (λ (u : View). u.stakes.moves ≡ None) (only j v e) refl) m);
@@ -161,7 +161,8 @@ module _ (γ : ℕ) (sizes : Sizes) where
             (let e = ap (times i) owns in let e' = ap (λ (l : List ℕ). times i (first l)) owns in omega arith) (none_moved v i rests);
         sees = refl;
         waits = λ i g k. absurd (in_none i g k);
-        waiting = λ i o. absurd (omega arith);
+        waiting = λ i _ o. absurd (omega arith);
+        inside = λ i g k. told.inside i g (known_by t i g (λ a. inl a) (λ a. absurd (in_none i g a)) (λ a. absurd (in_none i g a)) k);
       }
       (λ i g k. known_by t i g (λ a. mine i g (inl a)) (λ a. absurd (in_none i g a)) (λ a. absurd (in_none i g a)) k) refl refl in
       let mine_then = records.mine sizes vs s.homes came id v (at_longer s.views (t ∷ []) id v at) in
@@ -180,6 +181,7 @@ module _ (γ : ℕ) (sizes : Sizes) where
               sees = told.sees;
               waits = told.waits;
               waiting = told.waiting;
+              inside = λ i g k. told.inside i g (known_by w i g (λ a. absurd (in_none i g a)) (λ a. inr (inl a)) (λ a. inr (inr a)) k);
             }
             (λ i g k. known_by w i g (λ a. absurd (in_none i g a)) (λ a. mine_then i g (inr (inl a))) (λ a. mine_then i g (inr (inr a))) k)
             (λ i p y _ _ l. inl l) (λ i m. m) (λ i a. a));
@@ -225,6 +227,10 @@ module _ (γ : ℕ) (sizes : Sizes) where
         sees = told.sees;
         waits = told.waits;
         waiting = told.waiting;
+        inside = λ i g k. known_by w i g
+            (λ a. ⊎_elim (λ (e : (slot ≡ i) × (value ≡ g)). (r.each other t was).inside i g (inl (in_head now [] i g e.0 e.1)))
+            (λ (b : IsIn v.stakes.owns i g). told.inside i g (inl b)) (in_either now v.stakes.owns i g a))
+            (λ a. told.inside i g (inr (inl a))) (λ a. told.inside i g (inr (inr a))) k;
       }
       (λ i g k. known_by w i g
       (λ a. ⊎_elim (λ (e : (slot ≡ i) × (value ≡ g)). (other, t, was, inl (in_head now [] i g e.0 e.1)))
@@ -292,7 +298,7 @@ module _ (γ : ℕ) (sizes : Sizes) where
             t (nothing_out t refl refl) (none_out t refl);
         records = records.arrives sizes us s.homes
             (records.no_more sizes s.views s.homes h.records id v at w s.homes
-            record { owns = told.owns; owned = told.owned; sees = told.sees; waits = told.waits; waiting = told.waiting }
+            record { owns = told.owns; owned = told.owned; sees = told.sees; waits = told.waits; waiting = told.waiting; inside = told.inside }
             (records.mine sizes s.views s.homes h.records id v at) (λ i p y _ _ l. inl l) (λ i m. m) (λ i a. a))
             t (telling_none t refl refl refl refl refl refl) (λ i g k. absurd (knows_none t refl refl refl i g k)) refl refl;
         counts = more_counts sizes s.words us (uncounted_alone sizes s.words s.views h.counts id v at w refl refl) t refl refl refl;

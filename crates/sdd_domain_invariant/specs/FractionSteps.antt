@@ -9,7 +9,7 @@ use Rattle.sdd_shared_values.specs.declared.value_fraction.ValueFraction.{ValueF
 use Rattle.sdd_views.specs.declared.ShownValue.{ShownValue}
 use Rattle.sdd_views.specs.declared.CountsView.{CountsView}
 use Rattle.sdd_views.specs.declared.View.{View}
-use Rattle.sdd_word_invariant.specs.SlotSteps.{behind, Knew, claimed, discarded, seeing, first, others, parted, joined, Retires, ClosesAll, GivesBack}
+use Rattle.sdd_word_invariant.specs.SlotSteps.{behind, Knew, claimed, discarded, seeing, first, others, parted, joined, Retires, Defers, ClosesAll, GivesBack}
 use Rattle.sdd_views.specs.Views.{owner_token, at_rest, no_counts}
 use Rattle.sdd_word_invariant.specs.EpochSteps.{ended}
 use Rattle.sdd_word_invariant.specs.Words.{slot_word}
@@ -179,6 +179,14 @@ RetiresOne slot me y me' = (v : View) × Retires slot me.0 y v × (me'.0 ≡ rem
 -- it was moved out: the slot is free, and all stakes in it go home
 abbrev pub GivesAll : ℕ → SeatState → ℕ → SeatState → Type 0
 GivesAll slot me y me' = (v : View) × GivesBack slot me.0 y v × (me'.0 ≡ giving v) × (me'.1 ≡ drop (suc (places_of me)) me.1)
+
+-- a job's place is claimed, whose word is old as long as it is free, and the job waits there: no stakes are taken
+abbrev pub DefersJob : ℕ → ℕ → ℕ → SeatState → ℕ → SeatState → Type 0
+DefersJob place old y me x me' = (me'.1 ≡ me.1) × Defers place old y me.0 x me'.0
+
+-- the place is free, in which one job waited: none are given, and none is counted
+abbrev pub GivesPlace : ℕ → SeatState → ℕ → SeatState → Type 0
+GivesPlace place me y me' = (me'.1 ≡ me.1) × GivesBack place me.0 y me'.0
 
 -- the item of a slot that was held has gone at once: the slot is free, and all stakes in it go home
 abbrev pub DiscardsAll : ℕ → SeatState → ℕ → SeatState → Type 0

@@ -25,17 +25,18 @@ abbrev pub IsKnown : List View → ℕ → Gv → Type 0
 IsKnown vs i g = (j : ℕ) × (v : View) × (get_elem? vs j ≡ some v) × KnowsShown v i g
 
 -- it has a record of each slot whose only owner it has, and of each whose item waits with it, but of one whose value it moves; and one for each time
--- that it sees a slot; and no others
-pub record IsTelling (v : View) : Type 0 where
+-- that it sees a slot; and no others. There are so many slots: of no job's place has it any
+pub record IsTelling (slots : ℕ) (v : View) : Type 0 where
   pub owns : (i : ℕ) (g : Gv) → IsIn v.stakes.owns i g → OwnsAlone v i × ¬ (Moves v i)
   pub owned : (i : ℕ) → OwnsAlone v i → ¬ (Moves v i) → (g : Gv) × IsIn v.stakes.owns i g
   pub sees : map slot_shown v.stakes.sees ≡ v.slots.sees
   pub waits : (i : ℕ) (g : Gv) → IsIn v.stakes.waits i g → (0 < items_at i v) × ¬ (Moves v i)
-  pub waiting : (i : ℕ) → 0 < items_at i v → ¬ (Moves v i) → (g : Gv) × IsIn v.stakes.waits i g
+  pub waiting : (i : ℕ) → i < slots → 0 < items_at i v → ¬ (Moves v i) → (g : Gv) × IsIn v.stakes.waits i g
+  pub inside : (i : ℕ) (g : Gv) → KnowsShown v i g → i < slots
 
 -- all that is known of a slot is one value, which the stakes at home show; and nobody sees a slot whose value is moved
 pub record RecordsInvariant (sizes : Sizes) (vs : List View) (hs : FractionsAtHome) : Type 0 where
-  pub each : (j : ℕ) (v : View) → get_elem? vs j ≡ some v → IsTelling v
+  pub each : (j : ℕ) (v : View) → get_elem? vs j ≡ some v → IsTelling sizes.slots v
   pub agree : (i : ℕ) (g h : Gv) → IsKnown vs i g → IsKnown vs i h → g ≡ h
   pub home : (i p : ℕ) (g : Gv) (y : ValueFraction) → i < sizes.slots → p ≤ sizes.participants → IsKnown vs i g → LiesAt sizes.participants hs i p y
       → y.lot.shown ≡ g

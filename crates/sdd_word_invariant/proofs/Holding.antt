@@ -39,7 +39,7 @@ module _ (z : WordReading) (sound : IsWordReading z) (sizes : Sizes) (ws : List 
       = λ j e. ap (λ (a : ℕ). slot_at sizes (set ws (slot_word sizes i) y) a) e ∙ get_or-set_same ws (slot_word sizes i) y 0 (omega arith) in
       let there : (j : ℕ) → j ≢ i → slot_at sizes (set ws (slot_word sizes i) y) j ≡ slot_at sizes ws j
       = λ j ne. get_or-set_other ws (slot_word sizes i) (slot_word sizes j) y 0 (λ e. ne (omega arith)) in
-      slot_step z sound sizes ws vs s id v at i y w inside here (λ j ne. let e = else j ne in omega arith) (omega arith) (λ j ne. refl) full
+      slot_step z sound sizes ws vs s id v at i y w (omega arith) here (λ j ne. let e = else j ne in omega arith) (omega arith) (λ j ne. refl) full
       (not_alone z sound sizes ws vs s id v at i (inl mine))
       record {
         timed = f.timed;

@@ -9,7 +9,7 @@ use Rattle.atomic_table.proofs.Lists.{at_map, at_snoc}
 use Rattle.sdd_views.specs.declared.WaitingItem.{WaitingItem}
 use Rattle.sdd_views.specs.declared.View.{View}
 use Rattle.sdd_views.specs.declared.Sizes.{Sizes}
-use Rattle.sdd_word_invariant.specs.Words.{global_word, slot_word}
+use Rattle.sdd_word_invariant.specs.Words.{global_word, slot_word, most_waiting}
 use Rattle.sdd_word_invariant.specs.Epoch.{IsOpen, EpochInvariant}
 use Rattle.sdd_word_invariant.specs.EpochSteps.{knowing}
 use Rattle.sdd_word_invariant.specs.Sums.{times, total}
@@ -47,7 +47,7 @@ module _ (z : WordReading) (sound : IsWordReading z) (sizes : Sizes) (ws : List 
       = λ j e. ap (λ (a : ℕ). slot_at sizes (set ws (slot_word sizes i) y) a) e ∙ get_or-set_same ws (slot_word sizes i) y 0 (omega arith) in
       let there : (j : ℕ) → j ≢ i → slot_at sizes (set ws (slot_word sizes i) y) j ≡ slot_at sizes ws j
       = λ j ne. get_or-set_other ws (slot_word sizes i) (slot_word sizes j) y 0 (λ e. ne (omega arith)) in
-      slot_step z sound sizes ws vs s id v at i y w inside here (λ j ne. let e = else j ne in omega arith) (omega arith) (λ j ne. refl)
+      slot_step z sound sizes ws vs s id v at i y w (omega arith) here (λ j ne. let e = else j ne in omega arith) (omega arith) (λ j ne. refl)
       (λ j u e sees. full ((s.each j u e).full i sees))
       (not_alone z sound sizes ws vs s id v at i why)
       record {
@@ -135,7 +135,7 @@ module _ (z : WordReading) (sound : IsWordReading z) (sizes : Sizes) (ws : List 
         ⊎_elim (λ (t : get_elem? v.slots.waits k ≡ some r). let g = (s.two j id u v e at).since b k r sees t same in omega arith)
         (λ (t : x ≡ r). let h = ap (λ (q : WaitingItem). q.retired_at) t in let g = since_low j u e ((s.each j u e).guarded b sees) in omega arith)
         (old_or_new k r his) in
-        slot_step z sound sizes ws vs s id v at i y w inside
+        slot_step z sound sizes ws vs s id v at i y w (omega arith)
         (omega arith)
         (λ j ne. let k = without_other i j ne v.slots.owns in omega arith)
         (let t = total_snoc (waits_in i) v.slots.waits x in let q = is_same i i refl in omega arith)
@@ -175,7 +175,7 @@ module _ (z : WordReading) (sound : IsWordReading z) (sizes : Sizes) (ws : List 
     giving_back i known = record v { slots = record v.slots { waits = without_item i v.slots.waits }; words = known }
 
     -- an item of three changes goes, and its slot is free
-    pub gives_back : (k y : ℕ) (x : WaitingItem) (known : List ℕ) → get_elem? v.slots.waits k ≡ some x → 3 ≤ x.changes → x.slot < sizes.slots
+    pub gives_back : (k y : ℕ) (x : WaitingItem) (known : List ℕ) → get_elem? v.slots.waits k ≡ some x → 3 ≤ x.changes → x.slot < most_waiting sizes
         → z.alive y ≡ 0 → z.waiting y ≡ 0
         → SlotsInvariant z sizes (set ws (slot_word sizes x.slot) y) (set vs id (giving_back x.slot known))
     gives_back k y x known has ripe inside none quiet =
@@ -188,7 +188,7 @@ module _ (z : WordReading) (sound : IsWordReading z) (sizes : Sizes) (ws : List 
         = λ j ne. get_or-set_other ws (slot_word sizes i) (slot_word sizes j) y 0 (λ e. ne (omega arith)) in
         let old : (p : ℕ) (r : WaitingItem) → get_elem? (without_item i v.slots.waits) p ≡ some r → (q : ℕ) × (get_elem? v.slots.waits q ≡ some r)
         = λ p r e. at_filter (λ (x : WaitingItem). not (eqb x.slot i)) v.slots.waits p r e in
-        slot_step z sound sizes ws vs s id v at i y w inside (omega arith) (λ j ne. refl)
+        slot_step z sound sizes ws vs s id v at i y w (omega arith) (omega arith) (λ j ne. refl)
         (let g = item_gone i v.slots.waits in let a = total_has (items_at i) vs id v at in let b = total_has (waits_in i) v.slots.waits k x has in
         let c = is_same i i refl in let t = s.waited i in omega arith)
         (λ j ne. sym (item_kept i j ne v.slots.waits))

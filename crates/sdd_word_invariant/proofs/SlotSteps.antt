@@ -11,12 +11,12 @@ use Rattle.sdd_views.specs.declared.EpochView.{EpochView}
 use Rattle.sdd_views.specs.declared.WaitingItem.{WaitingItem}
 use Rattle.sdd_views.specs.declared.View.{View}
 use Rattle.sdd_views.specs.declared.Sizes.{Sizes}
-use Rattle.sdd_word_invariant.specs.Words.{global_word, state_word, slot_word}
+use Rattle.sdd_word_invariant.specs.Words.{global_word, state_word, slot_word, most_waiting}
 use Rattle.sdd_word_invariant.specs.Codes.{codes, shared_base, free_word, owned_word, waiting_word}
 use Rattle.sdd_word_invariant.specs.Epoch.{HasPlace, IsOpen, EpochInvariant}
 use Rattle.sdd_word_invariant.specs.Slots.{slot_at, owners_at, items_at, OwnsAlone, Holds, SlotsInvariant}
 use Rattle.sdd_word_invariant.specs.EpochSteps.{Steps}
-use Rattle.sdd_word_invariant.specs.SlotSteps.{noted, Knew, claimed, retired, given_back, seeing, Claims, Retires, GivesBack, AtSlot, held, release_hold, looked_past, discarded, TakesHold, LetsGo, Discards, LooksForGuard, LooksAtSlot}
+use Rattle.sdd_word_invariant.specs.SlotSteps.{noted, Knew, claimed, retired, deferred, given_back, seeing, Claims, Retires, Defers, GivesBack, AtSlot, held, release_hold, looked_past, discarded, TakesHold, LetsGo, Discards, LooksForGuard, LooksAtSlot}
 use Rattle.sdd_word_invariant.specs.WordInvariant.{epoch_of, Parts}
 use Rattle.sdd_word_invariant.proofs.Codes.{sound, free_is, owned_is, waiting_is}
 use Rattle.sdd_word_invariant.proofs.Epoch as epochs
@@ -26,6 +26,7 @@ use Rattle.sdd_word_invariant.proofs.Seeing as seen
 use Rattle.sdd_word_invariant.proofs.Holding as holding
 use Rattle.sdd_word_invariant.proofs.Lone.{finds, lone_same, lone_noted}
 use Rattle.sdd_word_invariant.proofs.Waits as waits
+use Rattle.sdd_word_invariant.proofs.Deferring as deferring
 
 module _ (id : ℕ) (v : View) (live : HasPlace v.epoch) where
   abbrev sizes : Sizes
@@ -108,9 +109,39 @@ module _ (id : ℕ) (v : View) (live : HasPlace v.epoch) where
         ),
       )
 
+  -- claim a free place for a job, which waits there at once
+  pub defers : (slot generation : ℕ) → slot < most_waiting sizes → waiting_word generation < shared_base
+      → Steps (Parts sizes) id v (slot_word sizes slot) (λ x. either (eqb x (free_word generation)) (waiting_word generation) x)
+      (AtSlot (λ slot. Defers slot (free_word generation) (waiting_word generation)) (slot_word sizes slot) v)
+  defers slot g inside low ws vs p at small = let i : ℕ = slot_word sizes slot in let x : ℕ = get_or ws i 0 in let old : ℕ = free_word g in
+      let new : ℕ = waiting_word g in let count : ℕ = get_or ws global_word 0 in let w : View = deferred slot new count v in
+      let told = knew ws vs p at slot in let f = p.epoch.each id v.epoch (at_epoch ws vs p at) in
+      exchanged x old new (λ y. (u : View) × Parts sizes (set ws i y) (set vs id u) × AtSlot (λ slot. Defers slot old new) i v x u)
+      (λ hit. let free = free_is g (omega arith) in let word = waiting_is g low in let quiet : codes.waiting x ≡ 0 = ap codes.waiting hit ∙ free.1 in
+      let empty : codes.full x ≡ 0 = ap codes.full hit ∙ free.2 in (
+        w,
+        around ws vs p at slot new w live refl (epochs.knows sizes.participants ws (map epoch_of vs) id v.epoch p.epoch (at_epoch ws vs p at))
+            (deferring.defers codes sound sizes ws vs p.slots id v at p.epoch slot new (noted slot new v) inside
+            (ap codes.alive hit ∙ free.0) quiet empty word.0 word.1),
+        λ other is. (
+          (λ _. (
+            count,
+            f.known,
+            (λ one. f.lone (sym (f.all (λ z. omega arith)) ∙ one) live),
+            ap (λ (k : ℕ). deferred k new count v) (same_slot slot other is),
+            (λ open_now. (f.published open_now).once),
+            waits.few_beside codes sound sizes ws vs p.slots id v at slot inside quiet,
+            ap (λ (k : ℕ). items_at k v) (sym (same_slot slot other is)) ∙ waits.none_wait codes sound sizes ws vs p.slots id v at slot quiet,
+          )),
+          (λ no. absurd (no hit)),
+          knew_too slot other is x told,
+        ),
+      ))
+      (λ miss. (v, unmoved ws vs p at i, λ other is. ((λ e. absurd (miss e)), (λ _. refl), knew_too slot other is x told)))
+
   -- give back the slot of an item that has seen three changes
   pub gives_back : (slot generation k : ℕ) (x : WaitingItem) → get_elem? v.slots.waits k ≡ some x → x.slot ≡ slot → 3 ≤ x.changes
-      → slot < sizes.slots → free_word generation < shared_base
+      → slot < most_waiting sizes → free_word generation < shared_base
       → Steps (Parts sizes) id v (slot_word sizes slot) (λ _. free_word generation) (λ _. AtSlot GivesBack (slot_word sizes slot) v (free_word generation))
   gives_back slot g k x has same ripe inside low ws vs p at small =
       let y : ℕ = free_word g in let w : View = given_back slot y v in let word = free_is g low in

@@ -7,7 +7,7 @@ use lib.ListN.{get_elem?}
 use Rattle.sdd_views.specs.declared.WaitingItem.{WaitingItem}
 use Rattle.sdd_views.specs.declared.View.{View}
 use Rattle.sdd_views.specs.declared.Sizes.{Sizes}
-use Rattle.sdd_word_invariant.specs.Words.{first_cell, cell_word, slot_word}
+use Rattle.sdd_word_invariant.specs.Words.{first_cell, cell_word, slot_word, most_waiting}
 use Rattle.sdd_word_invariant.specs.Sums.{times}
 use Rattle.sdd_word_invariant.specs.Codes.{WordReading, IsWordReading}
 use Rattle.sdd_word_invariant.specs.Slots.{slot_at, owners_at, waits_in, items_at, OwnsAlone, Sees, Tallies, SeenBeforeRetired, SlotsInvariant}
@@ -44,7 +44,7 @@ module _ (z : WordReading) (sound : IsWordReading z) (sizes : Sizes) (ws : List 
   alone_is j i u at mine = let o = owner_in j i u at in let a = ((s.each j u at).alone i mine).0 in omega arith
 
   module _ (id : ℕ) (v : View) (at : get_elem? vs id ≡ some v) where
-    pub slot_step : (i y : ℕ) (w : View) → i < sizes.slots
+    pub slot_step : (i y : ℕ) (w : View) → i < most_waiting sizes
         → z.alive y + owners_at i v ≡ z.alive (slot_at sizes ws i) + owners_at i w → ((j : ℕ) → j ≢ i → owners_at j v ≡ owners_at j w)
         → z.waiting y + items_at i v ≡ z.waiting (slot_at sizes ws i) + items_at i w → ((j : ℕ) → j ≢ i → items_at j v ≡ items_at j w)
         → ((j : ℕ) (u : View) → get_elem? vs j ≡ some u → Sees u i → z.full y ≡ 1)

@@ -10,7 +10,7 @@ use lib.ListN.{get_elem?}
 use Rattle.sdd_views.specs.declared.WaitingItem.{WaitingItem}
 use Rattle.sdd_views.specs.declared.View.{View}
 use Rattle.sdd_views.specs.declared.Sizes.{Sizes}
-use Rattle.sdd_word_invariant.specs.Words.{slot_word}
+use Rattle.sdd_word_invariant.specs.Words.{slot_word, most_waiting}
 use Rattle.sdd_word_invariant.specs.Codes.{WordReading, IsWordReading}
 use Rattle.sdd_word_invariant.specs.Sums.{total, is, times}
 use Rattle.sdd_word_invariant.specs.Slots.{slot_at, items_at, waits_in, OwnsAlone, SlotsInvariant}
@@ -67,23 +67,31 @@ module _ (z : WordReading) (sound : IsWordReading z) (sizes : Sizes) (ws : List 
   once : (i : ℕ) → items_at i v ≤ 1
   once i = let a = most i in let b = at_most_one (slot_at sizes ws i) in omega arith
 
-  none_past : (i : ℕ) → sizes.slots ≤ i → items_at i v ≡ 0
+  none_past : (i : ℕ) → most_waiting sizes ≤ i → items_at i v ≡ 0
   none_past i high = let e : slot_at sizes ws i ≡ 0 = get_or_past ws (slot_word sizes i) 0 (let l = p.long in omega arith) in
       let free : z.waiting (slot_at sizes ws i) ≡ 0 = ap z.waiting e ∙ sound.free.1 in let a = most i in omega arith
 
-  -- where it has the only owner of a slot, fewer items wait with it than there are slots
-  pub few_wait : (slot : ℕ) → slot < sizes.slots → OwnsAlone v slot → length v.slots.waits < sizes.slots
-  few_wait slot inside mine =
-      let alive = ((p.each id v at).alone slot mine).0 in let quiet = (sound.lives (slot_at sizes ws slot) (omega arith)).0 in
+  -- where nothing waits in a slot or a job's place, less waits with it than may
+  pub few_beside : (slot : ℕ) → slot < most_waiting sizes → z.waiting (slot_at sizes ws slot) ≡ 0 → length v.slots.waits < most_waiting sizes
+  few_beside slot inside quiet =
       let l : List ℕ = slot ∷ slots_of v.slots.waits in
       let same : (i : ℕ) → times i l ≡ is i slot + items_at i v = λ i. ap (λ (k : ℕ). is i slot + k) (times_map i v.slots.waits) in
-      let count = few sizes.slots l
+      let count = few (most_waiting sizes) l
       (λ i. let s = same i in let o = once i in dite (ℕ_discrete slot i)
       (λ (e : slot ≡ i). let a = is_same i slot e in let b = most i in
       let q : z.waiting (slot_at sizes ws i) ≡ 0 = ap (λ (k : ℕ). z.waiting (slot_at sizes ws k)) (sym e) ∙ quiet in omega arith)
       (λ ne. let a = is_other i slot ne in omega arith))
       (λ i high. let s = same i in let a = is_other i slot (λ e. omega arith) in let b = none_past i high in omega arith)
       in let long = length_map v.slots.waits in omega arith
+
+  -- the same where it has the only owner of the slot
+  pub few_wait : (slot : ℕ) → slot < sizes.slots → OwnsAlone v slot → length v.slots.waits < most_waiting sizes
+  few_wait slot inside mine = let alive = ((p.each id v at).alone slot mine).0 in
+      few_beside slot (omega arith) (sound.lives (slot_at sizes ws slot) (omega arith)).0
+
+  -- and none of it waits with it
+  pub none_wait : (slot : ℕ) → z.waiting (slot_at sizes ws slot) ≡ 0 → items_at slot v ≡ 0
+  none_wait slot quiet = let m = most slot in omega arith
 
   -- where an item of a slot waits with it, none else does
   pub waits_once : (slot k : ℕ) (x : WaitingItem) → get_elem? v.slots.waits k ≡ some x → x.slot ≡ slot → items_at slot v ≡ 1

@@ -8,7 +8,7 @@ use Rattle.sdd_views.specs.declared.SlotsView.{SlotsView}
 use Rattle.sdd_views.specs.declared.WaitingItem.{WaitingItem}
 use Rattle.sdd_views.specs.declared.View.{View}
 use Rattle.sdd_views.specs.declared.Sizes.{Sizes}
-use Rattle.sdd_word_invariant.specs.Words.{words_behind, state_word, slot_word}
+use Rattle.sdd_word_invariant.specs.Words.{words_behind, most_waiting, state_word, slot_word}
 use Rattle.sdd_word_invariant.specs.Epoch.{HasPlace, IsOpen, IsLone}
 use Rattle.sdd_word_invariant.specs.Slots.{items_at, Sees}
 use Rattle.sdd_word_invariant.specs.EpochSteps.{knowing, closed, Publishes}
@@ -19,7 +19,7 @@ blank sizes = replicate (words_behind sizes) 0
 
 -- where a slot's word is among those behind the places'
 abbrev pub behind : Sizes → ℕ → ℕ
-behind sizes slot = sizes.jobs + 2 * sizes.cells + slot
+behind sizes slot = 2 * sizes.cells + slot
 
 -- what is known of these words once y is in that of a slot
 abbrev pub noted : ℕ → ℕ → View → List ℕ
@@ -76,6 +76,14 @@ retired slot y count v = record v {
   epoch = knowing v.epoch count;
   slots = record v.slots { owns = without slot v.slots.owns; waits = v.slots.waits ++ retired_now slot count ∷ [] };
   words = noted slot y v;
+}
+
+-- a job waits in a place of the table of jobs from a count on, whose word is y then
+abbrev pub deferred : ℕ → ℕ → ℕ → View → View
+deferred place y count v = record v {
+  epoch = knowing v.epoch count;
+  slots = record v.slots { waits = v.slots.waits ++ retired_now place count ∷ [] };
+  words = noted place y v;
 }
 
 -- it is given back
@@ -147,10 +155,20 @@ abbrev pub SeesRaw : ℕ → ℕ → View → ℕ → View → Type 0
 SeesRaw slot old v x w = (x ≡ old → ¬ (Sees v slot) → w ≡ seeing slot v) × ((x ≢ old) ⊎ Sees v slot → w ≡ v) × Knew slot v x
 
 -- an owned item waits from the count of this moment on, which is known after it: under an open guard the one at the publish, or one more.
--- Fewer items than there are slots waited before
+-- Less than may wait did so before
 abbrev pub Retires : ℕ → View → ℕ → View → Type 0
 Retires slot v y w = (count : ℕ) × (v.epoch.known ≤ count) × (IsLone v.epoch → count ≡ v.epoch.known) × (w ≡ retired slot y count v)
-    × (IsOpen v.epoch → count ≤ v.epoch.since + 1) × (length v.slots.waits < v.sizes.slots)
+    × (IsOpen v.epoch → count ≤ v.epoch.since + 1) × (length v.slots.waits < most_waiting v.sizes)
+
+-- a job waits in the place from the count of this moment on, which is known after it, as a retired item does. None waited there before, and less than
+-- may wait did so
+abbrev pub DefersAt : ℕ → ℕ → View → View → Type 0
+DefersAt place y v w = (count : ℕ) × (v.epoch.known ≤ count) × (IsLone v.epoch → count ≡ v.epoch.known) × (w ≡ deferred place y count v)
+    × (IsOpen v.epoch → count ≤ v.epoch.since + 1) × (length v.slots.waits < most_waiting v.sizes) × (items_at place v ≡ 0)
+
+-- a job's place, whose word is old as long as it is free, is claimed for a job, which waits there at once
+abbrev pub Defers : ℕ → ℕ → ℕ → View → ℕ → View → Type 0
+Defers place old y v x w = (x ≡ old → DefersAt place y v w) × (x ≢ old → w ≡ v) × Knew place v x
 
 -- the slot is free, in which one item waited
 abbrev pub GivesBack : ℕ → View → ℕ → View → Type 0

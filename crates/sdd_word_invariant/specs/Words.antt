@@ -28,11 +28,8 @@ state_word place = after_places place
 abbrev pub count_word : ℕ → ℕ
 count_word place = after_places place + 1
 
-abbrev pub job_word : Sizes → ℕ → ℕ
-job_word sizes job = after_places sizes.participants + job
-
 abbrev pub first_cell : Sizes → ℕ
-first_cell sizes = after_places sizes.participants + sizes.jobs
+first_cell sizes = after_places sizes.participants
 
 abbrev pub cell_word : Sizes → ℕ → ℕ
 cell_word sizes cell = first_cell sizes + cell
@@ -41,16 +38,27 @@ cell_word sizes cell = first_cell sizes + cell
 abbrev pub pointer_word : Sizes → ℕ → ℕ
 pointer_word sizes cell = first_cell sizes + sizes.cells + cell
 
--- behind all others: a word past the last one reads 0, so that a number past the last slot is that of a free slot
 abbrev pub first_slot : Sizes → ℕ
-first_slot sizes = after_places sizes.participants + sizes.jobs + 2 * sizes.cells
+first_slot sizes = after_places sizes.participants + 2 * sizes.cells
 
 abbrev pub slot_word : Sizes → ℕ → ℕ
 slot_word sizes slot = first_slot sizes + slot
 
+-- the place of a job is a slot without a value: its number comes after those of the slots
+abbrev pub job_slot : Sizes → ℕ → ℕ
+job_slot sizes job = sizes.slots + job
+
+-- behind all others: a word past the last one reads 0, so that a number past the last job's place is that of a free slot
+abbrev pub job_word : Sizes → ℕ → ℕ
+job_word sizes job = slot_word sizes (job_slot sizes job)
+
+-- how much may wait: an item for each slot, and a job for each place of one
+abbrev pub most_waiting : Sizes → ℕ
+most_waiting sizes = sizes.slots + sizes.jobs
+
 -- how many words there are behind the places'
 abbrev pub words_behind : Sizes → ℕ
-words_behind sizes = sizes.jobs + 2 * sizes.cells + sizes.slots
+words_behind sizes = 2 * sizes.cells + most_waiting sizes
 
 -- and in all
 abbrev pub all_words : Sizes → ℕ

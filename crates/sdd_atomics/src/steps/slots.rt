@@ -14,7 +14,7 @@ ghost use Rattle.sdd_shared_values.specs.SharedValues.{IsNoValueCode, lot};
 ghost use Rattle.sdd_domain_invariant.specs.FractionsAtHome.{CarriedFractions, Moves, spare};
 ghost use Rattle.sdd_domain_invariant.specs.Records.{IsIn};
 ghost use Rattle.sdd_domain_invariant.specs.FractionSteps.{CarriesAll, IsValue, ClaimsAll, FillsSlot, EntersUnit, TakesOut, TakesHeld, IsDeposit, GivesAll, DiscardsAll, RetiresOne, SeesOwned, LearnsOwned, parting, regained};
-ghost use Rattle.sdd_atomics.specs.DomainTable.{id_of, book_of, places_of, slots_of};
+ghost use Rattle.sdd_atomics.specs.DomainTable.{id_of, book_of, places_of, slots_of, most_waiting_of};
 ghost use Rattle.sdd_rights.specs.Owner.{witness_of_owner};
 ghost use Rattle.sdd_atomics.specs.Owner.{IsCutOff};
 ghost use Rattle.sdd_atomics.specs.DomainSeat.{view, epoch, slots, Taught, Moved, MovedAlone, Knows};
@@ -271,10 +271,10 @@ pub fn discard(board: &DomainTable, token: &mut DomainSeat, slot: u32)
         .store::<Discard>(token, board.slot_word(slot), FREE);
 }
 
-/// Looks at the word of the next slot, by a token that knows that all places are barred. Where it is free then it stays so.
+/// Looks at the word of the next slot, or of a job's place, by a token that knows that all places are barred. Where it is free then it stays so.
 pub fn look_for_value(board: &DomainTable, token: &mut DomainSeat, slot: u32) -> u64
     requires home { token.old.table_id ≡ id_of board.now }
-    requires inside { slot < slots_of board.now }
+    requires inside { slot < most_waiting_of board.now }
     requires ended { places_of board.now ≤ (view token.old).places.ended }
     requires next { slot ≡ (view token.old).places.quiet }
     ensures { Taught LooksForValue token.old result token.new }

@@ -1,0 +1,13 @@
+use Rattle.std.proofs.Common.{arith}
+use Rattle.sdd_word_invariant.specs.SlotSteps.{LooksAtSlot}
+use Rattle.sdd_atomics.proofs.Allowed.{taught_at}
+use Rattle.sdd_atomics.proofs.JobsAllowed.{may_look}
+use Rattle.sdd_atomics.proofs.steps.jobs.look_at_place.Goals as goal
+
+pub load-requires : goal.load-requires
+load-requires c = let r = c.requires in
+    (r.home, omega arith, may_look _ _ _ _ _ r.knows.0 r.knows.1 r.place _ c.args.place c.slot_word.ensures r.inside r.rests)
+
+pub returns : goal.returns
+returns c = let e = c.load.ensures in
+    taught_at c.args.token.now _ c.load.result e.0 e.1 LooksAtSlot _ c.args.place _ c.slot_word.ensures c.requires.knows.0 e.2

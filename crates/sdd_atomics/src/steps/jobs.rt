@@ -1,0 +1,65 @@
+//! The atomic steps on places of the table of jobs, by a participant.
+//!
+//! A place is free, or a job waits in it. It is a slot without a value: its number comes after those of the slots. A lone participant knows each word
+//! beforehand.
+ghost use Rattle.std.specs.Prelude.{◌≡◌, ◌<◌, ◌≤◌, None};
+ghost use Rattle.sdd_word_invariant.specs.Codes.{free_word, waiting_word};
+ghost use Rattle.sdd_word_invariant.specs.Epoch.{HasPlace};
+ghost use Rattle.sdd_word_invariant.specs.SlotSteps.{IsDue, LooksAtSlot};
+ghost use Rattle.sdd_domain_invariant.specs.FractionSteps.{DefersJob, GivesPlace};
+ghost use Rattle.sdd_atomics.specs.DomainTable.{id_of, slots_of, most_waiting_of};
+ghost use Rattle.sdd_atomics.specs.DomainSeat.{view, epoch, Taught, Moved, Knows};
+
+use super::slots::{FREE, WAITING};
+use crate::domain_table::{DomainSeat, DomainTable};
+use crate::plays::{Defer, GivePlaceBack, LookAtSlot};
+
+/// Looks at the word of a job's place, which was free at this moment where this is `FREE`.
+#[inline]
+pub fn look_at_place(board: &DomainTable, token: &mut DomainSeat, place: u32) -> u64
+    requires home { token.old.table_id ≡ id_of board.now }
+    requires knows { Knows board.now token.old }
+    requires inside { (slots_of board.now ≤ place) × (place < most_waiting_of board.now) }
+    requires place { HasPlace (epoch token.old) }
+    requires rests { (view token.old).stakes.moves ≡ None }
+    ensures { Taught (LooksAtSlot place) token.old result token.new }
+{
+    board
+        .table
+        .shared
+        .load::<LookAtSlot>(token, board.slot_word(place))
+}
+
+/// Tries to claim a place for a job, and answers its word before. It was free where this is `FREE`: then the job waits with the participant from this
+/// step on, as a retired item does.
+#[inline]
+pub fn defer(board: &DomainTable, token: &mut DomainSeat, place: u32) -> u64
+    requires home { token.old.table_id ≡ id_of board.now }
+    requires knows { Knows board.now token.old }
+    requires inside { (slots_of board.now ≤ place) × (place < most_waiting_of board.now) }
+    requires place { HasPlace (epoch token.old) }
+    requires rests { (view token.old).stakes.moves ≡ None }
+    ensures { Moved (DefersJob place (free_word 0) (waiting_word 0)) token.old result token.new }
+{
+    board
+        .table
+        .shared
+        .compare_exchange::<Defer>(token, board.slot_word(place), FREE, WAITING)
+}
+
+/// Gives back the place of a job that has seen three changes.
+#[inline]
+pub fn give_place_back(board: &DomainTable, token: &mut DomainSeat, place: u32)
+    requires home { token.old.table_id ≡ id_of board.now }
+    requires knows { Knows board.now token.old }
+    requires inside { (slots_of board.now ≤ place) × (place < most_waiting_of board.now) }
+    requires place { HasPlace (epoch token.old) }
+    requires rests { (view token.old).stakes.moves ≡ None }
+    requires due { IsDue (view token.old) place }
+    ensures { Moved (GivesPlace place) token.old (free_word 0) token.new }
+{
+    board
+        .table
+        .shared
+        .store::<GivePlaceBack>(token, board.slot_word(place), FREE);
+}
