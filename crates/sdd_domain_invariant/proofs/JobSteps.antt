@@ -33,6 +33,7 @@ use Rattle.sdd_domain_invariant.proofs.Banks as banks
 use Rattle.sdd_domain_invariant.proofs.Counts.{ended_spared, as_full, uncounted}
 use Rattle.sdd_domain_invariant.proofs.Records as records
 use Rattle.sdd_domain_invariant.proofs.Fillings.{filled_same}
+use Rattle.sdd_domain_invariant.proofs.Lasts.{lasts_fewer, raws_past, raws_same}
 use Rattle.sdd_domain_invariant.proofs.Lift.{Keeps, Follows, keeps_ended, lift_homes, lift_calm, IsCalm}
 
 module _ (slots id : ℕ) (me : SeatState) (live : HasPlace me.0.epoch) (job : ℕ) (past : me.0.sizes.slots ≤ job) (inside : job < most_waiting me.0.sizes)
@@ -100,6 +101,8 @@ module _ (slots id : ℕ) (me : SeatState) (live : HasPlace me.0.epoch) (job : �
           filled = filled_same sizes s.views h.filled id v at w refl refl refl (λ _. live);
           bank = banks.calm γ sizes s.words s.views h.bank id v at (set s.words i y) w
               record { bank = refl; founds = refl; book = refl; banked = refl; drawn = refl } refl (h.bank.low id v at) full;
+          lasts = lasts_fewer sizes s.words s.views s.homes h.lasts id v at (set s.words i y) w s.homes (λ _ _ _ _ l. l) (λ is. (is, refl)) refl
+              (λ _ _. inl live) (raws_past sizes s.words job y past);
           tells = tells;
         }
 
@@ -148,4 +151,5 @@ module _ (slots id : ℕ) (me : SeatState) (live : HasPlace me.0.epoch) (job : �
         counts = refl;
         lives = λ l. l;
         had = λ _ l. inl l;
+        raws = raws_same sizes s.words i;
       })

@@ -104,6 +104,10 @@ module _ (sizes : Sizes) (ws : List ℕ) where
   pub raws_before : (j y : ℕ) → j < first_slot sizes → NoMoreRaw sizes ws (set ws j y)
   raws_before j y low i near is = sym (get_or-set_other ws j (slot_word sizes i) y 0 (λ e. omega arith)) ∙ is
 
+  -- a word past the slots' changes
+  pub raws_past : (other y : ℕ) → sizes.slots ≤ other → NoMoreRaw sizes ws (set ws (slot_word sizes other) y)
+  raws_past other y past i near is = sym (get_or-set_other ws (slot_word sizes other) (slot_word sizes i) y 0 (λ e. omega arith)) ∙ is
+
   -- a word is looked at
   pub raws_same : (j : ℕ) → NoMoreRaw sizes ws (set ws j (get_or ws j 0))
   raws_same j i near is = subst (λ (l : List ℕ). IsRaw sizes l i) (set-get_or ws j 0) is

@@ -59,8 +59,9 @@ has_more r rs q zero e = inl (sym (some-injective r q e))
 has_more r rs q (suc k) e = inr (k, e)
 
 -- the item of the only owner that it has goes out as raw
-turned_tells : (v : View) → IsTelling v → (slot : ℕ) → v.slots.owns ≡ slot ∷ [] → v.stakes.moves ≡ None → (y : ℕ) → IsTelling (untold (turned_raw slot y v))
-turned_tells v t slot owns rests y = record {
+turned_tells : (m : ℕ) (v : View) → IsTelling m v → (slot : ℕ) → v.slots.owns ≡ slot ∷ [] → v.stakes.moves ≡ None → (y : ℕ)
+    → IsTelling m (untold (turned_raw slot y v))
+turned_tells m v t slot owns rests y = record {
   owns = λ i g h. absurd (in_none i g h);
   owned = λ i o still. dite (ℕ_discrete i slot)
       (λ e. absurd (let z = without_same slot v.slots.owns in let c = ap (λ (k : ℕ). times k (without slot v.slots.owns)) e in omega arith))
@@ -68,11 +69,13 @@ turned_tells v t slot owns rests y = record {
   sees = t.sees;
   waits = t.waits;
   waiting = t.waiting;
+  inside = λ i g k. ⊎_elim (λ (a : IsIn [] i g). absurd (in_none i g a)) (λ b. t.inside i g (inr b)) k;
 }
 
 -- it has the only owner of one slot more
-regained_tells : (v : View) → IsTelling v → (slot : ℕ) → v.stakes.moves ≡ None → (y : ℕ) (value : Gv) → IsTelling (regaining slot y value v)
-regained_tells v t slot rests y value = let r : ShownValue = record { slot = slot; shared = false; value = value } in
+regained_tells : (m : ℕ) (v : View) → IsTelling m v → (slot : ℕ) → slot < m → v.stakes.moves ≡ None → (y : ℕ) (value : Gv)
+    → IsTelling m (regaining slot y value v)
+regained_tells m v t slot low rests y value = let r : ShownValue = record { slot = slot; shared = false; value = value } in
     let w : View = regaining slot y value v in record {
       owns = λ i g h. (
         ⊎_elim (λ (e : (slot ≡ i) × (value ≡ g)). let o = is_same i slot e.0 in let l : OwnsAlone w i = omega arith in l)
@@ -84,6 +87,10 @@ regained_tells v t slot rests y value = let r : ShownValue = record { slot = slo
       sees = t.sees;
       waits = t.waits;
       waiting = t.waiting;
+      inside = λ i g k. ⊎_elim
+          (λ (a : IsIn (r ∷ v.stakes.owns) i g). ⊎_elim (λ (e : (slot ≡ i) × (value ≡ g)). let same = e.0 in omega arith)
+          (λ (b : IsIn v.stakes.owns i g). t.inside i g (inl b)) (in_either r v.stakes.owns i g a))
+          (λ b. t.inside i g (inr b)) k;
     }
 
 module _ (slots id : ℕ) (me : SeatState) (live : HasPlace me.0.epoch) where
@@ -190,7 +197,7 @@ module _ (slots id : ℕ) (me : SeatState) (live : HasPlace me.0.epoch) where
           act = keeps;
           valid = tt;
           homes = part.calm γ sizes s.words s.views s.homes h.homes id v at (set s.words i y) now (λ j p out. out) same (none_out now rests);
-          records = records.no_more sizes s.views s.homes h.records id v at now s.homes (turned_tells v (h.records.each id v at) slot owns rests y)
+          records = records.no_more sizes s.views s.homes h.records id v at now s.homes (turned_tells sizes.slots v (h.records.each id v at) slot owns rests y)
               (λ j g k. known_by now j g (λ a. absurd (in_none j g a)) (λ a. mine j g (inr (inl a))) (λ a. mine j g (inr (inr a))) k)
               (λ j p z _ _ lies. inl lies) (λ j m. m) (λ j a. a);
           counts = uncounted sizes s.words s.views h.counts id v at (set s.words i y) now refl (λ l. l)
@@ -230,7 +237,7 @@ module _ (slots id : ℕ) (me : SeatState) (live : HasPlace me.0.epoch) where
           valid = tt;
           homes = part.calm γ sizes s.words s.views s.homes h.homes id v at (set s.words i y) now (λ j p out. out) same (none_out now rests);
           records = records.comes_to_learn sizes s.views s.homes h.records id v at slot n value z inside (omega arith) (lies s h hit)
-              (all_shown s h (still s h hit)) now s.homes (regained_tells v (h.records.each id v at) slot rests y value)
+              (all_shown s h (still s h hit)) now s.homes (regained_tells sizes.slots v (h.records.each id v at) slot inside rests y value)
               (λ j g k. known_by now j g (λ a. ⊎_elim (λ (e : (slot ≡ j) × (value ≡ g)). inl (sym e.0, sym e.1))
               (λ (b : IsIn v.stakes.owns j g). inr (mine j g (inl b))) (in_either r v.stakes.owns j g a))
               (λ a. inr (mine j g (inr (inl a)))) (λ a. inr (mine j g (inr (inr a)))) k)
@@ -326,6 +333,11 @@ module _ (slots id : ℕ) (me : SeatState) (live : HasPlace me.0.epoch) where
                   sees = ap (λ (l : List ℕ). slot ∷ l) tells.sees;
                   waits = tells.waits;
                   waiting = tells.waiting;
+                  inside = λ j g k. ⊎_elim (λ (a : IsIn v.stakes.owns j g). tells.inside j g (inl a))
+                      (λ (o : IsIn now.stakes.sees j g ⊎ IsIn v.stakes.waits j g). ⊎_elim
+                      (λ (a : IsIn now.stakes.sees j g). ⊎_elim (λ (e : (slot ≡ j) × (value ≡ g)). let same = e.0 in omega arith)
+                      (λ (d : IsIn v.stakes.sees j g). tells.inside j g (inr (inl d))) (in_either record_now v.stakes.sees j g a))
+                      (λ (d : IsIn v.stakes.waits j g). tells.inside j g (inr (inr d))) o) k;
                 }
                 (λ j g k. known_by now j g (λ a. inr (mine j g (inl a))) (λ a. ⊎_elim
                 (λ (e : (slot ≡ j) × (value ≡ g)). inl (sym e.0, sym e.1))
@@ -395,7 +407,14 @@ module _ (slots id : ℕ) (me : SeatState) (live : HasPlace me.0.epoch) where
               s.homes
               (part.calm γ sizes s.words s.views s.homes h.homes id v at s.words w (λ j p out. out) (λ j _. refl) (h.homes.moving id v at))
               (records.no_more sizes s.views s.homes h.records id v at w s.homes
-              record { owns = tells.owns; owned = tells.owned; sees = tells.sees; waits = tells.waits; waiting = tells.waiting }
+              record {
+                owns = tells.owns;
+                owned = tells.owned;
+                sees = tells.sees;
+                waits = tells.waits;
+                waiting = tells.waiting;
+                inside = tells.inside;
+              }
               (records.mine sizes s.views s.homes h.records id v at) (λ j p y _ _ l. inl l) (λ j m. m) (λ j a. a))
               (uncounted_alone sizes s.words s.views h.counts id v at w refl refl) (steps.still_filled slots id me live s h at w refl refl refl) bd b there ne ls
               (banks.deals γ sizes s.words s.views h.bank id v at bd b there bank ne w ls goes.deposits refl refl

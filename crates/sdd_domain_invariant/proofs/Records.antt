@@ -259,7 +259,7 @@ module _ (sizes : Sizes) (vs : List View) (hs : FractionsAtHome) (part : Records
 
     -- it comes to know what a slot shows, by what lies at home in it, and takes of that at most
     pub comes_to_learn : (slot q : ℕ) (value : Gv) (y : ValueFraction) → slot < sizes.slots → q ≤ n → LiesAt n hs slot q y
-        → ((p : ℕ) (z : ValueFraction) → p ≤ n → LiesAt n hs slot p z → z.lot.shown ≡ value) → (w : View) (hs' : FractionsAtHome) → IsTelling w
+        → ((p : ℕ) (z : ValueFraction) → p ≤ n → LiesAt n hs slot p z → z.lot.shown ≡ value) → (w : View) (hs' : FractionsAtHome) → IsTelling sizes.slots w
         → ((i : ℕ) (g : Gv) → KnowsShown w i g → ((i ≡ slot) × (g ≡ value)) ⊎ IsKnown vs i g)
         → ((i p : ℕ) (z : ValueFraction) → LiesAt n hs' i p z → LiesAt n hs i p z)
         → NotSeen w w → ((j : ℕ) (u : View) → j ≢ id → get_elem? vs j ≡ some u → NotSeen w u × NotSeen u w) → RecordsInvariant sizes (set vs id w) hs'
@@ -268,7 +268,7 @@ module _ (sizes : Sizes) (vs : List View) (hs : FractionsAtHome) (part : Records
         = λ i g k. ⊎_elim (λ (t : KnowsShown w i g). knows i g t) (λ (t : IsKnown vs i g). inr t) (known_after vs id w i g k) in
         let old : (i : ℕ) (g : Gv) → i ≡ slot → IsKnown vs i g → g ≡ value
         = λ i g e k. sym (part.home slot q g y inside near (subst (λ (a : ℕ). IsKnown vs a g) e k) lies) ∙ shown q y near lies in record {
-          each = each_set IsTelling IsTelling vs id w tells (λ j u _ e. part.each j u e);
+          each = each_set (IsTelling sizes.slots) (IsTelling sizes.slots) vs id w tells (λ j u _ e. part.each j u e);
           agree = λ i g h a b. ⊎_elim
               (λ (s : (i ≡ slot) × (g ≡ value)). ⊎_elim (λ (t : (i ≡ slot) × (h ≡ value)). s.1 ∙ sym t.1)
               (λ (t : IsKnown vs i h). s.1 ∙ sym (old i h s.0 t)) (now i h b))
