@@ -12,6 +12,7 @@ ghost use Rattle.sdd_domain_invariant.specs.FractionSteps.{CarriesSeen, EndsAll}
 ghost use Rattle.sdd_atomics.specs.DomainSeat.{view, epoch, words_known, Stepped, Taught, HasPublished, HasClosed, Knows};
 
 pub mod counts;
+pub mod raw;
 pub mod slots;
 
 use crate::domain_table::{DomainSeat, DomainTable};
