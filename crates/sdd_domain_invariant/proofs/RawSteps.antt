@@ -250,7 +250,7 @@ module _ (slots id : ℕ) (me : SeatState) (live : HasPlace me.0.epoch) where
           lasts = lasts_fewer sizes s.words s.views s.homes h.lasts id v at (set s.words i y) now s.homes (λ _ _ _ _ l. l) (λ b. (b, refl)) refl
               (λ _ _. inl live) (raws_set sizes s.words slot y low (λ e. absurd (omega arith)));
           tells = steps.at_once slots id me live slot inside (λ slot. RegainsOne slot (raw_word 0) (owned_word 0)) x (now, me.1)
-              ((λ _. (value, refl, λ lone. h.lasts.raw (steps.one_place γ sizes s h id v at lone) id v at live slot z inside hit (lies s h hit))), (λ no. absurd (no hit)), c.2);
+              ((λ _. (value, (h.homes.home slot n z inside (omega arith) (lies s h hit)).1.0 (filled s h hit), refl, λ lone. h.lasts.raw (steps.one_place γ sizes s h id v at lone) id v at live slot z inside hit (lies s h hit))), (λ no. absurd (no hit)), c.2);
         })
         (λ miss. subst (Follows γ sizes id i me told s x) (sym (c.1 miss)) (unmoved s h at told
         (steps.at_once slots id me live slot inside (λ slot. RegainsOne slot (raw_word 0) (owned_word 0)) x me ((λ hit. absurd (miss hit)), (λ _. refl), c.2)))))

@@ -2,7 +2,7 @@
 use Rattle.std.specs.Prelude.{◌≡◌, ◌≢◌, ℕ, false, ◌∷◌}
 use base.Stored.{Gv}
 use Rattle.sdd_shared_values.specs.ValueFractions.{FractionContent}
-use Rattle.sdd_shared_values.specs.SharedValues.{lot}
+use Rattle.sdd_shared_values.specs.SharedValues.{IsValueCode, lot}
 use Rattle.sdd_views.specs.declared.View.{View}
 use Rattle.sdd_word_invariant.specs.Epoch.{IsLone}
 use Rattle.sdd_word_invariant.specs.SlotSteps.{Knew, claimed, turned_raw}
@@ -26,7 +26,7 @@ KnewRaw slot value v = IsLone v.epoch → IsNewest slot false value v
 -- an owner of an item is made that is out as raw, whose word is old then; the owner has no unit yet
 abbrev pub RegainsOne : ℕ → ℕ → ℕ → SeatState → ℕ → SeatState → Type 0
 RegainsOne slot old y me x me' =
-    (x ≡ old → (value : Gv) × (me' ≡ (regaining slot y value me.0, me.1)) × KnewRaw slot value me.0)
+    (x ≡ old → (value : Gv) × IsValueCode value × (me' ≡ (regaining slot y value me.0, me.1)) × KnewRaw slot value me.0)
     × (x ≢ old → me' ≡ me) × Knew slot me.0 x
 
 -- a guard sees an item that is out as raw, whose word is old then
