@@ -18,7 +18,7 @@ use Rattle.sdd_views.specs.declared.EpochView.{EpochView}
 use Rattle.sdd_views.specs.declared.View.{View}
 use Rattle.sdd_views.specs.declared.Sizes.{Sizes}
 use Rattle.sdd_word_invariant.specs.Words.{global_word, lock_word, state_word, count_word, slot_word, after_places}
-use Rattle.sdd_word_invariant.specs.Codes.{free_word, owned_word, waiting_word}
+use Rattle.sdd_word_invariant.specs.Codes.{free_word, owned_word, raw_word, waiting_word}
 use Rattle.sdd_word_invariant.specs.Epoch.{HasPlace, IsClosed, IsOpen, Scans}
 use Rattle.sdd_views.specs.Views.{nobody, owner_of}
 use Rattle.sdd_word_invariant.specs.EpochSteps.{Keeps, passed_by, knowing, scanning, IsNext, Registers, Reads, Counts, Publishes, Ends, Locks, LooksAtLock, LooksAtState, LooksAtCount, Advances, Unlocks}
@@ -37,8 +37,10 @@ use Rattle.sdd_domain_invariant.specs.FractionSteps.{SeatState, CarriesAll, IsVa
 use Rattle.sdd_domain_invariant.proofs.Lift.{lift_epoch, lift_publish, lift_end}
 use Rattle.sdd_domain_invariant.proofs.Steps.{own_place}
 use Rattle.sdd_domain_invariant.proofs.Steps as steps
-use Rattle.sdd_domain_invariant.proofs.Fillings.{NoneTold}
-use Rattle.sdd_domain_invariant.proofs.Telling.{one_moved, none_told}
+use Rattle.sdd_domain_invariant.proofs.RawSteps as raw
+use Rattle.sdd_domain_invariant.specs.FilledInvariant.{HasRecord}
+use Rattle.sdd_domain_invariant.specs.RawSteps.{TurnsRawOne, RegainsOne, SeesRawOne, DrawsUnit}
+use Rattle.sdd_domain_invariant.proofs.Telling.{one_moved}
 use Rattle.sdd_domain_invariant.proofs.Tokens.{enters}
 use Rattle.sdd_atomics.specs.declared.domain_table.DomainTable.{DomainTable}
 use Rattle.sdd_atomics.specs.declared.domain_table.TableLayout.{TableLayout}
@@ -128,10 +130,11 @@ module _ (γ : ℕ) (sizes : Sizes) (slots id : ℕ) (me : SeatState) where
 
   -- while its only place was free a lone domain has no owner
   taken : (p : ℕ) → p < sizes.participants → (s : State ValueFraction View) → DomainInvariant γ sizes s → (e : EpochView)
-      → Registers (state_word p) v (get_or s.words (state_word p) 0) e → sizes.participants ≡ 1 → HasPlace e → HasPlace v ⊎ NoneTold s.views
+      → Registers (state_word p) v (get_or s.words (state_word p) 0) e → sizes.participants ≡ 1 → HasPlace e
+      → HasPlace v ⊎ ((j : ℕ) → get_or s.words j 0 ≡ 0)
   taken p inside s h e t one placed = let x : ℕ = get_or s.words (state_word p) 0 in dite (ℕ_discrete x 0)
       (λ free. let first : 0 ≡ p = omega arith in
-      inr (none_told γ sizes s h (h.kept.parts.epoch.unused one (ap (λ (q : ℕ). get_or s.words (state_word q) 0) first ∙ free))))
+      inr (h.kept.parts.epoch.unused one (ap (λ (q : ℕ). get_or s.words (state_word q) 0) first ∙ free)))
       (λ ne. inl (subst HasPlace ((t p refl).1 ne) placed))
 
   pub may_register : (i p : ℕ) → i ≡ state_word p → p < sizes.participants → v ≡ nobody sizes.participants → me.0.words ≡ blank sizes
@@ -264,12 +267,12 @@ module _ (γ : ℕ) (sizes : Sizes) (slots id : ℕ) (me : SeatState) where
       n = sizes.participants
 
       pub may_house : Moves me.0 slot → OwnsAlone me.0 slot → (shared : Bool) (value : Gv) (rest : CarriedFractions)
-          → CarriesAll γ slot n (spare n) (IsValue value) rest me.1 → (l : FractionContent) → l ≡ lot γ slot l.round l.shown (spare n - 1)
+          → CarriesAll γ slot n (spare n) (IsValue value) rest me.1 → (l : FractionContent) → l ≡ lot γ slot l.round value (spare n - 1)
           → Deals Comes (λ k. k ≡ l) (λ _. HousesMoved shared me)
       may_house moves mine shared value rest row l is = deal_known Comes (λ k. k ≡ l) (λ _. HousesMoved shared me) (λ s b h long at there ours ne.
           let known = subst (λ (z : Sizes). CarriesAll me.0.stakes.book slot me.0.sizes.participants (spare z.participants) (IsValue value) rest me.1) (sym same)
           (row_as_known slot (spare n) (IsValue value) rest row) in
-          let lot_known = subst (λ (t : ℕ × Sizes). l ≡ lot t.0 slot l.round l.shown (spare t.1.participants - 1)) (λ d. (sym book d, sym same d)) is in
+          let lot_known = subst (λ (t : ℕ × Sizes). l ≡ lot t.0 slot l.round value (spare t.1.participants - 1)) (λ d. (sym book d, sym same d)) is in
           let a = steps.houses slots id me live slot known_slot bd moves mine shared value rest known l lot_known s b h long at there ours ne in record {
             view = a.view;
             bank = a.bank;
@@ -332,6 +335,11 @@ module _ (γ : ℕ) (sizes : Sizes) (slots id : ℕ) (me : SeatState) where
           (λ other b g e. owner_told slot other shared b value g e (λ k c x. LearnsOwned k c x me (a.0, carried_after me.1 a.1)) a.4),
         ))
 
+    pub may_draw_unit : (bd slot : ℕ) → slot < sizes.slots → OwnsAlone me.0 slot → me.0.slots.drawn ≡ [] → me.0.stakes.moves ≡ None
+        → AllowsDeal (DomainInvariant γ sizes) Leaves IsBank banked slots id me bd (λ _. Unit {0}) (DrawsUnit slot me)
+    may_draw_unit bd slot inside mine drawn rests = deal_known bd slot inside Leaves (λ _. Unit {0}) (DrawsUnit slot me)
+        (raw.draws_unit slots id me live slot (known_slot bd slot inside) bd mine drawn rests)
+
     -- of a slot
     module _ (i slot : ℕ) (is : i ≡ slot_word sizes slot) (inside : slot < sizes.slots) where
       -- where the slot's word is, as it knows it
@@ -355,6 +363,23 @@ module _ (γ : ℕ) (sizes : Sizes) (slots id : ℕ) (me : SeatState) where
           (OfSlot (λ slot. ClaimsAll slot (free_word 0) (owned_word 0)) i me)
       may_claim rests = at_slot (λ x. either (eqb x (free_word 0)) (owned_word 0) x) (λ j. OfSlot (λ slot. ClaimsAll slot (free_word 0) (owned_word 0)) j me)
           (steps.claims slots id me live slot within rests)
+
+      -- of an item that goes out as raw, or is out
+      pub may_turn_raw : me.0.slots.owns ≡ slot ∷ [] → ¬ (Holds me.0 slot) → me.0.slots.drawn ≡ [] → me.0.stakes.moves ≡ None → (value : Gv)
+          → HasRecord me.0.stakes.owns (record { slot = slot; shared = false; value = value })
+          → May i (λ _. raw_word 0) (λ _. OfSlot TurnsRawOne i me (raw_word 0))
+      may_turn_raw mine free drawn rests value told = at_slot (λ _. raw_word 0) (λ j _. OfSlot TurnsRawOne j me (raw_word 0))
+          (raw.turns_raw slots id me live slot within mine free drawn rests value told)
+
+      pub may_regain : me.0.stakes.moves ≡ None → May i (λ x. either (eqb x (raw_word 0)) (owned_word 0) x)
+          (OfSlot (λ slot. RegainsOne slot (raw_word 0) (owned_word 0)) i me)
+      may_regain rests = at_slot (λ x. either (eqb x (raw_word 0)) (owned_word 0) x) (λ j. OfSlot (λ slot. RegainsOne slot (raw_word 0) (owned_word 0)) j me)
+          (raw.regains slots id me live slot within rests)
+
+      pub may_look_for_raw : IsOpen v → v.place < sizes.participants → me.0.stakes.moves ≡ None
+          → May i (λ x. x) (OfSlot (λ slot. SeesRawOne slot (raw_word 0)) i me)
+      may_look_for_raw is_open near rests = at_slot (λ x. x) (λ j. OfSlot (λ slot. SeesRawOne slot (raw_word 0)) j me)
+          (raw.sees_raw slots id me live slot within is_open (near_place near) rests)
 
       pub may_look : May i (λ x. x) (Told (AtSlot LooksAtSlot i) me)
       may_look = at_slot (λ x. x) (λ j. Told (AtSlot LooksAtSlot j) me) (steps.looks slots id me live slot within)

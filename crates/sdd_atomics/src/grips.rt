@@ -44,7 +44,7 @@ pub fn cut_rest(
     ensures token { (token.new.table_id ≡ token.old.table_id) × (token.new.id ≡ token.old.id) × (view token.new ≡ view token.old) }
     ensures row { (value : Gv) (others : CarriedFractions) → CarriesAll (book_of board.now) slot (places_of board.now) 0 (IsValue value) others token.old.me.1
         → CarriesAll (book_of board.now) slot (places_of board.now) (spare (places_of board.now)) (IsValue value) others token.new.me.1
-        × IsGripOf (book_of board.now) slot value result.0 }
+        × IsGripOf (book_of board.now) slot value result.0 × (result.1.lot.shown ≡ value) }
     ensures rest { result.1.lot ≡ lot (book_of board.now) slot result.1.lot.round result.1.lot.shown (spare (places_of board.now) - 1) }
 {
     let home = board.last_home(slot);

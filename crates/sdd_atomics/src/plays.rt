@@ -6,6 +6,8 @@ ghost use Rattle.sdd_word_invariant.specs.Barred.{Bars, LooksForValue};
 ghost use Rattle.sdd_views.specs.Views.{owner_token};
 ghost use Rattle.sdd_domain_invariant.specs.BankInvariant.{founded, bank_of};
 ghost use Rattle.sdd_domain_invariant.specs.FractionSteps.{ClaimsAll, TakesOut, TakesHeld, IsDeposit, RetiresOne, GivesAll, DefersJob, GivesPlace, DiscardsAll, ClosesHome, EndsAll, EntersUnit, OfSlot, parting, departing, regained, uncounting, counts_of, counting};
+ghost use Rattle.sdd_word_invariant.specs.Codes.{raw_word};
+ghost use Rattle.sdd_domain_invariant.specs.RawSteps.{TurnsRawOne, RegainsOne, SeesRawOne, DrawsUnit};
 ghost use Rattle.sdd_atomics.specs.DomainSeat.{Sits, Told, HousesMoved, WatchesOwned, RecallsOwned};
 
 use atomic_table::{Join, Play, Split};
@@ -197,6 +199,30 @@ pub struct Discard;
 
 impl Play<ValueFraction, View> for Discard {
     ghost then = { λ step. OfSlot DiscardsAll step.word };
+}
+
+pub struct TurnRaw;
+
+impl Play<ValueFraction, View> for TurnRaw {
+    ghost then = { λ step. OfSlot TurnsRawOne step.word };
+}
+
+pub struct Regain;
+
+impl Play<ValueFraction, View> for Regain {
+    ghost then = { λ step. OfSlot (λ slot. RegainsOne slot step.first step.second) step.word };
+}
+
+pub struct LookForRaw;
+
+impl Play<ValueFraction, View> for LookForRaw {
+    ghost then = { λ step. OfSlot (λ slot. SeesRawOne slot (raw_word 0)) step.word };
+}
+
+pub struct DrawUnit;
+
+impl Deals<View> for DrawUnit {
+    ghost then = { DrawsUnit };
 }
 
 pub struct LookForValue;

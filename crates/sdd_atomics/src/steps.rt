@@ -13,6 +13,7 @@ ghost use Rattle.sdd_atomics.specs.DomainSeat.{view, epoch, words_known, Stepped
 
 pub mod counts;
 pub mod jobs;
+pub mod raw;
 pub mod slots;
 
 use crate::domain_table::{DomainSeat, DomainTable};

@@ -174,9 +174,9 @@ module _ (slots id : ℕ) (me : SeatState) (live : HasPlace me.0.epoch) where
 
     -- it goes out as raw: its owner's unit is in the bank
     pub turns_raw : v.slots.owns ≡ slot ∷ [] → ¬ (Holds v slot) → v.slots.drawn ≡ [] → v.stakes.moves ≡ None → (value : Gv)
-        → get_elem? v.stakes.owns 0 ≡ some (record { slot = slot; shared = false; value = value })
+        → HasRecord v.stakes.owns (record { slot = slot; shared = false; value = value })
         → May i (λ _. raw_word 0) (λ _. OfSlot TurnsRawOne i me (raw_word 0))
-    turns_raw owns free empty rests value first = let y : ℕ = raw_word 0 in let told : ℕ → SeatState → Type 0 = λ _. OfSlot TurnsRawOne i me y in
+    turns_raw owns free empty rests value has = let y : ℕ = raw_word 0 in let told : ℕ → SeatState → Type 0 = λ _. OfSlot TurnsRawOne i me y in
         let own = owns_it v slot owns in let r : ShownValue = record { slot = slot; shared = false; value = value } in
         lift_homes γ sizes slots id me i (λ _. y) (λ _. AtSlot TurnsRaw i v y) told
         (steps.spares slots id me live slot inside (λ _. y) (λ _. AtSlot TurnsRaw i v y) (λ r w t. ap (λ (u : View). u.places) (t slot refl)))
@@ -191,7 +191,7 @@ module _ (slots id : ℕ) (me : SeatState) (live : HasPlace me.0.epoch) where
         (ap full word ∙ ((raw_is 0 (omega arith)).2 ∙ sym was)))
         (λ ne. steps.others slots id me live slot inside s.words y j near ne) in
         let mine = records.mine sizes s.views s.homes h.records id v at in
-        let known : IsKnown s.views slot value = mine slot value (inl (0, r, first, refl, refl)) in
+        let known : IsKnown s.views slot value = mine slot value (inl (has.0, r, has.1, refl, refl)) in
         subst (Follows γ sizes id i me told s y) (sym (t slot refl)) record {
           stakes = now.stakes;
           act = keeps;
@@ -210,7 +210,7 @@ module _ (slots id : ℕ) (me : SeatState) (live : HasPlace me.0.epoch) where
           lasts = lasts_out sizes s.words s.views s.homes h.lasts id v at slot (set s.words i y) now (λ b. (b, refl)) refl (λ l. l)
               (λ single j u e placed z last. subst (λ (g : Gv). newest slot u.stakes.filled ≡ Some (record { slot = slot; shared = false; value = g }))
               (sym (h.records.home slot n value z inside (omega arith) known last))
-              (h.filled.knows single j id u v r e placed at (inl (0, first))))
+              (h.filled.knows single j id u v r e placed at (inl has)))
               (raws_other sizes s.words slot y);
           tells = steps.at_once slots id me live slot inside TurnsRawOne y (now, me.1) (refl, refl);
         })
@@ -257,7 +257,7 @@ module _ (slots id : ℕ) (me : SeatState) (live : HasPlace me.0.epoch) where
           lasts = lasts_fewer sizes s.words s.views s.homes h.lasts id v at (set s.words i y) now s.homes (λ _ _ _ _ l. l) (λ b. (b, refl)) refl
               (λ _ _. inl live) (raws_set sizes s.words slot y low (λ e. absurd (omega arith)));
           tells = steps.at_once slots id me live slot inside (λ slot. RegainsOne slot (raw_word 0) (owned_word 0)) x (now, me.1)
-              ((λ _. (value, refl, λ lone. h.lasts.raw (steps.one_place γ sizes s h id v at lone) id v at live slot z inside hit (lies s h hit))), (λ no. absurd (no hit)), c.2);
+              ((λ _. (value, (h.homes.home slot n z inside (omega arith) (lies s h hit)).1.0 (filled s h hit), refl, λ lone. h.lasts.raw (steps.one_place γ sizes s h id v at lone) id v at live slot z inside hit (lies s h hit))), (λ no. absurd (no hit)), c.2);
         })
         (λ miss. subst (Follows γ sizes id i me told s x) (sym (c.1 miss)) (unmoved s h at told
         (steps.at_once slots id me live slot inside (λ slot. RegainsOne slot (raw_word 0) (owned_word 0)) x me ((λ hit. absurd (miss hit)), (λ _. refl), c.2)))))
@@ -375,9 +375,9 @@ module _ (slots id : ℕ) (me : SeatState) (live : HasPlace me.0.epoch) where
           (steps.at_once slots id me live slot inside R x me ((λ hit. absurd (miss hit)), (λ _. refl), c.2)))))
 
     -- its owner draws its unit from the bank
-    pub draws_unit : (bd : ℕ) → OwnsAlone v slot → v.slots.drawn ≡ [] → v.stakes.moves ≡ None → (value : Gv) → IsIn v.stakes.owns slot value
-        → steps.MayDeal slots id me live slot inside bd Leaves (λ _. Unit {0}) (DrawsUnit slot value me)
-    draws_unit bd own empty rests value told s b h _ at there bank ne = let w : View = drawing slot v in let p = h.kept.parts in
+    pub draws_unit : (bd : ℕ) → OwnsAlone v slot → v.slots.drawn ≡ [] → v.stakes.moves ≡ None
+        → steps.MayDeal slots id me live slot inside bd Leaves (λ _. Unit {0}) (DrawsUnit slot me)
+    draws_unit bd own empty rests s b h _ at there bank ne = let w : View = drawing slot v in let p = h.kept.parts in
         let one = ((p.slots.each id v at).alone slot own).0 in let filled = full_owned (slot_at sizes s.words slot) (omega arith) in
         let still : (j : ℕ) (u : View) → get_elem? s.views j ≡ some u → ¬ (Moves u slot)
         = λ j u e. dite (ℕ_discrete id j)
@@ -393,9 +393,9 @@ module _ (slots id : ℕ) (me : SeatState) (live : HasPlace me.0.epoch) where
         let d = draws γ slot 1 (banked b) deposits (omega arith) (omega arith) in let l : FractionContent = d.0 in let ls : List FractionContent = d.1 in
         let goes = d.3 in let vs' : List View = set (set s.views id w) bd (with_deposits ls b) in
         let z = last_home s h still in
-        let shows = h.records.home slot n value z.0 inside (omega arith) (records.mine sizes s.views s.homes h.records id v at slot value (inl told)) z.1 in
         let leaves = shown_leaves slot z.0.lot.shown (banked b) l ls goes.goes (h.lasts.banks bd b there bank slot z.0 inside z.1) in
-        let is : l.shown ≡ value = leaves.1 goes.number ∙ shows in
+        let is : (value : Gv) → IsIn v.stakes.owns slot value → l.shown ≡ value = λ value told. leaves.1 goes.number
+        ∙ h.records.home slot n value z.0 inside (omega arith) (records.mine sizes s.views s.homes h.records id v at slot value (inl told)) z.1 in
         let tells = h.records.each id v at in record {
           view = w;
           bank = with_deposits ls b;
@@ -435,5 +435,5 @@ module _ (slots id : ℕ) (me : SeatState) (live : HasPlace me.0.epoch) where
           ours = bank;
           goes = subst (Leaves (banked b) l) (sym (banked_then γ ls b balance.book goes.deposits)) goes.goes;
           offered = tt;
-          then = (refl, refl, λ i. record l { book = goes.book i; number = goes.number i; shown = is i; units = d.2 i; lent = goes.free i });
+          then = (refl, refl, λ value told i. record l { book = goes.book i; number = goes.number i; shown = is value told i; units = d.2 i; lent = goes.free i });
         }

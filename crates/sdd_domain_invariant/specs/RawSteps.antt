@@ -2,10 +2,11 @@
 use Rattle.std.specs.Prelude.{◌≡◌, ◌≢◌, ℕ, false, ◌∷◌}
 use base.Stored.{Gv}
 use Rattle.sdd_shared_values.specs.ValueFractions.{FractionContent}
-use Rattle.sdd_shared_values.specs.SharedValues.{lot}
+use Rattle.sdd_shared_values.specs.SharedValues.{IsValueCode, lot}
 use Rattle.sdd_views.specs.declared.View.{View}
 use Rattle.sdd_word_invariant.specs.Epoch.{IsLone}
 use Rattle.sdd_word_invariant.specs.SlotSteps.{Knew, claimed, turned_raw}
+use Rattle.sdd_domain_invariant.specs.Records.{IsIn}
 use Rattle.sdd_domain_invariant.specs.FractionSteps.{SeatState, IsNewest, SeesOwned, untold, drawing, book_of}
 
 -- the item of its only owner is out as raw, and it knows no more what the slot shows
@@ -25,7 +26,7 @@ KnewRaw slot value v = IsLone v.epoch → IsNewest slot false value v
 -- an owner of an item is made that is out as raw, whose word is old then; the owner has no unit yet
 abbrev pub RegainsOne : ℕ → ℕ → ℕ → SeatState → ℕ → SeatState → Type 0
 RegainsOne slot old y me x me' =
-    (x ≡ old → (value : Gv) × (me' ≡ (regaining slot y value me.0, me.1)) × KnewRaw slot value me.0)
+    (x ≡ old → (value : Gv) × IsValueCode value × (me' ≡ (regaining slot y value me.0, me.1)) × KnewRaw slot value me.0)
     × (x ≢ old → me' ≡ me) × Knew slot me.0 x
 
 -- a guard sees an item that is out as raw, whose word is old then
@@ -33,6 +34,7 @@ abbrev pub SeesRawOne : ℕ → ℕ → SeatState → ℕ → SeatState → Type
 SeesRawOne slot old me x me' = (x ≡ old → (value : Gv) × SeesOwned slot false value me me' × KnewRaw slot value me.0)
     × (x ≢ old → me' ≡ me) × Knew slot me.0 x
 
--- the owner of a slot that shows this has its unit from now on, which is drawn from the bank
-abbrev pub DrawsUnit : ℕ → Gv → SeatState → FractionContent → SeatState → Type 0
-DrawsUnit slot value me l me' = (me'.0 ≡ drawing slot me.0) × (me'.1 ≡ me.1) × (l ≡ lot (book_of me) slot l.round value 1)
+-- the owner of a slot has its unit from now on, which is drawn from the bank, and shows what is known of the slot
+abbrev pub DrawsUnit : ℕ → SeatState → FractionContent → SeatState → Type 0
+DrawsUnit slot me l me' = (me'.0 ≡ drawing slot me.0) × (me'.1 ≡ me.1)
+    × ((value : Gv) → IsIn me.0.stakes.owns slot value → l ≡ lot (book_of me) slot l.round value 1)

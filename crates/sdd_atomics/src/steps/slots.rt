@@ -76,7 +76,7 @@ pub fn house(board: &DomainTable, token: &mut DomainSeat, rest: ValueFraction, s
     requires place { HasPlace (epoch token.old) }
     requires row { (slot : ℕ) × (value : Gv) × (slot < slots_of board.now) × Moves (view token.old) slot × OwnsAlone (view token.old) slot
         × ((others : CarriedFractions) × CarriesAll (book_of board.now) slot (places_of board.now) (spare (places_of board.now)) (IsValue value) others token.old.me.1)
-        × (rest.lot ≡ lot (book_of board.now) slot rest.lot.round rest.lot.shown (spare (places_of board.now) - 1)) }
+        × (rest.lot ≡ lot (book_of board.now) slot rest.lot.round value (spare (places_of board.now) - 1)) }
     ensures { (slot : ℕ) (value : Gv) (others : CarriedFractions) → Moves (view token.old) slot
         → CarriesAll (book_of board.now) slot (places_of board.now) (spare (places_of board.now)) (IsValue value) others token.old.me.1
         → MovedAlone (FillsSlot slot shared value) token.old token.new }

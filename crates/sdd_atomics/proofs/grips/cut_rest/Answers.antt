@@ -22,4 +22,5 @@ returns-clause-row c value others row = let b = c.args.board.now in let γ : ℕ
           c.split-rest.ensures.rest row,
       cut_grips γ slot _ value last.result.now c.split.result.lot c.into_grip-grip.result has
           (c.split.ensures.part ∙ ap (λ (l : FractionContent). record l { units = 1 }) c.split-rest.ensures.part) c.into_grip-grip.ensures,
+      ap (λ (l : FractionContent). l.shown) c.split.ensures.rest ∙ (ap (λ (l : FractionContent). l.shown) c.split-rest.ensures.part ∙ has.1.1),
     )
