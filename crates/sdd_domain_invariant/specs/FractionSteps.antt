@@ -194,7 +194,7 @@ GivesAll slot me y me' = (v : View) × GivesBack slot me.0 y v × (me'.0 ≡ giv
 
 -- the item of a slot that was held has gone at once: the slot is free, and all stakes in it go home
 abbrev pub DiscardsAll : ℕ → SeatState → ℕ → SeatState → Type 0
-DiscardsAll slot me y me' = (me'.0 ≡ giving (discarded slot y me.0)) × (me'.1 ≡ drop (suc (places_of me)) me.1)
+DiscardsAll slot me y me' = (me'.0 ≡ dropping (discarded slot y me.0)) × (me'.1 ≡ drop (suc (places_of me)) me.1)
 
 -- a guard sees a slot beside its owner, who knows what it shows: it has the stake of its place out, if it didn't before
 abbrev pub SeesOwned : ℕ → Bool → Gv → SeatState → SeatState → Type 0
