@@ -2,7 +2,7 @@
 use Rattle.std.proofs.Common.{◌≡◌, ℕ, zero, suc, ◌+◌, List, [], ◌∷◌, ◌++◌, All, map, sum, refl, ap, ◌∙◌, arith}
 use Rattle.std.proofs.lemmas.List.Sums.{sum_by-cons}
 use Rattle.sdd_participants.specs.declared.tally.Tally.{Tally}
-use Rattle.sdd_participants.specs.Tally.{one_more, one_made, one_reclaimed}
+use Rattle.sdd_participants.specs.Tally.{one_more, one_made, one_reclaimed, one_in_place}
 use Rattle.sdd_views.specs.declared.CountsView.{CountsView}
 use Rattle.sdd_views.specs.Views.{no_counts}
 use Rattle.sdd_domain_invariant.specs.FractionSteps.{counts_added}
@@ -10,15 +10,21 @@ use Rattle.sdd_domain.specs.Receipt.{Receipt, capped, sum_of, with_reclaimed, Is
 
 -- an item more
 pub tallied_made : (t : Tally) (c : CountsView) → IsTallied 0 t c → IsTallied 0 (one_made t) (record c { made = c.made + 1 })
-tallied_made t c i = let m = i.made in record { over = i.over; made = omega arith; reclaimed = i.reclaimed; in_place = i.in_place }
+tallied_made t c i = let m = i.made in record { over = i.over; made = omega arith; few = i.few; reclaimed = i.reclaimed; in_place = i.in_place }
 
 -- one that was reclaimed
 pub tallied_reclaimed : (t : Tally) (c : CountsView) → IsTallied 0 t c → IsTallied 0 (one_reclaimed t) (record c { gone = c.gone + 1 })
-tallied_reclaimed t c i = let r = i.reclaimed in record { over = i.over; made = i.made; reclaimed = omega arith; in_place = i.in_place }
+tallied_reclaimed t c i = let r = i.reclaimed in let few = i.few in
+    record { over = i.over; made = i.made; few = omega arith; reclaimed = omega arith; in_place = i.in_place }
+
+-- one that was dropped in its place
+pub tallied_in_place : (t : Tally) (c : CountsView) → IsTallied 0 t c → IsTallied 0 (one_in_place t) (record c { gone = c.gone + 1; in_place = c.in_place + 1 })
+tallied_in_place t c i = let r = i.reclaimed in let p = i.in_place in let few = i.few in
+    record { over = i.over; made = i.made; few = omega arith; reclaimed = omega arith; in_place = omega arith }
 
 -- its place has ended
 pub tallied_ended : (t : Tally) (c : CountsView) → IsTallied 0 t c → IsTallied 1 t (record c { over = c.over + 1 })
-tallied_ended t c i = let o = i.over in record { over = omega arith; made = i.made; reclaimed = i.reclaimed; in_place = i.in_place }
+tallied_ended t c i = let o = i.over in record { over = omega arith; made = i.made; few = i.few; reclaimed = i.reclaimed; in_place = i.in_place }
 
 -- one that was reclaimed, and so many others
 pub one_first : (n : ℕ) (t : Tally) → with_reclaimed n (one_reclaimed t) ≡ with_reclaimed (suc n) t
@@ -34,7 +40,7 @@ many_more (suc m) (suc n) k t both =
     ∙ ap (λ (j : ℕ). with_reclaimed j t) (let e : suc (m + suc n) ≡ k = omega arith in e)
 
 pub none_taken : HasTaken [] no_counts
-none_taken = record { over = refl; made = λ _. refl; reclaimed = λ _. refl; in_place = refl }
+none_taken = record { over = refl; made = λ _. refl; few = omega arith; reclaimed = λ _. refl; in_place = λ _. refl }
 
 one_summed : (f : Receipt → ℕ) (r : Receipt) (rs : List Receipt) → sum (map f (r ∷ rs)) ≡ f r + sum (map f rs)
 one_summed f r rs = sum_by-cons (λ (x : ℕ). x) (f r) (map f rs)
@@ -42,12 +48,13 @@ one_summed f r rs = sum_by-cons (λ (x : ℕ). x) (f r) (map f rs)
 -- one receipt more
 pub one_taken : (r : Receipt) (rs : List Receipt) (c d : CountsView) → HasTaken rs c → IsTallied 1 r.tally d → HasTaken (r ∷ rs) (counts_added c d)
 one_taken r rs c d h i = let over = h.over in let one = i.over in let made = i.made in let gone = i.reclaimed in
-    let none = i.in_place in let all = h.in_place in
+    let placed = i.in_place in let few = h.few in let few' = i.few in
     let more = λ (f : Receipt → ℕ). one_summed f r rs in let m = more made_in in let g = more reclaimed_in in let p = more in_place_in in record {
       over = omega arith;
-      made = λ few. let a = h.made (omega arith) in omega arith;
-      reclaimed = λ few. let a = h.reclaimed (omega arith) in omega arith;
-      in_place = omega arith;
+      made = λ low. let a = h.made (omega arith) in omega arith;
+      few = omega arith;
+      reclaimed = λ low. let a = h.reclaimed (omega arith) in omega arith;
+      in_place = λ low. let a = h.in_place (omega arith) in omega arith;
     }
 
 -- what is so of each of them is so of each of the first ones
@@ -56,6 +63,6 @@ front_all P [] ys h k d l = absurd (omega arith)
 front_all P (x ∷ xs) ys h zero d l = h 0 d (omega arith)
 front_all P (x ∷ xs) ys h (suc k) d l = front_all P xs ys (λ j d l. h (suc j) d (omega arith)) k d (omega arith)
 
--- what was made was reclaimed
+-- what was made was reclaimed, or dropped in its place
 pub adds_up : (rs : List Receipt) (c : CountsView) → HasTaken rs c → c.made ≡ c.gone → AddsUp (sum_of rs)
-adds_up rs c h e few = let m = h.made (omega arith) in let g = h.reclaimed (omega arith) in let p = h.in_place in omega arith
+adds_up rs c h e low = let m = h.made (omega arith) in let g = h.reclaimed (omega arith) in let p = h.in_place (omega arith) in let few = h.few in omega arith

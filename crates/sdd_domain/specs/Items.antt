@@ -6,7 +6,7 @@ use Rattle.sdd_rights.specs.declared.right.Right.{Right}
 use Rattle.sdd_rights.specs.Units as token
 use Rattle.sdd_rights.specs.StandingKind.{is_shared}
 use Rattle.sdd_rights.specs.Owner.{witness_of_owner}
-use Rattle.sdd_rights.specs.Right.{number_of, home_of, kind_of, witness_of, home_of_table}
+use Rattle.sdd_rights.specs.Right.{number_of, home_of, kind_of, views_of, home_of_table}
 use Rattle.sdd_domain.specs.LocalState.{LocalState}
 
 -- where the slots of its domain are numbered
@@ -15,7 +15,7 @@ slots_home m = home_of_table m.home m.book m.limits.slots
 
 -- the owner's item shows this value
 abbrev pub HasValue : Gv → Right → Type 0
-HasValue value right = (witness_of right).views ≡ witness_of_owner (number_of right) (is_shared (kind_of right)) value
+HasValue value right = views_of right ≡ witness_of_owner (number_of right) (is_shared (kind_of right)) value
 
 -- an owner of this kind of an item of its domain, which shows this value
 pub record IsRightTo (m : LocalState) (k : StandingKind) (shown : Gv) (right : Right) : Type 0 where

@@ -11,6 +11,7 @@ pub mod Items
 pub mod Receipt
 pub mod Values
 pub mod BetweenCalls
+pub mod InPlace
 pub mod DetachedLocal
 pub mod WordsAndValues
 pub mod Local

@@ -10,7 +10,7 @@ use Rattle.sdd_participants.specs.EpochState.{newcomer, nested, settled, awaitin
 use Rattle.sdd_space.specs.Guard.{ReaderId}
 use Rattle.sdd_space.specs.ParticipantChanges.{closed_with}
 use Rattle.sdd_participants.specs.declared.tally.Tally.{Tally}
-use Rattle.sdd_participants.specs.Tally.{no_items, one_made, one_reclaimed}
+use Rattle.sdd_participants.specs.Tally.{no_items, one_made, one_reclaimed, one_in_place}
 use Rattle.sdd_views.specs.declared.Sizes.{Sizes}
 use Rattle.sdd_views.specs.declared.ShownValue.{ShownValue}
 use Rattle.sdd_views.specs.declared.SlotsView.{SlotsView}
@@ -184,3 +184,15 @@ pub record RetiresAt (slot count : ℕ) (old new : LocalState) : Type 0 where
   }
   pub knew : old.known ≤ count
   pub lone : IsLone old → count ≡ old.known
+
+-- the item of an owner that was alone has another value, which shows this
+pub record ChangesAt (slot : ℕ) (shared : Bool) (value : Gv) (old new : LocalState) : Type 0 where
+  pub inside : slot < old.limits.slots
+  pub member : new ≡ record old { filled = record { slot = slot; shared = shared; value = value } ∷ old.filled }
+  pub quiet : ¬ (HasOpenGuard old)
+
+-- the item of an owner that was alone was dropped in its place, and its slot is free
+pub record DropsAt (slot : ℕ) (old new : LocalState) : Type 0 where
+  pub inside : slot < old.limits.slots
+  pub member : new ≡ record old { tally = one_in_place old.tally; words = slice_set old.words (behind old.sizes slot) (free_word 0) }
+  pub quiet : ¬ (HasOpenGuard old)

@@ -19,12 +19,13 @@ most_counted = 2 ^ 128 - 1
 abbrev pub capped : ℕ → ℕ
 capped n = min n most_counted
 
--- what is known of so many places that have ended is what the tally tells; nothing was dropped in its place
+-- what is known of so many places that have ended is what the tally tells: of what has gone, what was dropped in its place, and what wasn't
 pub record IsTallied (places : ℕ) (tally : Tally) (counts : CountsView) : Type 0 where
   pub over : counts.over ≡ places
   pub made : tally.made ≡ capped counts.made
-  pub reclaimed : tally.reclaimed ≡ capped counts.gone
-  pub in_place : tally.in_place ≡ 0
+  pub few : counts.in_place ≤ counts.gone
+  pub reclaimed : tally.reclaimed ≡ capped (counts.gone - counts.in_place)
+  pub in_place : tally.in_place ≡ capped counts.in_place
 
 -- what its witness knows: the counts of a place that has ended
 abbrev pub HasLeft : List Gv → Tally → Type 0
@@ -60,8 +61,9 @@ in_place_in r = r.tally.in_place
 pub record HasTaken (rs : List Receipt) (counts : CountsView) : Type 0 where
   pub over : counts.over ≡ length rs
   pub made : sum (map made_in rs) < most_counted → counts.made ≡ sum (map made_in rs)
-  pub reclaimed : counts.gone < most_counted → counts.gone ≡ sum (map reclaimed_in rs)
-  pub in_place : sum (map in_place_in rs) ≡ 0
+  pub few : counts.in_place ≤ counts.gone
+  pub reclaimed : counts.gone < most_counted → counts.gone - counts.in_place ≡ sum (map reclaimed_in rs)
+  pub in_place : counts.gone < most_counted → counts.in_place ≡ sum (map in_place_in rs)
 
 -- a receipt whose participant has reclaimed so many items more; where nothing waited it is the same
 pub record IsSettled (items : ℕ) (old new : Receipt) : Type 0 where

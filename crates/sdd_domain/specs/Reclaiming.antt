@@ -1,7 +1,7 @@
 -- What a participant reclaims at an opening, and what that gives up
 use Rattle.std.specs.Prelude.{[]}
 use Rattle.sdd_participants.specs.EpochState.{nobody}
-use Rattle.sdd_participants.specs.Tally.{no_items}
+use Rattle.sdd_participants.specs.Tally.{no_items, one_in_place}
 use Rattle.sdd_domain.specs.LocalState.{LocalState}
 use Rattle.sdd_domain.specs.Local.{LocalModel}
 
@@ -15,3 +15,7 @@ kept_of p = record p { member = kept_by p.member }
 -- what reclaiming leaves as it is
 abbrev pub rest_of : {T : Type 0} → LocalModel T → LocalModel T
 rest_of p = record p { member = record (kept_by p.member) { tally = no_items; due = [] } }
+
+-- it counts one item more that was dropped in its place
+abbrev pub counted_in_place : {T : Type 0} → LocalModel T → LocalModel T
+counted_in_place p = record p { member = record p.member { tally = one_in_place p.member.tally } }

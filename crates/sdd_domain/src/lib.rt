@@ -9,6 +9,7 @@ mod draining;
 mod due_items;
 mod ended_counts;
 mod free_slot_hints;
+mod holding;
 mod holds_own_domain;
 pub mod local;
 mod local_core;

@@ -35,6 +35,7 @@ use std::alloc::{AllocError, Global};
 use std::marker::Model;
 
 pub mod detached_local;
+mod in_place;
 mod items;
 
 /// A participant's membership of a domain: its place, its bags, and what it knows of the words.

@@ -1,24 +1,28 @@
 //! A change reclaims what is due, and a value that is reclaimed gives up what it holds.
-ghost use Rattle.std.specs.Prelude.{◌≡◌, ◌+◌, ◌≤◌, ℕ, List, [], length};
+ghost use Rattle.std.specs.Prelude.{◌≡◌, ◌+◌, ◌≤◌, ℕ, List, [], length, IfErr, IfOk};
+ghost use base.Stored.{Gv};
+ghost use Rattle.sdd_rights.specs.StandingKind.{is_shared};
+ghost use Rattle.sdd_rights.specs.Right.{number_of, home_of, kind_of};
 ghost use Rattle.sdd_space.specs.KnownEpochs.{KnowsOn};
 ghost use Rattle.sdd_space.specs.ParticipantChanges.{KeepsMoreWaiting, all_awaiting};
 ghost use Rattle.sdd_space.specs.Owned as owned;
 ghost use Rattle.sdd_space.specs.RawCell as raw_cell;
 ghost use Rattle.sdd_space.specs.CallerId.{IsSeated, IsExact};
 ghost use Rattle.sdd_space.specs.Shared as shared;
-ghost use Rattle.sdd_space.specs.WorldChanges.{given, given_all, all_reclaimed};
+ghost use Rattle.sdd_space.specs.WorldChanges.{given, given_all, all_reclaimed, dropped};
 ghost use Rattle.sdd_space.specs.WorldChanges as steps;
 ghost use Rattle.sdd_participants.specs.EpochState.{awaiting, settled};
 ghost use Rattle.sdd_participants.specs.declared.waiting.LimboEntry.TheVariants.{Item as item};
 ghost use Rattle.sdd_domain.specs.SpaceIds.{home_in};
 ghost use Rattle.sdd_domain.specs.Local.{LocalModel};
-ghost use Rattle.sdd_domain.specs.LocalState.{HasOpenGuard, IsLone};
+ghost use Rattle.sdd_domain.specs.LocalState.{HasOpenGuard, IsLone, KnowsOwner};
 ghost use Rattle.sdd_domain.specs.Receipt.{with_reclaimed};
 ghost use Rattle.sdd_domain.specs.Local.{world_of};
-ghost use Rattle.sdd_domain.specs.Reclaiming.{kept_of, rest_of};
-ghost use Rattle.sdd_domain.specs.Space.{seat_of, known_of};
+ghost use Rattle.sdd_domain.specs.Reclaiming.{counted_in_place, kept_of, rest_of};
+ghost use Rattle.sdd_domain.specs.Space.{seat_of, known_of, slots_home};
 
 use crate::local_core::LocalCore;
+use sdd_rights::{Right, StandingKind};
 use sdd_shared_values::GhostValues;
 use sdd_space::inner::{
     right_of_cell, right_of_owner, right_of_raw_cell, right_of_shared, right_of_shared_cell,
@@ -155,5 +159,25 @@ impl<T: Item<T>> LocalGiver<'_, T> {
         self.reclaim_due();
         self.membership.settle();
         self.membership.stands();
+    }
+
+    /// Drops an owner's item in its place, and its value gives up at once what it holds. Where a guard is open the owner comes back.
+    pub fn drop_in_place(&mut self, right: Right, kind: StandingKind) -> Result<(), Right>
+        requires home { home_of right ≡ slots_home self.old }
+        requires kind { kind_of right ≡ kind }
+        ensures own { KeepsMoreWaiting self.old.member.own self.new.member.own }
+        ensures known { KnowsOn (known_of self.old) (known_of self.new) }
+        ensures kept { IfOk result (λ _. kept_of self.new ≡ kept_of (counted_in_place self.old)) }
+        ensures back { IfErr result (λ back. (back ≡ right) × (self.new ≡ self.old) × (IsLone self.old.member → HasOpenGuard self.old.member)) }
+        ensures quiet { IfOk result (λ _. ¬ (HasOpenGuard self.old.member)) }
+        ensures owned { IsLone self.old.member → (value : Gv) × KnowsOwner self.old.member (number_of right) (is_shared kind) value }
+        ensures exact { IsLone self.old.member → IfOk result (λ _. world_of self.new
+            ≡ dropped T.holds (world_of self.old) self.old.member.place (number_of right)) }
+    {
+        self.ledger.codes();
+        self.membership.stands();
+        let value = self.membership.drop_in_place(right, kind)?;
+        value.give_up(self);
+        Ok(())
     }
 }

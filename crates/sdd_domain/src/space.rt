@@ -7,7 +7,7 @@ use crate::reclaiming::LocalGiver;
 use sdd_core::Refused;
 use sdd_rights::{Right, StandingKind};
 use sdd_space::inner::value_of_ptr;
-use sdd_space::{Caller, Guard, Guards, Item, Items, Look, LookThrough, Ptr, Shows};
+use sdd_space::{Caller, Guard, Guards, InPlaceItems, Item, Items, Look, LookThrough, Ptr, Shows};
 
 impl<T: Item<T>> Shows<T> for Local<'_, T> {
     ghost use Rattle.sdd_domain.specs.SpaceIds.{home_in};
@@ -215,5 +215,32 @@ impl<T: Item<T>> Items<T> for Local<'_, T> {
     fn owned_is_shown(&mut self, right: &Right) {
         self.partner.ledger.codes();
         self.partner.membership.recall_owner(right);
+    }
+}
+
+impl<T: Item<T>> InPlaceItems<T> for Local<'_, T> {
+    fn get_mut<R, F: FnOnce(&mut T) -> R>(
+        &mut self,
+        right: &mut Right,
+        kind: StandingKind,
+        f: F,
+    ) -> Result<R, (F, Refused)> {
+        self.partner.ledger.codes();
+        let LocalGiver { membership, ledger } = &mut self.partner;
+        match membership.get_mut(right, kind, f, ledger) {
+            Ok(answer) => Ok(answer),
+            Err(f) => Err((f, Refused::GuardOpen)),
+        }
+    }
+
+    fn drop_in_place(
+        &mut self,
+        right: Right,
+        kind: StandingKind,
+    ) -> Result<bool, (Right, Refused)> {
+        match self.partner.drop_in_place(right, kind) {
+            Ok(()) => Ok(true),
+            Err(right) => Err((right, Refused::GuardOpen)),
+        }
     }
 }

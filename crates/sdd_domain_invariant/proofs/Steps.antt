@@ -50,7 +50,7 @@ use Rattle.sdd_witness.specs.Steps.{AllowsAlone, AllowsBeside}
 use Rattle.sdd_domain_invariant.specs.FractionsAtHome.{CarriedFractions, stake_at, share, spare, away, full_at, Has, MatchesSlotWord, Moves, SeesFrom, NoneOut, FractionIsTaken, LiesAt}
 use Rattle.sdd_domain_invariant.specs.DomainInvariant.{DomainInvariant}
 use Rattle.sdd_domain_invariant.specs.BankInvariant.{drawn_at, moves_at, banked, IsBank, outside}
-use Rattle.sdd_domain_invariant.specs.FractionSteps.{SeatState, CarriesAll, IsValue, CarriesSeen, moving, making, giving, resting, telling, drawing, undrawing, untold, remembering, forgetting, sighting, unsighted, IsNewest, ClaimsAll, FillsSlot, EntersUnit, TakesOut, TakesHeld, IsDeposit, RetiresOne, GivesAll, DiscardsAll, SeesOwned, LearnsOwned, ClosesHome, OfSlot}
+use Rattle.sdd_domain_invariant.specs.FractionSteps.{SeatState, CarriesAll, IsValue, CarriesSeen, moving, making, giving, dropping, resting, telling, drawing, undrawing, untold, remembering, forgetting, sighting, unsighted, IsNewest, ClaimsAll, FillsSlot, EntersUnit, TakesOut, TakesHeld, IsDeposit, RetiresOne, GivesAll, DiscardsAll, SeesOwned, LearnsOwned, ClosesHome, OfSlot}
 use Rattle.sdd_domain_invariant.specs.Records.{IsIn, KnowsShown, IsKnown, IsTelling}
 use Rattle.sdd_domain_invariant.specs.Counts.{ended_places}
 use Rattle.sdd_domain_invariant.specs.FilledInvariant.{newest, HasRecord, Tells, FilledInvariant}
@@ -586,20 +586,24 @@ module _ (slots id : ℕ) (me : SeatState) (live : HasPlace me.0.epoch) where
     -- the value of an item whose slot is held is to be moved out, after a look at each place
     pub takes_held : (bd : ℕ) → v.stakes.moves ≡ None → v.slots.owns ≡ slot ∷ [] → v.slots.drawn ≡ [] → Holds v slot → n ≤ v.slots.looked
         → MayDeal bd Leaves (λ _. Unit {0}) (λ l me'. TakesHeld slot me me' × IsDeposit slot me l)
-    takes_held bd rests owns empty held all s b h _ at there bank ne = let p = h.kept.parts in let tells = h.records.each id v at in
+    takes_held bd rests owns empty held all s b h _ at banks_at bank ne = let p = h.kept.parts in let tells = h.records.each id v at in
         let own = owns_it v slot owns in let one = ((p.slots.each id v at).alone slot own).0 in
         let filled = full_owned (slot_at sizes s.words slot) (omega arith) in let w : View = moving slot (untold v) in
         let undrawn : total (drawn_at slot) s.views ≡ 0 = total_zero (drawn_at slot) s.views (λ j u e. dite (ℕ_discrete id j)
         (λ same. ap (drawn_at slot) (one_view s.views id j u v e at (sym same)) ∙ ap (times slot) empty)
         (λ ne. let low = h.bank.low j u e slot in
         let both = owners_in codes sound sizes s.words s.views p.slots id j slot v u ne at e in omega arith)) in
-        moves_out bd s b h at there bank ne rests filled undrawn IsValueCode (λ q y _ _ sh. sh.0 filled) (inl own)
+        let there = tells.owned slot own (none_moved v slot rests) in let value : Gv = there.0 in
+        let known = records.mine sizes s.views s.homes h.records id v at slot value (inl there.1) in
+        moves_out bd s b h at banks_at bank ne rests filled undrawn (IsValue value)
+        (λ q y near lies sh. (sh.0 filled, h.records.home slot q value y inside near known lies)) (inl own)
         (holding.unseen_held codes sound sizes s.words s.views p.slots id v at p.epoch slot held all)
         (λ j u e ne. still_owned γ sizes s h slot id j v u at e ne (omega arith))
         w.stakes refl refl refl refl (held_tells v tells slot owns rests (none_waits γ sizes s h slot id v at own id v at))
         (λ j g. known_by w j g (λ a. absurd (in_none j g a)) (λ a. inr (inl a)) (λ a. inr (inr a))) refl
         (tells_old_by s h at w (λ r a. absurd (has_none r [] refl a)) (λ r a. inr a))
-        (λ l me'. TakesHeld slot me me' × IsDeposit slot me l) (λ l xs is row. ((refl, row), is))
+        (λ l me'. TakesHeld slot me me' × IsDeposit slot me l)
+        (λ l xs is row. (record { value = value; view = refl; stakes = row; told = there.1 }, is))
 
     -- it has gone
     pub discards : Moves v slot → Holds v slot → n ≤ v.slots.looked → (rest : CarriedFractions) → CarriesAll γ slot n 0 IsNoValueCode rest me.1
@@ -612,35 +616,35 @@ module _ (slots id : ℕ) (me : SeatState) (live : HasPlace me.0.epoch) where
         let g = gives_row γ n slot 0 IsNoValueCode sizes.slots inside (suc n) (omega arith) s.homes rest me.1 h.homes.deep row in
         let empty = (free_is 0 (omega arith)).2 in
         subst (Follows γ sizes id i me told s y) (sym (t slot refl)) record {
-          stakes = (giving now).stakes;
+          stakes = (dropping now).stakes;
           act = g.act;
           valid = g.valid;
-          homes = part.gives γ sizes s.words s.views s.homes h.homes id v at slot 0 IsNoValueCode rest me.1 g (set s.words i y) (giving now)
+          homes = part.gives γ sizes s.words s.views s.homes h.homes id v at slot 0 IsNoValueCode rest me.1 g (set s.words i y) (dropping now)
               (ap (λ (x : ℕ). away n (full x)) (here s.words y (within s h)) ∙ ap (away n) empty)
               (λ g vacant. vacant_shown (full_at sizes (set s.words i y) slot) g (ap full (here s.words y (within s h)) ∙ empty) vacant)
-              (seen_but (giving now) slot mine refl refl) (others s.words y) (none_out (giving now) refl);
+              (seen_but (dropping now) slot mine refl refl) (others s.words y) (none_out (dropping now) refl);
           records = let own = (h.kept.parts.slots.each id v at).held slot held in
-              comes_home γ sizes s h slot id v at 0 IsNoValueCode rest me.1 g (unknown_owned γ sizes s h slot id v at mine own) (giving now)
-              (rested_tells v (h.records.each id v at) slot mine (giving now) refl (λ i ne. without_other slot i ne v.slots.owns)
+              comes_home γ sizes s h slot id v at 0 IsNoValueCode rest me.1 g (unknown_owned γ sizes s h slot id v at mine own) (dropping now)
+              (rested_tells v (h.records.each id v at) slot mine (dropping now) refl (λ i ne. without_other slot i ne v.slots.owns)
               (λ o. let z = without_same slot v.slots.owns in omega arith) (λ _ _. refl) (none_waits γ sizes s h slot id v at own id v at) refl)
               refl refl;
           counts = let one = ((h.kept.parts.slots.each id v at).alone slot ((h.kept.parts.slots.each id v at).held slot held)).0 in
               let was = full_owned (slot_at sizes s.words slot) (omega arith) in
-              counted sizes s.words s.views h.counts id v at (set s.words i y) (giving now)
+              counted sizes s.words s.views h.counts id v at (set s.words i y) (dropping now)
               (let f = one_full sizes s.words slot y inside h.kept.parts.slots.long in omega arith)
               (let o = over_slot s h y in omega arith) (λ none. absurd (omega arith));
-          filled = still_filled s h at (giving now) refl refl refl;
-          bank = banks.moves_over γ sizes s.words s.views h.bank id v at (set s.words i y) (giving now) slot
+          filled = still_filled s h at (dropping now) refl refl refl;
+          bank = banks.moves_over γ sizes s.words s.views h.bank id v at (set s.words i y) (dropping now) slot
               record { bank = refl; founds = refl; book = refl; banked = refl; drawn = refl }
               (λ k. let low = h.bank.low id v at k in dite (ℕ_discrete k slot)
               (λ e. let none = banks.none_drawn γ sizes s.words s.views h.bank id v at slot inside mine in
               let z = ap (λ (j : ℕ). drawn_at j v) e in omega arith)
               (λ ne. let o = without_other slot k ne v.slots.owns in omega arith))
               (banks.moved_outside γ sizes s.words s.views h.bank id v at slot mine)
-              (outside_free sizes (set s.words i y) (set s.views id (giving now)) slot (ap full (here s.words y (within s h)) ∙ empty))
+              (outside_free sizes (set s.words i y) (set s.views id (dropping now)) slot (ap full (here s.words y (within s h)) ∙ empty))
               (λ k ne. sym (moves_other k v slot mine ne)) (others s.words y);
-          lasts = goes_home s h at mine rest g (giving now) refl refl refl;
-          tells = at_once DiscardsAll y (giving now, carried_after me.1 g.act)
+          lasts = goes_home s h at mine rest g (dropping now) refl refl refl;
+          tells = at_once DiscardsAll y (dropping now, carried_after me.1 g.act)
               (refl, g.carried ∙ sym (rest_is γ slot n 0 IsNoValueCode rest (suc n) me.1 row));
         })
 

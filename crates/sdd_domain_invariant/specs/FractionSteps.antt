@@ -68,6 +68,15 @@ making slot y v = with_made (moving slot (claimed slot y v))
 abbrev pub giving : View → View
 giving v = with_gone (resting v)
 
+-- it dropped one in its place, whose slot it gave back, and moves no value any more
+abbrev pub dropping : View → View
+dropping v = record v {
+  stakes = record v.stakes {
+    moves = None;
+    counts = record v.stakes.counts { gone = v.stakes.counts.gone + 1; in_place = v.stakes.counts.in_place + 1 };
+  };
+}
+
 -- its place has ended, and is counted
 abbrev pub leaving : View → View
 leaving v = record v {
@@ -164,9 +173,12 @@ pub record TakesOut (slot : ℕ) (me me' : SeatState) : Type 0 where
   pub remembered : IsIn me.0.stakes.waits slot value
   pub filled : IsLone me.0.epoch → (shared : Bool) × IsNewest slot shared value me.0
 
--- the same of an item whose slot is held: its owner knows no more what it shows
-abbrev pub TakesHeld : ℕ → SeatState → SeatState → Type 0
-TakesHeld slot me me' = (me'.0 ≡ moving slot (untold me.0)) × CarriesAll (book_of me) slot (places_of me) (spare (places_of me)) IsValueCode me.1 me'.1
+-- the same of an item whose slot is held: the stakes show what its owner knows, which is forgotten then
+pub record TakesHeld (slot : ℕ) (me me' : SeatState) : Type 0 where
+  pub value : Gv
+  pub view : me'.0 ≡ moving slot (untold me.0)
+  pub stakes : CarriesAll (book_of me) slot (places_of me) (spare (places_of me)) (IsValue value) me.1 me'.1
+  pub told : IsIn me.0.stakes.owns slot value
 
 -- the lot is all that the bank had of the slot
 abbrev pub IsDeposit : ℕ → SeatState → FractionContent → Type 0
@@ -190,7 +202,7 @@ GivesPlace place me y me' = (me'.1 ≡ me.1) × GivesBack place me.0 y me'.0
 
 -- the item of a slot that was held has gone at once: the slot is free, and all stakes in it go home
 abbrev pub DiscardsAll : ℕ → SeatState → ℕ → SeatState → Type 0
-DiscardsAll slot me y me' = (me'.0 ≡ giving (discarded slot y me.0)) × (me'.1 ≡ drop (suc (places_of me)) me.1)
+DiscardsAll slot me y me' = (me'.0 ≡ dropping (discarded slot y me.0)) × (me'.1 ≡ drop (suc (places_of me)) me.1)
 
 -- a guard sees a slot beside its owner, who knows what it shows: it has the stake of its place out, if it didn't before
 abbrev pub SeesOwned : ℕ → Bool → Gv → SeatState → SeatState → Type 0

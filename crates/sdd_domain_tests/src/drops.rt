@@ -3,6 +3,7 @@ ghost use Rattle.std.specs.Prelude.{◌≡◌};
 ghost use Rattle.sdd_space.specs.CallerId.{IsSeated};
 ghost use Rattle.sdd_domain.specs.Space.{seat_of};
 
+use crate::in_place::counts;
 use crate::steps::{ONE_SLOT, closed, ended, is_tally, new_domain, registered, turn};
 use sdd_core::Limits;
 use sdd_domain::Local;
@@ -74,4 +75,24 @@ fn what_waits_in_a_leaked_domain_is_not_dropped(rt: HostRuntime) {
     is_tally(&rt, ended(&rt, local).tally(), 1, 0);
     domain.leak();
     assert_eq!(rt; Arc::strong_count(&alive), 2);
+}
+
+/// The value is dropped at once, and its slot is free.
+#[test]
+fn a_value_that_is_dropped_in_its_place_is_dropped_once(rt: HostRuntime) {
+    let alive = Arc::new(rt.alloc(), ()).expect(&rt, "there is memory");
+    let domain = new_domain::<Counted>(&rt, ONE_SLOT);
+    let mut local = registered(&rt, &domain);
+    for _ in 0..3 {
+        let counted = Arc::try_clone(&alive).expect(&rt, "it is counted");
+        let Ok(owner) = Owned::new(Counted { alive: counted }, &mut local) else {
+            panic!(rt; "a slot is free")
+        };
+        assert_eq!(rt; Arc::strong_count(&alive), 2);
+        assert!(rt; owner.drop_in_place(&mut local).is_ok());
+        assert_eq!(rt; Arc::strong_count(&alive), 1);
+    }
+    let receipts = vec![in rt.alloc(); ended(&rt, local)].expect(&rt, "there is memory");
+    counts(&rt, closed(&rt, domain, receipts), 3, 0, 3);
+    assert_eq!(rt; Arc::strong_count(&alive), 1);
 }

@@ -6,6 +6,7 @@ ghost use Rattle.sdd_space.specs.CallerId.{IsSeated};
 ghost use Rattle.sdd_domain.specs.Space.{seat_of, slots_home};
 ghost use Rattle.sdd_domain_tests.specs.Held.{holdings_of};
 
+use crate::in_place::counts;
 use crate::node::Node;
 use crate::steps::{
     ONE_SLOT, add, close_and_scan, closed, ended, is_tally, new_domain, not_closed, opened,
@@ -190,4 +191,30 @@ fn a_domain_is_not_closed_without_a_receipt_with_which_items_wait(rt: HostRuntim
     assert!(rt; ended(&rt, local).waits());
     let (domain, _receipts) = not_closed(&rt, domain, Vec::new(rt.alloc()));
     domain.leak();
+}
+
+/// What a value holds waits from the moment on in which it is dropped in its place.
+#[test]
+fn a_value_that_is_dropped_in_its_place_gives_up_at_once(rt: HostRuntime) {
+    let domain = new_domain::<Node>(&rt, TWO_AND_THREE_SLOTS);
+    let mut maker = registered(&rt, &domain);
+    let mut other = registered(&rt, &domain);
+    let owner = three(&rt, &mut maker);
+    match owner.drop_in_place(&mut other) {
+        Ok(()) => {}
+        Err((_owner, refused)) => panic!(rt; "refused: {refused:?}"),
+    }
+    counts(&rt, other.tally(), 0, 0, 1);
+    let guard = opened(&rt, &mut other);
+    assert!(rt; guard.has_garbage::<Node, Local<'_, Node>>(&other));
+    close_and_scan(guard, &mut other);
+    turns(&rt, &mut other, 2);
+    counts(&rt, other.tally(), 0, 0, 1);
+    turn(&rt, &mut other);
+    counts(&rt, other.tally(), 0, 1, 1);
+    let mut receipts = vec![in rt.alloc(); ended(&rt, maker)].expect(&rt, "there is memory");
+    receipts
+        .push(ended(&rt, other))
+        .expect(&rt, "there is memory");
+    counts(&rt, closed(&rt, domain, receipts), 3, 2, 1);
 }

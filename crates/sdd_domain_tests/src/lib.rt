@@ -11,6 +11,8 @@ mod drops;
 #[cfg(test)]
 mod held;
 #[cfg(test)]
+mod in_place;
+#[cfg(test)]
 mod items;
 mod node;
 #[cfg(test)]

@@ -24,7 +24,7 @@ use sdd_space::{Guard, Item};
 
 /// An owner of this kind may be one of several.
 #[inline]
-fn is_one_of_several(kind: StandingKind) -> bool
+pub(super) fn is_one_of_several(kind: StandingKind) -> bool
     ensures { result ≡ is_shared kind }
 {
     match kind {
