@@ -1,4 +1,4 @@
-use Rattle.std.proofs.Common.{◌≡◌, ℕ, sym, ap, ◌∙◌, subst}
+use Rattle.std.proofs.Common.{◌≡◌, ℕ, refl, sym, ap, ◌∙◌, subst}
 use Rattle.std.specs.Prelude.{Bool}
 use base.Stored.{Gv}
 use Rattle.atomic_table.specs.declared.shared.Seat.{Seat}
@@ -7,14 +7,32 @@ use Rattle.sdd_views.specs.declared.Sizes.{Sizes}
 use Rattle.sdd_views.specs.declared.View.{View}
 use Rattle.sdd_shared_values.specs.declared.value_fraction.ValueFraction.{ValueFraction}
 use Rattle.sdd_rights.specs.StandingKind.{is_shared}
-use Rattle.sdd_rights.specs.Right.{number_of, kind_of}
-use Rattle.sdd_domain.specs.Items.{HasValue}
+use Rattle.sdd_rights.specs.Right.{AreSlotsOfTable, home_of, number_of, kind_of}
+use Rattle.sdd_domain.specs.Items.{HasValue, slots_home}
 use Rattle.sdd_domain.specs.LocalState.{LocalState, IsLone, KnowsOwner}
 use Rattle.sdd_domain.specs.BetweenCalls.{IsBetweenCalls, AreLentTo, IsTenureOf, IsReady}
 use Rattle.sdd_domain.specs.Receipt.{IsTallied}
+use Rattle.sdd_domain.proofs.Housed.{on_board}
+use Rattle.sdd_domain.proofs.InPlace.{owner_inside, owner_table}
 use Rattle.sdd_domain.proofs.Members.{with_token, recalls_to, has_tables}
 use Rattle.sdd_domain.proofs.Posing.{same_recalled}
 use Rattle.sdd_domain.proofs.local_core.LocalCore.recall_owner.Goals as goal
+
+pub recall-requires-clause-owner : goal.recall-requires-clause-owner
+recall-requires-clause-owner g c =
+    let l = c.self.inside in let b = l.domain.now.board in let m : LocalState = c.self.view_is 0 in let right = c.args.right.now in
+    let on = on_board l.domain.now.limits b l.token.table_id c.self.invariant.0.home l.domain.now.limited.1 m refl refl refl in
+    let home = c.requires ∙ sym (ap slots_home c.self.view_is) in let found = c.witness.ensures.owner (has_tables m right home) in
+    let by = λ (_ : AreSlotsOfTable (home_of right)). found.1 in (
+      owner_table b m on right (kind_of right) home refl c.witness.result.now found.0 by (number_of right) refl,
+      (
+        number_of right,
+        is_shared (kind_of right),
+        found.0.shown,
+        owner_inside b m on right (kind_of right) home refl c.witness.result.now found.0 by (number_of right) refl c.witness.ensures.inside,
+        found.1.owner,
+      ),
+    )
 
 pub invariant_of-self : goal.invariant_of-self
 invariant_of-self g c =
