@@ -15,6 +15,7 @@ pub mod Under
 pub mod Safe
 pub mod Four
 pub mod Out
+pub mod Waning
 pub mod Left
 pub mod Passing
 pub mod Nesting
