@@ -19,6 +19,7 @@ pub mod WorldStep
 pub mod Collecting
 pub mod Collector
 pub mod ReclaimBound
+pub mod WorkingGuards
 pub mod Adopting
 pub mod UnderGuards
 pub mod AcceleratedGuards
