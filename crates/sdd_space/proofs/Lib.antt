@@ -18,6 +18,7 @@ pub mod Out
 pub mod Waning
 pub mod Left
 pub mod Passing
+pub mod Working
 pub mod Nesting
 pub mod InPlace
 pub mod SameOwner

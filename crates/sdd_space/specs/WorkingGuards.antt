@@ -1,0 +1,72 @@
+-- When what waits goes while its holder works under accelerated guards
+use Rattle.std.specs.Prelude.{ℕ, ◌+◌, ◌-◌, ◌<◌, ◌≤◌, ◌≡◌, IsTrue, List, None, if◌then◌else◌}
+use Rattle.sdd_participants.specs.EpochState.{EpochState, finds_another, is_open, last_count}
+use Rattle.sdd_participants.specs.EpochState as time
+use Rattle.sdd_space.specs.OwnerOrCell.{OwnerOrCell}
+use Rattle.sdd_space.specs.World.{World, AnyGuardOpen, IsPlaceOf, place_at, standing_at}
+use Rattle.sdd_space.specs.WorldChanges.{opened, accelerated, closed}
+use Rattle.sdd_space.specs.WorldStep.{WorldStep}
+use Rattle.sdd_space.specs.WorldStep.WorldStep.{registers, ends, opens, closes}
+use Rattle.sdd_space.specs.ReclaimBound.{Waits, IsHeldUp}
+
+-- after how many outermost openings of its holder, at latest, an item is reclaimed that has seen so many changes, where each close of the holder's last
+-- guard scans and isn't held up: one for each change, and one more where no other count is to be found yet
+abbrev pub openings_left : EpochState → (holder seen : ℕ) → ℕ
+openings_left t q seen = (if finds_another t q then 1 else (if is_open (time.place_at t q) then 1 else 2)) + (2 - seen)
+
+module _ {T : Type 0} (holds : T → List OwnerOrCell) where
+  -- calls of any participants, one after another
+  pub data Calls : World T → World T → Type 0 where
+    none : (w : World T) → Calls w w
+    more_calls : (u v w : World T) → Calls u v → WorldStep holds v w → Calls u w
+
+  -- on the way from one world to the other there was one in which the slot is free
+  abbrev pub WasFree : ℕ → World T → World T → Type 0
+  WasFree k u w = (v : World T) × Calls u v × Calls v w × (standing_at v k ≡ None)
+
+  -- calls of any participants, one after another, before which q is one: so many are outermost openings of q, and each close of its last guard scans and
+  -- isn't held up. A call that leaves a guard of q open, where one was, is no such close
+  pub data WorksThrough (q : ℕ) : (openings : ℕ) → World T → World T → Type 0 where
+    starts : (w : World T) → WorksThrough q 0 w w
+    one_opening : (n : ℕ) (u v : World T) → WorksThrough q n u v → IsPlaceOf v q → ¬ (IsTrue (is_open (place_at v q))) →
+        WorksThrough q (n + 1) u (opened holds v q)
+    one_close : (n : ℕ) (u v : World T) → WorksThrough q n u v → IsPlaceOf v q → (place_at v q).countdown ≡ 0 → ¬ (IsHeldUp v q) →
+        WorksThrough q n u (closed v q)
+    one_call : (n : ℕ) (u v w : World T) → WorksThrough q n u v → IsPlaceOf v q → WorldStep holds v w →
+        (IsTrue (is_open (place_at v q)) → IsTrue (is_open (place_at w q))) → WorksThrough q n u w
+
+  -- a call that neither opens nor closes a guard, and by which nobody begins or ends
+  abbrev pub IsWork : {v w : World T} → WorldStep holds v w → Type 0
+  IsWork (registers w p vacant) = ⊥
+  IsWork (ends w p live shut) = ⊥
+  IsWork (opens w p live) = ⊥
+  IsWork (closes w p live) = ⊥
+  IsWork other = Unit {0}
+
+  -- such calls of any participants, one after another
+  pub data Works : World T → World T → Type 0 where
+    no_work : (w : World T) → Works w w
+    more_work : (u v w : World T) → Works u v → (call : WorldStep holds v w) → IsWork call → Works u w
+
+  -- what a guard of q leaves that it opened in the world w and then accelerated and closed after this work, where no other guard is open
+  pub record PassesWork (w worked : World T) (q : ℕ) : Type 0 where
+    pub one : WorksThrough q 1 w (closed (accelerated worked q) q)
+    pub quiet : ¬ (AnyGuardOpen (closed (accelerated worked q) q))
+    pub place : IsPlaceOf (closed (accelerated worked q) q) q
+    pub live : time.lives (closed (accelerated worked q) q).time ≡ time.lives w.time
+    pub nesting : (closed (accelerated worked q) q).time.nesting ≡ w.time.nesting
+    pub count : (closed (accelerated worked q) q).time.count ≤ w.time.count + 1
+
+  -- the law: each such guard does, whatever the work
+  abbrev pub WorkingGuardsPass : World T → Type 0
+  WorkingGuardsPass w = (q : ℕ) → IsPlaceOf w q → ¬ (AnyGuardOpen w) → w.time.count < last_count → (worked : World T) → Works (opened holds w q) worked →
+      PassesWork w worked q
+
+  -- the law: such ways join
+  abbrev pub WorkJoins : Type 0
+  WorkJoins = (q m n : ℕ) (u v w : World T) → WorksThrough q m u v → WorksThrough q n v w → WorksThrough q (m + n) u w
+
+  -- the law: what waits is reclaimed on the way, where its holder makes as many outermost openings as are left, and never more than four are
+  pub record WorkingGuardsReclaim (w : World T) : Type 0 where
+    pub bounded : (q seen : ℕ) → openings_left w.time q seen ≤ 4
+    pub reclaimed : (q k seen : ℕ) → Waits w q k seen → (n : ℕ) (new : World T) → WorksThrough q n w new → openings_left w.time q seen ≤ n → WasFree k w new
