@@ -21,6 +21,9 @@ use Rattle.sdd_space.specs.WorldInvariant.{IsWhole}
 use Rattle.sdd_space.proofs.Listed.{rest-contains}
 use Rattle.sdd_space.proofs.Collecting.{goes}
 use Rattle.sdd_space.specs.Out.{is_out}
+use Rattle.sdd_space.specs.WorkingGuards.{WaitsWith, IsGone}
+use Rattle.sdd_space.proofs.Jobs.{opened-ran}
+use Rattle.sdd_participants.specs.declared.waiting.LimboEntry.{LimboEntry}
 use Rattle.sdd_space.specs.ReclaimBound.{Waits, IsHeldUp}
 use Rattle.sdd_space.specs.WorldStep.{WorldStep}
 use Rattle.sdd_space.specs.WorldStep.WorldStep.{registers, ends, opens, closes, stirs, accelerates, makes, shares, retires, releases, defers, collects, closes_collector, edits, drops, puts_out_raw, takes_back_raw, changes_cells, closes_cell, changes_pointers}
@@ -33,7 +36,7 @@ use Rattle.sdd_space.proofs.Closes.{how-closed}
 use Rattle.sdd_participants.proofs.Adopting.{Adopts, adopts, same-or-not, scans-if, scans-there}
 use Rattle.sdd_participants.specs.PlaceStates.{is_ended}
 use Rattle.sdd_space.proofs.Opening.{how, Nests, IsChange, opened-goes, opened-other, all_awaiting-waiting, still-waits}
-use Rattle.sdd_space.proofs.Entries.{waits-young, waits-standing, entry-due, nests-waits, change-waits, differs, opens-changed}
+use Rattle.sdd_space.proofs.Entries.{ripe-due, nests-waiting, change-waiting, waiting-young, waits-young, waits-standing, entry-due, nests-waits, change-waits, differs, opens-changed}
 use Rattle.sdd_space.proofs.Under.{closed-persists}
 
 -- the last guard is closed, and so much is to be counted down
@@ -126,13 +129,13 @@ still-open : (n : ℕ) → nat_lt 0 n ≡ true → nat_lt 0 (n + 1) ≡ nat_lt 0
 still-open n e = grind (arith, nat_tests)
 
 module _ {T : Type 0} where
-  waits-low-if : (w : World T) (q k seen : ℕ) → HasItems w → Waits w q k seen → ((place_at w q).countdown ≡ 128) ⊎ ((place_at w q).countdown ≢ 128) →
+  waits-low-if : (w : World T) (q : ℕ) (what : LimboEntry) (seen : ℕ) → HasItems w → WaitsWith w q what seen → ((place_at w q).countdown ≡ 128) ⊎ ((place_at w q).countdown ≢ 128) →
       (place_at w q).countdown ≤ 127
-  waits-low-if w q k seen i h (inl full) = absurd (something (place_at w q).bags.waiting (having_seen seen (Item k)) h ((i.abreast q).quiet full))
-  waits-low-if w q k seen i h (inr apart) = omega (arith, apart, (i.abreast q).countdown)
+  waits-low-if w q what seen i h (inl full) = absurd (something (place_at w q).bags.waiting (having_seen seen what) h ((i.abreast q).quiet full))
+  waits-low-if w q what seen i h (inr apart) = omega (arith, apart, (i.abreast q).countdown)
 
-  pub waits-low : (w : World T) (q k seen : ℕ) → HasItems w → Waits w q k seen → (place_at w q).countdown ≤ 127
-  waits-low w q k seen i h = waits-low-if w q k seen i h (same-or-not (place_at w q).countdown 128)
+  pub waits-low : (w : World T) (q : ℕ) (what : LimboEntry) (seen : ℕ) → HasItems w → WaitsWith w q what seen → (place_at w q).countdown ≤ 127
+  waits-low w q what seen i h = waits-low-if w q what seen i h (same-or-not (place_at w q).countdown 128)
 
   -- what waits has its value
   waits-value : (w : World T) (q k seen : ℕ) → IsWhole w → Waits w q k seen → (v : T) × (value_at w k ≡ Some v)
@@ -167,6 +170,24 @@ module _ {T : Type 0} (holds : T → List OwnerOrCell) where
   Whole-called (closes_cell w r c l) i = Whole-cell_closed w r c l i
   Whole-called (changes_pointers w pointers same) i = Whole-pointers w pointers i
 
+
+-- what has seen two changes goes at the next one
+module _ {T : Type 0} (holds : T → List OwnerOrCell) (w : World T) (q : ℕ) (l : q < length w.time.places) (i : IsWhole w) (c : IsChange holds w q) where
+  ripe-goes : (what : LimboEntry) → WaitsWith w q what 2 → IsGone (opened holds w q) what
+  ripe-goes (Item k) h =
+      let some : 1 ≤ times_among k (reclaims w q) = subst (λ xs. 1 ≤ times_among k xs) (sym c.due) (entry-due k (place_at w q).bags.waiting h) in
+      let v = waits-value w q k 2 i h in
+      (opened-goes holds w q l k (standing_at w k) v.0 (waits-standing w q k 2 i h) some (record { standing = refl; value = v.1 })).standing
+  ripe-goes (Job j) h =
+      let among : Contains (reclaims w q) (Job j) =
+      subst (λ (xs : List LimboEntry). Contains xs (Job j)) (sym c.due) (ripe-due (Job j) (place_at w q).bags.waiting h) in
+      (opened-ran holds w q j l i.jobs_once among (inr c)).1
+
+-- what waits for a collector is an item, and goes by its close
+collector-takes : {T : Type 0} (holds : T → List OwnerOrCell) (w : World T) (r c q : ℕ) (what : LimboEntry) (seen : ℕ) → IsWhole w →
+    WaitsWith w q what seen → is_for w c what ≡ true → IsGone (collector_closed holds w r c) what
+collector-takes holds w r c q (Item k) seen i h for = (goes w c k i holds r (waits-standing w q k seen i h) for).standing
+collector-takes holds w r c q (Job j) seen i h for = absurd (let never : false ≡ true = for in cc)
 
 -- whatever the measure
 module _ {Idles : ℕ → Type 0} (m : Measure Idles) where
@@ -316,22 +337,22 @@ module _ {Idles : ℕ → Type 0} (m : Measure Idles) where
     closes-own : (place_at w q).countdown ≤ 127 → (remaining (time.closed w.time q) q seen ≤ remaining w.time q seen) ⊎ IsIdleClose Idles w (closed w q) q
     closes-own low = closes-own-if low (nat_lt 1 (place_at w q).guards) refl (is_open (place_at w q)) refl
 
-  module _ {T : Type 0} (holds : T → List OwnerOrCell) (w : World T) (q k seen : ℕ) (l : q < length w.time.places) (i : IsWhole w) (h : Waits w q k seen) where
+  module _ {T : Type 0} (holds : T → List OwnerOrCell) (w : World T) (q : ℕ) (what : LimboEntry) (seen : ℕ) (l : q < length w.time.places) (i : IsWhole w) (h : WaitsWith w q what seen) where
     abbrev pub end : World T
     end = opened holds w q
 
     -- an outermost opening of the holder
     abbrev pub Opens : Type 0
     Opens =
-        ((remaining w.time q seen ≡ 1) × (standing_at end k ≡ None))
-        ⊎ ((later : ℕ) × Waits end q k later × (remaining end.time q later + 1 ≤ remaining w.time q seen))
+        ((remaining w.time q seen ≡ 1) × (IsGone end what))
+        ⊎ ((later : ℕ) × WaitsWith end q what later × (remaining end.time q later + 1 ≤ remaining w.time q seen))
 
     opens-nests : (n : Nests holds w q) → is_open (place_at w q) ≡ false → (place_at w q).found ≡ w.time.count → Opens
     opens-nests n shut found =
         let x = place_at w q in
         let after : remaining end.time q seen ≡ m.remains w.time.count (time.nested x) seen =
         ap (λ (u : World T). remaining u.time q seen) n.nests ∙ put-left w.time q seen (time.nested x) l in
-        inr (seen, nests-waits holds w q k seen l n h, omega (arith, after, m.nests w.time.count seen x found shut))
+        inr (seen, nests-waiting holds w q what seen l n h, omega (arith, after, m.nests w.time.count seen x found shut))
 
     changes-open : (c : IsChange holds w q) → is_open (place_at end q) ≡ true
     changes-open c =
@@ -346,25 +367,20 @@ module _ {Idles : ℕ → Type 0} (m : Measure Idles) where
     opens-young c young =
         let o = own.opens holds w q l (is_open (place_at w q)) refl in
         let found : (place_at end q).found ≡ w.time.count = o.found (λ b. let never : false ≡ true = sym c.closed_before ∙ b in absurd (cc)) in
-        let waits = change-waits holds w q k seen l c young h in
-        let low = waits-low end q k (seen + 1) (Items-opened holds w q l (items i)) waits in
+        let waits = change-waiting holds w q what seen l c young h in
+        let low = waits-low end q what (seen + 1) (Items-opened holds w q l (items i)) waits in
         let after : remaining end.time q (seen + 1) ≡ m.remains w.time.count (place_at end q) (seen + 1) =
         ap (λ (n : ℕ). m.remains n (place_at end q) (seen + 1)) o.count in
         inr (seen + 1, waits, omega (arith, after, m.changes w.time.count seen (place_at w q) (place_at end q) c.another found (changes-open c) low young))
 
     opens-ripe : (c : IsChange holds w q) → seen ≡ 2 → Opens
     opens-ripe c ripe =
-        let ws = (place_at w q).bags.waiting in
-        let due = entry-due k ws (subst (λ (n : ℕ). Contains ws (having_seen n (Item k))) ripe h) in
-        let some : 1 ≤ times_among k (reclaims w q) = subst (λ xs. 1 ≤ times_among k xs) (sym c.due) due in
-        let v = waits-value w q k seen i h in
-        let gone = opened-goes holds w q l k (standing_at w k) v.0 (waits-standing w q k seen i h) some (record { standing = refl; value = v.1 }) in
         let one : remaining w.time q seen ≡ 1 = ap (λ (n : ℕ). remaining w.time q n) ripe ∙ m.last w.time.count (place_at w q) c.another in
-        inl (one, gone.standing)
+        inl (one, ripe-goes holds w q l i c what (subst (λ (n : ℕ). WaitsWith w q what n) ripe h))
 
     opens-change : (c : IsChange holds w q) → (seen < 2) ⊎ (2 ≤ seen) → Opens
     opens-change c (inl young) = opens-young c young
-    opens-change c (inr old) = opens-ripe c (omega (arith, old, waits-young w q k seen i h))
+    opens-change c (inr old) = opens-ripe c (omega (arith, old, waiting-young w q what seen i h))
 
     opens-nests-why : (n : Nests holds w q) → is_open (place_at w q) ≡ false →
         (is_open (place_at w q) ≡ true) ⊎ ((is_open (place_at w q) ≡ false) × ((place_at w q).found ≡ w.time.count)) → Opens
@@ -380,54 +396,54 @@ module _ {Idles : ℕ → Type 0} (m : Measure Idles) where
 
   module _ {T : Type 0} (holds : T → List OwnerOrCell) where
     -- what a call makes of an item that waits
-    abbrev pub Outcome : (w new : World T) (q k seen : ℕ) → Type 0
-    Outcome w new q k seen =
-        (standing_at new k ≡ None)
-        ⊎ ((later : ℕ) × Waits new q k later × ((remaining new.time q later ≤ remaining w.time q seen) ⊎ IsIdleClose Idles w new q))
+    abbrev pub Outcome : (w new : World T) (q : ℕ) (what : LimboEntry) (seen : ℕ) → Type 0
+    Outcome w new q what seen =
+        (IsGone new what)
+        ⊎ ((later : ℕ) × WaitsWith new q what later × ((remaining new.time q later ≤ remaining w.time q seen) ⊎ IsIdleClose Idles w new q))
 
-    goes-on : (w new : World T) (q k seen : ℕ) → Waits w q k seen → Lowers w.time.count new.time.count (place_at w q) (place_at new q) → Outcome w new q k seen
-    goes-on w new q k seen h on = inr (seen, on.waits (having_seen seen (Item k)) h, inl (on.lower seen))
+    goes-on : (w new : World T) (q : ℕ) (what : LimboEntry) (seen : ℕ) → WaitsWith w q what seen → Lowers w.time.count new.time.count (place_at w q) (place_at new q) → Outcome w new q what seen
+    goes-on w new q what seen h on = inr (seen, on.waits (having_seen seen what) h, inl (on.lower seen))
 
-    goes-on-place : (w : World T) (r q k seen : ℕ) (y : Participant) → r < length w.time.places → Waits w q k seen →
+    goes-on-place : (w : World T) (r q : ℕ) (what : LimboEntry) (seen : ℕ) (y : Participant) → r < length w.time.places → WaitsWith w q what seen →
         Lowers w.time.count w.time.count (place_at w r) y →
-        Outcome w (record w { time = with_place w.time r y }) q k seen
-    goes-on-place w r q k seen y l h on = goes-on w (record w { time = with_place w.time r y }) q k seen h (lowers-place w.time r q y l on)
+        Outcome w (record w { time = with_place w.time r y }) q what seen
+    goes-on-place w r q what seen y l h on = goes-on w (record w { time = with_place w.time r y }) q what seen h (lowers-place w.time r q y l on)
 
-    opening-outermost : (w : World T) (q k seen : ℕ) (live : IsPlaceOf w q) (i : IsWhole w) (h : Waits w q k seen) → Opens holds w q k seen live.0 i h →
-        Outcome w (opened holds w q) q k seen
-    opening-outermost w q k seen live i h (inl gone) = inl gone.1
-    opening-outermost w q k seen live i h (inr on) = inr (on.0, on.1, inl (omega (arith, on.2)))
+    opening-outermost : (w : World T) (q : ℕ) (what : LimboEntry) (seen : ℕ) (live : IsPlaceOf w q) (i : IsWhole w) (h : WaitsWith w q what seen) → Opens holds w q what seen live.0 i h →
+        Outcome w (opened holds w q) q what seen
+    opening-outermost w q what seen live i h (inl gone) = inl gone.1
+    opening-outermost w q what seen live i h (inr on) = inr (on.0, on.1, inl (omega (arith, on.2)))
 
-    opening-nested : (w : World T) (q k seen : ℕ) → q < length w.time.places → is_open (place_at w q) ≡ true → Waits w q k seen →
-        Nests holds w q ⊎ IsChange holds w q → Outcome w (opened holds w q) q k seen
-    opening-nested w q k seen l o h (inr c) = let never : false ≡ true = sym c.closed_before ∙ o in absurd (cc)
-    opening-nested w q k seen l o h (inl n) =
+    opening-nested : (w : World T) (q : ℕ) (what : LimboEntry) (seen : ℕ) → q < length w.time.places → is_open (place_at w q) ≡ true → WaitsWith w q what seen →
+        Nests holds w q ⊎ IsChange holds w q → Outcome w (opened holds w q) q what seen
+    opening-nested w q what seen l o h (inr c) = let never : false ≡ true = sym c.closed_before ∙ o in absurd (cc)
+    opening-nested w q what seen l o h (inl n) =
         let x = place_at w q in
         let lower = m.slower w.time.count seen x (time.nested x) refl (still-open x.guards o) (omega arith) in
         let after : remaining (opened holds w q).time q seen ≡ m.remains w.time.count (time.nested x) seen =
         ap (λ (u : World T). remaining u.time q seen) n.nests ∙ put-left w.time q seen (time.nested x) l in
-        inr (seen, nests-waits holds w q k seen l n h, inl (omega (arith, after, lower)))
+        inr (seen, nests-waiting holds w q what seen l n h, inl (omega (arith, after, lower)))
 
-    opening-own : (w : World T) (q k seen : ℕ) → IsPlaceOf w q → IsWhole w → Waits w q k seen → (b : Bool) → is_open (place_at w q) ≡ b →
-        Outcome w (opened holds w q) q k seen
-    opening-own w q k seen live i h true o = opening-nested w q k seen live.0 o h (how holds w q live.0)
-    opening-own w q k seen live i h false o = opening-outermost w q k seen live i h (opens-lower holds w q k seen live.0 i h o)
+    opening-own : (w : World T) (q : ℕ) (what : LimboEntry) (seen : ℕ) → IsPlaceOf w q → IsWhole w → WaitsWith w q what seen → (b : Bool) → is_open (place_at w q) ≡ b →
+        Outcome w (opened holds w q) q what seen
+    opening-own w q what seen live i h true o = opening-nested w q what seen live.0 o h (how holds w q live.0)
+    opening-own w q what seen live i h false o = opening-outermost w q what seen live i h (opens-lower holds w q what seen live.0 i h o)
 
-    opening : (w : World T) (r q k seen : ℕ) → r < length w.time.places → IsWhole w → IsPlaceOf w q → Waits w q k seen → (r ≡ q) ⊎ (r ≢ q) →
-        Outcome w (opened holds w r) q k seen
-    opening w r q k seen l i live h (inl e) =
-        subst (λ (n : ℕ). Outcome w (opened holds w n) q k seen) (sym e) (opening-own w q k seen live i h (is_open (place_at w q)) refl)
-    opening w r q k seen l i live h (inr apart) =
+    opening : (w : World T) (r q : ℕ) (what : LimboEntry) (seen : ℕ) → r < length w.time.places → IsWhole w → IsPlaceOf w q → WaitsWith w q what seen → (r ≡ q) ⊎ (r ≢ q) →
+        Outcome w (opened holds w r) q what seen
+    opening w r q what seen l i live h (inl e) =
+        subst (λ (n : ℕ). Outcome w (opened holds w n) q what seen) (sym e) (opening-own w q what seen live i h (is_open (place_at w q)) refl)
+    opening w r q what seen l i live h (inr apart) =
         let count = (own.opens holds w r l (is_open (place_at w r)) refl).count in
-        goes-on w (opened holds w r) q k seen h
+        goes-on w (opened holds w r) q what seen h
         (Lowers-later w.time.count (opened holds w r).time.count (place_at w q) (place_at (opened holds w r) q) (i.abreast q).found (inl count)
         (opened-other holds w r l q (λ same. apart (sym same))))
 
-    closing-own : (w : World T) (q k seen : ℕ) → Waits (closed w q) q k seen →
+    closing-own : (w : World T) (q : ℕ) (what : LimboEntry) (seen : ℕ) → WaitsWith (closed w q) q what seen →
         (remaining (closed w q).time q seen ≤ remaining w.time q seen) ⊎ IsIdleClose Idles w (closed w q) q →
-        Outcome w (closed w q) q k seen
-    closing-own w q k seen h (inl lower) = inr (seen, h, inl lower)
-    closing-own w q k seen h (inr idle) = inr (seen, h, inr idle)
+        Outcome w (closed w q) q what seen
+    closing-own w q what seen h (inl lower) = inr (seen, h, inl lower)
+    closing-own w q what seen h (inr idle) = inr (seen, h, inr idle)
 
     not-ended : (w : World T) (q : ℕ) → IsPlaceOf w q → is_ended (phase_at w.time q) ≡ false
     not-ended w q live = ap is_ended (live-is w.time q live)
@@ -448,37 +464,38 @@ module _ {Idles : ℕ → Type 0} (m : Measure Idles) where
           );
         }
 
-    closing : (w : World T) (r q k seen : ℕ) → IsPlaceOf w r → IsWhole w → IsPlaceOf w q → Waits w q k seen → (r ≡ q) ⊎ (r ≢ q) →
-        Outcome w (closed w r) q k seen
-    closing w r q k seen l i live h (inl e) =
-        let waits = (closed-persists w.time q q live (not-ended w q live)).waits (having_seen seen (Item k)) h in
-        subst (λ (n : ℕ). Outcome w (closed w n) q k seen) (sym e)
-        (closing-own w q k seen waits (closes-own w q seen live live.0 (waits-low w q k seen (items i) h)))
-    closing w r q k seen l i live h (inr apart) = goes-on w (closed w r) q k seen h (closing-other w r q l live i (λ same. apart (sym same)))
+    closing : (w : World T) (r q : ℕ) (what : LimboEntry) (seen : ℕ) → IsPlaceOf w r → IsWhole w → IsPlaceOf w q → WaitsWith w q what seen → (r ≡ q) ⊎ (r ≢ q) →
+        Outcome w (closed w r) q what seen
+    closing w r q what seen l i live h (inl e) =
+        let waits = (closed-persists w.time q q live (not-ended w q live)).waits (having_seen seen what) h in
+        subst (λ (n : ℕ). Outcome w (closed w n) q what seen) (sym e)
+        (closing-own w q what seen waits (closes-own w q seen live live.0 (waits-low w q what seen (items i) h)))
+    closing w r q what seen l i live h (inr apart) = goes-on w (closed w r) q what seen h (closing-other w r q l live i (λ same. apart (sym same)))
 
     registered-count : (t : EpochState) (p : ℕ) (b : Bool) → nat_lt p (length t.places) ≡ b → (time.registered t p).count ≡ t.count
     registered-count t p true e = rw e refl
     registered-count t p false e = rw e refl
 
     -- what leaves time as it is
-    goes-still : (w new : World T) (q k seen : ℕ) → Waits w q k seen → new.time ≡ w.time → Outcome w new q k seen
-    goes-still w new q k seen h e =
-        goes-on w new q k seen h
+    goes-still : (w new : World T) (q : ℕ) (what : LimboEntry) (seen : ℕ) → WaitsWith w q what seen → new.time ≡ w.time → Outcome w new q what seen
+    goes-still w new q what seen h e =
+        goes-on w new q what seen h
         (subst (λ (t : EpochState). Lowers w.time.count t.count (place_at w q) (time.place_at t q)) (sym e)
         (Lowers-same w.time.count (place_at w q) (place_at w q) refl))
 
     -- items are given up to a place
-    goes-gives : (w new : World T) (r q k seen : ℕ) → r < length w.time.places → Waits w q k seen → Gives r w new → Outcome w new q k seen
-    goes-gives w new r q k seen l h g =
+    goes-gives : (w new : World T) (r q : ℕ) (what : LimboEntry) (seen : ℕ) → r < length w.time.places → WaitsWith w q what seen → Gives r w new → Outcome w new q what seen
+    goes-gives w new r q what seen l h g =
         let on = lowers-place w.time r q (all_awaiting g.slots (place_at w r)) l (Lowers-given w.time.count g.slots (place_at w r)) in
-        goes-on w new q k seen h
+        goes-on w new q what seen h
         (subst (λ (t : EpochState). Lowers w.time.count t.count (place_at w q) (time.place_at t q)) (sym g.time) on)
 
     -- a collector is closed: what waited for it is reclaimed, and all else goes on to wait
-    collector-closes : (w : World T) (r c q k seen : ℕ) → r < length w.time.places → IsWhole w → Waits w q k seen → (b : Bool) → is_for w c (Item k) ≡ b →
-        Outcome w (collector_closed holds w r c) q k seen
-    collector-closes w r c q k seen l i h true for = inl (goes w c k i holds r (waits-standing w q k seen i h) for).standing
-    collector-closes w r c q k seen l i h false other =
+    collector-closes : (w : World T) (r c q : ℕ) (what : LimboEntry) (seen : ℕ) → r < length w.time.places → IsWhole w → WaitsWith w q what seen → (b : Bool) →
+        is_for w c what ≡ b →
+        Outcome w (collector_closed holds w r c) q what seen
+    collector-closes w r c q what seen l i h true for = inl (collector-takes holds w r c q what seen i h for)
+    collector-closes w r c q what seen l i h false other =
         let start = without_collector w c in
         let chosen = is_for w c in
         let inside : r < length start.time.places = omega (arith, l, length-map w.time.places (without chosen)) in
@@ -487,83 +504,83 @@ module _ {Idles : ℕ → Type 0} (m : Measure Idles) where
         let on = subst (λ (t : EpochState). Lowers w.time.count w.time.count (place_at start q) (time.place_at t q)) (sym g.time)
         (lowers-place start.time r q (all_awaiting g.slots (place_at start r)) inside (Lowers-given w.time.count g.slots (place_at start r))) in
         let count : (collector_closed holds w r c).time.count ≡ w.time.count = ap (λ (t : EpochState). t.count) g.time in
-        let stays : Contains (without chosen (place_at w q)).bags.waiting (having_seen seen (Item k)) =
-        rest-contains chosen (place_at w q).bags.waiting (having_seen seen (Item k)) other h in
-        let waits : Waits start q k seen = subst (λ (x : Participant). Contains x.bags.waiting (having_seen seen (Item k))) (sym here) stays in
+        let stays : Contains (without chosen (place_at w q)).bags.waiting (having_seen seen what) =
+        rest-contains chosen (place_at w q).bags.waiting (having_seen seen what) other h in
+        let waits : WaitsWith start q what seen = subst (λ (x : Participant). Contains x.bags.waiting (having_seen seen what)) (sym here) stays in
         let same : m.remains w.time.count (place_at start q) seen ≡ remaining w.time q seen =
         ap (λ (x : Participant). m.remains w.time.count x seen) here
         ∙ same-left w.time.count seen (place_at w q) (without chosen (place_at w q)) refl refl refl in
         let after : remaining (collector_closed holds w r c).time q seen ≡ m.remains w.time.count (place_at (collector_closed holds w r c) q) seen =
         ap (λ (n : ℕ). m.remains n (place_at (collector_closed holds w r c) q) seen) count in
-        inr (seen, on.waits (having_seen seen (Item k)) waits, inl (omega (arith, on.lower seen, same, after)))
+        inr (seen, on.waits (having_seen seen what) waits, inl (omega (arith, on.lower seen, same, after)))
 
-    pub each-call : (q k seen : ℕ) {w new : World T} → WorldStep holds w new → IsWhole w → IsPlaceOf w q → Waits w q k seen → Outcome w new q k seen
-    each-call q k seen (registers w r vacant) i live h =
-        goes-on w (registered w r) q k seen h
+    pub each-call : (q : ℕ) (what : LimboEntry) (seen : ℕ) {w new : World T} → WorldStep holds w new → IsWhole w → IsPlaceOf w q → WaitsWith w q what seen → Outcome w new q what seen
+    each-call q what seen (registers w r vacant) i live h =
+        goes-on w (registered w r) q what seen h
         (Lowers-later w.time.count (registered w r).time.count (place_at w q) (place_at (registered w r) q) (i.abreast q).found
         (inl (registered-count w.time r (nat_lt r (length w.time.places)) refl))
         (registered-keeps w.time r q (live-taken w.time q live) vacant))
-    each-call q k seen (ends w r l shut) i live h = goes-on w (ended w r) q k seen h (Lowers-same w.time.count (place_at w q) (place_at w q) refl)
-    each-call q k seen (opens w r l) i live h = opening w r q k seen l.0 i live h (same-or-not r q)
-    each-call q k seen (closes w r l) i live h = closing w r q k seen l i live h (same-or-not r q)
-    each-call q k seen (stirs w r l) i live h =
+    each-call q what seen (ends w r l shut) i live h = goes-on w (ended w r) q what seen h (Lowers-same w.time.count (place_at w q) (place_at w q) refl)
+    each-call q what seen (opens w r l) i live h = opening w r q what seen l.0 i live h (same-or-not r q)
+    each-call q what seen (closes w r l) i live h = closing w r q what seen l i live h (same-or-not r q)
+    each-call q what seen (stirs w r l) i live h =
         let x = place_at w r in
-        goes-on-place w r q k seen (time.with_garbage x) l.0 h
+        goes-on-place w r q what seen (time.with_garbage x) l.0 h
         (Lowers-slower w.time.count x (time.with_garbage x) (λ y g. g) refl refl (stirred-lower x.countdown))
-    each-call q k seen (accelerates w r l) i live h =
+    each-call q what seen (accelerates w r l) i live h =
         let x = place_at w r in
-        goes-on-place w r q k seen (time.accelerated x) l.0 h (Lowers-slower w.time.count x (time.accelerated x) (λ y g. g) refl refl (omega arith))
-    each-call q k seen (makes w j value s first empty) i live h = goes-still w (made_as w j value s) q k seen h refl
-    each-call q k seen (shares w j n is) i live h = goes-still w (with_standing w j (Shared (n + 1))) q k seen h refl
-    each-call q k seen (retires w r j l there) i live h =
-        goes-on w (retired w r j) q k seen h
+        goes-on-place w r q what seen (time.accelerated x) l.0 h (Lowers-slower w.time.count x (time.accelerated x) (λ y g. g) refl refl (omega arith))
+    each-call q what seen (makes w j value s first empty) i live h = goes-still w (made_as w j value s) q what seen h refl
+    each-call q what seen (shares w j n is) i live h = goes-still w (with_standing w j (Shared (n + 1))) q what seen h refl
+    each-call q what seen (retires w r j l there) i live h =
+        goes-on w (retired w r j) q what seen h
         (lowers-place w.time r q (time.awaiting (Item j) (place_at w r)) l.0 (Lowers-given w.time.count (j ∷ []) (place_at w r)))
-    each-call q k seen (releases w r j n l is) i live h =
-        goes-gives w (owner_given w r j (Some (Shared n))) r q k seen l.0 h (Gives-owner_given w r j (Some (Shared n)) is)
-    each-call q k seen (defers w r j l free) i live h =
+    each-call q what seen (releases w r j n l is) i live h =
+        goes-gives w (owner_given w r j (Some (Shared n))) r q what seen l.0 h (Gives-owner_given w r j (Some (Shared n)) is)
+    each-call q what seen (defers w r j l free) i live h =
         let x = place_at w r in
         let y : Participant = time.awaiting (Job j) x in
-        goes-on w (deferred w r j) q k seen h
+        goes-on w (deferred w r j) q what seen h
         (lowers-place w.time r q y l.0 (Lowers-slower w.time.count x y (still-waits (Job j) x) refl refl (stirred-lower x.countdown)))
-    each-call q k seen (collects w r c j l alone) i live h =
-        goes-on w (collected w r c j) q k seen h
+    each-call q what seen (collects w r c j l alone) i live h =
+        goes-on w (collected w r c j) q what seen h
         (lowers-place w.time r q (time.awaiting (Item j) (place_at w r)) l.0 (Lowers-given w.time.count (j ∷ []) (place_at w r)))
-    each-call q k seen (closes_collector w r c l quiet) i live h = collector-closes w r c q k seen l.0 i h (is_for w c (Item k)) refl
-    each-call q k seen (edits w j value may) i live h = goes-still w (with_value w j value) q k seen h refl
-    each-call q k seen (drops w r j l may) i live h = goes-gives w (dropped holds w r j) r q k seen l.0 h (Gives-dropped holds w r j l.0)
-    each-call q k seen (puts_out_raw w j is) i live h = goes-still w (with_standing w j Raw) q k seen h refl
-    each-call q k seen (takes_back_raw w j is) i live h = goes-still w (with_standing w j Owned) q k seen h refl
-    each-call q k seen (changes_cells w cells same) i live h = goes-still w (record w { cells = cells }) q k seen h refl
-    each-call q k seen (closes_cell w r c l) i live h = goes-gives w (cell_closed w r c) r q k seen l.0 h (Gives-cell_closed w r c l.0)
-    each-call q k seen (changes_pointers w pointers same) i live h = goes-still w (record w { pointers = pointers }) q k seen h refl
+    each-call q what seen (closes_collector w r c l quiet) i live h = collector-closes w r c q what seen l.0 i h (is_for w c what) refl
+    each-call q what seen (edits w j value may) i live h = goes-still w (with_value w j value) q what seen h refl
+    each-call q what seen (drops w r j l may) i live h = goes-gives w (dropped holds w r j) r q what seen l.0 h (Gives-dropped holds w r j l.0)
+    each-call q what seen (puts_out_raw w j is) i live h = goes-still w (with_standing w j Raw) q what seen h refl
+    each-call q what seen (takes_back_raw w j is) i live h = goes-still w (with_standing w j Owned) q what seen h refl
+    each-call q what seen (changes_cells w cells same) i live h = goes-still w (record w { cells = cells }) q what seen h refl
+    each-call q what seen (closes_cell w r c l) i live h = goes-gives w (cell_closed w r c) r q what seen l.0 h (Gives-cell_closed w r c l.0)
+    each-call q what seen (changes_pointers w pointers same) i live h = goes-still w (record w { pointers = pointers }) q what seen h refl
 
     -- the item still waits, and each outermost opening has lowered what is left
-    pub record Wanes (w new : World T) (q k seen openings : ℕ) : Type 0 where
+    pub record Wanes (w new : World T) (q : ℕ) (what : LimboEntry) (seen openings : ℕ) : Type 0 where
       pub whole : IsWhole new
       pub later : ℕ
-      pub waits : Waits new q k later
+      pub waits : WaitsWith new q what later
       pub lower : remaining new.time q later + openings ≤ remaining w.time q seen
 
     -- an outermost opening of the holder reclaims the item, or lowers what is left
-    wanes-opened : (w v : World T) (q k seen n : ℕ) (o : Wanes w v q k seen n) (live : IsPlaceOf v q) → Opens holds v q k o.later live.0 o.whole o.waits →
-        (standing_at (opened holds v q) k ≡ None) ⊎ Wanes w (opened holds v q) q k seen (n + 1)
-    wanes-opened w v q k seen n o live (inl gone) = inl gone.1
-    wanes-opened w v q k seen n o live (inr on) =
+    wanes-opened : (w v : World T) (q : ℕ) (what : LimboEntry) (seen n : ℕ) (o : Wanes w v q what seen n) (live : IsPlaceOf v q) → Opens holds v q what o.later live.0 o.whole o.waits →
+        (IsGone (opened holds v q) what) ⊎ Wanes w (opened holds v q) q what seen (n + 1)
+    wanes-opened w v q what seen n o live (inl gone) = inl gone.1
+    wanes-opened w v q what seen n o live (inr on) =
         inr (record { whole = Whole-opened holds v q live o.whole; later = on.0; waits = on.1; lower = omega (arith, o.lower, on.2) })
 
-    pub wanes-opening : (w v : World T) (q k seen n : ℕ) → Wanes w v q k seen n → IsPlaceOf v q → is_open (place_at v q) ≡ false →
-        (standing_at (opened holds v q) k ≡ None) ⊎ Wanes w (opened holds v q) q k seen (n + 1)
-    wanes-opening w v q k seen n o live shut = wanes-opened w v q k seen n o live (opens-lower holds v q k o.later live.0 o.whole o.waits shut)
+    pub wanes-opening : (w v : World T) (q : ℕ) (what : LimboEntry) (seen n : ℕ) → Wanes w v q what seen n → IsPlaceOf v q → is_open (place_at v q) ≡ false →
+        (IsGone (opened holds v q) what) ⊎ Wanes w (opened holds v q) q what seen (n + 1)
+    wanes-opening w v q what seen n o live shut = wanes-opened w v q what seen n o live (opens-lower holds v q what o.later live.0 o.whole o.waits shut)
 
     -- any call reclaims the item, or leaves no more, but for an idle close
-    wanes-called : (w v new : World T) (q k seen n : ℕ) (o : Wanes w v q k seen n) → IsWhole new → Outcome v new q k o.later →
-        ¬ (IsIdleClose Idles v new q) → (standing_at new k ≡ None) ⊎ Wanes w new q k seen n
-    wanes-called w v new q k seen n o i (inl gone) moves = inl gone
-    wanes-called w v new q k seen n o i (inr (later, waits, inl lower)) moves =
+    wanes-called : (w v new : World T) (q : ℕ) (what : LimboEntry) (seen n : ℕ) (o : Wanes w v q what seen n) → IsWhole new → Outcome v new q what o.later →
+        ¬ (IsIdleClose Idles v new q) → (IsGone new what) ⊎ Wanes w new q what seen n
+    wanes-called w v new q what seen n o i (inl gone) moves = inl gone
+    wanes-called w v new q what seen n o i (inr (later, waits, inl lower)) moves =
         inr (record { whole = i; later = later; waits = waits; lower = omega (arith, o.lower, lower) })
-    wanes-called w v new q k seen n o i (inr (later, waits, inr idle)) moves = absurd (moves idle)
+    wanes-called w v new q what seen n o i (inr (later, waits, inr idle)) moves = absurd (moves idle)
 
-    pub wanes-call : (w v new : World T) (q k seen n : ℕ) → Wanes w v q k seen n → IsPlaceOf v q → WorldStep holds v new → ¬ (IsIdleClose Idles v new q) →
-        (standing_at new k ≡ None) ⊎ Wanes w new q k seen n
-    wanes-call w v new q k seen n o live call moves =
-        wanes-called w v new q k seen n o (Whole-called holds call o.whole) (each-call q k o.later call o.whole live o.waits) moves
+    pub wanes-call : (w v new : World T) (q : ℕ) (what : LimboEntry) (seen n : ℕ) → Wanes w v q what seen n → IsPlaceOf v q → WorldStep holds v new → ¬ (IsIdleClose Idles v new q) →
+        (IsGone new what) ⊎ Wanes w new q what seen n
+    wanes-call w v new q what seen n o live call moves =
+        wanes-called w v new q what seen n o (Whole-called holds call o.whole) (each-call q what o.later call o.whole live o.waits) moves

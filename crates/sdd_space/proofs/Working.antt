@@ -18,13 +18,13 @@ use Rattle.sdd_participants.specs.declared.standing.Standing.TheVariants.{Shared
 use Rattle.sdd_space.specs.Collecting.{is_for, without_collector}
 use Rattle.sdd_space.specs.OwnerOrCell.{OwnerOrCell}
 use Rattle.sdd_space.specs.ParticipantChanges.{all_awaiting}
-use Rattle.sdd_space.specs.ReclaimBound.{Waits, IsHeldUp}
+use Rattle.sdd_space.specs.ReclaimBound.{IsHeldUp}
 use Rattle.sdd_space.specs.World.{World, AnyGuardOpen, IsPlaceOf, place_at, standing_at}
 use Rattle.sdd_space.specs.WorldChanges.{opened, accelerated, closed}
 use Rattle.sdd_space.specs.WorldInvariant.{IsWhole}
 use Rattle.sdd_space.specs.WorldStep.{WorldStep}
 use Rattle.sdd_space.specs.WorldStep.WorldStep.{registers, ends, opens, closes, stirs, accelerates, makes, shares, retires, releases, defers, collects, closes_collector, edits, drops, puts_out_raw, takes_back_raw, changes_cells, closes_cell, changes_pointers}
-use Rattle.sdd_space.specs.WorkingGuards.{openings_left, Calls, WasFree, WorksThrough, IsWork, Works, PassesWork, WorkingGuardsPass, WorkJoins, WorkingGuardsReclaim}
+use Rattle.sdd_space.specs.WorkingGuards.{WaitsWith, IsGone, openings_left, Calls, HasGone, WorksThrough, IsWork, Works, PassesWork, WorkingGuardsPass, WorkJoins, WorkingGuardsReclaim}
 use Rattle.sdd_space.specs.WorkingGuards.Calls.{none, more_calls}
 use Rattle.sdd_space.specs.WorkingGuards.Works.{no_work, more_work}
 use Rattle.sdd_space.specs.WorkingGuards.WorksThrough.{starts, one_opening, one_close, one_call}
@@ -123,41 +123,41 @@ module _ {T : Type 0} (holds : T → List OwnerOrCell) where
   calls-of q (one_call n u v w path live call keeps) = more_calls u v w (calls-of q path) call
 
   -- it was free before, or is now, or goes on to wait
-  abbrev Goes : (w new : World T) (q k seen n : ℕ) → Type 0
-  Goes w new q k seen n = WasFree holds k w new ⊎ Wanes by_openings holds w new q k seen n
+  abbrev Goes : (w new : World T) (q : ℕ) (what : LimboEntry) (seen n : ℕ) → Type 0
+  Goes w new q what seen n = HasGone holds what w new ⊎ Wanes by_openings holds w new q what seen n
 
-  free-now : (w new : World T) (q k seen n : ℕ) → Calls holds w new → (standing_at new k ≡ None) ⊎ Wanes by_openings holds w new q k seen n →
-      Goes w new q k seen n
-  free-now w new q k seen n path (inl gone) = inl (new, path, none new, gone)
-  free-now w new q k seen n path (inr on) = inr on
+  free-now : (w new : World T) (q : ℕ) (what : LimboEntry) (seen n : ℕ) → Calls holds w new → (IsGone new what) ⊎ Wanes by_openings holds w new q what seen n →
+      Goes w new q what seen n
+  free-now w new q what seen n path (inl gone) = inl (new, path, none new, gone)
+  free-now w new q what seen n path (inr on) = inr on
 
-  free-later : (w v new : World T) (q k seen n m : ℕ) → Calls holds w v → (call : WorldStep holds v new) → Goes w v q k seen n →
-      (Wanes by_openings holds w v q k seen n → (standing_at new k ≡ None) ⊎ Wanes by_openings holds w new q k seen m) →
-      Goes w new q k seen m
-  free-later w v new q k seen n m path call (inl (there, before, after, free)) next = inl (there, before, more_calls there v new after call, free)
-  free-later w v new q k seen n m path call (inr on) next = free-now w new q k seen m (more_calls w v new path call) (next on)
+  free-later : (w v new : World T) (q : ℕ) (what : LimboEntry) (seen n m : ℕ) → Calls holds w v → (call : WorldStep holds v new) → Goes w v q what seen n →
+      (Wanes by_openings holds w v q what seen n → (IsGone new what) ⊎ Wanes by_openings holds w new q what seen m) →
+      Goes w new q what seen m
+  free-later w v new q what seen n m path call (inl (there, before, after, free)) next = inl (there, before, more_calls there v new after call, free)
+  free-later w v new q what seen n m path call (inr on) next = free-now w new q what seen m (more_calls w v new path call) (next on)
 
-  goes : (q k seen : ℕ) {n : ℕ} {w new : World T} → WorksThrough holds q n w new → IsWhole w → Waits w q k seen → Goes w new q k seen n
-  goes q k seen (starts w) i h = inr (record { whole = i; later = seen; waits = h; lower = omega arith })
-  goes q k seen (one_opening n w v path live shut) i h =
-      free-later w v (opened holds v q) q k seen n (n + 1) (calls-of q path) (opens v q live) (goes q k seen path i h)
-      (λ on. wanes-opening by_openings holds w v q k seen n on live (not-open (is_open (place_at v q)) shut))
-  goes q k seen (one_close n w v path live scans free) i h =
-      free-later w v (closed v q) q k seen n n (calls-of q path) (closes v q live) (goes q k seen path i h)
-      (λ on. wanes-call by_openings holds w v (closed v q) q k seen n on live (closes v q live) (not-idle v (closed v q) q scans free))
-  goes q k seen (one_call n w v new path live call keeps) i h =
-      free-later w v new q k seen n n (calls-of q path) call (goes q k seen path i h)
-      (λ on. wanes-call by_openings holds w v new q k seen n on live call (not-last v new q keeps))
+  goes : (q : ℕ) (what : LimboEntry) (seen : ℕ) {n : ℕ} {w new : World T} → WorksThrough holds q n w new → IsWhole w → WaitsWith w q what seen → Goes w new q what seen n
+  goes q what seen (starts w) i h = inr (record { whole = i; later = seen; waits = h; lower = omega arith })
+  goes q what seen (one_opening n w v path live shut) i h =
+      free-later w v (opened holds v q) q what seen n (n + 1) (calls-of q path) (opens v q live) (goes q what seen path i h)
+      (λ on. wanes-opening by_openings holds w v q what seen n on live (not-open (is_open (place_at v q)) shut))
+  goes q what seen (one_close n w v path live scans free) i h =
+      free-later w v (closed v q) q what seen n n (calls-of q path) (closes v q live) (goes q what seen path i h)
+      (λ on. wanes-call by_openings holds w v (closed v q) q what seen n on live (closes v q live) (not-idle v (closed v q) q scans free))
+  goes q what seen (one_call n w v new path live call keeps) i h =
+      free-later w v new q what seen n n (calls-of q path) call (goes q what seen path i h)
+      (λ on. wanes-call by_openings holds w v new q what seen n on live call (not-last v new q keeps))
 
-  by-then : (w new : World T) (q k seen n : ℕ) → openings_left w.time q seen ≤ n → Goes w new q k seen n → WasFree holds k w new
-  by-then w new q k seen n enough (inl free) = free
-  by-then w new q k seen n enough (inr on) =
+  by-then : (w new : World T) (q : ℕ) (what : LimboEntry) (seen n : ℕ) → openings_left w.time q seen ≤ n → Goes w new q what seen n → HasGone holds what w new
+  by-then w new q what seen n enough (inl free) = free
+  by-then w new q what seen n enough (inr on) =
       absurd (omega (arith, on.lower, enough, (openings-bounds new.time.count on.later (place_at new q)).0))
 
   pub working-guards-reclaim : (w : World T) → IsWhole w → WorkingGuardsReclaim holds w
   working-guards-reclaim w i = record {
     bounded = λ q seen. omega (arith, (openings-bounds w.time.count seen (place_at w q)).1);
-    reclaimed = λ q k seen h n new path enough. by-then w new q k seen n enough (goes q k seen path i h);
+    gone = λ q seen what h n new path enough. by-then w new q what seen n enough (goes q what seen path i h);
   }
 
   joins : (q m : ℕ) (u : World T) {n : ℕ} {v w : World T} → WorksThrough holds q m u v → WorksThrough holds q n v w → WorksThrough holds q (m + n) u w
@@ -273,9 +273,6 @@ module _ {T : Type 0} (holds : T → List OwnerOrCell) where
 
   module _ (w worked : World T) (q : ℕ) (live : IsPlaceOf w q) (closed_before : AllClosed w) (room : w.time.count < last_count)
       (works : Works holds (opened holds w q) worked) where
-    ready : World T
-    ready = accelerated worked q
-
     -- what is the same from the opening to the close
     from_opening : KeepsGuards (opened holds w q).time (accelerated worked q).time
     from_opening =

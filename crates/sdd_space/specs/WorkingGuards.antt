@@ -1,5 +1,9 @@
 -- When what waits goes while its holder works under accelerated guards
-use Rattle.std.specs.Prelude.{ℕ, ◌+◌, ◌-◌, ◌<◌, ◌≤◌, ◌≡◌, IsTrue, List, None, if◌then◌else◌}
+use Rattle.std.specs.Prelude.{ℕ, ◌+◌, ◌-◌, ◌<◌, ◌≤◌, ◌≡◌, Contains, IsTrue, List, None, if◌then◌else◌}
+use Rattle.sdd_participants.specs.declared.waiting.LimboEntry.{LimboEntry}
+use Rattle.sdd_participants.specs.declared.waiting.LimboEntry.TheVariants.{Item, Job}
+use Rattle.sdd_participants.specs.Slab.{entry_at}
+use Rattle.sdd_participants.specs.Waiting.{having_seen}
 use Rattle.sdd_participants.specs.EpochState.{EpochState, finds_another, is_open, last_count}
 use Rattle.sdd_participants.specs.EpochState as time
 use Rattle.sdd_space.specs.OwnerOrCell.{OwnerOrCell}
@@ -7,10 +11,20 @@ use Rattle.sdd_space.specs.World.{World, AnyGuardOpen, IsPlaceOf, place_at, stan
 use Rattle.sdd_space.specs.WorldChanges.{opened, accelerated, closed}
 use Rattle.sdd_space.specs.WorldStep.{WorldStep}
 use Rattle.sdd_space.specs.WorldStep.WorldStep.{registers, ends, opens, closes}
-use Rattle.sdd_space.specs.ReclaimBound.{Waits, IsHeldUp}
+use Rattle.sdd_space.specs.ReclaimBound.{IsHeldUp}
 
--- after how many outermost openings of its holder, at latest, an item is reclaimed that has seen so many changes, where each close of the holder's last
--- guard scans and isn't held up: one for each change, and one more where no other count is to be found yet
+module _ {T : Type 0} where
+  -- an item or a job waits with p, and has seen so many of p's changes
+  abbrev pub WaitsWith : World T → (place : ℕ) → LimboEntry → (seen : ℕ) → Type 0
+  WaitsWith w p what seen = Contains (place_at w p).bags.waiting (having_seen seen what)
+
+  -- an item's slot is free, or a job's place is
+  abbrev pub IsGone : World T → LimboEntry → Type 0
+  IsGone w (Item k) = standing_at w k ≡ None
+  IsGone w (Job j) = entry_at w.jobs j ≡ None
+
+-- after how many outermost openings of its holder, at latest, goes what has seen so many changes, where each close of the holder's last guard scans
+-- and isn't held up: the next one is a change where another count is there to be found; else the next but one
 abbrev pub openings_left : EpochState → (holder seen : ℕ) → ℕ
 openings_left t q seen = (if finds_another t q then 1 else (if is_open (time.place_at t q) then 1 else 2)) + (2 - seen)
 
@@ -20,9 +34,9 @@ module _ {T : Type 0} (holds : T → List OwnerOrCell) where
     none : (w : World T) → Calls w w
     more_calls : (u v w : World T) → Calls u v → WorldStep holds v w → Calls u w
 
-  -- on the way from one world to the other there was one in which the slot is free
-  abbrev pub WasFree : ℕ → World T → World T → Type 0
-  WasFree k u w = (v : World T) × Calls u v × Calls v w × (standing_at v k ≡ None)
+  -- on the way from one world to the other there was one in which it is gone
+  abbrev pub HasGone : LimboEntry → World T → World T → Type 0
+  HasGone what u w = (v : World T) × Calls u v × Calls v w × IsGone v what
 
   -- calls of any participants, one after another, before which q is one: so many are outermost openings of q, and each close of its last guard scans and
   -- isn't held up. A call that leaves a guard of q open, where one was, is no such close
@@ -66,7 +80,8 @@ module _ {T : Type 0} (holds : T → List OwnerOrCell) where
   abbrev pub WorkJoins : Type 0
   WorkJoins = (q m n : ℕ) (u v w : World T) → WorksThrough q m u v → WorksThrough q n v w → WorksThrough q (m + n) u w
 
-  -- the law: what waits is reclaimed on the way, where its holder makes as many outermost openings as are left, and never more than four are
+  -- the law: what waits has gone on the way, where its holder makes as many outermost openings as are left, and never more than four are
   pub record WorkingGuardsReclaim (w : World T) : Type 0 where
     pub bounded : (q seen : ℕ) → openings_left w.time q seen ≤ 4
-    pub reclaimed : (q k seen : ℕ) → Waits w q k seen → (n : ℕ) (new : World T) → WorksThrough q n w new → openings_left w.time q seen ≤ n → WasFree k w new
+    pub gone : (q seen : ℕ) (what : LimboEntry) → WaitsWith w q what seen → (n : ℕ) (new : World T) → WorksThrough q n w new →
+        openings_left w.time q seen ≤ n → HasGone what w new
