@@ -36,7 +36,7 @@ use Rattle.sdd_space.proofs.Closes.{how-closed}
 use Rattle.sdd_participants.proofs.Adopting.{Adopts, adopts, same-or-not, scans-if, scans-there}
 use Rattle.sdd_participants.specs.PlaceStates.{is_ended}
 use Rattle.sdd_space.proofs.Opening.{how, Nests, IsChange, opened-goes, opened-other, all_awaiting-waiting, still-waits}
-use Rattle.sdd_space.proofs.Entries.{ripe-due, nests-waiting, change-waiting, waiting-young, waits-young, waits-standing, entry-due, nests-waits, change-waits, differs, opens-changed}
+use Rattle.sdd_space.proofs.Entries.{ripe-due, nests-waiting, change-waiting, waiting-young, waits-standing, entry-due, differs, opens-changed}
 use Rattle.sdd_space.proofs.Under.{closed-persists}
 
 -- the last guard is closed, and so much is to be counted down

@@ -1,5 +1,5 @@
 -- Work under accelerated guards doesn't hinder them
-use Rattle.std.proofs.Common.{◌≡◌, ◌≢◌, ◌⊎◌, inl, inr, ℕ, ◌+◌, ◌<◌, ◌≤◌, List, length, Bool, refl, sym, ap, ◌∙◌, arith, true, false, None, Some, nat_lt, IsTrue, map, subst}
+use Rattle.std.proofs.Common.{◌≡◌, ◌≢◌, ◌⊎◌, inl, inr, ℕ, ◌+◌, ◌<◌, ◌≤◌, List, length, Bool, refl, sym, ap, ◌∙◌, arith, true, false, Some, nat_lt, IsTrue, map, subst}
 use Rattle.std.specs.Prelude.{◌-◌, ◌==◌, if◌then◌else◌, not}
 use Rattle.std.proofs.lemmas.List.{length-map, length-set, get_or-set_same}
 use Rattle.std.proofs.lemmas.Bool.Decides.{nat_tests}
@@ -19,13 +19,16 @@ use Rattle.sdd_space.specs.Collecting.{is_for, without_collector}
 use Rattle.sdd_space.specs.OwnerOrCell.{OwnerOrCell}
 use Rattle.sdd_space.specs.ParticipantChanges.{all_awaiting}
 use Rattle.sdd_space.specs.ReclaimBound.{IsHeldUp}
-use Rattle.sdd_space.specs.World.{World, AnyGuardOpen, IsPlaceOf, place_at, standing_at}
+use Rattle.sdd_space.specs.World.{World, IsPlaceOf, place_at}
 use Rattle.sdd_space.specs.WorldChanges.{opened, accelerated, closed}
 use Rattle.sdd_space.specs.WorldInvariant.{IsWhole}
 use Rattle.sdd_space.specs.WorldStep.{WorldStep}
 use Rattle.sdd_space.specs.WorldStep.WorldStep.{registers, ends, opens, closes, stirs, accelerates, makes, shares, retires, releases, defers, collects, closes_collector, edits, drops, puts_out_raw, takes_back_raw, changes_cells, closes_cell, changes_pointers}
-use Rattle.sdd_space.specs.WorkingGuards.{WaitsWith, IsGone, openings_left, Calls, HasGone, WorksThrough, IsWork, Works, PassesWork, WorkingGuardsPass, WorkJoins, WorkingGuardsReclaim}
-use Rattle.sdd_space.specs.WorkingGuards.Calls.{none, more_calls}
+use Rattle.sdd_space.specs.WorkingGuards.{WaitsWith, IsGone, openings_left, Calls, HasGone, WorksThrough, IsWork, Works, PassesWork, WorkingGuardsPass, BusyGuardsCount, WorkJoins, WorkingGuardsReclaim}
+use Rattle.sdd_space.specs.UnderGuards.{CallsUnder}
+use Rattle.sdd_space.specs.UnderGuards.CallsUnder.{none, more_calls}
+use Rattle.sdd_space.proofs.Housed.{Whole-opened, registered-lives, ended-lives}
+use Rattle.sdd_space.specs.WorkingGuards.Calls.{no_call, one_more}
 use Rattle.sdd_space.specs.WorkingGuards.Works.{no_work, more_work}
 use Rattle.sdd_space.specs.WorkingGuards.WorksThrough.{starts, one_opening, one_close, one_call}
 use Rattle.sdd_space.proofs.Closes.{how-closed, put-same, goes-up}
@@ -37,7 +40,7 @@ use Rattle.sdd_space.proofs.Own.{Gives, Gives-owner_given, Gives-cell_closed, Gi
 use Rattle.sdd_space.proofs.Own as own
 use Rattle.sdd_space.proofs.Passing.{nesting-opened}
 use Rattle.sdd_space.proofs.Whole.{all_awaiting-guards}
-use Rattle.sdd_space.proofs.Waning.{Measure, IsIdleClose, resting, nested-open, not-open, Wanes, wanes-opening, wanes-call}
+use Rattle.sdd_space.proofs.Waning.{Measure, IsIdleClose, resting, nested-open, not-open, Wanes, Whole-called, wanes-opening, wanes-call}
 
 -- how many openings are left with this participant at this count
 abbrev openings_of : (count : ℕ) → Participant → (seen : ℕ) → ℕ
@@ -117,10 +120,10 @@ module _ {T : Type 0} (holds : T → List OwnerOrCell) where
   not-last w new q keeps idle = let never : false ≡ true = sym idle.shut ∙ keeps idle.was_open in absurd (cc)
 
   calls-of : (q : ℕ) {n : ℕ} {u w : World T} → WorksThrough holds q n u w → Calls holds u w
-  calls-of q (starts w) = none w
-  calls-of q (one_opening n u v path live shut) = more_calls u v (opened holds v q) (calls-of q path) (opens v q live)
-  calls-of q (one_close n u v path live scans free) = more_calls u v (closed v q) (calls-of q path) (closes v q live)
-  calls-of q (one_call n u v w path live call keeps) = more_calls u v w (calls-of q path) call
+  calls-of q (starts w) = no_call w
+  calls-of q (one_opening n u v path live shut) = one_more u v (opened holds v q) (calls-of q path) (opens v q live)
+  calls-of q (one_close n u v path live scans free) = one_more u v (closed v q) (calls-of q path) (closes v q live)
+  calls-of q (one_call n u v w path live call keeps) = one_more u v w (calls-of q path) call
 
   -- it was free before, or is now, or goes on to wait
   abbrev Goes : (w new : World T) (q : ℕ) (what : LimboEntry) (seen n : ℕ) → Type 0
@@ -128,14 +131,14 @@ module _ {T : Type 0} (holds : T → List OwnerOrCell) where
 
   free-now : (w new : World T) (q : ℕ) (what : LimboEntry) (seen n : ℕ) → Calls holds w new → (IsGone new what) ⊎ Wanes by_openings holds w new q what seen n →
       Goes w new q what seen n
-  free-now w new q what seen n path (inl gone) = inl (new, path, none new, gone)
+  free-now w new q what seen n path (inl gone) = inl (new, path, no_call new, gone)
   free-now w new q what seen n path (inr on) = inr on
 
   free-later : (w v new : World T) (q : ℕ) (what : LimboEntry) (seen n m : ℕ) → Calls holds w v → (call : WorldStep holds v new) → Goes w v q what seen n →
       (Wanes by_openings holds w v q what seen n → (IsGone new what) ⊎ Wanes by_openings holds w new q what seen m) →
       Goes w new q what seen m
-  free-later w v new q what seen n m path call (inl (there, before, after, free)) next = inl (there, before, more_calls there v new after call, free)
-  free-later w v new q what seen n m path call (inr on) next = free-now w new q what seen m (more_calls w v new path call) (next on)
+  free-later w v new q what seen n m path call (inl (there, before, after, free)) next = inl (there, before, one_more there v new after call, free)
+  free-later w v new q what seen n m path call (inr on) next = free-now w new q what seen m (one_more w v new path call) (next on)
 
   goes : (q : ℕ) (what : LimboEntry) (seen : ℕ) {n : ℕ} {w new : World T} → WorksThrough holds q n w new → IsWhole w → WaitsWith w q what seen → Goes w new q what seen n
   goes q what seen (starts w) i h = inr (record { whole = i; later = seen; waits = h; lower = omega arith })
@@ -309,3 +312,58 @@ module _ {T : Type 0} (holds : T → List OwnerOrCell) where
 
   pub working-guards-pass : (w : World T) → WorkingGuardsPass holds w
   working-guards-pass w = λ q live quiet room worked works. passes w worked q live (all-closed w quiet) room works
+
+  -- an opening leaves who is there
+  opened-lives : (v : World T) (p q : ℕ) → IsPlaceOf v p → IsPlaceOf v q → IsWhole v → IsPlaceOf (opened holds v p) q
+  opened-lives v p q l live i =
+      let phases = phases-opened holds v p l.0 (how holds v p l.0) in
+      let lengths = (Whole-opened holds v p l i).housed.lengths in
+      live-of v.time (opened holds v p).time q phases
+      (omega (arith, lengths, ap (λ (xs : Entries PlaceState). length xs) phases, i.housed.lengths, live.0)) live
+
+  -- who has a guard open can't end
+  live-called : (q : ℕ) {v w : World T} → WorldStep holds v w → IsWhole v → IsPlaceOf v q → IsTrue (is_open (place_at v q)) → IsPlaceOf w q
+  live-called q (registers v p vacant) i live o = registered-lives v.time p q i.housed.lengths live
+  live-called q (ends v p l shut) i live o =
+      ended-lives v.time p q (λ e. absurd (shut (subst (λ (r : ℕ). IsTrue (is_open (place_at v r))) e o))) live
+  live-called q (opens v p l) i live o = opened-lives v p q l live i
+  live-called q (closes v p l) i live o = still-live v.time (closed v p).time q (keeps-closed v.time p l) live
+  live-called q {v} {w} call i live o = live-on v.time w.time q (work-keeps call tt) live
+
+  last-open : (q : ℕ) {v w : World T} → CallsUnder holds q v w → IsTrue (is_open (place_at w q))
+  last-open q (none w o) = o
+  last-open q (more_calls u v w path call o) = o
+
+  record GoesOn (q n : ℕ) (u w : World T) : Type 0 where
+    way : WorksThrough holds q n u w
+    whole : IsWhole w
+    live : IsPlaceOf w q
+
+  -- any calls go on from any way, while a guard of q is open
+  goes-under : (q n : ℕ) (u : World T) {v w : World T} → CallsUnder holds q v w → GoesOn q n u v → GoesOn q n u w
+  goes-under q n u (none w o) on = on
+  goes-under q n u (more_calls v x w path call o) on =
+      let there = goes-under q n u path on in record {
+        way = one_call n u x w there.way there.live call (λ _. o);
+        whole = Whole-called holds call there.whole;
+        live = live-called q call there.whole there.live (last-open q path);
+      }
+
+  still-free : (v w : World T) (q : ℕ) → KeepsGuards v.time w.time → ¬ (IsHeldUp v q) → ¬ (IsHeldUp w q)
+  still-free v w q k free (inl late) = free (inl (omega (arith, late, k.count)))
+  still-free v w q k free (inr (p, apart, o)) = free (inr (p, apart, ap (λ (n : ℕ). nat_lt 0 n) (sym (k.guards p)) ∙ o))
+
+  pub busy-guards-count : (w : World T) → IsWhole w → BusyGuardsCount holds w
+  busy-guards-count w i = λ q live shut new path free.
+      let start : GoesOn q 1 w (opened holds w q) = record {
+        way = one_opening 0 w w (starts w) live shut;
+        whole = Whole-opened holds w q live i;
+        live = opened-lives w q q live live i;
+      } in
+      let there = goes-under q 1 w path start in
+      let x = time.accelerated (place_at new q) in
+      let k = keeps-place new.time q x there.live.0 refl in
+      let end = accelerated new q in
+      let scans : (place_at end q).countdown ≡ 0 = ap (λ (y : Participant). y.countdown) (get_or-set_same new.time.places q x nobody there.live.0) in
+      one_close 1 w end (one_call 1 w new end there.way there.live (accelerates new q there.live) (still-open new end q k))
+      (live-on new.time end.time q k there.live) scans (still-free new end q k free)

@@ -19,9 +19,9 @@ pub mod WorldStep
 pub mod Collecting
 pub mod Collector
 pub mod ReclaimBound
-pub mod WorkingGuards
 pub mod Adopting
 pub mod UnderGuards
+pub mod WorkingGuards
 pub mod AcceleratedGuards
 pub mod OwnerCounts
 pub mod Ledger

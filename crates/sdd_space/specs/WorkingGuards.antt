@@ -12,6 +12,7 @@ use Rattle.sdd_space.specs.WorldChanges.{opened, accelerated, closed}
 use Rattle.sdd_space.specs.WorldStep.{WorldStep}
 use Rattle.sdd_space.specs.WorldStep.WorldStep.{registers, ends, opens, closes}
 use Rattle.sdd_space.specs.ReclaimBound.{IsHeldUp}
+use Rattle.sdd_space.specs.UnderGuards.{CallsUnder}
 
 module _ {T : Type 0} where
   -- an item or a job waits with p, and has seen so many of p's changes
@@ -31,8 +32,8 @@ openings_left t q seen = (if finds_another t q then 1 else (if is_open (time.pla
 module _ {T : Type 0} (holds : T → List OwnerOrCell) where
   -- calls of any participants, one after another
   pub data Calls : World T → World T → Type 0 where
-    none : (w : World T) → Calls w w
-    more_calls : (u v w : World T) → Calls u v → WorldStep holds v w → Calls u w
+    no_call : (w : World T) → Calls w w
+    one_more : (u v w : World T) → Calls u v → WorldStep holds v w → Calls u w
 
   -- on the way from one world to the other there was one in which it is gone
   abbrev pub HasGone : LimboEntry → World T → World T → Type 0
@@ -75,6 +76,11 @@ module _ {T : Type 0} (holds : T → List OwnerOrCell) where
   abbrev pub WorkingGuardsPass : World T → Type 0
   WorkingGuardsPass w = (q : ℕ) → IsPlaceOf w q → ¬ (AnyGuardOpen w) → w.time.count < last_count → (worked : World T) → Works (opened holds w q) worked →
       PassesWork w worked q
+
+  -- the law: a guard of q counts as one, whatever is called under it and by whomever, where q accelerates it last and its close isn't held up
+  abbrev pub BusyGuardsCount : World T → Type 0
+  BusyGuardsCount w = (q : ℕ) → IsPlaceOf w q → ¬ (IsTrue (is_open (place_at w q))) → (new : World T) → CallsUnder holds q (opened holds w q) new →
+      ¬ (IsHeldUp new q) → WorksThrough q 1 w (closed (accelerated new q) q)
 
   -- the law: such ways join
   abbrev pub WorkJoins : Type 0
