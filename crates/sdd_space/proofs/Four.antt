@@ -64,13 +64,13 @@ passes-same : (count : ℕ) (x y : Participant) → y.found ≡ x.found → y.gu
 passes-same count x y f g = rw (f, g) refl
 
 -- the phases are as before, and so the place is live
-pub live-of : (t u : EpochState) (p : ℕ) → u.phases ≡ t.phases → p < length u.places → IsLive t p → IsLive u p
+live-of : (t u : EpochState) (p : ℕ) → u.phases ≡ t.phases → p < length u.places → IsLive t p → IsLive u p
 live-of t u p e there l = (there, subst (λ (xs : Entries PlaceState). IsTrue (slice_index_or (map is_live xs) p false)) (sym e) l.1)
 
 -- an outermost opening, as p has it
-pub record IsAlone (count : ℕ) (x : Participant) : Type 0 where
-  pub guards : x.guards ≡ 1
-  pub found : x.found ≡ count
+record IsAlone (count : ℕ) (x : Participant) : Type 0 where
+  guards : x.guards ≡ 1
+  found : x.found ≡ count
 
 alone-opened : (count : ℕ) (slots : List ℕ) (x : Participant) → is_open x ≡ false → (b : Bool) → (x.found == count) ≡ b →
     IsAlone count (opened_at count slots x)
@@ -96,7 +96,7 @@ module _ {T : Type 0} (holds : T → List OwnerOrCell) where
     pub count : (accelerated_guard holds w p).time.count ≡ w.time.count + 1
     pub found : (place_at (accelerated_guard holds w p) p).found ≡ w.time.count
 
-  pub opened-alone : (w : World T) (p : ℕ) → p < length w.time.places → AllClosed w → IsAlone w.time.count (place_at (opened holds w p) p)
+  opened-alone : (w : World T) (p : ℕ) → p < length w.time.places → AllClosed w → IsAlone w.time.count (place_at (opened holds w p) p)
   opened-alone w p l shut =
       let o = opens holds w p l (is_open (place_at w p)) refl in
       let a = alone-opened w.time.count o.slots (place_at w p) (shut p) ((place_at w p).found == w.time.count) refl in
@@ -146,7 +146,7 @@ module _ {T : Type 0} (holds : T → List OwnerOrCell) where
       let g = Gives-all_reclaimed holds (steps.rotated (steps.nested w p) p) p (due_next (place_at (steps.nested w p) p)) (in_before holds w p l) in
       ap (λ (u : World T). u.time.phases) c.change ∙ ap (λ (t : EpochState). t.phases) g.time
 
-  pub opened-live : (w : World T) (p : ℕ) → IsPlaceOf w p → AllClosed w → IsPlaceOf (opened holds w p) p
+  opened-live : (w : World T) (p : ℕ) → IsPlaceOf w p → AllClosed w → IsPlaceOf (opened holds w p) p
   opened-live w p l shut = live-of w.time (opened holds w p).time p (phases-opened w p l.0 (how holds w p l.0)) (opened-place w p l.0 shut) l
 
   pub ready-live : (w : World T) (p : ℕ) → IsPlaceOf w p → AllClosed w → IsPlaceOf (ready w p) p
@@ -180,7 +180,7 @@ module _ {T : Type 0} (holds : T → List OwnerOrCell) where
       }
 
   -- a close at countdown 0 of the last guard, whether its scan raises the count or not
-  closed-is : (t : EpochState) (p : ℕ) → nat_lt 1 (time.place_at t p).guards ≡ false → is_open (time.place_at t p) ≡ true →
+  pub closed-is : (t : EpochState) (p : ℕ) → nat_lt 1 (time.place_at t p).guards ≡ false → is_open (time.place_at t p) ≡ true →
       ((time.place_at t p).countdown == 0) ≡ true →
       time.closed t p ≡ with_place (time.scanned t p) p (rested t.marked (time.place_at (time.scanned t p) p))
   closed-is t p one o c = rw (one, o, c) refl

@@ -57,12 +57,10 @@ slower count seen x y f g d = slower-if count seen x y f g d (same-or-not x.foun
 later : (count seen : ℕ) (x : Participant) → x.found ≤ count → left_of (count + 1) x seen ≤ left_of count x seen
 later count seen x found = omega (arith, (left-bounds count seen x).0, left-another (count + 1) seen x (λ same. absurd (omega (arith, same, found))))
 
-rests-counting : (count seen : ℕ) (x : Participant) → is_open x ≡ true → x.countdown ≢ 0 → (x.found ≡ count) ⊎ (x.found ≢ count) →
+rests-counting : (count seen : ℕ) (x : Participant) → x.found ≡ count → is_open x ≡ true → x.countdown ≢ 0 →
     left_of count (resting (x.countdown - 1) x) seen ≤ left_of count x seen
-rests-counting count seen x o some (inl found) =
+rests-counting count seen x found o some =
     omega (arith, some, left-open count seen x found o, left-shut count seen (resting (x.countdown - 1) x) found refl)
-rests-counting count seen x o some (inr apart) =
-    omega (arith, left-another count seen x apart, left-another count seen (resting (x.countdown - 1) x) apart)
 
 rests-elsewhere : (count seen countdown : ℕ) (x : Participant) → x.found ≢ count → left_of count (resting countdown x) seen ≤ left_of count x seen
 rests-elsewhere count seen countdown x apart = omega (arith, left-another count seen x apart, left-another count seen (resting countdown x) apart)
@@ -93,7 +91,7 @@ by_countdown = record {
   nests = nests-lower;
   changes = changes-lower;
   last = λ count x another. left-another count 2 x another;
-  counts_down = λ count seen x o some. inl (rests-counting count seen x o some (same-or-not x.found count));
+  counts_down = λ count seen x found o some. inl (rests-counting count seen x found o some);
   elsewhere = rests-elsewhere;
   raised = rests-raised;
 }

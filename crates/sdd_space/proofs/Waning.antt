@@ -58,15 +58,16 @@ pub record Measure (Idles : ℕ → Type 0) : Type 0 where
       remains count y (seen + 1) + 1 ≤ remains count x seen
   pub last : (count : ℕ) (x : Participant) → x.found ≢ count → remains count x 2 ≡ 1
   -- a close of the last guard: without a scan, where another count is to be found, and where its scan raised the count
-  pub counts_down : (count seen : ℕ) (x : Participant) → is_open x ≡ true → x.countdown ≢ 0 →
+  pub counts_down : (count seen : ℕ) (x : Participant) → x.found ≡ count → is_open x ≡ true → x.countdown ≢ 0 →
       (remains count (resting (x.countdown - 1) x) seen ≤ remains count x seen) ⊎ Idles x.countdown
   pub elsewhere : (count seen countdown : ℕ) (x : Participant) → x.found ≢ count → remains count (resting countdown x) seen ≤ remains count x seen
   pub raised : (count seen countdown : ℕ) (x : Participant) → x.found ≡ count → remains (count + 1) (resting countdown x) seen ≤ remains count x seen
 
--- a close of q's last guard that may leave more: it doesn't scan, or its scan is held up
+-- a close of q's last guard that may leave more: no other count is there to be found, and it doesn't scan, or its scan is held up
 pub record IsIdleClose {T : Type 0} (Idles : ℕ → Type 0) (w new : World T) (q : ℕ) : Type 0 where
   pub closes : new ≡ closed w q
   pub why : Idles (place_at w q).countdown ⊎ IsHeldUp w q
+  pub found : (place_at w q).found ≡ w.time.count
   pub was_open : is_open (place_at w q) ≡ true
   pub shut : is_open (place_at new q) ≡ false
 
@@ -170,7 +171,6 @@ module _ {T : Type 0} (holds : T → List OwnerOrCell) where
   Whole-called (closes_cell w r c l) i = Whole-cell_closed w r c l i
   Whole-called (changes_pointers w pointers same) i = Whole-pointers w pointers i
 
-
 -- what has seen two changes goes at the next one
 module _ {T : Type 0} (holds : T → List OwnerOrCell) (w : World T) (q : ℕ) (l : q < length w.time.places) (i : IsWhole w) (c : IsChange holds w q) where
   ripe-goes : (what : LimboEntry) → WaitsWith w q what 2 → IsGone (opened holds w q) what
@@ -258,7 +258,7 @@ module _ {Idles : ℕ → Type 0} (m : Measure Idles) where
         inr (r, (λ same. who.1 (ap (λ (n : ℕ). (time.place_at u n).found) same ∙ found)), opened)
 
     abbrev Closes : EpochState → Type 0
-    Closes u = (remaining u q seen ≤ remaining w.time q seen) ⊎ (Idles (place_at w q).countdown ⊎ IsHeldUp w q)
+    Closes u = (remaining u q seen ≤ remaining w.time q seen) ⊎ (((place_at w q).found ≡ w.time.count) × (Idles (place_at w q).countdown ⊎ IsHeldUp w q))
 
     closes-put : (u v : EpochState) (y : Participant) → u ≡ with_place v q y → q < length v.places → m.remains v.count y seen ≤ remaining w.time q seen → Closes u
     closes-put u v y e inside h =
@@ -280,7 +280,7 @@ module _ {Idles : ℕ → Type 0} (m : Measure Idles) where
         closes-put (time.left_by w.time q) v (rested w.time.marked x) (rw (ended, test, ← u_is, e) refl) (omega (arith, l, a.places)) (omega (arith, rest, was))
     closes-raised ended test found u u_is a false e =
         let here : (time.place_at u q).found ≡ u.count = (a.stays q).found ∙ found ∙ sym (ap (λ (t : EpochState). t.count) a.only) in
-        inr (inr (held-if u a here (and-fails (nat_lt u.count last_count) (list_all (passes u.count) u.places) e)))
+        inr (found, inr (held-if u a here (and-fails (nat_lt u.count last_count) (list_all (passes u.count) u.places) e)))
 
     closes-ended : ((place_at w q).countdown == 0) ≡ true → (b : Bool) → ((place_at w q).found == w.time.count) ≡ b → Closes (time.left_by w.time q)
     closes-ended ended true test =
@@ -299,9 +299,13 @@ module _ {Idles : ℕ → Type 0} (m : Measure Idles) where
         let full : (d == 128) ≡ false = differs d 128 (λ e. absurd (omega (arith, e, low))) in
         let some : d ≢ 0 = λ e. absurd (grind (arith, nat_tests, counting, e)) in
         let is : time.left_by w.time q ≡ with_place w.time q (resting (d - 1) (place_at w q)) = rw (counting, counting, full) refl in
-        elim (m.counts_down w.time.count seen (place_at w q) o some) [
-          | inl lower ↦ closes-put (time.left_by w.time q) w.time (resting (d - 1) (place_at w q)) is l lower
-          | inr idles ↦ inr (inl idles)
+        elim (same-or-not (place_at w q).found w.time.count) [
+          | inl found ↦ elim (m.counts_down w.time.count seen (place_at w q) found o some) [
+            | inl lower ↦ closes-put (time.left_by w.time q) w.time (resting (d - 1) (place_at w q)) is l lower
+            | inr idles ↦ inr (found, inl idles)
+          ]
+          | inr apart ↦ closes-put (time.left_by w.time q) w.time (resting (d - 1) (place_at w q)) is l
+              (m.elsewhere w.time.count seen (d - 1) (place_at w q) apart)
         ]
 
     -- with the last guard closed none is open
@@ -316,7 +320,7 @@ module _ {Idles : ℕ → Type 0} (m : Measure Idles) where
         (remaining (time.left_by w.time q) q seen ≤ remaining w.time q seen) ⊎ IsIdleClose Idles w (closed w q) q
     closes-outermost o last (inl lower) = inl lower
     closes-outermost o last (inr why) =
-        inr (record { closes = refl; why = why; was_open = o; shut = ap (λ (u : World T). is_open (place_at u q)) last ∙ left-shut })
+        inr (record { closes = refl; why = why.1; found = why.0; was_open = o; shut = ap (λ (u : World T). is_open (place_at u q)) last ∙ left-shut })
 
     closes-own-if : (place_at w q).countdown ≤ 127 → (a : Bool) → nat_lt 1 (place_at w q).guards ≡ a → (b : Bool) → is_open (place_at w q) ≡ b →
         (remaining (time.closed w.time q) q seen ≤ remaining w.time q seen) ⊎ IsIdleClose Idles w (closed w q) q

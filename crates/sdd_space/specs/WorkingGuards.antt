@@ -1,5 +1,5 @@
 -- When what waits goes while its holder works under accelerated guards
-use Rattle.std.specs.Prelude.{ℕ, ◌+◌, ◌-◌, ◌<◌, ◌≤◌, ◌≡◌, Contains, IsTrue, List, None, if◌then◌else◌}
+use Rattle.std.specs.Prelude.{ℕ, ◌+◌, ◌-◌, ◌<◌, ◌≤◌, ◌≡◌, Contains, IsTrue, List, None, length, ◌⊎◌, if◌then◌else◌}
 use Rattle.sdd_participants.specs.declared.waiting.LimboEntry.{LimboEntry}
 use Rattle.sdd_participants.specs.declared.waiting.LimboEntry.TheVariants.{Item, Job}
 use Rattle.sdd_participants.specs.Slab.{entry_at}
@@ -39,14 +39,17 @@ module _ {T : Type 0} (holds : T → List OwnerOrCell) where
   abbrev pub HasGone : LimboEntry → World T → World T → Type 0
   HasGone what u w = (v : World T) × Calls u v × Calls v w × IsGone v what
 
-  -- calls of any participants, one after another, before which q is one: so many are outermost openings of q, and each close of its last guard scans and
-  -- isn't held up. A call that leaves a guard of q open, where one was, is no such close
+  -- after a close of q's last guard another count is to be found: one is there already, or the close scans and isn't held up
+  abbrev pub MovesOn : World T → ℕ → Type 0
+  MovesOn w q = IsTrue (finds_another w.time q) ⊎ (((place_at w q).countdown ≡ 0) × ¬ (IsHeldUp w q))
+
+  -- calls of any participants, one after another, before which q is one: so many are outermost openings of q, and after each close of q's last guard
+  -- another count is to be found. A call that leaves a guard of q open, where one was, is no such close
   pub data WorksThrough (q : ℕ) : (openings : ℕ) → World T → World T → Type 0 where
     starts : (w : World T) → WorksThrough q 0 w w
     one_opening : (n : ℕ) (u v : World T) → WorksThrough q n u v → IsPlaceOf v q → ¬ (IsTrue (is_open (place_at v q))) →
         WorksThrough q (n + 1) u (opened holds v q)
-    one_close : (n : ℕ) (u v : World T) → WorksThrough q n u v → IsPlaceOf v q → (place_at v q).countdown ≡ 0 → ¬ (IsHeldUp v q) →
-        WorksThrough q n u (closed v q)
+    one_close : (n : ℕ) (u v : World T) → WorksThrough q n u v → IsPlaceOf v q → MovesOn v q → WorksThrough q n u (closed v q)
     one_call : (n : ℕ) (u v w : World T) → WorksThrough q n u v → IsPlaceOf v q → WorldStep holds v w →
         (IsTrue (is_open (place_at v q)) → IsTrue (is_open (place_at w q))) → WorksThrough q n u w
 
@@ -58,24 +61,31 @@ module _ {T : Type 0} (holds : T → List OwnerOrCell) where
   IsWork (closes w p live) = ⊥
   IsWork other = Unit {0}
 
-  -- such calls of any participants, one after another
+  -- such calls of any participants, one after another, and guards, each closed again, with such calls under them
   pub data Works : World T → World T → Type 0 where
     no_work : (w : World T) → Works w w
     more_work : (u v w : World T) → Works u v → (call : WorldStep holds v w) → IsWork call → Works u w
+    one_guard : (p : ℕ) (u v w : World T) → Works u v → IsPlaceOf v p → Works (opened holds v p) w → Works u (closed w p)
 
-  -- what a guard of q leaves that it opened in the world w and then accelerated and closed after this work, where no other guard is open
-  pub record PassesWork (w worked : World T) (q : ℕ) : Type 0 where
-    pub one : WorksThrough q 1 w (closed (accelerated worked q) q)
-    pub quiet : ¬ (AnyGuardOpen (closed (accelerated worked q) q))
-    pub place : IsPlaceOf (closed (accelerated worked q) q) q
-    pub live : time.lives (closed (accelerated worked q) q).time ≡ time.lives w.time
-    pub nesting : (closed (accelerated worked q) q).time.nesting ≡ w.time.nesting
-    pub count : (closed (accelerated worked q) q).time.count ≤ w.time.count + 1
+  -- a guard of q, opened, with work under it, then accelerated and closed
+  pub record IsWorkingGuard (q : ℕ) (w new : World T) : Type 0 where
+    pub worked : World T
+    pub works : Works (opened holds w q) worked
+    pub closes : new ≡ closed (accelerated worked q) q
 
-  -- the law: each such guard does, whatever the work
+  -- what it leaves where no other was open
+  pub record PassesWork (q : ℕ) (w new : World T) : Type 0 where
+    pub one : WorksThrough q 1 w new
+    pub quiet : ¬ (AnyGuardOpen new)
+    pub place : IsPlaceOf new q
+    pub places : length new.time.places ≡ length w.time.places
+    pub live : time.lives new.time ≡ time.lives w.time
+    pub nesting : new.time.nesting ≡ w.time.nesting
+    pub count : new.time.count ≤ w.time.count + 1
+
+  -- the law: each does, whatever the work
   abbrev pub WorkingGuardsPass : World T → Type 0
-  WorkingGuardsPass w = (q : ℕ) → IsPlaceOf w q → ¬ (AnyGuardOpen w) → w.time.count < last_count → (worked : World T) → Works (opened holds w q) worked →
-      PassesWork w worked q
+  WorkingGuardsPass w = (q : ℕ) → IsPlaceOf w q → ¬ (AnyGuardOpen w) → w.time.count < last_count → (new : World T) → IsWorkingGuard q w new → PassesWork q w new
 
   -- the law: a guard of q counts as one, whatever is called under it and by whomever, where q accelerates it last and its close isn't held up
   abbrev pub BusyGuardsCount : World T → Type 0

@@ -51,7 +51,7 @@ impl<T: Item<T>> Local<'_, T> {
     /// waited before.
     pub fn working_guards_reclaim(&self)
         ensures reclaimed { IsLone self.now.member → WorkingGuardsReclaim T.holds (world_of self.now) }
-        ensures passed { WorkingGuardsPass T.holds (world_of self.now) }
+        ensures passed { IsLone self.now.member → WorkingGuardsPass T.holds (world_of self.now) }
         ensures counted { IsLone self.now.member → BusyGuardsCount T.holds (world_of self.now) }
         ensures joined { WorkJoins T.holds }
     {
