@@ -171,8 +171,16 @@ module _ {T : Type 0} (holds : T → List OwnerOrCell) where
   joins q m u first (one_close n v w path live moves) = one_close (m + n) u w (joins q m u first path) live moves
   joins q m u first (one_call n v w x path live call keeps) = one_call (m + n) u w x (joins q m u first path) live call keeps
 
+  work-follows : (u : World T) {v w : World T} → Works holds u v → Works holds v w → Works holds u w
+  work-follows u first (no_work w) = first
+  work-follows u first (more_work v x w path call is) = more_work u x w (work-follows u first path) call is
+  work-follows u first (one_guard p v x w path live inside) = one_guard p u x w (work-follows u first path) live inside
+
   pub work-joins : WorkJoins holds
-  work-joins = λ q m n u v w first path. joins q m u first path
+  work-joins = record {
+    ways = λ q m n u v w first path. joins q m u first path;
+    work = λ u v w first path. work-follows u first path;
+  }
 
 -- the same guards are open, whoever has one open has found what it had found, and the same participants are there
 record KeepsGuards (t u : EpochState) : Type 0 where

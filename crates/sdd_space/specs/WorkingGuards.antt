@@ -92,9 +92,10 @@ module _ {T : Type 0} (holds : T → List OwnerOrCell) where
   BusyGuardsCount w = (q : ℕ) → IsPlaceOf w q → ¬ (IsTrue (is_open (place_at w q))) → (new : World T) → CallsUnder holds q (opened holds w q) new →
       ¬ (IsHeldUp new q) → WorksThrough q 1 w (closed (accelerated new q) q)
 
-  -- the law: such ways join
-  abbrev pub WorkJoins : Type 0
-  WorkJoins = (q m n : ℕ) (u v w : World T) → WorksThrough q m u v → WorksThrough q n v w → WorksThrough q (m + n) u w
+  -- the law: such ways follow one another, and so does work
+  pub record WorkJoins : Type 0 where
+    pub ways : (q m n : ℕ) (u v w : World T) → WorksThrough q m u v → WorksThrough q n v w → WorksThrough q (m + n) u w
+    pub work : (u v w : World T) → Works u v → Works v w → Works u w
 
   -- the law: what waits has gone on the way, where its holder makes as many outermost openings as are left, and never more than four are
   pub record WorkingGuardsReclaim (w : World T) : Type 0 where
