@@ -139,7 +139,7 @@ module _ {T : Type 0} (holds : T → List OwnerOrCell) where
   ready-place w p l shut =
       omega (arith, opened-place w p l shut, length-set (opened holds w p).time.places p (time.accelerated (place_at (opened holds w p) p)))
 
-  phases-opened : (w : World T) (p : ℕ) → p < length w.time.places → Nests holds w p ⊎ IsChange holds w p →
+  pub phases-opened : (w : World T) (p : ℕ) → p < length w.time.places → Nests holds w p ⊎ IsChange holds w p →
       (opened holds w p).time.phases ≡ w.time.phases
   phases-opened w p l (inl n) = ap (λ (u : World T). u.time.phases) n.nests
   phases-opened w p l (inr c) =
@@ -180,7 +180,7 @@ module _ {T : Type 0} (holds : T → List OwnerOrCell) where
       }
 
   -- a close at countdown 0 of the last guard, whether its scan raises the count or not
-  closed-is : (t : EpochState) (p : ℕ) → nat_lt 1 (time.place_at t p).guards ≡ false → is_open (time.place_at t p) ≡ true →
+  pub closed-is : (t : EpochState) (p : ℕ) → nat_lt 1 (time.place_at t p).guards ≡ false → is_open (time.place_at t p) ≡ true →
       ((time.place_at t p).countdown == 0) ≡ true →
       time.closed t p ≡ with_place (time.scanned t p) p (rested t.marked (time.place_at (time.scanned t p) p))
   closed-is t p one o c = rw (one, o, c) refl
