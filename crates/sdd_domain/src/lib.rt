@@ -12,6 +12,7 @@ mod free_slot_hints;
 mod holds_own_domain;
 pub mod local;
 mod local_core;
+mod raw_values;
 pub mod receipt;
 mod reclaiming;
 mod scan;
