@@ -58,7 +58,7 @@ impl<'d, T: Item<T>> LocalCore<'d, T> {
     #[inline]
     pub(crate) fn get_guarded_raw<'g>(&mut self, slot: u32, guard: &'g Guard) -> Option<&'g T>
         requires reader { reader_of guard.now ≡ self.old.reader }
-        ensures looks { MatchOption result
+        ensures { MatchOption result
             ((self.new ≡ self.old) × (IsLone self.old → (slot < self.old.limits.slots) → ¬ (IsOut self.old slot)))
             (λ value. (slot < self.old.limits.slots) × LooksAt slot false (showing T.row value.now) self.old self.new × IsOnce self.new.shown
             × AreOf (home_in self.old) (T.holds value.now) × (IsLone self.old → KnowsRaw self.old slot (showing T.row value.now))) }
