@@ -14,7 +14,7 @@ pub plain_is : (x : ℕ) → IsTrue (is_plain_word x) → (x ≡ 0) ⊎ ((x ≡ 
 plain_is x plain = grind arith
 
 -- what holds of each of them holds of it
-plain_by : {P : Type 0} (x : ℕ) → IsTrue (is_plain_word x) → (x ≡ 0 → P) → (x ≡ 1 → P) → (x ≡ 4 → P) → (x ≡ 2 → P) → P
+pub plain_by : {P : Type 0} (x : ℕ) → IsTrue (is_plain_word x) → (x ≡ 0 → P) → (x ≡ 1 → P) → (x ≡ 4 → P) → (x ≡ 2 → P) → P
 plain_by x plain free owned waits raw = ⊎_elim free (λ (t : (x ≡ 1) ⊎ ((x ≡ 4) ⊎ (x ≡ 2))). ⊎_elim owned
     (λ (u : (x ≡ 4) ⊎ (x ≡ 2)). ⊎_elim waits raw u) t) (plain_is x plain)
 
