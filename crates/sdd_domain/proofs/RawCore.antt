@@ -1,5 +1,5 @@
 -- A participant after an item of its own went out as raw, and after a look at one that is out
-use Rattle.std.proofs.Common.{◌≡◌, ℕ, ◌<◌, not, List, [], ◌∷◌, sym, refl, ap, ◌∙◌, subst, eq-eqb}
+use Rattle.std.proofs.Common.{◌≡◌, ℕ, not, List, [], ◌∷◌, sym, refl, ap, ◌∙◌, subst, eq-eqb}
 use Rattle.std.specs.Prelude.{false}
 use mathlib.Core.Bool.{Bool, cond}
 use base.Stored.{Gv}
@@ -10,7 +10,7 @@ use Rattle.sdd_views.specs.declared.View.{View}
 use Rattle.sdd_views.specs.Views.{owner_of}
 use Rattle.sdd_word_invariant.specs.SlotSteps.{noted, without, turned_raw}
 use Rattle.sdd_domain_invariant.specs.FractionsAtHome.{CarriedFractions}
-use Rattle.sdd_domain_invariant.specs.FractionSteps.{SeatState, regained, undrawing, untold}
+use Rattle.sdd_domain_invariant.specs.FractionSteps.{regained, undrawing, untold}
 use Rattle.sdd_atomics.specs.declared.domain_table.DomainTable.{DomainTable}
 use Rattle.sdd_atomics.specs.DomainTable.{book_of, places_of}
 use Rattle.sdd_atomics.specs.DomainSeat.{view, Taught, Moved}

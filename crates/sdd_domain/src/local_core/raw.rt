@@ -72,11 +72,6 @@ impl<'d, T: Item<T>> LocalCore<'d, T> {
         if look_for_raw(board, &mut self.token, slot) != RAW {
             return None;
         }
-        Some(self.domain.shelf.show(
-            slot as usize,
-            &mut self.token,
-            &board.table.shared,
-            tenure,
-        ))
+        Some(self.domain.shelf.show(slot as usize, &mut self.token, &board.table.shared, tenure))
     }
 }

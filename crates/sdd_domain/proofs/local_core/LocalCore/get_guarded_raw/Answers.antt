@@ -3,7 +3,7 @@ use Rattle.std.specs.Prelude.{false}
 use base.Stored.{Gv}
 use Rattle.atomic_table.specs.declared.shared.Seat.{Seat}
 use Rattle.sdd_shared_values.specs.CarriedFractions.{lots}
-use Rattle.sdd_shared_values.specs.SharedValues.{CanShow, HasFractionShowing, showing}
+use Rattle.sdd_shared_values.specs.SharedValues.{CanShow, showing}
 use Rattle.sdd_shared_values.specs.declared.value_fraction.ValueFraction.{ValueFraction}
 use Rattle.sdd_views.specs.declared.View.{View}
 use Rattle.sdd_views.specs.declared.Sizes.{Sizes}
