@@ -16,6 +16,8 @@ mod node;
 #[cfg(test)]
 mod places;
 #[cfg(test)]
+mod raw;
+#[cfg(test)]
 mod sharing;
 #[cfg(test)]
 mod slots;
