@@ -46,10 +46,10 @@ first_by kinds.Retired = refl
 -- a slot that isn't free has a standing
 some_standing : (word : ℕ) (r : Option ShownValue) → word ≢ 0 → (s : Standing) × (standing_by word r ≡ Some s)
 some_standing word r taken = dite (ℕ_discrete word 4) (λ e. (_, ap (λ (x : ℕ). standing_by x r) e))
-    (λ ne. (owner_standing r, not_either word r taken ne))
+    (λ ne. dite (ℕ_discrete word 2) (λ e. (_, ap (λ (x : ℕ). standing_by x r) e)) (λ other. (owner_standing r, none_of word r taken ne other)))
   where
-    not_either : (word : ℕ) (r : Option ShownValue) → word ≢ 0 → word ≢ 4 → standing_by word r ≡ Some (owner_standing r)
-    not_either word r a b = grind arith
+    none_of : (word : ℕ) (r : Option ShownValue) → word ≢ 0 → word ≢ 4 → word ≢ 2 → standing_by word r ≡ Some (owner_standing r)
+    none_of word r a b d = grind arith
 
 is_there : (s : Standing) → IsSome (Some s)
 is_there s = refl

@@ -54,6 +54,13 @@ abbrev value_or : Gv → Option ShownValue → Gv
 value_or g None = g
 value_or g (Some s) = s.value
 
+-- the ledger has what the record tells
+pub shown_entry : {T : Type 0} (k : ℕ) (shared : Bool) (g : Gv) (r : Option ShownValue) (e : Option (T × Gv))
+    → r ≡ Some (record { slot = k; shared = shared; value = g }) → Agrees r e → (x : T × Gv) × (e ≡ Some x) × (x.1 ≡ g)
+shown_entry k shared g None e is a = absurd a
+shown_entry k shared g (Some r) None is a = absurd a
+shown_entry k shared g (Some r) (Some x) is a = (x, refl, a ∙ ap (value_or g) is)
+
 -- ---- an owner's item
 module _ {T : Type 0} (v : LocalModel T) (t : AreTied v.member v.entries) (k : ℕ) (shared : Bool) (g : Gv) (knows : KnowsOwner v.member k shared g) where
   pub low : k < v.member.limits.slots
@@ -62,14 +69,8 @@ module _ {T : Type 0} (v : LocalModel T) (t : AreTied v.member v.entries) (k : �
   pub owned : word_of v.member k ≡ 1
   owned = owned_alive (word_of v.member k) (t.plain k low) knows.alive
 
-  entry_of : (r : Option ShownValue) (e : Option (T × Gv)) → r ≡ Some (record { slot = k; shared = shared; value = g }) → Agrees r e
-      → (x : T × Gv) × (e ≡ Some x) × (x.1 ≡ g)
-  entry_of None e is a = absurd a
-  entry_of (Some r) None is a = absurd a
-  entry_of (Some r) (Some x) is a = (x, refl, a ∙ ap (value_or g) is)
-
   pub entry : (x : T × Gv) × (slice_index_or v.entries k None ≡ Some x) × (x.1 ≡ g)
-  entry = entry_of (newest k v.member.filled) (slice_index_or v.entries k None) knows.newest
+  entry = shown_entry k shared g (newest k v.member.filled) (slice_index_or v.entries k None) knows.newest
       (t.kept k low ((sound.lives (word_of v.member k) (let a = knows.alive in omega arith)).1))
 
   pub has_value : value_at (world_of v) k ≡ Some entry.0.0
@@ -78,23 +79,25 @@ module _ {T : Type 0} (v : LocalModel T) (t : AreTied v.member v.entries) (k : �
   pub stands : standing_at (world_of v) k ≡ Some (if shared then Shared 1 else Owned)
   stands = listing_at v.member.limits.slots (standing_in v) k None low ∙ (λ d. standing_by (owned d) (knows.newest d))
 
--- ---- a look
-module _ (R : RattleType) (v : LocalModel R.Denot) (m : LocalState) (right : Right) (x : R.Denot) where
-  abbrev k : ℕ
-  k = number_of right
+-- in an owner's slot is the value that it tells
+module _ (R : RattleType) (v : LocalModel R.Denot) (k : ℕ) (shared : Bool) (x : R.Denot) (tied : WordsMatchValues v.member v.entries)
+    (codes : (place : ℕ) (y : R.Denot) (g : Gv) → slice_index_or v.entries place None ≡ Some (y, g) → g ≡ showing R y) where
+  pub owned_value : (IsLone v.member → KnowsOwner v.member k shared (showing R x)) → IsLone v.member → value_at (world_of v) k ≡ Some x
+  owned_value recalled lone = let e = entry v (tied lone) k shared (showing R x) (recalled lone) in
+      let same : e.0.0 ≡ x = one_showing R e.0.0 x (sym (codes k e.0.0 e.0.1 e.1) ∙ e.2) in
+      has_value v (tied lone) k shared (showing R x) (recalled lone) ∙ ap Some same
 
-  abbrev sh : Bool
-  sh = is_shared (kind_of right)
-
+-- ---- a look at a slot
+module _ (R : RattleType) (v : LocalModel R.Denot) (m : LocalState) (k : ℕ) (sh : Bool) (x : R.Denot) where
   abbrev after : LocalModel R.Denot
   after = record { member = m; entries = v.entries }
 
-  module _ (looks : LooksAt (number_of right) (is_shared (kind_of right)) (showing R x) v.member m) where
+  module _ (looks : LooksAt k sh (showing R x) v.member m) where
     only_by : (s : SlotsView) (h : List ShownValue) → m ≡ record v.member { slots = s; shown = h } → m ≡ record v.member { slots = m.slots; shown = m.shown }
     only_by s h e = e ∙ (λ d. record v.member { slots = (sym e d).slots; shown = (sym e d).shown })
 
     pub only_looks : m ≡ record v.member { slots = m.slots; shown = m.shown }
-    only_looks = dite (dec_lt 0 (times (number_of right) v.member.slots.sees)) (λ sees. only_by v.member.slots v.member.shown (looks.seen sees).0)
+    only_looks = dite (dec_lt 0 (times k v.member.slots.sees)) (λ sees. only_by v.member.slots v.member.shown (looks.seen sees).0)
         (λ blind. only_by _ _ (looks.unseen blind))
 
     pub same_world : world_of after ≡ world_of v
@@ -103,34 +106,29 @@ module _ (R : RattleType) (v : LocalModel R.Denot) (m : LocalState) (right : Rig
     lone_then : IsTrue (is_lone m) → IsLone v.member
     lone_then exact = sym (ap (λ (y : LocalState). y.limits.participants) only_looks) ∙ lone_is m exact
 
-    module _ (tied : WordsMatchValues v.member v.entries) (codes : (place : ℕ) (y : R.Denot) (g : Gv) → slice_index_or v.entries place None ≡ Some (y, g) → g
-        ≡ showing R y)
-        (recalled : IsLone v.member → KnowsOwner v.member (number_of right) (is_shared (kind_of right)) (showing R x)) where
-      is_value : IsLone v.member → value_at (world_of after) (number_of right) ≡ Some x
-      is_value lone = let e = entry v (tied lone) (number_of right) (is_shared (kind_of right)) (showing R x) (recalled lone) in
-          let same : e.0.0 ≡ x = one_showing R e.0.0 x (sym (codes (number_of right) e.0.0 e.0.1 e.1) ∙ e.2) in
-          ap (λ (w : World R.Denot). value_at w (number_of right)) same_world
-          ∙ (has_value v (tied lone) (number_of right) (is_shared (kind_of right)) (showing R x) (recalled lone) ∙ ap Some same)
+    module _ (is_there : IsLone v.member → value_at (world_of v) k ≡ Some x) where
+      is_value : IsLone v.member → value_at (world_of after) k ≡ Some x
+      is_value lone = ap (λ (w : World R.Denot). value_at w k) same_world ∙ is_there lone
 
       shows_by : (holds : R.Denot → List OwnerOrCell) → AreOf (home_in v.member) (holds x) → IsOnce m.shown → (b : Bool) → (IsTrue b → IsLone v.member)
-          → ShowsBy b (showing R) holds after (number_of right) x
+          → ShowsBy b (showing R) holds after k x
       shows_by holds at once true lone = is_value (lone refl)
-      shows_by holds at once false lone = let there = shown_now (number_of right) (is_shared (kind_of right)) (showing R x) v.member m looks in record {
+      shows_by holds at once false lone = let there = shown_now k sh (showing R x) v.member m looks in record {
         known = there;
-        only = λ other is. once (number_of right) other (showing R x) is there;
+        only = λ other is. once k other (showing R x) is there;
         home = subst (λ (y : LocalState). AreOf (home_in y) (holds x)) (sym only_looks) at;
       }
 
-      pub shows_it : (holds : R.Denot → List OwnerOrCell) → AreOf (home_in v.member) (holds x) → IsOnce m.shown → Shows (showing R) holds after (number_of right) x
+      pub shows_it : (holds : R.Denot → List OwnerOrCell) → AreOf (home_in v.member) (holds x) → IsOnce m.shown → Shows (showing R) holds after k x
       shows_it holds at once = shows_by holds at once (is_lone m) lone_then
 
     keeps_by : (holds : R.Denot → List OwnerOrCell) → IsOnce m.shown → (b : Bool) (i : ℕ) (u : R.Denot) → ShowsBy b (showing R) holds v i u
         → ShowsBy b (showing R) holds after i u
     keeps_by holds once true i u h = ap (λ (w : World R.Denot). value_at w i) same_world ∙ h
-    keeps_by holds once false i u h = dite (dec_lt 0 (times (number_of right) v.member.slots.sees))
+    keeps_by holds once false i u h = dite (dec_lt 0 (times k v.member.slots.sees))
         (λ sees. subst (λ (y : LocalState). space.SeesValue (showing R) holds y i u) (sym (looks.seen sees).0) h)
         (λ blind. let is = looks.unseen blind in let there : IsIn m.shown i (showing R u) = subst (λ (y : LocalState). IsIn y.shown i (showing R u)) (sym is)
-        (in_tail (record { slot = number_of right; shared = is_shared (kind_of right); value = showing R x }) v.member.shown i (showing R u) h.known) in record {
+        (in_tail (record { slot = k; shared = sh; value = showing R x }) v.member.shown i (showing R u) h.known) in record {
           known = there;
           only = λ g other. once i g (showing R u) other there;
           home = subst (λ (y : LocalState). AreOf (home_in y) (holds u)) (sym is) h.home;

@@ -10,6 +10,7 @@ pub mod SpaceIds
 pub mod Items
 pub mod Receipt
 pub mod Values
+pub mod RawItems
 pub mod BetweenCalls
 pub mod InPlace
 pub mod DetachedLocal

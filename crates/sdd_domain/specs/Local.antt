@@ -4,9 +4,9 @@ use base.Stored.{Gv}
 use Rattle.sdd_participants.specs.EpochState.{EpochState, newcomer}
 use Rattle.sdd_participants.specs.declared.place_states.PlaceState.TheVariants.{Live}
 use Rattle.sdd_participants.specs.declared.standing.Standing.{Standing}
-use Rattle.sdd_participants.specs.declared.standing.Standing.TheVariants.{Owned, Shared, Retired}
+use Rattle.sdd_participants.specs.declared.standing.Standing.TheVariants.{Owned, Raw, Shared, Retired}
 use Rattle.sdd_views.specs.declared.ShownValue.{ShownValue}
-use Rattle.sdd_word_invariant.specs.Codes.{free_word, waiting_word}
+use Rattle.sdd_word_invariant.specs.Codes.{free_word, raw_word, waiting_word}
 use Rattle.sdd_domain_invariant.specs.FilledInvariant.{newest}
 use Rattle.sdd_standings.specs.Cells.{null_pointer}
 use Rattle.sdd_core.specs.declared.limits.Limits.{Limits}
@@ -33,7 +33,8 @@ owner_standing (Some r) = if r.shared then Shared 1 else Owned
 -- how a slot stands by its word, and by what was moved in last
 abbrev pub standing_by : ℕ → Option ShownValue → Option Standing
 standing_by word filled =
-    if word == free_word 0 then None else (if word == waiting_word 0 then Some Retired else Some (owner_standing filled))
+    if word == free_word 0 then None
+    else (if word == waiting_word 0 then Some Retired else (if word == raw_word 0 then Some Raw else Some (owner_standing filled)))
 
 abbrev pub value_by : {T : Type 0} → ℕ → Option (T × Gv) → Option T
 value_by word entry = if word == free_word 0 then None else option_map (λ e. e.0) entry

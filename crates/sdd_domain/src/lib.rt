@@ -13,6 +13,7 @@ mod holding;
 mod holds_own_domain;
 pub mod local;
 mod local_core;
+mod raw_values;
 pub mod receipt;
 mod reclaiming;
 mod scan;

@@ -37,6 +37,7 @@ use std::marker::Model;
 pub mod detached_local;
 mod in_place;
 mod items;
+mod raw;
 
 /// A participant's membership of a domain: its place, its bags, and what it knows of the words.
 ///

@@ -8,6 +8,7 @@ use sdd_core::Refused;
 use sdd_rights::{Right, StandingKind};
 use sdd_space::inner::value_of_ptr;
 use sdd_space::{Caller, Guard, Guards, InPlaceItems, Item, Items, Look, LookThrough, Ptr, Shows};
+use sdd_space::{Caller, Guard, Guards, Item, Items, Look, LookThrough, Ptr, RawItems, Shows};
 
 impl<T: Item<T>> Shows<T> for Local<'_, T> {
     ghost use Rattle.sdd_domain.specs.SpaceIds.{home_in};
@@ -242,5 +243,23 @@ impl<T: Item<T>> InPlaceItems<T> for Local<'_, T> {
             Ok(()) => Ok(true),
             Err(right) => Err((right, Refused::GuardOpen)),
         }
+    }
+}
+
+impl<T: Item<T>> RawItems<T> for Local<'_, T> {
+    #[inline]
+    fn into_raw(&mut self, right: Right) -> u32 {
+        self.partner.membership.into_raw(right)
+    }
+
+    #[inline]
+    fn from_raw(&mut self, slot: u32) -> Option<Right> {
+        self.partner.membership.from_raw(slot)
+    }
+
+    #[inline]
+    fn get_guarded_raw<'g>(&mut self, slot: u32, guard: &'g Guard) -> Option<&'g T> {
+        self.partner.ledger.codes();
+        self.partner.membership.get_guarded_raw(slot, guard)
     }
 }

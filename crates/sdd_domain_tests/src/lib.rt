@@ -18,6 +18,8 @@ mod node;
 #[cfg(test)]
 mod places;
 #[cfg(test)]
+mod raw;
+#[cfg(test)]
 mod sharing;
 #[cfg(test)]
 mod slots;

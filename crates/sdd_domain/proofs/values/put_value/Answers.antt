@@ -1,13 +1,14 @@
-use Rattle.std.proofs.Common.{ℕ, ◌+◌, List, [], ◌∷◌, ap, sym, refl, ◌∙◌, subst, arith}
+use Rattle.std.proofs.Common.{ℕ, ◌+◌, ◌-◌, List, [], ◌∷◌, ap, sym, refl, ◌∙◌, subst, arith}
 use Rattle.atomic_table.specs.Seated.{TableId}
 use Rattle.sdd_space.specs.OwnerOrCell.{AreOf}
 use Rattle.sdd_domain.specs.SpaceIds.{home_of_slots}
 use base.Stored.{Gv}
-use Rattle.sdd_shared_values.specs.SharedValues.{IsNoValueCode, showing}
+use Rattle.sdd_shared_values.specs.SharedValues.{IsNoValueCode, lot, showing}
 use Rattle.sdd_views.specs.declared.View.{View}
 use Rattle.sdd_views.specs.contracts.View.{the_row}
 use Rattle.sdd_word_invariant.specs.Sums.{times}
 use Rattle.sdd_word_invariant.proofs.Sums.{is_same}
+use Rattle.sdd_domain_invariant.specs.FractionsAtHome.{spare}
 use Rattle.sdd_domain_invariant.specs.FractionSteps.{parting, departing}
 use Rattle.sdd_atomics.specs.DomainTable.{book_of, places_of}
 use Rattle.sdd_domain.proofs.Moving.{may_move}
@@ -46,7 +47,7 @@ house-requires-clause-row g c = let b = c.args.board.now in let r = c.requires i
           put.0 tt put.1 cut.ensures.token,
       (let e = ap (λ (v : View). times slot v.slots.owns) same in let e' = ap (times slot) r.own.1 in omega arith),
       (r.row.0, (cut.ensures.row value r.row.0 row).0),
-      cut.ensures.rest,
+      cut.ensures.rest ∙ ap (λ (g : Gv). lot (book_of b) slot cut.result.1.lot.round g (spare (places_of b) - 1)) (cut.ensures.row value r.row.0 row).2,
     )
 
 pub cut-requires-clause-one : goal.cut-requires-clause-one

@@ -1,0 +1,370 @@
+-- What a lone participant's putting out of an item as raw, its taking back, and a look at it meanwhile are for its world
+use Rattle.std.proofs.Common.{Bor, ◌≡◌, ◌≢◌, ◌↔◌, ℕ, ◌<◌, Bool, true, false, IsTrue, List, Some, None, set, slice_index_or, sym, refl, ap, ◌∙◌, subst, arith, length-set}
+use Rattle.std.specs.Prelude.{Option, MatchOption, IfSome, IsSome, if◌then◌else◌}
+use mathlib.Core.Logic.{dite}
+use native.Mathlib.Decide.{ℕ_discrete, dec_lt}
+use base.Stored.{Gv}
+use denote.RattleType.{RattleType}
+use Rattle.sdd_participants.specs.declared.standing.Standing.{Standing}
+use Rattle.sdd_participants.specs.declared.standing.Standing.TheVariants.{Owned, Raw, Shared}
+use Rattle.sdd_shared_values.specs.SharedValues.{showing}
+use Rattle.sdd_views.specs.declared.ShownValue.{ShownValue}
+use Rattle.sdd_word_invariant.specs.Codes.{waiting, full}
+use Rattle.sdd_word_invariant.specs.SlotSteps.{behind}
+use Rattle.sdd_word_invariant.proofs.Codes.{owned_is, raw_is, sound}
+use Rattle.sdd_domain_invariant.specs.FilledInvariant.{newest}
+use Rattle.sdd_space.specs.OwnerOrCell.{OwnerOrCell, AreOf}
+use Rattle.sdd_space.specs.Ptr.{KeepsShown}
+use Rattle.sdd_space.specs.Undisturbed.{Undisturbed}
+use Rattle.sdd_space.specs.KnownEpochs.{KnowsOn}
+use Rattle.sdd_space.specs.World.{World, value_at, standing_at}
+use Rattle.sdd_space.specs.WorldInvariant.{IsWhole}
+use Rattle.sdd_space.proofs.Housed.{Whole-restands}
+use Rattle.sdd_space.specs.Out.{is_out}
+use Rattle.sdd_rights.specs.declared.right.Right.{Right}
+use Rattle.sdd_rights.specs.declared.right.StandingKind.TheVariants as kinds
+use Rattle.sdd_rights.specs.Right.{number_of}
+use Rattle.sdd_space.specs.WorldChanges.{with_standing}
+use Rattle.sdd_domain.specs.LocalState.{LocalState, IsLone, KnowsOwner, LooksAt, word_of}
+use Rattle.sdd_domain.specs.SeenSlots.{IsOnce}
+use Rattle.sdd_domain.specs.RawItems.{with_word, put_out, taken_back, IsOut, KnowsRaw}
+use Rattle.sdd_domain.specs.Values.{one_showing}
+use Rattle.sdd_domain.specs.WordsAndValues.{AreTied, WordsMatchValues, is_plain_word}
+use Rattle.sdd_domain.specs.Local.{LocalModel, listing, standing_by, value_by, owner_standing, standing_in, value_in, world_of}
+use Rattle.sdd_domain.specs.Space.{ShowsBy, Shows, is_lone, seat_in, seat_of, known_of}
+use Rattle.sdd_domain.specs.SpaceIds.{home_in}
+use Rattle.sdd_domain.specs.Items.{IsRightTo}
+use Rattle.sdd_domain.specs.Sound.{IsSound}
+use Rattle.sdd_domain.proofs.Sound.{sound_then, sound_step}
+use Rattle.sdd_domain.proofs.Listings.{listing_at, listing_past, listing_set, listing_same}
+use Rattle.sdd_domain.proofs.Words.{plain_by, word_same, word_other}
+use Rattle.sdd_domain.proofs.Owning.{low, owned, stands, shown_entry, only_looks, shows_it, keeps_it}
+use Rattle.sdd_domain.proofs.Exact.{lone_is}
+
+-- ---- a word changes of an item that stays
+-- an item that neither waits nor is free
+abbrev IsKeptBy : ℕ → Type 0
+IsKeptBy word = (waiting word ≡ 0) × (full word ≡ 1) × (word ≢ 0)
+
+module _ {T : Type 0} (v : LocalModel T) (k y : ℕ) where
+  abbrev changed : LocalModel T
+  changed = record { member = with_word k y v.member; entries = v.entries }
+
+  module _ (t : AreTied v.member v.entries) (near : k < v.member.limits.slots) where
+    inside_here : k < v.member.sizes.slots
+    inside_here = let s = t.slots in omega arith
+
+    word_now : word_of (with_word k y v.member) k ≡ y
+    word_now = word_same v.member.sizes v.member.words t.long k y inside_here
+
+    word_then : (i : ℕ) → i ≢ k → word_of (with_word k y v.member) i ≡ word_of v.member i
+    word_then i ne = word_other v.member.sizes v.member.words t.long k y i ne
+
+    module _ (was : IsKeptBy (word_of v.member k)) (now : IsKeptBy y) where
+      pub tied_word : IsTrue (is_plain_word y) → AreTied (with_word k y v.member) v.entries
+      tied_word plain = record {
+        place = t.place;
+        slots = t.slots;
+        long = length-set v.member.words (behind v.member.sizes k) y ∙ t.long;
+        wide = t.wide;
+        plain = λ i l. dite (ℕ_discrete i k)
+            (λ e. subst (λ (x : ℕ). IsTrue (is_plain_word x)) (sym (ap (word_of (with_word k y v.member)) e ∙ word_now)) plain)
+            (λ ne. subst (λ (x : ℕ). IsTrue (is_plain_word x)) (sym (word_then i ne)) (t.plain i l));
+        waits = λ i l. dite (ℕ_discrete i k)
+            (λ e. let w = t.waits i l in let a = ap waiting (ap (word_of v.member) e) in let b = was.0 in let c = now.0 in
+            let d = ap waiting (ap (word_of (with_word k y v.member)) e ∙ word_now) in omega arith)
+            (λ ne. t.waits i l ∙ ap waiting (sym (word_then i ne)));
+        inside = t.inside;
+        kept = λ i l filled. dite (ℕ_discrete i k) (λ e. t.kept i l (ap full (ap (word_of v.member) e) ∙ was.1))
+            (λ ne. t.kept i l (sym (ap full (word_then i ne)) ∙ filled));
+        bags = t.bags;
+        due = t.due;
+        now = t.now;
+      }
+
+      -- a slot that isn't free has its value
+      value_of : (x : ℕ) (e : Option (T × Gv)) → x ≢ 0 → value_by x e ≡ value_by 1 e
+      value_of x e ne = grind arith
+
+      values_same : listing v.member.limits.slots (value_in changed) ≡ listing v.member.limits.slots (value_in v)
+      values_same = listing_same v.member.limits.slots (value_in v) (value_in changed) (λ i l. dite (ℕ_discrete i k)
+          (λ e. let entry : Option (T × Gv) = slice_index_or v.entries i None in
+          ap (λ (x : ℕ). value_by x entry) (ap (word_of (with_word k y v.member)) e ∙ word_now) ∙ (value_of y entry now.2
+          ∙ (sym (value_of (word_of v.member k) entry was.2) ∙ ap (λ (x : ℕ). value_by x entry) (sym (ap (word_of v.member) e)))))
+          (λ ne. ap (λ (x : ℕ). value_by x (slice_index_or v.entries i None)) (word_then i ne)))
+
+      pub world_word : (s : Standing) → standing_by y (newest k v.member.filled) ≡ Some s → world_of changed ≡ with_standing (world_of v) k s
+      world_word s is = let n : ℕ = v.member.limits.slots in
+          let standings : listing n (standing_in changed) ≡ set (listing n (standing_in v)) k (Some s)
+          = listing_set n (standing_in v) (standing_in changed) k (λ i l ne. ap (λ (x : ℕ). standing_by x (newest i v.member.filled)) (word_then i ne))
+          ∙ ap (set (listing n (standing_in v)) k) (ap (λ (x : ℕ). standing_by x (newest k v.member.filled)) word_now ∙ is) in
+          λ d. record (world_of v) { standings = standings d; values = values_same d }
+
+      -- and each slot has its value still
+      pub value_word : (i : ℕ) (u : T) → value_at (world_of v) i ≡ Some u → value_at (world_of changed) i ≡ Some u
+      value_word i u h = ap (λ (l : List (Option T)). slice_index_or l i None) values_same ∙ h
+
+owned_kept : IsKeptBy 1
+owned_kept = let o = owned_is 0 (omega arith) in (o.1, (sound.lives 1 (let a = o.0 in omega arith)).1, λ e. absurd (omega arith))
+
+raw_kept : IsKeptBy 2
+raw_kept = let r = raw_is 0 (omega arith) in (r.1, r.2, λ e. absurd (omega arith))
+
+-- ---- it goes out
+module _ {T : Type 0} (v : LocalModel T) (k : ℕ) (tied : WordsMatchValues v.member v.entries)
+    (knows : IsLone v.member → (g : Gv) × KnowsOwner v.member k false g) where
+  was_owned : (lone : IsLone v.member) → word_of v.member k ≡ 1
+  was_owned lone = let r = knows lone in owned v (tied lone) k false r.0 r.1
+
+  near_owned : (lone : IsLone v.member) → k < v.member.limits.slots
+  near_owned lone = let r = knows lone in low v (tied lone) k false r.0 r.1
+
+  kept_owned : (lone : IsLone v.member) → IsKeptBy (word_of v.member k)
+  kept_owned lone = subst IsKeptBy (sym (was_owned lone)) owned_kept
+
+  pub out_tied : WordsMatchValues (put_out k v.member) v.entries
+  out_tied lone = tied_word v k 2 (tied lone) (near_owned lone) (kept_owned lone) raw_kept refl
+
+  pub out_world : IsLone v.member → world_of (record { member = put_out k v.member; entries = v.entries }) ≡ with_standing (world_of v) k Raw
+  out_world lone = world_word v k 2 (tied lone) (near_owned lone) (kept_owned lone) raw_kept Raw refl
+
+  pub out_stood : IsLone v.member → standing_at (world_of v) k ≡ Some Owned
+  out_stood lone = let r = knows lone in stands v (tied lone) k false r.0 r.1
+
+  out_keeps_by : (shown : T → Gv) (holds : T → List OwnerOrCell) (b : Bool) → (IsTrue b → IsLone v.member) → (i : ℕ) (u : T) → ShowsBy b shown holds v i u
+      → ShowsBy b shown holds (record { member = put_out k v.member; entries = v.entries }) i u
+  out_keeps_by shown holds true lone i u h =
+      value_word v k 2 (tied (lone refl)) (near_owned (lone refl)) (kept_owned (lone refl)) raw_kept i u h
+  out_keeps_by shown holds false lone i u h = record { known = h.known; only = h.only; home = h.home }
+
+  pub out_keeps : (shown : T → Gv) (holds : T → List OwnerOrCell)
+      → KeepsShown (Shows shown holds v) (Shows shown holds (record { member = put_out k v.member; entries = v.entries }))
+  out_keeps shown holds i u h = out_keeps_by shown holds (is_lone v.member) (λ exact. lone_is v.member exact) i u h
+
+-- ---- it comes back
+not_raw_owner : (r : Option ShownValue) → owner_standing r ≢ Raw
+not_raw_owner None e = absurd cc
+not_raw_owner (Some r) e = by r.shared e
+  where
+    by : (b : Bool) → (if b then Shared 1 else Owned) ≢ Raw
+    by true e = absurd cc
+    by false e = absurd cc
+
+module _ {T : Type 0} (v : LocalModel T) (k : ℕ) (tied : WordsMatchValues v.member v.entries) where
+  -- what stands as raw is out
+  out_if : (x : ℕ) (r : Option ShownValue) → IsTrue (is_plain_word x) → standing_by x r ≡ Some Raw → x ≡ 2
+  out_if x r plain is = plain_by x plain (λ e. absurd (let a : None ≡ Some Raw = sym (ap (λ (w : ℕ). standing_by w r) e) ∙ is in cc))
+      (λ e. absurd (not_raw_owner r (let a : Some (owner_standing r) ≡ Some Raw = sym (ap (λ (w : ℕ). standing_by w r) e) ∙ is in some_injective a)))
+      (λ e. absurd (let a : standing_by 4 r ≡ Some Raw = sym (ap (λ (w : ℕ). standing_by w r) e) ∙ is in cc)) (λ e. e)
+    where
+      some_injective : {s : Standing} → Some s ≡ Some Raw → s ≡ Raw
+      some_injective a = cc
+
+  pub not_out : IsLone v.member → (k < v.member.limits.slots → ¬ (IsOut v.member k)) → standing_at (world_of v) k ≢ Some Raw
+  not_out lone never is = dite (dec_lt k v.member.limits.slots)
+      (λ near. never near (out_if (word_of v.member k) (newest k v.member.filled) ((tied lone).plain k near)
+      (sym (listing_at v.member.limits.slots (standing_in v) k None near) ∙ is)))
+      (λ far. absurd (let a : None ≡ Some Raw = sym (listing_past v.member.limits.slots (standing_in v) k None (omega arith)) ∙ is in cc))
+
+  module _ (near : k < v.member.limits.slots) (knows : IsLone v.member → (g : Gv) × KnowsRaw v.member k g) where
+    pub raw_stood : IsLone v.member → standing_at (world_of v) k ≡ Some Raw
+    raw_stood lone = listing_at v.member.limits.slots (standing_in v) k None near
+        ∙ ap (λ (x : ℕ). standing_by x (newest k v.member.filled)) (knows lone).1.out
+
+    kept_raw : IsLone v.member → IsKeptBy (word_of v.member k)
+    kept_raw lone = subst IsKeptBy (sym (knows lone).1.out) raw_kept
+
+    pub back_tied : WordsMatchValues (taken_back k v.member) v.entries
+    back_tied lone = tied_word v k 1 (tied lone) near (kept_raw lone) owned_kept refl
+
+    pub back_world : IsLone v.member → world_of (record { member = taken_back k v.member; entries = v.entries }) ≡ with_standing (world_of v) k Owned
+    back_world lone = world_word v k 1 (tied lone) near (kept_raw lone) owned_kept Owned (ap (standing_by 1) (knows lone).1.newest)
+
+    back_keeps_by : (shown : T → Gv) (holds : T → List OwnerOrCell) (b : Bool) → (IsTrue b → IsLone v.member) → (i : ℕ) (u : T)
+        → ShowsBy b shown holds v i u → ShowsBy b shown holds (record { member = taken_back k v.member; entries = v.entries }) i u
+    back_keeps_by shown holds true lone i u h = value_word v k 1 (tied (lone refl)) near (kept_raw (lone refl)) owned_kept i u h
+    back_keeps_by shown holds false lone i u h = record { known = h.known; only = h.only; home = h.home }
+
+    pub back_keeps : (shown : T → Gv) (holds : T → List OwnerOrCell)
+        → KeepsShown (Shows shown holds v) (Shows shown holds (record { member = taken_back k v.member; entries = v.entries }))
+    back_keeps shown holds i u h = back_keeps_by shown holds (is_lone v.member) (λ exact. lone_is v.member exact) i u h
+
+-- ---- what it shows meanwhile is what is in its slot
+module _ (R : RattleType) (v : LocalModel R.Denot) (k : ℕ) (x : R.Denot) (tied : WordsMatchValues v.member v.entries)
+    (codes : (place : ℕ) (y : R.Denot) (g : Gv) → slice_index_or v.entries place None ≡ Some (y, g) → g ≡ showing R y)
+    (near : k < v.member.limits.slots) (knows : IsLone v.member → KnowsRaw v.member k (showing R x)) where
+  pub raw_value : IsLone v.member → value_at (world_of v) k ≡ Some x
+  raw_value lone = let t = tied lone in let r = knows lone in
+      let e = shown_entry k false (showing R x) (newest k v.member.filled) (slice_index_or v.entries k None) r.newest
+      (t.kept k near (ap full r.out ∙ (raw_is 0 (omega arith)).2)) in
+      let same : e.0.0 ≡ x = one_showing R e.0.0 x (sym (codes k e.0.0 e.0.1 e.1) ∙ e.2) in
+      listing_at v.member.limits.slots (value_in v) k None near ∙ ((λ d. value_by (r.out d) (e.1 d)) ∙ ap Some same)
+
+-- ---- for answers
+-- only the words are others then
+module _ {T : Type 0} (v : LocalModel T) (m : LocalState) (words : List ℕ) (is : m ≡ record v.member { words = words }) (shown : T → Gv) (holds : T → List OwnerOrCell)
+  where
+    abbrev later : LocalModel T
+    later = record { member = m; entries = v.entries }
+
+    undisturbed_by : KeepsShown (Shows shown holds v) (Shows shown holds later)
+        → Undisturbed seat_of (λ (q : LocalModel T). q.member.own) known_of (λ (q : LocalModel T). Shows shown holds q) v later
+    undisturbed_by kept = record {
+      seat = ap seat_in is;
+      own = ap (λ (y : LocalState). y.own) is;
+      known = subst (λ (y : LocalState). KnowsOn (known_of v) (known_of (record { member = y; entries = v.entries }))) (sym is) knows_still;
+      shown = kept;
+    }
+      where
+        knows_still : KnowsOn (known_of v) (known_of v)
+        knows_still = record { told = omega arith; since = refl }
+
+module _ {T : Type 0} (v : LocalModel T) (m : LocalState) (k : ℕ) (is : m ≡ put_out k v.member) (tied : WordsMatchValues v.member v.entries)
+    (knows : IsLone v.member → (g : Gv) × KnowsOwner v.member k false g) where
+  pub puts_tied : WordsMatchValues m v.entries
+  puts_tied = subst (λ (y : LocalState). WordsMatchValues y v.entries) (sym is) (out_tied v k tied knows)
+
+  puts_world_alone : IsLone v.member → world_of (record { member = m; entries = v.entries }) ≡ with_standing (world_of v) k Raw
+  puts_world_alone lone = ap (λ (y : LocalState). world_of (record { member = y; entries = v.entries })) is ∙ out_world v k tied knows lone
+
+  pub puts_sound : (holds : T → List OwnerOrCell) → IsSound holds v → IsSound holds (record { member = m; entries = v.entries })
+  puts_sound holds sound = sound_then holds v m sound (ap (λ (y : LocalState). y.due) is ∙ sound.settled) (ap home_in is) (λ one.
+      let lone : IsLone v.member = sym (ap (λ (y : LocalState). y.limits.participants) is) ∙ one in
+      subst (λ (w : World T). IsWhole w) (sym (puts_world_alone lone))
+      (Whole-restands (world_of v) k Raw (ap is_out (out_stood v k tied knows lone)) refl (sound.whole lone)))
+
+  module _ (p : LocalModel T) (same : v ≡ p) where
+    lone_of : IsTrue (is_lone p.member) → IsLone v.member
+    lone_of exact = lone_is v.member (subst (λ (q : LocalModel T). IsTrue (is_lone q.member)) (sym same) exact)
+
+    pub puts_stood : IsTrue (is_lone p.member) → standing_at (world_of p) k ≡ Some Owned
+    puts_stood exact = subst (λ (q : LocalModel T). standing_at (world_of q) k ≡ Some Owned) same (out_stood v k tied knows (lone_of exact))
+
+    pub puts_world : IsTrue (is_lone p.member) → world_of (record { member = m; entries = v.entries }) ≡ with_standing (world_of p) k Raw
+    puts_world exact = puts_world_alone (lone_of exact) ∙ ap (λ (q : LocalModel T). with_standing (world_of q) k Raw) same
+
+    pub puts_undisturbed : (shown : T → Gv) (holds : T → List OwnerOrCell)
+        → Undisturbed seat_of (λ (q : LocalModel T). q.member.own) known_of (λ (q : LocalModel T). Shows shown holds q) p
+        (record { member = m; entries = v.entries })
+    puts_undisturbed shown holds = subst (λ (q : LocalModel T). Undisturbed seat_of (λ (q : LocalModel T). q.member.own) known_of
+        (λ (q : LocalModel T). Shows shown holds q) q (record { member = m; entries = v.entries })) same
+        (undisturbed_by v m (put_out k v.member).words is shown holds (subst (λ (y : LocalState).
+        KeepsShown (Shows shown holds v) (Shows shown holds (record { member = y; entries = v.entries }))) (sym is) (out_keeps v k tied knows shown holds)))
+
+-- what the taking back of an item answers
+abbrev TakesOrNot : {T : Type 0} → LocalModel T → LocalState → ℕ → Option Right → Type 0
+TakesOrNot v m slot r = MatchOption r ((m ≡ v.member) × (IsLone v.member → slot < v.member.limits.slots → ¬ (IsOut v.member slot)))
+    (λ right. (number_of right ≡ slot) × (slot < v.member.limits.slots) × (m ≡ taken_back slot v.member)
+    × ((value : Gv) × IsRightTo v.member kinds.Owned value right × (IsLone v.member → KnowsRaw v.member slot value)))
+
+module _ {T : Type 0} (v : LocalModel T) (m : LocalState) (slot : ℕ) (tied : WordsMatchValues v.member v.entries) where
+  takes_words : (r : Option Right) → TakesOrNot v m slot r → m ≡ record v.member { words = m.words }
+  takes_words None a = a.0 ∙ (λ d. record v.member { words = sym (ap (λ (y : LocalState). y.words) a.0) d })
+  takes_words (Some right) a = a.2 ∙ (λ d. record v.member { words = sym (ap (λ (y : LocalState). y.words) a.2) d })
+
+  pub takes_tied : (r : Option Right) → TakesOrNot v m slot r → WordsMatchValues m v.entries
+  takes_tied None a = subst (λ (y : LocalState). WordsMatchValues y v.entries) (sym a.0) tied
+  takes_tied (Some right) a = subst (λ (y : LocalState). WordsMatchValues y v.entries) (sym a.2)
+      (back_tied v slot tied a.1 (λ lone. (a.3.0, a.3.2 lone)))
+
+  takes_keeps : (shown : T → Gv) (holds : T → List OwnerOrCell) (r : Option Right) → TakesOrNot v m slot r
+      → KeepsShown (Shows shown holds v) (Shows shown holds (record { member = m; entries = v.entries }))
+  takes_keeps shown holds None a =
+      λ i u h. subst (λ (y : LocalState). Shows shown holds (record { member = y; entries = v.entries }) i u) (sym a.0) h
+  takes_keeps shown holds (Some right) a = subst (λ (y : LocalState). KeepsShown (Shows shown holds v)
+      (Shows shown holds (record { member = y; entries = v.entries }))) (sym a.2)
+      (back_keeps v slot tied a.1 (λ lone. (a.3.0, a.3.2 lone)) shown holds)
+
+  pub takes_sound : (holds : T → List OwnerOrCell) → IsSound holds v → (r : Option Right) → TakesOrNot v m slot r
+      → IsSound holds (record { member = m; entries = v.entries })
+  takes_sound holds sound None a = subst (λ (y : LocalState). IsSound holds (record { member = y; entries = v.entries })) (sym a.0) sound
+  takes_sound holds sound (Some right) a = sound_then holds v m sound (ap (λ (y : LocalState). y.due) a.2 ∙ sound.settled) (ap home_in a.2) (λ one.
+      let lone : IsLone v.member = sym (ap (λ (y : LocalState). y.limits.participants) a.2) ∙ one in
+      let knows : IsLone v.member → (g : Gv) × KnowsRaw v.member slot g = λ lone. (a.3.0, a.3.2 lone) in
+      subst (λ (w : World T). IsWhole w) (sym (ap (λ (y : LocalState). world_of (record { member = y; entries = v.entries })) a.2
+      ∙ back_world v slot tied a.1 knows lone))
+      (Whole-restands (world_of v) slot Owned (ap is_out (raw_stood v slot tied a.1 knows lone)) refl (sound.whole lone)))
+
+  module _ (p : LocalModel T) (same : v ≡ p) where
+    lone_too : IsTrue (is_lone p.member) → IsLone v.member
+    lone_too exact = lone_is v.member (subst (λ (q : LocalModel T). IsTrue (is_lone q.member)) (sym same) exact)
+
+    pub takes_undisturbed : (shown : T → Gv) (holds : T → List OwnerOrCell) (r : Option Right) → TakesOrNot v m slot r
+        → Undisturbed seat_of (λ (q : LocalModel T). q.member.own) known_of (λ (q : LocalModel T). Shows shown holds q) p
+        (record { member = m; entries = v.entries })
+    takes_undisturbed shown holds r a = subst (λ (q : LocalModel T). Undisturbed seat_of (λ (q : LocalModel T). q.member.own) known_of
+        (λ (q : LocalModel T). Shows shown holds q) q (record { member = m; entries = v.entries })) same
+        (undisturbed_by v m m.words (takes_words r a) shown holds (takes_keeps shown holds r a))
+
+    pub takes_exact : (r : Option Right) → TakesOrNot v m slot r → IsTrue (is_lone p.member) → MatchOption r
+        ((standing_at (world_of p) slot ≢ Some Raw) × (world_of (record { member = m; entries = v.entries }) ≡ world_of p))
+        (λ _. (standing_at (world_of p) slot ≡ Some Raw)
+        × (world_of (record { member = m; entries = v.entries }) ≡ with_standing (world_of p) slot Owned))
+    takes_exact None a exact = (
+      subst (λ (q : LocalModel T). standing_at (world_of q) slot ≢ Some Raw) same (not_out v slot tied (lone_too exact) (a.1 (lone_too exact))),
+      ap (λ (y : LocalState). world_of (record { member = y; entries = v.entries })) a.0 ∙ ap world_of same,
+    )
+    takes_exact (Some right) a exact = let lone = lone_too exact in let knows : IsLone v.member → (g : Gv) × KnowsRaw v.member slot g = λ lone. (a.3.0, a.3.2 lone) in (
+      subst (λ (q : LocalModel T). standing_at (world_of q) slot ≡ Some Raw) same (raw_stood v slot tied a.1 knows lone),
+      ap (λ (y : LocalState). world_of (record { member = y; entries = v.entries })) a.2
+          ∙ (back_world v slot tied a.1 knows lone ∙ ap (λ (q : LocalModel T). with_standing (world_of q) slot Owned) same),
+    )
+
+-- what a look at an item under a guard answers that may be out
+abbrev LooksOrNot : (R : RattleType) → (R.Denot → List OwnerOrCell) → LocalModel R.Denot → LocalState → ℕ → Option (Bor R.Denot) → Type 0
+LooksOrNot R holds v m slot r = MatchOption r ((m ≡ v.member) × (IsLone v.member → slot < v.member.limits.slots → ¬ (IsOut v.member slot)))
+    (λ x. (slot < v.member.limits.slots) × LooksAt slot false (showing R x.now) v.member m × IsOnce m.shown × AreOf (home_in v.member) (holds x.now)
+    × (IsLone v.member → KnowsRaw v.member slot (showing R x.now)))
+
+module _ (R : RattleType) (holds : R.Denot → List OwnerOrCell) (v : LocalModel R.Denot) (m : LocalState) (slot : ℕ)
+    (tied : WordsMatchValues v.member v.entries)
+    (codes : (place : ℕ) (y : R.Denot) (g : Gv) → slice_index_or v.entries place None ≡ Some (y, g) → g ≡ showing R y) where
+  abbrev after : LocalModel R.Denot
+  after = record { member = m; entries = v.entries }
+
+  looks_only : (r : Option (Bor R.Denot)) → LooksOrNot R holds v m slot r → m ≡ record v.member { slots = m.slots; shown = m.shown }
+  looks_only None a = a.0 ∙ (λ d. record v.member { slots = (sym a.0 d).slots; shown = (sym a.0 d).shown })
+  looks_only (Some x) a = only_looks R v m slot false x.now a.1
+
+  looks_world : (r : Option (Bor R.Denot)) → LooksOrNot R holds v m slot r → world_of after ≡ world_of v
+  looks_world r a = ap (λ (y : LocalState). world_of (record { member = y; entries = v.entries })) (looks_only r a)
+
+  pub looks_sound : IsSound holds v → (r : Option (Bor R.Denot)) → LooksOrNot R holds v m slot r → IsSound holds after
+  looks_sound whole r a = sound_step holds v m whole (λ w _. w) (λ w _ _ i. i) (ap (λ (y : LocalState). y.due) (looks_only r a))
+      (ap home_in (looks_only r a)) (λ _. looks_world r a)
+
+  looks_keeps : (r : Option (Bor R.Denot)) → LooksOrNot R holds v m slot r → KeepsShown (Shows (showing R) holds v) (Shows (showing R) holds after)
+  looks_keeps None a = λ i u h. subst (λ (y : LocalState). Shows (showing R) holds (record { member = y; entries = v.entries }) i u) (sym a.0) h
+  looks_keeps (Some x) a = keeps_it R v m slot false x.now a.1 holds a.2 v refl
+
+  pub looks_shown : (r : Option (Bor R.Denot)) → LooksOrNot R holds v m slot r → IfSome r (λ x. Shows (showing R) holds after slot x.now)
+  looks_shown None a = tt
+  looks_shown (Some x) a = shows_it R v m slot false x.now a.1 (raw_value R v slot x.now tied codes a.0 a.4) holds a.3 a.2
+
+  module _ (p : LocalModel R.Denot) (same : v ≡ p) where
+    pub looks_undisturbed : (r : Option (Bor R.Denot)) → LooksOrNot R holds v m slot r
+        → Undisturbed seat_of (λ (q : LocalModel R.Denot). q.member.own) known_of (λ (q : LocalModel R.Denot). Shows (showing R) holds q) p after
+    looks_undisturbed r a = subst (λ (q : LocalModel R.Denot). Undisturbed seat_of (λ (q : LocalModel R.Denot). q.member.own) known_of
+        (λ (q : LocalModel R.Denot). Shows (showing R) holds q) q after) same record {
+          seat = ap seat_in (looks_only r a);
+          own = ap (λ (y : LocalState). y.own) (looks_only r a);
+          known = subst (λ (y : LocalState). KnowsOn (known_of v) (known_of (record { member = y; entries = v.entries }))) (sym (looks_only r a))
+              (record { told = omega arith; since = refl });
+          shown = looks_keeps r a;
+        }
+
+    pub looks_exact : (r : Option (Bor R.Denot)) → LooksOrNot R holds v m slot r → IsTrue (is_lone p.member)
+        → (IsSome r ↔ (standing_at (world_of p) slot ≡ Some Raw)) × (world_of after ≡ world_of p)
+    looks_exact r a exact = let lone : IsLone v.member = lone_is v.member (subst (λ (q : LocalModel R.Denot). IsTrue (is_lone q.member)) (sym same) exact) in
+        (stood r a lone, looks_world r a ∙ ap world_of same)
+      where
+        stood : (r : Option (Bor R.Denot)) → LooksOrNot R holds v m slot r → IsLone v.member → IsSome r ↔ (standing_at (world_of p) slot ≡ Some Raw)
+        stood None a lone = (
+          (λ some. absurd cc),
+          (λ is. absurd (not_out v slot tied lone (a.1 lone) (subst (λ (q : LocalModel R.Denot). standing_at (world_of q) slot ≡ Some Raw) (sym same) is))),
+        )
+        stood (Some x) a lone = (
+          (λ _. subst (λ (q : LocalModel R.Denot). standing_at (world_of q) slot ≡ Some Raw) same
+              (raw_stood v slot tied a.0 (λ lone. (showing R x.now, a.4 lone)) lone)),
+          (λ _. refl),
+        )
