@@ -17,3 +17,4 @@ pub mod CollectorGoing
 pub mod CellGoing
 pub mod InPlaceGoing
 pub mod Runs
+pub mod Calm
