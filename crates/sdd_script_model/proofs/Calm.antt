@@ -64,7 +64,12 @@ module _ (p : ℕ) (v w : World Val) (whole : IsWhole v) (after : IsWhole w) whe
   none-before : (s : ℕ) → is_waiting (standing_at v s) ≡ false → times_waiting v s ≡ 0
   none-before s was = rw was at (whole.once s)
 
-  -- time stands still
+  -- while time stands still nothing begins to wait
+  pub still-begins : w.time ≡ v.time → (s : ℕ) → is_waiting (standing_at w s) ≡ true → is_waiting (standing_at v s) ≡ false → ⊥
+  still-begins e s now was =
+      let same : times_waiting w s ≡ times_waiting v s = ap (λ (t : EpochState). sum_by (times_with s) t.places) e in
+      omega (arith, same, one-now s now, none-before s was)
+
   pub calm-still : w.time ≡ v.time → Calmly p v w
   calm-still e = record {
     phases = ap (λ (t : EpochState). t.phases) e;
@@ -72,9 +77,7 @@ module _ (p : ℕ) (v w : World Val) (whole : IsWhole v) (after : IsWhole w) whe
     found = λ q. ap (λ (t : EpochState). (time.place_at t q).found) e;
     guards = λ q. ap (λ (t : EpochState). (time.place_at t q).guards) e;
     kept = λ q s seen h now. subst (λ (t : EpochState). Contains (time.place_at t q).bags.waiting (having_seen seen (Item s))) (sym e) h;
-    begun = λ s now was.
-        (let same : times_waiting w s ≡ times_waiting v s = ap (λ (t : EpochState). sum_by (times_with s) t.places) e in
-        absurd (omega (arith, same, one-now s now, none-before s was)));
+    begun = λ s now was. absurd (still-begins e s now was);
   }
 
   -- the place of p is written, and what is new in it is fresh

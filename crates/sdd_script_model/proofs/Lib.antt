@@ -18,3 +18,4 @@ pub mod CellGoing
 pub mod InPlaceGoing
 pub mod Runs
 pub mod Calm
+pub mod Turns
