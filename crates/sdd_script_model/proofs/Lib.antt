@@ -19,3 +19,5 @@ pub mod InPlaceGoing
 pub mod Runs
 pub mod Calm
 pub mod Turns
+pub mod History
+pub mod Telling
