@@ -21,3 +21,4 @@ pub mod Calm
 pub mod Turns
 pub mod History
 pub mod Telling
+pub mod Leaving

@@ -59,7 +59,7 @@ module _ (past : List Line) (old new : ScriptState) (call : Call) (given : Reply
   line = record { before = old; call = call; answer = answer; after = new }
 
   -- who holds what waits holds it still, where who is there is as before, and who has ended
-  held-on : ((n : ℕ) → home new.places n ≡ home old.places n) → (n q : ℕ) →
+  pub held-on : ((n : ℕ) → home new.places n ≡ home old.places n) → (n q : ℕ) →
       (is_ended (phase_at old.world.time q) ≡ true → is_ended (phase_at new.world.time q) ≡ true) → HoldsAt past old n q → HoldsAt (line ∷ past) new n q
   held-on same n q stays (inl there) = inl (same n ∙ there)
   held-on same n q stays (inr (none, over, place)) = inr (same n ∙ none, still-ended past line n over, stays place)
