@@ -22,3 +22,4 @@ pub mod Turns
 pub mod History
 pub mod Telling
 pub mod Leaving
+pub mod Entering

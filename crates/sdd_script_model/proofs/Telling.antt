@@ -47,7 +47,7 @@ home-is d n there = by (opening_at d.places n) there where
   by None there = absurd (false≢true there)
   by (Some x) there = refl
 
-not-some : {q : ℕ} → ◌≡◌ {A = Option ℕ} None (Some q) → ⊥
+pub not-some : {q : ℕ} → ◌≡◌ {A = Option ℕ} None (Some q) → ⊥
 not-some e = cc
 
 module _ (past : List Line) (old new : ScriptState) (call : Call) (given : Reply) (reclaimed : List ItemName) (ran : List JobName) (k : Tells past old)

@@ -91,7 +91,7 @@ quiet-invalid k n call.End = (refl, refl, refl)
 quiet-invalid k n action = (refl, refl, refl)
 
 -- a participant that is there
-some-is : {A : Type 0} (x : Option A) → IsSome x → (y : A) × (x ≡ Some y)
+pub some-is : {A : Type 0} (x : Option A) → IsSome x → (y : A) × (x ≡ Some y)
 some-is None there = absurd (false≢true there)
 some-is (Some y) there = (y, refl)
 
