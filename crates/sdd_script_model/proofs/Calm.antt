@@ -8,7 +8,7 @@ use Rattle.sdd_participants.specs.EpochState.{with_place}
 use Rattle.sdd_participants.specs.Waiting.{Waiting, fresh, having_seen}
 use Rattle.sdd_participants.specs.declared.waiting.LimboEntry.TheVariants.{Job}
 use Rattle.sdd_participants.specs.Collecting.{without}
-use Rattle.sdd_space.specs.Collecting.{collector_closed, is_for, waiting_for, without_collector}
+use Rattle.sdd_space.specs.Collecting.{collector_closed, is_for, without_collector}
 use Rattle.sdd_space.specs.ParticipantChanges.{all_awaiting}
 use Rattle.sdd_space.specs.ReclaimBound.{Waits}
 use Rattle.sdd_space.specs.WorldChanges as steps
@@ -20,7 +20,7 @@ use Rattle.sdd_space.proofs.Listed.{listed-without, rest-contains}
 use Rattle.sdd_space.proofs.Opening.{all_awaiting-waiting, still-waits}
 use Rattle.sdd_space.proofs.Own.{Gives, Gives-collector_closed, all_awaiting-found}
 use Rattle.sdd_space.proofs.Whole.{one_where, times-awaiting, times-place, all_awaiting-guards}
-use Rattle.sdd_script_model.proofs.Terms.{◌≡◌, ◌≢◌, ℕ, ◌+◌, ◌<◌, ◌≤◌, ◌==◌, Bool, true, false, List, [], ◌∷◌, ◌++◌, None, length, count_by, inl, inr, refl, sym, ap, ◌∙◌, subst, arith, cases_eq, false≢true, nat_tests, Contains, Item, EpochState, nobody, Participant, is_waiting, World, place_at, standing_at, IsWhole, Val, holdings_of, length-set, at-same}
+use Rattle.sdd_script_model.proofs.Terms.{◌≡◌, ℕ, ◌<◌, ◌≤◌, ◌==◌, Bool, true, false, List, [], ◌∷◌, length, count_by, inl, inr, refl, sym, ap, ◌∙◌, subst, arith, cases_eq, false≢true, nat_tests, Contains, Item, EpochState, nobody, Participant, is_waiting, World, place_at, standing_at, IsWhole, Val, holdings_of, length-set, at-same}
 
 -- the places are as before, what waits goes on to wait where it did, and what begins to wait waits with p
 pub record Calmly (p : ℕ) (v w : World Val) : Type 0 where
@@ -106,8 +106,8 @@ module _ (p : ℕ) (v w : World Val) (whole : IsWhole v) (after : IsWhole w) whe
       x.guards ≡ (place_at v p).guards → x.bags.waiting ≡ (place_at v p).bags.waiting → Calmly p v w
   calm-same x l e found guards bags =
       calm-put x l e found guards (λ y h. subst (λ ws. Contains ws y) (sym bags) h) (λ s none some.
-          (let same : times_with s x ≡ times_with s (place_at v p) = ap (λ ws. count_by (λ (y : Waiting). is_of_slot s y.what) ws) bags in
-          absurd (omega (arith, same, none, some))))
+      (let same : times_with s x ≡ times_with s (place_at v p) = ap (λ ws. count_by (λ (y : Waiting). is_of_slot s y.what) ws) bags in
+      absurd (omega (arith, same, none, some))))
 
   -- items are given up to it
   pub calm-gives : p < length v.time.places → Gives p v w → Calmly p v w

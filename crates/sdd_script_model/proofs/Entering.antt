@@ -3,14 +3,13 @@ use Rattle.std.specs.Prelude.{◌&&◌, ◌↔◌, not}
 use Rattle.std.specs.Option.{option_map}
 use Rattle.std.proofs.Common.{eq-eqb, ne_eqb}
 use Rattle.sdd_core.specs.declared.epoch.Epoch.{Epoch}
-use Rattle.sdd_participants.specs.EpochState as time
 use Rattle.sdd_participants.specs.PlaceStates.{is_ended}
 use Rattle.sdd_participants.specs.Waiting.{having_seen}
 use Rattle.sdd_space.specs.ReclaimBound.{Waits}
 use Rattle.sdd_space.specs.World.{value_at}
 use Rattle.sdd_space.specs.WorldInvariant.{is_of_slot}
 use Rattle.sdd_space.specs.WorldStep.WorldStep.{opens as opens_one}
-use Rattle.sdd_space.proofs.Entries.{change-waits, entry-due, nests-waits, other-due, waits-standing, waits-young, young-due}
+use Rattle.sdd_space.proofs.Entries.{change-waits, entry-due, nests-waits, other-due, waits-young, young-due}
 use Rattle.sdd_space.proofs.Housed.{live-is}
 use Rattle.sdd_space.proofs.Nesting.{one-if, none-if}
 use Rattle.sdd_space.proofs.Opening.{how, IsChange, Nests, opened-goes, opened-other}
@@ -25,7 +24,7 @@ use Rattle.sdd_script_text.specs.declared.name.PlaceName.{PlaceName}
 use Rattle.sdd_script_text.specs.declared.answer.Reply.TheVariants as reply
 use Rattle.sdd_script_text.specs.declared.call.Call.TheVariants.{At}
 use Rattle.sdd_script_text.specs.declared.call.Action.TheVariants as call
-use Rattle.sdd_script_model.specs.Due.{IsDueAt, Line, changes, has_ended, is_change, last_found, open_guards, opens, opens_first, start_of}
+use Rattle.sdd_script_model.specs.Due.{IsDueAt, Line, changes, is_change, last_found, open_guards, opens, opens_first, start_of}
 use Rattle.sdd_script_model.specs.Held.{slots_among}
 use Rattle.sdd_script_model.specs.Script.{IsParticipant}
 use Rattle.sdd_script_model.specs.ScriptState as desk
@@ -37,7 +36,7 @@ use Rattle.sdd_script_model.proofs.History.{home, home-apart, home-inside, begin
 use Rattle.sdd_script_model.proofs.History as history
 use Rattle.sdd_script_model.proofs.Telling.{held-on, home-is, line, not-some}
 use Rattle.sdd_script_model.proofs.Turns.{some-is}
-use Rattle.sdd_script_model.proofs.Terms.{◌≡◌, ◌≢◌, ◌⊎◌, ℕ, ◌+◌, ◌-◌, ◌<◌, ◌≤◌, ◌==◌, Bool, true, false, nat_lt, if◌then◌else◌, List, [], ◌∷◌, Option, Some, None, length, slice_index_or, slice_set, inl, inr, refl, sym, ap, ◌∙◌, subst, arith, cases_eq, cases_lt, false≢true, nat_tests, length-set, Contains, IsTrue, Item, EpochState, IsLive, is_open, phase_at, due_next, Participant, is_waiting, World, IsPlaceOf, place_at, standing_at, opened, reclaims, IsWhole, Val, holdings_of, ScriptState, OpenSince, later, as-each}
+use Rattle.sdd_script_model.proofs.Terms.{◌≡◌, ◌≢◌, ◌⊎◌, ℕ, ◌+◌, ◌≤◌, ◌==◌, Bool, true, false, nat_lt, if◌then◌else◌, List, ◌∷◌, Some, None, length, slice_index_or, slice_set, inl, inr, refl, sym, ap, ◌∙◌, subst, arith, cases_eq, cases_lt, false≢true, nat_tests, length-set, Contains, Item, is_open, phase_at, due_next, Participant, is_waiting, World, IsPlaceOf, place_at, standing_at, opened, reclaims, IsWhole, Val, holdings_of, ScriptState, OpenSince, later, as-each}
 
 shut-is : (g : ℕ) → (g == 0) ≡ not (nat_lt 0 g)
 shut-is g = by (nat_lt 0 g) refl where
@@ -174,8 +173,10 @@ module _ (past : List Line) (old new : ScriptState) (name : PlaceName) (g : Guar
   holder-is : (n q : ℕ) → HoldsAt past old n q → ((n ≡ name.0) × (q ≡ opener)) ⊎ ((n ≢ name.0) × (q ≢ opener))
   holder-is n q (inl here) = own-or n q here
   holder-is n q (inr (none, over, place)) =
-      inr (λ same. not-some (sym none ∙ ap (λ m. home old.places m) same ∙ its-home),
-        λ same. false≢true (sym (ap is_ended (live-is w.time opener live)) ∙ ap (λ r. is_ended (phase_at w.time r)) (sym same) ∙ place))
+      inr (
+        λ same. not-some (sym none ∙ ap (λ m. home old.places m) same ∙ its-home),
+        λ same. false≢true (sym (ap is_ended (live-is w.time opener live)) ∙ ap (λ r. is_ended (phase_at w.time r)) (sym same) ∙ place),
+      )
 
   module _ (s : ℕ) (now : is_waiting (standing_at new.world s) ≡ true) where
     -- it waited, and waits still, so many changes later

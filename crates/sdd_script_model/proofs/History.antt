@@ -2,14 +2,14 @@
 use Rattle.std.specs.Prelude.{◌&&◌, ◌||◌, not}
 use Rattle.std.specs.List.{list_all}
 use Rattle.std.specs.Option.{option_map}
-use Rattle.std.proofs.Common.{zero, eq-eqb}
+use Rattle.std.proofs.Common.{zero}
 use Rattle.sdd_participants.specs.PlaceStates.{is_ended}
 use Rattle.sdd_participants.specs.EpochState.{NobodyEnded}
 use Rattle.sdd_participants.specs.Slab.{Entries}
 use Rattle.sdd_participants.specs.declared.place_states.PlaceState.{PlaceState}
 use Rattle.sdd_space.specs.ReclaimBound.{Waits}
-use Rattle.sdd_script_model.specs.Due.{Line, Start, begins, caller, changes, closes, count_at, ends, has_ended, is_change, last_found, leaves_none_ended, open_guards, opens, opens_first, start_of}
-use Rattle.sdd_script_model.proofs.Terms.{◌≡◌, ◌≢◌, ◌⊎◌, ℕ, suc, ◌+◌, ◌-◌, ◌<◌, ◌≤◌, ◌==◌, Bool, true, false, nat_lt, if◌then◌else◌, List, [], ◌∷◌, ◌++◌, Option, Some, None, IsSome, is_some, length, slice_index_or, slice_set, inl, inr, refl, sym, ap, ◌∙◌, subst, arith, cases_eq, false≢true, nat_tests, IsTrue, is_waiting, World, IsPlaceOf, place_at, standing_at, phase_at, IsWhole, Val, ScriptState, OpenSince, opening_at, at-other, at-same, at-pushed, at-end, at-default, as-each, inside}
+use Rattle.sdd_script_model.specs.Due.{Line, Start, begins, caller, changes, closes, ends, has_ended, last_found, leaves_none_ended, open_guards, opens, opens_first, start_of}
+use Rattle.sdd_script_model.proofs.Terms.{◌≡◌, ◌⊎◌, ℕ, suc, ◌+◌, ◌<◌, ◌≤◌, Bool, true, false, List, [], ◌∷◌, Option, Some, None, IsSome, length, slice_index_or, inl, inr, refl, sym, ◌∙◌, subst, false≢true, is_waiting, IsPlaceOf, place_at, standing_at, phase_at, IsWhole, ScriptState, OpenSince, opening_at, inside}
 
 -- ---- places
 

@@ -31,7 +31,7 @@ use Rattle.sdd_script_model.specs.ScriptState.{place_of}
 use Rattle.sdd_script_model.proofs.History.{home, home-apart, home-inside, begins-not, not-adopted, quiet-guards, none-ended, seen-as, start-adopted, start-kept, HasSeen, HoldsAt, Tells}
 use Rattle.sdd_script_model.proofs.History as history
 use Rattle.sdd_script_model.proofs.Telling.{home-is, line, held-on}
-use Rattle.sdd_script_model.proofs.Terms.{◌≡◌, ◌≢◌, ◌⊎◌, ℕ, ◌+◌, ◌-◌, ◌<◌, ◌≤◌, ◌==◌, Bool, true, false, nat_lt, if◌then◌else◌, List, [], ◌∷◌, Some, None, length, slice_index_or, inl, inr, refl, sym, ap, ◌∙◌, subst, arith, cases_eq, cases_lt, false≢true, nat_tests, Contains, Item, EpochState, IsLive, is_open, phase_at, Participant, is_waiting, World, IsPlaceOf, place_at, standing_at, IsWhole, Val, ScriptState}
+use Rattle.sdd_script_model.proofs.Terms.{◌≡◌, ◌≢◌, ◌⊎◌, ℕ, ◌+◌, ◌-◌, ◌<◌, ◌≤◌, ◌==◌, Bool, true, false, nat_lt, if◌then◌else◌, List, ◌∷◌, Some, None, length, slice_index_or, inl, inr, refl, sym, ap, ◌∙◌, subst, arith, cases_eq, cases_lt, false≢true, nat_tests, Contains, Item, EpochState, IsLive, is_open, phase_at, Participant, is_waiting, World, IsPlaceOf, place_at, standing_at, IsWhole, Val, ScriptState}
 
 -- ---- a close scans, or leaves what waits and who has ended as it is
 

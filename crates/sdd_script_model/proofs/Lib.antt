@@ -23,3 +23,4 @@ pub mod History
 pub mod Telling
 pub mod Leaving
 pub mod Entering
+pub mod Due

@@ -1,5 +1,4 @@
 -- What the lines so far say of a desk, after one line more
-use Rattle.std.specs.Prelude.{◌&&◌, not}
 use Rattle.std.specs.Option.{option_map}
 use Rattle.std.proofs.Common.{eq-eqb, ne_eqb}
 use Rattle.std.proofs.lemmas.List.{get_or_push, length_push, length-set}
@@ -7,20 +6,10 @@ use Rattle.sdd_participants.specs.EpochState as time
 use Rattle.sdd_participants.specs.EpochState.{NobodyEnded, with_place, rested}
 use Rattle.sdd_participants.specs.PlaceStates.{is_ended}
 use Rattle.sdd_participants.specs.Waiting.{having_seen}
-use Rattle.sdd_participants.specs.Bags.{Bags}
 use Rattle.sdd_participants.specs.declared.place_states.PlaceState.{PlaceState}
 use Rattle.sdd_participants.specs.declared.place_states.PlaceState.TheVariants.{Live, Ended}
-use Rattle.sdd_participants.proofs.Adopting.{none-left}
-use Rattle.sdd_space.specs.Adopting.{IsToScan}
-use Rattle.sdd_space.specs.ReclaimBound.{Waits}
-use Rattle.sdd_space.specs.WorldChanges.{registered, ended, closed}
-use Rattle.sdd_space.proofs.Adopted.{adopts-what-is-left}
-use Rattle.sdd_space.proofs.Closes.{how-closed, put-same}
-use Rattle.sdd_space.proofs.Entries.{change-waits, nests-waits, waits-young}
-use Rattle.sdd_space.proofs.Housed.{live-is, live-taken, ended-lives, registered-keeps, registered-live, registered-lives, registered-apart, vacant-apart, waits-taken}
-use Rattle.sdd_space.proofs.Nesting.{guards-closed, one-if, none-if}
-use Rattle.sdd_space.proofs.Under.{closed-persists}
-use Rattle.sdd_script_text.specs.declared.name.GuardName.{GuardName}
+use Rattle.sdd_space.specs.WorldChanges.{registered, ended}
+use Rattle.sdd_space.proofs.Housed.{live-is, live-taken, ended-lives, registered-keeps, registered-live, registered-lives, registered-apart, waits-taken}
 use Rattle.sdd_script_text.specs.declared.name.ItemName.{ItemName}
 use Rattle.sdd_script_text.specs.declared.name.JobName.{JobName}
 use Rattle.sdd_script_text.specs.declared.name.PlaceName.{PlaceName}
@@ -30,7 +19,7 @@ use Rattle.sdd_script_text.specs.declared.answer.Reply.TheVariants as reply
 use Rattle.sdd_script_text.specs.declared.call.Call.{Call}
 use Rattle.sdd_script_text.specs.declared.call.Call.TheVariants.{Register, At}
 use Rattle.sdd_script_text.specs.declared.call.Action.TheVariants as call
-use Rattle.sdd_script_model.specs.Due.{Line, Start, begins, caller, changes, closes, ends, has_ended, last_found, leaves_none_ended, open_guards, opens, start_of}
+use Rattle.sdd_script_model.specs.Due.{Line, caller, has_ended, last_found, open_guards, start_of}
 use Rattle.sdd_script_model.specs.Script.{IsParticipant}
 use Rattle.sdd_script_model.specs.ScriptState as desk
 use Rattle.sdd_script_model.specs.ScriptState.{place_in, place_of}
@@ -38,7 +27,7 @@ use Rattle.sdd_script_model.proofs.Attending.{live-by}
 use Rattle.sdd_script_model.proofs.History.{home, home-apart, home-inside, begins-not, begins-now, not-adopted, quiet-changes, quiet-ended, quiet-found, quiet-guards, none-ended, seen-as, start-adopted, start-begun, start-kept, still-ended, HasSeen, HoldsAt, Tells}
 use Rattle.sdd_script_model.proofs.History as history
 use Rattle.sdd_script_model.proofs.Turns.{CalmLine}
-use Rattle.sdd_script_model.proofs.Terms.{◌≡◌, ◌≢◌, ◌⊎◌, ℕ, suc, ◌+◌, ◌-◌, ◌<◌, ◌≤◌, ◌==◌, Bool, true, false, nat_lt, if◌then◌else◌, List, [], ◌∷◌, ◌++◌, Option, Some, None, IsSome, is_some, length, slice_index_or, slice_set, inl, inr, refl, sym, ap, ◌∙◌, subst, arith, cases_eq, cases_lt, false≢true, nat_tests, Contains, IsTrue, Item, EpochState, IsLive, IsVacant, is_open, nobody, phase_at, Participant, is_waiting, World, IsPlaceOf, place_at, standing_at, IsWhole, Val, ScriptState, OpenSince, opening_at, later, at-other, at-same, at-pushed, at-end, at-default, as-each, inside}
+use Rattle.sdd_script_model.proofs.Terms.{◌≡◌, ◌≢◌, ◌⊎◌, ℕ, ◌<◌, ◌≤◌, Bool, true, false, nat_lt, List, ◌∷◌, Option, Some, None, IsSome, is_some, length, slice_index_or, inl, inr, refl, sym, ap, ◌∙◌, subst, arith, cases_eq, false≢true, nat_tests, Contains, Item, EpochState, IsLive, IsVacant, nobody, phase_at, Participant, is_waiting, World, IsPlaceOf, place_at, standing_at, IsWhole, Val, ScriptState, OpenSince, opening_at, later, at-other, at-same, at-pushed, at-end, at-default, inside}
 
 -- where a participant that is there is
 pub home-is : (d : ScriptState) (n : ℕ) → IsParticipant d n → home d.places n ≡ Some (place_of d n)
@@ -78,9 +67,11 @@ module _ (past : List Line) (old new : ScriptState) (call : Call) (given : Reply
         guards = λ n q e. c.world.guards q ∙ k.guards n q (was n q e) ∙ sym (quiet-guards past line n (c.no_opening n) (c.no_close n));
         here = λ n q e. quiet-ended past line n (c.no_end n) ∙ k.here n q (was n q e);
         fresh = λ n l.
-            (let f = k.fresh n (omega (arith, l, ap length c.places)) in
-            (quiet-found past line n (c.no_opening n) ∙ f.0, quiet-guards past line n (c.no_opening n) (c.no_close n) ∙ f.1,
-              quiet-ended past line n (c.no_end n) ∙ f.2));
+            (let f = k.fresh n (omega (arith, l, ap length c.places)) in (
+              quiet-found past line n (c.no_opening n) ∙ f.0,
+              quiet-guards past line n (c.no_opening n) (c.no_close n) ∙ f.1,
+              quiet-ended past line n (c.no_end n) ∙ f.2,
+            ));
         waits = λ s now. by s now (is_waiting (standing_at old.world s)) refl;
       } where
         by : (s : ℕ) → is_waiting (standing_at new.world s) ≡ true → (b : Bool) → is_waiting (standing_at old.world s) ≡ b → HasSeen (line ∷ past) new s
@@ -216,8 +207,11 @@ module _ (past : List Line) (old new : ScriptState) (name : PlaceName) (reclaime
     held : (n q : ℕ) → HoldsAt past old n q → HoldsAt (coming ∷ past) new n q
     held n q (inl there) = (let l = home-inside old.places n q there in inl (other-home n (λ same. absurd (omega (arith, l, same))) ∙ there))
     held n q (inr (none, over, place)) =
-        inr (other-home n (λ same. false≢true (sym (k.fresh n (newcomer-last n same)).2 ∙ over)) ∙ none, over,
-          ap (λ (w : World Val). is_ended (phase_at w.time q)) world ∙ registered-ended old.world.time p lengths vacant q place)
+        inr (
+          other-home n (λ same. false≢true (sym (k.fresh n (newcomer-last n same)).2 ∙ over)) ∙ none,
+          over,
+          ap (λ (w : World Val). is_ended (phase_at w.time q)) world ∙ registered-ended old.world.time p lengths vacant q place,
+        )
 
     by : (s : ℕ) → is_waiting (standing_at old.world s) ≡ true → HasSeen (coming ∷ past) new s
     by s was =
@@ -289,9 +283,12 @@ module _ (past : List Line) (old new : ScriptState) (name : PlaceName) (reclaime
     here = λ n q e. (let h = left-home n q e in quiet-ended past going n (ne_eqb name.0 n (λ same. h.0 (sym same))) ∙ k.here n q h.1);
     fresh = λ n l.
         (let f = k.fresh n (omega (arith, l, ap length places, length-set old.places name.0 None)) in
-        let in_range = home-inside old.places name.0 ender its-home in
-        (f.0, f.1, quiet-ended past going n
-          (ne_eqb name.0 n (λ same. absurd (omega (arith, same, l, in_range, ap length places, length-set old.places name.0 None)))) ∙ f.2));
+        let in_range = home-inside old.places name.0 ender its-home in (
+          f.0,
+          f.1,
+          quiet-ended past going n
+              (ne_eqb name.0 n (λ same. absurd (omega (arith, same, l, in_range, ap length places, length-set old.places name.0 None)))) ∙ f.2,
+        ));
     waits = λ s now. by s (sym (ap (λ (w : World Val). is_waiting (standing_at w s)) world) ∙ now);
   } where
     held : (n q : ℕ) → HoldsAt past old n q → HoldsAt (going ∷ past) new n q

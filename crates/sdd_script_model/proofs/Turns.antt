@@ -5,9 +5,7 @@ use Rattle.sdd_script_text.specs.declared.name.PlaceName.{PlaceName}
 use Rattle.sdd_script_text.specs.declared.name.GuardName.{GuardName}
 use Rattle.sdd_script_text.specs.declared.name.OwnerName.{OwnerName}
 use Rattle.sdd_core.specs.declared.epoch.Epoch.{Epoch}
-use Rattle.sdd_participants.specs.Slab.{IsEmptyAt}
 use Rattle.sdd_participants.specs.declared.standing.CellContents.{CellContents}
-use Rattle.sdd_standings.specs.Slots.{IsSharedBy}
 use Rattle.sdd_space.specs.Collecting.{collected, collector_closed, owner_collected}
 use Rattle.sdd_space.specs.OwnerOrCell.{OwnerOrCell}
 use Rattle.sdd_space.specs.OwnerOrCell as holding
@@ -23,12 +21,11 @@ use Rattle.sdd_script_text.specs.declared.answer.Reply.TheVariants as reply
 use Rattle.sdd_script_model.specs.Collecting.{Collects}
 use Rattle.sdd_script_model.specs.Due.{caller, is_opening, is_close, is_end}
 use Rattle.sdd_script_model.specs.InPlace.{Drops}
-use Rattle.sdd_script_model.specs.Made.{Makes}
 use Rattle.sdd_script_model.specs.Script.{AddsOwner, Does, GivesOwner, IsParticipant, IsValid, MakesCell, Meets, cell_as, shared_once_more}
 use Rattle.sdd_script_model.specs.ScriptState as desk
 use Rattle.sdd_script_model.specs.ScriptState.{place_of, place_in}
 use Rattle.sdd_script_model.proofs.Calm.{Calmly, calm-accelerated, calm-collector, calm-deferred, calm-gives, calm-still, calm-stirred, still-begins}
-use Rattle.sdd_script_model.proofs.Terms.{◌≡◌, ◌≢◌, ℕ, ◌+◌, ◌-◌, ◌<◌, Bool, true, false, nat_lt, if◌then◌else◌, List, [], ◌∷◌, Option, Some, None, IsSome, is_some, length, refl, sym, ap, ◌∙◌, subst, IsTrue, false≢true, Participant, nobody, Item, EpochState, IsVacant, is_open, Standing, Owned, Raw, Shared, is_waiting, World, IsPlaceOf, place_at, standing_at, retired, owner_given, cell_closed, opened, IsWhole, Val, holdings_of, ScriptState, OpenSince, opening_at}
+use Rattle.sdd_script_model.proofs.Terms.{◌≡◌, ℕ, ◌+◌, ◌-◌, ◌<◌, Bool, true, false, nat_lt, if◌then◌else◌, List, [], ◌∷◌, Option, Some, None, IsSome, length, refl, sym, ap, ◌∙◌, subst, false≢true, Participant, nobody, IsVacant, Shared, is_waiting, World, IsPlaceOf, standing_at, retired, owner_given, cell_closed, opened, IsWhole, Val, holdings_of, ScriptState, OpenSince, opening_at}
 
 -- nobody comes or goes, no guard is opened or closed, and what begins to wait waits with the participant whose line it is
 pub record CalmLine (d new : ScriptState) (call : Call) (given : Reply) : Type 0 where
