@@ -10,111 +10,125 @@ use Rattle.sdd_participants.specs.declared.waiting.LimboEntry.TheVariants.{Job}
 use Rattle.sdd_participants.specs.Collecting.{without}
 use Rattle.sdd_space.specs.Collecting.{collector_closed, is_for, without_collector}
 use Rattle.sdd_space.specs.ParticipantChanges.{all_awaiting}
-use Rattle.sdd_space.specs.ReclaimBound.{Waits}
 use Rattle.sdd_space.specs.WorldChanges as steps
-use Rattle.sdd_space.specs.WorldInvariant.{is_of_slot, times_with, times_waiting}
 use Rattle.sdd_space.proofs.Collecting.{goes}
-use Rattle.sdd_space.proofs.Entries.{one-place, waits-standing}
 use Rattle.sdd_space.proofs.Housed.{each-place}
-use Rattle.sdd_space.proofs.Listed.{listed-without, rest-contains}
+use Rattle.sdd_space.proofs.Listed.{listed-awaiting, listed-place, listed-without, rest-contains}
 use Rattle.sdd_space.proofs.Opening.{all_awaiting-waiting, still-waits}
 use Rattle.sdd_space.proofs.Own.{Gives, Gives-collector_closed, all_awaiting-found}
-use Rattle.sdd_space.proofs.Whole.{one_where, times-awaiting, times-place, all_awaiting-guards}
-use Rattle.sdd_script_model.proofs.Terms.{◌≡◌, ℕ, ◌<◌, ◌≤◌, ◌==◌, Bool, true, false, List, [], ◌∷◌, length, count_by, inl, inr, refl, sym, ap, ◌∙◌, subst, arith, cases_eq, false≢true, nat_tests, Contains, Item, EpochState, nobody, Participant, is_waiting, World, place_at, standing_at, IsWhole, Val, holdings_of, length-set, at-same}
+use Rattle.sdd_space.proofs.Whole.{one_where, all_awaiting-guards}
+use Rattle.sdd_script_model.specs.Due.{is_waiting_in}
+use Rattle.sdd_script_model.proofs.Awaiting.{AwaitsAt, awaits-waits, is_of, of-same, one-place, times_waiting, times_with, whole-once}
+use Rattle.sdd_script_model.proofs.Terms.{◌≡◌, ◌⊎◌, ℕ, ◌<◌, ◌≤◌, Bool, true, false, List, [], ◌∷◌, length, count_by, inl, inr, refl, sym, ap, ◌∙◌, subst, arith, false≢true, Contains, LimboEntry, Item, EpochState, nobody, Participant, is_waiting, World, place_at, IsWhole, Val, holdings_of, length-set, at-same}
 
 -- the places are as before, what waits goes on to wait where it did, and what begins to wait waits with p
 pub record Calmly (p : ℕ) (v w : World Val) : Type 0 where
   pub phases : w.time.phases ≡ v.time.phases
   pub places : length w.time.places ≡ length v.time.places
+  pub count : w.time.count ≡ v.time.count
   pub found : (q : ℕ) → (place_at w q).found ≡ (place_at v q).found
   pub guards : (q : ℕ) → (place_at w q).guards ≡ (place_at v q).guards
-  pub kept : (q s seen : ℕ) → Waits v q s seen → is_waiting (standing_at w s) ≡ true → Waits w q s seen
-  pub begun : (s : ℕ) → is_waiting (standing_at w s) ≡ true → is_waiting (standing_at v s) ≡ false → Waits w p s 0
+  pub kept : (q : ℕ) (x : LimboEntry) (seen : ℕ) → AwaitsAt v q x seen → is_waiting_in w x ≡ true → AwaitsAt w q x seen
+  pub begun : (x : LimboEntry) → is_waiting_in w x ≡ true → is_waiting_in v x ≡ false → AwaitsAt w p x 0
 
 -- ---- what is new at a place
 
+-- it begins to wait, if that is what begins to wait
+fresh-or : (x what : LimboEntry) (y : Participant) (b : Bool) → is_of x what ≡ b →
+    Contains (time.awaiting what y).bags.waiting (fresh x) ⊎ (times_with x (time.awaiting what y) ≡ times_with x y)
+fresh-or x what y true e =
+    inl (subst (λ z. Contains (time.awaiting what y).bags.waiting (fresh z)) (of-same x what e) (Contains-push y.bags.waiting (fresh what)))
+fresh-or x what y false e =
+    let none : one_where (is_of x what) ≡ 0 = rw e refl in
+    inr (omega (arith, listed-awaiting (is_of x) what y, none))
+
+pub fresh-one : (x what : LimboEntry) (y : Participant) → times_with x y ≡ 0 → 1 ≤ times_with x (time.awaiting what y) →
+    Contains (time.awaiting what y).bags.waiting (fresh x)
+fresh-one x what y none some =
+    elim (fresh-or x what y (is_of x what) refl) [
+      | inl h ↦ h
+      | inr same ↦ absurd (omega (arith, none, some, same))
+    ]
+
 -- of items that begin to wait, one that didn't wait there before is fresh
-pub fresh-among : (s : ℕ) (ks : List ℕ) (x : Participant) → times_with s x ≡ 0 → 1 ≤ times_with s (all_awaiting ks x) →
-    Contains (all_awaiting ks x).bags.waiting (fresh (Item s))
-fresh-among s [] x none some = absurd (omega (arith, none, some))
-fresh-among s (k ∷ ks) x none some =
-    elim (cases_eq k s) [
-      | inl e ↦
-          all_awaiting-waiting ks (time.awaiting (Item k) x) (fresh (Item s))
-          (subst (λ j. Contains (time.awaiting (Item k) x).bags.waiting (fresh (Item j))) e (Contains-push x.bags.waiting (fresh (Item k))))
-      | inr ne ↦
-          (let zero : one_where (k == s) ≡ 0 = grind (arith, nat_tests, ne) in
-          fresh-among s ks (time.awaiting (Item k) x) (omega (arith, times-awaiting s (Item k) x, none, zero)) some)
+pub fresh-among : (x : LimboEntry) (ks : List ℕ) (y : Participant) → times_with x y ≡ 0 → 1 ≤ times_with x (all_awaiting ks y) →
+    Contains (all_awaiting ks y).bags.waiting (fresh x)
+fresh-among x [] y none some = absurd (omega (arith, none, some))
+fresh-among x (k ∷ ks) y none some =
+    elim (fresh-or x (Item k) y (is_of x (Item k)) refl) [
+      | inl h ↦ all_awaiting-waiting ks (time.awaiting (Item k) y) (fresh x) h
+      | inr same ↦ fresh-among x ks (time.awaiting (Item k) y) (omega (arith, none, same)) some
     ]
 
 -- what waits nowhere of the one time, and once of the other, in which one place differs, waits there
-only-there : (t u : EpochState) (p s : ℕ) (x : Participant) → p < length t.places → u ≡ with_place t p x → sum_by (times_with s) t.places ≡ 0 →
-    sum_by (times_with s) u.places ≡ 1 →
-    (times_with s (time.place_at t p) ≡ 0) × (1 ≤ times_with s x)
-only-there t u p s x l e none one =
-    let put = times-place t p s x l in
-    let here = one-place s t.places p in
-    let same : sum_by (times_with s) u.places ≡ sum_by (times_with s) (with_place t p x).places = ap (λ (y : EpochState). sum_by (times_with s) y.places) e in
+only-there : (t u : EpochState) (p : ℕ) (x : LimboEntry) (y : Participant) → p < length t.places → u ≡ with_place t p y →
+    sum_by (times_with x) t.places ≡ 0 → sum_by (times_with x) u.places ≡ 1 → (times_with x (time.place_at t p) ≡ 0) × (1 ≤ times_with x y)
+only-there t u p x y l e none one =
+    let put = listed-place (is_of x) t p y l in
+    let here = one-place x t.places p in
+    let same : sum_by (times_with x) u.places ≡ sum_by (times_with x) (with_place t p y).places = ap (λ (z : EpochState). sum_by (times_with x) z.places) e in
     (omega (arith, here, none), omega (arith, put, here, none, one, same))
 
 module _ (p : ℕ) (v w : World Val) (whole : IsWhole v) (after : IsWhole w) where
-  one-now : (s : ℕ) → is_waiting (standing_at w s) ≡ true → times_waiting w s ≡ 1
-  one-now s now = rw now at (after.once s)
+  one-now : (x : LimboEntry) → is_waiting_in w x ≡ true → times_waiting w x ≡ 1
+  one-now x now = rw now at (whole-once w after x)
 
-  none-before : (s : ℕ) → is_waiting (standing_at v s) ≡ false → times_waiting v s ≡ 0
-  none-before s was = rw was at (whole.once s)
+  none-before : (x : LimboEntry) → is_waiting_in v x ≡ false → times_waiting v x ≡ 0
+  none-before x was = rw was at (whole-once v whole x)
 
   -- while time stands still nothing begins to wait
-  pub still-begins : w.time ≡ v.time → (s : ℕ) → is_waiting (standing_at w s) ≡ true → is_waiting (standing_at v s) ≡ false → ⊥
-  still-begins e s now was =
-      let same : times_waiting w s ≡ times_waiting v s = ap (λ (t : EpochState). sum_by (times_with s) t.places) e in
-      omega (arith, same, one-now s now, none-before s was)
+  pub still-begins : w.time ≡ v.time → (x : LimboEntry) → is_waiting_in w x ≡ true → is_waiting_in v x ≡ false → ⊥
+  still-begins e x now was =
+      let same : times_waiting w x ≡ times_waiting v x = ap (λ (t : EpochState). sum_by (times_with x) t.places) e in
+      omega (arith, same, one-now x now, none-before x was)
 
   pub calm-still : w.time ≡ v.time → Calmly p v w
   calm-still e = record {
     phases = ap (λ (t : EpochState). t.phases) e;
     places = ap (λ (t : EpochState). length t.places) e;
+    count = ap (λ (t : EpochState). t.count) e;
     found = λ q. ap (λ (t : EpochState). (time.place_at t q).found) e;
     guards = λ q. ap (λ (t : EpochState). (time.place_at t q).guards) e;
-    kept = λ q s seen h now. subst (λ (t : EpochState). Contains (time.place_at t q).bags.waiting (having_seen seen (Item s))) (sym e) h;
-    begun = λ s now was. absurd (still-begins e s now was);
+    kept = λ q x seen h now. subst (λ (t : EpochState). Contains (time.place_at t q).bags.waiting (having_seen seen x)) (sym e) h;
+    begun = λ x now was. absurd (still-begins e x now was);
   }
 
   -- the place of p is written, and what is new in it is fresh
-  pub calm-put : (x : Participant) → p < length v.time.places → w.time ≡ with_place v.time p x → x.found ≡ (place_at v p).found →
-      x.guards ≡ (place_at v p).guards → ((y : Waiting) → Contains (place_at v p).bags.waiting y → Contains x.bags.waiting y) →
-      ((s : ℕ) → times_with s (place_at v p) ≡ 0 → 1 ≤ times_with s x → Contains x.bags.waiting (fresh (Item s))) → Calmly p v w
-  calm-put x l e found guards kept only =
-      let each = each-place v.time p x in
-      let here : place_at w p ≡ x = ap (λ (t : EpochState). time.place_at t p) e ∙ at-same v.time.places p x nobody l in
+  pub calm-put : (y : Participant) → p < length v.time.places → w.time ≡ with_place v.time p y → y.found ≡ (place_at v p).found →
+      y.guards ≡ (place_at v p).guards → ((z : Waiting) → Contains (place_at v p).bags.waiting z → Contains y.bags.waiting z) →
+      ((x : LimboEntry) → times_with x (place_at v p) ≡ 0 → 1 ≤ times_with x y → Contains y.bags.waiting (fresh x)) → Calmly p v w
+  calm-put y l e found guards kept only =
+      let each = each-place v.time p y in
+      let here : place_at w p ≡ y = ap (λ (t : EpochState). time.place_at t p) e ∙ at-same v.time.places p y nobody l in
       record {
         phases = ap (λ (t : EpochState). t.phases) e;
-        places = ap (λ (t : EpochState). length t.places) e ∙ length-set v.time.places p x;
-        found = λ q. ap (λ (t : EpochState). (time.place_at t q).found) e ∙ each (λ r y. y.found ≡ (place_at v r).found) l found (λ r. refl) q;
-        guards = λ q. ap (λ (t : EpochState). (time.place_at t q).guards) e ∙ each (λ r y. y.guards ≡ (place_at v r).guards) l guards (λ r. refl) q;
-        kept = λ q s seen h now.
-            subst (λ (t : EpochState). Contains (time.place_at t q).bags.waiting (having_seen seen (Item s))) (sym e)
-            (each (λ r y. Contains (place_at v r).bags.waiting (having_seen seen (Item s)) → Contains y.bags.waiting (having_seen seen (Item s))) l
-            (kept (having_seen seen (Item s))) (λ r g. g) q h);
-        begun = λ s now was.
-            (let new = only-there v.time w.time p s x l e (none-before s was) (one-now s now) in
-            subst (λ (y : Participant). Contains y.bags.waiting (fresh (Item s))) (sym here) (only s new.0 new.1));
+        places = ap (λ (t : EpochState). length t.places) e ∙ length-set v.time.places p y;
+        count = ap (λ (t : EpochState). t.count) e;
+        found = λ q. ap (λ (t : EpochState). (time.place_at t q).found) e ∙ each (λ r z. z.found ≡ (place_at v r).found) l found (λ r. refl) q;
+        guards = λ q. ap (λ (t : EpochState). (time.place_at t q).guards) e ∙ each (λ r z. z.guards ≡ (place_at v r).guards) l guards (λ r. refl) q;
+        kept = λ q x seen h now.
+            subst (λ (t : EpochState). Contains (time.place_at t q).bags.waiting (having_seen seen x)) (sym e)
+            (each (λ r z. Contains (place_at v r).bags.waiting (having_seen seen x) → Contains z.bags.waiting (having_seen seen x)) l
+            (kept (having_seen seen x)) (λ r g. g) q h);
+        begun = λ x now was.
+            (let new = only-there v.time w.time p x y l e (none-before x was) (one-now x now) in
+            subst (λ (z : Participant). Contains z.bags.waiting (fresh x)) (sym here) (only x new.0 new.1));
       }
 
   -- what waits there is as before
-  pub calm-same : (x : Participant) → p < length v.time.places → w.time ≡ with_place v.time p x → x.found ≡ (place_at v p).found →
-      x.guards ≡ (place_at v p).guards → x.bags.waiting ≡ (place_at v p).bags.waiting → Calmly p v w
-  calm-same x l e found guards bags =
-      calm-put x l e found guards (λ y h. subst (λ ws. Contains ws y) (sym bags) h) (λ s none some.
-      (let same : times_with s x ≡ times_with s (place_at v p) = ap (λ ws. count_by (λ (y : Waiting). is_of_slot s y.what) ws) bags in
+  pub calm-same : (y : Participant) → p < length v.time.places → w.time ≡ with_place v.time p y → y.found ≡ (place_at v p).found →
+      y.guards ≡ (place_at v p).guards → y.bags.waiting ≡ (place_at v p).bags.waiting → Calmly p v w
+  calm-same y l e found guards bags =
+      calm-put y l e found guards (λ z h. subst (λ ws. Contains ws z) (sym bags) h) (λ x none some.
+      (let same : times_with x y ≡ times_with x (place_at v p) = ap (λ ws. count_by (λ (z : Waiting). is_of x z.what) ws) bags in
       absurd (omega (arith, same, none, some))))
 
   -- items are given up to it
   pub calm-gives : p < length v.time.places → Gives p v w → Calmly p v w
   calm-gives l g =
-      let x = place_at v p in
-      calm-put (all_awaiting g.slots x) l g.time (all_awaiting-found g.slots x) (all_awaiting-guards g.slots x) (all_awaiting-waiting g.slots x)
-      (λ s. fresh-among s g.slots x)
+      let y = place_at v p in
+      calm-put (all_awaiting g.slots y) l g.time (all_awaiting-found g.slots y) (all_awaiting-guards g.slots y) (all_awaiting-waiting g.slots y)
+      (λ x. fresh-among x g.slots y)
 
 -- ---- each step
 
@@ -128,51 +142,65 @@ module _ (v : World Val) (p : ℕ) (l : p < length v.time.places) (whole : IsWho
   -- a job waits
   pub calm-deferred : (j : ℕ) → IsWhole (steps.deferred v p j) → Calmly p v (steps.deferred v p j)
   calm-deferred j after =
-      let x = place_at v p in
-      calm-put p v (steps.deferred v p j) whole after (time.awaiting (Job j) x) l refl refl refl (still-waits (Job j) x)
-      (λ s none some. absurd (omega (arith, times-awaiting s (Job j) x, none, some)))
+      let y = place_at v p in
+      calm-put p v (steps.deferred v p j) whole after (time.awaiting (Job j) y) l refl refl refl (still-waits (Job j) y) (λ x. fresh-one x (Job j) y)
 
   -- the close of a collector: what waits for it doesn't wait any more
-  pub calm-collector : (c : ℕ) → IsWhole (collector_closed holdings_of v p c) → Calmly p v (collector_closed holdings_of v p c)
-  calm-collector c after =
-      let w = collector_closed holdings_of v p c in
-      let u = without_collector v c in
-      let chosen = is_for v c in
-      let inside : p < length u.time.places = omega (arith, l, length-map v.time.places (without chosen)) in
-      let g = Gives-collector_closed holdings_of v p c l in
-      let x = place_at u p in
-      let there = λ (q : ℕ). get_or-map (without chosen) v.time.places q nobody in
-      let each = each-place u.time p (all_awaiting g.slots x) in
-      let here : place_at w p ≡ all_awaiting g.slots x =
-      ap (λ (t : EpochState). time.place_at t p) g.time ∙ at-same u.time.places p (all_awaiting g.slots x) nobody inside in
-      record {
-        phases = ap (λ (t : EpochState). t.phases) g.time;
-        places = ap (λ (t : EpochState). length t.places) g.time ∙ length-set u.time.places p (all_awaiting g.slots x) ∙ length-map v.time.places (without chosen);
-        found = λ q. ap (λ (t : EpochState). (time.place_at t q).found) g.time
-            ∙ each (λ r y. y.found ≡ (place_at u r).found) inside (all_awaiting-found g.slots x) (λ r. refl) q ∙ ap (λ (y : Participant). y.found) (there q);
-        guards = λ q. ap (λ (t : EpochState). (time.place_at t q).guards) g.time
-            ∙ each (λ r y. y.guards ≡ (place_at u r).guards) inside (all_awaiting-guards g.slots x) (λ r. refl) q ∙ ap (λ (y : Participant). y.guards) (there q);
-        kept = λ q s seen h now. by q s seen h now (chosen (Item s)) refl;
-        begun = λ s now was.
-            (let none : times_waiting u s ≡ 0 = omega (arith, listed-without (is_of_slot s) chosen v.time.places, rw was at (whole.once s)) in
-            let new = only-there u.time w.time p s (all_awaiting g.slots x) inside g.time none (rw now at (after.once s)) in
-            subst (λ (y : Participant). Contains y.bags.waiting (fresh (Item s))) (sym here) (fresh-among s g.slots x new.0 new.1));
-      } where
-        by : (q s seen : ℕ) → Waits v q s seen → is_waiting (standing_at (collector_closed holdings_of v p c) s) ≡ true → (b : Bool) → is_for v c (Item s) ≡ b →
-            Waits (collector_closed holdings_of v p c) q s seen
-        by q s seen h now true for =
-            let gone = (goes v c s whole holdings_of p (waits-standing v q s seen whole h) for).standing in
-            absurd (false≢true (sym (ap is_waiting gone) ∙ now))
-        by q s seen h now false other =
-            let u = without_collector v c in
-            let chosen = is_for v c in
-            let inside : p < length u.time.places = omega (arith, l, length-map v.time.places (without chosen)) in
-            let g = Gives-collector_closed holdings_of v p c l in
-            let x = place_at u p in
-            let y : Waiting = having_seen seen (Item s) in
-            let stays : Contains (place_at u q).bags.waiting y =
-            subst (λ (z : Participant). Contains z.bags.waiting y) (sym (get_or-map (without chosen) v.time.places q nobody))
-            (rest-contains chosen (place_at v q).bags.waiting y other h) in
-            subst (λ (t : EpochState). Contains (time.place_at t q).bags.waiting y) (sym g.time)
-            (each-place u.time p (all_awaiting g.slots x) (λ r z. Contains (place_at u r).bags.waiting y → Contains z.bags.waiting y) inside
-            (all_awaiting-waiting g.slots x y) (λ r k. k) q stays)
+  module _ (c : ℕ) (after : IsWhole (collector_closed holdings_of v p c)) where
+    abbrev w : World Val
+    w = collector_closed holdings_of v p c
+
+    abbrev u : World Val
+    u = without_collector v c
+
+    abbrev chosen : LimboEntry → Bool
+    chosen = is_for v c
+
+    within : p < length u.time.places
+    within = omega (arith, l, length-map v.time.places (without chosen))
+
+    abbrev g : Gives p u w
+    g = Gives-collector_closed holdings_of v p c l
+
+    there : (q : ℕ) → place_at u q ≡ without chosen (place_at v q)
+    there q = get_or-map (without chosen) v.time.places q nobody
+
+    -- what waits for it doesn't wait any more
+    gone-for : (x : LimboEntry) → is_waiting_in v x ≡ true → chosen x ≡ true → is_waiting_in w x ≡ true → ⊥
+    gone-for (Item s) waits for now =
+        false≢true (sym (ap is_waiting (goes v c s whole holdings_of p waits for).standing) ∙ now)
+    gone-for (Job j) waits for now = false≢true for
+
+    stays-at : (q : ℕ) (x : LimboEntry) (seen : ℕ) → AwaitsAt v q x seen → is_waiting_in w x ≡ true → (b : Bool) → chosen x ≡ b → AwaitsAt w q x seen
+    stays-at q x seen h now true for = absurd (gone-for x (awaits-waits v q x seen h whole) for now)
+    stays-at q x seen h now false other =
+        let y : Waiting = having_seen seen x in
+        let stays : Contains (place_at u q).bags.waiting y =
+        subst (λ (z : Participant). Contains z.bags.waiting y) (sym (there q)) (rest-contains chosen (place_at v q).bags.waiting y other h) in
+        subst (λ (t : EpochState). Contains (time.place_at t q).bags.waiting y) (sym g.time)
+        (each-place u.time p (all_awaiting g.slots (place_at u p)) (λ r z. Contains (place_at u r).bags.waiting y → Contains z.bags.waiting y) within
+        (all_awaiting-waiting g.slots (place_at u p) y) (λ r k. k) q stays)
+
+    pub calm-collector : Calmly p v w
+    calm-collector =
+        let x = place_at u p in
+        let each = each-place u.time p (all_awaiting g.slots x) in
+        let here : place_at w p ≡ all_awaiting g.slots x =
+        ap (λ (t : EpochState). time.place_at t p) g.time ∙ at-same u.time.places p (all_awaiting g.slots x) nobody within in
+        record {
+          phases = ap (λ (t : EpochState). t.phases) g.time;
+          places = ap (λ (t : EpochState). length t.places) g.time ∙ length-set u.time.places p (all_awaiting g.slots x)
+              ∙ length-map v.time.places (without chosen);
+          count = ap (λ (t : EpochState). t.count) g.time;
+          found = λ q. ap (λ (t : EpochState). (time.place_at t q).found) g.time
+              ∙ each (λ r y. y.found ≡ (place_at u r).found) within (all_awaiting-found g.slots x) (λ r. refl) q
+              ∙ ap (λ (y : Participant). y.found) (there q);
+          guards = λ q. ap (λ (t : EpochState). (time.place_at t q).guards) g.time
+              ∙ each (λ r y. y.guards ≡ (place_at u r).guards) within (all_awaiting-guards g.slots x) (λ r. refl) q
+              ∙ ap (λ (y : Participant). y.guards) (there q);
+          kept = λ q y seen h now. stays-at q y seen h now (chosen y) refl;
+          begun = λ y now was.
+              (let none : times_waiting u y ≡ 0 = omega (arith, listed-without (is_of y) chosen v.time.places, rw was at (whole-once v whole y)) in
+              let new = only-there u.time w.time p y (all_awaiting g.slots x) within g.time none (rw now at (whole-once w after y)) in
+              subst (λ (z : Participant). Contains z.bags.waiting (fresh y)) (sym here) (fresh-among y g.slots x new.0 new.1));
+        }

@@ -4,6 +4,7 @@ use Rattle.std.specs.Option.{option_map}
 use Rattle.std.proofs.Common.{zero}
 use Rattle.sdd_core.specs.declared.limits.Limits.{Limits}
 use Rattle.sdd_participants.specs.EpochState as time
+use Rattle.sdd_participants.specs.declared.waiting.LimboEntry.TheVariants.{Item, Job}
 use Rattle.sdd_participants.specs.declared.tally.Tally.{Tally}
 use Rattle.sdd_space.specs.World.{IsNew}
 use Rattle.sdd_space.specs.WorldInvariant.{KeepsUp, times_with, jobs_with, once_if}
@@ -17,8 +18,8 @@ use Rattle.sdd_script_text.specs.declared.answer.Reply.TheVariants as reply
 use Rattle.sdd_script_text.specs.declared.call.Call.{Call}
 use Rattle.sdd_script_text.specs.declared.call.Call.TheVariants.{At}
 use Rattle.sdd_script_text.specs.declared.call.Action.TheVariants as call
-use Rattle.sdd_script_model.specs.Due.{IsDueAt, Line, NamesWhatIsDue, opens}
-use Rattle.sdd_script_model.specs.Script.{AreCalls, EachNamesWhatIsDue, LineStep, NamesWhatGoes, Runs}
+use Rattle.sdd_script_model.specs.Due.{Line, NamesDue, NamesWhatIsDue, is_waiting_in, opens}
+use Rattle.sdd_script_model.specs.Script.{AreCalls, EachNamesWhatIsDue, LineStep, NamesWhatGoes, NamesWhatRuns, Runs}
 use Rattle.sdd_script_model.specs.Script.AreCalls.{none as no_call, one_more}
 use Rattle.sdd_script_model.specs.ScriptState.{IsStart, slot_at}
 use Rattle.sdd_script_model.proofs.Entering.{due-is, tells-opens}
@@ -28,7 +29,7 @@ use Rattle.sdd_script_model.proofs.Leaving.{tells-closes}
 use Rattle.sdd_script_model.proofs.Telling.{line, not-some, tells-calm, tells-comes, tells-goes}
 use Rattle.sdd_script_model.proofs.Turns as turns
 use Rattle.sdd_script_model.proofs.Turns.{Turn, turn}
-use Rattle.sdd_script_model.proofs.Terms.{◌≡◌, ℕ, suc, false, List, [], ◌∷◌, Option, Some, None, is_some, map, count_by, slice_index_or, refl, sym, ap, ◌∙◌, subst, arith, false≢true, nat_tests, EpochState, Standing, is_waiting, World, standing_at, IsWhole, Val, holdings_of, ScriptState, OpenSince, opening_at, later}
+use Rattle.sdd_script_model.proofs.Terms.{LimboEntry, ◌≡◌, ℕ, suc, false, List, [], ◌∷◌, Option, Some, None, is_some, map, count_by, slice_index_or, refl, sym, ap, ◌∙◌, subst, arith, false≢true, nat_tests, EpochState, Standing, is_waiting, World, IsWhole, Val, holdings_of, ScriptState, OpenSince, opening_at, later}
 
 -- ---- before the first line
 
@@ -65,6 +66,11 @@ new-whole limits w is = record {
       omega (arith, made, reclaimed, in_place, taken));
 }
 
+idle-first : (limits : Limits) (d : ScriptState) → IsStart limits d → (x : LimboEntry) → is_waiting_in d.world x ≡ false
+idle-first limits d start (Item s) =
+    ap (λ (ss : List (Option Standing)). is_waiting (slice_index_or ss s None)) start.world.standings ∙ ap is_waiting (blank-at limits.slots s)
+idle-first limits d start (Job k) = ap (λ js. is_some (slice_index_or js k None)) start.world.jobs ∙ ap is_some (blank-at limits.jobs k)
+
 tells-start : (limits : Limits) (d : ScriptState) → IsStart limits d → Tells [] d
 tells-start limits d start =
     let none : (n q : ℕ) → home d.places n ≡ Some q → ⊥ = λ n q e. not-some (sym (ap (λ ps. home ps n) start.places) ∙ e) in
@@ -76,10 +82,9 @@ tells-start limits d start =
       guards = λ n q e. absurd (none n q e);
       here = λ n q e. absurd (none n q e);
       fresh = λ n l. (refl, refl, refl);
-      waits = λ s waits.
-          (let idle : is_waiting (standing_at d.world s) ≡ false =
-          ap (λ (ss : List (Option Standing)). is_waiting (slice_index_or ss s None)) start.world.standings ∙ ap is_waiting (blank-at limits.slots s) in
-          absurd (false≢true (sym idle ∙ waits)));
+      shown = (let first = ap (λ (t : EpochState). t.count) start.world.time in (omega (arith, first), omega (arith, first)));
+      behind = λ n q e. absurd (none n q e);
+      waits = λ x waits. absurd (false≢true (sym (idle-first limits d start x) ∙ waits));
     }
 
 -- ---- one line
@@ -90,35 +95,41 @@ whole-calls (one_more u v w calls step) i = Whole-called holdings_of step (whole
 
 -- a line that opens no guard names nothing by that
 quiet-due : (past : List Line) (l : Line) → ((n : ℕ) → opens n l ≡ false) → NamesWhatIsDue past l
-quiet-due past l quiet n opening i = absurd (false≢true (sym (quiet n) ∙ opening))
+quiet-due past l quiet n opening = absurd (false≢true (sym (quiet n) ∙ opening))
 
 module _ (past : List Line) (old new : ScriptState) (reclaimed : List ItemName) (ran : List JobName) (k : Tells past old) (after : IsWhole new.world) where
   abbrev After : Call → Reply → Type 0
   After call given =
       Tells (line past old new call given reclaimed ran k after ∷ past) new × NamesWhatIsDue past (line past old new call given reclaimed ran k after)
 
-  step-turn : {call : Call} {given : Reply} → Turn (later old) new call given → NamesWhatGoes (later old) call given reclaimed → After call given
-  step-turn {call} {given} (turns.calm c) goes = (
+  step-turn : {call : Call} {given : Reply} → Turn (later old) new call given → NamesWhatGoes (later old) call given reclaimed →
+      NamesWhatRuns (later old) call given ran → After call given
+  step-turn {call} {given} (turns.calm c) goes runs = (
     tells-calm past old new call given reclaimed ran k after c,
     quiet-due past (line past old new call given reclaimed ran k after) c.no_opening,
   )
-  step-turn (turns.comes name p is vacant world places) goes =
-      (tells-comes past old new name reclaimed ran k after p vacant world places, λ n opening i. absurd (false≢true opening))
-  step-turn (turns.goes name there world places) goes =
-      (tells-goes past old new name reclaimed ran k after there world places, λ n opening i. absurd (false≢true opening))
-  step-turn (turns.closes name g there world places) goes =
-      (tells-closes past old new name g reclaimed ran k after there world places, λ n opening i. absurd (false≢true opening))
-  step-turn (turns.opens name g epoch there world places) goes = (
-    tells-opens past old new name g epoch reclaimed ran k after there world places,
-    λ n opening i.
-        (let here = line past old new (At name call.Open) (reply.Guard g epoch) reclaimed ran k after in
-        let same : name.0 ≡ n = grind (arith, nat_tests, opening) in
-        let due = due-is past old new name g epoch reclaimed ran k after there world places (slot_at old i.0) in (
-          (λ c. let h = (goes.exactly i).0 c in
-              (record { last = h.0.last; taken = h.0.taken }, subst (λ m. IsDueAt m past here (slot_at old i.0)) same (due.0 h.1))),
-          (λ h. (goes.exactly i).1 (record { last = h.0.last; taken = h.0.taken }, due.1 (subst (λ m. IsDueAt m past here (slot_at old i.0)) (sym same) h.1))),
-        )),
-  )
+  step-turn (turns.comes name p is vacant world places) goes runs =
+      (tells-comes past old new name reclaimed ran k after p vacant world places, λ n opening. absurd (false≢true opening))
+  step-turn (turns.goes name there world places) goes runs =
+      (tells-goes past old new name reclaimed ran k after there world places, λ n opening. absurd (false≢true opening))
+  step-turn (turns.closes name g there world places) goes runs =
+      (tells-closes past old new name g reclaimed ran k after there world places, λ n opening. absurd (false≢true opening))
+  step-turn (turns.opens name g epoch there shows world places) goes runs =
+      let here = line past old new (At name call.Open) (reply.Guard g epoch) reclaimed ran k after in
+      let due = due-is past old new name g epoch reclaimed ran k after there shows world places in (
+        tells-opens past old new name g epoch reclaimed ran k after there shows world places,
+        λ n opening.
+            subst (λ m. NamesDue m past here) (grind (arith, nat_tests, opening)) (record {
+              items = λ i. (
+                (λ c. let h = (goes.exactly i).0 c in (record { last = h.0.last; taken = h.0.taken }, (due (Item (slot_at old i.0))).0 h.1)),
+                (λ h. (goes.exactly i).1 (record { last = h.0.last; taken = h.0.taken }, (due (Item (slot_at old i.0))).1 h.1)),
+              );
+              jobs = λ j. (
+                (λ c. let h = (runs.exactly j).0 c in (h.0, record { last = h.1.last; taken = h.1.taken }, (due (Job h.0)).0 h.2)),
+                (λ h. (runs.exactly j).1 (h.0, record { last = h.1.last; taken = h.1.taken }, (due (Job h.0)).1 h.2)),
+              );
+            }),
+      )
 
 step : (past : List Line) (old : ScriptState) (call : Call) (answer : Answer) (new : ScriptState) → Tells past old → LineStep old call answer new →
     Tells (record { before = old; call = call; answer = answer; after = new } ∷ past) new
@@ -126,7 +137,7 @@ step : (past : List Line) (old : ScriptState) (call : Call) (answer : Answer) (n
 step past old call answer new k s =
     let after = whole-calls s.acts.calls k.whole in
     let inside = λ (n : ℕ) (x : OpenSince) (e : opening_at old.places n ≡ Some x). k.inside n x.place (ap (option_map (λ (y : OpenSince). y.place)) e) in
-    step-turn past old new answer.reclaimed answer.ran k after (turn (later old) new k.whole after inside call answer.reply s.acts.meets) s.goes
+    step-turn past old new answer.reclaimed answer.ran k after (turn (later old) new k.whole after inside call answer.reply s.acts.meets) s.goes s.runs
 
 -- ---- all lines
 

@@ -2,21 +2,23 @@
 use Rattle.std.specs.Prelude.{◌&&◌, ◌↔◌, not}
 use Rattle.std.specs.Option.{option_map}
 use Rattle.std.proofs.Common.{eq-eqb, ne_eqb}
+use Rattle.sdd_core.specs.Epoch.{epoch_of}
 use Rattle.sdd_core.specs.declared.epoch.Epoch.{Epoch}
 use Rattle.sdd_participants.specs.PlaceStates.{is_ended}
 use Rattle.sdd_participants.specs.Waiting.{having_seen}
-use Rattle.sdd_space.specs.ReclaimBound.{Waits}
+use Rattle.sdd_participants.specs.declared.waiting.LimboEntry.TheVariants.{Job}
 use Rattle.sdd_space.specs.World.{value_at}
+use Rattle.sdd_space.specs.ParticipantChanges.{opened_at}
 use Rattle.sdd_space.specs.WorldInvariant.{is_of_slot}
 use Rattle.sdd_space.specs.WorldStep.WorldStep.{opens as opens_one}
-use Rattle.sdd_space.proofs.Entries.{change-waits, entry-due, nests-waits, other-due, waits-young, young-due}
 use Rattle.sdd_space.proofs.Housed.{live-is}
+use Rattle.sdd_space.proofs.Jobs.{runs-once}
 use Rattle.sdd_space.proofs.Nesting.{one-if, none-if}
 use Rattle.sdd_space.proofs.Opening.{how, IsChange, Nests, opened-goes, opened-other}
 use Rattle.sdd_space.proofs.Own as own
 use Rattle.sdd_space.proofs.Safe.{opens-keeps}
 use Rattle.sdd_space.proofs.Standings.{out-waits-not}
-use Rattle.sdd_space.proofs.Whole.{filled-there, some-waits, times_among}
+use Rattle.sdd_space.proofs.Whole.{filled-there, some-waits}
 use Rattle.sdd_script_text.specs.declared.name.GuardName.{GuardName}
 use Rattle.sdd_script_text.specs.declared.name.ItemName.{ItemName}
 use Rattle.sdd_script_text.specs.declared.name.JobName.{JobName}
@@ -24,19 +26,20 @@ use Rattle.sdd_script_text.specs.declared.name.PlaceName.{PlaceName}
 use Rattle.sdd_script_text.specs.declared.answer.Reply.TheVariants as reply
 use Rattle.sdd_script_text.specs.declared.call.Call.TheVariants.{At}
 use Rattle.sdd_script_text.specs.declared.call.Action.TheVariants as call
-use Rattle.sdd_script_model.specs.Due.{IsDueAt, Line, changes, is_change, last_found, open_guards, opens, opens_first, start_of}
-use Rattle.sdd_script_model.specs.Held.{slots_among}
+use Rattle.sdd_script_model.specs.Due.{IsDueAt, Line, changes, count_shown, is_change, is_waiting_in, last_found, open_guards, opens, opens_first, start_of}
 use Rattle.sdd_script_model.specs.Script.{IsParticipant}
 use Rattle.sdd_script_model.specs.ScriptState as desk
 use Rattle.sdd_script_model.specs.ScriptState.{place_of}
 use Rattle.sdd_script_model.proofs.Attending.{live-by, opens-one}
-use Rattle.sdd_script_model.proofs.Dates.{begins-out, idle-not-due}
-use Rattle.sdd_script_model.proofs.Gone.{among-slots, counted-contains, counted-there, slots-contain}
+use Rattle.sdd_script_model.proofs.Dates.{begins-out}
+use Rattle.sdd_script_model.proofs.Deferred.{taken-before}
+use Rattle.sdd_script_model.proofs.Gone.{counted-there}
 use Rattle.sdd_script_model.proofs.History.{home, home-apart, home-inside, begins-not, begins-now, not-adopted, quiet-changes, quiet-found, quiet-guards, seen-as, start-begun, start-kept, HasSeen, HoldsAt, Tells}
 use Rattle.sdd_script_model.proofs.History as history
 use Rattle.sdd_script_model.proofs.Telling.{held-on, home-is, line, not-some}
 use Rattle.sdd_script_model.proofs.Turns.{some-is}
-use Rattle.sdd_script_model.proofs.Terms.{◌≡◌, ◌≢◌, ◌⊎◌, ℕ, ◌+◌, ◌≤◌, ◌==◌, Bool, true, false, nat_lt, if◌then◌else◌, List, ◌∷◌, Some, None, length, slice_index_or, slice_set, inl, inr, refl, sym, ap, ◌∙◌, subst, arith, cases_eq, cases_lt, false≢true, nat_tests, length-set, Contains, Item, is_open, phase_at, due_next, Participant, is_waiting, World, IsPlaceOf, place_at, standing_at, opened, reclaims, IsWhole, Val, holdings_of, ScriptState, OpenSince, later, as-each}
+use Rattle.sdd_script_model.proofs.Awaiting.{AwaitsAt, awaits-once, awaits-waits, awaits-young, change-awaits, due-from, due-there, nests-awaits}
+use Rattle.sdd_script_model.proofs.Terms.{LimboEntry, is_some, ◌≡◌, ◌≢◌, ◌⊎◌, ℕ, ◌+◌, ◌≤◌, ◌==◌, Bool, true, false, nat_lt, if◌then◌else◌, List, ◌∷◌, Some, None, length, slice_index_or, slice_set, inl, inr, refl, sym, ap, ◌∙◌, subst, arith, cases_eq, cases_lt, false≢true, nat_tests, length-set, Contains, Item, is_open, phase_at, Participant, is_waiting, World, IsPlaceOf, place_at, standing_at, opened, reclaims, IsWhole, Val, holdings_of, ScriptState, OpenSince, later, as-each}
 
 shut-is : (g : ℕ) → (g == 0) ≡ not (nat_lt 0 g)
 shut-is g = by (nat_lt 0 g) refl where
@@ -44,8 +47,19 @@ shut-is g = by (nat_lt 0 g) refl where
   by true e = grind (arith, nat_tests, e)
   by false e = grind (arith, nat_tests, e)
 
+-- two counts in turn show two epochs
+next-epoch : (count : ℕ) → epoch_of (count + 1) ≢ epoch_of count
+next-epoch count same = omega (arith, same)
+
+one-of : (m n : ℕ) → m ≤ n → n ≤ m + 1 → (n ≡ m) ⊎ (n ≡ m + 1)
+one-of m n low high =
+    elim (cases_lt m n) [
+      | inl more ↦ inr (omega (arith, more, high))
+      | inr none ↦ inl (omega (arith, low, none))
+    ]
+
 module _ (past : List Line) (old new : ScriptState) (name : PlaceName) (g : GuardName) (epoch : Epoch) (reclaimed : List ItemName) (ran : List JobName)
-    (k : Tells past old) (after : IsWhole new.world) (there : IsParticipant old name.0)
+    (k : Tells past old) (after : IsWhole new.world) (there : IsParticipant old name.0) (epoch_is : epoch ≡ epoch_of new.world.time.count)
     (world : new.world ≡ opened holdings_of old.world (place_of old name.0))
     (places : new.places ≡ (desk.with_guard (later old) name.0 (place_of old name.0)).places) where
   abbrev opening : Line
@@ -103,23 +117,48 @@ module _ (past : List Line) (old new : ScriptState) (name : PlaceName) (g : Guar
   first-is : opens_first name.0 past opening ≡ not (is_open (place_at w opener))
   first-is = rw mine (ap (λ n. n == 0) (sym (k.guards name.0 opener its-home)) ∙ shut-is (place_at w opener).guards)
 
-  change-is : is_change name.0 past opening ≡ (not (is_open (place_at w opener)) && not (w.time.count == (place_at w opener).found))
-  change-is =
-      ap (λ b. b && not (w.time.count == last_found name.0 past)) first-is
-      ∙ ap (λ n. not (is_open (place_at w opener)) && not (w.time.count == n)) (sym (k.found name.0 opener its-home))
+  count-same : new.world.time.count ≡ w.time.count
+  count-same =
+      ap (λ (u : World Val). u.time.count) world ∙ (own.opens holdings_of w opener live.0 (is_open (place_at w opener)) refl).count
+
+  -- an outermost opening shows the count
+  shown-if : is_open (place_at w opener) ≡ false → (w.time.count ≡ count_shown past) ⊎ (w.time.count ≡ count_shown past + 1) →
+      count_shown (opening ∷ past) ≡ w.time.count
+  shown-if shut (inl same) =
+      let first : opens_first name.0 past opening ≡ true = first-is ∙ ap not shut in
+      let shows : (epoch == epoch_of (count_shown past)) ≡ true =
+      eq-eqb epoch (epoch_of (count_shown past)) (epoch_is ∙ ap epoch_of (count-same ∙ same)) in
+      rw (first, shows) (sym same)
+  shown-if shut (inr more) =
+      let first : opens_first name.0 past opening ≡ true = first-is ∙ ap not shut in
+      let shows : (epoch == epoch_of (count_shown past)) ≡ false =
+      ne_eqb epoch (epoch_of (count_shown past)) (λ e. next-epoch (count_shown past) (sym (epoch_is ∙ ap epoch_of (count-same ∙ more)) ∙ e)) in
+      rw (first, shows) (sym more)
+
+  shown-shut : is_open (place_at w opener) ≡ false → count_shown (opening ∷ past) ≡ w.time.count
+  shown-shut shut = shown-if shut (one-of (count_shown past) w.time.count k.shown.0 k.shown.1)
+
+  shown-nested : is_open (place_at w opener) ≡ true → count_shown (opening ∷ past) ≡ count_shown past
+  shown-nested nested = let first : opens_first name.0 past opening ≡ false = first-is ∙ ap not nested in rw first refl
 
   nests-change : Nests holdings_of w opener → is_change name.0 past opening ≡ false
   nests-change n =
       elim n.why [
-        | inl nested ↦ change-is ∙ rw nested refl
-        | inr (shut, same) ↦ (let e = eq-eqb w.time.count (place_at w opener).found (sym same) in change-is ∙ rw (shut, e) refl)
+        | inl nested ↦ (let first : opens_first name.0 past opening ≡ false = first-is ∙ ap not nested in rw first refl)
+        | inr (shut, same) ↦
+            (let first : opens_first name.0 past opening ≡ true = first-is ∙ ap not shut in
+            let e : (count_shown (opening ∷ past) == last_found name.0 past) ≡ true =
+            eq-eqb (count_shown (opening ∷ past)) (last_found name.0 past) (shown-shut shut ∙ sym same ∙ k.found name.0 opener its-home) in
+            ap (λ b. b && not (count_shown (opening ∷ past) == last_found name.0 past)) first ∙ ap not e)
       ]
 
   change-change : IsChange holdings_of w opener → is_change name.0 past opening ≡ true
   change-change c =
-      let shut = c.closed_before in
-      let e = ne_eqb w.time.count (place_at w opener).found (λ same. c.another (sym same)) in
-      change-is ∙ rw (shut, e) refl
+      let first : opens_first name.0 past opening ≡ true = first-is ∙ ap not c.closed_before in
+      let e : (count_shown (opening ∷ past) == last_found name.0 past) ≡ false =
+      ne_eqb (count_shown (opening ∷ past)) (last_found name.0 past)
+      (λ same. c.another (k.found name.0 opener its-home ∙ sym same ∙ shown-shut c.closed_before)) in
+      ap (λ b. b && not (count_shown (opening ∷ past) == last_found name.0 past)) first ∙ ap not e
 
   -- ---- who is there
 
@@ -133,7 +172,8 @@ module _ (past : List Line) (old new : ScriptState) (name : PlaceName) (g : Guar
     by false e =
         let first = first-is ∙ ap not e in
         let o = own.opens holdings_of w opener live.0 false e in
-        o.found (λ nested. false≢true (sym e ∙ nested)) ∙ sym (rw first refl)
+        o.found (λ nested. false≢true (sym e ∙ nested))
+        ∙ sym (ap (λ b. if b then count_shown (opening ∷ past) else last_found name.0 past) first ∙ shown-shut e)
 
   found-now : (n q : ℕ) → home old.places n ≡ Some q → (place_at new.world q).found ≡ last_found n (opening ∷ past)
   found-now n q e =
@@ -178,78 +218,88 @@ module _ (past : List Line) (old new : ScriptState) (name : PlaceName) (g : Guar
         λ same. false≢true (sym (ap is_ended (live-is w.time opener live)) ∙ ap (λ r. is_ended (phase_at w.time r)) (sym same) ∙ place),
       )
 
-  module _ (s : ℕ) (now : is_waiting (standing_at new.world s) ≡ true) where
+  -- what is due doesn't wait any more
+  gone-then : (x : LimboEntry) → is_waiting_in w x ≡ true → Contains (reclaims w opener) x → is_waiting_in (opened holdings_of w opener) x ≡ true → ⊥
+  gone-then (Item s) waits due now =
+      let v = some-is (value_at w s) (filled-there w s k.whole.filled ∙ some-waits (standing_at w s) waits) in
+      let some = counted-there (is_of_slot s) (reclaims w opener) (Item s) due (eq-eqb s s refl) in
+      let gone = opened-goes holdings_of w opener live.0 s (standing_at w s) v.0 waits some (record { standing = refl; value = v.1 }) in
+      false≢true (sym (ap is_waiting gone.standing) ∙ now)
+  gone-then (Job j) waits due now =
+      false≢true (sym (ap is_some ((runs-once holdings_of w k.whole.jobs_once).runs opener j live due).1) ∙ now)
+
+  -- what begins to wait was given up to the opener
+  begun-then : (x : LimboEntry) → is_waiting_in w x ≡ false → is_waiting_in (opened holdings_of w opener) x ≡ true →
+      AwaitsAt (opened holdings_of w opener) opener x 0
+  begun-then (Item s) idle now =
+      elim (opens-keeps opener s holdings_of w live.0 k.whole (begins-out (opens_one w opener live) k.whole s now idle)).1 [
+        | inl still ↦ absurd (false≢true (sym (out-waits-not (standing_at (opened holdings_of w opener) s) still) ∙ now))
+        | inr fresh ↦ fresh.1
+      ]
+  begun-then (Job j) idle now = absurd (false≢true (sym idle ∙ taken-before w opener k.whole live j now))
+
+  module _ (x : LimboEntry) (now : is_waiting_in new.world x ≡ true) where
+    now-opened : is_waiting_in (opened holdings_of w opener) x ≡ true
+    now-opened = ap (λ (u : World Val). is_waiting_in u x) (sym world) ∙ now
+
     -- it waited, and waits still, so many changes later
-    waits-later : (waits : is_waiting (standing_at w s) ≡ true) (seen : ℕ) → Waits (opened holdings_of w opener) (k.waits s waits).place s seen →
-        changes (start_of past s).holder (opening ∷ past) ≡ changes (start_of past s).holder (start_of past s).lines + seen → HasSeen (opening ∷ past) new s
+    waits-later : (waits : is_waiting_in w x ≡ true) (seen : ℕ) → AwaitsAt (opened holdings_of w opener) (k.waits x waits).place x seen →
+        changes (start_of past x).holder (opening ∷ past) ≡ changes (start_of past x).holder (start_of past x).lines + seen → HasSeen (opening ∷ past) new x
     waits-later waits seen still count =
-        let h = k.waits s waits in
-        let n = (start_of past s).holder in
-        seen-as (opening ∷ past) new s (start_of past s)
-        (start-kept past opening s (begins-not past opening s waits) (not-adopted past old opening n h.place k.here (stays-ended h.place) h.held)) h.place seen
-        (subst (λ (u : World Val). Waits u h.place s seen) (sym world) still)
+        let h = k.waits x waits in
+        let n = (start_of past x).holder in
+        seen-as (opening ∷ past) new x (start_of past x)
+        (start-kept past opening x (begins-not past opening x waits) (not-adopted past old opening n h.place k.here (stays-ended h.place) h.held)) h.place seen
+        (subst (λ (u : World Val). AwaitsAt u h.place x seen) (sym world) still)
         (held-on past old new (At name call.Open) (reply.Guard g epoch) reclaimed ran k after same-home n h.place (stays-ended h.place) h.held) count
 
-    -- what has seen two changes is gone after the third
-    gone-then : (waits : is_waiting (standing_at w s) ≡ true) → 1 ≤ times_among s (reclaims w opener) → ⊥
-    gone-then waits due =
-        let v = some-is (value_at w s) (filled-there w s k.whole.filled ∙ some-waits (standing_at w s) waits) in
-        let gone = opened-goes holdings_of w opener live.0 s (standing_at w s) v.0 waits due (record { standing = refl; value = v.1 }) in
-        false≢true (sym (ap (λ (u : World Val). is_waiting (standing_at u s)) world ∙ ap is_waiting gone.standing) ∙ now)
-
     -- it waits with the opener
-    by-own : (waits : is_waiting (standing_at w s) ≡ true) → (start_of past s).holder ≡ name.0 → (k.waits s waits).place ≡ opener →
-        Nests holdings_of w opener ⊎ IsChange holdings_of w opener → HasSeen (opening ∷ past) new s
+    by-own : (waits : is_waiting_in w x ≡ true) → (start_of past x).holder ≡ name.0 → (k.waits x waits).place ≡ opener →
+        Nests holdings_of w opener ⊎ IsChange holdings_of w opener → HasSeen (opening ∷ past) new x
     by-own waits holder place (inl nests) =
-        let h = k.waits s waits in
-        let quiet : changes (start_of past s).holder (opening ∷ past) ≡ changes (start_of past s).holder past =
+        let h = k.waits x waits in
+        let quiet : changes (start_of past x).holder (opening ∷ past) ≡ changes (start_of past x).holder past =
         subst (λ m. changes m (opening ∷ past) ≡ changes m past) (sym holder) (let e = nests-change nests in rw e refl) in
         waits-later waits h.seen
-        (subst (λ q. Waits (opened holdings_of w opener) q s h.seen) (sym place)
-        (nests-waits holdings_of w opener s h.seen live.0 nests (subst (λ q. Waits w q s h.seen) place h.waits))) (quiet ∙ h.count)
+        (subst (λ q. AwaitsAt (opened holdings_of w opener) q x h.seen) (sym place)
+        (nests-awaits w opener x h.seen live.0 nests (subst (λ q. AwaitsAt w q x h.seen) place h.waits))) (quiet ∙ h.count)
     by-own waits holder place (inr change) =
-        let h = k.waits s waits in
-        let here : Waits w opener s h.seen = subst (λ q. Waits w q s h.seen) place h.waits in
-        let more : changes (start_of past s).holder (opening ∷ past) ≡ changes (start_of past s).holder past + 1 =
+        let h = k.waits x waits in
+        let here : AwaitsAt w opener x h.seen = subst (λ q. AwaitsAt w q x h.seen) place h.waits in
+        let more : changes (start_of past x).holder (opening ∷ past) ≡ changes (start_of past x).holder past + 1 =
         subst (λ m. changes m (opening ∷ past) ≡ changes m past + 1) (sym holder) (let e = change-change change in rw e refl) in
         elim (cases_lt h.seen 2) [
           | inl young ↦
               waits-later waits (h.seen + 1)
-              (subst (λ q. Waits (opened holdings_of w opener) q s (h.seen + 1)) (sym place) (change-waits holdings_of w opener s h.seen live.0 change young here))
+              (subst (λ q. AwaitsAt (opened holdings_of w opener) q x (h.seen + 1)) (sym place) (change-awaits w opener x h.seen live.0 change young here))
               (omega (arith, more, h.count))
-          | inr old_enough ↦
-              (let two : h.seen ≡ 2 = omega (arith, old_enough, waits-young w opener s h.seen k.whole here) in
-              let due = entry-due s (place_at w opener).bags.waiting (subst (λ c. Waits w opener s c) two here) in
-              absurd (gone-then waits (omega (arith, due, ap (λ xs. times_among s xs) change.due))))
+          | inr ripe ↦
+              (let two : h.seen ≡ 2 = omega (arith, ripe, awaits-young w opener x h.seen here k.whole) in
+              let due = due-there x (place_at w opener).bags.waiting (subst (λ c. AwaitsAt w opener x c) two here) in
+              absurd (gone-then x waits (subst (λ xs. Contains xs x) (sym change.due) due) now-opened))
         ]
 
-    by-waiting : is_waiting (standing_at w s) ≡ true → HasSeen (opening ∷ past) new s
+    by-waiting : is_waiting_in w x ≡ true → HasSeen (opening ∷ past) new x
     by-waiting waits =
-        let h = k.waits s waits in
-        elim (holder-is (start_of past s).holder h.place h.held) [
+        let h = k.waits x waits in
+        elim (holder-is (start_of past x).holder h.place h.held) [
           | inl own ↦ by-own waits own.0 own.1 (how holdings_of w opener live.0)
           | inr other ↦
               waits-later waits h.seen
-              (subst (λ (x : Participant). Contains x.bags.waiting (having_seen h.seen (Item s))) (sym (opened-other holdings_of w opener live.0 h.place other.1)) h.waits)
-              (quiet-changes past opening (start_of past s).holder (other-opens (start_of past s).holder other.0) ∙ h.count)
+              (subst (λ (y : Participant). Contains y.bags.waiting (having_seen h.seen x))
+              (sym (opened-other holdings_of w opener live.0 h.place other.1)) h.waits)
+              (quiet-changes past opening (start_of past x).holder (other-opens (start_of past x).holder other.0) ∙ h.count)
         ]
 
     -- it was given up by what the opening reclaims
-    by-begun : is_waiting (standing_at w s) ≡ false → HasSeen (opening ∷ past) new s
+    by-begun : is_waiting_in w x ≡ false → HasSeen (opening ∷ past) new x
     by-begun idle =
-        let now_opened : is_waiting (standing_at (opened holdings_of w opener) s) ≡ true =
-        ap (λ (u : World Val). is_waiting (standing_at u s)) (sym world) ∙ now in
-        let out = begins-out (opens_one w opener live) k.whole s now_opened idle in
-        elim (opens-keeps opener s holdings_of w live.0 k.whole out).1 [
-          | inl still ↦ absurd (false≢true (sym (out-waits-not (standing_at (opened holdings_of w opener) s) still) ∙ now_opened))
-          | inr fresh ↦
-              seen-as (opening ∷ past) new s (history.here past opening s) (start-begun past opening s (begins-now past opening s now idle)) opener 0
-              (subst (λ (u : World Val). Waits u opener s 0) (sym world) fresh.1) (inl (same-home name.0 ∙ its-home)) (omega arith)
-        ]
+        seen-as (opening ∷ past) new x (history.here past opening x) (start-begun past opening x (begins-now past opening x now idle)) opener 0
+        (subst (λ (u : World Val). AwaitsAt u opener x 0) (sym world) (begun-then x idle now-opened)) (inl (same-home name.0 ∙ its-home)) (omega arith)
 
-    waits-now : HasSeen (opening ∷ past) new s
-    waits-now = by (is_waiting (standing_at w s)) refl where
-      by : (b : Bool) → is_waiting (standing_at w s) ≡ b → HasSeen (opening ∷ past) new s
+    waits-now : HasSeen (opening ∷ past) new x
+    waits-now = by (is_waiting_in w x) refl where
+      by : (b : Bool) → is_waiting_in w x ≡ b → HasSeen (opening ∷ past) new x
       by true e = by-waiting e
       by false e = by-begun e
 
@@ -270,58 +320,76 @@ module _ (past : List Line) (old new : ScriptState) (name : PlaceName) (g : Guar
         let other = other-opens n (λ same. absurd (omega (arith, same, far, in_range))) in
         (quiet-found past opening n other ∙ f.0, quiet-guards past opening n other refl ∙ f.1, f.2));
     waits = waits-now;
-  }
+    shown = bounds (is_open (place_at w opener)) refl;
+    behind = λ n q e. found-low n q (was n q e);
+  } where
+    bounds : (b : Bool) → is_open (place_at w opener) ≡ b →
+        (count_shown (opening ∷ past) ≤ new.world.time.count) × (new.world.time.count ≤ count_shown (opening ∷ past) + 1)
+    bounds true e = (omega (arith, k.shown.0, count-same, shown-nested e), omega (arith, k.shown.1, count-same, shown-nested e))
+    bounds false e = (omega (arith, count-same, shown-shut e), omega (arith, count-same, shown-shut e))
+
+    more : (b : Bool) → is_open (place_at w opener) ≡ b → count_shown past ≤ count_shown (opening ∷ past)
+    more true e = omega (arith, shown-nested e)
+    more false e = omega (arith, k.shown.0, shown-shut e)
+
+    own-low : (b : Bool) → is_open (place_at w opener) ≡ b → (place_at (opened holdings_of w opener) opener).found ≤ count_shown (opening ∷ past)
+    own-low true e =
+        let same = ap (λ (x : Participant). x.found) (own.opens holdings_of w opener live.0 true e).own in
+        let slots = (own.opens holdings_of w opener live.0 true e).slots in
+        let nested : (opened_at w.time.count slots (place_at w opener)).found ≡ (place_at w opener).found = rw e refl in
+        omega (arith, same, nested, k.behind name.0 opener its-home, shown-nested e)
+    own-low false e =
+        omega (arith, (own.opens holdings_of w opener live.0 false e).found (λ nested. false≢true (sym e ∙ nested)), shown-shut e)
+
+    found-low : (n q : ℕ) → home old.places n ≡ Some q → (place_at new.world q).found ≤ count_shown (opening ∷ past)
+    found-low n q e =
+        let same = ap (λ (u : World Val). (place_at u q).found) world in
+        elim (own-or n q e) [
+          | inl h ↦ omega (arith, same, ap (λ r. (place_at (opened holdings_of w opener) r).found) h.1, own-low (is_open (place_at w opener)) refl)
+          | inr h ↦
+              omega (
+                arith,
+                same,
+                ap (λ (x : Participant). x.found) (opened-other holdings_of w opener live.0 q h.1),
+                k.behind n q e,
+                more (is_open (place_at w opener)) refl,
+              )
+        ]
 
   -- ---- what is due
 
-  due-waits : (s : ℕ) → Contains (reclaims w opener) (Item s) → is_waiting (standing_at w s) ≡ true
-  due-waits s c = by (is_waiting (standing_at w s)) refl where
-    by : (b : Bool) → is_waiting (standing_at w s) ≡ b → is_waiting (standing_at w s) ≡ true
-    by true e = e
-    by false e =
-        let some = counted-there (is_of_slot s) (reclaims w opener) (Item s) c (eq-eqb s s refl) in
-        absurd (omega (arith, some, idle-not-due w opener s live.0 k.whole e))
-
-  due-told : (s : ℕ) → Contains (reclaims w opener) (Item s) → Nests holdings_of w opener ⊎ IsChange holdings_of w opener → IsDueAt name.0 past opening s
-  due-told s c (inl nests) = absurd (let lt = c.1 in omega (arith, lt, ap length nests.none))
-  due-told s c (inr change) =
-      let waits = due-waits s c in
-      let h = k.waits s waits in
-      let some = counted-there (is_of_slot s) (reclaims w opener) (Item s) c (eq-eqb s s refl) in
-      let due : 1 ≤ times_among s (due_next (place_at w opener)) = omega (arith, some, ap (λ xs. times_among s xs) change.due) in
-      elim (holder-is (start_of past s).holder h.place h.held) [
-        | inr other ↦ absurd (omega (arith, due, other-due w h.place s h.seen k.whole h.waits opener (λ same. other.1 (sym same))))
-        | inl own ↦
-            (let here : Waits w opener s h.seen = subst (λ q. Waits w q s h.seen) own.1 h.waits in
-            let two : h.seen ≡ 2 = elim (cases_lt h.seen 2) [
-              | inl young ↦ absurd (omega (arith, due, young-due w opener s h.seen k.whole here young))
-              | inr more ↦ omega (arith, more, waits-young w opener s h.seen k.whole here)
-            ] in
-            record {
-              change = change-change change;
-              waits = waits;
-              holder = own.0;
-              between = subst (λ m. changes m past ≡ changes m (start_of past s).lines + 2) own.0 (omega (arith, h.count, two));
-            })
+  due-told : (x : LimboEntry) → Contains (reclaims w opener) x → Nests holdings_of w opener ⊎ IsChange holdings_of w opener → IsDueAt name.0 past opening x
+  due-told x c (inl nests) = absurd (let lt = c.1 in omega (arith, lt, ap length nests.none))
+  due-told x c (inr change) =
+      let due = due-from x (place_at w opener).bags.waiting (subst (λ xs. Contains xs x) change.due c) in
+      let waits = awaits-waits w opener x due.0 due.2 k.whole in
+      let h = k.waits x waits in
+      let same = awaits-once w opener x due.0 due.2 k.whole h.place h.seen h.waits in
+      elim (holder-is (start_of past x).holder h.place h.held) [
+        | inr other ↦ absurd (other.1 same.0)
+        | inl own ↦ record {
+          change = change-change change;
+          waits = waits;
+          holder = own.0;
+          between = subst (λ m. changes m past ≡ changes m (start_of past x).lines + 2) own.0
+              (omega (arith, h.count, same.1, due.1, awaits-young w opener x due.0 due.2 k.whole));
+        }
       ]
 
-  told-due : (s : ℕ) → IsDueAt name.0 past opening s → Nests holdings_of w opener ⊎ IsChange holdings_of w opener → Contains (reclaims w opener) (Item s)
-  told-due s d (inl nests) = absurd (false≢true (sym (nests-change nests) ∙ d.change))
-  told-due s d (inr change) =
-      let h = k.waits s d.waits in
-      elim (holder-is (start_of past s).holder h.place h.held) [
+  told-due : (x : LimboEntry) → IsDueAt name.0 past opening x → Nests holdings_of w opener ⊎ IsChange holdings_of w opener → Contains (reclaims w opener) x
+  told-due x d (inl nests) = absurd (false≢true (sym (nests-change nests) ∙ d.change))
+  told-due x d (inr change) =
+      let h = k.waits x d.waits in
+      elim (holder-is (start_of past x).holder h.place h.held) [
         | inr other ↦ absurd (other.0 d.holder)
         | inl own ↦
-            (let before : changes (start_of past s).holder past ≡ changes name.0 past = ap (λ m. changes m past) d.holder in
-            let first : changes (start_of past s).holder (start_of past s).lines ≡ changes name.0 (start_of past s).lines =
-            ap (λ m. changes m (start_of past s).lines) d.holder in
+            (let before : changes (start_of past x).holder past ≡ changes name.0 past = ap (λ m. changes m past) d.holder in
+            let first : changes (start_of past x).holder (start_of past x).lines ≡ changes name.0 (start_of past x).lines =
+            ap (λ m. changes m (start_of past x).lines) d.holder in
             let two : h.seen ≡ 2 = omega (arith, h.count, d.between, before, first) in
-            let here : Waits w opener s 2 = subst (λ q. Waits w q s 2) own.1 (subst (λ c. Waits w h.place s c) two h.waits) in
-            let due = entry-due s (place_at w opener).bags.waiting here in
-            let some : 1 ≤ times_among s (reclaims w opener) = omega (arith, due, ap (λ xs. times_among s xs) change.due) in
-            slots-contain (reclaims w opener) s
-            (counted-contains s (slots_among (reclaims w opener)) (omega (arith, some, among-slots s (reclaims w opener)))))
+            let here : AwaitsAt w opener x 2 = subst (λ q. AwaitsAt w q x 2) own.1 (subst (λ c. AwaitsAt w h.place x c) two h.waits) in
+            subst (λ xs. Contains xs x) (sym change.due) (due-there x (place_at w opener).bags.waiting here))
       ]
 
-  pub due-is : (s : ℕ) → Contains (reclaims w opener) (Item s) ↔ IsDueAt name.0 past opening s
-  due-is s = (λ c. due-told s c (how holdings_of w opener live.0), λ d. told-due s d (how holdings_of w opener live.0))
+  pub due-is : (x : LimboEntry) → Contains (reclaims w opener) x ↔ IsDueAt name.0 past opening x
+  due-is x = (λ c. due-told x c (how holdings_of w opener live.0), λ d. told-due x d (how holdings_of w opener live.0))

@@ -11,11 +11,10 @@ use Rattle.sdd_participants.specs.Slab.{Entries}
 use Rattle.sdd_participants.specs.declared.place_states.PlaceState.{PlaceState}
 use Rattle.sdd_participants.proofs.Adopting.{keeps-closed, none-left}
 use Rattle.sdd_space.specs.Adopting.{IsToScan}
-use Rattle.sdd_space.specs.ReclaimBound.{Waits}
 use Rattle.sdd_space.specs.WorldChanges.{closed}
 use Rattle.sdd_space.proofs.Adopted.{adopts-what-is-left}
 use Rattle.sdd_space.proofs.Closes.{how-closed, put-same}
-use Rattle.sdd_space.proofs.Housed.{live-is}
+use Rattle.sdd_space.proofs.Housed.{live-is, nothing-waits}
 use Rattle.sdd_space.proofs.Nesting.{guards-closed, one-if, still-live}
 use Rattle.sdd_space.proofs.Under.{closed-persists}
 use Rattle.sdd_script_text.specs.declared.name.GuardName.{GuardName}
@@ -25,24 +24,26 @@ use Rattle.sdd_script_text.specs.declared.name.PlaceName.{PlaceName}
 use Rattle.sdd_script_text.specs.declared.answer.Reply.TheVariants as reply
 use Rattle.sdd_script_text.specs.declared.call.Call.TheVariants.{At}
 use Rattle.sdd_script_text.specs.declared.call.Action.TheVariants as call
-use Rattle.sdd_script_model.specs.Due.{Line, has_ended, leaves_none_ended, open_guards, start_of}
+use Rattle.sdd_script_model.specs.Due.{Line, adopts, count_shown, has_ended, is_waiting_in, leaves_none_ended, open_guards, start_of}
 use Rattle.sdd_script_model.specs.Script.{IsParticipant}
 use Rattle.sdd_script_model.specs.ScriptState.{place_of}
-use Rattle.sdd_script_model.proofs.History.{home, home-apart, home-inside, begins-not, not-adopted, quiet-guards, none-ended, seen-as, start-adopted, start-kept, HasSeen, HoldsAt, Tells}
+use Rattle.sdd_script_model.proofs.History.{home, home-apart, home-inside, begins-not, not-adopted, quiet-guards, none-ended, seen-as, waits-same, start-adopted, start-kept, HasSeen, HoldsAt, Tells}
 use Rattle.sdd_script_model.proofs.History as history
 use Rattle.sdd_script_model.proofs.Telling.{home-is, line, held-on}
-use Rattle.sdd_script_model.proofs.Terms.{◌≡◌, ◌≢◌, ◌⊎◌, ℕ, ◌+◌, ◌-◌, ◌<◌, ◌≤◌, ◌==◌, Bool, true, false, nat_lt, if◌then◌else◌, List, ◌∷◌, Some, None, length, slice_index_or, inl, inr, refl, sym, ap, ◌∙◌, subst, arith, cases_eq, cases_lt, false≢true, nat_tests, Contains, Item, EpochState, IsLive, is_open, phase_at, Participant, is_waiting, World, IsPlaceOf, place_at, standing_at, IsWhole, Val, ScriptState}
+use Rattle.sdd_script_model.proofs.Awaiting.{AwaitsAt}
+use Rattle.sdd_script_model.proofs.Terms.{LimboEntry, [], ◌≡◌, ◌≢◌, ◌⊎◌, ℕ, ◌+◌, ◌-◌, ◌<◌, ◌≤◌, ◌==◌, Bool, true, false, nat_lt, if◌then◌else◌, List, ◌∷◌, Some, None, length, slice_index_or, inl, inr, refl, sym, ap, ◌∙◌, subst, arith, cases_eq, cases_lt, false≢true, nat_tests, Contains, EpochState, IsLive, is_open, phase_at, Participant, World, IsPlaceOf, place_at, IsWhole, Val, ScriptState}
 
 -- ---- a close scans, or leaves what waits and who has ended as it is
 
 -- what waits, and what each place is, is as before
 pub record StaysPut (t u : EpochState) : Type 0 where
   pub phases : u.phases ≡ t.phases
+  pub count : u.count ≡ t.count
   pub bags : (q : ℕ) → (time.place_at u q).bags ≡ (time.place_at t q).bags
 
 module _ (t : EpochState) (p : ℕ) (l : IsLive t p) where
   put-still : (x : Participant) → x.bags ≡ (time.place_at t p).bags → StaysPut t (with_place t p x)
-  put-still x e = record { phases = refl; bags = put-same (λ (y : Participant). y.bags) t p x l.0 e }
+  put-still x e = record { phases = refl; count = refl; bags = put-same (λ (y : Participant). y.bags) t p x l.0 e }
 
   -- the last guard is closed after a scan that does nothing
   rested-still : (s : EpochState) → s ≡ t → StaysPut t (with_place s p (rested t.marked (time.place_at s p)))
@@ -65,7 +66,7 @@ module _ (t : EpochState) (p : ℕ) (l : IsLive t p) where
   still-more e = rw e (put-still (record (time.place_at t p) { guards = (time.place_at t p).guards - 1 }) refl)
 
   still-shut : one ≡ false → shown ≡ false → StaysPut t (time.closed t p)
-  still-shut e f = rw (e, f) (record { phases = refl; bags = λ q. refl })
+  still-shut e f = rw (e, f) (record { phases = refl; count = refl; bags = λ q. refl })
 
   still-up : one ≡ false → shown ≡ true → down ≡ false → StaysPut t (time.closed t p)
   still-up e f g = rw (e, f, g) (put-still (rested t.marked (time.place_at t p)) refl)
@@ -149,29 +150,43 @@ module _ (past : List Line) (old new : ScriptState) (name : PlaceName) (g : Guar
             ∙ sym (quiet-guards past closing n refl (ne_eqb name.0 n (λ same. ne (sym same)))))
       ]
 
-  module _ (s : ℕ) (waits : is_waiting (standing_at old.world s) ≡ true) where
-    h : HasSeen past old s
-    h = k.waits s waits
+  -- what waited at a place that has ended waits with who scans, as if it began to now
+  adopted-now : IsToScan old.world closer → (x : LimboEntry) (q seen : ℕ) → is_ended (phase_at t q) ≡ true → AwaitsAt old.world q x seen →
+      AwaitsAt new.world closer x 0
+  adopted-now scan x q seen over h =
+      let free = (adopts-what-is-left old.world k.whole closer q scan over).0 in
+      let bare : (place_at new.world q).bags.waiting ≡ [] =
+      after.housed.bare q (ap (λ (w : World Val). phase_at w.time q) world ∙ free) in
+      elim ((how-closed t closer live).waits q (having_seen seen x) h) [
+        | inl still ↦
+            absurd (nothing-waits (place_at (closed old.world closer) q).bags.waiting (having_seen seen x) still
+            (ap (λ (w : World Val). (place_at w q).bags.waiting) (sym world) ∙ bare))
+        | inr moved ↦ subst (λ (w : World Val). AwaitsAt w closer x 0) (sym world) moved.1
+      ]
+
+  module _ (x : LimboEntry) (waits : is_waiting_in old.world x ≡ true) where
+    h : HasSeen past old x
+    h = k.waits x waits
 
     -- it waits still, and its holder is as before
-    goes-on : (is_ended (phase_at t h.place) ≡ true → is_ended (phase_at new.world.time h.place) ≡ true) → Waits new.world h.place s h.seen →
-        HasSeen (closing ∷ past) new s
+    goes-on : (is_ended (phase_at t h.place) ≡ true → is_ended (phase_at new.world.time h.place) ≡ true) → AwaitsAt new.world h.place x h.seen →
+        HasSeen (closing ∷ past) new x
     goes-on stays still =
-        let n = (start_of past s).holder in
-        seen-as (closing ∷ past) new s (start_of past s)
-        (start-kept past closing s (begins-not past closing s waits) (not-adopted past old closing n h.place k.here stays h.held)) h.place h.seen still
+        let n = (start_of past x).holder in
+        seen-as (closing ∷ past) new x (start_of past x)
+        (start-kept past closing x (begins-not past closing x waits) (not-adopted past old closing n h.place k.here stays h.held)) h.place h.seen still
         (held-on past old new (At name (call.Close g)) reply.Done reclaimed ran k after same-home n h.place stays h.held) h.count
 
     -- it waited with one who is there
-    by-live : home old.places (start_of past s).holder ≡ Some h.place → HasSeen (closing ∷ past) new s
+    by-live : home old.places (start_of past x).holder ≡ Some h.place → HasSeen (closing ∷ past) new x
     by-live here =
-        let on : is_ended (phase_at t h.place) ≡ false = ap is_ended (live-is t h.place (k.inside (start_of past s).holder h.place here)) in
+        let on : is_ended (phase_at t h.place) ≡ false = ap is_ended (live-is t h.place (k.inside (start_of past x).holder h.place here)) in
         goes-on (λ over. absurd (false≢true (sym on ∙ over)))
-        (subst (λ (w : World Val). Waits w h.place s h.seen) (sym world)
-        ((closed-persists t closer h.place live on).waits (having_seen h.seen (Item s)) h.waits))
+        (subst (λ (w : World Val). AwaitsAt w h.place x h.seen) (sym world)
+        ((closed-persists t closer h.place live on).waits (having_seen h.seen x) h.waits))
 
     -- it waited with one who has ended
-    by-ended : has_ended (start_of past s).holder past ≡ true → is_ended (phase_at t h.place) ≡ true → HasSeen (closing ∷ past) new s
+    by-ended : has_ended (start_of past x).holder past ≡ true → is_ended (phase_at t h.place) ≡ true → HasSeen (closing ∷ past) new x
     by-ended over place =
         elim (closed-how t closer live) [
           | inl scan ↦
@@ -180,21 +195,36 @@ module _ (past : List Line) (old new : ScriptState) (name : PlaceName) (g : Guar
               ap (λ (w : World Val). list_all (λ phase. not (is_ended phase)) w.time.phases) world
               ∙ ap (λ (xs : Entries PlaceState). list_all (λ phase. not (is_ended phase)) xs) scan.3
               ∙ none-ended (time.adopted t closer).phases (none-left t closer live k.whole.housed.lengths) in
-              seen-as (closing ∷ past) new s (history.here past closing s) (start-adopted past closing s (begins-not past closing s waits) over none) closer 0
-              (subst (λ (w : World Val). Waits w closer s 0) (sym world)
-              ((adopts-what-is-left old.world k.whole closer h.place to_scan place).1 s h.seen h.waits))
-              (inl (same-home name.0 ∙ its-home)) (omega arith))
+              let only : (open_guards name.0 past == 1) ≡ true = eq-eqb (open_guards name.0 past) 1 (sym (k.guards name.0 closer its-home) ∙ scan.0) in
+              let mine : (name.0 == name.0) ≡ true = eq-eqb name.0 name.0 refl in
+              let adopting : adopts past closing ≡ true = rw (mine, only, none) refl in
+              seen-as (closing ∷ past) new x (history.here past closing x) (start-adopted past closing x (begins-not past closing x waits) over adopting)
+              closer 0 (adopted-now to_scan x h.place h.seen place h.waits) (inl (same-home name.0 ∙ its-home)) (omega arith))
           | inr still ↦
-              goes-on (λ e. ap (λ (w : World Val). is_ended (phase_at w.time h.place)) world ∙ ap (λ ps. is_ended (slice_index_or ps h.place None)) still.phases ∙ e)
-              (subst (λ (w : World Val). Waits w h.place s h.seen) (sym world)
-              (subst (λ (b : Bags). Contains b.waiting (having_seen h.seen (Item s))) (sym (still.bags h.place)) h.waits))
+              goes-on
+              (λ e. ap (λ (w : World Val). is_ended (phase_at w.time h.place)) world ∙ ap (λ ps. is_ended (slice_index_or ps h.place None)) still.phases ∙ e)
+              (subst (λ (w : World Val). AwaitsAt w h.place x h.seen) (sym world)
+              (subst (λ (b : Bags). Contains b.waiting (having_seen h.seen x)) (sym (still.bags h.place)) h.waits))
         ]
 
-    waits-on : HasSeen (closing ∷ past) new s
+    waits-on : HasSeen (closing ∷ past) new x
     waits-on = elim h.held [
       | inl here ↦ by-live here
       | inr (none, over, place) ↦ by-ended over place
     ]
+
+  count-now : (count_shown past ≤ new.world.time.count) × (new.world.time.count ≤ count_shown past + 1)
+  count-now =
+      let same = ap (λ (w : World Val). w.time.count) world in
+      elim (closed-how t closer live) [
+        | inl scan ↦
+            (let low = k.behind name.0 closer its-home in
+            elim (how-closed t closer live).goes_on [
+              | inl e ↦ (omega (arith, k.shown.0, scan.2, low, same, e), omega (arith, k.shown.1, scan.2, low, same, e))
+              | inr e ↦ (omega (arith, k.shown.0, scan.2, low, same, e), omega (arith, k.shown.0, scan.2, low, same, e))
+            ])
+        | inr still ↦ (omega (arith, k.shown.0, same, still.count), omega (arith, k.shown.1, same, still.count))
+      ]
 
   pub tells-closes : Tells (closing ∷ past) new
   tells-closes = record {
@@ -211,5 +241,8 @@ module _ (past : List Line) (old new : ScriptState) (name : PlaceName) (g : Guar
         let f = k.fresh n far in
         let in_range = home-inside old.places name.0 closer its-home in
         (f.0, quiet-guards past closing n refl (ne_eqb name.0 n (λ same. absurd (omega (arith, same, l, in_range, ap length places)))) ∙ f.1, f.2));
-    waits = λ s now. waits-on s (sym (ap (λ (w : World Val). is_waiting (standing_at w s)) world) ∙ now);
+    waits = λ x now. waits-on x (sym (ap (λ (w : World Val). is_waiting_in w x) world ∙ waits-same old.world (closed old.world closer) x refl refl) ∙ now);
+    shown = count-now;
+    behind = λ n q e.
+        omega (arith, ap (λ (w : World Val). (place_at w q).found) world, (how-closed t closer live).found q, k.behind n q (was n q e));
   }

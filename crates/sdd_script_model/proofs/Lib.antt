@@ -17,6 +17,7 @@ pub mod CollectorGoing
 pub mod CellGoing
 pub mod InPlaceGoing
 pub mod Runs
+pub mod Awaiting
 pub mod Calm
 pub mod Turns
 pub mod History

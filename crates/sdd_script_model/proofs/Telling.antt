@@ -9,7 +9,7 @@ use Rattle.sdd_participants.specs.Waiting.{having_seen}
 use Rattle.sdd_participants.specs.declared.place_states.PlaceState.{PlaceState}
 use Rattle.sdd_participants.specs.declared.place_states.PlaceState.TheVariants.{Live, Ended}
 use Rattle.sdd_space.specs.WorldChanges.{registered, ended}
-use Rattle.sdd_space.proofs.Housed.{live-is, live-taken, ended-lives, registered-keeps, registered-live, registered-lives, registered-apart, waits-taken}
+use Rattle.sdd_space.proofs.Housed.{live-is, live-taken, ended-lives, registered-keeps, registered-live, registered-lives, registered-apart}
 use Rattle.sdd_script_text.specs.declared.name.ItemName.{ItemName}
 use Rattle.sdd_script_text.specs.declared.name.JobName.{JobName}
 use Rattle.sdd_script_text.specs.declared.name.PlaceName.{PlaceName}
@@ -19,15 +19,16 @@ use Rattle.sdd_script_text.specs.declared.answer.Reply.TheVariants as reply
 use Rattle.sdd_script_text.specs.declared.call.Call.{Call}
 use Rattle.sdd_script_text.specs.declared.call.Call.TheVariants.{Register, At}
 use Rattle.sdd_script_text.specs.declared.call.Action.TheVariants as call
-use Rattle.sdd_script_model.specs.Due.{Line, caller, has_ended, last_found, open_guards, start_of}
+use Rattle.sdd_script_model.specs.Due.{Line, caller, has_ended, is_waiting_in, last_found, open_guards, start_of}
 use Rattle.sdd_script_model.specs.Script.{IsParticipant}
 use Rattle.sdd_script_model.specs.ScriptState as desk
 use Rattle.sdd_script_model.specs.ScriptState.{place_in, place_of}
 use Rattle.sdd_script_model.proofs.Attending.{live-by}
-use Rattle.sdd_script_model.proofs.History.{home, home-apart, home-inside, begins-not, begins-now, not-adopted, quiet-changes, quiet-ended, quiet-found, quiet-guards, none-ended, seen-as, start-adopted, start-begun, start-kept, still-ended, HasSeen, HoldsAt, Tells}
+use Rattle.sdd_script_model.proofs.History.{quiet-shown, home, home-apart, home-inside, begins-not, begins-now, not-adopted, quiet-changes, quiet-ended, quiet-found, quiet-guards, none-ended, seen-as, waits-same, start-adopted, start-begun, start-kept, still-ended, HasSeen, HoldsAt, Tells}
 use Rattle.sdd_script_model.proofs.History as history
 use Rattle.sdd_script_model.proofs.Turns.{CalmLine}
-use Rattle.sdd_script_model.proofs.Terms.{◌≡◌, ◌≢◌, ◌⊎◌, ℕ, ◌<◌, ◌≤◌, Bool, true, false, nat_lt, List, ◌∷◌, Option, Some, None, IsSome, is_some, length, slice_index_or, inl, inr, refl, sym, ap, ◌∙◌, subst, arith, cases_eq, false≢true, nat_tests, Contains, Item, EpochState, IsLive, IsVacant, nobody, phase_at, Participant, is_waiting, World, IsPlaceOf, place_at, standing_at, IsWhole, Val, ScriptState, OpenSince, opening_at, later, at-other, at-same, at-pushed, at-end, at-default, inside}
+use Rattle.sdd_script_model.proofs.Awaiting.{awaits-taken}
+use Rattle.sdd_script_model.proofs.Terms.{LimboEntry, ◌≡◌, ◌≢◌, ◌⊎◌, ℕ, ◌<◌, ◌≤◌, Bool, true, false, nat_lt, List, ◌∷◌, Option, Some, None, IsSome, is_some, length, slice_index_or, inl, inr, refl, sym, ap, ◌∙◌, subst, arith, cases_eq, false≢true, nat_tests, Contains, EpochState, IsLive, IsVacant, nobody, phase_at, Participant, World, IsPlaceOf, place_at, IsWhole, Val, ScriptState, OpenSince, opening_at, later, at-other, at-same, at-pushed, at-end, at-default, inside}
 
 -- where a participant that is there is
 pub home-is : (d : ScriptState) (n : ℕ) → IsParticipant d n → home d.places n ≡ Some (place_of d n)
@@ -72,22 +73,26 @@ module _ (past : List Line) (old new : ScriptState) (call : Call) (given : Reply
               quiet-guards past line n (c.no_opening n) (c.no_close n) ∙ f.1,
               quiet-ended past line n (c.no_end n) ∙ f.2,
             ));
-        waits = λ s now. by s now (is_waiting (standing_at old.world s)) refl;
+        waits = λ x now. by x now (is_waiting_in old.world x) refl;
+        shown =
+            (let same = quiet-shown past line 0 (c.no_opening (caller call)) in
+            (omega (arith, k.shown.0, same, c.world.count), omega (arith, k.shown.1, same, c.world.count)));
+        behind = λ n q e. omega (arith, k.behind n q (was n q e), c.world.found q, quiet-shown past line 0 (c.no_opening (caller call)));
       } where
-        by : (s : ℕ) → is_waiting (standing_at new.world s) ≡ true → (b : Bool) → is_waiting (standing_at old.world s) ≡ b → HasSeen (line ∷ past) new s
-        by s now true was =
-            let h = k.waits s was in
-            let n = (start_of past s).holder in
+        by : (x : LimboEntry) → is_waiting_in new.world x ≡ true → (b : Bool) → is_waiting_in old.world x ≡ b → HasSeen (line ∷ past) new x
+        by x now true was =
+            let h = k.waits x was in
+            let n = (start_of past x).holder in
             let stays = λ (e : is_ended (phase_at old.world.time h.place) ≡ true). ap (λ ps. is_ended (slice_index_or ps h.place None)) c.world.phases ∙ e in
-            seen-as (line ∷ past) new s (start_of past s)
-            (start-kept past line s (begins-not past line s was) (not-adopted past old line n h.place k.here stays h.held)) h.place h.seen
-            (c.world.kept h.place s h.seen h.waits now) (held-on (λ m. ap (λ ps. home ps m) c.places) n h.place stays h.held)
+            seen-as (line ∷ past) new x (start_of past x)
+            (start-kept past line x (begins-not past line x was) (not-adopted past old line n h.place k.here stays h.held)) h.place h.seen
+            (c.world.kept h.place x h.seen h.waits now) (held-on (λ m. ap (λ ps. home ps m) c.places) n h.place stays h.held)
             (quiet-changes past line n (c.no_opening n) ∙ h.count)
-        by s now false was =
-            let own = c.own s now was in
+        by x now false was =
+            let own = c.own x now was in
             let there : home old.places (caller call) ≡ Some c.place = ap (option_map (λ (x : OpenSince). x.place)) own.1 ∙ ap (λ q. Some q) own.2 in
-            seen-as (line ∷ past) new s (history.here past line s) (start-begun past line s (begins-now past line s now was)) c.place 0
-            (c.world.begun s now was) (inl (ap (λ ps. home ps (caller call)) c.places ∙ there)) (omega arith)
+            seen-as (line ∷ past) new x (history.here past line x) (start-begun past line x (begins-now past line x now was)) c.place 0
+            (c.world.begun x now was) (inl (ap (λ ps. home ps (caller call)) c.places ∙ there)) (omega arith)
 
 -- ---- a participant comes
 
@@ -101,6 +106,12 @@ vacant-ended t p q lengths (inl empty) over same =
     false≢true (sym (ap is_ended empty.1) ∙ ap (λ r. is_ended (phase_at t r)) (sym same) ∙ over)
 vacant-ended t p q lengths (inr next) over same =
     absurd (omega (arith, inside t.phases q (ended-there (phase_at t q) over), lengths, next.0, same))
+
+registered-count : (t : EpochState) (p : ℕ) → (time.registered t p).count ≡ t.count
+registered-count t p = by (nat_lt p (length t.places)) refl where
+  by : (b : Bool) → nat_lt p (length t.places) ≡ b → (time.registered t p).count ≡ t.count
+  by true e = rw e refl
+  by false e = rw e refl
 
 module _ (t : EpochState) (p : ℕ) (lengths : length t.phases ≡ length t.places) (vacant : IsVacant t p) where
   -- the newcomer's place
@@ -202,7 +213,19 @@ module _ (past : List Line) (old new : ScriptState) (name : PlaceName) (reclaime
           | inr h ↦ k.here n q h.1
         ];
     fresh = λ n l. k.fresh n (omega (arith, l, ap length places, length_push old.places (Some (record { place = p; since = 0 }))));
-    waits = λ s now. by s (sym (ap (λ (w : World Val). is_waiting (standing_at w s)) world) ∙ now);
+    waits = λ x now. by x (sym (ap (λ (w : World Val). is_waiting_in w x) world ∙ waits-same old.world (registered old.world p) x refl refl) ∙ now);
+    shown =
+        (let same : new.world.time.count ≡ old.world.time.count =
+        ap (λ (w : World Val). w.time.count) world ∙ registered-count old.world.time p in
+        (omega (arith, k.shown.0, same), omega (arith, k.shown.1, same)));
+    behind = λ n q e.
+        elim (each-home n q e) [
+          | inl h ↦
+              (let none : (place_at new.world q).found ≡ 0 =
+              subst (λ r. (place_at new.world r).found ≡ 0) h.1 (ap (λ (x : Participant). x.found) own-place) in
+              omega (arith, none))
+          | inr h ↦ omega (arith, ap (λ (x : Participant). x.found) (same-place n q h.1), k.behind n q h.1)
+        ];
   } where
     held : (n q : ℕ) → HoldsAt past old n q → HoldsAt (coming ∷ past) new n q
     held n q (inl there) = (let l = home-inside old.places n q there in inl (other-home n (λ same. absurd (omega (arith, l, same))) ∙ there))
@@ -213,18 +236,18 @@ module _ (past : List Line) (old new : ScriptState) (name : PlaceName) (reclaime
           ap (λ (w : World Val). is_ended (phase_at w.time q)) world ∙ registered-ended old.world.time p lengths vacant q place,
         )
 
-    by : (s : ℕ) → is_waiting (standing_at old.world s) ≡ true → HasSeen (coming ∷ past) new s
-    by s was =
-        let h = k.waits s was in
-        let n = (start_of past s).holder in
+    by : (x : LimboEntry) → is_waiting_in old.world x ≡ true → HasSeen (coming ∷ past) new x
+    by x was =
+        let h = k.waits x was in
+        let n = (start_of past x).holder in
         let stays = λ (e : is_ended (phase_at old.world.time h.place) ≡ true).
         ap (λ (w : World Val). is_ended (phase_at w.time h.place)) world ∙ registered-ended old.world.time p lengths vacant h.place e in
         let same : place_at new.world h.place ≡ place_at old.world h.place =
         ap (λ (w : World Val). place_at w h.place) world
-        ∙ registered-keeps old.world.time p h.place (waits-taken old.world h.place s h.seen k.whole h.waits) vacant in
-        seen-as (coming ∷ past) new s (start_of past s)
-        (start-kept past coming s (begins-not past coming s was) (not-adopted past old coming n h.place k.here stays h.held)) h.place h.seen
-        (subst (λ (x : Participant). Contains x.bags.waiting (having_seen h.seen (Item s))) (sym same) h.waits) (held n h.place h.held) h.count
+        ∙ registered-keeps old.world.time p h.place (awaits-taken old.world h.place x h.seen h.waits k.whole) vacant in
+        seen-as (coming ∷ past) new x (start_of past x)
+        (start-kept past coming x (begins-not past coming x was) (not-adopted past old coming n h.place k.here stays h.held)) h.place h.seen
+        (subst (λ (y : Participant). Contains y.bags.waiting (having_seen h.seen x)) (sym same) h.waits) (held n h.place h.held) h.count
 
 -- ---- a participant goes
 
@@ -289,7 +312,10 @@ module _ (past : List Line) (old new : ScriptState) (name : PlaceName) (reclaime
           quiet-ended past going n
               (ne_eqb name.0 n (λ same. absurd (omega (arith, same, l, in_range, ap length places, length-set old.places name.0 None)))) ∙ f.2,
         ));
-    waits = λ s now. by s (sym (ap (λ (w : World Val). is_waiting (standing_at w s)) world) ∙ now);
+    waits = λ x now. by x (sym (ap (λ (w : World Val). is_waiting_in w x) world ∙ waits-same old.world (ended old.world ender) x refl refl) ∙ now);
+    shown =
+        (let same = ap (λ (w : World Val). w.time.count) world in (omega (arith, k.shown.0, same), omega (arith, k.shown.1, same)));
+    behind = λ n q e. omega (arith, ap (λ (x : Participant). x.found) (as-before q), k.behind n q (left-home n q e).1);
   } where
     held : (n q : ℕ) → HoldsAt past old n q → HoldsAt (going ∷ past) new n q
     held n q (inl here) =
@@ -303,11 +329,11 @@ module _ (past : List Line) (old new : ScriptState) (name : PlaceName) (reclaime
     held n q (inr (none, over, place)) =
         inr (rest-home n (λ same. not-some (sym none ∙ ap (λ m. home old.places m) same ∙ its-home)) ∙ none, still-ended past going n over, over-still q place)
 
-    by : (s : ℕ) → is_waiting (standing_at old.world s) ≡ true → HasSeen (going ∷ past) new s
-    by s was =
-        let h = k.waits s was in
-        let n = (start_of past s).holder in
-        seen-as (going ∷ past) new s (start_of past s)
-        (start-kept past going s (begins-not past going s was) (not-adopted past old going n h.place k.here (over-still h.place) h.held)) h.place h.seen
-        (subst (λ (x : Participant). Contains x.bags.waiting (having_seen h.seen (Item s))) (sym (as-before h.place)) h.waits)
+    by : (x : LimboEntry) → is_waiting_in old.world x ≡ true → HasSeen (going ∷ past) new x
+    by x was =
+        let h = k.waits x was in
+        let n = (start_of past x).holder in
+        seen-as (going ∷ past) new x (start_of past x)
+        (start-kept past going x (begins-not past going x was) (not-adopted past old going n h.place k.here (over-still h.place) h.held)) h.place h.seen
+        (subst (λ (y : Participant). Contains y.bags.waiting (having_seen h.seen x)) (sym (as-before h.place)) h.waits)
         (held n h.place h.held) h.count

@@ -4,6 +4,7 @@ use Rattle.sdd_core.specs.declared.refused.Refused.TheVariants.{NoPlace, NoCell,
 use Rattle.sdd_script_text.specs.declared.name.PlaceName.{PlaceName}
 use Rattle.sdd_script_text.specs.declared.name.GuardName.{GuardName}
 use Rattle.sdd_script_text.specs.declared.name.OwnerName.{OwnerName}
+use Rattle.sdd_core.specs.Epoch.{epoch_of}
 use Rattle.sdd_core.specs.declared.epoch.Epoch.{Epoch}
 use Rattle.sdd_participants.specs.declared.standing.CellContents.{CellContents}
 use Rattle.sdd_space.specs.Collecting.{collected, collector_closed, owner_collected}
@@ -19,21 +20,21 @@ use Rattle.sdd_script_text.specs.declared.call.Action.TheVariants as call
 use Rattle.sdd_script_text.specs.declared.answer.Reply.{Reply}
 use Rattle.sdd_script_text.specs.declared.answer.Reply.TheVariants as reply
 use Rattle.sdd_script_model.specs.Collecting.{Collects}
-use Rattle.sdd_script_model.specs.Due.{caller, is_opening, is_close, is_end}
+use Rattle.sdd_script_model.specs.Due.{caller, is_opening, is_close, is_end, is_waiting_in}
 use Rattle.sdd_script_model.specs.InPlace.{Drops}
 use Rattle.sdd_script_model.specs.Script.{AddsOwner, Does, GivesOwner, IsParticipant, IsValid, MakesCell, Meets, cell_as, shared_once_more}
 use Rattle.sdd_script_model.specs.ScriptState as desk
 use Rattle.sdd_script_model.specs.ScriptState.{place_of, place_in}
 use Rattle.sdd_script_model.proofs.Calm.{Calmly, calm-accelerated, calm-collector, calm-deferred, calm-gives, calm-still, calm-stirred, still-begins}
-use Rattle.sdd_script_model.proofs.Terms.{◌≡◌, ℕ, ◌+◌, ◌-◌, ◌<◌, Bool, true, false, nat_lt, if◌then◌else◌, List, [], ◌∷◌, Option, Some, None, IsSome, length, refl, sym, ap, ◌∙◌, subst, false≢true, Participant, nobody, IsVacant, Shared, is_waiting, World, IsPlaceOf, standing_at, retired, owner_given, cell_closed, opened, IsWhole, Val, holdings_of, ScriptState, OpenSince, opening_at}
+use Rattle.sdd_script_model.proofs.Terms.{LimboEntry, ◌≡◌, ℕ, ◌+◌, ◌-◌, ◌<◌, Bool, true, false, nat_lt, if◌then◌else◌, List, [], ◌∷◌, Option, Some, None, IsSome, length, refl, sym, ap, ◌∙◌, subst, false≢true, Participant, nobody, IsVacant, Shared, World, IsPlaceOf, retired, owner_given, cell_closed, opened, IsWhole, Val, holdings_of, LimboEntry, ScriptState, OpenSince, opening_at}
 
 -- nobody comes or goes, no guard is opened or closed, and what begins to wait waits with the participant whose line it is
 pub record CalmLine (d new : ScriptState) (call : Call) (given : Reply) : Type 0 where
   pub place : ℕ
   pub world : Calmly place d.world new.world
   pub places : new.places ≡ d.places
-  pub own : (s : ℕ) → is_waiting (standing_at new.world s) ≡ true → is_waiting (standing_at d.world s) ≡ false →
-      (x : OpenSince) × (opening_at d.places (caller call) ≡ Some x) × (x.place ≡ place)
+  pub own : (x : LimboEntry) → is_waiting_in new.world x ≡ true → is_waiting_in d.world x ≡ false →
+      (y : OpenSince) × (opening_at d.places (caller call) ≡ Some y) × (y.place ≡ place)
   pub no_opening : (k : ℕ) → is_opening k call given ≡ false
   pub no_close : (k : ℕ) → is_close k call given ≡ false
   pub no_end : (k : ℕ) → is_end k call given ≡ false
@@ -44,7 +45,8 @@ pub data Turn (d new : ScriptState) : Call → Reply → Type 0 where
       new.places ≡ (desk.with_newcomer d p).places → Turn d new Register (reply.Place name)
   goes : (n : PlaceName) → IsParticipant d n.0 → new.world ≡ ended d.world (place_of d n.0) → new.places ≡ (desk.without_participant d n.0).places →
       Turn d new (At n call.End) reply.Done
-  opens : (n : PlaceName) (g : GuardName) (epoch : Epoch) → IsParticipant d n.0 → new.world ≡ opened holdings_of d.world (place_of d n.0) →
+  opens : (n : PlaceName) (g : GuardName) (epoch : Epoch) → IsParticipant d n.0 → epoch ≡ epoch_of new.world.time.count →
+      new.world ≡ opened holdings_of d.world (place_of d n.0) →
       new.places ≡ (desk.with_guard d n.0 (place_of d n.0)).places → Turn d new (At n call.Open) (reply.Guard g epoch)
   closes : (n : PlaceName) (g : GuardName) → IsParticipant d n.0 → new.world ≡ closed d.world (place_of d n.0) → new.places ≡ d.places →
       Turn d new (At n (call.Close g)) reply.Done
@@ -56,7 +58,8 @@ Still d new = (new.world.time ≡ d.world.time) × (new.places ≡ d.places)
 same-desk : (d new : ScriptState) → new ≡ d → Still d new
 same-desk d new e = (ap (λ (x : ScriptState). x.world.time) e, ap (λ (x : ScriptState). x.places) e)
 
-still-owner : (d : ScriptState) (w : World Val) (h : OwnerOrCell) (o : OwnerName) (new : ScriptState) → w.time ≡ d.world.time → GivesOwner d w h o new → Still d new
+still-owner : (d : ScriptState) (w : World Val) (h : OwnerOrCell) (o : OwnerName) (new : ScriptState) →
+    w.time ≡ d.world.time → GivesOwner d w h o new → Still d new
 still-owner d w h o new e gives = (ap (λ (x : ScriptState). x.world.time) gives.1 ∙ e, ap (λ (x : ScriptState). x.places) gives.1)
 
 still-adds : (d : ScriptState) (k : ℕ) (given : Reply) (new : ScriptState) → AddsOwner d k given new → Still d new
@@ -65,7 +68,8 @@ still-adds d k (reply.Owner o) new (owners, is, few, gives) =
 still-adds d k (reply.Refused TooManyOwners) new does = same-desk d new does.1
 still-adds d k other new never = absurd never
 
-still-cell : (d : ScriptState) (x : Option OwnerName) (kind : ℕ → ScriptState → OwnerOrCell) (given : Reply) (new : ScriptState) → MakesCell d x kind given new →
+still-cell : (d : ScriptState) (x : Option OwnerName) (kind : ℕ → ScriptState → OwnerOrCell) (given : Reply) (new : ScriptState) →
+    MakesCell d x kind given new →
     Still d new
 still-cell d x kind (reply.Cell c) new (named, (k, free, leaves)) = (ap (λ (y : ScriptState). y.world.time) leaves, ap (λ (y : ScriptState). y.places) leaves)
 still-cell d x kind (reply.Refused NoCell) new does = same-desk d new does.1
@@ -170,8 +174,9 @@ module _ (d new : ScriptState) (whole : IsWhole d.world) (after : IsWhole new.wo
   turn-does : (n : PlaceName) (action : Action) (given : Reply) → IsValid d n.0 action → Does d n.0 (place_of d n.0) action given new →
       Turn d new (At n action) given
   turn-does n call.Open (reply.Guard g epoch) valid (nests, name, is, leaves) =
-      opens n g epoch valid (ap (λ (e : ScriptState). e.world) leaves) (ap (λ (e : ScriptState). e.places) leaves)
-  turn-does n call.Open (reply.Refused TooManyGuards) valid (full, e) = still (At n call.Open) (reply.Refused TooManyGuards) (λ k. (refl, refl, refl)) (same-desk d new e)
+      opens n g epoch valid is (ap (λ (e : ScriptState). e.world) leaves) (ap (λ (e : ScriptState). e.places) leaves)
+  turn-does n call.Open (reply.Refused TooManyGuards) valid (full, e) =
+      still (At n call.Open) (reply.Refused TooManyGuards) (λ k. (refl, refl, refl)) (same-desk d new e)
   turn-does n (call.Epoch g) (reply.Epoch epoch) valid (is, e) = still (At n (call.Epoch g)) (reply.Epoch epoch) (λ k. (refl, refl, refl)) (same-desk d new e)
   turn-does n (call.Garbage g) (reply.Truth b) valid (is, e) = still (At n (call.Garbage g)) (reply.Truth b) (λ k. (refl, refl, refl)) (same-desk d new e)
   turn-does n (call.Set g) reply.Done valid leaves =
@@ -186,7 +191,8 @@ module _ (d new : ScriptState) (whole : IsWhole d.world) (after : IsWhole new.wo
       acts n (call.Defer g) (reply.Job j) (λ k. (refl, refl, refl)) valid.0 (ap (λ (e : ScriptState). e.places) leaves)
       (calm-as (place_of d n.0) (steps.deferred d.world (place_of d n.0) k) (ap (λ (e : ScriptState). e.world) leaves)
       (calm-deferred d.world (place_of d n.0) (live n.0 valid.0).0 whole k))
-  turn-does n (call.Defer g) (reply.Refused NoJob) valid (full, e) = still (At n (call.Defer g)) (reply.Refused NoJob) (λ k. (refl, refl, refl)) (same-desk d new e)
+  turn-does n (call.Defer g) (reply.Refused NoJob) valid (full, e) =
+      still (At n (call.Defer g)) (reply.Refused NoJob) (λ k. (refl, refl, refl)) (same-desk d new e)
   turn-does n (call.Close g) reply.Done valid leaves =
       closes n g valid.0 (ap (λ (e : ScriptState). e.world) leaves) (ap (λ (e : ScriptState). e.places) leaves)
   turn-does n call.End reply.Done valid (shut, leaves) =
@@ -195,11 +201,13 @@ module _ (d new : ScriptState) (whole : IsWhole d.world) (after : IsWhole new.wo
   turn-does n (call.Owned value) (reply.Item o i) valid (name, (k, w, makes, given)) =
       still (At n (call.Owned value)) (reply.Item o i) (λ k. (refl, refl, refl))
       (ap (λ (e : ScriptState). e.world.time) given.1 ∙ ap (λ (u : World Val). u.time) makes.made, ap (λ (e : ScriptState). e.places) given.1)
-  turn-does n (call.Owned value) (reply.Refused r) valid (is, e) = still (At n (call.Owned value)) (reply.Refused r) (λ k. (refl, refl, refl)) (same-desk d new e)
+  turn-does n (call.Owned value) (reply.Refused r) valid (is, e) =
+      still (At n (call.Owned value)) (reply.Refused r) (λ k. (refl, refl, refl)) (same-desk d new e)
   turn-does n (call.Shared value) (reply.Item o i) valid (name, (k, w, makes, given)) =
       still (At n (call.Shared value)) (reply.Item o i) (λ k. (refl, refl, refl))
       (ap (λ (e : ScriptState). e.world.time) given.1 ∙ ap (λ (u : World Val). u.time) makes.made, ap (λ (e : ScriptState). e.places) given.1)
-  turn-does n (call.Shared value) (reply.Refused r) valid (is, e) = still (At n (call.Shared value)) (reply.Refused r) (λ k. (refl, refl, refl)) (same-desk d new e)
+  turn-does n (call.Shared value) (reply.Refused r) valid (is, e) =
+      still (At n (call.Shared value)) (reply.Refused r) (λ k. (refl, refl, refl)) (same-desk d new e)
   turn-does n (call.Read o) given valid (is, e) = still (At n (call.Read o)) given (λ k. (refl, refl, refl)) (same-desk d new e)
   turn-does n (call.Look i g) given valid (is, e) = still (At n (call.Look i g)) given (λ k. (refl, refl, refl)) (same-desk d new e)
   turn-does n (call.Upgrade i g) reply.Nothing valid (is, e) = still (At n (call.Upgrade i g)) reply.Nothing (λ k. (refl, refl, refl)) (same-desk d new e)
@@ -217,7 +225,8 @@ module _ (d new : ScriptState) (whole : IsWhole d.world) (after : IsWhole new.wo
   turn-does n (call.Put o number) reply.Done valid (k, w, is, may, puts, leaves) =
       still (At n (call.Put o number)) reply.Done (λ k. (refl, refl, refl))
       (ap (λ (e : ScriptState). e.world.time) leaves ∙ ap (λ (u : World Val). u.time) puts.put, ap (λ (e : ScriptState). e.places) leaves)
-  turn-does n (call.Put o number) (reply.Refused r) valid (is, e) = still (At n (call.Put o number)) (reply.Refused r) (λ k. (refl, refl, refl)) (same-desk d new e)
+  turn-does n (call.Put o number) (reply.Refused r) valid (is, e) =
+      still (At n (call.Put o number)) (reply.Refused r) (λ k. (refl, refl, refl)) (same-desk d new e)
   turn-does n (call.Drop o) (reply.Refused GuardOpen) valid (is, e) =
       still (At n (call.Drop o)) (reply.Refused GuardOpen) (λ k. (refl, refl, refl)) (same-desk d new e)
   turn-does n (call.Drop o) given valid does =
@@ -225,7 +234,8 @@ module _ (d new : ScriptState) (whole : IsWhole d.world) (after : IsWhole new.wo
       (gives-as (place_of d n.0) d.world new.world does.1 (ap (λ (e : ScriptState). e.world) does.4)
       (gives-drops d.world (place_of d n.0) does.0 given does.1 (live n.0 valid.0).0 does.3))
   turn-does n (call.Raw o) (reply.Raw i) valid (k, is, name, leaves) =
-      still (At n (call.Raw o)) (reply.Raw i) (λ k. (refl, refl, refl)) (ap (λ (e : ScriptState). e.world.time) leaves, ap (λ (e : ScriptState). e.places) leaves)
+      still (At n (call.Raw o)) (reply.Raw i) (λ k. (refl, refl, refl))
+      (ap (λ (e : ScriptState). e.world.time) leaves, ap (λ (e : ScriptState). e.places) leaves)
   turn-does n (call.Unraw i) reply.Nothing valid (is, e) = still (At n (call.Unraw i)) reply.Nothing (λ k. (refl, refl, refl)) (same-desk d new e)
   turn-does n (call.Unraw i) (reply.Owner o) valid (raw, given) =
       still (At n (call.Unraw i)) (reply.Owner o) (λ k. (refl, refl, refl))
@@ -237,7 +247,8 @@ module _ (d new : ScriptState) (whole : IsWhole d.world) (after : IsWhole new.wo
   turn-does n (call.CellShared x) given valid does =
       still (At n (call.CellShared x)) given (λ k. (refl, refl, refl))
       (still-cell d x (cell_as (Some (holding.atomic_shared 0 d.world.home.cells))) given new does)
-  turn-does n (call.Load c g) (reply.Pointer i tag) valid (is, e) = still (At n (call.Load c g)) (reply.Pointer i tag) (λ k. (refl, refl, refl)) (same-desk d new e)
+  turn-does n (call.Load c g) (reply.Pointer i tag) valid (is, e) =
+      still (At n (call.Load c g)) (reply.Pointer i tag) (λ k. (refl, refl, refl)) (same-desk d new e)
   turn-does n (call.Tag c) (reply.Tag tag) valid (is, e) = still (At n (call.Tag c)) (reply.Tag tag) (λ k. (refl, refl, refl)) (same-desk d new e)
   turn-does n (call.Swap c x tag) (reply.Swapped o was) valid (k, cell, is, name, same, leaves) =
       still (At n (call.Swap c x tag)) (reply.Swapped o was) (λ k. (refl, refl, refl))
@@ -255,7 +266,8 @@ module _ (d new : ScriptState) (whole : IsWhole d.world) (after : IsWhole new.wo
   turn-does n (call.Copy c g) (reply.Cell r) valid (name, (k, cell, is, (owners, other, may, free, leaves))) =
       still (At n (call.Copy c g)) (reply.Cell r) (λ k. (refl, refl, refl))
       (ap (λ (e : ScriptState). e.world.time) leaves ∙ still-shared d.world cell.held owners, ap (λ (e : ScriptState). e.places) leaves)
-  turn-does n (call.Copy c g) (reply.Refused NoCell) valid (full, e) = still (At n (call.Copy c g)) (reply.Refused NoCell) (λ k. (refl, refl, refl)) (same-desk d new e)
+  turn-does n (call.Copy c g) (reply.Refused NoCell) valid (full, e) =
+      still (At n (call.Copy c g)) (reply.Refused NoCell) (λ k. (refl, refl, refl)) (same-desk d new e)
   turn-does n (call.Copy c g) (reply.Refused TooManyOwners) valid (some, full, e) =
       still (At n (call.Copy c g)) (reply.Refused TooManyOwners) (λ k. (refl, refl, refl)) (same-desk d new e)
   turn-does n (call.Share c g) reply.Nothing valid (is, e) = still (At n (call.Share c g)) reply.Nothing (λ k. (refl, refl, refl)) (same-desk d new e)
@@ -266,8 +278,10 @@ module _ (d new : ScriptState) (whole : IsWhole d.world) (after : IsWhole new.wo
       (gives-as (place_of d n.0) d.world new.world (cell_closed d.world (place_of d n.0) k) (ap (λ (e : ScriptState). e.world) leaves)
       (Gives-cell_closed d.world (place_of d n.0) k (live n.0 valid.0).0))
   turn-does n call.Collector (reply.Collector k) valid (name, (c, free, leaves)) =
-      still (At n call.Collector) (reply.Collector k) (λ k. (refl, refl, refl)) (ap (λ (e : ScriptState). e.world.time) leaves, ap (λ (e : ScriptState). e.places) leaves)
-  turn-does n call.Collector (reply.Refused NoCell) valid (full, e) = still (At n call.Collector) (reply.Refused NoCell) (λ k. (refl, refl, refl)) (same-desk d new e)
+      still (At n call.Collector) (reply.Collector k) (λ k. (refl, refl, refl))
+      (ap (λ (e : ScriptState). e.world.time) leaves, ap (λ (e : ScriptState). e.places) leaves)
+  turn-does n call.Collector (reply.Refused NoCell) valid (full, e) =
+      still (At n call.Collector) (reply.Refused NoCell) (λ k. (refl, refl, refl)) (same-desk d new e)
   turn-does n (call.Collect o g k) given valid (c, h, w, is, at, collects, leaves) =
       gives n (call.Collect o g k) given (λ k. (refl, refl, refl)) valid.0.0 (ap (λ (e : ScriptState). e.places) leaves)
       (gives-as (place_of d n.0) d.world new.world w (ap (λ (e : ScriptState). e.world) leaves)
