@@ -11,3 +11,5 @@ mod machine_sizes;
 mod refusals;
 #[cfg(test)]
 mod tags;
+#[cfg(test)]
+mod tried_again;

@@ -68,7 +68,7 @@ pub record KeepsGuards (old new : World Val) : Type 0 where
   pub places : length new.time.places ≡ length old.time.places
   pub guards : (q : ℕ) → (place_at new q).guards ≡ (place_at old q).guards
 
-live-by : (t u : EpochState) → u.phases ≡ t.phases → length u.places ≡ length t.places → (q : ℕ) → IsLive t q → IsLive u q
+pub live-by : (t u : EpochState) → u.phases ≡ t.phases → length u.places ≡ length t.places → (q : ℕ) → IsLive t q → IsLive u q
 live-by t u phases places q live =
     (omega (arith, live.0, places), subst (λ (ps : Entries PlaceState). IsTrue (slice_index_or (map is_live ps) q false)) (sym phases) live.1)
 

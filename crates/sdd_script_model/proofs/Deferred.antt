@@ -93,7 +93,7 @@ module _ (w : World Val) (p : ℕ) (whole : IsWhole w) (live : IsPlaceOf w p) wh
   runs-taken k c = (law.runs p k live c).0
 
   -- a place that is taken after an opening was taken before
-  taken-before : (k : ℕ) → IsSome (entry_at (opened holdings_of w p).jobs k) → IsSome (entry_at w.jobs k)
+  pub taken-before : (k : ℕ) → IsSome (entry_at (opened holdings_of w p).jobs k) → IsSome (entry_at w.jobs k)
   taken-before k some = by (entry_at w.jobs k) refl where
     by : (x : Option (Unit {0})) → entry_at w.jobs k ≡ x → IsSome x
     by (Some u) is = refl

@@ -150,7 +150,7 @@ module _ (d : ScriptState) where
 pub layered-for : (d new : ScriptState) (w : World Val) → new.world ≡ w → new.names ≡ d.names → AreLayered d w → HoldsOnlyOlder new
 layered-for d new w world names l = rw (world, names) l
 
-blank-at : {E : Type 0} (n k : ℕ) → slice_index_or (replicate {A = Option E} n None) k None ≡ None
+pub blank-at : {E : Type 0} (n k : ℕ) → slice_index_or (replicate {A = Option E} n None) k None ≡ None
 blank-at zero k = refl
 blank-at (suc n) zero = refl
 blank-at (suc n) (suc k) = blank-at n k

@@ -17,3 +17,11 @@ pub mod CollectorGoing
 pub mod CellGoing
 pub mod InPlaceGoing
 pub mod Runs
+pub mod Awaiting
+pub mod Calm
+pub mod Turns
+pub mod History
+pub mod Telling
+pub mod Leaving
+pub mod Entering
+pub mod Due

@@ -4,6 +4,7 @@ pub mod Made
 pub mod Shown
 pub mod InPlace
 pub mod Collecting
+pub mod Due
 pub mod Script
 pub mod Sound
 pub mod Held

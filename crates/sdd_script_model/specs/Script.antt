@@ -41,6 +41,7 @@ use Rattle.sdd_script_model.specs.Collecting.{Collects}
 use Rattle.sdd_script_model.specs.InPlace.{OwnsNumber, Puts, Drops, RefusesDrop, IsRaw}
 use Rattle.sdd_script_model.specs.ScriptState.{ScriptState, OpenSince, IsStart, IsDated, IsThere, WaitsAt, Leaves, opening_at, holding_at, slot_at, date_at, place_of, since_of, slot_of, sole_slot, shared_slot, shared_cell, collector_of, in_world, with_owner, without_owner, with_collector, without_collector, with_item, with_job, with_newcomer, without_participant, with_guard, without_guard, later}
 use Rattle.sdd_script_model.specs.ScriptState as desk
+use Rattle.sdd_script_model.specs.Due.{Line, NamesWhatIsDue}
 
 -- ---- what is there, and of the right kind
 
@@ -412,8 +413,18 @@ Runs old (call ∷ calls) (answer ∷ answers) new = (mid : ScriptState) × Line
 Runs old [] (answer ∷ answers) new = ⊥
 Runs old (call ∷ calls) [] new = ⊥
 
+-- and each opening among them names exactly what is due at it, after these lines, the newest first
+abbrev pub EachNamesWhatIsDue : List Line → (old : ScriptState) (calls : List Call) (answers : List Answer) (new : ScriptState) →
+    Runs old calls answers new → Type 0
+EachNamesWhatIsDue past old (call ∷ calls) (answer ∷ answers) new (mid, step, time, rest) =
+    let line : Line = record { before = old; call = call; answer = answer; after = mid } in
+    NamesWhatIsDue past line × EachNamesWhatIsDue (line ∷ past) mid calls answers new rest
+EachNamesWhatIsDue past old calls answers new runs = Unit {0}
+
 -- a whole script, on a new world within these limits: each line is answered as is meant and leaves what is meant
 pub record IsRun (limits : Limits) (calls : List Call) (answers : List Answer) (scene : ScriptState) : Type 0 where
   pub start : ScriptState
   pub begins : IsStart limits start
   pub runs : Runs start calls answers scene
+  -- what is due is said by the lines and their order
+  pub due : EachNamesWhatIsDue [] start calls answers scene runs

@@ -2,6 +2,8 @@ use Rattle.std.proofs.lemmas.List.{take_more, take_all}
 use Rattle.std.proofs.Common.{length, ap, arith}
 use Rattle.std.proofs.lemmas.List.{length_push}
 use Rattle.sdd_script_text.specs.declared.call.Call.TheVariants.{Register}
+use Rattle.sdd_script_model.specs.Script.{Runs}
+use Rattle.sdd_script_model.proofs.Due.{run-due}
 use Rattle.sdd_script_model.proofs.Runs.{runs-push}
 use Rattle.sdd_script.proofs.runner.run.Goals as goal
 
@@ -22,4 +24,10 @@ pub returns-clause-run : goal.returns-clause-run
 returns-clause-run c =
     let done = c.loop-call-test.false in
     let all = rw (take_all c.loop-call.call-index c.args.calls.now (omega (arith, done))) at c.loop-call.invariant.runs in
-    record { start = c.in_ok-stage.stage; begins = c.in_ok-stage.ensures.start; runs = rw (← c.of.ensures) at all }
+    let runs : Runs c.in_ok-stage.stage c.args.calls.now c.loop-call.answers.items c.of.result = rw (← c.of.ensures) at all in
+    record {
+      start = c.in_ok-stage.stage;
+      begins = c.in_ok-stage.ensures.start;
+      runs = runs;
+      due = run-due c.args.limits c.in_ok-stage.stage c.args.calls.now c.loop-call.answers.items c.of.result c.in_ok-stage.ensures.start runs;
+    }

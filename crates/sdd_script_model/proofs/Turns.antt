@@ -1,0 +1,304 @@
+-- What a line is: calm, or somebody comes or goes, or a guard is opened or closed
+use Rattle.std.proofs.lemmas.List.{set-get_or}
+use Rattle.sdd_core.specs.declared.refused.Refused.TheVariants.{NoPlace, NoCell, NoJob, TooManyGuards, GuardOpen, TooManyOwners}
+use Rattle.sdd_script_text.specs.declared.name.PlaceName.{PlaceName}
+use Rattle.sdd_script_text.specs.declared.name.GuardName.{GuardName}
+use Rattle.sdd_script_text.specs.declared.name.OwnerName.{OwnerName}
+use Rattle.sdd_core.specs.Epoch.{epoch_of}
+use Rattle.sdd_core.specs.declared.epoch.Epoch.{Epoch}
+use Rattle.sdd_participants.specs.declared.standing.CellContents.{CellContents}
+use Rattle.sdd_space.specs.Collecting.{collected, collector_closed, owner_collected}
+use Rattle.sdd_space.specs.OwnerOrCell.{OwnerOrCell}
+use Rattle.sdd_space.specs.OwnerOrCell as holding
+use Rattle.sdd_space.specs.WorldChanges.{registered, ended, closed}
+use Rattle.sdd_space.specs.WorldChanges as steps
+use Rattle.sdd_space.proofs.Own.{Gives, Gives-retired, Gives-owner_given, Gives-cell_closed, Gives-dropped}
+use Rattle.sdd_script_text.specs.declared.call.Call.{Call}
+use Rattle.sdd_script_text.specs.declared.call.Call.TheVariants.{Register, Tally, At}
+use Rattle.sdd_script_text.specs.declared.call.Action.{Action}
+use Rattle.sdd_script_text.specs.declared.call.Action.TheVariants as call
+use Rattle.sdd_script_text.specs.declared.answer.Reply.{Reply}
+use Rattle.sdd_script_text.specs.declared.answer.Reply.TheVariants as reply
+use Rattle.sdd_script_model.specs.Collecting.{Collects}
+use Rattle.sdd_script_model.specs.Due.{caller, is_opening, is_close, is_end, is_waiting_in}
+use Rattle.sdd_script_model.specs.InPlace.{Drops}
+use Rattle.sdd_script_model.specs.Script.{AddsOwner, Does, GivesOwner, IsParticipant, IsValid, MakesCell, Meets, cell_as, shared_once_more}
+use Rattle.sdd_script_model.specs.ScriptState as desk
+use Rattle.sdd_script_model.specs.ScriptState.{place_of, place_in}
+use Rattle.sdd_script_model.proofs.Calm.{Calmly, calm-accelerated, calm-collector, calm-deferred, calm-gives, calm-still, calm-stirred, still-begins}
+use Rattle.sdd_script_model.proofs.Terms.{LimboEntry, ◌≡◌, ℕ, ◌+◌, ◌-◌, ◌<◌, Bool, true, false, nat_lt, if◌then◌else◌, List, [], ◌∷◌, Option, Some, None, IsSome, length, refl, sym, ap, ◌∙◌, subst, false≢true, Participant, nobody, IsVacant, Shared, World, IsPlaceOf, retired, owner_given, cell_closed, opened, IsWhole, Val, holdings_of, LimboEntry, ScriptState, OpenSince, opening_at}
+
+-- nobody comes or goes, no guard is opened or closed, and what begins to wait waits with the participant whose line it is
+pub record CalmLine (d new : ScriptState) (call : Call) (given : Reply) : Type 0 where
+  pub place : ℕ
+  pub world : Calmly place d.world new.world
+  pub places : new.places ≡ d.places
+  pub own : (x : LimboEntry) → is_waiting_in new.world x ≡ true → is_waiting_in d.world x ≡ false →
+      (y : OpenSince) × (opening_at d.places (caller call) ≡ Some y) × (y.place ≡ place)
+  pub no_opening : (k : ℕ) → is_opening k call given ≡ false
+  pub no_close : (k : ℕ) → is_close k call given ≡ false
+  pub no_end : (k : ℕ) → is_end k call given ≡ false
+
+pub data Turn (d new : ScriptState) : Call → Reply → Type 0 where
+  calm : {call : Call} {given : Reply} → CalmLine d new call given → Turn d new call given
+  comes : (name : PlaceName) (p : ℕ) → name.0 ≡ length d.places → IsVacant d.world.time p → new.world ≡ registered d.world p →
+      new.places ≡ (desk.with_newcomer d p).places → Turn d new Register (reply.Place name)
+  goes : (n : PlaceName) → IsParticipant d n.0 → new.world ≡ ended d.world (place_of d n.0) → new.places ≡ (desk.without_participant d n.0).places →
+      Turn d new (At n call.End) reply.Done
+  opens : (n : PlaceName) (g : GuardName) (epoch : Epoch) → IsParticipant d n.0 → epoch ≡ epoch_of new.world.time.count →
+      new.world ≡ opened holdings_of d.world (place_of d n.0) →
+      new.places ≡ (desk.with_guard d n.0 (place_of d n.0)).places → Turn d new (At n call.Open) (reply.Guard g epoch)
+  closes : (n : PlaceName) (g : GuardName) → IsParticipant d n.0 → new.world ≡ closed d.world (place_of d n.0) → new.places ≡ d.places →
+      Turn d new (At n (call.Close g)) reply.Done
+
+-- time and places are as before
+abbrev Still : ScriptState → ScriptState → Type 0
+Still d new = (new.world.time ≡ d.world.time) × (new.places ≡ d.places)
+
+same-desk : (d new : ScriptState) → new ≡ d → Still d new
+same-desk d new e = (ap (λ (x : ScriptState). x.world.time) e, ap (λ (x : ScriptState). x.places) e)
+
+still-owner : (d : ScriptState) (w : World Val) (h : OwnerOrCell) (o : OwnerName) (new : ScriptState) →
+    w.time ≡ d.world.time → GivesOwner d w h o new → Still d new
+still-owner d w h o new e gives = (ap (λ (x : ScriptState). x.world.time) gives.1 ∙ e, ap (λ (x : ScriptState). x.places) gives.1)
+
+still-adds : (d : ScriptState) (k : ℕ) (given : Reply) (new : ScriptState) → AddsOwner d k given new → Still d new
+still-adds d k (reply.Owner o) new (owners, is, few, gives) =
+    still-owner d (steps.with_standing d.world k (Shared (owners + 1))) (holding.shared k d.world.home.slots) o new refl gives
+still-adds d k (reply.Refused TooManyOwners) new does = same-desk d new does.1
+still-adds d k other new never = absurd never
+
+still-cell : (d : ScriptState) (x : Option OwnerName) (kind : ℕ → ScriptState → OwnerOrCell) (given : Reply) (new : ScriptState) →
+    MakesCell d x kind given new →
+    Still d new
+still-cell d x kind (reply.Cell c) new (named, (k, free, leaves)) = (ap (λ (y : ScriptState). y.world.time) leaves, ap (λ (y : ScriptState). y.places) leaves)
+still-cell d x kind (reply.Refused NoCell) new does = same-desk d new does.1
+still-cell d x kind other new never = absurd never
+
+still-shared : (w : World Val) (held : Option ℕ) (owners : ℕ) → (shared_once_more w held owners).time ≡ w.time
+still-shared w None owners = refl
+still-shared w (Some k) owners = refl
+
+still-if : (b : Bool) (w : World Val) (k : ℕ) (cell : CellContents) → (if b then steps.with_cell w k cell else w).time ≡ w.time
+still-if true w k cell = refl
+still-if false w k cell = refl
+
+-- an invalid action is quiet
+quiet-invalid : (k : ℕ) (n : PlaceName) (action : Action) →
+    (is_opening k (At n action) reply.Invalid ≡ false) × (is_close k (At n action) reply.Invalid ≡ false) × (is_end k (At n action) reply.Invalid ≡ false)
+quiet-invalid k n call.Open = (refl, refl, refl)
+quiet-invalid k n (call.Close g) = (refl, refl, refl)
+quiet-invalid k n call.End = (refl, refl, refl)
+quiet-invalid k n action = (refl, refl, refl)
+
+-- a participant that is there
+pub some-is : {A : Type 0} (x : Option A) → IsSome x → (y : A) × (x ≡ Some y)
+some-is None there = absurd (false≢true there)
+some-is (Some y) there = (y, refl)
+
+-- ---- what is given up
+
+gives-none : (p : ℕ) (v w : World Val) → w.time ≡ v.time → Gives p v w
+gives-none p v w e = record {
+  slots = [];
+  time = e ∙ sym (ap (λ (ps : List Participant). record v.time { places = ps }) (set-get_or v.time.places p nobody));
+}
+
+gives-as : (p : ℕ) (v w u : World Val) → w ≡ u → Gives p v u → Gives p v w
+gives-as p v w u e g = subst (λ (x : World Val). Gives p v x) (sym e) g
+
+gives-collected : (v : World Val) (p c k owners : ℕ) → Gives p v (owner_collected v p c k (Some (Shared owners)))
+gives-collected v p c k owners = by (nat_lt 1 owners) where
+  by : (b : Bool) → Gives p v (if b then steps.with_standing v k (Shared (owners - 1)) else collected v p c k)
+  by true = gives-none p v (steps.with_standing v k (Shared (owners - 1))) refl
+  by false = record { slots = k ∷ []; time = refl }
+
+gives-collects : (v : World Val) (p c : ℕ) (h : OwnerOrCell) (given : Reply) (w : World Val) → Collects v p c h given w → Gives p v w
+gives-collects v p c (holding.owned k home) reply.Done w (is, e) = record { slots = k ∷ []; time = ap (λ (x : World Val). x.time) e }
+gives-collects v p c (holding.shared k home) (reply.Truth last) w (owners, is, one, e) =
+    gives-as p v w (owner_collected v p c k (Some (Shared owners))) e (gives-collected v p c k owners)
+gives-collects v p c h given w never = absurd never
+
+gives-drops : (v : World Val) (p : ℕ) (h : OwnerOrCell) (given : Reply) (w : World Val) → p < length v.time.places → Drops v p h given w → Gives p v w
+gives-drops v p (holding.owned k home) reply.Done w l (is, quiet, e) = gives-as p v w (steps.dropped holdings_of v p k) e (Gives-dropped holdings_of v p k l)
+gives-drops v p (holding.shared k home) (reply.Truth true) w l (is, quiet, e) =
+    gives-as p v w (steps.dropped holdings_of v p k) e (Gives-dropped holdings_of v p k l)
+gives-drops v p (holding.shared k home) (reply.Truth false) w l (owners, is, several, e) = gives-none p v w (ap (λ (x : World Val). x.time) e)
+gives-drops v p h given w l never = absurd never
+
+-- ---- what each line is
+
+module _ (d new : ScriptState) (whole : IsWhole d.world) (after : IsWhole new.world)
+    (inside : (n : ℕ) (x : OpenSince) → opening_at d.places n ≡ Some x → IsPlaceOf d.world x.place) where
+  -- it opens, closes and ends nothing
+  abbrev Quiet : Call → Reply → Type 0
+  Quiet call given = (k : ℕ) → (is_opening k call given ≡ false) × (is_close k call given ≡ false) × (is_end k call given ≡ false)
+
+  still : (call : Call) (given : Reply) → Quiet call given → Still d new → Turn d new call given
+  still call given quiet s = calm (record {
+    place = 0;
+    world = calm-still 0 d.world new.world whole after s.0;
+    places = s.1;
+    own = λ k now was. absurd (still-begins 0 d.world new.world whole after s.0 k now was);
+    no_opening = λ k. (quiet k).0;
+    no_close = λ k. (quiet k).1;
+    no_end = λ k. (quiet k).2;
+  })
+
+  live : (n : ℕ) → IsParticipant d n → IsPlaceOf d.world (place_of d n)
+  live n there = let x = some-is (opening_at d.places n) there in subst (IsPlaceOf d.world) (sym (ap place_in x.1)) (inside n x.0 x.1)
+
+  acts : (n : PlaceName) (action : Action) (given : Reply) → Quiet (At n action) given → IsParticipant d n.0 → new.places ≡ d.places →
+      Calmly (place_of d n.0) d.world new.world → Turn d new (At n action) given
+  acts n action given quiet there places world =
+      let x = some-is (opening_at d.places n.0) there in
+      calm (record {
+        place = place_of d n.0;
+        world = world;
+        places = places;
+        own = λ k now was. (x.0, x.1, sym (ap place_in x.1));
+        no_opening = λ k. (quiet k).0;
+        no_close = λ k. (quiet k).1;
+        no_end = λ k. (quiet k).2;
+      })
+
+  gives : (n : PlaceName) (action : Action) (given : Reply) → Quiet (At n action) given → IsParticipant d n.0 → new.places ≡ d.places →
+      Gives (place_of d n.0) d.world new.world → Turn d new (At n action) given
+  gives n action given quiet there places g =
+      acts n action given quiet there places (calm-gives (place_of d n.0) d.world new.world whole after (live n.0 there).0 g)
+
+  -- the world is this one
+  calm-as : (p : ℕ) (w : World Val) → new.world ≡ w → (IsWhole w → Calmly p d.world w) → Calmly p d.world new.world
+  calm-as p w e calmly = subst (λ (u : World Val). Calmly p d.world u) (sym e) (calmly (subst (λ (u : World Val). IsWhole u) e after))
+
+  turn-does : (n : PlaceName) (action : Action) (given : Reply) → IsValid d n.0 action → Does d n.0 (place_of d n.0) action given new →
+      Turn d new (At n action) given
+  turn-does n call.Open (reply.Guard g epoch) valid (nests, name, is, leaves) =
+      opens n g epoch valid is (ap (λ (e : ScriptState). e.world) leaves) (ap (λ (e : ScriptState). e.places) leaves)
+  turn-does n call.Open (reply.Refused TooManyGuards) valid (full, e) =
+      still (At n call.Open) (reply.Refused TooManyGuards) (λ k. (refl, refl, refl)) (same-desk d new e)
+  turn-does n (call.Epoch g) (reply.Epoch epoch) valid (is, e) = still (At n (call.Epoch g)) (reply.Epoch epoch) (λ k. (refl, refl, refl)) (same-desk d new e)
+  turn-does n (call.Garbage g) (reply.Truth b) valid (is, e) = still (At n (call.Garbage g)) (reply.Truth b) (λ k. (refl, refl, refl)) (same-desk d new e)
+  turn-does n (call.Set g) reply.Done valid leaves =
+      acts n (call.Set g) reply.Done (λ k. (refl, refl, refl)) valid.0 (ap (λ (e : ScriptState). e.places) leaves)
+      (calm-as (place_of d n.0) (steps.stirred d.world (place_of d n.0)) (ap (λ (e : ScriptState). e.world) leaves)
+      (calm-stirred d.world (place_of d n.0) (live n.0 valid.0).0 whole))
+  turn-does n (call.Accelerate g) reply.Done valid leaves =
+      acts n (call.Accelerate g) reply.Done (λ k. (refl, refl, refl)) valid.0 (ap (λ (e : ScriptState). e.places) leaves)
+      (calm-as (place_of d n.0) (steps.accelerated d.world (place_of d n.0)) (ap (λ (e : ScriptState). e.world) leaves)
+      (calm-accelerated d.world (place_of d n.0) (live n.0 valid.0).0 whole))
+  turn-does n (call.Defer g) (reply.Job j) valid (name, (k, free, leaves)) =
+      acts n (call.Defer g) (reply.Job j) (λ k. (refl, refl, refl)) valid.0 (ap (λ (e : ScriptState). e.places) leaves)
+      (calm-as (place_of d n.0) (steps.deferred d.world (place_of d n.0) k) (ap (λ (e : ScriptState). e.world) leaves)
+      (calm-deferred d.world (place_of d n.0) (live n.0 valid.0).0 whole k))
+  turn-does n (call.Defer g) (reply.Refused NoJob) valid (full, e) =
+      still (At n (call.Defer g)) (reply.Refused NoJob) (λ k. (refl, refl, refl)) (same-desk d new e)
+  turn-does n (call.Close g) reply.Done valid leaves =
+      closes n g valid.0 (ap (λ (e : ScriptState). e.world) leaves) (ap (λ (e : ScriptState). e.places) leaves)
+  turn-does n call.End reply.Done valid (shut, leaves) =
+      goes n valid (ap (λ (e : ScriptState). e.world) leaves) (ap (λ (e : ScriptState). e.places) leaves)
+  turn-does n call.End (reply.Refused GuardOpen) valid (is, e) = still (At n call.End) (reply.Refused GuardOpen) (λ k. (refl, refl, refl)) (same-desk d new e)
+  turn-does n (call.Owned value) (reply.Item o i) valid (name, (k, w, makes, given)) =
+      still (At n (call.Owned value)) (reply.Item o i) (λ k. (refl, refl, refl))
+      (ap (λ (e : ScriptState). e.world.time) given.1 ∙ ap (λ (u : World Val). u.time) makes.made, ap (λ (e : ScriptState). e.places) given.1)
+  turn-does n (call.Owned value) (reply.Refused r) valid (is, e) =
+      still (At n (call.Owned value)) (reply.Refused r) (λ k. (refl, refl, refl)) (same-desk d new e)
+  turn-does n (call.Shared value) (reply.Item o i) valid (name, (k, w, makes, given)) =
+      still (At n (call.Shared value)) (reply.Item o i) (λ k. (refl, refl, refl))
+      (ap (λ (e : ScriptState). e.world.time) given.1 ∙ ap (λ (u : World Val). u.time) makes.made, ap (λ (e : ScriptState). e.places) given.1)
+  turn-does n (call.Shared value) (reply.Refused r) valid (is, e) =
+      still (At n (call.Shared value)) (reply.Refused r) (λ k. (refl, refl, refl)) (same-desk d new e)
+  turn-does n (call.Read o) given valid (is, e) = still (At n (call.Read o)) given (λ k. (refl, refl, refl)) (same-desk d new e)
+  turn-does n (call.Look i g) given valid (is, e) = still (At n (call.Look i g)) given (λ k. (refl, refl, refl)) (same-desk d new e)
+  turn-does n (call.Upgrade i g) reply.Nothing valid (is, e) = still (At n (call.Upgrade i g)) reply.Nothing (λ k. (refl, refl, refl)) (same-desk d new e)
+  turn-does n (call.Upgrade i g) given valid does =
+      still (At n (call.Upgrade i g)) given (λ k. (refl, refl, refl)) (still-adds d (desk.slot_at d i.0) given new does)
+  turn-does n (call.Clone o) given valid (k, is, does) = still (At n (call.Clone o)) given (λ k. (refl, refl, refl)) (still-adds d k given new does)
+  turn-does n (call.Retire o) reply.Done valid (k, is, leaves) =
+      gives n (call.Retire o) reply.Done (λ k. (refl, refl, refl)) valid.0 (ap (λ (e : ScriptState). e.places) leaves)
+      (gives-as (place_of d n.0) d.world new.world (retired d.world (place_of d n.0) k) (ap (λ (e : ScriptState). e.world) leaves)
+      (Gives-retired d.world (place_of d n.0) k))
+  turn-does n (call.Release o) (reply.Truth b) valid (k, owners, is, by, last, leaves) =
+      gives n (call.Release o) (reply.Truth b) (λ k. (refl, refl, refl)) valid.0 (ap (λ (e : ScriptState). e.places) leaves)
+      (gives-as (place_of d n.0) d.world new.world (owner_given d.world (place_of d n.0) k (Some (Shared owners))) (ap (λ (e : ScriptState). e.world) leaves)
+      (Gives-owner_given d.world (place_of d n.0) k (Some (Shared owners)) by.shared))
+  turn-does n (call.Put o number) reply.Done valid (k, w, is, may, puts, leaves) =
+      still (At n (call.Put o number)) reply.Done (λ k. (refl, refl, refl))
+      (ap (λ (e : ScriptState). e.world.time) leaves ∙ ap (λ (u : World Val). u.time) puts.put, ap (λ (e : ScriptState). e.places) leaves)
+  turn-does n (call.Put o number) (reply.Refused r) valid (is, e) =
+      still (At n (call.Put o number)) (reply.Refused r) (λ k. (refl, refl, refl)) (same-desk d new e)
+  turn-does n (call.Drop o) (reply.Refused GuardOpen) valid (is, e) =
+      still (At n (call.Drop o)) (reply.Refused GuardOpen) (λ k. (refl, refl, refl)) (same-desk d new e)
+  turn-does n (call.Drop o) given valid does =
+      gives n (call.Drop o) given (λ k. (refl, refl, refl)) valid.0 (ap (λ (e : ScriptState). e.places) does.4)
+      (gives-as (place_of d n.0) d.world new.world does.1 (ap (λ (e : ScriptState). e.world) does.4)
+      (gives-drops d.world (place_of d n.0) does.0 given does.1 (live n.0 valid.0).0 does.3))
+  turn-does n (call.Raw o) (reply.Raw i) valid (k, is, name, leaves) =
+      still (At n (call.Raw o)) (reply.Raw i) (λ k. (refl, refl, refl))
+      (ap (λ (e : ScriptState). e.world.time) leaves, ap (λ (e : ScriptState). e.places) leaves)
+  turn-does n (call.Unraw i) reply.Nothing valid (is, e) = still (At n (call.Unraw i)) reply.Nothing (λ k. (refl, refl, refl)) (same-desk d new e)
+  turn-does n (call.Unraw i) (reply.Owner o) valid (raw, given) =
+      still (At n (call.Unraw i)) (reply.Owner o) (λ k. (refl, refl, refl))
+      (ap (λ (e : ScriptState). e.world.time) given.1, ap (λ (e : ScriptState). e.places) given.1)
+  turn-does n (call.See i g) reply.Nothing valid (is, e) = still (At n (call.See i g)) reply.Nothing (λ k. (refl, refl, refl)) (same-desk d new e)
+  turn-does n (call.See i g) given valid does = still (At n (call.See i g)) given (λ k. (refl, refl, refl)) (same-desk d new does.2)
+  turn-does n (call.CellOwned x) given valid does =
+      still (At n (call.CellOwned x)) given (λ k. (refl, refl, refl)) (still-cell d x (cell_as None) given new does)
+  turn-does n (call.CellShared x) given valid does =
+      still (At n (call.CellShared x)) given (λ k. (refl, refl, refl))
+      (still-cell d x (cell_as (Some (holding.atomic_shared 0 d.world.home.cells))) given new does)
+  turn-does n (call.Load c g) (reply.Pointer i tag) valid (is, e) =
+      still (At n (call.Load c g)) (reply.Pointer i tag) (λ k. (refl, refl, refl)) (same-desk d new e)
+  turn-does n (call.Tag c) (reply.Tag tag) valid (is, e) = still (At n (call.Tag c)) (reply.Tag tag) (λ k. (refl, refl, refl)) (same-desk d new e)
+  turn-does n (call.Swap c x tag) (reply.Swapped o was) valid (k, cell, is, name, same, leaves) =
+      still (At n (call.Swap c x tag)) (reply.Swapped o was) (λ k. (refl, refl, refl))
+      (ap (λ (e : ScriptState). e.world.time) leaves, ap (λ (e : ScriptState). e.places) leaves)
+  turn-does n (call.TagIf c tag was) (reply.Truth b) valid (k, cell, is, same, leaves) =
+      still (At n (call.TagIf c tag was)) (reply.Truth b) (λ k. (refl, refl, refl))
+      (ap (λ (e : ScriptState). e.world.time) leaves ∙ still-if b d.world k (record cell { tag = tag }), ap (λ (e : ScriptState). e.places) leaves)
+  turn-does n (call.Exchange c g i was x tag) (reply.Exchanged o) valid (k, cell, is, same, name, leaves) =
+      still (At n (call.Exchange c g i was x tag)) (reply.Exchanged o) (λ k. (refl, refl, refl))
+      (ap (λ (e : ScriptState). e.world.time) leaves, ap (λ (e : ScriptState). e.places) leaves)
+  turn-does n (call.Exchange c g i was x tag) (reply.Differs j now) valid (is, e) =
+      still (At n (call.Exchange c g i was x tag)) (reply.Differs j now) (λ k. (refl, refl, refl)) (same-desk d new e)
+  turn-does n (call.Into c) given valid (k, cell, is, back, leaves) =
+      still (At n (call.Into c)) given (λ k. (refl, refl, refl)) (ap (λ (e : ScriptState). e.world.time) leaves, ap (λ (e : ScriptState). e.places) leaves)
+  turn-does n (call.Copy c g) (reply.Cell r) valid (name, (k, cell, is, (owners, other, may, free, leaves))) =
+      still (At n (call.Copy c g)) (reply.Cell r) (λ k. (refl, refl, refl))
+      (ap (λ (e : ScriptState). e.world.time) leaves ∙ still-shared d.world cell.held owners, ap (λ (e : ScriptState). e.places) leaves)
+  turn-does n (call.Copy c g) (reply.Refused NoCell) valid (full, e) =
+      still (At n (call.Copy c g)) (reply.Refused NoCell) (λ k. (refl, refl, refl)) (same-desk d new e)
+  turn-does n (call.Copy c g) (reply.Refused TooManyOwners) valid (some, full, e) =
+      still (At n (call.Copy c g)) (reply.Refused TooManyOwners) (λ k. (refl, refl, refl)) (same-desk d new e)
+  turn-does n (call.Share c g) reply.Nothing valid (is, e) = still (At n (call.Share c g)) reply.Nothing (λ k. (refl, refl, refl)) (same-desk d new e)
+  turn-does n (call.Share c g) given valid does =
+      still (At n (call.Share c g)) given (λ k. (refl, refl, refl)) (still-adds d does.1 given new does.5)
+  turn-does n (call.CloseCell c) reply.Done valid (k, is, leaves) =
+      gives n (call.CloseCell c) reply.Done (λ k. (refl, refl, refl)) valid.0 (ap (λ (e : ScriptState). e.places) leaves)
+      (gives-as (place_of d n.0) d.world new.world (cell_closed d.world (place_of d n.0) k) (ap (λ (e : ScriptState). e.world) leaves)
+      (Gives-cell_closed d.world (place_of d n.0) k (live n.0 valid.0).0))
+  turn-does n call.Collector (reply.Collector k) valid (name, (c, free, leaves)) =
+      still (At n call.Collector) (reply.Collector k) (λ k. (refl, refl, refl))
+      (ap (λ (e : ScriptState). e.world.time) leaves, ap (λ (e : ScriptState). e.places) leaves)
+  turn-does n call.Collector (reply.Refused NoCell) valid (full, e) =
+      still (At n call.Collector) (reply.Refused NoCell) (λ k. (refl, refl, refl)) (same-desk d new e)
+  turn-does n (call.Collect o g k) given valid (c, h, w, is, at, collects, leaves) =
+      gives n (call.Collect o g k) given (λ k. (refl, refl, refl)) valid.0.0 (ap (λ (e : ScriptState). e.places) leaves)
+      (gives-as (place_of d n.0) d.world new.world w (ap (λ (e : ScriptState). e.world) leaves)
+      (gives-collects d.world (place_of d n.0) c h given w collects))
+  turn-does n (call.CloseCollector k) reply.Done valid (c, is, quiet, leaves) =
+      acts n (call.CloseCollector k) reply.Done (λ k. (refl, refl, refl)) valid.0 (ap (λ (e : ScriptState). e.places) leaves)
+      (calm-as (place_of d n.0) (collector_closed holdings_of d.world (place_of d n.0) c) (ap (λ (e : ScriptState). e.world) leaves)
+      (calm-collector d.world (place_of d n.0) (live n.0 valid.0).0 whole c))
+  turn-does n (call.CloseCollector k) (reply.Refused GuardOpen) valid (is, e) =
+      still (At n (call.CloseCollector k)) (reply.Refused GuardOpen) (λ k. (refl, refl, refl)) (same-desk d new e)
+  turn-does n action given valid never = absurd never
+
+  pub turn : (call : Call) (given : Reply) → Meets d call given new → Turn d new call given
+  turn Register (reply.Place name) (is, (p, vacant, leaves)) =
+      comes name p is vacant (ap (λ (e : ScriptState). e.world) leaves) (ap (λ (e : ScriptState). e.places) leaves)
+  turn Register (reply.Refused NoPlace) (full, e) = still Register (reply.Refused NoPlace) (λ k. (refl, refl, refl)) (same-desk d new e)
+  turn Tally (reply.Tally t) (is, e) = still Tally (reply.Tally t) (λ k. (refl, refl, refl)) (same-desk d new e)
+  turn (At n action) reply.Invalid (is, e) = still (At n action) reply.Invalid (λ k. quiet-invalid k n action) (same-desk d new e)
+  turn (At n action) given (valid, does) = turn-does n action given valid does
+  turn call given never = absurd never
