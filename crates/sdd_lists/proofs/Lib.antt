@@ -10,3 +10,5 @@ pub mod Refusals
 pub mod Entering
 pub mod Pouring
 pub mod Asked
+pub mod Ending
+pub mod Leaving

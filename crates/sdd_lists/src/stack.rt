@@ -24,7 +24,7 @@ use crate::moves::{give_up, let_go_of_all, trim};
 use crate::pops::{keep_first, pop_first, take_first};
 use crate::pushes::push_first;
 use crate::unpopped::Unpopped;
-use crate::walks::{Front, count, find_first, first_value_in, shown_in};
+use crate::walks::{Front, count, find_first, first_ptr_in, first_value_in, shown_in};
 use sdd_core::{Refused, Tag};
 use sdd_space::{
     AtomicShared, Cells, Guard, Item, Items, LookThrough, Ptr, Several, Shared, SharedItems,
@@ -134,12 +134,7 @@ impl<T: Item<LinkedEntry<T>>> Stack<T> {
         ensures list { IsExact (S.seat s.old) → (es : List (Entry (LinkedEntry T))) → IsStack (S.world s.old) (cell_in self.now) es →
             slot_named result ≡ first_slot (left es) }
     {
-        let front = match find_first(&self.newest, guard, s) {
-            Ok(Some(front)) => front,
-            Ok(None) => return Ptr::null(),
-            Err(_) => return Ptr::null(),
-        };
-        front.ptr.without_tag()
+        first_ptr_in(&self.newest, guard, s)
     }
 
     /// How many entries aren't deleted.
