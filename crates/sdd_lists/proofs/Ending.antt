@@ -1,5 +1,5 @@
 -- The end of a list, and what is put there
-use Rattle.std.proofs.Common.{◌≡◌, ◌≢◌, inl, inr, ℕ, List, [], ◌∷◌, ◌++◌, Bool, true, false, Option, Some, None, refl, sym, ap, ◌∙◌, arith, subst, slice_index_or}
+use Rattle.std.proofs.Common.{◌≡◌, ◌≢◌, ◌⊎◌, inl, inr, ℕ, ◌≤◌, List, [], ◌∷◌, ◌++◌, length, Bool, true, false, Option, Some, None, refl, sym, ap, ◌∙◌, arith, subst, slice_index_or}
 use Rattle.std.specs.Prelude.{if◌then◌else◌}
 use Rattle.std.proofs.lemmas.List.{get_or-set_other}
 use Rattle.sdd_core.specs.declared.tag.Tag.{Tag}
@@ -10,8 +10,18 @@ use Rattle.sdd_participants.specs.Slab.{entry_at}
 use Rattle.sdd_space.specs.WorldChanges.{with_cell}
 use Rattle.sdd_lists.specs.Ends.{End, EndsWith, IsAmong, IsLastOf, appended, end_of, is_spent, last_value, put_at, through_last}
 use Rattle.sdd_lists.specs.Lists.{Apart, AreLinked, Entry, IsList, first_slot, is_deleted, left, let_go_first, trimmed}
+use Rattle.sdd_lists.specs.Queue.{IsNoneOrAmong}
 use Rattle.sdd_lists.proofs.Lists.{apart, behind}
 use Rattle.sdd_lists.proofs.Pushing.{pushed, trim-other, trim-values}
+
+-- what a list begins with, and the rest
+abbrev pub first-or : {X : Type 0} → X → List X → X
+first-or d [] = d
+first-or d (x ∷ xs) = x
+
+abbrev pub rest-of : {X : Type 0} → List X → List X
+rest-of [] = []
+rest-of (x ∷ xs) = xs
 
 module _ {T : Type 0} where
   spent-by : (e : Entry T) (es : List (Entry T)) → (left es ≡ [] → is_spent es ≡ true) → (b : Bool) → (if b then left es else e ∷ es) ≡ [] →
@@ -48,6 +58,15 @@ module _ {T : Type 0} where
   ends-behind [] e rest x xs at more = absurd at
   ends-behind (y ∷ ys) e rest x xs (inl same) more = let tails : rest ≡ ys = cc in inr (subst (λ (zs : List (Entry T)). EndsWith zs x xs) tails more)
   ends-behind (y ∷ ys) e rest x xs (inr at) more = inr (ends-behind ys e rest x xs at more)
+
+  -- what is behind an entry is shorter
+  pub shorter : (es : List (Entry T)) (e : Entry T) (rest : List (Entry T)) → EndsWith es e rest → length (e ∷ rest) ≤ length es
+  shorter [] e rest at = absurd at
+  shorter (x ∷ xs) e rest (inl same) = let long = ap length same in omega (arith, long)
+  shorter (x ∷ xs) e rest (inr at) = omega (arith, shorter xs e rest at)
+
+  pub shorter-left : (es : List (Entry T)) (e : Entry T) (rest : List (Entry T)) → left es ≡ e ∷ rest → length (e ∷ rest) ≤ length es
+  shorter-left es e rest same = shorter es e rest (left-ends es e rest same)
 
   not-by : (xs : List (Entry T)) → is_spent xs ≡ false → (b : Bool) → (if b then is_spent xs else false) ≡ false
   not-by xs kept true = kept
@@ -101,6 +120,13 @@ module _ {T : Type 0} where
   pub among-last : (k : ℕ) (xs : List (Entry T)) (e : Entry T) → e.slot ≡ k → IsAmong k (xs ++ e ∷ [])
   among-last k [] e here = inl here
   among-last k (x ∷ xs) e here = inr (among-last k xs e here)
+
+  -- what a cell holds is nothing, or some entry here
+  pub none-or-ends : (held : Option ℕ) (es : List (Entry T)) → IsNoneOrAmong held es →
+      (held ≡ None) ⊎ ((e : Entry T) × (rest : List (Entry T)) × EndsWith es e rest × (held ≡ Some e.slot))
+  none-or-ends None es among = inl refl
+  none-or-ends (Some k) es among =
+      let at = among-ends k es among in inr (at.0, at.1, at.2, ap (λ (j : ℕ). Some j) (sym at.3))
 
 module _ {T : Type 0} (link : T → ℕ) where
   pub linked-ends : (w : World T) (es : List (Entry T)) (e : Entry T) (rest : List (Entry T)) → EndsWith es e rest → AreLinked link w es →
