@@ -9,7 +9,7 @@ use Rattle.sdd_participants.specs.declared.standing.CellContents.{CellContents}
 use Rattle.sdd_participants.specs.Slab.{Entries, entry_at}
 use Rattle.sdd_space.specs.Shared.{slot_of}
 use Rattle.sdd_space.specs.declared.shared.Shared.{Shared}
-use Rattle.sdd_space.specs.WorldChanges.{nulled, owner_given, spilled, with_cell}
+use Rattle.sdd_space.specs.WorldChanges.{nulled, owner_given, spilled, with_cell, without_cell}
 use Rattle.sdd_standings.specs.Slots.{IsSharedBy}
 use Rattle.sdd_participants.specs.declared.standing.Standing.{Standing}
 use Rattle.sdd_participants.specs.declared.standing.Standing.TheVariants.{Shared as shared_by}
@@ -97,6 +97,14 @@ module _ {T : Type 0} (link : T → ℕ) where
   list-apart w u c t es n x cells values far all list = record {
     begins = ap (λ (cs : Entries CellContents). entry_at cs c) cells ∙ get_or-set_other w.cells n c (Some x) None far ∙ list.begins;
     linked = linked-set link w u n (Some x) es cells values all list.linked;
+  }
+
+  -- a cell apart may be freed
+  pub list-without : (w u : World T) (c : ℕ) (t : Tag) (es : List (Entry T)) (n : ℕ) → u.cells ≡ (without_cell w n).cells → u.values ≡ w.values →
+      c ≢ n → Apart link n es → IsList link w c t es → IsList link u c t es
+  list-without w u c t es n cells values far all list = record {
+    begins = ap (λ (cs : Entries CellContents). entry_at cs c) cells ∙ get_or-set_other w.cells n c None None far ∙ list.begins;
+    linked = linked-set link w u n None es cells values all list.linked;
   }
 
   module _ (w : World T) (p : ℕ) (q : QueueCells) (es : List (Entry T)) (second : Option ℕ) (queue : IsQueue link w q es second) where
