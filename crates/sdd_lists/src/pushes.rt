@@ -142,7 +142,8 @@ fn put_last<T: LinkedList, S: Items<T> + Cells<T> + LookThrough<T>>(
     ensures own { KeepsMoreWaiting (S.own s.old) (S.own s.new) }
     ensures exact { IsExact (S.seat s.old) → (t : Tag) (es : List (Entry T)) (v : T) → IsList T.link (S.world s.old) (cell_of cell.now) t es →
         MatchOption last.entry (is_spent es ≡ true)
-        (λ f. (e : Entry T) × (rest : List (Entry T)) × IsLastOf es e rest × (cell_of f.link.now ≡ T.link e.value)) →
+        (λ f. (e : Entry T) × (rest : List (Entry T)) × IsLastOf es e rest × (f.entry.now ≡ e.value) ×
+        (cell_of f.link.now ≡ T.link e.value)) →
         slot_of kept ≡ slot_of owner.now → value_at (S.world s.old) (slot_of owner.now) ≡ Some v →
         entry_at (S.world s.old).cells (T.link v) ≡ Some (record { held = None; tag = no_tag }) → cell_of cell.now ≢ T.link v → Apart T.link (T.link v) es →
         (S.world s.new ≡ appended T.link (S.world s.old) (S.seat s.old).place (cell_of cell.now) t es (T.link v) (slot_of owner.now)) }
@@ -181,7 +182,8 @@ pub(crate) fn push_last<T: LinkedList, S: Items<T> + Several<T> + Cells<T> + Loo
     ensures exact { IsExact (S.seat s.old) → (es : List (Entry T)) (second : Option ℕ) →
         IsQueue T.link (S.world s.old) (record { oldest = cell_of oldest.now; newest = cell_of newest.now }) es second →
         MatchOption last.entry (is_spent es ≡ true)
-        (λ f. (e : Entry T) × (rest : List (Entry T)) × IsLastOf es e rest × (cell_of f.link.now ≡ T.link e.value)) →
+        (λ f. (e : Entry T) × (rest : List (Entry T)) × IsLastOf es e rest × (f.entry.now ≡ e.value) ×
+        (cell_of f.link.now ≡ T.link e.value)) →
         entry_at (S.world s.old).cells (T.link value) ≡ Some (record { held = None; tag = no_tag }) → cell_of oldest.now ≢ T.link value →
         cell_of newest.now ≢ T.link value → Apart T.link (T.link value) es →
         IfOk result (λ owner. IsEnqueued T.link (S.world s.old) (S.seat s.old).place

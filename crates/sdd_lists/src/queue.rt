@@ -128,7 +128,8 @@ impl<T: Item<LinkedEntry<T>>> Queue<T> {
             ¬ (IsFull (S.world s.old).standings) × IsFull (S.world s.old).cells × (e.1 ≡ Refused.NoCell))) }
         ensures list { IsExact (S.seat s.old) → (es : List (Entry (LinkedEntry T))) (second : Option ℕ) →
             IsQueue link_of (S.world s.old) (cells_in self.now) es second → MatchOption last.entry (is_spent es ≡ true)
-            (λ f. (e : Entry (LinkedEntry T)) × (rest : List (Entry (LinkedEntry T))) × IsLastOf es e rest × (cell_of f.link.now ≡ link_of e.value)) →
+            (λ f. (e : Entry (LinkedEntry T)) × (rest : List (Entry (LinkedEntry T))) × IsLastOf es e rest ×
+            (f.entry.now ≡ e.value) × (cell_of f.link.now ≡ link_of e.value)) →
             IfOk result (λ owner. PushesBehind (S.world s.old) (S.seat s.old).place (cells_in self.now) es second value owner (S.world s.new)) }
     {
         let free = s.has_slot();

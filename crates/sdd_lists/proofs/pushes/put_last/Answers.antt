@@ -19,7 +19,7 @@ returns-in-Some-clause-exact g c = λ e t es v list last same_slot there clear f
     let x : Entry _ = at.0 in
     let rest : List (Entry _) = at.1 in
     let end : IsLastOf es x rest = at.2 in
-    let cell_is : cell_of c.in-Some.front.link.now ≡ link x.value = at.3 in
+    let cell_is : cell_of c.in-Some.front.link.now ≡ link x.value = at.4 in
     let here : IsList link w (cell_of c.in-Some.front.link.now) x.tag rest =
     subst (λ (j : ℕ). IsList link w j x.tag rest) (sym cell_is) (list-ends link w es x rest end.ends list.linked) in
     let apart = apart-ends link l es x rest end.ends all in
