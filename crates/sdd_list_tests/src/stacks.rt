@@ -4,7 +4,7 @@ ghost use Rattle.sdd_space.specs.Guard.{reader_of};
 ghost use Rattle.sdd_space.specs.CallerId.{IsSeated};
 ghost use Rattle.sdd_lists.specs.Stack.{home_in};
 
-use crate::setting::{AMPLE, Setting, opened, released};
+use crate::setting::{AMPLE, Setting, is, opened, released};
 use sdd_core::{Limits, Refused};
 use sdd_lists::{LinkedEntry, LinkedList, Stack, Unpopped};
 use sdd_space::{Cells, Guard, Items, Look, Several, SharedItems};
@@ -49,13 +49,6 @@ fn pop<S: Items<Entry> + SharedItems<Entry> + Cells<Entry> + Look<Entry>>(
         Ok(Some(owner)) => Some(released(s, owner)),
         Ok(None) => None,
         Err(refused) => panic!(rt; "{refused:?}"),
-    }
-}
-
-fn is(entry: Option<&Entry>, value: u64) -> bool {
-    match entry {
-        Some(entry) => *entry.as_ref() == value,
-        None => false,
     }
 }
 
