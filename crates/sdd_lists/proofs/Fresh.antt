@@ -1,13 +1,16 @@
 -- A cell that was free is the link of no entry
-use Rattle.std.proofs.Common.{◌≡◌, ◌≢◌, ℕ, List, [], ◌∷◌, Some, None, refl, sym, ap, ◌∙◌}
-use Rattle.std.proofs.lemmas.List.{get_or-set_same, get_or-set_other}
+use Rattle.std.proofs.Common.{◌≡◌, ◌≢◌, inl, inr, ℕ, ◌<◌, List, [], ◌∷◌, length, Option, Some, None, true, false, refl, sym, ap, ◌∙◌, arith, slice_set}
+use Rattle.std.specs.Prelude.{is_some}
+use Rattle.std.proofs.lemmas.List.{get_or-set_same, get_or-set_other, length-set, set-get_or, set-set}
 use Rattle.sdd_core.specs.declared.tag.Tag.{Tag}
 use Rattle.sdd_core.specs.declared.tag.Tag.TheVariants as tag
 use Rattle.sdd_space.specs.World.{World}
 use Rattle.sdd_participants.specs.declared.standing.CellContents.{CellContents}
-use Rattle.sdd_participants.specs.Slab.{IsEmptyAt, entry_at}
-use Rattle.sdd_space.specs.WorldChanges.{nulled}
+use Rattle.sdd_participants.specs.Slab.{Entries, IsEmptyAt, IsFull, entry_at}
+use Rattle.sdd_participants.proofs.Adopting.{same-or-not}
+use Rattle.sdd_space.specs.WorldChanges.{nulled, without_cell}
 use Rattle.sdd_lists.specs.Lists.{Entry, first_slot, Apart, AreLinked, IsList}
+use Rattle.sdd_lists.specs.Queue.{IsQueue, QueueCells}
 use Rattle.sdd_lists.proofs.Lists.{linked-set}
 
 module _ {T : Type 0} (link : T → ℕ) (w : World T) (l : ℕ) (free : IsEmptyAt w.cells l) where
@@ -30,3 +33,35 @@ module _ {T : Type 0} (link : T → ℕ) (w : World T) (l : ℕ) (free : IsEmpty
     begins = get_or-set_other w.cells l c (Some (record { held = None; tag = tag.None })) None (fresh-far c t es list) ∙ list.begins;
     linked = linked-set link w (nulled w l) l (Some (record { held = None; tag = tag.None })) es refl refl (fresh-apart es list.linked) list.linked;
   }
+
+  pub fresh-queue : (q : QueueCells) (es : List (Entry T)) (second : Option ℕ) → IsQueue link w q es second → IsQueue link (nulled w l) q es second
+  fresh-queue q es second queue = record {
+    list = fresh-list q.oldest tag.None es queue.list;
+    newest =
+        get_or-set_other w.cells l q.newest (Some (record { held = None; tag = tag.None })) None
+        (taken-not q.newest (record { held = second; tag = tag.None }) queue.newest)
+        ∙ queue.newest;
+    among = queue.among;
+    two = queue.two;
+    apart = queue.apart;
+  }
+
+  pub fresh-newest : (q : QueueCells) (es : List (Entry T)) (second : Option ℕ) → IsQueue link w q es second → q.newest ≢ l
+  fresh-newest q es second queue = taken-not q.newest (record { held = second; tag = tag.None }) queue.newest
+
+-- where one cell more would fill all, it was the only one that was free
+pub only-one : {E : Type 0} (t : Entries E) (o : ℕ) (x : E) → IsFull (slice_set t o (Some x)) → (c : ℕ) → IsEmptyAt t c → c ≡ o
+only-one t o x full c empty = elim (same-or-not c o) [
+  inl same ↦ same
+  | inr other ↦
+    let long : c < length (slice_set t o (Some x)) = omega (arith, empty.0, length-set t o (Some x)) in
+    let none : entry_at (slice_set t o (Some x)) c ≡ None = get_or-set_other t o c (Some x) None other ∙ empty.1 in
+    let never : false ≡ true = sym (ap is_some none) ∙ full c None long in
+    absurd (cc) ]
+
+-- a cell that is taken and freed again
+pub freed-again : {T : Type 0} (w : World T) (o : ℕ) → IsEmptyAt w.cells o → without_cell (nulled w o) o ≡ w
+freed-again w o empty =
+    ap (λ (cs : Entries CellContents). record w { cells = cs })
+    (set-set w.cells o (Some (record { held = None; tag = tag.None })) None
+    ∙ ap (λ (x : Option CellContents). slice_set w.cells o x) (sym empty.1) ∙ set-get_or w.cells o None)

@@ -8,3 +8,7 @@ pub mod Pushing
 pub mod Grows
 pub mod Refusals
 pub mod Entering
+pub mod Pouring
+pub mod Asked
+pub mod Ending
+pub mod Leaving

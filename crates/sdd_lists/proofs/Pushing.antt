@@ -24,7 +24,7 @@ module _ {T : Type 0} (link : T → ℕ) where
   apart-left l (e ∷ es) all = apart-left-by l e es all (apart-left l es all.1) (is_deleted e)
 
   -- a cell apart stays as it is where a list is let go of
-  go-other : (w : World T) (p c k l next_at : ℕ) (t : Tag) (next : Option ℕ) → l ≢ c → l ≢ next_at →
+  pub go-other : (w : World T) (p c k l next_at : ℕ) (t : Tag) (next : Option ℕ) → l ≢ c → l ≢ next_at →
       entry_at (let_go_first w p c t k next_at next).cells l ≡ entry_at w.cells l
   go-other w p c k l next_at t next other far =
       let u : World T = with_cell w next_at (record { held = None; tag = tag.Second }) in

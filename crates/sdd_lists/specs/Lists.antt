@@ -112,12 +112,16 @@ module _ {T : Type 0} where
     emptied w p c t [] = w
     emptied w p c t (e ∷ es) = emptied (let_go_first w p c t e.slot (link e.value) (first_slot es)) p c t es
 
-    -- the entry e, behind deleted ones alone and before rest, is deleted, p has one owner more of it, and all these are let go of
-    abbrev pub popped : World T → (p c : ℕ) → Tag → (es : List (Entry T)) → Entry T → (rest : List (Entry T)) → (owners : ℕ) → World T
-    popped w p c t es e rest owners =
-        let freed : World T = trimmed (with_standing w e.slot (shared_by (owners + 1))) p c t es in
+    -- the entry e, behind deleted ones alone and before rest, is deleted, and all these are let go of
+    abbrev pub removed : World T → (p c : ℕ) → Tag → (es : List (Entry T)) → Entry T → (rest : List (Entry T)) → World T
+    removed w p c t es e rest =
+        let freed : World T = trimmed w p c t es in
         let deleted : World T = with_cell freed (link e.value) (record { held = first_slot rest; tag = tag.Second }) in
         let_go_first deleted p c t e.slot (link e.value) (first_slot rest)
+
+    -- p has one owner more of the entry, too
+    abbrev pub popped : World T → (p c : ℕ) → Tag → (es : List (Entry T)) → Entry T → (rest : List (Entry T)) → (owners : ℕ) → World T
+    popped w p c t es e rest owners = removed (with_standing w e.slot (shared_by (owners + 1))) p c t es e rest
 
     -- p took the entry e out of the list es in cell c, which is then rest, and has an owner of it
     pub record IsTaken (w : World T) (p c : ℕ) (t : Tag) (es : List (Entry T)) (e : Entry T) (rest : List (Entry T)) (owner : Shared T)

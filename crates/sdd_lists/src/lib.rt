@@ -1,14 +1,19 @@
-//! Lists of entries in a world or a domain: stacks of values, and a trait for types that have a link of their own.
+//! Lists of entries in a world or a domain: queues and stacks of values, and a trait for types that have a link of their own.
 #![tactic(auto)]
 
+mod asking;
 pub mod linked_entry;
 pub mod linked_list;
 mod moves;
 mod pops;
 mod pushes;
+pub mod queue;
 pub mod stack;
+pub mod unpopped;
 mod walks;
 
 pub use linked_entry::LinkedEntry;
 pub use linked_list::LinkedList;
+pub use queue::Queue;
 pub use stack::Stack;
+pub use unpopped::Unpopped;

@@ -14,6 +14,7 @@ ghost use Rattle.sdd_standings.specs.Slots.{IsSharedBy};
 ghost use Rattle.sdd_participants.specs.Slab.{entry_at};
 ghost use Rattle.sdd_participants.specs.declared.standing.CellContents.{CellContents};
 ghost use Rattle.sdd_participants.specs.declared.standing.Standing.TheVariants.{Shared as shared_by};
+ghost use Rattle.sdd_lists.specs.Queue.{cell_emptied};
 ghost use Rattle.sdd_lists.specs.Lists.{Entry, IsList, emptied, first_slot, left, let_go_first, linked_in, may_delete, trimmed};
 
 use crate::linked_list::LinkedList;
@@ -33,6 +34,39 @@ pub(crate) fn give_up<T: Item<T>, S: Items<T>>(owner: Option<Shared<T>>, s: &mut
 {
     if let Some(owner) = owner {
         let _ = owner.release(s);
+    }
+}
+
+/// Gives up what a cell holds. It holds nothing then, without a tag.
+pub(crate) fn empty_cell<T: Item<T>, S: Items<T> + Cells<T>>(cell: &AtomicShared<T>, s: &mut S)
+    requires seated { IsSeated (S.seat s.old) }
+    requires home { cells_home cell.now ≡ (S.seat s.old).home.cells }
+    ensures unmoved { Unmoved S.seat S.known S.shows s.old s.new }
+    ensures own { KeepsMoreWaiting (S.own s.old) (S.own s.new) }
+    ensures exact { IsExact (S.seat s.old) → (held : Option ℕ) (t : Tag) →
+        entry_at (S.world s.old).cells (cell_of cell.now) ≡ Some (record { held = held; tag = t }) →
+        S.world s.new ≡ cell_emptied (S.world s.old) (S.seat s.old).place (cell_of cell.now) held }
+{
+    let (held, _) = cell.swap((None, Tag::None), s);
+    give_up(held, s);
+}
+
+/// The same, if it is to be done.
+pub(crate) fn empty_cell_if<T: Item<T>, S: Items<T> + Cells<T>>(
+    is_due: bool,
+    cell: &AtomicShared<T>,
+    s: &mut S,
+)
+    requires seated { IsSeated (S.seat s.old) }
+    requires home { cells_home cell.now ≡ (S.seat s.old).home.cells }
+    ensures unmoved { Unmoved S.seat S.known S.shows s.old s.new }
+    ensures own { KeepsMoreWaiting (S.own s.old) (S.own s.new) }
+    ensures exact { IsExact (S.seat s.old) → (held : Option ℕ) (t : Tag) →
+        entry_at (S.world s.old).cells (cell_of cell.now) ≡ Some (record { held = held; tag = t }) →
+        S.world s.new ≡ (if is_due then cell_emptied (S.world s.old) (S.seat s.old).place (cell_of cell.now) held else S.world s.old) }
+{
+    if is_due {
+        empty_cell(cell, s);
     }
 }
 

@@ -1,5 +1,5 @@
 //! Entries that leave a list at its front.
-ghost use Rattle.std.specs.Prelude.{◌≡◌, ◌⊎◌, ℕ, IfErr, IfOk, List, [], ◌∷◌, MatchOption, MatchResult, Some};
+ghost use Rattle.std.specs.Prelude.{◌≡◌, ◌⊎◌, ℕ, IfErr, IfOk, IsOk, Option, List, [], ◌∷◌, MatchOption, MatchResult, Some};
 ghost use Rattle.sdd_space.specs.Guard.{reader_of};
 ghost use Rattle.sdd_space.specs.Undisturbed.{Undisturbed, Unmoved};
 ghost use Rattle.sdd_space.specs.ParticipantChanges.{KeepsMoreWaiting};
@@ -9,13 +9,44 @@ ghost use Rattle.sdd_space.specs.Shared.{IsOfSlots, slots_home, cell_of, cells_h
 ghost use Rattle.sdd_space.specs.World.{standing_at};
 ghost use Rattle.sdd_core.specs.declared.tag.Tag.{Tag};
 ghost use Rattle.sdd_standings.specs.Slots.{IsSharedBy};
-ghost use Rattle.sdd_lists.specs.Lists.{Entry, IsCrowded, IsKept, IsList, IsTaken, Pops, left};
+ghost use Rattle.sdd_lists.specs.Lists.{Entry, IsCrowded, IsKept, IsList, IsTaken, Pops, left, removed};
+ghost use Rattle.sdd_lists.specs.Queue.{Dequeues, IsCleared, IsDequeued, IsQueue};
 
 use crate::linked_list::LinkedList;
-use crate::moves::{delete, let_go_of_first, trim};
-use crate::walks::{Front, find_first};
+use crate::moves::{delete, empty_cell, empty_cell_if, let_go_of_first, trim};
+use crate::walks::{Front, find_first, is_let_go_of, slot_in};
 use sdd_core::Refused;
 use sdd_space::{AtomicShared, Cells, Guard, Items, LookThrough, Shared, SharedItems};
+
+/// Deletes the first entry of the list in a cell that isn't deleted, whose link is the other one, and lets go of it, with what is deleted before it.
+pub(crate) fn remove_first<T: LinkedList, S: Items<T> + Cells<T> + LookThrough<T>>(
+    cell: &AtomicShared<T>,
+    link: &AtomicShared<T>,
+    guard: &Guard,
+    s: &mut S,
+) -> Result<(), Refused>
+    requires seated { IsSeated (S.seat s.old) }
+    requires home { cells_home cell.now ≡ (S.seat s.old).home.cells }
+    requires link { cells_home link.now ≡ (S.seat s.old).home.cells }
+    requires reader { reader_of guard.now ≡ (S.seat s.old).reader }
+    ensures unmoved { Unmoved S.seat S.known S.shows s.old s.new }
+    ensures own { KeepsMoreWaiting (S.own s.old) (S.own s.new) }
+    ensures back { IfErr result (λ e. e ≡ Refused.Contended) }
+    ensures exact { IsExact (S.seat s.old) → (t : Tag) (es : List (Entry T)) → IsList T.link (S.world s.old) (cell_of cell.now) t es →
+        (e : Entry T) (rest : List (Entry T)) → left es ≡ e ∷ rest → cell_of link.now ≡ T.link e.value → IsOk result ×
+        (S.world s.new ≡ removed T.link (S.world s.old) (S.seat s.old).place (cell_of cell.now) t es e rest) ×
+        IsList T.link (S.world s.new) (cell_of cell.now) t rest }
+{
+    if let Err(refused) = trim(cell, guard, s) {
+        return Err(refused);
+    }
+    let deleted = delete(link, s);
+    if !deleted {
+        return Err(Refused::Contended);
+    }
+    let_go_of_first(cell, link, s);
+    Ok(())
+}
 
 /// Takes the first entry of the list in a cell that isn't deleted, and was found: it is deleted, and what is deleted before it is let go of with it.
 ///
@@ -40,22 +71,18 @@ pub(crate) fn take_first<T: LinkedList, S: Items<T> + SharedItems<T> + Cells<T> 
         (λ owner. IsTaken T.link (S.world s.old) (S.seat s.old).place (cell_of cell.now) t es e rest owner (S.world s.new))
         (λ why. IsCrowded (S.world s.old) e why (S.world s.new)) }
 {
-    let owner = match front.ptr.get_shared(s) {
-        Ok(Some(owner)) => owner,
-        Ok(None) => return Err(Refused::Contended),
+    let link = front.link;
+    let owner = match keep_first(front, s) {
+        Ok(owner) => owner,
         Err(refused) => return Err(refused),
     };
-    if let Err(refused) = trim(cell, guard, s) {
-        let _ = owner.release(s);
-        return Err(refused);
+    match remove_first(cell, link, guard, s) {
+        Ok(()) => Ok(owner),
+        Err(refused) => {
+            let _ = owner.release(s);
+            Err(refused)
+        }
     }
-    let deleted = delete(front.link, s);
-    if !deleted {
-        let _ = owner.release(s);
-        return Err(Refused::Contended);
-    }
-    let_go_of_first(cell, front.link, s);
-    Ok(owner)
 }
 
 /// One owner more of an entry that was found. Nothing else changes.
@@ -105,6 +132,111 @@ pub(crate) fn pop_first<T: LinkedList, S: Items<T> + SharedItems<T> + Cells<T> +
         },
         Ok(None) => match trim(cell, guard, s) {
             Ok(_) => Ok(None),
+            Err(refused) => Err(refused),
+        },
+        Err(refused) => Err(refused),
+    }
+}
+
+/// Takes the first entry of a queue that isn't deleted, and was found: it is deleted, and what is deleted before it is let go of with it. The second cell
+/// gives up what it holds first, if that is one of these.
+///
+/// `TooManyOwners` where 2^62 own the entry.
+pub(crate) fn take_oldest<T: LinkedList, S: Items<T> + SharedItems<T> + Cells<T> + LookThrough<T>>(
+    oldest: &AtomicShared<T>,
+    newest: &AtomicShared<T>,
+    front: Front<'_, T>,
+    guard: &Guard,
+    s: &mut S,
+) -> Result<Shared<T>, Refused>
+    requires seated { IsSeated (S.seat s.old) }
+    requires oldest { cells_home oldest.now ≡ (S.seat s.old).home.cells }
+    requires newest { cells_home newest.now ≡ (S.seat s.old).home.cells }
+    requires reader { reader_of guard.now ≡ (S.seat s.old).reader }
+    requires link { cells_home front.link.now ≡ (S.seat s.old).home.cells }
+    ensures unmoved { Unmoved S.seat S.known S.shows s.old s.new }
+    ensures own { KeepsMoreWaiting (S.own s.old) (S.own s.new) }
+    ensures owner { IfOk result (λ owner. slots_home owner ≡ (S.seat s.old).home.slots) }
+    ensures back { IfErr result (λ e. (e ≡ Refused.TooManyOwners) ⊎ (e ≡ Refused.Contended)) }
+    ensures exact { IsExact (S.seat s.old) → (es : List (Entry T)) (second : Option ℕ) →
+        IsQueue T.link (S.world s.old) (record { oldest = cell_of oldest.now; newest = cell_of newest.now }) es second →
+        (e : Entry T) (rest : List (Entry T)) → left es ≡ e ∷ rest → slot_named front.entry.ptr ≡ Some e.slot →
+        cell_of front.entry.link.now ≡ T.link e.value → ((n : ℕ) × IsSharedBy n (standing_at (S.world s.old) e.slot)) → MatchResult result
+        (λ owner. IsDequeued T.link (S.world s.old) (S.seat s.old).place (record { oldest = cell_of oldest.now; newest = cell_of newest.now }) es second
+        e rest owner (S.world s.new))
+        (λ why. IsCrowded (S.world s.old) e why (S.world s.new)) }
+{
+    let link = front.link;
+    let second = slot_in(newest, guard, s);
+    let goes = is_let_go_of(oldest, second, guard, s);
+    let owner = match keep_first(front, s) {
+        Ok(owner) => owner,
+        Err(refused) => return Err(refused),
+    };
+    empty_cell_if(goes, newest, s);
+    match remove_first(oldest, link, guard, s) {
+        Ok(()) => Ok(owner),
+        Err(refused) => {
+            let _ = owner.release(s);
+            Err(refused)
+        }
+    }
+}
+
+/// Lets go of a queue whose entries are deleted all. The second cell gives up what it holds first.
+pub(crate) fn clear<T: LinkedList, S: Items<T> + Cells<T> + LookThrough<T>>(
+    oldest: &AtomicShared<T>,
+    newest: &AtomicShared<T>,
+    guard: &Guard,
+    s: &mut S,
+) -> Result<(), Refused>
+    requires seated { IsSeated (S.seat s.old) }
+    requires oldest { cells_home oldest.now ≡ (S.seat s.old).home.cells }
+    requires newest { cells_home newest.now ≡ (S.seat s.old).home.cells }
+    requires reader { reader_of guard.now ≡ (S.seat s.old).reader }
+    ensures unmoved { Unmoved S.seat S.known S.shows s.old s.new }
+    ensures own { KeepsMoreWaiting (S.own s.old) (S.own s.new) }
+    ensures back { IfErr result (λ e. e ≡ Refused.Contended) }
+    ensures exact { IsExact (S.seat s.old) → (es : List (Entry T)) (second : Option ℕ) →
+        IsQueue T.link (S.world s.old) (record { oldest = cell_of oldest.now; newest = cell_of newest.now }) es second → left es ≡ [] → IsOk result ×
+        IsCleared T.link (S.world s.old) (S.seat s.old).place (record { oldest = cell_of oldest.now; newest = cell_of newest.now }) es second (S.world s.new) }
+{
+    empty_cell(newest, s);
+    match trim(oldest, guard, s) {
+        Ok(_) => Ok(()),
+        Err(refused) => Err(refused),
+    }
+}
+
+/// Pops the first entry of a queue that isn't deleted: it is deleted, and what is deleted before it is let go of with it.
+///
+/// `TooManyOwners` where 2^62 own the entry; nothing has changed then.
+pub(crate) fn pop_oldest<T: LinkedList, S: Items<T> + SharedItems<T> + Cells<T> + LookThrough<T>>(
+    oldest: &AtomicShared<T>,
+    newest: &AtomicShared<T>,
+    guard: &Guard,
+    s: &mut S,
+) -> Result<Option<Shared<T>>, Refused>
+    requires seated { IsSeated (S.seat s.old) }
+    requires oldest { cells_home oldest.now ≡ (S.seat s.old).home.cells }
+    requires newest { cells_home newest.now ≡ (S.seat s.old).home.cells }
+    requires reader { reader_of guard.now ≡ (S.seat s.old).reader }
+    ensures unmoved { Unmoved S.seat S.known S.shows s.old s.new }
+    ensures own { KeepsMoreWaiting (S.own s.old) (S.own s.new) }
+    ensures owner { IfOk result (IsOfSlots (S.seat s.old).home.slots) }
+    ensures back { IfErr result (λ e. (e ≡ Refused.TooManyOwners) ⊎ (e ≡ Refused.Contended)) }
+    ensures exact { IsExact (S.seat s.old) → (es : List (Entry T)) (second : Option ℕ) →
+        IsQueue T.link (S.world s.old) (record { oldest = cell_of oldest.now; newest = cell_of newest.now }) es second →
+        Dequeues T.link (S.world s.old) (S.seat s.old).place (record { oldest = cell_of oldest.now; newest = cell_of newest.now }) es second result
+        (S.world s.new) }
+{
+    match find_first(oldest, guard, s) {
+        Ok(Some(front)) => match take_oldest(oldest, newest, front, guard, s) {
+            Ok(owner) => Ok(Some(owner)),
+            Err(refused) => Err(refused),
+        },
+        Ok(None) => match clear(oldest, newest, guard, s) {
+            Ok(()) => Ok(None),
             Err(refused) => Err(refused),
         },
         Err(refused) => Err(refused),

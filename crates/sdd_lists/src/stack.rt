@@ -1,5 +1,6 @@
 //! A container whose newest value comes out first.
-ghost use Rattle.std.specs.Prelude.{◌≡◌, ◌↔◌, ◌⊎◌, [], IfErr, IfOk, IsTrue, List, MatchResult, length, option_copied};
+ghost use Rattle.std.specs.Prelude.{◌≡◌, ◌↔◌, ◌⊎◌, ℕ, [], ◌∷◌, IfErr, IfOk, IfSome, IsTrue, List, MatchResult, Some, length, option_copied};
+ghost use Rattle.std.specs.Borrow.{Bor};
 ghost use Rattle.sdd_space.specs.Guard.{reader_of};
 ghost use Rattle.sdd_space.specs.OwnerOrCell.{AreOf};
 ghost use Rattle.sdd_space.specs.Undisturbed.{Undisturbed, Unmoved};
@@ -7,19 +8,24 @@ ghost use Rattle.sdd_space.specs.ParticipantChanges.{KeepsMoreWaiting};
 ghost use Rattle.sdd_space.specs.Ptr.{PtrIsShown, slot_named, tag_of};
 ghost use Rattle.sdd_space.specs.Refusals.{IsRefusedBy};
 ghost use Rattle.sdd_space.specs.CallerId.{IsSeated, IsExact};
-ghost use Rattle.sdd_space.specs.Shared.{IsOfSlots, slots_home};
+ghost use Rattle.sdd_space.specs.Shared.{IsOfSlots, cell_of, cells_home, slots_home};
+ghost use Rattle.sdd_space.specs.World.{standing_at};
 ghost use Rattle.sdd_space.specs.WorldChanges.{nulled, without_cell};
 ghost use Rattle.sdd_core.specs.declared.tag.Tag.TheVariants.{None as no_tag};
 ghost use Rattle.sdd_participants.specs.Slab.{IsEmptyAt, IsFull};
+ghost use Rattle.sdd_standings.specs.Slots.{IsSharedBy};
+ghost use Rattle.sdd_lists.specs.Asking.{kept_by, was_held};
 ghost use Rattle.sdd_lists.specs.Entries.{link_of};
 ghost use Rattle.sdd_lists.specs.Lists.{Entry, Pops, content, emptied, first_slot, first_value, left};
 
+use crate::asking::{asks, asks_of_any};
 use crate::linked_entry::LinkedEntry;
-use crate::moves::let_go_of_all;
-use crate::pops::pop_first;
+use crate::moves::{give_up, let_go_of_all, trim};
+use crate::pops::{keep_first, pop_first, take_first};
 use crate::pushes::push_first;
-use crate::walks::{count, find_first, shown_in};
-use sdd_core::Refused;
+use crate::unpopped::Unpopped;
+use crate::walks::{Front, count, find_first, first_ptr_in, first_value_in, shown_in};
+use sdd_core::{Refused, Tag};
 use sdd_space::{
     AtomicShared, Cells, Guard, Item, Items, LookThrough, Ptr, Several, Shared, SharedItems,
 };
@@ -30,7 +36,7 @@ pub struct Stack<T> {
 }
 
 impl<T: Item<LinkedEntry<T>>> Stack<T> {
-    ghost use Rattle.sdd_lists.specs.Stack.{IsStack, PushesOnto, cell_in, home_in};
+    ghost use Rattle.sdd_lists.specs.Stack.{IsStack, PopsIf, PushesOnto, cell_in, home_in, poured};
 
     /// An empty stack.
     ///
@@ -128,12 +134,7 @@ impl<T: Item<LinkedEntry<T>>> Stack<T> {
         ensures list { IsExact (S.seat s.old) → (es : List (Entry (LinkedEntry T))) → IsStack (S.world s.old) (cell_in self.now) es →
             slot_named result ≡ first_slot (left es) }
     {
-        let front = match find_first(&self.newest, guard, s) {
-            Ok(Some(front)) => front,
-            Ok(None) => return Ptr::null(),
-            Err(_) => return Ptr::null(),
-        };
-        front.ptr.without_tag()
+        first_ptr_in(&self.newest, guard, s)
     }
 
     /// How many entries aren't deleted.
@@ -187,6 +188,173 @@ impl<T: Item<LinkedEntry<T>>> Stack<T> {
         let Stack { newest } = self;
         let_go_of_all(&newest, guard, s);
         newest.close(s);
+    }
+
+    /// The same as `push`, if the condition holds of the newest entry that isn't deleted, or of none; it is asked first, and once.
+    ///
+    /// Without a refusal where it failed: the value comes back, and nothing has changed. Else refused as `push` is; `Contended`, in a domain alone, before
+    /// the condition was asked too.
+    pub fn push_if<
+        F: FnMut(Option<&LinkedEntry<T>>) -> bool,
+        S: Items<LinkedEntry<T>>
+            + Several<LinkedEntry<T>>
+            + Cells<LinkedEntry<T>>
+            + LookThrough<LinkedEntry<T>>,
+    >(
+        &self,
+        value: T,
+        condition: F,
+        guard: &Guard,
+        s: &mut S,
+    ) -> Result<Shared<LinkedEntry<T>>, (T, Option<Refused>)>
+        requires seated { IsSeated (S.seat s.old) }
+        requires home { home_in self.now ≡ (S.seat s.old).home.cells }
+        requires value { AreOf (S.seat s.old).home (T.holds value) }
+        requires callable { F.IsAlwaysCallable condition }
+        requires reader { reader_of guard.now ≡ (S.seat s.old).reader }
+        ensures unmoved { Unmoved S.seat S.known S.shows s.old s.new }
+        ensures own { KeepsMoreWaiting (S.own s.old) (S.own s.new) }
+        ensures owner { IfOk result (λ owner. slots_home owner ≡ (S.seat s.old).home.slots) }
+        ensures back { IfErr result (λ e. (e.0 ≡ value) ×
+            IfSome e.1 (λ why. (why ≡ Refused.NoSlot) ⊎ (why ≡ Refused.NoCell) ⊎ (why ≡ Refused.Contended))) }
+        ensures asked { IsExact (S.seat s.old) → (es : List (Entry (LinkedEntry T))) → IsStack (S.world s.old) (cell_in self.now) es →
+            (shown : _) × (option_copied shown ≡ first_value (left es)) × F.post condition shown (was_held result) }
+        ensures refused { IsExact (S.seat s.old) → (es : List (Entry (LinkedEntry T))) → IsStack (S.world s.old) (cell_in self.now) es →
+            IfErr result (λ e. (S.world s.new ≡ S.world s.old) × IfSome e.1 (λ why. IsFull (S.world s.old).standings × (why ≡ Refused.NoSlot) ⊎
+            ¬ (IsFull (S.world s.old).standings) × IsFull (S.world s.old).cells × (why ≡ Refused.NoCell))) }
+        ensures list { IsExact (S.seat s.old) → (es : List (Entry (LinkedEntry T))) → IsStack (S.world s.old) (cell_in self.now) es →
+            IfOk result (λ owner. PushesOnto (S.world s.old) (S.seat s.old).place (cell_in self.now) es value owner (S.world s.new)) }
+    {
+        let shown = match first_value_in(&self.newest, guard, s) {
+            Ok(shown) => shown,
+            Err(refused) => {
+                drop(condition);
+                return Err((value, Some(refused)));
+            }
+        };
+        let holds = asks_of_any(condition, shown);
+        if !holds {
+            return Err((value, None));
+        }
+        match self.push(value, guard, s) {
+            Ok(owner) => Ok(owner),
+            Err((value, refused)) => Err((value, Some(refused))),
+        }
+    }
+
+    /// The same as `pop`, if the condition holds of the newest entry that isn't deleted; where there is none it isn't asked.
+    ///
+    /// `Kept` where it failed, with one owner more of that entry: nothing is let go of. Else refused as `pop` is; where the condition failed too, with
+    /// `TooManyOwners`, as 2^62 own the entry.
+    pub fn pop_if<
+        F: FnMut(&LinkedEntry<T>) -> bool,
+        S: Items<LinkedEntry<T>>
+            + SharedItems<LinkedEntry<T>>
+            + Cells<LinkedEntry<T>>
+            + LookThrough<LinkedEntry<T>>,
+    >(
+        &self,
+        condition: F,
+        guard: &Guard,
+        s: &mut S,
+    ) -> Result<Option<Shared<LinkedEntry<T>>>, Unpopped<T>>
+        requires seated { IsSeated (S.seat s.old) }
+        requires home { home_in self.now ≡ (S.seat s.old).home.cells }
+        requires callable { F.IsAlwaysCallable condition }
+        requires reader { reader_of guard.now ≡ (S.seat s.old).reader }
+        ensures unmoved { Unmoved S.seat S.known S.shows s.old s.new }
+        ensures own { KeepsMoreWaiting (S.own s.old) (S.own s.new) }
+        ensures owner { MatchResult result (IsOfSlots (S.seat s.old).home.slots) (λ e. IsOfSlots (S.seat s.old).home.slots (kept_by e)) }
+        ensures list { IsExact (S.seat s.old) → (es : List (Entry (LinkedEntry T))) → IsStack (S.world s.old) (cell_in self.now) es →
+            PopsIf (λ value held. (shown : Bor (LinkedEntry T)) × (shown.now ≡ value) × F.post condition shown held)
+            (S.world s.old) (S.seat s.old).place (cell_in self.now) es result (S.world s.new) }
+    {
+        match find_first(&self.newest, guard, s) {
+            Ok(Some(front)) => {
+                let holds = asks(condition, front.entry);
+                self.pop_asked(holds, front, guard, s)
+            }
+            Ok(None) => {
+                drop(condition);
+                match trim(&self.newest, guard, s) {
+                    Ok(_) => Ok(None),
+                    Err(refused) => Err(Unpopped::Refused(refused)),
+                }
+            }
+            Err(refused) => {
+                drop(condition);
+                Err(Unpopped::Refused(refused))
+            }
+        }
+    }
+
+    /// Pops the newest entry that isn't deleted, and was found, where the condition held of it; else there is one owner more of it.
+    fn pop_asked<
+        S: Items<LinkedEntry<T>>
+            + SharedItems<LinkedEntry<T>>
+            + Cells<LinkedEntry<T>>
+            + LookThrough<LinkedEntry<T>>,
+    >(
+        &self,
+        holds: bool,
+        front: Front<'_, LinkedEntry<T>>,
+        guard: &Guard,
+        s: &mut S,
+    ) -> Result<Option<Shared<LinkedEntry<T>>>, Unpopped<T>>
+        requires seated { IsSeated (S.seat s.old) }
+        requires home { home_in self.now ≡ (S.seat s.old).home.cells }
+        requires reader { reader_of guard.now ≡ (S.seat s.old).reader }
+        requires link { cells_home front.link.now ≡ (S.seat s.old).home.cells }
+        ensures unmoved { Unmoved S.seat S.known S.shows s.old s.new }
+        ensures own { KeepsMoreWaiting (S.own s.old) (S.own s.new) }
+        ensures owner { MatchResult result (IsOfSlots (S.seat s.old).home.slots) (λ e. IsOfSlots (S.seat s.old).home.slots (kept_by e)) }
+        ensures list { IsExact (S.seat s.old) → (es : List (Entry (LinkedEntry T))) → IsStack (S.world s.old) (cell_in self.now) es →
+            (e : Entry (LinkedEntry T)) (rest : List (Entry (LinkedEntry T))) → left es ≡ e ∷ rest → slot_named front.entry.ptr ≡ Some e.slot →
+            cell_of front.entry.link.now ≡ link_of e.value → ((n : ℕ) × IsSharedBy n (standing_at (S.world s.old) e.slot)) →
+            PopsIf (λ value held. (value ≡ e.value) × (held ≡ holds)) (S.world s.old) (S.seat s.old).place (cell_in self.now) es result (S.world s.new) }
+    {
+        if holds {
+            match take_first(&self.newest, front, guard, s) {
+                Ok(owner) => Ok(Some(owner)),
+                Err(refused) => Err(Unpopped::Refused(refused)),
+            }
+        } else {
+            match keep_first(front, s) {
+                Ok(owner) => Err(Unpopped::Kept(owner)),
+                Err(refused) => Err(Unpopped::Refused(refused)),
+            }
+        }
+    }
+
+    /// Another stack with all the entries, deleted ones too. None is let go of, and this one is empty then.
+    ///
+    /// `NoCell` where no cell is free; `Contended`, in a domain alone, where as many exchanges were lost as its limits allow.
+    pub fn pop_all<S: Items<LinkedEntry<T>> + Cells<LinkedEntry<T>>>(
+        &self,
+        _guard: &Guard,
+        s: &mut S,
+    ) -> Result<Stack<T>, Refused>
+        requires seated { IsSeated (S.seat s.old) }
+        requires home { home_in self.now ≡ (S.seat s.old).home.cells }
+        ensures unmoved { Unmoved S.seat S.known S.shows s.old s.new }
+        ensures own { KeepsMoreWaiting (S.own s.old) (S.own s.new) }
+        ensures home { IfOk result (λ stack. home_in stack ≡ (S.seat s.old).home.cells) }
+        ensures back { IfErr result (IsRefusedBy (S.seat s.old) Refused.NoCell) }
+        ensures refused { IsExact (S.seat s.old) →
+            IfErr result (λ e. IsFull (S.world s.old).cells × (e ≡ Refused.NoCell) × (S.world s.new ≡ S.world s.old)) }
+        ensures list { IsExact (S.seat s.old) → (es : List (Entry (LinkedEntry T))) → IsStack (S.world s.old) (cell_in self.now) es →
+            IfOk result (λ all. IsEmptyAt (S.world s.old).cells (cell_in all) × IsStack (S.world s.new) (cell_in self.now) [] ×
+            IsStack (S.world s.new) (cell_in all) es ×
+            (S.world s.new ≡ poured (S.world s.old) (cell_in self.now) (cell_in all) es)) }
+    {
+        let newest = match AtomicShared::null(s) {
+            Ok(newest) => newest,
+            Err(refused) => return Err(refused),
+        };
+        let (first, _) = self.newest.swap((None, Tag::None), s);
+        let (nothing, _) = newest.swap((first, Tag::None), s);
+        give_up(nothing, s);
+        Ok(Stack { newest })
     }
 
     /// What the reader makes of the newest entry that isn't deleted, or of none.

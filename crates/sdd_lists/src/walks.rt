@@ -1,8 +1,9 @@
 //! Looks along a list, which change nothing.
-ghost use Rattle.std.specs.Prelude.{◌≡◌, ◌≤◌, ℕ, IfErr, IfOk, IfSome, List, [], ◌∷◌, MatchOption, MatchResult, Some, length, option_copied, if◌then◌else◌};
+ghost use Rattle.std.specs.Prelude.{◌≡◌, ◌≤◌, ℕ, false, true, Option, IfErr, IfOk, IfSome, List, [], ◌∷◌, MatchOption, MatchResult, None, Some, length, option_copied, if◌then◌else◌};
 ghost use Rattle.sdd_space.specs.Guard.{reader_of};
 ghost use Rattle.sdd_space.specs.Undisturbed.{Undisturbed};
-ghost use Rattle.sdd_space.specs.Ptr.{PtrIsShown, shown_by, slot_named};
+ghost use Rattle.sdd_space.specs.Ptr.{PtrIsShown, shown_by, slot_named, tag_of};
+ghost use Rattle.sdd_core.specs.declared.tag.Tag.TheVariants.{None as no_tag};
 ghost use Rattle.sdd_space.specs.CallerId.{IsSeated, IsExact};
 ghost use Rattle.sdd_space.specs.Shared.{cell_of, cells_home};
 ghost use Rattle.sdd_space.specs.World.{standing_at};
@@ -10,10 +11,13 @@ ghost use Rattle.sdd_standings.specs.Slots.{IsSharedBy};
 ghost use Rattle.sdd_participants.specs.Slab.{entry_at};
 ghost use Rattle.sdd_participants.specs.declared.standing.CellContents.{CellContents};
 ghost use Rattle.sdd_core.specs.declared.tag.Tag.{Tag};
-ghost use Rattle.sdd_lists.specs.Lists.{AreLinked, Entry, IsList, content, first_slot, first_value, is_deleting, left};
+ghost use Rattle.sdd_lists.specs.Ends.{EndsWith, IsLastOf, is_spent};
+ghost use Rattle.sdd_lists.specs.Lists.{AreLinked, Entry, IsList, content, first_slot, first_value, is_deleted, is_deleting, left};
+ghost use Rattle.sdd_lists.specs.Queue.{IsNoneOrAmong, IsQueue, is_at, lets_go_of};
 
 use crate::linked_list::LinkedList;
 use sdd_core::{Refused, Tag};
+use sdd_space::inner::slot_of_ptr;
 use sdd_space::laws::values_fit_slots;
 use sdd_space::{AtomicShared, Cells, Guard, Item, Items, LookThrough, Ptr};
 
@@ -191,4 +195,203 @@ pub(crate) fn count<T: LinkedList, S: Items<T> + Cells<T> + LookThrough<T>>(
         at = next;
     }
     count
+}
+
+/// The slot of what a cell holds.
+pub(crate) fn slot_in<T: Item<T>, S: Cells<T>>(
+    cell: &AtomicShared<T>,
+    guard: &Guard,
+    s: &mut S,
+) -> Option<u32>
+    requires seated { IsSeated (S.seat s.old) }
+    requires home { cells_home cell.now ≡ (S.seat s.old).home.cells }
+    requires reader { reader_of guard.now ≡ (S.seat s.old).reader }
+    ensures undisturbed { Undisturbed S.seat S.own S.known S.shows s.old s.new }
+    ensures exact { IsExact (S.seat s.old) → (S.world s.new ≡ S.world s.old) × ((t : Tag) ×
+        (entry_at (S.world s.old).cells (cell_of cell.now) ≡ Some (record { held = result; tag = t }))) }
+{
+    slot_of_ptr(&cell.load(guard, s))
+}
+
+/// The pointer names the slot.
+fn is_named<T>(ptr: &Ptr<'_, T>, watched: Option<u32>) -> bool
+    ensures { (e : Entry T) → slot_named ptr.now ≡ Some e.slot → result ≡ is_at watched e }
+{
+    match (slot_of_ptr(ptr), watched) {
+        (Some(slot), Some(other)) => slot == other,
+        _ => false,
+    }
+}
+
+/// The watched slot is that of the first entry that isn't deleted, or of one before it.
+pub(crate) fn is_let_go_of<T: LinkedList, S: Items<T> + Cells<T> + LookThrough<T>>(
+    cell: &AtomicShared<T>,
+    watched: Option<u32>,
+    guard: &Guard,
+    s: &mut S,
+) -> bool
+    requires seated { IsSeated (S.seat s.old) }
+    requires home { cells_home cell.now ≡ (S.seat s.old).home.cells }
+    requires reader { reader_of guard.now ≡ (S.seat s.old).reader }
+    ensures undisturbed { Undisturbed S.seat S.own S.known S.shows s.old s.new }
+    ensures world { IsExact (S.seat s.old) → S.world s.new ≡ S.world s.old }
+    ensures exact { IsExact (S.seat s.old) → (t : Tag) (es : List (Entry T)) → IsList T.link (S.world s.old) (cell_of cell.now) t es →
+        result ≡ lets_go_of watched es }
+{
+    let most = reach::<T, S>(s);
+    let Some(mut at) = first_in(cell, guard, s) else {
+        return false;
+    };
+    for _step in 0..most {
+        if is_named(&at.ptr, watched) {
+            return true;
+        }
+        let Tag::Second = at.link.tag(s) else {
+            return false;
+        };
+        let Some(next) = first_in(at.link, guard, s) else {
+            return false;
+        };
+        at = next;
+    }
+    false
+}
+
+/// What a cell holds, if it is an entry that isn't deleted.
+pub(crate) fn kept_in<'g, T: LinkedList, S: Cells<T> + LookThrough<T>>(
+    cell: &AtomicShared<T>,
+    guard: &'g Guard,
+    s: &mut S,
+) -> Option<Front<'g, T>>
+    requires seated { IsSeated (S.seat s.old) }
+    requires home { cells_home cell.now ≡ (S.seat s.old).home.cells }
+    requires reader { reader_of guard.now ≡ (S.seat s.old).reader }
+    ensures undisturbed { Undisturbed S.seat S.own S.known S.shows s.old s.new }
+    ensures home { IfSome result (λ f. cells_home f.link.now ≡ (S.seat s.old).home.cells) }
+    ensures link { IfSome result (λ f. cell_of f.link.now ≡ T.link f.entry.now) }
+    ensures shown { IfSome result (λ f. PtrIsShown (S.shows s.new) f.ptr) }
+    ensures value { IfSome result (λ f. shown_by f.ptr ≡ Some f.entry.now) }
+    ensures world { IsExact (S.seat s.old) → S.world s.new ≡ S.world s.old }
+    ensures exact { IsExact (S.seat s.old) → (es : List (Entry T)) → AreLinked T.link (S.world s.old) es →
+        (held : CellContents) → entry_at (S.world s.old).cells (cell_of cell.now) ≡ Some held → IsNoneOrAmong held.held es →
+        IfSome result (λ f. (e : Entry T) × (rest : List (Entry T)) × EndsWith es e rest × (is_deleted e ≡ false) × (slot_named f.ptr ≡ Some e.slot) ×
+        (f.entry.now ≡ e.value) × ((n : ℕ) × IsSharedBy n (standing_at (S.world s.old) e.slot))) }
+{
+    let Some(front) = first_in(cell, guard, s) else {
+        return None;
+    };
+    match front.link.tag(s) {
+        Tag::Second => None,
+        _ => Some(front),
+    }
+}
+
+/// From an entry on that isn't deleted, the last one that isn't.
+///
+/// `Contended` where as many follow as there are slots, as where links run in a ring.
+fn last_from<'g, T: LinkedList, S: Items<T> + Cells<T> + LookThrough<T>>(
+    front: Front<'g, T>,
+    guard: &'g Guard,
+    s: &mut S,
+) -> Result<Front<'g, T>, Refused>
+    requires seated { IsSeated (S.seat s.old) }
+    requires home { cells_home front.link.now ≡ (S.seat s.old).home.cells }
+    requires link { cell_of front.link.now ≡ T.link front.entry.now }
+    requires shown { PtrIsShown (S.shows s.old) front.ptr }
+    requires value { shown_by front.ptr ≡ Some front.entry.now }
+    requires reader { reader_of guard.now ≡ (S.seat s.old).reader }
+    ensures undisturbed { Undisturbed S.seat S.own S.known S.shows s.old s.new }
+    ensures home { IfOk result (λ f. cells_home f.link.now ≡ (S.seat s.old).home.cells) }
+    ensures link { IfOk result (λ f. cell_of f.link.now ≡ T.link f.entry.now) }
+    ensures shown { IfOk result (λ f. PtrIsShown (S.shows s.new) f.ptr) }
+    ensures value { IfOk result (λ f. shown_by f.ptr ≡ Some f.entry.now) }
+    ensures back { IfErr result (λ e. e ≡ Refused.Contended) }
+    ensures world { IsExact (S.seat s.old) → S.world s.new ≡ S.world s.old }
+    ensures exact { IsExact (S.seat s.old) → (es : List (Entry T)) → AreLinked T.link (S.world s.old) es →
+        (e : Entry T) (rest : List (Entry T)) → EndsWith es e rest → is_deleted e ≡ false → front.entry.entry.now ≡ e.value →
+        MatchResult result (λ f. (last : Entry T) × (behind : List (Entry T)) × IsLastOf es last behind × (f.entry.now ≡ last.value)) (λ _. ⊥) }
+{
+    let most = reach::<T, S>(s);
+    let mut at = front;
+    for _step in 0..most {
+        match find_first(at.link, guard, s) {
+            Ok(Some(next)) => at = next,
+            Ok(None) => return Ok(at),
+            Err(refused) => return Err(refused),
+        }
+    }
+    Err(Refused::Contended)
+}
+
+/// The last entry that isn't deleted, of the list in the first cell. The second holds one of its entries, or nothing: where that isn't deleted, what comes
+/// before it isn't looked at.
+///
+/// `Contended` where `find_first` or the walk from there is refused so.
+pub(crate) fn find_last<'g, T: LinkedList, S: Items<T> + Cells<T> + LookThrough<T>>(
+    oldest: &AtomicShared<T>,
+    newest: &AtomicShared<T>,
+    guard: &'g Guard,
+    s: &mut S,
+) -> Result<Option<Front<'g, T>>, Refused>
+    requires seated { IsSeated (S.seat s.old) }
+    requires oldest { cells_home oldest.now ≡ (S.seat s.old).home.cells }
+    requires newest { cells_home newest.now ≡ (S.seat s.old).home.cells }
+    requires reader { reader_of guard.now ≡ (S.seat s.old).reader }
+    ensures undisturbed { Undisturbed S.seat S.own S.known S.shows s.old s.new }
+    ensures home { IfOk result (λ o. IfSome o (λ f. cells_home f.link.now ≡ (S.seat s.old).home.cells)) }
+    ensures back { IfErr result (λ e. e ≡ Refused.Contended) }
+    ensures world { IsExact (S.seat s.old) → S.world s.new ≡ S.world s.old }
+    ensures exact { IsExact (S.seat s.old) → (es : List (Entry T)) (second : Option ℕ) →
+        IsQueue T.link (S.world s.old) (record { oldest = cell_of oldest.now; newest = cell_of newest.now }) es second →
+        MatchResult result (λ o. MatchOption o (is_spent es ≡ true) (λ f. (e : Entry T) × (rest : List (Entry T)) × IsLastOf es e rest ×
+        (f.entry.now ≡ e.value) × (cell_of f.link.now ≡ T.link e.value))) (λ _. ⊥) }
+{
+    if let Some(front) = kept_in(newest, guard, s) {
+        return match last_from(front, guard, s) {
+            Ok(last) => Ok(Some(last)),
+            Err(refused) => Err(refused),
+        };
+    }
+    match find_first(oldest, guard, s) {
+        Ok(Some(front)) => match last_from(front, guard, s) {
+            Ok(last) => Ok(Some(last)),
+            Err(refused) => Err(refused),
+        },
+        Ok(None) => Ok(None),
+        Err(refused) => Err(refused),
+    }
+}
+
+/// The value of a front, if there is one.
+pub(crate) fn value_at_front<'g, T>(front: &Option<Front<'g, T>>) -> Option<&'g T>
+    ensures { MatchOption front.now (result ≡ None) (λ f. result ≡ Some f.entry) }
+{
+    match front {
+        Some(front) => Some(front.entry),
+        None => None,
+    }
+}
+
+/// A pointer to the first entry of the list in a cell that isn't deleted, without a tag; null where there is none.
+pub(crate) fn first_ptr_in<'g, T: LinkedList, S: Items<T> + Cells<T> + LookThrough<T>>(
+    cell: &AtomicShared<T>,
+    guard: &'g Guard,
+    s: &mut S,
+) -> Ptr<'g, T>
+    requires seated { IsSeated (S.seat s.old) }
+    requires home { cells_home cell.now ≡ (S.seat s.old).home.cells }
+    requires reader { reader_of guard.now ≡ (S.seat s.old).reader }
+    ensures undisturbed { Undisturbed S.seat S.own S.known S.shows s.old s.new }
+    ensures world { IsExact (S.seat s.old) → S.world s.new ≡ S.world s.old }
+    ensures shown { PtrIsShown (S.shows s.new) result }
+    ensures tag { tag_of result ≡ no_tag }
+    ensures exact { IsExact (S.seat s.old) → (t : Tag) (es : List (Entry T)) → IsList T.link (S.world s.old) (cell_of cell.now) t es →
+        slot_named result ≡ first_slot (left es) }
+{
+    let front = match find_first(cell, guard, s) {
+        Ok(Some(front)) => front,
+        Ok(None) => return Ptr::null(),
+        Err(_) => return Ptr::null(),
+    };
+    front.ptr.without_tag()
 }

@@ -1,0 +1,26 @@
+use Rattle.std.proofs.Common.{◌≡◌, ◌+◌, ◌≤◌, List, ◌∷◌, Some, length}
+use Rattle.sdd_space.specs.CallerId.{IsExact}
+use Rattle.sdd_space.specs.KnownEpochs.{KnowsOn}
+use Rattle.sdd_space.specs.Ptr.{KeepsShown, slot_named}
+use Rattle.sdd_space.specs.Shared.{cell_of, cells_home}
+use Rattle.sdd_core.specs.declared.tag.Tag.{Tag}
+use Rattle.sdd_lists.specs.Lists.{AreLinked, Entry, IsList}
+use Rattle.sdd_lists.specs.Queue.{lets_go_of}
+use Rattle.sdd_lists.proofs.walks.is_let_go_of.Given as goal
+
+-- what is looked for is none of the deleted entries that were passed
+abbrev pub invariant-loop-step : goal.invariant-loop-step
+invariant-loop-step g l = record {
+  seat : g.S.Caller.seat l.s ≡ g.S.Caller.seat l.fn.s;
+  own : g.S.Caller.own l.s ≡ g.S.Caller.own l.fn.s;
+  known : KnowsOn (g.S.Caller.known l.fn.s) (g.S.Caller.known l.s);
+  keeps : KeepsShown (g.S.Shows.shows l.fn.s) (g.S.Shows.shows l.s);
+  world : IsExact (g.S.Caller.seat l.fn.s) → g.S.Caller.world l.s ≡ g.S.Caller.world l.fn.s;
+  home : cells_home l.at.link.now ≡ (g.S.Caller.seat l.fn.s).home.cells;
+  link : cell_of l.at.link.now ≡ g.T.LinkedList.link l.at.entry.now;
+  found : IsExact (g.S.Caller.seat l.fn.s) → (t : Tag) (es : List (Entry _)) →
+      IsList g.T.LinkedList.link (g.S.Caller.world l.fn.s) (cell_of l.cell) t es →
+      (e : Entry _) × (rest : List (Entry _)) × AreLinked g.T.LinkedList.link (g.S.Caller.world l.fn.s) (e ∷ rest) ×
+      (lets_go_of l.watched (e ∷ rest) ≡ lets_go_of l.watched es) × (slot_named l.at.ptr ≡ Some e.slot) × (l.at.entry.now ≡ e.value) ×
+      (length (e ∷ rest) + l._step ≤ l.most);
+}

@@ -1,0 +1,408 @@
+//! A container whose oldest value comes out first.
+ghost use Rattle.std.specs.Borrow.{Bor};
+ghost use Rattle.std.specs.Prelude.{◌≡◌, ◌≢◌, ◌↔◌, ◌⊎◌, ℕ, true, [], ◌∷◌, IfErr, IfOk, IfSome, IsTrue, List, MatchOption, MatchResult, None, Option, Some, length, option_copied};
+ghost use Rattle.sdd_space.specs.Guard.{reader_of};
+ghost use Rattle.sdd_space.specs.OwnerOrCell.{AreOf};
+ghost use Rattle.sdd_space.specs.Undisturbed.{Undisturbed, Unmoved};
+ghost use Rattle.sdd_space.specs.ParticipantChanges.{KeepsMoreWaiting};
+ghost use Rattle.sdd_space.specs.Ptr.{PtrIsShown, slot_named, tag_of};
+ghost use Rattle.sdd_space.specs.Refusals.{IsRefusedBy};
+ghost use Rattle.sdd_space.specs.CallerId.{IsSeated, IsExact};
+ghost use Rattle.sdd_space.specs.Shared.{IsOfSlots, cell_of, cells_home, slots_home};
+ghost use Rattle.sdd_space.specs.World.{standing_at};
+ghost use Rattle.sdd_space.specs.WorldChanges.{nulled};
+ghost use Rattle.sdd_core.specs.declared.tag.Tag.TheVariants.{None as no_tag};
+ghost use Rattle.sdd_participants.specs.Slab.{IsEmptyAt, IsFull};
+ghost use Rattle.sdd_standings.specs.Slots.{IsSharedBy};
+ghost use Rattle.sdd_lists.specs.Asking.{kept_by, was_held};
+ghost use Rattle.sdd_lists.specs.Ends.{IsLastOf, is_spent, last_value};
+ghost use Rattle.sdd_lists.specs.Entries.{link_of};
+ghost use Rattle.sdd_lists.specs.Lists.{Entry, content, first_slot, first_value, left};
+
+use crate::asking::{asks, asks_of_any};
+use crate::linked_entry::LinkedEntry;
+use crate::moves::let_go_of_all;
+use crate::pops::{clear, keep_first, pop_oldest, take_oldest};
+use crate::pushes::push_last;
+use crate::unpopped::Unpopped;
+use crate::walks::{Front, count, find_first, find_last, first_ptr_in, shown_in, value_at_front};
+use sdd_core::Refused;
+use sdd_space::{
+    AtomicShared, Cells, Guard, Item, Items, LookThrough, Ptr, Several, Shared, SharedItems,
+};
+
+/// Entries, of which the oldest is popped first. Its newest entry has two owners: the list, and a cell of the queue's own.
+pub struct Queue<T> {
+    oldest: AtomicShared<LinkedEntry<T>>,
+    newest: AtomicShared<LinkedEntry<T>>,
+}
+
+impl<T: Item<LinkedEntry<T>>> Queue<T> {
+    ghost use Rattle.sdd_lists.specs.Queue.{AreOfCells, Dequeues, DequeuesIf, HasOneAtMost, IsQueue, PushesBehind, cells_in, queue_closed};
+
+    /// An empty queue.
+    ///
+    /// `NoCell` where no two cells are free; `Contended`, in a domain alone, where as many exchanges were lost as its limits allow.
+    pub fn new<S: Items<LinkedEntry<T>> + Cells<LinkedEntry<T>>>(s: &mut S) -> Result<Queue<T>, Refused>
+        requires seated { IsSeated (S.seat s.old) }
+        ensures unmoved { Unmoved S.seat S.known S.shows s.old s.new }
+        ensures own { KeepsMoreWaiting (S.own s.old) (S.own s.new) }
+        ensures home { IfOk result (AreOfCells (S.seat s.old).home.cells) }
+        ensures back { IfErr result (IsRefusedBy (S.seat s.old) Refused.NoCell) }
+        ensures world { IsExact (S.seat s.old) → MatchResult result
+            (λ queue. IsEmptyAt (S.world s.old).cells (cells_in queue).oldest × IsEmptyAt (S.world s.old).cells (cells_in queue).newest ×
+            ((cells_in queue).oldest ≢ (cells_in queue).newest) ×
+            (S.world s.new ≡ nulled (nulled (S.world s.old) (cells_in queue).oldest) (cells_in queue).newest))
+            (λ e. HasOneAtMost (S.world s.old).cells × (e ≡ Refused.NoCell) × (S.world s.new ≡ S.world s.old)) }
+        ensures list { IsExact (S.seat s.old) → IfOk result (λ queue. IsQueue link_of (S.world s.new) (cells_in queue) [] None) }
+    {
+        let oldest = match AtomicShared::null(s) {
+            Ok(oldest) => oldest,
+            Err(refused) => return Err(refused),
+        };
+        match AtomicShared::null(s) {
+            Ok(newest) => Ok(Queue { oldest, newest }),
+            Err(refused) => {
+                oldest.close(s);
+                Err(refused)
+            }
+        }
+    }
+
+    /// Pushes a value, and answers an owner of its entry. Deleted entries behind the last one that isn't are let go of.
+    ///
+    /// `NoSlot` where no slot is free, else `NoCell` where no cell is; `Contended`, in a domain alone, where as many exchanges were lost as its limits allow.
+    /// The value comes back.
+    pub fn push<
+        S: Items<LinkedEntry<T>>
+            + Several<LinkedEntry<T>>
+            + Cells<LinkedEntry<T>>
+            + LookThrough<LinkedEntry<T>>,
+    >(&self, value: T, guard: &Guard, s: &mut S) -> Result<Shared<LinkedEntry<T>>, (T, Refused)>
+        requires seated { IsSeated (S.seat s.old) }
+        requires home { AreOfCells (S.seat s.old).home.cells self.now }
+        requires value { AreOf (S.seat s.old).home (T.holds value) }
+        requires reader { reader_of guard.now ≡ (S.seat s.old).reader }
+        ensures unmoved { Unmoved S.seat S.known S.shows s.old s.new }
+        ensures own { KeepsMoreWaiting (S.own s.old) (S.own s.new) }
+        ensures owner { IfOk result (λ owner. slots_home owner ≡ (S.seat s.old).home.slots) }
+        ensures back { IfErr result (λ e. (e.0 ≡ value) × ((e.1 ≡ Refused.NoSlot) ⊎ (e.1 ≡ Refused.NoCell) ⊎ (e.1 ≡ Refused.Contended))) }
+        ensures refused { IsExact (S.seat s.old) → (es : List (Entry (LinkedEntry T))) (second : Option ℕ) →
+            IsQueue link_of (S.world s.old) (cells_in self.now) es second → IfErr result (λ e. (S.world s.new ≡ S.world s.old) ×
+            (IsFull (S.world s.old).standings × (e.1 ≡ Refused.NoSlot) ⊎
+            ¬ (IsFull (S.world s.old).standings) × IsFull (S.world s.old).cells × (e.1 ≡ Refused.NoCell))) }
+        ensures list { IsExact (S.seat s.old) → (es : List (Entry (LinkedEntry T))) (second : Option ℕ) →
+            IsQueue link_of (S.world s.old) (cells_in self.now) es second →
+            IfOk result (λ owner. PushesBehind (S.world s.old) (S.seat s.old).place (cells_in self.now) es second value owner (S.world s.new)) }
+    {
+        match find_last(&self.oldest, &self.newest, guard, s) {
+            Ok(last) => self.push_behind(last, value, guard, s),
+            Err(refused) => Err((value, refused)),
+        }
+    }
+
+    /// Pushes a value behind the last entry that isn't deleted, and was found.
+    fn push_behind<
+        S: Items<LinkedEntry<T>>
+            + Several<LinkedEntry<T>>
+            + Cells<LinkedEntry<T>>
+            + LookThrough<LinkedEntry<T>>,
+    >(
+        &self,
+        last: Option<Front<'_, LinkedEntry<T>>>,
+        value: T,
+        guard: &Guard,
+        s: &mut S,
+    ) -> Result<Shared<LinkedEntry<T>>, (T, Refused)>
+        requires seated { IsSeated (S.seat s.old) }
+        requires home { AreOfCells (S.seat s.old).home.cells self.now }
+        requires last { IfSome last (λ f. cells_home f.link.now ≡ (S.seat s.old).home.cells) }
+        requires value { AreOf (S.seat s.old).home (T.holds value) }
+        requires reader { reader_of guard.now ≡ (S.seat s.old).reader }
+        ensures unmoved { Unmoved S.seat S.known S.shows s.old s.new }
+        ensures own { KeepsMoreWaiting (S.own s.old) (S.own s.new) }
+        ensures owner { IfOk result (λ owner. slots_home owner ≡ (S.seat s.old).home.slots) }
+        ensures back { IfErr result (λ e. (e.0 ≡ value) × ((e.1 ≡ Refused.NoSlot) ⊎ IsRefusedBy (S.seat s.old) Refused.NoCell e.1)) }
+        ensures refused { IsExact (S.seat s.old) → IfErr result (λ e. (S.world s.new ≡ S.world s.old) ×
+            (IsFull (S.world s.old).standings × (e.1 ≡ Refused.NoSlot) ⊎
+            ¬ (IsFull (S.world s.old).standings) × IsFull (S.world s.old).cells × (e.1 ≡ Refused.NoCell))) }
+        ensures list { IsExact (S.seat s.old) → (es : List (Entry (LinkedEntry T))) (second : Option ℕ) →
+            IsQueue link_of (S.world s.old) (cells_in self.now) es second → MatchOption last.entry (is_spent es ≡ true)
+            (λ f. (e : Entry (LinkedEntry T)) × (rest : List (Entry (LinkedEntry T))) × IsLastOf es e rest ×
+            (f.entry.now ≡ e.value) × (cell_of f.link.now ≡ link_of e.value)) →
+            IfOk result (λ owner. PushesBehind (S.world s.old) (S.seat s.old).place (cells_in self.now) es second value owner (S.world s.new)) }
+    {
+        let free = s.has_slot();
+        if !free {
+            return Err((value, Refused::NoSlot));
+        }
+        let entry = match LinkedEntry::new(value, s) {
+            Ok(entry) => entry,
+            Err(back) => return Err(back),
+        };
+        match push_last(&self.oldest, &self.newest, last, entry, guard, s) {
+            Ok(owner) => Ok(owner),
+            Err((entry, refused)) => Err((entry.close(s), refused)),
+        }
+    }
+
+    /// The same as `push`, if the condition holds of the newest entry that isn't deleted, or of none; it is asked first, and once.
+    ///
+    /// Without a refusal where it failed: the value comes back, and nothing has changed. Else refused as `push` is; `Contended`, in a domain alone, before
+    /// the condition was asked too.
+    pub fn push_if<
+        F: FnMut(Option<&LinkedEntry<T>>) -> bool,
+        S: Items<LinkedEntry<T>>
+            + Several<LinkedEntry<T>>
+            + Cells<LinkedEntry<T>>
+            + LookThrough<LinkedEntry<T>>,
+    >(
+        &self,
+        value: T,
+        condition: F,
+        guard: &Guard,
+        s: &mut S,
+    ) -> Result<Shared<LinkedEntry<T>>, (T, Option<Refused>)>
+        requires seated { IsSeated (S.seat s.old) }
+        requires home { AreOfCells (S.seat s.old).home.cells self.now }
+        requires value { AreOf (S.seat s.old).home (T.holds value) }
+        requires callable { F.IsAlwaysCallable condition }
+        requires reader { reader_of guard.now ≡ (S.seat s.old).reader }
+        ensures unmoved { Unmoved S.seat S.known S.shows s.old s.new }
+        ensures own { KeepsMoreWaiting (S.own s.old) (S.own s.new) }
+        ensures owner { IfOk result (λ owner. slots_home owner ≡ (S.seat s.old).home.slots) }
+        ensures back { IfErr result (λ e. (e.0 ≡ value) ×
+            IfSome e.1 (λ why. (why ≡ Refused.NoSlot) ⊎ (why ≡ Refused.NoCell) ⊎ (why ≡ Refused.Contended))) }
+        ensures asked { IsExact (S.seat s.old) → (es : List (Entry (LinkedEntry T))) (second : Option ℕ) →
+            IsQueue link_of (S.world s.old) (cells_in self.now) es second →
+            (shown : _) × (option_copied shown ≡ last_value es) × F.post condition shown (was_held result) }
+        ensures refused { IsExact (S.seat s.old) → (es : List (Entry (LinkedEntry T))) (second : Option ℕ) →
+            IsQueue link_of (S.world s.old) (cells_in self.now) es second →
+            IfErr result (λ e. (S.world s.new ≡ S.world s.old) × IfSome e.1 (λ why. IsFull (S.world s.old).standings × (why ≡ Refused.NoSlot) ⊎
+            ¬ (IsFull (S.world s.old).standings) × IsFull (S.world s.old).cells × (why ≡ Refused.NoCell))) }
+        ensures list { IsExact (S.seat s.old) → (es : List (Entry (LinkedEntry T))) (second : Option ℕ) →
+            IsQueue link_of (S.world s.old) (cells_in self.now) es second →
+            IfOk result (λ owner. PushesBehind (S.world s.old) (S.seat s.old).place (cells_in self.now) es second value owner (S.world s.new)) }
+    {
+        let last = match find_last(&self.oldest, &self.newest, guard, s) {
+            Ok(last) => last,
+            Err(refused) => {
+                drop(condition);
+                return Err((value, Some(refused)));
+            }
+        };
+        let holds = asks_of_any(condition, value_at_front(&last));
+        if !holds {
+            return Err((value, None));
+        }
+        match self.push_behind(last, value, guard, s) {
+            Ok(owner) => Ok(owner),
+            Err((value, refused)) => Err((value, Some(refused))),
+        }
+    }
+
+    /// Pops the oldest entry that isn't deleted: it is deleted and let go of, with the deleted entries in front of it. None where there is none; deleted
+    /// entries are let go of then too.
+    ///
+    /// `TooManyOwners` where 2^62 own the entry, cells counted: nothing has changed then. `Contended`, in a domain alone.
+    pub fn pop<
+        S: Items<LinkedEntry<T>>
+            + SharedItems<LinkedEntry<T>>
+            + Cells<LinkedEntry<T>>
+            + LookThrough<LinkedEntry<T>>,
+    >(&self, guard: &Guard, s: &mut S) -> Result<Option<Shared<LinkedEntry<T>>>, Refused>
+        requires seated { IsSeated (S.seat s.old) }
+        requires home { AreOfCells (S.seat s.old).home.cells self.now }
+        requires reader { reader_of guard.now ≡ (S.seat s.old).reader }
+        ensures unmoved { Unmoved S.seat S.known S.shows s.old s.new }
+        ensures own { KeepsMoreWaiting (S.own s.old) (S.own s.new) }
+        ensures owner { IfOk result (IsOfSlots (S.seat s.old).home.slots) }
+        ensures back { IfErr result (λ e. (e ≡ Refused.TooManyOwners) ⊎ (e ≡ Refused.Contended)) }
+        ensures list { IsExact (S.seat s.old) → (es : List (Entry (LinkedEntry T))) (second : Option ℕ) →
+            IsQueue link_of (S.world s.old) (cells_in self.now) es second →
+            Dequeues link_of (S.world s.old) (S.seat s.old).place (cells_in self.now) es second result (S.world s.new) }
+    {
+        pop_oldest(&self.oldest, &self.newest, guard, s)
+    }
+
+    /// The same as `pop`, if the condition holds of the oldest entry that isn't deleted; where there is none it isn't asked.
+    ///
+    /// `Kept` where it failed, with one owner more of that entry: nothing is let go of. Else refused as `pop` is; where the condition failed too, with
+    /// `TooManyOwners`, as 2^62 own the entry.
+    pub fn pop_if<
+        F: FnMut(&LinkedEntry<T>) -> bool,
+        S: Items<LinkedEntry<T>>
+            + SharedItems<LinkedEntry<T>>
+            + Cells<LinkedEntry<T>>
+            + LookThrough<LinkedEntry<T>>,
+    >(
+        &self,
+        condition: F,
+        guard: &Guard,
+        s: &mut S,
+    ) -> Result<Option<Shared<LinkedEntry<T>>>, Unpopped<T>>
+        requires seated { IsSeated (S.seat s.old) }
+        requires home { AreOfCells (S.seat s.old).home.cells self.now }
+        requires callable { F.IsAlwaysCallable condition }
+        requires reader { reader_of guard.now ≡ (S.seat s.old).reader }
+        ensures unmoved { Unmoved S.seat S.known S.shows s.old s.new }
+        ensures own { KeepsMoreWaiting (S.own s.old) (S.own s.new) }
+        ensures owner { MatchResult result (IsOfSlots (S.seat s.old).home.slots) (λ e. IsOfSlots (S.seat s.old).home.slots (kept_by e)) }
+        ensures list { IsExact (S.seat s.old) → (es : List (Entry (LinkedEntry T))) (second : Option ℕ) →
+            IsQueue link_of (S.world s.old) (cells_in self.now) es second →
+            DequeuesIf (λ value held. (shown : Bor (LinkedEntry T)) × (shown.now ≡ value) × F.post condition shown held)
+            (S.world s.old) (S.seat s.old).place (cells_in self.now) es second result (S.world s.new) }
+    {
+        match find_first(&self.oldest, guard, s) {
+            Ok(Some(front)) => {
+                let holds = asks(condition, front.entry);
+                self.pop_asked(holds, front, guard, s)
+            }
+            Ok(None) => {
+                drop(condition);
+                match clear(&self.oldest, &self.newest, guard, s) {
+                    Ok(()) => Ok(None),
+                    Err(refused) => Err(Unpopped::Refused(refused)),
+                }
+            }
+            Err(refused) => {
+                drop(condition);
+                Err(Unpopped::Refused(refused))
+            }
+        }
+    }
+
+    /// Pops the oldest entry that isn't deleted, and was found, where the condition held of it; else there is one owner more of it.
+    fn pop_asked<
+        S: Items<LinkedEntry<T>>
+            + SharedItems<LinkedEntry<T>>
+            + Cells<LinkedEntry<T>>
+            + LookThrough<LinkedEntry<T>>,
+    >(
+        &self,
+        holds: bool,
+        front: Front<'_, LinkedEntry<T>>,
+        guard: &Guard,
+        s: &mut S,
+    ) -> Result<Option<Shared<LinkedEntry<T>>>, Unpopped<T>>
+        requires seated { IsSeated (S.seat s.old) }
+        requires home { AreOfCells (S.seat s.old).home.cells self.now }
+        requires reader { reader_of guard.now ≡ (S.seat s.old).reader }
+        requires link { cells_home front.link.now ≡ (S.seat s.old).home.cells }
+        ensures unmoved { Unmoved S.seat S.known S.shows s.old s.new }
+        ensures own { KeepsMoreWaiting (S.own s.old) (S.own s.new) }
+        ensures owner { MatchResult result (IsOfSlots (S.seat s.old).home.slots) (λ e. IsOfSlots (S.seat s.old).home.slots (kept_by e)) }
+        ensures list { IsExact (S.seat s.old) → (es : List (Entry (LinkedEntry T))) (second : Option ℕ) →
+            IsQueue link_of (S.world s.old) (cells_in self.now) es second →
+            (e : Entry (LinkedEntry T)) (rest : List (Entry (LinkedEntry T))) → left es ≡ e ∷ rest → slot_named front.entry.ptr ≡ Some e.slot →
+            cell_of front.entry.link.now ≡ link_of e.value → ((n : ℕ) × IsSharedBy n (standing_at (S.world s.old) e.slot)) →
+            DequeuesIf (λ value held. (value ≡ e.value) × (held ≡ holds)) (S.world s.old) (S.seat s.old).place (cells_in self.now) es second result
+            (S.world s.new) }
+    {
+        if holds {
+            match take_oldest(&self.oldest, &self.newest, front, guard, s) {
+                Ok(owner) => Ok(Some(owner)),
+                Err(refused) => Err(Unpopped::Refused(refused)),
+            }
+        } else {
+            match keep_first(front, s) {
+                Ok(owner) => Err(Unpopped::Kept(owner)),
+                Err(refused) => Err(Unpopped::Refused(refused)),
+            }
+        }
+    }
+
+    /// A pointer to the oldest entry that isn't deleted, without a tag; null where there is none.
+    pub fn peek<'g, S: Items<LinkedEntry<T>> + Cells<LinkedEntry<T>> + LookThrough<LinkedEntry<T>>>(
+        &self,
+        guard: &'g Guard,
+        s: &mut S,
+    ) -> Ptr<'g, LinkedEntry<T>>
+        requires seated { IsSeated (S.seat s.old) }
+        requires home { AreOfCells (S.seat s.old).home.cells self.now }
+        requires reader { reader_of guard.now ≡ (S.seat s.old).reader }
+        ensures undisturbed { Undisturbed S.seat S.own S.known S.shows s.old s.new }
+        ensures world { IsExact (S.seat s.old) → S.world s.new ≡ S.world s.old }
+        ensures shown { PtrIsShown (S.shows s.new) result }
+        ensures tag { tag_of result ≡ no_tag }
+        ensures list { IsExact (S.seat s.old) → (es : List (Entry (LinkedEntry T))) (second : Option ℕ) →
+            IsQueue link_of (S.world s.old) (cells_in self.now) es second → slot_named result ≡ first_slot (left es) }
+    {
+        first_ptr_in(&self.oldest, guard, s)
+    }
+
+    /// What the reader makes of the oldest entry that isn't deleted, or of none.
+    pub fn peek_with<
+        R,
+        F: FnOnce(Option<&LinkedEntry<T>>) -> R,
+        S: Items<LinkedEntry<T>> + Cells<LinkedEntry<T>> + LookThrough<LinkedEntry<T>>,
+    >(&self, reader: F, guard: &Guard, s: &mut S) -> R
+        requires seated { IsSeated (S.seat s.old) }
+        requires home { AreOfCells (S.seat s.old).home.cells self.now }
+        requires callable { F.IsAlwaysCallable reader }
+        requires reader_of_guard { reader_of guard.now ≡ (S.seat s.old).reader }
+        ensures undisturbed { Undisturbed S.seat S.own S.known S.shows s.old s.new }
+        ensures world { IsExact (S.seat s.old) → S.world s.new ≡ S.world s.old }
+        ensures list { IsExact (S.seat s.old) → (es : List (Entry (LinkedEntry T))) (second : Option ℕ) →
+            IsQueue link_of (S.world s.old) (cells_in self.now) es second →
+            (shown : _) × (option_copied shown ≡ first_value (left es)) × F.post reader shown result }
+    {
+        let shown = shown_in(&self.oldest, guard, s);
+        reader(shown)
+    }
+
+    /// How many entries aren't deleted.
+    pub fn len<S: Items<LinkedEntry<T>> + Cells<LinkedEntry<T>> + LookThrough<LinkedEntry<T>>>(
+        &self,
+        guard: &Guard,
+        s: &mut S,
+    ) -> u64
+        requires seated { IsSeated (S.seat s.old) }
+        requires home { AreOfCells (S.seat s.old).home.cells self.now }
+        requires reader { reader_of guard.now ≡ (S.seat s.old).reader }
+        ensures undisturbed { Undisturbed S.seat S.own S.known S.shows s.old s.new }
+        ensures world { IsExact (S.seat s.old) → S.world s.new ≡ S.world s.old }
+        ensures list { IsExact (S.seat s.old) → (es : List (Entry (LinkedEntry T))) (second : Option ℕ) →
+            IsQueue link_of (S.world s.old) (cells_in self.now) es second → result ≡ length (content es) }
+    {
+        count(&self.oldest, guard, s)
+    }
+
+    /// Each entry is deleted.
+    pub fn is_empty<S: Items<LinkedEntry<T>> + Cells<LinkedEntry<T>> + LookThrough<LinkedEntry<T>>>(
+        &self,
+        guard: &Guard,
+        s: &mut S,
+    ) -> bool
+        requires seated { IsSeated (S.seat s.old) }
+        requires home { AreOfCells (S.seat s.old).home.cells self.now }
+        requires reader { reader_of guard.now ≡ (S.seat s.old).reader }
+        ensures undisturbed { Undisturbed S.seat S.own S.known S.shows s.old s.new }
+        ensures world { IsExact (S.seat s.old) → S.world s.new ≡ S.world s.old }
+        ensures list { IsExact (S.seat s.old) → (es : List (Entry (LinkedEntry T))) (second : Option ℕ) →
+            IsQueue link_of (S.world s.old) (cells_in self.now) es second → IsTrue result ↔ (left es ≡ []) }
+    {
+        self.peek(guard, s).is_null()
+    }
+
+    /// Ends the queue: each entry is deleted and let go of, the oldest first, and both cells are free.
+    pub fn close<S: Items<LinkedEntry<T>> + Cells<LinkedEntry<T>> + LookThrough<LinkedEntry<T>>>(
+        self,
+        guard: &Guard,
+        s: &mut S,
+    )
+        requires seated { IsSeated (S.seat s.old) }
+        requires home { AreOfCells (S.seat s.old).home.cells self }
+        requires reader { reader_of guard.now ≡ (S.seat s.old).reader }
+        ensures unmoved { Unmoved S.seat S.known S.shows s.old s.new }
+        ensures own { KeepsMoreWaiting (S.own s.old) (S.own s.new) }
+        ensures list { IsExact (S.seat s.old) → (es : List (Entry (LinkedEntry T))) (second : Option ℕ) →
+            IsQueue link_of (S.world s.old) (cells_in self) es second →
+            S.world s.new ≡ queue_closed link_of (S.world s.old) (S.seat s.old).place (cells_in self) es second }
+    {
+        let Queue { oldest, newest } = self;
+        newest.close(s);
+        let_go_of_all(&oldest, guard, s);
+        oldest.close(s);
+    }
+}
