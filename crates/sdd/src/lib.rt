@@ -8,8 +8,8 @@ pub use sdd_domain::{Domain, Local, Receipt};
 pub use sdd_machine::machine::{Did, Machine, Step, safety};
 pub use sdd_participants::{Deferred, Idle, Job, Tally};
 pub use sdd_space::laws::{
-    comes_back, epoch_moves_by_one, owned_is_shown, shared_is_shown, shows_what_was_made,
-    values_fit_slots,
+    calls_are_work, comes_back, epoch_moves_by_one, owned_is_shown, shared_is_shown,
+    shows_what_was_made, values_fit_slots,
 };
 pub use sdd_space::{
     AtomicOwned, AtomicRaw, AtomicShared, Caller, Cells, Collectors, Deferrals, Giver, Guard,

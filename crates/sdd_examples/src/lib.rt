@@ -17,3 +17,4 @@ pub mod seen_value;
 pub mod shared_looks;
 pub mod slot_rights;
 pub mod small_space;
+pub mod work_under_guards;

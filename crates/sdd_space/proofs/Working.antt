@@ -9,22 +9,22 @@ use Rattle.sdd_participants.specs.declared.waiting.LimboEntry.TheVariants.{Item,
 use Rattle.sdd_participants.specs.declared.place_states.PlaceState.{PlaceState}
 use Rattle.sdd_participants.specs.declared.participant.Participant.{Participant}
 use Rattle.sdd_participants.specs.PlaceStates.{is_live}
-use Rattle.sdd_participants.specs.Slab.{Entries}
+use Rattle.sdd_participants.specs.Slab.{Entries, with_entry}
 use Rattle.sdd_participants.specs.Collecting.{time_without, without}
 use Rattle.sdd_participants.specs.EpochState.{EpochState, IsLive, with_place, nobody, is_open, last_count}
 use Rattle.sdd_participants.specs.EpochState as time
 use Rattle.sdd_participants.proofs.Adopting.{keeps-closed, same-or-not}
-use Rattle.sdd_participants.specs.declared.standing.Standing.TheVariants.{Shared}
+use Rattle.sdd_participants.specs.declared.standing.Standing.TheVariants.{Owned, Shared}
 use Rattle.sdd_space.specs.Collecting.{is_for, without_collector}
 use Rattle.sdd_space.specs.OwnerOrCell.{OwnerOrCell}
 use Rattle.sdd_space.specs.ParticipantChanges.{all_awaiting}
 use Rattle.sdd_space.specs.ReclaimBound.{IsHeldUp}
 use Rattle.sdd_space.specs.World.{World, IsPlaceOf, place_at}
-use Rattle.sdd_space.specs.WorldChanges.{opened, accelerated, closed}
+use Rattle.sdd_space.specs.WorldChanges.{made, made_shared, retired, owner_given, deferred, with_cell, opened, accelerated, closed}
 use Rattle.sdd_space.specs.WorldInvariant.{IsWhole}
 use Rattle.sdd_space.specs.WorldStep.{WorldStep}
 use Rattle.sdd_space.specs.WorldStep.WorldStep.{registers, ends, opens, closes, stirs, accelerates, makes, shares, retires, releases, defers, collects, closes_collector, edits, drops, puts_out_raw, takes_back_raw, changes_cells, closes_cell, changes_pointers}
-use Rattle.sdd_space.specs.WorkingGuards.{WaitsWith, IsGone, openings_left, Calls, HasGone, MovesOn, WorksThrough, IsWork, Works, PassesWork, WorkingGuardsPass, BusyGuardsCount, WorkJoins, WorkingGuardsReclaim}
+use Rattle.sdd_space.specs.WorkingGuards.{WaitsWith, IsGone, openings_left, Calls, HasGone, MovesOn, WorksThrough, IsWork, Works, PassesWork, WorkingGuardsPass, BusyGuardsCount, WorkLaws, WorkingGuardsReclaim}
 use Rattle.sdd_space.specs.UnderGuards.{CallsUnder}
 use Rattle.sdd_space.specs.UnderGuards.CallsUnder.{none, more_calls}
 use Rattle.sdd_space.proofs.Housed.{Whole-opened, Whole-closed, registered-lives, ended-lives}
@@ -176,10 +176,19 @@ module _ {T : Type 0} (holds : T → List OwnerOrCell) where
   work-follows u first (more_work v x w path call is) = more_work u x w (work-follows u first path) call is
   work-follows u first (one_guard p v x w path live inside) = one_guard p u x w (work-follows u first path) live inside
 
-  pub work-joins : WorkJoins holds
-  work-joins = record {
+  pub work-laws : WorkLaws holds
+  work-laws = record {
     ways = λ q m n u v w first path. joins q m u first path;
-    work = λ u v w first path. work-follows u first path;
+    following = λ u v w first path. work-follows u first path;
+    nothing = λ w. no_work w;
+    making = λ w k value free. more_work w w (made w k value) (no_work w) (makes w k value Owned (inl refl) free) tt;
+    making_shared = λ w k value free. more_work w w (made_shared w k value) (no_work w) (makes w k value (Shared 1) (inr refl) free) tt;
+    retiring = λ w p k live there. more_work w w (retired w p k) (no_work w) (retires w p k live there) tt;
+    releasing = λ w p k n live there. more_work w w (owner_given w p k (Some (Shared n))) (no_work w) (releases w p k n live there) tt;
+    deferring = λ w p j live free. more_work w w (deferred w p j) (no_work w) (defers w p j live free) tt;
+    filling = λ w c cell.
+        more_work w w (with_cell w c cell) (no_work w) (changes_cells w (with_entry w.cells c cell) (length-set w.cells c (Some cell))) tt;
+    guarding = λ w worked p live inside. one_guard p w w worked (no_work w) live inside;
   }
 
 -- the same guards are open, whoever has one open has found what it had found, and the same participants are there

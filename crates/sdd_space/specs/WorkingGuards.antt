@@ -1,14 +1,16 @@
 -- When what waits goes while its holder works under accelerated guards
-use Rattle.std.specs.Prelude.{ℕ, ◌+◌, ◌-◌, ◌<◌, ◌≤◌, ◌≡◌, Contains, IsTrue, List, None, length, ◌⊎◌, if◌then◌else◌}
+use Rattle.std.specs.Prelude.{ℕ, ◌+◌, ◌-◌, ◌<◌, ◌≤◌, ◌≡◌, Contains, IsTrue, List, None, Some, length, ◌⊎◌, if◌then◌else◌}
 use Rattle.sdd_participants.specs.declared.waiting.LimboEntry.{LimboEntry}
 use Rattle.sdd_participants.specs.declared.waiting.LimboEntry.TheVariants.{Item, Job}
-use Rattle.sdd_participants.specs.Slab.{entry_at}
+use Rattle.sdd_participants.specs.Slab.{IsEmptyAt, entry_at}
+use Rattle.sdd_participants.specs.declared.standing.CellContents.{CellContents}
+use Rattle.sdd_participants.specs.declared.standing.Standing.TheVariants.{Owned, Shared}
 use Rattle.sdd_participants.specs.Waiting.{having_seen}
 use Rattle.sdd_participants.specs.EpochState.{EpochState, finds_another, is_open, last_count}
 use Rattle.sdd_participants.specs.EpochState as time
 use Rattle.sdd_space.specs.OwnerOrCell.{OwnerOrCell}
 use Rattle.sdd_space.specs.World.{World, AnyGuardOpen, IsPlaceOf, place_at, standing_at}
-use Rattle.sdd_space.specs.WorldChanges.{opened, accelerated, closed}
+use Rattle.sdd_space.specs.WorldChanges.{made, made_shared, retired, owner_given, deferred, with_cell, opened, accelerated, closed}
 use Rattle.sdd_space.specs.WorldStep.{WorldStep}
 use Rattle.sdd_space.specs.WorldStep.WorldStep.{registers, ends, opens, closes}
 use Rattle.sdd_space.specs.ReclaimBound.{IsHeldUp}
@@ -92,13 +94,22 @@ module _ {T : Type 0} (holds : T → List OwnerOrCell) where
   BusyGuardsCount w = (q : ℕ) → IsPlaceOf w q → ¬ (IsTrue (is_open (place_at w q))) → (new : World T) → CallsUnder holds q (opened holds w q) new →
       ¬ (IsHeldUp new q) → WorksThrough q 1 w (closed (accelerated new q) q)
 
-  -- the law: such ways follow one another, and so does work
-  pub record WorkJoins : Type 0 where
-    pub ways : (q m n : ℕ) (u v w : World T) → WorksThrough q m u v → WorksThrough q n v w → WorksThrough q (m + n) u w
-    pub work : (u v w : World T) → Works u v → Works v w → Works u w
-
   -- the law: what waits has gone on the way, where its holder makes as many outermost openings as are left, and never more than four are
   pub record WorkingGuardsReclaim (w : World T) : Type 0 where
     pub bounded : (q seen : ℕ) → openings_left w.time q seen ≤ 4
     pub gone : (q seen : ℕ) (what : LimboEntry) → WaitsWith w q what seen → (n : ℕ) (new : World T) → WorksThrough q n w new →
         openings_left w.time q seen ≤ n → HasGone what w new
+
+  -- the law: ways follow one another, and so does work, and each of these is work
+  pub record WorkLaws : Type 0 where
+    pub ways : (q m n : ℕ) (u v w : World T) → WorksThrough q m u v → WorksThrough q n v w → WorksThrough q (m + n) u w
+    pub following : (u v w : World T) → Works u v → Works v w → Works u w
+    pub nothing : (w : World T) → Works w w
+    pub making : (w : World T) (k : ℕ) (value : T) → IsEmptyAt w.standings k → Works w (made w k value)
+    pub making_shared : (w : World T) (k : ℕ) (value : T) → IsEmptyAt w.standings k → Works w (made_shared w k value)
+    pub retiring : (w : World T) (p k : ℕ) → IsPlaceOf w p → standing_at w k ≡ Some Owned → Works w (retired w p k)
+    pub releasing : (w : World T) (p k n : ℕ) → IsPlaceOf w p → standing_at w k ≡ Some (Shared n) → Works w (owner_given w p k (Some (Shared n)))
+    pub deferring : (w : World T) (p j : ℕ) → IsPlaceOf w p → IsEmptyAt w.jobs j → Works w (deferred w p j)
+    pub filling : (w : World T) (c : ℕ) (cell : CellContents) → Works w (with_cell w c cell)
+    -- a guard of any participant, closed again
+    pub guarding : (w worked : World T) (p : ℕ) → IsPlaceOf w p → Works (opened holds w p) worked → Works w (closed worked p)

@@ -4,6 +4,7 @@ ghost use Rattle.sdd_core.specs.Epoch.{epoch_after};
 ghost use Rattle.sdd_space.specs.Guard.{reader_of};
 ghost use Rattle.sdd_space.specs.OwnerOrCell.{AreOf};
 ghost use Rattle.sdd_space.specs.World.{World, standing_at, value_at};
+ghost use Rattle.sdd_space.specs.WorkingGuards.{WorkLaws};
 ghost use Rattle.sdd_space.specs.CallerId.{IsSeated, IsExact, IsLone};
 ghost use Rattle.sdd_space.specs.KnownEpochs.{KnowsOn};
 ghost use Rattle.sdd_space.specs.Undisturbed.{Undisturbed};
@@ -98,3 +99,9 @@ pub fn values_fit_slots<T: Item<T>, S: Caller<T>>(s: &S)
 {
     s.values_fit_slots();
 }
+
+/// What hinders no guard under which it is called: an item that is made, retired or released, a job that is deferred, a cell that is set, a guard that is
+/// opened and closed again, by whomever; and all of these, one after another.
+pub fn calls_are_work<T: Item<T>>()
+    ensures { WorkLaws T.holds }
+{}

@@ -4,7 +4,7 @@ ghost use Rattle.sdd_space.specs.WorldInvariant.{IsWhole};
 ghost use Rattle.sdd_space.specs.ReclaimBound.{FourGuardsReclaim, GoesAtLatest, GoesInTime};
 ghost use Rattle.sdd_space.specs.Ledger.{LedgerLaws};
 ghost use Rattle.sdd_space.specs.AcceleratedGuards.{GuardsPass};
-ghost use Rattle.sdd_space.specs.WorkingGuards.{BusyGuardsCount, WorkJoins, WorkingGuardsPass, WorkingGuardsReclaim};
+ghost use Rattle.sdd_space.specs.WorkingGuards.{BusyGuardsCount, WorkingGuardsPass, WorkingGuardsReclaim};
 ghost use Rattle.sdd_space.specs.UnderGuards.{KeepsFreshUnderGuards, KeepsUnderGuards};
 ghost use Rattle.sdd_space.specs.World.{World, AnyGuardOpen, IsPlaceOf};
 ghost use Rattle.sdd_domain.specs.Local.{world_of};
@@ -53,7 +53,6 @@ impl<T: Item<T>> Local<'_, T> {
         ensures reclaimed { IsLone self.now.member → WorkingGuardsReclaim T.holds (world_of self.now) }
         ensures passed { IsLone self.now.member → WorkingGuardsPass T.holds (world_of self.now) }
         ensures counted { IsLone self.now.member → BusyGuardsCount T.holds (world_of self.now) }
-        ensures joined { WorkJoins T.holds }
     {
         self.is_whole();
     }

@@ -8,7 +8,7 @@ ghost use Rattle.sdd_space.specs.AcceleratedGuards.{GuardsPass, ItemsPass};
 ghost use Rattle.sdd_space.specs.Collecting.{CollectedEnds};
 ghost use Rattle.sdd_space.specs.Adopting.{AdoptsWhatIsLeft};
 ghost use Rattle.sdd_space.specs.Ledger.{LedgerLaws};
-ghost use Rattle.sdd_space.specs.WorkingGuards.{BusyGuardsCount, WorkJoins, WorkingGuardsPass, WorkingGuardsReclaim};
+ghost use Rattle.sdd_space.specs.WorkingGuards.{BusyGuardsCount, WorkingGuardsPass, WorkingGuardsReclaim};
 ghost use Rattle.sdd_space.specs.UnderGuards.{KeepsCollectedUnderGuards, KeepsFreshUnderGuards, KeepsUnderGuards};
 
 use super::World;
@@ -74,7 +74,6 @@ impl<T: Item<T>, J: Job> World<T, J> {
         ensures reclaimed { WorkingGuardsReclaim T.holds self.now }
         ensures passed { WorkingGuardsPass T.holds self.now }
         ensures counted { BusyGuardsCount T.holds self.now }
-        ensures joined { WorkJoins T.holds }
     {
         self.is_whole();
     }

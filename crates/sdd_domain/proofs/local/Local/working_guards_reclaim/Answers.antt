@@ -1,4 +1,4 @@
-use Rattle.sdd_space.proofs.Working.{working-guards-reclaim, working-guards-pass, busy-guards-count, work-joins}
+use Rattle.sdd_space.proofs.Working.{working-guards-reclaim, working-guards-pass, busy-guards-count}
 use Rattle.sdd_domain.specs.Local.{world_of}
 use Rattle.sdd_domain.proofs.local.Local.working_guards_reclaim.Goals as goal
 
@@ -7,5 +7,4 @@ returns g c = let h = g.T.Item.holds in let w = world_of c.args.self.now in reco
   reclaimed = λ one. working-guards-reclaim h w (c.is_whole.ensures.whole one);
   passed = λ one. working-guards-pass h w (c.is_whole.ensures.whole one);
   counted = λ one. busy-guards-count h w (c.is_whole.ensures.whole one);
-  joined = work-joins h;
 }

@@ -1,0 +1,5 @@
+use Rattle.sdd_space.proofs.Working.{work-laws}
+use Rattle.sdd_space.proofs.laws.calls_are_work.Goals as goal
+
+pub returns : goal.returns
+returns g c = work-laws g.T.Item.holds
