@@ -23,8 +23,8 @@ module _ {T : Type 0} (v : LocalModel T) (t : AreTied v.member v.entries) (k : �
   abbrev now : LocalState
   now = record v.member { filled = record { slot = k; shared = shared; value = g } ∷ v.member.filled }
 
-  abbrev then : LocalModel T
-  then = record { member = now; entries = set v.entries k (Some (x, g)) }
+  abbrev later : LocalModel T
+  later = record { member = now; entries = set v.entries k (Some (x, g)) }
 
   wide : k < length v.entries
   wide = let w = t.wide in let l = is.inside in omega arith
@@ -32,16 +32,16 @@ module _ {T : Type 0} (v : LocalModel T) (t : AreTied v.member v.entries) (k : �
   filled_then : (i : ℕ) → i ≢ k → newest i now.filled ≡ newest i v.member.filled
   filled_then i ne = newest_before r v.member.filled i (λ e. ne (sym e))
 
-  entry_now : slice_index_or then.entries k None ≡ Some (x, g)
+  entry_now : slice_index_or later.entries k None ≡ Some (x, g)
   entry_now = get_or-set_same v.entries k (Some (x, g)) None wide
 
-  entry_then : (i : ℕ) → i ≢ k → slice_index_or then.entries i None ≡ slice_index_or v.entries i None
+  entry_then : (i : ℕ) → i ≢ k → slice_index_or later.entries i None ≡ slice_index_or v.entries i None
   entry_then i ne = get_or-set_other v.entries k i (Some (x, g)) None ne
 
-  agrees_now : Agrees (newest k now.filled) (slice_index_or then.entries k None)
+  agrees_now : Agrees (newest k now.filled) (slice_index_or later.entries k None)
   agrees_now = subst (λ (z : Option ShownValue × Option (T × Gv)). Agrees z.0 z.1) (λ d. (sym (newest_now r v.member.filled) d, sym entry_now d)) refl
 
-  tied_now : AreTied now then.entries
+  tied_now : AreTied now later.entries
   tied_now = record {
     place = t.place;
     slots = t.slots;
@@ -51,7 +51,7 @@ module _ {T : Type 0} (v : LocalModel T) (t : AreTied v.member v.entries) (k : �
     waits = t.waits;
     inside = t.inside;
     kept = λ i l filled. dite (ℕ_discrete i k)
-        (λ e. subst (λ (j : ℕ). Agrees (newest j now.filled) (slice_index_or then.entries j None)) (sym e) agrees_now)
+        (λ e. subst (λ (j : ℕ). Agrees (newest j now.filled) (slice_index_or later.entries j None)) (sym e) agrees_now)
         (λ ne. subst (λ (z : Option ShownValue × Option (T × Gv)). Agrees z.0 z.1) (λ d. (sym (filled_then i ne) d, sym (entry_then i ne) d))
         (t.kept i l filled));
     bags = t.bags;
@@ -63,20 +63,20 @@ module _ {T : Type 0} (v : LocalModel T) (t : AreTied v.member v.entries) (k : �
   tied_changed es set_is = subst (λ (z : LocalState × List (Option (T × Gv))). AreTied z.0 z.1) (λ d. (sym is.member d, sym set_is d)) tied_now
 
   -- the slot stands as it did
-  stands_then : standing_in then k ≡ standing_in v k
+  stands_then : standing_in later k ≡ standing_in v k
   stands_then = let word = owned v t k shared was knows in (λ d. standing_by (word d) (newest_now r v.member.filled d))
       ∙ sym (λ d. standing_by (word d) (knows.newest d))
 
-  world_now : world_of then ≡ with_value (world_of v) k x
+  world_now : world_of later ≡ with_value (world_of v) k x
   world_now = let n : ℕ = v.member.limits.slots in
-      let standings : listing n (standing_in then) ≡ listing n (standing_in v)
-      = listing_same n (standing_in v) (standing_in then) (λ i l. dite (ℕ_discrete i k)
-      (λ e. ap (standing_in then) e ∙ (stands_then ∙ ap (standing_in v) (sym e)))
+      let standings : listing n (standing_in later) ≡ listing n (standing_in v)
+      = listing_same n (standing_in v) (standing_in later) (λ i l. dite (ℕ_discrete i k)
+      (λ e. ap (standing_in later) e ∙ (stands_then ∙ ap (standing_in v) (sym e)))
       (λ ne. ap (standing_by (word_of v.member i)) (filled_then i ne))) in
-      let values : listing n (value_in then) ≡ set (listing n (value_in v)) k (Some x)
-      = listing_set n (value_in v) (value_in then) k (λ i l ne. ap (value_by (word_of v.member i)) (entry_then i ne))
+      let values : listing n (value_in later) ≡ set (listing n (value_in v)) k (Some x)
+      = listing_set n (value_in v) (value_in later) k (λ i l ne. ap (value_by (word_of v.member i)) (entry_then i ne))
       ∙ ap (set (listing n (value_in v)) k) (λ d. value_by (owned v t k shared was knows d) (entry_now d)) in
-      λ d. record (world_of then) { standings = standings d; values = values d }
+      λ d. record (world_of later) { standings = standings d; values = values d }
 
   pub world_changed : (es : List (Option (T × Gv))) → es ≡ set v.entries k (Some (x, g))
       → world_of (record { member = m; entries = es }) ≡ with_value (world_of v) k x

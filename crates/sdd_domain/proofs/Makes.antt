@@ -36,7 +36,7 @@ use Rattle.sdd_domain.proofs.Listings.{listing_at, listing_long, listing_past, l
 use Rattle.sdd_domain.proofs.Words.{word_same, word_other}
 use Rattle.sdd_domain.proofs.Exact.{lone_is}
 
-first_by : (kind : StandingKind) → first_standing kind ≡ (if is_shared kind then Shared 1 else Owned)
+pub first_by : (kind : StandingKind) → first_standing kind ≡ (if is_shared kind then Shared 1 else Owned)
 first_by kinds.Free = refl
 first_by kinds.Owned = refl
 first_by kinds.Raw = refl

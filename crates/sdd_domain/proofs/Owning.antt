@@ -176,7 +176,7 @@ none_other : (shared : Bool) → has_others (Some (if shared then Shared 1 else 
 none_other true = refl
 none_other false = refl
 
-owned_by : (kind : StandingKind) → IsOwnedBy kind (Some (if is_shared kind then Shared 1 else Owned))
+pub owned_by : (kind : StandingKind) → IsOwnedBy kind (Some (if is_shared kind then Shared 1 else Owned))
 owned_by kinds.Free = record { alone = λ e. absurd cc; together = λ e. absurd cc }
 owned_by kinds.Owned = record { alone = λ _. refl; together = λ e. absurd cc }
 owned_by kinds.Raw = record { alone = λ e. absurd cc; together = λ e. absurd cc }

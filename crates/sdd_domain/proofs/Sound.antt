@@ -207,10 +207,9 @@ module _ {T : Type 0} (shown : T → Gv) (holds : T → List OwnerOrCell) (p : L
   pub held_at_home : (k : ℕ) (value : T) → Shows shown holds p k value → AreOf (home_in p.member) (holds value)
   held_at_home k value h = held_by (is_lone p.member) k value h
 
--- for an answer of `make`
-module _ (R : RattleType) (holds : R.Denot → List OwnerOrCell) (v : LocalModel R.Denot) (m : LocalState) (es : Entries R.Denot) (kind : StandingKind) {B : Type 0}
-    (P : R.Denot → Type 0) (Back Why : B × Refused → Type 0) where
-  entered_home : (k : ℕ) (x : R.Denot) → es ≡ set v.entries k (Some (x, showing R x)) → AreOf (home_in m) (holds x) → home_in m ≡ home_in v.member
+-- what is in the ledger once a value was entered is of the home
+module _ (R : RattleType) (holds : R.Denot → List OwnerOrCell) (v : LocalModel R.Denot) (m : LocalState) (es : Entries R.Denot) where
+  pub entered_home : (k : ℕ) (x : R.Denot) → es ≡ set v.entries k (Some (x, showing R x)) → AreOf (home_in m) (holds x) → home_in m ≡ home_in v.member
       → IsSound holds v → (place : ℕ) (value : R.Denot) (g : Gv) → slice_index_or es place None ≡ Some (value, g) → AreOf (home_in m) (holds value)
   entered_home k x e at home sound place value g there = let is : slice_index_or (set v.entries k (Some (x, showing R x))) place None ≡ Some (value, g)
       = sym (ap (λ (l : Entries R.Denot). slice_index_or l place None) e) ∙ there in dite (ℕ_discrete place k)
@@ -223,11 +222,14 @@ module _ (R : RattleType) (holds : R.Denot → List OwnerOrCell) (v : LocalModel
       (λ ne. subst (λ (h : SpaceId). AreOf h (holds value)) (sym home)
       (sound.home place value g (sym (get_or-set_other v.entries k place (Some (x, showing R x)) None ne) ∙ is)))
 
+-- for an answer of `make`
+module _ (R : RattleType) (holds : R.Denot → List OwnerOrCell) (v : LocalModel R.Denot) (m : LocalState) (es : Entries R.Denot) (kind : StandingKind) {B : Type 0}
+    (P : R.Denot → Type 0) (Back Why : B × Refused → Type 0) where
   pub sound_made : (r : Result Right (B × Refused)) → Answers R v m es kind P Back Why r → ((x : R.Denot) → P x → AreOf (home_in v.member) (holds x))
       → WordsMatchValues v.member v.entries → IsSound holds v → IsSound holds (record { member = m; entries = es })
   sound_made (Ok right) a at tied sound = let home : home_in m ≡ home_in v.member = ap home_in a.2.member in record {
     settled = ap (λ (z : LocalState). z.due) a.2.member ∙ sound.settled;
-    home = entered_home (number_of right) a.0 a.4 (subst (λ (h : SpaceId). AreOf h (holds a.0)) (sym home) (at a.0 a.1)) home sound;
+    home = entered_home R holds v m es (number_of right) a.0 a.4 (subst (λ (h : SpaceId). AreOf h (holds a.0)) (sym home) (at a.0 a.1)) home sound;
     whole = λ one. let lone : IsLone v.member = sym (ap (λ (z : LocalState). z.limits.participants) a.2.member) ∙ one in
         let w = did_world R v m es kind a.0 right (a.2, a.3, a.4) tied lone in
         subst (λ (u : World R.Denot). IsWhole u) (sym w.1)

@@ -1,8 +1,8 @@
 //! A change reclaims what is due, and a value that is reclaimed gives up what it holds.
-ghost use Rattle.std.specs.Prelude.{◌≡◌, ◌+◌, ◌≤◌, ℕ, List, [], length, IfErr, IfOk};
-ghost use base.Stored.{Gv};
-ghost use Rattle.sdd_rights.specs.StandingKind.{is_shared};
+ghost use Rattle.std.specs.Prelude.{◌≡◌, ◌+◌, ◌≤◌, ℕ, List, [], length, IfErr, IfOk, Some};
 ghost use Rattle.sdd_rights.specs.Right.{number_of, home_of, kind_of};
+ghost use Rattle.sdd_standings.specs.Slots.{first_standing};
+ghost use Rattle.sdd_space.specs.World.{standing_at};
 ghost use Rattle.sdd_space.specs.KnownEpochs.{KnowsOn};
 ghost use Rattle.sdd_space.specs.ParticipantChanges.{KeepsMoreWaiting, all_awaiting};
 ghost use Rattle.sdd_space.specs.Owned as owned;
@@ -15,7 +15,7 @@ ghost use Rattle.sdd_participants.specs.EpochState.{awaiting, settled};
 ghost use Rattle.sdd_participants.specs.declared.waiting.LimboEntry.TheVariants.{Item as item};
 ghost use Rattle.sdd_domain.specs.SpaceIds.{home_in};
 ghost use Rattle.sdd_domain.specs.Local.{LocalModel};
-ghost use Rattle.sdd_domain.specs.LocalState.{HasOpenGuard, IsLone, KnowsOwner};
+ghost use Rattle.sdd_domain.specs.LocalState.{HasOpenGuard, IsLone};
 ghost use Rattle.sdd_domain.specs.Receipt.{with_reclaimed};
 ghost use Rattle.sdd_domain.specs.Local.{world_of};
 ghost use Rattle.sdd_domain.specs.Reclaiming.{counted_in_place, kept_of, rest_of};
@@ -170,7 +170,7 @@ impl<T: Item<T>> LocalGiver<'_, T> {
         ensures kept { IfOk result (λ _. kept_of self.new ≡ kept_of (counted_in_place self.old)) }
         ensures back { IfErr result (λ back. (back ≡ right) × (self.new ≡ self.old) × (IsLone self.old.member → HasOpenGuard self.old.member)) }
         ensures quiet { IfOk result (λ _. ¬ (HasOpenGuard self.old.member)) }
-        ensures owned { IsLone self.old.member → (value : Gv) × KnowsOwner self.old.member (number_of right) (is_shared kind) value }
+        ensures stands { IsLone self.old.member → standing_at (world_of self.old) (number_of right) ≡ Some (first_standing kind) }
         ensures exact { IsLone self.old.member → IfOk result (λ _. world_of self.new
             ≡ dropped T.holds (world_of self.old) self.old.member.place (number_of right)) }
     {

@@ -226,8 +226,8 @@ impl<T: Item<T>> InPlaceItems<T> for Local<'_, T> {
         kind: StandingKind,
         f: F,
     ) -> Result<R, (F, Refused)> {
-        self.partner.ledger.codes();
         let LocalGiver { membership, ledger } = &mut self.partner;
+        ledger.codes();
         match membership.get_mut(right, kind, f, ledger) {
             Ok(answer) => Ok(answer),
             Err(f) => Err((f, Refused::GuardOpen)),

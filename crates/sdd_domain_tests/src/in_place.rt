@@ -23,13 +23,7 @@ pub fn counts(rt: &impl Abort, tally: Tally, made: u128, reclaimed: u128, in_pla
 }
 
 /// The item of an owner has the value put in place of this one.
-fn changes(
-    rt: &impl Abort,
-    local: &mut Local<'_, u64>,
-    owner: &mut Owned<u64>,
-    was: u64,
-    put: u64,
-)
+fn changes(rt: &impl Abort, local: &mut Local<'_, u64>, owner: &mut Owned<u64>, was: u64, put: u64)
     requires seated { IsSeated (seat_of local.old) }
     requires home { owned.slots_home owner.old ≡ slots_home local.old }
     ensures seat { seat_of local.new ≡ seat_of local.old }
@@ -43,12 +37,7 @@ fn changes(
 }
 
 /// A guard is open: the change comes back uncalled, and the item has the value that it had.
-fn changes_nothing(
-    rt: &impl Abort,
-    local: &mut Local<'_, u64>,
-    owner: &mut Owned<u64>,
-    value: u64,
-)
+fn changes_nothing(rt: &impl Abort, local: &mut Local<'_, u64>, owner: &mut Owned<u64>, value: u64)
     requires seated { IsSeated (seat_of local.old) }
     requires home { owned.slots_home owner.old ≡ slots_home local.old }
     ensures seat { seat_of local.new ≡ seat_of local.old }

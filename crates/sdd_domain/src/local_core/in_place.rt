@@ -52,8 +52,16 @@ impl<'d, T: Item<T>> LocalCore<'d, T> {
             Ok(()) => {
                 let shared = is_one_of_several(kind);
                 let shelf = &self.domain.shelf;
-                let (owner, grip, answer) =
-                    change_alone(board, shelf, &mut self.token, ledger, slot, shared, grip, f);
+                let (owner, grip, answer) = change_alone(
+                    board,
+                    shelf,
+                    &mut self.token,
+                    ledger,
+                    slot,
+                    shared,
+                    grip,
+                    f,
+                );
                 right.put(Right::of_witness(slot, slots, kind, owner, grip));
                 Ok(answer)
             }

@@ -38,7 +38,7 @@ pub returns-clause-changed : goal.returns-clause-changed
 returns-clause-changed g c =
     let took = c.take_alone-value.ensures in let put = c.put_value-owner.ensures in
     let then : FnOnceReturnsAtMut {F = g.row.F.Denot} {T = g.row.T.Denot} {R = g.row.R.Denot} g.F.FnOnce c.args.f c.take_alone-value.result c.f-answer.result
-        c.f-answer.new.arg2 = record { shown = _; shows = refl; left = _; met = c.f-answer.ensures; leaves = refl } in (
+    c.f-answer.new.arg2 = record { shown = _; shows = refl; left = _; met = c.f-answer.ensures; leaves = refl } in (
       c.take_alone-value.result,
       c.f-answer.new.arg2,
       took.value,
