@@ -2,6 +2,7 @@
 ghost use Rattle.std.specs.Prelude.{◌≡◌, ◌⊎◌, ◌+◌, ◌^◌, ◌<◌, ◌≤◌, ℕ, MatchResult, None};
 ghost use Rattle.sdd_participants.specs.Slab.{IsEmptyAt, IsFull};
 ghost use Rattle.sdd_space.specs.ReclaimBound.{Waits, accelerated_guard, four_guards};
+ghost use Rattle.sdd_space.specs.WorkingGuards.{WorkingGuardsReclaim};
 ghost use Rattle.sdd_space.specs.CallerId.{IsSeated, IsExact};
 ghost use Rattle.sdd_space.specs.WorldChanges.{made, retired};
 ghost use Rattle.sdd_space.specs.World.{World, IsPlaceOf, standing_at};
@@ -112,4 +113,12 @@ fn goes_on<T: Item<T>>(local: &mut Local<'_, T>)
     local.accelerated_guards_pass();
     accelerated::<T, Local<'_, T>>(local);
     local.is_whole();
+}
+
+/// What waits with the only participant of a domain has gone after four openings of its guards, whatever it does under them, where each is accelerated.
+pub fn goes_under_work<T: Item<T>>(local: &Local<'_, T>)
+    requires lone { IsLone local.now.member }
+    ensures { WorkingGuardsReclaim T.holds (world_of local.now) }
+{
+    local.working_guards_reclaim();
 }

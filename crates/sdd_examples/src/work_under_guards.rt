@@ -10,6 +10,7 @@ ghost use Rattle.sdd_space.specs.WorkingGuards.{HasGone, PassesWork, WaitsWith, 
 ghost use Rattle.sdd_world.specs.Place.{index_of};
 
 use sdd_core::{Refused, Tag};
+use sdd_space::laws::calls_are_work;
 use sdd_space::{AtomicOwned, Cells, Guard, Guards, Item, Items, Owned};
 use sdd_world::{Place, World};
 
@@ -30,6 +31,7 @@ pub fn replaced<T: Item<T>, S: Items<T> + Cells<T>>(
     ensures back { IfErr result (λ e. e ≡ (value, Refused.NoSlot)) }
     ensures works { Works T.holds (S.world s.old) (S.world s.new) }
 {
+    calls_are_work::<T>();
     let next = Owned::new(value, s)?;
     let (before, _tag) = cell.swap((Some(next), Tag::None), s);
     let Some(before) = before else {
@@ -48,6 +50,7 @@ pub fn looked_at<T: Item<T>, S: Guards<T> + Cells<T>>(cell: &AtomicOwned<T>, s: 
     ensures seat { S.seat s.new ≡ S.seat s.old }
     ensures works { Works T.holds (S.world s.old) (S.world s.new) }
 {
+    calls_are_work::<T>();
     let Ok(guard) = Guard::new(s) else {
         return;
     };
@@ -77,11 +80,13 @@ pub fn works_under_a_guard<T: Item<T>>(
     ensures passed { PassesWork T.holds (index_of place.now) world.old world.new }
 {
     world.working_guards_reclaim();
+    calls_are_work::<T>();
     let mut turn = world.at(place);
     let Ok(guard) = Guard::new(&mut turn) else {
         unreachable!()
     };
     let done = replaced(cell, value, &mut turn);
+    drop(turn);
     looked_at(cell, &mut world.at(reader));
     let mut turn = world.at(place);
     guard.accelerate(&mut turn);
@@ -112,6 +117,7 @@ pub fn works<T: Item<T>>(
         WaitsWith world.old (index_of place.now) what seen → HasGone T.holds what world.old world.new) }
 {
     world.working_guards_reclaim();
+    calls_are_work::<T>();
     while let Some(value) = values.pop() {
         if let Err((value, _no_slot)) = works_under_a_guard(world, place, reader, cell, value) {
             return Err((value, values));
