@@ -7,8 +7,9 @@ use crate::reclaiming::LocalGiver;
 use sdd_core::Refused;
 use sdd_rights::{Right, StandingKind};
 use sdd_space::inner::value_of_ptr;
-use sdd_space::{Caller, Guard, Guards, InPlaceItems, Item, Items, Look, LookThrough, Ptr, Shows};
-use sdd_space::{Caller, Guard, Guards, Item, Items, Look, LookThrough, Ptr, RawItems, Shows};
+use sdd_space::{
+    Caller, Guard, Guards, InPlaceItems, Item, Items, Look, LookThrough, Ptr, RawItems, Shows,
+};
 
 impl<T: Item<T>> Shows<T> for Local<'_, T> {
     ghost use Rattle.sdd_domain.specs.SpaceIds.{home_in};
