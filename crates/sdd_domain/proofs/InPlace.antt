@@ -10,6 +10,7 @@ use Rattle.sdd_rights.specs.declared.read_fraction.ReadFraction.{ReadFraction}
 use Rattle.sdd_rights.specs.declared.right.StandingKind.{StandingKind}
 use Rattle.sdd_rights.specs.declared.right.Right.{Right}
 use Rattle.sdd_rights.specs.Owner.{witness_of_owner}
+use Rattle.sdd_rights.specs.RightModel.{same_right}
 use Rattle.sdd_rights.specs.Right.{AreSlotsOfTable, IsOwnerBy, home_of, home_of_table, kind_of, number_of, views_of}
 use Rattle.sdd_rights.specs.StandingKind.{is_shared}
 use Rattle.sdd_rights.specs.Units.{GhostName}
@@ -71,7 +72,7 @@ module _ (b : DomainTable) (m : LocalState) (on : IsOn b m) (right : Right) (kin
   right_again w' size made table same views sized number home' kind' views' =
       let homed : home_of made ≡ home_of right = home'
       ∙ ((λ d. home_of_table ((table ∙ sym on.home) d) ((owner_book ∙ sym on.book) d) (sized d)) ∙ sym home) in
-      λ d. record { number = (number ∙ is) d; home = homed d; kind = (kind' ∙ sym of_kind) d; views = (views' ∙ (same ∙ views)) d }
+      same_right made right (number ∙ is) homed (kind' ∙ sym of_kind) (views' ∙ (same ∙ views))
 
   -- one of an owner with another value is of the same home
   pub right_anew : (w' : Witness) (grip' : ReadFraction) (size : ℕ) (made : Right) → w'.table_id ≡ id_of b → grip'.book ≡ book_of b → size ≡ m.limits.slots
