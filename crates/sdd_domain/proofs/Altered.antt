@@ -1,12 +1,11 @@
 -- A participant with its ledger, once an item was changed or dropped in its place, or that was refused
-use Rattle.std.proofs.Common.{◌≡◌, ◌≢◌, inl, inr, ℕ, ◌<◌, Bool, true, false, IsTrue, List, ◌∷◌, Some, None, set, slice_index_or, sym, refl, ap, ◌∙◌, subst, arith, get_or-set_other}
-use Rattle.std.specs.Prelude.{MatchResult, Result, Ok, Err, Option, if◌then◌else◌, suc}
+use Rattle.std.proofs.Common.{◌≡◌, ◌≢◌, inl, inr, ℕ, ◌<◌, Bool, true, false, IsTrue, List, Some, None, set, slice_index_or, sym, refl, ap, ◌∙◌, subst, arith, get_or-set_other}
+use Rattle.std.specs.Prelude.{MatchResult, Result, Ok, Err, if◌then◌else◌, suc}
 use Rattle.std.proofs.lemmas.List.{get_or-replicate, length-replicate}
 use base.Stored.{Gv}
 use denote.RattleType.{RattleType}
 use Rattle.sdd_participants.specs.EpochState.{is_open}
 use Rattle.sdd_participants.specs.declared.participant.Participant.{Participant}
-use Rattle.sdd_participants.specs.declared.standing.Standing.{Standing}
 use Rattle.sdd_participants.specs.declared.standing.Standing.TheVariants.{Owned, Shared}
 use Rattle.sdd_rights.specs.declared.right.StandingKind.{StandingKind}
 use Rattle.sdd_rights.specs.declared.right.Right.{Right}

@@ -1,10 +1,9 @@
 -- What a lone participant's changing of an item in its place is for its world
 use Rattle.std.proofs.Common.{◌≡◌, ◌≢◌, ℕ, ◌<◌, List, ◌∷◌, Some, None, length, set, slice_index_or, sym, refl, ap, ◌∙◌, subst, arith, length-set, get_or-set_same, get_or-set_other}
-use Rattle.std.specs.Prelude.{Option, Bool, if◌then◌else◌}
+use Rattle.std.specs.Prelude.{Option, Bool}
 use mathlib.Core.Logic.{dite}
 use native.Mathlib.Decide.{ℕ_discrete}
 use base.Stored.{Gv}
-use Rattle.sdd_participants.specs.declared.standing.Standing.TheVariants.{Owned, Shared}
 use Rattle.sdd_views.specs.declared.ShownValue.{ShownValue}
 use Rattle.sdd_domain_invariant.specs.FilledInvariant.{newest}
 use Rattle.sdd_domain_invariant.proofs.Fillings.{newest_now, newest_before}
@@ -13,7 +12,7 @@ use Rattle.sdd_domain.specs.LocalState.{ChangesAt, KnowsOwner, LocalState, word_
 use Rattle.sdd_domain.specs.WordsAndValues.{Agrees, AreTied}
 use Rattle.sdd_domain.specs.Local.{LocalModel, listing, standing_by, value_by, standing_in, value_in, world_of}
 use Rattle.sdd_domain.proofs.Listings.{listing_same, listing_set}
-use Rattle.sdd_domain.proofs.Owning.{low, owned}
+use Rattle.sdd_domain.proofs.Owning.{owned}
 
 module _ {T : Type 0} (v : LocalModel T) (t : AreTied v.member v.entries) (k : ℕ) (shared : Bool) (was : Gv) (knows : KnowsOwner v.member k shared was)
     (x : T) (g : Gv) (m : LocalState) (is : ChangesAt k shared g v.member m) where

@@ -1,5 +1,5 @@
 -- What is known while the slot of an owner that was taken in is held, once that was let go of, and once its value was moved
-use Rattle.std.proofs.Common.{◌≡◌, ℕ, ◌+◌, not, List, [], ◌∷◌, eq-eqb, refl, sym, ap, ◌∙◌, subst}
+use Rattle.std.proofs.Common.{◌≡◌, ℕ, not, List, [], ◌∷◌, eq-eqb, refl, sym, ap, ◌∙◌, subst}
 use Rattle.std.specs.Prelude.{Bool, true}
 use mathlib.Core.Bool.{cond}
 use base.Stored.{Gv}
@@ -12,7 +12,7 @@ use Rattle.sdd_views.specs.Views.{owner_of, owner_token, at_rest}
 use Rattle.sdd_rights.specs.Owner.{witness_of_owner}
 use Rattle.sdd_word_invariant.specs.SlotSteps.{TakesHold, LetsGo, discarded, held, release_hold, without}
 use Rattle.sdd_domain_invariant.specs.FractionsAtHome.{CarriedFractions, spare}
-use Rattle.sdd_domain_invariant.specs.FractionSteps.{SeatState, CarriesAll, IsValue, parting, departing, moving, untold, undrawing, resting, dropping, regained}
+use Rattle.sdd_domain_invariant.specs.FractionSteps.{CarriesAll, parting, departing, moving, untold, undrawing, resting, dropping, regained}
 use Rattle.sdd_atomics.specs.declared.domain_table.DomainTable.{DomainTable}
 use Rattle.sdd_atomics.specs.DomainTable.{book_of, places_of}
 use Rattle.sdd_atomics.specs.DomainSeat.{Knows, Taught, view, slots}

@@ -1,24 +1,22 @@
 -- A participant whose owner is alone with its item, before and after that was changed or dropped in its place
-use Rattle.std.proofs.Common.{◌≡◌, ℕ, ◌<◌, ◌≤◌, List, [], ◌∷◌, ⊎_elim, refl, sym, ap, ◌∙◌, subst, arith}
+use Rattle.std.proofs.Common.{◌≡◌, ℕ, ◌<◌, ◌≤◌, List, [], ◌∷◌, ⊎_elim, sym, ap, ◌∙◌, subst, arith}
 use Rattle.std.specs.Prelude.{Bool, None}
 use base.Stored.{Gv}
 use mathlib.Core.Logic.{dite}
 use native.Mathlib.Decide.{dec_lt}
-use Rattle.atomic_table.specs.Seated.{TableId}
 use Rattle.atomic_table.specs.declared.shared.Seat.{Seat}
-use Rattle.sdd_core.specs.declared.limits.Limits.{Limits}
 use Rattle.sdd_participants.specs.declared.participant.Participant.{Participant}
 use Rattle.sdd_rights.specs.declared.read_fraction.ReadFraction.{ReadFraction}
 use Rattle.sdd_rights.specs.declared.right.StandingKind.{StandingKind}
 use Rattle.sdd_rights.specs.declared.right.Right.{Right}
 use Rattle.sdd_rights.specs.Owner.{witness_of_owner}
+use Rattle.sdd_rights.specs.RightModel.{same_right}
 use Rattle.sdd_rights.specs.Right.{AreSlotsOfTable, IsOwnerBy, home_of, home_of_table, kind_of, number_of, views_of}
 use Rattle.sdd_rights.specs.StandingKind.{is_shared}
 use Rattle.sdd_rights.specs.Units.{GhostName}
 use Rattle.sdd_witness.specs.declared.witness.Witness.{Witness}
 use Rattle.sdd_shared_values.specs.declared.value_fraction.ValueFraction.{ValueFraction}
 use Rattle.sdd_views.specs.declared.ShownValue.{ShownValue}
-use Rattle.sdd_views.specs.declared.Sizes.{Sizes}
 use Rattle.sdd_views.specs.declared.View.{View}
 use Rattle.sdd_word_invariant.specs.Epoch.{HasPlace, IsOpen}
 use Rattle.sdd_word_invariant.specs.Slots.{Holds}
@@ -32,7 +30,7 @@ use Rattle.sdd_atomics.specs.DomainSeat.{Knows, epoch, slots, view}
 use Rattle.sdd_atomics.specs.Owner.{disowned}
 use Rattle.sdd_domain.specs.BetweenCalls.{IsBetweenCalls}
 use Rattle.sdd_domain.specs.Claims.{IsUnmoved}
-use Rattle.sdd_domain.specs.InPlace.{IsBare, IsHeldBy, holding, with_dropped}
+use Rattle.sdd_domain.specs.InPlace.{IsBare, IsHeldBy, with_dropped}
 use Rattle.sdd_domain.specs.Items.{HasValue, slots_home}
 use Rattle.sdd_domain.specs.LocalState.{LocalState}
 use Rattle.sdd_domain.specs.Values.{with_filled}
@@ -74,7 +72,7 @@ module _ (b : DomainTable) (m : LocalState) (on : IsOn b m) (right : Right) (kin
   right_again w' size made table same views sized number home' kind' views' =
       let homed : home_of made ≡ home_of right = home'
       ∙ ((λ d. home_of_table ((table ∙ sym on.home) d) ((owner_book ∙ sym on.book) d) (sized d)) ∙ sym home) in
-      λ d. record { number = (number ∙ is) d; home = homed d; kind = (kind' ∙ sym of_kind) d; views = (views' ∙ (same ∙ views)) d }
+      same_right made right (number ∙ is) homed (kind' ∙ sym of_kind) (views' ∙ (same ∙ views))
 
   -- one of an owner with another value is of the same home
   pub right_anew : (w' : Witness) (grip' : ReadFraction) (size : ℕ) (made : Right) → w'.table_id ≡ id_of b → grip'.book ≡ book_of b → size ≡ m.limits.slots

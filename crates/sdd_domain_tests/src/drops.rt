@@ -77,6 +77,21 @@ fn what_waits_in_a_leaked_domain_is_not_dropped(rt: HostRuntime) {
     assert_eq!(rt; Arc::strong_count(&alive), 2);
 }
 
+/// Makes a value, and drops it in its place at once.
+fn makes_and_drops(rt: &impl Abort, local: &mut Local<'_, Counted>, alive: Arc<(), Global>)
+    requires { IsSeated (seat_of local.old) }
+    ensures { seat_of local.new ≡ seat_of local.old }
+{
+    let owner = match Owned::new(Counted { alive }, local) {
+        Ok(owner) => owner,
+        Err((_value, refused)) => panic!(rt; "refused: {refused:?}"),
+    };
+    match owner.drop_in_place(local) {
+        Ok(()) => {}
+        Err((_owner, refused)) => panic!(rt; "refused: {refused:?}"),
+    }
+}
+
 /// The value is dropped at once, and its slot is free.
 #[test]
 fn a_value_that_is_dropped_in_its_place_is_dropped_once(rt: HostRuntime) {
@@ -85,11 +100,7 @@ fn a_value_that_is_dropped_in_its_place_is_dropped_once(rt: HostRuntime) {
     let mut local = registered(&rt, &domain);
     for _ in 0..3 {
         let counted = Arc::try_clone(&alive).expect(&rt, "it is counted");
-        let Ok(owner) = Owned::new(Counted { alive: counted }, &mut local) else {
-            panic!(rt; "a slot is free")
-        };
-        assert_eq!(rt; Arc::strong_count(&alive), 2);
-        assert!(rt; owner.drop_in_place(&mut local).is_ok());
+        makes_and_drops(&rt, &mut local, counted);
         assert_eq!(rt; Arc::strong_count(&alive), 1);
     }
     let receipts = vec![in rt.alloc(); ended(&rt, local)].expect(&rt, "there is memory");

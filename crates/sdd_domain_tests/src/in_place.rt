@@ -209,10 +209,13 @@ fn a_shared_owner_that_is_alone_changes_and_drops(rt: HostRuntime) {
         Err((_change, refused)) => panic!(rt; "refused: {refused:?}"),
     }
     let guard = opened(&rt, &mut local);
-    let Err((owner, refused)) = owner.drop_in_place(&mut local) else {
-        panic!(rt; "a guard is open")
+    let owner = match owner.drop_in_place(&mut local) {
+        Ok(_last) => panic!(rt; "a guard is open"),
+        Err((owner, refused)) => {
+            assert_eq!(rt; refused, Refused::GuardOpen);
+            owner
+        }
     };
-    assert_eq!(rt; refused, Refused::GuardOpen);
     assert_eq!(rt; *owner.get_guarded_ref(&guard, &mut local), 8);
     close(guard, &mut local);
     match owner.drop_in_place(&mut local) {

@@ -64,15 +64,18 @@ const _: () = prove!(size_of::<Right>() == 4);
 
 impl Model for Right {
     ghost use Rattle.sdd_rights.specs.Owner.{is_cell};
-    ghost use Rattle.sdd_rights.specs.RightModel.{RightModel, home_by};
+    ghost use Rattle.sdd_rights.specs.RightModel.{RightModel, home_by, right_coded};
 
     ghost Value = { RightModel };
+
+    ghost coded = { right_coded };
 
     ghost view = { λ r. record {
       number = r.number;
       home = home_by r.witness.views r.witness.table_id r.grip.book (is_cell r.part.number) r.part.home;
       kind = r.part.kind;
       views = r.witness.views;
+      owner = r.owner;
     } };
 }
 

@@ -1,8 +1,7 @@
-use Rattle.std.proofs.Common.{◌≡◌, suc, drop, refl, sym, ap, ◌∙◌, subst}
+use Rattle.std.proofs.Common.{suc, drop, refl, sym, ap, ◌∙◌, subst}
 use Rattle.std.specs.Fn.{FnOnceReturnsAtMut}
 use Rattle.sdd_shared_values.specs.SharedValues.{IsNoValueCode}
 use Rattle.sdd_shared_values.specs.SharedValues.{showing}
-use Rattle.sdd_views.specs.declared.Sizes.{Sizes}
 use Rattle.sdd_views.specs.declared.View.{View}
 use Rattle.sdd_word_invariant.specs.SlotSteps.{release_hold}
 use Rattle.sdd_domain_invariant.specs.FractionsAtHome.{CarriedFractions}

@@ -1,10 +1,8 @@
-use Rattle.std.proofs.Common.{◌≡◌, ◌<◌, ℕ, List, sym, refl, ap, ◌∙◌, subst, arith}
-use Rattle.std.specs.Prelude.{false}
+use Rattle.std.proofs.Common.{◌<◌, ℕ, sym, refl, ap, ◌∙◌, subst, arith}
 use Rattle.sdd_views.specs.declared.View.{View}
 use Rattle.sdd_word_invariant.specs.Sums.{times}
 use Rattle.sdd_word_invariant.proofs.Sums.{is_same}
 use Rattle.sdd_atomics.specs.DomainTable.{places_of}
-use Rattle.sdd_atomics.specs.DomainSeat.{view}
 use Rattle.sdd_domain.proofs.Held.{held_view, looked_view, held_by, back_view, unmoved, same_owner, owns_one}
 use Rattle.sdd_domain.proofs.holding.hold_alone.Goals as goal
 

@@ -3,11 +3,10 @@ use base.Stored.{Gv}
 use Rattle.atomic_table.specs.declared.shared.Seat.{Seat}
 use Rattle.sdd_shared_values.specs.declared.value_fraction.ValueFraction.{ValueFraction}
 use Rattle.sdd_shared_values.specs.SharedValues.{IsValueCode, IsNoValueCode, vacant, showing}
-use Rattle.sdd_views.specs.declared.FractionsView.{FractionsView}
 use Rattle.sdd_views.specs.declared.View.{View}
 use Rattle.sdd_views.specs.declared.ShownValue.{ShownValue}
 use Rattle.std.specs.Prelude.{List}
-use Rattle.sdd_domain_invariant.specs.FractionsAtHome.{CarriedFractions, spare}
+use Rattle.sdd_domain_invariant.specs.FractionsAtHome.{CarriedFractions}
 use Rattle.sdd_domain_invariant.specs.FractionSteps.{CarriesAll, IsValue}
 use Rattle.sdd_domain_invariant.specs.Records.{IsIn}
 use Rattle.sdd_atomics.specs.DomainTable.{book_of, places_of}

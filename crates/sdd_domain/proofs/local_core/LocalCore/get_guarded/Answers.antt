@@ -25,7 +25,6 @@ use Rattle.sdd_domain.proofs.Moving.{can_show, shows_known}
 use Rattle.sdd_domain.proofs.Posing.{watched, posed_shows, same_recalled}
 use Rattle.sdd_domain.proofs.Members.{with_token, looks_at, recalls_to, has_tables}
 use Rattle.sdd_domain.specs.LocalState.{LocalState, LooksAt, IsLone, KnowsOwner}
-use Rattle.sdd_witness.specs.declared.witness.Witness.{Witness}
 use Rattle.sdd_domain.proofs.local_core.LocalCore.get_guarded.Goals as goal
 
 pub show-requires-clause-stake : goal.show-requires-clause-stake

@@ -1,4 +1,4 @@
-use Rattle.std.proofs.Common.{◌≡◌, ℕ, sym, ap, ◌∙◌, subst}
+use Rattle.std.proofs.Common.{ℕ, sym, ap, ◌∙◌, subst}
 use base.Stored.{Gv}
 use Rattle.sdd_rights.specs.Owner.{one-shown}
 use Rattle.sdd_rights.specs.StandingKind.{is_shared}

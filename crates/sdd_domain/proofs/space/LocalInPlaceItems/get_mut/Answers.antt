@@ -1,4 +1,4 @@
-use Rattle.std.proofs.Common.{◌≡◌, Some, inr, true, IsTrue, sym, refl, ap, ◌∙◌, subst}
+use Rattle.std.proofs.Common.{inr, sym, refl, ap, ◌∙◌, subst}
 use base.Stored.{Gv}
 use Rattle.sdd_rights.specs.Right.{number_of}
 use Rattle.sdd_rights.specs.StandingKind.{is_shared}
