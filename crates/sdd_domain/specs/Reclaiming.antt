@@ -14,4 +14,4 @@ kept_of p = record p { member = kept_by p.member }
 
 -- what reclaiming leaves as it is
 abbrev pub rest_of : {T : Type 0} → LocalModel T → LocalModel T
-rest_of p = record p { member = record (kept_by p.member) { tally = no_items; due = [] } }
+rest_of p = record p { member = record (kept_by p.member) { tally = no_items; due = []; jobs = [] } }

@@ -4,12 +4,14 @@
 mod changes;
 mod claims;
 mod closing;
+mod deferred_jobs;
 pub mod domain;
 mod draining;
 mod due_items;
 mod ended_counts;
 mod free_slot_hints;
 mod holds_own_domain;
+mod job_claims;
 pub mod local;
 mod local_core;
 pub mod receipt;

@@ -11,7 +11,7 @@ use Rattle.sdd_domain.proofs.space.LocalGuards.count.Goals as goal
 
 pub invariant_of-self : goal.invariant_of-self
 invariant_of-self g c = let v : LocalModel g.row.T.Denot = (c.self-inside.view_is 0).partner in
-    let inner : v ≡ c.self.inside.partner = ap (λ (i : Inside g.row.T.Denot). i.partner) c.self-inside.view_is in
+    let inner : v ≡ c.self.inside.partner = ap (λ (i : Inside g.row.T.Denot g.row.J.Denot). i.partner) c.self-inside.view_is in
     let told = c.count.ensures in
     sound_step g.T.Item.holds v c.count.new.self (subst (IsSound g.T.Item.holds) (sym inner) c.self.invariant) (λ w _. w) (λ w _ _ whole. whole)
     (ap (λ (m : LocalState). m.due) told.member) (ap home_in told.member)
@@ -19,7 +19,7 @@ invariant_of-self g c = let v : LocalModel g.row.T.Denot = (c.self-inside.view_i
 
 pub returns-clause-undisturbed : goal.returns-clause-undisturbed
 returns-clause-undisturbed g c = let v : LocalModel g.row.T.Denot = (c.self-inside.view_is 0).partner in
-    let inner : v ≡ c.self.inside.partner = ap (λ (i : Inside g.row.T.Denot). i.partner) c.self-inside.view_is in
+    let inner : v ≡ c.self.inside.partner = ap (λ (i : Inside g.row.T.Denot g.row.J.Denot). i.partner) c.self-inside.view_is in
     record {
       seat = search rules;
       own = search rules;

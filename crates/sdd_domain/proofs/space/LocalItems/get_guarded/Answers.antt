@@ -10,7 +10,7 @@ use Rattle.sdd_domain.proofs.space.LocalItems.get_guarded.Goals as goal
 
 pub invariant_of-self : goal.invariant_of-self
 invariant_of-self g c = let v : LocalModel g.row.T.Denot = (c.self-inside.view_is 0).partner in
-    let inner : v ≡ c.self.inside.partner = ap (λ (i : Inside g.row.T.Denot). i.partner) c.self-inside.view_is in
+    let inner : v ≡ c.self.inside.partner = ap (λ (i : Inside g.row.T.Denot g.row.J.Denot). i.partner) c.self-inside.view_is in
     let looks = c.get_guarded.ensures.looks in let m : LocalState = c.get_guarded.new.self in
     let only = only_looks g.row.T v m c.args.right.now c.get_guarded.result.now looks in
     sound_step g.T.Item.holds v m (subst (IsSound g.T.Item.holds) (sym inner) c.self.invariant) (λ w _. w) (λ w _ _ whole. whole)
@@ -18,13 +18,13 @@ invariant_of-self g c = let v : LocalModel g.row.T.Denot = (c.self-inside.view_i
 
 pub returns-clause-shown : goal.returns-clause-shown
 returns-clause-shown g c = let v : LocalModel g.row.T.Denot = (c.self-inside.view_is 0).partner in
-    let inner : v ≡ c.self.inside.partner = ap (λ (i : Inside g.row.T.Denot). i.partner) c.self-inside.view_is in
+    let inner : v ≡ c.self.inside.partner = ap (λ (i : Inside g.row.T.Denot g.row.J.Denot). i.partner) c.self-inside.view_is in
     shows_it g.row.T v c.get_guarded.new.self c.args.right.now c.get_guarded.result.now c.get_guarded.ensures.looks c.self-inside.invariant
     c.codes.ensures c.get_guarded.ensures.recalled g.T.Item.holds c.get_guarded.ensures.home c.get_guarded.ensures.once
 
 pub returns-clause-undisturbed : goal.returns-clause-undisturbed
 returns-clause-undisturbed g c = let v : LocalModel g.row.T.Denot = (c.self-inside.view_is 0).partner in
-    let inner : v ≡ c.self.inside.partner = ap (λ (i : Inside g.row.T.Denot). i.partner) c.self-inside.view_is in
+    let inner : v ≡ c.self.inside.partner = ap (λ (i : Inside g.row.T.Denot g.row.J.Denot). i.partner) c.self-inside.view_is in
     record {
       seat = search rules;
       own = search rules;

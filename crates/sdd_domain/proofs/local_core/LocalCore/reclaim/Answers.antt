@@ -18,7 +18,7 @@ use Rattle.sdd_domain.proofs.Members.{with_view}
 use Rattle.sdd_domain.proofs.Posing.{posed_reclaims}
 use Rattle.sdd_domain.proofs.Reclaims.{first_is_due, first_inside, first_item, first_goes}
 use Rattle.sdd_domain.proofs.Tallies.{tallied_reclaimed}
-use Rattle.sdd_domain.proofs.local_core.LocalCore.reclaim_next.Goals as goal
+use Rattle.sdd_domain.proofs.local_core.LocalCore.reclaim.Goals as goal
 
 pub unreachable-requires : goal.unreachable-requires
 unreachable-requires g c = let l = c.self.inside in let r = c.self.invariant.4 in let item = first_item c.in_ok-what.what c.next.new.self.items
