@@ -19,6 +19,7 @@ use Rattle.sdd_word_invariant.specs.Slots.{waits_in}
 use Rattle.sdd_word_invariant.specs.SlotSteps.{older, changed}
 use Rattle.sdd_word_invariant.proofs.Sums.{total_map}
 use Rattle.sdd_atomics.specs.declared.domain_table.DomainTable.{DomainTable}
+use Rattle.sdd_atomics.specs.DomainTable.{slots_of}
 use Rattle.sdd_atomics.specs.DomainSeat.{view, epoch, slots, Stepped, HasPublished}
 use Rattle.sdd_domain.specs.WaitingItems.{what_of, waiting_of, ripe, unripe, aged_at, due_at, arrived_at, Arrives, HasArrived}
 use Rattle.sdd_domain.specs.BetweenCalls.{IsBetweenCalls}

@@ -5,6 +5,7 @@ use mathlib.Core.Logic.{dite}
 use native.Mathlib.Decide.{ℕ_discrete}
 use base.Stored.{Gv}
 use denote.RattleType.{RattleType}
+use Rattle.sdd_participants.specs.declared.waiting.LimboEntry.TheVariants.{Item}
 use Rattle.sdd_participants.specs.Tally.{one_reclaimed}
 use Rattle.sdd_participants.specs.declared.standing.Standing.{Standing}
 use Rattle.sdd_participants.specs.declared.standing.Standing.TheVariants.{Retired}
@@ -20,7 +21,7 @@ use Rattle.sdd_word_invariant.proofs.Owning.{item_gone, item_kept}
 use Rattle.sdd_domain_invariant.specs.FilledInvariant.{newest}
 use Rattle.sdd_space.specs.OwnerOrCell.{OwnerOrCell}
 use Rattle.sdd_space.specs.World.{World, standing_at, value_at}
-use Rattle.sdd_space.specs.WorldChanges.{waiting_value, taken_out, given_all, all_reclaimed, slot_reclaimed}
+use Rattle.sdd_space.specs.WorldChanges.{waiting_value, taken_out, given_all, reclaimed, slot_reclaimed}
 use Rattle.sdd_space.specs.WorldChanges as steps
 use Rattle.sdd_participants.specs.Slab.{entry_at}
 use Rattle.sdd_domain.specs.LocalState.{LocalState, place_number, IsLone, Reclaims, word_of}
@@ -140,9 +141,8 @@ module _ (R : RattleType) (p : LocalModel R.Denot) (t : AreTied p.member p.entri
   pub tied_then : AreTied m p.entries
   tied_then = subst (λ (y : LocalState). AreTied y p.entries) (sym is.member) tied_now
 
-  -- what it gives up then is what the reclaiming of the item does, and the others go as before
-  pub reclaims_on : (holds : R.Denot → List OwnerOrCell) → all_reclaimed holds (world_of p) p.member.place p.member.due
-      ≡ all_reclaimed holds (given_all (world_of (record { member = m; entries = p.entries })) p.member.place (holds x)) p.member.place m.due
-  reclaims_on holds = let k : ℕ = p.member.place in ap (all_reclaimed holds (world_of p) k) is.first
-      ∙ (ap (λ (w : World R.Denot). all_reclaimed holds w k m.due) (goes_now holds)
-      ∙ ap (λ (y : LocalState). all_reclaimed holds (given_all (world_of (record { member = y; entries = p.entries })) k (holds x)) k m.due) (sym is.member))
+  -- what it gives up then is what the reclaiming of the item does
+  pub reclaims_one : (holds : R.Denot → List OwnerOrCell) → reclaimed holds (world_of p) p.member.place (Item slot)
+      ≡ given_all (world_of (record { member = m; entries = p.entries })) p.member.place (holds x)
+  reclaims_one holds = goes_now holds
+      ∙ ap (λ (y : LocalState). given_all (world_of (record { member = y; entries = p.entries })) p.member.place (holds x)) (sym is.member)

@@ -23,11 +23,16 @@ module _ {J : Type 0} where
   place_in (x ∷ xs) zero = refl
   place_in (x ∷ xs) (suc j) = place_in xs j
 
-  some_place : (o : Option J) → IsSome o → IsSome (option_map {A = J} {B = Unit {0}} (λ _. tt) o)
+  unit_of : Option J → Option (Unit {0})
+  unit_of o = option_map (λ _. tt) o
+
+  some_place : (o : Option J) → IsSome o → IsSome (unit_of o)
+  unfolding unit_of
   some_place None there = absurd (true≢false (sym there))
   some_place (Some job) there = refl
 
   pub place_there : (table : List (Option J)) (j : ℕ) → IsSome (slice_index_or table j None) → IsSome (entry_at (places_of table) j)
+  unfolding unit_of
   place_there table j there = subst (λ (o : Option (Unit {0})). IsSome o) (sym (place_in table j)) (some_place (slice_index_or table j None) there)
 
   pub place_put : (table : List (Option J)) (j : ℕ) (job : J) → places_of (with_entry table j job) ≡ with_entry (places_of table) j tt

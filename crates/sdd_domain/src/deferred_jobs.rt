@@ -1,5 +1,5 @@
 //! The jobs that a participant deferred.
-ghost use Rattle.std.specs.Prelude.{◌≡◌, ◌<◌, ◌≤◌, IfOk, None, length, replicate, slice_index_or};
+ghost use Rattle.std.specs.Prelude.{◌≡◌, ◌^◌, ◌<◌, ◌≤◌, IfOk, None, length, replicate, slice_index_or};
 ghost use Rattle.sdd_participants.specs.Slab.{with_entry, without_entry};
 
 use sdd_participants::Job;
@@ -13,6 +13,7 @@ pub struct DeferredJobs<J: Job> {
     /// Where the next walk over all places begins.
     next: u32,
     ghost inside: { next ≤ length jobs.items },
+    ghost few: { length jobs.items < 2 ^ 32 },
 }
 
 impl<J: Job> Model for DeferredJobs<J> {

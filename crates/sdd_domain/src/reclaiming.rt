@@ -9,7 +9,7 @@ ghost use Rattle.sdd_space.specs.Shared as shared;
 ghost use Rattle.sdd_space.specs.WorldChanges.{given, all_reclaimed, reclaimed, ran};
 ghost use Rattle.sdd_space.specs.WorldChanges as steps;
 ghost use Rattle.sdd_participants.specs.EpochState.{awaiting, settled};
-ghost use Rattle.sdd_participants.specs.declared.waiting.LimboEntry.{LimboEntry};
+ghost use Rattle.sdd_participants.specs.declared.waiting.LimboEntry.{LimboEntry as Entry};
 ghost use Rattle.sdd_participants.specs.declared.waiting.LimboEntry.TheVariants.{Item as item, Job as job};
 ghost use Rattle.sdd_participants.specs.Tally.{one_reclaimed};
 ghost use Rattle.sdd_domain.specs.WaitingItems.{items_in};
@@ -128,7 +128,7 @@ impl<T: Item<T>, J: Job> Giver<T> for LocalGiver<'_, T, J> {
 impl<T: Item<T>, J: Job> LocalGiver<'_, T, J> {
     /// The item that is due before all others, in this slot, is reclaimed, and what its value held is retired then.
     fn reclaim_item(&mut self, slot: u32)
-        requires first { (rest : List LimboEntry) × (self.old.member.due ≡ item slot ∷ rest) }
+        requires first { (rest : List Entry) × (self.old.member.due ≡ item slot ∷ rest) }
         ensures first { self.old.member.due ≡ item slot ∷ self.new.member.due }
         ensures own { KeepsMoreWaiting self.old.member.own self.new.member.own }
         ensures known { KnowsOn (known_of self.old) (known_of self.new) }
@@ -144,7 +144,7 @@ impl<T: Item<T>, J: Job> LocalGiver<'_, T, J> {
 
     /// The job that is due before all others, in this place, runs, once; the place is free before it does.
     fn run_job(&mut self, place: u32)
-        requires first { (rest : List LimboEntry) × (self.old.member.due ≡ job place ∷ rest) }
+        requires first { (rest : List Entry) × (self.old.member.due ≡ job place ∷ rest) }
         ensures first { self.old.member.due ≡ job place ∷ self.new.member.due }
         ensures own { self.new.member.own ≡ self.old.member.own }
         ensures known { known_of self.new ≡ known_of self.old }
@@ -154,6 +154,23 @@ impl<T: Item<T>, J: Job> LocalGiver<'_, T, J> {
     {
         let mut job = self.membership.take_job(place);
         job.run();
+    }
+
+    /// What is due before all others is reclaimed: an item, or a job, which runs.
+    #[inline]
+    fn reclaim_first(&mut self, what: LimboEntry)
+        requires first { (rest : List Entry) × (self.old.member.due ≡ what ∷ rest) }
+        ensures first { self.old.member.due ≡ what ∷ self.new.member.due }
+        ensures own { KeepsMoreWaiting self.old.member.own self.new.member.own }
+        ensures known { KnowsOn (known_of self.old) (known_of self.new) }
+        ensures rest { rest_of self.new ≡ rest_of self.old }
+        ensures reclaimed { self.new.member.tally ≡ with_reclaimed (items_in (what ∷ [])) self.old.member.tally }
+        ensures exact { IsLone self.old.member → world_of self.new ≡ reclaimed T.holds (world_of self.old) self.old.member.place what }
+    {
+        match what {
+            LimboEntry::Item(slot) => self.reclaim_item(slot),
+            LimboEntry::Job(place) => self.run_job(place),
+        }
     }
 
     /// What is due is reclaimed, one after another, and what each value held is retired then.
@@ -168,10 +185,7 @@ impl<T: Item<T>, J: Job> LocalGiver<'_, T, J> {
             ≡ all_reclaimed T.holds (world_of self.old) self.old.member.place self.old.member.due }
     {
         while let Some(what) = self.membership.first_due() {
-            match what {
-                LimboEntry::Item(slot) => self.reclaim_item(slot),
-                LimboEntry::Job(place) => self.run_job(place),
-            }
+            self.reclaim_first(what);
         }
     }
 
