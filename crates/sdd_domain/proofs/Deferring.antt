@@ -9,19 +9,20 @@ use Rattle.sdd_participants.specs.declared.participant.Participant.{Participant}
 use Rattle.sdd_participants.specs.Waiting.{Waiting, fresh}
 use Rattle.sdd_participants.specs.EpochState.{awaiting}
 use Rattle.sdd_shared_values.specs.declared.value_fraction.ValueFraction.{ValueFraction}
+use Rattle.sdd_views.specs.declared.WaitingItem.{WaitingItem}
 use Rattle.sdd_views.specs.declared.View.{View}
 use Rattle.sdd_word_invariant.specs.Epoch.{IsLone, IsOpen}
 use Rattle.sdd_word_invariant.specs.Sums.{total}
 use Rattle.sdd_word_invariant.specs.Slots.{items_at, waits_in}
 use Rattle.sdd_word_invariant.specs.SlotSteps.{retired_now, DefersAt, GivesBack}
-use Rattle.sdd_word_invariant.proofs.Sums.{is_other, total_snoc}
+use Rattle.sdd_word_invariant.proofs.Sums.{is_same, is_other, total_has, total_snoc}
 use Rattle.sdd_domain_invariant.specs.FractionsAtHome.{CarriedFractions}
 use Rattle.sdd_atomics.specs.declared.domain_table.DomainTable.{DomainTable}
-use Rattle.sdd_atomics.specs.DomainTable.{book_of, places_of, slots_of, most_waiting_of}
+use Rattle.sdd_atomics.specs.DomainTable.{sizes_of, book_of, places_of, slots_of, most_waiting_of}
 use Rattle.sdd_atomics.specs.DomainSeat.{view, epoch, slots}
 use Rattle.sdd_domain.specs.WaitingItems.{what_of, waiting_of, ripe, unripe}
 use Rattle.sdd_domain.specs.BetweenCalls.{CarriesSeenOnly, IsBetweenCalls}
-use Rattle.sdd_domain.proofs.Reclaims.{first_goes, no_more, what_job}
+use Rattle.sdd_domain.proofs.Reclaims.{first_is_due, first_goes, no_more, waiting_inside, what_job}
 use Rattle.sdd_domain.proofs.Ripe.{unripe_too}
 use Rattle.sdd_domain.proofs.Posing.{stirs, stirs_low}
 
@@ -92,3 +93,13 @@ module _ (b : DomainTable) (p : ℕ) (own : Participant) (s t : Seat ValueFracti
         pace = q.pace;
         idle = q.idle;
       }
+
+-- where a job is due before all others, its place is one of the places of jobs
+pub place_low : (b : DomainTable) (job : ℕ) (rest : List LimboEntry) (xs : List WaitingItem) → map (what_of (slots_of b)) (ripe xs) ≡ Job job ∷ rest
+    → ((i : ℕ) → 0 < total (waits_in i) xs → i < most_waiting_of b) → job < (sizes_of b).jobs
+place_low b job rest xs first inside = let low = waiting_inside (slots_of b) (most_waiting_of b) (Job job) rest xs first inside in omega arith
+
+-- and it waits there
+pub waits_now : (n job : ℕ) (rest : List LimboEntry) (xs : List WaitingItem) → map (what_of n) (ripe xs) ≡ Job job ∷ rest → 0 < total (waits_in (n + job)) xs
+waits_now n job rest xs first = let one = first_is_due n (Job job) rest xs first in let here = total_has (waits_in (n + job)) xs one.0 one.1 one.2 in
+    let same = is_same (n + job) one.1.slot one.3 in omega arith

@@ -1,5 +1,5 @@
 -- The table of a participant's own, which has a job exactly for each place where one waits with it, over each step
-use Rattle.std.proofs.Common.{◌≡◌, ◌≢◌, ◌↔◌, ℕ, suc, zero, ◌+◌, ◌<◌, List, [], ◌∷◌, ◌++◌, Some, None, length, map, set, slice_index_or, sym, refl, ap, ◌∙◌, subst, arith, get_or-set_other, get_or-set_same}
+use Rattle.std.proofs.Common.{◌≡◌, ◌≢◌, ◌↔◌, ℕ, suc, zero, ◌+◌, ◌<◌, List, [], ◌∷◌, ◌++◌, Some, None, length, map, replicate, set, slice_index_or, sym, refl, ap, ◌∙◌, subst, arith, get_or-set_other, get_or-set_same}
 use Rattle.std.specs.Prelude.{Option, IsSome, option_map, MatchOption}
 use mathlib.Core.Logic.{dite}
 use native.Mathlib.Decide.{ℕ_discrete}
@@ -15,6 +15,11 @@ use Rattle.sdd_word_invariant.proofs.Sums.{is_same, is_other, total_snoc}
 use Rattle.sdd_word_invariant.proofs.Owning.{item_gone, item_kept}
 use Rattle.sdd_domain.specs.DueItems.{Pending}
 use Rattle.sdd_domain.specs.Jobs.{places_of}
+
+-- where there is no job no place has one
+pub blank_places : (J : Type 0) (n : ℕ) → places_of {J = J} (replicate n None) ≡ replicate n None
+blank_places J zero = refl
+blank_places J (suc n) = ap (λ (l : List (Option (Unit {0}))). None ∷ l) (blank_places J n)
 
 module _ {J : Type 0} where
   -- what the places tell is what the table has

@@ -1,7 +1,7 @@
 use Rattle.std.proofs.Common.{rules, ◌≡◌, sym, ap, ◌∙◌, subst}
 use Rattle.sdd_domain.specs.SpaceIds.{home_in}
 use Rattle.sdd_domain.specs.LocalState.{LocalState}
-use Rattle.sdd_domain.specs.Local.{LocalModel}
+use Rattle.sdd_domain.specs.Local.{LocalModel, world_of}
 use Rattle.sdd_domain.specs.declared.local.Local.TheInside.{Inside}
 use Rattle.sdd_domain.specs.Sound.{IsSound}
 use Rattle.sdd_domain.proofs.Owning.{only_looks, same_world, shows_it, keeps_it}
@@ -32,3 +32,8 @@ returns-clause-undisturbed g c = let v : LocalModel g.row.T.Denot = (c.self-insi
       shown = keeps_it g.row.T v c.get_guarded.new.self c.args.right.now c.get_guarded.result.now c.get_guarded.ensures.looks g.T.Item.holds c.get_guarded.ensures.once
           c.args.self.now (inner ∙ c.self.view_is);
     }
+
+pub returns-clause-exact : goal.returns-clause-exact
+returns-clause-exact g c = λ _. let v : LocalModel g.row.T.Denot = (c.self-inside.view_is 0).partner in
+    let inner : v ≡ c.self.inside.partner = ap (λ (i : Inside g.row.T.Denot g.row.J.Denot). i.partner) c.self-inside.view_is in
+    same_world g.row.T v c.get_guarded.new.self c.args.right.now c.get_guarded.result.now c.get_guarded.ensures.looks ∙ ap world_of (inner ∙ c.self.view_is)
