@@ -1,9 +1,8 @@
 -- What deferring a job, and taking one out that is due, are for the world of a lone participant
 use Rattle.std.proofs.Common.{◌≡◌, ◌≢◌, ℕ, ◌+◌, ◌<◌, IsTrue, List, [], ◌∷◌, ◌++◌, Some, None, length, map, get_or, set, slice_index_or, sym, refl, ap, ◌∙◌, subst, arith, length-set, get_or-set_other, get_or-set_same}
-use Rattle.std.specs.Prelude.{Option, IsSome, All}
+use Rattle.std.specs.Prelude.{Option, IsSome}
 use mathlib.Core.Logic.{dite}
 use native.Mathlib.Decide.{ℕ_discrete}
-use Rattle.sdd_participants.specs.declared.standing.Standing.{Standing}
 use Rattle.sdd_participants.specs.declared.waiting.LimboEntry.{LimboEntry}
 use Rattle.sdd_participants.specs.declared.waiting.LimboEntry.TheVariants.{Job}
 use Rattle.sdd_participants.specs.declared.participant.Participant.{Participant}
@@ -22,7 +21,7 @@ use Rattle.sdd_space.specs.World.{World}
 use Rattle.sdd_space.specs.WorldChanges.{deferred, ran}
 use Rattle.sdd_domain.specs.LocalState.{LocalState, place_number, IsLone, DefersTo, TakesJob, AllPlacesTaken, word_of}
 use Rattle.sdd_domain.specs.WaitingItems.{what_of, waiting_of, ripe, unripe}
-use Rattle.sdd_domain.specs.WordsAndValues.{AreTied, WordsMatchValues, MatchesPlace, is_plain_word}
+use Rattle.sdd_domain.specs.WordsAndValues.{AreTied, MatchesPlace, is_plain_word}
 use Rattle.sdd_domain.specs.Local.{LocalModel, listing, standing_by, value_by, standing_in, value_in, world_of}
 use Rattle.sdd_domain.proofs.Alone.{alone, steps_alone}
 use Rattle.sdd_domain.proofs.Listings.{listing_same}

@@ -11,7 +11,7 @@ use Rattle.sdd_word_invariant.specs.Sums.{times}
 use Rattle.sdd_domain_invariant.specs.Records.{IsIn}
 use Rattle.sdd_domain_invariant.specs.FractionSteps.{SeatState, SeesOwned, LearnsOwned}
 use Rattle.sdd_domain_invariant.proofs.Records.{in_head}
-use Rattle.std.specs.Prelude.{◌≢◌, Bool, [], ◌∷◌}
+use Rattle.std.specs.Prelude.{Bool, [], ◌∷◌}
 use Rattle.sdd_rights.specs.declared.right.Right.{Right}
 use Rattle.sdd_rights.specs.Units.{GhostName}
 use Rattle.sdd_rights.specs.Right.{home_of, AreSlotsOfTable}

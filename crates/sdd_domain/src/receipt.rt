@@ -2,7 +2,7 @@ ghost use Rattle.std.specs.Prelude.{◌≡◌, ◌-◌, ◌≤◌, [], ◌∷◌
 ghost use Rattle.sdd_atomics.specs.DomainTable.{id_of};
 ghost use Rattle.sdd_domain.specs.Domain.{slots_in};
 ghost use Rattle.sdd_domain.specs.LocalState.{HasOpenGuard, waits};
-ghost use Rattle.sdd_domain.specs.Receipt.{HasLeft, IsSettled};
+ghost use Rattle.sdd_domain.specs.Receipt.{HasLeft, IsSettled, with_reclaimed};
 ghost use Rattle.sdd_domain.specs.Space.{slots_home};
 
 use crate::domain::Domain;
@@ -32,6 +32,29 @@ impl<T: Item<T>, J: Job> Model for EndedLocal<T, J> {
     ghost view = { λ e. record { member = e.dormant; entries = e.ledger.entries } };
 
     ghost invariant = { λ e. WordsMatchValues e.dormant e.ledger.entries };
+}
+
+impl<T: Item<T>, J: Job> EndedLocal<T, J> {
+    /// Takes part in its domain again, and reclaims what waits with it, as many items as are left at most.
+    fn settle(self, domain: &Domain<T>, left: &mut usize) -> Receipt<T, J>
+        requires { slots_home self ≡ slots_in domain.now }
+        ensures few { left.new ≤ left.old }
+        ensures home { result.home ≡ slots_home self }
+        ensures tally { result.tally ≡ with_reclaimed (left.old - left.new) self.member.tally }
+    {
+        let EndedLocal { dormant, ledger } = self;
+        let membership = match dormant.wake(domain) {
+            Ok(membership) => membership,
+            Err(dormant) => {
+                return Receipt {
+                    left: ReceiptContents::Items(EndedLocal { dormant, ledger }),
+                };
+            }
+        };
+        let mut partner = LocalGiver { membership, ledger };
+        partner.drain(left);
+        Receipt::of(partner)
+    }
 }
 
 /// What is left of a participant.
@@ -102,23 +125,11 @@ impl<T: Item<T>, J: Job> Receipt<T, J> {
         ensures settled { IsSettled (left.old - left.new) self result }
     {
         let Receipt { left: rest } = self;
-        let EndedLocal { dormant, ledger } = match rest {
-            ReceiptContents::Nothing(ended) => {
-                return Receipt {
-                    left: ReceiptContents::Nothing(ended),
-                };
-            }
-            ReceiptContents::Items(estate) => estate,
-        };
-        match dormant.wake(domain) {
-            Ok(membership) => {
-                let mut partner = LocalGiver { membership, ledger };
-                partner.drain(left);
-                Receipt::of(partner)
-            }
-            Err(dormant) => Receipt {
-                left: ReceiptContents::Items(EndedLocal { dormant, ledger }),
+        match rest {
+            ReceiptContents::Nothing(ended) => Receipt {
+                left: ReceiptContents::Nothing(ended),
             },
+            ReceiptContents::Items(estate) => estate.settle(domain, left),
         }
     }
 

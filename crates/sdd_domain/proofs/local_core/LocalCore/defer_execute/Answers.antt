@@ -1,4 +1,4 @@
-use Rattle.std.proofs.Common.{◌≡◌, ℕ, ◌+◌, ◌<◌, ◌≤◌, List, None, length, map, refl, sym, ap, ◌∙◌, subst, arith, slice_index_or, length-set}
+use Rattle.std.proofs.Common.{◌≡◌, ℕ, ◌+◌, ◌<◌, List, None, length, map, refl, sym, ap, ◌∙◌, subst, arith, slice_index_or, length-set}
 use Rattle.std.proofs.lemmas.List.{length-map}
 use Rattle.std.specs.Prelude.{◌↔◌, Option, IsSome}
 use Rattle.sdd_participants.specs.declared.waiting.LimboEntry.TheVariants.{Job}
@@ -12,7 +12,7 @@ use Rattle.sdd_word_invariant.specs.Words.{most_waiting}
 use Rattle.sdd_word_invariant.specs.Sums.{total}
 use Rattle.sdd_word_invariant.specs.Slots.{waits_in}
 use Rattle.sdd_word_invariant.specs.SlotSteps.{retired_now, DefersAt}
-use Rattle.sdd_atomics.specs.DomainTable.{sizes_of, slots_of, most_waiting_of}
+use Rattle.sdd_atomics.specs.DomainTable.{sizes_of, slots_of}
 use Rattle.sdd_domain.specs.Jobs.{places_of}
 use Rattle.sdd_domain.specs.LocalState.{LocalState, DefersTo}
 use Rattle.sdd_domain.specs.BetweenCalls.{IsBetweenCalls, AreLentTo, IsTenureOf, IsReady}

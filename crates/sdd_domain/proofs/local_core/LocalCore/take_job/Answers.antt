@@ -1,15 +1,13 @@
-use Rattle.std.proofs.Common.{◌≡◌, ℕ, ◌+◌, ◌<◌, ◌≤◌, ◌∷◌, List, None, length, map, refl, sym, ap, ◌∙◌, subst, arith, slice_index_or, length-set}
+use Rattle.std.proofs.Common.{◌≡◌, ℕ, ◌+◌, ◌<◌, ◌≤◌, ◌∷◌, List, None, length, map, sym, ap, ◌∙◌, subst, arith, slice_index_or, length-set}
 use Rattle.std.proofs.lemmas.Bool.{true≢false}
 use Rattle.std.specs.Prelude.{◌↔◌, Option, IsSome}
 use Rattle.sdd_participants.specs.declared.waiting.LimboEntry.TheVariants.{Job}
-use Rattle.sdd_participants.specs.Slab.{without_entry}
-use Rattle.sdd_shared_values.specs.declared.value_fraction.ValueFraction.{ValueFraction}
 use Rattle.sdd_views.specs.declared.WaitingItem.{WaitingItem}
 use Rattle.sdd_views.specs.declared.View.{View}
 use Rattle.sdd_views.specs.declared.Sizes.{Sizes}
 use Rattle.sdd_word_invariant.specs.Sums.{total}
 use Rattle.sdd_word_invariant.specs.Slots.{waits_in}
-use Rattle.sdd_word_invariant.specs.SlotSteps.{IsDue, without_item}
+use Rattle.sdd_word_invariant.specs.SlotSteps.{IsDue}
 use Rattle.sdd_domain_invariant.specs.FractionSteps.{GivesPlace}
 use Rattle.sdd_atomics.specs.DomainSeat.{Moved}
 use Rattle.sdd_atomics.specs.DomainTable.{sizes_of, slots_of}

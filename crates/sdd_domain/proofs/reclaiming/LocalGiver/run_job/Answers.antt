@@ -1,4 +1,4 @@
-use Rattle.std.proofs.Common.{◌≡◌, sym, ap, ◌∙◌}
+use Rattle.std.proofs.Common.{sym, ap, ◌∙◌}
 use Rattle.sdd_space.specs.WorldChanges.{ran}
 use Rattle.sdd_domain.specs.Local.{LocalModel, world_of}
 use Rattle.sdd_domain.specs.LocalState.{LocalState, IsLone}

@@ -1,5 +1,4 @@
 use Rattle.std.proofs.Common.{rules, ◌≡◌, refl, sym, ap, ◌∙◌}
-use Rattle.sdd_core.specs.declared.limits.Limits.{Limits}
 use Rattle.sdd_domain.specs.DomainValues.{sizes_in}
 use Rattle.sdd_domain.specs.LocalState.{LocalState}
 use Rattle.sdd_domain.proofs.Waking.{posed_on, ready_on}
