@@ -63,8 +63,7 @@ module _ {J : Type 0} where
         = ap (λ (k : ℕ). slice_index_or (with_entry table place job) k None) e ∙ get_or-set_same table place (Some job) None inside in
         ((λ _. omega arith), (λ _. subst (λ (x : Option J). IsSome x) (sym here) refl)))
         (λ ne. let o = is_other (n + j) (n + place) (λ e. ne (let f = e in omega arith)) in let was = old j low in
-        let there : slice_index_or (with_entry table place job) j None ≡ slice_index_or table j None = get_or-set_other table place j (Some job) None ne in
-        (
+        let there : slice_index_or (with_entry table place job) j None ≡ slice_index_or table j None = get_or-set_other table place j (Some job) None ne in (
           (λ h. let w = was.0 (subst (λ (x : Option J). IsSome x) there h) in omega arith),
           (λ h. subst (λ (x : Option J). IsSome x) (sym there) (was.1 (omega arith))),
         ))
@@ -78,8 +77,7 @@ module _ {J : Type 0} where
         = ap (λ (k : ℕ). slice_index_or (without_entry table place) k None) e ∙ get_or-set_same table place None None inside in
         ((λ h. absurd (true≢false (sym (subst (λ (x : Option J). IsSome x) here h)))), (λ h. absurd (omega arith))))
         (λ ne. let kept = item_kept (n + place) (n + j) (λ e. ne (let f = e in omega arith)) xs in let was = old j low in
-        let there : slice_index_or (without_entry table place) j None ≡ slice_index_or table j None = get_or-set_other table place j None None ne in
-        (
+        let there : slice_index_or (without_entry table place) j None ≡ slice_index_or table j None = get_or-set_other table place j None None ne in (
           (λ h. let w = was.0 (subst (λ (x : Option J). IsSome x) there h) in omega arith),
           (λ h. subst (λ (x : Option J). IsSome x) (sym there) (was.1 (omega arith))),
         ))

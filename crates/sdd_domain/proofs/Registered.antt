@@ -64,6 +64,7 @@ module _ {T : Type 0} (home : TableId) (book : ℕ) (most : Limits) (m : LocalSt
     due = is.due ∙ sym (ap (λ (s : SlotsView). map (what_of m.limits.slots) (ripe s.waits)) is.slots);
     now = λ some_open. absurd (let g = ap (λ (p : Participant). p.guards) is.own in omega arith);
   }
+
   pub blank_new : IsLone m → IsBlankAlone most (world_of (record { member = m; entries = es }))
   blank_new one = let q : LocalModel T = record { member = m; entries = es } in record {
     time = λ d. record {

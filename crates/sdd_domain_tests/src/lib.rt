@@ -12,6 +12,8 @@ mod drops;
 mod held;
 #[cfg(test)]
 mod items;
+#[cfg(test)]
+mod jobs;
 mod node;
 #[cfg(test)]
 mod places;
