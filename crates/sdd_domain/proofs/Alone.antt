@@ -1,5 +1,5 @@
 -- What the calls of a lone participant do to its world
-use Rattle.std.proofs.Common.{◌≡◌, ℕ, suc, false, List, [], ◌∷◌, Some, None, get_or, replicate, slice_index_or, sym, ◌∙◌}
+use Rattle.std.proofs.Common.{◌≡◌, ℕ, suc, ◌+◌, false, List, [], ◌∷◌, Some, None, get_or, replicate, slice_index_or, sym, ◌∙◌}
 use Rattle.std.specs.Prelude.{Option}
 use Rattle.sdd_participants.specs.declared.participant.Participant.{Participant}
 use Rattle.sdd_participants.specs.declared.place_states.PlaceState.TheVariants.{Live}
@@ -31,13 +31,13 @@ module _ {T : Type 0} where
       phases = Some Live ∷ [];
       participants = p.member.limits.participants;
       nesting = p.member.limits.nesting;
-      room = p.member.limits.slots;
+      room = p.member.limits.slots + p.member.limits.jobs;
     };
     standings = listing p.member.limits.slots (standing_with p ws);
     values = listing p.member.limits.slots (value_with p ws);
     cells = replicate p.member.limits.cells None;
     pointers = replicate p.member.limits.cells null_pointer;
-    jobs = replicate p.member.limits.jobs None;
+    jobs = p.member.jobs;
     tally = tally;
   }
 

@@ -19,6 +19,7 @@ use Rattle.sdd_word_invariant.specs.Slots.{waits_in}
 use Rattle.sdd_word_invariant.specs.SlotSteps.{older, changed}
 use Rattle.sdd_word_invariant.proofs.Sums.{total_map}
 use Rattle.sdd_atomics.specs.declared.domain_table.DomainTable.{DomainTable}
+use Rattle.sdd_atomics.specs.DomainTable.{slots_of}
 use Rattle.sdd_atomics.specs.DomainSeat.{view, epoch, slots, Stepped, HasPublished}
 use Rattle.sdd_domain.specs.WaitingItems.{what_of, waiting_of, ripe, unripe, aged_at, due_at, arrived_at, Arrives, HasArrived}
 use Rattle.sdd_domain.specs.BetweenCalls.{IsBetweenCalls}
@@ -83,11 +84,17 @@ module _ (count : ℕ) (own : Participant) where
       (λ (t : (own.found ≢ count) × (own.bags.waiting ≡ []) × (new ≡ settled (arrived_at count own))). ap (λ (p : Participant). p.bags.room) t.2 ∙ as_large) (h.over refl)
 
   -- what has seen three changes is due
-  pub due_ripe : (xs : List WaitingItem) → own.bags.waiting ≡ map waiting_of (unripe xs) → ripe xs ≡ [] → due_at count own ≡ map what_of (ripe (aged_at count own xs))
-  due_ripe xs bags settled = let all : unripe xs ≡ xs = all_left xs (ap (map what_of) settled) in dite (ℕ_discrete own.found count)
-      (λ e. due_stayed e ∙ sym (ap (λ (l : List WaitingItem). map what_of (ripe l)) (aged_stayed xs e) ∙ ap (map what_of) settled))
-      (λ ne. due_moved ne ∙ (ap (λ (ws : List Waiting). due (aged ws)) (bags ∙ ap (map waiting_of) all)
-      ∙ (ap due (aged_alike xs) ∙ (due_alike (map older xs) ∙ sym (ap (λ (l : List WaitingItem). map what_of (ripe l)) (aged_moved xs ne))))))
+  pub due_ripe : (n : ℕ) (xs : List WaitingItem) → own.bags.waiting ≡ map (waiting_of n) (unripe xs) → ripe xs ≡ []
+      → due_at count own ≡ map (what_of n) (ripe (aged_at count own xs))
+  due_ripe n xs bags settled = let all : unripe xs ≡ xs = all_left n xs (ap (map (what_of n)) settled) in dite (ℕ_discrete own.found count)
+      (λ e. due_stayed e ∙ sym (ap (λ (l : List WaitingItem). map (what_of n) (ripe l)) (aged_stayed xs e) ∙ ap (map (what_of n)) settled))
+      (λ ne. due_moved ne ∙ (ap (λ (ws : List Waiting). due (aged ws)) (bags ∙ ap (map (waiting_of n)) all)
+      ∙ (ap due (aged_alike n xs) ∙ (due_alike n (map older xs) ∙ sym (ap (λ (l : List WaitingItem). map (what_of n) (ripe l)) (aged_moved xs ne))))))
+
+  -- as much of each slot waits as before
+  pub same_aged : (i : ℕ) (xs : List WaitingItem) → total (waits_in i) (aged_at count own xs) ≡ total (waits_in i) xs
+  same_aged i xs = dite (ℕ_discrete own.found count) (λ e. ap (total (waits_in i)) (aged_stayed xs e))
+      (λ ne. ap (total (waits_in i)) (aged_moved xs ne) ∙ same_items i xs)
 
 module _ (b : DomainTable) (p : ℕ) (own : Participant) (count : ℕ) where
   -- the same count is found again
@@ -144,9 +151,10 @@ module _ (b : DomainTable) (p : ℕ) (own : Participant) (count : ℕ) where
         let others : w.me.1 ≡ s.me.1 = pub_.0.2 ∙ (write.0.0.2 ∙ read.0.0.2) in
         let sizes : w.me.0.sizes ≡ s.me.0.sizes = pub_.0.3 ∙ (write.0.0.3 ∙ read.0.0.3) in
         let stakes : w.me.0.stakes ≡ s.me.0.stakes = pub_.0.4 ∙ (write.0.0.4 ∙ read.0.0.4) in
-        let all : unripe xs ≡ xs = all_left xs (ap (map what_of) settled) in
-        let bags : left (aged own.bags.waiting) ≡ map waiting_of (unripe (map older xs))
-        = ap (λ (ws : List Waiting). left (aged ws)) (q.bags ∙ ap (map waiting_of) all) ∙ (ap left (aged_alike xs) ∙ left_alike (map older xs)) in
+        let all : unripe xs ≡ xs = all_left (slots_of b) xs (ap (map (what_of (slots_of b))) settled) in
+        let bags : left (aged own.bags.waiting) ≡ map (waiting_of (slots_of b)) (unripe (map older xs))
+        = ap (λ (ws : List Waiting). left (aged ws)) (q.bags ∙ ap (map (waiting_of (slots_of b))) all)
+        ∙ (ap left (aged_alike (slots_of b) xs) ∙ left_alike (slots_of b) (map older xs)) in
         let idle : own.countdown ≡ 128 → left (aged own.bags.waiting) ≡ [] = λ full. ap (λ (ws : List Waiting). left (aged ws)) (q.idle full) in (
           posed_arrived b p own (rotated count own) count g (map older xs) s w q table others sizes
               (λ i. record (stakes i) { counts = s.me.0.stakes.counts }) epochs low lone older_now

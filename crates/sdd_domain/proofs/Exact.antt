@@ -55,10 +55,12 @@ module _ {T : Type 0} (v : LocalModel T) where
     place = t.place;
     slots = t.slots;
     long = t.long;
+    places = t.places;
     wide = t.wide;
+    table = t.table;
+    jobs = t.jobs;
     plain = t.plain;
     waits = t.waits;
-    inside = t.inside;
     kept = t.kept;
     bags = t.bags;
     due = t.due;
@@ -70,10 +72,12 @@ module _ {T : Type 0} (v : LocalModel T) where
     place = t.place;
     slots = t.slots;
     long = t.long;
+    places = t.places;
     wide = t.wide;
+    table = t.table;
+    jobs = t.jobs;
     plain = t.plain;
     waits = t.waits;
-    inside = t.inside;
     kept = t.kept;
     bags = t.bags;
     due = t.due;

@@ -5,6 +5,7 @@ use mathlib.Core.Logic.{dite}
 use native.Mathlib.Decide.{ℕ_discrete}
 use base.Stored.{Gv}
 use denote.RattleType.{RattleType}
+use Rattle.sdd_participants.specs.declared.waiting.LimboEntry.TheVariants.{Item}
 use Rattle.sdd_participants.specs.Tally.{one_reclaimed}
 use Rattle.sdd_participants.specs.declared.standing.Standing.{Standing}
 use Rattle.sdd_participants.specs.declared.standing.Standing.TheVariants.{Retired}
@@ -20,15 +21,16 @@ use Rattle.sdd_word_invariant.proofs.Owning.{item_gone, item_kept}
 use Rattle.sdd_domain_invariant.specs.FilledInvariant.{newest}
 use Rattle.sdd_space.specs.OwnerOrCell.{OwnerOrCell}
 use Rattle.sdd_space.specs.World.{World, standing_at, value_at}
-use Rattle.sdd_space.specs.WorldChanges.{waiting_value, taken_out, given_all, all_reclaimed, slot_reclaimed}
+use Rattle.sdd_space.specs.WorldChanges.{waiting_value, taken_out, given_all, reclaimed, slot_reclaimed}
 use Rattle.sdd_space.specs.WorldChanges as steps
-use Rattle.sdd_domain.specs.LocalState.{LocalState, IsLone, Reclaims, word_of}
+use Rattle.sdd_participants.specs.Slab.{entry_at}
+use Rattle.sdd_domain.specs.LocalState.{LocalState, place_number, IsLone, Reclaims, word_of}
 use Rattle.sdd_domain.specs.WaitingItems.{what_of, waiting_of, ripe, unripe}
 use Rattle.sdd_domain.specs.Values.{one_showing}
-use Rattle.sdd_domain.specs.WordsAndValues.{Agrees, AreTied, is_plain_word}
+use Rattle.sdd_domain.specs.WordsAndValues.{MatchesPlace, Agrees, AreTied, is_plain_word}
 use Rattle.sdd_domain.specs.Local.{LocalModel, listing, standing_by, value_by, standing_in, value_in, world_of}
 use Rattle.sdd_domain.proofs.Listings.{listing_at, listing_set}
-use Rattle.sdd_domain.proofs.Reclaims.{first_goes, no_more}
+use Rattle.sdd_domain.proofs.Reclaims.{first_goes}
 use Rattle.sdd_domain.proofs.Words.{waiting_waits, word_same, word_other}
 
 value_or : Gv → Option ShownValue → Gv
@@ -108,14 +110,15 @@ module _ (R : RattleType) (p : LocalModel R.Denot) (t : AreTied p.member p.entri
       ap (λ (s : Option Standing). taken_out holds w k slot (waiting_value w slot s)) stands_here
       ∙ (ap (taken_out holds w k slot) value_here ∙ ap (λ (v : World R.Denot). given_all v k (holds x)) (sym freed_is))
 
-  goes_first : (map what_of (ripe (without_item slot p.member.slots.waits)) ≡ m.due)
+  goes_first : (map (what_of p.member.limits.slots) (ripe (without_item slot p.member.slots.waits)) ≡ m.due)
       × (unripe (without_item slot p.member.slots.waits) ≡ unripe p.member.slots.waits)
-  goes_first = first_goes slot m.due p.member.slots.waits (sym t.due ∙ is.first) is.once
+  goes_first = first_goes p.member.limits.slots (Item slot) m.due p.member.slots.waits (sym t.due ∙ is.first) is.once
 
   tied_now : AreTied now p.entries
   tied_now = record {
     place = t.place;
     slots = t.slots;
+    places = t.places;
     long = length-set ws (behind z slot) 0 ∙ t.long;
     wide = t.wide;
     plain = λ i l. dite (ℕ_discrete i slot) (λ e. subst (λ (w : ℕ). IsTrue (is_plain_word w)) (sym (ap (word_of now) e ∙ same)) refl)
@@ -124,11 +127,13 @@ module _ (R : RattleType) (p : LocalModel R.Denot) (t : AreTied p.member p.entri
         (λ e. let g = item_gone slot p.member.slots.waits in let u = ap (λ (j : ℕ). total (waits_in j) (without_item slot p.member.slots.waits)) e in
         let a = ap waiting (ap (word_of now) e ∙ same) in let f = (free_is 0 (omega arith)).1 in omega arith)
         (λ ne. let k = item_kept slot i ne p.member.slots.waits in let w = t.waits i l in let s = ap waiting (other i ne) in omega arith);
-    inside = λ i some_wait. t.inside i (let f = no_more slot i p.member.slots.waits in omega arith);
     kept = λ i l filled. dite (ℕ_discrete i slot)
         (λ e. absurd (let f = (free_is 0 (omega arith)).2 in let g = ap full (ap (word_of now) e ∙ same) in omega arith))
         (λ ne. t.kept i l (sym (ap full (other i ne)) ∙ filled));
-    bags = t.bags ∙ ap (map waiting_of) (sym goes_first.1);
+    table = t.table;
+    jobs = λ j l. subst (λ (w : ℕ). MatchesPlace w (entry_at p.member.jobs j))
+        (sym (other (place_number p.member j) (λ e. let s = is.inside in omega arith))) (t.jobs j l);
+    bags = t.bags ∙ ap (map (waiting_of p.member.limits.slots)) (sym goes_first.1);
     due = sym goes_first.0;
     now = t.now;
   }
@@ -136,9 +141,8 @@ module _ (R : RattleType) (p : LocalModel R.Denot) (t : AreTied p.member p.entri
   pub tied_then : AreTied m p.entries
   tied_then = subst (λ (y : LocalState). AreTied y p.entries) (sym is.member) tied_now
 
-  -- what it gives up then is what the reclaiming of the item does, and the others go as before
-  pub reclaims_on : (holds : R.Denot → List OwnerOrCell) → all_reclaimed holds (world_of p) p.member.place p.member.due
-      ≡ all_reclaimed holds (given_all (world_of (record { member = m; entries = p.entries })) p.member.place (holds x)) p.member.place m.due
-  reclaims_on holds = let k : ℕ = p.member.place in ap (all_reclaimed holds (world_of p) k) is.first
-      ∙ (ap (λ (w : World R.Denot). all_reclaimed holds w k m.due) (goes_now holds)
-      ∙ ap (λ (y : LocalState). all_reclaimed holds (given_all (world_of (record { member = y; entries = p.entries })) k (holds x)) k m.due) (sym is.member))
+  -- what it gives up then is what the reclaiming of the item does
+  pub reclaims_one : (holds : R.Denot → List OwnerOrCell) → reclaimed holds (world_of p) p.member.place (Item slot)
+      ≡ given_all (world_of (record { member = m; entries = p.entries })) p.member.place (holds x)
+  reclaims_one holds = goes_now holds
+      ∙ ap (λ (y : LocalState). given_all (world_of (record { member = y; entries = p.entries })) p.member.place (holds x)) (sym is.member)

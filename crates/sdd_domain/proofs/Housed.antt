@@ -25,6 +25,7 @@ pub record IsOn (b : DomainTable) (m : LocalState) : Type 0 where
   pub home : m.home ≡ id_of b
   pub book : m.book ≡ book_of b
   pub slots : m.limits.slots ≡ slots_of b
+  pub jobs : m.limits.jobs ≡ (sizes_of b).jobs
 
 pub on_board : (l : Limits) (b : DomainTable) (table : TableId) → table ≡ id_of b → sizes_of b ≡ sizes_in l → (m : LocalState) → m.home ≡ table → m.book ≡ book_of b → m.limits ≡ l
     → IsOn b m
@@ -32,6 +33,7 @@ on_board l b table same sizes m home book limits = record {
   home = home ∙ same;
   book = book;
   slots = ap (λ (x : Limits). x.slots) limits ∙ sym (ap (λ (z : Sizes). z.slots) sizes);
+  jobs = ap (λ (x : Limits). x.jobs) limits ∙ sym (ap (λ (z : Sizes). z.jobs) sizes);
 }
 
 module _ (b : DomainTable) (m : LocalState) (on : IsOn b m) where

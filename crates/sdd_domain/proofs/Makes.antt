@@ -8,7 +8,7 @@ use denote.RattleType.{RattleType}
 use Rattle.sdd_core.specs.declared.refused.Refused.{Refused}
 use Rattle.sdd_participants.specs.declared.standing.Standing.{Standing}
 use Rattle.sdd_participants.specs.declared.standing.Standing.TheVariants.{Owned, Shared}
-use Rattle.sdd_participants.specs.Slab.{IsEmptyAt, IsFull}
+use Rattle.sdd_participants.specs.Slab.{entry_at, IsEmptyAt, IsFull}
 use Rattle.sdd_participants.specs.Tally.{one_made}
 use Rattle.sdd_shared_values.specs.SharedValues.{showing}
 use Rattle.sdd_rights.specs.declared.right.StandingKind.{StandingKind}
@@ -27,9 +27,9 @@ use Rattle.sdd_space.specs.OwnerOrCell.{OwnerOrCell}
 use Rattle.sdd_space.specs.Ptr.{KeepsShown}
 use Rattle.sdd_space.specs.World.{value_at}
 use Rattle.sdd_space.specs.WorldChanges.{made_as}
-use Rattle.sdd_domain.specs.LocalState.{LocalState, IsLone, IsUsedUp, MakesAt, word_of}
+use Rattle.sdd_domain.specs.LocalState.{LocalState, place_number, IsLone, IsUsedUp, MakesAt, word_of}
 use Rattle.sdd_domain.specs.Items.{HasValue, IsRightTo}
-use Rattle.sdd_domain.specs.WordsAndValues.{Entries, Agrees, AreTied, WordsMatchValues, is_plain_word}
+use Rattle.sdd_domain.specs.WordsAndValues.{MatchesPlace, Entries, Agrees, AreTied, WordsMatchValues, is_plain_word}
 use Rattle.sdd_domain.specs.Local.{LocalModel, listing, standing_by, value_by, owner_standing, standing_in, value_in, world_of}
 use Rattle.sdd_domain.specs.Space.{ShowsBy, Shows, is_lone}
 use Rattle.sdd_domain.proofs.Listings.{listing_at, listing_long, listing_past, listing_set, listing_all}
@@ -103,6 +103,7 @@ module _ {T : Type 0} (v : LocalModel T) (k : ℕ) (shared : Bool) (x : T) (g : 
     tied_made = record {
       place = t.place;
       slots = t.slots;
+      places = t.places;
       long = length-set v.member.words (behind v.member.sizes k) 1 ∙ t.long;
       wide = length-set v.entries k (Some (x, g)) ∙ t.wide;
       plain = λ i l. dite (ℕ_discrete i k)
@@ -112,11 +113,13 @@ module _ {T : Type 0} (v : LocalModel T) (k : ℕ) (shared : Bool) (x : T) (g : 
           (λ e. let w = t.waits i l in let f = (free_is 0 (omega arith)).1 in let o = (owned_is 0 (omega arith)).1 in
           let a = ap waiting (ap (word_of v.member) e ∙ free) in let b = ap waiting (ap (word_of made_member) e ∙ word_now) in omega arith)
           (λ ne. t.waits i l ∙ ap waiting (sym (word_then i ne)));
-      inside = t.inside;
       kept = λ i l filled. dite (ℕ_discrete i k)
           (λ e. subst (λ (j : ℕ). Agrees (newest j made_member.filled) (slice_index_or made_partaker.entries j None)) (sym e) agrees_now)
           (λ ne. subst (λ (z : Option ShownValue × Option (T × Gv)). Agrees z.0 z.1) (λ d. (sym (filled_then i ne) d, sym (entry_then i ne) d))
           (t.kept i l (sym (ap full (word_then i ne)) ∙ filled)));
+      table = t.table;
+      jobs = λ j l. subst (λ (w : ℕ). MatchesPlace w (entry_at v.member.jobs j))
+          (sym (word_then (place_number v.member j) (λ e. let s = low in omega arith))) (t.jobs j l);
       bags = t.bags;
       due = t.due;
       now = t.now;

@@ -23,16 +23,16 @@ module _ {T : Type 0} (p : LocalModel T) (tied : AreTied p.member p.entries) (se
 
   -- nothing has seen three changes
   all_young : unripe p.member.slots.waits ≡ p.member.slots.waits
-  all_young = all_left p.member.slots.waits (sym tied.due ∙ settled)
+  all_young = all_left p.member.limits.slots p.member.slots.waits (sym tied.due ∙ settled)
 
-  bags : p.member.own.bags.waiting ≡ map waiting_of p.member.slots.waits
-  bags = tied.bags ∙ ap (map waiting_of) all_young
+  bags : p.member.own.bags.waiting ≡ map (waiting_of p.member.limits.slots) p.member.slots.waits
+  bags = tied.bags ∙ ap (map (waiting_of p.member.limits.slots)) all_young
 
-  due_are : due_next p.member.own ≡ map what_of (ripe (map older p.member.slots.waits))
-  due_are = ap (λ (ws : List Waiting). due (aged ws)) bags ∙ (ap due (aged_alike xs) ∙ due_alike (map older xs))
+  due_are : due_next p.member.own ≡ map (what_of p.member.limits.slots) (ripe (map older p.member.slots.waits))
+  due_are = ap (λ (ws : List Waiting). due (aged ws)) bags ∙ (ap due (aged_alike p.member.limits.slots xs) ∙ due_alike p.member.limits.slots (map older xs))
 
-  left_are : left (aged p.member.own.bags.waiting) ≡ map waiting_of (unripe (map older p.member.slots.waits))
-  left_are = ap (λ (ws : List Waiting). left (aged ws)) bags ∙ (ap left (aged_alike xs) ∙ left_alike (map older xs))
+  left_are : left (aged p.member.own.bags.waiting) ≡ map (waiting_of p.member.limits.slots) (unripe (map older p.member.slots.waits))
+  left_are = ap (λ (ws : List Waiting). left (aged ws)) bags ∙ (ap left (aged_alike p.member.limits.slots xs) ∙ left_alike p.member.limits.slots (map older xs))
 
   module _ (count : ℕ) (m : LocalState) (one : IsLone p.member) (is : IsEntered count p.member m) where
     found : count ≡ p.member.known
@@ -85,10 +85,12 @@ module _ {T : Type 0} (p : LocalModel T) (tied : AreTied p.member p.entries) (se
       place = tied.place;
       slots = tied.slots;
       long = tied.long;
+      places = tied.places;
       wide = tied.wide;
+      table = tied.table;
+      jobs = tied.jobs;
       plain = tied.plain;
       waits = tied.waits;
-      inside = tied.inside;
       kept = tied.kept;
       bags = tied.bags;
       due = sym settled ∙ tied.due;
@@ -100,10 +102,12 @@ module _ {T : Type 0} (p : LocalModel T) (tied : AreTied p.member p.entries) (se
       place = tied.place;
       slots = tied.slots;
       long = tied.long;
+      places = tied.places;
       wide = tied.wide;
+      table = tied.table;
+      jobs = tied.jobs;
       plain = tied.plain;
       waits = λ i l. same_items i xs ∙ tied.waits i l;
-      inside = λ i some_wait. tied.inside i (let o = same_items i xs in omega arith);
       kept = tied.kept;
       bags = left_are;
       due = due_are;

@@ -1,5 +1,5 @@
 -- What a lone participant's looks at an owner's item, and its letting go, are for its world
-use Rattle.std.proofs.Common.{◌≡◌, ◌≢◌, ◌↔◌, ℕ, ◌<◌, Bool, true, false, IsTrue, List, [], ◌∷◌, ◌++◌, Some, None, map, set, slice_index_or, sym, refl, ap, ◌∙◌, subst, arith, length-set}
+use Rattle.std.proofs.Common.{◌≡◌, ◌≢◌, ◌↔◌, ℕ, ◌+◌, ◌<◌, Bool, true, false, IsTrue, List, [], ◌∷◌, ◌++◌, Some, None, map, get_or, set, slice_index_or, sym, refl, ap, ◌∙◌, subst, arith, length-set}
 use Rattle.std.specs.Prelude.{Option, if◌then◌else◌}
 use Rattle.std.proofs.lemmas.Bool.{true≢false}
 use mathlib.Core.Logic.{dite}
@@ -19,7 +19,7 @@ use Rattle.sdd_rights.specs.Right.{number_of, kind_of}
 use Rattle.sdd_standings.specs.Slots.{IsOwnedBy, has_others}
 use Rattle.sdd_views.specs.declared.ShownValue.{ShownValue}
 use Rattle.sdd_views.specs.declared.SlotsView.{SlotsView}
-use Rattle.sdd_word_invariant.specs.Codes.{waiting, full}
+use Rattle.sdd_word_invariant.specs.Codes.{alive, waiting, full}
 use Rattle.sdd_word_invariant.specs.SlotSteps.{behind, retired_now}
 use Rattle.sdd_word_invariant.specs.Sums.{times}
 use Rattle.sdd_word_invariant.specs.Slots.{waits_in}
@@ -32,22 +32,24 @@ use Rattle.sdd_space.specs.OwnerOrCell.{OwnerOrCell, AreOf}
 use Rattle.sdd_space.specs.Ptr.{KeepsShown}
 use Rattle.sdd_space.specs.World.{World, value_at, standing_at}
 use Rattle.sdd_space.specs.WorldChanges.{owner_given, retired}
-use Rattle.sdd_domain.specs.LocalState.{LocalState, IsLone, KnowsOwner, LooksAt, RetiresAt, word_of}
+use Rattle.sdd_participants.specs.Slab.{entry_at}
+use Rattle.sdd_domain.specs.LocalState.{LocalState, place_number, IsLone, KnowsOwner, LooksAt, RetiresAt, word_of}
 use Rattle.sdd_domain.specs.SpaceIds.{home_in}
 use Rattle.sdd_domain.specs.Items.{HasValue}
 use Rattle.sdd_domain.specs.SeenSlots.{IsOnce}
 use Rattle.sdd_domain.specs.Values.{one_showing, one_value}
 use Rattle.sdd_domain.specs.Laws.{same_value, shows_is_value}
 use Rattle.sdd_domain.specs.WaitingItems.{what_of}
-use Rattle.sdd_domain.specs.WordsAndValues.{Agrees, AreTied, WordsMatchValues, is_plain_word}
+use Rattle.sdd_domain.specs.WordsAndValues.{MatchesPlace, Agrees, AreTied, WordsMatchValues, is_plain_word}
 use Rattle.sdd_domain.specs.Local.{LocalModel, listing, standing_by, value_by, standing_in, value_in, world_of}
 use Rattle.sdd_domain.specs.Space.{ShowsBy, Shows, is_lone}
 use Rattle.sdd_domain.specs.Space as space
 use Rattle.sdd_domain.proofs.Listings.{listing_at, listing_set, listing_same}
-use Rattle.sdd_domain.proofs.Words.{owned_alive, inside, word_same, word_other}
+use Rattle.sdd_domain.proofs.Words.{owned_alive, place_dead, inside, word_same, word_other}
 use Rattle.sdd_domain.proofs.Members.{shown_now}
 use Rattle.sdd_domain.proofs.Alone.{alone, steps_alone}
 use Rattle.sdd_domain.proofs.Exact.{lone_is}
+use Rattle.sdd_domain.proofs.Reclaims.{what_item}
 use Rattle.sdd_domain.proofs.Ripe.{ripe_snoc, unripe_too}
 
 abbrev value_or : Gv → Option ShownValue → Gv
@@ -64,7 +66,9 @@ shown_entry k shared g (Some r) (Some x) is a = (x, refl, a ∙ ap (value_or g) 
 -- ---- an owner's item
 module _ {T : Type 0} (v : LocalModel T) (t : AreTied v.member v.entries) (k : ℕ) (shared : Bool) (g : Gv) (knows : KnowsOwner v.member k shared g) where
   pub low : k < v.member.limits.slots
-  low = let s = t.slots in let i = inside v.member.sizes v.member.words t.long k knows.alive in omega arith
+  low = let s = t.slots in let q = t.places in let i = inside v.member.sizes v.member.words t.long (λ j l.
+      subst (λ (n : ℕ). alive (get_or v.member.words (behind v.member.sizes (n + j)) 0) ≡ 0) (sym t.slots)
+      (place_dead (word_of v.member (place_number v.member j)) (entry_at v.member.jobs j) (t.jobs j (omega arith)))) k knows.alive in omega arith
 
   pub owned : word_of v.member k ≡ 1
   owned = owned_alive (word_of v.member k) (t.plain k low) knows.alive
@@ -214,6 +218,7 @@ module _ {T : Type 0} (v : LocalModel T) (m : LocalState) (k : ℕ) (shared : Bo
     tied_waits = let was = owned v t k shared g knows in record {
       place = t.place;
       slots = t.slots;
+      places = t.places;
       long = length-set v.member.words (behind v.member.sizes k) 4 ∙ t.long;
       wide = t.wide;
       plain = λ i l. dite (ℕ_discrete i k) (λ e. subst (λ (y : ℕ). IsTrue (is_plain_word y)) (sym (ap (word_of waits_too) e ∙ word_now)) refl)
@@ -222,14 +227,15 @@ module _ {T : Type 0} (v : LocalModel T) (m : LocalState) (k : ℕ) (shared : Bo
           (λ e. let o = is_same i k (sym e) in let a = ap waiting (ap (word_of v.member) e ∙ was) in let b = ap waiting (ap (word_of waits_too) e ∙ word_now) in
           let c = (owned_is 0 (omega arith)).1 in let d = (waiting_is 0 (omega arith)).1 in omega arith)
           (λ ne. let o = is_other i k (λ e. ne (sym e)) in let a = ap waiting (word_then i ne) in omega arith);
-      inside = λ i some_wait. dite (ℕ_discrete i k) (λ e. subst (λ (j : ℕ). j < v.member.limits.slots) (sym e) (low v t k shared g knows))
-          (λ ne. t.inside i (let s = total_snoc (waits_in i) v.member.slots.waits (retired_now k count) in
-          let o = is_other i k (λ e. ne (sym e)) in omega arith));
       kept = λ i l filled. dite (ℕ_discrete i k)
           (λ e. t.kept i l (ap full (ap (word_of v.member) e ∙ was) ∙ (sound.lives 1 (let o = (owned_is 0 (omega arith)).0 in omega arith)).1))
           (λ ne. t.kept i l (sym (ap full (word_then i ne)) ∙ filled));
-      bags = ap (λ (l : List Waiting). l ++ fresh (Item k) ∷ []) t.bags ∙ sym (unripe_too (retired_now k count) refl v.member.slots.waits);
-      due = t.due ∙ ap (map what_of) (sym (ripe_snoc (retired_now k count) refl v.member.slots.waits));
+      table = t.table;
+      jobs = λ j l. subst (λ (w : ℕ). MatchesPlace w (entry_at v.member.jobs j))
+          (sym (word_then (place_number v.member j) (λ e. let s = low v t k shared g knows in omega arith))) (t.jobs j l);
+      bags = ap (λ (l : List Waiting). l ++ fresh (Item k) ∷ []) t.bags ∙ sym (unripe_too (retired_now k count) refl v.member.limits.slots (Item k)
+          (what_item v.member.limits.slots (retired_now k count) (low v t k shared g knows)) v.member.slots.waits);
+      due = t.due ∙ ap (map (what_of v.member.limits.slots)) (sym (ripe_snoc (retired_now k count) refl v.member.slots.waits));
       now = t.now;
     }
 

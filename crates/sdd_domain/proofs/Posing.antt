@@ -33,22 +33,22 @@ use Rattle.sdd_domain_invariant.specs.FractionsAtHome.{CarriedFractions, Has, st
 use Rattle.sdd_domain_invariant.specs.Records.{slot_shown, IsIn}
 use Rattle.sdd_domain_invariant.proofs.Records.{in_head, in_either, in_times}
 use Rattle.sdd_domain_invariant.specs.FractionSteps.{SeatState, IsValue, SeesOwned, LearnsOwned, regained, undrawing, remembering, resting, with_made}
-use Rattle.sdd_atomics.specs.DomainTable.{book_of, places_of, slots_of}
+use Rattle.sdd_atomics.specs.DomainTable.{book_of, places_of, slots_of, most_waiting_of}
 use Rattle.sdd_atomics.specs.DomainSeat.{view, epoch, slots, Taught, Moved, MovedAlone}
 use Rattle.sdd_atomics.specs.Owner.{disowned}
 use Rattle.sdd_domain.specs.SeenSlots.{IsOnce}
 use Rattle.sdd_domain.specs.WaitingItems.{what_of, waiting_of, ripe, unripe, GivesOneBack}
-use Rattle.sdd_domain.proofs.Reclaims.{first_goes, no_more}
+use Rattle.sdd_domain.proofs.Reclaims.{first_goes, no_more, what_item}
 use Rattle.sdd_domain.specs.Claims.{Gains}
 use Rattle.sdd_domain.specs.Values.{with_filled, LetsWait}
 use Rattle.sdd_domain.specs.BetweenCalls.{CarriesSeenOnly, AreLentTo, IsBetweenCalls}
 use Rattle.sdd_domain.proofs.Ripe.{unripe_too}
 use Rattle.sdd_domain.proofs.Moving.{row_out, rest_out, now_seen, still_seen}
 
-stirs : (c : ℕ) → ¬ (stirred c ≡ 128)
+pub stirs : (c : ℕ) → ¬ (stirred c ≡ 128)
 stirs c e = grind arith
 
-stirs_low : (c : ℕ) → c ≤ 128 → stirred c ≤ 128
+pub stirs_low : (c : ℕ) → c ≤ 128 → stirred c ≤ 128
 stirs_low c low = grind arith
 
 -- an item of the slot waits too, and what it shows is remembered
@@ -128,9 +128,10 @@ module _ (b : DomainTable) (p : ℕ) where
         knows = q.knows;
         found = q.found;
         quiet = record { owns = q.quiet.owns; drawn = q.quiet.drawn; holds = q.quiet.holds; looked = q.quiet.looked };
-        waiting = λ i some_wait. dite (ℕ_discrete slot i) (λ e. subst (λ (k : ℕ). k < slots_of b) e low)
+        waiting = λ i some_wait. dite (ℕ_discrete slot i) (λ e. subst (λ (k : ℕ). k < most_waiting_of b) e (let l = low in omega arith))
             (λ ne. q.waiting i (let o = is_other i slot ne in let t = total_snoc (waits_in i) s.me.0.slots.waits (retired_now slot r.0) in omega arith));
-        bags = ap (λ (l : List Waiting). l ++ fresh (Item slot) ∷ []) q.bags ∙ sym (unripe_too (retired_now slot r.0) refl s.me.0.slots.waits);
+        bags = ap (λ (l : List Waiting). l ++ fresh (Item slot) ∷ []) q.bags ∙ sym (unripe_too (retired_now slot r.0) refl (slots_of b) (Item slot)
+            (what_item (slots_of b) (retired_now slot r.0) low) s.me.0.slots.waits);
         room = q.room;
         pace = stirs_low own.countdown q.pace;
         idle = λ e. absurd (stirs own.countdown e);
@@ -138,8 +139,8 @@ module _ (b : DomainTable) (p : ℕ) where
 
   -- the first that was due was moved out
   pub posed_reclaims : (own : Participant) (slot : ℕ) (rest : List LimboEntry) (s t : Seat ValueFraction View) → IsBetweenCalls b p own s
-      → map what_of (ripe (slots s).waits) ≡ Item slot ∷ rest → Taught (GivesOneBack slot) s 0 t → IsBetweenCalls b p own t
-  posed_reclaims own slot rest s t q first e = let goes = first_goes slot rest s.me.0.slots.waits first e.3.1 in
+      → map (what_of (slots_of b)) (ripe (slots s).waits) ≡ Item slot ∷ rest → Taught (GivesOneBack slot) s 0 t → IsBetweenCalls b p own t
+  posed_reclaims own slot rest s t q first e = let goes = first_goes (slots_of b) (Item slot) rest s.me.0.slots.waits first e.3.1 in
       subst (λ (v : View). IsBetweenCalls b p own (record t { me = (v, t.me.1) })) (sym e.3.0) record {
         home = e.0 ∙ q.home;
         purse = subst (λ (xs : CarriedFractions). CarriesSeenOnly (book_of b) (places_of b) p s.me.0.stakes.sees xs) (sym e.2) q.purse;
@@ -159,7 +160,7 @@ module _ (b : DomainTable) (p : ℕ) where
         found = q.found;
         quiet = record { owns = q.quiet.owns; drawn = q.quiet.drawn; holds = q.quiet.holds; looked = q.quiet.looked };
         waiting = λ i some_wait. q.waiting i (let m = no_more slot i s.me.0.slots.waits in omega arith);
-        bags = q.bags ∙ ap (map waiting_of) (sym goes.1);
+        bags = q.bags ∙ ap (map (waiting_of (slots_of b))) (sym goes.1);
         room = q.room;
         pace = q.pace;
         idle = q.idle;
@@ -170,7 +171,7 @@ module _ (b : DomainTable) (p : ℕ) where
       → record t.me.0.stakes { counts = s.me.0.stakes.counts } ≡ s.me.0.stakes → epoch t ≡ published (counted (knowing (epoch s) c) c) g → c ≤
       g → (IsLone (epoch s) → g ≡ c)
       → slots t ≡ record s.me.0.slots { waits = xs } → ((i : ℕ) → total (waits_in i) xs ≤ items_at i (view s))
-      → new.found ≡ c → new.guards ≡ 0 → new.bags.waiting ≡ map waiting_of (unripe xs) → new.bags.room ≡ own.bags.room
+      → new.found ≡ c → new.guards ≡ 0 → new.bags.waiting ≡ map (waiting_of (slots_of b)) (unripe xs) → new.bags.room ≡ own.bags.room
       → new.countdown ≤ 128 → (new.countdown ≡ 128 → new.bags.waiting ≡ []) → IsBetweenCalls b p (nested new) t
   posed_arrived own new c g xs s t q table others sizes stakes epochs low one_only keeps fewer found none bags room pace idle =
       let is : t.me.0 ≡ record t.me.0 { epoch = published (counted (knowing (epoch s) c) c) g; slots = record s.me.0.slots { waits = xs } }

@@ -1,14 +1,13 @@
 -- A lone participant that has just registered
-use Rattle.std.proofs.Common.{◌≡◌, ℕ, zero, suc, ◌+◌, ◌<◌, ◌≤◌, IsTrue, List, [], ◌∷◌, None, Some, length, get_or, replicate, slice_index_or, sym, refl, ap, ◌∙◌, subst, arith}
+use Rattle.std.proofs.Common.{◌≡◌, ℕ, zero, suc, ◌+◌, ◌<◌, ◌≤◌, IsTrue, List, [], ◌∷◌, None, Some, length, map, get_or, replicate, slice_index_or, sym, refl, ap, ◌∙◌, subst, arith}
 use Rattle.std.proofs.lemmas.List.{length-replicate}
 use Rattle.std.specs.Prelude.{Option}
 use Rattle.atomic_table.specs.Seated.{TableId}
-use Rattle.sdd_participants.specs.Waiting.{Waiting}
+use Rattle.sdd_participants.specs.Slab.{entry_at}
 use Rattle.sdd_participants.specs.declared.participant.Participant.{Participant}
 use Rattle.sdd_participants.specs.declared.place_states.PlaceState.TheVariants.{Live}
 use Rattle.sdd_core.specs.declared.limits.Limits.{Limits}
 use Rattle.sdd_views.specs.declared.SlotsView.{SlotsView}
-use Rattle.sdd_views.specs.declared.WaitingItem.{WaitingItem}
 use Rattle.sdd_word_invariant.specs.Codes.{waiting, full}
 use Rattle.sdd_word_invariant.specs.Words.{words_behind}
 use Rattle.sdd_word_invariant.specs.SlotSteps.{behind}
@@ -16,11 +15,11 @@ use Rattle.sdd_word_invariant.specs.Sums.{total}
 use Rattle.sdd_word_invariant.specs.Slots.{waits_in}
 use Rattle.sdd_word_invariant.proofs.Codes.{free_is}
 use Rattle.sdd_domain_invariant.specs.FilledInvariant.{newest}
-use Rattle.sdd_domain.specs.LocalState.{LocalState, IsLone, IsNew, word_of}
-use Rattle.sdd_participants.specs.declared.waiting.LimboEntry.{LimboEntry}
+use Rattle.sdd_domain.specs.LocalState.{LocalState, IsLone, IsNew, word_of, place_number}
 use Rattle.sdd_domain.specs.WaitingItems.{what_of, waiting_of, ripe, unripe}
-use Rattle.sdd_domain.specs.WordsAndValues.{Entries, WordsMatchValues, is_plain_word}
+use Rattle.sdd_domain.specs.WordsAndValues.{Entries, WordsMatchValues, MatchesPlace, is_plain_word}
 use Rattle.sdd_domain.specs.Local.{LocalModel, IsBlankAlone, listing, standing_by, value_by, standing_in, value_in, world_of}
+use Rattle.sdd_space.proofs.Accounts.{blank-at}
 use Rattle.sdd_domain.proofs.Listings.{listing_same}
 
 zeros : (n i : ℕ) → ◌≡◌ {A = ℕ} (get_or (replicate n 0) i 0) 0
@@ -39,6 +38,9 @@ module _ {T : Type 0} (home : TableId) (book : ℕ) (most : Limits) (m : LocalSt
   slots_are : m.limits.slots ≡ most.slots
   slots_are = ap (λ (l : Limits). l.slots) is.limits
 
+  jobs_are : m.limits.jobs ≡ most.jobs
+  jobs_are = ap (λ (l : Limits). l.jobs) is.limits
+
   nothing_waits : (i : ℕ) → total (waits_in i) m.slots.waits ≡ 0
   nothing_waits i = ap (λ (s : SlotsView). total (waits_in i) s.waits) is.slots
 
@@ -49,22 +51,19 @@ module _ {T : Type 0} (home : TableId) (book : ℕ) (most : Limits) (m : LocalSt
   tied_new one = record {
     place = place_first one;
     slots = is.sizes.1 ∙ sym slots_are;
+    places = is.sizes.2 ∙ sym jobs_are;
     long = ap length is.words ∙ length-replicate (words_behind m.sizes) 0;
     wide = ap length none ∙ (length-replicate most.slots None ∙ sym slots_are);
     plain = λ i l. subst (λ (y : ℕ). IsTrue (is_plain_word y)) (sym (word_free i)) refl;
     waits = λ i l. nothing_waits i ∙ (sym ((free_is 0 (omega arith)).1) ∙ ap waiting (sym (word_free i)));
-    inside = λ i some_wait. absurd (let n = nothing_waits i in omega arith);
     kept = λ i l filled. absurd (let f = (free_is 0 (omega arith)).2 in let g = ap full (word_free i) in omega arith);
-    bags = ap (λ (p : Participant). p.bags.waiting) is.own ∙ sym (ap (λ (s : SlotsView). map_waits (unripe s.waits)) is.slots);
-    due = is.due ∙ sym (ap (λ (s : SlotsView). map_due (ripe s.waits)) is.slots);
+    table = ap length is.jobs ∙ (length-replicate most.jobs None ∙ sym jobs_are);
+    jobs = λ j l. subst (λ (z : ℕ × Option (Unit {0})). MatchesPlace z.0 z.1)
+        (λ d. (sym (word_free (place_number m j)) d, sym (ap (λ ps. entry_at ps j) is.jobs ∙ blank-at most.jobs j) d)) refl;
+    bags = ap (λ (p : Participant). p.bags.waiting) is.own ∙ sym (ap (λ (s : SlotsView). map (waiting_of m.limits.slots) (unripe s.waits)) is.slots);
+    due = is.due ∙ sym (ap (λ (s : SlotsView). map (what_of m.limits.slots) (ripe s.waits)) is.slots);
     now = λ some_open. absurd (let g = ap (λ (p : Participant). p.guards) is.own in omega arith);
   }
-    where
-      map_waits : List WaitingItem → List Waiting
-      map_waits = Rattle.std.proofs.Common.map waiting_of
-
-      map_due : List WaitingItem → List LimboEntry
-      map_due = Rattle.std.proofs.Common.map what_of
 
   pub blank_new : IsLone m → IsBlankAlone most (world_of (record { member = m; entries = es }))
   blank_new one = let q : LocalModel T = record { member = m; entries = es } in record {
@@ -75,7 +74,7 @@ module _ {T : Type 0} (home : TableId) (book : ℕ) (most : Limits) (m : LocalSt
       phases = replicate (suc (place_first one d)) (Some Live);
       participants = (is.limits d).participants;
       nesting = (is.limits d).nesting;
-      room = (is.limits d).slots;
+      room = (is.limits d).slots + (is.limits d).jobs;
     };
     standings = listing_same m.limits.slots (λ (i : ℕ). None) (standing_in q) (λ i l. ap (λ (w : ℕ). standing_by w (newest i m.filled)) (word_free i))
         ∙ (listing_none m.limits.slots ∙ ap (λ (n : ℕ). replicate n None) slots_are);
@@ -83,6 +82,6 @@ module _ {T : Type 0} (home : TableId) (book : ℕ) (most : Limits) (m : LocalSt
         ∙ (listing_none m.limits.slots ∙ ap (λ (n : ℕ). replicate n None) slots_are);
     cells = ap (λ (l : Limits). replicate l.cells None) is.limits;
     pointers = ap (λ (l : Limits). replicate l.cells Rattle.sdd_standings.specs.Cells.null_pointer) is.limits;
-    jobs = ap (λ (l : Limits). replicate l.jobs None) is.limits;
+    jobs = is.jobs;
     tally = is.tally;
   }

@@ -1,9 +1,10 @@
 -- What is ripe of what waits, and what isn't
-use Rattle.std.proofs.Common.{◌≡◌, ◌+◌, ◌≤◌, not, List, [], ◌∷◌, ◌++◌, map, length, refl, ap, ◌∙◌, arith}
+use Rattle.std.proofs.Common.{◌≡◌, ℕ, ◌+◌, ◌≤◌, not, List, [], ◌∷◌, ◌++◌, map, length, refl, ap, ◌∙◌, arith}
 use mathlib.Core.Bool.{Bool, true, false, cond}
-use Rattle.sdd_participants.specs.Waiting.{Waiting}
+use Rattle.sdd_participants.specs.declared.waiting.LimboEntry.{LimboEntry}
+use Rattle.sdd_participants.specs.Waiting.{Waiting, having_seen}
 use Rattle.sdd_views.specs.declared.WaitingItem.{WaitingItem}
-use Rattle.sdd_domain.specs.WaitingItems.{waiting_of, is_ripe, ripe, unripe}
+use Rattle.sdd_domain.specs.WaitingItems.{what_of, waiting_of, is_ripe, ripe, unripe}
 
 module _ {A : Type 0} where
   cond_snoc : (b : Bool) (x : A) (ys zs : List A) → cond b (x ∷ (ys ++ zs)) (ys ++ zs) ≡ cond b (x ∷ ys) ys ++ zs
@@ -21,12 +22,16 @@ module _ (y : WaitingItem) (young : is_ripe y ≡ false) where
   ripe_snoc [] = ap (λ (b : Bool). cond b (y ∷ []) []) young
   ripe_snoc (x ∷ xs) = ap (λ (l : List WaitingItem). cond (is_ripe x) (x ∷ l) l) (ripe_snoc xs)
 
-  mapped : (xs : List WaitingItem) → map waiting_of (xs ++ y ∷ []) ≡ map waiting_of xs ++ waiting_of y ∷ []
-  mapped [] = refl
-  mapped (x ∷ xs) = ap (λ (l : List Waiting). waiting_of x ∷ l) (mapped xs)
+  -- the same in the bags, where there are so many slots
+  module _ (n : ℕ) where
+    mapped : (xs : List WaitingItem) → map (waiting_of n) (xs ++ y ∷ []) ≡ map (waiting_of n) xs ++ waiting_of n y ∷ []
+    mapped [] = refl
+    mapped (x ∷ xs) = ap (λ (l : List Waiting). waiting_of n x ∷ l) (mapped xs)
 
-  pub unripe_too : (xs : List WaitingItem) → map waiting_of (unripe (xs ++ y ∷ [])) ≡ map waiting_of (unripe xs) ++ waiting_of y ∷ []
-  unripe_too xs = ap (map waiting_of) (unripe_snoc xs) ∙ mapped (unripe xs)
+    pub unripe_too : (w : LimboEntry) → what_of n y ≡ w → (xs : List WaitingItem)
+        → map (waiting_of n) (unripe (xs ++ y ∷ [])) ≡ map (waiting_of n) (unripe xs) ++ having_seen y.changes w ∷ []
+    unripe_too w is xs = ap (map (waiting_of n)) (unripe_snoc xs) ∙ (mapped (unripe xs)
+        ∙ ap (λ (v : LimboEntry). map (waiting_of n) (unripe xs) ++ having_seen y.changes v ∷ []) is)
 
 cond_shorter : {A : Type 0} (b : Bool) (x : A) (xs : List A) → length (cond b (x ∷ xs) xs) ≤ length xs + 1
 cond_shorter true x xs = omega arith

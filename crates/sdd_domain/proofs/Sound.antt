@@ -1,5 +1,5 @@
 -- The world of a lone participant is whole, and each call leaves it so
-use Rattle.std.proofs.Common.{◌≡◌, inl, inr, ℕ, zero, suc, Bool, true, false, IsTrue, List, [], ◌∷◌, None, Some, map, replicate, slice_index_or, sym, refl, ap, ◌∙◌, subst, eq-eqb, arith, ◌⊎◌, ◌↔◌, ⊎_elim, nat_lt, length, set, length-set, get_or-set_same, get_or-set_other}
+use Rattle.std.proofs.Common.{◌≡◌, ◌+◌, inl, inr, ℕ, zero, suc, Bool, true, false, IsTrue, List, [], ◌∷◌, None, Some, map, replicate, slice_index_or, sym, refl, ap, ◌∙◌, subst, eq-eqb, arith, ◌⊎◌, ◌↔◌, ⊎_elim, nat_lt, length, set, length-set, get_or-set_same, get_or-set_other}
 use Rattle.std.specs.Prelude.{option_map, if◌then◌else◌, ◌==◌, Option, Result, Ok, Err, is_some, sum_by, count_by}
 use Rattle.std.proofs.lemmas.List.{length-replicate, get_or_past}
 use mathlib.Core.Logic.{dite}
@@ -80,11 +80,11 @@ abbrev alone_time : Limits → EpochState
 alone_time most = record {
   count = 0;
   marked = false;
-  places = newcomer most.slots ∷ [];
+  places = newcomer (most.slots + most.jobs) ∷ [];
   phases = Some Live ∷ [];
   participants = most.participants;
   nesting = most.nesting;
-  room = most.slots;
+  room = most.slots + most.jobs;
 }
 
 alone_abreast : (most : Limits) (p : ℕ) → KeepsUp 0 (time.place_at (alone_time most) p)

@@ -1,5 +1,5 @@
 -- What holds of a participant between two calls
-use Rattle.std.specs.Prelude.{◌≡◌, ℕ, ◌+◌, ◌^◌, ◌<◌, ◌≤◌, List, [], None, map, if◌then◌else◌}
+use Rattle.std.specs.Prelude.{◌≡◌, ◌↔◌, ℕ, ◌+◌, ◌^◌, ◌<◌, ◌≤◌, List, [], Option, None, IsSome, length, map, slice_index_or, if◌then◌else◌}
 use Rattle.atomic_table.specs.declared.shared.Seat.{Seat}
 use Rattle.sdd_participants.specs.declared.participant.Participant.{Participant}
 use Rattle.sdd_participants.specs.EpochState.{is_open, no_garbage}
@@ -12,7 +12,8 @@ use Rattle.sdd_word_invariant.specs.Epoch.{IsClosed, IsOpen, Scans, IsLone}
 use Rattle.sdd_views.specs.declared.ShownValue.{ShownValue}
 use Rattle.sdd_views.specs.declared.SlotsView.{SlotsView}
 use Rattle.sdd_views.specs.declared.FractionsView.{FractionsView}
-use Rattle.sdd_word_invariant.specs.Slots.{items_at}
+use Rattle.sdd_word_invariant.specs.Sums.{total}
+use Rattle.sdd_word_invariant.specs.Slots.{waits_in, items_at}
 use Rattle.sdd_shared_values.specs.declared.value_fraction.ValueFraction.{ValueFraction}
 use Rattle.sdd_shared_values.specs.ValueFractions.{AllFreeFor}
 use Rattle.sdd_shared_values.specs.CarriedFractions.{lots, plain}
@@ -21,7 +22,7 @@ use Rattle.sdd_domain_invariant.specs.Records.{slot_shown}
 use Rattle.sdd_domain_invariant.specs.FractionSteps.{CarriesSeen}
 use Rattle.sdd_domain.specs.SeenSlots.{IsOnce}
 use Rattle.sdd_atomics.specs.declared.domain_table.DomainTable.{DomainTable}
-use Rattle.sdd_atomics.specs.DomainTable.{id_of, book_of, places_of, slots_of}
+use Rattle.sdd_atomics.specs.DomainTable.{id_of, sizes_of, book_of, places_of, slots_of, most_waiting_of}
 use Rattle.sdd_views.specs.declared.WaitingItem.{WaitingItem}
 use Rattle.sdd_domain.specs.DueItems.{Pending}
 use Rattle.sdd_domain.specs.WaitingItems.{what_of, waiting_of, ripe, unripe}
@@ -74,9 +75,9 @@ module _ (b : DomainTable) (p : ℕ) (own : Participant) (token : Seat ValueFrac
     pub knows : Knows b token
     pub found : (epoch token).found ≡ own.found
     pub quiet : IsQuiet (slots token)
-    pub waiting : (i : ℕ) → 0 < items_at i (view token) → i < slots_of b
-    pub bags : own.bags.waiting ≡ map waiting_of (unripe (slots token).waits)
-    pub room : own.bags.room ≡ slots_of b
+    pub waiting : (i : ℕ) → 0 < items_at i (view token) → i < most_waiting_of b
+    pub bags : own.bags.waiting ≡ map (waiting_of (slots_of b)) (unripe (slots token).waits)
+    pub room : own.bags.room ≡ most_waiting_of b
     pub pace : own.countdown ≤ no_garbage
     pub idle : own.countdown ≡ no_garbage → own.bags.waiting ≡ []
 
@@ -85,8 +86,12 @@ pub record IsTenureOf (own : Participant) (part : Fraction SectionState) : Type 
   pub units : part.units + own.guards ≡ 2 ^ 63
   pub kind : part.kind ≡ (if is_open own then Open else Closed)
 
--- what was taken out of the bags is what has seen three changes; there is room for as much as waits, and it looks for slots of the board
-pub record IsReady (b : DomainTable) (own : Participant) (pending : Pending) (known_slots : ℕ) (waits : List WaitingItem) : Type 0 where
-  pub due : pending.items ≡ map what_of (ripe waits)
+-- what was taken out of the bags is what has seen three changes; there is room for as much as waits, and it looks for slots of the board; and the
+-- participant has a job exactly for each place where one waits with it
+pub record IsReady {J : Type 0} (b : DomainTable) (own : Participant) (pending : Pending) (known_slots : ℕ) (table : List (Option J)) (waits : List WaitingItem)
+    : Type 0 where
+  pub due : pending.items ≡ map (what_of (slots_of b)) (ripe waits)
   pub large : own.bags.room ≤ pending.room
   pub slots : known_slots ≡ slots_of b
+  pub places : length table ≡ (sizes_of b).jobs
+  pub jobs : (j : ℕ) → j < (sizes_of b).jobs → IsSome (slice_index_or table j None) ↔ (0 < total (waits_in (slots_of b + j)) waits)

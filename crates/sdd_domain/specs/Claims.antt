@@ -4,9 +4,9 @@ use Rattle.atomic_table.specs.declared.shared.Seat.{Seat}
 use Rattle.sdd_shared_values.specs.SharedValues.{IsNoValueCode}
 use Rattle.sdd_shared_values.specs.declared.value_fraction.ValueFraction.{ValueFraction}
 use Rattle.sdd_views.specs.declared.View.{View}
-use Rattle.sdd_word_invariant.specs.Codes.{free_word, owned_word}
+use Rattle.sdd_word_invariant.specs.Codes.{free_word, owned_word, waiting_word}
 use Rattle.sdd_word_invariant.specs.Epoch.{IsLone}
-use Rattle.sdd_word_invariant.specs.SlotSteps.{behind}
+use Rattle.sdd_word_invariant.specs.SlotSteps.{behind, DefersAt}
 use Rattle.sdd_domain_invariant.specs.FractionsAtHome.{CarriedFractions}
 use Rattle.sdd_domain_invariant.specs.FractionSteps.{SeatState, CarriesAll, book_of, places_of, making}
 
@@ -44,3 +44,11 @@ pub record Gains (slot : ℕ) (s s' : Seat ValueFraction View) : Type 0 where
   pub view : s'.me.0 ≡ making slot (owned_word 0) s.me.0
   pub inside : slot < s.me.0.sizes.slots
   pub free : IsLone s.me.0.epoch → IsKnownFree s slot
+
+-- a job waits with the participant in the place of this number from now on
+pub record Defers (place : ℕ) (s s' : Seat ValueFraction View) : Type 0 where
+  pub table : s'.table_id ≡ s.table_id
+  pub number : s'.id ≡ s.id
+  pub others : s'.me.1 ≡ s.me.1
+  pub view : DefersAt place (waiting_word 0) s.me.0 s'.me.0
+  pub free : IsLone s.me.0.epoch → IsKnownFree s place

@@ -1,5 +1,5 @@
 -- A participant without its domain
-use Rattle.std.specs.Prelude.{◌≡◌, ℕ, []}
+use Rattle.std.specs.Prelude.{◌≡◌, ℕ, List, [], Option}
 use Rattle.atomic_table.specs.declared.shared.Seat.{Seat}
 use Rattle.sdd_participants.specs.declared.participant.Participant.{Participant}
 use Rattle.sdd_participants.specs.declared.tally.Tally.{Tally}
@@ -16,7 +16,7 @@ use Rattle.sdd_domain.specs.Receipt.{IsTallied}
 use Rattle.sdd_domain.specs.DomainValues.{sizes_in}
 
 -- on the board of its domain it is as between two calls, with no guard open
-pub record IsDormant (limits : Limits) (place : ℕ) (own : Participant) (due : Pending) (known_slots : ℕ) (tenure : Fraction SectionState) (token : Seat ValueFraction View)
+pub record IsDormant {J : Type 0} (limits : Limits) (place : ℕ) (own : Participant) (due : Pending) (known_slots : ℕ) (table : List (Option J)) (tenure : Fraction SectionState) (token : Seat ValueFraction View)
     (tally : Tally) : Type 0 where
   pub board : DomainTable
   pub sizes : sizes_of board ≡ sizes_in limits
@@ -25,5 +25,5 @@ pub record IsDormant (limits : Limits) (place : ℕ) (own : Participant) (due : 
   pub posed : IsBetweenCalls board place own token
   pub tenure_is : IsTenureOf own tenure
   pub lent : AreLentTo tenure.round token.me.1
-  pub ready : IsReady board own due known_slots token.me.0.slots.waits
+  pub ready : IsReady board own due known_slots table token.me.0.slots.waits
   pub tallied : IsTallied 0 tally token.me.0.stakes.counts

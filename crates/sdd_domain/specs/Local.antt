@@ -1,5 +1,5 @@
 -- A participant of a domain with what it moved into slots, and the world of a lone one: nobody else changes its domain
-use Rattle.std.specs.Prelude.{ℕ, zero, suc, ◌==◌, List, [], ◌∷◌, Option, Some, None, replicate, slice_index_or, option_map, if◌then◌else◌, false}
+use Rattle.std.specs.Prelude.{ℕ, zero, suc, ◌+◌, ◌==◌, List, [], ◌∷◌, Option, Some, None, replicate, slice_index_or, option_map, if◌then◌else◌, false}
 use base.Stored.{Gv}
 use Rattle.sdd_participants.specs.EpochState.{EpochState, newcomer}
 use Rattle.sdd_participants.specs.declared.place_states.PlaceState.TheVariants.{Live}
@@ -48,7 +48,7 @@ time_of m = record {
   phases = replicate (suc m.place) (Some Live);
   participants = m.limits.participants;
   nesting = m.limits.nesting;
-  room = m.limits.slots;
+  room = m.limits.slots + m.limits.jobs;
 }
 
 module _ {T : Type 0} where
@@ -58,7 +58,7 @@ module _ {T : Type 0} where
   abbrev pub value_in : LocalModel T → ℕ → Option T
   value_in p slot = value_by (word_of p.member slot) (slice_index_or p.entries slot None)
 
-  -- its domain as a world: all cells and all places of jobs are free
+  -- its domain as a world: all cells are free, and all jobs are its own
   abbrev pub world_of : LocalModel T → World T
   world_of p = record {
     home = home_in p.member;
@@ -67,7 +67,7 @@ module _ {T : Type 0} where
     values = listing p.member.limits.slots (value_in p);
     cells = replicate p.member.limits.cells None;
     pointers = replicate p.member.limits.cells null_pointer;
-    jobs = replicate p.member.limits.jobs None;
+    jobs = p.member.jobs;
     tally = p.member.tally;
   }
 
@@ -76,9 +76,9 @@ abbrev pub IsBlankAlone : {T : Type 0} → Limits → World T → Type 0
 IsBlankAlone l = IsBlank (record {
   count = 0;
   marked = false;
-  places = newcomer l.slots ∷ [];
+  places = newcomer (l.slots + l.jobs) ∷ [];
   phases = Some Live ∷ [];
   participants = l.participants;
   nesting = l.nesting;
-  room = l.slots;
+  room = l.slots + l.jobs;
 }) l.slots l.cells l.jobs

@@ -1,11 +1,12 @@
 -- A participant's membership of a domain as its callers see it, and what each call does to it
-use Rattle.std.specs.Prelude.{◌≡◌, ◌≢◌, ◌⊎◌, ℕ, ◌+◌, ◌^◌, ◌<◌, ◌≤◌, Bool, Some, true, false, List, [], ◌∷◌, ◌++◌, slice_index, slice_set}
+use Rattle.std.specs.Prelude.{◌≡◌, ◌≢◌, ◌⊎◌, ℕ, ◌+◌, ◌^◌, ◌<◌, ◌≤◌, Bool, Some, None, IsSome, true, false, List, [], ◌∷◌, ◌++◌, replicate, slice_index, slice_set}
 use base.Stored.{Gv}
 use Rattle.atomic_table.specs.Seated.{TableId}
 use Rattle.sdd_core.specs.declared.limits.Limits.{Limits}
 use Rattle.sdd_participants.specs.declared.participant.Participant.{Participant}
+use Rattle.sdd_participants.specs.Slab.{Entries, entry_at, with_entry, without_entry}
 use Rattle.sdd_participants.specs.declared.waiting.LimboEntry.{LimboEntry}
-use Rattle.sdd_participants.specs.declared.waiting.LimboEntry.TheVariants.{Item}
+use Rattle.sdd_participants.specs.declared.waiting.LimboEntry.TheVariants.{Item, Job}
 use Rattle.sdd_participants.specs.EpochState.{newcomer, nested, settled, awaiting}
 use Rattle.sdd_space.specs.Guard.{ReaderId}
 use Rattle.sdd_space.specs.ParticipantChanges.{closed_with}
@@ -26,7 +27,7 @@ use Rattle.sdd_domain.specs.WaitingItems.{aged_at, due_at, arrived_at}
 -- the domain, the book of its values' places, its limits, the place, whose guards are the participant's, what it keeps of its own, the greatest count that it knows,
 -- the global count at its last publish (0 before the first), what it made and reclaimed, how many of each its domain has,
 -- what it knows of slots, what those show that its guards see, what it moved into slots, the newest first, the words that it knows if it is lone,
--- and what the opening of a guard has still to reclaim
+-- and what the opening of a guard has still to reclaim, and in which places of the table of jobs one waits that it deferred
 pub record LocalState : Type 0 where
   pub home : TableId
   pub book : ℕ
@@ -43,6 +44,7 @@ pub record LocalState : Type 0 where
   pub filled : List ShownValue
   pub words : List ℕ
   pub due : List LimboEntry
+  pub jobs : Entries (Unit {0})
 
 -- no other participant may be
 abbrev pub IsLone : LocalState → Type 0
@@ -67,16 +69,17 @@ pub record IsNew (domain : TableId) (book : ℕ) (most : Limits) (m : LocalState
   pub limits : m.limits ≡ most
   pub place : m.place < most.participants
   pub reader : (m.reader.home.size ≡ 1) × (m.reader.number ≡ 0)
-  pub own : m.own ≡ newcomer most.slots
+  pub own : m.own ≡ newcomer (most.slots + most.jobs)
   pub since : m.since ≡ 0
   pub lone : IsLone m → m.known ≡ 0
   pub tally : m.tally ≡ no_items
-  pub sizes : (m.sizes.participants ≡ most.participants) × (m.sizes.slots ≡ most.slots)
+  pub sizes : (m.sizes.participants ≡ most.participants) × (m.sizes.slots ≡ most.slots) × (m.sizes.jobs ≡ most.jobs)
   pub slots : m.slots ≡ bare
   pub shown : m.shown ≡ []
   pub filled : m.filled ≡ []
   pub words : m.words ≡ blank m.sizes
   pub due : m.due ≡ []
+  pub jobs : m.jobs ≡ replicate most.jobs None
 
 -- an outermost opening finds a count, which is at least the greatest that was known; where the participant is lone it is that one.
 -- What has seen three changes then is due
@@ -112,6 +115,23 @@ pub record Reclaims (slot : ℕ) (value : Gv) (old new : LocalState) : Type 0 wh
   }
   pub once : total (waits_in slot) old.slots.waits ≡ 1
   pub lone : IsLone old → (shared : Bool) × (newest slot old.filled ≡ Some (record { slot = slot; shared = shared; value = value }))
+
+-- the number of a job's place, which comes after those of the slots
+abbrev pub place_number : LocalState → ℕ → ℕ
+place_number m place = m.limits.slots + place
+
+-- the job of the place was due before all others, and was taken out; the place is free
+pub record TakesJob (place : ℕ) (old new : LocalState) : Type 0 where
+  pub inside : place < old.limits.jobs
+  pub first : old.due ≡ Job place ∷ new.due
+  pub there : IsSome (entry_at old.jobs place)
+  pub member : new ≡ record old {
+    slots = record old.slots { waits = without_item (place_number old place) old.slots.waits };
+    words = slice_set old.words (behind old.sizes (place_number old place)) (free_word 0);
+    due = new.due;
+    jobs = without_entry old.jobs place;
+  }
+  pub once : total (waits_in (place_number old place)) old.slots.waits ≡ 1
 
 -- a guard is closed; without an open one nothing happens. The last close shows nothing any more, and at countdown 0 scans, which may
 -- raise the count, to one more than it was at the publish at most; where the participant is lone the scan does, but at the last count
@@ -196,3 +216,24 @@ pub record DropsAt (slot : ℕ) (old new : LocalState) : Type 0 where
   pub inside : slot < old.limits.slots
   pub member : new ≡ record old { tally = one_in_place old.tally; words = slice_set old.words (behind old.sizes slot) (free_word 0) }
   pub quiet : ¬ (HasOpenGuard old)
+
+-- by the words that a lone participant knows the place of a job is free
+abbrev pub IsFreePlace : LocalState → ℕ → Type 0
+IsFreePlace m place = IsFree m (place_number m place)
+
+-- no place of a job is free
+abbrev pub AllPlacesTaken : LocalState → Type 0
+AllPlacesTaken m = (place : ℕ) → place < m.limits.jobs → ¬ (IsFreePlace m place)
+
+-- a job waits with it in a place from now on, deferred at the count of this moment
+pub record DefersTo (place count : ℕ) (old new : LocalState) : Type 0 where
+  pub inside : place < old.limits.jobs
+  pub member : new ≡ record old {
+    own = awaiting (Job place) old.own;
+    known = count;
+    slots = record old.slots { waits = old.slots.waits ++ retired_now (place_number old place) count ∷ [] };
+    words = slice_set old.words (behind old.sizes (place_number old place)) (waiting_word 0);
+    jobs = with_entry old.jobs place tt;
+  }
+  pub knew : old.known ≤ count
+  pub lone : IsLone old → (count ≡ old.known) × IsFreePlace old place

@@ -6,6 +6,6 @@ use Rattle.sdd_domain.specs.Receipt.{Receipt}
 use Rattle.sdd_domain.specs.Space.{slots_home}
 
 -- its counts, or itself with what waits
-abbrev pub receipt_of : {T : Type 0} → ReceiptContents T → Receipt
+abbrev pub receipt_of : {T J : Type 0} → ReceiptContents T J → Receipt
 receipt_of (Nothing counts) = record counts { waits = false }
 receipt_of (Items partaker) = record { home = slots_home partaker; tally = partaker.member.tally; waits = true }

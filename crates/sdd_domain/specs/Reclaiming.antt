@@ -14,7 +14,7 @@ kept_of p = record p { member = kept_by p.member }
 
 -- what reclaiming leaves as it is
 abbrev pub rest_of : {T : Type 0} → LocalModel T → LocalModel T
-rest_of p = record p { member = record (kept_by p.member) { tally = no_items; due = [] } }
+rest_of p = record p { member = record (kept_by p.member) { tally = no_items; due = []; jobs = [] } }
 
 -- it counts one item more that was dropped in its place
 abbrev pub counted_in_place : {T : Type 0} → LocalModel T → LocalModel T

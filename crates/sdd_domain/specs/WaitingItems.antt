@@ -1,7 +1,7 @@
 -- What waits with a participant, as its rule and as its bags have it
-use Rattle.std.specs.Prelude.{◌≡◌, ◌≢◌, ◌⊎◌, ℕ, ◌≤◌, ◌==◌, Bool, true, false, List, [], map, filter, not, nat_lt, if◌then◌else◌}
+use Rattle.std.specs.Prelude.{◌≡◌, ◌≢◌, ◌⊎◌, ℕ, ◌+◌, ◌-◌, ◌≤◌, ◌==◌, Bool, true, false, List, [], map, filter, not, nat_lt, count_by, if◌then◌else◌}
 use Rattle.sdd_participants.specs.declared.waiting.LimboEntry.{LimboEntry}
-use Rattle.sdd_participants.specs.declared.waiting.LimboEntry.TheVariants.{Item}
+use Rattle.sdd_participants.specs.declared.waiting.LimboEntry.TheVariants.{Item, Job}
 use Rattle.sdd_participants.specs.declared.participant.Participant.{Participant}
 use Rattle.sdd_participants.specs.Waiting.{Waiting}
 use Rattle.sdd_participants.specs.EpochState.{due_next, rotated, settled}
@@ -13,12 +13,25 @@ use Rattle.sdd_word_invariant.specs.Slots.{items_at}
 use Rattle.sdd_domain_invariant.specs.FractionSteps.{with_gone, forgetting}
 use Rattle.sdd_word_invariant.specs.SlotSteps.{given_back, older}
 
--- an item of a slot, in the bags
-abbrev pub what_of : WaitingItem → LimboEntry
-what_of x = Item x.slot
+-- what waits, in the bags: the item of a slot, or behind the slots, of which there are so many, the job of a place
+abbrev pub what_of : ℕ → WaitingItem → LimboEntry
+what_of slots x = if nat_lt x.slot slots then Item x.slot else Job (x.slot - slots)
 
-abbrev pub waiting_of : WaitingItem → Waiting
-waiting_of x = record { what = what_of x; seen = x.changes }
+-- by which number the rule has it
+abbrev pub number_in : ℕ → LimboEntry → ℕ
+number_in slots (Item slot) = slot
+number_in slots (Job place) = slots + place
+
+abbrev pub waiting_of : ℕ → WaitingItem → Waiting
+waiting_of slots x = record { what = what_of slots x; seen = x.changes }
+
+abbrev pub is_item : LimboEntry → Bool
+is_item (Item slot) = true
+is_item (Job place) = false
+
+-- how much of it are items
+abbrev pub items_in : List LimboEntry → ℕ
+items_in = count_by is_item
 
 -- it has seen three changes
 abbrev pub is_ripe : WaitingItem → Bool

@@ -1,6 +1,7 @@
 -- What a lone participant's words, its bags and its ledger have to do with one another
 use Rattle.std.specs.Prelude.{◌≡◌, ℕ, ◌<◌, ◌==◌, ◌||◌, Bool, IsTrue, List, Option, Some, None, length, map, slice_index_or}
 use base.Stored.{Gv}
+use Rattle.sdd_participants.specs.Slab.{entry_at}
 use Rattle.sdd_views.specs.declared.ShownValue.{ShownValue}
 use Rattle.sdd_word_invariant.specs.Words.{words_behind}
 use Rattle.sdd_word_invariant.specs.Codes.{free_word, owned_word, raw_word, waiting_word, waiting, full}
@@ -8,7 +9,7 @@ use Rattle.sdd_word_invariant.specs.Sums.{total}
 use Rattle.sdd_word_invariant.specs.Slots.{waits_in}
 use Rattle.sdd_domain_invariant.specs.FilledInvariant.{newest}
 use Rattle.sdd_domain.specs.WaitingItems.{what_of, waiting_of, ripe, unripe}
-use Rattle.sdd_domain.specs.LocalState.{LocalState, IsLone, word_of}
+use Rattle.sdd_domain.specs.LocalState.{LocalState, IsLone, word_of, place_number}
 
 -- which values are in slots, with their codes
 abbrev pub Entries : Type 0 → Type 0
@@ -24,18 +25,25 @@ Agrees None e = ⊥
 Agrees (Some r) None = ⊥
 Agrees (Some r) (Some e) = e.1 ≡ r.value
 
+-- a job's place is free where its word says so, and where it has a job the word says that what is there waits
+abbrev pub MatchesPlace : ℕ → Option (Unit {0}) → Type 0
+MatchesPlace word None = word ≡ free_word 0
+MatchesPlace word (Some job) = word ≡ waiting_word 0
+
 -- of a lone participant: what it knows of words and of what it moved in is what its bags and its ledger have
 pub record AreTied {T : Type 0} (m : LocalState) (entries : Entries T) : Type 0 where
   pub place : m.place ≡ 0
   pub slots : m.sizes.slots ≡ m.limits.slots
+  pub places : m.sizes.jobs ≡ m.limits.jobs
   pub long : length m.words ≡ words_behind m.sizes
   pub wide : length entries ≡ m.limits.slots
   pub plain : (slot : ℕ) → slot < m.limits.slots → IsTrue (is_plain_word (word_of m slot))
   pub waits : (slot : ℕ) → slot < m.limits.slots → total (waits_in slot) m.slots.waits ≡ waiting (word_of m slot)
-  pub inside : (slot : ℕ) → 0 < total (waits_in slot) m.slots.waits → slot < m.limits.slots
   pub kept : (slot : ℕ) → slot < m.limits.slots → full (word_of m slot) ≡ 1 → Agrees (newest slot m.filled) (slice_index_or entries slot None)
-  pub bags : m.own.bags.waiting ≡ map waiting_of (unripe m.slots.waits)
-  pub due : m.due ≡ map what_of (ripe m.slots.waits)
+  pub table : length m.jobs ≡ m.limits.jobs
+  pub jobs : (place : ℕ) → place < m.limits.jobs → MatchesPlace (word_of m (place_number m place)) (entry_at m.jobs place)
+  pub bags : m.own.bags.waiting ≡ map (waiting_of m.limits.slots) (unripe m.slots.waits)
+  pub due : m.due ≡ map (what_of m.limits.slots) (ripe m.slots.waits)
   pub now : 0 < m.own.guards → m.known ≡ m.own.found
 
 abbrev pub WordsMatchValues : {T : Type 0} → LocalState → Entries T → Type 0

@@ -7,7 +7,7 @@ ghost use Rattle.sdd_word_invariant.specs.Codes as codes;
 ghost use Rattle.sdd_word_invariant.specs.Slots.{slot_at};
 ghost use Rattle.sdd_views.specs.Views.{no_counts};
 ghost use Rattle.sdd_domain_invariant.specs.FractionsAtHome.{AreHome};
-ghost use Rattle.sdd_atomics.specs.DomainTable.{id_of, sizes_of, places_of};
+ghost use Rattle.sdd_atomics.specs.DomainTable.{id_of, places_of, most_waiting_of};
 ghost use Rattle.sdd_atomics.specs.Sizes.{AreSmall};
 ghost use Rattle.sdd_atomics.specs.DomainSeat.{view};
 ghost use Rattle.sdd_domain.specs.Domain.{slots_in};
@@ -21,6 +21,7 @@ use sdd_atomics::steps::slots::{FREE, look_for_value};
 use sdd_atomics::words::state_word;
 use sdd_atomics::{DomainSeat, DomainTable, steps};
 use sdd_domain_invariant::gather_home;
+use sdd_participants::Job;
 use sdd_shared_values::{FractionList, ValueFraction, ValuesName};
 use sdd_space::Item;
 use sdd_views::Sizes;
@@ -34,15 +35,15 @@ fn is_free(word: u64) -> bool
     word == FREE
 }
 
-/// At this moment no place is a participant's, and all slots are free. A peek changes nothing, so that a close that is refused here leaves the places
-/// as they were.
-fn is_quiet(board: &DomainTable, slots: u32) -> bool
-    requires { slots ≡ (sizes_of board.now).slots }
+/// At this moment no place is a participant's, all slots are free, and all places of jobs, which have the numbers behind those of the slots. A peek
+/// changes nothing, so that a close that is refused here leaves the places as they were.
+fn is_quiet(board: &DomainTable, numbers: u32) -> bool
+    requires { numbers ≡ most_waiting_of board.now }
 {
     (0..board.places()).all(|place| {
         let state = board.table.shared.peek(state_word(place));
         state == steps::FREE || state == steps::ENDED || state == steps::BARRED
-    }) && (0..slots).all(|slot| is_free(board.table.shared.peek(board.slot_word(slot))))
+    }) && (0..numbers).all(|slot| is_free(board.table.shared.peek(board.slot_word(slot))))
 }
 
 /// Bars the next place, unless it is a participant's: whether it is barred then.
@@ -79,18 +80,19 @@ fn bar_all(board: &DomainTable) -> Option<DomainSeat>
     Some(token)
 }
 
-/// Looks at each slot in turn, once all places are barred. All are free, and stay so, which the token knows then; unless one is found that isn't.
-fn are_free(board: &DomainTable, token: &mut DomainSeat, slots: u32) -> bool
+/// Looks at each slot in turn, and at each job's place, once all places are barred. All are free, and stay so, which the token knows then; unless one is
+/// found that isn't.
+fn are_free(board: &DomainTable, token: &mut DomainSeat, numbers: u32) -> bool
     requires home { token.old.table_id ≡ id_of board.now }
-    requires slots { slots ≡ (sizes_of board.now).slots }
+    requires numbers { numbers ≡ most_waiting_of board.now }
     requires ended { places_of board.now ≤ (view token.old).places.ended }
     requires quiet { (view token.old).places.quiet ≡ 0 }
     ensures home { token.new.table_id ≡ id_of board.now }
     ensures ended { (view token.new).places.ended ≡ (view token.old).places.ended }
     ensures counts { (view token.new).stakes.counts ≡ (view token.old).stakes.counts }
-    ensures quiet { result ≡ true → slots ≤ (view token.new).places.quiet }
+    ensures quiet { result ≡ true → numbers ≤ (view token.new).places.quiet }
 {
-    for slot in 0..slots {
+    for slot in 0..numbers {
         if !is_free(look_for_value(board, token, slot)) {
             return false;
         }
@@ -98,19 +100,20 @@ fn are_free(board: &DomainTable, token: &mut DomainSeat, slots: u32) -> bool
     true
 }
 
-/// A token that knows that all places are barred and all slots are free, where that is so: nothing is out any more, and nothing waits.
-pub fn settled(board: &DomainTable, slots: u32) -> Option<DomainSeat>
-    requires { slots ≡ (sizes_of board.now).slots }
+/// A token that knows that all places are barred, and all slots and all places of jobs are free, where that is so: nothing is out any more, and nothing
+/// waits.
+pub fn settled(board: &DomainTable, numbers: u32) -> Option<DomainSeat>
+    requires { numbers ≡ most_waiting_of board.now }
     ensures home { IfSome result (λ token. token.table_id ≡ id_of board.now) }
     ensures ended { IfSome result (λ token. places_of board.now ≤ (view token).places.ended) }
     ensures counts { IfSome result (λ token. (view token).stakes.counts ≡ no_counts) }
-    ensures quiet { IfSome result (λ token. slots ≤ (view token).places.quiet) }
+    ensures quiet { IfSome result (λ token. numbers ≤ (view token).places.quiet) }
 {
-    if !is_quiet(board, slots) {
+    if !is_quiet(board, numbers) {
         return None;
     }
     let mut token = bar_all(board)?;
-    if are_free(board, &mut token, slots) {
+    if are_free(board, &mut token, numbers) {
         Some(token)
     } else {
         None
@@ -119,7 +122,11 @@ pub fn settled(board: &DomainTable, slots: u32) -> Option<DomainSeat>
 
 /// Each participant in turn reclaims what waits with it, all together as many items as are left at most.
 // The last receipt stands in the place of the one that is being settled.
-pub fn settle_all<T: Item<T>>(domain: &Domain<T>, receipts: &mut Vec<Receipt<T>>, left: &mut usize)
+pub fn settle_all<T: Item<T>, J: Job>(
+    domain: &Domain<T>,
+    receipts: &mut Vec<Receipt<T, J>>,
+    left: &mut usize,
+)
     requires homes { All (λ (r : EndedCounts). r.home ≡ slots_in domain.now) receipts.old.items }
     ensures few { left.new ≤ left.old }
     ensures settled { AreSettled (left.old - left.new) receipts.old.items receipts.new.items }
@@ -135,7 +142,7 @@ pub fn settle_all<T: Item<T>>(domain: &Domain<T>, receipts: &mut Vec<Receipt<T>>
 }
 
 /// With none of the participants anything waits.
-pub fn are_over<T: Item<T>>(receipts: &Vec<Receipt<T>>) -> bool
+pub fn are_over<T: Item<T>, J: Job>(receipts: &Vec<Receipt<T, J>>) -> bool
     ensures { result ≡ true → All (λ (r : EndedCounts). r.waits ≡ false) receipts.now.items }
 {
     for receipt in receipts {
@@ -147,10 +154,10 @@ pub fn are_over<T: Item<T>>(receipts: &Vec<Receipt<T>>) -> bool
 }
 
 /// Takes the counts of all receipts in.
-pub fn take_all_counts<T: Item<T>>(
+pub fn take_all_counts<T: Item<T>, J: Job>(
     board: &DomainTable,
     token: &mut DomainSeat,
-    mut receipts: Vec<Receipt<T>>,
+    mut receipts: Vec<Receipt<T, J>>,
 )
     requires home { token.old.table_id ≡ id_of board.now }
     requires homes { All (λ (r : EndedCounts). r.home.tables ≡ id_of board.now ∷ []) receipts.items }

@@ -13,7 +13,7 @@ use crate::receipt::Receipt;
 use sdd_atomics::{DomainTable, TableLayout};
 use sdd_core::{Limits, Refused};
 use sdd_domain_invariant::{gather_all, lay_all};
-use sdd_participants::Tally;
+use sdd_participants::{Job, Tally};
 use sdd_shared_values::{FractionList, SharedValues, VacantValues, ValueFraction};
 use sdd_space::Item;
 use sdd_values::Freeable;
@@ -87,7 +87,7 @@ fn add(sum: Tally, tally: Tally) -> Tally
 }
 
 /// The tallies of all receipts together.
-fn tally_of<T: Item<T>>(receipts: &Vec<Receipt<T>>) -> Tally
+fn tally_of<T: Item<T>, J: Job>(receipts: &Vec<Receipt<T, J>>) -> Tally
     ensures { result ≡ sum_of receipts.now.items }
 {
     let mut sum = Tally::new();
@@ -144,14 +144,14 @@ impl<T: Item<T>> Domain<T> {
     }
 
     /// Closes a domain, with receipts of its participants, and answers their tallies together. What waits with them is reclaimed first, and what that
-    /// gives up; all memory is given back. Where there is a receipt for each place, what was made was reclaimed.
+    /// gives up, and the jobs that wait with them run; all memory is given back. Where there is a receipt for each place, what was made was reclaimed.
     ///
-    /// `OwnerOut` where something is still out: an item that has an owner, a participant that hasn't ended, or one with which items wait and whose
-    /// receipt isn't here. The domain and the receipts come back, and what waited with them has been reclaimed.
-    pub fn close(
+    /// `OwnerOut` where something is still out: an item that has an owner, a participant that hasn't ended, or one with which items or jobs wait and
+    /// whose receipt isn't here. The domain and the receipts come back, and what waited with them has been reclaimed.
+    pub fn close<J: Job>(
         self,
-        mut receipts: Vec<Receipt<T>>,
-    ) -> Result<Tally, (Domain<T>, Vec<Receipt<T>>, Refused)>
+        mut receipts: Vec<Receipt<T, J>>,
+    ) -> Result<Tally, (Domain<T>, Vec<Receipt<T, J>>, Refused)>
         requires homes { All (λ (r : EndedCounts). r.home ≡ slots_in self) receipts.items }
         ensures settled { (waiting : ℕ) × (waiting ≤ (limits_of self).slots) × (settled : List EndedCounts) × AreSettled waiting receipts.items settled
             × MatchResult result
@@ -167,7 +167,8 @@ impl<T: Item<T>> Domain<T> {
         if !are_over(&receipts) {
             return Err((self, receipts, Refused::OwnerOut));
         }
-        let Some(mut token) = settled(&self.board, slots as u32) else {
+        let numbers = (slots + self.limits.jobs) as u32;
+        let Some(mut token) = settled(&self.board, numbers) else {
             return Err((self, receipts, Refused::OwnerOut));
         };
         let Domain {

@@ -1,14 +1,16 @@
 //! A participant reclaims what waits with it, where nobody else takes part any more.
-ghost use Rattle.std.specs.Prelude.{◌≡◌, ◌-◌, ◌≤◌, [], length};
+ghost use Rattle.std.specs.Prelude.{◌≡◌, ◌-◌, ◌≤◌, []};
 ghost use Rattle.sdd_participants.specs.EpochState.{due_next};
 ghost use Rattle.sdd_domain.specs.LocalState.{HasOpenGuard};
 ghost use Rattle.sdd_domain.specs.Receipt.{with_reclaimed};
 ghost use Rattle.sdd_domain.specs.Space.{slots_home};
+ghost use Rattle.sdd_domain.specs.WaitingItems.{items_in};
 
 use crate::reclaiming::LocalGiver;
+use sdd_participants::Job;
 use sdd_space::Item;
 
-impl<T: Item<T>> LocalGiver<'_, T> {
+impl<T: Item<T>, J: Job> LocalGiver<'_, T, J> {
     /// Opens an accelerated guard and closes it. How many items were reclaimed, and whether the opening was a change with which something waited.
     fn turn_over(&mut self) -> (usize, bool)
         requires shut { ¬ (HasOpenGuard self.old.member) }
@@ -16,7 +18,7 @@ impl<T: Item<T>> LocalGiver<'_, T> {
         ensures shut { ¬ (HasOpenGuard self.new.member) }
         ensures settled { self.new.member.due ≡ [] }
         ensures home { slots_home self.new ≡ slots_home self.old }
-        ensures few { result.0 ≤ length (due_next self.old.member.own) }
+        ensures few { result.0 ≤ items_in (due_next self.old.member.own) }
         ensures reclaimed { self.new.member.tally ≡ with_reclaimed result.0 self.old.member.tally }
     {
         let (guard, goes_on) = self.membership.enter();
@@ -31,7 +33,8 @@ impl<T: Item<T>> LocalGiver<'_, T> {
 
     /// Reclaims what waits, and what that gives up, as many items as are left at most. It stops where the count of epochs doesn't rise.
     ///
-    /// An item is due after three changes, and what its value holds waits from then on: so four turns for each slot, and four more, are enough.
+    /// An item is due after three changes, and what its value holds waits from then on: so four turns for each slot, and four more, are enough. A job
+    /// that waits runs at its third change, and isn't counted.
     pub fn drain(&mut self, left: &mut usize)
         requires shut { ¬ (HasOpenGuard self.old.member) }
         requires settled { self.old.member.due ≡ [] }

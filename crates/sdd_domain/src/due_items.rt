@@ -1,5 +1,7 @@
 //! What an opening took out of the bags.
-ghost use Rattle.std.specs.Prelude.{◌≡◌, ◌≤◌, [], ◌∷◌, MatchOption, IfOk, length};
+ghost use Rattle.std.specs.Prelude.{◌≡◌, ◌≤◌, List, [], ◌∷◌, MatchOption, IfOk};
+ghost use Rattle.sdd_participants.specs.declared.waiting.LimboEntry.{LimboEntry as Entry};
+ghost use Rattle.sdd_domain.specs.WaitingItems.{items_in};
 ghost use Rattle.sdd_participants.specs.Waiting.{aged, due, left};
 
 use sdd_participants::{Bags, LimboEntry};
@@ -25,6 +27,15 @@ impl Model for DueItems {
     ghost invariant = { λ d. d.taken ≤ length d.bag.items };
 }
 
+/// How many of these are items.
+pub fn count_items(due: &[LimboEntry]) -> usize
+    ensures { result ≡ items_in due.now }
+{
+    due.iter()
+        .filter(|what| matches!(what, LimboEntry::Item(_)))
+        .count()
+}
+
 impl DueItems {
     /// Nothing, with room for so much.
     pub fn with_room(alloc: Global, room: usize) -> Result<DueItems, AllocError>
@@ -48,12 +59,19 @@ impl DueItems {
         bags.rotate(&mut self.bag);
     }
 
-    /// How much of it there is.
-    #[inline]
-    pub fn len(&self) -> usize
-        ensures { result ≡ length self.now.items }
+    /// How many items of it there are.
+    pub fn items(&self) -> usize
+        ensures { result ≡ items_in self.now.items }
     {
-        self.bag.len() - self.taken
+        count_items(&self.bag[self.taken..])
+    }
+
+    /// The next of it, which stays.
+    #[inline]
+    pub fn first(&self) -> Option<LimboEntry>
+        ensures { MatchOption result (self.now.items ≡ []) (λ what. (rest : List Entry) × (self.now.items ≡ what ∷ rest)) }
+    {
+        self.bag.get(self.taken).copied()
     }
 
     /// The next of it.

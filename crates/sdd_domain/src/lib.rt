@@ -4,6 +4,7 @@
 mod changes;
 mod claims;
 mod closing;
+mod deferred_jobs;
 pub mod domain;
 mod draining;
 mod due_items;
@@ -11,6 +12,7 @@ mod ended_counts;
 mod free_slot_hints;
 mod holding;
 mod holds_own_domain;
+mod job_claims;
 pub mod local;
 mod local_core;
 mod raw_values;

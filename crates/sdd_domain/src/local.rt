@@ -10,7 +10,7 @@ use crate::local_core::LocalCore;
 use crate::receipt::Receipt;
 use crate::reclaiming::LocalGiver;
 use sdd_core::Refused;
-use sdd_participants::Tally;
+use sdd_participants::{Idle, Job, Tally};
 use sdd_shared_values::GhostValues;
 use sdd_space::Item;
 use std::marker::Model;
@@ -19,13 +19,15 @@ mod laws;
 
 /// A participant of a domain.
 ///
+/// What it defers is of one type, and this is `Idle`, a job that does nothing, where it defers nothing.
+///
 /// It must be spent by `end`. It is *lone* where its domain has one place: then nobody else changes the domain, and what its calls do is said exactly.
-pub struct Local<'d, T: Item<T>> {
+pub struct Local<'d, T: Item<T>, J: Job = Idle> {
     /// Its membership, with which value it moved into each slot, for clauses.
-    pub(crate) partner: LocalGiver<'d, T>,
+    pub(crate) partner: LocalGiver<'d, T, J>,
 }
 
-impl<'d, T: Item<T>> Model for Local<'d, T> {
+impl<'d, T: Item<T>, J: Job> Model for Local<'d, T, J> {
     ghost use Rattle.sdd_domain.specs.Local.{LocalModel};
     ghost use Rattle.sdd_domain.specs.Sound.{IsSound};
 
@@ -39,11 +41,28 @@ impl<'d, T: Item<T>> Model for Local<'d, T> {
 impl<'d, T: Item<T>> Local<'d, T> {
     ghost use Rattle.sdd_domain.specs.Local.{world_of, IsBlankAlone};
 
-    /// Registers a participant.
+    /// Registers a participant that defers no jobs.
     ///
     /// All memory is taken here, and none later: for what may wait with it, and for the slots that it gave back, as many
     /// as there are slots. `NoPlace` where all places were found taken; `NoMemory` where this memory was refused.
     pub fn register(domain: &'d Domain<T>) -> Result<Local<'d, T>, Refused>
+        ensures registered { IfOk result (λ local. IsNew (home_of domain.now) (book_of domain.now) (limits_of domain.now) local.member) }
+        ensures blank { IfOk result (λ local. IsLone local.member → IsBlankAlone (limits_of domain.now) (world_of local)) }
+        ensures refused { IfErr result (λ e. (e ≡ Refused.NoPlace) ⊎ (e ≡ Refused.NoMemory)) }
+    {
+        Local::register_with_jobs(domain)
+    }
+}
+
+impl<'d, T: Item<T>, J: Job> Local<'d, T, J> {
+    ghost use Rattle.sdd_domain.specs.Local.{world_of, IsBlankAlone};
+
+    /// Registers a participant that defers jobs of this type.
+    ///
+    /// All memory is taken here, and none later: for what may wait with it, for the slots that it gave back, as many as there are slots, and for the
+    /// jobs that it defers, as many as the table of jobs has places. `NoPlace` where all places were found taken; `NoMemory` where this memory was
+    /// refused.
+    pub fn register_with_jobs(domain: &'d Domain<T>) -> Result<Local<'d, T, J>, Refused>
         ensures registered { IfOk result (λ local. IsNew (home_of domain.now) (book_of domain.now) (limits_of domain.now) local.member) }
         ensures blank { IfOk result (λ local. IsLone local.member → IsBlankAlone (limits_of domain.now) (world_of local)) }
         ensures refused { IfErr result (λ e. (e ≡ Refused.NoPlace) ⊎ (e ≡ Refused.NoMemory)) }
@@ -59,7 +78,7 @@ impl<'d, T: Item<T>> Local<'d, T> {
     /// domain.
     ///
     /// Where one of its guards is open it comes back.
-    pub fn end(self) -> Result<Receipt<T>, Local<'d, T>>
+    pub fn end(self) -> Result<Receipt<T, J>, Local<'d, T, J>>
         ensures { MatchResult result
             (λ receipt. ¬ (HasOpenGuard self.entry.member)
             × (receipt ≡ record { home = slots_home self.entry; tally = self.entry.member.tally; waits = waits self.entry.member }))

@@ -1,6 +1,9 @@
 //! A participant's part in a domain: its guards, what waits with it, and the items that it makes and lets go.
-ghost use Rattle.std.specs.Prelude.{◌≡◌, ◌↔◌, ◌⊎◌, ◌+◌, ◌*◌, ◌/◌, ◌^◌, ◌<◌, ◌≤◌, ◌==◌, ℕ, [], false, length, IsTrue, not, IfSome, IfOk, IfErr, MatchOption, MatchResult};
+ghost use Rattle.std.specs.Prelude.{◌≡◌, ◌↔◌, ◌⊎◌, ◌+◌, ◌*◌, ◌/◌, ◌^◌, ◌<◌, ◌≤◌, ◌==◌, ℕ, List, [], ◌∷◌, false, IsTrue, not, IfSome, IfOk, IfErr, MatchOption, MatchResult};
 ghost use Rattle.sdd_shared_values.specs.SharedValues.{showing};
+ghost use Rattle.sdd_participants.specs.declared.waiting.LimboEntry.{LimboEntry as Entry};
+ghost use Rattle.sdd_participants.specs.declared.waiting.LimboEntry.TheVariants.{Item as item};
+ghost use Rattle.sdd_domain.specs.WaitingItems.{items_in};
 ghost use Rattle.sdd_participants.specs.EpochState.{accelerated, due_next, has_garbage, nested, settled, with_garbage};
 ghost use Rattle.sdd_views.specs.Views.{nobody};
 ghost use Rattle.sdd_word_invariant.specs.EpochSteps.{Takes};
@@ -16,8 +19,9 @@ ghost use Rattle.sdd_space.specs.OwnerOrCell.{AreOf};
 ghost use Rattle.sdd_values.specs.declared.read_sections.SectionState.TheVariants.{Closed as is_closed};
 
 use crate::changes::arrive;
+use crate::deferred_jobs::DeferredJobs;
 use crate::domain::Domain;
-use crate::due_items::DueItems;
+use crate::due_items::{DueItems, count_items};
 use crate::ended_counts::EndedCounts;
 use crate::free_slot_hints::FreeSlotHints;
 use crate::scan::scan;
@@ -26,7 +30,7 @@ use crate::values::take_value;
 use sdd_atomics::words::state_word;
 use sdd_atomics::{DomainSeat, DomainTable, steps};
 use sdd_core::Refused;
-use sdd_participants::{Bags, LimboEntry, Participant, RunningTally, Tally};
+use sdd_participants::{Bags, Job, LimboEntry, Participant, RunningTally, Tally};
 use sdd_rights::{GhostKeys, WHOLE};
 use sdd_space::inner::{guard_with, part_of_guard};
 use sdd_space::{Guard, Item};
@@ -37,12 +41,13 @@ use std::marker::Model;
 pub mod detached_local;
 mod in_place;
 mod items;
+mod jobs;
 mod raw;
 
 /// A participant's membership of a domain: its place, its bags, and what it knows of the words.
 ///
 /// It must be spent by `end`.
-pub struct LocalCore<'d, T: Item<T>> {
+pub struct LocalCore<'d, T: Item<T>, J: Job> {
     domain: &'d Domain<T>,
     token: DomainSeat,
     place: usize,
@@ -52,15 +57,17 @@ pub struct LocalCore<'d, T: Item<T>> {
     /// What an opening took out of the bags, and has still to reclaim.
     due: DueItems,
     known: FreeSlotHints,
+    jobs: DeferredJobs<J>,
     /// What its open guards don't have of its tenure: each of them has one unit.
     tenure: ReadSection,
     tally: RunningTally,
 }
 
-impl<'d, T: Item<T>> Model for LocalCore<'d, T> {
+impl<'d, T: Item<T>, J: Job> Model for LocalCore<'d, T, J> {
     ghost use Rattle.std.specs.Prelude.{◌≡◌};
     ghost use Rattle.sdd_domain.specs.Domain.{book_of};
     ghost use Rattle.sdd_domain.specs.LocalState.{LocalState};
+    ghost use Rattle.sdd_domain.specs.Jobs.{places_of};
     ghost use Rattle.sdd_domain.specs.BetweenCalls.{IsBetweenCalls, AreLentTo, IsTenureOf, IsReady};
     ghost use Rattle.sdd_domain.specs.Receipt.{IsTallied};
 
@@ -82,33 +89,44 @@ impl<'d, T: Item<T>> Model for LocalCore<'d, T> {
       filled = l.token.me.0.stakes.filled;
       words = l.token.me.0.words;
       due = l.due.items;
+      jobs = places_of l.jobs;
     } };
 
     ghost invariant = { λ l. IsBetweenCalls l.domain.now.board l.place l.own l.token × (l.nesting ≡ l.domain.now.limits.nesting) × IsTenureOf l.own l.tenure × AreLentTo l.tenure.round l.token.me.1
-        × IsReady l.domain.now.board l.own l.due l.known.slots l.token.me.0.slots.waits
+        × IsReady l.domain.now.board l.own l.due l.known.slots l.jobs l.token.me.0.slots.waits
         × IsTallied 0 l.tally l.token.me.0.stakes.counts };
 }
 
 /// The memory of a participant.
-struct Room {
+struct Room<J: Job> {
     bags: Bags,
     due: DueItems,
     known: FreeSlotHints,
+    jobs: DeferredJobs<J>,
 }
 
-impl Room {
-    ghost use Rattle.std.specs.Prelude.{◌≤◌, []};
+impl<J: Job> Room<J> {
+    ghost use Rattle.std.specs.Prelude.{◌≤◌, [], None, replicate};
 
-    /// That for so many slots.
-    fn new(alloc: Global, slots: u32) -> Result<Room, AllocError>
-        ensures bags { IfOk result (λ room. room.bags ≡ record { waiting = []; room = slots }) }
-        ensures due { IfOk result (λ room. (room.due.items ≡ []) × (slots ≤ room.due.room)) }
+    /// That for so many slots, and so many places of jobs.
+    fn new(alloc: Global, slots: u32, jobs: u32) -> Result<Room<J>, AllocError>
+        requires small { slots + jobs < 2 ^ 32 }
+        ensures bags { IfOk result (λ room. room.bags ≡ record { waiting = []; room = slots + jobs }) }
+        ensures due { IfOk result (λ room. (room.due.items ≡ []) × (slots + jobs ≤ room.due.room)) }
         ensures known { IfOk result (λ room. room.known.slots ≡ slots) }
+        ensures jobs { IfOk result (λ room. room.jobs ≡ replicate jobs None) }
     {
-        let bags = Bags::with_room(alloc, slots as usize)?;
-        let due = DueItems::with_room(alloc, slots as usize)?;
+        let most = (slots + jobs) as usize;
+        let bags = Bags::with_room(alloc, most)?;
+        let due = DueItems::with_room(alloc, most)?;
         let known = FreeSlotHints::new(alloc, slots)?;
-        Ok(Room { bags, due, known })
+        let jobs = DeferredJobs::new(alloc, jobs)?;
+        Ok(Room {
+            bags,
+            due,
+            known,
+            jobs,
+        })
     }
 }
 
@@ -177,30 +195,34 @@ fn own_tenure() -> ReadSection
     book.issue(&SectionState::Closed)
 }
 
-impl<'d, T: Item<T>> LocalCore<'d, T> {
+impl<'d, T: Item<T>, J: Job> LocalCore<'d, T, J> {
     /// Registers a participant.
     ///
-    /// All memory is taken here, and none later: for what may wait with it, and for the slots that it gave back, as many
-    /// as there are slots. `NoPlace` where all places were found taken; `NoMemory` where this memory was refused.
+    /// All memory is taken here, and none later: for what may wait with it, for the slots that it gave back, as many as there are slots, and for the
+    /// jobs that it defers, as many as the table of jobs has places. `NoPlace` where all places were found taken; `NoMemory` where this memory was refused.
     #[tactic(auto, using(crate::proofs::Moving::no_purse, crate::proofs::Moving::none_lent))]
-    pub fn register(domain: &'d Domain<T>) -> Result<LocalCore<'d, T>, Refused>
+    pub fn register(domain: &'d Domain<T>) -> Result<LocalCore<'d, T, J>, Refused>
         ensures registered { IfOk result (IsNew (home_of domain.now) (book_of domain.now) (limits_of domain.now)) }
         ensures refused { IfErr result (λ e. (e ≡ Refused.NoPlace) ⊎ (e ≡ Refused.NoMemory)) }
     {
-        let Ok(room) = Room::new(domain.alloc, domain.limits.slots as u32) else {
+        let slots = domain.limits.slots as u32;
+        let jobs = domain.limits.jobs as u32;
+        let Ok(room) = Room::new(domain.alloc, slots, jobs) else {
             return Err(want_of_memory(&domain.board));
         };
         let Room {
             bags,
             due,
             mut known,
+            mut jobs,
         } = room;
         let mut token = steps::sit(&domain.board);
         let Some(place) = take_place(&domain.board, &mut token) else {
             return Err(Refused::NoPlace);
         };
         steps::write(&domain.board, &mut token, place, 0);
-        known.begin_at(share_of(place, domain.board.places(), domain.limits.slots as u32));
+        known.begin_at(share_of(place, domain.board.places(), slots));
+        jobs.begin_at(share_of(place, domain.board.places(), domain.limits.jobs as u32));
         Ok(LocalCore {
             domain,
             token,
@@ -209,6 +231,7 @@ impl<'d, T: Item<T>> LocalCore<'d, T> {
             own: Participant::new(bags),
             due,
             known,
+            jobs,
             tenure: own_tenure(),
             tally: RunningTally::new(),
         })
@@ -227,6 +250,7 @@ impl<'d, T: Item<T>> LocalCore<'d, T> {
             own: _,
             due: _,
             known: _,
+            jobs: _,
             tenure: _,
             tally,
         } = self;
@@ -241,19 +265,26 @@ impl<'d, T: Item<T>> LocalCore<'d, T> {
         !self.own.bags.is_empty()
     }
 
-    /// How much its next change makes due.
+    /// How many items its next change makes due.
     pub fn next_due(&self) -> usize
-        ensures { result ≡ length (due_next self.now.own) }
+        ensures { result ≡ items_in (due_next self.now.own) }
     {
-        self.own.bags.due().len()
+        count_items(self.own.bags.due())
     }
 
-    /// How much an opening has still to reclaim.
-    #[inline]
+    /// How many items an opening has still to reclaim.
     pub fn now_due(&self) -> usize
-        ensures { result ≡ length self.now.due }
+        ensures { result ≡ items_in self.now.due }
     {
-        self.due.len()
+        self.due.items()
+    }
+
+    /// What an opening has to reclaim next.
+    #[inline]
+    pub(crate) fn first_due(&self) -> Option<LimboEntry>
+        ensures { MatchOption result (self.now.due ≡ []) (λ what. (rest : List Entry) × (self.now.due ≡ what ∷ rest)) }
+    {
+        self.due.first()
     }
 
     /// Its domain.
@@ -318,17 +349,14 @@ impl<'d, T: Item<T>> LocalCore<'d, T> {
         (guard_with(self.tenure.split(1)), goes_on)
     }
 
-    /// Moves the value out of the next item that is due, and gives back its slot.
+    /// Moves the value out of the item that is due before all others, in this slot, which is given back.
     #[inline]
-    pub(crate) fn reclaim_next(&mut self) -> Option<T>
-        ensures reclaimed { MatchOption result ((self.old.due ≡ []) × (self.new ≡ self.old))
-            (λ value. (slot : ℕ) × Reclaims slot (showing T.row value) self.old self.new) }
-        ensures home { IfSome result (λ value. AreOf (home_in self.old) (T.holds value)) }
+    pub(crate) fn reclaim(&mut self, slot: u32) -> T
+        requires first { (rest : List Entry) × (self.old.due ≡ item slot ∷ rest) }
+        ensures reclaimed { Reclaims slot (showing T.row result) self.old self.new }
+        ensures home { AreOf (home_in self.old) (T.holds result) }
     {
-        let what = self.due.next()?;
-        let LimboEntry::Item(slot) = what else {
-            unreachable!()
-        };
+        self.due.next();
         let value = take_value(
             &self.domain.board,
             &self.domain.shelf,
@@ -337,7 +365,7 @@ impl<'d, T: Item<T>> LocalCore<'d, T> {
         );
         self.known.remember(slot);
         self.tally.count_reclaimed();
-        Some(value)
+        value
     }
 
     /// It is decided whether anything waits.

@@ -2,7 +2,7 @@ ghost use Rattle.std.specs.Prelude.{◌≡◌, ◌-◌, ◌≤◌, [], ◌∷◌
 ghost use Rattle.sdd_atomics.specs.DomainTable.{id_of};
 ghost use Rattle.sdd_domain.specs.Domain.{slots_in};
 ghost use Rattle.sdd_domain.specs.LocalState.{HasOpenGuard, waits};
-ghost use Rattle.sdd_domain.specs.Receipt.{HasLeft, IsSettled};
+ghost use Rattle.sdd_domain.specs.Receipt.{HasLeft, IsSettled, with_reclaimed};
 ghost use Rattle.sdd_domain.specs.Space.{slots_home};
 
 use crate::domain::Domain;
@@ -10,20 +10,20 @@ use crate::ended_counts::EndedCounts;
 use crate::local_core::detached_local::DetachedLocal;
 use crate::reclaiming::LocalGiver;
 use sdd_atomics::DomainTable;
-use sdd_participants::Tally;
+use sdd_participants::{Idle, Job, Tally};
 use sdd_shared_values::GhostValues;
 use sdd_space::Item;
 use sdd_witness::Witness;
 use std::marker::Model;
 
-/// A participant that takes no part any more, and with which items wait.
+/// A participant that takes no part any more, and with which items or jobs wait.
 #[derive(Drop)]
-pub struct EndedLocal<T: Item<T>> {
-    dormant: DetachedLocal,
+pub struct EndedLocal<T: Item<T>, J: Job> {
+    dormant: DetachedLocal<J>,
     ledger: GhostValues<T>,
 }
 
-impl<T: Item<T>> Model for EndedLocal<T> {
+impl<T: Item<T>, J: Job> Model for EndedLocal<T, J> {
     ghost use Rattle.sdd_domain.specs.Local.{LocalModel};
     ghost use Rattle.sdd_domain.specs.WordsAndValues.{WordsMatchValues};
 
@@ -34,22 +34,45 @@ impl<T: Item<T>> Model for EndedLocal<T> {
     ghost invariant = { λ e. WordsMatchValues e.dormant e.ledger.entries };
 }
 
+impl<T: Item<T>, J: Job> EndedLocal<T, J> {
+    /// Takes part in its domain again, and reclaims what waits with it, as many items as are left at most.
+    fn settle(self, domain: &Domain<T>, left: &mut usize) -> Receipt<T, J>
+        requires { slots_home self ≡ slots_in domain.now }
+        ensures few { left.new ≤ left.old }
+        ensures home { result.home ≡ slots_home self }
+        ensures tally { result.tally ≡ with_reclaimed (left.old - left.new) self.member.tally }
+    {
+        let EndedLocal { dormant, ledger } = self;
+        let membership = match dormant.wake(domain) {
+            Ok(membership) => membership,
+            Err(dormant) => {
+                return Receipt {
+                    left: ReceiptContents::Items(EndedLocal { dormant, ledger }),
+                };
+            }
+        };
+        let mut partner = LocalGiver { membership, ledger };
+        partner.drain(left);
+        Receipt::of(partner)
+    }
+}
+
 /// What is left of a participant.
 #[derive(Drop)]
-pub enum ReceiptContents<T: Item<T>> {
+pub enum ReceiptContents<T: Item<T>, J: Job> {
     /// Nothing waited: its counts.
     Nothing(EndedCounts),
-    /// Itself, with the items that wait.
-    Items(EndedLocal<T>),
+    /// Itself, with what waits.
+    Items(EndedLocal<T, J>),
 }
 
 /// What a participant that has ended leaves, for the close of its domain: what it made and reclaimed, and what waits still.
 #[derive(Drop)]
-pub struct Receipt<T: Item<T>> {
-    left: ReceiptContents<T>,
+pub struct Receipt<T: Item<T>, J: Job = Idle> {
+    left: ReceiptContents<T, J>,
 }
 
-impl<T: Item<T>> Model for Receipt<T> {
+impl<T: Item<T>, J: Job> Model for Receipt<T, J> {
     ghost use Rattle.sdd_domain.specs.Receipt.{Receipt};
     ghost use Rattle.sdd_domain.specs.ReceiptContents.{receipt_of};
 
@@ -58,9 +81,9 @@ impl<T: Item<T>> Model for Receipt<T> {
     ghost view = { λ r. receipt_of r.left };
 }
 
-impl<T: Item<T>> Receipt<T> {
+impl<T: Item<T>, J: Job> Receipt<T, J> {
     /// What a participant leaves that has no guard open.
-    pub(crate) fn of(partner: LocalGiver<'_, T>) -> Receipt<T>
+    pub(crate) fn of(partner: LocalGiver<'_, T, J>) -> Receipt<T, J>
         requires shut { ¬ (HasOpenGuard partner.member) }
         requires settled { partner.member.due ≡ [] }
         ensures { result ≡ record { home = slots_home partner.entry; tally = partner.entry.member.tally; waits = waits partner.entry.member } }
@@ -85,7 +108,7 @@ impl<T: Item<T>> Receipt<T> {
         }
     }
 
-    /// Items of its participant wait still: the close of the domain reclaims them.
+    /// Something of its participant waits still: the close of the domain reclaims the items, and runs the jobs.
     pub fn waits(&self) -> bool
         ensures { result ≡ self.now.waits }
     {
@@ -96,29 +119,17 @@ impl<T: Item<T>> Receipt<T> {
     }
 
     /// Has its participant reclaim what waits with it, in its domain, as many items as are left at most.
-    pub(crate) fn settle(self, domain: &Domain<T>, left: &mut usize) -> Receipt<T>
+    pub(crate) fn settle(self, domain: &Domain<T>, left: &mut usize) -> Receipt<T, J>
         requires { self.home ≡ slots_in domain.now }
         ensures few { left.new ≤ left.old }
         ensures settled { IsSettled (left.old - left.new) self result }
     {
         let Receipt { left: rest } = self;
-        let EndedLocal { dormant, ledger } = match rest {
-            ReceiptContents::Nothing(ended) => {
-                return Receipt {
-                    left: ReceiptContents::Nothing(ended),
-                };
-            }
-            ReceiptContents::Items(estate) => estate,
-        };
-        match dormant.wake(domain) {
-            Ok(membership) => {
-                let mut partner = LocalGiver { membership, ledger };
-                partner.drain(left);
-                Receipt::of(partner)
-            }
-            Err(dormant) => Receipt {
-                left: ReceiptContents::Items(EndedLocal { dormant, ledger }),
+        match rest {
+            ReceiptContents::Nothing(ended) => Receipt {
+                left: ReceiptContents::Nothing(ended),
             },
+            ReceiptContents::Items(estate) => estate.settle(domain, left),
         }
     }
 

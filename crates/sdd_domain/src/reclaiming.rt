@@ -1,5 +1,5 @@
 //! A change reclaims what is due, and a value that is reclaimed gives up what it holds.
-ghost use Rattle.std.specs.Prelude.{◌≡◌, ◌+◌, ◌≤◌, ℕ, List, [], length, IfErr, IfOk, Some};
+ghost use Rattle.std.specs.Prelude.{◌≡◌, ◌+◌, ◌≤◌, ℕ, List, [], length, IfErr, IfOk, Some, ◌∷◌};
 ghost use Rattle.sdd_rights.specs.Right.{number_of, home_of, kind_of};
 ghost use Rattle.sdd_standings.specs.Slots.{first_standing};
 ghost use Rattle.sdd_space.specs.World.{standing_at};
@@ -9,10 +9,13 @@ ghost use Rattle.sdd_space.specs.Owned as owned;
 ghost use Rattle.sdd_space.specs.RawCell as raw_cell;
 ghost use Rattle.sdd_space.specs.CallerId.{IsSeated, IsExact};
 ghost use Rattle.sdd_space.specs.Shared as shared;
-ghost use Rattle.sdd_space.specs.WorldChanges.{given, given_all, all_reclaimed, dropped};
+ghost use Rattle.sdd_space.specs.WorldChanges.{given, given_all, all_reclaimed, dropped, reclaimed, ran};
 ghost use Rattle.sdd_space.specs.WorldChanges as steps;
 ghost use Rattle.sdd_participants.specs.EpochState.{awaiting, settled};
-ghost use Rattle.sdd_participants.specs.declared.waiting.LimboEntry.TheVariants.{Item as item};
+ghost use Rattle.sdd_participants.specs.declared.waiting.LimboEntry.{LimboEntry as Entry};
+ghost use Rattle.sdd_participants.specs.declared.waiting.LimboEntry.TheVariants.{Item as item, Job as job};
+ghost use Rattle.sdd_participants.specs.Tally.{one_reclaimed};
+ghost use Rattle.sdd_domain.specs.WaitingItems.{items_in};
 ghost use Rattle.sdd_domain.specs.SpaceIds.{home_in};
 ghost use Rattle.sdd_domain.specs.Local.{LocalModel};
 ghost use Rattle.sdd_domain.specs.LocalState.{HasOpenGuard, IsLone};
@@ -22,6 +25,7 @@ ghost use Rattle.sdd_domain.specs.Reclaiming.{counted_in_place, kept_of, rest_of
 ghost use Rattle.sdd_domain.specs.Space.{seat_of, known_of, slots_home};
 
 use crate::local_core::LocalCore;
+use sdd_participants::{Job, LimboEntry};
 use sdd_rights::{Right, StandingKind};
 use sdd_shared_values::GhostValues;
 use sdd_space::inner::{
@@ -31,12 +35,12 @@ use sdd_space::{AtomicOwned, AtomicRaw, AtomicShared, Giver, Item, Owned, Shared
 use std::marker::Model;
 
 /// A participant with the ledger of what it moved into slots, also while it reclaims.
-pub struct LocalGiver<'d, T: Item<T>> {
-    pub membership: LocalCore<'d, T>,
+pub struct LocalGiver<'d, T: Item<T>, J: Job> {
+    pub membership: LocalCore<'d, T, J>,
     pub ledger: GhostValues<T>,
 }
 
-impl<'d, T: Item<T>> Model for LocalGiver<'d, T> {
+impl<'d, T: Item<T>, J: Job> Model for LocalGiver<'d, T, J> {
     ghost use Rattle.sdd_domain.specs.Local.{LocalModel};
     ghost use Rattle.sdd_domain.specs.WordsAndValues.{WordsMatchValues};
 
@@ -48,7 +52,7 @@ impl<'d, T: Item<T>> Model for LocalGiver<'d, T> {
 }
 
 /// It retires what it is given.
-impl<T: Item<T>> Giver<T> for LocalGiver<'_, T> {
+impl<T: Item<T>, J: Job> Giver<T> for LocalGiver<'_, T, J> {
     ghost world = { λ p. world_of p };
 
     ghost seat = { λ p. seat_of p };
@@ -125,7 +129,54 @@ impl<T: Item<T>> Giver<T> for LocalGiver<'_, T> {
     }
 }
 
-impl<T: Item<T>> LocalGiver<'_, T> {
+impl<T: Item<T>, J: Job> LocalGiver<'_, T, J> {
+    /// The item that is due before all others, in this slot, is reclaimed, and what its value held is retired then.
+    fn reclaim_item(&mut self, slot: u32)
+        requires first { (rest : List Entry) × (self.old.member.due ≡ item slot ∷ rest) }
+        ensures first { self.old.member.due ≡ item slot ∷ self.new.member.due }
+        ensures own { KeepsMoreWaiting self.old.member.own self.new.member.own }
+        ensures known { KnowsOn (known_of self.old) (known_of self.new) }
+        ensures rest { rest_of self.new ≡ rest_of self.old }
+        ensures tally { self.new.member.tally ≡ one_reclaimed self.old.member.tally }
+        ensures exact { IsLone self.old.member → world_of self.new ≡ reclaimed T.holds (world_of self.old) self.old.member.place (item slot) }
+    {
+        self.ledger.codes();
+        self.membership.stands();
+        let value = self.membership.reclaim(slot);
+        value.give_up(self);
+    }
+
+    /// The job that is due before all others, in this place, runs, once; the place is free before it does.
+    fn run_job(&mut self, place: u32)
+        requires first { (rest : List Entry) × (self.old.member.due ≡ job place ∷ rest) }
+        ensures first { self.old.member.due ≡ job place ∷ self.new.member.due }
+        ensures own { self.new.member.own ≡ self.old.member.own }
+        ensures known { known_of self.new ≡ known_of self.old }
+        ensures rest { rest_of self.new ≡ rest_of self.old }
+        ensures tally { self.new.member.tally ≡ self.old.member.tally }
+        ensures exact { IsLone self.old.member → world_of self.new ≡ ran (world_of self.old) place }
+    {
+        let mut job = self.membership.take_job(place);
+        job.run();
+    }
+
+    /// What is due before all others is reclaimed: an item, or a job, which runs.
+    #[inline]
+    fn reclaim_first(&mut self, what: LimboEntry)
+        requires first { (rest : List Entry) × (self.old.member.due ≡ what ∷ rest) }
+        ensures first { self.old.member.due ≡ what ∷ self.new.member.due }
+        ensures own { KeepsMoreWaiting self.old.member.own self.new.member.own }
+        ensures known { KnowsOn (known_of self.old) (known_of self.new) }
+        ensures rest { rest_of self.new ≡ rest_of self.old }
+        ensures reclaimed { self.new.member.tally ≡ with_reclaimed (items_in (what ∷ [])) self.old.member.tally }
+        ensures exact { IsLone self.old.member → world_of self.new ≡ reclaimed T.holds (world_of self.old) self.old.member.place what }
+    {
+        match what {
+            LimboEntry::Item(slot) => self.reclaim_item(slot),
+            LimboEntry::Job(place) => self.run_job(place),
+        }
+    }
+
     /// What is due is reclaimed, one after another, and what each value held is retired then.
     fn reclaim_due(&mut self)
         ensures own { KeepsMoreWaiting self.old.member.own self.new.member.own }
@@ -133,14 +184,12 @@ impl<T: Item<T>> LocalGiver<'_, T> {
         ensures known { KnowsOn (known_of self.old) (known_of self.new) }
         ensures rest { rest_of self.new ≡ rest_of self.old }
         ensures due { self.new.member.due ≡ [] }
-        ensures reclaimed { self.new.member.tally ≡ with_reclaimed (length self.old.member.due) self.old.member.tally }
+        ensures reclaimed { self.new.member.tally ≡ with_reclaimed (items_in self.old.member.due) self.old.member.tally }
         ensures exact { IsLone self.old.member → world_of self.new
             ≡ all_reclaimed T.holds (world_of self.old) self.old.member.place self.old.member.due }
     {
-        self.ledger.codes();
-        self.membership.stands();
-        while let Some(value) = self.membership.reclaim_next() {
-            value.give_up(self);
+        while let Some(what) = self.membership.first_due() {
+            self.reclaim_first(what);
         }
     }
 
@@ -151,7 +200,7 @@ impl<T: Item<T>> LocalGiver<'_, T> {
         ensures known { KnowsOn (known_of self.old) (known_of self.new) }
         ensures rest { rest_of self.new ≡ rest_of self.old }
         ensures due { self.new.member.due ≡ [] }
-        ensures reclaimed { self.new.member.tally ≡ with_reclaimed (length self.old.member.due) self.old.member.tally }
+        ensures reclaimed { self.new.member.tally ≡ with_reclaimed (items_in self.old.member.due) self.old.member.tally }
         ensures near { HasOpenGuard self.new.member → self.new.member.known ≤ self.new.member.since + 1 }
         ensures exact { IsLone self.old.member → world_of self.new
             ≡ steps.settled (all_reclaimed T.holds (world_of self.old) self.old.member.place self.old.member.due) self.old.member.place }

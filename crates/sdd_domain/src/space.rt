@@ -5,13 +5,15 @@ use crate::domain::Domain;
 use crate::local::Local;
 use crate::reclaiming::LocalGiver;
 use sdd_core::Refused;
+use sdd_participants::Job;
 use sdd_rights::{Right, StandingKind};
 use sdd_space::inner::value_of_ptr;
 use sdd_space::{
-    Caller, Guard, Guards, InPlaceItems, Item, Items, Look, LookThrough, Ptr, RawItems, Shows,
+    Caller, Deferrals, Guard, Guards, InPlaceItems, Item, Items, Look, LookThrough, Ptr, RawItems,
+    Shows,
 };
 
-impl<T: Item<T>> Shows<T> for Local<'_, T> {
+impl<T: Item<T>, J: Job> Shows<T> for Local<'_, T, J> {
     ghost use Rattle.sdd_domain.specs.SpaceIds.{home_in};
     ghost use Rattle.sdd_domain.specs.Items.{HasValue};
     ghost use Rattle.sdd_domain.specs.Space.{Shows};
@@ -33,7 +35,7 @@ impl<T: Item<T>> Shows<T> for Local<'_, T> {
 }
 
 /// An owner looks at its item without a guard. Its token tells the value, so that no step is needed.
-impl<T: Item<T>> Look<T> for Local<'_, T> {
+impl<T: Item<T>, J: Job> Look<T> for Local<'_, T, J> {
     ghost knows_slots = { λ _. ⊥ };
 
     #[inline]
@@ -46,7 +48,7 @@ impl<T: Item<T>> Look<T> for Local<'_, T> {
     }
 }
 
-impl<T: Item<T>> LookThrough<T> for Local<'_, T> {
+impl<T: Item<T>, J: Job> LookThrough<T> for Local<'_, T, J> {
     ghost use Rattle.std.specs.Prelude.{◌≡◌, option_copied};
     ghost use Rattle.sdd_space.specs.Ptr.{shown_by};
     ghost use Rattle.sdd_domain.specs.Space.{is_lone};
@@ -106,7 +108,7 @@ impl<T: Item<T>> LookThrough<T> for Domain<T> {
     ghost one_value = { λ _ _ _ _ none. absurd none };
 }
 
-impl<T: Item<T>> Caller<T> for Local<'_, T> {
+impl<T: Item<T>, J: Job> Caller<T> for Local<'_, T, J> {
     ghost use Rattle.std.specs.Prelude.{refl};
     ghost use Rattle.sdd_domain.specs.Local.{world_of};
     ghost use Rattle.sdd_domain.specs.Space.{seat_of, known_of, is_lone};
@@ -129,7 +131,7 @@ impl<T: Item<T>> Caller<T> for Local<'_, T> {
     ghost shows_is_value = { λ p exact slot value. shows_is_value (showing T.row) T.holds p (is_lone p.member) exact slot value };
 }
 
-impl<T: Item<T>> Guards<T> for Local<'_, T> {
+impl<T: Item<T>, J: Job> Guards<T> for Local<'_, T, J> {
     // The compiler puts an opening into its caller as long as it is short: that is all but spent. Five instructions more here, and each guard takes 12 more.
     #[inline]
     fn new_guard(&mut self) -> Result<Guard, Refused> {
@@ -169,7 +171,7 @@ impl<T: Item<T>> Guards<T> for Local<'_, T> {
     }
 }
 
-impl<T: Item<T>> Items<T> for Local<'_, T> {
+impl<T: Item<T>, J: Job> Items<T> for Local<'_, T, J> {
     ghost use Rattle.sdd_participants.specs.Slab.{IsFull};
     ghost use Rattle.sdd_domain.specs.Local.{world_of};
 
@@ -220,7 +222,7 @@ impl<T: Item<T>> Items<T> for Local<'_, T> {
     }
 }
 
-impl<T: Item<T>> InPlaceItems<T> for Local<'_, T> {
+impl<T: Item<T>, J: Job> InPlaceItems<T> for Local<'_, T, J> {
     fn get_mut<R, F: FnOnce(&mut T) -> R>(
         &mut self,
         right: &mut Right,
@@ -247,7 +249,7 @@ impl<T: Item<T>> InPlaceItems<T> for Local<'_, T> {
     }
 }
 
-impl<T: Item<T>> RawItems<T> for Local<'_, T> {
+impl<T: Item<T>, J: Job> RawItems<T> for Local<'_, T, J> {
     #[inline]
     fn into_raw(&mut self, right: Right) -> u32 {
         self.partner.membership.into_raw(right)
@@ -262,5 +264,14 @@ impl<T: Item<T>> RawItems<T> for Local<'_, T> {
     fn get_guarded_raw<'g>(&mut self, slot: u32, guard: &'g Guard) -> Option<&'g T> {
         self.partner.ledger.codes();
         self.partner.membership.get_guarded_raw(slot, guard)
+    }
+}
+
+/// The table of jobs is the domain's; the job itself stays with the participant that deferred it.
+impl<T: Item<T>, J: Job> Deferrals<T> for Local<'_, T, J> {
+    type Job = J;
+
+    fn defer_execute(&mut self, job: J) -> Result<u32, (J, Refused)> {
+        self.partner.membership.defer_execute(job)
     }
 }

@@ -14,6 +14,8 @@ mod held;
 mod in_place;
 #[cfg(test)]
 mod items;
+#[cfg(test)]
+mod jobs;
 mod node;
 #[cfg(test)]
 mod places;

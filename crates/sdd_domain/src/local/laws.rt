@@ -11,9 +11,10 @@ ghost use Rattle.sdd_domain.specs.Local.{world_of};
 ghost use Rattle.sdd_domain.specs.LocalState.{IsLone};
 
 use super::Local;
+use sdd_participants::Job;
 use sdd_space::Item;
 
-impl<T: Item<T>> Local<'_, T> {
+impl<T: Item<T>, J: Job> Local<'_, T, J> {
     /// What the parts of its world keep true of each other: a value where a slot is taken, each item that waits once, the participant abreast of the
     /// count, each item accounted for. It has its place there, and a guard is open there
     /// exactly while one of its own is.
@@ -26,7 +27,7 @@ impl<T: Item<T>> Local<'_, T> {
     }
 }
 
-impl<T: Item<T>> Local<'_, T> {
+impl<T: Item<T>, J: Job> Local<'_, T, J> {
     /// After how many openings an item that waits is reclaimed at latest.
     pub fn reclaims_in_time(&self)
         ensures latest { IsLone self.now.member → GoesAtLatest T.holds (world_of self.now) }

@@ -3,33 +3,36 @@ ghost use Rattle.std.specs.Prelude.{◌≡◌, [], MatchResult};
 ghost use Rattle.sdd_domain.specs.Domain.{home_of, book_of};
 ghost use Rattle.sdd_domain.specs.LocalState.{HasOpenGuard};
 
+use crate::deferred_jobs::DeferredJobs;
 use crate::domain::Domain;
 use crate::due_items::DueItems;
 use crate::free_slot_hints::FreeSlotHints;
 use crate::local_core::LocalCore;
 use sdd_atomics::DomainSeat;
 use sdd_core::Limits;
-use sdd_participants::{Participant, RunningTally, Tally};
+use sdd_participants::{Job, Participant, RunningTally, Tally};
 use sdd_space::Item;
 use sdd_values::ReadSection;
 use std::marker::Model;
 
 /// A membership with no guard open, which takes no part in its domain until it wakes there.
 #[derive(Drop)]
-pub struct DetachedLocal {
+pub struct DetachedLocal<J: Job> {
     token: DomainSeat,
     limits: Limits,
     place: usize,
     own: Participant,
     due: DueItems,
     known: FreeSlotHints,
+    jobs: DeferredJobs<J>,
     tenure: ReadSection,
     tally: RunningTally,
 }
 
-impl Model for DetachedLocal {
+impl<J: Job> Model for DetachedLocal<J> {
     ghost use Rattle.sdd_domain.specs.LocalState.{LocalState};
     ghost use Rattle.sdd_domain.specs.DetachedLocal.{IsDormant};
+    ghost use Rattle.sdd_domain.specs.Jobs.{places_of};
 
     ghost Value = { LocalState };
 
@@ -49,14 +52,15 @@ impl Model for DetachedLocal {
       filled = d.token.me.0.stakes.filled;
       words = d.token.me.0.words;
       due = d.due.items;
+      jobs = places_of d.jobs;
     } };
 
-    ghost invariant = { λ d. IsDormant d.limits d.place d.own d.due d.known.slots d.tenure d.token d.tally };
+    ghost invariant = { λ d. IsDormant d.limits d.place d.own d.due d.known.slots d.jobs d.tenure d.token d.tally };
 }
 
-impl<T: Item<T>> LocalCore<'_, T> {
+impl<T: Item<T>, J: Job> LocalCore<'_, T, J> {
     /// Takes no part in its domain from now on. Its place stays its own.
-    pub fn rest(self) -> DetachedLocal
+    pub fn rest(self) -> DetachedLocal<J>
         requires shut { ¬ (HasOpenGuard self) }
         requires settled { self.due ≡ [] }
         ensures { result ≡ self.entry }
@@ -69,6 +73,7 @@ impl<T: Item<T>> LocalCore<'_, T> {
             own,
             due,
             known,
+            jobs,
             tenure,
             tally,
         } = self;
@@ -79,13 +84,14 @@ impl<T: Item<T>> LocalCore<'_, T> {
             own,
             due,
             known,
+            jobs,
             tenure,
             tally,
         }
     }
 }
 
-impl DetachedLocal {
+impl<J: Job> DetachedLocal<J> {
     /// How many items it made, reclaimed and dropped in place.
     pub fn tally(&self) -> Tally
         ensures { result ≡ self.now.tally }
@@ -94,7 +100,10 @@ impl DetachedLocal {
     }
 
     /// Takes part in its domain again. It comes back where the domain's limits are others.
-    pub fn wake<T: Item<T>>(self, domain: &Domain<T>) -> Result<LocalCore<'_, T>, DetachedLocal>
+    pub fn wake<T: Item<T>>(
+        self,
+        domain: &Domain<T>,
+    ) -> Result<LocalCore<'_, T, J>, DetachedLocal<J>>
         requires home { (self.home ≡ home_of domain.now) × (self.book ≡ book_of domain.now) }
         ensures shut { ¬ (HasOpenGuard self) }
         ensures settled { self.due ≡ [] }
@@ -110,6 +119,7 @@ impl DetachedLocal {
             own,
             due,
             known,
+            jobs,
             tenure,
             tally,
         } = self;
@@ -121,6 +131,7 @@ impl DetachedLocal {
             own,
             due,
             known,
+            jobs,
             tenure,
             tally,
         })

@@ -14,11 +14,12 @@ use crate::holding::{change_alone, drop_alone, hold_alone};
 use crate::local_core::LocalCore;
 use crate::local_core::items::is_one_of_several;
 use sdd_atomics::steps::slots::recall;
+use sdd_participants::Job;
 use sdd_rights::{Right, StandingKind};
 use sdd_shared_values::GhostValues;
 use sdd_space::Item;
 
-impl<'d, T: Item<T>> LocalCore<'d, T> {
+impl<'d, T: Item<T>, J: Job> LocalCore<'d, T, J> {
     /// Changes the value of an owner's item in its place, and enters it in the ledger. Where a guard is open at some place, the own one too, `f` comes back
     /// uncalled. No memory is taken.
     pub(crate) fn get_mut<R, F: FnOnce(&mut T) -> R>(

@@ -16,7 +16,7 @@ use crate::local_core::LocalCore;
 use crate::values::{let_wait, put_value};
 use sdd_atomics::steps::slots::{recall, take_in, watch};
 use sdd_core::Refused;
-use sdd_participants::LimboEntry;
+use sdd_participants::{Job, LimboEntry};
 use sdd_rights::{Right, StandingKind};
 use sdd_shared_values::GhostValues;
 use sdd_space::inner::tenure_of;
@@ -34,7 +34,7 @@ pub(super) fn is_one_of_several(kind: StandingKind) -> bool
     }
 }
 
-impl<'d, T: Item<T>> LocalCore<'d, T> {
+impl<'d, T: Item<T>, J: Job> LocalCore<'d, T, J> {
     /// Puts a value into a free slot, for an owner of this kind, and enters it in the ledger. No memory is taken.
     ///
     /// The value comes back where it is refused: `NoSlot` where a walk over all slots found none free; `Contended` where as many exchanges

@@ -15,11 +15,12 @@ use crate::local_core::LocalCore;
 use crate::raw_values::{put_out, take_back};
 use sdd_atomics::steps::raw::{RAW, look_for_raw};
 use sdd_atomics::steps::slots::{recall, take_in};
+use sdd_participants::Job;
 use sdd_rights::{Right, StandingKind};
 use sdd_space::inner::tenure_of;
 use sdd_space::{Guard, Item};
 
-impl<'d, T: Item<T>> LocalCore<'d, T> {
+impl<'d, T: Item<T>, J: Job> LocalCore<'d, T, J> {
     /// Puts the item of an owner out as raw that is the only one that there could be.
     #[inline]
     pub(crate) fn into_raw(&mut self, right: Right) -> u32

@@ -2,6 +2,10 @@ use Rattle.std.proofs.Common.{◌≡◌, ◌≢◌, ℕ, ◌+◌, ◌≤◌, Lis
 use Rattle.sdd_participants.specs.EpochState.{nested, settled}
 use Rattle.sdd_participants.specs.declared.participant.Participant.{Participant}
 use Rattle.sdd_views.specs.declared.Sizes.{Sizes}
+use Rattle.sdd_word_invariant.specs.Sums.{total}
+use Rattle.sdd_word_invariant.specs.Slots.{waits_in}
+use Rattle.sdd_atomics.specs.DomainTable.{sizes_of, slots_of}
+use Rattle.sdd_domain.proofs.JobTables.{still_jobs}
 use Rattle.sdd_views.specs.declared.SlotsView.{SlotsView}
 use Rattle.sdd_views.specs.declared.FractionsView.{FractionsView}
 use Rattle.sdd_views.specs.declared.WaitingItem.{WaitingItem}
@@ -13,7 +17,7 @@ use Rattle.sdd_domain.specs.LocalState.{LocalState, IsEntered, GoesOn}
 use Rattle.sdd_domain.specs.BetweenCalls.{IsBetweenCalls, AreLentTo}
 use Rattle.sdd_domain.specs.Receipt.{IsTallied}
 use Rattle.sdd_domain.specs.WaitingItems.{what_of, ripe, arrived_at, aged_at, due_at}
-use Rattle.sdd_domain.proofs.Arrivals.{has_open, has_room, due_moved, quiet_due, due_ripe}
+use Rattle.sdd_domain.proofs.Arrivals.{has_open, has_room, due_moved, quiet_due, due_ripe, same_aged}
 use Rattle.sdd_domain.proofs.Members.{with_view}
 use Rattle.sdd_domain.proofs.Reclaims.{none_ripe}
 use Rattle.sdd_domain.proofs.local_core.LocalCore.enter.Goals as goal
@@ -22,13 +26,13 @@ abbrev Tenure : Type 0
 Tenure = Fraction SectionState
 
 pub arrive-goes_on-requires-clause-settled : goal.arrive-goes_on-requires-clause-settled
-arrive-goes_on-requires-clause-settled g c = none_ripe (ripe c.self.inside.token.me.0.slots.waits)
+arrive-goes_on-requires-clause-settled g c = none_ripe (slots_of c.self.inside.domain.now.board) (ripe c.self.inside.token.me.0.slots.waits)
     (sym c.self.invariant.4.due ∙ (ap (λ (m : LocalState). m.due) c.self.view_is ∙ c.requires.settled))
 
 pub invariant_of-self : goal.invariant_of-self
 invariant_of-self g c = let l = c.self.inside in let i = c.self.invariant in let b = l.domain.now.board in
     let own : Participant = c.arrive-goes_on.new.own in let a = c.arrive-goes_on.ensures.arrived in let count : ℕ = a.0 in let arrives = a.1 in
-    let none = none_ripe (ripe l.token.me.0.slots.waits) (sym i.4.due ∙ (ap (λ (m : LocalState). m.due) c.self.view_is ∙ c.requires.settled)) in
+    let none = none_ripe (slots_of b) (ripe l.token.me.0.slots.waits) (sym i.4.due ∙ (ap (λ (m : LocalState). m.due) c.self.view_is ∙ c.requires.settled)) in
     let shut : l.own.guards ≡ 0 = search rules in
     let guards : own.guards ≡ 0 = has_open count l.own c.arrive-goes_on.result own a.2 ∙ shut in
     let one : own.guards + 1 ≡ 1 = omega arith in
@@ -46,10 +50,14 @@ invariant_of-self g c = let l = c.self.inside in let i = c.self.invariant in let
         sym arrives.others d,
       )) i.3,
       record {
-        due = a.3 ∙ (due_ripe count l.own l.token.me.0.slots.waits i.0.bags none
-            ∙ ap (λ (xs : List WaitingItem). map what_of (ripe xs)) (sym (ap (λ (s : SlotsView). s.waits) arrives.slots)));
+        due = a.3 ∙ (due_ripe count l.own (slots_of b) l.token.me.0.slots.waits i.0.bags none
+            ∙ ap (λ (xs : List WaitingItem). map (what_of (slots_of b)) (ripe xs)) (sym (ap (λ (s : SlotsView). s.waits) arrives.slots)));
         large = subst (λ (n : ℕ). n ≤ c.arrive-goes_on.new.due.room) (sym large) c.arrive-goes_on.ensures.room;
         slots = i.4.slots;
+        places = i.4.places;
+        jobs = still_jobs (slots_of b) (sizes_of b).jobs l.jobs l.token.me.0.slots.waits i.4.jobs c.arrive-goes_on.new.token.me.0.slots.waits
+            (λ j low. ap (λ (s : SlotsView). total (waits_in (slots_of b + j)) s.waits) arrives.slots
+            ∙ same_aged count l.own (slots_of b + j) l.token.me.0.slots.waits);
       },
       subst (IsTallied 0 l.tally) (sym (ap (λ (s : FractionsView). s.counts) arrives.stakes)) i.5,
     )

@@ -1,13 +1,18 @@
 use lib.ListN.{get_elem?}
 use mathlib.Core.Logic.{dite}
 use native.Mathlib.Decide.{dec_lt}
-use Rattle.std.proofs.Common.{List, [], ◌∷◌, ◌≡◌, ℕ, ◌<◌, map, length, rules, refl, sym, ap, ◌∙◌, subst, arith}
+use Rattle.std.proofs.Common.{List, [], ◌∷◌, ◌≡◌, ℕ, ◌+◌, ◌<◌, map, length, rules, refl, sym, ap, ◌∙◌, subst, arith}
 use Rattle.std.proofs.lemmas.List.{length-map}
+use Rattle.sdd_word_invariant.specs.Words.{most_waiting}
+use Rattle.sdd_word_invariant.specs.Sums.{total}
+use Rattle.sdd_word_invariant.specs.Slots.{waits_in}
 use Rattle.sdd_word_invariant.specs.SlotSteps.{retired_now}
+use Rattle.sdd_word_invariant.proofs.Sums.{is_other, total_snoc}
+use Rattle.sdd_domain.proofs.JobTables.{still_jobs}
 use Rattle.sdd_domain.specs.WaitingItems.{what_of, waiting_of, ripe, unripe}
 use Rattle.sdd_domain.proofs.Ripe.{ripe_snoc, fewer_unripe}
 use Rattle.sdd_rights.specs.Owner.{witness_of_owner}
-use Rattle.sdd_atomics.specs.DomainTable.{id_of, slots_of}
+use Rattle.sdd_atomics.specs.DomainTable.{id_of, sizes_of, slots_of}
 use Rattle.sdd_rights.specs.Units.{GhostName}
 use Rattle.sdd_participants.specs.declared.waiting.LimboEntry.TheVariants.{Item}
 use Rattle.sdd_participants.specs.declared.participant.Participant.{Participant}
@@ -48,16 +53,21 @@ invariant_of-self g c = let l = c.self.inside in let board = l.domain.now.board 
     let inside : slot < slots_of board = search rules in
     subst (λ (o : Participant). IsBetweenCalls board l.place o c.let_wait.new.token
     × l.nesting ≡ l.domain.now.limits.nesting × IsTenureOf o l.tenure × AreLentTo l.tenure.round c.let_wait.new.token.me.1
-    × IsReady board o l.due l.known.slots c.let_wait.new.token.me.0.slots.waits × IsTallied 0 l.tally c.let_wait.new.token.me.0.stakes.counts) (sym own_is) (
+    × IsReady board o l.due l.known.slots l.jobs c.let_wait.new.token.me.0.slots.waits × IsTallied 0 l.tally c.let_wait.new.token.me.0.stakes.counts) (sym own_is) (
       posed_retires board l.place l.own slot shared shown l.token c.take_in.new.token c.let_wait.new.token i.0 inside took c.let_wait.ensures,
       i.1,
       record { units = i.2.units; kind = i.2.kind },
       subst (AreLentTo l.tenure.round) (sym (c.let_wait.ensures.2.3 ∙ took.2)) i.3,
       record {
-        due = i.4.due ∙ (ap (map what_of) (sym (ripe_snoc (retired_now slot retired.0) refl l.token.me.0.slots.waits))
-            ∙ ap (λ (v : View). map what_of (ripe v.slots.waits)) (sym retired.1));
+        due = i.4.due ∙ (ap (map (what_of (slots_of board))) (sym (ripe_snoc (retired_now slot retired.0) refl l.token.me.0.slots.waits))
+            ∙ ap (λ (v : View). map (what_of (slots_of board)) (ripe v.slots.waits)) (sym retired.1));
         large = i.4.large;
         slots = i.4.slots;
+        places = i.4.places;
+        jobs = still_jobs (slots_of board) (sizes_of board).jobs l.jobs l.token.me.0.slots.waits i.4.jobs c.let_wait.new.token.me.0.slots.waits
+            (λ j low. ap (λ (v : View). total (waits_in (slots_of board + j)) v.slots.waits) retired.1
+            ∙ (let t = total_snoc (waits_in (slots_of board + j)) l.token.me.0.slots.waits (retired_now slot retired.0) in
+            let o = is_other (slots_of board + j) slot (λ e. let l = inside in omega arith) in omega arith));
       },
       subst (IsTallied 0 l.tally) (sym (ap (λ (v : View). v.stakes.counts) retired.1)) i.5,
     )
@@ -88,12 +98,12 @@ push-requires g c = let l = c.self.inside in let board = l.domain.now.board in l
     (by.owner ∙ ap (λ (k : ℕ). witness_of_owner k shared shown) (sym c.number-slot.ensures))) in
     let before : View = c.recall.new.token.me.0 in
     let room = c.let_wait.ensures.2.1.5 in
-    let waits = ap (λ (v : View). length v.slots.waits) took.3 in let sizes = ap (λ (v : View). v.sizes.slots) took.3 in
-    let w = ap (λ (t : Seat ValueFraction View). length t.me.0.slots.waits) same in let z = ap (λ (t : Seat ValueFraction View). t.me.0.sizes.slots) same in
+    let waits = ap (λ (v : View). length v.slots.waits) took.3 in let sizes = ap (λ (v : View). most_waiting v.sizes) took.3 in
+    let w = ap (λ (t : Seat ValueFraction View). length t.me.0.slots.waits) same in let z = ap (λ (t : Seat ValueFraction View). most_waiting t.me.0.sizes) same in
     let few = fewer_unripe l.token.me.0.slots.waits in
     let many : length l.own.bags.waiting ≡ length (unripe l.token.me.0.slots.waits)
-    = ap length q.bags ∙ length-map (unripe l.token.me.0.slots.waits) waiting_of in
-    let known = ap (λ (x : Sizes). x.slots) q.knows.0 in let most = q.room in omega arith
+    = ap length q.bags ∙ length-map (unripe l.token.me.0.slots.waits) (waiting_of (slots_of board)) in
+    let known = ap most_waiting q.knows.0 in let most = q.room in omega arith
 
 -- what was known before the owner was recalled and taken in is known still
 pub take_in-requires-clause-home : goal.take_in-requires-clause-home

@@ -7,19 +7,20 @@ use Rattle.sdd_domain.specs.LocalState.{IsLone}
 use Rattle.sdd_domain.specs.Receipt.{with_reclaimed}
 use Rattle.sdd_domain.specs.Reclaiming.{rest_of}
 use Rattle.sdd_domain.specs.Space.{known_of}
+use Rattle.sdd_domain.specs.WaitingItems.{items_in}
 use Rattle.sdd_domain.proofs.reclaiming.LocalGiver.reclaim_due.Given as goal
 
 -- to reclaim what is left is to reclaim all
-abbrev pub invariant-loop-value : goal.invariant-loop-value
-invariant-loop-value g l = record {
+abbrev pub invariant-loop-what : goal.invariant-loop-what
+invariant-loop-what g l = record {
   own : KeepsMoreWaiting l.fn.self.member.own l.self.member.own;
   none : l.fn.self.member.due ≡ [] → (l.self.member.own ≡ l.fn.self.member.own) × (l.self.member.due ≡ []);
   known : KnowsOn (known_of l.fn.self) (known_of l.self);
   rest : rest_of l.self ≡ rest_of l.fn.self;
-  reclaimed : with_reclaimed (length l.self.member.due) l.self.member.tally ≡ with_reclaimed (length l.fn.self.member.due) l.fn.self.member.tally;
+  reclaimed : with_reclaimed (items_in l.self.member.due) l.self.member.tally ≡ with_reclaimed (items_in l.fn.self.member.due) l.fn.self.member.tally;
   exact : IsLone l.fn.self.member → all_reclaimed g.T.Item.holds (world_of l.self) l.self.member.place l.self.member.due
       ≡ all_reclaimed g.T.Item.holds (world_of l.fn.self) l.fn.self.member.place l.fn.self.member.due;
 }
 
-abbrev pub decreases-loop-value : goal.decreases-loop-value
-decreases-loop-value g l = length l.self.member.due
+abbrev pub decreases-loop-what : goal.decreases-loop-what
+decreases-loop-what g l = length l.self.member.due

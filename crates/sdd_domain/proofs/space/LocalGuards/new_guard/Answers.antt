@@ -24,25 +24,25 @@ use Rattle.sdd_domain.proofs.space.LocalGuards.new_guard.Goals as goal
 
 pub invariant_of-self : goal.invariant_of-self
 invariant_of-self g c = let v : LocalModel g.row.T.Denot = (c.self-inside.view_is 0).partner in
-    let inner : v ≡ c.self.inside.partner = ap (λ (i : Inside g.row.T.Denot). i.partner) c.self-inside.view_is in
+    let inner : v ≡ c.self.inside.partner = ap (λ (i : Inside g.row.T.Denot g.row.J.Denot). i.partner) c.self-inside.view_is in
     let some_open : HasOpenGuard v.member = search rules in
     nested_sound v c.nest.new.self _ g.T.Item.holds c.nest.result c.nest.ensures some_open c.self-inside.invariant
     (subst (IsSound g.T.Item.holds) (sym inner) c.self.invariant)
 
 pub returns-then-is_guarded-clause-exact : goal.returns-then-is_guarded-clause-exact
 returns-then-is_guarded-clause-exact g c = let v : LocalModel g.row.T.Denot = (c.self-inside.view_is 0).partner in
-    let inner : v ≡ c.self.inside.partner = ap (λ (i : Inside g.row.T.Denot). i.partner) c.self-inside.view_is in
+    let inner : v ≡ c.self.inside.partner = ap (λ (i : Inside g.row.T.Denot g.row.J.Denot). i.partner) c.self-inside.view_is in
     let some_open : HasOpenGuard v.member = search rules in
     nested_exact v c.nest.new.self _ g.T.Item.holds c.nest.result c.args.self.now (inner ∙ c.self.view_is) c.nest.ensures some_open c.self-inside.invariant
 
 pub returns-then-is_guarded-clause-keeps : goal.returns-then-is_guarded-clause-keeps
 returns-then-is_guarded-clause-keeps g c = λ is_open. let v : LocalModel g.row.T.Denot = (c.self-inside.view_is 0).partner in
-    let inner : v ≡ c.self.inside.partner = ap (λ (i : Inside g.row.T.Denot). i.partner) c.self-inside.view_is in
+    let inner : v ≡ c.self.inside.partner = ap (λ (i : Inside g.row.T.Denot g.row.J.Denot). i.partner) c.self-inside.view_is in
     nested_keeps v c.nest.new.self _ g.T.Item.holds (showing g.row.T) c.nest.result c.args.self.now (inner ∙ c.self.view_is) c.nest.ensures
 
 pub invariant_of-self-inside-then-goes_on : goal.invariant_of-self-inside-then-goes_on
 invariant_of-self-inside-then-goes_on g c one = let v : LocalModel g.row.T.Denot = (c.self-inside.view_is 0).partner in
-    let inner : v ≡ c.self.inside.partner = ap (λ (i : Inside g.row.T.Denot). i.partner) c.self-inside.view_is in
+    let inner : v ≡ c.self.inside.partner = ap (λ (i : Inside g.row.T.Denot g.row.J.Denot). i.partner) c.self-inside.view_is in
     let e = c.enter-guard.ensures.entered in let settled = ap (λ (z : LocalModel g.row.T.Denot). z.member.due) inner ∙ c.self.invariant.settled in
     let so = stands e.0 c.enter-guard.result.1 v.member e.1 c.enter-guard.new.self e.2 e.3 in
     let lone : IsLone v.member = sym (ap (λ (l : Limits). l.participants) so.limits) ∙ one in
@@ -50,7 +50,7 @@ invariant_of-self-inside-then-goes_on g c one = let v : LocalModel g.row.T.Denot
 
 pub invariant_of-self-inside-else-goes_on : goal.invariant_of-self-inside-else-goes_on
 invariant_of-self-inside-else-goes_on g c one = let v : LocalModel g.row.T.Denot = (c.self-inside.view_is 0).partner in
-    let inner : v ≡ c.self.inside.partner = ap (λ (i : Inside g.row.T.Denot). i.partner) c.self-inside.view_is in
+    let inner : v ≡ c.self.inside.partner = ap (λ (i : Inside g.row.T.Denot g.row.J.Denot). i.partner) c.self-inside.view_is in
     let e = c.enter-guard.ensures.entered in let settled = ap (λ (z : LocalModel g.row.T.Denot). z.member.due) inner ∙ c.self.invariant.settled in
     let so = stands e.0 c.enter-guard.result.1 v.member e.1 c.enter-guard.new.self e.2 e.3 in
     let lone : IsLone v.member = sym (ap (λ (l : Limits). l.participants) so.limits) ∙ one in
@@ -58,7 +58,7 @@ invariant_of-self-inside-else-goes_on g c one = let v : LocalModel g.row.T.Denot
 
 pub invariant_of-self-then-goes_on : goal.invariant_of-self-then-goes_on
 invariant_of-self-then-goes_on g c = let v : LocalModel g.row.T.Denot = (c.self-inside.view_is 0).partner in
-    let inner : v ≡ c.self.inside.partner = ap (λ (i : Inside g.row.T.Denot). i.partner) c.self-inside.view_is in
+    let inner : v ≡ c.self.inside.partner = ap (λ (i : Inside g.row.T.Denot g.row.J.Denot). i.partner) c.self-inside.view_is in
     let holds = g.T.Item.holds in let q : LocalModel g.row.T.Denot = c.change.new.self in
     let e = c.enter-guard.ensures.entered in let settled = ap (λ (z : LocalModel g.row.T.Denot). z.member.due) inner ∙ c.self.invariant.settled in
     let shut : v.member.own.guards ≡ 0 = search rules in
@@ -73,7 +73,7 @@ invariant_of-self-then-goes_on g c = let v : LocalModel g.row.T.Denot = (c.self-
 
 pub invariant_of-self-else-goes_on : goal.invariant_of-self-else-goes_on
 invariant_of-self-else-goes_on g c = let v : LocalModel g.row.T.Denot = (c.self-inside.view_is 0).partner in
-    let inner : v ≡ c.self.inside.partner = ap (λ (i : Inside g.row.T.Denot). i.partner) c.self-inside.view_is in
+    let inner : v ≡ c.self.inside.partner = ap (λ (i : Inside g.row.T.Denot g.row.J.Denot). i.partner) c.self-inside.view_is in
     let holds = g.T.Item.holds in let n : LocalState = c.enter-guard.new.self in
     let e = c.enter-guard.ensures.entered in let settled = ap (λ (z : LocalModel g.row.T.Denot). z.member.due) inner ∙ c.self.invariant.settled in
     let shut : v.member.own.guards ≡ 0 = search rules in let sound = subst (IsSound holds) (sym inner) c.self.invariant in
@@ -89,7 +89,7 @@ invariant_of-self-else-goes_on g c = let v : LocalModel g.row.T.Denot = (c.self-
 opened_there : (g : Over) (c : goal.Joined-goes_on g) → IsLone (c.self-inside.view_is 0).partner.member
     → world_of c.if-goes_on.self ≡ opened g.T.Item.holds (world_of (c.self-inside.view_is 0).partner) (c.self-inside.view_is 0).partner.member.place
 opened_there g c lone = let v : LocalModel g.row.T.Denot = (c.self-inside.view_is 0).partner in
-    let inner : v ≡ c.self.inside.partner = ap (λ (i : Inside g.row.T.Denot). i.partner) c.self-inside.view_is in
+    let inner : v ≡ c.self.inside.partner = ap (λ (i : Inside g.row.T.Denot g.row.J.Denot). i.partner) c.self-inside.view_is in
     let holds = g.T.Item.holds in let n : LocalState = c.enter-guard.new.self in let tied = c.self-inside.invariant lone in
     let e = c.enter-guard.ensures.entered in let settled = ap (λ (z : LocalModel g.row.T.Denot). z.member.due) inner ∙ c.self.invariant.settled in
     let shut : v.member.own.guards ≡ 0 = search rules in
@@ -107,7 +107,7 @@ opened_there g c lone = let v : LocalModel g.row.T.Denot = (c.self-inside.view_i
 
 pub returns-clause-exact : goal.returns-clause-exact
 returns-clause-exact g c = λ exact. let v : LocalModel g.row.T.Denot = (c.self-inside.view_is 0).partner in
-    let inner : v ≡ c.self.inside.partner = ap (λ (i : Inside g.row.T.Denot). i.partner) c.self-inside.view_is in
+    let inner : v ≡ c.self.inside.partner = ap (λ (i : Inside g.row.T.Denot g.row.J.Denot). i.partner) c.self-inside.view_is in
     let now = inner ∙ c.self.view_is in
     let lone = lone_is v.member (subst (λ (q : LocalModel g.row.T.Denot). IsTrue (is_lone q.member)) (sym now) exact) in (
       subst (λ (q : LocalModel g.row.T.Denot). time.CanNest (world_of q).time q.member.place) now (can_nest v c.enter-guard.ensures.nests),
@@ -116,14 +116,14 @@ returns-clause-exact g c = λ exact. let v : LocalModel g.row.T.Denot = (c.self-
 
 pub returns-clause-lone : goal.returns-clause-lone
 returns-clause-lone g c = λ one. let v : LocalModel g.row.T.Denot = (c.self-inside.view_is 0).partner in
-    let inner : v ≡ c.self.inside.partner = ap (λ (i : Inside g.row.T.Denot). i.partner) c.self-inside.view_is in
+    let inner : v ≡ c.self.inside.partner = ap (λ (i : Inside g.row.T.Denot g.row.J.Denot). i.partner) c.self-inside.view_is in
     let now = inner ∙ c.self.view_is in
     let lone = lone_is v.member (subst (λ (q : LocalModel g.row.T.Denot). IsTrue (is_lone q.member)) (sym now) one) in
     same_count g.T.Item.holds v c.if-goes_on.self (opened_there g c lone) ∙ ap (λ (q : LocalModel g.row.T.Denot). q.member.known) now
 
 pub returns-clause-known : goal.returns-clause-known
 returns-clause-known g c = let v : LocalModel g.row.T.Denot = (c.self-inside.view_is 0).partner in
-    let inner : v ≡ c.self.inside.partner = ap (λ (i : Inside g.row.T.Denot). i.partner) c.self-inside.view_is in
+    let inner : v ≡ c.self.inside.partner = ap (λ (i : Inside g.row.T.Denot g.row.J.Denot). i.partner) c.self-inside.view_is in
     let now = inner ∙ c.self.view_is in let p : LocalModel g.row.T.Denot = c.args.self.now in let n : LocalState = c.enter-guard.new.self in
     let e = c.enter-guard.ensures.entered in let shut : v.member.own.guards ≡ 0 = search rules in
     let so = stands e.0 c.enter-guard.result.1 v.member e.1 n e.2 e.3 in let knows = so.knows in let known = so.known in

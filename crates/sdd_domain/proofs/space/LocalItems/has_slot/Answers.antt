@@ -10,7 +10,7 @@ use Rattle.sdd_domain.proofs.space.LocalItems.has_slot.Goals as goal
 
 pub returns-clause-lone : goal.returns-clause-lone
 returns-clause-lone g c one = let v : LocalModel g.row.T.Denot = (c.self-inside.view_is 0).partner in
-    let inner : v ≡ c.self.inside.partner = ap (λ (i : Inside g.row.T.Denot). i.partner) c.self-inside.view_is in
+    let inner : v ≡ c.self.inside.partner = ap (λ (i : Inside g.row.T.Denot g.row.J.Denot). i.partner) c.self-inside.view_is in
     let is : v ≡ c.args.self.now = inner ∙ c.self.view_is in
     let lone = lone_is v.member (subst (λ (q : LocalModel g.row.T.Denot). IsTrue (is_lone q.member)) (sym is) one) in
     subst (λ (q : LocalModel g.row.T.Denot). IsTrue c.has_slot.result ↔ ¬ (IsFull (world_of q).standings)) is
@@ -18,6 +18,6 @@ returns-clause-lone g c one = let v : LocalModel g.row.T.Denot = (c.self-inside.
 
 pub returns-clause-exact : goal.returns-clause-exact
 returns-clause-exact g c one = let v : LocalModel g.row.T.Denot = (c.self-inside.view_is 0).partner in
-    let inner : v ≡ c.self.inside.partner = ap (λ (i : Inside g.row.T.Denot). i.partner) c.self-inside.view_is in
+    let inner : v ≡ c.self.inside.partner = ap (λ (i : Inside g.row.T.Denot g.row.J.Denot). i.partner) c.self-inside.view_is in
     let same : record v { member = c.has_slot.new.self } ≡ v = (λ d. record v { member = c.has_slot.ensures.same d }) in
     (returns-clause-lone g c one, ap world_of (same ∙ (inner ∙ c.self.view_is)))

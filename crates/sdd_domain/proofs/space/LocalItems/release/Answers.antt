@@ -9,20 +9,20 @@ use Rattle.sdd_domain.proofs.space.LocalItems.release.Goals as goal
 
 pub invariant_of-self : goal.invariant_of-self
 invariant_of-self g c = let v : LocalModel g.row.T.Denot = (c.self-inside.view_is 0).partner in
-    let inner : v ≡ c.self.inside.partner = ap (λ (i : Inside g.row.T.Denot). i.partner) c.self-inside.view_is in
+    let inner : v ≡ c.self.inside.partner = ap (λ (i : Inside g.row.T.Denot g.row.J.Denot). i.partner) c.self-inside.view_is in
     let r = c.release.ensures.retired in
     sound_release g.T.Item.holds v c.release.new.self (subst (IsSound g.T.Item.holds) (sym inner) c.self.invariant) c.args.right r.0 c.self-inside.invariant
     r.1 c.release.ensures.recalled
 
 pub invariant_of-self-inside : goal.invariant_of-self-inside
 invariant_of-self-inside g c = let v : LocalModel g.row.T.Denot = (c.self-inside.view_is 0).partner in
-    let inner : v ≡ c.self.inside.partner = ap (λ (i : Inside g.row.T.Denot). i.partner) c.self-inside.view_is in
+    let inner : v ≡ c.self.inside.partner = ap (λ (i : Inside g.row.T.Denot g.row.J.Denot). i.partner) c.self-inside.view_is in
     let r = c.release.ensures.retired in
     release_tied v c.release.new.self c.args.right r.0 r.1 c.self-inside.invariant c.release.ensures.recalled c.args.self.now (inner ∙ c.self.view_is)
 
 pub returns-clause-released : goal.returns-clause-released
 returns-clause-released g c = let v : LocalModel g.row.T.Denot = (c.self-inside.view_is 0).partner in
-    let inner : v ≡ c.self.inside.partner = ap (λ (i : Inside g.row.T.Denot). i.partner) c.self-inside.view_is in
+    let inner : v ≡ c.self.inside.partner = ap (λ (i : Inside g.row.T.Denot g.row.J.Denot). i.partner) c.self-inside.view_is in
     let r = c.release.ensures.retired in λ exact. record {
       owned = release_owned v c.release.new.self c.args.right r.0 r.1 c.self-inside.invariant c.release.ensures.recalled c.args.self.now (inner ∙ c.self.view_is) exact;
       last = release_last v c.release.new.self c.args.right r.0 r.1 c.self-inside.invariant c.release.ensures.recalled c.args.self.now (inner ∙ c.self.view_is) exact;
@@ -31,7 +31,7 @@ returns-clause-released g c = let v : LocalModel g.row.T.Denot = (c.self-inside.
 
 pub returns-clause-unmoved : goal.returns-clause-unmoved
 returns-clause-unmoved g c = let v : LocalModel g.row.T.Denot = (c.self-inside.view_is 0).partner in
-    let inner : v ≡ c.self.inside.partner = ap (λ (i : Inside g.row.T.Denot). i.partner) c.self-inside.view_is in
+    let inner : v ≡ c.self.inside.partner = ap (λ (i : Inside g.row.T.Denot g.row.J.Denot). i.partner) c.self-inside.view_is in
     let r = c.release.ensures.retired in
     record {
       seat = search rules;

@@ -1,6 +1,6 @@
 use Rattle.sdd_domain.proofs.Registered.{tied_new, blank_new}
 use Rattle.sdd_domain.proofs.Sound.{sound_new}
-use Rattle.sdd_domain.proofs.local.Local.register.Goals as goal
+use Rattle.sdd_domain.proofs.local.Local.register_with_jobs.Goals as goal
 
 pub invariant_of-result : goal.invariant_of-result
 invariant_of-result g c = tied_new _ _ _ c.in_ok-membership.membership c.new-ledger.result.entries c.in_ok-membership.ensures.registered c.new-ledger.ensures

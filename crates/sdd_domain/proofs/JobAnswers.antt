@@ -1,0 +1,99 @@
+-- What the answer to a deferral says of a participant and of its world
+use Rattle.std.proofs.Common.{◌≡◌, ◌⊎◌, ℕ, Bool, true, false, IsTrue, List, sym, refl, ap, ◌∙◌, subst, ⊎_elim, arith}
+use Rattle.std.specs.Prelude.{Result, Ok, Err, MatchResult}
+use base.Stored.{Gv}
+use Rattle.sdd_core.specs.declared.refused.Refused.{Refused}
+use Rattle.sdd_participants.specs.Slab.{IsEmptyAt, IsFull}
+use Rattle.sdd_space.specs.OwnerOrCell.{OwnerOrCell}
+use Rattle.sdd_space.specs.Ptr.{KeepsShown}
+use Rattle.sdd_space.specs.KnownEpochs.{KnowsOn}
+use Rattle.sdd_space.specs.World.{value_at}
+use Rattle.sdd_space.specs.WorldChanges.{deferred}
+use Rattle.sdd_space.specs.WorldInvariant.{IsWhole}
+use Rattle.sdd_space.proofs.Housed.{Whole-deferred, live-taken}
+use Rattle.sdd_domain.specs.SpaceIds.{home_in}
+use Rattle.sdd_domain.specs.LocalState.{LocalState, IsLone, DefersTo, AllPlacesTaken}
+use Rattle.sdd_domain.specs.WordsAndValues.{WordsMatchValues}
+use Rattle.sdd_domain.specs.Local.{LocalModel, world_of}
+use Rattle.sdd_domain.specs.Space.{ShowsBy, Shows, is_lone, known_of}
+use Rattle.sdd_domain.specs.Space as space
+use Rattle.sdd_domain.specs.Sound.{IsSound}
+use Rattle.sdd_domain.proofs.Exact.{lone_is}
+use Rattle.sdd_domain.proofs.JobsTied.{tied_deferred, world_deferred, empty_before, all_taken}
+use Rattle.sdd_domain.proofs.Sound.{lives, sound_then}
+
+module _ {T : Type 0} (v : LocalModel T) (m : LocalState) (tied : WordsMatchValues v.member v.entries) where
+  abbrev after : LocalModel T
+  after = record { member = m; entries = v.entries }
+
+  -- a job is deferred
+  module _ (place count : ℕ) (is : DefersTo place count v.member m) where
+    lone_before : IsLone m → IsLone v.member
+    lone_before one = sym (ap (λ (y : LocalState). y.limits.participants) is.member) ∙ one
+
+    did_tied : WordsMatchValues m v.entries
+    did_tied one = let lone = lone_before one in tied_deferred v (tied lone) place count m is lone
+
+    did_sound : (holds : T → List OwnerOrCell) → IsSound holds v → IsSound holds after
+    did_sound holds sound = sound_then holds v m sound (ap (λ (y : LocalState). y.due) is.member ∙ sound.settled) (ap home_in is.member)
+        (λ one. let lone = lone_before one in subst (λ (w : _). IsWhole w) (sym (world_deferred v (tied lone) place count m is lone))
+        (Whole-deferred (world_of v) v.member.place place (live-taken (world_of v).time v.member.place (lives v))
+        (empty_before v (tied lone) place count m is lone) (sound.whole lone)))
+
+    keeps_by : (shown : T → Gv) (holds : T → List OwnerOrCell) (b : Bool) → (IsTrue b → IsLone v.member) → (i : ℕ) (u : T) → ShowsBy b shown holds v i u
+        → ShowsBy b shown holds after i u
+    keeps_by shown holds true lone i u h = ap (λ (w : _). value_at w i) (world_deferred v (tied (lone refl)) place count m is (lone refl)) ∙ h
+    keeps_by shown holds false lone i u h = subst (λ (y : LocalState). space.SeesValue shown holds y i u) (sym is.member) h
+
+    did_keep : (shown : T → Gv) (holds : T → List OwnerOrCell) → KeepsShown (Shows shown holds v) (Shows shown holds after)
+    did_keep shown holds i u h = subst (λ (b : Bool). ShowsBy b shown holds after i u) (ap is_lone (sym is.member))
+        (keeps_by shown holds (is_lone v.member) (λ exact. lone_is v.member exact) i u h)
+
+    did_know : KnowsOn (known_of v) (known_of after)
+    did_know = record {
+      told = (let k = is.knew in let e = ap (λ (y : LocalState). y.known) is.member in omega arith);
+      since = ap (λ (y : LocalState). y.since) is.member;
+    }
+
+  module _ {J : Type 0} (job : J) where
+    abbrev pub Answers : Result ℕ (J × Refused) → Type 0
+    Answers r = MatchResult r (λ place. (count : ℕ) × DefersTo place count v.member m)
+        (λ e. (e.0 ≡ job) × (m ≡ v.member) × ((e.1 ≡ Refused.NoJob) ⊎ ((e.1 ≡ Refused.Contended) × ¬ (IsLone v.member)))
+        × (IsLone v.member → AllPlacesTaken v.member))
+
+    pub answered_tied : (r : Result ℕ (J × Refused)) → Answers r → WordsMatchValues m v.entries
+    answered_tied (Ok place) a = did_tied place a.0 a.1
+    answered_tied (Err e) a = subst (λ (y : LocalState). WordsMatchValues y v.entries) (sym a.1) tied
+
+    pub answered_sound : (holds : T → List OwnerOrCell) (r : Result ℕ (J × Refused)) → Answers r → IsSound holds v → IsSound holds after
+    answered_sound holds (Ok place) a sound = did_sound place a.0 a.1 holds sound
+    answered_sound holds (Err e) a sound = subst (λ (y : LocalState). IsSound holds (record v { member = y })) (sym a.1) sound
+
+    pub answered_keeps : (shown : T → Gv) (holds : T → List OwnerOrCell) (r : Result ℕ (J × Refused)) (p : LocalModel T) → v ≡ p → Answers r
+        → KeepsShown (Shows shown holds p) (Shows shown holds after)
+    answered_keeps shown holds (Ok place) p is a i u h = did_keep place a.0 a.1 shown holds i u (subst (λ (q : LocalModel T). Shows shown holds q i u) (sym is) h)
+    answered_keeps shown holds (Err e) p is a i u h = subst (λ (q : LocalModel T). Shows shown holds q i u)
+        (sym is ∙ (λ d. record { member = sym a.1 d; entries = v.entries })) h
+
+    pub answered_knows : (r : Result ℕ (J × Refused)) (p : LocalModel T) → v ≡ p → Answers r → KnowsOn (known_of p) (known_of after)
+    answered_knows (Ok place) p is a = subst (λ (q : LocalModel T). KnowsOn (known_of q) (known_of after)) is (did_know place a.0 a.1)
+    answered_knows (Err e) p is a = subst (λ (q : LocalModel T). KnowsOn (known_of q) (known_of after)) is
+        (subst (λ (y : LocalState). KnowsOn (known_of v) (known_of {T = T} (record { member = y; entries = v.entries }))) (sym a.1)
+        record { told = omega arith; since = refl })
+
+    pub answered_seat : (r : Result ℕ (J × Refused)) (p : LocalModel T) → v ≡ p → Answers r → space.seat_of after ≡ space.seat_of p
+    answered_seat (Ok place) p is a = ap space.seat_in a.1.member ∙ ap space.seat_of is
+    answered_seat (Err e) p is a = ap space.seat_in a.1 ∙ ap space.seat_of is
+
+    pub answered_exact : (r : Result ℕ (J × Refused)) (p : LocalModel T) → v ≡ p → Answers r → IsTrue (is_lone p.member)
+        → MatchResult r (λ place. IsEmptyAt (world_of p).jobs place × (world_of after ≡ deferred (world_of p) p.member.place place))
+        (λ e. IsFull (world_of p).jobs × (e.1 ≡ Refused.NoJob) × (world_of after ≡ world_of p))
+    answered_exact (Ok place) p is a exact = let lone = lone_is v.member (subst (λ (q : LocalModel T). IsTrue (is_lone q.member)) (sym is) exact) in (
+      subst (λ (q : LocalModel T). IsEmptyAt (world_of q).jobs place) is (empty_before v (tied lone) place a.0 m a.1 lone),
+      world_deferred v (tied lone) place a.0 m a.1 lone ∙ ap (λ (q : LocalModel T). deferred (world_of q) q.member.place place) is,
+    )
+    answered_exact (Err e) p is a exact = let lone = lone_is v.member (subst (λ (q : LocalModel T). IsTrue (is_lone q.member)) (sym is) exact) in (
+      subst (λ (q : LocalModel T). IsFull (world_of q).jobs) is (all_taken v (tied lone) (a.3 lone)),
+      ⊎_elim (λ (n : e.1 ≡ Refused.NoJob). n) (λ (n : (e.1 ≡ Refused.Contended) × ¬ (IsLone v.member)). absurd (n.1 lone)) a.2,
+      ap (λ (y : LocalState). world_of (record { member = y; entries = v.entries })) a.1 ∙ ap world_of is,
+    )

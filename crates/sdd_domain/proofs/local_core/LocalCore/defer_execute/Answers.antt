@@ -1,0 +1,80 @@
+use Rattle.std.proofs.Common.{◌≡◌, ℕ, ◌+◌, ◌<◌, List, None, length, map, refl, sym, ap, ◌∙◌, subst, arith, slice_index_or, length-set}
+use Rattle.std.proofs.lemmas.List.{length-map}
+use Rattle.std.specs.Prelude.{◌↔◌, Option, IsSome}
+use Rattle.sdd_participants.specs.declared.waiting.LimboEntry.TheVariants.{Job}
+use Rattle.sdd_participants.specs.declared.participant.Participant.{Participant}
+use Rattle.sdd_participants.specs.Bags.{Bags}
+use Rattle.sdd_participants.specs.EpochState.{awaiting, with_garbage}
+use Rattle.sdd_views.specs.declared.WaitingItem.{WaitingItem}
+use Rattle.sdd_views.specs.declared.View.{View}
+use Rattle.sdd_views.specs.declared.Sizes.{Sizes}
+use Rattle.sdd_word_invariant.specs.Words.{most_waiting}
+use Rattle.sdd_word_invariant.specs.Sums.{total}
+use Rattle.sdd_word_invariant.specs.Slots.{waits_in}
+use Rattle.sdd_word_invariant.specs.SlotSteps.{retired_now, DefersAt}
+use Rattle.sdd_atomics.specs.DomainTable.{sizes_of, slots_of}
+use Rattle.sdd_domain.specs.Jobs.{places_of}
+use Rattle.sdd_domain.specs.LocalState.{LocalState, DefersTo}
+use Rattle.sdd_domain.specs.BetweenCalls.{IsBetweenCalls, AreLentTo, IsTenureOf, IsReady}
+use Rattle.sdd_domain.specs.Receipt.{IsTallied}
+use Rattle.sdd_domain.specs.WaitingItems.{what_of, waiting_of, ripe, unripe}
+use Rattle.sdd_domain.proofs.Deferring.{posed_defers}
+use Rattle.sdd_domain.proofs.JobTables.{job_put, place_put}
+use Rattle.sdd_domain.proofs.Members.{with_view}
+use Rattle.sdd_domain.proofs.Ripe.{ripe_snoc, fewer_unripe}
+use Rattle.sdd_domain.proofs.local_core.LocalCore.defer_execute.Goals as goal
+
+pub push-requires : goal.push-requires
+push-requires g c = let l = c.self.inside in let q = c.self.invariant.0 in let d = c.in-Ok.ensures.tried.1.view in let few = fewer_unripe l.token.me.0.slots.waits in
+    let many : length l.own.bags.waiting ≡ length (unripe l.token.me.0.slots.waits)
+    = ap length q.bags ∙ length-map (unripe l.token.me.0.slots.waits) (waiting_of (slots_of l.domain.now.board)) in
+    let known = ap most_waiting q.knows.0 in let most = q.room in let less = d.5 in record { room = omega arith }
+
+pub invariant_of-self : goal.invariant_of-self
+invariant_of-self g c = let l = c.self.inside in let b = l.domain.now.board in let i = c.self.invariant in let r = i.4 in let n : ℕ = slots_of b in
+    let place : ℕ = c.in-Ok.place in let token = c.claim_place.new.token in let waits : List WaitingItem = l.token.me.0.slots.waits in
+    let did = c.in-Ok.ensures.tried.1 in
+    let own_is : c.set_has_garbage.new.self ≡ awaiting (Job place) l.own
+    = c.set_has_garbage.ensures ∙ ap (λ (bags : Bags). with_garbage (record l.own { bags = bags })) c.push.ensures in
+    let d = subst (λ (k : ℕ). DefersAt (k + place) 4 l.token.me.0 token.me.0) (sym (ap (λ (z : Sizes). z.slots) l.domain.now.limited.1)) did.view in
+    let low : place < (sizes_of b).jobs = subst (λ (z : Sizes). place < z.jobs) (sym l.domain.now.limited.1) c.in-Ok.ensures.tried.0 in
+    let inside : place < length l.jobs = (let long = r.places in omega arith) in
+    subst (λ (o : Participant). IsBetweenCalls b l.place o token × l.nesting ≡ l.domain.now.limits.nesting × IsTenureOf o l.tenure
+    × AreLentTo l.tenure.round token.me.1 × IsReady {J = g.row.J.Denot} b o l.due l.known.slots c.put.new.self token.me.0.slots.waits
+    × IsTallied 0 l.tally token.me.0.stakes.counts) (sym own_is) (
+      posed_defers b l.place l.own l.token token i.0 did.table did.others place (omega arith) d,
+      i.1,
+      record { units = i.2.units; kind = i.2.kind },
+      subst (AreLentTo l.tenure.round) (sym did.others) i.3,
+      record {
+        due = r.due ∙ (ap (map (what_of n)) (sym (ripe_snoc (retired_now (n + place) d.0) refl waits))
+            ∙ ap (λ (v : View). map (what_of n) (ripe v.slots.waits)) (sym d.3));
+        large = r.large;
+        slots = r.slots;
+        places = ap length c.put.ensures ∙ (length-set l.jobs place _ ∙ r.places);
+        jobs = λ j near. subst (λ (z : List (Option g.row.J.Denot) × List WaitingItem).
+            IsSome (slice_index_or z.0 j None) ↔ (0 < total (waits_in (n + j)) z.1))
+            (λ k. (sym c.put.ensures k, ap (λ (v : View). v.slots.waits) (sym d.3) k))
+            (job_put n (sizes_of b).jobs l.jobs waits r.jobs place inside c.args.job d.0 j near);
+      },
+      subst (IsTallied 0 l.tally) (sym (ap (λ (v : View). v.stakes.counts) d.3)) i.5,
+    )
+
+pub returns-in-Ok : goal.returns-in-Ok
+returns-in-Ok g c = let l = c.self.inside in let i = c.self.invariant in let place : ℕ = c.in-Ok.place in let token = c.claim_place.new.token in
+    let did = c.in-Ok.ensures.tried.1 in let d = did.view in let old : LocalState = c.self.view_is 0 in
+    let own_is : c.set_has_garbage.new.self ≡ awaiting (Job place) l.own
+    = c.set_has_garbage.ensures ∙ ap (λ (bags : Bags). with_garbage (record l.own { bags = bags })) c.push.ensures in
+    let all : l.token.me.0.epoch.all ≡ l.domain.now.limits.participants = i.0.all ∙ ap (λ (z : Sizes). z.participants) l.domain.now.limited.1 in (
+      d.0,
+      subst (λ (m : LocalState). DefersTo place d.0 m
+          (record (with_view old token.table_id token.me.0) { own = c.set_has_garbage.new.self; jobs = places_of c.put.new.self })) c.self.view_is record {
+            inside = c.in-Ok.ensures.tried.0;
+            member = λ k. record (with_view old (did.table k) (d.3 k)) {
+              own = own_is k;
+              jobs = (ap places_of c.put.ensures ∙ place_put l.jobs place c.args.job) k;
+            };
+            knew = d.1;
+            lone = λ one. (d.2 (all ∙ one), did.free (all ∙ one));
+          },
+    )

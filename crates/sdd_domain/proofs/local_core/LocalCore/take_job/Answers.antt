@@ -1,0 +1,93 @@
+use Rattle.std.proofs.Common.{◌≡◌, ℕ, ◌+◌, ◌<◌, ◌≤◌, ◌∷◌, List, None, length, map, sym, ap, ◌∙◌, subst, arith, slice_index_or, length-set}
+use Rattle.std.proofs.lemmas.Bool.{true≢false}
+use Rattle.std.specs.Prelude.{◌↔◌, Option, IsSome}
+use Rattle.sdd_participants.specs.declared.waiting.LimboEntry.TheVariants.{Job}
+use Rattle.sdd_views.specs.declared.WaitingItem.{WaitingItem}
+use Rattle.sdd_views.specs.declared.View.{View}
+use Rattle.sdd_views.specs.declared.Sizes.{Sizes}
+use Rattle.sdd_word_invariant.specs.Sums.{total}
+use Rattle.sdd_word_invariant.specs.Slots.{waits_in}
+use Rattle.sdd_word_invariant.specs.SlotSteps.{IsDue}
+use Rattle.sdd_domain_invariant.specs.FractionSteps.{GivesPlace}
+use Rattle.sdd_atomics.specs.DomainSeat.{Moved}
+use Rattle.sdd_atomics.specs.DomainTable.{sizes_of, slots_of}
+use Rattle.sdd_domain.specs.Jobs.{places_of}
+use Rattle.sdd_domain.specs.LocalState.{LocalState, TakesJob}
+use Rattle.sdd_domain.specs.BetweenCalls.{AreLentTo}
+use Rattle.sdd_domain.specs.Receipt.{IsTallied}
+use Rattle.sdd_domain.specs.WaitingItems.{what_of, ripe}
+use Rattle.sdd_domain.proofs.Deferring.{posed_takes, place_low, waits_now}
+use Rattle.sdd_domain.proofs.JobTables.{next_goes, job_taken, place_there, place_free}
+use Rattle.sdd_domain.proofs.Members.{with_view}
+use Rattle.sdd_domain.proofs.Reclaims.{first_is_due, first_goes}
+use Rattle.sdd_domain.proofs.local_core.LocalCore.take_job.Goals as goal
+
+pub take-requires : goal.take-requires
+take-requires g c = let first : map (what_of (slots_of c.self.inside.domain.now.board)) (ripe c.self.inside.token.me.0.slots.waits) ≡ Job c.args.place ∷ c.next.new.self.items
+    = sym c.self.invariant.4.due ∙ next_goes c.self.inside.due c.next.new.self c.next.result (Job c.args.place) c.requires.first.0 c.next.ensures.next
+    (ap (λ (m : LocalState). m.due) c.self.view_is ∙ c.requires.first.1) in
+    let low = place_low c.self.inside.domain.now.board c.args.place c.next.new.self.items c.self.inside.token.me.0.slots.waits first c.self.invariant.0.waiting in let long = c.self.invariant.4.places in omega arith
+
+pub unreachable-requires : goal.unreachable-requires
+unreachable-requires g c = let first : map (what_of (slots_of c.self.inside.domain.now.board)) (ripe c.self.inside.token.me.0.slots.waits) ≡ Job c.args.place ∷ c.next.new.self.items
+    = sym c.self.invariant.4.due ∙ next_goes c.self.inside.due c.next.new.self c.next.result (Job c.args.place) c.requires.first.0 c.next.ensures.next
+    (ap (λ (m : LocalState). m.due) c.self.view_is ∙ c.requires.first.1) in
+    let low = place_low c.self.inside.domain.now.board c.args.place c.next.new.self.items c.self.inside.token.me.0.slots.waits first c.self.invariant.0.waiting in
+    let wait = waits_now (slots_of c.self.inside.domain.now.board) c.args.place c.next.new.self.items c.self.inside.token.me.0.slots.waits first in
+    let there = (c.self.invariant.4.jobs c.args.place low).1 wait in
+    absurd (true≢false (sym (subst (λ (o : Option g.row.J.Denot). IsSome o) (sym c.take.ensures.job ∙ c.in_default.is) there)))
+
+pub give_place_back-requires-clause-due : goal.give_place_back-requires-clause-due
+give_place_back-requires-clause-due g c = let first : map (what_of (slots_of c.self.inside.domain.now.board)) (ripe c.self.inside.token.me.0.slots.waits) ≡ Job c.args.place ∷ c.next.new.self.items
+    = sym c.self.invariant.4.due ∙ next_goes c.self.inside.due c.next.new.self c.next.result (Job c.args.place) c.requires.first.0 c.next.ensures.next
+    (ap (λ (m : LocalState). m.due) c.self.view_is ∙ c.requires.first.1) in let l = c.self.inside in let b = l.domain.now.board in
+    subst (λ (k : ℕ). IsDue l.token.me.0 (k + c.args.place)) (ap (λ (z : Sizes). z.slots) l.domain.now.limited.1)
+    (first_is_due (slots_of b) (Job c.args.place) c.next.new.self.items l.token.me.0.slots.waits first)
+
+pub invariant_of-self : goal.invariant_of-self
+invariant_of-self g c = let first : map (what_of (slots_of c.self.inside.domain.now.board)) (ripe c.self.inside.token.me.0.slots.waits) ≡ Job c.args.place ∷ c.next.new.self.items
+    = sym c.self.invariant.4.due ∙ next_goes c.self.inside.due c.next.new.self c.next.result (Job c.args.place) c.requires.first.0 c.next.ensures.next
+    (ap (λ (m : LocalState). m.due) c.self.view_is ∙ c.requires.first.1) in
+    let low = place_low c.self.inside.domain.now.board c.args.place c.next.new.self.items c.self.inside.token.me.0.slots.waits first c.self.invariant.0.waiting in let l = c.self.inside in let b = l.domain.now.board in let i = c.self.invariant in let r = i.4 in let n : ℕ = slots_of b in
+    let place : ℕ = c.args.place in let token = c.give_place_back.new.token in let waits : List WaitingItem = l.token.me.0.slots.waits in
+    let gives = subst (λ (k : ℕ). Moved (GivesPlace (k + place)) l.token 0 token) (sym (ap (λ (z : Sizes). z.slots) l.domain.now.limited.1))
+    c.give_place_back.ensures in
+    let goes = first_goes n (Job place) c.next.new.self.items waits first gives.2.1.1 in
+    let inside : place < length l.jobs = (let long = r.places in omega arith) in (
+      posed_takes b l.place l.own l.token token i.0 gives.0 gives.2.0 place c.next.new.self.items first gives.2.1,
+      i.1,
+      i.2,
+      subst (AreLentTo l.tenure.round) (sym gives.2.0) i.3,
+      record {
+        due = sym goes.0 ∙ ap (λ (v : View). map (what_of n) (ripe v.slots.waits)) (sym gives.2.1.0);
+        large = subst (λ (n : ℕ). l.own.bags.room ≤ n) (sym c.next.ensures.room) r.large;
+        slots = r.slots;
+        places = ap length c.take.ensures.free ∙ (length-set l.jobs place None ∙ r.places);
+        jobs = λ j near. subst (λ (z : List (Option g.row.J.Denot) × List WaitingItem).
+            IsSome (slice_index_or z.0 j None) ↔ (0 < total (waits_in (n + j)) z.1))
+            (λ d. (sym c.take.ensures.free d, ap (λ (v : View). v.slots.waits) (sym gives.2.1.0) d))
+            (job_taken n (sizes_of b).jobs l.jobs waits r.jobs place inside j near);
+      },
+      subst (IsTallied 0 l.tally) (sym (ap (λ (v : View). v.stakes.counts) gives.2.1.0)) i.5,
+    )
+
+pub returns : goal.returns
+returns g c = let first : map (what_of (slots_of c.self.inside.domain.now.board)) (ripe c.self.inside.token.me.0.slots.waits) ≡ Job c.args.place ∷ c.next.new.self.items
+    = sym c.self.invariant.4.due ∙ next_goes c.self.inside.due c.next.new.self c.next.result (Job c.args.place) c.requires.first.0 c.next.ensures.next
+    (ap (λ (m : LocalState). m.due) c.self.view_is ∙ c.requires.first.1) in
+    let low = place_low c.self.inside.domain.now.board c.args.place c.next.new.self.items c.self.inside.token.me.0.slots.waits first c.self.invariant.0.waiting in
+    let wait = waits_now (slots_of c.self.inside.domain.now.board) c.args.place c.next.new.self.items c.self.inside.token.me.0.slots.waits first in let l = c.self.inside in let b = l.domain.now.board in let r = c.self.invariant.4 in let place : ℕ = c.args.place in
+    let rest = c.next.new.self.items in let token = c.give_place_back.new.token in let old : LocalState = c.self.view_is 0 in
+    let gives = c.give_place_back.ensures in
+    let now : LocalState = record (with_view old token.table_id token.me.0) { due = rest; jobs = places_of c.take.new.self } in
+    subst (λ (m : LocalState). TakesJob place m now) c.self.view_is record {
+      inside = subst (λ (z : Sizes). place < z.jobs) l.domain.now.limited.1 low;
+      first = next_goes l.due c.next.new.self c.next.result (Job place) c.requires.first.0 c.next.ensures.next
+          (ap (λ (m : LocalState). m.due) c.self.view_is ∙ c.requires.first.1);
+      there = place_there l.jobs place ((r.jobs place low).1 wait);
+      member = λ d. record (with_view old (gives.0 d) (gives.2.1.0 d)) {
+        due = rest;
+        jobs = (ap places_of c.take.ensures.free ∙ place_free l.jobs place) d;
+      };
+      once = gives.2.1.1;
+    }

@@ -1,0 +1,107 @@
+//! The search for a free place of a job.
+ghost use Rattle.std.specs.Prelude.{◌≡◌, ◌⊎◌, ◌+◌, ◌^◌, ◌<◌, ◌≤◌, true, false, None, IfOk, MatchOption, MatchResult};
+ghost use Rattle.sdd_word_invariant.specs.Epoch.{HasPlace};
+ghost use Rattle.sdd_atomics.specs.DomainTable.{id_of, slots_of, most_waiting_of};
+ghost use Rattle.sdd_atomics.specs.DomainSeat.{view, epoch, Knows};
+ghost use Rattle.sdd_domain.specs.Claims.{Defers, Misses, Loses};
+
+use sdd_atomics::steps::jobs::{defer, look_at_place};
+use sdd_atomics::steps::slots::FREE;
+use sdd_atomics::{DomainSeat, DomainTable};
+use sdd_core::Refused;
+
+/// One try at a place, which is claimed for a job if it is found free. So many exchanges more may be lost.
+fn attempt(
+    board: &DomainTable,
+    token: &mut DomainSeat,
+    place: u32,
+    left: &mut u64,
+) -> Result<bool, Refused>
+    requires home { token.old.table_id ≡ id_of board.now }
+    requires knows { Knows board.now token.old }
+    requires rests { (view token.old).stakes.moves ≡ None }
+    requires inside { (slots_of board.now ≤ place) × (place < most_waiting_of board.now) }
+    requires place { HasPlace (epoch token.old) }
+    requires left { 0 < left.old }
+    ensures tried { MatchResult result
+        (λ won. (won ≡ true → Defers place token.old token.new) × (won ≡ false → Misses (λ k. k ≡ place) token.old token.new))
+        (λ e. (e ≡ Refused.Contended) × Loses token.old token.new) }
+    ensures left { IfOk result (λ _. 0 < left.new) }
+{
+    if look_at_place(board, token, place) != FREE {
+        return Ok(false);
+    }
+    if defer(board, token, place) == FREE {
+        return Ok(true);
+    }
+    *left -= 1;
+    if *left == 0 {
+        return Err(Refused::Contended);
+    }
+    Ok(false)
+}
+
+/// Tries the places from one up to another one.
+fn walk(
+    board: &DomainTable,
+    token: &mut DomainSeat,
+    from: u32,
+    to: u32,
+    left: &mut u64,
+) -> Result<Option<u32>, Refused>
+    requires home { token.old.table_id ≡ id_of board.now }
+    requires knows { Knows board.now token.old }
+    requires rests { (view token.old).stakes.moves ≡ None }
+    requires inside { (slots_of board.now ≤ from) × (to ≤ most_waiting_of board.now) }
+    requires place { HasPlace (epoch token.old) }
+    requires left { 0 < left.old }
+    ensures tried { MatchResult result
+        (λ found. MatchOption found
+        (Misses (λ k. (from ≤ k) × (k < to)) token.old token.new)
+        (λ place. (from ≤ place) × (place < to) × Defers place token.old token.new))
+        (λ e. (e ≡ Refused.Contended) × Loses token.old token.new) }
+    ensures left { IfOk result (λ _. 0 < left.new) }
+{
+    for place in from..to {
+        if attempt(board, token, place, left)? {
+            return Ok(Some(place));
+        }
+    }
+    Ok(None)
+}
+
+/// Claims a free place for a job, the first one of a walk over all places, once round, which begins at this one. A job's place has the number behind
+/// those of so many slots.
+///
+/// `NoJob` where none was found free; `Contended` where so many exchanges were lost.
+#[inline(never)]
+pub fn claim_place(
+    board: &DomainTable,
+    token: &mut DomainSeat,
+    next: u32,
+    slots: u32,
+    jobs: u32,
+    tries: u64,
+) -> Result<u32, Refused>
+    requires home { token.old.table_id ≡ id_of board.now }
+    requires knows { Knows board.now token.old }
+    requires rests { (view token.old).stakes.moves ≡ None }
+    requires slots { (slots ≡ slots_of board.now) × (slots + jobs ≡ most_waiting_of board.now) }
+    requires small { slots + jobs < 2 ^ 32 }
+    requires next { next ≤ jobs }
+    requires place { HasPlace (epoch token.old) }
+    requires tries { 0 < tries }
+    ensures tried { MatchResult result
+        (λ job. (job < jobs) × Defers (slots + job) token.old token.new)
+        (λ e. ((e ≡ Refused.NoJob) × Misses (λ k. (slots ≤ k) × (k < slots + jobs)) token.old token.new)
+        ⊎ ((e ≡ Refused.Contended) × Loses token.old token.new)) }
+{
+    let mut left = tries;
+    if let Some(place) = walk(board, token, slots + next, slots + jobs, &mut left)? {
+        return Ok(place - slots);
+    }
+    if let Some(place) = walk(board, token, slots, slots + next, &mut left)? {
+        return Ok(place - slots);
+    }
+    Err(Refused::NoJob)
+}

@@ -1,0 +1,54 @@
+//! Jobs in places of the domain's table of jobs: a participant defers one, and takes one out that is to run.
+ghost use Rattle.std.specs.Prelude.{◌≡◌, ◌⊎◌, ℕ, List, ◌∷◌, MatchResult};
+ghost use Rattle.sdd_participants.specs.declared.waiting.LimboEntry.{LimboEntry as Entry};
+ghost use Rattle.sdd_participants.specs.declared.waiting.LimboEntry.TheVariants.{Job as waiting_job};
+ghost use Rattle.sdd_domain.specs.LocalState.{AllPlacesTaken, DefersTo, IsLone, TakesJob};
+
+use crate::job_claims::claim_place;
+use crate::local_core::LocalCore;
+use sdd_atomics::steps::jobs::give_place_back;
+use sdd_core::Refused;
+use sdd_participants::{Job, LimboEntry};
+use sdd_space::Item;
+
+impl<'d, T: Item<T>, J: Job> LocalCore<'d, T, J> {
+    /// Puts a job into a free place of the table of jobs, and tells which. It waits from then on, as an item does that is retired. No memory is taken.
+    ///
+    /// The job comes back where it is refused: `NoJob` where a walk over all places found none free; `Contended` where as many exchanges were lost as
+    /// the limits allow.
+    pub(crate) fn defer_execute(&mut self, job: J) -> Result<u32, (J, Refused)>
+        ensures { MatchResult result
+            (λ place. (count : ℕ) × DefersTo place count self.old self.new)
+            (λ e. (e.0 ≡ job) × (self.new ≡ self.old) × ((e.1 ≡ Refused.NoJob) ⊎ ((e.1 ≡ Refused.Contended) × ¬ (IsLone self.old)))
+            × (IsLone self.old → AllPlacesTaken self.old)) }
+    {
+        let slots = self.domain.limits.slots as u32;
+        let jobs = self.domain.limits.jobs as u32;
+        let tries = self.domain.limits.tries;
+        let board = &self.domain.board;
+        let next = self.jobs.next();
+        match claim_place(board, &mut self.token, next, slots, jobs, tries) {
+            Ok(place) => {
+                self.jobs.put(place, job);
+                self.own.bags.push(LimboEntry::Job(place));
+                self.own.set_has_garbage();
+                Ok(place)
+            }
+            Err(refused) => Err((job, refused)),
+        }
+    }
+
+    /// Takes the job out that is due before all others, in this place, which is given back. The job is to run: it hasn't so far.
+    pub(crate) fn take_job(&mut self, place: u32) -> J
+        requires first { (rest : List Entry) × (self.old.due ≡ waiting_job place ∷ rest) }
+        ensures { TakesJob place self.old self.new }
+    {
+        self.due.next();
+        let Some(job) = self.jobs.take(place) else {
+            unreachable!()
+        };
+        let slots = self.domain.limits.slots as u32;
+        give_place_back(&self.domain.board, &mut self.token, slots + place);
+        job
+    }
+}

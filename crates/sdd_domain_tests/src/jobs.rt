@@ -1,0 +1,334 @@
+//! Jobs that participants of a domain defer: when they run, where no place is free, and what becomes of those that an ended participant left.
+ghost use Rattle.std.specs.Prelude.{◌≡◌};
+ghost use Rattle.sdd_space.specs.CallerId.{IsSeated};
+ghost use Rattle.sdd_space.specs.Owned as owned;
+ghost use Rattle.sdd_domain.specs.Space.{seat_of, slots_home};
+ghost use Rattle.sdd_domain.specs.Domain.{slots_in};
+ghost use Rattle.sdd_domain_tests.specs.Slots.{IsReceiptIn, AreReceiptsIn};
+
+use crate::steps::{ONE_SLOT, new_domain};
+use sdd_core::{Limits, Refused};
+use sdd_domain::{Domain, Local, Receipt};
+use sdd_participants::{Deferred, Job, Tally};
+use sdd_space::{Deferrals, Guard, Guards, Owned};
+use std::alloc::Global;
+use std::process::Abort;
+use std::sync::Arc;
+use std::sync::atomic::{AtomicU64, Ordering};
+use std::thread::{Threads, join};
+
+/// One participant, and one place for a job.
+const ONE_JOB: Limits = Limits {
+    jobs: 1,
+    ..ONE_SLOT
+};
+
+/// Two participants share one place for a job.
+const TWO_AND_ONE_JOB: Limits = Limits {
+    participants: 2,
+    ..ONE_JOB
+};
+
+/// Two participants share four places, and an exchange that is lost is tried again.
+const TWO_AND_FOUR_JOBS: Limits = Limits {
+    participants: 2,
+    jobs: 4,
+    tries: 1000,
+    ..ONE_SLOT
+};
+
+/// A number that jobs add to.
+type Total = Arc<AtomicU64, Global>;
+
+/// Adds to a number that others look at.
+#[derive(Drop)]
+struct Adds {
+    total: Total,
+    amount: u64,
+}
+
+impl Job for Adds {
+    fn run(&mut self) {
+        self.total.fetch_add(self.amount, Ordering::SeqCst);
+    }
+}
+
+fn number(rt: &(impl Abort + AllocGlobal)) -> Total {
+    Arc::new(rt.alloc(), AtomicU64::new(0)).expect(rt, "memory is there")
+}
+
+/// A job that adds this.
+fn job_adding(rt: &(impl Abort + AllocGlobal), total: &Total, amount: u64) -> Deferred {
+    let adds = Adds {
+        total: Arc::try_clone(total).expect(rt, "the count has room"),
+        amount,
+    };
+    let job: Box<dyn Job + Send> = Box::new(rt.alloc(), adds).expect(rt, "memory is there");
+    Deferred::Boxed(job)
+}
+
+/// What jobs added so far.
+fn is_total(rt: &impl Abort, total: &Total, sum: u64) {
+    assert_eq!(rt; total.load(Ordering::SeqCst), sum);
+}
+
+fn registered<'d>(rt: &impl Abort, domain: &'d Domain<u64>) -> Local<'d, u64, Deferred>
+    ensures seated { IsSeated (seat_of result) }
+    ensures home { slots_home result ≡ slots_in domain.now }
+{
+    Local::register_with_jobs(domain).expect(rt, "a place is free")
+}
+
+fn ended(rt: &impl Abort, local: Local<'_, u64, Deferred>) -> Receipt<u64, Deferred>
+    ensures { IsReceiptIn (slots_home local.entry) result }
+{
+    match local.end() {
+        Ok(receipt) => receipt,
+        Err(_local) => panic!(rt; "a guard is open"),
+    }
+}
+
+fn closed(rt: &impl Abort, domain: Domain<u64>, receipts: Vec<Receipt<u64, Deferred>>) -> Tally
+    requires { AreReceiptsIn (slots_in domain) receipts.items }
+{
+    match domain.close(receipts) {
+        Ok(tally) => tally,
+        Err((_domain, _receipts, refused)) => panic!(rt; "refused: {refused:?}"),
+    }
+}
+
+/// The same domain comes back, and receipts of it, since something is out.
+fn not_closed(
+    rt: &impl Abort,
+    domain: Domain<u64>,
+    receipts: Vec<Receipt<u64, Deferred>>,
+) -> (Domain<u64>, Vec<Receipt<u64, Deferred>>)
+    requires { AreReceiptsIn (slots_in domain) receipts.items }
+    ensures { (result.0 ≡ domain) × AreReceiptsIn (slots_in domain) result.1.items }
+{
+    match domain.close(receipts) {
+        Ok(_tally) => panic!(rt; "something is out"),
+        Err((domain, receipts, refused)) => {
+            assert!(rt; refused == Refused::OwnerOut);
+            (domain, receipts)
+        }
+    }
+}
+
+/// Opens, accelerates and closes a guard, under which jobs have added so much.
+fn turn<S: Guards<u64>>(rt: &impl Abort, s: &mut S, total: &Total, sum: u64)
+    requires { IsSeated (S.seat s.old) }
+    ensures { S.seat s.new ≡ S.seat s.old }
+{
+    let guard = Guard::new(s).expect(rt, "a guard may be opened");
+    is_total(rt, total, sum);
+    guard.accelerate(s);
+    guard.close(s);
+}
+
+/// Defers a job under a guard of its own.
+fn deferred<S: Guards<u64> + Deferrals<u64>>(
+    rt: &impl Abort,
+    s: &mut S,
+    job: S::Job,
+) -> Result<(), (S::Job, Refused)>
+    requires { IsSeated (S.seat s.old) }
+    ensures { S.seat s.new ≡ S.seat s.old }
+{
+    let guard = Guard::new(s).expect(rt, "a guard may be opened");
+    let answer = guard.defer_execute(job, s);
+    guard.close(s);
+    answer
+}
+
+/// A place is free for it.
+fn defers<S: Guards<u64> + Deferrals<u64>>(rt: &impl Abort, s: &mut S, job: S::Job)
+    requires { IsSeated (S.seat s.old) }
+    ensures { S.seat s.new ≡ S.seat s.old }
+{
+    assert!(rt; deferred(rt, s, job).is_ok());
+}
+
+/// No place is free for it, and it comes back.
+fn finds_no_place<S: Guards<u64> + Deferrals<u64>>(
+    rt: &impl Abort,
+    s: &mut S,
+    job: S::Job,
+) -> S::Job
+    requires { IsSeated (S.seat s.old) }
+    ensures { S.seat s.new ≡ S.seat s.old }
+{
+    match deferred(rt, s, job) {
+        Ok(()) => panic!(rt; "a place was free"),
+        Err((job, refused)) => {
+            assert!(rt; refused == Refused::NoJob);
+            job
+        }
+    }
+}
+
+/// A free slot takes a value.
+fn made(rt: &impl Abort, local: &mut Local<'_, u64, Deferred>) -> Owned<u64>
+    requires { IsSeated (seat_of local.old) }
+    ensures seat { seat_of local.new ≡ seat_of local.old }
+    ensures home { owned.slots_home result ≡ slots_home local.old }
+{
+    match Owned::new(5, local) {
+        Ok(owner) => owner,
+        Err((_value, refused)) => panic!(rt; "refused: {refused:?}"),
+    }
+}
+
+/// The second job finds no place until the first one ran, at its third change; each runs once.
+#[test]
+fn a_job_runs_at_its_third_change(rt: HostRuntime) {
+    let total = number(&rt);
+    let domain = new_domain::<u64>(&rt, ONE_JOB);
+    let mut local = registered(&rt, &domain);
+    defers(&rt, &mut local, job_adding(&rt, &total, 7));
+    let second = finds_no_place(&rt, &mut local, job_adding(&rt, &total, 100));
+    turn(&rt, &mut local, &total, 0);
+    turn(&rt, &mut local, &total, 0);
+    turn(&rt, &mut local, &total, 0);
+    turn(&rt, &mut local, &total, 7);
+    turn(&rt, &mut local, &total, 7);
+    defers(&rt, &mut local, second);
+    turn(&rt, &mut local, &total, 7);
+    turn(&rt, &mut local, &total, 7);
+    turn(&rt, &mut local, &total, 7);
+    turn(&rt, &mut local, &total, 107);
+    let receipts = vec![in rt.alloc(); ended(&rt, local)].expect(&rt, "there is memory");
+    assert_eq!(&rt; closed(&rt, domain, receipts).reclaimed, 0);
+    is_total(&rt, &total, 107);
+}
+
+#[test]
+fn without_a_table_no_job_is_deferred(rt: HostRuntime) {
+    let total = number(&rt);
+    let domain = new_domain::<u64>(&rt, ONE_SLOT);
+    let mut local = registered(&rt, &domain);
+    let _job = finds_no_place(&rt, &mut local, job_adding(&rt, &total, 7));
+    turn(&rt, &mut local, &total, 0);
+    let receipts = vec![in rt.alloc(); ended(&rt, local)].expect(&rt, "there is memory");
+    closed(&rt, domain, receipts);
+    is_total(&rt, &total, 0);
+}
+
+/// The table is the domain's: where the job of one participant waits the other one finds no place.
+#[test]
+fn two_participants_share_the_table(rt: HostRuntime) {
+    let total = number(&rt);
+    let domain = new_domain::<u64>(&rt, TWO_AND_ONE_JOB);
+    let (mut one, mut other) = (registered(&rt, &domain), registered(&rt, &domain));
+    defers(&rt, &mut one, job_adding(&rt, &total, 7));
+    let second = finds_no_place(&rt, &mut other, job_adding(&rt, &total, 100));
+    turn(&rt, &mut one, &total, 0);
+    turn(&rt, &mut one, &total, 0);
+    turn(&rt, &mut one, &total, 0);
+    turn(&rt, &mut one, &total, 7);
+    defers(&rt, &mut other, second);
+    let third = finds_no_place(&rt, &mut one, job_adding(&rt, &total, 1000));
+    let receipts = vec![in rt.alloc(); ended(&rt, one), ended(&rt, other)].expect(
+        &rt,
+        "there is memory",
+    );
+    is_total(&rt, &total, 7);
+    closed(&rt, domain, receipts);
+    is_total(&rt, &total, 107);
+    drop(third);
+    is_total(&rt, &total, 107);
+}
+
+/// A close without the receipt with which a job waits is refused, and the job hasn't run.
+#[test]
+fn what_an_ended_participant_left_runs_with_its_receipt(rt: HostRuntime) {
+    let total = number(&rt);
+    let domain = new_domain::<u64>(&rt, ONE_JOB);
+    let mut local = registered(&rt, &domain);
+    defers(&rt, &mut local, job_adding(&rt, &total, 7));
+    let receipt = ended(&rt, local);
+    assert!(&rt; receipt.waits());
+    let none = Vec::new(rt.alloc());
+    let (domain, mut receipts) = not_closed(&rt, domain, none);
+    is_total(&rt, &total, 0);
+    receipts.push(receipt).expect(&rt, "there is memory");
+    assert_eq!(&rt; closed(&rt, domain, receipts).reclaimed, 0);
+    is_total(&rt, &total, 7);
+}
+
+/// A refused close has reclaimed what waited: the job ran, and doesn't run again.
+#[test]
+fn a_refused_close_runs_a_job_once(rt: HostRuntime) {
+    let total = number(&rt);
+    let domain = new_domain::<u64>(&rt, TWO_AND_ONE_JOB);
+    let mut local = registered(&rt, &domain);
+    let owner = made(&rt, &mut local);
+    defers(&rt, &mut local, job_adding(&rt, &total, 7));
+    let receipts = vec![in rt.alloc(); ended(&rt, local)].expect(&rt, "there is memory");
+    let (domain, mut receipts) = not_closed(&rt, domain, receipts);
+    is_total(&rt, &total, 7);
+    let mut other = registered(&rt, &domain);
+    owner.retire(&mut other);
+    receipts
+        .push(ended(&rt, other))
+        .expect(&rt, "there is memory");
+    assert_eq!(&rt; closed(&rt, domain, receipts).reclaimed, 1);
+    is_total(&rt, &total, 7);
+}
+
+/// Defers so many jobs, a turn after each; how many found a place.
+fn defers_often(
+    rt: &(impl Abort + AllocGlobal),
+    local: &mut Local<'_, u64, Deferred>,
+    total: &Total,
+    jobs: u64,
+) -> u64
+    requires { IsSeated (seat_of local.old) }
+    ensures { seat_of local.new ≡ seat_of local.old }
+{
+    let mut count = 0u64;
+    for _ in 0..jobs {
+        let guard = Guard::new::<u64, Local<'_, u64, Deferred>>(local).expect(
+            rt,
+            "a guard may be opened",
+        );
+        if guard
+            .defer_execute::<u64, Local<'_, u64, Deferred>>(job_adding(rt, total, 1), local)
+            .is_ok()
+        {
+            count = count.saturating_add(1);
+        }
+        guard.accelerate::<u64, Local<'_, u64, Deferred>>(local);
+        guard.close::<u64, Local<'_, u64, Deferred>>(local);
+    }
+    count
+}
+
+/// What a thread does.
+fn takes_part(
+    rt: &(impl Abort + AllocGlobal),
+    domain: &Domain<u64>,
+    total: &Total,
+) -> (Receipt<u64, Deferred>, u64)
+    ensures { IsReceiptIn (slots_in domain.now) result.0 }
+{
+    let mut local = registered(rt, domain);
+    let count = defers_often(rt, &mut local, total, 500);
+    (ended(rt, local), count)
+}
+
+/// Each job that found a place runs once, in its thread or at the close.
+#[test]
+fn threads_defer_jobs(rt: HostRuntime) {
+    let total = number(&rt);
+    let domain = new_domain::<u64>(&rt, TWO_AND_FOUR_JOBS);
+    let ((one, first), (other, second)) = join(
+        &rt,
+        || takes_part(&rt, &domain, &total),
+        || takes_part(&rt, &domain, &total),
+    );
+    let receipts = vec![in rt.alloc(); one, other].expect(&rt, "there is memory");
+    closed(&rt, domain, receipts);
+    is_total(&rt, &total, first.saturating_add(second));
+    assert!(&rt; first > 0);
+}
