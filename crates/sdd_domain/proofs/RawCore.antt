@@ -27,6 +27,7 @@ out_view slot value v owns told =
 
 module _ (b : DomainTable) (p : ℕ) (own : Participant) (slot : ℕ) (value : Gv) (s t u : Seat ValueFraction View) (q : IsBetweenCalls b p own s)
     (took : Taught (λ v _ w. w ≡ regained v (owner_of slot false value)) s 0 t) (put : Moved (PutsOut slot) t 2 u) where
+  -- where it is, what it knows, and what it has out
   pub put_home : u.table_id ≡ s.table_id
   put_home = put.0 ∙ took.0
 
@@ -36,6 +37,7 @@ module _ (b : DomainTable) (p : ℕ) (own : Participant) (slot : ℕ) (value : G
   pub put_others : u.me.1 ≡ s.me.1
   put_others = put.2.1 ∙ took.2
 
+  -- it is between two calls
   pub posed_out : IsBetweenCalls b p own u
   posed_out = subst (λ (w : View). IsBetweenCalls b p own (record u { me = (w, u.me.1) })) (sym put_view) record {
     home = put_home ∙ q.home;

@@ -24,6 +24,7 @@ use Rattle.sdd_atomics.specs.Owner.{IsCutOff}
 use Rattle.sdd_domain.specs.RawItems.{TakesBack}
 
 module _ (slot : ℕ) (value : Gv) (v : View) (told : v.stakes.owns ≡ []) where
+  -- what the owner's token tells, and what is left with the participant
   departed_view : departing (drawing slot (regaining slot 1 value v)) ≡ owner_of slot false value
   departed_view = λ d. record (owner_token (slot ∷ [])) {
     stakes = record (at_rest 0) { owns = record { slot = slot; shared = false; value = value } ∷ told d };
@@ -35,12 +36,14 @@ module _ (slot : ℕ) (value : Gv) (v : View) (told : v.stakes.owns ≡ []) wher
 module _ (b : DomainTable) (slot found : ℕ) (s r t : Seat ValueFraction View) (l : FractionContent) (knows : Knows b s)
     (quiet : ((slots s).owns ≡ []) × ((slots s).drawn ≡ []) × ((slots s).holds ≡ None) × ((view s).stakes.owns ≡ []))
     (back : Moved (RegainsOne slot 2 1) s found r) (hit : found ≡ 2) (drawn : MovedAlone (λ me. DrawsUnit slot me l) r t) where
+  -- what the slot shows, as the exchange told it
   abbrev pub value : Gv
   value = (back.2.0 hit).0
 
   pub is_value : IsValueCode value
   is_value = (back.2.0 hit).1
 
+  -- the seat after the exchange
   regained : r.me ≡ (regaining slot 1 value s.me.0, s.me.1)
   regained = (back.2.0 hit).2
 
@@ -50,6 +53,7 @@ module _ (b : DomainTable) (slot found : ℕ) (s r t : Seat ValueFraction View) 
       (0, record { slot = slot; shared = false; value = value }, refl, refl, refl))
       ∙ ap (λ (k : ℕ). lot k slot l.round value 1) (ap (λ (m : SeatState). m.0.stakes.book) regained ∙ knows.1)
 
+  -- so it can be an owner's grip
   pub unit_shows : IsValueCode l.shown
   unit_shows = subst IsValueCode (sym (ap (λ (k : FractionContent). k.shown) unit)) is_value
 
@@ -65,6 +69,7 @@ module _ (b : DomainTable) (slot found : ℕ) (s r t : Seat ValueFraction View) 
     shows = ap (λ (k : FractionContent). k.shown) e;
   }
 
+  -- the seat once the unit is drawn, and once the owner has left it
   view_drawn : t.me.0 ≡ drawing slot (regaining slot 1 value s.me.0)
   view_drawn = drawn.2.0 ∙ ap (λ (m : SeatState). drawing slot m.0) regained
 

@@ -51,6 +51,7 @@ module _ {T : Type 0} (v : LocalModel T) (k y : ℕ) where
   changed = record { member = with_word k y v.member; entries = v.entries }
 
   module _ (t : AreTied v.member v.entries) (near : k < v.member.limits.slots) where
+    -- the word is this then, and the others are as they were
     inside_here : k < v.member.sizes.slots
     inside_here = let s = t.slots in omega arith
 
@@ -61,6 +62,7 @@ module _ {T : Type 0} (v : LocalModel T) (k y : ℕ) where
     word_then i ne = word_other v.member.sizes v.member.words t.long k y i ne
 
     module _ (was : IsKeptBy (word_of v.member k)) (now : IsKeptBy y) where
+      -- words, bags and ledger go together still
       pub tied_word : IsTrue (is_plain_word y) → AreTied (with_word k y v.member) v.entries
       tied_word plain = record {
         place = t.place;
@@ -86,6 +88,7 @@ module _ {T : Type 0} (v : LocalModel T) (k y : ℕ) where
       value_of : (x : ℕ) (e : Option (T × Gv)) → x ≢ 0 → value_by x e ≡ value_by 1 e
       value_of x e ne = grind arith
 
+      -- so all values are as they were
       values_same : listing v.member.limits.slots (value_in changed) ≡ listing v.member.limits.slots (value_in v)
       values_same = listing_same v.member.limits.slots (value_in v) (value_in changed) (λ i l. dite (ℕ_discrete i k)
           (λ e. let entry : Option (T × Gv) = slice_index_or v.entries i None in
@@ -93,6 +96,7 @@ module _ {T : Type 0} (v : LocalModel T) (k y : ℕ) where
           ∙ (sym (value_of (word_of v.member k) entry was.2) ∙ ap (λ (x : ℕ). value_by x entry) (sym (ap (word_of v.member) e)))))
           (λ ne. ap (λ (x : ℕ). value_by x (slice_index_or v.entries i None)) (word_then i ne)))
 
+      -- in its world the slot stands otherwise, and nothing else has changed
       pub world_word : (s : Standing) → standing_by y (newest k v.member.filled) ≡ Some s → world_of changed ≡ with_standing (world_of v) k s
       world_word s is = let n : ℕ = v.member.limits.slots in
           let standings : listing n (standing_in changed) ≡ set (listing n (standing_in v)) k (Some s)
@@ -104,6 +108,7 @@ module _ {T : Type 0} (v : LocalModel T) (k y : ℕ) where
       pub value_word : (i : ℕ) (u : T) → value_at (world_of v) i ≡ Some u → value_at (world_of changed) i ≡ Some u
       value_word i u h = ap (λ (l : List (Option T)). slice_index_or l i None) values_same ∙ h
 
+-- so it is where it has an owner, and where it is out as raw
 owned_kept : IsKeptBy 1
 owned_kept = let o = owned_is 0 (omega arith) in (o.1, (sound.lives 1 (let a = o.0 in omega arith)).1, λ e. absurd (omega arith))
 
@@ -113,6 +118,7 @@ raw_kept = let r = raw_is 0 (omega arith) in (r.1, r.2, λ e. absurd (omega arit
 -- ---- it goes out
 module _ {T : Type 0} (v : LocalModel T) (k : ℕ) (tied : WordsMatchValues v.member v.entries)
     (knows : IsLone v.member → (g : Gv) × KnowsOwner v.member k false g) where
+  -- its word was that of an owned one
   was_owned : (lone : IsLone v.member) → word_of v.member k ≡ 1
   was_owned lone = let r = knows lone in owned v (tied lone) k false r.0 r.1
 
@@ -122,6 +128,7 @@ module _ {T : Type 0} (v : LocalModel T) (k : ℕ) (tied : WordsMatchValues v.me
   kept_owned : (lone : IsLone v.member) → IsKeptBy (word_of v.member k)
   kept_owned lone = subst IsKeptBy (sym (was_owned lone)) owned_kept
 
+  -- the invariant, the world, how the slot stood, and what is shown
   pub out_tied : WordsMatchValues (put_out k v.member) v.entries
   out_tied lone = tied_word v k 2 (tied lone) (near_owned lone) (kept_owned lone) raw_kept refl
 
@@ -142,6 +149,7 @@ module _ {T : Type 0} (v : LocalModel T) (k : ℕ) (tied : WordsMatchValues v.me
   out_keeps shown holds i u h = out_keeps_by shown holds (is_lone v.member) (λ exact. lone_is v.member exact) i u h
 
 -- ---- it comes back
+-- no owner stands as raw
 not_raw_owner : (r : Option ShownValue) → owner_standing r ≢ Raw
 not_raw_owner None e = absurd cc
 not_raw_owner (Some r) e = by r.shared e
@@ -160,6 +168,7 @@ module _ {T : Type 0} (v : LocalModel T) (k : ℕ) (tied : WordsMatchValues v.me
       some_injective : {s : Standing} → Some s ≡ Some Raw → s ≡ Raw
       some_injective a = cc
 
+  -- what isn't out doesn't stand as raw
   pub not_out : IsLone v.member → (k < v.member.limits.slots → ¬ (IsOut v.member k)) → standing_at (world_of v) k ≢ Some Raw
   not_out lone never is = dite (dec_lt k v.member.limits.slots)
       (λ near. never near (out_if (word_of v.member k) (newest k v.member.filled) ((tied lone).plain k near)
@@ -167,6 +176,7 @@ module _ {T : Type 0} (v : LocalModel T) (k : ℕ) (tied : WordsMatchValues v.me
       (λ far. absurd (let a : None ≡ Some Raw = sym (listing_past v.member.limits.slots (standing_in v) k None (omega arith)) ∙ is in cc))
 
   module _ (near : k < v.member.limits.slots) (knows : IsLone v.member → (g : Gv) × KnowsRaw v.member k g) where
+    -- how the slot stood, the invariant, the world, and what is shown
     pub raw_stood : IsLone v.member → standing_at (world_of v) k ≡ Some Raw
     raw_stood lone = listing_at v.member.limits.slots (standing_in v) k None near
         ∙ ap (λ (x : ℕ). standing_by x (newest k v.member.filled)) (knows lone).1.out
@@ -193,6 +203,7 @@ module _ {T : Type 0} (v : LocalModel T) (k : ℕ) (tied : WordsMatchValues v.me
 module _ (R : RattleType) (v : LocalModel R.Denot) (k : ℕ) (x : R.Denot) (tied : WordsMatchValues v.member v.entries)
     (codes : (place : ℕ) (y : R.Denot) (g : Gv) → slice_index_or v.entries place None ≡ Some (y, g) → g ≡ showing R y)
     (near : k < v.member.limits.slots) (knows : IsLone v.member → KnowsRaw v.member k (showing R x)) where
+  -- it is the value that was moved in last
   pub raw_value : IsLone v.member → value_at (world_of v) k ≡ Some x
   raw_value lone = let t = tied lone in let r = knows lone in
       let e = shown_entry k false (showing R x) (newest k v.member.filled) (slice_index_or v.entries k None) r.newest
@@ -221,6 +232,7 @@ module _ {T : Type 0} (v : LocalModel T) (m : LocalState) (words : List ℕ) (is
 
 module _ {T : Type 0} (v : LocalModel T) (m : LocalState) (k : ℕ) (is : m ≡ put_out k v.member) (tied : WordsMatchValues v.member v.entries)
     (knows : IsLone v.member → (g : Gv) × KnowsOwner v.member k false g) where
+  -- the invariants, how the slot stood, the world, and what is left alone
   pub puts_tied : WordsMatchValues m v.entries
   puts_tied = subst (λ (y : LocalState). WordsMatchValues y v.entries) (sym is) (out_tied v k tied knows)
 
@@ -258,10 +270,12 @@ TakesOrNot v m slot r = MatchOption r ((m ≡ v.member) × (IsLone v.member → 
     × ((value : Gv) × IsRightTo v.member kinds.Owned value right × (IsLone v.member → KnowsRaw v.member slot value)))
 
 module _ {T : Type 0} (v : LocalModel T) (m : LocalState) (slot : ℕ) (tied : WordsMatchValues v.member v.entries) where
+  -- only words are others
   takes_words : (r : Option Right) → TakesOrNot v m slot r → m ≡ record v.member { words = m.words }
   takes_words None a = a.0 ∙ (λ d. record v.member { words = sym (ap (λ (y : LocalState). y.words) a.0) d })
   takes_words (Some right) a = a.2 ∙ (λ d. record v.member { words = sym (ap (λ (y : LocalState). y.words) a.2) d })
 
+  -- the invariants, what is shown, what is left alone, and the world
   pub takes_tied : (r : Option Right) → TakesOrNot v m slot r → WordsMatchValues m v.entries
   takes_tied None a = subst (λ (y : LocalState). WordsMatchValues y v.entries) (sym a.0) tied
   takes_tied (Some right) a = subst (λ (y : LocalState). WordsMatchValues y v.entries) (sym a.2)
@@ -322,6 +336,7 @@ module _ (R : RattleType) (holds : R.Denot → List OwnerOrCell) (v : LocalModel
   abbrev after : LocalModel R.Denot
   after = record { member = m; entries = v.entries }
 
+  -- only what its guards see is other
   looks_only : (r : Option (Bor R.Denot)) → LooksOrNot R holds v m slot r → m ≡ record v.member { slots = m.slots; shown = m.shown }
   looks_only None a = a.0 ∙ (λ d. record v.member { slots = (sym a.0 d).slots; shown = (sym a.0 d).shown })
   looks_only (Some x) a = only_looks R v m slot false x.now a.1
@@ -329,6 +344,7 @@ module _ (R : RattleType) (holds : R.Denot → List OwnerOrCell) (v : LocalModel
   looks_world : (r : Option (Bor R.Denot)) → LooksOrNot R holds v m slot r → world_of after ≡ world_of v
   looks_world r a = ap (λ (y : LocalState). world_of (record { member = y; entries = v.entries })) (looks_only r a)
 
+  -- the invariant, what is shown, what is left alone, and the world
   pub looks_sound : IsSound holds v → (r : Option (Bor R.Denot)) → LooksOrNot R holds v m slot r → IsSound holds after
   looks_sound whole r a = sound_step holds v m whole (λ w _. w) (λ w _ _ i. i) (ap (λ (y : LocalState). y.due) (looks_only r a))
       (ap home_in (looks_only r a)) (λ _. looks_world r a)

@@ -116,9 +116,11 @@ module _ (sizes : Sizes) (ws : List ℕ) where
   pub raws_other : (slot y : ℕ) → (i : ℕ) → i < sizes.slots → i ≢ slot → IsRaw sizes (set ws (slot_word sizes slot) y) i → IsRaw sizes ws i
   raws_other slot y i near ne is = sym (get_or-set_other ws (slot_word sizes slot) (slot_word sizes i) y 0 (λ e. ne (omega arith))) ∙ is
 
+  -- that slot's isn't
   pub not_raw : (slot y : ℕ) → slot_word sizes slot < length ws → y ≢ raw_word 0 → ¬ (IsRaw sizes (set ws (slot_word sizes slot) y) slot)
   not_raw slot y low ne is = ne (sym (get_or-set_same ws (slot_word sizes slot) y 0 low) ∙ is)
 
+  -- so no other item is
   pub raws_set : (slot y : ℕ) → slot_word sizes slot < length ws → y ≢ raw_word 0 → NoMoreRaw sizes ws (set ws (slot_word sizes slot) y)
   raws_set slot y low ne i near is = dite (ℕ_discrete i slot)
       (λ e. absurd (not_raw slot y low ne (subst (IsRaw sizes (set ws (slot_word sizes slot) y)) e is)))
@@ -128,6 +130,7 @@ module _ (sizes : Sizes) (ws : List ℕ) where
 abbrev pub KeepsBank : View → View → Type 0
 KeepsBank v w = IsBank w → IsBank v × (banked w ≡ banked v)
 
+-- one that isn't the bank's
 pub no_bank : (v w : View) → w.stakes.bank ≡ false → KeepsBank v w
 no_bank v w none is = let e : false ≡ true = sym none ∙ is in absurd cc
 
@@ -137,6 +140,7 @@ pub one_bank : (γ : ℕ) (sizes : Sizes) (ws : List ℕ) (vs : List View) → B
 one_bank γ sizes ws vs p j k v w apart e e' is is' = let two = total_two offices vs j k v w apart e e' in let a = ap one_where is in
     let b = ap one_where is' in let few = p.single in omega arith
 
+-- one that knows the same of stakes
 pub alike_bank : (v w : View) → IsAlike v w → KeepsBank v w
 alike_bank v w same is = (
   ap (λ (s : FractionsView). s.bank) (sym same.0) ∙ is,

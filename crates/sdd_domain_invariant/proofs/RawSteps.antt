@@ -126,6 +126,7 @@ module _ (slots id : ℕ) (me : SeatState) (live : HasPlace me.0.epoch) where
 
     -- an item that is out as raw
     module _ (s : State ValueFraction View) (h : DomainInvariant γ sizes s) (hit : slot_at sizes s.words slot ≡ raw_word 0) where
+      -- it has no owner and doesn't wait, its value is there, and nobody moves that
       dead : alive (slot_at sizes s.words slot) ≡ 0
       dead = ap alive hit ∙ (raw_is 0 (omega arith)).0
 
@@ -138,6 +139,7 @@ module _ (slots id : ℕ) (me : SeatState) (live : HasPlace me.0.epoch) where
       still : (j : ℕ) (u : View) → get_elem? s.views j ≡ some u → ¬ (Moves u slot)
       still j u e = steps.still_free γ sizes s h slot j u e dead quiet
 
+      -- the last fraction
       abbrev last : ValueFraction
       last = (last_home s h still).0
 
@@ -287,6 +289,7 @@ module _ (slots id : ℕ) (me : SeatState) (live : HasPlace me.0.epoch) where
                 (has.0, (has.1.0 (filled s h hit), refl)),
           )
 
+      -- where the word says so, the fraction is taken
       pub sees_raw : May i (λ x. x) (OfSlot (λ slot. SeesRawOne slot (raw_word 0)) i me)
       sees_raw = let told : ℕ → SeatState → Type 0 = OfSlot (λ slot. SeesRawOne slot (raw_word 0)) i me in
           let R : ℕ → SeatState → ℕ → SeatState → Type 0 = λ slot. SeesRawOne slot (raw_word 0) in
