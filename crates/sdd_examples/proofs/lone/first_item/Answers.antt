@@ -1,10 +1,12 @@
-use Rattle.std.proofs.Common.{rules}
+use Rattle.std.proofs.Common.{rules, ap, ◌∙◌}
 use denote.Builtin.{u64}
 use Rattle.sdd_space.specs.Owned.{right_of}
 use Rattle.sdd_space.specs.CallerId.{IsExact}
 use Rattle.sdd_domain.specs.LocalState.{IsLone}
 use Rattle.sdd_domain.specs.Space.{seat_of}
 use Rattle.sdd_domain.specs.Values.{one_value}
+use Rattle.sdd_participants.specs.declared.participant.Participant.{Participant}
+use Rattle.sdd_examples.proofs.Opened.{guards-shut}
 use Rattle.sdd_examples.proofs.Emptiness.{full_is_not_blank}
 use Rattle.sdd_examples.proofs.lone.first_item.Goals as goal
 
@@ -16,3 +18,10 @@ unreachable-requires c = let lone : IsLone c.in_ok-local.local.member = search r
 -- the owner's item has one value
 pub returns : goal.returns
 returns c = one_value u64 (right_of c.in-Ok.owner) c.get_guarded_ref-seen.result.now 7 c.get_guarded_ref-seen.ensures.value c.in-Ok.ensures.shown
+
+-- none of its guards is open
+pub unreachable-requires-in-Err : goal.unreachable-requires-in-Err
+unreachable-requires-in-Err c = let made = c.in-Ok.ensures.undisturbed.own in let seen = c.get_guarded_ref-seen.ensures.undisturbed.own in
+    let none = ap (λ (x : Participant). x.guards) made ∙ ap (λ (x : Participant). x.guards) c.in_ok-local.ensures.registered.own in
+    guards-shut _ _ _ _ none c.in-Ok-new.ensures.own.1
+    (ap (λ (x : Participant). x.guards) c.retire.ensures.own ∙ ap (λ (x : Participant). x.guards) seen) c.close.ensures.own c.in-Err.ensures.0
