@@ -44,15 +44,17 @@ module _ {T : Type 0} (v : LocalModel T) (t : AreTied v.member v.entries) (k : �
   tied_now = record {
     place = t.place;
     slots = t.slots;
+    places = t.places;
     long = t.long;
     wide = length-set v.entries k (Some (x, g)) ∙ t.wide;
     plain = t.plain;
     waits = t.waits;
-    inside = t.inside;
     kept = λ i l filled. dite (ℕ_discrete i k)
         (λ e. subst (λ (j : ℕ). Agrees (newest j now.filled) (slice_index_or later.entries j None)) (sym e) agrees_now)
         (λ ne. subst (λ (z : Option ShownValue × Option (T × Gv)). Agrees z.0 z.1) (λ d. (sym (filled_then i ne) d, sym (entry_then i ne) d))
         (t.kept i l filled));
+    table = t.table;
+    jobs = t.jobs;
     bags = t.bags;
     due = t.due;
     now = t.now;

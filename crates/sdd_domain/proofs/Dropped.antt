@@ -5,6 +5,7 @@ use mathlib.Core.Logic.{dite}
 use native.Mathlib.Decide.{ℕ_discrete}
 use base.Stored.{Gv}
 use denote.RattleType.{RattleType}
+use Rattle.sdd_participants.specs.Slab.{entry_at}
 use Rattle.sdd_participants.specs.Tally.{one_in_place}
 use Rattle.sdd_shared_values.specs.SharedValues.{showing}
 use Rattle.sdd_views.specs.declared.Sizes.{Sizes}
@@ -15,9 +16,9 @@ use Rattle.sdd_domain_invariant.specs.FilledInvariant.{newest}
 use Rattle.sdd_space.specs.OwnerOrCell.{OwnerOrCell}
 use Rattle.sdd_space.specs.World.{World, value_at}
 use Rattle.sdd_space.specs.WorldChanges.{dropped, dropped_out, given_all, vacated}
-use Rattle.sdd_domain.specs.LocalState.{DropsAt, KnowsOwner, LocalState, word_of}
+use Rattle.sdd_domain.specs.LocalState.{DropsAt, KnowsOwner, LocalState, place_number, word_of}
 use Rattle.sdd_domain.specs.Values.{one_showing}
-use Rattle.sdd_domain.specs.WordsAndValues.{AreTied, is_plain_word}
+use Rattle.sdd_domain.specs.WordsAndValues.{AreTied, MatchesPlace, is_plain_word}
 use Rattle.sdd_domain.specs.Local.{LocalModel, listing, standing_by, value_by, standing_in, value_in, world_of}
 use Rattle.sdd_domain.proofs.Listings.{listing_set}
 use Rattle.sdd_domain.proofs.Owning.{entry, has_value, owned}
@@ -75,6 +76,7 @@ module _ (R : RattleType) (v : LocalModel R.Denot) (t : AreTied v.member v.entri
     tied_now = let was = owned v t k shared (showing R x) knows in record {
       place = t.place;
       slots = t.slots;
+      places = t.places;
       long = length-set ws (behind z k) 0 ∙ t.long;
       wide = t.wide;
       plain = λ i l. dite (ℕ_discrete i k) (λ e. subst (λ (w : ℕ). IsTrue (is_plain_word w)) (sym (ap (word_of now) e ∙ same)) refl)
@@ -83,10 +85,12 @@ module _ (R : RattleType) (v : LocalModel R.Denot) (t : AreTied v.member v.entri
           (λ e. let w = t.waits i l in let a = ap waiting (ap (word_of v.member) e ∙ was) in let b = ap waiting (ap (word_of now) e ∙ same) in
           let f = (free_is 0 (omega arith)).1 in let o = (owned_is 0 (omega arith)).1 in omega arith)
           (λ ne. t.waits i l ∙ ap waiting (sym (other i ne)));
-      inside = t.inside;
       kept = λ i l filled. dite (ℕ_discrete i k)
           (λ e. absurd (let f = (free_is 0 (omega arith)).2 in let g = ap full (ap (word_of now) e ∙ same) in omega arith))
           (λ ne. t.kept i l (sym (ap full (other i ne)) ∙ filled));
+      table = t.table;
+      jobs = λ j l. subst (λ (w : ℕ). MatchesPlace w (entry_at v.member.jobs j))
+          (sym (other (place_number v.member j) (λ e. let s = is.inside in absurd (omega arith)))) (t.jobs j l);
       bags = t.bags;
       due = t.due;
       now = t.now;

@@ -25,11 +25,12 @@ use Rattle.sdd_rights.specs.declared.right.Right.{Right}
 use Rattle.sdd_rights.specs.declared.right.StandingKind.TheVariants as kinds
 use Rattle.sdd_rights.specs.Right.{number_of}
 use Rattle.sdd_space.specs.WorldChanges.{with_standing}
-use Rattle.sdd_domain.specs.LocalState.{LocalState, IsLone, KnowsOwner, LooksAt, word_of}
+use Rattle.sdd_domain.specs.LocalState.{LocalState, IsLone, KnowsOwner, LooksAt, place_number, word_of}
 use Rattle.sdd_domain.specs.SeenSlots.{IsOnce}
 use Rattle.sdd_domain.specs.RawItems.{with_word, put_out, taken_back, IsOut, KnowsRaw}
 use Rattle.sdd_domain.specs.Values.{one_showing}
-use Rattle.sdd_domain.specs.WordsAndValues.{AreTied, WordsMatchValues, is_plain_word}
+use Rattle.sdd_participants.specs.Slab.{entry_at}
+use Rattle.sdd_domain.specs.WordsAndValues.{AreTied, MatchesPlace, WordsMatchValues, is_plain_word}
 use Rattle.sdd_domain.specs.Local.{LocalModel, listing, standing_by, value_by, owner_standing, standing_in, value_in, world_of}
 use Rattle.sdd_domain.specs.Space.{ShowsBy, Shows, is_lone, seat_in, seat_of, known_of}
 use Rattle.sdd_domain.specs.SpaceIds.{home_in}
@@ -67,6 +68,7 @@ module _ {T : Type 0} (v : LocalModel T) (k y : ℕ) where
       tied_word plain = record {
         place = t.place;
         slots = t.slots;
+        places = t.places;
         long = length-set v.member.words (behind v.member.sizes k) y ∙ t.long;
         wide = t.wide;
         plain = λ i l. dite (ℕ_discrete i k)
@@ -76,9 +78,11 @@ module _ {T : Type 0} (v : LocalModel T) (k y : ℕ) where
             (λ e. let w = t.waits i l in let a = ap waiting (ap (word_of v.member) e) in let b = was.0 in let c = now.0 in
             let d = ap waiting (ap (word_of (with_word k y v.member)) e ∙ word_now) in omega arith)
             (λ ne. t.waits i l ∙ ap waiting (sym (word_then i ne)));
-        inside = t.inside;
         kept = λ i l filled. dite (ℕ_discrete i k) (λ e. t.kept i l (ap full (ap (word_of v.member) e) ∙ was.1))
             (λ ne. t.kept i l (sym (ap full (word_then i ne)) ∙ filled));
+        table = t.table;
+        jobs = λ j l. subst (λ (w : ℕ). MatchesPlace w (entry_at v.member.jobs j))
+            (sym (word_then (place_number v.member j) (λ e. absurd (omega arith)))) (t.jobs j l);
         bags = t.bags;
         due = t.due;
         now = t.now;

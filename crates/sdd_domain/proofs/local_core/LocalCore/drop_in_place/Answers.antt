@@ -1,4 +1,4 @@
-use Rattle.std.proofs.Common.{◌≡◌, ℕ, ◌<◌, map, refl, sym, ap, ◌∙◌, subst}
+use Rattle.std.proofs.Common.{◌≡◌, ℕ, ◌<◌, List, refl, sym, ap, ◌∙◌, subst}
 use Rattle.std.specs.Prelude.{Bool}
 use base.Stored.{Gv}
 use Rattle.atomic_table.specs.declared.shared.Seat.{Seat}
@@ -11,6 +11,7 @@ use Rattle.sdd_shared_values.specs.declared.value_fraction.ValueFraction.{ValueF
 use Rattle.sdd_space.specs.OwnerOrCell.{AreOf}
 use Rattle.sdd_views.specs.declared.Sizes.{Sizes}
 use Rattle.sdd_views.specs.declared.View.{View}
+use Rattle.sdd_views.specs.declared.WaitingItem.{WaitingItem}
 use Rattle.sdd_atomics.specs.DomainTable.{slots_of}
 use Rattle.sdd_domain.specs.BetweenCalls.{AreLentTo, IsBetweenCalls, IsReady, IsTenureOf}
 use Rattle.sdd_domain.specs.InPlace.{with_dropped}
@@ -184,11 +185,8 @@ invariant_of-self g c =
       i.1,
       i.2,
       subst (AreLentTo l.tenure.round) (sym (others ∙ ap (λ (x : Seat ValueFraction View). x.me.1) same)) i.3,
-      record {
-        due = i.4.due ∙ ap (λ (v : View). map what_of (ripe v.slots.waits)) (sym here);
-        large = i.4.large;
-        slots = c.remember.ensures.slots ∙ i.4.slots;
-      },
+      subst (λ (z : ℕ × List WaitingItem). IsReady b l.own l.due z.0 l.jobs z.1)
+          (λ d. (sym c.remember.ensures.slots d, sym (ap (λ (v : View). v.slots.waits) here) d)) i.4,
       subst (λ (x : Tally). IsTallied 0 x u.me.0.stakes.counts) (sym c.count_in_place.ensures)
           (subst (IsTallied 0 (one_in_place l.tally)) (sym (ap (λ (v : View). v.stakes.counts) here))
           (tallied_in_place l.tally l.token.me.0.stakes.counts i.5)),
@@ -206,7 +204,7 @@ invariant_of-self-in-Err g c =
     let q = subst (λ (x : Seat ValueFraction View). IsBetweenCalls b l.place l.own x) (sym same) c.self.invariant.0 in
     let back = c.in-Err.ensures in let again = unmoved_same t c.hold_alone.new.token back.0 ∙ same in
     subst (λ (x : Seat ValueFraction View). IsBetweenCalls b l.place l.own x × l.nesting ≡ l.domain.now.limits.nesting × IsTenureOf l.own l.tenure
-    × AreLentTo l.tenure.round x.me.1 × IsReady b l.own l.due l.known.slots x.me.0.slots.waits × IsTallied 0 l.tally x.me.0.stakes.counts)
+    × AreLentTo l.tenure.round x.me.1 × IsReady b l.own l.due l.known.slots l.jobs x.me.0.slots.waits × IsTallied 0 l.tally x.me.0.stakes.counts)
     (sym again) c.self.invariant
 
 pub returns-in-Ok-clause-dropped : goal.returns-in-Ok-clause-dropped

@@ -237,7 +237,7 @@ invariant_of-self g c =
       i.1,
       i.2,
       subst (AreLentTo l.tenure.round) (sym (others ∙ ap (λ (x : Seat ValueFraction View). x.me.1) same)) i.3,
-      record { due = i.4.due ∙ ap (λ (v : View). map what_of (ripe v.slots.waits)) (sym here); large = i.4.large; slots = i.4.slots },
+      subst (IsReady b l.own l.due l.known.slots l.jobs) (sym (ap (λ (v : View). v.slots.waits) here)) i.4,
       subst (IsTallied 0 l.tally) (sym (ap (λ (v : View). v.stakes.counts) here)) i.5,
     )
 
@@ -255,7 +255,7 @@ invariant_of-self-in-Err g c =
     let q = subst (λ (x : Seat ValueFraction View). IsBetweenCalls b l.place l.own x) (sym same) c.self.invariant.0 in
     let back = c.in-Err.ensures in let again = unmoved_same t c.hold_alone.new.token back.0 ∙ same in
     subst (λ (x : Seat ValueFraction View). IsBetweenCalls b l.place l.own x × l.nesting ≡ l.domain.now.limits.nesting × IsTenureOf l.own l.tenure
-    × AreLentTo l.tenure.round x.me.1 × IsReady b l.own l.due l.known.slots x.me.0.slots.waits × IsTallied 0 l.tally x.me.0.stakes.counts)
+    × AreLentTo l.tenure.round x.me.1 × IsReady b l.own l.due l.known.slots l.jobs x.me.0.slots.waits × IsTallied 0 l.tally x.me.0.stakes.counts)
     (sym again) c.self.invariant
 
 pub returns-in-Ok-clause-changed : goal.returns-in-Ok-clause-changed

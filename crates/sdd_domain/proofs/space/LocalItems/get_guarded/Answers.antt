@@ -39,4 +39,4 @@ returns-clause-undisturbed g c = let v : LocalModel g.row.T.Denot = (c.self-insi
 pub returns-clause-exact : goal.returns-clause-exact
 returns-clause-exact g c = λ _. let v : LocalModel g.row.T.Denot = (c.self-inside.view_is 0).partner in
     let inner : v ≡ c.self.inside.partner = ap (λ (i : Inside g.row.T.Denot g.row.J.Denot). i.partner) c.self-inside.view_is in
-    same_world g.row.T v c.get_guarded.new.self c.args.right.now c.get_guarded.result.now c.get_guarded.ensures.looks ∙ ap world_of (inner ∙ c.self.view_is)
+    same_world g.row.T v c.get_guarded.new.self (number_of c.args.right.now) (is_shared (kind_of c.args.right.now)) c.get_guarded.result.now c.get_guarded.ensures.looks ∙ ap world_of (inner ∙ c.self.view_is)
