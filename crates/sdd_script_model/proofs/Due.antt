@@ -9,7 +9,7 @@ use Rattle.sdd_participants.specs.declared.tally.Tally.{Tally}
 use Rattle.sdd_space.specs.World.{IsNew}
 use Rattle.sdd_space.specs.WorldInvariant.{KeepsUp, times_with, jobs_with, once_if}
 use Rattle.sdd_space.proofs.Housed.{housed-none}
-use Rattle.sdd_space.proofs.Left.{Whole-called}
+use Rattle.sdd_space.proofs.Waning.{Whole-called}
 use Rattle.sdd_script_text.specs.declared.name.ItemName.{ItemName}
 use Rattle.sdd_script_text.specs.declared.name.JobName.{JobName}
 use Rattle.sdd_script_text.specs.declared.answer.Answer.{Answer}
