@@ -11,7 +11,8 @@ use sdd_script_names::Interpreter;
 use sdd_script_text::{Answer, Call};
 use std::alloc::Global;
 
-/// Runs calls on a new world, one after another, and answers each.
+/// Runs calls on a new world, one after another, and answers each. What an opening names as reclaimed, or as run, is
+/// exactly what is due by the calls before it and their order.
 ///
 /// `BadLimits` where a limit is out of its range. `NoMemory` where memory was refused, for the world, for the answers
 /// or for a call: then nothing is left of the run.
