@@ -3,7 +3,7 @@ use Rattle.std.specs.Prelude.{ℕ, List, codes}
 use Rattle.sdd_bench.specs.declared.threads.Timed.{Timed}
 use Rattle.sdd_bench.specs.declared.threads.Timed.TheVariants.{Guard, Nested as NestedGuard, Accelerate, MakeAndRetire}
 use Rattle.sdd_bench.specs.declared.operation.Guarding.TheVariants.{Outermost, Nested, Accelerated}
-use Rattle.sdd_bench.specs.declared.operation.Task.TheVariants.{Guards, Items, HalfFull, Looks, Reads, Gets}
+use Rattle.sdd_bench.specs.declared.operation.Task.TheVariants.{Guards, Items, HalfFull, Looks, Reads, Gets, Jobs, Raws, Changes}
 use Rattle.sdd_bench.specs.declared.operation.Operation.{Operation}
 use Rattle.sdd_bench.specs.declared.operation.Operation.TheVariants.{World, Local, Beside, Places, Item, Job, Read, Look, Load, Share, Raw, Swap}
 
@@ -19,6 +19,9 @@ name_of (Local HalfFull) = codes "local-half-full"
 name_of (Local Looks) = codes "local-look"
 name_of (Local Reads) = codes "local-read"
 name_of (Local Gets) = codes "local-get"
+name_of (Local Jobs) = codes "local-job"
+name_of (Local Raws) = codes "local-raw"
+name_of (Local Changes) = codes "local-change"
 name_of (Beside (Guards Outermost)) = codes "beside-outermost"
 name_of (Beside (Guards Nested)) = codes "beside-nested"
 name_of (Beside (Guards Accelerated)) = codes "beside-accelerated"
@@ -27,6 +30,9 @@ name_of (Beside HalfFull) = codes "beside-half-full"
 name_of (Beside Looks) = codes "beside-look"
 name_of (Beside Reads) = codes "beside-read"
 name_of (Beside Gets) = codes "beside-get"
+name_of (Beside Jobs) = codes "beside-job"
+name_of (Beside Raws) = codes "beside-raw"
+name_of (Beside Changes) = codes "beside-change"
 name_of Places = codes "domain-places"
 name_of Item = codes "world-item"
 name_of Job = codes "world-job"

@@ -114,6 +114,9 @@ pub fn worked(local: &mut Local<'_, u64>, task: Task, turns: u64) -> Result<u64,
         Task::Looks => return turns::sights(local, false, turns),
         Task::Reads => return turns::sights(local, true, turns),
         Task::Gets => return gets(local, turns),
+        Task::Jobs => turns::jobs(local, turns)?,
+        Task::Raws => return raws(local, turns),
+        Task::Changes => return changes(local, turns),
     }
     Ok(0)
 }
@@ -140,4 +143,46 @@ fn gets(local: &mut Local<'_, u64>, turns: u64) -> Result<u64, Refused>
             Err(refused)
         }
     }
+}
+
+/// Makes an item, which goes raw and comes back that often, and retires it. Answers how often it came back.
+#[inline(always)]
+fn raws(local: &mut Local<'_, u64>, turns: u64) -> Result<u64, Refused>
+    requires { IsSeated (seat_of local.old) }
+    ensures { (seat_of local.new ≡ seat_of local.old) × (local.new.member.own.guards ≡ local.old.member.own.guards) }
+{
+    let mut owner = match Owned::new(1, local) {
+        Ok(owner) => owner,
+        Err((_value, refused)) => return Err(refused),
+    };
+    for turn in 0..turns {
+        let raw = owner.into_raw(local);
+        owner = match Owned::from_raw(raw, local) {
+            Some(owner) => owner,
+            None => return Ok(turn),
+        };
+    }
+    owner.retire(local);
+    Ok(turns)
+}
+
+/// Makes an item, which its owner changes that often, and retires it. Answers its last value.
+#[inline(always)]
+fn changes(local: &mut Local<'_, u64>, turns: u64) -> Result<u64, Refused>
+    requires { IsSeated (seat_of local.old) }
+    ensures { (seat_of local.new ≡ seat_of local.old) × (local.new.member.own.guards ≡ local.old.member.own.guards) }
+{
+    let mut owner = match Owned::new(1, local) {
+        Ok(owner) => owner,
+        Err((_value, refused)) => return Err(refused),
+    };
+    for turn in 0..turns {
+        if let Err((_change, refused)) = owner.get_mut(|value| std::mem::replace(value, turn), local) {
+            owner.retire(local);
+            return Err(refused);
+        }
+    }
+    let last = *owner.get(local);
+    owner.retire(local);
+    Ok(last)
 }

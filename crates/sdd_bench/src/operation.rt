@@ -27,6 +27,12 @@ pub enum Task {
     Reads,
     /// A look by an item's owner, without a guard.
     Gets,
+    /// A job is deferred under a guard, and what is due runs.
+    Jobs,
+    /// An item goes raw and comes back.
+    Raws,
+    /// An owner changes its item, while no guard is open.
+    Changes,
 }
 
 /// What is done in each turn, and where.
@@ -82,6 +88,9 @@ pub fn named(word: &str) -> Option<Operation>
         "local-look" => Some(Operation::Local(Task::Looks)),
         "local-read" => Some(Operation::Local(Task::Reads)),
         "local-get" => Some(Operation::Local(Task::Gets)),
+        "local-job" => Some(Operation::Local(Task::Jobs)),
+        "local-raw" => Some(Operation::Local(Task::Raws)),
+        "local-change" => Some(Operation::Local(Task::Changes)),
         "beside-outermost" => Some(Operation::Beside(Task::Guards(Guarding::Outermost))),
         "beside-nested" => Some(Operation::Beside(Task::Guards(Guarding::Nested))),
         "beside-accelerated" => Some(Operation::Beside(Task::Guards(Guarding::Accelerated))),
@@ -90,6 +99,9 @@ pub fn named(word: &str) -> Option<Operation>
         "beside-look" => Some(Operation::Beside(Task::Looks)),
         "beside-read" => Some(Operation::Beside(Task::Reads)),
         "beside-get" => Some(Operation::Beside(Task::Gets)),
+        "beside-job" => Some(Operation::Beside(Task::Jobs)),
+        "beside-raw" => Some(Operation::Beside(Task::Raws)),
+        "beside-change" => Some(Operation::Beside(Task::Changes)),
         "domain-places" => Some(Operation::Places),
         _ => None,
     }
