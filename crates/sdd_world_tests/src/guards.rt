@@ -9,7 +9,7 @@ ghost use Rattle.sdd_world_tests.specs.Stays.{Stays};
 
 use crate::steps::{closed, joined, new_world};
 use sdd_core::{Limits, Refused};
-use sdd_domain::{Domain, Local};
+use sdd_domain::{Domain, Local, Receipt};
 use sdd_space::{Guard, Guards, Item};
 use sdd_world::{Place, World};
 use std::process::Abort;
@@ -128,7 +128,8 @@ fn the_only_participant_of_a_domain_is_answered_as_a_turn_is(rt: HostRuntime) {
         Ok(receipt) => assert!(rt; !receipt.waits()),
         Err(_local) => panic!(rt; "a guard is open"),
     }
-    match domain.close(Vec::new(rt.alloc())) {
+    let receipts: Vec<Receipt<u64>> = Vec::new(rt.alloc());
+    match domain.close(receipts) {
         Ok(_tally) => {}
         Err((_domain, _receipts, refused)) => panic!(rt; "refused: {refused:?}"),
     }
