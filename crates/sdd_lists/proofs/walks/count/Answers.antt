@@ -35,6 +35,12 @@ loop-step-init g c = record {
       );
 }
 
+pub returns-in_default-clause-exact : goal.returns-in_default-clause-exact
+returns-in_default-clause-exact g c = λ e t es list.
+    let held : CellContents = record { held = first_slot es; tag = t } in
+    let none = c.in_default.ensures.exact e es list.linked held list.begins refl in
+    sym (ap (λ (xs : List (Entry _)). length (content xs)) none)
+
 pub returns-clause-exact : goal.returns-clause-exact
 returns-clause-exact g c = λ e t es list.
     let f = c.loop-step.invariant.found e t es list in
