@@ -9,6 +9,7 @@ use crate::steps::{close, closed, ended, is_tally, new_domain, opened, registere
 use sdd_core::{Limits, Refused};
 use sdd_domain::{Domain, Local, Receipt};
 use sdd_space::Guard;
+use std::alloc::AllocGlobal;
 use std::process::Abort;
 use std::thread::{Threads, join};
 
@@ -214,17 +215,24 @@ fn a_guard_shows_the_next_epoch_where_another_participant_raised_the_count(rt: H
     closed_unused(&rt, domain, Vec::new(rt.alloc()));
 }
 
-/// With ample memory all are there. Under `rt try --test --fail-alloc N` one of them is refused,
-/// and takes no place.
+/// A domain of one place. Where memory is refused once it is made at the second try.
+fn made_at_last<R: Abort + AllocGlobal>(rt: &R) -> Domain<u64> {
+    match Domain::new(rt.alloc(), ONE) {
+        Ok(domain) => domain,
+        Err(refused) => {
+            assert_eq!(rt; refused, Refused::NoMemory);
+            Domain::new(rt.alloc(), ONE).expect(rt, "memory is refused once")
+        }
+    }
+}
+
+/// With ample memory all are there. Under `rt try --test --fail-alloc N` one of them is refused, takes no place, and is
+/// there at the second try.
 #[test]
 fn only_want_of_memory_refuses(rt: HostRuntime) {
-    match Domain::<u64>::new(rt.alloc(), ONE) {
-        Ok(domain) => {
-            let local = registered_at_last(&rt, &domain);
-            assert!(rt; refusal(&rt, &domain) == Refused::NoPlace);
-            ended(&rt, local);
-            closed_unused(&rt, domain, Vec::new(rt.alloc()));
-        }
-        Err(refused) => assert_eq!(rt; refused, Refused::NoMemory),
-    }
+    let domain = made_at_last(&rt);
+    let local = registered_at_last(&rt, &domain);
+    assert!(rt; refusal(&rt, &domain) == Refused::NoPlace);
+    ended(&rt, local);
+    closed_unused(&rt, domain, Vec::new(rt.alloc()));
 }

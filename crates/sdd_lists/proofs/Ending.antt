@@ -85,7 +85,7 @@ module _ {T : Type 0} where
   both-by xs true spent = (refl, spent)
   both-by xs false spent = let never : false ≡ true = spent in absurd (cc)
 
-  both : (x : Entry T) (xs : List (Entry T)) → is_spent (x ∷ xs) ≡ true → (is_deleted x ≡ true) × (is_spent xs ≡ true)
+  pub both : (x : Entry T) (xs : List (Entry T)) → is_spent (x ∷ xs) ≡ true → (is_deleted x ≡ true) × (is_spent xs ≡ true)
   both x xs spent = both-by xs (is_deleted x) spent
 
   pub no-last-value : (es : List (Entry T)) → is_spent es ≡ true → last_value es ≡ None

@@ -12,3 +12,5 @@ pub mod Pouring
 pub mod Asked
 pub mod Ending
 pub mod Leaving
+pub mod Marking
+pub mod Order

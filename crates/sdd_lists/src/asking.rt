@@ -13,10 +13,10 @@ pub(crate) fn asks<T, F: FnMut(&T) -> bool>(mut condition: F, value: &T) -> bool
 /// Asks a condition of a value, or of none, once.
 pub(crate) fn asks_of_any<T, F: FnMut(Option<&T>) -> bool>(
     mut condition: F,
-    value: Option<&T>,
+    shown: Option<&T>,
 ) -> bool
     requires { F.IsAlwaysCallable condition }
-    ensures { F.post condition value.entry result }
+    ensures { F.post condition shown.entry result }
 {
-    condition(value)
+    condition(shown)
 }

@@ -2,8 +2,11 @@
 #![tactic(auto)]
 
 mod asking;
+pub mod laws;
+pub mod link;
 pub mod linked_entry;
 pub mod linked_list;
+mod marks;
 mod moves;
 mod pops;
 mod pushes;
@@ -12,6 +15,7 @@ pub mod stack;
 pub mod unpopped;
 mod walks;
 
+pub use link::Link;
 pub use linked_entry::LinkedEntry;
 pub use linked_list::LinkedList;
 pub use queue::Queue;

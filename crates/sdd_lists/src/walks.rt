@@ -239,20 +239,20 @@ pub(crate) fn is_let_go_of<T: LinkedList, S: Items<T> + Cells<T> + LookThrough<T
         result ≡ lets_go_of watched es }
 {
     let most = reach::<T, S>(s);
-    let Some(mut at) = first_in(cell, guard, s) else {
+    let Some(mut seen) = first_in(cell, guard, s) else {
         return false;
     };
     for _step in 0..most {
-        if is_named(&at.ptr, watched) {
+        if is_named(&seen.ptr, watched) {
             return true;
         }
-        let Tag::Second = at.link.tag(s) else {
+        let Tag::Second = seen.link.tag(s) else {
             return false;
         };
-        let Some(next) = first_in(at.link, guard, s) else {
+        let Some(next) = first_in(seen.link, guard, s) else {
             return false;
         };
-        at = next;
+        seen = next;
     }
     false
 }

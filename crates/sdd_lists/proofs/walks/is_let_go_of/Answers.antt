@@ -60,11 +60,11 @@ returns-in_default-tag-clause-exact g c = λ e t es list.
     let w = g.S.Caller.world c.args.s.now in
     let inv = c.loop-step.invariant.found e t es list in
     let at_loop = c.loop-step.invariant.seat in
-    let cell_is : cell_of c.loop-step.at.link.now ≡ link inv.0.value = c.loop-step.invariant.link ∙ ap link inv.5 in
+    let cell_is : cell_of c.loop-step.seen.link.now ≡ link inv.0.value = c.loop-step.invariant.link ∙ ap link inv.5 in
     let tagged = c.tag.ensures.exact (subst (λ (s : CallerId). IsExact s) (sym at_loop) e) in
     let tags : inv.0.tag ≡ c.tag.result =
     ap tag_in (sym inv.2.0.linked ∙ ap (λ (k : ℕ). entry_at w.cells k) (sym cell_is)
-    ∙ ap (λ (x : World _). entry_at x.cells (cell_of c.loop-step.at.link.now)) (sym (c.loop-step.invariant.world e)) ∙ tagged.1.1)
+    ∙ ap (λ (x : World _). entry_at x.cells (cell_of c.loop-step.seen.link.now)) (sym (c.loop-step.invariant.world e)) ∙ tagged.1.1)
     ∙ sym tagged.1.2 in
     let stays : is_deleted inv.0 ≡ false = ap is_deleting tags ∙ undeleting c.tag.result c.in_default-tag.not-Second in
     sym (goes-not c.args.watched inv.0 inv.1 (sym (c.is_named.ensures inv.0 inv.4) ∙ c.if-is_named.false) stays) ∙ inv.3
@@ -86,21 +86,21 @@ loop-step-preserved g c = record {
       let w = g.S.Caller.world c.args.s.now in
       let inv = c.loop-step.invariant.found e t es list in
       let at_loop = c.loop-step.invariant.seat in
-      let cell_is : cell_of c.loop-step.at.link.now ≡ link inv.0.value = c.loop-step.invariant.link ∙ ap link inv.5 in
+      let cell_is : cell_of c.loop-step.seen.link.now ≡ link inv.0.value = c.loop-step.invariant.link ∙ ap link inv.5 in
       let tagged = c.tag.ensures.exact (subst (λ (s : CallerId). IsExact s) (sym at_loop) e) in
       let same : g.S.Caller.world c.tag.new.s ≡ w = tagged.0 ∙ c.loop-step.invariant.world e in
-      let here : entry_at w.cells (cell_of c.loop-step.at.link.now) ≡ Some (record { held = first_slot inv.1; tag = inv.0.tag }) =
+      let here : entry_at w.cells (cell_of c.loop-step.seen.link.now) ≡ Some (record { held = first_slot inv.1; tag = inv.0.tag }) =
       ap (λ (k : ℕ). entry_at w.cells k) cell_is ∙ inv.2.0.linked in
       let tags : inv.0.tag ≡ c.tag.result =
-      ap tag_in (sym here ∙ ap (λ (x : World _). entry_at x.cells (cell_of c.loop-step.at.link.now)) (sym (c.loop-step.invariant.world e)) ∙ tagged.1.1)
+      ap tag_in (sym here ∙ ap (λ (x : World _). entry_at x.cells (cell_of c.loop-step.seen.link.now)) (sym (c.loop-step.invariant.world e)) ∙ tagged.1.1)
       ∙ sym tagged.1.2 in
       let gone : is_deleted inv.0 ≡ true = ap is_deleting (tags ∙ c.in-Second.is) in
       let on = goes-on c.args.watched inv.0 inv.1 (sym (c.is_named.ensures inv.0 inv.4) ∙ c.if-is_named.false) gone in
       let behind : CellContents = record { held = first_slot inv.1; tag = inv.0.tag } in
       let at_tag : IsExact (g.S.Caller.seat c.tag.new.s) = subst (λ (s : CallerId). IsExact s) (sym (c.tag.ensures.undisturbed.seat ∙ at_loop)) e in
       let linked_now = subst (λ (x : World _). AreLinked link x inv.1) (sym same) inv.2.1 in
-      let there_now : entry_at (g.S.Caller.world c.tag.new.s).cells (cell_of c.loop-step.at.link.now) ≡ Some behind =
-      ap (λ (x : World _). entry_at x.cells (cell_of c.loop-step.at.link.now)) same ∙ here in
+      let there_now : entry_at (g.S.Caller.world c.tag.new.s).cells (cell_of c.loop-step.seen.link.now) ≡ Some behind =
+      ap (λ (x : World _). entry_at x.cells (cell_of c.loop-step.seen.link.now)) same ∙ here in
       let f = c.in-Some-first_in.ensures.exact at_tag inv.1 linked_now behind there_now refl in
       let long = ap length f.2 in (
         f.0,
@@ -119,20 +119,20 @@ returns-in_default-first_in-clause-exact g c = λ e t es list.
     let w = g.S.Caller.world c.args.s.now in
     let inv = c.loop-step.invariant.found e t es list in
     let at_loop = c.loop-step.invariant.seat in
-    let cell_is : cell_of c.loop-step.at.link.now ≡ link inv.0.value = c.loop-step.invariant.link ∙ ap link inv.5 in
+    let cell_is : cell_of c.loop-step.seen.link.now ≡ link inv.0.value = c.loop-step.invariant.link ∙ ap link inv.5 in
     let tagged = c.tag.ensures.exact (subst (λ (s : CallerId). IsExact s) (sym at_loop) e) in
     let same : g.S.Caller.world c.tag.new.s ≡ w = tagged.0 ∙ c.loop-step.invariant.world e in
-    let here : entry_at w.cells (cell_of c.loop-step.at.link.now) ≡ Some (record { held = first_slot inv.1; tag = inv.0.tag }) =
+    let here : entry_at w.cells (cell_of c.loop-step.seen.link.now) ≡ Some (record { held = first_slot inv.1; tag = inv.0.tag }) =
     ap (λ (k : ℕ). entry_at w.cells k) cell_is ∙ inv.2.0.linked in
     let tags : inv.0.tag ≡ c.tag.result =
-    ap tag_in (sym here ∙ ap (λ (x : World _). entry_at x.cells (cell_of c.loop-step.at.link.now)) (sym (c.loop-step.invariant.world e)) ∙ tagged.1.1)
+    ap tag_in (sym here ∙ ap (λ (x : World _). entry_at x.cells (cell_of c.loop-step.seen.link.now)) (sym (c.loop-step.invariant.world e)) ∙ tagged.1.1)
     ∙ sym tagged.1.2 in
     let gone : is_deleted inv.0 ≡ true = ap is_deleting (tags ∙ c.in-Second.is) in
     let on = goes-on c.args.watched inv.0 inv.1 (sym (c.is_named.ensures inv.0 inv.4) ∙ c.if-is_named.false) gone in
     let behind : CellContents = record { held = first_slot inv.1; tag = inv.0.tag } in
     let at_tag : IsExact (g.S.Caller.seat c.tag.new.s) = subst (λ (s : CallerId). IsExact s) (sym (c.tag.ensures.undisturbed.seat ∙ at_loop)) e in
     let linked_now = subst (λ (x : World _). AreLinked link x inv.1) (sym same) inv.2.1 in
-    let there_now : entry_at (g.S.Caller.world c.tag.new.s).cells (cell_of c.loop-step.at.link.now) ≡ Some behind =
-    ap (λ (x : World _). entry_at x.cells (cell_of c.loop-step.at.link.now)) same ∙ here in
+    let there_now : entry_at (g.S.Caller.world c.tag.new.s).cells (cell_of c.loop-step.seen.link.now) ≡ Some behind =
+    ap (λ (x : World _). entry_at x.cells (cell_of c.loop-step.seen.link.now)) same ∙ here in
     let none = c.in_default-first_in.ensures.exact at_tag inv.1 linked_now behind there_now refl in
     sym (ap (lets_go_of c.args.watched) none) ∙ sym on ∙ inv.3

@@ -16,11 +16,11 @@ invariant-loop-step g l = record {
   known : KnowsOn (g.S.Caller.known l.fn.s) (g.S.Caller.known l.s);
   keeps : KeepsShown (g.S.Shows.shows l.fn.s) (g.S.Shows.shows l.s);
   world : IsExact (g.S.Caller.seat l.fn.s) → g.S.Caller.world l.s ≡ g.S.Caller.world l.fn.s;
-  home : cells_home l.at.link.now ≡ (g.S.Caller.seat l.fn.s).home.cells;
-  link : cell_of l.at.link.now ≡ g.T.LinkedList.link l.at.entry.now;
+  home : cells_home l.seen.link.now ≡ (g.S.Caller.seat l.fn.s).home.cells;
+  link : cell_of l.seen.link.now ≡ g.T.LinkedList.link l.seen.entry.now;
   found : IsExact (g.S.Caller.seat l.fn.s) → (t : Tag) (es : List (Entry _)) →
       IsList g.T.LinkedList.link (g.S.Caller.world l.fn.s) (cell_of l.cell) t es →
       (e : Entry _) × (rest : List (Entry _)) × AreLinked g.T.LinkedList.link (g.S.Caller.world l.fn.s) (e ∷ rest) ×
-      (lets_go_of l.watched (e ∷ rest) ≡ lets_go_of l.watched es) × (slot_named l.at.ptr ≡ Some e.slot) × (l.at.entry.now ≡ e.value) ×
+      (lets_go_of l.watched (e ∷ rest) ≡ lets_go_of l.watched es) × (slot_named l.seen.ptr ≡ Some e.slot) × (l.seen.entry.now ≡ e.value) ×
       (length (e ∷ rest) + l._step ≤ l.most);
 }
