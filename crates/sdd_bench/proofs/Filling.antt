@@ -61,9 +61,12 @@ pub filled-on : (w v : World ℕ) (c : ℕ) → v ≡ w → IsFilled w c → IsF
 filled-on w v c e f = subst (λ (u : World ℕ). IsFilled u c) (sym e) f
 
 pub opened-filled : (w v : World ℕ) (p c : ℕ) → v ≡ opened nothing w p → IsFilled w c → IsFilled v c
-opened-filled w v p c e (slot, tag, is) =
-    (slot, tag, ap (λ (u : World ℕ). entry_at u.cells c) e ∙ ap (λ (cells : Entries CellContents). entry_at cells c) (opened-cells nothing (λ n. refl) p w)
-    ∙ is)
+opened-filled w v p c e (slot, tag, is) = (
+  slot,
+  tag,
+  ap (λ (u : World ℕ). entry_at u.cells c) e ∙ ap (λ (cells : Entries CellContents). entry_at cells c) (opened-cells nothing (λ n. refl) p w)
+      ∙ is,
+)
 
 -- a cell that holds something isn't one that is empty
 pub apart : (cells : Entries CellContents) (c d : ℕ) (x : CellContents) → entry_at cells c ≡ Some x → IsEmptyAt cells d → d ≢ c
@@ -90,5 +93,5 @@ filled-out w k c value cell slot empty =
     let n = (out-laws nothing u).nulling c empty in
     let f = (out-laws nothing (nulled u c)).filling c cell (ap is_some (get_or-set_same w.cells c (Some null) None empty.0)) in
     let twice : with_cell (nulled u c) c cell ≡ with_cell u c cell =
-        ap (λ (cells : Entries CellContents). record u { cells = cells }) (set-set w.cells c (Some null) (Some cell)) in
+    ap (λ (cells : Entries CellContents). record u { cells = cells }) (set-set w.cells c (Some null) (Some cell)) in
     omega (arith, m, n, f, ap (λ (v : World ℕ). out v) twice)

@@ -177,7 +177,10 @@ fn changes(local: &mut Local<'_, u64>, turns: u64) -> Result<u64, Refused>
         Err((_value, refused)) => return Err(refused),
     };
     for turn in 0..turns {
-        if let Err((_change, refused)) = owner.get_mut(|value| std::mem::replace(value, turn), local) {
+        if let Err((_change, refused)) = owner.get_mut(
+            |value| std::mem::replace(value, turn),
+            local,
+        ) {
             owner.retire(local);
             return Err(refused);
         }
