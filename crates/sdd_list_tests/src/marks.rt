@@ -1,6 +1,6 @@
 //! Marks and deletions of entries.
 use crate::setting::{AMPLE, Setting, is, opened, released};
-use sdd_lists::{LinkedEntry, Link, Queue};
+use sdd_lists::{Link, LinkedEntry, Queue};
 use std::process::Abort;
 
 type Entry = LinkedEntry<u64>;

@@ -52,12 +52,13 @@ module _ {T : Type 0} (link : T → ℕ) (w : World T) (l : ℕ) (free : IsEmpty
 -- where one cell more would fill all, it was the only one that was free
 pub only-one : {E : Type 0} (t : Entries E) (o : ℕ) (x : E) → IsFull (slice_set t o (Some x)) → (c : ℕ) → IsEmptyAt t c → c ≡ o
 only-one t o x full c empty = elim (same-or-not c o) [
-  inl same ↦ same
+  | inl same ↦ same
   | inr other ↦
-    let long : c < length (slice_set t o (Some x)) = omega (arith, empty.0, length-set t o (Some x)) in
-    let none : entry_at (slice_set t o (Some x)) c ≡ None = get_or-set_other t o c (Some x) None other ∙ empty.1 in
-    let never : false ≡ true = sym (ap is_some none) ∙ full c None long in
-    absurd (cc) ]
+      let long : c < length (slice_set t o (Some x)) = omega (arith, empty.0, length-set t o (Some x)) in
+      let none : entry_at (slice_set t o (Some x)) c ≡ None = get_or-set_other t o c (Some x) None other ∙ empty.1 in
+      let never : false ≡ true = sym (ap is_some none) ∙ full c None long in
+      absurd (cc)
+]
 
 -- a cell that is taken and freed again
 pub freed-again : {T : Type 0} (w : World T) (o : ℕ) → IsEmptyAt w.cells o → without_cell (nulled w o) o ≡ w

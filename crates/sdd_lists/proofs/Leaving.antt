@@ -48,8 +48,9 @@ module _ {T : Type 0} where
       (if b then left xs else x ∷ xs) ≡ e ∷ rest → (left xs ≡ e ∷ rest → (lets_go_of (Some k) xs ≡ true) ⊎ IsAmong k rest) →
       (lets_go_of (Some k) (x ∷ xs) ≡ true) ⊎ IsAmong k rest
   goes-more k x xs e rest there true is same more = elim (more same) [
-    inl goes ↦ inl (rw is (goes-by (is_at (Some k) x) (lets_go_of (Some k) xs) goes))
-    | inr among ↦ inr among ]
+    | inl goes ↦ inl (rw is (goes-by (is_at (Some k) x) (lets_go_of (Some k) xs) goes))
+    | inr among ↦ inr among
+  ]
   goes-more k x xs e rest there false is same more = let tails : xs ≡ rest = cc in inr (subst (IsAmong k) tails there)
 
   -- an entry that was there is let go of, or is there still

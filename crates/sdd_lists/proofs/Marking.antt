@@ -175,8 +175,8 @@ module _ {T : Type 0} (link : T → ℕ) where
         e.value ≡ v → (r : Result Bool Refused) → Retags r →
         IfOk r (λ b. (b ≡ says e.tag) × IsList link new c t (if b then retagged e.slot to es else es))
     list-by-answer c t es list e rest at same (Ok b) is = (
-        told-of w new v e rest to plain says b is.0 (there-of is.0 is.1) is.2 (made-of b is.0 is.3) same es list.linked at,
-        list-of w new v e rest to plain says b is.0 (there-of is.0 is.1) is.2 (made-of b is.0 is.3) same c t es list at,
+      told-of w new v e rest to plain says b is.0 (there-of is.0 is.1) is.2 (made-of b is.0 is.3) same es list.linked at,
+      list-of w new v e rest to plain says b is.0 (there-of is.0 is.1) is.2 (made-of b is.0 is.3) same c t es list at,
     )
     list-by-answer c t es list e rest at same (Err why) is = is
 

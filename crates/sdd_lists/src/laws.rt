@@ -6,12 +6,10 @@ use crate::linked_list::LinkedList;
 /// A law, which does nothing when the program runs: what is pushed onto a queue and not deleted is popped once, in order, by whoever calls in between.
 pub fn first_in_first_out<T: LinkedList>()
     ensures { FirstInFirstOut T.link }
-{
-}
+{}
 
 /// A law, which does nothing when the program runs: what is pushed onto a stack and not deleted is popped once, the last one first, by whoever calls in
 /// between.
 pub fn last_in_first_out<T: LinkedList>()
     ensures { LastInFirstOut T.link }
-{
-}
+{}

@@ -65,7 +65,11 @@ pub(crate) fn delete_link<T: Item<T>, S: Cells<T>>(
         (entry_at (S.world s.old).cells (cell_of link.now) ≡ Some cell) × (changed ≡ may_delete cell.tag) ×
         (S.world s.new ≡ (if changed then with_cell (S.world s.old) (cell_of link.now) (record cell { tag = tag.Second }) else S.world s.old))) }
 {
-    match link.update_tag_if(Tag::Second, |held| matches!(held.tag(), Tag::None | Tag::First), s) {
+    match link.update_tag_if(
+        Tag::Second,
+        |held| matches!(held.tag(), Tag::None | Tag::First),
+        s,
+    ) {
         Ok(changed) => Ok(changed),
         Err(refused) => Err(refused),
     }

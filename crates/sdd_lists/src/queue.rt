@@ -43,7 +43,9 @@ impl<T: Item<LinkedEntry<T>>> Queue<T> {
     /// An empty queue.
     ///
     /// `NoCell` where no two cells are free; `Contended`, in a domain alone, where as many exchanges were lost as its limits allow.
-    pub fn new<S: Items<LinkedEntry<T>> + Cells<LinkedEntry<T>>>(s: &mut S) -> Result<Queue<T>, Refused>
+    pub fn new<S: Items<LinkedEntry<T>> + Cells<LinkedEntry<T>>>(
+        s: &mut S,
+    ) -> Result<Queue<T>, Refused>
         requires seated { IsSeated (S.seat s.old) }
         ensures unmoved { Unmoved S.seat S.known S.shows s.old s.new }
         ensures own { KeepsMoreWaiting (S.own s.old) (S.own s.new) }

@@ -10,9 +10,11 @@ plain = λ same. absurd (cc)
 
 pub returns-clause-exact : goal.returns-clause-exact
 returns-clause-exact g c = λ e.
-    let got = c.delete_link.ensures.exact e in
-    (got.0, exact-by g.T.LinkedList.link (g.S.Caller.world c.args.s.now) (g.S.Caller.world c.delete_link.new.s) (cell_of c.link_ref.result.now) c.args.self.now.entry.now
-    c.link_ref.ensures.link tag.Second plain may_delete c.delete_link.result got.1)
+    let got = c.delete_link.ensures.exact e in (
+      got.0,
+      exact-by g.T.LinkedList.link (g.S.Caller.world c.args.s.now) (g.S.Caller.world c.delete_link.new.s) (cell_of c.link_ref.result.now) c.args.self.now.entry.now
+          c.link_ref.ensures.link tag.Second plain may_delete c.delete_link.result got.1,
+    )
 
 pub returns-clause-list : goal.returns-clause-list
 returns-clause-list g c = λ e cell t es list x rest at is.

@@ -18,26 +18,26 @@ returns-in-Err-clause-refused g c = λ e es second queue. absurd (c.in-Err.ensur
 
 pub returns-then-not-holds-clause-asked : goal.returns-then-not-holds-clause-asked
 returns-then-not-holds-clause-asked g c = λ e es second queue. (
-    c.value_at_front.result,
-    shown-last (λ f. f.entry) (λ f x. cell_of f.link.now ≡ link_of x.value) es c.in-Ok.last c.value_at_front.result c.value_at_front.ensures
-        (c.in-Ok.ensures.exact e es second queue),
-    subst (λ (b : Bool). g.F.FnMut.post c.args.condition (c.value_at_front.result, tt) b) c.if-not-holds.true c.asks_of_any-holds.ensures,
+  c.value_at_front.result,
+  shown-last (λ f. f.entry) (λ f x. cell_of f.link.now ≡ link_of x.value) es c.in-Ok.last c.value_at_front.result c.value_at_front.ensures
+      (c.in-Ok.ensures.exact e es second queue),
+  subst (λ (b : Bool). g.F.FnMut.post c.args.condition (c.value_at_front.result, tt) b) c.if-not-holds.true c.asks_of_any-holds.ensures,
 )
 
 pub returns-in-Ok-push_behind-clause-asked : goal.returns-in-Ok-push_behind-clause-asked
 returns-in-Ok-push_behind-clause-asked g c = λ e es second queue. (
-    c.value_at_front.result,
-    shown-last (λ f. f.entry) (λ f x. cell_of f.link.now ≡ link_of x.value) es c.in-Ok.last c.value_at_front.result c.value_at_front.ensures
-        (c.in-Ok.ensures.exact e es second queue),
-    subst (λ (b : Bool). g.F.FnMut.post c.args.condition (c.value_at_front.result, tt) b) c.if-not-holds.false c.asks_of_any-holds.ensures,
+  c.value_at_front.result,
+  shown-last (λ f. f.entry) (λ f x. cell_of f.link.now ≡ link_of x.value) es c.in-Ok.last c.value_at_front.result c.value_at_front.ensures
+      (c.in-Ok.ensures.exact e es second queue),
+  subst (λ (b : Bool). g.F.FnMut.post c.args.condition (c.value_at_front.result, tt) b) c.if-not-holds.false c.asks_of_any-holds.ensures,
 )
 
 pub returns-in-Err-push_behind-clause-asked : goal.returns-in-Err-push_behind-clause-asked
 returns-in-Err-push_behind-clause-asked g c = λ e es second queue. (
-    c.value_at_front.result,
-    shown-last (λ f. f.entry) (λ f x. cell_of f.link.now ≡ link_of x.value) es c.in-Ok.last c.value_at_front.result c.value_at_front.ensures
-        (c.in-Ok.ensures.exact e es second queue),
-    subst (λ (b : Bool). g.F.FnMut.post c.args.condition (c.value_at_front.result, tt) b) c.if-not-holds.false c.asks_of_any-holds.ensures,
+  c.value_at_front.result,
+  shown-last (λ f. f.entry) (λ f x. cell_of f.link.now ≡ link_of x.value) es c.in-Ok.last c.value_at_front.result c.value_at_front.ensures
+      (c.in-Ok.ensures.exact e es second queue),
+  subst (λ (b : Bool). g.F.FnMut.post c.args.condition (c.value_at_front.result, tt) b) c.if-not-holds.false c.asks_of_any-holds.ensures,
 )
 
 pub returns-in-Ok-push_behind-clause-list : goal.returns-in-Ok-push_behind-clause-list

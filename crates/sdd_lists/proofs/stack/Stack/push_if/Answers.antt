@@ -15,23 +15,23 @@ returns-in-Err-clause-asked g c = λ e es list. absurd (c.in-Err.ensures.exact e
 
 pub returns-then-not-holds-clause-asked : goal.returns-then-not-holds-clause-asked
 returns-then-not-holds-clause-asked g c = λ e es list. (
-    c.in-Ok.shown,
-    c.in-Ok.ensures.exact e no_tag es list,
-    subst (λ (b : Bool). g.F.FnMut.post c.args.condition (c.in-Ok.shown, tt) b) c.if-not-holds.true c.asks_of_any-holds.ensures,
+  c.in-Ok.shown,
+  c.in-Ok.ensures.exact e no_tag es list,
+  subst (λ (b : Bool). g.F.FnMut.post c.args.condition (c.in-Ok.shown, tt) b) c.if-not-holds.true c.asks_of_any-holds.ensures,
 )
 
 pub returns-in-Ok-push-clause-asked : goal.returns-in-Ok-push-clause-asked
 returns-in-Ok-push-clause-asked g c = λ e es list. (
-    c.in-Ok.shown,
-    c.in-Ok.ensures.exact e no_tag es list,
-    subst (λ (b : Bool). g.F.FnMut.post c.args.condition (c.in-Ok.shown, tt) b) c.if-not-holds.false c.asks_of_any-holds.ensures,
+  c.in-Ok.shown,
+  c.in-Ok.ensures.exact e no_tag es list,
+  subst (λ (b : Bool). g.F.FnMut.post c.args.condition (c.in-Ok.shown, tt) b) c.if-not-holds.false c.asks_of_any-holds.ensures,
 )
 
 pub returns-in-Err-push-clause-asked : goal.returns-in-Err-push-clause-asked
 returns-in-Err-push-clause-asked g c = λ e es list. (
-    c.in-Ok.shown,
-    c.in-Ok.ensures.exact e no_tag es list,
-    subst (λ (b : Bool). g.F.FnMut.post c.args.condition (c.in-Ok.shown, tt) b) c.if-not-holds.false c.asks_of_any-holds.ensures,
+  c.in-Ok.shown,
+  c.in-Ok.ensures.exact e no_tag es list,
+  subst (λ (b : Bool). g.F.FnMut.post c.args.condition (c.in-Ok.shown, tt) b) c.if-not-holds.false c.asks_of_any-holds.ensures,
 )
 
 pub returns-in-Ok-push-clause-list : goal.returns-in-Ok-push-clause-list
