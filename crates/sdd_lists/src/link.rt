@@ -19,6 +19,7 @@ use sdd_core::{Refused, Tag};
 use sdd_space::{Caller, Cells, LookThrough, Ptr};
 
 /// An entry in a slot, for as long as a guard is borrowed: its link can be used while the space is borrowed too.
+#[derive(Drop)]
 pub struct Link<'g, T> {
     entry: &'g T,
 }
