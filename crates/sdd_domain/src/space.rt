@@ -179,7 +179,7 @@ impl<T: Item<T>, J: Job> Items<T> for Local<'_, T, J> {
 
     ghost used_up_is_full = { λ _ _. (λ full. full, λ full. full) };
 
-    #[inline]
+    #[inline(always)]
     fn new_item(&mut self, value: T, kind: StandingKind) -> Result<Right, (T, Refused)> {
         let LocalGiver { membership, ledger } = &mut self.partner;
         membership.new_item(value, kind, ledger)

@@ -92,17 +92,25 @@ fn makes_and_drops(rt: &impl Abort, local: &mut Local<'_, Counted>, alive: Arc<(
     }
 }
 
+/// One more value is made and dropped, and nothing of it is left.
+fn nothing_is_left(rt: &impl Abort, local: &mut Local<'_, Counted>, alive: &Arc<(), Global>)
+    requires { IsSeated (seat_of local.old) }
+    ensures { seat_of local.new ≡ seat_of local.old }
+{
+    let counted = Arc::try_clone(alive).expect(rt, "it is counted");
+    makes_and_drops(rt, local, counted);
+    assert_eq!(rt; Arc::strong_count(alive), 1);
+}
+
 /// The value is dropped at once, and its slot is free.
 #[test]
 fn a_value_that_is_dropped_in_its_place_is_dropped_once(rt: HostRuntime) {
     let alive = Arc::new(rt.alloc(), ()).expect(&rt, "there is memory");
     let domain = new_domain::<Counted>(&rt, ONE_SLOT);
     let mut local = registered(&rt, &domain);
-    for _ in 0..3 {
-        let counted = Arc::try_clone(&alive).expect(&rt, "it is counted");
-        makes_and_drops(&rt, &mut local, counted);
-        assert_eq!(rt; Arc::strong_count(&alive), 1);
-    }
+    nothing_is_left(&rt, &mut local, &alive);
+    nothing_is_left(&rt, &mut local, &alive);
+    nothing_is_left(&rt, &mut local, &alive);
     let receipts = vec![in rt.alloc(); ended(&rt, local)].expect(&rt, "there is memory");
     counts(&rt, closed(&rt, domain, receipts), 3, 0, 3);
     assert_eq!(rt; Arc::strong_count(&alive), 1);

@@ -104,7 +104,8 @@ fn not_closed(
     receipts: Vec<Receipt<u64, Deferred>>,
 ) -> (Domain<u64>, Vec<Receipt<u64, Deferred>>)
     requires { AreReceiptsIn (slots_in domain) receipts.items }
-    ensures { (result.0 ≡ domain) × AreReceiptsIn (slots_in domain) result.1.items }
+    ensures home { slots_in result.0 ≡ slots_in domain }
+    ensures receipts { AreReceiptsIn (slots_in result.0) result.1.items }
 {
     match domain.close(receipts) {
         Ok(_tally) => panic!(rt; "something is out"),
@@ -239,6 +240,21 @@ fn two_participants_share_the_table(rt: HostRuntime) {
     is_total(&rt, &total, 107);
 }
 
+/// One receipt more of the domain.
+fn keep(
+    rt: &impl Abort,
+    domain: &Domain<u64>,
+    receipts: &mut Vec<Receipt<u64, Deferred>>,
+    receipt: Receipt<u64, Deferred>,
+)
+    requires all { AreReceiptsIn (slots_in domain.now) receipts.old.items }
+    requires one { IsReceiptIn (slots_in domain.now) receipt }
+    ensures { AreReceiptsIn (slots_in domain.now) receipts.new.items }
+{
+    let _ = domain;
+    receipts.push(receipt).expect(rt, "there is memory");
+}
+
 /// A close without the receipt with which a job waits is refused, and the job hasn't run.
 #[test]
 fn what_an_ended_participant_left_runs_with_its_receipt(rt: HostRuntime) {
@@ -251,7 +267,7 @@ fn what_an_ended_participant_left_runs_with_its_receipt(rt: HostRuntime) {
     let none = Vec::new(rt.alloc());
     let (domain, mut receipts) = not_closed(&rt, domain, none);
     is_total(&rt, &total, 0);
-    receipts.push(receipt).expect(&rt, "there is memory");
+    keep(&rt, &domain, &mut receipts, receipt);
     assert_eq!(&rt; closed(&rt, domain, receipts).reclaimed, 0);
     is_total(&rt, &total, 7);
 }
@@ -269,9 +285,8 @@ fn a_refused_close_runs_a_job_once(rt: HostRuntime) {
     is_total(&rt, &total, 7);
     let mut other = registered(&rt, &domain);
     owner.retire(&mut other);
-    receipts
-        .push(ended(&rt, other))
-        .expect(&rt, "there is memory");
+    let theirs = ended(&rt, other);
+    keep(&rt, &domain, &mut receipts, theirs);
     assert_eq!(&rt; closed(&rt, domain, receipts).reclaimed, 1);
     is_total(&rt, &total, 7);
 }

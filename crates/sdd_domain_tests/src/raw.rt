@@ -110,16 +110,28 @@ fn is_null_refused(rt: &impl Abort, local: &mut Local<'_, u64>)
     }
 }
 
+/// It goes out and comes back, a thousand times.
+fn comes_back_often(rt: &impl Abort, owner: Owned<u64>, local: &mut Local<'_, u64>) -> Owned<u64>
+    requires seated { IsSeated (seat_of local.old) }
+    requires home { owned.slots_home owner ≡ slots_home local.old }
+    ensures seat { seat_of local.new ≡ seat_of local.old }
+    ensures home { owned.slots_home result ≡ slots_home local.old }
+{
+    let mut owner = owner;
+    for _turn in 0..1000 {
+        let ptr = put_out(owner, local);
+        owner = taken_back(rt, ptr, local);
+    }
+    owner
+}
+
 /// It goes out and comes back so often that no count or bound is met.
 #[test]
 fn an_item_goes_out_and_comes_back_again_and_again(rt: HostRuntime) {
     let domain = new_domain::<u64>(&rt, ONE_SLOT);
     let mut local = registered(&rt, &domain);
-    let mut owner = made(&rt, &mut local, 7);
-    for _ in 0..1000 {
-        let ptr = put_out(owner, &mut local);
-        owner = taken_back(&rt, ptr, &mut local);
-    }
+    let owner = made(&rt, &mut local, 7);
+    let owner = comes_back_often(&rt, owner, &mut local);
     assert_eq!(rt; *owner.get(&domain), 7);
     retire(owner, &mut local);
     let receipts = vec![in rt.alloc(); ended(&rt, local)].expect(&rt, "there is memory");

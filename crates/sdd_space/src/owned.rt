@@ -137,7 +137,7 @@ impl<T: Item<T>> Owned<T> {
     /// Puts a value into a free slot.
     ///
     /// `NoSlot` where none is free; `Contended`, in a domain alone, where as many exchanges were lost as its limits allow. The value comes back.
-    #[inline]
+    #[inline(always)]
     pub fn new<S: Items<T>>(value: T, s: &mut S) -> Result<Owned<T>, (T, Refused)>
         requires seated { IsSeated (S.seat s.old) }
         requires home { AreOf (S.seat s.old).home (T.holds value) }
