@@ -22,7 +22,7 @@ use Rattle.sdd_word_invariant.specs.Codes.{free_word, owned_word, waiting_word}
 use Rattle.sdd_word_invariant.specs.Epoch.{HasPlace, IsClosed, IsOpen, Scans}
 use Rattle.sdd_views.specs.Views.{nobody, owner_of}
 use Rattle.sdd_word_invariant.specs.EpochSteps.{Keeps, passed_by, knowing, scanning, IsNext, Registers, Reads, Counts, Publishes, Ends, Locks, LooksAtLock, LooksAtState, LooksAtCount, Advances, Unlocks}
-use Rattle.sdd_word_invariant.specs.Slots.{OwnsAlone, Holds}
+use Rattle.sdd_word_invariant.specs.Slots.{Owns, Holds}
 use Rattle.sdd_word_invariant.specs.SlotSteps.{blank, changed, OnEpoch, PublishesAll, IsDue, LooksAtSlot, TakesHold, LetsGo, LooksForGuard, AtSlot}
 use Rattle.sdd_word_invariant.specs.Barred.{IsNobodys, Bars, LooksForValue}
 use Rattle.sdd_word_invariant.proofs.Epoch as epochs
@@ -263,7 +263,7 @@ module _ (γ : ℕ) (sizes : Sizes) (slots id : ℕ) (me : SeatState) where
       abbrev n : ℕ
       n = sizes.participants
 
-      pub may_house : Moves me.0 slot → OwnsAlone me.0 slot → (shared : Bool) (value : Gv) (rest : CarriedFractions)
+      pub may_house : Moves me.0 slot → Owns me.0 slot → (shared : Bool) (value : Gv) (rest : CarriedFractions)
           → CarriesAll γ slot n (spare n) (IsValue value) rest me.1 → (l : FractionContent) → l ≡ lot γ slot l.round l.shown (spare n - 1)
           → Deals Comes (λ k. k ≡ l) (λ _. HousesMoved shared me)
       may_house moves mine shared value rest row l is = deal_known Comes (λ k. k ≡ l) (λ _. HousesMoved shared me) (λ s b h long at there ours ne.
@@ -284,7 +284,7 @@ module _ (γ : ℕ) (sizes : Sizes) (slots id : ℕ) (me : SeatState) where
                 (λ d. (one_slot_moved me.0 slot other moves m d, sym (last_shown γ slot n (spare n) value rest me.1 row) d)) a.then;
           })
 
-      pub may_enter_unit : OwnsAlone me.0 slot → (others : List ℕ) → me.0.slots.drawn ≡ slot ∷ others → (l : FractionContent) → l ≡ lot γ slot l.round l.shown 1
+      pub may_enter_unit : Owns me.0 slot → (others : List ℕ) → me.0.slots.drawn ≡ slot ∷ others → (l : FractionContent) → l ≡ lot γ slot l.round l.shown 1
           → Deals Comes (λ k. k ≡ l) (λ _. EntersUnit me)
       may_enter_unit mine others drawn l is = deal_known Comes (λ k. k ≡ l) (λ _. EntersUnit me)
           (steps.enters_unit slots id me live slot known_slot bd mine others drawn l
@@ -369,7 +369,7 @@ module _ (γ : ℕ) (sizes : Sizes) (slots id : ℕ) (me : SeatState) where
       may_give_back moves due rest row = at_slot (λ _. free_word 0) (λ j _. OfSlot GivesAll j me (free_word 0))
           (steps.gives_all slots id me live slot within moves due rest (row_known IsNoValueCode rest row))
 
-      pub may_hold : OwnsAlone me.0 slot → me.0.slots.holds ≡ None → May i (λ x. x) (Told (AtSlot TakesHold i) me)
+      pub may_hold : Owns me.0 slot → me.0.slots.holds ≡ None → May i (λ x. x) (Told (AtSlot TakesHold i) me)
       may_hold mine free = at_slot (λ x. x) (λ j. Told (AtSlot TakesHold j) me) (steps.takes_hold slots id me live slot within mine free)
 
       pub may_let_go : Holds me.0 slot → May i (λ x. x) (Told (AtSlot LetsGo i) me)

@@ -24,7 +24,7 @@ use Rattle.sdd_word_invariant.specs.Codes.{codes, alive, waiting, full, free_wor
 use Rattle.sdd_word_invariant.specs.Epoch.{HasPlace, IsOpen, Scans, IsLone}
 use Rattle.sdd_word_invariant.specs.EpochSteps.{Steps}
 use Rattle.sdd_word_invariant.specs.Sums.{total, times, is as is_at}
-use Rattle.sdd_word_invariant.specs.Slots.{slot_at, owners_at, items_at, OwnsAlone, Sees, Holds}
+use Rattle.sdd_word_invariant.specs.Slots.{slot_at, owners_at, items_at, Owns, Sees, Holds}
 use Rattle.sdd_word_invariant.specs.SlotSteps.{others as tail, without, retired, given_back, discarded, seeing, AtSlot, Claims, Retires, GivesBack, LooksAtSlot, TakesHold, LetsGo, Discards, LooksForGuard, ClosesAll, IsDue}
 use Rattle.sdd_word_invariant.specs.WordInvariant.{epoch_of}
 use Rattle.sdd_word_invariant.specs.Barred.{IsNobodys, IsBarred, AreBarred, AreQuiet, past, past_quiet, Bars, LooksForValue}
@@ -83,7 +83,7 @@ module _ (γ : ℕ) (sizes : Sizes) (s : State ValueFraction View) (h : DomainIn
   pub still_free : (j : ℕ) (u : View) → get_elem? s.views j ≡ some u → alive (slot_at sizes s.words i) ≡ 0
       → waiting (slot_at sizes s.words i) ≡ 0 → ¬ (Moves u i)
   still_free j u e dead quiet m = ⊎_elim
-      (λ (o : OwnsAlone u i). let g = ((h.kept.parts.slots.each j u e).alone i o).0 in absurd (omega arith))
+      (λ (o : Owns u i). let g = ((h.kept.parts.slots.each j u e).alone i o).0 in absurd (omega arith))
       (λ (o : 0 < items_at i u). let t = total_has (items_at i) s.views j u e in let w = h.kept.parts.slots.waited i in absurd (omega arith))
       (h.homes.moving j u e i m).1
 
@@ -91,7 +91,7 @@ module _ (γ : ℕ) (sizes : Sizes) (s : State ValueFraction View) (h : DomainIn
   still_owned : (id j : ℕ) (v u : View) → get_elem? s.views id ≡ some v → get_elem? s.views j ≡ some u → id ≢ j → 0 < owners_at i v → ¬ (Moves u i)
   still_owned id j v u at e ne own m = let mine = owner_in codes sound sizes s.words s.views h.kept.parts.slots id i v at in
       let l = (sound.lives (slot_at sizes s.words i) (omega arith)).0 in ⊎_elim
-      (λ (o : OwnsAlone u i). let g = ((h.kept.parts.slots.each j u e).alone i o).0 in
+      (λ (o : Owns u i). let g = ((h.kept.parts.slots.each j u e).alone i o).0 in
       let both = owners_in codes sound sizes s.words s.views h.kept.parts.slots id j i v u ne at e in absurd (omega arith))
       (λ (o : 0 < items_at i u). let t = total_has (items_at i) s.views j u e in let w = h.kept.parts.slots.waited i in absurd (omega arith))
       (h.homes.moving j u e i m).1
@@ -99,7 +99,7 @@ module _ (γ : ℕ) (sizes : Sizes) (s : State ValueFraction View) (h : DomainIn
   still_waiting : (id j : ℕ) (v u : View) → get_elem? s.views id ≡ some v → get_elem? s.views j ≡ some u → id ≢ j → 0 < items_at i v → ¬ (Moves u i)
   still_waiting id j v u at e ne waits m = let t = total_has (items_at i) s.views id v at in let w = h.kept.parts.slots.waited i in
       let one = (sound.waits (slot_at sizes s.words i) (omega arith)).0 in ⊎_elim
-      (λ (o : OwnsAlone u i). let g = ((h.kept.parts.slots.each j u e).alone i o).0 in let l = (sound.lives (slot_at sizes s.words i) (omega arith)).0 in
+      (λ (o : Owns u i). let g = ((h.kept.parts.slots.each j u e).alone i o).0 in let l = (sound.lives (slot_at sizes s.words i) (omega arith)).0 in
       absurd (omega arith))
       (λ (o : 0 < items_at i u). let both = total_two (items_at i) s.views id j v u ne at e in absurd (omega arith))
       (h.homes.moving j u e i m).1
@@ -274,7 +274,7 @@ module _ (slots id : ℕ) (me : SeatState) (live : HasPlace me.0.epoch) where
       MayDeal Goes = AllowsDeal (DomainInvariant γ sizes) Goes IsBank banked slots id me bd
 
       -- a value was moved in, and what its owner doesn't keep of it goes to the bank
-      pub houses : Moves v slot → OwnsAlone v slot → (shared : Bool) (value : Gv) (rest : CarriedFractions)
+      pub houses : Moves v slot → Owns v slot → (shared : Bool) (value : Gv) (rest : CarriedFractions)
           → CarriesAll γ slot n (spare n) (IsValue value) rest me.1 → (l : FractionContent) → l ≡ lot γ slot l.round l.shown (spare n - 1)
           → MayDeal Comes (λ k. k ≡ l) (λ _. FillsSlot slot shared value me)
       houses mine own shared value rest row l is s b h _ at there bank ne = let w : View = resting (telling slot shared value (drawing slot v)) in
@@ -347,7 +347,7 @@ module _ (slots id : ℕ) (me : SeatState) (live : HasPlace me.0.epoch) where
       moves_out : (s : State ValueFraction View) (b : View) (h : DomainInvariant γ sizes s) → get_elem? s.views id ≡ some v → get_elem? s.views bd ≡ some b → IsBank b
           → ¬ (id ≡ bd) → v.stakes.moves ≡ None → full_at sizes s.words slot ≡ 1 → total (drawn_at slot) s.views ≡ 0 → (Is : Gv → Type 0)
           → ((p : ℕ) (y : ValueFraction) → p ≤ n → LiesAt n s.homes slot p y → MatchesSlotWord (full_at sizes s.words slot) y.lot.shown → Is y.lot.shown)
-          → OwnsAlone v slot ⊎ (0 < items_at slot v)
+          → Owns v slot ⊎ (0 < items_at slot v)
           → ((j : ℕ) (u : View) → get_elem? s.views j ≡ some u → ¬ (Sees u slot))
           → ((j : ℕ) (u : View) → get_elem? s.views j ≡ some u → id ≢ j → ¬ (Moves u slot))
           → (t : FractionsView) → t.counts ≡ v.stakes.counts → t.moves ≡ Some slot → t.bank ≡ v.stakes.bank → t.founds ≡ v.stakes.founds
@@ -386,7 +386,7 @@ module _ (slots id : ℕ) (me : SeatState) (live : HasPlace me.0.epoch) where
                 (part.takes γ sizes s.words s.views s.homes h.homes id v at slot (spare n) Is me.1 tk s.words w is
                 (λ j p _. still_seen w rests refl refl j p) (λ j _ _. refl)
                 (λ j m. let e : slot ≡ j = sym (one_moved w slot j is m) in
-                (live, subst (λ (k : ℕ). OwnsAlone v k ⊎ (0 < items_at k v)) e may)))
+                (live, subst (λ (k : ℕ). Owns v k ⊎ (0 < items_at k v)) e may)))
                 (records.comes_to_move sizes s.views s.homes h.records id v at slot w (homes_after s.homes me.1 tk.act) tells
                 (λ j g k. records.mine sizes s.views s.homes h.records id v at j g (known j g k))
                 (λ j p y _ near l. (taken_lies γ n slot (spare n) Is s.homes me.1 tk j p y near l).1) refl (λ j m. one_moved w slot j is m) unseen)
@@ -408,7 +408,7 @@ module _ (slots id : ℕ) (me : SeatState) (live : HasPlace me.0.epoch) where
           }
 
       -- an owner's unit goes to the bank
-      pub enters_unit : OwnsAlone v slot → (others : List ℕ) → v.slots.drawn ≡ slot ∷ others → (l : FractionContent) → l ≡ lot γ slot l.round l.shown 1
+      pub enters_unit : Owns v slot → (others : List ℕ) → v.slots.drawn ≡ slot ∷ others → (l : FractionContent) → l ≡ lot γ slot l.round l.shown 1
           → MayDeal Comes (λ k. k ≡ l) (λ _. EntersUnit me)
       enters_unit own more drawn l is s b h _ at there bank ne = let w : View = undrawing v in
           let number = ap (λ (k : FractionContent). k.number) is in let units = ap (λ (k : FractionContent). k.units) is in
@@ -634,7 +634,7 @@ module _ (slots id : ℕ) (me : SeatState) (live : HasPlace me.0.epoch) where
         })
 
     -- a guard comes to see it beside its owner, who knows what it shows
-    pub watches : IsOpen v.epoch → v.epoch.place < n → v.stakes.moves ≡ None → (jd : ℕ) (u : View) (shared : Bool) (value : Gv) → OwnsAlone u slot
+    pub watches : IsOpen v.epoch → v.epoch.place < n → v.stakes.moves ≡ None → (jd : ℕ) (u : View) (shared : Bool) (value : Gv) → Owns u slot
         → ¬ (Holds u slot) → get_elem? u.stakes.owns 0 ≡ some (record { slot = slot; shared = shared; value = value })
         → AllowsBeside (DomainInvariant γ sizes) slots id me jd u (SeesOwned slot shared value me)
     watches is_open near rests jd u shared value own free first s h _ at there = let p = h.kept.parts in let r = h.records in
@@ -706,7 +706,7 @@ module _ (slots id : ℕ) (me : SeatState) (live : HasPlace me.0.epoch) where
         ))
 
     -- hold a slot, and let go of it
-    pub takes_hold : OwnsAlone v slot → v.slots.holds ≡ None → May i (λ x. x) (λ r me'. (me'.1 ≡ me.1) × AtSlot TakesHold i v r me'.0)
+    pub takes_hold : Owns v slot → v.slots.holds ≡ None → May i (λ x. x) (λ r me'. (me'.1 ≡ me.1) × AtSlot TakesHold i v r me'.0)
     takes_hold own free = lift_calm γ sizes slots id me i (λ x. x) (AtSlot TakesHold i v) (λ r me'. (me'.1 ≡ me.1) × AtSlot TakesHold i v r me'.0)
         (spares (λ x. x) (AtSlot TakesHold i v) (λ r w t. ap (λ (u : View). u.places) (t slot refl).0))
         (steps.takes_hold id v live slot inside own free) (λ r w t. (refl, t))
@@ -737,7 +737,7 @@ module _ (slots id : ℕ) (me : SeatState) (live : HasPlace me.0.epoch) where
         })
 
   -- beside a slot's owner it learns what it knows of the slot, and nothing changes
-  pub recalls : (jd : ℕ) (u : View) (slot : ℕ) (shared : Bool) (value : Gv) → OwnsAlone u slot
+  pub recalls : (jd : ℕ) (u : View) (slot : ℕ) (shared : Bool) (value : Gv) → Owns u slot
       → get_elem? u.stakes.owns 0 ≡ some (record { slot = slot; shared = shared; value = value })
       → AllowsBeside (DomainInvariant γ sizes) slots id me jd u (LearnsOwned slot shared value me)
   recalls jd u slot shared value own first s h _ at there = (

@@ -18,7 +18,7 @@ use Rattle.sdd_views.specs.declared.Sizes.{Sizes}
 use Rattle.sdd_word_invariant.specs.Words.{first_slot, all_words}
 use Rattle.sdd_word_invariant.specs.Codes.{alive, waiting, full}
 use Rattle.sdd_word_invariant.specs.Sums.{is, times}
-use Rattle.sdd_word_invariant.specs.Slots.{slot_at, OwnsAlone}
+use Rattle.sdd_word_invariant.specs.Slots.{slot_at, Owns}
 use Rattle.sdd_word_invariant.specs.SlotSteps.{first, others}
 use Rattle.sdd_word_invariant.specs.Epoch.{HasPlace}
 use Rattle.sdd_views.specs.Views.{owner_token, owner_of}
@@ -133,7 +133,7 @@ module _ (γ : ℕ) (sizes : Sizes) where
       let came = records.arrives sizes s.views s.homes r t
       record {
         owns = λ i g k. let o = (told.owns i g k).0 in (
-          let e = ap (times i) owns in let e' = ap (λ (l : List ℕ). times i (first l)) owns in let l : OwnsAlone t i = omega arith in l,
+          let e = ap (times i) owns in let e' = ap (λ (l : List ℕ). times i (first l)) owns in let l : Owns t i = omega arith in l,
           none_moved t i refl,
         );
         owned = λ i o still. told.owned i
@@ -193,8 +193,8 @@ module _ (γ : ℕ) (sizes : Sizes) where
       let came = records.no_more sizes s.views s.homes r id v at w s.homes
       record {
         owns = λ i g k. ⊎_elim
-            (λ (e : (slot ≡ i) × (value ≡ g)). (let o = is_same i slot e.0 in let l : OwnsAlone w i = omega arith in l, none_moved w i rests))
-            (λ (a : IsIn v.stakes.owns i g). let o = (told.owns i g a).0 in (let l : OwnsAlone w i = omega arith in l, none_moved w i rests))
+            (λ (e : (slot ≡ i) × (value ≡ g)). (let o = is_same i slot e.0 in let l : Owns w i = omega arith in l, none_moved w i rests))
+            (λ (a : IsIn v.stakes.owns i g). let o = (told.owns i g a).0 in (let l : Owns w i = omega arith in l, none_moved w i rests))
             (in_either now v.stakes.owns i g k);
         owned = λ i o still. dite (ℕ_discrete slot i) (λ e. (value, in_head now v.stakes.owns i value e refl))
             (λ ne. let b = told.owned i (let q = is_other i slot ne in omega arith) (none_moved v i rests) in

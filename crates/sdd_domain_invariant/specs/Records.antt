@@ -6,7 +6,7 @@ use base.Stored.{Gv}
 use Rattle.sdd_views.specs.declared.ShownValue.{ShownValue}
 use Rattle.sdd_views.specs.declared.View.{View}
 use Rattle.sdd_views.specs.declared.Sizes.{Sizes}
-use Rattle.sdd_word_invariant.specs.Slots.{items_at, OwnsAlone, Sees}
+use Rattle.sdd_word_invariant.specs.Slots.{items_at, Owns, Sees}
 use Rattle.sdd_shared_values.specs.declared.value_fraction.ValueFraction.{ValueFraction}
 use Rattle.sdd_domain_invariant.specs.FractionsAtHome.{FractionsAtHome, LiesAt, Moves}
 
@@ -27,8 +27,8 @@ IsKnown vs i g = (j : ℕ) × (v : View) × (get_elem? vs j ≡ some v) × Knows
 -- it has a record of each slot whose only owner it has, and of each whose item waits with it, but of one whose value it moves; and one for each time
 -- that it sees a slot; and no others
 pub record IsTelling (v : View) : Type 0 where
-  pub owns : (i : ℕ) (g : Gv) → IsIn v.stakes.owns i g → OwnsAlone v i × ¬ (Moves v i)
-  pub owned : (i : ℕ) → OwnsAlone v i → ¬ (Moves v i) → (g : Gv) × IsIn v.stakes.owns i g
+  pub owns : (i : ℕ) (g : Gv) → IsIn v.stakes.owns i g → Owns v i × ¬ (Moves v i)
+  pub owned : (i : ℕ) → Owns v i → ¬ (Moves v i) → (g : Gv) × IsIn v.stakes.owns i g
   pub sees : map slot_shown v.stakes.sees ≡ v.slots.sees
   pub waits : (i : ℕ) (g : Gv) → IsIn v.stakes.waits i g → (0 < items_at i v) × ¬ (Moves v i)
   pub waiting : (i : ℕ) → 0 < items_at i v → ¬ (Moves v i) → (g : Gv) × IsIn v.stakes.waits i g

@@ -153,12 +153,22 @@ pub held_is : (alive 3 ≡ 1) × (counted 3 ≡ 0)
 unfolding alive counted
 held_is = (refl, refl)
 
+-- an uncounted word has one owner at most
+few_of : (q : ℕ) → kind_alive q ≤ 1
+few_of q = dite (ℕ_discrete q 1) (λ e. let a = ap kind_alive e in omega arith)
+    (λ n1. let a = ap (λ (t : _). either t 1 (either (eqb q 3) 1 0)) (ne_eqb q 1 n1) in dite (ℕ_discrete q 3)
+    (λ e. let b = ap kind_alive e in omega arith)
+    (λ n3. let b = ap (λ (t : _). either t 1 0) (ne_eqb q 3 n3) in omega arith))
+
 pub sound : IsWordReading codes
 sound = record {
   lives = λ x h. ⊎_elim (λ (t : (leb shared_base x ≡ true) × (shared_base ≤ x)). let s = shared x t.1 in let s0 = s.0 in
       let l = some_left x (omega arith) in (l.1, l.2))
       (λ (t : (leb shared_base x ≡ false) × (x < shared_base)). let s = kind x (x % 16) t.1 refl in let s0 = s.0 in let q = lives (x % 16) (omega arith) in
       (s.1 ∙ q.0, s.2 ∙ q.1)) (leb_tells shared_base x);
+  few = λ x none. ⊎_elim (λ (t : (leb shared_base x ≡ true) × (shared_base ≤ x)). let c = (shared x t.1).3 in absurd (omega arith))
+      (λ (t : (leb shared_base x ≡ false) × (x < shared_base)). let s = (kind x (x % 16) t.1 refl).0 in let f = few_of (x % 16) in omega arith)
+      (leb_tells shared_base x);
   valued = λ x h. ⊎_elim (λ (t : (leb shared_base x ≡ true) × (shared_base ≤ x)). (shared x t.1).4)
       (λ (t : (leb shared_base x ≡ false) × (x < shared_base)). let s = kind x (x % 16) t.1 refl in let s0 = s.0 in
       s.4 ∙ valued_is (x % 16) (omega arith)) (leb_tells shared_base x);

@@ -13,8 +13,9 @@ use Rattle.sdd_views.specs.declared.Sizes.{Sizes}
 use Rattle.sdd_word_invariant.specs.Words.{slot_word}
 use Rattle.sdd_word_invariant.specs.Codes.{WordReading, IsWordReading}
 use Rattle.sdd_word_invariant.specs.Sums.{total, is, times}
-use Rattle.sdd_word_invariant.specs.Slots.{slot_at, items_at, waits_in, OwnsAlone, SlotsInvariant}
+use Rattle.sdd_word_invariant.specs.Slots.{slot_at, items_at, waits_in, Owns, SlotsInvariant}
 use Rattle.sdd_word_invariant.specs.SlotSteps.{without}
+use Rattle.sdd_word_invariant.proofs.SlotWords.{owner_in}
 use Rattle.sdd_word_invariant.proofs.Sums.{is_same, is_other, without_same, without_other, total_has}
 
 one_apart : (b : Bool) (x : ℕ) (ys : List ℕ) (t : ℕ) → (b ≡ false → t ≡ 1) → (b ≡ true → t ≡ 0) → length (cond b (x ∷ ys) ys) + t ≡ suc (length ys)
@@ -71,10 +72,10 @@ module _ (z : WordReading) (sound : IsWordReading z) (sizes : Sizes) (ws : List 
   none_past i high = let e : slot_at sizes ws i ≡ 0 = get_or_past ws (slot_word sizes i) 0 (let l = p.long in omega arith) in
       let free : z.waiting (slot_at sizes ws i) ≡ 0 = ap z.waiting e ∙ sound.free.1 in let a = most i in omega arith
 
-  -- where it has the only owner of a slot, fewer items wait with it than there are slots
-  pub few_wait : (slot : ℕ) → slot < sizes.slots → OwnsAlone v slot → length v.slots.waits < sizes.slots
+  -- where it has an owner of a slot, fewer items wait with it than there are slots
+  pub few_wait : (slot : ℕ) → slot < sizes.slots → Owns v slot → length v.slots.waits < sizes.slots
   few_wait slot inside mine =
-      let alive = ((p.each id v at).alone slot mine).0 in let quiet = (sound.lives (slot_at sizes ws slot) (omega arith)).0 in
+      let o = owner_in z sound sizes ws vs p id slot v at in let quiet = (sound.lives (slot_at sizes ws slot) (omega arith)).0 in
       let l : List ℕ = slot ∷ slots_of v.slots.waits in
       let same : (i : ℕ) → times i l ≡ is i slot + items_at i v = λ i. ap (λ (k : ℕ). is i slot + k) (times_map i v.slots.waits) in
       let count = few sizes.slots l

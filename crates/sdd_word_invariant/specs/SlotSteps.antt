@@ -1,5 +1,5 @@
 -- What each step makes of what the participant knows of slots, and what it tells
-use Rattle.std.specs.Prelude.{◌≡◌, ◌≢◌, ℕ, ◌+◌, ◌*◌, ◌==◌, ◌<◌, ◌≤◌, not, if◌then◌else◌, List, [], ◌∷◌, ◌++◌, map, length, replicate, slice_index, slice_set, Some, None}
+use Rattle.std.specs.Prelude.{◌≡◌, ◌≢◌, ℕ, ◌+◌, ◌-◌, ◌*◌, ◌==◌, ◌<◌, ◌≤◌, not, if◌then◌else◌, List, [], ◌∷◌, ◌++◌, map, length, replicate, slice_index, slice_set, Some, None}
 use Rattle.std.specs.List.{filter}
 use mathlib.Core.Option.{some}
 use lib.ListN.{get_elem?}
@@ -10,6 +10,7 @@ use Rattle.sdd_views.specs.declared.View.{View}
 use Rattle.sdd_views.specs.declared.Sizes.{Sizes}
 use Rattle.sdd_word_invariant.specs.Words.{words_behind, state_word, slot_word}
 use Rattle.sdd_word_invariant.specs.Epoch.{HasPlace, IsOpen, IsLone}
+use Rattle.sdd_word_invariant.specs.Codes.{alive}
 use Rattle.sdd_word_invariant.specs.Slots.{items_at}
 use Rattle.sdd_word_invariant.specs.EpochSteps.{knowing, closed, Publishes}
 
@@ -46,7 +47,7 @@ abbrev pub others : List ℕ → List ℕ
 others [] = []
 others (x ∷ xs) = xs
 
--- the only owner of the first slot goes, to a token of its own, with its unit
+-- the owner of the first slot goes, to a token of its own, with its unit
 abbrev pub parted : View → View
 parted v = record v { slots = record v.slots { owns = others v.slots.owns; drawn = others v.slots.drawn } }
 
@@ -73,6 +74,10 @@ retired slot y count v = record v {
   slots = record v.slots { owns = without slot v.slots.owns; waits = v.slots.waits ++ retired_now slot count ∷ [] };
   words = noted slot y v;
 }
+
+-- an owner of it goes, where others stay
+abbrev pub one_less : ℕ → ℕ → View → View
+one_less slot y v = record v { slots = record v.slots { owns = others v.slots.owns }; words = noted slot y v }
 
 -- it is given back
 abbrev pub given_back : ℕ → ℕ → View → View
@@ -130,11 +135,15 @@ ClosesAll v x w = w ≡ record v { epoch = closed v.epoch; slots = unseeing v }
 abbrev pub Claims : ℕ → ℕ → ℕ → View → ℕ → View → Type 0
 Claims slot old y v x w = (x ≡ old → w ≡ claimed slot y v) × (x ≢ old → w ≡ v) × Knew slot v x
 
--- an owned item waits from the count of this moment on, which is known after it: under an open guard the one at the publish, or one more.
--- Fewer items than there are slots waited before
+-- the item of a slot whose last owner goes waits from the count of this moment on, which is known after it: under an open guard the one at the publish,
+-- or one more. Fewer items than there are slots waited before
 abbrev pub Retires : ℕ → View → ℕ → View → Type 0
 Retires slot v y w = (count : ℕ) × (v.epoch.known ≤ count) × (IsLone v.epoch → count ≡ v.epoch.known) × (w ≡ retired slot y count v)
     × (IsOpen v.epoch → count ≤ v.epoch.since + 1) × (length v.slots.waits < v.sizes.slots)
+
+-- an owner that is counted goes, by one subtraction: where one was counted it was the last, and the item waits
+abbrev pub Releases : ℕ → View → ℕ → View → Type 0
+Releases slot v x w = (0 < alive x) × (alive x ≡ 1 → Retires slot v (x - 1) w) × (alive x ≢ 1 → w ≡ one_less slot (x - 1) v) × Knew slot v x
 
 -- the slot is free, in which one item waited
 abbrev pub GivesBack : ℕ → View → ℕ → View → Type 0

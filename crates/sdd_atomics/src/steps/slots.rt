@@ -6,7 +6,7 @@ ghost use base.Stored.{Gv};
 ghost use Rattle.sdd_word_invariant.specs.Words as words;
 ghost use Rattle.sdd_word_invariant.specs.Codes.{free_word, owned_word, waiting_word};
 ghost use Rattle.sdd_word_invariant.specs.Epoch.{HasPlace, IsOpen};
-ghost use Rattle.sdd_word_invariant.specs.Slots.{OwnsAlone, Holds};
+ghost use Rattle.sdd_word_invariant.specs.Slots.{Owns, Holds};
 ghost use Rattle.sdd_word_invariant.specs.SlotSteps.{IsDue, LooksAtSlot, TakesHold, LetsGo, LooksForGuard};
 ghost use Rattle.sdd_word_invariant.specs.Barred.{LooksForValue};
 ghost use Rattle.sdd_views.specs.Views.{owner_of};
@@ -74,7 +74,7 @@ pub fn house(board: &DomainTable, token: &mut DomainSeat, rest: ValueFraction, s
     requires home { token.old.table_id ≡ id_of board.now }
     requires knows { Knows board.now token.old }
     requires place { HasPlace (epoch token.old) }
-    requires row { (slot : ℕ) × (value : Gv) × (slot < slots_of board.now) × Moves (view token.old) slot × OwnsAlone (view token.old) slot
+    requires row { (slot : ℕ) × (value : Gv) × (slot < slots_of board.now) × Moves (view token.old) slot × Owns (view token.old) slot
         × ((others : CarriedFractions) × CarriesAll (book_of board.now) slot (places_of board.now) (spare (places_of board.now)) (IsValue value) others token.old.me.1)
         × (rest.lot ≡ lot (book_of board.now) slot rest.lot.round rest.lot.shown (spare (places_of board.now) - 1)) }
     ensures { (slot : ℕ) (value : Gv) (others : CarriedFractions) → Moves (view token.old) slot
@@ -95,7 +95,7 @@ pub fn enter_unit(board: &DomainTable, token: &mut DomainSeat, slot: u32, unit: 
     requires knows { Knows board.now token.old }
     requires inside { slot < slots_of board.now }
     requires place { HasPlace (epoch token.old) }
-    requires own { OwnsAlone (view token.old) slot × ((others : List ℕ) × ((slots token.old).drawn ≡ slot ∷ others)) }
+    requires own { Owns (view token.old) slot × ((others : List ℕ) × ((slots token.old).drawn ≡ slot ∷ others)) }
     requires unit { unit.lot ≡ lot (book_of board.now) slot unit.lot.round unit.lot.shown 1 }
     ensures { MovedAlone EntersUnit token.old token.new }
 {
@@ -194,7 +194,7 @@ pub fn hold(board: &DomainTable, token: &mut DomainSeat, slot: u32) -> u64
     requires knows { Knows board.now token.old }
     requires inside { slot < slots_of board.now }
     requires place { HasPlace (epoch token.old) }
-    requires own { OwnsAlone (view token.old) slot × ((slots token.old).holds ≡ None) }
+    requires own { Owns (view token.old) slot × ((slots token.old).holds ≡ None) }
     ensures { Taught (TakesHold slot) token.old result token.new }
 {
     board
