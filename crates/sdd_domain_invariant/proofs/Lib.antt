@@ -7,6 +7,7 @@ pub mod Part
 pub mod Records
 pub mod Fillings
 pub mod Telling
+pub mod KindSteps
 pub mod Lift
 pub mod Steps
 pub mod Tokens

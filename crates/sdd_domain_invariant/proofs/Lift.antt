@@ -1,5 +1,5 @@
 -- A step that keeps the words' parts, the homes' part, what is known of what slots show and of owners, and the counts is a step of the table.
-use Rattle.std.proofs.Common.{◌≡◌, ◌⊎◌, inl, inr, ℕ, ◌<◌, List, map, get_or, set, sym, refl, ap, ◌∙◌, subst, ⊎_elim, arith, length-set, eq-eqb, ne_eqb}
+use Rattle.std.proofs.Common.{◌≡◌, ◌⊎◌, inl, inr, ℕ, ◌^◌, ◌<◌, List, map, get_or, set, sym, refl, ap, ◌∙◌, subst, ⊎_elim, arith, length-set, get_or-set_other, eq-eqb, ne_eqb}
 use Rattle.std.specs.Prelude.{None}
 use mathlib.Core.Bool.{cond}
 use mathlib.Core.Option.{some}
@@ -15,10 +15,10 @@ use Rattle.sdd_views.specs.declared.SlotsView.{SlotsView}
 use Rattle.sdd_views.specs.declared.FractionsView.{FractionsView}
 use Rattle.sdd_views.specs.declared.View.{View}
 use Rattle.sdd_views.specs.declared.Sizes.{Sizes}
-use Rattle.sdd_word_invariant.specs.Words.{first_slot, state_word}
+use Rattle.sdd_word_invariant.specs.Words.{first_slot, slot_word, state_word}
 use Rattle.sdd_word_invariant.specs.Epoch.{HasPlace, IsClosed, IsOpen}
 use Rattle.sdd_word_invariant.specs.EpochSteps.{Steps, Publishes, Ends}
-use Rattle.sdd_word_invariant.specs.Slots.{waits_in}
+use Rattle.sdd_word_invariant.specs.Slots.{slot_at, waits_in}
 use Rattle.sdd_word_invariant.specs.SlotSteps.{older, changed, OnEpoch, PublishesAll}
 use Rattle.sdd_word_invariant.specs.WordInvariant.{epoch_of, Parts}
 use Rattle.atomic_table.proofs.Lists.{at_map, set_again, set_else}
@@ -31,6 +31,8 @@ use Rattle.sdd_domain_invariant.specs.FractionsAtHome.{FractionsAtHome, full_at,
 use Rattle.sdd_domain_invariant.specs.BankInvariant.{BankInvariant}
 use Rattle.sdd_domain_invariant.proofs.Banks.{with_deposits}
 use Rattle.sdd_domain_invariant.proofs.Banks as banks
+use Rattle.sdd_domain_invariant.specs.KindsInvariant.{KindsInvariant}
+use Rattle.sdd_domain_invariant.proofs.KindSteps as kind_steps
 use Rattle.sdd_domain_invariant.specs.Records.{RecordsInvariant}
 use Rattle.sdd_domain_invariant.specs.Counts.{CountsInvariant}
 use Rattle.sdd_domain_invariant.specs.FilledInvariant.{FilledInvariant}
@@ -43,6 +45,10 @@ use Rattle.sdd_domain_invariant.proofs.Records.{IsAlike}
 use Rattle.sdd_domain_invariant.proofs.Records as records
 use Rattle.sdd_domain_invariant.proofs.Fillings.{NoneTold, filled_same, filled_alike}
 
+-- a word before the slots' leaves theirs
+pub slots_before : (sizes : Sizes) (ws : List ℕ) (i y : ℕ) → i < first_slot sizes → (j : ℕ) → slot_at sizes (set ws i y) j ≡ slot_at sizes ws j
+slots_before sizes ws i y low j = get_or-set_other ws i (slot_word sizes j) y 0 (λ e. omega arith)
+
 -- what a step on the word i makes of the state, where y is in it then: what its participant knows of stakes, and what it takes or gives
 pub record Follows (γ : ℕ) (sizes : Sizes) (id i : ℕ) (me : SeatState) (told : ℕ → SeatState → Type 0) (s : State ValueFraction View) (y : ℕ) (w : View) : Type 0 where
   pub stakes : FractionsView
@@ -53,6 +59,7 @@ pub record Follows (γ : ℕ) (sizes : Sizes) (id i : ℕ) (me : SeatState) (tol
   pub counts : CountsInvariant sizes (set s.words i y) (set s.views id (record w { stakes = stakes }))
   pub filled : FilledInvariant sizes (set s.views id (record w { stakes = stakes }))
   pub bank : BankInvariant γ sizes (set s.words i y) (set s.views id (record w { stakes = stakes }))
+  pub kinds : KindsInvariant sizes (set s.words i y) (set s.views id (record w { stakes = stakes }))
   pub tells : told (get_or s.words i 0) (record w { stakes = stakes }, carried_after me.1 act)
 
 module _ (γ : ℕ) (sizes : Sizes) (slots id : ℕ) (me : SeatState) (i : ℕ) (f : ℕ → ℕ) where
@@ -82,11 +89,16 @@ module _ (γ : ℕ) (sizes : Sizes) (slots id : ℕ) (me : SeatState) (i : ℕ) 
         one_hushed sizes s.words i y s.views id me.0 w at q (places x w t) (h.kept.places.quiet id me.0 at),
       )
 
-  pub lift_homes : (then : ℕ → View → Type 0) (told : ℕ → SeatState → Type 0) → Keeps then → Steps (Parts sizes) id me.0 i f then
+  -- a step of the words' parts that rests on the whole rule
+  abbrev pub StepsWhole : (ℕ → View → Type 0) → Type 0
+  StepsWhole then = (s : State ValueFraction View) → DomainInvariant γ sizes s → get_elem? s.views id ≡ some me.0 → get_or s.words i 0 < 2 ^ 64
+      → (w : View) × Parts sizes (set s.words i (f (get_or s.words i 0))) (set s.views id w) × then (get_or s.words i 0) w
+
+  pub lift_whole : (then : ℕ → View → Type 0) (told : ℕ → SeatState → Type 0) → Keeps then → StepsWhole then
       → ((s : State ValueFraction View) (w : View) → DomainInvariant γ sizes s → get_elem? s.views id ≡ some me.0 → then (get_or s.words i 0) w
       → Follows γ sizes id i me told s (f (get_or s.words i 0)) w) → Allows (DomainInvariant γ sizes) slots id me i f told
-  lift_homes then told ends step follow s h full at small =
-      let e = step s.words s.views h.kept.parts at small in let w : View = e.0 in let b = follow s w h at e.2 in let y : ℕ = f (get_or s.words i 0) in
+  lift_whole then told ends step follow s h full at small =
+      let e = step s h at small in let w : View = e.0 in let b = follow s w h at e.2 in let y : ℕ = f (get_or s.words i 0) in
       let k = ends s w h at e.2 in (
         record w { stakes = b.stakes },
         b.act,
@@ -105,9 +117,16 @@ module _ (γ : ℕ) (sizes : Sizes) (slots id : ℕ) (me : SeatState) (i : ℕ) 
           counts = b.counts;
           filled = b.filled;
           bank = b.bank;
+          kinds = b.kinds;
         },
         b.tells,
       )
+
+  -- one that rests on the words' parts alone
+  pub lift_homes : (then : ℕ → View → Type 0) (told : ℕ → SeatState → Type 0) → Keeps then → Steps (Parts sizes) id me.0 i f then
+      → ((s : State ValueFraction View) (w : View) → DomainInvariant γ sizes s → get_elem? s.views id ≡ some me.0 → then (get_or s.words i 0) w
+      → Follows γ sizes id i me told s (f (get_or s.words i 0)) w) → Allows (DomainInvariant γ sizes) slots id me i f told
+  lift_homes then told ends step = lift_whole then told ends (λ s h at small. step s.words s.views h.kept.parts at small)
 
   -- a step that takes and gives none, and has a place still if it had one; and had one if it has one, or there is no owner yet
   pub record IsCalm (s : State ValueFraction View) (y : ℕ) (w : View) : Type 0 where
@@ -118,12 +137,13 @@ module _ (γ : ℕ) (sizes : Sizes) (slots id : ℕ) (me : SeatState) (i : ℕ) 
     pub counts : w.stakes.counts ≡ me.0.stakes.counts
     pub lives : HasPlace me.0.epoch → HasPlace w.epoch
     pub had : sizes.participants ≡ 1 → HasPlace w.epoch → HasPlace me.0.epoch ⊎ NoneTold s.views
+    pub kinds : KindsInvariant sizes (set s.words i y) (set s.views id w)
 
-  pub lift_calm : (then : ℕ → View → Type 0) (told : ℕ → SeatState → Type 0) → Keeps then → Steps (Parts sizes) id me.0 i f then
+  pub lift_calm_whole : (then : ℕ → View → Type 0) (told : ℕ → SeatState → Type 0) → Keeps then → StepsWhole then
       → ((r : ℕ) (w : View) → then r w → told r (w, me.1))
       → ((s : State ValueFraction View) (w : View) → DomainInvariant γ sizes s → get_elem? s.views id ≡ some me.0 → then (get_or s.words i 0) w
       → IsCalm s (f (get_or s.words i 0)) w) → Allows (DomainInvariant γ sizes) slots id me i f told
-  lift_calm then told ends step tells calm = lift_homes then told ends step (λ s w h at t. let y : ℕ = f (get_or s.words i 0) in
+  lift_calm_whole then told ends step tells calm = lift_whole then told ends step (λ s w h at t. let y : ℕ = f (get_or s.words i 0) in
       let c = calm s w h at t in record {
         stakes = w.stakes;
         act = keeps;
@@ -134,8 +154,15 @@ module _ (γ : ℕ) (sizes : Sizes) (slots id : ℕ) (me : SeatState) (i : ℕ) 
             (as_full sizes s.words (set s.words i y) c.same) (ended_spared sizes s.words i y (ends s w h at t).0 sizes.participants (omega arith));
         filled = filled_alike sizes s.views h.filled id me.0 at w c.alike c.had;
         bank = banks.alike γ sizes s.words s.views h.bank id me.0 at (set s.words i y) w c.alike c.same;
+        kinds = c.kinds;
         tells = tells (get_or s.words i 0) w t;
       })
+
+  pub lift_calm : (then : ℕ → View → Type 0) (told : ℕ → SeatState → Type 0) → Keeps then → Steps (Parts sizes) id me.0 i f then
+      → ((r : ℕ) (w : View) → then r w → told r (w, me.1))
+      → ((s : State ValueFraction View) (w : View) → DomainInvariant γ sizes s → get_elem? s.views id ≡ some me.0 → then (get_or s.words i 0) w
+      → IsCalm s (f (get_or s.words i 0)) w) → Allows (DomainInvariant γ sizes) slots id me i f told
+  lift_calm then told ends step = lift_calm_whole then told ends (λ s h at small. step s.words s.views h.kept.parts at small)
 
   -- one of the epoch's part, under which an open guard keeps its place
   pub lift_epoch : (R : EpochView → ℕ → EpochView → Type 0) (told : ℕ → SeatState → Type 0) → i < first_slot sizes
@@ -158,6 +185,8 @@ module _ (γ : ℕ) (sizes : Sizes) (slots id : ℕ) (me : SeatState) (i : ℕ) 
         counts = refl;
         lives = lives (get_or s.words i 0) e t.2;
         had = had s h e t.2;
+        kinds = kind_steps.calm sizes s.words s.views h.kinds h.records.each id me.0 at (set s.words i y) (record me.0 { epoch = e })
+            (slots_before sizes s.words i y low) (refl, refl, refl, (λ _. refl), refl) refl refl (λ _ o. o);
       })
 
 -- a publish may make each item that waits a change older, and leaves all else of slots
@@ -191,6 +220,8 @@ module _ (γ : ℕ) (sizes : Sizes) (slots : ℕ) where
         counts = refl;
         lives = λ _. (stays e t.2).0;
         had = λ _ _. inl live;
+        kinds = kind_steps.calm sizes s.words s.views h.kinds h.records.each id v at (set s.words i y) (record v { epoch = e })
+            (slots_before sizes s.words i y low) (refl, refl, refl, (λ _. refl), refl) refl refl (λ _ o. o);
       }
       record {
         more = more;
@@ -201,6 +232,9 @@ module _ (γ : ℕ) (sizes : Sizes) (slots : ℕ) where
         counts = refl;
         lives = λ _. (stays e t.2).0;
         had = λ _ _. inl live;
+        kinds = kind_steps.calm sizes s.words s.views h.kinds h.records.each id v at (set s.words i y)
+            (record v { epoch = e; slots = record v.slots { waits = map older v.slots.waits } }) (slots_before sizes s.words i y low)
+            (refl, refl, refl, (λ j. total_map (waits_in j) older (λ x. refl) v.slots.waits), refl) refl refl (λ _ o. o);
       }))
 
   -- the end of a place, which is counted
@@ -228,6 +262,8 @@ module _ (γ : ℕ) (sizes : Sizes) (slots : ℕ) where
             (λ _ none. absurd (omega arith));
         filled = filled_same sizes s.views h.filled id v at now refl refl refl (λ z. absurd (omega arith));
         bank = banks.alike γ sizes s.words s.views h.bank id v at (set s.words i 3) now (refl, refl, refl, (λ _. refl), refl) same;
+        kinds = kind_steps.calm sizes s.words s.views h.kinds h.records.each id v at (set s.words i 3) now (slots_before sizes s.words i 3 (omega arith))
+            (refl, refl, refl, (λ _. refl), refl) refl refl (λ _ o. o);
         tells = tells;
       })
 
@@ -235,9 +271,9 @@ module _ (γ : ℕ) (sizes : Sizes) (slots : ℕ) where
 module _ (γ : ℕ) (sizes : Sizes) (id : ℕ) (v : View) (s : State ValueFraction View) (h : DomainInvariant γ sizes s) (at : get_elem? s.views id ≡ some v) where
   pub stands : (w : View) → w.places ≡ v.places → Parts sizes s.words (set s.views id w) → (hs : FractionsAtHome)
       → FractionsInvariant γ sizes s.words (set s.views id w) hs → RecordsInvariant sizes (set s.views id w) hs → CountsInvariant sizes s.words (set s.views id w)
-      → FilledInvariant sizes (set s.views id w) → BankInvariant γ sizes s.words (set s.views id w)
+      → FilledInvariant sizes (set s.views id w) → BankInvariant γ sizes s.words (set s.views id w) → KindsInvariant sizes s.words (set s.views id w)
       → DomainInvariant γ sizes record { words = s.words; homes = hs; views = set s.views id w }
-  stands w same parts hs homes records counts filled bank = record {
+  stands w same parts hs homes records counts filled bank kinds = record {
     kept = record {
       parts = parts;
       places = record {
@@ -254,24 +290,26 @@ module _ (γ : ℕ) (sizes : Sizes) (id : ℕ) (v : View) (s : State ValueFracti
     counts = counts;
     filled = filled;
     bank = bank;
+    kinds = kinds;
   }
 
   -- which changes only what is known of stakes, but for what was made
   pub stands_by : (t : FractionsView) → t.counts ≡ v.stakes.counts → (hs : FractionsAtHome) → FractionsInvariant γ sizes s.words (set s.views id (record v { stakes = t })) hs
       → RecordsInvariant sizes (set s.views id (record v { stakes = t })) hs → FilledInvariant sizes (set s.views id (record v { stakes = t }))
-      → BankInvariant γ sizes s.words (set s.views id (record v { stakes = t }))
+      → BankInvariant γ sizes s.words (set s.views id (record v { stakes = t })) → KindsInvariant sizes s.words (set s.views id (record v { stakes = t }))
       → DomainInvariant γ sizes record { words = s.words; homes = hs; views = set s.views id (record v { stakes = t }) }
-  stands_by t same hs homes records filled bank = stands (record v { stakes = t }) refl
+  stands_by t same hs homes records filled bank kinds = stands (record v { stakes = t }) refl
       (blind sizes s.words s.views id v v at (subst (Parts sizes s.words) (sym (set_again s.views id v at)) h.kept.parts) t) hs homes records
-      (uncounted_alone sizes s.words s.views h.counts id v at (record v { stakes = t }) same refl) filled bank
+      (uncounted_alone sizes s.words s.views h.counts id v at (record v { stakes = t }) same refl) filled bank kinds
 
   -- which changes what the bank has, too
   pub stands_dealt : (w : View) → w.places ≡ v.places → Parts sizes s.words (set s.views id w) → (hs : FractionsAtHome)
       → FractionsInvariant γ sizes s.words (set s.views id w) hs → RecordsInvariant sizes (set s.views id w) hs → CountsInvariant sizes s.words (set s.views id w)
-      → FilledInvariant sizes (set s.views id w) → (bd : ℕ) (b : View) → get_elem? s.views bd ≡ some b → ¬ (id ≡ bd) → (ls : List FractionContent)
+      → FilledInvariant sizes (set s.views id w) → KindsInvariant sizes s.words (set s.views id w)
+      → (bd : ℕ) (b : View) → get_elem? s.views bd ≡ some b → ¬ (id ≡ bd) → (ls : List FractionContent)
       → BankInvariant γ sizes s.words (set (set s.views id w) bd (with_deposits ls b))
       → DomainInvariant γ sizes record { words = s.words; homes = hs; views = set (set s.views id w) bd (with_deposits ls b) }
-  stands_dealt w same parts hs lie told made fill bd b there ne ls bank = let vs : List View = set s.views id w in
+  stands_dealt w same parts hs lie told made fill kinds bd b there ne ls bank = let vs : List View = set s.views id w in
       let b' : View = with_deposits ls b in let now : get_elem? vs bd ≡ some b = set_else s.views id bd w (λ e. ne (sym e)) ∙ there in
       let t = told.each bd b now in let mine = records.mine sizes vs hs told bd b now in record {
         kept = record {
@@ -295,4 +333,6 @@ module _ (γ : ℕ) (sizes : Sizes) (id : ℕ) (v : View) (s : State ValueFracti
         counts = uncounted_alone sizes s.words vs made bd b now b' refl refl;
         filled = filled_same sizes vs fill bd b now b' refl refl refl (λ live. live);
         bank = bank;
+        kinds = kind_steps.stays sizes s.words vs kinds told.each bd b now s.words b' (λ i. refl)
+            (kind_steps.knows_alike sizes s.words b b' (kinds.each bd b now) refl refl (λ i m. m) (λ i o. o) (λ r a. a) (λ i a. a));
       }

@@ -18,7 +18,7 @@ use Rattle.sdd_word_invariant.specs.Sums.{is, times}
 use Rattle.sdd_word_invariant.specs.Slots.{slot_at, waits_in, items_at, Owns}
 use Rattle.sdd_word_invariant.specs.SlotSteps.{without, retired, retired_now}
 use Rattle.sdd_word_invariant.proofs.Codes.{sound}
-use Rattle.sdd_word_invariant.proofs.SlotWords.{owners_in}
+use Rattle.sdd_word_invariant.proofs.SlotWords.{owner_in, owners_in}
 use Rattle.sdd_word_invariant.proofs.Sums.{is_same, is_other, without_same, without_other, total_has, total_two, total_snoc}
 use Rattle.sdd_domain_invariant.specs.FractionsAtHome.{CarriedFractions, share, Has, Moves, LiesAt}
 use Rattle.sdd_domain_invariant.specs.DomainInvariant.{DomainInvariant}
@@ -44,7 +44,7 @@ none_moved v i rests m = let e : None ≡ Some i = sym rests ∙ m in cc
 pub one_view : (vs : List View) (id j : ℕ) (u v : View) → get_elem? vs j ≡ some u → get_elem? vs id ≡ some v → j ≡ id → u ≡ v
 one_view vs id j u v e at same = some-injective u v (sym e ∙ (ap (get_elem? vs) same ∙ at))
 
--- it owns this one alone, and no other
+-- it has an owner of this one, and no other
 module _ (v : View) (slot : ℕ) (owns : v.slots.owns ≡ slot ∷ []) where
   pub owns_it : Owns v slot
   owns_it = let e = ap (times slot) owns in let o = is_same slot slot refl in omega arith
@@ -68,7 +68,7 @@ module _ (v : View) (t : IsTelling v) (slot : ℕ) where
     waiting = λ i o still. t.waiting i o (none_moved v i rests);
   }
 
-  -- it moves the value of a slot whose only owner it hasn't, and remembers no more what its item shows
+  -- it moves the value of a slot of which it has no owner, and remembers no more what its item shows
   pub moving_tells : v.stakes.moves ≡ None → ¬ (Owns v slot) → IsTelling (moving slot (forgetting slot v))
   moving_tells rests never = let w : View = moving slot (forgetting slot v) in record {
     owns = λ i g h. let o = (t.owns i g h).0 in (o, λ m. never (subst (Owns v) (one_moved w slot i refl m) o));
@@ -160,26 +160,27 @@ module _ (v : View) (t : IsTelling v) (slot : ℕ) where
 pub none_told : (γ : ℕ) (sizes : Sizes) (s : State ValueFraction View) → DomainInvariant γ sizes s → ((i : ℕ) → get_or s.words i 0 ≡ 0) → NoneTold s.views
 none_told γ sizes s h zeros r t = let tells = h.records.each t.0 t.1 t.2 in let word = zeros (slot_word sizes r.slot) in ⊎_elim
     (λ (a : HasRecord t.1.stakes.owns r). let own = tells.owns r.slot r.value (a.0, r, a.1, refl, refl) in
-    let one = ((h.kept.parts.slots.each t.0 t.1 t.2).alone r.slot own.0).0 in let none = ap alive word ∙ sound.free.0 in omega arith)
+    let mine = own.0 in let one = owner_in codes sound sizes s.words s.views h.kept.parts.slots t.0 r.slot t.1 t.2 in let none = ap alive word ∙ sound.free.0 in omega arith)
     (λ (a : HasRecord t.1.stakes.waits r). let waits = (tells.waits r.slot r.value (a.0, r, a.1, refl, refl)).0 in
     let here = total_has (items_at r.slot) s.views t.0 t.1 t.2 in let sum = h.kept.parts.slots.waited r.slot in
     let none = ap waiting word ∙ sound.free.1 in omega arith) t.3
 
 module _ (γ : ℕ) (sizes : Sizes) (s : State ValueFraction View) (h : DomainInvariant γ sizes s) (i id : ℕ) (v : View) (at : get_elem? s.views id ≡ some v) where
-  -- where one has the only owner of a slot, none else has
-  sole : Owns v i → (j : ℕ) (u : View) → get_elem? s.views j ≡ some u → Owns u i → j ≡ id
-  sole own j u e o = dite (ℕ_discrete j id) (λ same. same)
-      (λ ne. let a = ((h.kept.parts.slots.each id v at).alone i own).0 in
+  -- where one moves the value of a slot of its own, none else has an owner of it
+  sole : Moves v i → Owns v i → (j : ℕ) (u : View) → get_elem? s.views j ≡ some u → Owns u i → j ≡ id
+  sole mine own j u e o = dite (ℕ_discrete j id) (λ same. same)
+      (λ ne. let a = (h.kinds.each id v at).sole i mine own in
       let both = owners_in codes sound sizes s.words s.views h.kept.parts.slots j id i u v ne e at in absurd (omega arith))
 
   -- while an item waits, none has
   pub none_owns : 0 < items_at i v → (j : ℕ) (u : View) → get_elem? s.views j ≡ some u → ¬ (Owns u i)
   none_owns waits j u e o = let t = total_has (items_at i) s.views id v at in let w = h.kept.parts.slots.waited i in
-      let a = ((h.kept.parts.slots.each j u e).alone i o).0 in let l = (sound.lives (slot_at sizes s.words i) (omega arith)).0 in absurd (omega arith)
+      let a = owner_in codes sound sizes s.words s.views h.kept.parts.slots j i u e in let l = (sound.lives (slot_at sizes s.words i) (omega arith)).0 in
+      absurd (omega arith)
 
-  -- while one has the only owner, no item waits
+  -- while one has an owner, no item waits
   pub none_waits : Owns v i → (j : ℕ) (u : View) → get_elem? s.views j ≡ some u → ¬ (0 < items_at i u)
-  none_waits own j u e waits = let a = ((h.kept.parts.slots.each id v at).alone i own).0 in
+  none_waits own j u e waits = let a = owner_in codes sound sizes s.words s.views h.kept.parts.slots id i v at in
       let l = (sound.lives (slot_at sizes s.words i) (omega arith)).0 in let t = total_has (items_at i) s.views j u e in
       let w = h.kept.parts.slots.waited i in omega arith
 
@@ -193,7 +194,7 @@ module _ (γ : ℕ) (sizes : Sizes) (s : State ValueFraction View) (h : DomainIn
   pub unknown_owned : Moves v i → Owns v i → (g : Gv) → ¬ (IsKnown s.views i g)
   unknown_owned mine own = records.unknown sizes s.views s.homes h.records i (λ j u e. h.records.apart id j v u i at e mine)
       (λ j u e which. ⊎_elim
-      (λ (o : Owns u i). subst (λ (x : View). Moves x i) (sym (one_view s.views id j u v e at (sole own j u e o))) mine)
+      (λ (o : Owns u i). subst (λ (x : View). Moves x i) (sym (one_view s.views id j u v e at (sole mine own j u e o))) mine)
       (λ (o : 0 < items_at i u). absurd (none_waits own j u e o)) which)
 
   pub unknown_waiting : Moves v i → 0 < items_at i v → (g : Gv) → ¬ (IsKnown s.views i g)

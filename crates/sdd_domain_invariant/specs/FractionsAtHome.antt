@@ -71,7 +71,7 @@ FractionIsTaken v i p = Moves v i ⊎ SeesFrom v i p
 abbrev pub NoneOut : List View → ℕ → ℕ → Type 0
 NoneOut vs i p = (j : ℕ) (v : View) → get_elem? vs j ≡ some v → ¬ (FractionIsTaken v i p)
 
--- who moves a value has a place, and owns it alone, or its item waits with it
+-- who moves a value has a place and an owner of it, or its item waits with it
 abbrev pub IsMover : View → Type 0
 IsMover v = (i : ℕ) → Moves v i → HasPlace v.epoch × (Owns v i ⊎ (0 < items_at i v))
 

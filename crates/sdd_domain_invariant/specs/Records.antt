@@ -24,7 +24,7 @@ KnowsShown v i g = IsIn v.stakes.owns i g ⊎ (IsIn v.stakes.sees i g ⊎ IsIn v
 abbrev pub IsKnown : List View → ℕ → Gv → Type 0
 IsKnown vs i g = (j : ℕ) × (v : View) × (get_elem? vs j ≡ some v) × KnowsShown v i g
 
--- it has a record of each slot whose only owner it has, and of each whose item waits with it, but of one whose value it moves; and one for each time
+-- it has a record of each slot of which it has an owner, and of each whose item waits with it, but of one whose value it moves; and one for each time
 -- that it sees a slot; and no others
 pub record IsTelling (v : View) : Type 0 where
   pub owns : (i : ℕ) (g : Gv) → IsIn v.stakes.owns i g → Owns v i × ¬ (Moves v i)
