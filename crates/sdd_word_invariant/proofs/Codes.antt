@@ -1,12 +1,12 @@
 -- The words as they are written are read as the rule asks.
-use Rattle.std.proofs.Common.{◌≡◌, ◌⊎◌, ℕ, suc, ◌+◌, ◌-◌, ◌*◌, ◌/◌, ◌%◌, ◌^◌, ◌<◌, ◌≤◌, eqb, leb, true, false, refl, ap, ◌∙◌, inl, inr, ⊎_elim, eq-eqb, ne_eqb, arith}
+use Rattle.std.proofs.Common.{◌≡◌, ◌⊎◌, ℕ, suc, ◌+◌, ◌-◌, ◌*◌, ◌/◌, ◌%◌, ◌^◌, ◌<◌, ◌≤◌, Bool, eqb, leb, true, false, refl, ap, ◌∙◌, inl, inr, ⊎_elim, eq-eqb, ne_eqb, arith}
 use mathlib.Core.Logic.{dite}
 use native.Mathlib.Decide.{ℕ_discrete}
 use prog.Atomic.{either}
 use Rattle.std.proofs.lemmas.Bool.{le-leb}
 use Rattle.std.proofs.lemmas.Bool.Decides.{leb_tells}
 use Rattle.sdd_word_invariant.specs.Sums.{is}
-use Rattle.sdd_word_invariant.specs.Codes.{IsWordReading, codes, shared_base, free_word, owned_word, waiting_word, private_word, emptied_word, unowned, kind_alive, kind_waiting, kind_full, kind_valued, kind_emptying, emptying, emptying_word, left_word, alive, waiting, full, valued, counted, waits_for, names}
+use Rattle.sdd_word_invariant.specs.Codes.{claimed_word, retired_word, IsWordReading, codes, shared_base, free_word, owned_word, waiting_word, private_word, emptied_word, unowned, kind_alive, kind_waiting, kind_full, kind_valued, kind_emptying, emptying, emptying_word, left_word, alive, waiting, full, valued, counted, waits_for, names}
 
 lives : (q : ℕ) → 0 < kind_alive q → (kind_waiting q ≡ 0) × (kind_full q ≡ 1)
 lives q h = dite (ℕ_discrete q 1) (λ e. (ap kind_waiting e, ap kind_full e))
@@ -152,6 +152,17 @@ free = (refl, refl, refl)
 pub held_is : (alive 3 ≡ 1) × (counted 3 ≡ 0)
 unfolding alive counted
 held_is = (refl, refl)
+
+-- a slot's word once it is claimed, and once its last owner has gone
+pub claimed_is : (shared : Bool) → (alive (claimed_word shared) ≡ 1) × (counted (claimed_word shared) ≡ either shared 1 0)
+unfolding alive counted
+claimed_is true = (refl, refl)
+claimed_is false = (refl, refl)
+
+pub retired_is : (shared : Bool) → (alive (retired_word shared) ≡ 0) × (waiting (retired_word shared) ≡ 1) × (full (retired_word shared) ≡ 1)
+unfolding alive waiting full
+retired_is true = (refl, refl, refl)
+retired_is false = (refl, refl, refl)
 
 -- an uncounted word has one owner at most
 few_of : (q : ℕ) → kind_alive q ≤ 1
