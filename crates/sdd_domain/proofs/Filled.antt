@@ -1,17 +1,15 @@
 -- Which slots of a lone participant's world are free
-use Rattle.std.proofs.Common.{◌≡◌, ℕ, ◌<◌, ◌≤◌, Bool, true, false, Option, None, Some, length, refl, sym, ap, ◌∙◌, arith, true≢false, slice_index_or, if◌then◌else◌}
+use Rattle.std.proofs.Common.{◌≡◌, ℕ, ◌<◌, Bool, true, false, Option, None, Some, length, refl, sym, ◌∙◌, arith, if◌then◌else◌}
 use mathlib.Core.Logic.{dite}
 use native.Mathlib.Decide.{dec_lt}
 use Rattle.std.specs.Prelude.{◌↔◌, ◌==◌, IsTrue, IsSome, option_map}
-use base.Stored.{Gv}
 use Rattle.sdd_participants.specs.declared.standing.Standing.{Standing}
 use Rattle.sdd_participants.specs.declared.standing.Standing.TheVariants.{Retired}
 use Rattle.sdd_participants.specs.Slab.{IsFull}
-use Rattle.sdd_views.specs.declared.ShownValue.{ShownValue}
-use Rattle.sdd_word_invariant.specs.Codes.{free_word, waiting_word}
+use Rattle.sdd_word_invariant.specs.Codes.{free_word, waiting}
 use Rattle.sdd_space.specs.World.{standing_at, value_at}
-use Rattle.sdd_domain.specs.LocalState.{LocalState, IsFree, IsLone, IsUsedUp, word_of}
-use Rattle.sdd_domain.specs.Local.{LocalModel, world_of, standing_in, value_in, owner_standing}
+use Rattle.sdd_domain.specs.LocalState.{IsFree, IsLone, IsUsedUp, word_of}
+use Rattle.sdd_domain.specs.Local.{LocalModel, world_of, standing_in, value_in}
 use Rattle.sdd_domain.proofs.Listings.{listing_long, listing_at, listing_past, all_listed}
 use Rattle.sdd_domain.proofs.Makes.{used_up}
 
@@ -36,7 +34,7 @@ module _ {T : Type 0} (p : LocalModel T) where
   unfolding slots
   bare k free = dite (dec_lt k slots)
       (λ low. listing_at slots (value_in p) k None low
-      ∙ none_by (word_of p.member k == free_word 0) (word_of p.member k == waiting_word 0) _ _ _ (sym (listing_at slots (standing_in p) k None low) ∙ free))
+      ∙ none_by (word_of p.member k == free_word 0) (waiting (word_of p.member k) == 1) _ _ _ (sym (listing_at slots (standing_in p) k None low) ∙ free))
       (λ past. listing_past slots (value_in p) k None (omega arith))
 
   -- where a slot is free not all are taken

@@ -13,12 +13,13 @@ use Rattle.sdd_shared_values.specs.SharedValues.{most, IsValueCode, IsNoValueCod
 use Rattle.sdd_views.specs.declared.ShownValue.{ShownValue}
 use Rattle.sdd_views.specs.declared.View.{View}
 use Rattle.sdd_word_invariant.specs.SlotSteps.{given_back, Knew, LooksAtSlot}
-use Rattle.sdd_word_invariant.specs.Codes.{free_word, owned_word}
+use Rattle.sdd_word_invariant.specs.Codes.{free_word}
 use Rattle.sdd_word_invariant.specs.Sums.{times}
 use Rattle.sdd_word_invariant.proofs.Sums.{is_other}
 use Rattle.sdd_domain_invariant.specs.FractionsAtHome.{CarriedFractions, Has, stake_at}
 use Rattle.sdd_domain_invariant.specs.Records.{slot_shown, IsIn}
 use Rattle.sdd_domain_invariant.proofs.Records.{in_head, in_tail}
+use Rattle.sdd_domain_invariant.specs.KindsInvariant.{written}
 use Rattle.sdd_domain_invariant.specs.FractionSteps.{SeatState, CarriesFirst, CarriesAll, IsValue, CarriesSeen, ClaimsAll, book_of, places_of, moving, making, giving, with_gone}
 use Rattle.sdd_domain_invariant.proofs.Tops.{whole, all_after, rest_is}
 use Rattle.atomic_table.specs.declared.shared.Seat.{Seat}
@@ -158,17 +159,19 @@ pub row_out : (γ n slot : ℕ) (me : SeatState) (xs : CarriedFractions) → me.
 unfolding AllOut
 row_out γ n slot me xs e e' row = subst (λ (t : ℕ × ℕ). CarriesAll t.0 slot t.1 0 IsNoValueCode me.1 xs) (λ d. (e d, e' d)) row
 
-pub gains : (slot : ℕ) (s t u : Seat ValueFraction View) (r r' : ℕ) → Taught (LooksAtSlot slot) s r t → Moved (ClaimsAll slot (free_word 0) (owned_word 0)) t r' u
-    → r' ≡ free_word 0 → slot < s.me.0.sizes.slots → Gains slot s u
+pub gains : (word slot : ℕ) (s t u : Seat ValueFraction View) (r r' : ℕ) → Taught (LooksAtSlot slot) s r t → Moved (ClaimsAll slot (free_word 0) word) t r' u
+    → r' ≡ free_word 0 → slot < s.me.0.sizes.slots → Gains word slot s u
 unfolding AllOut
-gains slot s t u r r' look claim hit inside = let me : t.me ≡ s.me = λ d. (look.3.0 d, look.2 d) in
-    let out = subst (λ (m : SeatState). (u.me.0 ≡ making slot (owned_word 0) m.0) × CarriesAll (book_of m) slot (places_of m) 0 IsNoValueCode m.1 u.me.1)
+gains word slot s t u r r' look claim hit inside = let me : t.me ≡ s.me = λ d. (look.3.0 d, look.2 d) in
+    let out = subst (λ (m : SeatState). (u.me.0 ≡ making slot word m.0) × CarriesAll (book_of m) slot (places_of m) 0 IsNoValueCode m.1 u.me.1
+    × (written u.me.0 slot ≡ word))
     me (claim.2.0 hit) in
     let knew = subst (λ (m : SeatState). Knew slot m.0 r') me claim.2.2 in record {
       table = claim.0 ∙ look.0;
       number = claim.1 ∙ look.1;
       row = out.1;
       view = out.0;
+      noted = out.2;
       inside = inside;
       free = λ one. sym (knew one) ∙ hit;
     }

@@ -1,5 +1,5 @@
 -- A participant is posed after each step that takes or gives slots.
-use Rattle.std.proofs.Common.{◌≡◌, ⊎_elim, ℕ, ◌+◌, ◌^◌, ◌<◌, ◌≤◌, not, List, [], ◌∷◌, ◌++◌, map, drop, suc, sym, refl, ap, ◌∙◌, subst, eq-eqb, arith}
+use Rattle.std.proofs.Common.{◌≡◌, ⊎_elim, ℕ, ◌+◌, ◌-◌, ◌^◌, ◌<◌, ◌≤◌, not, List, [], ◌∷◌, ◌++◌, map, drop, suc, sym, refl, ap, ◌∙◌, subst, eq-eqb, arith}
 use mathlib.Core.Bool.{Bool, cond}
 use base.Stored.{Gv}
 use mathlib.Core.Logic.{dite}
@@ -20,18 +20,17 @@ use Rattle.sdd_word_invariant.specs.Epoch.{HasPlace, IsLone, IsOpen}
 use Rattle.sdd_word_invariant.specs.EpochSteps.{knowing, counted, published}
 use Rattle.sdd_word_invariant.specs.Sums.{total, times}
 use Rattle.sdd_word_invariant.specs.Slots.{items_at, waits_in}
-use Rattle.sdd_word_invariant.specs.SlotSteps.{retired_now, retired, noted, without}
+use Rattle.sdd_word_invariant.specs.SlotSteps.{retired_now, retired, one_less, noted, without}
 use Rattle.sdd_views.specs.Views.{owner_of}
 use Rattle.sdd_word_invariant.proofs.Sums.{is_other, total_snoc}
 use Rattle.sdd_atomics.specs.declared.domain_table.DomainTable.{DomainTable}
 use Rattle.sdd_shared_values.specs.CarriedFractions.{OnlyLends}
 use Rattle.sdd_shared_values.specs.SharedValues.{IsNoValueCode}
 use Rattle.sdd_views.specs.declared.Sizes.{Sizes}
-use Rattle.sdd_word_invariant.specs.Codes.{owned_word}
 use Rattle.sdd_domain_invariant.specs.FractionsAtHome.{CarriedFractions, Has, stake_at}
 use Rattle.sdd_domain_invariant.specs.Records.{slot_shown, IsIn}
 use Rattle.sdd_domain_invariant.proofs.Records.{in_head, in_either, in_times}
-use Rattle.sdd_domain_invariant.specs.FractionSteps.{SeatState, IsValue, SeesOwned, LearnsOwned, regained, undrawing, remembering, resting, with_made}
+use Rattle.sdd_domain_invariant.specs.FractionSteps.{SeatState, IsValue, SeesOwned, LearnsOwned, regained, undrawing, remembering, untold, resting, with_made}
 use Rattle.sdd_atomics.specs.DomainTable.{book_of, places_of, slots_of}
 use Rattle.sdd_atomics.specs.DomainSeat.{view, epoch, slots, Taught, Moved, MovedAlone}
 use Rattle.sdd_atomics.specs.Owner.{disowned}
@@ -39,7 +38,7 @@ use Rattle.sdd_domain.specs.SeenSlots.{IsOnce}
 use Rattle.sdd_domain.specs.WaitingItems.{what_of, waiting_of, ripe, unripe, GivesOneBack}
 use Rattle.sdd_domain.proofs.Reclaims.{first_goes, no_more}
 use Rattle.sdd_domain.specs.Claims.{Gains}
-use Rattle.sdd_domain.specs.Values.{with_filled, LetsWait}
+use Rattle.sdd_domain.specs.Values.{with_filled, LetsWait, LeavesOthers}
 use Rattle.sdd_domain.specs.BetweenCalls.{CarriesSeenOnly, AreLentTo, IsBetweenCalls}
 use Rattle.sdd_domain.proofs.Ripe.{unripe_too}
 use Rattle.sdd_domain.proofs.Moving.{row_out, rest_out, now_seen, still_seen}
@@ -90,23 +89,23 @@ module _ (b : DomainTable) (p : ℕ) where
       }
 
   -- the token after an owner was taken in and its item retired
-  pub retires_to : (own : Participant) (slot : ℕ) (shared : Bool) (value : Gv) (s t u : Seat ValueFraction View) → IsBetweenCalls b p own s
-      → Taught (λ v _ w. w ≡ regained v (owner_of slot shared value)) s 0 t → Moved (LetsWait slot) t 4 u
-      → (count : ℕ) × (u.me.0 ≡ waiting_too slot shared value 4 count (view s)) × ((epoch s).known ≤ count) × (IsLone (epoch s) → count ≡ (epoch s).known)
+  pub retires_to : (own : Participant) (y slot : ℕ) (shared : Bool) (value : Gv) (s t u : Seat ValueFraction View) → IsBetweenCalls b p own s
+      → Taught (λ v _ w. w ≡ regained v (owner_of slot shared value)) s 0 t → Moved (LetsWait slot) t y u
+      → (count : ℕ) × (u.me.0 ≡ waiting_too slot shared value y count (view s)) × ((epoch s).known ≤ count) × (IsLone (epoch s) → count ≡ (epoch s).known)
       × (IsOpen (epoch s) → count ≤ (epoch s).since + 1)
-  retires_to own slot shared value s t u q took e = let r = e.2.1 in let v : View = view s in let v' : View = regained v (owner_of slot shared value) in
+  retires_to own y slot shared value s t u q took e = let r = e.2.1 in let v : View = view s in let v' : View = regained v (owner_of slot shared value) in
       let epochs : epoch t ≡ epoch s = ap (λ (w : View). w.epoch) took.3 in (
         r.0,
-        e.2.2 ∙ (ap remembering (r.3 ∙ ap (λ (w : View). retired slot 4 r.0
-            (undrawing w)) took.3) ∙ retired_view slot 4 r.0 shared value v q.quiet.owns q.sight.owns),
+        e.2.2 ∙ (ap remembering (r.3 ∙ ap (λ (w : View). retired slot y r.0
+            (undrawing w)) took.3) ∙ retired_view slot y r.0 shared value v q.quiet.owns q.sight.owns),
         subst (λ (x : EpochView). x.known ≤ r.0) epochs r.1,
         subst (λ (x : EpochView). IsLone x → r.0 ≡ x.known) epochs r.2,
         subst (λ (x : EpochView). IsOpen x → r.0 ≤ x.since + 1) epochs r.4,
       )
 
-  pub posed_retires : (own : Participant) (slot : ℕ) (shared : Bool) (value : Gv) (s t u : Seat ValueFraction View) → IsBetweenCalls b p own s → slot < slots_of b
-      → Taught (λ v _ w. w ≡ regained v (owner_of slot shared value)) s 0 t → Moved (LetsWait slot) t 4 u → IsBetweenCalls b p (awaiting (Item slot) own) u
-  posed_retires own slot shared value s t u q low took e = let r = retires_to own slot shared value s t u q took e in
+  pub posed_retires : (own : Participant) (y slot : ℕ) (shared : Bool) (value : Gv) (s t u : Seat ValueFraction View) → IsBetweenCalls b p own s → slot < slots_of b
+      → Taught (λ v _ w. w ≡ regained v (owner_of slot shared value)) s 0 t → Moved (LetsWait slot) t y u → IsBetweenCalls b p (awaiting (Item slot) own) u
+  posed_retires own y slot shared value s t u q low took e = let r = retires_to own y slot shared value s t u q took e in
       let others : u.me.1 ≡ s.me.1 = e.2.3 ∙ took.2 in
       subst (λ (v : View). IsBetweenCalls b p (awaiting (Item slot) own) (record u { me = (v, u.me.1) })) (sym r.1) record {
         home = e.0 ∙ (took.0 ∙ q.home);
@@ -133,6 +132,44 @@ module _ (b : DomainTable) (p : ℕ) where
         room = q.room;
         pace = stirs_low own.countdown q.pace;
         idle = λ e. absurd (stirs own.countdown e);
+      }
+
+  -- the token after an owner was taken in and went, beside others
+  pub leaves_to : (own : Participant) (slot : ℕ) (shared : Bool) (value : Gv) (s t u : Seat ValueFraction View) → IsBetweenCalls b p own s
+      → Taught (λ v _ w. w ≡ regained v (owner_of slot shared value)) s 0 t → (e : MovedAlone (LeavesOthers slot) t u)
+      → (u.me.0 ≡ record (view s) { words = noted slot (e.2.word - 1) (view s) }) × (u.me.1 ≡ s.me.1)
+  leaves_to own slot shared value s t u q took e = let o = e.2 in let v : View = view s in (
+    ap (λ (m : SeatState). m.0) o.seat ∙ (ap (λ (w : View). untold (one_less slot (o.word - 1) (undrawing w))) took.3
+        ∙ (λ d. record v { stakes = record v.stakes { owns = sym q.sight.owns d }; words = noted slot (o.word - 1) v })),
+    ap (λ (m : SeatState). m.1) o.seat ∙ took.2,
+  )
+
+  pub posed_leaves : (own : Participant) (slot : ℕ) (shared : Bool) (value : Gv) (s t u : Seat ValueFraction View) → IsBetweenCalls b p own s
+      → Taught (λ v _ w. w ≡ regained v (owner_of slot shared value)) s 0 t → MovedAlone (LeavesOthers slot) t u → IsBetweenCalls b p own u
+  posed_leaves own slot shared value s t u q took e = let l = leaves_to own slot shared value s t u q took e in
+      subst (λ (v : View). IsBetweenCalls b p own (record u { me = (v, u.me.1) })) (sym l.0) record {
+        home = e.0 ∙ (took.0 ∙ q.home);
+        purse = subst (λ (xs : CarriedFractions). CarriesSeenOnly (book_of b) (places_of b) p s.me.0.stakes.sees xs) (sym l.1) q.purse;
+        sight = record { owns = q.sight.owns; sees = q.sight.sees; once = q.sight.once };
+        unseen = q.unseen;
+        rests = q.rests;
+        all = q.all;
+        place = q.place;
+        inside = q.inside;
+        count = q.count;
+        closed = q.closed;
+        opened = q.opened;
+        near = q.near;
+        lone = q.lone;
+        free = q.free;
+        knows = q.knows;
+        found = q.found;
+        quiet = record { owns = q.quiet.owns; drawn = q.quiet.drawn; holds = q.quiet.holds; looked = q.quiet.looked };
+        waiting = q.waiting;
+        bags = q.bags;
+        room = q.room;
+        pace = q.pace;
+        idle = q.idle;
       }
 
   -- the first that was due was moved out
@@ -205,24 +242,24 @@ module _ (b : DomainTable) (p : ℕ) where
       }
 
   -- a slot that it claimed has an item, whose owner left it
-  pub made_view : (own : Participant) (slot : ℕ) (shared : Bool) (value : Gv) (s t u : Seat ValueFraction View) → IsBetweenCalls b p own s → Gains slot s t
+  pub made_view : (own : Participant) (y slot : ℕ) (shared : Bool) (value : Gv) (s t u : Seat ValueFraction View) → IsBetweenCalls b p own s → Gains y slot s t
       → view u ≡ disowned (resting (with_filled slot shared value (view t)))
-      → view u ≡ with_filled slot shared value (with_made (record (view s) { words = noted slot (owned_word 0) (view s) }))
-  made_view own slot shared value s t u q gains is = let v : View = view s in is ∙ (ap (λ (w : View). disowned (resting
+      → view u ≡ with_filled slot shared value (with_made (record (view s) { words = noted slot y (view s) }))
+  made_view own y slot shared value s t u q gains is = let v : View = view s in is ∙ (ap (λ (w : View). disowned (resting
       (with_filled slot shared value w))) gains.view
       ∙ (λ d. record v {
         slots = record v.slots { owns = sym q.quiet.owns d };
         stakes = record (with_filled slot shared value (with_made v)).stakes { moves = sym q.rests d };
-        words = noted slot (owned_word 0) v;
+        words = noted slot y v;
       }))
 
-  pub posed_makes : (own : Participant) (slot : ℕ) (shared : Bool) (value : Gv) (s t u : Seat ValueFraction View) → IsBetweenCalls b p own s → Gains slot s t
+  pub posed_makes : (own : Participant) (y slot : ℕ) (shared : Bool) (value : Gv) (s t u : Seat ValueFraction View) → IsBetweenCalls b p own s → Gains y slot s t
       → u.table_id ≡ t.table_id → view u ≡ disowned (resting (with_filled slot shared value (view t))) → u.me.1 ≡ drop (suc (places_of b)) t.me.1
       → IsBetweenCalls b p own u × (u.me.1 ≡ s.me.1)
-  posed_makes own slot shared value s t u q gains table is given =
+  posed_makes own y slot shared value s t u q gains table is given =
       let row = row_out (book_of b) (places_of b) slot s.me t.me.1 q.knows.1 (ap (λ (z : Sizes). z.participants) q.knows.0) gains.row in
       let others : u.me.1 ≡ s.me.1 = rest_out (book_of b) slot (places_of b) (places_of b) 0 IsNoValueCode s.me.1 t.me.1 u.me.1 refl row given in (
-        subst (λ (w : View). IsBetweenCalls b p own (record u { me = (w, u.me.1) })) (sym (made_view own slot shared value s t u q gains is)) record {
+        subst (λ (w : View). IsBetweenCalls b p own (record u { me = (w, u.me.1) })) (sym (made_view own y slot shared value s t u q gains is)) record {
           home = table ∙ (gains.table ∙ q.home);
           purse = subst (λ (xs : CarriedFractions). CarriesSeenOnly (book_of b) (places_of b) p s.me.0.stakes.sees xs) (sym others) q.purse;
           sight = record { owns = q.sight.owns; sees = q.sight.sees; once = q.sight.once };

@@ -15,7 +15,6 @@ use Rattle.sdd_word_invariant.specs.SlotSteps.{behind}
 use Rattle.sdd_word_invariant.specs.Sums.{total}
 use Rattle.sdd_word_invariant.specs.Slots.{waits_in}
 use Rattle.sdd_word_invariant.proofs.Codes.{free_is}
-use Rattle.sdd_domain_invariant.specs.FilledInvariant.{newest}
 use Rattle.sdd_domain.specs.LocalState.{LocalState, IsLone, IsNew, word_of}
 use Rattle.sdd_participants.specs.declared.waiting.LimboEntry.{LimboEntry}
 use Rattle.sdd_domain.specs.WaitingItems.{what_of, waiting_of, ripe, unripe}
@@ -77,7 +76,7 @@ module _ {T : Type 0} (home : TableId) (book : ℕ) (most : Limits) (m : LocalSt
       nesting = (is.limits d).nesting;
       room = (is.limits d).slots;
     };
-    standings = listing_same m.limits.slots (λ (i : ℕ). None) (standing_in q) (λ i l. ap (λ (w : ℕ). standing_by w (newest i m.filled)) (word_free i))
+    standings = listing_same m.limits.slots (λ (i : ℕ). None) (standing_in q) (λ i l. ap standing_by (word_free i))
         ∙ (listing_none m.limits.slots ∙ ap (λ (n : ℕ). replicate n None) slots_are);
     values = listing_same m.limits.slots (λ (i : ℕ). None) (value_in q) (λ i l. ap (λ (w : ℕ). value_by w (slice_index_or es i None)) (word_free i))
         ∙ (listing_none m.limits.slots ∙ ap (λ (n : ℕ). replicate n None) slots_are);

@@ -33,7 +33,7 @@ use Rattle.sdd_space.proofs.Accounts.{blank-at}
 use Rattle.sdd_space.proofs.Four.{AllClosed, all-closed, not-guarded}
 use Rattle.sdd_space.proofs.Housed.{Whole-opened, Whole-made_as, Whole-owner_given, live-taken}
 use Rattle.sdd_domain.specs.SpaceIds.{home_in}
-use Rattle.sdd_domain.specs.LocalState.{LocalState, word_of, IsLone, IsNew, RetiresAt, KnowsOwner}
+use Rattle.sdd_domain.specs.LocalState.{LocalState, word_of, IsLone, IsNew, OwnerGoes, KnowsOwner}
 use Rattle.sdd_domain.specs.WordsAndValues.{Entries, WordsMatchValues}
 use Rattle.sdd_domain.specs.Local.{LocalModel, IsBlankAlone, value_in, world_of}
 use Rattle.sdd_domain.specs.Space.{ShowsBy, Shows, is_lone}
@@ -41,7 +41,7 @@ use Rattle.sdd_domain.proofs.Listings.{listing_at, listing_past}
 use Rattle.sdd_domain.specs.Laws.{own_is_place}
 use Rattle.sdd_domain.specs.Sound.{IsSound}
 use Rattle.sdd_domain.proofs.Makes.{Answers, did_world}
-use Rattle.sdd_domain.proofs.Owning.{release_world}
+use Rattle.sdd_domain.proofs.Owning.{went_due, went_home, went_limits, release_world}
 use Rattle.sdd_domain.proofs.Registered.{blank_new}
 
 no_guards : (own : Participant) → time.is_open own ≡ false → own.guards ≡ 0
@@ -169,12 +169,13 @@ module _ {T : Type 0} where
         (λ one. let lone : IsLone v.member = ap (λ (h : SpaceId). h.readers.size) (sym home) ∙ one in
         whole_by v (record v { member = m }) step keeps (same lone) (sound.whole lone))
 
-    pub sound_release : (right : Right) (count : ℕ) → WordsMatchValues v.member v.entries → RetiresAt (number_of right) count v.member m
-        → (IsLone v.member → (g : Gv) × KnowsOwner v.member (number_of right) (is_shared (kind_of right)) g) → IsSound holds (record v { member = m })
-    sound_release right count tied is knows = sound_then (ap (λ (y : LocalState). y.due) is.member ∙ sound.settled) (ap home_in is.member)
-        (λ one. let lone : IsLone v.member = sym (ap (λ (y : LocalState). y.limits.participants) is.member) ∙ one in
+    pub sound_release : (right : Right) (tied : WordsMatchValues v.member v.entries)
+        (knows : IsLone v.member → (g : Gv) × KnowsOwner v.member (number_of right) (is_shared (kind_of right)) g)
+        (last : Bool) → OwnerGoes (number_of right) (is_shared (kind_of right)) last v.member m → IsSound holds (record v { member = m })
+    sound_release right tied knows last went = sound_then (went_due v m right tied knows last went ∙ sound.settled) (went_home v m right tied knows last went)
+        (λ one. let lone : IsLone v.member = sym (ap (λ (l : Limits). l.participants) (went_limits v m right tied knows last went)) ∙ one in
         let w : World T = world_of v in
-        subst (λ (u : World T). IsWhole u) (sym (release_world v m right count is tied knows v refl (lone_true v.member lone)))
+        subst (λ (u : World T). IsWhole u) (sym (release_world v m right tied knows last went v refl (lone_true v.member lone)))
         (Whole-owner_given w v.member.place (number_of right) (live-taken w.time v.member.place (lives v)) (standing_at w (number_of right)) refl
         (sound.whole lone)))
 

@@ -1,5 +1,5 @@
 -- A participant's membership of a domain as its callers see it, and what each call does to it
-use Rattle.std.specs.Prelude.{◌≡◌, ◌≢◌, ◌⊎◌, ℕ, ◌+◌, ◌^◌, ◌<◌, ◌≤◌, Bool, Some, true, false, List, [], ◌∷◌, ◌++◌, slice_index, slice_set}
+use Rattle.std.specs.Prelude.{◌≡◌, ◌≢◌, ◌⊎◌, ℕ, ◌+◌, ◌-◌, ◌^◌, ◌<◌, ◌≤◌, Bool, Some, true, false, List, [], ◌∷◌, ◌++◌, slice_index, slice_set}
 use base.Stored.{Gv}
 use Rattle.atomic_table.specs.Seated.{TableId}
 use Rattle.sdd_core.specs.declared.limits.Limits.{Limits}
@@ -14,13 +14,14 @@ use Rattle.sdd_participants.specs.Tally.{no_items, one_made, one_reclaimed}
 use Rattle.sdd_views.specs.declared.Sizes.{Sizes}
 use Rattle.sdd_views.specs.declared.ShownValue.{ShownValue}
 use Rattle.sdd_views.specs.declared.SlotsView.{SlotsView}
-use Rattle.sdd_word_invariant.specs.Codes.{free_word, owned_word, waiting_word, alive}
+use Rattle.sdd_word_invariant.specs.Codes.{free_word, claimed_word, retired_word, alive, counted}
 use Rattle.sdd_word_invariant.specs.Sums.{times, total}
 use Rattle.sdd_word_invariant.specs.Slots.{waits_in}
 use Rattle.sdd_views.specs.Views.{bare}
 use Rattle.sdd_word_invariant.specs.SlotSteps.{blank, behind, retired_now, without_item}
 use Rattle.sdd_domain_invariant.specs.Records.{IsIn}
 use Rattle.sdd_domain_invariant.specs.FilledInvariant.{newest}
+use Rattle.sdd_domain_invariant.specs.BankInvariant.{one_where}
 use Rattle.sdd_domain.specs.WaitingItems.{aged_at, due_at, arrived_at}
 
 -- the domain, the book of its values' places, its limits, the place, whose guards are the participant's, what it keeps of its own, the greatest count that it knows,
@@ -146,7 +147,8 @@ IsFree m slot = word_of m slot ≡ free_word 0
 -- by what a lone participant knows the slot has an owner, who is one of several or not, and shows this
 pub record KnowsOwner (m : LocalState) (slot : ℕ) (shared : Bool) (value : Gv) : Type 0 where
   pub newest : newest slot m.filled ≡ Some (record { slot = slot; shared = shared; value = value })
-  pub alive : alive (word_of m slot) ≡ 1
+  pub alive : 0 < alive (word_of m slot)
+  pub kind : counted (word_of m slot) ≡ one_where shared
 
 -- a slot that was free has an item, made by it, which shows this; its owner may be one of several
 pub record MakesAt (slot : ℕ) (shared : Bool) (value : Gv) (old new : LocalState) : Type 0 where
@@ -154,7 +156,7 @@ pub record MakesAt (slot : ℕ) (shared : Bool) (value : Gv) (old new : LocalSta
   pub member : new ≡ record old {
     tally = one_made old.tally;
     filled = record { slot = slot; shared = shared; value = value } ∷ old.filled;
-    words = slice_set old.words (behind old.sizes slot) (owned_word 0);
+    words = slice_set old.words (behind old.sizes slot) (claimed_word shared);
   }
   pub lone : IsLone old → IsFree old slot
 
@@ -174,13 +176,26 @@ pub record LooksAt (slot : ℕ) (shared : Bool) (value : Gv) (old new : LocalSta
 abbrev pub IsUsedUp : LocalState → Type 0
 IsUsedUp m = (slot : ℕ) → slot < m.limits.slots → ¬ (IsFree m slot)
 
--- the item of a slot waits with it from now on, retired at the count of this moment
-pub record RetiresAt (slot count : ℕ) (old new : LocalState) : Type 0 where
+-- the item of a slot waits with it from now on, retired at the count of this moment, as its last owner has gone, which was one of several or not
+pub record RetiresAt (slot : ℕ) (shared : Bool) (count : ℕ) (old new : LocalState) : Type 0 where
   pub member : new ≡ record old {
     own = awaiting (Item slot) old.own;
     known = count;
     slots = record old.slots { waits = old.slots.waits ++ retired_now slot count ∷ [] };
-    words = slice_set old.words (behind old.sizes slot) (waiting_word 0);
+    words = slice_set old.words (behind old.sizes slot) (retired_word shared);
   }
   pub knew : old.known ≤ count
   pub lone : IsLone old → count ≡ old.known
+  pub last : IsLone old → shared ≡ true → word_of old slot ≡ claimed_word true
+
+-- an owner of a slot went, and others stay, as many as its word tells that was found
+pub record LeavesAt (slot word : ℕ) (old new : LocalState) : Type 0 where
+  pub member : new ≡ record old { words = slice_set old.words (behind old.sizes slot) (word - 1) }
+  pub counted : counted word ≡ 1
+  pub several : 1 < alive word
+  pub lone : IsLone old → word_of old slot ≡ word
+
+-- an owner of a slot went, which was one of several or not, as the last one or beside others
+abbrev pub OwnerGoes : ℕ → Bool → Bool → LocalState → LocalState → Type 0
+OwnerGoes slot shared true old new = (count : ℕ) × RetiresAt slot shared count old new
+OwnerGoes slot shared false old new = (word : ℕ) × LeavesAt slot word old new

@@ -1,9 +1,9 @@
 -- What a lone participant's words, its bags and its ledger have to do with one another
-use Rattle.std.specs.Prelude.{◌≡◌, ℕ, ◌<◌, ◌==◌, ◌||◌, Bool, IsTrue, List, Option, Some, None, length, map, slice_index_or}
+use Rattle.std.specs.Prelude.{◌≡◌, ℕ, ◌+◌, ◌^◌, ◌<◌, ◌==◌, ◌||◌, ◌&&◌, leb, Bool, IsTrue, List, Option, Some, None, length, map, slice_index_or}
 use base.Stored.{Gv}
 use Rattle.sdd_views.specs.declared.ShownValue.{ShownValue}
 use Rattle.sdd_word_invariant.specs.Words.{words_behind}
-use Rattle.sdd_word_invariant.specs.Codes.{free_word, owned_word, waiting_word, waiting, full}
+use Rattle.sdd_word_invariant.specs.Codes.{free_word, owned_word, waiting_word, shared_base, waiting, full}
 use Rattle.sdd_word_invariant.specs.Sums.{total}
 use Rattle.sdd_word_invariant.specs.Slots.{waits_in}
 use Rattle.sdd_domain_invariant.specs.FilledInvariant.{newest}
@@ -14,9 +14,9 @@ use Rattle.sdd_domain.specs.LocalState.{LocalState, IsLone, word_of}
 abbrev pub Entries : Type 0 → Type 0
 Entries T = List (Option (T × Gv))
 
--- a word that a lone participant knows of a slot: it is free, owned, or its item waits
+-- a word that a lone participant knows of a slot: it is free, owned, or its item waits, or it counts owners, 2^62 at most
 abbrev pub is_plain_word : ℕ → Bool
-is_plain_word x = x == free_word 0 || (x == owned_word 0 || x == waiting_word 0)
+is_plain_word x = x == free_word 0 || (x == owned_word 0 || (x == waiting_word 0 || (leb shared_base x && leb x (shared_base + 2 ^ 62))))
 
 -- the ledger has the value whose code the record tells
 abbrev pub Agrees : {T : Type 0} → Option ShownValue → Option (T × Gv) → Type 0

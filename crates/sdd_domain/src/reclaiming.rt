@@ -19,6 +19,7 @@ ghost use Rattle.sdd_domain.specs.Reclaiming.{kept_of, rest_of};
 ghost use Rattle.sdd_domain.specs.Space.{seat_of, known_of};
 
 use crate::local_core::LocalCore;
+use sdd_rights::StandingKind;
 use sdd_shared_values::GhostValues;
 use sdd_space::inner::{
     right_of_cell, right_of_owner, right_of_raw_cell, right_of_shared, right_of_shared_cell,
@@ -67,10 +68,10 @@ impl<T: Item<T>> Giver<T> for LocalGiver<'_, T> {
         ensures waits { self.new.member.own ≡ awaiting (item (owned.slot_of owner)) self.old.member.own }
         ensures exact { IsExact (seat_of self.old) → world_of self.new ≡ given (world_of self.old) self.old.member.place (owned.holding_of owner) }
     {
-        self.membership.release(right_of_owner(owner));
+        self.membership
+            .release(right_of_owner(owner), StandingKind::Owned);
     }
 
-    /// A domain gives out no owner of which there are others.
     fn shared(&mut self, owner: Shared<T>)
         requires seated { IsSeated (seat_of self.old) }
         requires home { shared.slots_home owner ≡ (home_in self.old.member).slots }
@@ -80,7 +81,8 @@ impl<T: Item<T>> Giver<T> for LocalGiver<'_, T> {
         ensures kept { kept_of self.new ≡ kept_of self.old }
         ensures exact { IsExact (seat_of self.old) → world_of self.new ≡ given (world_of self.old) self.old.member.place (shared.holding_of owner) }
     {
-        self.membership.release(right_of_shared(owner));
+        self.membership
+            .release(right_of_shared(owner), StandingKind::Shared);
     }
 
     /// A domain has no cells yet, so that nothing becomes of this one.

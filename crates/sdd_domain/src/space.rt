@@ -197,9 +197,8 @@ impl<T: Item<T>> Items<T> for Local<'_, T> {
     }
 
     #[inline]
-    fn release(&mut self, right: Right, _kind: StandingKind) -> bool {
-        self.partner.membership.release(right);
-        true
+    fn release(&mut self, right: Right, kind: StandingKind) -> bool {
+        self.partner.membership.release(right, kind)
     }
 
     #[inline]

@@ -731,23 +731,23 @@ module _ (slots id : ℕ) (me : SeatState) (live : HasPlace me.0.epoch) where
                   (λ k. let z = ap (times k) empty in omega arith) same;
               kinds = kind_steps.goes sizes s.words s.views h.kinds h.records.each id v at slot y now inside (wrote_long s h at y) rests refl (λ _ o. o) word
                   (λ j u apart e. inr (still_owned γ sizes s h slot id j v u at e (λ z. apart (sym z)) own, fewer.3 ∙ sym several));
-              tells = at_once ReleasesOne count_word (now, me.1) (left, (λ last. absurd (more last)), (λ _. refl), knew);
+              tells = at_once ReleasesOne count_word (now, me.1) (several, left, (λ last. absurd (more last)), (λ _. refl), knew);
             }
 
         follows : (w : View) → lets_one count_word w → Follows γ sizes id i me released s (steps.less_one count_word) w
-        follows w t = let c = t.0 slot refl in let left = c.0 in let above = (shared count_word (counted_is count_word several)).0 in
+        follows w t = let c = t.0 slot refl in let left = c.1 in let above = (shared count_word (counted_is count_word several)).0 in
             let small = t.1 in let less : steps.less_one count_word ≡ count_word - 1 = omega arith in
             subst (λ (y : ℕ). Follows γ sizes id i me released s y w) (sym less) (dite (ℕ_discrete (alive count_word) 1)
             (λ last. let e : count_word - 1 ≡ shared_base = omega arith in
             waits_now s h at (count_word - 1) released (ap waiting e ∙ none_left.1) owns empty rests value (told_it.0, shared_record value, told_it.1, refl, refl) last w
-            (c.1 last) (λ me' r. at_once ReleasesOne count_word me' (left, (λ _. r), (λ more. absurd (more last)), c.3)))
-            (λ more. subst (Follows γ sizes id i me released s (count_word - 1)) (sym (c.2 more)) (others_stay left more c.3)))
+            (c.2 last) (λ me' r. at_once ReleasesOne count_word me' (several, left, (λ _. r), (λ more. absurd (more last)), c.4)))
+            (λ more. subst (Follows γ sizes id i me released s (count_word - 1)) (sym (c.3 more)) (others_stay left more c.4)))
 
       -- let an owner go that is counted, whose unit is in the bank, by one subtraction
       pub releases : May i steps.less_one released
       releases = lift_whole γ sizes slots id me i steps.less_one lets_one released
           (spares steps.less_one lets_one (λ r w t. let c = t.0 slot refl in dite (ℕ_discrete (alive r) 1)
-          (λ last. ap (λ (u : View). u.places) (c.1 last).3) (λ more. ap (λ (u : View). u.places) (c.2 more))))
+          (λ last. ap (λ (u : View). u.places) (c.2 last).3) (λ more. ap (λ (u : View). u.places) (c.3 more))))
           (λ s h at small. let step = steps.releases id v live slot [] inside owns free s.words s.views h.kept.parts at (several s h at) small in
           (step.0, step.1, (step.2, small)))
           (λ s w h at t. follows s h at w t)

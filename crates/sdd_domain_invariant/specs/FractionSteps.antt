@@ -180,7 +180,7 @@ RetiresOne slot me y me' = (v : View) × Retires slot me.0 y v × (me'.0 ≡ rem
 
 -- an owner that is counted goes: the last one's item waits from now on, and what it knew is remembered; else other owners stay
 abbrev pub ReleasesOne : ℕ → SeatState → ℕ → SeatState → Type 0
-ReleasesOne slot me x me' = (0 < alive x) × (alive x ≡ 1 → RetiresOne slot me (x - 1) me')
+ReleasesOne slot me x me' = (counted x ≡ 1) × (0 < alive x) × (alive x ≡ 1 → RetiresOne slot me (x - 1) me')
     × (alive x ≢ 1 → me' ≡ (untold (one_less slot (x - 1) me.0), me.1)) × Knew slot me.0 x
 
 -- it was moved out: the slot is free, and all stakes in it go home

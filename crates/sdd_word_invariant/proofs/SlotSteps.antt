@@ -132,7 +132,7 @@ module _ (id : ℕ) (v : View) (live : HasPlace v.epoch) where
       (dite (ℕ_discrete (alive x) 1)
       (λ last. let e : y ≡ shared_base = omega arith in
       let r = retires slot y inside mine free (ap alive e ∙ none_left.0) (ap waiting e ∙ none_left.1) ws vs p at last in
-      (r.0, r.1, λ other is. (left, (λ _. r.2 other is), (λ more. absurd (more last)), knew_too slot other is x told)))
+      (r.0, r.1, λ other is. (several, left, (λ _. r.2 other is), (λ more. absurd (more last)), knew_too slot other is x told)))
       (λ more. let w : View = one_less slot y v in let l = some_left y (omega arith) in let l0 = l.0 in let fewer : alive y + 1 ≡ alive x = omega arith in
       let rest_is = ap others has in (
         w,
@@ -141,6 +141,7 @@ module _ (id : ℕ) (v : View) (live : HasPlace v.epoch) where
             (let a = ap (times slot) has in let b = ap (times slot) rest_is in let one = is_same slot slot refl in omega arith)
             (λ j ne. let a = ap (times j) has in let b = ap (times j) rest_is in let z = is_other j slot (λ e. ne (sym e)) in omega arith)),
         λ other is. (
+          several,
           left,
           (λ last. absurd (more last)),
           (λ _. ap (λ (k : ℕ). one_less k y v) (same_slot slot other is)),

@@ -10,7 +10,7 @@ use Rattle.sdd_views.specs.declared.View.{View}
 use Rattle.sdd_views.specs.declared.Sizes.{Sizes}
 use Rattle.sdd_word_invariant.specs.Words.{words_behind, state_word, slot_word}
 use Rattle.sdd_word_invariant.specs.Epoch.{HasPlace, IsOpen, IsLone}
-use Rattle.sdd_word_invariant.specs.Codes.{alive}
+use Rattle.sdd_word_invariant.specs.Codes.{alive, counted}
 use Rattle.sdd_word_invariant.specs.Slots.{items_at}
 use Rattle.sdd_word_invariant.specs.EpochSteps.{knowing, closed, Publishes}
 
@@ -143,7 +143,7 @@ Retires slot v y w = (count : ℕ) × (v.epoch.known ≤ count) × (IsLone v.epo
 
 -- an owner that is counted goes, by one subtraction: where one was counted it was the last, and the item waits
 abbrev pub Releases : ℕ → View → ℕ → View → Type 0
-Releases slot v x w = (0 < alive x) × (alive x ≡ 1 → Retires slot v (x - 1) w) × (alive x ≢ 1 → w ≡ one_less slot (x - 1) v) × Knew slot v x
+Releases slot v x w = (counted x ≡ 1) × (0 < alive x) × (alive x ≡ 1 → Retires slot v (x - 1) w) × (alive x ≢ 1 → w ≡ one_less slot (x - 1) v) × Knew slot v x
 
 -- the slot is free, in which one item waited
 abbrev pub GivesBack : ℕ → View → ℕ → View → Type 0

@@ -1,4 +1,4 @@
-use Rattle.std.proofs.Common.{ap, ◌∙◌, refl}
+use Rattle.std.proofs.Common.{ap, ◌∙◌}
 use Rattle.sdd_views.specs.declared.View.{View}
 use Rattle.sdd_domain.proofs.closing.bar_all.Goals as goal
 

@@ -7,6 +7,8 @@ use Rattle.sdd_shared_values.specs.SharedValues.{IsNoValueCode, showing}
 use Rattle.sdd_views.specs.declared.View.{View}
 use Rattle.sdd_views.specs.contracts.View.{the_row}
 use Rattle.sdd_word_invariant.specs.Sums.{times}
+use Rattle.sdd_word_invariant.specs.Codes.{counted}
+use Rattle.sdd_domain_invariant.specs.KindsInvariant.{written}
 use Rattle.sdd_word_invariant.proofs.Sums.{is_same}
 use Rattle.sdd_domain_invariant.specs.FractionSteps.{parting, departing}
 use Rattle.sdd_atomics.specs.DomainTable.{book_of, places_of}
@@ -45,6 +47,8 @@ house-requires-clause-row g c = let b = c.args.board.now in let r = c.requires i
       moves_cut b slot (c.places-count.result + 1) c.args.shared value c.args.token.now c.put.new.seat cut.new.token cut.new.token r.knows all r.own.0 r.row.0 r.row.1
           put.0 tt put.1 cut.ensures.token,
       (let e = ap (λ (v : View). times slot v.slots.owns) same in let e' = ap (times slot) r.own.1 in omega arith),
+      (λ held. let none = ap (λ (v : View). v.slots.holds) same ∙ r.free.0 in cc),
+      ap (λ (v : View). counted (written v slot)) same ∙ r.kind,
       (r.row.0, (cut.ensures.row value r.row.0 row).0),
       cut.ensures.rest,
     )
