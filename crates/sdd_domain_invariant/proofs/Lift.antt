@@ -32,6 +32,7 @@ use Rattle.sdd_domain_invariant.specs.BankInvariant.{BankInvariant}
 use Rattle.sdd_domain_invariant.proofs.Banks.{with_deposits}
 use Rattle.sdd_domain_invariant.proofs.Banks as banks
 use Rattle.sdd_domain_invariant.specs.KindsInvariant.{KindsInvariant}
+use Rattle.sdd_domain_invariant.proofs.KindSteps.{same_post}
 use Rattle.sdd_domain_invariant.proofs.KindSteps as kind_steps
 use Rattle.sdd_domain_invariant.specs.Records.{RecordsInvariant}
 use Rattle.sdd_domain_invariant.specs.Counts.{CountsInvariant}
@@ -186,7 +187,8 @@ module _ (γ : ℕ) (sizes : Sizes) (slots id : ℕ) (me : SeatState) (i : ℕ) 
         lives = lives (get_or s.words i 0) e t.2;
         had = had s h e t.2;
         kinds = kind_steps.calm sizes s.words s.views h.kinds h.records.each id me.0 at (set s.words i y) (record me.0 { epoch = e })
-            (slots_before sizes s.words i y low) (refl, refl, refl, (λ _. refl), refl) refl refl (λ _ o. o);
+            (slots_before sizes s.words i y low) (refl, refl, refl, (λ _. refl), refl) refl refl (λ _ o. o)
+            (same_post me.0 (record me.0 { epoch = e }) refl refl refl (lives (get_or s.words i 0) e t.2) refl refl);
       })
 
 -- a publish may make each item that waits a change older, and leaves all else of slots
@@ -221,7 +223,8 @@ module _ (γ : ℕ) (sizes : Sizes) (slots : ℕ) where
         lives = λ _. (stays e t.2).0;
         had = λ _ _. inl live;
         kinds = kind_steps.calm sizes s.words s.views h.kinds h.records.each id v at (set s.words i y) (record v { epoch = e })
-            (slots_before sizes s.words i y low) (refl, refl, refl, (λ _. refl), refl) refl refl (λ _ o. o);
+            (slots_before sizes s.words i y low) (refl, refl, refl, (λ _. refl), refl) refl refl (λ _ o. o)
+            (same_post v (record v { epoch = e }) refl refl refl (λ _. (stays e t.2).0) refl refl);
       }
       record {
         more = more;
@@ -234,15 +237,16 @@ module _ (γ : ℕ) (sizes : Sizes) (slots : ℕ) where
         had = λ _ _. inl live;
         kinds = kind_steps.calm sizes s.words s.views h.kinds h.records.each id v at (set s.words i y)
             (record v { epoch = e; slots = record v.slots { waits = map older v.slots.waits } }) (slots_before sizes s.words i y low)
-            (refl, refl, refl, (λ j. total_map (waits_in j) older (λ x. refl) v.slots.waits), refl) refl refl (λ _ o. o);
+            (refl, refl, refl, (λ j. total_map (waits_in j) older (λ x. refl) v.slots.waits), refl) refl refl (λ _ o. o)
+            (same_post v (record v { epoch = e; slots = record v.slots { waits = map older v.slots.waits } }) refl refl refl (λ _. (stays e t.2).0) refl refl);
       }))
 
   -- the end of a place, which is counted
-  pub lift_end : (id : ℕ) (me : SeatState) (told : SeatState → Type 0) → me.0.epoch.place < sizes.participants → IsClosed me.0.epoch → me.0.stakes.moves ≡ None
+  pub lift_end : (id : ℕ) (me : SeatState) (told : SeatState → Type 0) → me.0.epoch.place < sizes.participants → IsClosed me.0.epoch → me.0.stakes.moves ≡ None → me.0.slots.over ≡ None
       → Steps (Parts sizes) id me.0 (state_word me.0.epoch.place) (λ _. 3) (λ _. OnEpoch (λ u _ e. Ends u 3 e) me.0 3)
       → ((s : State ValueFraction View) → DomainInvariant γ sizes s → get_elem? s.views id ≡ some me.0 → Spares sizes s.words (state_word me.0.epoch.place) 3)
       → told (leaving me.0, me.1) → Allows (DomainInvariant γ sizes) slots id me (state_word me.0.epoch.place) (λ _. 3) (λ _. told)
-  lift_end id me told inside shut rests step spares tells = let v : View = me.0 in let i : ℕ = state_word v.epoch.place in
+  lift_end id me told inside shut rests over step spares tells = let v : View = me.0 in let i : ℕ = state_word v.epoch.place in
       lift_homes γ sizes slots id me i (λ _. 3) (λ _. OnEpoch (λ u _ e. Ends u 3 e) v 3) (λ _. told)
       (keeps_ended γ sizes slots id me i (λ _. 3) (λ _. OnEpoch (λ u _ e. Ends u 3 e) v 3) (λ r w t. ap (λ (u : View). u.places) t.1) spares
       (inr (omega arith))) step
@@ -263,7 +267,8 @@ module _ (γ : ℕ) (sizes : Sizes) (slots : ℕ) where
         filled = filled_same sizes s.views h.filled id v at now refl refl refl (λ z. absurd (omega arith));
         bank = banks.alike γ sizes s.words s.views h.bank id v at (set s.words i 3) now (refl, refl, refl, (λ _. refl), refl) same;
         kinds = kind_steps.calm sizes s.words s.views h.kinds h.records.each id v at (set s.words i 3) now (slots_before sizes s.words i 3 (omega arith))
-            (refl, refl, refl, (λ _. refl), refl) refl refl (λ _ o. o);
+            (refl, refl, refl, (λ _. refl), refl) refl refl (λ _ o. o)
+            record { pledges = refl; over = refl; sizes = refl; place = inr over; records = λ _ r a. a; holds = λ _. refl };
         tells = tells;
       })
 
@@ -334,5 +339,6 @@ module _ (γ : ℕ) (sizes : Sizes) (id : ℕ) (v : View) (s : State ValueFracti
         filled = filled_same sizes vs fill bd b now b' refl refl refl (λ live. live);
         bank = bank;
         kinds = kind_steps.stays sizes s.words vs kinds told.each bd b now s.words b' (λ i. refl)
-            (kind_steps.knows_alike sizes s.words b b' (kinds.each bd b now) refl refl (λ i m. m) (λ i o. o) (λ r a. a) (λ i a. a));
+            (kind_steps.knows_alike sizes s.words b b' (kinds.each bd b now) refl refl (λ i m. m) (λ i o. o) (λ r a. a) (λ i a. a))
+            (same_post b b' refl refl refl (λ l. l) refl refl);
       }

@@ -51,7 +51,7 @@ use Rattle.sdd_domain_invariant.specs.FractionsAtHome.{CarriedFractions, stake_a
 use Rattle.sdd_domain_invariant.specs.DomainInvariant.{DomainInvariant}
 use Rattle.sdd_domain_invariant.specs.BankInvariant.{drawn_at, moves_at, one_where, banked, IsBank, outside}
 use Rattle.sdd_domain_invariant.specs.KindsInvariant.{written}
-use Rattle.sdd_domain_invariant.proofs.KindSteps.{written_now}
+use Rattle.sdd_domain_invariant.proofs.KindSteps.{written_now, KeepsPost, same_post}
 use Rattle.sdd_domain_invariant.proofs.KindSteps as kind_steps
 use Rattle.sdd_domain_invariant.specs.FractionSteps.{SeatState, CarriesAll, IsValue, CarriesSeen, moving, making, giving, resting, telling, drawing, undrawing, untold, remembering, forgetting, sighting, unsighted, IsNewest, ClaimsAll, FillsSlot, EntersUnit, TakesOut, TakesHeld, IsDeposit, RetiresOne, ReleasesOne, GivesAll, DiscardsAll, SeesOwned, LearnsOwned, ClosesHome, OfSlot}
 use Rattle.sdd_domain_invariant.specs.Records.{IsIn, KnowsShown, IsKnown, IsTelling}
@@ -141,6 +141,17 @@ module _ (slots id : ℕ) (me : SeatState) (live : HasPlace me.0.epoch) where
   module _ (s : State ValueFraction View) (h : DomainInvariant γ sizes s) (at : get_elem? s.views id ≡ some v) where
     filled_by : (w : View) → w.stakes.filled ≡ v.stakes.filled → TellsNoMore w s.views → FilledInvariant sizes (set s.views id w)
     filled_by w same tells = filled_after sizes s.views h.filled id v at w same tells (λ _ _. inl live)
+
+    -- what it has of counts and pledges stays
+    post : (w : View) → w.pledges ≡ v.pledges → w.slots.over ≡ v.slots.over → w.sizes ≡ v.sizes → (HasPlace v.epoch → HasPlace w.epoch) → KeepsPost v w
+    post w pledges over of lives = let near = (h.kept.parts.epoch.each id v.epoch (at_map epoch_of s.views id v at)).inside live in record {
+      pledges = pledges;
+      over = over;
+      sizes = of;
+      place = inl lives;
+      records = λ none. absurd (omega arith);
+      holds = λ none. absurd (omega arith);
+    }
 
     still_filled : (w : View) → w.stakes.filled ≡ v.stakes.filled → w.stakes.owns ≡ v.stakes.owns → w.stakes.waits ≡ v.stakes.waits
         → FilledInvariant sizes (set s.views id w)
@@ -258,7 +269,8 @@ module _ (slots id : ℕ) (me : SeatState) (live : HasPlace me.0.epoch) where
               (outside_free sizes s.words s.views slot empty)
               (banks.moving_outside γ sizes s.words s.views h.bank id v at (set s.words i y) now slot refl)
               (λ k ne. moves_other k now slot refl ne ∙ sym (moves_rest k v rests)) (others s.words y);
-          kinds = kind_steps.claims sizes s.words s.views h.kinds h.records.each id v at slot y refl inside owns_one (here s.words y (within s h)) nobody;
+          kinds = kind_steps.claims sizes s.words s.views h.kinds h.records.each id v at slot y refl inside owns_one (here s.words y (within s h)) nobody
+              (post s h at now refl refl refl (λ l. l));
           tells = at_once (λ slot. ClaimsAll slot (free_word 0) y) x (now, carried_after me.1 tk.act)
               ((λ _. (refl, tk.row, written_now v slot y inside (h.kinds.each id v at).long)), (λ no. absurd (no hit)), c.2);
         })
@@ -275,7 +287,7 @@ module _ (slots id : ℕ) (me : SeatState) (live : HasPlace me.0.epoch) where
           bank = banks.alike γ sizes s.words s.views h.bank id v at (set s.words i x) v (refl, refl, refl, (λ _. refl), refl)
               (λ j _. same_words s h j);
           kinds = kind_steps.calm sizes s.words s.views h.kinds h.records.each id v at (set s.words i x) v (same_slots s h)
-              (refl, refl, refl, (λ _. refl), refl) refl refl (λ _ o. o);
+              (refl, refl, refl, (λ _. refl), refl) refl refl (λ _ o. o) (post s h at v refl refl refl (λ l. l));
           tells = at_once (λ slot. ClaimsAll slot (free_word 0) y) x me ((λ hit. absurd (miss hit)), (λ _. refl), c.2);
         }))
 
@@ -335,7 +347,7 @@ module _ (slots id : ℕ) (me : SeatState) (live : HasPlace me.0.epoch) where
                   ⊎_elim (λ (a : HasRecord t.1.stakes.owns x). inl (a.0, x, a.1, sym e, refl))
                       (λ (a : HasRecord t.1.stakes.waits x). inr (inr (a.0, x, a.1, sym e, refl))) t.3,
                 )) w refl refl refl)
-                (kind_steps.houses sizes s.words s.views h.kinds h.records.each id v at slot shared value mine own free kind) bd b there ne ls
+                (kind_steps.houses sizes s.words s.views h.kinds h.records.each id v at slot shared value mine own free kind (post s h at w refl refl refl (λ l. l))) bd b there ne ls
                 (banks.deals γ sizes s.words s.views h.bank id v at bd b there bank ne w ls brought.deposits refl refl
                 (λ k. dite (ℕ_discrete k slot)
                 (λ e. let o = is_same k slot (sym e) in let none = banks.none_drawn γ sizes s.words s.views h.bank id v at slot inside mine in
@@ -404,7 +416,7 @@ module _ (slots id : ℕ) (me : SeatState) (live : HasPlace me.0.epoch) where
                 (λ j p y _ near l. (taken_lies γ n slot (spare n) Is s.homes me.1 tk j p y near l).1) refl (λ j m. one_moved w slot j is m) unseen)
                 (uncounted_alone sizes s.words s.views h.counts id v at w same refl)
                 (filled_by s h at w kept no_more)
-                (kind_steps.comes_to_move sizes s.words s.views h.kinds h.records.each id v at slot t is fewer held) bd b there ne ls
+                (kind_steps.comes_to_move sizes s.words s.views h.kinds h.records.each id v at slot t is fewer held (post s h at w refl refl refl (λ l. l))) bd b there ne ls
                 (banks.deals γ sizes s.words s.views h.bank id v at bd b there bank ne w ls goes.deposits bank_is founds_is (h.bank.low id v at)
                 (λ k near. dite (ℕ_discrete k slot)
                 (λ e. let less = goes.less in let x = ap (λ (y : ℕ). units_at y ls) e in let y = ap (λ (y : ℕ). units_at y (banked b)) e in
@@ -444,7 +456,7 @@ module _ (slots id : ℕ) (me : SeatState) (live : HasPlace me.0.epoch) where
                 record { owns = told.owns; owned = told.owned; sees = told.sees; waits = told.waits; waiting = told.waiting }
                 mine (λ j p y _ _ l. inl l) (λ j m. m) (λ j a. a))
                 (uncounted_alone sizes s.words s.views h.counts id v at w refl refl) (still_filled s h at w refl refl refl)
-                (kind_steps.same sizes s.words s.views h.kinds h.records.each id v at w refl refl refl refl refl refl s.words (λ j. refl)) bd b there ne ls
+                (kind_steps.same sizes s.words s.views h.kinds h.records.each id v at w refl refl refl refl refl refl s.words (λ j. refl) (post s h at w refl refl refl (λ l. l))) bd b there ne ls
                 (banks.deals γ sizes s.words s.views h.bank id v at bd b there bank ne w ls brought.deposits refl refl
                 (λ k. let low = h.bank.low id v at k in let e = less k in omega arith)
                 (λ k near. let u = outside_same sizes s.words s.words s.views vs' k refl
@@ -534,7 +546,8 @@ module _ (slots id : ℕ) (me : SeatState) (live : HasPlace me.0.epoch) where
               (λ k ne. sym (moves_other k v slot mine ne)) (others s.words y);
           kinds = let waits : 0 < items_at slot v = (let once = c.1 in omega arith) in
               kind_steps.frees sizes s.words s.views h.kinds h.records.each id v at slot y (giving now) inside mine (wrote_long s h at y) refl refl (λ _ _ o. o)
-              (here s.words y (within s h)) (λ j u _ e. none_owns γ sizes s h slot id v at waits j u e);
+              (here s.words y (within s h)) (λ j u _ e. none_owns γ sizes s h slot id v at waits j u e) (free_is 0 (omega arith)).0
+              (post s h at (giving now) refl refl refl (λ l. l));
           tells = at_once GivesAll y (giving now, carried_after me.1 g.act)
               (now, (refl, c.1), refl, g.carried ∙ sym (rest_is γ slot n 0 IsNoValueCode rest (suc n) me.1 row));
         })
@@ -599,7 +612,8 @@ module _ (slots id : ℕ) (me : SeatState) (live : HasPlace me.0.epoch) where
               let own = ((h.kept.parts.slots.each id v at).held slot held).0 in
               kind_steps.frees sizes s.words s.views h.kinds h.records.each id v at slot y (giving now) inside mine (wrote_long s h at y) refl refl
               (λ k ne o. absurd (ne (let c : Some slot ≡ Some k = sym held ∙ o in let e : k ≡ slot = cc in e))) (here s.words y (within s h))
-              (λ j u apart e o. let both = owners_in codes sound sizes s.words s.views h.kept.parts.slots j id slot u v apart e at in omega arith);
+              (λ j u apart e o. let both = owners_in codes sound sizes s.words s.views h.kept.parts.slots j id slot u v apart e at in omega arith)
+              (free_is 0 (omega arith)).0 (post s h at (giving now) refl refl refl (λ l. l));
           tells = at_once DiscardsAll y (giving now, carried_after me.1 g.act)
               (refl, g.carried ∙ sym (rest_is γ slot n 0 IsNoValueCode rest (suc n) me.1 row));
         })
@@ -618,7 +632,7 @@ module _ (slots id : ℕ) (me : SeatState) (live : HasPlace me.0.epoch) where
           lives = λ l. l;
           had = λ _ l. inl l;
           kinds = kind_steps.calm sizes s.words s.views h.kinds h.records.each id v at (set s.words i (get_or s.words i 0)) v (same_slots s h)
-              (refl, refl, refl, (λ _. refl), refl) refl refl (λ _ o. o);
+              (refl, refl, refl, (λ _. refl), refl) refl refl (λ _ o. o) (post s h at v refl refl refl (λ l. l));
         })
 
     -- what an only owner shows, which isn't counted; and one of several
@@ -644,6 +658,7 @@ module _ (slots id : ℕ) (me : SeatState) (live : HasPlace me.0.epoch) where
           let was = full_owned (slot_at sizes s.words slot) (omega arith) in let now : View = remembering (retired slot y c.0 v) in
           let word : slot_at sizes (set s.words i y) slot ≡ y = here s.words y (within s h) in
           let will = (sound.waits y (omega arith)).1 in
+        let dead : alive y ≡ 0 = dite (dec_lt 0 (alive y)) (λ l. absurd (let q = (sound.lives y l).0 in omega arith)) (λ none. omega arith) in
           let same : (j : ℕ) → j < sizes.slots → full_at sizes (set s.words i y) j ≡ full_at sizes s.words j
           = λ j low. dite (ℕ_discrete j slot)
           (λ e. subst (λ (k : ℕ). full_at sizes (set s.words i y) k ≡ full_at sizes s.words k) (sym e) (ap full word ∙ (will ∙ sym was)))
@@ -667,7 +682,8 @@ module _ (slots id : ℕ) (me : SeatState) (live : HasPlace me.0.epoch) where
                 record { bank = refl; founds = refl; book = refl; banked = refl; drawn = refl } refl
                 (λ k. let z = ap (times k) empty in omega arith) same;
             kinds = kind_steps.goes sizes s.words s.views h.kinds h.records.each id v at slot y now inside (wrote_long s h at y) rests refl (λ _ o. o) word
-                (λ j u apart e. inl (λ o. let both = owners_in codes sound sizes s.words s.views h.kept.parts.slots j id slot u v apart e at in omega arith));
+                (λ j u apart e. inl (λ o. let both = owners_in codes sound sizes s.words s.views h.kept.parts.slots j id slot u v apart e at in omega arith)) (λ c. inl (let z = dead in omega arith))
+                (post s h at now refl refl refl (λ l. l));
             tells = telling_it (now, me.1) (retired slot y c.0 v, (c.0, c.1, c.2, refl, c.4, c.5), refl, refl);
           }
 
@@ -730,7 +746,8 @@ module _ (slots id : ℕ) (me : SeatState) (live : HasPlace me.0.epoch) where
                   record { bank = refl; founds = refl; book = refl; banked = refl; drawn = refl } refl
                   (λ k. let z = ap (times k) empty in omega arith) same;
               kinds = kind_steps.goes sizes s.words s.views h.kinds h.records.each id v at slot y now inside (wrote_long s h at y) rests refl (λ _ o. o) word
-                  (λ j u apart e. inr (still_owned γ sizes s h slot id j v u at e (λ z. apart (sym z)) own, fewer.3 ∙ sym several));
+                  (λ j u apart e. inr (still_owned γ sizes s h slot id j v u at e (λ z. apart (sym z)) own, fewer.3 ∙ sym several))
+                  (λ c. inr (several, (let n = fewer.0 in omega arith))) (post s h at now refl refl refl (λ l. l));
               tells = at_once ReleasesOne count_word (now, me.1) (several, left, (λ last. absurd (more last)), (λ _. refl), knew);
             }
 
@@ -769,7 +786,8 @@ module _ (slots id : ℕ) (me : SeatState) (live : HasPlace me.0.epoch) where
               (part.calm γ sizes s.words s.views s.homes h.homes id v at s.words v (λ j p out. out) (λ j _. refl) (h.homes.moving id v at))
               (records.calm sizes s.views s.homes r id v at v (refl, refl, refl, (λ _. refl), refl)) (still_filled s h at v refl refl refl)
               (banks.alike γ sizes s.words s.views h.bank id v at s.words v (refl, refl, refl, (λ _. refl), refl) (λ _ _. refl))
-              (kind_steps.same sizes s.words s.views h.kinds h.records.each id v at v refl refl refl refl refl refl s.words (λ j. refl)),
+              (kind_steps.same sizes s.words s.views h.kinds h.records.each id v at v refl refl refl refl refl refl s.words (λ j. refl)
+              (post s h at v refl refl refl (λ l. l))),
           (
             (λ _. (refl, subst (IsIn v.stakes.sees slot) (r.agree slot is.0 value (mine slot is.0 (inr (inl is.1))) known) is.1)),
             (λ unseen. absurd (unseen sees)),
@@ -822,7 +840,8 @@ module _ (slots id : ℕ) (me : SeatState) (live : HasPlace me.0.epoch) where
               (uncounted_alone sizes s.words s.views h.counts id v at now refl refl) (still_filled s h at now refl refl refl)
               (banks.calm γ sizes s.words s.views h.bank id v at s.words now
               record { bank = refl; founds = refl; book = refl; banked = refl; drawn = refl } refl (h.bank.low id v at) (λ _ _. refl))
-              (kind_steps.same sizes s.words s.views h.kinds h.records.each id v at now refl refl refl refl refl refl s.words (λ j. refl)),
+              (kind_steps.same sizes s.words s.views h.kinds h.records.each id v at now refl refl refl refl refl refl s.words (λ j. refl)
+              (post s h at now refl refl refl (λ l. l))),
           ((λ sees. absurd (unseen sees)), (λ _. (y, it, refl))),
         ))
 
@@ -843,7 +862,7 @@ module _ (slots id : ℕ) (me : SeatState) (live : HasPlace me.0.epoch) where
           lives = λ l. l;
           had = λ _ l. inl l;
           kinds = kind_steps.calm sizes s.words s.views h.kinds h.records.each id v at (set s.words i (get_or s.words i 0)) (held slot v) (same_slots s h)
-              (refl, refl, refl, (λ _. refl), refl) refl refl (λ k o. let c : None ≡ Some k = sym free ∙ o in cc);
+              (refl, refl, refl, (λ _. refl), refl) refl refl (λ k o. let c : None ≡ Some k = sym free ∙ o in cc) (post s h at (held slot v) refl refl refl (λ l. l));
         })
 
     -- which it told of as an only owner's
@@ -869,7 +888,8 @@ module _ (slots id : ℕ) (me : SeatState) (live : HasPlace me.0.epoch) where
                     (λ e. ap (λ (k : ℕ). kind_of (slot_at sizes s.words k)) e
                     ∙ (((h.kept.parts.slots.each id v at).held slot held).1 ∙ sym (ap one_where (single r a e))))
                     (λ ne. (h.kinds.each id v at).told r a (λ o. ne (let c : Some slot ≡ Some r.slot = sym held ∙ o in let e : r.slot ≡ slot = cc in e)));
-              };
+              }
+              (post s h at (release_hold v) refl refl refl (λ l. l));
         })
 
   -- beside a slot's owner it learns what it knows of the slot, and nothing changes
@@ -913,7 +933,7 @@ module _ (slots id : ℕ) (me : SeatState) (live : HasPlace me.0.epoch) where
         counts = refl;
         lives = λ l. l;
         had = λ _ l. inl l;
-        kinds = kinds v (refl, refl, refl, (λ _. refl), refl) refl refl (λ _ o. o);
+        kinds = kinds v (refl, refl, refl, (λ _. refl), refl) refl refl (λ _ o. o) (post s h at v refl refl refl (λ l. l));
       })
       (λ ne. subst calm (sym (c.0 ne)) record {
         more = λ k p out. out;
@@ -923,7 +943,7 @@ module _ (slots id : ℕ) (me : SeatState) (live : HasPlace me.0.epoch) where
         counts = refl;
         lives = λ l. l;
         had = λ _ l. inl l;
-        kinds = kinds (looked_past place v) (refl, refl, refl, (λ _. refl), refl) refl refl (λ _ o. o);
+        kinds = kinds (looked_past place v) (refl, refl, refl, (λ _. refl), refl) refl refl (λ _ o. o) (post s h at (looked_past place v) refl refl refl (λ l. l));
       }))
 
   -- the last guard is closed, whose stakes go home
@@ -964,7 +984,7 @@ module _ (slots id : ℕ) (me : SeatState) (live : HasPlace me.0.epoch) where
         bank = banks.calm γ sizes s.words s.views h.bank id v at (set s.words j 1) (unsighted now)
             record { bank = refl; founds = refl; book = refl; banked = refl; drawn = refl } refl (h.bank.low id v at) (λ k _. same k);
         kinds = kind_steps.same sizes s.words s.views h.kinds h.records.each id v at (unsighted now) refl refl refl refl refl refl (set s.words j 1)
-            (slots_before sizes s.words j 1 (omega arith));
+            (slots_before sizes s.words j 1 (omega arith)) (post s h at (unsighted now) refl refl refl (λ _. omega arith));
         tells = (now, refl, refl, g.carried);
       })
 
@@ -1029,7 +1049,8 @@ module _ (γ : ℕ) (sizes : Sizes) (slots id : ℕ) (me : SeatState) (p state :
           counts = refl;
           lives = λ l. l;
           had = λ _ l. inl l;
-          kinds = kinds (past p me.0) (refl, refl, refl, (λ _. refl), refl) refl refl (λ _ o. o);
+          kinds = kinds (past p me.0) (refl, refl, refl, (λ _. refl), refl) refl refl (λ _ o. o)
+              (same_post me.0 (past p me.0) refl refl refl (λ l. l) refl refl);
         })
         (λ (e : w ≡ me.0). subst calm (sym e) record {
           more = λ j q out. out;
@@ -1039,7 +1060,7 @@ module _ (γ : ℕ) (sizes : Sizes) (slots id : ℕ) (me : SeatState) (p state :
           counts = refl;
           lives = λ l. l;
           had = λ _ l. inl l;
-          kinds = kinds me.0 (refl, refl, refl, (λ _. refl), refl) refl refl (λ _ o. o);
+          kinds = kinds me.0 (refl, refl, refl, (λ _. refl), refl) refl refl (λ _ o. o) (same_post me.0 me.0 refl refl refl (λ l. l) refl refl);
         }) which
 
   which_of : (r : ℕ) (w : View) → Bars state spot me.0 r w → ((r ≡ state) ⊎ IsBarred r) × (w ≡ past p me.0) ⊎ (w ≡ me.0)
@@ -1113,5 +1134,6 @@ module _ (γ : ℕ) (sizes : Sizes) (slots id : ℕ) (me : SeatState) (slot : �
         lives = λ l. l;
         had = λ _ l. inl l;
         kinds = kind_steps.calm sizes s.words s.views h.kinds h.records.each id me.0 at (set s.words word x) (record me.0 { places = (looked_for x w t).0 })
-            (λ j. ap (λ (l : List ℕ). slot_at sizes l j) (as_before s h at)) (refl, refl, refl, (λ _. refl), refl) refl refl (λ _ o. o);
+            (λ j. ap (λ (l : List ℕ). slot_at sizes l j) (as_before s h at)) (refl, refl, refl, (λ _. refl), refl) refl refl (λ _ o. o)
+            (same_post me.0 (record me.0 { places = (looked_for x w t).0 }) refl refl refl (λ l. l) refl refl);
       })

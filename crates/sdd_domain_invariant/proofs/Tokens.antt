@@ -16,14 +16,14 @@ use Rattle.sdd_views.specs.declared.CountsView.{CountsView}
 use Rattle.sdd_views.specs.declared.View.{View}
 use Rattle.sdd_views.specs.declared.Sizes.{Sizes}
 use Rattle.sdd_word_invariant.specs.Words.{first_slot, words_behind, all_words}
-use Rattle.sdd_word_invariant.specs.Codes.{alive, waiting, full}
+use Rattle.sdd_word_invariant.specs.Codes.{alive, waiting, full, counted as counts_owners}
 use Rattle.sdd_word_invariant.specs.Sums.{is, times}
 use Rattle.sdd_word_invariant.specs.Slots.{slot_at, Owns}
 use Rattle.sdd_word_invariant.specs.SlotSteps.{first, others}
 use Rattle.sdd_word_invariant.specs.Epoch.{HasPlace}
 use Rattle.sdd_views.specs.Views.{owner_token, owner_of}
 use Rattle.sdd_word_invariant.specs.WordInvariant.{epoch_of, idle}
-use Rattle.sdd_word_invariant.proofs.Codes.{sound}
+use Rattle.sdd_word_invariant.proofs.Codes.{sound, none_counted}
 use Rattle.sdd_word_invariant.proofs.Lift as kept
 use Rattle.sdd_word_invariant.proofs.Frame.{each_set, each_snoc}
 use Rattle.sdd_word_invariant.proofs.Sums.{is_same, is_other, total_set, total_snoc, total_has, total_two, total_only, total_append, span_zero}
@@ -32,7 +32,11 @@ use Rattle.sdd_domain_invariant.specs.BankInvariant.{BankInvariant, founder, fou
 use Rattle.sdd_domain_invariant.proofs.Banks.{HasUnits, outside_free}
 use Rattle.sdd_domain_invariant.proofs.Banks as banks
 use Rattle.sdd_domain_invariant.specs.KindsInvariant.{KnowsKinds, KindsInvariant}
-use Rattle.sdd_domain_invariant.proofs.KindSteps.{has_first, knows_no_kind}
+use Rattle.sdd_domain_invariant.proofs.KindSteps.{has_first, knows_no_kind, same_post, no_pledge, pledges_spent, forth}
+use Rattle.sdd_witness.specs.Ledger.{Pledge, Free, JoinsFree}
+use Rattle.sdd_views.specs.declared.PledgesView.{PledgesView}
+use Rattle.sdd_domain_invariant.specs.BoundInvariant.{over_at}
+use Rattle.sdd_domain_invariant.specs.PledgesInvariant.{HasPledge, IsLedger, booked_by}
 use Rattle.sdd_domain_invariant.proofs.KindSteps as kind_steps
 use Rattle.sdd_domain_invariant.specs.DomainInvariant.{DomainInvariant}
 use Rattle.sdd_domain_invariant.specs.FractionSteps.{parting, departing, regained, uncounting, counts_of, counts_token, counting}
@@ -77,7 +81,8 @@ module _ (γ : ℕ) (sizes : Sizes) where
           bank = subst (λ (w : View). BankInvariant γ sizes s.words (s.views ++ w ∷ [])) (sym r.2.0)
               (banks.arrives γ sizes s.words s.views h.bank t refl refl refl refl);
           kinds = subst (λ (w : View). KindsInvariant sizes s.words (s.views ++ w ∷ [])) (sym r.2.0)
-              (kind_steps.arrives sizes s.words s.views h.kinds t (knows_no_kind sizes s.words t (length-replicate (words_behind sizes) 0) refl refl));
+              (kind_steps.arrives sizes s.words s.views h.kinds t (knows_no_kind sizes s.words t (length-replicate (words_behind sizes) 0) refl refl)
+              record { over = refl; ledger = refl; founds = refl; own = refl });
         },
         r.2.1,
       )
@@ -86,7 +91,7 @@ module _ (γ : ℕ) (sizes : Sizes) where
   pub begins : (ws : List ℕ) (xs : List ValueFraction) → length ws ≡ all_words sizes → ((i : ℕ) → get_or ws i 0 ≡ 0) → suc (suc sizes.participants) < most
       → AreLaid γ sizes.participants sizes.slots xs → DomainInvariant γ sizes (opening ws xs (founder sizes γ))
   begins ws xs long none few laid = let n : ℕ = sizes.participants in record {
-    kept = kept.begins sizes γ (founder sizes γ).stakes ws xs long none;
+    kept = kept.begins sizes γ (founder sizes γ).stakes (founder sizes γ).pledges ws xs long none;
     homes = record {
       few = few;
       deep = length-map xs some ∙ laid.long;
@@ -122,6 +127,14 @@ module _ (γ : ℕ) (sizes : Sizes) where
     };
     kinds = record {
       each = λ j v e. subst (KnowsKinds sizes ws) (only j v e) (knows_no_kind sizes ws (founder sizes γ) (length-replicate (words_behind sizes) 0) refl refl);
+      bound = record {
+        bound = λ i c. absurd (let z = ap counts_owners (none (Rattle.sdd_word_invariant.specs.Words.slot_word sizes i)) in let f = none_counted in omega arith);
+        once = λ j v e i more. absurd (let o = ap (over_at i) (only j v e) in omega arith);
+      };
+      pledges = record {
+        single = omega arith;
+        backed = λ i v q e m. absurd (no_pledge (founder sizes γ) q refl (ap (λ (u : View). u.pledges.own) (only i v e) ∙ m));
+      };
     };
   }
     where
@@ -133,9 +146,9 @@ module _ (γ : ℕ) (sizes : Sizes) where
       none_known i g k = knows_none (founder sizes γ) refl refl refl i g (subst (λ (u : View). KnowsShown u i g) (sym (only k.0 k.1 k.2)) k.3)
 
   -- the owner that it has goes to a token of its own, with what is known of its slot, where none is held and no value is moved
-  pub parts_owner : (id : ℕ) (v : View) (slot : ℕ) → v.slots.owns ≡ slot ∷ [] → v.slots.drawn ≡ slot ∷ [] → v.slots.holds ≡ None
+  pub parts_owner : (id : ℕ) (v : View) (slot : ℕ) → 0 < v.sizes.participants → v.slots.owns ≡ slot ∷ [] → v.slots.drawn ≡ slot ∷ [] → v.slots.holds ≡ None
       → v.stakes.moves ≡ None → Splits (DomainInvariant γ sizes) id v (parting v) (departing v)
-  parts_owner id v slot owns drawn free rests s h at = let t : View = departing v in let w : View = parting v in let r = h.records in
+  parts_owner id v slot placed owns drawn free rests s h at = let t : View = departing v in let w : View = parting v in let r = h.records in
       let told = r.each id v at in
       let vs : List View = s.views ++ t ∷ [] in let mine = records.mine sizes s.views s.homes r id v at in
       let came = records.arrives sizes s.views s.homes r t
@@ -182,13 +195,15 @@ module _ (γ : ℕ) (sizes : Sizes) where
             (λ i. let d = ap (λ (l : List ℕ). times i (others l)) drawn in let d' = ap (times i) drawn in
             let o = ap (λ (l : List ℕ). times i (first l)) owns in let a = total_append (is i) (first v.slots.owns) [] in omega arith);
         kinds = let k = h.kinds.each id v at in kind_steps.arrives sizes s.words (set s.views id w)
-            (kind_steps.stays sizes s.words s.views h.kinds r.each id v at s.words w (λ i. refl) (knows_no_kind sizes s.words w k.long rests refl)) t
+            (kind_steps.stays sizes s.words s.views h.kinds r.each id v at s.words w (λ i. refl) (knows_no_kind sizes s.words w k.long rests refl)
+            record { pledges = refl; over = refl; sizes = refl; place = inl (λ l. l); records = λ z. absurd (omega arith); holds = λ _. refl }) t
             record {
               long = refl;
               sole = λ i m. absurd (none_moved t i refl m);
               claimed = λ i m. absurd (none_moved t i refl m);
               told = λ x a _. k.told x a (λ o. let c : None ≡ Some x.slot = sym free ∙ o in cc);
-            };
+            }
+            record { over = refl; ledger = refl; founds = refl; own = refl };
       }
 
   -- the first record is of the owner's token, and the others were known
@@ -199,13 +214,19 @@ module _ (γ : ℕ) (sizes : Sizes) where
       (λ (b : HasRecord v.stakes.owns r). (id, v, at, inl b)) (has_either (now ∷ []) v.stakes.owns r a))
       (λ (a : HasRecord v.stakes.waits r). (id, v, at, inr a)) x
 
-  -- and comes back
-  pub joins_owner : (id : ℕ) (v : View) (other slot : ℕ) (shared : Bool) (value : Gv) → v.stakes.moves ≡ None
-      → Joins (DomainInvariant γ sizes) id v other (owner_of slot shared value) (regained v (owner_of slot shared value)) (owner_token [])
-  joins_owner id v other slot shared value rests s h at apart there = let t : View = owner_of slot shared value in let t' : View = owner_token [] in
+  -- no pledge of the ledger is of this seat
+  free_of : (jd : ℕ) (ps : List Pledge) (p : Pledge) → Free jd ps → HasPledge p ps → ¬ (p.seat ≡ jd)
+  free_of jd [] p free has = absurd has
+  free_of jd (q ∷ qs) p free (inl is) = λ e. free.0 (ap (λ (x : Pledge). x.seat) (sym is) ∙ e)
+  free_of jd (q ∷ qs) p free (inr has) = free_of jd qs p free.1 has
+
+  -- and comes back, as nobody has pledged a share of its view
+  pub joins_owner : (id : ℕ) (v : View) (other bd slot : ℕ) (shared : Bool) (value : Gv) → v.stakes.moves ≡ None
+      → JoinsFree (DomainInvariant γ sizes) IsLedger booked_by id v other (owner_of slot shared value) bd (regained v (owner_of slot shared value)) (owner_token [])
+  joins_owner id v other bd slot shared value rests s b h at was at_b ours apart far unpledged = let t : View = owner_of slot shared value in let t' : View = owner_token [] in
       let w : View = regained v t in let vs : List View = set s.views id w in let r = h.records in let told = r.each id v at in
       let now : ShownValue = record { slot = slot; shared = shared; value = value } in let mine = records.mine sizes s.views s.homes r id v at in
-      let was : get_elem? s.views other ≡ some t = sym (set_else s.views id other w apart) ∙ there in
+      let there : get_elem? vs other ≡ some t = set_else s.views id other w apart ∙ was in
       let came = records.no_more sizes s.views s.homes r id v at w s.homes
       record {
         owns = λ i g k. ⊎_elim
@@ -237,8 +258,8 @@ module _ (γ : ℕ) (sizes : Sizes) where
         bank = banks.joins γ sizes s.words s.views h.bank id v at other t t' w there apart
             record { bank = refl; founds = refl; book = refl; banked = refl; moves = refl } refl refl refl refl refl refl refl
             (λ i. let low = h.bank.low id v at i in omega arith) (λ i. omega arith);
-        kinds = let k = h.kinds.each id v at in kind_steps.stays sizes s.words vs
-            (kind_steps.stays sizes s.words s.views h.kinds r.each id v at s.words w (λ i. refl)
+        kinds = let k = h.kinds.each id v at in
+            let now_mine = kind_steps.stays sizes s.words s.views h.kinds r.each id v at s.words w (λ i. refl)
             record {
               long = k.long;
               sole = λ i m. absurd (none_moved w i rests m);
@@ -247,7 +268,20 @@ module _ (γ : ℕ) (sizes : Sizes) where
                   (λ (e : now ≡ x). (h.kinds.each other t was).told x (subst (λ (y : ShownValue). HasRecord (now ∷ []) y) e (0, refl))
                   (λ o. let c : None ≡ Some x.slot = o in cc))
                   (λ (b : HasRecord v.stakes.owns x). k.told x b loose) (has_first now v.stakes.owns x a);
-            }) came.each other t there s.words t' (λ i. refl) (knows_no_kind sizes s.words t' refl refl refl);
+            }
+            record {
+              pledges = refl;
+              over = refl;
+              sizes = refl;
+              place = inl (λ l. l);
+              records = λ _ x a. (suc a.0, a.1);
+              holds = λ _. refl;
+            } in
+            kind_steps.spends sizes s.words vs now_mine came.each other t there t' (knows_no_kind sizes s.words t' refl refl refl) refl (inl (λ l. l))
+            (pledges_spent vs now_mine.pledges other t t' there refl (λ i q B.
+            let l = forth s.views h.kinds.pledges id v w at (λ x y. y.pledges ≡ x.pledges) refl (λ _. refl) bd b at_b in
+            let had : HasPledge q b.pledges.booked = subst (λ (x : PledgesView). HasPledge q x.booked) l.2
+            (B.booked bd l.0 l.1 (ap (λ (x : PledgesView). x.ledger) l.2 ∙ ours)) in free_of other b.pledges.booked q unpledged had));
       }
 
   -- the counts of ended places go to a token of their own
@@ -280,8 +314,8 @@ module _ (γ : ℕ) (sizes : Sizes) where
         record { bank = refl; founds = refl; book = refl; banked = refl; moves = refl } refl refl refl (h.bank.low id v at) (λ i. omega arith)
         (λ i. omega arith);
     kinds = kind_steps.arrives sizes s.words (set s.views id w)
-        (kind_steps.same sizes s.words s.views h.kinds h.records.each id v at w refl refl refl refl refl refl s.words (λ i. refl)) t
-        (knows_no_kind sizes s.words t refl refl refl);
+        (kind_steps.same sizes s.words s.views h.kinds h.records.each id v at w refl refl refl refl refl refl s.words (λ i. refl)
+        (same_post v w refl refl refl (λ l. l) refl refl)) t (knows_no_kind sizes s.words t refl refl refl) record { over = refl; ledger = refl; founds = refl; own = refl };
   }
 
   -- the bank is founded
@@ -303,8 +337,8 @@ module _ (γ : ℕ) (sizes : Sizes) where
             t (tells_none t us refl refl) (λ z. absurd (omega arith));
         bank = banks.bank_founded γ sizes s.words s.views h.bank id v at may book;
         kinds = kind_steps.arrives sizes s.words us
-            (kind_steps.same sizes s.words s.views h.kinds h.records.each id v at w refl refl refl refl refl refl s.words (λ i. refl)) t
-            (knows_no_kind sizes s.words t refl refl refl);
+            (kind_steps.same sizes s.words s.views h.kinds h.records.each id v at w refl refl refl refl refl refl s.words (λ i. refl)
+            (same_post v w refl refl refl (λ l. l) refl refl)) t (knows_no_kind sizes s.words t refl refl refl) record { over = refl; ledger = refl; founds = refl; own = refl };
       }
 
   -- and come to another
@@ -343,9 +377,10 @@ module _ (γ : ℕ) (sizes : Sizes) where
             record { bank = refl; founds = refl; book = refl; banked = refl; moves = refl } refl refl refl refl refl refl refl
             (h.bank.low id v at) (λ i. omega arith);
         kinds = kind_steps.stays sizes s.words vs
-            (kind_steps.same sizes s.words s.views h.kinds h.records.each id v at w refl refl refl refl refl refl s.words (λ i. refl))
+            (kind_steps.same sizes s.words s.views h.kinds h.records.each id v at w refl refl refl refl refl refl s.words (λ i. refl)
+            (same_post v w refl refl refl (λ l. l) refl refl))
             (records.calm sizes s.views s.homes h.records id v at w (refl, refl, refl, (λ _. refl), refl)).each other t there s.words t' (λ i. refl)
-            (knows_no_kind sizes s.words t' refl refl refl);
+            (knows_no_kind sizes s.words t' refl refl refl) (same_post t t' refl refl refl (λ l. l) refl refl);
       }
 
   -- a token counts no more places than there are

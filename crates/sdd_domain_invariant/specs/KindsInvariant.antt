@@ -1,4 +1,4 @@
--- The kinds' part of the rule: whether the word of a slot counts its owners, as far as views tell
+-- The owners' part of the rule: whether the word of a slot counts its owners, as far as views tell, how many they are, and what is pledged beside them
 use Rattle.std.specs.Prelude.{◌≡◌, ℕ, List, length, slice_index}
 use mathlib.Core.Option.{some}
 use lib.ListN.{get_elem?}
@@ -12,6 +12,8 @@ use Rattle.sdd_word_invariant.specs.SlotSteps.{behind}
 use Rattle.sdd_domain_invariant.specs.FractionsAtHome.{Moves}
 use Rattle.sdd_domain_invariant.specs.BankInvariant.{one_where}
 use Rattle.sdd_domain_invariant.specs.FilledInvariant.{HasRecord}
+use Rattle.sdd_domain_invariant.specs.BoundInvariant.{BoundInvariant}
+use Rattle.sdd_domain_invariant.specs.PledgesInvariant.{PledgesInvariant}
 
 -- the word of a slot as it wrote it last
 abbrev pub written : View → ℕ → ℕ
@@ -25,6 +27,8 @@ pub record KnowsKinds (sizes : Sizes) (ws : List ℕ) (v : View) : Type 0 where
   pub claimed : (i : ℕ) → Moves v i → Owns v i → ¬ (Holds v i) → counted (slot_at sizes ws i) ≡ counted (written v i)
   pub told : (r : ShownValue) → HasRecord v.stakes.owns r → ¬ (Holds v r.slot) → counted (slot_at sizes ws r.slot) ≡ one_where r.shared
 
--- the words, and what all participants know
+-- the owners' part: the words, what all participants know, how many owners words count, and what is pledged
 pub record KindsInvariant (sizes : Sizes) (ws : List ℕ) (vs : List View) : Type 0 where
   pub each : (j : ℕ) (v : View) → get_elem? vs j ≡ some v → KnowsKinds sizes ws v
+  pub bound : BoundInvariant sizes ws vs
+  pub pledges : PledgesInvariant vs

@@ -3,6 +3,8 @@ pub mod Records
 pub mod Counts
 pub mod FilledInvariant
 pub mod BankInvariant
+pub mod BoundInvariant
+pub mod PledgesInvariant
 pub mod KindsInvariant
 pub mod DomainInvariant
 pub mod FractionSteps

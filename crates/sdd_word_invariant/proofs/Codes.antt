@@ -149,6 +149,11 @@ free : (alive 0 ≡ 0) × (waiting 0 ≡ 0) × (full 0 ≡ 0)
 unfolding alive waiting full
 free = (refl, refl, refl)
 
+-- nor does a free slot's word count owners
+pub none_counted : counted 0 ≡ 0
+unfolding counted
+none_counted = refl
+
 pub held_is : (alive 3 ≡ 1) × (counted 3 ≡ 0)
 unfolding alive counted
 held_is = (refl, refl)

@@ -10,6 +10,7 @@ pub mod Lone
 pub mod Holding
 pub mod Tokens
 pub mod Waits
+pub mod Pigeons
 pub mod EpochSteps
 pub mod SlotSteps
 pub mod Lift

@@ -1,8 +1,10 @@
 -- The steps on slots keep all parts.
-use Rattle.std.proofs.Common.{None, ◌≡◌, ℕ, suc, ◌+◌, ◌-◌, ◌%◌, ◌^◌, ◌<◌, ◌≤◌, eqb, List, ◌∷◌, map, get_or, set, sym, refl, ap, ◌∙◌, subst, arith}
+use Rattle.std.specs.Prelude.{Option, Some}
+use Rattle.std.proofs.lemmas.List.{set-set}
+use Rattle.std.proofs.Common.{None, ◌≡◌, ◌≢◌, ℕ, suc, ◌+◌, ◌-◌, ◌%◌, ◌^◌, ◌<◌, ◌≤◌, eqb, List, ◌∷◌, map, get_or, set, sym, refl, ap, ◌∙◌, subst, arith}
 use mathlib.Core.Option.{some}
 use mathlib.Core.Logic.{dite}
-use native.Mathlib.Decide.{ℕ_discrete}
+use native.Mathlib.Decide.{ℕ_discrete, dec_lt}
 use lib.ListN.{get_elem?}
 use lib.Seq.{set-get_or}
 use prog.Atomic.{either}
@@ -12,12 +14,12 @@ use Rattle.sdd_views.specs.declared.WaitingItem.{WaitingItem}
 use Rattle.sdd_views.specs.declared.View.{View}
 use Rattle.sdd_views.specs.declared.Sizes.{Sizes}
 use Rattle.sdd_word_invariant.specs.Words.{global_word, state_word, slot_word}
-use Rattle.sdd_word_invariant.specs.Codes.{codes, alive, waiting, counted, shared_base, free_word}
+use Rattle.sdd_word_invariant.specs.Codes.{codes, alive, waiting, counted, shared_base, free_word, most_owners}
 use Rattle.sdd_word_invariant.specs.Sums.{times}
 use Rattle.sdd_word_invariant.specs.Epoch.{HasPlace, IsOpen, EpochInvariant}
 use Rattle.sdd_word_invariant.specs.Slots.{slot_at, owners_at, items_at, Owns, Holds, SlotsInvariant}
 use Rattle.sdd_word_invariant.specs.EpochSteps.{Steps}
-use Rattle.sdd_word_invariant.specs.SlotSteps.{noted, Knew, claimed, retired, given_back, seeing, others, one_less, Claims, Retires, Releases, GivesBack, AtSlot, held, release_hold, looked_past, discarded, TakesHold, LetsGo, Discards, LooksForGuard, LooksAtSlot}
+use Rattle.sdd_word_invariant.specs.SlotSteps.{noted, Knew, claimed, retired, given_back, seeing, others, one_less, one_more, taken_back, Claims, Retires, Releases, Adds, TakesBack, GivesBack, AtSlot, held, release_hold, looked_past, discarded, TakesHold, LetsGo, Discards, LooksForGuard, LooksAtSlot}
 use Rattle.sdd_word_invariant.specs.WordInvariant.{epoch_of, Parts}
 use Rattle.sdd_word_invariant.proofs.Codes.{sound, shared, counted_is, none_left, some_left, free_is}
 use Rattle.sdd_word_invariant.proofs.Epoch as epochs
@@ -25,10 +27,14 @@ use Rattle.sdd_word_invariant.proofs.EpochSteps.{seen_after}
 use Rattle.sdd_word_invariant.proofs.Owning as owning
 use Rattle.sdd_word_invariant.proofs.Seeing as seen
 use Rattle.sdd_word_invariant.proofs.Holding as holding
-use Rattle.sdd_word_invariant.proofs.SlotWords.{owner_in, alone_is, held_is}
+use Rattle.sdd_word_invariant.proofs.SlotWords.{view_step, owner_in, alone_is, held_is}
 use Rattle.sdd_word_invariant.proofs.Sums.{is_same, is_other}
 use Rattle.sdd_word_invariant.proofs.Lone.{finds, lone_same, lone_noted}
 use Rattle.sdd_word_invariant.proofs.Waits as waits
+
+-- an addition of one, as the machine does it
+abbrev pub more_one : ℕ → ℕ
+more_one x = (x + 1) % 2 ^ 64
 
 -- a subtraction of one, as the machine does it
 abbrev pub less_one : ℕ → ℕ
@@ -148,6 +154,66 @@ module _ (id : ℕ) (v : View) (live : HasPlace v.epoch) where
           knew_too slot other is x told,
         ),
       )))
+
+  -- a slot's word counts more owners or fewer, of which the participant has more or fewer
+  module _ (slot : ℕ) (inside : slot < sizes.slots) (ws : List ℕ) (vs : List View) (p : Parts sizes ws vs) (at : get_elem? vs id ≡ some v)
+      (several : counted (slot_at sizes ws slot) ≡ 1) where
+    recounts : (y : ℕ) (os : List ℕ) (over : Option ℕ) → 0 < alive (slot_at sizes ws slot) → 0 < alive y
+        → alive y + owners_at slot v ≡ alive (slot_at sizes ws slot) + times slot os → ((j : ℕ) → j ≢ slot → times j v.slots.owns ≡ times j os)
+        → Parts sizes (set ws (slot_word sizes slot) y) (set vs id (record v { slots = record v.slots { owns = os; over = over }; words = noted slot y v }))
+    recounts y os over was now here else = let v' : View = record v { slots = record v.slots { over = over } } in let vs' : List View = set vs id v' in
+        let w : View = record v { slots = record v.slots { owns = os; over = over }; words = noted slot y v } in let f = p.slots.each id v at in
+        let with_over = view_step codes sound sizes ws vs p.slots id v at v' (λ _. refl) (λ _. refl)
+        record { timed = f.timed; guarded = f.guarded; full = f.full; held = f.held }
+        (let x = p.slots.two id id v v at at in record { since = x.since; looked = x.looked })
+        (λ j x apart e. let a = p.slots.two id j v x at e in let b = p.slots.two j id x v e at in
+        (record { since = a.since; looked = a.looked }, record { since = b.since; looked = b.looked })) in
+        around ws vs p at slot y w live refl (same_epochs ws vs p at)
+        (subst (λ (l : List View). SlotsInvariant codes sizes (set ws (slot_word sizes slot) y) l) (set-set vs id v' w)
+        (owning.counts codes sound sizes ws vs' with_over id v' (set_here vs id v' (epochs.at_length vs id v at)) slot y os (noted slot y v) inside several was now
+        here else))
+
+    -- one more, beside an owner
+    pub adds_owner : 0 < alive (slot_at sizes ws slot) → slot_at sizes ws slot + 1 < 2 ^ 64
+        → (w : View) × Parts sizes (set ws (slot_word sizes slot) (more_one (slot_at sizes ws slot))) (set vs id w)
+        × AtSlot Adds (slot_word sizes slot) v (slot_at sizes ws slot) w
+    adds_owner left small = let x : ℕ = slot_at sizes ws slot in let y : ℕ = x + 1 in let low = counted_is x several in let n = (shared x low).0 in
+        let more = some_left y (omega arith) in let m = more.0 in let sum : more_one x ≡ y = omega arith in let one = is_same slot slot refl in
+        let told = knew ws vs p at slot in
+        let parts = λ (over : Option ℕ). recounts y (slot ∷ v.slots.owns) over left (omega arith) (omega arith)
+        (λ j ne. let o = is_other j slot (λ e. ne (sym e)) in omega arith) in
+        subst (λ (z : ℕ). (u : View) × Parts sizes (set ws (slot_word sizes slot) z) (set vs id u) × AtSlot Adds (slot_word sizes slot) v x u) (sym sum)
+        (dite (dec_lt (alive x) most_owners)
+        (λ few. (
+          one_more slot y None v,
+          parts None,
+          λ other is. (several, left, (λ _. ap (λ (k : ℕ). one_more k y None v) (same_slot slot other is)), (λ many. absurd (omega arith)), knew_too slot other is x told),
+        ))
+        (λ many. (
+          one_more slot y (Some slot) v,
+          parts (Some slot),
+          λ other is. (
+            several,
+            left,
+            (λ few. absurd (many few)),
+            (λ _. ap (λ (k : ℕ). one_more k y (Some k) v) (same_slot slot other is)),
+            knew_too slot other is x told,
+          ),
+        )))
+
+    -- it is taken back, beside an owner
+    pub takes_back : (rest : List ℕ) → v.slots.owns ≡ slot ∷ rest → 1 < alive (slot_at sizes ws slot) → slot_at sizes ws slot < 2 ^ 64
+        → (w : View) × Parts sizes (set ws (slot_word sizes slot) (less_one (slot_at sizes ws slot))) (set vs id w)
+        × AtSlot TakesBack (slot_word sizes slot) v (slot_at sizes ws slot) w
+    takes_back rest has more small = let x : ℕ = slot_at sizes ws slot in let y : ℕ = x - 1 in let low = counted_is x several in let n = (shared x low).0 in
+        let fewer = some_left y (omega arith) in let m = fewer.0 in let less : less_one x ≡ y = omega arith in let rest_is = ap others has in
+        subst (λ (z : ℕ). (u : View) × Parts sizes (set ws (slot_word sizes slot) z) (set vs id u) × AtSlot TakesBack (slot_word sizes slot) v x u) (sym less) (
+          taken_back slot y v,
+          recounts y (others v.slots.owns) None (omega arith) (omega arith)
+              (let a = ap (times slot) has in let b = ap (times slot) rest_is in let one = is_same slot slot refl in omega arith)
+              (λ j ne. let a = ap (times j) has in let b = ap (times j) rest_is in let z = is_other j slot (λ e. ne (sym e)) in omega arith),
+          λ other is. (ap (λ (k : ℕ). taken_back k y v) (same_slot slot other is), knew_too slot other is x (knew ws vs p at slot)),
+        )
 
   -- give back the slot of an item that has seen three changes
   pub gives_back : (slot generation k : ℕ) (x : WaitingItem) → get_elem? v.slots.waits k ≡ some x → x.slot ≡ slot → 3 ≤ x.changes

@@ -62,6 +62,10 @@ claimed_word shared = if shared then shared_word 1 else owned_word 0
 abbrev pub retired_word : Bool → ℕ
 retired_word shared = if shared then shared_base else waiting_word 0
 
+-- most owners that a word is to count
+abbrev pub most_owners : ℕ
+most_owners = 2 ^ 62
+
 abbrev pub kind_alive : ℕ → ℕ
 kind_alive q = either (eqb q 1) 1 (either (eqb q 3) 1 0)
 

@@ -1,5 +1,5 @@
 -- What each step makes of what the participant knows of slots, and what it tells
-use Rattle.std.specs.Prelude.{◌≡◌, ◌≢◌, ℕ, ◌+◌, ◌-◌, ◌*◌, ◌==◌, ◌<◌, ◌≤◌, not, if◌then◌else◌, List, [], ◌∷◌, ◌++◌, map, length, replicate, slice_index, slice_set, Some, None}
+use Rattle.std.specs.Prelude.{◌≡◌, ◌≢◌, ℕ, ◌+◌, ◌-◌, ◌*◌, ◌==◌, ◌<◌, ◌≤◌, not, if◌then◌else◌, List, [], ◌∷◌, ◌++◌, map, length, replicate, slice_index, slice_set, Option, Some, None}
 use Rattle.std.specs.List.{filter}
 use mathlib.Core.Option.{some}
 use lib.ListN.{get_elem?}
@@ -10,7 +10,7 @@ use Rattle.sdd_views.specs.declared.View.{View}
 use Rattle.sdd_views.specs.declared.Sizes.{Sizes}
 use Rattle.sdd_word_invariant.specs.Words.{words_behind, state_word, slot_word}
 use Rattle.sdd_word_invariant.specs.Epoch.{HasPlace, IsOpen, IsLone}
-use Rattle.sdd_word_invariant.specs.Codes.{alive, counted}
+use Rattle.sdd_word_invariant.specs.Codes.{alive, counted, most_owners}
 use Rattle.sdd_word_invariant.specs.Slots.{items_at}
 use Rattle.sdd_word_invariant.specs.EpochSteps.{knowing, closed, Publishes}
 
@@ -79,6 +79,14 @@ retired slot y count v = record v {
 abbrev pub one_less : ℕ → ℕ → View → View
 one_less slot y v = record v { slots = record v.slots { owns = others v.slots.owns }; words = noted slot y v }
 
+-- an owner of it comes; and the count is past the bound, or not
+abbrev pub one_more : ℕ → ℕ → Option ℕ → View → View
+one_more slot y over v = record v { slots = record v.slots { owns = slot ∷ v.slots.owns; over = over }; words = noted slot y v }
+
+-- it goes again, as the count was past the bound
+abbrev pub taken_back : ℕ → ℕ → View → View
+taken_back slot y v = record v { slots = record v.slots { owns = others v.slots.owns; over = None }; words = noted slot y v }
+
 -- it is given back
 abbrev pub given_back : ℕ → ℕ → View → View
 given_back slot y v = record v { slots = record v.slots { waits = without_item slot v.slots.waits }; words = noted slot y v }
@@ -144,6 +152,15 @@ Retires slot v y w = (count : ℕ) × (v.epoch.known ≤ count) × (IsLone v.epo
 -- an owner that is counted goes, by one subtraction: where one was counted it was the last, and the item waits
 abbrev pub Releases : ℕ → View → ℕ → View → Type 0
 Releases slot v x w = (counted x ≡ 1) × (0 < alive x) × (alive x ≡ 1 → Retires slot v (x - 1) w) × (alive x ≢ 1 → w ≡ one_less slot (x - 1) v) × Knew slot v x
+
+-- an owner comes beside another, by one addition: where as many were counted as may be, the count is past the bound then
+abbrev pub Adds : ℕ → View → ℕ → View → Type 0
+Adds slot v x w = (counted x ≡ 1) × (0 < alive x) × (alive x < most_owners → w ≡ one_more slot (x + 1) None v)
+    × (most_owners ≤ alive x → w ≡ one_more slot (x + 1) (Some slot) v) × Knew slot v x
+
+-- it is taken back, by one subtraction
+abbrev pub TakesBack : ℕ → View → ℕ → View → Type 0
+TakesBack slot v x w = (w ≡ taken_back slot (x - 1) v) × Knew slot v x
 
 -- the slot is free, in which one item waited
 abbrev pub GivesBack : ℕ → View → ℕ → View → Type 0
