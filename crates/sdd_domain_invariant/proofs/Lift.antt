@@ -28,13 +28,13 @@ use Rattle.sdd_word_invariant.proofs.Lift.{blind}
 use Rattle.sdd_word_invariant.specs.Barred.{AreBarred, AreQuiet}
 use Rattle.sdd_word_invariant.proofs.Barred.{Spares, one_spared, all_spared, NoneQuiet, none_quiet, Hushes, one_hushed, all_hushed}
 use Rattle.sdd_domain_invariant.specs.FractionsAtHome.{FractionsAtHome, full_at, Moves, SeesFrom, FractionIsTaken, IsMover, FractionsInvariant}
-use Rattle.sdd_domain_invariant.specs.BankInvariant.{BankInvariant}
+use Rattle.sdd_domain_invariant.specs.BankInvariant.{banked, BankInvariant}
 use Rattle.sdd_domain_invariant.proofs.Banks.{with_deposits}
 use Rattle.sdd_domain_invariant.proofs.Banks as banks
 use Rattle.sdd_domain_invariant.specs.KindsInvariant.{KindsInvariant}
 use Rattle.sdd_domain_invariant.proofs.KindSteps.{same_post}
 use Rattle.sdd_domain_invariant.proofs.KindSteps as kind_steps
-use Rattle.sdd_domain_invariant.specs.Records.{RecordsInvariant}
+use Rattle.sdd_domain_invariant.specs.Records.{AllShowKnown, RecordsInvariant}
 use Rattle.sdd_domain_invariant.specs.Counts.{CountsInvariant}
 use Rattle.sdd_domain_invariant.specs.FilledInvariant.{FilledInvariant}
 use Rattle.sdd_domain_invariant.specs.DomainInvariant.{DomainInvariant}
@@ -312,9 +312,9 @@ module _ (γ : ℕ) (sizes : Sizes) (id : ℕ) (v : View) (s : State ValueFracti
       → FractionsInvariant γ sizes s.words (set s.views id w) hs → RecordsInvariant sizes (set s.views id w) hs → CountsInvariant sizes s.words (set s.views id w)
       → FilledInvariant sizes (set s.views id w) → KindsInvariant sizes s.words (set s.views id w)
       → (bd : ℕ) (b : View) → get_elem? s.views bd ≡ some b → ¬ (id ≡ bd) → (ls : List FractionContent)
-      → BankInvariant γ sizes s.words (set (set s.views id w) bd (with_deposits ls b))
+      → AllShowKnown (set s.views id w) (banked (with_deposits ls b)) → BankInvariant γ sizes s.words (set (set s.views id w) bd (with_deposits ls b))
       → DomainInvariant γ sizes record { words = s.words; homes = hs; views = set (set s.views id w) bd (with_deposits ls b) }
-  stands_dealt w same parts hs lie told made fill kinds bd b there ne ls bank = let vs : List View = set s.views id w in
+  stands_dealt w same parts hs lie told made fill kinds bd b there ne ls shown bank = let vs : List View = set s.views id w in
       let b' : View = with_deposits ls b in let now : get_elem? vs bd ≡ some b = set_else s.views id bd w (λ e. ne (sym e)) ∙ there in
       let t = told.each bd b now in let mine = records.mine sizes vs hs told bd b now in record {
         kept = record {
@@ -332,7 +332,7 @@ module _ (γ : ℕ) (sizes : Sizes) (id : ℕ) (v : View) (s : State ValueFracti
           };
         };
         homes = part.calm γ sizes s.words vs hs lie bd b now s.words b' (λ i p out. out) (λ i _. refl) (lie.moving bd b now);
-        records = records.no_more sizes vs hs told bd b now b' hs
+        records = records.no_more sizes vs hs told bd b now b' (λ _. shown) hs
             record { owns = t.owns; owned = t.owned; sees = t.sees; waits = t.waits; waiting = t.waiting }
             mine (λ i p y _ _ l. inl l) (λ i m. m) (λ i a. a);
         counts = uncounted_alone sizes s.words vs made bd b now b' refl refl;

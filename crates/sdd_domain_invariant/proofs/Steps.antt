@@ -253,7 +253,7 @@ module _ (slots id : ℕ) (me : SeatState) (live : HasPlace me.0.epoch) where
               (λ j p _. still_seen now rests refl refl j p) (others s.words y)
               (λ j m. let e : j ≡ slot = one_moved now slot j refl m in let one = is_same slot slot refl in
               (live, inl (subst (λ (k : ℕ). 0 < times k (slot ∷ v.slots.owns)) (sym e) (omega arith))));
-          records = records.comes_to_move sizes s.views s.homes h.records id v at slot now (homes_after s.homes me.1 tk.act)
+          records = records.comes_to_move sizes s.views s.homes h.records id v at slot now (λ is. h.records.deposits id v at is) (homes_after s.homes me.1 tk.act)
               (claimed_tells v (h.records.each id v at) slot rests
               (nobody id v at)
               (λ o. let a = total_has (items_at slot) s.views id v at in let sum = h.kept.parts.slots.waited slot in omega arith) y)
@@ -328,7 +328,9 @@ module _ (slots id : ℕ) (me : SeatState) (live : HasPlace me.0.epoch) where
                 (part.gives γ sizes s.words s.views s.homes h.homes id v at slot (spare n) (IsValue value) rest me.1 g s.words w
                 (ap (away n) filled)
                 (λ g so. (λ _. so.0, λ e. absurd (omega arith))) (seen_but w slot mine refl refl) (λ j _ _. refl) (none_out w refl))
-                (records.comes_to_know sizes s.views s.homes h.records id v at slot value w (homes_after s.homes me.1 g.act)
+                (records.comes_to_know sizes s.views s.homes h.records id v at slot value w (λ is. (is, refl))
+                (λ j u e is. let balance = h.bank.banks j u e is in
+                (γ, balance.deposits, (let sum = balance.sums slot inside in omega arith))) (homes_after s.homes me.1 g.act)
                 record { owns = tells.owns; owned = tells.owned; sees = tells.sees; waits = tells.waits; waiting = tells.waiting } unknown
                 (λ i g k. known_by w i g
                 (λ a. ⊎_elim (λ (e : (slot ≡ i) × (value ≡ g)). inl (sym e.0, sym e.1))
@@ -411,7 +413,7 @@ module _ (slots id : ℕ) (me : SeatState) (live : HasPlace me.0.epoch) where
                 (λ j p _. still_seen w rests refl refl j p) (λ j _ _. refl)
                 (λ j m. let e : slot ≡ j = sym (one_moved w slot j is m) in
                 (live, subst (λ (k : ℕ). Owns v k ⊎ (0 < items_at k v)) e may)))
-                (records.comes_to_move sizes s.views s.homes h.records id v at slot w (homes_after s.homes me.1 tk.act) tells
+                (records.comes_to_move sizes s.views s.homes h.records id v at slot w moved_show (homes_after s.homes me.1 tk.act) tells
                 (λ j g k. records.mine sizes s.views s.homes h.records id v at j g (known j g k))
                 (λ j p y _ near l. (taken_lies γ n slot (spare n) Is s.homes me.1 tk j p y near l).1) refl (λ j m. one_moved w slot j is m) unseen)
                 (uncounted_alone sizes s.words s.views h.counts id v at w same refl)
@@ -452,7 +454,7 @@ module _ (slots id : ℕ) (me : SeatState) (live : HasPlace me.0.epoch) where
                 (blind_units sizes s.words s.views id v v at (subst (Parts sizes s.words) (sym (set_again s.views id v at)) h.kept.parts) w.stakes
                 w.slots.drawn) s.homes
                 (part.calm γ sizes s.words s.views s.homes h.homes id v at s.words w (λ j p out. out) (λ j _. refl) (h.homes.moving id v at))
-                (records.no_more sizes s.views s.homes h.records id v at w s.homes
+                (records.no_more sizes s.views s.homes h.records id v at w (λ is. h.records.deposits id v at is) s.homes
                 record { owns = told.owns; owned = told.owned; sees = told.sees; waits = told.waits; waiting = told.waiting }
                 mine (λ j p y _ _ l. inl l) (λ j m. m) (λ j a. a))
                 (uncounted_alone sizes s.words s.views h.counts id v at w refl refl) (still_filled s h at w refl refl refl)
@@ -669,7 +671,7 @@ module _ (slots id : ℕ) (me : SeatState) (live : HasPlace me.0.epoch) where
             act = keeps;
             valid = tt;
             homes = part.calm γ sizes s.words s.views s.homes h.homes id v at (set s.words i y) now (λ j p out. out) same (none_out now rests);
-            records = records.no_more sizes s.views s.homes r id v at now s.homes
+            records = records.no_more sizes s.views s.homes r id v at now (λ is. r.deposits id v at is) s.homes
                 (retired_tells v (r.each id v at) slot owns y c.0 rests value told_it)
                 (λ j g k. known_by now j g (λ a. absurd (in_none j g a)) (λ a. mine_known j g (inr (inl a)))
                 (λ a. ⊎_elim (λ (b : IsIn v.stakes.owns j g). mine_known j g (inl b)) (λ (b : IsIn v.stakes.waits j g). mine_known j g (inr (inr b)))
@@ -729,7 +731,7 @@ module _ (slots id : ℕ) (me : SeatState) (live : HasPlace me.0.epoch) where
               act = keeps;
               valid = tt;
               homes = part.calm γ sizes s.words s.views s.homes h.homes id v at (set s.words i y) now (λ j p out. out) same (none_out now rests);
-              records = records.no_more sizes s.views s.homes r id v at now s.homes
+              records = records.no_more sizes s.views s.homes r id v at now (λ is. r.deposits id v at is) s.homes
                   record {
                     owns = λ j g k. absurd (in_none j g k);
                     owned = λ j o _. absurd (let e = ap (λ (l : List ℕ). times j (tail l)) owns in omega arith);
@@ -819,7 +821,7 @@ module _ (slots id : ℕ) (me : SeatState) (live : HasPlace me.0.epoch) where
               (part.takes_one γ sizes s.words s.views s.homes h.homes id v at slot q (omega arith) now (inr (omega arith, refl))
               (λ j p out. let o = only_seen v rests j p out in inr (let a = o.0 in omega arith, o.1))
               (none_out now rests))
-              (records.kept sizes s.views s.homes r id v at now (set s.homes spot none)
+              (records.kept sizes s.views s.homes r id v at now (λ is. r.deposits id v at is) (set s.homes spot none)
               record {
                 owns = tells.owns;
                 owned = tells.owned;
@@ -968,7 +970,7 @@ module _ (slots id : ℕ) (me : SeatState) (live : HasPlace me.0.epoch) where
         valid = g.valid;
         homes = part.closes γ sizes s.words s.views s.homes h.homes id v at q le near me.1 g (set s.words j 1) (unsighted now) told.sees refl
             rests (λ k sees. same k ∙ f.full k sees) (λ k _. same k) (none_out (unsighted now) rests);
-        records = records.no_more sizes s.views s.homes r id v at (unsighted now) (homes_after s.homes me.1 g.act)
+        records = records.no_more sizes s.views s.homes r id v at (unsighted now) (λ is. r.deposits id v at is) (homes_after s.homes me.1 g.act)
             record { owns = told.owns; owned = told.owned; sees = refl; waits = told.waits; waiting = told.waiting }
             (λ k a c. known_by (unsighted now) k a (λ d. mine k a (inl d)) (λ d. absurd (in_none k a d)) (λ d. mine k a (inr (inr d))) c)
             (λ k p y _ near' lies. ⊎_elim

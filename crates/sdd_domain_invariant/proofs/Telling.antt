@@ -23,7 +23,8 @@ use Rattle.sdd_word_invariant.proofs.Sums.{is_same, is_other, without_same, with
 use Rattle.sdd_domain_invariant.specs.FractionsAtHome.{CarriedFractions, share, Has, Moves, LiesAt}
 use Rattle.sdd_domain_invariant.specs.DomainInvariant.{DomainInvariant}
 use Rattle.sdd_domain_invariant.specs.FractionSteps.{moving, making, resting, telling, untold, remembering, forgetting}
-use Rattle.sdd_domain_invariant.specs.Records.{slot_shown, IsIn, IsKnown, IsTelling, RecordsInvariant}
+use Rattle.sdd_domain_invariant.specs.Records.{slot_shown, IsIn, IsKnown, IsTelling, AllShowKnown, RecordsInvariant}
+use Rattle.sdd_domain_invariant.specs.BankInvariant.{deposited}
 use Rattle.sdd_domain_invariant.specs.FilledInvariant.{HasRecord}
 use Rattle.sdd_domain_invariant.proofs.Records.{in_head, in_tail, in_either, in_none, in_both, in_front, in_back, in_others, in_kept, known_by}
 use Rattle.sdd_domain_invariant.proofs.Records as records
@@ -208,7 +209,9 @@ module _ (γ : ℕ) (sizes : Sizes) (s : State ValueFraction View) (h : DomainIn
       → record w.stakes { counts = v.stakes.counts } ≡ record v.stakes { moves = None } → w.slots.sees ≡ v.slots.sees
       → RecordsInvariant sizes (set s.views id w) (homes_after s.homes xs g.act)
   comes_home o Is rest xs g never w tells is seen = let n : ℕ = sizes.participants in
-      records.no_more sizes s.views s.homes h.records id v at w (homes_after s.homes xs g.act) tells
+      records.no_more sizes s.views s.homes h.records id v at w
+      (λ b. subst (λ (x : FractionsView). AllShowKnown s.views (map (deposited x.book) x.banked)) (sym is)
+      (h.records.deposits id v at (ap (λ (x : FractionsView). x.bank) (sym is) ∙ b))) (homes_after s.homes xs g.act) tells
       (λ k g' a. records.mine sizes s.views s.homes h.records id v at k g' (known_by w k g'
       (λ b. inl (subst (λ (x : FractionsView). IsIn x.owns k g') is b))
       (λ b. inr (inl (subst (λ (x : FractionsView). IsIn x.sees k g') is b)))

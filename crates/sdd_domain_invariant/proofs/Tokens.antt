@@ -73,7 +73,7 @@ module _ (γ : ℕ) (sizes : Sizes) where
               (part.arrives γ sizes s.words s.views s.homes h.homes t (nothing_out t refl refl) (none_out t refl));
           records = subst (λ (w : View). RecordsInvariant sizes (s.views ++ w ∷ []) s.homes) (sym r.2.0)
               (records.arrives sizes s.views s.homes h.records t (telling_none t refl refl refl refl refl refl)
-              (λ i g k. absurd (knows_none t refl refl refl i g k)) refl refl);
+              (λ i g k. absurd (knows_none t refl refl refl i g k)) refl refl refl);
           counts = subst (λ (w : View). CountsInvariant sizes s.words (s.views ++ w ∷ [])) (sym r.2.0)
               (more_counts sizes s.words s.views h.counts t refl refl refl);
           filled = subst (λ (w : View). FilledInvariant sizes (s.views ++ w ∷ [])) (sym r.2.0)
@@ -111,6 +111,7 @@ module _ (γ : ℕ) (sizes : Sizes) where
     records = record {
       each = λ j v e. subst IsTelling (only j v e) (telling_none (founder sizes γ) refl refl refl refl refl refl);
       agree = λ i g h a b. absurd (none_known i g a);
+      deposits = λ j b e is. let f : false ≡ true = ap (λ (u : View). u.stakes.bank) (only j b e) ∙ is in absurd cc;
       home = λ i p g y low near a l. absurd (none_known i g a);
       apart = λ j k v w i e e' m. absurd (none_moved v i (subst (λ (u : View). u.stakes.moves ≡ None) (only j v e) refl) m);
     };
@@ -163,7 +164,7 @@ module _ (γ : ℕ) (sizes : Sizes) where
         waits = λ i g k. absurd (in_none i g k);
         waiting = λ i o. absurd (omega arith);
       }
-      (λ i g k. known_by t i g (λ a. mine i g (inl a)) (λ a. absurd (in_none i g a)) (λ a. absurd (in_none i g a)) k) refl refl in
+      (λ i g k. known_by t i g (λ a. mine i g (inl a)) (λ a. absurd (in_none i g a)) (λ a. absurd (in_none i g a)) k) refl refl refl in
       let mine_then = records.mine sizes vs s.homes came id v (at_longer s.views (t ∷ []) id v at) in
       let known_then = filled_more sizes s.views h.filled t
       (λ r x. ⊎_elim (λ (a : HasRecord v.stakes.owns r). (id, v, at, inl a)) (λ (a : HasRecord [] r). absurd (has_none r [] refl a)) x)
@@ -173,7 +174,8 @@ module _ (γ : ℕ) (sizes : Sizes) where
             (part.calm γ sizes s.words s.views s.homes h.homes id v at s.words w (λ i p out. out) (λ i _. refl) (none_out w rests))
             t (nothing_out t refl refl) (none_out t refl);
         records = subst (λ (us : List View). RecordsInvariant sizes us s.homes) (set_front s.views (t ∷ []) id v w at)
-            (records.no_more sizes vs s.homes came id v (at_longer s.views (t ∷ []) id v at) w s.homes
+            (records.no_more sizes vs s.homes came id v (at_longer s.views (t ∷ []) id v at) w
+            (λ is. came.deposits id v (at_longer s.views (t ∷ []) id v at) is) s.homes
             record {
               owns = λ i g k. absurd (in_none i g k);
               owned = λ i o still. absurd (let e = ap (λ (l : List ℕ). times i (others l)) owns in omega arith);
@@ -227,7 +229,7 @@ module _ (γ : ℕ) (sizes : Sizes) where
       let w : View = regained v t in let vs : List View = set s.views id w in let r = h.records in let told = r.each id v at in
       let now : ShownValue = record { slot = slot; shared = shared; value = value } in let mine = records.mine sizes s.views s.homes r id v at in
       let there : get_elem? vs other ≡ some t = set_else s.views id other w apart ∙ was in
-      let came = records.no_more sizes s.views s.homes r id v at w s.homes
+      let came = records.no_more sizes s.views s.homes r id v at w (λ is. r.deposits id v at is) s.homes
       record {
         owns = λ i g k. ⊎_elim
             (λ (e : (slot ≡ i) × (value ≡ g)). (let o = is_same i slot e.0 in let l : Owns w i = omega arith in l, none_moved w i rests))
@@ -249,7 +251,7 @@ module _ (γ : ℕ) (sizes : Sizes) where
         homes = part.calm γ sizes s.words vs s.homes
             (part.calm γ sizes s.words s.views s.homes h.homes id v at s.words w (λ i p out. out) (λ i _. refl) (none_out w rests))
             other t there s.words t' (λ i p out. absurd (nothing_out t refl refl i p out)) (λ i _. refl) (none_out t' refl);
-        records = records.no_more sizes vs s.homes came other t there t' s.homes (telling_none t' refl refl refl refl refl refl)
+        records = records.no_more sizes vs s.homes came other t there t' (λ is. let c : false ≡ true = is in absurd cc) s.homes (telling_none t' refl refl refl refl refl refl)
             (λ i g k. absurd (knows_none t' refl refl refl i g k)) (λ i p y _ _ l. inl l) (λ i m. absurd (none_moved t' i refl m))
             (λ i a. absurd (omega arith));
         counts = uncounted_alone sizes s.words vs (uncounted_alone sizes s.words s.views h.counts id v at w refl refl) other t there t' refl refl;
@@ -299,7 +301,7 @@ module _ (γ : ℕ) (sizes : Sizes) where
       (λ _. refl),
       refl,
     )) t
-        (telling_none t refl refl refl refl refl refl) (λ i g k. absurd (knows_none t refl refl refl i g k)) refl refl;
+        (telling_none t refl refl refl refl refl refl) (λ i g k. absurd (knows_none t refl refl refl i g k)) refl refl refl;
     counts = record {
       items = let a = total_set made_by s.views id v w at in let a' = total_snoc made_by (set s.views id w) t in
           let b = total_set gone_by s.views id v w at in let b' = total_snoc gone_by (set s.views id w) t in let d = c.items in omega arith;
@@ -328,10 +330,10 @@ module _ (γ : ℕ) (sizes : Sizes) where
             (part.calm γ sizes s.words s.views s.homes h.homes id v at s.words w (λ i p out. out) (λ i _. refl) (h.homes.moving id v at))
             t (nothing_out t refl refl) (none_out t refl);
         records = records.arrives sizes us s.homes
-            (records.no_more sizes s.views s.homes h.records id v at w s.homes
+            (records.no_more sizes s.views s.homes h.records id v at w (λ is. h.records.deposits id v at is) s.homes
             record { owns = told.owns; owned = told.owned; sees = told.sees; waits = told.waits; waiting = told.waiting }
             (records.mine sizes s.views s.homes h.records id v at) (λ i p y _ _ l. inl l) (λ i m. m) (λ i a. a))
-            t (telling_none t refl refl refl refl refl refl) (λ i g k. absurd (knows_none t refl refl refl i g k)) refl refl;
+            t (telling_none t refl refl refl refl refl refl) (λ i g k. absurd (knows_none t refl refl refl i g k)) refl refl refl;
         counts = more_counts sizes s.words us (uncounted_alone sizes s.words s.views h.counts id v at w refl refl) t refl refl refl;
         filled = filled_more sizes us (filled_same sizes s.views h.filled id v at w refl refl refl (λ live. live))
             t (tells_none t us refl refl) (λ z. absurd (omega arith));
