@@ -18,12 +18,13 @@ use Rattle.sdd_views.specs.declared.EpochView.{EpochView}
 use Rattle.sdd_views.specs.declared.View.{View}
 use Rattle.sdd_views.specs.declared.Sizes.{Sizes}
 use Rattle.sdd_word_invariant.specs.Words.{global_word, lock_word, state_word, count_word, slot_word, after_places}
-use Rattle.sdd_word_invariant.specs.Codes.{alive, counted as counts_owners, free_word, waiting_word}
+use Rattle.sdd_word_invariant.specs.Codes.{alive, counted as counts_owners, held_word, shared_word, free_word, waiting_word}
+use Rattle.sdd_word_invariant.proofs.Codes.{one_left}
 use Rattle.sdd_word_invariant.specs.Epoch.{HasPlace, IsClosed, IsOpen, Scans}
 use Rattle.sdd_views.specs.Views.{nobody, owner_of}
 use Rattle.sdd_word_invariant.specs.EpochSteps.{Keeps, passed_by, knowing, scanning, IsNext, Registers, Reads, Counts, Publishes, Ends, Locks, LooksAtLock, LooksAtState, LooksAtCount, Advances, Unlocks}
 use Rattle.sdd_word_invariant.specs.Slots.{Owns, Holds}
-use Rattle.sdd_word_invariant.specs.SlotSteps.{blank, changed, OnEpoch, PublishesAll, IsDue, LooksAtSlot, TakesHold, LetsGo, LooksForGuard, AtSlot}
+use Rattle.sdd_word_invariant.specs.SlotSteps.{blank, changed, OnEpoch, PublishesAll, IsDue, LooksAtSlot, TakesHold, LetsGo, TriesHold, SharesAgain, LooksForGuard, AtSlot}
 use Rattle.sdd_word_invariant.specs.Barred.{IsNobodys, Bars, LooksForValue}
 use Rattle.sdd_word_invariant.proofs.Epoch as epochs
 use Rattle.sdd_word_invariant.proofs.EpochSteps as over
@@ -386,6 +387,17 @@ module _ (γ : ℕ) (sizes : Sizes) (slots id : ℕ) (me : SeatState) where
       pub may_let_go : Holds me.0 slot → me.0.stakes.moves ≡ None → ((r : ShownValue) → HasRecord me.0.stakes.owns r → r.slot ≡ slot → r.shared ≡ false)
           → May i (λ x. x) (Told (AtSlot LetsGo i) me)
       may_let_go held rests single = at_slot (λ x. x) (λ j. Told (AtSlot LetsGo j) me) (steps.lets_go slots id me live slot within held rests single)
+
+      pub may_try_hold : (value : Gv) → HasRecord me.0.stakes.owns (record { slot = slot; shared = true; value = value }) → me.0.slots.holds ≡ None
+          → me.0.stakes.moves ≡ None → May i (λ x. either (eqb x (shared_word 1)) held_word x) (Told (AtSlot TriesHold i) me)
+      may_try_hold value told free rests = at_slot (λ x. either (eqb x (shared_word 1)) held_word x) (λ j. Told (AtSlot TriesHold j) me)
+          (steps.tries_hold slots id me live slot within value told free rests)
+
+      pub may_share_again : Holds me.0 slot → me.0.stakes.moves ≡ None → ((r : ShownValue) → HasRecord me.0.stakes.owns r → r.slot ≡ slot → r.shared ≡ true)
+          → May i (λ _. shared_word 1) (λ _. Told (AtSlot SharesAgain i) me (shared_word 1))
+      may_share_again held rests several = at_slot (λ _. shared_word 1) (λ j _. Told (AtSlot SharesAgain j) me (shared_word 1))
+          (steps.shares_again slots id me live slot within (shared_word 1) one_left.0 held rests
+          (λ r told is. one_left.2 ∙ sym (ap one_where (several r told is))))
 
       pub may_discard : Moves me.0 slot → Holds me.0 slot → sizes.participants ≤ me.0.slots.looked → (rest : CarriedFractions)
           → CarriesAll γ slot sizes.participants 0 IsNoValueCode rest me.1 → May i (λ _. free_word 0) (λ _. OfSlot DiscardsAll i me (free_word 0))

@@ -1,7 +1,7 @@
 //! What each step tells.
 ghost use Rattle.std.specs.Prelude.{[], true, false};
 ghost use Rattle.sdd_word_invariant.specs.EpochSteps.{Registers, Reads, Counts, Locks, LooksAtLock, LooksAtState, LooksAtCount, Advances, Unlocks};
-ghost use Rattle.sdd_word_invariant.specs.SlotSteps.{OnEpoch, PublishesAll, LooksAtSlot, TakesHold, LetsGo, LooksForGuard, AtSlot};
+ghost use Rattle.sdd_word_invariant.specs.SlotSteps.{OnEpoch, PublishesAll, LooksAtSlot, TakesHold, LetsGo, TriesHold, SharesAgain, LooksForGuard, AtSlot};
 ghost use Rattle.sdd_word_invariant.specs.Barred.{Bars, LooksForValue};
 ghost use Rattle.sdd_views.specs.Views.{owner_token};
 ghost use Rattle.sdd_domain_invariant.specs.BankInvariant.{founded, bank_of};
@@ -185,6 +185,18 @@ pub struct ReleaseHold;
 
 impl Play<ValueFraction, View> for ReleaseHold {
     ghost then = { λ step. Told (AtSlot LetsGo step.word) };
+}
+
+pub struct TryHold;
+
+impl Play<ValueFraction, View> for TryHold {
+    ghost then = { λ step. Told (AtSlot TriesHold step.word) };
+}
+
+pub struct ShareAgain;
+
+impl Play<ValueFraction, View> for ShareAgain {
+    ghost then = { λ step. Told (AtSlot SharesAgain step.word) };
 }
 
 pub struct Discard;

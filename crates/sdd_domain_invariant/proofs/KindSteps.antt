@@ -385,3 +385,36 @@ module _ (sizes : Sizes) (ws : List ℕ) (vs : List View) (k : KindsInvariant si
       → IsWithin (slot_at sizes ws slot) y → KeepsPost v w → KindsInvariant sizes (set ws (slot_word sizes slot) y) (set vs id w)
   goes slot y w inside long rests none holds here others within post = one_slot sizes ws vs k tells id v at slot inside y w
       (lets_be sizes ws vs k tells id v at slot inside y w long rests (λ r h. absurd (has_none r w.stakes.owns none h)) (λ i _ h. holds i h)) others here within post
+
+  -- it holds a slot of which nobody else has an owner, by another word
+  pub takes_hold : (slot y : ℕ) (w : View) → slot < sizes.slots → length w.words ≡ words_behind w.sizes → w.stakes.moves ≡ None → w.stakes.owns ≡ v.stakes.owns
+      → v.slots.holds ≡ None → Holds w slot → slot_at sizes (set ws (slot_word sizes slot) y) slot ≡ y
+      → ((j : ℕ) (u : View) → j ≢ id → get_elem? vs j ≡ some u → ¬ (Owns u slot)) → counted y ≡ 0 → KeepsPost v w
+      → KindsInvariant sizes (set ws (slot_word sizes slot) y) (set vs id w)
+  takes_hold slot y w inside long rests told free holds here none firm post = one_slot sizes ws vs k tells id v at slot inside y w
+      record {
+        long = long;
+        sole = λ j m. absurd (none_moved w j rests m);
+        claimed = λ j m. absurd (none_moved w j rests m);
+        told = λ r h loose. ap counted (there sizes ws vs k tells id v at slot inside y w r.slot (λ e. loose (holds ∙ ap (λ (i : ℕ). Some i) (sym e))))
+            ∙ (k.each id v at).told r (subst (λ (l : List ShownValue). HasRecord l r) told h) (λ o. let c : None ≡ Some r.slot = sym free ∙ o in cc);
+      }
+      (λ j u apart e. inl (none j u apart e)) here (λ c. absurd (omega arith)) post
+
+  -- it lets go of it, by a word that says of its owner what it told of it
+  pub shares_again : (slot y : ℕ) (w : View) → slot < sizes.slots → length w.words ≡ words_behind w.sizes → w.stakes.moves ≡ None
+      → w.stakes.owns ≡ v.stakes.owns → Holds v slot → ((r : ShownValue) → HasRecord v.stakes.owns r → r.slot ≡ slot → counted y ≡ one_where r.shared)
+      → slot_at sizes (set ws (slot_word sizes slot) y) slot ≡ y
+      → ((j : ℕ) (u : View) → j ≢ id → get_elem? vs j ≡ some u → ¬ (Owns u slot)) → alive y ≡ 1 → KeepsPost v w
+      → KindsInvariant sizes (set ws (slot_word sizes slot) y) (set vs id w)
+  shares_again slot y w inside long rests told held kind here none one post = one_slot sizes ws vs k tells id v at slot inside y w
+      record {
+        long = long;
+        sole = λ j m. absurd (none_moved w j rests m);
+        claimed = λ j m. absurd (none_moved w j rests m);
+        told = λ r h _. let a : HasRecord v.stakes.owns r = subst (λ (l : List ShownValue). HasRecord l r) told h in dite (ℕ_discrete r.slot slot)
+            (λ e. ap (λ (i : ℕ). counted (slot_at sizes (set ws (slot_word sizes slot) y) i)) e ∙ (ap counted here ∙ kind r a e))
+            (λ ne. ap counted (there sizes ws vs k tells id v at slot inside y w r.slot ne)
+            ∙ (k.each id v at).told r a (λ o. ne (let c : Some slot ≡ Some r.slot = sym held ∙ o in let e : r.slot ≡ slot = cc in e)));
+      }
+      (λ j u apart e. inl (none j u apart e)) here (λ _. inl (omega arith)) post

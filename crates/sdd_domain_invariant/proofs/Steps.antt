@@ -20,17 +20,17 @@ use Rattle.sdd_views.specs.declared.WaitingItem.{WaitingItem}
 use Rattle.sdd_views.specs.declared.View.{View}
 use Rattle.sdd_views.specs.declared.Sizes.{Sizes}
 use Rattle.sdd_word_invariant.specs.Words.{slot_word, state_word, words_behind}
-use Rattle.sdd_word_invariant.specs.Codes.{codes, alive, waiting, full, counted as kind_of, shared_base, free_word, waiting_word}
+use Rattle.sdd_word_invariant.specs.Codes.{codes, alive, waiting, full, counted as kind_of, shared_base, held_word, shared_word, free_word, waiting_word}
 use Rattle.sdd_word_invariant.specs.Epoch.{HasPlace, IsOpen, Scans, IsLone}
 use Rattle.sdd_word_invariant.specs.EpochSteps.{Steps}
 use Rattle.sdd_word_invariant.specs.Sums.{total, times, is as is_at}
 use Rattle.sdd_word_invariant.specs.Slots.{slot_at, owners_at, items_at, Owns, Sees, Holds}
-use Rattle.sdd_word_invariant.specs.SlotSteps.{others as tail, behind, noted, Knew, without, retired, one_less, given_back, held, looked_past, release_hold, discarded, seeing, AtSlot, Claims, Retires, Releases, GivesBack, LooksAtSlot, TakesHold, LetsGo, Discards, LooksForGuard, ClosesAll, IsDue}
+use Rattle.sdd_word_invariant.specs.SlotSteps.{others as tail, behind, noted, Knew, without, retired, one_less, given_back, held, held_by, shared_again, looked_past, release_hold, discarded, seeing, AtSlot, Claims, Retires, Releases, GivesBack, LooksAtSlot, TakesHold, LetsGo, TriesHold, SharesAgain, Discards, LooksForGuard, ClosesAll, IsDue}
 use Rattle.sdd_word_invariant.specs.WordInvariant.{epoch_of}
 use Rattle.sdd_word_invariant.specs.Barred.{IsNobodys, IsBarred, AreBarred, AreQuiet, past, past_quiet, Bars, LooksForValue}
 use Rattle.sdd_word_invariant.proofs.Barred.{Spares, one_spared, Hushes, one_hushed}
 use Rattle.sdd_word_invariant.proofs.Barred as barring
-use Rattle.sdd_word_invariant.proofs.Codes.{sound, shared, counted_is, none_left, some_left, free_is, waiting_is}
+use Rattle.sdd_word_invariant.proofs.Codes.{sound, shared, counted_is, none_left, some_left, one_left, only_held, free_is, waiting_is}
 use Rattle.sdd_word_invariant.proofs.EpochSteps as over
 use Rattle.sdd_word_invariant.proofs.SlotSteps as steps
 use Rattle.sdd_word_invariant.proofs.Owning.{item_gone, item_kept}
@@ -892,6 +892,82 @@ module _ (slots id : ℕ) (me : SeatState) (live : HasPlace me.0.epoch) where
                     (λ ne. (h.kinds.each id v at).told r a (λ o. ne (let c : Some slot ≡ Some r.slot = sym held ∙ o in let e : r.slot ≡ slot = cc in e)));
               }
               (post s h at (release_hold v) refl refl refl (λ l. l));
+        })
+
+    -- another word comes to stand there that says one owner, who has it
+    module _ (s : State ValueFraction View) (h : DomainInvariant γ sizes s) (at : get_elem? s.views id ≡ some v) (mine : Owns v slot)
+        (one : alive (slot_at sizes s.words slot) ≡ 1) (y : ℕ) (lives : alive y ≡ 1) where
+      -- the slots are as full as before
+      as_full_still : (j : ℕ) → j < sizes.slots → full_at sizes (set s.words i y) j ≡ full_at sizes s.words j
+      as_full_still j low = let was = full_owned (slot_at sizes s.words slot) (omega arith) in let is = full_owned y (omega arith) in dite (ℕ_discrete j slot)
+          (λ e. subst (λ (k : ℕ). full_at sizes (set s.words i y) k ≡ full_at sizes s.words k) (sym e)
+          (ap full (here s.words y (within s h)) ∙ (is ∙ sym was)))
+          (λ ne. others s.words y j low ne)
+
+      -- nobody else has an owner of it
+      no_other : (j : ℕ) (u : View) → j ≢ id → get_elem? s.views j ≡ some u → ¬ (Owns u slot)
+      no_other j u apart e o = let b = owners_in codes sound sizes s.words s.views h.kept.parts.slots id j slot v u (λ z. apart (sym z)) at e in
+          absurd (omega arith)
+
+    -- try to hold a slot of its own, which it told of as one of several owners'
+    pub tries_hold : (value : Gv) → HasRecord v.stakes.owns (shared_record value) → v.slots.holds ≡ None → v.stakes.moves ≡ None
+        → May i (λ x. either (eqb x (shared_word 1)) held_word x) (λ r me'. (me'.1 ≡ me.1) × AtSlot TriesHold i v r me'.0)
+    tries_hold value told_it free rests = let f : ℕ → ℕ = λ x. either (eqb x (shared_word 1)) held_word x in
+        lift_calm_whole γ sizes slots id me i f (AtSlot TriesHold i v) (λ r me'. (me'.1 ≡ me.1) × AtSlot TriesHold i v r me'.0)
+        (spares f (AtSlot TriesHold i v) (λ r w t. let c = t slot refl in dite (ℕ_discrete r (shared_word 1)) (λ e. ap (λ (u : View). u.places) (c.2 e))
+        (λ ne. ap (λ (u : View). u.places) (c.3 ne))))
+        (λ s h at small. let own = ((h.records.each id v at).owns slot value (told_it.0, shared_record value, told_it.1, refl, refl)).0 in
+        steps.tries_hold id v live slot inside own free s.words s.views h.kept.parts at
+        ((h.kinds.each id v at).told (shared_record value) told_it (λ e. let c : None ≡ Some slot = sym free ∙ e in cc)))
+        (λ r w t. (refl, t))
+        (λ s w h at t. let c = t slot refl in let x : ℕ = get_or s.words i 0 in
+        let own = ((h.records.each id v at).owns slot value (told_it.0, shared_record value, told_it.1, refl, refl)).0 in
+        exchanged x (shared_word 1) held_word (λ y. IsCalm γ sizes slots id me i f s y w)
+        (λ hit. let one : alive x ≡ 1 = ap alive hit ∙ one_left.0 in subst (IsCalm γ sizes slots id me i f s held_word) (sym (c.2 hit)) record {
+          more = λ j p out. out;
+          same = as_full_still s h at own one held_word only_held.0;
+          mover = h.homes.moving id v at;
+          alike = (refl, refl, refl, (λ _. refl), refl);
+          counts = refl;
+          lives = λ l. l;
+          had = λ _ l. inl l;
+          kinds = kind_steps.takes_hold sizes s.words s.views h.kinds h.records.each id v at slot held_word (held_by slot held_word v) inside
+              (wrote_long s h at held_word) rests refl free refl (here s.words held_word (within s h)) (no_other s h at own one held_word only_held.0)
+              only_held.2 (post s h at (held_by slot held_word v) refl refl refl (λ l. l));
+        })
+        (λ miss. subst (IsCalm γ sizes slots id me i f s x) (sym (c.3 miss)) record {
+          more = λ j p out. out;
+          same = λ j _. same_words s h j;
+          mover = h.homes.moving id v at;
+          alike = (refl, refl, refl, (λ _. refl), refl);
+          counts = refl;
+          lives = λ l. l;
+          had = λ _ l. inl l;
+          kinds = kind_steps.calm sizes s.words s.views h.kinds h.records.each id v at (set s.words i x) v (same_slots s h)
+              (refl, refl, refl, (λ _. refl), refl) refl refl (λ _ o. o) (post s h at v refl refl refl (λ l. l));
+        }))
+
+    -- let go of it, by a word that says of its owner what it told of it
+    pub shares_again : (y : ℕ) → alive y ≡ 1 → Holds v slot → v.stakes.moves ≡ None
+        → ((r : ShownValue) → HasRecord v.stakes.owns r → r.slot ≡ slot → kind_of y ≡ one_where r.shared)
+        → May i (λ _. y) (λ _ me'. (me'.1 ≡ me.1) × AtSlot SharesAgain i v y me'.0)
+    shares_again y is_one holds rests kind =
+        lift_calm γ sizes slots id me i (λ _. y) (λ _. AtSlot SharesAgain i v y) (λ _ me'. (me'.1 ≡ me.1) × AtSlot SharesAgain i v y me'.0)
+        (spares (λ _. y) (λ _. AtSlot SharesAgain i v y) (λ r w t. ap (λ (u : View). u.places) (t slot refl)))
+        (steps.shares_again id v live slot y inside holds is_one) (λ r w t. (refl, t))
+        (λ s w h at t. let own = ((h.kept.parts.slots.each id v at).held slot holds).0 in
+        let one = held_is codes sound sizes s.words s.views h.kept.parts.slots id slot v at holds in
+        subst (IsCalm γ sizes slots id me i (λ _. y) s y) (sym (t slot refl)) record {
+          more = λ j p out. out;
+          same = as_full_still s h at own one y is_one;
+          mover = h.homes.moving id v at;
+          alike = (refl, refl, refl, (λ _. refl), refl);
+          counts = refl;
+          lives = λ l. l;
+          had = λ _ l. inl l;
+          kinds = kind_steps.shares_again sizes s.words s.views h.kinds h.records.each id v at slot y (shared_again slot y v) inside
+              (wrote_long s h at y) rests refl holds kind (here s.words y (within s h)) (no_other s h at own one y is_one)
+              is_one (post s h at (shared_again slot y v) refl refl refl (λ l. l));
         })
 
   -- beside a slot's owner it learns what it knows of the slot, and nothing changes

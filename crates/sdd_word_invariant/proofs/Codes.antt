@@ -6,7 +6,7 @@ use prog.Atomic.{either}
 use Rattle.std.proofs.lemmas.Bool.{le-leb}
 use Rattle.std.proofs.lemmas.Bool.Decides.{leb_tells}
 use Rattle.sdd_word_invariant.specs.Sums.{is}
-use Rattle.sdd_word_invariant.specs.Codes.{claimed_word, retired_word, IsWordReading, codes, shared_base, free_word, owned_word, waiting_word, private_word, emptied_word, unowned, kind_alive, kind_waiting, kind_full, kind_valued, kind_emptying, emptying, emptying_word, left_word, alive, waiting, full, valued, counted, waits_for, names}
+use Rattle.sdd_word_invariant.specs.Codes.{claimed_word, retired_word, IsWordReading, codes, held_word, shared_base, shared_word, free_word, owned_word, waiting_word, private_word, emptied_word, unowned, kind_alive, kind_waiting, kind_full, kind_valued, kind_emptying, emptying, emptying_word, left_word, alive, waiting, full, valued, counted, waits_for, names}
 
 lives : (q : ℕ) → 0 < kind_alive q → (kind_waiting q ≡ 0) × (kind_full q ≡ 1)
 lives q h = dite (ℕ_discrete q 1) (λ e. (ap kind_waiting e, ap kind_full e))
@@ -57,6 +57,16 @@ counted_is x h = ⊎_elim (λ (t : (leb shared_base x ≡ true) × (shared_base 
 pub none_left : (alive shared_base ≡ 0) × (waiting shared_base ≡ 1) × (full shared_base ≡ 1)
 unfolding alive waiting full
 none_left = (refl, refl, refl)
+
+-- the only owner holds it
+pub only_held : (alive held_word ≡ 1) × (full held_word ≡ 1) × (counted held_word ≡ 0)
+unfolding alive full counted
+only_held = (refl, refl, refl)
+
+-- one is left
+pub one_left : (alive (shared_word 1) ≡ 1) × (full (shared_word 1) ≡ 1) × (counted (shared_word 1) ≡ 1)
+unfolding alive full counted
+one_left = (refl, refl, refl)
 
 pub some_left : (x : ℕ) → shared_base < x → (alive x ≡ x - shared_base) × (waiting x ≡ 0) × (full x ≡ 1) × (counted x ≡ 1)
 some_left x h = let s = shared x (omega arith) in (s.0, s.1 ∙ ap (λ (t : _). either t 1 0) (ne_eqb x shared_base (λ e. omega arith)), s.2, s.3)

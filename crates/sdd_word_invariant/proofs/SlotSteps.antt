@@ -14,14 +14,14 @@ use Rattle.sdd_views.specs.declared.WaitingItem.{WaitingItem}
 use Rattle.sdd_views.specs.declared.View.{View}
 use Rattle.sdd_views.specs.declared.Sizes.{Sizes}
 use Rattle.sdd_word_invariant.specs.Words.{global_word, state_word, slot_word}
-use Rattle.sdd_word_invariant.specs.Codes.{codes, alive, waiting, counted, shared_base, free_word, most_owners}
+use Rattle.sdd_word_invariant.specs.Codes.{codes, alive, waiting, counted, shared_base, free_word, most_owners, shared_word, held_word}
 use Rattle.sdd_word_invariant.specs.Sums.{times}
 use Rattle.sdd_word_invariant.specs.Epoch.{HasPlace, IsOpen, EpochInvariant}
 use Rattle.sdd_word_invariant.specs.Slots.{slot_at, owners_at, items_at, Owns, Holds, SlotsInvariant}
 use Rattle.sdd_word_invariant.specs.EpochSteps.{Steps}
-use Rattle.sdd_word_invariant.specs.SlotSteps.{noted, Knew, claimed, retired, given_back, seeing, others, one_less, one_more, taken_back, Claims, Retires, Releases, Adds, TakesBack, GivesBack, AtSlot, held, release_hold, looked_past, discarded, TakesHold, LetsGo, Discards, LooksForGuard, LooksAtSlot}
+use Rattle.sdd_word_invariant.specs.SlotSteps.{noted, Knew, claimed, retired, given_back, seeing, others, one_less, one_more, taken_back, Claims, Retires, Releases, Adds, TakesBack, GivesBack, AtSlot, held, release_hold, looked_past, discarded, TakesHold, LetsGo, Discards, LooksForGuard, LooksAtSlot, held_by, shared_again, TriesHold, SharesAgain}
 use Rattle.sdd_word_invariant.specs.WordInvariant.{epoch_of, Parts}
-use Rattle.sdd_word_invariant.proofs.Codes.{sound, shared, counted_is, none_left, some_left, free_is}
+use Rattle.sdd_word_invariant.proofs.Codes.{sound, shared, counted_is, none_left, some_left, one_left, only_held, free_is}
 use Rattle.sdd_word_invariant.proofs.Epoch as epochs
 use Rattle.sdd_word_invariant.proofs.EpochSteps.{seen_after}
 use Rattle.sdd_word_invariant.proofs.Owning as owning
@@ -274,6 +274,40 @@ module _ (id : ℕ) (v : View) (live : HasPlace v.epoch) where
         (holding.lets_go codes sound sizes ws vs p.slots id v at slot x v.words inside held
         (held_is codes sound sizes ws vs p.slots id slot v at held))),
     λ other is. (refl, knew_too slot other is x (knew ws vs p at slot)),
+  )
+
+  -- try to hold the slot of an owner that is counted: where one was counted another word comes to stand there, to which no step adds an owner
+  pub tries_hold : (slot : ℕ) → slot < sizes.slots → Owns v slot → v.slots.holds ≡ None → (ws : List ℕ) (vs : List View) → Parts sizes ws vs
+      → get_elem? vs id ≡ some v → counted (slot_at sizes ws slot) ≡ 1
+      → (w : View) × Parts sizes (set ws (slot_word sizes slot) (either (eqb (slot_at sizes ws slot) (shared_word 1)) held_word (slot_at sizes ws slot))) (set vs id w)
+      × AtSlot TriesHold (slot_word sizes slot) v (slot_at sizes ws slot) w
+  tries_hold slot inside mine free ws vs p at several = let i : ℕ = slot_word sizes slot in let x : ℕ = slot_at sizes ws slot in
+      let w : View = held_by slot held_word v in let told = knew ws vs p at slot in let o = owner_in codes sound sizes ws vs p.slots id slot v at in
+      let left : 0 < alive x = omega arith in
+      exchanged x (shared_word 1) held_word (λ y. (u : View) × Parts sizes (set ws i y) (set vs id u) × AtSlot TriesHold i v x u)
+      (λ hit. (
+        w,
+        around ws vs p at slot held_word w live refl (same_epochs ws vs p at)
+            (holding.takes_hold codes sound sizes ws vs p.slots id v at slot held_word (noted slot held_word v) inside mine (ap codes.alive hit ∙ one_left.0) free
+            only_held.0 only_held.2),
+        λ other is. (
+          several,
+          left,
+          (λ _. ap (λ (k : ℕ). held_by k held_word v) (same_slot slot other is)),
+          (λ no. absurd (no hit)),
+          knew_too slot other is x told,
+        ),
+      ))
+      (λ miss. (v, unmoved ws vs p at i, λ other is. (several, left, (λ e. absurd (miss e)), (λ _. refl), knew_too slot other is x told)))
+
+  -- let go of it, by a word that says one owner
+  pub shares_again : (slot y : ℕ) → slot < sizes.slots → Holds v slot → alive y ≡ 1
+      → Steps (Parts sizes) id v (slot_word sizes slot) (λ _. y) (λ _. AtSlot SharesAgain (slot_word sizes slot) v y)
+  shares_again slot y inside held one ws vs p at small = let w : View = shared_again slot y v in (
+    w,
+    around ws vs p at slot y w live refl (same_epochs ws vs p at)
+        (holding.lets_go codes sound sizes ws vs p.slots id v at slot y (noted slot y v) inside held one),
+    λ other is. ap (λ (k : ℕ). shared_again k y v) (same_slot slot other is),
   )
 
   -- its item goes at once, after a look at each place

@@ -47,6 +47,10 @@ owned_word generation = 16 * generation + 1
 abbrev pub waiting_word : ℕ → ℕ
 waiting_word generation = 16 * generation + 4
 
+-- the only owner holds it, and isn't counted meanwhile
+abbrev pub held_word : ℕ
+held_word = 3
+
 -- from here on the owners are counted
 abbrev pub shared_base : ℕ
 shared_base = 2 ^ 63

@@ -10,7 +10,7 @@ use Rattle.sdd_views.specs.declared.View.{View}
 use Rattle.sdd_views.specs.declared.Sizes.{Sizes}
 use Rattle.sdd_word_invariant.specs.Words.{words_behind, state_word, slot_word}
 use Rattle.sdd_word_invariant.specs.Epoch.{HasPlace, IsOpen, IsLone}
-use Rattle.sdd_word_invariant.specs.Codes.{alive, counted, most_owners}
+use Rattle.sdd_word_invariant.specs.Codes.{alive, counted, most_owners, held_word, shared_word}
 use Rattle.sdd_word_invariant.specs.Slots.{items_at}
 use Rattle.sdd_word_invariant.specs.EpochSteps.{knowing, closed, Publishes}
 
@@ -99,6 +99,10 @@ seeing slot v = record v { slots = record v.slots { sees = slot ∷ v.slots.sees
 abbrev pub held : ℕ → View → View
 held slot v = record v { slots = record v.slots { holds = Some slot; looked = 0 } }
 
+-- the same, and y is in its word then
+abbrev pub held_by : ℕ → ℕ → View → View
+held_by slot y v = record v { slots = record v.slots { holds = Some slot; looked = 0 }; words = noted slot y v }
+
 -- it has looked at this place, the next one, where no guard is open
 abbrev pub looked_past : ℕ → View → View
 looked_past place v = record v { slots = record v.slots { looked = place + 1 } }
@@ -106,6 +110,10 @@ looked_past place v = record v { slots = record v.slots { looked = place + 1 } }
 -- it holds none
 abbrev pub release_hold : View → View
 release_hold v = record v { slots = record v.slots { holds = None; looked = 0 } }
+
+-- the same, and y is in the word of the slot that it held
+abbrev pub shared_again : ℕ → ℕ → View → View
+shared_again slot y v = record v { slots = record v.slots { holds = None; looked = 0 }; words = noted slot y v }
 
 -- the item of the slot that is held goes at once
 abbrev pub discarded : ℕ → ℕ → View → View
@@ -177,6 +185,14 @@ TakesHold slot v x w = (w ≡ held slot v) × Knew slot v x
 -- it no longer is
 abbrev pub LetsGo : ℕ → View → ℕ → View → Type 0
 LetsGo slot v x w = (w ≡ release_hold v) × Knew slot v x
+
+-- a try to hold a slot of the participant's own whose owners are counted: it is held where one was counted, and nothing changes where more were
+abbrev pub TriesHold : ℕ → View → ℕ → View → Type 0
+TriesHold slot v x w = (counted x ≡ 1) × (0 < alive x) × (x ≡ shared_word 1 → w ≡ held_by slot held_word v) × (x ≢ shared_word 1 → w ≡ v) × Knew slot v x
+
+-- it no longer is held, and its word says one owner again
+abbrev pub SharesAgain : ℕ → View → ℕ → View → Type 0
+SharesAgain slot v y w = w ≡ shared_again slot y v
 
 -- its item goes at once
 abbrev pub Discards : ℕ → View → ℕ → View → Type 0

@@ -4,10 +4,10 @@
 ghost use Rattle.std.specs.Prelude.{◌≡◌, ◌-◌, ◌<◌, ◌≤◌, ℕ, Bool, true, false, List, [], ◌∷◌, None};
 ghost use base.Stored.{Gv};
 ghost use Rattle.sdd_word_invariant.specs.Words as words;
-ghost use Rattle.sdd_word_invariant.specs.Codes.{alive, counted, free_word, waiting_word};
+ghost use Rattle.sdd_word_invariant.specs.Codes.{alive, counted, free_word, waiting_word, shared_word};
 ghost use Rattle.sdd_word_invariant.specs.Epoch.{HasPlace, IsOpen};
 ghost use Rattle.sdd_word_invariant.specs.Slots.{Owns, Holds};
-ghost use Rattle.sdd_word_invariant.specs.SlotSteps.{IsDue, LooksAtSlot, TakesHold, LetsGo, LooksForGuard};
+ghost use Rattle.sdd_word_invariant.specs.SlotSteps.{IsDue, LooksAtSlot, TakesHold, LetsGo, TriesHold, SharesAgain, LooksForGuard};
 ghost use Rattle.sdd_word_invariant.specs.Barred.{LooksForValue};
 ghost use Rattle.sdd_views.specs.Views.{owner_of};
 ghost use Rattle.sdd_views.specs.declared.ShownValue.{ShownValue};
@@ -26,7 +26,7 @@ use crate::domain_table::{DomainSeat, DomainTable};
 use crate::plays::{
     Claim, CutOwner, Discard, EnterUnit, FillSharedSlot, FillSlot, GiveBack, Hold, JoinOwner,
     LearnOwned, LetGo, LookAtGuard, LookAtSlot, LookForValue, ReleaseHold, Retire, SeeOwned,
-    TakeHeld, TakeOut,
+    ShareAgain, TakeHeld, TakeOut, TryHold,
 };
 use crate::words::state_word;
 use sdd_shared_values::ValueFraction;
@@ -36,6 +36,8 @@ use sdd_witness::{Witness, part, rejoin, step_beside};
 pub const FREE: u64 = 0;
 /// Its item has one owner, which isn't counted.
 pub const OWNED: u64 = 1;
+/// Its item has one owner, which is counted at other times, and holds it.
+pub const HELD: u64 = 3;
 /// Its item is retired, and waits.
 pub const WAITING: u64 = 4;
 /// Its item has one owner, which is counted: with each owner more it is one more.
@@ -262,6 +264,43 @@ pub fn release_hold(board: &DomainTable, token: &mut DomainSeat, slot: u32) -> u
         .table
         .shared
         .load::<ReleaseHold>(token, board.slot_word(slot))
+}
+
+/// Tries to hold a slot of the participant's own whose owners are counted, to find out whether a guard sees it. Answers its word before: it is held where
+/// this is `SHARED_BY_ONE`. Where it isn't, there are more owners, and nothing changes.
+#[inline]
+pub fn try_hold(board: &DomainTable, token: &mut DomainSeat, slot: u32) -> u64
+    requires home { token.old.table_id ≡ id_of board.now }
+    requires knows { Knows board.now token.old }
+    requires inside { slot < slots_of board.now }
+    requires place { HasPlace (epoch token.old) }
+    requires told { (value : Gv) × HasRecord (view token.old).stakes.owns (record { slot = slot; shared = true; value = value }) }
+    requires free { (slots token.old).holds ≡ None }
+    requires rests { (view token.old).stakes.moves ≡ None }
+    ensures { Taught (TriesHold slot) token.old result token.new }
+{
+    board
+        .table
+        .shared
+        .compare_exchange::<TryHold>(token, board.slot_word(slot), SHARED_BY_ONE, HELD)
+}
+
+/// Lets go of the slot that is held by the only one of owners that are counted: its word says one again.
+#[inline]
+pub fn share_again(board: &DomainTable, token: &mut DomainSeat, slot: u32)
+    requires home { token.old.table_id ≡ id_of board.now }
+    requires knows { Knows board.now token.old }
+    requires inside { slot < slots_of board.now }
+    requires place { HasPlace (epoch token.old) }
+    requires held { Holds (view token.old) slot }
+    requires rests { (view token.old).stakes.moves ≡ None }
+    requires several { (r : ShownValue) → HasRecord (view token.old).stakes.owns r → r.slot ≡ slot → r.shared ≡ true }
+    ensures { Taught (SharesAgain slot) token.old (shared_word 1) token.new }
+{
+    board
+        .table
+        .shared
+        .store::<ShareAgain>(token, board.slot_word(slot), SHARED_BY_ONE);
 }
 
 /// Takes all stakes in the slot that is held, once every place was looked at, and what the bank has of it. No word is touched.
