@@ -114,11 +114,23 @@ same_post v w pledges over of lives told holds = record {
   holds = λ _. holds;
 }
 
+-- it keeps what a pledge of its view rests on, where it is no participant's
+pub record KeepsOwner (v w : View) : Type 0 where
+  pub sizes : w.sizes ≡ v.sizes
+  pub records : v.sizes.participants ≡ 0 → (r : ShownValue) → HasRecord v.stakes.owns r → HasRecord w.stakes.owns r
+  pub holds : v.sizes.participants ≡ 0 → w.slots.holds ≡ v.slots.holds
+
+pub keeps_owner : (v w : View) → KeepsPost v w → KeepsOwner v w
+keeps_owner v w k = record { sizes = k.sizes; records = k.records; holds = k.holds }
+
+pub same_owner : (v : View) → KeepsOwner v v
+same_owner v = record { sizes = refl; records = λ _ r a. a; holds = λ _. refl }
+
 -- how a step leaves the count of a slot: within the bound, or no greater than it was
 abbrev pub IsWithin : ℕ → ℕ → Type 0
 IsWithin x y = counted y ≡ 1 → (alive y ≤ most_owners) ⊎ ((counted x ≡ 1) × (alive y ≤ alive x))
 
-over_none : (i : ℕ) (v : View) → v.slots.over ≡ None → over_at i v ≡ 0
+pub over_none : (i : ℕ) (v : View) → v.slots.over ≡ None → over_at i v ≡ 0
 over_none i v e = ap (moved_in i) e
 
 no_post : (t : View) → HasNoPost t → posts t ≡ 0
@@ -149,8 +161,8 @@ module _ (sizes : Sizes) (ws : List ℕ) (vs : List View) (b : BoundInvariant si
 
 module _ (vs : List View) (p : PledgesInvariant vs) where
   -- how a pledge stays backed
-  carried : (vs' : List View) (i : ℕ) (q : Pledge) → IsBacked vs i q
-      → ((x : View) → get_elem? vs q.seat ≡ some x → x.sizes.participants ≡ 0 → (x' : View) × (get_elem? vs' q.seat ≡ some x') × KeepsPost x x')
+  pub carried : (vs' : List View) (i : ℕ) (q : Pledge) → IsBacked vs i q
+      → ((x : View) → get_elem? vs q.seat ≡ some x → x.sizes.participants ≡ 0 → (x' : View) × (get_elem? vs' q.seat ≡ some x') × KeepsOwner x x')
       → ((j : ℕ) (b : View) → get_elem? vs j ≡ some b → IsLedger b → (b' : View) × (get_elem? vs' j ≡ some b') × IsLedger b')
       → ((j : ℕ) (b : View) → get_elem? vs' j ≡ some b → IsLedger b → HasPledge q b.pledges.booked) → IsBacked vs' i q
   carried vs' i q B still ledgers books = let o = B.owner in let n = still o.owner o.there o.nobodys in let x : View = n.0 in let k = n.2 in
@@ -170,15 +182,12 @@ module _ (vs : List View) (p : PledgesInvariant vs) where
         booked = books;
       }
 
-  unchanged : (x : View) → KeepsPost x x
-  unchanged x = same_post x x refl refl refl (λ l. l) refl refl
-
   pub pledges_more : (t : View) → HasNoPost t → PledgesInvariant (vs ++ t ∷ [])
   pledges_more t none = let us : List View = vs ++ t ∷ [] in record {
     single = let a = total_snoc posts vs t in let z = no_post t none in let o = p.single in omega arith;
     backed = λ i u q e m. ⊎_elim
         (λ (old : get_elem? vs i ≡ some u). carried us i q (p.backed i u q old m)
-        (λ x there _. (x, at_longer vs (t ∷ []) q.seat x there, unchanged x)) (λ j b there l. (b, at_longer vs (t ∷ []) j b there, l))
+        (λ x there _. (x, at_longer vs (t ∷ []) q.seat x there, same_owner x)) (λ j b there l. (b, at_longer vs (t ∷ []) j b there, l))
         (λ j b e l. ⊎_elim (λ (r : get_elem? vs j ≡ some b). (p.backed i u q old m).booked j b r l)
         (λ (r : t ≡ b). absurd (let c : false ≡ true = sym none.ledger ∙ (ap (λ (x : View). x.pledges.ledger) r ∙ l) in cc)) (at_snoc vs t b j e)))
         (λ (new : t ≡ u). absurd (no_pledge t q none.own (ap (λ (x : View). x.pledges.own) new ∙ m))) (at_snoc vs t u i e);
@@ -197,8 +206,8 @@ module _ (vs : List View) (p : PledgesInvariant vs) where
         (λ ne. (u, set_else vs id j w ne ∙ e, same u))
 
     -- what it has of pledges stays, and a view that is pledged keeps what it has
-    pledges_by : w.pledges ≡ v.pledges → ((i : ℕ) (q : Pledge) → IsBacked vs i q → (x : View) → get_elem? vs q.seat ≡ some x → x.sizes.participants ≡ 0
-        → (x' : View) × (get_elem? (set vs id w) q.seat ≡ some x') × KeepsPost x x') → PledgesInvariant (set vs id w)
+    pub pledges_by : w.pledges ≡ v.pledges → ((i : ℕ) (q : Pledge) → IsBacked vs i q → (x : View) → get_elem? vs q.seat ≡ some x → x.sizes.participants ≡ 0
+        → (x' : View) × (get_elem? (set vs id w) q.seat ≡ some x') × KeepsOwner x x') → PledgesInvariant (set vs id w)
     pledges_by same still = let us : List View = set vs id w in let same_own : w.pledges.own ≡ v.pledges.own = ap (λ (x : PledgesView). x.own) same in record {
       single = let a = total_set posts vs id v w at in let e : posts w ≡ posts v = (λ d. one_where (same d).ledger + one_where (same d).founds) in
           let o = p.single in omega arith;
@@ -217,11 +226,31 @@ module _ (vs : List View) (p : PledgesInvariant vs) where
     }
 
     pub pledges_kept : KeepsPost v w → PledgesInvariant (set vs id w)
-    pledges_kept post = pledges_by post.pledges (λ i q _ x there _. forth KeepsPost post unchanged q.seat x there)
+    pledges_kept post = pledges_by post.pledges (λ i q _ x there _. forth KeepsOwner (keeps_owner v w post) same_owner q.seat x there)
 
     -- as long as its own view isn't pledged
     pub pledges_spent : w.pledges ≡ v.pledges → ((i : ℕ) (q : Pledge) → IsBacked vs i q → ¬ (q.seat ≡ id)) → PledgesInvariant (set vs id w)
-    pledges_spent same free = pledges_by same (λ i q B x there _. (x, set_else vs id q.seat w (free i q B) ∙ there, unchanged x))
+    pledges_spent same free = pledges_by same (λ i q B x there _. (x, set_else vs id q.seat w (free i q B) ∙ there, same_owner x))
+
+  -- what it has of pledges changes, but for whether it is the ledger's, or may found it
+  pub repledges : (id : ℕ) (v : View) → get_elem? vs id ≡ some v → (t : PledgesView) → t.ledger ≡ v.pledges.ledger → t.founds ≡ v.pledges.founds
+      → ((q : Pledge) → t.own ≡ q ∷ [] → IsBacked vs id q)
+      → ((i : ℕ) (u : View) (q : Pledge) → get_elem? (set vs id (record v { pledges = t })) i ≡ some u → u.pledges.own ≡ q ∷ [] → IsLedger v
+      → HasPledge q v.pledges.booked → HasPledge q t.booked) → PledgesInvariant (set vs id (record v { pledges = t }))
+  repledges id v at t ledger founds own booked = let w : View = record v { pledges = t } in record {
+    single = let a = total_set posts vs id v w at in let e : posts w ≡ posts v = (λ d. one_where (ledger d) + one_where (founds d)) in
+        let o = p.single in omega arith;
+    backed = λ i u q e m. let was : IsBacked vs i q = ⊎_elim
+        (λ (c : (i ≡ id) × (w ≡ u)). subst (λ (j : ℕ). IsBacked vs j q) (sym c.0) (own q (ap (λ (x : View). x.pledges.own) c.1 ∙ m)))
+        (λ (c : (i ≢ id) × (get_elem? vs i ≡ some u)). p.backed i u q c.1 m) (at_set vs id i w u e) in
+        carried (set vs id w) i q was
+        (λ x there _. forth id v w at KeepsOwner record { sizes = refl; records = λ _ r a. a; holds = λ _. refl } same_owner q.seat x there)
+        (λ j b there l. let f = forth id v w at (λ x y. y.pledges.ledger ≡ x.pledges.ledger) ledger (λ _. refl) j b there in (f.0, f.1, f.2 ∙ l))
+        (λ j b e' l. ⊎_elim
+        (λ (c : (j ≡ id) × (w ≡ b)). let mine : IsLedger v = sym ledger ∙ (ap (λ (x : View). x.pledges.ledger) c.1 ∙ l) in
+        subst (λ (x : View). HasPledge q x.pledges.booked) c.1 (booked i u q e m mine (was.booked id v at mine)))
+        (λ (c : (j ≢ id) × (get_elem? vs j ≡ some b)). was.booked j b c.1 l) (at_set vs id j w b e'));
+  }
 
 -- ---- the part
 module _ (sizes : Sizes) (ws : List ℕ) (vs : List View) (k : KindsInvariant sizes ws vs) where

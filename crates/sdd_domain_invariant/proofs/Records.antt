@@ -177,19 +177,19 @@ pub leaves_show : (vs : List View) (ls : List FractionContent) (l : FractionCont
     → ShowsKnown vs l × AllShowKnown vs rest
 leaves_show vs [] l rest e a = absurd e
 leaves_show vs (h ∷ hs) l rest (inl e) a = (subst (ShowsKnown vs) (sym e.0) a.0, subst (AllShowKnown vs) (sym e.1) a.1)
-leaves_show vs (h ∷ hs) l rest (inr (inl (h', (part, e)))) a = (
+leaves_show vs (h ∷ hs) l rest (inr (inl (h', part, e))) a = (
   subst (ShowsKnown vs) (sym part.same) (λ g k. a.0 g k),
   subst (AllShowKnown vs) (sym e) (subst (ShowsKnown vs) (sym part.stays) (λ g k. a.0 g k), a.1),
 )
-leaves_show vs (h ∷ hs) l rest (inr (inr (hs', (on, e)))) a = let t = leaves_show vs hs l hs' on a.1 in (t.0, subst (AllShowKnown vs) (sym e) (a.0, t.1))
+leaves_show vs (h ∷ hs) l rest (inr (inr (hs', on, e))) a = let t = leaves_show vs hs l hs' on a.1 in (t.0, subst (AllShowKnown vs) (sym e) (a.0, t.1))
 
 -- where one comes that shows it
 pub comes_show : (vs : List View) (ls : List FractionContent) (l : FractionContent) (more : List FractionContent) → Comes ls l more → ShowsKnown vs l → AllShowKnown vs ls
     → AllShowKnown vs more
 comes_show vs [] l more e now a = subst (AllShowKnown vs) (sym e) (now, tt)
-comes_show vs (h ∷ hs) l more (inl e) now a = subst (AllShowKnown vs) (sym e) (now, a.0, a.1)
-comes_show vs (h ∷ hs) l more (inr (inl (h', (joined, e)))) now a = subst (AllShowKnown vs) (sym e) (subst (ShowsKnown vs) (sym joined.sum) (λ g k. a.0 g k), a.1)
-comes_show vs (h ∷ hs) l more (inr (inr (hs', (on, e)))) now a = subst (AllShowKnown vs) (sym e) (a.0, comes_show vs hs l hs' on now a.1)
+comes_show vs (h ∷ hs) l more (inl e) now a = subst (AllShowKnown vs) (sym e) (now, a)
+comes_show vs (h ∷ hs) l more (inr (inl (h', joined, e))) now a = subst (AllShowKnown vs) (sym e) (subst (ShowsKnown vs) (sym joined.sum) (λ g k. a.0 g k), a.1)
+comes_show vs (h ∷ hs) l more (inr (inr (hs', on, e))) now a = subst (AllShowKnown vs) (sym e) (a.0, comes_show vs hs l hs' on now a.1)
 
 module _ (sizes : Sizes) (vs : List View) (hs : FractionsAtHome) (part : RecordsInvariant sizes vs hs) where
   abbrev n : ℕ

@@ -1,5 +1,5 @@
 -- The steps that take stakes from home or give them, and the other steps on slots
-use Rattle.std.proofs.Common.{◌≡◌, ◌≢◌, ◌⊎◌, inl, inr, ℕ, suc, ◌+◌, ◌-◌, ◌^◌, ◌<◌, ◌≤◌, Bool, true, false, eqb, List, [], ◌∷◌, length, get_or, set, sym, refl, ap, ◌∙◌, subst, ⊎_elim, arith, length-set, get_or-set_same}
+use Rattle.std.proofs.Common.{◌≡◌, ◌≢◌, ◌⊎◌, inl, inr, ℕ, suc, ◌+◌, ◌-◌, ◌^◌, ◌<◌, ◌≤◌, Bool, true, false, eqb, List, [], ◌∷◌, length, get_or, map, set, sym, refl, ap, ◌∙◌, subst, ⊎_elim, arith, length-set, get_or-set_same}
 use mathlib.Core.Option.{none, some}
 use mathlib.Core.Logic.{dite}
 use native.Mathlib.Decide.{ℕ_discrete, dec_lt}
@@ -10,13 +10,14 @@ use prog.Atomic.{either}
 use base.Stored.{Gv}
 use Rattle.std.proofs.lemmas.List.{get_or_past}
 use Rattle.atomic_table.specs.Table.{State, keeps, takes, Allows, carried_after, homes_after}
-use Rattle.atomic_table.proofs.Lists.{at_map, exchanged, set_again}
+use Rattle.atomic_table.proofs.Lists.{at_map, exchanged, set_again, set_here, set_else}
 use Rattle.sdd_shared_values.specs.SharedValues.{IsValueCode, IsNoValueCode, lot}
 use Rattle.sdd_shared_values.specs.declared.value_fraction.ValueFraction.{ValueFraction}
 use Rattle.sdd_views.specs.declared.ShownValue.{ShownValue}
 use Rattle.sdd_views.specs.declared.EndedView.{EndedView}
 use Rattle.sdd_views.specs.declared.FractionsView.{FractionsView}
 use Rattle.sdd_views.specs.declared.WaitingItem.{WaitingItem}
+use Rattle.sdd_views.specs.declared.Deposit.{Deposit}
 use Rattle.sdd_views.specs.declared.View.{View}
 use Rattle.sdd_views.specs.declared.Sizes.{Sizes}
 use Rattle.sdd_word_invariant.specs.Words.{slot_word, state_word, words_behind}
@@ -39,6 +40,7 @@ use Rattle.sdd_word_invariant.proofs.Holding as holding
 use Rattle.sdd_word_invariant.proofs.Lift.{blind, blind_units}
 use Rattle.sdd_word_invariant.specs.WordInvariant.{Parts}
 use Rattle.sdd_word_invariant.proofs.Lone.{finds}
+use Rattle.sdd_word_invariant.proofs.Epoch.{at_length}
 use Rattle.sdd_word_invariant.proofs.SlotWords.{owner_in, owners_in, alone_is, held_is}
 use Rattle.sdd_shared_values.specs.ValueFractions.{FractionContent}
 use Rattle.sdd_shared_values.specs.Deposits.{units_at}
@@ -49,12 +51,12 @@ use Rattle.sdd_word_invariant.proofs.Waits.{waits_once}
 use Rattle.sdd_witness.specs.Steps.{AllowsAlone, AllowsBeside}
 use Rattle.sdd_domain_invariant.specs.FractionsAtHome.{CarriedFractions, stake_at, share, spare, away, full_at, Has, MatchesSlotWord, Moves, SeesFrom, NoneOut, FractionIsTaken, LiesAt}
 use Rattle.sdd_domain_invariant.specs.DomainInvariant.{DomainInvariant}
-use Rattle.sdd_domain_invariant.specs.BankInvariant.{drawn_at, moves_at, one_where, banked, IsBank, outside}
+use Rattle.sdd_domain_invariant.specs.BankInvariant.{drawn_at, moves_at, one_where, deposited, banked, IsBank, outside}
 use Rattle.sdd_domain_invariant.specs.KindsInvariant.{written}
 use Rattle.sdd_domain_invariant.proofs.KindSteps.{written_now, KeepsPost, same_post}
 use Rattle.sdd_domain_invariant.proofs.KindSteps as kind_steps
 use Rattle.sdd_domain_invariant.specs.FractionSteps.{SeatState, CarriesAll, IsValue, CarriesSeen, moving, making, giving, resting, telling, drawing, undrawing, untold, remembering, forgetting, sighting, unsighted, IsNewest, ClaimsAll, FillsSlot, EntersUnit, TakesOut, TakesHeld, IsDeposit, RetiresOne, ReleasesOne, GivesAll, DiscardsAll, SeesOwned, LearnsOwned, ClosesHome, OfSlot}
-use Rattle.sdd_domain_invariant.specs.Records.{IsIn, KnowsShown, IsKnown, IsTelling}
+use Rattle.sdd_domain_invariant.specs.Records.{IsIn, KnowsShown, IsKnown, IsTelling, AllShowKnown}
 use Rattle.sdd_domain_invariant.specs.Counts.{ended_places}
 use Rattle.sdd_domain_invariant.specs.FilledInvariant.{HasRecord, Tells, FilledInvariant}
 use Rattle.sdd_domain_invariant.proofs.Part.{none_out, only_seen, of_another, before_slots, one_taken}
@@ -63,7 +65,7 @@ use Rattle.sdd_domain_invariant.proofs.Banks.{moves_none, moves_one, moves_other
 use Rattle.sdd_domain_invariant.proofs.Banks as banks
 use Rattle.sdd_domain_invariant.proofs.Places.{one_slot}
 use Rattle.sdd_domain_invariant.proofs.Counts.{ended_spared, as_full, one_full, counted, uncounted, uncounted_alone}
-use Rattle.sdd_domain_invariant.proofs.Records.{in_either, in_none, in_both, in_others, known_by, told_seen}
+use Rattle.sdd_domain_invariant.proofs.Records.{in_either, in_none, in_both, in_others, known_by, told_seen, comes_show, leaves_show}
 use Rattle.sdd_domain_invariant.proofs.Records as records
 use Rattle.sdd_domain_invariant.proofs.Fillings.{TellsNoMore, has_none, has_either, has_old, told_by, tells_old, filled_after, filled_same, filled_housed}
 use Rattle.sdd_domain_invariant.proofs.Rows.{Taken, takes_row, gives_row, gives_purse, taken_lies, given_lies}
@@ -71,7 +73,7 @@ use Rattle.sdd_domain_invariant.proofs.Telling.{one_moved, none_moved, one_view,
 use Rattle.sdd_domain_invariant.proofs.Tops.{rest_is, share_one}
 use Rattle.sdd_domain_invariant.proofs.Lift.{Keeps, Follows, IsCalm, keeps_ended, lift_whole, lift_homes, lift_calm_whole, lift_calm, slots_before, stands, stands_by, stands_dealt}
 
-full_owned : (x : ℕ) → 0 < alive x → full x ≡ 1
+pub full_owned : (x : ℕ) → 0 < alive x → full x ≡ 1
 full_owned x h = (sound.lives x h).1
 
 vacant_shown : (f : ℕ) (g : Gv) → f ≡ 0 → IsNoValueCode g → MatchesSlotWord f g
@@ -143,7 +145,7 @@ module _ (slots id : ℕ) (me : SeatState) (live : HasPlace me.0.epoch) where
     filled_by w same tells = filled_after sizes s.views h.filled id v at w same tells (λ _ _. inl live)
 
     -- what it has of counts and pledges stays
-    post : (w : View) → w.pledges ≡ v.pledges → w.slots.over ≡ v.slots.over → w.sizes ≡ v.sizes → (HasPlace v.epoch → HasPlace w.epoch) → KeepsPost v w
+    pub post : (w : View) → w.pledges ≡ v.pledges → w.slots.over ≡ v.slots.over → w.sizes ≡ v.sizes → (HasPlace v.epoch → HasPlace w.epoch) → KeepsPost v w
     post w pledges over of lives = let near = (h.kept.parts.epoch.each id v.epoch (at_map epoch_of s.views id v at)).inside live in record {
       pledges = pledges;
       over = over;
@@ -174,22 +176,22 @@ module _ (slots id : ℕ) (me : SeatState) (live : HasPlace me.0.epoch) where
       (λ (o : SeesFrom v j p). inr (subst (λ (l : List ℕ). 0 < times j l) (sym sees) o.0, place ∙ o.1)) out
 
   module _ (slot : ℕ) (inside : slot < sizes.slots) where
-    abbrev i : ℕ
+    abbrev pub i : ℕ
     i = slot_word sizes slot
 
     -- the word tells which slot it is
-    at_once : (R : ℕ → SeatState → ℕ → SeatState → Type 0) (x : ℕ) (me' : SeatState) → R slot me x me' → OfSlot R i me x me'
+    pub at_once : (R : ℕ → SeatState → ℕ → SeatState → Type 0) (x : ℕ) (me' : SeatState) → R slot me x me' → OfSlot R i me x me'
     at_once R x me' r other is = let same : slot ≡ other = omega arith in subst (λ (k : ℕ). R k me x me') same r
 
     -- the other slots are as full as before
-    others : (ws : List ℕ) (y j : ℕ) → j < sizes.slots → j ≢ slot → full_at sizes (set ws i y) j ≡ full_at sizes ws j
+    pub others : (ws : List ℕ) (y j : ℕ) → j < sizes.slots → j ≢ slot → full_at sizes (set ws i y) j ≡ full_at sizes ws j
     others ws y j _ ne = of_another sizes ws slot y j ne
 
-    here : (ws : List ℕ) (y : ℕ) → i < length ws → slot_at sizes (set ws i y) slot ≡ y
+    pub here : (ws : List ℕ) (y : ℕ) → i < length ws → slot_at sizes (set ws i y) slot ≡ y
     here ws y low = get_or-set_same ws i y 0 low
 
     -- a slot's word is none of a place's
-    spares : (f : ℕ → ℕ) (then : ℕ → View → Type 0) → ((r : ℕ) (w : View) → then r w → w.places ≡ v.places) → Keeps γ sizes slots id me i f then
+    pub spares : (f : ℕ → ℕ) (then : ℕ → View → Type 0) → ((r : ℕ) (w : View) → then r w → w.places ≡ v.places) → Keeps γ sizes slots id me i f then
     spares f then places = keeps_ended γ sizes slots id me i f then places (λ s h at p low e was. absurd (omega arith)) (inl live)
 
     claim_keeps : (y : ℕ) → Keeps γ sizes slots id me i (λ x. either (eqb x (free_word 0)) y x) (AtSlot (λ slot. Claims slot (free_word 0) y) i v)
@@ -201,7 +203,7 @@ module _ (slots id : ℕ) (me : SeatState) (live : HasPlace me.0.epoch) where
     look_keeps = spares (λ x. x) (AtSlot LooksAtSlot i v) (λ r w t. ap (λ (u : View). u.places) (t slot refl).0)
 
     module _ (s : State ValueFraction View) (h : DomainInvariant γ sizes s) where
-      within : i < length s.words
+      pub within : i < length s.words
       within = let l = h.kept.parts.slots.long in omega arith
 
       -- where nobody sees the slot or has stakes in it out, all may be taken, which show what its word says
@@ -216,11 +218,11 @@ module _ (slots id : ℕ) (me : SeatState) (live : HasPlace me.0.epoch) where
           (h.homes.home slot p b.0 inside (omega arith) b.1) in (b.0, b.1, (has.0, shown p b.0 (omega arith) b.1 has.1)))
 
       -- it has as many words once it wrote one
-      wrote_long : get_elem? s.views id ≡ some v → (y : ℕ) → length (noted slot y v) ≡ words_behind sizes
+      pub wrote_long : get_elem? s.views id ≡ some v → (y : ℕ) → length (noted slot y v) ≡ words_behind sizes
       wrote_long at y = length-set v.words (behind v.sizes slot) y ∙ (h.kinds.each id v at).long
 
       -- no place ends by a step on a slot
-      over_slot : (y : ℕ) → ended_places s.words n ≤ ended_places (set s.words i y) n
+      pub over_slot : (y : ℕ) → ended_places s.words n ≤ ended_places (set s.words i y) n
       over_slot y = ended_spared sizes s.words i y (λ p low e was. absurd (omega arith)) n (omega arith)
 
       -- a load leaves the words
@@ -299,8 +301,9 @@ module _ (slots id : ℕ) (me : SeatState) (live : HasPlace me.0.epoch) where
       -- a value was moved in, and what its owner doesn't keep of it goes to the bank
       pub houses : Moves v slot → Owns v slot → ¬ (Holds v slot) → (shared : Bool) → kind_of (written v slot) ≡ one_where shared → (value : Gv) (rest : CarriedFractions)
           → CarriesAll γ slot n (spare n) (IsValue value) rest me.1 → (l : FractionContent) → l ≡ lot γ slot l.round l.shown (spare n - 1)
+          → l.shown ≡ value
           → MayDeal Comes (λ k. k ≡ l) (λ _. FillsSlot slot shared value me)
-      houses mine own free shared kind value rest row l is s b h _ at there bank ne = let w : View = resting (telling slot shared value (drawing slot v)) in
+      houses mine own free shared kind value rest row l is shows s b h _ at there bank ne = let w : View = resting (telling slot shared value (drawing slot v)) in
           let r : ShownValue = record { slot = slot; shared = shared; value = value } in let unknown = unknown_owned γ sizes s h slot id v at mine own in
           let few = h.homes.few in
           let g = gives_row γ n slot (spare n) (IsValue value) sizes.slots inside (suc n) (omega arith) s.homes rest me.1 h.homes.deep row in
@@ -316,7 +319,25 @@ module _ (slots id : ℕ) (me : SeatState) (live : HasPlace me.0.epoch) where
           let was = banks.moved_outside γ sizes s.words s.views h.bank id v at slot mine in
           let alone = total_only (moves_at slot) s.views id v at (λ j u apart e. moves_none slot u (still j u e (λ same. apart (sym same)))) in
           let now : outside sizes s.words vs' slot ≡ spare n = outside_there sizes s.words vs' slot (λ none. omega arith)
-          (let t = banks.total_dealt γ sizes s.words s.views h.bank id v at bd b there bank ne (moves_at slot) w ls refl in omega arith) in record {
+          (let t = banks.total_dealt γ sizes s.words s.views h.bank id v at bd b there bank ne (moves_at slot) w ls refl in omega arith) in
+          let came = records.comes_to_know sizes s.views s.homes h.records id v at slot value w (λ is. (is, refl))
+                (λ j u e is. let balance = h.bank.banks j u e is in
+                (γ, balance.deposits, (let sum = balance.sums slot inside in omega arith))) (homes_after s.homes me.1 g.act)
+                record { owns = tells.owns; owned = tells.owned; sees = tells.sees; waits = tells.waits; waiting = tells.waiting } unknown
+                (λ i g k. known_by w i g
+                (λ a. ⊎_elim (λ (e : (slot ≡ i) × (value ≡ g)). inl (sym e.0, sym e.1))
+                (λ (b : IsIn v.stakes.owns i g). inr (known i g (inl b))) (in_either r v.stakes.owns i g a))
+                (λ a. inr (known i g (inr (inl a)))) (λ a. inr (known i g (inr (inr a)))) k)
+                (λ j p y _ near lies. ⊎_elim (λ (b : (j ≡ slot) × Has γ slot (share n (spare n) p) (IsValue value) y). inl (b.0, b.1.1.1))
+                (λ (b : (j ≢ slot) × LiesAt n s.homes j p y). inr b)
+                (given_lies γ n slot (spare n) (IsValue value) s.homes rest me.1 g j p y near lies))
+                (λ j. none_moved w j refl) (λ j a. a) in
+          let vs : List View = set s.views id w in
+          let mine_now : IsKnown vs slot value = (id, w, set_here s.views id w (at_length s.views id v at), inl (0, r, refl, refl, refl)) in
+          let shown = comes_show vs (banked b) l (banked (with_deposits ls b))
+          (subst (Comes (banked b) l) (sym (banked_then γ ls b (h.bank.banks bd b there bank).book brought.deposits)) brought.comes)
+          (λ g' k. shows ∙ came.agree slot value g' mine_now (subst (λ (j : ℕ). IsKnown vs j g') number k))
+          (came.deposits bd b (set_else s.views id bd w (λ e. ne (sym e)) ∙ there) bank) in record {
             view = w;
             bank = with_deposits ls b;
             lot = l;
@@ -328,18 +349,7 @@ module _ (slots id : ℕ) (me : SeatState) (live : HasPlace me.0.epoch) where
                 (part.gives γ sizes s.words s.views s.homes h.homes id v at slot (spare n) (IsValue value) rest me.1 g s.words w
                 (ap (away n) filled)
                 (λ g so. (λ _. so.0, λ e. absurd (omega arith))) (seen_but w slot mine refl refl) (λ j _ _. refl) (none_out w refl))
-                (records.comes_to_know sizes s.views s.homes h.records id v at slot value w (λ is. (is, refl))
-                (λ j u e is. let balance = h.bank.banks j u e is in
-                (γ, balance.deposits, (let sum = balance.sums slot inside in omega arith))) (homes_after s.homes me.1 g.act)
-                record { owns = tells.owns; owned = tells.owned; sees = tells.sees; waits = tells.waits; waiting = tells.waiting } unknown
-                (λ i g k. known_by w i g
-                (λ a. ⊎_elim (λ (e : (slot ≡ i) × (value ≡ g)). inl (sym e.0, sym e.1))
-                (λ (b : IsIn v.stakes.owns i g). inr (known i g (inl b))) (in_either r v.stakes.owns i g a))
-                (λ a. inr (known i g (inr (inl a)))) (λ a. inr (known i g (inr (inr a)))) k)
-                (λ j p y _ near lies. ⊎_elim (λ (b : (j ≡ slot) × Has γ slot (share n (spare n) p) (IsValue value) y). inl (b.0, b.1.1.1))
-                (λ (b : (j ≢ slot) × LiesAt n s.homes j p y). inr b)
-                (given_lies γ n slot (spare n) (IsValue value) s.homes rest me.1 g j p y near lies))
-                (λ j. none_moved w j refl) (λ j a. a))
+                came
                 (uncounted_alone sizes s.words s.views h.counts id v at w refl refl)
                 (filled_housed sizes s.views h.filled id v at s.words h.kept.parts.epoch live r
                 (λ x t e. unknown x.value (
@@ -349,7 +359,7 @@ module _ (slots id : ℕ) (me : SeatState) (live : HasPlace me.0.epoch) where
                   ⊎_elim (λ (a : HasRecord t.1.stakes.owns x). inl (a.0, x, a.1, sym e, refl))
                       (λ (a : HasRecord t.1.stakes.waits x). inr (inr (a.0, x, a.1, sym e, refl))) t.3,
                 )) w refl refl refl)
-                (kind_steps.houses sizes s.words s.views h.kinds h.records.each id v at slot shared value mine own free kind (post s h at w refl refl refl (λ l. l))) bd b there ne ls
+                (kind_steps.houses sizes s.words s.views h.kinds h.records.each id v at slot shared value mine own free kind (post s h at w refl refl refl (λ l. l))) bd b there ne ls shown
                 (banks.deals γ sizes s.words s.views h.bank id v at bd b there bank ne w ls brought.deposits refl refl
                 (λ k. dite (ℕ_discrete k slot)
                 (λ e. let o = is_same k slot (sym e) in let none = banks.none_drawn γ sizes s.words s.views h.bank id v at slot inside mine in
@@ -377,12 +387,13 @@ module _ (slots id : ℕ) (me : SeatState) (live : HasPlace me.0.epoch) where
           → ((j : ℕ) (u : View) → get_elem? s.views j ≡ some u → ¬ (Sees u slot))
           → ((j : ℕ) (u : View) → get_elem? s.views j ≡ some u → id ≢ j → ¬ (Moves u slot))
           → (t : FractionsView) → t.counts ≡ v.stakes.counts → t.moves ≡ Some slot → t.bank ≡ v.stakes.bank → t.founds ≡ v.stakes.founds
+          → t.banked ≡ v.stakes.banked → t.book ≡ v.stakes.book
           → IsTelling (record v { stakes = t })
           → ((j : ℕ) (g : Gv) → KnowsShown (record v { stakes = t }) j g → KnowsShown v j g)
           → t.filled ≡ v.stakes.filled → TellsNoMore (record v { stakes = t }) s.views → ((r : ShownValue) → HasRecord t.owns r → HasRecord v.stakes.owns r) → (Then : FractionContent → SeatState → Type 0)
           → ((l : FractionContent) (xs : CarriedFractions) → IsDeposit slot me l → CarriesAll γ slot n (spare n) Is me.1 xs → Then l (record v { stakes = t }, xs))
           → Deal (DomainInvariant γ sizes) Leaves IsBank banked s b id me bd (λ _. Unit {0}) Then
-      moves_out s b h at there bank ne rests filled undrawn Is shown may held unseen still t same is bank_is founds_is tells known kept no_more fewer Then told =
+      moves_out s b h at there bank ne rests filled undrawn Is shown may held unseen still t same is bank_is founds_is banked_is book_is tells known kept no_more fewer Then told =
           let w : View = record v { stakes = t } in
           let tk = all_taken s h (spare n) (ap (away n) filled) Is shown (λ j u e. (
             unseen j u e,
@@ -400,7 +411,14 @@ module _ (slots id : ℕ) (me : SeatState) (live : HasPlace me.0.epoch) where
           let vs' : List View = set (set s.views id w) bd (with_deposits ls b) in
           let now : outside sizes s.words vs' slot ≡ 0 = outside_moved sizes s.words vs' slot
           (let m = banks.total_dealt γ sizes s.words s.views h.bank id v at bd b there bank ne (moves_at slot) w ls refl in
-          let one = moves_one slot w is in let z = moves_rest slot v rests in omega arith) in record {
+          let one = moves_one slot w is in let z = moves_rest slot v rests in omega arith) in
+          let came = records.comes_to_move sizes s.views s.homes h.records id v at slot w (λ mine. subst (λ (ds : List Deposit). AllShowKnown s.views (map (deposited t.book) ds)) (sym banked_is)
+          (subst (λ (k : ℕ). AllShowKnown s.views (map (deposited k) v.stakes.banked)) (sym book_is) (h.records.deposits id v at (sym bank_is ∙ mine)))) (homes_after s.homes me.1 tk.act) tells
+                (λ j g k. records.mine sizes s.views s.homes h.records id v at j g (known j g k))
+                (λ j p y _ near l. (taken_lies γ n slot (spare n) Is s.homes me.1 tk j p y near l).1) refl (λ j m. one_moved w slot j is m) unseen in
+          let vs : List View = set s.views id w in
+          let left = leaves_show vs (banked b) l ls goes.goes (came.deposits bd b (set_else s.views id bd w (λ e. ne (sym e)) ∙ there) bank) in
+          let shown = subst (AllShowKnown vs) (sym (banked_then γ ls b balance.book goes.deposits)) left.1 in record {
             view = w;
             bank = with_deposits ls b;
             lot = l;
@@ -413,12 +431,10 @@ module _ (slots id : ℕ) (me : SeatState) (live : HasPlace me.0.epoch) where
                 (λ j p _. still_seen w rests refl refl j p) (λ j _ _. refl)
                 (λ j m. let e : slot ≡ j = sym (one_moved w slot j is m) in
                 (live, subst (λ (k : ℕ). Owns v k ⊎ (0 < items_at k v)) e may)))
-                (records.comes_to_move sizes s.views s.homes h.records id v at slot w moved_show (homes_after s.homes me.1 tk.act) tells
-                (λ j g k. records.mine sizes s.views s.homes h.records id v at j g (known j g k))
-                (λ j p y _ near l. (taken_lies γ n slot (spare n) Is s.homes me.1 tk j p y near l).1) refl (λ j m. one_moved w slot j is m) unseen)
+                came
                 (uncounted_alone sizes s.words s.views h.counts id v at w same refl)
                 (filled_by s h at w kept no_more)
-                (kind_steps.comes_to_move sizes s.words s.views h.kinds h.records.each id v at slot t is fewer held (post s h at w refl refl refl (λ l. l))) bd b there ne ls
+                (kind_steps.comes_to_move sizes s.words s.views h.kinds h.records.each id v at slot t is fewer held (post s h at w refl refl refl (λ l. l))) bd b there ne ls shown
                 (banks.deals γ sizes s.words s.views h.bank id v at bd b there bank ne w ls goes.deposits bank_is founds_is (h.bank.low id v at)
                 (λ k near. dite (ℕ_discrete k slot)
                 (λ e. let less = goes.less in let x = ap (λ (y : ℕ). units_at y ls) e in let y = ap (λ (y : ℕ). units_at y (banked b)) e in
@@ -436,15 +452,24 @@ module _ (slots id : ℕ) (me : SeatState) (live : HasPlace me.0.epoch) where
 
       -- an owner's unit goes to the bank
       pub enters_unit : Owns v slot → (others : List ℕ) → v.slots.drawn ≡ slot ∷ others → (l : FractionContent) → l ≡ lot γ slot l.round l.shown 1
+          → IsIn v.stakes.owns slot l.shown
           → MayDeal Comes (λ k. k ≡ l) (λ _. EntersUnit me)
-      enters_unit own more drawn l is s b h _ at there bank ne = let w : View = undrawing v in
+      enters_unit own more drawn l is shows s b h _ at there bank ne = let w : View = undrawing v in
           let number = ap (λ (k : FractionContent). k.number) is in let units = ap (λ (k : FractionContent). k.units) is in
           let d = brings γ (banked b) l (banks.has_deposits γ sizes s.words s.views h.bank id v at bd b there bank ne) (ap (λ (k : FractionContent). k.book) is)
           (ap (λ (k : FractionContent). k.lent) is) (omega arith) in let ls : List FractionContent = d.0 in let brought = d.1 in
           let told = h.records.each id v at in let mine = records.mine sizes s.views s.homes h.records id v at in
           let vs' : List View = set (set s.views id w) bd (with_deposits ls b) in
           let less : (k : ℕ) → drawn_at k w + is_at k slot ≡ drawn_at k v
-          = λ k. let a = ap (times k) drawn in let c = ap (λ (xs : List ℕ). times k (tail xs)) drawn in omega arith in record {
+          = λ k. let a = ap (times k) drawn in let c = ap (λ (xs : List ℕ). times k (tail xs)) drawn in omega arith in
+          let came = records.no_more sizes s.views s.homes h.records id v at w (λ is. h.records.deposits id v at is) s.homes
+                record { owns = told.owns; owned = told.owned; sees = told.sees; waits = told.waits; waiting = told.waiting }
+                mine (λ j p y _ _ l. inl l) (λ j m. m) (λ j a. a) in
+          let vs : List View = set s.views id w in
+          let shown = comes_show vs (banked b) l (banked (with_deposits ls b))
+          (subst (Comes (banked b) l) (sym (banked_then γ ls b (h.bank.banks bd b there bank).book brought.deposits)) brought.comes)
+          (λ g k. came.agree slot l.shown g (id, w, set_here s.views id w (at_length s.views id v at), inl shows) (subst (λ (j : ℕ). IsKnown vs j g) number k))
+          (came.deposits bd b (set_else s.views id bd w (λ e. ne (sym e)) ∙ there) bank) in record {
             view = w;
             bank = with_deposits ls b;
             lot = l;
@@ -454,11 +479,9 @@ module _ (slots id : ℕ) (me : SeatState) (live : HasPlace me.0.epoch) where
                 (blind_units sizes s.words s.views id v v at (subst (Parts sizes s.words) (sym (set_again s.views id v at)) h.kept.parts) w.stakes
                 w.slots.drawn) s.homes
                 (part.calm γ sizes s.words s.views s.homes h.homes id v at s.words w (λ j p out. out) (λ j _. refl) (h.homes.moving id v at))
-                (records.no_more sizes s.views s.homes h.records id v at w (λ is. h.records.deposits id v at is) s.homes
-                record { owns = told.owns; owned = told.owned; sees = told.sees; waits = told.waits; waiting = told.waiting }
-                mine (λ j p y _ _ l. inl l) (λ j m. m) (λ j a. a))
+                came
                 (uncounted_alone sizes s.words s.views h.counts id v at w refl refl) (still_filled s h at w refl refl refl)
-                (kind_steps.same sizes s.words s.views h.kinds h.records.each id v at w refl refl refl refl refl refl s.words (λ j. refl) (post s h at w refl refl refl (λ l. l))) bd b there ne ls
+                (kind_steps.same sizes s.words s.views h.kinds h.records.each id v at w refl refl refl refl refl refl s.words (λ j. refl) (post s h at w refl refl refl (λ l. l))) bd b there ne ls shown
                 (banks.deals γ sizes s.words s.views h.bank id v at bd b there bank ne w ls brought.deposits refl refl
                 (λ k. let low = h.bank.low id v at k in let e = less k in omega arith)
                 (λ k near. let u = outside_same sizes s.words s.words s.views vs' k refl
@@ -502,7 +525,7 @@ module _ (slots id : ℕ) (me : SeatState) (live : HasPlace me.0.epoch) where
         (λ o. absurd (none_owns γ sizes s h slot id v at waits id v at o))
         (λ j u e sees. owning.unseen codes sound sizes s.words s.views p.slots id v at p.epoch k item due.2 due.4 j u e (subst (Sees u) (sym due.3) sees))
         (λ j u e ne. still_waiting γ sizes s h slot id j v u at e ne waits)
-        w.stakes refl refl refl refl
+        w.stakes refl refl refl refl refl refl
         (moving_tells v tells slot rests (none_owns γ sizes s h slot id v at waits id v at))
         (λ j g. known_by w j g (λ a. inl a) (λ a. inr (inl a)) (λ a. inr (inr (in_others slot v.stakes.waits j g a).1))) refl
         (tells_old_by s h at w (λ r a. inl a) (λ r a. inr (has_old slot v.stakes.waits r a))) (λ r a. a)
@@ -567,7 +590,7 @@ module _ (slots id : ℕ) (me : SeatState) (live : HasPlace me.0.epoch) where
         moves_out bd s b h at there bank ne rests filled undrawn IsValueCode (λ q y _ _ sh. sh.0 filled) (inl own) (λ _. (held, one))
         (holding.unseen_held codes sound sizes s.words s.views p.slots id v at p.epoch slot held all)
         (λ j u e ne. still_owned γ sizes s h slot id j v u at e ne (omega arith))
-        w.stakes refl refl refl refl (held_tells v tells slot owns rests (none_waits γ sizes s h slot id v at own id v at))
+        w.stakes refl refl refl refl refl refl (held_tells v tells slot owns rests (none_waits γ sizes s h slot id v at own id v at))
         (λ j g. known_by w j g (λ a. absurd (in_none j g a)) (λ a. inr (inl a)) (λ a. inr (inr a))) refl
         (tells_old_by s h at w (λ r a. absurd (has_none r [] refl a)) (λ r a. inr a)) (λ r a. absurd (has_none r [] refl a))
         (λ l me'. TakesHeld slot me me' × IsDeposit slot me l) (λ l xs is row. ((refl, row), is))

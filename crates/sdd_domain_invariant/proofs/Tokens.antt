@@ -53,10 +53,10 @@ use Rattle.sdd_domain_invariant.proofs.Fillings.{IsTold, has_none, has_either, t
 use Rattle.sdd_domain_invariant.proofs.Steps.{still_free}
 use Rattle.sdd_domain_invariant.proofs.Telling.{none_moved}
 
-nothing_out : (v : View) → v.stakes.moves ≡ None → v.slots.sees ≡ [] → (i p : ℕ) → ¬ (FractionIsTaken v i p)
+pub nothing_out : (v : View) → v.stakes.moves ≡ None → v.slots.sees ≡ [] → (i p : ℕ) → ¬ (FractionIsTaken v i p)
 nothing_out v rests blind i p out = let o = only_seen v rests i p out in let a = ap (times i) blind in let b = o.0 in absurd (omega arith)
 
-set_front : {A : Type 0} (l m : List A) (i : ℕ) (a b : A) → get_elem? l i ≡ some a → set (l ++ m) i b ≡ set l i b ++ m
+pub set_front : {A : Type 0} (l m : List A) (i : ℕ) (a b : A) → get_elem? l i ≡ some a → set (l ++ m) i b ≡ set l i b ++ m
 set_front [] m i a b e = absurd (some-ne-none a (sym e))
 set_front (x ∷ xs) m zero a b e = refl
 set_front (x ∷ xs) m (suc i) a b e = ap (λ (l : List _). x ∷ l) (set_front xs m i a b e)

@@ -1,5 +1,5 @@
 -- What a seat carries, and what each step that takes or gives stakes makes of it
-use Rattle.std.specs.Prelude.{◌≡◌, ◌≢◌, ℕ, zero, suc, ◌+◌, ◌-◌, ◌<◌, ◌==◌, not, Bool, List, [], ◌∷◌, ◌++◌, drop, Some, None}
+use Rattle.std.specs.Prelude.{◌≡◌, ◌≢◌, ℕ, zero, suc, ◌+◌, ◌-◌, ◌<◌, ◌==◌, not, Bool, true, List, [], ◌∷◌, ◌++◌, drop, Some, None}
 use Rattle.std.specs.List.{filter}
 use base.Stored.{Gv}
 use Rattle.atomic_table.specs.Table.{Me}
@@ -9,11 +9,11 @@ use Rattle.sdd_shared_values.specs.declared.value_fraction.ValueFraction.{ValueF
 use Rattle.sdd_views.specs.declared.ShownValue.{ShownValue}
 use Rattle.sdd_views.specs.declared.CountsView.{CountsView}
 use Rattle.sdd_views.specs.declared.View.{View}
-use Rattle.sdd_word_invariant.specs.SlotSteps.{Knew, claimed, discarded, one_less, seeing, first, others, parted, joined, Retires, ClosesAll, GivesBack}
+use Rattle.sdd_word_invariant.specs.SlotSteps.{Knew, claimed, discarded, one_less, one_more, taken_back, seeing, first, others, parted, joined, Retires, ClosesAll, GivesBack}
 use Rattle.sdd_views.specs.Views.{owner_token, at_rest, no_counts}
 use Rattle.sdd_word_invariant.specs.EpochSteps.{ended}
 use Rattle.sdd_word_invariant.specs.Words.{slot_word}
-use Rattle.sdd_word_invariant.specs.Codes.{alive, counted}
+use Rattle.sdd_word_invariant.specs.Codes.{alive, counted, most_owners}
 use Rattle.sdd_word_invariant.specs.Epoch.{IsLone}
 use Rattle.sdd_word_invariant.specs.Slots.{Sees}
 use Rattle.sdd_domain_invariant.specs.FractionsAtHome.{CarriedFractions, stake_at, share, spare, Has}
@@ -57,6 +57,10 @@ resting v = record v { stakes = record v.stakes { moves = None } }
 -- it made an item more
 abbrev pub with_made : View → View
 with_made v = record v { stakes = record v.stakes { counts = record v.stakes.counts { made = v.stakes.counts.made + 1 } } }
+
+-- it has one of several owners more of a slot, which shows this
+abbrev pub owning_more : ℕ → Gv → View → View
+owning_more slot value v = record v { stakes = record v.stakes { owns = record { slot = slot; shared = true; value = value } ∷ v.stakes.owns } }
 
 -- it gave one more back
 abbrev pub with_gone : View → View
@@ -182,6 +186,20 @@ RetiresOne slot me y me' = (v : View) × Retires slot me.0 y v × (me'.0 ≡ rem
 abbrev pub ReleasesOne : ℕ → SeatState → ℕ → SeatState → Type 0
 ReleasesOne slot me x me' = (counted x ≡ 1) × (0 < alive x) × (alive x ≡ 1 → RetiresOne slot me (x - 1) me')
     × (alive x ≢ 1 → me' ≡ (untold (one_less slot (x - 1) me.0), me.1)) × Knew slot me.0 x
+
+-- an owner more comes, beside one of several whose slot shows this; where the count was at its bound or past it, it is to be taken back
+abbrev pub AddsOne : Gv → ℕ → SeatState → ℕ → SeatState → Type 0
+AddsOne value slot me x me' = (counted x ≡ 1) × (0 < alive x)
+    × (alive x < most_owners → me' ≡ (owning_more slot value (one_more slot (x + 1) None me.0), me.1))
+    × (most_owners ≤ alive x → me' ≡ (owning_more slot value (one_more slot (x + 1) (Some slot) me.0), me.1)) × Knew slot me.0 x
+
+-- it is taken back
+abbrev pub TakesOneBack : ℕ → SeatState → ℕ → SeatState → Type 0
+TakesOneBack slot me x me' = (me' ≡ (untold (taken_back slot (x - 1) me.0), me.1)) × Knew slot me.0 x
+
+-- the unit of an owner that came beside another is drawn from the bank, and shows what the slot shows
+abbrev pub DrawsUnit : ℕ → Gv → SeatState → FractionContent → SeatState → Type 0
+DrawsUnit slot value me l me' = (me' ≡ (drawing slot me.0, me.1)) × (l ≡ lot (book_of me) slot l.round value 1)
 
 -- it was moved out: the slot is free, and all stakes in it go home
 abbrev pub GivesAll : ℕ → SeatState → ℕ → SeatState → Type 0

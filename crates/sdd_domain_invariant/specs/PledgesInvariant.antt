@@ -22,6 +22,13 @@ IsLedger v = v.pledges.ledger ≡ true
 abbrev pub booked_by : View → List Pledge
 booked_by v = v.pledges.booked
 
+-- a participant's view with a pledge of its own, and without
+abbrev pub pledging : View → Pledge → View
+pledging v p = record v { pledges = record v.pledges { own = p ∷ [] } }
+
+abbrev pub freeing : View → View
+freeing v = record v { pledges = record v.pledges { own = [] } }
+
 -- whether it is the ledger's, or may found the ledger
 abbrev pub posts : View → ℕ
 posts v = one_where v.pledges.ledger + one_where v.pledges.founds
