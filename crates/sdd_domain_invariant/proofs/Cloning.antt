@@ -1,22 +1,21 @@
 -- An owner more beside one of several: the ledger and its pledges, one addition, which is taken back past the bound, and the new owner's unit
-use Rattle.std.proofs.Common.{◌≡◌, ◌≢◌, ◌⊎◌, inl, inr, ℕ, zero, suc, ◌+◌, ◌-◌, ◌^◌, ◌<◌, ◌≤◌, Bool, true, false, List, [], ◌∷◌, ◌++◌, length, get_or, set, sym, refl, ap, ◌∙◌, subst, ⊎_elim, arith, length-set, get_or-set_same}
+use Rattle.std.proofs.Common.{◌≡◌, ◌≢◌, inl, inr, ℕ, suc, ◌+◌, ◌-◌, ◌^◌, ◌<◌, ◌≤◌, true, false, List, [], ◌∷◌, ◌++◌, length, set, sym, refl, ap, ◌∙◌, subst, ⊎_elim, arith, length-set}
 use Rattle.std.proofs.lemmas.List.{set_comm}
 use Rattle.std.specs.Prelude.{Option, Some, None}
-use mathlib.Core.Option.{some, some-injective}
+use mathlib.Core.Option.{some}
 use mathlib.Core.Logic.{dite}
 use native.Mathlib.Decide.{ℕ_discrete, dec_lt}
 use lib.ListN.{get_elem?}
 use base.Stored.{Gv}
 use Rattle.atomic_table.specs.Table.{State, keeps, Allows, Splits}
-use Rattle.atomic_table.proofs.Lists.{at_map, at_set, at_snoc, at_longer, set_again, set_here, set_else}
+use Rattle.atomic_table.proofs.Lists.{at_map, at_set, at_longer, set_again, set_here, set_else}
 use Rattle.sdd_witness.specs.Ledger.{Pledge, Without, Enters, Leaves as LeavesLedger}
 use Rattle.sdd_views.specs.contracts.View.{the_row}
 use Rattle.sdd_views.specs.declared.ShownValue.{ShownValue}
 use Rattle.sdd_views.specs.declared.PledgesView.{PledgesView}
 use Rattle.sdd_views.specs.declared.View.{View}
 use Rattle.sdd_views.specs.declared.Sizes.{Sizes}
-use Rattle.sdd_views.specs.Views.{owner_token, owner_of, at_rest}
-use Rattle.sdd_shared_values.specs.SharedValues.{lot}
+use Rattle.sdd_views.specs.Views.{owner_token, owner_of}
 use Rattle.sdd_shared_values.specs.ValueFractions.{FractionContent}
 use Rattle.sdd_shared_values.specs.Deposits.{units_at}
 use Rattle.sdd_shared_values.specs.Bank.{Leaves, AllowsDeal}
@@ -31,28 +30,28 @@ use Rattle.sdd_word_invariant.specs.SlotSteps.{others as tail, one_more, taken_b
 use Rattle.sdd_word_invariant.specs.WordInvariant.{epoch_of, Parts, WordInvariant}
 use Rattle.sdd_word_invariant.proofs.Codes.{sound, shared, counted_is, some_left}
 use Rattle.sdd_word_invariant.proofs.Epoch.{at_length}
-use Rattle.sdd_word_invariant.proofs.Frame.{each_set, each_snoc}
+use Rattle.sdd_word_invariant.proofs.Frame.{each_set}
 use Rattle.sdd_word_invariant.proofs.Lift.{blind_pledges, blind_units}
 use Rattle.sdd_word_invariant.proofs.Lift as kept
 use Rattle.sdd_word_invariant.proofs.Pigeons.{few}
 use Rattle.sdd_word_invariant.proofs.SlotWords.{owner_in, owners_in}
 use Rattle.sdd_word_invariant.proofs.SlotSteps.{more_one, less_one}
 use Rattle.sdd_word_invariant.proofs.SlotSteps as words
-use Rattle.sdd_word_invariant.proofs.Sums.{is_same, is_other, total_set, total_snoc, total_has, total_two, total_zero}
-use Rattle.sdd_domain_invariant.specs.FractionsAtHome.{Moves, full_at, spare}
-use Rattle.sdd_domain_invariant.specs.BankInvariant.{one_where, moved_in, moves_at, drawn_at, banked, IsBank, outside, with_ledger, ledger_of}
+use Rattle.sdd_word_invariant.proofs.Sums.{is_same, is_other, total_set, total_has, total_two, total_zero}
+use Rattle.sdd_domain_invariant.specs.FractionsAtHome.{Moves, full_at}
+use Rattle.sdd_domain_invariant.specs.BankInvariant.{one_where, moved_in, moves_at, drawn_at, banked, IsBank, with_ledger, ledger_of}
 use Rattle.sdd_domain_invariant.specs.BoundInvariant.{over_at, BoundInvariant}
 use Rattle.sdd_domain_invariant.specs.PledgesInvariant.{HasPledge, IsLedger, booked_by, pledging, freeing, posts, IsBacked, PledgesInvariant}
-use Rattle.sdd_domain_invariant.specs.KindsInvariant.{KnowsKinds, KindsInvariant}
+use Rattle.sdd_domain_invariant.specs.KindsInvariant.{KnowsKinds}
 use Rattle.sdd_domain_invariant.specs.FilledInvariant.{HasRecord}
-use Rattle.sdd_domain_invariant.specs.Records.{IsIn, IsKnown, AllShowKnown}
+use Rattle.sdd_domain_invariant.specs.Records.{IsIn, AllShowKnown}
 use Rattle.sdd_domain_invariant.specs.DomainInvariant.{DomainInvariant}
 use Rattle.sdd_domain_invariant.specs.FractionSteps.{SeatState, owning_more, untold, drawing, AddsOne, TakesOneBack, DrawsUnit, OfSlot}
 use Rattle.sdd_domain_invariant.proofs.Part.{none_out}
 use Rattle.sdd_domain_invariant.proofs.Part as part
 use Rattle.sdd_domain_invariant.proofs.Records.{in_either, in_none, in_head, in_tail, known_by, telling_none, knows_none, leaves_show}
 use Rattle.sdd_domain_invariant.proofs.Records as records
-use Rattle.sdd_domain_invariant.proofs.Fillings.{IsTold, has_none, tells_none, filled_more, filled_same, filled_after}
+use Rattle.sdd_domain_invariant.proofs.Fillings.{has_none, tells_none, filled_more, filled_same, filled_after}
 use Rattle.sdd_domain_invariant.proofs.Counts.{as_full, uncounted, uncounted_alone, more_counts}
 use Rattle.sdd_domain_invariant.proofs.Banks.{HasUnits, with_deposits, banked_then, outside_there, outside_same, moves_none, total_below}
 use Rattle.sdd_domain_invariant.proofs.Banks as banks

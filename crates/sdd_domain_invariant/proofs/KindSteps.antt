@@ -17,7 +17,6 @@ use Rattle.sdd_word_invariant.specs.Codes.{alive, counted, most_owners}
 use Rattle.sdd_word_invariant.specs.Slots.{slot_at, Owns, Holds}
 use Rattle.sdd_word_invariant.specs.SlotSteps.{behind, noted}
 use Rattle.sdd_word_invariant.specs.Epoch.{HasPlace}
-use Rattle.sdd_word_invariant.specs.Sums.{total}
 use Rattle.sdd_word_invariant.proofs.Sums.{total_set, total_snoc}
 use Rattle.sdd_word_invariant.proofs.Epoch.{at_length}
 use Rattle.sdd_word_invariant.proofs.Frame.{each_set, each_snoc}

@@ -11,4 +11,5 @@ pub mod KindSteps
 pub mod Lift
 pub mod Steps
 pub mod Tokens
+pub mod Cloning
 pub mod Laid

@@ -93,7 +93,7 @@ module _ (γ : ℕ) (sizes : Sizes) (s : State ValueFraction View) (h : DomainIn
       (h.homes.moving j u e i m).1
 
   -- where a participant has an owner, or an item that waits, none else moves the value
-  still_owned : (id j : ℕ) (v u : View) → get_elem? s.views id ≡ some v → get_elem? s.views j ≡ some u → id ≢ j → 0 < owners_at i v → ¬ (Moves u i)
+  pub still_owned : (id j : ℕ) (v u : View) → get_elem? s.views id ≡ some v → get_elem? s.views j ≡ some u → id ≢ j → 0 < owners_at i v → ¬ (Moves u i)
   still_owned id j v u at e ne own m = let mine = owner_in codes sound sizes s.words s.views h.kept.parts.slots id i v at in
       let l = (sound.lives (slot_at sizes s.words i) (omega arith)).0 in ⊎_elim
       (λ (o : Owns u i). let g = (h.kinds.each j u e).sole i m o in
@@ -321,17 +321,17 @@ module _ (slots id : ℕ) (me : SeatState) (live : HasPlace me.0.epoch) where
           let now : outside sizes s.words vs' slot ≡ spare n = outside_there sizes s.words vs' slot (λ none. omega arith)
           (let t = banks.total_dealt γ sizes s.words s.views h.bank id v at bd b there bank ne (moves_at slot) w ls refl in omega arith) in
           let came = records.comes_to_know sizes s.views s.homes h.records id v at slot value w (λ is. (is, refl))
-                (λ j u e is. let balance = h.bank.banks j u e is in
-                (γ, balance.deposits, (let sum = balance.sums slot inside in omega arith))) (homes_after s.homes me.1 g.act)
-                record { owns = tells.owns; owned = tells.owned; sees = tells.sees; waits = tells.waits; waiting = tells.waiting } unknown
-                (λ i g k. known_by w i g
-                (λ a. ⊎_elim (λ (e : (slot ≡ i) × (value ≡ g)). inl (sym e.0, sym e.1))
-                (λ (b : IsIn v.stakes.owns i g). inr (known i g (inl b))) (in_either r v.stakes.owns i g a))
-                (λ a. inr (known i g (inr (inl a)))) (λ a. inr (known i g (inr (inr a)))) k)
-                (λ j p y _ near lies. ⊎_elim (λ (b : (j ≡ slot) × Has γ slot (share n (spare n) p) (IsValue value) y). inl (b.0, b.1.1.1))
-                (λ (b : (j ≢ slot) × LiesAt n s.homes j p y). inr b)
-                (given_lies γ n slot (spare n) (IsValue value) s.homes rest me.1 g j p y near lies))
-                (λ j. none_moved w j refl) (λ j a. a) in
+          (λ j u e is. let balance = h.bank.banks j u e is in
+          (γ, balance.deposits, (let sum = balance.sums slot inside in omega arith))) (homes_after s.homes me.1 g.act)
+          record { owns = tells.owns; owned = tells.owned; sees = tells.sees; waits = tells.waits; waiting = tells.waiting } unknown
+          (λ i g k. known_by w i g
+          (λ a. ⊎_elim (λ (e : (slot ≡ i) × (value ≡ g)). inl (sym e.0, sym e.1))
+          (λ (b : IsIn v.stakes.owns i g). inr (known i g (inl b))) (in_either r v.stakes.owns i g a))
+          (λ a. inr (known i g (inr (inl a)))) (λ a. inr (known i g (inr (inr a)))) k)
+          (λ j p y _ near lies. ⊎_elim (λ (b : (j ≡ slot) × Has γ slot (share n (spare n) p) (IsValue value) y). inl (b.0, b.1.1.1))
+          (λ (b : (j ≢ slot) × LiesAt n s.homes j p y). inr b)
+          (given_lies γ n slot (spare n) (IsValue value) s.homes rest me.1 g j p y near lies))
+          (λ j. none_moved w j refl) (λ j a. a) in
           let vs : List View = set s.views id w in
           let mine_now : IsKnown vs slot value = (id, w, set_here s.views id w (at_length s.views id v at), inl (0, r, refl, refl, refl)) in
           let shown = comes_show vs (banked b) l (banked (with_deposits ls b))
@@ -414,8 +414,8 @@ module _ (slots id : ℕ) (me : SeatState) (live : HasPlace me.0.epoch) where
           let one = moves_one slot w is in let z = moves_rest slot v rests in omega arith) in
           let came = records.comes_to_move sizes s.views s.homes h.records id v at slot w (λ mine. subst (λ (ds : List Deposit). AllShowKnown s.views (map (deposited t.book) ds)) (sym banked_is)
           (subst (λ (k : ℕ). AllShowKnown s.views (map (deposited k) v.stakes.banked)) (sym book_is) (h.records.deposits id v at (sym bank_is ∙ mine)))) (homes_after s.homes me.1 tk.act) tells
-                (λ j g k. records.mine sizes s.views s.homes h.records id v at j g (known j g k))
-                (λ j p y _ near l. (taken_lies γ n slot (spare n) Is s.homes me.1 tk j p y near l).1) refl (λ j m. one_moved w slot j is m) unseen in
+          (λ j g k. records.mine sizes s.views s.homes h.records id v at j g (known j g k))
+          (λ j p y _ near l. (taken_lies γ n slot (spare n) Is s.homes me.1 tk j p y near l).1) refl (λ j m. one_moved w slot j is m) unseen in
           let vs : List View = set s.views id w in
           let left = leaves_show vs (banked b) l ls goes.goes (came.deposits bd b (set_else s.views id bd w (λ e. ne (sym e)) ∙ there) bank) in
           let shown = subst (AllShowKnown vs) (sym (banked_then γ ls b balance.book goes.deposits)) left.1 in record {
@@ -463,8 +463,8 @@ module _ (slots id : ℕ) (me : SeatState) (live : HasPlace me.0.epoch) where
           let less : (k : ℕ) → drawn_at k w + is_at k slot ≡ drawn_at k v
           = λ k. let a = ap (times k) drawn in let c = ap (λ (xs : List ℕ). times k (tail xs)) drawn in omega arith in
           let came = records.no_more sizes s.views s.homes h.records id v at w (λ is. h.records.deposits id v at is) s.homes
-                record { owns = told.owns; owned = told.owned; sees = told.sees; waits = told.waits; waiting = told.waiting }
-                mine (λ j p y _ _ l. inl l) (λ j m. m) (λ j a. a) in
+          record { owns = told.owns; owned = told.owned; sees = told.sees; waits = told.waits; waiting = told.waiting }
+          mine (λ j p y _ _ l. inl l) (λ j m. m) (λ j a. a) in
           let vs : List View = set s.views id w in
           let shown = comes_show vs (banked b) l (banked (with_deposits ls b))
           (subst (Comes (banked b) l) (sym (banked_then γ ls b (h.bank.banks bd b there bank).book brought.deposits)) brought.comes)
@@ -683,7 +683,7 @@ module _ (slots id : ℕ) (me : SeatState) (live : HasPlace me.0.epoch) where
           let was = full_owned (slot_at sizes s.words slot) (omega arith) in let now : View = remembering (retired slot y c.0 v) in
           let word : slot_at sizes (set s.words i y) slot ≡ y = here s.words y (within s h) in
           let will = (sound.waits y (omega arith)).1 in
-        let dead : alive y ≡ 0 = dite (dec_lt 0 (alive y)) (λ l. absurd (let q = (sound.lives y l).0 in omega arith)) (λ none. omega arith) in
+          let dead : alive y ≡ 0 = dite (dec_lt 0 (alive y)) (λ l. absurd (let q = (sound.lives y l).0 in omega arith)) (λ none. omega arith) in
           let same : (j : ℕ) → j < sizes.slots → full_at sizes (set s.words i y) j ≡ full_at sizes s.words j
           = λ j low. dite (ℕ_discrete j slot)
           (λ e. subst (λ (k : ℕ). full_at sizes (set s.words i y) k ≡ full_at sizes s.words k) (sym e) (ap full word ∙ (will ∙ sym was)))
