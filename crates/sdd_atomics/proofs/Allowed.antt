@@ -33,6 +33,7 @@ use Rattle.sdd_word_invariant.proofs.Sums.{is_same}
 use Rattle.sdd_domain_invariant.specs.FractionsAtHome.{CarriedFractions, Moves, spare}
 use Rattle.sdd_domain_invariant.specs.BankInvariant.{IsBank, banked, founder, one_where}
 use Rattle.sdd_domain_invariant.specs.FilledInvariant.{HasRecord}
+use Rattle.sdd_domain_invariant.specs.Records.{IsIn}
 use Rattle.sdd_domain_invariant.specs.KindsInvariant.{written}
 use Rattle.sdd_views.specs.declared.ShownValue.{ShownValue}
 use Rattle.sdd_word_invariant.proofs.SlotSteps.{less_one}
@@ -164,10 +165,10 @@ module _ (γ : ℕ) (sizes : Sizes) (slots id : ℕ) (me : SeatState) where
       (λ w t. ((let live : 0 < w.state = (let e = ap (λ (u : EpochView). u.state) t.1 in omega arith) in live), ap (λ (u : EpochView). u.place) t.1))
       (own_place γ sizes id me.0 (omega arith) 2) (λ w t. (refl, t)))
 
-  pub may_end : (i : ℕ) → IsClosed v → i ≡ state_word v.place → v.place < sizes.participants → me.0.stakes.moves ≡ None
+  pub may_end : (i : ℕ) → IsClosed v → i ≡ state_word v.place → v.place < sizes.participants → me.0.stakes.moves ≡ None → me.0.slots.over ≡ None
       → May i (λ _. 3) (λ _. Told EndsAll me 3)
-  may_end i shut is inside rests = subst (λ (i : ℕ). May i (λ _. 3) (λ _. Told EndsAll me 3)) (sym is)
-      (lift_end γ sizes slots id me (Told EndsAll me 3) inside shut rests
+  may_end i shut is inside rests within = subst (λ (i : ℕ). May i (λ _. 3) (λ _. Told EndsAll me 3)) (sym is)
+      (lift_end γ sizes slots id me (Told EndsAll me 3) inside shut rests within
       (over.mild sizes id me.0 (state_word v.place) (λ _. 3) (omega arith) (λ u _ w. Ends u 3 w)
       (λ _ w t z. let e = ap (λ (u : EpochView). u.state) t in omega arith)
       (epochs.ends sizes.participants id v shut))
@@ -270,12 +271,12 @@ module _ (γ : ℕ) (sizes : Sizes) (slots id : ℕ) (me : SeatState) where
       pub may_house : Moves me.0 slot → Owns me.0 slot → ¬ (Holds me.0 slot) → (shared : Bool) → counts_owners (written me.0 slot) ≡ one_where shared
           → (value : Gv) (rest : CarriedFractions)
           → CarriesAll γ slot n (spare n) (IsValue value) rest me.1 → (l : FractionContent) → l ≡ lot γ slot l.round l.shown (spare n - 1)
-          → Deals Comes (λ k. k ≡ l) (λ _. HousesMoved shared me)
-      may_house moves mine free shared kind value rest row l is = deal_known Comes (λ k. k ≡ l) (λ _. HousesMoved shared me) (λ s b h long at there ours ne.
+          → l.shown ≡ value → Deals Comes (λ k. k ≡ l) (λ _. HousesMoved shared me)
+      may_house moves mine free shared kind value rest row l is shows = deal_known Comes (λ k. k ≡ l) (λ _. HousesMoved shared me) (λ s b h long at there ours ne.
           let known = subst (λ (z : Sizes). CarriesAll me.0.stakes.book slot me.0.sizes.participants (spare z.participants) (IsValue value) rest me.1) (sym same)
           (row_as_known slot (spare n) (IsValue value) rest row) in
           let lot_known = subst (λ (t : ℕ × Sizes). l ≡ lot t.0 slot l.round l.shown (spare t.1.participants - 1)) (λ d. (sym book d, sym same d)) is in
-          let a = steps.houses slots id me live slot known_slot bd moves mine free shared kind value rest known l lot_known s b h long at there ours ne in record {
+          let a = steps.houses slots id me live slot known_slot bd moves mine free shared kind value rest known l lot_known shows s b h long at there ours ne in record {
             view = a.view;
             bank = a.bank;
             lot = a.lot;
@@ -290,10 +291,10 @@ module _ (γ : ℕ) (sizes : Sizes) (slots id : ℕ) (me : SeatState) where
           })
 
       pub may_enter_unit : Owns me.0 slot → (others : List ℕ) → me.0.slots.drawn ≡ slot ∷ others → (l : FractionContent) → l ≡ lot γ slot l.round l.shown 1
-          → Deals Comes (λ k. k ≡ l) (λ _. EntersUnit me)
-      may_enter_unit mine others drawn l is = deal_known Comes (λ k. k ≡ l) (λ _. EntersUnit me)
+          → IsIn me.0.stakes.owns slot l.shown → Deals Comes (λ k. k ≡ l) (λ _. EntersUnit me)
+      may_enter_unit mine others drawn l is shows = deal_known Comes (λ k. k ≡ l) (λ _. EntersUnit me)
           (steps.enters_unit slots id me live slot known_slot bd mine others drawn l
-          (subst (λ (b : ℕ). l ≡ lot b slot l.round l.shown 1) (sym book) is))
+          (subst (λ (b : ℕ). l ≡ lot b slot l.round l.shown 1) (sym book) is) shows)
 
       pub may_take_out : me.0.stakes.moves ≡ None → IsDue me.0 slot → Deals Leaves (λ _. Unit {0}) (λ l me'. TakesOut slot me me' × IsDeposit slot me l)
       may_take_out rests due = deal_known Leaves (λ _. Unit {0}) (λ l me'. TakesOut slot me me' × IsDeposit slot me l)

@@ -45,6 +45,8 @@ pub fn cut_rest(
     ensures row { (value : Gv) (others : CarriedFractions) → CarriesAll (book_of board.now) slot (places_of board.now) 0 (IsValue value) others token.old.me.1
         → CarriesAll (book_of board.now) slot (places_of board.now) (spare (places_of board.now)) (IsValue value) others token.new.me.1
         × IsGripOf (book_of board.now) slot value result.0 }
+    ensures shown { (value : Gv) (others : CarriedFractions) → CarriesAll (book_of board.now) slot (places_of board.now) 0 (IsValue value) others token.old.me.1
+        → result.1.lot.shown ≡ value }
     ensures rest { result.1.lot ≡ lot (book_of board.now) slot result.1.lot.round result.1.lot.shown (spare (places_of board.now) - 1) }
 {
     let home = board.last_home(slot);
@@ -76,7 +78,8 @@ pub fn join_rest(board: &DomainTable, token: &mut DomainSeat, slot: u32, rest: V
 #[inline]
 pub fn unit_of(board: &DomainTable, slot: u32, grip: ReadFraction) -> ValueFraction
     requires { IsUnitOf (book_of board.now) slot grip }
-    ensures { result.lot ≡ lot (book_of board.now) slot result.lot.round result.lot.shown 1 }
+    ensures unit { result.lot ≡ lot (book_of board.now) slot result.lot.round result.lot.shown 1 }
+    ensures shown { result.lot.shown ≡ grip.shown }
 {
     let _ = board;
     let _ = slot;

@@ -4,7 +4,7 @@ ghost use Rattle.sdd_word_invariant.specs.EpochSteps.{Registers, Reads, Counts, 
 ghost use Rattle.sdd_word_invariant.specs.SlotSteps.{OnEpoch, PublishesAll, LooksAtSlot, TakesHold, LetsGo, TriesHold, SharesAgain, LooksForGuard, AtSlot};
 ghost use Rattle.sdd_word_invariant.specs.Barred.{Bars, LooksForValue};
 ghost use Rattle.sdd_views.specs.Views.{owner_token};
-ghost use Rattle.sdd_domain_invariant.specs.BankInvariant.{founded, bank_of};
+ghost use Rattle.sdd_domain_invariant.specs.BankInvariant.{founded, bank_of, with_ledger, ledger_of};
 ghost use Rattle.sdd_domain_invariant.specs.FractionSteps.{ClaimsAll, TakesOut, TakesHeld, IsDeposit, RetiresOne, ReleasesOne, GivesAll, DiscardsAll, ClosesHome, EndsAll, EntersUnit, OfSlot, parting, departing, regained, uncounting, counts_of, counting};
 ghost use Rattle.sdd_atomics.specs.DomainSeat.{Sits, Told, HousesMoved, WatchesOwned, RecallsOwned};
 
@@ -217,6 +217,14 @@ impl Split<View> for Found {
     ghost left = { founded };
 
     ghost right = { bank_of };
+}
+
+pub struct FoundLedger;
+
+impl Split<View> for FoundLedger {
+    ghost left = { with_ledger };
+
+    ghost right = { ledger_of };
 }
 
 pub struct CutOwner;

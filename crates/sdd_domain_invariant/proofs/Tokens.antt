@@ -147,9 +147,11 @@ module _ (γ : ℕ) (sizes : Sizes) where
       none_known i g k = knows_none (founder sizes γ) refl refl refl i g (subst (λ (u : View). KnowsShown u i g) (sym (only k.0 k.1 k.2)) k.3)
 
   -- the owner that it has goes to a token of its own, with what is known of its slot, where none is held and no value is moved
-  pub parts_owner : (id : ℕ) (v : View) (slot : ℕ) → 0 < v.sizes.participants → v.slots.owns ≡ slot ∷ [] → v.slots.drawn ≡ slot ∷ [] → v.slots.holds ≡ None
+  pub parts_owner : (id : ℕ) (v : View) (slot : ℕ) → HasPlace v.epoch → v.sizes ≡ sizes → v.slots.owns ≡ slot ∷ [] → v.slots.drawn ≡ slot ∷ [] → v.slots.holds ≡ None
       → v.stakes.moves ≡ None → Splits (DomainInvariant γ sizes) id v (parting v) (departing v)
-  parts_owner id v slot placed owns drawn free rests s h at = let t : View = departing v in let w : View = parting v in let r = h.records in
+  parts_owner id v slot live of owns drawn free rests s h at = let t : View = departing v in
+      let near = (h.kept.parts.epoch.each id v.epoch (at_map epoch_of s.views id v at)).inside live in
+      let placed : 0 < v.sizes.participants = (let e = ap (λ (z : Sizes). z.participants) of in omega arith) in let w : View = parting v in let r = h.records in
       let told = r.each id v at in
       let vs : List View = s.views ++ t ∷ [] in let mine = records.mine sizes s.views s.homes r id v at in
       let came = records.arrives sizes s.views s.homes r t

@@ -16,6 +16,7 @@ ghost use Rattle.sdd_domain_invariant.specs.FractionsAtHome.{CarriedFractions, M
 ghost use Rattle.sdd_domain_invariant.specs.BankInvariant.{one_where};
 ghost use Rattle.sdd_domain_invariant.specs.FilledInvariant.{HasRecord};
 ghost use Rattle.sdd_domain_invariant.specs.KindsInvariant.{written};
+ghost use Rattle.sdd_domain_invariant.specs.Records.{IsIn};
 ghost use Rattle.sdd_domain_invariant.specs.FractionSteps.{CarriesAll, IsValue, ClaimsAll, FillsSlot, EntersUnit, TakesOut, TakesHeld, IsDeposit, GivesAll, DiscardsAll, RetiresOne, ReleasesOne, SeesOwned, LearnsOwned, parting, regained};
 ghost use Rattle.sdd_atomics.specs.DomainTable.{id_of, book_of, places_of, slots_of};
 ghost use Rattle.sdd_rights.specs.Owner.{witness_of_owner};
@@ -30,7 +31,7 @@ use crate::plays::{
 };
 use crate::words::state_word;
 use sdd_shared_values::ValueFraction;
-use sdd_witness::{Witness, part, rejoin, step_beside};
+use sdd_witness::{Witness, part, step_beside};
 
 /// Nobody's slot.
 pub const FREE: u64 = 0;
@@ -85,7 +86,7 @@ pub fn house(board: &DomainTable, token: &mut DomainSeat, rest: ValueFraction, s
     requires row { (slot : ℕ) × (value : Gv) × (slot < slots_of board.now) × Moves (view token.old) slot × Owns (view token.old) slot
         × ¬ (Holds (view token.old) slot) × (counted (written (view token.old) slot) ≡ one_where shared)
         × ((others : CarriedFractions) × CarriesAll (book_of board.now) slot (places_of board.now) (spare (places_of board.now)) (IsValue value) others token.old.me.1)
-        × (rest.lot ≡ lot (book_of board.now) slot rest.lot.round rest.lot.shown (spare (places_of board.now) - 1)) }
+        × (rest.lot ≡ lot (book_of board.now) slot rest.lot.round rest.lot.shown (spare (places_of board.now) - 1)) × (rest.lot.shown ≡ value) }
     ensures { (slot : ℕ) (value : Gv) (others : CarriedFractions) → Moves (view token.old) slot
         → CarriesAll (book_of board.now) slot (places_of board.now) (spare (places_of board.now)) (IsValue value) others token.old.me.1
         → MovedAlone (FillsSlot slot shared value) token.old token.new }
@@ -106,6 +107,7 @@ pub fn enter_unit(board: &DomainTable, token: &mut DomainSeat, slot: u32, unit: 
     requires place { HasPlace (epoch token.old) }
     requires own { Owns (view token.old) slot × ((others : List ℕ) × ((slots token.old).drawn ≡ slot ∷ others)) }
     requires unit { unit.lot ≡ lot (book_of board.now) slot unit.lot.round unit.lot.shown 1 }
+    requires told { IsIn (view token.old).stakes.owns slot unit.lot.shown }
     ensures { MovedAlone EntersUnit token.old token.new }
 {
     let _ = slot;
@@ -357,6 +359,8 @@ pub fn look_for_value(board: &DomainTable, token: &mut DomainSeat, slot: u32) ->
 #[inline]
 pub fn cut(board: &DomainTable, token: &mut DomainSeat) -> Witness
     requires home { token.old.table_id ≡ id_of board.now }
+    requires knows { Knows board.now token.old }
+    requires place { HasPlace (epoch token.old) }
     requires one { (slot : ℕ) × ((slots token.old).owns ≡ slot ∷ []) × ((slots token.old).drawn ≡ slot ∷ []) }
     requires free { (slots token.old).holds ≡ None }
     requires rests { (view token.old).stakes.moves ≡ None }
@@ -375,5 +379,7 @@ pub fn take_in(board: &DomainTable, token: &mut DomainSeat, owner: Witness)
     ensures { (slot : ℕ) (shared : Bool) (value : Gv) → owner.views ≡ witness_of_owner slot shared value
         → Taught (λ v _ w. w ≡ regained v (owner_of slot shared value)) token.old 0 token.new }
 {
-    rejoin::<_, _, _, _, JoinOwner>(&board.table.shared, token, owner);
+    board
+        .ledger
+        .rejoin::<JoinOwner>(&board.table.shared, token, owner);
 }

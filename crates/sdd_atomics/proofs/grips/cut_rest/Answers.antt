@@ -23,3 +23,8 @@ returns-clause-row c value others row = let b = c.args.board.now in let γ : ℕ
       cut_grips γ slot _ value last.result.now c.split.result.lot c.into_grip-grip.result has
           (c.split.ensures.part ∙ ap (λ (l : FractionContent). record l { units = 1 }) c.split-rest.ensures.part) c.into_grip-grip.ensures,
     )
+
+pub returns-clause-shown : goal.returns-clause-shown
+returns-clause-shown c value others row = let b = c.args.board.now in let γ : ℕ = book_of b in let n : ℕ = places_of b in let slot : ℕ = c.args.slot in
+    let last = c.slot_mut-last in let has = all_has γ slot n 0 (IsValue value) others c.last_home-home.result last.result.now c.args.token.now.me.1 last.ensures.value row in
+    ap (λ (l : FractionContent). l.shown) c.split.ensures.rest ∙ (ap (λ (l : FractionContent). l.shown) c.split-rest.ensures.part ∙ has.1.1)

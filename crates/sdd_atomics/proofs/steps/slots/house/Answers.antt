@@ -8,12 +8,12 @@ use Rattle.sdd_atomics.proofs.steps.slots.house.Goals as goal
 pub enter-requires-clause-allowed : goal.enter-requires-clause-allowed
 enter-requires-clause-allowed c = let r = c.requires in let row = r.row in let b = c.args.board.now in as_banked b Comes _ _ _ _ _ _
     (may_house (book_of b) (sizes_of b) _ _ _ r.knows.0 r.knows.1 r.place _ row.0 row.2 row.3 row.4 row.5 true (row.6 ∙ ap one_where c.if-shared.true) row.1 row.7.0 row.7.1 c.args.rest.lot
-    row.8)
+    row.8 row.9)
 
 pub enter-requires-else-shared-clause-allowed : goal.enter-requires-else-shared-clause-allowed
 enter-requires-else-shared-clause-allowed c = let r = c.requires in let row = r.row in let b = c.args.board.now in as_banked b Comes _ _ _ _ _ _
     (may_house (book_of b) (sizes_of b) _ _ _ r.knows.0 r.knows.1 r.place _ row.0 row.2 row.3 row.4 row.5 false (row.6 ∙ ap one_where c.if-shared.false) row.1 row.7.0 row.7.1
-    c.args.rest.lot row.8)
+    c.args.rest.lot row.8 row.9)
 
 pub returns-then-shared : goal.returns-then-shared
 returns-then-shared c = λ slot value rest moves row. let e = c.enter.ensures in
