@@ -1,5 +1,6 @@
 pub mod Allowed
 pub mod Zeros
 pub mod Shown
+pub mod Cloning
 pub mod Ending
 pub mod Lasts

@@ -5,7 +5,8 @@ ghost use Rattle.sdd_word_invariant.specs.SlotSteps.{OnEpoch, PublishesAll, Look
 ghost use Rattle.sdd_word_invariant.specs.Barred.{Bars, LooksForValue};
 ghost use Rattle.sdd_views.specs.Views.{owner_token};
 ghost use Rattle.sdd_domain_invariant.specs.BankInvariant.{founded, bank_of, with_ledger, ledger_of};
-ghost use Rattle.sdd_domain_invariant.specs.FractionSteps.{ClaimsAll, TakesOut, TakesHeld, IsDeposit, RetiresOne, ReleasesOne, GivesAll, DiscardsAll, ClosesHome, EndsAll, EntersUnit, OfSlot, parting, departing, regained, uncounting, counts_of, counting};
+ghost use Rattle.sdd_domain_invariant.specs.FractionSteps.{ClaimsAll, TakesOut, TakesHeld, IsDeposit, RetiresOne, ReleasesOne, GivesAll, DiscardsAll, ClosesHome, EndsAll, EntersUnit, TakesOneBack, OfSlot, parting, departing, regained, uncounting, counts_of, counting};
+ghost use Rattle.sdd_atomics.specs.Clones.{AddsPledged, DrawsTold};
 ghost use Rattle.sdd_atomics.specs.DomainSeat.{Sits, Told, HousesMoved, WatchesOwned, RecallsOwned};
 
 use atomic_table::{Join, Play, Split};
@@ -115,6 +116,18 @@ impl Deals<View> for FillSharedSlot {
     ghost then = { λ _ me _. HousesMoved true me };
 }
 
+pub struct OneMore;
+
+impl Play<ValueFraction, View> for OneMore {
+    ghost then = { λ step. AddsPledged step.word };
+}
+
+pub struct TakeBack;
+
+impl Play<ValueFraction, View> for TakeBack {
+    ghost then = { λ step. OfSlot TakesOneBack step.word };
+}
+
 pub struct EnterUnit;
 
 impl Deals<View> for EnterUnit {
@@ -137,6 +150,12 @@ pub struct TakeOut;
 
 impl Deals<View> for TakeOut {
     ghost then = { λ slot me l me'. TakesOut slot me me' × IsDeposit slot me l };
+}
+
+pub struct DrawUnit;
+
+impl Deals<View> for DrawUnit {
+    ghost then = { λ slot me l me'. DrawsTold slot me l me' };
 }
 
 pub struct TakeHeld;

@@ -21,13 +21,15 @@ ghost use Rattle.sdd_domain_invariant.specs.FractionSteps.{CarriesAll, IsValue, 
 ghost use Rattle.sdd_atomics.specs.DomainTable.{id_of, book_of, places_of, slots_of};
 ghost use Rattle.sdd_rights.specs.Owner.{witness_of_owner};
 ghost use Rattle.sdd_atomics.specs.Owner.{IsCutOff};
+ghost use Rattle.sdd_atomics.specs.Clones.{ClonesOne, DrawsTold};
 ghost use Rattle.sdd_atomics.specs.DomainSeat.{view, epoch, slots, Taught, Moved, MovedAlone, Knows};
 
+use crate::clones::AddOwner;
 use crate::domain_table::{DomainSeat, DomainTable};
 use crate::plays::{
-    Claim, CutOwner, Discard, EnterUnit, FillSharedSlot, FillSlot, GiveBack, Hold, JoinOwner,
-    LearnOwned, LetGo, LookAtGuard, LookAtSlot, LookForValue, ReleaseHold, Retire, SeeOwned,
-    ShareAgain, TakeHeld, TakeOut, TryHold,
+    Claim, CutOwner, Discard, DrawUnit, EnterUnit, FillSharedSlot, FillSlot, GiveBack, Hold,
+    JoinOwner, LearnOwned, LetGo, LookAtGuard, LookAtSlot, LookForValue, ReleaseHold, Retire,
+    SeeOwned, ShareAgain, TakeHeld, TakeOut, TryHold,
 };
 use crate::words::state_word;
 use sdd_shared_values::ValueFraction;
@@ -112,6 +114,45 @@ pub fn enter_unit(board: &DomainTable, token: &mut DomainSeat, slot: u32, unit: 
 {
     let _ = slot;
     unit.enter::<_, _, _, _, EnterUnit>(&board.bank, &board.table.shared, token);
+}
+
+/// One owner more of a slot, beside one of several, by one addition. Answers its word before: where as many share the slot as may, which is at
+/// `MOST_SHARED` or past it, it is taken back, and the participant has none.
+#[inline]
+pub fn add_owner(board: &DomainTable, token: &mut DomainSeat, slot: u32, owner: &Witness) -> u64
+    requires home { token.old.table_id ≡ id_of board.now }
+    requires knows { Knows board.now token.old }
+    requires inside { slot < slots_of board.now }
+    requires place { HasPlace (epoch token.old) }
+    requires rests { (view token.old).stakes.moves ≡ None }
+    requires none { ((slots token.old).owns ≡ []) × ((slots token.old).drawn ≡ []) × ((view token.old).stakes.owns ≡ []) }
+    requires free { ((slots token.old).over ≡ None) × ((view token.old).pledges.own ≡ []) }
+    requires owner { (owner.now.table_id ≡ id_of board.now) × ((value : Gv) × (owner.now.views ≡ witness_of_owner slot true value)) }
+    ensures { (value : Gv) → owner.now.views ≡ witness_of_owner slot true value → Moved (ClonesOne value slot) token.old result token.new }
+{
+    let deed = AddOwner {
+        word: board.slot_word(slot),
+    };
+    board
+        .ledger
+        .beside(&board.table.shared, token, owner, &deed)
+}
+
+/// The unit of the one owner that it has, which came beside another, is drawn from the bank, and shows what the slot shows. No word is touched.
+#[inline]
+pub fn draw_unit(board: &DomainTable, token: &mut DomainSeat, slot: u32) -> ValueFraction
+    requires home { token.old.table_id ≡ id_of board.now }
+    requires knows { Knows board.now token.old }
+    requires inside { slot < slots_of board.now }
+    requires place { HasPlace (epoch token.old) }
+    requires rests { (view token.old).stakes.moves ≡ None }
+    requires own { ((slots token.old).owns ≡ slot ∷ []) × ¬ (Holds (view token.old) slot) × ((slots token.old).drawn ≡ []) }
+    requires told { (value : Gv) × ((view token.old).stakes.owns ≡ record { slot = slot; shared = true; value = value } ∷ []) }
+    ensures { MovedAlone (λ me me'. DrawsTold slot me result.lot me') token.old token.new }
+{
+    board
+        .bank
+        .draw::<DrawUnit>(&board.table.shared, token, slot as u64)
 }
 
 /// Retires the item of a slot of its own, as its only owner. It waits with the participant from now on. The owner's unit is in the bank.
