@@ -125,7 +125,7 @@ module _ (b : DomainTable) (p : ℕ) where
         free = q.free;
         knows = q.knows;
         found = q.found;
-        quiet = record { owns = q.quiet.owns; drawn = q.quiet.drawn; holds = q.quiet.holds; looked = q.quiet.looked };
+        quiet = record { owns = q.quiet.owns; drawn = q.quiet.drawn; holds = q.quiet.holds; looked = q.quiet.looked; over = q.quiet.over };
         waiting = λ i some_wait. dite (ℕ_discrete slot i) (λ e. subst (λ (k : ℕ). k < slots_of b) e low)
             (λ ne. q.waiting i (let o = is_other i slot ne in let t = total_snoc (waits_in i) s.me.0.slots.waits (retired_now slot r.0) in omega arith));
         bags = ap (λ (l : List Waiting). l ++ fresh (Item slot) ∷ []) q.bags ∙ sym (unripe_too (retired_now slot r.0) refl s.me.0.slots.waits);
@@ -164,7 +164,7 @@ module _ (b : DomainTable) (p : ℕ) where
         free = q.free;
         knows = q.knows;
         found = q.found;
-        quiet = record { owns = q.quiet.owns; drawn = q.quiet.drawn; holds = q.quiet.holds; looked = q.quiet.looked };
+        quiet = record { owns = q.quiet.owns; drawn = q.quiet.drawn; holds = q.quiet.holds; looked = q.quiet.looked; over = q.quiet.over };
         waiting = q.waiting;
         bags = q.bags;
         room = q.room;
@@ -193,7 +193,7 @@ module _ (b : DomainTable) (p : ℕ) where
         free = q.free;
         knows = q.knows;
         found = q.found;
-        quiet = record { owns = q.quiet.owns; drawn = q.quiet.drawn; holds = q.quiet.holds; looked = q.quiet.looked };
+        quiet = record { owns = q.quiet.owns; drawn = q.quiet.drawn; holds = q.quiet.holds; looked = q.quiet.looked; over = q.quiet.over };
         waiting = λ i some_wait. q.waiting i (let m = no_more slot i s.me.0.slots.waits in omega arith);
         bags = q.bags ∙ ap (map waiting_of) (sym goes.1);
         room = q.room;
@@ -233,7 +233,7 @@ module _ (b : DomainTable) (p : ℕ) where
         free = q.free;
         knows = (sizes ∙ q.knows.0, ap (λ (k : FractionsView). k.book) stakes ∙ q.knows.1);
         found = sym found;
-        quiet = record { owns = q.quiet.owns; drawn = q.quiet.drawn; holds = q.quiet.holds; looked = q.quiet.looked };
+        quiet = record { owns = q.quiet.owns; drawn = q.quiet.drawn; holds = q.quiet.holds; looked = q.quiet.looked; over = q.quiet.over };
         waiting = λ i some_wait. q.waiting i (let f = fewer i in omega arith);
         bags = bags;
         room = room ∙ q.room;
@@ -276,7 +276,7 @@ module _ (b : DomainTable) (p : ℕ) where
           free = q.free;
           knows = q.knows;
           found = q.found;
-          quiet = record { owns = q.quiet.owns; drawn = q.quiet.drawn; holds = q.quiet.holds; looked = q.quiet.looked };
+          quiet = record { owns = q.quiet.owns; drawn = q.quiet.drawn; holds = q.quiet.holds; looked = q.quiet.looked; over = q.quiet.over };
           waiting = q.waiting;
           bags = q.bags;
           room = q.room;
@@ -311,7 +311,7 @@ module _ (b : DomainTable) (p : ℕ) where
         free = q.free;
         knows = q.knows;
         found = q.found;
-        quiet = record { owns = q.quiet.owns; drawn = q.quiet.drawn; holds = q.quiet.holds; looked = q.quiet.looked };
+        quiet = record { owns = q.quiet.owns; drawn = q.quiet.drawn; holds = q.quiet.holds; looked = q.quiet.looked; over = q.quiet.over };
         waiting = q.waiting;
         bags = q.bags;
         room = q.room;

@@ -33,12 +33,13 @@ pub record IsNear (v : EpochView) : Type 0 where
   pub since : v.since ≤ v.known
   pub known : v.known ≤ v.since + 1
 
--- no slot is held, and no owner is with the participant itself: each is a token of its own
+-- no slot is held, no count is raised past its bound, and no owner is with the participant itself: each is a token of its own
 pub record IsQuiet (v : SlotsView) : Type 0 where
   pub owns : v.owns ≡ []
   pub drawn : v.drawn ≡ []
   pub holds : v.holds ≡ None
   pub looked : v.looked ≡ 0
+  pub over : v.over ≡ None
 
 -- what is known of what slots show: of those that the guards see, one value for each
 pub record SeesOnce (stakes : FractionsView) (slots : SlotsView) : Type 0 where

@@ -11,6 +11,7 @@ ghost use Rattle.sdd_domain_invariant.specs.FractionSteps.{CarriesAll, resting};
 ghost use Rattle.sdd_domain_invariant.specs.BankInvariant.{one_where};
 ghost use Rattle.sdd_domain_invariant.specs.FilledInvariant.{HasRecord};
 ghost use Rattle.sdd_domain_invariant.specs.KindsInvariant.{written};
+ghost use Rattle.sdd_domain_invariant.specs.Records.{IsIn};
 ghost use Rattle.sdd_atomics.specs.DomainTable.{id_of, book_of, places_of, slots_of};
 ghost use Rattle.sdd_space.specs.OwnerOrCell.{AreOf};
 ghost use Rattle.sdd_domain.specs.SpaceIds.{home_of_slots};
@@ -84,6 +85,7 @@ pub fn let_one_go(
     requires own { ((slots token.old).owns ≡ slot ∷ []) × ¬ (Holds (view token.old) slot) × ((slots token.old).drawn ≡ slot ∷ []) }
     requires told { (value : Gv) × HasRecord (view token.old).stakes.owns (record { slot = slot; shared = shared; value = value }) }
     requires unit { IsUnitOf (book_of board.now) slot grip }
+    requires shows { IsIn (view token.old).stakes.owns slot grip.shown }
     requires rests { (view token.old).stakes.moves ≡ None }
     ensures went { MovedAlone (LetsOneGo slot shared result) token.old token.new }
     ensures sole { shared ≡ false → IsTrue result }

@@ -1,4 +1,4 @@
-use Rattle.std.proofs.Common.{ℕ, ◌+◌, List, [], ◌∷◌, ap, sym, refl, ◌∙◌, subst, arith}
+use Rattle.std.proofs.Common.{ℕ, ◌+◌, ◌<◌, List, [], ◌∷◌, ap, sym, refl, ◌∙◌, subst, arith}
 use Rattle.atomic_table.specs.Seated.{TableId}
 use Rattle.sdd_space.specs.OwnerOrCell.{AreOf}
 use Rattle.sdd_domain.specs.SpaceIds.{home_of_slots}
@@ -51,6 +51,7 @@ house-requires-clause-row g c = let b = c.args.board.now in let r = c.requires i
       ap (λ (v : View). counted (written v slot)) same ∙ r.kind,
       (r.row.0, (cut.ensures.row value r.row.0 row).0),
       cut.ensures.rest,
+      cut.ensures.shown value r.row.0 row,
     )
 
 pub cut-requires-clause-one : goal.cut-requires-clause-one
@@ -75,6 +76,26 @@ cut-requires-clause-home g c = let b = c.args.board.now in let r = c.requires in
     (showing g.row.T c.args.value) c.args.token.now c.put.new.seat c.put.new.seat c.put.new.seat
     r.knows (ap (λ (k : ℕ). k + 1) c.places-count.ensures) r.own.0 r.row.0 r.row.1 put.0 tt put.1)).0 c.house.ensures in
     f.table ∙ r.home
+
+pub cut-requires-clause-knows : goal.cut-requires-clause-knows
+cut-requires-clause-knows g c = let b = c.args.board.now in let r = c.requires in let put = c.put.ensures.seat in
+    let f = furnished b c.args.slot (c.places-count.result + 1) c.args.shared (showing g.row.T c.args.value) c.args.token.now c.put.new.seat
+    c.cut_rest-grip.new.token c.house.new.token r.knows (ap (λ (k : ℕ). k + 1) c.places-count.ensures) r.own.0 r.row.0 r.row.1 put.0 tt put.1
+    c.cut_rest-grip.ensures.token (c.cut_rest-grip.ensures.row (showing g.row.T c.args.value) r.row.0
+    (row_put b c.args.slot (c.places-count.result + 1) c.args.shared
+    (showing g.row.T c.args.value) c.args.token.now c.put.new.seat c.put.new.seat c.put.new.seat
+    r.knows (ap (λ (k : ℕ). k + 1) c.places-count.ensures) r.own.0 r.row.0 r.row.1 put.0 tt put.1)).0 c.house.ensures in
+    (ap (λ (v : View). v.sizes) f.view ∙ r.knows.0, ap (λ (v : View). v.stakes.book) f.view ∙ r.knows.1)
+
+pub cut-requires-clause-place : goal.cut-requires-clause-place
+cut-requires-clause-place g c = let b = c.args.board.now in let r = c.requires in let put = c.put.ensures.seat in
+    let f = furnished b c.args.slot (c.places-count.result + 1) c.args.shared (showing g.row.T c.args.value) c.args.token.now c.put.new.seat
+    c.cut_rest-grip.new.token c.house.new.token r.knows (ap (λ (k : ℕ). k + 1) c.places-count.ensures) r.own.0 r.row.0 r.row.1 put.0 tt put.1
+    c.cut_rest-grip.ensures.token (c.cut_rest-grip.ensures.row (showing g.row.T c.args.value) r.row.0
+    (row_put b c.args.slot (c.places-count.result + 1) c.args.shared
+    (showing g.row.T c.args.value) c.args.token.now c.put.new.seat c.put.new.seat c.put.new.seat
+    r.knows (ap (λ (k : ℕ). k + 1) c.places-count.ensures) r.own.0 r.row.0 r.row.1 put.0 tt put.1)).0 c.house.ensures in
+    subst (λ (k : ℕ). 0 < k) (sym (ap (λ (v : View). v.epoch.state) f.view)) r.place
 
 pub cut-requires-clause-free : goal.cut-requires-clause-free
 cut-requires-clause-free g c = let b = c.args.board.now in let r = c.requires in let put = c.put.ensures.seat in

@@ -128,6 +128,22 @@ let_one_go-requires-clause-told g c =
       ),
     )
 
+pub let_one_go-requires-clause-shows : goal.let_one_go-requires-clause-shows
+let_one_go-requires-clause-shows g c =
+    let q = c.self.invariant.0 in let l = c.self.inside in let slot : ℕ = number_of c.args.right in let shared : Bool = is_shared (kind_of c.args.right) in
+    let by = c.into_owner-owner.ensures.owner (has_tables c.args.self.now c.args.right c.requires.home) in let shown : Gv = c.into_owner-owner.result.1.shown in
+    let same = same_recalled l.domain.now.board l.place slot shared shown l.token c.recall.new.token (c.recall.ensures slot shared shown by.owner) in
+    let took = subst (λ (x : Seat ValueFraction View). Taught (λ v _ w. w ≡ regained v (owner_of slot shared shown)) x 0 c.take_in.new.token) same
+    (c.take_in.ensures slot shared shown by.owner) in
+    let kind : c.is_one_of_several-shared.result ≡ shared = c.is_one_of_several-shared.ensures ∙ ap is_shared (sym c.requires.kind) in (
+      0,
+      record { slot = c.number-slot.result; shared = c.is_one_of_several-shared.result; value = shown },
+      ap (λ (v : View). get_elem? v.stakes.owns 0) took.3
+          ∙ (λ d. some (record { slot = sym c.number-slot.ensures d; shared = sym kind d; value = shown })),
+      refl,
+      refl,
+    )
+
 pub push-requires : goal.push-requires
 push-requires g c = let l = c.self.inside in let board = l.domain.now.board in let q = c.self.invariant.0 in
     let by = c.into_owner-owner.ensures.owner (has_tables c.args.self.now c.args.right c.requires.home) in let shown : Gv = c.into_owner-owner.result.1.shown in
