@@ -69,23 +69,6 @@ module _ (i : ℕ) (g : Gv) where
       (λ (d : (hs' : List FractionContent) × Comes hs l hs' × (more ≡ h ∷ hs')). subst (ShowOnly i g) (sym d.2)
       (show.0, shown_comes hs l d.0 d.1 show.1 mine)) r) comes
 
-  -- one comes of which there was some before
-  pub shown_joins : (γ : ℕ) (ls : List FractionContent) (l : FractionContent) (more : List FractionContent) → AreDeposits γ more → l.number ≡ i
-      → 0 < units_at i ls → Comes ls l more → ShowOnly i g ls → ShowOnly i g more
-  shown_joins γ [] l more are of has comes show = absurd (omega arith)
-  shown_joins γ (h ∷ hs) l more are of has comes show = ⊎_elim
-      (λ (a : more ≡ l ∷ h ∷ hs). let none = (subst (AreDeposits γ) a are).3 in
-      absurd (let e = ap (λ (k : ℕ). units_at k (h ∷ hs)) of in omega arith))
-      (λ (r : ((h' : FractionContent) × IsJoined h l h' × (more ≡ h' ∷ hs)) ⊎ ((hs' : List FractionContent) × Comes hs l hs' × (more ≡ h ∷ hs'))). ⊎_elim
-      (λ (b : (h' : FractionContent) × IsJoined h l h' × (more ≡ h' ∷ hs)). let sum = b.1.sum in subst (ShowOnly i g) (sym b.2)
-      ((λ e. ap (λ (c : FractionContent). c.shown) sum ∙ show.0 (ap (λ (c : FractionContent). c.number) (sym sum) ∙ e)), show.1))
-      (λ (d : (hs' : List FractionContent) × Comes hs l hs' × (more ≡ h ∷ hs')). let are' = subst (AreDeposits γ) d.2 are in subst (ShowOnly i g) (sym d.2) (
-        show.0,
-        dite (ℕ_discrete h.number i)
-            (λ same. none_shown γ d.0 are'.4 (ap (λ (k : ℕ). units_at k d.0) (sym same) ∙ are'.3))
-            (λ ne. shown_joins γ hs l d.0 are'.4 of (let o = ap (λ (b : _). either b h.units 0) (ne_eqb h.number i ne) in omega arith) d.1 show.1),
-      )) r) comes
-
 -- ---- the part
 -- no item is out as raw
 abbrev pub NoneRaw : Sizes → List ℕ → Type 0

@@ -8,6 +8,7 @@ pub mod Records
 pub mod Lasts
 pub mod Fillings
 pub mod Telling
+pub mod KindSteps
 pub mod Lift
 pub mod Steps
 pub mod RawSteps

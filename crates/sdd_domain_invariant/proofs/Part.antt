@@ -14,7 +14,7 @@ use Rattle.sdd_views.specs.declared.Sizes.{Sizes}
 use Rattle.sdd_word_invariant.specs.Words.{slot_word, first_slot}
 use Rattle.sdd_word_invariant.specs.Codes.{full}
 use Rattle.sdd_word_invariant.specs.Epoch.{HasPlace}
-use Rattle.sdd_word_invariant.specs.Slots.{items_at, OwnsAlone, Sees}
+use Rattle.sdd_word_invariant.specs.Slots.{items_at, Owns, Sees}
 use Rattle.sdd_word_invariant.specs.Sums.{times}
 use Rattle.sdd_word_invariant.proofs.Frame.{each_set, each_snoc}
 use Rattle.sdd_word_invariant.proofs.Epoch.{at_length}
@@ -34,10 +34,10 @@ pub only_seen : (v : View) → v.stakes.moves ≡ None → (i p : ℕ) → Fract
 only_seen v rests i p out = ⊎_elim (λ (m : Moves v i). let e : None ≡ Some i = sym rests ∙ m in absurd cc) (λ (s : SeesFrom v i p). s) out
 
 -- a participant that keeps its place and its owners, and has the same out
-pub still_mover : (v w : View) → w.stakes.moves ≡ v.stakes.moves → (HasPlace v.epoch → HasPlace w.epoch) → ((i : ℕ) → OwnsAlone v i → OwnsAlone w i)
+pub still_mover : (v w : View) → w.stakes.moves ≡ v.stakes.moves → (HasPlace v.epoch → HasPlace w.epoch) → ((i : ℕ) → Owns v i → Owns w i)
     → ((i : ℕ) → 0 < items_at i v → 0 < items_at i w) → IsMover v → IsMover w
 still_mover v w same lives owns waits is i m = let o = is i (sym same ∙ m) in
-    (lives o.0, ⊎_elim (λ (a : OwnsAlone v i). inl (owns i a)) (λ (a : 0 < items_at i v). inr (waits i a)) o.1)
+    (lives o.0, ⊎_elim (λ (a : Owns v i). inl (owns i a)) (λ (a : 0 < items_at i v). inr (waits i a)) o.1)
 
 -- what lies at home as full as the slot is
 shown_as : (γ i n p f f' : ℕ) (y : ValueFraction) → f' ≡ f → Has γ i (share n (away n f) p) (MatchesSlotWord f) y → Has γ i (share n (away n f') p) (MatchesSlotWord f') y

@@ -22,13 +22,13 @@ use Rattle.sdd_word_invariant.specs.Words.{slot_word}
 use Rattle.sdd_word_invariant.specs.Codes.{codes, alive, waiting, full, owned_word, raw_word}
 use Rattle.sdd_word_invariant.specs.Epoch.{HasPlace, IsOpen, IsLone}
 use Rattle.sdd_word_invariant.specs.Sums.{total, times}
-use Rattle.sdd_word_invariant.specs.Slots.{slot_at, OwnsAlone, Sees, Holds}
+use Rattle.sdd_word_invariant.specs.Slots.{slot_at, Owns, Sees, Holds}
 use Rattle.sdd_word_invariant.specs.SlotSteps.{without, turned_raw, AtSlot, TurnsRaw, Regains, SeesRaw}
 use Rattle.sdd_word_invariant.specs.WordInvariant.{epoch_of, Parts}
 use Rattle.sdd_word_invariant.proofs.Codes.{sound, owned_is, raw_is}
 use Rattle.sdd_word_invariant.proofs.RawSteps as words
 use Rattle.sdd_word_invariant.proofs.Lift.{blind_units}
-use Rattle.sdd_word_invariant.proofs.SlotWords.{owners_in}
+use Rattle.sdd_word_invariant.proofs.SlotWords.{owner_in, owners_in}
 use Rattle.sdd_word_invariant.proofs.Sums.{is_same, is_other, without_same, without_other, total_zero}
 use Rattle.sdd_domain_invariant.specs.FractionsAtHome.{stake_at, away, full_at, Has, Moves, SeesFrom, LiesAt, FractionsInvariant}
 use Rattle.sdd_domain_invariant.specs.BankInvariant.{drawn_at, moves_at, banked}
@@ -49,7 +49,8 @@ use Rattle.sdd_domain_invariant.proofs.Fillings.{has_none, filled_learned}
 use Rattle.sdd_domain_invariant.proofs.Telling.{none_moved, one_view, owns_it}
 use Rattle.sdd_domain_invariant.proofs.Tops.{share_one}
 use Rattle.sdd_domain_invariant.proofs.Lasts.{shown_leaves, raws_other, raws_set, raws_same, lasts_out, lasts_fewer, lasts_dealt}
-use Rattle.sdd_domain_invariant.proofs.Lift.{Follows, lift_homes, stands_dealt}
+use Rattle.sdd_domain_invariant.proofs.Lift.{Follows, lift_homes, lift_whole, stands_dealt}
+use Rattle.sdd_domain_invariant.proofs.KindSteps as kind_steps
 use Rattle.sdd_domain_invariant.proofs.Steps.{full_owned}
 use Rattle.sdd_domain_invariant.proofs.Steps as steps
 
@@ -78,8 +79,8 @@ regained_tells : (m : ℕ) (v : View) → IsTelling m v → (slot : ℕ) → slo
 regained_tells m v t slot low rests y value = let r : ShownValue = record { slot = slot; shared = false; value = value } in
     let w : View = regaining slot y value v in record {
       owns = λ i g h. (
-        ⊎_elim (λ (e : (slot ≡ i) × (value ≡ g)). let o = is_same i slot e.0 in let l : OwnsAlone w i = omega arith in l)
-            (λ (k : IsIn v.stakes.owns i g). let o = (t.owns i g k).0 in let l : OwnsAlone w i = omega arith in l) (in_either r v.stakes.owns i g h),
+        ⊎_elim (λ (e : (slot ≡ i) × (value ≡ g)). let o = is_same i slot e.0 in let l : Owns w i = omega arith in l)
+            (λ (k : IsIn v.stakes.owns i g). let o = (t.owns i g k).0 in let l : Owns w i = omega arith in l) (in_either r v.stakes.owns i g h),
         none_moved w i rests,
       );
       owned = λ i o still. dite (ℕ_discrete slot i) (λ e. (value, in_head r v.stakes.owns i value e refl))
@@ -169,6 +170,8 @@ module _ (slots id : ℕ) (me : SeatState) (live : HasPlace me.0.epoch) where
           (λ j _. steps.same_words slots id me live slot inside s h j);
       lasts = lasts_fewer sizes s.words s.views s.homes h.lasts id v at (set s.words i x) v s.homes (λ _ _ _ _ l. l) (λ b. (b, refl)) refl
           (λ _ _. inl live) (raws_same sizes s.words i);
+      kinds = kind_steps.calm sizes s.words s.views h.kinds h.records.each id v at (set s.words i x) v (steps.same_slots slots id me live slot inside s h)
+          (refl, refl, refl, (λ _. refl), refl) refl refl (λ _ o. o);
       tells = tells;
     }
 
@@ -178,10 +181,11 @@ module _ (slots id : ℕ) (me : SeatState) (live : HasPlace me.0.epoch) where
         → May i (λ _. raw_word 0) (λ _. OfSlot TurnsRawOne i me (raw_word 0))
     turns_raw owns free empty rests value has = let y : ℕ = raw_word 0 in let told : ℕ → SeatState → Type 0 = λ _. OfSlot TurnsRawOne i me y in
         let own = owns_it v slot owns in let r : ShownValue = record { slot = slot; shared = false; value = value } in
-        lift_homes γ sizes slots id me i (λ _. y) (λ _. AtSlot TurnsRaw i v y) told
+        lift_whole γ sizes slots id me i (λ _. y) (λ _. AtSlot TurnsRaw i v y) told
         (steps.spares slots id me live slot inside (λ _. y) (λ _. AtSlot TurnsRaw i v y) (λ r w t. ap (λ (u : View). u.places) (t slot refl)))
-        (words.turns_raw id v live slot 0 inside own free (omega arith))
-        (λ s w h at t. let one = ((h.kept.parts.slots.each id v at).alone slot own).0 in
+        (λ s h at small. let firm = (steps.uncounted_owner slots id me live slot inside s h at value has free).1 in
+        words.turns_raw id v live slot 0 inside own free (omega arith) s.words s.views h.kept.parts at firm)
+        (λ s w h at t. let one = (steps.uncounted_owner slots id me live slot inside s h at value has free).2 in
         let was = full_owned (slot_at sizes s.words slot) (omega arith) in let now : View = untold (turned_raw slot y v) in
         let low = steps.within slots id me live slot inside s h in
         let word : slot_at sizes (set s.words i y) slot ≡ y = steps.here slots id me live slot inside s.words y low in
@@ -212,6 +216,9 @@ module _ (slots id : ℕ) (me : SeatState) (live : HasPlace me.0.epoch) where
               (sym (h.records.home slot n value z inside (omega arith) known last))
               (h.filled.knows single j id u v r e placed at (inl has)))
               (raws_other sizes s.words slot y);
+          kinds = kind_steps.goes sizes s.words s.views h.kinds h.records.each id v at slot y now inside
+              (steps.wrote_long slots id me live slot inside s h at y) rests refl (λ _ o. o) word
+              (λ j u apart e. inl (λ o. let both = owners_in codes sound sizes s.words s.views h.kept.parts.slots j id slot u v apart e at in omega arith));
           tells = steps.at_once slots id me live slot inside TurnsRawOne y (now, me.1) (refl, refl);
         })
 
@@ -256,6 +263,10 @@ module _ (slots id : ℕ) (me : SeatState) (live : HasPlace me.0.epoch) where
               (λ k. let l = h.bank.low id v at k in omega arith) same;
           lasts = lasts_fewer sizes s.words s.views s.homes h.lasts id v at (set s.words i y) now s.homes (λ _ _ _ _ l. l) (λ b. (b, refl)) refl
               (λ _ _. inl live) (raws_set sizes s.words slot y low (λ e. absurd (omega arith)));
+          kinds = let none = dead s h hit in kind_steps.regains sizes s.words s.views h.kinds h.records.each id v at slot y value now inside
+              (steps.wrote_long slots id me live slot inside s h at y) rests refl (λ _ o. o) own.2
+              (steps.here slots id me live slot inside s.words y low)
+              (λ j u e o. let few = owner_in codes sound sizes s.words s.views h.kept.parts.slots j slot u e in omega arith);
           tells = steps.at_once slots id me live slot inside (λ slot. RegainsOne slot (raw_word 0) (owned_word 0)) x (now, me.1)
               ((λ _. (value, (h.homes.home slot n z inside (omega arith) (lies s h hit)).1.0 (filled s h hit), refl, λ lone. h.lasts.raw (steps.one_place γ sizes s h id v at lone) id v at live slot z inside hit (lies s h hit))), (λ no. absurd (no hit)), c.2);
         })
@@ -325,6 +336,8 @@ module _ (slots id : ℕ) (me : SeatState) (live : HasPlace me.0.epoch) where
                 (part.takes_one γ sizes s.words s.views s.homes h.homes id v at slot q (omega arith) now (inr (omega arith, refl))
                 (λ j p out. let o = only_seen v rests j p out in inr (let a = o.0 in omega arith, o.1))
                 (none_out now rests));
+            kinds = kind_steps.same sizes s.words s.views h.kinds h.records.each id v at now refl refl refl refl refl refl (set s.words i x)
+                (steps.same_slots slots id me live slot inside s h);
             records = records.comes_to_learn sizes s.views s.homes r id v at slot n value z inside (omega arith) (lies s h hit)
                 (all_shown s h (still s h hit)) now (set s.homes spot none)
                 record {
@@ -375,10 +388,10 @@ module _ (slots id : ℕ) (me : SeatState) (live : HasPlace me.0.epoch) where
           (steps.at_once slots id me live slot inside R x me ((λ hit. absurd (miss hit)), (λ _. refl), c.2)))))
 
     -- its owner draws its unit from the bank
-    pub draws_unit : (bd : ℕ) → OwnsAlone v slot → v.slots.drawn ≡ [] → v.stakes.moves ≡ None
-        → steps.MayDeal slots id me live slot inside bd Leaves (λ _. Unit {0}) (DrawsUnit slot me)
-    draws_unit bd own empty rests s b h _ at there bank ne = let w : View = drawing slot v in let p = h.kept.parts in
-        let one = ((p.slots.each id v at).alone slot own).0 in let filled = full_owned (slot_at sizes s.words slot) (omega arith) in
+    pub draws_unit : (bd : ℕ) (value : Gv) → HasRecord v.stakes.owns (record { slot = slot; shared = false; value = value }) → ¬ (Holds v slot)
+        → v.slots.drawn ≡ [] → v.stakes.moves ≡ None → steps.MayDeal slots id me live slot inside bd Leaves (λ _. Unit {0}) (DrawsUnit slot me)
+    draws_unit bd value has loose empty rests s b h _ at there bank ne = let w : View = drawing slot v in let p = h.kept.parts in
+        let sole = steps.uncounted_owner slots id me live slot inside s h at value has loose in let own = sole.0 in let one = sole.2 in let filled = full_owned (slot_at sizes s.words slot) (omega arith) in
         let still : (j : ℕ) (u : View) → get_elem? s.views j ≡ some u → ¬ (Moves u slot)
         = λ j u e. dite (ℕ_discrete id j)
         (λ same m. none_moved v slot rests (subst (λ (x : View). Moves x slot) (one_view s.views id j u v e at (sym same)) m))
@@ -416,7 +429,8 @@ module _ (slots id : ℕ) (me : SeatState) (live : HasPlace me.0.epoch) where
                 inside = tells.inside;
               }
               (records.mine sizes s.views s.homes h.records id v at) (λ j p y _ _ l. inl l) (λ j m. m) (λ j a. a))
-              (uncounted_alone sizes s.words s.views h.counts id v at w refl refl) (steps.still_filled slots id me live s h at w refl refl refl) bd b there ne ls
+              (uncounted_alone sizes s.words s.views h.counts id v at w refl refl) (steps.still_filled slots id me live s h at w refl refl refl)
+              (kind_steps.same sizes s.words s.views h.kinds h.records.each id v at w refl refl refl refl refl refl s.words (λ j. refl)) bd b there ne ls
               (banks.deals γ sizes s.words s.views h.bank id v at bd b there bank ne w ls goes.deposits refl refl
               (λ k. dite (ℕ_discrete k slot)
               (λ e. let o = is_same k slot (sym e) in let c = ap (times k) empty in let m = ap (λ (j : ℕ). times j v.slots.owns) e in omega arith)

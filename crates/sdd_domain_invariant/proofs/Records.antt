@@ -12,7 +12,7 @@ use Rattle.sdd_views.specs.declared.ShownValue.{ShownValue}
 use Rattle.sdd_views.specs.declared.FractionsView.{FractionsView}
 use Rattle.sdd_views.specs.declared.View.{View}
 use Rattle.sdd_views.specs.declared.Sizes.{Sizes}
-use Rattle.sdd_word_invariant.specs.Slots.{waits_in, items_at, OwnsAlone, Sees}
+use Rattle.sdd_word_invariant.specs.Slots.{waits_in, items_at, Owns, Sees}
 use Rattle.sdd_word_invariant.specs.Sums.{total, is, times}
 use Rattle.sdd_word_invariant.proofs.Frame.{each_set, each_snoc}
 use Rattle.sdd_word_invariant.proofs.Sums.{is_same, is_other, both_set, total_has, total_kept, total_gone, total_some, at_filter}
@@ -174,7 +174,7 @@ module _ (sizes : Sizes) (vs : List View) (hs : FractionsAtHome) (part : Records
 
   -- nobody knows what a slot shows that nobody sees, and that no one owns, nor has its item, but who moves its value
   pub unknown : (i : ℕ) → ((j : ℕ) (u : View) → get_elem? vs j ≡ some u → ¬ (Sees u i))
-      → ((j : ℕ) (u : View) → get_elem? vs j ≡ some u → OwnsAlone u i ⊎ (0 < items_at i u) → Moves u i) → (g : Gv) → ¬ (IsKnown vs i g)
+      → ((j : ℕ) (u : View) → get_elem? vs j ≡ some u → Owns u i ⊎ (0 < items_at i u) → Moves u i) → (g : Gv) → ¬ (IsKnown vs i g)
   unknown i blind movers g k = let t = part.each k.0 k.1 k.2 in known_by k.1 i g
       (λ h. let o = t.owns i g h in o.1 (movers k.0 k.1 k.2 (inl o.0)))
       (λ h. blind k.0 k.1 k.2 (sees_told k.1 t i g h))

@@ -1,10 +1,10 @@
 -- The start, a new token, owners that are cut off as a token and taken in again, and what is at home at the end
 use Rattle.std.proofs.Common.{◌≡◌, ◌≢◌, ◌⊎◌, inl, inr, ℕ, zero, suc, ◌+◌, ◌<◌, ◌≤◌, Bool, true, false, List, [], ◌∷◌, ◌++◌, map, length, get_or, set, sym, refl, ap, ◌∙◌, subst, ⊎_elim, arith}
-use Rattle.std.proofs.lemmas.List.{length-map}
+use Rattle.std.proofs.lemmas.List.{length-map, length-replicate}
 use mathlib.Core.Option.{some, some-injective, some-ne-none}
 use mathlib.Core.Logic.{dite}
 use native.Mathlib.Decide.{ℕ_discrete, dec_lt}
-use Rattle.std.specs.Prelude.{None}
+use Rattle.std.specs.Prelude.{Some, None}
 use lib.ListN.{get_elem?}
 use base.Stored.{Gv}
 use Rattle.atomic_table.specs.Table.{State, Enters, Splits, Joins, opening}
@@ -15,10 +15,10 @@ use Rattle.sdd_views.specs.declared.ShownValue.{ShownValue}
 use Rattle.sdd_views.specs.declared.CountsView.{CountsView}
 use Rattle.sdd_views.specs.declared.View.{View}
 use Rattle.sdd_views.specs.declared.Sizes.{Sizes}
-use Rattle.sdd_word_invariant.specs.Words.{first_slot, all_words}
+use Rattle.sdd_word_invariant.specs.Words.{first_slot, words_behind, all_words}
 use Rattle.sdd_word_invariant.specs.Codes.{alive, waiting, full}
 use Rattle.sdd_word_invariant.specs.Sums.{is, times}
-use Rattle.sdd_word_invariant.specs.Slots.{slot_at, OwnsAlone}
+use Rattle.sdd_word_invariant.specs.Slots.{slot_at, Owns}
 use Rattle.sdd_word_invariant.specs.SlotSteps.{first, others}
 use Rattle.sdd_word_invariant.specs.Epoch.{HasPlace}
 use Rattle.sdd_views.specs.Views.{owner_token, owner_of}
@@ -31,6 +31,9 @@ use Rattle.sdd_domain_invariant.specs.FractionsAtHome.{stake_at, share, away, fu
 use Rattle.sdd_domain_invariant.specs.BankInvariant.{BankInvariant, founder, founded, bank_of}
 use Rattle.sdd_domain_invariant.proofs.Banks.{HasUnits, outside_free}
 use Rattle.sdd_domain_invariant.proofs.Banks as banks
+use Rattle.sdd_domain_invariant.specs.KindsInvariant.{KnowsKinds, KindsInvariant}
+use Rattle.sdd_domain_invariant.proofs.KindSteps.{has_first, knows_no_kind}
+use Rattle.sdd_domain_invariant.proofs.KindSteps as kind_steps
 use Rattle.sdd_domain_invariant.specs.DomainInvariant.{DomainInvariant}
 use Rattle.sdd_domain_invariant.specs.FractionSteps.{parting, departing, regained, uncounting, counts_of, counts_token, counting}
 use Rattle.sdd_domain_invariant.specs.Records.{IsIn, KnowsShown, IsKnown, IsTelling, RecordsInvariant}
@@ -83,6 +86,8 @@ module _ (γ : ℕ) (sizes : Sizes) where
               (banks.arrives γ sizes s.words s.views h.bank t refl refl refl refl);
           lasts = subst (λ (w : View). LastsInvariant sizes s.words (s.views ++ w ∷ []) s.homes) (sym r.2.0)
               (lasts_more sizes s.words s.views s.homes h.lasts t (λ _. refl) (λ z. absurd (omega arith)));
+          kinds = subst (λ (w : View). KindsInvariant sizes s.words (s.views ++ w ∷ [])) (sym r.2.0)
+              (kind_steps.arrives sizes s.words s.views h.kinds t (knows_no_kind sizes s.words t (length-replicate (words_behind sizes) 0) refl refl));
         },
         r.2.1,
       )
@@ -130,6 +135,9 @@ module _ (γ : ℕ) (sizes : Sizes) where
       banks = λ j v e is. let f : false ≡ true = ap (λ (u : View). u.stakes.bank) (only j v e) ∙ is in absurd cc;
       raw = λ one j v e live. absurd (let f = ap (λ (w : View). w.epoch.state) (only j v e) in omega arith);
     };
+    kinds = record {
+      each = λ j v e. subst (KnowsKinds sizes ws) (only j v e) (knows_no_kind sizes ws (founder sizes γ) (length-replicate (words_behind sizes) 0) refl refl);
+    };
   }
     where
       only : (j : ℕ) (v : View) → get_elem? (founder sizes γ ∷ []) j ≡ some v → founder sizes γ ≡ v
@@ -145,7 +153,7 @@ module _ (γ : ℕ) (sizes : Sizes) where
       none_known : (i : ℕ) (g : Gv) → ¬ (IsKnown (founder sizes γ ∷ []) i g)
       none_known i g k = knows_none (founder sizes γ) refl refl refl i g (subst (λ (u : View). KnowsShown u i g) (sym (only k.0 k.1 k.2)) k.3)
 
-  -- the only owner that it has goes to a token of its own, with what is known of its slot, where none is held and no value is moved
+  -- the owner that it has goes to a token of its own, with what is known of its slot, where none is held and no value is moved
   pub parts_owner : (id : ℕ) (v : View) (slot : ℕ) → v.slots.owns ≡ slot ∷ [] → v.slots.drawn ≡ slot ∷ [] → v.slots.holds ≡ None
       → v.stakes.moves ≡ None → Splits (DomainInvariant γ sizes) id v (parting v) (departing v)
   parts_owner id v slot owns drawn free rests s h at = let t : View = departing v in let w : View = parting v in let r = h.records in
@@ -154,7 +162,7 @@ module _ (γ : ℕ) (sizes : Sizes) where
       let came = records.arrives sizes s.views s.homes r t
       record {
         owns = λ i g k. let o = (told.owns i g k).0 in (
-          let e = ap (times i) owns in let e' = ap (λ (l : List ℕ). times i (first l)) owns in let l : OwnsAlone t i = omega arith in l,
+          let e = ap (times i) owns in let e' = ap (λ (l : List ℕ). times i (first l)) owns in let l : Owns t i = omega arith in l,
           none_moved t i refl,
         );
         owned = λ i o still. told.owned i
@@ -198,6 +206,14 @@ module _ (γ : ℕ) (sizes : Sizes) where
             let o = ap (λ (l : List ℕ). times i (first l)) owns in let a = total_append (is i) (first v.slots.owns) [] in omega arith);
         lasts = lasts_more sizes s.words (set s.views id w) s.homes (lasts_stay s h id v at w (λ b. (b, refl)) refl (λ live. live)) t (λ _. refl)
             (λ z. absurd (omega arith));
+        kinds = let k = h.kinds.each id v at in kind_steps.arrives sizes s.words (set s.views id w)
+            (kind_steps.stays sizes s.words s.views h.kinds r.each id v at s.words w (λ i. refl) (knows_no_kind sizes s.words w k.long rests refl)) t
+            record {
+              long = refl;
+              sole = λ i m. absurd (none_moved t i refl m);
+              claimed = λ i m. absurd (none_moved t i refl m);
+              told = λ x a _. k.told x a (λ o. let c : None ≡ Some x.slot = sym free ∙ o in cc);
+            };
       }
 
   -- the first record is of the owner's token, and the others were known
@@ -218,8 +234,8 @@ module _ (γ : ℕ) (sizes : Sizes) where
       let came = records.no_more sizes s.views s.homes r id v at w s.homes
       record {
         owns = λ i g k. ⊎_elim
-            (λ (e : (slot ≡ i) × (value ≡ g)). (let o = is_same i slot e.0 in let l : OwnsAlone w i = omega arith in l, none_moved w i rests))
-            (λ (a : IsIn v.stakes.owns i g). let o = (told.owns i g a).0 in (let l : OwnsAlone w i = omega arith in l, none_moved w i rests))
+            (λ (e : (slot ≡ i) × (value ≡ g)). (let o = is_same i slot e.0 in let l : Owns w i = omega arith in l, none_moved w i rests))
+            (λ (a : IsIn v.stakes.owns i g). let o = (told.owns i g a).0 in (let l : Owns w i = omega arith in l, none_moved w i rests))
             (in_either now v.stakes.owns i g k);
         owned = λ i o still. dite (ℕ_discrete slot i) (λ e. (value, in_head now v.stakes.owns i value e refl))
             (λ ne. let b = told.owned i (let q = is_other i slot ne in omega arith) (none_moved v i rests) in
@@ -252,13 +268,24 @@ module _ (γ : ℕ) (sizes : Sizes) where
             (λ i. let low = h.bank.low id v at i in omega arith) (λ i. omega arith);
         lasts = lasts_fewer sizes s.words vs s.homes (lasts_stay s h id v at w (λ b. (b, refl)) refl (λ live. live)) other t there s.words t' s.homes
             (λ _ _ _ _ l. l) (no_bank t t' refl) refl (λ _ live. inl live) (λ _ _ raw. raw);
+        kinds = let k = h.kinds.each id v at in kind_steps.stays sizes s.words vs
+            (kind_steps.stays sizes s.words s.views h.kinds r.each id v at s.words w (λ i. refl)
+            record {
+              long = k.long;
+              sole = λ i m. absurd (none_moved w i rests m);
+              claimed = λ i m. absurd (none_moved w i rests m);
+              told = λ x a loose. ⊎_elim
+                  (λ (e : now ≡ x). (h.kinds.each other t was).told x (subst (λ (y : ShownValue). HasRecord (now ∷ []) y) e (0, refl))
+                  (λ o. let c : None ≡ Some x.slot = o in cc))
+                  (λ (b : HasRecord v.stakes.owns x). k.told x b loose) (has_first now v.stakes.owns x a);
+            }) came.each other t there s.words t' (λ i. refl) (knows_no_kind sizes s.words t' refl refl refl);
       }
 
   -- the counts of ended places go to a token of their own
   pub parts_counts : (id : ℕ) (v : View) → 0 < over_by v → Splits (DomainInvariant γ sizes) id v (uncounting v) (counts_of v)
   parts_counts id v over s h at = let t : View = counts_of v in let w : View = uncounting v in let c = h.counts in let p = h.kept.parts.slots in record {
     kept = kept.cuts sizes id v v.slots.owns v.slots.drawn [] w.stakes t.stakes (λ i. omega arith)
-        (λ i held. (p.each id v at).held i held) s h.kept at;
+        (λ i held. ((p.each id v at).held i held).0) s h.kept at;
     homes = part.arrives γ sizes s.words (set s.views id w) s.homes
         (part.calm γ sizes s.words s.views s.homes h.homes id v at s.words w (λ i p out. out) (λ i _. refl) (h.homes.moving id v at))
         t (nothing_out t refl refl) (none_out t refl);
@@ -285,6 +312,9 @@ module _ (γ : ℕ) (sizes : Sizes) where
         (λ i. omega arith);
     lasts = lasts_more sizes s.words (set s.views id w) s.homes (lasts_stay s h id v at w (λ b. (b, refl)) refl (λ live. live)) t (λ _. refl)
         (λ z. absurd (omega arith));
+    kinds = kind_steps.arrives sizes s.words (set s.views id w)
+        (kind_steps.same sizes s.words s.views h.kinds h.records.each id v at w refl refl refl refl refl refl s.words (λ i. refl)) t
+        (knows_no_kind sizes s.words t refl refl refl);
   }
 
   -- the bank is founded
@@ -292,7 +322,7 @@ module _ (γ : ℕ) (sizes : Sizes) where
   founds_bank id v may book s h at = let t : View = bank_of v in let w : View = founded v in let told = h.records.each id v at in
       let us : List View = set s.views id w in let p = h.kept.parts.slots in record {
         kept = kept.cuts sizes id v v.slots.owns v.slots.drawn [] w.stakes t.stakes (λ i. omega arith)
-            (λ i held. (p.each id v at).held i held) s h.kept at;
+            (λ i held. ((p.each id v at).held i held).0) s h.kept at;
         homes = part.arrives γ sizes s.words us s.homes
             (part.calm γ sizes s.words s.views s.homes h.homes id v at s.words w (λ i p out. out) (λ i _. refl) (h.homes.moving id v at))
             t (nothing_out t refl refl) (none_out t refl);
@@ -307,6 +337,9 @@ module _ (γ : ℕ) (sizes : Sizes) where
         bank = banks.bank_founded γ sizes s.words s.views h.bank id v at may book;
         lasts = lasts_more sizes s.words us s.homes (lasts_stay s h id v at w (λ b. (b, refl)) refl (λ live. live)) t (λ _. refl)
             (λ z. absurd (omega arith));
+        kinds = kind_steps.arrives sizes s.words us
+            (kind_steps.same sizes s.words s.views h.kinds h.records.each id v at w refl refl refl refl refl refl s.words (λ i. refl)) t
+            (knows_no_kind sizes s.words t refl refl refl);
       }
 
   -- and come to another
@@ -346,6 +379,10 @@ module _ (γ : ℕ) (sizes : Sizes) where
             (h.bank.low id v at) (λ i. omega arith);
         lasts = lasts_fewer sizes s.words vs s.homes (lasts_stay s h id v at w (λ b. (b, refl)) refl (λ live. live)) other t there s.words t' s.homes
             (λ _ _ _ _ l. l) (no_bank t t' refl) refl (λ _ live. inl live) (λ _ _ raw. raw);
+        kinds = kind_steps.stays sizes s.words vs
+            (kind_steps.same sizes s.words s.views h.kinds h.records.each id v at w refl refl refl refl refl refl s.words (λ i. refl))
+            (records.calm sizes s.views s.homes h.records id v at w (refl, refl, refl, (λ _. refl), refl)).each other t there s.words t' (λ i. refl)
+            (knows_no_kind sizes s.words t' refl refl refl);
       }
 
   -- a token counts no more places than there are

@@ -4,6 +4,7 @@ pub mod Counts
 pub mod FilledInvariant
 pub mod BankInvariant
 pub mod LastFractions
+pub mod KindsInvariant
 pub mod DomainInvariant
 pub mod FractionSteps
 pub mod RawSteps

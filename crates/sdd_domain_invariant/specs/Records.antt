@@ -6,7 +6,7 @@ use base.Stored.{Gv}
 use Rattle.sdd_views.specs.declared.ShownValue.{ShownValue}
 use Rattle.sdd_views.specs.declared.View.{View}
 use Rattle.sdd_views.specs.declared.Sizes.{Sizes}
-use Rattle.sdd_word_invariant.specs.Slots.{items_at, OwnsAlone, Sees}
+use Rattle.sdd_word_invariant.specs.Slots.{items_at, Owns, Sees}
 use Rattle.sdd_shared_values.specs.declared.value_fraction.ValueFraction.{ValueFraction}
 use Rattle.sdd_domain_invariant.specs.FractionsAtHome.{FractionsAtHome, LiesAt, Moves}
 
@@ -24,11 +24,11 @@ KnowsShown v i g = IsIn v.stakes.owns i g ⊎ (IsIn v.stakes.sees i g ⊎ IsIn v
 abbrev pub IsKnown : List View → ℕ → Gv → Type 0
 IsKnown vs i g = (j : ℕ) × (v : View) × (get_elem? vs j ≡ some v) × KnowsShown v i g
 
--- it has a record of each slot whose only owner it has, and of each whose item waits with it, but of one whose value it moves; and one for each time
+-- it has a record of each slot of which it has an owner, and of each whose item waits with it, but of one whose value it moves; and one for each time
 -- that it sees a slot; and no others. There are so many slots: of no job's place has it any
 pub record IsTelling (slots : ℕ) (v : View) : Type 0 where
-  pub owns : (i : ℕ) (g : Gv) → IsIn v.stakes.owns i g → OwnsAlone v i × ¬ (Moves v i)
-  pub owned : (i : ℕ) → OwnsAlone v i → ¬ (Moves v i) → (g : Gv) × IsIn v.stakes.owns i g
+  pub owns : (i : ℕ) (g : Gv) → IsIn v.stakes.owns i g → Owns v i × ¬ (Moves v i)
+  pub owned : (i : ℕ) → Owns v i → ¬ (Moves v i) → (g : Gv) × IsIn v.stakes.owns i g
   pub sees : map slot_shown v.stakes.sees ≡ v.slots.sees
   pub waits : (i : ℕ) (g : Gv) → IsIn v.stakes.waits i g → (0 < items_at i v) × ¬ (Moves v i)
   pub waiting : (i : ℕ) → i < slots → 0 < items_at i v → ¬ (Moves v i) → (g : Gv) × IsIn v.stakes.waits i g

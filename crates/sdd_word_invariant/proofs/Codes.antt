@@ -1,12 +1,12 @@
 -- The words as they are written are read as the rule asks.
-use Rattle.std.proofs.Common.{◌≡◌, ◌⊎◌, ℕ, suc, ◌+◌, ◌-◌, ◌*◌, ◌/◌, ◌%◌, ◌^◌, ◌<◌, ◌≤◌, eqb, leb, true, false, refl, ap, ◌∙◌, inl, inr, ⊎_elim, eq-eqb, ne_eqb, arith}
+use Rattle.std.proofs.Common.{◌≡◌, ◌⊎◌, ℕ, suc, ◌+◌, ◌-◌, ◌*◌, ◌/◌, ◌%◌, ◌^◌, ◌<◌, ◌≤◌, Bool, eqb, leb, true, false, refl, ap, ◌∙◌, inl, inr, ⊎_elim, eq-eqb, ne_eqb, arith}
 use mathlib.Core.Logic.{dite}
 use native.Mathlib.Decide.{ℕ_discrete}
 use prog.Atomic.{either}
 use Rattle.std.proofs.lemmas.Bool.{le-leb}
 use Rattle.std.proofs.lemmas.Bool.Decides.{leb_tells}
 use Rattle.sdd_word_invariant.specs.Sums.{is}
-use Rattle.sdd_word_invariant.specs.Codes.{IsWordReading, codes, shared_base, free_word, owned_word, raw_word, waiting_word, private_word, emptied_word, unowned, kind_alive, kind_waiting, kind_full, kind_valued, kind_emptying, emptying, emptying_word, left_word, alive, waiting, full, valued, counted, waits_for, names}
+use Rattle.sdd_word_invariant.specs.Codes.{IsWordReading, codes, shared_base, free_word, owned_word, raw_word, waiting_word, private_word, emptied_word, unowned, kind_alive, kind_waiting, kind_full, kind_valued, kind_emptying, emptying, emptying_word, left_word, alive, waiting, full, valued, counted, waits_for, names, claimed_word, retired_word}
 
 lives : (q : ℕ) → 0 < kind_alive q → (kind_waiting q ≡ 0) × (kind_full q ≡ 1)
 lives q h = dite (ℕ_discrete q 1) (λ e. (ap kind_waiting e, ap kind_full e))
@@ -156,12 +156,33 @@ pub held_is : (alive 3 ≡ 1) × (counted 3 ≡ 0)
 unfolding alive counted
 held_is = (refl, refl)
 
+-- a slot's word once it is claimed, and once its last owner has gone
+pub claimed_is : (shared : Bool) → (alive (claimed_word shared) ≡ 1) × (counted (claimed_word shared) ≡ either shared 1 0)
+unfolding alive counted
+claimed_is true = (refl, refl)
+claimed_is false = (refl, refl)
+
+pub retired_is : (shared : Bool) → (alive (retired_word shared) ≡ 0) × (waiting (retired_word shared) ≡ 1) × (full (retired_word shared) ≡ 1)
+unfolding alive waiting full
+retired_is true = (refl, refl, refl)
+retired_is false = (refl, refl, refl)
+
+-- an uncounted word has one owner at most
+few_of : (q : ℕ) → kind_alive q ≤ 1
+few_of q = dite (ℕ_discrete q 1) (λ e. let a = ap kind_alive e in omega arith)
+    (λ n1. let a = ap (λ (t : _). either t 1 (either (eqb q 3) 1 0)) (ne_eqb q 1 n1) in dite (ℕ_discrete q 3)
+    (λ e. let b = ap kind_alive e in omega arith)
+    (λ n3. let b = ap (λ (t : _). either t 1 0) (ne_eqb q 3 n3) in omega arith))
+
 pub sound : IsWordReading codes
 sound = record {
   lives = λ x h. ⊎_elim (λ (t : (leb shared_base x ≡ true) × (shared_base ≤ x)). let s = shared x t.1 in let s0 = s.0 in
       let l = some_left x (omega arith) in (l.1, l.2))
       (λ (t : (leb shared_base x ≡ false) × (x < shared_base)). let s = kind x (x % 16) t.1 refl in let s0 = s.0 in let q = lives (x % 16) (omega arith) in
       (s.1 ∙ q.0, s.2 ∙ q.1)) (leb_tells shared_base x);
+  few = λ x none. ⊎_elim (λ (t : (leb shared_base x ≡ true) × (shared_base ≤ x)). let c = (shared x t.1).3 in absurd (omega arith))
+      (λ (t : (leb shared_base x ≡ false) × (x < shared_base)). let s = (kind x (x % 16) t.1 refl).0 in let f = few_of (x % 16) in omega arith)
+      (leb_tells shared_base x);
   valued = λ x h. ⊎_elim (λ (t : (leb shared_base x ≡ true) × (shared_base ≤ x)). (shared x t.1).4)
       (λ (t : (leb shared_base x ≡ false) × (x < shared_base)). let s = kind x (x % 16) t.1 refl in let s0 = s.0 in
       s.4 ∙ valued_is (x % 16) (omega arith)) (leb_tells shared_base x);

@@ -50,7 +50,7 @@ blind_units sizes ws vs id u v was p t units = let us : List View = set vs id v 
     subst (Parts sizes ws) (set_twice vs id v w) record {
       epoch = subst (λ (l : List EpochView). EpochInvariant sizes.participants ws l) (sym (same_epochs us id v w at refl)) p.epoch;
       slots = view_step codes sound sizes ws us p.slots id v at w (λ _. refl) (λ _. refl)
-          record { timed = f.timed; guarded = f.guarded; full = f.full; alone = f.alone; held = f.held }
+          record { timed = f.timed; guarded = f.guarded; full = f.full; held = f.held }
           (let x = p.slots.two id id v v at at in record { since = x.since; looked = x.looked })
           (λ j x apart e. let a = p.slots.two id j v x at e in let b = p.slots.two j id x v e at in
           (record { since = a.since; looked = a.looked }, record { since = b.since; looked = b.looked }));
@@ -67,7 +67,7 @@ pub blind_places : (sizes : Sizes) (ws : List ℕ) (vs : List View) (id : ℕ) (
 blind_places sizes ws vs id v at p t = let w : View = record v { places = t } in let f = p.slots.each id v at in record {
   epoch = subst (λ (l : List EpochView). EpochInvariant sizes.participants ws l) (sym (same_epochs vs id v w at refl)) p.epoch;
   slots = view_step codes sound sizes ws vs p.slots id v at w (λ _. refl) (λ _. refl)
-      record { timed = f.timed; guarded = f.guarded; full = f.full; alone = f.alone; held = f.held }
+      record { timed = f.timed; guarded = f.guarded; full = f.full; held = f.held }
       (let x = p.slots.two id id v v at at in record { since = x.since; looked = x.looked })
       (λ j x apart e. let a = p.slots.two id j v x at e in let b = p.slots.two j id x v e at in
       (record { since = a.since; looked = a.looked }, record { since = b.since; looked = b.looked }));

@@ -1,5 +1,5 @@
 -- What each step makes of what the participant knows of slots, and what it tells
-use Rattle.std.specs.Prelude.{◌≡◌, ◌≢◌, ◌⊎◌, ℕ, ◌+◌, ◌*◌, ◌==◌, ◌<◌, ◌≤◌, not, if◌then◌else◌, List, [], ◌∷◌, ◌++◌, map, length, replicate, slice_index, slice_set, Some, None}
+use Rattle.std.specs.Prelude.{◌≡◌, ◌≢◌, ◌⊎◌, ℕ, ◌+◌, ◌*◌, ◌==◌, ◌<◌, ◌≤◌, not, if◌then◌else◌, List, [], ◌∷◌, ◌++◌, map, length, replicate, slice_index, slice_set, Some, None, ◌-◌}
 use Rattle.std.specs.List.{filter}
 use mathlib.Core.Option.{some}
 use lib.ListN.{get_elem?}
@@ -11,6 +11,7 @@ use Rattle.sdd_views.specs.declared.Sizes.{Sizes}
 use Rattle.sdd_word_invariant.specs.Words.{words_behind, most_waiting, state_word, slot_word}
 use Rattle.sdd_word_invariant.specs.Epoch.{HasPlace, IsOpen, IsLone}
 use Rattle.sdd_word_invariant.specs.Slots.{items_at, Sees}
+use Rattle.sdd_word_invariant.specs.Codes.{alive}
 use Rattle.sdd_word_invariant.specs.EpochSteps.{knowing, closed, Publishes}
 
 -- the words behind the places' before anybody takes part
@@ -46,7 +47,7 @@ abbrev pub others : List ℕ → List ℕ
 others [] = []
 others (x ∷ xs) = xs
 
--- the only owner of the first slot goes, to a token of its own, with its unit
+-- the owner of the first slot goes, to a token of its own, with its unit
 abbrev pub parted : View → View
 parted v = record v { slots = record v.slots { owns = others v.slots.owns; drawn = others v.slots.drawn } }
 
@@ -85,6 +86,10 @@ deferred place y count v = record v {
   slots = record v.slots { waits = v.slots.waits ++ retired_now place count ∷ [] };
   words = noted place y v;
 }
+
+-- an owner of it goes, where others stay
+abbrev pub one_less : ℕ → ℕ → View → View
+one_less slot y v = record v { slots = record v.slots { owns = others v.slots.owns }; words = noted slot y v }
 
 -- it is given back
 abbrev pub given_back : ℕ → ℕ → View → View
@@ -154,8 +159,8 @@ Regains slot old y v x w = (x ≡ old → w ≡ claimed slot y v) × (x ≢ old 
 abbrev pub SeesRaw : ℕ → ℕ → View → ℕ → View → Type 0
 SeesRaw slot old v x w = (x ≡ old → ¬ (Sees v slot) → w ≡ seeing slot v) × ((x ≢ old) ⊎ Sees v slot → w ≡ v) × Knew slot v x
 
--- an owned item waits from the count of this moment on, which is known after it: under an open guard the one at the publish, or one more.
--- Less than may wait did so before
+-- the item of a slot whose last owner goes waits from the count of this moment on, which is known after it: under an open guard the one at the publish,
+-- or one more. Less than may wait did so before
 abbrev pub Retires : ℕ → View → ℕ → View → Type 0
 Retires slot v y w = (count : ℕ) × (v.epoch.known ≤ count) × (IsLone v.epoch → count ≡ v.epoch.known) × (w ≡ retired slot y count v)
     × (IsOpen v.epoch → count ≤ v.epoch.since + 1) × (length v.slots.waits < most_waiting v.sizes)
@@ -169,6 +174,10 @@ DefersAt place y v w = (count : ℕ) × (v.epoch.known ≤ count) × (IsLone v.e
 -- a job's place, whose word is old as long as it is free, is claimed for a job, which waits there at once
 abbrev pub Defers : ℕ → ℕ → ℕ → View → ℕ → View → Type 0
 Defers place old y v x w = (x ≡ old → DefersAt place y v w) × (x ≢ old → w ≡ v) × Knew place v x
+
+-- an owner that is counted goes, by one subtraction: where one was counted it was the last, and the item waits
+abbrev pub Releases : ℕ → View → ℕ → View → Type 0
+Releases slot v x w = (0 < alive x) × (alive x ≡ 1 → Retires slot v (x - 1) w) × (alive x ≢ 1 → w ≡ one_less slot (x - 1) v) × Knew slot v x
 
 -- the slot is free, in which one item waited
 abbrev pub GivesBack : ℕ → View → ℕ → View → Type 0

@@ -3,7 +3,7 @@ ghost use Rattle.std.specs.Prelude.{◌≡◌, ◌<◌, Bool, List, [], ◌∷�
 ghost use base.Stored.{Gv};
 ghost use Rattle.sdd_word_invariant.specs.Codes.{owned_word, raw_word};
 ghost use Rattle.sdd_word_invariant.specs.Epoch.{HasPlace, IsOpen};
-ghost use Rattle.sdd_word_invariant.specs.Slots.{OwnsAlone, Holds};
+ghost use Rattle.sdd_word_invariant.specs.Slots.{Holds};
 ghost use Rattle.sdd_domain_invariant.specs.FilledInvariant.{HasRecord};
 ghost use Rattle.sdd_domain_invariant.specs.RawSteps.{TurnsRawOne, RegainsOne, SeesRawOne, DrawsUnit};
 ghost use Rattle.sdd_atomics.specs.DomainTable.{id_of, places_of, slots_of};
@@ -77,7 +77,8 @@ pub fn draw_unit(board: &DomainTable, token: &mut DomainSeat, slot: u32) -> Valu
     requires knows { Knows board.now token.old }
     requires inside { slot < slots_of board.now }
     requires place { HasPlace (epoch token.old) }
-    requires own { OwnsAlone (view token.old) slot × ((slots token.old).drawn ≡ []) }
+    requires own { ((value : Gv) × HasRecord (view token.old).stakes.owns (record { slot = slot; shared = false; value = value }))
+        × ¬ (Holds (view token.old) slot) × ((slots token.old).drawn ≡ []) }
     requires rests { (view token.old).stakes.moves ≡ None }
     ensures { MovedAlone (λ me. DrawsUnit slot me result.lot) token.old token.new }
 {
