@@ -6,6 +6,7 @@ use Rattle.std.proofs.lemmas.List.Sums.{sum_by-set, sum_by-cons}
 use Rattle.std.proofs.lemmas.List.Elements.{All-contains}
 use Rattle.std.proofs.lemmas.Bool.Decides.{nat_tests}
 use Rattle.sdd_participants.specs.Waiting.{Waiting, having_seen, aged, left, due, older, is_due}
+use Rattle.sdd_participants.specs.declared.waiting.LimboEntry.{LimboEntry}
 use Rattle.sdd_participants.specs.declared.waiting.LimboEntry.TheVariants.{Item}
 use Rattle.sdd_participants.specs.EpochState.{EpochState, with_place, nobody, due_next, is_open}
 use Rattle.sdd_participants.specs.EpochState as time
@@ -17,6 +18,7 @@ use Rattle.sdd_space.specs.OwnerOrCell.{OwnerOrCell}
 use Rattle.sdd_space.specs.ParticipantChanges.{all_awaiting, opened_at}
 use Rattle.sdd_space.specs.WorldInvariant.{is_of_slot, times_with, once_if, IsWhole}
 use Rattle.sdd_space.specs.ReclaimBound.{Waits}
+use Rattle.sdd_space.specs.WorkingGuards.{WaitsWith}
 use Rattle.sdd_space.proofs.Own.{opens}
 use Rattle.sdd_space.proofs.Whole.{below-or-past, count-cons, times_among, times_listed, times-aged}
 use Rattle.sdd_space.proofs.Opening.{Nests, IsChange, all_awaiting-waiting}
@@ -52,22 +54,43 @@ left-cons : (w : Waiting) (ws : List Waiting) (y : Waiting) (b : Bool) → is_du
 left-cons w ws y true e h = rw e h
 left-cons w ws y false e h = rw e (listed-later (older w) (left (aged ws)) y h)
 
-left-here : (k seen : ℕ) (w : Waiting) (ws : List Waiting) → seen < 2 → w ≡ having_seen seen (Item k) →
-    Contains (left (aged (w ∷ ws))) (having_seen (seen + 1) (Item k))
-left-here k seen w ws young e =
+left-here : (what : LimboEntry) (seen : ℕ) (w : Waiting) (ws : List Waiting) → seen < 2 → w ≡ having_seen seen what →
+    Contains (left (aged (w ∷ ws))) (having_seen (seen + 1) what)
+left-here what seen w ws young e =
     let fits : is_due (older w) ≡ false = rw e (grind (arith, nat_tests)) in
     rw fits (zero, omega arith, ap (λ (x : Waiting). older x) e)
 
-left-or : (k seen : ℕ) (w : Waiting) (ws : List Waiting) → seen < 2 → (w ≡ having_seen seen (Item k)) ⊎ Contains ws (having_seen seen (Item k)) →
-    (Contains ws (having_seen seen (Item k)) → Contains (left (aged ws)) (having_seen (seen + 1) (Item k))) →
-    Contains (left (aged (w ∷ ws))) (having_seen (seen + 1) (Item k))
-left-or k seen w ws young (inl e) on = left-here k seen w ws young e
-left-or k seen w ws young (inr h) on = left-cons w ws (having_seen (seen + 1) (Item k)) (is_due (older w)) refl (on h)
+left-or : (what : LimboEntry) (seen : ℕ) (w : Waiting) (ws : List Waiting) → seen < 2 → (w ≡ having_seen seen what) ⊎ Contains ws (having_seen seen what) →
+    (Contains ws (having_seen seen what) → Contains (left (aged ws)) (having_seen (seen + 1) what)) →
+    Contains (left (aged (w ∷ ws))) (having_seen (seen + 1) what)
+left-or what seen w ws young (inl e) on = left-here what seen w ws young e
+left-or what seen w ws young (inr h) on = left-cons w ws (having_seen (seen + 1) what) (is_due (older w)) refl (on h)
+
+older-left : (what : LimboEntry) (seen : ℕ) (ws : List Waiting) → seen < 2 → Contains ws (having_seen seen what) →
+    Contains (left (aged ws)) (having_seen (seen + 1) what)
+older-left what seen [] young h = absurd (omega (arith, h.1))
+older-left what seen (w ∷ ws) young h = left-or what seen w ws young (listed-cases w ws (having_seen seen what) h) (λ g. older-left what seen ws young g)
 
 pub entry-older : (k seen : ℕ) (ws : List Waiting) → seen < 2 → Contains ws (having_seen seen (Item k)) →
     Contains (left (aged ws)) (having_seen (seen + 1) (Item k))
-entry-older k seen [] young h = absurd (omega (arith, h.1))
-entry-older k seen (w ∷ ws) young h = left-or k seen w ws young (listed-cases w ws (having_seen seen (Item k)) h) (λ g. entry-older k seen ws young g)
+entry-older k seen ws young h = older-left (Item k) seen ws young h
+
+-- what has seen two changes is due at the next one
+ripe-cons : (what : LimboEntry) (w : Waiting) (ws : List Waiting) → (w ≡ having_seen 2 what) ⊎ Contains (due (aged ws)) what → (b : Bool) →
+    is_due (older w) ≡ b → Contains (due (aged (w ∷ ws))) what
+ripe-cons what w ws (inl e) true is = rw is (zero, omega arith, ap (λ (x : Waiting). x.what) e)
+ripe-cons what w ws (inl e) false is = let ripe : is_due (older w) ≡ true = rw e refl in absurd (let never : false ≡ true = sym is ∙ ripe in cc)
+ripe-cons what w ws (inr h) true is = rw is (listed-later w.what (due (aged ws)) what h)
+ripe-cons what w ws (inr h) false is = rw is h
+
+ripe-or : (what : LimboEntry) (w : Waiting) (ws : List Waiting) → (w ≡ having_seen 2 what) ⊎ Contains ws (having_seen 2 what) →
+    (Contains ws (having_seen 2 what) → Contains (due (aged ws)) what) → Contains (due (aged (w ∷ ws))) what
+ripe-or what w ws (inl e) on = ripe-cons what w ws (inl e) (is_due (older w)) refl
+ripe-or what w ws (inr h) on = ripe-cons what w ws (inr (on h)) (is_due (older w)) refl
+
+pub ripe-due : (what : LimboEntry) (ws : List Waiting) → Contains ws (having_seen 2 what) → Contains (due (aged ws)) what
+ripe-due what [] h = absurd (omega (arith, h.1))
+ripe-due what (w ∷ ws) h = ripe-or what w ws (listed-cases w ws (having_seen 2 what) h) (λ g. ripe-due what ws g)
 
 due-cons : (k : ℕ) (w : Waiting) (ws : List Waiting) (b : Bool) → is_due (older w) ≡ b → 1 ≤ times_among k (due (aged ws)) →
     1 ≤ times_among k (due (aged (w ∷ ws)))
@@ -120,27 +143,34 @@ opens-changed count slots x shut another = rw (shut, another) refl
 pub differs : (m n : ℕ) → m ≢ n → (m == n) ≡ false
 differs m n apart = grind (arith, nat_tests)
 
-module _ {T : Type 0} (w : World T) (q k seen : ℕ) where
-  place-or : Waits w q k seen → (q < length w.time.places) ⊎ (length w.time.places ≤ q) → q < length w.time.places
+module _ {T : Type 0} (w : World T) (q : ℕ) (what : LimboEntry) (seen : ℕ) where
+  place-or : WaitsWith w q what seen → (q < length w.time.places) ⊎ (length w.time.places ≤ q) → q < length w.time.places
   place-or h (inl l) = l
   place-or h (inr past) =
       let nothing : (place_at w q).bags.waiting ≡ [] = ap (λ (x : Participant). x.bags.waiting) (get_or_past w.time.places q nobody past) in
-      let none : 1 ≤ 0 = subst (λ (ws : List Waiting). 1 ≤ times_listed k ws) nothing (entry-counts k seen (place_at w q).bags.waiting h) in
-      absurd (omega (arith, none))
+      let none : Contains [] (having_seen seen what) = subst (λ (ws : List Waiting). Contains ws (having_seen seen what)) nothing h in
+      absurd (omega (arith, none.1))
 
+  -- who has something waiting is a participant
+  pub waiting-place : WaitsWith w q what seen → q < length w.time.places
+  waiting-place h = place-or h (below-or-past q (length w.time.places))
+
+  pub waiting-young : IsWhole w → WaitsWith w q what seen → seen ≤ 2
+  waiting-young i h = All-contains (λ (w : Waiting). w.seen ≤ 2) (place_at w q).bags.waiting (having_seen seen what) (i.abreast q).young h
+
+module _ {T : Type 0} (w : World T) (q k seen : ℕ) where
   pub waits-counts : Waits w q k seen → 1 ≤ times_with k (place_at w q)
   waits-counts h = entry-counts k seen (place_at w q).bags.waiting h
 
-  -- who has something waiting is a participant
   pub waits-place : Waits w q k seen → q < length w.time.places
-  waits-place h = place-or h (below-or-past q (length w.time.places))
+  waits-place h = waiting-place w q (Item k) seen h
 
   -- the slot of an entry waits
   pub waits-standing : IsWhole w → Waits w q k seen → is_waiting (standing_at w k) ≡ true
   waits-standing i h = once-waits (is_waiting (standing_at w k)) (omega (arith, i.once k, waits-counts h, one-place k w.time.places q))
 
   pub waits-young : IsWhole w → Waits w q k seen → seen ≤ 2
-  waits-young i h = All-contains (λ (w : Waiting). w.seen ≤ 2) (place_at w q).bags.waiting (having_seen seen (Item k)) (i.abreast q).young h
+  waits-young i h = waiting-young w q (Item k) seen i h
 
   -- what another participant has due is not this
   pub other-due : IsWhole w → Waits w q k seen → (p : ℕ) → p ≢ q → times_among k (due_next (place_at w p)) ≡ 0
@@ -155,20 +185,27 @@ module _ {T : Type 0} (w : World T) (q k seen : ℕ) where
       let still = entry-counts k (seen + 1) (left (aged ws)) (entry-older k seen ws young h) in
       omega (arith, still, i.once k, once-bound (is_waiting (standing_at w k)), times-aged k ws, one-place k w.time.places q)
 
-module _ {T : Type 0} (holds : T → List OwnerOrCell) (w : World T) (p k seen : ℕ) where
+module _ {T : Type 0} (holds : T → List OwnerOrCell) (w : World T) (p : ℕ) (what : LimboEntry) (seen : ℕ) where
   -- the caller's own entries, after its opening
-  pub nests-waits : p < length w.time.places → Nests holds w p → Waits w p k seen → Waits (opened holds w p) p k seen
-  nests-waits l n h =
+  pub nests-waiting : p < length w.time.places → Nests holds w p → WaitsWith w p what seen → WaitsWith (opened holds w p) p what seen
+  nests-waiting l n h =
       let here : place_at (opened holds w p) p ≡ time.nested (place_at w p) =
       ap (λ (u : World T). place_at u p) n.nests ∙ get_or-set_same w.time.places p (time.nested (place_at w p)) nobody l in
-      subst (λ (x : Participant). Contains x.bags.waiting (having_seen seen (Item k))) (sym here) h
+      subst (λ (x : Participant). Contains x.bags.waiting (having_seen seen what)) (sym here) h
 
-  pub change-waits : p < length w.time.places → IsChange holds w p → seen < 2 → Waits w p k seen → Waits (opened holds w p) p k (seen + 1)
-  change-waits l c young h =
+  pub change-waiting : p < length w.time.places → IsChange holds w p → seen < 2 → WaitsWith w p what seen → WaitsWith (opened holds w p) p what (seen + 1)
+  change-waiting l c young h =
       let o = opens holds w p l (is_open (place_at w p)) refl in
-      let y : Waiting = having_seen (seen + 1) (Item k) in
+      let y : Waiting = having_seen (seen + 1) what in
       let test : ((place_at w p).found == w.time.count) ≡ false = differs (place_at w p).found w.time.count c.another in
       let own : place_at (opened holds w p) p ≡ time.settled (all_awaiting o.slots (time.rotated w.time.count (time.nested (place_at w p)))) =
       o.own ∙ opens-changed w.time.count o.slots (place_at w p) c.closed_before test in
       subst (λ (x : Participant). Contains x.bags.waiting y) (sym own)
-      (all_awaiting-waiting o.slots (time.rotated w.time.count (time.nested (place_at w p))) y (entry-older k seen (place_at w p).bags.waiting young h))
+      (all_awaiting-waiting o.slots (time.rotated w.time.count (time.nested (place_at w p))) y (older-left what seen (place_at w p).bags.waiting young h))
+
+module _ {T : Type 0} (holds : T → List OwnerOrCell) (w : World T) (p k seen : ℕ) where
+  pub nests-waits : p < length w.time.places → Nests holds w p → Waits w p k seen → Waits (opened holds w p) p k seen
+  nests-waits l n h = nests-waiting holds w p (Item k) seen l n h
+
+  pub change-waits : p < length w.time.places → IsChange holds w p → seen < 2 → Waits w p k seen → Waits (opened holds w p) p k (seen + 1)
+  change-waits l c young h = change-waiting holds w p (Item k) seen l c young h

@@ -64,13 +64,13 @@ passes-same : (count : ℕ) (x y : Participant) → y.found ≡ x.found → y.gu
 passes-same count x y f g = rw (f, g) refl
 
 -- the phases are as before, and so the place is live
-live-of : (t u : EpochState) (p : ℕ) → u.phases ≡ t.phases → p < length u.places → IsLive t p → IsLive u p
+pub live-of : (t u : EpochState) (p : ℕ) → u.phases ≡ t.phases → p < length u.places → IsLive t p → IsLive u p
 live-of t u p e there l = (there, subst (λ (xs : Entries PlaceState). IsTrue (slice_index_or (map is_live xs) p false)) (sym e) l.1)
 
 -- an outermost opening, as p has it
-record IsAlone (count : ℕ) (x : Participant) : Type 0 where
-  guards : x.guards ≡ 1
-  found : x.found ≡ count
+pub record IsAlone (count : ℕ) (x : Participant) : Type 0 where
+  pub guards : x.guards ≡ 1
+  pub found : x.found ≡ count
 
 alone-opened : (count : ℕ) (slots : List ℕ) (x : Participant) → is_open x ≡ false → (b : Bool) → (x.found == count) ≡ b →
     IsAlone count (opened_at count slots x)
@@ -96,7 +96,7 @@ module _ {T : Type 0} (holds : T → List OwnerOrCell) where
     pub count : (accelerated_guard holds w p).time.count ≡ w.time.count + 1
     pub found : (place_at (accelerated_guard holds w p) p).found ≡ w.time.count
 
-  opened-alone : (w : World T) (p : ℕ) → p < length w.time.places → AllClosed w → IsAlone w.time.count (place_at (opened holds w p) p)
+  pub opened-alone : (w : World T) (p : ℕ) → p < length w.time.places → AllClosed w → IsAlone w.time.count (place_at (opened holds w p) p)
   opened-alone w p l shut =
       let o = opens holds w p l (is_open (place_at w p)) refl in
       let a = alone-opened w.time.count o.slots (place_at w p) (shut p) ((place_at w p).found == w.time.count) refl in
@@ -139,14 +139,14 @@ module _ {T : Type 0} (holds : T → List OwnerOrCell) where
   ready-place w p l shut =
       omega (arith, opened-place w p l shut, length-set (opened holds w p).time.places p (time.accelerated (place_at (opened holds w p) p)))
 
-  phases-opened : (w : World T) (p : ℕ) → p < length w.time.places → Nests holds w p ⊎ IsChange holds w p →
+  pub phases-opened : (w : World T) (p : ℕ) → p < length w.time.places → Nests holds w p ⊎ IsChange holds w p →
       (opened holds w p).time.phases ≡ w.time.phases
   phases-opened w p l (inl n) = ap (λ (u : World T). u.time.phases) n.nests
   phases-opened w p l (inr c) =
       let g = Gives-all_reclaimed holds (steps.rotated (steps.nested w p) p) p (due_next (place_at (steps.nested w p) p)) (in_before holds w p l) in
       ap (λ (u : World T). u.time.phases) c.change ∙ ap (λ (t : EpochState). t.phases) g.time
 
-  opened-live : (w : World T) (p : ℕ) → IsPlaceOf w p → AllClosed w → IsPlaceOf (opened holds w p) p
+  pub opened-live : (w : World T) (p : ℕ) → IsPlaceOf w p → AllClosed w → IsPlaceOf (opened holds w p) p
   opened-live w p l shut = live-of w.time (opened holds w p).time p (phases-opened w p l.0 (how holds w p l.0)) (opened-place w p l.0 shut) l
 
   pub ready-live : (w : World T) (p : ℕ) → IsPlaceOf w p → AllClosed w → IsPlaceOf (ready w p) p

@@ -267,7 +267,7 @@ module _ {T : Type 0} where
         once-true (is_some (job_at w j))
         (omega (arith, due, i j, listed-aged (is_of_job j) (place_at w p).bags.waiting, get_or-le-sum_by (jobs_with j) w.time.places p nobody l))
 
-    opened-ran : (w : World T) (p j : ℕ) → p < length w.time.places → JobsOnce w → Contains (reclaims w p) (Job j) → Nests holds w p ⊎ IsChange holds w p →
+    pub opened-ran : (w : World T) (p j : ℕ) → p < length w.time.places → JobsOnce w → Contains (reclaims w p) (Job j) → Nests holds w p ⊎ IsChange holds w p →
         IsSome (job_at w j) × (job_at (steps.opened holds w p) j ≡ None)
     opened-ran w p j l i among (inl n) =
         let none : Contains [] (Job j) = subst (λ (xs : List LimboEntry). Contains xs (Job j)) n.none among in absurd (omega (arith, none.1))

@@ -25,7 +25,7 @@ use Rattle.sdd_space.specs.WorldChanges.{held_in, with_cell, with_value}
 use Rattle.sdd_space.specs.WorldInvariant.{IsWhole, once_if}
 use Rattle.sdd_space.specs.World.{World, IsBlank, standing_at, value_at}
 use Rattle.sdd_space.proofs.Accounts.{none-filled, filled-inside, blank-at, blank-sum, fewer, cell-inner, sum-out, accounted-out, accounted-blank, accounted-owner_given, accounted-with_cell, accounted-without_cell, accounted-cell_closed, accounted-all_reclaimed, accounted-opened, accounted-dropped, accounted-with_value, accounted-made_as, accounted-shared, accounted-put_out_raw, accounted-taken_back_raw}
-use Rattle.sdd_space.proofs.Left.{Whole-called}
+use Rattle.sdd_space.proofs.Waning.{Whole-called}
 use Rattle.sdd_space.proofs.Rights.{AreHeld, once-where, there-inside, held-as, held-cell_made, held-cell_changed, held-cell_spent, held-owner_given, held-cell_closed, held-dropped_out, held-all_reclaimed, held-opened, held-with_value}
 use Rattle.sdd_space.proofs.Sheds.{Sheds, sheds-same, sheds-cell, sheds-owner_given, sheds-cell_closed, sheds-dropped, sheds-opened, sheds-collector_closed, sheds-inside}
 use Rattle.sdd_space.proofs.Standings.{out-some, alone-out, out-inside}

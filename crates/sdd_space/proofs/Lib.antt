@@ -15,8 +15,10 @@ pub mod Under
 pub mod Safe
 pub mod Four
 pub mod Out
+pub mod Waning
 pub mod Left
 pub mod Passing
+pub mod Working
 pub mod Nesting
 pub mod InPlace
 pub mod SameOwner

@@ -52,7 +52,7 @@ module _ {T : Type 0} (holds : T → List OwnerOrCell) (p made in_place : ℕ) w
       (ap (λ (u : World T). u.tally.made) c.change ∙ end.0, ap (λ (u : World T). u.tally.in_place) c.change ∙ end.1)
 
 module _ {T : Type 0} (holds : T → List OwnerOrCell) where
-  nesting-opened : (w : World T) (p : ℕ) → p < length w.time.places → Nests holds w p ⊎ IsChange holds w p → (opened holds w p).time.nesting ≡ w.time.nesting
+  pub nesting-opened : (w : World T) (p : ℕ) → p < length w.time.places → Nests holds w p ⊎ IsChange holds w p → (opened holds w p).time.nesting ≡ w.time.nesting
   nesting-opened w p l (inl n) = ap (λ (u : World T). u.time.nesting) n.nests
   nesting-opened w p l (inr c) =
       let g = Gives-all_reclaimed holds (steps.rotated (steps.nested w p) p) p (due_next (place_at (steps.nested w p) p)) (in_before holds w p l) in

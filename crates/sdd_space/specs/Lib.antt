@@ -21,6 +21,7 @@ pub mod Collector
 pub mod ReclaimBound
 pub mod Adopting
 pub mod UnderGuards
+pub mod WorkingGuards
 pub mod AcceleratedGuards
 pub mod OwnerCounts
 pub mod Ledger

@@ -4,6 +4,7 @@ ghost use Rattle.sdd_space.specs.WorldInvariant.{IsWhole};
 ghost use Rattle.sdd_space.specs.ReclaimBound.{FourGuardsReclaim, GoesAtLatest, GoesInTime};
 ghost use Rattle.sdd_space.specs.Ledger.{LedgerLaws};
 ghost use Rattle.sdd_space.specs.AcceleratedGuards.{GuardsPass};
+ghost use Rattle.sdd_space.specs.WorkingGuards.{BusyGuardsCount, WorkJoins, WorkingGuardsPass, WorkingGuardsReclaim};
 ghost use Rattle.sdd_space.specs.UnderGuards.{KeepsFreshUnderGuards, KeepsUnderGuards};
 ghost use Rattle.sdd_space.specs.World.{World, AnyGuardOpen, IsPlaceOf};
 ghost use Rattle.sdd_domain.specs.Local.{world_of};
@@ -42,6 +43,17 @@ impl<T: Item<T>> Local<'_, T> {
     /// Four accelerated guards, one after another, reclaim all that waits, where no guard is open.
     pub fn four_guards_reclaim(&self)
         ensures { IsLone self.now.member → FourGuardsReclaim T.holds (world_of self.now) }
+    {
+        self.is_whole();
+    }
+
+    /// What is called under guards doesn't hinder them: four, one after another, each accelerated last and closed where no other is open, see all gone that
+    /// waited before.
+    pub fn working_guards_reclaim(&self)
+        ensures reclaimed { IsLone self.now.member → WorkingGuardsReclaim T.holds (world_of self.now) }
+        ensures passed { WorkingGuardsPass T.holds (world_of self.now) }
+        ensures counted { IsLone self.now.member → BusyGuardsCount T.holds (world_of self.now) }
+        ensures joined { WorkJoins T.holds }
     {
         self.is_whole();
     }

@@ -8,6 +8,7 @@ ghost use Rattle.sdd_space.specs.AcceleratedGuards.{GuardsPass, ItemsPass};
 ghost use Rattle.sdd_space.specs.Collecting.{CollectedEnds};
 ghost use Rattle.sdd_space.specs.Adopting.{AdoptsWhatIsLeft};
 ghost use Rattle.sdd_space.specs.Ledger.{LedgerLaws};
+ghost use Rattle.sdd_space.specs.WorkingGuards.{BusyGuardsCount, WorkJoins, WorkingGuardsPass, WorkingGuardsReclaim};
 ghost use Rattle.sdd_space.specs.UnderGuards.{KeepsCollectedUnderGuards, KeepsFreshUnderGuards, KeepsUnderGuards};
 
 use super::World;
@@ -63,6 +64,17 @@ impl<T: Item<T>, J: Job> World<T, J> {
     /// Four accelerated guards of a participant, one after another, reclaim all that waits with it, where no other guard is open.
     pub fn four_guards_reclaim(&self)
         ensures { FourGuardsReclaim T.holds self.now }
+    {
+        self.is_whole();
+    }
+
+    /// What is retired, loaded, swapped or deferred under guards doesn't hinder them, and no more do calls of others that leave no guard open: four of a
+    /// participant, one after another, each accelerated last and closed where no other is open, see all gone that waited with it before, items and jobs.
+    pub fn working_guards_reclaim(&self)
+        ensures reclaimed { WorkingGuardsReclaim T.holds self.now }
+        ensures passed { WorkingGuardsPass T.holds self.now }
+        ensures counted { BusyGuardsCount T.holds self.now }
+        ensures joined { WorkJoins T.holds }
     {
         self.is_whole();
     }

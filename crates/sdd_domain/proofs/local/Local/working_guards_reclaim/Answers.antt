@@ -1,0 +1,11 @@
+use Rattle.sdd_space.proofs.Working.{working-guards-reclaim, working-guards-pass, busy-guards-count, work-joins}
+use Rattle.sdd_domain.specs.Local.{world_of}
+use Rattle.sdd_domain.proofs.local.Local.working_guards_reclaim.Goals as goal
+
+pub returns : goal.returns
+returns g c = let h = g.T.Item.holds in let w = world_of c.args.self.now in record {
+  reclaimed = λ one. working-guards-reclaim h w (c.is_whole.ensures.whole one);
+  passed = working-guards-pass h w;
+  counted = λ one. busy-guards-count h w (c.is_whole.ensures.whole one);
+  joined = work-joins h;
+}
