@@ -184,6 +184,7 @@ impl Right {
     /// blank ones else.
     pub fn into_owner(self) -> (Witness, ReadFraction)
         ensures views { result.0.views ≡ views_of self }
+        ensures inside { number_of self < (home_of self).size }
         ensures owner { AreSlotsOfTable (home_of self) → IsOwnerBy (home_of self) (number_of self) (is_shared (kind_of self)) result.0 result.1 }
         ensures cell { AreCellsOfTable (home_of self) → IsCellBy (home_of self) (number_of self) (cell_kind (is_shared (kind_of self))) result.0 }
     {
@@ -199,6 +200,7 @@ impl Right {
     /// The token of the owner of the slot, or of the right to the cell, in a domain; a blank one else.
     pub fn witness(&self) -> &Witness
         ensures views { result.now.views ≡ views_of self.now }
+        ensures inside { number_of self.now < (home_of self.now).size }
         ensures owner { AreSlotsOfTable (home_of self.now) → (grip : ReadFraction)
             × IsOwnerBy (home_of self.now) (number_of self.now) (is_shared (kind_of self.now)) result.now grip }
         ensures cell { AreCellsOfTable (home_of self.now) →
@@ -209,6 +211,7 @@ impl Right {
 
     /// The unit of the number of the slot's place, in a domain; a blank one else.
     pub fn grip(&self) -> &ReadFraction
+        ensures inside { number_of self.now < (home_of self.now).size }
         ensures owner { AreSlotsOfTable (home_of self.now) → (witness : Witness) × (witness.views ≡ views_of self.now)
             × IsOwnerBy (home_of self.now) (number_of self.now) (is_shared (kind_of self.now)) witness result.now }
     {
