@@ -12,6 +12,7 @@ use Rattle.sdd_participants.specs.Waiting.{Waiting, fresh}
 use Rattle.sdd_participants.specs.EpochState.{stirred, awaiting, nested}
 use Rattle.sdd_shared_values.specs.declared.value_fraction.ValueFraction.{ValueFraction}
 use Rattle.sdd_views.specs.declared.EpochView.{EpochView}
+use Rattle.sdd_views.specs.declared.CountsView.{CountsView}
 use Rattle.sdd_views.specs.declared.ShownValue.{ShownValue}
 use Rattle.sdd_views.specs.declared.FractionsView.{FractionsView}
 use Rattle.sdd_views.specs.declared.WaitingItem.{WaitingItem}
@@ -340,3 +341,33 @@ module _ (b : DomainTable) (p : ℕ) where
             (ap (λ (x : Seat ValueFraction View). x.me.0) is ∙ seen.view) seen.told seen.once still.0,
         still.1,
       )
+
+  -- what it filled and counts, and the words that it knows, are others
+  pub posed_with : (own : Participant) (s u : Seat ValueFraction View) (filled : List ShownValue) (counts : CountsView) (words : List ℕ) → IsBetweenCalls b p own s
+      → u.table_id ≡ s.table_id → u.me.1 ≡ s.me.1
+      → view u ≡ record (view s) { stakes = record (view s).stakes { filled = filled; counts = counts }; words = words } → IsBetweenCalls b p own u
+  posed_with own s u filled counts words q table others is =
+      subst (λ (w : View). IsBetweenCalls b p own (record u { me = (w, u.me.1) })) (sym is) record {
+        home = table ∙ q.home;
+        purse = subst (λ (xs : CarriedFractions). CarriesSeenOnly (book_of b) (places_of b) p s.me.0.stakes.sees xs) (sym others) q.purse;
+        sight = record { owns = q.sight.owns; sees = q.sight.sees; once = q.sight.once };
+        unseen = q.unseen;
+        rests = q.rests;
+        all = q.all;
+        place = q.place;
+        inside = q.inside;
+        count = q.count;
+        closed = q.closed;
+        opened = q.opened;
+        near = q.near;
+        lone = q.lone;
+        free = q.free;
+        knows = q.knows;
+        found = q.found;
+        quiet = record { owns = q.quiet.owns; drawn = q.quiet.drawn; holds = q.quiet.holds; looked = q.quiet.looked };
+        waiting = q.waiting;
+        bags = q.bags;
+        room = q.room;
+        pace = q.pace;
+        idle = q.idle;
+      }

@@ -2,7 +2,7 @@ use Rattle.std.specs.Prelude.{Bool}
 use Rattle.std.proofs.Common.{◌≡◌, ℕ, ◌<◌, arith, rules, refl, sym, ap, ◌∙◌, subst}
 use base.Stored.{Gv}
 use Rattle.sdd_rights.specs.Owner.{witness_of_owner}
-use Rattle.sdd_rights.specs.Right.{number_of, kind_of, grip_of}
+use Rattle.sdd_rights.specs.Right.{number_of, kind_of}
 use Rattle.sdd_rights.specs.StandingKind.{is_shared}
 use Rattle.sdd_domain_invariant.specs.FractionSteps.{SeesOwned}
 use Rattle.sdd_atomics.specs.DomainSeat.{MovedAlone}
@@ -31,8 +31,8 @@ use Rattle.sdd_domain.proofs.local_core.LocalCore.get_guarded.Goals as goal
 pub show-requires-clause-stake : goal.show-requires-clause-stake
 show-requires-clause-stake g c = let l = c.self.inside in let b = l.domain.now.board in let t : ℕ = c.tenure_of-tenure.result.now.round in
     let inv = c.self.invariant in let slot : ℕ = number_of c.args.right.now in
-    let own = c.witness-owner.ensures.owner (has_tables c.args.self.now c.args.right.now c.requires.home) in
-    let shared : Bool = is_shared (kind_of c.args.right.now) in let shown : Gv = (grip_of c.args.right.now).shown in
+    let own = (c.witness-owner.ensures.owner (has_tables c.args.self.now c.args.right.now c.requires.home)).1 in
+    let shared : Bool = is_shared (kind_of c.args.right.now) in let shown : Gv = (c.witness-owner.ensures.owner (has_tables c.args.self.now c.args.right.now c.requires.home)).0.shown in
     let recalled = c.recall.ensures slot shared shown own.owner in
     let watch = subst (λ (x : Seat ValueFraction View). MovedAlone (SeesOwned slot shared shown) x c.watch.new.token)
     (same_recalled b l.place slot shared shown l.token c.recall.new.token recalled) (c.watch.ensures slot shared shown own.owner) in
@@ -45,8 +45,8 @@ show-requires-clause-stake g c = let l = c.self.inside in let b = l.domain.now.b
 pub invariant_of-self : goal.invariant_of-self
 invariant_of-self g c = let l = c.self.inside in let b = l.domain.now.board in let t : ℕ = c.tenure_of-tenure.result.now.round in
     let inv = c.self.invariant in let slot : ℕ = number_of c.args.right.now in
-    let own = c.witness-owner.ensures.owner (has_tables c.args.self.now c.args.right.now c.requires.home) in
-    let shared : Bool = is_shared (kind_of c.args.right.now) in let shown : Gv = (grip_of c.args.right.now).shown in
+    let own = (c.witness-owner.ensures.owner (has_tables c.args.self.now c.args.right.now c.requires.home)).1 in
+    let shared : Bool = is_shared (kind_of c.args.right.now) in let shown : Gv = (c.witness-owner.ensures.owner (has_tables c.args.self.now c.args.right.now c.requires.home)).0.shown in
     let recalled = c.recall.ensures slot shared shown own.owner in
     let watch = subst (λ (x : Seat ValueFraction View). MovedAlone (SeesOwned slot shared shown) x c.watch.new.token)
     (same_recalled b l.place slot shared shown l.token c.recall.new.token recalled) (c.watch.ensures slot shared shown own.owner) in
@@ -68,8 +68,8 @@ invariant_of-self g c = let l = c.self.inside in let b = l.domain.now.board in l
 pub returns-clause-value : goal.returns-clause-value
 returns-clause-value g c = let l = c.self.inside in let b = l.domain.now.board in let t : ℕ = c.tenure_of-tenure.result.now.round in
     let inv = c.self.invariant in let slot : ℕ = number_of c.args.right.now in
-    let own = c.witness-owner.ensures.owner (has_tables c.args.self.now c.args.right.now c.requires.home) in
-    let shared : Bool = is_shared (kind_of c.args.right.now) in let shown : Gv = (grip_of c.args.right.now).shown in
+    let own = (c.witness-owner.ensures.owner (has_tables c.args.self.now c.args.right.now c.requires.home)).1 in
+    let shared : Bool = is_shared (kind_of c.args.right.now) in let shown : Gv = (c.witness-owner.ensures.owner (has_tables c.args.self.now c.args.right.now c.requires.home)).0.shown in
     let recalled = c.recall.ensures slot shared shown own.owner in
     let watch = subst (λ (x : Seat ValueFraction View). MovedAlone (SeesOwned slot shared shown) x c.watch.new.token)
     (same_recalled b l.place slot shared shown l.token c.recall.new.token recalled) (c.watch.ensures slot shared shown own.owner) in
@@ -80,13 +80,13 @@ returns-clause-value g c = let l = c.self.inside in let b = l.domain.now.board i
     let is = seen.once slot shown (showing g.row.T c.show.result.now) seen.there
     (shows_known (book_of b) (places_of b) l.place slot l.domain.now.shelf.book (showing g.row.T c.show.result.now) seen.records
     c.watch.new.token.me.1 seen.purse shows) in
-    ap (λ (w : Witness). w.views) (sym c.witness-owner.ensures.witness) ∙ (own.owner ∙ ap (witness_of_owner slot shared) is)
+    sym c.witness-owner.ensures.views ∙ (own.owner ∙ ap (witness_of_owner slot shared) is)
 
 pub returns-clause-looks : goal.returns-clause-looks
 returns-clause-looks g c = let l = c.self.inside in let b = l.domain.now.board in let t : ℕ = c.tenure_of-tenure.result.now.round in
     let inv = c.self.invariant in let slot : ℕ = number_of c.args.right.now in
-    let own = c.witness-owner.ensures.owner (has_tables c.args.self.now c.args.right.now c.requires.home) in
-    let shared : Bool = is_shared (kind_of c.args.right.now) in let shown : Gv = (grip_of c.args.right.now).shown in
+    let own = (c.witness-owner.ensures.owner (has_tables c.args.self.now c.args.right.now c.requires.home)).1 in
+    let shared : Bool = is_shared (kind_of c.args.right.now) in let shown : Gv = (c.witness-owner.ensures.owner (has_tables c.args.self.now c.args.right.now c.requires.home)).0.shown in
     let recalled = c.recall.ensures slot shared shown own.owner in
     let watch = subst (λ (x : Seat ValueFraction View). MovedAlone (SeesOwned slot shared shown) x c.watch.new.token)
     (same_recalled b l.place slot shared shown l.token c.recall.new.token recalled) (c.watch.ensures slot shared shown own.owner) in
@@ -104,8 +104,8 @@ returns-clause-looks g c = let l = c.self.inside in let b = l.domain.now.board i
 pub returns-clause-once : goal.returns-clause-once
 returns-clause-once g c = let l = c.self.inside in let b = l.domain.now.board in let t : ℕ = c.tenure_of-tenure.result.now.round in
     let inv = c.self.invariant in let slot : ℕ = number_of c.args.right.now in
-    let own = c.witness-owner.ensures.owner (has_tables c.args.self.now c.args.right.now c.requires.home) in
-    let shared : Bool = is_shared (kind_of c.args.right.now) in let shown : Gv = (grip_of c.args.right.now).shown in
+    let own = (c.witness-owner.ensures.owner (has_tables c.args.self.now c.args.right.now c.requires.home)).1 in
+    let shared : Bool = is_shared (kind_of c.args.right.now) in let shown : Gv = (c.witness-owner.ensures.owner (has_tables c.args.self.now c.args.right.now c.requires.home)).0.shown in
     let recalled = c.recall.ensures slot shared shown own.owner in
     let watch = subst (λ (x : Seat ValueFraction View). MovedAlone (SeesOwned slot shared shown) x c.watch.new.token)
     (same_recalled b l.place slot shared shown l.token c.recall.new.token recalled) (c.watch.ensures slot shared shown own.owner) in
@@ -118,8 +118,8 @@ returns-clause-once g c = let l = c.self.inside in let b = l.domain.now.board in
 pub returns-clause-recalled : goal.returns-clause-recalled
 returns-clause-recalled g c = let l = c.self.inside in let b = l.domain.now.board in let t : ℕ = c.tenure_of-tenure.result.now.round in
     let inv = c.self.invariant in let slot : ℕ = number_of c.args.right.now in
-    let own = c.witness-owner.ensures.owner (has_tables c.args.self.now c.args.right.now c.requires.home) in
-    let shared : Bool = is_shared (kind_of c.args.right.now) in let shown : Gv = (grip_of c.args.right.now).shown in
+    let own = (c.witness-owner.ensures.owner (has_tables c.args.self.now c.args.right.now c.requires.home)).1 in
+    let shared : Bool = is_shared (kind_of c.args.right.now) in let shown : Gv = (c.witness-owner.ensures.owner (has_tables c.args.self.now c.args.right.now c.requires.home)).0.shown in
     let recalled = c.recall.ensures slot shared shown own.owner in
     let watch = subst (λ (x : Seat ValueFraction View). MovedAlone (SeesOwned slot shared shown) x c.watch.new.token)
     (same_recalled b l.place slot shared shown l.token c.recall.new.token recalled) (c.watch.ensures slot shared shown own.owner) in
@@ -145,56 +145,56 @@ returns-clause-home g c = let l = c.self.inside in let b = l.domain.now.board in
 pub watch-requires-clause-home : goal.watch-requires-clause-home
 watch-requires-clause-home g c =
     let q = c.self.invariant.0 in let l = c.self.inside in let b = l.domain.now.board in let slot : ℕ = number_of c.args.right.now in
-    let own = c.witness-owner.ensures.owner (has_tables c.args.self.now c.args.right.now c.requires.home) in
-    let shared : Bool = is_shared (kind_of c.args.right.now) in let shown : Gv = (grip_of c.args.right.now).shown in
+    let own = (c.witness-owner.ensures.owner (has_tables c.args.self.now c.args.right.now c.requires.home)).1 in
+    let shared : Bool = is_shared (kind_of c.args.right.now) in let shown : Gv = (c.witness-owner.ensures.owner (has_tables c.args.self.now c.args.right.now c.requires.home)).0.shown in
     let same = same_recalled b l.place slot shared shown l.token c.recall.new.token (c.recall.ensures slot shared shown own.owner) in
     ap (λ (x : Seat ValueFraction View). x.table_id) same ∙ q.home
 
 pub watch-requires-clause-knows : goal.watch-requires-clause-knows
 watch-requires-clause-knows g c =
     let q = c.self.invariant.0 in let l = c.self.inside in let b = l.domain.now.board in let slot : ℕ = number_of c.args.right.now in
-    let own = c.witness-owner.ensures.owner (has_tables c.args.self.now c.args.right.now c.requires.home) in
-    let shared : Bool = is_shared (kind_of c.args.right.now) in let shown : Gv = (grip_of c.args.right.now).shown in
+    let own = (c.witness-owner.ensures.owner (has_tables c.args.self.now c.args.right.now c.requires.home)).1 in
+    let shared : Bool = is_shared (kind_of c.args.right.now) in let shown : Gv = (c.witness-owner.ensures.owner (has_tables c.args.self.now c.args.right.now c.requires.home)).0.shown in
     let same = same_recalled b l.place slot shared shown l.token c.recall.new.token (c.recall.ensures slot shared shown own.owner) in
     (ap (λ (x : Seat ValueFraction View). x.me.0.sizes) same ∙ q.knows.0, ap (λ (x : Seat ValueFraction View). x.me.0.stakes.book) same ∙ q.knows.1)
 
 pub watch-requires-clause-open : goal.watch-requires-clause-open
 watch-requires-clause-open g c =
     let q = c.self.invariant.0 in let l = c.self.inside in let b = l.domain.now.board in let slot : ℕ = number_of c.args.right.now in
-    let own = c.witness-owner.ensures.owner (has_tables c.args.self.now c.args.right.now c.requires.home) in
-    let shared : Bool = is_shared (kind_of c.args.right.now) in let shown : Gv = (grip_of c.args.right.now).shown in
+    let own = (c.witness-owner.ensures.owner (has_tables c.args.self.now c.args.right.now c.requires.home)).1 in
+    let shared : Bool = is_shared (kind_of c.args.right.now) in let shown : Gv = (c.witness-owner.ensures.owner (has_tables c.args.self.now c.args.right.now c.requires.home)).0.shown in
     let same = same_recalled b l.place slot shared shown l.token c.recall.new.token (c.recall.ensures slot shared shown own.owner) in
     let some_open : 0 < l.own.guards = search rules in ap (λ (x : Seat ValueFraction View). x.me.0.epoch.state) same ∙ q.opened some_open
 
 pub watch-requires-clause-near : goal.watch-requires-clause-near
 watch-requires-clause-near g c =
     let q = c.self.invariant.0 in let l = c.self.inside in let b = l.domain.now.board in let slot : ℕ = number_of c.args.right.now in
-    let own = c.witness-owner.ensures.owner (has_tables c.args.self.now c.args.right.now c.requires.home) in
-    let shared : Bool = is_shared (kind_of c.args.right.now) in let shown : Gv = (grip_of c.args.right.now).shown in
+    let own = (c.witness-owner.ensures.owner (has_tables c.args.self.now c.args.right.now c.requires.home)).1 in
+    let shared : Bool = is_shared (kind_of c.args.right.now) in let shown : Gv = (c.witness-owner.ensures.owner (has_tables c.args.self.now c.args.right.now c.requires.home)).0.shown in
     let same = same_recalled b l.place slot shared shown l.token c.recall.new.token (c.recall.ensures slot shared shown own.owner) in
     let place = ap (λ (x : Seat ValueFraction View). x.me.0.epoch.place) same in let at = q.place in let inside = q.inside in omega arith
 
 pub watch-requires-clause-rests : goal.watch-requires-clause-rests
 watch-requires-clause-rests g c =
     let q = c.self.invariant.0 in let l = c.self.inside in let b = l.domain.now.board in let slot : ℕ = number_of c.args.right.now in
-    let own = c.witness-owner.ensures.owner (has_tables c.args.self.now c.args.right.now c.requires.home) in
-    let shared : Bool = is_shared (kind_of c.args.right.now) in let shown : Gv = (grip_of c.args.right.now).shown in
+    let own = (c.witness-owner.ensures.owner (has_tables c.args.self.now c.args.right.now c.requires.home)).1 in
+    let shared : Bool = is_shared (kind_of c.args.right.now) in let shown : Gv = (c.witness-owner.ensures.owner (has_tables c.args.self.now c.args.right.now c.requires.home)).0.shown in
     let same = same_recalled b l.place slot shared shown l.token c.recall.new.token (c.recall.ensures slot shared shown own.owner) in
     ap (λ (x : Seat ValueFraction View). x.me.0.stakes.moves) same ∙ q.rests
 
 pub show-requires-clause-table : goal.show-requires-clause-table
 show-requires-clause-table g c =
     let q = c.self.invariant.0 in let l = c.self.inside in let b = l.domain.now.board in let slot : ℕ = number_of c.args.right.now in
-    let own = c.witness-owner.ensures.owner (has_tables c.args.self.now c.args.right.now c.requires.home) in
-    let shared : Bool = is_shared (kind_of c.args.right.now) in let shown : Gv = (grip_of c.args.right.now).shown in
+    let own = (c.witness-owner.ensures.owner (has_tables c.args.self.now c.args.right.now c.requires.home)).1 in
+    let shared : Bool = is_shared (kind_of c.args.right.now) in let shown : Gv = (c.witness-owner.ensures.owner (has_tables c.args.self.now c.args.right.now c.requires.home)).0.shown in
     let same = same_recalled b l.place slot shared shown l.token c.recall.new.token (c.recall.ensures slot shared shown own.owner) in
     (c.watch.ensures slot shared shown own.owner).0 ∙ (ap (λ (x : Seat ValueFraction View). x.table_id) same ∙ q.home)
 
 pub watch-requires-clause-owner : goal.watch-requires-clause-owner
 watch-requires-clause-owner g c =
     let q = c.self.invariant.0 in let l = c.self.inside in let b = l.domain.now.board in let slot : ℕ = number_of c.args.right.now in
-    let own = c.witness-owner.ensures.owner (has_tables c.args.self.now c.args.right.now c.requires.home) in
-    let shared : Bool = is_shared (kind_of c.args.right.now) in let shown : Gv = (grip_of c.args.right.now).shown in
+    let own = (c.witness-owner.ensures.owner (has_tables c.args.self.now c.args.right.now c.requires.home)).1 in
+    let shared : Bool = is_shared (kind_of c.args.right.now) in let shown : Gv = (c.witness-owner.ensures.owner (has_tables c.args.self.now c.args.right.now c.requires.home)).0.shown in
     let tables = own.table in let mine = ap (λ (h : GhostName). h.tables) c.requires.home in let there = ap (λ (m : LocalState). m.home) c.self.view_is in
     let board = q.home in
     let table : c.witness-owner.result.now.table_id ≡ id_of b = cc in
@@ -204,8 +204,8 @@ watch-requires-clause-owner g c =
 pub recall-requires-clause-owner : goal.recall-requires-clause-owner
 recall-requires-clause-owner g c =
     let q = c.self.invariant.0 in let l = c.self.inside in let b = l.domain.now.board in let slot : ℕ = number_of c.args.right.now in
-    let own = c.witness-owner.ensures.owner (has_tables c.args.self.now c.args.right.now c.requires.home) in
-    let shared : Bool = is_shared (kind_of c.args.right.now) in let shown : Gv = (grip_of c.args.right.now).shown in
+    let own = (c.witness-owner.ensures.owner (has_tables c.args.self.now c.args.right.now c.requires.home)).1 in
+    let shared : Bool = is_shared (kind_of c.args.right.now) in let shown : Gv = (c.witness-owner.ensures.owner (has_tables c.args.self.now c.args.right.now c.requires.home)).0.shown in
     let tables = own.table in let mine = ap (λ (h : GhostName). h.tables) c.requires.home in let there = ap (λ (m : LocalState). m.home) c.self.view_is in
     let board = q.home in
     let table : c.witness-owner.result.now.table_id ≡ id_of b = cc in

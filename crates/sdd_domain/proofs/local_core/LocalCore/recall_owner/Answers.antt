@@ -1,4 +1,4 @@
-use Rattle.std.proofs.Common.{◌≡◌, ℕ, sym, ap, ◌∙◌, subst}
+use Rattle.std.proofs.Common.{◌≡◌, ℕ, refl, sym, ap, ◌∙◌, subst}
 use Rattle.std.specs.Prelude.{Bool}
 use base.Stored.{Gv}
 use Rattle.atomic_table.specs.declared.shared.Seat.{Seat}
@@ -7,20 +7,38 @@ use Rattle.sdd_views.specs.declared.Sizes.{Sizes}
 use Rattle.sdd_views.specs.declared.View.{View}
 use Rattle.sdd_shared_values.specs.declared.value_fraction.ValueFraction.{ValueFraction}
 use Rattle.sdd_rights.specs.StandingKind.{is_shared}
-use Rattle.sdd_rights.specs.Right.{number_of, kind_of, grip_of}
-use Rattle.sdd_domain.specs.Items.{HasValue}
+use Rattle.sdd_rights.specs.Right.{AreSlotsOfTable, home_of, number_of, kind_of}
+use Rattle.sdd_domain.specs.Items.{HasValue, slots_home}
 use Rattle.sdd_domain.specs.LocalState.{LocalState, IsLone, KnowsOwner}
 use Rattle.sdd_domain.specs.BetweenCalls.{IsBetweenCalls, AreLentTo, IsTenureOf, IsReady}
 use Rattle.sdd_domain.specs.Receipt.{IsTallied}
+use Rattle.sdd_domain.proofs.Housed.{on_board}
+use Rattle.sdd_domain.proofs.InPlace.{owner_inside, owner_table}
 use Rattle.sdd_domain.proofs.Members.{with_token, recalls_to, has_tables}
 use Rattle.sdd_domain.proofs.Posing.{same_recalled}
 use Rattle.sdd_domain.proofs.local_core.LocalCore.recall_owner.Goals as goal
 
+pub recall-requires-clause-owner : goal.recall-requires-clause-owner
+recall-requires-clause-owner g c =
+    let l = c.self.inside in let b = l.domain.now.board in let m : LocalState = c.self.view_is 0 in let right = c.args.right.now in
+    let on = on_board l.domain.now.limits b l.token.table_id c.self.invariant.0.home l.domain.now.limited.1 m refl refl refl in
+    let home = c.requires ∙ sym (ap slots_home c.self.view_is) in let found = c.witness.ensures.owner (has_tables m right home) in
+    let by = λ (_ : AreSlotsOfTable (home_of right)). found.1 in (
+      owner_table b m on right (kind_of right) home refl c.witness.result.now found.0 by (number_of right) refl,
+      (
+        number_of right,
+        is_shared (kind_of right),
+        found.0.shown,
+        owner_inside b m on right (kind_of right) home refl c.witness.result.now found.0 by (number_of right) refl c.witness.ensures.inside,
+        found.1.owner,
+      ),
+    )
+
 pub invariant_of-self : goal.invariant_of-self
 invariant_of-self g c =
     let l = c.self.inside in let board = l.domain.now.board in let slot : ℕ = number_of c.args.right.now in
-    let shared : Bool = is_shared (kind_of c.args.right.now) in let shown : Gv = (grip_of c.args.right.now).shown in
-    let own = c.witness.ensures.owner (has_tables c.args.self.now c.args.right.now c.requires) in
+    let shared : Bool = is_shared (kind_of c.args.right.now) in let shown : Gv = (c.witness.ensures.owner (has_tables c.args.self.now c.args.right.now c.requires)).0.shown in
+    let own = (c.witness.ensures.owner (has_tables c.args.self.now c.args.right.now c.requires)).1 in
     let same = same_recalled board l.place slot shared shown l.token c.recall.new.token (c.recall.ensures slot shared shown own.owner) in
     subst (λ (x : Seat ValueFraction View). IsBetweenCalls board l.place l.own x × l.nesting ≡ l.domain.now.limits.nesting × IsTenureOf l.own l.tenure
     × AreLentTo l.tenure.round x.me.1 × IsReady board l.own l.due l.known.slots x.me.0.slots.waits × IsTallied 0 l.tally x.me.0.stakes.counts)
@@ -29,17 +47,17 @@ invariant_of-self g c =
 pub returns-clause-same : goal.returns-clause-same
 returns-clause-same g c =
     let l = c.self.inside in let slot : ℕ = number_of c.args.right.now in
-    let shared : Bool = is_shared (kind_of c.args.right.now) in let shown : Gv = (grip_of c.args.right.now).shown in
-    let own = c.witness.ensures.owner (has_tables c.args.self.now c.args.right.now c.requires) in
+    let shared : Bool = is_shared (kind_of c.args.right.now) in let shown : Gv = (c.witness.ensures.owner (has_tables c.args.self.now c.args.right.now c.requires)).0.shown in
+    let own = (c.witness.ensures.owner (has_tables c.args.self.now c.args.right.now c.requires)).1 in
     let same = same_recalled l.domain.now.board l.place slot shared shown l.token c.recall.new.token (c.recall.ensures slot shared shown own.owner) in
     ap (λ (x : Seat ValueFraction View). with_token (c.self.view_is 0) x) same ∙ c.self.view_is
 
 pub returns-clause-recalled : goal.returns-clause-recalled
 returns-clause-recalled g c =
     let l = c.self.inside in let slot : ℕ = number_of c.args.right.now in
-    let shared : Bool = is_shared (kind_of c.args.right.now) in let shown : Gv = (grip_of c.args.right.now).shown in
-    let own = c.witness.ensures.owner (has_tables c.args.self.now c.args.right.now c.requires) in
-    let has : HasValue shown c.args.right.now = ap (λ (w : Witness). w.views) (sym c.witness.ensures.witness) ∙ own.owner in
+    let shared : Bool = is_shared (kind_of c.args.right.now) in let shown : Gv = (c.witness.ensures.owner (has_tables c.args.self.now c.args.right.now c.requires)).0.shown in
+    let own = (c.witness.ensures.owner (has_tables c.args.self.now c.args.right.now c.requires)).1 in
+    let has : HasValue shown c.args.right.now = sym c.witness.ensures.views ∙ own.owner in
     subst (λ (m : LocalState). IsLone m → (value : Gv) × HasValue value c.args.right.now × KnowsOwner m slot shared value) c.self.view_is (λ lone. (
       shown,
       has,
