@@ -160,6 +160,7 @@ impl RightsAuthority {
         ensures number { result ≡ number_of right }
         ensures inside { result < self.old.home.size }
         ensures kind { (kept_at self.old result).kind ≡ kind_of right }
+        ensures owner { IsOwner (kind_of right) }
         ensures some { 0 < (kept_at self.old result).units }
         ensures fits { (kept_at self.old result).units + right_units (kind_of right) ≤ WHOLE }
         ensures home { self.new.home ≡ self.old.home }
@@ -228,6 +229,7 @@ impl RightsAuthority {
         requires { home_of right.now ≡ self.now.home }
         ensures inside { number_of right.now < self.now.home.size }
         ensures kind { (kept_at self.now (number_of right.now)).kind ≡ kind_of right.now }
+        ensures owner { IsOwner (kind_of right.now) }
     {
         self.parts[right.number as usize].agree(&right.part);
     }

@@ -10,4 +10,4 @@ set-requires-clause-whole c =
     rw (c.redeem-cell.ensures.kept)
     rw (get_or-set_same c.self.inside.rights.kept c.redeem-cell.result _ (whole Free)
     (omega (arith, c.self.invariant.0.kept_rowed, c.redeem-cell.ensures.inside)))
-    (whole-again c.redeem-cell.result _ c.self.invariant.0 c.redeem-cell.ensures.kind c.args.right.owner (units-fit _))
+    (whole-again c.redeem-cell.result _ c.self.invariant.0 c.redeem-cell.ensures.kind c.redeem-cell.ensures.owner (units-fit _))

@@ -6,4 +6,4 @@ returns-clause-owned g c = rw (← c.self.view_is) (owned-there c.number.result 
 
 pub returns-clause-taken : goal.returns-clause-taken
 returns-clause-taken g c =
-    rw (← c.self.view_is) (taken-there c.number.result _ c.self.invariant (rw c.number.ensures c.agrees.ensures.kind) c.args.right.now.owner)
+    rw (← c.self.view_is) (taken-there c.number.result _ c.self.invariant (rw c.number.ensures c.agrees.ensures.kind) c.agrees.ensures.owner)
