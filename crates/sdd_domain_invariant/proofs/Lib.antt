@@ -15,3 +15,5 @@ pub mod RawSteps
 pub mod JobSteps
 pub mod Tokens
 pub mod Laid
+pub mod Pledging
+pub mod Bounds

@@ -1,10 +1,12 @@
 pub mod FractionsAtHome
 pub mod Records
 pub mod Counts
+pub mod PledgesInvariant
 pub mod FilledInvariant
 pub mod BankInvariant
 pub mod LastFractions
 pub mod KindsInvariant
+pub mod BoundInvariant
 pub mod DomainInvariant
 pub mod FractionSteps
 pub mod RawSteps
