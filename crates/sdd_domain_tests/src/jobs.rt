@@ -291,35 +291,22 @@ fn a_refused_close_runs_a_job_once(rt: HostRuntime) {
     is_total(&rt, &total, 7);
 }
 
-/// Defers so many jobs, a turn after each; how many found a place.
-fn defers_often(
-    rt: &(impl Abort + AllocGlobal),
-    local: &mut Local<'_, u64, Deferred>,
-    total: &Total,
-    jobs: u64,
-) -> u64
-    requires { IsSeated (seat_of local.old) }
-    ensures { seat_of local.new ≡ seat_of local.old }
+/// Defers a job under a guard of its own, after which another epoch is found. Answers 1 where it found a place, and else 0.
+fn counted<S: Guards<u64> + Deferrals<u64>>(rt: &impl Abort, s: &mut S, job: S::Job) -> u64
+    requires { IsSeated (S.seat s.old) }
+    ensures { S.seat s.new ≡ S.seat s.old }
 {
-    let mut count = 0u64;
-    for _ in 0..jobs {
-        let guard = Guard::new::<u64, Local<'_, u64, Deferred>>(local).expect(
-            rt,
-            "a guard may be opened",
-        );
-        if guard
-            .defer_execute::<u64, Local<'_, u64, Deferred>>(job_adding(rt, total, 1), local)
-            .is_ok()
-        {
-            count = count.saturating_add(1);
-        }
-        guard.accelerate::<u64, Local<'_, u64, Deferred>>(local);
-        guard.close::<u64, Local<'_, u64, Deferred>>(local);
+    let guard = Guard::new(s).expect(rt, "a guard may be opened");
+    let deferred = guard.defer_execute(job, s);
+    guard.accelerate(s);
+    guard.close(s);
+    match deferred {
+        Ok(()) => 1,
+        Err((_job, _refused)) => 0,
     }
-    count
 }
 
-/// What a thread does.
+/// What a thread does: how many of 500 jobs found a place.
 fn takes_part(
     rt: &(impl Abort + AllocGlobal),
     domain: &Domain<u64>,
@@ -328,7 +315,11 @@ fn takes_part(
     ensures { IsReceiptIn (slots_in domain.now) result.0 }
 {
     let mut local = registered(rt, domain);
-    let count = defers_often(rt, &mut local, total, 500);
+    let mut count = 0u64;
+    for _turn in 0..500 {
+        let job = job_adding(rt, total, 1);
+        count = count.saturating_add(counted(rt, &mut local, job));
+    }
     (ended(rt, local), count)
 }
 
