@@ -2,10 +2,6 @@
 #![tactic(auto)]
 
 #[cfg(test)]
-mod marks;
-#[cfg(test)]
-mod queues;
-#[cfg(test)]
 mod setting;
 #[cfg(test)]
 mod stacks;

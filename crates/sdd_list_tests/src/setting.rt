@@ -83,11 +83,3 @@ pub fn released<S: Items<LinkedEntry<u64>> + Look<LinkedEntry<u64>>>(
     let _ = owner.release(s);
     value
 }
-
-/// There is an entry, and it has this number.
-pub fn is(entry: Option<&LinkedEntry<u64>>, value: u64) -> bool {
-    match entry {
-        Some(entry) => *entry.as_ref() == value,
-        None => false,
-    }
-}

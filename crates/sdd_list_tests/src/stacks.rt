@@ -4,9 +4,9 @@ ghost use Rattle.sdd_space.specs.Guard.{reader_of};
 ghost use Rattle.sdd_space.specs.CallerId.{IsSeated};
 ghost use Rattle.sdd_lists.specs.Stack.{home_in};
 
-use crate::setting::{AMPLE, Setting, is, opened, released};
+use crate::setting::{AMPLE, Setting, opened, released};
 use sdd_core::{Limits, Refused};
-use sdd_lists::{LinkedEntry, LinkedList, Stack, Unpopped};
+use sdd_lists::{LinkedEntry, LinkedList, Stack};
 use sdd_space::{Cells, Guard, Items, Look, Several, SharedItems};
 use std::process::Abort;
 
@@ -49,6 +49,13 @@ fn pop<S: Items<Entry> + SharedItems<Entry> + Cells<Entry> + Look<Entry>>(
         Ok(Some(owner)) => Some(released(s, owner)),
         Ok(None) => None,
         Err(refused) => panic!(rt; "{refused:?}"),
+    }
+}
+
+fn is(entry: Option<&Entry>, value: u64) -> bool {
+    match entry {
+        Some(entry) => *entry.as_ref() == value,
+        None => false,
     }
 }
 
@@ -114,59 +121,4 @@ fn no_slot_is_answered_before_no_cell(rt: HostRuntime) {
     refuses_the_second(&rt, 1, 2, Refused::NoSlot);
     refuses_the_second(&rt, 1, 3, Refused::NoSlot);
     refuses_the_second(&rt, 2, 2, Refused::NoCell);
-}
-
-#[test]
-fn a_condition_is_asked_of_the_newest(rt: HostRuntime) {
-    let mut setting: Setting<Entry> = Setting::new(&rt, AMPLE);
-    {
-        let s = &mut setting.world.at(&setting.place);
-        let guard = opened(&rt, s);
-        let stack = Stack::new(s).expect(&rt, "a cell is free");
-        assert_eq!(rt; pushed(&stack, 1, &guard, s), Ok(()));
-        match stack.push_if(2, |newest| is(newest, 1), &guard, s) {
-            Ok(owner) => assert_eq!(rt; released(s, owner), 2),
-            Err((_value, why)) => panic!(rt; "{why:?}"),
-        }
-        match stack.push_if(3, |newest| is(newest, 1), &guard, s) {
-            Ok(owner) => panic!(rt; "{}", released(s, owner)),
-            Err(back) => assert_eq!(rt; back, (3, None)),
-        }
-        match stack.pop_if(|newest| is(Some(newest), 1), &guard, s) {
-            Err(Unpopped::Kept(owner)) => assert_eq!(rt; released(s, owner), 2),
-            _ => panic!(rt; "2 is the newest"),
-        }
-        assert_eq!(rt; pop(&rt, &stack, &guard, s), Some(2));
-        match stack.pop_if(|newest| is(Some(newest), 1), &guard, s) {
-            Ok(Some(owner)) => assert_eq!(rt; released(s, owner), 1),
-            _ => panic!(rt; "1 is the newest"),
-        }
-        assert_eq!(rt; pop(&rt, &stack, &guard, s), None);
-        stack.close(&guard, s);
-        guard.close(s);
-    }
-    setting.closed(&rt, 2);
-}
-
-#[test]
-fn all_entries_go_to_another_stack(rt: HostRuntime) {
-    let mut setting: Setting<Entry> = Setting::new(&rt, AMPLE);
-    {
-        let s = &mut setting.world.at(&setting.place);
-        let guard = opened(&rt, s);
-        let stack = Stack::new(s).expect(&rt, "a cell is free");
-        assert_eq!(rt; pushed(&stack, 37, &guard, s), Ok(()));
-        assert_eq!(rt; pushed(&stack, 3, &guard, s), Ok(()));
-        let all = stack.pop_all(&guard, s).expect(&rt, "a cell is free");
-        assert_eq!(rt; pushed(&stack, 1, &guard, s), Ok(()));
-        assert_eq!(rt; pop(&rt, &stack, &guard, s), Some(1));
-        assert_eq!(rt; pop(&rt, &stack, &guard, s), None);
-        assert_eq!(rt; pop(&rt, &all, &guard, s), Some(3));
-        assert_eq!(rt; pop(&rt, &all, &guard, s), Some(37));
-        assert_eq!(rt; pop(&rt, &all, &guard, s), None);
-        stack.close(&guard, s);
-        all.close(&guard, s);
-        guard.close(s);
-    }
-    setting.closed(&rt, 3);
 }

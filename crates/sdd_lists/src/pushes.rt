@@ -119,7 +119,7 @@ fn put_behind<T: LinkedList, S: Items<T> + Cells<T> + LookThrough<T>>(
     let _ = trim(cell, guard, s);
     let entry = owner.get_guarded_ref(guard, s);
     s.shown_is_of_home();
-    put_in_front(cell, kept, entry.link_ref(), s);
+    put_in_front::<T, S>(cell, kept, entry.link_ref(), s);
 }
 
 /// Puts an entry behind the last one that isn't deleted, and was found, or in front of the list where there is none. The deleted entries behind that are
