@@ -333,7 +333,9 @@ fn threads_defer_jobs(rt: HostRuntime) {
         || takes_part(&rt, &domain, &total),
         || takes_part(&rt, &domain, &total),
     );
-    let receipts = vec![in rt.alloc(); one, other].expect(&rt, "there is memory");
+    let mut receipts = Vec::new(rt.alloc());
+    keep(&rt, &domain, &mut receipts, one);
+    keep(&rt, &domain, &mut receipts, other);
     closed(&rt, domain, receipts);
     is_total(&rt, &total, first.saturating_add(second));
     assert!(&rt; first > 0);
