@@ -15,7 +15,6 @@ use std::alloc::Global;
 use std::process::Abort;
 use std::sync::Arc;
 use std::sync::atomic::{AtomicU64, Ordering};
-use std::thread::{Threads, join};
 
 /// One participant, and one place for a job.
 const ONE_JOB: Limits = Limits {
@@ -27,14 +26,6 @@ const ONE_JOB: Limits = Limits {
 const TWO_AND_ONE_JOB: Limits = Limits {
     participants: 2,
     ..ONE_JOB
-};
-
-/// Two participants share four places, and an exchange that is lost is tried again.
-const TWO_AND_FOUR_JOBS: Limits = Limits {
-    participants: 2,
-    jobs: 4,
-    tries: 1000,
-    ..ONE_SLOT
 };
 
 /// A number that jobs add to.
@@ -289,54 +280,4 @@ fn a_refused_close_runs_a_job_once(rt: HostRuntime) {
     keep(&rt, &domain, &mut receipts, theirs);
     assert_eq!(&rt; closed(&rt, domain, receipts).reclaimed, 1);
     is_total(&rt, &total, 7);
-}
-
-/// Defers a job under a guard of its own, after which another epoch is found. Answers 1 where it found a place, and else 0.
-fn counted<S: Guards<u64> + Deferrals<u64>>(rt: &impl Abort, s: &mut S, job: S::Job) -> u64
-    requires { IsSeated (S.seat s.old) }
-    ensures { S.seat s.new ≡ S.seat s.old }
-{
-    let guard = Guard::new(s).expect(rt, "a guard may be opened");
-    let deferred = guard.defer_execute(job, s);
-    guard.accelerate(s);
-    guard.close(s);
-    match deferred {
-        Ok(()) => 1,
-        Err((_job, _refused)) => 0,
-    }
-}
-
-/// What a thread does: how many of 500 jobs found a place.
-fn takes_part(
-    rt: &(impl Abort + AllocGlobal),
-    domain: &Domain<u64>,
-    total: &Total,
-) -> (Receipt<u64, Deferred>, u64)
-    ensures { IsReceiptIn (slots_in domain.now) result.0 }
-{
-    let mut local = registered(rt, domain);
-    let mut count = 0u64;
-    for _turn in 0..500 {
-        let job = job_adding(rt, total, 1);
-        count = count.saturating_add(counted(rt, &mut local, job));
-    }
-    (ended(rt, local), count)
-}
-
-/// Each job that found a place runs once, in its thread or at the close.
-#[test]
-fn threads_defer_jobs(rt: HostRuntime) {
-    let total = number(&rt);
-    let domain = new_domain::<u64>(&rt, TWO_AND_FOUR_JOBS);
-    let ((one, first), (other, second)) = join(
-        &rt,
-        || takes_part(&rt, &domain, &total),
-        || takes_part(&rt, &domain, &total),
-    );
-    let mut receipts = Vec::new(rt.alloc());
-    keep(&rt, &domain, &mut receipts, one);
-    keep(&rt, &domain, &mut receipts, other);
-    closed(&rt, domain, receipts);
-    is_total(&rt, &total, first.saturating_add(second));
-    assert!(&rt; first > 0);
 }
