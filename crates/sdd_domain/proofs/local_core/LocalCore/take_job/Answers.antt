@@ -23,32 +23,40 @@ use Rattle.sdd_domain.proofs.Reclaims.{first_is_due, first_goes}
 use Rattle.sdd_domain.proofs.local_core.LocalCore.take_job.Goals as goal
 
 pub take-requires : goal.take-requires
-take-requires g c = let first : map (what_of (slots_of c.self.inside.domain.now.board)) (ripe c.self.inside.token.me.0.slots.waits) ≡ Job c.args.place ∷ c.next.new.self.items
+take-requires g c = let first : map (what_of (slots_of c.self.inside.domain.now.board)) (ripe c.self.inside.token.me.0.slots.waits) ≡ Job c.args.place ∷
+    c.next.new.self.items
     = sym c.self.invariant.4.due ∙ next_goes c.self.inside.due c.next.new.self c.next.result (Job c.args.place) c.requires.first.0 c.next.ensures.next
     (ap (λ (m : LocalState). m.due) c.self.view_is ∙ c.requires.first.1) in
-    let low = place_low c.self.inside.domain.now.board c.args.place c.next.new.self.items c.self.inside.token.me.0.slots.waits first c.self.invariant.0.waiting in let long = c.self.invariant.4.places in omega arith
+    let low = place_low c.self.inside.domain.now.board c.args.place c.next.new.self.items c.self.inside.token.me.0.slots.waits first
+    c.self.invariant.0.waiting in let long = c.self.invariant.4.places in omega arith
 
 pub unreachable-requires : goal.unreachable-requires
-unreachable-requires g c = let first : map (what_of (slots_of c.self.inside.domain.now.board)) (ripe c.self.inside.token.me.0.slots.waits) ≡ Job c.args.place ∷ c.next.new.self.items
+unreachable-requires g c = let first : map (what_of (slots_of c.self.inside.domain.now.board)) (ripe c.self.inside.token.me.0.slots.waits) ≡
+    Job c.args.place ∷ c.next.new.self.items
     = sym c.self.invariant.4.due ∙ next_goes c.self.inside.due c.next.new.self c.next.result (Job c.args.place) c.requires.first.0 c.next.ensures.next
     (ap (λ (m : LocalState). m.due) c.self.view_is ∙ c.requires.first.1) in
-    let low = place_low c.self.inside.domain.now.board c.args.place c.next.new.self.items c.self.inside.token.me.0.slots.waits first c.self.invariant.0.waiting in
+    let low = place_low c.self.inside.domain.now.board c.args.place c.next.new.self.items c.self.inside.token.me.0.slots.waits first
+    c.self.invariant.0.waiting in
     let wait = waits_now (slots_of c.self.inside.domain.now.board) c.args.place c.next.new.self.items c.self.inside.token.me.0.slots.waits first in
     let there = (c.self.invariant.4.jobs c.args.place low).1 wait in
     absurd (true≢false (sym (subst (λ (o : Option g.row.J.Denot). IsSome o) (sym c.take.ensures.job ∙ c.in_default.is) there)))
 
 pub give_place_back-requires-clause-due : goal.give_place_back-requires-clause-due
-give_place_back-requires-clause-due g c = let first : map (what_of (slots_of c.self.inside.domain.now.board)) (ripe c.self.inside.token.me.0.slots.waits) ≡ Job c.args.place ∷ c.next.new.self.items
+give_place_back-requires-clause-due g c = let first : map (what_of (slots_of c.self.inside.domain.now.board))
+    (ripe c.self.inside.token.me.0.slots.waits) ≡ Job c.args.place ∷ c.next.new.self.items
     = sym c.self.invariant.4.due ∙ next_goes c.self.inside.due c.next.new.self c.next.result (Job c.args.place) c.requires.first.0 c.next.ensures.next
     (ap (λ (m : LocalState). m.due) c.self.view_is ∙ c.requires.first.1) in let l = c.self.inside in let b = l.domain.now.board in
     subst (λ (k : ℕ). IsDue l.token.me.0 (k + c.args.place)) (ap (λ (z : Sizes). z.slots) l.domain.now.limited.1)
     (first_is_due (slots_of b) (Job c.args.place) c.next.new.self.items l.token.me.0.slots.waits first)
 
 pub invariant_of-self : goal.invariant_of-self
-invariant_of-self g c = let first : map (what_of (slots_of c.self.inside.domain.now.board)) (ripe c.self.inside.token.me.0.slots.waits) ≡ Job c.args.place ∷ c.next.new.self.items
+invariant_of-self g c = let first : map (what_of (slots_of c.self.inside.domain.now.board)) (ripe c.self.inside.token.me.0.slots.waits) ≡ Job c.args.place
+    ∷ c.next.new.self.items
     = sym c.self.invariant.4.due ∙ next_goes c.self.inside.due c.next.new.self c.next.result (Job c.args.place) c.requires.first.0 c.next.ensures.next
     (ap (λ (m : LocalState). m.due) c.self.view_is ∙ c.requires.first.1) in
-    let low = place_low c.self.inside.domain.now.board c.args.place c.next.new.self.items c.self.inside.token.me.0.slots.waits first c.self.invariant.0.waiting in let l = c.self.inside in let b = l.domain.now.board in let i = c.self.invariant in let r = i.4 in let n : ℕ = slots_of b in
+    let low = place_low c.self.inside.domain.now.board c.args.place c.next.new.self.items c.self.inside.token.me.0.slots.waits first
+    c.self.invariant.0.waiting in let l = c.self.inside in let b = l.domain.now.board in let i = c.self.invariant in let r = i.4 in
+    let n : ℕ = slots_of b in
     let place : ℕ = c.args.place in let token = c.give_place_back.new.token in let waits : List WaitingItem = l.token.me.0.slots.waits in
     let gives = subst (λ (k : ℕ). Moved (GivesPlace (k + place)) l.token 0 token) (sym (ap (λ (z : Sizes). z.slots) l.domain.now.limited.1))
     c.give_place_back.ensures in
@@ -72,11 +80,14 @@ invariant_of-self g c = let first : map (what_of (slots_of c.self.inside.domain.
     )
 
 pub returns : goal.returns
-returns g c = let first : map (what_of (slots_of c.self.inside.domain.now.board)) (ripe c.self.inside.token.me.0.slots.waits) ≡ Job c.args.place ∷ c.next.new.self.items
+returns g c = let first : map (what_of (slots_of c.self.inside.domain.now.board)) (ripe c.self.inside.token.me.0.slots.waits) ≡ Job c.args.place ∷
+    c.next.new.self.items
     = sym c.self.invariant.4.due ∙ next_goes c.self.inside.due c.next.new.self c.next.result (Job c.args.place) c.requires.first.0 c.next.ensures.next
     (ap (λ (m : LocalState). m.due) c.self.view_is ∙ c.requires.first.1) in
-    let low = place_low c.self.inside.domain.now.board c.args.place c.next.new.self.items c.self.inside.token.me.0.slots.waits first c.self.invariant.0.waiting in
-    let wait = waits_now (slots_of c.self.inside.domain.now.board) c.args.place c.next.new.self.items c.self.inside.token.me.0.slots.waits first in let l = c.self.inside in let b = l.domain.now.board in let r = c.self.invariant.4 in let place : ℕ = c.args.place in
+    let low = place_low c.self.inside.domain.now.board c.args.place c.next.new.self.items c.self.inside.token.me.0.slots.waits first
+    c.self.invariant.0.waiting in
+    let wait = waits_now (slots_of c.self.inside.domain.now.board) c.args.place c.next.new.self.items c.self.inside.token.me.0.slots.waits first in
+    let l = c.self.inside in let b = l.domain.now.board in let r = c.self.invariant.4 in let place : ℕ = c.args.place in
     let rest = c.next.new.self.items in let token = c.give_place_back.new.token in let old : LocalState = c.self.view_is 0 in
     let gives = c.give_place_back.ensures in
     let now : LocalState = record (with_view old token.table_id token.me.0) { due = rest; jobs = places_of c.take.new.self } in
