@@ -1,5 +1,5 @@
 -- What each call of the table asks for
-use Rattle.std.proofs.Common.{None, ◌≤◌, ◌≡◌, ◌≢◌, ◌⊎◌, inl, inr, ℕ, ◌+◌, ◌-◌, ◌<◌, Bool, false, eqb, List, [], ◌∷◌, get_or, sym, refl, ap, ◌∙◌, subst, arith}
+use Rattle.std.proofs.Common.{None, ◌≤◌, ◌≡◌, ◌≢◌, ◌⊎◌, inl, inr, ℕ, ◌+◌, ◌-◌, ◌<◌, Bool, true, false, eqb, List, [], ◌∷◌, get_or, sym, refl, ap, ◌∙◌, subst, arith}
 use base.Stored.{Gv, gnil}
 use mathlib.Core.Option.{none, some}
 use mathlib.Core.Logic.{dite}
@@ -18,28 +18,34 @@ use Rattle.sdd_views.specs.declared.EpochView.{EpochView}
 use Rattle.sdd_views.specs.declared.View.{View}
 use Rattle.sdd_views.specs.declared.Sizes.{Sizes}
 use Rattle.sdd_word_invariant.specs.Words.{global_word, lock_word, state_word, count_word, slot_word, after_places}
-use Rattle.sdd_word_invariant.specs.Codes.{free_word, owned_word, raw_word, waiting_word}
+use Rattle.sdd_word_invariant.specs.Codes.{free_word, owned_word, raw_word, waiting_word, alive, counted as counts_owners, held_word, shared_word}
+use Rattle.sdd_word_invariant.proofs.Codes.{one_left}
 use Rattle.sdd_word_invariant.specs.Epoch.{HasPlace, IsClosed, IsOpen, Scans}
 use Rattle.sdd_views.specs.Views.{nobody, owner_of}
 use Rattle.sdd_word_invariant.specs.EpochSteps.{Keeps, passed_by, knowing, scanning, IsNext, Registers, Reads, Counts, Publishes, Ends, Locks, LooksAtLock, LooksAtState, LooksAtCount, Advances, Unlocks}
-use Rattle.sdd_word_invariant.specs.Slots.{OwnsAlone, Holds}
-use Rattle.sdd_word_invariant.specs.SlotSteps.{blank, changed, OnEpoch, PublishesAll, IsDue, LooksAtSlot, TakesHold, LetsGo, LooksForGuard, AtSlot}
+use Rattle.sdd_word_invariant.specs.Slots.{Owns, Holds}
+use Rattle.sdd_word_invariant.specs.SlotSteps.{blank, changed, OnEpoch, PublishesAll, IsDue, LooksAtSlot, TakesHold, LetsGo, TriesHold, SharesAgain, LooksForGuard, AtSlot}
 use Rattle.sdd_word_invariant.specs.Barred.{IsNobodys, Bars, LooksForValue}
 use Rattle.sdd_word_invariant.proofs.Epoch as epochs
 use Rattle.sdd_word_invariant.proofs.EpochSteps as over
 use Rattle.sdd_word_invariant.proofs.Barred.{Spares}
 use Rattle.sdd_word_invariant.proofs.Sums.{is_same}
 use Rattle.sdd_domain_invariant.specs.FractionsAtHome.{CarriedFractions, Moves, spare}
-use Rattle.sdd_domain_invariant.specs.BankInvariant.{IsBank, banked, founder}
+use Rattle.sdd_domain_invariant.specs.BankInvariant.{IsBank, banked, founder, one_where}
+use Rattle.sdd_domain_invariant.specs.FilledInvariant.{HasRecord}
+use Rattle.sdd_domain_invariant.specs.Records.{IsIn}
+use Rattle.sdd_domain_invariant.specs.KindsInvariant.{written}
+use Rattle.sdd_views.specs.declared.ShownValue.{ShownValue}
+use Rattle.sdd_word_invariant.proofs.SlotSteps.{less_one}
 use Rattle.sdd_domain_invariant.specs.Records.{IsIn}
 use Rattle.sdd_domain_invariant.specs.DomainInvariant.{DomainInvariant}
-use Rattle.sdd_domain_invariant.specs.FractionSteps.{SeatState, CarriesAll, IsValue, CarriesSeen, ClaimsAll, FillsSlot, EntersUnit, TakesOut, TakesHeld, IsDeposit, RetiresOne, GivesAll, DiscardsAll, SeesOwned, LearnsOwned, ClosesHome, EndsAll, OfSlot}
+use Rattle.sdd_domain_invariant.specs.FractionSteps.{SeatState, CarriesAll, IsValue, CarriesSeen, ClaimsAll, FillsSlot, EntersUnit, TakesOut, TakesHeld, IsDeposit, RetiresOne, ReleasesOne, LeavesOne, GivesAll, DiscardsAll, SeesOwned, LearnsOwned, ClosesHome, EndsAll, OfSlot}
 use Rattle.sdd_domain_invariant.proofs.Lift.{lift_epoch, lift_publish, lift_end}
 use Rattle.sdd_domain_invariant.proofs.Steps.{own_place}
 use Rattle.sdd_domain_invariant.proofs.Steps as steps
 use Rattle.sdd_domain_invariant.proofs.RawSteps as raw
 use Rattle.sdd_domain_invariant.specs.FilledInvariant.{HasRecord}
-use Rattle.sdd_domain_invariant.specs.RawSteps.{TurnsRawOne, RegainsOne, SeesRawOne, DrawsUnit}
+use Rattle.sdd_domain_invariant.specs.RawSteps.{TurnsRawOne, RegainsOne, SeesRawOne}
 use Rattle.sdd_domain_invariant.proofs.Telling.{one_moved}
 use Rattle.sdd_domain_invariant.proofs.Tokens.{enters}
 use Rattle.sdd_atomics.specs.declared.domain_table.DomainTable.{DomainTable}
@@ -163,10 +169,10 @@ module _ (γ : ℕ) (sizes : Sizes) (slots id : ℕ) (me : SeatState) where
       (λ w t. ((let live : 0 < w.state = (let e = ap (λ (u : EpochView). u.state) t.1 in omega arith) in live), ap (λ (u : EpochView). u.place) t.1))
       (own_place γ sizes id me.0 (omega arith) 2) (λ w t. (refl, t)))
 
-  pub may_end : (i : ℕ) → IsClosed v → i ≡ state_word v.place → v.place < sizes.participants → me.0.stakes.moves ≡ None
+  pub may_end : (i : ℕ) → IsClosed v → i ≡ state_word v.place → v.place < sizes.participants → me.0.stakes.moves ≡ None → me.0.slots.over ≡ None
       → May i (λ _. 3) (λ _. Told EndsAll me 3)
-  may_end i shut is inside rests = subst (λ (i : ℕ). May i (λ _. 3) (λ _. Told EndsAll me 3)) (sym is)
-      (lift_end γ sizes slots id me (Told EndsAll me 3) inside shut rests
+  may_end i shut is inside rests within = subst (λ (i : ℕ). May i (λ _. 3) (λ _. Told EndsAll me 3)) (sym is)
+      (lift_end γ sizes slots id me (Told EndsAll me 3) inside shut rests within
       (over.mild sizes id me.0 (state_word v.place) (λ _. 3) (omega arith) (λ u _ w. Ends u 3 w)
       (λ _ w t z. let e = ap (λ (u : EpochView). u.state) t in omega arith)
       (epochs.ends sizes.participants id v shut))
@@ -252,10 +258,12 @@ module _ (γ : ℕ) (sizes : Sizes) (slots id : ℕ) (me : SeatState) where
 
     -- with the bank
     module _ (bd : ℕ) (slot : ℕ) (inside : slot < sizes.slots) where
-      abbrev Deals : (List FractionContent → FractionContent → List FractionContent → Type 0) → (FractionContent → Type 0) → (FractionContent → SeatState → Type 0) → Type 0
+      abbrev Deals : (List FractionContent → FractionContent → List FractionContent → Type 0) → (FractionContent → Type 0) →
+          (FractionContent → SeatState → Type 0) → Type 0
       Deals Goes = AllowsDeal (DomainInvariant γ sizes) Goes IsBank banked slots id me bd
 
-      deal_known : (Goes : List FractionContent → FractionContent → List FractionContent → Type 0) (Offered : FractionContent → Type 0) (Then : FractionContent → SeatState → Type 0)
+      deal_known : (Goes : List FractionContent → FractionContent → List FractionContent → Type 0) (Offered : FractionContent → Type 0)
+          (Then : FractionContent → SeatState → Type 0)
           → AllowsDeal (DomainInvariant me.0.stakes.book me.0.sizes) Goes IsBank banked slots id me bd Offered Then → Deals Goes Offered Then
       deal_known Goes Offered Then =
           subst (λ (t : ℕ × Sizes). AllowsDeal (DomainInvariant t.0 t.1) Goes IsBank banked slots id me bd Offered Then) (λ d. (book d, same d))
@@ -266,14 +274,16 @@ module _ (γ : ℕ) (sizes : Sizes) (slots id : ℕ) (me : SeatState) where
       abbrev n : ℕ
       n = sizes.participants
 
-      pub may_house : Moves me.0 slot → OwnsAlone me.0 slot → (shared : Bool) (value : Gv) (rest : CarriedFractions)
+      pub may_house : Moves me.0 slot → Owns me.0 slot → (shared : Bool)
+          → (¬ (Holds me.0 slot) → counts_owners (written me.0 slot) ≡ one_where shared) → (value : Gv) (rest : CarriedFractions)
           → CarriesAll γ slot n (spare n) (IsValue value) rest me.1 → (l : FractionContent) → l ≡ lot γ slot l.round value (spare n - 1)
           → Deals Comes (λ k. k ≡ l) (λ _. HousesMoved shared me)
-      may_house moves mine shared value rest row l is = deal_known Comes (λ k. k ≡ l) (λ _. HousesMoved shared me) (λ s b h long at there ours ne.
-          let known = subst (λ (z : Sizes). CarriesAll me.0.stakes.book slot me.0.sizes.participants (spare z.participants) (IsValue value) rest me.1) (sym same)
+      may_house moves mine shared kind value rest row l is = deal_known Comes (λ k. k ≡ l) (λ _. HousesMoved shared me) (λ s b h long at there ours ne.
+          let known = subst (λ (z : Sizes). CarriesAll me.0.stakes.book slot me.0.sizes.participants (spare z.participants) (IsValue value) rest me.1)
+          (sym same)
           (row_as_known slot (spare n) (IsValue value) rest row) in
           let lot_known = subst (λ (t : ℕ × Sizes). l ≡ lot t.0 slot l.round value (spare t.1.participants - 1)) (λ d. (sym book d, sym same d)) is in
-          let a = steps.houses slots id me live slot known_slot bd moves mine shared value rest known l lot_known s b h long at there ours ne in record {
+          let a = steps.houses slots id me live slot known_slot bd moves mine shared kind value rest known l lot_known s b h long at there ours ne in record {
             view = a.view;
             bank = a.bank;
             lot = a.lot;
@@ -287,11 +297,12 @@ module _ (γ : ℕ) (sizes : Sizes) (slots id : ℕ) (me : SeatState) where
                 (λ d. (one_slot_moved me.0 slot other moves m d, sym (last_shown γ slot n (spare n) value rest me.1 row) d)) a.then;
           })
 
-      pub may_enter_unit : OwnsAlone me.0 slot → (others : List ℕ) → me.0.slots.drawn ≡ slot ∷ others → (l : FractionContent) → l ≡ lot γ slot l.round l.shown 1
+      pub may_enter_unit : (others : List ℕ) → me.0.slots.drawn ≡ slot ∷ others → (l : FractionContent) → l ≡ lot γ slot l.round l.shown 1
+          → IsIn me.0.stakes.owns slot l.shown
           → Deals Comes (λ k. k ≡ l) (λ _. EntersUnit me)
-      may_enter_unit mine others drawn l is = deal_known Comes (λ k. k ≡ l) (λ _. EntersUnit me)
-          (steps.enters_unit slots id me live slot known_slot bd mine others drawn l
-          (subst (λ (b : ℕ). l ≡ lot b slot l.round l.shown 1) (sym book) is))
+      may_enter_unit others drawn l is told = deal_known Comes (λ k. k ≡ l) (λ _. EntersUnit me)
+          (steps.enters_unit slots id me live slot known_slot bd others drawn l
+          (subst (λ (b : ℕ). l ≡ lot b slot l.round l.shown 1) (sym book) is) told)
 
       pub may_take_out : me.0.stakes.moves ≡ None → IsDue me.0 slot → Deals Leaves (λ _. Unit {0}) (λ l me'. TakesOut slot me me' × IsDeposit slot me l)
       may_take_out rests due = deal_known Leaves (λ _. Unit {0}) (λ l me'. TakesOut slot me me' × IsDeposit slot me l)
@@ -327,18 +338,13 @@ module _ (γ : ℕ) (sizes : Sizes) (slots id : ℕ) (me : SeatState) where
         → AllowsBeside (DomainInvariant γ sizes) slots id me jd (owner_of slot shared value) (RecallsOwned (owner_of slot shared value) me)
     may_recall slot jd shared value = beside_known jd (owner_of slot shared value) (RecallsOwned (owner_of slot shared value) me) (λ s h long at there.
         let one = is_same slot slot refl in
-        let a = steps.recalls slots id me live jd (owner_of slot shared value) slot shared value (omega arith) refl s h long at there in (
+        let a = steps.recalls slots id me live jd (owner_of slot shared value) slot shared value (omega arith) (λ held. cc) refl s h long at there in (
           a.0,
           a.1,
           a.2,
           a.3,
           (λ other b g e. owner_told slot other shared b value g e (λ k c x. LearnsOwned k c x me (a.0, carried_after me.1 a.1)) a.4),
         ))
-
-    pub may_draw_unit : (bd slot : ℕ) → slot < sizes.slots → OwnsAlone me.0 slot → me.0.slots.drawn ≡ [] → me.0.stakes.moves ≡ None
-        → AllowsDeal (DomainInvariant γ sizes) Leaves IsBank banked slots id me bd (λ _. Unit {0}) (DrawsUnit slot me)
-    may_draw_unit bd slot inside mine drawn rests = deal_known bd slot inside Leaves (λ _. Unit {0}) (DrawsUnit slot me)
-        (raw.draws_unit slots id me live slot (known_slot bd slot inside) bd mine drawn rests)
 
     -- of a slot
     module _ (i slot : ℕ) (is : i ≡ slot_word sizes slot) (inside : slot < sizes.slots) where
@@ -359,10 +365,10 @@ module _ (γ : ℕ) (sizes : Sizes) (slots id : ℕ) (me : SeatState) where
       all_looked : sizes.participants ≤ me.0.slots.looked → me.0.sizes.participants ≤ me.0.slots.looked
       all_looked all = let e = ap (λ (z : Sizes). z.participants) same in omega arith
 
-      pub may_claim : me.0.stakes.moves ≡ None → May i (λ x. either (eqb x (free_word 0)) (owned_word 0) x)
-          (OfSlot (λ slot. ClaimsAll slot (free_word 0) (owned_word 0)) i me)
-      may_claim rests = at_slot (λ x. either (eqb x (free_word 0)) (owned_word 0) x) (λ j. OfSlot (λ slot. ClaimsAll slot (free_word 0) (owned_word 0)) j me)
-          (steps.claims slots id me live slot within rests)
+      pub may_claim : (y : ℕ) → alive y ≡ 1 → me.0.stakes.moves ≡ None → May i (λ x. either (eqb x (free_word 0)) y x)
+          (OfSlot (λ slot. ClaimsAll slot (free_word 0) y) i me)
+      may_claim y one rests = at_slot (λ x. either (eqb x (free_word 0)) y x) (λ j. OfSlot (λ slot. ClaimsAll slot (free_word 0) y) j me)
+          (steps.claims slots id me live slot within y one rests)
 
       -- of an item that goes out as raw, or is out
       pub may_turn_raw : me.0.slots.owns ≡ slot ∷ [] → ¬ (Holds me.0 slot) → me.0.slots.drawn ≡ [] → me.0.stakes.moves ≡ None → (value : Gv)
@@ -385,20 +391,45 @@ module _ (γ : ℕ) (sizes : Sizes) (slots id : ℕ) (me : SeatState) where
       may_look = at_slot (λ x. x) (λ j. Told (AtSlot LooksAtSlot j) me) (steps.looks slots id me live slot within)
 
       pub may_retire : me.0.slots.owns ≡ slot ∷ [] → ¬ (Holds me.0 slot) → me.0.slots.drawn ≡ [] → me.0.stakes.moves ≡ None → (value : Gv)
-          → IsIn me.0.stakes.owns slot value → May i (λ _. waiting_word 0) (λ _. OfSlot RetiresOne i me (waiting_word 0))
+          → HasRecord me.0.stakes.owns (record { slot = slot; shared = false; value = value }) → May i (λ _. waiting_word 0)
+          (λ _. OfSlot RetiresOne i me (waiting_word 0))
       may_retire mine free drawn rests value told = at_slot (λ _. waiting_word 0) (λ j _. OfSlot RetiresOne j me (waiting_word 0))
           (steps.retires slots id me live slot within mine free drawn rests value told)
+
+      pub may_let_one_go : me.0.slots.owns ≡ slot ∷ [] → ¬ (Holds me.0 slot) → me.0.slots.drawn ≡ [] → me.0.stakes.moves ≡ None → (value : Gv)
+          → HasRecord me.0.stakes.owns (record { slot = slot; shared = true; value = value }) → May i less_one (OfSlot ReleasesOne i me)
+      may_let_one_go mine free drawn rests value told = at_slot less_one (λ j. OfSlot ReleasesOne j me)
+          (steps.releases slots id me live slot within mine free drawn rests value told)
+
+      pub may_leave : (word : ℕ) → 1 < alive word → me.0.slots.owns ≡ slot ∷ [] → ¬ (Holds me.0 slot) → me.0.slots.drawn ≡ [] → me.0.stakes.moves ≡ None
+          → (value : Gv) → HasRecord me.0.stakes.owns (record { slot = slot; shared = true; value = value })
+          → May i (λ x. either (eqb x word) (word - 1) x) (OfSlot (LeavesOne word) i me)
+      may_leave word more mine free drawn rests value told = at_slot (λ x. either (eqb x word) (word - 1) x) (λ j. OfSlot (LeavesOne word) j me)
+          (steps.leaves slots id me live slot within mine free drawn rests value told word more)
 
       pub may_give_back : Moves me.0 slot → IsDue me.0 slot → (rest : CarriedFractions) → CarriesAll γ slot sizes.participants 0 IsNoValueCode rest me.1
           → May i (λ _. free_word 0) (λ _. OfSlot GivesAll i me (free_word 0))
       may_give_back moves due rest row = at_slot (λ _. free_word 0) (λ j _. OfSlot GivesAll j me (free_word 0))
           (steps.gives_all slots id me live slot within moves due rest (row_known IsNoValueCode rest row))
 
-      pub may_hold : OwnsAlone me.0 slot → me.0.slots.holds ≡ None → May i (λ x. x) (Told (AtSlot TakesHold i) me)
-      may_hold mine free = at_slot (λ x. x) (λ j. Told (AtSlot TakesHold j) me) (steps.takes_hold slots id me live slot within mine free)
+      pub may_hold : (value : Gv) → HasRecord me.0.stakes.owns (record { slot = slot; shared = false; value = value }) → me.0.slots.holds ≡ None
+          → May i (λ x. x) (Told (AtSlot TakesHold i) me)
+      may_hold value told free = at_slot (λ x. x) (λ j. Told (AtSlot TakesHold j) me) (steps.takes_hold slots id me live slot within value told free)
 
-      pub may_let_go : Holds me.0 slot → May i (λ x. x) (Told (AtSlot LetsGo i) me)
-      may_let_go held = at_slot (λ x. x) (λ j. Told (AtSlot LetsGo j) me) (steps.lets_go slots id me live slot within held)
+      pub may_let_go : Holds me.0 slot → me.0.stakes.moves ≡ None → ((r : ShownValue) → HasRecord me.0.stakes.owns r → r.slot ≡ slot → r.shared ≡ false)
+          → May i (λ x. x) (Told (AtSlot LetsGo i) me)
+      may_let_go held rests single = at_slot (λ x. x) (λ j. Told (AtSlot LetsGo j) me) (steps.lets_go slots id me live slot within held rests single)
+
+      pub may_try_hold : (value : Gv) → HasRecord me.0.stakes.owns (record { slot = slot; shared = true; value = value }) → me.0.slots.holds ≡ None
+          → me.0.stakes.moves ≡ None → May i (λ x. either (eqb x (shared_word 1)) held_word x) (Told (AtSlot TriesHold i) me)
+      may_try_hold value told free rests = at_slot (λ x. either (eqb x (shared_word 1)) held_word x) (λ j. Told (AtSlot TriesHold j) me)
+          (steps.tries_hold slots id me live slot within value told free rests)
+
+      pub may_share_again : Holds me.0 slot → me.0.stakes.moves ≡ None → ((r : ShownValue) → HasRecord me.0.stakes.owns r → r.slot ≡ slot → r.shared ≡ true)
+          → May i (λ _. shared_word 1) (λ _. Told (AtSlot SharesAgain i) me (shared_word 1))
+      may_share_again held rests several = at_slot (λ _. shared_word 1) (λ j _. Told (AtSlot SharesAgain j) me (shared_word 1))
+          (steps.shares_again slots id me live slot within (shared_word 1) one_left.0 held rests
+          (λ r told is. one_left.2 ∙ sym (ap one_where (several r told is))))
 
       pub may_discard : Moves me.0 slot → Holds me.0 slot → sizes.participants ≤ me.0.slots.looked → (rest : CarriedFractions)
           → CarriesAll γ slot sizes.participants 0 IsNoValueCode rest me.1 → May i (λ _. free_word 0) (λ _. OfSlot DiscardsAll i me (free_word 0))
@@ -406,14 +437,16 @@ module _ (γ : ℕ) (sizes : Sizes) (slots id : ℕ) (me : SeatState) where
           (steps.discards slots id me live slot within moves held (all_looked all) rest (row_known IsNoValueCode rest row))
 
 -- the bank is of the board's plan
-pub as_banked : (b : DomainTable) (Goes : List FractionContent → FractionContent → List FractionContent → Type 0) (slots id : ℕ) (me : SeatState) (bd : ℕ) (Offered : FractionContent → Type 0)
+pub as_banked : (b : DomainTable) (Goes : List FractionContent → FractionContent → List FractionContent → Type 0) (slots id : ℕ) (me : SeatState) (bd : ℕ)
+    (Offered : FractionContent → Type 0)
     (Then : FractionContent → SeatState → Type 0) → AllowsDeal (DomainInvariant (book_of b) (sizes_of b)) Goes IsBank banked slots id me bd Offered Then
     → AllowsDeal (DomainInvariant b.bank.key.title.book b.bank.key.sizes) Goes IsBank banked slots id me bd Offered Then
 as_banked b Goes slots id me bd Offered Then =
     subst (λ (k : TableLayout). AllowsDeal (DomainInvariant k.title.book k.sizes) Goes IsBank banked slots id me bd Offered Then) (sym b.banked.1)
 
 -- the token after a step that takes or gives stakes
-pub moved_at : (s t : Seat ValueFraction View) (r : ℕ) → t.table_id ≡ s.table_id → t.id ≡ s.id → (R : ℕ → SeatState → ℕ → SeatState → Type 0) (i slot : ℕ) (sizes : Sizes)
+pub moved_at : (s t : Seat ValueFraction View) (r : ℕ) → t.table_id ≡ s.table_id → t.id ≡ s.id → (R : ℕ → SeatState → ℕ → SeatState → Type 0) (i slot : ℕ)
+    (sizes : Sizes)
     → i ≡ slot_word sizes slot → s.me.0.sizes ≡ sizes → OfSlot R i s.me r t.me → Moved (R slot) s r t
 moved_at s t r home number R i slot sizes is same e = (home, number, e slot (is ∙ ap (λ (z : Sizes). slot_word z slot) (sym same)))
 
@@ -431,7 +464,7 @@ module _ {S : Type 0} (s t : Seat S View) (r : ℕ) (home : t.table_id ≡ s.tab
   pub told : (R : EpochView → ℕ → EpochView → Type 0) → Told (OnEpoch R) s.me r t.me → Stepped R s r t
   told R e = let w : EpochView = e.1.0 in let is : t.me.0 ≡ record s.me.0 { epoch = w } = e.1.1 in (
     (
-      (home, number, e.0, ap (λ (v : View). v.sizes) is, ap (λ (v : View). v.stakes) is),
+      (home, number, e.0, ap (λ (v : View). v.sizes) is, ap (λ (v : View). v.stakes) is, ap (λ (v : View). v.pledges) is),
       ap (λ (v : View). v.places) is,
       ap (λ (v : View). v.slots)
           is,
@@ -442,7 +475,7 @@ module _ {S : Type 0} (s t : Seat S View) (r : ℕ) (home : t.table_id ≡ s.tab
 
   pub published : Told PublishesAll s.me 2 t.me → HasPublished s t
   published e = let w : EpochView = e.1.0 in let is : t.me.0 ≡ record s.me.0 { epoch = w; slots = changed s.me.0 } = e.1.1 in (
-    (home, number, e.0, ap (λ (v : View). v.sizes) is, ap (λ (v : View). v.stakes) is),
+    (home, number, e.0, ap (λ (v : View). v.sizes) is, ap (λ (v : View). v.stakes) is, ap (λ (v : View). v.pledges) is),
     ap (λ (v : View). v.places) is,
     ap (λ (v : View). v.slots) is,
     ap (λ (v : View). v.words) is,
@@ -450,7 +483,7 @@ module _ {S : Type 0} (s t : Seat S View) (r : ℕ) (home : t.table_id ≡ s.tab
   )
 
 pub same_on : {S : Type 0} (s t u : Seat S View) → IsSame s t → IsSame t u → IsSame s u
-same_on s t u a b = (b.0 ∙ a.0, b.1 ∙ a.1, b.2 ∙ a.2, b.3 ∙ a.3, b.4 ∙ a.4)
+same_on s t u a b = (b.0 ∙ a.0, b.1 ∙ a.1, b.2 ∙ a.2, b.3 ∙ a.3, b.4 ∙ a.4, b.5 ∙ a.5)
 
 pub same_but_on : {S : Type 0} (s t u : Seat S View) → IsSameBut s t → IsSameBut t u → IsSameBut s u
 same_but_on s t u a b = (same_on s t u a.0 b.0, b.1 ∙ a.1, b.2 ∙ a.2, b.3 ∙ a.3)

@@ -21,7 +21,8 @@ slot_low n m i p low = dite (dec_lt i m) (λ l. l) (λ past. let le : m ≤ i = 
 pub home_at_end : (γ : ℕ) (sizes : Sizes) {A : Type 0} (closed : Closed ValueFraction A) (id : ℕ) (v : View) → sizes.participants ≤ v.places.ended
     → Final (Seen (DomainInvariant γ sizes) id v) (slots_items closed.words) (slots_items closed.slots) → IsFull closed.slots
     → AreHome γ sizes (slots_len closed.slots) closed
-home_at_end γ sizes closed id v all fin full = let n : ℕ = sizes.participants in let s : State ValueFraction View = fin.0 in let h = fin.1.0 in let long = fin.3 in
+home_at_end γ sizes closed id v all fin full = let n : ℕ = sizes.participants in let s : State ValueFraction View = fin.0 in let h = fin.1.0 in
+    let long = fin.3 in
     let deep = h.homes.deep in record {
       laid = record {
         long = sym long ∙ deep;

@@ -1,5 +1,5 @@
 -- What each call of the table asks for that is made on a place of the table of jobs
-use Rattle.std.proofs.Common.{◌≡◌, ℕ, ◌<◌, ◌≤◌, eqb, sym, ap, ◌∙◌, subst, arith}
+use Rattle.std.proofs.Common.{◌≡◌, ℕ, ◌<◌, ◌≤◌, eqb, sym, ap, ◌∙◌, subst}
 use Rattle.std.specs.Prelude.{None}
 use prog.Atomic.{either}
 use Rattle.atomic_table.specs.Table.{Allows}

@@ -31,7 +31,8 @@ pub lot_last : (γ i n o : ℕ) (Is : Gv → Type 0) (x : ValueFraction) → Has
 lot_last γ i n o Is x has = subst (λ (u : ℕ). x.lot ≡ lot γ i x.lot.round x.lot.shown u) (share_last n o) has.0
 
 -- it has other units then
-pub last_else : (γ i n o o' u : ℕ) (Is : Gv → Type 0) (rest : CarriedFractions) (k : ℕ) (x y : ValueFraction) (xs ys : CarriedFractions) → xs ≡ (k, x) ∷ table.rest xs
+pub last_else : (γ i n o o' u : ℕ) (Is : Gv → Type 0) (rest : CarriedFractions) (k : ℕ) (x y : ValueFraction) (xs ys : CarriedFractions) → xs ≡ (k, x) ∷
+    table.rest xs
     → ys ≡ (k, y) ∷ table.rest xs → u ≡ most - n - o' → y.lot ≡ record x.lot { units = u } → CarriesAll γ i n o Is rest xs → CarriesAll γ i n o' Is rest ys
 last_else γ i n o o' u Is rest k x y xs ys was now units is row = subst (CarriesAll γ i n o' Is rest) (sym now)
     (units_else γ i n o o' Is rest k x y (table.rest xs) u units is (subst (CarriesAll γ i n o Is rest) was row))
@@ -42,7 +43,8 @@ part_of γ i u m l k is part = part ∙ (ap (λ (h : FractionContent). record h 
     ∙ (λ d. lot γ i (sym (ap (λ (h : FractionContent). h.round) part) d) (sym (ap (λ (h : FractionContent). h.shown) part) d) m))
 
 -- and is a grip, which shows what the stakes do
-pub cut_grips : (γ i units : ℕ) (value : Gv) (x : ValueFraction) (l : FractionContent) (g : ReadFraction) → Has γ i units (IsValue value) x → l ≡ record x.lot { units = 1 } → lot_of g ≡ l
+pub cut_grips : (γ i units : ℕ) (value : Gv) (x : ValueFraction) (l : FractionContent) (g : ReadFraction) → Has γ i units (IsValue value) x → l ≡ record x.lot
+    { units = 1 } → lot_of g ≡ l
     → IsGripOf γ i value g
 cut_grips γ i units value x l g has is same = let e : lot_of g ≡ record x.lot { units = 1 } = same ∙ is in record {
   unit = record {

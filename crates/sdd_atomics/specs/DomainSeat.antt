@@ -11,7 +11,7 @@ use Rattle.sdd_word_invariant.specs.SlotSteps.{changed}
 use Rattle.sdd_shared_values.specs.declared.value_fraction.ValueFraction.{ValueFraction}
 use Rattle.sdd_views.specs.Views.{owner_of}
 use Rattle.sdd_domain_invariant.specs.FractionsAtHome.{CarriedFractions, Moves}
-use Rattle.sdd_domain_invariant.specs.BankInvariant.{founded}
+use Rattle.sdd_domain_invariant.specs.BankInvariant.{founded, with_ledger}
 use Rattle.sdd_domain_invariant.specs.FractionSteps.{SeatState, FillsSlot, SeesOwned, LearnsOwned, ClosesHome}
 use Rattle.sdd_atomics.specs.declared.domain_table.DomainTable.{DomainTable}
 use Rattle.sdd_atomics.specs.DomainTable.{sizes_of, book_of}
@@ -30,17 +30,18 @@ module _ {S : Type 0} where
   abbrev pub words_known : Seat S View → List ℕ
   words_known s = s.me.0.words
 
-  -- a new token, which is as the first one, but may not found the bank
+  -- a new token, which is as the first one, but may not found the bank, nor the ledger
   abbrev pub Sits : Step S → Me S View → ℕ → Me S View → Type 0
-  Sits st m r m' = m' ≡ (founded m.0, m.1)
+  Sits st m r m' = m' ≡ (with_ledger (founded m.0), m.1)
 
   -- a step that tells R: of what was known before, the number found and what is known after
   abbrev pub Told : (View → ℕ → View → Type 0) → Me S View → ℕ → Me S View → Type 0
   Told R m r m' = (m'.1 ≡ m.1) × R m.0 r m'.0
 
-  -- it is the same token, and knows the same of sizes and stakes
+  -- it is the same token, and knows the same of sizes, stakes and pledges
   abbrev pub IsSame : Seat S View → Seat S View → Type 0
   IsSame s s' = (s'.table_id ≡ s.table_id) × (s'.id ≡ s.id) × (s'.me.1 ≡ s.me.1) × (s'.me.0.sizes ≡ s.me.0.sizes) × (s'.me.0.stakes ≡ s.me.0.stakes)
+      × (s'.me.0.pledges ≡ s.me.0.pledges)
 
   -- the token is as it was, but for what it knows of the epoch
   abbrev pub IsSameBut : Seat S View → Seat S View → Type 0

@@ -4,3 +4,4 @@ pub mod DomainSeat
 pub mod Owner
 pub mod Counts
 pub mod Grips
+pub mod Clones

@@ -9,11 +9,12 @@ ghost use Rattle.sdd_domain_invariant.specs.FractionsAtHome.{AreLaid, AreHome};
 ghost use Rattle.sdd_domain_invariant.specs.Counts.{made_by, gone_by, over_by, full_slots};
 ghost use Rattle.sdd_atomics.specs.Sizes.{AreSmall};
 
-use crate::plays::Found;
+use crate::plays::{Found, FoundLedger};
 use crate::words::{first_slot, word_count};
 use atomic_table::{Closed, Refused, Seat, Table, TableRule};
 use sdd_shared_values::{Bank, Treasury, ValueFraction, ValuesName};
 use sdd_views::{Sizes, View};
+use sdd_witness::{Books, Ledger};
 use std::alloc::Global;
 
 /// How many of each a domain has, and of which book its values' places are.
@@ -46,6 +47,21 @@ impl Treasury<View> for Vault {
     ghost banked = { bank.banked };
 }
 
+/// How the ledger's view tells of the pledges that are there, and a participant's of its own.
+pub struct Pledges;
+
+impl Books<View> for Pledges {
+    ghost use Rattle.sdd_domain_invariant.specs.PledgesInvariant as pledges;
+
+    ghost ours = { pledges.IsLedger };
+
+    ghost booked = { pledges.booked_by };
+
+    ghost pledging = { pledges.pledging };
+
+    ghost freeing = { pledges.freeing };
+}
+
 /// What a participant knows of the words, and the stakes that it has out.
 pub type DomainSeat = Seat<ValueFraction, View>;
 
@@ -55,11 +71,14 @@ pub struct DomainTable {
     pub table: Table<ValueFraction, View, TableLayout, DomainRule, Global>,
     /// What is of the values that lie in slots, and neither in their stakes nor with their owners.
     pub bank: Bank<View, TableLayout, DomainRule, Vault>,
+    /// Shares of the views of owners, beside which another owner comes.
+    pub ledger: Ledger<ValueFraction, View, TableLayout, DomainRule, Pledges>,
     places: usize,
     /// Where the slots' words begin.
     first_slot: usize,
     ghost sized: { AreSmall table.shared.key.sizes × (table.shared.table_id.words ≡ all_words table.shared.key.sizes) },
     ghost banked: { (bank.table_id ≡ table.shared.table_id) × (bank.key ≡ table.shared.key) },
+    ghost ledgered: { (ledger.table_id ≡ table.shared.table_id) × (ledger.key ≡ table.shared.key) },
     ghost placed: { (places ≡ table.shared.key.sizes.participants) × (first_slot ≡ words.first_slot table.shared.key.sizes) },
 }
 
@@ -84,9 +103,11 @@ impl DomainTable {
         match Table::new(alloc, words.as_slice(), laid, plan) {
             Ok((table, mut seat)) => {
                 let bank = Bank::found::<Found>(&table.shared, &mut seat);
+                let ledger = Ledger::found::<FoundLedger>(&table.shared, &mut seat);
                 Ok(DomainTable {
                     table,
                     bank,
+                    ledger,
                     places: plan.sizes.participants as usize,
                     first_slot: first_slot(&plan.sizes) as usize,
                 })
@@ -127,6 +148,7 @@ impl DomainTable {
         let DomainTable {
             table,
             bank: _,
+            ledger: _,
             places: _,
             first_slot: _,
         } = self;

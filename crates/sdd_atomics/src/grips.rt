@@ -40,7 +40,8 @@ pub fn cut_rest(
 ) -> (ReadFraction, ValueFraction)
     requires home { token.old.table_id ≡ id_of board.now }
     requires inside { slot < slots_of board.now }
-    requires row { (value : Gv) × (others : CarriedFractions) × CarriesAll (book_of board.now) slot (places_of board.now) 0 (IsValue value) others token.old.me.1 }
+    requires row { (value : Gv) × (others : CarriedFractions)
+        × CarriesAll (book_of board.now) slot (places_of board.now) 0 (IsValue value) others token.old.me.1 }
     ensures token { (token.new.table_id ≡ token.old.table_id) × (token.new.id ≡ token.old.id) × (view token.new ≡ view token.old) }
     ensures row { (value : Gv) (others : CarriedFractions) → CarriesAll (book_of board.now) slot (places_of board.now) 0 (IsValue value) others token.old.me.1
         → CarriesAll (book_of board.now) slot (places_of board.now) (spare (places_of board.now)) (IsValue value) others token.new.me.1
@@ -76,7 +77,8 @@ pub fn join_rest(board: &DomainTable, token: &mut DomainSeat, slot: u32, rest: V
 #[inline]
 pub fn unit_of(board: &DomainTable, slot: u32, grip: ReadFraction) -> ValueFraction
     requires { IsUnitOf (book_of board.now) slot grip }
-    ensures { result.lot ≡ lot (book_of board.now) slot result.lot.round result.lot.shown 1 }
+    ensures unit { result.lot ≡ lot (book_of board.now) slot result.lot.round result.lot.shown 1 }
+    ensures shown { result.lot.shown ≡ grip.shown }
 {
     let _ = board;
     let _ = slot;

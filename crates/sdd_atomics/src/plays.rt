@@ -1,13 +1,14 @@
 //! What each step tells.
 ghost use Rattle.std.specs.Prelude.{[], true, false};
 ghost use Rattle.sdd_word_invariant.specs.EpochSteps.{Registers, Reads, Counts, Locks, LooksAtLock, LooksAtState, LooksAtCount, Advances, Unlocks};
-ghost use Rattle.sdd_word_invariant.specs.SlotSteps.{OnEpoch, PublishesAll, LooksAtSlot, TakesHold, LetsGo, LooksForGuard, AtSlot};
+ghost use Rattle.sdd_word_invariant.specs.SlotSteps.{OnEpoch, PublishesAll, LooksAtSlot, TakesHold, LetsGo, TriesHold, SharesAgain, LooksForGuard, AtSlot};
 ghost use Rattle.sdd_word_invariant.specs.Barred.{Bars, LooksForValue};
 ghost use Rattle.sdd_views.specs.Views.{owner_token};
-ghost use Rattle.sdd_domain_invariant.specs.BankInvariant.{founded, bank_of};
-ghost use Rattle.sdd_domain_invariant.specs.FractionSteps.{ClaimsAll, TakesOut, TakesHeld, IsDeposit, RetiresOne, GivesAll, DefersJob, GivesPlace, DiscardsAll, ClosesHome, EndsAll, EntersUnit, OfSlot, parting, departing, regained, uncounting, counts_of, counting};
+ghost use Rattle.sdd_domain_invariant.specs.BankInvariant.{founded, bank_of, with_ledger, ledger_of};
+ghost use Rattle.sdd_domain_invariant.specs.FractionSteps.{ClaimsAll, TakesOut, TakesHeld, IsDeposit, RetiresOne, GivesAll, DefersJob, GivesPlace, DiscardsAll, ClosesHome, EndsAll, EntersUnit, OfSlot, parting, departing, regained, uncounting, counts_of, counting, ReleasesOne, LeavesOne, TakesOneBack, DrawsUnit};
 ghost use Rattle.sdd_word_invariant.specs.Codes.{raw_word};
-ghost use Rattle.sdd_domain_invariant.specs.RawSteps.{TurnsRawOne, RegainsOne, SeesRawOne, DrawsUnit};
+ghost use Rattle.sdd_domain_invariant.specs.RawSteps.{TurnsRawOne, RegainsOne, SeesRawOne};
+ghost use Rattle.sdd_atomics.specs.Clones.{AddsPledged};
 ghost use Rattle.sdd_atomics.specs.DomainSeat.{Sits, Told, HousesMoved, WatchesOwned, RecallsOwned};
 
 use atomic_table::{Join, Play, Split};
@@ -117,6 +118,18 @@ impl Deals<View> for FillSharedSlot {
     ghost then = { λ _ me _. HousesMoved true me };
 }
 
+pub struct OneMore;
+
+impl Play<ValueFraction, View> for OneMore {
+    ghost then = { λ step. AddsPledged step.word };
+}
+
+pub struct TakeBack;
+
+impl Play<ValueFraction, View> for TakeBack {
+    ghost then = { λ step. OfSlot TakesOneBack step.word };
+}
+
 pub struct EnterUnit;
 
 impl Deals<View> for EnterUnit {
@@ -127,6 +140,18 @@ pub struct Retire;
 
 impl Play<ValueFraction, View> for Retire {
     ghost then = { λ step. OfSlot RetiresOne step.word };
+}
+
+pub struct LetGo;
+
+impl Play<ValueFraction, View> for LetGo {
+    ghost then = { λ step. OfSlot ReleasesOne step.word };
+}
+
+pub struct Leave;
+
+impl Play<ValueFraction, View> for Leave {
+    ghost then = { λ step. OfSlot (LeavesOne step.first) step.word };
 }
 
 pub struct TakeOut;
@@ -195,6 +220,18 @@ impl Play<ValueFraction, View> for ReleaseHold {
     ghost then = { λ step. Told (AtSlot LetsGo step.word) };
 }
 
+pub struct TryHold;
+
+impl Play<ValueFraction, View> for TryHold {
+    ghost then = { λ step. Told (AtSlot TriesHold step.word) };
+}
+
+pub struct ShareAgain;
+
+impl Play<ValueFraction, View> for ShareAgain {
+    ghost then = { λ step. Told (AtSlot SharesAgain step.word) };
+}
+
 pub struct Discard;
 
 impl Play<ValueFraction, View> for Discard {
@@ -237,6 +274,14 @@ impl Split<View> for Found {
     ghost left = { founded };
 
     ghost right = { bank_of };
+}
+
+pub struct FoundLedger;
+
+impl Split<View> for FoundLedger {
+    ghost left = { with_ledger };
+
+    ghost right = { ledger_of };
 }
 
 pub struct CutOwner;

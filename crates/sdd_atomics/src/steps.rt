@@ -9,7 +9,7 @@ ghost use Rattle.sdd_atomics.specs.DomainTable.{id_of, sizes_of, book_of, places
 ghost use Rattle.sdd_word_invariant.specs.SlotSteps.{blank};
 ghost use Rattle.sdd_word_invariant.specs.Barred.{IsNobodys, Bars};
 ghost use Rattle.sdd_domain_invariant.specs.FractionSteps.{CarriesSeen, EndsAll};
-ghost use Rattle.sdd_atomics.specs.DomainSeat.{view, epoch, words_known, Stepped, Taught, HasPublished, HasClosed, Knows};
+ghost use Rattle.sdd_atomics.specs.DomainSeat.{view, epoch, words_known, Stepped, Taught, HasPublished, HasClosed, Knows, slots};
 
 pub mod counts;
 pub mod jobs;
@@ -115,6 +115,7 @@ pub fn end(board: &DomainTable, token: &mut DomainSeat, place: usize)
     requires rests { (view token.old).stakes.moves ≡ None }
     requires own { (place ≡ (epoch token.old).place) × (place < places_of board.now) }
     requires closed { IsClosed (epoch token.old) }
+    requires within { (slots token.old).over ≡ None }
     ensures { Taught EndsAll token.old 3 token.new }
 {
     board

@@ -3,7 +3,7 @@ use Rattle.std.specs.Prelude.{ℕ, List, codes}
 use Rattle.sdd_bench.specs.declared.threads.Timed.{Timed}
 use Rattle.sdd_bench.specs.declared.threads.Timed.TheVariants.{Guard, Nested as NestedGuard, Accelerate, MakeAndRetire}
 use Rattle.sdd_bench.specs.declared.operation.Guarding.TheVariants.{Outermost, Nested, Accelerated}
-use Rattle.sdd_bench.specs.declared.operation.Task.TheVariants.{Guards, Items, HalfFull, Looks, Reads, Gets, Jobs, Raws, Changes}
+use Rattle.sdd_bench.specs.declared.operation.Task.TheVariants.{Guards, Items, HalfFull, Looks, Reads, Gets, Jobs, Raws, Changes, Shares}
 use Rattle.sdd_bench.specs.declared.operation.Operation.{Operation}
 use Rattle.sdd_bench.specs.declared.operation.Operation.TheVariants.{World, Local, Beside, Places, Item, Job, Read, Look, Load, Share, Raw, Swap}
 
@@ -22,6 +22,7 @@ name_of (Local Gets) = codes "local-get"
 name_of (Local Jobs) = codes "local-job"
 name_of (Local Raws) = codes "local-raw"
 name_of (Local Changes) = codes "local-change"
+name_of (Local Shares) = codes "local-share"
 name_of (Beside (Guards Outermost)) = codes "beside-outermost"
 name_of (Beside (Guards Nested)) = codes "beside-nested"
 name_of (Beside (Guards Accelerated)) = codes "beside-accelerated"
@@ -33,6 +34,7 @@ name_of (Beside Gets) = codes "beside-get"
 name_of (Beside Jobs) = codes "beside-job"
 name_of (Beside Raws) = codes "beside-raw"
 name_of (Beside Changes) = codes "beside-change"
+name_of (Beside Shares) = codes "beside-share"
 name_of Places = codes "domain-places"
 name_of Item = codes "world-item"
 name_of Job = codes "world-job"

@@ -117,6 +117,7 @@ pub fn worked(local: &mut Local<'_, u64>, task: Task, turns: u64) -> Result<u64,
         Task::Jobs => turns::jobs(local, turns)?,
         Task::Raws => return raws(local, turns),
         Task::Changes => return changes(local, turns),
+        Task::Shares => turns::shares(local, turns)?,
     }
     Ok(0)
 }

@@ -33,6 +33,8 @@ pub enum Task {
     Raws,
     /// An owner changes its item, while no guard is open.
     Changes,
+    /// A shared owner is cloned, and the clone released.
+    Shares,
 }
 
 /// What is done in each turn, and where.
@@ -91,6 +93,7 @@ pub fn named(word: &str) -> Option<Operation>
         "local-job" => Some(Operation::Local(Task::Jobs)),
         "local-raw" => Some(Operation::Local(Task::Raws)),
         "local-change" => Some(Operation::Local(Task::Changes)),
+        "local-share" => Some(Operation::Local(Task::Shares)),
         "beside-outermost" => Some(Operation::Beside(Task::Guards(Guarding::Outermost))),
         "beside-nested" => Some(Operation::Beside(Task::Guards(Guarding::Nested))),
         "beside-accelerated" => Some(Operation::Beside(Task::Guards(Guarding::Accelerated))),
@@ -102,6 +105,7 @@ pub fn named(word: &str) -> Option<Operation>
         "beside-job" => Some(Operation::Beside(Task::Jobs)),
         "beside-raw" => Some(Operation::Beside(Task::Raws)),
         "beside-change" => Some(Operation::Beside(Task::Changes)),
+        "beside-share" => Some(Operation::Beside(Task::Shares)),
         "domain-places" => Some(Operation::Places),
         _ => None,
     }

@@ -12,7 +12,7 @@ use crate::operation::Guarding;
 use sdd_core::Refused;
 use sdd_participants::Idle;
 use sdd_space::laws::comes_back;
-use sdd_space::{Deferrals, Guard, Guards, Items, Look, Owned, RawItems, Shared, SharedItems};
+use sdd_space::{Deferrals, Guard, Guards, Items, Look, Owned, RawItems, Shared, SharedOwners};
 
 /// Does something with guards that often.
 #[inline(always)]
@@ -292,7 +292,7 @@ fn sum_read<S: Items<u64>>(
 
 /// Makes an item with a shared owner, clones the owner and releases the clone that often, and releases the owner.
 #[inline(always)]
-pub fn shares<S: Items<u64> + SharedItems<u64>>(space: &mut S, turns: u64) -> Result<(), Refused>
+pub fn shares<S: Items<u64> + SharedOwners<u64>>(space: &mut S, turns: u64) -> Result<(), Refused>
     requires { IsSeated (S.seat space.old) }
     ensures { Leaves (S.seat space.old) (S.own space.old) (S.world space.old) (S.seat space.new) (S.own space.new) (S.world space.new) }
 {
@@ -308,7 +308,7 @@ pub fn shares<S: Items<u64> + SharedItems<u64>>(space: &mut S, turns: u64) -> Re
 
 /// Clones the only owner of an item, and releases the clone, that often.
 #[inline(always)]
-fn clones<S: Items<u64> + SharedItems<u64>>(
+fn clones<S: Items<u64> + SharedOwners<u64>>(
     space: &mut S,
     owner: &Shared<u64>,
     turns: u64,

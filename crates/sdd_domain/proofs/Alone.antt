@@ -6,7 +6,6 @@ use Rattle.sdd_participants.specs.declared.place_states.PlaceState.TheVariants.{
 use Rattle.sdd_participants.specs.declared.standing.Standing.{Standing}
 use Rattle.sdd_participants.specs.declared.tally.Tally.{Tally}
 use Rattle.sdd_word_invariant.specs.SlotSteps.{behind}
-use Rattle.sdd_domain_invariant.specs.FilledInvariant.{newest}
 use Rattle.sdd_standings.specs.Cells.{null_pointer}
 use Rattle.sdd_space.specs.World.{World}
 use Rattle.sdd_domain.specs.SpaceIds.{home_in}
@@ -15,7 +14,7 @@ use Rattle.sdd_domain.specs.Local.{LocalModel, listing, standing_by, value_by, w
 -- ---- a world of one participant
 module _ {T : Type 0} where
   abbrev pub standing_with : LocalModel T → List ℕ → ℕ → Option Standing
-  standing_with p ws i = standing_by (get_or ws (behind p.member.sizes i) 0) (newest i p.member.filled)
+  standing_with p ws i = standing_by (get_or ws (behind p.member.sizes i) 0)
 
   abbrev pub value_with : LocalModel T → List ℕ → ℕ → Option T
   value_with p ws i = value_by (get_or ws (behind p.member.sizes i) 0) (slice_index_or p.entries i None)

@@ -76,12 +76,14 @@ module _ (count : ℕ) (own : Participant) where
   pub has_open : (b : Bool) (new : Participant) → HasArrived count b own new → new.guards ≡ own.guards
   has_open true new h = ap (λ (p : Participant). p.guards) (h.change refl).1 ∙ as_open
   has_open false new h = ⊎_elim (λ (t : (own.found ≡ count) × (new ≡ arrived_at count own)). ap (λ (p : Participant). p.guards) t.1 ∙ as_open)
-      (λ (t : (own.found ≢ count) × (own.bags.waiting ≡ []) × (new ≡ settled (arrived_at count own))). ap (λ (p : Participant). p.guards) t.2 ∙ as_open) (h.over refl)
+      (λ (t : (own.found ≢ count) × (own.bags.waiting ≡ []) × (new ≡ settled (arrived_at count own))). ap (λ (p : Participant). p.guards) t.2 ∙ as_open)
+      (h.over refl)
 
   pub has_room : (b : Bool) (new : Participant) → HasArrived count b own new → new.bags.room ≡ own.bags.room
   has_room true new h = ap (λ (p : Participant). p.bags.room) (h.change refl).1 ∙ as_large
   has_room false new h = ⊎_elim (λ (t : (own.found ≡ count) × (new ≡ arrived_at count own)). ap (λ (p : Participant). p.bags.room) t.1 ∙ as_large)
-      (λ (t : (own.found ≢ count) × (own.bags.waiting ≡ []) × (new ≡ settled (arrived_at count own))). ap (λ (p : Participant). p.bags.room) t.2 ∙ as_large) (h.over refl)
+      (λ (t : (own.found ≢ count) × (own.bags.waiting ≡ []) × (new ≡ settled (arrived_at count own))). ap (λ (p : Participant). p.bags.room) t.2 ∙ as_large)
+      (h.over refl)
 
   -- what has seen three changes is due
   pub due_ripe : (n : ℕ) (xs : List WaitingItem) → own.bags.waiting ≡ map (waiting_of n) (unripe xs) → ripe xs ≡ []
@@ -98,7 +100,8 @@ module _ (count : ℕ) (own : Participant) where
 
 module _ (b : DomainTable) (p : ℕ) (own : Participant) (count : ℕ) where
   -- the same count is found again
-  pub arrived_same : (s t u : Seat ValueFraction View) → IsBetweenCalls b p own s → own.guards ≡ 0 → Stepped Reads s count t → own.found ≡ count → HasPublished t u
+  pub arrived_same : (s t u : Seat ValueFraction View) → IsBetweenCalls b p own s → own.guards ≡ 0 → Stepped Reads s count t → own.found ≡ count → HasPublished
+      t u
       → IsBetweenCalls b p (nested own) u × Arrives count own s u
   arrived_same s t u q shut read same pub_ =
       let g : ℕ = pub_.4.0 in let e : EpochView = epoch s in
@@ -112,7 +115,7 @@ module _ (b : DomainTable) (p : ℕ) (own : Participant) (count : ℕ) where
       let lone : IsLone e → g ≡ count
       = λ one. pub_.4.3 (ap (λ (x : EpochView). x.all) read.1.0 ∙ one) ∙ ap (λ (x : EpochView). x.known) read.1.0 in (
         posed_arrived b p own own count g s.me.0.slots.waits s u q (pub_.0.0 ∙ read.0.0.0) (pub_.0.2 ∙ read.0.0.2) (pub_.0.3 ∙ read.0.0.3)
-            (λ i. record ((pub_.0.4 ∙ read.0.0.4) i) { counts = s.me.0.stakes.counts }) epochs low lone keeps
+            (λ i. record ((pub_.0.4 ∙ read.0.0.4) i) { counts = s.me.0.stakes.counts }) (pub_.0.5 ∙ read.0.0.5) epochs low lone keeps
             (λ i. omega arith) same shut q.bags refl q.pace q.idle,
         record {
           table = pub_.0.0 ∙ read.0.0.0;
@@ -157,7 +160,7 @@ module _ (b : DomainTable) (p : ℕ) (own : Participant) (count : ℕ) where
         ∙ (ap left (aged_alike (slots_of b) xs) ∙ left_alike (slots_of b) (map older xs)) in
         let idle : own.countdown ≡ 128 → left (aged own.bags.waiting) ≡ [] = λ full. ap (λ (ws : List Waiting). left (aged ws)) (q.idle full) in (
           posed_arrived b p own (rotated count own) count g (map older xs) s w q table others sizes
-              (λ i. record (stakes i) { counts = s.me.0.stakes.counts }) epochs low lone older_now
+              (λ i. record (stakes i) { counts = s.me.0.stakes.counts }) (pub_.0.5 ∙ (write.0.0.5 ∙ read.0.0.5)) epochs low lone older_now
               (λ i. let m = same_items i xs in omega arith)
               refl shut bags refl q.pace idle,
           record {
@@ -176,7 +179,8 @@ module _ (b : DomainTable) (p : ℕ) (own : Participant) (count : ℕ) where
         )
 
 -- a participant is posed still once it is decided that nothing waits
-pub posed_settled : (b : DomainTable) (p : ℕ) (own : Participant) (token : Seat ValueFraction View) → own.bags.waiting ≡ [] → IsBetweenCalls b p own token → IsBetweenCalls b p (settled own) token
+pub posed_settled : (b : DomainTable) (p : ℕ) (own : Participant) (token : Seat ValueFraction View) → own.bags.waiting ≡ [] → IsBetweenCalls b p own token →
+    IsBetweenCalls b p (settled own) token
 posed_settled b p own token none q = let paced : (settled own).countdown ≡ 128 = ap (λ (ws : List Waiting). elim ws [ [] ↦ 128 | x ∷ xs ↦ 127 ]) none in record {
   home = q.home;
   purse = q.purse;
@@ -195,6 +199,7 @@ posed_settled b p own token none q = let paced : (settled own).countdown ≡ 128
   knows = q.knows;
   found = q.found;
   quiet = q.quiet;
+  pledges = q.pledges;
   waiting = q.waiting;
   bags = q.bags;
   room = q.room;

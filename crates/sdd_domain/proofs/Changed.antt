@@ -8,14 +8,15 @@ use Rattle.sdd_views.specs.declared.ShownValue.{ShownValue}
 use Rattle.sdd_domain_invariant.specs.FilledInvariant.{newest}
 use Rattle.sdd_domain_invariant.proofs.Fillings.{newest_now, newest_before}
 use Rattle.sdd_space.specs.WorldChanges.{with_value}
-use Rattle.sdd_domain.specs.LocalState.{ChangesAt, KnowsOwner, LocalState, word_of}
+use Rattle.sdd_domain.specs.LocalState.{ChangesAt, IsLone, KnowsOwner, LocalState, word_of}
 use Rattle.sdd_domain.specs.WordsAndValues.{Agrees, AreTied}
-use Rattle.sdd_domain.specs.Local.{LocalModel, listing, standing_by, value_by, standing_in, value_in, world_of}
-use Rattle.sdd_domain.proofs.Listings.{listing_same, listing_set}
-use Rattle.sdd_domain.proofs.Owning.{owned}
+use Rattle.sdd_domain.specs.Local.{LocalModel, listing, value_by, value_in, world_of}
+use Rattle.sdd_domain.proofs.Listings.{listing_set}
+use Rattle.sdd_domain.proofs.Owning.{sole_still, taken}
+use Rattle.sdd_domain.proofs.Words.{value_there}
 
 module _ {T : Type 0} (v : LocalModel T) (t : AreTied v.member v.entries) (k : ℕ) (shared : Bool) (was : Gv) (knows : KnowsOwner v.member k shared was)
-    (x : T) (g : Gv) (m : LocalState) (is : ChangesAt k shared g v.member m) where
+    (x : T) (g : Gv) (m : LocalState) (lone : IsLone v.member) (is : ChangesAt k shared g v.member m) where
   abbrev r : ShownValue
   r = record { slot = k; shared = shared; value = g }
 
@@ -24,6 +25,10 @@ module _ {T : Type 0} (v : LocalModel T) (t : AreTied v.member v.entries) (k : �
 
   abbrev later : LocalModel T
   later = record { member = now; entries = set v.entries k (Some (x, g)) }
+
+  -- its word is as it was
+  is_now : m ≡ now
+  is_now = is.member ∙ (λ d. record (sole_still v.member k shared (is.sole lone) d) { filled = r ∷ v.member.filled })
 
   wide : k < length v.entries
   wide = let w = t.wide in let l = is.inside in omega arith
@@ -61,24 +66,17 @@ module _ {T : Type 0} (v : LocalModel T) (t : AreTied v.member v.entries) (k : �
   }
 
   pub tied_changed : (es : List (Option (T × Gv))) → es ≡ set v.entries k (Some (x, g)) → AreTied m es
-  tied_changed es set_is = subst (λ (z : LocalState × List (Option (T × Gv))). AreTied z.0 z.1) (λ d. (sym is.member d, sym set_is d)) tied_now
+  tied_changed es set_is = subst (λ (z : LocalState × List (Option (T × Gv))). AreTied z.0 z.1) (λ d. (sym is_now d, sym set_is d)) tied_now
 
   -- the slot stands as it did
-  stands_then : standing_in later k ≡ standing_in v k
-  stands_then = let word = owned v t k shared was knows in (λ d. standing_by (word d) (newest_now r v.member.filled d))
-      ∙ sym (λ d. standing_by (word d) (knows.newest d))
-
   world_now : world_of later ≡ with_value (world_of v) k x
   world_now = let n : ℕ = v.member.limits.slots in
-      let standings : listing n (standing_in later) ≡ listing n (standing_in v)
-      = listing_same n (standing_in v) (standing_in later) (λ i l. dite (ℕ_discrete i k)
-      (λ e. ap (standing_in later) e ∙ (stands_then ∙ ap (standing_in v) (sym e)))
-      (λ ne. ap (standing_by (word_of v.member i)) (filled_then i ne))) in
       let values : listing n (value_in later) ≡ set (listing n (value_in v)) k (Some x)
       = listing_set n (value_in v) (value_in later) k (λ i l ne. ap (value_by (word_of v.member i)) (entry_then i ne))
-      ∙ ap (set (listing n (value_in v)) k) (λ d. value_by (owned v t k shared was knows d) (entry_now d)) in
-      λ d. record (world_of later) { standings = standings d; values = values d }
+      ∙ ap (set (listing n (value_in v)) k) (ap (value_by (word_of v.member k)) entry_now
+      ∙ value_there (word_of v.member k) (Some (x, g)) (taken v t k shared was knows)) in
+      λ d. record (world_of later) { values = values d }
 
   pub world_changed : (es : List (Option (T × Gv))) → es ≡ set v.entries k (Some (x, g))
       → world_of (record { member = m; entries = es }) ≡ with_value (world_of v) k x
-  world_changed es set_is = (λ d. world_of (record { member = is.member d; entries = set_is d })) ∙ world_now
+  world_changed es set_is = (λ d. world_of (record { member = is_now d; entries = set_is d })) ∙ world_now

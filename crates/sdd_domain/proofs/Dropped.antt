@@ -11,8 +11,7 @@ use Rattle.sdd_shared_values.specs.SharedValues.{showing}
 use Rattle.sdd_views.specs.declared.Sizes.{Sizes}
 use Rattle.sdd_word_invariant.specs.Codes.{waiting, full}
 use Rattle.sdd_word_invariant.specs.SlotSteps.{behind}
-use Rattle.sdd_word_invariant.proofs.Codes.{free_is, owned_is}
-use Rattle.sdd_domain_invariant.specs.FilledInvariant.{newest}
+use Rattle.sdd_word_invariant.proofs.Codes.{free_is, sound}
 use Rattle.sdd_space.specs.OwnerOrCell.{OwnerOrCell}
 use Rattle.sdd_space.specs.World.{World, value_at}
 use Rattle.sdd_space.specs.WorldChanges.{dropped, dropped_out, given_all, vacated}
@@ -21,7 +20,7 @@ use Rattle.sdd_domain.specs.Values.{one_showing}
 use Rattle.sdd_domain.specs.WordsAndValues.{AreTied, MatchesPlace, is_plain_word}
 use Rattle.sdd_domain.specs.Local.{LocalModel, listing, standing_by, value_by, standing_in, value_in, world_of}
 use Rattle.sdd_domain.proofs.Listings.{listing_set}
-use Rattle.sdd_domain.proofs.Owning.{entry, has_value, owned}
+use Rattle.sdd_domain.proofs.Owning.{entry, has_value}
 use Rattle.sdd_domain.proofs.Words.{word_same, word_other}
 
 -- an owner's item has the value that its owner tells
@@ -33,7 +32,7 @@ module _ (R : RattleType) (v : LocalModel R.Denot) (t : AreTied v.member v.entri
       has_value v t k shared (showing R x) knows ∙ ap Some (one_showing R e.0.0 x (sym (codes k e.0.0 e.0.1 e.1) ∙ e.2))
 
   -- and is dropped
-  module _ (m : LocalState) (is : DropsAt k v.member m) where
+  module _ (m : LocalState) (is : DropsAt k shared v.member m) where
     abbrev z : Sizes
     z = v.member.sizes
 
@@ -58,8 +57,8 @@ module _ (R : RattleType) (v : LocalModel R.Denot) (t : AreTied v.member v.entri
     vacated_is : world_of then ≡ vacated (world_of v) k
     vacated_is = let n : ℕ = v.member.limits.slots in
         let standings : listing n (standing_in then) ≡ set (listing n (standing_in v)) k None
-        = listing_set n (standing_in v) (standing_in then) k (λ i l ne. ap (λ (y : ℕ). standing_by y (newest i v.member.filled)) (other i ne))
-        ∙ ap (λ (y : ℕ). set (listing n (standing_in v)) k (standing_by y (newest k v.member.filled))) same in
+        = listing_set n (standing_in v) (standing_in then) k (λ i l ne. ap standing_by (other i ne))
+        ∙ ap (λ (y : ℕ). set (listing n (standing_in v)) k (standing_by y)) same in
         let values : listing n (value_in then) ≡ set (listing n (value_in v)) k None
         = listing_set n (value_in v) (value_in then) k (λ i l ne. ap (λ (y : ℕ). value_by y (slice_index_or v.entries i None)) (other i ne))
         ∙ ap (λ (y : ℕ). set (listing n (value_in v)) k (value_by y (slice_index_or v.entries k None))) same in
@@ -73,7 +72,7 @@ module _ (R : RattleType) (v : LocalModel R.Denot) (t : AreTied v.member v.entri
         ∙ ap (λ (y : LocalState). given_all (world_of (record { member = y; entries = v.entries })) y.place (holds x)) (sym is.member))
 
     tied_now : AreTied now v.entries
-    tied_now = let was = owned v t k shared (showing R x) knows in record {
+    tied_now = let quiet = (sound.lives (word_of v.member k) knows.alive).0 in record {
       place = t.place;
       slots = t.slots;
       places = t.places;
@@ -82,8 +81,8 @@ module _ (R : RattleType) (v : LocalModel R.Denot) (t : AreTied v.member v.entri
       plain = λ i l. dite (ℕ_discrete i k) (λ e. subst (λ (w : ℕ). IsTrue (is_plain_word w)) (sym (ap (word_of now) e ∙ same)) refl)
           (λ ne. subst (λ (w : ℕ). IsTrue (is_plain_word w)) (sym (other i ne)) (t.plain i l));
       waits = λ i l. dite (ℕ_discrete i k)
-          (λ e. let w = t.waits i l in let a = ap waiting (ap (word_of v.member) e ∙ was) in let b = ap waiting (ap (word_of now) e ∙ same) in
-          let f = (free_is 0 (omega arith)).1 in let o = (owned_is 0 (omega arith)).1 in omega arith)
+          (λ e. let w = t.waits i l in let a = ap waiting (ap (word_of v.member) e) in let b = ap waiting (ap (word_of now) e ∙ same) in
+          let f = (free_is 0 (omega arith)).1 in omega arith)
           (λ ne. t.waits i l ∙ ap waiting (sym (other i ne)));
       kept = λ i l filled. dite (ℕ_discrete i k)
           (λ e. absurd (let f = (free_is 0 (omega arith)).2 in let g = ap full (ap (word_of now) e ∙ same) in omega arith))

@@ -29,7 +29,8 @@ closed_guards own shut = ap (nat_lt 0) shut
 
 closed_last : (own : Participant) → own.guards ≡ 1 → is_open (closed_with false own) ≡ false
 closed_last own last = let a : nat_lt 1 own.guards ≡ false = ap (nat_lt 1) last in let b : is_open own ≡ true = ap (nat_lt 0) last in
-    ap (λ (c : Bool). is_open (if c then record own { guards = own.guards - 1 } else (if is_open own then record own { guards = 0; countdown = counted_down false own.countdown } else own))) a
+    ap (λ (c : Bool). is_open (if c then record own { guards = own.guards - 1 } else
+    (if is_open own then record own { guards = 0; countdown = counted_down false own.countdown } else own))) a
     ∙ ap (λ (c : Bool). is_open (if c then record own { guards = 0; countdown = counted_down false own.countdown } else own)) b
 
 pub lone_is : (m : LocalState) → IsTrue (is_lone m) → IsLone m
@@ -88,7 +89,8 @@ module _ {T : Type 0} (v : LocalModel T) where
     -- one guard more beside others
     pub nests : HasOpenGuard v.member → world_of (record v { member = record v.member { own = time.nested v.member.own } }) ≡ nested (world_of v) v.member.place
         → world_of (record v { member = record v.member { own = time.nested v.member.own } }) ≡ opened holds (world_of v) v.member.place
-    nests some_open is = is ∙ sym (ap (λ (b : Bool). if b then nested (world_of v) v.member.place else caught_up holds (nested (world_of v) v.member.place) v.member.place)
+    nests some_open is = is ∙ sym (ap (λ (b : Bool). if b then nested (world_of v) v.member.place else caught_up holds (nested (world_of v) v.member.place)
+        v.member.place)
         (ap time.is_open (sym (own_is_place v)) ∙ open_guards v.member.own some_open))
 
     module _ (t : AreTied v.member v.entries) (settled : v.member.due ≡ []) (count : ℕ) (m : LocalState) (one : IsLone v.member)
@@ -118,7 +120,8 @@ module _ {T : Type 0} (v : LocalModel T) where
           → after ≡ steps.settled (all_reclaimed holds (world_of (record { member = m; entries = v.entries })) m.place m.due) m.place
           → after ≡ opened holds (world_of v) v.member.place
       opened_changed ne after e = e
-          ∙ ((λ d. steps.settled (all_reclaimed holds (alone_is (record { member = m; entries = v.entries }) place_first d) (place_first d) m.due) (place_first d))
+          ∙ ((λ d. steps.settled (all_reclaimed holds (alone_is (record { member = m; entries = v.entries }) place_first d) (place_first d) m.due)
+          (place_first d))
           ∙ (opens_changed ne ∙ (λ d. opened holds (sym (alone_is v t.place) d) (sym t.place d))))
 
       -- or nothing waited: then it is decided at once
@@ -127,7 +130,8 @@ module _ {T : Type 0} (v : LocalModel T) where
       opened_idle ne none n is_settled = let p : LocalModel T = record { member = m; entries = v.entries } in
           opened_changed ne (world_of (record { member = n; entries = v.entries }))
           (ap (λ (y : LocalState). world_of (record { member = y; entries = v.entries })) is_settled
-          ∙ (steps_alone (λ (w : World T) (k : ℕ). steps.settled w k) p (record p { member = record m { own = time.settled m.own } }) place_first place_first refl
+          ∙ (steps_alone (λ (w : World T) (k : ℕ). steps.settled w k) p (record p { member = record m { own = time.settled m.own } }) place_first place_first
+          refl
           ∙ (λ d. steps.settled (all_reclaimed holds (world_of p) m.place (sym none d)) m.place)))
 
 module _ {T : Type 0} (v : LocalModel T) (m : LocalState) where

@@ -6,7 +6,7 @@ use Rattle.std.specs.Prelude.{◌↔◌, ◌==◌, IsTrue, IsSome, option_map}
 use Rattle.sdd_participants.specs.declared.standing.Standing.{Standing}
 use Rattle.sdd_participants.specs.declared.standing.Standing.TheVariants.{Raw, Retired}
 use Rattle.sdd_participants.specs.Slab.{IsFull}
-use Rattle.sdd_word_invariant.specs.Codes.{free_word, raw_word, waiting_word}
+use Rattle.sdd_word_invariant.specs.Codes.{free_word, raw_word, waiting}
 use Rattle.sdd_space.specs.World.{standing_at, value_at}
 use Rattle.sdd_domain.specs.LocalState.{IsFree, IsLone, IsUsedUp, word_of}
 use Rattle.sdd_domain.specs.Local.{LocalModel, world_of, standing_in, value_in}
@@ -35,7 +35,8 @@ module _ {T : Type 0} (p : LocalModel T) where
   unfolding slots
   bare k free = dite (dec_lt k slots)
       (λ low. listing_at slots (value_in p) k None low
-      ∙ none_by (word_of p.member k == free_word 0) (word_of p.member k == waiting_word 0) (word_of p.member k == raw_word 0) _ _ _ (sym (listing_at slots (standing_in p) k None low) ∙ free))
+      ∙ none_by (word_of p.member k == free_word 0) (waiting (word_of p.member k) == 1) (word_of p.member k == raw_word 0) _ _ _
+      (sym (listing_at slots (standing_in p) k None low) ∙ free))
       (λ past. listing_past slots (value_in p) k None (omega arith))
 
   -- where a slot is free not all are taken

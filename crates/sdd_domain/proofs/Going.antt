@@ -1,6 +1,6 @@
 -- What a lone participant reclaims, for its world
 use Rattle.std.proofs.Common.{◌≡◌, ◌≢◌, ℕ, ◌<◌, IsTrue, List, Some, None, map, set, slice_index_or, sym, refl, ap, ◌∙◌, subst, arith, length-set}
-use Rattle.std.specs.Prelude.{Option, Bool}
+use Rattle.std.specs.Prelude.{Option, Bool, option_map}
 use mathlib.Core.Logic.{dite}
 use native.Mathlib.Decide.{ℕ_discrete}
 use base.Stored.{Gv}
@@ -31,7 +31,7 @@ use Rattle.sdd_domain.specs.WordsAndValues.{MatchesPlace, Agrees, AreTied, is_pl
 use Rattle.sdd_domain.specs.Local.{LocalModel, listing, standing_by, value_by, standing_in, value_in, world_of}
 use Rattle.sdd_domain.proofs.Listings.{listing_at, listing_set}
 use Rattle.sdd_domain.proofs.Reclaims.{first_goes}
-use Rattle.sdd_domain.proofs.Words.{waiting_waits, word_same, word_other}
+use Rattle.sdd_domain.proofs.Words.{word_same, word_other, stands_retired, value_there, waiting_taken}
 
 value_or : Gv → Option ShownValue → Gv
 value_or g None = g
@@ -71,8 +71,8 @@ module _ (R : RattleType) (p : LocalModel R.Denot) (t : AreTied p.member p.entri
   here : slot < p.member.sizes.slots
   here = let l = is.inside in let s = t.slots in omega arith
 
-  waits_here : word_of p.member slot ≡ 4
-  waits_here = waiting_waits (word_of p.member slot) (t.plain slot is.inside) (let w = t.waits slot is.inside in let o = is.once in omega arith)
+  waits_here : waiting (word_of p.member slot) ≡ 1
+  waits_here = let w = t.waits slot is.inside in let o = is.once in omega arith
 
   same : word_of now slot ≡ 0
   same = word_same z ws t.long slot 0 here
@@ -89,16 +89,18 @@ module _ (R : RattleType) (p : LocalModel R.Denot) (t : AreTied p.member p.entri
   same_value = one_showing R entry.0.0 x (sym (codes slot entry.0.0 entry.0.1 entry.1) ∙ entry.2)
 
   stands_here : standing_at (world_of p) slot ≡ Some Retired
-  stands_here = listing_at n (standing_in p) slot None is.inside ∙ ap (λ (w : ℕ). standing_by w (newest slot p.member.filled)) waits_here
+  stands_here = listing_at n (standing_in p) slot None is.inside ∙ stands_retired (word_of p.member slot) waits_here
 
   value_here : value_at (world_of p) slot ≡ Some x
-  value_here = listing_at n (value_in p) slot None is.inside ∙ ((λ d. value_by (waits_here d) (entry.1 d)) ∙ ap Some same_value)
+  value_here = let one = waits_here in listing_at n (value_in p) slot None is.inside
+      ∙ (value_there (word_of p.member slot) (slice_index_or p.entries slot None) (waiting_taken (word_of p.member slot) (omega arith))
+      ∙ (ap (option_map (λ (y : R.Denot × Gv). y.0)) entry.1 ∙ ap Some same_value))
 
   freed_is : world_of then ≡ steps.freed (world_of p) slot
   freed_is =
       let standings : listing n (standing_in then) ≡ set (listing n (standing_in p)) slot None
-      = listing_set n (standing_in p) (standing_in then) slot (λ i l ne. ap (λ (v : ℕ). standing_by v (newest i p.member.filled)) (other i ne))
-      ∙ ap (λ (v : ℕ). set (listing n (standing_in p)) slot (standing_by v (newest slot p.member.filled))) same in
+      = listing_set n (standing_in p) (standing_in then) slot (λ i l ne. ap standing_by (other i ne))
+      ∙ ap (λ (v : ℕ). set (listing n (standing_in p)) slot (standing_by v)) same in
       let values : listing n (value_in then) ≡ set (listing n (value_in p)) slot None
       = listing_set n (value_in p) (value_in then) slot (λ i l ne. ap (λ (v : ℕ). value_by v (slice_index_or p.entries i None)) (other i ne))
       ∙ ap (λ (v : ℕ). set (listing n (value_in p)) slot (value_by v (slice_index_or p.entries slot None))) same in

@@ -39,7 +39,8 @@ module _ (count : ℕ) (b : Bool) (old m new : LocalState) (is : IsEntered count
   WasIdle = (old.own.found ≢ count) × (m.due ≡ []) × (new ≡ record m { own = settled m.own })
 
   pub is_over : b ≡ false → ((old.own.found ≡ count) × IsEntered count old new) ⊎ WasIdle
-  is_over told = ⊎_elim (λ (g : (old.own.found ≡ count) × (new ≡ m)). inl (g.0, subst (IsEntered count old) (sym g.1) is)) (λ (g : WasIdle). inr g) (goes.over told)
+  is_over told = ⊎_elim (λ (g : (old.own.found ≡ count) × (new ≡ m)). inl (g.0, subst (IsEntered count old) (sym g.1) is)) (λ (g : WasIdle). inr g)
+      (goes.over told)
 
 -- the count that is found last after an opening, and how many guards are open
 pub found_there : (count : ℕ) (own : Participant) → (arrived_at count own).found ≡ count
@@ -84,17 +85,20 @@ stands count b old m new is goes = let there : Stands count old m = record {
     (either_way b)
 
 -- a lone participant's words, bags and ledger have the same after it
-pub tied_stands : {T : Type 0} (v : LocalModel T) → AreTied v.member v.entries → v.member.due ≡ [] → (count : ℕ) (b : Bool) (m new : LocalState) → IsLone v.member
+pub tied_stands : {T : Type 0} (v : LocalModel T) → AreTied v.member v.entries → v.member.due ≡ [] → (count : ℕ) (b : Bool) (m new : LocalState) → IsLone
+    v.member
     → IsEntered count v.member m → GoesOn count b v.member m new → AreTied new v.entries
 tied_stands v t none count b m new one is goes = let there : AreTied m v.entries = tied_enters v t none count m one is in
     let Tied = λ (y : LocalState). AreTied y v.entries in
     ⊎_elim (λ (told : b ≡ true). subst Tied (sym (goes.change told).1) there)
     (λ (told : b ≡ false). ⊎_elim (λ (g : (v.member.own.found ≡ count) × (new ≡ m)). subst Tied (sym g.1) there)
-    (λ (g : (v.member.own.found ≢ count) × (m.due ≡ []) × (new ≡ record m { own = settled m.own })). subst Tied (sym g.2) (tied_settled v m there)) (goes.over told))
+    (λ (g : (v.member.own.found ≢ count) × (m.due ≡ []) × (new ≡ record m { own = settled m.own })). subst Tied (sym g.2) (tied_settled v m there))
+    (goes.over told))
     (either_way b)
 
 -- an opening doesn't raise the count
-pub same_count : {T : Type 0} (holds : T → List OwnerOrCell) (p q : LocalModel T) → world_of q ≡ opened holds (world_of p) p.member.place → q.member.known ≡ p.member.known
+pub same_count : {T : Type 0} (holds : T → List OwnerOrCell) (p q : LocalModel T) → world_of q ≡ opened holds (world_of p) p.member.place → q.member.known ≡
+    p.member.known
 same_count holds p q same = ap (λ (w : World _). w.time.count) same
     ∙ (opens holds (world_of p) p.member.place (lives p).0 (time.is_open (place_at (world_of p) p.member.place)) refl).count
 
@@ -113,7 +117,8 @@ module _ {T : Type 0} (v : LocalModel T) (m : LocalState) {A : Type 0} (IsReader
   world_nested did some_open tied one = let first = (tied one).place in ap (λ (y : LocalState). world_of (record v { member = y })) did
       ∙ nests v holds some_open (steps_alone nested v (record v { member = record v.member { own = time.nested v.member.own } }) first first refl)
 
-  pub nested_sound : (r : Result A Refused) → Did r → HasOpenGuard v.member → WordsMatchValues v.member v.entries → IsSound holds v → IsSound holds (record v { member = m })
+  pub nested_sound : (r : Result A Refused) → Did r → HasOpenGuard v.member → WordsMatchValues v.member v.entries → IsSound holds v → IsSound holds
+      (record v { member = m })
   nested_sound (Ok a) did some_open tied sound = sound_opened holds v m sound (ap (λ (y : LocalState). y.due) did.2 ∙ sound.settled) (ap home_in did.2)
       (world_nested did.2 some_open tied)
   nested_sound (Err e) did some_open tied sound = subst (λ (y : LocalState). IsSound holds (record v { member = y })) (sym did.2) sound
@@ -128,7 +133,8 @@ module _ {T : Type 0} (v : LocalModel T) (m : LocalState) {A : Type 0} (IsReader
     ap (λ (x : LocalState). world_of (record v { member = x })) did.2,
   )
 
-  pub nested_exact : (r : Result A Refused) (p : LocalModel T) → v ≡ p → Did r → HasOpenGuard v.member → WordsMatchValues v.member v.entries → IsTrue (is_lone p.member)
+  pub nested_exact : (r : Result A Refused) (p : LocalModel T) → v ≡ p → Did r → HasOpenGuard v.member → WordsMatchValues v.member v.entries → IsTrue
+      (is_lone p.member)
       → MatchResult r (λ _. time.CanNest (world_of p).time p.member.place × (world_of (record v { member = m }) ≡ opened holds (world_of p) p.member.place))
       (λ e. (e ≡ Refused.TooManyGuards) × ¬ (time.CanNest (world_of p).time p.member.place) × (world_of (record v { member = m }) ≡ world_of p))
   nested_exact r p is did some_open tied exact = subst (λ (q : LocalModel T).

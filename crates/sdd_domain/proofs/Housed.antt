@@ -27,7 +27,8 @@ pub record IsOn (b : DomainTable) (m : LocalState) : Type 0 where
   pub slots : m.limits.slots ≡ slots_of b
   pub jobs : m.limits.jobs ≡ (sizes_of b).jobs
 
-pub on_board : (l : Limits) (b : DomainTable) (table : TableId) → table ≡ id_of b → sizes_of b ≡ sizes_in l → (m : LocalState) → m.home ≡ table → m.book ≡ book_of b → m.limits ≡ l
+pub on_board : (l : Limits) (b : DomainTable) (table : TableId) → table ≡ id_of b → sizes_of b ≡ sizes_in l → (m : LocalState) → m.home ≡ table → m.book ≡
+    book_of b → m.limits ≡ l
     → IsOn b m
 on_board l b table same sizes m home book limits = record {
   home = home ∙ same;
@@ -45,13 +46,15 @@ module _ (b : DomainTable) (m : LocalState) (on : IsOn b m) where
   from_board = re_homed (home_of_slots (id_of b) (book_of b) (slots_of b)) (home_in m)
       (λ d. home_of_table (sym on.home d) (sym on.book d) (sym on.slots d)) refl
 
-  pub from_shelf : {T F : Type 0} (shelf : SharedValues T F) → IsShelfOf b shelf → (hs : List OwnerOrCell) → AreOf (home_of_slots shelf.table shelf.book shelf.size) hs
+  pub from_shelf : {T F : Type 0} (shelf : SharedValues T F) → IsShelfOf b shelf → (hs : List OwnerOrCell) → AreOf
+      (home_of_slots shelf.table shelf.book shelf.size) hs
       → AreOf (home_in m) hs
   from_shelf shelf s = re_homed (home_of_slots shelf.table shelf.book shelf.size) (home_in m)
       (λ d. home_of_table ((s.table ∙ sym on.home) d) ((s.book ∙ sym on.book) d) ((s.size ∙ sym on.slots) d)) refl
 
 -- what a value in a domain holds is of the domain's home
-pub of_domain : {T F : Type 0} (l : Limits) (b : DomainTable) (shelf : SharedValues T F) → sizes_of b ≡ sizes_in l → IsShelfOf b shelf → (hs : List OwnerOrCell) →
+pub of_domain : {T F : Type 0} (l : Limits) (b : DomainTable) (shelf : SharedValues T F) → sizes_of b ≡ sizes_in l → IsShelfOf b shelf →
+    (hs : List OwnerOrCell) →
     AreOf (home_of_slots shelf.table shelf.book shelf.size) hs → AreOf (home_at (id_of b) (book_of b) l) hs
 of_domain l b shelf sizes s = re_homed (home_of_slots shelf.table shelf.book shelf.size) (home_at (id_of b) (book_of b) l)
     (λ d. home_of_table (s.table d) (s.book d) ((s.size ∙ ap (λ (z : Sizes). z.slots) sizes) d)) refl

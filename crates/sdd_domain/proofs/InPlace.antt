@@ -1,6 +1,6 @@
 -- A participant whose owner is alone with its item, before and after that was changed or dropped in its place
-use Rattle.std.proofs.Common.{◌≡◌, ℕ, ◌<◌, ◌≤◌, List, [], ◌∷◌, ⊎_elim, sym, ap, ◌∙◌, subst, arith}
-use Rattle.std.specs.Prelude.{Bool, None}
+use Rattle.std.proofs.Common.{◌≡◌, ◌⊎◌, inl, inr, ℕ, ◌-◌, ◌<◌, ◌≤◌, List, [], ◌∷◌, ⊎_elim, sym, ap, ◌∙◌, subst, arith}
+use Rattle.std.specs.Prelude.{Bool, true, None, slice_set}
 use base.Stored.{Gv}
 use mathlib.Core.Logic.{dite}
 use native.Mathlib.Decide.{dec_lt}
@@ -18,25 +18,30 @@ use Rattle.sdd_witness.specs.declared.witness.Witness.{Witness}
 use Rattle.sdd_shared_values.specs.declared.value_fraction.ValueFraction.{ValueFraction}
 use Rattle.sdd_views.specs.declared.ShownValue.{ShownValue}
 use Rattle.sdd_views.specs.declared.View.{View}
-use Rattle.sdd_word_invariant.specs.Epoch.{HasPlace, IsOpen}
+use Rattle.sdd_core.specs.declared.refused.Refused.{Refused}
+use Rattle.sdd_views.specs.declared.Sizes.{Sizes}
+use Rattle.sdd_word_invariant.specs.Codes.{alive, claimed_word, counted}
+use Rattle.sdd_word_invariant.specs.Epoch.{HasPlace, IsOpen, IsLone as IsLoneAt}
 use Rattle.sdd_word_invariant.specs.Slots.{Holds}
-use Rattle.sdd_word_invariant.specs.SlotSteps.{discarded, release_hold}
-use Rattle.sdd_domain_invariant.specs.FractionSteps.{dropping, moving, resting, undrawing, untold}
+use Rattle.sdd_word_invariant.specs.SlotSteps.{Knew, behind, discarded}
+use Rattle.sdd_domain_invariant.specs.FractionSteps.{dropping, moving, undrawing, untold}
 use Rattle.sdd_domain_invariant.specs.Records.{IsIn}
 use Rattle.sdd_domain_invariant.proofs.Records.{in_either, in_none}
 use Rattle.sdd_atomics.specs.declared.domain_table.DomainTable.{DomainTable}
 use Rattle.sdd_atomics.specs.DomainTable.{id_of, book_of, places_of, slots_of}
 use Rattle.sdd_atomics.specs.DomainSeat.{Knows, epoch, slots, view}
-use Rattle.sdd_atomics.specs.Owner.{disowned}
 use Rattle.sdd_domain.specs.BetweenCalls.{IsBetweenCalls}
 use Rattle.sdd_domain.specs.Claims.{IsUnmoved}
-use Rattle.sdd_domain.specs.InPlace.{IsBare, IsHeldBy, with_dropped}
+use Rattle.sdd_domain.specs.declared.holding.Hindrance.{Hindrance}
+use Rattle.sdd_domain.specs.declared.holding.Hindrance.TheVariants.{Others, Guarded}
+use Rattle.sdd_domain.specs.InPlace.{IsBare, IsHeldBy, IsHindered, IsLetGoOf, KnewSole, refused_by, with_dropped}
+use Rattle.sdd_domain.specs.GoesInPlace.{StaysBeside, changed_by}
 use Rattle.sdd_domain.specs.Items.{HasValue, slots_home}
-use Rattle.sdd_domain.specs.LocalState.{LocalState}
+use Rattle.sdd_domain.specs.LocalState.{LocalState, IsLone, HasOpenGuard, KnowsSole, HasOthers, SeesGuard, GoesBeside, sole_words, with_sole, word_of}
 use Rattle.sdd_domain.specs.Values.{with_filled}
 use Rattle.sdd_domain.proofs.Held.{changed_view, dropped_view}
 use Rattle.sdd_domain.proofs.Housed.{IsOn}
-use Rattle.sdd_domain.proofs.Members.{has_tables}
+use Rattle.sdd_domain.proofs.Members.{has_tables, with_token, with_view}
 use Rattle.sdd_domain.proofs.Posing.{has_place, posed_with}
 
 -- a token that has not moved is the same
@@ -73,6 +78,13 @@ module _ (b : DomainTable) (m : LocalState) (on : IsOn b m) (right : Right) (kin
       let homed : home_of made ≡ home_of right = home'
       ∙ ((λ d. home_of_table ((table ∙ sym on.home) d) ((owner_book ∙ sym on.book) d) (sized d)) ∙ sym home) in
       same_right made right (number ∙ is) homed (kind' ∙ sym of_kind) (views' ∙ (same ∙ views))
+
+  -- also with another unit of the number of its place
+  pub right_back : (w' : Witness) (grip' : ReadFraction) (size : ℕ) (made : Right) → w'.table_id ≡ id_of b → grip'.book ≡ book_of b → w'.views ≡ w.views
+      → w.views ≡ views_of right → size ≡ m.limits.slots → number_of made ≡ slot → home_of made ≡ home_of_table w'.table_id grip'.book size
+      → kind_of made ≡ kind → views_of made ≡ w'.views → made ≡ right
+  right_back w' grip' size made table book same views sized number home' kind' views' = right_again w' size made table same views sized number
+      (home' ∙ ap (λ (n : ℕ). home_of_table w'.table_id n size) (book ∙ sym owner_book)) kind' views'
 
   -- one of an owner with another value is of the same home
   pub right_anew : (w' : Witness) (grip' : ReadFraction) (size : ℕ) (made : Right) → w'.table_id ≡ id_of b → grip'.book ≡ book_of b → size ≡ m.limits.slots
@@ -123,24 +135,99 @@ module _ (b : DomainTable) (p : ℕ) (own : Participant) (t : Seat ValueFraction
         (in_either r [] slot g (subst (λ (l : List ShownValue). IsIn l slot g) owns there))
 
     module _ (u : Seat ValueFraction View) where
-      pub changed_to : (now : Gv)
-          → view u ≡ disowned (resting (with_filled slot shared now (release_hold (moving slot (untold (undrawing (view h)))))))
-          → view u ≡ with_filled slot shared now (view t)
-      changed_to now e = e ∙ (ap (λ (v : View). disowned (resting (with_filled slot shared now (release_hold (moving slot (untold (undrawing v))))))) held.view
-          ∙ changed_view slot shared value (view t) bare (places_of b) now)
+      pub changed_to : (now : Gv) → view u ≡ changed_by slot shared now (view h)
+          → view u ≡ record (with_filled slot shared now (view t)) { words = sole_words shared slot t.me.0.sizes t.me.0.words }
+      changed_to now e = e ∙ (ap (changed_by slot shared now) held.view ∙ changed_view slot shared value (view t) bare (places_of b) now)
 
       pub dropped_to : view u ≡ dropping (discarded slot 0 (moving slot (untold (undrawing (view h))))) → view u ≡ with_dropped slot (view t)
       dropped_to e = e ∙ (ap (λ (v : View). dropping (discarded slot 0 (moving slot (untold (undrawing v))))) held.view
           ∙ dropped_view slot shared value (view t) bare (places_of b))
 
-      pub posed_changed : (now : Gv) → u.table_id ≡ t.table_id → u.me.1 ≡ t.me.1 → view u ≡ with_filled slot shared now (view t) → IsBetweenCalls b p own u
+      pub posed_changed : (now : Gv) → u.table_id ≡ t.table_id → u.me.1 ≡ t.me.1
+          → view u ≡ record (with_filled slot shared now (view t)) { words = sole_words shared slot t.me.0.sizes t.me.0.words } → IsBetweenCalls b p own u
       posed_changed now table others is = posed_with b p own t u (record { slot = slot; shared = shared; value = now } ∷ t.me.0.stakes.filled)
-          t.me.0.stakes.counts t.me.0.words q table others is
+          t.me.0.stakes.counts (sole_words shared slot t.me.0.sizes t.me.0.words) q table others is
 
       pub posed_dropped : u.table_id ≡ t.table_id → u.me.1 ≡ t.me.1 → view u ≡ with_dropped slot (view t) → IsBetweenCalls b p own u
       posed_dropped table others is = posed_with b p own t u t.me.0.stakes.filled (with_dropped slot t.me.0).stakes.counts (with_dropped slot t.me.0).words q
           table others is
 
+  -- its note of words alone is new
+  pub posed_noted : (u : Seat ValueFraction View) (words : List ℕ) → u.table_id ≡ t.table_id → u.me.1 ≡ t.me.1 → view u ≡ record (view t) { words = words }
+      → IsBetweenCalls b p own u
+  posed_noted u words table others is = posed_with b p own t u t.me.0.stakes.filled t.me.0.stakes.counts words q table others is
+
   -- where a lone participant's own place is open, a guard of it is
   pub guard_of : IsOpen (epoch t) → 0 < own.guards
   guard_of is_open = dite (dec_lt 0 own.guards) (λ some_open. some_open) (λ none. absurd (let e = q.closed (omega arith) in omega arith))
+
+-- what became of a participant's own state, where an owner was hindered, or went: it was recalled beside the owner before, and that changed nothing
+module _ (m : LocalState) (slot k : ℕ) (is : slot ≡ k) (shared several : Bool) (sorted : shared ≡ several) (l t h : Seat ValueFraction View) (same : t ≡ l)
+    (is_m : with_token m l ≡ m) (alone : IsLone m → l.me.0.epoch.all ≡ 1) where
+  -- a lone participant knew this word
+  pub knew_word : (w : ℕ) → Knew slot t.me.0 w → IsLone m → word_of m k ≡ w
+  knew_word w knew lone = ap (λ (x : LocalState). word_of x k) (sym is_m)
+      ∙ sym (subst (λ (z : ℕ × Seat ValueFraction View). Knew z.0 z.1.me.0 w) (λ d. (is d, same d)) knew (alone lone))
+
+  pub knew_sole : KnewSole slot shared t.me.0 → KnowsSole m k several
+  knew_sole knew lone counted = knew_word (claimed_word true) (knew (sorted ∙ counted)) lone
+
+  -- its note of a word alone is new
+  pub noted_at : (words : ℕ → Sizes → List ℕ → List ℕ) → h.table_id ≡ t.table_id → h.me.0 ≡ record t.me.0 { words = words slot t.me.0.sizes t.me.0.words }
+      → with_token m h ≡ record m { words = words k m.sizes m.words }
+  noted_at words table view = (λ d. with_view m (table d) (view d))
+      ∙ ((λ d. with_view m (same d).table_id (record (same d).me.0 { words = words (is d) (same d).me.0.sizes (same d).me.0.words }))
+      ∙ ap (λ (x : LocalState). record x { words = words k x.sizes x.words }) is_m)
+
+  -- nothing is
+  pub unmoved_at : IsUnmoved t h → with_token m h ≡ m
+  unmoved_at e = ap (with_token m) (unmoved_same t h e ∙ same) ∙ is_m
+
+  module _ (guard : IsOpen (epoch t) → HasOpenGuard m) where
+    -- a guard is open
+    pub guarded_at : IsLetGoOf slot shared t h → SeesGuard k several m (with_token m h)
+    guarded_at e = record {
+      same = noted_at (sole_words shared) e.table e.view ∙ ap (λ (b : Bool). with_sole b k m) sorted;
+      sole = knew_sole e.sole;
+      guarded = λ lone. guard (e.guarded (ap (λ (x : Seat ValueFraction View). x.me.0.epoch.all) same ∙ alone lone));
+    }
+
+    -- what hinders an owner is answered
+    pub hindered_at : (what : Hindrance) (why : Refused) → why ≡ refused_by what → IsHindered slot shared what t h
+        → ((why ≡ Refused.NotAlone) × HasOthers k several m (with_token m h)) ⊎ ((why ≡ Refused.GuardOpen) × SeesGuard k several m (with_token m h))
+    hindered_at (Others word) why answered e = inl (
+      answered,
+      record {
+        same = unmoved_at e.0;
+        several = sym sorted ∙ e.1.several;
+        counted = λ lone. let known = knew_word word e.1.knew lone in
+            subst (λ (w : ℕ). (counted w ≡ 1) × (1 < alive w)) (sym known) (e.1.counted, e.1.more);
+      },
+    )
+    hindered_at Guarded why answered e = inr (answered, guarded_at e)
+
+  -- an owner went beside others
+  pub gone_beside : StaysBeside slot shared t h → GoesBeside k several m (with_token m h)
+  gone_beside e = record {
+    word = e.word;
+    leaves = record {
+      member = noted_at (λ i z ws. slice_set ws (behind z i) (e.word - 1)) e.gone.table e.gone.view;
+      counted = e.counted;
+      several = e.more;
+      lone = λ lone. knew_word e.word e.gone.knew lone;
+    };
+    several = sym sorted ∙ e.several;
+  }
+
+-- of a token that was hindered only its note of words is new
+pub hindered_view : (slot : ℕ) (shared : Bool) (what : Hindrance) (s h : Seat ValueFraction View) → IsHindered slot shared what s h
+    → (words : List ℕ) × (h.table_id ≡ s.table_id) × (h.me.1 ≡ s.me.1) × (h.me.0 ≡ record s.me.0 { words = words })
+hindered_view slot shared (Others word) s h e = (s.me.0.words, e.0.table, e.0.others, e.0.view)
+hindered_view slot shared Guarded s h e = (sole_words shared slot s.me.0.sizes s.me.0.words, e.table, e.others, e.view)
+
+-- nor of one that came back from its try to go
+pub back_view : (slot : ℕ) (shared : Bool) (why : Refused) (s h : Seat ValueFraction View)
+    → ((why ≡ Refused.GuardOpen) × IsLetGoOf slot shared s h) ⊎ ((why ≡ Refused.Contended) × IsUnmoved s h × (shared ≡ true) × ¬ (IsLoneAt (epoch s)))
+    → (words : List ℕ) × (h.table_id ≡ s.table_id) × (h.me.1 ≡ s.me.1) × (h.me.0 ≡ record s.me.0 { words = words })
+back_view slot shared why s h (inl e) = (sole_words shared slot s.me.0.sizes s.me.0.words, e.1.table, e.1.others, e.1.view)
+back_view slot shared why s h (inr e) = (s.me.0.words, e.1.table, e.1.others, e.1.view)

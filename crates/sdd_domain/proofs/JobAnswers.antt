@@ -71,7 +71,8 @@ module _ {T : Type 0} (v : LocalModel T) (m : LocalState) (tied : WordsMatchValu
 
     pub answered_keeps : (shown : T → Gv) (holds : T → List OwnerOrCell) (r : Result ℕ (J × Refused)) (p : LocalModel T) → v ≡ p → Answers r
         → KeepsShown (Shows shown holds p) (Shows shown holds after)
-    answered_keeps shown holds (Ok place) p is a i u h = did_keep place a.0 a.1 shown holds i u (subst (λ (q : LocalModel T). Shows shown holds q i u) (sym is) h)
+    answered_keeps shown holds (Ok place) p is a i u h = did_keep place a.0 a.1 shown holds i u
+        (subst (λ (q : LocalModel T). Shows shown holds q i u) (sym is) h)
     answered_keeps shown holds (Err e) p is a i u h = subst (λ (q : LocalModel T). Shows shown holds q i u)
         (sym is ∙ (λ d. record { member = sym a.1 d; entries = v.entries })) h
 

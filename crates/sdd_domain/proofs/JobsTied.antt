@@ -16,7 +16,6 @@ use Rattle.sdd_word_invariant.specs.Sums.{total}
 use Rattle.sdd_word_invariant.specs.Slots.{waits_in}
 use Rattle.sdd_word_invariant.proofs.Sums.{is_other, total_snoc}
 use Rattle.sdd_word_invariant.proofs.Owning.{item_kept}
-use Rattle.sdd_domain_invariant.specs.FilledInvariant.{newest}
 use Rattle.sdd_space.specs.World.{World}
 use Rattle.sdd_space.specs.WorldChanges.{deferred, ran}
 use Rattle.sdd_domain.specs.LocalState.{LocalState, place_number, IsLone, DefersTo, TakesJob, AllPlacesTaken, word_of}
@@ -79,10 +78,10 @@ module _ {T : Type 0} (v : LocalModel T) (t : AreTied v.member v.entries) (place
   }
 
   -- its slots stand as they did, and have the values that they had
-  pub standings_same : listing n (λ i. standing_by (get_or words_then (behind v.member.sizes i) 0) (newest i v.member.filled))
+  pub standings_same : listing n (λ i. standing_by (get_or words_then (behind v.member.sizes i) 0))
       ≡ listing n (standing_in v)
-  standings_same = listing_same n (standing_in v) (λ i. standing_by (get_or words_then (behind v.member.sizes i) 0) (newest i v.member.filled))
-      (λ i l. ap (λ (w : ℕ). standing_by w (newest i v.member.filled)) (slot_then i l))
+  standings_same = listing_same n (standing_in v) (λ i. standing_by (get_or words_then (behind v.member.sizes i) 0))
+      (λ i l. ap standing_by (slot_then i l))
 
   pub values_same : listing n (λ i. value_by (get_or words_then (behind v.member.sizes i) 0) (slice_index_or v.entries i None))
       ≡ listing n (value_in v)

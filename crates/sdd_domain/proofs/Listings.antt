@@ -25,7 +25,8 @@ module _ {A : Type 0} where
   -- one of them is another
   pub listing_set : (n : ℕ) (f g : ℕ → A) (k : ℕ) → ((i : ℕ) → i < n → i ≢ k → g i ≡ f i) → listing n g ≡ set (listing n f) k (g k)
   listing_set zero f g k others = refl
-  listing_set (suc n) f g zero others = let rest = listing_same n (λ i. f (suc i)) (λ i. g (suc i)) (λ i l. others (suc i) (omega arith) (λ e. absurd (omega arith))) in
+  listing_set (suc n) f g zero others = let rest = listing_same n (λ i. f (suc i)) (λ i. g (suc i))
+      (λ i l. others (suc i) (omega arith) (λ e. absurd (omega arith))) in
       λ d. g 0 ∷ rest d
   listing_set (suc n) f g (suc k) others = let first = others 0 (omega arith) (λ e. absurd (omega arith)) in
       let rest = listing_set n (λ i. f (suc i)) (λ i. g (suc i)) k (λ i l ne. others (suc i) (omega arith) (λ e. ne (omega arith))) in

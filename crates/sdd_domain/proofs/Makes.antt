@@ -1,5 +1,5 @@
 -- What a lone participant's making of an item is for its world
-use Rattle.std.proofs.Common.{◌≡◌, ◌≢◌, ℕ, ◌<◌, Bool, true, false, IsTrue, List, ◌∷◌, Some, None, length, set, slice_index_or, sym, refl, ap, ◌∙◌, subst, arith, length-set, get_or-set_same, get_or-set_other}
+use Rattle.std.proofs.Common.{◌≡◌, ◌≢◌, ℕ, ◌<◌, Bool, true, false, IsTrue, List, ◌∷◌, Some, None, length, set, slice_index_or, sym, refl, ap, ◌∙◌, subst, ne_eqb, arith, length-set, get_or-set_same, get_or-set_other}
 use Rattle.std.specs.Prelude.{Option, Result, Ok, Err, MatchResult, IfOk, IfErr, IsSome, if◌then◌else◌}
 use mathlib.Core.Logic.{dite}
 use native.Mathlib.Decide.{ℕ_discrete, dec_lt}
@@ -7,7 +7,7 @@ use base.Stored.{Gv}
 use denote.RattleType.{RattleType}
 use Rattle.sdd_core.specs.declared.refused.Refused.{Refused}
 use Rattle.sdd_participants.specs.declared.standing.Standing.{Standing}
-use Rattle.sdd_participants.specs.declared.standing.Standing.TheVariants.{Owned, Shared}
+use Rattle.sdd_participants.specs.declared.standing.Standing.TheVariants.{Owned, Raw, Shared, Retired}
 use Rattle.sdd_participants.specs.Slab.{entry_at, IsEmptyAt, IsFull}
 use Rattle.sdd_participants.specs.Tally.{one_made}
 use Rattle.sdd_shared_values.specs.SharedValues.{showing}
@@ -18,9 +18,9 @@ use Rattle.sdd_rights.specs.StandingKind.{is_shared}
 use Rattle.sdd_rights.specs.Right.{number_of}
 use Rattle.sdd_standings.specs.Slots.{first_standing}
 use Rattle.sdd_views.specs.declared.ShownValue.{ShownValue}
-use Rattle.sdd_word_invariant.specs.Codes.{waiting, full}
+use Rattle.sdd_word_invariant.specs.Codes.{claimed_word, waiting, full}
 use Rattle.sdd_word_invariant.specs.SlotSteps.{behind}
-use Rattle.sdd_word_invariant.proofs.Codes.{free_is, owned_is}
+use Rattle.sdd_word_invariant.proofs.Codes.{sound, free_is, claimed_is}
 use Rattle.sdd_domain_invariant.specs.FilledInvariant.{newest}
 use Rattle.sdd_domain_invariant.proofs.Fillings.{newest_now, newest_before}
 use Rattle.sdd_space.specs.OwnerOrCell.{OwnerOrCell}
@@ -33,7 +33,7 @@ use Rattle.sdd_domain.specs.WordsAndValues.{MatchesPlace, Entries, Agrees, AreTi
 use Rattle.sdd_domain.specs.Local.{LocalModel, listing, standing_by, value_by, owner_standing, standing_in, value_in, world_of}
 use Rattle.sdd_domain.specs.Space.{ShowsBy, Shows, is_lone}
 use Rattle.sdd_domain.proofs.Listings.{listing_at, listing_long, listing_past, listing_set, listing_all}
-use Rattle.sdd_domain.proofs.Words.{word_same, word_other}
+use Rattle.sdd_domain.proofs.Words.{word_same, word_other, plain_claimed, stands_claimed, stands_raw, stands_retired, value_there, alive_taken}
 use Rattle.sdd_domain.proofs.Exact.{lone_is}
 
 pub first_by : (kind : StandingKind) → first_standing kind ≡ (if is_shared kind then Shared 1 else Owned)
@@ -44,31 +44,36 @@ first_by kinds.Shared = refl
 first_by kinds.Retired = refl
 
 -- a slot that isn't free has a standing
-some_standing : (word : ℕ) (r : Option ShownValue) → word ≢ 0 → (s : Standing) × (standing_by word r ≡ Some s)
-some_standing word r taken = dite (ℕ_discrete word 4) (λ e. (_, ap (λ (x : ℕ). standing_by x r) e))
-    (λ ne. dite (ℕ_discrete word 2) (λ e. (_, ap (λ (x : ℕ). standing_by x r) e)) (λ other. (owner_standing r, none_of word r taken ne other)))
-  where
-    none_of : (word : ℕ) (r : Option ShownValue) → word ≢ 0 → word ≢ 4 → word ≢ 2 → standing_by word r ≡ Some (owner_standing r)
-    none_of word r a b d = grind arith
+some_standing : (word : ℕ) → word ≢ 0 → (s : Standing) × (standing_by word ≡ Some s)
+some_standing word taken = dite (ℕ_discrete (waiting word) 1) (λ e. (Retired, stands_retired word e))
+    (λ ne. dite (ℕ_discrete word 2) (λ e. (Raw, ap standing_by e ∙ stands_raw))
+    (λ other. (
+      owner_standing word,
+      λ d. if ne_eqb word 0 taken d then None
+          else (if ne_eqb (waiting word) 1 ne d then Some Retired else (if ne_eqb word 2 other d then Some Raw else Some (owner_standing word))),
+    )))
 
 is_there : (s : Standing) → IsSome (Some s)
 is_there s = refl
 
 pub used_up : {T : Type 0} (p : LocalModel T) → IsUsedUp p.member → IsFull (world_of p).standings
 used_up p used = listing_all (λ (e : Option Standing). IsSome e) p.member.limits.slots (standing_in p)
-    (λ i low. let s = some_standing (word_of p.member i) (newest i p.member.filled) (used i low) in
+    (λ i low. let s = some_standing (word_of p.member i) (used i low) in
     subst (λ (e : Option Standing). IsSome e) (sym s.1) (is_there s.0))
 
 module _ {T : Type 0} (v : LocalModel T) (k : ℕ) (shared : Bool) (x : T) (g : Gv) where
   abbrev r : ShownValue
   r = record { slot = k; shared = shared; value = g }
 
+  abbrev y : ℕ
+  y = claimed_word shared
+
   -- what it is once the item was made
   abbrev pub made_member : LocalState
   made_member = record v.member {
     tally = one_made v.member.tally;
     filled = record { slot = k; shared = shared; value = g } ∷ v.member.filled;
-    words = set v.member.words (behind v.member.sizes k) 1;
+    words = set v.member.words (behind v.member.sizes k) (claimed_word shared);
   }
 
   abbrev pub made_partaker : LocalModel T
@@ -81,11 +86,11 @@ module _ {T : Type 0} (v : LocalModel T) (k : ℕ) (shared : Bool) (x : T) (g : 
     wide : k < length v.entries
     wide = let w = t.wide in omega arith
 
-    word_now : word_of made_member k ≡ 1
-    word_now = word_same v.member.sizes v.member.words t.long k 1 here
+    word_now : word_of made_member k ≡ y
+    word_now = word_same v.member.sizes v.member.words t.long k y here
 
     word_then : (i : ℕ) → i ≢ k → word_of made_member i ≡ word_of v.member i
-    word_then i ne = word_other v.member.sizes v.member.words t.long k 1 i ne
+    word_then i ne = word_other v.member.sizes v.member.words t.long k y i ne
 
     filled_then : (i : ℕ) → i ≢ k → newest i made_member.filled ≡ newest i v.member.filled
     filled_then i ne = newest_before r v.member.filled i (λ e. ne (sym e))
@@ -104,13 +109,14 @@ module _ {T : Type 0} (v : LocalModel T) (k : ℕ) (shared : Bool) (x : T) (g : 
       place = t.place;
       slots = t.slots;
       places = t.places;
-      long = length-set v.member.words (behind v.member.sizes k) 1 ∙ t.long;
+      long = length-set v.member.words (behind v.member.sizes k) y ∙ t.long;
       wide = length-set v.entries k (Some (x, g)) ∙ t.wide;
       plain = λ i l. dite (ℕ_discrete i k)
-          (λ e. subst (λ (y : ℕ). IsTrue (is_plain_word y)) (sym (ap (word_of made_member) e ∙ word_now)) refl)
+          (λ e. subst (λ (y : ℕ). IsTrue (is_plain_word y)) (sym (ap (word_of made_member) e ∙ word_now)) (plain_claimed shared))
           (λ ne. subst (λ (y : ℕ). IsTrue (is_plain_word y)) (sym (word_then i ne)) (t.plain i l));
       waits = λ i l. dite (ℕ_discrete i k)
-          (λ e. let w = t.waits i l in let f = (free_is 0 (omega arith)).1 in let o = (owned_is 0 (omega arith)).1 in
+          (λ e. let w = t.waits i l in let f = (free_is 0 (omega arith)).1 in let one = (claimed_is shared).0 in
+          let o = (sound.lives y (omega arith)).0 in
           let a = ap waiting (ap (word_of v.member) e ∙ free) in let b = ap waiting (ap (word_of made_member) e ∙ word_now) in omega arith)
           (λ ne. t.waits i l ∙ ap waiting (sym (word_then i ne)));
       kept = λ i l filled. dite (ℕ_discrete i k)
@@ -126,15 +132,16 @@ module _ {T : Type 0} (v : LocalModel T) (k : ℕ) (shared : Bool) (x : T) (g : 
     }
 
     standing_now : standing_in made_partaker k ≡ Some (if shared then Shared 1 else Owned)
-    standing_now = λ d. standing_by (word_now d) (newest_now r v.member.filled d)
+    standing_now = ap standing_by word_now ∙ stands_claimed shared
 
     value_now : value_in made_partaker k ≡ Some x
-    value_now = λ d. value_by (word_now d) (entry_now d)
+    value_now = let one = (claimed_is shared).0 in (λ d. value_by (word_now d) (entry_now d))
+        ∙ value_there {T = T} y (Some (x, g)) (alive_taken y (omega arith))
 
     pub empty_then : IsEmptyAt (world_of v).standings k
     empty_then = (
       (let e = listing_long v.member.limits.slots (standing_in v) in omega arith),
-      listing_at v.member.limits.slots (standing_in v) k None low ∙ ap (λ (w : ℕ). standing_by w (newest k v.member.filled)) free,
+      listing_at v.member.limits.slots (standing_in v) k None low ∙ ap standing_by free,
     )
 
     pub made_world : world_of made_partaker ≡ made_as (world_of v) k x (if shared then Shared 1 else Owned)
@@ -142,7 +149,7 @@ module _ {T : Type 0} (v : LocalModel T) (k : ℕ) (shared : Bool) (x : T) (g : 
         let standings : listing v.member.limits.slots (standing_in made_partaker)
         ≡ set (listing v.member.limits.slots (standing_in v)) k (Some (if shared then Shared 1 else Owned))
         = listing_set v.member.limits.slots (standing_in v) (standing_in made_partaker) k
-        (λ i l ne. λ d. standing_by (word_then i ne d) (filled_then i ne d))
+        (λ i l ne. ap standing_by (word_then i ne))
         ∙ ap (set (listing v.member.limits.slots (standing_in v)) k) standing_now in
         let values : listing v.member.limits.slots (value_in made_partaker) ≡ set (listing v.member.limits.slots (value_in v)) k (Some x)
         = listing_set v.member.limits.slots (value_in v) (value_in made_partaker) k (λ i l ne. λ d. value_by (word_then i ne d) (entry_then i ne d))
@@ -198,10 +205,12 @@ module _ (R : RattleType) (v : LocalModel R.Denot) (m : LocalState) (es : Entrie
 
     keeps_by : (holds : R.Denot → List OwnerOrCell) (b : Bool) → (IsTrue b → IsLone v.member) → WordsMatchValues v.member v.entries → (i : ℕ) (u : R.Denot)
         → ShowsBy b (showing R) holds v i u → ShowsBy b (showing R) holds (made_partaker v (number_of right) (is_shared kind) x (showing R x)) i u
-    keeps_by holds true lone tied i u h = value_kept v (number_of right) (is_shared kind) x (showing R x) (tied (lone refl)) did.0.inside (did.0.lone (lone refl)) i u h
+    keeps_by holds true lone tied i u h = value_kept v (number_of right) (is_shared kind) x (showing R x) (tied (lone refl)) did.0.inside
+        (did.0.lone (lone refl)) i u h
     keeps_by holds false lone tied i u h = h
 
-    did_keep : (holds : R.Denot → List OwnerOrCell) → WordsMatchValues v.member v.entries → KeepsShown (Shows (showing R) holds v) (Shows (showing R) holds after)
+    did_keep : (holds : R.Denot → List OwnerOrCell) → WordsMatchValues v.member v.entries → KeepsShown (Shows (showing R) holds v)
+        (Shows (showing R) holds after)
     did_keep holds tied i u h = subst (λ (p : LocalModel R.Denot). Shows (showing R) holds p i u) (sym is_made)
         (keeps_by holds (is_lone v.member) (λ exact. lone_is v.member exact) tied i u h)
 
@@ -212,7 +221,8 @@ module _ (R : RattleType) (v : LocalModel R.Denot) (m : LocalState) (es : Entrie
 
     pub answered_tied : (r : Result Right (B × Refused)) → Answers r → WordsMatchValues v.member v.entries → WordsMatchValues m es
     answered_tied (Ok right) a tied = did_tied a.0 right (a.2, a.3, a.4) tied
-    answered_tied (Err e) a tied = subst (λ (p : LocalModel R.Denot). WordsMatchValues p.member p.entries) (λ d. record { member = sym a.1 d; entries = sym a.4 d }) tied
+    answered_tied (Err e) a tied = subst (λ (p : LocalModel R.Denot). WordsMatchValues p.member p.entries)
+        (λ d. record { member = sym a.1 d; entries = sym a.4 d }) tied
 
     pub answered_owns : (r : Result Right (B × Refused)) → Answers r → IfOk r (λ right. (x : R.Denot) × P x × HasValue (showing R x) right)
     answered_owns (Ok right) a = (a.0, a.1, a.3.value)
@@ -226,11 +236,13 @@ module _ (R : RattleType) (v : LocalModel R.Denot) (m : LocalState) (es : Entrie
 
     pub answered_keeps : (holds : R.Denot → List OwnerOrCell) (r : Result Right (B × Refused)) (p : LocalModel R.Denot) → v ≡ p → Answers r
         → WordsMatchValues v.member v.entries → KeepsShown (Shows (showing R) holds p) (Shows (showing R) holds after)
-    answered_keeps holds (Ok right) p is a tied i u h = did_keep a.0 right (a.2, a.3, a.4) holds tied i u (subst (λ (q : LocalModel R.Denot). Shows (showing R) holds q i u) (sym is) h)
+    answered_keeps holds (Ok right) p is a tied i u h = did_keep a.0 right (a.2, a.3, a.4) holds tied i u
+        (subst (λ (q : LocalModel R.Denot). Shows (showing R) holds q i u) (sym is) h)
     answered_keeps holds (Err e) p is a tied i u h = subst (λ (q : LocalModel R.Denot). Shows (showing R) holds q i u)
         (sym is ∙ (λ d. record { member = sym a.1 d; entries = sym a.4 d })) h
 
-    pub answered_world : (r : Result Right (B × Refused)) (p : LocalModel R.Denot) → v ≡ p → Answers r → WordsMatchValues v.member v.entries → IsTrue (is_lone p.member)
+    pub answered_world : (r : Result Right (B × Refused)) (p : LocalModel R.Denot) → v ≡ p → Answers r → WordsMatchValues v.member v.entries → IsTrue
+        (is_lone p.member)
         → MatchResult r (λ right. IsEmptyAt (world_of p).standings (number_of right)
         × ((x : R.Denot) × P x × (world_of after ≡ made_as (world_of p) (number_of right) x (first_standing kind))))
         (λ e. IsFull (world_of p).standings × (Back e × (e.1 ≡ Refused.NoSlot)) × (world_of after ≡ world_of p))

@@ -67,7 +67,7 @@ module _ (slot : ℕ) (shared : Bool) (value : Gv) (old new : LocalState) (looks
 -- beside a slot's owner a lone participant knows it
 pub recalls_to : (m : LocalState) (slot : ℕ) (shared : Bool) (value : Gv) (s t : Seat ValueFraction View) → MovedAlone (LearnsOwned slot shared value) s t
     → s.me.0.epoch.all ≡ m.limits.participants → IsLone m → KnowsOwner (with_token m s) slot shared value
-recalls_to m slot shared value s t recalled all lone = let r = recalled.2.1 (all ∙ lone) in record { newest = r.newest; alive = r.alive }
+recalls_to m slot shared value s t recalled all lone = let r = recalled.2.1 (all ∙ lone) in record { newest = r.newest; alive = r.alive; kind = r.kind }
 
 -- an owner of its domain has a token
 pub has_tables : (m : LocalState) (right : Right) → home_of right ≡ slots_home m → AreSlotsOfTable (home_of right)

@@ -13,12 +13,13 @@ use Rattle.sdd_shared_values.specs.SharedValues.{most, IsValueCode, IsNoValueCod
 use Rattle.sdd_views.specs.declared.ShownValue.{ShownValue}
 use Rattle.sdd_views.specs.declared.View.{View}
 use Rattle.sdd_word_invariant.specs.SlotSteps.{given_back, Knew, LooksAtSlot}
-use Rattle.sdd_word_invariant.specs.Codes.{free_word, owned_word}
+use Rattle.sdd_word_invariant.specs.Codes.{free_word}
 use Rattle.sdd_word_invariant.specs.Sums.{times}
 use Rattle.sdd_word_invariant.proofs.Sums.{is_other}
 use Rattle.sdd_domain_invariant.specs.FractionsAtHome.{CarriedFractions, Has, stake_at}
 use Rattle.sdd_domain_invariant.specs.Records.{slot_shown, IsIn}
 use Rattle.sdd_domain_invariant.proofs.Records.{in_head, in_tail}
+use Rattle.sdd_domain_invariant.specs.KindsInvariant.{written}
 use Rattle.sdd_domain_invariant.specs.FractionSteps.{SeatState, CarriesFirst, CarriesAll, IsValue, CarriesSeen, ClaimsAll, book_of, places_of, moving, making, giving, with_gone}
 use Rattle.sdd_domain_invariant.proofs.Tops.{whole, all_after, rest_is}
 use Rattle.atomic_table.specs.declared.shared.Seat.{Seat}
@@ -50,7 +51,8 @@ pub all_full : (γ i n : ℕ) (g : Gv) (rest xs : CarriedFractions) → CarriesA
 all_full γ i n g rest xs row = row_full γ i n 0 (suc n) g rest xs row
 
 -- the value that is moved out is the one that they show
-first_shown : (γ i n : ℕ) (g h : Gv) (γ' a : ℕ) (rest xs : CarriedFractions) → CarriesAll γ i n 0 (IsValue g) rest xs → AreWhole γ' i a h (suc n) (lots xs) → h ≡ g
+first_shown : (γ i n : ℕ) (g h : Gv) (γ' a : ℕ) (rest xs : CarriedFractions) → CarriesAll γ i n 0 (IsValue g) rest xs → AreWhole γ' i a h (suc n) (lots xs) → h
+    ≡ g
 first_shown γ i n g h γ' a rest [] row are = absurd row
 first_shown γ i n g h γ' a rest (x ∷ xs) row are = sym (ap (λ (l : FractionContent). l.shown) are.0.0) ∙ row.1.1.1
 
@@ -85,7 +87,8 @@ unfolding AreLentTo
 none_lent t xs e = subst (λ (l : CarriedFractions). AllFreeFor t (lots l)) (sym e) tt
 
 -- what they see can be shown
-there : (γ n p t slot : ℕ) (sees : List ShownValue) (xs : CarriedFractions) → CarriesSeen γ n p sees (plain xs) → AllFreeFor t (lots xs) → 0 < times slot (map slot_shown sees)
+there : (γ n p t slot : ℕ) (sees : List ShownValue) (xs : CarriedFractions) → CarriesSeen γ n p sees (plain xs) → AllFreeFor t (lots xs) → 0 < times slot
+    (map slot_shown sees)
     → CanShow γ slot t (lots xs)
 there γ n p t slot [] xs purse lent seen = absurd (omega arith)
 there γ n p t slot (r ∷ sees) [] purse lent seen = absurd purse
@@ -109,7 +112,8 @@ there γ n p t slot (r ∷ sees) (x ∷ xs) purse lent seen = let is = purse.1.0
       free = c.free;
     })
 
-pub can_show : (γ n p t slot : ℕ) (sees : List ShownValue) (xs : CarriedFractions) → CarriesSeenOnly γ n p sees xs → AreLentTo t xs → 0 < times slot (map slot_shown sees)
+pub can_show : (γ n p t slot : ℕ) (sees : List ShownValue) (xs : CarriedFractions) → CarriesSeenOnly γ n p sees xs → AreLentTo t xs → 0 < times slot
+    (map slot_shown sees)
     → CanShow γ slot t (lots xs)
 unfolding CarriesSeenOnly AreLentTo
 can_show γ n p t slot sees xs purse lent seen = there γ n p t slot sees xs purse lent seen
@@ -126,16 +130,19 @@ shown_in γ n p slot γ' g (r ∷ sees) (x ∷ xs) zero one purse at number show
 shown_in γ n p slot γ' g (r ∷ sees) (x ∷ xs) (suc place) one purse at number shows =
     in_tail r sees slot g (shown_in γ n p slot γ' g sees xs place one purse.2 at number shows)
 
-pub shows_known : (γ n p slot γ' : ℕ) (g : Gv) (sees : List ShownValue) (xs : CarriedFractions) → CarriesSeenOnly γ n p sees xs → HasFractionShowing γ' slot g (lots xs) → IsIn sees slot g
+pub shows_known : (γ n p slot γ' : ℕ) (g : Gv) (sees : List ShownValue) (xs : CarriedFractions) → CarriesSeenOnly γ n p sees xs → HasFractionShowing γ' slot g
+    (lots xs) → IsIn sees slot g
 unfolding CarriesSeenOnly
 shows_known γ n p slot γ' g sees xs purse s = shown_in γ n p slot γ' g sees xs s.place s.one purse s.there s.of_number s.shows
 
 -- a guard has come to see a slot
-pub now_seen : (γ n p t slot spot : ℕ) (y : ValueFraction) (sees : List ShownValue) (xs : CarriedFractions) → CarriesSeenOnly γ n p sees xs → AreLentTo t xs → spot ≡ stake_at n slot p
+pub now_seen : (γ n p t slot spot : ℕ) (y : ValueFraction) (sees : List ShownValue) (xs : CarriedFractions) → CarriesSeenOnly γ n p sees xs → AreLentTo t xs →
+    spot ≡ stake_at n slot p
     → (shared : Bool) (value : Gv) → Has γ slot 1 (IsValue value) y
     → CarriesSeenOnly γ n p (record { slot = slot; shared = shared; value = value } ∷ sees) ((spot, y) ∷ xs) × AreLentTo t ((spot, y) ∷ xs)
 unfolding CarriesSeenOnly AreLentTo
-now_seen γ n p t slot spot y sees xs purse lent at shared value has = ((at, (ap unlent has.0, has.1), purse), (inl (ap (λ (h : FractionContent). h.lent) has.0), lent))
+now_seen γ n p t slot spot y sees xs purse lent at shared value has =
+    ((at, (ap unlent has.0, has.1), purse), (inl (ap (λ (h : FractionContent). h.lent) has.0), lent))
 
 -- and is shown
 pub still_seen : (γ n p t : ℕ) (sees : List ShownValue) (xs ys : CarriedFractions) → OnlyLends t xs ys → CarriesSeenOnly γ n p sees xs → AreLentTo t xs
@@ -158,17 +165,19 @@ pub row_out : (γ n slot : ℕ) (me : SeatState) (xs : CarriedFractions) → me.
 unfolding AllOut
 row_out γ n slot me xs e e' row = subst (λ (t : ℕ × ℕ). CarriesAll t.0 slot t.1 0 IsNoValueCode me.1 xs) (λ d. (e d, e' d)) row
 
-pub gains : (slot : ℕ) (s t u : Seat ValueFraction View) (r r' : ℕ) → Taught (LooksAtSlot slot) s r t → Moved (ClaimsAll slot (free_word 0) (owned_word 0)) t r' u
-    → r' ≡ free_word 0 → slot < s.me.0.sizes.slots → Gains slot s u
+pub gains : (word slot : ℕ) (s t u : Seat ValueFraction View) (r r' : ℕ) → Taught (LooksAtSlot slot) s r t → Moved (ClaimsAll slot (free_word 0) word) t r' u
+    → r' ≡ free_word 0 → slot < s.me.0.sizes.slots → Gains word slot s u
 unfolding AllOut
-gains slot s t u r r' look claim hit inside = let me : t.me ≡ s.me = λ d. (look.3.0 d, look.2 d) in
-    let out = subst (λ (m : SeatState). (u.me.0 ≡ making slot (owned_word 0) m.0) × CarriesAll (book_of m) slot (places_of m) 0 IsNoValueCode m.1 u.me.1)
+gains word slot s t u r r' look claim hit inside = let me : t.me ≡ s.me = λ d. (look.3.0 d, look.2 d) in
+    let out = subst (λ (m : SeatState). (u.me.0 ≡ making slot word m.0) × CarriesAll (book_of m) slot (places_of m) 0 IsNoValueCode m.1 u.me.1
+    × (written u.me.0 slot ≡ word))
     me (claim.2.0 hit) in
     let knew = subst (λ (m : SeatState). Knew slot m.0 r') me claim.2.2 in record {
       table = claim.0 ∙ look.0;
       number = claim.1 ∙ look.1;
       row = out.1;
       view = out.0;
+      noted = out.2;
       inside = inside;
       free = λ one. sym (knew one) ∙ hit;
     }

@@ -1,5 +1,5 @@
 -- A participant is posed after each step that takes or gives slots.
-use Rattle.std.proofs.Common.{◌≡◌, ⊎_elim, ℕ, ◌+◌, ◌^◌, ◌<◌, ◌≤◌, not, List, [], ◌∷◌, ◌++◌, map, drop, suc, sym, refl, ap, ◌∙◌, subst, eq-eqb, arith}
+use Rattle.std.proofs.Common.{◌≡◌, ⊎_elim, ℕ, ◌+◌, ◌-◌, ◌^◌, ◌<◌, ◌≤◌, not, List, [], ◌∷◌, ◌++◌, map, drop, suc, sym, refl, ap, ◌∙◌, subst, eq-eqb, arith}
 use mathlib.Core.Bool.{Bool, cond}
 use base.Stored.{Gv}
 use mathlib.Core.Logic.{dite}
@@ -15,24 +15,24 @@ use Rattle.sdd_views.specs.declared.EpochView.{EpochView}
 use Rattle.sdd_views.specs.declared.CountsView.{CountsView}
 use Rattle.sdd_views.specs.declared.ShownValue.{ShownValue}
 use Rattle.sdd_views.specs.declared.FractionsView.{FractionsView}
+use Rattle.sdd_views.specs.declared.PledgesView.{PledgesView}
 use Rattle.sdd_views.specs.declared.WaitingItem.{WaitingItem}
 use Rattle.sdd_views.specs.declared.View.{View}
 use Rattle.sdd_word_invariant.specs.Epoch.{HasPlace, IsLone, IsOpen}
 use Rattle.sdd_word_invariant.specs.EpochSteps.{knowing, counted, published}
 use Rattle.sdd_word_invariant.specs.Sums.{total, times}
 use Rattle.sdd_word_invariant.specs.Slots.{items_at, waits_in}
-use Rattle.sdd_word_invariant.specs.SlotSteps.{retired_now, retired, noted, without}
+use Rattle.sdd_word_invariant.specs.SlotSteps.{retired_now, retired, one_less, noted, without}
 use Rattle.sdd_views.specs.Views.{owner_of}
 use Rattle.sdd_word_invariant.proofs.Sums.{is_other, total_snoc}
 use Rattle.sdd_atomics.specs.declared.domain_table.DomainTable.{DomainTable}
 use Rattle.sdd_shared_values.specs.CarriedFractions.{OnlyLends}
 use Rattle.sdd_shared_values.specs.SharedValues.{IsNoValueCode}
 use Rattle.sdd_views.specs.declared.Sizes.{Sizes}
-use Rattle.sdd_word_invariant.specs.Codes.{owned_word}
 use Rattle.sdd_domain_invariant.specs.FractionsAtHome.{CarriedFractions, Has, stake_at}
 use Rattle.sdd_domain_invariant.specs.Records.{slot_shown, IsIn}
 use Rattle.sdd_domain_invariant.proofs.Records.{in_head, in_either, in_times}
-use Rattle.sdd_domain_invariant.specs.FractionSteps.{SeatState, IsValue, SeesOwned, LearnsOwned, regained, undrawing, remembering, resting, with_made}
+use Rattle.sdd_domain_invariant.specs.FractionSteps.{SeatState, IsValue, SeesOwned, LearnsOwned, regained, undrawing, remembering, resting, with_made, untold}
 use Rattle.sdd_atomics.specs.DomainTable.{book_of, places_of, slots_of, most_waiting_of}
 use Rattle.sdd_atomics.specs.DomainSeat.{view, epoch, slots, Taught, Moved, MovedAlone}
 use Rattle.sdd_atomics.specs.Owner.{disowned}
@@ -40,7 +40,7 @@ use Rattle.sdd_domain.specs.SeenSlots.{IsOnce}
 use Rattle.sdd_domain.specs.WaitingItems.{what_of, waiting_of, ripe, unripe, GivesOneBack}
 use Rattle.sdd_domain.proofs.Reclaims.{first_goes, no_more, what_item}
 use Rattle.sdd_domain.specs.Claims.{Gains}
-use Rattle.sdd_domain.specs.Values.{with_filled, LetsWait}
+use Rattle.sdd_domain.specs.Values.{with_filled, LetsWait, LeavesOthers}
 use Rattle.sdd_domain.specs.BetweenCalls.{CarriesSeenOnly, AreLentTo, IsBetweenCalls}
 use Rattle.sdd_domain.proofs.Ripe.{unripe_too}
 use Rattle.sdd_domain.proofs.Moving.{row_out, rest_out, now_seen, still_seen}
@@ -91,23 +91,24 @@ module _ (b : DomainTable) (p : ℕ) where
       }
 
   -- the token after an owner was taken in and its item retired
-  pub retires_to : (own : Participant) (slot : ℕ) (shared : Bool) (value : Gv) (s t u : Seat ValueFraction View) → IsBetweenCalls b p own s
-      → Taught (λ v _ w. w ≡ regained v (owner_of slot shared value)) s 0 t → Moved (LetsWait slot) t 4 u
-      → (count : ℕ) × (u.me.0 ≡ waiting_too slot shared value 4 count (view s)) × ((epoch s).known ≤ count) × (IsLone (epoch s) → count ≡ (epoch s).known)
+  pub retires_to : (own : Participant) (y slot : ℕ) (shared : Bool) (value : Gv) (s t u : Seat ValueFraction View) → IsBetweenCalls b p own s
+      → Taught (λ v _ w. w ≡ regained v (owner_of slot shared value)) s 0 t → Moved (LetsWait slot) t y u
+      → (count : ℕ) × (u.me.0 ≡ waiting_too slot shared value y count (view s)) × ((epoch s).known ≤ count) × (IsLone (epoch s) → count ≡ (epoch s).known)
       × (IsOpen (epoch s) → count ≤ (epoch s).since + 1)
-  retires_to own slot shared value s t u q took e = let r = e.2.1 in let v : View = view s in let v' : View = regained v (owner_of slot shared value) in
+  retires_to own y slot shared value s t u q took e = let r = e.2.1 in let v : View = view s in let v' : View = regained v (owner_of slot shared value) in
       let epochs : epoch t ≡ epoch s = ap (λ (w : View). w.epoch) took.3 in (
         r.0,
-        e.2.2 ∙ (ap remembering (r.3 ∙ ap (λ (w : View). retired slot 4 r.0
-            (undrawing w)) took.3) ∙ retired_view slot 4 r.0 shared value v q.quiet.owns q.sight.owns),
+        e.2.2 ∙ (ap remembering (r.3 ∙ ap (λ (w : View). retired slot y r.0
+            (undrawing w)) took.3) ∙ retired_view slot y r.0 shared value v q.quiet.owns q.sight.owns),
         subst (λ (x : EpochView). x.known ≤ r.0) epochs r.1,
         subst (λ (x : EpochView). IsLone x → r.0 ≡ x.known) epochs r.2,
         subst (λ (x : EpochView). IsOpen x → r.0 ≤ x.since + 1) epochs r.4,
       )
 
-  pub posed_retires : (own : Participant) (slot : ℕ) (shared : Bool) (value : Gv) (s t u : Seat ValueFraction View) → IsBetweenCalls b p own s → slot < slots_of b
-      → Taught (λ v _ w. w ≡ regained v (owner_of slot shared value)) s 0 t → Moved (LetsWait slot) t 4 u → IsBetweenCalls b p (awaiting (Item slot) own) u
-  posed_retires own slot shared value s t u q low took e = let r = retires_to own slot shared value s t u q took e in
+  pub posed_retires : (own : Participant) (y slot : ℕ) (shared : Bool) (value : Gv) (s t u : Seat ValueFraction View) → IsBetweenCalls b p own s → slot <
+      slots_of b
+      → Taught (λ v _ w. w ≡ regained v (owner_of slot shared value)) s 0 t → Moved (LetsWait slot) t y u → IsBetweenCalls b p (awaiting (Item slot) own) u
+  posed_retires own y slot shared value s t u q low took e = let r = retires_to own y slot shared value s t u q took e in
       let others : u.me.1 ≡ s.me.1 = e.2.3 ∙ took.2 in
       subst (λ (v : View). IsBetweenCalls b p (awaiting (Item slot) own) (record u { me = (v, u.me.1) })) (sym r.1) record {
         home = e.0 ∙ (took.0 ∙ q.home);
@@ -127,7 +128,8 @@ module _ (b : DomainTable) (p : ℕ) where
         free = q.free;
         knows = q.knows;
         found = q.found;
-        quiet = record { owns = q.quiet.owns; drawn = q.quiet.drawn; holds = q.quiet.holds; looked = q.quiet.looked };
+        quiet = record { owns = q.quiet.owns; drawn = q.quiet.drawn; holds = q.quiet.holds; looked = q.quiet.looked; over = q.quiet.over };
+        pledges = q.pledges;
         waiting = λ i some_wait. dite (ℕ_discrete slot i) (λ e. subst (λ (k : ℕ). k < most_waiting_of b) e (let l = low in omega arith))
             (λ ne. q.waiting i (let o = is_other i slot ne in let t = total_snoc (waits_in i) s.me.0.slots.waits (retired_now slot r.0) in omega arith));
         bags = ap (λ (l : List Waiting). l ++ fresh (Item slot) ∷ []) q.bags ∙ sym (unripe_too (retired_now slot r.0) refl (slots_of b) (Item slot)
@@ -135,6 +137,45 @@ module _ (b : DomainTable) (p : ℕ) where
         room = q.room;
         pace = stirs_low own.countdown q.pace;
         idle = λ e. absurd (stirs own.countdown e);
+      }
+
+  -- the token after an owner was taken in and went, beside others
+  pub leaves_to : (own : Participant) (slot : ℕ) (shared : Bool) (value : Gv) (s t u : Seat ValueFraction View) → IsBetweenCalls b p own s
+      → Taught (λ v _ w. w ≡ regained v (owner_of slot shared value)) s 0 t → (e : MovedAlone (LeavesOthers slot) t u)
+      → (u.me.0 ≡ record (view s) { words = noted slot (e.2.word - 1) (view s) }) × (u.me.1 ≡ s.me.1)
+  leaves_to own slot shared value s t u q took e = let o = e.2 in let v : View = view s in (
+    ap (λ (m : SeatState). m.0) o.seat ∙ (ap (λ (w : View). untold (one_less slot (o.word - 1) (undrawing w))) took.3
+        ∙ (λ d. record v { stakes = record v.stakes { owns = sym q.sight.owns d }; words = noted slot (o.word - 1) v })),
+    ap (λ (m : SeatState). m.1) o.seat ∙ took.2,
+  )
+
+  pub posed_leaves : (own : Participant) (slot : ℕ) (shared : Bool) (value : Gv) (s t u : Seat ValueFraction View) → IsBetweenCalls b p own s
+      → Taught (λ v _ w. w ≡ regained v (owner_of slot shared value)) s 0 t → MovedAlone (LeavesOthers slot) t u → IsBetweenCalls b p own u
+  posed_leaves own slot shared value s t u q took e = let l = leaves_to own slot shared value s t u q took e in
+      subst (λ (v : View). IsBetweenCalls b p own (record u { me = (v, u.me.1) })) (sym l.0) record {
+        home = e.0 ∙ (took.0 ∙ q.home);
+        purse = subst (λ (xs : CarriedFractions). CarriesSeenOnly (book_of b) (places_of b) p s.me.0.stakes.sees xs) (sym l.1) q.purse;
+        sight = record { owns = q.sight.owns; sees = q.sight.sees; once = q.sight.once };
+        unseen = q.unseen;
+        rests = q.rests;
+        all = q.all;
+        place = q.place;
+        inside = q.inside;
+        count = q.count;
+        closed = q.closed;
+        opened = q.opened;
+        near = q.near;
+        lone = q.lone;
+        free = q.free;
+        knows = q.knows;
+        found = q.found;
+        quiet = record { owns = q.quiet.owns; drawn = q.quiet.drawn; holds = q.quiet.holds; looked = q.quiet.looked; over = q.quiet.over };
+        pledges = q.pledges;
+        waiting = q.waiting;
+        bags = q.bags;
+        room = q.room;
+        pace = q.pace;
+        idle = q.idle;
       }
 
   -- the first that was due was moved out
@@ -158,7 +199,8 @@ module _ (b : DomainTable) (p : ℕ) where
         free = q.free;
         knows = q.knows;
         found = q.found;
-        quiet = record { owns = q.quiet.owns; drawn = q.quiet.drawn; holds = q.quiet.holds; looked = q.quiet.looked };
+        quiet = record { owns = q.quiet.owns; drawn = q.quiet.drawn; holds = q.quiet.holds; looked = q.quiet.looked; over = q.quiet.over };
+        pledges = q.pledges;
         waiting = λ i some_wait. q.waiting i (let m = no_more slot i s.me.0.slots.waits in omega arith);
         bags = q.bags ∙ ap (map (waiting_of (slots_of b))) (sym goes.1);
         room = q.room;
@@ -166,14 +208,15 @@ module _ (b : DomainTable) (p : ℕ) where
         idle = q.idle;
       }
 
-  pub posed_arrived : (own new : Participant) (c g : ℕ) (xs : List WaitingItem) (s t : Seat ValueFraction View) → IsBetweenCalls b p own s → t.table_id ≡ s.table_id
+  pub posed_arrived : (own new : Participant) (c g : ℕ) (xs : List WaitingItem) (s t : Seat ValueFraction View) → IsBetweenCalls b p own s → t.table_id ≡
+      s.table_id
       → t.me.1 ≡ s.me.1 → t.me.0.sizes ≡ s.me.0.sizes
-      → record t.me.0.stakes { counts = s.me.0.stakes.counts } ≡ s.me.0.stakes → epoch t ≡ published (counted (knowing (epoch s) c) c) g → c ≤
-      g → (IsLone (epoch s) → g ≡ c)
+      → record t.me.0.stakes { counts = s.me.0.stakes.counts } ≡ s.me.0.stakes → t.me.0.pledges ≡ s.me.0.pledges
+      → epoch t ≡ published (counted (knowing (epoch s) c) c) g → c ≤ g → (IsLone (epoch s) → g ≡ c)
       → slots t ≡ record s.me.0.slots { waits = xs } → ((i : ℕ) → total (waits_in i) xs ≤ items_at i (view s))
       → new.found ≡ c → new.guards ≡ 0 → new.bags.waiting ≡ map (waiting_of (slots_of b)) (unripe xs) → new.bags.room ≡ own.bags.room
       → new.countdown ≤ 128 → (new.countdown ≡ 128 → new.bags.waiting ≡ []) → IsBetweenCalls b p (nested new) t
-  posed_arrived own new c g xs s t q table others sizes stakes epochs low one_only keeps fewer found none bags room pace idle =
+  posed_arrived own new c g xs s t q table others sizes stakes pledged epochs low one_only keeps fewer found none bags room pace idle =
       let is : t.me.0 ≡ record t.me.0 { epoch = published (counted (knowing (epoch s) c) c) g; slots = record s.me.0.slots { waits = xs } }
       = λ i. record t.me.0 { epoch = epochs i; slots = keeps i } in
       subst (λ (v : View). IsBetweenCalls b p (nested new) (record t { me = (v, t.me.1) })) (sym is) record {
@@ -198,7 +241,8 @@ module _ (b : DomainTable) (p : ℕ) where
         free = q.free;
         knows = (sizes ∙ q.knows.0, ap (λ (k : FractionsView). k.book) stakes ∙ q.knows.1);
         found = sym found;
-        quiet = record { owns = q.quiet.owns; drawn = q.quiet.drawn; holds = q.quiet.holds; looked = q.quiet.looked };
+        quiet = record { owns = q.quiet.owns; drawn = q.quiet.drawn; holds = q.quiet.holds; looked = q.quiet.looked; over = q.quiet.over };
+        pledges = ap (λ (k : PledgesView). k.own) pledged ∙ q.pledges;
         waiting = λ i some_wait. q.waiting i (let f = fewer i in omega arith);
         bags = bags;
         room = room ∙ q.room;
@@ -207,24 +251,25 @@ module _ (b : DomainTable) (p : ℕ) where
       }
 
   -- a slot that it claimed has an item, whose owner left it
-  pub made_view : (own : Participant) (slot : ℕ) (shared : Bool) (value : Gv) (s t u : Seat ValueFraction View) → IsBetweenCalls b p own s → Gains slot s t
+  pub made_view : (own : Participant) (y slot : ℕ) (shared : Bool) (value : Gv) (s t u : Seat ValueFraction View) → IsBetweenCalls b p own s → Gains y slot s t
       → view u ≡ disowned (resting (with_filled slot shared value (view t)))
-      → view u ≡ with_filled slot shared value (with_made (record (view s) { words = noted slot (owned_word 0) (view s) }))
-  made_view own slot shared value s t u q gains is = let v : View = view s in is ∙ (ap (λ (w : View). disowned (resting
+      → view u ≡ with_filled slot shared value (with_made (record (view s) { words = noted slot y (view s) }))
+  made_view own y slot shared value s t u q gains is = let v : View = view s in is ∙ (ap (λ (w : View). disowned (resting
       (with_filled slot shared value w))) gains.view
       ∙ (λ d. record v {
         slots = record v.slots { owns = sym q.quiet.owns d };
         stakes = record (with_filled slot shared value (with_made v)).stakes { moves = sym q.rests d };
-        words = noted slot (owned_word 0) v;
+        words = noted slot y v;
       }))
 
-  pub posed_makes : (own : Participant) (slot : ℕ) (shared : Bool) (value : Gv) (s t u : Seat ValueFraction View) → IsBetweenCalls b p own s → Gains slot s t
+  pub posed_makes : (own : Participant) (y slot : ℕ) (shared : Bool) (value : Gv) (s t u : Seat ValueFraction View) → IsBetweenCalls b p own s → Gains y slot s
+      t
       → u.table_id ≡ t.table_id → view u ≡ disowned (resting (with_filled slot shared value (view t))) → u.me.1 ≡ drop (suc (places_of b)) t.me.1
       → IsBetweenCalls b p own u × (u.me.1 ≡ s.me.1)
-  posed_makes own slot shared value s t u q gains table is given =
+  posed_makes own y slot shared value s t u q gains table is given =
       let row = row_out (book_of b) (places_of b) slot s.me t.me.1 q.knows.1 (ap (λ (z : Sizes). z.participants) q.knows.0) gains.row in
       let others : u.me.1 ≡ s.me.1 = rest_out (book_of b) slot (places_of b) (places_of b) 0 IsNoValueCode s.me.1 t.me.1 u.me.1 refl row given in (
-        subst (λ (w : View). IsBetweenCalls b p own (record u { me = (w, u.me.1) })) (sym (made_view own slot shared value s t u q gains is)) record {
+        subst (λ (w : View). IsBetweenCalls b p own (record u { me = (w, u.me.1) })) (sym (made_view own y slot shared value s t u q gains is)) record {
           home = table ∙ (gains.table ∙ q.home);
           purse = subst (λ (xs : CarriedFractions). CarriesSeenOnly (book_of b) (places_of b) p s.me.0.stakes.sees xs) (sym others) q.purse;
           sight = record { owns = q.sight.owns; sees = q.sight.sees; once = q.sight.once };
@@ -241,7 +286,8 @@ module _ (b : DomainTable) (p : ℕ) where
           free = q.free;
           knows = q.knows;
           found = q.found;
-          quiet = record { owns = q.quiet.owns; drawn = q.quiet.drawn; holds = q.quiet.holds; looked = q.quiet.looked };
+          quiet = record { owns = q.quiet.owns; drawn = q.quiet.drawn; holds = q.quiet.holds; looked = q.quiet.looked; over = q.quiet.over };
+          pledges = q.pledges;
           waiting = q.waiting;
           bags = q.bags;
           room = q.room;
@@ -276,7 +322,8 @@ module _ (b : DomainTable) (p : ℕ) where
         free = q.free;
         knows = q.knows;
         found = q.found;
-        quiet = record { owns = q.quiet.owns; drawn = q.quiet.drawn; holds = q.quiet.holds; looked = q.quiet.looked };
+        quiet = record { owns = q.quiet.owns; drawn = q.quiet.drawn; holds = q.quiet.holds; looked = q.quiet.looked; over = q.quiet.over };
+        pledges = q.pledges;
         waiting = q.waiting;
         bags = q.bags;
         room = q.room;
@@ -323,7 +370,8 @@ module _ (b : DomainTable) (p : ℕ) where
       let at : spot ≡ stake_at n slot p = λ d. stake_at ((q.knows.0 d).participants) slot (q.place d) in
       let has = subst (λ (k : ℕ). Has k slot 1 (IsValue value) y) q.knows.1 o.1 in
       let both = now_seen γ n p t slot spot y known xs q.purse lent at shared value has in
-      let ys : u.me.1 ≡ (spot, y) ∷ xs = ap (λ (m : SeatState). m.1) o.2 in let r : ShownValue = record { slot = slot; shared = shared; value = value } in record {
+      let ys : u.me.1 ≡ (spot, y) ∷ xs = ap (λ (m : SeatState). m.1) o.2 in
+      let r : ShownValue = record { slot = slot; shared = shared; value = value } in record {
         sees = slot ∷ s.me.0.slots.sees;
         records = r ∷ known;
         view = ap (λ (m : SeatState). m.0) o.2;
@@ -334,7 +382,8 @@ module _ (b : DomainTable) (p : ℕ) where
         there = in_head r known slot value refl refl;
       })
 
-  pub posed_shows : (own : Participant) (t slot : ℕ) (value : Gv) (s u z : Seat ValueFraction View) → IsBetweenCalls b p own s → 0 < own.guards → u.table_id ≡ s.table_id
+  pub posed_shows : (own : Participant) (t slot : ℕ) (value : Gv) (s u z : Seat ValueFraction View) → IsBetweenCalls b p own s → 0 < own.guards → u.table_id ≡
+      s.table_id
       → HasSeen t slot value s u → z ≡ record u { me = (u.me.0, z.me.1) } → OnlyLends t u.me.1 z.me.1 → IsBetweenCalls b p own z × AreLentTo t z.me.1
   posed_shows own t slot value s u z q some_open table seen is lends =
       let still = still_seen (book_of b) (places_of b) p t seen.records u.me.1 z.me.1 lends seen.purse seen.lent in (
@@ -344,7 +393,8 @@ module _ (b : DomainTable) (p : ℕ) where
       )
 
   -- what it filled and counts, and the words that it knows, are others
-  pub posed_with : (own : Participant) (s u : Seat ValueFraction View) (filled : List ShownValue) (counts : CountsView) (words : List ℕ) → IsBetweenCalls b p own s
+  pub posed_with : (own : Participant) (s u : Seat ValueFraction View) (filled : List ShownValue) (counts : CountsView) (words : List ℕ) → IsBetweenCalls b p
+      own s
       → u.table_id ≡ s.table_id → u.me.1 ≡ s.me.1
       → view u ≡ record (view s) { stakes = record (view s).stakes { filled = filled; counts = counts }; words = words } → IsBetweenCalls b p own u
   posed_with own s u filled counts words q table others is =
@@ -365,7 +415,8 @@ module _ (b : DomainTable) (p : ℕ) where
         free = q.free;
         knows = q.knows;
         found = q.found;
-        quiet = record { owns = q.quiet.owns; drawn = q.quiet.drawn; holds = q.quiet.holds; looked = q.quiet.looked };
+        quiet = record { owns = q.quiet.owns; drawn = q.quiet.drawn; holds = q.quiet.holds; looked = q.quiet.looked; over = q.quiet.over };
+        pledges = q.pledges;
         waiting = q.waiting;
         bags = q.bags;
         room = q.room;

@@ -56,7 +56,8 @@ module _ (b : DomainTable) (p : ℕ) (own : Participant) (slot : ℕ) (value : G
     free = q.free;
     knows = q.knows;
     found = q.found;
-    quiet = record { owns = q.quiet.owns; drawn = q.quiet.drawn; holds = q.quiet.holds; looked = q.quiet.looked };
+    quiet = record { owns = q.quiet.owns; drawn = q.quiet.drawn; holds = q.quiet.holds; looked = q.quiet.looked; over = q.quiet.over };
+    pledges = q.pledges;
     waiting = q.waiting;
     bags = q.bags;
     room = q.room;

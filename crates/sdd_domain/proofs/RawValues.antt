@@ -13,8 +13,8 @@ use Rattle.sdd_views.specs.contracts.View.{the_row}
 use Rattle.sdd_views.specs.Views.{owner_of, owner_token, at_rest}
 use Rattle.sdd_word_invariant.specs.SlotSteps.{noted}
 use Rattle.sdd_domain_invariant.specs.Records.{IsIn}
-use Rattle.sdd_domain_invariant.specs.FractionSteps.{SeatState, parting, departing, drawing}
-use Rattle.sdd_domain_invariant.specs.RawSteps.{RegainsOne, DrawsUnit, regaining}
+use Rattle.sdd_domain_invariant.specs.FractionSteps.{SeatState, DrawsUnit, parting, departing, drawing}
+use Rattle.sdd_domain_invariant.specs.RawSteps.{RegainsOne, regaining}
 use Rattle.sdd_rights.specs.Owner.{witness_of_owner}
 use Rattle.sdd_atomics.specs.declared.domain_table.DomainTable.{DomainTable}
 use Rattle.sdd_atomics.specs.DomainTable.{book_of}

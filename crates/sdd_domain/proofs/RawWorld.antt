@@ -1,17 +1,17 @@
 -- What a lone participant's putting out of an item as raw, its taking back, and a look at it meanwhile are for its world
 use Rattle.std.proofs.Common.{Bor, ◌≡◌, ◌≢◌, ◌↔◌, ℕ, ◌<◌, Bool, true, false, IsTrue, List, Some, None, set, slice_index_or, sym, refl, ap, ◌∙◌, subst, arith, length-set}
-use Rattle.std.specs.Prelude.{Option, MatchOption, IfSome, IsSome, if◌then◌else◌}
+use Rattle.std.specs.Prelude.{Option, MatchOption, IfSome, IsSome}
 use mathlib.Core.Logic.{dite}
 use native.Mathlib.Decide.{ℕ_discrete, dec_lt}
 use base.Stored.{Gv}
 use denote.RattleType.{RattleType}
 use Rattle.sdd_participants.specs.declared.standing.Standing.{Standing}
-use Rattle.sdd_participants.specs.declared.standing.Standing.TheVariants.{Owned, Raw, Shared}
+use Rattle.sdd_participants.specs.declared.standing.Standing.TheVariants.{Owned, Raw, Retired, Shared}
 use Rattle.sdd_shared_values.specs.SharedValues.{showing}
-use Rattle.sdd_views.specs.declared.ShownValue.{ShownValue}
-use Rattle.sdd_word_invariant.specs.Codes.{waiting, full}
+use Rattle.sdd_word_invariant.specs.Codes.{alive, waiting, full, counted, shared_base}
 use Rattle.sdd_word_invariant.specs.SlotSteps.{behind}
-use Rattle.sdd_word_invariant.proofs.Codes.{owned_is, raw_is, sound}
+use Rattle.sdd_word_invariant.proofs.Codes.{none_left, owned_is, raw_is, some_left, sound, waiting_is}
+use Rattle.sdd_domain_invariant.specs.BankInvariant.{one_where}
 use Rattle.sdd_domain_invariant.specs.FilledInvariant.{newest}
 use Rattle.sdd_space.specs.OwnerOrCell.{OwnerOrCell, AreOf}
 use Rattle.sdd_space.specs.Ptr.{KeepsShown}
@@ -31,16 +31,17 @@ use Rattle.sdd_domain.specs.RawItems.{with_word, put_out, taken_back, IsOut, Kno
 use Rattle.sdd_domain.specs.Values.{one_showing}
 use Rattle.sdd_participants.specs.Slab.{entry_at}
 use Rattle.sdd_domain.specs.WordsAndValues.{AreTied, MatchesPlace, WordsMatchValues, is_plain_word}
-use Rattle.sdd_domain.specs.Local.{LocalModel, listing, standing_by, value_by, owner_standing, standing_in, value_in, world_of}
+use Rattle.sdd_domain.specs.Local.{LocalModel, listing, standing_by, value_by, standing_in, value_in, world_of}
 use Rattle.sdd_domain.specs.Space.{ShowsBy, Shows, is_lone, seat_in, seat_of, known_of}
 use Rattle.sdd_domain.specs.SpaceIds.{home_in}
 use Rattle.sdd_domain.specs.Items.{IsRightTo}
 use Rattle.sdd_domain.specs.Sound.{IsSound}
 use Rattle.sdd_domain.proofs.Sound.{sound_then, sound_step}
 use Rattle.sdd_domain.proofs.Listings.{listing_at, listing_past, listing_set, listing_same}
-use Rattle.sdd_domain.proofs.Words.{plain_by, word_same, word_other}
-use Rattle.sdd_domain.proofs.Owning.{low, owned, stands, shown_entry, only_looks, shows_it, keeps_it}
+use Rattle.sdd_domain.proofs.Words.{plain_by, word_same, word_other, stands_owned, stands_claimed, stands_raw, stands_retired}
+use Rattle.sdd_domain.proofs.Owning.{low, taken, stands, shown_entry, only_looks, shows_it, keeps_it}
 use Rattle.sdd_domain.proofs.Exact.{lone_is}
+use Rattle.sdd_domain.proofs.Refusals.{words_only, words_undisturbed}
 
 -- ---- a word changes of an item that stays
 -- an item that neither waits nor is free
@@ -101,11 +102,11 @@ module _ {T : Type 0} (v : LocalModel T) (k y : ℕ) where
           (λ ne. ap (λ (x : ℕ). value_by x (slice_index_or v.entries i None)) (word_then i ne)))
 
       -- in its world the slot stands otherwise, and nothing else has changed
-      pub world_word : (s : Standing) → standing_by y (newest k v.member.filled) ≡ Some s → world_of changed ≡ with_standing (world_of v) k s
+      pub world_word : (s : Standing) → standing_by y ≡ Some s → world_of changed ≡ with_standing (world_of v) k s
       world_word s is = let n : ℕ = v.member.limits.slots in
           let standings : listing n (standing_in changed) ≡ set (listing n (standing_in v)) k (Some s)
-          = listing_set n (standing_in v) (standing_in changed) k (λ i l ne. ap (λ (x : ℕ). standing_by x (newest i v.member.filled)) (word_then i ne))
-          ∙ ap (set (listing n (standing_in v)) k) (ap (λ (x : ℕ). standing_by x (newest k v.member.filled)) word_now ∙ is) in
+          = listing_set n (standing_in v) (standing_in changed) k (λ i l ne. ap standing_by (word_then i ne))
+          ∙ ap (set (listing n (standing_in v)) k) (ap standing_by word_now ∙ is) in
           λ d. record (world_of v) { standings = standings d; values = values_same d }
 
       -- and each slot has its value still
@@ -122,22 +123,19 @@ raw_kept = let r = raw_is 0 (omega arith) in (r.1, r.2, λ e. absurd (omega arit
 -- ---- it goes out
 module _ {T : Type 0} (v : LocalModel T) (k : ℕ) (tied : WordsMatchValues v.member v.entries)
     (knows : IsLone v.member → (g : Gv) × KnowsOwner v.member k false g) where
-  -- its word was that of an owned one
-  was_owned : (lone : IsLone v.member) → word_of v.member k ≡ 1
-  was_owned lone = let r = knows lone in owned v (tied lone) k false r.0 r.1
-
   near_owned : (lone : IsLone v.member) → k < v.member.limits.slots
   near_owned lone = let r = knows lone in low v (tied lone) k false r.0 r.1
 
   kept_owned : (lone : IsLone v.member) → IsKeptBy (word_of v.member k)
-  kept_owned lone = subst IsKeptBy (sym (was_owned lone)) owned_kept
+  kept_owned lone = let r = knows lone in let lives = sound.lives (word_of v.member k) r.1.alive in
+      (lives.0, lives.1, taken v (tied lone) k false r.0 r.1)
 
   -- the invariant, the world, how the slot stood, and what is shown
   pub out_tied : WordsMatchValues (put_out k v.member) v.entries
   out_tied lone = tied_word v k 2 (tied lone) (near_owned lone) (kept_owned lone) raw_kept refl
 
   pub out_world : IsLone v.member → world_of (record { member = put_out k v.member; entries = v.entries }) ≡ with_standing (world_of v) k Raw
-  out_world lone = world_word v k 2 (tied lone) (near_owned lone) (kept_owned lone) raw_kept Raw refl
+  out_world lone = world_word v k 2 (tied lone) (near_owned lone) (kept_owned lone) raw_kept Raw stands_raw
 
   pub out_stood : IsLone v.member → standing_at (world_of v) k ≡ Some Owned
   out_stood lone = let r = knows lone in stands v (tied lone) k false r.0 r.1
@@ -154,28 +152,26 @@ module _ {T : Type 0} (v : LocalModel T) (k : ℕ) (tied : WordsMatchValues v.me
 
 -- ---- it comes back
 -- no owner stands as raw
-not_raw_owner : (r : Option ShownValue) → owner_standing r ≢ Raw
-not_raw_owner None e = absurd cc
-not_raw_owner (Some r) e = by r.shared e
-  where
-    by : (b : Bool) → (if b then Shared 1 else Owned) ≢ Raw
-    by true e = absurd cc
-    by false e = absurd cc
+not_raw_owner : (x : ℕ) (several : Bool) → 0 < alive x → counted x ≡ one_where several → standing_by x ≢ Some Raw
+not_raw_owner x true some kind e = let a : Some (Shared (alive x)) ≡ Some Raw = sym (stands_owned x true some kind) ∙ e in absurd cc
+not_raw_owner x false some kind e = let a : Some Owned ≡ Some Raw = sym (stands_owned x false some kind) ∙ e in absurd cc
 
 module _ {T : Type 0} (v : LocalModel T) (k : ℕ) (tied : WordsMatchValues v.member v.entries) where
   -- what stands as raw is out
-  out_if : (x : ℕ) (r : Option ShownValue) → IsTrue (is_plain_word x) → standing_by x r ≡ Some Raw → x ≡ 2
-  out_if x r plain is = plain_by x plain (λ e. absurd (let a : None ≡ Some Raw = sym (ap (λ (w : ℕ). standing_by w r) e) ∙ is in cc))
-      (λ e. absurd (not_raw_owner r (let a : Some (owner_standing r) ≡ Some Raw = sym (ap (λ (w : ℕ). standing_by w r) e) ∙ is in some_injective a)))
-      (λ e. absurd (let a : standing_by 4 r ≡ Some Raw = sym (ap (λ (w : ℕ). standing_by w r) e) ∙ is in cc)) (λ e. e)
-    where
-      some_injective : {s : Standing} → Some s ≡ Some Raw → s ≡ Raw
-      some_injective a = cc
+  out_if : (x : ℕ) → IsTrue (is_plain_word x) → standing_by x ≡ Some Raw → x ≡ 2
+  out_if x plain is = plain_by x plain (λ e. absurd (let a : None ≡ Some Raw = sym (ap standing_by e) ∙ is in cc))
+      (λ e. absurd (let o = owned_is 0 (omega arith) in let a = ap alive e in let n = ap counted e in
+      not_raw_owner x false (omega arith) (let few = sound.few x in omega arith) is))
+      (λ e. absurd (let w = waiting_is 0 (omega arith) in let a = ap waiting e in
+      let b : Some Retired ≡ Some Raw = sym (stands_retired x (omega arith)) ∙ is in cc)) (λ e. e)
+      (λ b. dite (ℕ_discrete x shared_base) (λ e. absurd (let w = ap waiting e ∙ none_left.1 in
+      let b : Some Retired ≡ Some Raw = sym (stands_retired x w) ∙ is in cc))
+      (λ ne. absurd (let low = b.0 in let l = some_left x (omega arith) in not_raw_owner x true (let n = l.0 in omega arith) l.3 is)))
 
   -- what isn't out doesn't stand as raw
   pub not_out : IsLone v.member → (k < v.member.limits.slots → ¬ (IsOut v.member k)) → standing_at (world_of v) k ≢ Some Raw
   not_out lone never is = dite (dec_lt k v.member.limits.slots)
-      (λ near. never near (out_if (word_of v.member k) (newest k v.member.filled) ((tied lone).plain k near)
+      (λ near. never near (out_if (word_of v.member k) ((tied lone).plain k near)
       (sym (listing_at v.member.limits.slots (standing_in v) k None near) ∙ is)))
       (λ far. absurd (let a : None ≡ Some Raw = sym (listing_past v.member.limits.slots (standing_in v) k None (omega arith)) ∙ is in cc))
 
@@ -183,7 +179,7 @@ module _ {T : Type 0} (v : LocalModel T) (k : ℕ) (tied : WordsMatchValues v.me
     -- how the slot stood, the invariant, the world, and what is shown
     pub raw_stood : IsLone v.member → standing_at (world_of v) k ≡ Some Raw
     raw_stood lone = listing_at v.member.limits.slots (standing_in v) k None near
-        ∙ ap (λ (x : ℕ). standing_by x (newest k v.member.filled)) (knows lone).1.out
+        ∙ (ap standing_by (knows lone).1.out ∙ stands_raw)
 
     kept_raw : IsLone v.member → IsKeptBy (word_of v.member k)
     kept_raw lone = subst IsKeptBy (sym (knows lone).1.out) raw_kept
@@ -192,7 +188,7 @@ module _ {T : Type 0} (v : LocalModel T) (k : ℕ) (tied : WordsMatchValues v.me
     back_tied lone = tied_word v k 1 (tied lone) near (kept_raw lone) owned_kept refl
 
     pub back_world : IsLone v.member → world_of (record { member = taken_back k v.member; entries = v.entries }) ≡ with_standing (world_of v) k Owned
-    back_world lone = world_word v k 1 (tied lone) near (kept_raw lone) owned_kept Owned (ap (standing_by 1) (knows lone).1.newest)
+    back_world lone = world_word v k 1 (tied lone) near (kept_raw lone) owned_kept Owned (stands_claimed false)
 
     back_keeps_by : (shown : T → Gv) (holds : T → List OwnerOrCell) (b : Bool) → (IsTrue b → IsLone v.member) → (i : ℕ) (u : T)
         → ShowsBy b shown holds v i u → ShowsBy b shown holds (record { member = taken_back k v.member; entries = v.entries }) i u
@@ -216,24 +212,6 @@ module _ (R : RattleType) (v : LocalModel R.Denot) (k : ℕ) (x : R.Denot) (tied
       listing_at v.member.limits.slots (value_in v) k None near ∙ ((λ d. value_by (r.out d) (e.1 d)) ∙ ap Some same)
 
 -- ---- for answers
--- only the words are others then
-module _ {T : Type 0} (v : LocalModel T) (m : LocalState) (words : List ℕ) (is : m ≡ record v.member { words = words }) (shown : T → Gv) (holds : T → List OwnerOrCell)
-  where
-    abbrev later : LocalModel T
-    later = record { member = m; entries = v.entries }
-
-    undisturbed_by : KeepsShown (Shows shown holds v) (Shows shown holds later)
-        → Undisturbed seat_of (λ (q : LocalModel T). q.member.own) known_of (λ (q : LocalModel T). Shows shown holds q) v later
-    undisturbed_by kept = record {
-      seat = ap seat_in is;
-      own = ap (λ (y : LocalState). y.own) is;
-      known = subst (λ (y : LocalState). KnowsOn (known_of v) (known_of (record { member = y; entries = v.entries }))) (sym is) knows_still;
-      shown = kept;
-    }
-      where
-        knows_still : KnowsOn (known_of v) (known_of v)
-        knows_still = record { told = omega arith; since = refl }
-
 module _ {T : Type 0} (v : LocalModel T) (m : LocalState) (k : ℕ) (is : m ≡ put_out k v.member) (tied : WordsMatchValues v.member v.entries)
     (knows : IsLone v.member → (g : Gv) × KnowsOwner v.member k false g) where
   -- the invariants, how the slot stood, the world, and what is left alone
@@ -262,10 +240,8 @@ module _ {T : Type 0} (v : LocalModel T) (m : LocalState) (k : ℕ) (is : m ≡ 
     pub puts_undisturbed : (shown : T → Gv) (holds : T → List OwnerOrCell)
         → Undisturbed seat_of (λ (q : LocalModel T). q.member.own) known_of (λ (q : LocalModel T). Shows shown holds q) p
         (record { member = m; entries = v.entries })
-    puts_undisturbed shown holds = subst (λ (q : LocalModel T). Undisturbed seat_of (λ (q : LocalModel T). q.member.own) known_of
-        (λ (q : LocalModel T). Shows shown holds q) q (record { member = m; entries = v.entries })) same
-        (undisturbed_by v m (put_out k v.member).words is shown holds (subst (λ (y : LocalState).
-        KeepsShown (Shows shown holds v) (Shows shown holds (record { member = y; entries = v.entries }))) (sym is) (out_keeps v k tied knows shown holds)))
+    puts_undisturbed shown holds = words_undisturbed v m (words_only m v.member (put_out k v.member).words is) shown holds p same (subst (λ (y : LocalState).
+        KeepsShown (Shows shown holds v) (Shows shown holds (record { member = y; entries = v.entries }))) (sym is) (out_keeps v k tied knows shown holds))
 
 -- what the taking back of an item answers
 abbrev TakesOrNot : {T : Type 0} → LocalModel T → LocalState → ℕ → Option Right → Type 0
@@ -310,9 +286,7 @@ module _ {T : Type 0} (v : LocalModel T) (m : LocalState) (slot : ℕ) (tied : W
     pub takes_undisturbed : (shown : T → Gv) (holds : T → List OwnerOrCell) (r : Option Right) → TakesOrNot v m slot r
         → Undisturbed seat_of (λ (q : LocalModel T). q.member.own) known_of (λ (q : LocalModel T). Shows shown holds q) p
         (record { member = m; entries = v.entries })
-    takes_undisturbed shown holds r a = subst (λ (q : LocalModel T). Undisturbed seat_of (λ (q : LocalModel T). q.member.own) known_of
-        (λ (q : LocalModel T). Shows shown holds q) q (record { member = m; entries = v.entries })) same
-        (undisturbed_by v m m.words (takes_words r a) shown holds (takes_keeps shown holds r a))
+    takes_undisturbed shown holds r a = words_undisturbed v m (takes_words r a) shown holds p same (takes_keeps shown holds r a)
 
     pub takes_exact : (r : Option Right) → TakesOrNot v m slot r → IsTrue (is_lone p.member) → MatchOption r
         ((standing_at (world_of p) slot ≢ Some Raw) × (world_of (record { member = m; entries = v.entries }) ≡ world_of p))
@@ -322,11 +296,12 @@ module _ {T : Type 0} (v : LocalModel T) (m : LocalState) (slot : ℕ) (tied : W
       subst (λ (q : LocalModel T). standing_at (world_of q) slot ≢ Some Raw) same (not_out v slot tied (lone_too exact) (a.1 (lone_too exact))),
       ap (λ (y : LocalState). world_of (record { member = y; entries = v.entries })) a.0 ∙ ap world_of same,
     )
-    takes_exact (Some right) a exact = let lone = lone_too exact in let knows : IsLone v.member → (g : Gv) × KnowsRaw v.member slot g = λ lone. (a.3.0, a.3.2 lone) in (
-      subst (λ (q : LocalModel T). standing_at (world_of q) slot ≡ Some Raw) same (raw_stood v slot tied a.1 knows lone),
-      ap (λ (y : LocalState). world_of (record { member = y; entries = v.entries })) a.2
-          ∙ (back_world v slot tied a.1 knows lone ∙ ap (λ (q : LocalModel T). with_standing (world_of q) slot Owned) same),
-    )
+    takes_exact (Some right) a exact = let lone = lone_too exact in
+        let knows : IsLone v.member → (g : Gv) × KnowsRaw v.member slot g = λ lone. (a.3.0, a.3.2 lone) in (
+          subst (λ (q : LocalModel T). standing_at (world_of q) slot ≡ Some Raw) same (raw_stood v slot tied a.1 knows lone),
+          ap (λ (y : LocalState). world_of (record { member = y; entries = v.entries })) a.2
+              ∙ (back_world v slot tied a.1 knows lone ∙ ap (λ (q : LocalModel T). with_standing (world_of q) slot Owned) same),
+        )
 
 -- what a look at an item under a guard answers that may be out
 abbrev LooksOrNot : (R : RattleType) → (R.Denot → List OwnerOrCell) → LocalModel R.Denot → LocalState → ℕ → Option (Bor R.Denot) → Type 0

@@ -52,9 +52,11 @@ pub no_more : (slot i : ℕ) (xs : List WaitingItem) → total (waits_in i) (wit
 no_more slot i [] = omega arith
 no_more slot i (x ∷ xs) = let r = no_more slot i xs in ⊎_elim
     (λ (t : (x.slot == slot) ≡ true). let e : without_item slot (x ∷ xs) ≡ without_item slot xs
-    = ap (λ (b : Bool). cond (not b) (x ∷ without_item slot xs) (without_item slot xs)) t in let s = ap (λ (l : List WaitingItem). total (waits_in i) l) e in omega arith)
+    = ap (λ (b : Bool). cond (not b) (x ∷ without_item slot xs) (without_item slot xs)) t in
+    let s = ap (λ (l : List WaitingItem). total (waits_in i) l) e in omega arith)
     (λ (t : (x.slot == slot) ≡ false). let e : without_item slot (x ∷ xs) ≡ x ∷ without_item slot xs
-    = ap (λ (b : Bool). cond (not b) (x ∷ without_item slot xs) (without_item slot xs)) t in let s = ap (λ (l : List WaitingItem). total (waits_in i) l) e in omega arith)
+    = ap (λ (b : Bool). cond (not b) (x ∷ without_item slot xs) (without_item slot xs)) t in
+    let s = ap (λ (l : List WaitingItem). total (waits_in i) l) e in omega arith)
     (either_way (x.slot == slot))
 
 -- so many slots there are

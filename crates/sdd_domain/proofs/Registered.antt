@@ -14,7 +14,6 @@ use Rattle.sdd_word_invariant.specs.SlotSteps.{behind}
 use Rattle.sdd_word_invariant.specs.Sums.{total}
 use Rattle.sdd_word_invariant.specs.Slots.{waits_in}
 use Rattle.sdd_word_invariant.proofs.Codes.{free_is}
-use Rattle.sdd_domain_invariant.specs.FilledInvariant.{newest}
 use Rattle.sdd_domain.specs.LocalState.{LocalState, IsLone, IsNew, word_of, place_number}
 use Rattle.sdd_domain.specs.WaitingItems.{what_of, waiting_of, ripe, unripe}
 use Rattle.sdd_domain.specs.WordsAndValues.{Entries, WordsMatchValues, MatchesPlace, is_plain_word}
@@ -31,7 +30,8 @@ listing_none : {A : Type 0} (n : ℕ) → ◌≡◌ {A = List (Option A)} (listi
 listing_none zero = refl
 listing_none (suc n) = ap (λ l. None ∷ l) (listing_none n)
 
-module _ {T : Type 0} (home : TableId) (book : ℕ) (most : Limits) (m : LocalState) (es : Entries T) (is : IsNew home book most m) (none : es ≡ replicate most.slots None) where
+module _ {T : Type 0} (home : TableId) (book : ℕ) (most : Limits) (m : LocalState) (es : Entries T) (is : IsNew home book most m)
+    (none : es ≡ replicate most.slots None) where
   word_free : (i : ℕ) → word_of m i ≡ 0
   word_free i = ap (λ (ws : List ℕ). get_or ws (behind m.sizes i) 0) is.words ∙ zeros (words_behind m.sizes) (behind m.sizes i)
 
@@ -76,7 +76,7 @@ module _ {T : Type 0} (home : TableId) (book : ℕ) (most : Limits) (m : LocalSt
       nesting = (is.limits d).nesting;
       room = (is.limits d).slots + (is.limits d).jobs;
     };
-    standings = listing_same m.limits.slots (λ (i : ℕ). None) (standing_in q) (λ i l. ap (λ (w : ℕ). standing_by w (newest i m.filled)) (word_free i))
+    standings = listing_same m.limits.slots (λ (i : ℕ). None) (standing_in q) (λ i l. ap standing_by (word_free i))
         ∙ (listing_none m.limits.slots ∙ ap (λ (n : ℕ). replicate n None) slots_are);
     values = listing_same m.limits.slots (λ (i : ℕ). None) (value_in q) (λ i l. ap (λ (w : ℕ). value_by w (slice_index_or es i None)) (word_free i))
         ∙ (listing_none m.limits.slots ∙ ap (λ (n : ℕ). replicate n None) slots_are);

@@ -8,7 +8,8 @@ use Rattle.sdd_participants.specs.declared.tally.Tally.{Tally}
 use Rattle.sdd_domain.specs.Receipt.{Receipt, capped, sum_of, with_reclaimed, made_in, reclaimed_in, in_place_in, IsSettled, AreSettled}
 
 -- one receipt more
-pub one_settled : (items own : ℕ) (xs ys : List Receipt) (x y : Receipt) → AreSettled items xs ys → IsSettled own x y → AreSettled (items + own) (xs ++ x ∷ []) (ys ++ y ∷ [])
+pub one_settled : (items own : ℕ) (xs ys : List Receipt) (x y : Receipt) → AreSettled items xs ys → IsSettled own x y → AreSettled (items + own) (xs ++ x ∷ [])
+    (ys ++ y ∷ [])
 one_settled items own [] [] x y are is = (own, (omega arith), is, (omega arith))
 one_settled items own [] (z ∷ ys) x y are is = absurd are
 one_settled items own (z ∷ xs) [] x y are is = absurd are
@@ -76,7 +77,8 @@ module _ (items step : ℕ) (start now : List Receipt) (g : Going items step sta
 
     -- the next one is the one that lies there
     pub next_is : (x d : Receipt) → x ≡ slice_index_or now step d → x ≡ next.0
-    next_is x d is = is ∙ (ap (λ (l : List Receipt). slice_index_or l step d) here ∙ (ap (λ (k : ℕ). slice_index_or (g.done ++ next.0 ∷ next.1) k d) (sym as_far)
+    next_is x d is = is ∙ (ap (λ (l : List Receipt). slice_index_or l step d) here ∙
+        (ap (λ (k : ℕ). slice_index_or (g.done ++ next.0 ∷ next.1) k d) (sym as_far)
         ∙ get_or-append_seam g.done next.0 next.1 d))
 
     pub still_home : (P : Receipt → Type 0) (x d : Receipt) → x ≡ slice_index_or now step d → All P start → P x

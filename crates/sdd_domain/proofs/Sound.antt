@@ -33,7 +33,7 @@ use Rattle.sdd_space.proofs.Accounts.{blank-at}
 use Rattle.sdd_space.proofs.Four.{AllClosed, all-closed, not-guarded}
 use Rattle.sdd_space.proofs.Housed.{Whole-opened, Whole-made_as, Whole-owner_given, live-taken}
 use Rattle.sdd_domain.specs.SpaceIds.{home_in}
-use Rattle.sdd_domain.specs.LocalState.{LocalState, word_of, IsLone, IsNew, RetiresAt, KnowsOwner}
+use Rattle.sdd_domain.specs.LocalState.{LocalState, word_of, IsLone, IsNew, OwnerGoes, KnowsOwner}
 use Rattle.sdd_domain.specs.WordsAndValues.{Entries, WordsMatchValues}
 use Rattle.sdd_domain.specs.Local.{LocalModel, IsBlankAlone, value_in, world_of}
 use Rattle.sdd_domain.specs.Space.{ShowsBy, Shows, is_lone}
@@ -41,7 +41,7 @@ use Rattle.sdd_domain.proofs.Listings.{listing_at, listing_past}
 use Rattle.sdd_domain.specs.Laws.{own_is_place}
 use Rattle.sdd_domain.specs.Sound.{IsSound}
 use Rattle.sdd_domain.proofs.Makes.{Answers, did_world}
-use Rattle.sdd_domain.proofs.Owning.{release_world}
+use Rattle.sdd_domain.proofs.Owning.{went_due, went_home, went_limits, release_world}
 use Rattle.sdd_domain.proofs.Registered.{blank_new}
 
 no_guards : (own : Participant) → time.is_open own ≡ false → own.guards ≡ 0
@@ -88,8 +88,22 @@ alone_time most = record {
 }
 
 alone_abreast : (most : Limits) (p : ℕ) → KeepsUp 0 (time.place_at (alone_time most) p)
-alone_abreast most zero = record { found = omega arith; near = λ opens. absurd cc; young = λ k d l. absurd (omega arith); countdown = omega arith; quiet = λ _. refl }
-alone_abreast most (suc p) = record { found = omega arith; near = λ opens. absurd cc; young = λ k d l. absurd (omega arith); countdown = omega arith; quiet = λ _. refl }
+alone_abreast most zero = record {
+  found = omega arith;
+  near = λ opens. absurd cc;
+  young = λ k d l. absurd (omega arith);
+  countdown = omega arith;
+  quiet = λ _.
+      refl;
+}
+alone_abreast most (suc p) = record {
+  found = omega arith;
+  near = λ opens. absurd cc;
+  young = λ k d l. absurd (omega arith);
+  countdown = omega arith;
+  quiet = λ
+      _. refl;
+}
 
 alone_shut : (most : Limits) (p : ℕ) → IsTrue (time.is_open (time.place_at (alone_time most) p)) → time.phase_at (alone_time most) p ≡ Some Live
 alone_shut most zero opens = absurd cc
@@ -155,7 +169,8 @@ module _ {T : Type 0} where
 
   module _ (holds : T → List OwnerOrCell) (v : LocalModel T) (m : LocalState) (sound : IsSound holds v) where
     -- what becomes of a participant whose entries stay
-    pub sound_then : m.due ≡ [] → home_in m ≡ home_in v.member → (IsLone m → IsWhole (world_of (record v { member = m }))) → IsSound holds (record v { member = m })
+    pub sound_then : m.due ≡ [] → home_in m ≡ home_in v.member → (IsLone m → IsWhole (world_of (record v { member = m }))) → IsSound holds
+        (record v { member = m })
     sound_then settled home whole = record {
       settled = settled;
       home = λ place value g there. subst (λ (h : SpaceId). AreOf h (holds value)) (sym home) (sound.home place value g there);
@@ -169,12 +184,13 @@ module _ {T : Type 0} where
         (λ one. let lone : IsLone v.member = ap (λ (h : SpaceId). h.readers.size) (sym home) ∙ one in
         whole_by v (record v { member = m }) step keeps (same lone) (sound.whole lone))
 
-    pub sound_release : (right : Right) (count : ℕ) → WordsMatchValues v.member v.entries → RetiresAt (number_of right) count v.member m
-        → (IsLone v.member → (g : Gv) × KnowsOwner v.member (number_of right) (is_shared (kind_of right)) g) → IsSound holds (record v { member = m })
-    sound_release right count tied is knows = sound_then (ap (λ (y : LocalState). y.due) is.member ∙ sound.settled) (ap home_in is.member)
-        (λ one. let lone : IsLone v.member = sym (ap (λ (y : LocalState). y.limits.participants) is.member) ∙ one in
+    pub sound_release : (right : Right) (tied : WordsMatchValues v.member v.entries)
+        (knows : IsLone v.member → (g : Gv) × KnowsOwner v.member (number_of right) (is_shared (kind_of right)) g)
+        (last : Bool) → OwnerGoes (number_of right) (is_shared (kind_of right)) last v.member m → IsSound holds (record v { member = m })
+    sound_release right tied knows last went = sound_then (went_due v m right tied knows last went ∙ sound.settled) (went_home v m right tied knows last went)
+        (λ one. let lone : IsLone v.member = sym (ap (λ (l : Limits). l.participants) (went_limits v m right tied knows last went)) ∙ one in
         let w : World T = world_of v in
-        subst (λ (u : World T). IsWhole u) (sym (release_world v m right count is tied knows v refl (lone_true v.member lone)))
+        subst (λ (u : World T). IsWhole u) (sym (release_world v m right tied knows last went v refl (lone_true v.member lone)))
         (Whole-owner_given w v.member.place (number_of right) (live-taken w.time v.member.place (lives v)) (standing_at w (number_of right)) refl
         (sound.whole lone)))
 
@@ -223,7 +239,8 @@ module _ (R : RattleType) (holds : R.Denot → List OwnerOrCell) (v : LocalModel
       (sound.home place value g (sym (get_or-set_other v.entries k place (Some (x, showing R x)) None ne) ∙ is)))
 
 -- for an answer of `make`
-module _ (R : RattleType) (holds : R.Denot → List OwnerOrCell) (v : LocalModel R.Denot) (m : LocalState) (es : Entries R.Denot) (kind : StandingKind) {B : Type 0}
+module _ (R : RattleType) (holds : R.Denot → List OwnerOrCell) (v : LocalModel R.Denot) (m : LocalState) (es : Entries R.Denot) (kind : StandingKind)
+    {B : Type 0}
     (P : R.Denot → Type 0) (Back Why : B × Refused → Type 0) where
   pub sound_made : (r : Result Right (B × Refused)) → Answers R v m es kind P Back Why r → ((x : R.Denot) → P x → AreOf (home_in v.member) (holds x))
       → WordsMatchValues v.member v.entries → IsSound holds v → IsSound holds (record { member = m; entries = es })

@@ -37,6 +37,7 @@ module _ (b d : DomainTable) (ids : id_of b ≡ id_of d) (sizes : sizes_of b ≡
     knows = (q.knows.0 ∙ sizes, q.knows.1 ∙ book);
     found = q.found;
     quiet = q.quiet;
+    pledges = q.pledges;
     waiting = λ i some_wait. subst (λ (z : Sizes). i < most_waiting z) sizes (q.waiting i some_wait);
     bags = subst (λ (z : Sizes). own.bags.waiting ≡ map (waiting_of z.slots) (unripe s.me.0.slots.waits)) sizes q.bags;
     room = q.room ∙ ap most_waiting sizes;

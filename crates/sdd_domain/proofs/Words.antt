@@ -1,59 +1,149 @@
 -- The words that a lone participant knows of slots
-use Rattle.std.proofs.Common.{◌≡◌, ◌≢◌, ◌⊎◌, ℕ, ◌<◌, ◌≤◌, IsTrue, List, length, get_or, set, ap, ◌∙◌, ⊎_elim, arith, get_or-set_other, get_or-set_same, ◌+◌, ◌-◌}
+use Rattle.std.proofs.Common.{◌≡◌, ◌≢◌, ℕ, ◌<◌, ◌≤◌, IsTrue, List, length, get_or, set, ap, ◌∙◌, ⊎_elim, arith, get_or-set_other, get_or-set_same, ◌+◌, ◌-◌, ◌^◌, Bool, true, false, leb, refl, sym, ne_eqb, eq-eqb}
+use Rattle.std.specs.Prelude.{Option, Some, None, option_map, if◌then◌else◌, ◌==◌, ◌||◌, ◌&&◌}
 use mathlib.Core.Logic.{dite}
-use native.Mathlib.Decide.{dec_lt}
+use native.Mathlib.Decide.{ℕ_discrete, dec_lt}
+use base.Stored.{Gv}
 use Rattle.std.proofs.lemmas.List.{get_or_past}
+use Rattle.std.proofs.lemmas.Bool.{le-leb}
+use Rattle.std.proofs.lemmas.Bool.Decides.{leb_tells}
+use Rattle.sdd_participants.specs.declared.standing.Standing.TheVariants.{Owned, Raw, Shared, Retired}
 use Rattle.sdd_views.specs.declared.Sizes.{Sizes}
 use Rattle.sdd_word_invariant.specs.Words.{words_behind, most_waiting}
-use Rattle.sdd_word_invariant.specs.Codes.{alive, waiting, full}
+use Rattle.sdd_word_invariant.specs.Codes.{shared_base, claimed_word, retired_word, alive, waiting, counted, full}
 use Rattle.sdd_word_invariant.specs.SlotSteps.{behind}
-use Rattle.sdd_word_invariant.proofs.Codes.{sound, free_is, owned_is, raw_is, waiting_is}
+use Rattle.sdd_word_invariant.proofs.Codes.{sound, shared, counted_is, claimed_is, free_is, owned_is, raw_is, waiting_is}
+use Rattle.sdd_domain_invariant.specs.BankInvariant.{one_where}
 use Rattle.sdd_domain.specs.WordsAndValues.{is_plain_word, MatchesPlace}
-use Rattle.std.specs.Prelude.{Option, Some, None}
+use Rattle.sdd_domain.specs.Local.{standing_by, value_by, owner_standing}
 
-pub plain_is : (x : ℕ) → IsTrue (is_plain_word x) → (x ≡ 0) ⊎ ((x ≡ 1) ⊎ ((x ≡ 4) ⊎ (x ≡ 2)))
-plain_is x plain = grind arith
+-- most owners that a word counts
+abbrev pub most_word : ℕ
+most_word = shared_base + 2 ^ 62
+
+-- a word that counts owners, and not too many
+abbrev pub CountsFew : ℕ → Type 0
+CountsFew x = (shared_base ≤ x) × (x ≤ most_word)
+
+-- whether it does
+abbrev counts_few : ℕ → Bool
+counts_few x = leb shared_base x && leb x most_word
+
+both_low : (x : ℕ) → counts_few x ≡ true → CountsFew x
+both_low x e = ⊎_elim
+    (λ (a : (leb shared_base x ≡ true) × (shared_base ≤ x)). ⊎_elim (λ (b : (leb x most_word ≡ true) × (x ≤ most_word)). (a.1, b.1))
+    (λ (b : (leb x most_word ≡ false) × (most_word < x)). let no : false ≡ true = sym (λ d. a.0 d && b.0 d) ∙ e in absurd cc) (leb_tells x most_word))
+    (λ (a : (leb shared_base x ≡ false) × (x < shared_base)). let no : false ≡ true = sym (λ d. a.0 d && leb x most_word) ∙ e in absurd cc)
+    (leb_tells shared_base x)
 
 -- what holds of each of them holds of it
-pub plain_by : {P : Type 0} (x : ℕ) → IsTrue (is_plain_word x) → (x ≡ 0 → P) → (x ≡ 1 → P) → (x ≡ 4 → P) → (x ≡ 2 → P) → P
-plain_by x plain free owned waits raw = ⊎_elim free (λ (t : (x ≡ 1) ⊎ ((x ≡ 4) ⊎ (x ≡ 2))). ⊎_elim owned
-    (λ (u : (x ≡ 4) ⊎ (x ≡ 2)). ⊎_elim waits raw u) t) (plain_is x plain)
+pub plain_by : {P : Type 0} (x : ℕ) → IsTrue (is_plain_word x) → (x ≡ 0 → P) → (x ≡ 1 → P) → (x ≡ 4 → P) → (x ≡ 2 → P) → (CountsFew x → P) → P
+plain_by x plain free owned waits raw counts = dite (ℕ_discrete x 0) free
+    (λ n0. dite (ℕ_discrete x 1) owned
+    (λ n1. dite (ℕ_discrete x 4) waits
+    (λ n4. dite (ℕ_discrete x 2) raw
+    (λ n2. counts (both_low x
+    (sym (λ d. ne_eqb x 0 n0 d || (ne_eqb x 1 n1 d || (ne_eqb x 4 n4 d || (ne_eqb x 2 n2 d || counts_few x)))) ∙ plain))))))
 
--- a word that says that the slot has an owner is that of an owned one
-pub owned_alive : (x : ℕ) → IsTrue (is_plain_word x) → alive x ≡ 1 → x ≡ 1
-owned_alive x plain one = plain_by x plain (λ e. let z = (free_is 0 (omega arith)).0 in let a = ap alive e in absurd (omega arith)) (λ e. e)
-    (λ e. let z = (waiting_is 0 (omega arith)).0 in let a = ap alive e in absurd (omega arith))
-    (λ e. let z = (raw_is 0 (omega arith)).0 in let a = ap alive e in absurd (omega arith))
+pub plain_claimed : (several : Bool) → IsTrue (is_plain_word (claimed_word several))
+plain_claimed true = refl
+plain_claimed false = refl
 
--- one that says that its item waits is that of a waiting one
-pub waiting_waits : (x : ℕ) → IsTrue (is_plain_word x) → 0 < waiting x → x ≡ 4
-waiting_waits x plain some_wait = plain_by x plain (λ e. let z = (free_is 0 (omega arith)).1 in let a = ap waiting e in absurd (omega arith))
-    (λ e. let z = (owned_is 0 (omega arith)).1 in let a = ap waiting e in absurd (omega arith)) (λ e. e)
-    (λ e. let z = (raw_is 0 (omega arith)).1 in let a = ap waiting e in absurd (omega arith))
+pub plain_retired : (several : Bool) → IsTrue (is_plain_word (retired_word several))
+plain_retired true = refl
+plain_retired false = refl
 
-pub few_waiting : (x : ℕ) → IsTrue (is_plain_word x) → waiting x ≤ 1
-few_waiting x plain = dite (dec_lt 0 (waiting x)) (λ some_wait. let one = (sound.waits x some_wait).0 in omega arith) (λ none. omega arith)
+-- how many owners a word counts
+pub counts_of : (x : ℕ) → IsTrue (is_plain_word x) → counted x ≡ 1 → (shared_base ≤ x) × (x ≤ most_word) × (alive x ≡ x - shared_base)
+counts_of x plain several = let low = counted_is x several in (
+  low,
+  plain_by x plain (λ e. absurd (omega arith)) (λ e. absurd (omega arith)) (λ e. absurd (omega arith)) (λ e. absurd (omega arith)) (λ b. b.1),
+  (shared x low).0,
+)
+
+counting_plain : (x : ℕ) → shared_base ≤ x → x ≤ most_word → IsTrue (is_plain_word x)
+counting_plain x low high = let n0 : x ≢ 0 = (λ e. omega arith) in let n1 : x ≢ 1 = (λ e. omega arith) in let n4 : x ≢ 4 = (λ e. omega arith) in
+    let n2 : x ≢ 2 = (λ e. omega arith) in
+    λ d. ne_eqb x 0 n0 d || (ne_eqb x 1 n1 d || (ne_eqb x 4 n4 d || (ne_eqb x 2 n2 d || (le-leb shared_base x low d && le-leb x most_word high d))))
+
+-- one owner fewer, or one more
+pub plain_less : (x : ℕ) → IsTrue (is_plain_word x) → counted x ≡ 1 → 1 < alive x → IsTrue (is_plain_word (x - 1))
+plain_less x plain several more = let c = counts_of x plain several in let low = c.0 in let high = c.1 in let n = c.2 in
+    counting_plain (x - 1) (omega arith) (omega arith)
+
+pub plain_more : (x : ℕ) → IsTrue (is_plain_word x) → counted x ≡ 1 → alive x < 2 ^ 62 → IsTrue (is_plain_word (x + 1))
+plain_more x plain several few = let c = counts_of x plain several in let low = c.0 in let high = c.1 in let n = c.2 in
+    counting_plain (x + 1) (omega arith) (omega arith)
+
+pub few_waiting : (x : ℕ) → waiting x ≤ 1
+few_waiting x = dite (dec_lt 0 (waiting x)) (λ some_wait. let one = (sound.waits x some_wait).0 in omega arith) (λ none. omega arith)
 
 -- one that isn't that of a free slot says that there is an item
 pub taken_full : (x : ℕ) → IsTrue (is_plain_word x) → x ≢ 0 → full x ≡ 1
 taken_full x plain ne = plain_by x plain (λ e. absurd (ne e))
     (λ e. let z = (owned_is 0 (omega arith)).0 in let a = ap alive e in (sound.lives x (omega arith)).1)
     (λ e. let z = (waiting_is 0 (omega arith)).1 in let a = ap waiting e in (sound.waits x (omega arith)).1)
-    (λ e. ap full e ∙ (raw_is 0 (omega arith)).2)
+    (λ e. ap full e ∙ (raw_is 0 (omega arith)).2) (λ b. (shared x b.0).2)
 
 -- by its word nobody owns what is in a job's place
 pub place_dead : (x : ℕ) (o : Option (Unit {0})) → MatchesPlace x o → alive x ≡ 0
 place_dead x None is = ap alive is ∙ (free_is 0 (omega arith)).0
 place_dead x (Some j) is = ap alive is ∙ (waiting_is 0 (omega arith)).0
 
+-- ---- how slots stand by their words
+pub alive_taken : (x : ℕ) → 0 < alive x → x ≢ 0
+alive_taken x some e = let a = ap alive e in let z = (free_is 0 (omega arith)).0 in omega arith
+
+pub waiting_taken : (x : ℕ) → 0 < waiting x → x ≢ 0
+waiting_taken x some e = let a = ap waiting e in let z = (free_is 0 (omega arith)).1 in omega arith
+
+alive_not_raw : (x : ℕ) → 0 < alive x → x ≢ 2
+alive_not_raw x some e = let a = ap alive e in let z = (raw_is 0 (omega arith)).0 in omega arith
+
+by_kind : (x : ℕ) (several : Bool) → counted x ≡ one_where several → owner_standing x ≡ (if several then Shared (alive x) else Owned)
+by_kind x true e = λ d. if eq-eqb (counted x) 1 e d then Shared (alive x) else Owned
+by_kind x false e = let ne : counted x ≢ 1 = (λ one. omega arith) in λ d. if ne_eqb (counted x) 1 ne d then Shared (alive x) else Owned
+
+-- by owners, one of several or the only one
+pub stands_owned : (x : ℕ) (several : Bool) → 0 < alive x → counted x ≡ one_where several → standing_by x ≡ Some (if several then Shared (alive x) else Owned)
+stands_owned x several some kind = let quiet = (sound.lives x some).0 in let ne : waiting x ≢ 1 = (λ e. omega arith) in
+    (λ d. if ne_eqb x 0 (alive_taken x some) d then None
+    else (if ne_eqb (waiting x) 1 ne d then Some Retired else (if ne_eqb x 2 (alive_not_raw x some) d then Some Raw else Some (owner_standing x))))
+    ∙ ap Some (by_kind x several kind)
+
+pub stands_retired : (x : ℕ) → waiting x ≡ 1 → standing_by x ≡ Some Retired
+stands_retired x waits = let taken = waiting_taken x (omega arith) in
+    λ d. if ne_eqb x 0 taken d then None else (if eq-eqb (waiting x) 1 waits d then Some Retired else (if x == 2 then Some Raw else Some (owner_standing x)))
+
+-- out as raw
+pub stands_raw : standing_by 2 ≡ Some Raw
+stands_raw = let quiet = (raw_is 0 (omega arith)).1 in let ne : waiting 2 ≢ 1 = (λ e. omega arith) in
+    λ d. if ne_eqb (waiting 2) 1 ne d then Some Retired else Some Raw
+
+pub value_there : {T : Type 0} (x : ℕ) (e : Option (T × Gv)) → x ≢ 0 → value_by x e ≡ option_map (λ (y : T × Gv). y.0) e
+value_there x e taken = λ d. if ne_eqb x 0 taken d then None else option_map (λ (y : _ × Gv). y.0) e
+
+pub stands_claimed : (several : Bool) → standing_by (claimed_word several) ≡ Some (if several then Shared 1 else Owned)
+stands_claimed several = let c = claimed_is several in let one = c.0 in stands_owned (claimed_word several) several (omega arith) (c.1 ∙ same several)
+    ∙ (λ d. Some (if several then Shared (one d) else Owned))
+  where
+    same : (b : Bool) → prog.Atomic.either b 1 0 ≡ one_where b
+    same true = refl
+    same false = refl
+
+-- the word that a slot is claimed by
+pub claimed_kind : (several : Bool) → counted (claimed_word several) ≡ one_where several
+claimed_kind true = (claimed_is true).1
+claimed_kind false = (claimed_is false).1
+
 -- a slot whose word says so is one of the slots
 module _ (z : Sizes) (ws : List ℕ) (long : length ws ≡ words_behind z) where
   pub within : (slot : ℕ) → slot < z.slots → behind z slot < length ws
   within slot low = omega arith
 
-  pub inside : ((j : ℕ) → j < z.jobs → alive (get_or ws (behind z (z.slots + j)) 0) ≡ 0) → (slot : ℕ) → alive (get_or ws (behind z slot) 0) ≡ 1
+  pub inside : ((j : ℕ) → j < z.jobs → alive (get_or ws (behind z (z.slots + j)) 0) ≡ 0) → (slot : ℕ) → 0 < alive (get_or ws (behind z slot) 0)
       → slot < z.slots
-  inside dead slot one = dite (dec_lt slot z.slots) (λ l. l) (λ far. absurd (dite (dec_lt slot (most_waiting z))
+  inside dead slot some = dite (dec_lt slot z.slots) (λ l. l) (λ far. absurd (dite (dec_lt slot (most_waiting z))
       (λ near. let d = dead (slot - z.slots) (omega arith) in let e : z.slots + (slot - z.slots) ≡ slot = omega arith in
       let f = ap (λ (k : ℕ). alive (get_or ws (behind z k) 0)) e in omega arith)
       (λ past. let p = get_or_past ws (behind z slot) 0 (omega arith) in let a = ap alive p in let f = (free_is 0 (omega arith)).0 in omega arith)))

@@ -34,12 +34,13 @@ pub record IsNear (v : EpochView) : Type 0 where
   pub since : v.since ≤ v.known
   pub known : v.known ≤ v.since + 1
 
--- no slot is held, and no owner is with the participant itself: each is a token of its own
+-- no slot is held, no count is raised past its bound, and no owner is with the participant itself: each is a token of its own
 pub record IsQuiet (v : SlotsView) : Type 0 where
   pub owns : v.owns ≡ []
   pub drawn : v.drawn ≡ []
   pub holds : v.holds ≡ None
   pub looked : v.looked ≡ 0
+  pub over : v.over ≡ None
 
 -- what is known of what slots show: of those that the guards see, one value for each
 pub record SeesOnce (stakes : FractionsView) (slots : SlotsView) : Type 0 where
@@ -75,6 +76,7 @@ module _ (b : DomainTable) (p : ℕ) (own : Participant) (token : Seat ValueFrac
     pub knows : Knows b token
     pub found : (epoch token).found ≡ own.found
     pub quiet : IsQuiet (slots token)
+    pub pledges : (view token).pledges.own ≡ []
     pub waiting : (i : ℕ) → 0 < items_at i (view token) → i < most_waiting_of b
     pub bags : own.bags.waiting ≡ map (waiting_of (slots_of b)) (unripe (slots token).waits)
     pub room : own.bags.room ≡ most_waiting_of b

@@ -4,10 +4,11 @@ use Rattle.atomic_table.specs.declared.shared.Seat.{Seat}
 use Rattle.sdd_shared_values.specs.SharedValues.{IsNoValueCode}
 use Rattle.sdd_shared_values.specs.declared.value_fraction.ValueFraction.{ValueFraction}
 use Rattle.sdd_views.specs.declared.View.{View}
-use Rattle.sdd_word_invariant.specs.Codes.{free_word, owned_word, waiting_word}
+use Rattle.sdd_word_invariant.specs.Codes.{free_word, waiting_word}
 use Rattle.sdd_word_invariant.specs.Epoch.{IsLone}
 use Rattle.sdd_word_invariant.specs.SlotSteps.{behind, DefersAt}
 use Rattle.sdd_domain_invariant.specs.FractionsAtHome.{CarriedFractions}
+use Rattle.sdd_domain_invariant.specs.KindsInvariant.{written}
 use Rattle.sdd_domain_invariant.specs.FractionSteps.{SeatState, CarriesAll, book_of, places_of, making}
 
 module _ {S : Type 0} where
@@ -36,12 +37,13 @@ module _ {S : Type 0} where
 unfoldable pub AllOut : ℕ → SeatState → CarriedFractions → Type 0
 AllOut slot me xs = CarriesAll (book_of me) slot (places_of me) 0 IsNoValueCode me.1 xs
 
--- the participant owns a slot more, for an item that it makes, whose value it is to move in
-pub record Gains (slot : ℕ) (s s' : Seat ValueFraction View) : Type 0 where
+-- the participant owns a slot more, which it claimed by this word, for an item that it makes, whose value it is to move in
+pub record Gains (word slot : ℕ) (s s' : Seat ValueFraction View) : Type 0 where
   pub table : s'.table_id ≡ s.table_id
   pub number : s'.id ≡ s.id
   pub row : AllOut slot s.me s'.me.1
-  pub view : s'.me.0 ≡ making slot (owned_word 0) s.me.0
+  pub view : s'.me.0 ≡ making slot word s.me.0
+  pub noted : written s'.me.0 slot ≡ word
   pub inside : slot < s.me.0.sizes.slots
   pub free : IsLone s.me.0.epoch → IsKnownFree s slot
 

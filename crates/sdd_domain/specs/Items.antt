@@ -22,3 +22,10 @@ pub record IsRightTo (m : LocalState) (k : StandingKind) (shown : Gv) (right : R
   pub home : home_of right ≡ slots_home m
   pub kind : kind_of right ≡ k
   pub value : HasValue shown right
+
+-- an owner of the same item, which shows the same value
+pub record IsSameOwner (right other : Right) : Type 0 where
+  pub slot : number_of other ≡ number_of right
+  pub home : home_of other ≡ home_of right
+  pub kind : kind_of other ≡ kind_of right
+  pub views : views_of other ≡ views_of right

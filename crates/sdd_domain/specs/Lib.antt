@@ -14,6 +14,7 @@ pub mod Values
 pub mod RawItems
 pub mod BetweenCalls
 pub mod InPlace
+pub mod GoesInPlace
 pub mod DetachedLocal
 pub mod WordsAndValues
 pub mod Local

@@ -5,9 +5,7 @@ use Rattle.sdd_participants.specs.EpochState.{EpochState, newcomer}
 use Rattle.sdd_participants.specs.declared.place_states.PlaceState.TheVariants.{Live}
 use Rattle.sdd_participants.specs.declared.standing.Standing.{Standing}
 use Rattle.sdd_participants.specs.declared.standing.Standing.TheVariants.{Owned, Raw, Shared, Retired}
-use Rattle.sdd_views.specs.declared.ShownValue.{ShownValue}
-use Rattle.sdd_word_invariant.specs.Codes.{free_word, raw_word, waiting_word}
-use Rattle.sdd_domain_invariant.specs.FilledInvariant.{newest}
+use Rattle.sdd_word_invariant.specs.Codes.{free_word, raw_word, alive, waiting, counted}
 use Rattle.sdd_standings.specs.Cells.{null_pointer}
 use Rattle.sdd_core.specs.declared.limits.Limits.{Limits}
 use Rattle.sdd_space.specs.World.{World, IsBlank}
@@ -25,16 +23,15 @@ abbrev pub listing : {A : Type 0} → ℕ → (ℕ → A) → List A
 listing zero f = []
 listing (suc n) f = f 0 ∷ listing n (λ i. f (suc i))
 
--- an item that is out stands as its owner: one of several, or the only one
-abbrev pub owner_standing : Option ShownValue → Standing
-owner_standing None = Owned
-owner_standing (Some r) = if r.shared then Shared 1 else Owned
+-- an item that is out stands by so many owners, where its word counts them, or by its only one
+abbrev pub owner_standing : ℕ → Standing
+owner_standing word = if counted word == 1 then Shared (alive word) else Owned
 
--- how a slot stands by its word, and by what was moved in last
-abbrev pub standing_by : ℕ → Option ShownValue → Option Standing
-standing_by word filled =
+-- how a slot stands by its word
+abbrev pub standing_by : ℕ → Option Standing
+standing_by word =
     if word == free_word 0 then None
-    else (if word == waiting_word 0 then Some Retired else (if word == raw_word 0 then Some Raw else Some (owner_standing filled)))
+    else (if waiting word == 1 then Some Retired else (if word == raw_word 0 then Some Raw else Some (owner_standing word)))
 
 abbrev pub value_by : {T : Type 0} → ℕ → Option (T × Gv) → Option T
 value_by word entry = if word == free_word 0 then None else option_map (λ e. e.0) entry
@@ -53,7 +50,7 @@ time_of m = record {
 
 module _ {T : Type 0} where
   abbrev pub standing_in : LocalModel T → ℕ → Option Standing
-  standing_in p slot = standing_by (word_of p.member slot) (newest slot p.member.filled)
+  standing_in p slot = standing_by (word_of p.member slot)
 
   abbrev pub value_in : LocalModel T → ℕ → Option T
   value_in p slot = value_by (word_of p.member slot) (slice_index_or p.entries slot None)

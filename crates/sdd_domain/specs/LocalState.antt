@@ -1,5 +1,5 @@
 -- A participant's membership of a domain as its callers see it, and what each call does to it
-use Rattle.std.specs.Prelude.{◌≡◌, ◌≢◌, ◌⊎◌, ℕ, ◌+◌, ◌^◌, ◌<◌, ◌≤◌, Bool, Some, None, IsSome, true, false, List, [], ◌∷◌, ◌++◌, replicate, slice_index, slice_set}
+use Rattle.std.specs.Prelude.{◌≡◌, ◌≢◌, ◌⊎◌, ℕ, ◌+◌, ◌^◌, ◌<◌, ◌≤◌, Bool, Some, None, IsSome, true, false, List, [], ◌∷◌, ◌++◌, replicate, slice_index, slice_set, ◌-◌}
 use base.Stored.{Gv}
 use Rattle.atomic_table.specs.Seated.{TableId}
 use Rattle.sdd_core.specs.declared.limits.Limits.{Limits}
@@ -15,13 +15,14 @@ use Rattle.sdd_participants.specs.Tally.{no_items, one_made, one_reclaimed, one_
 use Rattle.sdd_views.specs.declared.Sizes.{Sizes}
 use Rattle.sdd_views.specs.declared.ShownValue.{ShownValue}
 use Rattle.sdd_views.specs.declared.SlotsView.{SlotsView}
-use Rattle.sdd_word_invariant.specs.Codes.{free_word, owned_word, waiting_word, alive}
+use Rattle.sdd_word_invariant.specs.Codes.{free_word, waiting_word, claimed_word, retired_word, most_owners, alive, counted}
 use Rattle.sdd_word_invariant.specs.Sums.{times, total}
 use Rattle.sdd_word_invariant.specs.Slots.{waits_in}
 use Rattle.sdd_views.specs.Views.{bare}
 use Rattle.sdd_word_invariant.specs.SlotSteps.{blank, behind, retired_now, without_item}
 use Rattle.sdd_domain_invariant.specs.Records.{IsIn}
 use Rattle.sdd_domain_invariant.specs.FilledInvariant.{newest}
+use Rattle.sdd_domain_invariant.specs.BankInvariant.{one_where}
 use Rattle.sdd_domain.specs.WaitingItems.{aged_at, due_at, arrived_at}
 
 -- the domain, the book of its values' places, its limits, the place, whose guards are the participant's, what it keeps of its own, the greatest count that it knows,
@@ -166,7 +167,8 @@ IsFree m slot = word_of m slot ≡ free_word 0
 -- by what a lone participant knows the slot has an owner, who is one of several or not, and shows this
 pub record KnowsOwner (m : LocalState) (slot : ℕ) (shared : Bool) (value : Gv) : Type 0 where
   pub newest : newest slot m.filled ≡ Some (record { slot = slot; shared = shared; value = value })
-  pub alive : alive (word_of m slot) ≡ 1
+  pub alive : 0 < alive (word_of m slot)
+  pub kind : counted (word_of m slot) ≡ one_where shared
 
 -- a slot that was free has an item, made by it, which shows this; its owner may be one of several
 pub record MakesAt (slot : ℕ) (shared : Bool) (value : Gv) (old new : LocalState) : Type 0 where
@@ -174,7 +176,7 @@ pub record MakesAt (slot : ℕ) (shared : Bool) (value : Gv) (old new : LocalSta
   pub member : new ≡ record old {
     tally = one_made old.tally;
     filled = record { slot = slot; shared = shared; value = value } ∷ old.filled;
-    words = slice_set old.words (behind old.sizes slot) (owned_word 0);
+    words = slice_set old.words (behind old.sizes slot) (claimed_word shared);
   }
   pub lone : IsLone old → IsFree old slot
 
@@ -194,28 +196,89 @@ pub record LooksAt (slot : ℕ) (shared : Bool) (value : Gv) (old new : LocalSta
 abbrev pub IsUsedUp : LocalState → Type 0
 IsUsedUp m = (slot : ℕ) → slot < m.limits.slots → ¬ (IsFree m slot)
 
--- the item of a slot waits with it from now on, retired at the count of this moment
-pub record RetiresAt (slot count : ℕ) (old new : LocalState) : Type 0 where
+-- the item of a slot waits with it from now on, retired at the count of this moment, as its last owner has gone, which was one of several or not
+pub record RetiresAt (slot : ℕ) (shared : Bool) (count : ℕ) (old new : LocalState) : Type 0 where
   pub member : new ≡ record old {
     own = awaiting (Item slot) old.own;
     known = count;
     slots = record old.slots { waits = old.slots.waits ++ retired_now slot count ∷ [] };
-    words = slice_set old.words (behind old.sizes slot) (waiting_word 0);
+    words = slice_set old.words (behind old.sizes slot) (retired_word shared);
   }
   pub knew : old.known ≤ count
   pub lone : IsLone old → count ≡ old.known
+  pub last : IsLone old → shared ≡ true → word_of old slot ≡ claimed_word true
+
+-- an owner of a slot went, and others stay, as many as its word tells that was found
+pub record LeavesAt (slot word : ℕ) (old new : LocalState) : Type 0 where
+  pub member : new ≡ record old { words = slice_set old.words (behind old.sizes slot) (word - 1) }
+  pub counted : counted word ≡ 1
+  pub several : 1 < alive word
+  pub lone : IsLone old → word_of old slot ≡ word
+
+-- an owner of a slot went, which was one of several or not, as the last one or beside others
+abbrev pub OwnerGoes : ℕ → Bool → Bool → LocalState → LocalState → Type 0
+OwnerGoes slot shared true old new = (count : ℕ) × RetiresAt slot shared count old new
+OwnerGoes slot shared false old new = (word : ℕ) × LeavesAt slot word old new
+
+-- an owner of a slot came beside another
+pub record AddsAt (slot word : ℕ) (old new : LocalState) : Type 0 where
+  pub member : new ≡ record old { words = slice_set old.words (behind old.sizes slot) (word + 1) }
+  pub counted : counted word ≡ 1
+  pub left : 0 < alive word
+  pub few : alive word < most_owners
+  pub lone : IsLone old → word_of old slot ≡ word
+
+-- as many own it as may, so that none came
+pub record HasMost (slot word : ℕ) (old new : LocalState) : Type 0 where
+  pub member : (z : ℕ) × (new ≡ record old { words = slice_set old.words (behind old.sizes slot) z })
+  pub counted : counted word ≡ 1
+  pub many : most_owners ≤ alive word
+  pub lone : IsLone old → (word_of old slot ≡ word) × (new ≡ old)
+
+-- what is noted of words once a slot's only owner wrote its word, where it is counted
+abbrev pub sole_words : Bool → ℕ → Sizes → List ℕ → List ℕ
+sole_words true slot z words = slice_set words (behind z slot) (claimed_word true)
+sole_words false slot z words = words
+
+-- a slot's only owner wrote its word, where it is counted
+abbrev pub with_sole : Bool → ℕ → LocalState → LocalState
+with_sole shared slot m = record m { words = sole_words shared slot m.sizes m.words }
+
+-- a lone participant knows that its word counts one, where its owners are counted
+abbrev pub KnowsSole : LocalState → ℕ → Bool → Type 0
+KnowsSole m slot shared = IsLone m → shared ≡ true → word_of m slot ≡ claimed_word true
 
 -- the item of an owner that was alone has another value, which shows this
 pub record ChangesAt (slot : ℕ) (shared : Bool) (value : Gv) (old new : LocalState) : Type 0 where
   pub inside : slot < old.limits.slots
-  pub member : new ≡ record old { filled = record { slot = slot; shared = shared; value = value } ∷ old.filled }
+  pub member : new ≡ record (with_sole shared slot old) { filled = record { slot = slot; shared = shared; value = value } ∷ old.filled }
+  pub sole : KnowsSole old slot shared
   pub quiet : ¬ (HasOpenGuard old)
 
 -- the item of an owner that was alone was dropped in its place, and its slot is free
-pub record DropsAt (slot : ℕ) (old new : LocalState) : Type 0 where
+pub record DropsAt (slot : ℕ) (shared : Bool) (old new : LocalState) : Type 0 where
   pub inside : slot < old.limits.slots
   pub member : new ≡ record old { tally = one_in_place old.tally; words = slice_set old.words (behind old.sizes slot) (free_word 0) }
+  pub sole : KnowsSole old slot shared
   pub quiet : ¬ (HasOpenGuard old)
+
+-- an owner isn't alone with its item, as others own it
+pub record HasOthers (slot : ℕ) (shared : Bool) (old new : LocalState) : Type 0 where
+  pub same : new ≡ old
+  pub several : shared ≡ true
+  pub counted : IsLone old → (counted (word_of old slot) ≡ 1) × (1 < alive (word_of old slot))
+
+-- or as a guard is open somewhere
+pub record SeesGuard (slot : ℕ) (shared : Bool) (old new : LocalState) : Type 0 where
+  pub same : new ≡ with_sole shared slot old
+  pub sole : KnowsSole old slot shared
+  pub guarded : IsLone old → HasOpenGuard old
+
+-- an owner that is one of several goes, and others stay
+pub record GoesBeside (slot : ℕ) (shared : Bool) (old new : LocalState) : Type 0 where
+  pub word : ℕ
+  pub leaves : LeavesAt slot word old new
+  pub several : shared ≡ true
 
 -- by the words that a lone participant knows the place of a job is free
 abbrev pub IsFreePlace : LocalState → ℕ → Type 0

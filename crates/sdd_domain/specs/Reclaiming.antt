@@ -1,5 +1,5 @@
 -- What a participant reclaims at an opening, and what that gives up
-use Rattle.std.specs.Prelude.{[]}
+use Rattle.std.specs.Prelude.{[], Bool, true, false}
 use Rattle.sdd_participants.specs.EpochState.{nobody}
 use Rattle.sdd_participants.specs.Tally.{no_items, one_in_place}
 use Rattle.sdd_domain.specs.LocalState.{LocalState}
@@ -19,3 +19,8 @@ rest_of p = record p { member = record (kept_by p.member) { tally = no_items; du
 -- it counts one item more that was dropped in its place
 abbrev pub counted_in_place : {T : Type 0} → LocalModel T → LocalModel T
 counted_in_place p = record p { member = record p.member { tally = one_in_place p.member.tally } }
+
+-- where that is so
+abbrev pub counted_where : {T : Type 0} → Bool → LocalModel T → LocalModel T
+counted_where true p = counted_in_place p
+counted_where false p = p

@@ -1,10 +1,10 @@
 -- What a lone participant's words, its bags and its ledger have to do with one another
-use Rattle.std.specs.Prelude.{◌≡◌, ℕ, ◌<◌, ◌==◌, ◌||◌, Bool, IsTrue, List, Option, Some, None, length, map, slice_index_or}
+use Rattle.std.specs.Prelude.{◌≡◌, ℕ, ◌+◌, ◌<◌, ◌==◌, ◌||◌, ◌&&◌, leb, Bool, IsTrue, List, Option, Some, None, length, map, slice_index_or}
 use base.Stored.{Gv}
 use Rattle.sdd_participants.specs.Slab.{entry_at}
 use Rattle.sdd_views.specs.declared.ShownValue.{ShownValue}
 use Rattle.sdd_word_invariant.specs.Words.{words_behind}
-use Rattle.sdd_word_invariant.specs.Codes.{free_word, owned_word, raw_word, waiting_word, waiting, full}
+use Rattle.sdd_word_invariant.specs.Codes.{free_word, owned_word, raw_word, waiting_word, waiting, full, shared_base, most_owners}
 use Rattle.sdd_word_invariant.specs.Sums.{total}
 use Rattle.sdd_word_invariant.specs.Slots.{waits_in}
 use Rattle.sdd_domain_invariant.specs.FilledInvariant.{newest}
@@ -15,9 +15,10 @@ use Rattle.sdd_domain.specs.LocalState.{LocalState, IsLone, word_of, place_numbe
 abbrev pub Entries : Type 0 → Type 0
 Entries T = List (Option (T × Gv))
 
--- a word that a lone participant knows of a slot: it is free, owned, or its item waits or is out as raw
+-- a word that a lone participant knows of a slot: it is free, owned, or its item waits or is out as raw, or it counts owners, 2^62 at most
 abbrev pub is_plain_word : ℕ → Bool
-is_plain_word x = x == free_word 0 || (x == owned_word 0 || (x == waiting_word 0 || x == raw_word 0))
+is_plain_word x = x == free_word 0 || (x == owned_word 0 || (x == waiting_word 0 || (x == raw_word 0
+    || (leb shared_base x && leb x (shared_base + most_owners)))))
 
 -- the ledger has the value whose code the record tells
 abbrev pub Agrees : {T : Type 0} → Option ShownValue → Option (T × Gv) → Type 0

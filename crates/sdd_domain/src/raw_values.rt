@@ -5,6 +5,7 @@ ghost use Rattle.sdd_word_invariant.specs.Codes.{raw_word};
 ghost use Rattle.sdd_word_invariant.specs.Epoch.{HasPlace, IsLone};
 ghost use Rattle.sdd_word_invariant.specs.Slots.{Holds};
 ghost use Rattle.sdd_domain_invariant.specs.FilledInvariant.{HasRecord};
+ghost use Rattle.sdd_domain_invariant.specs.Records.{IsIn};
 ghost use Rattle.sdd_rights.specs.Owner.{witness_of_owner};
 ghost use Rattle.sdd_atomics.specs.DomainTable.{id_of, book_of, slots_of};
 ghost use Rattle.sdd_atomics.specs.DomainSeat.{view, epoch, slots, Knows, Moved};
@@ -13,8 +14,8 @@ ghost use Rattle.sdd_domain.specs.Claims.{IsUnmoved};
 ghost use Rattle.sdd_domain.specs.RawItems.{IsKnownOut, PutsOut, TakesBack};
 
 use sdd_atomics::grips::unit_of;
-use sdd_atomics::steps::raw::{RAW, draw_unit, regain, turn_raw};
-use sdd_atomics::steps::slots::{cut, enter_unit};
+use sdd_atomics::steps::raw::{RAW, regain, turn_raw};
+use sdd_atomics::steps::slots::{cut, draw_unit, enter_unit};
 use sdd_atomics::{DomainSeat, DomainTable};
 use sdd_rights::ReadFraction;
 use sdd_witness::Witness;
@@ -29,6 +30,7 @@ pub fn put_out(board: &DomainTable, token: &mut DomainSeat, slot: u32, grip: Rea
     requires own { ((slots token.old).owns ≡ slot ∷ []) × ¬ (Holds (view token.old) slot) × ((slots token.old).drawn ≡ slot ∷ []) }
     requires told { (value : Gv) × HasRecord (view token.old).stakes.owns (record { slot = slot; shared = false; value = value }) }
     requires unit { IsUnitOf (book_of board.now) slot grip }
+    requires shows { IsIn (view token.old).stakes.owns slot grip.shown }
     requires rests { (view token.old).stakes.moves ≡ None }
     ensures { Moved (PutsOut slot) token.old (raw_word 0) token.new }
 {

@@ -1,7 +1,9 @@
 //! A change reclaims what is due, and a value that is reclaimed gives up what it holds.
-ghost use Rattle.std.specs.Prelude.{◌≡◌, ◌+◌, ◌≤◌, ℕ, List, [], length, IfErr, IfOk, Some, ◌∷◌};
+ghost use Rattle.std.specs.Prelude.{◌≡◌, ◌⊎◌, ◌+◌, ◌≤◌, ℕ, true, List, [], length, IfErr, IsTrue, MatchBool, MatchResult, ◌∷◌};
 ghost use Rattle.sdd_rights.specs.Right.{number_of, home_of, kind_of};
-ghost use Rattle.sdd_standings.specs.Slots.{first_standing};
+ghost use Rattle.sdd_rights.specs.StandingKind.{is_shared};
+ghost use Rattle.sdd_standings.specs.Slots.{IsOwnedBy, has_others};
+ghost use Rattle.sdd_space.specs.InPlace.{IsAlone};
 ghost use Rattle.sdd_space.specs.World.{standing_at};
 ghost use Rattle.sdd_space.specs.KnownEpochs.{KnowsOn};
 ghost use Rattle.sdd_space.specs.ParticipantChanges.{KeepsMoreWaiting, all_awaiting};
@@ -9,7 +11,7 @@ ghost use Rattle.sdd_space.specs.Owned as owned;
 ghost use Rattle.sdd_space.specs.RawCell as raw_cell;
 ghost use Rattle.sdd_space.specs.CallerId.{IsSeated, IsExact};
 ghost use Rattle.sdd_space.specs.Shared as shared;
-ghost use Rattle.sdd_space.specs.WorldChanges.{given, given_all, all_reclaimed, dropped, reclaimed, ran};
+ghost use Rattle.sdd_space.specs.WorldChanges.{given, given_all, all_reclaimed, dropped, owner_given, reclaimed, ran};
 ghost use Rattle.sdd_space.specs.WorldChanges as steps;
 ghost use Rattle.sdd_participants.specs.EpochState.{awaiting, settled};
 ghost use Rattle.sdd_participants.specs.declared.waiting.LimboEntry.{LimboEntry as Entry};
@@ -21,10 +23,11 @@ ghost use Rattle.sdd_domain.specs.Local.{LocalModel};
 ghost use Rattle.sdd_domain.specs.LocalState.{HasOpenGuard, IsLone};
 ghost use Rattle.sdd_domain.specs.Receipt.{with_reclaimed};
 ghost use Rattle.sdd_domain.specs.Local.{world_of};
-ghost use Rattle.sdd_domain.specs.Reclaiming.{counted_in_place, kept_of, rest_of};
+ghost use Rattle.sdd_domain.specs.Reclaiming.{counted_where, kept_of, rest_of};
 ghost use Rattle.sdd_domain.specs.Space.{seat_of, known_of, slots_home};
 
 use crate::local_core::LocalCore;
+use sdd_core::Refused;
 use sdd_participants::{Job, LimboEntry};
 use sdd_rights::{Right, StandingKind};
 use sdd_shared_values::GhostValues;
@@ -75,10 +78,10 @@ impl<T: Item<T>, J: Job> Giver<T> for LocalGiver<'_, T, J> {
         ensures waits { self.new.member.own ≡ awaiting (item (owned.slot_of owner)) self.old.member.own }
         ensures exact { IsExact (seat_of self.old) → world_of self.new ≡ given (world_of self.old) self.old.member.place (owned.holding_of owner) }
     {
-        self.membership.release(right_of_owner(owner));
+        self.membership
+            .release(right_of_owner(owner), StandingKind::Owned);
     }
 
-    /// A domain gives out no owner of which there are others.
     fn shared(&mut self, owner: Shared<T>)
         requires seated { IsSeated (seat_of self.old) }
         requires home { shared.slots_home owner ≡ (home_in self.old.member).slots }
@@ -88,7 +91,8 @@ impl<T: Item<T>, J: Job> Giver<T> for LocalGiver<'_, T, J> {
         ensures kept { kept_of self.new ≡ kept_of self.old }
         ensures exact { IsExact (seat_of self.old) → world_of self.new ≡ given (world_of self.old) self.old.member.place (shared.holding_of owner) }
     {
-        self.membership.release(right_of_shared(owner));
+        self.membership
+            .release(right_of_shared(owner), StandingKind::Shared);
     }
 
     /// A domain has no cells yet, so that nothing becomes of this one.
@@ -210,23 +214,39 @@ impl<T: Item<T>, J: Job> LocalGiver<'_, T, J> {
         self.membership.stands();
     }
 
-    /// Drops an owner's item in its place, and its value gives up at once what it holds. Where a guard is open the owner comes back.
-    pub fn drop_in_place(&mut self, right: Right, kind: StandingKind) -> Result<(), Right>
+    /// Lets an owner go, and answers whether it was the last, whose item is dropped in its place: its value gives up at once what it holds.
+    ///
+    /// The owner comes back: `GuardOpen` where it is the last and a guard is open; `Contended` where others came or went as often as the limits allow.
+    pub fn drop_in_place(
+        &mut self,
+        right: Right,
+        kind: StandingKind,
+    ) -> Result<bool, (Right, Refused)>
         requires home { home_of right ≡ slots_home self.old }
         requires kind { kind_of right ≡ kind }
-        ensures own { KeepsMoreWaiting self.old.member.own self.new.member.own }
+        ensures own { MatchResult result (λ _. KeepsMoreWaiting self.old.member.own self.new.member.own) (λ _. self.new.member.own ≡ self.old.member.own) }
         ensures known { KnowsOn (known_of self.old) (known_of self.new) }
-        ensures kept { IfOk result (λ _. kept_of self.new ≡ kept_of (counted_in_place self.old)) }
-        ensures back { IfErr result (λ back. (back ≡ right) × (self.new ≡ self.old) × (IsLone self.old.member → HasOpenGuard self.old.member)) }
-        ensures quiet { IfOk result (λ _. ¬ (HasOpenGuard self.old.member)) }
-        ensures stands { IsLone self.old.member → standing_at (world_of self.old) (number_of right) ≡ Some (first_standing kind) }
-        ensures exact { IsLone self.old.member → IfOk result (λ _. world_of self.new
-            ≡ dropped T.holds (world_of self.old) self.old.member.place (number_of right)) }
+        ensures kept { MatchResult result
+            (λ last. kept_of self.new ≡ kept_of (counted_where last self.old)) (λ _. kept_of self.new ≡ kept_of self.old) }
+        ensures back { IfErr result (λ e. (e.0 ≡ right) × ((e.1 ≡ Refused.GuardOpen) ⊎ ((e.1 ≡ Refused.Contended) × (is_shared kind ≡ true)))) }
+        ensures owned { IsLone self.old.member → IsOwnedBy (kind_of right) (standing_at (world_of self.old) (number_of right)) }
+        ensures exact { IsLone self.old.member → MatchResult result
+            (λ last. MatchBool last
+            (IsAlone (standing_at (world_of self.old) (number_of right)) × ¬ (HasOpenGuard self.old.member)
+            × (world_of self.new ≡ dropped T.holds (world_of self.old) self.old.member.place (number_of right)))
+            (IsTrue (has_others (standing_at (world_of self.old) (number_of right))) × (world_of self.new
+            ≡ owner_given (world_of self.old) self.old.member.place (number_of right) (standing_at (world_of self.old) (number_of right)))))
+            (λ e. IsAlone (standing_at (world_of self.old) (number_of right)) × HasOpenGuard self.old.member × (e.1 ≡ Refused.GuardOpen)
+            × (world_of self.new ≡ world_of self.old)) }
     {
         self.ledger.codes();
         self.membership.stands();
-        let value = self.membership.drop_in_place(right, kind)?;
-        value.give_up(self);
-        Ok(())
+        match self.membership.drop_in_place(right, kind)? {
+            Some(value) => {
+                value.give_up(self);
+                Ok(true)
+            }
+            None => Ok(false),
+        }
     }
 }

@@ -10,7 +10,7 @@ use sdd_rights::{Right, StandingKind};
 use sdd_space::inner::value_of_ptr;
 use sdd_space::{
     Caller, Deferrals, Guard, Guards, InPlaceItems, Item, Items, Look, LookThrough, Ptr, RawItems,
-    Shows,
+    SharedOwners, Shows,
 };
 
 impl<T: Item<T>, J: Job> Shows<T> for Local<'_, T, J> {
@@ -201,9 +201,8 @@ impl<T: Item<T>, J: Job> Items<T> for Local<'_, T, J> {
     }
 
     #[inline]
-    fn release(&mut self, right: Right, _kind: StandingKind) -> bool {
-        self.partner.membership.release(right);
-        true
+    fn release(&mut self, right: Right, kind: StandingKind) -> bool {
+        self.partner.membership.release(right, kind)
     }
 
     #[inline]
@@ -222,6 +221,13 @@ impl<T: Item<T>, J: Job> Items<T> for Local<'_, T, J> {
     }
 }
 
+impl<T: Item<T>, J: Job> SharedOwners<T> for Local<'_, T, J> {
+    #[inline]
+    fn clone_owner(&mut self, right: &Right) -> Result<Right, Refused> {
+        self.partner.membership.clone_owner(right)
+    }
+}
+
 impl<T: Item<T>, J: Job> InPlaceItems<T> for Local<'_, T, J> {
     fn get_mut<R, F: FnOnce(&mut T) -> R>(
         &mut self,
@@ -231,10 +237,7 @@ impl<T: Item<T>, J: Job> InPlaceItems<T> for Local<'_, T, J> {
     ) -> Result<R, (F, Refused)> {
         let LocalGiver { membership, ledger } = &mut self.partner;
         ledger.codes();
-        match membership.get_mut(right, kind, f, ledger) {
-            Ok(answer) => Ok(answer),
-            Err(f) => Err((f, Refused::GuardOpen)),
-        }
+        membership.get_mut(right, kind, f, ledger)
     }
 
     fn drop_in_place(
@@ -242,10 +245,7 @@ impl<T: Item<T>, J: Job> InPlaceItems<T> for Local<'_, T, J> {
         right: Right,
         kind: StandingKind,
     ) -> Result<bool, (Right, Refused)> {
-        match self.partner.drop_in_place(right, kind) {
-            Ok(()) => Ok(true),
-            Err(right) => Err((right, Refused::GuardOpen)),
-        }
+        self.partner.drop_in_place(right, kind)
     }
 }
 

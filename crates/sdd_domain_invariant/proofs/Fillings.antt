@@ -106,7 +106,8 @@ module _ (sizes : Sizes) (vs : List View) (f : FilledInvariant sizes vs) where
     filled_same w same owns waits had = filled_after w same (tells_same w owns waits) (λ _ live. inl (had live))
 
     -- what it knows of stakes is as before
-    pub filled_alike : (w : View) → IsAlike v w → (sizes.participants ≡ 1 → HasPlace w.epoch → HasPlace v.epoch ⊎ NoneTold vs) → FilledInvariant sizes (set vs id w)
+    pub filled_alike : (w : View) → IsAlike v w → (sizes.participants ≡ 1 → HasPlace w.epoch → HasPlace v.epoch ⊎ NoneTold vs) → FilledInvariant sizes
+        (set vs id w)
     filled_alike w same had = filled_after w (ap (λ (s : FractionsView). s.filled) same.0)
         (tells_same w (ap (λ (s : FractionsView). s.owns) same.0) (ap (λ (s : FractionsView). s.waits) same.0)) had
 

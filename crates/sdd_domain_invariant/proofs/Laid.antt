@@ -80,7 +80,8 @@ module _ (γ n : ℕ) (elsewhere : ℕ → ℕ) (Is : ℕ → Gv → Type 0) whe
   pushed i p k xs ys y is near at laid has = subst (λ (t : ℕ × List ValueFraction). AreLaidTo γ n t.0 elsewhere Is t.1) (λ d. (sym at d, sym is d))
       (one_more i p (stake_at n i p) xs y near refl laid has)
 
-  pub popped : (i p k : ℕ) (xs ys : List ValueFraction) (y : ValueFraction) → xs ≡ ys ++ y ∷ [] → p ≤ n → k ≡ suc (stake_at n i p) → AreLaidTo γ n k elsewhere Is xs
+  pub popped : (i p k : ℕ) (xs ys : List ValueFraction) (y : ValueFraction) → xs ≡ ys ++ y ∷ [] → p ≤ n → k ≡ suc (stake_at n i p) → AreLaidTo γ n k elsewhere
+      Is xs
       → AreLaidTo γ n (stake_at n i p) elsewhere Is ys × Has γ i (share n (elsewhere i) p) (Is i) y
   popped i p k xs ys y is near at laid = one_less i p (stake_at n i p) ys y near refl
       (subst (λ (t : ℕ × List ValueFraction). AreLaidTo γ n t.0 elsewhere Is t.1) (λ d. (at d, is d)) laid)
@@ -117,7 +118,8 @@ module _ (γ i n : ℕ) where
       → y.lot ≡ lot γ i y.lot.round y.lot.shown u
   rest_of o Is p u y e e' has = subst (λ (u : ℕ). y.lot ≡ lot γ i y.lot.round y.lot.shown u) (ap (share n o) e ∙ (share_last n o ∙ sym e')) has.0
 
-  pub unit_has : (o : ℕ) (Is : Gv → Type 0) (p u : ℕ) (l : FractionContent) (y : ValueFraction) → p < n → l ≡ lot γ i l.round l.shown u → y.lot ≡ record l { units = 1 }
+  pub unit_has : (o : ℕ) (Is : Gv → Type 0) (p u : ℕ) (l : FractionContent) (y : ValueFraction) → p < n → l ≡ lot γ i l.round l.shown u → y.lot ≡ record l
+      { units = 1 }
       → Is l.shown
       → Has γ i (share n o p) Is y
   unit_has o Is p u l y near is one so = (
@@ -125,21 +127,25 @@ module _ (γ i n : ℕ) where
     subst Is (sym (ap (λ (h : FractionContent). h.shown) one)) so,
   )
 
-  pub rest_has : (o : ℕ) (Is : Gv → Type 0) (p u : ℕ) (y : ValueFraction) → p ≡ n → u ≡ most - n - o → y.lot ≡ lot γ i y.lot.round y.lot.shown u → Is y.lot.shown
+  pub rest_has : (o : ℕ) (Is : Gv → Type 0) (p u : ℕ) (y : ValueFraction) → p ≡ n → u ≡ most - n - o → y.lot ≡ lot γ i y.lot.round y.lot.shown u → Is
+      y.lot.shown
       → Has γ i (share n o p) Is y
   rest_has o Is p u y e e' is so =
       (subst (λ (u : ℕ). y.lot ≡ lot γ i y.lot.round y.lot.shown u) (e' ∙ sym (ap (share n o) e ∙ share_last n o)) is, so)
 
 -- ---- the stakes of a stock
-pub vacant_more : (γ i j n m : ℕ) (h : FractionContent) (hs : List FractionContent) → j ≡ i + 1 → m ≡ n + 1 → HasAllUnits γ i h → IsNoValueCode h.shown → AreVacant γ j n hs
+pub vacant_more : (γ i j n m : ℕ) (h : FractionContent) (hs : List FractionContent) → j ≡ i + 1 → m ≡ n + 1 → HasAllUnits γ i h → IsNoValueCode h.shown →
+    AreVacant γ j n hs
     → AreVacant γ i m (h ∷ hs)
 vacant_more γ i j n m h hs e e' whole vacant rest = subst (λ (k : ℕ). AreVacant γ i k (h ∷ hs)) (let f : suc n ≡ m = omega arith in f) (
   whole ∙ (λ d. lot γ i h.round (vacant d) most),
   subst (λ (k : ℕ). AreVacant γ k n hs) (let f : j ≡ suc i = omega arith in f) rest,
 )
 
-pub vacant_first : (γ i j n m : ℕ) (ls : List FractionContent) (h : FractionContent) (hs : List FractionContent) → j ≡ i + 1 → m ≡ n + 1 → ls ≡ h ∷ hs → AreVacant γ i m ls
+pub vacant_first : (γ i j n m : ℕ) (ls : List FractionContent) (h : FractionContent) (hs : List FractionContent) → j ≡ i + 1 → m ≡ n + 1 → ls ≡ h ∷ hs →
+    AreVacant γ i m ls
     → (h ≡ lot γ i h.round vacant most) × AreVacant γ j n hs
 vacant_first γ i j n m ls h hs e e' is all =
-    let t : AreVacant γ i (suc n) (h ∷ hs) = subst (λ (k : ℕ × List FractionContent). AreVacant γ i k.0 k.1) (λ d. (let f : m ≡ suc n = omega arith in f d, is d)) all in
+    let t : AreVacant γ i (suc n) (h ∷ hs) = subst (λ (k : ℕ × List FractionContent). AreVacant γ i k.0 k.1)
+    (λ d. (let f : m ≡ suc n = omega arith in f d, is d)) all in
     (t.0, subst (λ (k : ℕ). AreVacant γ k n hs) (let f : suc i ≡ j = omega arith in f) t.1)

@@ -1,5 +1,5 @@
 -- What the last fractions of slots show, after one step
-use Rattle.std.proofs.Common.{◌≡◌, ◌≢◌, ◌⊎◌, inl, ℕ, suc, ◌<◌, ◌≤◌, true, false, List, [], ◌∷◌, ◌++◌, map, length, get_or, set, sym, refl, ap, ◌∙◌, subst, ⊎_elim, arith, eq-eqb, ne_eqb, get_or-set_other, get_or-set_same}
+use Rattle.std.proofs.Common.{◌≡◌, ◌≢◌, ◌⊎◌, inl, ℕ, suc, ◌<◌, ◌≤◌, true, false, List, [], ◌∷◌, ◌++◌, map, length, get_or, set, sym, refl, ap, ◌∙◌, subst, ⊎_elim, arith, eq-eqb, get_or-set_other, get_or-set_same}
 use Rattle.std.specs.Prelude.{Some}
 use mathlib.Core.Option.{some}
 use mathlib.Core.Logic.{dite}
@@ -68,23 +68,6 @@ module _ (i : ℕ) (g : Gv) where
       ((λ e. ap (λ (c : FractionContent). c.shown) sum ∙ show.0 (ap (λ (c : FractionContent). c.number) (sym sum) ∙ e)), show.1))
       (λ (d : (hs' : List FractionContent) × Comes hs l hs' × (more ≡ h ∷ hs')). subst (ShowOnly i g) (sym d.2)
       (show.0, shown_comes hs l d.0 d.1 show.1 mine)) r) comes
-
-  -- one comes of which there was some before
-  pub shown_joins : (γ : ℕ) (ls : List FractionContent) (l : FractionContent) (more : List FractionContent) → AreDeposits γ more → l.number ≡ i
-      → 0 < units_at i ls → Comes ls l more → ShowOnly i g ls → ShowOnly i g more
-  shown_joins γ [] l more are of has comes show = absurd (omega arith)
-  shown_joins γ (h ∷ hs) l more are of has comes show = ⊎_elim
-      (λ (a : more ≡ l ∷ h ∷ hs). let none = (subst (AreDeposits γ) a are).3 in
-      absurd (let e = ap (λ (k : ℕ). units_at k (h ∷ hs)) of in omega arith))
-      (λ (r : ((h' : FractionContent) × IsJoined h l h' × (more ≡ h' ∷ hs)) ⊎ ((hs' : List FractionContent) × Comes hs l hs' × (more ≡ h ∷ hs'))). ⊎_elim
-      (λ (b : (h' : FractionContent) × IsJoined h l h' × (more ≡ h' ∷ hs)). let sum = b.1.sum in subst (ShowOnly i g) (sym b.2)
-      ((λ e. ap (λ (c : FractionContent). c.shown) sum ∙ show.0 (ap (λ (c : FractionContent). c.number) (sym sum) ∙ e)), show.1))
-      (λ (d : (hs' : List FractionContent) × Comes hs l hs' × (more ≡ h ∷ hs')). let are' = subst (AreDeposits γ) d.2 are in subst (ShowOnly i g) (sym d.2) (
-        show.0,
-        dite (ℕ_discrete h.number i)
-            (λ same. none_shown γ d.0 are'.4 (ap (λ (k : ℕ). units_at k d.0) (sym same) ∙ are'.3))
-            (λ ne. shown_joins γ hs l d.0 are'.4 of (let o = ap (λ (b : _). either b h.units 0) (ne_eqb h.number i ne) in omega arith) d.1 show.1),
-      )) r) comes
 
 -- ---- the part
 -- no item is out as raw
@@ -193,7 +176,8 @@ module _ (sizes : Sizes) (ws : List ℕ) (vs : List View) (hs : FractionsAtHome)
     lasts_fewer ws' w hs' lies = lasts_kept ws' w hs' (λ i p y _ near l. inl (lies i p y near l))
 
     -- all fractions of a slot come home, of which the bank has nothing, and which isn't out as raw
-    pub lasts_given : (γ slot o : ℕ) (Is : Gv → Type 0) (rest xs : CarriedFractions) (g : Given γ n slot o Is hs rest xs (suc n)) → ((a b : Gv) → Is a → Is b → a ≡ b)
+    pub lasts_given : (γ slot o : ℕ) (Is : Gv → Type 0) (rest xs : CarriedFractions) (g : Given γ n slot o Is hs rest xs (suc n)) →
+        ((a b : Gv) → Is a → Is b → a ≡ b)
         → (ws' : List ℕ) (w : View) → ((j : ℕ) (b : View) → get_elem? vs j ≡ some b → IsBank b → (c : Gv) → ShowOnly slot c (banked b)) → KeepsBank v w
         → ((i : ℕ) → i ≢ slot → newest i w.stakes.filled ≡ newest i v.stakes.filled) → (HasPlace w.epoch → HasPlace v.epoch)
         → ¬ (IsRaw sizes ws' slot) → ((i : ℕ) → i < sizes.slots → i ≢ slot → IsRaw sizes ws' i → IsRaw sizes ws i)

@@ -8,9 +8,11 @@ pub mod Records
 pub mod Lasts
 pub mod Fillings
 pub mod Telling
+pub mod KindSteps
 pub mod Lift
 pub mod Steps
 pub mod RawSteps
 pub mod JobSteps
 pub mod Tokens
+pub mod Cloning
 pub mod Laid

@@ -1,5 +1,5 @@
 -- A step that keeps the words' parts, the homes' part, what is known of what slots show and of owners, and the counts is a step of the table.
-use Rattle.std.proofs.Common.{◌≡◌, ◌⊎◌, inl, inr, ℕ, ◌<◌, List, map, get_or, set, sym, refl, ap, ◌∙◌, subst, ⊎_elim, arith, length-set, eq-eqb, ne_eqb}
+use Rattle.std.proofs.Common.{◌≡◌, ◌⊎◌, inl, inr, ℕ, ◌^◌, ◌<◌, List, map, get_or, set, sym, refl, ap, ◌∙◌, subst, ⊎_elim, arith, length-set, get_or-set_other, eq-eqb, ne_eqb}
 use Rattle.std.specs.Prelude.{None}
 use mathlib.Core.Bool.{cond}
 use mathlib.Core.Option.{some}
@@ -15,10 +15,10 @@ use Rattle.sdd_views.specs.declared.SlotsView.{SlotsView}
 use Rattle.sdd_views.specs.declared.FractionsView.{FractionsView}
 use Rattle.sdd_views.specs.declared.View.{View}
 use Rattle.sdd_views.specs.declared.Sizes.{Sizes}
-use Rattle.sdd_word_invariant.specs.Words.{first_slot, state_word}
+use Rattle.sdd_word_invariant.specs.Words.{first_slot, slot_word, state_word}
 use Rattle.sdd_word_invariant.specs.Epoch.{HasPlace, IsClosed, IsOpen}
 use Rattle.sdd_word_invariant.specs.EpochSteps.{Steps, Publishes, Ends}
-use Rattle.sdd_word_invariant.specs.Slots.{waits_in}
+use Rattle.sdd_word_invariant.specs.Slots.{slot_at, waits_in}
 use Rattle.sdd_word_invariant.specs.SlotSteps.{older, changed, OnEpoch, PublishesAll}
 use Rattle.sdd_word_invariant.specs.WordInvariant.{epoch_of, Parts}
 use Rattle.atomic_table.proofs.Lists.{at_map, set_again, set_else}
@@ -28,10 +28,13 @@ use Rattle.sdd_word_invariant.proofs.Lift.{blind}
 use Rattle.sdd_word_invariant.specs.Barred.{AreBarred, AreQuiet}
 use Rattle.sdd_word_invariant.proofs.Barred.{Spares, one_spared, all_spared, NoneQuiet, none_quiet, Hushes, one_hushed, all_hushed}
 use Rattle.sdd_domain_invariant.specs.FractionsAtHome.{FractionsAtHome, full_at, Moves, SeesFrom, FractionIsTaken, IsMover, FractionsInvariant}
-use Rattle.sdd_domain_invariant.specs.BankInvariant.{BankInvariant}
+use Rattle.sdd_domain_invariant.specs.BankInvariant.{banked, BankInvariant}
 use Rattle.sdd_domain_invariant.proofs.Banks.{with_deposits}
 use Rattle.sdd_domain_invariant.proofs.Banks as banks
-use Rattle.sdd_domain_invariant.specs.Records.{RecordsInvariant}
+use Rattle.sdd_domain_invariant.specs.KindsInvariant.{KindsInvariant}
+use Rattle.sdd_domain_invariant.proofs.KindSteps.{same_post}
+use Rattle.sdd_domain_invariant.proofs.KindSteps as kind_steps
+use Rattle.sdd_domain_invariant.specs.Records.{AllShowKnown, RecordsInvariant}
 use Rattle.sdd_domain_invariant.specs.Counts.{CountsInvariant}
 use Rattle.sdd_domain_invariant.specs.FilledInvariant.{FilledInvariant}
 use Rattle.sdd_domain_invariant.specs.DomainInvariant.{DomainInvariant}
@@ -46,8 +49,13 @@ use Rattle.sdd_domain_invariant.specs.LastFractions.{LastsInvariant}
 use Rattle.sdd_domain_invariant.proofs.Lasts.{NoMoreRaw, none_raw, raws_before, alike_bank, lasts_fewer}
 use Rattle.sdd_domain_invariant.proofs.Telling.{none_told}
 
+-- a word before the slots' leaves theirs
+pub slots_before : (sizes : Sizes) (ws : List ℕ) (i y : ℕ) → i < first_slot sizes → (j : ℕ) → slot_at sizes (set ws i y) j ≡ slot_at sizes ws j
+slots_before sizes ws i y low j = get_or-set_other ws i (slot_word sizes j) y 0 (λ e. omega arith)
+
 -- what a step on the word i makes of the state, where y is in it then: what its participant knows of stakes, and what it takes or gives
-pub record Follows (γ : ℕ) (sizes : Sizes) (id i : ℕ) (me : SeatState) (told : ℕ → SeatState → Type 0) (s : State ValueFraction View) (y : ℕ) (w : View) : Type 0 where
+pub record Follows (γ : ℕ) (sizes : Sizes) (id i : ℕ) (me : SeatState) (told : ℕ → SeatState → Type 0) (s : State ValueFraction View) (y : ℕ) (w : View) : Type
+    0 where
   pub stakes : FractionsView
   pub act : Act ValueFraction
   pub valid : Valid s.homes me.1 act
@@ -57,6 +65,7 @@ pub record Follows (γ : ℕ) (sizes : Sizes) (id i : ℕ) (me : SeatState) (tol
   pub filled : FilledInvariant sizes (set s.views id (record w { stakes = stakes }))
   pub bank : BankInvariant γ sizes (set s.words i y) (set s.views id (record w { stakes = stakes }))
   pub lasts : LastsInvariant sizes (set s.words i y) (set s.views id (record w { stakes = stakes })) (homes_after s.homes me.1 act)
+  pub kinds : KindsInvariant sizes (set s.words i y) (set s.views id (record w { stakes = stakes }))
   pub tells : told (get_or s.words i 0) (record w { stakes = stakes }, carried_after me.1 act)
 
 module _ (γ : ℕ) (sizes : Sizes) (slots id : ℕ) (me : SeatState) (i : ℕ) (f : ℕ → ℕ) where
@@ -86,11 +95,16 @@ module _ (γ : ℕ) (sizes : Sizes) (slots id : ℕ) (me : SeatState) (i : ℕ) 
         one_hushed sizes s.words i y s.views id me.0 w at q (places x w t) (h.kept.places.quiet id me.0 at),
       )
 
-  pub lift_homes : (then : ℕ → View → Type 0) (told : ℕ → SeatState → Type 0) → Keeps then → Steps (Parts sizes) id me.0 i f then
+  -- a step of the words' parts that rests on the whole rule
+  abbrev pub StepsWhole : (ℕ → View → Type 0) → Type 0
+  StepsWhole then = (s : State ValueFraction View) → DomainInvariant γ sizes s → get_elem? s.views id ≡ some me.0 → get_or s.words i 0 < 2 ^ 64
+      → (w : View) × Parts sizes (set s.words i (f (get_or s.words i 0))) (set s.views id w) × then (get_or s.words i 0) w
+
+  pub lift_whole : (then : ℕ → View → Type 0) (told : ℕ → SeatState → Type 0) → Keeps then → StepsWhole then
       → ((s : State ValueFraction View) (w : View) → DomainInvariant γ sizes s → get_elem? s.views id ≡ some me.0 → then (get_or s.words i 0) w
       → Follows γ sizes id i me told s (f (get_or s.words i 0)) w) → Allows (DomainInvariant γ sizes) slots id me i f told
-  lift_homes then told ends step follow s h full at small =
-      let e = step s.words s.views h.kept.parts at small in let w : View = e.0 in let b = follow s w h at e.2 in let y : ℕ = f (get_or s.words i 0) in
+  lift_whole then told ends step follow s h full at small =
+      let e = step s h at small in let w : View = e.0 in let b = follow s w h at e.2 in let y : ℕ = f (get_or s.words i 0) in
       let k = ends s w h at e.2 in (
         record w { stakes = b.stakes },
         b.act,
@@ -110,9 +124,16 @@ module _ (γ : ℕ) (sizes : Sizes) (slots id : ℕ) (me : SeatState) (i : ℕ) 
           filled = b.filled;
           bank = b.bank;
           lasts = b.lasts;
+          kinds = b.kinds;
         },
         b.tells,
       )
+
+  -- one that rests on the words' parts alone
+  pub lift_homes : (then : ℕ → View → Type 0) (told : ℕ → SeatState → Type 0) → Keeps then → Steps (Parts sizes) id me.0 i f then
+      → ((s : State ValueFraction View) (w : View) → DomainInvariant γ sizes s → get_elem? s.views id ≡ some me.0 → then (get_or s.words i 0) w
+      → Follows γ sizes id i me told s (f (get_or s.words i 0)) w) → Allows (DomainInvariant γ sizes) slots id me i f told
+  lift_homes then told ends step = lift_whole then told ends (λ s h at small. step s.words s.views h.kept.parts at small)
 
   -- a step that takes and gives none, and puts no item out as raw, and has a place still if it had one; and had one if it has one, or all words are 0 yet
   pub record IsCalm (s : State ValueFraction View) (y : ℕ) (w : View) : Type 0 where
@@ -124,12 +145,13 @@ module _ (γ : ℕ) (sizes : Sizes) (slots id : ℕ) (me : SeatState) (i : ℕ) 
     pub lives : HasPlace me.0.epoch → HasPlace w.epoch
     pub had : sizes.participants ≡ 1 → HasPlace w.epoch → HasPlace me.0.epoch ⊎ ((j : ℕ) → get_or s.words j 0 ≡ 0)
     pub raws : NoMoreRaw sizes s.words (set s.words i y)
+    pub kinds : KindsInvariant sizes (set s.words i y) (set s.views id w)
 
-  pub lift_calm : (then : ℕ → View → Type 0) (told : ℕ → SeatState → Type 0) → Keeps then → Steps (Parts sizes) id me.0 i f then
+  pub lift_calm_whole : (then : ℕ → View → Type 0) (told : ℕ → SeatState → Type 0) → Keeps then → StepsWhole then
       → ((r : ℕ) (w : View) → then r w → told r (w, me.1))
       → ((s : State ValueFraction View) (w : View) → DomainInvariant γ sizes s → get_elem? s.views id ≡ some me.0 → then (get_or s.words i 0) w
       → IsCalm s (f (get_or s.words i 0)) w) → Allows (DomainInvariant γ sizes) slots id me i f told
-  lift_calm then told ends step tells calm = lift_homes then told ends step (λ s w h at t. let y : ℕ = f (get_or s.words i 0) in
+  lift_calm_whole then told ends step tells calm = lift_whole then told ends step (λ s w h at t. let y : ℕ = f (get_or s.words i 0) in
       let c = calm s w h at t in record {
         stakes = w.stakes;
         act = keeps;
@@ -144,14 +166,22 @@ module _ (γ : ℕ) (sizes : Sizes) (slots id : ℕ) (me : SeatState) (i : ℕ) 
         lasts = lasts_fewer sizes s.words s.views s.homes h.lasts id me.0 at (set s.words i y) w s.homes (λ _ _ _ _ l. l) (alike_bank me.0 w c.alike)
             (ap (λ (t : FractionsView). t.filled) c.alike.0) (λ one live. ⊎_elim (λ (was : HasPlace me.0.epoch). inl was)
             (λ (zeros : (j : ℕ) → get_or s.words j 0 ≡ 0). inr (none_raw sizes s.words zeros)) (c.had one live)) c.raws;
+        kinds = c.kinds;
         tells = tells (get_or s.words i 0) w t;
       })
+
+  pub lift_calm : (then : ℕ → View → Type 0) (told : ℕ → SeatState → Type 0) → Keeps then → Steps (Parts sizes) id me.0 i f then
+      → ((r : ℕ) (w : View) → then r w → told r (w, me.1))
+      → ((s : State ValueFraction View) (w : View) → DomainInvariant γ sizes s → get_elem? s.views id ≡ some me.0 → then (get_or s.words i 0) w
+      → IsCalm s (f (get_or s.words i 0)) w) → Allows (DomainInvariant γ sizes) slots id me i f told
+  lift_calm then told ends step = lift_calm_whole then told ends (λ s h at small. step s.words s.views h.kept.parts at small)
 
   -- one of the epoch's part, under which an open guard keeps its place
   pub lift_epoch : (R : EpochView → ℕ → EpochView → Type 0) (told : ℕ → SeatState → Type 0) → i < first_slot sizes
       → ((r : ℕ) (e : EpochView) → R me.0.epoch r e → IsOpen me.0.epoch → e.place ≡ me.0.epoch.place)
       → ((r : ℕ) (e : EpochView) → R me.0.epoch r e → HasPlace me.0.epoch → HasPlace e)
-      → ((s : State ValueFraction View) → DomainInvariant γ sizes s → (e : EpochView) → R me.0.epoch (get_or s.words i 0) e → sizes.participants ≡ 1 → HasPlace e
+      → ((s : State ValueFraction View) → DomainInvariant γ sizes s → (e : EpochView) → R me.0.epoch (get_or s.words i 0) e → sizes.participants ≡ 1 → HasPlace
+      e
       → HasPlace me.0.epoch ⊎ ((j : ℕ) → get_or s.words j 0 ≡ 0))
       → ((s : State ValueFraction View) → DomainInvariant γ sizes s → get_elem? s.views id ≡ some me.0 → Spares sizes s.words i (f (get_or s.words i 0)))
       → Steps (Parts sizes) id me.0 i f (OnEpoch R me.0)
@@ -169,6 +199,9 @@ module _ (γ : ℕ) (sizes : Sizes) (slots id : ℕ) (me : SeatState) (i : ℕ) 
         lives = lives (get_or s.words i 0) e t.2;
         had = had s h e t.2;
         raws = raws_before sizes s.words i y low;
+        kinds = kind_steps.calm sizes s.words s.views h.kinds h.records.each id me.0 at (set s.words i y) (record me.0 { epoch = e })
+            (slots_before sizes s.words i y low) (refl, refl, refl, (λ _. refl), refl) refl refl (λ _ o. o)
+            (same_post me.0 (record me.0 { epoch = e }) refl refl refl (lives (get_or s.words i 0) e t.2) refl refl);
       })
 
 -- a publish may make each item that waits a change older, and leaves all else of slots
@@ -203,6 +236,9 @@ module _ (γ : ℕ) (sizes : Sizes) (slots : ℕ) where
         lives = λ _. (stays e t.2).0;
         had = λ _ _. inl live;
         raws = raws_before sizes s.words i y low;
+        kinds = kind_steps.calm sizes s.words s.views h.kinds h.records.each id v at (set s.words i y) (record v { epoch = e })
+            (slots_before sizes s.words i y low) (refl, refl, refl, (λ _. refl), refl) refl refl (λ _ o. o)
+            (same_post v (record v { epoch = e }) refl refl refl (λ _. (stays e t.2).0) refl refl);
       }
       record {
         more = more;
@@ -214,14 +250,19 @@ module _ (γ : ℕ) (sizes : Sizes) (slots : ℕ) where
         lives = λ _. (stays e t.2).0;
         had = λ _ _. inl live;
         raws = raws_before sizes s.words i y low;
+        kinds = kind_steps.calm sizes s.words s.views h.kinds h.records.each id v at (set s.words i y)
+            (record v { epoch = e; slots = record v.slots { waits = map older v.slots.waits } }) (slots_before sizes s.words i y low)
+            (refl, refl, refl, (λ j. total_map (waits_in j) older (λ x. refl) v.slots.waits), refl) refl refl (λ _ o. o)
+            (same_post v (record v { epoch = e; slots = record v.slots { waits = map older v.slots.waits } }) refl refl refl (λ _. (stays e t.2).0) refl refl);
       }))
 
   -- the end of a place, which is counted
   pub lift_end : (id : ℕ) (me : SeatState) (told : SeatState → Type 0) → me.0.epoch.place < sizes.participants → IsClosed me.0.epoch → me.0.stakes.moves ≡ None
+      → me.0.slots.over ≡ None
       → Steps (Parts sizes) id me.0 (state_word me.0.epoch.place) (λ _. 3) (λ _. OnEpoch (λ u _ e. Ends u 3 e) me.0 3)
       → ((s : State ValueFraction View) → DomainInvariant γ sizes s → get_elem? s.views id ≡ some me.0 → Spares sizes s.words (state_word me.0.epoch.place) 3)
       → told (leaving me.0, me.1) → Allows (DomainInvariant γ sizes) slots id me (state_word me.0.epoch.place) (λ _. 3) (λ _. told)
-  lift_end id me told inside shut rests step spares tells = let v : View = me.0 in let i : ℕ = state_word v.epoch.place in
+  lift_end id me told inside shut rests over step spares tells = let v : View = me.0 in let i : ℕ = state_word v.epoch.place in
       lift_homes γ sizes slots id me i (λ _. 3) (λ _. OnEpoch (λ u _ e. Ends u 3 e) v 3) (λ _. told)
       (keeps_ended γ sizes slots id me i (λ _. 3) (λ _. OnEpoch (λ u _ e. Ends u 3 e) v 3) (λ r w t. ap (λ (u : View). u.places) t.1) spares
       (inr (omega arith))) step
@@ -243,16 +284,20 @@ module _ (γ : ℕ) (sizes : Sizes) (slots : ℕ) where
         bank = banks.alike γ sizes s.words s.views h.bank id v at (set s.words i 3) now (refl, refl, refl, (λ _. refl), refl) same;
         lasts = lasts_fewer sizes s.words s.views s.homes h.lasts id v at (set s.words i 3) now s.homes (λ _ _ _ _ l. l) (λ is. (is, refl)) refl
             (λ _ live. absurd (omega arith)) (raws_before sizes s.words i 3 (omega arith));
+        kinds = kind_steps.calm sizes s.words s.views h.kinds h.records.each id v at (set s.words i 3) now (slots_before sizes s.words i 3 (omega arith))
+            (refl, refl, refl, (λ _. refl), refl) refl refl (λ _ o. o)
+            record { pledges = refl; over = refl; sizes = refl; place = inr over; records = λ _ r a. a; holds = λ _. refl };
         tells = tells;
       })
 
 -- a step on no word
 module _ (γ : ℕ) (sizes : Sizes) (id : ℕ) (v : View) (s : State ValueFraction View) (h : DomainInvariant γ sizes s) (at : get_elem? s.views id ≡ some v) where
   pub stands : (w : View) → w.places ≡ v.places → Parts sizes s.words (set s.views id w) → (hs : FractionsAtHome)
-      → FractionsInvariant γ sizes s.words (set s.views id w) hs → RecordsInvariant sizes (set s.views id w) hs → CountsInvariant sizes s.words (set s.views id w)
+      → FractionsInvariant γ sizes s.words (set s.views id w) hs → RecordsInvariant sizes (set s.views id w) hs → CountsInvariant sizes s.words
+      (set s.views id w)
       → FilledInvariant sizes (set s.views id w) → BankInvariant γ sizes s.words (set s.views id w) → LastsInvariant sizes s.words (set s.views id w) hs
-      → DomainInvariant γ sizes record { words = s.words; homes = hs; views = set s.views id w }
-  stands w same parts hs homes records counts filled bank lasts = record {
+      → KindsInvariant sizes s.words (set s.views id w) → DomainInvariant γ sizes record { words = s.words; homes = hs; views = set s.views id w }
+  stands w same parts hs homes records counts filled bank lasts kinds = record {
     kept = record {
       parts = parts;
       places = record {
@@ -270,26 +315,30 @@ module _ (γ : ℕ) (sizes : Sizes) (id : ℕ) (v : View) (s : State ValueFracti
     filled = filled;
     bank = bank;
     lasts = lasts;
+    kinds = kinds;
   }
 
   -- which changes only what is known of stakes, but for what was made
-  pub stands_by : (t : FractionsView) → t.counts ≡ v.stakes.counts → (hs : FractionsAtHome) → FractionsInvariant γ sizes s.words (set s.views id (record v { stakes = t })) hs
+  pub stands_by : (t : FractionsView) → t.counts ≡ v.stakes.counts → (hs : FractionsAtHome) → FractionsInvariant γ sizes s.words
+      (set s.views id (record v { stakes = t })) hs
       → RecordsInvariant sizes (set s.views id (record v { stakes = t })) hs → FilledInvariant sizes (set s.views id (record v { stakes = t }))
       → BankInvariant γ sizes s.words (set s.views id (record v { stakes = t }))
-      → LastsInvariant sizes s.words (set s.views id (record v { stakes = t })) hs
+      → LastsInvariant sizes s.words (set s.views id (record v { stakes = t })) hs → KindsInvariant sizes s.words (set s.views id (record v { stakes = t }))
       → DomainInvariant γ sizes record { words = s.words; homes = hs; views = set s.views id (record v { stakes = t }) }
-  stands_by t same hs homes records filled bank lasts = stands (record v { stakes = t }) refl
+  stands_by t same hs homes records filled bank lasts kinds = stands (record v { stakes = t }) refl
       (blind sizes s.words s.views id v v at (subst (Parts sizes s.words) (sym (set_again s.views id v at)) h.kept.parts) t) hs homes records
-      (uncounted_alone sizes s.words s.views h.counts id v at (record v { stakes = t }) same refl) filled bank lasts
+      (uncounted_alone sizes s.words s.views h.counts id v at (record v { stakes = t }) same refl) filled bank lasts kinds
 
   -- which changes what the bank has, too
   pub stands_dealt : (w : View) → w.places ≡ v.places → Parts sizes s.words (set s.views id w) → (hs : FractionsAtHome)
-      → FractionsInvariant γ sizes s.words (set s.views id w) hs → RecordsInvariant sizes (set s.views id w) hs → CountsInvariant sizes s.words (set s.views id w)
-      → FilledInvariant sizes (set s.views id w) → (bd : ℕ) (b : View) → get_elem? s.views bd ≡ some b → ¬ (id ≡ bd) → (ls : List FractionContent)
-      → BankInvariant γ sizes s.words (set (set s.views id w) bd (with_deposits ls b))
+      → FractionsInvariant γ sizes s.words (set s.views id w) hs → RecordsInvariant sizes (set s.views id w) hs → CountsInvariant sizes s.words
+      (set s.views id w)
+      → FilledInvariant sizes (set s.views id w) → KindsInvariant sizes s.words (set s.views id w)
+      → (bd : ℕ) (b : View) → get_elem? s.views bd ≡ some b → ¬ (id ≡ bd) → (ls : List FractionContent)
+      → AllShowKnown (set s.views id w) (banked (with_deposits ls b)) → BankInvariant γ sizes s.words (set (set s.views id w) bd (with_deposits ls b))
       → LastsInvariant sizes s.words (set (set s.views id w) bd (with_deposits ls b)) hs
       → DomainInvariant γ sizes record { words = s.words; homes = hs; views = set (set s.views id w) bd (with_deposits ls b) }
-  stands_dealt w same parts hs lie told made fill bd b there ne ls bank lasts = let vs : List View = set s.views id w in
+  stands_dealt w same parts hs lie told made fill kinds bd b there ne ls shown bank lasts = let vs : List View = set s.views id w in
       let b' : View = with_deposits ls b in let now : get_elem? vs bd ≡ some b = set_else s.views id bd w (λ e. ne (sym e)) ∙ there in
       let t = told.each bd b now in let mine = records.mine sizes vs hs told bd b now in record {
         kept = record {
@@ -307,11 +356,14 @@ module _ (γ : ℕ) (sizes : Sizes) (id : ℕ) (v : View) (s : State ValueFracti
           };
         };
         homes = part.calm γ sizes s.words vs hs lie bd b now s.words b' (λ i p out. out) (λ i _. refl) (lie.moving bd b now);
-        records = records.no_more sizes vs hs told bd b now b' hs
+        records = records.no_more sizes vs hs told bd b now b' (λ _. shown) hs
             record { owns = t.owns; owned = t.owned; sees = t.sees; waits = t.waits; waiting = t.waiting; inside = t.inside }
             mine (λ i p y _ _ l. inl l) (λ i m. m) (λ i a. a);
         counts = uncounted_alone sizes s.words vs made bd b now b' refl refl;
         filled = filled_same sizes vs fill bd b now b' refl refl refl (λ live. live);
         bank = bank;
         lasts = lasts;
+        kinds = kind_steps.stays sizes s.words vs kinds told.each bd b now s.words b' (λ i. refl)
+            (kind_steps.knows_alike sizes s.words b b' (kinds.each bd b now) refl refl (λ i m. m) (λ i o. o) (λ r a. a) (λ i a. a))
+            (same_post b b' refl refl refl (λ l. l) refl refl);
       }

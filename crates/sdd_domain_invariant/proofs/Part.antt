@@ -14,7 +14,7 @@ use Rattle.sdd_views.specs.declared.Sizes.{Sizes}
 use Rattle.sdd_word_invariant.specs.Words.{slot_word, first_slot}
 use Rattle.sdd_word_invariant.specs.Codes.{full}
 use Rattle.sdd_word_invariant.specs.Epoch.{HasPlace}
-use Rattle.sdd_word_invariant.specs.Slots.{items_at, OwnsAlone, Sees}
+use Rattle.sdd_word_invariant.specs.Slots.{items_at, Owns, Sees}
 use Rattle.sdd_word_invariant.specs.Sums.{times}
 use Rattle.sdd_word_invariant.proofs.Frame.{each_set, each_snoc}
 use Rattle.sdd_word_invariant.proofs.Epoch.{at_length}
@@ -34,13 +34,14 @@ pub only_seen : (v : View) → v.stakes.moves ≡ None → (i p : ℕ) → Fract
 only_seen v rests i p out = ⊎_elim (λ (m : Moves v i). let e : None ≡ Some i = sym rests ∙ m in absurd cc) (λ (s : SeesFrom v i p). s) out
 
 -- a participant that keeps its place and its owners, and has the same out
-pub still_mover : (v w : View) → w.stakes.moves ≡ v.stakes.moves → (HasPlace v.epoch → HasPlace w.epoch) → ((i : ℕ) → OwnsAlone v i → OwnsAlone w i)
+pub still_mover : (v w : View) → w.stakes.moves ≡ v.stakes.moves → (HasPlace v.epoch → HasPlace w.epoch) → ((i : ℕ) → Owns v i → Owns w i)
     → ((i : ℕ) → 0 < items_at i v → 0 < items_at i w) → IsMover v → IsMover w
 still_mover v w same lives owns waits is i m = let o = is i (sym same ∙ m) in
-    (lives o.0, ⊎_elim (λ (a : OwnsAlone v i). inl (owns i a)) (λ (a : 0 < items_at i v). inr (waits i a)) o.1)
+    (lives o.0, ⊎_elim (λ (a : Owns v i). inl (owns i a)) (λ (a : 0 < items_at i v). inr (waits i a)) o.1)
 
 -- what lies at home as full as the slot is
-shown_as : (γ i n p f f' : ℕ) (y : ValueFraction) → f' ≡ f → Has γ i (share n (away n f) p) (MatchesSlotWord f) y → Has γ i (share n (away n f') p) (MatchesSlotWord f') y
+shown_as : (γ i n p f f' : ℕ) (y : ValueFraction) → f' ≡ f → Has γ i (share n (away n f) p) (MatchesSlotWord f) y → Has γ i (share n (away n f') p)
+    (MatchesSlotWord f') y
 shown_as γ i n p f f' y e h = subst (λ (z : ℕ). Has γ i (share n (away n z) p) (MatchesSlotWord z) y) (sym e) h
 
 -- what lies at home once one stake was taken lay there before
@@ -168,7 +169,8 @@ module _ (γ : ℕ) (sizes : Sizes) (ws : List ℕ) (vs : List View) (hs : Fract
           let owners : ℕ = away n (full_at sizes ws' i) in
           let units : share n owners p ≡ 1 = ap (share n owners) of ∙ share_one n owners q low_place in
           let f = seen t.0 (subst (λ (l : List ℕ). 0 < times t.0 l) told (in_times v.stakes.sees t.0 t.1 t.2)) in
-          subst (λ (k : ℕ). Has γ i k (MatchesSlotWord (full_at sizes ws' i)) y) (sym units) (subst (λ (m : ℕ). Has γ m 1 (MatchesSlotWord (full_at sizes ws' m)) y) (sym slot)
+          subst (λ (k : ℕ). Has γ i k (MatchesSlotWord (full_at sizes ws' i)) y) (sym units)
+          (subst (λ (m : ℕ). Has γ m 1 (MatchesSlotWord (full_at sizes ws' m)) y) (sym slot)
           (t.4.0, (λ _. t.4.1.0, λ z. absurd (omega arith)))))
           (λ (t : LiesAt n hs i p y). shown_as γ i n p (full_at sizes ws i) (full_at sizes ws' i) y (same i low) (part.home i p y low near' t))
           (g.home (stake_at n i p) y lies);

@@ -9,47 +9,42 @@ use lib.Seq.{set-get_or}
 use prog.Atomic.{either}
 use base.Stored.{Gv}
 use Rattle.atomic_table.specs.Table.{State, keeps, takes}
-use Rattle.atomic_table.proofs.Lists.{at_map, exchanged, set_again, set_else}
-use Rattle.sdd_shared_values.specs.ValueFractions.{FractionContent}
-use Rattle.sdd_shared_values.specs.Bank.{Leaves}
-use Rattle.sdd_shared_values.specs.Deposits.{units_at}
+use Rattle.atomic_table.proofs.Lists.{at_map, exchanged}
 use Rattle.sdd_shared_values.specs.declared.value_fraction.ValueFraction.{ValueFraction}
-use Rattle.sdd_shared_values.proofs.Deposits.{draws}
 use Rattle.sdd_views.specs.declared.ShownValue.{ShownValue}
 use Rattle.sdd_views.specs.declared.View.{View}
 use Rattle.sdd_views.specs.declared.Sizes.{Sizes}
 use Rattle.sdd_word_invariant.specs.Words.{slot_word}
 use Rattle.sdd_word_invariant.specs.Codes.{codes, alive, waiting, full, owned_word, raw_word}
 use Rattle.sdd_word_invariant.specs.Epoch.{HasPlace, IsOpen, IsLone}
-use Rattle.sdd_word_invariant.specs.Sums.{total, times}
-use Rattle.sdd_word_invariant.specs.Slots.{slot_at, OwnsAlone, Sees, Holds}
+use Rattle.sdd_word_invariant.specs.Sums.{times}
+use Rattle.sdd_word_invariant.specs.Slots.{slot_at, Owns, Sees, Holds}
 use Rattle.sdd_word_invariant.specs.SlotSteps.{without, turned_raw, AtSlot, TurnsRaw, Regains, SeesRaw}
-use Rattle.sdd_word_invariant.specs.WordInvariant.{epoch_of, Parts}
+use Rattle.sdd_word_invariant.specs.WordInvariant.{epoch_of}
 use Rattle.sdd_word_invariant.proofs.Codes.{sound, owned_is, raw_is}
 use Rattle.sdd_word_invariant.proofs.RawSteps as words
-use Rattle.sdd_word_invariant.proofs.Lift.{blind_units}
-use Rattle.sdd_word_invariant.proofs.SlotWords.{owners_in}
-use Rattle.sdd_word_invariant.proofs.Sums.{is_same, is_other, without_same, without_other, total_zero}
+use Rattle.sdd_word_invariant.proofs.SlotWords.{owner_in, owners_in}
+use Rattle.sdd_word_invariant.proofs.Sums.{is_same, is_other, without_same, without_other}
 use Rattle.sdd_domain_invariant.specs.FractionsAtHome.{stake_at, away, full_at, Has, Moves, SeesFrom, LiesAt, FractionsInvariant}
-use Rattle.sdd_domain_invariant.specs.BankInvariant.{drawn_at, moves_at, banked}
 use Rattle.sdd_domain_invariant.specs.Records.{IsIn, IsKnown, IsTelling}
 use Rattle.sdd_domain_invariant.specs.FilledInvariant.{newest, HasRecord}
 use Rattle.sdd_domain_invariant.specs.LastFractions.{LastIs}
 use Rattle.sdd_domain_invariant.specs.DomainInvariant.{DomainInvariant}
-use Rattle.sdd_domain_invariant.specs.FractionSteps.{SeatState, IsValue, untold, drawing, sighting, OfSlot}
-use Rattle.sdd_domain_invariant.specs.RawSteps.{TurnsRawOne, RegainsOne, SeesRawOne, DrawsUnit, regaining}
+use Rattle.sdd_domain_invariant.specs.FractionSteps.{SeatState, IsValue, untold, sighting, OfSlot}
+use Rattle.sdd_domain_invariant.specs.RawSteps.{TurnsRawOne, RegainsOne, SeesRawOne, regaining}
 use Rattle.sdd_domain_invariant.proofs.Part.{none_out, only_seen, one_taken}
 use Rattle.sdd_domain_invariant.proofs.Part as part
 use Rattle.sdd_domain_invariant.proofs.Banks.{moves_none, outside_there, outside_same, total_below, with_deposits, banked_then}
 use Rattle.sdd_domain_invariant.proofs.Banks as banks
-use Rattle.sdd_domain_invariant.proofs.Counts.{as_full, uncounted, uncounted_alone}
-use Rattle.sdd_domain_invariant.proofs.Records.{in_head, in_tail, in_either, in_none, known_by, told_seen}
+use Rattle.sdd_domain_invariant.proofs.Counts.{as_full, uncounted}
+use Rattle.sdd_domain_invariant.proofs.Records.{in_head, in_tail, in_either, in_none, known_by, told_seen, leaves_show}
 use Rattle.sdd_domain_invariant.proofs.Records as records
 use Rattle.sdd_domain_invariant.proofs.Fillings.{has_none, filled_learned}
 use Rattle.sdd_domain_invariant.proofs.Telling.{none_moved, one_view, owns_it}
 use Rattle.sdd_domain_invariant.proofs.Tops.{share_one}
-use Rattle.sdd_domain_invariant.proofs.Lasts.{shown_leaves, raws_other, raws_set, raws_same, lasts_out, lasts_fewer, lasts_dealt}
-use Rattle.sdd_domain_invariant.proofs.Lift.{Follows, lift_homes, stands_dealt}
+use Rattle.sdd_domain_invariant.proofs.Lasts.{raws_other, raws_set, raws_same, lasts_out, lasts_fewer}
+use Rattle.sdd_domain_invariant.proofs.Lift.{Follows, lift_homes, lift_whole}
+use Rattle.sdd_domain_invariant.proofs.KindSteps as kind_steps
 use Rattle.sdd_domain_invariant.proofs.Steps.{full_owned}
 use Rattle.sdd_domain_invariant.proofs.Steps as steps
 
@@ -65,7 +60,8 @@ turned_tells m v t slot owns rests y = record {
   owns = λ i g h. absurd (in_none i g h);
   owned = λ i o still. dite (ℕ_discrete i slot)
       (λ e. absurd (let z = without_same slot v.slots.owns in let c = ap (λ (k : ℕ). times k (without slot v.slots.owns)) e in omega arith))
-      (λ ne. absurd (let c = without_other slot i ne v.slots.owns in let e = ap (times i) owns in let other = is_other i slot (λ x. ne (sym x)) in omega arith));
+      (λ ne. absurd (let c = without_other slot i ne v.slots.owns in let e = ap (times i) owns in
+      let other = is_other i slot (λ x. ne (sym x)) in omega arith));
   sees = t.sees;
   waits = t.waits;
   waiting = t.waiting;
@@ -78,8 +74,8 @@ regained_tells : (m : ℕ) (v : View) → IsTelling m v → (slot : ℕ) → slo
 regained_tells m v t slot low rests y value = let r : ShownValue = record { slot = slot; shared = false; value = value } in
     let w : View = regaining slot y value v in record {
       owns = λ i g h. (
-        ⊎_elim (λ (e : (slot ≡ i) × (value ≡ g)). let o = is_same i slot e.0 in let l : OwnsAlone w i = omega arith in l)
-            (λ (k : IsIn v.stakes.owns i g). let o = (t.owns i g k).0 in let l : OwnsAlone w i = omega arith in l) (in_either r v.stakes.owns i g h),
+        ⊎_elim (λ (e : (slot ≡ i) × (value ≡ g)). let o = is_same i slot e.0 in let l : Owns w i = omega arith in l)
+            (λ (k : IsIn v.stakes.owns i g). let o = (t.owns i g k).0 in let l : Owns w i = omega arith in l) (in_either r v.stakes.owns i g h),
         none_moved w i rests,
       );
       owned = λ i o still. dite (ℕ_discrete slot i) (λ e. (value, in_head r v.stakes.owns i value e refl))
@@ -153,37 +149,17 @@ module _ (slots id : ℕ) (me : SeatState) (live : HasPlace me.0.epoch) where
           (ap full (steps.here slots id me live slot inside s.words y (steps.within slots id me live slot inside s h)) ∙ (one ∙ sym filled)))
           (λ ne. steps.others slots id me live slot inside s.words y j low ne)
 
-    -- nothing changes
-    unmoved : (s : State ValueFraction View) → DomainInvariant γ sizes s → get_elem? s.views id ≡ some v → (told : ℕ → SeatState → Type 0)
-        → told (get_or s.words i 0) me → Follows γ sizes id i me told s (get_or s.words i 0) v
-    unmoved s h at told tells = let x : ℕ = get_or s.words i 0 in record {
-      stakes = v.stakes;
-      act = keeps;
-      valid = tt;
-      homes = part.calm γ sizes s.words s.views s.homes h.homes id v at (set s.words i x) v (λ j p out. out)
-          (λ j _. steps.same_words slots id me live slot inside s h j) (h.homes.moving id v at);
-      records = records.calm sizes s.views s.homes h.records id v at v (refl, refl, refl, (λ _. refl), refl);
-      counts = uncounted sizes s.words s.views h.counts id v at (set s.words i x) v refl (λ l. l)
-          (as_full sizes s.words (set s.words i x) (λ j _. steps.same_words slots id me live slot inside s h j))
-          (steps.over_slot slots id me live slot inside s h x);
-      filled = steps.still_filled slots id me live s h at v refl refl refl;
-      bank = banks.alike γ sizes s.words s.views h.bank id v at (set s.words i x) v (refl, refl, refl, (λ _. refl), refl)
-          (λ j _. steps.same_words slots id me live slot inside s h j);
-      lasts = lasts_fewer sizes s.words s.views s.homes h.lasts id v at (set s.words i x) v s.homes (λ _ _ _ _ l. l) (λ b. (b, refl)) refl
-          (λ _ _. inl live) (raws_same sizes s.words i);
-      tells = tells;
-    }
-
     -- it goes out as raw: its owner's unit is in the bank
     pub turns_raw : v.slots.owns ≡ slot ∷ [] → ¬ (Holds v slot) → v.slots.drawn ≡ [] → v.stakes.moves ≡ None → (value : Gv)
         → HasRecord v.stakes.owns (record { slot = slot; shared = false; value = value })
         → May i (λ _. raw_word 0) (λ _. OfSlot TurnsRawOne i me (raw_word 0))
     turns_raw owns free empty rests value has = let y : ℕ = raw_word 0 in let told : ℕ → SeatState → Type 0 = λ _. OfSlot TurnsRawOne i me y in
         let own = owns_it v slot owns in let r : ShownValue = record { slot = slot; shared = false; value = value } in
-        lift_homes γ sizes slots id me i (λ _. y) (λ _. AtSlot TurnsRaw i v y) told
+        lift_whole γ sizes slots id me i (λ _. y) (λ _. AtSlot TurnsRaw i v y) told
         (steps.spares slots id me live slot inside (λ _. y) (λ _. AtSlot TurnsRaw i v y) (λ r w t. ap (λ (u : View). u.places) (t slot refl)))
-        (words.turns_raw id v live slot 0 inside own free (omega arith))
-        (λ s w h at t. let one = ((h.kept.parts.slots.each id v at).alone slot own).0 in
+        (λ s h at small. let firm = (steps.uncounted_owner slots id me live slot inside s h at value has free).1 in
+        words.turns_raw id v live slot 0 inside own free (omega arith) s.words s.views h.kept.parts at firm)
+        (λ s w h at t. let one = (steps.uncounted_owner slots id me live slot inside s h at value has free).2 in
         let was = full_owned (slot_at sizes s.words slot) (omega arith) in let now : View = untold (turned_raw slot y v) in
         let low = steps.within slots id me live slot inside s h in
         let word : slot_at sizes (set s.words i y) slot ≡ y = steps.here slots id me live slot inside s.words y low in
@@ -199,7 +175,8 @@ module _ (slots id : ℕ) (me : SeatState) (live : HasPlace me.0.epoch) where
           act = keeps;
           valid = tt;
           homes = part.calm γ sizes s.words s.views s.homes h.homes id v at (set s.words i y) now (λ j p out. out) same (none_out now rests);
-          records = records.no_more sizes s.views s.homes h.records id v at now s.homes (turned_tells sizes.slots v (h.records.each id v at) slot owns rests y)
+          records = records.no_more sizes s.views s.homes h.records id v at now (λ is. h.records.deposits id v at is) s.homes
+              (turned_tells sizes.slots v (h.records.each id v at) slot owns rests y)
               (λ j g k. known_by now j g (λ a. absurd (in_none j g a)) (λ a. mine j g (inr (inl a))) (λ a. mine j g (inr (inr a))) k)
               (λ j p z _ _ lies. inl lies) (λ j m. m) (λ j a. a);
           counts = uncounted sizes s.words s.views h.counts id v at (set s.words i y) now refl (λ l. l)
@@ -214,6 +191,10 @@ module _ (slots id : ℕ) (me : SeatState) (live : HasPlace me.0.epoch) where
               (sym (h.records.home slot n value z inside (omega arith) known last))
               (h.filled.knows single j id u v r e placed at (inl has)))
               (raws_other sizes s.words slot y);
+          kinds = kind_steps.goes sizes s.words s.views h.kinds h.records.each id v at slot y now inside
+              (steps.wrote_long slots id me live slot inside s h at y) rests refl (λ _ o. o) word
+              (λ j u apart e. inl (λ o. let both = owners_in codes sound sizes s.words s.views h.kept.parts.slots j id slot u v apart e at in omega arith))
+              (λ _. let dead = (raw_is 0 (omega arith)).0 in inl (omega arith)) (steps.post slots id me live s h at now refl refl refl (λ l. l));
           tells = steps.at_once slots id me live slot inside TurnsRawOne y (now, me.1) (refl, refl);
         })
 
@@ -239,7 +220,8 @@ module _ (slots id : ℕ) (me : SeatState) (live : HasPlace me.0.epoch) where
           valid = tt;
           homes = part.calm γ sizes s.words s.views s.homes h.homes id v at (set s.words i y) now (λ j p out. out) same (none_out now rests);
           records = records.comes_to_learn sizes s.views s.homes h.records id v at slot n value z inside (omega arith) (lies s h hit)
-              (all_shown s h (still s h hit)) now s.homes (regained_tells sizes.slots v (h.records.each id v at) slot inside rests y value)
+              (all_shown s h (still s h hit)) (λ j b e is. h.lasts.banks j b e is slot z inside (lies s h hit)) now (λ is. (is, refl)) s.homes
+              (regained_tells sizes.slots v (h.records.each id v at) slot inside rests y value)
               (λ j g k. known_by now j g (λ a. ⊎_elim (λ (e : (slot ≡ j) × (value ≡ g)). inl (sym e.0, sym e.1))
               (λ (b : IsIn v.stakes.owns j g). inr (mine j g (inl b))) (in_either r v.stakes.owns j g a))
               (λ a. inr (mine j g (inr (inl a)))) (λ a. inr (mine j g (inr (inr a)))) k)
@@ -249,7 +231,8 @@ module _ (slots id : ℕ) (me : SeatState) (live : HasPlace me.0.epoch) where
           counts = uncounted sizes s.words s.views h.counts id v at (set s.words i y) now refl (λ l. l)
               (as_full sizes s.words (set s.words i y) same) (steps.over_slot slots id me live slot inside s h y);
           filled = filled_learned sizes s.views h.filled id v at now refl (λ l. l) r
-              (λ q told. ⊎_elim (λ (a : HasRecord (r ∷ v.stakes.owns) q). ⊎_elim (λ (b : q ≡ r). inl b) (λ (b : HasRecord v.stakes.owns q). inr (id, v, at, inl b))
+              (λ q told. ⊎_elim (λ (a : HasRecord (r ∷ v.stakes.owns) q). ⊎_elim (λ (b : q ≡ r). inl b)
+              (λ (b : HasRecord v.stakes.owns q). inr (id, v, at, inl b))
               (has_more r v.stakes.owns q a.0 a.1))
               (λ (a : HasRecord v.stakes.waits q). inr (id, v, at, inr a)) told)
               (λ one j u e placed. h.lasts.raw one j u e placed slot z inside hit (lies s h hit));
@@ -258,11 +241,26 @@ module _ (slots id : ℕ) (me : SeatState) (live : HasPlace me.0.epoch) where
               (λ k. let l = h.bank.low id v at k in omega arith) same;
           lasts = lasts_fewer sizes s.words s.views s.homes h.lasts id v at (set s.words i y) now s.homes (λ _ _ _ _ l. l) (λ b. (b, refl)) refl
               (λ _ _. inl live) (raws_set sizes s.words slot y low (λ e. absurd (omega arith)));
-          tells = steps.at_once slots id me live slot inside (λ slot. RegainsOne slot (raw_word 0) (owned_word 0)) x (now, me.1)
-              ((λ _. (value, (h.homes.home slot n z inside (omega arith) (lies s h hit)).1.0 (filled s h hit), refl, λ lone. h.lasts.raw (steps.one_place γ sizes s h id v at lone) id v at live slot z inside hit (lies s h hit))), (λ no. absurd (no hit)), c.2);
+          kinds = let none = dead s h hit in kind_steps.regains sizes s.words s.views h.kinds h.records.each id v at slot y value now inside
+              (steps.wrote_long slots id me live slot inside s h at y) rests refl (λ _ o. o) own.2
+              (steps.here slots id me live slot inside s.words y low)
+              (λ j u e o. let few = owner_in codes sound sizes s.words s.views h.kept.parts.slots j slot u e in omega arith)
+              (steps.post slots id me live s h at now refl refl refl (λ l. l));
+          tells = steps.at_once slots id me live slot inside (λ slot. RegainsOne slot (raw_word 0) (owned_word 0)) x (now, me.1) (
+            (λ _. (
+              value,
+              (h.homes.home slot n z inside (omega arith) (lies s h hit)).1.0 (filled s h hit),
+              refl,
+              λ lone. h.lasts.raw
+                  (steps.one_place γ sizes s h id v at lone) id v at live slot z inside hit (lies s h hit),
+            )),
+            (λ no. absurd (no hit)),
+            c.2,
+          );
         })
-        (λ miss. subst (Follows γ sizes id i me told s x) (sym (c.1 miss)) (unmoved s h at told
-        (steps.at_once slots id me live slot inside (λ slot. RegainsOne slot (raw_word 0) (owned_word 0)) x me ((λ hit. absurd (miss hit)), (λ _. refl), c.2)))))
+        (λ miss. subst (Follows γ sizes id i me told s x) (sym (c.1 miss)) (steps.unmoved slots id me live slot inside s h at told
+        (steps.at_once slots id me live slot inside (λ slot. RegainsOne slot (raw_word 0) (owned_word 0)) x me
+        ((λ hit. absurd (miss hit)), (λ _. refl), c.2)))))
 
     -- a guard sees it while it is out as raw
     module _ (is_open : IsOpen v.epoch) (near : v.epoch.place < n) (rests : v.stakes.moves ≡ None) where
@@ -307,7 +305,7 @@ module _ (slots id : ℕ) (me : SeatState) (live : HasPlace me.0.epoch) where
           dite (dec_lt 0 (times slot v.slots.sees))
           (λ sees. let is = told_seen v tells slot sees in
           let shows : is.0 ≡ value = sym (r.home slot n is.0 z inside (omega arith) (mine slot is.0 (inr (inl is.1))) (lies s h hit)) in
-          subst (Follows γ sizes id i me told s x) (sym (c.1 (inr sees))) (unmoved s h at told
+          subst (Follows γ sizes id i me told s x) (sym (c.1 (inr sees))) (steps.unmoved slots id me live slot inside s h at told
           (steps.at_once slots id me live slot inside R x me (
             (λ _. (
               value,
@@ -328,8 +326,10 @@ module _ (slots id : ℕ) (me : SeatState) (live : HasPlace me.0.epoch) where
                 (part.takes_one γ sizes s.words s.views s.homes h.homes id v at slot q (omega arith) now (inr (omega arith, refl))
                 (λ j p out. let o = only_seen v rests j p out in inr (let a = o.0 in omega arith, o.1))
                 (none_out now rests));
+            kinds = kind_steps.same sizes s.words s.views h.kinds h.records.each id v at now refl refl refl refl refl refl (set s.words i x)
+                (steps.same_slots slots id me live slot inside s h) (steps.post slots id me live s h at now refl refl refl (λ l. l));
             records = records.comes_to_learn sizes s.views s.homes r id v at slot n value z inside (omega arith) (lies s h hit)
-                (all_shown s h (still s h hit)) now (set s.homes spot none)
+                (all_shown s h (still s h hit)) (λ j b e is. h.lasts.banks j b e is slot z inside (lies s h hit)) now (λ is. (is, refl)) (set s.homes spot none)
                 record {
                   owns = tells.owns;
                   owned = tells.owned;
@@ -344,7 +344,8 @@ module _ (slots id : ℕ) (me : SeatState) (live : HasPlace me.0.epoch) where
                 }
                 (λ j g k. known_by now j g (λ a. inr (mine j g (inl a))) (λ a. ⊎_elim
                 (λ (e : (slot ≡ j) × (value ≡ g)). inl (sym e.0, sym e.1))
-                (λ (d : IsIn v.stakes.sees j g). inr (mine j g (inr (inl d)))) (in_either record_now v.stakes.sees j g a)) (λ a. inr (mine j g (inr (inr a)))) k)
+                (λ (d : IsIn v.stakes.sees j g). inr (mine j g (inr (inl d)))) (in_either record_now v.stakes.sees j g a)) (λ a. inr (mine j g (inr (inr a))))
+                k)
                 (λ j p u l. one_taken s.homes spot (stake_at n j p) u l)
                 (λ j m. absurd (none_moved v j rests m))
                 (λ j u _ e. (
@@ -374,69 +375,5 @@ module _ (slots id : ℕ) (me : SeatState) (live : HasPlace me.0.epoch) where
               c.2,
             );
           }))
-          (λ miss. subst (Follows γ sizes id i me told s x) (sym (c.1 (inl miss))) (unmoved s h at told
+          (λ miss. subst (Follows γ sizes id i me told s x) (sym (c.1 (inl miss))) (steps.unmoved slots id me live slot inside s h at told
           (steps.at_once slots id me live slot inside R x me ((λ hit. absurd (miss hit)), (λ _. refl), c.2)))))
-
-    -- its owner draws its unit from the bank
-    pub draws_unit : (bd : ℕ) → OwnsAlone v slot → v.slots.drawn ≡ [] → v.stakes.moves ≡ None
-        → steps.MayDeal slots id me live slot inside bd Leaves (λ _. Unit {0}) (DrawsUnit slot me)
-    draws_unit bd own empty rests s b h _ at there bank ne = let w : View = drawing slot v in let p = h.kept.parts in
-        let one = ((p.slots.each id v at).alone slot own).0 in let filled = full_owned (slot_at sizes s.words slot) (omega arith) in
-        let still : (j : ℕ) (u : View) → get_elem? s.views j ≡ some u → ¬ (Moves u slot)
-        = λ j u e. dite (ℕ_discrete id j)
-        (λ same m. none_moved v slot rests (subst (λ (x : View). Moves x slot) (one_view s.views id j u v e at (sym same)) m))
-        (λ apart. steps.still_owned γ sizes s h slot id j v u at e apart (omega arith)) in
-        let undrawn : total (drawn_at slot) s.views ≡ 0 = total_zero (drawn_at slot) s.views (λ j u e. dite (ℕ_discrete id j)
-        (λ same. ap (drawn_at slot) (one_view s.views id j u v e at (sym same)) ∙ ap (times slot) empty)
-        (λ apart. let low = h.bank.low j u e slot in
-        let both = owners_in codes sound sizes s.words s.views p.slots id j slot v u apart at e in omega arith)) in
-        let nobody = total_zero (moves_at slot) s.views (λ j u e. moves_none slot u (still j u e)) in
-        let was = outside_there sizes s.words s.views slot (λ empty. omega arith) nobody in
-        let balance = h.bank.banks bd b there bank in let deposits = balance.deposits in let sum = balance.sums slot inside in let few = h.homes.few in
-        let d = draws γ slot 1 (banked b) deposits (omega arith) (omega arith) in let l : FractionContent = d.0 in let ls : List FractionContent = d.1 in
-        let goes = d.3 in let vs' : List View = set (set s.views id w) bd (with_deposits ls b) in
-        let z = last_home s h still in
-        let leaves = shown_leaves slot z.0.lot.shown (banked b) l ls goes.goes (h.lasts.banks bd b there bank slot z.0 inside z.1) in
-        let is : (value : Gv) → IsIn v.stakes.owns slot value → l.shown ≡ value = λ value told. leaves.1 goes.number
-        ∙ h.records.home slot n value z.0 inside (omega arith) (records.mine sizes s.views s.homes h.records id v at slot value (inl told)) z.1 in
-        let tells = h.records.each id v at in record {
-          view = w;
-          bank = with_deposits ls b;
-          lot = l;
-          act = keeps;
-          valid = tt;
-          holds = stands_dealt γ sizes id v s h at w refl
-              (blind_units sizes s.words s.views id v v at (subst (Parts sizes s.words) (sym (set_again s.views id v at)) p) v.stakes (slot ∷ v.slots.drawn))
-              s.homes
-              (part.calm γ sizes s.words s.views s.homes h.homes id v at s.words w (λ j p out. out) (λ j _. refl) (h.homes.moving id v at))
-              (records.no_more sizes s.views s.homes h.records id v at w s.homes
-              record {
-                owns = tells.owns;
-                owned = tells.owned;
-                sees = tells.sees;
-                waits = tells.waits;
-                waiting = tells.waiting;
-                inside = tells.inside;
-              }
-              (records.mine sizes s.views s.homes h.records id v at) (λ j p y _ _ l. inl l) (λ j m. m) (λ j a. a))
-              (uncounted_alone sizes s.words s.views h.counts id v at w refl refl) (steps.still_filled slots id me live s h at w refl refl refl) bd b there ne ls
-              (banks.deals γ sizes s.words s.views h.bank id v at bd b there bank ne w ls goes.deposits refl refl
-              (λ k. dite (ℕ_discrete k slot)
-              (λ e. let o = is_same k slot (sym e) in let c = ap (times k) empty in let m = ap (λ (j : ℕ). times j v.slots.owns) e in omega arith)
-              (λ apart. let o = is_other k slot (λ e. apart (sym e)) in let low = h.bank.low id v at k in omega arith))
-              (λ k near. let u = outside_same sizes s.words s.words s.views vs' k refl
-              (let t = banks.total_dealt γ sizes s.words s.views h.bank id v at bd b there bank ne (moves_at k) w ls refl in omega arith) in
-              dite (ℕ_discrete k slot)
-              (λ e. let o = is_same k slot (sym e) in let less = goes.less in let units = d.2 in let x = ap (λ (y : ℕ). units_at y ls) e in
-              let y = ap (λ (y : ℕ). units_at y (banked b)) e in omega arith)
-              (λ apart. let o = is_other k slot (λ e. apart (sym e)) in let same = goes.others k apart in omega arith)))
-              (lasts_dealt sizes s.words (set s.views id w) s.homes
-              (lasts_fewer sizes s.words s.views s.homes h.lasts id v at s.words w s.homes (λ _ _ _ _ l. l) (λ b. (b, refl)) refl (λ _ _. inl live)
-              (λ _ _ raw. raw))
-              γ bd b (set_else s.views id bd w (λ e. ne (sym e)) ∙ there) bank ls balance.book goes.deposits
-              (λ k z low last show. (shown_leaves k z.lot.shown (banked b) l ls goes.goes show).0));
-          ours = bank;
-          goes = subst (Leaves (banked b) l) (sym (banked_then γ ls b balance.book goes.deposits)) goes.goes;
-          offered = tt;
-          then = (refl, refl, λ value told i. record l { book = goes.book i; number = goes.number i; shown = is value told i; units = d.2 i; lent = goes.free i });
-        }

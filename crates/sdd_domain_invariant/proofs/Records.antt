@@ -12,12 +12,19 @@ use Rattle.sdd_views.specs.declared.ShownValue.{ShownValue}
 use Rattle.sdd_views.specs.declared.FractionsView.{FractionsView}
 use Rattle.sdd_views.specs.declared.View.{View}
 use Rattle.sdd_views.specs.declared.Sizes.{Sizes}
-use Rattle.sdd_word_invariant.specs.Slots.{waits_in, items_at, OwnsAlone, Sees}
+use Rattle.sdd_word_invariant.specs.Slots.{waits_in, items_at, Owns, Sees}
 use Rattle.sdd_word_invariant.specs.Sums.{total, is, times}
 use Rattle.sdd_word_invariant.proofs.Frame.{each_set, each_snoc}
 use Rattle.sdd_word_invariant.proofs.Sums.{is_same, is_other, both_set, total_has, total_kept, total_gone, total_some, at_filter}
 use Rattle.sdd_domain_invariant.specs.FractionsAtHome.{FractionsAtHome, LiesAt, Moves}
-use Rattle.sdd_domain_invariant.specs.Records.{slot_shown, IsIn, KnowsShown, IsKnown, IsTelling, RecordsInvariant}
+use Rattle.sdd_domain_invariant.specs.BankInvariant.{deposited, banked, IsBank}
+use Rattle.sdd_domain_invariant.specs.Records.{slot_shown, IsIn, KnowsShown, IsKnown, IsTelling, ShowsKnown, AllShowKnown, RecordsInvariant}
+use Rattle.sdd_domain_invariant.specs.LastFractions.{ShowOnly}
+use Rattle.sdd_shared_values.specs.ValueFractions.{FractionContent}
+use Rattle.sdd_shared_values.specs.Deposits.{units_at, AreDeposits}
+use Rattle.sdd_shared_values.specs.Bank.{Leaves, Comes}
+use Rattle.sdd_views.specs.declared.Deposit.{Deposit}
+use prog.Atomic.{either}
 use Rattle.sdd_domain_invariant.specs.FractionSteps.{without_record}
 
 -- ---- records in a list
@@ -155,6 +162,50 @@ pub known_after : (vs : List View) (id : ℕ) (w : View) (i : ℕ) (g : Gv) → 
 known_after vs id w i g k = ⊎_elim (λ (t : (k.0 ≡ id) × (w ≡ k.1)). inl (subst (λ (u : View). KnowsShown u i g) (sym t.1) k.3))
     (λ (t : (k.0 ≢ id) × (get_elem? vs k.0 ≡ some k.1)). inr (k.0, k.1, t.1, k.3)) (at_set vs id k.0 w k.1 k.2)
 
+-- ---- deposits
+-- where less is known, or the same
+pub all_still_show : (vs vs' : List View) → ((i : ℕ) (g : Gv) → IsKnown vs' i g → IsKnown vs i g) → (ls : List FractionContent) → AllShowKnown vs ls
+    → AllShowKnown vs' ls
+all_still_show vs vs' less [] a = tt
+all_still_show vs vs' less (l ∷ ls) a = (λ g k. a.0 g (less l.number g k), all_still_show vs vs' less ls a.1)
+
+-- where something is known of a slot that has no deposit
+pub all_show_then : (vs vs' : List View) (γ slot : ℕ) → ((i : ℕ) (g : Gv) → i ≢ slot → IsKnown vs' i g → IsKnown vs i g) → (ls : List FractionContent)
+    → AreDeposits γ ls → units_at slot ls ≡ 0 → AllShowKnown vs ls → AllShowKnown vs' ls
+all_show_then vs vs' γ slot less [] are none a = tt
+all_show_then vs vs' γ slot less (l ∷ ls) are none a = let some = are.2 in let apart : l.number ≢ slot = (λ e.
+    let u = ap (λ (b : _). either b l.units 0) (eq-eqb l.number slot e) in omega arith) in
+    (λ g k. a.0 g (less l.number g apart k), all_show_then vs vs' γ slot less ls are.4 (omega arith) a.1)
+
+-- where it comes to be known what one slot shows, as they show it
+pub all_learn : (vs vs' : List View) (slot : ℕ) (value : Gv) → ((i : ℕ) (g : Gv) → IsKnown vs' i g → ((i ≡ slot) × (g ≡ value)) ⊎ IsKnown vs i g)
+    → (ls : List FractionContent) → ShowOnly slot value ls → AllShowKnown vs ls → AllShowKnown vs' ls
+all_learn vs vs' slot value now [] show a = tt
+all_learn vs vs' slot value now (l ∷ ls) show a = (
+  λ g k. ⊎_elim (λ (t : (l.number ≡ slot) × (g ≡ value)). show.0 t.0 ∙ sym t.1) (λ (t : IsKnown vs l.number g). a.0 g t) (now l.number g k),
+  all_learn vs vs' slot value now ls show.1 a.1,
+)
+
+-- what goes out shows it too, and what stays
+pub leaves_show : (vs : List View) (ls : List FractionContent) (l : FractionContent) (rest : List FractionContent) → Leaves ls l rest → AllShowKnown vs ls
+    → ShowsKnown vs l × AllShowKnown vs rest
+leaves_show vs [] l rest e a = absurd e
+leaves_show vs (h ∷ hs) l rest (inl e) a = (subst (ShowsKnown vs) (sym e.0) a.0, subst (AllShowKnown vs) (sym e.1) a.1)
+leaves_show vs (h ∷ hs) l rest (inr (inl (h', part, e))) a = (
+  subst (ShowsKnown vs) (sym part.same) (λ g k. a.0 g k),
+  subst (AllShowKnown vs) (sym e) (subst (ShowsKnown vs) (sym part.stays) (λ g k. a.0 g k), a.1),
+)
+leaves_show vs (h ∷ hs) l rest (inr (inr (hs', on, e))) a = let t = leaves_show vs hs l hs' on a.1 in (t.0, subst (AllShowKnown vs) (sym e) (a.0, t.1))
+
+-- where one comes that shows it
+pub comes_show : (vs : List View) (ls : List FractionContent) (l : FractionContent) (more : List FractionContent) → Comes ls l more → ShowsKnown vs l →
+    AllShowKnown vs ls
+    → AllShowKnown vs more
+comes_show vs [] l more e now a = subst (AllShowKnown vs) (sym e) (now, tt)
+comes_show vs (h ∷ hs) l more (inl e) now a = subst (AllShowKnown vs) (sym e) (now, a)
+comes_show vs (h ∷ hs) l more (inr (inl (h', joined, e))) now a = subst (AllShowKnown vs) (sym e) (subst (ShowsKnown vs) (sym joined.sum) (λ g k. a.0 g k), a.1)
+comes_show vs (h ∷ hs) l more (inr (inr (hs', on, e))) now a = subst (AllShowKnown vs) (sym e) (a.0, comes_show vs hs l hs' on now a.1)
+
 module _ (sizes : Sizes) (vs : List View) (hs : FractionsAtHome) (part : RecordsInvariant sizes vs hs) where
   abbrev n : ℕ
   n = sizes.participants
@@ -163,18 +214,20 @@ module _ (sizes : Sizes) (vs : List View) (hs : FractionsAtHome) (part : Records
   pub kept_by : (vs' : List View) (hs' : FractionsAtHome) → ((j : ℕ) (v : View) → get_elem? vs' j ≡ some v → IsTelling sizes.slots v)
       → ((i : ℕ) (g : Gv) → IsKnown vs' i g → IsKnown vs i g)
       → ((i p : ℕ) (y : ValueFraction) → i < sizes.slots → p ≤ n → LiesAt n hs' i p y → LiesAt n hs i p y ⊎ ((g : Gv) → IsKnown vs i g → y.lot.shown ≡ g))
+      → ((j : ℕ) (b : View) → get_elem? vs' j ≡ some b → IsBank b → AllShowKnown vs (banked b))
       → ((j k : ℕ) (v w : View) → get_elem? vs' j ≡ some v → get_elem? vs' k ≡ some w → NotSeen v w) → RecordsInvariant sizes vs' hs'
-  kept_by vs' hs' each known lies apart = record {
+  kept_by vs' hs' each known lies shown apart = record {
     each = each;
     agree = λ i g h a b. part.agree i g h (known i g a) (known i h b);
     home = λ i p g y low near k l. ⊎_elim (λ (t : LiesAt n hs i p y). part.home i p g y low near (known i g k) t)
         (λ (t : (g : Gv) → IsKnown vs i g → y.lot.shown ≡ g). t g (known i g k)) (lies i p y low near l);
+    deposits = λ j b e is. all_still_show vs vs' known (banked b) (shown j b e is);
     apart = λ j k v w i e e' m. apart j k v w e e' i m;
   }
 
   -- nobody knows what a slot shows that nobody sees, and that no one owns, nor has its item, but who moves its value
   pub unknown : (i : ℕ) → ((j : ℕ) (u : View) → get_elem? vs j ≡ some u → ¬ (Sees u i))
-      → ((j : ℕ) (u : View) → get_elem? vs j ≡ some u → OwnsAlone u i ⊎ (0 < items_at i u) → Moves u i) → (g : Gv) → ¬ (IsKnown vs i g)
+      → ((j : ℕ) (u : View) → get_elem? vs j ≡ some u → Owns u i ⊎ (0 < items_at i u) → Moves u i) → (g : Gv) → ¬ (IsKnown vs i g)
   unknown i blind movers g k = let t = part.each k.0 k.1 k.2 in known_by k.1 i g
       (λ h. let o = t.owns i g h in o.1 (movers k.0 k.1 k.2 (inl o.0)))
       (λ h. blind k.0 k.1 k.2 (sees_told k.1 t i g h))
@@ -182,12 +235,14 @@ module _ (sizes : Sizes) (vs : List View) (hs : FractionsAtHome) (part : Records
 
   -- a new token, which moves none, and sees none
   pub arrives : (t : View) → IsTelling sizes.slots t → ((i : ℕ) (g : Gv) → KnowsShown t i g → IsKnown vs i g) → t.stakes.moves ≡ None → t.slots.sees ≡ []
-      → RecordsInvariant sizes (vs ++ t ∷ []) hs
-  arrives t tells known rests blind = let still : (i : ℕ) → ¬ (Moves t i) = λ i m. let e : None ≡ Some i = sym rests ∙ m in cc in
+      → t.stakes.banked ≡ [] → RecordsInvariant sizes (vs ++ t ∷ []) hs
+  arrives t tells known rests blind bare = let still : (i : ℕ) → ¬ (Moves t i) = λ i m. let e : None ≡ Some i = sym rests ∙ m in cc in
       kept_by (vs ++ t ∷ []) hs (each_snoc (IsTelling sizes.slots) vs t part.each tells)
       (λ i g k. ⊎_elim (λ (a : get_elem? vs k.0 ≡ some k.1). (k.0, k.1, a, k.3))
       (λ (e : t ≡ k.1). known i g (subst (λ (u : View). KnowsShown u i g) (sym e) k.3)) (at_snoc vs t k.1 k.0 k.2))
       (λ i p y _ _ l. inl l)
+      (each_snoc (λ b. IsBank b → AllShowKnown vs (banked b)) vs t part.deposits
+      (λ _. subst (λ (l : List Deposit). AllShowKnown vs (map (deposited t.stakes.book) l)) (sym bare) tt))
       (λ j k a b e e'. ⊎_elim
       (λ (x : get_elem? vs j ≡ some a). ⊎_elim (λ (y : get_elem? vs k ≡ some b) (i : ℕ). part.apart j k a b i x y)
       (λ (y : t ≡ b). subst (NotSeen a) y (λ i m s. let z = ap (times i) blind in absurd (omega arith))) (at_snoc vs t b k e'))
@@ -198,24 +253,28 @@ module _ (sizes : Sizes) (vs : List View) (hs : FractionsAtHome) (part : Records
     mine i g k = (id, v, at, k)
 
     -- the same of one participant's step
-    pub kept : (w : View) (hs' : FractionsAtHome) → IsTelling sizes.slots w → ((i : ℕ) (g : Gv) → KnowsShown w i g → IsKnown vs i g)
+    pub kept : (w : View) → (IsBank w → AllShowKnown vs (banked w)) → (hs' : FractionsAtHome) → IsTelling sizes.slots w
+        → ((i : ℕ) (g : Gv) → KnowsShown w i g → IsKnown vs i g)
         → ((i p : ℕ) (y : ValueFraction) → i < sizes.slots → p ≤ n → LiesAt n hs' i p y → LiesAt n hs i p y ⊎ ((g : Gv) → IsKnown vs i g → y.lot.shown ≡ g))
         → NotSeen w w → ((j : ℕ) (u : View) → j ≢ id → get_elem? vs j ≡ some u → NotSeen w u × NotSeen u w) → RecordsInvariant sizes (set vs id w) hs'
-    kept w hs' tells known lies self others = kept_by (set vs id w) hs'
+    kept w shown hs' tells known lies self others = kept_by (set vs id w) hs'
         (each_set (IsTelling sizes.slots) (IsTelling sizes.slots) vs id w tells (λ j u _ e. part.each j u e))
         (λ i g k. ⊎_elim (λ (t : KnowsShown w i g). known i g t) (λ (t : IsKnown vs i g). t) (known_after vs id w i g k))
-        lies (both_set NotSeen vs id w (λ j k a b e e' i. part.apart j k a b i e e') self others)
+        lies (each_set (λ b. IsBank b → AllShowKnown vs (banked b)) (λ b. IsBank b → AllShowKnown vs (banked b)) vs id w shown (λ j u _ e. part.deposits j u e))
+        (both_set NotSeen vs id w (λ j k a b e e' i. part.apart j k a b i e e') self others)
 
     -- as long as it moves no more than before, and sees no more
-    pub no_more : (w : View) (hs' : FractionsAtHome) → IsTelling sizes.slots w → ((i : ℕ) (g : Gv) → KnowsShown w i g → IsKnown vs i g)
+    pub no_more : (w : View) → (IsBank w → AllShowKnown vs (banked w)) → (hs' : FractionsAtHome) → IsTelling sizes.slots w
+        → ((i : ℕ) (g : Gv) → KnowsShown w i g → IsKnown vs i g)
         → ((i p : ℕ) (y : ValueFraction) → i < sizes.slots → p ≤ n → LiesAt n hs' i p y → LiesAt n hs i p y ⊎ ((g : Gv) → IsKnown vs i g → y.lot.shown ≡ g))
         → ((i : ℕ) → Moves w i → Moves v i) → ((i : ℕ) → Sees w i → Sees v i) → RecordsInvariant sizes (set vs id w) hs'
-    no_more w hs' tells known lies moves sees = kept w hs' tells known lies
+    no_more w shown hs' tells known lies moves sees = kept w shown hs' tells known lies
         (λ i m s. part.apart id id v v i at at (moves i m) (sees i s))
         (λ j u _ e. ((λ i m. part.apart id j v u i at e (moves i m)), (λ i m s. part.apart j id u v i e at m (sees i s))))
 
     pub calm : (w : View) → IsAlike v w → RecordsInvariant sizes (set vs id w) hs
-    calm w same = no_more w hs (telling_alike v w same (part.each id v at))
+    calm w same = no_more w (λ is. subst (λ (x : FractionsView). AllShowKnown vs (map (deposited x.book) x.banked)) (sym same.0)
+        (part.deposits id v at (ap (λ (x : FractionsView). x.bank) (sym same.0) ∙ is))) hs (telling_alike v w same (part.each id v at))
         (λ i g k. mine i g (known_by w i g (λ h. inl (subst (λ (s : FractionsView). IsIn s.owns i g) same.0 h))
         (λ h. inr (inl (subst (λ (s : FractionsView). IsIn s.sees i g) same.0 h)))
         (λ h. inr (inr (subst (λ (s : FractionsView). IsIn s.waits i g) same.0 h))) k))
@@ -223,22 +282,25 @@ module _ (sizes : Sizes) (vs : List View) (hs : FractionsAtHome) (part : Records
         (λ i s. subst (λ (l : List ℕ). 0 < times i l) same.2 s)
 
     -- it comes to move the value of a slot that nobody sees, and takes stakes
-    pub comes_to_move : (slot : ℕ) (w : View) (hs' : FractionsAtHome) → IsTelling sizes.slots w → ((i : ℕ) (g : Gv) → KnowsShown w i g → IsKnown vs i g)
+    pub comes_to_move : (slot : ℕ) (w : View) → (IsBank w → AllShowKnown vs (banked w)) → (hs' : FractionsAtHome) → IsTelling sizes.slots w
+        → ((i : ℕ) (g : Gv) → KnowsShown w i g → IsKnown vs i g)
         → ((i p : ℕ) (y : ValueFraction) → i < sizes.slots → p ≤ n → LiesAt n hs' i p y → LiesAt n hs i p y) → w.slots.sees ≡ v.slots.sees
         → ((i : ℕ) → Moves w i → i ≡ slot) → ((j : ℕ) (u : View) → get_elem? vs j ≡ some u → ¬ (Sees u slot)) → RecordsInvariant sizes (set vs id w) hs'
-    comes_to_move slot w hs' tells known lies same moves blind = let sees : (i : ℕ) → Sees w i → Sees v i
+    comes_to_move slot w shown hs' tells known lies same moves blind = let sees : (i : ℕ) → Sees w i → Sees v i
         = λ i s. subst (λ (l : List ℕ). 0 < times i l) same s in
-        kept w hs' tells known (λ i p y low near l. inl (lies i p y low near l))
+        kept w shown hs' tells known (λ i p y low near l. inl (lies i p y low near l))
         (λ i m s. blind id v at (subst (Sees v) (moves i m) (sees i s)))
         (λ j u _ e. ((λ i m s. blind j u e (subst (Sees u) (moves i m) s)), (λ i m s. part.apart j id u v i e at m (sees i s))))
 
     -- it comes to know what a slot shows, of which nobody knew; and all stakes in it come home, and show it
-    pub comes_to_know : (slot : ℕ) (value : Gv) (w : View) (hs' : FractionsAtHome) → IsTelling sizes.slots w → ((g : Gv) → ¬ (IsKnown vs slot g))
+    pub comes_to_know : (slot : ℕ) (value : Gv) (w : View) → (IsBank w → IsBank v × (banked w ≡ banked v))
+        → ((j : ℕ) (b : View) → get_elem? vs j ≡ some b → IsBank b → (γ : ℕ) × AreDeposits γ (banked b) × (units_at slot (banked b) ≡ 0))
+        → (hs' : FractionsAtHome) → IsTelling sizes.slots w → ((g : Gv) → ¬ (IsKnown vs slot g))
         → ((i : ℕ) (g : Gv) → KnowsShown w i g → ((i ≡ slot) × (g ≡ value)) ⊎ IsKnown vs i g)
         → ((i p : ℕ) (y : ValueFraction) → i < sizes.slots → p ≤ n → LiesAt n hs' i p y
         → ((i ≡ slot) × (y.lot.shown ≡ value)) ⊎ ((i ≢ slot) × LiesAt n hs i p y))
         → ((i : ℕ) → ¬ (Moves w i)) → ((i : ℕ) → Sees w i → Sees v i) → RecordsInvariant sizes (set vs id w) hs'
-    comes_to_know slot value w hs' tells none knows lies still sees = let now : (i : ℕ) (g : Gv) → IsKnown (set vs id w) i g
+    comes_to_know slot value w same bare hs' tells none knows lies still sees = let now : (i : ℕ) (g : Gv) → IsKnown (set vs id w) i g
         → ((i ≡ slot) × (g ≡ value)) ⊎ IsKnown vs i g
         = λ i g k. ⊎_elim (λ (t : KnowsShown w i g). knows i g t) (λ (t : IsKnown vs i g). inr t) (known_after vs id w i g k) in
         let never : (i : ℕ) (g : Gv) → i ≡ slot → ¬ (IsKnown vs i g) = λ i g e k. none g (subst (λ (j : ℕ). IsKnown vs j g) e k) in record {
@@ -253,17 +315,25 @@ module _ (sizes : Sizes) (vs : List View) (hs : FractionsAtHome) (part : Records
               (λ (t : IsKnown vs i g). absurd (never i g s.0 t)) (now i g k))
               (λ (s : (i ≢ slot) × LiesAt n hs i p y). ⊎_elim (λ (t : (i ≡ slot) × (g ≡ value)). absurd (s.0 t.0))
               (λ (t : IsKnown vs i g). part.home i p g y low near t s.1) (now i g k)) (lies i p y low near l);
+          deposits = let less : (i : ℕ) (g : Gv) → i ≢ slot → IsKnown (set vs id w) i g → IsKnown vs i g
+              = λ i g ne k. ⊎_elim (λ (t : (i ≡ slot) × (g ≡ value)). absurd (ne t.0)) (λ (t : IsKnown vs i g). t) (now i g k) in
+              let all : (j : ℕ) (b : View) → get_elem? vs j ≡ some b → IsBank b → AllShowKnown (set vs id w) (banked b)
+              = λ j b e is. let n = bare j b e is in all_show_then vs (set vs id w) n.0 slot less (banked b) n.1 n.2 (part.deposits j b e is) in
+              each_set (λ b. IsBank b → AllShowKnown (set vs id w) (banked b)) (λ b. IsBank b → AllShowKnown (set vs id w) (banked b)) vs id w
+              (λ is. let o = same is in subst (AllShowKnown (set vs id w)) (sym o.1) (all id v at o.0)) (λ j u _ e. all j u e);
           apart = λ j k a b i e e' m. both_set NotSeen vs id w (λ j k a b e e' i. part.apart j k a b i e e') (λ i m. absurd (still i m))
               (λ j u _ e. ((λ i m. absurd (still i m)), (λ i m s. part.apart j id u v i e at m (sees i s)))) j k a b e e' i m;
         }
 
     -- it comes to know what a slot shows, by what lies at home in it, and takes of that at most
     pub comes_to_learn : (slot q : ℕ) (value : Gv) (y : ValueFraction) → slot < sizes.slots → q ≤ n → LiesAt n hs slot q y
-        → ((p : ℕ) (z : ValueFraction) → p ≤ n → LiesAt n hs slot p z → z.lot.shown ≡ value) → (w : View) (hs' : FractionsAtHome) → IsTelling sizes.slots w
+        → ((p : ℕ) (z : ValueFraction) → p ≤ n → LiesAt n hs slot p z → z.lot.shown ≡ value)
+        → ((j : ℕ) (b : View) → get_elem? vs j ≡ some b → IsBank b → ShowOnly slot value (banked b)) → (w : View)
+        → (IsBank w → IsBank v × (banked w ≡ banked v)) → (hs' : FractionsAtHome) → IsTelling sizes.slots w
         → ((i : ℕ) (g : Gv) → KnowsShown w i g → ((i ≡ slot) × (g ≡ value)) ⊎ IsKnown vs i g)
         → ((i p : ℕ) (z : ValueFraction) → LiesAt n hs' i p z → LiesAt n hs i p z)
         → NotSeen w w → ((j : ℕ) (u : View) → j ≢ id → get_elem? vs j ≡ some u → NotSeen w u × NotSeen u w) → RecordsInvariant sizes (set vs id w) hs'
-    comes_to_learn slot q value y inside near lies shown w hs' tells knows before self others =
+    comes_to_learn slot q value y inside near lies shown banks w same hs' tells knows before self others =
         let now : (i : ℕ) (g : Gv) → IsKnown (set vs id w) i g → ((i ≡ slot) × (g ≡ value)) ⊎ IsKnown vs i g
         = λ i g k. ⊎_elim (λ (t : KnowsShown w i g). knows i g t) (λ (t : IsKnown vs i g). inr t) (known_after vs id w i g k) in
         let old : (i : ℕ) (g : Gv) → i ≡ slot → IsKnown vs i g → g ≡ value
@@ -277,5 +347,9 @@ module _ (sizes : Sizes) (vs : List View) (hs : FractionsAtHome) (part : Records
           home = λ i p g z low near' k l. ⊎_elim
               (λ (s : (i ≡ slot) × (g ≡ value)). shown p z near' (subst (λ (a : ℕ). LiesAt n hs a p z) s.0 (before i p z l)) ∙ sym s.1)
               (λ (s : IsKnown vs i g). part.home i p g z low near' s (before i p z l)) (now i g k);
+          deposits = let all : (j : ℕ) (b : View) → get_elem? vs j ≡ some b → IsBank b → AllShowKnown (set vs id w) (banked b)
+              = λ j b e is. all_learn vs (set vs id w) slot value now (banked b) (banks j b e is) (part.deposits j b e is) in
+              each_set (λ b. IsBank b → AllShowKnown (set vs id w) (banked b)) (λ b. IsBank b → AllShowKnown (set vs id w) (banked b)) vs id w
+              (λ is. let o = same is in subst (AllShowKnown (set vs id w)) (sym o.1) (all id v at o.0)) (λ j u _ e. all j u e);
           apart = λ j k a b i e e' m. both_set NotSeen vs id w (λ j k a b e e' i. part.apart j k a b i e e') self others j k a b e e' i m;
         }

@@ -33,11 +33,14 @@ module _ (γ n i o : ℕ) (Is : Gv → Type 0) where
     pub else : (j : ℕ) → ((p : ℕ) → p < k → j ≢ stake_at n i p) → get_elem? (homes_after hs c act) j ≡ get_elem? hs j
     pub gone : (p : ℕ) (y : ValueFraction) → p < k → ¬ (LiesAt n (homes_after hs c act) i p y)
 
-  pub takes_row : (hs : FractionsAtHome) (c : CarriedFractions) (k : ℕ) → ((p : ℕ) → p < k → (y : ValueFraction) × LiesAt n hs i p y × Has γ i (share n o p) Is y) → Taken hs c k
+  pub takes_row : (hs : FractionsAtHome) (c : CarriedFractions) (k : ℕ) →
+      ((p : ℕ) → p < k → (y : ValueFraction) × LiesAt n hs i p y × Has γ i (share n o p) Is y) → Taken hs c k
   takes_row hs c zero there = record { act = keeps; valid = tt; row = refl; long = refl; else = λ j other. refl; gone = λ p y l. absurd (omega arith) }
   takes_row hs c (suc k) there =
-      let t = takes_row hs c k (λ p l. there p (omega arith)) in let a = there k (omega arith) in let y : ValueFraction = a.0 in let spot : ℕ = stake_at n i k in
-      let hs' : FractionsAtHome = homes_after hs c t.act in let other : (p : ℕ) → p < k → spot ≢ stake_at n i p = λ p l e. let q = one_stake n i k p e in omega arith in
+      let t = takes_row hs c k (λ p l. there p (omega arith)) in let a = there k (omega arith) in let y : ValueFraction = a.0 in
+      let spot : ℕ = stake_at n i k in
+      let hs' : FractionsAtHome = homes_after hs c t.act in
+      let other : (p : ℕ) → p < k → spot ≢ stake_at n i p = λ p l e. let q = one_stake n i k p e in omega arith in
       record {
         act = chain t.act (takes spot y);
         valid = (t.valid, t.else spot other ∙ a.1);
@@ -51,7 +54,8 @@ module _ (γ n i o : ℕ) (Is : Gv → Type 0) where
       }
 
   -- once all are, what lies at home lay there before, and in another slot
-  pub taken_lies : (hs : FractionsAtHome) (c : CarriedFractions) (t : Taken hs c (suc n)) (j p : ℕ) (y : ValueFraction) → p ≤ n → LiesAt n (homes_after hs c t.act) j p y
+  pub taken_lies : (hs : FractionsAtHome) (c : CarriedFractions) (t : Taken hs c (suc n)) (j p : ℕ) (y : ValueFraction) → p ≤ n → LiesAt n
+      (homes_after hs c t.act) j p y
       → (j ≢ i) × LiesAt n hs j p y
   taken_lies hs c t j p y near lies = dite (ℕ_discrete j i)
       (λ e. absurd (t.gone p y (omega arith) (subst (λ (k : ℕ). LiesAt n (homes_after hs c t.act) k p y) e lies)))
@@ -68,7 +72,8 @@ module _ (γ n i o : ℕ) (Is : Gv → Type 0) where
     pub home : (p : ℕ) (y : ValueFraction) → p < k → LiesAt n (homes_after hs xs act) i p y → Has γ i (share n o p) Is y
     pub else : (j : ℕ) → ((p : ℕ) → p < k → j ≢ stake_at n i p) → get_elem? (homes_after hs xs act) j ≡ get_elem? hs j
 
-  pub gives_row : (m : ℕ) → i < m → (k : ℕ) → k ≤ suc n → (hs : FractionsAtHome) (rest xs : CarriedFractions) → length hs ≡ homes_for n m → CarriesFirst γ i n o Is rest k xs
+  pub gives_row : (m : ℕ) → i < m → (k : ℕ) → k ≤ suc n → (hs : FractionsAtHome) (rest xs : CarriedFractions) → length hs ≡ homes_for n m → CarriesFirst γ i n
+      o Is rest k xs
       → Given hs rest xs k
   gives_row m low zero near hs rest xs deep row = record {
     act = keeps;
@@ -91,7 +96,8 @@ module _ (γ n i o : ℕ) (Is : Gv → Type 0) where
         valid = (tt, g.valid);
         carried = g.carried;
         long = g.long ∙ length-set hs x.0 (some x.1);
-        there = λ p l. dite (ℕ_discrete p k) (λ e. subst (λ (p : ℕ). (y : ValueFraction) × LiesAt n (homes_after hs' xs g.act) i p y) (sym e) (g.stay spot (x.1, put)))
+        there = λ p l. dite (ℕ_discrete p k) (λ e. subst (λ (p : ℕ). (y : ValueFraction) × LiesAt n (homes_after hs' xs g.act) i p y) (sym e)
+            (g.stay spot (x.1, put)))
             (λ ne. g.there p (omega arith));
         stay = λ j y. g.stay j (stays hs j x.0 x.1 within y);
         home = λ p y l at. dite (ℕ_discrete p k)

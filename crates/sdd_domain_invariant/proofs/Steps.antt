@@ -1,5 +1,5 @@
 -- The steps that take stakes from home or give them, and the other steps on slots
-use Rattle.std.proofs.Common.{◌≡◌, ◌≢◌, ◌⊎◌, inl, inr, ℕ, suc, ◌+◌, ◌-◌, ◌<◌, ◌≤◌, Bool, eqb, List, [], ◌∷◌, length, get_or, set, sym, refl, ap, ◌∙◌, subst, ⊎_elim, arith, get_or-set_same}
+use Rattle.std.proofs.Common.{◌≡◌, ◌≢◌, ◌⊎◌, inl, inr, ℕ, suc, ◌+◌, ◌-◌, ◌^◌, ◌<◌, ◌≤◌, Bool, true, false, eqb, List, [], ◌∷◌, length, get_or, map, set, sym, refl, ap, ◌∙◌, subst, ⊎_elim, arith, length-set, get_or-set_same}
 use mathlib.Core.Option.{none, some}
 use mathlib.Core.Logic.{dite}
 use native.Mathlib.Decide.{ℕ_discrete, dec_lt}
@@ -8,29 +8,29 @@ use lib.ListN.{get_elem?}
 use lib.Seq.{set-get_or}
 use prog.Atomic.{either}
 use base.Stored.{Gv}
-use Rattle.std.proofs.lemmas.List.{get_or_past}
 use Rattle.atomic_table.specs.Table.{State, keeps, takes, Allows, carried_after, homes_after}
-use Rattle.atomic_table.proofs.Lists.{at_map, exchanged, set_again, set_else}
-use Rattle.sdd_shared_values.specs.SharedValues.{IsValueCode, IsNoValueCode, lot}
+use Rattle.atomic_table.proofs.Lists.{at_map, exchanged, set_again, set_else, set_here}
+use Rattle.sdd_shared_values.specs.SharedValues.{IsNoValueCode, lot}
 use Rattle.sdd_shared_values.specs.declared.value_fraction.ValueFraction.{ValueFraction}
 use Rattle.sdd_views.specs.declared.ShownValue.{ShownValue}
 use Rattle.sdd_views.specs.declared.EndedView.{EndedView}
 use Rattle.sdd_views.specs.declared.FractionsView.{FractionsView}
 use Rattle.sdd_views.specs.declared.WaitingItem.{WaitingItem}
+use Rattle.sdd_views.specs.declared.Deposit.{Deposit}
 use Rattle.sdd_views.specs.declared.View.{View}
 use Rattle.sdd_views.specs.declared.Sizes.{Sizes}
-use Rattle.sdd_word_invariant.specs.Words.{slot_word, state_word}
-use Rattle.sdd_word_invariant.specs.Codes.{codes, alive, waiting, full, free_word, owned_word, waiting_word}
+use Rattle.sdd_word_invariant.specs.Words.{slot_word, state_word, words_behind}
+use Rattle.sdd_word_invariant.specs.Codes.{codes, alive, waiting, full, counted as kind_of, shared_base, held_word, shared_word, free_word, waiting_word}
 use Rattle.sdd_word_invariant.specs.Epoch.{HasPlace, IsOpen, Scans, IsLone}
 use Rattle.sdd_word_invariant.specs.EpochSteps.{Steps}
 use Rattle.sdd_word_invariant.specs.Sums.{total, times, is as is_at}
-use Rattle.sdd_word_invariant.specs.Slots.{slot_at, owners_at, items_at, OwnsAlone, Sees, Holds}
-use Rattle.sdd_word_invariant.specs.SlotSteps.{others as tail, without, retired, given_back, discarded, seeing, AtSlot, Claims, Retires, GivesBack, LooksAtSlot, TakesHold, LetsGo, Discards, LooksForGuard, ClosesAll, IsDue}
+use Rattle.sdd_word_invariant.specs.Slots.{slot_at, owners_at, items_at, Owns, Sees, Holds}
+use Rattle.sdd_word_invariant.specs.SlotSteps.{others as tail, behind, noted, Knew, without, retired, one_less, given_back, held, held_by, shared_again, looked_past, release_hold, discarded, seeing, AtSlot, Claims, Retires, Releases, LeavesBeside, GivesBack, LooksAtSlot, TakesHold, LetsGo, TriesHold, SharesAgain, Discards, LooksForGuard, ClosesAll, IsDue}
 use Rattle.sdd_word_invariant.specs.WordInvariant.{epoch_of}
 use Rattle.sdd_word_invariant.specs.Barred.{IsNobodys, IsBarred, AreBarred, AreQuiet, past, past_quiet, Bars, LooksForValue}
 use Rattle.sdd_word_invariant.proofs.Barred.{Spares, one_spared, Hushes, one_hushed}
 use Rattle.sdd_word_invariant.proofs.Barred as barring
-use Rattle.sdd_word_invariant.proofs.Codes.{sound, free_is, owned_is, raw_is, waiting_is}
+use Rattle.sdd_word_invariant.proofs.Codes.{sound, free_is, raw_is, waiting_is, shared, counted_is, none_left, some_left, one_left, only_held}
 use Rattle.sdd_word_invariant.proofs.EpochSteps as over
 use Rattle.sdd_word_invariant.proofs.SlotSteps as steps
 use Rattle.sdd_word_invariant.proofs.Owning.{item_gone, item_kept}
@@ -39,7 +39,8 @@ use Rattle.sdd_word_invariant.proofs.Holding as holding
 use Rattle.sdd_word_invariant.proofs.Lift.{blind, blind_units}
 use Rattle.sdd_word_invariant.specs.WordInvariant.{Parts}
 use Rattle.sdd_word_invariant.proofs.Lone.{finds}
-use Rattle.sdd_word_invariant.proofs.SlotWords.{owner_in, owners_in}
+use Rattle.sdd_word_invariant.proofs.Epoch.{at_length}
+use Rattle.sdd_word_invariant.proofs.SlotWords.{owner_in, owners_in, alone_is, held_is}
 use Rattle.sdd_shared_values.specs.ValueFractions.{FractionContent}
 use Rattle.sdd_shared_values.specs.Deposits.{units_at}
 use Rattle.sdd_shared_values.specs.Bank.{Leaves, Comes, Deal, AllowsDeal}
@@ -49,9 +50,12 @@ use Rattle.sdd_word_invariant.proofs.Waits.{waits_once}
 use Rattle.sdd_witness.specs.Steps.{AllowsAlone, AllowsBeside}
 use Rattle.sdd_domain_invariant.specs.FractionsAtHome.{CarriedFractions, stake_at, share, spare, away, full_at, Has, MatchesSlotWord, Moves, SeesFrom, NoneOut, FractionIsTaken, LiesAt}
 use Rattle.sdd_domain_invariant.specs.DomainInvariant.{DomainInvariant}
-use Rattle.sdd_domain_invariant.specs.BankInvariant.{drawn_at, moves_at, banked, IsBank, outside}
-use Rattle.sdd_domain_invariant.specs.FractionSteps.{SeatState, CarriesAll, IsValue, CarriesSeen, moving, making, giving, dropping, resting, telling, drawing, undrawing, untold, remembering, forgetting, sighting, unsighted, IsNewest, ClaimsAll, FillsSlot, EntersUnit, TakesOut, TakesHeld, IsDeposit, RetiresOne, GivesAll, DiscardsAll, SeesOwned, LearnsOwned, ClosesHome, OfSlot}
-use Rattle.sdd_domain_invariant.specs.Records.{IsIn, KnowsShown, IsKnown, IsTelling}
+use Rattle.sdd_domain_invariant.specs.BankInvariant.{drawn_at, moves_at, banked, IsBank, outside, one_where, deposited}
+use Rattle.sdd_domain_invariant.specs.FractionSteps.{SeatState, CarriesAll, IsValue, CarriesSeen, moving, making, giving, dropping, resting, telling, drawing, undrawing, untold, remembering, forgetting, sighting, unsighted, IsNewest, ClaimsAll, FillsSlot, EntersUnit, TakesOut, TakesHeld, IsDeposit, RetiresOne, GivesAll, DiscardsAll, SeesOwned, LearnsOwned, ClosesHome, OfSlot, ReleasesOne, LeavesOne}
+use Rattle.sdd_domain_invariant.specs.KindsInvariant.{written}
+use Rattle.sdd_domain_invariant.proofs.KindSteps.{written_now, KeepsPost, same_post}
+use Rattle.sdd_domain_invariant.proofs.KindSteps as kind_steps
+use Rattle.sdd_domain_invariant.specs.Records.{IsIn, KnowsShown, IsKnown, IsTelling, AllShowKnown}
 use Rattle.sdd_domain_invariant.specs.Counts.{ended_places}
 use Rattle.sdd_domain_invariant.specs.FilledInvariant.{newest, HasRecord, Tells, FilledInvariant}
 use Rattle.sdd_domain_invariant.specs.LastFractions.{ShowOnly, LastsInvariant}
@@ -61,14 +65,14 @@ use Rattle.sdd_domain_invariant.proofs.Banks.{moves_none, moves_one, moves_other
 use Rattle.sdd_domain_invariant.proofs.Banks as banks
 use Rattle.sdd_domain_invariant.proofs.Places.{one_slot, one_stake}
 use Rattle.sdd_domain_invariant.proofs.Counts.{ended_spared, as_full, one_full, counted, uncounted, uncounted_alone}
-use Rattle.sdd_domain_invariant.proofs.Records.{in_either, in_none, in_both, in_others, known_by, told_seen}
+use Rattle.sdd_domain_invariant.proofs.Records.{in_either, in_none, in_both, in_others, known_by, told_seen, comes_show, leaves_show}
 use Rattle.sdd_domain_invariant.proofs.Records as records
 use Rattle.sdd_domain_invariant.proofs.Fillings.{newest_before, TellsNoMore, has_none, has_either, has_old, told_by, tells_old, filled_after, filled_same, filled_housed}
-use Rattle.sdd_domain_invariant.proofs.Lasts.{none_shown, shown_leaves, shown_comes, shown_joins, raws_before, raws_same, raws_other, not_raw, raws_set, lasts_kept, lasts_fewer, lasts_given, lasts_dealt, one_bank}
+use Rattle.sdd_domain_invariant.proofs.Lasts.{none_shown, shown_leaves, shown_comes, raws_before, raws_same, raws_other, not_raw, raws_set, lasts_kept, lasts_fewer, lasts_given, lasts_dealt, one_bank}
 use Rattle.sdd_domain_invariant.proofs.Rows.{Taken, Given, takes_row, gives_row, gives_purse, taken_lies, given_lies}
 use Rattle.sdd_domain_invariant.proofs.Telling.{one_moved, none_moved, one_view, owns_it, claimed_tells, moving_tells, held_tells, retired_tells, housed_tells, rested_tells, none_owns, none_waits, unknown_owned, unknown_waiting, comes_home}
 use Rattle.sdd_domain_invariant.proofs.Tops.{rest_is, share_one}
-use Rattle.sdd_domain_invariant.proofs.Lift.{Keeps, Follows, IsCalm, keeps_ended, lift_homes, lift_calm, stands, stands_by, stands_dealt}
+use Rattle.sdd_domain_invariant.proofs.Lift.{Keeps, Follows, IsCalm, keeps_ended, lift_whole, lift_homes, lift_calm_whole, lift_calm, slots_before, stands, stands_by, stands_dealt}
 
 pub full_owned : (x : ℕ) → 0 < alive x → full x ≡ 1
 full_owned x h = (sound.lives x h).1
@@ -85,7 +89,7 @@ module _ (γ : ℕ) (sizes : Sizes) (s : State ValueFraction View) (h : DomainIn
   pub still_free : (j : ℕ) (u : View) → get_elem? s.views j ≡ some u → alive (slot_at sizes s.words i) ≡ 0
       → waiting (slot_at sizes s.words i) ≡ 0 → ¬ (Moves u i)
   still_free j u e dead quiet m = ⊎_elim
-      (λ (o : OwnsAlone u i). let g = ((h.kept.parts.slots.each j u e).alone i o).0 in absurd (omega arith))
+      (λ (o : Owns u i). let g = owner_in codes sound sizes s.words s.views h.kept.parts.slots j i u e in absurd (omega arith))
       (λ (o : 0 < items_at i u). let t = total_has (items_at i) s.views j u e in let w = h.kept.parts.slots.waited i in absurd (omega arith))
       (h.homes.moving j u e i m).1
 
@@ -93,7 +97,7 @@ module _ (γ : ℕ) (sizes : Sizes) (s : State ValueFraction View) (h : DomainIn
   pub still_owned : (id j : ℕ) (v u : View) → get_elem? s.views id ≡ some v → get_elem? s.views j ≡ some u → id ≢ j → 0 < owners_at i v → ¬ (Moves u i)
   still_owned id j v u at e ne own m = let mine = owner_in codes sound sizes s.words s.views h.kept.parts.slots id i v at in
       let l = (sound.lives (slot_at sizes s.words i) (omega arith)).0 in ⊎_elim
-      (λ (o : OwnsAlone u i). let g = ((h.kept.parts.slots.each j u e).alone i o).0 in
+      (λ (o : Owns u i). let g = (h.kinds.each j u e).sole i m o in
       let both = owners_in codes sound sizes s.words s.views h.kept.parts.slots id j i v u ne at e in absurd (omega arith))
       (λ (o : 0 < items_at i u). let t = total_has (items_at i) s.views j u e in let w = h.kept.parts.slots.waited i in absurd (omega arith))
       (h.homes.moving j u e i m).1
@@ -101,8 +105,8 @@ module _ (γ : ℕ) (sizes : Sizes) (s : State ValueFraction View) (h : DomainIn
   still_waiting : (id j : ℕ) (v u : View) → get_elem? s.views id ≡ some v → get_elem? s.views j ≡ some u → id ≢ j → 0 < items_at i v → ¬ (Moves u i)
   still_waiting id j v u at e ne waits m = let t = total_has (items_at i) s.views id v at in let w = h.kept.parts.slots.waited i in
       let one = (sound.waits (slot_at sizes s.words i) (omega arith)).0 in ⊎_elim
-      (λ (o : OwnsAlone u i). let g = ((h.kept.parts.slots.each j u e).alone i o).0 in let l = (sound.lives (slot_at sizes s.words i) (omega arith)).0 in
-      absurd (omega arith))
+      (λ (o : Owns u i). let g = owner_in codes sound sizes s.words s.views h.kept.parts.slots j i u e in
+      let l = (sound.lives (slot_at sizes s.words i) (omega arith)).0 in absurd (omega arith))
       (λ (o : 0 < items_at i u). let both = total_two (items_at i) s.views id j v u ne at e in absurd (omega arith))
       (h.homes.moving j u e i m).1
 
@@ -113,7 +117,8 @@ own_place γ sizes id v live y s h at p low e was = let f = h.kept.parts.epoch.e
     let is = f.state live in let few = f.states in absurd (omega arith)
 
 -- a lone participant is the only one of its domain
-pub one_place : (γ : ℕ) (sizes : Sizes) (s : State ValueFraction View) → DomainInvariant γ sizes s → (id : ℕ) (v : View) → get_elem? s.views id ≡ some v → IsLone v.epoch
+pub one_place : (γ : ℕ) (sizes : Sizes) (s : State ValueFraction View) → DomainInvariant γ sizes s → (id : ℕ) (v : View) → get_elem? s.views id ≡ some v →
+    IsLone v.epoch
     → sizes.participants ≡ 1
 one_place γ sizes s h id v at one = let f = h.kept.parts.epoch.each id v.epoch (at_map epoch_of s.views id v at) in sym (f.all (λ z. omega arith)) ∙ one
 
@@ -141,6 +146,17 @@ module _ (slots id : ℕ) (me : SeatState) (live : HasPlace me.0.epoch) where
     pub filled_by : (w : View) → w.stakes.filled ≡ v.stakes.filled → TellsNoMore w s.views → FilledInvariant sizes (set s.views id w)
     filled_by w same tells = filled_after sizes s.views h.filled id v at w same tells (λ _ _. inl live)
 
+    -- what it has of counts and pledges stays
+    pub post : (w : View) → w.pledges ≡ v.pledges → w.slots.over ≡ v.slots.over → w.sizes ≡ v.sizes → (HasPlace v.epoch → HasPlace w.epoch) → KeepsPost v w
+    post w pledges over of lives = let near = (h.kept.parts.epoch.each id v.epoch (at_map epoch_of s.views id v at)).inside live in record {
+      pledges = pledges;
+      over = over;
+      sizes = of;
+      place = inl lives;
+      records = λ none. absurd (omega arith);
+      holds = λ none. absurd (omega arith);
+    }
+
     pub still_filled : (w : View) → w.stakes.filled ≡ v.stakes.filled → w.stakes.owns ≡ v.stakes.owns → w.stakes.waits ≡ v.stakes.waits
         → FilledInvariant sizes (set s.views id w)
     still_filled w same owns waits = filled_same sizes s.views h.filled id v at w same owns waits (λ _. live)
@@ -151,7 +167,8 @@ module _ (slots id : ℕ) (me : SeatState) (live : HasPlace me.0.epoch) where
     tells_old_by w owns waits = tells_old sizes s.views h.filled id v at w (told_by w v owns waits)
 
   -- what it has out but for the stakes that it may take is out still: what its guards see
-  still_seen : (w : View) → v.stakes.moves ≡ None → w.slots.sees ≡ v.slots.sees → w.epoch.place ≡ v.epoch.place → (j p : ℕ) → FractionIsTaken v j p → FractionIsTaken w j p
+  still_seen : (w : View) → v.stakes.moves ≡ None → w.slots.sees ≡ v.slots.sees → w.epoch.place ≡ v.epoch.place → (j p : ℕ) → FractionIsTaken v j p →
+      FractionIsTaken w j p
   still_seen w rests sees place j p out = let o = only_seen v rests j p out in
       inr (subst (λ (l : List ℕ). 0 < times j l) (sym sees) o.0, place ∙ o.1)
 
@@ -162,7 +179,7 @@ module _ (slots id : ℕ) (me : SeatState) (live : HasPlace me.0.epoch) where
       (λ (o : SeesFrom v j p). inr (subst (λ (l : List ℕ). 0 < times j l) (sym sees) o.0, place ∙ o.1)) out
 
   module _ (slot : ℕ) (inside : slot < sizes.slots) where
-    abbrev i : ℕ
+    abbrev pub i : ℕ
     i = slot_word sizes slot
 
     -- the word tells which slot it is
@@ -180,9 +197,8 @@ module _ (slots id : ℕ) (me : SeatState) (live : HasPlace me.0.epoch) where
     pub spares : (f : ℕ → ℕ) (then : ℕ → View → Type 0) → ((r : ℕ) (w : View) → then r w → w.places ≡ v.places) → Keeps γ sizes slots id me i f then
     spares f then places = keeps_ended γ sizes slots id me i f then places (λ s h at p low e was. absurd (omega arith)) (inl live)
 
-    claim_keeps : Keeps γ sizes slots id me i (λ x. either (eqb x (free_word 0)) (owned_word 0) x)
-        (AtSlot (λ slot. Claims slot (free_word 0) (owned_word 0)) i v)
-    claim_keeps = spares (λ x. either (eqb x (free_word 0)) (owned_word 0) x) (AtSlot (λ slot. Claims slot (free_word 0) (owned_word 0)) i v)
+    claim_keeps : (y : ℕ) → Keeps γ sizes slots id me i (λ x. either (eqb x (free_word 0)) y x) (AtSlot (λ slot. Claims slot (free_word 0) y) i v)
+    claim_keeps y = spares (λ x. either (eqb x (free_word 0)) y x) (AtSlot (λ slot. Claims slot (free_word 0) y) i v)
         (λ r w t. let c = t slot refl in dite (ℕ_discrete r (free_word 0)) (λ e. ap (λ (u : View). u.places) (c.0 e))
         (λ ne. ap (λ (u : View). u.places) (c.1 ne)))
 
@@ -204,11 +220,18 @@ module _ (slots id : ℕ) (me : SeatState) (live : HasPlace me.0.epoch) where
           let has = subst (λ (k : ℕ). Has γ slot (share n k p) (MatchesSlotWord (full_at sizes s.words slot)) b.0) elsewhere
           (h.homes.home slot p b.0 inside (omega arith) b.1) in (b.0, b.1, (has.0, shown p b.0 (omega arith) b.1 has.1)))
 
+      -- it has as many words once it wrote one
+      pub wrote_long : get_elem? s.views id ≡ some v → (y : ℕ) → length (noted slot y v) ≡ words_behind sizes
+      wrote_long at y = length-set v.words (behind v.sizes slot) y ∙ (h.kinds.each id v at).long
+
       -- no place ends by a step on a slot
       pub over_slot : (y : ℕ) → ended_places s.words n ≤ ended_places (set s.words i y) n
       over_slot y = ended_spared sizes s.words i y (λ p low e was. absurd (omega arith)) n (omega arith)
 
       -- a load leaves the words
+      pub same_slots : (j : ℕ) → slot_at sizes (set s.words i (get_or s.words i 0)) j ≡ slot_at sizes s.words j
+      same_slots j = ap (λ (l : List ℕ). slot_at sizes l j) (set-get_or s.words i 0)
+
       pub same_words : (j : ℕ) → full_at sizes (set s.words i (get_or s.words i 0)) j ≡ full_at sizes s.words j
       same_words j = ap (λ (l : List ℕ). full_at sizes l j) (set-get_or s.words i 0)
 
@@ -227,51 +250,54 @@ module _ (slots id : ℕ) (me : SeatState) (live : HasPlace me.0.epoch) where
         (λ a b e e'. e ∙ sym e') (set s.words i (free_word 0)) w (moved_unbanked s h at mine) (λ b. (sym bank ∙ b, same)) (λ k _. ap (newest k) filled)
         (λ _. live) (not_raw sizes s.words slot (free_word 0) (within s h) (λ e. absurd (omega arith))) (raws_other sizes s.words slot (free_word 0))
 
-    -- claim a free slot
-    pub claims : v.stakes.moves ≡ None → May i (λ x. either (eqb x (free_word 0)) (owned_word 0) x)
-        (OfSlot (λ slot. ClaimsAll slot (free_word 0) (owned_word 0)) i me)
-    claims rests = let told : ℕ → SeatState → Type 0 = OfSlot (λ slot. ClaimsAll slot (free_word 0) (owned_word 0)) i me in
-        let step = steps.claims id v live slot 0 inside (omega arith) in
-        lift_homes γ sizes slots id me i (λ x. either (eqb x (free_word 0)) (owned_word 0) x)
-        (AtSlot (λ slot. Claims slot (free_word 0) (owned_word 0)) i v) told claim_keeps step
+    -- claim a free slot, by a word with one owner, counted or not
+    pub claims : (y : ℕ) → alive y ≡ 1 → v.stakes.moves ≡ None → May i (λ x. either (eqb x (free_word 0)) y x)
+        (OfSlot (λ slot. ClaimsAll slot (free_word 0) y) i me)
+    claims y owns_one rests = let told : ℕ → SeatState → Type 0 = OfSlot (λ slot. ClaimsAll slot (free_word 0) y) i me in let free = free_is 0 (omega arith) in
+        let step = steps.claims id v live slot (free_word 0) y inside free.0 free.1 owns_one in
+        lift_homes γ sizes slots id me i (λ x. either (eqb x (free_word 0)) y x) (AtSlot (λ slot. Claims slot (free_word 0) y) i v) told (claim_keeps y) step
         (λ s w h at t. let x : ℕ = get_or s.words i 0 in let c = t slot refl in
-        exchanged x (free_word 0) (owned_word 0) (λ y. Follows γ sizes id i me told s y w)
-        (λ hit. let free = free_is 0 (omega arith) in let dead : alive x ≡ 0 = ap alive hit ∙ free.0 in let quiet : waiting x ≡ 0 = ap waiting hit ∙ free.1 in
+        exchanged x (free_word 0) y (λ z. Follows γ sizes id i me told s z w)
+        (λ hit. let dead : alive x ≡ 0 = ap alive hit ∙ free.0 in let quiet : waiting x ≡ 0 = ap waiting hit ∙ free.1 in
         let empty : full x ≡ 0 = ap full hit ∙ free.2 in
         let tk = all_taken s h 0 (ap (away n) empty) IsNoValueCode (λ p y _ _ sh. sh.1 empty) (λ j u e. (
           owning.fresh codes sound sizes s.words s.views h.kept.parts.slots id v at slot empty j u e,
           still_free γ sizes s h slot j u e dead quiet,
-        )) in let now : View = making slot (owned_word 0) v in
-        subst (Follows γ sizes id i me told s (owned_word 0)) (sym (c.0 hit)) record {
+        )) in let now : View = making slot y v in
+        let nobody : (j : ℕ) (u : View) → get_elem? s.views j ≡ some u → ¬ (Owns u slot)
+        = λ j u e o. let a = owner_in codes sound sizes s.words s.views h.kept.parts.slots j slot u e in omega arith in
+        subst (Follows γ sizes id i me told s y) (sym (c.0 hit)) record {
           stakes = now.stakes;
           act = tk.act;
           valid = tk.valid;
-          homes = part.takes γ sizes s.words s.views s.homes h.homes id v at slot 0 IsNoValueCode me.1 tk (set s.words i (owned_word 0)) now refl
-              (λ j p _. still_seen now rests refl refl j p) (others s.words (owned_word 0))
+          homes = part.takes γ sizes s.words s.views s.homes h.homes id v at slot 0 IsNoValueCode me.1 tk (set s.words i y) now refl
+              (λ j p _. still_seen now rests refl refl j p) (others s.words y)
               (λ j m. let e : j ≡ slot = one_moved now slot j refl m in let one = is_same slot slot refl in
               (live, inl (subst (λ (k : ℕ). 0 < times k (slot ∷ v.slots.owns)) (sym e) (omega arith))));
-          records = records.comes_to_move sizes s.views s.homes h.records id v at slot now (homes_after s.homes me.1 tk.act)
+          records = records.comes_to_move sizes s.views s.homes h.records id v at slot now (λ is. h.records.deposits id v at is)
+              (homes_after s.homes me.1 tk.act)
               (claimed_tells v (h.records.each id v at) slot rests
-              (λ o. let a = ((h.kept.parts.slots.each id v at).alone slot o).0 in omega arith)
-              (λ o. let a = total_has (items_at slot) s.views id v at in let sum = h.kept.parts.slots.waited slot in omega arith) (owned_word 0))
+              (nobody id v at)
+              (λ o. let a = total_has (items_at slot) s.views id v at in let sum = h.kept.parts.slots.waited slot in omega arith) y)
               (records.mine sizes s.views s.homes h.records id v at)
               (λ j p y _ near l. (taken_lies γ n slot 0 IsNoValueCode s.homes me.1 tk j p y near l).1) refl (λ j m. one_moved now slot j refl m)
               (owning.fresh codes sound sizes s.words s.views h.kept.parts.slots id v at slot empty);
-          counts = counted sizes s.words s.views h.counts id v at (set s.words i (owned_word 0)) now
-              (let f = one_full sizes s.words slot (owned_word 0) inside h.kept.parts.slots.long in
-              let y = full_owned (owned_word 0) (let q = (owned_is 0 (omega arith)).0 in omega arith) in omega arith)
-              (let o = over_slot s h (owned_word 0) in omega arith) (λ none. absurd (omega arith));
+          counts = counted sizes s.words s.views h.counts id v at (set s.words i y) now
+              (let f = one_full sizes s.words slot y inside h.kept.parts.slots.long in let filled = full_owned y (omega arith) in omega arith)
+              (let o = over_slot s h y in omega arith) (λ none. absurd (omega arith));
           filled = still_filled s h at now refl refl refl;
-          bank = banks.moves_over γ sizes s.words s.views h.bank id v at (set s.words i (owned_word 0)) now slot
+          bank = banks.moves_over γ sizes s.words s.views h.bank id v at (set s.words i y) now slot
               record { bank = refl; founds = refl; book = refl; banked = refl; drawn = refl } (λ k. let l = h.bank.low id v at k in omega arith)
               (outside_free sizes s.words s.views slot empty)
-              (banks.moving_outside γ sizes s.words s.views h.bank id v at (set s.words i (owned_word 0)) now slot refl)
-              (λ k ne. moves_other k now slot refl ne ∙ sym (moves_rest k v rests)) (others s.words (owned_word 0));
-          lasts = lasts_fewer sizes s.words s.views s.homes h.lasts id v at (set s.words i (owned_word 0)) now (homes_after s.homes me.1 tk.act)
+              (banks.moving_outside γ sizes s.words s.views h.bank id v at (set s.words i y) now slot refl)
+              (λ k ne. moves_other k now slot refl ne ∙ sym (moves_rest k v rests)) (others s.words y);
+          lasts = lasts_fewer sizes s.words s.views s.homes h.lasts id v at (set s.words i y) now (homes_after s.homes me.1 tk.act)
               (λ j p y near l. (taken_lies γ n slot 0 IsNoValueCode s.homes me.1 tk j p y near l).1) (λ b. (b, refl)) refl (λ _ _. inl live)
-              (raws_set sizes s.words slot (owned_word 0) (within s h) (λ e. absurd (omega arith)));
-          tells = at_once (λ slot. ClaimsAll slot (free_word 0) (owned_word 0)) x (now, carried_after me.1 tk.act)
-              ((λ _. (refl, tk.row)), (λ no. absurd (no hit)), c.2);
+              (raws_set sizes s.words slot y (within s h) (λ e. let dead = ap alive e ∙ (raw_is 0 (omega arith)).0 in absurd (omega arith)));
+          kinds = kind_steps.claims sizes s.words s.views h.kinds h.records.each id v at slot y refl inside owns_one (here s.words y (within s h)) nobody
+              (post s h at now refl refl refl (λ l. l));
+          tells = at_once (λ slot. ClaimsAll slot (free_word 0) y) x (now, carried_after me.1 tk.act)
+              ((λ _. (refl, tk.row, written_now v slot y inside (h.kinds.each id v at).long)), (λ no. absurd (no hit)), c.2);
         })
         (λ miss. subst (Follows γ sizes id i me told s x) (sym (c.1 miss)) record {
           stakes = v.stakes;
@@ -287,23 +313,28 @@ module _ (slots id : ℕ) (me : SeatState) (live : HasPlace me.0.epoch) where
               (λ j _. same_words s h j);
           lasts = lasts_fewer sizes s.words s.views s.homes h.lasts id v at (set s.words i x) v s.homes (λ _ _ _ _ l. l) (λ b. (b, refl)) refl
               (λ _ _. inl live) (raws_same sizes s.words i);
-          tells = at_once (λ slot. ClaimsAll slot (free_word 0) (owned_word 0)) x me ((λ hit. absurd (miss hit)), (λ _. refl), c.2);
+          kinds = kind_steps.calm sizes s.words s.views h.kinds h.records.each id v at (set s.words i x) v (same_slots s h)
+              (refl, refl, refl, (λ _. refl), refl) refl refl (λ _ o. o) (post s h at v refl refl refl (λ l. l));
+          tells = at_once (λ slot. ClaimsAll slot (free_word 0) y) x me ((λ hit. absurd (miss hit)), (λ _. refl), c.2);
         }))
 
     -- deals with the bank
     module _ (bd : ℕ) where
-      abbrev pub MayDeal : (List FractionContent → FractionContent → List FractionContent → Type 0) → (FractionContent → Type 0) → (FractionContent → SeatState → Type 0) → Type 0
+      abbrev pub MayDeal : (List FractionContent → FractionContent → List FractionContent → Type 0) → (FractionContent → Type 0) →
+          (FractionContent → SeatState → Type 0) → Type 0
       MayDeal Goes = AllowsDeal (DomainInvariant γ sizes) Goes IsBank banked slots id me bd
 
       -- a value was moved in, and what its owner doesn't keep of it goes to the bank
-      pub houses : Moves v slot → OwnsAlone v slot → (shared : Bool) (value : Gv) (rest : CarriedFractions)
+      pub houses : Moves v slot → Owns v slot → (shared : Bool) → (¬ (Holds v slot) → kind_of (written v slot) ≡ one_where shared) → (value : Gv)
+          (rest : CarriedFractions)
           → CarriesAll γ slot n (spare n) (IsValue value) rest me.1 → (l : FractionContent) → l ≡ lot γ slot l.round value (spare n - 1)
           → MayDeal Comes (λ k. k ≡ l) (λ _. FillsSlot slot shared value me)
-      houses mine own shared value rest row l is s b h _ at there bank ne = let w : View = resting (telling slot shared value (drawing slot v)) in
+      houses mine own shared kind value rest row l is s b h _ at there bank ne = let w : View = resting (telling slot shared value (drawing slot v)) in
+          let shows : l.shown ≡ value = ap (λ (k : FractionContent). k.shown) is in
           let r : ShownValue = record { slot = slot; shared = shared; value = value } in let unknown = unknown_owned γ sizes s h slot id v at mine own in
           let few = h.homes.few in
           let g = gives_row γ n slot (spare n) (IsValue value) sizes.slots inside (suc n) (omega arith) s.homes rest me.1 h.homes.deep row in
-          let one = ((h.kept.parts.slots.each id v at).alone slot own).0 in let filled = full_owned (slot_at sizes s.words slot) (omega arith) in
+          let one = (h.kinds.each id v at).sole slot mine own in let filled = full_owned (slot_at sizes s.words slot) (omega arith) in
           let tells = housed_tells v (h.records.each id v at) slot mine inside own (none_waits γ sizes s h slot id v at own id v at) shared value in
           let known = records.mine sizes s.views s.homes h.records id v at in let number = ap (λ (k : FractionContent). k.number) is in
           let units = ap (λ (k : FractionContent). k.units) is in
@@ -315,7 +346,25 @@ module _ (slots id : ℕ) (me : SeatState) (live : HasPlace me.0.epoch) where
           let was = banks.moved_outside γ sizes s.words s.views h.bank id v at slot mine in
           let alone = total_only (moves_at slot) s.views id v at (λ j u apart e. moves_none slot u (still j u e (λ same. apart (sym same)))) in
           let now : outside sizes s.words vs' slot ≡ spare n = outside_there sizes s.words vs' slot (λ none. omega arith)
-          (let t = banks.total_dealt γ sizes s.words s.views h.bank id v at bd b there bank ne (moves_at slot) w ls refl in omega arith) in record {
+          (let t = banks.total_dealt γ sizes s.words s.views h.bank id v at bd b there bank ne (moves_at slot) w ls refl in omega arith) in
+          let came = records.comes_to_know sizes s.views s.homes h.records id v at slot value w (λ is. (is, refl))
+          (λ j u e is. let balance = h.bank.banks j u e is in
+          (γ, balance.deposits, (let sum = balance.sums slot inside in omega arith))) (homes_after s.homes me.1 g.act)
+          record { owns = tells.owns; owned = tells.owned; sees = tells.sees; waits = tells.waits; waiting = tells.waiting; inside = tells.inside } unknown
+          (λ i g k. known_by w i g
+          (λ a. ⊎_elim (λ (e : (slot ≡ i) × (value ≡ g)). inl (sym e.0, sym e.1))
+          (λ (b : IsIn v.stakes.owns i g). inr (known i g (inl b))) (in_either r v.stakes.owns i g a))
+          (λ a. inr (known i g (inr (inl a)))) (λ a. inr (known i g (inr (inr a)))) k)
+          (λ j p y _ near lies. ⊎_elim (λ (b : (j ≡ slot) × Has γ slot (share n (spare n) p) (IsValue value) y). inl (b.0, b.1.1.1))
+          (λ (b : (j ≢ slot) × LiesAt n s.homes j p y). inr b)
+          (given_lies γ n slot (spare n) (IsValue value) s.homes rest me.1 g j p y near lies))
+          (λ j. none_moved w j refl) (λ j a. a) in
+          let vs : List View = set s.views id w in
+          let mine_now : IsKnown vs slot value = (id, w, set_here s.views id w (at_length s.views id v at), inl (0, r, refl, refl, refl)) in
+          let shown = comes_show vs (banked b) l (banked (with_deposits ls b))
+          (subst (Comes (banked b) l) (sym (banked_then γ ls b (h.bank.banks bd b there bank).book brought.deposits)) brought.comes)
+          (λ g' k. shows ∙ came.agree slot value g' mine_now (subst (λ (j : ℕ). IsKnown vs j g') number k))
+          (came.deposits bd b (set_else s.views id bd w (λ e. ne (sym e)) ∙ there) bank) in record {
             view = w;
             bank = with_deposits ls b;
             lot = l;
@@ -327,16 +376,7 @@ module _ (slots id : ℕ) (me : SeatState) (live : HasPlace me.0.epoch) where
                 (part.gives γ sizes s.words s.views s.homes h.homes id v at slot (spare n) (IsValue value) rest me.1 g s.words w
                 (ap (away n) filled)
                 (λ g so. (λ _. so.0, λ e. absurd (omega arith))) (seen_but w slot mine refl refl) (λ j _ _. refl) (none_out w refl))
-                (records.comes_to_know sizes s.views s.homes h.records id v at slot value w (homes_after s.homes me.1 g.act)
-                record { owns = tells.owns; owned = tells.owned; sees = tells.sees; waits = tells.waits; waiting = tells.waiting; inside = tells.inside } unknown
-                (λ i g k. known_by w i g
-                (λ a. ⊎_elim (λ (e : (slot ≡ i) × (value ≡ g)). inl (sym e.0, sym e.1))
-                (λ (b : IsIn v.stakes.owns i g). inr (known i g (inl b))) (in_either r v.stakes.owns i g a))
-                (λ a. inr (known i g (inr (inl a)))) (λ a. inr (known i g (inr (inr a)))) k)
-                (λ j p y _ near lies. ⊎_elim (λ (b : (j ≡ slot) × Has γ slot (share n (spare n) p) (IsValue value) y). inl (b.0, b.1.1.1))
-                (λ (b : (j ≢ slot) × LiesAt n s.homes j p y). inr b)
-                (given_lies γ n slot (spare n) (IsValue value) s.homes rest me.1 g j p y near lies))
-                (λ j. none_moved w j refl) (λ j a. a))
+                came
                 (uncounted_alone sizes s.words s.views h.counts id v at w refl refl)
                 (filled_housed sizes s.views h.filled id v at s.words h.kept.parts.epoch live r
                 (λ x t e. unknown x.value (
@@ -345,7 +385,9 @@ module _ (slots id : ℕ) (me : SeatState) (live : HasPlace me.0.epoch) where
                   t.2,
                   ⊎_elim (λ (a : HasRecord t.1.stakes.owns x). inl (a.0, x, a.1, sym e, refl))
                       (λ (a : HasRecord t.1.stakes.waits x). inr (inr (a.0, x, a.1, sym e, refl))) t.3,
-                )) w refl refl refl) bd b there ne ls
+                )) w refl refl refl)
+                (kind_steps.houses sizes s.words s.views h.kinds h.records.each id v at slot shared value mine own kind
+                (post s h at w refl refl refl (λ l. l))) bd b there ne ls shown
                 (banks.deals γ sizes s.words s.views h.bank id v at bd b there bank ne w ls brought.deposits refl refl
                 (λ k. dite (ℕ_discrete k slot)
                 (λ e. let o = is_same k slot (sym e) in let none = banks.none_drawn γ sizes s.words s.views h.bank id v at slot inside mine in
@@ -376,19 +418,24 @@ module _ (slots id : ℕ) (me : SeatState) (live : HasPlace me.0.epoch) where
           }
 
       -- where nobody sees a slot, and its value may be moved out by this one alone, all stakes in it are taken, and the bank's deposit of it, as none is drawn
-      moves_out : (s : State ValueFraction View) (b : View) (h : DomainInvariant γ sizes s) → get_elem? s.views id ≡ some v → get_elem? s.views bd ≡ some b → IsBank b
+      moves_out : (s : State ValueFraction View) (b : View) (h : DomainInvariant γ sizes s) → get_elem? s.views id ≡ some v → get_elem? s.views bd ≡ some b →
+          IsBank b
           → ¬ (id ≡ bd) → v.stakes.moves ≡ None → full_at sizes s.words slot ≡ 1 → total (drawn_at slot) s.views ≡ 0 → (Is : Gv → Type 0)
           → ((p : ℕ) (y : ValueFraction) → p ≤ n → LiesAt n s.homes slot p y → MatchesSlotWord (full_at sizes s.words slot) y.lot.shown → Is y.lot.shown)
-          → OwnsAlone v slot ⊎ (0 < items_at slot v)
+          → Owns v slot ⊎ (0 < items_at slot v) → (Owns v slot → Holds v slot × (alive (slot_at sizes s.words slot) ≡ 1))
           → ((j : ℕ) (u : View) → get_elem? s.views j ≡ some u → ¬ (Sees u slot))
           → ((j : ℕ) (u : View) → get_elem? s.views j ≡ some u → id ≢ j → ¬ (Moves u slot))
           → (t : FractionsView) → t.counts ≡ v.stakes.counts → t.moves ≡ Some slot → t.bank ≡ v.stakes.bank → t.founds ≡ v.stakes.founds
+          → t.banked ≡ v.stakes.banked → t.book ≡ v.stakes.book
           → IsTelling sizes.slots (record v { stakes = t })
           → ((j : ℕ) (g : Gv) → KnowsShown (record v { stakes = t }) j g → KnowsShown v j g)
-          → t.filled ≡ v.stakes.filled → TellsNoMore (record v { stakes = t }) s.views → (Then : FractionContent → SeatState → Type 0)
-          → ((l : FractionContent) (xs : CarriedFractions) → IsDeposit slot me l → CarriesAll γ slot n (spare n) Is me.1 xs → Then l (record v { stakes = t }, xs))
+          → t.filled ≡ v.stakes.filled → TellsNoMore (record v { stakes = t }) s.views → ((r : ShownValue) → HasRecord t.owns r → HasRecord v.stakes.owns r) →
+          (Then : FractionContent → SeatState → Type 0)
+          → ((l : FractionContent) (xs : CarriedFractions) → IsDeposit slot me l → CarriesAll γ slot n (spare n) Is me.1 xs → Then l
+          (record v { stakes = t }, xs))
           → Deal (DomainInvariant γ sizes) Leaves IsBank banked s b id me bd (λ _. Unit {0}) Then
-      moves_out s b h at there bank ne rests filled undrawn Is shown may unseen still t same is bank_is founds_is tells known kept no_more Then told =
+      moves_out s b h at there bank ne rests filled undrawn Is shown may held unseen still t same is bank_is founds_is banked_is book_is tells known kept
+          no_more fewer Then told =
           let w : View = record v { stakes = t } in
           let tk = all_taken s h (spare n) (ap (away n) filled) Is shown (λ j u e. (
             unseen j u e,
@@ -401,12 +448,22 @@ module _ (slots id : ℕ) (me : SeatState) (live : HasPlace me.0.epoch) where
           (λ one. ap (moves_at slot) (one_view s.views id j u v e at (sym one)) ∙ moves_rest slot v rests)
           (λ apart. moves_none slot u (still j u e apart))) in
           let was = outside_there sizes s.words s.views slot (λ empty. omega arith) nobody in
-          let d = draws_all γ slot (banked b) deposits (omega arith) in let l : FractionContent = d.0 in let ls : List FractionContent = d.1 in let goes = d.3 in
+          let d = draws_all γ slot (banked b) deposits (omega arith) in let l : FractionContent = d.0 in let ls : List FractionContent = d.1 in
+          let goes = d.3 in
           let whole : l.units ≡ spare n = (let e = d.2 in omega arith) in
           let vs' : List View = set (set s.views id w) bd (with_deposits ls b) in
           let now : outside sizes s.words vs' slot ≡ 0 = outside_moved sizes s.words vs' slot
           (let m = banks.total_dealt γ sizes s.words s.views h.bank id v at bd b there bank ne (moves_at slot) w ls refl in
-          let one = moves_one slot w is in let z = moves_rest slot v rests in omega arith) in record {
+          let one = moves_one slot w is in let z = moves_rest slot v rests in omega arith) in
+          let came = records.comes_to_move sizes s.views s.homes h.records id v at slot w
+          (λ mine. subst (λ (ds : List Deposit). AllShowKnown s.views (map (deposited t.book) ds)) (sym banked_is)
+          (subst (λ (k : ℕ). AllShowKnown s.views (map (deposited k) v.stakes.banked)) (sym book_is) (h.records.deposits id v at (sym bank_is ∙ mine))))
+          (homes_after s.homes me.1 tk.act) tells
+          (λ j g k. records.mine sizes s.views s.homes h.records id v at j g (known j g k))
+          (λ j p y _ near l. (taken_lies γ n slot (spare n) Is s.homes me.1 tk j p y near l).1) refl (λ j m. one_moved w slot j is m) unseen in
+          let vs : List View = set s.views id w in
+          let left = leaves_show vs (banked b) l ls goes.goes (came.deposits bd b (set_else s.views id bd w (λ e. ne (sym e)) ∙ there) bank) in
+          let shown = subst (AllShowKnown vs) (sym (banked_then γ ls b balance.book goes.deposits)) left.1 in record {
             view = w;
             bank = with_deposits ls b;
             lot = l;
@@ -418,12 +475,12 @@ module _ (slots id : ℕ) (me : SeatState) (live : HasPlace me.0.epoch) where
                 (part.takes γ sizes s.words s.views s.homes h.homes id v at slot (spare n) Is me.1 tk s.words w is
                 (λ j p _. still_seen w rests refl refl j p) (λ j _ _. refl)
                 (λ j m. let e : slot ≡ j = sym (one_moved w slot j is m) in
-                (live, subst (λ (k : ℕ). OwnsAlone v k ⊎ (0 < items_at k v)) e may)))
-                (records.comes_to_move sizes s.views s.homes h.records id v at slot w (homes_after s.homes me.1 tk.act) tells
-                (λ j g k. records.mine sizes s.views s.homes h.records id v at j g (known j g k))
-                (λ j p y _ near l. (taken_lies γ n slot (spare n) Is s.homes me.1 tk j p y near l).1) refl (λ j m. one_moved w slot j is m) unseen)
+                (live, subst (λ (k : ℕ). Owns v k ⊎ (0 < items_at k v)) e may)))
+                came
                 (uncounted_alone sizes s.words s.views h.counts id v at w same refl)
-                (filled_by s h at w kept no_more) bd b there ne ls
+                (filled_by s h at w kept no_more)
+                (kind_steps.comes_to_move sizes s.words s.views h.kinds h.records.each id v at slot t is fewer held (post s h at w refl refl refl (λ l. l))) bd
+                b there ne ls shown
                 (banks.deals γ sizes s.words s.views h.bank id v at bd b there bank ne w ls goes.deposits bank_is founds_is (h.bank.low id v at)
                 (λ k near. dite (ℕ_discrete k slot)
                 (λ e. let less = goes.less in let x = ap (λ (y : ℕ). units_at y ls) e in let y = ap (λ (y : ℕ). units_at y (banked b)) e in
@@ -446,30 +503,25 @@ module _ (slots id : ℕ) (me : SeatState) (live : HasPlace me.0.epoch) where
                 (λ i. record l { book = goes.book i; number = goes.number i; units = whole i; lent = goes.free i }) tk.row;
           }
 
-      -- of a slot that it owns, and of which a unit is drawn, the bank has some units
-      owned_banked : (s : State ValueFraction View) → DomainInvariant γ sizes s → get_elem? s.views id ≡ some v → OwnsAlone v slot → 0 < drawn_at slot v
-          → (k : ℕ) (b : View) → get_elem? s.views k ≡ some b → IsBank b → 0 < units_at slot (banked b)
-      owned_banked s h at own some_drawn k b there bank = let one = ((h.kept.parts.slots.each id v at).alone slot own).0 in
-          let nobody = total_zero (moves_at slot) s.views (λ j u e. moves_none slot u (dite (ℕ_discrete id j)
-          (λ same m. let z = banks.none_drawn γ sizes s.words s.views h.bank id v at slot inside
-          (subst (λ (x : View). Moves x slot) (one_view s.views id j u v e at (sym same)) m) in absurd (omega arith))
-          (λ apart. still_owned γ sizes s h slot id j v u at e apart (omega arith)))) in
-          let filled = full_owned (slot_at sizes s.words slot) (omega arith) in
-          let was = outside_there sizes s.words s.views slot (λ empty. omega arith) nobody in
-          let low = total_below (drawn_at slot) (owners_at slot) s.views (λ j u e. h.bank.low j u e slot) in
-          let owned = h.kept.parts.slots.owned slot in let sum = (h.bank.banks k b there bank).sums slot inside in let few = h.homes.few in omega arith
-
-      -- an owner's unit goes to the bank
-      pub enters_unit : OwnsAlone v slot → (others : List ℕ) → v.slots.drawn ≡ slot ∷ others → (l : FractionContent) → l ≡ lot γ slot l.round l.shown 1
-          → MayDeal Comes (λ k. k ≡ l) (λ _. EntersUnit me)
-      enters_unit own more drawn l is s b h _ at there bank ne = let w : View = undrawing v in
+      -- an owner's unit goes to the bank, which shows what the owner tells
+      pub enters_unit : (others : List ℕ) → v.slots.drawn ≡ slot ∷ others → (l : FractionContent) → l ≡ lot γ slot l.round l.shown 1
+          → IsIn v.stakes.owns slot l.shown → MayDeal Comes (λ k. k ≡ l) (λ _. EntersUnit me)
+      enters_unit more drawn l is shows s b h _ at there bank ne = let w : View = undrawing v in
           let number = ap (λ (k : FractionContent). k.number) is in let units = ap (λ (k : FractionContent). k.units) is in
           let d = brings γ (banked b) l (banks.has_deposits γ sizes s.words s.views h.bank id v at bd b there bank ne) (ap (λ (k : FractionContent). k.book) is)
           (ap (λ (k : FractionContent). k.lent) is) (omega arith) in let ls : List FractionContent = d.0 in let brought = d.1 in
           let told = h.records.each id v at in let mine = records.mine sizes s.views s.homes h.records id v at in
           let vs' : List View = set (set s.views id w) bd (with_deposits ls b) in
           let less : (k : ℕ) → drawn_at k w + is_at k slot ≡ drawn_at k v
-          = λ k. let a = ap (times k) drawn in let c = ap (λ (xs : List ℕ). times k (tail xs)) drawn in omega arith in record {
+          = λ k. let a = ap (times k) drawn in let c = ap (λ (xs : List ℕ). times k (tail xs)) drawn in omega arith in
+          let came = records.no_more sizes s.views s.homes h.records id v at w (λ is. h.records.deposits id v at is) s.homes
+          record { owns = told.owns; owned = told.owned; sees = told.sees; waits = told.waits; waiting = told.waiting; inside = told.inside }
+          mine (λ j p y _ _ l. inl l) (λ j m. m) (λ j a. a) in
+          let vs : List View = set s.views id w in
+          let shown = comes_show vs (banked b) l (banked (with_deposits ls b))
+          (subst (Comes (banked b) l) (sym (banked_then γ ls b (h.bank.banks bd b there bank).book brought.deposits)) brought.comes)
+          (λ g k. came.agree slot l.shown g (id, w, set_here s.views id w (at_length s.views id v at), inl shows) (subst (λ (j : ℕ). IsKnown vs j g) number k))
+          (came.deposits bd b (set_else s.views id bd w (λ e. ne (sym e)) ∙ there) bank) in record {
             view = w;
             bank = with_deposits ls b;
             lot = l;
@@ -479,10 +531,10 @@ module _ (slots id : ℕ) (me : SeatState) (live : HasPlace me.0.epoch) where
                 (blind_units sizes s.words s.views id v v at (subst (Parts sizes s.words) (sym (set_again s.views id v at)) h.kept.parts) w.stakes
                 w.slots.drawn) s.homes
                 (part.calm γ sizes s.words s.views s.homes h.homes id v at s.words w (λ j p out. out) (λ j _. refl) (h.homes.moving id v at))
-                (records.no_more sizes s.views s.homes h.records id v at w s.homes
-                record { owns = told.owns; owned = told.owned; sees = told.sees; waits = told.waits; waiting = told.waiting; inside = told.inside }
-                mine (λ j p y _ _ l. inl l) (λ j m. m) (λ j a. a))
-                (uncounted_alone sizes s.words s.views h.counts id v at w refl refl) (still_filled s h at w refl refl refl) bd b there ne ls
+                came
+                (uncounted_alone sizes s.words s.views h.counts id v at w refl refl) (still_filled s h at w refl refl refl)
+                (kind_steps.same sizes s.words s.views h.kinds h.records.each id v at w refl refl refl refl refl refl s.words (λ j. refl)
+                (post s h at w refl refl refl (λ l. l))) bd b there ne ls shown
                 (banks.deals γ sizes s.words s.views h.bank id v at bd b there bank ne w ls brought.deposits refl refl
                 (λ k. let low = h.bank.low id v at k in let e = less k in omega arith)
                 (λ k near. let u = outside_same sizes s.words s.words s.views vs' k refl
@@ -495,11 +547,10 @@ module _ (slots id : ℕ) (me : SeatState) (live : HasPlace me.0.epoch) where
                 (lasts_fewer sizes s.words s.views s.homes h.lasts id v at s.words w s.homes (λ _ _ _ _ l. l) (λ b. (b, refl)) refl (λ _ _. inl live)
                 (λ _ _ raw. raw))
                 γ bd b (set_else s.views id bd w (λ e. ne (sym e)) ∙ there) bank ls (h.bank.banks bd b there bank).book brought.deposits
-                (λ k z low last show. dite (ℕ_discrete k slot)
-                (λ e. shown_joins k z.lot.shown γ (banked b) l ls brought.deposits (number ∙ sym e)
-                (let has = owned_banked s h at own (let c = ap (times slot) drawn in let o = is_same slot slot refl in omega arith) bd b there bank in
-                let c = ap (λ (x : ℕ). units_at x (banked b)) e in omega arith) brought.comes show)
-                (λ apart. shown_comes k z.lot.shown (banked b) l ls brought.comes show (λ e. absurd (apart (sym e ∙ number))))));
+                (λ k z low last show. shown_comes k z.lot.shown (banked b) l ls brought.comes show
+                (λ e. let same : slot ≡ k = sym number ∙ e in sym (subst (λ (x : ℕ). z.lot.shown ≡ l.shown) same
+                (h.records.home k n l.shown z low (omega arith) (subst (λ (x : ℕ). IsKnown s.views x l.shown) same
+                (mine slot l.shown (inl shows))) last)))));
             ours = bank;
             goes = subst (Comes (banked b) l) (sym (banked_then γ ls b (h.bank.banks bd b there bank).book brought.deposits)) brought.comes;
             offered = refl;
@@ -507,7 +558,8 @@ module _ (slots id : ℕ) (me : SeatState) (live : HasPlace me.0.epoch) where
           }
 
     -- what is remembered of an item that waits with a lone participant it moved in last
-    remembered_filled : (s : State ValueFraction View) → DomainInvariant γ sizes s → get_elem? s.views id ≡ some v → (value : Gv) → IsIn v.stakes.waits slot value
+    remembered_filled : (s : State ValueFraction View) → DomainInvariant γ sizes s → get_elem? s.views id ≡ some v → (value : Gv) → IsIn v.stakes.waits slot
+        value
         → IsLone v.epoch → (shared : Bool) × IsNewest slot shared value v
     remembered_filled s h at value there lone = let r : ShownValue = there.1 in let one = one_place γ sizes s h id v at lone in (
       r.shared,
@@ -532,12 +584,13 @@ module _ (slots id : ℕ) (me : SeatState) (live : HasPlace me.0.epoch) where
         let w : View = moving slot (forgetting slot v) in
         moves_out bd s b h at held bank ne rests filled undrawn (IsValue value)
         (λ q y near lies sh. (sh.0 filled, h.records.home slot q value y inside near known lies)) (inr waits)
+        (λ o. absurd (none_owns γ sizes s h slot id v at waits id v at o))
         (λ j u e sees. owning.unseen codes sound sizes s.words s.views p.slots id v at p.epoch k item due.2 due.4 j u e (subst (Sees u) (sym due.3) sees))
         (λ j u e ne. still_waiting γ sizes s h slot id j v u at e ne waits)
-        w.stakes refl refl refl refl
+        w.stakes refl refl refl refl refl refl
         (moving_tells v tells slot rests (none_owns γ sizes s h slot id v at waits id v at))
         (λ j g. known_by w j g (λ a. inl a) (λ a. inr (inl a)) (λ a. inr (inr (in_others slot v.stakes.waits j g a).1))) refl
-        (tells_old_by s h at w (λ r a. inl a) (λ r a. inr (has_old slot v.stakes.waits r a)))
+        (tells_old_by s h at w (λ r a. inl a) (λ r a. inr (has_old slot v.stakes.waits r a))) (λ r a. a)
         (λ l me'. TakesOut slot me me' × IsDeposit slot me l)
         (λ l xs is row. (
           record { value = value; view = refl; stakes = row; remembered = there.1; filled = remembered_filled s h at value there.1 },
@@ -579,6 +632,10 @@ module _ (slots id : ℕ) (me : SeatState) (live : HasPlace me.0.epoch) where
               (outside_free sizes (set s.words i y) (set s.views id (giving now)) slot (ap full (here s.words y (within s h)) ∙ empty))
               (λ k ne. sym (moves_other k v slot mine ne)) (others s.words y);
           lasts = goes_home s h at mine rest g (giving now) refl refl refl;
+          kinds = let waits : 0 < items_at slot v = (let once = c.1 in omega arith) in
+              kind_steps.frees sizes s.words s.views h.kinds h.records.each id v at slot y (giving now) inside mine (wrote_long s h at y) refl refl (λ _ _ o. o)
+              (here s.words y (within s h)) (λ j u _ e. none_owns γ sizes s h slot id v at waits j u e) (free_is 0 (omega arith)).0
+              (post s h at (giving now) refl refl refl (λ l. l));
           tells = at_once GivesAll y (giving now, carried_after me.1 g.act)
               (now, (refl, c.1), refl, g.carried ∙ sym (rest_is γ slot n 0 IsNoValueCode rest (suc n) me.1 row));
         })
@@ -587,7 +644,7 @@ module _ (slots id : ℕ) (me : SeatState) (live : HasPlace me.0.epoch) where
     pub takes_held : (bd : ℕ) → v.stakes.moves ≡ None → v.slots.owns ≡ slot ∷ [] → v.slots.drawn ≡ [] → Holds v slot → n ≤ v.slots.looked
         → MayDeal bd Leaves (λ _. Unit {0}) (λ l me'. TakesHeld slot me me' × IsDeposit slot me l)
     takes_held bd rests owns empty held all s b h _ at banks_at bank ne = let p = h.kept.parts in let tells = h.records.each id v at in
-        let own = owns_it v slot owns in let one = ((p.slots.each id v at).alone slot own).0 in
+        let own = owns_it v slot owns in let one = held_is codes sound sizes s.words s.views p.slots id slot v at held in
         let filled = full_owned (slot_at sizes s.words slot) (omega arith) in let w : View = moving slot (untold v) in
         let undrawn : total (drawn_at slot) s.views ≡ 0 = total_zero (drawn_at slot) s.views (λ j u e. dite (ℕ_discrete id j)
         (λ same. ap (drawn_at slot) (one_view s.views id j u v e at (sym same)) ∙ ap (times slot) empty)
@@ -596,12 +653,12 @@ module _ (slots id : ℕ) (me : SeatState) (live : HasPlace me.0.epoch) where
         let there = tells.owned slot own (none_moved v slot rests) in let value : Gv = there.0 in
         let known = records.mine sizes s.views s.homes h.records id v at slot value (inl there.1) in
         moves_out bd s b h at banks_at bank ne rests filled undrawn (IsValue value)
-        (λ q y near lies sh. (sh.0 filled, h.records.home slot q value y inside near known lies)) (inl own)
+        (λ q y near lies sh. (sh.0 filled, h.records.home slot q value y inside near known lies)) (inl own) (λ _. (held, one))
         (holding.unseen_held codes sound sizes s.words s.views p.slots id v at p.epoch slot held all)
         (λ j u e ne. still_owned γ sizes s h slot id j v u at e ne (omega arith))
-        w.stakes refl refl refl refl (held_tells v tells slot owns rests (none_waits γ sizes s h slot id v at own id v at))
+        w.stakes refl refl refl refl refl refl (held_tells v tells slot owns rests (none_waits γ sizes s h slot id v at own id v at))
         (λ j g. known_by w j g (λ a. absurd (in_none j g a)) (λ a. inr (inl a)) (λ a. inr (inr a))) refl
-        (tells_old_by s h at w (λ r a. absurd (has_none r [] refl a)) (λ r a. inr a))
+        (tells_old_by s h at w (λ r a. absurd (has_none r [] refl a)) (λ r a. inr a)) (λ r a. absurd (has_none r [] refl a))
         (λ l me'. TakesHeld slot me me' × IsDeposit slot me l)
         (λ l xs is row. (record { value = value; view = refl; stakes = row; told = there.1 }, is))
 
@@ -623,12 +680,12 @@ module _ (slots id : ℕ) (me : SeatState) (live : HasPlace me.0.epoch) where
               (ap (λ (x : ℕ). away n (full x)) (here s.words y (within s h)) ∙ ap (away n) empty)
               (λ g vacant. vacant_shown (full_at sizes (set s.words i y) slot) g (ap full (here s.words y (within s h)) ∙ empty) vacant)
               (seen_but (dropping now) slot mine refl refl) (others s.words y) (none_out (dropping now) refl);
-          records = let own = (h.kept.parts.slots.each id v at).held slot held in
+          records = let own = ((h.kept.parts.slots.each id v at).held slot held).0 in
               comes_home γ sizes s h slot id v at 0 IsNoValueCode rest me.1 g (unknown_owned γ sizes s h slot id v at mine own) (dropping now)
               (rested_tells v (h.records.each id v at) slot mine (dropping now) refl (λ i ne. without_other slot i ne v.slots.owns)
               (λ o. let z = without_same slot v.slots.owns in omega arith) (λ _ _. refl) (none_waits γ sizes s h slot id v at own id v at) refl)
               refl refl;
-          counts = let one = ((h.kept.parts.slots.each id v at).alone slot ((h.kept.parts.slots.each id v at).held slot held)).0 in
+          counts = let one = held_is codes sound sizes s.words s.views h.kept.parts.slots id slot v at held in
               let was = full_owned (slot_at sizes s.words slot) (omega arith) in
               counted sizes s.words s.views h.counts id v at (set s.words i y) (dropping now)
               (let f = one_full sizes s.words slot y inside h.kept.parts.slots.long in omega arith)
@@ -644,6 +701,12 @@ module _ (slots id : ℕ) (me : SeatState) (live : HasPlace me.0.epoch) where
               (outside_free sizes (set s.words i y) (set s.views id (dropping now)) slot (ap full (here s.words y (within s h)) ∙ empty))
               (λ k ne. sym (moves_other k v slot mine ne)) (others s.words y);
           lasts = goes_home s h at mine rest g (dropping now) refl refl refl;
+          kinds = let one = held_is codes sound sizes s.words s.views h.kept.parts.slots id slot v at held in
+              let own = ((h.kept.parts.slots.each id v at).held slot held).0 in
+              kind_steps.frees sizes s.words s.views h.kinds h.records.each id v at slot y (dropping now) inside mine (wrote_long s h at y) refl refl
+              (λ k ne o. absurd (ne (let c : Some slot ≡ Some k = sym held ∙ o in let e : k ≡ slot = cc in e))) (here s.words y (within s h))
+              (λ j u apart e o. let both = owners_in codes sound sizes s.words s.views h.kept.parts.slots j id slot u v apart e at in omega arith)
+              (free_is 0 (omega arith)).0 (post s h at (dropping now) refl refl refl (λ l. l));
           tells = at_once DiscardsAll y (dropping now, carried_after me.1 g.act)
               (refl, g.carried ∙ sym (rest_is γ slot n 0 IsNoValueCode rest (suc n) me.1 row));
         })
@@ -662,49 +725,197 @@ module _ (slots id : ℕ) (me : SeatState) (live : HasPlace me.0.epoch) where
           lives = λ l. l;
           had = λ _ l. inl l;
           raws = raws_same sizes s.words i;
+          kinds = kind_steps.calm sizes s.words s.views h.kinds h.records.each id v at (set s.words i (get_or s.words i 0)) v (same_slots s h)
+              (refl, refl, refl, (λ _. refl), refl) refl refl (λ _ o. o) (post s h at v refl refl refl (λ l. l));
         })
 
-    -- retire the item, whose owner's unit is in the bank
-    pub retires : v.slots.owns ≡ slot ∷ [] → ¬ (Holds v slot) → v.slots.drawn ≡ [] → v.stakes.moves ≡ None → (value : Gv) → IsIn v.stakes.owns slot value
-        → May i (λ _. waiting_word 0) (λ _. OfSlot RetiresOne i me (waiting_word 0))
+    -- what an only owner shows, which isn't counted; and one of several
+    abbrev pub owned_record : Gv → ShownValue
+    owned_record value = record { slot = slot; shared = false; value = value }
+
+    abbrev pub shared_record : Gv → ShownValue
+    shared_record value = record { slot = slot; shared = true; value = value }
+
+    module _ (s : State ValueFraction View) (h : DomainInvariant γ sizes s) (at : get_elem? s.views id ≡ some v) where
+      -- an owner that isn't counted, as its record says, is the only one
+      pub uncounted_owner : (value : Gv) → HasRecord v.stakes.owns (owned_record value) → ¬ (Holds v slot)
+          → Owns v slot × (kind_of (slot_at sizes s.words slot) ≡ 0) × (alive (slot_at sizes s.words slot) ≡ 1)
+      uncounted_owner value r free = let own = ((h.records.each id v at).owns slot value (r.0, owned_record value, r.1, refl, refl)).0 in
+          let firm = (h.kinds.each id v at).told (owned_record value) r free in
+          (own, firm, (alone_is codes sound sizes s.words s.views h.kept.parts.slots id slot v at own firm).1)
+
+      -- the last owner's item waits from now on, whose unit is in the bank
+      waits_now : (y : ℕ) (told : ℕ → SeatState → Type 0) → waiting y ≡ 1 → v.slots.owns ≡ slot ∷ [] → v.slots.drawn ≡ [] → v.stakes.moves ≡ None
+          → (value : Gv) → IsIn v.stakes.owns slot value → alive (slot_at sizes s.words slot) ≡ 1 → (w : View) → (c : Retires slot v y w)
+          → ((me' : SeatState) → RetiresOne slot me y me' → told (get_or s.words i 0) me') → Follows γ sizes id i me told s y w
+      waits_now y told is owns empty rests value told_it one w c telling_it = let own = owns_it v slot owns in let r = h.records in
+          let was = full_owned (slot_at sizes s.words slot) (omega arith) in let now : View = remembering (retired slot y c.0 v) in
+          let word : slot_at sizes (set s.words i y) slot ≡ y = here s.words y (within s h) in
+          let will = (sound.waits y (omega arith)).1 in
+          let dead : alive y ≡ 0 = dite (dec_lt 0 (alive y)) (λ l. absurd (let q = (sound.lives y l).0 in omega arith)) (λ none. omega arith) in
+          let same : (j : ℕ) → j < sizes.slots → full_at sizes (set s.words i y) j ≡ full_at sizes s.words j
+          = λ j low. dite (ℕ_discrete j slot)
+          (λ e. subst (λ (k : ℕ). full_at sizes (set s.words i y) k ≡ full_at sizes s.words k) (sym e) (ap full word ∙ (will ∙ sym was)))
+          (λ ne. others s.words y j low ne) in
+          let mine_known = records.mine sizes s.views s.homes r id v at in
+          subst (Follows γ sizes id i me told s y) (sym c.3) record {
+            stakes = now.stakes;
+            act = keeps;
+            valid = tt;
+            homes = part.calm γ sizes s.words s.views s.homes h.homes id v at (set s.words i y) now (λ j p out. out) same (none_out now rests);
+            records = records.no_more sizes s.views s.homes r id v at now (λ is. r.deposits id v at is) s.homes
+                (retired_tells v (r.each id v at) slot owns y c.0 rests value told_it)
+                (λ j g k. known_by now j g (λ a. absurd (in_none j g a)) (λ a. mine_known j g (inr (inl a)))
+                (λ a. ⊎_elim (λ (b : IsIn v.stakes.owns j g). mine_known j g (inl b)) (λ (b : IsIn v.stakes.waits j g). mine_known j g (inr (inr b)))
+                (in_both j g v.stakes.owns v.stakes.waits a)) k)
+                (λ j p z _ _ lies. inl lies) (λ j m. m) (λ j a. a);
+            counts = uncounted sizes s.words s.views h.counts id v at (set s.words i y) now refl (λ l. l)
+                (as_full sizes s.words (set s.words i y) same) (over_slot s h y);
+            filled = filled_by s h at now refl (tells_old_by s h at now (λ r a. absurd (has_none r [] refl a)) (has_either v.stakes.owns v.stakes.waits));
+            bank = banks.calm γ sizes s.words s.views h.bank id v at (set s.words i y) now
+                record { bank = refl; founds = refl; book = refl; banked = refl; drawn = refl } refl
+                (λ k. let z = ap (times k) empty in omega arith) same;
+            lasts = lasts_fewer sizes s.words s.views s.homes h.lasts id v at (set s.words i y) now s.homes (λ _ _ _ _ l. l) (λ b. (b, refl)) refl
+                (λ _ _. inl live) (raws_set sizes s.words slot y (within s h)
+                (λ e. let quiet = ap waiting e ∙ (raw_is 0 (omega arith)).1 in absurd (omega arith)));
+            kinds = kind_steps.goes sizes s.words s.views h.kinds h.records.each id v at slot y now inside (wrote_long s h at y) rests refl (λ _ o. o) word
+                (λ j u apart e. inl (λ o. let both = owners_in codes sound sizes s.words s.views h.kept.parts.slots j id slot u v apart e at in omega arith))
+                (λ c. inl (let z = dead in omega arith))
+                (post s h at now refl refl refl (λ l. l));
+            tells = telling_it (now, me.1) (retired slot y c.0 v, (c.0, c.1, c.2, refl, c.4, c.5), refl, refl);
+          }
+
+    -- retire the item of an only owner
+    pub retires : v.slots.owns ≡ slot ∷ [] → ¬ (Holds v slot) → v.slots.drawn ≡ [] → v.stakes.moves ≡ None → (value : Gv)
+        → HasRecord v.stakes.owns (owned_record value) → May i (λ _. waiting_word 0) (λ _. OfSlot RetiresOne i me (waiting_word 0))
     retires owns free empty rests value told_it = let y : ℕ = waiting_word 0 in let told : ℕ → SeatState → Type 0 = λ _. OfSlot RetiresOne i me y in
-        let own = owns_it v slot owns in
-        lift_homes γ sizes slots id me i (λ _. y) (λ _. AtSlot Retires i v y) told
+        let is = waiting_is 0 (omega arith) in
+        lift_whole γ sizes slots id me i (λ _. y) (λ _. AtSlot Retires i v y) told
         (spares (λ _. y) (λ _. AtSlot Retires i v y) (λ r w t. ap (λ (u : View). u.places) (t slot refl).3))
-        (steps.retires id v live slot 0 inside own free (omega arith))
-        (λ s w h at t. let c = t slot refl in let one = ((h.kept.parts.slots.each id v at).alone slot own).0 in let r = h.records in
-        let was = full_owned (slot_at sizes s.words slot) (omega arith) in let now : View = remembering (retired slot y c.0 v) in
-        let word : slot_at sizes (set s.words i y) slot ≡ y = here s.words y (within s h) in let is = waiting_is 0 (omega arith) in
-        let will = (sound.waits y (let q = is.1 in omega arith)).1 in
-        let same : (j : ℕ) → j < sizes.slots → full_at sizes (set s.words i y) j ≡ full_at sizes s.words j
-        = λ j low. dite (ℕ_discrete j slot)
-        (λ e. subst (λ (k : ℕ). full_at sizes (set s.words i y) k ≡ full_at sizes s.words k) (sym e) (ap full word ∙ (will ∙ sym was)))
-        (λ ne. others s.words y j low ne) in
-        let mine_known = records.mine sizes s.views s.homes r id v at in
-        subst (Follows γ sizes id i me told s y) (sym c.3) record {
-          stakes = now.stakes;
-          act = keeps;
-          valid = tt;
-          homes = part.calm γ sizes s.words s.views s.homes h.homes id v at (set s.words i y) now (λ j p out. out) same (none_out now rests);
-          records = records.no_more sizes s.views s.homes r id v at now s.homes
-              (retired_tells v (r.each id v at) slot owns y c.0 rests value told_it)
-              (λ j g k. known_by now j g (λ a. absurd (in_none j g a)) (λ a. mine_known j g (inr (inl a)))
-              (λ a. ⊎_elim (λ (b : IsIn v.stakes.owns j g). mine_known j g (inl b)) (λ (b : IsIn v.stakes.waits j g). mine_known j g (inr (inr b)))
-              (in_both j g v.stakes.owns v.stakes.waits a)) k)
-              (λ j p z _ _ lies. inl lies) (λ j m. m) (λ j a. a);
-          counts = uncounted sizes s.words s.views h.counts id v at (set s.words i y) now refl (λ l. l)
-              (as_full sizes s.words (set s.words i y) same) (over_slot s h y);
-          filled = filled_by s h at now refl (tells_old_by s h at now (λ r a. absurd (has_none r [] refl a)) (has_either v.stakes.owns v.stakes.waits));
-          bank = banks.calm γ sizes s.words s.views h.bank id v at (set s.words i y) now
-              record { bank = refl; founds = refl; book = refl; banked = refl; drawn = refl } refl
-              (λ k. let z = ap (times k) empty in omega arith) same;
-          lasts = lasts_fewer sizes s.words s.views s.homes h.lasts id v at (set s.words i y) now s.homes (λ _ _ _ _ l. l) (λ b. (b, refl)) refl
-              (λ _ _. inl live) (raws_set sizes s.words slot y (within s h) (λ e. absurd (omega arith)));
-          tells = at_once RetiresOne y (now, me.1) (retired slot y c.0 v, (c.0, c.1, c.2, refl, c.4, c.5), refl, refl);
-        })
+        (λ s h at small. let mine = uncounted_owner s h at value told_it free in
+        steps.retires id v live slot y inside mine.0 free is.0 is.1 s.words s.views h.kept.parts at mine.2)
+        (λ s w h at t. waits_now s h at y told is.1 owns empty rests value (told_it.0, owned_record value, told_it.1, refl, refl)
+        (uncounted_owner s h at value told_it free).2 w (t slot refl) (at_once RetiresOne y))
+
+    -- nothing changes
+    pub unmoved : (s : State ValueFraction View) → DomainInvariant γ sizes s → get_elem? s.views id ≡ some v → (told : ℕ → SeatState → Type 0)
+        → told (get_or s.words i 0) me → Follows γ sizes id i me told s (get_or s.words i 0) v
+    unmoved s h at told tells = let x : ℕ = get_or s.words i 0 in record {
+      stakes = v.stakes;
+      act = keeps;
+      valid = tt;
+      homes = part.calm γ sizes s.words s.views s.homes h.homes id v at (set s.words i x) v (λ j p out. out) (λ j _. same_words s h j) (h.homes.moving id v at);
+      records = records.calm sizes s.views s.homes h.records id v at v (refl, refl, refl, (λ _. refl), refl);
+      counts = uncounted sizes s.words s.views h.counts id v at (set s.words i x) v refl (λ l. l)
+          (as_full sizes s.words (set s.words i x) (λ j _. same_words s h j)) (over_slot s h x);
+      filled = still_filled s h at v refl refl refl;
+      bank = banks.alike γ sizes s.words s.views h.bank id v at (set s.words i x) v (refl, refl, refl, (λ _. refl), refl) (λ j _. same_words s h j);
+      lasts = lasts_fewer sizes s.words s.views s.homes h.lasts id v at (set s.words i x) v s.homes (λ _ _ _ _ l. l) (λ b. (b, refl)) refl
+          (λ _ _. inl live) (raws_same sizes s.words i);
+      kinds = kind_steps.calm sizes s.words s.views h.kinds h.records.each id v at (set s.words i x) v (same_slots s h)
+          (refl, refl, refl, (λ _. refl), refl) refl refl (λ _ o. o) (post s h at v refl refl refl (λ l. l));
+      tells = tells;
+    }
+
+    module _ (owns : v.slots.owns ≡ slot ∷ []) (free : ¬ (Holds v slot)) (empty : v.slots.drawn ≡ []) (rests : v.stakes.moves ≡ None) (value : Gv)
+        (told_it : HasRecord v.stakes.owns (shared_record value)) where
+      abbrev released : ℕ → SeatState → Type 0
+      released = OfSlot ReleasesOne i me
+
+      -- what the words' parts tell of the subtraction
+      abbrev lets_one : ℕ → View → Type 0
+      lets_one x w = AtSlot Releases i v x w × (x < 2 ^ 64)
+
+      module _ (s : State ValueFraction View) (h : DomainInvariant γ sizes s) (at : get_elem? s.views id ≡ some v) where
+        abbrev count_word : ℕ
+        count_word = slot_at sizes s.words slot
+
+        several : kind_of count_word ≡ 1
+        several = (h.kinds.each id v at).told (shared_record value) told_it free
+
+        -- others stay
+        others_stay : 1 < alive count_word → (tell : ℕ → SeatState → Type 0)
+            → tell (get_or s.words i 0) (untold (one_less slot (count_word - 1) v), me.1)
+            → Follows γ sizes id i me tell s (count_word - 1) (one_less slot (count_word - 1) v)
+        others_stay more tell tells = let y : ℕ = count_word - 1 in let now : View = untold (one_less slot y v) in let r = h.records in
+            let told = r.each id v at in
+            let own = owns_it v slot owns in let above = (shared count_word (counted_is count_word several)).0 in let fewer = some_left y (omega arith) in
+            let word : slot_at sizes (set s.words i y) slot ≡ y = here s.words y (within s h) in let was = full_owned count_word (omega arith) in
+            let same : (j : ℕ) → j < sizes.slots → full_at sizes (set s.words i y) j ≡ full_at sizes s.words j
+            = λ j low. dite (ℕ_discrete j slot)
+            (λ e. subst (λ (k : ℕ). full_at sizes (set s.words i y) k ≡ full_at sizes s.words k) (sym e) (ap full word ∙ (fewer.2 ∙ sym was)))
+            (λ ne. others s.words y j low ne) in
+            let mine_known = records.mine sizes s.views s.homes r id v at in record {
+              stakes = now.stakes;
+              act = keeps;
+              valid = tt;
+              homes = part.calm γ sizes s.words s.views s.homes h.homes id v at (set s.words i y) now (λ j p out. out) same (none_out now rests);
+              records = records.no_more sizes s.views s.homes r id v at now (λ is. r.deposits id v at is) s.homes
+                  record {
+                    owns = λ j g k. absurd (in_none j g k);
+                    owned = λ j o _. absurd (let e = ap (λ (l : List ℕ). times j (tail l)) owns in omega arith);
+                    sees = told.sees;
+                    waits = told.waits;
+                    waiting = told.waiting;
+                    inside = λ j g k. ⊎_elim (λ (a : IsIn [] j g). absurd (in_none j g a)) (λ b. told.inside j g (inr b)) k;
+                  }
+                  (λ j g k. known_by now j g (λ a. absurd (in_none j g a)) (λ a. mine_known j g (inr (inl a))) (λ a. mine_known j g (inr (inr a))) k)
+                  (λ j p z _ _ lies. inl lies) (λ j m. m) (λ j a. a);
+              counts = uncounted sizes s.words s.views h.counts id v at (set s.words i y) now refl (λ l. l)
+                  (as_full sizes s.words (set s.words i y) same) (over_slot s h y);
+              filled = filled_by s h at now refl (tells_old_by s h at now (λ r a. absurd (has_none r [] refl a)) (λ r a. inr a));
+              bank = banks.calm γ sizes s.words s.views h.bank id v at (set s.words i y) now
+                  record { bank = refl; founds = refl; book = refl; banked = refl; drawn = refl } refl
+                  (λ k. let z = ap (times k) empty in omega arith) same;
+              lasts = lasts_fewer sizes s.words s.views s.homes h.lasts id v at (set s.words i y) now s.homes (λ _ _ _ _ l. l) (λ b. (b, refl)) refl
+                  (λ _ _. inl live) (raws_set sizes s.words slot y (within s h)
+                  (λ e. let dead = ap alive e ∙ (raw_is 0 (omega arith)).0 in absurd (omega arith)));
+              kinds = kind_steps.goes sizes s.words s.views h.kinds h.records.each id v at slot y now inside (wrote_long s h at y) rests refl (λ _ o. o) word
+                  (λ j u apart e. inr (still_owned γ sizes s h slot id j v u at e (λ z. apart (sym z)) own, fewer.3 ∙ sym several))
+                  (λ c. inr (several, (let n = fewer.0 in omega arith))) (post s h at now refl refl refl (λ l. l));
+              tells = tells;
+            }
+
+        follows : (w : View) → lets_one count_word w → Follows γ sizes id i me released s (steps.less_one count_word) w
+        follows w t = let c = t.0 slot refl in let left = c.1 in let above = (shared count_word (counted_is count_word several)).0 in
+            let small = t.1 in let less : steps.less_one count_word ≡ count_word - 1 = omega arith in
+            subst (λ (y : ℕ). Follows γ sizes id i me released s y w) (sym less) (dite (ℕ_discrete (alive count_word) 1)
+            (λ last. let e : count_word - 1 ≡ shared_base = omega arith in
+            waits_now s h at (count_word - 1) released (ap waiting e ∙ none_left.1) owns empty rests value
+            (told_it.0, shared_record value, told_it.1, refl, refl) last w
+            (c.2 last) (λ me' r. at_once ReleasesOne count_word me' (several, left, (λ _. r), (λ more. absurd (more last)), c.4)))
+            (λ more. subst (Follows γ sizes id i me released s (count_word - 1)) (sym (c.3 more)) (others_stay (omega arith) released
+            (at_once ReleasesOne count_word (untold (one_less slot (count_word - 1) v), me.1)
+            (several, left, (λ last. absurd (more last)), (λ _. refl), c.4)))))
+
+      -- let an owner go beside others, by one exchange of the word that was found, whose unit is in the bank
+      pub leaves : (word : ℕ) → 1 < alive word → May i (λ x. either (eqb x word) (word - 1) x) (OfSlot (LeavesOne word) i me)
+      leaves word more = let f : ℕ → ℕ = λ x. either (eqb x word) (word - 1) x in let then : ℕ → View → Type 0 = AtSlot (LeavesBeside word) i v in
+          let told : ℕ → SeatState → Type 0 = OfSlot (LeavesOne word) i me in
+          lift_whole γ sizes slots id me i f then told
+          (spares f then (λ r w t. let c = t slot refl in dite (ℕ_discrete r word) (λ e. ap (λ (u : View). u.places) (c.2 e))
+          (λ ne. ap (λ (u : View). u.places) (c.3 ne))))
+          (λ s h at small. steps.leaves id v live slot word [] inside owns more s.words s.views h.kept.parts at (several s h at))
+          (λ s w h at t. let c = t slot refl in let x : ℕ = get_or s.words i 0 in
+          exchanged x word (word - 1) (λ y. Follows γ sizes id i me told s y w)
+          (λ hit. subst (λ (k : ℕ). Follows γ sizes id i me told s (k - 1) w) hit
+          (subst (Follows γ sizes id i me told s (x - 1)) (λ d. (ap (λ (k : ℕ). one_less slot (k - 1) v) hit ∙ sym (c.2 hit)) d)
+          (others_stay s h at (let a = ap alive hit in omega arith) told (at_once (LeavesOne word) x (untold (one_less slot (x - 1) v), me.1)
+          (c.0, c.1, (λ _. ap (λ (k : ℕ). (untold (one_less slot (k - 1) v), me.1)) hit), (λ miss. absurd (miss hit)), c.4)))))
+          (λ miss. subst (Follows γ sizes id i me told s x) (sym (c.3 miss)) (unmoved s h at told
+          (at_once (LeavesOne word) x me (c.0, c.1, (λ hit. absurd (miss hit)), (λ _. refl), c.4)))))
+
+      -- let an owner go that is counted, whose unit is in the bank, by one subtraction
+      pub releases : May i steps.less_one released
+      releases = lift_whole γ sizes slots id me i steps.less_one lets_one released
+          (spares steps.less_one lets_one (λ r w t. let c = t.0 slot refl in dite (ℕ_discrete (alive r) 1)
+          (λ last. ap (λ (u : View). u.places) (c.2 last).3) (λ more. ap (λ (u : View). u.places) (c.3 more))))
+          (λ s h at small. let step = steps.releases id v live slot [] inside owns free s.words s.views h.kept.parts at (several s h at) small in
+          (step.0, step.1, (step.2, small)))
+          (λ s w h at t. follows s h at w t)
 
     -- a guard comes to see it beside its owner, who knows what it shows
-    pub watches : IsOpen v.epoch → v.epoch.place < n → v.stakes.moves ≡ None → (jd : ℕ) (u : View) (shared : Bool) (value : Gv) → OwnsAlone u slot
+    pub watches : IsOpen v.epoch → v.epoch.place < n → v.stakes.moves ≡ None → (jd : ℕ) (u : View) (shared : Bool) (value : Gv) → Owns u slot
         → ¬ (Holds u slot) → get_elem? u.stakes.owns 0 ≡ some (record { slot = slot; shared = shared; value = value })
         → AllowsBeside (DomainInvariant γ sizes) slots id me jd u (SeesOwned slot shared value me)
     watches is_open near rests jd u shared value own free first s h _ at there = let p = h.kept.parts in let r = h.records in
@@ -721,14 +932,16 @@ module _ (slots id : ℕ) (me : SeatState) (live : HasPlace me.0.epoch) where
               (records.calm sizes s.views s.homes r id v at v (refl, refl, refl, (λ _. refl), refl)) (still_filled s h at v refl refl refl)
               (banks.alike γ sizes s.words s.views h.bank id v at s.words v (refl, refl, refl, (λ _. refl), refl) (λ _ _. refl))
               (lasts_fewer sizes s.words s.views s.homes h.lasts id v at s.words v s.homes (λ _ _ _ _ l. l) (λ b. (b, refl)) refl (λ _ _. inl live)
-              (λ _ _ is. is)),
+              (λ _ _ is. is))
+              (kind_steps.same sizes s.words s.views h.kinds h.records.each id v at v refl refl refl refl refl refl s.words (λ j. refl)
+              (post s h at v refl refl refl (λ l. l))),
           (
             (λ _. (refl, subst (IsIn v.stakes.sees slot) (r.agree slot is.0 value (mine slot is.0 (inr (inl is.1))) known) is.1)),
             (λ unseen. absurd (unseen sees)),
           ),
         ))
         (λ unseen. let q : ℕ = v.epoch.place in let now : View = sighting slot shared value v in let one = is_same slot slot refl in
-        let alone = ((p.slots.each jd u there).alone slot own).0 in let filled = full_owned (slot_at sizes s.words slot) (omega arith) in
+        let owned = owner_in codes sound sizes s.words s.views p.slots jd slot u there in let filled = full_owned (slot_at sizes s.words slot) (omega arith) in
         let owners : 0 < owners_at slot u = (let o = own in omega arith) in
         let still : (j : ℕ) (x : View) → get_elem? s.views j ≡ some x → ¬ (Moves x slot)
         = λ j x e m. dite (ℕ_discrete jd j)
@@ -753,7 +966,7 @@ module _ (slots id : ℕ) (me : SeatState) (live : HasPlace me.0.epoch) where
               (part.takes_one γ sizes s.words s.views s.homes h.homes id v at slot q (omega arith) now (inr (omega arith, refl))
               (λ j p out. let o = only_seen v rests j p out in inr (let a = o.0 in omega arith, o.1))
               (none_out now rests))
-              (records.kept sizes s.views s.homes r id v at now (set s.homes spot none)
+              (records.kept sizes s.views s.homes r id v at now (λ is. r.deposits id v at is) (set s.homes spot none)
               record {
                 owns = tells.owns;
                 owned = tells.owned;
@@ -779,15 +992,20 @@ module _ (slots id : ℕ) (me : SeatState) (live : HasPlace me.0.epoch) where
               (banks.calm γ sizes s.words s.views h.bank id v at s.words now
               record { bank = refl; founds = refl; book = refl; banked = refl; drawn = refl } refl (h.bank.low id v at) (λ _ _. refl))
               (lasts_fewer sizes s.words s.views s.homes h.lasts id v at s.words now (set s.homes spot none)
-              (λ j p z _ lies. one_taken s.homes spot (stake_at n j p) z lies) (λ b. (b, refl)) refl (λ _ _. inl live) (λ _ _ is. is)),
+              (λ j p z _ lies. one_taken s.homes spot (stake_at n j p) z lies) (λ b. (b, refl)) refl (λ _ _. inl live) (λ _ _ is. is))
+              (kind_steps.same sizes s.words s.views h.kinds h.records.each id v at now refl refl refl refl refl refl s.words (λ j. refl)
+              (post s h at now refl refl refl (λ l. l))),
           ((λ sees. absurd (unseen sees)), (λ _. (y, it, refl))),
         ))
 
     -- hold a slot, and let go of it
-    pub takes_hold : OwnsAlone v slot → v.slots.holds ≡ None → May i (λ x. x) (λ r me'. (me'.1 ≡ me.1) × AtSlot TakesHold i v r me'.0)
-    takes_hold own free = lift_calm γ sizes slots id me i (λ x. x) (AtSlot TakesHold i v) (λ r me'. (me'.1 ≡ me.1) × AtSlot TakesHold i v r me'.0)
+    pub takes_hold : (value : Gv) → HasRecord v.stakes.owns (owned_record value) → v.slots.holds ≡ None
+        → May i (λ x. x) (λ r me'. (me'.1 ≡ me.1) × AtSlot TakesHold i v r me'.0)
+    takes_hold value told_it free = lift_calm_whole γ sizes slots id me i (λ x. x) (AtSlot TakesHold i v)
+        (λ r me'. (me'.1 ≡ me.1) × AtSlot TakesHold i v r me'.0)
         (spares (λ x. x) (AtSlot TakesHold i v) (λ r w t. ap (λ (u : View). u.places) (t slot refl).0))
-        (steps.takes_hold id v live slot inside own free) (λ r w t. (refl, t))
+        (λ s h at small. let mine = uncounted_owner s h at value told_it (λ e. let c : None ≡ Some slot = sym free ∙ e in cc) in
+        steps.takes_hold id v live slot inside mine.0 free s.words s.views h.kept.parts at mine.1) (λ r w t. (refl, t))
         (λ s w h at t. subst (IsCalm γ sizes slots id me i (λ x. x) s (get_or s.words i 0)) (sym (t slot refl).0)
         record {
           more = λ j p out. out;
@@ -798,10 +1016,15 @@ module _ (slots id : ℕ) (me : SeatState) (live : HasPlace me.0.epoch) where
           lives = λ l. l;
           had = λ _ l. inl l;
           raws = raws_same sizes s.words i;
+          kinds = kind_steps.calm sizes s.words s.views h.kinds h.records.each id v at (set s.words i (get_or s.words i 0)) (held slot v) (same_slots s h)
+              (refl, refl, refl, (λ _. refl), refl) refl refl (λ k o. let c : None ≡ Some k = sym free ∙ o in cc)
+              (post s h at (held slot v) refl refl refl (λ l. l));
         })
 
-    pub lets_go : Holds v slot → May i (λ x. x) (λ r me'. (me'.1 ≡ me.1) × AtSlot LetsGo i v r me'.0)
-    lets_go held = lift_calm γ sizes slots id me i (λ x. x) (AtSlot LetsGo i v) (λ r me'. (me'.1 ≡ me.1) × AtSlot LetsGo i v r me'.0)
+    -- which it told of as an only owner's
+    pub lets_go : Holds v slot → v.stakes.moves ≡ None → ((r : ShownValue) → HasRecord v.stakes.owns r → r.slot ≡ slot → r.shared ≡ false) → May i (λ x. x)
+        (λ r me'. (me'.1 ≡ me.1) × AtSlot LetsGo i v r me'.0)
+    lets_go held rests single = lift_calm γ sizes slots id me i (λ x. x) (AtSlot LetsGo i v) (λ r me'. (me'.1 ≡ me.1) × AtSlot LetsGo i v r me'.0)
         (spares (λ x. x) (AtSlot LetsGo i v) (λ r w t. ap (λ (u : View). u.places) (t slot refl).0))
         (steps.lets_go id v live slot inside held) (λ r w t. (refl, t))
         (λ s w h at t. subst (IsCalm γ sizes slots id me i (λ x. x) s (get_or s.words i 0)) (sym (t slot refl).0)
@@ -814,23 +1037,113 @@ module _ (slots id : ℕ) (me : SeatState) (live : HasPlace me.0.epoch) where
           lives = λ l. l;
           had = λ _ l. inl l;
           raws = raws_same sizes s.words i;
+          kinds = kind_steps.stays sizes s.words s.views h.kinds h.records.each id v at (set s.words i (get_or s.words i 0)) (release_hold v) (same_slots s h)
+              record {
+                long = (h.kinds.each id v at).long;
+                sole = λ j m. absurd (none_moved v j rests m);
+                claimed = λ j m. absurd (none_moved v j rests m);
+                told = λ r a _. dite (ℕ_discrete r.slot slot)
+                    (λ e. ap (λ (k : ℕ). kind_of (slot_at sizes s.words k)) e
+                    ∙ (((h.kept.parts.slots.each id v at).held slot held).1 ∙ sym (ap one_where (single r a e))))
+                    (λ ne. (h.kinds.each id v at).told r a (λ o. ne (let c : Some slot ≡ Some r.slot = sym held ∙ o in let e : r.slot ≡ slot = cc in e)));
+              }
+              (post s h at (release_hold v) refl refl refl (λ l. l));
+        })
+
+    -- another word comes to stand there that says one owner, who has it
+    module _ (s : State ValueFraction View) (h : DomainInvariant γ sizes s) (at : get_elem? s.views id ≡ some v) (mine : Owns v slot)
+        (one : alive (slot_at sizes s.words slot) ≡ 1) (y : ℕ) (lives : alive y ≡ 1) where
+      -- the slots are as full as before
+      as_full_still : (j : ℕ) → j < sizes.slots → full_at sizes (set s.words i y) j ≡ full_at sizes s.words j
+      as_full_still j low = let was = full_owned (slot_at sizes s.words slot) (omega arith) in let is = full_owned y (omega arith) in dite (ℕ_discrete j slot)
+          (λ e. subst (λ (k : ℕ). full_at sizes (set s.words i y) k ≡ full_at sizes s.words k) (sym e)
+          (ap full (here s.words y (within s h)) ∙ (is ∙ sym was)))
+          (λ ne. others s.words y j low ne)
+
+      -- nobody else has an owner of it
+      no_other : (j : ℕ) (u : View) → j ≢ id → get_elem? s.views j ≡ some u → ¬ (Owns u slot)
+      no_other j u apart e o = let b = owners_in codes sound sizes s.words s.views h.kept.parts.slots id j slot v u (λ z. apart (sym z)) at e in
+          absurd (omega arith)
+
+    -- try to hold a slot of its own, which it told of as one of several owners'
+    pub tries_hold : (value : Gv) → HasRecord v.stakes.owns (shared_record value) → v.slots.holds ≡ None → v.stakes.moves ≡ None
+        → May i (λ x. either (eqb x (shared_word 1)) held_word x) (λ r me'. (me'.1 ≡ me.1) × AtSlot TriesHold i v r me'.0)
+    tries_hold value told_it free rests = let f : ℕ → ℕ = λ x. either (eqb x (shared_word 1)) held_word x in
+        lift_calm_whole γ sizes slots id me i f (AtSlot TriesHold i v) (λ r me'. (me'.1 ≡ me.1) × AtSlot TriesHold i v r me'.0)
+        (spares f (AtSlot TriesHold i v) (λ r w t. let c = t slot refl in dite (ℕ_discrete r (shared_word 1)) (λ e. ap (λ (u : View). u.places) (c.2 e))
+        (λ ne. ap (λ (u : View). u.places) (c.3 ne))))
+        (λ s h at small. let own = ((h.records.each id v at).owns slot value (told_it.0, shared_record value, told_it.1, refl, refl)).0 in
+        steps.tries_hold id v live slot inside own free s.words s.views h.kept.parts at
+        ((h.kinds.each id v at).told (shared_record value) told_it (λ e. let c : None ≡ Some slot = sym free ∙ e in cc)))
+        (λ r w t. (refl, t))
+        (λ s w h at t. let c = t slot refl in let x : ℕ = get_or s.words i 0 in
+        let own = ((h.records.each id v at).owns slot value (told_it.0, shared_record value, told_it.1, refl, refl)).0 in
+        exchanged x (shared_word 1) held_word (λ y. IsCalm γ sizes slots id me i f s y w)
+        (λ hit. let one : alive x ≡ 1 = ap alive hit ∙ one_left.0 in subst (IsCalm γ sizes slots id me i f s held_word) (sym (c.2 hit)) record {
+          more = λ j p out. out;
+          same = as_full_still s h at own one held_word only_held.0;
+          mover = h.homes.moving id v at;
+          alike = (refl, refl, refl, (λ _. refl), refl);
+          counts = refl;
+          lives = λ l. l;
+          had = λ _ l. inl l;
+          raws = raws_set sizes s.words slot held_word (within s h) (λ e. absurd (omega arith));
+          kinds = kind_steps.takes_hold sizes s.words s.views h.kinds h.records.each id v at slot held_word (held_by slot held_word v) inside
+              (wrote_long s h at held_word) rests refl free refl (here s.words held_word (within s h)) (no_other s h at own one held_word only_held.0)
+              only_held.2 (post s h at (held_by slot held_word v) refl refl refl (λ l. l));
+        })
+        (λ miss. subst (IsCalm γ sizes slots id me i f s x) (sym (c.3 miss)) record {
+          more = λ j p out. out;
+          same = λ j _. same_words s h j;
+          mover = h.homes.moving id v at;
+          alike = (refl, refl, refl, (λ _. refl), refl);
+          counts = refl;
+          lives = λ l. l;
+          had = λ _ l. inl l;
+          raws = raws_same sizes s.words i;
+          kinds = kind_steps.calm sizes s.words s.views h.kinds h.records.each id v at (set s.words i x) v (same_slots s h)
+              (refl, refl, refl, (λ _. refl), refl) refl refl (λ _ o. o) (post s h at v refl refl refl (λ l. l));
+        }))
+
+    -- let go of it, by a word that says of its owner what it told of it
+    pub shares_again : (y : ℕ) → alive y ≡ 1 → Holds v slot → v.stakes.moves ≡ None
+        → ((r : ShownValue) → HasRecord v.stakes.owns r → r.slot ≡ slot → kind_of y ≡ one_where r.shared)
+        → May i (λ _. y) (λ _ me'. (me'.1 ≡ me.1) × AtSlot SharesAgain i v y me'.0)
+    shares_again y is_one holds rests kind =
+        lift_calm γ sizes slots id me i (λ _. y) (λ _. AtSlot SharesAgain i v y) (λ _ me'. (me'.1 ≡ me.1) × AtSlot SharesAgain i v y me'.0)
+        (spares (λ _. y) (λ _. AtSlot SharesAgain i v y) (λ r w t. ap (λ (u : View). u.places) (t slot refl)))
+        (steps.shares_again id v live slot y inside holds is_one) (λ r w t. (refl, t))
+        (λ s w h at t. let own = ((h.kept.parts.slots.each id v at).held slot holds).0 in
+        let one = held_is codes sound sizes s.words s.views h.kept.parts.slots id slot v at holds in
+        subst (IsCalm γ sizes slots id me i (λ _. y) s y) (sym (t slot refl)) record {
+          more = λ j p out. out;
+          same = as_full_still s h at own one y is_one;
+          mover = h.homes.moving id v at;
+          alike = (refl, refl, refl, (λ _. refl), refl);
+          counts = refl;
+          lives = λ l. l;
+          had = λ _ l. inl l;
+          raws = raws_set sizes s.words slot y (within s h) (λ e. let dead = ap alive e ∙ (raw_is 0 (omega arith)).0 in absurd (omega arith));
+          kinds = kind_steps.shares_again sizes s.words s.views h.kinds h.records.each id v at slot y (shared_again slot y v) inside
+              (wrote_long s h at y) rests refl holds kind (here s.words y (within s h)) (no_other s h at own one y is_one)
+              is_one (post s h at (shared_again slot y v) refl refl refl (λ l. l));
         })
 
   -- beside a slot's owner it learns what it knows of the slot, and nothing changes
-  pub recalls : (jd : ℕ) (u : View) (slot : ℕ) (shared : Bool) (value : Gv) → OwnsAlone u slot
+  pub recalls : (jd : ℕ) (u : View) (slot : ℕ) (shared : Bool) (value : Gv) → Owns u slot → ¬ (Holds u slot)
       → get_elem? u.stakes.owns 0 ≡ some (record { slot = slot; shared = shared; value = value })
       → AllowsBeside (DomainInvariant γ sizes) slots id me jd u (LearnsOwned slot shared value me)
-  recalls jd u slot shared value own first s h _ at there = (
+  recalls jd u slot shared value own free first s h _ at there = (
     v,
     keeps,
     tt,
     subst (λ (vs : List View). DomainInvariant γ sizes record { words = s.words; homes = s.homes; views = vs }) (sym (set_again s.views id v at)) h,
     (
       refl,
-      λ lone. let one = one_place γ sizes s h id v at lone in record {
+      λ lone. let one = one_place γ sizes s h id v at lone in let is = finds sizes s.words s.views h.kept.parts.lone id v at one live slot in record {
         newest = h.filled.knows one id jd v u (record { slot = slot; shared = shared; value = value }) at live there (inl (0, first));
-        alive = ap alive (sym (finds sizes s.words s.views h.kept.parts.lone id v at one live slot))
-            ∙ ((h.kept.parts.slots.each jd u there).alone slot own).0;
+        alive = subst (λ (x : ℕ). 0 < alive x) is (let o = owner_in codes sound sizes s.words s.views h.kept.parts.slots jd slot u there in omega arith);
+        kind = sym (ap kind_of is) ∙ (h.kinds.each jd u there).told (record { slot = slot; shared = shared; value = value }) (0, first) free;
       },
     ),
   )
@@ -846,7 +1159,10 @@ module _ (slots id : ℕ) (me : SeatState) (live : HasPlace me.0.epoch) where
       (λ r w t. (refl, t))
       (λ s w h at t. let c = t place refl in let x : ℕ = get_or s.words j 0 in
       let same = λ (k : ℕ) (_ : k < sizes.slots). ap (λ (l : List ℕ). full_at sizes l k) (set-get_or s.words j 0) in
-      let calm = λ (w : View). IsCalm γ sizes slots id me j (λ x. x) s x w in dite (ℕ_discrete x 2)
+      let calm = λ (w : View). IsCalm γ sizes slots id me j (λ x. x) s x w in
+      let kinds = λ (w : View). kind_steps.calm sizes s.words s.views h.kinds h.records.each id v at (set s.words j x) w
+      (slots_before sizes s.words j x (omega arith)) in
+      dite (ℕ_discrete x 2)
       (λ e. subst calm (sym (c.1 e)) record {
         more = λ k p out. out;
         same = same;
@@ -856,6 +1172,7 @@ module _ (slots id : ℕ) (me : SeatState) (live : HasPlace me.0.epoch) where
         lives = λ l. l;
         had = λ _ l. inl l;
         raws = raws_same sizes s.words j;
+        kinds = kinds v (refl, refl, refl, (λ _. refl), refl) refl refl (λ _ o. o) (post s h at v refl refl refl (λ l. l));
       })
       (λ ne. subst calm (sym (c.0 ne)) record {
         more = λ k p out. out;
@@ -866,6 +1183,8 @@ module _ (slots id : ℕ) (me : SeatState) (live : HasPlace me.0.epoch) where
         lives = λ l. l;
         had = λ _ l. inl l;
         raws = raws_same sizes s.words j;
+        kinds = kinds (looked_past place v) (refl, refl, refl, (λ _. refl), refl) refl refl (λ _ o. o)
+            (post s h at (looked_past place v) refl refl refl (λ l. l));
       }))
 
   -- the last guard is closed, whose stakes go home
@@ -877,10 +1196,15 @@ module _ (slots id : ℕ) (me : SeatState) (live : HasPlace me.0.epoch) where
       (over.closes sizes id v is_open free near)
       (λ s w h at t. let f = h.kept.parts.slots.each id v at in let long = h.kept.parts.slots.long in
       let r = h.records in let told = r.each id v at in let mine = records.mine sizes s.views s.homes r id v at in
-      let low : (k : ℕ) → 0 < times k v.slots.sees → k < sizes.slots = λ k sees. let seen = told_seen v told k sees in told.inside k seen.0 (inr (inl seen.1)) in
+      let low : (k : ℕ) → 0 < times k v.slots.sees → k < sizes.slots = λ k sees. let seen = told_seen v told k sees in told.inside k seen.0 (inr (inl seen.1))
+      in
       let g = gives_purse γ n q sizes.slots le v.stakes.sees (λ k a. low k (subst (λ (l : List ℕ). 0 < times k l) told.sees a))
       s.homes me.1 h.homes.deep purse in
-      let now : View = record v { epoch = Rattle.sdd_word_invariant.specs.EpochSteps.closed v.epoch; slots = Rattle.sdd_word_invariant.specs.SlotSteps.unseeing v } in
+      let now : View = record v {
+        epoch = Rattle.sdd_word_invariant.specs.EpochSteps.closed v.epoch;
+        slots = Rattle.sdd_word_invariant.specs.SlotSteps.unseeing
+            v;
+      } in
       let same = λ (k : ℕ). before_slots sizes s.words j 1 k (omega arith) in
       subst (Follows γ sizes id j me (λ _. ClosesHome me 1) s 1) (sym t) record {
         stakes = record v.stakes { sees = [] };
@@ -888,7 +1212,7 @@ module _ (slots id : ℕ) (me : SeatState) (live : HasPlace me.0.epoch) where
         valid = g.valid;
         homes = part.closes γ sizes s.words s.views s.homes h.homes id v at q le near me.1 g (set s.words j 1) (unsighted now) told.sees refl
             rests (λ k sees. same k ∙ f.full k sees) (λ k _. same k) (none_out (unsighted now) rests);
-        records = records.no_more sizes s.views s.homes r id v at (unsighted now) (homes_after s.homes me.1 g.act)
+        records = records.no_more sizes s.views s.homes r id v at (unsighted now) (λ is. r.deposits id v at is) (homes_after s.homes me.1 g.act)
             record {
               owns = told.owns;
               owned = told.owned;
@@ -919,6 +1243,8 @@ module _ (slots id : ℕ) (me : SeatState) (live : HasPlace me.0.epoch) where
             inr ((λ e. absurd (omega arith)), λ z last. d.4.1.1 ∙ sym (r.home k n d.1 z low' (omega arith) known last)))
             (λ (d : LiesAt n s.homes k p y). inl d) (g.home (stake_at n k p) y lies))
             (λ b. (b, refl)) refl (λ _ _. inl live) (raws_before sizes s.words j 1 (omega arith));
+        kinds = kind_steps.same sizes s.words s.views h.kinds h.records.each id v at (unsighted now) refl refl refl refl refl refl (set s.words j 1)
+            (slots_before sizes s.words j 1 (omega arith)) (post s h at (unsighted now) refl refl refl (λ _. omega arith));
         tells = (now, refl, refl, g.carried);
       })
 
@@ -973,6 +1299,8 @@ module _ (γ : ℕ) (sizes : Sizes) (slots id : ℕ) (me : SeatState) (p state :
     bars_calm w which = let same = λ (j : ℕ) (_ : j < sizes.slots). before_slots sizes s.words spot left j (omega arith) in
         let calm = IsCalm γ sizes slots id me spot bar_it s left in
         let mover = h.homes.moving id me.0 at in
+        let kinds = λ (u : View). kind_steps.calm sizes s.words s.views h.kinds h.records.each id me.0 at (set s.words spot left) u
+        (slots_before sizes s.words spot left (omega arith)) in
         ⊎_elim (λ (e : w ≡ past p me.0). subst calm (sym e) record {
           more = λ j q out. out;
           same = same;
@@ -982,6 +1310,8 @@ module _ (γ : ℕ) (sizes : Sizes) (slots id : ℕ) (me : SeatState) (p state :
           lives = λ l. l;
           had = λ _ l. inl l;
           raws = raws_before sizes s.words spot left (omega arith);
+          kinds = kinds (past p me.0) (refl, refl, refl, (λ _. refl), refl) refl refl (λ _ o. o)
+              (same_post me.0 (past p me.0) refl refl refl (λ l. l) refl refl);
         })
         (λ (e : w ≡ me.0). subst calm (sym e) record {
           more = λ j q out. out;
@@ -992,6 +1322,7 @@ module _ (γ : ℕ) (sizes : Sizes) (slots id : ℕ) (me : SeatState) (p state :
           lives = λ l. l;
           had = λ _ l. inl l;
           raws = raws_before sizes s.words spot left (omega arith);
+          kinds = kinds me.0 (refl, refl, refl, (λ _. refl), refl) refl refl (λ _ o. o) (same_post me.0 me.0 refl refl refl (λ l. l) refl refl);
         }) which
 
   which_of : (r : ℕ) (w : View) → Bars state spot me.0 r w → ((r ≡ state) ⊎ IsBarred r) × (w ≡ past p me.0) ⊎ (w ≡ me.0)
@@ -1065,4 +1396,7 @@ module _ (γ : ℕ) (sizes : Sizes) (slots id : ℕ) (me : SeatState) (slot : �
         lives = λ l. l;
         had = λ _ l. inl l;
         raws = raws_same sizes s.words word;
+        kinds = kind_steps.calm sizes s.words s.views h.kinds h.records.each id me.0 at (set s.words word x) (record me.0 { places = (looked_for x w t).0 })
+            (λ j. ap (λ (l : List ℕ). slot_at sizes l j) (as_before s h at)) (refl, refl, refl, (λ _. refl), refl) refl refl (λ _ o. o)
+            (same_post me.0 (record me.0 { places = (looked_for x w t).0 }) refl refl refl (λ l. l) refl refl);
       })

@@ -15,15 +15,16 @@ use Rattle.sdd_views.specs.declared.Sizes.{Sizes}
 use Rattle.sdd_word_invariant.specs.Words.{slot_word}
 use Rattle.sdd_word_invariant.specs.Codes.{codes, alive, waiting}
 use Rattle.sdd_word_invariant.specs.Sums.{is, times}
-use Rattle.sdd_word_invariant.specs.Slots.{slot_at, waits_in, items_at, OwnsAlone}
+use Rattle.sdd_word_invariant.specs.Slots.{slot_at, waits_in, items_at, Owns}
 use Rattle.sdd_word_invariant.specs.SlotSteps.{without, retired, retired_now}
 use Rattle.sdd_word_invariant.proofs.Codes.{sound}
-use Rattle.sdd_word_invariant.proofs.SlotWords.{owners_in}
+use Rattle.sdd_word_invariant.proofs.SlotWords.{owner_in, owners_in}
 use Rattle.sdd_word_invariant.proofs.Sums.{is_same, is_other, without_same, without_other, total_has, total_two, total_snoc}
 use Rattle.sdd_domain_invariant.specs.FractionsAtHome.{CarriedFractions, share, Has, Moves, LiesAt}
 use Rattle.sdd_domain_invariant.specs.DomainInvariant.{DomainInvariant}
 use Rattle.sdd_domain_invariant.specs.FractionSteps.{moving, making, resting, telling, untold, remembering, forgetting}
-use Rattle.sdd_domain_invariant.specs.Records.{slot_shown, IsIn, IsKnown, IsTelling, RecordsInvariant}
+use Rattle.sdd_domain_invariant.specs.Records.{slot_shown, IsIn, IsKnown, IsTelling, AllShowKnown, RecordsInvariant}
+use Rattle.sdd_domain_invariant.specs.BankInvariant.{deposited}
 use Rattle.sdd_domain_invariant.specs.FilledInvariant.{HasRecord}
 use Rattle.sdd_domain_invariant.proofs.Records.{in_head, in_tail, in_either, in_none, in_both, in_front, in_back, in_others, in_kept, known_by}
 use Rattle.sdd_domain_invariant.proofs.Records as records
@@ -44,9 +45,9 @@ none_moved v i rests m = let e : None ≡ Some i = sym rests ∙ m in cc
 pub one_view : (vs : List View) (id j : ℕ) (u v : View) → get_elem? vs j ≡ some u → get_elem? vs id ≡ some v → j ≡ id → u ≡ v
 one_view vs id j u v e at same = some-injective u v (sym e ∙ (ap (get_elem? vs) same ∙ at))
 
--- it owns this one alone, and no other
+-- it has an owner of this one, and no other
 module _ (v : View) (slot : ℕ) (owns : v.slots.owns ≡ slot ∷ []) where
-  pub owns_it : OwnsAlone v slot
+  pub owns_it : Owns v slot
   owns_it = let e = ap (times slot) owns in let o = is_same slot slot refl in omega arith
 
   owns_no_more : (i : ℕ) → i ≢ slot → times i v.slots.owns ≡ 0
@@ -55,11 +56,11 @@ module _ (v : View) (slot : ℕ) (owns : v.slots.owns ≡ slot ∷ []) where
 -- ---- what a participant that takes a step knows of what slots show
 module _ {m : ℕ} (v : View) (t : IsTelling m v) (slot : ℕ) where
   -- it claims a slot
-  pub claimed_tells : v.stakes.moves ≡ None → ¬ (OwnsAlone v slot) → ¬ (0 < items_at slot v) → (y : ℕ) → IsTelling m (making slot y v)
+  pub claimed_tells : v.stakes.moves ≡ None → ¬ (Owns v slot) → ¬ (0 < items_at slot v) → (y : ℕ) → IsTelling m (making slot y v)
   claimed_tells rests never quiet y = let w : View = making slot y v in record {
     owns = λ i g h. let o = (t.owns i g h).0 in (
-      let l : OwnsAlone w i = omega arith in l,
-      λ m. never (subst (OwnsAlone v) (one_moved w slot i refl m) o),
+      let l : Owns w i = omega arith in l,
+      λ m. never (subst (Owns v) (one_moved w slot i refl m) o),
     );
     owned = λ i o still. dite (ℕ_discrete i slot) (λ e. absurd (still (ap (λ (k : ℕ). Some k) (sym e))))
         (λ ne. t.owned i (let q = is_other i slot (λ e. ne (sym e)) in omega arith) (none_moved v i rests));
@@ -69,10 +70,10 @@ module _ {m : ℕ} (v : View) (t : IsTelling m v) (slot : ℕ) where
     inside = t.inside;
   }
 
-  -- it moves the value of a slot whose only owner it hasn't, and remembers no more what its item shows
-  pub moving_tells : v.stakes.moves ≡ None → ¬ (OwnsAlone v slot) → IsTelling m (moving slot (forgetting slot v))
+  -- it moves the value of a slot of which it has no owner, and remembers no more what its item shows
+  pub moving_tells : v.stakes.moves ≡ None → ¬ (Owns v slot) → IsTelling m (moving slot (forgetting slot v))
   moving_tells rests never = let w : View = moving slot (forgetting slot v) in record {
-    owns = λ i g h. let o = (t.owns i g h).0 in (o, λ m. never (subst (OwnsAlone v) (one_moved w slot i refl m) o));
+    owns = λ i g h. let o = (t.owns i g h).0 in (o, λ m. never (subst (Owns v) (one_moved w slot i refl m) o));
     owned = λ i o still. t.owned i o (none_moved v i rests);
     sees = t.sees;
     waits = λ i g h. let o = in_others slot v.stakes.waits i g h in ((t.waits i g o.1).0, λ m. o.0 (one_moved w slot i refl m));
@@ -123,11 +124,11 @@ module _ {m : ℕ} (v : View) (t : IsTelling m v) (slot : ℕ) where
 
   module _ (mine : Moves v slot) where
     -- a value was moved in
-    pub housed_tells : slot < m → OwnsAlone v slot → ¬ (0 < items_at slot v) → (shared : Bool) (value : Gv) → IsTelling m (resting (telling slot shared value v))
+    pub housed_tells : slot < m → Owns v slot → ¬ (0 < items_at slot v) → (shared : Bool) (value : Gv) → IsTelling m (resting (telling slot shared value v))
     housed_tells low own quiet shared value = let r : ShownValue = record { slot = slot; shared = shared; value = value } in
         let w : View = resting (telling slot shared value v) in record {
           owns = λ i g h. (
-            ⊎_elim (λ (e : (slot ≡ i) × (value ≡ g)). subst (OwnsAlone v) e.0 own) (λ (k : IsIn v.stakes.owns i g). (t.owns i g k).0)
+            ⊎_elim (λ (e : (slot ≡ i) × (value ≡ g)). subst (Owns v) e.0 own) (λ (k : IsIn v.stakes.owns i g). (t.owns i g k).0)
                 (in_either r v.stakes.owns i g h),
             none_moved w i refl,
           );
@@ -144,14 +145,14 @@ module _ {m : ℕ} (v : View) (t : IsTelling m v) (slot : ℕ) where
     -- a value was moved out
     pub rested_tells : (w : View) → record w.stakes { counts = v.stakes.counts } ≡ record v.stakes { moves = None }
         → ((i : ℕ) → i ≢ slot → times i w.slots.owns ≡ times i v.slots.owns)
-        → ¬ (OwnsAlone w slot) → ((i : ℕ) → i ≢ slot → items_at i w ≡ items_at i v) → ¬ (0 < items_at slot w) → w.slots.sees ≡ v.slots.sees → IsTelling m w
+        → ¬ (Owns w slot) → ((i : ℕ) → i ≢ slot → items_at i w ≡ items_at i v) → ¬ (0 < items_at slot w) → w.slots.sees ≡ v.slots.sees → IsTelling m w
     rested_tells w is same never same' quiet seen = record {
       owns = λ i g h. let o = t.owns i g (subst (λ (k : FractionsView). IsIn k.owns i g) is h) in let b = o.0 in
           let e = same i (λ e. o.1 (mine ∙ ap (λ (k : ℕ). Some k) (sym e))) in (
-            let l : OwnsAlone w i = omega arith in l,
+            let l : Owns w i = omega arith in l,
             none_moved w i (ap (λ (k : FractionsView). k.moves) is),
           );
-      owned = λ i o still. dite (ℕ_discrete i slot) (λ e. absurd (never (subst (OwnsAlone w) e o)))
+      owned = λ i o still. dite (ℕ_discrete i slot) (λ e. absurd (never (subst (Owns w) e o)))
           (λ ne. let e = same i ne in let b = t.owned i (omega arith) (λ m. ne (one_moved v slot i mine m)) in
           (b.0, subst (λ (k : FractionsView). IsIn k.owns i b.0) (sym is) b.1));
       sees = ap (λ (k : FractionsView). map slot_shown k.sees) is ∙ (t.sees ∙ sym seen);
@@ -170,26 +171,28 @@ module _ {m : ℕ} (v : View) (t : IsTelling m v) (slot : ℕ) where
 pub none_told : (γ : ℕ) (sizes : Sizes) (s : State ValueFraction View) → DomainInvariant γ sizes s → ((i : ℕ) → get_or s.words i 0 ≡ 0) → NoneTold s.views
 none_told γ sizes s h zeros r t = let tells = h.records.each t.0 t.1 t.2 in let word = zeros (slot_word sizes r.slot) in ⊎_elim
     (λ (a : HasRecord t.1.stakes.owns r). let own = tells.owns r.slot r.value (a.0, r, a.1, refl, refl) in
-    let one = ((h.kept.parts.slots.each t.0 t.1 t.2).alone r.slot own.0).0 in let none = ap alive word ∙ sound.free.0 in omega arith)
+    let mine = own.0 in let one = owner_in codes sound sizes s.words s.views h.kept.parts.slots t.0 r.slot t.1 t.2 in
+    let none = ap alive word ∙ sound.free.0 in omega arith)
     (λ (a : HasRecord t.1.stakes.waits r). let waits = (tells.waits r.slot r.value (a.0, r, a.1, refl, refl)).0 in
     let here = total_has (items_at r.slot) s.views t.0 t.1 t.2 in let sum = h.kept.parts.slots.waited r.slot in
     let none = ap waiting word ∙ sound.free.1 in omega arith) t.3
 
 module _ (γ : ℕ) (sizes : Sizes) (s : State ValueFraction View) (h : DomainInvariant γ sizes s) (i id : ℕ) (v : View) (at : get_elem? s.views id ≡ some v) where
-  -- where one has the only owner of a slot, none else has
-  sole : OwnsAlone v i → (j : ℕ) (u : View) → get_elem? s.views j ≡ some u → OwnsAlone u i → j ≡ id
-  sole own j u e o = dite (ℕ_discrete j id) (λ same. same)
-      (λ ne. let a = ((h.kept.parts.slots.each id v at).alone i own).0 in
+  -- where one moves the value of a slot of its own, none else has an owner of it
+  sole : Moves v i → Owns v i → (j : ℕ) (u : View) → get_elem? s.views j ≡ some u → Owns u i → j ≡ id
+  sole mine own j u e o = dite (ℕ_discrete j id) (λ same. same)
+      (λ ne. let a = (h.kinds.each id v at).sole i mine own in
       let both = owners_in codes sound sizes s.words s.views h.kept.parts.slots j id i u v ne e at in absurd (omega arith))
 
   -- while an item waits, none has
-  pub none_owns : 0 < items_at i v → (j : ℕ) (u : View) → get_elem? s.views j ≡ some u → ¬ (OwnsAlone u i)
+  pub none_owns : 0 < items_at i v → (j : ℕ) (u : View) → get_elem? s.views j ≡ some u → ¬ (Owns u i)
   none_owns waits j u e o = let t = total_has (items_at i) s.views id v at in let w = h.kept.parts.slots.waited i in
-      let a = ((h.kept.parts.slots.each j u e).alone i o).0 in let l = (sound.lives (slot_at sizes s.words i) (omega arith)).0 in absurd (omega arith)
+      let a = owner_in codes sound sizes s.words s.views h.kept.parts.slots j i u e in let l = (sound.lives (slot_at sizes s.words i) (omega arith)).0 in
+      absurd (omega arith)
 
-  -- while one has the only owner, no item waits
-  pub none_waits : OwnsAlone v i → (j : ℕ) (u : View) → get_elem? s.views j ≡ some u → ¬ (0 < items_at i u)
-  none_waits own j u e waits = let a = ((h.kept.parts.slots.each id v at).alone i own).0 in
+  -- while one has an owner, no item waits
+  pub none_waits : Owns v i → (j : ℕ) (u : View) → get_elem? s.views j ≡ some u → ¬ (0 < items_at i u)
+  none_waits own j u e waits = let a = owner_in codes sound sizes s.words s.views h.kept.parts.slots id i v at in
       let l = (sound.lives (slot_at sizes s.words i) (omega arith)).0 in let t = total_has (items_at i) s.views j u e in
       let w = h.kept.parts.slots.waited i in omega arith
 
@@ -200,15 +203,15 @@ module _ (γ : ℕ) (sizes : Sizes) (s : State ValueFraction View) (h : DomainIn
       let one = (sound.waits (slot_at sizes s.words i) (omega arith)).0 in absurd (omega arith))
 
   -- nobody knows what a slot shows whose value is moved
-  pub unknown_owned : Moves v i → OwnsAlone v i → (g : Gv) → ¬ (IsKnown s.views i g)
+  pub unknown_owned : Moves v i → Owns v i → (g : Gv) → ¬ (IsKnown s.views i g)
   unknown_owned mine own = records.unknown sizes s.views s.homes h.records i (λ j u e. h.records.apart id j v u i at e mine)
       (λ j u e which. ⊎_elim
-      (λ (o : OwnsAlone u i). subst (λ (x : View). Moves x i) (sym (one_view s.views id j u v e at (sole own j u e o))) mine)
+      (λ (o : Owns u i). subst (λ (x : View). Moves x i) (sym (one_view s.views id j u v e at (sole mine own j u e o))) mine)
       (λ (o : 0 < items_at i u). absurd (none_waits own j u e o)) which)
 
   pub unknown_waiting : Moves v i → 0 < items_at i v → (g : Gv) → ¬ (IsKnown s.views i g)
   unknown_waiting mine waits = records.unknown sizes s.views s.homes h.records i (λ j u e. h.records.apart id j v u i at e mine)
-      (λ j u e which. ⊎_elim (λ (o : OwnsAlone u i). absurd (none_owns waits j u e o))
+      (λ j u e which. ⊎_elim (λ (o : Owns u i). absurd (none_owns waits j u e o))
       (λ (o : 0 < items_at i u). subst (λ (x : View). Moves x i) (sym (one_view s.views id j u v e at (waits_with waits j u e o))) mine) which)
 
   -- all stakes in a slot of which nobody knows come home
@@ -217,7 +220,9 @@ module _ (γ : ℕ) (sizes : Sizes) (s : State ValueFraction View) (h : DomainIn
       → record w.stakes { counts = v.stakes.counts } ≡ record v.stakes { moves = None } → w.slots.sees ≡ v.slots.sees
       → RecordsInvariant sizes (set s.views id w) (homes_after s.homes xs g.act)
   comes_home o Is rest xs g never w tells is seen = let n : ℕ = sizes.participants in
-      records.no_more sizes s.views s.homes h.records id v at w (homes_after s.homes xs g.act) tells
+      records.no_more sizes s.views s.homes h.records id v at w
+      (λ b. subst (λ (x : FractionsView). AllShowKnown s.views (map (deposited x.book) x.banked)) (sym is)
+      (h.records.deposits id v at (ap (λ (x : FractionsView). x.bank) (sym is) ∙ b))) (homes_after s.homes xs g.act) tells
       (λ k g' a. records.mine sizes s.views s.homes h.records id v at k g' (known_by w k g'
       (λ b. inl (subst (λ (x : FractionsView). IsIn x.owns k g') is b))
       (λ b. inr (inl (subst (λ (x : FractionsView). IsIn x.sees k g') is b)))

@@ -1,10 +1,10 @@
 -- The start, a new token, owners that are cut off as a token and taken in again, and what is at home at the end
 use Rattle.std.proofs.Common.{◌≡◌, ◌≢◌, ◌⊎◌, inl, inr, ℕ, zero, suc, ◌+◌, ◌<◌, ◌≤◌, Bool, true, false, List, [], ◌∷◌, ◌++◌, map, length, get_or, set, sym, refl, ap, ◌∙◌, subst, ⊎_elim, arith}
-use Rattle.std.proofs.lemmas.List.{length-map}
+use Rattle.std.proofs.lemmas.List.{length-map, length-replicate}
 use mathlib.Core.Option.{some, some-injective, some-ne-none}
 use mathlib.Core.Logic.{dite}
 use native.Mathlib.Decide.{ℕ_discrete, dec_lt}
-use Rattle.std.specs.Prelude.{None}
+use Rattle.std.specs.Prelude.{Some, None}
 use lib.ListN.{get_elem?}
 use base.Stored.{Gv}
 use Rattle.atomic_table.specs.Table.{State, Enters, Splits, Joins, opening}
@@ -15,15 +15,15 @@ use Rattle.sdd_views.specs.declared.ShownValue.{ShownValue}
 use Rattle.sdd_views.specs.declared.CountsView.{CountsView}
 use Rattle.sdd_views.specs.declared.View.{View}
 use Rattle.sdd_views.specs.declared.Sizes.{Sizes}
-use Rattle.sdd_word_invariant.specs.Words.{first_slot, all_words}
-use Rattle.sdd_word_invariant.specs.Codes.{alive, waiting, full}
+use Rattle.sdd_word_invariant.specs.Words.{first_slot, words_behind, all_words}
+use Rattle.sdd_word_invariant.specs.Codes.{alive, waiting, full, counted as counts_owners}
 use Rattle.sdd_word_invariant.specs.Sums.{is, times}
-use Rattle.sdd_word_invariant.specs.Slots.{slot_at, OwnsAlone}
+use Rattle.sdd_word_invariant.specs.Slots.{slot_at, Owns}
 use Rattle.sdd_word_invariant.specs.SlotSteps.{first, others}
 use Rattle.sdd_word_invariant.specs.Epoch.{HasPlace}
 use Rattle.sdd_views.specs.Views.{owner_token, owner_of}
 use Rattle.sdd_word_invariant.specs.WordInvariant.{epoch_of, idle}
-use Rattle.sdd_word_invariant.proofs.Codes.{sound}
+use Rattle.sdd_word_invariant.proofs.Codes.{sound, none_counted}
 use Rattle.sdd_word_invariant.proofs.Lift as kept
 use Rattle.sdd_word_invariant.proofs.Frame.{each_set, each_snoc}
 use Rattle.sdd_word_invariant.proofs.Sums.{is_same, is_other, total_set, total_snoc, total_has, total_two, total_only, total_append, span_zero}
@@ -31,6 +31,13 @@ use Rattle.sdd_domain_invariant.specs.FractionsAtHome.{stake_at, share, away, fu
 use Rattle.sdd_domain_invariant.specs.BankInvariant.{BankInvariant, founder, founded, bank_of}
 use Rattle.sdd_domain_invariant.proofs.Banks.{HasUnits, outside_free}
 use Rattle.sdd_domain_invariant.proofs.Banks as banks
+use Rattle.sdd_domain_invariant.specs.KindsInvariant.{KnowsKinds, KindsInvariant}
+use Rattle.sdd_domain_invariant.proofs.KindSteps.{has_first, knows_no_kind, same_post, no_pledge, pledges_spent, forth}
+use Rattle.sdd_witness.specs.Ledger.{Pledge, Free, JoinsFree}
+use Rattle.sdd_views.specs.declared.PledgesView.{PledgesView}
+use Rattle.sdd_domain_invariant.specs.BoundInvariant.{over_at}
+use Rattle.sdd_domain_invariant.specs.PledgesInvariant.{HasPledge, IsLedger, booked_by}
+use Rattle.sdd_domain_invariant.proofs.KindSteps as kind_steps
 use Rattle.sdd_domain_invariant.specs.DomainInvariant.{DomainInvariant}
 use Rattle.sdd_domain_invariant.specs.FractionSteps.{parting, departing, regained, uncounting, counts_of, counts_token, counting}
 use Rattle.sdd_domain_invariant.specs.Records.{IsIn, KnowsShown, IsKnown, IsTelling, RecordsInvariant}
@@ -48,10 +55,10 @@ use Rattle.sdd_domain_invariant.proofs.Lasts.{KeepsBank, no_bank, lasts_more, la
 use Rattle.sdd_domain_invariant.proofs.Steps.{still_free}
 use Rattle.sdd_domain_invariant.proofs.Telling.{none_moved}
 
-nothing_out : (v : View) → v.stakes.moves ≡ None → v.slots.sees ≡ [] → (i p : ℕ) → ¬ (FractionIsTaken v i p)
+pub nothing_out : (v : View) → v.stakes.moves ≡ None → v.slots.sees ≡ [] → (i p : ℕ) → ¬ (FractionIsTaken v i p)
 nothing_out v rests blind i p out = let o = only_seen v rests i p out in let a = ap (times i) blind in let b = o.0 in absurd (omega arith)
 
-set_front : {A : Type 0} (l m : List A) (i : ℕ) (a b : A) → get_elem? l i ≡ some a → set (l ++ m) i b ≡ set l i b ++ m
+pub set_front : {A : Type 0} (l m : List A) (i : ℕ) (a b : A) → get_elem? l i ≡ some a → set (l ++ m) i b ≡ set l i b ++ m
 set_front [] m i a b e = absurd (some-ne-none a (sym e))
 set_front (x ∷ xs) m zero a b e = refl
 set_front (x ∷ xs) m (suc i) a b e = ap (λ (l : List _). x ∷ l) (set_front xs m i a b e)
@@ -74,7 +81,7 @@ module _ (γ : ℕ) (sizes : Sizes) where
               (part.arrives γ sizes s.words s.views s.homes h.homes t (nothing_out t refl refl) (none_out t refl));
           records = subst (λ (w : View). RecordsInvariant sizes (s.views ++ w ∷ []) s.homes) (sym r.2.0)
               (records.arrives sizes s.views s.homes h.records t (telling_none t refl refl refl refl refl refl)
-              (λ i g k. absurd (knows_none t refl refl refl i g k)) refl refl);
+              (λ i g k. absurd (knows_none t refl refl refl i g k)) refl refl refl);
           counts = subst (λ (w : View). CountsInvariant sizes s.words (s.views ++ w ∷ [])) (sym r.2.0)
               (more_counts sizes s.words s.views h.counts t refl refl refl);
           filled = subst (λ (w : View). FilledInvariant sizes (s.views ++ w ∷ [])) (sym r.2.0)
@@ -83,6 +90,9 @@ module _ (γ : ℕ) (sizes : Sizes) where
               (banks.arrives γ sizes s.words s.views h.bank t refl refl refl refl);
           lasts = subst (λ (w : View). LastsInvariant sizes s.words (s.views ++ w ∷ []) s.homes) (sym r.2.0)
               (lasts_more sizes s.words s.views s.homes h.lasts t (λ _. refl) (λ z. absurd (omega arith)));
+          kinds = subst (λ (w : View). KindsInvariant sizes s.words (s.views ++ w ∷ [])) (sym r.2.0)
+              (kind_steps.arrives sizes s.words s.views h.kinds t (knows_no_kind sizes s.words t (length-replicate (words_behind sizes) 0) refl refl)
+              record { over = refl; ledger = refl; founds = refl; own = refl });
         },
         r.2.1,
       )
@@ -91,7 +101,7 @@ module _ (γ : ℕ) (sizes : Sizes) where
   pub begins : (ws : List ℕ) (xs : List ValueFraction) → length ws ≡ all_words sizes → ((i : ℕ) → get_or ws i 0 ≡ 0) → suc (suc sizes.participants) < most
       → AreLaid γ sizes.participants sizes.slots xs → DomainInvariant γ sizes (opening ws xs (founder sizes γ))
   begins ws xs long none few laid = let n : ℕ = sizes.participants in record {
-    kept = kept.begins sizes γ (founder sizes γ).stakes ws xs long none;
+    kept = kept.begins sizes γ (founder sizes γ).stakes (founder sizes γ).pledges ws xs long none;
     homes = record {
       few = few;
       deep = length-map xs some ∙ laid.long;
@@ -99,7 +109,8 @@ module _ (γ : ℕ) (sizes : Sizes) where
           let same : l.0 ≡ y = some-injective l.0 y (some-injective (some l.0) (some y) (sym (at_map some xs (stake_at n i p) l.0 l.1) ∙ lies)) in
           let has = subst (Has γ i (share n 0 p) IsNoValueCode) same l.2 in let word = none (Rattle.sdd_word_invariant.specs.Words.slot_word sizes i) in
           let empty : full_at sizes ws i ≡ 0 = ap full word ∙ sound.free.2 in
-          subst (λ (k : ℕ). Has γ i (share n k p) (MatchesSlotWord (full_at sizes ws i)) y) (sym (ap (away n) empty)) (has.0, (λ e. absurd (omega arith), λ _. has.1));
+          subst (λ (k : ℕ). Has γ i (share n k p) (MatchesSlotWord (full_at sizes ws i)) y) (sym (ap (away n) empty))
+          (has.0, (λ e. absurd (omega arith), λ _. has.1));
       back = λ i p low near away. let l = laid.each i p near (inside n sizes.slots i p low near) in (l.0, at_map some xs (stake_at n i p) l.0 l.1);
       moving = λ j v e. none_out v (subst (λ (u : View). u.stakes.moves ≡ None) (only j v e) refl);
     };
@@ -111,6 +122,7 @@ module _ (γ : ℕ) (sizes : Sizes) where
     records = record {
       each = λ j v e. subst (IsTelling sizes.slots) (only j v e) (telling_none (founder sizes γ) refl refl refl refl refl refl);
       agree = λ i g h a b. absurd (none_known i g a);
+      deposits = λ j b e is. let f : false ≡ true = ap (λ (u : View). u.stakes.bank) (only j b e) ∙ is in absurd cc;
       home = λ i p g y low near a l. absurd (none_known i g a);
       apart = λ j k v w i e e' m. absurd (none_moved v i (subst (λ (u : View). u.stakes.moves ≡ None) (only j v e) refl) m);
     };
@@ -130,6 +142,18 @@ module _ (γ : ℕ) (sizes : Sizes) where
       banks = λ j v e is. let f : false ≡ true = ap (λ (u : View). u.stakes.bank) (only j v e) ∙ is in absurd cc;
       raw = λ one j v e live. absurd (let f = ap (λ (w : View). w.epoch.state) (only j v e) in omega arith);
     };
+    kinds = record {
+      each = λ j v e. subst (KnowsKinds sizes ws) (only j v e) (knows_no_kind sizes ws (founder sizes γ) (length-replicate (words_behind sizes) 0) refl refl);
+      bound = record {
+        bound = λ i c. absurd (let z = ap counts_owners (none (Rattle.sdd_word_invariant.specs.Words.slot_word sizes i)) in
+            let f = none_counted in omega arith);
+        once = λ j v e i more. absurd (let o = ap (over_at i) (only j v e) in omega arith);
+      };
+      pledges = record {
+        single = omega arith;
+        backed = λ i v q e m. absurd (no_pledge (founder sizes γ) q refl (ap (λ (u : View). u.pledges.own) (only i v e) ∙ m));
+      };
+    };
   }
     where
       only : (j : ℕ) (v : View) → get_elem? (founder sizes γ ∷ []) j ≡ some v → founder sizes γ ≡ v
@@ -145,16 +169,19 @@ module _ (γ : ℕ) (sizes : Sizes) where
       none_known : (i : ℕ) (g : Gv) → ¬ (IsKnown (founder sizes γ ∷ []) i g)
       none_known i g k = knows_none (founder sizes γ) refl refl refl i g (subst (λ (u : View). KnowsShown u i g) (sym (only k.0 k.1 k.2)) k.3)
 
-  -- the only owner that it has goes to a token of its own, with what is known of its slot, where none is held and no value is moved
-  pub parts_owner : (id : ℕ) (v : View) (slot : ℕ) → v.slots.owns ≡ slot ∷ [] → v.slots.drawn ≡ slot ∷ [] → v.slots.holds ≡ None
+  -- the owner that it has goes to a token of its own, with what is known of its slot, where none is held and no value is moved
+  pub parts_owner : (id : ℕ) (v : View) (slot : ℕ) → HasPlace v.epoch → v.sizes ≡ sizes → v.slots.owns ≡ slot ∷ [] → v.slots.drawn ≡ slot ∷ [] → v.slots.holds
+      ≡ None
       → v.stakes.moves ≡ None → Splits (DomainInvariant γ sizes) id v (parting v) (departing v)
-  parts_owner id v slot owns drawn free rests s h at = let t : View = departing v in let w : View = parting v in let r = h.records in
+  parts_owner id v slot live of owns drawn free rests s h at = let t : View = departing v in
+      let near = (h.kept.parts.epoch.each id v.epoch (at_map epoch_of s.views id v at)).inside live in
+      let placed : 0 < v.sizes.participants = (let e = ap (λ (z : Sizes). z.participants) of in omega arith) in let w : View = parting v in let r = h.records in
       let told = r.each id v at in
       let vs : List View = s.views ++ t ∷ [] in let mine = records.mine sizes s.views s.homes r id v at in
       let came = records.arrives sizes s.views s.homes r t
       record {
         owns = λ i g k. let o = (told.owns i g k).0 in (
-          let e = ap (times i) owns in let e' = ap (λ (l : List ℕ). times i (first l)) owns in let l : OwnsAlone t i = omega arith in l,
+          let e = ap (times i) owns in let e' = ap (λ (l : List ℕ). times i (first l)) owns in let l : Owns t i = omega arith in l,
           none_moved t i refl,
         );
         owned = λ i o still. told.owned i
@@ -164,7 +191,7 @@ module _ (γ : ℕ) (sizes : Sizes) where
         waiting = λ i _ o. absurd (omega arith);
         inside = λ i g k. told.inside i g (known_by t i g (λ a. inl a) (λ a. absurd (in_none i g a)) (λ a. absurd (in_none i g a)) k);
       }
-      (λ i g k. known_by t i g (λ a. mine i g (inl a)) (λ a. absurd (in_none i g a)) (λ a. absurd (in_none i g a)) k) refl refl in
+      (λ i g k. known_by t i g (λ a. mine i g (inl a)) (λ a. absurd (in_none i g a)) (λ a. absurd (in_none i g a)) k) refl refl refl in
       let mine_then = records.mine sizes vs s.homes came id v (at_longer s.views (t ∷ []) id v at) in
       let known_then = filled_more sizes s.views h.filled t
       (λ r x. ⊎_elim (λ (a : HasRecord v.stakes.owns r). (id, v, at, inl a)) (λ (a : HasRecord [] r). absurd (has_none r [] refl a)) x)
@@ -174,7 +201,8 @@ module _ (γ : ℕ) (sizes : Sizes) where
             (part.calm γ sizes s.words s.views s.homes h.homes id v at s.words w (λ i p out. out) (λ i _. refl) (none_out w rests))
             t (nothing_out t refl refl) (none_out t refl);
         records = subst (λ (us : List View). RecordsInvariant sizes us s.homes) (set_front s.views (t ∷ []) id v w at)
-            (records.no_more sizes vs s.homes came id v (at_longer s.views (t ∷ []) id v at) w s.homes
+            (records.no_more sizes vs s.homes came id v (at_longer s.views (t ∷ []) id v at) w
+            (λ is. came.deposits id v (at_longer s.views (t ∷ []) id v at) is) s.homes
             record {
               owns = λ i g k. absurd (in_none i g k);
               owned = λ i o still. absurd (let e = ap (λ (l : List ℕ). times i (others l)) owns in omega arith);
@@ -198,6 +226,16 @@ module _ (γ : ℕ) (sizes : Sizes) where
             let o = ap (λ (l : List ℕ). times i (first l)) owns in let a = total_append (is i) (first v.slots.owns) [] in omega arith);
         lasts = lasts_more sizes s.words (set s.views id w) s.homes (lasts_stay s h id v at w (λ b. (b, refl)) refl (λ live. live)) t (λ _. refl)
             (λ z. absurd (omega arith));
+        kinds = let k = h.kinds.each id v at in kind_steps.arrives sizes s.words (set s.views id w)
+            (kind_steps.stays sizes s.words s.views h.kinds r.each id v at s.words w (λ i. refl) (knows_no_kind sizes s.words w k.long rests refl)
+            record { pledges = refl; over = refl; sizes = refl; place = inl (λ l. l); records = λ z. absurd (omega arith); holds = λ _. refl }) t
+            record {
+              long = refl;
+              sole = λ i m. absurd (none_moved t i refl m);
+              claimed = λ i m. absurd (none_moved t i refl m);
+              told = λ x a _. k.told x a (λ o. let c : None ≡ Some x.slot = sym free ∙ o in cc);
+            }
+            record { over = refl; ledger = refl; founds = refl; own = refl };
       }
 
   -- the first record is of the owner's token, and the others were known
@@ -208,18 +246,26 @@ module _ (γ : ℕ) (sizes : Sizes) where
       (λ (b : HasRecord v.stakes.owns r). (id, v, at, inl b)) (has_either (now ∷ []) v.stakes.owns r a))
       (λ (a : HasRecord v.stakes.waits r). (id, v, at, inr a)) x
 
-  -- and comes back
-  pub joins_owner : (id : ℕ) (v : View) (other slot : ℕ) (shared : Bool) (value : Gv) → v.stakes.moves ≡ None
-      → Joins (DomainInvariant γ sizes) id v other (owner_of slot shared value) (regained v (owner_of slot shared value)) (owner_token [])
-  joins_owner id v other slot shared value rests s h at apart there = let t : View = owner_of slot shared value in let t' : View = owner_token [] in
+  -- no pledge of the ledger is of this seat
+  free_of : (jd : ℕ) (ps : List Pledge) (p : Pledge) → Free jd ps → HasPledge p ps → ¬ (p.seat ≡ jd)
+  free_of jd [] p free has = absurd has
+  free_of jd (q ∷ qs) p free (inl is) = λ e. free.0 (ap (λ (x : Pledge). x.seat) (sym is) ∙ e)
+  free_of jd (q ∷ qs) p free (inr has) = free_of jd qs p free.1 has
+
+  -- and comes back, as nobody has pledged a share of its view
+  pub joins_owner : (id : ℕ) (v : View) (other bd slot : ℕ) (shared : Bool) (value : Gv) → v.stakes.moves ≡ None
+      → JoinsFree (DomainInvariant γ sizes) IsLedger booked_by id v other (owner_of slot shared value) bd (regained v (owner_of slot shared value))
+      (owner_token [])
+  joins_owner id v other bd slot shared value rests s b h at was at_b ours apart far unpledged = let t : View = owner_of slot shared value in
+      let t' : View = owner_token [] in
       let w : View = regained v t in let vs : List View = set s.views id w in let r = h.records in let told = r.each id v at in
       let now : ShownValue = record { slot = slot; shared = shared; value = value } in let mine = records.mine sizes s.views s.homes r id v at in
-      let was : get_elem? s.views other ≡ some t = sym (set_else s.views id other w apart) ∙ there in
-      let came = records.no_more sizes s.views s.homes r id v at w s.homes
+      let there : get_elem? vs other ≡ some t = set_else s.views id other w apart ∙ was in
+      let came = records.no_more sizes s.views s.homes r id v at w (λ is. r.deposits id v at is) s.homes
       record {
         owns = λ i g k. ⊎_elim
-            (λ (e : (slot ≡ i) × (value ≡ g)). (let o = is_same i slot e.0 in let l : OwnsAlone w i = omega arith in l, none_moved w i rests))
-            (λ (a : IsIn v.stakes.owns i g). let o = (told.owns i g a).0 in (let l : OwnsAlone w i = omega arith in l, none_moved w i rests))
+            (λ (e : (slot ≡ i) × (value ≡ g)). (let o = is_same i slot e.0 in let l : Owns w i = omega arith in l, none_moved w i rests))
+            (λ (a : IsIn v.stakes.owns i g). let o = (told.owns i g a).0 in (let l : Owns w i = omega arith in l, none_moved w i rests))
             (in_either now v.stakes.owns i g k);
         owned = λ i o still. dite (ℕ_discrete slot i) (λ e. (value, in_head now v.stakes.owns i value e refl))
             (λ ne. let b = told.owned i (let q = is_other i slot ne in omega arith) (none_moved v i rests) in
@@ -241,7 +287,8 @@ module _ (γ : ℕ) (sizes : Sizes) where
         homes = part.calm γ sizes s.words vs s.homes
             (part.calm γ sizes s.words s.views s.homes h.homes id v at s.words w (λ i p out. out) (λ i _. refl) (none_out w rests))
             other t there s.words t' (λ i p out. absurd (nothing_out t refl refl i p out)) (λ i _. refl) (none_out t' refl);
-        records = records.no_more sizes vs s.homes came other t there t' s.homes (telling_none t' refl refl refl refl refl refl)
+        records = records.no_more sizes vs s.homes came other t there t' (λ is. let c : false ≡ true = is in absurd cc) s.homes
+            (telling_none t' refl refl refl refl refl refl)
             (λ i g k. absurd (knows_none t' refl refl refl i g k)) (λ i p y _ _ l. inl l) (λ i m. absurd (none_moved t' i refl m))
             (λ i a. absurd (omega arith));
         counts = uncounted_alone sizes s.words vs (uncounted_alone sizes s.words s.views h.counts id v at w refl refl) other t there t' refl refl;
@@ -252,13 +299,37 @@ module _ (γ : ℕ) (sizes : Sizes) where
             (λ i. let low = h.bank.low id v at i in omega arith) (λ i. omega arith);
         lasts = lasts_fewer sizes s.words vs s.homes (lasts_stay s h id v at w (λ b. (b, refl)) refl (λ live. live)) other t there s.words t' s.homes
             (λ _ _ _ _ l. l) (no_bank t t' refl) refl (λ _ live. inl live) (λ _ _ raw. raw);
+        kinds = let k = h.kinds.each id v at in
+            let now_mine = kind_steps.stays sizes s.words s.views h.kinds r.each id v at s.words w (λ i. refl)
+            record {
+              long = k.long;
+              sole = λ i m. absurd (none_moved w i rests m);
+              claimed = λ i m. absurd (none_moved w i rests m);
+              told = λ x a loose. ⊎_elim
+                  (λ (e : now ≡ x). (h.kinds.each other t was).told x (subst (λ (y : ShownValue). HasRecord (now ∷ []) y) e (0, refl))
+                  (λ o. let c : None ≡ Some x.slot = o in cc))
+                  (λ (b : HasRecord v.stakes.owns x). k.told x b loose) (has_first now v.stakes.owns x a);
+            }
+            record {
+              pledges = refl;
+              over = refl;
+              sizes = refl;
+              place = inl (λ l. l);
+              records = λ _ x a. (suc a.0, a.1);
+              holds = λ _. refl;
+            } in
+            kind_steps.spends sizes s.words vs now_mine came.each other t there t' (knows_no_kind sizes s.words t' refl refl refl) refl (inl (λ l. l))
+            (pledges_spent vs now_mine.pledges other t t' there refl (λ i q B.
+            let l = forth s.views h.kinds.pledges id v w at (λ x y. y.pledges ≡ x.pledges) refl (λ _. refl) bd b at_b in
+            let had : HasPledge q b.pledges.booked = subst (λ (x : PledgesView). HasPledge q x.booked) l.2
+            (B.booked bd l.0 l.1 (ap (λ (x : PledgesView). x.ledger) l.2 ∙ ours)) in free_of other b.pledges.booked q unpledged had));
       }
 
   -- the counts of ended places go to a token of their own
   pub parts_counts : (id : ℕ) (v : View) → 0 < over_by v → Splits (DomainInvariant γ sizes) id v (uncounting v) (counts_of v)
   parts_counts id v over s h at = let t : View = counts_of v in let w : View = uncounting v in let c = h.counts in let p = h.kept.parts.slots in record {
     kept = kept.cuts sizes id v v.slots.owns v.slots.drawn [] w.stakes t.stakes (λ i. omega arith)
-        (λ i held. (p.each id v at).held i held) s h.kept at;
+        (λ i held. ((p.each id v at).held i held).0) s h.kept at;
     homes = part.arrives γ sizes s.words (set s.views id w) s.homes
         (part.calm γ sizes s.words s.views s.homes h.homes id v at s.words w (λ i p out. out) (λ i _. refl) (h.homes.moving id v at))
         t (nothing_out t refl refl) (none_out t refl);
@@ -269,7 +340,7 @@ module _ (γ : ℕ) (sizes : Sizes) where
       (λ _. refl),
       refl,
     )) t
-        (telling_none t refl refl refl refl refl refl) (λ i g k. absurd (knows_none t refl refl refl i g k)) refl refl;
+        (telling_none t refl refl refl refl refl refl) (λ i g k. absurd (knows_none t refl refl refl i g k)) refl refl refl;
     counts = record {
       items = let a = total_set made_by s.views id v w at in let a' = total_snoc made_by (set s.views id w) t in
           let b = total_set gone_by s.views id v w at in let b' = total_snoc gone_by (set s.views id w) t in let d = c.items in omega arith;
@@ -285,6 +356,10 @@ module _ (γ : ℕ) (sizes : Sizes) where
         (λ i. omega arith);
     lasts = lasts_more sizes s.words (set s.views id w) s.homes (lasts_stay s h id v at w (λ b. (b, refl)) refl (λ live. live)) t (λ _. refl)
         (λ z. absurd (omega arith));
+    kinds = kind_steps.arrives sizes s.words (set s.views id w)
+        (kind_steps.same sizes s.words s.views h.kinds h.records.each id v at w refl refl refl refl refl refl s.words (λ i. refl)
+        (same_post v w refl refl refl (λ l. l) refl refl)) t (knows_no_kind sizes s.words t refl refl refl) record
+        { over = refl; ledger = refl; founds = refl; own = refl };
   }
 
   -- the bank is founded
@@ -292,21 +367,25 @@ module _ (γ : ℕ) (sizes : Sizes) where
   founds_bank id v may book s h at = let t : View = bank_of v in let w : View = founded v in let told = h.records.each id v at in
       let us : List View = set s.views id w in let p = h.kept.parts.slots in record {
         kept = kept.cuts sizes id v v.slots.owns v.slots.drawn [] w.stakes t.stakes (λ i. omega arith)
-            (λ i held. (p.each id v at).held i held) s h.kept at;
+            (λ i held. ((p.each id v at).held i held).0) s h.kept at;
         homes = part.arrives γ sizes s.words us s.homes
             (part.calm γ sizes s.words s.views s.homes h.homes id v at s.words w (λ i p out. out) (λ i _. refl) (h.homes.moving id v at))
             t (nothing_out t refl refl) (none_out t refl);
         records = records.arrives sizes us s.homes
-            (records.no_more sizes s.views s.homes h.records id v at w s.homes
+            (records.no_more sizes s.views s.homes h.records id v at w (λ is. h.records.deposits id v at is) s.homes
             record { owns = told.owns; owned = told.owned; sees = told.sees; waits = told.waits; waiting = told.waiting; inside = told.inside }
             (records.mine sizes s.views s.homes h.records id v at) (λ i p y _ _ l. inl l) (λ i m. m) (λ i a. a))
-            t (telling_none t refl refl refl refl refl refl) (λ i g k. absurd (knows_none t refl refl refl i g k)) refl refl;
+            t (telling_none t refl refl refl refl refl refl) (λ i g k. absurd (knows_none t refl refl refl i g k)) refl refl refl;
         counts = more_counts sizes s.words us (uncounted_alone sizes s.words s.views h.counts id v at w refl refl) t refl refl refl;
         filled = filled_more sizes us (filled_same sizes s.views h.filled id v at w refl refl refl (λ live. live))
             t (tells_none t us refl refl) (λ z. absurd (omega arith));
         bank = banks.bank_founded γ sizes s.words s.views h.bank id v at may book;
         lasts = lasts_more sizes s.words us s.homes (lasts_stay s h id v at w (λ b. (b, refl)) refl (λ live. live)) t (λ _. refl)
             (λ z. absurd (omega arith));
+        kinds = kind_steps.arrives sizes s.words us
+            (kind_steps.same sizes s.words s.views h.kinds h.records.each id v at w refl refl refl refl refl refl s.words (λ i. refl)
+            (same_post v w refl refl refl (λ l. l) refl refl)) t (knows_no_kind sizes s.words t refl refl refl) record
+            { over = refl; ledger = refl; founds = refl; own = refl };
       }
 
   -- and come to another
@@ -346,10 +425,16 @@ module _ (γ : ℕ) (sizes : Sizes) where
             (h.bank.low id v at) (λ i. omega arith);
         lasts = lasts_fewer sizes s.words vs s.homes (lasts_stay s h id v at w (λ b. (b, refl)) refl (λ live. live)) other t there s.words t' s.homes
             (λ _ _ _ _ l. l) (no_bank t t' refl) refl (λ _ live. inl live) (λ _ _ raw. raw);
+        kinds = kind_steps.stays sizes s.words vs
+            (kind_steps.same sizes s.words s.views h.kinds h.records.each id v at w refl refl refl refl refl refl s.words (λ i. refl)
+            (same_post v w refl refl refl (λ l. l) refl refl))
+            (records.calm sizes s.views s.homes h.records id v at w (refl, refl, refl, (λ _. refl), refl)).each other t there s.words t' (λ i. refl)
+            (knows_no_kind sizes s.words t' refl refl refl) (same_post t t' refl refl refl (λ l. l) refl refl);
       }
 
   -- a token counts no more places than there are
-  pub few_over : (s : State ValueFraction View) → DomainInvariant γ sizes s → (id : ℕ) (v : View) → get_elem? s.views id ≡ some v → over_by v ≤ sizes.participants
+  pub few_over : (s : State ValueFraction View) → DomainInvariant γ sizes s → (id : ℕ) (v : View) → get_elem? s.views id ≡ some v → over_by v ≤
+      sizes.participants
   few_over s h id v at = let a = total_has over_by s.views id v at in let b = h.counts.places in let c = ended_few s.words sizes.participants in omega arith
 
   -- all stakes in a slot that is free are at home, and show that it is vacant
@@ -359,17 +444,20 @@ module _ (γ : ℕ) (sizes : Sizes) where
   free_at_home s h i p low near dead quiet empty = let n : ℕ = sizes.participants in let b = h.homes.back i p low near (λ j u e out. ⊎_elim
       (λ (m : Moves u i). still_free γ sizes s h i j u e dead quiet m)
       (λ (o : SeesFrom u i p). let f = (h.kept.parts.slots.each j u e).full i o.0 in absurd (omega arith)) out) in
-      let has = subst (λ (k : ℕ). Has γ i (share n k p) (MatchesSlotWord (full_at sizes s.words i)) b.0) (ap (away n) empty) (h.homes.home i p b.0 low near b.1) in
+      let has = subst (λ (k : ℕ). Has γ i (share n k p) (MatchesSlotWord (full_at sizes s.words i)) b.0) (ap (away n) empty)
+      (h.homes.home i p b.0 low near b.1) in
       (b.0, b.1, (has.0, has.1.1 empty))
 
   -- once a token knows that all places have ended, nobody has one
-  no_place : (s : State ValueFraction View) → DomainInvariant γ sizes s → (id : ℕ) (v : View) → get_elem? s.views id ≡ some v → sizes.participants ≤ v.places.ended
+  no_place : (s : State ValueFraction View) → DomainInvariant γ sizes s → (id : ℕ) (v : View) → get_elem? s.views id ≡ some v → sizes.participants ≤
+      v.places.ended
       → (j : ℕ) (u : View) → get_elem? s.views j ≡ some u → ¬ (HasPlace u.epoch)
   no_place s h id v at all j u e z = let f = h.kept.parts.epoch.each j u.epoch (at_map epoch_of s.views j u e) in let is = f.state z in let few = f.states in
       let in' = f.inside z in let over = h.kept.places.ended id v at u.epoch.place in' (omega arith) in omega arith
 
   -- and all stakes are at home, and show what their slots' words say
-  pub all_home : (s : State ValueFraction View) → DomainInvariant γ sizes s → (id : ℕ) (v : View) → get_elem? s.views id ≡ some v → sizes.participants ≤ v.places.ended
+  pub all_home : (s : State ValueFraction View) → DomainInvariant γ sizes s → (id : ℕ) (v : View) → get_elem? s.views id ≡ some v → sizes.participants ≤
+      v.places.ended
       → (i p : ℕ) → i < sizes.slots → p ≤ sizes.participants
       → (y : ValueFraction) × LiesAt sizes.participants s.homes i p y
       × Has γ i (share sizes.participants (away sizes.participants (full_at sizes s.words i)) p) (MatchesSlotWord (full_at sizes s.words i)) y
@@ -380,7 +468,8 @@ module _ (γ : ℕ) (sizes : Sizes) where
       (b.0, b.1, h.homes.home i p b.0 low near b.1)
 
   -- where a token counts all places, what was made has gone, or lies in a slot
-  pub all_counted : (s : State ValueFraction View) → DomainInvariant γ sizes s → (id : ℕ) (v : View) → get_elem? s.views id ≡ some v → sizes.participants ≤ v.places.ended
+  pub all_counted : (s : State ValueFraction View) → DomainInvariant γ sizes s → (id : ℕ) (v : View) → get_elem? s.views id ≡ some v → sizes.participants ≤
+      v.places.ended
       → over_by v ≡ sizes.participants → made_by v ≡ gone_by v + full_slots sizes s.words
   all_counted s h id v at all over = let c = h.counts in let few = ended_few s.words sizes.participants in let places = c.places in
       let none : (j : ℕ) (u : View) → j ≢ id → get_elem? s.views j ≡ some u → HasNoCounts u

@@ -30,13 +30,15 @@ module _ (γ i n : ℕ) where
       → AreUnlentFractions γ i (take m (lots xs))
   parts o Is few rest zero xs row = tt
   parts o Is few rest (suc m) [] row = absurd row
-  parts o Is few rest (suc m) (x ∷ xs) row = let h : FractionContent = x.1.lot in let e = row.1.0 in let u : h.units ≡ share n o m = ap (λ (l : FractionContent). l.units) e in (
-    e ∙ ap (λ (k : ℕ). lot γ i h.round h.shown k) (sym u),
-    subst (λ (k : ℕ). 0 < k) (sym u) (share_some n o m few),
-    parts o Is few rest m xs row.2,
-  )
+  parts o Is few rest (suc m) (x ∷ xs) row = let h : FractionContent = x.1.lot in let e = row.1.0 in
+      let u : h.units ≡ share n o m = ap (λ (l : FractionContent). l.units) e in (
+        e ∙ ap (λ (k : ℕ). lot γ i h.round h.shown k) (sym u),
+        subst (λ (k : ℕ). 0 < k) (sym u) (share_some n o m few),
+        parts o Is few rest m xs row.2,
+      )
 
-  sum : (o : ℕ) (Is : Gv → Type 0) (rest : CarriedFractions) (m : ℕ) → m ≤ n → (xs : CarriedFractions) → CarriesFirst γ i n o Is rest m xs → units_in (take m (lots xs)) ≡ m
+  sum : (o : ℕ) (Is : Gv → Type 0) (rest : CarriedFractions) (m : ℕ) → m ≤ n → (xs : CarriedFractions) → CarriesFirst γ i n o Is rest m xs → units_in
+      (take m (lots xs)) ≡ m
   sum o Is rest zero le xs row = refl
   sum o Is rest (suc m) le [] row = absurd row
   sum o Is rest (suc m) le (x ∷ xs) row = let u : x.1.lot.units ≡ 1 = ap (λ (l : FractionContent). l.units) row.1.0 ∙ share_one n o m (omega arith) in
@@ -55,7 +57,8 @@ module _ (γ i n : ℕ) where
         whole = omega arith;
       }
 
-  rows_turned : (o : ℕ) (Is Js : Gv → Type 0) (a : ℕ) (g : Gv) → Js g → (rest : CarriedFractions) (m : ℕ) (xs : CarriedFractions) → CarriesFirst γ i n o Is rest m xs
+  rows_turned : (o : ℕ) (Is Js : Gv → Type 0) (a : ℕ) (g : Gv) → Js g → (rest : CarriedFractions) (m : ℕ) (xs : CarriedFractions) → CarriesFirst γ i n o Is
+      rest m xs
       → CarriesFirst γ i n o Js rest m (with_lots xs (top_turned a g m (lots xs)))
   rows_turned o Is Js a g so rest zero xs row = same_lots xs ∙ row
   rows_turned o Is Js a g so rest (suc m) [] row = absurd row
@@ -66,7 +69,8 @@ module _ (γ i n : ℕ) where
   )
 
   -- and still once they show something else
-  pub all_after : (o : ℕ) (Is Js : Gv → Type 0) (g : Gv) (rest xs ys : CarriedFractions) → Js g → CarriesAll γ i n o Is rest xs → (a : ℕ) × (ys ≡ all_turned a g (suc n) xs)
+  pub all_after : (o : ℕ) (Is Js : Gv → Type 0) (g : Gv) (rest xs ys : CarriedFractions) → Js g → CarriesAll γ i n o Is rest xs → (a : ℕ) ×
+      (ys ≡ all_turned a g (suc n) xs)
       → CarriesAll γ i n o Js rest ys
   all_after o Is Js g rest xs ys so row e = subst (CarriesAll γ i n o Js rest) (sym e.1) (rows_turned o Is Js e.0 g so rest (suc n) xs row)
 
@@ -87,7 +91,8 @@ module _ (γ i n : ℕ) where
   )
 
   -- the stakes of the places are the same
-  row_alike : (o o' : ℕ) (Is : Gv → Type 0) (rest : CarriedFractions) (m : ℕ) → m ≤ n → (zs : CarriedFractions) → CarriesFirst γ i n o Is rest m zs → CarriesFirst γ i n o' Is rest m zs
+  row_alike : (o o' : ℕ) (Is : Gv → Type 0) (rest : CarriedFractions) (m : ℕ) → m ≤ n → (zs : CarriedFractions) → CarriesFirst γ i n o Is rest m zs →
+      CarriesFirst γ i n o' Is rest m zs
   row_alike o o' Is rest zero le zs row = row
   row_alike o o' Is rest (suc m) le [] row = absurd row
   row_alike o o' Is rest (suc m) le (z ∷ zs) row = (

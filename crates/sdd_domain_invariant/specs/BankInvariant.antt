@@ -12,7 +12,7 @@ use Rattle.sdd_views.specs.declared.View.{View}
 use Rattle.sdd_views.specs.declared.Sizes.{Sizes}
 use Rattle.sdd_word_invariant.specs.Sums.{total, is, times}
 use Rattle.sdd_word_invariant.specs.Slots.{owners_at}
-use Rattle.sdd_views.specs.Views.{at_rest, owner_token}
+use Rattle.sdd_views.specs.Views.{at_rest, owner_token, no_pledges}
 use Rattle.sdd_word_invariant.specs.WordInvariant.{idle}
 use Rattle.sdd_domain_invariant.specs.FractionsAtHome.{spare, full_at}
 
@@ -67,13 +67,21 @@ pub record BankInvariant (γ : ℕ) (sizes : Sizes) (ws : List ℕ) (vs : List V
   pub banks : (j : ℕ) (b : View) → get_elem? vs j ≡ some b → IsBank b → Balances γ sizes ws vs b
 
 -- ---- how it comes to be
--- the first token, which may found the bank
+-- the first token, which may found the bank and the ledger
 abbrev pub founder : Sizes → ℕ → View
-founder sizes book = record (idle sizes book) { stakes = record (at_rest book) { founds = true } }
+founder sizes book = record (idle sizes book) { stakes = record (at_rest book) { founds = true }; pledges = record no_pledges { founds = true } }
 
 -- it did
 abbrev pub founded : View → View
 founded v = record v { stakes = record v.stakes { founds = false } }
+
+-- it founded the ledger
+abbrev pub with_ledger : View → View
+with_ledger v = record v { pledges = record v.pledges { founds = false } }
+
+-- the ledger that it founds, which has nothing yet
+abbrev pub ledger_of : View → View
+ledger_of v = record (owner_token []) { pledges = record no_pledges { ledger = true } }
 
 -- the bank that it founds
 abbrev pub bank_of : View → View

@@ -11,9 +11,10 @@ use Rattle.sdd_domain_invariant.specs.Counts.{CountsInvariant}
 use Rattle.sdd_domain_invariant.specs.FilledInvariant.{FilledInvariant}
 use Rattle.sdd_domain_invariant.specs.BankInvariant.{BankInvariant}
 use Rattle.sdd_domain_invariant.specs.LastFractions.{LastsInvariant}
+use Rattle.sdd_domain_invariant.specs.KindsInvariant.{KindsInvariant}
 
 -- the words and what all participants know, the stakes at home, what is known of what slots show, what was made,
--- what a lone participant knows of owners, what the bank has, and what is known of what slots show where no participant knows it
+-- what a lone participant knows of owners, what the bank has, what is known of what slots show where no participant knows it, and whether owners are counted
 pub record DomainInvariant (γ : ℕ) (sizes : Sizes) (s : State ValueFraction View) : Type 0 where
   pub kept : WordInvariant sizes s
   pub homes : FractionsInvariant γ sizes s.words s.views s.homes
@@ -22,3 +23,4 @@ pub record DomainInvariant (γ : ℕ) (sizes : Sizes) (s : State ValueFraction V
   pub filled : FilledInvariant sizes s.views
   pub bank : BankInvariant γ sizes s.words s.views
   pub lasts : LastsInvariant sizes s.words s.views s.homes
+  pub kinds : KindsInvariant sizes s.words s.views

@@ -16,7 +16,7 @@ newest slot (r ∷ rs) = if r.slot == slot then Some r else newest slot rs
 abbrev pub HasRecord : List ShownValue → ShownValue → Type 0
 HasRecord rs r = (m : ℕ) × (get_elem? rs m ≡ some r)
 
--- it has this record, of a slot whose only owner it has, or whose item waits with it
+-- it has this record, of a slot of which it has an owner, or whose item waits with it
 abbrev pub Tells : View → ShownValue → Type 0
 Tells u r = HasRecord u.stakes.owns r ⊎ HasRecord u.stakes.waits r
 

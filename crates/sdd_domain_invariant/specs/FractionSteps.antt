@@ -1,5 +1,5 @@
 -- What a seat carries, and what each step that takes or gives stakes makes of it
-use Rattle.std.specs.Prelude.{◌≡◌, ◌≢◌, ℕ, zero, suc, ◌+◌, ◌==◌, not, Bool, List, [], ◌∷◌, ◌++◌, drop, slice_index, Some, None}
+use Rattle.std.specs.Prelude.{◌≡◌, ◌≢◌, ℕ, zero, suc, ◌+◌, ◌-◌, ◌<◌, ◌≤◌, ◌==◌, not, Bool, true, List, [], ◌∷◌, ◌++◌, drop, Some, None}
 use Rattle.std.specs.List.{filter}
 use base.Stored.{Gv}
 use Rattle.atomic_table.specs.Table.{Me}
@@ -9,16 +9,18 @@ use Rattle.sdd_shared_values.specs.declared.value_fraction.ValueFraction.{ValueF
 use Rattle.sdd_views.specs.declared.ShownValue.{ShownValue}
 use Rattle.sdd_views.specs.declared.CountsView.{CountsView}
 use Rattle.sdd_views.specs.declared.View.{View}
-use Rattle.sdd_word_invariant.specs.SlotSteps.{behind, Knew, claimed, discarded, seeing, first, others, parted, joined, Retires, Defers, ClosesAll, GivesBack}
+use Rattle.sdd_word_invariant.specs.SlotSteps.{Knew, claimed, discarded, seeing, first, others, parted, joined, Retires, Defers, ClosesAll, GivesBack, one_less, one_more, taken_back}
 use Rattle.sdd_views.specs.Views.{owner_token, at_rest, no_counts}
 use Rattle.sdd_word_invariant.specs.EpochSteps.{ended}
 use Rattle.sdd_word_invariant.specs.Words.{slot_word}
-use Rattle.sdd_word_invariant.specs.Codes.{alive}
+use Rattle.sdd_word_invariant.specs.Codes.{alive, counted, most_owners}
 use Rattle.sdd_word_invariant.specs.Epoch.{IsLone}
 use Rattle.sdd_word_invariant.specs.Slots.{Sees}
 use Rattle.sdd_domain_invariant.specs.FractionsAtHome.{CarriedFractions, stake_at, share, spare, Has}
 use Rattle.sdd_domain_invariant.specs.Records.{IsIn}
 use Rattle.sdd_domain_invariant.specs.FilledInvariant.{newest}
+use Rattle.sdd_domain_invariant.specs.BankInvariant.{one_where}
+use Rattle.sdd_domain_invariant.specs.KindsInvariant.{written}
 
 abbrev pub SeatState : Type 0
 SeatState = Me ValueFraction View
@@ -55,6 +57,10 @@ resting v = record v { stakes = record v.stakes { moves = None } }
 -- it made an item more
 abbrev pub with_made : View → View
 with_made v = record v { stakes = record v.stakes { counts = record v.stakes.counts { made = v.stakes.counts.made + 1 } } }
+
+-- it has one of several owners more of a slot, which shows this
+abbrev pub owning_more : ℕ → Gv → View → View
+owning_more slot value v = record v { stakes = record v.stakes { owns = record { slot = slot; shared = true; value = value } ∷ v.stakes.owns } }
 
 -- it gave one more back
 abbrev pub with_gone : View → View
@@ -127,7 +133,7 @@ sighting slot shared value v = record (seeing slot v) {
 abbrev pub unsighted : View → View
 unsighted v = record v { stakes = record v.stakes { sees = [] } }
 
--- the only owner that it has goes, to a token of its own, with what is known of it
+-- the owner that it has goes, to a token of its own, with what is known of it
 abbrev pub parting : View → View
 parting v = untold (parted v)
 
@@ -146,10 +152,10 @@ abbrev pub places_of : SeatState → ℕ
 places_of me = me.0.sizes.participants
 
 -- each of these: the seat before, the number found (at a store the number stored), and the seat after
--- the claim of a slot whose word is old as long as it is free: then all stakes in it are out, and show that it is vacant
+-- the claim of a slot whose word is old as long as it is free: then all stakes in it are out, and show that it is vacant; and it has a note of its word
 abbrev pub ClaimsAll : ℕ → ℕ → ℕ → SeatState → ℕ → SeatState → Type 0
 ClaimsAll slot old y me x me' =
-    (x ≡ old → (me'.0 ≡ making slot y me.0) × CarriesAll (book_of me) slot (places_of me) 0 IsNoValueCode me.1 me'.1)
+    (x ≡ old → (me'.0 ≡ making slot y me.0) × CarriesAll (book_of me) slot (places_of me) 0 IsNoValueCode me.1 me'.1 × (written me'.0 slot ≡ y))
     × (x ≢ old → me' ≡ me) × Knew slot me.0 x
 
 -- the value of an owned slot was moved in, and all stakes in it, which show it, go home with a unit each; the owner has its unit, and the bank the rest
@@ -184,9 +190,34 @@ pub record TakesHeld (slot : ℕ) (me me' : SeatState) : Type 0 where
 abbrev pub IsDeposit : ℕ → SeatState → FractionContent → Type 0
 IsDeposit slot me l = l ≡ lot (book_of me) slot l.round l.shown (spare (places_of me))
 
--- an owned item waits from now on, and what its owner knew is remembered
+-- the item of a slot whose last owner goes waits from now on, and what that knew is remembered
 abbrev pub RetiresOne : ℕ → SeatState → ℕ → SeatState → Type 0
 RetiresOne slot me y me' = (v : View) × Retires slot me.0 y v × (me'.0 ≡ remembering v) × (me'.1 ≡ me.1)
+
+-- an owner that is counted goes: the last one's item waits from now on, and what it knew is remembered; else other owners stay
+abbrev pub ReleasesOne : ℕ → SeatState → ℕ → SeatState → Type 0
+ReleasesOne slot me x me' = (counted x ≡ 1) × (0 < alive x) × (alive x ≡ 1 → RetiresOne slot me (x - 1) me')
+    × (alive x ≢ 1 → me' ≡ (untold (one_less slot (x - 1) me.0), me.1)) × Knew slot me.0 x
+
+-- an owner that is counted goes beside others, where its slot's word is still the one that was found
+abbrev pub LeavesOne : ℕ → ℕ → SeatState → ℕ → SeatState → Type 0
+LeavesOne word slot me x me' = (counted x ≡ 1) × (0 < alive x) × (x ≡ word → me' ≡ (untold (one_less slot (word - 1) me.0), me.1))
+    × (x ≢ word → me' ≡ me) × Knew slot me.0 x
+
+-- an owner more comes, beside one of several whose slot shows this; where the count was at its bound or past it, it is to be taken back
+abbrev pub AddsOne : Gv → ℕ → SeatState → ℕ → SeatState → Type 0
+AddsOne value slot me x me' = (counted x ≡ 1) × (0 < alive x)
+    × (alive x < most_owners → me' ≡ (owning_more slot value (one_more slot (x + 1) None me.0), me.1))
+    × (most_owners ≤ alive x → me' ≡ (owning_more slot value (one_more slot (x + 1) (Some slot) me.0), me.1)) × Knew slot me.0 x
+
+-- it is taken back
+abbrev pub TakesOneBack : ℕ → SeatState → ℕ → SeatState → Type 0
+TakesOneBack slot me x me' = (me' ≡ (untold (taken_back slot (x - 1) me.0), me.1)) × Knew slot me.0 x
+
+-- the owner of a slot has its unit from now on, which is drawn from the bank, and shows what is known of the slot
+abbrev pub DrawsUnit : ℕ → SeatState → FractionContent → SeatState → Type 0
+DrawsUnit slot me l me' = (me'.0 ≡ drawing slot me.0) × (me'.1 ≡ me.1)
+    × ((value : Gv) → IsIn me.0.stakes.owns slot value → l ≡ lot (book_of me) slot l.round value 1)
 
 -- it was moved out: the slot is free, and all stakes in it go home
 abbrev pub GivesAll : ℕ → SeatState → ℕ → SeatState → Type 0
@@ -210,10 +241,12 @@ SeesOwned slot shared value me me' = (Sees me.0 slot → (me' ≡ me) × IsIn me
     × (¬ (Sees me.0 slot) → (y : ValueFraction) × Has (book_of me) slot 1 (IsValue value) y
     × (me' ≡ (sighting slot shared value me.0, (stake_at (places_of me) slot me.0.epoch.place, y) ∷ me.1)))
 
--- what the token of a slot's owner tells is what this one moved into the slot last, and by the words that it knows the slot has an owner
+-- what the token of a slot's owner tells is what this one moved into the slot last, and by the words that it knows the slot has an owner, which is one
+-- of several that there may be, or not
 pub record IsRecalled (slot : ℕ) (shared : Bool) (value : Gv) (v : View) : Type 0 where
   pub newest : IsNewest slot shared value v
-  pub alive : alive (slice_index v.words (behind v.sizes slot)) ≡ 1
+  pub alive : 0 < alive (written v slot)
+  pub kind : counted (written v slot) ≡ one_where shared
 
 -- beside a slot's owner a lone participant learns what it knows of the slot, and nothing changes
 abbrev pub LearnsOwned : ℕ → Bool → Gv → SeatState → SeatState → Type 0

@@ -14,7 +14,7 @@ use Rattle.sdd_views.specs.declared.View.{View}
 use Rattle.sdd_views.specs.declared.Sizes.{Sizes}
 use Rattle.sdd_word_invariant.specs.Codes.{full}
 use Rattle.sdd_word_invariant.specs.Epoch.{HasPlace}
-use Rattle.sdd_word_invariant.specs.Slots.{slot_at, items_at, OwnsAlone, Sees}
+use Rattle.sdd_word_invariant.specs.Slots.{slot_at, items_at, Owns, Sees}
 
 -- what lies in the table's slots, where it is at home
 abbrev pub FractionsAtHome : Type 0
@@ -71,9 +71,9 @@ FractionIsTaken v i p = Moves v i ⊎ SeesFrom v i p
 abbrev pub NoneOut : List View → ℕ → ℕ → Type 0
 NoneOut vs i p = (j : ℕ) (v : View) → get_elem? vs j ≡ some v → ¬ (FractionIsTaken v i p)
 
--- who moves a value has a place, and owns it alone, or its item waits with it
+-- who moves a value has a place and an owner of it, or its item waits with it
 abbrev pub IsMover : View → Type 0
-IsMover v = (i : ℕ) → Moves v i → HasPlace v.epoch × (OwnsAlone v i ⊎ (0 < items_at i v))
+IsMover v = (i : ℕ) → Moves v i → HasPlace v.epoch × (Owns v i ⊎ (0 < items_at i v))
 
 -- the p-th stake in the slot i is at home, and it is this one
 abbrev pub LiesAt : ℕ → FractionsAtHome → ℕ → ℕ → ValueFraction → Type 0

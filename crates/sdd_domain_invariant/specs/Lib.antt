@@ -4,6 +4,9 @@ pub mod Counts
 pub mod FilledInvariant
 pub mod BankInvariant
 pub mod LastFractions
+pub mod BoundInvariant
+pub mod PledgesInvariant
+pub mod KindsInvariant
 pub mod DomainInvariant
 pub mod FractionSteps
 pub mod RawSteps

@@ -1,13 +1,11 @@
 -- What each step on an item makes of the seat that goes out as raw, is seen meanwhile, and comes back
 use Rattle.std.specs.Prelude.{◌≡◌, ◌≢◌, ℕ, false, ◌∷◌}
 use base.Stored.{Gv}
-use Rattle.sdd_shared_values.specs.ValueFractions.{FractionContent}
-use Rattle.sdd_shared_values.specs.SharedValues.{IsValueCode, lot}
+use Rattle.sdd_shared_values.specs.SharedValues.{IsValueCode}
 use Rattle.sdd_views.specs.declared.View.{View}
 use Rattle.sdd_word_invariant.specs.Epoch.{IsLone}
 use Rattle.sdd_word_invariant.specs.SlotSteps.{Knew, claimed, turned_raw}
-use Rattle.sdd_domain_invariant.specs.Records.{IsIn}
-use Rattle.sdd_domain_invariant.specs.FractionSteps.{SeatState, IsNewest, SeesOwned, untold, drawing, book_of}
+use Rattle.sdd_domain_invariant.specs.FractionSteps.{SeatState, IsNewest, SeesOwned, untold}
 
 -- the item of its only owner is out as raw, and it knows no more what the slot shows
 abbrev pub TurnsRawOne : ℕ → SeatState → ℕ → SeatState → Type 0
@@ -33,8 +31,3 @@ RegainsOne slot old y me x me' =
 abbrev pub SeesRawOne : ℕ → ℕ → SeatState → ℕ → SeatState → Type 0
 SeesRawOne slot old me x me' = (x ≡ old → (value : Gv) × SeesOwned slot false value me me' × KnewRaw slot value me.0)
     × (x ≢ old → me' ≡ me) × Knew slot me.0 x
-
--- the owner of a slot has its unit from now on, which is drawn from the bank, and shows what is known of the slot
-abbrev pub DrawsUnit : ℕ → SeatState → FractionContent → SeatState → Type 0
-DrawsUnit slot me l me' = (me'.0 ≡ drawing slot me.0) × (me'.1 ≡ me.1)
-    × ((value : Gv) → IsIn me.0.stakes.owns slot value → l ≡ lot (book_of me) slot l.round value 1)

@@ -1,13 +1,15 @@
 -- What is known of what slots show: by a token of its owner, once the value was moved in, by who sees it under a guard, and by whom its item waits with
-use Rattle.std.specs.Prelude.{◌≡◌, ◌⊎◌, ℕ, ◌<◌, ◌≤◌, List, map}
+use Rattle.std.specs.Prelude.{◌≡◌, ◌⊎◌, ℕ, ◌<◌, ◌≤◌, List, [], ◌∷◌, map}
 use mathlib.Core.Option.{some}
 use lib.ListN.{get_elem?}
 use base.Stored.{Gv}
 use Rattle.sdd_views.specs.declared.ShownValue.{ShownValue}
 use Rattle.sdd_views.specs.declared.View.{View}
 use Rattle.sdd_views.specs.declared.Sizes.{Sizes}
-use Rattle.sdd_word_invariant.specs.Slots.{items_at, OwnsAlone, Sees}
+use Rattle.sdd_word_invariant.specs.Slots.{items_at, Owns, Sees}
 use Rattle.sdd_shared_values.specs.declared.value_fraction.ValueFraction.{ValueFraction}
+use Rattle.sdd_shared_values.specs.ValueFractions.{FractionContent}
+use Rattle.sdd_domain_invariant.specs.BankInvariant.{IsBank, banked}
 use Rattle.sdd_domain_invariant.specs.FractionsAtHome.{FractionsAtHome, LiesAt, Moves}
 
 abbrev pub slot_shown : ShownValue → ℕ
@@ -24,20 +26,29 @@ KnowsShown v i g = IsIn v.stakes.owns i g ⊎ (IsIn v.stakes.sees i g ⊎ IsIn v
 abbrev pub IsKnown : List View → ℕ → Gv → Type 0
 IsKnown vs i g = (j : ℕ) × (v : View) × (get_elem? vs j ≡ some v) × KnowsShown v i g
 
--- it has a record of each slot whose only owner it has, and of each whose item waits with it, but of one whose value it moves; and one for each time
+-- it has a record of each slot of which it has an owner, and of each whose item waits with it, but of one whose value it moves; and one for each time
 -- that it sees a slot; and no others. There are so many slots: of no job's place has it any
 pub record IsTelling (slots : ℕ) (v : View) : Type 0 where
-  pub owns : (i : ℕ) (g : Gv) → IsIn v.stakes.owns i g → OwnsAlone v i × ¬ (Moves v i)
-  pub owned : (i : ℕ) → OwnsAlone v i → ¬ (Moves v i) → (g : Gv) × IsIn v.stakes.owns i g
+  pub owns : (i : ℕ) (g : Gv) → IsIn v.stakes.owns i g → Owns v i × ¬ (Moves v i)
+  pub owned : (i : ℕ) → Owns v i → ¬ (Moves v i) → (g : Gv) × IsIn v.stakes.owns i g
   pub sees : map slot_shown v.stakes.sees ≡ v.slots.sees
   pub waits : (i : ℕ) (g : Gv) → IsIn v.stakes.waits i g → (0 < items_at i v) × ¬ (Moves v i)
   pub waiting : (i : ℕ) → i < slots → 0 < items_at i v → ¬ (Moves v i) → (g : Gv) × IsIn v.stakes.waits i g
   pub inside : (i : ℕ) (g : Gv) → KnowsShown v i g → i < slots
 
--- all that is known of a slot is one value, which the stakes at home show; and nobody sees a slot whose value is moved
+-- what a deposit of units shows is what is known of its slot
+abbrev pub ShowsKnown : List View → FractionContent → Type 0
+ShowsKnown vs l = (g : Gv) → IsKnown vs l.number g → l.shown ≡ g
+
+abbrev pub AllShowKnown : List View → List FractionContent → Type 0
+AllShowKnown vs [] = Unit {0}
+AllShowKnown vs (l ∷ ls) = ShowsKnown vs l × AllShowKnown vs ls
+
+-- all that is known of a slot is one value, which the stakes at home show, and the bank's deposits; and nobody sees a slot whose value is moved
 pub record RecordsInvariant (sizes : Sizes) (vs : List View) (hs : FractionsAtHome) : Type 0 where
   pub each : (j : ℕ) (v : View) → get_elem? vs j ≡ some v → IsTelling sizes.slots v
   pub agree : (i : ℕ) (g h : Gv) → IsKnown vs i g → IsKnown vs i h → g ≡ h
   pub home : (i p : ℕ) (g : Gv) (y : ValueFraction) → i < sizes.slots → p ≤ sizes.participants → IsKnown vs i g → LiesAt sizes.participants hs i p y
       → y.lot.shown ≡ g
+  pub deposits : (j : ℕ) (b : View) → get_elem? vs j ≡ some b → IsBank b → AllShowKnown vs (banked b)
   pub apart : (j k : ℕ) (v w : View) (i : ℕ) → get_elem? vs j ≡ some v → get_elem? vs k ≡ some w → Moves v i → ¬ (Sees w i)

@@ -2,12 +2,14 @@
 use Rattle.std.specs.Prelude.{List, [], ◌∷◌}
 use Rattle.sdd_space.specs.OwnerOrCell.{OwnerOrCell}
 use Rattle.sdd_space.specs.Owned as owned
+use Rattle.sdd_space.specs.Shared as shared
 use Rattle.sdd_domain_tests.specs.declared.node.Node.{Node, out-Node}
-use Rattle.sdd_domain_tests.specs.declared.node.Node.TheOpen.{Last, Before}
+use Rattle.sdd_domain_tests.specs.declared.node.Node.TheOpen.{Last, Before, Beside}
 
--- the last one nothing, any other the owner of the next
+-- the last one nothing, any other an owner of the next
 abbrev pub holdings_of : Node → List OwnerOrCell
 holdings_of node = elim (out-Node node) [
   | Last number ↦ []
   | Before number next ↦ owned.holding_of next ∷ []
+  | Beside number next ↦ shared.holding_of next ∷ []
 ]

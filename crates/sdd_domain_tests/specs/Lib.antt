@@ -1,2 +1,4 @@
 pub mod Slots
 pub mod Held
+pub mod Hands
+pub mod Four

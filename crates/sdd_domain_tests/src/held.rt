@@ -31,7 +31,7 @@ const TWO_AND_THREE_SLOTS: Limits = Limits {
 
 fn number_of(node: &Node) -> u64 {
     match node {
-        Node::Last(number) | Node::Before(number, _) => *number,
+        Node::Last(number) | Node::Before(number, _) | Node::Beside(number, _) => *number,
     }
 }
 

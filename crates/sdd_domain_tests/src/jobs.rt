@@ -3,18 +3,16 @@ ghost use Rattle.std.specs.Prelude.{◌≡◌};
 ghost use Rattle.sdd_space.specs.CallerId.{IsSeated};
 ghost use Rattle.sdd_space.specs.Owned as owned;
 ghost use Rattle.sdd_domain.specs.Space.{seat_of, slots_home};
-ghost use Rattle.sdd_domain.specs.Domain.{slots_in};
-ghost use Rattle.sdd_domain_tests.specs.Slots.{IsReceiptIn, AreReceiptsIn};
 
 use crate::steps::{ONE_SLOT, new_domain};
+use crate::with_jobs::{
+    Total, closed, ended, is_total, job_adding, keep, not_closed, number, registered,
+};
 use sdd_core::{Limits, Refused};
-use sdd_domain::{Domain, Local, Receipt};
-use sdd_participants::{Deferred, Job, Tally};
+use sdd_domain::Local;
+use sdd_participants::Deferred;
 use sdd_space::{Deferrals, Guard, Guards, Owned};
-use std::alloc::Global;
 use std::process::Abort;
-use std::sync::Arc;
-use std::sync::atomic::{AtomicU64, Ordering};
 
 /// One participant, and one place for a job.
 const ONE_JOB: Limits = Limits {
@@ -27,85 +25,6 @@ const TWO_AND_ONE_JOB: Limits = Limits {
     participants: 2,
     ..ONE_JOB
 };
-
-/// A number that jobs add to.
-type Total = Arc<AtomicU64, Global>;
-
-/// Adds to a number that others look at.
-#[derive(Drop)]
-struct Adds {
-    total: Total,
-    amount: u64,
-}
-
-impl Job for Adds {
-    fn run(&mut self) {
-        self.total.fetch_add(self.amount, Ordering::SeqCst);
-    }
-}
-
-fn number(rt: &(impl Abort + AllocGlobal)) -> Total {
-    Arc::new(rt.alloc(), AtomicU64::new(0)).expect(rt, "memory is there")
-}
-
-/// A job that adds this.
-fn job_adding(rt: &(impl Abort + AllocGlobal), total: &Total, amount: u64) -> Deferred {
-    let adds = Adds {
-        total: Arc::try_clone(total).expect(rt, "the count has room"),
-        amount,
-    };
-    let job: Box<dyn Job + Send> = Box::new(rt.alloc(), adds).expect(rt, "memory is there");
-    Deferred::Boxed(job)
-}
-
-/// What jobs added so far.
-fn is_total(rt: &impl Abort, total: &Total, sum: u64) {
-    assert_eq!(rt; total.load(Ordering::SeqCst), sum);
-}
-
-fn registered<'d>(rt: &impl Abort, domain: &'d Domain<u64>) -> Local<'d, u64, Deferred>
-    ensures seated { IsSeated (seat_of result) }
-    ensures home { slots_home result ≡ slots_in domain.now }
-{
-    Local::register_with_jobs(domain).expect(rt, "a place is free")
-}
-
-fn ended(rt: &impl Abort, local: Local<'_, u64, Deferred>) -> Receipt<u64, Deferred>
-    ensures { IsReceiptIn (slots_home local.entry) result }
-{
-    match local.end() {
-        Ok(receipt) => receipt,
-        Err(_local) => panic!(rt; "a guard is open"),
-    }
-}
-
-fn closed(rt: &impl Abort, domain: Domain<u64>, receipts: Vec<Receipt<u64, Deferred>>) -> Tally
-    requires { AreReceiptsIn (slots_in domain) receipts.items }
-{
-    match domain.close(receipts) {
-        Ok(tally) => tally,
-        Err((_domain, _receipts, refused)) => panic!(rt; "refused: {refused:?}"),
-    }
-}
-
-/// The same domain comes back, and receipts of it, since something is out.
-fn not_closed(
-    rt: &impl Abort,
-    domain: Domain<u64>,
-    receipts: Vec<Receipt<u64, Deferred>>,
-) -> (Domain<u64>, Vec<Receipt<u64, Deferred>>)
-    requires { AreReceiptsIn (slots_in domain) receipts.items }
-    ensures home { slots_in result.0 ≡ slots_in domain }
-    ensures receipts { AreReceiptsIn (slots_in result.0) result.1.items }
-{
-    match domain.close(receipts) {
-        Ok(_tally) => panic!(rt; "something is out"),
-        Err((domain, receipts, refused)) => {
-            assert!(rt; refused == Refused::OwnerOut);
-            (domain, receipts)
-        }
-    }
-}
 
 /// Opens, accelerates and closes a guard, under which jobs have added so much.
 fn turn<S: Guards<u64>>(rt: &impl Abort, s: &mut S, total: &Total, sum: u64)
@@ -172,26 +91,31 @@ fn made(rt: &impl Abort, local: &mut Local<'_, u64, Deferred>) -> Owned<u64>
 }
 
 /// The second job finds no place until the first one ran, at its third change; each runs once.
+fn two_jobs_share_a_place(rt: &(impl Abort + AllocGlobal), limits: Limits) {
+    let total = number(rt);
+    let domain = new_domain::<u64>(rt, limits);
+    let mut local = registered(rt, &domain);
+    defers(rt, &mut local, job_adding(rt, &total, 7));
+    let second = finds_no_place(rt, &mut local, job_adding(rt, &total, 100));
+    turn(rt, &mut local, &total, 0);
+    turn(rt, &mut local, &total, 0);
+    turn(rt, &mut local, &total, 0);
+    turn(rt, &mut local, &total, 7);
+    turn(rt, &mut local, &total, 7);
+    defers(rt, &mut local, second);
+    turn(rt, &mut local, &total, 7);
+    turn(rt, &mut local, &total, 7);
+    turn(rt, &mut local, &total, 7);
+    turn(rt, &mut local, &total, 107);
+    let receipts = vec![in rt.alloc(); ended(rt, local)].expect(rt, "there is memory");
+    assert_eq!(rt; closed(rt, domain, receipts).reclaimed, 0);
+    is_total(rt, &total, 107);
+}
+
 #[test]
 fn a_job_runs_at_its_third_change(rt: HostRuntime) {
-    let total = number(&rt);
-    let domain = new_domain::<u64>(&rt, ONE_JOB);
-    let mut local = registered(&rt, &domain);
-    defers(&rt, &mut local, job_adding(&rt, &total, 7));
-    let second = finds_no_place(&rt, &mut local, job_adding(&rt, &total, 100));
-    turn(&rt, &mut local, &total, 0);
-    turn(&rt, &mut local, &total, 0);
-    turn(&rt, &mut local, &total, 0);
-    turn(&rt, &mut local, &total, 7);
-    turn(&rt, &mut local, &total, 7);
-    defers(&rt, &mut local, second);
-    turn(&rt, &mut local, &total, 7);
-    turn(&rt, &mut local, &total, 7);
-    turn(&rt, &mut local, &total, 7);
-    turn(&rt, &mut local, &total, 107);
-    let receipts = vec![in rt.alloc(); ended(&rt, local)].expect(&rt, "there is memory");
-    assert_eq!(&rt; closed(&rt, domain, receipts).reclaimed, 0);
-    is_total(&rt, &total, 107);
+    two_jobs_share_a_place(&rt, ONE_JOB);
+    two_jobs_share_a_place(&rt, TWO_AND_ONE_JOB);
 }
 
 #[test]
@@ -229,21 +153,6 @@ fn two_participants_share_the_table(rt: HostRuntime) {
     is_total(&rt, &total, 107);
     drop(third);
     is_total(&rt, &total, 107);
-}
-
-/// One receipt more of the domain.
-fn keep(
-    rt: &impl Abort,
-    domain: &Domain<u64>,
-    receipts: &mut Vec<Receipt<u64, Deferred>>,
-    receipt: Receipt<u64, Deferred>,
-)
-    requires all { AreReceiptsIn (slots_in domain.now) receipts.old.items }
-    requires one { IsReceiptIn (slots_in domain.now) receipt }
-    ensures { AreReceiptsIn (slots_in domain.now) receipts.new.items }
-{
-    let _ = domain;
-    receipts.push(receipt).expect(rt, "there is memory");
 }
 
 /// A close without the receipt with which a job waits is refused, and the job hasn't run.

@@ -3,11 +3,30 @@
 #![tactic(auto)]
 
 #[cfg(test)]
+mod answers;
+#[cfg(test)]
+mod both_spaces;
+#[cfg(test)]
+mod counted;
+#[cfg(test)]
 mod counted_owners;
+#[cfg(test)]
+mod crowd;
+#[cfg(test)]
+mod crowd_calls;
 #[cfg(test)]
 mod domains;
 #[cfg(test)]
 mod drops;
+#[cfg(test)]
+mod example;
+mod four;
+#[cfg(test)]
+mod generator;
+#[cfg(test)]
+mod guard_calls;
+#[cfg(test)]
+mod hand;
 #[cfg(test)]
 mod held;
 #[cfg(test)]
@@ -16,11 +35,27 @@ mod in_place;
 mod items;
 #[cfg(test)]
 mod jobs;
+#[cfg(test)]
+mod last_owners;
 mod node;
+#[cfg(test)]
+mod owned_calls;
+#[cfg(test)]
+mod owners;
 #[cfg(test)]
 mod places;
 #[cfg(test)]
+mod random_calls;
+#[cfg(test)]
 mod raw;
+#[cfg(test)]
+mod reclaims;
+#[cfg(test)]
+mod refused_closes;
+#[cfg(test)]
+mod several_owners;
+#[cfg(test)]
+mod shared_calls;
 #[cfg(test)]
 mod sharing;
 #[cfg(test)]
@@ -29,3 +64,7 @@ mod slots;
 mod steps;
 #[cfg(test)]
 mod threads;
+#[cfg(test)]
+mod two_workers;
+#[cfg(test)]
+mod with_jobs;

@@ -1,12 +1,13 @@
 //! A value that may hold an owner.
 ghost use Rattle.sdd_domain_tests.specs.Held.{holdings_of};
 
-use sdd_space::{Giver, Item, Owned};
+use sdd_space::{Giver, Item, Owned, Shared};
 
-/// A number, and before it the owner of another one, if there is one.
+/// A number, and an owner of another one, if there is one: the only owner, or one that may have others beside it.
 pub enum Node {
     Last(u64),
     Before(u64, Owned<Node>),
+    Beside(u64, Shared<Node>),
 }
 
 impl Item<Node> for Node {
@@ -16,6 +17,7 @@ impl Item<Node> for Node {
         match self {
             Node::Last(_) => {}
             Node::Before(_, next) => giver.owned(next),
+            Node::Beside(_, next) => giver.shared(next),
         }
     }
 }

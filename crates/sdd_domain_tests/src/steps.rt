@@ -73,6 +73,32 @@ pub fn closed<T: Item<T>>(rt: &impl Abort, domain: Domain<T>, receipts: Vec<Rece
     }
 }
 
+/// The same with the receipt of one participant.
+pub fn closed_with_one<T: Item<T>>(
+    rt: &(impl Abort + AllocGlobal),
+    domain: Domain<T>,
+    receipt: Receipt<T>,
+) -> Tally
+    requires { IsReceiptIn (slots_in domain) receipt }
+{
+    let receipts = vec![in rt.alloc(); receipt].expect(rt, "there is memory");
+    closed(rt, domain, receipts)
+}
+
+/// The same with the receipts of two.
+pub fn closed_with_two<T: Item<T>>(
+    rt: &(impl Abort + AllocGlobal),
+    domain: Domain<T>,
+    one: Receipt<T>,
+    other: Receipt<T>,
+) -> Tally
+    requires one { IsReceiptIn (slots_in domain) one }
+    requires other { IsReceiptIn (slots_in domain) other }
+{
+    let receipts = vec![in rt.alloc(); one, other].expect(rt, "there is memory");
+    closed(rt, domain, receipts)
+}
+
 /// The same domain comes back, and receipts of it, since something is out.
 pub fn not_closed<T: Item<T>>(
     rt: &impl Abort,

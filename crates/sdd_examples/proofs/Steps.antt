@@ -26,7 +26,12 @@ same_at vs i j v u e f is = some-injective v u (sym e ∙ ap (get_elem? vs) is �
 module _ (vs : List View) (id : ℕ) (v w : View) (at : get_elem? vs id ≡ some v) where
   forth : (F : View → Type 0) → (F v → F w) → (k : ℕ) (u : View) → get_elem? vs k ≡ some u → F u → (u' : View) × (get_elem? (set vs id w) k ≡ some u') × F u'
   forth F on k u e f = dite (ℕ_discrete k id)
-      (λ is. (w, subst (λ (m : ℕ). get_elem? (set vs id w) m ≡ some w) (sym is) (set_here vs id w (here vs id v at)), on (subst F (same_at vs k id u v e at is) f)))
+      (λ is. (
+        w,
+        subst (λ (m : ℕ). get_elem? (set vs id w) m ≡ some w) (sym is) (set_here vs id w (here vs id v at)),
+        on
+            (subst F (same_at vs k id u v e at is) f),
+      ))
       (λ ne. (u, set_else vs id k w ne ∙ e, f))
 
   back : (G : ℕ → View → Type 0) → G id w → ((k : ℕ) (u : View) → k ≢ id → get_elem? vs k ≡ some u → G k u)
@@ -36,7 +41,8 @@ module _ (vs : List View) (id : ℕ) (v w : View) (at : get_elem? vs id ≡ some
 
 -- how a pledge stays backed
 carry : (vs vs' : List View) (k : ℕ) (p : Pledge) → Backed vs k p
-    → ((x : View) → get_elem? vs p.seat ≡ some x → (x.owner ≡ 1) × (0 < x.owned) → (x' : View) × (get_elem? vs' p.seat ≡ some x') × ((x'.owner ≡ 1) × (0 < x'.owned)))
+    → ((x : View) → get_elem? vs p.seat ≡ some x → (x.owner ≡ 1) × (0 < x.owned) → (x' : View) × (get_elem? vs' p.seat ≡ some x') ×
+    ((x'.owner ≡ 1) × (0 < x'.owned)))
     → ((j : ℕ) (b : View) → get_elem? vs j ≡ some b → b.ledger ≡ 1 → (b' : View) × (get_elem? vs' j ≡ some b') × (b'.ledger ≡ 1))
     → ((j : ℕ) (b : View) → get_elem? vs' j ≡ some b → b.ledger ≡ 1 → Has p b.books)
     → Backed vs' k p
@@ -44,13 +50,19 @@ carry vs vs' k p B owner some_ledger books = let o = owner B.owner.0 B.owner.1 (
     let l = some_ledger B.somewhere.0 B.somewhere.1 B.somewhere.2 B.somewhere.3 in
     record { own = B.own; owner = (o.0, o.1, o.2.0, o.2.1); somewhere = (B.somewhere.0, l.0, l.1, l.2); booked = books }
 
-not_both : (vs : List View) (j k : ℕ) (a b : View) → total keeps vs ≤ 1 → j ≢ k → get_elem? vs j ≡ some a → get_elem? vs k ≡ some b → a.ledger ≡ 1 → 0 < keeps b → ⊥
+not_both : (vs : List View) (j k : ℕ) (a b : View) → total keeps vs ≤ 1 → j ≢ k → get_elem? vs j ≡ some a → get_elem? vs k ≡ some b → a.ledger ≡ 1 → 0 < keeps
+    b → ⊥
 not_both vs j k a b one apart ea eb la lb = let t = total_two keeps vs j k a b apart ea eb in absurd (omega arith)
 
 -- ---- a pledge taken out
 takes_out : (p : Pledge) (ps : List Pledge) → Has p ps → (rest : List Pledge) × Without ps p rest × ((q : Pledge) → q.who ≢ p.who → Has q ps → Has q rest)
 takes_out p [] has = absurd has
-takes_out p (q ∷ qs) (inl is) = (qs, inl (is, refl), λ r ne has. ⊎_elim (λ (t : r ≡ q). absurd (ne (ap (λ (x : Pledge). x.who) (t ∙ sym is)))) (λ (t : Has r qs). t) has)
+takes_out p (q ∷ qs) (inl is) = (
+  qs,
+  inl (is, refl),
+  λ r ne has. ⊎_elim (λ (t : r ≡ q). absurd (ne (ap (λ (x : Pledge). x.who) (t ∙ sym is))))
+      (λ (t : Has r qs). t) has,
+)
 takes_out p (q ∷ qs) (inr has) = let r = takes_out p qs has in
     (q ∷ r.0, inr (r.0, r.1, refl), λ x ne h. ⊎_elim (λ (t : x ≡ q). inl t) (λ (t : Has x qs). inr (r.2 x ne t)) h)
 
@@ -108,19 +120,22 @@ enters id v bd jd gv r s b K at_v at_b our two shown = let pl : Pledge = record 
     let carries : (k : ℕ) (p : Pledge) → Backed vs k p → Backed ws k p = λ k p B. carry vs ws k p B
     (forth_two vs id v w bd b b' at_v at_b two Sane (λ x. x) (λ x. x) p.seat)
     (forth_two vs id v w bd b b' at_v at_b two (λ x. x.ledger ≡ 1) (λ x. x) (λ x. x))
-    (back_two vs id v w bd b b' at_v at_b two (λ k u. u.ledger ≡ 1 → Has p u.books) (B.booked id v at_v) (λ _. inr (B.booked bd b at_b our)) (λ k u _ _. B.booked k u)) in (
+    (back_two vs id v w bd b b' at_v at_b two (λ k u. u.ledger ≡ 1 → Has p u.books) (B.booked id v at_v) (λ _. inr (B.booked bd b at_b our))
+    (λ k u _ _. B.booked k u)) in (
       b',
       record {
         long = K.long;
         counted = K.counted ∙ sym same;
         bounded = let t = sum_two vs id v w bd b b' at_v at_b two held refl refl in let h = K.bounded in omega arith;
         single = let t = sum_two vs id v w bd b b' at_v at_b two keeps refl refl in let h = K.single in omega arith;
-        ended = back_two vs id v w bd b b' at_v at_b two (λ k u. u.last ≡ 1 → total owned ws ≡ 0) (λ l. same ∙ K.ended id v at_v l) (λ l. same ∙ K.ended bd b at_b l)
+        ended = back_two vs id v w bd b b' at_v at_b two (λ k u. u.last ≡ 1 → total owned ws ≡ 0) (λ l. same ∙ K.ended id v at_v l)
+            (λ l. same ∙ K.ended bd b at_b l)
             (λ k u _ _ e l. same ∙ K.ended k u e l);
         backed = λ k u p e m. back_two vs id v w bd b b' at_v at_b two (λ k u. u.mine ≡ p ∷ [] → Backed ws k p)
             (λ m. let is : pl ≡ p = firsts pl p m in subst (λ (q : Pledge). Backed ws id q) is record {
               own = refl;
-              owner = let o = forth_two vs id v w bd b b' at_v at_b two Sane (λ x. x) (λ x. x) jd one_owner shown (refl, omega arith) in (o.0, o.1, o.2.0, o.2.1);
+              owner = let o = forth_two vs id v w bd b b' at_v at_b two Sane (λ x. x) (λ x. x) jd one_owner shown (refl, omega arith) in
+                  (o.0, o.1, o.2.0, o.2.1);
               somewhere = (bd, b', set_here (set vs id w) bd b' (here (set vs id w) bd b (at₁ vs id v w bd b b' at_v at_b two)), our);
               booked = back_two vs id v w bd b b' at_v at_b two (λ k u. u.ledger ≡ 1 → Has pl u.books)
                   (λ l. absurd (not_both vs id bd v b K.single two at_v at_b l (let h : 0 < keeps b = omega arith in h))) (λ _. inl refl)
@@ -149,25 +164,30 @@ leaves id v bd pl own has s b K at_v' at_b our two' = let w : View = freeing v i
         counted = K.counted ∙ sym same;
         bounded = let t = sum_two vs id v w bd b b' at_v at_b two held refl refl in let h = K.bounded in omega arith;
         single = let t = sum_two vs id v w bd b b' at_v at_b two keeps refl refl in let h = K.single in omega arith;
-        ended = back_two vs id v w bd b b' at_v at_b two (λ k u. u.last ≡ 1 → total owned ws ≡ 0) (λ l. same ∙ K.ended id v at_v l) (λ l. same ∙ K.ended bd b at_b l)
+        ended = back_two vs id v w bd b b' at_v at_b two (λ k u. u.last ≡ 1 → total owned ws ≡ 0) (λ l. same ∙ K.ended id v at_v l)
+            (λ l. same ∙ K.ended bd b at_b l)
             (λ k u _ _ e l. same ∙ K.ended k u e l);
         backed = λ k u p e m. back_two vs id v w bd b b' at_v at_b two (λ k u. u.mine ≡ p ∷ [] → Backed ws k p)
-            (λ m. absurd (not_none p m)) (λ m. carries bd p (λ e. two (sym e)) (K.backed bd b p at_b m)) (λ k u ne _ e m. carries k p ne (K.backed k u p e m)) k u e m;
+            (λ m. absurd (not_none p m)) (λ m. carries bd p (λ e. two (sym e)) (K.backed bd b p at_b m)) (λ k u ne _ e m. carries k p ne (K.backed k u p e m))
+            k u e m;
       },
       our,
       out.1,
     )
 
 -- ---- one view, and the word
-module _ (vs : List View) (id : ℕ) (v w : View) (at : get_elem? vs id ≡ some v) (owner : w.owner ≡ v.owner) (ledger : w.ledger ≡ v.ledger) (founds : w.founds ≡ v.founds)
+module _ (vs : List View) (id : ℕ) (v w : View) (at : get_elem? vs id ≡ some v) (owner : w.owner ≡ v.owner) (ledger : w.ledger ≡ v.ledger)
+    (founds : w.founds ≡ v.founds)
     (books : w.books ≡ v.books) (mine : w.mine ≡ v.mine) (enough : v.owner ≡ 1 → 0 < w.owned) where
   keep_backed : ((i : ℕ) (u : View) (p : Pledge) → get_elem? vs i ≡ some u → u.mine ≡ p ∷ [] → Backed vs i p)
       → (i : ℕ) (u : View) (p : Pledge) → get_elem? (set vs id w) i ≡ some u → u.mine ≡ p ∷ [] → Backed (set vs id w) i p
   keep_backed old i u p e m = let ws : List View = set vs id w in
       let carries : (k : ℕ) → Backed vs k p → Backed ws k p = λ k B. carry vs ws k p B
       (forth vs id v w at Sane (λ x. (owner ∙ x.0, enough x.0)) p.seat) (forth vs id v w at (λ x. x.ledger ≡ 1) (λ x. ledger ∙ x))
-      (back vs id v w at (λ k u. u.ledger ≡ 1 → Has p u.books) (λ l. subst (λ (ps : List Pledge). Has p ps) (sym books) (B.booked id v at (sym ledger ∙ l))) (λ k u _. B.booked k u)) in
-      back vs id v w at (λ k u. u.mine ≡ p ∷ [] → Backed ws k p) (λ m. carries id (old id v p at (sym mine ∙ m))) (λ k u _ e m. carries k (old k u p e m)) i u e m
+      (back vs id v w at (λ k u. u.ledger ≡ 1 → Has p u.books) (λ l. subst (λ (ps : List Pledge). Has p ps) (sym books) (B.booked id v at (sym ledger ∙ l)))
+      (λ k u _. B.booked k u)) in
+      back vs id v w at (λ k u. u.mine ≡ p ∷ [] → Backed ws k p) (λ m. carries id (old id v p at (sym mine ∙ m))) (λ k u _ e m. carries k (old k u p e m)) i u
+      e m
 
 set_word : (ws : List ℕ) (n : ℕ) → length ws ≡ 1 → get_or (set ws 0 n) 0 0 ≡ n
 set_word ws n long = get_or-set_same ws 0 n 0 (omega arith)
@@ -185,7 +205,8 @@ adds slots id me pl has room s K homes at fits = let v : View = me.0 in let w : 
       tt,
       record {
         long = length-set s.words 0 _ ∙ K.long;
-        counted = set_word s.words _ K.long ∙ let n : ℕ = get_or s.words 0 0 in let a : (n + 1) % 2 ^ 64 ≡ n + 1 = omega arith in let b : n + 1 ≡ total owned (set vs id w) = omega arith in a ∙ b;
+        counted = set_word s.words _ K.long ∙ let n : ℕ = get_or s.words 0 0 in let a : (n + 1) % 2 ^ 64 ≡ n + 1 = omega arith in
+            let b : n + 1 ≡ total owned (set vs id w) = omega arith in a ∙ b;
         bounded = omega arith;
         single = let k = total_set keeps vs id v w at in let one = K.single in omega arith;
         ended = back vs id v w at (λ k u. u.last ≡ 1 → total owned (set vs id w) ≡ 0) (λ l. let z = K.ended id v at l in absurd (omega arith))
@@ -207,7 +228,8 @@ adds slots id me pl has room s K homes at fits = let v : View = me.0 in let w : 
 -- who has an owner takes it out of the count
 pub subtracts : (slots id : ℕ) (me : Me (Unit {0}) View) → IsFree me.0 → 0 < me.0.owned
     → Allows Kept slots id me 0 (λ n. (n + (2 ^ 64 - 1)) % 2 ^ 64) (λ n after. after ≡ (gone n me.0, me.1))
-subtracts slots id me free some_owned s K homes at fits = let v : View = me.0 in let n : ℕ = get_or s.words 0 0 in let w : View = gone n v in let vs : List View = s.views in
+subtracts slots id me free some_owned s K homes at fits = let v : View = me.0 in let n : ℕ = get_or s.words 0 0 in let w : View = gone n v in
+    let vs : List View = s.views in
     let t = total_set owned vs id v w at in let h = total_set held vs id v w at in let has = total_has owned vs id v at in
     let most = K.bounded in let counts = K.counted in (
       w,
@@ -215,7 +237,8 @@ subtracts slots id me free some_owned s K homes at fits = let v : View = me.0 in
       tt,
       record {
         long = length-set s.words 0 _ ∙ K.long;
-        counted = set_word s.words _ K.long ∙ let a : (n + (2 ^ 64 - 1)) % 2 ^ 64 ≡ n - 1 = omega arith in let b : n - 1 ≡ total owned (set vs id w) = omega arith in a ∙ b;
+        counted = set_word s.words _ K.long ∙ let a : (n + (2 ^ 64 - 1)) % 2 ^ 64 ≡ n - 1 = omega arith in
+            let b : n - 1 ≡ total owned (set vs id w) = omega arith in a ∙ b;
         bounded = omega arith;
         single = let k = total_set keeps vs id v w at in let one = K.single in omega arith;
         ended = back vs id v w at (λ k u. u.last ≡ 1 → total owned (set vs id w) ≡ 0)
@@ -230,14 +253,16 @@ subtracts slots id me free some_owned s K homes at fits = let v : View = me.0 in
 
 -- an owner leaves as a token of its own
 pub parts : (id : ℕ) (v : View) → IsFree v → 0 < v.owned → Splits Kept id v (cut v) one_owner
-parts id v free some_owned s K at = let w : View = cut v in let vs : List View = s.views in let us : List View = set vs id w in let ws : List View = us ++ one_owner ∷ [] in
+parts id v free some_owned s K at = let w : View = cut v in let vs : List View = s.views in let us : List View = set vs id w in
+    let ws : List View = us ++ one_owner ∷ [] in
     let t = total_set owned vs id v w at in let h = total_set held vs id v w at in let k = total_set keeps vs id v w at in
     let t' = total_snoc owned us one_owner in let h' = total_snoc held us one_owner in let k' = total_snoc keeps us one_owner in
     let counts = K.counted in let most = K.bounded in let single = K.single in let all : total owned ws ≡ total owned vs = omega arith in
     let middle = keep_backed vs id v w at refl refl refl refl refl (λ o. let f = free.owner in absurd (omega arith)) K.backed in
     let carries : (i : ℕ) (p : Pledge) → Backed us i p → Backed ws i p = λ i p B. carry us ws i p B
     (λ x e x'. (x, at_longer us (one_owner ∷ []) p.seat x e, x')) (λ j b e l. (b, at_longer us (one_owner ∷ []) j b e, l))
-    (λ j b e l. ⊎_elim (λ (r : get_elem? us j ≡ some b). B.booked j b r l) (λ (r : one_owner ≡ b). let z = ap (λ (x : View). x.ledger) r in absurd (omega arith))
+    (λ j b e l. ⊎_elim (λ (r : get_elem? us j ≡ some b). B.booked j b r l)
+    (λ (r : one_owner ≡ b). let z = ap (λ (x : View). x.ledger) r in absurd (omega arith))
     (at_snoc us one_owner b j e)) in
     record {
       long = K.long;
@@ -245,7 +270,8 @@ parts id v free some_owned s K at = let w : View = cut v in let vs : List View =
       bounded = omega arith;
       single = omega arith;
       ended = λ i u e l. ⊎_elim
-          (λ (r : get_elem? us i ≡ some u). back vs id v w at (λ k u. u.last ≡ 1 → total owned ws ≡ 0) (λ l. all ∙ K.ended id v at l) (λ k u _ e l. all ∙ K.ended k u e l) i u r l)
+          (λ (r : get_elem? us i ≡ some u). back vs id v w at (λ k u. u.last ≡ 1 → total owned ws ≡ 0) (λ l. all ∙ K.ended id v at l)
+          (λ k u _ e l. all ∙ K.ended k u e l) i u r l)
           (λ (r : one_owner ≡ u). let z = ap (λ (x : View). x.last) r in absurd (omega arith)) (at_snoc us one_owner u i e);
       backed = λ i u p e m. ⊎_elim (λ (r : get_elem? us i ≡ some u). carries i p (middle i u p r m))
           (λ (r : one_owner ≡ u). absurd (not_none p (ap (λ (x : View). x.mine) r ∙ m))) (at_snoc us one_owner u i e);
@@ -253,7 +279,8 @@ parts id v free some_owned s K at = let w : View = cut v in let vs : List View =
 
 -- another participant gets half of the room
 pub halves : (id : ℕ) (v : View) → IsFree v → Splits Kept id v (remaining v) (newcomer v)
-halves id v free s K at = let w : View = remaining v in let new : View = newcomer v in let vs : List View = s.views in let us : List View = set vs id w in let ws : List View = us ++ new ∷ [] in
+halves id v free s K at = let w : View = remaining v in let new : View = newcomer v in let vs : List View = s.views in let us : List View = set vs id w in
+    let ws : List View = us ++ new ∷ [] in
     let t = total_set owned vs id v w at in let h = total_set held vs id v w at in let k = total_set keeps vs id v w at in
     let t' = total_snoc owned us new in let h' = total_snoc held us new in let k' = total_snoc keeps us new in
     let counts = K.counted in let most = K.bounded in let single = K.single in let all : total owned ws ≡ total owned vs = omega arith in
@@ -268,7 +295,8 @@ halves id v free s K at = let w : View = remaining v in let new : View = newcome
       bounded = omega arith;
       single = omega arith;
       ended = λ i u e l. ⊎_elim
-          (λ (r : get_elem? us i ≡ some u). back vs id v w at (λ k u. u.last ≡ 1 → total owned ws ≡ 0) (λ l. all ∙ K.ended id v at l) (λ k u _ e l. all ∙ K.ended k u e l) i u r l)
+          (λ (r : get_elem? us i ≡ some u). back vs id v w at (λ k u. u.last ≡ 1 → total owned ws ≡ 0) (λ l. all ∙ K.ended id v at l)
+          (λ k u _ e l. all ∙ K.ended k u e l) i u r l)
           (λ (r : new ≡ u). let z = ap (λ (x : View). x.last) r in absurd (omega arith)) (at_snoc us new u i e);
       backed = λ i u p e m. ⊎_elim (λ (r : get_elem? us i ≡ some u). carries i p (middle i u p r m))
           (λ (r : new ≡ u). absurd (not_none p (ap (λ (x : View). x.mine) r ∙ m))) (at_snoc us new u i e);
@@ -276,12 +304,15 @@ halves id v free s K at = let w : View = remaining v in let new : View = newcome
 
 -- the ledger is founded: no pledge can be there yet
 pub founds : (id : ℕ) (v : View) → v.founds ≡ 1 → Splits Kept id v (founded v) a_ledger
-founds id v may s K at = let w : View = founded v in let vs : List View = s.views in let us : List View = set vs id w in let ws : List View = us ++ a_ledger ∷ [] in
+founds id v may s K at = let w : View = founded v in let vs : List View = s.views in let us : List View = set vs id w in
+    let ws : List View = us ++ a_ledger ∷ [] in
     let t = total_set owned vs id v w at in let h = total_set held vs id v w at in let k = total_set keeps vs id v w at in
     let t' = total_snoc owned us a_ledger in let h' = total_snoc held us a_ledger in let k' = total_snoc keeps us a_ledger in
     let counts = K.counted in let most = K.bounded in let single = K.single in let all : total owned ws ≡ total owned vs = omega arith in
-    let no_pledge : (i : ℕ) (p : Pledge) → Backed vs i p → ⊥ = λ i p B. let l = B.somewhere.3 in let fl : 0 < keeps v = omega arith in dite (ℕ_discrete B.somewhere.0 id)
-    (λ is. let e = same_at vs B.somewhere.0 id B.somewhere.1 v B.somewhere.2 at is in let lv = ap (λ (x : View). x.ledger) e in let a = total_has keeps vs id v at in
+    let no_pledge : (i : ℕ) (p : Pledge) → Backed vs i p → ⊥ = λ i p B. let l = B.somewhere.3 in
+    let fl : 0 < keeps v = omega arith in dite (ℕ_discrete B.somewhere.0 id)
+    (λ is. let e = same_at vs B.somewhere.0 id B.somewhere.1 v B.somewhere.2 at is in let lv = ap (λ (x : View). x.ledger) e in
+    let a = total_has keeps vs id v at in
     absurd (omega arith))
     (λ ne. not_both vs B.somewhere.0 id B.somewhere.1 v single ne B.somewhere.2 at l fl) in
     record {
@@ -290,7 +321,8 @@ founds id v may s K at = let w : View = founded v in let vs : List View = s.view
       bounded = omega arith;
       single = omega arith;
       ended = λ i u e l. ⊎_elim
-          (λ (r : get_elem? us i ≡ some u). back vs id v w at (λ k u. u.last ≡ 1 → total owned ws ≡ 0) (λ l. all ∙ K.ended id v at l) (λ k u _ e l. all ∙ K.ended k u e l) i u r l)
+          (λ (r : get_elem? us i ≡ some u). back vs id v w at (λ k u. u.last ≡ 1 → total owned ws ≡ 0) (λ l. all ∙ K.ended id v at l)
+          (λ k u _ e l. all ∙ K.ended k u e l) i u r l)
           (λ (r : a_ledger ≡ u). let z = ap (λ (x : View). x.last) r in absurd (omega arith)) (at_snoc us a_ledger u i e);
       backed = λ i u p e m. ⊎_elim
           (λ (r : get_elem? us i ≡ some u). back vs id v w at (λ k u. u.mine ≡ p ∷ [] → Backed ws k p) (λ m. absurd (no_pledge id p (K.backed id v p at m)))
@@ -309,19 +341,23 @@ joins id v other bd s b K at at_o at_b our two far free = let w : View = regaine
     let has = total_has owned vs other one_owner at_o in
     let mine_of : (i : ℕ) (p : Pledge) → Backed vs i p → p.seat ≢ other = λ i p B. free_of other b.books p free (B.booked bd b at_b our) in
     let carries : (i : ℕ) (p : Pledge) → Backed vs i p → Backed ws i p = λ i p B. carry vs ws i p B
-    (λ x e x'. let r = forth vs id v w at Sane (λ y. (y.0, omega arith)) p.seat x e x' in (r.0, set_else (set vs id w) other p.seat blank (mine_of i p B) ∙ r.1, r.2))
+    (λ x e x'. let r = forth vs id v w at Sane (λ y. (y.0, omega arith)) p.seat x e x' in
+    (r.0, set_else (set vs id w) other p.seat blank (mine_of i p B) ∙ r.1, r.2))
     (λ j c e l. let r = forth vs id v w at (λ x. x.ledger ≡ 1) (λ x. x) j c e l in
     dite (ℕ_discrete j other) (λ is. let z = ap (λ (x : View). x.ledger) (same_at vs j other c one_owner e at_o is) in absurd (omega arith))
     (λ ne. (r.0, set_else (set vs id w) other j blank ne ∙ r.1, r.2)))
-    (back_two vs id v w other one_owner blank at at_o apart (λ k u. u.ledger ≡ 1 → Has p u.books) (B.booked id v at) (λ l. absurd (omega arith)) (λ k u _ _. B.booked k u)) in
+    (back_two vs id v w other one_owner blank at at_o apart (λ k u. u.ledger ≡ 1 → Has p u.books) (B.booked id v at) (λ l. absurd (omega arith))
+    (λ k u _ _. B.booked k u)) in
     record {
       long = K.long;
       counted = omega arith;
       bounded = omega arith;
       single = omega arith;
-      ended = back_two vs id v w other one_owner blank at at_o apart (λ k u. u.last ≡ 1 → total owned ws ≡ 0) (λ l. let z = K.ended id v at l in absurd (omega arith))
+      ended = back_two vs id v w other one_owner blank at at_o apart (λ k u. u.last ≡ 1 → total owned ws ≡ 0)
+          (λ l. let z = K.ended id v at l in absurd (omega arith))
           (λ l. absurd (omega arith)) (λ k u _ _ e l. let z = K.ended k u e l in absurd (omega arith));
-      backed = λ i u p e m. back_two vs id v w other one_owner blank at at_o apart (λ k u. u.mine ≡ p ∷ [] → Backed ws k p) (λ m. carries id p (K.backed id v p at m))
+      backed = λ i u p e m. back_two vs id v w other one_owner blank at at_o apart (λ k u. u.mine ≡ p ∷ [] → Backed ws k p)
+          (λ m. carries id p (K.backed id v p at m))
           (λ m. absurd (not_none p m)) (λ k u _ _ e m. carries k p (K.backed k u p e m)) i u e m;
     }
 
@@ -352,8 +388,17 @@ with_room = record blank { room = 1 }
 
 pub needs_a_pledge : (then : ℕ → Me (Unit {0}) View → Type 0) → Allows Kept 0 0 (with_room, []) 0 (λ n. (n + 1) % 2 ^ 64) then → ⊥
 needs_a_pledge then allows = let s : State (Unit {0}) View = record { words = 0 ∷ []; homes = []; views = with_room ∷ told_last ∷ [] } in
-    let K : Kept s = record { long = refl; counted = refl; bounded = omega arith; single = omega arith; ended = λ _ _ _ _. refl; backed = λ i v p e m. absurd (none i v p e m) } in
-    let r = allows s K refl refl (omega arith) in let K' = r.3 in let none_left = K'.ended 1 told_last refl refl in let one_counted = K'.counted in absurd (omega arith)
+    let K : Kept s = record {
+      long = refl;
+      counted = refl;
+      bounded = omega arith;
+      single = omega arith;
+      ended = λ _ _ _ _. refl;
+      backed = λ i v p e m. absurd
+          (none i v p e m);
+    } in
+    let r = allows s K refl refl (omega arith) in let K' = r.3 in let none_left = K'.ended 1 told_last refl refl in
+    let one_counted = K'.counted in absurd (omega arith)
   where
     none : (i : ℕ) (v : View) (p : Pledge) → get_elem? (with_room ∷ told_last ∷ []) i ≡ some v → v.mine ≡ p ∷ [] → ⊥
     none zero v p e m = not_none p (ap (λ (x : View). x.mine) (some-injective _ _ e) ∙ m)

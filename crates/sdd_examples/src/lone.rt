@@ -1,11 +1,17 @@
 //! The only participant of a domain is answered as a participant of a world is: one function does for both.
-ghost use Rattle.std.specs.Prelude.{◌≡◌, ◌⊎◌, ◌+◌, ◌^◌, ◌<◌, ◌≤◌, ℕ, MatchResult, None};
-ghost use Rattle.sdd_participants.specs.Slab.{IsEmptyAt, IsFull};
+ghost use Rattle.std.specs.Prelude.{◌≡◌, ◌⊎◌, ◌+◌, ◌^◌, ◌<◌, ◌≤◌, ℕ, Contains, IfOk, IsSome, MatchResult, None, Some, length};
+ghost use Rattle.sdd_participants.specs.EpochState.{CanNest};
+ghost use Rattle.sdd_participants.specs.Slab.{IsEmptyAt, IsFull, entry_at};
+ghost use Rattle.sdd_participants.specs.declared.waiting.LimboEntry.TheVariants as entry;
+ghost use Rattle.sdd_space.specs.AcceleratedGuards.{HavePassed};
+ghost use Rattle.sdd_space.specs.Guard.{reader_of};
+ghost use Rattle.sdd_space.specs.Owned.{slot_of, slots_home};
 ghost use Rattle.sdd_space.specs.ReclaimBound.{Waits, accelerated_guard, four_guards};
 ghost use Rattle.sdd_space.specs.WorkingGuards.{WorkingGuardsReclaim};
 ghost use Rattle.sdd_space.specs.CallerId.{IsSeated, IsExact};
-ghost use Rattle.sdd_space.specs.WorldChanges.{made, retired};
-ghost use Rattle.sdd_space.specs.World.{World, IsPlaceOf, standing_at};
+ghost use Rattle.sdd_space.specs.WorldChanges.{made, opened, retired, deferred, reclaims};
+ghost use Rattle.sdd_space.specs.World.{World, IsPlaceOf, standing_at, value_at};
+ghost use Rattle.sdd_space.specs.WorldInvariant.{taken, times_deferred};
 ghost use Rattle.sdd_world.specs.Place.{index_of};
 ghost use Rattle.sdd_domain.specs.Domain.{limits_of};
 ghost use Rattle.sdd_domain.specs.Local.{world_of};
@@ -13,8 +19,10 @@ ghost use Rattle.sdd_domain.specs.LocalState.{IsLone};
 ghost use Rattle.sdd_domain.specs.Space.{seat_of};
 
 use crate::guards::accelerated;
+use crate::items::raw_and_back;
 use sdd_core::Refused;
 use sdd_domain::{Domain, Local};
+use sdd_participants::Job;
 use sdd_space::{Guard, Item, Items, Owned};
 use sdd_world::{Place, World};
 
@@ -121,4 +129,78 @@ pub fn goes_under_work<T: Item<T>>(local: &Local<'_, T>)
     ensures { WorkingGuardsReclaim T.holds (world_of local.now) }
 {
     local.working_guards_reclaim();
+}
+
+/// The only participant of a domain makes a number and retires it, where a slot is free: it waits, and as much is out as was.
+pub fn number_passes(local: &mut Local<'_, u64>)
+    requires seated { IsSeated (seat_of local.old) }
+    requires lone { IsLone local.old.member }
+    requires room { taken (world_of local.old) < length (world_of local.old).standings }
+    requires few { (world_of local.old).tally.made + 1 < 2 ^ 128 }
+    ensures seat { seat_of local.new ≡ seat_of local.old }
+    ensures passed { HavePassed 1 (world_of local.old) (world_of local.new) }
+{
+    local.is_whole();
+    local.items_pass();
+    local.counts_what_is_out();
+    let Ok(()) = in_a_domain(7, local) else {
+        unreachable!()
+    };
+}
+
+/// An item of the only participant of a domain goes out as raw and comes back: answers what is read then, which is what was in its slot.
+pub fn out_and_back(owner: Owned<u64>, local: &mut Local<'_, u64>) -> (Owned<u64>, u64)
+    requires seated { IsSeated (seat_of local.old) }
+    requires lone { IsLone local.old.member }
+    requires home { slots_home owner ≡ (seat_of local.old).home.slots }
+    ensures seat { seat_of local.new ≡ seat_of local.old }
+    ensures home { slots_home result.0 ≡ (seat_of local.new).home.slots }
+    ensures same { slot_of result.0 ≡ slot_of owner }
+    ensures read { value_at (world_of local.old) (slot_of owner) ≡ Some result.1 }
+    ensures world { world_of local.new ≡ world_of local.old }
+{
+    raw_and_back(owner, local)
+}
+
+/// A job that the only participant of a domain defers under a guard waits once, in a place that was free.
+///
+/// `NoJob` where no place is free; the job comes back.
+pub fn waits_once<T: Item<T>, J: Job>(
+    job: J,
+    guard: &Guard,
+    local: &mut Local<'_, T, J>,
+) -> Result<(), (J, Refused)>
+    requires seated { IsSeated (seat_of local.old) }
+    requires lone { IsLone local.old.member }
+    requires reader { reader_of guard.now ≡ (seat_of local.old).reader }
+    ensures seat { seat_of local.new ≡ seat_of local.old }
+    ensures once { MatchResult result
+        (λ _. (place : ℕ) × IsEmptyAt (world_of local.old).jobs place × (times_deferred (world_of local.new) place ≡ 1) ×
+        (world_of local.new ≡ deferred (world_of local.old) local.old.member.place place))
+        (λ e. IsFull (world_of local.old).jobs × (e ≡ (job, Refused.NoJob)) × (world_of local.new ≡ world_of local.old)) }
+{
+    let answer = guard.defer_execute(job, local);
+    local.runs_jobs_once();
+    answer
+}
+
+/// Opens a guard of the only participant of a domain: the place of each job that is due was taken, and is free then; every other is as before.
+///
+/// `TooManyGuards` where as many are open as may nest.
+pub fn frees_what_is_due<T: Item<T>, J: Job>(local: &mut Local<'_, T, J>) -> Result<Guard, Refused>
+    requires seated { IsSeated (seat_of local.old) }
+    requires lone { IsLone local.old.member }
+    ensures seat { seat_of local.new ≡ seat_of local.old }
+    ensures reader { IfOk result (λ guard. reader_of guard ≡ (seat_of local.old).reader) }
+    ensures freed { IfOk result (λ _. (place : ℕ) → Contains (reclaims (world_of local.old) local.old.member.place) (entry.Job place) →
+        IsSome (entry_at (world_of local.old).jobs place) × (entry_at (world_of local.new).jobs place ≡ None)) }
+    ensures kept { IfOk result (λ _. (place : ℕ) → ¬ (Contains (reclaims (world_of local.old) local.old.member.place) (entry.Job place)) →
+        entry_at (world_of local.new).jobs place ≡ entry_at (world_of local.old).jobs place) }
+    ensures exact { MatchResult result
+        (λ _. CanNest (world_of local.old).time local.old.member.place × (world_of local.new ≡ opened T.holds (world_of local.old) local.old.member.place))
+        (λ e. (e ≡ Refused.TooManyGuards) × ¬ (CanNest (world_of local.old).time local.old.member.place) × (world_of local.new ≡ world_of local.old)) }
+{
+    local.is_whole();
+    local.runs_jobs_once();
+    Guard::new(local)
 }

@@ -2,6 +2,17 @@
 #![tactic(auto)]
 
 #[cfg(test)]
-mod setting;
+mod example;
+#[cfg(test)]
+mod lines;
+#[cfg(test)]
+mod marks;
+#[cfg(test)]
+mod queues;
 #[cfg(test)]
 mod stacks;
+pub mod station;
+#[cfg(test)]
+mod steps;
+
+pub use station::Station;

@@ -14,3 +14,11 @@ pub mod Ending
 pub mod Leaving
 pub mod Marking
 pub mod Order
+pub mod Spliced
+pub mod Linking
+pub mod Walking
+pub mod Filling
+pub mod QueueFilling
+pub mod Beside
+pub mod Cloning
+pub mod StackCloning

@@ -1,6 +1,6 @@
 -- What comes out of a queue and of a stack, and in which order
-use Rattle.std.proofs.Common.{◌≡◌, ℕ, ◌+◌, List, [], ◌∷◌, ◌++◌, length, Bool, true, false, Option, refl, sym, ap, ◌∙◌, arith, subst, append_assoc, length-append}
-use Rattle.std.specs.Prelude.{reverse, if◌then◌else◌}
+use Rattle.std.proofs.Common.{◌≡◌, ℕ, List, [], ◌∷◌, ◌++◌, length, Bool, true, false, refl, sym, ap, ◌∙◌, arith, subst, append_assoc, length-append}
+use Rattle.std.specs.Prelude.{if◌then◌else◌}
 use Rattle.std.proofs.lemmas.List.{append-nil, reverse-append}
 use Rattle.sdd_core.specs.declared.tag.Tag.TheVariants as tag
 use Rattle.sdd_space.specs.World.{World}
@@ -39,7 +39,7 @@ module _ {T : Type 0} where
   values-gone : (e : Entry T) (es : List (Entry T)) → is_deleted e ≡ true → values_of (e ∷ es) ≡ values_of es
   values-gone e es is = rw is refl
 
-  values-kept : (e : Entry T) (es : List (Entry T)) → is_deleted e ≡ false → values_of (e ∷ es) ≡ e.value ∷ values_of es
+  pub values-kept : (e : Entry T) (es : List (Entry T)) → is_deleted e ≡ false → values_of (e ∷ es) ≡ e.value ∷ values_of es
   values-kept e es is = rw is refl
 
   none-spent : (es : List (Entry T)) → is_spent es ≡ true → values_of es ≡ []
@@ -65,7 +65,7 @@ module _ {T : Type 0} where
   spent-by k x e es more false is = more
 
   -- what a push puts at the end is the last value
-  values-push : (k : ℕ) (x : T) (es : List (Entry T)) →
+  pub values-push : (k : ℕ) (x : T) (es : List (Entry T)) →
       values_of (through_last es ++ record { slot = k; value = x; tag = tag.None } ∷ []) ≡ values_of es ++ x ∷ []
   values-push k x [] = refl
   values-push k x (e ∷ es) = spent-by k x e es (push-by k x e es (values-push k x es) (is_deleted e) refl) (is_spent (e ∷ es)) refl
@@ -76,7 +76,7 @@ module _ {T : Type 0} where
   left-by e es more false is = refl
 
   -- letting go of deleted entries leaves the values
-  values-left : (es : List (Entry T)) → values_of (left es) ≡ values_of es
+  pub values-left : (es : List (Entry T)) → values_of (left es) ≡ values_of es
   values-left [] = refl
   values-left (e ∷ es) = left-by e es (values-left es) (is_deleted e) refl
 

@@ -84,13 +84,13 @@ module _ {T : Type 0} (link : T → ℕ) where
       IsList link (made_as w k v s) c t es
   list-made w c t k v s es free list = record { begins = list.begins; linked = linked-made w k v s es free list.linked }
 
-  pub pushed : (w : World T) (c : ℕ) (t : Tag) (es : List (Entry T)) (k : ℕ) (v : T) → IsList link w c t es → value_at w k ≡ Some v →
+  pub pushed-as : (w : World T) (c : ℕ) (t to : Tag) (es : List (Entry T)) (k : ℕ) (v : T) → IsList link w c t es → value_at w k ≡ Some v →
       entry_at w.cells (link v) ≡ Some (record { held = None; tag = tag.None }) → c ≢ link v → Apart link (link v) es →
-      IsList link (linked_in w c t (link v) k (first_slot es)) c t (record { slot = k; value = v; tag = tag.None } ∷ es)
-  pushed w c t es k v list there clear far all =
+      IsList link (linked_in w c to (link v) k (first_slot es)) c to (record { slot = k; value = v; tag = tag.None } ∷ es)
+  pushed-as w c t to es k v list there clear far all =
       let l : ℕ = link v in
       let next : CellContents = record { held = first_slot es; tag = tag.None } in
-      let first : CellContents = record { held = Some k; tag = t } in
+      let first : CellContents = record { held = Some k; tag = to } in
       let u : World T = with_cell w l next in
       let x : World T = with_cell u c first in
       let from_cell = apart link w c (record { held = first_slot es; tag = t }) es es list.begins refl list.linked list.linked (omega arith) in
@@ -112,35 +112,47 @@ module _ {T : Type 0} (link : T → ℕ) where
         );
       }
 
+  pub pushed : (w : World T) (c : ℕ) (t : Tag) (es : List (Entry T)) (k : ℕ) (v : T) → IsList link w c t es → value_at w k ≡ Some v →
+      entry_at w.cells (link v) ≡ Some (record { held = None; tag = tag.None }) → c ≢ link v → Apart link (link v) es →
+      IsList link (linked_in w c t (link v) k (first_slot es)) c t (record { slot = k; value = v; tag = tag.None } ∷ es)
+  pushed w c t es k v list there clear far all = pushed-as w c t t es k v list there clear far all
+
 abbrev cell_of : Option ℕ → Tag → CellContents
 cell_of held t = record { held = held; tag = t }
 
--- three swaps put an entry between a cell and what it held
-module _ {T : Type 0} (w u v x : World T) (c l : ℕ) (next rest gap : Option ℕ) (t1 t2 t3 : Tag) (k : ℕ) (far : c ≢ l)
-    (has1 : entry_at w.cells c ≡ Some (cell_of next t1)) (to1 : u ≡ with_cell w c (cell_of None tag.None))
-    (has2 : entry_at u.cells l ≡ Some (cell_of rest t2)) (to2 : v ≡ with_cell u l (cell_of next tag.None))
-    (clear : entry_at w.cells l ≡ Some (cell_of None tag.None)) where
-  pub rest-none : rest ≡ None
-  rest-none =
-      ap held_in (sym has2 ∙ ap (λ (a : World T). entry_at a.cells l) to1
-      ∙ get_or-set_other w.cells c l (Some (cell_of None tag.None)) None (λ e. far (sym e)) ∙ clear)
+-- three swaps put an entry between a cell and what it held: the first one empties the cell
+module _ {T : Type 0} (w u : World T) (c l : ℕ) (next : Option ℕ) (t1 : Tag) (far : c ≢ l)
+    (has1 : entry_at w.cells c ≡ Some (cell_of next t1)) (to1 : u ≡ with_cell w c (cell_of None tag.None)) where
+  pub empty-then : entry_at u.cells c ≡ Some (cell_of None tag.None)
+  empty-then =
+      ap (λ (a : World T). entry_at a.cells c) to1
+      ∙ get_or-set_same w.cells c (Some (cell_of None tag.None)) None (inside w.cells c (cell_of next t1) has1)
 
-  module _ (has3 : entry_at v.cells c ≡ Some (cell_of gap t3)) (to3 : x ≡ with_cell v c (cell_of (Some k) t1)) where
-    pub gap-none : gap ≡ None
-    gap-none =
-        let there : c < length w.cells = inside w.cells c (cell_of next t1) has1 in
-        ap held_in (sym has3 ∙ ap (λ (a : World T). entry_at a.cells c) to2
-        ∙ get_or-set_other u.cells l c (Some (cell_of next tag.None)) None far
-        ∙ ap (λ (a : World T). entry_at a.cells c) to1 ∙ get_or-set_same w.cells c (Some (cell_of None tag.None)) None there)
+  pub clear-still : entry_at w.cells l ≡ Some (cell_of None tag.None) → entry_at u.cells l ≡ Some (cell_of None tag.None)
+  clear-still clear =
+      ap (λ (a : World T). entry_at a.cells l) to1 ∙ get_or-set_other w.cells c l (Some (cell_of None tag.None)) None (λ e. far (sym e)) ∙ clear
 
-    pub put : (n : Option ℕ) (t : Tag) → entry_at w.cells c ≡ Some (cell_of n t) →
-        x ≡ with_cell (with_cell w l (cell_of n tag.None)) c (cell_of (Some k) t)
-    put n t holds =
-        let tags : t1 ≡ t = ap tag_in (sym has1 ∙ holds) in
-        let nexts : next ≡ n = ap held_in (sym has1 ∙ holds) in
-        to3 ∙ ap (λ (a : World T). with_cell a c (cell_of (Some k) t1)) to2
-        ∙ ap (λ (a : World T). with_cell (with_cell a l (cell_of next tag.None)) c (cell_of (Some k) t1)) to1
-        ∙ ap (λ (cs : Entries CellContents). record w { cells = cs })
-        (thrice (λ (y : T). 0) w.cells c l (cell_of None tag.None) (cell_of next tag.None) (cell_of (Some k) t1) far)
-        ∙ ap (λ (y : Option ℕ). with_cell (with_cell w l (cell_of y tag.None)) c (cell_of (Some k) t1)) nexts
-        ∙ ap (λ (y : Tag). with_cell (with_cell w l (cell_of n tag.None)) c (cell_of (Some k) y)) tags
+  pub put-then : (n : Option ℕ) (t to : Tag) (k : ℕ) → entry_at w.cells c ≡ Some (cell_of n t) → linked_in u c to l k next ≡ linked_in w c to l k n
+  put-then n t to k holds =
+      let nexts : next ≡ n = ap held_in (sym has1 ∙ holds) in
+      ap (λ (a : World T). linked_in a c to l k next) to1
+      ∙ ap (λ (cs : Entries CellContents). record w { cells = cs })
+      (thrice (λ (y : T). 0) w.cells c l (cell_of None tag.None) (cell_of next tag.None) (cell_of (Some k) to) far)
+      ∙ ap (λ (y : Option ℕ). linked_in w c to l k y) nexts
+
+  pub tag-then : (n : Option ℕ) (t : Tag) → entry_at w.cells c ≡ Some (cell_of n t) → t1 ≡ t
+  tag-then n t holds = ap tag_in (sym has1 ∙ holds)
+
+-- and the other two write the link and the cell
+module _ {T : Type 0} (w u : World T) (c l : ℕ) (next rest gap : Option ℕ) (t2 t3 to : Tag) (k : ℕ) (far : c ≢ l)
+    (has2 : entry_at w.cells l ≡ Some (cell_of rest t2)) (to2 : u ≡ with_cell w l (cell_of next tag.None)) where
+  pub rest-none : entry_at w.cells l ≡ Some (cell_of None tag.None) → rest ≡ None
+  rest-none clear = ap held_in (sym has2 ∙ clear)
+
+  pub gap-none : entry_at w.cells c ≡ Some (cell_of None tag.None) → entry_at u.cells c ≡ Some (cell_of gap t3) → gap ≡ None
+  gap-none empty has3 =
+      ap held_in (sym has3 ∙ ap (λ (a : World T). entry_at a.cells c) to2
+      ∙ get_or-set_other w.cells l c (Some (cell_of next tag.None)) None far ∙ empty)
+
+  pub put-last : (x : World T) → x ≡ with_cell u c (cell_of (Some k) to) → x ≡ linked_in w c to l k next
+  put-last x to3 = to3 ∙ ap (λ (a : World T). with_cell a c (cell_of (Some k) to)) to2

@@ -3,7 +3,7 @@ use Rattle.std.specs.Prelude.{ℕ, List, [], ◌∷◌, ◌++◌}
 use Rattle.sdd_space.specs.OwnerOrCell.{OwnerOrCell}
 use Rattle.sdd_space.specs.Shared.{cell_of, cells_home, cell_holding}
 use Rattle.sdd_rights.specs.Units as token
-use Rattle.sdd_lists.specs.declared.linked_entry.LinkedEntry.{LinkedEntry, out-LinkedEntry}
+use Rattle.sdd_lists.specs.declared.linked_entry.LinkedEntry.{LinkedEntry, out-LinkedEntry, roll-LinkedEntry}
 
 module _ {T : Type 0} where
   abbrev pub link_of : LinkedEntry T → ℕ
@@ -14,6 +14,10 @@ module _ {T : Type 0} where
 
   abbrev pub value_of : LinkedEntry T → T
   value_of e = (out-LinkedEntry T e).instance
+
+  -- the entry with another value
+  abbrev pub with_value : LinkedEntry T → T → LinkedEntry T
+  with_value e value = roll-LinkedEntry T (record (out-LinkedEntry T e) { instance = value })
 
   abbrev pub link_part : LinkedEntry T → List OwnerOrCell
   link_part e = cell_holding (out-LinkedEntry T e).next ∷ []

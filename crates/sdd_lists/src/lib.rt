@@ -2,6 +2,7 @@
 #![tactic(auto)]
 
 mod asking;
+mod behind;
 pub mod laws;
 pub mod link;
 pub mod linked_entry;
@@ -12,7 +13,9 @@ mod pops;
 mod pushes;
 pub mod queue;
 pub mod stack;
+pub mod unfinished;
 pub mod unpopped;
+pub mod walk;
 mod walks;
 
 pub use link::Link;
@@ -20,4 +23,6 @@ pub use linked_entry::LinkedEntry;
 pub use linked_list::LinkedList;
 pub use queue::Queue;
 pub use stack::Stack;
+pub use unfinished::Unfinished;
 pub use unpopped::Unpopped;
+pub use walk::Walk;

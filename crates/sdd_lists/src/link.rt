@@ -1,28 +1,45 @@
 //! The link of an entry in a slot, by which it is marked and deleted.
-ghost use Rattle.std.specs.Prelude.{◌≡◌, ◌↔◌, ℕ, IfErr, IfOk, IfSome, IsOk, IsSome, List, Option, Some, if◌then◌else◌};
+ghost use Rattle.std.specs.Prelude.{◌≡◌, ◌↔◌, ◌⊎◌, ℕ, ◌∷◌, false, true, IfErr, IfOk, IfSome, IsOk, IsSome, List, MatchResult, None, Option, Some, if◌then◌else◌};
 ghost use Rattle.sdd_core.specs.declared.tag.Tag.{Tag};
 ghost use Rattle.sdd_core.specs.declared.tag.Tag.TheVariants as tag;
 ghost use Rattle.sdd_participants.specs.Slab.{entry_at};
 ghost use Rattle.sdd_participants.specs.declared.standing.CellContents.{CellContents};
 ghost use Rattle.sdd_space.specs.CallerId.{IsSeated, IsExact};
-ghost use Rattle.sdd_space.specs.Ptr.{IsNull, PtrIsShown, shown_by};
+ghost use Rattle.sdd_space.specs.Guard.{reader_of};
+ghost use Rattle.sdd_space.specs.ParticipantChanges.{KeepsMoreWaiting};
+ghost use Rattle.sdd_space.specs.Ptr.{IsNull, PtrIsShown, shown_by, slot_named, tag_of};
 ghost use Rattle.sdd_space.specs.Refusals.{IsContended};
-ghost use Rattle.sdd_space.specs.Undisturbed.{Undisturbed};
+ghost use Rattle.sdd_space.specs.Shared.{IsOfSlots, right_of, slot_of, slots_home};
+ghost use Rattle.sdd_space.specs.Undisturbed.{Undisturbed, Unmoved};
 ghost use Rattle.sdd_space.specs.WorldChanges.{with_cell};
+ghost use Rattle.sdd_lists.specs.Behind.{IsFresh, IsLinkedBehind, Reaches, mark_tag, spliced};
 ghost use Rattle.sdd_lists.specs.Ends.{EndsWith};
-ghost use Rattle.sdd_lists.specs.Lists.{Entry, IsList, may_delete};
+ghost use Rattle.sdd_lists.specs.Lists.{Entry, IsList, first_slot, left, may_delete, trimmed};
 ghost use Rattle.sdd_lists.specs.Queue.{IsQueue, QueueCells};
 
 use crate::linked_list::LinkedList;
-use crate::marks::{delete_link, mark_link, unmark_link};
-use sdd_core::{Refused, Tag};
-use sdd_space::{Caller, Cells, LookThrough, Ptr};
+use sdd_core::Refused;
+use sdd_space::{Caller, Cells, Guard, Items, LookThrough, Ptr, Shared, SharedItems};
+use std::alloc::AllocError;
 
 /// An entry in a slot, for as long as a guard is borrowed: its link can be used while the space is borrowed too.
-#[derive(Drop)]
 pub struct Link<'g, T> {
     entry: &'g T,
 }
+
+impl<'g, T> Clone for Link<'g, T> {
+    ghost use Rattle.std.specs.Prelude.{◌≡◌};
+
+    ghost is_clone = { λ x y. y ≡ x };
+
+    ghost is_infallible = { λ _. Unit {0} };
+
+    fn clone(&self) -> Result<Self, AllocError> {
+        Ok(*self)
+    }
+}
+
+impl<'g, T> Copy for Link<'g, T> {}
 
 impl<'g, T: LinkedList> Link<'g, T> {
     ghost use Rattle.sdd_lists.specs.Marks.{entry_of, retagged, says_clear, says_deleted, says_marked};
@@ -49,7 +66,7 @@ impl<'g, T: LinkedList> Link<'g, T> {
         ensures exact { IsExact (S.seat s.old) → (S.world s.new ≡ S.world s.old) × ((cell : CellContents) ×
             (entry_at (S.world s.old).cells (T.link (entry_of self.now)) ≡ Some cell) × (result ≡ says_clear cell.tag)) }
     {
-        matches!(self.entry.link_ref().tag(s), Tag::None)
+        self.entry.is_clear(s)
     }
 
     /// The entry is marked.
@@ -60,7 +77,7 @@ impl<'g, T: LinkedList> Link<'g, T> {
         ensures exact { IsExact (S.seat s.old) → (S.world s.new ≡ S.world s.old) × ((cell : CellContents) ×
             (entry_at (S.world s.old).cells (T.link (entry_of self.now)) ≡ Some cell) × (result ≡ says_marked cell.tag)) }
     {
-        matches!(self.entry.link_ref().tag(s), Tag::First)
+        self.entry.is_marked(s)
     }
 
     /// The entry is deleted.
@@ -71,7 +88,7 @@ impl<'g, T: LinkedList> Link<'g, T> {
         ensures exact { IsExact (S.seat s.old) → (S.world s.new ≡ S.world s.old) × ((cell : CellContents) ×
             (entry_at (S.world s.old).cells (T.link (entry_of self.now)) ≡ Some cell) × (result ≡ says_deleted cell.tag)) }
     {
-        matches!(self.entry.link_ref().tag(s), Tag::Second | Tag::Both)
+        self.entry.is_deleted(s)
     }
 
     /// Marks the entry, if it is clear, and answers whether it did.
@@ -92,7 +109,7 @@ impl<'g, T: LinkedList> Link<'g, T> {
             IsQueue T.link (S.world s.old) q es second → (e : Entry T) (rest : List (Entry T)) → EndsWith es e rest → e.value ≡ entry_of self.now →
             IfOk result (λ changed. IsQueue T.link (S.world s.new) q (if changed then retagged e.slot tag.First es else es) second) }
     {
-        mark_link(self.entry.link_ref(), s)
+        self.entry.mark(s)
     }
 
     /// Takes the mark away, if the entry is marked, and answers whether it did.
@@ -113,7 +130,7 @@ impl<'g, T: LinkedList> Link<'g, T> {
             IsQueue T.link (S.world s.old) q es second → (e : Entry T) (rest : List (Entry T)) → EndsWith es e rest → e.value ≡ entry_of self.now →
             IfOk result (λ changed. IsQueue T.link (S.world s.new) q (if changed then retagged e.slot tag.None es else es) second) }
     {
-        unmark_link(self.entry.link_ref(), s)
+        self.entry.unmark(s)
     }
 
     /// Deletes the entry, if it is clear or marked, and answers whether it did. A list that it is in lets go of it at a later call.
@@ -134,6 +151,87 @@ impl<'g, T: LinkedList> Link<'g, T> {
             IsQueue T.link (S.world s.old) q es second → (e : Entry T) (rest : List (Entry T)) → EndsWith es e rest → e.value ≡ entry_of self.now →
             IfOk result (λ changed. IsQueue T.link (S.world s.new) q (if changed then retagged e.slot tag.Second es else es) second) }
     {
-        delete_link(self.entry.link_ref(), s)
+        self.entry.delete_self(s)
+    }
+
+    /// Links an entry directly behind this one, which is marked by that, or has no mark then. Answers a pointer to the entry, with the tag that this one's
+    /// link has now.
+    ///
+    /// Without a refusal where this one is deleted; `Contended`, in a domain alone, where as many exchanges were lost as its limits allow. The owner comes
+    /// back, and nothing has changed.
+    ///
+    /// That the entry is clear, in no list, with an empty link, and not this one, is the caller's condition.
+    pub fn push_back<'h, S: Items<T> + Cells<T> + LookThrough<T>>(
+        &self,
+        entry: Shared<T>,
+        mark: bool,
+        guard: &'h Guard,
+        s: &mut S,
+    ) -> Result<Ptr<'h, T>, (Shared<T>, Option<Refused>)>
+        requires seated { IsSeated (S.seat s.old) }
+        requires home { T.link_home (entry_of self.now) ≡ (S.seat s.old).home.cells }
+        requires owner { slots_home entry ≡ (S.seat s.old).home.slots }
+        requires reader { reader_of guard.now ≡ (S.seat s.old).reader }
+        ensures unmoved { Unmoved S.seat S.known S.shows s.old s.new }
+        ensures own { KeepsMoreWaiting (S.own s.old) (S.own s.new) }
+        ensures shown { IfOk result (PtrIsShown (S.shows s.new)) }
+        ensures slot { IfOk result (λ ptr. (slot_named ptr ≡ Some (slot_of entry)) × (tag_of ptr ≡ mark_tag mark)) }
+        ensures back { IfErr result (λ e. (right_of e.0 ≡ right_of entry) × IfSome e.1 (IsContended (S.seat s.old))) }
+        ensures refused { IsExact (S.seat s.old) → (cell : CellContents) → entry_at (S.world s.old).cells (T.link (entry_of self.now)) ≡ Some cell →
+            MatchResult result (λ _. says_deleted cell.tag ≡ false)
+            (λ e. (says_deleted cell.tag ≡ true) × (e.1 ≡ None) × (S.world s.new ≡ S.world s.old)) }
+        ensures list { IsExact (S.seat s.old) → (t : Tag) (es : List (Entry T)) (v : T) → IsList T.link (S.world s.old) (T.link (entry_of self.now)) t es →
+            IsFresh T.link (S.world s.old) (slot_of entry) v (T.link (entry_of self.now)) es → IfOk result (λ _.
+            IsLinkedBehind T.link (S.world s.old) (T.link (entry_of self.now)) (mark_tag mark) es (slot_of entry) v (S.world s.new)) }
+    {
+        self.entry.push_back(entry, mark, guard, s)
+    }
+
+    /// A pointer to the next entry that isn't deleted, without a tag; null where there is none. Deleted entries between are let go of.
+    ///
+    /// `Contended`, in a domain alone.
+    pub fn next_ptr<'h, S: Items<T> + Cells<T> + LookThrough<T>>(
+        &self,
+        guard: &'h Guard,
+        s: &mut S,
+    ) -> Result<Ptr<'h, T>, Refused>
+        requires seated { IsSeated (S.seat s.old) }
+        requires home { T.link_home (entry_of self.now) ≡ (S.seat s.old).home.cells }
+        requires reader { reader_of guard.now ≡ (S.seat s.old).reader }
+        ensures unmoved { Unmoved S.seat S.known S.shows s.old s.new }
+        ensures own { KeepsMoreWaiting (S.own s.old) (S.own s.new) }
+        ensures shown { IfOk result (PtrIsShown (S.shows s.new)) }
+        ensures tag { IfOk result (λ ptr. tag_of ptr ≡ tag.None) }
+        ensures back { IfErr result (λ e. e ≡ Refused.Contended) }
+        ensures list { IsExact (S.seat s.old) → (t : Tag) (es : List (Entry T)) → IsList T.link (S.world s.old) (T.link (entry_of self.now)) t es →
+            IsOk result × IfOk result (λ ptr. slot_named ptr ≡ first_slot (left es)) ×
+            IsList T.link (S.world s.new) (T.link (entry_of self.now)) t (left es) ×
+            (S.world s.new ≡ trimmed T.link (S.world s.old) (S.seat s.old).place (T.link (entry_of self.now)) t es) }
+        ensures around { IsExact (S.seat s.old) → (c : ℕ) (t : Tag) (es : List (Entry T)) → IsList T.link (S.world s.old) c t es →
+            (e : Entry T) (rest : List (Entry T)) → EndsWith es e rest → e.value ≡ entry_of self.now →
+            IsList T.link (S.world s.new) c t (spliced e.slot (e ∷ left rest) es) }
+    {
+        self.entry.next_ptr(guard, s)
+    }
+
+    /// An owner of the next entry that isn't deleted; None where there is none. Deleted entries between are let go of.
+    ///
+    /// `TooManyOwners` where 2^62 own the entry, cells counted: nothing has changed then. `Contended`, in a domain alone.
+    pub fn next_shared<S: Items<T> + SharedItems<T> + Cells<T> + LookThrough<T>>(
+        &self,
+        guard: &Guard,
+        s: &mut S,
+    ) -> Result<Option<Shared<T>>, Refused>
+        requires seated { IsSeated (S.seat s.old) }
+        requires home { T.link_home (entry_of self.now) ≡ (S.seat s.old).home.cells }
+        requires reader { reader_of guard.now ≡ (S.seat s.old).reader }
+        ensures unmoved { Unmoved S.seat S.known S.shows s.old s.new }
+        ensures own { KeepsMoreWaiting (S.own s.old) (S.own s.new) }
+        ensures owner { IfOk result (IsOfSlots (S.seat s.old).home.slots) }
+        ensures back { IfErr result (λ e. (e ≡ Refused.TooManyOwners) ⊎ (e ≡ Refused.Contended)) }
+        ensures list { IsExact (S.seat s.old) → (t : Tag) (es : List (Entry T)) → IsList T.link (S.world s.old) (T.link (entry_of self.now)) t es →
+            Reaches T.link (S.world s.old) (S.seat s.old).place (T.link (entry_of self.now)) t es result (S.world s.new) }
+    {
+        self.entry.next_shared(guard, s)
     }
 }

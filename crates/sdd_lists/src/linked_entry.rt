@@ -1,8 +1,8 @@
 //! The entries of queues and stacks.
-ghost use Rattle.std.specs.Prelude.{◌≡◌, IfErr, IfOk, MatchResult};
+ghost use Rattle.std.specs.Prelude.{◌≡◌, ◌⊎◌, IfErr, IfOk, MatchResult};
 ghost use Rattle.sdd_space.specs.OwnerOrCell.{AreOf};
 ghost use Rattle.sdd_space.specs.Undisturbed.{Undisturbed, Unmoved};
-ghost use Rattle.sdd_space.specs.ParticipantChanges.{HasContentsGivenUp};
+ghost use Rattle.sdd_space.specs.ParticipantChanges.{HasContentsGivenUp, KeepsMoreWaiting};
 ghost use Rattle.sdd_space.specs.Refusals.{IsRefusedBy};
 ghost use Rattle.sdd_space.specs.CallerId.{IsSeated, IsExact};
 ghost use Rattle.sdd_space.specs.Shared.{cell_of, cells_home};
@@ -12,7 +12,8 @@ ghost use Rattle.sdd_participants.specs.Slab.{IsEmptyAt, IsFull};
 use crate::linked_list::LinkedList;
 use sdd_core::Refused;
 use sdd_space::{AtomicShared, Cells, Giver, Item, Items};
-use std::ops::Deref;
+use std::fmt::{self, Display, Formatter};
+use std::ops::{Deref, DerefMut};
 
 /// A value, and a link to the entry behind it.
 ///
@@ -44,6 +45,40 @@ impl<T: Item<LinkedEntry<T>>> LinkedEntry<T> {
         match AtomicShared::null(s) {
             Ok(next) => Ok(LinkedEntry { instance, next }),
             Err(refused) => Err((instance, refused)),
+        }
+    }
+
+    /// An entry with a clone of this one's value, whose link holds nothing.
+    ///
+    /// `NoCell` where no cell is free; else `NoMemory` where the value's clone is refused memory; `Contended`, in a domain alone, where as many exchanges
+    /// were lost as its limits allow.
+    pub fn clone<S: Items<LinkedEntry<T>> + Cells<LinkedEntry<T>>>(
+        &self,
+        s: &mut S,
+    ) -> Result<LinkedEntry<T>, Refused>
+    where
+        T: Clone,
+        requires seated { IsSeated (S.seat s.old) }
+        ensures unmoved { Unmoved S.seat S.known S.shows s.old s.new }
+        ensures own { KeepsMoreWaiting (S.own s.old) (S.own s.new) }
+        ensures value { IfOk result (λ entry. T.is_clone (value_of self.now) (value_of entry)) }
+        ensures home { IfOk result (λ entry. link_home_of entry ≡ (S.seat s.old).home.cells) }
+        ensures back { IfErr result (λ e. IsRefusedBy (S.seat s.old) Refused.NoCell e ⊎ (e ≡ Refused.NoMemory) × ¬ (T.is_infallible (value_of self.now))) }
+        ensures exact { IsExact (S.seat s.old) → MatchResult result
+            (λ entry. IsEmptyAt (S.world s.old).cells (link_of entry) × (S.world s.new ≡ nulled (S.world s.old) (link_of entry)))
+            (λ e. (IsFull (S.world s.old).cells × (e ≡ Refused.NoCell) ⊎ ¬ (IsFull (S.world s.old).cells) × (e ≡ Refused.NoMemory)) ×
+            (S.world s.new ≡ S.world s.old)) }
+    {
+        let next = match AtomicShared::null(s) {
+            Ok(next) => next,
+            Err(refused) => return Err(refused),
+        };
+        match self.instance.clone() {
+            Ok(instance) => Ok(LinkedEntry { instance, next }),
+            Err(_) => {
+                next.close(s);
+                Err(Refused::NoMemory)
+            }
         }
     }
 
@@ -111,5 +146,64 @@ impl<T> Deref for LinkedEntry<T> {
 
     fn deref(&self) -> &T {
         &self.instance
+    }
+}
+
+impl<T> AsMut<T> for LinkedEntry<T> {
+    ghost use Rattle.std.specs.Prelude.{◌≡◌};
+    ghost use Rattle.std.specs.Borrow.{Lends, sem};
+    ghost use Rattle.sdd_lists.specs.contracts.linked_entry.LinkedEntry.{the_row};
+    ghost use Rattle.sdd_lists.specs.Entries.{value_of, with_value};
+
+    fn as_mut(&mut self) -> &mut T
+        ensures* writes_back { sem 𝓛 (Lends (the_row T.row) T.row self.entry result (with_value self.old)) }
+        ensures value { result.now ≡ value_of self.old }
+    {
+        &mut self.instance
+    }
+}
+
+impl<T> DerefMut for LinkedEntry<T> {
+    ghost use Rattle.std.specs.Prelude.{◌≡◌};
+    ghost use Rattle.std.specs.Borrow.{Lends, sem};
+    ghost use Rattle.sdd_lists.specs.contracts.linked_entry.LinkedEntry.{the_row};
+    ghost use Rattle.sdd_lists.specs.Entries.{value_of, with_value};
+
+    ghost deref_mut_gives = { λ entry value. value ≡ value_of entry };
+
+    fn deref_mut(&mut self) -> &mut T
+        ensures* writes_back { sem 𝓛 (Lends (the_row T.row) T.row self.entry result (with_value self.old)) }
+        ensures value { result.now ≡ value_of self.old }
+    {
+        &mut self.instance
+    }
+}
+
+/// Entries are equal exactly if their values are, whatever their links hold.
+impl<T: PartialEq> PartialEq for LinkedEntry<T> {
+    ghost use Rattle.std.proofs.Common.{rules};
+    ghost use Rattle.std.specs.Cmp.Rules.{comparing};
+    ghost use Rattle.std.specs.Ordering.{on};
+    ghost use Rattle.sdd_lists.specs.Entries.{value_of};
+
+    ghost eq = { on value_of T.eq };
+
+    ghost laws = { Prim.search (comparing, rules) };
+
+    fn eq(&self, other: &Self) -> bool {
+        self.instance == other.instance
+    }
+}
+
+impl<T: Eq> Eq for LinkedEntry<T> {
+    ghost use Rattle.std.proofs.Common.{rules};
+    ghost use Rattle.std.specs.Cmp.Rules.{comparing};
+
+    ghost laws = { Prim.search (comparing, rules) };
+}
+
+impl<T: Display> Display for LinkedEntry<T> {
+    fn fmt<W: fmt::Write>(&self, f: &mut Formatter<W>) -> fmt::Result {
+        write!(f, "Some({})", self.instance)
     }
 }

@@ -1,5 +1,5 @@
 //! What lists let go of, and what is put into them: owners that are moved from cell to cell.
-ghost use Rattle.std.specs.Prelude.{◌≡◌, ◌≢◌, ℕ, IfErr, IfOk, IfSome, IsOk, List, [], Option, MatchOption, None, Some, if◌then◌else◌};
+ghost use Rattle.std.specs.Prelude.{◌≡◌, ◌≢◌, ℕ, IfErr, IfOk, IfSome, IsOk, List, [], Option, MatchOption, None, Some, if◌then◌else◌, option_map};
 ghost use Rattle.sdd_space.specs.Guard.{reader_of};
 ghost use Rattle.sdd_space.specs.Undisturbed.{Undisturbed, Unmoved};
 ghost use Rattle.sdd_space.specs.ParticipantChanges.{KeepsMoreWaiting};
@@ -180,6 +180,34 @@ pub(crate) fn delete<T: Item<T>, S: Cells<T>>(link: &AtomicShared<T>, s: &mut S)
     }
 }
 
+/// Puts an entry, whose link is clear, between a cell that was emptied and what that held, and gives the cell this tag.
+pub(crate) fn put_between<T: LinkedList, S: Items<T> + Cells<T>>(
+    cell: &AtomicShared<T>,
+    next: Option<Shared<T>>,
+    owner: Shared<T>,
+    tag: Tag,
+    link: &AtomicShared<T>,
+    s: &mut S,
+)
+    requires seated { IsSeated (S.seat s.old) }
+    requires home { cells_home cell.now ≡ (S.seat s.old).home.cells }
+    requires next { IsOfSlots (S.seat s.old).home.slots next }
+    requires owner { slots_home owner ≡ (S.seat s.old).home.slots }
+    requires link { cells_home link.now ≡ (S.seat s.old).home.cells }
+    ensures unmoved { Unmoved S.seat S.known S.shows s.old s.new }
+    ensures own { KeepsMoreWaiting (S.own s.old) (S.own s.new) }
+    ensures exact { IsExact (S.seat s.old) →
+        entry_at (S.world s.old).cells (cell_of cell.now) ≡ Some (record { held = None; tag = no_tag }) →
+        entry_at (S.world s.old).cells (cell_of link.now) ≡ Some (record { held = None; tag = no_tag }) →
+        cell_of cell.now ≢ cell_of link.now →
+        S.world s.new ≡ linked_in (S.world s.old) (cell_of cell.now) tag (cell_of link.now) (slot_of owner) (option_map slot_of next) }
+{
+    let (rest, _) = link.swap((next, Tag::None), s);
+    give_up(rest, s);
+    let (gap, _) = cell.swap((Some(owner), tag), s);
+    give_up(gap, s);
+}
+
 /// Puts an entry, whose link is clear, between a cell and what it holds.
 pub(crate) fn put_in_front<T: LinkedList, S: Items<T> + Cells<T>>(
     cell: &AtomicShared<T>,
@@ -200,8 +228,5 @@ pub(crate) fn put_in_front<T: LinkedList, S: Items<T> + Cells<T>>(
         S.world s.new ≡ linked_in (S.world s.old) (cell_of cell.now) t (cell_of link.now) (slot_of owner) next }
 {
     let (next, tag) = cell.swap((None, Tag::None), s);
-    let (rest, _) = link.swap((next, Tag::None), s);
-    give_up(rest, s);
-    let (gap, _) = cell.swap((Some(owner), tag), s);
-    give_up(gap, s);
+    put_between(cell, next, owner, tag, link, s);
 }

@@ -1,5 +1,5 @@
 //! Entries that come to a list at its front.
-ghost use Rattle.std.specs.Prelude.{◌≡◌, ◌≢◌, ℕ, true, IfErr, IfOk, IfSome, List, MatchOption, MatchResult, None, Option, Some};
+ghost use Rattle.std.specs.Prelude.{◌≡◌, ◌≢◌, ◌⊎◌, ℕ, true, IfErr, IfOk, IfSome, List, MatchOption, MatchResult, None, Option, Some};
 ghost use Rattle.sdd_space.specs.Guard.{reader_of};
 ghost use Rattle.sdd_space.specs.OwnerOrCell.{AreOf};
 ghost use Rattle.sdd_space.specs.Undisturbed.{Undisturbed, Unmoved};
@@ -13,8 +13,10 @@ ghost use Rattle.sdd_participants.specs.Slab.{IsEmptyAt, IsFull, entry_at};
 ghost use Rattle.sdd_space.specs.World.{value_at};
 ghost use Rattle.sdd_space.specs.WorldChanges.{made_as};
 ghost use Rattle.sdd_lists.specs.Ends.{IsLastOf, appended, is_spent};
+ghost use Rattle.sdd_lists.specs.Filling.{RefusesPush};
 ghost use Rattle.sdd_lists.specs.Lists.{Apart, Entry, IsList, IsPushed, first_slot, left, linked_in, trimmed};
 ghost use Rattle.sdd_lists.specs.Queue.{IsEnqueued, IsQueue};
+ghost use Rattle.sdd_lists.specs.StackCloning.{IsAppended, LastIs};
 
 use crate::linked_list::LinkedList;
 use crate::moves::{give_up, put_in_front, trim};
@@ -198,4 +200,92 @@ pub(crate) fn push_last<T: LinkedList, S: Items<T> + Several<T> + Cells<T> + Loo
     give_up(was, s);
     put_last(oldest, last, &owner, kept, guard, s);
     Ok(owner)
+}
+
+/// A push would find a slot and a cell: the cell is claimed, and free again.
+///
+/// `NoSlot` where no slot is free, else `NoCell` where no cell is; `Contended`, in a domain alone, where as many exchanges were lost as its limits allow.
+pub(crate) fn has_room<T: Item<T>, S: Items<T> + Cells<T>>(s: &mut S) -> Result<(), Refused>
+    requires seated { IsSeated (S.seat s.old) }
+    ensures unmoved { Unmoved S.seat S.known S.shows s.old s.new }
+    ensures own { KeepsMoreWaiting (S.own s.old) (S.own s.new) }
+    ensures back { IfErr result (λ e. (e ≡ Refused.NoSlot) ⊎ IsRefusedBy (S.seat s.old) Refused.NoCell e) }
+    ensures exact { IsExact (S.seat s.old) → (S.world s.new ≡ S.world s.old) × MatchResult result
+        (λ _. ¬ (IsFull (S.world s.old).standings) × ¬ (IsFull (S.world s.old).cells)) (RefusesPush (S.world s.old)) }
+{
+    let free = s.has_slot();
+    if !free {
+        return Err(Refused::NoSlot);
+    }
+    match AtomicShared::null(s) {
+        Ok(cell) => {
+            cell.close(s);
+            Ok(())
+        }
+        Err(refused) => Err(refused),
+    }
+}
+
+/// The entry of an owner, with its value and its link.
+fn front_of<'g, T: LinkedList, S: Items<T>>(
+    owner: &Shared<T>,
+    guard: &'g Guard,
+    s: &mut S,
+) -> Front<'g, T>
+    requires seated { IsSeated (S.seat s.old) }
+    requires owner { slots_home owner.now ≡ (S.seat s.old).home.slots }
+    requires reader { reader_of guard.now ≡ (S.seat s.old).reader }
+    ensures undisturbed { Undisturbed S.seat S.own S.known S.shows s.old s.new }
+    ensures home { cells_home result.link.now ≡ (S.seat s.old).home.cells }
+    ensures link { cell_of result.link.now ≡ T.link result.entry.now }
+    ensures value { S.shows s.new (slot_of owner.now) result.entry.now }
+    ensures exact { IsExact (S.seat s.old) → S.world s.new ≡ S.world s.old }
+{
+    let ptr = owner.get_guarded_ptr(guard, s);
+    let entry = owner.get_guarded_ref(guard, s);
+    s.shown_is_of_home();
+    Front {
+        ptr,
+        entry,
+        link: entry.link_ref(),
+    }
+}
+
+/// Puts a value, whose link is clear, behind the last entry of the list in a cell that isn't deleted, and was found, or in front where there is none. The
+/// list alone owns it. Answers the new entry.
+///
+/// `NoSlot` where no slot is free: the value comes back, and nothing has changed.
+pub(crate) fn append<'g, T: LinkedList, S: Items<T> + Several<T> + Cells<T> + LookThrough<T>>(
+    cell: &AtomicShared<T>,
+    last: Option<Front<'g, T>>,
+    value: T,
+    guard: &'g Guard,
+    s: &mut S,
+) -> Result<Front<'g, T>, (T, Refused)>
+    requires seated { IsSeated (S.seat s.old) }
+    requires home { cells_home cell.now ≡ (S.seat s.old).home.cells }
+    requires last { IfSome last (λ f. cells_home f.link.now ≡ (S.seat s.old).home.cells) }
+    requires value { AreOf (S.seat s.old).home (T.holds value) }
+    requires reader { reader_of guard.now ≡ (S.seat s.old).reader }
+    ensures unmoved { Unmoved S.seat S.known S.shows s.old s.new }
+    ensures own { KeepsMoreWaiting (S.own s.old) (S.own s.new) }
+    ensures home { IfOk result (λ f. cells_home f.link.now ≡ (S.seat s.old).home.cells) }
+    ensures back { IfErr result (λ e. (e.0 ≡ value) × IsRefusedBy (S.seat s.old) Refused.NoSlot e.1) }
+    ensures refused { IsExact (S.seat s.old) →
+        IfErr result (λ e. IsFull (S.world s.old).standings × (e.1 ≡ Refused.NoSlot) × (S.world s.new ≡ S.world s.old)) }
+    ensures exact { IsExact (S.seat s.old) → (t : Tag) (es : List (Entry T)) → IsList T.link (S.world s.old) (cell_of cell.now) t es →
+        LastIs T.link last.entry es → entry_at (S.world s.old).cells (T.link value) ≡ Some (record { held = None; tag = no_tag }) →
+        cell_of cell.now ≢ T.link value → Apart T.link (T.link value) es →
+        IfOk result (λ f. (k : ℕ) × IsAppended T.link (S.world s.old) (S.seat s.old).place (cell_of cell.now) t es k value (S.world s.new) ×
+        (f.entry.now ≡ value) × (cell_of f.link.now ≡ T.link value)) }
+{
+    values_fit_slots::<T, S>(s);
+    let (owner, kept) = match make_two(value, s) {
+        Ok(owners) => owners,
+        Err(back) => return Err(back),
+    };
+    put_last(cell, last, &owner, kept, guard, s);
+    let front = front_of(&owner, guard, s);
+    give_up(Some(owner), s);
+    Ok(front)
 }

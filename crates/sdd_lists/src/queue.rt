@@ -1,6 +1,7 @@
 //! A container whose oldest value comes out first.
 ghost use Rattle.std.specs.Borrow.{Bor};
-ghost use Rattle.std.specs.Prelude.{◌≡◌, ◌≢◌, ◌↔◌, ◌⊎◌, ℕ, true, [], ◌∷◌, IfErr, IfOk, IfSome, IsTrue, List, MatchOption, MatchResult, None, Option, Some, length, option_copied};
+ghost use Rattle.std.specs.Iterator.{IsFinite};
+ghost use Rattle.std.specs.Prelude.{◌≡◌, ◌≢◌, ◌↔◌, ◌⊎◌, ℕ, true, [], ◌∷◌, ◌++◌, IfErr, IfOk, IfSome, IsTrue, List, MatchOption, MatchResult, None, Option, Some, length, option_copied};
 ghost use Rattle.sdd_space.specs.Guard.{reader_of};
 ghost use Rattle.sdd_space.specs.OwnerOrCell.{AreOf};
 ghost use Rattle.sdd_space.specs.Undisturbed.{Undisturbed, Unmoved};
@@ -21,12 +22,15 @@ ghost use Rattle.sdd_lists.specs.Lists.{Entry, content, first_slot, first_value,
 
 use crate::asking::{asks, asks_of_any};
 use crate::linked_entry::LinkedEntry;
-use crate::moves::let_go_of_all;
+use crate::moves::{give_up, let_go_of_all};
 use crate::pops::{clear, keep_first, pop_oldest, take_oldest};
-use crate::pushes::push_last;
+use crate::pushes::{has_room, push_last};
+use crate::unfinished::Unfinished;
 use crate::unpopped::Unpopped;
+use crate::walk::{Walk, walk_in};
 use crate::walks::{Front, count, find_first, find_last, first_ptr_in, shown_in, value_at_front};
 use sdd_core::Refused;
+use sdd_space::laws::values_fit_slots;
 use sdd_space::{
     AtomicShared, Cells, Guard, Item, Items, LookThrough, Ptr, Several, Shared, SharedItems,
 };
@@ -38,7 +42,11 @@ pub struct Queue<T> {
 }
 
 impl<T: Item<LinkedEntry<T>>> Queue<T> {
-    ghost use Rattle.sdd_lists.specs.Queue.{AreOfCells, Dequeues, DequeuesIf, HasOneAtMost, IsQueue, PushesBehind, cells_in, queue_closed};
+    ghost use Rattle.sdd_lists.specs.Queue.{AreOfCells, Dequeues, DequeuesIf, HasOneAtMost, IsQueue, PushesBehind, QueueCells, cells_in, queue_closed};
+    ghost use Rattle.sdd_lists.specs.Cloning.{AreBeside, AreClones, Clones, IsQueueBeside, RefusesClone};
+    ghost use Rattle.sdd_lists.specs.Filling.{Gives, RefusesPush, why_not};
+    ghost use Rattle.sdd_lists.specs.QueueFilling.{AddsBehind, BuildsInOrder, FillsQueue, queue_of};
+    ghost use Rattle.sdd_lists.specs.Walk.{IsWalkOf, ShowsInOrder, StandsBefore, shown_of};
 
     /// An empty queue.
     ///
@@ -203,6 +211,213 @@ impl<T: Item<LinkedEntry<T>>> Queue<T> {
         }
     }
 
+    /// Pushes a value, whose entry the queue alone owns then.
+    fn add<
+        S: Items<LinkedEntry<T>>
+            + Several<LinkedEntry<T>>
+            + Cells<LinkedEntry<T>>
+            + LookThrough<LinkedEntry<T>>,
+    >(&self, value: T, guard: &Guard, s: &mut S) -> Result<(), (T, Refused)>
+        requires seated { IsSeated (S.seat s.old) }
+        requires home { AreOfCells (S.seat s.old).home.cells self.now }
+        requires value { AreOf (S.seat s.old).home (T.holds value) }
+        requires reader { reader_of guard.now ≡ (S.seat s.old).reader }
+        ensures unmoved { Unmoved S.seat S.known S.shows s.old s.new }
+        ensures own { KeepsMoreWaiting (S.own s.old) (S.own s.new) }
+        ensures back { IfErr result (λ e. (e.0 ≡ value) × ((e.1 ≡ Refused.NoSlot) ⊎ (e.1 ≡ Refused.NoCell) ⊎ (e.1 ≡ Refused.Contended))) }
+        ensures refused { IsExact (S.seat s.old) → (es : List (Entry (LinkedEntry T))) (second : Option ℕ) →
+            IsQueue link_of (S.world s.old) (cells_in self.now) es second →
+            IfErr result (λ e. (S.world s.new ≡ S.world s.old) × RefusesPush (S.world s.old) e.1) }
+        ensures list { IsExact (S.seat s.old) → (es : List (Entry (LinkedEntry T))) (second : Option ℕ) →
+            IsQueue link_of (S.world s.old) (cells_in self.now) es second → IfOk result (λ _. (fs : List (Entry (LinkedEntry T))) × (held : Option ℕ) ×
+            AddsBehind (S.world s.old) (S.seat s.old).place (cells_in self.now) es second value (S.world s.new) fs held) }
+    {
+        match self.push(value, guard, s) {
+            Ok(owner) => {
+                give_up(Some(owner), s);
+                Ok(())
+            }
+            Err(back) => Err(back),
+        }
+    }
+
+    /// Pushes what an iterator gives, one after another.
+    fn add_all<
+        I: Iterator<Item = T>,
+        S: Items<LinkedEntry<T>>
+            + Several<LinkedEntry<T>>
+            + Cells<LinkedEntry<T>>
+            + LookThrough<LinkedEntry<T>>,
+    >(&self, items: &mut I, guard: &Guard, s: &mut S) -> Result<(), (T, Refused)>
+        requires seated { IsSeated (S.seat s.old) }
+        requires home { AreOfCells (S.seat s.old).home.cells self.now }
+        requires reader { reader_of guard.now ≡ (S.seat s.old).reader }
+        requires can { I.can_next items.old }
+        requires ends { IsFinite (I.remaining items.old) }
+        requires values { (i j : I) (value : T) → I.next_gives i (Some value) j → AreOf (S.seat s.old).home (T.holds value) }
+        ensures unmoved { Unmoved S.seat S.known S.shows s.old s.new }
+        ensures own { KeepsMoreWaiting (S.own s.old) (S.own s.new) }
+        ensures back { IfErr result (λ e. (e.1 ≡ Refused.NoSlot) ⊎ (e.1 ≡ Refused.NoCell) ⊎ (e.1 ≡ Refused.Contended)) }
+        ensures list { IsExact (S.seat s.old) → (es : List (Entry (LinkedEntry T))) (second : Option ℕ) →
+            IsQueue link_of (S.world s.old) (cells_in self.now) es second →
+            (xs : List T) × (i : I) × (fs : List (Entry (LinkedEntry T))) × (held : Option ℕ) × Gives I.next_gives items.old xs i ×
+            FillsQueue (S.seat s.old).place (cells_in self.now) (S.world s.old) es second xs (S.world s.new) fs held × MatchResult result
+            (λ _. I.next_gives i None items.new) (λ e. I.next_gives i (Some e.0) items.new × RefusesPush (S.world s.new) e.1) }
+    {
+        while let Some(value) = items.next() {
+            match self.add(value, guard, s) {
+                Ok(()) => {}
+                Err(back) => return Err(back),
+            }
+        }
+        Ok(())
+    }
+
+    /// A queue of what an iterator gives, in order.
+    ///
+    /// `NotBegun` with `NoCell` where no two cells are free: nothing is taken of the iterator then. Where a push is refused, `Part` with the queue as it is by
+    /// then, and the item that was refused. `Contended`, in a domain alone.
+    pub fn from_iter<
+        I: Iterator<Item = T>,
+        S: Items<LinkedEntry<T>>
+            + Several<LinkedEntry<T>>
+            + Cells<LinkedEntry<T>>
+            + LookThrough<LinkedEntry<T>>,
+    >(items: &mut I, guard: &Guard, s: &mut S) -> Result<Queue<T>, Unfinished<Queue<T>, T>>
+        requires seated { IsSeated (S.seat s.old) }
+        requires reader { reader_of guard.now ≡ (S.seat s.old).reader }
+        requires can { I.can_next items.old }
+        requires ends { IsFinite (I.remaining items.old) }
+        requires values { (i j : I) (value : T) → I.next_gives i (Some value) j → AreOf (S.seat s.old).home (T.holds value) }
+        ensures unmoved { Unmoved S.seat S.known S.shows s.old s.new }
+        ensures own { KeepsMoreWaiting (S.own s.old) (S.own s.new) }
+        ensures home { IfSome (queue_of result) (AreOfCells (S.seat s.old).home.cells) }
+        ensures back { IfErr result (λ u. (why_not u ≡ Refused.NoSlot) ⊎ (why_not u ≡ Refused.NoCell) ⊎ (why_not u ≡ Refused.Contended)) }
+        ensures list { IsExact (S.seat s.old) →
+            BuildsInOrder I.next_gives (S.seat s.old).place (S.world s.old) items.old result items.new (S.world s.new) }
+    {
+        let queue = match Queue::new(s) {
+            Ok(queue) => queue,
+            Err(refused) => return Err(Unfinished::NotBegun(refused)),
+        };
+        match queue.add_all(items, guard, s) {
+            Ok(()) => Ok(queue),
+            Err((item, refused)) => Err(Unfinished::Part(queue, Some(item), refused)),
+        }
+    }
+
+    /// Pushes a clone of a value, whose entry the queue alone owns then. The value is cloned where a push would find a place.
+    fn add_clone<
+        S: Items<LinkedEntry<T>>
+            + Several<LinkedEntry<T>>
+            + Cells<LinkedEntry<T>>
+            + LookThrough<LinkedEntry<T>>,
+    >(&self, value: &T, guard: &Guard, s: &mut S) -> Result<(), (Option<T>, Refused)>
+    where
+        T: Clone,
+        requires seated { IsSeated (S.seat s.old) }
+        requires home { AreOfCells (S.seat s.old).home.cells self.now }
+        requires values { (v : T) → T.is_clone value.now v → AreOf (S.seat s.old).home (T.holds v) }
+        requires reader { reader_of guard.now ≡ (S.seat s.old).reader }
+        ensures unmoved { Unmoved S.seat S.known S.shows s.old s.new }
+        ensures own { KeepsMoreWaiting (S.own s.old) (S.own s.new) }
+        ensures back { IfErr result (λ e. (e.1 ≡ Refused.NoSlot) ⊎ (e.1 ≡ Refused.NoCell) ⊎ (e.1 ≡ Refused.NoMemory) ⊎ (e.1 ≡ Refused.Contended)) }
+        ensures refused { IsExact (S.seat s.old) → (es : List (Entry (LinkedEntry T))) (second : Option ℕ) →
+            IsQueue link_of (S.world s.old) (cells_in self.now) es second → IfErr result (λ e. (S.world s.new ≡ S.world s.old) × (e.0 ≡ None) ×
+            RefusesClone T.is_clone T.is_infallible (S.world s.old) value.now e.1) }
+        ensures list { IsExact (S.seat s.old) → (es : List (Entry (LinkedEntry T))) (second : Option ℕ) →
+            IsQueue link_of (S.world s.old) (cells_in self.now) es second → IfOk result (λ _. (v : T) × T.is_clone value.now v ×
+            (fs : List (Entry (LinkedEntry T))) × (held : Option ℕ) ×
+            AddsBehind (S.world s.old) (S.seat s.old).place (cells_in self.now) es second v (S.world s.new) fs held) }
+    {
+        if let Err(refused) = has_room::<LinkedEntry<T>, S>(s) {
+            return Err((None, refused));
+        }
+        let copied = match value.clone() {
+            Ok(copied) => copied,
+            Err(_) => return Err((None, Refused::NoMemory)),
+        };
+        match self.add(copied, guard, s) {
+            Ok(()) => Ok(()),
+            Err((item, refused)) => Err((Some(item), refused)),
+        }
+    }
+
+    /// Pushes clones of the values that a walk shows, in order. The queue from which it shows them stays as it is.
+    fn add_clones<
+        'g,
+        S: Items<LinkedEntry<T>>
+            + Several<LinkedEntry<T>>
+            + Cells<LinkedEntry<T>>
+            + LookThrough<LinkedEntry<T>>,
+    >(&self, walk: Walk<'g, T>, guard: &'g Guard, s: &mut S) -> Result<(), (Option<T>, Refused)>
+    where
+        T: Clone,
+        requires seated { IsSeated (S.seat s.old) }
+        requires home { AreOfCells (S.seat s.old).home.cells self.now }
+        requires walk { IsWalkOf (S.seat s.old).home.cells walk }
+        requires values { (u v : T) → T.is_clone u v → AreOf (S.seat s.old).home (T.holds v) }
+        requires reader { reader_of guard.now ≡ (S.seat s.old).reader }
+        ensures unmoved { Unmoved S.seat S.known S.shows s.old s.new }
+        ensures own { KeepsMoreWaiting (S.own s.old) (S.own s.new) }
+        ensures back { IfErr result (λ e. (e.1 ≡ Refused.NoSlot) ⊎ (e.1 ≡ Refused.NoCell) ⊎ (e.1 ≡ Refused.NoMemory) ⊎ (e.1 ≡ Refused.Contended)) }
+        ensures list { IsExact (S.seat s.old) → (es : List (Entry (LinkedEntry T))) (second : Option ℕ) →
+            IsQueue link_of (S.world s.old) (cells_in self.now) es second → (from : QueueCells) (now fs : List (Entry (LinkedEntry T))) (held : Option ℕ) →
+            StandsBefore (S.world s.old) walk.entry now → AreBeside now (cells_in self.now) es →
+            IsQueueBeside (S.world s.old) from fs held (cells_in self.now) es → (first others xs : List T) × (gs : List (Entry (LinkedEntry T))) ×
+            (holds : Option ℕ) × (shown_of now ≡ first ++ others) × AreClones T.is_clone T.is_infallible first xs ×
+            FillsQueue (S.seat s.old).place (cells_in self.now) (S.world s.old) es second xs (S.world s.new) gs holds ×
+            IsQueue link_of (S.world s.new) from fs held × MatchResult result (λ _. others ≡ [])
+            (λ e. (e.0 ≡ None) × (u : T) × (us : List T) × (others ≡ u ∷ us) ×
+            RefusesClone T.is_clone T.is_infallible (S.world s.new) u e.1) }
+    {
+        let mut walk = walk;
+        while let Some(value) = walk.next(guard, s) {
+            values_fit_slots::<LinkedEntry<T>, S>(s);
+            match self.add_clone(value, guard, s) {
+                Ok(()) => {}
+                Err(back) => return Err(back),
+            }
+        }
+        Ok(())
+    }
+
+    /// Another queue with clones of the values, in order, whose entries are new and have no mark.
+    ///
+    /// `NotBegun` with `NoCell` where no two cells are free. Where a clone finds no place, or is refused memory, `Part` with the queue as it is by then;
+    /// a value is cloned only where a push would find a place. `Contended`, in a domain alone, where the clone may come back too.
+    pub fn clone<
+        S: Items<LinkedEntry<T>>
+            + Several<LinkedEntry<T>>
+            + Cells<LinkedEntry<T>>
+            + LookThrough<LinkedEntry<T>>,
+    >(&self, guard: &Guard, s: &mut S) -> Result<Queue<T>, Unfinished<Queue<T>, T>>
+    where
+        T: Clone,
+        requires seated { IsSeated (S.seat s.old) }
+        requires home { AreOfCells (S.seat s.old).home.cells self.now }
+        requires values { (u v : T) → T.is_clone u v → AreOf (S.seat s.old).home (T.holds v) }
+        requires reader { reader_of guard.now ≡ (S.seat s.old).reader }
+        ensures unmoved { Unmoved S.seat S.known S.shows s.old s.new }
+        ensures own { KeepsMoreWaiting (S.own s.old) (S.own s.new) }
+        ensures home { IfSome (queue_of result) (AreOfCells (S.seat s.old).home.cells) }
+        ensures back { IfErr result (λ u. (why_not u ≡ Refused.NoSlot) ⊎ (why_not u ≡ Refused.NoCell) ⊎ (why_not u ≡ Refused.NoMemory) ⊎
+            (why_not u ≡ Refused.Contended)) }
+        ensures list { IsExact (S.seat s.old) → (es : List (Entry (LinkedEntry T))) (second : Option ℕ) →
+            IsQueue link_of (S.world s.old) (cells_in self.now) es second →
+            Clones T.is_clone T.is_infallible (S.seat s.old).place (S.world s.old) (cells_in self.now) es second result (S.world s.new) }
+    {
+        let copy = match Queue::new(s) {
+            Ok(copy) => copy,
+            Err(refused) => return Err(Unfinished::NotBegun(refused)),
+        };
+        let walk = self.walk(guard, s);
+        match copy.add_clones(walk, guard, s) {
+            Ok(()) => Ok(copy),
+            Err((item, refused)) => Err(Unfinished::Part(copy, item, refused)),
+        }
+    }
+
     /// Pops the oldest entry that isn't deleted: it is deleted and let go of, with the deleted entries in front of it. None where there is none; deleted
     /// entries are let go of then too.
     ///
@@ -351,6 +566,26 @@ impl<T: Item<LinkedEntry<T>>> Queue<T> {
     {
         let shown = shown_in(&self.oldest, guard, s);
         reader(shown)
+    }
+
+    /// A walk along the entries that aren't deleted, the oldest first.
+    pub fn walk<'g, S: Items<LinkedEntry<T>> + Cells<LinkedEntry<T>> + LookThrough<LinkedEntry<T>>>(
+        &self,
+        guard: &'g Guard,
+        s: &mut S,
+    ) -> Walk<'g, T>
+        requires seated { IsSeated (S.seat s.old) }
+        requires home { AreOfCells (S.seat s.old).home.cells self.now }
+        requires reader { reader_of guard.now ≡ (S.seat s.old).reader }
+        ensures undisturbed { Undisturbed S.seat S.own S.known S.shows s.old s.new }
+        ensures home { IsWalkOf (S.seat s.old).home.cells result }
+        ensures world { IsExact (S.seat s.old) → S.world s.new ≡ S.world s.old }
+        ensures list { IsExact (S.seat s.old) → (es : List (Entry (LinkedEntry T))) (second : Option ℕ) →
+            IsQueue link_of (S.world s.old) (cells_in self.now) es second → ShowsInOrder (S.world s.new) result (shown_of es) }
+        ensures entries { IsExact (S.seat s.old) → (es : List (Entry (LinkedEntry T))) (second : Option ℕ) →
+            IsQueue link_of (S.world s.old) (cells_in self.now) es second → StandsBefore (S.world s.new) result (left es) }
+    {
+        walk_in(&self.oldest, guard, s)
     }
 
     /// How many entries aren't deleted.

@@ -1,6 +1,7 @@
 //! A container whose newest value comes out first.
-ghost use Rattle.std.specs.Prelude.{◌≡◌, ◌↔◌, ◌⊎◌, ℕ, [], ◌∷◌, IfErr, IfOk, IfSome, IsTrue, List, MatchResult, Some, length, option_copied};
+ghost use Rattle.std.specs.Prelude.{◌≡◌, ◌↔◌, ◌⊎◌, ℕ, [], ◌∷◌, ◌++◌, IfErr, IfOk, IfSome, IsTrue, List, MatchResult, None, Some, length, option_copied};
 ghost use Rattle.std.specs.Borrow.{Bor};
+ghost use Rattle.std.specs.Iterator.{IsFinite};
 ghost use Rattle.sdd_space.specs.Guard.{reader_of};
 ghost use Rattle.sdd_space.specs.OwnerOrCell.{AreOf};
 ghost use Rattle.sdd_space.specs.Undisturbed.{Undisturbed, Unmoved};
@@ -22,10 +23,13 @@ use crate::asking::{asks, asks_of_any};
 use crate::linked_entry::LinkedEntry;
 use crate::moves::{give_up, let_go_of_all, trim};
 use crate::pops::{keep_first, pop_first, take_first};
-use crate::pushes::push_first;
+use crate::pushes::{append, has_room, push_first};
+use crate::unfinished::Unfinished;
 use crate::unpopped::Unpopped;
+use crate::walk::{Walk, walk_in};
 use crate::walks::{Front, count, find_first, first_ptr_in, first_value_in, shown_in};
 use sdd_core::{Refused, Tag};
+use sdd_space::laws::values_fit_slots;
 use sdd_space::{
     AtomicShared, Cells, Guard, Item, Items, LookThrough, Ptr, Several, Shared, SharedItems,
 };
@@ -37,6 +41,10 @@ pub struct Stack<T> {
 
 impl<T: Item<LinkedEntry<T>>> Stack<T> {
     ghost use Rattle.sdd_lists.specs.Stack.{IsStack, PopsIf, PushesOnto, cell_in, home_in, poured};
+    ghost use Rattle.sdd_lists.specs.Cloning.{AreBeside, AreClones, RefusesClone};
+    ghost use Rattle.sdd_lists.specs.StackCloning.{AppendsTo, ExtendsStack, IsStackBeside, LastIs, StackClones, both};
+    ghost use Rattle.sdd_lists.specs.Filling.{AddsOnto, Builds, FillsStack, Gives, RefusesPush, stack_of, why_not};
+    ghost use Rattle.sdd_lists.specs.Walk.{IsWalkOf, ShowsInOrder, StandsBefore, shown_of};
 
     /// An empty stack.
     ///
@@ -95,6 +103,257 @@ impl<T: Item<LinkedEntry<T>>> Stack<T> {
         }
     }
 
+    /// Pushes a value, whose entry the stack alone owns then.
+    fn add<
+        S: Items<LinkedEntry<T>>
+            + Several<LinkedEntry<T>>
+            + Cells<LinkedEntry<T>>
+            + LookThrough<LinkedEntry<T>>,
+    >(&self, value: T, guard: &Guard, s: &mut S) -> Result<(), (T, Refused)>
+        requires seated { IsSeated (S.seat s.old) }
+        requires home { home_in self.now ≡ (S.seat s.old).home.cells }
+        requires value { AreOf (S.seat s.old).home (T.holds value) }
+        requires reader { reader_of guard.now ≡ (S.seat s.old).reader }
+        ensures unmoved { Unmoved S.seat S.known S.shows s.old s.new }
+        ensures own { KeepsMoreWaiting (S.own s.old) (S.own s.new) }
+        ensures back { IfErr result (λ e. (e.0 ≡ value) × ((e.1 ≡ Refused.NoSlot) ⊎ IsRefusedBy (S.seat s.old) Refused.NoCell e.1)) }
+        ensures refused { IsExact (S.seat s.old) → IfErr result (λ e. (S.world s.new ≡ S.world s.old) × RefusesPush (S.world s.old) e.1) }
+        ensures list { IsExact (S.seat s.old) → (es : List (Entry (LinkedEntry T))) → IsStack (S.world s.old) (cell_in self.now) es →
+            IfOk result (λ _. (fs : List (Entry (LinkedEntry T))) ×
+            AddsOnto (S.world s.old) (S.seat s.old).place (cell_in self.now) es value (S.world s.new) fs) }
+    {
+        match self.push(value, guard, s) {
+            Ok(owner) => {
+                give_up(Some(owner), s);
+                Ok(())
+            }
+            Err(back) => Err(back),
+        }
+    }
+
+    /// Pushes what an iterator gives, one after another.
+    fn add_all<
+        I: Iterator<Item = T>,
+        S: Items<LinkedEntry<T>>
+            + Several<LinkedEntry<T>>
+            + Cells<LinkedEntry<T>>
+            + LookThrough<LinkedEntry<T>>,
+    >(&self, items: &mut I, guard: &Guard, s: &mut S) -> Result<(), (T, Refused)>
+        requires seated { IsSeated (S.seat s.old) }
+        requires home { home_in self.now ≡ (S.seat s.old).home.cells }
+        requires reader { reader_of guard.now ≡ (S.seat s.old).reader }
+        requires can { I.can_next items.old }
+        requires ends { IsFinite (I.remaining items.old) }
+        requires values { (i j : I) (value : T) → I.next_gives i (Some value) j → AreOf (S.seat s.old).home (T.holds value) }
+        ensures unmoved { Unmoved S.seat S.known S.shows s.old s.new }
+        ensures own { KeepsMoreWaiting (S.own s.old) (S.own s.new) }
+        ensures back { IfErr result (λ e. (e.1 ≡ Refused.NoSlot) ⊎ IsRefusedBy (S.seat s.old) Refused.NoCell e.1) }
+        ensures list { IsExact (S.seat s.old) → (es : List (Entry (LinkedEntry T))) → IsStack (S.world s.old) (cell_in self.now) es →
+            (xs : List T) × (i : I) × (fs : List (Entry (LinkedEntry T))) × Gives I.next_gives items.old xs i ×
+            FillsStack (S.seat s.old).place (cell_in self.now) (S.world s.old) es xs (S.world s.new) fs × MatchResult result
+            (λ _. I.next_gives i None items.new) (λ e. I.next_gives i (Some e.0) items.new × RefusesPush (S.world s.new) e.1) }
+    {
+        while let Some(value) = items.next() {
+            match self.add(value, guard, s) {
+                Ok(()) => {}
+                Err(back) => return Err(back),
+            }
+        }
+        Ok(())
+    }
+
+    /// A stack of what an iterator gives, each pushed onto those before it.
+    ///
+    /// `NotBegun` with `NoCell` where no cell is free: nothing is taken of the iterator then. Where a push is refused, `Part` with the stack as it is by then,
+    /// and the item that was refused. `Contended`, in a domain alone.
+    pub fn from_iter<
+        I: Iterator<Item = T>,
+        S: Items<LinkedEntry<T>>
+            + Several<LinkedEntry<T>>
+            + Cells<LinkedEntry<T>>
+            + LookThrough<LinkedEntry<T>>,
+    >(items: &mut I, guard: &Guard, s: &mut S) -> Result<Stack<T>, Unfinished<Stack<T>, T>>
+        requires seated { IsSeated (S.seat s.old) }
+        requires reader { reader_of guard.now ≡ (S.seat s.old).reader }
+        requires can { I.can_next items.old }
+        requires ends { IsFinite (I.remaining items.old) }
+        requires values { (i j : I) (value : T) → I.next_gives i (Some value) j → AreOf (S.seat s.old).home (T.holds value) }
+        ensures unmoved { Unmoved S.seat S.known S.shows s.old s.new }
+        ensures own { KeepsMoreWaiting (S.own s.old) (S.own s.new) }
+        ensures home { IfSome (stack_of result) (λ stack. home_in stack ≡ (S.seat s.old).home.cells) }
+        ensures back { IfErr result (λ u. (why_not u ≡ Refused.NoSlot) ⊎ IsRefusedBy (S.seat s.old) Refused.NoCell (why_not u)) }
+        ensures list { IsExact (S.seat s.old) →
+            Builds I.next_gives (S.seat s.old).place (S.world s.old) items.old result items.new (S.world s.new) }
+    {
+        let stack = match Stack::new(s) {
+            Ok(stack) => stack,
+            Err(refused) => return Err(Unfinished::NotBegun(refused)),
+        };
+        match stack.add_all(items, guard, s) {
+            Ok(()) => Ok(stack),
+            Err((item, refused)) => Err(Unfinished::Part(stack, Some(item), refused)),
+        }
+    }
+
+    /// Puts a value behind the last entry that isn't deleted, and was found. The stack alone owns its entry, which is answered.
+    fn append<
+        'g,
+        S: Items<LinkedEntry<T>>
+            + Several<LinkedEntry<T>>
+            + Cells<LinkedEntry<T>>
+            + LookThrough<LinkedEntry<T>>,
+    >(
+        &self,
+        last: Option<Front<'g, LinkedEntry<T>>>,
+        value: T,
+        guard: &'g Guard,
+        s: &mut S,
+    ) -> Result<Front<'g, LinkedEntry<T>>, (T, Refused)>
+        requires seated { IsSeated (S.seat s.old) }
+        requires home { home_in self.now ≡ (S.seat s.old).home.cells }
+        requires last { IfSome last (λ f. cells_home f.link.now ≡ (S.seat s.old).home.cells) }
+        requires value { AreOf (S.seat s.old).home (T.holds value) }
+        requires reader { reader_of guard.now ≡ (S.seat s.old).reader }
+        ensures unmoved { Unmoved S.seat S.known S.shows s.old s.new }
+        ensures own { KeepsMoreWaiting (S.own s.old) (S.own s.new) }
+        ensures front { IfOk result (λ f. cells_home f.link.now ≡ (S.seat s.old).home.cells) }
+        ensures back { IfErr result (λ e. (e.0 ≡ value) × ((e.1 ≡ Refused.NoSlot) ⊎ IsRefusedBy (S.seat s.old) Refused.NoCell e.1)) }
+        ensures refused { IsExact (S.seat s.old) → IfErr result (λ e. (S.world s.new ≡ S.world s.old) × RefusesPush (S.world s.old) e.1) }
+        ensures list { IsExact (S.seat s.old) → (es : List (Entry (LinkedEntry T))) → IsStack (S.world s.old) (cell_in self.now) es →
+            LastIs link_of last.entry es → IfOk result (λ f. (gs : List (Entry (LinkedEntry T))) ×
+            AppendsTo (S.world s.old) (S.seat s.old).place (cell_in self.now) es value (S.world s.new) gs × LastIs link_of (Some f) gs) }
+    {
+        let free = s.has_slot();
+        if !free {
+            return Err((value, Refused::NoSlot));
+        }
+        let entry = match LinkedEntry::new(value, s) {
+            Ok(entry) => entry,
+            Err(back) => return Err(back),
+        };
+        match append(&self.newest, last, entry, guard, s) {
+            Ok(front) => Ok(front),
+            Err((entry, refused)) => Err((entry.close(s), refused)),
+        }
+    }
+
+    /// Puts a clone of a value behind the last entry that isn't deleted, and was found. The value is cloned where an entry would find a place.
+    fn append_clone<
+        'g,
+        S: Items<LinkedEntry<T>>
+            + Several<LinkedEntry<T>>
+            + Cells<LinkedEntry<T>>
+            + LookThrough<LinkedEntry<T>>,
+    >(
+        &self,
+        last: Option<Front<'g, LinkedEntry<T>>>,
+        value: &T,
+        guard: &'g Guard,
+        s: &mut S,
+    ) -> Result<Front<'g, LinkedEntry<T>>, (Option<T>, Refused)>
+    where
+        T: Clone,
+        requires seated { IsSeated (S.seat s.old) }
+        requires home { home_in self.now ≡ (S.seat s.old).home.cells }
+        requires last { IfSome last (λ f. cells_home f.link.now ≡ (S.seat s.old).home.cells) }
+        requires values { (v : T) → T.is_clone value.now v → AreOf (S.seat s.old).home (T.holds v) }
+        requires reader { reader_of guard.now ≡ (S.seat s.old).reader }
+        ensures unmoved { Unmoved S.seat S.known S.shows s.old s.new }
+        ensures own { KeepsMoreWaiting (S.own s.old) (S.own s.new) }
+        ensures front { IfOk result (λ f. cells_home f.link.now ≡ (S.seat s.old).home.cells) }
+        ensures back { IfErr result (λ e. (e.1 ≡ Refused.NoMemory) ⊎ (e.1 ≡ Refused.NoSlot) ⊎ IsRefusedBy (S.seat s.old) Refused.NoCell e.1) }
+        ensures refused { IsExact (S.seat s.old) → IfErr result (λ e. (S.world s.new ≡ S.world s.old) × (e.0 ≡ None) ×
+            RefusesClone T.is_clone T.is_infallible (S.world s.old) value.now e.1) }
+        ensures list { IsExact (S.seat s.old) → (es : List (Entry (LinkedEntry T))) → IsStack (S.world s.old) (cell_in self.now) es →
+            LastIs link_of last.entry es → IfOk result (λ f. (v : T) × T.is_clone value.now v × (gs : List (Entry (LinkedEntry T))) ×
+            AppendsTo (S.world s.old) (S.seat s.old).place (cell_in self.now) es v (S.world s.new) gs × LastIs link_of (Some f) gs) }
+    {
+        if let Err(refused) = has_room::<LinkedEntry<T>, S>(s) {
+            return Err((None, refused));
+        }
+        let copied = match value.clone() {
+            Ok(copied) => copied,
+            Err(_) => return Err((None, Refused::NoMemory)),
+        };
+        match self.append(last, copied, guard, s) {
+            Ok(front) => Ok(front),
+            Err((item, refused)) => Err((Some(item), refused)),
+        }
+    }
+
+    /// Puts clones of the values that a walk shows into a stack that has no entries, in order. The stack from which it shows them stays as it is.
+    fn append_clones<
+        'g,
+        S: Items<LinkedEntry<T>>
+            + Several<LinkedEntry<T>>
+            + Cells<LinkedEntry<T>>
+            + LookThrough<LinkedEntry<T>>,
+    >(&self, walk: Walk<'g, T>, guard: &'g Guard, s: &mut S) -> Result<(), (Option<T>, Refused)>
+    where
+        T: Clone,
+        requires seated { IsSeated (S.seat s.old) }
+        requires home { home_in self.now ≡ (S.seat s.old).home.cells }
+        requires walk { IsWalkOf (S.seat s.old).home.cells walk }
+        requires values { (u v : T) → T.is_clone u v → AreOf (S.seat s.old).home (T.holds v) }
+        requires reader { reader_of guard.now ≡ (S.seat s.old).reader }
+        ensures unmoved { Unmoved S.seat S.known S.shows s.old s.new }
+        ensures own { KeepsMoreWaiting (S.own s.old) (S.own s.new) }
+        ensures back { IfErr result (λ e. (e.1 ≡ Refused.NoMemory) ⊎ (e.1 ≡ Refused.NoSlot) ⊎ IsRefusedBy (S.seat s.old) Refused.NoCell e.1) }
+        ensures list { IsExact (S.seat s.old) → IsStack (S.world s.old) (cell_in self.now) [] → (from : ℕ) (now fs : List (Entry (LinkedEntry T))) →
+            StandsBefore (S.world s.old) walk.entry now → AreBeside now (both (cell_in self.now)) [] →
+            IsStackBeside (S.world s.old) from fs (cell_in self.now) [] → (first others xs : List T) × (gs : List (Entry (LinkedEntry T))) ×
+            (shown_of now ≡ first ++ others) × AreClones T.is_clone T.is_infallible first xs ×
+            ExtendsStack (S.seat s.old).place (cell_in self.now) (S.world s.old) [] xs (S.world s.new) gs × IsStack (S.world s.new) from fs ×
+            MatchResult result (λ _. others ≡ []) (λ e. (e.0 ≡ None) × (u : T) × (us : List T) × (others ≡ u ∷ us) ×
+            RefusesClone T.is_clone T.is_infallible (S.world s.new) u e.1) }
+    {
+        let mut walk = walk;
+        let mut last: Option<Front<'g, LinkedEntry<T>>> = None;
+        while let Some(value) = walk.next(guard, s) {
+            values_fit_slots::<LinkedEntry<T>, S>(s);
+            match self.append_clone(last, value, guard, s) {
+                Ok(front) => last = Some(front),
+                Err(back) => return Err(back),
+            }
+        }
+        Ok(())
+    }
+
+    /// Another stack with clones of the values, in order, whose entries are new and have no mark.
+    ///
+    /// `NotBegun` with `NoCell` where no cell is free. Where a clone finds no place, or is refused memory, `Part` with the stack as it is by then, of the first
+    /// values; a value is cloned only where an entry would find a place. `Contended`, in a domain alone, where the clone may come back too.
+    pub fn clone<
+        S: Items<LinkedEntry<T>>
+            + Several<LinkedEntry<T>>
+            + Cells<LinkedEntry<T>>
+            + LookThrough<LinkedEntry<T>>,
+    >(&self, guard: &Guard, s: &mut S) -> Result<Stack<T>, Unfinished<Stack<T>, T>>
+    where
+        T: Clone,
+        requires seated { IsSeated (S.seat s.old) }
+        requires home { home_in self.now ≡ (S.seat s.old).home.cells }
+        requires values { (u v : T) → T.is_clone u v → AreOf (S.seat s.old).home (T.holds v) }
+        requires reader { reader_of guard.now ≡ (S.seat s.old).reader }
+        ensures unmoved { Unmoved S.seat S.known S.shows s.old s.new }
+        ensures own { KeepsMoreWaiting (S.own s.old) (S.own s.new) }
+        ensures home { IfSome (stack_of result) (λ stack. home_in stack ≡ (S.seat s.old).home.cells) }
+        ensures back { IfErr result (λ u. (why_not u ≡ Refused.NoMemory) ⊎ (why_not u ≡ Refused.NoSlot) ⊎
+            IsRefusedBy (S.seat s.old) Refused.NoCell (why_not u)) }
+        ensures list { IsExact (S.seat s.old) → (es : List (Entry (LinkedEntry T))) → IsStack (S.world s.old) (cell_in self.now) es →
+            StackClones T.is_clone T.is_infallible (S.seat s.old).place (S.world s.old) (cell_in self.now) es result (S.world s.new) }
+    {
+        let copy = match Stack::new(s) {
+            Ok(copy) => copy,
+            Err(refused) => return Err(Unfinished::NotBegun(refused)),
+        };
+        let walk = self.walk(guard, s);
+        match copy.append_clones(walk, guard, s) {
+            Ok(()) => Ok(copy),
+            Err((item, refused)) => Err(Unfinished::Part(copy, item, refused)),
+        }
+    }
+
     /// Pops the newest entry that isn't deleted: it is deleted and let go of, with the deleted entries in front of it. None where there is none; deleted
     /// entries are let go of then too.
     ///
@@ -135,6 +394,26 @@ impl<T: Item<LinkedEntry<T>>> Stack<T> {
             slot_named result ≡ first_slot (left es) }
     {
         first_ptr_in(&self.newest, guard, s)
+    }
+
+    /// A walk along the entries that aren't deleted, the newest first.
+    pub fn walk<'g, S: Items<LinkedEntry<T>> + Cells<LinkedEntry<T>> + LookThrough<LinkedEntry<T>>>(
+        &self,
+        guard: &'g Guard,
+        s: &mut S,
+    ) -> Walk<'g, T>
+        requires seated { IsSeated (S.seat s.old) }
+        requires home { home_in self.now ≡ (S.seat s.old).home.cells }
+        requires reader { reader_of guard.now ≡ (S.seat s.old).reader }
+        ensures undisturbed { Undisturbed S.seat S.own S.known S.shows s.old s.new }
+        ensures home { IsWalkOf (S.seat s.old).home.cells result }
+        ensures world { IsExact (S.seat s.old) → S.world s.new ≡ S.world s.old }
+        ensures list { IsExact (S.seat s.old) → (es : List (Entry (LinkedEntry T))) → IsStack (S.world s.old) (cell_in self.now) es →
+            ShowsInOrder (S.world s.new) result (shown_of es) }
+        ensures entries { IsExact (S.seat s.old) → (es : List (Entry (LinkedEntry T))) → IsStack (S.world s.old) (cell_in self.now) es →
+            StandsBefore (S.world s.new) result (left es) }
+    {
+        walk_in(&self.newest, guard, s)
     }
 
     /// How many entries aren't deleted.

@@ -109,6 +109,30 @@ pub(crate) fn find_first<'g, T: LinkedList, S: Items<T> + Cells<T> + LookThrough
     Err(Refused::Contended)
 }
 
+/// The same, or None where that is refused.
+pub(crate) fn front_in<'g, T: LinkedList, S: Items<T> + Cells<T> + LookThrough<T>>(
+    cell: &AtomicShared<T>,
+    guard: &'g Guard,
+    s: &mut S,
+) -> Option<Front<'g, T>>
+    requires seated { IsSeated (S.seat s.old) }
+    requires home { cells_home cell.now ≡ (S.seat s.old).home.cells }
+    requires reader { reader_of guard.now ≡ (S.seat s.old).reader }
+    ensures undisturbed { Undisturbed S.seat S.own S.known S.shows s.old s.new }
+    ensures home { IfSome result (λ f. cells_home f.link.now ≡ (S.seat s.old).home.cells) }
+    ensures link { IfSome result (λ f. cell_of f.link.now ≡ T.link f.entry.now) }
+    ensures world { IsExact (S.seat s.old) → S.world s.new ≡ S.world s.old }
+    ensures exact { IsExact (S.seat s.old) → (es : List (Entry T)) → AreLinked T.link (S.world s.old) es →
+        (held : CellContents) → entry_at (S.world s.old).cells (cell_of cell.now) ≡ Some held → held.held ≡ first_slot es →
+        MatchOption result (left es ≡ []) (λ f. (e : Entry T) × (rest : List (Entry T)) × (left es ≡ e ∷ rest) × (slot_named f.ptr ≡ Some e.slot) ×
+        (f.entry.now ≡ e.value) × ((n : ℕ) × IsSharedBy n (standing_at (S.world s.old) e.slot))) }
+{
+    match find_first(cell, guard, s) {
+        Ok(front) => front,
+        Err(_) => None,
+    }
+}
+
 /// The value of the first entry of the list in a cell that isn't deleted.
 ///
 /// `Contended` where `find_first` is refused so.

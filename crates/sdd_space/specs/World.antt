@@ -1,5 +1,5 @@
 -- A world as clauses see it
-use Rattle.std.specs.Prelude.{ℕ, Any, IsTrue, is_none, ◌+◌, ◌≤◌, ◌<◌, ◌≡◌, Bool, true, false, List, [], length, Option, None, sum_by, count_by, slice_get, slice_index_or, replicate}
+use Rattle.std.specs.Prelude.{ℕ, Any, IsTrue, is_none, ◌+◌, ◌<◌, ◌≡◌, Bool, true, false, List, [], length, Option, None, sum_by, count_by, slice_get, slice_index_or, replicate}
 use Rattle.sdd_participants.specs.EpochState.{EpochState, lives, waiting_count}
 use Rattle.sdd_participants.specs.EpochState as time
 use Rattle.sdd_participants.specs.Slab.{Entries, entry_at}

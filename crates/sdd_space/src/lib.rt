@@ -30,5 +30,5 @@ pub use raw_ptr::RawPtr;
 pub use shared::Shared;
 pub use space::{
     Caller, Cells, Collectors, Deferrals, Guards, InPlaceItems, Items, RawCells, RawItems, Several,
-    SharedItems, Space,
+    SharedItems, SharedOwners, Space,
 };

@@ -21,7 +21,7 @@ use crate::guard::Guard;
 use crate::item::Item;
 use crate::look::Look;
 use crate::ptr::Ptr;
-use crate::space::{InPlaceItems, Items, SharedItems};
+use crate::space::{InPlaceItems, Items, SharedItems, SharedOwners};
 use sdd_core::Refused;
 use sdd_participants::Standing;
 use sdd_rights::{Right, SharedRight, StandingKind};
@@ -212,7 +212,7 @@ impl<T: Item<T>> Shared<T> {
     /// One owner more of the same item, with the same value.
     ///
     /// `TooManyOwners` where 2^62 own it, cells counted.
-    pub fn clone<S: SharedItems<T>>(&self, s: &mut S) -> Result<Shared<T>, Refused>
+    pub fn clone<S: SharedOwners<T>>(&self, s: &mut S) -> Result<Shared<T>, Refused>
         requires seated { IsSeated (S.seat s.old) }
         requires home { slots_home self.now ≡ (S.seat s.old).home.slots }
         ensures undisturbed { Undisturbed S.seat S.own S.known S.shows s.old s.new }

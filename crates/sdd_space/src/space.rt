@@ -13,6 +13,7 @@ pub mod raw_cells;
 pub mod raw_items;
 pub mod several;
 pub mod shared_items;
+pub mod shared_owners;
 
 use crate::item::Item;
 use crate::look::Look;
@@ -27,6 +28,7 @@ pub use raw_cells::RawCells;
 pub use raw_items::RawItems;
 pub use several::Several;
 pub use shared_items::SharedItems;
+pub use shared_owners::SharedOwners;
 
 /// A world or domain as one participant has it, with all its parts.
 ///

@@ -1,12 +1,12 @@
 -- The words as they are written are read as the rule asks.
-use Rattle.std.proofs.Common.{◌≡◌, ◌⊎◌, ℕ, suc, ◌+◌, ◌-◌, ◌*◌, ◌/◌, ◌%◌, ◌^◌, ◌<◌, ◌≤◌, eqb, leb, true, false, refl, ap, ◌∙◌, inl, inr, ⊎_elim, eq-eqb, ne_eqb, arith}
+use Rattle.std.proofs.Common.{◌≡◌, ◌⊎◌, ℕ, suc, ◌+◌, ◌-◌, ◌*◌, ◌/◌, ◌%◌, ◌^◌, ◌<◌, ◌≤◌, Bool, eqb, leb, true, false, refl, ap, ◌∙◌, inl, inr, ⊎_elim, eq-eqb, ne_eqb, arith}
 use mathlib.Core.Logic.{dite}
 use native.Mathlib.Decide.{ℕ_discrete}
 use prog.Atomic.{either}
 use Rattle.std.proofs.lemmas.Bool.{le-leb}
 use Rattle.std.proofs.lemmas.Bool.Decides.{leb_tells}
 use Rattle.sdd_word_invariant.specs.Sums.{is}
-use Rattle.sdd_word_invariant.specs.Codes.{IsWordReading, codes, shared_base, free_word, owned_word, raw_word, waiting_word, private_word, emptied_word, unowned, kind_alive, kind_waiting, kind_full, kind_valued, kind_emptying, emptying, emptying_word, left_word, alive, waiting, full, valued, counted, waits_for, names}
+use Rattle.sdd_word_invariant.specs.Codes.{IsWordReading, codes, shared_base, free_word, owned_word, raw_word, waiting_word, private_word, emptied_word, unowned, kind_alive, kind_waiting, kind_full, kind_valued, kind_emptying, emptying, emptying_word, left_word, alive, waiting, full, valued, counted, waits_for, names, claimed_word, retired_word, held_word, shared_word}
 
 lives : (q : ℕ) → 0 < kind_alive q → (kind_waiting q ≡ 0) × (kind_full q ≡ 1)
 lives q h = dite (ℕ_discrete q 1) (λ e. (ap kind_waiting e, ap kind_full e))
@@ -58,6 +58,16 @@ pub none_left : (alive shared_base ≡ 0) × (waiting shared_base ≡ 1) × (ful
 unfolding alive waiting full
 none_left = (refl, refl, refl)
 
+-- the only owner holds it
+pub only_held : (alive held_word ≡ 1) × (full held_word ≡ 1) × (counted held_word ≡ 0)
+unfolding alive full counted
+only_held = (refl, refl, refl)
+
+-- one is left
+pub one_left : (alive (shared_word 1) ≡ 1) × (full (shared_word 1) ≡ 1) × (counted (shared_word 1) ≡ 1)
+unfolding alive full counted
+one_left = (refl, refl, refl)
+
 pub some_left : (x : ℕ) → shared_base < x → (alive x ≡ x - shared_base) × (waiting x ≡ 0) × (full x ≡ 1) × (counted x ≡ 1)
 some_left x h = let s = shared x (omega arith) in (s.0, s.1 ∙ ap (λ (t : _). either t 1 0) (ne_eqb x shared_base (λ e. omega arith)), s.2, s.3)
 
@@ -79,12 +89,14 @@ kind x q low e = let f = below shared_base x low in (
 -- it waits for the collector k
 pub private_is : (k : ℕ) → private_word k < shared_base → (alive (private_word k) ≡ 0) × (waiting (private_word k) ≡ 1) × (waits_for k (private_word k) ≡ 1)
 unfolding waits_for
-private_is k low = let s = kind (private_word k) 5 low (omega arith) in let q : (16 * k + 5) / 16 ≡ k = omega arith in let r : (16 * k + 5) % 16 ≡ 5 = omega arith in (
-  s.0,
-  s.1,
-  ap (λ (t : _). either t 0 (either (eqb ((16 * k + 5) % 16) 5) (is k ((16 * k + 5) / 16)) 0)) (below shared_base (16 * k + 5) low)
-      ∙ (ap (λ (t : _). either t (is k ((16 * k + 5) / 16)) 0) (eq-eqb ((16 * k + 5) % 16) 5 r) ∙ (ap (is k) q ∙ ap (λ (t : _). either t 1 0) (eq-eqb k k refl))),
-)
+private_is k low = let s = kind (private_word k) 5 low (omega arith) in let q : (16 * k + 5) / 16 ≡ k = omega arith in
+    let r : (16 * k + 5) % 16 ≡ 5 = omega arith in (
+      s.0,
+      s.1,
+      ap (λ (t : _). either t 0 (either (eqb ((16 * k + 5) % 16) 5) (is k ((16 * k + 5) / 16)) 0)) (below shared_base (16 * k + 5) low)
+          ∙ (ap (λ (t : _). either t (is k ((16 * k + 5) / 16)) 0) (eq-eqb ((16 * k + 5) % 16) 5 r) ∙
+          (ap (is k) q ∙ ap (λ (t : _). either t 1 0) (eq-eqb k k refl))),
+    )
 
 -- it was emptied: it waits still, and has no value
 pub emptied_is : (alive emptied_word ≡ 0) × (waiting emptied_word ≡ 1) × (full emptied_word ≡ 1) × (valued emptied_word ≡ 0)
@@ -152,9 +164,32 @@ free : (alive 0 ≡ 0) × (waiting 0 ≡ 0) × (full 0 ≡ 0)
 unfolding alive waiting full
 free = (refl, refl, refl)
 
+-- nor does a free slot's word count owners
+pub none_counted : counted 0 ≡ 0
+unfolding counted
+none_counted = refl
+
 pub held_is : (alive 3 ≡ 1) × (counted 3 ≡ 0)
 unfolding alive counted
 held_is = (refl, refl)
+
+-- a slot's word once it is claimed, and once its last owner has gone
+pub claimed_is : (shared : Bool) → (alive (claimed_word shared) ≡ 1) × (counted (claimed_word shared) ≡ either shared 1 0)
+unfolding alive counted
+claimed_is true = (refl, refl)
+claimed_is false = (refl, refl)
+
+pub retired_is : (shared : Bool) → (alive (retired_word shared) ≡ 0) × (waiting (retired_word shared) ≡ 1) × (full (retired_word shared) ≡ 1)
+unfolding alive waiting full
+retired_is true = (refl, refl, refl)
+retired_is false = (refl, refl, refl)
+
+-- an uncounted word has one owner at most
+few_of : (q : ℕ) → kind_alive q ≤ 1
+few_of q = dite (ℕ_discrete q 1) (λ e. let a = ap kind_alive e in omega arith)
+    (λ n1. let a = ap (λ (t : _). either t 1 (either (eqb q 3) 1 0)) (ne_eqb q 1 n1) in dite (ℕ_discrete q 3)
+    (λ e. let b = ap kind_alive e in omega arith)
+    (λ n3. let b = ap (λ (t : _). either t 1 0) (ne_eqb q 3 n3) in omega arith))
 
 pub sound : IsWordReading codes
 sound = record {
@@ -162,6 +197,9 @@ sound = record {
       let l = some_left x (omega arith) in (l.1, l.2))
       (λ (t : (leb shared_base x ≡ false) × (x < shared_base)). let s = kind x (x % 16) t.1 refl in let s0 = s.0 in let q = lives (x % 16) (omega arith) in
       (s.1 ∙ q.0, s.2 ∙ q.1)) (leb_tells shared_base x);
+  few = λ x none. ⊎_elim (λ (t : (leb shared_base x ≡ true) × (shared_base ≤ x)). let c = (shared x t.1).3 in absurd (omega arith))
+      (λ (t : (leb shared_base x ≡ false) × (x < shared_base)). let s = (kind x (x % 16) t.1 refl).0 in let f = few_of (x % 16) in omega arith)
+      (leb_tells shared_base x);
   valued = λ x h. ⊎_elim (λ (t : (leb shared_base x ≡ true) × (shared_base ≤ x)). (shared x t.1).4)
       (λ (t : (leb shared_base x ≡ false) × (x < shared_base)). let s = kind x (x % 16) t.1 refl in let s0 = s.0 in
       s.4 ∙ valued_is (x % 16) (omega arith)) (leb_tells shared_base x);

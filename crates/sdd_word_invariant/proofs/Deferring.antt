@@ -1,5 +1,5 @@
 -- A job comes to wait: a free place of the table of jobs is claimed, and what waits there waits from the same step on.
-use Rattle.std.proofs.Common.{◌≡◌, ◌≢◌, ◌⊎◌, ℕ, ◌+◌, ◌<◌, ◌≤◌, List, [], ◌∷◌, ◌++◌, map, get_or, set, sym, refl, ap, ◌∙◌, subst, ⊎_elim, inl, inr, arith, get_or-set_other, get_or-set_same}
+use Rattle.std.proofs.Common.{◌≡◌, ◌≢◌, ◌⊎◌, ℕ, ◌<◌, ◌≤◌, List, [], ◌∷◌, ◌++◌, map, get_or, set, sym, refl, ap, ◌∙◌, subst, ⊎_elim, arith, get_or-set_other}
 use mathlib.Core.Option.{some}
 use mathlib.Core.Logic.{dite}
 use native.Mathlib.Decide.{ℕ_discrete}
@@ -11,13 +11,12 @@ use Rattle.sdd_views.specs.declared.Sizes.{Sizes}
 use Rattle.sdd_word_invariant.specs.Words.{global_word, slot_word, most_waiting}
 use Rattle.sdd_word_invariant.specs.Epoch.{EpochInvariant}
 use Rattle.sdd_word_invariant.specs.EpochSteps.{knowing}
-use Rattle.sdd_word_invariant.specs.Sums.{total}
 use Rattle.sdd_word_invariant.specs.Codes.{WordReading, IsWordReading}
-use Rattle.sdd_word_invariant.specs.Slots.{slot_at, owners_at, waits_in, items_at, OwnsAlone, Sees, IsTimed, SlotsInvariant}
+use Rattle.sdd_word_invariant.specs.Slots.{slot_at, waits_in, Holds, Sees, IsTimed, SlotsInvariant}
 use Rattle.sdd_word_invariant.specs.SlotSteps.{retired_now}
 use Rattle.sdd_word_invariant.specs.WordInvariant.{epoch_of}
 use Rattle.sdd_word_invariant.proofs.Sums.{total_snoc, is_same, is_other}
-use Rattle.sdd_word_invariant.proofs.SlotWords.{slot_step, not_alone, owner_in}
+use Rattle.sdd_word_invariant.proofs.SlotWords.{slot_step, held_is}
 use Rattle.sdd_word_invariant.proofs.Owning.{fresh}
 
 module _ (z : WordReading) (sound : IsWordReading z) (sizes : Sizes) (ws : List ℕ) (vs : List View) (s : SlotsInvariant z sizes ws vs) (id : ℕ) (v : View)
@@ -36,8 +35,8 @@ module _ (z : WordReading) (sound : IsWordReading z) (sizes : Sizes) (ws : List 
   defers i y known inside dead quiet empty none waits =
       let long = s.long in let w : View = deferring i known in let x : WaitingItem = retired_now i (get_or ws global_word 0) in let f = s.each id v at in
       let unseen = fresh z sound sizes ws vs s id v at i empty in
-      let unowned : (j : ℕ) (u : View) → get_elem? vs j ≡ some u → ¬ (OwnsAlone u i)
-      = λ j u e own. let o = owner_in z sound sizes ws vs s j i u e in omega arith in
+      let unheld : (j : ℕ) (u : View) → get_elem? vs j ≡ some u → ¬ (Holds u i)
+      = λ j u e h. let o = held_is z sound sizes ws vs s j i u e h in omega arith in
       let low = (epochs.each id v.epoch (at_map epoch_of vs id v at)).known in
       let there : (j : ℕ) → j ≢ i → slot_at sizes (set ws (slot_word sizes i) y) j ≡ slot_at sizes ws j
       = λ j ne. get_or-set_other ws (slot_word sizes i) (slot_word sizes j) y 0 (λ e. ne (omega arith)) in
@@ -52,7 +51,7 @@ module _ (z : WordReading) (sound : IsWordReading z) (sizes : Sizes) (ws : List 
       (let t = total_snoc (waits_in i) v.slots.waits x in let q = is_same i i refl in omega arith)
       (λ j ne. let t = total_snoc (waits_in j) v.slots.waits x in let q = is_other j i (λ e. ne (sym e)) in omega arith)
       (λ j u e sees. absurd (unseen j u e sees))
-      (λ j u _ e. unowned j u e)
+      (λ j u _ e. unheld j u e)
       record {
         timed = λ k r e. ⊎_elim
             (λ (t : get_elem? v.slots.waits k ≡ some r). let h = f.timed k r t in record { known = let g = h.known in omega arith; found = h.found })
@@ -60,9 +59,8 @@ module _ (z : WordReading) (sound : IsWordReading z) (sizes : Sizes) (ws : List 
             (old_or_new k r e);
         guarded = f.guarded;
         full = λ k sees. dite (ℕ_discrete k i) (λ e. absurd (unseen id v at (subst (Sees v) e sees))) (λ ne. ap z.full (there k ne) ∙ f.full k sees);
-        alone = λ k own. dite (ℕ_discrete k i) (λ e. absurd (unowned id v at (subst (OwnsAlone v) e own)))
-            (λ ne. let g = f.alone k own in (ap z.alive (there k ne) ∙ g.0, ap z.counted (there k ne) ∙ g.1));
-        held = f.held;
+        held = λ k h. dite (ℕ_discrete k i) (λ e. absurd (unheld id v at (subst (Holds v) e h)))
+            (λ ne. let g = f.held k h in (g.0, ap z.counted (there k ne) ∙ g.1));
       }
       (let q = s.two id id v v at at in record { since = λ b k r sees his same. since id v at b k r sees his same; looked = q.looked })
       (λ j u apart e. let q = s.two id j v u at e in let r = s.two j id u v e at in (

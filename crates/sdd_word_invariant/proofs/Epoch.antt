@@ -65,7 +65,8 @@ module _ (n : ℕ) where
 
   -- a step of the seat id, from v to w, with x in the word i
   moved : (ws : List ℕ) (vs : List EpochView) (id i x : ℕ) (v w : EpochView) → EpochInvariant n ws vs → get_elem? vs id ≡ some v → MatchesWords n (set ws i x) w
-      → ((j : ℕ) (u : EpochView) → j ≢ id → get_elem? vs j ≡ some u → MatchesWords n ws u → Apart v u → Apart u v → MatchesWords n (set ws i x) u × Apart w u × Apart u w)
+      → ((j : ℕ) (u : EpochView) → j ≢ id → get_elem? vs j ≡ some u → MatchesWords n ws u → Apart v u → Apart u v → MatchesWords n (set ws i x) u × Apart w u ×
+      Apart u w)
       → (n ≡ 1 → get_or (set ws i x) (state_word 0) 0 ≡ 0 → (k : ℕ) → get_or (set ws i x) k 0 ≡ 0)
       → (get_or (set ws i x) lock_word 0 ≢ 0 → (j : ℕ) × (u : EpochView) × (get_elem? (set vs id w) j ≡ some u) × Scans u)
       → EpochInvariant n (set ws i x) (set vs id w)
@@ -124,7 +125,8 @@ module _ (n : ℕ) where
       → ((u : EpochView) → MatchesWords n ws u → Apart v u → Apart u v → Apart w u × Apart u w)
       → (Scans v → Scans w) → EpochInvariant n (set ws i x) (set vs id w)
   own ws vs id i x v w t at live which mine others goes =
-      let high : lock_word < i = ⊎_elim (λ (e : (i ≡ state_word v.place) × (0 < x)). let e0 = e.0 in omega arith) (λ (e : i ≡ count_word v.place). omega arith) which in
+      let high : lock_word < i = ⊎_elim (λ (e : (i ≡ state_word v.place) × (0 < x)). let e0 = e.0 in omega arith) (λ (e : i ≡ count_word v.place). omega arith)
+      which in
       let f = t.each id v at in let inside = f.inside live in let wide = t.wide in
       moved ws vs id i x v w t at mine
       (λ j u apart e f a b. let o = others u f a b in (
@@ -363,7 +365,8 @@ module _ (n : ℕ) where
 
   -- a look that passes the place q
   passing : (ws : List ℕ) (vs : List EpochView) (id i : ℕ) (v : EpochView) (q : ℕ) → IsNext v q → EpochInvariant n ws vs → get_elem? vs id ≡ some v
-      → ((u : EpochView) → MatchesWords n ws u → IsOpen u → u.place ≡ q → v.count ≤ u.since) → EpochInvariant n (set ws i (get_or ws i 0)) (set vs id (passed_by v q))
+      → ((u : EpochView) → MatchesWords n ws u → IsOpen u → u.place ≡ q → v.count ≤ u.since) → EpochInvariant n (set ws i (get_or ws i 0))
+      (set vs id (passed_by v q))
   passing ws vs id i v q next t at here = let f = t.each id v at in
       still ws vs id i v (passed_by v q) t at
       record {
@@ -505,7 +508,8 @@ module _ (n : ℕ) where
       (λ miss. (v, unmoved ws vs id i v t at, level v, λ p' is. ((λ e. absurd (miss e)), (λ _. refl))))
 
   -- a word behind the places' changes, by a step of a participant
-  pub behind : (ws : List ℕ) (vs : List EpochView) (id i x : ℕ) (v : EpochView) → EpochInvariant n ws vs → get_elem? vs id ≡ some v → HasPlace v → after_places n ≤ i
+  pub behind : (ws : List ℕ) (vs : List EpochView) (id i x : ℕ) (v : EpochView) → EpochInvariant n ws vs → get_elem? vs id ≡ some v → HasPlace v → after_places
+      n ≤ i
       → EpochInvariant n (set ws i x) vs
   behind ws vs id i x v t at live high = record {
     wide = let w = t.wide in omega (arith, length-set ws i x);

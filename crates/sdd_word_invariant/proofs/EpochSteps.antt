@@ -69,7 +69,8 @@ module _ (sizes : Sizes) where
       let t = k.3 in let g : ℕ = t.0 in let w : View = with_both v (published v.epoch g) (changed v) in (
         w,
         record {
-          epoch = seen_after (set ws i 2) vs id w (subst (λ (e : EpochView). EpochInvariant sizes.participants (set ws i 2) (set (map epoch_of vs) id e)) t.1 k.1);
+          epoch = seen_after (set ws i 2) vs id w (subst (λ (e : EpochView). EpochInvariant sizes.participants (set ws i 2) (set (map epoch_of vs) id e)) t.1
+              k.1);
           slots = slots.publishes codes sound sizes ws vs p.slots id v at i 2 (omega arith) g shut now t.2 found;
           lone = lone_spared sizes ws vs p.lone id v at i 2 w (omega arith) refl (λ one z. p.lone.knows one id v at (omega arith));
         },
@@ -83,7 +84,8 @@ module _ (sizes : Sizes) where
       let w : View = with_both v (closed v.epoch) (unseeing v) in (
         w,
         record {
-          epoch = seen_after (set ws i 1) vs id w (subst (λ (e : EpochView). EpochInvariant sizes.participants (set ws i 1) (set (map epoch_of vs) id e)) k.2 k.1);
+          epoch = seen_after (set ws i 1) vs id w (subst (λ (e : EpochView). EpochInvariant sizes.participants (set ws i 1) (set (map epoch_of vs) id e)) k.2
+              k.1);
           slots = slots.closes codes sound sizes ws vs p.slots id v at i 1 (omega arith);
           lone = lone_spared sizes ws vs p.lone id v at i 1 w (omega arith) refl (λ one z. p.lone.knows one id v at (omega arith));
         },

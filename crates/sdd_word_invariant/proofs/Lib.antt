@@ -11,6 +11,7 @@ pub mod Holding
 pub mod Tokens
 pub mod Waits
 pub mod Deferring
+pub mod Pigeons
 pub mod EpochSteps
 pub mod SlotSteps
 pub mod RawSteps

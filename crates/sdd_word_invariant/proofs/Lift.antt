@@ -9,6 +9,7 @@ use Rattle.atomic_table.proofs.Lists.{at_map, at_snoc, set_again, set_else, set_
 use Rattle.sdd_views.specs.declared.EpochView.{EpochView}
 use Rattle.sdd_views.specs.declared.EndedView.{EndedView}
 use Rattle.sdd_views.specs.declared.FractionsView.{FractionsView}
+use Rattle.sdd_views.specs.declared.PledgesView.{PledgesView}
 use Rattle.sdd_views.specs.declared.View.{View}
 use Rattle.sdd_views.specs.declared.Sizes.{Sizes}
 use Rattle.sdd_word_invariant.specs.Codes.{codes}
@@ -50,7 +51,7 @@ blind_units sizes ws vs id u v was p t units = let us : List View = set vs id v 
     subst (Parts sizes ws) (set_twice vs id v w) record {
       epoch = subst (λ (l : List EpochView). EpochInvariant sizes.participants ws l) (sym (same_epochs us id v w at refl)) p.epoch;
       slots = view_step codes sound sizes ws us p.slots id v at w (λ _. refl) (λ _. refl)
-          record { timed = f.timed; guarded = f.guarded; full = f.full; alone = f.alone; held = f.held }
+          record { timed = f.timed; guarded = f.guarded; full = f.full; held = f.held }
           (let x = p.slots.two id id v v at at in record { since = x.since; looked = x.looked })
           (λ j x apart e. let a = p.slots.two id j v x at e in let b = p.slots.two j id x v e at in
           (record { since = a.since; looked = a.looked }, record { since = b.since; looked = b.looked }));
@@ -67,7 +68,20 @@ pub blind_places : (sizes : Sizes) (ws : List ℕ) (vs : List View) (id : ℕ) (
 blind_places sizes ws vs id v at p t = let w : View = record v { places = t } in let f = p.slots.each id v at in record {
   epoch = subst (λ (l : List EpochView). EpochInvariant sizes.participants ws l) (sym (same_epochs vs id v w at refl)) p.epoch;
   slots = view_step codes sound sizes ws vs p.slots id v at w (λ _. refl) (λ _. refl)
-      record { timed = f.timed; guarded = f.guarded; full = f.full; alone = f.alone; held = f.held }
+      record { timed = f.timed; guarded = f.guarded; full = f.full; held = f.held }
+      (let x = p.slots.two id id v v at at in record { since = x.since; looked = x.looked })
+      (λ j x apart e. let a = p.slots.two id j v x at e in let b = p.slots.two j id x v e at in
+      (record { since = a.since; looked = a.looked }, record { since = b.since; looked = b.looked }));
+  lone = lone_same sizes ws vs p.lone id v at w refl (λ z. z);
+}
+
+-- nor of what is pledged
+pub blind_pledges : (sizes : Sizes) (ws : List ℕ) (vs : List View) (id : ℕ) (v : View) → get_elem? vs id ≡ some v → Parts sizes ws vs
+    → (t : PledgesView) → Parts sizes ws (set vs id (record v { pledges = t }))
+blind_pledges sizes ws vs id v at p t = let w : View = record v { pledges = t } in let f = p.slots.each id v at in record {
+  epoch = subst (λ (l : List EpochView). EpochInvariant sizes.participants ws l) (sym (same_epochs vs id v w at refl)) p.epoch;
+  slots = view_step codes sound sizes ws vs p.slots id v at w (λ _. refl) (λ _. refl)
+      record { timed = f.timed; guarded = f.guarded; full = f.full; held = f.held }
       (let x = p.slots.two id id v v at at in record { since = x.since; looked = x.looked })
       (λ j x apart e. let a = p.slots.two id j v x at e in let b = p.slots.two j id x v e at in
       (record { since = a.since; looked = a.looked }, record { since = b.since; looked = b.looked }));
@@ -107,9 +121,9 @@ module _ {S : Type 0} (sizes : Sizes) where
   )
 
   -- the table at the start
-  pub begins : (book : ℕ) (t : FractionsView) (ws : List ℕ) (xs : List S) → length ws ≡ all_words sizes → ((i : ℕ) → get_or ws i 0 ≡ 0)
-      → WordInvariant sizes (opening ws xs (record (idle sizes book) { stakes = t }))
-  begins book t ws xs long none = let w : View = record (idle sizes book) { stakes = t } in record {
+  pub begins : (book : ℕ) (t : FractionsView) (q : PledgesView) (ws : List ℕ) (xs : List S) → length ws ≡ all_words sizes → ((i : ℕ) → get_or ws i 0 ≡ 0)
+      → WordInvariant sizes (opening ws xs (record (idle sizes book) { stakes = t; pledges = q }))
+  begins book t q ws xs long none = let w : View = record (idle sizes book) { stakes = t; pledges = q } in record {
     parts = record {
       epoch = epochs.begins sizes.participants ws (omega arith) none;
       slots = starts codes sound sizes ws w long none refl;

@@ -1,14 +1,16 @@
 -- An item is put out as raw, taken back, and seen under a guard meanwhile: these steps keep all parts.
-use Rattle.std.proofs.Common.{◌≢◌, ◌⊎◌, inl, inr, ℕ, ◌<◌, eqb, get_or, set, sym, refl, ap, ◌∙◌, subst, ⊎_elim}
+use Rattle.std.proofs.Common.{List, ◌≡◌, ◌≢◌, ◌⊎◌, inl, inr, ℕ, ◌<◌, eqb, get_or, set, sym, refl, ap, ◌∙◌, subst, ⊎_elim}
 use mathlib.Core.Logic.{dite}
+use lib.ListN.{get_elem?}
+use mathlib.Core.Option.{some}
 use native.Mathlib.Decide.{ℕ_discrete, dec_lt}
 use prog.Atomic.{either}
 use Rattle.atomic_table.proofs.Lists.{exchanged}
 use Rattle.sdd_views.specs.declared.View.{View}
 use Rattle.sdd_word_invariant.specs.Words.{slot_word}
-use Rattle.sdd_word_invariant.specs.Codes.{codes, shared_base, owned_word, raw_word}
+use Rattle.sdd_word_invariant.specs.Codes.{codes, counted, shared_base, owned_word, raw_word}
 use Rattle.sdd_word_invariant.specs.Epoch.{HasPlace, IsOpen}
-use Rattle.sdd_word_invariant.specs.Slots.{OwnsAlone, Holds, Sees}
+use Rattle.sdd_word_invariant.specs.Slots.{slot_at, Owns, Holds, Sees}
 use Rattle.sdd_word_invariant.specs.Sums.{times}
 use Rattle.sdd_word_invariant.specs.EpochSteps.{Steps}
 use Rattle.sdd_word_invariant.specs.SlotSteps.{noted, claimed, turned_raw, seeing, TurnsRaw, Regains, SeesRaw, AtSlot}
@@ -19,14 +21,15 @@ use Rattle.sdd_word_invariant.proofs.Seeing as seen
 use Rattle.sdd_word_invariant.proofs.SlotSteps as steps
 
 module _ (id : ℕ) (v : View) (live : HasPlace v.epoch) where
-  -- the only owner goes, and the item is out as raw
-  pub turns_raw : (slot generation : ℕ) → slot < v.sizes.slots → OwnsAlone v slot → ¬ (Holds v slot) → raw_word generation < shared_base
-      → Steps (Parts v.sizes) id v (slot_word v.sizes slot) (λ _. raw_word generation)
-      (λ _. AtSlot TurnsRaw (slot_word v.sizes slot) v (raw_word generation))
-  turns_raw slot g inside mine free low ws vs p at small = let y : ℕ = raw_word g in let w : View = turned_raw slot y v in let word = raw_is g low in (
+  -- the owner goes that isn't counted, and the item is out as raw
+  pub turns_raw : (slot generation : ℕ) → slot < v.sizes.slots → Owns v slot → ¬ (Holds v slot) → raw_word generation < shared_base
+      → (ws : List ℕ) (vs : List View) → Parts v.sizes ws vs → get_elem? vs id ≡ some v → counted (slot_at v.sizes ws slot) ≡ 0
+      → (w : View) × Parts v.sizes (set ws (slot_word v.sizes slot) (raw_word generation)) (set vs id w)
+      × AtSlot TurnsRaw (slot_word v.sizes slot) v (raw_word generation) w
+  turns_raw slot g inside mine free low ws vs p at firm = let y : ℕ = raw_word g in let w : View = turned_raw slot y v in let word = raw_is g low in (
     w,
     steps.around id v live ws vs p at slot y w live refl (steps.same_epochs id v live ws vs p at)
-        (owning.turns_raw codes sound v.sizes ws vs p.slots id v at slot y (noted slot y v) inside mine free word.0 word.1 word.2),
+        (owning.turns_raw codes sound v.sizes ws vs p.slots id v at slot y (noted slot y v) inside mine firm free word.0 word.1 word.2),
     λ other is. ap (λ (k : ℕ). turned_raw k y v) (steps.same_slot id v live slot other is),
   )
 
@@ -41,7 +44,7 @@ module _ (id : ℕ) (v : View) (live : HasPlace v.epoch) where
         w,
         steps.around id v live ws vs p at slot new w live refl (steps.same_epochs id v live ws vs p at)
             (owning.claims codes sound v.sizes ws vs p.slots id v at slot new (noted slot new v) inside
-            (ap codes.alive hit ∙ raw.0) (ap codes.waiting hit ∙ raw.1) own.0 own.2),
+            (ap codes.alive hit ∙ raw.0) (ap codes.waiting hit ∙ raw.1) own.0),
         λ other is. (
           (λ _. ap (λ (k : ℕ). claimed k new v) (steps.same_slot id v live slot other is)),
           (λ no. absurd (no hit)),

@@ -13,7 +13,7 @@ use Rattle.sdd_word_invariant.specs.Codes.{WordReading, IsWordReading}
 use Rattle.sdd_word_invariant.specs.Slots.{slot_at, owners_at, Sees, Holds, SeenBeforeRetired, SlotsInvariant}
 use Rattle.sdd_word_invariant.specs.SlotSteps.{seeing}
 use Rattle.sdd_word_invariant.proofs.Sums.{is_other}
-use Rattle.sdd_word_invariant.proofs.SlotWords.{view_step, none_waits, owners_in, owner_in, named_in, waiter_in}
+use Rattle.sdd_word_invariant.proofs.SlotWords.{view_step, none_waits, owner_in, named_in, waiter_in, none_holds, held_is}
 
 -- what is seen now was seen before, or is the new slot
 sees_more : (v : View) (i a : ℕ) → Sees (seeing i v) a → (a ≡ i) ⊎ Sees v a
@@ -41,7 +41,6 @@ module _ (z : WordReading) (sound : IsWordReading z) (sizes : Sizes) (ws : List 
         timed = f.timed;
         guarded = λ a h. is_open;
         full = λ a h. ⊎_elim (λ (t : a ≡ i). ap (λ (d : ℕ). z.full (slot_at sizes ws d)) t ∙ full) (λ (t : Sees v a). f.full a t) (sees_more v i a h);
-        alone = f.alone;
         held = f.held;
       }
       (safe id v w at refl refl refl (s.two id id v v at at))
@@ -54,16 +53,17 @@ module _ (z : WordReading) (sound : IsWordReading z) (sizes : Sizes) (ws : List 
   watches_beside k u there i is_open mine free = let o = owner_in z sound sizes ws vs s k i u there in
       let live : 0 < z.alive (slot_at sizes ws i) = omega arith in
       sees_step i is_open (sound.lives (slot_at sizes ws i) live).1 (none_waits z sound sizes ws vs s i live)
-      (λ j x e h. let f = s.each j x e in let own = f.held i h in let g = (f.alone i own).0 in dite (ℕ_discrete j k)
+      (λ j x e h. dite (ℕ_discrete j k)
       (λ same. free (subst (λ (t : View). Holds t i) (some-injective _ _ (sym e ∙ (ap (get_elem? vs) same ∙ there))) h))
-      (λ ne. let t = owners_in z sound sizes ws vs s j k i x u ne e there in omega arith))
+      (λ ne. none_holds z sound sizes ws vs s j k i x u ne e there mine h))
 
   -- that which a cell owns
-  pub loads : (d i : ℕ) → d < sizes.cells → IsOpen v.epoch → 0 < z.names i (get_or ws (cell_word sizes d) 0) → SlotsInvariant z sizes ws (set vs id (seeing i v))
+  pub loads : (d i : ℕ) → d < sizes.cells → IsOpen v.epoch → 0 < z.names i (get_or ws (cell_word sizes d) 0) → SlotsInvariant z sizes ws
+      (set vs id (seeing i v))
   loads d i inside is_open names = let n = named_in z sound sizes ws vs s id d i v at inside in
       let live : 0 < z.alive (slot_at sizes ws i) = omega arith in
       sees_step i is_open (sound.lives (slot_at sizes ws i) live).1 (none_waits z sound sizes ws vs s i live)
-      (λ j u e h. let f = s.each j u e in let own = f.held i h in let g = (f.alone i own).0 in
+      (λ j u e h. let own = ((s.each j u e).held i h).0 in let g = held_is z sound sizes ws vs s j i u e h in
       let t = named_in z sound sizes ws vs s j d i u e inside in omega arith)
 
   -- that of a raw item, of which its word tells
@@ -72,4 +72,4 @@ module _ (z : WordReading) (sound : IsWordReading z) (sizes : Sizes) (ws : List 
   sees_raw i is_open full none quiet = sees_step i is_open full
       (λ j k u x e his same. let w = waiter_in z sound sizes ws vs s j k u x e his in
       let h = ap (λ (a : ℕ). z.waiting (slot_at sizes ws a)) same in omega arith)
-      (λ j u e h. let f = s.each j u e in let g = (f.alone i (f.held i h)).0 in omega arith)
+      (λ j u e h. let g = held_is z sound sizes ws vs s j i u e h in omega arith)

@@ -37,7 +37,6 @@ module _ (z : WordReading) (sound : IsWordReading z) (sizes : Sizes) (ws : List 
         timed = λ q x e. let g = f.timed q x e in record { known = let h = g.known in omega arith; found = λ pos. let h = g.found pos in omega arith };
         guarded = λ i h. (stays i h).0;
         full = f.full;
-        alone = f.alone;
         held = f.held;
       }
       (let x = s.two id id v v at at in record {
@@ -70,7 +69,6 @@ module _ (z : WordReading) (sound : IsWordReading z) (sizes : Sizes) (ws : List 
               };
           guarded = λ i h. absurd (blind i h);
           full = λ i h. absurd (blind i h);
-          alone = f.alone;
           held = f.held;
         }
         record { since = λ i l r h. absurd (blind i h); looked = λ i h. absurd (blind i h) }
@@ -101,7 +99,6 @@ module _ (z : WordReading) (sound : IsWordReading z) (sizes : Sizes) (ws : List 
         timed = λ q x e. let g = f.timed q x e in record { known = g.known; found = g.found };
         guarded = λ i h. absurd (omega arith);
         full = λ i h. absurd (omega arith);
-        alone = f.alone;
         held = f.held;
       }
       record { since = λ i l r h. absurd (omega arith); looked = λ i h. absurd (omega arith) }

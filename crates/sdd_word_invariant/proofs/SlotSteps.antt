@@ -1,8 +1,10 @@
 -- The steps on slots keep all parts.
-use Rattle.std.proofs.Common.{None, ◌≡◌, ℕ, suc, ◌+◌, ◌<◌, ◌≤◌, eqb, List, map, get_or, set, sym, refl, ap, ◌∙◌, subst, arith}
+use Rattle.std.specs.Prelude.{Option, Some}
+use Rattle.std.proofs.lemmas.List.{set-set}
+use Rattle.std.proofs.Common.{None, ◌≡◌, ◌≢◌, ℕ, suc, ◌+◌, ◌-◌, ◌%◌, ◌^◌, ◌<◌, ◌≤◌, eqb, List, ◌∷◌, map, get_or, set, sym, refl, ap, ◌∙◌, subst, arith}
 use mathlib.Core.Option.{some}
 use mathlib.Core.Logic.{dite}
-use native.Mathlib.Decide.{ℕ_discrete}
+use native.Mathlib.Decide.{ℕ_discrete, dec_lt}
 use lib.ListN.{get_elem?}
 use lib.Seq.{set-get_or}
 use prog.Atomic.{either}
@@ -12,21 +14,32 @@ use Rattle.sdd_views.specs.declared.WaitingItem.{WaitingItem}
 use Rattle.sdd_views.specs.declared.View.{View}
 use Rattle.sdd_views.specs.declared.Sizes.{Sizes}
 use Rattle.sdd_word_invariant.specs.Words.{global_word, state_word, slot_word, most_waiting}
-use Rattle.sdd_word_invariant.specs.Codes.{codes, shared_base, free_word, owned_word, waiting_word}
+use Rattle.sdd_word_invariant.specs.Codes.{codes, shared_base, free_word, waiting_word, alive, waiting, counted, most_owners, shared_word, held_word}
+use Rattle.sdd_word_invariant.specs.Sums.{times}
 use Rattle.sdd_word_invariant.specs.Epoch.{HasPlace, IsOpen, EpochInvariant}
-use Rattle.sdd_word_invariant.specs.Slots.{slot_at, owners_at, items_at, OwnsAlone, Holds, SlotsInvariant}
+use Rattle.sdd_word_invariant.specs.Slots.{slot_at, owners_at, items_at, Owns, Holds, SlotsInvariant}
 use Rattle.sdd_word_invariant.specs.EpochSteps.{Steps}
-use Rattle.sdd_word_invariant.specs.SlotSteps.{noted, Knew, claimed, retired, deferred, given_back, seeing, Claims, Retires, Defers, GivesBack, AtSlot, held, release_hold, looked_past, discarded, TakesHold, LetsGo, Discards, LooksForGuard, LooksAtSlot}
+use Rattle.sdd_word_invariant.specs.SlotSteps.{noted, Knew, claimed, retired, deferred, given_back, seeing, Claims, Retires, Defers, GivesBack, AtSlot, held, release_hold, looked_past, discarded, TakesHold, LetsGo, Discards, LooksForGuard, LooksAtSlot, others, one_less, Releases, one_more, taken_back, Adds, TakesBack, held_by, shared_again, TriesHold, SharesAgain, LeavesBeside}
 use Rattle.sdd_word_invariant.specs.WordInvariant.{epoch_of, Parts}
-use Rattle.sdd_word_invariant.proofs.Codes.{sound, free_is, owned_is, waiting_is}
+use Rattle.sdd_word_invariant.proofs.Codes.{sound, shared, counted_is, none_left, some_left, free_is, waiting_is, one_left, only_held}
 use Rattle.sdd_word_invariant.proofs.Epoch as epochs
 use Rattle.sdd_word_invariant.proofs.EpochSteps.{seen_after}
 use Rattle.sdd_word_invariant.proofs.Owning as owning
 use Rattle.sdd_word_invariant.proofs.Seeing as seen
 use Rattle.sdd_word_invariant.proofs.Holding as holding
+use Rattle.sdd_word_invariant.proofs.SlotWords.{view_step, owner_in, alone_is, held_is}
+use Rattle.sdd_word_invariant.proofs.Sums.{is_same, is_other}
 use Rattle.sdd_word_invariant.proofs.Lone.{finds, lone_same, lone_noted}
 use Rattle.sdd_word_invariant.proofs.Waits as waits
 use Rattle.sdd_word_invariant.proofs.Deferring as deferring
+
+-- an addition of one, as the machine does it
+abbrev pub more_one : ℕ → ℕ
+more_one x = (x + 1) % 2 ^ 64
+
+-- a subtraction of one, as the machine does it
+abbrev pub less_one : ℕ → ℕ
+less_one x = (x + (2 ^ 64 - 1)) % 2 ^ 64
 
 module _ (id : ℕ) (v : View) (live : HasPlace v.epoch) where
   abbrev sizes : Sizes
@@ -56,6 +69,11 @@ module _ (id : ℕ) (v : View) (live : HasPlace v.epoch) where
     unmoved i = subst (λ (l : List ℕ). Parts sizes l (set vs id v)) (sym (set-get_or ws i 0))
         (subst (λ (l : List View). Parts sizes ws l) (sym (set_again vs id v at)) p)
 
+    -- a word that counts an owner's slot counts one at least
+    left_of : (slot : ℕ) → Owns v slot → counted (slot_at sizes ws slot) ≡ 1 → shared_base < slot_at sizes ws slot
+    left_of slot mine several = let x : ℕ = slot_at sizes ws slot in let o = owner_in codes sound sizes ws vs p.slots id slot v at in
+        let above = counted_is x several in let s = (shared x above).0 in omega arith
+
     -- a lone participant finds what it knew
     pub knew : (slot : ℕ) → Knew slot v (slot_at sizes ws slot)
     knew slot one = let f = p.epoch.each id v.epoch at_epoch in finds sizes ws vs p.lone id v at (sym (f.all (λ z. omega arith)) ∙ one) live slot
@@ -68,18 +86,17 @@ module _ (id : ℕ) (v : View) (live : HasPlace v.epoch) where
     pub knew_too : (x : ℕ) → Knew slot v x → Knew other v x
     knew_too x = subst (λ (k : ℕ). Knew k v x) same_slot
 
-  -- claim a free slot
-  pub claims : (slot generation : ℕ) → slot < sizes.slots → owned_word generation < shared_base
-      → Steps (Parts sizes) id v (slot_word sizes slot) (λ x. either (eqb x (free_word generation)) (owned_word generation) x)
-      (AtSlot (λ slot. Claims slot (free_word generation) (owned_word generation)) (slot_word sizes slot) v)
-  claims slot g inside low ws vs p at small = let i : ℕ = slot_word sizes slot in let x : ℕ = get_or ws i 0 in let old : ℕ = free_word g in
-      let new : ℕ = owned_word g in let w : View = claimed slot new v in let told = knew ws vs p at slot in
+  -- claim a free slot, by a word with one owner
+  pub claims : (slot old new : ℕ) → slot < sizes.slots → alive old ≡ 0 → waiting old ≡ 0 → alive new ≡ 1
+      → Steps (Parts sizes) id v (slot_word sizes slot) (λ x. either (eqb x old) new x) (AtSlot (λ slot. Claims slot old new) (slot_word sizes slot) v)
+  claims slot old new inside none quiet one ws vs p at small = let i : ℕ = slot_word sizes slot in let x : ℕ = get_or ws i 0 in
+      let w : View = claimed slot new v in let told = knew ws vs p at slot in
       exchanged x old new (λ y. (u : View) × Parts sizes (set ws i y) (set vs id u) × AtSlot (λ slot. Claims slot old new) i v x u)
-      (λ hit. let free = free_is g (omega arith) in let own = owned_is g low in (
+      (λ hit. (
         w,
         around ws vs p at slot new w live refl (same_epochs ws vs p at)
             (owning.claims codes sound sizes ws vs p.slots id v at slot new (noted slot new v) inside
-            (ap codes.alive hit ∙ free.0) (ap codes.waiting hit ∙ free.1) own.0 own.2),
+            (ap codes.alive hit ∙ none) (ap codes.waiting hit ∙ quiet) one),
         λ other is. ((λ _. ap (λ (k : ℕ). claimed k new v) (same_slot slot other is)), (λ no. absurd (no hit)), knew_too slot other is x told),
       ))
       (λ miss. (v, unmoved ws vs p at i, λ other is. ((λ e. absurd (miss e)), (λ _. refl), knew_too slot other is x told)))
@@ -89,16 +106,16 @@ module _ (id : ℕ) (v : View) (live : HasPlace v.epoch) where
   looks_at slot ws vs p at small = let i : ℕ = slot_word sizes slot in
       (v, unmoved ws vs p at i, λ other is. (refl, knew_too slot other is (get_or ws i 0) (knew ws vs p at slot)))
 
-  -- retire an item of which it has the only owner
-  pub retires : (slot generation : ℕ) → slot < sizes.slots → OwnsAlone v slot → ¬ (Holds v slot) → waiting_word generation < shared_base
-      → Steps (Parts sizes) id v (slot_word sizes slot) (λ _. waiting_word generation)
-      (λ _. AtSlot Retires (slot_word sizes slot) v (waiting_word generation))
-  retires slot g inside mine free low ws vs p at small =
-      let count : ℕ = get_or ws global_word 0 in let y : ℕ = waiting_word g in let w : View = retired slot y count v in
-      let f = p.epoch.each id v.epoch (at_epoch ws vs p at) in let word = waiting_is g low in (
+  -- retire an item whose last owner it has, by a word that waits
+  pub retires : (slot y : ℕ) → slot < sizes.slots → Owns v slot → ¬ (Holds v slot) → alive y ≡ 0 → waiting y ≡ 1 → (ws : List ℕ) (vs : List View)
+      → Parts sizes ws vs → get_elem? vs id ≡ some v → alive (slot_at sizes ws slot) ≡ 1
+      → (w : View) × Parts sizes (set ws (slot_word sizes slot) y) (set vs id w) × AtSlot Retires (slot_word sizes slot) v y w
+  retires slot y inside mine free none waits_now ws vs p at last =
+      let count : ℕ = get_or ws global_word 0 in let w : View = retired slot y count v in
+      let f = p.epoch.each id v.epoch (at_epoch ws vs p at) in (
         w,
         around ws vs p at slot y w live refl (epochs.knows sizes.participants ws (map epoch_of vs) id v.epoch p.epoch (at_epoch ws vs p at))
-            (owning.retires codes sound sizes ws vs p.slots id v at p.epoch slot y (noted slot y v) inside mine free word.0 word.1),
+            (owning.retires codes sound sizes ws vs p.slots id v at p.epoch slot y (noted slot y v) inside mine last free none waits_now),
         λ other is. (
           count,
           f.known,
@@ -139,6 +156,135 @@ module _ (id : ℕ) (v : View) (live : HasPlace v.epoch) where
       ))
       (λ miss. (v, unmoved ws vs p at i, λ other is. ((λ e. absurd (miss e)), (λ _. refl), knew_too slot other is x told)))
 
+  -- a counted owner goes, where others stay
+  one_goes : (slot : ℕ) (rest : List ℕ) → slot < sizes.slots → v.slots.owns ≡ slot ∷ rest → (ws : List ℕ) (vs : List View) (p : Parts sizes ws vs)
+      → get_elem? vs id ≡ some v → counted (slot_at sizes ws slot) ≡ 1 → 1 < alive (slot_at sizes ws slot)
+      → Parts sizes (set ws (slot_word sizes slot) (slot_at sizes ws slot - 1)) (set vs id (one_less slot (slot_at sizes ws slot - 1) v))
+  one_goes slot rest inside has ws vs p at several more = let x : ℕ = slot_at sizes ws slot in let y : ℕ = x - 1 in
+      let so_many = (shared x (counted_is x several)).0 in let l = some_left y (omega arith) in let l0 = l.0 in let rest_is = ap others has in
+      around ws vs p at slot y (one_less slot y v) live refl (same_epochs ws vs p at)
+      (owning.counts codes sound sizes ws vs p.slots id v at slot y (others v.slots.owns) (noted slot y v) inside several (omega arith) (omega arith)
+      (let a = ap (times slot) has in let b = ap (times slot) rest_is in let one = is_same slot slot refl in omega arith)
+      (λ j ne. let a = ap (times j) has in let b = ap (times j) rest_is in let z = is_other j slot (λ e. ne (sym e)) in omega arith))
+
+  -- let an owner go beside others, by one exchange of the word that was found
+  pub leaves : (slot word : ℕ) (rest : List ℕ) → slot < sizes.slots → v.slots.owns ≡ slot ∷ rest → 1 < alive word → (ws : List ℕ) (vs : List View)
+      → Parts sizes ws vs → get_elem? vs id ≡ some v → counted (slot_at sizes ws slot) ≡ 1
+      → (w : View) × Parts sizes (set ws (slot_word sizes slot) (either (eqb (slot_at sizes ws slot) word) (word - 1) (slot_at sizes ws slot))) (set vs id w)
+      × AtSlot (LeavesBeside word) (slot_word sizes slot) v (slot_at sizes ws slot) w
+  leaves slot word rest inside has more ws vs p at several = let i : ℕ = slot_word sizes slot in let x : ℕ = slot_at sizes ws slot in
+      let mine : Owns v slot = (let e = ap (times slot) has in let one = is_same slot slot refl in omega arith) in
+      let above = left_of ws vs p at slot mine several in let so_many = (some_left x above).0 in let left : 0 < alive x = omega arith in
+      let told = knew ws vs p at slot in
+      exchanged x word (word - 1) (λ y. (u : View) × Parts sizes (set ws i y) (set vs id u) × AtSlot (LeavesBeside word) i v x u)
+      (λ hit. let fewer = one_goes slot rest inside has ws vs p at several (let e = ap alive hit in omega arith) in (
+        one_less slot (word - 1) v,
+        subst (λ (k : ℕ). Parts sizes (set ws i (k - 1)) (set vs id (one_less slot (k - 1) v))) hit fewer,
+        λ other is. (
+          several,
+          left,
+          (λ _. ap (λ (k : ℕ). one_less k (word - 1) v) (same_slot slot other is)),
+          (λ miss. absurd (miss hit)),
+          knew_too slot other
+              is x told,
+        ),
+      ))
+      (λ miss. (v, unmoved ws vs p at i, λ other is. (several, left, (λ hit. absurd (miss hit)), (λ _. refl), knew_too slot other is x told)))
+
+  -- let an owner go that is counted, by one subtraction
+  pub releases : (slot : ℕ) (rest : List ℕ) → slot < sizes.slots → v.slots.owns ≡ slot ∷ rest → ¬ (Holds v slot) → (ws : List ℕ) (vs : List View)
+      → Parts sizes ws vs → get_elem? vs id ≡ some v → counted (slot_at sizes ws slot) ≡ 1 → slot_at sizes ws slot < 2 ^ 64
+      → (w : View) × Parts sizes (set ws (slot_word sizes slot) (less_one (slot_at sizes ws slot))) (set vs id w)
+      × AtSlot Releases (slot_word sizes slot) v (slot_at sizes ws slot) w
+  releases slot rest inside has free ws vs p at several small = let i : ℕ = slot_word sizes slot in let x : ℕ = slot_at sizes ws slot in let y : ℕ = x - 1 in
+      let mine : Owns v slot = (let e = ap (times slot) has in let one = is_same slot slot refl in omega arith) in
+      let above = left_of ws vs p at slot mine several in let less : less_one x ≡ y = omega arith in let told = knew ws vs p at slot in
+      let so_many = (some_left x above).0 in let left : 0 < alive x = omega arith in
+      subst (λ (m : ℕ). (u : View) × Parts sizes (set ws i m) (set vs id u) × AtSlot Releases i v x u) (sym less)
+      (dite (ℕ_discrete (alive x) 1)
+      (λ last. let e : y ≡ shared_base = omega arith in
+      let r = retires slot y inside mine free (ap alive e ∙ none_left.0) (ap waiting e ∙ none_left.1) ws vs p at last in
+      (r.0, r.1, λ other is. (several, left, (λ _. r.2 other is), (λ more. absurd (more last)), knew_too slot other is x told)))
+      (λ more. let w : View = one_less slot y v in (
+        w,
+        one_goes slot rest inside has ws vs p at several (omega arith),
+        λ other is. (
+          several,
+          left,
+          (λ last. absurd (more last)),
+          (λ _. ap (λ (k : ℕ). one_less k y v) (same_slot slot other is)),
+          knew_too slot other is x told,
+        ),
+      )))
+
+  -- a slot's word counts more owners or fewer, of which the participant has more or fewer
+  module _ (slot : ℕ) (inside : slot < sizes.slots) (ws : List ℕ) (vs : List View) (p : Parts sizes ws vs) (at : get_elem? vs id ≡ some v)
+      (several : counted (slot_at sizes ws slot) ≡ 1) where
+    recounts : (y : ℕ) (os : List ℕ) (over : Option ℕ) → 0 < alive (slot_at sizes ws slot) → 0 < alive y
+        → alive y + owners_at slot v ≡ alive (slot_at sizes ws slot) + times slot os → ((j : ℕ) → j ≢ slot → times j v.slots.owns ≡ times j os)
+        → Parts sizes (set ws (slot_word sizes slot) y) (set vs id (record v { slots = record v.slots { owns = os; over = over }; words = noted slot y v }))
+    recounts y os over was now here else = let v' : View = record v { slots = record v.slots { over = over } } in let vs' : List View = set vs id v' in
+        let w : View = record v { slots = record v.slots { owns = os; over = over }; words = noted slot y v } in let f = p.slots.each id v at in
+        let with_over = view_step codes sound sizes ws vs p.slots id v at v' (λ _. refl) (λ _. refl)
+        record { timed = f.timed; guarded = f.guarded; full = f.full; held = f.held }
+        (let x = p.slots.two id id v v at at in record { since = x.since; looked = x.looked })
+        (λ j x apart e. let a = p.slots.two id j v x at e in let b = p.slots.two j id x v e at in
+        (record { since = a.since; looked = a.looked }, record { since = b.since; looked = b.looked })) in
+        around ws vs p at slot y w live refl (same_epochs ws vs p at)
+        (subst (λ (l : List View). SlotsInvariant codes sizes (set ws (slot_word sizes slot) y) l) (set-set vs id v' w)
+        (owning.counts codes sound sizes ws vs' with_over id v' (set_here vs id v' (epochs.at_length vs id v at)) slot y os (noted slot y v) inside several was
+        now
+        here else))
+
+    -- one more, beside an owner
+    pub adds_owner : 0 < alive (slot_at sizes ws slot) → slot_at sizes ws slot + 1 < 2 ^ 64
+        → (w : View) × Parts sizes (set ws (slot_word sizes slot) (more_one (slot_at sizes ws slot))) (set vs id w)
+        × AtSlot Adds (slot_word sizes slot) v (slot_at sizes ws slot) w
+    adds_owner left small = let x : ℕ = slot_at sizes ws slot in let y : ℕ = x + 1 in let low = counted_is x several in let n = (shared x low).0 in
+        let more = some_left y (omega arith) in let m = more.0 in let sum : more_one x ≡ y = omega arith in let one = is_same slot slot refl in
+        let told = knew ws vs p at slot in
+        let parts = λ (over : Option ℕ). recounts y (slot ∷ v.slots.owns) over left (omega arith) (omega arith)
+        (λ j ne. let o = is_other j slot (λ e. ne (sym e)) in omega arith) in
+        subst (λ (z : ℕ). (u : View) × Parts sizes (set ws (slot_word sizes slot) z) (set vs id u) × AtSlot Adds (slot_word sizes slot) v x u) (sym sum)
+        (dite (dec_lt (alive x) most_owners)
+        (λ few. (
+          one_more slot y None v,
+          parts None,
+          λ other is. (
+            several,
+            left,
+            (λ _. ap (λ (k : ℕ). one_more k y None v) (same_slot slot other is)),
+            (λ many. absurd (omega arith)),
+            knew_too slot other
+                is x told,
+          ),
+        ))
+        (λ many. (
+          one_more slot y (Some slot) v,
+          parts (Some slot),
+          λ other is. (
+            several,
+            left,
+            (λ few. absurd (many few)),
+            (λ _. ap (λ (k : ℕ). one_more k y (Some k) v) (same_slot slot other is)),
+            knew_too slot other is x told,
+          ),
+        )))
+
+    -- it is taken back, beside an owner
+    pub takes_back : (rest : List ℕ) → v.slots.owns ≡ slot ∷ rest → 1 < alive (slot_at sizes ws slot) → slot_at sizes ws slot < 2 ^ 64
+        → (w : View) × Parts sizes (set ws (slot_word sizes slot) (less_one (slot_at sizes ws slot))) (set vs id w)
+        × AtSlot TakesBack (slot_word sizes slot) v (slot_at sizes ws slot) w
+    takes_back rest has more small = let x : ℕ = slot_at sizes ws slot in let y : ℕ = x - 1 in let low = counted_is x several in let n = (shared x low).0 in
+        let fewer = some_left y (omega arith) in let m = fewer.0 in let less : less_one x ≡ y = omega arith in let rest_is = ap others has in
+        subst (λ (z : ℕ). (u : View) × Parts sizes (set ws (slot_word sizes slot) z) (set vs id u) × AtSlot TakesBack (slot_word sizes slot) v x u) (sym less) (
+          taken_back slot y v,
+          recounts y (others v.slots.owns) None (omega arith) (omega arith)
+              (let a = ap (times slot) has in let b = ap (times slot) rest_is in let one = is_same slot slot refl in omega arith)
+              (λ j ne. let a = ap (times j) has in let b = ap (times j) rest_is in let z = is_other j slot (λ e. ne (sym e)) in omega arith),
+          λ other is. (ap (λ (k : ℕ). taken_back k y v) (same_slot slot other is), knew_too slot other is x (knew ws vs p at slot)),
+        )
+
   -- give back the slot of an item that has seen three changes
   pub gives_back : (slot generation k : ℕ) (x : WaitingItem) → get_elem? v.slots.waits k ≡ some x → x.slot ≡ slot → 3 ≤ x.changes
       → slot < most_waiting sizes → free_word generation < shared_base
@@ -177,26 +323,64 @@ module _ (id : ℕ) (v : View) (live : HasPlace v.epoch) where
     }
 
   -- hold a slot, which needs no other word, as its owner isn't counted
-  pub takes_hold : (slot : ℕ) → slot < sizes.slots → OwnsAlone v slot → v.slots.holds ≡ None
-      → Steps (Parts sizes) id v (slot_word sizes slot) (λ x. x) (AtSlot TakesHold (slot_word sizes slot) v)
-  takes_hold slot inside mine free ws vs p at small = let i : ℕ = slot_word sizes slot in let x : ℕ = get_or ws i 0 in let w : View = held slot v in
-      let a = (p.slots.each id v at).alone slot mine in (
+  pub takes_hold : (slot : ℕ) → slot < sizes.slots → Owns v slot → v.slots.holds ≡ None → (ws : List ℕ) (vs : List View) → Parts sizes ws vs
+      → get_elem? vs id ≡ some v → counted (slot_at sizes ws slot) ≡ 0
+      → (w : View) × Parts sizes (set ws (slot_word sizes slot) (slot_at sizes ws slot)) (set vs id w)
+      × AtSlot TakesHold (slot_word sizes slot) v (slot_at sizes ws slot) w
+  takes_hold slot inside mine free ws vs p at firm = let i : ℕ = slot_word sizes slot in let x : ℕ = get_or ws i 0 in let w : View = held slot v in
+      let one = (alone_is codes sound sizes ws vs p.slots id slot v at mine firm).1 in (
         w,
         loaded ws vs p at i w refl refl (subst (λ (l : List ℕ). SlotsInvariant codes sizes l (set vs id w)) (set-get_or ws i 0)
-            (holding.takes_hold codes sound sizes ws vs p.slots id v at slot x v.words inside mine free a.0 a.1)),
+            (holding.takes_hold codes sound sizes ws vs p.slots id v at slot x v.words inside mine one free one firm)),
         λ other is. (ap (λ (k : ℕ). held k v) (same_slot slot other is), knew_too slot other is x (knew ws vs p at slot)),
       )
 
   -- let go of it
   pub lets_go : (slot : ℕ) → slot < sizes.slots → Holds v slot
       → Steps (Parts sizes) id v (slot_word sizes slot) (λ x. x) (AtSlot LetsGo (slot_word sizes slot) v)
-  lets_go slot inside held ws vs p at small = let i : ℕ = slot_word sizes slot in let x : ℕ = get_or ws i 0 in let w : View = release_hold v in
-      let f = p.slots.each id v at in let a = f.alone slot (f.held slot held) in (
+  lets_go slot inside held ws vs p at small = let i : ℕ = slot_word sizes slot in let x : ℕ = get_or ws i 0 in let w : View = release_hold v in (
+    w,
+    loaded ws vs p at i w refl refl (subst (λ (l : List ℕ). SlotsInvariant codes sizes l (set vs id w)) (set-get_or ws i 0)
+        (holding.lets_go codes sound sizes ws vs p.slots id v at slot x v.words inside held
+        (held_is codes sound sizes ws vs p.slots id slot v at held))),
+    λ other is. (refl, knew_too slot other is x (knew ws vs p at slot)),
+  )
+
+  -- try to hold the slot of an owner that is counted: where one was counted another word comes to stand there, to which no step adds an owner
+  pub tries_hold : (slot : ℕ) → slot < sizes.slots → Owns v slot → v.slots.holds ≡ None → (ws : List ℕ) (vs : List View) → Parts sizes ws vs
+      → get_elem? vs id ≡ some v → counted (slot_at sizes ws slot) ≡ 1
+      → (w : View) × Parts sizes (set ws (slot_word sizes slot) (either (eqb (slot_at sizes ws slot) (shared_word 1)) held_word (slot_at sizes ws slot)))
+      (set vs id w)
+      × AtSlot TriesHold (slot_word sizes slot) v (slot_at sizes ws slot) w
+  tries_hold slot inside mine free ws vs p at several = let i : ℕ = slot_word sizes slot in let x : ℕ = slot_at sizes ws slot in
+      let w : View = held_by slot held_word v in let told = knew ws vs p at slot in let o = owner_in codes sound sizes ws vs p.slots id slot v at in
+      let left : 0 < alive x = omega arith in
+      exchanged x (shared_word 1) held_word (λ y. (u : View) × Parts sizes (set ws i y) (set vs id u) × AtSlot TriesHold i v x u)
+      (λ hit. (
         w,
-        loaded ws vs p at i w refl refl (subst (λ (l : List ℕ). SlotsInvariant codes sizes l (set vs id w)) (set-get_or ws i 0)
-            (holding.lets_go codes sound sizes ws vs p.slots id v at slot x v.words inside held a.0 a.1)),
-        λ other is. (refl, knew_too slot other is x (knew ws vs p at slot)),
-      )
+        around ws vs p at slot held_word w live refl (same_epochs ws vs p at)
+            (holding.takes_hold codes sound sizes ws vs p.slots id v at slot held_word (noted slot held_word v) inside mine (ap codes.alive hit ∙ one_left.0)
+            free
+            only_held.0 only_held.2),
+        λ other is. (
+          several,
+          left,
+          (λ _. ap (λ (k : ℕ). held_by k held_word v) (same_slot slot other is)),
+          (λ no. absurd (no hit)),
+          knew_too slot other is x told,
+        ),
+      ))
+      (λ miss. (v, unmoved ws vs p at i, λ other is. (several, left, (λ e. absurd (miss e)), (λ _. refl), knew_too slot other is x told)))
+
+  -- let go of it, by a word that says one owner
+  pub shares_again : (slot y : ℕ) → slot < sizes.slots → Holds v slot → alive y ≡ 1
+      → Steps (Parts sizes) id v (slot_word sizes slot) (λ _. y) (λ _. AtSlot SharesAgain (slot_word sizes slot) v y)
+  shares_again slot y inside held one ws vs p at small = let w : View = shared_again slot y v in (
+    w,
+    around ws vs p at slot y w live refl (same_epochs ws vs p at)
+        (holding.lets_go codes sound sizes ws vs p.slots id v at slot y (noted slot y v) inside held one),
+    λ other is. ap (λ (k : ℕ). shared_again k y v) (same_slot slot other is),
+  )
 
   -- its item goes at once, after a look at each place
   pub discards : (slot generation : ℕ) → slot < sizes.slots → Holds v slot → sizes.participants ≤ v.slots.looked → free_word generation < shared_base

@@ -10,7 +10,7 @@ use Rattle.sdd_views.specs.declared.Sizes.{Sizes}
 use Rattle.sdd_word_invariant.specs.Words.{first_cell, cell_word, slot_word, most_waiting}
 use Rattle.sdd_word_invariant.specs.Sums.{times}
 use Rattle.sdd_word_invariant.specs.Codes.{WordReading, IsWordReading}
-use Rattle.sdd_word_invariant.specs.Slots.{slot_at, owners_at, waits_in, items_at, OwnsAlone, Sees, Tallies, SeenBeforeRetired, SlotsInvariant}
+use Rattle.sdd_word_invariant.specs.Slots.{slot_at, owners_at, waits_in, items_at, Owns, Sees, Holds, Tallies, SeenBeforeRetired, SlotsInvariant}
 use Rattle.sdd_word_invariant.proofs.Frame.{each_set}
 use Rattle.sdd_word_invariant.proofs.Sums.{total_set, total_has, total_two, span_out, span_set, span_has, both_set, is_same}
 
@@ -39,16 +39,27 @@ module _ (z : WordReading) (sound : IsWordReading z) (sizes : Sizes) (ws : List 
   none_waits i live j k u x at has e = let w = waiter_in j k u x at has in let n = (sound.lives (slot_at sizes ws i) live).0 in
       let h = ap (λ (a : ℕ). z.waiting (slot_at sizes ws a)) e in omega arith
 
-  -- a slot that is owned alone: nobody but its owner has one, nor a cell
-  pub alone_is : (j i : ℕ) (u : View) → get_elem? vs j ≡ some u → OwnsAlone u i → times i u.slots.owns ≡ 1
-  alone_is j i u at mine = let o = owner_in j i u at in let a = ((s.each j u at).alone i mine).0 in omega arith
+  -- an owner that isn't counted is the only one: nobody else has one, nor a cell
+  pub alone_is : (j i : ℕ) (u : View) → get_elem? vs j ≡ some u → Owns u i → z.counted (slot_at sizes ws i) ≡ 0
+      → (times i u.slots.owns ≡ 1) × (z.alive (slot_at sizes ws i) ≡ 1)
+  alone_is j i u at mine firm = let o = owner_in j i u at in let a = sound.few (slot_at sizes ws i) firm in
+      (let e : times i u.slots.owns ≡ 1 = omega arith in e, let e : z.alive (slot_at sizes ws i) ≡ 1 = omega arith in e)
+
+  -- so is that of a slot that is held
+  pub held_is : (j i : ℕ) (u : View) → get_elem? vs j ≡ some u → Holds u i → z.alive (slot_at sizes ws i) ≡ 1
+  held_is j i u at h = let f = (s.each j u at).held i h in (alone_is j i u at f.0 f.1).1
+
+  -- where one has an owner, another holds nothing
+  pub none_holds : (j k i : ℕ) (u v : View) → j ≢ k → get_elem? vs j ≡ some u → get_elem? vs k ≡ some v → 0 < owners_at i v → ¬ (Holds u i)
+  none_holds j k i u v apart atu atv mine h = let one = held_is j i u atu h in let f = ((s.each j u atu).held i h).0 in
+      let both = owners_in j k i u v apart atu atv in omega arith
 
   module _ (id : ℕ) (v : View) (at : get_elem? vs id ≡ some v) where
     pub slot_step : (i y : ℕ) (w : View) → i < most_waiting sizes
         → z.alive y + owners_at i v ≡ z.alive (slot_at sizes ws i) + owners_at i w → ((j : ℕ) → j ≢ i → owners_at j v ≡ owners_at j w)
         → z.waiting y + items_at i v ≡ z.waiting (slot_at sizes ws i) + items_at i w → ((j : ℕ) → j ≢ i → items_at j v ≡ items_at j w)
         → ((j : ℕ) (u : View) → get_elem? vs j ≡ some u → Sees u i → z.full y ≡ 1)
-        → ((j : ℕ) (u : View) → j ≢ id → get_elem? vs j ≡ some u → ¬ (OwnsAlone u i))
+        → ((j : ℕ) (u : View) → j ≢ id → get_elem? vs j ≡ some u → ¬ (Holds u i))
         → Tallies z sizes (set ws (slot_word sizes i) y) w → SeenBeforeRetired w w
         → ((j : ℕ) (u : View) → j ≢ id → get_elem? vs j ≡ some u → SeenBeforeRetired w u × SeenBeforeRetired u w)
         → SlotsInvariant z sizes (set ws (slot_word sizes i) y) (set vs id w)
@@ -76,10 +87,9 @@ module _ (z : WordReading) (sound : IsWordReading z) (sizes : Sizes) (ws : List 
                 full = λ k sees. dite (ℕ_discrete k i)
                     (λ same. ap z.full (now k same) ∙ full j u e (subst (Sees u) same sees))
                     (λ ne. ap z.full (there k ne) ∙ f.full k sees);
-                alone = λ k own. dite (ℕ_discrete k i)
-                    (λ same. absurd (free j u apart e (subst (OwnsAlone u) same own)))
-                    (λ ne. let g = f.alone k own in (ap z.alive (there k ne) ∙ g.0, ap z.counted (there k ne) ∙ g.1));
-                held = f.held;
+                held = λ k h. dite (ℕ_discrete k i)
+                    (λ same. absurd (free j u apart e (subst (Holds u) same h)))
+                    (λ ne. let g = f.held k h in (g.0, ap z.counted (there k ne) ∙ g.1));
               });
           two = both_set SeenBeforeRetired vs id w s.two with_self with_others;
         }
@@ -101,8 +111,7 @@ module _ (z : WordReading) (sound : IsWordReading z) (sizes : Sizes) (ws : List 
             timed = f.timed;
             guarded = f.guarded;
             full = λ k sees. ap z.full (there k) ∙ f.full k sees;
-            alone = λ k own. let g = f.alone k own in (ap z.alive (there k) ∙ g.0, ap z.counted (there k) ∙ g.1);
-            held = f.held;
+            held = λ k h. let g = f.held k h in (g.0, ap z.counted (there k) ∙ g.1);
           });
           two = both_set SeenBeforeRetired vs id w s.two with_self with_others;
         }
@@ -119,13 +128,13 @@ module _ (z : WordReading) (sound : IsWordReading z) (sizes : Sizes) (ws : List 
       two = both_set SeenBeforeRetired vs id w s.two with_self with_others;
     }
 
-    -- another participant owns no slot alone whose owner steps, or whose word has another number of owners, or counts them
-    pub not_alone : (i : ℕ) → (0 < owners_at i v) ⊎ (z.alive (slot_at sizes ws i) ≢ 1) ⊎ (z.counted (slot_at sizes ws i) ≢ 0)
-        → (j : ℕ) (u : View) → j ≢ id → get_elem? vs j ≡ some u → ¬ (OwnsAlone u i)
-    not_alone i why j u apart e own = let g = (s.each j u e).alone i own in let g0 = g.0 in let g1 = g.1 in
-        ⊎_elim (λ (t : 0 < owners_at i v). let o = owners_in j id i u v apart e at in omega arith)
+    -- another participant holds no slot whose owner steps, or whose word has another number of owners, or counts them
+    pub not_held_by : (i : ℕ) → (0 < owners_at i v) ⊎ (z.alive (slot_at sizes ws i) ≢ 1) ⊎ (z.counted (slot_at sizes ws i) ≢ 0)
+        → (j : ℕ) (u : View) → j ≢ id → get_elem? vs j ≡ some u → ¬ (Holds u i)
+    not_held_by i why j u apart e h = ⊎_elim (λ (t : 0 < owners_at i v). none_holds j id i u v apart e at t h)
         (λ (r : (z.alive (slot_at sizes ws i) ≢ 1) ⊎ (z.counted (slot_at sizes ws i) ≢ 0)). ⊎_elim
-        (λ (t : z.alive (slot_at sizes ws i) ≢ 1). t g0) (λ (t : z.counted (slot_at sizes ws i) ≢ 0). t g1) r) why
+        (λ (t : z.alive (slot_at sizes ws i) ≢ 1). t (held_is j i u e h))
+        (λ (t : z.counted (slot_at sizes ws i) ≢ 0). t ((s.each j u e).held i h).1) r) why
 
 -- a word below the cells'
 pub below : (z : WordReading) (sizes : Sizes) (ws : List ℕ) (vs : List View) (j y : ℕ) → j < first_cell sizes → SlotsInvariant z sizes ws vs
@@ -140,8 +149,7 @@ below z sizes ws vs j y low s =
         timed = f.timed;
         guarded = f.guarded;
         full = λ i sees. ap z.full (there i) ∙ f.full i sees;
-        alone = λ i own. let g = f.alone i own in (ap z.alive (there i) ∙ g.0, ap z.counted (there i) ∙ g.1);
-        held = f.held;
+        held = λ i h. let g = f.held i h in (g.0, ap z.counted (there i) ∙ g.1);
       };
       two = s.two;
     }

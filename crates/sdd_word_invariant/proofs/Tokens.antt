@@ -2,8 +2,6 @@
 use Rattle.std.proofs.Common.{◌≡◌, ◌≢◌, ℕ, zero, suc, ◌+◌, ◌<◌, length, List, [], ◌∷◌, ◌++◌, get_or, set, sym, refl, ap, ◌∙◌, subst, ⊎_elim, arith}
 use Rattle.std.specs.Prelude.{Some, None}
 use mathlib.Core.Option.{some, some-injective, some-ne-none}
-use mathlib.Core.Logic.{dite}
-use native.Mathlib.Decide.{ℕ_discrete}
 use lib.ListN.{get_elem?}
 use Rattle.atomic_table.proofs.Lists.{at_snoc, set_else}
 use Rattle.sdd_views.specs.declared.SlotsView.{SlotsView}
@@ -13,7 +11,7 @@ use Rattle.sdd_views.specs.declared.Sizes.{Sizes}
 use Rattle.sdd_word_invariant.specs.Words.{first_cell, cell_word, slot_word, all_words}
 use Rattle.sdd_word_invariant.specs.Sums.{total, times}
 use Rattle.sdd_word_invariant.specs.Codes.{WordReading, IsWordReading}
-use Rattle.sdd_word_invariant.specs.Slots.{slot_at, owners_at, waits_in, items_at, Sees, Holds, Tallies, SeenBeforeRetired, SlotsInvariant}
+use Rattle.sdd_word_invariant.specs.Slots.{owners_at, waits_in, items_at, Sees, Holds, Tallies, SeenBeforeRetired, SlotsInvariant}
 use Rattle.sdd_views.specs.Views.{bare, owning_only}
 use Rattle.sdd_word_invariant.proofs.Frame.{each_set, each_snoc}
 use Rattle.sdd_word_invariant.proofs.Sums.{total_set, total_snoc, span_zero, both_set}
@@ -35,13 +33,11 @@ module _ (t : View) (os : List ℕ) (is : t.slots ≡ owning_only os) where
     },
   )
 
-  plain_tallies : (z : WordReading) (sizes : Sizes) (ws : List ℕ)
-      → ((i : ℕ) → 0 < times i os → (z.alive (slot_at sizes ws i) ≡ 1) × (z.counted (slot_at sizes ws i) ≡ 0)) → Tallies z sizes ws t
-  plain_tallies z sizes ws alone = record {
+  plain_tallies : (z : WordReading) (sizes : Sizes) (ws : List ℕ) → Tallies z sizes ws t
+  plain_tallies z sizes ws = record {
     timed = λ q x e. none_in x q (ap (λ (s : SlotsView). get_elem? s.waits q) (sym is) ∙ e);
     guarded = λ i h. absurd (sees_none i h);
     full = λ i h. absurd (sees_none i h);
-    alone = λ i own. let e = ap (λ (s : SlotsView). times i s.owns) is in alone i (omega arith);
     held = λ i e. let c : None ≡ Some i = ap (λ (s : SlotsView). s.holds) (sym is) ∙ e in cc;
   }
 
@@ -59,14 +55,13 @@ module _ (z : WordReading) (sizes : Sizes) (ws : List ℕ) (vs : List View) (s :
   -- a new token, whose owners another one lost
   joined : (t : View) (os : List ℕ) → t.slots ≡ owning_only os → (vs' : List View)
       → ((i : ℕ) → total (owners_at i) vs' + times i os ≡ total (owners_at i) vs) → ((i : ℕ) → total (items_at i) vs' ≡ total (items_at i) vs)
-      → ((i : ℕ) → 0 < times i os → (z.alive (slot_at sizes ws i) ≡ 1) × (z.counted (slot_at sizes ws i) ≡ 0))
       → ((j : ℕ) (u : View) → get_elem? vs' j ≡ some u → Tallies z sizes ws u)
       → ((j l : ℕ) (u w : View) → get_elem? vs' j ≡ some u → get_elem? vs' l ≡ some w → SeenBeforeRetired u w) → SlotsInvariant z sizes ws (vs' ++ t ∷ [])
-  joined t os is vs' own wait alone each two = record {
+  joined t os is vs' own wait each two = record {
     long = s.long;
     owned = λ i. let a = total_snoc (owners_at i) vs' t in let b = owners_of t os is i in let o = own i in let c = s.owned i in omega arith;
     waited = λ i. let a = total_snoc (items_at i) vs' t in let b = items_of t os is i in let o = wait i in let c = s.waited i in omega arith;
-    each = each_snoc (Tallies z sizes ws) vs' t each (plain_tallies t os is z sizes ws alone);
+    each = each_snoc (Tallies z sizes ws) vs' t each (plain_tallies t os is z sizes ws);
     two = λ j l u w e e'. ⊎_elim
         (λ (a : get_elem? vs' j ≡ some u). ⊎_elim (λ (d : get_elem? vs' l ≡ some w). two j l u w a d)
         (λ (d : t ≡ w). subst (SeenBeforeRetired u) d (plain_guarded t os is u).1) (at_snoc vs' t w l e'))
@@ -76,7 +71,7 @@ module _ (z : WordReading) (sizes : Sizes) (ws : List ℕ) (vs : List View) (s :
 
   -- one that knows nothing
   pub sits : (t : View) → t.slots ≡ bare → SlotsInvariant z sizes ws (vs ++ t ∷ [])
-  sits t is = joined t [] is vs (λ i. omega arith) (λ i. refl) (λ i own. absurd (omega arith)) s.each s.two
+  sits t is = joined t [] is vs (λ i. omega arith) (λ i. refl) s.each s.two
 
   module _ (id : ℕ) (v : View) (at : get_elem? vs id ≡ some v) (os units : List ℕ) (known : FractionsView) where
     abbrev after : View
@@ -90,9 +85,8 @@ module _ (z : WordReading) (sizes : Sizes) (ws : List ℕ) (vs : List View) (s :
         joined t os' is (set vs id w)
         (λ j. let a = total_set (owners_at j) vs id v w at in let b = parts j in omega arith)
         (λ j. let a = total_set (items_at j) vs id v w at in omega arith)
-        (λ i own. let b = parts i in f.alone i (omega arith))
         (each_set (Tallies z sizes ws) (Tallies z sizes ws) vs id w
-        record { timed = f.timed; guarded = f.guarded; full = f.full; alone = λ i own. let b = parts i in f.alone i (omega arith); held = held }
+        record { timed = f.timed; guarded = f.guarded; full = f.full; held = λ i h. (held i h, (f.held i h).1) }
         (λ j u _ e. s.each j u e))
         (both_set SeenBeforeRetired vs id w s.two
         (let x = s.two id id v v at at in record { since = x.since; looked = x.looked })
@@ -103,7 +97,7 @@ module _ (z : WordReading) (sizes : Sizes) (ws : List ℕ) (vs : List View) (s :
     pub takes_in : (other : ℕ) (t t' : View) (os' : List ℕ) → t.slots ≡ owning_only os' → t'.slots ≡ bare
         → ((i : ℕ) → times i os ≡ times i v.slots.owns + times i os')
         → other ≢ id → get_elem? vs other ≡ some t → SlotsInvariant z sizes ws (set (set vs id after) other t')
-    takes_in other t t' os' is is' parts apart from = let w : View = after in let f = s.each id v at in let g = s.each other t from in
+    takes_in other t t' os' is is' parts apart from = let w : View = after in let f = s.each id v at in
         let vs' : List View = set vs id w in
         let from' : get_elem? vs' other ≡ some t = set_else vs id other w apart ∙ from in
         let each' = each_set (Tallies z sizes ws) (Tallies z sizes ws) vs id w
@@ -111,9 +105,7 @@ module _ (z : WordReading) (sizes : Sizes) (ws : List ℕ) (vs : List View) (s :
           timed = f.timed;
           guarded = f.guarded;
           full = f.full;
-          alone = λ i own. let b = parts i in let e = ap (λ (q : SlotsView). times i q.owns) is in dite (ℕ_discrete (times i v.slots.owns) 0)
-              (λ none. g.alone i (omega arith)) (λ more. f.alone i (omega arith));
-          held = λ i h. let o = f.held i h in let b = parts i in omega arith;
+          held = λ i h. let o = (f.held i h).0 in let b = parts i in (omega arith, (f.held i h).1);
         } (λ j u _ e. s.each j u e) in
         let two' = both_set SeenBeforeRetired vs id w s.two
         (let x = s.two id id v v at at in record { since = x.since; looked = x.looked })
@@ -124,13 +116,14 @@ module _ (z : WordReading) (sizes : Sizes) (ws : List ℕ) (vs : List View) (s :
               let c = owners_of t os' is j in let d = owners_of t' [] is' j in let e = parts j in let k = s.owned j in omega arith;
           waited = λ j. let a = total_set (items_at j) vs id v w at in let b = total_set (items_at j) vs' other t t' from' in
               let c = items_of t os' is j in let d = items_of t' [] is' j in let k = s.waited j in omega arith;
-          each = each_set (Tallies z sizes ws) (Tallies z sizes ws) vs' other t' (plain_tallies t' [] is' z sizes ws (λ i own. absurd (omega arith)))
+          each = each_set (Tallies z sizes ws) (Tallies z sizes ws) vs' other t' (plain_tallies t' [] is' z sizes ws)
               (λ j u _ e. each' j u e);
           two = both_set SeenBeforeRetired vs' other t' two' (plain_guarded t' [] is' t').0 (λ j u _ e. plain_guarded t' [] is' u);
         }
 
 -- the start: all words are 0, and there is one token, which knows nothing
-pub starts : (z : WordReading) → IsWordReading z → (sizes : Sizes) (ws : List ℕ) (t : View) → length ws ≡ all_words sizes → ((i : ℕ) → get_or ws i 0 ≡ 0) → t.slots ≡ bare
+pub starts : (z : WordReading) → IsWordReading z → (sizes : Sizes) (ws : List ℕ) (t : View) → length ws ≡ all_words sizes → ((i : ℕ) → get_or ws i 0 ≡ 0) →
+    t.slots ≡ bare
     → SlotsInvariant z sizes ws (t ∷ [])
 starts z sound sizes ws t long none is = record {
   long = long;
@@ -138,7 +131,7 @@ starts z sound sizes ws t long none is = record {
       let c = span_zero (z.names i) ws (first_cell sizes) sizes.cells (λ d l. ap (z.names i) (none (cell_word sizes d)) ∙ sound.null i) in
       let d = owners_of t [] is i in omega arith;
   waited = λ i. let a = ap z.waiting (none (slot_word sizes i)) in let b = sound.free.1 in let c = items_of t [] is i in omega arith;
-  each = λ j v e. subst (Tallies z sizes ws) (only j v e) (plain_tallies t [] is z sizes ws (λ i own. absurd (omega arith)));
+  each = λ j v e. subst (Tallies z sizes ws) (only j v e) (plain_tallies t [] is z sizes ws);
   two = λ j l v w e e'. subst (λ (x : View). SeenBeforeRetired x w) (only j v e) (plain_guarded t [] is w).0;
 }
   where

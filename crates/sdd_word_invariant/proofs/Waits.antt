@@ -13,8 +13,9 @@ use Rattle.sdd_views.specs.declared.Sizes.{Sizes}
 use Rattle.sdd_word_invariant.specs.Words.{slot_word, most_waiting}
 use Rattle.sdd_word_invariant.specs.Codes.{WordReading, IsWordReading}
 use Rattle.sdd_word_invariant.specs.Sums.{total, is, times}
-use Rattle.sdd_word_invariant.specs.Slots.{slot_at, items_at, waits_in, OwnsAlone, SlotsInvariant}
+use Rattle.sdd_word_invariant.specs.Slots.{slot_at, items_at, waits_in, Owns, SlotsInvariant}
 use Rattle.sdd_word_invariant.specs.SlotSteps.{without}
+use Rattle.sdd_word_invariant.proofs.SlotWords.{owner_in}
 use Rattle.sdd_word_invariant.proofs.Sums.{is_same, is_other, without_same, without_other, total_has}
 
 one_apart : (b : Bool) (x : ℕ) (ys : List ℕ) (t : ℕ) → (b ≡ false → t ≡ 1) → (b ≡ true → t ≡ 0) → length (cond b (x ∷ ys) ys) + t ≡ suc (length ys)
@@ -84,9 +85,9 @@ module _ (z : WordReading) (sound : IsWordReading z) (sizes : Sizes) (ws : List 
       (λ i high. let s = same i in let a = is_other i slot (λ e. omega arith) in let b = none_past i high in omega arith)
       in let long = length_map v.slots.waits in omega arith
 
-  -- the same where it has the only owner of the slot
-  pub few_wait : (slot : ℕ) → slot < sizes.slots → OwnsAlone v slot → length v.slots.waits < most_waiting sizes
-  few_wait slot inside mine = let alive = ((p.each id v at).alone slot mine).0 in
+  -- the same where it has an owner of the slot
+  pub few_wait : (slot : ℕ) → slot < sizes.slots → Owns v slot → length v.slots.waits < most_waiting sizes
+  few_wait slot inside mine = let o = owner_in z sound sizes ws vs p id slot v at in
       few_beside slot (omega arith) (sound.lives (slot_at sizes ws slot) (omega arith)).0
 
   -- and none of it waits with it

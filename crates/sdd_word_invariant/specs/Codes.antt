@@ -4,7 +4,7 @@
 -- once the collector's close has claimed it, 7 while its value is moved out, 8 the same where its bag has let go of it meanwhile, and 6 emptied, and still
 -- in the bag. Shared by n owners: 2^63 + n; none left, it waits: 2^63.
 -- A cell: 0 free; else 2^27 * generation + 4 * (slot + 1) + tag, or a mark from 2^27 - 16 on, which owns nothing: null with a tag, raw pointers, a collector.
-use Rattle.std.specs.Prelude.{◌≡◌, ℕ, ◌+◌, ◌-◌, ◌*◌, ◌/◌, ◌%◌, ◌^◌, ◌<◌, eqb, leb}
+use Rattle.std.specs.Prelude.{◌≡◌, ℕ, ◌+◌, ◌-◌, ◌*◌, ◌/◌, ◌%◌, ◌^◌, ◌<◌, ◌≤◌, if◌then◌else◌, Bool, eqb, leb}
 use prog.Atomic.{either}
 use Rattle.sdd_word_invariant.specs.Sums.{is}
 
@@ -26,9 +26,11 @@ pub record WordReading : Type 0 where
   -- 1 where a cell's word owns the slot i
   pub names : ℕ → ℕ → ℕ
 
--- what the rule asks of a reading: an item with an owner doesn't wait, one waits once at most, and a word is 0 at the start
+-- what the rule asks of a reading: an item with an owner doesn't wait, one whose owners aren't counted has one at most, one waits once at most,
+-- and a word is 0 at the start
 pub record IsWordReading (z : WordReading) : Type 0 where
   pub lives : (x : ℕ) → 0 < z.alive x → (z.waiting x ≡ 0) × (z.full x ≡ 1)
+  pub few : (x : ℕ) → z.counted x ≡ 0 → z.alive x ≤ 1
   pub valued : (x : ℕ) → 0 < z.alive x → z.valued x ≡ 1
   pub emptying : (x : ℕ) → 0 < z.emptying x → (z.emptying x ≡ 1) × (z.alive x ≡ 0) × (z.full x ≡ 1) × (z.valued x ≡ 0)
   pub private : (k x : ℕ) → 0 < z.waits_for k x → (z.waiting x ≡ 1) × (z.valued x ≡ 1)
@@ -48,12 +50,28 @@ raw_word generation = 16 * generation + 2
 abbrev pub waiting_word : ℕ → ℕ
 waiting_word generation = 16 * generation + 4
 
+-- the only owner holds it, and isn't counted meanwhile
+abbrev pub held_word : ℕ
+held_word = 3
+
 -- from here on the owners are counted
 abbrev pub shared_base : ℕ
 shared_base = 2 ^ 63
 
 abbrev pub shared_word : ℕ → ℕ
 shared_word owners = shared_base + owners
+
+-- a slot's word once it is claimed for one owner, who is one of several that there may be, or not
+abbrev pub claimed_word : Bool → ℕ
+claimed_word shared = if shared then shared_word 1 else owned_word 0
+
+-- and once the last owner has gone
+abbrev pub retired_word : Bool → ℕ
+retired_word shared = if shared then shared_base else waiting_word 0
+
+-- most owners that a word is to count
+abbrev pub most_owners : ℕ
+most_owners = 2 ^ 62
 
 abbrev pub kind_alive : ℕ → ℕ
 kind_alive q = either (eqb q 1) 1 (either (eqb q 3) 1 0)

@@ -1,5 +1,5 @@
 -- What each step makes of what the participant knows of slots, and what it tells
-use Rattle.std.specs.Prelude.{◌≡◌, ◌≢◌, ◌⊎◌, ℕ, ◌+◌, ◌*◌, ◌==◌, ◌<◌, ◌≤◌, not, if◌then◌else◌, List, [], ◌∷◌, ◌++◌, map, length, replicate, slice_index, slice_set, Some, None}
+use Rattle.std.specs.Prelude.{◌≡◌, ◌≢◌, ◌⊎◌, ℕ, ◌+◌, ◌*◌, ◌==◌, ◌<◌, ◌≤◌, not, if◌then◌else◌, List, [], ◌∷◌, ◌++◌, map, length, replicate, slice_index, slice_set, Some, None, ◌-◌, Option}
 use Rattle.std.specs.List.{filter}
 use mathlib.Core.Option.{some}
 use lib.ListN.{get_elem?}
@@ -11,6 +11,7 @@ use Rattle.sdd_views.specs.declared.Sizes.{Sizes}
 use Rattle.sdd_word_invariant.specs.Words.{words_behind, most_waiting, state_word, slot_word}
 use Rattle.sdd_word_invariant.specs.Epoch.{HasPlace, IsOpen, IsLone}
 use Rattle.sdd_word_invariant.specs.Slots.{items_at, Sees}
+use Rattle.sdd_word_invariant.specs.Codes.{alive, counted, most_owners, held_word, shared_word}
 use Rattle.sdd_word_invariant.specs.EpochSteps.{knowing, closed, Publishes}
 
 -- the words behind the places' before anybody takes part
@@ -46,7 +47,7 @@ abbrev pub others : List ℕ → List ℕ
 others [] = []
 others (x ∷ xs) = xs
 
--- the only owner of the first slot goes, to a token of its own, with its unit
+-- the owner of the first slot goes, to a token of its own, with its unit
 abbrev pub parted : View → View
 parted v = record v { slots = record v.slots { owns = others v.slots.owns; drawn = others v.slots.drawn } }
 
@@ -86,6 +87,18 @@ deferred place y count v = record v {
   words = noted place y v;
 }
 
+-- an owner of it goes, where others stay
+abbrev pub one_less : ℕ → ℕ → View → View
+one_less slot y v = record v { slots = record v.slots { owns = others v.slots.owns }; words = noted slot y v }
+
+-- an owner of it comes; and the count is past the bound, or not
+abbrev pub one_more : ℕ → ℕ → Option ℕ → View → View
+one_more slot y over v = record v { slots = record v.slots { owns = slot ∷ v.slots.owns; over = over }; words = noted slot y v }
+
+-- it goes again, as the count was past the bound
+abbrev pub taken_back : ℕ → ℕ → View → View
+taken_back slot y v = record v { slots = record v.slots { owns = others v.slots.owns; over = None }; words = noted slot y v }
+
 -- it is given back
 abbrev pub given_back : ℕ → ℕ → View → View
 given_back slot y v = record v { slots = record v.slots { waits = without_item slot v.slots.waits }; words = noted slot y v }
@@ -98,6 +111,10 @@ seeing slot v = record v { slots = record v.slots { sees = slot ∷ v.slots.sees
 abbrev pub held : ℕ → View → View
 held slot v = record v { slots = record v.slots { holds = Some slot; looked = 0 } }
 
+-- the same, and y is in its word then
+abbrev pub held_by : ℕ → ℕ → View → View
+held_by slot y v = record v { slots = record v.slots { holds = Some slot; looked = 0 }; words = noted slot y v }
+
 -- it has looked at this place, the next one, where no guard is open
 abbrev pub looked_past : ℕ → View → View
 looked_past place v = record v { slots = record v.slots { looked = place + 1 } }
@@ -105,6 +122,10 @@ looked_past place v = record v { slots = record v.slots { looked = place + 1 } }
 -- it holds none
 abbrev pub release_hold : View → View
 release_hold v = record v { slots = record v.slots { holds = None; looked = 0 } }
+
+-- the same, and y is in the word of the slot that it held
+abbrev pub shared_again : ℕ → ℕ → View → View
+shared_again slot y v = record v { slots = record v.slots { holds = None; looked = 0 }; words = noted slot y v }
 
 -- the item of the slot that is held goes at once
 abbrev pub discarded : ℕ → ℕ → View → View
@@ -154,8 +175,8 @@ Regains slot old y v x w = (x ≡ old → w ≡ claimed slot y v) × (x ≢ old 
 abbrev pub SeesRaw : ℕ → ℕ → View → ℕ → View → Type 0
 SeesRaw slot old v x w = (x ≡ old → ¬ (Sees v slot) → w ≡ seeing slot v) × ((x ≢ old) ⊎ Sees v slot → w ≡ v) × Knew slot v x
 
--- an owned item waits from the count of this moment on, which is known after it: under an open guard the one at the publish, or one more.
--- Less than may wait did so before
+-- the item of a slot whose last owner goes waits from the count of this moment on, which is known after it: under an open guard the one at the publish,
+-- or one more. Less than may wait did so before
 abbrev pub Retires : ℕ → View → ℕ → View → Type 0
 Retires slot v y w = (count : ℕ) × (v.epoch.known ≤ count) × (IsLone v.epoch → count ≡ v.epoch.known) × (w ≡ retired slot y count v)
     × (IsOpen v.epoch → count ≤ v.epoch.since + 1) × (length v.slots.waits < most_waiting v.sizes)
@@ -169,6 +190,23 @@ DefersAt place y v w = (count : ℕ) × (v.epoch.known ≤ count) × (IsLone v.e
 -- a job's place, whose word is old as long as it is free, is claimed for a job, which waits there at once
 abbrev pub Defers : ℕ → ℕ → ℕ → View → ℕ → View → Type 0
 Defers place old y v x w = (x ≡ old → DefersAt place y v w) × (x ≢ old → w ≡ v) × Knew place v x
+
+-- an owner that is counted goes, by one subtraction: where one was counted it was the last, and the item waits
+abbrev pub Releases : ℕ → View → ℕ → View → Type 0
+Releases slot v x w = (counted x ≡ 1) × (0 < alive x) × (alive x ≡ 1 → Retires slot v (x - 1) w) × (alive x ≢ 1 → w ≡ one_less slot (x - 1) v) × Knew slot v x
+
+-- an owner that is counted goes beside others, by one exchange of a word that was found, where it is still that
+abbrev pub LeavesBeside : ℕ → ℕ → View → ℕ → View → Type 0
+LeavesBeside word slot v x w = (counted x ≡ 1) × (0 < alive x) × (x ≡ word → w ≡ one_less slot (word - 1) v) × (x ≢ word → w ≡ v) × Knew slot v x
+
+-- an owner comes beside another, by one addition: where as many were counted as may be, the count is past the bound then
+abbrev pub Adds : ℕ → View → ℕ → View → Type 0
+Adds slot v x w = (counted x ≡ 1) × (0 < alive x) × (alive x < most_owners → w ≡ one_more slot (x + 1) None v)
+    × (most_owners ≤ alive x → w ≡ one_more slot (x + 1) (Some slot) v) × Knew slot v x
+
+-- it is taken back, by one subtraction
+abbrev pub TakesBack : ℕ → View → ℕ → View → Type 0
+TakesBack slot v x w = (w ≡ taken_back slot (x - 1) v) × Knew slot v x
 
 -- the slot is free, in which one item waited
 abbrev pub GivesBack : ℕ → View → ℕ → View → Type 0
@@ -185,6 +223,14 @@ TakesHold slot v x w = (w ≡ held slot v) × Knew slot v x
 -- it no longer is
 abbrev pub LetsGo : ℕ → View → ℕ → View → Type 0
 LetsGo slot v x w = (w ≡ release_hold v) × Knew slot v x
+
+-- a try to hold a slot of the participant's own whose owners are counted: it is held where one was counted, and nothing changes where more were
+abbrev pub TriesHold : ℕ → View → ℕ → View → Type 0
+TriesHold slot v x w = (counted x ≡ 1) × (0 < alive x) × (x ≡ shared_word 1 → w ≡ held_by slot held_word v) × (x ≢ shared_word 1 → w ≡ v) × Knew slot v x
+
+-- it no longer is held, and its word says one owner again
+abbrev pub SharesAgain : ℕ → View → ℕ → View → Type 0
+SharesAgain slot v y w = w ≡ shared_again slot y v
 
 -- its item goes at once
 abbrev pub Discards : ℕ → View → ℕ → View → Type 0

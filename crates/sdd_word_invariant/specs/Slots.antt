@@ -25,9 +25,9 @@ waits_in i x = is i x.slot
 abbrev pub items_at : ℕ → View → ℕ
 items_at i v = total (waits_in i) v.slots.waits
 
--- it has the only owner of the slot i
-abbrev pub OwnsAlone : View → ℕ → Type 0
-OwnsAlone v i = 0 < times i v.slots.owns
+-- it has an owner of the slot i
+abbrev pub Owns : View → ℕ → Type 0
+Owns v i = 0 < times i v.slots.owns
 
 -- a guard of its own sees the slot i
 abbrev pub Sees : View → ℕ → Type 0
@@ -42,13 +42,12 @@ pub record IsTimed (v : EpochView) (x : WaitingItem) : Type 0 where
   pub known : x.retired_at ≤ v.known
   pub found : 0 < x.changes → x.retired_at + x.changes ≤ v.found + 1
 
--- what is true of one participant and the words
+-- what is true of one participant and the words: who holds a slot has an owner of it, which isn't counted, so that it is the only one
 pub record Tallies (z : WordReading) (sizes : Sizes) (ws : List ℕ) (v : View) : Type 0 where
   pub timed : (k : ℕ) (x : WaitingItem) → get_elem? v.slots.waits k ≡ some x → IsTimed v.epoch x
   pub guarded : (i : ℕ) → Sees v i → IsOpen v.epoch
   pub full : (i : ℕ) → Sees v i → z.full (slot_at sizes ws i) ≡ 1
-  pub alone : (i : ℕ) → OwnsAlone v i → (z.alive (slot_at sizes ws i) ≡ 1) × (z.counted (slot_at sizes ws i) ≡ 0)
-  pub held : (i : ℕ) → Holds v i → OwnsAlone v i
+  pub held : (i : ℕ) → Holds v i → Owns v i × (z.counted (slot_at sizes ws i) ≡ 0)
 
 -- what is true of any two participants, and of one with itself: a guard that sees an item's slot has published at most at the item's
 -- retirement; and who holds a slot has not looked past a place whose guard sees it

@@ -11,7 +11,8 @@ use sdd_participants::{CellContents, Idle, Job, RawCellContents};
 use sdd_rights::{RawRight, Right, SharedRights, StandingKind};
 use sdd_space::{
     Caller, Cells, Collectors, Deferrals, Guard, Guards, InPlaceItems, Item, Items, Look,
-    LookThrough, Ptr, RawCells, RawItems, RawPtr, Several, SharedItems, Shows, Space, inner,
+    LookThrough, Ptr, RawCells, RawItems, RawPtr, Several, SharedItems, SharedOwners, Shows, Space,
+    inner,
 };
 
 /// One participant's turn at a world: the space in which it makes its calls.
@@ -287,12 +288,14 @@ impl<T: Item<T>, J: Job> Several<T> for Turn<'_, T, J> {
     }
 }
 
-impl<T: Item<T>, J: Job> SharedItems<T> for Turn<'_, T, J> {
+impl<T: Item<T>, J: Job> SharedOwners<T> for Turn<'_, T, J> {
     fn clone_owner(&mut self, right: &Right) -> Result<Right, Refused> {
         let world = &mut *self.world;
         world.core.clone_owner(right)
     }
+}
 
+impl<T: Item<T>, J: Job> SharedItems<T> for Turn<'_, T, J> {
     fn get_shared(&mut self, slot: u32) -> Result<Option<Right>, Refused> {
         let world = &mut *self.world;
         world.core.get_shared(slot)

@@ -3,14 +3,14 @@ ghost use Rattle.std.specs.Prelude.{◌≡◌, ◌<◌, Bool, List, [], ◌∷�
 ghost use base.Stored.{Gv};
 ghost use Rattle.sdd_word_invariant.specs.Codes.{owned_word, raw_word};
 ghost use Rattle.sdd_word_invariant.specs.Epoch.{HasPlace, IsOpen};
-ghost use Rattle.sdd_word_invariant.specs.Slots.{OwnsAlone, Holds};
+ghost use Rattle.sdd_word_invariant.specs.Slots.{Holds};
 ghost use Rattle.sdd_domain_invariant.specs.FilledInvariant.{HasRecord};
-ghost use Rattle.sdd_domain_invariant.specs.RawSteps.{TurnsRawOne, RegainsOne, SeesRawOne, DrawsUnit};
+ghost use Rattle.sdd_domain_invariant.specs.RawSteps.{TurnsRawOne, RegainsOne, SeesRawOne};
 ghost use Rattle.sdd_atomics.specs.DomainTable.{id_of, places_of, slots_of};
 ghost use Rattle.sdd_atomics.specs.DomainSeat.{view, epoch, slots, Moved, MovedAlone, Knows};
 
 use crate::domain_table::{DomainSeat, DomainTable};
-use crate::plays::{DrawUnit, LookForRaw, Regain, TurnRaw};
+use crate::plays::{LookForRaw, Regain, TurnRaw};
 use crate::steps::slots::OWNED;
 use sdd_shared_values::ValueFraction;
 
@@ -68,20 +68,4 @@ pub fn look_for_raw(board: &DomainTable, token: &mut DomainSeat, slot: u32) -> u
         .table
         .shared
         .load::<LookForRaw>(token, board.slot_word(slot))
-}
-
-/// The unit of the only owner of a slot, which has none yet, comes out of the bank. It shows what is known of the slot. No word is touched.
-#[inline]
-pub fn draw_unit(board: &DomainTable, token: &mut DomainSeat, slot: u32) -> ValueFraction
-    requires home { token.old.table_id ≡ id_of board.now }
-    requires knows { Knows board.now token.old }
-    requires inside { slot < slots_of board.now }
-    requires place { HasPlace (epoch token.old) }
-    requires own { OwnsAlone (view token.old) slot × ((slots token.old).drawn ≡ []) }
-    requires rests { (view token.old).stakes.moves ≡ None }
-    ensures { MovedAlone (λ me. DrawsUnit slot me result.lot) token.old token.new }
-{
-    board
-        .bank
-        .draw::<DrawUnit>(&board.table.shared, token, slot as u64)
 }

@@ -1,9 +1,11 @@
 //! What is always true of a participant, and of a lone one's world, as calls that give it out. They do nothing when the program runs.
 ghost use Rattle.std.specs.Prelude.{◌≡◌, ◌↔◌};
 ghost use Rattle.sdd_space.specs.WorldInvariant.{IsWhole};
+ghost use Rattle.sdd_space.specs.Out.{OutLaws};
+ghost use Rattle.sdd_space.specs.Jobs.{RunsJobsOnce};
 ghost use Rattle.sdd_space.specs.ReclaimBound.{FourGuardsReclaim, GoesAtLatest, GoesInTime};
 ghost use Rattle.sdd_space.specs.Ledger.{LedgerLaws};
-ghost use Rattle.sdd_space.specs.AcceleratedGuards.{GuardsPass};
+ghost use Rattle.sdd_space.specs.AcceleratedGuards.{GuardsPass, ItemsPass};
 ghost use Rattle.sdd_space.specs.WorkingGuards.{BusyGuardsCount, WorkingGuardsPass, WorkingGuardsReclaim};
 ghost use Rattle.sdd_space.specs.UnderGuards.{KeepsFreshUnderGuards, KeepsUnderGuards};
 ghost use Rattle.sdd_space.specs.World.{World, AnyGuardOpen, IsPlaceOf};
@@ -28,6 +30,18 @@ impl<T: Item<T>, J: Job> Local<'_, T, J> {
 }
 
 impl<T: Item<T>, J: Job> Local<'_, T, J> {
+    /// What each call puts out of the hands of a world, and what it takes back. So it is in a lone participant's: each call that it makes is one of a world.
+    pub fn counts_what_is_out(&self)
+        ensures { (w : World T) → OutLaws T.holds w }
+    {}
+
+    /// A job that waits is run once, by the opening that finds it due, and its place is free after that.
+    pub fn runs_jobs_once(&self)
+        ensures { IsLone self.now.member → RunsJobsOnce T.holds (world_of self.now) }
+    {
+        self.is_whole();
+    }
+
     /// After how many openings an item that waits is reclaimed at latest.
     pub fn reclaims_in_time(&self)
         ensures latest { IsLone self.now.member → GoesAtLatest T.holds (world_of self.now) }
@@ -39,6 +53,11 @@ impl<T: Item<T>, J: Job> Local<'_, T, J> {
     /// An accelerated guard leaves none open, and no more out than was, where no guard is open.
     pub fn accelerated_guards_pass(&self)
         ensures { GuardsPass T.holds (world_of self.now) }
+    {}
+
+    /// An item that is made and retired at once opens no guard, and leaves as much out as was.
+    pub fn items_pass(&self)
+        ensures { ItemsPass T }
     {}
 
     /// Four accelerated guards, one after another, reclaim all that waits, where no guard is open.

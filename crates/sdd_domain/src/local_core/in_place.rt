@@ -1,5 +1,5 @@
 //! Items in their place: the value of an owner that is alone is changed, or dropped at once.
-ghost use Rattle.std.specs.Prelude.{◌≡◌, IfErr, IfOk, MatchResult, Some, slice_set};
+ghost use Rattle.std.specs.Prelude.{◌≡◌, ◌⊎◌, true, MatchOption, MatchResult, Some, slice_set};
 ghost use Rattle.std.specs.Fn.{FnOnceReturnsAtMut};
 ghost use base.Stored.{Gv};
 ghost use Rattle.sdd_rights.specs.StandingKind.{is_shared};
@@ -7,28 +7,30 @@ ghost use Rattle.sdd_rights.specs.Right.{number_of, home_of, kind_of};
 ghost use Rattle.sdd_space.specs.OwnerOrCell.{AreOf};
 ghost use Rattle.sdd_shared_values.specs.SharedValues.{showing};
 ghost use Rattle.sdd_domain.specs.SpaceIds.{home_in};
-ghost use Rattle.sdd_domain.specs.LocalState.{HasOpenGuard, IsLone, KnowsOwner, ChangesAt, DropsAt};
+ghost use Rattle.sdd_domain.specs.LocalState.{IsLone, KnowsOwner, ChangesAt, DropsAt, GoesBeside, HasOthers, SeesGuard};
 ghost use Rattle.sdd_domain.specs.Items.{slots_home, HasValue, IsRightTo};
 
-use crate::holding::{change_alone, drop_alone, hold_alone};
+use crate::holding::{change_alone, go_in_place, hold_alone};
 use crate::local_core::LocalCore;
 use crate::local_core::items::is_one_of_several;
 use sdd_atomics::steps::slots::recall;
+use sdd_core::Refused;
 use sdd_participants::Job;
 use sdd_rights::{Right, StandingKind};
 use sdd_shared_values::GhostValues;
 use sdd_space::Item;
 
 impl<'d, T: Item<T>, J: Job> LocalCore<'d, T, J> {
-    /// Changes the value of an owner's item in its place, and enters it in the ledger. Where a guard is open at some place, the own one too, `f` comes back
-    /// uncalled. No memory is taken.
+    /// Changes the value of an owner's item in its place, and enters it in the ledger. No memory is taken.
+    ///
+    /// `f` comes back uncalled: `NotAlone` where others own the item, and else `GuardOpen` where a guard is open at some place, the own one too.
     pub(crate) fn get_mut<R, F: FnOnce(&mut T) -> R>(
         &mut self,
         right: &mut Right,
         kind: StandingKind,
         f: F,
         ledger: &mut GhostValues<T>,
-    ) -> Result<R, F>
+    ) -> Result<R, (F, Refused)>
         requires home { home_of right.old ≡ slots_home self.old }
         requires kind { kind_of right.old ≡ kind }
         requires callable { F.IsAlwaysCallable f }
@@ -39,19 +41,20 @@ impl<'d, T: Item<T>, J: Job> LocalCore<'d, T, J> {
             × ChangesAt (number_of right.old) (is_shared kind) (showing T.row now) self.old self.new
             × IsRightTo self.old kind (showing T.row now) right.new × AreOf (home_in self.old) (T.holds now)
             × (ledger.new.entries ≡ slice_set ledger.old.entries (number_of right.old) (Some (now, showing T.row now))))
-            (λ back. (back ≡ f) × (right.new ≡ right.old) × (self.new ≡ self.old) × (ledger.new.entries ≡ ledger.old.entries)
-            × (IsLone self.old → HasOpenGuard self.old)) }
+            (λ e. (e.0 ≡ f) × (right.new ≡ right.old) × (ledger.new.entries ≡ ledger.old.entries)
+            × (((e.1 ≡ Refused.NotAlone) × HasOthers (number_of right.old) (is_shared kind) self.old self.new)
+            ⊎ ((e.1 ≡ Refused.GuardOpen) × SeesGuard (number_of right.old) (is_shared kind) self.old self.new))) }
         ensures slot { number_of right.new ≡ number_of right.old }
         ensures recalled { IsLone self.old → (value : Gv) × HasValue value right.old × KnowsOwner self.old (number_of right.old) (is_shared kind) value }
     {
         let slot = right.number();
         let slots = self.domain.limits.slots as usize;
         let board = &self.domain.board;
+        let shared = is_one_of_several(kind);
         let (owner, grip) = right.take().into_owner();
         recall(board, &mut self.token, &owner);
-        match hold_alone(board, &mut self.token, slot, owner) {
+        match hold_alone(board, &mut self.token, slot, shared, owner) {
             Ok(()) => {
-                let shared = is_one_of_several(kind);
                 let shelf = &self.domain.shelf;
                 let (owner, grip, answer) = change_alone(
                     board,
@@ -66,37 +69,61 @@ impl<'d, T: Item<T>, J: Job> LocalCore<'d, T, J> {
                 right.put(Right::of_witness(slot, slots, kind, owner, grip));
                 Ok(answer)
             }
-            Err(owner) => {
+            Err((owner, hindrance)) => {
                 right.put(Right::of_witness(slot, slots, kind, owner, grip));
-                Err(f)
+                Err((f, hindrance.refused()))
             }
         }
     }
 
-    /// Drops the item of an owner in its place: its value comes out, and its slot is free at once. Where a guard is open at some place, the own one too, the
-    /// owner comes back.
-    pub(crate) fn drop_in_place(&mut self, right: Right, kind: StandingKind) -> Result<T, Right>
+    /// Lets an owner go, whose item is dropped in its place where it is the last: then its value comes out, and its slot is free at once.
+    ///
+    /// The owner comes back: `GuardOpen` where it is the last and a guard is open at some place, the own one too; `Contended` where others came or went
+    /// meanwhile as often as the limits allow.
+    pub(crate) fn drop_in_place(
+        &mut self,
+        right: Right,
+        kind: StandingKind,
+    ) -> Result<Option<T>, (Right, Refused)>
         requires home { home_of right ≡ slots_home self.old }
         requires kind { kind_of right ≡ kind }
-        ensures dropped { MatchResult result
-            (λ value. HasValue (showing T.row value) right × DropsAt (number_of right) self.old self.new)
-            (λ back. (back ≡ right) × (self.new ≡ self.old) × (IsLone self.old → HasOpenGuard self.old)) }
-        ensures home { IfOk result (λ value. AreOf (home_in self.old) (T.holds value)) }
+        ensures gone { MatchResult result
+            (λ gone. MatchOption gone
+            (GoesBeside (number_of right) (is_shared kind) self.old self.new)
+            (λ value. HasValue (showing T.row value) right × DropsAt (number_of right) (is_shared kind) self.old self.new
+            × AreOf (home_in self.old) (T.holds value)))
+            (λ e. (e.0 ≡ right) × (((e.1 ≡ Refused.GuardOpen) × SeesGuard (number_of right) (is_shared kind) self.old self.new)
+            ⊎ ((e.1 ≡ Refused.Contended) × (self.new ≡ self.old) × (is_shared kind ≡ true) × ¬ (IsLone self.old)))) }
         ensures recalled { IsLone self.old → (value : Gv) × HasValue value right × KnowsOwner self.old (number_of right) (is_shared kind) value }
     {
         let slot = right.number();
         let slots = self.domain.limits.slots as usize;
+        let tries = self.domain.limits.tries;
         let board = &self.domain.board;
+        let shared = is_one_of_several(kind);
         let (owner, grip) = right.into_owner();
         recall(board, &mut self.token, &owner);
-        match hold_alone(board, &mut self.token, slot, owner) {
-            Ok(()) => {
-                let value = drop_alone(board, &self.domain.shelf, &mut self.token, slot, grip);
-                self.known.remember(slot);
-                self.tally.count_in_place();
-                Ok(value)
+        match go_in_place(
+            board,
+            &self.domain.shelf,
+            &mut self.token,
+            slot,
+            shared,
+            owner,
+            grip,
+            tries,
+        ) {
+            Ok(gone) => match gone {
+                Some(value) => {
+                    self.known.remember(slot);
+                    self.tally.count_in_place();
+                    Ok(Some(value))
+                }
+                None => Ok(None),
+            },
+            Err((owner, grip, refused)) => {
+                Err((Right::of_witness(slot, slots, kind, owner, grip), refused))
             }
-            Err(owner) => Err(Right::of_witness(slot, slots, kind, owner, grip)),
         }
     }
 }

@@ -1,5 +1,5 @@
 //! Items in slots: a participant makes one, looks at it beside its owner, and lets it go.
-ghost use Rattle.std.specs.Prelude.{◌≡◌, ◌<◌, ◌⊎◌, ℕ, IsTrue, MatchResult, Some, slice_set};
+ghost use Rattle.std.specs.Prelude.{◌≡◌, ◌<◌, ◌⊎◌, ℕ, true, IsTrue, MatchResult, Some, slice_set};
 ghost use base.Stored.{Gv};
 ghost use Rattle.sdd_rights.specs.StandingKind.{IsOwner, is_shared};
 ghost use Rattle.sdd_rights.specs.Right.{number_of, home_of, kind_of};
@@ -7,14 +7,17 @@ ghost use Rattle.sdd_space.specs.Guard.{reader_of};
 ghost use Rattle.sdd_space.specs.OwnerOrCell.{AreOf};
 ghost use Rattle.sdd_domain.specs.SpaceIds.{home_in};
 ghost use Rattle.sdd_shared_values.specs.SharedValues.{showing};
-ghost use Rattle.sdd_domain.specs.LocalState.{IsFree, IsLone, IsUsedUp, KnowsOwner, MakesAt, LooksAt, RetiresAt};
-ghost use Rattle.sdd_domain.specs.Items.{slots_home, HasValue, IsRightTo};
+ghost use Rattle.sdd_word_invariant.specs.Codes.{claimed_word};
+ghost use Rattle.sdd_domain.specs.LocalState.{IsFree, IsLone, IsUsedUp, KnowsOwner, MakesAt, LooksAt, OwnerGoes, AddsAt, HasMost};
+ghost use Rattle.sdd_domain.specs.Items.{slots_home, HasValue, IsRightTo, IsSameOwner};
 ghost use Rattle.sdd_domain.specs.SeenSlots.{IsOnce};
 
 use crate::claims::{claim_free, finds_free};
 use crate::local_core::LocalCore;
-use crate::values::{let_wait, put_value};
-use sdd_atomics::steps::slots::{recall, take_in, watch};
+use crate::values::{let_one_go, put_value};
+use sdd_atomics::steps::slots::{
+    MOST_SHARED, OWNED, SHARED_BY_ONE, add_owner, cut, draw_unit, recall, take_in, watch,
+};
 use sdd_core::Refused;
 use sdd_participants::{Job, LimboEntry};
 use sdd_rights::{Right, StandingKind};
@@ -32,6 +35,14 @@ pub(super) fn is_one_of_several(kind: StandingKind) -> bool
         StandingKind::Free | StandingKind::Owned | StandingKind::Raw | StandingKind::Retired =>
             false,
     }
+}
+
+/// The word by which a slot is claimed for the first owner of an item.
+#[inline]
+fn first_word(shared: bool) -> u64
+    ensures { result ≡ claimed_word shared }
+{
+    if shared { SHARED_BY_ONE } else { OWNED }
 }
 
 impl<'d, T: Item<T>, J: Job> LocalCore<'d, T, J> {
@@ -59,10 +70,18 @@ impl<'d, T: Item<T>, J: Job> LocalCore<'d, T, J> {
         let slots = self.domain.limits.slots;
         let tries = self.domain.limits.tries;
         let board = &self.domain.board;
-        match claim_free(board, &mut self.token, &mut self.known, slots as u32, tries) {
+        let shared = is_one_of_several(kind);
+        let word = first_word(shared);
+        match claim_free(
+            board,
+            &mut self.token,
+            &mut self.known,
+            slots as u32,
+            word,
+            tries,
+        ) {
             Ok(slot) => {
                 ledger.fill(slot as usize, &value);
-                let shared = is_one_of_several(kind);
                 let (owner, grip) = put_value(
                     board,
                     &self.domain.shelf,
@@ -99,11 +118,19 @@ impl<'d, T: Item<T>, J: Job> LocalCore<'d, T, J> {
         let slots = self.domain.limits.slots;
         let tries = self.domain.limits.tries;
         let board = &self.domain.board;
-        match claim_free(board, &mut self.token, &mut self.known, slots as u32, tries) {
+        let shared = is_one_of_several(kind);
+        let word = first_word(shared);
+        match claim_free(
+            board,
+            &mut self.token,
+            &mut self.known,
+            slots as u32,
+            word,
+            tries,
+        ) {
             Ok(slot) => {
                 let value = make();
                 ledger.fill(slot as usize, &value);
-                let shared = is_one_of_several(kind);
                 let (owner, grip) = put_value(
                     board,
                     &self.domain.shelf,
@@ -164,11 +191,38 @@ impl<'d, T: Item<T>, J: Job> LocalCore<'d, T, J> {
         recall(&self.domain.board, &mut self.token, right.witness());
     }
 
-    /// Retires an owner's item: it waits until three changes were seen. No memory is taken.
+    /// One owner more of the item of an owner that may have others, by one addition. No memory is taken.
+    ///
+    /// `TooManyOwners` where as many own it as may.
     #[inline]
-    pub(crate) fn release(&mut self, right: Right)
-        requires { home_of right ≡ slots_home self.old }
-        ensures retired { (count : ℕ) × RetiresAt (number_of right) count self.old self.new }
+    pub(crate) fn clone_owner(&mut self, right: &Right) -> Result<Right, Refused>
+        requires home { home_of right.now ≡ slots_home self.old }
+        requires kind { kind_of right.now ≡ StandingKind.Shared }
+        ensures came { (word : ℕ) × MatchResult result
+            (λ other. AddsAt (number_of right.now) word self.old self.new × IsSameOwner right.now other)
+            (λ e. (e ≡ Refused.TooManyOwners) × HasMost (number_of right.now) word self.old self.new) }
+        ensures recalled { IsLone self.old → (value : Gv) × KnowsOwner self.old (number_of right.now) true value }
+    {
+        let slot = right.number();
+        let slots = self.domain.limits.slots as usize;
+        let board = &self.domain.board;
+        let owner = right.witness();
+        recall(board, &mut self.token, owner);
+        if add_owner(board, &mut self.token, slot, owner) >= MOST_SHARED {
+            return Err(Refused::TooManyOwners);
+        }
+        let grip = draw_unit(board, &mut self.token, slot).into_grip();
+        let other = cut(board, &mut self.token);
+        Ok(Right::of_witness(slot, slots, StandingKind::Shared, other, grip))
+    }
+
+    /// Lets an owner of this kind go, and answers whether it was the last. The last one's item waits until three changes were seen. No memory is taken.
+    #[inline]
+    pub(crate) fn release(&mut self, right: Right, kind: StandingKind) -> bool
+        requires home { home_of right ≡ slots_home self.old }
+        requires kind { kind_of right ≡ kind }
+        ensures went { OwnerGoes (number_of right) (is_shared (kind_of right)) result self.old self.new }
+        ensures sole { kind_of right ≡ StandingKind.Owned → IsTrue result }
         ensures recalled { IsLone self.old → (value : Gv) × KnowsOwner self.old (number_of right) (is_shared (kind_of right)) value }
     {
         let slot = right.number();
@@ -176,8 +230,12 @@ impl<'d, T: Item<T>, J: Job> LocalCore<'d, T, J> {
         let (owner, grip) = right.into_owner();
         recall(board, &mut self.token, &owner);
         take_in(board, &mut self.token, owner);
-        let_wait(board, &mut self.token, slot, grip);
+        let shared = is_one_of_several(kind);
+        if !let_one_go(board, &mut self.token, slot, grip, shared) {
+            return false;
+        }
         self.own.bags.push(LimboEntry::Item(slot));
         self.own.set_has_garbage();
+        true
     }
 }

@@ -5,7 +5,7 @@ use Rattle.sdd_domain.proofs.claims.attempt.Goals as goal
 
 pub returns-then-claim-eq-FREE-clause-tried : goal.returns-then-claim-eq-FREE-clause-tried
 returns-then-claim-eq-FREE-clause-tried c = (
-  (λ _. gains c.args.slot c.args.token.now c.look.new.token c.claim.new.token c.look.result c.claim.result c.look.ensures c.claim.ensures
+  (λ _. gains c.args.word c.args.slot c.args.token.now c.look.new.token c.claim.new.token c.look.result c.claim.result c.look.ensures c.claim.ensures
       c.if-claim-eq-FREE.true
       (let e = ap (λ (z : Sizes). z.slots) c.requires.knows.0 in let h = c.requires.inside in omega arith)),
   (λ e. absurd (true≢false e)),

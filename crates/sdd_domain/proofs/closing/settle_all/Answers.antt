@@ -42,9 +42,11 @@ returns-clause-settled g c =
     let end = c.len-index-end.ensures in let test = c.loop-index-test.false in
     let all = ends _ _ c.pop.new.self.items c.loop-index.receipts.items was.going (omega arith) in
     let one = subst (λ (r : Receipt). IsSettled (c.loop-index.left - c.settle-2.new.left) r c.settle-2.result) was.held c.settle-2.ensures.settled in
-    let both = one_settled _ (c.loop-index.left - c.settle-2.new.left) c.pop.new.self.items c.loop-index.receipts.items c.in-Some.held c.settle-2.result all one in
+    let both = one_settled _ (c.loop-index.left - c.settle-2.new.left) c.pop.new.self.items c.loop-index.receipts.items c.in-Some.held c.settle-2.result all
+    one in
     let left : ℕ = c.args.left.now - c.settle-2.new.left in
     let sum : c.args.left.now - c.loop-index.left + (c.loop-index.left - c.settle-2.new.left) ≡ left = omega arith in
-    let settled = subst (λ (n : ℕ). AreSettled n (c.pop.new.self.items ++ c.in-Some.held ∷ []) (c.loop-index.receipts.items ++ c.settle-2.result ∷ [])) sum both in
+    let settled = subst (λ (n : ℕ). AreSettled n (c.pop.new.self.items ++ c.in-Some.held ∷ []) (c.loop-index.receipts.items ++ c.settle-2.result ∷ [])) sum
+    both in
     subst (λ (xs : List Receipt). AreSettled left xs c.push_reserved.new.self.items) (sym c.in-Some.ensures.items)
     (subst (λ (ys : List Receipt). AreSettled left (c.pop.new.self.items ++ c.in-Some.held ∷ []) ys) (sym c.push_reserved.ensures.items) settled)

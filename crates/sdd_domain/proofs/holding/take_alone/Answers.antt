@@ -49,3 +49,6 @@ returns-clause-value g c = let b = c.args.board.now in let t = c.enter_unit.new.
     (ap (λ (k : ℕ). k + 1) c.places-count.ensures) out.value (showing g.row.T c.take.result) c.args.shelf.now.book value.0
     t.me.1 c.join_rest.new.token.me.1 row value.1 in
     subst (λ (k : List ShownValue × Gv). IsIn k.0 c.args.slot k.1) (λ d. (ap (λ (v : View). v.stakes.owns) entered.0 d, sym same d)) out.told
+
+pub enter_unit-requires-clause-told : goal.enter_unit-requires-clause-told
+enter_unit-requires-clause-told g c = subst (IsIn c.args.token.now.me.0.stakes.owns c.args.slot) (sym c.unit_of-unit.ensures.shown) c.requires.shows

@@ -13,7 +13,8 @@ returns-clause-scanned c =
     let v : EpochView = c.args.token.now.me.0.epoch in
     let a : EpochView = c.read.new.token.me.0.epoch in
     let reads : Reads v v.count a = subst (λ (r : ℕ). Reads v r a) (c.if-read-count.false ∙ c.requires.count) c.read.ensures.1 in
-    let locks : Locks a 0 c.try_lock.new.token.me.0.epoch = subst (λ (r : ℕ). Locks a r c.try_lock.new.token.me.0.epoch) c.if-try_lock-ne0.false c.try_lock.ensures.1 in
+    let locks : Locks a 0 c.try_lock.new.token.me.0.epoch = subst (λ (r : ℕ). Locks a r c.try_lock.new.token.me.0.epoch) c.if-try_lock-ne0.false
+    c.try_lock.ensures.1 in
     elim c.if-all_pass.branch [
       | then-all_pass w ↦ passed v a _ _ w.raise.new.token.me.0.epoch _ _ reads locks c.all_pass.ensures.looked.1 w.raise.ensures.raised
           (c.unlock.ensures.1 ∙ ap (λ (z : Seat ValueFraction View). unlocked z.me.0.epoch) w.token-is) (omega (arith, c.requires.count, c.ranges.count.fits))

@@ -12,7 +12,8 @@ use Rattle.sdd_domain.proofs.shut.shut.Goals as goal
 
 pub settle-requires-clause-lent : goal.settle-requires-clause-lent
 settle-requires-clause-lent c = may_settle c.args.tenure.now.round c.end_round-ended.result.name c.args.token.now.me.1
-    (c.end_round-ended.ensures.ended ∙ (ap (λ (t : Fraction SectionState). t.round) c.set.ensures ∙ ap (λ (t : Fraction SectionState). t.round) c.join.ensures.joined))
+    (c.end_round-ended.ensures.ended ∙ (ap (λ (t : Fraction SectionState). t.round) c.set.ensures ∙ ap (λ (t : Fraction SectionState). t.round)
+    c.join.ensures.joined))
     c.requires.lent
 
 pub close-requires-clause-purse : goal.close-requires-clause-purse

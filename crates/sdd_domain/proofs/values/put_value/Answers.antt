@@ -1,145 +1,50 @@
-use Rattle.std.proofs.Common.{ℕ, ◌+◌, ◌-◌, List, [], ◌∷◌, ap, sym, refl, ◌∙◌, subst, arith}
-use Rattle.atomic_table.specs.Seated.{TableId}
-use Rattle.sdd_space.specs.OwnerOrCell.{AreOf}
-use Rattle.sdd_domain.specs.SpaceIds.{home_of_slots}
-use base.Stored.{Gv}
-use Rattle.sdd_shared_values.specs.SharedValues.{IsNoValueCode, lot, showing}
+use Rattle.std.proofs.Common.{ℕ, List, [], ◌∷◌, refl, ap, sym, ◌∙◌, subst, arith, ◌<◌}
+use Rattle.sdd_shared_values.specs.SharedValues.{showing}
 use Rattle.sdd_views.specs.declared.View.{View}
 use Rattle.sdd_views.specs.contracts.View.{the_row}
 use Rattle.sdd_word_invariant.specs.Sums.{times}
 use Rattle.sdd_word_invariant.proofs.Sums.{is_same}
-use Rattle.sdd_domain_invariant.specs.FractionsAtHome.{spare}
 use Rattle.sdd_domain_invariant.specs.FractionSteps.{parting, departing}
-use Rattle.sdd_atomics.specs.DomainTable.{book_of, places_of}
-use Rattle.sdd_domain.proofs.Moving.{may_move}
-use Rattle.sdd_domain.proofs.Owners.{row_put, view_cut, moves_cut, furnished, parted_view, departed_view}
+use Rattle.sdd_domain.proofs.Owners.{parted_view, departed_view}
 use Rattle.sdd_domain.proofs.values.put_value.Goals as goal
 
-pub put-requires-clause-whole : goal.put-requires-clause-whole
-put-requires-clause-whole g c = let b = c.args.board.now in let sized = b.sized.0 in let few = sized.participants in let r = c.requires in
-    may_move (book_of b) c.args.slot (places_of b) (c.places-count.result + 1) (ap (λ (k : ℕ). k + 1) c.places-count.ensures) IsNoValueCode
-    c.args.shelf.now.book r.shelf.book (omega arith) r.row.0 c.args.token.now.me.1 r.row.1
-
-pub put-requires-clause-fits : goal.put-requires-clause-fits
-put-requires-clause-fits g c = let s = c.requires.shelf in subst (λ (t : TableId × ℕ × ℕ). AreOf (home_of_slots t.0 t.1 t.2) (g.T.Item.holds c.args.value))
-    (λ d. (sym s.table d, sym s.book d, sym s.size d)) c.requires.fits
-
-pub cut_rest-grip-requires-clause-row : goal.cut_rest-grip-requires-clause-row
-cut_rest-grip-requires-clause-row g c = let b = c.args.board.now in let r = c.requires in let put = c.put.ensures.seat in (
-  showing g.row.T c.args.value,
-  r.row.0,
-  row_put b c.args.slot (c.places-count.result + 1) c.args.shared (showing g.row.T c.args.value) c.args.token.now c.put.new.seat c.put.new.seat c.put.new.seat
-      r.knows (ap (λ (k : ℕ). k + 1) c.places-count.ensures) r.own.0 r.row.0 r.row.1 put.0 tt put.1,
-)
-
-pub house-requires-clause-row : goal.house-requires-clause-row
-house-requires-clause-row g c = let b = c.args.board.now in let r = c.requires in let put = c.put.ensures.seat in let slot : ℕ = c.args.slot in
-    let value : Gv = showing g.row.T c.args.value in let one = is_same slot slot refl in let all = ap (λ (k : ℕ). k + 1) c.places-count.ensures in
-    let cut = c.cut_rest-grip in
-    let row = row_put b slot (c.places-count.result + 1) c.args.shared value c.args.token.now c.put.new.seat c.put.new.seat c.put.new.seat r.knows
-    all r.own.0 r.row.0 r.row.1 put.0 tt put.1 in
-    let same = view_cut b slot (c.places-count.result + 1) c.args.shared value c.args.token.now c.put.new.seat cut.new.token cut.new.token r.knows all r.own.0
-    r.row.0 r.row.1 put.0 tt put.1 cut.ensures.token in (
-      slot,
-      value,
-      r.inside,
-      moves_cut b slot (c.places-count.result + 1) c.args.shared value c.args.token.now c.put.new.seat cut.new.token cut.new.token r.knows all r.own.0 r.row.0 r.row.1
-          put.0 tt put.1 cut.ensures.token,
-      (let e = ap (λ (v : View). times slot v.slots.owns) same in let e' = ap (times slot) r.own.1 in omega arith),
-      (r.row.0, (cut.ensures.row value r.row.0 row).0),
-      cut.ensures.rest ∙ ap (λ (g : Gv). lot (book_of b) slot cut.result.1.lot.round g (spare (places_of b) - 1)) (cut.ensures.row value r.row.0 row).2,
-    )
-
-pub cut-requires-clause-one : goal.cut-requires-clause-one
-cut-requires-clause-one g c = let b = c.args.board.now in let r = c.requires in let put = c.put.ensures.seat in
-    let f = furnished b c.args.slot (c.places-count.result + 1) c.args.shared (showing g.row.T c.args.value) c.args.token.now c.put.new.seat
-    c.cut_rest-grip.new.token c.house.new.token r.knows (ap (λ (k : ℕ). k + 1) c.places-count.ensures) r.own.0 r.row.0 r.row.1 put.0 tt put.1
-    c.cut_rest-grip.ensures.token (c.cut_rest-grip.ensures.row (showing g.row.T c.args.value) r.row.0
-    (row_put b c.args.slot (c.places-count.result + 1) c.args.shared
-    (showing g.row.T c.args.value) c.args.token.now c.put.new.seat c.put.new.seat c.put.new.seat
-    r.knows (ap (λ (k : ℕ). k + 1) c.places-count.ensures) r.own.0 r.row.0 r.row.1 put.0 tt put.1)).0 c.house.ensures in (
-      c.args.slot,
-      ap (λ (v : View). v.slots.owns) f.view ∙ r.own.1,
-      ap (λ (v : View). v.slots.drawn) f.view ∙ ap (λ (l : List ℕ). c.args.slot ∷ l) r.free.1,
-    )
+pub move_in-grip-requires-clause-own : goal.move_in-grip-requires-clause-own
+move_in-grip-requires-clause-own g c = let r = c.requires in
+    (r.own.0, (let e = ap (times c.args.slot) r.own.1 in let one = is_same c.args.slot c.args.slot refl in omega arith))
 
 pub cut-requires-clause-home : goal.cut-requires-clause-home
-cut-requires-clause-home g c = let b = c.args.board.now in let r = c.requires in let put = c.put.ensures.seat in
-    let f = furnished b c.args.slot (c.places-count.result + 1) c.args.shared (showing g.row.T c.args.value) c.args.token.now c.put.new.seat
-    c.cut_rest-grip.new.token c.house.new.token r.knows (ap (λ (k : ℕ). k + 1) c.places-count.ensures) r.own.0 r.row.0 r.row.1 put.0 tt put.1
-    c.cut_rest-grip.ensures.token (c.cut_rest-grip.ensures.row (showing g.row.T c.args.value) r.row.0
-    (row_put b c.args.slot (c.places-count.result + 1) c.args.shared
-    (showing g.row.T c.args.value) c.args.token.now c.put.new.seat c.put.new.seat c.put.new.seat
-    r.knows (ap (λ (k : ℕ). k + 1) c.places-count.ensures) r.own.0 r.row.0 r.row.1 put.0 tt put.1)).0 c.house.ensures in
-    f.table ∙ r.home
+cut-requires-clause-home g c = c.move_in-grip.ensures.home.0 ∙ c.requires.home
+
+pub cut-requires-clause-knows : goal.cut-requires-clause-knows
+cut-requires-clause-knows g c = let f = c.move_in-grip.ensures in let r = c.requires in
+    (ap (λ (v : View). v.sizes) f.view ∙ r.knows.0, ap (λ (v : View). v.stakes.book) f.view ∙ r.knows.1)
+
+pub cut-requires-clause-place : goal.cut-requires-clause-place
+cut-requires-clause-place g c = subst (λ (k : ℕ). 0 < k) (sym (ap (λ (v : View). v.epoch.state) c.move_in-grip.ensures.view)) c.requires.place
+
+pub cut-requires-clause-one : goal.cut-requires-clause-one
+cut-requires-clause-one g c = let f = c.move_in-grip.ensures in let r = c.requires in (
+  c.args.slot,
+  ap (λ (v : View). v.slots.owns) f.view ∙ r.own.1,
+  ap (λ (v : View). v.slots.drawn) f.view ∙ ap (λ (l : List ℕ). c.args.slot ∷ l) r.free.1,
+)
 
 pub cut-requires-clause-free : goal.cut-requires-clause-free
-cut-requires-clause-free g c = let b = c.args.board.now in let r = c.requires in let put = c.put.ensures.seat in
-    let f = furnished b c.args.slot (c.places-count.result + 1) c.args.shared (showing g.row.T c.args.value) c.args.token.now c.put.new.seat
-    c.cut_rest-grip.new.token c.house.new.token r.knows (ap (λ (k : ℕ). k + 1) c.places-count.ensures) r.own.0 r.row.0 r.row.1 put.0 tt put.1
-    c.cut_rest-grip.ensures.token (c.cut_rest-grip.ensures.row (showing g.row.T c.args.value) r.row.0
-    (row_put b c.args.slot (c.places-count.result + 1) c.args.shared
-    (showing g.row.T c.args.value) c.args.token.now c.put.new.seat c.put.new.seat c.put.new.seat
-    r.knows (ap (λ (k : ℕ). k + 1) c.places-count.ensures) r.own.0 r.row.0 r.row.1 put.0 tt put.1)).0 c.house.ensures in
-    ap (λ (v : View). v.slots.holds) f.view ∙ r.free.0
+cut-requires-clause-free g c = ap (λ (v : View). v.slots.holds) c.move_in-grip.ensures.view ∙ c.requires.free.0
 
 pub cut-requires-clause-rests : goal.cut-requires-clause-rests
-cut-requires-clause-rests g c = let b = c.args.board.now in let r = c.requires in let put = c.put.ensures.seat in
-    let f = furnished b c.args.slot (c.places-count.result + 1) c.args.shared (showing g.row.T c.args.value) c.args.token.now c.put.new.seat
-    c.cut_rest-grip.new.token c.house.new.token r.knows (ap (λ (k : ℕ). k + 1) c.places-count.ensures) r.own.0 r.row.0 r.row.1 put.0 tt put.1
-    c.cut_rest-grip.ensures.token (c.cut_rest-grip.ensures.row (showing g.row.T c.args.value) r.row.0
-    (row_put b c.args.slot (c.places-count.result + 1) c.args.shared
-    (showing g.row.T c.args.value) c.args.token.now c.put.new.seat c.put.new.seat c.put.new.seat
-    r.knows (ap (λ (k : ℕ). k + 1) c.places-count.ensures) r.own.0 r.row.0 r.row.1 put.0 tt put.1)).0 c.house.ensures in
-    ap (λ (v : View). v.stakes.moves) f.view
+cut-requires-clause-rests g c = ap (λ (v : View). v.stakes.moves) c.move_in-grip.ensures.view
 
-pub returns-clause-home : goal.returns-clause-home
-returns-clause-home g c = let b = c.args.board.now in let r = c.requires in let put = c.put.ensures.seat in
-    let f = furnished b c.args.slot (c.places-count.result + 1) c.args.shared (showing g.row.T c.args.value) c.args.token.now c.put.new.seat
-    c.cut_rest-grip.new.token c.house.new.token r.knows (ap (λ (k : ℕ). k + 1) c.places-count.ensures) r.own.0 r.row.0 r.row.1 put.0 tt put.1
-    c.cut_rest-grip.ensures.token (c.cut_rest-grip.ensures.row (showing g.row.T c.args.value) r.row.0
-    (row_put b c.args.slot (c.places-count.result + 1) c.args.shared
-    (showing g.row.T c.args.value) c.args.token.now c.put.new.seat c.put.new.seat c.put.new.seat
-    r.knows (ap (λ (k : ℕ). k + 1) c.places-count.ensures) r.own.0 r.row.0 r.row.1 put.0 tt put.1)).0 c.house.ensures in
-    (c.cut.ensures.participant.0 ∙ f.table, c.cut.ensures.participant.1 ∙ f.number)
-
-pub returns-clause-view : goal.returns-clause-view
-returns-clause-view g c = let b = c.args.board.now in let r = c.requires in let put = c.put.ensures.seat in
-    let f = furnished b c.args.slot (c.places-count.result + 1) c.args.shared (showing g.row.T c.args.value) c.args.token.now c.put.new.seat
-    c.cut_rest-grip.new.token c.house.new.token r.knows (ap (λ (k : ℕ). k + 1) c.places-count.ensures) r.own.0 r.row.0 r.row.1 put.0 tt put.1
-    c.cut_rest-grip.ensures.token (c.cut_rest-grip.ensures.row (showing g.row.T c.args.value) r.row.0
-    (row_put b c.args.slot (c.places-count.result + 1) c.args.shared
-    (showing g.row.T c.args.value) c.args.token.now c.put.new.seat c.put.new.seat c.put.new.seat
-    r.knows (ap (λ (k : ℕ). k + 1) c.places-count.ensures) r.own.0 r.row.0 r.row.1 put.0 tt put.1)).0 c.house.ensures in
-    c.cut.ensures.participant.3 ∙ (ap parting f.view ∙ parted_view c.args.slot c.args.shared
-    (showing g.row.T c.args.value) c.args.token.now.me.0 r.own.1 r.own.2)
-
-pub returns-clause-given : goal.returns-clause-given
-returns-clause-given g c = let b = c.args.board.now in let r = c.requires in let put = c.put.ensures.seat in
-    let f = furnished b c.args.slot (c.places-count.result + 1) c.args.shared (showing g.row.T c.args.value) c.args.token.now c.put.new.seat
-    c.cut_rest-grip.new.token c.house.new.token r.knows (ap (λ (k : ℕ). k + 1) c.places-count.ensures) r.own.0 r.row.0 r.row.1 put.0 tt put.1
-    c.cut_rest-grip.ensures.token (c.cut_rest-grip.ensures.row (showing g.row.T c.args.value) r.row.0
-    (row_put b c.args.slot (c.places-count.result + 1) c.args.shared
-    (showing g.row.T c.args.value) c.args.token.now c.put.new.seat c.put.new.seat c.put.new.seat
-    r.knows (ap (λ (k : ℕ). k + 1) c.places-count.ensures) r.own.0 r.row.0 r.row.1 put.0 tt put.1)).0 c.house.ensures in
-    c.cut.ensures.participant.2 ∙ f.given
-
-pub returns-clause-owner : goal.returns-clause-owner
-returns-clause-owner g c = let b = c.args.board.now in let r = c.requires in let put = c.put.ensures.seat in
-    let f = furnished b c.args.slot (c.places-count.result + 1) c.args.shared (showing g.row.T c.args.value) c.args.token.now c.put.new.seat
-    c.cut_rest-grip.new.token c.house.new.token r.knows (ap (λ (k : ℕ). k + 1) c.places-count.ensures) r.own.0 r.row.0 r.row.1 put.0 tt put.1
-    c.cut_rest-grip.ensures.token (c.cut_rest-grip.ensures.row (showing g.row.T c.args.value) r.row.0
-    (row_put b c.args.slot (c.places-count.result + 1) c.args.shared
-    (showing g.row.T c.args.value) c.args.token.now c.put.new.seat c.put.new.seat c.put.new.seat
-    r.knows (ap (λ (k : ℕ). k + 1) c.places-count.ensures) r.own.0 r.row.0 r.row.1 put.0 tt put.1)).0 c.house.ensures in (
-      c.cut.ensures.owner.0,
-      c.cut.ensures.owner.1 ∙ ap (λ (v : View). the_row.coded.code v ∷ [])
-          (ap departing f.view ∙ departed_view c.args.slot c.args.shared (showing g.row.T c.args.value) c.args.token.now.me.0 r.own.1 r.own.2),
-    )
-
-pub returns-clause-grip : goal.returns-clause-grip
-returns-clause-grip g c = let b = c.args.board.now in let r = c.requires in let put = c.put.ensures.seat in
-    (c.cut_rest-grip.ensures.row (showing g.row.T c.args.value) r.row.0
-    (row_put b c.args.slot (c.places-count.result + 1) c.args.shared
-    (showing g.row.T c.args.value) c.args.token.now c.put.new.seat c.put.new.seat c.put.new.seat
-    r.knows (ap (λ (k : ℕ). k + 1) c.places-count.ensures) r.own.0 r.row.0 r.row.1 put.0 tt put.1)).1
+pub returns : goal.returns
+returns g c = let f = c.move_in-grip.ensures in let r = c.requires in let part = c.cut.ensures.participant in
+    let shown = showing g.row.T c.args.value in record {
+      home = (part.0 ∙ f.home.0, part.1 ∙ f.home.1);
+      view = part.3 ∙ (ap parting f.view ∙ parted_view c.args.slot c.args.shared shown c.args.token.now.me.0 r.own.1 r.own.2);
+      given = part.2 ∙ f.given;
+      owner = (
+        c.cut.ensures.owner.0,
+        c.cut.ensures.owner.1 ∙ ap (λ (v : View). the_row.coded.code v ∷ [])
+            (ap departing f.view ∙ departed_view c.args.slot c.args.shared shown c.args.token.now.me.0 r.own.1 r.own.2),
+      );
+      grip = f.grip;
+    }

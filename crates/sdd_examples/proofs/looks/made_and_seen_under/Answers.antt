@@ -1,4 +1,4 @@
-use Rattle.std.proofs.Common.{◌≡◌, IsTrue, ap, sym, ◌∙◌}
+use Rattle.std.proofs.Common.{IsTrue, ap, sym, ◌∙◌}
 use Rattle.sdd_participants.specs.EpochState.{is_open}
 use Rattle.sdd_space.specs.CallerId.{CallerId}
 use Rattle.sdd_space.specs.Owned.{right_of}

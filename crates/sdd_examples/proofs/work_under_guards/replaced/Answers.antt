@@ -1,9 +1,9 @@
 use Rattle.std.proofs.Common.{sym, ap, ◌∙◌, subst}
 use Rattle.sdd_participants.specs.EpochState.{EpochState, IsLive}
 use Rattle.sdd_space.specs.CallerId.{IsExact}
-use Rattle.sdd_space.specs.Owned.{slot_of, cell_of, cell_with}
-use Rattle.sdd_space.specs.World.{World, IsPlaceOf}
-use Rattle.sdd_space.specs.WorldChanges.{made, with_cell, retired}
+use Rattle.sdd_space.specs.Owned.{slot_of, cell_of}
+use Rattle.sdd_space.specs.World.{IsPlaceOf}
+use Rattle.sdd_space.specs.WorldChanges.{made}
 use Rattle.sdd_space.specs.WorkingGuards.{Works}
 use Rattle.sdd_examples.proofs.work_under_guards.replaced.Goals as goal
 

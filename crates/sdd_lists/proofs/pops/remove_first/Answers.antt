@@ -7,7 +7,7 @@ use Rattle.sdd_space.specs.WorldChanges.{held_in, with_cell}
 use Rattle.sdd_core.specs.declared.tag.Tag.{Tag}
 use Rattle.sdd_core.specs.declared.tag.Tag.TheVariants.{Second}
 use Rattle.sdd_participants.specs.Slab.{entry_at}
-use Rattle.sdd_lists.specs.Lists.{Entry, IsList, first_slot, let_go_first, may_delete, trimmed}
+use Rattle.sdd_lists.specs.Lists.{Entry, IsList, first_slot, let_go_first, may_delete}
 use Rattle.sdd_lists.proofs.Fronts.{tag_in}
 use Rattle.sdd_lists.proofs.Grows.{grows-not}
 use Rattle.sdd_lists.proofs.Popping.{stays-of, deletes, apart-first, deleted, begins-still, is-deleted, rest-list}

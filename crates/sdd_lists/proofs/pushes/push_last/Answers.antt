@@ -11,7 +11,7 @@ use Rattle.sdd_participants.specs.declared.standing.CellContents.{CellContents}
 use Rattle.sdd_participants.specs.declared.standing.Standing.TheVariants.{Shared as shared_by}
 use Rattle.sdd_lists.specs.Ends.{appended, through_last}
 use Rattle.sdd_lists.specs.Lists.{Entry, IsList}
-use Rattle.sdd_lists.specs.Queue.{IsQueue, QueueCells, made_newest}
+use Rattle.sdd_lists.specs.Queue.{QueueCells, made_newest}
 use Rattle.sdd_lists.proofs.Ending.{among-last, apart-last, apart-through, appended-list, appended-other}
 use Rattle.sdd_lists.proofs.Grows.{grows-not}
 use Rattle.sdd_lists.proofs.Leaving.{given-spilled, list-apart, spilled-cells, spilled-values}

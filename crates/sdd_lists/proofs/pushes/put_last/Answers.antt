@@ -1,6 +1,5 @@
-use Rattle.std.proofs.Common.{◌≡◌, ℕ, ◌∙◌, ap, sym, List, Option, None, subst}
+use Rattle.std.proofs.Common.{◌≡◌, ℕ, ◌∙◌, ap, sym, List, subst}
 use Rattle.std.specs.Prelude.{true}
-use Rattle.sdd_space.specs.World.{World}
 use Rattle.sdd_space.specs.Shared.{cell_of, slot_of}
 use Rattle.sdd_lists.specs.Ends.{End, IsLastOf, is_spent, put_at}
 use Rattle.sdd_lists.specs.Lists.{Entry, IsList, first_slot, left, linked_in, trimmed}

@@ -1,11 +1,10 @@
-use Rattle.std.proofs.Common.{◌≡◌, ℕ, ◌∙◌, ap, sym, refl, List, ◌∷◌, length, Some, Bool, true, false, subst, arith}
+use Rattle.std.proofs.Common.{◌≡◌, ℕ, ◌∙◌, ap, sym, refl, Some, subst, arith}
 use Rattle.sdd_space.specs.World.{World}
 use Rattle.sdd_space.specs.CallerId.{IsExact, CallerId}
 use Rattle.sdd_space.specs.Shared.{cell_of}
 use Rattle.sdd_participants.specs.Slab.{entry_at}
 use Rattle.sdd_participants.specs.declared.standing.CellContents.{CellContents}
-use Rattle.sdd_lists.specs.Ends.{EndsWith}
-use Rattle.sdd_lists.specs.Lists.{AreLinked, Entry, IsList, first_slot, is_deleted}
+use Rattle.sdd_lists.specs.Lists.{AreLinked, first_slot}
 use Rattle.sdd_lists.proofs.Ending.{ends-behind, left-ends, linked-ends, shorter, shorter-left, spent-of}
 use Rattle.sdd_lists.proofs.Grows.{knows-on, knows-same}
 use Rattle.sdd_lists.proofs.Popping.{stays-of}

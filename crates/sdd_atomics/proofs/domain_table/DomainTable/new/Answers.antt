@@ -3,6 +3,8 @@ use Rattle.std.proofs.lemmas.List.{length-replicate}
 use Rattle.std.proofs.lemmas.Grind.{common_steps}
 use Rattle.sdd_word_invariant.specs.Words.{all_words}
 use Rattle.sdd_domain_invariant.proofs.Tokens.{begins, founds_bank}
+use Rattle.sdd_domain_invariant.proofs.Cloning.{founds_ledger}
+use Rattle.sdd_domain_invariant.specs.BankInvariant.{founded}
 use Rattle.sdd_domain_invariant.specs.FractionSteps.{SeatState}
 use Rattle.sdd_atomics.specs.declared.domain_table.TableLayout.{TableLayout}
 use Rattle.sdd_atomics.proofs.Zeros.{zeros}
@@ -17,3 +19,7 @@ new-requires c = let plan = c.args.plan.now in let n : ℕ = all_words plan.size
 pub found-bank-requires-clause-cut : goal.found-bank-requires-clause-cut
 found-bank-requires-clause-cut c = let e = c.in-Ok-new.ensures.ok in founds_bank _ _ _ _ (ap (λ (m : SeatState). m.0.stakes.founds) e.4)
     (ap (λ (m : SeatState). m.0.stakes.book) e.4 ∙ sym (ap (λ (p : TableLayout). p.title.book) e.5))
+
+pub found-ledger-requires-clause-cut : goal.found-ledger-requires-clause-cut
+found-ledger-requires-clause-cut c = let e = c.in-Ok-new.ensures.ok in let f = c.found-bank.ensures in
+    founds_ledger _ _ _ _ (ap (λ (m : SeatState). m.0.pledges.founds) f.seat.2 ∙ ap (λ (m : SeatState). (founded m.0).pledges.founds) e.4)

@@ -1,14 +1,14 @@
 use Rattle.std.proofs.Common.{arith}
-use Rattle.sdd_word_invariant.specs.Codes.{free_word, owned_word}
+use Rattle.sdd_word_invariant.specs.Codes.{free_word}
 use Rattle.sdd_domain_invariant.specs.FractionSteps.{ClaimsAll}
 use Rattle.sdd_atomics.proofs.Allowed.{moved_at, may_claim}
 use Rattle.sdd_atomics.proofs.steps.slots.claim.Goals as goal
 
 pub compare_exchange-requires : goal.compare_exchange-requires
 compare_exchange-requires c = let r = c.requires in
-    (r.home, omega arith, may_claim _ _ _ _ _ r.knows.0 r.knows.1 r.place _ c.args.slot c.slot_word.ensures r.inside r.rests)
+    (r.home, omega arith, may_claim _ _ _ _ _ r.knows.0 r.knows.1 r.place _ c.args.slot c.slot_word.ensures r.inside c.args.word r.one r.rests)
 
 pub returns : goal.returns
 returns c = let e = c.compare_exchange.ensures in
-    moved_at c.args.token.now _ c.compare_exchange.result e.0 e.1 (λ slot. ClaimsAll slot (free_word 0) (owned_word 0)) _ c.args.slot _
+    moved_at c.args.token.now _ c.compare_exchange.result e.0 e.1 (λ slot. ClaimsAll slot (free_word 0) c.args.word) _ c.args.slot _
     c.slot_word.ensures c.requires.knows.0 e.2

@@ -5,7 +5,7 @@ use Rattle.sdd_atomics.proofs.steps.slots.hold.Goals as goal
 
 pub load-requires : goal.load-requires
 load-requires c = let r = c.requires in
-    (r.home, omega arith, may_hold _ _ _ _ _ r.knows.0 r.knows.1 r.place _ c.args.slot c.slot_word.ensures r.inside r.own.0 r.own.1)
+    (r.home, omega arith, may_hold _ _ _ _ _ r.knows.0 r.knows.1 r.place _ c.args.slot c.slot_word.ensures r.inside r.told.0 r.told.1 r.free)
 
 pub returns : goal.returns
 returns c = let e = c.load.ensures in

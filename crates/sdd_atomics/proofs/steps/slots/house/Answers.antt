@@ -1,4 +1,5 @@
-use Rattle.std.proofs.Common.{true, false}
+use Rattle.std.proofs.Common.{true, false, ap, ◌∙◌}
+use Rattle.sdd_domain_invariant.specs.BankInvariant.{one_where}
 use Rattle.sdd_shared_values.specs.Bank.{Comes}
 use Rattle.sdd_atomics.specs.DomainTable.{book_of, sizes_of}
 use Rattle.sdd_atomics.proofs.Allowed.{as_banked, may_house, as_housed}
@@ -6,11 +7,13 @@ use Rattle.sdd_atomics.proofs.steps.slots.house.Goals as goal
 
 pub enter-requires-clause-allowed : goal.enter-requires-clause-allowed
 enter-requires-clause-allowed c = let r = c.requires in let row = r.row in let b = c.args.board.now in as_banked b Comes _ _ _ _ _ _
-    (may_house (book_of b) (sizes_of b) _ _ _ r.knows.0 r.knows.1 r.place _ row.0 row.2 row.3 row.4 true row.1 row.5.0 row.5.1 c.args.rest.lot row.6)
+    (may_house (book_of b) (sizes_of b) _ _ _ r.knows.0 r.knows.1 r.place _ row.0 row.2 row.3 row.4 true
+    (λ free. row.5 free ∙ ap one_where c.if-shared.true) row.1 row.6.0 row.6.1 c.args.rest.lot row.7)
 
 pub enter-requires-else-shared-clause-allowed : goal.enter-requires-else-shared-clause-allowed
 enter-requires-else-shared-clause-allowed c = let r = c.requires in let row = r.row in let b = c.args.board.now in as_banked b Comes _ _ _ _ _ _
-    (may_house (book_of b) (sizes_of b) _ _ _ r.knows.0 r.knows.1 r.place _ row.0 row.2 row.3 row.4 false row.1 row.5.0 row.5.1 c.args.rest.lot row.6)
+    (may_house (book_of b) (sizes_of b) _ _ _ r.knows.0 r.knows.1 r.place _ row.0 row.2 row.3 row.4 false
+    (λ free. row.5 free ∙ ap one_where c.if-shared.false) row.1 row.6.0 row.6.1 c.args.rest.lot row.7)
 
 pub returns-then-shared : goal.returns-then-shared
 returns-then-shared c = λ slot value rest moves row. let e = c.enter.ensures in

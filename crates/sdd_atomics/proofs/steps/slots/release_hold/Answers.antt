@@ -5,7 +5,7 @@ use Rattle.sdd_atomics.proofs.steps.slots.release_hold.Goals as goal
 
 pub load-requires : goal.load-requires
 load-requires c = let r = c.requires in
-    (r.home, omega arith, may_let_go _ _ _ _ _ r.knows.0 r.knows.1 r.place _ c.args.slot c.slot_word.ensures r.inside r.held)
+    (r.home, omega arith, may_let_go _ _ _ _ _ r.knows.0 r.knows.1 r.place _ c.args.slot c.slot_word.ensures r.inside r.held r.rests r.single)
 
 pub returns : goal.returns
 returns c = let e = c.load.ensures in

@@ -7,8 +7,13 @@ use Rattle.sdd_atomics.proofs.Shown.{view_is}
 use Rattle.sdd_atomics.proofs.steps.slots.take_in.Goals as goal
 
 pub rejoin-requires : goal.rejoin-requires
-rejoin-requires c = let r = c.requires in let o = r.owner in
-    (r.home, o.0, (owner_of o.1.0 o.1.1 o.1.2, o.1.3, joins_owner _ _ _ _ _ o.1.0 o.1.1 o.1.2 r.rests))
+rejoin-requires c = let r = c.requires in let o = r.owner in (
+  r.home,
+  c.args.board.now.ledgered.0,
+  c.args.board.now.ledgered.1,
+  o.0,
+  (owner_of o.1.0 o.1.1 o.1.2, o.1.3, joins_owner _ _ _ _ _ _ o.1.0 o.1.1 o.1.2 r.rests),
+)
 
 pub returns : goal.returns
 returns c = λ slot shared value views. let e = c.rejoin.ensures in let is = view_is e.2.0 (owner_of slot shared value) (sym e.2.1 ∙ views) in (

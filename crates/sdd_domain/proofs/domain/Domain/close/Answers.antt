@@ -13,7 +13,8 @@ use Rattle.sdd_domain.proofs.Tallies.{adds_up}
 use Rattle.sdd_domain.proofs.domain.Domain.close.Goals as goal
 
 pub returns-then-not-are_over-clause-again : goal.returns-then-not-are_over-clause-again
-returns-then-not-are_over-clause-again g c = home_again (λ (h : token.GhostName). h ≡ slots_in c.args.self) _ c.args.receipts.items c.settle_all.new.receipts.items
+returns-then-not-are_over-clause-again g c = home_again (λ (h : token.GhostName). h ≡ slots_in c.args.self) _ c.args.receipts.items
+    c.settle_all.new.receipts.items
     c.settle_all.ensures.settled c.requires.homes
 
 pub returns-in_default-clause-again : goal.returns-in_default-clause-again
@@ -41,7 +42,8 @@ returns-clause-settled g c = let ended : List Receipt = c.settle_all.new.receipt
 pub returns-clause-whole : goal.returns-clause-whole
 returns-clause-whole g c = let z = sizes_of c.args.self.board in let ended : List Receipt = c.settle_all.new.receipts.items in
     let many = as_many _ c.args.receipts.items ended c.settle_all.ensures.settled in let taken = c.take_all_counts.ensures.counts in
-    let closed = c.close-closed.ensures in let places : z.participants ≡ c.args.self.limits.participants = ap (λ (z : Sizes). z.participants) c.args.self.limited.1 in
+    let closed = c.close-closed.ensures in
+    let places : z.participants ≡ c.args.self.limits.participants = ap (λ (z : Sizes). z.participants) c.args.self.limited.1 in
     let slots : z.slots ≡ c.args.self.limits.slots = ap (λ (z : Sizes). z.slots) c.args.self.limited.1 in
     let few : length ended ≤ z.participants = subst (λ (n : ℕ). n ≤ z.participants) taken.over closed.places in
     let quiet : c.args.self.limits.slots ≤ c.take_all_counts.new.token.me.0.places.quiet =

@@ -25,7 +25,8 @@ use Rattle.sdd_domain.proofs.Ripe.{ripe_snoc, fewer_unripe}
 use Rattle.sdd_domain.proofs.local_core.LocalCore.defer_execute.Goals as goal
 
 pub push-requires : goal.push-requires
-push-requires g c = let l = c.self.inside in let q = c.self.invariant.0 in let d = c.in-Ok.ensures.tried.1.view in let few = fewer_unripe l.token.me.0.slots.waits in
+push-requires g c = let l = c.self.inside in let q = c.self.invariant.0 in let d = c.in-Ok.ensures.tried.1.view in
+    let few = fewer_unripe l.token.me.0.slots.waits in
     let many : length l.own.bags.waiting ≡ length (unripe l.token.me.0.slots.waits)
     = ap length q.bags ∙ length-map (unripe l.token.me.0.slots.waits) (waiting_of (slots_of l.domain.now.board)) in
     let known = ap most_waiting q.knows.0 in let most = q.room in let less = d.5 in record { room = omega arith }

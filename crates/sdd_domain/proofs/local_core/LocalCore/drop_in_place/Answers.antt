@@ -1,9 +1,11 @@
-use Rattle.std.proofs.Common.{◌≡◌, ℕ, ◌<◌, List, refl, sym, ap, ◌∙◌, subst}
-use Rattle.std.specs.Prelude.{Bool}
+use Rattle.std.proofs.Common.{◌≡◌, inl, inr, ℕ, ◌-◌, ◌<◌, List, refl, sym, ap, ◌∙◌, subst, ⊎_elim}
+use Rattle.std.specs.Prelude.{Bool, true, Option, IfSome}
 use base.Stored.{Gv}
 use Rattle.atomic_table.specs.declared.shared.Seat.{Seat}
+use Rattle.sdd_core.specs.declared.refused.Refused.TheVariants as Refused
 use Rattle.sdd_participants.specs.declared.tally.Tally.{Tally}
 use Rattle.sdd_participants.specs.Tally.{one_in_place}
+use Rattle.sdd_rights.specs.Owner.{witness_of_owner}
 use Rattle.sdd_rights.specs.StandingKind.{is_shared}
 use Rattle.sdd_rights.specs.Right.{number_of}
 use Rattle.sdd_shared_values.specs.SharedValues.{showing}
@@ -12,158 +14,72 @@ use Rattle.sdd_space.specs.OwnerOrCell.{AreOf}
 use Rattle.sdd_views.specs.declared.Sizes.{Sizes}
 use Rattle.sdd_views.specs.declared.View.{View}
 use Rattle.sdd_views.specs.declared.WaitingItem.{WaitingItem}
-use Rattle.sdd_atomics.specs.DomainTable.{slots_of}
-use Rattle.sdd_domain.specs.BetweenCalls.{AreLentTo, IsBetweenCalls, IsReady, IsTenureOf}
-use Rattle.sdd_domain.specs.InPlace.{with_dropped}
+use Rattle.sdd_word_invariant.specs.Epoch.{IsLone as IsLoneAt}
+use Rattle.sdd_word_invariant.specs.SlotSteps.{noted}
+use Rattle.sdd_atomics.specs.DomainTable.{id_of, book_of, slots_of}
+use Rattle.sdd_atomics.specs.DomainSeat.{epoch}
+use Rattle.sdd_domain.specs.BetweenCalls.{AreLentTo, IsBetweenCalls, IsReady}
+use Rattle.sdd_domain.specs.Claims.{IsUnmoved}
+use Rattle.sdd_domain.specs.InPlace.{IsLetGoOf, with_dropped}
+use Rattle.sdd_domain.specs.GoesInPlace.{Goes}
 use Rattle.sdd_domain.specs.Items.{HasValue, slots_home}
-use Rattle.sdd_domain.specs.LocalState.{DropsAt, HasOpenGuard, IsLone, KnowsOwner, LocalState}
+use Rattle.sdd_domain.specs.LocalState.{DropsAt, GoesBeside, IsLone, KnowsOwner, LocalState, SeesGuard}
 use Rattle.sdd_domain.specs.Receipt.{IsTallied}
-use Rattle.sdd_domain.specs.SpaceIds.{home_in}
-use Rattle.sdd_domain.specs.WaitingItems.{what_of, ripe}
+use Rattle.sdd_domain.specs.SpaceIds.{home_in, home_of_slots}
 use Rattle.sdd_domain.proofs.Housed.{from_board, on_board}
-use Rattle.sdd_domain.proofs.InPlace.{bare, dropped_to, guard_of, held_home, held_knows, held_looked, held_owns, held_place, held_rests, held_shut, held_tells, owner_has, owner_inside, owner_table, owner_views, placed, posed_dropped, right_again, unmoved_same}
+use Rattle.sdd_domain.proofs.InPlace.{back_view, bare, gone_beside, guard_of, guarded_at, knew_sole, owner_has, owner_inside, owner_views, placed, posed_noted, right_back, unmoved_at}
 use Rattle.sdd_domain.proofs.Members.{recalls_to, with_token, with_view}
-use Rattle.sdd_domain.proofs.Posing.{same_recalled}
+use Rattle.sdd_domain.proofs.Posing.{posed_with, same_recalled}
 use Rattle.sdd_domain.proofs.Tallies.{tallied_in_place}
 use Rattle.sdd_domain.proofs.local_core.LocalCore.drop_in_place.Goals as goal
 
-pub hold_alone-requires-clause-home : goal.hold_alone-requires-clause-home
-hold_alone-requires-clause-home g c =
+pub go_in_place-requires-clause-home : goal.go_in_place-requires-clause-home
+go_in_place-requires-clause-home g c =
     let l = c.self.inside in let b = l.domain.now.board in let m : LocalState = c.self.view_is 0 in let right = c.args.right in let kind = c.args.kind in
     let on = on_board l.domain.now.limits b l.token.table_id c.self.invariant.0.home l.domain.now.limited.1 m refl refl refl in
     let home = c.requires.home ∙ sym (ap slots_home c.self.view_is) in
     let w = c.into_owner-owner.result.0 in let grip = c.into_owner-owner.result.1 in let by = c.into_owner-owner.ensures.owner in
-    let slot : ℕ = c.number-slot.result in let is = c.number-slot.ensures in let shared : Bool = is_shared kind in let t = c.recall.new.token in
-    let views = owner_views b m on right kind home c.requires.kind w grip by slot is in
-    let same = same_recalled b l.place slot shared grip.shown l.token t (c.recall.ensures slot shared grip.shown views) in
+    let slot : ℕ = c.number-slot.result in let is = c.number-slot.ensures in let t = c.recall.new.token in
+    let known = owner_views b m on right kind home c.requires.kind w grip by slot is in
+    let same = same_recalled b l.place slot (is_shared kind) grip.shown l.token t (c.recall.ensures slot (is_shared kind) grip.shown known) in
     let q = subst (λ (x : Seat ValueFraction View). IsBetweenCalls b l.place l.own x) (sym same) c.self.invariant.0 in
     q.home
 
-pub hold_alone-requires-clause-knows : goal.hold_alone-requires-clause-knows
-hold_alone-requires-clause-knows g c =
+pub go_in_place-requires-clause-knows : goal.go_in_place-requires-clause-knows
+go_in_place-requires-clause-knows g c =
     let l = c.self.inside in let b = l.domain.now.board in let m : LocalState = c.self.view_is 0 in let right = c.args.right in let kind = c.args.kind in
     let on = on_board l.domain.now.limits b l.token.table_id c.self.invariant.0.home l.domain.now.limited.1 m refl refl refl in
     let home = c.requires.home ∙ sym (ap slots_home c.self.view_is) in
     let w = c.into_owner-owner.result.0 in let grip = c.into_owner-owner.result.1 in let by = c.into_owner-owner.ensures.owner in
-    let slot : ℕ = c.number-slot.result in let is = c.number-slot.ensures in let shared : Bool = is_shared kind in let t = c.recall.new.token in
-    let views = owner_views b m on right kind home c.requires.kind w grip by slot is in
-    let same = same_recalled b l.place slot shared grip.shown l.token t (c.recall.ensures slot shared grip.shown views) in
+    let slot : ℕ = c.number-slot.result in let is = c.number-slot.ensures in let t = c.recall.new.token in
+    let known = owner_views b m on right kind home c.requires.kind w grip by slot is in
+    let same = same_recalled b l.place slot (is_shared kind) grip.shown l.token t (c.recall.ensures slot (is_shared kind) grip.shown known) in
     let q = subst (λ (x : Seat ValueFraction View). IsBetweenCalls b l.place l.own x) (sym same) c.self.invariant.0 in
     q.knows
 
-pub hold_alone-requires-clause-place : goal.hold_alone-requires-clause-place
-hold_alone-requires-clause-place g c =
+pub go_in_place-requires-clause-place : goal.go_in_place-requires-clause-place
+go_in_place-requires-clause-place g c =
     let l = c.self.inside in let b = l.domain.now.board in let m : LocalState = c.self.view_is 0 in let right = c.args.right in let kind = c.args.kind in
     let on = on_board l.domain.now.limits b l.token.table_id c.self.invariant.0.home l.domain.now.limited.1 m refl refl refl in
     let home = c.requires.home ∙ sym (ap slots_home c.self.view_is) in
     let w = c.into_owner-owner.result.0 in let grip = c.into_owner-owner.result.1 in let by = c.into_owner-owner.ensures.owner in
-    let slot : ℕ = c.number-slot.result in let is = c.number-slot.ensures in let shared : Bool = is_shared kind in let t = c.recall.new.token in
-    let views = owner_views b m on right kind home c.requires.kind w grip by slot is in
-    let same = same_recalled b l.place slot shared grip.shown l.token t (c.recall.ensures slot shared grip.shown views) in
+    let slot : ℕ = c.number-slot.result in let is = c.number-slot.ensures in let t = c.recall.new.token in
+    let known = owner_views b m on right kind home c.requires.kind w grip by slot is in
+    let same = same_recalled b l.place slot (is_shared kind) grip.shown l.token t (c.recall.ensures slot (is_shared kind) grip.shown known) in
     let q = subst (λ (x : Seat ValueFraction View). IsBetweenCalls b l.place l.own x) (sym same) c.self.invariant.0 in
     placed b l.place l.own t q
 
-pub hold_alone-requires-clause-bare : goal.hold_alone-requires-clause-bare
-hold_alone-requires-clause-bare g c =
+pub go_in_place-requires-clause-bare : goal.go_in_place-requires-clause-bare
+go_in_place-requires-clause-bare g c =
     let l = c.self.inside in let b = l.domain.now.board in let m : LocalState = c.self.view_is 0 in let right = c.args.right in let kind = c.args.kind in
     let on = on_board l.domain.now.limits b l.token.table_id c.self.invariant.0.home l.domain.now.limited.1 m refl refl refl in
     let home = c.requires.home ∙ sym (ap slots_home c.self.view_is) in
     let w = c.into_owner-owner.result.0 in let grip = c.into_owner-owner.result.1 in let by = c.into_owner-owner.ensures.owner in
-    let slot : ℕ = c.number-slot.result in let is = c.number-slot.ensures in let shared : Bool = is_shared kind in let t = c.recall.new.token in
-    let views = owner_views b m on right kind home c.requires.kind w grip by slot is in
-    let same = same_recalled b l.place slot shared grip.shown l.token t (c.recall.ensures slot shared grip.shown views) in
+    let slot : ℕ = c.number-slot.result in let is = c.number-slot.ensures in let t = c.recall.new.token in
+    let known = owner_views b m on right kind home c.requires.kind w grip by slot is in
+    let same = same_recalled b l.place slot (is_shared kind) grip.shown l.token t (c.recall.ensures slot (is_shared kind) grip.shown known) in
     let q = subst (λ (x : Seat ValueFraction View). IsBetweenCalls b l.place l.own x) (sym same) c.self.invariant.0 in
     bare b l.place l.own t q
-
-pub hold_alone-requires-clause-owner : goal.hold_alone-requires-clause-owner
-hold_alone-requires-clause-owner g c =
-    let l = c.self.inside in let b = l.domain.now.board in let m : LocalState = c.self.view_is 0 in let right = c.args.right in let kind = c.args.kind in
-    let on = on_board l.domain.now.limits b l.token.table_id c.self.invariant.0.home l.domain.now.limited.1 m refl refl refl in
-    let home = c.requires.home ∙ sym (ap slots_home c.self.view_is) in
-    let w = c.into_owner-owner.result.0 in let grip = c.into_owner-owner.result.1 in let by = c.into_owner-owner.ensures.owner in
-    let slot : ℕ = c.number-slot.result in let is = c.number-slot.ensures in let shared : Bool = is_shared kind in let t = c.recall.new.token in
-    let views = owner_views b m on right kind home c.requires.kind w grip by slot is in
-    let same = same_recalled b l.place slot shared grip.shown l.token t (c.recall.ensures slot shared grip.shown views) in
-    let q = subst (λ (x : Seat ValueFraction View). IsBetweenCalls b l.place l.own x) (sym same) c.self.invariant.0 in
-    (owner_table b m on right kind home c.requires.kind w grip by slot is, (shared, grip.shown, views))
-
-pub drop_alone-value-requires-clause-home : goal.drop_alone-value-requires-clause-home
-drop_alone-value-requires-clause-home g c =
-    let l = c.self.inside in let b = l.domain.now.board in let m : LocalState = c.self.view_is 0 in let right = c.args.right in let kind = c.args.kind in
-    let on = on_board l.domain.now.limits b l.token.table_id c.self.invariant.0.home l.domain.now.limited.1 m refl refl refl in
-    let home = c.requires.home ∙ sym (ap slots_home c.self.view_is) in
-    let w = c.into_owner-owner.result.0 in let grip = c.into_owner-owner.result.1 in let by = c.into_owner-owner.ensures.owner in
-    let slot : ℕ = c.number-slot.result in let is = c.number-slot.ensures in let shared : Bool = is_shared kind in let t = c.recall.new.token in
-    let views = owner_views b m on right kind home c.requires.kind w grip by slot is in
-    let same = same_recalled b l.place slot shared grip.shown l.token t (c.recall.ensures slot shared grip.shown views) in
-    let q = subst (λ (x : Seat ValueFraction View). IsBetweenCalls b l.place l.own x) (sym same) c.self.invariant.0 in
-    let h = c.hold_alone.new.token in let held = c.in-Ok.ensures shared grip.shown views in
-    held_home b l.place l.own t q slot shared grip.shown h held
-
-pub drop_alone-value-requires-clause-knows : goal.drop_alone-value-requires-clause-knows
-drop_alone-value-requires-clause-knows g c =
-    let l = c.self.inside in let b = l.domain.now.board in let m : LocalState = c.self.view_is 0 in let right = c.args.right in let kind = c.args.kind in
-    let on = on_board l.domain.now.limits b l.token.table_id c.self.invariant.0.home l.domain.now.limited.1 m refl refl refl in
-    let home = c.requires.home ∙ sym (ap slots_home c.self.view_is) in
-    let w = c.into_owner-owner.result.0 in let grip = c.into_owner-owner.result.1 in let by = c.into_owner-owner.ensures.owner in
-    let slot : ℕ = c.number-slot.result in let is = c.number-slot.ensures in let shared : Bool = is_shared kind in let t = c.recall.new.token in
-    let views = owner_views b m on right kind home c.requires.kind w grip by slot is in
-    let same = same_recalled b l.place slot shared grip.shown l.token t (c.recall.ensures slot shared grip.shown views) in
-    let q = subst (λ (x : Seat ValueFraction View). IsBetweenCalls b l.place l.own x) (sym same) c.self.invariant.0 in
-    let h = c.hold_alone.new.token in let held = c.in-Ok.ensures shared grip.shown views in
-    held_knows b l.place l.own t q slot shared grip.shown h held
-
-pub drop_alone-value-requires-clause-place : goal.drop_alone-value-requires-clause-place
-drop_alone-value-requires-clause-place g c =
-    let l = c.self.inside in let b = l.domain.now.board in let m : LocalState = c.self.view_is 0 in let right = c.args.right in let kind = c.args.kind in
-    let on = on_board l.domain.now.limits b l.token.table_id c.self.invariant.0.home l.domain.now.limited.1 m refl refl refl in
-    let home = c.requires.home ∙ sym (ap slots_home c.self.view_is) in
-    let w = c.into_owner-owner.result.0 in let grip = c.into_owner-owner.result.1 in let by = c.into_owner-owner.ensures.owner in
-    let slot : ℕ = c.number-slot.result in let is = c.number-slot.ensures in let shared : Bool = is_shared kind in let t = c.recall.new.token in
-    let views = owner_views b m on right kind home c.requires.kind w grip by slot is in
-    let same = same_recalled b l.place slot shared grip.shown l.token t (c.recall.ensures slot shared grip.shown views) in
-    let q = subst (λ (x : Seat ValueFraction View). IsBetweenCalls b l.place l.own x) (sym same) c.self.invariant.0 in
-    let h = c.hold_alone.new.token in let held = c.in-Ok.ensures shared grip.shown views in
-    held_place b l.place l.own t q slot shared grip.shown h held
-
-pub drop_alone-value-requires-clause-rests : goal.drop_alone-value-requires-clause-rests
-drop_alone-value-requires-clause-rests g c =
-    let l = c.self.inside in let b = l.domain.now.board in let m : LocalState = c.self.view_is 0 in let right = c.args.right in let kind = c.args.kind in
-    let on = on_board l.domain.now.limits b l.token.table_id c.self.invariant.0.home l.domain.now.limited.1 m refl refl refl in
-    let home = c.requires.home ∙ sym (ap slots_home c.self.view_is) in
-    let w = c.into_owner-owner.result.0 in let grip = c.into_owner-owner.result.1 in let by = c.into_owner-owner.ensures.owner in
-    let slot : ℕ = c.number-slot.result in let is = c.number-slot.ensures in let shared : Bool = is_shared kind in let t = c.recall.new.token in
-    let views = owner_views b m on right kind home c.requires.kind w grip by slot is in
-    let same = same_recalled b l.place slot shared grip.shown l.token t (c.recall.ensures slot shared grip.shown views) in
-    let q = subst (λ (x : Seat ValueFraction View). IsBetweenCalls b l.place l.own x) (sym same) c.self.invariant.0 in
-    let h = c.hold_alone.new.token in let held = c.in-Ok.ensures shared grip.shown views in
-    held_rests b l.place l.own t q slot shared grip.shown h held
-
-pub drop_alone-value-requires-clause-held : goal.drop_alone-value-requires-clause-held
-drop_alone-value-requires-clause-held g c =
-    let l = c.self.inside in let b = l.domain.now.board in let m : LocalState = c.self.view_is 0 in let right = c.args.right in let kind = c.args.kind in
-    let on = on_board l.domain.now.limits b l.token.table_id c.self.invariant.0.home l.domain.now.limited.1 m refl refl refl in
-    let home = c.requires.home ∙ sym (ap slots_home c.self.view_is) in
-    let w = c.into_owner-owner.result.0 in let grip = c.into_owner-owner.result.1 in let by = c.into_owner-owner.ensures.owner in
-    let slot : ℕ = c.number-slot.result in let is = c.number-slot.ensures in let shared : Bool = is_shared kind in let t = c.recall.new.token in
-    let views = owner_views b m on right kind home c.requires.kind w grip by slot is in
-    let same = same_recalled b l.place slot shared grip.shown l.token t (c.recall.ensures slot shared grip.shown views) in
-    let q = subst (λ (x : Seat ValueFraction View). IsBetweenCalls b l.place l.own x) (sym same) c.self.invariant.0 in
-    let h = c.hold_alone.new.token in let held = c.in-Ok.ensures shared grip.shown views in
-    held_owns b l.place l.own t q slot shared grip.shown h held
-
-pub drop_alone-value-requires-clause-looked : goal.drop_alone-value-requires-clause-looked
-drop_alone-value-requires-clause-looked g c =
-    let l = c.self.inside in let b = l.domain.now.board in let m : LocalState = c.self.view_is 0 in let right = c.args.right in let kind = c.args.kind in
-    let on = on_board l.domain.now.limits b l.token.table_id c.self.invariant.0.home l.domain.now.limited.1 m refl refl refl in
-    let home = c.requires.home ∙ sym (ap slots_home c.self.view_is) in
-    let w = c.into_owner-owner.result.0 in let grip = c.into_owner-owner.result.1 in let by = c.into_owner-owner.ensures.owner in
-    let slot : ℕ = c.number-slot.result in let is = c.number-slot.ensures in let shared : Bool = is_shared kind in let t = c.recall.new.token in
-    let views = owner_views b m on right kind home c.requires.kind w grip by slot is in
-    let same = same_recalled b l.place slot shared grip.shown l.token t (c.recall.ensures slot shared grip.shown views) in
-    let q = subst (λ (x : Seat ValueFraction View). IsBetweenCalls b l.place l.own x) (sym same) c.self.invariant.0 in
-    let h = c.hold_alone.new.token in let held = c.in-Ok.ensures shared grip.shown views in
-    held_looked b l.place l.own t q slot shared grip.shown h held
 
 pub invariant_of-self : goal.invariant_of-self
 invariant_of-self g c =
@@ -171,20 +87,20 @@ invariant_of-self g c =
     let on = on_board l.domain.now.limits b l.token.table_id c.self.invariant.0.home l.domain.now.limited.1 m refl refl refl in
     let home = c.requires.home ∙ sym (ap slots_home c.self.view_is) in
     let w = c.into_owner-owner.result.0 in let grip = c.into_owner-owner.result.1 in let by = c.into_owner-owner.ensures.owner in
-    let slot : ℕ = c.number-slot.result in let is = c.number-slot.ensures in let shared : Bool = is_shared kind in let t = c.recall.new.token in
-    let views = owner_views b m on right kind home c.requires.kind w grip by slot is in
-    let same = same_recalled b l.place slot shared grip.shown l.token t (c.recall.ensures slot shared grip.shown views) in
+    let slot : ℕ = c.number-slot.result in let is = c.number-slot.ensures in let t = c.recall.new.token in
+    let known = owner_views b m on right kind home c.requires.kind w grip by slot is in
+    let same = same_recalled b l.place slot (is_shared kind) grip.shown l.token t (c.recall.ensures slot (is_shared kind) grip.shown known) in
     let q = subst (λ (x : Seat ValueFraction View). IsBetweenCalls b l.place l.own x) (sym same) c.self.invariant.0 in
-    let h = c.hold_alone.new.token in let held = c.in-Ok.ensures shared grip.shown views in
-    let u = c.drop_alone-value.new.token in let gone = c.drop_alone-value.ensures in
-    let view = dropped_to b l.place l.own t q slot shared grip.shown h held u gone.view in
-    let table = gone.home.0 ∙ held.table in let others = gone.home.2 ∙ held.others in
-    let here = view ∙ ap (λ (x : Seat ValueFraction View). with_dropped slot x.me.0) same in
-    let i = c.self.invariant in (
-      posed_dropped b l.place l.own t q slot shared grip.shown h held u table others view,
+    let shared : Bool = c.is_one_of_several-shared.result in let sorted = c.is_one_of_several-shared.ensures in let k : ℕ = number_of right in
+    let u = c.go_in_place.new.token in let alone : IsLone m → l.token.me.0.epoch.all ≡ 1
+    = λ lone. c.self.invariant.0.all ∙ (ap (λ (z : Sizes). z.participants) l.domain.now.limited.1 ∙ lone) in
+    let gone = subst (λ (o : Option g.row.T.Denot). Goes g.row.T slot c.is_one_of_several-shared.result w.views o t u) c.in-Some.is c.in-Ok.ensures.0 in
+    let here = gone.view ∙ ap (λ (x : Seat ValueFraction View). with_dropped slot x.me.0) same in let i = c.self.invariant in (
+      posed_with b l.place l.own t u t.me.0.stakes.filled (with_dropped slot t.me.0).stakes.counts (with_dropped slot t.me.0).words q
+          gone.table gone.others gone.view,
       i.1,
       i.2,
-      subst (AreLentTo l.tenure.round) (sym (others ∙ ap (λ (x : Seat ValueFraction View). x.me.1) same)) i.3,
+      subst (AreLentTo l.tenure.round) (sym (gone.others ∙ ap (λ (x : Seat ValueFraction View). x.me.1) same)) i.3,
       subst (λ (z : ℕ × List WaitingItem). IsReady b l.own l.due z.0 l.jobs z.1)
           (λ d. (sym c.remember.ensures.slots d, sym (ap (λ (v : View). v.slots.waits) here) d)) i.4,
       subst (λ (x : Tally). IsTallied 0 x u.me.0.stakes.counts) (sym c.count_in_place.ensures)
@@ -192,97 +108,202 @@ invariant_of-self g c =
           (tallied_in_place l.tally l.token.me.0.stakes.counts i.5)),
     )
 
+pub invariant_of-self-in-None : goal.invariant_of-self-in-None
+invariant_of-self-in-None g c =
+    let l = c.self.inside in let b = l.domain.now.board in let m : LocalState = c.self.view_is 0 in let right = c.args.right in let kind = c.args.kind in
+    let on = on_board l.domain.now.limits b l.token.table_id c.self.invariant.0.home l.domain.now.limited.1 m refl refl refl in
+    let home = c.requires.home ∙ sym (ap slots_home c.self.view_is) in
+    let w = c.into_owner-owner.result.0 in let grip = c.into_owner-owner.result.1 in let by = c.into_owner-owner.ensures.owner in
+    let slot : ℕ = c.number-slot.result in let is = c.number-slot.ensures in let t = c.recall.new.token in
+    let known = owner_views b m on right kind home c.requires.kind w grip by slot is in
+    let same = same_recalled b l.place slot (is_shared kind) grip.shown l.token t (c.recall.ensures slot (is_shared kind) grip.shown known) in
+    let q = subst (λ (x : Seat ValueFraction View). IsBetweenCalls b l.place l.own x) (sym same) c.self.invariant.0 in
+    let shared : Bool = c.is_one_of_several-shared.result in let sorted = c.is_one_of_several-shared.ensures in let k : ℕ = number_of right in
+    let u = c.go_in_place.new.token in let alone : IsLone m → l.token.me.0.epoch.all ≡ 1
+    = λ lone. c.self.invariant.0.all ∙ (ap (λ (z : Sizes). z.participants) l.domain.now.limited.1 ∙ lone) in
+    let beside = subst (λ (o : Option g.row.T.Denot). Goes g.row.T slot c.is_one_of_several-shared.result w.views o t u) c.in-None.is c.in-Ok.ensures.0 in
+    let gone = beside.gone in let words : List ℕ = noted slot (beside.word - 1) t.me.0 in
+    let here = gone.view ∙ ap (λ (x : Seat ValueFraction View). record x.me.0 { words = words }) same in let i = c.self.invariant in (
+      posed_noted b l.place l.own t q u (words) gone.table gone.others gone.view,
+      i.1,
+      i.2,
+      subst (AreLentTo l.tenure.round) (sym (gone.others ∙ ap (λ (x : Seat ValueFraction View). x.me.1) same)) i.3,
+      subst (IsReady b l.own l.due l.known.slots l.jobs) (sym (ap (λ (v : View). v.slots.waits) here)) i.4,
+      subst (IsTallied 0 l.tally) (sym (ap (λ (v : View). v.stakes.counts) here)) i.5,
+    )
+
+pub of_witness-requires-clause-owner : goal.of_witness-requires-clause-owner
+of_witness-requires-clause-owner g c =
+    let l = c.self.inside in let b = l.domain.now.board in let m : LocalState = c.self.view_is 0 in let right = c.args.right in let kind = c.args.kind in
+    let on = on_board l.domain.now.limits b l.token.table_id c.self.invariant.0.home l.domain.now.limited.1 m refl refl refl in
+    let home = c.requires.home ∙ sym (ap slots_home c.self.view_is) in
+    let w = c.into_owner-owner.result.0 in let grip = c.into_owner-owner.result.1 in let by = c.into_owner-owner.ensures.owner in
+    let slot : ℕ = c.number-slot.result in let is = c.number-slot.ensures in let t = c.recall.new.token in
+    let known = owner_views b m on right kind home c.requires.kind w grip by slot is in
+    let same = same_recalled b l.place slot (is_shared kind) grip.shown l.token t (c.recall.ensures slot (is_shared kind) grip.shown known) in
+    let q = subst (λ (x : Seat ValueFraction View). IsBetweenCalls b l.place l.own x) (sym same) c.self.invariant.0 in
+    let shared : Bool = c.is_one_of_several-shared.result in let sorted = c.is_one_of_several-shared.ensures in let k : ℕ = number_of right in
+    let u = c.go_in_place.new.token in let alone : IsLone m → l.token.me.0.epoch.all ≡ 1
+    = λ lone. c.self.invariant.0.all ∙ (ap (λ (z : Sizes). z.participants) l.domain.now.limited.1 ∙ lone) in
+    let views = known ∙ ap (λ (s : Bool). witness_of_owner slot s grip.shown) (sym sorted) in let back = c.in-Err.ensures in
+    let shows = back.2 grip.shown views in
+    back.1 ∙ (known ∙ ap (witness_of_owner slot (is_shared kind)) (sym shows.shows))
+
+pub of_witness-requires-clause-place : goal.of_witness-requires-clause-place
+of_witness-requires-clause-place g c =
+    let l = c.self.inside in let b = l.domain.now.board in let m : LocalState = c.self.view_is 0 in let right = c.args.right in let kind = c.args.kind in
+    let on = on_board l.domain.now.limits b l.token.table_id c.self.invariant.0.home l.domain.now.limited.1 m refl refl refl in
+    let home = c.requires.home ∙ sym (ap slots_home c.self.view_is) in
+    let w = c.into_owner-owner.result.0 in let grip = c.into_owner-owner.result.1 in let by = c.into_owner-owner.ensures.owner in
+    let slot : ℕ = c.number-slot.result in let is = c.number-slot.ensures in let t = c.recall.new.token in
+    let known = owner_views b m on right kind home c.requires.kind w grip by slot is in
+    let same = same_recalled b l.place slot (is_shared kind) grip.shown l.token t (c.recall.ensures slot (is_shared kind) grip.shown known) in
+    let q = subst (λ (x : Seat ValueFraction View). IsBetweenCalls b l.place l.own x) (sym same) c.self.invariant.0 in
+    let shared : Bool = c.is_one_of_several-shared.result in let sorted = c.is_one_of_several-shared.ensures in let k : ℕ = number_of right in
+    let u = c.go_in_place.new.token in let alone : IsLone m → l.token.me.0.epoch.all ≡ 1
+    = λ lone. c.self.invariant.0.all ∙ (ap (λ (z : Sizes). z.participants) l.domain.now.limited.1 ∙ lone) in
+    let views = known ∙ ap (λ (s : Bool). witness_of_owner slot s grip.shown) (sym sorted) in
+    (c.in-Err.ensures.2 grip.shown views).unit.number_is
+
 pub invariant_of-self-in-Err : goal.invariant_of-self-in-Err
 invariant_of-self-in-Err g c =
     let l = c.self.inside in let b = l.domain.now.board in let m : LocalState = c.self.view_is 0 in let right = c.args.right in let kind = c.args.kind in
     let on = on_board l.domain.now.limits b l.token.table_id c.self.invariant.0.home l.domain.now.limited.1 m refl refl refl in
     let home = c.requires.home ∙ sym (ap slots_home c.self.view_is) in
     let w = c.into_owner-owner.result.0 in let grip = c.into_owner-owner.result.1 in let by = c.into_owner-owner.ensures.owner in
-    let slot : ℕ = c.number-slot.result in let is = c.number-slot.ensures in let shared : Bool = is_shared kind in let t = c.recall.new.token in
-    let views = owner_views b m on right kind home c.requires.kind w grip by slot is in
-    let same = same_recalled b l.place slot shared grip.shown l.token t (c.recall.ensures slot shared grip.shown views) in
+    let slot : ℕ = c.number-slot.result in let is = c.number-slot.ensures in let t = c.recall.new.token in
+    let known = owner_views b m on right kind home c.requires.kind w grip by slot is in
+    let same = same_recalled b l.place slot (is_shared kind) grip.shown l.token t (c.recall.ensures slot (is_shared kind) grip.shown known) in
     let q = subst (λ (x : Seat ValueFraction View). IsBetweenCalls b l.place l.own x) (sym same) c.self.invariant.0 in
-    let back = c.in-Err.ensures in let again = unmoved_same t c.hold_alone.new.token back.0 ∙ same in
-    subst (λ (x : Seat ValueFraction View). IsBetweenCalls b l.place l.own x × l.nesting ≡ l.domain.now.limits.nesting × IsTenureOf l.own l.tenure
-    × AreLentTo l.tenure.round x.me.1 × IsReady b l.own l.due l.known.slots l.jobs x.me.0.slots.waits × IsTallied 0 l.tally x.me.0.stakes.counts)
-    (sym again) c.self.invariant
-
-pub returns-in-Ok-clause-dropped : goal.returns-in-Ok-clause-dropped
-returns-in-Ok-clause-dropped g c =
-    let l = c.self.inside in let b = l.domain.now.board in let m : LocalState = c.self.view_is 0 in let right = c.args.right in let kind = c.args.kind in
-    let on = on_board l.domain.now.limits b l.token.table_id c.self.invariant.0.home l.domain.now.limited.1 m refl refl refl in
-    let home = c.requires.home ∙ sym (ap slots_home c.self.view_is) in
-    let w = c.into_owner-owner.result.0 in let grip = c.into_owner-owner.result.1 in let by = c.into_owner-owner.ensures.owner in
-    let slot : ℕ = c.number-slot.result in let is = c.number-slot.ensures in let shared : Bool = is_shared kind in let t = c.recall.new.token in
-    let views = owner_views b m on right kind home c.requires.kind w grip by slot is in
-    let same = same_recalled b l.place slot shared grip.shown l.token t (c.recall.ensures slot shared grip.shown views) in
-    let q = subst (λ (x : Seat ValueFraction View). IsBetweenCalls b l.place l.own x) (sym same) c.self.invariant.0 in
-    let h = c.hold_alone.new.token in let held = c.in-Ok.ensures shared grip.shown views in
-    let u = c.drop_alone-value.new.token in let gone = c.drop_alone-value.ensures in
-    let view = dropped_to b l.place l.own t q slot shared grip.shown h held u gone.view in
-    let table = gone.home.0 ∙ held.table in let others = gone.home.2 ∙ held.others in
-    let here = view ∙ ap (λ (x : Seat ValueFraction View). with_dropped slot x.me.0) same in
-    let told = held_tells b l.place l.own t q slot shared grip.shown h held (showing g.row.T c.drop_alone-value.result) gone.value in
-    let at = here ∙ ap (λ (k : ℕ). with_dropped k l.token.me.0) is in
-    let moved = table ∙ ap (λ (x : Seat ValueFraction View). x.table_id) same in
-    let low = owner_inside b m on right kind home c.requires.kind w grip by slot is c.into_owner-owner.ensures.inside in
-    let now : LocalState = record (with_view m u.table_id u.me.0) { tally = c.count_in_place.new.self } in (
-      subst (λ (x : Gv). HasValue x right) told (owner_has b m on right kind home c.requires.kind w grip by slot is c.into_owner-owner.ensures.views),
-      subst (λ (x : LocalState). DropsAt (number_of right) x now) c.self.view_is record {
-        inside = subst (λ (n : ℕ). number_of right < n) (sym on.slots) (subst (λ (k : ℕ). k < slots_of b) is low);
-        member = λ d. record (with_view m (moved d) (at d)) { tally = c.count_in_place.ensures d };
-        quiet = held_shut b l.place l.own t q slot shared grip.shown h held;
-      },
+    let shared : Bool = c.is_one_of_several-shared.result in let sorted = c.is_one_of_several-shared.ensures in let k : ℕ = number_of right in
+    let u = c.go_in_place.new.token in let alone : IsLone m → l.token.me.0.epoch.all ≡ 1
+    = λ lone. c.self.invariant.0.all ∙ (ap (λ (z : Sizes). z.participants) l.domain.now.limited.1 ∙ lone) in
+    let e = back_view slot shared c.in-Err.refused t u c.in-Err.ensures.3 in
+    let here = e.3 ∙ ap (λ (x : Seat ValueFraction View). record x.me.0 { words = e.0 }) same in let i = c.self.invariant in (
+      posed_noted b l.place l.own t q u (e.0) e.1 e.2 e.3,
+      i.1,
+      i.2,
+      subst (AreLentTo l.tenure.round) (sym (e.2 ∙ ap (λ (x : Seat ValueFraction View). x.me.1) same)) i.3,
+      subst (IsReady b l.own l.due l.known.slots l.jobs) (sym (ap (λ (v : View). v.slots.waits) here)) i.4,
+      subst (IsTallied 0 l.tally) (sym (ap (λ (v : View). v.stakes.counts) here)) i.5,
     )
 
-pub returns-in-Ok-clause-home : goal.returns-in-Ok-clause-home
-returns-in-Ok-clause-home g c =
+pub returns-in-Some-clause-gone : goal.returns-in-Some-clause-gone
+returns-in-Some-clause-gone g c =
     let l = c.self.inside in let b = l.domain.now.board in let m : LocalState = c.self.view_is 0 in let right = c.args.right in let kind = c.args.kind in
     let on = on_board l.domain.now.limits b l.token.table_id c.self.invariant.0.home l.domain.now.limited.1 m refl refl refl in
     let home = c.requires.home ∙ sym (ap slots_home c.self.view_is) in
     let w = c.into_owner-owner.result.0 in let grip = c.into_owner-owner.result.1 in let by = c.into_owner-owner.ensures.owner in
-    let slot : ℕ = c.number-slot.result in let is = c.number-slot.ensures in let shared : Bool = is_shared kind in let t = c.recall.new.token in
-    let views = owner_views b m on right kind home c.requires.kind w grip by slot is in
-    let same = same_recalled b l.place slot shared grip.shown l.token t (c.recall.ensures slot shared grip.shown views) in
+    let slot : ℕ = c.number-slot.result in let is = c.number-slot.ensures in let t = c.recall.new.token in
+    let known = owner_views b m on right kind home c.requires.kind w grip by slot is in
+    let same = same_recalled b l.place slot (is_shared kind) grip.shown l.token t (c.recall.ensures slot (is_shared kind) grip.shown known) in
     let q = subst (λ (x : Seat ValueFraction View). IsBetweenCalls b l.place l.own x) (sym same) c.self.invariant.0 in
-    subst (λ (x : LocalState). AreOf (home_in x) (g.T.Item.holds c.drop_alone-value.result)) c.self.view_is
-    (from_board b m on (g.T.Item.holds c.drop_alone-value.result) c.drop_alone-value.ensures.fits)
+    let shared : Bool = c.is_one_of_several-shared.result in let sorted = c.is_one_of_several-shared.ensures in let k : ℕ = number_of right in
+    let u = c.go_in_place.new.token in let alone : IsLone m → l.token.me.0.epoch.all ≡ 1
+    = λ lone. c.self.invariant.0.all ∙ (ap (λ (z : Sizes). z.participants) l.domain.now.limited.1 ∙ lone) in
+    let gone = subst (λ (o : Option g.row.T.Denot). Goes g.row.T slot c.is_one_of_several-shared.result w.views o t u) c.in-Some.is c.in-Ok.ensures.0 in
+    let value : Gv = showing g.row.T c.in-Some.value in
+    let here = gone.view ∙ ap (λ (x : Seat ValueFraction View). with_dropped slot x.me.0) same in
+    let at = here ∙ ap (λ (j : ℕ). with_dropped j l.token.me.0) is in
+    let moved = gone.table ∙ ap (λ (x : Seat ValueFraction View). x.table_id) same in
+    let fits = subst (λ (o : Option g.row.T.Denot). IfSome o (λ v. AreOf (home_of_slots (id_of b) (book_of b) (slots_of b)) (g.T.Item.holds v)))
+    c.in-Some.is c.in-Ok.ensures.1 in
+    let low = owner_inside b m on right kind home c.requires.kind w grip by slot is c.into_owner-owner.ensures.inside in
+    let now : LocalState = record (with_view m u.table_id u.me.0) { tally = c.count_in_place.new.self } in (
+      sym c.into_owner-owner.ensures.views ∙ (gone.told ∙ (λ d. witness_of_owner (is d) ((sorted ∙ ap is_shared (sym c.requires.kind)) d) value)),
+      subst (λ (x : LocalState). DropsAt k (is_shared kind) x now) c.self.view_is record {
+        inside = subst (λ (n : ℕ). k < n) (sym on.slots) (subst (λ (j : ℕ). j < slots_of b) is low);
+        member = λ d. record (with_view m (moved d) (at d)) { tally = c.count_in_place.ensures d };
+        sole = knew_sole m slot k is shared (is_shared kind) sorted l.token t u same refl alone gone.sole;
+        quiet = λ some_open. gone.quiet (q.opened some_open);
+      },
+      subst (λ (x : LocalState). AreOf (home_in x) (g.T.Item.holds c.in-Some.value)) c.self.view_is
+          (from_board b m on (g.T.Item.holds c.in-Some.value) fits),
+    )
 
-pub returns-in-Ok-clause-recalled : goal.returns-in-Ok-clause-recalled
-returns-in-Ok-clause-recalled g c =
+pub returns-in-Some-clause-recalled : goal.returns-in-Some-clause-recalled
+returns-in-Some-clause-recalled g c =
     let l = c.self.inside in let b = l.domain.now.board in let m : LocalState = c.self.view_is 0 in let right = c.args.right in let kind = c.args.kind in
     let on = on_board l.domain.now.limits b l.token.table_id c.self.invariant.0.home l.domain.now.limited.1 m refl refl refl in
     let home = c.requires.home ∙ sym (ap slots_home c.self.view_is) in
     let w = c.into_owner-owner.result.0 in let grip = c.into_owner-owner.result.1 in let by = c.into_owner-owner.ensures.owner in
-    let slot : ℕ = c.number-slot.result in let is = c.number-slot.ensures in let shared : Bool = is_shared kind in let t = c.recall.new.token in
-    let views = owner_views b m on right kind home c.requires.kind w grip by slot is in
-    let same = same_recalled b l.place slot shared grip.shown l.token t (c.recall.ensures slot shared grip.shown views) in
+    let slot : ℕ = c.number-slot.result in let is = c.number-slot.ensures in let t = c.recall.new.token in
+    let known = owner_views b m on right kind home c.requires.kind w grip by slot is in
+    let same = same_recalled b l.place slot (is_shared kind) grip.shown l.token t (c.recall.ensures slot (is_shared kind) grip.shown known) in
     let q = subst (λ (x : Seat ValueFraction View). IsBetweenCalls b l.place l.own x) (sym same) c.self.invariant.0 in
-    let k : ℕ = number_of right in let told = owner_views b m on right kind home c.requires.kind w grip by k refl in
-    subst (λ (x : LocalState). IsLone x → (value : Gv) × HasValue value right × KnowsOwner x k shared value) c.self.view_is (λ lone. (
+    let j : ℕ = number_of right in let told = owner_views b m on right kind home c.requires.kind w grip by j refl in
+    subst (λ (x : LocalState). IsLone x → (value : Gv) × HasValue value right × KnowsOwner x j (is_shared kind) value) c.self.view_is (λ lone. (
       grip.shown,
       owner_has b m on right kind home c.requires.kind w grip by slot is c.into_owner-owner.ensures.views,
-      recalls_to m k shared grip.shown l.token t (c.recall.ensures k shared grip.shown told)
+      recalls_to m j (is_shared kind) grip.shown l.token t (c.recall.ensures j (is_shared kind) grip.shown told)
           (c.self.invariant.0.all ∙ ap (λ (z : Sizes). z.participants) l.domain.now.limited.1) lone,
     ))
 
-pub returns-in-Err-clause-dropped : goal.returns-in-Err-clause-dropped
-returns-in-Err-clause-dropped g c =
+pub returns-in-None-clause-gone : goal.returns-in-None-clause-gone
+returns-in-None-clause-gone g c =
     let l = c.self.inside in let b = l.domain.now.board in let m : LocalState = c.self.view_is 0 in let right = c.args.right in let kind = c.args.kind in
     let on = on_board l.domain.now.limits b l.token.table_id c.self.invariant.0.home l.domain.now.limited.1 m refl refl refl in
     let home = c.requires.home ∙ sym (ap slots_home c.self.view_is) in
     let w = c.into_owner-owner.result.0 in let grip = c.into_owner-owner.result.1 in let by = c.into_owner-owner.ensures.owner in
-    let slot : ℕ = c.number-slot.result in let is = c.number-slot.ensures in let shared : Bool = is_shared kind in let t = c.recall.new.token in
-    let views = owner_views b m on right kind home c.requires.kind w grip by slot is in
-    let same = same_recalled b l.place slot shared grip.shown l.token t (c.recall.ensures slot shared grip.shown views) in
+    let slot : ℕ = c.number-slot.result in let is = c.number-slot.ensures in let t = c.recall.new.token in
+    let known = owner_views b m on right kind home c.requires.kind w grip by slot is in
+    let same = same_recalled b l.place slot (is_shared kind) grip.shown l.token t (c.recall.ensures slot (is_shared kind) grip.shown known) in
     let q = subst (λ (x : Seat ValueFraction View). IsBetweenCalls b l.place l.own x) (sym same) c.self.invariant.0 in
-    let back = c.in-Err.ensures in let again = unmoved_same t c.hold_alone.new.token back.0 ∙ same in
-    let made = c.of_witness.ensures in (
-      right_again b m on right kind home c.requires.kind w grip by slot is c.in-Err.owner l.domain.now.limits.slots c.of_witness.result back.1 back.2
-          c.into_owner-owner.ensures.views refl made.number made.home made.kind made.views,
-      ap (λ (x : Seat ValueFraction View). with_token m x) again ∙ c.self.view_is,
-      subst (λ (x : LocalState). IsLone x → HasOpenGuard x) c.self.view_is
-          (λ lone. guard_of b l.place l.own t q (back.3 (q.all ∙ (ap (λ (z : Sizes). z.participants) l.domain.now.limited.1 ∙ lone)))),
+    let shared : Bool = c.is_one_of_several-shared.result in let sorted = c.is_one_of_several-shared.ensures in let k : ℕ = number_of right in
+    let u = c.go_in_place.new.token in let alone : IsLone m → l.token.me.0.epoch.all ≡ 1
+    = λ lone. c.self.invariant.0.all ∙ (ap (λ (z : Sizes). z.participants) l.domain.now.limited.1 ∙ lone) in
+    let beside = subst (λ (o : Option g.row.T.Denot). Goes g.row.T slot shared w.views o t u) c.in-None.is c.in-Ok.ensures.0 in
+    subst (λ (x : LocalState). GoesBeside k (is_shared kind) x (with_token m u)) c.self.view_is
+    (gone_beside m slot k is shared (is_shared kind) sorted l.token t u same refl alone beside)
+
+pub returns-in-None-clause-recalled : goal.returns-in-None-clause-recalled
+returns-in-None-clause-recalled g c =
+    let l = c.self.inside in let b = l.domain.now.board in let m : LocalState = c.self.view_is 0 in let right = c.args.right in let kind = c.args.kind in
+    let on = on_board l.domain.now.limits b l.token.table_id c.self.invariant.0.home l.domain.now.limited.1 m refl refl refl in
+    let home = c.requires.home ∙ sym (ap slots_home c.self.view_is) in
+    let w = c.into_owner-owner.result.0 in let grip = c.into_owner-owner.result.1 in let by = c.into_owner-owner.ensures.owner in
+    let slot : ℕ = c.number-slot.result in let is = c.number-slot.ensures in let t = c.recall.new.token in
+    let known = owner_views b m on right kind home c.requires.kind w grip by slot is in
+    let same = same_recalled b l.place slot (is_shared kind) grip.shown l.token t (c.recall.ensures slot (is_shared kind) grip.shown known) in
+    let q = subst (λ (x : Seat ValueFraction View). IsBetweenCalls b l.place l.own x) (sym same) c.self.invariant.0 in
+    let j : ℕ = number_of right in let told = owner_views b m on right kind home c.requires.kind w grip by j refl in
+    subst (λ (x : LocalState). IsLone x → (value : Gv) × HasValue value right × KnowsOwner x j (is_shared kind) value) c.self.view_is (λ lone. (
+      grip.shown,
+      owner_has b m on right kind home c.requires.kind w grip by slot is c.into_owner-owner.ensures.views,
+      recalls_to m j (is_shared kind) grip.shown l.token t (c.recall.ensures j (is_shared kind) grip.shown told)
+          (c.self.invariant.0.all ∙ ap (λ (z : Sizes). z.participants) l.domain.now.limited.1) lone,
+    ))
+
+pub returns-in-Err-clause-gone : goal.returns-in-Err-clause-gone
+returns-in-Err-clause-gone g c =
+    let l = c.self.inside in let b = l.domain.now.board in let m : LocalState = c.self.view_is 0 in let right = c.args.right in let kind = c.args.kind in
+    let on = on_board l.domain.now.limits b l.token.table_id c.self.invariant.0.home l.domain.now.limited.1 m refl refl refl in
+    let home = c.requires.home ∙ sym (ap slots_home c.self.view_is) in
+    let w = c.into_owner-owner.result.0 in let grip = c.into_owner-owner.result.1 in let by = c.into_owner-owner.ensures.owner in
+    let slot : ℕ = c.number-slot.result in let is = c.number-slot.ensures in let t = c.recall.new.token in
+    let known = owner_views b m on right kind home c.requires.kind w grip by slot is in
+    let same = same_recalled b l.place slot (is_shared kind) grip.shown l.token t (c.recall.ensures slot (is_shared kind) grip.shown known) in
+    let q = subst (λ (x : Seat ValueFraction View). IsBetweenCalls b l.place l.own x) (sym same) c.self.invariant.0 in
+    let shared : Bool = c.is_one_of_several-shared.result in let sorted = c.is_one_of_several-shared.ensures in let k : ℕ = number_of right in
+    let u = c.go_in_place.new.token in let alone : IsLone m → l.token.me.0.epoch.all ≡ 1
+    = λ lone. c.self.invariant.0.all ∙ (ap (λ (z : Sizes). z.participants) l.domain.now.limited.1 ∙ lone) in
+    let back = c.in-Err.ensures in let made = c.of_witness.ensures in let views = known ∙ ap (λ (s : Bool). witness_of_owner slot s grip.shown) (sym sorted) in
+    let unit = back.2 grip.shown views in (
+      right_back b m on right kind home c.requires.kind w grip by slot is c.in-Err.owner c.in-Err.grip l.domain.now.limits.slots c.of_witness.result
+          back.0 (unit.unit.book_is) back.1 c.into_owner-owner.ensures.views refl made.number made.home made.kind made.views,
+      ⊎_elim
+          (λ (x : (c.in-Err.refused ≡ Refused.GuardOpen) × IsLetGoOf slot shared t u). inl (
+            x.0,
+            subst (λ (z : LocalState). SeesGuard k (is_shared kind) z (with_token m u)) c.self.view_is
+                (guarded_at m slot k is shared (is_shared kind) sorted l.token t u same refl alone (guard_of b l.place l.own t q) x.1),
+          ))
+          (λ (x : (c.in-Err.refused ≡ Refused.Contended) × IsUnmoved t u × (shared ≡ true) × ¬ (IsLoneAt (epoch t))). inr (
+            x.0,
+            unmoved_at m slot k is shared (is_shared kind) sorted l.token t u same refl alone x.1 ∙ c.self.view_is,
+            sym sorted ∙ x.2,
+            (λ lone. x.3 (ap (λ (y : Seat ValueFraction View). y.me.0.epoch.all) same
+                ∙ alone (subst (λ (z : LocalState). IsLone z) (sym c.self.view_is) lone))),
+          )) back.3,
     )
 
 pub returns-in-Err-clause-recalled : goal.returns-in-Err-clause-recalled
@@ -291,14 +312,14 @@ returns-in-Err-clause-recalled g c =
     let on = on_board l.domain.now.limits b l.token.table_id c.self.invariant.0.home l.domain.now.limited.1 m refl refl refl in
     let home = c.requires.home ∙ sym (ap slots_home c.self.view_is) in
     let w = c.into_owner-owner.result.0 in let grip = c.into_owner-owner.result.1 in let by = c.into_owner-owner.ensures.owner in
-    let slot : ℕ = c.number-slot.result in let is = c.number-slot.ensures in let shared : Bool = is_shared kind in let t = c.recall.new.token in
-    let views = owner_views b m on right kind home c.requires.kind w grip by slot is in
-    let same = same_recalled b l.place slot shared grip.shown l.token t (c.recall.ensures slot shared grip.shown views) in
+    let slot : ℕ = c.number-slot.result in let is = c.number-slot.ensures in let t = c.recall.new.token in
+    let known = owner_views b m on right kind home c.requires.kind w grip by slot is in
+    let same = same_recalled b l.place slot (is_shared kind) grip.shown l.token t (c.recall.ensures slot (is_shared kind) grip.shown known) in
     let q = subst (λ (x : Seat ValueFraction View). IsBetweenCalls b l.place l.own x) (sym same) c.self.invariant.0 in
-    let k : ℕ = number_of right in let told = owner_views b m on right kind home c.requires.kind w grip by k refl in
-    subst (λ (x : LocalState). IsLone x → (value : Gv) × HasValue value right × KnowsOwner x k shared value) c.self.view_is (λ lone. (
+    let j : ℕ = number_of right in let told = owner_views b m on right kind home c.requires.kind w grip by j refl in
+    subst (λ (x : LocalState). IsLone x → (value : Gv) × HasValue value right × KnowsOwner x j (is_shared kind) value) c.self.view_is (λ lone. (
       grip.shown,
       owner_has b m on right kind home c.requires.kind w grip by slot is c.into_owner-owner.ensures.views,
-      recalls_to m k shared grip.shown l.token t (c.recall.ensures k shared grip.shown told)
+      recalls_to m j (is_shared kind) grip.shown l.token t (c.recall.ensures j (is_shared kind) grip.shown told)
           (c.self.invariant.0.all ∙ ap (λ (z : Sizes). z.participants) l.domain.now.limited.1) lone,
     ))

@@ -41,7 +41,8 @@ invariant_of-self g c = let l = c.self.inside in let i = c.self.invariant in let
       subst (λ (o : Participant). IsBetweenCalls b l.place o c.arrive-goes_on.new.token) opened c.arrive-goes_on.ensures.posed,
       i.1,
       record {
-        units = (let s = ap (λ (t : Tenure). t.units) c.split.ensures.rest in let t = ap (λ (t : Tenure). t.units) c.set.ensures in let u = i.2.units in omega arith);
+        units = (let s = ap (λ (t : Tenure). t.units) c.split.ensures.rest in let t = ap (λ (t : Tenure). t.units) c.set.ensures in
+            let u = i.2.units in omega arith);
         kind = ap (λ (t : Tenure). t.kind) c.split.ensures.rest ∙ ap (λ (t : Tenure). t.kind) c.set.ensures;
       },
       subst (λ (z : ℕ × CarriedFractions). AreLentTo z.0 z.1) (λ d. (

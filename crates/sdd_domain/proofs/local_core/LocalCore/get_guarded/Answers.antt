@@ -31,7 +31,8 @@ pub show-requires-clause-stake : goal.show-requires-clause-stake
 show-requires-clause-stake g c = let l = c.self.inside in let b = l.domain.now.board in let t : ℕ = c.tenure_of-tenure.result.now.round in
     let inv = c.self.invariant in let slot : ℕ = number_of c.args.right.now in
     let own = (c.witness-owner.ensures.owner (has_tables c.args.self.now c.args.right.now c.requires.home)).1 in
-    let shared : Bool = is_shared (kind_of c.args.right.now) in let shown : Gv = (c.witness-owner.ensures.owner (has_tables c.args.self.now c.args.right.now c.requires.home)).0.shown in
+    let shared : Bool = is_shared (kind_of c.args.right.now) in
+    let shown : Gv = (c.witness-owner.ensures.owner (has_tables c.args.self.now c.args.right.now c.requires.home)).0.shown in
     let recalled = c.recall.ensures slot shared shown own.owner in
     let watch = subst (λ (x : Seat ValueFraction View). MovedAlone (SeesOwned slot shared shown) x c.watch.new.token)
     (same_recalled b l.place slot shared shown l.token c.recall.new.token recalled) (c.watch.ensures slot shared shown own.owner) in
@@ -45,7 +46,8 @@ pub invariant_of-self : goal.invariant_of-self
 invariant_of-self g c = let l = c.self.inside in let b = l.domain.now.board in let t : ℕ = c.tenure_of-tenure.result.now.round in
     let inv = c.self.invariant in let slot : ℕ = number_of c.args.right.now in
     let own = (c.witness-owner.ensures.owner (has_tables c.args.self.now c.args.right.now c.requires.home)).1 in
-    let shared : Bool = is_shared (kind_of c.args.right.now) in let shown : Gv = (c.witness-owner.ensures.owner (has_tables c.args.self.now c.args.right.now c.requires.home)).0.shown in
+    let shared : Bool = is_shared (kind_of c.args.right.now) in
+    let shown : Gv = (c.witness-owner.ensures.owner (has_tables c.args.self.now c.args.right.now c.requires.home)).0.shown in
     let recalled = c.recall.ensures slot shared shown own.owner in
     let watch = subst (λ (x : Seat ValueFraction View). MovedAlone (SeesOwned slot shared shown) x c.watch.new.token)
     (same_recalled b l.place slot shared shown l.token c.recall.new.token recalled) (c.watch.ensures slot shared shown own.owner) in
@@ -68,13 +70,15 @@ pub returns-clause-value : goal.returns-clause-value
 returns-clause-value g c = let l = c.self.inside in let b = l.domain.now.board in let t : ℕ = c.tenure_of-tenure.result.now.round in
     let inv = c.self.invariant in let slot : ℕ = number_of c.args.right.now in
     let own = (c.witness-owner.ensures.owner (has_tables c.args.self.now c.args.right.now c.requires.home)).1 in
-    let shared : Bool = is_shared (kind_of c.args.right.now) in let shown : Gv = (c.witness-owner.ensures.owner (has_tables c.args.self.now c.args.right.now c.requires.home)).0.shown in
+    let shared : Bool = is_shared (kind_of c.args.right.now) in
+    let shown : Gv = (c.witness-owner.ensures.owner (has_tables c.args.self.now c.args.right.now c.requires.home)).0.shown in
     let recalled = c.recall.ensures slot shared shown own.owner in
     let watch = subst (λ (x : Seat ValueFraction View). MovedAlone (SeesOwned slot shared shown) x c.watch.new.token)
     (same_recalled b l.place slot shared shown l.token c.recall.new.token recalled) (c.watch.ensures slot shared shown own.owner) in
     let seen = watched b l.place l.own t slot shared shown l.token c.watch.new.token inv.0
     (subst (λ (t : ℕ). AreLentTo t l.token.me.1) (sym c.agree.ensures.round) inv.3) watch in
-    let shows = subst (λ (k : ℕ). HasFractionShowing l.domain.now.shelf.book k (showing g.row.T c.show.result.now) (lots c.watch.new.token.me.1)) c.number.ensures
+    let shows = subst (λ (k : ℕ). HasFractionShowing l.domain.now.shelf.book k (showing g.row.T c.show.result.now) (lots c.watch.new.token.me.1))
+    c.number.ensures
     c.show.ensures.value in
     let is = seen.once slot shown (showing g.row.T c.show.result.now) seen.there
     (shows_known (book_of b) (places_of b) l.place slot l.domain.now.shelf.book (showing g.row.T c.show.result.now) seen.records
@@ -85,13 +89,15 @@ pub returns-clause-looks : goal.returns-clause-looks
 returns-clause-looks g c = let l = c.self.inside in let b = l.domain.now.board in let t : ℕ = c.tenure_of-tenure.result.now.round in
     let inv = c.self.invariant in let slot : ℕ = number_of c.args.right.now in
     let own = (c.witness-owner.ensures.owner (has_tables c.args.self.now c.args.right.now c.requires.home)).1 in
-    let shared : Bool = is_shared (kind_of c.args.right.now) in let shown : Gv = (c.witness-owner.ensures.owner (has_tables c.args.self.now c.args.right.now c.requires.home)).0.shown in
+    let shared : Bool = is_shared (kind_of c.args.right.now) in
+    let shown : Gv = (c.witness-owner.ensures.owner (has_tables c.args.self.now c.args.right.now c.requires.home)).0.shown in
     let recalled = c.recall.ensures slot shared shown own.owner in
     let watch = subst (λ (x : Seat ValueFraction View). MovedAlone (SeesOwned slot shared shown) x c.watch.new.token)
     (same_recalled b l.place slot shared shown l.token c.recall.new.token recalled) (c.watch.ensures slot shared shown own.owner) in
     let seen = watched b l.place l.own t slot shared shown l.token c.watch.new.token inv.0
     (subst (λ (t : ℕ). AreLentTo t l.token.me.1) (sym c.agree.ensures.round) inv.3) watch in
-    let shows = subst (λ (k : ℕ). HasFractionShowing l.domain.now.shelf.book k (showing g.row.T c.show.result.now) (lots c.watch.new.token.me.1)) c.number.ensures
+    let shows = subst (λ (k : ℕ). HasFractionShowing l.domain.now.shelf.book k (showing g.row.T c.show.result.now) (lots c.watch.new.token.me.1))
+    c.number.ensures
     c.show.ensures.value in
     let is = seen.once slot shown (showing g.row.T c.show.result.now) seen.there
     (shows_known (book_of b) (places_of b) l.place slot l.domain.now.shelf.book (showing g.row.T c.show.result.now) seen.records
@@ -104,7 +110,8 @@ pub returns-clause-once : goal.returns-clause-once
 returns-clause-once g c = let l = c.self.inside in let b = l.domain.now.board in let t : ℕ = c.tenure_of-tenure.result.now.round in
     let inv = c.self.invariant in let slot : ℕ = number_of c.args.right.now in
     let own = (c.witness-owner.ensures.owner (has_tables c.args.self.now c.args.right.now c.requires.home)).1 in
-    let shared : Bool = is_shared (kind_of c.args.right.now) in let shown : Gv = (c.witness-owner.ensures.owner (has_tables c.args.self.now c.args.right.now c.requires.home)).0.shown in
+    let shared : Bool = is_shared (kind_of c.args.right.now) in
+    let shown : Gv = (c.witness-owner.ensures.owner (has_tables c.args.self.now c.args.right.now c.requires.home)).0.shown in
     let recalled = c.recall.ensures slot shared shown own.owner in
     let watch = subst (λ (x : Seat ValueFraction View). MovedAlone (SeesOwned slot shared shown) x c.watch.new.token)
     (same_recalled b l.place slot shared shown l.token c.recall.new.token recalled) (c.watch.ensures slot shared shown own.owner) in
@@ -118,13 +125,15 @@ pub returns-clause-recalled : goal.returns-clause-recalled
 returns-clause-recalled g c = let l = c.self.inside in let b = l.domain.now.board in let t : ℕ = c.tenure_of-tenure.result.now.round in
     let inv = c.self.invariant in let slot : ℕ = number_of c.args.right.now in
     let own = (c.witness-owner.ensures.owner (has_tables c.args.self.now c.args.right.now c.requires.home)).1 in
-    let shared : Bool = is_shared (kind_of c.args.right.now) in let shown : Gv = (c.witness-owner.ensures.owner (has_tables c.args.self.now c.args.right.now c.requires.home)).0.shown in
+    let shared : Bool = is_shared (kind_of c.args.right.now) in
+    let shown : Gv = (c.witness-owner.ensures.owner (has_tables c.args.self.now c.args.right.now c.requires.home)).0.shown in
     let recalled = c.recall.ensures slot shared shown own.owner in
     let watch = subst (λ (x : Seat ValueFraction View). MovedAlone (SeesOwned slot shared shown) x c.watch.new.token)
     (same_recalled b l.place slot shared shown l.token c.recall.new.token recalled) (c.watch.ensures slot shared shown own.owner) in
     let seen = watched b l.place l.own t slot shared shown l.token c.watch.new.token inv.0
     (subst (λ (t : ℕ). AreLentTo t l.token.me.1) (sym c.agree.ensures.round) inv.3) watch in
-    let shows = subst (λ (k : ℕ). HasFractionShowing l.domain.now.shelf.book k (showing g.row.T c.show.result.now) (lots c.watch.new.token.me.1)) c.number.ensures
+    let shows = subst (λ (k : ℕ). HasFractionShowing l.domain.now.shelf.book k (showing g.row.T c.show.result.now) (lots c.watch.new.token.me.1))
+    c.number.ensures
     c.show.ensures.value in
     let is = seen.once slot shown (showing g.row.T c.show.result.now) seen.there
     (shows_known (book_of b) (places_of b) l.place slot l.domain.now.shelf.book (showing g.row.T c.show.result.now) seen.records
@@ -145,7 +154,8 @@ pub watch-requires-clause-home : goal.watch-requires-clause-home
 watch-requires-clause-home g c =
     let q = c.self.invariant.0 in let l = c.self.inside in let b = l.domain.now.board in let slot : ℕ = number_of c.args.right.now in
     let own = (c.witness-owner.ensures.owner (has_tables c.args.self.now c.args.right.now c.requires.home)).1 in
-    let shared : Bool = is_shared (kind_of c.args.right.now) in let shown : Gv = (c.witness-owner.ensures.owner (has_tables c.args.self.now c.args.right.now c.requires.home)).0.shown in
+    let shared : Bool = is_shared (kind_of c.args.right.now) in
+    let shown : Gv = (c.witness-owner.ensures.owner (has_tables c.args.self.now c.args.right.now c.requires.home)).0.shown in
     let same = same_recalled b l.place slot shared shown l.token c.recall.new.token (c.recall.ensures slot shared shown own.owner) in
     ap (λ (x : Seat ValueFraction View). x.table_id) same ∙ q.home
 
@@ -153,7 +163,8 @@ pub watch-requires-clause-knows : goal.watch-requires-clause-knows
 watch-requires-clause-knows g c =
     let q = c.self.invariant.0 in let l = c.self.inside in let b = l.domain.now.board in let slot : ℕ = number_of c.args.right.now in
     let own = (c.witness-owner.ensures.owner (has_tables c.args.self.now c.args.right.now c.requires.home)).1 in
-    let shared : Bool = is_shared (kind_of c.args.right.now) in let shown : Gv = (c.witness-owner.ensures.owner (has_tables c.args.self.now c.args.right.now c.requires.home)).0.shown in
+    let shared : Bool = is_shared (kind_of c.args.right.now) in
+    let shown : Gv = (c.witness-owner.ensures.owner (has_tables c.args.self.now c.args.right.now c.requires.home)).0.shown in
     let same = same_recalled b l.place slot shared shown l.token c.recall.new.token (c.recall.ensures slot shared shown own.owner) in
     (ap (λ (x : Seat ValueFraction View). x.me.0.sizes) same ∙ q.knows.0, ap (λ (x : Seat ValueFraction View). x.me.0.stakes.book) same ∙ q.knows.1)
 
@@ -161,7 +172,8 @@ pub watch-requires-clause-open : goal.watch-requires-clause-open
 watch-requires-clause-open g c =
     let q = c.self.invariant.0 in let l = c.self.inside in let b = l.domain.now.board in let slot : ℕ = number_of c.args.right.now in
     let own = (c.witness-owner.ensures.owner (has_tables c.args.self.now c.args.right.now c.requires.home)).1 in
-    let shared : Bool = is_shared (kind_of c.args.right.now) in let shown : Gv = (c.witness-owner.ensures.owner (has_tables c.args.self.now c.args.right.now c.requires.home)).0.shown in
+    let shared : Bool = is_shared (kind_of c.args.right.now) in
+    let shown : Gv = (c.witness-owner.ensures.owner (has_tables c.args.self.now c.args.right.now c.requires.home)).0.shown in
     let same = same_recalled b l.place slot shared shown l.token c.recall.new.token (c.recall.ensures slot shared shown own.owner) in
     let some_open : 0 < l.own.guards = search rules in ap (λ (x : Seat ValueFraction View). x.me.0.epoch.state) same ∙ q.opened some_open
 
@@ -169,7 +181,8 @@ pub watch-requires-clause-near : goal.watch-requires-clause-near
 watch-requires-clause-near g c =
     let q = c.self.invariant.0 in let l = c.self.inside in let b = l.domain.now.board in let slot : ℕ = number_of c.args.right.now in
     let own = (c.witness-owner.ensures.owner (has_tables c.args.self.now c.args.right.now c.requires.home)).1 in
-    let shared : Bool = is_shared (kind_of c.args.right.now) in let shown : Gv = (c.witness-owner.ensures.owner (has_tables c.args.self.now c.args.right.now c.requires.home)).0.shown in
+    let shared : Bool = is_shared (kind_of c.args.right.now) in
+    let shown : Gv = (c.witness-owner.ensures.owner (has_tables c.args.self.now c.args.right.now c.requires.home)).0.shown in
     let same = same_recalled b l.place slot shared shown l.token c.recall.new.token (c.recall.ensures slot shared shown own.owner) in
     let place = ap (λ (x : Seat ValueFraction View). x.me.0.epoch.place) same in let at = q.place in let inside = q.inside in omega arith
 
@@ -177,7 +190,8 @@ pub watch-requires-clause-rests : goal.watch-requires-clause-rests
 watch-requires-clause-rests g c =
     let q = c.self.invariant.0 in let l = c.self.inside in let b = l.domain.now.board in let slot : ℕ = number_of c.args.right.now in
     let own = (c.witness-owner.ensures.owner (has_tables c.args.self.now c.args.right.now c.requires.home)).1 in
-    let shared : Bool = is_shared (kind_of c.args.right.now) in let shown : Gv = (c.witness-owner.ensures.owner (has_tables c.args.self.now c.args.right.now c.requires.home)).0.shown in
+    let shared : Bool = is_shared (kind_of c.args.right.now) in
+    let shown : Gv = (c.witness-owner.ensures.owner (has_tables c.args.self.now c.args.right.now c.requires.home)).0.shown in
     let same = same_recalled b l.place slot shared shown l.token c.recall.new.token (c.recall.ensures slot shared shown own.owner) in
     ap (λ (x : Seat ValueFraction View). x.me.0.stakes.moves) same ∙ q.rests
 
@@ -185,7 +199,8 @@ pub show-requires-clause-table : goal.show-requires-clause-table
 show-requires-clause-table g c =
     let q = c.self.invariant.0 in let l = c.self.inside in let b = l.domain.now.board in let slot : ℕ = number_of c.args.right.now in
     let own = (c.witness-owner.ensures.owner (has_tables c.args.self.now c.args.right.now c.requires.home)).1 in
-    let shared : Bool = is_shared (kind_of c.args.right.now) in let shown : Gv = (c.witness-owner.ensures.owner (has_tables c.args.self.now c.args.right.now c.requires.home)).0.shown in
+    let shared : Bool = is_shared (kind_of c.args.right.now) in
+    let shown : Gv = (c.witness-owner.ensures.owner (has_tables c.args.self.now c.args.right.now c.requires.home)).0.shown in
     let same = same_recalled b l.place slot shared shown l.token c.recall.new.token (c.recall.ensures slot shared shown own.owner) in
     (c.watch.ensures slot shared shown own.owner).0 ∙ (ap (λ (x : Seat ValueFraction View). x.table_id) same ∙ q.home)
 
@@ -193,7 +208,8 @@ pub watch-requires-clause-owner : goal.watch-requires-clause-owner
 watch-requires-clause-owner g c =
     let q = c.self.invariant.0 in let l = c.self.inside in let b = l.domain.now.board in let slot : ℕ = number_of c.args.right.now in
     let own = (c.witness-owner.ensures.owner (has_tables c.args.self.now c.args.right.now c.requires.home)).1 in
-    let shared : Bool = is_shared (kind_of c.args.right.now) in let shown : Gv = (c.witness-owner.ensures.owner (has_tables c.args.self.now c.args.right.now c.requires.home)).0.shown in
+    let shared : Bool = is_shared (kind_of c.args.right.now) in
+    let shown : Gv = (c.witness-owner.ensures.owner (has_tables c.args.self.now c.args.right.now c.requires.home)).0.shown in
     let tables = own.table in let mine = ap (λ (h : GhostName). h.tables) c.requires.home in let there = ap (λ (m : LocalState). m.home) c.self.view_is in
     let board = q.home in
     let table : c.witness-owner.result.now.table_id ≡ id_of b = cc in
@@ -204,7 +220,8 @@ pub recall-requires-clause-owner : goal.recall-requires-clause-owner
 recall-requires-clause-owner g c =
     let q = c.self.invariant.0 in let l = c.self.inside in let b = l.domain.now.board in let slot : ℕ = number_of c.args.right.now in
     let own = (c.witness-owner.ensures.owner (has_tables c.args.self.now c.args.right.now c.requires.home)).1 in
-    let shared : Bool = is_shared (kind_of c.args.right.now) in let shown : Gv = (c.witness-owner.ensures.owner (has_tables c.args.self.now c.args.right.now c.requires.home)).0.shown in
+    let shared : Bool = is_shared (kind_of c.args.right.now) in
+    let shown : Gv = (c.witness-owner.ensures.owner (has_tables c.args.self.now c.args.right.now c.requires.home)).0.shown in
     let tables = own.table in let mine = ap (λ (h : GhostName). h.tables) c.requires.home in let there = ap (λ (m : LocalState). m.home) c.self.view_is in
     let board = q.home in
     let table : c.witness-owner.result.now.table_id ≡ id_of b = cc in

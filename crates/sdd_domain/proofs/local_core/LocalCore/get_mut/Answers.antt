@@ -1,4 +1,4 @@
-use Rattle.std.proofs.Common.{◌≡◌, ℕ, ◌<◌, map, slice_set, Some, refl, sym, ap, ◌∙◌, subst}
+use Rattle.std.proofs.Common.{◌≡◌, ◌⊎◌, ℕ, ◌<◌, slice_set, Some, refl, sym, ap, ◌∙◌, subst}
 use Rattle.std.specs.Prelude.{Bool}
 use base.Stored.{Gv}
 use Rattle.atomic_table.specs.declared.shared.Seat.{Seat}
@@ -12,15 +12,17 @@ use Rattle.sdd_space.specs.OwnerOrCell.{AreOf}
 use Rattle.sdd_views.specs.declared.Sizes.{Sizes}
 use Rattle.sdd_views.specs.declared.View.{View}
 use Rattle.sdd_atomics.specs.DomainTable.{slots_of}
-use Rattle.sdd_domain.specs.BetweenCalls.{AreLentTo, IsBetweenCalls, IsReady, IsTenureOf}
+use Rattle.sdd_domain.specs.BetweenCalls.{AreLentTo, IsBetweenCalls, IsReady}
 use Rattle.sdd_domain.specs.Items.{HasValue, IsRightTo, slots_home}
-use Rattle.sdd_domain.specs.LocalState.{ChangesAt, HasOpenGuard, IsLone, KnowsOwner, LocalState}
+use Rattle.sdd_domain.specs.LocalState.{ChangesAt, HasOthers, IsLone, KnowsOwner, LocalState, SeesGuard, sole_words}
 use Rattle.sdd_domain.specs.Receipt.{IsTallied}
 use Rattle.sdd_domain.specs.SpaceIds.{home_in}
 use Rattle.sdd_domain.specs.Values.{with_filled}
-use Rattle.sdd_domain.specs.WaitingItems.{what_of, ripe}
 use Rattle.sdd_domain.proofs.Housed.{from_board, on_board, to_board}
-use Rattle.sdd_domain.proofs.InPlace.{bare, changed_to, guard_of, held_home, held_knows, held_looked, held_owns, held_place, held_rests, held_shut, held_tells, owner_has, owner_inside, owner_table, owner_views, placed, posed_changed, right_again, right_anew, unmoved_same}
+use lib.ListN.{get_elem?}
+use Rattle.sdd_core.specs.declared.refused.Refused.TheVariants as Refused
+use Rattle.sdd_domain.proofs.Held.{only}
+use Rattle.sdd_domain.proofs.InPlace.{bare, changed_to, guard_of, hindered_at, hindered_view, knew_sole, posed_noted, held_home, held_knows, held_looked, held_owns, held_place, held_rests, held_shut, held_tells, owner_has, owner_inside, owner_table, owner_views, placed, posed_changed, right_again, right_anew}
 use Rattle.sdd_domain.proofs.Members.{recalls_to, with_token, with_view}
 use Rattle.sdd_domain.proofs.Posing.{same_recalled}
 use Rattle.sdd_domain.proofs.local_core.LocalCore.get_mut.Goals as goal
@@ -93,7 +95,10 @@ hold_alone-requires-clause-owner g c =
     let known = owner_views b m on right kind home c.requires.kind w grip by slot is in
     let same = same_recalled b l.place slot (is_shared kind) grip.shown l.token t (c.recall.ensures slot (is_shared kind) grip.shown known) in
     let q = subst (λ (x : Seat ValueFraction View). IsBetweenCalls b l.place l.own x) (sym same) c.self.invariant.0 in
-    (owner_table b m on right kind home c.requires.kind w grip by slot is, (is_shared kind, grip.shown, known))
+    let sorted = c.is_one_of_several-shared.ensures in (
+      owner_table b m on right kind home c.requires.kind w grip by slot is,
+      (grip.shown, known ∙ ap (λ (s : Bool). witness_of_owner slot s grip.shown) (sym sorted)),
+    )
 
 pub change_alone-owner-requires-clause-home : goal.change_alone-owner-requires-clause-home
 change_alone-owner-requires-clause-home g c =
@@ -109,7 +114,7 @@ change_alone-owner-requires-clause-home g c =
     let q = subst (λ (x : Seat ValueFraction View). IsBetweenCalls b l.place l.own x) (sym same) c.self.invariant.0 in
     let shared : Bool = c.is_one_of_several-shared.result in let sorted = c.is_one_of_several-shared.ensures in
     let views = known ∙ ap (λ (s : Bool). witness_of_owner slot s grip.shown) (sym sorted) in
-    let h = c.hold_alone.new.token in let held = c.in-Ok.ensures shared grip.shown views in
+    let h = c.hold_alone.new.token in let held = c.in-Ok.ensures grip.shown views in
     held_home b l.place l.own t q slot shared grip.shown h held
 
 pub change_alone-owner-requires-clause-knows : goal.change_alone-owner-requires-clause-knows
@@ -126,7 +131,7 @@ change_alone-owner-requires-clause-knows g c =
     let q = subst (λ (x : Seat ValueFraction View). IsBetweenCalls b l.place l.own x) (sym same) c.self.invariant.0 in
     let shared : Bool = c.is_one_of_several-shared.result in let sorted = c.is_one_of_several-shared.ensures in
     let views = known ∙ ap (λ (s : Bool). witness_of_owner slot s grip.shown) (sym sorted) in
-    let h = c.hold_alone.new.token in let held = c.in-Ok.ensures shared grip.shown views in
+    let h = c.hold_alone.new.token in let held = c.in-Ok.ensures grip.shown views in
     held_knows b l.place l.own t q slot shared grip.shown h held
 
 pub change_alone-owner-requires-clause-place : goal.change_alone-owner-requires-clause-place
@@ -143,7 +148,7 @@ change_alone-owner-requires-clause-place g c =
     let q = subst (λ (x : Seat ValueFraction View). IsBetweenCalls b l.place l.own x) (sym same) c.self.invariant.0 in
     let shared : Bool = c.is_one_of_several-shared.result in let sorted = c.is_one_of_several-shared.ensures in
     let views = known ∙ ap (λ (s : Bool). witness_of_owner slot s grip.shown) (sym sorted) in
-    let h = c.hold_alone.new.token in let held = c.in-Ok.ensures shared grip.shown views in
+    let h = c.hold_alone.new.token in let held = c.in-Ok.ensures grip.shown views in
     held_place b l.place l.own t q slot shared grip.shown h held
 
 pub change_alone-owner-requires-clause-rests : goal.change_alone-owner-requires-clause-rests
@@ -160,7 +165,7 @@ change_alone-owner-requires-clause-rests g c =
     let q = subst (λ (x : Seat ValueFraction View). IsBetweenCalls b l.place l.own x) (sym same) c.self.invariant.0 in
     let shared : Bool = c.is_one_of_several-shared.result in let sorted = c.is_one_of_several-shared.ensures in
     let views = known ∙ ap (λ (s : Bool). witness_of_owner slot s grip.shown) (sym sorted) in
-    let h = c.hold_alone.new.token in let held = c.in-Ok.ensures shared grip.shown views in
+    let h = c.hold_alone.new.token in let held = c.in-Ok.ensures grip.shown views in
     held_rests b l.place l.own t q slot shared grip.shown h held
 
 pub change_alone-owner-requires-clause-held : goal.change_alone-owner-requires-clause-held
@@ -177,7 +182,7 @@ change_alone-owner-requires-clause-held g c =
     let q = subst (λ (x : Seat ValueFraction View). IsBetweenCalls b l.place l.own x) (sym same) c.self.invariant.0 in
     let shared : Bool = c.is_one_of_several-shared.result in let sorted = c.is_one_of_several-shared.ensures in
     let views = known ∙ ap (λ (s : Bool). witness_of_owner slot s grip.shown) (sym sorted) in
-    let h = c.hold_alone.new.token in let held = c.in-Ok.ensures shared grip.shown views in
+    let h = c.hold_alone.new.token in let held = c.in-Ok.ensures grip.shown views in
     held_owns b l.place l.own t q slot shared grip.shown h held
 
 pub change_alone-owner-requires-clause-looked : goal.change_alone-owner-requires-clause-looked
@@ -194,7 +199,7 @@ change_alone-owner-requires-clause-looked g c =
     let q = subst (λ (x : Seat ValueFraction View). IsBetweenCalls b l.place l.own x) (sym same) c.self.invariant.0 in
     let shared : Bool = c.is_one_of_several-shared.result in let sorted = c.is_one_of_several-shared.ensures in
     let views = known ∙ ap (λ (s : Bool). witness_of_owner slot s grip.shown) (sym sorted) in
-    let h = c.hold_alone.new.token in let held = c.in-Ok.ensures shared grip.shown views in
+    let h = c.hold_alone.new.token in let held = c.in-Ok.ensures grip.shown views in
     held_looked b l.place l.own t q slot shared grip.shown h held
 
 pub change_alone-owner-requires-clause-held_on : goal.change_alone-owner-requires-clause-held_on
@@ -227,11 +232,13 @@ invariant_of-self g c =
     let q = subst (λ (x : Seat ValueFraction View). IsBetweenCalls b l.place l.own x) (sym same) c.self.invariant.0 in
     let shared : Bool = c.is_one_of_several-shared.result in let sorted = c.is_one_of_several-shared.ensures in
     let views = known ∙ ap (λ (s : Bool). witness_of_owner slot s grip.shown) (sym sorted) in
-    let h = c.hold_alone.new.token in let held = c.in-Ok.ensures shared grip.shown views in
+    let h = c.hold_alone.new.token in let held = c.in-Ok.ensures grip.shown views in
     let u = c.change_alone-owner.new.token in let did = c.change_alone-owner.ensures.changed in let moved = c.change_alone-owner.ensures.home in
     let now : Gv = showing g.row.T did.1 in let view = changed_to b l.place l.own t q slot shared grip.shown h held u now did.4 in
     let table = moved.0 ∙ held.table in let others = moved.2 ∙ held.others in
-    let here = view ∙ ap (λ (x : Seat ValueFraction View). with_filled slot shared now x.me.0) same in
+    let here = view ∙ ap (λ (x : Seat ValueFraction View). record (with_filled slot shared now x.me.0) {
+      words = sole_words shared slot x.me.0.sizes x.me.0.words;
+    }) same in
     let i = c.self.invariant in (
       posed_changed b l.place l.own t q slot shared grip.shown h held u now table others view,
       i.1,
@@ -240,6 +247,23 @@ invariant_of-self g c =
       subst (IsReady b l.own l.due l.known.slots l.jobs) (sym (ap (λ (v : View). v.slots.waits) here)) i.4,
       subst (IsTallied 0 l.tally) (sym (ap (λ (v : View). v.stakes.counts) here)) i.5,
     )
+
+pub change_alone-owner-requires-clause-shows : goal.change_alone-owner-requires-clause-shows
+change_alone-owner-requires-clause-shows g c =
+    let l = c.self.inside in let b = l.domain.now.board in let m : LocalState = c.self.view_is 0 in let right = c.args.right.now in let kind = c.args.kind in
+    let on = on_board l.domain.now.limits b l.token.table_id c.self.invariant.0.home l.domain.now.limited.1 m refl refl refl in
+    let home = c.requires.home ∙ sym (ap slots_home c.self.view_is) in
+    let w = c.into_owner-owner.result.0 in let grip = c.into_owner-owner.result.1 in
+    let by = subst (λ (r : Right). AreSlotsOfTable (home_of r) → IsOwnerBy (home_of r) (number_of r) (is_shared (kind_of r)) w grip) c.take.ensures
+    c.into_owner-owner.ensures.owner in let seen = c.into_owner-owner.ensures.views ∙ ap views_of c.take.ensures in
+    let slot : ℕ = c.number-slot.result in let is = c.number-slot.ensures in let t = c.recall.new.token in
+    let known = owner_views b m on right kind home c.requires.kind w grip by slot is in
+    let same = same_recalled b l.place slot (is_shared kind) grip.shown l.token t (c.recall.ensures slot (is_shared kind) grip.shown known) in
+    let q = subst (λ (x : Seat ValueFraction View). IsBetweenCalls b l.place l.own x) (sym same) c.self.invariant.0 in
+    let shared : Bool = c.is_one_of_several-shared.result in let sorted = c.is_one_of_several-shared.ensures in
+    let views = known ∙ ap (λ (s : Bool). witness_of_owner slot s grip.shown) (sym sorted) in
+    let h = c.hold_alone.new.token in let held = c.in-Ok.ensures grip.shown views in
+    (0, only slot shared grip.shown, ap (λ (v : View). get_elem? v.stakes.owns 0) held.view, refl, refl)
 
 pub invariant_of-self-in-Err : goal.invariant_of-self-in-Err
 invariant_of-self-in-Err g c =
@@ -253,10 +277,15 @@ invariant_of-self-in-Err g c =
     let known = owner_views b m on right kind home c.requires.kind w grip by slot is in
     let same = same_recalled b l.place slot (is_shared kind) grip.shown l.token t (c.recall.ensures slot (is_shared kind) grip.shown known) in
     let q = subst (λ (x : Seat ValueFraction View). IsBetweenCalls b l.place l.own x) (sym same) c.self.invariant.0 in
-    let back = c.in-Err.ensures in let again = unmoved_same t c.hold_alone.new.token back.0 ∙ same in
-    subst (λ (x : Seat ValueFraction View). IsBetweenCalls b l.place l.own x × l.nesting ≡ l.domain.now.limits.nesting × IsTenureOf l.own l.tenure
-    × AreLentTo l.tenure.round x.me.1 × IsReady b l.own l.due l.known.slots l.jobs x.me.0.slots.waits × IsTallied 0 l.tally x.me.0.stakes.counts)
-    (sym again) c.self.invariant
+    let h = c.hold_alone.new.token in let e = hindered_view slot c.is_one_of_several-shared.result c.in-Err.hindrance t h c.in-Err.ensures.0 in
+    let here = e.3 ∙ ap (λ (x : Seat ValueFraction View). record x.me.0 { words = e.0 }) same in let i = c.self.invariant in (
+      posed_noted b l.place l.own t q h e.0 e.1 e.2 e.3,
+      i.1,
+      i.2,
+      subst (AreLentTo l.tenure.round) (sym (e.2 ∙ ap (λ (x : Seat ValueFraction View). x.me.1) same)) i.3,
+      subst (IsReady b l.own l.due l.known.slots l.jobs) (sym (ap (λ (v : View). v.slots.waits) here)) i.4,
+      subst (IsTallied 0 l.tally) (sym (ap (λ (v : View). v.stakes.counts) here)) i.5,
+    )
 
 pub returns-in-Ok-clause-changed : goal.returns-in-Ok-clause-changed
 returns-in-Ok-clause-changed g c =
@@ -272,17 +301,23 @@ returns-in-Ok-clause-changed g c =
     let q = subst (λ (x : Seat ValueFraction View). IsBetweenCalls b l.place l.own x) (sym same) c.self.invariant.0 in
     let shared : Bool = c.is_one_of_several-shared.result in let sorted = c.is_one_of_several-shared.ensures in
     let views = known ∙ ap (λ (s : Bool). witness_of_owner slot s grip.shown) (sym sorted) in
-    let h = c.hold_alone.new.token in let held = c.in-Ok.ensures shared grip.shown views in
+    let h = c.hold_alone.new.token in let held = c.in-Ok.ensures grip.shown views in
     let u = c.change_alone-owner.new.token in let did = c.change_alone-owner.ensures.changed in let moved = c.change_alone-owner.ensures.home in
     let now : Gv = showing g.row.T did.1 in let view = changed_to b l.place l.own t q slot shared grip.shown h held u now did.4 in
     let table = moved.0 ∙ held.table in let others = moved.2 ∙ held.others in
-    let here = view ∙ ap (λ (x : Seat ValueFraction View). with_filled slot shared now x.me.0) same in
+    let here = view ∙ ap (λ (x : Seat ValueFraction View). record (with_filled slot shared now x.me.0) {
+      words = sole_words shared slot x.me.0.sizes x.me.0.words;
+    }) same in
     let told = held_tells b l.place l.own t q slot shared grip.shown h held (showing g.row.T did.0) did.2 in
-    let k : ℕ = number_of right in let at = here ∙ (λ d. with_filled (is d) (sorted d) now l.token.me.0) in
+    let k : ℕ = number_of right in let at = here ∙ (λ d. record (with_filled (is d) (sorted d) now l.token.me.0) {
+      words = sole_words (sorted d) (is d) l.token.me.0.sizes l.token.me.0.words;
+    }) in
     let from = table ∙ ap (λ (x : Seat ValueFraction View). x.table_id) same in
     let inside = subst (λ (r : Right). number_of r < (home_of r).size) c.take.ensures c.into_owner-owner.ensures.inside in
     let low = owner_inside b m on right kind home c.requires.kind w grip by slot is inside in
     let new : LocalState = with_view m u.table_id u.me.0 in let made = c.of_witness.ensures in
+    let alone : IsLone m → l.token.me.0.epoch.all ≡ 1
+    = λ lone. c.self.invariant.0.all ∙ (ap (λ (z : Sizes). z.participants) l.domain.now.limited.1 ∙ lone) in
     let owner : IsRightTo m kind now c.of_witness.result = record {
       home = right_anew b m on right kind home c.requires.kind w grip by slot is c.change_alone-owner.result.0 c.change_alone-owner.result.1
           l.domain.now.limits.slots c.of_witness.result did.5 did.7.unit.book_is refl made.home;
@@ -296,6 +331,7 @@ returns-in-Ok-clause-changed g c =
       subst (λ (x : LocalState). ChangesAt k (is_shared kind) now x new) c.self.view_is record {
         inside = subst (λ (n : ℕ). k < n) (sym on.slots) (subst (λ (j : ℕ). j < slots_of b) is low);
         member = λ d. with_view m (from d) (at d);
+        sole = knew_sole m slot k is shared (is_shared kind) sorted l.token t u same refl alone held.sole;
         quiet = held_shut b l.place l.own t q slot shared grip.shown h held;
       },
       subst (λ (r : Right). IsRightTo c.args.self.now kind now r) (sym c.put.ensures)
@@ -336,15 +372,18 @@ returns-in-Err-clause-changed g c =
     let known = owner_views b m on right kind home c.requires.kind w grip by slot is in
     let same = same_recalled b l.place slot (is_shared kind) grip.shown l.token t (c.recall.ensures slot (is_shared kind) grip.shown known) in
     let q = subst (λ (x : Seat ValueFraction View). IsBetweenCalls b l.place l.own x) (sym same) c.self.invariant.0 in
-    let back = c.in-Err.ensures in let again = unmoved_same t c.hold_alone.new.token back.0 ∙ same in
-    let made = c.of_witness-in-Err.ensures in (
+    let back = c.in-Err.ensures in let made = c.of_witness-in-Err.ensures in let h = c.hold_alone.new.token in let k : ℕ = number_of right in
+    let shared : Bool = c.is_one_of_several-shared.result in let sorted = c.is_one_of_several-shared.ensures in
+    let alone : IsLone m → l.token.me.0.epoch.all ≡ 1
+    = λ lone. c.self.invariant.0.all ∙ (ap (λ (z : Sizes). z.participants) l.domain.now.limited.1 ∙ lone) in (
       refl,
       c.put-in-Err.ensures ∙ right_again b m on right kind home c.requires.kind w grip by slot is c.in-Err.owner l.domain.now.limits.slots
           c.of_witness-in-Err.result back.1 back.2 seen refl made.number made.home made.kind made.views,
-      ap (λ (x : Seat ValueFraction View). with_token m x) again ∙ c.self.view_is,
       refl,
-      subst (λ (x : LocalState). IsLone x → HasOpenGuard x) c.self.view_is
-          (λ lone. guard_of b l.place l.own t q (back.3 (q.all ∙ (ap (λ (z : Sizes). z.participants) l.domain.now.limited.1 ∙ lone)))),
+      subst (λ (x : LocalState). ((c.refused.result ≡ Refused.NotAlone) × HasOthers k (is_shared kind) x (with_token m h))
+          ⊎ ((c.refused.result ≡ Refused.GuardOpen) × SeesGuard k (is_shared kind) x (with_token m h))) c.self.view_is
+          (hindered_at m slot k is shared (is_shared kind) sorted l.token t h same refl alone (guard_of b l.place l.own t q)
+          c.in-Err.hindrance c.refused.result c.refused.ensures back.0),
     )
 
 pub returns-in-Err-clause-recalled : goal.returns-in-Err-clause-recalled

@@ -1,7 +1,7 @@
 use mathlib.Core.Logic.{dite}
 use native.Mathlib.Decide.{dec_lt}
 use lib.ListN.{get_elem?}
-use Rattle.std.proofs.Common.{◌≡◌, ℕ, ◌<◌, List, [], ◌∷◌, sym, ap, ◌∙◌, subst, arith}
+use Rattle.std.proofs.Common.{◌≡◌, ℕ, ◌<◌, List, [], ◌∷◌, refl, sym, ap, ◌∙◌, subst, arith}
 use Rattle.std.specs.Prelude.{Bool, false}
 use base.Stored.{Gv}
 use Rattle.atomic_table.specs.declared.shared.Seat.{Seat}
@@ -25,7 +25,8 @@ use Rattle.sdd_domain.proofs.RawCore.{put_home, put_view, put_others, posed_out}
 use Rattle.sdd_domain.proofs.local_core.LocalCore.into_raw.Goals as goal
 
 pub take_in-requires-clause-home : goal.take_in-requires-clause-home
-take_in-requires-clause-home g c = let l = c.self.inside in let board = l.domain.now.board in let q = c.self.invariant.0 in let slot : ℕ = number_of c.args.right in
+take_in-requires-clause-home g c = let l = c.self.inside in let board = l.domain.now.board in let q = c.self.invariant.0 in
+    let slot : ℕ = number_of c.args.right in
     let by = c.into_owner-owner.ensures.owner (has_tables c.args.self.now c.args.right c.requires.home) in let shown : Gv = c.into_owner-owner.result.1.shown in
     let views = by.owner ∙ ap (λ (b : Bool). witness_of_owner slot b shown) (ap is_shared c.requires.kind) in
     let recalled = c.recall.ensures slot false shown views in
@@ -33,7 +34,8 @@ take_in-requires-clause-home g c = let l = c.self.inside in let board = l.domain
     ap (λ (x : Seat ValueFraction View). x.table_id) same ∙ q.home
 
 pub take_in-requires-clause-rests : goal.take_in-requires-clause-rests
-take_in-requires-clause-rests g c = let l = c.self.inside in let board = l.domain.now.board in let q = c.self.invariant.0 in let slot : ℕ = number_of c.args.right in
+take_in-requires-clause-rests g c = let l = c.self.inside in let board = l.domain.now.board in let q = c.self.invariant.0 in
+    let slot : ℕ = number_of c.args.right in
     let by = c.into_owner-owner.ensures.owner (has_tables c.args.self.now c.args.right c.requires.home) in let shown : Gv = c.into_owner-owner.result.1.shown in
     let views = by.owner ∙ ap (λ (b : Bool). witness_of_owner slot b shown) (ap is_shared c.requires.kind) in
     let recalled = c.recall.ensures slot false shown views in
@@ -41,7 +43,8 @@ take_in-requires-clause-rests g c = let l = c.self.inside in let board = l.domai
     ap (λ (x : Seat ValueFraction View). x.me.0.stakes.moves) same ∙ q.rests
 
 pub put_out-requires-clause-home : goal.put_out-requires-clause-home
-put_out-requires-clause-home g c = let l = c.self.inside in let board = l.domain.now.board in let q = c.self.invariant.0 in let slot : ℕ = number_of c.args.right in
+put_out-requires-clause-home g c = let l = c.self.inside in let board = l.domain.now.board in let q = c.self.invariant.0 in
+    let slot : ℕ = number_of c.args.right in
     let by = c.into_owner-owner.ensures.owner (has_tables c.args.self.now c.args.right c.requires.home) in let shown : Gv = c.into_owner-owner.result.1.shown in
     let views = by.owner ∙ ap (λ (b : Bool). witness_of_owner slot b shown) (ap is_shared c.requires.kind) in
     let recalled = c.recall.ensures slot false shown views in
@@ -51,7 +54,8 @@ put_out-requires-clause-home g c = let l = c.self.inside in let board = l.domain
     took.0 ∙ q.home
 
 pub put_out-requires-clause-knows : goal.put_out-requires-clause-knows
-put_out-requires-clause-knows g c = let l = c.self.inside in let board = l.domain.now.board in let q = c.self.invariant.0 in let slot : ℕ = number_of c.args.right in
+put_out-requires-clause-knows g c = let l = c.self.inside in let board = l.domain.now.board in let q = c.self.invariant.0 in
+    let slot : ℕ = number_of c.args.right in
     let by = c.into_owner-owner.ensures.owner (has_tables c.args.self.now c.args.right c.requires.home) in let shown : Gv = c.into_owner-owner.result.1.shown in
     let views = by.owner ∙ ap (λ (b : Bool). witness_of_owner slot b shown) (ap is_shared c.requires.kind) in
     let recalled = c.recall.ensures slot false shown views in
@@ -61,7 +65,8 @@ put_out-requires-clause-knows g c = let l = c.self.inside in let board = l.domai
     (ap (λ (v : View). v.sizes) took.3 ∙ q.knows.0, ap (λ (v : View). v.stakes.book) took.3 ∙ q.knows.1)
 
 pub put_out-requires-clause-place : goal.put_out-requires-clause-place
-put_out-requires-clause-place g c = let l = c.self.inside in let board = l.domain.now.board in let q = c.self.invariant.0 in let slot : ℕ = number_of c.args.right in
+put_out-requires-clause-place g c = let l = c.self.inside in let board = l.domain.now.board in let q = c.self.invariant.0 in
+    let slot : ℕ = number_of c.args.right in
     let by = c.into_owner-owner.ensures.owner (has_tables c.args.self.now c.args.right c.requires.home) in let shown : Gv = c.into_owner-owner.result.1.shown in
     let views = by.owner ∙ ap (λ (b : Bool). witness_of_owner slot b shown) (ap is_shared c.requires.kind) in
     let recalled = c.recall.ensures slot false shown views in
@@ -73,7 +78,8 @@ put_out-requires-clause-place g c = let l = c.self.inside in let board = l.domai
     (λ none. subst (λ (k : ℕ). 0 < k) (sym (state ∙ q.closed (omega arith))) (omega arith))
 
 pub put_out-requires-clause-own : goal.put_out-requires-clause-own
-put_out-requires-clause-own g c = let l = c.self.inside in let board = l.domain.now.board in let q = c.self.invariant.0 in let slot : ℕ = number_of c.args.right in
+put_out-requires-clause-own g c = let l = c.self.inside in let board = l.domain.now.board in let q = c.self.invariant.0 in
+    let slot : ℕ = number_of c.args.right in
     let by = c.into_owner-owner.ensures.owner (has_tables c.args.self.now c.args.right c.requires.home) in let shown : Gv = c.into_owner-owner.result.1.shown in
     let views = by.owner ∙ ap (λ (b : Bool). witness_of_owner slot b shown) (ap is_shared c.requires.kind) in
     let recalled = c.recall.ensures slot false shown views in
@@ -87,7 +93,8 @@ put_out-requires-clause-own g c = let l = c.self.inside in let board = l.domain.
     )
 
 pub put_out-requires-clause-told : goal.put_out-requires-clause-told
-put_out-requires-clause-told g c = let l = c.self.inside in let board = l.domain.now.board in let q = c.self.invariant.0 in let slot : ℕ = number_of c.args.right in
+put_out-requires-clause-told g c = let l = c.self.inside in let board = l.domain.now.board in let q = c.self.invariant.0 in
+    let slot : ℕ = number_of c.args.right in
     let by = c.into_owner-owner.ensures.owner (has_tables c.args.self.now c.args.right c.requires.home) in let shown : Gv = c.into_owner-owner.result.1.shown in
     let views = by.owner ∙ ap (λ (b : Bool). witness_of_owner slot b shown) (ap is_shared c.requires.kind) in
     let recalled = c.recall.ensures slot false shown views in
@@ -97,8 +104,20 @@ put_out-requires-clause-told g c = let l = c.self.inside in let board = l.domain
     subst (λ (k : ℕ). (value : Gv) × HasRecord c.take_in.new.token.me.0.stakes.owns (record { slot = k; shared = false; value = value }))
     (sym c.number-slot.ensures) (shown, (0, ap (λ (v : View). get_elem? v.stakes.owns 0) took.3))
 
+pub put_out-requires-clause-shows : goal.put_out-requires-clause-shows
+put_out-requires-clause-shows g c = let l = c.self.inside in let board = l.domain.now.board in let q = c.self.invariant.0 in
+    let slot : ℕ = number_of c.args.right in
+    let by = c.into_owner-owner.ensures.owner (has_tables c.args.self.now c.args.right c.requires.home) in let shown : Gv = c.into_owner-owner.result.1.shown in
+    let views = by.owner ∙ ap (λ (b : Bool). witness_of_owner slot b shown) (ap is_shared c.requires.kind) in
+    let recalled = c.recall.ensures slot false shown views in
+    let same = same_recalled board l.place slot false shown l.token c.recall.new.token recalled in
+    let took = subst (λ (x : Seat ValueFraction View). Taught (λ v _ w. w ≡ regained v (owner_of slot false shown)) x 0 c.take_in.new.token) same
+    (c.take_in.ensures slot false shown views) in
+    (0, record { slot = slot; shared = false; value = shown }, ap (λ (v : View). get_elem? v.stakes.owns 0) took.3, sym c.number-slot.ensures, refl)
+
 pub put_out-requires-clause-rests : goal.put_out-requires-clause-rests
-put_out-requires-clause-rests g c = let l = c.self.inside in let board = l.domain.now.board in let q = c.self.invariant.0 in let slot : ℕ = number_of c.args.right in
+put_out-requires-clause-rests g c = let l = c.self.inside in let board = l.domain.now.board in let q = c.self.invariant.0 in
+    let slot : ℕ = number_of c.args.right in
     let by = c.into_owner-owner.ensures.owner (has_tables c.args.self.now c.args.right c.requires.home) in let shown : Gv = c.into_owner-owner.result.1.shown in
     let views = by.owner ∙ ap (λ (b : Bool). witness_of_owner slot b shown) (ap is_shared c.requires.kind) in
     let recalled = c.recall.ensures slot false shown views in

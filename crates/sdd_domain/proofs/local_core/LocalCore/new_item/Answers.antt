@@ -11,6 +11,9 @@ use Rattle.sdd_shared_values.specs.SharedValues.{showing}
 use Rattle.sdd_atomics.specs.DomainTable.{book_of, places_of}
 use Rattle.sdd_domain.specs.BetweenCalls.{AreLentTo, IsReady}
 use Rattle.sdd_domain.specs.Receipt.{IsTallied}
+use Rattle.sdd_word_invariant.specs.Codes.{alive, counted}
+use Rattle.sdd_word_invariant.proofs.Codes.{claimed_is}
+use Rattle.sdd_domain.proofs.Words.{claimed_kind}
 use Rattle.sdd_domain.proofs.Moving.{row_out}
 use Rattle.sdd_domain.proofs.Posing.{posed_makes, made_view}
 use Rattle.sdd_domain.proofs.Tallies.{tallied_made}
@@ -31,18 +34,25 @@ put_value-owner-requires-clause-fits g c = let l = c.self.inside in let b = l.do
 
 pub invariant_of-self : goal.invariant_of-self
 invariant_of-self g c = let l = c.self.inside in let b = l.domain.now.board in let inv = c.self.invariant in let put = c.put_value-owner.ensures in
-    let made = showing g.row.T c.args.value in let shared = c.is_one_of_several-shared.result in let slot = c.in-Ok.slot in
+    let made = showing g.row.T c.args.value in let shared = c.is_one_of_several-shared.result in let slot = c.in-Ok.slot in let y = c.first_word-word.result in
     let claimed = c.claim_free.new.token in let token = c.put_value-owner.new.token in
-    let posed = posed_makes b l.place l.own slot shared made l.token claimed token inv.0 c.in-Ok.ensures.tried put.home.0 put.view put.given in (
+    let posed = posed_makes b l.place l.own y slot shared made l.token claimed token inv.0 c.in-Ok.ensures.tried put.home.0 put.view put.given in (
       posed.0,
       inv.1,
       inv.2,
       subst (AreLentTo l.tenure.round) (sym posed.1) inv.3,
       subst (IsReady b l.own l.due c.claim_free.new.known.slots l.jobs) (sym (ap (λ (v : View). v.slots.waits)
-          (made_view b l.place l.own slot shared made l.token claimed token inv.0 c.in-Ok.ensures.tried put.view)))
+          (made_view b l.place l.own y slot shared made l.token claimed token inv.0 c.in-Ok.ensures.tried put.view)))
           (record { due = inv.4.due; large = inv.4.large; slots = c.claim_free.ensures.slots ∙ inv.4.slots; places = inv.4.places; jobs = inv.4.jobs }),
       subst (λ (t : Tally). IsTallied 0 t token.me.0.stakes.counts) (sym c.count_made.ensures)
           (subst (IsTallied 0 (one_made l.tally)) (sym (ap (λ (v : View). v.stakes.counts)
-          (made_view b l.place l.own slot shared made l.token claimed token inv.0 c.in-Ok.ensures.tried put.view)))
+          (made_view b l.place l.own y slot shared made l.token claimed token inv.0 c.in-Ok.ensures.tried put.view)))
           (tallied_made l.tally l.token.me.0.stakes.counts inv.5)),
     )
+
+-- it was claimed by the word for such an owner
+pub put_value-owner-requires-clause-kind : goal.put_value-owner-requires-clause-kind
+put_value-owner-requires-clause-kind g c = ap counted (c.in-Ok.ensures.tried.noted ∙ c.first_word-word.ensures) ∙ claimed_kind c.is_one_of_several-shared.result
+
+pub claim_free-requires-clause-one : goal.claim_free-requires-clause-one
+claim_free-requires-clause-one g c = ap alive c.first_word-word.ensures ∙ (claimed_is c.is_one_of_several-shared.result).0

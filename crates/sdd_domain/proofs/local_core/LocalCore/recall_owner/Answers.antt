@@ -36,7 +36,8 @@ recall-requires-clause-owner g c =
 pub invariant_of-self : goal.invariant_of-self
 invariant_of-self g c =
     let l = c.self.inside in let board = l.domain.now.board in let slot : ℕ = number_of c.args.right.now in
-    let shared : Bool = is_shared (kind_of c.args.right.now) in let shown : Gv = (c.witness.ensures.owner (has_tables c.args.self.now c.args.right.now c.requires)).0.shown in
+    let shared : Bool = is_shared (kind_of c.args.right.now) in
+    let shown : Gv = (c.witness.ensures.owner (has_tables c.args.self.now c.args.right.now c.requires)).0.shown in
     let own = (c.witness.ensures.owner (has_tables c.args.self.now c.args.right.now c.requires)).1 in
     let same = same_recalled board l.place slot shared shown l.token c.recall.new.token (c.recall.ensures slot shared shown own.owner) in
     subst (λ (x : Seat ValueFraction View). IsBetweenCalls board l.place l.own x × l.nesting ≡ l.domain.now.limits.nesting × IsTenureOf l.own l.tenure
@@ -46,7 +47,8 @@ invariant_of-self g c =
 pub returns-clause-same : goal.returns-clause-same
 returns-clause-same g c =
     let l = c.self.inside in let slot : ℕ = number_of c.args.right.now in
-    let shared : Bool = is_shared (kind_of c.args.right.now) in let shown : Gv = (c.witness.ensures.owner (has_tables c.args.self.now c.args.right.now c.requires)).0.shown in
+    let shared : Bool = is_shared (kind_of c.args.right.now) in
+    let shown : Gv = (c.witness.ensures.owner (has_tables c.args.self.now c.args.right.now c.requires)).0.shown in
     let own = (c.witness.ensures.owner (has_tables c.args.self.now c.args.right.now c.requires)).1 in
     let same = same_recalled l.domain.now.board l.place slot shared shown l.token c.recall.new.token (c.recall.ensures slot shared shown own.owner) in
     ap (λ (x : Seat ValueFraction View). with_token (c.self.view_is 0) x) same ∙ c.self.view_is
@@ -54,7 +56,8 @@ returns-clause-same g c =
 pub returns-clause-recalled : goal.returns-clause-recalled
 returns-clause-recalled g c =
     let l = c.self.inside in let slot : ℕ = number_of c.args.right.now in
-    let shared : Bool = is_shared (kind_of c.args.right.now) in let shown : Gv = (c.witness.ensures.owner (has_tables c.args.self.now c.args.right.now c.requires)).0.shown in
+    let shared : Bool = is_shared (kind_of c.args.right.now) in
+    let shown : Gv = (c.witness.ensures.owner (has_tables c.args.self.now c.args.right.now c.requires)).0.shown in
     let own = (c.witness.ensures.owner (has_tables c.args.self.now c.args.right.now c.requires)).1 in
     let has : HasValue shown c.args.right.now = sym c.witness.ensures.views ∙ own.owner in
     subst (λ (m : LocalState). IsLone m → (value : Gv) × HasValue value c.args.right.now × KnowsOwner m slot shared value) c.self.view_is (λ lone. (

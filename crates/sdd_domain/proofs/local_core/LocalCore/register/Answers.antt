@@ -37,6 +37,7 @@ invariant_of-result g c = let jobs : ℕ = c.args.domain.now.limits.jobs in let 
     knows = search rules;
     found = search rules;
     quiet = search rules;
+    pledges = search rules;
     waiting = search rules;
     bags = search rules;
     room = search rules;

@@ -1,4 +1,5 @@
 use lib.ListN.{get_elem?}
+use mathlib.Core.Option.{some}
 use mathlib.Core.Logic.{dite}
 use native.Mathlib.Decide.{dec_lt}
 use Rattle.std.proofs.Common.{List, [], ◌∷◌, ◌≡◌, ℕ, ◌+◌, ◌<◌, map, length, rules, refl, sym, ap, ◌∙◌, subst, arith}
@@ -28,43 +29,50 @@ use Rattle.sdd_shared_values.specs.declared.value_fraction.ValueFraction.{ValueF
 use Rattle.sdd_domain_invariant.specs.FractionSteps.{regained}
 use Rattle.sdd_rights.specs.StandingKind.{is_shared}
 use Rattle.sdd_rights.specs.Right.{number_of, kind_of}
-use Rattle.sdd_atomics.specs.DomainSeat.{Taught, Moved}
-use Rattle.sdd_domain.specs.Values.{LetsWait}
-use Rattle.std.specs.Prelude.{Bool}
+use Rattle.sdd_word_invariant.specs.Codes.{claimed_word, retired_word}
+use Rattle.sdd_word_invariant.specs.SlotSteps.{Knew}
+use Rattle.sdd_atomics.specs.DomainSeat.{Taught, Moved, MovedAlone}
+use Rattle.sdd_domain.specs.Values.{LetsWait, LeavesOthers, LetsOneGo}
+use Rattle.std.specs.Prelude.{Bool, true}
 use base.Stored.{Gv}
-use Rattle.sdd_domain.specs.LocalState.{LocalState, IsLone, KnowsOwner, RetiresAt}
+use Rattle.sdd_domain.specs.LocalState.{LocalState, IsLone, KnowsOwner, RetiresAt, LeavesAt}
 use Rattle.sdd_domain.proofs.Members.{with_view, recalls_to, has_tables}
-use Rattle.sdd_domain.proofs.Posing.{posed_retires, retires_to, same_recalled}
+use Rattle.sdd_domain.proofs.Posing.{posed_retires, retires_to, posed_leaves, leaves_to, same_recalled}
 use Rattle.sdd_domain.proofs.local_core.LocalCore.release.Goals as goal
 
-pub invariant_of-self : goal.invariant_of-self
-invariant_of-self g c = let l = c.self.inside in let board = l.domain.now.board in let i = c.self.invariant in
-    let own_is : c.set_has_garbage.new.self ≡ awaiting (Item c.number-slot.result) l.own
-    = c.set_has_garbage.ensures ∙ ap (λ (bags : Bags). with_garbage (record l.own { bags = bags })) c.push.ensures in
-    let by = c.into_owner-owner.ensures.owner (has_tables c.args.self.now c.args.right c.requires) in let shown : Gv = c.into_owner-owner.result.1.shown in
-    let slot : ℕ = c.number-slot.result in
-    let shared : Bool = is_shared (kind_of c.args.right) in
-    let views = by.owner ∙ ap (λ (k : ℕ). witness_of_owner k shared shown) (sym c.number-slot.ensures) in
-    let recalled = c.recall.ensures slot shared shown views in
-    let same = same_recalled board l.place slot shared shown l.token c.recall.new.token recalled in
+-- it was the last
+pub invariant_of-self-2 : goal.invariant_of-self-2
+invariant_of-self-2 g c =
+    let q = c.self.invariant.0 in let l = c.self.inside in let slot : ℕ = number_of c.args.right in let shared : Bool = is_shared (kind_of c.args.right) in
+    let by = c.into_owner-owner.ensures.owner (has_tables c.args.self.now c.args.right c.requires.home) in let shown : Gv = c.into_owner-owner.result.1.shown in
+    let same = same_recalled l.domain.now.board l.place slot shared shown l.token c.recall.new.token (c.recall.ensures slot shared shown by.owner) in
     let took = subst (λ (x : Seat ValueFraction View). Taught (λ v _ w. w ≡ regained v (owner_of slot shared shown)) x 0 c.take_in.new.token) same
-    (c.take_in.ensures slot shared shown views) in
-    let retired = retires_to board l.place l.own slot shared shown l.token c.take_in.new.token c.let_wait.new.token i.0 took c.let_wait.ensures in
-    let inside : slot < slots_of board = search rules in
-    subst (λ (o : Participant). IsBetweenCalls board l.place o c.let_wait.new.token
-    × l.nesting ≡ l.domain.now.limits.nesting × IsTenureOf o l.tenure × AreLentTo l.tenure.round c.let_wait.new.token.me.1
-    × IsReady board o l.due l.known.slots l.jobs c.let_wait.new.token.me.0.slots.waits × IsTallied 0 l.tally c.let_wait.new.token.me.0.stakes.counts) (sym own_is) (
-      posed_retires board l.place l.own slot shared shown l.token c.take_in.new.token c.let_wait.new.token i.0 inside took c.let_wait.ensures,
+    (c.take_in.ensures slot shared shown by.owner) in
+    let kind : c.is_one_of_several-shared.result ≡ shared = c.is_one_of_several-shared.ensures ∙ ap is_shared (sym c.requires.kind) in
+    let went = subst (λ (z : ℕ × Bool). MovedAlone (LetsOneGo z.0 z.1 true) c.take_in.new.token c.let_one_go.new.token)
+    (λ d. (c.number-slot.ensures d, kind d)) c.if-not-let_one_go.ensures.went in
+    let y : ℕ = retired_word shared in
+    let waits : Moved (LetsWait slot) c.take_in.new.token y c.let_one_go.new.token = (went.0, went.1, went.2.0) in
+    let retired = retires_to l.domain.now.board l.place l.own y slot shared shown l.token c.take_in.new.token c.let_one_go.new.token q took waits in
+    let own_is : c.set_has_garbage.new.self ≡ awaiting (Item slot) l.own
+    = c.set_has_garbage.ensures ∙ (ap (λ (bags : Bags). with_garbage (record l.own { bags = bags })) c.push.ensures ∙ ap (λ (k : ℕ). awaiting
+    (Item k) l.own) c.number-slot.ensures) in
+    let board = l.domain.now.board in let i = c.self.invariant in let inside : slot < slots_of board = search rules in
+    subst (λ (o : Participant). IsBetweenCalls board l.place o c.let_one_go.new.token
+    × l.nesting ≡ l.domain.now.limits.nesting × IsTenureOf o l.tenure × AreLentTo l.tenure.round c.let_one_go.new.token.me.1
+    × IsReady board o l.due l.known.slots l.jobs c.let_one_go.new.token.me.0.slots.waits × IsTallied 0 l.tally c.let_one_go.new.token.me.0.stakes.counts)
+    (sym own_is) (
+      posed_retires board l.place l.own y slot shared shown l.token c.take_in.new.token c.let_one_go.new.token i.0 inside took waits,
       i.1,
       record { units = i.2.units; kind = i.2.kind },
-      subst (AreLentTo l.tenure.round) (sym (c.let_wait.ensures.2.3 ∙ took.2)) i.3,
+      subst (AreLentTo l.tenure.round) (sym (waits.2.3 ∙ took.2)) i.3,
       record {
         due = i.4.due ∙ (ap (map (what_of (slots_of board))) (sym (ripe_snoc (retired_now slot retired.0) refl l.token.me.0.slots.waits))
             ∙ ap (λ (v : View). map (what_of (slots_of board)) (ripe v.slots.waits)) (sym retired.1));
         large = i.4.large;
         slots = i.4.slots;
         places = i.4.places;
-        jobs = still_jobs (slots_of board) (sizes_of board).jobs l.jobs l.token.me.0.slots.waits i.4.jobs c.let_wait.new.token.me.0.slots.waits
+        jobs = still_jobs (slots_of board) (sizes_of board).jobs l.jobs l.token.me.0.slots.waits i.4.jobs c.let_one_go.new.token.me.0.slots.waits
             (λ j low. ap (λ (v : View). total (waits_in (slots_of board + j)) v.slots.waits) retired.1
             ∙ (let t = total_snoc (waits_in (slots_of board + j)) l.token.me.0.slots.waits (retired_now slot retired.0) in
             let o = is_other (slots_of board + j) slot (λ e. let l = inside in omega arith) in omega arith));
@@ -72,10 +80,31 @@ invariant_of-self g c = let l = c.self.inside in let board = l.domain.now.board 
       subst (IsTallied 0 l.tally) (sym (ap (λ (v : View). v.stakes.counts) retired.1)) i.5,
     )
 
+-- others stay
+pub invariant_of-self : goal.invariant_of-self
+invariant_of-self g c =
+    let q = c.self.invariant.0 in let l = c.self.inside in let slot : ℕ = number_of c.args.right in let shared : Bool = is_shared (kind_of c.args.right) in
+    let by = c.into_owner-owner.ensures.owner (has_tables c.args.self.now c.args.right c.requires.home) in let shown : Gv = c.into_owner-owner.result.1.shown in
+    let same = same_recalled l.domain.now.board l.place slot shared shown l.token c.recall.new.token (c.recall.ensures slot shared shown by.owner) in
+    let took = subst (λ (x : Seat ValueFraction View). Taught (λ v _ w. w ≡ regained v (owner_of slot shared shown)) x 0 c.take_in.new.token) same
+    (c.take_in.ensures slot shared shown by.owner) in
+    let kind : c.is_one_of_several-shared.result ≡ shared = c.is_one_of_several-shared.ensures ∙ ap is_shared (sym c.requires.kind) in
+    let went = subst (λ (k : ℕ). MovedAlone (LeavesOthers k) c.take_in.new.token c.let_one_go.new.token) c.number-slot.ensures
+    c.if-not-let_one_go.ensures.went in
+    let left = leaves_to l.domain.now.board l.place l.own slot shared shown l.token c.take_in.new.token c.let_one_go.new.token q took went in
+    let board = l.domain.now.board in let i = c.self.invariant in (
+      posed_leaves board l.place l.own slot shared shown l.token c.take_in.new.token c.let_one_go.new.token i.0 took went,
+      i.1,
+      i.2,
+      subst (AreLentTo l.tenure.round) (sym left.1) i.3,
+      subst (IsReady board l.own l.due l.known.slots l.jobs) (sym (ap (λ (v : View). v.slots.waits) left.0)) i.4,
+      subst (IsTallied 0 l.tally) (sym (ap (λ (v : View). v.stakes.counts) left.0)) i.5,
+    )
+
 pub returns-clause-recalled : goal.returns-clause-recalled
 returns-clause-recalled g c = let l = c.self.inside in let board = l.domain.now.board in let i = c.self.invariant in
     let slot : ℕ = number_of c.args.right in let shared : Bool = is_shared (kind_of c.args.right) in
-    let by = c.into_owner-owner.ensures.owner (has_tables c.args.self.now c.args.right c.requires) in let shown : Gv = c.into_owner-owner.result.1.shown in
+    let by = c.into_owner-owner.ensures.owner (has_tables c.args.self.now c.args.right c.requires.home) in let shown : Gv = c.into_owner-owner.result.1.shown in
     let recalled = c.recall.ensures slot shared shown by.owner in
     subst (λ (m : LocalState). IsLone m → (value : Gv) × KnowsOwner m slot shared value) c.self.view_is (λ lone. (
       shown,
@@ -83,23 +112,61 @@ returns-clause-recalled g c = let l = c.self.inside in let board = l.domain.now.
           (i.0.all ∙ ap (λ (z : Sizes). z.participants) l.domain.now.limited.1) lone,
     ))
 
-pub let_wait-requires-clause-told : goal.let_wait-requires-clause-told
-let_wait-requires-clause-told g c = let by = c.into_owner-owner.ensures.owner (has_tables c.args.self.now c.args.right c.requires) in
-    let shown : Gv = c.into_owner-owner.result.1.shown in let slot : ℕ = c.number-slot.result in let shared : Bool = is_shared (kind_of c.args.right) in
-    let took = c.take_in.ensures slot shared shown (by.owner ∙ ap (λ (k : ℕ). witness_of_owner k shared shown) (sym c.number-slot.ensures)) in
-    (shown, (0, record { slot = slot; shared = shared; value = shown }, ap (λ (v : View). get_elem? v.stakes.owns 0) took.3, refl, refl))
+pub returns-then-not-let_one_go-clause-recalled : goal.returns-then-not-let_one_go-clause-recalled
+returns-then-not-let_one_go-clause-recalled g c = let l = c.self.inside in let board = l.domain.now.board in let i = c.self.invariant in
+    let slot : ℕ = number_of c.args.right in let shared : Bool = is_shared (kind_of c.args.right) in
+    let by = c.into_owner-owner.ensures.owner (has_tables c.args.self.now c.args.right c.requires.home) in let shown : Gv = c.into_owner-owner.result.1.shown in
+    let recalled = c.recall.ensures slot shared shown by.owner in
+    subst (λ (m : LocalState). IsLone m → (value : Gv) × KnowsOwner m slot shared value) c.self.view_is (λ lone. (
+      shown,
+      recalls_to (c.self.view_is 0) slot shared shown l.token c.recall.new.token recalled
+          (i.0.all ∙ ap (λ (z : Sizes). z.participants) l.domain.now.limited.1) lone,
+    ))
+
+pub let_one_go-requires-clause-told : goal.let_one_go-requires-clause-told
+let_one_go-requires-clause-told g c =
+    let q = c.self.invariant.0 in let l = c.self.inside in let slot : ℕ = number_of c.args.right in let shared : Bool = is_shared (kind_of c.args.right) in
+    let by = c.into_owner-owner.ensures.owner (has_tables c.args.self.now c.args.right c.requires.home) in let shown : Gv = c.into_owner-owner.result.1.shown in
+    let same = same_recalled l.domain.now.board l.place slot shared shown l.token c.recall.new.token (c.recall.ensures slot shared shown by.owner) in
+    let took = subst (λ (x : Seat ValueFraction View). Taught (λ v _ w. w ≡ regained v (owner_of slot shared shown)) x 0 c.take_in.new.token) same
+    (c.take_in.ensures slot shared shown by.owner) in
+    let kind : c.is_one_of_several-shared.result ≡ shared = c.is_one_of_several-shared.ensures ∙ ap is_shared (sym c.requires.kind) in (
+      shown,
+      (
+        0,
+        ap (λ (v : View). get_elem? v.stakes.owns 0) took.3
+            ∙ (λ d. some (record { slot = sym c.number-slot.ensures d; shared = sym kind d; value = shown })),
+      ),
+    )
+
+pub let_one_go-requires-clause-shows : goal.let_one_go-requires-clause-shows
+let_one_go-requires-clause-shows g c =
+    let q = c.self.invariant.0 in let l = c.self.inside in let slot : ℕ = number_of c.args.right in let shared : Bool = is_shared (kind_of c.args.right) in
+    let by = c.into_owner-owner.ensures.owner (has_tables c.args.self.now c.args.right c.requires.home) in let shown : Gv = c.into_owner-owner.result.1.shown in
+    let same = same_recalled l.domain.now.board l.place slot shared shown l.token c.recall.new.token (c.recall.ensures slot shared shown by.owner) in
+    let took = subst (λ (x : Seat ValueFraction View). Taught (λ v _ w. w ≡ regained v (owner_of slot shared shown)) x 0 c.take_in.new.token) same
+    (c.take_in.ensures slot shared shown by.owner) in
+    let kind : c.is_one_of_several-shared.result ≡ shared = c.is_one_of_several-shared.ensures ∙ ap is_shared (sym c.requires.kind) in (
+      0,
+      record { slot = c.number-slot.result; shared = c.is_one_of_several-shared.result; value = shown },
+      ap (λ (v : View). get_elem? v.stakes.owns 0) took.3
+          ∙ (λ d. some (record { slot = sym c.number-slot.ensures d; shared = sym kind d; value = shown })),
+      refl,
+      refl,
+    )
 
 pub push-requires : goal.push-requires
 push-requires g c = let l = c.self.inside in let board = l.domain.now.board in let q = c.self.invariant.0 in
-    let by = c.into_owner-owner.ensures.owner (has_tables c.args.self.now c.args.right c.requires) in let shown : Gv = c.into_owner-owner.result.1.shown in
+    let by = c.into_owner-owner.ensures.owner (has_tables c.args.self.now c.args.right c.requires.home) in let shown : Gv = c.into_owner-owner.result.1.shown in
     let slot : ℕ = c.number-slot.result in let shared : Bool = is_shared (kind_of c.args.right) in
     let took = c.take_in.ensures slot shared shown (by.owner ∙ ap (λ (k : ℕ). witness_of_owner k shared shown) (sym c.number-slot.ensures)) in
     let same = same_recalled board l.place slot shared shown l.token c.recall.new.token (c.recall.ensures slot shared shown
     (by.owner ∙ ap (λ (k : ℕ). witness_of_owner k shared shown) (sym c.number-slot.ensures))) in
     let before : View = c.recall.new.token.me.0 in
-    let room = c.let_wait.ensures.2.1.5 in
+    let room = c.if-not-let_one_go.ensures.went.2.0.1.5 in
     let waits = ap (λ (v : View). length v.slots.waits) took.3 in let sizes = ap (λ (v : View). most_waiting v.sizes) took.3 in
-    let w = ap (λ (t : Seat ValueFraction View). length t.me.0.slots.waits) same in let z = ap (λ (t : Seat ValueFraction View). most_waiting t.me.0.sizes) same in
+    let w = ap (λ (t : Seat ValueFraction View). length t.me.0.slots.waits) same in
+    let z = ap (λ (t : Seat ValueFraction View). most_waiting t.me.0.sizes) same in
     let few = fewer_unripe l.token.me.0.slots.waits in
     let many : length l.own.bags.waiting ≡ length (unripe l.token.me.0.slots.waits)
     = ap length q.bags ∙ length-map (unripe l.token.me.0.slots.waits) (waiting_of (slots_of board)) in
@@ -109,39 +176,39 @@ push-requires g c = let l = c.self.inside in let board = l.domain.now.board in l
 pub take_in-requires-clause-home : goal.take_in-requires-clause-home
 take_in-requires-clause-home g c =
     let q = c.self.invariant.0 in let l = c.self.inside in let slot : ℕ = number_of c.args.right in let shared : Bool = is_shared (kind_of c.args.right) in
-    let by = c.into_owner-owner.ensures.owner (has_tables c.args.self.now c.args.right c.requires) in let shown : Gv = c.into_owner-owner.result.1.shown in
+    let by = c.into_owner-owner.ensures.owner (has_tables c.args.self.now c.args.right c.requires.home) in let shown : Gv = c.into_owner-owner.result.1.shown in
     let same = same_recalled l.domain.now.board l.place slot shared shown l.token c.recall.new.token (c.recall.ensures slot shared shown by.owner) in
     ap (λ (x : Seat ValueFraction View). x.table_id) same ∙ q.home
 
 pub take_in-requires-clause-rests : goal.take_in-requires-clause-rests
 take_in-requires-clause-rests g c =
     let q = c.self.invariant.0 in let l = c.self.inside in let slot : ℕ = number_of c.args.right in let shared : Bool = is_shared (kind_of c.args.right) in
-    let by = c.into_owner-owner.ensures.owner (has_tables c.args.self.now c.args.right c.requires) in let shown : Gv = c.into_owner-owner.result.1.shown in
+    let by = c.into_owner-owner.ensures.owner (has_tables c.args.self.now c.args.right c.requires.home) in let shown : Gv = c.into_owner-owner.result.1.shown in
     let same = same_recalled l.domain.now.board l.place slot shared shown l.token c.recall.new.token (c.recall.ensures slot shared shown by.owner) in
     ap (λ (x : Seat ValueFraction View). x.me.0.stakes.moves) same ∙ q.rests
 
-pub let_wait-requires-clause-home : goal.let_wait-requires-clause-home
-let_wait-requires-clause-home g c =
+pub let_one_go-requires-clause-home : goal.let_one_go-requires-clause-home
+let_one_go-requires-clause-home g c =
     let q = c.self.invariant.0 in let l = c.self.inside in let slot : ℕ = number_of c.args.right in let shared : Bool = is_shared (kind_of c.args.right) in
-    let by = c.into_owner-owner.ensures.owner (has_tables c.args.self.now c.args.right c.requires) in let shown : Gv = c.into_owner-owner.result.1.shown in
+    let by = c.into_owner-owner.ensures.owner (has_tables c.args.self.now c.args.right c.requires.home) in let shown : Gv = c.into_owner-owner.result.1.shown in
     let same = same_recalled l.domain.now.board l.place slot shared shown l.token c.recall.new.token (c.recall.ensures slot shared shown by.owner) in
     let took = subst (λ (x : Seat ValueFraction View). Taught (λ v _ w. w ≡ regained v (owner_of slot shared shown)) x 0 c.take_in.new.token) same
     (c.take_in.ensures slot shared shown by.owner) in
     took.0 ∙ q.home
 
-pub let_wait-requires-clause-knows : goal.let_wait-requires-clause-knows
-let_wait-requires-clause-knows g c =
+pub let_one_go-requires-clause-knows : goal.let_one_go-requires-clause-knows
+let_one_go-requires-clause-knows g c =
     let q = c.self.invariant.0 in let l = c.self.inside in let slot : ℕ = number_of c.args.right in let shared : Bool = is_shared (kind_of c.args.right) in
-    let by = c.into_owner-owner.ensures.owner (has_tables c.args.self.now c.args.right c.requires) in let shown : Gv = c.into_owner-owner.result.1.shown in
+    let by = c.into_owner-owner.ensures.owner (has_tables c.args.self.now c.args.right c.requires.home) in let shown : Gv = c.into_owner-owner.result.1.shown in
     let same = same_recalled l.domain.now.board l.place slot shared shown l.token c.recall.new.token (c.recall.ensures slot shared shown by.owner) in
     let took = subst (λ (x : Seat ValueFraction View). Taught (λ v _ w. w ≡ regained v (owner_of slot shared shown)) x 0 c.take_in.new.token) same
     (c.take_in.ensures slot shared shown by.owner) in
     (ap (λ (v : View). v.sizes) took.3 ∙ q.knows.0, ap (λ (v : View). v.stakes.book) took.3 ∙ q.knows.1)
 
-pub let_wait-requires-clause-place : goal.let_wait-requires-clause-place
-let_wait-requires-clause-place g c =
+pub let_one_go-requires-clause-place : goal.let_one_go-requires-clause-place
+let_one_go-requires-clause-place g c =
     let q = c.self.invariant.0 in let l = c.self.inside in let slot : ℕ = number_of c.args.right in let shared : Bool = is_shared (kind_of c.args.right) in
-    let by = c.into_owner-owner.ensures.owner (has_tables c.args.self.now c.args.right c.requires) in let shown : Gv = c.into_owner-owner.result.1.shown in
+    let by = c.into_owner-owner.ensures.owner (has_tables c.args.self.now c.args.right c.requires.home) in let shown : Gv = c.into_owner-owner.result.1.shown in
     let same = same_recalled l.domain.now.board l.place slot shared shown l.token c.recall.new.token (c.recall.ensures slot shared shown by.owner) in
     let took = subst (λ (x : Seat ValueFraction View). Taught (λ v _ w. w ≡ regained v (owner_of slot shared shown)) x 0 c.take_in.new.token) same
     (c.take_in.ensures slot shared shown by.owner) in
@@ -149,10 +216,10 @@ let_wait-requires-clause-place g c =
     dite (dec_lt 0 l.own.guards) (λ some. subst (λ (k : ℕ). 0 < k) (sym (state ∙ q.opened some)) (omega arith))
     (λ none. subst (λ (k : ℕ). 0 < k) (sym (state ∙ q.closed (omega arith))) (omega arith))
 
-pub let_wait-requires-clause-own : goal.let_wait-requires-clause-own
-let_wait-requires-clause-own g c =
+pub let_one_go-requires-clause-own : goal.let_one_go-requires-clause-own
+let_one_go-requires-clause-own g c =
     let q = c.self.invariant.0 in let l = c.self.inside in let slot : ℕ = number_of c.args.right in let shared : Bool = is_shared (kind_of c.args.right) in
-    let by = c.into_owner-owner.ensures.owner (has_tables c.args.self.now c.args.right c.requires) in let shown : Gv = c.into_owner-owner.result.1.shown in
+    let by = c.into_owner-owner.ensures.owner (has_tables c.args.self.now c.args.right c.requires.home) in let shown : Gv = c.into_owner-owner.result.1.shown in
     let same = same_recalled l.domain.now.board l.place slot shared shown l.token c.recall.new.token (c.recall.ensures slot shared shown by.owner) in
     let took = subst (λ (x : Seat ValueFraction View). Taught (λ v _ w. w ≡ regained v (owner_of slot shared shown)) x 0 c.take_in.new.token) same
     (c.take_in.ensures slot shared shown by.owner) in
@@ -162,42 +229,71 @@ let_wait-requires-clause-own g c =
       ap (λ (v : View). v.slots.drawn) took.3 ∙ (ap (λ (is : List ℕ). slot ∷ is) q.quiet.drawn ∙ ap (λ (k : ℕ). k ∷ []) (sym c.number-slot.ensures)),
     )
 
-pub let_wait-requires-clause-rests : goal.let_wait-requires-clause-rests
-let_wait-requires-clause-rests g c =
+pub let_one_go-requires-clause-rests : goal.let_one_go-requires-clause-rests
+let_one_go-requires-clause-rests g c =
     let q = c.self.invariant.0 in let l = c.self.inside in let slot : ℕ = number_of c.args.right in let shared : Bool = is_shared (kind_of c.args.right) in
-    let by = c.into_owner-owner.ensures.owner (has_tables c.args.self.now c.args.right c.requires) in let shown : Gv = c.into_owner-owner.result.1.shown in
+    let by = c.into_owner-owner.ensures.owner (has_tables c.args.self.now c.args.right c.requires.home) in let shown : Gv = c.into_owner-owner.result.1.shown in
     let same = same_recalled l.domain.now.board l.place slot shared shown l.token c.recall.new.token (c.recall.ensures slot shared shown by.owner) in
     let took = subst (λ (x : Seat ValueFraction View). Taught (λ v _ w. w ≡ regained v (owner_of slot shared shown)) x 0 c.take_in.new.token) same
     (c.take_in.ensures slot shared shown by.owner) in
     ap (λ (v : View). v.stakes.moves) took.3 ∙ q.rests
 
-pub returns-clause-retired : goal.returns-clause-retired
-returns-clause-retired g c =
+pub returns-clause-went : goal.returns-clause-went
+returns-clause-went g c =
     let q = c.self.invariant.0 in let l = c.self.inside in let slot : ℕ = number_of c.args.right in let shared : Bool = is_shared (kind_of c.args.right) in
-    let by = c.into_owner-owner.ensures.owner (has_tables c.args.self.now c.args.right c.requires) in let shown : Gv = c.into_owner-owner.result.1.shown in
+    let by = c.into_owner-owner.ensures.owner (has_tables c.args.self.now c.args.right c.requires.home) in let shown : Gv = c.into_owner-owner.result.1.shown in
     let same = same_recalled l.domain.now.board l.place slot shared shown l.token c.recall.new.token (c.recall.ensures slot shared shown by.owner) in
     let took = subst (λ (x : Seat ValueFraction View). Taught (λ v _ w. w ≡ regained v (owner_of slot shared shown)) x 0 c.take_in.new.token) same
     (c.take_in.ensures slot shared shown by.owner) in
-    let waits = subst (λ (k : ℕ). Moved (LetsWait k) c.take_in.new.token 4 c.let_wait.new.token) c.number-slot.ensures c.let_wait.ensures in
-    let retired = retires_to l.domain.now.board l.place l.own slot shared shown l.token c.take_in.new.token c.let_wait.new.token q took waits in
+    let kind : c.is_one_of_several-shared.result ≡ shared = c.is_one_of_several-shared.ensures ∙ ap is_shared (sym c.requires.kind) in
+    let went = subst (λ (z : ℕ × Bool). MovedAlone (LetsOneGo z.0 z.1 true) c.take_in.new.token c.let_one_go.new.token)
+    (λ d. (c.number-slot.ensures d, kind d)) c.if-not-let_one_go.ensures.went in
+    let y : ℕ = retired_word shared in
+    let waits : Moved (LetsWait slot) c.take_in.new.token y c.let_one_go.new.token = (went.0, went.1, went.2.0) in
+    let retired = retires_to l.domain.now.board l.place l.own y slot shared shown l.token c.take_in.new.token c.let_one_go.new.token q took waits in
     let own_is : c.set_has_garbage.new.self ≡ awaiting (Item slot) l.own
     = c.set_has_garbage.ensures ∙ (ap (λ (bags : Bags). with_garbage (record l.own { bags = bags })) c.push.ensures ∙ ap (λ (k : ℕ). awaiting
     (Item k) l.own) c.number-slot.ensures) in
     let old : LocalState = c.self.view_is 0 in
-    let home : c.let_wait.new.token.table_id ≡ l.token.table_id = waits.0 ∙ took.0 in (
+    let home : c.let_one_go.new.token.table_id ≡ l.token.table_id = waits.0 ∙ took.0 in
+    let alone : IsLone old → l.token.me.0.epoch.all ≡ 1 = λ one. (q.all ∙ ap (λ (z : Sizes). z.participants) l.domain.now.limited.1) ∙ one in (
       retired.0,
-      subst (λ (m : LocalState). RetiresAt slot retired.0 m
-          (record (with_view old c.let_wait.new.token.table_id c.let_wait.new.token.me.0) { own = c.set_has_garbage.new.self })) c.self.view_is record {
+      subst (λ (m : LocalState). RetiresAt slot shared retired.0 m
+          (record (with_view old c.let_one_go.new.token.table_id c.let_one_go.new.token.me.0) { own = c.set_has_garbage.new.self })) c.self.view_is record {
             member = λ d. record (with_view old (home d) (retired.1 d)) { own = own_is d };
             knew = retired.2;
-            lone = λ one. retired.3 ((q.all ∙ ap (λ (z : Sizes). z.participants) l.domain.now.limited.1) ∙ one);
+            lone = λ one. retired.3 (alone one);
+            last = λ one several. sym (subst (λ (v : View). Knew slot v (claimed_word true)) took.3 (went.2.1 several) (alone one));
           },
+    )
+
+pub returns-then-not-let_one_go-clause-went : goal.returns-then-not-let_one_go-clause-went
+returns-then-not-let_one_go-clause-went g c =
+    let q = c.self.invariant.0 in let l = c.self.inside in let slot : ℕ = number_of c.args.right in let shared : Bool = is_shared (kind_of c.args.right) in
+    let by = c.into_owner-owner.ensures.owner (has_tables c.args.self.now c.args.right c.requires.home) in let shown : Gv = c.into_owner-owner.result.1.shown in
+    let same = same_recalled l.domain.now.board l.place slot shared shown l.token c.recall.new.token (c.recall.ensures slot shared shown by.owner) in
+    let took = subst (λ (x : Seat ValueFraction View). Taught (λ v _ w. w ≡ regained v (owner_of slot shared shown)) x 0 c.take_in.new.token) same
+    (c.take_in.ensures slot shared shown by.owner) in
+    let kind : c.is_one_of_several-shared.result ≡ shared = c.is_one_of_several-shared.ensures ∙ ap is_shared (sym c.requires.kind) in
+    let went = subst (λ (k : ℕ). MovedAlone (LeavesOthers k) c.take_in.new.token c.let_one_go.new.token) c.number-slot.ensures
+    c.if-not-let_one_go.ensures.went in
+    let left = leaves_to l.domain.now.board l.place l.own slot shared shown l.token c.take_in.new.token c.let_one_go.new.token q took went in
+    let old : LocalState = c.self.view_is 0 in
+    let home : c.let_one_go.new.token.table_id ≡ l.token.table_id = went.0 ∙ took.0 in
+    let alone : IsLone old → l.token.me.0.epoch.all ≡ 1 = λ one. (q.all ∙ ap (λ (z : Sizes). z.participants) l.domain.now.limited.1) ∙ one in (
+      went.2.word,
+      subst (λ (m : LocalState). LeavesAt slot went.2.word m (with_view old c.let_one_go.new.token.table_id c.let_one_go.new.token.me.0)) c.self.view_is record {
+        member = λ d. with_view old (home d) (left.0 d);
+        counted = went.2.counted;
+        several = went.2.several;
+        lone = λ one. sym (subst (λ (v : View). Knew slot v went.2.word) took.3 went.2.knew (alone one));
+      },
     )
 
 pub take_in-requires-clause-owner : goal.take_in-requires-clause-owner
 take_in-requires-clause-owner g c = let q = c.self.invariant.0 in let b = c.self.inside.domain.now.board in
-    let by = c.into_owner-owner.ensures.owner (has_tables c.args.self.now c.args.right c.requires) in
-    let tables = by.table in let mine = ap (λ (h : GhostName). h.tables) c.requires in let there = ap (λ (m : LocalState). m.home) c.self.view_is in
+    let by = c.into_owner-owner.ensures.owner (has_tables c.args.self.now c.args.right c.requires.home) in
+    let tables = by.table in let mine = ap (λ (h : GhostName). h.tables) c.requires.home in let there = ap (λ (m : LocalState). m.home) c.self.view_is in
     let board = q.home in
     let table : c.into_owner-owner.result.0.table_id ≡ id_of b = cc in
     (table, (number_of c.args.right, is_shared (kind_of c.args.right), c.into_owner-owner.result.1.shown, by.owner))

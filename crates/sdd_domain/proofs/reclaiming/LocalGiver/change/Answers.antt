@@ -25,5 +25,6 @@ returns-clause-exact g c = λ lone. let v : LocalModel g.row.T.Denot = c.self.vi
     let place = ap (λ (z : LocalModel g.row.T.Denot). z.member.place) rest in
     let first = (c.self.invariant here).place in
     ap (λ (m : LocalState). world_of (record { member = m; entries = v.entries })) c.settle.ensures
-    ∙ (steps_alone (λ (w : World g.row.T.Denot) (k : ℕ). steps.settled w k) v (record v { member = record v.member { own = settled v.member.own } }) first first refl
+    ∙ (steps_alone (λ (w : World g.row.T.Denot) (k : ℕ). steps.settled w k) v (record v { member = record v.member { own = settled v.member.own } }) first
+    first refl
     ∙ (λ d. steps.settled ((ap world_of c.self.view_is ∙ e.exact lone) d) (place d)))

@@ -1,44 +1,118 @@
 use Rattle.std.proofs.Common.{ℕ, sym, ap, ◌∙◌, subst}
+use Rattle.std.specs.Prelude.{MatchOption, Option}
 use base.Stored.{Gv}
 use Rattle.sdd_rights.specs.Owner.{one-shown}
 use Rattle.sdd_rights.specs.StandingKind.{is_shared}
 use Rattle.sdd_rights.specs.Right.{number_of, kind_of}
+use Rattle.sdd_rights.specs.declared.right.StandingKind.{StandingKind}
 use Rattle.sdd_shared_values.specs.SharedValues.{showing}
+use Rattle.sdd_standings.specs.Slots.{IsOwnedBy}
+use Rattle.sdd_space.specs.OwnerOrCell.{AreOf}
+use Rattle.sdd_space.specs.World.{standing_at}
 use Rattle.sdd_space.specs.WorldChanges.{dropped}
+use Rattle.sdd_domain.specs.Items.{HasValue}
 use Rattle.sdd_domain.specs.Local.{LocalModel, world_of}
-use Rattle.sdd_domain.specs.LocalState.{IsLone, KnowsOwner, LocalState}
-use Rattle.sdd_domain.proofs.Altered.{stands_there}
+use Rattle.sdd_domain.specs.LocalState.{DropsAt, GoesBeside, HasOpenGuard, IsLone, KnowsOwner, LocalState}
+use Rattle.sdd_domain.specs.SpaceIds.{home_in}
+use Rattle.sdd_domain.proofs.Altered.{alone_there, beside_others, beside_tied, beside_world, handed_on, owned_there, stays_there, stays_tied}
 use Rattle.sdd_domain.proofs.Dropped.{drops_now, tied_dropped}
 use Rattle.sdd_domain.proofs.Sound.{lone_true}
 use Rattle.sdd_domain.proofs.reclaiming.LocalGiver.drop_in_place.Goals as goal
 
-pub invariant_of-self-2 : goal.invariant_of-self-2
-invariant_of-self-2 g c one = let v : LocalModel g.row.T.Denot = c.self.view_is 0 in let m : LocalState = c.drop_in_place.new.self in
-    let did = c.in_ok-value.ensures.dropped in let k : ℕ = number_of c.args.right in let shared = is_shared c.args.kind in
+-- the owner stays
+pub invariant_of-self : goal.invariant_of-self
+invariant_of-self g c = let v : LocalModel g.row.T.Denot = c.self.view_is 0 in let m : LocalState = c.drop_in_place.new.self in
+    let right = c.args.right in let kind = c.args.kind in let k : ℕ = number_of right in let p : LocalModel g.row.T.Denot = c.args.self.now in
+    let recalled : IsLone v.member → (x : Gv) × KnowsOwner v.member k (is_shared kind) x
+    = λ one. (let told = c.drop_in_place.ensures.recalled one in (told.0, told.2)) in
+    stays_tied v p c.self.view_is c.self.invariant k kind recalled m c.in_err-value.field-0.0.1 c.in_err-value.ensures.gone.1
+
+pub returns-in_err-value-clause-owned : goal.returns-in_err-value-clause-owned
+returns-in_err-value-clause-owned g c lone = let v : LocalModel g.row.T.Denot = c.self.view_is 0 in let m : LocalState = c.drop_in_place.new.self in
+    let right = c.args.right in let kind = c.args.kind in let k : ℕ = number_of right in let p : LocalModel g.row.T.Denot = c.args.self.now in
+    let recalled : IsLone v.member → (x : Gv) × KnowsOwner v.member k (is_shared kind) x
+    = λ one. (let told = c.drop_in_place.ensures.recalled one in (told.0, told.2)) in
+    subst (λ (x : StandingKind). IsOwnedBy x (standing_at (world_of p) k)) (sym c.requires.kind)
+    (owned_there v p c.self.view_is c.self.invariant k kind recalled (lone_true p.member lone))
+
+pub returns-in_err-value-clause-exact : goal.returns-in_err-value-clause-exact
+returns-in_err-value-clause-exact g c lone = let v : LocalModel g.row.T.Denot = c.self.view_is 0 in let m : LocalState = c.drop_in_place.new.self in
+    let right = c.args.right in let kind = c.args.kind in let k : ℕ = number_of right in let p : LocalModel g.row.T.Denot = c.args.self.now in
+    let recalled : IsLone v.member → (x : Gv) × KnowsOwner v.member k (is_shared kind) x
+    = λ one. (let told = c.drop_in_place.ensures.recalled one in (told.0, told.2)) in
+    handed_on _ _ c.from_residual.result c.in_err-value.field-0.0 c.from_residual.ensures.1
+    (stays_there v p c.self.view_is c.self.invariant k kind recalled m c.in_err-value.field-0.0.1 c.in_err-value.ensures.gone.1 (lone_true p.member lone))
+
+-- it was the last
+pub invariant_of-self-in-Some : goal.invariant_of-self-in-Some
+invariant_of-self-in-Some g c one = let v : LocalModel g.row.T.Denot = c.self.view_is 0 in let m : LocalState = c.drop_in_place.new.self in
+    let right = c.args.right in let kind = c.args.kind in let k : ℕ = number_of right in let p : LocalModel g.row.T.Denot = c.args.self.now in
+    let recalled : IsLone v.member → (x : Gv) × KnowsOwner v.member k (is_shared kind) x
+    = λ one. (let told = c.drop_in_place.ensures.recalled one in (told.0, told.2)) in
+    let did = subst (λ (o : Option g.row.T.Denot). MatchOption o (GoesBeside k (is_shared kind) v.member m)
+    (λ value. HasValue (showing g.row.T value) right × DropsAt k (is_shared kind) v.member m × AreOf (home_in v.member) (g.T.Item.holds value)))
+    c.in-Some.is c.in_ok-value.ensures.gone in
+    let knows : IsLone v.member → KnowsOwner v.member k (is_shared kind) (showing g.row.T c.in-Some.value)
+    = λ lone. (let told = c.drop_in_place.ensures.recalled lone in subst (λ (x : Gv). KnowsOwner v.member k (is_shared kind) x)
+    (one-shown k (is_shared (kind_of right)) told.0 (showing g.row.T c.in-Some.value) (sym told.1 ∙ did.0)) told.2) in
     let lone : IsLone v.member = sym (ap (λ (y : LocalState). y.limits.participants) did.1.member) ∙ one in
-    let told = c.in_ok-value.ensures.recalled lone in
-    let same = one-shown k (is_shared (kind_of c.args.right)) told.0 (showing g.row.T c.in_ok-value.value) (sym told.1 ∙ did.0) in
-    let knows = subst (λ (x : Gv). KnowsOwner v.member k shared x) same told.2 in
-    tied_dropped g.row.T v (c.self.invariant lone) c.codes.ensures k shared c.in_ok-value.value knows m did.1
+    tied_dropped g.row.T v (c.self.invariant lone) c.codes.ensures k (is_shared kind) c.in-Some.value (knows lone) m did.1
 
-pub returns-clause-exact : goal.returns-clause-exact
-returns-clause-exact g c exact = let v : LocalModel g.row.T.Denot = c.self.view_is 0 in let m : LocalState = c.drop_in_place.new.self in
-    let did = c.in_ok-value.ensures.dropped in let k : ℕ = number_of c.args.right in let shared = is_shared c.args.kind in
-    let lone : IsLone v.member = subst (λ (p : LocalModel g.row.T.Denot). IsLone p.member) (sym c.self.view_is) exact in
-    let there : IsLone m = ap (λ (y : LocalState). y.limits.participants) did.1.member ∙ lone in
-    let told = c.in_ok-value.ensures.recalled lone in
-    let same = one-shown k (is_shared (kind_of c.args.right)) told.0 (showing g.row.T c.in_ok-value.value) (sym told.1 ∙ did.0) in
-    let knows = subst (λ (x : Gv). KnowsOwner v.member k shared x) same told.2 in
-    c.give_up.ensures.exact (lone_true m there)
-    ∙ (sym (drops_now g.row.T v (c.self.invariant lone) c.codes.ensures k shared c.in_ok-value.value knows m did.1 g.T.Item.holds)
-    ∙ ap (λ (p : LocalModel g.row.T.Denot). dropped g.T.Item.holds (world_of p) p.member.place k) c.self.view_is)
+pub returns-in-Some-clause-owned : goal.returns-in-Some-clause-owned
+returns-in-Some-clause-owned g c lone = let v : LocalModel g.row.T.Denot = c.self.view_is 0 in let m : LocalState = c.drop_in_place.new.self in
+    let right = c.args.right in let kind = c.args.kind in let k : ℕ = number_of right in let p : LocalModel g.row.T.Denot = c.args.self.now in
+    let recalled : IsLone v.member → (x : Gv) × KnowsOwner v.member k (is_shared kind) x
+    = λ one. (let told = c.drop_in_place.ensures.recalled one in (told.0, told.2)) in
+    subst (λ (x : StandingKind). IsOwnedBy x (standing_at (world_of p) k)) (sym c.requires.kind)
+    (owned_there v p c.self.view_is c.self.invariant k kind recalled (lone_true p.member lone))
 
-pub returns-in_err-value-clause-stands : goal.returns-in_err-value-clause-stands
-returns-in_err-value-clause-stands g c lone = let v : LocalModel g.row.T.Denot = c.self.view_is 0 in let k : ℕ = number_of c.args.right in let shared = is_shared c.args.kind in
-    let recalled : IsLone v.member → (x : Gv) × KnowsOwner v.member k shared x = λ one. (let told = c.drop_in_place.ensures.recalled one in (told.0, told.2)) in
-    stands_there v c.args.self.now c.self.view_is c.self.invariant k c.args.kind recalled (lone_true c.args.self.now.member lone)
+pub returns-in-Some-clause-exact : goal.returns-in-Some-clause-exact
+returns-in-Some-clause-exact g c exact = let v : LocalModel g.row.T.Denot = c.self.view_is 0 in let m : LocalState = c.drop_in_place.new.self in
+    let right = c.args.right in let kind = c.args.kind in let k : ℕ = number_of right in let p : LocalModel g.row.T.Denot = c.args.self.now in
+    let recalled : IsLone v.member → (x : Gv) × KnowsOwner v.member k (is_shared kind) x
+    = λ one. (let told = c.drop_in_place.ensures.recalled one in (told.0, told.2)) in
+    let did = subst (λ (o : Option g.row.T.Denot). MatchOption o (GoesBeside k (is_shared kind) v.member m)
+    (λ value. HasValue (showing g.row.T value) right × DropsAt k (is_shared kind) v.member m × AreOf (home_in v.member) (g.T.Item.holds value)))
+    c.in-Some.is c.in_ok-value.ensures.gone in
+    let knows : IsLone v.member → KnowsOwner v.member k (is_shared kind) (showing g.row.T c.in-Some.value)
+    = λ lone. (let told = c.drop_in_place.ensures.recalled lone in subst (λ (x : Gv). KnowsOwner v.member k (is_shared kind) x)
+    (one-shown k (is_shared (kind_of right)) told.0 (showing g.row.T c.in-Some.value) (sym told.1 ∙ did.0)) told.2) in
+    let lone : IsLone v.member = subst (λ (q : LocalModel g.row.T.Denot). IsLone q.member) (sym c.self.view_is) exact in
+    let there : IsLone m = ap (λ (y : LocalState). y.limits.participants) did.1.member ∙ lone in (
+      alone_there v p c.self.view_is c.self.invariant k kind recalled did.1.sole (lone_true p.member exact),
+      subst (λ (q : LocalModel g.row.T.Denot). ¬ (HasOpenGuard q.member)) c.self.view_is did.1.quiet,
+      c.give_up.ensures.exact (lone_true m there)
+          ∙ (sym (drops_now g.row.T v (c.self.invariant lone) c.codes.ensures k (is_shared kind) c.in-Some.value (knows lone) m did.1 g.T.Item.holds)
+          ∙ ap (λ (q : LocalModel g.row.T.Denot). dropped g.T.Item.holds (world_of q) q.member.place k) c.self.view_is),
+    )
 
-pub returns-clause-stands : goal.returns-clause-stands
-returns-clause-stands g c lone = let v : LocalModel g.row.T.Denot = c.self.view_is 0 in let k : ℕ = number_of c.args.right in let shared = is_shared c.args.kind in
-    let recalled : IsLone v.member → (x : Gv) × KnowsOwner v.member k shared x = λ one. (let told = c.drop_in_place.ensures.recalled one in (told.0, told.2)) in
-    stands_there v c.args.self.now c.self.view_is c.self.invariant k c.args.kind recalled (lone_true c.args.self.now.member lone)
+-- it went beside others
+pub invariant_of-self-in-None : goal.invariant_of-self-in-None
+invariant_of-self-in-None g c = let v : LocalModel g.row.T.Denot = c.self.view_is 0 in let m : LocalState = c.drop_in_place.new.self in
+    let right = c.args.right in let kind = c.args.kind in let k : ℕ = number_of right in let p : LocalModel g.row.T.Denot = c.args.self.now in
+    let recalled : IsLone v.member → (x : Gv) × KnowsOwner v.member k (is_shared kind) x
+    = λ one. (let told = c.drop_in_place.ensures.recalled one in (told.0, told.2)) in
+    let beside = subst (λ (o : Option g.row.T.Denot). MatchOption o (GoesBeside k (is_shared kind) v.member m)
+    (λ value. HasValue (showing g.row.T value) right × DropsAt k (is_shared kind) v.member m × AreOf (home_in v.member) (g.T.Item.holds value)))
+    c.in-None.is c.in_ok-value.ensures.gone in
+    beside_tied v p c.self.view_is c.self.invariant k kind recalled m beside
+
+pub returns-in-None-clause-owned : goal.returns-in-None-clause-owned
+returns-in-None-clause-owned g c lone = let v : LocalModel g.row.T.Denot = c.self.view_is 0 in let m : LocalState = c.drop_in_place.new.self in
+    let right = c.args.right in let kind = c.args.kind in let k : ℕ = number_of right in let p : LocalModel g.row.T.Denot = c.args.self.now in
+    let recalled : IsLone v.member → (x : Gv) × KnowsOwner v.member k (is_shared kind) x
+    = λ one. (let told = c.drop_in_place.ensures.recalled one in (told.0, told.2)) in
+    subst (λ (x : StandingKind). IsOwnedBy x (standing_at (world_of p) k)) (sym c.requires.kind)
+    (owned_there v p c.self.view_is c.self.invariant k kind recalled (lone_true p.member lone))
+
+pub returns-in-None-clause-exact : goal.returns-in-None-clause-exact
+returns-in-None-clause-exact g c lone = let v : LocalModel g.row.T.Denot = c.self.view_is 0 in let m : LocalState = c.drop_in_place.new.self in
+    let right = c.args.right in let kind = c.args.kind in let k : ℕ = number_of right in let p : LocalModel g.row.T.Denot = c.args.self.now in
+    let recalled : IsLone v.member → (x : Gv) × KnowsOwner v.member k (is_shared kind) x
+    = λ one. (let told = c.drop_in_place.ensures.recalled one in (told.0, told.2)) in
+    let beside = subst (λ (o : Option g.row.T.Denot). MatchOption o (GoesBeside k (is_shared kind) v.member m)
+    (λ value. HasValue (showing g.row.T value) right × DropsAt k (is_shared kind) v.member m × AreOf (home_in v.member) (g.T.Item.holds value)))
+    c.in-None.is c.in_ok-value.ensures.gone in (
+      beside_others v p c.self.view_is c.self.invariant k kind recalled m beside (lone_true p.member lone),
+      beside_world v p c.self.view_is c.self.invariant k kind recalled m beside (lone_true p.member lone),
+    )

@@ -24,7 +24,8 @@ invariant_of-self-else-goes_on g c one = let v : LocalModel g.row.T.Denot = c.se
 
 pub returns-clause-shut : goal.returns-clause-shut
 returns-clause-shut g c = let v : LocalModel g.row.T.Denot = c.self.view_is 0 in let e = c.enter-guard.ensures.entered in
-    let now = ap (λ (z : LocalModel g.row.T.Denot). z.member.own.guards) c.self.view_is in let shut : v.member.own.guards ≡ 0 = (let s = c.requires.shut in omega arith) in
+    let now = ap (λ (z : LocalModel g.row.T.Denot). z.member.own.guards) c.self.view_is in
+    let shut : v.member.own.guards ≡ 0 = (let s = c.requires.shut in omega arith) in
     let so = (stands e.0 c.enter-guard.result.1 v.member e.1 c.enter-guard.new.self e.2 e.3).one shut in
     let one : c.if-goes_on.self.member.own.guards ≡ 1 = elim c.if-goes_on.branch [
       | then-goes_on w ↦ ap (λ (z : LocalModel g.row.T.Denot). z.member.own.guards) w.self-is

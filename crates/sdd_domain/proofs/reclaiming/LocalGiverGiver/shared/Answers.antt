@@ -5,21 +5,20 @@ use Rattle.sdd_space.specs.ParticipantChanges.{KeepsMoreWaiting}
 use Rattle.sdd_space.specs.WorldChanges.{owner_given}
 use Rattle.sdd_space.specs.World.{standing_at}
 use Rattle.sdd_domain.specs.Local.{LocalModel, world_of}
-use Rattle.sdd_domain.specs.LocalState.{LocalState}
-use Rattle.sdd_domain.proofs.Giving.{grows_by}
-use Rattle.sdd_domain.proofs.Owning.{release_tied, release_world}
+use Rattle.sdd_domain.proofs.Owning.{release_tied, release_world, grows_when}
 use Rattle.sdd_domain.proofs.reclaiming.LocalGiverGiver.shared.Goals as goal
 
 pub invariant_of-self : goal.invariant_of-self
-invariant_of-self g c = let r = c.release.ensures.retired in
-    release_tied (c.self.view_is 0) c.release.new.self c.right_of_shared.result r.0 r.1 c.self.invariant c.release.ensures.recalled c.args.self.now c.self.view_is
+invariant_of-self g c = release_tied (c.self.view_is 0) c.release.new.self c.right_of_shared.result c.self.invariant c.release.ensures.recalled c.release.result
+    c.release.ensures.went
 
 pub returns-clause-own : goal.returns-clause-own
-returns-clause-own g c = let r = c.release.ensures.retired in
-    subst (λ (p : LocalModel g.row.T.Denot). KeepsMoreWaiting p.member.own c.release.new.self.own) c.self.view_is
-    (grows_by (number_of c.right_of_shared.result) (c.self.view_is 0).member.own c.release.new.self.own (ap (λ (m : LocalState). m.own) r.1.member))
+returns-clause-own g c = subst (λ (p : LocalModel g.row.T.Denot). KeepsMoreWaiting p.member.own c.release.new.self.own) c.self.view_is
+    (grows_when (c.self.view_is 0) c.release.new.self c.right_of_shared.result c.self.invariant c.release.ensures.recalled
+    c.release.result c.release.ensures.went)
 
 pub returns-clause-exact : goal.returns-clause-exact
-returns-clause-exact g c = λ exact. let r = c.release.ensures.retired in let p : LocalModel g.row.T.Denot = c.args.self.now in
-    release_world (c.self.view_is 0) c.release.new.self c.right_of_shared.result r.0 r.1 c.self.invariant c.release.ensures.recalled p c.self.view_is exact
+returns-clause-exact g c = λ exact. let p : LocalModel g.row.T.Denot = c.args.self.now in
+    release_world (c.self.view_is 0) c.release.new.self c.right_of_shared.result c.self.invariant c.release.ensures.recalled
+    c.release.result c.release.ensures.went p c.self.view_is exact
     ∙ ap (λ (x : Right). owner_given (world_of p) p.member.place (number_of x) (standing_at (world_of p) (number_of x))) c.right_of_shared.ensures.right

@@ -15,7 +15,8 @@ invariant_of-self g c = answered_tied g.row.T (c.self-2.view_is 0) c.new_item.ne
     (λ e. (e.1 ≡ Refused.NoSlot) ⊎ (e.1 ≡ Refused.Contended)) c.new_item.result c.new_item.ensures.made c.new_item.ensures.entry) c.self-2.invariant
 
 pub invariant_of-self-2 : goal.invariant_of-self-2
-invariant_of-self-2 g c = let holds = g.T.Item.holds in sound_made g.row.T holds (c.self-2.view_is 0) c.new_item.new.self c.new_item.new.ledger.entries c.args.kind
+invariant_of-self-2 g c = let holds = g.T.Item.holds in sound_made g.row.T holds (c.self-2.view_is 0) c.new_item.new.self c.new_item.new.ledger.entries
+    c.args.kind
     (λ y. y ≡ c.args.value) (λ e. e.0 ≡ c.args.value) (λ e. (e.1 ≡ Refused.NoSlot) ⊎ (e.1 ≡ Refused.Contended)) c.new_item.result
     (as_answered g.row.T (c.self-2.view_is 0) c.new_item.new.self c.new_item.new.ledger.entries c.args.kind c.args.value
     (λ e. (e.1 ≡ Refused.NoSlot) ⊎ (e.1 ≡ Refused.Contended)) c.new_item.result c.new_item.ensures.made c.new_item.ensures.entry)
@@ -32,14 +33,17 @@ returns-clause-shown g c = value_owns g.row.T (c.self-2.view_is 0) c.new_item.ne
 
 pub returns-clause-lone : goal.returns-clause-lone
 returns-clause-lone g c = answered_lone g.row.T (c.self-2.view_is 0) c.new_item.new.self c.new_item.new.ledger.entries c.args.kind
-    (λ y. y ≡ c.args.value) (λ e. e.0 ≡ c.args.value) (λ e. (e.1 ≡ Refused.NoSlot) ⊎ (e.1 ≡ Refused.Contended)) c.new_item.result c.args.self.now (c.self-2.view_is ∙ c.self.view_is)
+    (λ y. y ≡ c.args.value) (λ e. e.0 ≡ c.args.value) (λ e. (e.1 ≡ Refused.NoSlot) ⊎ (e.1 ≡ Refused.Contended)) c.new_item.result c.args.self.now
+    (c.self-2.view_is ∙ c.self.view_is)
     (as_answered g.row.T (c.self-2.view_is 0) c.new_item.new.self c.new_item.new.ledger.entries c.args.kind c.args.value
     (λ e. (e.1 ≡ Refused.NoSlot) ⊎ (e.1 ≡ Refused.Contended)) c.new_item.result c.new_item.ensures.made c.new_item.ensures.entry)
 
 pub returns-clause-exact : goal.returns-clause-exact
-returns-clause-exact g c = λ exact. value_exact g.row.T (c.self-2.view_is 0) c.new_item.new.self c.new_item.new.ledger.entries c.args.kind c.args.value c.new_item.result c.args.self.now
+returns-clause-exact g c = λ exact. value_exact g.row.T (c.self-2.view_is 0) c.new_item.new.self c.new_item.new.ledger.entries c.args.kind c.args.value
+    c.new_item.result c.args.self.now
     (answered_exact g.row.T (c.self-2.view_is 0) c.new_item.new.self c.new_item.new.ledger.entries c.args.kind
-    (λ y. y ≡ c.args.value) c.args.value (λ e. (e.1 ≡ Refused.NoSlot) ⊎ (e.1 ≡ Refused.Contended)) c.new_item.result c.args.self.now (c.self-2.view_is ∙ c.self.view_is)
+    (λ y. y ≡ c.args.value) c.args.value (λ e. (e.1 ≡ Refused.NoSlot) ⊎ (e.1 ≡ Refused.Contended)) c.new_item.result c.args.self.now
+    (c.self-2.view_is ∙ c.self.view_is)
     (as_answered g.row.T (c.self-2.view_is 0) c.new_item.new.self c.new_item.new.ledger.entries c.args.kind c.args.value
     (λ e. (e.1 ≡ Refused.NoSlot) ⊎ (e.1 ≡ Refused.Contended)) c.new_item.result c.new_item.ensures.made c.new_item.ensures.entry) c.self-2.invariant exact)
 
@@ -49,7 +53,8 @@ returns-clause-undisturbed g c = record {
   own = search rules;
   known = search rules;
   shown = answered_keeps g.row.T (c.self-2.view_is 0) c.new_item.new.self c.new_item.new.ledger.entries c.args.kind
-      (λ y. y ≡ c.args.value) (λ e. e.0 ≡ c.args.value) (λ e. (e.1 ≡ Refused.NoSlot) ⊎ (e.1 ≡ Refused.Contended)) g.T.Item.holds c.new_item.result c.args.self.now (c.self-2.view_is ∙ c.self.view_is)
+      (λ y. y ≡ c.args.value) (λ e. e.0 ≡ c.args.value) (λ e. (e.1 ≡ Refused.NoSlot) ⊎ (e.1 ≡ Refused.Contended)) g.T.Item.holds c.new_item.result
+      c.args.self.now (c.self-2.view_is ∙ c.self.view_is)
       (as_answered g.row.T (c.self-2.view_is 0) c.new_item.new.self c.new_item.new.ledger.entries c.args.kind c.args.value
       (λ e. (e.1 ≡ Refused.NoSlot) ⊎ (e.1 ≡ Refused.Contended)) c.new_item.result c.new_item.ensures.made c.new_item.ensures.entry) c.self-2.invariant;
 }

@@ -1,7 +1,6 @@
-use Rattle.std.proofs.Common.{◌≡◌, ℕ, ◌∙◌, ap, sym, Option, refl, subst}
+use Rattle.std.proofs.Common.{◌≡◌, ◌∙◌, ap, sym, Option, subst}
 use Rattle.sdd_space.specs.World.{World}
 use Rattle.sdd_space.specs.CallerId.{CallerId, IsExact}
-use Rattle.sdd_space.specs.Shared.{cell_of}
 use Rattle.sdd_space.specs.WorldChanges.{held_in, spilled, without_cell}
 use Rattle.sdd_core.specs.declared.tag.Tag.TheVariants.{None as no_tag}
 use Rattle.sdd_participants.specs.declared.standing.CellContents.{CellContents}

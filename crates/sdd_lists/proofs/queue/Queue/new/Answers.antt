@@ -1,4 +1,4 @@
-use Rattle.std.proofs.Common.{◌≡◌, ℕ, ◌∙◌, ap, sym, Option, Some, None, refl, subst}
+use Rattle.std.proofs.Common.{ℕ, ◌∙◌, ap, sym, Option, Some, None, subst}
 use Rattle.std.proofs.lemmas.List.{get_or-set_same}
 use Rattle.sdd_space.specs.World.{World}
 use Rattle.sdd_space.specs.CallerId.{CallerId, IsExact}

@@ -1,4 +1,4 @@
-use Rattle.std.proofs.Common.{◌≡◌, ◌⊎◌, ◌∙◌, ap, sym, subst}
+use Rattle.std.proofs.Common.{◌≡◌, ◌⊎◌, sym, subst}
 use Rattle.std.specs.Prelude.{IfErr, IfOk}
 use Rattle.sdd_space.specs.World.{World}
 use Rattle.sdd_space.specs.CallerId.{CallerId, IsExact}

@@ -1,4 +1,4 @@
-use Rattle.std.proofs.Common.{◌≡◌, ◌≢◌, ℕ, List, [], ◌∙◌, ap, sym, refl, Some, None, Option, subst}
+use Rattle.std.proofs.Common.{◌≡◌, ◌≢◌, ℕ, [], ◌∙◌, ap, sym, Some, None, Option, subst}
 use Rattle.std.specs.Prelude.{option_map}
 use Rattle.std.proofs.lemmas.List.{get_or-set_other}
 use Rattle.sdd_space.specs.World.{World}
@@ -19,8 +19,8 @@ use Rattle.sdd_lists.proofs.stack.Stack.pop_all.Goals as goal
 
 pub returns-clause-own : goal.returns-clause-own
 returns-clause-own g c = λ start grown.
-    c.give_up.ensures.own start
-    (grows-not (g.S.Caller.own c.args.s.now) _ (c.swap-nothing.ensures.undisturbed.own ∙ c.swap-first.ensures.undisturbed.own ∙ c.in-Ok.ensures.undisturbed.own) start grown)
+    let same = c.swap-nothing.ensures.undisturbed.own ∙ c.swap-first.ensures.undisturbed.own ∙ c.in-Ok.ensures.undisturbed.own in
+    c.give_up.ensures.own start (grows-not (g.S.Caller.own c.args.s.now) _ same start grown)
 
 pub returns-clause-list : goal.returns-clause-list
 returns-clause-list g c = λ e es list.

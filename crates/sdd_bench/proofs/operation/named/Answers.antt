@@ -1,0 +1,43 @@
+use Rattle.sdd_bench.specs.declared.operation.Guarding.TheVariants.{Outermost, Nested, Accelerated}
+use Rattle.sdd_bench.specs.declared.operation.Task.TheVariants.{Guards, Items, HalfFull, Looks, Reads, Gets, Jobs, Raws, Changes, Shares}
+use Rattle.sdd_bench.specs.declared.operation.Operation.TheVariants.{World, Local, Beside, Places, Item, Job, Read, Look, Load, Share, Raw, Swap}
+use Rattle.sdd_bench.proofs.operation.named.Goals as goal
+
+-- Each name was compared with the word, in the order of the code
+pub returns-in_default : goal.returns-in_default
+returns-in_default c (World Outermost) is = c.in_default.not-text is
+returns-in_default c (World Nested) is = c.in_default.not-text-2 is
+returns-in_default c (World Accelerated) is = c.in_default.not-text-3 is
+returns-in_default c Item is = c.in_default.not-text-4 is
+returns-in_default c Job is = c.in_default.not-text-5 is
+returns-in_default c Read is = c.in_default.not-text-6 is
+returns-in_default c Look is = c.in_default.not-text-7 is
+returns-in_default c Load is = c.in_default.not-text-8 is
+returns-in_default c Share is = c.in_default.not-text-9 is
+returns-in_default c Raw is = c.in_default.not-text-10 is
+returns-in_default c Swap is = c.in_default.not-text-11 is
+returns-in_default c (Local (Guards Outermost)) is = c.in_default.not-text-12 is
+returns-in_default c (Local (Guards Nested)) is = c.in_default.not-text-13 is
+returns-in_default c (Local (Guards Accelerated)) is = c.in_default.not-text-14 is
+returns-in_default c (Local Items) is = c.in_default.not-text-15 is
+returns-in_default c (Local HalfFull) is = c.in_default.not-text-16 is
+returns-in_default c (Local Looks) is = c.in_default.not-text-17 is
+returns-in_default c (Local Reads) is = c.in_default.not-text-18 is
+returns-in_default c (Local Gets) is = c.in_default.not-text-19 is
+returns-in_default c (Local Jobs) is = c.in_default.not-text-20 is
+returns-in_default c (Local Raws) is = c.in_default.not-text-21 is
+returns-in_default c (Local Changes) is = c.in_default.not-text-22 is
+returns-in_default c (Local Shares) is = c.in_default.not-text-23 is
+returns-in_default c (Beside (Guards Outermost)) is = c.in_default.not-text-24 is
+returns-in_default c (Beside (Guards Nested)) is = c.in_default.not-text-25 is
+returns-in_default c (Beside (Guards Accelerated)) is = c.in_default.not-text-26 is
+returns-in_default c (Beside Items) is = c.in_default.not-text-27 is
+returns-in_default c (Beside HalfFull) is = c.in_default.not-text-28 is
+returns-in_default c (Beside Looks) is = c.in_default.not-text-29 is
+returns-in_default c (Beside Reads) is = c.in_default.not-text-30 is
+returns-in_default c (Beside Gets) is = c.in_default.not-text-31 is
+returns-in_default c (Beside Jobs) is = c.in_default.not-text-32 is
+returns-in_default c (Beside Raws) is = c.in_default.not-text-33 is
+returns-in_default c (Beside Changes) is = c.in_default.not-text-34 is
+returns-in_default c (Beside Shares) is = c.in_default.not-text-35 is
+returns-in_default c Places is = c.in_default.not-text-36 is

@@ -1,0 +1,21 @@
+-- What a participant has in its hand that makes calls as they come
+use Rattle.std.specs.Prelude.{◌≡◌, All, List}
+use Rattle.sdd_rights.specs.Units as token
+use Rattle.sdd_space.specs.Guard.{ReaderId, reader_of}
+use Rattle.sdd_space.specs.Owned as owned
+use Rattle.sdd_space.specs.Shared as shared
+use Rattle.sdd_space.specs.declared.guard.Guard.{Guard}
+use Rattle.sdd_space.specs.declared.owned.Owned.{Owned}
+use Rattle.sdd_space.specs.declared.shared.Shared.{Shared}
+
+module _ {T : Type 0} where
+  -- the owners are of these slots
+  abbrev pub AreOwnedIn : token.GhostName → List (Owned T) → Type 0
+  AreOwnedIn home = All (λ o. owned.slots_home o ≡ home)
+
+  abbrev pub AreSharedIn : token.GhostName → List (Shared T) → Type 0
+  AreSharedIn home = All (λ o. shared.slots_home o ≡ home)
+
+-- the guards are this reader's
+abbrev pub AreGuardsOf : ReaderId → List Guard → Type 0
+AreGuardsOf reader = All (λ g. reader_of g ≡ reader)

@@ -1,0 +1,37 @@
+//! What calls answer, as it is compared.
+use sdd_core::Refused;
+use std::process::Abort;
+
+/// What one call answered.
+#[derive(Clone, Copy, Debug, PartialEq)]
+pub enum Answer {
+    /// There was nothing to call it with.
+    Nothing,
+    Done,
+    Told(bool),
+    Number(u64),
+    Refused(Refused),
+}
+
+impl Answer {
+    /// The answer of a call that tells a number.
+    pub fn of_number(told: Result<u64, Refused>) -> Answer {
+        match told {
+            Ok(number) => Answer::Number(number),
+            Err(refused) => Answer::Refused(refused),
+        }
+    }
+
+    /// The answer of a look.
+    pub fn of_look(seen: Option<u64>) -> Answer {
+        match seen {
+            Some(number) => Answer::Number(number),
+            None => Answer::Nothing,
+        }
+    }
+}
+
+/// One answer more.
+pub fn note(rt: &impl Abort, answers: &mut Vec<Answer>, answer: Answer) {
+    answers.push(answer).expect(rt, "there is memory");
+}

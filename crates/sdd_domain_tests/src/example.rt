@@ -1,0 +1,199 @@
+//! One example of each call that a turn at a world and the only participant of a domain both have, with what both answer.
+ghost use Rattle.std.specs.Prelude.{◌≡◌};
+ghost use Rattle.sdd_space.specs.CallerId.{IsSeated};
+ghost use Rattle.sdd_space.specs.Guard.{reader_of};
+
+use crate::answers::{Answer, note};
+use crate::both_spaces::{Plays, compared};
+use crate::owners::{
+    copied, dropped_in_place, owned_item, put, released, seen, shared_item, stays_in_place,
+    turn_shows,
+};
+use crate::steps::ONE_SLOT;
+use crate::with_jobs::{Adds, Total, adding};
+use sdd_core::{Limits, Refused};
+use sdd_space::{
+    Deferrals, Guard, Guards, InPlaceItems, Items, Look, Owned, RawItems, RawPtr, SharedOwners,
+};
+use std::process::Abort;
+use std::sync::atomic::Ordering;
+
+/// One place for a job, beside one slot.
+const ONE_SLOT_AND_ONE_JOB: Limits = Limits {
+    jobs: 1,
+    ..ONE_SLOT
+};
+
+/// Owners of one item, beside each other and alone.
+fn shares<S: Items<u64> + SharedOwners<u64> + InPlaceItems<u64> + Guards<u64>>(
+    rt: &impl Abort,
+    s: &mut S,
+    answers: &mut Vec<Answer>,
+)
+    requires { IsSeated (S.seat s.old) }
+    ensures { S.seat s.new ≡ S.seat s.old }
+{
+    let mut owner = shared_item(rt, s, 38);
+    note(rt, answers, Answer::of_number(put(s, &mut owner, 39)));
+    let other = copied(rt, s, &owner);
+    note(rt, answers, Answer::of_number(put(s, &mut owner, 40)));
+    let guard = Guard::new(s).expect(rt, "a guard may be opened");
+    note(rt, answers, Answer::Number(seen(s, &guard, &other)));
+    note(rt, answers, Answer::Told(released(s, other)));
+    note(rt, answers, Answer::of_number(put(s, &mut owner, 41)));
+    let owner = stays_in_place(rt, s, owner);
+    guard.close(s);
+    note(rt, answers, Answer::Told(dropped_in_place(rt, s, owner)));
+}
+
+/// What a guard shows of something that is out.
+fn shown<S: Look<u64> + RawItems<u64>>(s: &mut S, ptr: RawPtr<u64>, guard: &Guard) -> Answer
+    requires seated { IsSeated (S.seat s.old) }
+    requires reader { reader_of guard.now ≡ (S.seat s.old).reader }
+    ensures { S.seat s.new ≡ S.seat s.old }
+{
+    match ptr.into_ptr(s, guard) {
+        Some(ptr) => Answer::of_look(ptr.as_ref(s).copied()),
+        None => Answer::Nothing,
+    }
+}
+
+/// An item goes out as raw under a guard, comes back and is retired, and its slot isn't free.
+fn goes_out<S: Look<u64> + Items<u64> + RawItems<u64> + Guards<u64>>(
+    rt: &impl Abort,
+    s: &mut S,
+    answers: &mut Vec<Answer>,
+)
+    requires { IsSeated (S.seat s.old) }
+    ensures { S.seat s.new ≡ S.seat s.old }
+{
+    let owner = owned_item(rt, s, 7);
+    let ptr = owner.into_raw(s);
+    let guard = Guard::new(s).expect(rt, "a guard may be opened");
+    note(rt, answers, shown(s, ptr, &guard));
+    let Some(owner) = Owned::from_raw(ptr, s) else {
+        panic!(rt; "the item is out")
+    };
+    note(rt, answers, shown(s, ptr, &guard));
+    note(rt, answers, Answer::Number(*owner.get(s)));
+    if let Some(_owner) = Owned::from_raw(ptr, s) {
+        panic!(rt; "the item came back")
+    }
+    owner.retire(s);
+    guard.close(s);
+    match Owned::new(9, s) {
+        Ok(_owner) => panic!(rt; "no slot is free"),
+        Err((_value, refused)) => note(rt, answers, Answer::Refused(refused)),
+    }
+}
+
+/// Defers a job that adds this.
+fn deferred<S: Deferrals<u64, Job = Adds>>(
+    rt: &impl Abort,
+    s: &mut S,
+    guard: &Guard,
+    total: &Total,
+    amount: u64,
+) -> Answer
+    requires seated { IsSeated (S.seat s.old) }
+    requires reader { reader_of guard.now ≡ (S.seat s.old).reader }
+    ensures { S.seat s.new ≡ S.seat s.old }
+{
+    match guard.defer_execute(adding(rt, total, amount), s) {
+        Ok(()) => Answer::Done,
+        Err((_job, refused)) => Answer::Refused(refused),
+    }
+}
+
+/// A job finds the one place, and another one doesn't. Two guards are open, and a third one may not be.
+fn defers<S: Guards<u64> + Deferrals<u64, Job = Adds>>(
+    rt: &impl Abort,
+    s: &mut S,
+    total: &Total,
+    answers: &mut Vec<Answer>,
+)
+    requires { IsSeated (S.seat s.old) }
+    ensures { S.seat s.new ≡ S.seat s.old }
+{
+    let outer = Guard::new(s).expect(rt, "a guard may be opened");
+    note(rt, answers, deferred(rt, s, &outer, total, 5));
+    note(rt, answers, deferred(rt, s, &outer, total, 100));
+    let inner = Guard::new(s).expect(rt, "two guards may be open");
+    match Guard::new(s) {
+        Ok(_guard) => panic!(rt; "two guards are open"),
+        Err(refused) => note(rt, answers, Answer::Refused(refused)),
+    }
+    inner.close(s);
+    outer.close(s);
+}
+
+/// The epochs of the next accelerated guards, whether something may wait, and what the jobs added so far.
+fn goes_on<S: Guards<u64>>(rt: &impl Abort, s: &mut S, total: &Total, answers: &mut Vec<Answer>)
+    requires { IsSeated (S.seat s.old) }
+    ensures { S.seat s.new ≡ S.seat s.old }
+{
+    for _ in 0..5 {
+        let (epoch, waits) = turn_shows(rt, s);
+        note(rt, answers, Answer::Number(u64::from(epoch)));
+        note(rt, answers, Answer::Told(waits));
+        note(rt, answers, Answer::Number(total.load(Ordering::SeqCst)));
+    }
+}
+
+/// What is answered, in that order.
+const ANSWERS: [Answer; 28] = [
+    Answer::Number(38),
+    Answer::Refused(Refused::NotAlone),
+    Answer::Number(39),
+    Answer::Told(false),
+    Answer::Refused(Refused::GuardOpen),
+    Answer::Told(true),
+    Answer::Number(7),
+    Answer::Nothing,
+    Answer::Number(7),
+    Answer::Refused(Refused::NoSlot),
+    Answer::Done,
+    Answer::Refused(Refused::NoJob),
+    Answer::Refused(Refused::TooManyGuards),
+    Answer::Number(0),
+    Answer::Told(true),
+    Answer::Number(0),
+    Answer::Number(1),
+    Answer::Told(true),
+    Answer::Number(0),
+    Answer::Number(2),
+    Answer::Told(true),
+    Answer::Number(0),
+    Answer::Number(3),
+    Answer::Told(false),
+    Answer::Number(5),
+    Answer::Number(4),
+    Answer::Told(false),
+    Answer::Number(5),
+];
+
+struct Example;
+
+impl Plays for Example {
+    fn play<
+        R: Abort + AllocGlobal,
+        S: Look<u64>
+            + Items<u64>
+            + SharedOwners<u64>
+            + InPlaceItems<u64>
+            + RawItems<u64>
+            + Guards<u64>
+            + Deferrals<u64, Job = Adds>,
+    >(&self, rt: &R, s: &mut S, total: &Total, answers: &mut Vec<Answer>) {
+        shares(rt, s, answers);
+        goes_out(rt, s, answers);
+        defers(rt, s, total, answers);
+        goes_on(rt, s, total, answers);
+    }
+}
+
+#[test]
+fn a_lone_participant_answers_as_a_turn_does(rt: HostRuntime) {
+    let answers = compared(&rt, &Example, ONE_SLOT_AND_ONE_JOB);
+    assert_eq!(rt; answers.as_slice(), ANSWERS.as_slice());
+}

@@ -1,0 +1,107 @@
+//! What a participant has that makes calls as they come: owners, pointers to what it put out, and guards.
+ghost use Rattle.std.specs.Prelude.{◌≡◌, IfSome};
+ghost use Rattle.sdd_rights.specs.Units as token;
+ghost use Rattle.sdd_space.specs.Guard.{ReaderId, reader_of};
+ghost use Rattle.sdd_space.specs.Owned as owned;
+ghost use Rattle.sdd_space.specs.Shared as shared;
+ghost use Rattle.sdd_domain_tests.specs.Hands.{AreOwnedIn, AreSharedIn, AreGuardsOf};
+
+use sdd_space::{Guard, Owned, RawPtr, Shared};
+use std::alloc::Global;
+use std::process::Abort;
+
+pub struct Hand {
+    pub owned: Vec<Owned<u64>>,
+    pub shared: Vec<Shared<u64>>,
+    /// What is out as raw, and nobody has.
+    pub out: Vec<RawPtr<u64>>,
+    pub guards: Vec<Guard>,
+}
+
+impl Hand {
+    pub fn new(alloc: Global) -> Hand
+        ensures owned { (home : token.GhostName) → AreOwnedIn home result.owned.items }
+        ensures shared { (home : token.GhostName) → AreSharedIn home result.shared.items }
+        ensures guards { (reader : ReaderId) → AreGuardsOf reader result.guards.items }
+    {
+        Hand {
+            owned: Vec::new(alloc),
+            shared: Vec::new(alloc),
+            out: Vec::new(alloc),
+            guards: Vec::new(alloc),
+        }
+    }
+}
+
+/// Takes the only owner of some item.
+pub fn take_owned(owners: &mut Vec<Owned<u64>>, pick: usize) -> Option<Owned<u64>>
+    ensures { (home : token.GhostName) → AreOwnedIn home owners.old.items → AreOwnedIn home owners.new.items × owned.IsOfSlots home result }
+{
+    if owners.is_empty() {
+        return None;
+    }
+    let place = pick % owners.len();
+    Some(owners.remove(place))
+}
+
+pub fn keep_owned(rt: &impl Abort, owners: &mut Vec<Owned<u64>>, owner: Owned<u64>)
+    ensures { (home : token.GhostName) → AreOwnedIn home owners.old.items → owned.slots_home owner ≡ home → AreOwnedIn home owners.new.items }
+{
+    match owners.push(owner) {
+        Ok(()) => {}
+        Err(_refused) => panic!(rt; "there is memory"),
+    }
+}
+
+/// Takes some owner of an item that may have others.
+pub fn take_shared(owners: &mut Vec<Shared<u64>>, pick: usize) -> Option<Shared<u64>>
+    ensures { (home : token.GhostName) → AreSharedIn home owners.old.items → AreSharedIn home owners.new.items × shared.IsOfSlots home result }
+{
+    if owners.is_empty() {
+        return None;
+    }
+    let place = pick % owners.len();
+    Some(owners.remove(place))
+}
+
+pub fn keep_shared(rt: &impl Abort, owners: &mut Vec<Shared<u64>>, owner: Shared<u64>)
+    ensures { (home : token.GhostName) → AreSharedIn home owners.old.items → shared.slots_home owner ≡ home → AreSharedIn home owners.new.items }
+{
+    match owners.push(owner) {
+        Ok(()) => {}
+        Err(_refused) => panic!(rt; "there is memory"),
+    }
+}
+
+/// Takes the guard that was opened last.
+pub fn take_guard(guards: &mut Vec<Guard>) -> Option<Guard>
+    ensures { (reader : ReaderId) → AreGuardsOf reader guards.old.items →
+        AreGuardsOf reader guards.new.items × IfSome result (λ guard. reader_of guard ≡ reader) }
+{
+    guards.pop()
+}
+
+pub fn keep_guard(rt: &impl Abort, guards: &mut Vec<Guard>, guard: Guard)
+    ensures { (reader : ReaderId) → AreGuardsOf reader guards.old.items → reader_of guard ≡ reader → AreGuardsOf reader guards.new.items }
+{
+    match guards.push(guard) {
+        Ok(()) => {}
+        Err(_refused) => panic!(rt; "there is memory"),
+    }
+}
+
+/// Takes a pointer to something that is out.
+pub fn take_out(out: &mut Vec<RawPtr<u64>>, pick: usize) -> Option<RawPtr<u64>> {
+    if out.is_empty() {
+        return None;
+    }
+    let place = pick % out.len();
+    Some(out.remove(place))
+}
+
+pub fn keep_out(rt: &impl Abort, out: &mut Vec<RawPtr<u64>>, ptr: RawPtr<u64>) {
+    match out.push(ptr) {
+        Ok(()) => {}
+        Err(_refused) => panic!(rt; "there is memory"),
+    }
+}

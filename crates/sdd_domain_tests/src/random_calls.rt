@@ -1,0 +1,365 @@
+//! Lists of calls as they come, which a turn at a world and the only participant of a domain answer alike.
+ghost use Rattle.std.specs.Prelude.{◌≡◌};
+ghost use Rattle.sdd_space.specs.CallerId.{IsSeated};
+ghost use Rattle.sdd_domain_tests.specs.Hands.{AreOwnedIn, AreSharedIn, AreGuardsOf};
+
+use crate::answers::{Answer, note};
+use crate::both_spaces::{Plays, compared};
+use crate::generator::Generator;
+use crate::hand::Hand;
+use crate::steps::ONE_SLOT;
+use crate::with_jobs::{Adds, Total};
+use crate::{guard_calls, owned_calls, shared_calls};
+use sdd_core::{Limits, Refused};
+use sdd_space::{
+    Deferrals, Guard, Guards, InPlaceItems, Items, Look, Owned, RawItems, RawPtr, Shared,
+    SharedOwners,
+};
+use std::process::Abort;
+use std::sync::atomic::Ordering;
+
+/// So many lists in the gate, in less than a second. By hand 100,000 of them take some minutes.
+const LISTS: u64 = 300;
+
+/// The calls of one list.
+const CALLS: u64 = 100;
+
+/// So few of everything that each refusal comes.
+const FEW: Limits = Limits {
+    slots: 3,
+    jobs: 2,
+    ..ONE_SLOT
+};
+
+#[derive(Clone, Copy)]
+enum OwnedCall {
+    Make,
+    MakeByClosure,
+    Look,
+    LookUnder,
+    Change,
+    Retire,
+    Drop,
+    SeeWhatCameBack,
+}
+
+const OWNED_CALLS: [OwnedCall; 8] = [
+    OwnedCall::Make,
+    OwnedCall::MakeByClosure,
+    OwnedCall::Look,
+    OwnedCall::LookUnder,
+    OwnedCall::Change,
+    OwnedCall::Retire,
+    OwnedCall::Drop,
+    OwnedCall::SeeWhatCameBack,
+];
+
+#[derive(Clone, Copy)]
+enum SharedCall {
+    Make,
+    MakeByClosure,
+    Look,
+    LookUnder,
+    Clone,
+    Release,
+    Change,
+    Drop,
+}
+
+const SHARED_CALLS: [SharedCall; 8] = [
+    SharedCall::Make,
+    SharedCall::MakeByClosure,
+    SharedCall::Look,
+    SharedCall::LookUnder,
+    SharedCall::Clone,
+    SharedCall::Release,
+    SharedCall::Change,
+    SharedCall::Drop,
+];
+
+#[derive(Clone, Copy)]
+enum GuardCall {
+    Open,
+    Close,
+    Show,
+    Ask,
+    Stir,
+    Accelerate,
+    Defer,
+}
+
+/// Guards are opened and closed more often than all else.
+const GUARD_CALLS: [GuardCall; 10] = [
+    GuardCall::Open,
+    GuardCall::Close,
+    GuardCall::Show,
+    GuardCall::Open,
+    GuardCall::Close,
+    GuardCall::Ask,
+    GuardCall::Stir,
+    GuardCall::Close,
+    GuardCall::Accelerate,
+    GuardCall::Defer,
+];
+
+fn owned_call<S: Look<u64> + Items<u64> + InPlaceItems<u64> + RawItems<u64>>(
+    rt: &impl Abort,
+    s: &mut S,
+    owners: &mut Vec<Owned<u64>>,
+    guards: &mut Vec<Guard>,
+    drawn: &mut Generator,
+) -> Answer
+    requires seated { IsSeated (S.seat s.old) }
+    requires owners { AreOwnedIn (S.seat s.old).home.slots owners.old.items }
+    requires guards { AreGuardsOf (S.seat s.old).reader guards.old.items }
+    ensures seat { S.seat s.new ≡ S.seat s.old }
+    ensures owners { AreOwnedIn (S.seat s.old).home.slots owners.new.items }
+    ensures guards { AreGuardsOf (S.seat s.old).reader guards.new.items }
+{
+    let call = OWNED_CALLS[drawn.below(8) as usize];
+    let value = drawn.below(1000);
+    let pick = value as usize;
+    match call {
+        OwnedCall::Make => owned_calls::makes(rt, s, owners, value),
+        OwnedCall::MakeByClosure => owned_calls::makes_by_closure(rt, s, owners, value),
+        OwnedCall::Look => owned_calls::looks(rt, s, owners, pick),
+        OwnedCall::LookUnder => owned_calls::looks_under(rt, s, owners, guards, pick),
+        OwnedCall::Change => owned_calls::changes(rt, s, owners, value, pick),
+        OwnedCall::Retire => owned_calls::retires(s, owners, pick),
+        OwnedCall::Drop => owned_calls::drops(rt, s, owners, pick),
+        OwnedCall::SeeWhatCameBack => {
+            owned_calls::sees_what_came_back(rt, s, owners, guards, pick)
+        }
+    }
+}
+
+fn shared_call<S: Look<u64> + Items<u64> + SharedOwners<u64> + InPlaceItems<u64>>(
+    rt: &impl Abort,
+    s: &mut S,
+    owners: &mut Vec<Shared<u64>>,
+    guards: &mut Vec<Guard>,
+    drawn: &mut Generator,
+) -> Answer
+    requires seated { IsSeated (S.seat s.old) }
+    requires owners { AreSharedIn (S.seat s.old).home.slots owners.old.items }
+    requires guards { AreGuardsOf (S.seat s.old).reader guards.old.items }
+    ensures seat { S.seat s.new ≡ S.seat s.old }
+    ensures owners { AreSharedIn (S.seat s.old).home.slots owners.new.items }
+    ensures guards { AreGuardsOf (S.seat s.old).reader guards.new.items }
+{
+    let call = SHARED_CALLS[drawn.below(8) as usize];
+    let value = drawn.below(1000);
+    let pick = value as usize;
+    match call {
+        SharedCall::Make => shared_calls::makes(rt, s, owners, value),
+        SharedCall::MakeByClosure => shared_calls::makes_by_closure(rt, s, owners, value),
+        SharedCall::Look => shared_calls::looks(rt, s, owners, pick),
+        SharedCall::LookUnder => shared_calls::looks_under(rt, s, owners, guards, pick),
+        SharedCall::Clone => shared_calls::clones(rt, s, owners, pick),
+        SharedCall::Release => shared_calls::releases(s, owners, pick),
+        SharedCall::Change => shared_calls::changes(rt, s, owners, value, pick),
+        SharedCall::Drop => shared_calls::drops(rt, s, owners, pick),
+    }
+}
+
+fn guard_call<S: Guards<u64> + Deferrals<u64, Job = Adds>>(
+    rt: &impl Abort,
+    s: &mut S,
+    guards: &mut Vec<Guard>,
+    total: &Total,
+    drawn: &mut Generator,
+) -> Answer
+    requires seated { IsSeated (S.seat s.old) }
+    requires guards { AreGuardsOf (S.seat s.old).reader guards.old.items }
+    ensures seat { S.seat s.new ≡ S.seat s.old }
+    ensures guards { AreGuardsOf (S.seat s.old).reader guards.new.items }
+{
+    let call = GUARD_CALLS[drawn.below(10) as usize];
+    let amount = drawn.below(1000);
+    match call {
+        GuardCall::Open => guard_calls::opens(rt, s, guards),
+        GuardCall::Close => guard_calls::closes(s, guards),
+        GuardCall::Show => guard_calls::shows(rt, s, guards),
+        GuardCall::Ask => guard_calls::asks(rt, s, guards),
+        GuardCall::Stir => guard_calls::stirs(rt, s, guards),
+        GuardCall::Accelerate => guard_calls::accelerates(rt, s, guards),
+        GuardCall::Defer => guard_calls::defers(rt, s, guards, total, amount),
+    }
+}
+
+fn raw_call<S: Look<u64> + RawItems<u64>>(
+    rt: &impl Abort,
+    s: &mut S,
+    owners: &mut Vec<Owned<u64>>,
+    out: &mut Vec<RawPtr<u64>>,
+    guards: &mut Vec<Guard>,
+    drawn: &mut Generator,
+) -> Answer
+    requires seated { IsSeated (S.seat s.old) }
+    requires owners { AreOwnedIn (S.seat s.old).home.slots owners.old.items }
+    requires guards { AreGuardsOf (S.seat s.old).reader guards.old.items }
+    ensures seat { S.seat s.new ≡ S.seat s.old }
+    ensures owners { AreOwnedIn (S.seat s.old).home.slots owners.new.items }
+    ensures guards { AreGuardsOf (S.seat s.old).reader guards.new.items }
+{
+    let call = drawn.below(3);
+    let pick = drawn.below(1000) as usize;
+    match call {
+        0 => owned_calls::puts_out(rt, s, owners, out, pick),
+        1 => owned_calls::takes_back(rt, s, owners, out, pick),
+        _ => owned_calls::sees_out(rt, s, out, guards, pick),
+    }
+}
+
+/// The next call, with what there is.
+pub fn call<
+    S: Look<u64>
+        + Items<u64>
+        + SharedOwners<u64>
+        + InPlaceItems<u64>
+        + RawItems<u64>
+        + Guards<u64>
+        + Deferrals<u64, Job = Adds>,
+>(rt: &impl Abort, s: &mut S, hand: &mut Hand, total: &Total, drawn: &mut Generator) -> Answer
+    requires seated { IsSeated (S.seat s.old) }
+    requires owned { AreOwnedIn (S.seat s.old).home.slots hand.old.owned.items }
+    requires shared { AreSharedIn (S.seat s.old).home.slots hand.old.shared.items }
+    requires guards { AreGuardsOf (S.seat s.old).reader hand.old.guards.items }
+    ensures seat { S.seat s.new ≡ S.seat s.old }
+    ensures owned { AreOwnedIn (S.seat s.old).home.slots hand.new.owned.items }
+    ensures shared { AreSharedIn (S.seat s.old).home.slots hand.new.shared.items }
+    ensures guards { AreGuardsOf (S.seat s.old).reader hand.new.guards.items }
+{
+    match drawn.below(5) {
+        0 => owned_call(rt, s, &mut hand.owned, &mut hand.guards, drawn),
+        1 => shared_call(rt, s, &mut hand.shared, &mut hand.guards, drawn),
+        2 => raw_call(
+            rt,
+            s,
+            &mut hand.owned,
+            &mut hand.out,
+            &mut hand.guards,
+            drawn,
+        ),
+        _ => guard_call(rt, s, &mut hand.guards, total, drawn),
+    }
+}
+
+pub fn close_all<S: Guards<u64>>(s: &mut S, mut guards: Vec<Guard>)
+    requires seated { IsSeated (S.seat s.old) }
+    requires guards { AreGuardsOf (S.seat s.old).reader guards.items }
+    ensures { S.seat s.new ≡ S.seat s.old }
+{
+    while let Some(guard) = guards.pop() {
+        guard.close(s);
+    }
+    guards.destroy_empty();
+}
+
+pub fn retire_all<S: Items<u64>>(s: &mut S, mut owners: Vec<Owned<u64>>)
+    requires seated { IsSeated (S.seat s.old) }
+    requires owners { AreOwnedIn (S.seat s.old).home.slots owners.items }
+    ensures { S.seat s.new ≡ S.seat s.old }
+{
+    while let Some(owner) = owners.pop() {
+        owner.retire(s);
+    }
+    owners.destroy_empty();
+}
+
+pub fn release_all<S: Items<u64>>(s: &mut S, mut owners: Vec<Shared<u64>>)
+    requires seated { IsSeated (S.seat s.old) }
+    requires owners { AreSharedIn (S.seat s.old).home.slots owners.items }
+    ensures { S.seat s.new ≡ S.seat s.old }
+{
+    while let Some(owner) = owners.pop() {
+        owner.release(s);
+    }
+    owners.destroy_empty();
+}
+
+pub fn take_all_back<S: Items<u64> + RawItems<u64>>(s: &mut S, out: Vec<RawPtr<u64>>)
+    requires { IsSeated (S.seat s.old) }
+    ensures { S.seat s.new ≡ S.seat s.old }
+{
+    for ptr in out {
+        if let Some(owner) = Owned::from_raw(ptr, s) {
+            owner.retire(s);
+        }
+    }
+}
+
+/// A list of calls that this seed draws.
+#[derive(Drop)]
+struct Drawn {
+    seed: u64,
+}
+
+impl Plays for Drawn {
+    fn play<
+        R: Abort + AllocGlobal,
+        S: Look<u64>
+            + Items<u64>
+            + SharedOwners<u64>
+            + InPlaceItems<u64>
+            + RawItems<u64>
+            + Guards<u64>
+            + Deferrals<u64, Job = Adds>,
+    >(&self, rt: &R, s: &mut S, total: &Total, answers: &mut Vec<Answer>) {
+        let mut drawn = Generator::new(self.seed);
+        let mut hand = Hand::new(rt.alloc());
+        for _ in 0..CALLS {
+            let answer = call(rt, s, &mut hand, total, &mut drawn);
+            note(rt, answers, answer);
+            note(rt, answers, Answer::Number(total.load(Ordering::SeqCst)));
+        }
+        let Hand {
+            owned,
+            shared,
+            out,
+            guards,
+        } = hand;
+        close_all(s, guards);
+        retire_all(s, owned);
+        release_all(s, shared);
+        take_all_back(s, out);
+    }
+}
+
+/// Whether a refusal came among the answers.
+fn has_met(answers: &[Answer], refused: Refused) -> bool {
+    for answer in answers {
+        if *answer == Answer::Refused(refused) {
+            return true;
+        }
+    }
+    false
+}
+
+/// Plays lists from this seed on, and answers how many of them met each refusal.
+fn lists_that_meet(rt: &(impl Abort + AllocGlobal), refusals: &[Refused; 5], met: &mut [u64; 5]) {
+    for seed in 0..LISTS {
+        let answers = compared(rt, &Drawn { seed }, FEW);
+        for place in 0..5usize {
+            if has_met(&answers, refusals[place]) {
+                met[place] = met[place].saturating_add(1);
+            }
+        }
+    }
+}
+
+#[test]
+fn a_lone_participant_answers_drawn_calls_as_a_turn_does(rt: HostRuntime) {
+    let refusals = [
+        Refused::NoSlot,
+        Refused::NoJob,
+        Refused::TooManyGuards,
+        Refused::GuardOpen,
+        Refused::NotAlone,
+    ];
+    let mut met = [0; 5];
+    lists_that_meet(&rt, &refusals, &mut met);
+    for count in met {
+        assert!(rt; count > 0, "{met:?}");
+    }
+}

@@ -1,0 +1,56 @@
+use Rattle.std.proofs.Common.{◌≡◌, ℕ, ◌+◌, ◌∙◌, ap, sym, List, true, false, subst}
+use Rattle.sdd_space.specs.World.{World}
+use Rattle.sdd_space.specs.CallerId.{IsExact, CallerId}
+use Rattle.sdd_space.specs.Shared.{cell_of, slot_of}
+use Rattle.sdd_space.specs.WorldChanges.{with_standing}
+use Rattle.sdd_participants.specs.declared.standing.Standing.TheVariants.{Shared as shared_by}
+use Rattle.sdd_lists.specs.Lists.{Entry, IsList, trimmed}
+use Rattle.sdd_lists.proofs.Lists.{list-same}
+use Rattle.sdd_lists.proofs.Grows.{grows-if, grows-not}
+use Rattle.sdd_lists.proofs.behind.reach_first.Goals as goal
+
+pub returns-in-Ok-trim-clause-exact : goal.returns-in-Ok-trim-clause-exact
+returns-in-Ok-trim-clause-exact g c = λ e t es list x rest first named shared.
+    let link = g.T.LinkedList.link in
+    let w = g.S.Caller.world c.args.s.now in
+    let cell : ℕ = cell_of c.args.cell.now in
+    let kept = c.in-Ok.ensures.exact e x named shared in
+    let u : World _ = with_standing w x.slot (shared_by (kept.owners + 1)) in
+    let at_keep = c.in-Ok.ensures.undisturbed.seat in
+    let in_u = list-same link w (g.S.Caller.world c.keep_first.new.s) cell t es (ap (λ (y : World _). y.cells) kept.world)
+    (ap (λ (y : World _). y.values) kept.world) list in
+    let cut = c.in-Ok-trim.ensures.exact (subst (λ (s : CallerId). IsExact s) (sym at_keep) e) t es in_u in
+    record {
+      slot = kept.slot;
+      owners = kept.owners;
+      shared = kept.shared;
+      few = kept.few;
+      world = cut.3 ∙ ap (λ (y : World _). trimmed link y (g.S.Caller.seat c.keep_first.new.s).place cell t es) kept.world
+          ∙ ap (λ (s : CallerId). trimmed link u s.place cell t es) at_keep;
+      list = subst (λ (xs : List (Entry _)). IsList link (g.S.Caller.world c.trim.new.s) cell t xs) first cut.2;
+    }
+
+pub returns-in-Err-clause-exact : goal.returns-in-Err-clause-exact
+returns-in-Err-clause-exact g c = λ e t es list x rest first named shared. c.in-Err.ensures.exact e x named shared
+
+pub returns-in-Err-trim-clause-exact : goal.returns-in-Err-trim-clause-exact
+returns-in-Err-trim-clause-exact g c = λ e t es list x rest first named shared.
+    let link = g.T.LinkedList.link in
+    let w = g.S.Caller.world c.args.s.now in
+    let cell : ℕ = cell_of c.args.cell.now in
+    let kept = c.in-Ok.ensures.exact e x named shared in
+    let at_keep = c.in-Ok.ensures.undisturbed.seat in
+    let in_u = list-same link w (g.S.Caller.world c.keep_first.new.s) cell t es (ap (λ (y : World _). y.cells) kept.world)
+    (ap (λ (y : World _). y.values) kept.world) list in
+    let cut = c.in-Err-trim.ensures.exact (subst (λ (s : CallerId). IsExact s) (sym at_keep) e) t es in_u in
+    let never : false ≡ true = cut.0 in
+    absurd (cc)
+
+pub returns-in-Ok-trim-clause-own : goal.returns-in-Ok-trim-clause-own
+returns-in-Ok-trim-clause-own g c = λ start grown.
+    c.in-Ok-trim.ensures.own start (grows-not (g.S.Caller.own c.args.s.now) _ c.in-Ok.ensures.undisturbed.own start grown)
+
+pub returns-in-Err-trim-clause-own : goal.returns-in-Err-trim-clause-own
+returns-in-Err-trim-clause-own g c = λ start grown.
+    grows-if c.release.result (slot_of c.in-Ok.owner) _ _ c.release.ensures.own start
+    (c.in-Err-trim.ensures.own start (grows-not (g.S.Caller.own c.args.s.now) _ c.in-Ok.ensures.undisturbed.own start grown))

@@ -1,0 +1,31 @@
+use Rattle.std.proofs.Common.{◌≢◌}
+use Rattle.sdd_core.specs.declared.tag.Tag.TheVariants as tag
+use Rattle.sdd_space.specs.Shared.{cell_of}
+use Rattle.sdd_lists.specs.Marks.{says_clear}
+use Rattle.sdd_lists.proofs.Marking.{exact-by, list-by-answer, queue-by-answer}
+use Rattle.sdd_lists.proofs.linked_list.LinkedList.mark.Goals as goal
+
+plain : tag.First ≢ tag.Both
+plain = λ same. absurd (cc)
+
+pub returns-clause-exact : goal.returns-clause-exact
+returns-clause-exact g c = λ e.
+    let got = c.mark_link.ensures.exact e in (
+      got.0,
+      exact-by g.Self.LinkedList.link (g.S.Caller.world c.args.s.now) (g.S.Caller.world c.mark_link.new.s) (cell_of c.link_ref.result.now)
+          c.args.self.now c.link_ref.ensures.link tag.First plain says_clear c.mark_link.result got.1,
+    )
+
+pub returns-clause-list : goal.returns-clause-list
+returns-clause-list g c = λ e cell t es list x rest at is.
+    let w = g.S.Caller.world c.args.s.now in
+    let new = g.S.Caller.world c.mark_link.new.s in
+    list-by-answer g.Self.LinkedList.link w new (cell_of c.link_ref.result.now) c.args.self.now c.link_ref.ensures.link
+    tag.First plain says_clear cell t es list x rest at is c.mark_link.result (c.mark_link.ensures.exact e).1
+
+pub returns-clause-queue : goal.returns-clause-queue
+returns-clause-queue g c = λ e q es second queue x rest at is.
+    let w = g.S.Caller.world c.args.s.now in
+    let new = g.S.Caller.world c.mark_link.new.s in
+    queue-by-answer g.Self.LinkedList.link w new (cell_of c.link_ref.result.now) c.args.self.now c.link_ref.ensures.link
+    tag.First plain says_clear q es second queue x rest at is c.mark_link.result (c.mark_link.ensures.exact e).1

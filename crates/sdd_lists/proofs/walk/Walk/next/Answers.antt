@@ -1,0 +1,30 @@
+use Rattle.std.proofs.Common.{◌∙◌, sym, subst}
+use Rattle.sdd_space.specs.World.{World}
+use Rattle.sdd_lists.specs.Lists.{left}
+use Rattle.sdd_lists.specs.Walk.{ShowsInOrder, StandsBefore, behind_first, entries_behind}
+use Rattle.sdd_lists.proofs.Walking.{after, shows-next, stands-next}
+use Rattle.sdd_lists.proofs.walk.Walk.next.Goals as goal
+
+pub returns-clause-list : goal.returns-clause-list
+returns-clause-list g c = λ e vs shows.
+    let w = g.S.Caller.world c.args.s.now in
+    let walk = c.args.self.now in
+    let f = c.in-Some.front in
+    let o = c.front_in-self.result in
+    let at = sym c.take.ensures.value ∙ c.in-Some.is in
+    let next = shows-next w walk f at o c.front_in-self.ensures.link (c.front_in-self.ensures.exact e) c.as_ref.result.now c.as_ref.ensures vs shows in (
+      next.0,
+      subst (λ (y : World _). ShowsInOrder y (after walk o) (behind_first vs)) (sym (c.front_in-self.ensures.world e)) next.1,
+    )
+
+pub returns-clause-entries : goal.returns-clause-entries
+returns-clause-entries g c = λ e es stood.
+    let w = g.S.Caller.world c.args.s.now in
+    let walk = c.args.self.now in
+    let f = c.in-Some.front in
+    let o = c.front_in-self.result in
+    let at = sym c.take.ensures.value ∙ c.in-Some.is in
+    let next = stands-next w walk f at o c.front_in-self.ensures.link (c.front_in-self.ensures.exact e) c.as_ref.result.now c.as_ref.ensures es stood in (
+      next.0,
+      subst (λ (y : World _). StandsBefore y (after walk o) (left (entries_behind es))) (sym (c.front_in-self.ensures.world e)) next.1,
+    )
