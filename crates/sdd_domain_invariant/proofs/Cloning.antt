@@ -15,7 +15,7 @@ use Rattle.sdd_views.specs.declared.ShownValue.{ShownValue}
 use Rattle.sdd_views.specs.declared.PledgesView.{PledgesView}
 use Rattle.sdd_views.specs.declared.View.{View}
 use Rattle.sdd_views.specs.declared.Sizes.{Sizes}
-use Rattle.sdd_views.specs.Views.{owner_token, owner_of}
+use Rattle.sdd_views.specs.Views.{owner_token, owner_of, right_to}
 use Rattle.sdd_shared_values.specs.ValueFractions.{FractionContent}
 use Rattle.sdd_shared_values.specs.Deposits.{units_at}
 use Rattle.sdd_shared_values.specs.Bank.{Leaves, AllowsDeal}
@@ -41,7 +41,7 @@ use Rattle.sdd_word_invariant.proofs.Sums.{is_same, is_other, total_set, total_h
 use Rattle.sdd_domain_invariant.specs.FractionsAtHome.{Moves, full_at}
 use Rattle.sdd_domain_invariant.specs.BankInvariant.{one_where, moved_in, moves_at, drawn_at, banked, IsBank, with_ledger, ledger_of}
 use Rattle.sdd_domain_invariant.specs.BoundInvariant.{over_at, BoundInvariant}
-use Rattle.sdd_domain_invariant.specs.PledgesInvariant.{HasPledge, IsLedger, booked_by, pledging, freeing, posts, IsBacked, PledgesInvariant}
+use Rattle.sdd_domain_invariant.specs.PledgesInvariant.{HasPledge, IsLedger, booked_by, pledging, freeing, posts, IsOfOwner, IsOfCell, IsBacked, PledgesInvariant}
 use Rattle.sdd_domain_invariant.specs.KindsInvariant.{KnowsKinds}
 use Rattle.sdd_domain_invariant.specs.FilledInvariant.{HasRecord}
 use Rattle.sdd_domain_invariant.specs.Records.{IsIn, AllShowKnown}
@@ -56,10 +56,11 @@ use Rattle.sdd_domain_invariant.proofs.Counts.{as_full, uncounted, uncounted_alo
 use Rattle.sdd_domain_invariant.proofs.Banks.{HasUnits, with_deposits, banked_then, outside_there, outside_same, moves_none, total_below}
 use Rattle.sdd_domain_invariant.proofs.Banks as banks
 use Rattle.sdd_domain_invariant.proofs.KindSteps.{KeepsOwner, same_owner, keeps_owner, over_none, no_pledge, has_first, knows_no_kind, knows_alike, knows_still, IsSpared, bound_more, bound_kept, pledges_by, pledges_spent, repledges, forth}
+use Rattle.sdd_domain_invariant.proofs.Cells.{no_change, cells_slot, cells_kept}
 use Rattle.sdd_domain_invariant.proofs.KindSteps as kind_steps
 use Rattle.sdd_domain_invariant.proofs.Telling.{none_moved, one_view, owns_it}
 use Rattle.sdd_domain_invariant.proofs.Tokens.{nothing_out, set_front}
-use Rattle.sdd_domain_invariant.proofs.Lasts.{shown_leaves, raws_set, lasts_fewer, lasts_more, lasts_dealt}
+use Rattle.sdd_domain_invariant.proofs.Lasts.{shown_leaves, stored_set, lasts_fewer, lasts_more, lasts_dealt}
 use Rattle.sdd_domain_invariant.proofs.Lift.{Follows, lift_whole, stands, stands_dealt}
 use Rattle.sdd_domain_invariant.proofs.Steps.{full_owned, still_owned}
 use Rattle.sdd_domain_invariant.proofs.Steps as steps
@@ -108,9 +109,9 @@ module _ (γ : ℕ) (sizes : Sizes) where
       (filled_same sizes s.views h.filled id v at w refl refl refl (λ l. l))
       (banks.alike γ sizes s.words s.views h.bank id v at s.words w (refl, refl, refl, (λ _. refl), refl) (λ _ _. refl))
       (lasts_fewer sizes s.words s.views s.homes h.lasts id v at s.words w s.homes (λ _ _ _ _ l. l) (λ b. (b, refl)) refl (λ _ live. inl live)
-      (λ _ _ raw. raw))
+      (λ _ _ _ is. is))
       (kind_steps.spends sizes s.words s.views h.kinds h.records.each id v at w
-      (knows_alike sizes s.words v w (h.kinds.each id v at) refl refl (λ i m. m) (λ i o. o) (λ r a. a) (λ i a. a)) refl (inl (λ l. l)) p)
+      (knows_alike sizes s.words v w (h.kinds.each id v at) refl refl (λ i m. m) (λ i o. o) (λ r a. a) (λ i a. a)) refl (inl (λ l. l)) refl p)
 
   -- a pledge of a share of an owner's view is entered, first in the ledger
   pub enters : (v : View) (bd slot : ℕ) (value : Gv) (p : Pledge) → p.view ≡ the_row.coded.code (owner_of slot true value)
@@ -125,7 +126,7 @@ module _ (γ : ℕ) (sizes : Sizes) where
       let there' : get_elem? vs bd ≡ some b' = set_here s.views bd b' (at_length s.views bd b there) in
       let backed : IsBacked vs p.who p = record {
         own = refl;
-        owner = record {
+        beside = inl record {
           slot = slot;
           value = value;
           owner = owner_of slot true value;
@@ -181,7 +182,7 @@ module _ (γ : ℕ) (sizes : Sizes) where
     bank = banks.arrives γ sizes s.words s.views h.bank t refl refl refl refl;
     lasts = lasts_more sizes s.words s.views s.homes h.lasts t (λ _. refl) (λ z. absurd (omega arith));
     kinds = kind_steps.arrives sizes s.words s.views h.kinds t (knows_no_kind sizes s.words t refl refl refl)
-        record { over = refl; ledger = refl; founds = refl; own = refl };
+        record { over = refl; ledger = refl; founds = refl; own = refl; rights = refl };
   }
 
   -- nobody has a pledge as long as the ledger isn't founded
@@ -312,21 +313,27 @@ module _ (slots id : ℕ) (me : SeatState) (live : HasPlace me.0.epoch) (slot : 
       abbrev backed : IsBacked s.views id p
       backed = h.kinds.pledges.backed id v p at own
 
+      -- which is of an owner's token, as the right to a cell owns nothing
+      beside : IsOfOwner s.views p
+      beside = ⊎_elim (λ (o : IsOfOwner s.views p). o)
+          (λ (o : IsOfCell s.views p). let e = the_row.coded.inj (owner_of slot true value) (right_to o.right.cell o.right.kind) (sym is ∙ o.view) in
+          let c : ◌≡◌ {A = List ℕ} (slot ∷ []) [] = ap (λ (y : View). y.slots.owns) e in cc) backed.beside
+
       abbrev owner : View
-      owner = backed.owner.owner
+      owner = beside.owner
 
       there_is : get_elem? s.views p.seat ≡ some owner
-      there_is = backed.owner.there
+      there_is = beside.there
 
       told : HasRecord owner.stakes.owns (shown value)
-      told = let o = backed.owner in let e = the_row.coded.inj (owner_of slot true value) (owner_of o.slot true o.value) (sym is ∙ o.view) in
+      told = let o = beside in let e = the_row.coded.inj (owner_of slot true value) (owner_of o.slot true o.value) (sym is ∙ o.view) in
           subst (HasRecord owner.stakes.owns) (sym (ap (λ (y : View). first_shown (shown value) y.stakes.owns) e)) o.told
 
       theirs : Owns owner slot × ¬ (Moves owner slot)
       theirs = let t = told in (h.records.each p.seat owner there_is).owns slot value (t.0, shown value, t.1, refl, refl)
 
       several : kind_of count ≡ 1
-      several = (h.kinds.each p.seat owner there_is).told (shown value) told (λ held. let c : None ≡ Some slot = sym backed.owner.free ∙ held in cc)
+      several = (h.kinds.each p.seat owner there_is).told (shown value) told (λ held. let c : None ≡ Some slot = sym beside.free ∙ held in cc)
 
       left : 0 < alive count
       left = let o = owner_in codes sound sizes s.words s.views h.kept.parts.slots p.seat slot owner there_is in let m = theirs.0 in omega arith
@@ -339,8 +346,11 @@ module _ (slots id : ℕ) (me : SeatState) (live : HasPlace me.0.epoch) (slot : 
 
       -- no participant's view is pledged
       nobodys : (k : ℕ) (q : Pledge) → IsBacked s.views k q → ¬ (q.seat ≡ id)
-      nobodys k q b e = let same = ap (λ (y : View). y.sizes.participants) (one_view s.views id q.seat b.owner.owner v b.owner.there at e) in
-          let z = b.owner.nobodys in let a = placed s h at in absurd (omega arith)
+      nobodys k q b e = let a = placed s h at in ⊎_elim
+          (λ (o : IsOfOwner s.views q). let same = ap (λ (y : View). y.sizes.participants) (one_view s.views id q.seat o.owner v o.there at e) in
+          let z = o.nobodys in absurd (omega arith))
+          (λ (o : IsOfCell s.views q). let same = ap (λ (y : View). y.sizes.participants) (one_view s.views id q.seat o.owner v o.there at e) in
+          let z = o.nobodys in absurd (omega arith)) b.beside
 
       unmoved : (j : ℕ) (u : View) → get_elem? s.views j ≡ some u → ¬ (Moves u slot)
       unmoved j u e = dite (ℕ_discrete p.seat j)
@@ -395,7 +405,8 @@ module _ (slots id : ℕ) (me : SeatState) (live : HasPlace me.0.epoch) (slot : 
             bank = banks.calm γ sizes s.words s.views h.bank id v at (set s.words i y) now
                 record { bank = refl; founds = refl; book = refl; banked = refl; drawn = refl } refl (λ k. let low = h.bank.low id v at k in omega arith) same;
             lasts = lasts_fewer sizes s.words s.views s.homes h.lasts id v at (set s.words i y) now s.homes (λ _ _ _ _ l. l) (λ b. (b, refl)) refl
-                (λ _ _. inl live) (raws_set sizes s.words slot y (steps.within slots id me live slot inside s h) (λ e. absurd (omega arith)));
+                (λ _ _. inl live) (stored_set sizes s.words slot y (steps.within slots id me live slot inside s h) (λ e. absurd (omega arith))
+                (λ _. (some_left y high).3 ∙ sym several));
             kinds = record {
               each = each_set (KnowsKinds sizes s.words) (KnowsKinds sizes (set s.words i y)) s.views id now
                   record {
@@ -411,7 +422,8 @@ module _ (slots id : ℕ) (me : SeatState) (live : HasPlace me.0.epoch) (slot : 
                   (others_know s h at several left y high (λ j u _ e. unmoved j u e));
               bound = bound_then s h at several left y high now live (omega arith) (λ k ne. apart k ne ∙ sym (over_none k v none));
               pledges = pledges_by s.views h.kinds.pledges id v now at refl (λ k q b u e _. forth s.views h.kinds.pledges id v now at KeepsOwner
-                  record { sizes = refl; records = λ _ r a. (suc a.0, a.1); holds = λ _. refl } same_owner q.seat u e);
+                  record { sizes = refl; cells = refl; records = λ _ r a. (suc a.0, a.1); holds = λ _. refl } same_owner q.seat u e);
+              cells = cells_kept sizes s.words s.views h.kinds.cells id v now at (set s.words i y) (cells_slot sizes s.words slot y) (λ j _. kinds_same j) refl;
             };
             tells = steps.at_once slots id me live slot inside (AddsOne value) count (now, me.1) tells;
           }
@@ -449,7 +461,8 @@ module _ (slots id : ℕ) (me : SeatState) (live : HasPlace me.0.epoch) (slot : 
             bank = banks.calm γ sizes s.words s.views h.bank id v at (set s.words i y) now
                 record { bank = refl; founds = refl; book = refl; banked = refl; drawn = refl } refl (λ k. let z = ap (times k) empty in omega arith) same;
             lasts = lasts_fewer sizes s.words s.views s.homes h.lasts id v at (set s.words i y) now s.homes (λ _ _ _ _ l. l) (λ b. (b, refl)) refl
-                (λ _ _. inl live) (raws_set sizes s.words slot y (steps.within slots id me live slot inside s h) (λ e. absurd (omega arith)));
+                (λ _ _. inl live) (stored_set sizes s.words slot y (steps.within slots id me live slot inside s h) (λ e. absurd (omega arith))
+                (λ _. (some_left y high).3 ∙ sym several));
             kinds = record {
               each = each_set (KnowsKinds sizes s.words) (KnowsKinds sizes (set s.words i y)) s.views id now
                   record {
@@ -462,6 +475,8 @@ module _ (slots id : ℕ) (me : SeatState) (live : HasPlace me.0.epoch) (slot : 
               bound = bound_then s h at several left y high now live (omega arith)
                   (λ k ne. let z = passed k in let q = is_other k slot (λ e. ne (sym e)) in omega arith);
               pledges = pledges_spent s.views h.kinds.pledges id v now at refl nobodys;
+              cells = cells_kept sizes s.words s.views h.kinds.cells id v now at (set s.words i y) (cells_slot sizes s.words slot y)
+                  (λ j _. kind_still s h at several left y high j) refl;
             };
             tells = steps.at_once slots id me live slot inside TakesOneBack count (now, me.1) (refl, knew);
           }
@@ -541,8 +556,8 @@ module _ (slots id : ℕ) (me : SeatState) (live : HasPlace me.0.epoch) (slot : 
             (part.calm γ sizes s.words s.views s.homes h.homes id v at s.words w (λ j q out. out) (λ j _. refl) (h.homes.moving id v at))
             came
             (uncounted_alone sizes s.words s.views h.counts id v at w refl refl) (filled_same sizes s.views h.filled id v at w refl refl refl (λ z. z))
-            (kind_steps.same sizes s.words s.views h.kinds h.records.each id v at w refl refl refl refl refl refl s.words (λ j. refl)
-            (steps.post slots id me live s h at w refl refl refl (λ z. z))) bd b there ne ls shown_then
+            (kind_steps.same sizes s.words s.views h.kinds h.records.each id v at w refl refl refl refl refl refl s.words (no_change sizes s.words)
+            (steps.post slots id me live s h at w refl refl refl refl (λ z. z))) bd b there ne ls shown_then
             (banks.deals γ sizes s.words s.views h.bank id v at bd b there bank ne w ls goes.deposits refl refl
             (λ k. dite (ℕ_discrete k slot)
             (λ e. let o = is_same k slot (sym e) in let z = ap (times k) empty in let m = ap (λ (j : ℕ). times j v.slots.owns) e in omega arith)
@@ -555,7 +570,7 @@ module _ (slots id : ℕ) (me : SeatState) (live : HasPlace me.0.epoch) (slot : 
             (λ apart. let o = is_other k slot (λ e. apart (sym e)) in let kept_as = goes.others k apart in omega arith)))
             (lasts_dealt sizes s.words (set s.views id w) s.homes
             (lasts_fewer sizes s.words s.views s.homes h.lasts id v at s.words w s.homes (λ _ _ _ _ l. l) (λ b. (b, refl)) refl (λ _ _. inl live)
-            (λ _ _ raw. raw))
+            (λ _ _ _ is. is))
             γ bd b (set_else s.views id bd w (λ e. ne (sym e)) ∙ there) bank ls balance.book goes.deposits
             (λ k z low last show. (shown_leaves k z.lot.shown (banked b) l ls goes.goes show).0));
         ours = bank;

@@ -35,8 +35,9 @@ use Rattle.sdd_domain_invariant.proofs.Banks as banks
 use Rattle.sdd_domain_invariant.proofs.Counts.{ended_spared, as_full, uncounted}
 use Rattle.sdd_domain_invariant.proofs.Records as records
 use Rattle.sdd_domain_invariant.proofs.Fillings.{filled_same}
-use Rattle.sdd_domain_invariant.proofs.Lasts.{lasts_fewer, raws_past, raws_same}
+use Rattle.sdd_domain_invariant.proofs.Lasts.{lasts_fewer, stored_past, stored_same}
 use Rattle.sdd_domain_invariant.specs.KindsInvariant.{KnowsKinds}
+use Rattle.sdd_domain_invariant.proofs.Cells.{cells_slot, words_same}
 use Rattle.sdd_domain_invariant.proofs.KindSteps as kind_steps
 use Rattle.sdd_domain_invariant.proofs.KindSteps.{IsSpared, IsWithin, same_within, same_post}
 use Rattle.sdd_domain_invariant.proofs.Telling.{none_moved, none_owns}
@@ -131,7 +132,7 @@ module _ (slots id : ℕ) (me : SeatState) (live : HasPlace me.0.epoch) (job : �
           bank = banks.calm γ sizes s.words s.views h.bank id v at (set s.words i y) w
               record { bank = refl; founds = refl; book = refl; banked = refl; drawn = refl } refl (h.bank.low id v at) full;
           lasts = lasts_fewer sizes s.words s.views s.homes h.lasts id v at (set s.words i y) w s.homes (λ _ _ _ _ l. l) (λ is. (is, refl)) refl
-              (λ _ _. inl live) (raws_past sizes s.words job y past);
+              (λ _ _. inl live) (stored_past sizes s.words job y past);
           kinds = kind_steps.steps sizes s.words s.views h.kinds r.each id v at (set s.words i y) w (knows s h at y)
               (λ j u _ e k. dite (ℕ_discrete k job)
               (λ e'. subst (IsSpared sizes s.words (set s.words i y) u) (sym e') (⊎_elim
@@ -140,7 +141,10 @@ module _ (slots id : ℕ) (me : SeatState) (live : HasPlace me.0.epoch) (job : �
               (λ k. dite (ℕ_discrete k job)
               (λ e. subst (λ (m : ℕ). IsWithin (slot_at sizes s.words m) (slot_at sizes (set s.words i y) m)) (sym e) within)
               (λ ne. same_within (slot_at sizes s.words k) (slot_at sizes (set s.words i y) k) (elsewhere s.words y k ne)))
-              (same_post v w refl refl refl (λ _. still) refl refl);
+              (cells_slot sizes s.words job y)
+              (λ k c. dite (ℕ_discrete k job) (λ e. absurd (let low = h.kinds.cells.inside k c in omega arith))
+              (λ ne. ap counted (elsewhere s.words y k ne)))
+              (same_post v w refl refl refl refl (λ _. still) refl refl);
           tells = tells;
         }
 
@@ -196,8 +200,8 @@ module _ (slots id : ℕ) (me : SeatState) (live : HasPlace me.0.epoch) (job : �
         counts = refl;
         lives = λ l. l;
         had = λ _ l. inl l;
-        raws = raws_same sizes s.words i;
+        stored = stored_same sizes s.words i;
         kinds = kind_steps.calm sizes s.words s.views h.kinds h.records.each id v at (set s.words i (get_or s.words i 0)) v
-            (λ j. ap (λ (l : List ℕ). slot_at sizes l j) (set-get_or s.words i 0)) (refl, refl, refl, (λ _. refl), refl) refl refl (λ _ o. o)
-            (same_post v v refl refl refl (λ l. l) refl refl);
+            (words_same sizes s.words i) (refl, refl, refl, (λ _. refl), refl) refl refl (λ _ o. o)
+            (same_post v v refl refl refl refl (λ l. l) refl refl);
       })

@@ -7,6 +7,7 @@ use mathlib.Core.Logic.{dite}
 use native.Mathlib.Decide.{ℕ_discrete}
 use lib.ListN.{get_elem?}
 use Rattle.sdd_views.specs.declared.ShownValue.{ShownValue}
+use Rattle.sdd_views.specs.declared.CellsView.{CellsView}
 use Rattle.sdd_views.specs.declared.FractionsView.{FractionsView}
 use Rattle.sdd_views.specs.declared.PledgesView.{PledgesView}
 use Rattle.sdd_views.specs.declared.View.{View}
@@ -25,11 +26,13 @@ use Rattle.atomic_table.proofs.Lists.{at_set, at_snoc, at_longer, set_else, set_
 use Rattle.sdd_domain_invariant.specs.FractionsAtHome.{Moves}
 use Rattle.sdd_domain_invariant.specs.BankInvariant.{one_where, moved_in}
 use Rattle.sdd_domain_invariant.specs.BoundInvariant.{over_at, BoundInvariant}
-use Rattle.sdd_domain_invariant.specs.PledgesInvariant.{HasPledge, IsLedger, posts, IsBacked, PledgesInvariant}
+use Rattle.sdd_domain_invariant.specs.PledgesInvariant.{HasPledge, IsLedger, posts, IsOfOwner, IsOfCell, IsBacked, PledgesInvariant}
+use Rattle.sdd_domain_invariant.specs.CellsInvariant.{IsInCell}
 use Rattle.sdd_domain_invariant.specs.FilledInvariant.{HasRecord}
 use Rattle.sdd_domain_invariant.specs.Records.{IsTelling}
 use Rattle.sdd_domain_invariant.specs.FractionSteps.{making, resting, telling, drawing}
 use Rattle.sdd_domain_invariant.specs.KindsInvariant.{written, KnowsKinds, KindsInvariant}
+use Rattle.sdd_domain_invariant.proofs.Cells.{SameCells, KeepsKinds, SameWords, no_change, cells_slot, cells_more, cells_kept}
 use Rattle.sdd_domain_invariant.proofs.Records.{IsAlike}
 use Rattle.sdd_domain_invariant.proofs.Fillings.{has_none}
 use Rattle.sdd_domain_invariant.proofs.Telling.{one_moved, none_moved}
@@ -86,29 +89,32 @@ knows_alike sizes ws v w k of_same words_same moves owns tells holds = record {
 }
 
 -- ---- counts and pledges
--- it has raised no count past the bound, and has no pledge, nor is it the ledger's, or may found it
+-- it has raised no count past the bound, has no pledge and no right to a cell, nor is it the ledger's, or may found it
 pub record HasNoPost (t : View) : Type 0 where
   pub over : t.slots.over ≡ None
   pub ledger : t.pledges.ledger ≡ false
   pub founds : t.pledges.founds ≡ false
   pub own : t.pledges.own ≡ []
+  pub rights : t.cells.rights ≡ []
 
 -- what it has of these stays; and the records of owners, where it is no participant's
 pub record KeepsPost (v w : View) : Type 0 where
   pub pledges : w.pledges ≡ v.pledges
   pub over : w.slots.over ≡ v.slots.over
   pub sizes : w.sizes ≡ v.sizes
+  pub cells : w.cells ≡ v.cells
   pub place : (HasPlace v.epoch → HasPlace w.epoch) ⊎ (v.slots.over ≡ None)
   pub records : v.sizes.participants ≡ 0 → (r : ShownValue) → HasRecord v.stakes.owns r → HasRecord w.stakes.owns r
   pub holds : v.sizes.participants ≡ 0 → w.slots.holds ≡ v.slots.holds
 
 -- nothing of these is touched
-pub same_post : (v w : View) → w.pledges ≡ v.pledges → w.slots.over ≡ v.slots.over → w.sizes ≡ v.sizes → (HasPlace v.epoch → HasPlace w.epoch)
-    → w.stakes.owns ≡ v.stakes.owns → w.slots.holds ≡ v.slots.holds → KeepsPost v w
-same_post v w pledges over of lives told holds = record {
+pub same_post : (v w : View) → w.pledges ≡ v.pledges → w.slots.over ≡ v.slots.over → w.sizes ≡ v.sizes → w.cells ≡ v.cells
+    → (HasPlace v.epoch → HasPlace w.epoch) → w.stakes.owns ≡ v.stakes.owns → w.slots.holds ≡ v.slots.holds → KeepsPost v w
+same_post v w pledges over of rights lives told holds = record {
   pledges = pledges;
   over = over;
   sizes = of;
+  cells = rights;
   place = inl lives;
   records = λ _ r h. subst (λ (l : List ShownValue). HasRecord l r) (sym told) h;
   holds = λ _. holds;
@@ -117,14 +123,15 @@ same_post v w pledges over of lives told holds = record {
 -- it keeps what a pledge of its view rests on, where it is no participant's
 pub record KeepsOwner (v w : View) : Type 0 where
   pub sizes : w.sizes ≡ v.sizes
+  pub cells : w.cells ≡ v.cells
   pub records : v.sizes.participants ≡ 0 → (r : ShownValue) → HasRecord v.stakes.owns r → HasRecord w.stakes.owns r
   pub holds : v.sizes.participants ≡ 0 → w.slots.holds ≡ v.slots.holds
 
 pub keeps_owner : (v w : View) → KeepsPost v w → KeepsOwner v w
-keeps_owner v w k = record { sizes = k.sizes; records = k.records; holds = k.holds }
+keeps_owner v w k = record { sizes = k.sizes; cells = k.cells; records = k.records; holds = k.holds }
 
 pub same_owner : (v : View) → KeepsOwner v v
-same_owner v = record { sizes = refl; records = λ _ r a. a; holds = λ _. refl }
+same_owner v = record { sizes = refl; cells = refl; records = λ _ r a. a; holds = λ _. refl }
 
 -- how a step leaves the count of a slot: within the bound, or no greater than it was
 abbrev pub IsWithin : ℕ → ℕ → Type 0
@@ -170,22 +177,30 @@ module _ (vs : List View) (p : PledgesInvariant vs) where
       → ((x : View) → get_elem? vs q.seat ≡ some x → x.sizes.participants ≡ 0 → (x' : View) × (get_elem? vs' q.seat ≡ some x') × KeepsOwner x x')
       → ((j : ℕ) (b : View) → get_elem? vs j ≡ some b → IsLedger b → (b' : View) × (get_elem? vs' j ≡ some b') × IsLedger b')
       → ((j : ℕ) (b : View) → get_elem? vs' j ≡ some b → IsLedger b → HasPledge q b.pledges.booked) → IsBacked vs' i q
-  carried vs' i q B still ledgers books = let o = B.owner in let n = still o.owner o.there o.nobodys in let x : View = n.0 in let k = n.2 in
-      let l = ledgers B.somewhere.0 B.somewhere.1 B.somewhere.2 B.somewhere.3 in record {
-        own = B.own;
-        owner = record {
+  carried vs' i q B still ledgers books = let l = ledgers B.somewhere.0 B.somewhere.1 B.somewhere.2 B.somewhere.3 in record {
+    own = B.own;
+    beside = ⊎_elim
+        (λ (o : IsOfOwner vs q). let n = still o.owner o.there o.nobodys in let k = n.2 in inl record {
           slot = o.slot;
           value = o.value;
-          owner = x;
+          owner = n.0;
           view = o.view;
           there = n.1;
           told = k.records o.nobodys (record { slot = o.slot; shared = true; value = o.value }) o.told;
           free = k.holds o.nobodys ∙ o.free;
           nobodys = ap (λ (z : Sizes). z.participants) k.sizes ∙ o.nobodys;
-        };
-        somewhere = (B.somewhere.0, l.0, l.1, l.2);
-        booked = books;
-      }
+        })
+        (λ (o : IsOfCell vs q). let n = still o.owner o.there o.nobodys in let k = n.2 in inr record {
+          right = o.right;
+          owner = n.0;
+          view = o.view;
+          there = n.1;
+          has = (o.has.0, ap (λ (c : CellsView). get_elem? c.rights o.has.0) k.cells ∙ o.has.1);
+          nobodys = ap (λ (z : Sizes). z.participants) k.sizes ∙ o.nobodys;
+        }) B.beside;
+    somewhere = (B.somewhere.0, l.0, l.1, l.2);
+    booked = books;
+  }
 
   pub pledges_more : (t : View) → HasNoPost t → PledgesInvariant (vs ++ t ∷ [])
   pledges_more t none = let us : List View = vs ++ t ∷ [] in record {
@@ -249,7 +264,7 @@ module _ (vs : List View) (p : PledgesInvariant vs) where
         (λ (c : (i ≡ id) × (w ≡ u)). subst (λ (j : ℕ). IsBacked vs j q) (sym c.0) (own q (ap (λ (x : View). x.pledges.own) c.1 ∙ m)))
         (λ (c : (i ≢ id) × (get_elem? vs i ≡ some u)). p.backed i u q c.1 m) (at_set vs id i w u e) in
         carried (set vs id w) i q was
-        (λ x there _. forth id v w at KeepsOwner record { sizes = refl; records = λ _ r a. a; holds = λ _. refl } same_owner q.seat x there)
+        (λ x there _. forth id v w at KeepsOwner record { sizes = refl; cells = refl; records = λ _ r a. a; holds = λ _. refl } same_owner q.seat x there)
         (λ j b there l. let f = forth id v w at (λ x y. y.pledges.ledger ≡ x.pledges.ledger) ledger (λ _. refl) j b there in (f.0, f.1, f.2 ∙ l))
         (λ j b e' l. ⊎_elim
         (λ (c : (j ≡ id) × (w ≡ b)). let mine : IsLedger v = sym ledger ∙ (ap (λ (x : View). x.pledges.ledger) c.1 ∙ l) in
@@ -265,43 +280,47 @@ module _ (sizes : Sizes) (ws : List ℕ) (vs : List View) (k : KindsInvariant si
     each = each_snoc (KnowsKinds sizes ws) vs t k.each knows;
     bound = bound_more sizes ws vs k.bound t none.over;
     pledges = pledges_more vs k.pledges t none;
+    cells = cells_more sizes ws vs k.cells t none.rights;
   }
 
   module _ (tells : (j : ℕ) (u : View) → get_elem? vs j ≡ some u → IsTelling sizes.slots u) (id : ℕ) (v : View) (at : get_elem? vs id ≡ some v) where
     -- a step that may change words
     pub steps : (ws' : List ℕ) (w : View) → KnowsKinds sizes ws' w
         → ((j : ℕ) (u : View) → j ≢ id → get_elem? vs j ≡ some u → (i : ℕ) → IsSpared sizes ws ws' u i)
-        → ((i : ℕ) → IsWithin (slot_at sizes ws i) (slot_at sizes ws' i)) → KeepsPost v w → KindsInvariant sizes ws' (set vs id w)
-    steps ws' w mine others within post = record {
+        → ((i : ℕ) → IsWithin (slot_at sizes ws i) (slot_at sizes ws' i)) → SameCells sizes ws ws' → KeepsKinds sizes ws ws' → KeepsPost v w
+        → KindsInvariant sizes ws' (set vs id w)
+    steps ws' w mine others within same kinds post = record {
       each = each_set (KnowsKinds sizes ws) (KnowsKinds sizes ws') vs id w mine
           (λ j u apart e. knows_still sizes ws ws' u (k.each j u e) (tells j u e) (others j u apart e));
       bound = bound_kept sizes ws vs k.bound id v at ws' w within post.over post.place;
       pledges = pledges_kept vs k.pledges id v w at post;
+      cells = cells_kept sizes ws vs k.cells id v w at ws' same kinds post.cells;
     }
 
     -- on no word, where it has no pledge and its own view isn't pledged: it may lose what it knows of owners
     pub spends : (w : View) → KnowsKinds sizes ws w → w.slots.over ≡ v.slots.over → (HasPlace v.epoch → HasPlace w.epoch) ⊎ (v.slots.over ≡ None)
-        → PledgesInvariant (set vs id w) → KindsInvariant sizes ws (set vs id w)
-    spends w mine over lives pledges = record {
+        → w.cells ≡ v.cells → PledgesInvariant (set vs id w) → KindsInvariant sizes ws (set vs id w)
+    spends w mine over lives rights pledges = record {
       each = each_set (KnowsKinds sizes ws) (KnowsKinds sizes ws) vs id w mine (λ j u _ e. k.each j u e);
       bound = bound_kept sizes ws vs k.bound id v at ws w (λ i c. inr (c, (omega arith))) over lives;
       pledges = pledges;
+      cells = cells_kept sizes ws vs k.cells id v w at ws (λ _ _. refl) (λ _ _. refl) rights;
     }
 
-    -- the words of slots stay
-    pub stays : (ws' : List ℕ) (w : View) → ((i : ℕ) → slot_at sizes ws' i ≡ slot_at sizes ws i) → KnowsKinds sizes ws w → KeepsPost v w
-        → KindsInvariant sizes ws' (set vs id w)
-    stays ws' w same mine post = steps ws' w
+    -- the words of slots and cells stay
+    pub stays : (ws' : List ℕ) (w : View) → SameWords sizes ws ws' → KnowsKinds sizes ws w → KeepsPost v w → KindsInvariant sizes ws' (set vs id w)
+    stays ws' w as_before mine post = let same = as_before.slots in steps ws' w
         record {
           long = mine.long;
           sole = λ i m o. ap alive (same i) ∙ mine.sole i m o;
           claimed = λ i m o free. ap counted (same i) ∙ mine.claimed i m o free;
           told = λ r h free. ap counted (same r.slot) ∙ mine.told r h free;
         }
-        (λ j u apart e i. inl (same i)) (λ i c. inr (sym (ap counted (same i)) ∙ c, (let e = ap alive (same i) in omega arith))) post
+        (λ j u apart e i. inl (same i)) (λ i c. inr (sym (ap counted (same i)) ∙ c, (let e = ap alive (same i) in omega arith))) as_before.cells
+        (λ i _. ap counted (same i)) post
 
     -- and so does what it knows, but for what it knows of other things
-    pub calm : (ws' : List ℕ) (w : View) → ((i : ℕ) → slot_at sizes ws' i ≡ slot_at sizes ws i) → IsAlike v w → w.sizes ≡ v.sizes → w.words ≡ v.words
+    pub calm : (ws' : List ℕ) (w : View) → SameWords sizes ws ws' → IsAlike v w → w.sizes ≡ v.sizes → w.words ≡ v.words
         → ((i : ℕ) → Holds v i → Holds w i) → KeepsPost v w → KindsInvariant sizes ws' (set vs id w)
     calm ws' w same is of_same words_same holds post = stays ws' w same (knows_alike sizes ws v w (k.each id v at) of_same words_same
         (λ i m. ap (λ (s : FractionsView). s.moves) (sym is.0) ∙ m) (λ i o. subst (λ (l : List ℕ). 0 < times i l) is.1 o)
@@ -317,8 +336,9 @@ module _ (sizes : Sizes) (ws : List ℕ) (vs : List View) (k : KindsInvariant si
       -- a step on a slot's word, by which the others know of it what they knew, or nothing
       pub one_slot : KnowsKinds sizes after w
           → ((j : ℕ) (u : View) → j ≢ id → get_elem? vs j ≡ some u → ¬ (Owns u slot) ⊎ (¬ (Moves u slot) × (counted y ≡ counted (slot_at sizes ws slot))))
-          → slot_at sizes after slot ≡ y → IsWithin (slot_at sizes ws slot) y → KeepsPost v w → KindsInvariant sizes after (set vs id w)
-      one_slot mine others here within post = steps after w mine (λ j u apart e i. dite (ℕ_discrete i slot)
+          → slot_at sizes after slot ≡ y → IsWithin (slot_at sizes ws slot) y → (IsInCell sizes ws slot → counted y ≡ counted (slot_at sizes ws slot))
+          → KeepsPost v w → KindsInvariant sizes after (set vs id w)
+      one_slot mine others here within kind post = steps after w mine (λ j u apart e i. dite (ℕ_discrete i slot)
           (λ same. subst (IsSpared sizes ws after u) (sym same) (inr (⊎_elim (λ (t : ¬ (Owns u slot)). inl t)
           (λ (t : ¬ (Moves u slot) × (counted y ≡ counted (slot_at sizes ws slot))). inr (t.0, ap counted here ∙ t.1)) (others j u apart e))))
           (λ ne. inl (there i ne)))
@@ -326,6 +346,11 @@ module _ (sizes : Sizes) (ws : List ℕ) (vs : List View) (k : KindsInvariant si
           (λ same. subst (λ (j : ℕ). IsWithin (slot_at sizes ws j) (slot_at sizes after j)) (sym same)
           (subst (IsWithin (slot_at sizes ws slot)) (sym here) within))
           (λ ne c. inr (sym (ap counted (there i ne)) ∙ c, (let e = ap alive (there i ne) in omega arith))))
+          (cells_slot sizes ws slot y)
+          (λ i c. dite (ℕ_discrete i slot)
+          (λ same. subst (λ (j : ℕ). counted (slot_at sizes after j) ≡ counted (slot_at sizes ws j)) (sym same)
+          (ap counted here ∙ kind (subst (IsInCell sizes ws) same c)))
+          (λ ne. ap counted (there i ne)))
           post
 
       -- it moves nothing then, and has no record of this slot, and none more of others
@@ -352,9 +377,9 @@ module _ (sizes : Sizes) (ws : List ℕ) (vs : List View) (k : KindsInvariant si
     (tells : (j : ℕ) (u : View) → get_elem? vs j ≡ some u → IsTelling sizes.slots u) (id : ℕ) (v : View) (at : get_elem? vs id ≡ some v) where
   -- it claims a slot of which nobody has an owner
   pub claims : (slot y : ℕ) → v.sizes ≡ sizes → slot < sizes.slots → alive y ≡ 1 → slot_at sizes (set ws (slot_word sizes slot) y) slot ≡ y
-      → ((j : ℕ) (u : View) → get_elem? vs j ≡ some u → ¬ (Owns u slot)) → KeepsPost v (making slot y v)
+      → ((j : ℕ) (u : View) → get_elem? vs j ≡ some u → ¬ (Owns u slot)) → ¬ (IsInCell sizes ws slot) → KeepsPost v (making slot y v)
       → KindsInvariant sizes (set ws (slot_word sizes slot) y) (set vs id (making slot y v))
-  claims slot y of inside one here none post = let w : View = making slot y v in let ws' : List ℕ = set ws (slot_word sizes slot) y in
+  claims slot y of inside one here none free post = let w : View = making slot y v in let ws' : List ℕ = set ws (slot_word sizes slot) y in
       let mine = k.each id v at in
       let near : slot < v.sizes.slots = subst (λ (z : Sizes). slot < z.slots) (sym of) inside in
       let noted_now = written_now v slot y near mine.long in
@@ -367,14 +392,14 @@ module _ (sizes : Sizes) (ws : List ℕ) (vs : List View) (k : KindsInvariant si
         told = λ r h free. let own = ((tells id v at).owns r.slot r.value (h.0, r, h.1, refl, refl)).0 in
             ap counted (there sizes ws vs k tells id v at slot inside y w r.slot (λ e. none id v at (subst (Owns v) e own))) ∙ mine.told r h free;
       }
-      (λ j u _ e. inl (none j u e)) here (λ _. inl (omega arith)) post
+      (λ j u _ e. inl (none j u e)) here (λ _. inl (omega arith)) (λ c. absurd (free c)) post
 
   -- a value was moved in, whose slot it claimed by a word of this kind, or holds
   pub houses : (slot : ℕ) (shared : Bool) (value : Gv) → Moves v slot → Owns v slot → (¬ (Holds v slot) → counted (written v slot) ≡ one_where shared)
       → KeepsPost v (resting (telling slot shared value (drawing slot v)))
       → KindsInvariant sizes ws (set vs id (resting (telling slot shared value (drawing slot v))))
   houses slot shared value m own kind post = let w : View = resting (telling slot shared value (drawing slot v)) in let mine = k.each id v at in
-      let now : ShownValue = record { slot = slot; shared = shared; value = value } in stays sizes ws vs k tells id v at ws w (λ i. refl) record {
+      let now : ShownValue = record { slot = slot; shared = shared; value = value } in stays sizes ws vs k tells id v at ws w (no_change sizes ws) record {
         long = mine.long;
         sole = λ i m. absurd (none_moved w i refl m);
         claimed = λ i m. absurd (none_moved w i refl m);
@@ -388,8 +413,8 @@ module _ (sizes : Sizes) (ws : List ℕ) (vs : List View) (k : KindsInvariant si
   pub regains : (slot y : ℕ) (value : Gv) (w : View) → slot < sizes.slots → length w.words ≡ words_behind w.sizes → w.stakes.moves ≡ None
       → w.stakes.owns ≡ record { slot = slot; shared = false; value = value } ∷ v.stakes.owns → ((i : ℕ) → Holds v i → Holds w i) → counted y ≡ 0
       → slot_at sizes (set ws (slot_word sizes slot) y) slot ≡ y → ((j : ℕ) (u : View) → get_elem? vs j ≡ some u → ¬ (Owns u slot))
-      → KeepsPost v w → KindsInvariant sizes (set ws (slot_word sizes slot) y) (set vs id w)
-  regains slot y value w inside long rests told holds firm here none post = let ws' : List ℕ = set ws (slot_word sizes slot) y in
+      → ¬ (IsInCell sizes ws slot) → KeepsPost v w → KindsInvariant sizes (set ws (slot_word sizes slot) y) (set vs id w)
+  regains slot y value w inside long rests told holds firm here none free post = let ws' : List ℕ = set ws (slot_word sizes slot) y in
       let now : ShownValue = record { slot = slot; shared = false; value = value } in one_slot sizes ws vs k tells id v at slot inside y w
       record {
         long = long;
@@ -402,11 +427,11 @@ module _ (sizes : Sizes) (ws : List ℕ) (vs : List View) (k : KindsInvariant si
             ∙ (k.each id v at).told r a (λ x. free (holds r.slot x)))
             (has_first now v.stakes.owns r (subst (λ (l : List ShownValue). HasRecord l r) told h));
       }
-      (λ j u _ e. inl (none j u e)) here (λ c. absurd (omega arith)) post
+      (λ j u _ e. inl (none j u e)) here (λ c. absurd (omega arith)) (λ c. absurd (free c)) post
 
   -- what it knows of bank, sights and counts changes
   pub same : (w : View) → w.sizes ≡ v.sizes → w.words ≡ v.words → w.stakes.moves ≡ v.stakes.moves → w.slots.owns ≡ v.slots.owns
-      → w.stakes.owns ≡ v.stakes.owns → w.slots.holds ≡ v.slots.holds → (ws' : List ℕ) → ((i : ℕ) → slot_at sizes ws' i ≡ slot_at sizes ws i)
+      → w.stakes.owns ≡ v.stakes.owns → w.slots.holds ≡ v.slots.holds → (ws' : List ℕ) → SameWords sizes ws ws'
       → KeepsPost v w → KindsInvariant sizes ws' (set vs id w)
   same w of words moves owns told holds ws' as_before post = stays sizes ws vs k tells id v at ws' w as_before
       (knows_alike sizes ws v w (k.each id v at) of words
@@ -418,7 +443,7 @@ module _ (sizes : Sizes) (ws : List ℕ) (vs : List View) (k : KindsInvariant si
       → (Owns v slot → Holds v slot × (alive (slot_at sizes ws slot) ≡ 1)) → KeepsPost v (record v { stakes = t })
       → KindsInvariant sizes ws (set vs id (record v { stakes = t }))
   comes_to_move slot t is fewer held post = let w : View = record v { stakes = t } in
-      let mine = k.each id v at in stays sizes ws vs k tells id v at ws w (λ i. refl)
+      let mine = k.each id v at in stays sizes ws vs k tells id v at ws w (no_change sizes ws)
       record {
         long = mine.long;
         sole = λ j m o. let e = one_moved w slot j is m in ap (λ (i : ℕ). alive (slot_at sizes ws i)) e ∙ (held (subst (Owns v) e o)).1;
@@ -429,29 +454,30 @@ module _ (sizes : Sizes) (ws : List ℕ) (vs : List View) (k : KindsInvariant si
   -- the slot whose value it moved is free again, of which it had no record
   pub frees : (slot y : ℕ) (w : View) → slot < sizes.slots → Moves v slot → length w.words ≡ words_behind w.sizes → w.stakes.moves ≡ None
       → w.stakes.owns ≡ v.stakes.owns → ((i : ℕ) → i ≢ slot → Holds v i → Holds w i) → slot_at sizes (set ws (slot_word sizes slot) y) slot ≡ y
-      → ((j : ℕ) (u : View) → j ≢ id → get_elem? vs j ≡ some u → ¬ (Owns u slot)) → alive y ≡ 0 → KeepsPost v w
-      → KindsInvariant sizes (set ws (slot_word sizes slot) y) (set vs id w)
-  frees slot y w inside m long rests told holds here none dead post = one_slot sizes ws vs k tells id v at slot inside y w
+      → ((j : ℕ) (u : View) → j ≢ id → get_elem? vs j ≡ some u → ¬ (Owns u slot)) → alive y ≡ 0 → ¬ (IsInCell sizes ws slot)
+      → KeepsPost v w → KindsInvariant sizes (set ws (slot_word sizes slot) y) (set vs id w)
+  frees slot y w inside m long rests told holds here none dead free post = one_slot sizes ws vs k tells id v at slot inside y w
       (lets_be sizes ws vs k tells id v at slot inside y w long rests
       (λ r h. let a = subst (λ (l : List ShownValue). HasRecord l r) told h in
       (a, λ e. ((tells id v at).owns r.slot r.value (a.0, r, a.1, refl, refl)).1 (m ∙ ap (λ (i : ℕ). Some i) (sym e)))) holds)
-      (λ j u apart e. inl (none j u apart e)) here (λ _. inl (omega arith)) post
+      (λ j u apart e. inl (none j u apart e)) here (λ _. inl (omega arith)) (λ c. absurd (free c)) post
 
   -- an owner goes: the last, or one beside whom others stay, of which nobody moves the value; and it tells of none any more
   pub goes : (slot y : ℕ) (w : View) → slot < sizes.slots → length w.words ≡ words_behind w.sizes → w.stakes.moves ≡ None → w.stakes.owns ≡ []
       → ((i : ℕ) → Holds v i → Holds w i) → slot_at sizes (set ws (slot_word sizes slot) y) slot ≡ y
       → ((j : ℕ) (u : View) → j ≢ id → get_elem? vs j ≡ some u → ¬ (Owns u slot) ⊎ (¬ (Moves u slot) × (counted y ≡ counted (slot_at sizes ws slot))))
-      → IsWithin (slot_at sizes ws slot) y → KeepsPost v w → KindsInvariant sizes (set ws (slot_word sizes slot) y) (set vs id w)
-  goes slot y w inside long rests none holds here others within post = one_slot sizes ws vs k tells id v at slot inside y w
+      → IsWithin (slot_at sizes ws slot) y → (IsInCell sizes ws slot → counted y ≡ counted (slot_at sizes ws slot)) → KeepsPost v w
+      → KindsInvariant sizes (set ws (slot_word sizes slot) y) (set vs id w)
+  goes slot y w inside long rests none holds here others within kind post = one_slot sizes ws vs k tells id v at slot inside y w
       (lets_be sizes ws vs k tells id v at slot inside y w long rests (λ r h. absurd (has_none r w.stakes.owns none h)) (λ i _ h. holds i h)) others here
-      within post
+      within kind post
 
   -- it holds a slot of which nobody else has an owner, by another word
   pub takes_hold : (slot y : ℕ) (w : View) → slot < sizes.slots → length w.words ≡ words_behind w.sizes → w.stakes.moves ≡ None → w.stakes.owns ≡ v.stakes.owns
       → v.slots.holds ≡ None → Holds w slot → slot_at sizes (set ws (slot_word sizes slot) y) slot ≡ y
-      → ((j : ℕ) (u : View) → j ≢ id → get_elem? vs j ≡ some u → ¬ (Owns u slot)) → counted y ≡ 0 → KeepsPost v w
-      → KindsInvariant sizes (set ws (slot_word sizes slot) y) (set vs id w)
-  takes_hold slot y w inside long rests told free holds here none firm post = one_slot sizes ws vs k tells id v at slot inside y w
+      → ((j : ℕ) (u : View) → j ≢ id → get_elem? vs j ≡ some u → ¬ (Owns u slot)) → counted y ≡ 0 → ¬ (IsInCell sizes ws slot)
+      → KeepsPost v w → KindsInvariant sizes (set ws (slot_word sizes slot) y) (set vs id w)
+  takes_hold slot y w inside long rests told free holds here none firm alone post = one_slot sizes ws vs k tells id v at slot inside y w
       record {
         long = long;
         sole = λ j m. absurd (none_moved w j rests m);
@@ -459,15 +485,15 @@ module _ (sizes : Sizes) (ws : List ℕ) (vs : List View) (k : KindsInvariant si
         told = λ r h loose. ap counted (there sizes ws vs k tells id v at slot inside y w r.slot (λ e. loose (holds ∙ ap (λ (i : ℕ). Some i) (sym e))))
             ∙ (k.each id v at).told r (subst (λ (l : List ShownValue). HasRecord l r) told h) (λ o. let c : None ≡ Some r.slot = sym free ∙ o in cc);
       }
-      (λ j u apart e. inl (none j u apart e)) here (λ c. absurd (omega arith)) post
+      (λ j u apart e. inl (none j u apart e)) here (λ c. absurd (omega arith)) (λ c. absurd (alone c)) post
 
   -- it lets go of it, by a word that says of its owner what it told of it
   pub shares_again : (slot y : ℕ) (w : View) → slot < sizes.slots → length w.words ≡ words_behind w.sizes → w.stakes.moves ≡ None
       → w.stakes.owns ≡ v.stakes.owns → Holds v slot → ((r : ShownValue) → HasRecord v.stakes.owns r → r.slot ≡ slot → counted y ≡ one_where r.shared)
       → slot_at sizes (set ws (slot_word sizes slot) y) slot ≡ y
-      → ((j : ℕ) (u : View) → j ≢ id → get_elem? vs j ≡ some u → ¬ (Owns u slot)) → alive y ≡ 1 → KeepsPost v w
-      → KindsInvariant sizes (set ws (slot_word sizes slot) y) (set vs id w)
-  shares_again slot y w inside long rests told held kind here none one post = one_slot sizes ws vs k tells id v at slot inside y w
+      → ((j : ℕ) (u : View) → j ≢ id → get_elem? vs j ≡ some u → ¬ (Owns u slot)) → alive y ≡ 1 → ¬ (IsInCell sizes ws slot)
+      → KeepsPost v w → KindsInvariant sizes (set ws (slot_word sizes slot) y) (set vs id w)
+  shares_again slot y w inside long rests told held kind here none one alone post = one_slot sizes ws vs k tells id v at slot inside y w
       record {
         long = long;
         sole = λ j m. absurd (none_moved w j rests m);
@@ -477,4 +503,4 @@ module _ (sizes : Sizes) (ws : List ℕ) (vs : List View) (k : KindsInvariant si
             (λ ne. ap counted (there sizes ws vs k tells id v at slot inside y w r.slot ne)
             ∙ (k.each id v at).told r a (λ o. ne (let c : Some slot ≡ Some r.slot = sym held ∙ o in let e : r.slot ≡ slot = cc in e)));
       }
-      (λ j u apart e. inl (none j u apart e)) here (λ _. inl (omega arith)) post
+      (λ j u apart e. inl (none j u apart e)) here (λ _. inl (omega arith)) (λ c. absurd (alone c)) post

@@ -1,5 +1,5 @@
 -- What the last fractions of slots show, after one step
-use Rattle.std.proofs.Common.{◌≡◌, ◌≢◌, ◌⊎◌, inl, ℕ, suc, ◌<◌, ◌≤◌, true, false, List, [], ◌∷◌, ◌++◌, map, length, get_or, set, sym, refl, ap, ◌∙◌, subst, ⊎_elim, arith, eq-eqb, get_or-set_other, get_or-set_same}
+use Rattle.std.proofs.Common.{◌≡◌, ◌≢◌, ◌⊎◌, inl, inr, ℕ, suc, ◌<◌, ◌≤◌, Bool, true, false, List, [], ◌∷◌, ◌++◌, map, length, get_or, set, sym, refl, ap, ◌∙◌, subst, ⊎_elim, arith, eq-eqb, get_or-set_other, get_or-set_same}
 use Rattle.std.specs.Prelude.{Some}
 use mathlib.Core.Option.{some}
 use mathlib.Core.Logic.{dite}
@@ -16,15 +16,19 @@ use Rattle.sdd_shared_values.specs.declared.value_fraction.ValueFraction.{ValueF
 use Rattle.sdd_views.specs.declared.FractionsView.{FractionsView}
 use Rattle.sdd_views.specs.declared.View.{View}
 use Rattle.sdd_views.specs.declared.Sizes.{Sizes}
-use Rattle.sdd_word_invariant.specs.Words.{slot_word, first_slot}
-use Rattle.sdd_word_invariant.specs.Codes.{raw_word}
+use Rattle.sdd_word_invariant.specs.Words.{slot_word, cell_word, first_cell}
+use Rattle.sdd_word_invariant.specs.Codes.{counted, names, raw_word}
 use Rattle.sdd_word_invariant.specs.Epoch.{HasPlace}
+use Rattle.sdd_word_invariant.specs.Slots.{slot_at}
+use Rattle.sdd_word_invariant.proofs.Codes.{sound}
 use Rattle.sdd_word_invariant.proofs.Frame.{each_set, each_snoc}
 use Rattle.sdd_word_invariant.proofs.Sums.{total_two}
 use Rattle.sdd_domain_invariant.specs.FractionsAtHome.{FractionsAtHome, CarriedFractions, LiesAt, share, Has}
 use Rattle.sdd_domain_invariant.specs.FilledInvariant.{newest}
 use Rattle.sdd_domain_invariant.specs.BankInvariant.{one_where, offices, deposited, banked, IsBank, BankInvariant}
-use Rattle.sdd_domain_invariant.specs.LastFractions.{ShowOnly, IsRaw, LastIs, ShowsLast, KnowsRaw, LastsInvariant}
+use Rattle.sdd_domain_invariant.specs.CellsInvariant.{IsInCell}
+use Rattle.sdd_domain_invariant.specs.LastFractions.{ShowOnly, IsRaw, IsStored, LastIs, ShowsLast, KnowsStored, LastsInvariant}
+use Rattle.sdd_domain_invariant.proofs.Cells.{SameCells, cells_below, cells_slot, in_cell_before}
 use Rattle.sdd_domain_invariant.proofs.Banks.{with_deposits, banked_then}
 use Rattle.sdd_domain_invariant.proofs.Records.{IsAlike}
 use Rattle.sdd_domain_invariant.proofs.Rows.{Given, given_lies}
@@ -70,9 +74,13 @@ module _ (i : ℕ) (g : Gv) where
       (show.0, shown_comes hs l d.0 d.1 show.1 mine)) r) comes
 
 -- ---- the part
--- no item is out as raw
-abbrev pub NoneRaw : Sizes → List ℕ → Type 0
-NoneRaw sizes ws = (i : ℕ) → i < sizes.slots → ¬ (IsRaw sizes ws i)
+-- no item is stored
+abbrev pub NoneStored : Sizes → List ℕ → Type 0
+NoneStored sizes ws = (i : ℕ) (shared : Bool) → i < sizes.slots → ¬ (IsStored sizes ws i shared)
+
+-- what is stored then was so before
+abbrev pub NoMoreStored : Sizes → List ℕ → List ℕ → Type 0
+NoMoreStored sizes ws ws' = (i : ℕ) (shared : Bool) → i < sizes.slots → IsStored sizes ws' i shared → IsStored sizes ws i shared
 
 -- what is out as raw then was so before
 abbrev pub NoMoreRaw : Sizes → List ℕ → List ℕ → Type 0
@@ -80,34 +88,65 @@ NoMoreRaw sizes ws ws' = (i : ℕ) → i < sizes.slots → IsRaw sizes ws' i →
 
 module _ (sizes : Sizes) (ws : List ℕ) where
   -- while all words are 0 none is
-  pub none_raw : ((j : ℕ) → get_or ws j 0 ≡ 0) → NoneRaw sizes ws
-  none_raw zeros i low is = let z = zeros (slot_word sizes i) in omega arith
+  pub none_stored : ((j : ℕ) → get_or ws j 0 ≡ 0) → NoneStored sizes ws
+  none_stored zeros i shared low is = let z = zeros (slot_word sizes i) in ⊎_elim
+      (λ (a : IsRaw sizes ws i × (shared ≡ false)). let r = a.0 in absurd (omega arith))
+      (λ (b : IsInCell sizes ws i × (counted (slot_at sizes ws i) ≡ one_where shared)). let c = b.0 in let n = c.2 in
+      let e = ap (names i) (zeros (cell_word sizes c.0)) ∙ sound.null i in absurd (omega arith)) is
 
-  -- a word before the slots' changes
-  pub raws_before : (j y : ℕ) → j < first_slot sizes → NoMoreRaw sizes ws (set ws j y)
-  raws_before j y low i near is = sym (get_or-set_other ws j (slot_word sizes i) y 0 (λ e. omega arith)) ∙ is
+  -- where words of cells stay, and the slot's word is raw only if it was, and counts its owners in cells as before
+  pub stored_by : (ws' : List ℕ) → SameCells sizes ws ws' → (i : ℕ) (shared : Bool) → (IsRaw sizes ws' i → IsRaw sizes ws i)
+      → (IsInCell sizes ws i → counted (slot_at sizes ws' i) ≡ counted (slot_at sizes ws i)) → IsStored sizes ws' i shared → IsStored sizes ws i shared
+  stored_by ws' same i shared raw kind is = ⊎_elim
+      (λ (a : IsRaw sizes ws' i × (shared ≡ false)). inl (raw a.0, a.1))
+      (λ (b : IsInCell sizes ws' i × (counted (slot_at sizes ws' i) ≡ one_where shared)). let c = in_cell_before sizes ws ws' same i b.0 in
+      inr (c, sym (kind c) ∙ b.1)) is
+
+  -- where the slot's word stays too
+  stored_still : (ws' : List ℕ) → SameCells sizes ws ws' → (i : ℕ) (shared : Bool) → slot_at sizes ws' i ≡ slot_at sizes ws i → IsStored sizes ws' i shared
+      → IsStored sizes ws i shared
+  stored_still ws' same i shared e = stored_by ws' same i shared (λ is. sym e ∙ is) (λ _. ap counted e)
+
+  -- a word before the cells' changes
+  pub stored_before : (j y : ℕ) → j < first_cell sizes → NoMoreStored sizes ws (set ws j y)
+  stored_before j y low i shared near = stored_still (set ws j y) (cells_below sizes ws j y low) i shared
+      (get_or-set_other ws j (slot_word sizes i) y 0 (λ e. omega arith))
 
   -- a word past the slots' changes
-  pub raws_past : (other y : ℕ) → sizes.slots ≤ other → NoMoreRaw sizes ws (set ws (slot_word sizes other) y)
-  raws_past other y past i near is = sym (get_or-set_other ws (slot_word sizes other) (slot_word sizes i) y 0 (λ e. omega arith)) ∙ is
+  pub stored_past : (other y : ℕ) → sizes.slots ≤ other → NoMoreStored sizes ws (set ws (slot_word sizes other) y)
+  stored_past other y past i shared near = stored_still (set ws (slot_word sizes other) y) (cells_slot sizes ws other y) i shared
+      (get_or-set_other ws (slot_word sizes other) (slot_word sizes i) y 0 (λ e. omega arith))
 
   -- a word is looked at
-  pub raws_same : (j : ℕ) → NoMoreRaw sizes ws (set ws j (get_or ws j 0))
-  raws_same j i near is = subst (λ (l : List ℕ). IsRaw sizes l i) (set-get_or ws j 0) is
+  pub stored_same : (j : ℕ) → NoMoreStored sizes ws (set ws j (get_or ws j 0))
+  stored_same j i shared near is = subst (λ (l : List ℕ). IsStored sizes l i shared) (set-get_or ws j 0) is
 
-  -- a slot's word changes, whose item isn't out as raw then
-  pub raws_other : (slot y : ℕ) → (i : ℕ) → i < sizes.slots → i ≢ slot → IsRaw sizes (set ws (slot_word sizes slot) y) i → IsRaw sizes ws i
-  raws_other slot y i near ne is = sym (get_or-set_other ws (slot_word sizes slot) (slot_word sizes i) y 0 (λ e. ne (omega arith))) ∙ is
+  -- a slot's word changes: another item is stored as before
+  pub stored_other : (slot y : ℕ) → (i : ℕ) (shared : Bool) → i < sizes.slots → i ≢ slot → IsStored sizes (set ws (slot_word sizes slot) y) i shared
+      → IsStored sizes ws i shared
+  stored_other slot y i shared near ne = stored_still (set ws (slot_word sizes slot) y) (cells_slot sizes ws slot y) i shared
+      (get_or-set_other ws (slot_word sizes slot) (slot_word sizes i) y 0 (λ e. ne (omega arith)))
 
-  -- that slot's isn't
-  pub not_raw : (slot y : ℕ) → slot_word sizes slot < length ws → y ≢ raw_word 0 → ¬ (IsRaw sizes (set ws (slot_word sizes slot) y) slot)
-  not_raw slot y low ne is = ne (sym (get_or-set_same ws (slot_word sizes slot) y 0 low) ∙ is)
+  module _ (slot y : ℕ) (low : slot_word sizes slot < length ws) (ne : y ≢ raw_word 0) where
+    abbrev after : List ℕ
+    after = set ws (slot_word sizes slot) y
 
-  -- so no other item is
-  pub raws_set : (slot y : ℕ) → slot_word sizes slot < length ws → y ≢ raw_word 0 → NoMoreRaw sizes ws (set ws (slot_word sizes slot) y)
-  raws_set slot y low ne i near is = dite (ℕ_discrete i slot)
-      (λ e. absurd (not_raw slot y low ne (subst (IsRaw sizes (set ws (slot_word sizes slot) y)) e is)))
-      (λ apart. raws_other slot y i near apart is)
+    here : slot_at sizes after slot ≡ y
+    here = get_or-set_same ws (slot_word sizes slot) y 0 low
+
+    -- its own isn't out as raw; and isn't stored where no cell holds an owner of it
+    pub not_stored : ¬ (IsInCell sizes ws slot) → (shared : Bool) → ¬ (IsStored sizes after slot shared)
+    not_stored free shared is = ⊎_elim (λ (a : IsRaw sizes after slot × (shared ≡ false)). ne (sym here ∙ a.0))
+        (λ (b : IsInCell sizes after slot × (counted (slot_at sizes after slot) ≡ one_where shared)).
+        free (in_cell_before sizes ws after (cells_slot sizes ws slot y) slot b.0)) is
+
+    -- so no more are, where its owners in cells are counted as before
+    pub stored_set : (IsInCell sizes ws slot → counted y ≡ counted (slot_at sizes ws slot)) → NoMoreStored sizes ws after
+    stored_set kind i shared near is = dite (ℕ_discrete i slot)
+        (λ e. subst (λ (k : ℕ). IsStored sizes ws k shared) (sym e)
+        (stored_by after (cells_slot sizes ws slot y) slot shared (λ raw. absurd (ne (sym here ∙ raw))) (λ c. ap counted here ∙ kind c)
+        (subst (λ (k : ℕ). IsStored sizes after k shared) e is)))
+        (λ apart. stored_other slot y i shared near apart is)
 
 -- the one is the bank's only if the other is, and has the same then
 abbrev pub KeepsBank : View → View → Type 0
@@ -139,7 +178,7 @@ module _ (sizes : Sizes) (ws : List ℕ) (vs : List View) (hs : FractionsAtHome)
   lasts_more t empty none = record {
     alike = part.alike;
     banks = each_snoc (λ u. IsBank u → ShowsLast sizes hs u) vs t part.banks (λ is i z low last. subst (ShowOnly i z.lot.shown) (sym (empty is)) tt);
-    raw = λ one. each_snoc (λ u. HasPlace u.epoch → KnowsRaw sizes ws hs u) vs t (part.raw one) (λ live. absurd (none live));
+    stored = λ one. each_snoc (λ u. HasPlace u.epoch → KnowsStored sizes ws hs u) vs t (part.stored one) (λ live. absurd (none live));
   }
 
   module _ (id : ℕ) (v : View) (at : get_elem? vs id ≡ some v) where
@@ -147,8 +186,8 @@ module _ (sizes : Sizes) (ws : List ℕ) (vs : List View) (hs : FractionsAtHome)
     pub lasts_kept : (ws' : List ℕ) (w : View) (hs' : FractionsAtHome)
         → ((i p : ℕ) (y : ValueFraction) → i < sizes.slots → p ≤ n → LiesAt n hs' i p y
         → LiesAt n hs i p y ⊎ ((p ≢ n) × ((z : ValueFraction) → LastIs sizes hs i z → y.lot.shown ≡ z.lot.shown)))
-        → KeepsBank v w → w.stakes.filled ≡ v.stakes.filled → (n ≡ 1 → HasPlace w.epoch → HasPlace v.epoch ⊎ NoneRaw sizes ws)
-        → NoMoreRaw sizes ws ws' → LastsInvariant sizes ws' (set vs id w) hs'
+        → KeepsBank v w → w.stakes.filled ≡ v.stakes.filled → (n ≡ 1 → HasPlace w.epoch → HasPlace v.epoch ⊎ NoneStored sizes ws)
+        → NoMoreStored sizes ws ws' → LastsInvariant sizes ws' (set vs id w) hs'
     lasts_kept ws' w hs' lies bank filled had raws =
         let last : (i : ℕ) (z : ValueFraction) → i < sizes.slots → LastIs sizes hs' i z → LastIs sizes hs i z
         = λ i z low l. ⊎_elim (λ (a : LastIs sizes hs i z). a)
@@ -160,19 +199,19 @@ module _ (sizes : Sizes) (ws : List ℕ) (vs : List View) (hs : FractionsAtHome)
               (λ u. IsBank u → ShowsLast sizes hs' u) vs id w
               (λ is i z low l. let b = bank is in subst (ShowOnly i z.lot.shown) (sym b.1) (part.banks id v at b.0 i z low (last i z low l)))
               (λ j u _ e is i z low l. part.banks j u e is i z low (last i z low l));
-          raw = λ one. each_set (λ u. HasPlace u.epoch → KnowsRaw sizes ws' hs' u)
-              (λ u. HasPlace u.epoch → KnowsRaw sizes ws' hs' u) vs id w
-              (λ live i z low is l. ⊎_elim
-              (λ (was : HasPlace v.epoch). ap (newest i) filled ∙ part.raw one id v at was i z low (raws i low is) (last i z low l))
-              (λ (none : NoneRaw sizes ws). absurd (none i low (raws i low is))) (had one live))
-              (λ j u _ e live i z low is l. part.raw one j u e live i z low (raws i low is) (last i z low l));
+          stored = λ one. each_set (λ u. HasPlace u.epoch → KnowsStored sizes ws' hs' u)
+              (λ u. HasPlace u.epoch → KnowsStored sizes ws' hs' u) vs id w
+              (λ live i shared z low is l. ⊎_elim
+              (λ (was : HasPlace v.epoch). ap (newest i) filled ∙ part.stored one id v at was i shared z low (raws i shared low is) (last i z low l))
+              (λ (none : NoneStored sizes ws). absurd (none i shared low (raws i shared low is))) (had one live))
+              (λ j u _ e live i shared z low is l. part.stored one j u e live i shared z low (raws i shared low is) (last i z low l));
         }
 
     -- what lies at home lay there
     pub lasts_fewer : (ws' : List ℕ) (w : View) (hs' : FractionsAtHome)
         → ((i p : ℕ) (y : ValueFraction) → p ≤ n → LiesAt n hs' i p y → LiesAt n hs i p y)
-        → KeepsBank v w → w.stakes.filled ≡ v.stakes.filled → (n ≡ 1 → HasPlace w.epoch → HasPlace v.epoch ⊎ NoneRaw sizes ws)
-        → NoMoreRaw sizes ws ws' → LastsInvariant sizes ws' (set vs id w) hs'
+        → KeepsBank v w → w.stakes.filled ≡ v.stakes.filled → (n ≡ 1 → HasPlace w.epoch → HasPlace v.epoch ⊎ NoneStored sizes ws)
+        → NoMoreStored sizes ws ws' → LastsInvariant sizes ws' (set vs id w) hs'
     lasts_fewer ws' w hs' lies = lasts_kept ws' w hs' (λ i p y _ near l. inl (lies i p y near l))
 
     -- all fractions of a slot come home, of which the bank has nothing, and which isn't out as raw
@@ -180,7 +219,8 @@ module _ (sizes : Sizes) (ws : List ℕ) (vs : List View) (hs : FractionsAtHome)
         ((a b : Gv) → Is a → Is b → a ≡ b)
         → (ws' : List ℕ) (w : View) → ((j : ℕ) (b : View) → get_elem? vs j ≡ some b → IsBank b → (c : Gv) → ShowOnly slot c (banked b)) → KeepsBank v w
         → ((i : ℕ) → i ≢ slot → newest i w.stakes.filled ≡ newest i v.stakes.filled) → (HasPlace w.epoch → HasPlace v.epoch)
-        → ¬ (IsRaw sizes ws' slot) → ((i : ℕ) → i < sizes.slots → i ≢ slot → IsRaw sizes ws' i → IsRaw sizes ws i)
+        → ((shared : Bool) → ¬ (IsStored sizes ws' slot shared))
+        → ((i : ℕ) (shared : Bool) → i < sizes.slots → i ≢ slot → IsStored sizes ws' i shared → IsStored sizes ws i shared)
         → LastsInvariant sizes ws' (set vs id w) (homes_after hs xs g.act)
     lasts_given γ slot o Is rest xs g single ws' w nothing bank filled had free raws =
         let hs' : FractionsAtHome = homes_after hs xs g.act in
@@ -190,11 +230,11 @@ module _ (sizes : Sizes) (ws : List ℕ) (vs : List View) (hs : FractionsAtHome)
         = λ u u' is same old none i z low l. subst (ShowOnly i z.lot.shown) (sym same) (⊎_elim
         (λ (a : (i ≡ slot) × Has γ slot (share n o n) Is z). subst (λ (k : ℕ). ShowOnly k z.lot.shown (banked u)) (sym a.0) (none z.lot.shown))
         (λ (b : (i ≢ slot) × LiesAt n hs i n z). old i z low b.1) (which i n z (omega arith) l)) in
-        let raw_of : (u u' : View) → ((i : ℕ) → i ≢ slot → newest i u'.stakes.filled ≡ newest i u.stakes.filled)
-        → KnowsRaw sizes ws hs u → KnowsRaw sizes ws' hs' u'
-        = λ u u' same old i z low is l. ⊎_elim
-        (λ (a : (i ≡ slot) × Has γ slot (share n o n) Is z). absurd (free (subst (IsRaw sizes ws') a.0 is)))
-        (λ (b : (i ≢ slot) × LiesAt n hs i n z). same i b.0 ∙ old i z low (raws i low b.0 is) b.1) (which i n z (omega arith) l) in record {
+        let stored_of : (u u' : View) → ((i : ℕ) → i ≢ slot → newest i u'.stakes.filled ≡ newest i u.stakes.filled)
+        → KnowsStored sizes ws hs u → KnowsStored sizes ws' hs' u'
+        = λ u u' same old i shared z low is l. ⊎_elim
+        (λ (a : (i ≡ slot) × Has γ slot (share n o n) Is z). absurd (free shared (subst (λ (k : ℕ). IsStored sizes ws' k shared) a.0 is)))
+        (λ (b : (i ≢ slot) × LiesAt n hs i n z). same i b.0 ∙ old i shared z low (raws i shared low b.0 is) b.1) (which i n z (omega arith) l) in record {
           alike = λ i p y z low near l lz. ⊎_elim
               (λ (a : (i ≡ slot) × Has γ slot (share n o p) Is y). ⊎_elim
               (λ (b : (i ≡ slot) × Has γ slot (share n o n) Is z). single y.lot.shown z.lot.shown a.1.1 b.1.1)
@@ -206,28 +246,31 @@ module _ (sizes : Sizes) (ws : List ℕ) (vs : List View) (hs : FractionsAtHome)
               (λ u. IsBank u → ShowsLast sizes hs' u) vs id w
               (λ is. let b = bank is in show v w b.0 b.1 (part.banks id v at b.0) (nothing id v at b.0))
               (λ j u _ e is. show u u is refl (part.banks j u e is) (nothing j u e is));
-          raw = λ one. each_set (λ u. HasPlace u.epoch → KnowsRaw sizes ws' hs' u)
-              (λ u. HasPlace u.epoch → KnowsRaw sizes ws' hs' u) vs id w
-              (λ live. raw_of v w filled (part.raw one id v at (had live)))
-              (λ j u _ e live. raw_of u u (λ _ _. refl) (part.raw one j u e live));
+          stored = λ one. each_set (λ u. HasPlace u.epoch → KnowsStored sizes ws' hs' u)
+              (λ u. HasPlace u.epoch → KnowsStored sizes ws' hs' u) vs id w
+              (λ live. stored_of v w filled (part.stored one id v at (had live)))
+              (λ j u _ e live. stored_of u u (λ _ _. refl) (part.stored one j u e live));
         }
 
-    -- an item goes out as raw, of which it is known what it shows
-    pub lasts_out : (slot : ℕ) (ws' : List ℕ) (w : View) → KeepsBank v w → w.stakes.filled ≡ v.stakes.filled → (HasPlace w.epoch → HasPlace v.epoch)
+    -- an item is stored more, of which it is known what it shows
+    pub lasts_out : (slot : ℕ) (shared : Bool) (ws' : List ℕ) (w : View) → KeepsBank v w → w.stakes.filled ≡ v.stakes.filled
+        → (HasPlace w.epoch → HasPlace v.epoch)
         → (n ≡ 1 → (j : ℕ) (u : View) → get_elem? vs j ≡ some u → HasPlace u.epoch → (z : ValueFraction) → LastIs sizes hs slot z
-        → newest slot u.stakes.filled ≡ Some (record { slot = slot; shared = false; value = z.lot.shown }))
-        → ((i : ℕ) → i < sizes.slots → i ≢ slot → IsRaw sizes ws' i → IsRaw sizes ws i) → LastsInvariant sizes ws' (set vs id w) hs
-    lasts_out slot ws' w bank filled had knows raws =
-        let now : (j : ℕ) (u u' : View) → get_elem? vs j ≡ some u → n ≡ 1 → HasPlace u.epoch → u'.stakes.filled ≡ u.stakes.filled → KnowsRaw sizes ws' hs u'
-        = λ j u u' e one live same i z low is l. ap (newest i) same ∙ dite (ℕ_discrete i slot)
-        (λ here. subst (λ (k : ℕ). newest k u.stakes.filled ≡ Some (record { slot = k; shared = false; value = z.lot.shown })) (sym here)
-        (knows one j u e live z (subst (λ (k : ℕ). LastIs sizes hs k z) here l)))
-        (λ ne. part.raw one j u e live i z low (raws i low ne is) l) in record {
+        → newest slot u.stakes.filled ≡ Some (record { slot = slot; shared = shared; value = z.lot.shown }))
+        → ((i : ℕ) (kind : Bool) → i < sizes.slots → IsStored sizes ws' i kind → ((i ≡ slot) × (kind ≡ shared)) ⊎ IsStored sizes ws i kind)
+        → LastsInvariant sizes ws' (set vs id w) hs
+    lasts_out slot shared ws' w bank filled had knows stored =
+        let now : (j : ℕ) (u u' : View) → get_elem? vs j ≡ some u → n ≡ 1 → HasPlace u.epoch → u'.stakes.filled ≡ u.stakes.filled → KnowsStored sizes ws' hs u'
+        = λ j u u' e one live same i kind z low is l. ap (newest i) same ∙ ⊎_elim
+        (λ (here : (i ≡ slot) × (kind ≡ shared)). subst (λ (k : ℕ × Bool). newest k.0 u.stakes.filled
+        ≡ Some (record { slot = k.0; shared = k.1; value = z.lot.shown })) (λ d. (sym here.0 d, sym here.1 d))
+        (knows one j u e live z (subst (λ (k : ℕ). LastIs sizes hs k z) here.0 l)))
+        (λ (old : IsStored sizes ws i kind). part.stored one j u e live i kind z low old l) (stored i kind low is) in record {
           alike = part.alike;
           banks = each_set (λ u. IsBank u → ShowsLast sizes hs u) (λ u. IsBank u → ShowsLast sizes hs u) vs id w
               (λ is i z low l. let b = bank is in subst (ShowOnly i z.lot.shown) (sym b.1) (part.banks id v at b.0 i z low l))
               (λ j u _ e. part.banks j u e);
-          raw = λ one. each_set (λ u. HasPlace u.epoch → KnowsRaw sizes ws' hs u) (λ u. HasPlace u.epoch → KnowsRaw sizes ws' hs u) vs id w
+          stored = λ one. each_set (λ u. HasPlace u.epoch → KnowsStored sizes ws' hs u) (λ u. HasPlace u.epoch → KnowsStored sizes ws' hs u) vs id w
               (λ live. now id v w at one (had live) filled) (λ j u _ e live. now j u u e one live refl);
         }
 
@@ -240,7 +283,7 @@ module _ (sizes : Sizes) (ws : List ℕ) (vs : List View) (hs : FractionsAtHome)
     banks = each_set (λ u. IsBank u → ShowsLast sizes hs u) (λ u. IsBank u → ShowsLast sizes hs u) vs bd (with_deposits ls b)
         (λ _ i z low l. subst (ShowOnly i z.lot.shown) (sym (banked_then γ ls b book are)) (shown i z low l (part.banks bd b there is i z low l)))
         (λ j u _ e. part.banks j u e);
-    raw = λ one. each_set (λ u. HasPlace u.epoch → KnowsRaw sizes ws hs u)
-        (λ u. HasPlace u.epoch → KnowsRaw sizes ws hs u) vs bd (with_deposits ls b)
-        (λ live. part.raw one bd b there live) (λ j u _ e. part.raw one j u e);
+    stored = λ one. each_set (λ u. HasPlace u.epoch → KnowsStored sizes ws hs u)
+        (λ u. HasPlace u.epoch → KnowsStored sizes ws hs u) vs bd (with_deposits ls b)
+        (λ live. part.stored one bd b there live) (λ j u _ e. part.stored one j u e);
   }

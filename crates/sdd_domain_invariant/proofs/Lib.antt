@@ -2,6 +2,7 @@ pub mod Places
 pub mod Rows
 pub mod Tops
 pub mod Counts
+pub mod Cells
 pub mod Banks
 pub mod Part
 pub mod Records

@@ -15,7 +15,7 @@ use Rattle.sdd_views.specs.declared.SlotsView.{SlotsView}
 use Rattle.sdd_views.specs.declared.FractionsView.{FractionsView}
 use Rattle.sdd_views.specs.declared.View.{View}
 use Rattle.sdd_views.specs.declared.Sizes.{Sizes}
-use Rattle.sdd_word_invariant.specs.Words.{first_slot, slot_word, state_word}
+use Rattle.sdd_word_invariant.specs.Words.{first_cell, slot_word, state_word}
 use Rattle.sdd_word_invariant.specs.Epoch.{HasPlace, IsClosed, IsOpen}
 use Rattle.sdd_word_invariant.specs.EpochSteps.{Steps, Publishes, Ends}
 use Rattle.sdd_word_invariant.specs.Slots.{slot_at, waits_in}
@@ -32,6 +32,7 @@ use Rattle.sdd_domain_invariant.specs.BankInvariant.{banked, BankInvariant}
 use Rattle.sdd_domain_invariant.proofs.Banks.{with_deposits}
 use Rattle.sdd_domain_invariant.proofs.Banks as banks
 use Rattle.sdd_domain_invariant.specs.KindsInvariant.{KindsInvariant}
+use Rattle.sdd_domain_invariant.proofs.Cells.{words_below, no_change}
 use Rattle.sdd_domain_invariant.proofs.KindSteps.{same_post}
 use Rattle.sdd_domain_invariant.proofs.KindSteps as kind_steps
 use Rattle.sdd_domain_invariant.specs.Records.{AllShowKnown, RecordsInvariant}
@@ -46,12 +47,8 @@ use Rattle.sdd_domain_invariant.proofs.Records.{IsAlike}
 use Rattle.sdd_domain_invariant.proofs.Records as records
 use Rattle.sdd_domain_invariant.proofs.Fillings.{filled_same, filled_alike}
 use Rattle.sdd_domain_invariant.specs.LastFractions.{LastsInvariant}
-use Rattle.sdd_domain_invariant.proofs.Lasts.{NoMoreRaw, none_raw, raws_before, alike_bank, lasts_fewer}
+use Rattle.sdd_domain_invariant.proofs.Lasts.{NoMoreStored, none_stored, stored_before, alike_bank, lasts_fewer}
 use Rattle.sdd_domain_invariant.proofs.Telling.{none_told}
-
--- a word before the slots' leaves theirs
-pub slots_before : (sizes : Sizes) (ws : List ℕ) (i y : ℕ) → i < first_slot sizes → (j : ℕ) → slot_at sizes (set ws i y) j ≡ slot_at sizes ws j
-slots_before sizes ws i y low j = get_or-set_other ws i (slot_word sizes j) y 0 (λ e. omega arith)
 
 -- what a step on the word i makes of the state, where y is in it then: what its participant knows of stakes, and what it takes or gives
 pub record Follows (γ : ℕ) (sizes : Sizes) (id i : ℕ) (me : SeatState) (told : ℕ → SeatState → Type 0) (s : State ValueFraction View) (y : ℕ) (w : View) : Type
@@ -76,17 +73,17 @@ module _ (γ : ℕ) (sizes : Sizes) (slots id : ℕ) (me : SeatState) (i : ℕ) 
       × (NoneQuiet s.views ⊎ Hushes sizes s.words i (f (get_or s.words i 0))) × AreQuiet sizes (set s.words i (f (get_or s.words i 0))) w
 
   -- while somebody has a place nobody knows of a quiet slot; and a step on a word before the slots' leaves theirs
-  hushes : HasPlace me.0.epoch ⊎ (i < first_slot sizes) → (s : State ValueFraction View) → DomainInvariant γ sizes s → get_elem? s.views id ≡ some me.0
+  hushes : HasPlace me.0.epoch ⊎ (i < first_cell sizes) → (s : State ValueFraction View) → DomainInvariant γ sizes s → get_elem? s.views id ≡ some me.0
       → NoneQuiet s.views ⊎ Hushes sizes s.words i (f (get_or s.words i 0))
   hushes mild s h at = ⊎_elim
       (λ (live : HasPlace me.0.epoch).
       inl (none_quiet sizes s.words s.views h.kept.parts.epoch h.kept.places.ended h.kept.places.quiet id me.0 at live))
-      (λ (low : i < first_slot sizes). inr (λ k is _. absurd (omega arith))) mild
+      (λ (low : i < first_cell sizes). inr (λ k is _. absurd (omega arith))) mild
 
   -- what is known of them stays
   pub keeps_ended : (then : ℕ → View → Type 0) → ((r : ℕ) (w : View) → then r w → w.places ≡ me.0.places)
       → ((s : State ValueFraction View) → DomainInvariant γ sizes s → get_elem? s.views id ≡ some me.0 → Spares sizes s.words i (f (get_or s.words i 0)))
-      → HasPlace me.0.epoch ⊎ (i < first_slot sizes) → Keeps then
+      → HasPlace me.0.epoch ⊎ (i < first_cell sizes) → Keeps then
   keeps_ended then places words mild s w h at t = let x : ℕ = get_or s.words i 0 in let y : ℕ = f x in let e = words s h at in
       let q = hushes mild s h at in (
         e,
@@ -144,7 +141,7 @@ module _ (γ : ℕ) (sizes : Sizes) (slots id : ℕ) (me : SeatState) (i : ℕ) 
     pub counts : w.stakes.counts ≡ me.0.stakes.counts
     pub lives : HasPlace me.0.epoch → HasPlace w.epoch
     pub had : sizes.participants ≡ 1 → HasPlace w.epoch → HasPlace me.0.epoch ⊎ ((j : ℕ) → get_or s.words j 0 ≡ 0)
-    pub raws : NoMoreRaw sizes s.words (set s.words i y)
+    pub stored : NoMoreStored sizes s.words (set s.words i y)
     pub kinds : KindsInvariant sizes (set s.words i y) (set s.views id w)
 
   pub lift_calm_whole : (then : ℕ → View → Type 0) (told : ℕ → SeatState → Type 0) → Keeps then → StepsWhole then
@@ -165,7 +162,7 @@ module _ (γ : ℕ) (sizes : Sizes) (slots id : ℕ) (me : SeatState) (i : ℕ) 
         bank = banks.alike γ sizes s.words s.views h.bank id me.0 at (set s.words i y) w c.alike c.same;
         lasts = lasts_fewer sizes s.words s.views s.homes h.lasts id me.0 at (set s.words i y) w s.homes (λ _ _ _ _ l. l) (alike_bank me.0 w c.alike)
             (ap (λ (t : FractionsView). t.filled) c.alike.0) (λ one live. ⊎_elim (λ (was : HasPlace me.0.epoch). inl was)
-            (λ (zeros : (j : ℕ) → get_or s.words j 0 ≡ 0). inr (none_raw sizes s.words zeros)) (c.had one live)) c.raws;
+            (λ (zeros : (j : ℕ) → get_or s.words j 0 ≡ 0). inr (none_stored sizes s.words zeros)) (c.had one live)) c.stored;
         kinds = c.kinds;
         tells = tells (get_or s.words i 0) w t;
       })
@@ -177,7 +174,7 @@ module _ (γ : ℕ) (sizes : Sizes) (slots id : ℕ) (me : SeatState) (i : ℕ) 
   lift_calm then told ends step = lift_calm_whole then told ends (λ s h at small. step s.words s.views h.kept.parts at small)
 
   -- one of the epoch's part, under which an open guard keeps its place
-  pub lift_epoch : (R : EpochView → ℕ → EpochView → Type 0) (told : ℕ → SeatState → Type 0) → i < first_slot sizes
+  pub lift_epoch : (R : EpochView → ℕ → EpochView → Type 0) (told : ℕ → SeatState → Type 0) → i < first_cell sizes
       → ((r : ℕ) (e : EpochView) → R me.0.epoch r e → IsOpen me.0.epoch → e.place ≡ me.0.epoch.place)
       → ((r : ℕ) (e : EpochView) → R me.0.epoch r e → HasPlace me.0.epoch → HasPlace e)
       → ((s : State ValueFraction View) → DomainInvariant γ sizes s → (e : EpochView) → R me.0.epoch (get_or s.words i 0) e → sizes.participants ≡ 1 → HasPlace
@@ -192,16 +189,16 @@ module _ (γ : ℕ) (sizes : Sizes) (slots id : ℕ) (me : SeatState) (i : ℕ) 
       subst (IsCalm s y) (sym t.1) record {
         more = λ j p out. ⊎_elim (λ (m : Moves me.0 j). inl m)
             (λ (o : SeesFrom me.0 j p). inr (o.0, stays (get_or s.words i 0) e t.2 (own.guarded j o.0) ∙ o.1)) out;
-        same = λ j _. before_slots sizes s.words i y j low;
+        same = λ j _. before_slots sizes s.words i y j (omega arith);
         mover = still_mover me.0 (record me.0 { epoch = e }) refl (lives (get_or s.words i 0) e t.2) (λ _ o. o) (λ _ o. o) (h.homes.moving id me.0 at);
         alike = (refl, refl, refl, (λ _. refl), refl);
         counts = refl;
         lives = lives (get_or s.words i 0) e t.2;
         had = had s h e t.2;
-        raws = raws_before sizes s.words i y low;
+        stored = stored_before sizes s.words i y low;
         kinds = kind_steps.calm sizes s.words s.views h.kinds h.records.each id me.0 at (set s.words i y) (record me.0 { epoch = e })
-            (slots_before sizes s.words i y low) (refl, refl, refl, (λ _. refl), refl) refl refl (λ _ o. o)
-            (same_post me.0 (record me.0 { epoch = e }) refl refl refl (lives (get_or s.words i 0) e t.2) refl refl);
+            (words_below sizes s.words i y low) (refl, refl, refl, (λ _. refl), refl) refl refl (λ _ o. o)
+            (same_post me.0 (record me.0 { epoch = e }) refl refl refl refl (lives (get_or s.words i 0) e t.2) refl refl);
       })
 
 -- a publish may make each item that waits a change older, and leaves all else of slots
@@ -212,7 +209,7 @@ changed_or_not v P same aged = let older_slots : SlotsView = record v.slots { wa
 
 module _ (γ : ℕ) (sizes : Sizes) (slots : ℕ) where
   -- a publish
-  pub lift_publish : (id : ℕ) (me : SeatState) (i y : ℕ) (told : ℕ → SeatState → Type 0) → i < first_slot sizes → HasPlace me.0.epoch
+  pub lift_publish : (id : ℕ) (me : SeatState) (i y : ℕ) (told : ℕ → SeatState → Type 0) → i < first_cell sizes → HasPlace me.0.epoch
       → Steps (Parts sizes) id me.0 i (λ _. y) (λ _. PublishesAll me.0 y)
       → ((e : EpochView) → Publishes me.0.epoch y e → HasPlace e × (e.place ≡ me.0.epoch.place))
       → ((s : State ValueFraction View) → DomainInvariant γ sizes s → get_elem? s.views id ≡ some me.0 → Spares sizes s.words i y)
@@ -222,7 +219,7 @@ module _ (γ : ℕ) (sizes : Sizes) (slots : ℕ) where
       (inr low)) step (λ _ w t. tells w t)
       (λ s w h at t. let v : View = me.0 in let e : EpochView = t.0 in
       let calm : SlotsView → Type 0 = λ x. IsCalm γ sizes slots id me i (λ _. y) s y (record v { epoch = e; slots = x }) in
-      let same = λ (j : ℕ) (_ : j < sizes.slots). before_slots sizes s.words i y j low in let n : ℕ = sizes.participants in
+      let same = λ (j : ℕ) (_ : j < sizes.slots). before_slots sizes s.words i y j (omega arith) in let n : ℕ = sizes.participants in
       let more : (j p : ℕ) → FractionIsTaken v j p → FractionIsTaken (record v { epoch = e }) j p
       = λ j p out. ⊎_elim (λ (m : Moves v j). inl m) (λ (o : SeesFrom v j p). inr (o.0, (stays e t.2).1 ∙ o.1)) out in
       let movers = still_mover v (record v { epoch = e }) refl (λ _. (stays e t.2).0) (λ _ o. o) (λ _ o. o) (h.homes.moving id v at) in
@@ -235,10 +232,10 @@ module _ (γ : ℕ) (sizes : Sizes) (slots : ℕ) where
         counts = refl;
         lives = λ _. (stays e t.2).0;
         had = λ _ _. inl live;
-        raws = raws_before sizes s.words i y low;
+        stored = stored_before sizes s.words i y low;
         kinds = kind_steps.calm sizes s.words s.views h.kinds h.records.each id v at (set s.words i y) (record v { epoch = e })
-            (slots_before sizes s.words i y low) (refl, refl, refl, (λ _. refl), refl) refl refl (λ _ o. o)
-            (same_post v (record v { epoch = e }) refl refl refl (λ _. (stays e t.2).0) refl refl);
+            (words_below sizes s.words i y low) (refl, refl, refl, (λ _. refl), refl) refl refl (λ _ o. o)
+            (same_post v (record v { epoch = e }) refl refl refl refl (λ _. (stays e t.2).0) refl refl);
       }
       record {
         more = more;
@@ -249,11 +246,11 @@ module _ (γ : ℕ) (sizes : Sizes) (slots : ℕ) where
         counts = refl;
         lives = λ _. (stays e t.2).0;
         had = λ _ _. inl live;
-        raws = raws_before sizes s.words i y low;
+        stored = stored_before sizes s.words i y low;
         kinds = kind_steps.calm sizes s.words s.views h.kinds h.records.each id v at (set s.words i y)
-            (record v { epoch = e; slots = record v.slots { waits = map older v.slots.waits } }) (slots_before sizes s.words i y low)
+            (record v { epoch = e; slots = record v.slots { waits = map older v.slots.waits } }) (words_below sizes s.words i y low)
             (refl, refl, refl, (λ j. total_map (waits_in j) older (λ x. refl) v.slots.waits), refl) refl refl (λ _ o. o)
-            (same_post v (record v { epoch = e; slots = record v.slots { waits = map older v.slots.waits } }) refl refl refl (λ _. (stays e t.2).0) refl refl);
+            (same_post v (record v { epoch = e; slots = record v.slots { waits = map older v.slots.waits } }) refl refl refl refl (λ _. (stays e t.2).0) refl refl);
       }))
 
   -- the end of a place, which is counted
@@ -283,10 +280,10 @@ module _ (γ : ℕ) (sizes : Sizes) (slots : ℕ) where
         filled = filled_same sizes s.views h.filled id v at now refl refl refl (λ z. absurd (omega arith));
         bank = banks.alike γ sizes s.words s.views h.bank id v at (set s.words i 3) now (refl, refl, refl, (λ _. refl), refl) same;
         lasts = lasts_fewer sizes s.words s.views s.homes h.lasts id v at (set s.words i 3) now s.homes (λ _ _ _ _ l. l) (λ is. (is, refl)) refl
-            (λ _ live. absurd (omega arith)) (raws_before sizes s.words i 3 (omega arith));
-        kinds = kind_steps.calm sizes s.words s.views h.kinds h.records.each id v at (set s.words i 3) now (slots_before sizes s.words i 3 (omega arith))
+            (λ _ live. absurd (omega arith)) (stored_before sizes s.words i 3 (omega arith));
+        kinds = kind_steps.calm sizes s.words s.views h.kinds h.records.each id v at (set s.words i 3) now (words_below sizes s.words i 3 (omega arith))
             (refl, refl, refl, (λ _. refl), refl) refl refl (λ _ o. o)
-            record { pledges = refl; over = refl; sizes = refl; place = inr over; records = λ _ r a. a; holds = λ _. refl };
+            record { pledges = refl; over = refl; sizes = refl; cells = refl; place = inr over; records = λ _ r a. a; holds = λ _. refl };
         tells = tells;
       })
 
@@ -363,7 +360,7 @@ module _ (γ : ℕ) (sizes : Sizes) (id : ℕ) (v : View) (s : State ValueFracti
         filled = filled_same sizes vs fill bd b now b' refl refl refl (λ live. live);
         bank = bank;
         lasts = lasts;
-        kinds = kind_steps.stays sizes s.words vs kinds told.each bd b now s.words b' (λ i. refl)
+        kinds = kind_steps.stays sizes s.words vs kinds told.each bd b now s.words b' (no_change sizes s.words)
             (kind_steps.knows_alike sizes s.words b b' (kinds.each bd b now) refl refl (λ i m. m) (λ i o. o) (λ r a. a) (λ i a. a))
-            (same_post b b' refl refl refl (λ l. l) refl refl);
+            (same_post b b' refl refl refl refl (λ l. l) refl refl);
       }

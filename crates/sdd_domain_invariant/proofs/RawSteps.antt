@@ -28,7 +28,9 @@ use Rattle.sdd_word_invariant.proofs.Sums.{is_same, is_other, without_same, with
 use Rattle.sdd_domain_invariant.specs.FractionsAtHome.{stake_at, away, full_at, Has, Moves, SeesFrom, LiesAt, FractionsInvariant}
 use Rattle.sdd_domain_invariant.specs.Records.{IsIn, IsKnown, IsTelling}
 use Rattle.sdd_domain_invariant.specs.FilledInvariant.{newest, HasRecord}
-use Rattle.sdd_domain_invariant.specs.LastFractions.{LastIs}
+use Rattle.sdd_domain_invariant.specs.CellsInvariant.{IsInCell}
+use Rattle.sdd_domain_invariant.specs.LastFractions.{IsRaw, LastIs}
+use Rattle.sdd_domain_invariant.proofs.Cells.{cells_slot, in_cell_before}
 use Rattle.sdd_domain_invariant.specs.DomainInvariant.{DomainInvariant}
 use Rattle.sdd_domain_invariant.specs.FractionSteps.{SeatState, IsValue, untold, sighting, OfSlot}
 use Rattle.sdd_domain_invariant.specs.RawSteps.{TurnsRawOne, RegainsOne, SeesRawOne, regaining}
@@ -42,7 +44,7 @@ use Rattle.sdd_domain_invariant.proofs.Records as records
 use Rattle.sdd_domain_invariant.proofs.Fillings.{has_none, filled_learned}
 use Rattle.sdd_domain_invariant.proofs.Telling.{none_moved, one_view, owns_it}
 use Rattle.sdd_domain_invariant.proofs.Tops.{share_one}
-use Rattle.sdd_domain_invariant.proofs.Lasts.{raws_other, raws_set, raws_same, lasts_out, lasts_fewer}
+use Rattle.sdd_domain_invariant.proofs.Lasts.{stored_other, stored_set, stored_same, lasts_out, lasts_fewer}
 use Rattle.sdd_domain_invariant.proofs.Lift.{Follows, lift_homes, lift_whole}
 use Rattle.sdd_domain_invariant.proofs.KindSteps as kind_steps
 use Rattle.sdd_domain_invariant.proofs.Steps.{full_owned}
@@ -169,6 +171,7 @@ module _ (slots id : ℕ) (me : SeatState) (live : HasPlace me.0.epoch) where
         (ap full word ∙ ((raw_is 0 (omega arith)).2 ∙ sym was)))
         (λ ne. steps.others slots id me live slot inside s.words y j near ne) in
         let mine = records.mine sizes s.views s.homes h.records id v at in
+        let free_of : ¬ (IsInCell sizes s.words slot) = steps.in_no_cell_too slots id me live slot inside s h at own one in
         let known : IsKnown s.views slot value = mine slot value (inl (has.0, r, has.1, refl, refl)) in
         subst (Follows γ sizes id i me told s y) (sym (t slot refl)) record {
           stakes = now.stakes;
@@ -186,15 +189,19 @@ module _ (slots id : ℕ) (me : SeatState) (live : HasPlace me.0.epoch) where
           bank = banks.calm γ sizes s.words s.views h.bank id v at (set s.words i y) now
               record { bank = refl; founds = refl; book = refl; banked = refl; drawn = refl } refl
               (λ k. let z = ap (times k) empty in omega arith) same;
-          lasts = lasts_out sizes s.words s.views s.homes h.lasts id v at slot (set s.words i y) now (λ b. (b, refl)) refl (λ l. l)
+          lasts = lasts_out sizes s.words s.views s.homes h.lasts id v at slot false (set s.words i y) now (λ b. (b, refl)) refl (λ l. l)
               (λ single j u e placed z last. subst (λ (g : Gv). newest slot u.stakes.filled ≡ Some (record { slot = slot; shared = false; value = g }))
               (sym (h.records.home slot n value z inside (omega arith) known last))
               (h.filled.knows single j id u v r e placed at (inl has)))
-              (raws_other sizes s.words slot y);
+              (λ j kind near is. dite (ℕ_discrete j slot)
+              (λ e. inl (e, ⊎_elim (λ (a : IsRaw sizes (set s.words i y) j × (kind ≡ false)). a.1)
+              (λ (b : IsInCell sizes (set s.words i y) j × _). absurd (free_of (subst (IsInCell sizes s.words) e
+              (in_cell_before sizes s.words (set s.words i y) (cells_slot sizes s.words slot y) j b.0)))) is))
+              (λ ne. inr (stored_other sizes s.words slot y j kind near ne is)));
           kinds = kind_steps.goes sizes s.words s.views h.kinds h.records.each id v at slot y now inside
               (steps.wrote_long slots id me live slot inside s h at y) rests refl (λ _ o. o) word
               (λ j u apart e. inl (λ o. let both = owners_in codes sound sizes s.words s.views h.kept.parts.slots j id slot u v apart e at in omega arith))
-              (λ _. let dead = (raw_is 0 (omega arith)).0 in inl (omega arith)) (steps.post slots id me live s h at now refl refl refl (λ l. l));
+              (λ _. let dead = (raw_is 0 (omega arith)).0 in inl (omega arith)) (λ c. absurd (free_of c)) (steps.post slots id me live s h at now refl refl refl refl (λ l. l));
           tells = steps.at_once slots id me live slot inside TurnsRawOne y (now, me.1) (refl, refl);
         })
 
@@ -235,24 +242,25 @@ module _ (slots id : ℕ) (me : SeatState) (live : HasPlace me.0.epoch) where
               (λ (b : HasRecord v.stakes.owns q). inr (id, v, at, inl b))
               (has_more r v.stakes.owns q a.0 a.1))
               (λ (a : HasRecord v.stakes.waits q). inr (id, v, at, inr a)) told)
-              (λ one j u e placed. h.lasts.raw one j u e placed slot z inside hit (lies s h hit));
+              (λ one j u e placed. h.lasts.stored one j u e placed slot false z inside (inl (hit, refl)) (lies s h hit));
           bank = banks.calm γ sizes s.words s.views h.bank id v at (set s.words i y) now
               record { bank = refl; founds = refl; book = refl; banked = refl; drawn = refl } refl
               (λ k. let l = h.bank.low id v at k in omega arith) same;
           lasts = lasts_fewer sizes s.words s.views s.homes h.lasts id v at (set s.words i y) now s.homes (λ _ _ _ _ l. l) (λ b. (b, refl)) refl
-              (λ _ _. inl live) (raws_set sizes s.words slot y low (λ e. absurd (omega arith)));
+              (λ _ _. inl live) (stored_set sizes s.words slot y low (λ e. absurd (omega arith))
+              (λ c. absurd (steps.in_no_cell slots id me live slot inside s h (dead s h hit) c)));
           kinds = let none = dead s h hit in kind_steps.regains sizes s.words s.views h.kinds h.records.each id v at slot y value now inside
               (steps.wrote_long slots id me live slot inside s h at y) rests refl (λ _ o. o) own.2
               (steps.here slots id me live slot inside s.words y low)
               (λ j u e o. let few = owner_in codes sound sizes s.words s.views h.kept.parts.slots j slot u e in omega arith)
-              (steps.post slots id me live s h at now refl refl refl (λ l. l));
+              (steps.in_no_cell slots id me live slot inside s h none) (steps.post slots id me live s h at now refl refl refl refl (λ l. l));
           tells = steps.at_once slots id me live slot inside (λ slot. RegainsOne slot (raw_word 0) (owned_word 0)) x (now, me.1) (
             (λ _. (
               value,
               (h.homes.home slot n z inside (omega arith) (lies s h hit)).1.0 (filled s h hit),
               refl,
-              λ lone. h.lasts.raw
-                  (steps.one_place γ sizes s h id v at lone) id v at live slot z inside hit (lies s h hit),
+              λ lone. h.lasts.stored
+                  (steps.one_place γ sizes s h id v at lone) id v at live slot false z inside (inl (hit, refl)) (lies s h hit),
             )),
             (λ no. absurd (no hit)),
             c.2,
@@ -301,7 +309,8 @@ module _ (slots id : ℕ) (me : SeatState) (live : HasPlace me.0.epoch) where
           (λ s w h at t. let x : ℕ = get_or s.words i 0 in let c = t slot refl in let r = h.records in let tells = r.each id v at in
           let mine = records.mine sizes s.views s.homes r id v at in dite (ℕ_discrete x (raw_word 0))
           (λ hit. let z : ValueFraction = last s h hit in let value : Gv = z.lot.shown in
-          let knew = λ (lone : IsLone v.epoch). h.lasts.raw (steps.one_place γ sizes s h id v at lone) id v at live slot z inside hit (lies s h hit) in
+          let knew = λ (lone : IsLone v.epoch). h.lasts.stored (steps.one_place γ sizes s h id v at lone) id v at live slot false z inside
+          (inl (hit, refl)) (lies s h hit) in
           dite (dec_lt 0 (times slot v.slots.sees))
           (λ sees. let is = told_seen v tells slot sees in
           let shows : is.0 ≡ value = sym (r.home slot n is.0 z inside (omega arith) (mine slot is.0 (inr (inl is.1))) (lies s h hit)) in
@@ -327,7 +336,7 @@ module _ (slots id : ℕ) (me : SeatState) (live : HasPlace me.0.epoch) where
                 (λ j p out. let o = only_seen v rests j p out in inr (let a = o.0 in omega arith, o.1))
                 (none_out now rests));
             kinds = kind_steps.same sizes s.words s.views h.kinds h.records.each id v at now refl refl refl refl refl refl (set s.words i x)
-                (steps.same_slots slots id me live slot inside s h) (steps.post slots id me live s h at now refl refl refl (λ l. l));
+                (steps.same_slots slots id me live slot inside s h) (steps.post slots id me live s h at now refl refl refl refl (λ l. l));
             records = records.comes_to_learn sizes s.views s.homes r id v at slot n value z inside (omega arith) (lies s h hit)
                 (all_shown s h (still s h hit)) (λ j b e is. h.lasts.banks j b e is slot z inside (lies s h hit)) now (λ is. (is, refl)) (set s.homes spot none)
                 record {
@@ -361,7 +370,7 @@ module _ (slots id : ℕ) (me : SeatState) (live : HasPlace me.0.epoch) where
                 record { bank = refl; founds = refl; book = refl; banked = refl; drawn = refl } refl (h.bank.low id v at)
                 (λ j _. steps.same_words slots id me live slot inside s h j);
             lasts = lasts_fewer sizes s.words s.views s.homes h.lasts id v at (set s.words i x) now (set s.homes spot none)
-                (λ j p u _ l. one_taken s.homes spot (stake_at n j p) u l) (λ b. (b, refl)) refl (λ _ _. inl live) (raws_same sizes s.words i);
+                (λ j p u _ l. one_taken s.homes spot (stake_at n j p) u l) (λ b. (b, refl)) refl (λ _ _. inl live) (stored_same sizes s.words i);
             tells = steps.at_once slots id me live slot inside R x (now, (spot, y) ∷ me.1) (
               (λ _. (
                 value,

@@ -58,7 +58,7 @@ use Rattle.sdd_domain_invariant.proofs.KindSteps as kind_steps
 use Rattle.sdd_domain_invariant.specs.Records.{IsIn, KnowsShown, IsKnown, IsTelling, AllShowKnown}
 use Rattle.sdd_domain_invariant.specs.Counts.{ended_places}
 use Rattle.sdd_domain_invariant.specs.FilledInvariant.{newest, HasRecord, Tells, FilledInvariant}
-use Rattle.sdd_domain_invariant.specs.LastFractions.{ShowOnly, LastsInvariant}
+use Rattle.sdd_domain_invariant.specs.LastFractions.{ShowOnly, IsRaw, LastsInvariant}
 use Rattle.sdd_domain_invariant.proofs.Part.{none_out, only_seen, of_another, before_slots, one_taken}
 use Rattle.sdd_domain_invariant.proofs.Part as part
 use Rattle.sdd_domain_invariant.proofs.Banks.{moves_none, moves_one, moves_other, moves_rest, outside_free, outside_moved, outside_there, outside_same, total_below, with_deposits, banked_then}
@@ -68,11 +68,13 @@ use Rattle.sdd_domain_invariant.proofs.Counts.{ended_spared, as_full, one_full, 
 use Rattle.sdd_domain_invariant.proofs.Records.{in_either, in_none, in_both, in_others, known_by, told_seen, comes_show, leaves_show}
 use Rattle.sdd_domain_invariant.proofs.Records as records
 use Rattle.sdd_domain_invariant.proofs.Fillings.{newest_before, TellsNoMore, has_none, has_either, has_old, told_by, tells_old, filled_after, filled_same, filled_housed}
-use Rattle.sdd_domain_invariant.proofs.Lasts.{none_shown, shown_leaves, shown_comes, raws_before, raws_same, raws_other, not_raw, raws_set, lasts_kept, lasts_fewer, lasts_given, lasts_dealt, one_bank}
+use Rattle.sdd_domain_invariant.specs.CellsInvariant.{cell_at, IsInCell}
+use Rattle.sdd_domain_invariant.proofs.Cells.{SameWords, no_change, words_below, words_same, in_cell_alive, in_cell_beside}
+use Rattle.sdd_domain_invariant.proofs.Lasts.{none_shown, shown_leaves, shown_comes, stored_before, stored_same, stored_other, not_stored, stored_set, lasts_kept, lasts_fewer, lasts_given, lasts_dealt, one_bank}
 use Rattle.sdd_domain_invariant.proofs.Rows.{Taken, Given, takes_row, gives_row, gives_purse, taken_lies, given_lies}
 use Rattle.sdd_domain_invariant.proofs.Telling.{one_moved, none_moved, one_view, owns_it, claimed_tells, moving_tells, held_tells, retired_tells, housed_tells, rested_tells, none_owns, none_waits, unknown_owned, unknown_waiting, comes_home}
 use Rattle.sdd_domain_invariant.proofs.Tops.{rest_is, share_one}
-use Rattle.sdd_domain_invariant.proofs.Lift.{Keeps, Follows, IsCalm, keeps_ended, lift_whole, lift_homes, lift_calm_whole, lift_calm, slots_before, stands, stands_by, stands_dealt}
+use Rattle.sdd_domain_invariant.proofs.Lift.{Keeps, Follows, IsCalm, keeps_ended, lift_whole, lift_homes, lift_calm_whole, lift_calm, stands, stands_by, stands_dealt}
 
 pub full_owned : (x : ℕ) → 0 < alive x → full x ≡ 1
 full_owned x h = (sound.lives x h).1
@@ -147,11 +149,13 @@ module _ (slots id : ℕ) (me : SeatState) (live : HasPlace me.0.epoch) where
     filled_by w same tells = filled_after sizes s.views h.filled id v at w same tells (λ _ _. inl live)
 
     -- what it has of counts and pledges stays
-    pub post : (w : View) → w.pledges ≡ v.pledges → w.slots.over ≡ v.slots.over → w.sizes ≡ v.sizes → (HasPlace v.epoch → HasPlace w.epoch) → KeepsPost v w
-    post w pledges over of lives = let near = (h.kept.parts.epoch.each id v.epoch (at_map epoch_of s.views id v at)).inside live in record {
+    pub post : (w : View) → w.pledges ≡ v.pledges → w.slots.over ≡ v.slots.over → w.sizes ≡ v.sizes → w.cells ≡ v.cells
+        → (HasPlace v.epoch → HasPlace w.epoch) → KeepsPost v w
+    post w pledges over of rights lives = let near = (h.kept.parts.epoch.each id v.epoch (at_map epoch_of s.views id v at)).inside live in record {
       pledges = pledges;
       over = over;
       sizes = of;
+      cells = rights;
       place = inl lives;
       records = λ none. absurd (omega arith);
       holds = λ none. absurd (omega arith);
@@ -229,8 +233,16 @@ module _ (slots id : ℕ) (me : SeatState) (live : HasPlace me.0.epoch) where
       over_slot y = ended_spared sizes s.words i y (λ p low e was. absurd (omega arith)) n (omega arith)
 
       -- a load leaves the words
-      pub same_slots : (j : ℕ) → slot_at sizes (set s.words i (get_or s.words i 0)) j ≡ slot_at sizes s.words j
-      same_slots j = ap (λ (l : List ℕ). slot_at sizes l j) (set-get_or s.words i 0)
+      pub same_slots : SameWords sizes s.words (set s.words i (get_or s.words i 0))
+      same_slots = words_same sizes s.words i
+
+      -- no cell holds an owner of a slot that has none
+      pub in_no_cell : alive (slot_at sizes s.words slot) ≡ 0 → ¬ (IsInCell sizes s.words slot)
+      in_no_cell dead c = let some = in_cell_alive sizes s.words s.views h.kept.parts.slots slot c in absurd (omega arith)
+
+      -- or whose only owner it has
+      pub in_no_cell_too : get_elem? s.views id ≡ some v → Owns v slot → alive (slot_at sizes s.words slot) ≡ 1 → ¬ (IsInCell sizes s.words slot)
+      in_no_cell_too at own one c = let more = in_cell_beside sizes s.words s.views h.kept.parts.slots slot c id v at in absurd (omega arith)
 
       pub same_words : (j : ℕ) → full_at sizes (set s.words i (get_or s.words i 0)) j ≡ full_at sizes s.words j
       same_words j = ap (λ (l : List ℕ). full_at sizes l j) (set-get_or s.words i 0)
@@ -242,13 +254,15 @@ module _ (slots id : ℕ) (me : SeatState) (live : HasPlace me.0.epoch) where
         (let sum = o.sums slot inside in let out = banks.moved_outside γ sizes s.words s.views h.bank id v at slot mine in omega arith)
 
     -- all fractions in it go home, and the slot is free
-    goes_home : (s : State ValueFraction View) (h : DomainInvariant γ sizes s) → get_elem? s.views id ≡ some v → Moves v slot → (rest : CarriedFractions)
+    goes_home : (s : State ValueFraction View) (h : DomainInvariant γ sizes s) → get_elem? s.views id ≡ some v → Moves v slot
+        → ¬ (IsInCell sizes s.words slot) → (rest : CarriedFractions)
         (g : Given γ n slot 0 IsNoValueCode s.homes rest me.1 (suc n)) (w : View) → w.stakes.bank ≡ v.stakes.bank → banked w ≡ banked v
         → w.stakes.filled ≡ v.stakes.filled
         → LastsInvariant sizes (set s.words i (free_word 0)) (set s.views id w) (homes_after s.homes me.1 g.act)
-    goes_home s h at mine rest g w bank same filled = lasts_given sizes s.words s.views s.homes h.lasts id v at γ slot 0 IsNoValueCode rest me.1 g
+    goes_home s h at mine free rest g w bank same filled = lasts_given sizes s.words s.views s.homes h.lasts id v at γ slot 0 IsNoValueCode rest me.1 g
         (λ a b e e'. e ∙ sym e') (set s.words i (free_word 0)) w (moved_unbanked s h at mine) (λ b. (sym bank ∙ b, same)) (λ k _. ap (newest k) filled)
-        (λ _. live) (not_raw sizes s.words slot (free_word 0) (within s h) (λ e. absurd (omega arith))) (raws_other sizes s.words slot (free_word 0))
+        (λ _. live) (not_stored sizes s.words slot (free_word 0) (within s h) (λ e. absurd (omega arith)) free)
+        (stored_other sizes s.words slot (free_word 0))
 
     -- claim a free slot, by a word with one owner, counted or not
     pub claims : (y : ℕ) → alive y ≡ 1 → v.stakes.moves ≡ None → May i (λ x. either (eqb x (free_word 0)) y x)
@@ -293,9 +307,10 @@ module _ (slots id : ℕ) (me : SeatState) (live : HasPlace me.0.epoch) where
               (λ k ne. moves_other k now slot refl ne ∙ sym (moves_rest k v rests)) (others s.words y);
           lasts = lasts_fewer sizes s.words s.views s.homes h.lasts id v at (set s.words i y) now (homes_after s.homes me.1 tk.act)
               (λ j p y near l. (taken_lies γ n slot 0 IsNoValueCode s.homes me.1 tk j p y near l).1) (λ b. (b, refl)) refl (λ _ _. inl live)
-              (raws_set sizes s.words slot y (within s h) (λ e. let dead = ap alive e ∙ (raw_is 0 (omega arith)).0 in absurd (omega arith)));
+              (stored_set sizes s.words slot y (within s h) (λ e. let dead = ap alive e ∙ (raw_is 0 (omega arith)).0 in absurd (omega arith))
+              (λ c. absurd (in_no_cell s h dead c)));
           kinds = kind_steps.claims sizes s.words s.views h.kinds h.records.each id v at slot y refl inside owns_one (here s.words y (within s h)) nobody
-              (post s h at now refl refl refl (λ l. l));
+              (in_no_cell s h dead) (post s h at now refl refl refl refl (λ l. l));
           tells = at_once (λ slot. ClaimsAll slot (free_word 0) y) x (now, carried_after me.1 tk.act)
               ((λ _. (refl, tk.row, written_now v slot y inside (h.kinds.each id v at).long)), (λ no. absurd (no hit)), c.2);
         })
@@ -312,9 +327,9 @@ module _ (slots id : ℕ) (me : SeatState) (live : HasPlace me.0.epoch) where
           bank = banks.alike γ sizes s.words s.views h.bank id v at (set s.words i x) v (refl, refl, refl, (λ _. refl), refl)
               (λ j _. same_words s h j);
           lasts = lasts_fewer sizes s.words s.views s.homes h.lasts id v at (set s.words i x) v s.homes (λ _ _ _ _ l. l) (λ b. (b, refl)) refl
-              (λ _ _. inl live) (raws_same sizes s.words i);
+              (λ _ _. inl live) (stored_same sizes s.words i);
           kinds = kind_steps.calm sizes s.words s.views h.kinds h.records.each id v at (set s.words i x) v (same_slots s h)
-              (refl, refl, refl, (λ _. refl), refl) refl refl (λ _ o. o) (post s h at v refl refl refl (λ l. l));
+              (refl, refl, refl, (λ _. refl), refl) refl refl (λ _ o. o) (post s h at v refl refl refl refl (λ l. l));
           tells = at_once (λ slot. ClaimsAll slot (free_word 0) y) x me ((λ hit. absurd (miss hit)), (λ _. refl), c.2);
         }))
 
@@ -387,7 +402,7 @@ module _ (slots id : ℕ) (me : SeatState) (live : HasPlace me.0.epoch) where
                       (λ (a : HasRecord t.1.stakes.waits x). inr (inr (a.0, x, a.1, sym e, refl))) t.3,
                 )) w refl refl refl)
                 (kind_steps.houses sizes s.words s.views h.kinds h.records.each id v at slot shared value mine own kind
-                (post s h at w refl refl refl (λ l. l))) bd b there ne ls shown
+                (post s h at w refl refl refl refl (λ l. l))) bd b there ne ls shown
                 (banks.deals γ sizes s.words s.views h.bank id v at bd b there bank ne w ls brought.deposits refl refl
                 (λ k. dite (ℕ_discrete k slot)
                 (λ e. let o = is_same k slot (sym e) in let none = banks.none_drawn γ sizes s.words s.views h.bank id v at slot inside mine in
@@ -404,7 +419,9 @@ module _ (slots id : ℕ) (me : SeatState) (live : HasPlace me.0.epoch) where
                 (lasts_dealt sizes s.words (set s.views id w) (homes_after s.homes me.1 g.act)
                 (lasts_given sizes s.words s.views s.homes h.lasts id v at γ slot (spare n) (IsValue value) rest me.1 g (λ c d e e'. e.1 ∙ sym e'.1)
                 s.words w (moved_unbanked s h at mine) (λ b. (b, refl)) (λ k apart. newest_before r v.stakes.filled k (λ e. apart (sym e))) (λ _. live)
-                (λ raw. let a = ap alive raw in let dead = (raw_is 0 (omega arith)).0 in omega arith) (λ _ _ _ raw. raw))
+                (λ _ is. let one = (h.kinds.each id v at).sole slot mine own in ⊎_elim
+                (λ (a : IsRaw sizes s.words slot × _). let e = ap alive a.0 in let dead = (raw_is 0 (omega arith)).0 in absurd (omega arith))
+                (λ (b : IsInCell sizes s.words slot × _). in_no_cell_too s h at own one b.0) is) (λ _ _ _ _ is. is))
                 γ bd b (set_else s.views id bd w (λ e. ne (sym e)) ∙ there) bank ls (h.bank.banks bd b there bank).book brought.deposits
                 (λ k z low last show. shown_comes k z.lot.shown (banked b) l ls brought.comes show (λ same. ⊎_elim
                 (λ (d : (k ≡ slot) × Has γ slot (share n (spare n) n) (IsValue value) z).
@@ -479,7 +496,7 @@ module _ (slots id : ℕ) (me : SeatState) (live : HasPlace me.0.epoch) where
                 came
                 (uncounted_alone sizes s.words s.views h.counts id v at w same refl)
                 (filled_by s h at w kept no_more)
-                (kind_steps.comes_to_move sizes s.words s.views h.kinds h.records.each id v at slot t is fewer held (post s h at w refl refl refl (λ l. l))) bd
+                (kind_steps.comes_to_move sizes s.words s.views h.kinds h.records.each id v at slot t is fewer held (post s h at w refl refl refl refl (λ l. l))) bd
                 b there ne ls shown
                 (banks.deals γ sizes s.words s.views h.bank id v at bd b there bank ne w ls goes.deposits bank_is founds_is (h.bank.low id v at)
                 (λ k near. dite (ℕ_discrete k slot)
@@ -493,7 +510,7 @@ module _ (slots id : ℕ) (me : SeatState) (live : HasPlace me.0.epoch) where
                 (lasts_fewer sizes s.words s.views s.homes h.lasts id v at s.words w (homes_after s.homes me.1 tk.act)
                 (λ j p y near l. (taken_lies γ n slot (spare n) Is s.homes me.1 tk j p y near l).1)
                 (λ mine. absurd (one_bank γ sizes s.words s.views h.bank id bd v b ne at there (sym bank_is ∙ mine) bank)) kept (λ _ _. inl live)
-                (λ _ _ raw. raw))
+                (λ _ _ _ is. is))
                 γ bd b (set_else s.views id bd w (λ e. ne (sym e)) ∙ there) bank ls balance.book goes.deposits
                 (λ k z low last show. (shown_leaves k z.lot.shown (banked b) l ls goes.goes show).0));
             ours = bank;
@@ -533,8 +550,8 @@ module _ (slots id : ℕ) (me : SeatState) (live : HasPlace me.0.epoch) where
                 (part.calm γ sizes s.words s.views s.homes h.homes id v at s.words w (λ j p out. out) (λ j _. refl) (h.homes.moving id v at))
                 came
                 (uncounted_alone sizes s.words s.views h.counts id v at w refl refl) (still_filled s h at w refl refl refl)
-                (kind_steps.same sizes s.words s.views h.kinds h.records.each id v at w refl refl refl refl refl refl s.words (λ j. refl)
-                (post s h at w refl refl refl (λ l. l))) bd b there ne ls shown
+                (kind_steps.same sizes s.words s.views h.kinds h.records.each id v at w refl refl refl refl refl refl s.words (no_change sizes s.words)
+                (post s h at w refl refl refl refl (λ l. l))) bd b there ne ls shown
                 (banks.deals γ sizes s.words s.views h.bank id v at bd b there bank ne w ls brought.deposits refl refl
                 (λ k. let low = h.bank.low id v at k in let e = less k in omega arith)
                 (λ k near. let u = outside_same sizes s.words s.words s.views vs' k refl
@@ -545,7 +562,7 @@ module _ (slots id : ℕ) (me : SeatState) (live : HasPlace me.0.epoch) where
                 (λ apart. let o = is_other k slot (λ e. apart (sym e)) in let same = brought.others k (λ e. apart (e ∙ number)) in omega arith)))
                 (lasts_dealt sizes s.words (set s.views id w) s.homes
                 (lasts_fewer sizes s.words s.views s.homes h.lasts id v at s.words w s.homes (λ _ _ _ _ l. l) (λ b. (b, refl)) refl (λ _ _. inl live)
-                (λ _ _ raw. raw))
+                (λ _ _ _ is. is))
                 γ bd b (set_else s.views id bd w (λ e. ne (sym e)) ∙ there) bank ls (h.bank.banks bd b there bank).book brought.deposits
                 (λ k z low last show. shown_comes k z.lot.shown (banked b) l ls brought.comes show
                 (λ e. let same : slot ≡ k = sym number ∙ e in sym (subst (λ (x : ℕ). z.lot.shown ≡ l.shown) same
@@ -597,6 +614,13 @@ module _ (slots id : ℕ) (me : SeatState) (live : HasPlace me.0.epoch) where
           is,
         ))
 
+    -- no cell holds an owner of a slot whose item waits with it
+    unfilled : (s : State ValueFraction View) (h : DomainInvariant γ sizes s) → get_elem? s.views id ≡ some v → 0 < items_at slot v
+        → ¬ (IsInCell sizes s.words slot)
+    unfilled s h at waits c = let some = in_cell_alive sizes s.words s.views h.kept.parts.slots slot c in
+        let quiet = (sound.lives (slot_at sizes s.words slot) some).0 in let one = total_has (items_at slot) s.views id v at in
+        let sum = h.kept.parts.slots.waited slot in absurd (omega arith)
+
     -- it was moved out
     pub gives_all : Moves v slot → IsDue v slot → (rest : CarriedFractions) → CarriesAll γ slot n 0 IsNoValueCode rest me.1
         → May i (λ _. free_word 0) (λ _. OfSlot GivesAll i me (free_word 0))
@@ -631,11 +655,11 @@ module _ (slots id : ℕ) (me : SeatState) (live : HasPlace me.0.epoch) where
               (banks.moved_outside γ sizes s.words s.views h.bank id v at slot mine)
               (outside_free sizes (set s.words i y) (set s.views id (giving now)) slot (ap full (here s.words y (within s h)) ∙ empty))
               (λ k ne. sym (moves_other k v slot mine ne)) (others s.words y);
-          lasts = goes_home s h at mine rest g (giving now) refl refl refl;
+          lasts = goes_home s h at mine (unfilled s h at (let once = c.1 in omega arith)) rest g (giving now) refl refl refl;
           kinds = let waits : 0 < items_at slot v = (let once = c.1 in omega arith) in
               kind_steps.frees sizes s.words s.views h.kinds h.records.each id v at slot y (giving now) inside mine (wrote_long s h at y) refl refl (λ _ _ o. o)
               (here s.words y (within s h)) (λ j u _ e. none_owns γ sizes s h slot id v at waits j u e) (free_is 0 (omega arith)).0
-              (post s h at (giving now) refl refl refl (λ l. l));
+              (unfilled s h at waits) (post s h at (giving now) refl refl refl refl (λ l. l));
           tells = at_once GivesAll y (giving now, carried_after me.1 g.act)
               (now, (refl, c.1), refl, g.carried ∙ sym (rest_is γ slot n 0 IsNoValueCode rest (suc n) me.1 row));
         })
@@ -700,13 +724,14 @@ module _ (slots id : ℕ) (me : SeatState) (live : HasPlace me.0.epoch) where
               (banks.moved_outside γ sizes s.words s.views h.bank id v at slot mine)
               (outside_free sizes (set s.words i y) (set s.views id (dropping now)) slot (ap full (here s.words y (within s h)) ∙ empty))
               (λ k ne. sym (moves_other k v slot mine ne)) (others s.words y);
-          lasts = goes_home s h at mine rest g (dropping now) refl refl refl;
+          lasts = goes_home s h at mine (in_no_cell_too s h at ((h.kept.parts.slots.each id v at).held slot held).0
+              (held_is codes sound sizes s.words s.views h.kept.parts.slots id slot v at held)) rest g (dropping now) refl refl refl;
           kinds = let one = held_is codes sound sizes s.words s.views h.kept.parts.slots id slot v at held in
               let own = ((h.kept.parts.slots.each id v at).held slot held).0 in
               kind_steps.frees sizes s.words s.views h.kinds h.records.each id v at slot y (dropping now) inside mine (wrote_long s h at y) refl refl
               (λ k ne o. absurd (ne (let c : Some slot ≡ Some k = sym held ∙ o in let e : k ≡ slot = cc in e))) (here s.words y (within s h))
               (λ j u apart e o. let both = owners_in codes sound sizes s.words s.views h.kept.parts.slots j id slot u v apart e at in omega arith)
-              (free_is 0 (omega arith)).0 (post s h at (dropping now) refl refl refl (λ l. l));
+              (free_is 0 (omega arith)).0 (in_no_cell_too s h at own one) (post s h at (dropping now) refl refl refl refl (λ l. l));
           tells = at_once DiscardsAll y (dropping now, carried_after me.1 g.act)
               (refl, g.carried ∙ sym (rest_is γ slot n 0 IsNoValueCode rest (suc n) me.1 row));
         })
@@ -724,9 +749,9 @@ module _ (slots id : ℕ) (me : SeatState) (live : HasPlace me.0.epoch) where
           counts = refl;
           lives = λ l. l;
           had = λ _ l. inl l;
-          raws = raws_same sizes s.words i;
+          stored = stored_same sizes s.words i;
           kinds = kind_steps.calm sizes s.words s.views h.kinds h.records.each id v at (set s.words i (get_or s.words i 0)) v (same_slots s h)
-              (refl, refl, refl, (λ _. refl), refl) refl refl (λ _ o. o) (post s h at v refl refl refl (λ l. l));
+              (refl, refl, refl, (λ _. refl), refl) refl refl (λ _ o. o) (post s h at v refl refl refl refl (λ l. l));
         })
 
     -- what an only owner shows, which isn't counted; and one of several
@@ -776,12 +801,12 @@ module _ (slots id : ℕ) (me : SeatState) (live : HasPlace me.0.epoch) where
                 record { bank = refl; founds = refl; book = refl; banked = refl; drawn = refl } refl
                 (λ k. let z = ap (times k) empty in omega arith) same;
             lasts = lasts_fewer sizes s.words s.views s.homes h.lasts id v at (set s.words i y) now s.homes (λ _ _ _ _ l. l) (λ b. (b, refl)) refl
-                (λ _ _. inl live) (raws_set sizes s.words slot y (within s h)
-                (λ e. let quiet = ap waiting e ∙ (raw_is 0 (omega arith)).1 in absurd (omega arith)));
+                (λ _ _. inl live) (stored_set sizes s.words slot y (within s h)
+                (λ e. let quiet = ap waiting e ∙ (raw_is 0 (omega arith)).1 in absurd (omega arith)) (λ c. absurd (in_no_cell_too s h at own one c)));
             kinds = kind_steps.goes sizes s.words s.views h.kinds h.records.each id v at slot y now inside (wrote_long s h at y) rests refl (λ _ o. o) word
                 (λ j u apart e. inl (λ o. let both = owners_in codes sound sizes s.words s.views h.kept.parts.slots j id slot u v apart e at in omega arith))
-                (λ c. inl (let z = dead in omega arith))
-                (post s h at now refl refl refl (λ l. l));
+                (λ c. inl (let z = dead in omega arith)) (λ c. absurd (in_no_cell_too s h at own one c))
+                (post s h at now refl refl refl refl (λ l. l));
             tells = telling_it (now, me.1) (retired slot y c.0 v, (c.0, c.1, c.2, refl, c.4, c.5), refl, refl);
           }
 
@@ -811,9 +836,9 @@ module _ (slots id : ℕ) (me : SeatState) (live : HasPlace me.0.epoch) where
       filled = still_filled s h at v refl refl refl;
       bank = banks.alike γ sizes s.words s.views h.bank id v at (set s.words i x) v (refl, refl, refl, (λ _. refl), refl) (λ j _. same_words s h j);
       lasts = lasts_fewer sizes s.words s.views s.homes h.lasts id v at (set s.words i x) v s.homes (λ _ _ _ _ l. l) (λ b. (b, refl)) refl
-          (λ _ _. inl live) (raws_same sizes s.words i);
+          (λ _ _. inl live) (stored_same sizes s.words i);
       kinds = kind_steps.calm sizes s.words s.views h.kinds h.records.each id v at (set s.words i x) v (same_slots s h)
-          (refl, refl, refl, (λ _. refl), refl) refl refl (λ _ o. o) (post s h at v refl refl refl (λ l. l));
+          (refl, refl, refl, (λ _. refl), refl) refl refl (λ _ o. o) (post s h at v refl refl refl refl (λ l. l));
       tells = tells;
     }
 
@@ -868,11 +893,11 @@ module _ (slots id : ℕ) (me : SeatState) (live : HasPlace me.0.epoch) where
                   record { bank = refl; founds = refl; book = refl; banked = refl; drawn = refl } refl
                   (λ k. let z = ap (times k) empty in omega arith) same;
               lasts = lasts_fewer sizes s.words s.views s.homes h.lasts id v at (set s.words i y) now s.homes (λ _ _ _ _ l. l) (λ b. (b, refl)) refl
-                  (λ _ _. inl live) (raws_set sizes s.words slot y (within s h)
-                  (λ e. let dead = ap alive e ∙ (raw_is 0 (omega arith)).0 in absurd (omega arith)));
+                  (λ _ _. inl live) (stored_set sizes s.words slot y (within s h)
+                  (λ e. let dead = ap alive e ∙ (raw_is 0 (omega arith)).0 in absurd (omega arith)) (λ _. fewer.3 ∙ sym several));
               kinds = kind_steps.goes sizes s.words s.views h.kinds h.records.each id v at slot y now inside (wrote_long s h at y) rests refl (λ _ o. o) word
                   (λ j u apart e. inr (still_owned γ sizes s h slot id j v u at e (λ z. apart (sym z)) own, fewer.3 ∙ sym several))
-                  (λ c. inr (several, (let n = fewer.0 in omega arith))) (post s h at now refl refl refl (λ l. l));
+                  (λ c. inr (several, (let n = fewer.0 in omega arith))) (λ _. fewer.3 ∙ sym several) (post s h at now refl refl refl refl (λ l. l));
               tells = tells;
             }
 
@@ -932,9 +957,9 @@ module _ (slots id : ℕ) (me : SeatState) (live : HasPlace me.0.epoch) where
               (records.calm sizes s.views s.homes r id v at v (refl, refl, refl, (λ _. refl), refl)) (still_filled s h at v refl refl refl)
               (banks.alike γ sizes s.words s.views h.bank id v at s.words v (refl, refl, refl, (λ _. refl), refl) (λ _ _. refl))
               (lasts_fewer sizes s.words s.views s.homes h.lasts id v at s.words v s.homes (λ _ _ _ _ l. l) (λ b. (b, refl)) refl (λ _ _. inl live)
-              (λ _ _ is. is))
-              (kind_steps.same sizes s.words s.views h.kinds h.records.each id v at v refl refl refl refl refl refl s.words (λ j. refl)
-              (post s h at v refl refl refl (λ l. l))),
+              (λ _ _ _ is. is))
+              (kind_steps.same sizes s.words s.views h.kinds h.records.each id v at v refl refl refl refl refl refl s.words (no_change sizes s.words)
+              (post s h at v refl refl refl refl (λ l. l))),
           (
             (λ _. (refl, subst (IsIn v.stakes.sees slot) (r.agree slot is.0 value (mine slot is.0 (inr (inl is.1))) known) is.1)),
             (λ unseen. absurd (unseen sees)),
@@ -992,9 +1017,9 @@ module _ (slots id : ℕ) (me : SeatState) (live : HasPlace me.0.epoch) where
               (banks.calm γ sizes s.words s.views h.bank id v at s.words now
               record { bank = refl; founds = refl; book = refl; banked = refl; drawn = refl } refl (h.bank.low id v at) (λ _ _. refl))
               (lasts_fewer sizes s.words s.views s.homes h.lasts id v at s.words now (set s.homes spot none)
-              (λ j p z _ lies. one_taken s.homes spot (stake_at n j p) z lies) (λ b. (b, refl)) refl (λ _ _. inl live) (λ _ _ is. is))
-              (kind_steps.same sizes s.words s.views h.kinds h.records.each id v at now refl refl refl refl refl refl s.words (λ j. refl)
-              (post s h at now refl refl refl (λ l. l))),
+              (λ j p z _ lies. one_taken s.homes spot (stake_at n j p) z lies) (λ b. (b, refl)) refl (λ _ _. inl live) (λ _ _ _ is. is))
+              (kind_steps.same sizes s.words s.views h.kinds h.records.each id v at now refl refl refl refl refl refl s.words (no_change sizes s.words)
+              (post s h at now refl refl refl refl (λ l. l))),
           ((λ sees. absurd (unseen sees)), (λ _. (y, it, refl))),
         ))
 
@@ -1015,10 +1040,10 @@ module _ (slots id : ℕ) (me : SeatState) (live : HasPlace me.0.epoch) where
           counts = refl;
           lives = λ l. l;
           had = λ _ l. inl l;
-          raws = raws_same sizes s.words i;
+          stored = stored_same sizes s.words i;
           kinds = kind_steps.calm sizes s.words s.views h.kinds h.records.each id v at (set s.words i (get_or s.words i 0)) (held slot v) (same_slots s h)
               (refl, refl, refl, (λ _. refl), refl) refl refl (λ k o. let c : None ≡ Some k = sym free ∙ o in cc)
-              (post s h at (held slot v) refl refl refl (λ l. l));
+              (post s h at (held slot v) refl refl refl refl (λ l. l));
         })
 
     -- which it told of as an only owner's
@@ -1036,7 +1061,7 @@ module _ (slots id : ℕ) (me : SeatState) (live : HasPlace me.0.epoch) where
           counts = refl;
           lives = λ l. l;
           had = λ _ l. inl l;
-          raws = raws_same sizes s.words i;
+          stored = stored_same sizes s.words i;
           kinds = kind_steps.stays sizes s.words s.views h.kinds h.records.each id v at (set s.words i (get_or s.words i 0)) (release_hold v) (same_slots s h)
               record {
                 long = (h.kinds.each id v at).long;
@@ -1047,7 +1072,7 @@ module _ (slots id : ℕ) (me : SeatState) (live : HasPlace me.0.epoch) where
                     ∙ (((h.kept.parts.slots.each id v at).held slot held).1 ∙ sym (ap one_where (single r a e))))
                     (λ ne. (h.kinds.each id v at).told r a (λ o. ne (let c : Some slot ≡ Some r.slot = sym held ∙ o in let e : r.slot ≡ slot = cc in e)));
               }
-              (post s h at (release_hold v) refl refl refl (λ l. l));
+              (post s h at (release_hold v) refl refl refl refl (λ l. l));
         })
 
     -- another word comes to stand there that says one owner, who has it
@@ -1087,10 +1112,10 @@ module _ (slots id : ℕ) (me : SeatState) (live : HasPlace me.0.epoch) where
           counts = refl;
           lives = λ l. l;
           had = λ _ l. inl l;
-          raws = raws_set sizes s.words slot held_word (within s h) (λ e. absurd (omega arith));
+          stored = stored_set sizes s.words slot held_word (within s h) (λ e. absurd (omega arith)) (λ c. absurd (in_no_cell_too s h at own one c));
           kinds = kind_steps.takes_hold sizes s.words s.views h.kinds h.records.each id v at slot held_word (held_by slot held_word v) inside
               (wrote_long s h at held_word) rests refl free refl (here s.words held_word (within s h)) (no_other s h at own one held_word only_held.0)
-              only_held.2 (post s h at (held_by slot held_word v) refl refl refl (λ l. l));
+              only_held.2 (in_no_cell_too s h at own one) (post s h at (held_by slot held_word v) refl refl refl refl (λ l. l));
         })
         (λ miss. subst (IsCalm γ sizes slots id me i f s x) (sym (c.3 miss)) record {
           more = λ j p out. out;
@@ -1100,9 +1125,9 @@ module _ (slots id : ℕ) (me : SeatState) (live : HasPlace me.0.epoch) where
           counts = refl;
           lives = λ l. l;
           had = λ _ l. inl l;
-          raws = raws_same sizes s.words i;
+          stored = stored_same sizes s.words i;
           kinds = kind_steps.calm sizes s.words s.views h.kinds h.records.each id v at (set s.words i x) v (same_slots s h)
-              (refl, refl, refl, (λ _. refl), refl) refl refl (λ _ o. o) (post s h at v refl refl refl (λ l. l));
+              (refl, refl, refl, (λ _. refl), refl) refl refl (λ _ o. o) (post s h at v refl refl refl refl (λ l. l));
         }))
 
     -- let go of it, by a word that says of its owner what it told of it
@@ -1123,10 +1148,11 @@ module _ (slots id : ℕ) (me : SeatState) (live : HasPlace me.0.epoch) where
           counts = refl;
           lives = λ l. l;
           had = λ _ l. inl l;
-          raws = raws_set sizes s.words slot y (within s h) (λ e. let dead = ap alive e ∙ (raw_is 0 (omega arith)).0 in absurd (omega arith));
+          stored = stored_set sizes s.words slot y (within s h) (λ e. let dead = ap alive e ∙ (raw_is 0 (omega arith)).0 in absurd (omega arith))
+              (λ c. absurd (in_no_cell_too s h at own one c));
           kinds = kind_steps.shares_again sizes s.words s.views h.kinds h.records.each id v at slot y (shared_again slot y v) inside
               (wrote_long s h at y) rests refl holds kind (here s.words y (within s h)) (no_other s h at own one y is_one)
-              is_one (post s h at (shared_again slot y v) refl refl refl (λ l. l));
+              is_one (in_no_cell_too s h at own one) (post s h at (shared_again slot y v) refl refl refl refl (λ l. l));
         })
 
   -- beside a slot's owner it learns what it knows of the slot, and nothing changes
@@ -1161,7 +1187,7 @@ module _ (slots id : ℕ) (me : SeatState) (live : HasPlace me.0.epoch) where
       let same = λ (k : ℕ) (_ : k < sizes.slots). ap (λ (l : List ℕ). full_at sizes l k) (set-get_or s.words j 0) in
       let calm = λ (w : View). IsCalm γ sizes slots id me j (λ x. x) s x w in
       let kinds = λ (w : View). kind_steps.calm sizes s.words s.views h.kinds h.records.each id v at (set s.words j x) w
-      (slots_before sizes s.words j x (omega arith)) in
+      (words_below sizes s.words j x (omega arith)) in
       dite (ℕ_discrete x 2)
       (λ e. subst calm (sym (c.1 e)) record {
         more = λ k p out. out;
@@ -1171,8 +1197,8 @@ module _ (slots id : ℕ) (me : SeatState) (live : HasPlace me.0.epoch) where
         counts = refl;
         lives = λ l. l;
         had = λ _ l. inl l;
-        raws = raws_same sizes s.words j;
-        kinds = kinds v (refl, refl, refl, (λ _. refl), refl) refl refl (λ _ o. o) (post s h at v refl refl refl (λ l. l));
+        stored = stored_same sizes s.words j;
+        kinds = kinds v (refl, refl, refl, (λ _. refl), refl) refl refl (λ _ o. o) (post s h at v refl refl refl refl (λ l. l));
       })
       (λ ne. subst calm (sym (c.0 ne)) record {
         more = λ k p out. out;
@@ -1182,9 +1208,9 @@ module _ (slots id : ℕ) (me : SeatState) (live : HasPlace me.0.epoch) where
         counts = refl;
         lives = λ l. l;
         had = λ _ l. inl l;
-        raws = raws_same sizes s.words j;
+        stored = stored_same sizes s.words j;
         kinds = kinds (looked_past place v) (refl, refl, refl, (λ _. refl), refl) refl refl (λ _ o. o)
-            (post s h at (looked_past place v) refl refl refl (λ l. l));
+            (post s h at (looked_past place v) refl refl refl refl (λ l. l));
       }))
 
   -- the last guard is closed, whose stakes go home
@@ -1242,9 +1268,9 @@ module _ (slots id : ℕ) (me : SeatState) (live : HasPlace me.0.epoch) where
             let known : IsKnown s.views k d.1 = subst (λ (l : ℕ). IsKnown s.views l d.1) (sym slot) (mine d.0 d.1 (inr (inl d.2))) in
             inr ((λ e. absurd (omega arith)), λ z last. d.4.1.1 ∙ sym (r.home k n d.1 z low' (omega arith) known last)))
             (λ (d : LiesAt n s.homes k p y). inl d) (g.home (stake_at n k p) y lies))
-            (λ b. (b, refl)) refl (λ _ _. inl live) (raws_before sizes s.words j 1 (omega arith));
+            (λ b. (b, refl)) refl (λ _ _. inl live) (stored_before sizes s.words j 1 (omega arith));
         kinds = kind_steps.same sizes s.words s.views h.kinds h.records.each id v at (unsighted now) refl refl refl refl refl refl (set s.words j 1)
-            (slots_before sizes s.words j 1 (omega arith)) (post s h at (unsighted now) refl refl refl (λ _. omega arith));
+            (words_below sizes s.words j 1 (omega arith)) (post s h at (unsighted now) refl refl refl refl (λ _. omega arith));
         tells = (now, refl, refl, g.carried);
       })
 
@@ -1300,7 +1326,7 @@ module _ (γ : ℕ) (sizes : Sizes) (slots id : ℕ) (me : SeatState) (p state :
         let calm = IsCalm γ sizes slots id me spot bar_it s left in
         let mover = h.homes.moving id me.0 at in
         let kinds = λ (u : View). kind_steps.calm sizes s.words s.views h.kinds h.records.each id me.0 at (set s.words spot left) u
-        (slots_before sizes s.words spot left (omega arith)) in
+        (words_below sizes s.words spot left (omega arith)) in
         ⊎_elim (λ (e : w ≡ past p me.0). subst calm (sym e) record {
           more = λ j q out. out;
           same = same;
@@ -1309,9 +1335,9 @@ module _ (γ : ℕ) (sizes : Sizes) (slots id : ℕ) (me : SeatState) (p state :
           counts = refl;
           lives = λ l. l;
           had = λ _ l. inl l;
-          raws = raws_before sizes s.words spot left (omega arith);
+          stored = stored_before sizes s.words spot left (omega arith);
           kinds = kinds (past p me.0) (refl, refl, refl, (λ _. refl), refl) refl refl (λ _ o. o)
-              (same_post me.0 (past p me.0) refl refl refl (λ l. l) refl refl);
+              (same_post me.0 (past p me.0) refl refl refl refl (λ l. l) refl refl);
         })
         (λ (e : w ≡ me.0). subst calm (sym e) record {
           more = λ j q out. out;
@@ -1321,8 +1347,8 @@ module _ (γ : ℕ) (sizes : Sizes) (slots id : ℕ) (me : SeatState) (p state :
           counts = refl;
           lives = λ l. l;
           had = λ _ l. inl l;
-          raws = raws_before sizes s.words spot left (omega arith);
-          kinds = kinds me.0 (refl, refl, refl, (λ _. refl), refl) refl refl (λ _ o. o) (same_post me.0 me.0 refl refl refl (λ l. l) refl refl);
+          stored = stored_before sizes s.words spot left (omega arith);
+          kinds = kinds me.0 (refl, refl, refl, (λ _. refl), refl) refl refl (λ _ o. o) (same_post me.0 me.0 refl refl refl refl (λ l. l) refl refl);
         }) which
 
   which_of : (r : ℕ) (w : View) → Bars state spot me.0 r w → ((r ≡ state) ⊎ IsBarred r) × (w ≡ past p me.0) ⊎ (w ≡ me.0)
@@ -1395,8 +1421,11 @@ module _ (γ : ℕ) (sizes : Sizes) (slots id : ℕ) (me : SeatState) (slot : �
         counts = refl;
         lives = λ l. l;
         had = λ _ l. inl l;
-        raws = raws_same sizes s.words word;
+        stored = stored_same sizes s.words word;
         kinds = kind_steps.calm sizes s.words s.views h.kinds h.records.each id me.0 at (set s.words word x) (record me.0 { places = (looked_for x w t).0 })
-            (λ j. ap (λ (l : List ℕ). slot_at sizes l j) (as_before s h at)) (refl, refl, refl, (λ _. refl), refl) refl refl (λ _ o. o)
-            (same_post me.0 (record me.0 { places = (looked_for x w t).0 }) refl refl refl (λ l. l) refl refl);
+            record {
+              cells = λ j _. ap (λ (l : List ℕ). cell_at sizes l j) (as_before s h at);
+              slots = λ j. ap (λ (l : List ℕ). slot_at sizes l j) (as_before s h at);
+            } (refl, refl, refl, (λ _. refl), refl) refl refl (λ _ o. o)
+            (same_post me.0 (record me.0 { places = (looked_for x w t).0 }) refl refl refl refl (λ l. l) refl refl);
       })

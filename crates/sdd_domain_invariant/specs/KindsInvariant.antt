@@ -14,6 +14,7 @@ use Rattle.sdd_domain_invariant.specs.BankInvariant.{one_where}
 use Rattle.sdd_domain_invariant.specs.FilledInvariant.{HasRecord}
 use Rattle.sdd_domain_invariant.specs.BoundInvariant.{BoundInvariant}
 use Rattle.sdd_domain_invariant.specs.PledgesInvariant.{PledgesInvariant}
+use Rattle.sdd_domain_invariant.specs.CellsInvariant.{CellsInvariant}
 
 -- the word of a slot as it wrote it last
 abbrev pub written : View → ℕ → ℕ
@@ -27,8 +28,9 @@ pub record KnowsKinds (sizes : Sizes) (ws : List ℕ) (v : View) : Type 0 where
   pub claimed : (i : ℕ) → Moves v i → Owns v i → ¬ (Holds v i) → counted (slot_at sizes ws i) ≡ counted (written v i)
   pub told : (r : ShownValue) → HasRecord v.stakes.owns r → ¬ (Holds v r.slot) → counted (slot_at sizes ws r.slot) ≡ one_where r.shared
 
--- the owners' part: the words, what all participants know, how many owners words count, and what is pledged
+-- the owners' part: the words, what all participants know, how many owners words count, what is pledged, and what cells hold
 pub record KindsInvariant (sizes : Sizes) (ws : List ℕ) (vs : List View) : Type 0 where
   pub each : (j : ℕ) (v : View) → get_elem? vs j ≡ some v → KnowsKinds sizes ws v
   pub bound : BoundInvariant sizes ws vs
   pub pledges : PledgesInvariant vs
+  pub cells : CellsInvariant sizes ws vs

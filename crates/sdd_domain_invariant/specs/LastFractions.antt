@@ -1,5 +1,5 @@
--- The last fractions' part of the rule: what is known of what a slot shows where no participant knows it, as of an item that is out as raw
-use Rattle.std.specs.Prelude.{◌≡◌, ℕ, ◌<◌, ◌≤◌, List, [], ◌∷◌, Some, false}
+-- The last fractions' part of the rule: what is known of what a slot shows where no participant knows it, as of an item that is out as raw or in a cell
+use Rattle.std.specs.Prelude.{◌≡◌, ◌⊎◌, ℕ, ◌<◌, ◌≤◌, Bool, List, [], ◌∷◌, Some, false}
 use mathlib.Core.Option.{some}
 use lib.ListN.{get_elem?}
 use base.Stored.{Gv}
@@ -7,12 +7,13 @@ use Rattle.sdd_shared_values.specs.ValueFractions.{FractionContent}
 use Rattle.sdd_shared_values.specs.declared.value_fraction.ValueFraction.{ValueFraction}
 use Rattle.sdd_views.specs.declared.View.{View}
 use Rattle.sdd_views.specs.declared.Sizes.{Sizes}
-use Rattle.sdd_word_invariant.specs.Codes.{raw_word}
+use Rattle.sdd_word_invariant.specs.Codes.{counted, raw_word}
 use Rattle.sdd_word_invariant.specs.Epoch.{HasPlace}
 use Rattle.sdd_word_invariant.specs.Slots.{slot_at}
 use Rattle.sdd_domain_invariant.specs.FractionsAtHome.{FractionsAtHome, LiesAt}
 use Rattle.sdd_domain_invariant.specs.FilledInvariant.{newest}
-use Rattle.sdd_domain_invariant.specs.BankInvariant.{banked, IsBank}
+use Rattle.sdd_domain_invariant.specs.BankInvariant.{one_where, banked, IsBank}
+use Rattle.sdd_domain_invariant.specs.CellsInvariant.{IsInCell}
 
 -- those of these deposits that are of the slot i show g
 abbrev pub ShowOnly : ℕ → Gv → List FractionContent → Type 0
@@ -31,15 +32,19 @@ LastIs sizes hs i z = LiesAt sizes.participants hs i sizes.participants z
 abbrev pub ShowsLast : Sizes → FractionsAtHome → View → Type 0
 ShowsLast sizes hs b = (i : ℕ) (z : ValueFraction) → i < sizes.slots → LastIs sizes hs i z → ShowOnly i z.lot.shown (banked b)
 
--- what an item shows that is out as raw it moved in last, for an owner that was the only one
-abbrev pub KnowsRaw : Sizes → List ℕ → FractionsAtHome → View → Type 0
-KnowsRaw sizes ws hs v = (i : ℕ) (z : ValueFraction) → i < sizes.slots → IsRaw sizes ws i → LastIs sizes hs i z
-    → newest i v.stakes.filled ≡ Some (record { slot = i; shared = false; value = z.lot.shown })
+-- no view has an owner of the item: it is out as raw, or a cell holds its owner, which is one of several that there may be, or not
+abbrev pub IsStored : Sizes → List ℕ → ℕ → Bool → Type 0
+IsStored sizes ws i shared = (IsRaw sizes ws i × (shared ≡ false)) ⊎ (IsInCell sizes ws i × (counted (slot_at sizes ws i) ≡ one_where shared))
+
+-- what an item shows that is stored it moved in last, for an owner of this kind
+abbrev pub KnowsStored : Sizes → List ℕ → FractionsAtHome → View → Type 0
+KnowsStored sizes ws hs v = (i : ℕ) (shared : Bool) (z : ValueFraction) → i < sizes.slots → IsStored sizes ws i shared → LastIs sizes hs i z
+    → newest i v.stakes.filled ≡ Some (record { slot = i; shared = shared; value = z.lot.shown })
 
 -- where a slot's last fraction is at home, the others that are at home show what it shows, and so does what the bank has of the slot;
--- and where there is one place, its participant knows it of an item that is out as raw
+-- and where there is one place, its participant knows it of an item that is stored
 pub record LastsInvariant (sizes : Sizes) (ws : List ℕ) (vs : List View) (hs : FractionsAtHome) : Type 0 where
   pub alike : (i p : ℕ) (y z : ValueFraction) → i < sizes.slots → p ≤ sizes.participants → LiesAt sizes.participants hs i p y → LastIs sizes hs i z
       → y.lot.shown ≡ z.lot.shown
   pub banks : (j : ℕ) (b : View) → get_elem? vs j ≡ some b → IsBank b → ShowsLast sizes hs b
-  pub raw : sizes.participants ≡ 1 → (j : ℕ) (v : View) → get_elem? vs j ≡ some v → HasPlace v.epoch → KnowsRaw sizes ws hs v
+  pub stored : sizes.participants ≡ 1 → (j : ℕ) (v : View) → get_elem? vs j ≡ some v → HasPlace v.epoch → KnowsStored sizes ws hs v

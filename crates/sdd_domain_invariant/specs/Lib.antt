@@ -6,6 +6,7 @@ pub mod BankInvariant
 pub mod LastFractions
 pub mod BoundInvariant
 pub mod PledgesInvariant
+pub mod CellsInvariant
 pub mod KindsInvariant
 pub mod DomainInvariant
 pub mod FractionSteps

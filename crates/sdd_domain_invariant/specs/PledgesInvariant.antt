@@ -1,15 +1,17 @@
--- The pledges' part of the rule: what stands beside a token of one of several owners while a share of its view is pledged
+-- The pledges' part of the rule: what stands beside a token of one of several owners, or of the right to a cell, while a share of its view is pledged
 use Rattle.std.specs.Prelude.{◌≡◌, ◌⊎◌, ℕ, ◌+◌, ◌≤◌, List, [], ◌∷◌, true, None}
 use mathlib.Core.Option.{some}
 use lib.ListN.{get_elem?}
 use base.Stored.{Gv}
 use Rattle.sdd_witness.specs.Ledger.{Pledge}
+use Rattle.sdd_views.specs.declared.CellRight.{CellRight}
 use Rattle.sdd_views.specs.declared.View.{View}
 use Rattle.sdd_views.specs.contracts.View.{the_row}
-use Rattle.sdd_views.specs.Views.{owner_of}
+use Rattle.sdd_views.specs.Views.{owner_of, right_to}
 use Rattle.sdd_word_invariant.specs.Sums.{total}
 use Rattle.sdd_domain_invariant.specs.BankInvariant.{one_where}
 use Rattle.sdd_domain_invariant.specs.FilledInvariant.{HasRecord}
+use Rattle.sdd_domain_invariant.specs.CellsInvariant.{HasRight}
 
 -- one of these pledges is this one
 abbrev pub HasPledge : Pledge → List Pledge → Type 0
@@ -44,10 +46,19 @@ pub record IsOfOwner (vs : List View) (p : Pledge) : Type 0 where
   pub free : owner.slots.holds ≡ None
   pub nobodys : owner.sizes.participants ≡ 0
 
--- the pledge p of the seat i is of an owner's token, and is in the ledger
+-- the pledge p is of the view of the right to a cell, whose token it names; no participant has that view
+pub record IsOfCell (vs : List View) (p : Pledge) : Type 0 where
+  pub right : CellRight
+  pub owner : View
+  pub view : p.view ≡ the_row.coded.code (right_to right.cell right.kind)
+  pub there : get_elem? vs p.seat ≡ some owner
+  pub has : HasRight owner right
+  pub nobodys : owner.sizes.participants ≡ 0
+
+-- the pledge p of the seat i is of an owner's token, or of a right's, and is in the ledger
 pub record IsBacked (vs : List View) (i : ℕ) (p : Pledge) : Type 0 where
   pub own : p.who ≡ i
-  pub owner : IsOfOwner vs p
+  pub beside : IsOfOwner vs p ⊎ IsOfCell vs p
   pub somewhere : (k : ℕ) × (b : View) × (get_elem? vs k ≡ some b) × IsLedger b
   pub booked : (k : ℕ) (b : View) → get_elem? vs k ≡ some b → IsLedger b → HasPledge p b.pledges.booked
 

@@ -1,0 +1,112 @@
+-- What cells hold, after one step
+use Rattle.std.proofs.Common.{◌≡◌, ◌≢◌, ◌⊎◌, inl, inr, ℕ, suc, ◌+◌, ◌<◌, ◌≤◌, List, [], ◌∷◌, ◌++◌, length, get_or, set, sym, refl, ap, ◌∙◌, subst, ⊎_elim, arith, get_or-set_other}
+use mathlib.Core.Option.{some, some-ne-none}
+use lib.ListN.{get_elem?}
+use lib.Seq.{set-get_or}
+use Rattle.sdd_views.specs.declared.CellKind.{CellKind}
+use Rattle.sdd_views.specs.declared.CellKind.TheVariants.{Owned, Shared, Raw, Collector}
+use Rattle.sdd_views.specs.declared.CellRight.{CellRight}
+use Rattle.sdd_views.specs.declared.CellsView.{CellsView}
+use Rattle.sdd_views.specs.declared.View.{View}
+use Rattle.sdd_views.specs.declared.Sizes.{Sizes}
+use Rattle.sdd_word_invariant.specs.Words.{first_cell, cell_word, slot_word}
+use Rattle.sdd_word_invariant.specs.Codes.{codes, alive, counted, names}
+use Rattle.sdd_word_invariant.specs.Slots.{slot_at, owners_at, SlotsInvariant}
+use Rattle.sdd_word_invariant.specs.Sums.{total}
+use Rattle.sdd_word_invariant.proofs.Codes.{sound}
+use Rattle.sdd_word_invariant.proofs.Frame.{each_set, each_snoc}
+use Rattle.sdd_word_invariant.proofs.SlotWords.{named_in}
+use Rattle.sdd_word_invariant.proofs.Sums.{total_set, total_snoc, span_has}
+use Rattle.atomic_table.proofs.Lists.{at_set}
+use Rattle.sdd_domain_invariant.specs.CellsInvariant.{cell_at, IsInCell, is_right, rights_at, HasRight, IsWordOf, IsTaken, CellsInvariant}
+
+-- the words of cells are as before
+abbrev pub SameCells : Sizes → List ℕ → List ℕ → Type 0
+SameCells sizes ws ws' = (d : ℕ) → d < sizes.cells → cell_at sizes ws' d ≡ cell_at sizes ws d
+
+-- the owners of a slot in cells are counted as before
+abbrev pub KeepsKinds : Sizes → List ℕ → List ℕ → Type 0
+KeepsKinds sizes ws ws' = (i : ℕ) → IsInCell sizes ws i → counted (slot_at sizes ws' i) ≡ counted (slot_at sizes ws i)
+
+-- the words of slots and cells are as before
+pub record SameWords (sizes : Sizes) (ws ws' : List ℕ) : Type 0 where
+  pub cells : SameCells sizes ws ws'
+  pub slots : (i : ℕ) → slot_at sizes ws' i ≡ slot_at sizes ws i
+
+pub no_change : (sizes : Sizes) (ws : List ℕ) → SameWords sizes ws ws
+no_change sizes ws = record { cells = λ _ _. refl; slots = λ _. refl }
+
+module _ (sizes : Sizes) (ws : List ℕ) where
+  -- a word below the cells' changes, or a slot's, or none does
+  pub cells_below : (j y : ℕ) → j < first_cell sizes → SameCells sizes ws (set ws j y)
+  cells_below j y low d inside = get_or-set_other ws j (cell_word sizes d) y 0 (λ e. omega arith)
+
+  pub cells_slot : (slot y : ℕ) → SameCells sizes ws (set ws (slot_word sizes slot) y)
+  cells_slot slot y d inside = get_or-set_other ws (slot_word sizes slot) (cell_word sizes d) y 0 (λ e. omega arith)
+
+  pub cells_same : (j : ℕ) → SameCells sizes ws (set ws j (get_or ws j 0))
+  cells_same j d inside = ap (λ (l : List ℕ). cell_at sizes l d) (set-get_or ws j 0)
+
+  pub words_below : (j y : ℕ) → j < first_cell sizes → SameWords sizes ws (set ws j y)
+  words_below j y low = record { cells = cells_below j y low; slots = λ i. get_or-set_other ws j (slot_word sizes i) y 0 (λ e. omega arith) }
+
+  pub words_same : (j : ℕ) → SameWords sizes ws (set ws j (get_or ws j 0))
+  words_same j = record { cells = cells_same j; slots = λ i. ap (λ (l : List ℕ). slot_at sizes l i) (set-get_or ws j 0) }
+
+  module _ (ws' : List ℕ) (same : SameCells sizes ws ws') where
+    pub in_cell_before : (i : ℕ) → IsInCell sizes ws' i → IsInCell sizes ws i
+    in_cell_before i c = let e = ap (names i) (same c.0 c.1) in let n = c.2 in (c.0, c.1, omega arith)
+
+    pub in_cell_still : (i : ℕ) → IsInCell sizes ws i → IsInCell sizes ws' i
+    in_cell_still i c = let e = ap (names i) (same c.0 c.1) in let n = c.2 in (c.0, c.1, omega arith)
+
+    word_still : KeepsKinds sizes ws ws' → (d : ℕ) → d < sizes.cells → (kind : CellKind) → IsWordOf sizes ws kind (cell_at sizes ws d)
+        → IsWordOf sizes ws' kind (cell_at sizes ws' d)
+    word_still kinds d inside Owned w = λ i n. let e = ap (names i) (same d inside) in let m : 0 < names i (cell_at sizes ws d) = omega arith in
+        kinds i (d, inside, m) ∙ w i m
+    word_still kinds d inside Shared w = λ i n. let e = ap (names i) (same d inside) in let m : 0 < names i (cell_at sizes ws d) = omega arith in
+        kinds i (d, inside, m) ∙ w i m
+    word_still kinds d inside Raw w = λ i. ap (names i) (same d inside) ∙ w i
+    word_still kinds d inside Collector w = λ i. ap (names i) (same d inside) ∙ w i
+
+    pub taken_still : KeepsKinds sizes ws ws' → (r : CellRight) → IsTaken sizes ws r → IsTaken sizes ws' r
+    taken_still kinds r t = record {
+      inside = t.inside;
+      full = let e = same r.cell t.inside in let f = t.full in omega arith;
+      kind = word_still kinds r.cell t.inside r.kind t.kind;
+    }
+
+  -- an owner in a cell is among those that its slot has
+  module _ (vs : List View) (s : SlotsInvariant codes sizes ws vs) (i : ℕ) (c : IsInCell sizes ws i) where
+    pub in_cell_alive : 0 < alive (slot_at sizes ws i)
+    in_cell_alive = let h = span_has (names i) ws (first_cell sizes) sizes.cells c.0 c.1 in let w = s.owned i in let n = c.2 in omega arith
+
+    pub in_cell_beside : (j : ℕ) (v : View) → get_elem? vs j ≡ some v → owners_at i v < alive (slot_at sizes ws i)
+    in_cell_beside j v at = let h = named_in codes sound sizes ws vs s j c.0 i v at c.1 in let n = c.2 in omega arith
+
+-- one that has the right to none
+pub no_right : (u : View) → u.cells.rights ≡ [] → (q : CellRight) → ¬ (HasRight u q)
+no_right u empty q has = some-ne-none q (sym has.1 ∙ ap (λ (l : List CellRight). get_elem? l has.0) empty)
+
+module _ (sizes : Sizes) (ws : List ℕ) (vs : List View) (part : CellsInvariant sizes ws vs) where
+  -- a new token that has the right to none
+  pub cells_more : (t : View) → t.cells.rights ≡ [] → CellsInvariant sizes ws (vs ++ t ∷ [])
+  cells_more t none = record {
+    inside = part.inside;
+    single = λ d. let a = total_snoc (rights_at d) vs t in let z = ap (total (is_right d)) none in let o = part.single d in omega arith;
+    taken = λ j v r e has. each_snoc (λ u. (q : CellRight) → HasRight u q → IsTaken sizes ws q) vs t (λ k u e' q. part.taken k u q e')
+        (λ q has'. absurd (no_right t none q has')) j v e r has;
+  }
+
+  module _ (id : ℕ) (v w : View) (at : get_elem? vs id ≡ some v) where
+    -- it has the rights that it had
+    pub cells_kept : (ws' : List ℕ) → SameCells sizes ws ws' → KeepsKinds sizes ws ws' → w.cells ≡ v.cells → CellsInvariant sizes ws' (set vs id w)
+    cells_kept ws' same kinds rights = record {
+      inside = λ i c. part.inside i (in_cell_before sizes ws ws' same i c);
+      single = λ d. let a = total_set (rights_at d) vs id v w at in let e = ap (λ (c : CellsView). total (is_right d) c.rights) rights in
+          let o = part.single d in omega arith;
+      taken = λ j u r e has. taken_still sizes ws ws' same kinds r (⊎_elim
+          (λ (t : (j ≡ id) × (w ≡ u)). part.taken id v r at
+          (has.0, ap (λ (c : CellsView). get_elem? c.rights has.0) (sym rights) ∙ (ap (λ (x : View). get_elem? x.cells.rights has.0) t.1 ∙ has.1)))
+          (λ (t : (j ≢ id) × (get_elem? vs j ≡ some u)). part.taken j u r t.1 has) (at_set vs id j w u e));
+    }

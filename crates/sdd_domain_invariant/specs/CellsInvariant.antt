@@ -1,0 +1,49 @@
+-- The cells' part of the rule: who has the right to a cell, and what a cell of a kind holds
+use Rattle.std.specs.Prelude.{◌≡◌, ℕ, ◌<◌, ◌≤◌, List, slice_index}
+use mathlib.Core.Option.{some}
+use lib.ListN.{get_elem?}
+use Rattle.sdd_views.specs.declared.CellKind.{CellKind}
+use Rattle.sdd_views.specs.declared.CellKind.TheVariants.{Owned, Shared, Raw, Collector}
+use Rattle.sdd_views.specs.declared.CellRight.{CellRight}
+use Rattle.sdd_views.specs.declared.View.{View}
+use Rattle.sdd_views.specs.declared.Sizes.{Sizes}
+use Rattle.sdd_word_invariant.specs.Words.{cell_word}
+use Rattle.sdd_word_invariant.specs.Codes.{counted, names}
+use Rattle.sdd_word_invariant.specs.Slots.{slot_at}
+use Rattle.sdd_word_invariant.specs.Sums.{total, is}
+
+abbrev pub cell_at : Sizes → List ℕ → ℕ → ℕ
+cell_at sizes ws d = slice_index ws (cell_word sizes d)
+
+-- a cell holds an owner of the slot i
+abbrev pub IsInCell : Sizes → List ℕ → ℕ → Type 0
+IsInCell sizes ws i = (d : ℕ) × (d < sizes.cells) × (0 < names i (cell_at sizes ws d))
+
+-- how many rights to the cell d it has
+abbrev pub is_right : ℕ → CellRight → ℕ
+is_right d r = is d r.cell
+
+abbrev pub rights_at : ℕ → View → ℕ
+rights_at d v = total (is_right d) v.cells.rights
+
+abbrev pub HasRight : View → CellRight → Type 0
+HasRight v r = (m : ℕ) × (get_elem? v.cells.rights m ≡ some r)
+
+-- a cell of this kind may have this word: the owners of the slot that it names aren't counted, or are, or it names none
+abbrev pub IsWordOf : Sizes → List ℕ → CellKind → ℕ → Type 0
+IsWordOf sizes ws Owned x = (i : ℕ) → 0 < names i x → counted (slot_at sizes ws i) ≡ 0
+IsWordOf sizes ws Shared x = (i : ℕ) → 0 < names i x → counted (slot_at sizes ws i) ≡ 1
+IsWordOf sizes ws Raw x = (i : ℕ) → names i x ≡ 0
+IsWordOf sizes ws Collector x = (i : ℕ) → names i x ≡ 0
+
+-- the right is to a cell that there is and that isn't free, and has a word of its kind
+pub record IsTaken (sizes : Sizes) (ws : List ℕ) (r : CellRight) : Type 0 where
+  pub inside : r.cell < sizes.cells
+  pub full : 0 < cell_at sizes ws r.cell
+  pub kind : IsWordOf sizes ws r.kind (cell_at sizes ws r.cell)
+
+-- cells hold owners of slots alone; one right at most is to each; and to a cell that is taken
+pub record CellsInvariant (sizes : Sizes) (ws : List ℕ) (vs : List View) : Type 0 where
+  pub inside : (i : ℕ) → IsInCell sizes ws i → i < sizes.slots
+  pub single : (d : ℕ) → total (rights_at d) vs ≤ 1
+  pub taken : (j : ℕ) (v : View) (r : CellRight) → get_elem? vs j ≡ some v → HasRight v r → IsTaken sizes ws r
