@@ -1,12 +1,12 @@
 -- The words as they are written are read as the rule asks.
-use Rattle.std.proofs.Common.{◌≡◌, ◌⊎◌, ℕ, suc, ◌+◌, ◌-◌, ◌*◌, ◌/◌, ◌%◌, ◌^◌, ◌<◌, ◌≤◌, Bool, eqb, leb, true, false, refl, ap, ◌∙◌, inl, inr, ⊎_elim, eq-eqb, ne_eqb, arith}
+use Rattle.std.proofs.Common.{◌≡◌, ◌⊎◌, ℕ, suc, List, [], ◌∷◌, if◌then◌else◌, ◌+◌, ◌-◌, ◌*◌, ◌/◌, ◌%◌, ◌^◌, ◌<◌, ◌≤◌, Bool, eqb, leb, true, false, refl, sym, ap, ◌∙◌, inl, inr, ⊎_elim, eq-eqb, ne_eqb, arith}
 use mathlib.Core.Logic.{dite}
 use native.Mathlib.Decide.{ℕ_discrete}
 use prog.Atomic.{either}
 use Rattle.std.proofs.lemmas.Bool.{le-leb}
 use Rattle.std.proofs.lemmas.Bool.Decides.{leb_tells}
-use Rattle.sdd_word_invariant.specs.Sums.{is}
-use Rattle.sdd_word_invariant.specs.Codes.{IsWordReading, codes, shared_base, free_word, owned_word, raw_word, waiting_word, private_word, emptied_word, unowned, kind_alive, kind_waiting, kind_full, kind_valued, kind_emptying, emptying, emptying_word, left_word, alive, waiting, full, valued, counted, waits_for, names, claimed_word, retired_word, held_word, shared_word}
+use Rattle.sdd_word_invariant.specs.Sums.{is, times}
+use Rattle.sdd_word_invariant.specs.Codes.{IsWordReading, codes, shared_base, free_word, owned_word, raw_word, waiting_word, private_word, emptied_word, unowned, held_slots, holding_word, null_word, kind_alive, kind_waiting, kind_full, kind_valued, kind_emptying, emptying, emptying_word, left_word, alive, waiting, full, valued, counted, waits_for, names, claimed_word, retired_word, held_word, shared_word}
 
 lives : (q : ℕ) → 0 < kind_alive q → (kind_waiting q ≡ 0) × (kind_full q ≡ 1)
 lives q h = dite (ℕ_discrete q 1) (λ e. (ap kind_waiting e, ap kind_full e))
@@ -152,6 +152,45 @@ cell_null x h a = let y : ℕ = x % 2 ^ 27 in ⊎_elim
     (λ (l : y < 4). ap (λ (t : _). either t 0 (either (eqb (y / 4) 0) 0 (is a (y / 4 - 1)))) (below unowned y (omega arith))
     ∙ ap (λ (t : _). either t 0 (is a (y / 4 - 1))) (eq-eqb (y / 4) 0 (omega arith)))
     (λ (l : unowned ≤ y). ap (λ (t : _). either t 0 (either (eqb (y / 4) 0) 0 (is a (y / 4 - 1)))) (le-leb unowned y l)) h
+
+-- which owner a cell holds
+pub holds_one : (slot tag : ℕ) → tag < 4 → holding_word slot tag < unowned → held_slots (holding_word slot tag) ≡ slot ∷ []
+unfolding held_slots
+holds_one slot tag small low = let y : ℕ = holding_word slot tag % 2 ^ 27 in let r : y / 4 - 1 ≡ slot = omega arith in
+    ap (λ (b : Bool). if b then [] else (if eqb (y / 4) 0 then [] else (y / 4 - 1) ∷ [])) (below unowned y (omega arith))
+    ∙ (ap (λ (b : Bool). if b then [] else (y / 4 - 1) ∷ []) (ne_eqb (y / 4) 0 (λ c. omega arith)) ∙ ap (λ (k : ℕ). k ∷ []) r)
+
+pub holds_none : (x : ℕ) → (x % 2 ^ 27 < 4) ⊎ (unowned ≤ x % 2 ^ 27) → held_slots x ≡ []
+unfolding held_slots
+holds_none x h = let y : ℕ = x % 2 ^ 27 in ⊎_elim
+    (λ (l : y < 4). ap (λ (b : Bool). if b then [] else (if eqb (y / 4) 0 then [] else (y / 4 - 1) ∷ [])) (below unowned y (omega arith))
+    ∙ ap (λ (b : Bool). if b then [] else (y / 4 - 1) ∷ []) (eq-eqb (y / 4) 0 (omega arith)))
+    (λ (l : unowned ≤ y). ap (λ (b : Bool). if b then [] else (if eqb (y / 4) 0 then [] else (y / 4 - 1) ∷ [])) (le-leb unowned y l)) h
+
+-- so it is in the sum of owners
+pub held_in : (x a : ℕ) → times a (held_slots x) ≡ names a x
+unfolding held_slots names
+held_in x a = let y : ℕ = x % 2 ^ 27 in ⊎_elim
+    (λ (t : (leb unowned y ≡ true) × (unowned ≤ y)). (λ d. times a (if t.0 d then [] else (if eqb (y / 4) 0 then [] else (y / 4 - 1) ∷ [])))
+    ∙ sym (λ d. either (t.0 d) 0 (either (eqb (y / 4) 0) 0 (is a (y / 4 - 1)))))
+    (λ (t : (leb unowned y ≡ false) × (y < unowned)). (λ d. times a (if t.0 d then [] else (if eqb (y / 4) 0 then [] else (y / 4 - 1) ∷ [])))
+    ∙ (dite (ℕ_discrete (y / 4) 0)
+    (λ e. let z = eq-eqb (y / 4) 0 e in (λ d. times a (if z d then [] else (y / 4 - 1) ∷ [])) ∙ sym (λ d. either (z d) 0 (is a (y / 4 - 1))))
+    (λ ne. let z = ne_eqb (y / 4) 0 ne in (λ d. times a (if z d then [] else (y / 4 - 1) ∷ []))
+    ∙ (plus_none (is a (y / 4 - 1)) ∙ sym (λ d. either (z d) 0 (is a (y / 4 - 1)))))
+    ∙ sym (λ d. either (t.0 d) 0 (either (eqb (y / 4) 0) 0 (is a (y / 4 - 1)))))) (leb_tells unowned y)
+  where
+    plus_none : (k : ℕ) → k + 0 ≡ k
+    plus_none k = omega arith
+
+-- it holds one owner, or none
+pub held_which : (x : ℕ) → ((slot : ℕ) × (held_slots x ≡ slot ∷ [])) ⊎ (held_slots x ≡ [])
+unfolding held_slots
+held_which x = let y : ℕ = x % 2 ^ 27 in ⊎_elim
+    (λ (t : (leb unowned y ≡ true) × (unowned ≤ y)). inr (holds_none x (inr t.1)))
+    (λ (t : (leb unowned y ≡ false) × (y < unowned)). dite (ℕ_discrete (y / 4) 0) (λ e. inr (holds_none x (inl (omega arith))))
+    (λ ne. inl (y / 4 - 1, ap (λ (b : Bool). if b then [] else (if eqb (y / 4) 0 then [] else (y / 4 - 1) ∷ [])) t.0
+    ∙ ap (λ (b : Bool). if b then [] else (y / 4 - 1) ∷ []) (ne_eqb (y / 4) 0 ne)))) (leb_tells unowned y)
 
 -- it owns one slot, or none
 pub which : (x : ℕ) → ((i : ℕ) × ((a : ℕ) → names a x ≡ is a i)) ⊎ ((a : ℕ) → names a x ≡ 0)

@@ -15,5 +15,6 @@ pub mod Pigeons
 pub mod EpochSteps
 pub mod SlotSteps
 pub mod RawSteps
+pub mod CellSteps
 pub mod Lift
 pub mod Barred

@@ -32,10 +32,13 @@ lone_beside sizes ws vs l j y low = record { knows = λ one k u e z. l.knows one
 
 module _ (sizes : Sizes) (ws : List ℕ) (vs : List View) (l : LoneInvariant sizes ws vs) (id : ℕ) (v : View) (at : get_elem? vs id ≡ some v) where
   -- what a lone participant finds is what it knew
+  pub finds_word : sizes.participants ≡ 1 → HasPlace v.epoch → (k : ℕ) → get_or ws (after_places sizes.participants + k) 0 ≡ get_or v.words k 0
+  finds_word one live k = let n : ℕ = after_places sizes.participants in
+      sym (ap (λ (x : List ℕ). get_or x k 0) (l.knows one id v at live) ∙ get_or-drop n ws k 0)
+
   pub finds : sizes.participants ≡ 1 → HasPlace v.epoch → (i : ℕ) → slot_at sizes ws i ≡ get_or v.words (behind sizes i) 0
   finds one live i = let n : ℕ = after_places sizes.participants in
-      sym (ap (λ (x : List ℕ). get_or x (behind sizes i) 0) (l.knows one id v at live) ∙ (get_or-drop n ws (behind sizes i) 0
-      ∙ ap (λ (k : ℕ). get_or ws k 0) (let e : n + behind sizes i ≡ slot_word sizes i = omega arith in e)))
+      ap (λ (k : ℕ). get_or ws k 0) (let e : slot_word sizes i ≡ n + behind sizes i = omega arith in e) ∙ finds_word one live (behind sizes i)
 
   -- no word changes
   pub lone_same : (w : View) → w.words ≡ v.words → (HasPlace w.epoch → HasPlace v.epoch) → LoneInvariant sizes ws (set vs id w)
@@ -58,16 +61,21 @@ module _ (sizes : Sizes) (ws : List ℕ) (vs : List View) (l : LoneInvariant siz
         (at_set vs id k w u e);
   }
 
-  -- a slot's word changes
-  pub lone_noted : EpochInvariant sizes.participants ws (map epoch_of vs) → HasPlace v.epoch → (i y : ℕ) (w : View) → w.words ≡ set v.words (behind sizes i) y
-      → LoneInvariant sizes (set ws (slot_word sizes i) y) (set vs id w)
-  lone_noted epochs live i y w is = let n : ℕ = after_places sizes.participants in record {
+  -- a word behind the places' changes
+  pub lone_written : EpochInvariant sizes.participants ws (map epoch_of vs) → HasPlace v.epoch → (d y : ℕ) (w : View) → w.words ≡ set v.words d y
+      → LoneInvariant sizes (set ws (after_places sizes.participants + d) y) (set vs id w)
+  lone_written epochs live d y w is = let n : ℕ = after_places sizes.participants in record {
     knows = λ one k u e z. ⊎_elim
-        (λ (t : (k ≡ id) × (w ≡ u)). let same : n + behind sizes i ≡ slot_word sizes i = omega arith in
-        ap (λ (x : View). x.words) (sym t.1) ∙ (is ∙ (ap (λ (x : List ℕ). set x (behind sizes i) y) (l.knows one id v at live)
-        ∙ (sym (drop-set-add n ws (behind sizes i) y) ∙ ap (λ (k : ℕ). drop n (set ws k y)) same))))
+        (λ (t : (k ≡ id) × (w ≡ u)). ap (λ (x : View). x.words) (sym t.1) ∙ (is ∙ (ap (λ (x : List ℕ). set x d y) (l.knows one id v at live)
+        ∙ sym (drop-set-add n ws d y))))
         (λ (t : (k ≢ id) × (get_elem? vs k ≡ some u)).
         absurd (no_other sizes.participants ws (map epoch_of vs) id k v.epoch u.epoch epochs one (at_map epoch_of vs id v at) live t.0
         (at_map epoch_of vs k u t.1) z))
         (at_set vs id k w u e);
   }
+
+  -- a slot's does
+  pub lone_noted : EpochInvariant sizes.participants ws (map epoch_of vs) → HasPlace v.epoch → (i y : ℕ) (w : View) → w.words ≡ set v.words (behind sizes i) y
+      → LoneInvariant sizes (set ws (slot_word sizes i) y) (set vs id w)
+  lone_noted epochs live i y w is = let n : ℕ = after_places sizes.participants in let same : n + behind sizes i ≡ slot_word sizes i = omega arith in
+      subst (λ (k : ℕ). LoneInvariant sizes (set ws k y) (set vs id w)) same (lone_written epochs live (behind sizes i) y w is)

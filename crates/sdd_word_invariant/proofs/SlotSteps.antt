@@ -46,7 +46,7 @@ module _ (id : ℕ) (v : View) (live : HasPlace v.epoch) where
   sizes = v.sizes
 
   module _ (ws : List ℕ) (vs : List View) (p : Parts sizes ws vs) (at : get_elem? vs id ≡ some v) where
-    at_epoch : get_elem? (map epoch_of vs) id ≡ some v.epoch
+    pub at_epoch : get_elem? (map epoch_of vs) id ≡ some v.epoch
     at_epoch = at_map epoch_of vs id v at
 
     -- what is known of the epoch stays

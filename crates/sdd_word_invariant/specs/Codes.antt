@@ -4,7 +4,7 @@
 -- once the collector's close has claimed it, 7 while its value is moved out, 8 the same where its bag has let go of it meanwhile, and 6 emptied, and still
 -- in the bag. Shared by n owners: 2^63 + n; none left, it waits: 2^63.
 -- A cell: 0 free; else 2^27 * generation + 4 * (slot + 1) + tag, or a mark from 2^27 - 16 on, which owns nothing: null with a tag, raw pointers, a collector.
-use Rattle.std.specs.Prelude.{◌≡◌, ℕ, ◌+◌, ◌-◌, ◌*◌, ◌/◌, ◌%◌, ◌^◌, ◌<◌, ◌≤◌, if◌then◌else◌, Bool, eqb, leb}
+use Rattle.std.specs.Prelude.{◌≡◌, ℕ, ◌+◌, ◌-◌, ◌*◌, ◌/◌, ◌%◌, ◌^◌, ◌<◌, ◌≤◌, if◌then◌else◌, Bool, List, [], ◌∷◌, suc, eqb, leb}
 use prog.Atomic.{either}
 use Rattle.sdd_word_invariant.specs.Sums.{is}
 
@@ -127,6 +127,17 @@ counted x = either (leb shared_base x) 1 0
 -- from here on a cell's word, but for the generation, is a mark
 abbrev pub unowned : ℕ
 unowned = 2 ^ 27 - 16
+
+-- the slot whose owner a cell holds that has this word, if it holds one
+unfoldable pub held_slots : ℕ → List ℕ
+held_slots x = if leb unowned (x % 2 ^ 27) then [] else (if eqb (x % 2 ^ 27 / 4) 0 then [] else (x % 2 ^ 27 / 4 - 1) ∷ [])
+
+-- a cell's word that holds the owner of a slot, with a tag; and one that holds none
+abbrev pub holding_word : ℕ → ℕ → ℕ
+holding_word slot tag = 4 * suc slot + tag
+
+abbrev pub null_word : ℕ → ℕ
+null_word tag = unowned + tag
 
 unfoldable pub names : ℕ → ℕ → ℕ
 names i x = either (leb unowned (x % 2 ^ 27)) 0 (either (eqb (x % 2 ^ 27 / 4) 0) 0 (is i (x % 2 ^ 27 / 4 - 1)))

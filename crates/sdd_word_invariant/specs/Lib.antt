@@ -5,5 +5,6 @@ pub mod Epoch
 pub mod Slots
 pub mod EpochSteps
 pub mod SlotSteps
+pub mod CellSteps
 pub mod Barred
 pub mod WordInvariant

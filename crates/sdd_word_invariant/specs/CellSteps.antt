@@ -1,0 +1,42 @@
+-- What each step on a cell makes of what the participant knows, and what it tells
+use Rattle.std.specs.Prelude.{◌≡◌, ◌≢◌, ℕ, List, [], ◌∷◌, slice_index, slice_set}
+use Rattle.sdd_views.specs.declared.View.{View}
+use Rattle.sdd_word_invariant.specs.Words.{cell_word}
+use Rattle.sdd_word_invariant.specs.Codes.{held_slots}
+use Rattle.sdd_word_invariant.specs.Epoch.{IsLone}
+use Rattle.sdd_word_invariant.specs.Slots.{Sees}
+use Rattle.sdd_word_invariant.specs.SlotSteps.{seeing}
+
+-- what is known of the words behind the places' once y is in that of a cell
+abbrev pub cell_noted : ℕ → ℕ → View → List ℕ
+cell_noted cell y v = slice_set v.words cell y
+
+-- a lone participant finds what it knew
+abbrev pub KnewCell : ℕ → View → ℕ → Type 0
+KnewCell cell v x = IsLone v.epoch → x ≡ slice_index v.words cell
+
+-- what a cell held comes, whose word was x, and y is in it then
+abbrev pub coming : ℕ → ℕ → ℕ → View → View
+coming cell x y v = record v { slots = record v.slots { owns = held_slots x }; words = cell_noted cell y v }
+
+-- each of these: what was known before, the number found (at a store the number stored), and what is known after
+-- the owner that it has, or none, goes into a cell, whose word is y then, and what the cell held comes
+abbrev pub SwapsCell : ℕ → ℕ → View → ℕ → View → Type 0
+SwapsCell y cell v x w = (w ≡ coming cell x y v) × KnewCell cell v x
+
+-- the same where the cell's word is old, else nothing
+abbrev pub ExchangesCell : ℕ → ℕ → ℕ → View → ℕ → View → Type 0
+ExchangesCell old y cell v x w = (x ≡ old → w ≡ coming cell old y v) × (x ≢ old → w ≡ v) × KnewCell cell v x
+
+-- the word of a cell is looked at
+abbrev pub LooksAtCell : ℕ → View → ℕ → View → Type 0
+LooksAtCell cell v x w = (w ≡ v) × KnewCell cell v x
+
+-- it is looked at under a guard, which sees the slot whose owner the cell holds from now on, if it didn't before
+abbrev pub SeesCell : ℕ → View → ℕ → View → Type 0
+SeesCell cell v x w = ((slot : ℕ) → held_slots x ≡ slot ∷ [] → ¬ (Sees v slot) → w ≡ seeing slot v)
+    × ((slot : ℕ) → held_slots x ≡ slot ∷ [] → Sees v slot → w ≡ v) × (held_slots x ≡ [] → w ≡ v) × KnewCell cell v x
+
+-- a step on the word i tells R of the cell whose word it is
+abbrev pub AtCell : (ℕ → View → ℕ → View → Type 0) → ℕ → View → ℕ → View → Type 0
+AtCell R i v x w = (cell : ℕ) → i ≡ cell_word v.sizes cell → R cell v x w
