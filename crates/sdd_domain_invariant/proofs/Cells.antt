@@ -1,6 +1,8 @@
 -- What cells hold, after one step
 use Rattle.std.proofs.Common.{◌≡◌, ◌≢◌, ◌⊎◌, inl, inr, ℕ, suc, ◌+◌, ◌<◌, ◌≤◌, List, [], ◌∷◌, ◌++◌, length, get_or, set, sym, refl, ap, ◌∙◌, subst, ⊎_elim, arith, get_or-set_other}
-use mathlib.Core.Option.{some, some-ne-none}
+use mathlib.Core.Logic.{dite}
+use mathlib.Core.Option.{some, some-injective, some-ne-none}
+use native.Mathlib.Decide.{ℕ_discrete}
 use lib.ListN.{get_elem?}
 use lib.Seq.{set-get_or}
 use Rattle.sdd_views.specs.declared.CellKind.{CellKind}
@@ -16,7 +18,7 @@ use Rattle.sdd_word_invariant.specs.Sums.{total}
 use Rattle.sdd_word_invariant.proofs.Codes.{sound}
 use Rattle.sdd_word_invariant.proofs.Frame.{each_set, each_snoc}
 use Rattle.sdd_word_invariant.proofs.SlotWords.{named_in}
-use Rattle.sdd_word_invariant.proofs.Sums.{total_set, total_snoc, span_has}
+use Rattle.sdd_word_invariant.proofs.Sums.{is_same, total_set, total_snoc, total_has, total_two, span_has}
 use Rattle.atomic_table.proofs.Lists.{at_set}
 use Rattle.sdd_domain_invariant.specs.CellsInvariant.{cell_at, IsInCell, is_right, rights_at, HasRight, IsWordOf, IsTaken, CellsInvariant}
 
@@ -89,6 +91,19 @@ pub no_right : (u : View) → u.cells.rights ≡ [] → (q : CellRight) → ¬ (
 no_right u empty q has = some-ne-none q (sym has.1 ∙ ap (λ (l : List CellRight). get_elem? l has.0) empty)
 
 module _ (sizes : Sizes) (ws : List ℕ) (vs : List View) (part : CellsInvariant sizes ws vs) where
+  -- two rights to a cell are one
+  pub one_right : (j k : ℕ) (u x : View) (r q : CellRight) → get_elem? vs j ≡ some u → get_elem? vs k ≡ some x → HasRight u r → HasRight x q → r.cell ≡ q.cell
+      → r ≡ q
+  one_right j k u x r q at at' has has' same = let d : ℕ = r.cell in let o = part.single d in let one = is_same d d refl in
+      let two = is_same d q.cell (sym same) in let mine = total_has (is_right d) u.cells.rights has.0 r has.1 in
+      let theirs = total_has (is_right d) x.cells.rights has'.0 q has'.1 in dite (ℕ_discrete j k)
+      (λ e. let views : u ≡ x = some-injective u x (sym at ∙ (ap (get_elem? vs) e ∙ at')) in
+      let here : get_elem? u.cells.rights has'.0 ≡ some q = ap (λ (y : View). get_elem? y.cells.rights has'.0) views ∙ has'.1 in dite (ℕ_discrete has.0 has'.0)
+      (λ e'. some-injective r q (sym has.1 ∙ (ap (get_elem? u.cells.rights) e' ∙ here)))
+      (λ ne. let both = total_two (is_right d) u.cells.rights has.0 has'.0 r q ne has.1 here in let all = total_has (rights_at d) vs j u at in
+      absurd (omega arith)))
+      (λ ne. let both = total_two (rights_at d) vs j k u x ne at at' in absurd (omega arith))
+
   -- a new token that has the right to none
   pub cells_more : (t : View) → t.cells.rights ≡ [] → CellsInvariant sizes ws (vs ++ t ∷ [])
   cells_more t none = record {

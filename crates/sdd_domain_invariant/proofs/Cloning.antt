@@ -31,7 +31,7 @@ use Rattle.sdd_word_invariant.specs.WordInvariant.{epoch_of, Parts, WordInvarian
 use Rattle.sdd_word_invariant.proofs.Codes.{sound, shared, counted_is, some_left}
 use Rattle.sdd_word_invariant.proofs.Epoch.{at_length}
 use Rattle.sdd_word_invariant.proofs.Frame.{each_set}
-use Rattle.sdd_word_invariant.proofs.Lift.{blind_pledges, blind_units}
+use Rattle.sdd_word_invariant.proofs.Lift.{blind_tokens, blind_units}
 use Rattle.sdd_word_invariant.proofs.Lift as kept
 use Rattle.sdd_word_invariant.proofs.Pigeons.{few}
 use Rattle.sdd_word_invariant.proofs.SlotWords.{owner_in, owners_in, alone_is}
@@ -55,7 +55,7 @@ use Rattle.sdd_domain_invariant.proofs.Fillings.{has_none, tells_none, filled_mo
 use Rattle.sdd_domain_invariant.proofs.Counts.{as_full, uncounted, uncounted_alone, more_counts}
 use Rattle.sdd_domain_invariant.proofs.Banks.{HasUnits, with_deposits, banked_then, outside_there, outside_same, moves_none, total_below}
 use Rattle.sdd_domain_invariant.proofs.Banks as banks
-use Rattle.sdd_domain_invariant.proofs.KindSteps.{KeepsOwner, same_owner, keeps_owner, over_none, no_pledge, has_first, knows_no_kind, knows_alike, knows_still, IsSpared, bound_more, bound_kept, pledges_by, pledges_spent, repledges, forth}
+use Rattle.sdd_domain_invariant.proofs.KindSteps.{KeepsOwner, same_owner, keeps_owner, over_none, no_pledge, has_first, knows_no_kind, knows_alike, knows_still, IsSpared, bound_more, bound_kept, pledges_by, pledges_spent, no_participants, repledges, forth}
 use Rattle.sdd_domain_invariant.proofs.Cells.{no_change, cells_slot, cells_kept}
 use Rattle.sdd_domain_invariant.proofs.KindSteps as kind_steps
 use Rattle.sdd_domain_invariant.proofs.Telling.{none_moved, one_view, owns_it}
@@ -102,7 +102,7 @@ module _ (γ : ℕ) (sizes : Sizes) where
       → PledgesInvariant (set s.views id (record v { pledges = t }))
       → DomainInvariant γ sizes record { words = s.words; homes = s.homes; views = set s.views id (record v { pledges = t }) }
   repledged s h id v at t p = let w : View = record v { pledges = t } in
-      stands γ sizes id v s h at w refl (blind_pledges sizes s.words s.views id v at h.kept.parts t) s.homes
+      stands γ sizes id v s h at w refl (blind_tokens sizes s.words s.views id v at h.kept.parts t v.cells) s.homes
       (part.calm γ sizes s.words s.views s.homes h.homes id v at s.words w (λ j q out. out) (λ j _. refl) (h.homes.moving id v at))
       (records.calm sizes s.views s.homes h.records id v at w (refl, refl, refl, (λ _. refl), refl))
       (uncounted_alone sizes s.words s.views h.counts id v at w refl refl)
@@ -346,11 +346,7 @@ module _ (slots id : ℕ) (me : SeatState) (live : HasPlace me.0.epoch) (slot : 
 
       -- no participant's view is pledged
       nobodys : (k : ℕ) (q : Pledge) → IsBacked s.views k q → ¬ (q.seat ≡ id)
-      nobodys k q b e = let a = placed s h at in ⊎_elim
-          (λ (o : IsOfOwner s.views q). let same = ap (λ (y : View). y.sizes.participants) (one_view s.views id q.seat o.owner v o.there at e) in
-          let z = o.nobodys in absurd (omega arith))
-          (λ (o : IsOfCell s.views q). let same = ap (λ (y : View). y.sizes.participants) (one_view s.views id q.seat o.owner v o.there at e) in
-          let z = o.nobodys in absurd (omega arith)) b.beside
+      nobodys = no_participants s.views h.kinds.pledges id v at (placed s h at)
 
       unmoved : (j : ℕ) (u : View) → get_elem? s.views j ≡ some u → ¬ (Moves u slot)
       unmoved j u e = dite (ℕ_discrete p.seat j)

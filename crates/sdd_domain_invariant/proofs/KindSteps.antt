@@ -35,7 +35,7 @@ use Rattle.sdd_domain_invariant.specs.KindsInvariant.{written, KnowsKinds, Kinds
 use Rattle.sdd_domain_invariant.proofs.Cells.{SameCells, KeepsKinds, SameWords, no_change, cells_slot, cells_more, cells_kept}
 use Rattle.sdd_domain_invariant.proofs.Records.{IsAlike}
 use Rattle.sdd_domain_invariant.proofs.Fillings.{has_none}
-use Rattle.sdd_domain_invariant.proofs.Telling.{one_moved, none_moved}
+use Rattle.sdd_domain_invariant.proofs.Telling.{one_moved, none_moved, one_view}
 
 -- what is written of a slot is read there
 pub written_now : (v : View) (slot y : ℕ) → slot < v.sizes.slots → length v.words ≡ words_behind v.sizes → get_or (noted slot y v) (behind v.sizes slot) 0 ≡ y
@@ -201,6 +201,14 @@ module _ (vs : List View) (p : PledgesInvariant vs) where
     somewhere = (B.somewhere.0, l.0, l.1, l.2);
     booked = books;
   }
+
+  -- no participant's view is pledged
+  pub no_participants : (id : ℕ) (v : View) → get_elem? vs id ≡ some v → 0 < v.sizes.participants → (i : ℕ) (q : Pledge) → IsBacked vs i q
+      → ¬ (q.seat ≡ id)
+  no_participants id v at placed i q B e = let same : (x : View) → get_elem? vs q.seat ≡ some x → x.sizes.participants ≡ v.sizes.participants
+      = λ x there. ap (λ (y : View). y.sizes.participants) (one_view vs id q.seat x v there at e) in ⊎_elim
+      (λ (o : IsOfOwner vs q). let z = o.nobodys in let s = same o.owner o.there in absurd (omega arith))
+      (λ (o : IsOfCell vs q). let z = o.nobodys in let s = same o.owner o.there in absurd (omega arith)) B.beside
 
   pub pledges_more : (t : View) → HasNoPost t → PledgesInvariant (vs ++ t ∷ [])
   pledges_more t none = let us : List View = vs ++ t ∷ [] in record {

@@ -252,20 +252,20 @@ module _ (sizes : Sizes) (ws : List ℕ) (vs : List View) (hs : FractionsAtHome)
               (λ j u _ e live. stored_of u u (λ _ _. refl) (part.stored one j u e live));
         }
 
-    -- an item is stored more, of which it is known what it shows
-    pub lasts_out : (slot : ℕ) (shared : Bool) (ws' : List ℕ) (w : View) → KeepsBank v w → w.stakes.filled ≡ v.stakes.filled
-        → (HasPlace w.epoch → HasPlace v.epoch)
-        → (n ≡ 1 → (j : ℕ) (u : View) → get_elem? vs j ≡ some u → HasPlace u.epoch → (z : ValueFraction) → LastIs sizes hs slot z
-        → newest slot u.stakes.filled ≡ Some (record { slot = slot; shared = shared; value = z.lot.shown }))
-        → ((i : ℕ) (kind : Bool) → i < sizes.slots → IsStored sizes ws' i kind → ((i ≡ slot) × (kind ≡ shared)) ⊎ IsStored sizes ws i kind)
+    -- every participant knows what an item shows, as where there is one
+    abbrev pub AllKnow : ℕ → Bool → Type 0
+    AllKnow i shared = n ≡ 1 → (j : ℕ) (u : View) → get_elem? vs j ≡ some u → HasPlace u.epoch → (z : ValueFraction) → LastIs sizes hs i z
+        → newest i u.stakes.filled ≡ Some (record { slot = i; shared = shared; value = z.lot.shown })
+
+    -- items are stored that were stored, or of which it is known what they show
+    pub lasts_out : (ws' : List ℕ) (w : View) → KeepsBank v w → w.stakes.filled ≡ v.stakes.filled → (HasPlace w.epoch → HasPlace v.epoch)
+        → ((i : ℕ) (shared : Bool) → i < sizes.slots → IsStored sizes ws' i shared → IsStored sizes ws i shared ⊎ AllKnow i shared)
         → LastsInvariant sizes ws' (set vs id w) hs
-    lasts_out slot shared ws' w bank filled had knows stored =
+    lasts_out ws' w bank filled had stored =
         let now : (j : ℕ) (u u' : View) → get_elem? vs j ≡ some u → n ≡ 1 → HasPlace u.epoch → u'.stakes.filled ≡ u.stakes.filled → KnowsStored sizes ws' hs u'
-        = λ j u u' e one live same i kind z low is l. ap (newest i) same ∙ ⊎_elim
-        (λ (here : (i ≡ slot) × (kind ≡ shared)). subst (λ (k : ℕ × Bool). newest k.0 u.stakes.filled
-        ≡ Some (record { slot = k.0; shared = k.1; value = z.lot.shown })) (λ d. (sym here.0 d, sym here.1 d))
-        (knows one j u e live z (subst (λ (k : ℕ). LastIs sizes hs k z) here.0 l)))
-        (λ (old : IsStored sizes ws i kind). part.stored one j u e live i kind z low old l) (stored i kind low is) in record {
+        = λ j u u' e one live same i shared z low is l. ap (newest i) same ∙ ⊎_elim
+        (λ (old : IsStored sizes ws i shared). part.stored one j u e live i shared z low old l) (λ (all : AllKnow i shared). all one j u e live z l)
+        (stored i shared low is) in record {
           alike = part.alike;
           banks = each_set (λ u. IsBank u → ShowsLast sizes hs u) (λ u. IsBank u → ShowsLast sizes hs u) vs id w
               (λ is i z low l. let b = bank is in subst (ShowOnly i z.lot.shown) (sym b.1) (part.banks id v at b.0 i z low l))

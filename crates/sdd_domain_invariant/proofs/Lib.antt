@@ -13,6 +13,7 @@ pub mod KindSteps
 pub mod Lift
 pub mod Steps
 pub mod RawSteps
+pub mod CellSteps
 pub mod JobSteps
 pub mod Tokens
 pub mod Cloning

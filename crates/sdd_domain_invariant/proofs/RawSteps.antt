@@ -44,7 +44,7 @@ use Rattle.sdd_domain_invariant.proofs.Records as records
 use Rattle.sdd_domain_invariant.proofs.Fillings.{has_none, filled_learned}
 use Rattle.sdd_domain_invariant.proofs.Telling.{none_moved, one_view, owns_it}
 use Rattle.sdd_domain_invariant.proofs.Tops.{share_one}
-use Rattle.sdd_domain_invariant.proofs.Lasts.{stored_other, stored_set, stored_same, lasts_out, lasts_fewer}
+use Rattle.sdd_domain_invariant.proofs.Lasts.{stored_other, stored_set, stored_same, AllKnow, lasts_out, lasts_fewer}
 use Rattle.sdd_domain_invariant.proofs.Lift.{Follows, lift_homes, lift_whole}
 use Rattle.sdd_domain_invariant.proofs.KindSteps as kind_steps
 use Rattle.sdd_domain_invariant.proofs.Steps.{full_owned}
@@ -113,13 +113,13 @@ module _ (slots id : ℕ) (me : SeatState) (live : HasPlace me.0.epoch) where
 
     -- where nobody moves a slot's value the last fraction is at home
     module _ (s : State ValueFraction View) (h : DomainInvariant γ sizes s) (still : (j : ℕ) (u : View) → get_elem? s.views j ≡ some u → ¬ (Moves u slot)) where
-      last_home : (z : ValueFraction) × LastIs sizes s.homes slot z
+      pub last_home : (z : ValueFraction) × LastIs sizes s.homes slot z
       last_home = h.homes.back slot n inside (omega arith) (λ j u e out. ⊎_elim (λ (m : Moves u slot). still j u e m)
           (λ (o : SeesFrom u slot n). let is_open = (h.kept.parts.slots.each j u e).guarded slot o.0 in
           let near = (h.kept.parts.epoch.each j u.epoch (at_map epoch_of s.views j u e)).inside (omega arith) in absurd (omega arith)) out)
 
       -- and what lies at home shows what that does
-      all_shown : (p : ℕ) (z : ValueFraction) → p ≤ n → LiesAt n s.homes slot p z → z.lot.shown ≡ last_home.0.lot.shown
+      pub all_shown : (p : ℕ) (z : ValueFraction) → p ≤ n → LiesAt n s.homes slot p z → z.lot.shown ≡ last_home.0.lot.shown
       all_shown p z near lies = h.lasts.alike slot p z last_home.0 inside near lies last_home.1
 
     -- an item that is out as raw
@@ -189,15 +189,17 @@ module _ (slots id : ℕ) (me : SeatState) (live : HasPlace me.0.epoch) where
           bank = banks.calm γ sizes s.words s.views h.bank id v at (set s.words i y) now
               record { bank = refl; founds = refl; book = refl; banked = refl; drawn = refl } refl
               (λ k. let z = ap (times k) empty in omega arith) same;
-          lasts = lasts_out sizes s.words s.views s.homes h.lasts id v at slot false (set s.words i y) now (λ b. (b, refl)) refl (λ l. l)
+          lasts = lasts_out sizes s.words s.views s.homes h.lasts id v at (set s.words i y) now (λ b. (b, refl)) refl (λ l. l)
+              (λ j kind near is. dite (ℕ_discrete j slot)
+              (λ e. inr (subst (λ (k : ℕ). AllKnow sizes s.words s.views s.homes h.lasts id v at k kind) (sym e)
+              (⊎_elim (λ (a : IsRaw sizes (set s.words i y) j × (kind ≡ false)).
+              subst (AllKnow sizes s.words s.views s.homes h.lasts id v at slot) (sym a.1)
               (λ single j u e placed z last. subst (λ (g : Gv). newest slot u.stakes.filled ≡ Some (record { slot = slot; shared = false; value = g }))
               (sym (h.records.home slot n value z inside (omega arith) known last))
-              (h.filled.knows single j id u v r e placed at (inl has)))
-              (λ j kind near is. dite (ℕ_discrete j slot)
-              (λ e. inl (e, ⊎_elim (λ (a : IsRaw sizes (set s.words i y) j × (kind ≡ false)). a.1)
+              (h.filled.knows single j id u v r e placed at (inl has))))
               (λ (b : IsInCell sizes (set s.words i y) j × _). absurd (free_of (subst (IsInCell sizes s.words) e
-              (in_cell_before sizes s.words (set s.words i y) (cells_slot sizes s.words slot y) j b.0)))) is))
-              (λ ne. inr (stored_other sizes s.words slot y j kind near ne is)));
+              (in_cell_before sizes s.words (set s.words i y) (cells_slot sizes s.words slot y) j b.0)))) is)))
+              (λ ne. inl (stored_other sizes s.words slot y j kind near ne is)));
           kinds = kind_steps.goes sizes s.words s.views h.kinds h.records.each id v at slot y now inside
               (steps.wrote_long slots id me live slot inside s h at y) rests refl (λ _ o. o) word
               (λ j u apart e. inl (λ o. let both = owners_in codes sound sizes s.words s.views h.kept.parts.slots j id slot u v apart e at in omega arith))

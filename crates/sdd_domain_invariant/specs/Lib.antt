@@ -11,3 +11,4 @@ pub mod KindsInvariant
 pub mod DomainInvariant
 pub mod FractionSteps
 pub mod RawSteps
+pub mod CellSteps

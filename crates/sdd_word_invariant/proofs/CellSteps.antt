@@ -7,6 +7,7 @@ use native.Mathlib.Decide.{ℕ_discrete, dec_lt}
 use prog.Atomic.{either}
 use Rattle.atomic_table.proofs.Lists.{set_here, exchanged}
 use Rattle.sdd_views.specs.declared.EpochView.{EpochView}
+use Rattle.sdd_views.specs.declared.CellsView.{CellsView}
 use Rattle.sdd_views.specs.declared.View.{View}
 use Rattle.sdd_views.specs.declared.Sizes.{Sizes}
 use Rattle.sdd_word_invariant.specs.Words.{cell_word, slot_word}
@@ -48,9 +49,9 @@ module _ (id : ℕ) (v : View) (live : HasPlace v.epoch) (cell : ℕ) where
         finds_word sizes ws vs p.lone id v at (sym (f.all (λ z. omega arith)) ∙ one) live cell
 
     -- what it has goes into the cell, and what the cell held comes
-    comes : (inside : cell < sizes.cells) (y : ℕ) → v.slots.owns ≡ held_slots y → v.slots.holds ≡ None
-        → Parts sizes (set ws i y) (set vs id (coming cell (get_or ws i 0) y v))
-    comes inside y owns free = let x : ℕ = get_or ws i 0 in let w : View = coming cell x y v in let s = p.slots in let f = s.each id v at in record {
+    comes : (inside : cell < sizes.cells) (y : ℕ) (rights : CellsView) → v.slots.owns ≡ held_slots y → v.slots.holds ≡ None
+        → Parts sizes (set ws i y) (set vs id (coming cell (get_or ws i 0) y rights v))
+    comes inside y rights owns free = let x : ℕ = get_or ws i 0 in let w : View = coming cell x y rights v in let s = p.slots in let f = s.each id v at in record {
       epoch = seen_after sizes (set ws i y) vs id w
           (epochs.behind sizes.participants ws (set (map epoch_of vs) id w.epoch) id i y w.epoch (steps.same_epochs id v live ws vs p at)
           (set_here (map epoch_of vs) id w.epoch (epochs.at_length (map epoch_of vs) id v.epoch (steps.at_epoch id v live ws vs p at))) live (omega arith));
@@ -69,24 +70,24 @@ module _ (id : ℕ) (v : View) (live : HasPlace v.epoch) (cell : ℕ) where
     }
 
   -- a swap
-  pub swaps : (y : ℕ) → cell < sizes.cells → v.slots.owns ≡ held_slots y → v.slots.holds ≡ None
-      → Steps (Parts sizes) id v i (λ _. y) (AtCell (SwapsCell y) i v)
-  swaps y inside owns free ws vs p at small = let x : ℕ = get_or ws i 0 in (
-    coming cell x y v,
-    comes ws vs p at inside y owns free,
-    λ other is. (ap (λ (k : ℕ). coming k x y v) (same_cell other is), knew_too other is x (knew ws vs p at)),
+  pub swaps : (y : ℕ) (rights : CellsView) → cell < sizes.cells → v.slots.owns ≡ held_slots y → v.slots.holds ≡ None
+      → Steps (Parts sizes) id v i (λ _. y) (AtCell (SwapsCell y rights) i v)
+  swaps y rights inside owns free ws vs p at small = let x : ℕ = get_or ws i 0 in (
+    coming cell x y rights v,
+    comes ws vs p at inside y rights owns free,
+    λ other is. (ap (λ (k : ℕ). coming k x y rights v) (same_cell other is), knew_too other is x (knew ws vs p at)),
   )
 
   -- an exchange, where the word is old
-  pub exchanges : (old y : ℕ) → cell < sizes.cells → v.slots.owns ≡ held_slots y → v.slots.holds ≡ None
-      → Steps (Parts sizes) id v i (λ x. either (eqb x old) y x) (AtCell (ExchangesCell old y) i v)
-  exchanges old y inside owns free ws vs p at small = let x : ℕ = get_or ws i 0 in let told = knew ws vs p at in
-      exchanged x old y (λ z. (u : View) × Parts sizes (set ws i z) (set vs id u) × AtCell (ExchangesCell old y) i v x u)
+  pub exchanges : (old y : ℕ) (rights : CellsView) → cell < sizes.cells → v.slots.owns ≡ held_slots y → v.slots.holds ≡ None
+      → Steps (Parts sizes) id v i (λ x. either (eqb x old) y x) (AtCell (ExchangesCell old y rights) i v)
+  exchanges old y rights inside owns free ws vs p at small = let x : ℕ = get_or ws i 0 in let told = knew ws vs p at in
+      exchanged x old y (λ z. (u : View) × Parts sizes (set ws i z) (set vs id u) × AtCell (ExchangesCell old y rights) i v x u)
       (λ hit. (
-        coming cell x y v,
-        comes ws vs p at inside y owns free,
+        coming cell x y rights v,
+        comes ws vs p at inside y rights owns free,
         λ other is. (
-          (λ e. (λ d. coming (same_cell other is d) (e d) y v)),
+          (λ _. ap (λ (k : ℕ). coming k x y rights v) (same_cell other is)),
           (λ no. absurd (no hit)),
           knew_too other is x told,
         ),

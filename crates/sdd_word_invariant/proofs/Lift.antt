@@ -9,6 +9,7 @@ use Rattle.atomic_table.proofs.Lists.{at_map, at_snoc, set_again, set_else, set_
 use Rattle.sdd_views.specs.declared.EpochView.{EpochView}
 use Rattle.sdd_views.specs.declared.EndedView.{EndedView}
 use Rattle.sdd_views.specs.declared.FractionsView.{FractionsView}
+use Rattle.sdd_views.specs.declared.CellsView.{CellsView}
 use Rattle.sdd_views.specs.declared.PledgesView.{PledgesView}
 use Rattle.sdd_views.specs.declared.View.{View}
 use Rattle.sdd_views.specs.declared.Sizes.{Sizes}
@@ -75,10 +76,10 @@ blind_places sizes ws vs id v at p t = let w : View = record v { places = t } in
   lone = lone_same sizes ws vs p.lone id v at w refl (λ z. z);
 }
 
--- nor of what is pledged
-pub blind_pledges : (sizes : Sizes) (ws : List ℕ) (vs : List View) (id : ℕ) (v : View) → get_elem? vs id ≡ some v → Parts sizes ws vs
-    → (t : PledgesView) → Parts sizes ws (set vs id (record v { pledges = t }))
-blind_pledges sizes ws vs id v at p t = let w : View = record v { pledges = t } in let f = p.slots.each id v at in record {
+-- nor of what is pledged, nor of rights to cells
+pub blind_tokens : (sizes : Sizes) (ws : List ℕ) (vs : List View) (id : ℕ) (v : View) → get_elem? vs id ≡ some v → Parts sizes ws vs
+    → (t : PledgesView) (c : CellsView) → Parts sizes ws (set vs id (record v { pledges = t; cells = c }))
+blind_tokens sizes ws vs id v at p t c = let w : View = record v { pledges = t; cells = c } in let f = p.slots.each id v at in record {
   epoch = subst (λ (l : List EpochView). EpochInvariant sizes.participants ws l) (sym (same_epochs vs id v w at refl)) p.epoch;
   slots = view_step codes sound sizes ws vs p.slots id v at w (λ _. refl) (λ _. refl)
       record { timed = f.timed; guarded = f.guarded; full = f.full; held = f.held }

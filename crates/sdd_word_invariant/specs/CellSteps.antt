@@ -1,5 +1,6 @@
 -- What each step on a cell makes of what the participant knows, and what it tells
 use Rattle.std.specs.Prelude.{◌≡◌, ◌≢◌, ℕ, List, [], ◌∷◌, slice_index, slice_set}
+use Rattle.sdd_views.specs.declared.CellsView.{CellsView}
 use Rattle.sdd_views.specs.declared.View.{View}
 use Rattle.sdd_word_invariant.specs.Words.{cell_word}
 use Rattle.sdd_word_invariant.specs.Codes.{held_slots}
@@ -15,18 +16,18 @@ cell_noted cell y v = slice_set v.words cell y
 abbrev pub KnewCell : ℕ → View → ℕ → Type 0
 KnewCell cell v x = IsLone v.epoch → x ≡ slice_index v.words cell
 
--- what a cell held comes, whose word was x, and y is in it then
-abbrev pub coming : ℕ → ℕ → ℕ → View → View
-coming cell x y v = record v { slots = record v.slots { owns = held_slots x }; words = cell_noted cell y v }
+-- what a cell held comes, whose word was x, and y is in it then; and these are the rights that it has
+abbrev pub coming : ℕ → ℕ → ℕ → CellsView → View → View
+coming cell x y rights v = record v { slots = record v.slots { owns = held_slots x }; cells = rights; words = cell_noted cell y v }
 
 -- each of these: what was known before, the number found (at a store the number stored), and what is known after
 -- the owner that it has, or none, goes into a cell, whose word is y then, and what the cell held comes
-abbrev pub SwapsCell : ℕ → ℕ → View → ℕ → View → Type 0
-SwapsCell y cell v x w = (w ≡ coming cell x y v) × KnewCell cell v x
+abbrev pub SwapsCell : ℕ → CellsView → ℕ → View → ℕ → View → Type 0
+SwapsCell y rights cell v x w = (w ≡ coming cell x y rights v) × KnewCell cell v x
 
 -- the same where the cell's word is old, else nothing
-abbrev pub ExchangesCell : ℕ → ℕ → ℕ → View → ℕ → View → Type 0
-ExchangesCell old y cell v x w = (x ≡ old → w ≡ coming cell old y v) × (x ≢ old → w ≡ v) × KnewCell cell v x
+abbrev pub ExchangesCell : ℕ → ℕ → CellsView → ℕ → View → ℕ → View → Type 0
+ExchangesCell old y rights cell v x w = (x ≡ old → w ≡ coming cell x y rights v) × (x ≢ old → w ≡ v) × KnewCell cell v x
 
 -- the word of a cell is looked at
 abbrev pub LooksAtCell : ℕ → View → ℕ → View → Type 0

@@ -1,0 +1,474 @@
+-- The steps on cells keep the whole invariant.
+use Rattle.std.proofs.Common.{◌≡◌, ◌≢◌, ◌⊎◌, inl, inr, ℕ, zero, suc, ◌+◌, ◌<◌, ◌≤◌, Bool, true, false, eqb, List, [], ◌∷◌, length, get_or, set, sym, refl, ap, ◌∙◌, subst, ⊎_elim, arith, length-set, get_or-set_other, get_or-set_same}
+use Rattle.std.specs.Prelude.{Some, None}
+use mathlib.Core.Option.{some, some-injective}
+use mathlib.Core.Logic.{dite}
+use native.Mathlib.Decide.{ℕ_discrete, dec_lt}
+use lib.ListN.{get_elem?}
+use lib.Seq.{set-get_or}
+use prog.Atomic.{either}
+use base.Stored.{Gv}
+use Rattle.atomic_table.specs.Table.{State, keeps, takes, Allows}
+use Rattle.atomic_table.proofs.Lists.{at_map, at_set, exchanged}
+use Rattle.sdd_witness.specs.Ledger.{Pledge}
+use Rattle.sdd_shared_values.specs.SharedValues.{IsValueCode}
+use Rattle.sdd_shared_values.specs.declared.value_fraction.ValueFraction.{ValueFraction}
+use Rattle.sdd_views.specs.declared.CellKind.{CellKind}
+use Rattle.sdd_views.specs.declared.CellKind.TheVariants.{Owned, Shared, Raw, Collector}
+use Rattle.sdd_views.specs.declared.CellRight.{CellRight}
+use Rattle.sdd_views.specs.declared.CellsView.{CellsView}
+use Rattle.sdd_views.specs.declared.ShownValue.{ShownValue}
+use Rattle.sdd_views.specs.contracts.View.{the_row}
+use Rattle.sdd_views.specs.declared.View.{View}
+use Rattle.sdd_views.specs.declared.Sizes.{Sizes}
+use Rattle.sdd_views.specs.Views.{owner_of, right_to}
+use Rattle.sdd_word_invariant.specs.Words.{cell_word, slot_word, words_behind}
+use Rattle.sdd_word_invariant.specs.Codes.{codes, alive, waiting, full, counted, names, held_slots, raw_word}
+use Rattle.sdd_word_invariant.specs.Epoch.{HasPlace, IsOpen, IsLone}
+use Rattle.sdd_word_invariant.specs.Sums.{times, total}
+use Rattle.sdd_word_invariant.specs.Slots.{slot_at, items_at, Owns, Sees, Holds}
+use Rattle.sdd_word_invariant.specs.EpochSteps.{Steps}
+use Rattle.sdd_word_invariant.specs.CellSteps.{KnewCell, coming, cell_noted, SwapsCell, ExchangesCell, LooksAtCell, SeesCell, AtCell}
+use Rattle.sdd_word_invariant.specs.WordInvariant.{epoch_of}
+use Rattle.sdd_word_invariant.proofs.Codes.{sound, held_in, held_which, raw_is}
+use Rattle.sdd_word_invariant.proofs.CellSteps as words
+use Rattle.sdd_word_invariant.proofs.SlotWords.{owner_in, owners_in}
+use Rattle.sdd_word_invariant.proofs.Frame.{each_set}
+use Rattle.sdd_word_invariant.proofs.Sums.{is_same, is_other, total_set, total_has, total_two}
+use Rattle.sdd_domain_invariant.specs.FractionsAtHome.{stake_at, away, full_at, Has, Moves, SeesFrom, LiesAt, FractionsInvariant}
+use Rattle.sdd_domain_invariant.specs.BankInvariant.{one_where}
+use Rattle.sdd_domain_invariant.specs.CellsInvariant.{cell_at, IsInCell, is_right, rights_at, HasRight, IsWordOf, IsTaken, CellsInvariant}
+use Rattle.sdd_domain_invariant.specs.Records.{IsIn, IsKnown, IsTelling}
+use Rattle.sdd_domain_invariant.specs.FilledInvariant.{newest, HasRecord, Tells}
+use Rattle.sdd_domain_invariant.specs.LastFractions.{IsRaw, IsStored, LastIs}
+use Rattle.sdd_domain_invariant.specs.PledgesInvariant.{IsOfOwner, IsOfCell}
+use Rattle.sdd_domain_invariant.specs.KindsInvariant.{KnowsKinds, KindsInvariant}
+use Rattle.sdd_domain_invariant.specs.DomainInvariant.{DomainInvariant}
+use Rattle.sdd_domain_invariant.specs.FractionSteps.{SeatState, IsValue, sighting}
+use Rattle.sdd_domain_invariant.specs.CellSteps.{kind_for, put_in, brought_out, gaining, rightless, KnewStored, BringsOut, SwapsOne, ExchangesOne, ClaimsCell, FreesCell, LooksInCell, SeesInCell, OfCell}
+use Rattle.sdd_domain_invariant.proofs.Part.{none_out, only_seen, one_taken}
+use Rattle.sdd_domain_invariant.proofs.Part as part
+use Rattle.sdd_domain_invariant.proofs.Banks as banks
+use Rattle.sdd_domain_invariant.proofs.Cells.{in_cell_alive, in_cell_beside, one_right, words_same}
+use Rattle.sdd_domain_invariant.proofs.Counts.{as_full, ended_spared, uncounted}
+use Rattle.sdd_domain_invariant.proofs.Records.{in_head, in_tail, in_either, in_none, known_by, told_seen}
+use Rattle.sdd_domain_invariant.proofs.Records as records
+use Rattle.sdd_domain_invariant.proofs.Fillings.{has_none, filled_learned, filled_after}
+use Rattle.sdd_domain_invariant.proofs.Telling.{none_moved, one_view}
+use Rattle.sdd_domain_invariant.proofs.Lasts.{AllKnow, stored_same, lasts_out, lasts_fewer}
+use Rattle.sdd_domain_invariant.proofs.Lift.{Keeps, Follows, IsCalm, keeps_ended, lift_homes, lift_calm}
+use Rattle.sdd_domain_invariant.proofs.KindSteps.{has_first, knows_still, same_within, bound_kept, pledges_spent, no_participants}
+use Rattle.sdd_domain_invariant.proofs.KindSteps as kind_steps
+use Rattle.sdd_domain_invariant.proofs.RawSteps as raws
+use Rattle.sdd_domain_invariant.proofs.Steps as steps
+
+-- a flag is told by its number
+one_flag : (a b : Bool) → one_where a ≡ one_where b → a ≡ b
+one_flag true true e = refl
+one_flag false false e = refl
+one_flag true false e = absurd (omega arith)
+one_flag false true e = absurd (omega arith)
+
+-- one slot in a list of one
+one_named : (i slot : ℕ) → 0 < times i (slot ∷ []) → slot ≡ i
+one_named i slot more = dite (ℕ_discrete slot i) (λ e. e) (λ ne. absurd (let o = is_other i slot ne in omega arith))
+
+only_record : (r : ShownValue) (i : ℕ) (g : Gv) → IsIn (r ∷ []) i g → (r.slot ≡ i) × (r.value ≡ g)
+only_record r i g a = ⊎_elim (λ (e : (r.slot ≡ i) × (r.value ≡ g)). e) (λ (b : IsIn [] i g). absurd (in_none i g b)) (in_either r [] i g a)
+
+abbrev first_of : ℕ → List ℕ → ℕ
+first_of k [] = k
+first_of k (m ∷ ms) = m
+
+abbrev first_right : CellRight → List CellRight → CellRight
+first_right r [] = r
+first_right r (q ∷ qs) = q
+
+-- where slots' words stay a word is of the kind that it was
+word_moves : (sizes : Sizes) (ws ws' : List ℕ) → ((j : ℕ) → slot_at sizes ws' j ≡ slot_at sizes ws j) → (kind : CellKind) (x x' : ℕ) → x' ≡ x
+    → IsWordOf sizes ws kind x → IsWordOf sizes ws' kind x'
+word_moves sizes ws ws' same Owned x x' e w = λ i n. let q = ap (names i) e in ap counted (same i) ∙ w i (omega arith)
+word_moves sizes ws ws' same Shared x x' e w = λ i n. let q = ap (names i) e in ap counted (same i) ∙ w i (omega arith)
+word_moves sizes ws ws' same Raw x x' e w = λ i. ap (names i) e ∙ w i
+word_moves sizes ws ws' same Collector x x' e w = λ i. ap (names i) e ∙ w i
+
+word_counted : (sizes : Sizes) (ws : List ℕ) (shared : Bool) (x : ℕ) → ((i : ℕ) → 0 < names i x → counted (slot_at sizes ws i) ≡ one_where shared)
+    → IsWordOf sizes ws (kind_for shared) x
+word_counted sizes ws true x w = w
+word_counted sizes ws false x w = w
+
+counted_word : (sizes : Sizes) (ws : List ℕ) (shared : Bool) (x : ℕ) → IsWordOf sizes ws (kind_for shared) x → (i : ℕ) → 0 < names i x
+    → counted (slot_at sizes ws i) ≡ one_where shared
+counted_word sizes ws true x w = w
+counted_word sizes ws false x w = w
+
+-- it has no owner, or one, with its record
+module _ (m : ℕ) (v : View) (t : IsTelling m v) (cell y : ℕ) (rights : CellsView) (rests : v.stakes.moves ≡ None) where
+  put_tells : IsTelling m (record (put_in cell y v) { cells = rights })
+  put_tells = record {
+    owns = λ i g a. absurd (in_none i g a);
+    owned = λ i o. absurd (omega arith);
+    sees = t.sees;
+    waits = t.waits;
+    waiting = t.waiting;
+    inside = λ i g k. ⊎_elim (λ (a : IsIn [] i g). absurd (in_none i g a)) (λ b. t.inside i g (inr b)) k;
+  }
+
+  brought_tells : (slot : ℕ) → slot < m → (shared : Bool) (value : Gv) → IsTelling m (record (brought_out cell y slot shared value v) { cells = rights })
+  brought_tells slot low shared value = let r : ShownValue = record { slot = slot; shared = shared; value = value } in
+      let w : View = brought_out cell y slot shared value v in record {
+        owns = λ i g a. let e = only_record r i g a in (let o = is_same i slot e.0 in let l : Owns w i = omega arith in l, none_moved w i rests);
+        owned = λ i o still. (value, in_head r [] i value (one_named i slot o) refl);
+        sees = t.sees;
+        waits = t.waits;
+        waiting = t.waiting;
+        inside = λ i g k. ⊎_elim (λ (a : IsIn (r ∷ []) i g). let e = (only_record r i g a).0 in omega arith) (λ b. t.inside i g (inr b)) k;
+      }
+
+module _ (slots id : ℕ) (me : SeatState) (live : HasPlace me.0.epoch) (rests : me.0.stakes.moves ≡ None) where
+  abbrev v : View
+  v = me.0
+
+  abbrev γ : ℕ
+  γ = me.0.stakes.book
+
+  abbrev sizes : Sizes
+  sizes = me.0.sizes
+
+  abbrev n : ℕ
+  n = me.0.sizes.participants
+
+  abbrev May : ℕ → (ℕ → ℕ) → (ℕ → SeatState → Type 0) → Type 0
+  May = steps.May slots id me live
+
+  module _ (cell : ℕ) (inside : cell < sizes.cells) where
+    abbrev i : ℕ
+    i = cell_word sizes cell
+
+    at_once : (R : ℕ → SeatState → ℕ → SeatState → Type 0) (x : ℕ) (me' : SeatState) → R cell me x me' → OfCell R i me x me'
+    at_once R x me' r other is = let same : cell ≡ other = omega arith in subst (λ (k : ℕ). R k me x me') same r
+
+    -- a cell's word is none of a place's
+    spares : (f : ℕ → ℕ) (then : ℕ → View → Type 0) → ((r : ℕ) (w : View) → then r w → w.places ≡ v.places) → Keeps γ sizes slots id me i f then
+    spares f then places = keeps_ended γ sizes slots id me i f then places (λ s h at p low e was. absurd (omega arith)) (inl live)
+
+    -- what comes out doesn't change the rights that it has
+    brings_same : (y : ℕ) (shared : Bool) (x : ℕ) (m : SeatState) → BringsOut y shared cell me x m
+        → BringsOut y shared cell me x (record m.0 { cells = v.cells }, m.1)
+    brings_same y shared x m brings = (
+      (λ none. ap (λ (k : SeatState). (record k.0 { cells = v.cells }, k.1)) (brings.0 none)),
+      λ slot one. let b = brings.1 slot one in
+          (b.0, b.1, b.2, ap (λ (k : SeatState). (record k.0 { cells = v.cells }, k.1)) b.3, b.4),
+    )
+
+    module _ (s : State ValueFraction View) (h : DomainInvariant γ sizes s) where
+      within : i < length s.words
+      within = let l = h.kept.parts.slots.long in omega arith
+
+      -- the words of slots stay, and of other cells
+      module _ (y : ℕ) where
+        abbrev after : List ℕ
+        after = set s.words i y
+
+        slots_stay : (j : ℕ) → slot_at sizes after j ≡ slot_at sizes s.words j
+        slots_stay j = get_or-set_other s.words i (slot_word sizes j) y 0 (λ e. omega arith)
+
+        full_stay : (j : ℕ) → j < sizes.slots → full_at sizes after j ≡ full_at sizes s.words j
+        full_stay j _ = ap full (slots_stay j)
+
+        here : cell_at sizes after cell ≡ y
+        here = get_or-set_same s.words i y 0 within
+
+        there : (d : ℕ) → d ≢ cell → cell_at sizes after d ≡ cell_at sizes s.words d
+        there d ne = get_or-set_other s.words i (cell_word sizes d) y 0 (λ e. ne (omega arith))
+
+      -- whoever has the right to the cell, its word is of this kind
+      abbrev IsOfKind : Bool → Type 0
+      IsOfKind shared = (j : ℕ) → 0 < names j (cell_at sizes s.words cell) → counted (slot_at sizes s.words j) ≡ one_where shared
+
+      module _ (at : get_elem? s.views id ≡ some v) where
+        -- nobody moves the value of an item whose owner is in the cell
+        still : (slot : ℕ) → 0 < names slot (cell_at sizes s.words cell) → (j : ℕ) (u : View) → get_elem? s.views j ≡ some u → ¬ (Moves u slot)
+        still slot named j u e m = let c : IsInCell sizes s.words slot = (cell, inside, named) in let alive_now = in_cell_alive sizes s.words s.views h.kept.parts.slots slot c in ⊎_elim
+            (λ (o : Owns u slot). let one = (h.kinds.each j u e).sole slot m o in
+            let b = in_cell_beside sizes s.words s.views h.kept.parts.slots slot c j u e in absurd (omega arith))
+            (λ (o : 0 < items_at slot u). let t = total_has (items_at slot) s.views j u e in let w = h.kept.parts.slots.waited slot in
+            let quiet = (sound.lives (slot_at sizes s.words slot) alive_now).0 in absurd (omega arith))
+            (h.homes.moving j u e slot m).1
+
+        -- one with a place isn't a token of owners alone
+        placed : 0 < v.sizes.participants
+        placed = let near = (h.kept.parts.epoch.each id v.epoch (at_map epoch_of s.views id v at)).inside live in omega arith
+
+        -- what it has goes into the cell, whose word is y then
+        module _ (y : ℕ) (owns : v.slots.owns ≡ held_slots y) (loose : v.slots.holds ≡ None) (undrawn : v.slots.drawn ≡ []) (shared : Bool)
+            (given : (r : ShownValue) → HasRecord v.stakes.owns r → r.shared ≡ shared) where
+          -- it has a record of the owner that y names
+          named_record : (j : ℕ) → 0 < names j y → (r : ShownValue) × HasRecord v.stakes.owns r × (r.slot ≡ j) × IsKnown s.views j r.value
+          named_record j named = let e = held_in y j in let o = ap (times j) owns in let own : Owns v j = omega arith in
+              let b = ((h.records.each id v at).owned j own (none_moved v j rests)).1 in
+              (b.1, (b.0, b.2), b.3, records.mine sizes s.views s.homes h.records id v at j b.1.value (inl (b.0, b.1, b.2, b.3, refl)))
+
+          -- its owners are counted or not, as it tells
+          told_kind : (j : ℕ) → 0 < names j y → counted (slot_at sizes s.words j) ≡ one_where shared
+          told_kind j named = let r = named_record j named in ap (λ (k : ℕ). counted (slot_at sizes s.words k)) (sym r.2)
+              ∙ ((h.kinds.each id v at).told r.0 r.1 (λ o. let c : None ≡ Some r.0.slot = sym loose ∙ o in cc) ∙ ap one_where (given r.0 r.1))
+
+          -- what is stored then was so before, or was known
+          stored_then : (j : ℕ) (kind : Bool) → j < sizes.slots → IsStored sizes (after y) j kind
+              → IsStored sizes s.words j kind ⊎ AllKnow sizes s.words s.views s.homes h.lasts id v at j kind
+          stored_then j kind near is = ⊎_elim
+              (λ (a : IsRaw sizes (after y) j × (kind ≡ false)). inl (inl (sym (slots_stay y j) ∙ a.0, a.1)))
+              (λ (b : IsInCell sizes (after y) j × (counted (slot_at sizes (after y) j) ≡ one_where kind)). let c = b.0 in let n' = c.2 in
+              let was : counted (slot_at sizes s.words j) ≡ one_where kind = sym (ap counted (slots_stay y j)) ∙ b.1 in dite (ℕ_discrete c.0 cell)
+              (λ e. let q = ap (names j) (ap (cell_at sizes (after y)) e ∙ here y) in let named : 0 < names j y = omega arith in
+              let r = named_record j named in let flag : kind ≡ shared = one_flag kind shared (sym was ∙ told_kind j named) in
+              inr (λ one m u e' live z last. let shows : r.0.value ≡ z.lot.shown = sym (h.records.home j n r.0.value z near (omega arith) r.3 last) in
+              let flags : r.0.shared ≡ kind = given r.0 r.1 ∙ sym flag in
+              ap (λ (k : ℕ). newest k u.stakes.filled) (sym r.2) ∙ (h.filled.knows one m id u v r.0 e' live at (inl r.1)
+              ∙ (λ d. Some (record { slot = r.2 d; shared = flags d; value = shows d })))))
+              (λ ne. let q = ap (names j) (there y c.0 ne) in inl (inr ((c.0, c.1, (omega arith)), was)))) is
+
+          -- what is known of kinds, where it has these rights
+          kinds_then : (w : View) → w.words ≡ cell_noted cell y v → w.stakes.moves ≡ None → w.slots.over ≡ v.slots.over → w.pledges ≡ v.pledges
+              → (HasPlace v.epoch → HasPlace w.epoch) → w.sizes ≡ v.sizes
+              → ((r : ShownValue) → HasRecord w.stakes.owns r → counted (slot_at sizes s.words r.slot) ≡ one_where r.shared)
+              → CellsInvariant sizes (after y) (set s.views id w) → KindsInvariant sizes (after y) (set s.views id w)
+          kinds_then w words_are still_now over pledges lives of tells cells = record {
+            each = each_set (KnowsKinds sizes s.words) (KnowsKinds sizes (after y)) s.views id w
+                record {
+                  long = ap length words_are ∙ (length-set v.words cell y ∙ ((h.kinds.each id v at).long ∙ ap words_behind (sym of)));
+                  sole = λ j m. absurd (none_moved w j still_now m);
+                  claimed = λ j m. absurd (none_moved w j still_now m);
+                  told = λ r a _. ap counted (slots_stay y r.slot) ∙ tells r a;
+                }
+                (λ j u apart e. knows_still sizes s.words (after y) u (h.kinds.each j u e) (h.records.each j u e) (λ k. inl (slots_stay y k)));
+            bound = bound_kept sizes s.words s.views h.kinds.bound id v at (after y) w
+                (λ k. same_within (slot_at sizes s.words k) (slot_at sizes (after y) k) (slots_stay y k)) over (inl lives);
+            pledges = pledges_spent s.views h.kinds.pledges id v w at pledges (no_participants s.views h.kinds.pledges id v at placed);
+            cells = cells;
+          }
+
+          -- the cell held none
+          follows_none : (told : ℕ → SeatState → Type 0) (rights : CellsView) → held_slots (cell_at sizes s.words cell) ≡ []
+              → CellsInvariant sizes (after y) (set s.views id (record (put_in cell y v) { cells = rights }))
+              → told (cell_at sizes s.words cell) (record (put_in cell y v) { cells = rights }, me.1)
+              → Follows γ sizes id i me told s y (coming cell (cell_at sizes s.words cell) y rights v)
+          follows_none told rights none cells tells = let now : View = record (put_in cell y v) { cells = rights } in
+              let mine = records.mine sizes s.views s.homes h.records id v at in
+              subst (Follows γ sizes id i me told s y)
+              (λ d. record v { slots = record v.slots { owns = sym none d }; cells = rights; words = cell_noted cell y v }) record {
+                stakes = now.stakes;
+                act = keeps;
+                valid = tt;
+                homes = part.calm γ sizes s.words s.views s.homes h.homes id v at (after y) now (λ j p out. out) (full_stay y) (none_out now rests);
+                records = records.no_more sizes s.views s.homes h.records id v at now (λ b. h.records.deposits id v at b) s.homes
+                    (put_tells sizes.slots v (h.records.each id v at) cell y rights rests)
+                    (λ j g k. known_by now j g (λ a. absurd (in_none j g a)) (λ a. mine j g (inr (inl a))) (λ a. mine j g (inr (inr a))) k)
+                    (λ j p z _ _ lies. inl lies) (λ j m. m) (λ j a. a);
+                counts = uncounted sizes s.words s.views h.counts id v at (after y) now refl (λ l. l) (as_full sizes s.words (after y) (full_stay y))
+                    (ended_spared sizes s.words i y (λ p low e was. absurd (omega arith)) n (omega arith));
+                filled = steps.filled_by slots id me live s h at now refl
+                    (steps.tells_old_by slots id me live s h at now (λ r a. absurd (has_none r [] refl a)) (λ r a. inr a));
+                bank = banks.calm γ sizes s.words s.views h.bank id v at (after y) now
+                    record { bank = refl; founds = refl; book = refl; banked = refl; drawn = refl } refl
+                    (λ k. let z = ap (times k) undrawn in omega arith) (full_stay y);
+                lasts = lasts_out sizes s.words s.views s.homes h.lasts id v at (after y) now (λ b. (b, refl)) refl (λ l. l) stored_then;
+                kinds = kinds_then now refl rests refl refl (λ l. l) refl (λ r a. absurd (has_none r [] refl a)) cells;
+                tells = tells;
+              }
+
+          -- it held one, which comes out
+          module _ (slot : ℕ) (one : held_slots (cell_at sizes s.words cell) ≡ slot ∷ []) (kind : IsOfKind shared) where
+            named : 0 < names slot (cell_at sizes s.words cell)
+            named = let e = held_in (cell_at sizes s.words cell) slot in let o = ap (times slot) one in let l = is_same slot slot refl in omega arith
+
+            low : slot < sizes.slots
+            low = h.kinds.cells.inside slot (cell, inside, named)
+
+            abbrev last : (z : ValueFraction) × LastIs sizes s.homes slot z
+            last = raws.last_home slots id me live slot low s h (still slot named)
+
+            abbrev shown_value : Gv
+            shown_value = last.0.lot.shown
+
+            is_value : IsValueCode shown_value
+            is_value = let a = in_cell_alive sizes s.words s.views h.kept.parts.slots slot (cell, inside, named) in
+                (h.homes.home slot n last.0 low (omega arith) last.1).1.0 (sound.lives (slot_at sizes s.words slot) a).1
+
+            knew_stored : KnewStored slot shared shown_value v
+            knew_stored lone = h.lasts.stored (steps.one_place γ sizes s h id v at lone) id v at live slot shared last.0 low
+                (inr ((cell, inside, named), kind slot named)) last.1
+
+            follows_one : (told : ℕ → SeatState → Type 0) (rights : CellsView)
+                → CellsInvariant sizes (after y) (set s.views id (record (brought_out cell y slot shared shown_value v) { cells = rights }))
+                → told (cell_at sizes s.words cell) (record (brought_out cell y slot shared shown_value v) { cells = rights }, me.1)
+                → Follows γ sizes id i me told s y (coming cell (cell_at sizes s.words cell) y rights v)
+            follows_one told rights cells tells = let now : View = record (brought_out cell y slot shared shown_value v) { cells = rights } in
+                let r : ShownValue = record { slot = slot; shared = shared; value = shown_value } in
+                let mine = records.mine sizes s.views s.homes h.records id v at in
+                subst (Follows γ sizes id i me told s y)
+                (λ d. record v { slots = record v.slots { owns = sym one d }; cells = rights; words = cell_noted cell y v }) record {
+                  stakes = now.stakes;
+                  act = keeps;
+                  valid = tt;
+                  homes = part.calm γ sizes s.words s.views s.homes h.homes id v at (after y) now (λ j p out. out) (full_stay y) (none_out now rests);
+                  records = records.comes_to_learn sizes s.views s.homes h.records id v at slot n shown_value last.0 low (omega arith) last.1
+                      (raws.all_shown slots id me live slot low s h (still slot named)) (λ j b e is. h.lasts.banks j b e is slot last.0 low last.1) now
+                      (λ is. (is, refl)) s.homes (brought_tells sizes.slots v (h.records.each id v at) cell y rights rests slot low shared shown_value)
+                      (λ j g k. known_by now j g (λ a. let e = only_record r j g a in inl (sym e.0, sym e.1))
+                      (λ a. inr (mine j g (inr (inl a)))) (λ a. inr (mine j g (inr (inr a)))) k)
+                      (λ j p z l. l)
+                      (λ j m. absurd (none_moved now j rests m))
+                      (λ j u _ e. ((λ k m. absurd (none_moved now k rests m)), (λ k m sees. h.records.apart j id u v k e at m sees)));
+                  counts = uncounted sizes s.words s.views h.counts id v at (after y) now refl (λ l. l) (as_full sizes s.words (after y) (full_stay y))
+                      (ended_spared sizes s.words i y (λ p low e was. absurd (omega arith)) n (omega arith));
+                  filled = filled_learned sizes s.views h.filled id v at now refl (λ l. l) r
+                      (λ q told. ⊎_elim (λ (a : HasRecord (r ∷ []) q). ⊎_elim (λ (b : r ≡ q). inl (sym b))
+                      (λ (b : HasRecord [] q). absurd (has_none q [] refl b)) (has_first r [] q a))
+                      (λ (a : HasRecord v.stakes.waits q). inr (id, v, at, inr a)) told)
+                      (λ single j u e placed. h.lasts.stored single j u e placed slot shared last.0 low (inr ((cell, inside, named), kind slot named)) last.1);
+                  bank = banks.calm γ sizes s.words s.views h.bank id v at (after y) now
+                      record { bank = refl; founds = refl; book = refl; banked = refl; drawn = refl } refl
+                      (λ k. let z = ap (times k) undrawn in omega arith) (full_stay y);
+                  lasts = lasts_out sizes s.words s.views s.homes h.lasts id v at (after y) now (λ b. (b, refl)) refl (λ l. l) stored_then;
+                  kinds = kinds_then now refl rests refl refl (λ l. l) refl
+                      (λ q a. ⊎_elim (λ (b : r ≡ q). subst (λ (x : ShownValue). counted (slot_at sizes s.words x.slot) ≡ one_where x.shared) b (kind slot named))
+                      (λ (b : HasRecord [] q). absurd (has_none q [] refl b)) (has_first r [] q a)) cells;
+                  tells = tells;
+                }
+
+          -- what there is of rights then: those to other cells, and to this one, whose word is of its kind
+          cells_then : (w : View) → ((d : ℕ) → total (rights_at d) (set s.views id w) ≤ 1)
+              → ((j : ℕ) (u : View) (r : CellRight) → get_elem? (set s.views id w) j ≡ some u → HasRight u r
+              → ((r.cell ≢ cell) × IsTaken sizes s.words r) ⊎ ((r.cell ≡ cell) × (0 < y) × IsWordOf sizes s.words r.kind y))
+              → CellsInvariant sizes (after y) (set s.views id w)
+          cells_then w single rights = record {
+            inside = λ j c. dite (ℕ_discrete c.0 cell)
+                (λ e. let q = ap (names j) (ap (cell_at sizes (after y)) e ∙ here y) in let n' = c.2 in let named : 0 < names j y = omega arith in
+                let r = named_record j named in
+                subst (λ (k : ℕ). k < sizes.slots) r.2 ((h.records.each id v at).inside r.0.slot r.0.value (inl (r.1.0, r.0, r.1.1, refl, refl))))
+                (λ ne. let q = ap (names j) (there y c.0 ne) in let n' = c.2 in h.kinds.cells.inside j (c.0, c.1, (omega arith)));
+            single = single;
+            taken = λ j u r e has. ⊎_elim
+                (λ (a : (r.cell ≢ cell) × IsTaken sizes s.words r). record {
+                  inside = a.1.inside;
+                  full = let q = there y r.cell a.0 in let f = a.1.full in omega arith;
+                  kind = word_moves sizes s.words (after y) (slots_stay y) r.kind (cell_at sizes s.words r.cell) (cell_at sizes (after y) r.cell)
+                      (there y r.cell a.0) a.1.kind;
+                })
+                (λ (b : (r.cell ≡ cell) × (0 < y) × IsWordOf sizes s.words r.kind y).
+                let q : cell_at sizes (after y) r.cell ≡ y = ap (cell_at sizes (after y)) b.0 ∙ here y in let more = b.1 in record {
+                  inside = subst (λ (k : ℕ). k < sizes.cells) (sym b.0) inside;
+                  full = omega arith;
+                  kind = word_moves sizes s.words (after y) (slots_stay y) r.kind y (cell_at sizes (after y) r.cell) q b.2;
+                }) (rights j u r e has);
+          }
+
+          -- a word that names an owner that it has is one of that kind of cells
+          word_given : IsWordOf sizes s.words (kind_for shared) y
+          word_given = word_counted sizes s.words shared y told_kind
+
+          -- it has the rights that it had, among which is one to this cell, or another's
+          cells_swapped : (w : View) → w.cells ≡ v.cells → 0 < y → (j : ℕ) (u : View) → get_elem? s.views j ≡ some u
+              → HasRight u (record { cell = cell; kind = kind_for shared }) → CellsInvariant sizes (after y) (set s.views id w)
+          cells_swapped w same more j u there_is has = cells_then w (λ d. let a = total_set (rights_at d) s.views id v w at in
+              let e = ap (λ (c : CellsView). total (is_right d) c.rights) same in let o = h.kinds.cells.single d in omega arith)
+              (λ k x r e mine. let old : (k' : ℕ) × (x' : View) × (get_elem? s.views k' ≡ some x') × HasRight x' r = ⊎_elim
+              (λ (t : (k ≡ id) × (w ≡ x)). (id, v, at,
+              (mine.0, ap (λ (c : CellsView). get_elem? c.rights mine.0) (sym same) ∙ (ap (λ (z : View). get_elem? z.cells.rights mine.0) t.1 ∙ mine.1))))
+              (λ (t : (k ≢ id) × (get_elem? s.views k ≡ some x)). (k, x, t.1, mine)) (at_set s.views id k w x e) in
+              dite (ℕ_discrete r.cell cell)
+              (λ is. let one = one_right sizes s.words s.views h.kinds.cells j old.0 u old.1 (record { cell = cell; kind = kind_for shared }) r there_is old.2 has
+              old.3 (sym is) in
+              inr (is, more, subst (λ (q : CellRight). IsWordOf sizes s.words q.kind y) one word_given))
+              (λ ne. inl (ne, h.kinds.cells.taken old.0 old.1 r old.2 old.3)))
+
+        -- nothing changes
+        unmoved : (told : ℕ → SeatState → Type 0) → told (get_or s.words i 0) me → Follows γ sizes id i me told s (get_or s.words i 0) v
+        unmoved told tells = let x : ℕ = get_or s.words i 0 in record {
+          stakes = v.stakes;
+          act = keeps;
+          valid = tt;
+          homes = part.calm γ sizes s.words s.views s.homes h.homes id v at (set s.words i x) v (λ j p out. out) (full_stay x) (h.homes.moving id v at);
+          records = records.calm sizes s.views s.homes h.records id v at v (refl, refl, refl, (λ _. refl), refl);
+          counts = uncounted sizes s.words s.views h.counts id v at (set s.words i x) v refl (λ l. l) (as_full sizes s.words (set s.words i x) (full_stay x))
+              (ended_spared sizes s.words i x (λ p low e was. absurd (omega arith)) n (omega arith));
+          filled = steps.still_filled slots id me live s h at v refl refl refl;
+          bank = banks.alike γ sizes s.words s.views h.bank id v at (set s.words i x) v (refl, refl, refl, (λ _. refl), refl) (full_stay x);
+          lasts = lasts_fewer sizes s.words s.views s.homes h.lasts id v at (set s.words i x) v s.homes (λ _ _ _ _ l. l) (λ b. (b, refl)) refl
+              (λ _ _. inl live) (stored_same sizes s.words i);
+          kinds = kind_steps.calm sizes s.words s.views h.kinds h.records.each id v at (set s.words i x) v (words_same sizes s.words i)
+              (refl, refl, refl, (λ _. refl), refl) refl refl (λ _ o. o) (steps.post slots id me live s h at v refl refl refl refl (λ l. l));
+          tells = tells;
+        }
+
+    -- what it has goes into the cell, and what that held comes out
+    module _ (y : ℕ) (owns : v.slots.owns ≡ held_slots y) (loose : v.slots.holds ≡ None) (undrawn : v.slots.drawn ≡ []) (shared : Bool)
+        (given : (r : ShownValue) → HasRecord v.stakes.owns r → r.shared ≡ shared) where
+      -- by any step that tells what came out
+      comes_out : (s : State ValueFraction View) (h : DomainInvariant γ sizes s) (at : get_elem? s.views id ≡ some v) (told : ℕ → SeatState → Type 0)
+          (rights : CellsView) → IsOfKind s h shared
+          → ((base : View) → base.cells ≡ v.cells → CellsInvariant sizes (after s h y) (set s.views id (record base { cells = rights })))
+          → ((m : SeatState) → BringsOut y shared cell me (cell_at sizes s.words cell) m → told (cell_at sizes s.words cell) (record m.0 { cells = rights }, m.1))
+          → Follows γ sizes id i me told s y (coming cell (cell_at sizes s.words cell) y rights v)
+      comes_out s h at told rights kind cells tells = let x : ℕ = cell_at sizes s.words cell in ⊎_elim
+          (λ (c : (slot : ℕ) × (held_slots x ≡ slot ∷ [])). let slot : ℕ = c.0 in let one = c.1 in
+          let value : Gv = shown_value s h at y owns loose undrawn shared given slot one kind in
+          let base : View = brought_out cell y slot shared value v in let seat : SeatState = (base, me.1) in
+          follows_one s h at y owns loose undrawn shared given slot one kind told rights (cells base refl)
+          (tells (base, me.1) ((λ none. absurd (let c : ◌≡◌ {A = List ℕ} (slot ∷ []) [] = sym one ∙ none in cc)),
+          λ other e. let same : slot ≡ other = ap (first_of slot) (sym one ∙ e) in
+          subst (λ (k : ℕ). (g : Gv) × (k < sizes.slots) × IsValueCode g × (seat ≡ (brought_out cell y k shared g v, me.1)) × KnewStored k shared g v) same
+          (value, low s h at y owns loose undrawn shared given slot one kind, is_value s h at y owns loose undrawn shared given slot one kind, refl,
+          knew_stored s h at y owns loose undrawn shared given slot one kind))))
+          (λ (none : held_slots x ≡ []). let base : View = put_in cell y v in
+          follows_none s h at y owns loose undrawn shared given told rights none (cells base refl)
+          (tells (base, me.1) ((λ _. refl), λ slot one. absurd (let c : ◌≡◌ {A = List ℕ} (slot ∷ []) [] = sym one ∙ none in cc)))) (held_which x)
+
+      -- beside the token of the right to the cell, of whose view a share is pledged
+      module _ (p : Pledge) (own : v.pledges.own ≡ p ∷ []) (is : p.view ≡ the_row.coded.code (right_to cell (kind_for shared))) (more : 0 < y) where
+        abbrev the_right : CellRight
+        the_right = record { cell = cell; kind = kind_for shared }
+
+        module _ (s : State ValueFraction View) (h : DomainInvariant γ sizes s) (at : get_elem? s.views id ≡ some v) where
+          beside : IsOfCell s.views p
+          beside = ⊎_elim
+              (λ (o : IsOfOwner s.views p). let e = the_row.coded.inj (right_to cell (kind_for shared)) (owner_of o.slot true o.value) (sym is ∙ o.view) in
+              let c : ◌≡◌ {A = List ℕ} [] (o.slot ∷ []) = ap (λ (u : View). u.slots.owns) e in cc)
+              (λ (o : IsOfCell s.views p). o) (h.kinds.pledges.backed id v p at own).beside
+
+          has_right : HasRight beside.owner the_right
+          has_right = let e = the_row.coded.inj (right_to cell (kind_for shared)) (right_to beside.right.cell beside.right.kind) (sym is ∙ beside.view) in
+              subst (HasRight beside.owner) (sym (ap (λ (u : View). first_right the_right u.cells.rights) e)) beside.has
+
+          of_kind : IsOfKind s h shared
+          of_kind = counted_word sizes s.words shared (cell_at sizes s.words cell)
+              (h.kinds.cells.taken p.seat beside.owner the_right beside.there has_right).kind
+
+          cells_stay : (base : View) → base.cells ≡ v.cells → CellsInvariant sizes (after s h y) (set s.views id (record base { cells = v.cells }))
+          cells_stay base same = cells_swapped s h at y owns loose undrawn shared given (record base { cells = v.cells }) refl more p.seat beside.owner
+              beside.there has_right
+
+        pub swaps : May i (λ _. y) (OfCell (SwapsOne y shared) i me)
+        swaps = let told : ℕ → SeatState → Type 0 = OfCell (SwapsOne y shared) i me in
+            lift_homes γ sizes slots id me i (λ _. y) (AtCell (SwapsCell y v.cells) i v) told
+            (spares (λ _. y) (AtCell (SwapsCell y v.cells) i v) (λ r w t. ap (λ (u : View). u.places) (t cell refl).0))
+            (words.swaps id v live cell y v.cells inside owns loose)
+            (λ s w h at t. let c = t cell refl in subst (Follows γ sizes id i me told s y) (sym c.0)
+            (comes_out s h at told v.cells (of_kind s h at) (cells_stay s h at)
+            (λ m brings. at_once (SwapsOne y shared) (cell_at sizes s.words cell) (record m.0 { cells = v.cells }, m.1) (brings_same y shared (cell_at sizes s.words cell) m brings, c.1))))
+
+        pub exchanges : (old : ℕ) → May i (λ x. either (eqb x old) y x) (OfCell (ExchangesOne old y shared) i me)
+        exchanges old = let told : ℕ → SeatState → Type 0 = OfCell (ExchangesOne old y shared) i me in
+            let f : ℕ → ℕ = λ x. either (eqb x old) y x in let R : ℕ → SeatState → ℕ → SeatState → Type 0 = ExchangesOne old y shared in
+            lift_homes γ sizes slots id me i f (AtCell (ExchangesCell old y v.cells) i v) told
+            (spares f (AtCell (ExchangesCell old y v.cells) i v) (λ r w t. let c = t cell refl in dite (ℕ_discrete r old)
+            (λ e. ap (λ (u : View). u.places) (c.0 e)) (λ ne. ap (λ (u : View). u.places) (c.1 ne))))
+            (words.exchanges id v live cell old y v.cells inside owns loose)
+            (λ s w h at t. let x : ℕ = get_or s.words i 0 in let c = t cell refl in exchanged x old y (λ z. Follows γ sizes id i me told s z w)
+            (λ hit. subst (Follows γ sizes id i me told s y) (sym (c.0 hit))
+            (comes_out s h at told v.cells (of_kind s h at) (cells_stay s h at)
+            (λ m brings. at_once R x (record m.0 { cells = v.cells }, m.1) ((λ _. brings_same y shared x m brings), (λ no. absurd (no hit)), c.2))))
+            (λ miss. subst (Follows γ sizes id i me told s x) (sym (c.1 miss))
+            (unmoved s h at told (at_once R x me ((λ hit. absurd (miss hit)), (λ _. refl), c.2)))))

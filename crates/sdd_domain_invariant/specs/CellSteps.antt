@@ -1,0 +1,86 @@
+-- What each step on a cell makes of the seat: an owner goes into a cell, and what the cell held comes out
+use Rattle.std.specs.Prelude.{◌≡◌, ◌≢◌, ℕ, ◌<◌, ◌++◌, if◌then◌else◌, Bool, [], ◌∷◌}
+use base.Stored.{Gv}
+use Rattle.sdd_shared_values.specs.SharedValues.{IsValueCode}
+use Rattle.sdd_views.specs.declared.CellKind.{CellKind}
+use Rattle.sdd_views.specs.declared.CellKind.TheVariants.{Owned, Shared}
+use Rattle.sdd_views.specs.declared.View.{View}
+use Rattle.sdd_views.specs.Views.{owner_token, no_rights}
+use Rattle.sdd_word_invariant.specs.Words.{cell_word}
+use Rattle.sdd_word_invariant.specs.Codes.{held_slots}
+use Rattle.sdd_word_invariant.specs.Epoch.{IsLone}
+use Rattle.sdd_word_invariant.specs.CellSteps.{cell_noted, KnewCell}
+use Rattle.sdd_domain_invariant.specs.FractionSteps.{SeatState, IsNewest, SeesOwned}
+
+-- what a cell is for, that holds owners of which there may be several, or not
+abbrev pub kind_for : Bool → CellKind
+kind_for shared = if shared then Shared else Owned
+
+-- what it had of owners is in a cell, whose word is y then
+abbrev pub put_in : ℕ → ℕ → View → View
+put_in cell y v = record v { slots = record v.slots { owns = [] }; stakes = record v.stakes { owns = [] }; words = cell_noted cell y v }
+
+-- and it has what the cell held: an owner of a slot, which shows this
+abbrev pub brought_out : ℕ → ℕ → ℕ → Bool → Gv → View → View
+brought_out cell y slot shared value v = record v {
+  slots = record v.slots { owns = slot ∷ [] };
+  stakes = record v.stakes { owns = record { slot = slot; shared = shared; value = value } ∷ [] };
+  words = cell_noted cell y v;
+}
+
+-- it has the right to a cell more
+abbrev pub gaining : ℕ → CellKind → View → View
+gaining cell kind v = record v { cells = record { rights = record { cell = cell; kind = kind } ∷ v.cells.rights } }
+
+-- it has the right to none
+abbrev pub rightless : View → View
+rightless v = record v { cells = no_rights }
+
+-- the rights that it has go to a token of their own
+abbrev pub rights_of : View → View
+rights_of v = record (owner_token []) { cells = v.cells }
+
+-- the rights that another token has come
+abbrev pub righted : View → View → View
+righted v w = record v { cells = record { rights = w.cells.rights ++ v.cells.rights } }
+
+-- what a stored item shows a lone participant moved in last, for an owner of this kind
+abbrev pub KnewStored : ℕ → Bool → Gv → View → Type 0
+KnewStored slot shared value v = IsLone v.epoch → IsNewest slot shared value v
+
+-- each of these: the seat before, the number found, and the seat after
+-- the owner that it has, or none, is in the cell then, whose word is y; and it has the one of this kind that the cell held, or none
+abbrev pub BringsOut : ℕ → Bool → ℕ → SeatState → ℕ → SeatState → Type 0
+BringsOut y shared cell me x me' = (held_slots x ≡ [] → me' ≡ (put_in cell y me.0, me.1))
+    × ((slot : ℕ) → held_slots x ≡ slot ∷ [] → (value : Gv) × (slot < me.0.sizes.slots) × IsValueCode value
+    × (me' ≡ (brought_out cell y slot shared value me.0, me.1)) × KnewStored slot shared value me.0)
+
+-- a swap
+abbrev pub SwapsOne : ℕ → Bool → ℕ → SeatState → ℕ → SeatState → Type 0
+SwapsOne y shared cell me x me' = BringsOut y shared cell me x me' × KnewCell cell me.0 x
+
+-- an exchange
+abbrev pub ExchangesOne : ℕ → ℕ → Bool → ℕ → SeatState → ℕ → SeatState → Type 0
+ExchangesOne old y shared cell me x me' = (x ≡ old → BringsOut y shared cell me x me') × (x ≢ old → me' ≡ me) × KnewCell cell me.0 x
+
+-- the claim of a cell that is free
+abbrev pub ClaimsCell : ℕ → CellKind → ℕ → SeatState → ℕ → SeatState → Type 0
+ClaimsCell y kind cell me x me' = (x ≡ 0 → me' ≡ (gaining cell kind (put_in cell y me.0), me.1)) × (x ≢ 0 → me' ≡ me) × KnewCell cell me.0 x
+
+-- a cell is free then, of which it had the right
+abbrev pub FreesCell : Bool → ℕ → SeatState → ℕ → SeatState → Type 0
+FreesCell shared cell me x me' = ((m : SeatState) × BringsOut 0 shared cell me x m × (me' ≡ (rightless m.0, m.1))) × KnewCell cell me.0 x
+
+-- a look
+abbrev pub LooksInCell : ℕ → SeatState → ℕ → SeatState → Type 0
+LooksInCell cell me x me' = (me' ≡ me) × KnewCell cell me.0 x
+
+-- a look under a guard, which sees the item whose owner the cell holds from now on
+abbrev pub SeesInCell : ℕ → SeatState → ℕ → SeatState → Type 0
+SeesInCell cell me x me' = (held_slots x ≡ [] → me' ≡ me)
+    × ((slot : ℕ) → held_slots x ≡ slot ∷ [] → (shared : Bool) × (value : Gv) × (slot < me.0.sizes.slots) × SeesOwned slot shared value me me'
+    × KnewStored slot shared value me.0) × KnewCell cell me.0 x
+
+-- a step on the word i tells R of the cell whose word it is
+abbrev pub OfCell : (ℕ → SeatState → ℕ → SeatState → Type 0) → ℕ → SeatState → ℕ → SeatState → Type 0
+OfCell R i me x me' = (cell : ℕ) → i ≡ cell_word me.0.sizes cell → R cell me x me'
