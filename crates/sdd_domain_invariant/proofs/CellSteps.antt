@@ -1,7 +1,7 @@
 -- The steps on cells keep the whole invariant.
 use Rattle.std.proofs.Common.{◌≡◌, ◌≢◌, ◌⊎◌, inl, inr, ℕ, zero, suc, ◌+◌, ◌<◌, ◌≤◌, Bool, true, false, eqb, List, [], ◌∷◌, length, get_or, set, sym, refl, ap, ◌∙◌, subst, ⊎_elim, arith, length-set, get_or-set_other, get_or-set_same}
 use Rattle.std.specs.Prelude.{Some, None}
-use mathlib.Core.Option.{some, some-injective}
+use mathlib.Core.Option.{none as absent, some, some-injective}
 use mathlib.Core.Logic.{dite}
 use native.Mathlib.Decide.{ℕ_discrete, dec_lt}
 use lib.ListN.{get_elem?}
@@ -21,7 +21,7 @@ use Rattle.sdd_views.specs.declared.ShownValue.{ShownValue}
 use Rattle.sdd_views.specs.contracts.View.{the_row}
 use Rattle.sdd_views.specs.declared.View.{View}
 use Rattle.sdd_views.specs.declared.Sizes.{Sizes}
-use Rattle.sdd_views.specs.Views.{owner_of, right_to}
+use Rattle.sdd_views.specs.Views.{no_rights, owner_of, right_to}
 use Rattle.sdd_word_invariant.specs.Words.{cell_word, slot_word, words_behind}
 use Rattle.sdd_word_invariant.specs.Codes.{codes, alive, waiting, full, counted, names, held_slots, raw_word}
 use Rattle.sdd_word_invariant.specs.Epoch.{HasPlace, IsOpen, IsLone}
@@ -30,7 +30,7 @@ use Rattle.sdd_word_invariant.specs.Slots.{slot_at, items_at, Owns, Sees, Holds}
 use Rattle.sdd_word_invariant.specs.EpochSteps.{Steps}
 use Rattle.sdd_word_invariant.specs.CellSteps.{KnewCell, coming, cell_noted, SwapsCell, ExchangesCell, LooksAtCell, SeesCell, AtCell}
 use Rattle.sdd_word_invariant.specs.WordInvariant.{epoch_of}
-use Rattle.sdd_word_invariant.proofs.Codes.{sound, held_in, held_which, raw_is}
+use Rattle.sdd_word_invariant.proofs.Codes.{sound, counts_or_not, held_in, held_which, holds_none}
 use Rattle.sdd_word_invariant.proofs.CellSteps as words
 use Rattle.sdd_word_invariant.proofs.SlotWords.{owner_in, owners_in}
 use Rattle.sdd_word_invariant.proofs.Frame.{each_set}
@@ -44,12 +44,12 @@ use Rattle.sdd_domain_invariant.specs.LastFractions.{IsRaw, IsStored, LastIs}
 use Rattle.sdd_domain_invariant.specs.PledgesInvariant.{IsOfOwner, IsOfCell}
 use Rattle.sdd_domain_invariant.specs.KindsInvariant.{KnowsKinds, KindsInvariant}
 use Rattle.sdd_domain_invariant.specs.DomainInvariant.{DomainInvariant}
-use Rattle.sdd_domain_invariant.specs.FractionSteps.{SeatState, IsValue, sighting}
+use Rattle.sdd_domain_invariant.specs.FractionSteps.{SeatState, IsValue, SeesOwned, sighting}
 use Rattle.sdd_domain_invariant.specs.CellSteps.{kind_for, put_in, brought_out, gaining, rightless, KnewStored, BringsOut, SwapsOne, ExchangesOne, ClaimsCell, FreesCell, LooksInCell, SeesInCell, OfCell}
 use Rattle.sdd_domain_invariant.proofs.Part.{none_out, only_seen, one_taken}
 use Rattle.sdd_domain_invariant.proofs.Part as part
 use Rattle.sdd_domain_invariant.proofs.Banks as banks
-use Rattle.sdd_domain_invariant.proofs.Cells.{in_cell_alive, in_cell_beside, one_right, words_same}
+use Rattle.sdd_domain_invariant.proofs.Cells.{in_cell_alive, in_cell_beside, one_right, no_right, cell_is_free, words_same}
 use Rattle.sdd_domain_invariant.proofs.Counts.{as_full, ended_spared, uncounted}
 use Rattle.sdd_domain_invariant.proofs.Records.{in_head, in_tail, in_either, in_none, known_by, told_seen}
 use Rattle.sdd_domain_invariant.proofs.Records as records
@@ -69,6 +69,11 @@ one_flag false false e = refl
 one_flag true false e = absurd (omega arith)
 one_flag false true e = absurd (omega arith)
 
+-- whether a word counts its slot's owners
+flag_of : (x : ℕ) → (shared : Bool) × (counted x ≡ one_where shared)
+flag_of x = ⊎_elim (λ (e : counted x ≡ 1). let b : (shared : Bool) × (counted x ≡ one_where shared) = (true, e) in b)
+    (λ (e : counted x ≡ 0). (false, e)) (counts_or_not x)
+
 -- one slot in a list of one
 one_named : (i slot : ℕ) → 0 < times i (slot ∷ []) → slot ≡ i
 one_named i slot more = dite (ℕ_discrete slot i) (λ e. e) (λ ne. absurd (let o = is_other i slot ne in omega arith))
@@ -83,6 +88,11 @@ first_of k (m ∷ ms) = m
 abbrev first_right : CellRight → List CellRight → CellRight
 first_right r [] = r
 first_right r (q ∷ qs) = q
+
+-- the first of a list, or another
+first_or : (r : CellRight) (rs : List CellRight) (q : CellRight) (k : ℕ) → get_elem? (r ∷ rs) k ≡ some q → (r ≡ q) ⊎ ((m : ℕ) × (get_elem? rs m ≡ some q))
+first_or r rs q zero e = inl (some-injective r q e)
+first_or r rs q (suc k) e = inr (k, e)
 
 -- where slots' words stay a word is of the kind that it was
 word_moves : (sizes : Sizes) (ws ws' : List ℕ) → ((j : ℕ) → slot_at sizes ws' j ≡ slot_at sizes ws j) → (kind : CellKind) (x x' : ℕ) → x' ≡ x
@@ -472,3 +482,162 @@ module _ (slots id : ℕ) (me : SeatState) (live : HasPlace me.0.epoch) (rests :
             (λ m brings. at_once R x (record m.0 { cells = v.cells }, m.1) ((λ _. brings_same y shared x m brings), (λ no. absurd (no hit)), c.2))))
             (λ miss. subst (Follows γ sizes id i me told s x) (sym (c.1 miss))
             (unmoved s h at told (at_once R x me ((λ hit. absurd (miss hit)), (λ _. refl), c.2)))))
+
+      -- the claim of a cell for this kind of owners, which has the word of such a cell then
+      pub claims : (kind : CellKind) → 0 < y
+          → ((ws : List ℕ) → ((j : ℕ) → 0 < names j y → counted (slot_at sizes ws j) ≡ one_where shared) → IsWordOf sizes ws kind y)
+          → May i (λ x. either (eqb x 0) y x) (OfCell (ClaimsCell y kind) i me)
+      claims kind more fits = let told : ℕ → SeatState → Type 0 = OfCell (ClaimsCell y kind) i me in let f : ℕ → ℕ = λ x. either (eqb x 0) y x in
+          let right : CellRight = record { cell = cell; kind = kind } in let rights : CellsView = record { rights = right ∷ v.cells.rights } in
+          let R : ℕ → SeatState → ℕ → SeatState → Type 0 = ClaimsCell y kind in
+          lift_homes γ sizes slots id me i f (AtCell (ExchangesCell 0 y rights) i v) told
+          (spares f (AtCell (ExchangesCell 0 y rights) i v) (λ r w t. let c = t cell refl in dite (ℕ_discrete r 0)
+          (λ e. ap (λ (u : View). u.places) (c.0 e)) (λ ne. ap (λ (u : View). u.places) (c.1 ne))))
+          (words.exchanges id v live cell 0 y rights inside owns loose)
+          (λ s w h at t. let x : ℕ = get_or s.words i 0 in let c = t cell refl in exchanged x 0 y (λ z. Follows γ sizes id i me told s z w)
+          (λ hit. let none = ap held_slots hit ∙ holds_none 0 (inl (omega arith)) in
+          let free = cell_is_free sizes s.words s.views h.kinds.cells cell hit in let now : View = record (put_in cell y v) { cells = rights } in
+          subst (Follows γ sizes id i me told s y) (sym (c.0 hit))
+          (follows_none s h at y owns loose undrawn shared given told rights none
+          (cells_then s h at y owns loose undrawn shared given now
+          (λ d. let a = total_set (rights_at d) s.views id v now at in let o = h.kinds.cells.single d in dite (ℕ_discrete cell d)
+          (λ e. let one = is_same d cell e in let z = ap (λ (k : ℕ). total (rights_at k) s.views) e in omega arith)
+          (λ ne. let other = is_other d cell ne in omega arith))
+          (λ k u r e mine. let old : (k' : ℕ) (x' : View) → get_elem? s.views k' ≡ some x' → HasRight x' r → (r.cell ≢ cell) × IsTaken sizes s.words r
+          = λ k' x' e' has. (
+            (λ same. let m = total_has (is_right r.cell) x'.cells.rights has.0 r has.1 in let one = is_same r.cell r.cell refl in
+                let all = total_has (rights_at r.cell) s.views k' x' e' in let z = ap (λ (j : ℕ). total (rights_at j) s.views) same in absurd (omega arith)),
+            h.kinds.cells.taken k' x' r e' has,
+          ) in ⊎_elim
+          (λ (b : (k ≡ id) × (now ≡ u)). ⊎_elim
+          (λ (first : right ≡ r). inr (ap (λ (q : CellRight). q.cell) (sym first), more,
+          subst (λ (q : CellRight). IsWordOf sizes s.words q.kind y) first (fits s.words (told_kind s h at y owns loose undrawn shared given))))
+          (λ (has : HasRight v r). inl (old id v at has))
+          (first_or right v.cells.rights r mine.0 (ap (λ (q : View). get_elem? q.cells.rights mine.0) b.1 ∙ mine.1)))
+          (λ (b : (k ≢ id) × (get_elem? s.views k ≡ some u)). inl (old k u b.1 mine)) (at_set s.views id k now u e)))
+          (at_once R x (now, me.1) ((λ _. refl), (λ no. absurd (no hit)), c.2))))
+          (λ miss. subst (Follows γ sizes id i me told s x) (sym (c.1 miss))
+          (unmoved s h at told (at_once R x me ((λ hit. absurd (miss hit)), (λ _. refl), c.2)))))
+
+    -- the cell is free again, of which it has the right
+    pub frees : v.slots.owns ≡ [] → v.slots.holds ≡ None → v.slots.drawn ≡ [] → (shared : Bool) → ((r : ShownValue) → ¬ (HasRecord v.stakes.owns r))
+        → v.cells.rights ≡ record { cell = cell; kind = kind_for shared } ∷ [] → May i (λ _. 0) (OfCell (FreesCell shared) i me)
+    frees owns loose undrawn shared none mine = let told : ℕ → SeatState → Type 0 = OfCell (FreesCell shared) i me in
+        let right : CellRight = record { cell = cell; kind = kind_for shared } in
+        let owns_is : v.slots.owns ≡ held_slots 0 = owns ∙ sym (holds_none 0 (inl (omega arith))) in
+        let given : (r : ShownValue) → HasRecord v.stakes.owns r → r.shared ≡ shared = λ r has. absurd (none r has) in
+        lift_homes γ sizes slots id me i (λ _. 0) (AtCell (SwapsCell 0 no_rights) i v) told
+        (spares (λ _. 0) (AtCell (SwapsCell 0 no_rights) i v) (λ r w t. ap (λ (u : View). u.places) (t cell refl).0))
+        (words.swaps id v live cell 0 no_rights inside owns_is loose)
+        (λ s w h at t. let c = t cell refl in let has : HasRight v right = (0, ap (λ (l : List CellRight). get_elem? l 0) mine) in
+        subst (Follows γ sizes id i me told s 0) (sym c.0)
+        (comes_out 0 owns_is loose undrawn shared given s h at told no_rights
+        (counted_word sizes s.words shared (cell_at sizes s.words cell) (h.kinds.cells.taken id v right at has).kind)
+        (λ base same. let now : View = record base { cells = no_rights } in cells_then s h at 0 owns_is loose undrawn shared given now
+        (λ d. let a = total_set (rights_at d) s.views id v now at in let o = h.kinds.cells.single d in omega arith)
+        (λ k u r e its. ⊎_elim
+        (λ (b : (k ≡ id) × (now ≡ u)). absurd (no_right u (ap (λ (q : View). q.cells.rights) (sym b.1)) r its))
+        (λ (b : (k ≢ id) × (get_elem? s.views k ≡ some u)). inl (
+          (λ is. let d : ℕ = r.cell in let m = total_has (is_right d) u.cells.rights its.0 r its.1 in let one = is_same d d refl in
+              let m' = total_has (is_right d) v.cells.rights has.0 right has.1 in let one' = is_same d cell (sym is) in
+              let both = total_two (rights_at d) s.views k id u v b.0 b.1 at in let o = h.kinds.cells.single d in absurd (omega arith)),
+          h.kinds.cells.taken k u r b.1 its,
+        )) (at_set s.views id k now u e)))
+        (λ m brings. at_once (FreesCell shared) (cell_at sizes s.words cell) (record m.0 { cells = no_rights }, m.1) ((m, brings, refl), c.1))))
+
+    -- a look
+    pub looks_in : May i (λ x. x) (OfCell LooksInCell i me)
+    looks_in = let told : ℕ → SeatState → Type 0 = OfCell LooksInCell i me in lift_homes γ sizes slots id me i (λ x. x) (AtCell LooksAtCell i v) told
+        (spares (λ x. x) (AtCell LooksAtCell i v) (λ r w t. ap (λ (u : View). u.places) (t cell refl).0)) (words.looks_at id v live cell)
+        (λ s w h at t. let x : ℕ = get_or s.words i 0 in let c = t cell refl in subst (Follows γ sizes id i me told s x) (sym c.0)
+        (unmoved s h at told (at_once LooksInCell x me (refl, c.1))))
+
+    -- a look under a guard, which sees the item whose owner the cell holds
+    module _ (is_open : IsOpen v.epoch) (near : v.epoch.place < n) where
+      abbrev q : ℕ
+      q = v.epoch.place
+
+      pub sees_in : May i (λ x. x) (OfCell SeesInCell i me)
+      sees_in = let told : ℕ → SeatState → Type 0 = OfCell SeesInCell i me in lift_homes γ sizes slots id me i (λ x. x) (AtCell SeesCell i v) told
+          (spares (λ x. x) (AtCell SeesCell i v) (λ x w t. let c = t cell refl in ⊎_elim
+          (λ (one : (slot : ℕ) × (held_slots x ≡ slot ∷ [])). dite (dec_lt 0 (times one.0 v.slots.sees))
+          (λ sees. ap (λ (u : View). u.places) (c.1 one.0 one.1 sees)) (λ unseen. ap (λ (u : View). u.places) (c.0 one.0 one.1 unseen)))
+          (λ (none : held_slots x ≡ []). ap (λ (u : View). u.places) (c.2 none)) (held_which x)))
+          (words.sees id v live cell inside is_open)
+          (λ s w h at t. let x : ℕ = get_or s.words i 0 in let c = t cell refl in let r = h.records in let tells = r.each id v at in
+          let mine = records.mine sizes s.views s.homes r id v at in ⊎_elim
+          (λ (held : (slot : ℕ) × (held_slots x ≡ slot ∷ [])). let slot : ℕ = held.0 in
+          let named : 0 < names slot x = (let e = held_in x slot in let o = ap (times slot) held.1 in let l = is_same slot slot refl in omega arith) in
+          let in_it : IsInCell sizes s.words slot = (cell, inside, named) in let low = h.kinds.cells.inside slot in_it in
+          let alive_now = in_cell_alive sizes s.words s.views h.kept.parts.slots slot in_it in
+          let full_now : full_at sizes s.words slot ≡ 1 = (sound.lives (slot_at sizes s.words slot) alive_now).1 in let calm = still s h at slot named in
+          let last = raws.last_home slots id me live slot low s h calm in let z : ValueFraction = last.0 in let value : Gv = z.lot.shown in
+          let shows_all = raws.all_shown slots id me live slot low s h calm in let flag = flag_of (slot_at sizes s.words slot) in let shared : Bool = flag.0 in
+          let knew : KnewStored slot shared value v = λ lone. h.lasts.stored (steps.one_place γ sizes s h id v at lone) id v at live slot shared z low
+          (inr (in_it, flag.1)) last.1 in
+          let told_of : (m : SeatState) → SeesOwned slot shared value me m → SeesInCell cell me x m
+          = λ m sees. (
+            (λ none. absurd (let d : ◌≡◌ {A = List ℕ} (slot ∷ []) [] = sym held.1 ∙ none in cc)),
+            (λ k e. let same : slot ≡ k = ap (first_of slot) (sym held.1 ∙ e) in
+                subst (λ (j : ℕ). (b : Bool) × (g : Gv) × (j < sizes.slots) × SeesOwned j b g me m × KnewStored j b g v) same (shared, value, low, sees, knew)),
+            c.3,
+          ) in
+          dite (dec_lt 0 (times slot v.slots.sees))
+          (λ sees. let is = told_seen v tells slot sees in
+          let shows : is.0 ≡ value = sym (r.home slot n is.0 z low (omega arith) (mine slot is.0 (inr (inl is.1))) last.1) in
+          subst (Follows γ sizes id i me told s x) (sym (c.1 slot held.1 sees)) (unmoved s h at told (at_once SeesInCell x me
+          (told_of me ((λ _. (refl, subst (IsIn v.stakes.sees slot) shows is.1)), (λ unseen. absurd (unseen sees)))))))
+          (λ unseen. let b = raws.own_home slots id me live slot low is_open near rests s h at calm full_now unseen in let y : ValueFraction = b.0 in
+          let spot : ℕ = stake_at n slot q in
+          let shows : y.lot.shown ≡ value = shows_all q y (omega arith) b.1 in
+          let now : View = sighting slot shared value v in let record_now : ShownValue = record { slot = slot; shared = shared; value = value } in
+          let one = is_same slot slot refl in subst (Follows γ sizes id i me told s x) (sym (c.0 slot held.1 unseen)) record {
+            stakes = now.stakes;
+            act = takes spot y;
+            valid = b.1;
+            homes = subst (λ (ws : List ℕ). FractionsInvariant γ sizes ws (set s.views id now) (set s.homes spot absent)) (sym (set-get_or s.words i 0))
+                (part.takes_one γ sizes s.words s.views s.homes h.homes id v at slot q (omega arith) now (inr (omega arith, refl))
+                (λ j p out. let o = only_seen v rests j p out in inr (let a = o.0 in omega arith, o.1))
+                (none_out now rests));
+            kinds = kind_steps.same sizes s.words s.views h.kinds h.records.each id v at now refl refl refl refl refl refl (set s.words i x)
+                (words_same sizes s.words i) (steps.post slots id me live s h at now refl refl refl refl (λ l. l));
+            records = records.comes_to_learn sizes s.views s.homes r id v at slot n value z low (omega arith) last.1
+                shows_all (λ j d e is. h.lasts.banks j d e is slot z low last.1) now (λ is. (is, refl)) (set s.homes spot absent)
+                record {
+                  owns = tells.owns;
+                  owned = tells.owned;
+                  sees = ap (λ (l : List ℕ). slot ∷ l) tells.sees;
+                  waits = tells.waits;
+                  waiting = tells.waiting;
+                  inside = λ j g k. ⊎_elim (λ (a : IsIn v.stakes.owns j g). tells.inside j g (inl a))
+                      (λ (o : IsIn now.stakes.sees j g ⊎ IsIn v.stakes.waits j g). ⊎_elim
+                      (λ (a : IsIn now.stakes.sees j g). ⊎_elim (λ (e : (slot ≡ j) × (value ≡ g)). let same = e.0 in omega arith)
+                      (λ (d : IsIn v.stakes.sees j g). tells.inside j g (inr (inl d))) (in_either record_now v.stakes.sees j g a))
+                      (λ (d : IsIn v.stakes.waits j g). tells.inside j g (inr (inr d))) o) k;
+                }
+                (λ j g k. known_by now j g (λ a. inr (mine j g (inl a))) (λ a. ⊎_elim
+                (λ (e : (slot ≡ j) × (value ≡ g)). inl (sym e.0, sym e.1))
+                (λ (d : IsIn v.stakes.sees j g). inr (mine j g (inr (inl d)))) (in_either record_now v.stakes.sees j g a)) (λ a. inr (mine j g (inr (inr a))))
+                k)
+                (λ j p u l. one_taken s.homes spot (stake_at n j p) u l)
+                (λ j m. absurd (none_moved v j rests m))
+                (λ j u _ e. (
+                  (λ k m. absurd (none_moved v k rests m)),
+                  (λ k m sees. dite (ℕ_discrete k slot) (λ same. calm j u e (subst (Moves u) same m))
+                      (λ ne. r.apart j id u v k e at m (let o = is_other k slot (λ e. ne (sym e)) in omega arith))),
+                ));
+            counts = uncounted sizes s.words s.views h.counts id v at (set s.words i x) now refl (λ l. l) (as_full sizes s.words (set s.words i x) (full_stay s h x))
+                (ended_spared sizes s.words i x (λ p low e was. absurd (omega arith)) n (omega arith));
+            filled = steps.still_filled slots id me live s h at now refl refl refl;
+            bank = banks.calm γ sizes s.words s.views h.bank id v at (set s.words i x) now
+                record { bank = refl; founds = refl; book = refl; banked = refl; drawn = refl } refl (h.bank.low id v at) (full_stay s h x);
+            lasts = lasts_fewer sizes s.words s.views s.homes h.lasts id v at (set s.words i x) now (set s.homes spot absent)
+                (λ j p u _ l. one_taken s.homes spot (stake_at n j p) u l) (λ b. (b, refl)) refl (λ _ _. inl live) (stored_same sizes s.words i);
+            tells = at_once SeesInCell x (now, (spot, y) ∷ me.1) (told_of (now, (spot, y) ∷ me.1)
+                ((λ sees. absurd (unseen sees)), (λ _. (y, subst (λ (g : Gv). Has γ slot 1 (IsValue g) y) shows b.2, refl))));
+          }))
+          (λ (empty : held_slots x ≡ []). subst (Follows γ sizes id i me told s x) (sym (c.2 empty)) (unmoved s h at told (at_once SeesInCell x me (
+            (λ _. refl),
+            (λ slot one. absurd (let d : ◌≡◌ {A = List ℕ} (slot ∷ []) [] = sym one ∙ empty in cc)),
+            c.3,
+          )))) (held_which x))

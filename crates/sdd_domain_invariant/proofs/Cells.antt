@@ -2,7 +2,7 @@
 use Rattle.std.proofs.Common.{◌≡◌, ◌≢◌, ◌⊎◌, inl, inr, ℕ, suc, ◌+◌, ◌<◌, ◌≤◌, List, [], ◌∷◌, ◌++◌, length, get_or, set, sym, refl, ap, ◌∙◌, subst, ⊎_elim, arith, get_or-set_other}
 use mathlib.Core.Logic.{dite}
 use mathlib.Core.Option.{some, some-injective, some-ne-none}
-use native.Mathlib.Decide.{ℕ_discrete}
+use native.Mathlib.Decide.{ℕ_discrete, dec_lt}
 use lib.ListN.{get_elem?}
 use lib.Seq.{set-get_or}
 use Rattle.sdd_views.specs.declared.CellKind.{CellKind}
@@ -18,7 +18,7 @@ use Rattle.sdd_word_invariant.specs.Sums.{total}
 use Rattle.sdd_word_invariant.proofs.Codes.{sound}
 use Rattle.sdd_word_invariant.proofs.Frame.{each_set, each_snoc}
 use Rattle.sdd_word_invariant.proofs.SlotWords.{named_in}
-use Rattle.sdd_word_invariant.proofs.Sums.{is_same, total_set, total_snoc, total_has, total_two, span_has}
+use Rattle.sdd_word_invariant.proofs.Sums.{is_same, is_other, total_set, total_snoc, total_has, total_two, total_some, span_has}
 use Rattle.atomic_table.proofs.Lists.{at_set}
 use Rattle.sdd_domain_invariant.specs.CellsInvariant.{cell_at, IsInCell, is_right, rights_at, HasRight, IsWordOf, IsTaken, CellsInvariant}
 
@@ -103,6 +103,15 @@ module _ (sizes : Sizes) (ws : List ℕ) (vs : List View) (part : CellsInvariant
       (λ ne. let both = total_two (is_right d) u.cells.rights has.0 has'.0 r q ne has.1 here in let all = total_has (rights_at d) vs j u at in
       absurd (omega arith)))
       (λ ne. let both = total_two (rights_at d) vs j k u x ne at at' in absurd (omega arith))
+
+  -- nobody has the right to a cell that is free
+  pub cell_is_free : (cell : ℕ) → cell_at sizes ws cell ≡ 0 → total (rights_at cell) vs ≡ 0
+  cell_is_free cell empty = dite (dec_lt 0 (total (rights_at cell) vs))
+      (λ more. let a = total_some (rights_at cell) vs more in let v : View = a.1 in let b = total_some (is_right cell) v.cells.rights a.3 in
+      let r : CellRight = b.1 in let t = part.taken a.0 v r a.2 (b.0, b.2) in let f = t.full in dite (ℕ_discrete r.cell cell)
+      (λ e. let z = ap (cell_at sizes ws) e in absurd (omega arith))
+      (λ ne. let z = is_other cell r.cell ne in let m = b.3 in absurd (omega arith)))
+      (λ none. omega arith)
 
   -- a new token that has the right to none
   pub cells_more : (t : View) → t.cells.rights ≡ [] → CellsInvariant sizes ws (vs ++ t ∷ [])

@@ -280,11 +280,12 @@ module _ (slots id : ℕ) (me : SeatState) (live : HasPlace me.0.epoch) where
       abbrev spot : ℕ
       spot = stake_at n slot q
 
-      -- the fraction of its own place is at home, as it doesn't see the slot yet
-      own_home : (s : State ValueFraction View) (h : DomainInvariant γ sizes s) → get_elem? s.views id ≡ some v → slot_at sizes s.words slot ≡ raw_word 0
-          → ¬ (Sees v slot) → (y : ValueFraction) × LiesAt n s.homes slot q y × Has γ slot 1 (IsValue y.lot.shown) y
-      own_home s h at hit unseen = let p = h.kept.parts in
-          let b = h.homes.back slot q inside (omega arith) (λ j x e out. ⊎_elim (λ (m : Moves x slot). still s h hit j x e m)
+      -- the fraction of its own place is at home, as it doesn't see the slot yet, whose value is there and isn't moved
+      pub own_home : (s : State ValueFraction View) (h : DomainInvariant γ sizes s) → get_elem? s.views id ≡ some v
+          → ((j : ℕ) (u : View) → get_elem? s.views j ≡ some u → ¬ (Moves u slot)) → full_at sizes s.words slot ≡ 1 → ¬ (Sees v slot)
+          → (y : ValueFraction) × LiesAt n s.homes slot q y × Has γ slot 1 (IsValue y.lot.shown) y
+      own_home s h at calm there_is unseen = let p = h.kept.parts in
+          let b = h.homes.back slot q inside (omega arith) (λ j x e out. ⊎_elim (λ (m : Moves x slot). calm j x e m)
           (λ (o : SeesFrom x slot q). dite (ℕ_discrete id j)
           (λ same. unseen (subst (λ (z : View). Sees z slot) (one_view s.views id j x v e at (sym same)) o.0))
           (λ ne. let theirs = (p.slots.each j x e).guarded slot o.0 in
@@ -294,7 +295,7 @@ module _ (slots id : ℕ) (me : SeatState) (live : HasPlace me.0.epoch) where
             y,
             b.1,
             subst (λ (k : ℕ). Has γ slot k (IsValue y.lot.shown) y) (share_one n (away n (full_at sizes s.words slot)) q near)
-                (has.0, (has.1.0 (filled s h hit), refl)),
+                (has.0, (has.1.0 there_is, refl)),
           )
 
       -- where the word says so, the fraction is taken
@@ -326,7 +327,7 @@ module _ (slots id : ℕ) (me : SeatState) (live : HasPlace me.0.epoch) where
             (λ no. absurd (no hit)),
             c.2,
           ))))
-          (λ unseen. let b = own_home s h at hit unseen in let y : ValueFraction = b.0 in
+          (λ unseen. let b = own_home s h at (still s h hit) (filled s h hit) unseen in let y : ValueFraction = b.0 in
           let shows : y.lot.shown ≡ value = all_shown s h (still s h hit) q y (omega arith) b.1 in
           let now : View = sighting slot false value v in let record_now : ShownValue = record { slot = slot; shared = false; value = value } in
           let one = is_same slot slot refl in subst (Follows γ sizes id i me told s x) (sym (c.0 hit unseen)) record {

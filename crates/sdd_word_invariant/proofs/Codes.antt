@@ -153,6 +153,12 @@ cell_null x h a = let y : ℕ = x % 2 ^ 27 in ⊎_elim
     ∙ ap (λ (t : _). either t 0 (is a (y / 4 - 1))) (eq-eqb (y / 4) 0 (omega arith)))
     (λ (l : unowned ≤ y). ap (λ (t : _). either t 0 (either (eqb (y / 4) 0) 0 (is a (y / 4 - 1)))) (le-leb unowned y l)) h
 
+-- a word counts its slot's owners, or not
+pub counts_or_not : (x : ℕ) → (counted x ≡ 1) ⊎ (counted x ≡ 0)
+unfolding counted
+counts_or_not x = ⊎_elim (λ (t : (leb shared_base x ≡ true) × (shared_base ≤ x)). inl (ap (λ (b : Bool). either b 1 0) t.0))
+    (λ (t : (leb shared_base x ≡ false) × (x < shared_base)). inr (ap (λ (b : Bool). either b 1 0) t.0)) (leb_tells shared_base x)
+
 -- which owner a cell holds
 pub holds_one : (slot tag : ℕ) → tag < 4 → holding_word slot tag < unowned → held_slots (holding_word slot tag) ≡ slot ∷ []
 unfolding held_slots
