@@ -49,7 +49,7 @@ use Rattle.sdd_domain_invariant.specs.CellSteps.{kind_for, put_in, brought_out, 
 use Rattle.sdd_domain_invariant.proofs.Part.{none_out, only_seen, one_taken}
 use Rattle.sdd_domain_invariant.proofs.Part as part
 use Rattle.sdd_domain_invariant.proofs.Banks as banks
-use Rattle.sdd_domain_invariant.proofs.Cells.{in_cell_alive, in_cell_beside, one_right, no_right, cell_is_free, words_same}
+use Rattle.sdd_domain_invariant.proofs.Cells.{in_cell_alive, in_cell_beside, one_right, no_right, cell_is_free, first_or, words_same}
 use Rattle.sdd_domain_invariant.proofs.Counts.{as_full, ended_spared, uncounted}
 use Rattle.sdd_domain_invariant.proofs.Records.{in_head, in_tail, in_either, in_none, known_by, told_seen}
 use Rattle.sdd_domain_invariant.proofs.Records as records
@@ -88,11 +88,6 @@ first_of k (m ∷ ms) = m
 abbrev first_right : CellRight → List CellRight → CellRight
 first_right r [] = r
 first_right r (q ∷ qs) = q
-
--- the first of a list, or another
-first_or : (r : CellRight) (rs : List CellRight) (q : CellRight) (k : ℕ) → get_elem? (r ∷ rs) k ≡ some q → (r ≡ q) ⊎ ((m : ℕ) × (get_elem? rs m ≡ some q))
-first_or r rs q zero e = inl (some-injective r q e)
-first_or r rs q (suc k) e = inr (k, e)
 
 -- where slots' words stay a word is of the kind that it was
 word_moves : (sizes : Sizes) (ws ws' : List ℕ) → ((j : ℕ) → slot_at sizes ws' j ≡ slot_at sizes ws j) → (kind : CellKind) (x x' : ℕ) → x' ≡ x

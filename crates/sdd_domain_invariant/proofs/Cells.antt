@@ -1,5 +1,5 @@
 -- What cells hold, after one step
-use Rattle.std.proofs.Common.{◌≡◌, ◌≢◌, ◌⊎◌, inl, inr, ℕ, suc, ◌+◌, ◌<◌, ◌≤◌, List, [], ◌∷◌, ◌++◌, length, get_or, set, sym, refl, ap, ◌∙◌, subst, ⊎_elim, arith, get_or-set_other}
+use Rattle.std.proofs.Common.{◌≡◌, ◌≢◌, ◌⊎◌, inl, inr, ℕ, zero, suc, ◌+◌, ◌<◌, ◌≤◌, List, [], ◌∷◌, ◌++◌, length, get_or, set, sym, refl, ap, ◌∙◌, subst, ⊎_elim, arith, get_or-set_other}
 use mathlib.Core.Logic.{dite}
 use mathlib.Core.Option.{some, some-injective, some-ne-none}
 use native.Mathlib.Decide.{ℕ_discrete, dec_lt}
@@ -85,6 +85,11 @@ module _ (sizes : Sizes) (ws : List ℕ) where
 
     pub in_cell_beside : (j : ℕ) (v : View) → get_elem? vs j ≡ some v → owners_at i v < alive (slot_at sizes ws i)
     in_cell_beside j v at = let h = named_in codes sound sizes ws vs s j c.0 i v at c.1 in let n = c.2 in omega arith
+
+-- the first of a list, or another
+pub first_or : (r : CellRight) (rs : List CellRight) (q : CellRight) (k : ℕ) → get_elem? (r ∷ rs) k ≡ some q → (r ≡ q) ⊎ ((m : ℕ) × (get_elem? rs m ≡ some q))
+first_or r rs q zero e = inl (some-injective r q e)
+first_or r rs q (suc k) e = inr (k, e)
 
 -- one that has the right to none
 pub no_right : (u : View) → u.cells.rights ≡ [] → (q : CellRight) → ¬ (HasRight u q)

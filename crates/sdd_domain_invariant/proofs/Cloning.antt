@@ -168,7 +168,7 @@ module _ (γ : ℕ) (sizes : Sizes) where
       (λ (c : (i ≢ bd) × (get_elem? vs i ≡ some u)). gone i u q c.1 m) (at_set vs bd i b' u e)) has)) in (b', two, ours, out.1)
 
   -- a token that has nothing comes
-  arrives_bare : (s : State ValueFraction View) → DomainInvariant γ sizes s → (id : ℕ) (v : View) → get_elem? s.views id ≡ some v
+  pub arrives_bare : (s : State ValueFraction View) → DomainInvariant γ sizes s → (id : ℕ) (v : View) → get_elem? s.views id ≡ some v
       → DomainInvariant γ sizes record { words = s.words; homes = s.homes; views = s.views ++ owner_token [] ∷ [] }
   arrives_bare s h id v at = let t : View = owner_token [] in let p = h.kept.parts.slots in record {
     kept = subst (λ (us : List View). WordInvariant {S = ValueFraction} sizes record { words = s.words; homes = s.homes; views = us ++ t ∷ [] })

@@ -17,4 +17,5 @@ pub mod CellSteps
 pub mod JobSteps
 pub mod Tokens
 pub mod Cloning
+pub mod RightTokens
 pub mod Laid

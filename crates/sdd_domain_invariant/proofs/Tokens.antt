@@ -254,7 +254,7 @@ module _ (γ : ℕ) (sizes : Sizes) where
       (λ (a : HasRecord v.stakes.waits r). (id, v, at, inr a)) x
 
   -- no pledge of the ledger is of this seat
-  free_of : (jd : ℕ) (ps : List Pledge) (p : Pledge) → Free jd ps → HasPledge p ps → ¬ (p.seat ≡ jd)
+  pub free_of : (jd : ℕ) (ps : List Pledge) (p : Pledge) → Free jd ps → HasPledge p ps → ¬ (p.seat ≡ jd)
   free_of jd [] p free has = absurd has
   free_of jd (q ∷ qs) p free (inl is) = λ e. free.0 (ap (λ (x : Pledge). x.seat) (sym is) ∙ e)
   free_of jd (q ∷ qs) p free (inr has) = free_of jd qs p free.1 has
