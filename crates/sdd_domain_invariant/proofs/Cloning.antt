@@ -1,6 +1,7 @@
 -- An owner more beside one of several: the ledger and its pledges, one addition, which is taken back past the bound, and the new owner's unit
 use Rattle.std.proofs.Common.{◌≡◌, ◌≢◌, ◌⊎◌, inl, inr, ℕ, suc, ◌+◌, ◌-◌, ◌^◌, ◌<◌, ◌≤◌, Bool, true, false, List, [], ◌∷◌, ◌++◌, length, set, sym, refl, ap, ◌∙◌, subst, ⊎_elim, arith, length-set}
 use Rattle.std.proofs.lemmas.List.{set_comm}
+use Rattle.std.proofs.Math.Seq.{set-append_seam}
 use Rattle.std.specs.Prelude.{Option, Some, None}
 use mathlib.Core.Option.{some}
 use mathlib.Core.Logic.{dite}
@@ -8,9 +9,10 @@ use native.Mathlib.Decide.{ℕ_discrete, dec_lt}
 use lib.ListN.{get_elem?}
 use base.Stored.{Gv}
 use Rattle.atomic_table.specs.Table.{State, keeps, Allows, Splits}
-use Rattle.atomic_table.proofs.Lists.{at_map, at_set, at_longer, set_again, set_here, set_else}
+use Rattle.atomic_table.proofs.Lists.{at_map, at_set, at_longer, at_last, set_again, set_here, set_else}
 use Rattle.sdd_witness.specs.Ledger.{Pledge, Without, Enters, Leaves as LeavesLedger}
 use Rattle.sdd_views.specs.contracts.View.{the_row}
+use Rattle.sdd_views.specs.declared.CellKind.{CellKind}
 use Rattle.sdd_views.specs.declared.ShownValue.{ShownValue}
 use Rattle.sdd_views.specs.declared.PledgesView.{PledgesView}
 use Rattle.sdd_views.specs.declared.View.{View}
@@ -88,14 +90,6 @@ one_ledger : (vs : List View) → PledgesInvariant vs → (j k : ℕ) (b c : Vie
 one_ledger vs p j k b c e e' l l' = dite (ℕ_discrete j k) (λ same. same) (λ ne. absurd (let t = total_two posts vs j k b c ne e e' in let s = p.single in
     let a = ap one_where l in let a' = ap one_where l' in omega arith))
 
-set_last : {A : Type 0} (l : List A) (x y : A) → set (l ++ x ∷ []) (length l) y ≡ l ++ y ∷ []
-set_last [] x y = refl
-set_last (a ∷ l) x y = ap (λ (r : List _). a ∷ r) (set_last l x y)
-
-at_last : {A : Type 0} (l : List A) (x : A) → get_elem? (l ++ x ∷ []) (length l) ≡ some x
-at_last [] x = refl
-at_last (a ∷ l) x = at_last l x
-
 module _ (γ : ℕ) (sizes : Sizes) where
   -- what one has of pledges changes
   repledged : (s : State ValueFraction View) → DomainInvariant γ sizes s → (id : ℕ) (v : View) → get_elem? s.views id ≡ some v → (t : PledgesView)
@@ -113,29 +107,21 @@ module _ (γ : ℕ) (sizes : Sizes) where
       (kind_steps.spends sizes s.words s.views h.kinds h.records.each id v at w
       (knows_alike sizes s.words v w (h.kinds.each id v at) refl refl (λ i m. m) (λ i o. o) (λ r a. a) (λ i a. a)) refl (inl (λ l. l)) refl p)
 
-  -- a pledge of a share of an owner's view is entered, first in the ledger
-  pub enters : (v : View) (bd slot : ℕ) (value : Gv) (p : Pledge) → p.view ≡ the_row.coded.code (owner_of slot true value)
-      → Enters (DomainInvariant γ sizes) IsLedger booked_by p v (pledging v p) bd (owner_of slot true value)
-  enters v bd slot value p is s b h at there ours ne owner = let t : PledgesView = record b.pledges { booked = p ∷ b.pledges.booked } in
+  -- a pledge of a share of a token's view is entered, first in the ledger, where there is something to do beside the token
+  enters_by : (v : View) (bd : ℕ) (token : View) (p : Pledge) → token.pledges.ledger ≡ false
+      → ((vs : List View) → get_elem? vs p.seat ≡ some token → IsOfOwner vs p ⊎ IsOfCell vs p)
+      → Enters (DomainInvariant γ sizes) IsLedger booked_by p v (pledging v p) bd token
+  enters_by v bd token p no_ledger beside s b h at there ours ne owner = let t : PledgesView = record b.pledges { booked = p ∷ b.pledges.booked } in
       let b' : View = record b { pledges = t } in let old = h.kinds.pledges in let vs : List View = set s.views bd b' in
       let own : PledgesView = record v.pledges { own = p ∷ [] } in
-      let far : ¬ (p.seat ≡ bd) = λ e. (let same = one_view s.views bd p.seat (owner_of slot true value) b owner there e in
-      let c : false ≡ true = ap (λ (x : View). x.pledges.ledger) same ∙ ours in cc) in
+      let far : ¬ (p.seat ≡ bd) = λ e. (let same = one_view s.views bd p.seat token b owner there e in
+      let c : false ≡ true = sym no_ledger ∙ (ap (λ (x : View). x.pledges.ledger) same ∙ ours) in cc) in
       let one = repledged s h bd b there t (repledges s.views old bd b there t refl refl (λ q m. old.backed bd b q there m) (λ _ _ _ _ _ _ has. inr has)) in
       let at' : get_elem? vs p.who ≡ some v = set_else s.views bd p.who b' ne ∙ at in
       let there' : get_elem? vs bd ≡ some b' = set_here s.views bd b' (at_length s.views bd b there) in
       let backed : IsBacked vs p.who p = record {
         own = refl;
-        beside = inl record {
-          slot = slot;
-          value = value;
-          owner = owner_of slot true value;
-          view = is;
-          there = set_else s.views bd p.seat b' far ∙ owner;
-          told = (0, refl);
-          free = refl;
-          nobodys = refl;
-        };
+        beside = beside vs (set_else s.views bd p.seat b' far ∙ owner);
         somewhere = (bd, b', there', ours);
         booked = λ k c e l. let is_bank : k ≡ bd = one_ledger vs one.kinds.pledges k bd c b' e there' l ours in
             subst (λ (x : View). HasPledge p x.pledges.booked) (sym (one_view vs bd k c b' e there' is_bank)) (inl refl);
@@ -148,6 +134,32 @@ module _ (γ : ℕ) (sizes : Sizes) where
         ours,
         refl,
       )
+
+  -- an owner's
+  pub enters : (v : View) (bd slot : ℕ) (value : Gv) (p : Pledge) → p.view ≡ the_row.coded.code (owner_of slot true value)
+      → Enters (DomainInvariant γ sizes) IsLedger booked_by p v (pledging v p) bd (owner_of slot true value)
+  enters v bd slot value p is = enters_by v bd (owner_of slot true value) p refl (λ vs there. inl record {
+    slot = slot;
+    value = value;
+    owner = owner_of slot true value;
+    view = is;
+    there = there;
+    told = (0, refl);
+    free = refl;
+    nobodys = refl;
+  })
+
+  -- that of the right to a cell
+  pub enters_right : (v : View) (bd cell : ℕ) (kind : CellKind) (p : Pledge) → p.view ≡ the_row.coded.code (right_to cell kind)
+      → Enters (DomainInvariant γ sizes) IsLedger booked_by p v (pledging v p) bd (right_to cell kind)
+  enters_right v bd cell kind p is = enters_by v bd (right_to cell kind) p refl (λ vs there. inr record {
+    right = record { cell = cell; kind = kind };
+    owner = right_to cell kind;
+    view = is;
+    there = there;
+    has = (0, refl);
+    nobodys = refl;
+  })
 
   -- and taken out, from the ledger last
   pub leaves : (v : View) (bd : ℕ) (p : Pledge) → v.pledges.own ≡ p ∷ [] → LeavesLedger (DomainInvariant γ sizes) IsLedger booked_by p v (freeing v) bd
@@ -208,7 +220,7 @@ module _ (γ : ℕ) (sizes : Sizes) where
       let k : ℕ = length s.views in let front : us ≡ set s.views id w ++ t0 ∷ [] = set_front s.views (t0 ∷ []) id v w at in
       let long : length (set s.views id w) ≡ k = length-set s.views id w in
       let last : get_elem? us k ≡ some t0
-      = ap (λ (l : List View). get_elem? l k) front ∙ (ap (get_elem? (set s.views id w ++ t0 ∷ [])) (sym long) ∙ at_last (set s.views id w) t0) in
+      = ap (λ (l : List View). get_elem? l k) front ∙ (ap (get_elem? (set s.views id w ++ t0 ∷ [])) (sym long) ∙ at_last (set s.views id w) t0 (length (set s.views id w)) refl) in
       let sum' = total_set posts us k t0 t last in
       let two = repledged record { words = s.words; homes = s.homes; views = us } one k t0 last t.pledges
       record {
@@ -217,7 +229,7 @@ module _ (γ : ℕ) (sizes : Sizes) where
             (λ (c : (i ≢ k) × (get_elem? us i ≡ some u)). bare i u q c.1 m) (at_set us k i t u e));
       } in
       subst (λ (l : List View). DomainInvariant γ sizes record { words = s.words; homes = s.homes; views = l })
-      (ap (λ (l : List View). set l k t) front ∙ (ap (λ (m : ℕ). set (set s.views id w ++ t0 ∷ []) m t) (sym long) ∙ set_last (set s.views id w) t0 t)) two
+      (ap (λ (l : List View). set l k t) front ∙ (ap (λ (m : ℕ). set (set s.views id w ++ t0 ∷ []) m t) (sym long) ∙ set-append_seam (set s.views id w) t0 [] t)) two
 
 at_most_one : (i : ℕ) (o : Option ℕ) → moved_in i o ≤ 1
 at_most_one i None = omega arith
