@@ -5,3 +5,4 @@ pub mod Owner
 pub mod Counts
 pub mod Grips
 pub mod Clones
+pub mod Cells

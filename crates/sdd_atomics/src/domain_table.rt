@@ -10,7 +10,7 @@ ghost use Rattle.sdd_domain_invariant.specs.Counts.{made_by, gone_by, over_by, f
 ghost use Rattle.sdd_atomics.specs.Sizes.{AreSmall};
 
 use crate::plays::{Found, FoundLedger};
-use crate::words::{first_slot, word_count};
+use crate::words::{first_slot, state_word, word_count};
 use atomic_table::{Closed, Refused, Seat, Table, TableRule};
 use sdd_shared_values::{Bank, Treasury, ValueFraction, ValuesName};
 use sdd_views::{Sizes, View};
@@ -123,6 +123,15 @@ impl DomainTable {
         ensures { result ≡ words.slot_word (sizes_of self.now) slot }
     {
         self.first_slot + slot as usize
+    }
+
+    /// Where the word of a cell is.
+    #[inline]
+    pub fn cell_word(&self, cell: u32) -> usize
+        requires { cell < (sizes_of self.now).cells }
+        ensures { result ≡ words.cell_word (sizes_of self.now) cell }
+    {
+        state_word(self.places) + cell as usize
     }
 
     /// How many places there are.

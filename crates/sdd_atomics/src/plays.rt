@@ -8,6 +8,9 @@ ghost use Rattle.sdd_domain_invariant.specs.BankInvariant.{founded, bank_of, wit
 ghost use Rattle.sdd_domain_invariant.specs.FractionSteps.{ClaimsAll, TakesOut, TakesHeld, IsDeposit, RetiresOne, GivesAll, DefersJob, GivesPlace, DiscardsAll, ClosesHome, EndsAll, EntersUnit, OfSlot, parting, departing, regained, uncounting, counts_of, counting, ReleasesOne, LeavesOne, TakesOneBack, DrawsUnit};
 ghost use Rattle.sdd_word_invariant.specs.Codes.{raw_word};
 ghost use Rattle.sdd_domain_invariant.specs.RawSteps.{TurnsRawOne, RegainsOne, SeesRawOne};
+ghost use Rattle.sdd_views.specs.declared.CellKind.TheVariants.{Owned as for_owned, Shared as for_shared};
+ghost use Rattle.sdd_domain_invariant.specs.CellSteps.{ClaimsCell, LooksInCell, SeesInCell, OfCell, rightless, rights_of, righted};
+ghost use Rattle.sdd_atomics.specs.Cells.{SwapsPledged, ExchangesPledged, FreesOwn};
 ghost use Rattle.sdd_atomics.specs.Clones.{AddsPledged};
 ghost use Rattle.sdd_atomics.specs.DomainSeat.{Sits, Told, HousesMoved, WatchesOwned, RecallsOwned};
 
@@ -256,6 +259,48 @@ impl Play<ValueFraction, View> for LookForRaw {
     ghost then = { λ step. OfSlot (λ slot. SeesRawOne slot (raw_word 0)) step.word };
 }
 
+pub struct LookIn;
+
+impl Play<ValueFraction, View> for LookIn {
+    ghost then = { λ step. OfCell LooksInCell step.word };
+}
+
+pub struct SeeIn;
+
+impl Play<ValueFraction, View> for SeeIn {
+    ghost then = { λ step. OfCell SeesInCell step.word };
+}
+
+pub struct ClaimForOwned;
+
+impl Play<ValueFraction, View> for ClaimForOwned {
+    ghost then = { λ step. OfCell (ClaimsCell step.second for_owned) step.word };
+}
+
+pub struct ClaimForShared;
+
+impl Play<ValueFraction, View> for ClaimForShared {
+    ghost then = { λ step. OfCell (ClaimsCell step.second for_shared) step.word };
+}
+
+pub struct SwapCell;
+
+impl Play<ValueFraction, View> for SwapCell {
+    ghost then = { λ step. SwapsPledged step.first step.word };
+}
+
+pub struct ExchangeCell;
+
+impl Play<ValueFraction, View> for ExchangeCell {
+    ghost then = { λ step. ExchangesPledged step.first step.second step.word };
+}
+
+pub struct FreeCell;
+
+impl Play<ValueFraction, View> for FreeCell {
+    ghost then = { λ step. FreesOwn step.word };
+}
+
 pub struct DrawUnit;
 
 impl Deals<View> for DrawUnit {
@@ -312,6 +357,22 @@ pub struct TakeCounts;
 
 impl Join<View> for TakeCounts {
     ghost both = { counting };
+
+    ghost spent = { owner_token [] };
+}
+
+pub struct CutRight;
+
+impl Split<View> for CutRight {
+    ghost left = { rightless };
+
+    ghost right = { rights_of };
+}
+
+pub struct JoinRight;
+
+impl Join<View> for JoinRight {
+    ghost both = { righted };
 
     ghost spent = { owner_token [] };
 }

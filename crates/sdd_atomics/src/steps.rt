@@ -11,6 +11,7 @@ ghost use Rattle.sdd_word_invariant.specs.Barred.{IsNobodys, Bars};
 ghost use Rattle.sdd_domain_invariant.specs.FractionSteps.{CarriesSeen, EndsAll};
 ghost use Rattle.sdd_atomics.specs.DomainSeat.{view, epoch, words_known, Stepped, Taught, HasPublished, HasClosed, Knows, slots};
 
+pub mod cells;
 pub mod counts;
 pub mod jobs;
 pub mod raw;

@@ -11,6 +11,7 @@ use base.Stored.{Gv}
 use Rattle.atomic_table.specs.Table.{State, keeps, takes, Allows}
 use Rattle.atomic_table.proofs.Lists.{at_map, at_set, exchanged}
 use Rattle.sdd_witness.specs.Ledger.{Pledge}
+use Rattle.sdd_rights.specs.Owner.{cell_kind}
 use Rattle.sdd_shared_values.specs.SharedValues.{IsValueCode}
 use Rattle.sdd_shared_values.specs.declared.value_fraction.ValueFraction.{ValueFraction}
 use Rattle.sdd_views.specs.declared.CellKind.{CellKind}
@@ -45,7 +46,7 @@ use Rattle.sdd_domain_invariant.specs.PledgesInvariant.{IsOfOwner, IsOfCell}
 use Rattle.sdd_domain_invariant.specs.KindsInvariant.{KnowsKinds, KindsInvariant}
 use Rattle.sdd_domain_invariant.specs.DomainInvariant.{DomainInvariant}
 use Rattle.sdd_domain_invariant.specs.FractionSteps.{SeatState, IsValue, SeesOwned, sighting}
-use Rattle.sdd_domain_invariant.specs.CellSteps.{kind_for, put_in, brought_out, gaining, rightless, KnewStored, BringsOut, SwapsOne, ExchangesOne, ClaimsCell, FreesCell, LooksInCell, SeesInCell, OfCell}
+use Rattle.sdd_domain_invariant.specs.CellSteps.{put_in, brought_out, gaining, rightless, KnewStored, BringsOut, SwapsOne, ExchangesOne, ClaimsCell, FreesCell, LooksInCell, SeesInCell, OfCell}
 use Rattle.sdd_domain_invariant.proofs.Part.{none_out, only_seen, one_taken}
 use Rattle.sdd_domain_invariant.proofs.Part as part
 use Rattle.sdd_domain_invariant.proofs.Banks as banks
@@ -97,12 +98,12 @@ word_moves sizes ws ws' same Shared x x' e w = λ i n. let q = ap (names i) e in
 word_moves sizes ws ws' same Raw x x' e w = λ i. ap (names i) e ∙ w i
 word_moves sizes ws ws' same Collector x x' e w = λ i. ap (names i) e ∙ w i
 
-word_counted : (sizes : Sizes) (ws : List ℕ) (shared : Bool) (x : ℕ) → ((i : ℕ) → 0 < names i x → counted (slot_at sizes ws i) ≡ one_where shared)
-    → IsWordOf sizes ws (kind_for shared) x
+pub word_counted : (sizes : Sizes) (ws : List ℕ) (shared : Bool) (x : ℕ) → ((i : ℕ) → 0 < names i x → counted (slot_at sizes ws i) ≡ one_where shared)
+    → IsWordOf sizes ws (cell_kind shared) x
 word_counted sizes ws true x w = w
 word_counted sizes ws false x w = w
 
-counted_word : (sizes : Sizes) (ws : List ℕ) (shared : Bool) (x : ℕ) → IsWordOf sizes ws (kind_for shared) x → (i : ℕ) → 0 < names i x
+counted_word : (sizes : Sizes) (ws : List ℕ) (shared : Bool) (x : ℕ) → IsWordOf sizes ws (cell_kind shared) x → (i : ℕ) → 0 < names i x
     → counted (slot_at sizes ws i) ≡ one_where shared
 counted_word sizes ws true x w = w
 counted_word sizes ws false x w = w
@@ -371,12 +372,12 @@ module _ (slots id : ℕ) (me : SeatState) (live : HasPlace me.0.epoch) (rests :
           }
 
           -- a word that names an owner that it has is one of that kind of cells
-          word_given : IsWordOf sizes s.words (kind_for shared) y
+          word_given : IsWordOf sizes s.words (cell_kind shared) y
           word_given = word_counted sizes s.words shared y told_kind
 
           -- it has the rights that it had, among which is one to this cell, or another's
           cells_swapped : (w : View) → w.cells ≡ v.cells → 0 < y → (j : ℕ) (u : View) → get_elem? s.views j ≡ some u
-              → HasRight u (record { cell = cell; kind = kind_for shared }) → CellsInvariant sizes (after y) (set s.views id w)
+              → HasRight u (record { cell = cell; kind = cell_kind shared }) → CellsInvariant sizes (after y) (set s.views id w)
           cells_swapped w same more j u there_is has = cells_then w (λ d. let a = total_set (rights_at d) s.views id v w at in
               let e = ap (λ (c : CellsView). total (is_right d) c.rights) same in let o = h.kinds.cells.single d in omega arith)
               (λ k x r e mine. let old : (k' : ℕ) × (x' : View) × (get_elem? s.views k' ≡ some x') × HasRight x' r = ⊎_elim
@@ -384,7 +385,7 @@ module _ (slots id : ℕ) (me : SeatState) (live : HasPlace me.0.epoch) (rests :
               (mine.0, ap (λ (c : CellsView). get_elem? c.rights mine.0) (sym same) ∙ (ap (λ (z : View). get_elem? z.cells.rights mine.0) t.1 ∙ mine.1))))
               (λ (t : (k ≢ id) × (get_elem? s.views k ≡ some x)). (k, x, t.1, mine)) (at_set s.views id k w x e) in
               dite (ℕ_discrete r.cell cell)
-              (λ is. let one = one_right sizes s.words s.views h.kinds.cells j old.0 u old.1 (record { cell = cell; kind = kind_for shared }) r there_is old.2 has
+              (λ is. let one = one_right sizes s.words s.views h.kinds.cells j old.0 u old.1 (record { cell = cell; kind = cell_kind shared }) r there_is old.2 has
               old.3 (sym is) in
               inr (is, more, subst (λ (q : CellRight). IsWordOf sizes s.words q.kind y) one word_given))
               (λ ne. inl (ne, h.kinds.cells.taken old.0 old.1 r old.2 old.3)))
@@ -432,19 +433,19 @@ module _ (slots id : ℕ) (me : SeatState) (live : HasPlace me.0.epoch) (rests :
           (tells (base, me.1) ((λ _. refl), λ slot one. absurd (let c : ◌≡◌ {A = List ℕ} (slot ∷ []) [] = sym one ∙ none in cc)))) (held_which x)
 
       -- beside the token of the right to the cell, of whose view a share is pledged
-      module _ (p : Pledge) (own : v.pledges.own ≡ p ∷ []) (is : p.view ≡ the_row.coded.code (right_to cell (kind_for shared))) (more : 0 < y) where
+      module _ (p : Pledge) (own : v.pledges.own ≡ p ∷ []) (is : p.view ≡ the_row.coded.code (right_to cell (cell_kind shared))) (more : 0 < y) where
         abbrev the_right : CellRight
-        the_right = record { cell = cell; kind = kind_for shared }
+        the_right = record { cell = cell; kind = cell_kind shared }
 
         module _ (s : State ValueFraction View) (h : DomainInvariant γ sizes s) (at : get_elem? s.views id ≡ some v) where
           beside : IsOfCell s.views p
           beside = ⊎_elim
-              (λ (o : IsOfOwner s.views p). let e = the_row.coded.inj (right_to cell (kind_for shared)) (owner_of o.slot true o.value) (sym is ∙ o.view) in
+              (λ (o : IsOfOwner s.views p). let e = the_row.coded.inj (right_to cell (cell_kind shared)) (owner_of o.slot true o.value) (sym is ∙ o.view) in
               let c : ◌≡◌ {A = List ℕ} [] (o.slot ∷ []) = ap (λ (u : View). u.slots.owns) e in cc)
               (λ (o : IsOfCell s.views p). o) (h.kinds.pledges.backed id v p at own).beside
 
           has_right : HasRight beside.owner the_right
-          has_right = let e = the_row.coded.inj (right_to cell (kind_for shared)) (right_to beside.right.cell beside.right.kind) (sym is ∙ beside.view) in
+          has_right = let e = the_row.coded.inj (right_to cell (cell_kind shared)) (right_to beside.right.cell beside.right.kind) (sym is ∙ beside.view) in
               subst (HasRight beside.owner) (sym (ap (λ (u : View). first_right the_right u.cells.rights) e)) beside.has
 
           of_kind : IsOfKind s h shared
@@ -516,9 +517,9 @@ module _ (slots id : ℕ) (me : SeatState) (live : HasPlace me.0.epoch) (rests :
 
     -- the cell is free again, of which it has the right
     pub frees : v.slots.owns ≡ [] → v.slots.holds ≡ None → v.slots.drawn ≡ [] → (shared : Bool) → ((r : ShownValue) → ¬ (HasRecord v.stakes.owns r))
-        → v.cells.rights ≡ record { cell = cell; kind = kind_for shared } ∷ [] → May i (λ _. 0) (OfCell (FreesCell shared) i me)
+        → v.cells.rights ≡ record { cell = cell; kind = cell_kind shared } ∷ [] → May i (λ _. 0) (OfCell (FreesCell shared) i me)
     frees owns loose undrawn shared none mine = let told : ℕ → SeatState → Type 0 = OfCell (FreesCell shared) i me in
-        let right : CellRight = record { cell = cell; kind = kind_for shared } in
+        let right : CellRight = record { cell = cell; kind = cell_kind shared } in
         let owns_is : v.slots.owns ≡ held_slots 0 = owns ∙ sym (holds_none 0 (inl (omega arith))) in
         let given : (r : ShownValue) → HasRecord v.stakes.owns r → r.shared ≡ shared = λ r has. absurd (none r has) in
         lift_homes γ sizes slots id me i (λ _. 0) (AtCell (SwapsCell 0 no_rights) i v) told

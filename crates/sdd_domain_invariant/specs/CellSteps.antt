@@ -1,9 +1,8 @@
 -- What each step on a cell makes of the seat: an owner goes into a cell, and what the cell held comes out
-use Rattle.std.specs.Prelude.{◌≡◌, ◌≢◌, ℕ, ◌<◌, ◌++◌, if◌then◌else◌, Bool, [], ◌∷◌}
+use Rattle.std.specs.Prelude.{◌≡◌, ◌≢◌, ℕ, ◌<◌, ◌++◌, Bool, [], ◌∷◌}
 use base.Stored.{Gv}
 use Rattle.sdd_shared_values.specs.SharedValues.{IsValueCode}
 use Rattle.sdd_views.specs.declared.CellKind.{CellKind}
-use Rattle.sdd_views.specs.declared.CellKind.TheVariants.{Owned, Shared}
 use Rattle.sdd_views.specs.declared.View.{View}
 use Rattle.sdd_views.specs.Views.{owner_token, no_rights}
 use Rattle.sdd_word_invariant.specs.Words.{cell_word}
@@ -11,10 +10,6 @@ use Rattle.sdd_word_invariant.specs.Codes.{held_slots}
 use Rattle.sdd_word_invariant.specs.Epoch.{IsLone}
 use Rattle.sdd_word_invariant.specs.CellSteps.{cell_noted, KnewCell}
 use Rattle.sdd_domain_invariant.specs.FractionSteps.{SeatState, IsNewest, SeesOwned}
-
--- what a cell is for, that holds owners of which there may be several, or not
-abbrev pub kind_for : Bool → CellKind
-kind_for shared = if shared then Shared else Owned
 
 -- what it had of owners is in a cell, whose word is y then
 abbrev pub put_in : ℕ → ℕ → View → View

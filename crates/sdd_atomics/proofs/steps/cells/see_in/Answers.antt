@@ -1,0 +1,15 @@
+use Rattle.std.proofs.Common.{arith}
+use Rattle.sdd_domain_invariant.specs.CellSteps.{SeesInCell}
+use Rattle.sdd_atomics.proofs.Cells.{cell_moved, may_see_in}
+use Rattle.sdd_atomics.proofs.steps.cells.see_in.Goals as goal
+
+pub load-requires : goal.load-requires
+load-requires c = let r = c.requires in (
+  r.home,
+  omega arith,
+  may_see_in _ _ _ _ _ r.knows.0 r.knows.1 (omega (arith, r.open)) r.rests c.args.cell r.inside _ c.cell_word.ensures r.open r.near,
+)
+
+pub returns : goal.returns
+returns c = let e = c.load.ensures in
+    cell_moved c.args.token.now _ c.load.result e.0 e.1 SeesInCell _ c.args.cell _ c.cell_word.ensures c.requires.knows.0 e.2

@@ -1,0 +1,33 @@
+-- Steps on a cell beside the token of the right to it
+use Rattle.std.specs.Prelude.{◌≡◌, ℕ, Bool, [], ◌∷◌}
+use Rattle.sdd_witness.specs.Ledger.{Pledge}
+use Rattle.sdd_views.specs.declared.View.{View}
+use Rattle.sdd_views.specs.contracts.View.{the_row}
+use Rattle.sdd_views.specs.Views.{right_to}
+use Rattle.sdd_rights.specs.Owner.{cell_kind}
+use Rattle.sdd_word_invariant.specs.Words.{cell_word}
+use Rattle.sdd_domain_invariant.specs.FractionSteps.{SeatState}
+use Rattle.sdd_domain_invariant.specs.CellSteps.{SwapsOne, ExchangesOne, FreesCell}
+use Rattle.sdd_atomics.specs.declared.domain_table.DomainTable.{DomainTable}
+use Rattle.sdd_atomics.specs.DomainTable.{sizes_of}
+
+abbrev pub cells_of : DomainTable → ℕ
+cells_of b = (sizes_of b).cells
+
+-- it has a pledge of the view of the token of the right to a cell, which is for owners of which there may be several, or not
+abbrev pub HasPledgedRight : View → ℕ → Bool → Type 0
+HasPledgedRight v cell shared = (p : Pledge) × (v.pledges.own ≡ p ∷ []) × (p.view ≡ the_row.coded.code (right_to cell (cell_kind shared)))
+
+-- a swap beside its pledge
+abbrev pub SwapsPledged : ℕ → ℕ → SeatState → ℕ → SeatState → Type 0
+SwapsPledged y i me x me' = (cell : ℕ) (shared : Bool) → i ≡ cell_word me.0.sizes cell → HasPledgedRight me.0 cell shared → SwapsOne y shared cell me x me'
+
+-- an exchange
+abbrev pub ExchangesPledged : ℕ → ℕ → ℕ → SeatState → ℕ → SeatState → Type 0
+ExchangesPledged old y i me x me' = (cell : ℕ) (shared : Bool) → i ≡ cell_word me.0.sizes cell → HasPledgedRight me.0 cell shared
+    → ExchangesOne old y shared cell me x me'
+
+-- a cell is free then, by the right that it has
+abbrev pub FreesOwn : ℕ → SeatState → ℕ → SeatState → Type 0
+FreesOwn i me x me' = (cell : ℕ) (shared : Bool) → i ≡ cell_word me.0.sizes cell → me.0.cells.rights ≡ record { cell = cell; kind = cell_kind shared } ∷ []
+    → FreesCell shared cell me x me'

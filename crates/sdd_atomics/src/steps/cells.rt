@@ -1,0 +1,210 @@
+//! The atomic steps on cells, by a participant: an owner goes into a cell, and what the cell held comes out.
+//!
+//! A cell is free, or holds no owner, or one, with a tag. Which owners it is for is known from the token of the right to it, beside which a participant steps.
+ghost use Rattle.std.specs.Prelude.{◌≡◌, ◌<◌, ℕ, Bool, [], ◌∷◌, None};
+ghost use Rattle.sdd_views.specs.declared.ShownValue.{ShownValue};
+ghost use Rattle.sdd_views.specs.declared.CellKind.{CellKind};
+ghost use Rattle.sdd_views.specs.contracts.View.{the_row};
+ghost use Rattle.sdd_views.specs.Views.{right_to};
+ghost use Rattle.sdd_word_invariant.specs.Codes.{held_slots};
+ghost use Rattle.sdd_word_invariant.specs.Epoch.{HasPlace, IsOpen};
+ghost use Rattle.sdd_domain_invariant.specs.FilledInvariant.{HasRecord};
+ghost use Rattle.sdd_domain_invariant.specs.CellSteps.{ClaimsCell, SwapsOne, ExchangesOne, FreesCell, LooksInCell, SeesInCell, rightless, rights_of, righted};
+ghost use Rattle.sdd_rights.specs.Owner.{cell_kind, witness_of_cell};
+ghost use Rattle.sdd_atomics.specs.DomainTable.{id_of, places_of};
+ghost use Rattle.sdd_atomics.specs.Cells.{cells_of};
+ghost use Rattle.sdd_atomics.specs.DomainSeat.{view, epoch, slots, Taught, Moved, Knows};
+
+use crate::domain_table::{DomainSeat, DomainTable};
+use crate::plays::{
+    ClaimForOwned, ClaimForShared, CutRight, ExchangeCell, FreeCell, JoinRight, LookIn, SeeIn,
+    SwapCell,
+};
+use sdd_witness::{CompareExchange, Swap, Witness, part};
+use std::marker::PhantomData;
+
+/// Nobody's cell.
+pub const FREE_CELL: u64 = 0;
+
+/// Looks into a cell.
+#[inline]
+pub fn look_in(board: &DomainTable, token: &mut DomainSeat, cell: u32) -> u64
+    requires home { token.old.table_id ≡ id_of board.now }
+    requires knows { Knows board.now token.old }
+    requires inside { cell < cells_of board.now }
+    requires place { HasPlace (epoch token.old) }
+    requires rests { (view token.old).stakes.moves ≡ None }
+    ensures { Moved (LooksInCell cell) token.old result token.new }
+{
+    board
+        .table
+        .shared
+        .load::<LookIn>(token, board.cell_word(cell))
+}
+
+/// Looks into a cell under the open guard, which sees the item whose owner the cell held at this moment from now on, and has the stake of its place out.
+#[inline]
+pub fn see_in(board: &DomainTable, token: &mut DomainSeat, cell: u32) -> u64
+    requires home { token.old.table_id ≡ id_of board.now }
+    requires knows { Knows board.now token.old }
+    requires inside { cell < cells_of board.now }
+    requires open { IsOpen (epoch token.old) }
+    requires near { (epoch token.old).place < places_of board.now }
+    requires rests { (view token.old).stakes.moves ≡ None }
+    ensures { Moved (SeesInCell cell) token.old result token.new }
+{
+    board
+        .table
+        .shared
+        .load::<SeeIn>(token, board.cell_word(cell))
+}
+
+/// Tries to claim a cell for owners of which there may be several, or not, by this word, and answers its word before. It was free where this is
+/// `FREE_CELL`: then the participant has the right to it, and the owner that it had is in the cell.
+#[inline]
+pub fn claim_cell(
+    board: &DomainTable,
+    token: &mut DomainSeat,
+    cell: u32,
+    word: u64,
+    shared: bool,
+) -> u64
+    requires home { token.old.table_id ≡ id_of board.now }
+    requires knows { Knows board.now token.old }
+    requires inside { cell < cells_of board.now }
+    requires place { HasPlace (epoch token.old) }
+    requires rests { (view token.old).stakes.moves ≡ None }
+    requires own { ((slots token.old).owns ≡ held_slots word) × ((slots token.old).holds ≡ None) × ((slots token.old).drawn ≡ []) }
+    requires kind { (r : ShownValue) → HasRecord (view token.old).stakes.owns r → r.shared ≡ shared }
+    requires word { 0 < word }
+    ensures { Moved (ClaimsCell word (cell_kind shared) cell) token.old result token.new }
+{
+    if shared {
+        board.table.shared.compare_exchange::<ClaimForShared>(
+            token,
+            board.cell_word(cell),
+            FREE_CELL,
+            word,
+        )
+    } else {
+        board.table.shared.compare_exchange::<ClaimForOwned>(
+            token,
+            board.cell_word(cell),
+            FREE_CELL,
+            word,
+        )
+    }
+}
+
+/// Puts this word into a cell, beside the token of the right to it, and answers its word before. The owner that the participant had is in the cell then, and it
+/// has the one that the cell held, whose unit is in the bank.
+#[inline]
+pub fn swap_cell(
+    board: &DomainTable,
+    token: &mut DomainSeat,
+    cell: u32,
+    word: u64,
+    right: &Witness,
+) -> u64
+    requires home { token.old.table_id ≡ id_of board.now }
+    requires knows { Knows board.now token.old }
+    requires inside { cell < cells_of board.now }
+    requires place { HasPlace (epoch token.old) }
+    requires rests { (view token.old).stakes.moves ≡ None }
+    requires own { ((slots token.old).owns ≡ held_slots word) × ((slots token.old).holds ≡ None) × ((slots token.old).drawn ≡ []) }
+    requires free { (view token.old).pledges.own ≡ [] }
+    requires word { 0 < word }
+    requires right { (right.now.table_id ≡ id_of board.now) × ((shared : Bool) × (right.now.views ≡ witness_of_cell cell (cell_kind shared))
+        × ((r : ShownValue) → HasRecord (view token.old).stakes.owns r → r.shared ≡ shared)) }
+    ensures { (shared : Bool) → right.now.views ≡ witness_of_cell cell (cell_kind shared)
+        → Moved (SwapsOne word shared cell) token.old result token.new }
+{
+    let deed = Swap::<SwapCell> {
+        word: board.cell_word(cell),
+        new: word,
+        marker: PhantomData,
+    };
+    board
+        .ledger
+        .beside(&board.table.shared, token, right, &deed)
+}
+
+/// The same where the cell's word is still this one; else nothing changes.
+#[inline]
+pub fn exchange_cell(
+    board: &DomainTable,
+    token: &mut DomainSeat,
+    cell: u32,
+    old: u64,
+    word: u64,
+    right: &Witness,
+) -> u64
+    requires home { token.old.table_id ≡ id_of board.now }
+    requires knows { Knows board.now token.old }
+    requires inside { cell < cells_of board.now }
+    requires place { HasPlace (epoch token.old) }
+    requires rests { (view token.old).stakes.moves ≡ None }
+    requires own { ((slots token.old).owns ≡ held_slots word) × ((slots token.old).holds ≡ None) × ((slots token.old).drawn ≡ []) }
+    requires free { (view token.old).pledges.own ≡ [] }
+    requires word { 0 < word }
+    requires right { (right.now.table_id ≡ id_of board.now) × ((shared : Bool) × (right.now.views ≡ witness_of_cell cell (cell_kind shared))
+        × ((r : ShownValue) → HasRecord (view token.old).stakes.owns r → r.shared ≡ shared)) }
+    ensures { (shared : Bool) → right.now.views ≡ witness_of_cell cell (cell_kind shared)
+        → Moved (ExchangesOne old word shared cell) token.old result token.new }
+{
+    let deed = CompareExchange::<ExchangeCell> {
+        word: board.cell_word(cell),
+        old,
+        new: word,
+        marker: PhantomData,
+    };
+    board
+        .ledger
+        .beside(&board.table.shared, token, right, &deed)
+}
+
+/// Frees the cell to which the participant has the right, and answers its word before. The participant has the owner that it held, whose unit is in the bank.
+#[inline]
+pub fn free_cell(board: &DomainTable, token: &mut DomainSeat, cell: u32) -> u64
+    requires home { token.old.table_id ≡ id_of board.now }
+    requires knows { Knows board.now token.old }
+    requires inside { cell < cells_of board.now }
+    requires place { HasPlace (epoch token.old) }
+    requires rests { (view token.old).stakes.moves ≡ None }
+    requires own { ((slots token.old).owns ≡ []) × ((slots token.old).holds ≡ None) × ((slots token.old).drawn ≡ []) × ((view token.old).stakes.owns ≡ []) }
+    requires right { (shared : Bool) × ((view token.old).cells.rights ≡ record { cell = cell; kind = cell_kind shared } ∷ []) }
+    ensures { (shared : Bool) → (view token.old).cells.rights ≡ record { cell = cell; kind = cell_kind shared } ∷ []
+        → Moved (FreesCell shared cell) token.old result token.new }
+{
+    board
+        .table
+        .shared
+        .swap::<FreeCell>(token, board.cell_word(cell), FREE_CELL)
+}
+
+/// Cuts the right to a cell off that the participant has, as a token of its own. No word is touched.
+#[inline]
+pub fn cut_right(board: &DomainTable, token: &mut DomainSeat) -> Witness
+    requires home { token.old.table_id ≡ id_of board.now }
+    requires knows { Knows board.now token.old }
+    requires place { HasPlace (epoch token.old) }
+    ensures participant { Taught (λ v _ w. w ≡ rightless v) token.old 0 token.new }
+    ensures right { (result.table_id ≡ id_of board.now) × (result.views ≡ the_row.coded.code (rights_of (view token.old)) ∷ []) }
+{
+    part::<_, _, _, _, CutRight>(&board.table.shared, token)
+}
+
+/// Takes the right to a cell in. No word is touched.
+#[inline]
+pub fn take_in_right(board: &DomainTable, token: &mut DomainSeat, right: Witness)
+    requires home { token.old.table_id ≡ id_of board.now }
+    requires knows { Knows board.now token.old }
+    requires place { HasPlace (epoch token.old) }
+    requires right { (right.table_id ≡ id_of board.now) × ((cell : ℕ) × (kind : CellKind) × (right.views ≡ witness_of_cell cell kind)) }
+    ensures { (cell : ℕ) (kind : CellKind) → right.views ≡ witness_of_cell cell kind
+        → Taught (λ v _ w. w ≡ righted v (right_to cell kind)) token.old 0 token.new }
+{
+    board
+        .ledger
+        .rejoin::<JoinRight>(&board.table.shared, token, right);
+}
