@@ -50,7 +50,7 @@ use Rattle.sdd_domain_invariant.specs.CellSteps.{put_in, brought_out, gaining, r
 use Rattle.sdd_domain_invariant.proofs.Part.{none_out, only_seen, one_taken}
 use Rattle.sdd_domain_invariant.proofs.Part as part
 use Rattle.sdd_domain_invariant.proofs.Banks as banks
-use Rattle.sdd_domain_invariant.proofs.Cells.{in_cell_alive, in_cell_beside, one_right, no_right, cell_is_free, first_or, words_same}
+use Rattle.sdd_domain_invariant.proofs.Cells.{in_cell_alive, in_cell_beside, one_right, no_right, cell_is_free, first_or, one_flag, words_same}
 use Rattle.sdd_domain_invariant.proofs.Counts.{as_full, ended_spared, uncounted}
 use Rattle.sdd_domain_invariant.proofs.Records.{in_head, in_tail, in_either, in_none, known_by, told_seen}
 use Rattle.sdd_domain_invariant.proofs.Records as records
@@ -62,13 +62,6 @@ use Rattle.sdd_domain_invariant.proofs.KindSteps.{has_first, knows_still, same_w
 use Rattle.sdd_domain_invariant.proofs.KindSteps as kind_steps
 use Rattle.sdd_domain_invariant.proofs.RawSteps as raws
 use Rattle.sdd_domain_invariant.proofs.Steps as steps
-
--- a flag is told by its number
-one_flag : (a b : Bool) → one_where a ≡ one_where b → a ≡ b
-one_flag true true e = refl
-one_flag false false e = refl
-one_flag true false e = absurd (omega arith)
-one_flag false true e = absurd (omega arith)
 
 -- whether a word counts its slot's owners
 flag_of : (x : ℕ) → (shared : Bool) × (counted x ≡ one_where shared)

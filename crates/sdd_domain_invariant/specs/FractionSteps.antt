@@ -210,6 +210,11 @@ AddsOne value slot me x me' = (counted x ≡ 1) × (0 < alive x)
     × (alive x < most_owners → me' ≡ (owning_more slot value (one_more slot (x + 1) None me.0), me.1))
     × (most_owners ≤ alive x → me' ≡ (owning_more slot value (one_more slot (x + 1) (Some slot) me.0), me.1)) × Knew slot me.0 x
 
+-- one of several owners comes of an item that a guard sees, which shows this, where its slot's word is still the one that was found
+abbrev pub AddsSeen : ℕ → Gv → ℕ → SeatState → ℕ → SeatState → Type 0
+AddsSeen word value slot me x me' = (x ≡ word → me' ≡ (owning_more slot value (one_more slot (word + 1) None me.0), me.1)) × (x ≢ word → me' ≡ me)
+    × Knew slot me.0 x
+
 -- it is taken back
 abbrev pub TakesOneBack : ℕ → SeatState → ℕ → SeatState → Type 0
 TakesOneBack slot me x me' = (me' ≡ (untold (taken_back slot (x - 1) me.0), me.1)) × Knew slot me.0 x

@@ -19,7 +19,7 @@ use Rattle.sdd_word_invariant.specs.Sums.{times}
 use Rattle.sdd_word_invariant.specs.Epoch.{HasPlace, IsOpen, EpochInvariant}
 use Rattle.sdd_word_invariant.specs.Slots.{slot_at, owners_at, items_at, Owns, Holds, SlotsInvariant}
 use Rattle.sdd_word_invariant.specs.EpochSteps.{Steps}
-use Rattle.sdd_word_invariant.specs.SlotSteps.{noted, Knew, claimed, retired, deferred, given_back, seeing, Claims, Retires, Defers, GivesBack, AtSlot, held, release_hold, looked_past, discarded, TakesHold, LetsGo, Discards, LooksForGuard, LooksAtSlot, others, one_less, Releases, one_more, taken_back, Adds, TakesBack, held_by, shared_again, TriesHold, SharesAgain, LeavesBeside}
+use Rattle.sdd_word_invariant.specs.SlotSteps.{noted, Knew, claimed, retired, deferred, given_back, seeing, Claims, Retires, Defers, GivesBack, AtSlot, held, release_hold, looked_past, discarded, TakesHold, LetsGo, Discards, LooksForGuard, LooksAtSlot, others, one_less, Releases, one_more, taken_back, Adds, TakesBack, held_by, shared_again, TriesHold, SharesAgain, LeavesBeside, AddsBeside}
 use Rattle.sdd_word_invariant.specs.WordInvariant.{epoch_of, Parts}
 use Rattle.sdd_word_invariant.proofs.Codes.{sound, shared, counted_is, none_left, some_left, free_is, waiting_is, one_left, only_held}
 use Rattle.sdd_word_invariant.proofs.Epoch as epochs
@@ -408,3 +408,17 @@ module _ (id : ℕ) (v : View) (live : HasPlace v.epoch) where
             (holding.passes codes sound sizes ws vs p.slots id v at p.epoch place next no)),
         λ q is. ((λ _. ap (λ (k : ℕ). looked_past k v) (let e : place ≡ q = omega arith in e)), (λ e. absurd (no e)), own q is),
       ))
+
+  -- an owner comes beside others, by one exchange of the word that was found
+  pub adds_beside : (slot : ℕ) → slot < sizes.slots → (word : ℕ) → counted word ≡ 1 → 0 < alive word → alive word < most_owners
+      → Steps (Parts sizes) id v (slot_word sizes slot) (λ x. either (eqb x word) (word + 1) x) (AtSlot (AddsBeside word) (slot_word sizes slot) v)
+  adds_beside slot inside word several left few ws vs p at small = let i : ℕ = slot_word sizes slot in let x : ℕ = get_or ws i 0 in
+      let y : ℕ = word + 1 in let told = knew ws vs p at slot in let above = counted_is word several in let n = (shared word above).0 in
+      exchanged x word y (λ z. (u : View) × Parts sizes (set ws i z) (set vs id u) × AtSlot (AddsBeside word) i v x u)
+      (λ hit. let e = ap alive hit in let fits : x + 1 < 2 ^ 64 = omega arith in
+      let a = adds_owner slot inside ws vs p at (ap counted hit ∙ several) (omega arith) fits in let sum : more_one x ≡ y = omega arith in (
+        a.0,
+        subst (λ (z : ℕ). Parts sizes (set ws i z) (set vs id a.0)) sum a.1,
+        λ other is. ((λ _. (a.2 other is).2 (omega arith) ∙ ap (λ (k : ℕ). one_more other (k + 1) None v) hit), (λ no. absurd (no hit)), knew_too slot other is x told),
+      ))
+      (λ miss. (v, unmoved ws vs p at i, λ other is. ((λ e. absurd (miss e)), (λ _. refl), knew_too slot other is x told)))

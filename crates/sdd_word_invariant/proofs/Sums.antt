@@ -4,7 +4,7 @@ use Rattle.std.specs.List.{filter}
 use mathlib.Core.Bool.{Bool, true, false, cond}
 use mathlib.Core.Option.{some, some-injective, some-ne-none}
 use mathlib.Core.Logic.{dite}
-use native.Mathlib.Decide.{ℕ_discrete}
+use native.Mathlib.Decide.{ℕ_discrete, dec_lt}
 use lib.ListN.{get_elem?}
 use prog.Atomic.{either}
 use Rattle.atomic_table.proofs.Lists.{at_set}
@@ -128,6 +128,13 @@ module _ (f : ℕ → ℕ) (ws : List ℕ) (b : ℕ) where
   pub span_zero : (n : ℕ) → ((d : ℕ) → d < n → f (get_or ws (b + d) 0) ≡ 0) → span f ws b n ≡ 0
   span_zero zero none = refl
   span_zero (suc n) none = let a = none n (omega arith) in let r = span_zero n (λ d l. none d (omega arith)) in omega arith
+
+  -- where they add up to more than nothing, one does
+  pub span_some : (n : ℕ) → 0 < span f ws b n → (d : ℕ) × (d < n) × (0 < f (get_or ws (b + d) 0))
+  span_some zero more = absurd (omega arith)
+  span_some (suc n) more = dite (dec_lt 0 (f (get_or ws (b + n) 0)))
+      (λ here. let t : (d : ℕ) × (d < suc n) × (0 < f (get_or ws (b + d) 0)) = (n, (omega arith), here) in t)
+      (λ none. let r = span_some n (omega arith) in (r.0, (let l = r.1 in omega arith), r.2))
 
 -- each of the words counts as before
 pub span_same : (f : ℕ → ℕ) (ws ws' : List ℕ) (b n : ℕ) → ((d : ℕ) → d < n → f (get_or ws' (b + d) 0) ≡ f (get_or ws (b + d) 0))

@@ -204,6 +204,10 @@ abbrev pub Adds : ℕ → View → ℕ → View → Type 0
 Adds slot v x w = (counted x ≡ 1) × (0 < alive x) × (alive x < most_owners → w ≡ one_more slot (x + 1) None v)
     × (most_owners ≤ alive x → w ≡ one_more slot (x + 1) (Some slot) v) × Knew slot v x
 
+-- an owner comes beside others, by one exchange of a word that was found, where it is still that
+abbrev pub AddsBeside : ℕ → ℕ → View → ℕ → View → Type 0
+AddsBeside word slot v x w = (x ≡ word → w ≡ one_more slot (word + 1) None v) × (x ≢ word → w ≡ v) × Knew slot v x
+
 -- it is taken back, by one subtraction
 abbrev pub TakesBack : ℕ → View → ℕ → View → Type 0
 TakesBack slot v x w = (w ≡ taken_back slot (x - 1) v) × Knew slot v x
