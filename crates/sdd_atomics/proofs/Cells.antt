@@ -5,6 +5,7 @@ use native.Mathlib.Decide.{ℕ_discrete}
 use prog.Atomic.{either}
 use Rattle.atomic_table.specs.Table.{Allows, carried_after}
 use Rattle.sdd_witness.specs.Ledger.{Pledge}
+use Rattle.sdd_witness.specs.Steps.{AllowsBeside}
 use Rattle.sdd_rights.specs.Owner.{cell_kind}
 use Rattle.sdd_views.specs.declared.CellKind.{CellKind}
 use Rattle.sdd_views.specs.declared.CellKind.TheVariants.{Owned, Shared}
@@ -21,14 +22,14 @@ use Rattle.sdd_domain_invariant.specs.DomainInvariant.{DomainInvariant}
 use Rattle.sdd_domain_invariant.specs.FilledInvariant.{HasRecord}
 use Rattle.sdd_domain_invariant.specs.PledgesInvariant.{pledging, freeing}
 use Rattle.sdd_domain_invariant.specs.FractionSteps.{SeatState}
-use Rattle.sdd_domain_invariant.specs.CellSteps.{put_in, brought_out, BringsOut, ClaimsCell, SwapsOne, ExchangesOne, FreesCell, LooksInCell, SeesInCell, OfCell}
+use Rattle.sdd_domain_invariant.specs.CellSteps.{put_in, brought_out, BringsOut, ClaimsCell, SwapsOne, ExchangesOne, FreesCell, LooksInCell, SeesInCell, LearnsCell, OfCell}
 use Rattle.sdd_domain_invariant.proofs.CellSteps as cells
 use Rattle.sdd_domain_invariant.proofs.Fillings.{has_none}
 use Rattle.sdd_word_invariant.proofs.Codes.{held_which}
 use Rattle.atomic_table.specs.declared.shared.Seat.{Seat}
 use Rattle.sdd_shared_values.specs.declared.value_fraction.ValueFraction.{ValueFraction}
 use Rattle.sdd_atomics.specs.DomainSeat.{Moved}
-use Rattle.sdd_atomics.specs.Cells.{HasPledgedRight, SwapsPledged, ExchangesPledged, FreesOwn}
+use Rattle.sdd_atomics.specs.Cells.{HasPledgedRight, SwapsPledged, ExchangesPledged, FreesOwn, RecallsCell}
 
 abbrev first_of : Pledge → List Pledge → Pledge
 first_of p [] = p
@@ -120,6 +121,25 @@ module _ (γ : ℕ) (sizes : Sizes) (slots id : ℕ) (me : SeatState) (same : me
         a.3,
         λ other b where_is had. let e = one_kind me.0 cell other shared b mine had in subst (λ (t : Bool). FreesCell t other me (get_or s.words (cell_word me.0.sizes cell) 0) (a.0, carried_after me.1 a.1)) e (a.4 other where_is),
       ))
+
+-- beside the right to a cell
+pub may_recall_cell : (γ : ℕ) (sizes : Sizes) (slots id : ℕ) (me : SeatState) → me.0.sizes ≡ sizes → me.0.stakes.book ≡ γ → HasPlace me.0.epoch
+    → me.0.stakes.moves ≡ None → (cell : ℕ) (shared : Bool) (jd : ℕ)
+    → AllowsBeside (DomainInvariant γ sizes) slots id me jd (right_to cell (cell_kind shared)) (RecallsCell (right_to cell (cell_kind shared)) me)
+may_recall_cell γ sizes slots id me same book live rests cell shared jd =
+    subst (λ (t : ℕ × Sizes). AllowsBeside (DomainInvariant t.0 t.1) slots id me jd (right_to cell (cell_kind shared))
+    (RecallsCell (right_to cell (cell_kind shared)) me)) (λ d. (book d, same d)) (λ s h long at there.
+    let a = cells.recalls slots id me live rests jd cell shared s h long at there in (
+      a.0,
+      a.1,
+      a.2,
+      a.3,
+      λ other b e. let first : CellRight = record { cell = cell; kind = cell_kind shared } in
+          let is : first ≡ record { cell = other; kind = cell_kind b } = ap (λ (u : View). first_right first u.cells.rights) e in
+          let which = ap (λ (r : CellRight). r.cell) is in
+          let flag = sym (kind_flag shared) ∙ (ap (λ (r : CellRight). is_shared r.kind) is ∙ kind_flag b) in
+          subst (λ (t : ℕ × Bool). LearnsCell t.0 t.1 me (a.0, carried_after me.1 a.1)) (λ d. (which d, flag d)) a.4,
+    ))
 
 -- what the pledge makes possible, and what it leaves
 module _ (me : SeatState) (p : Pledge) (y : ℕ) (shared : Bool) (cell : ℕ) where

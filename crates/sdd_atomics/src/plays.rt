@@ -10,8 +10,8 @@ ghost use Rattle.sdd_word_invariant.specs.Codes.{raw_word};
 ghost use Rattle.sdd_domain_invariant.specs.RawSteps.{TurnsRawOne, RegainsOne, SeesRawOne};
 ghost use Rattle.sdd_views.specs.declared.CellKind.TheVariants.{Owned as for_owned, Shared as for_shared};
 ghost use Rattle.sdd_domain_invariant.specs.CellSteps.{ClaimsCell, LooksInCell, SeesInCell, OfCell, rightless, rights_of, righted};
-ghost use Rattle.sdd_atomics.specs.Cells.{SwapsPledged, ExchangesPledged, FreesOwn};
-ghost use Rattle.sdd_atomics.specs.Clones.{AddsPledged};
+ghost use Rattle.sdd_atomics.specs.Cells.{SwapsPledged, ExchangesPledged, FreesOwn, RecallsCell};
+ghost use Rattle.sdd_atomics.specs.Clones.{AddsPledged, AddsBesideSeen};
 ghost use Rattle.sdd_atomics.specs.DomainSeat.{Sits, Told, HousesMoved, WatchesOwned, RecallsOwned};
 
 use atomic_table::{Join, Play, Split};
@@ -125,6 +125,12 @@ pub struct OneMore;
 
 impl Play<ValueFraction, View> for OneMore {
     ghost then = { λ step. AddsPledged step.word };
+}
+
+pub struct AddSeen;
+
+impl Play<ValueFraction, View> for AddSeen {
+    ghost then = { λ step. AddsBesideSeen step.first step.word };
 }
 
 pub struct TakeBack;
@@ -299,6 +305,12 @@ pub struct FreeCell;
 
 impl Play<ValueFraction, View> for FreeCell {
     ghost then = { λ step. FreesOwn step.word };
+}
+
+pub struct LearnCell;
+
+impl GhostUpdateBeside<ValueFraction, View> for LearnCell {
+    ghost then = { RecallsCell };
 }
 
 pub struct DrawUnit;

@@ -9,7 +9,9 @@ use lib.Seq.{set-get_or}
 use prog.Atomic.{either}
 use base.Stored.{Gv}
 use Rattle.atomic_table.specs.Table.{State, keeps, takes, Allows}
-use Rattle.atomic_table.proofs.Lists.{at_map, at_set, exchanged}
+use Rattle.atomic_table.proofs.Lists.{at_map, at_set, set_again, exchanged}
+use Rattle.sdd_witness.specs.Steps.{AllowsBeside}
+use Rattle.sdd_word_invariant.proofs.Lone.{finds, finds_word}
 use Rattle.sdd_witness.specs.Ledger.{Pledge}
 use Rattle.sdd_rights.specs.Owner.{cell_kind}
 use Rattle.sdd_shared_values.specs.SharedValues.{IsValueCode}
@@ -46,7 +48,7 @@ use Rattle.sdd_domain_invariant.specs.PledgesInvariant.{IsOfOwner, IsOfCell}
 use Rattle.sdd_domain_invariant.specs.KindsInvariant.{KnowsKinds, KindsInvariant}
 use Rattle.sdd_domain_invariant.specs.DomainInvariant.{DomainInvariant}
 use Rattle.sdd_domain_invariant.specs.FractionSteps.{SeatState, IsValue, SeesOwned, sighting}
-use Rattle.sdd_domain_invariant.specs.CellSteps.{put_in, brought_out, gaining, rightless, KnewStored, BringsOut, SwapsOne, ExchangesOne, ClaimsCell, FreesCell, LooksInCell, SeesInCell, OfCell}
+use Rattle.sdd_domain_invariant.specs.CellSteps.{put_in, brought_out, gaining, rightless, KnewStored, BringsOut, SwapsOne, ExchangesOne, ClaimsCell, FreesCell, LooksInCell, SeesInCell, LearnsCell, OfCell}
 use Rattle.sdd_domain_invariant.proofs.Part.{none_out, only_seen, one_taken}
 use Rattle.sdd_domain_invariant.proofs.Part as part
 use Rattle.sdd_domain_invariant.proofs.Banks as banks
@@ -630,3 +632,31 @@ module _ (slots id : ℕ) (me : SeatState) (live : HasPlace me.0.epoch) (rests :
             (λ slot one. absurd (let d : ◌≡◌ {A = List ℕ} (slot ∷ []) [] = sym one ∙ empty in cc)),
             c.3,
           )))) (held_which x))
+
+  -- beside the right to a cell it learns what it knows of the cell, and nothing changes
+  pub recalls : (jd cell : ℕ) (shared : Bool)
+      → AllowsBeside (DomainInvariant γ sizes) slots id me jd (right_to cell (cell_kind shared)) (LearnsCell cell shared me)
+  recalls jd cell shared s h _ at there = (
+    v,
+    keeps,
+    tt,
+    subst (λ (vs : List View). DomainInvariant γ sizes record { words = s.words; homes = s.homes; views = vs }) (sym (set_again s.views id v at)) h,
+    (
+      refl,
+      λ lone. let one = steps.one_place γ sizes s h id v at lone in let l = h.kept.parts.lone in
+          let t = h.kinds.cells.taken jd (right_to cell (cell_kind shared)) (record { cell = cell; kind = cell_kind shared }) there (0, refl) in
+          let is : cell_at sizes s.words cell ≡ get_or v.words cell 0 = finds_word sizes s.words s.views l id v at one live cell in record {
+            inside = t.inside;
+            full = let f = t.full in omega arith;
+            held = λ slot one_is. let x : ℕ = cell_at sizes s.words cell in
+                let named : 0 < names slot x = (let e = held_in x slot in let o = ap (times slot) (ap held_slots is ∙ one_is) in
+                let k = is_same slot slot refl in omega arith) in
+                let word = finds sizes s.words s.views l id v at one live slot in
+                let a = in_cell_alive sizes s.words s.views h.kept.parts.slots slot (cell, t.inside, named) in (
+                  h.kinds.cells.inside slot (cell, t.inside, named),
+                  subst (λ (y : ℕ). 0 < alive y) word a,
+                  sym (ap counted word) ∙ counted_word sizes s.words shared x t.kind slot named,
+                );
+          },
+    ),
+  )

@@ -199,3 +199,9 @@ module _ (slots id : ℕ) (me : SeatState) (live : HasPlace me.0.epoch) (rests :
       (λ hit. subst (Follows γ sizes id i me told s y) (sym (c.0 hit)) (comes s h at hit))
       (λ miss. subst (Follows γ sizes id i me told s x) (sym (c.1 miss)) (steps.unmoved slots id me live slot inside s h at told
       (steps.at_once slots id me live slot inside (AddsSeen word value) x me ((λ hit. absurd (miss hit)), (λ _. refl), c.2)))))
+
+  -- of each value that it sees there, as that is one
+  pub seen_once : (s : State ValueFraction View) → DomainInvariant γ sizes s → get_elem? s.views id ≡ some v → (other : Gv) → IsIn v.stakes.sees slot other
+      → other ≡ value
+  seen_once s h at other is = let mine = records.mine sizes s.views s.homes h.records id v at in
+      h.records.agree slot other value (mine slot other (inr (inl is))) (mine slot value (inr (inl seen)))

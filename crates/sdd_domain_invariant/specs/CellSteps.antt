@@ -1,14 +1,16 @@
 -- What each step on a cell makes of the seat: an owner goes into a cell, and what the cell held comes out
-use Rattle.std.specs.Prelude.{◌≡◌, ◌≢◌, ℕ, ◌<◌, ◌++◌, Bool, [], ◌∷◌}
+use Rattle.std.specs.Prelude.{◌≡◌, ◌≢◌, ℕ, ◌<◌, ◌++◌, Bool, [], ◌∷◌, slice_index}
 use base.Stored.{Gv}
 use Rattle.sdd_shared_values.specs.SharedValues.{IsValueCode}
 use Rattle.sdd_views.specs.declared.CellKind.{CellKind}
 use Rattle.sdd_views.specs.declared.View.{View}
 use Rattle.sdd_views.specs.Views.{owner_token, no_rights}
 use Rattle.sdd_word_invariant.specs.Words.{cell_word}
-use Rattle.sdd_word_invariant.specs.Codes.{held_slots}
+use Rattle.sdd_word_invariant.specs.Codes.{alive, counted, held_slots}
 use Rattle.sdd_word_invariant.specs.Epoch.{IsLone}
 use Rattle.sdd_word_invariant.specs.CellSteps.{cell_noted, KnewCell}
+use Rattle.sdd_domain_invariant.specs.BankInvariant.{one_where}
+use Rattle.sdd_domain_invariant.specs.KindsInvariant.{written}
 use Rattle.sdd_domain_invariant.specs.FractionSteps.{SeatState, IsNewest, SeesOwned}
 
 -- what it had of owners is in a cell, whose word is y then
@@ -75,6 +77,18 @@ abbrev pub SeesInCell : ℕ → SeatState → ℕ → SeatState → Type 0
 SeesInCell cell me x me' = (held_slots x ≡ [] → me' ≡ me)
     × ((slot : ℕ) → held_slots x ≡ slot ∷ [] → (shared : Bool) × (value : Gv) × (slot < me.0.sizes.slots) × SeesOwned slot shared value me me'
     × KnewStored slot shared value me.0) × KnewCell cell me.0 x
+
+-- what a lone participant knows of a cell, which is for owners of which there may be several, or not: it isn't free; and the owner that it holds is one of
+-- that kind
+pub record KnowsCell (cell : ℕ) (shared : Bool) (v : View) : Type 0 where
+  pub inside : cell < v.sizes.cells
+  pub full : 0 < slice_index v.words cell
+  pub held : (slot : ℕ) → held_slots (slice_index v.words cell) ≡ slot ∷ []
+      → (slot < v.sizes.slots) × (0 < alive (written v slot)) × (counted (written v slot) ≡ one_where shared)
+
+-- beside the right to a cell a lone participant learns what it knows of it, and nothing changes
+abbrev pub LearnsCell : ℕ → Bool → SeatState → SeatState → Type 0
+LearnsCell cell shared me me' = (me' ≡ me) × (IsLone me.0.epoch → KnowsCell cell shared me.0)
 
 -- a step on the word i tells R of the cell whose word it is
 abbrev pub OfCell : (ℕ → SeatState → ℕ → SeatState → Type 0) → ℕ → SeatState → ℕ → SeatState → Type 0

@@ -3,8 +3,8 @@
 //! No value of these types is made: a token carries one for the proofs alone. Who only carries a token reads no more than this crate; what words and views
 //! have to do with one another is the rule of `sdd_word_invariant`.
 //!
-//! No step of a domain sets these: `adopts` of an epoch's view; `jobs`, `closes`, `empties` and `over` of a slots'; rights to cells; `links`; what is
-//! counted as `in_place` or `registered`; pledges; and what is `plain`. They are what `specs/Views` says of a token that knows nothing.
+//! No step of a domain sets these: `adopts` of an epoch's view; `jobs`, `closes` and `empties` of a slots'; `links`; what is counted as `registered`; and what
+//! is `plain`. They are what `specs/Views` says of a token that knows nothing.
 #![tactic(auto)]
 
 ghost use base.Stored.{Gv};

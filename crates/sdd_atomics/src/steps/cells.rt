@@ -9,18 +9,18 @@ ghost use Rattle.sdd_views.specs.Views.{right_to};
 ghost use Rattle.sdd_word_invariant.specs.Codes.{held_slots};
 ghost use Rattle.sdd_word_invariant.specs.Epoch.{HasPlace, IsOpen};
 ghost use Rattle.sdd_domain_invariant.specs.FilledInvariant.{HasRecord};
-ghost use Rattle.sdd_domain_invariant.specs.CellSteps.{ClaimsCell, SwapsOne, ExchangesOne, FreesCell, LooksInCell, SeesInCell, rightless, rights_of, righted};
+ghost use Rattle.sdd_domain_invariant.specs.CellSteps.{ClaimsCell, SwapsOne, ExchangesOne, FreesCell, LooksInCell, SeesInCell, LearnsCell, rightless, rights_of, righted};
 ghost use Rattle.sdd_rights.specs.Owner.{cell_kind, witness_of_cell};
 ghost use Rattle.sdd_atomics.specs.DomainTable.{id_of, places_of};
 ghost use Rattle.sdd_atomics.specs.Cells.{cells_of};
-ghost use Rattle.sdd_atomics.specs.DomainSeat.{view, epoch, slots, Taught, Moved, Knows};
+ghost use Rattle.sdd_atomics.specs.DomainSeat.{view, epoch, slots, Taught, Moved, MovedAlone, Knows};
 
 use crate::domain_table::{DomainSeat, DomainTable};
 use crate::plays::{
-    ClaimForOwned, ClaimForShared, CutRight, ExchangeCell, FreeCell, JoinRight, LookIn, SeeIn,
+    ClaimForOwned, ClaimForShared, CutRight, ExchangeCell, FreeCell, JoinRight, LearnCell, LookIn, SeeIn,
     SwapCell,
 };
-use sdd_witness::{CompareExchange, Swap, Witness, part};
+use sdd_witness::{CompareExchange, Swap, Witness, part, step_beside};
 use std::marker::PhantomData;
 
 /// Nobody's cell.
@@ -207,4 +207,20 @@ pub fn take_in_right(board: &DomainTable, token: &mut DomainSeat, right: Witness
     board
         .ledger
         .rejoin::<JoinRight>(&board.table.shared, token, right);
+}
+
+/// A lone participant learns beside the token of the right to a cell what it knows of the cell, by the words that it knows. Nothing changes, and no word is
+/// touched.
+#[inline]
+pub fn recall_cell(board: &DomainTable, token: &mut DomainSeat, right: &Witness)
+    requires home { token.old.table_id ≡ id_of board.now }
+    requires knows { Knows board.now token.old }
+    requires place { HasPlace (epoch token.old) }
+    requires rests { (view token.old).stakes.moves ≡ None }
+    requires right { (right.now.table_id ≡ id_of board.now)
+        × ((cell : ℕ) × (shared : Bool) × (right.now.views ≡ witness_of_cell cell (cell_kind shared))) }
+    ensures { (cell : ℕ) (shared : Bool) → right.now.views ≡ witness_of_cell cell (cell_kind shared)
+        → MovedAlone (LearnsCell cell shared) token.old token.new }
+{
+    step_beside::<_, _, _, _, LearnCell>(&board.table.shared, token, right);
 }

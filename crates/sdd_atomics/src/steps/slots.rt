@@ -4,7 +4,7 @@
 ghost use Rattle.std.specs.Prelude.{◌≡◌, ◌-◌, ◌<◌, ◌≤◌, ℕ, Bool, true, false, List, [], ◌∷◌, None};
 ghost use base.Stored.{Gv};
 ghost use Rattle.sdd_word_invariant.specs.Words as words;
-ghost use Rattle.sdd_word_invariant.specs.Codes.{alive, counted, free_word, waiting_word, shared_word};
+ghost use Rattle.sdd_word_invariant.specs.Codes.{alive, counted, most_owners, free_word, waiting_word, shared_word};
 ghost use Rattle.sdd_word_invariant.specs.Epoch.{HasPlace, IsOpen};
 ghost use Rattle.sdd_word_invariant.specs.Slots.{Owns, Holds};
 ghost use Rattle.sdd_word_invariant.specs.SlotSteps.{IsDue, LooksAtSlot, TakesHold, LetsGo, TriesHold, SharesAgain, LooksForGuard};
@@ -14,7 +14,7 @@ ghost use Rattle.sdd_views.specs.declared.ShownValue.{ShownValue};
 ghost use Rattle.sdd_shared_values.specs.SharedValues.{IsNoValueCode, lot};
 ghost use Rattle.sdd_domain_invariant.specs.FractionsAtHome.{CarriedFractions, Moves, spare};
 ghost use Rattle.sdd_domain_invariant.specs.Records.{IsIn};
-ghost use Rattle.sdd_domain_invariant.specs.FractionSteps.{CarriesAll, IsValue, ClaimsAll, FillsSlot, EntersUnit, TakesOut, TakesHeld, IsDeposit, GivesAll, DiscardsAll, RetiresOne, SeesOwned, LearnsOwned, DrawsUnit, parting, regained, ReleasesOne, LeavesOne};
+ghost use Rattle.sdd_domain_invariant.specs.FractionSteps.{CarriesAll, IsValue, ClaimsAll, FillsSlot, EntersUnit, TakesOut, TakesHeld, IsDeposit, GivesAll, DiscardsAll, RetiresOne, SeesOwned, LearnsOwned, DrawsUnit, AddsSeen, parting, regained, ReleasesOne, LeavesOne};
 ghost use Rattle.sdd_atomics.specs.DomainTable.{id_of, book_of, places_of, slots_of, most_waiting_of};
 ghost use Rattle.sdd_domain_invariant.specs.BankInvariant.{one_where};
 ghost use Rattle.sdd_domain_invariant.specs.FilledInvariant.{HasRecord};
@@ -28,7 +28,7 @@ use crate::clones::AddOwner;
 pub use crate::clones::MOST_SHARED;
 use crate::domain_table::{DomainSeat, DomainTable};
 use crate::plays::{
-    Claim, CutOwner, Discard, DrawUnit, EnterUnit, FillSharedSlot, FillSlot, GiveBack, Hold,
+    AddSeen, Claim, CutOwner, Discard, DrawUnit, EnterUnit, FillSharedSlot, FillSlot, GiveBack, Hold,
     JoinOwner, LearnOwned, Leave, LetGo, LookAtGuard, LookAtSlot, LookForValue, ReleaseHold,
     Retire, SeeOwned, ShareAgain, TakeHeld, TakeOut, TryHold,
 };
@@ -138,6 +138,26 @@ pub fn add_owner(board: &DomainTable, token: &mut DomainSeat, slot: u32, owner: 
     board
         .ledger
         .beside(&board.table.shared, token, owner, &deed)
+}
+
+/// Tries to make one owner more of an item that a guard sees, of whose owners there are several, where the slot's word is still this one, which counts one at
+/// least, and fewer than may be. Answers its word before: the participant has the owner where this is the same, and nothing changes else.
+#[inline]
+pub fn add_seen(board: &DomainTable, token: &mut DomainSeat, slot: u32, word: u64) -> u64
+    requires home { token.old.table_id ≡ id_of board.now }
+    requires knows { Knows board.now token.old }
+    requires inside { slot < slots_of board.now }
+    requires place { HasPlace (epoch token.old) }
+    requires rests { (view token.old).stakes.moves ≡ None }
+    requires within { (slots token.old).over ≡ None }
+    requires seen { (value : Gv) × IsIn (view token.old).stakes.sees slot value }
+    requires several { (counted word ≡ 1) × (0 < alive word) × (alive word < most_owners) }
+    ensures { (value : Gv) → IsIn (view token.old).stakes.sees slot value → Moved (AddsSeen word value slot) token.old result token.new }
+{
+    board
+        .table
+        .shared
+        .compare_exchange::<AddSeen>(token, board.slot_word(slot), word, word + 1)
 }
 
 /// The unit of an owner that has none yet, as it came beside another or came back, is drawn from the bank. It shows what is known of the slot. No word is
