@@ -70,13 +70,13 @@ impl<J: Job> DeferredJobs<J> {
         self.next = place + 1;
     }
 
-    /// Takes the job of a place out, which is free then; the next walk begins there.
+    /// Takes the job of a place out, which is free then. The next walk begins where it did: jobs run in the order in which they were deferred, so that the
+    /// place behind the last one is the one that was free for longest.
     pub fn take(&mut self, place: u32) -> Option<J>
         requires { place < length self.old }
         ensures job { result ≡ slice_index_or self.old place None }
         ensures free { self.new ≡ without_entry self.old place }
     {
-        self.next = place;
         self.jobs[place as usize].take()
     }
 }

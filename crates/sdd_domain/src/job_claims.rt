@@ -70,12 +70,9 @@ fn walk(
     Ok(None)
 }
 
-/// Claims a free place for a job, the first one of a walk over all places, once round, which begins at this one. A job's place has the number behind
-/// those of so many slots.
-///
-/// `NoJob` where none was found free; `Contended` where so many exchanges were lost.
+/// Tries all places in a walk, once round, which begins at this one. So many exchanges may be lost.
 #[inline(never)]
-pub fn claim_place(
+fn search(
     board: &DomainTable,
     token: &mut DomainSeat,
     next: u32,
@@ -104,4 +101,37 @@ pub fn claim_place(
         return Ok(place - slots);
     }
     Err(Refused::NoJob)
+}
+
+/// Claims a free place for a job: this one, or else the first one of a walk over all places, once round, which begins there. A job's place has the number
+/// behind those of so many slots.
+///
+/// `NoJob` where none was found free; `Contended` where so many exchanges were lost.
+#[inline]
+pub fn claim_place(
+    board: &DomainTable,
+    token: &mut DomainSeat,
+    next: u32,
+    slots: u32,
+    jobs: u32,
+    tries: u64,
+) -> Result<u32, Refused>
+    requires home { token.old.table_id ≡ id_of board.now }
+    requires knows { Knows board.now token.old }
+    requires rests { (view token.old).stakes.moves ≡ None }
+    requires slots { (slots ≡ slots_of board.now) × (slots + jobs ≡ most_waiting_of board.now) }
+    requires small { slots + jobs < 2 ^ 32 }
+    requires next { next ≤ jobs }
+    requires place { HasPlace (epoch token.old) }
+    requires tries { 0 < tries }
+    ensures tried { MatchResult result
+        (λ job. (job < jobs) × Defers (slots + job) token.old token.new)
+        (λ e. ((e ≡ Refused.NoJob) × Misses (λ k. (slots ≤ k) × (k < slots + jobs)) token.old token.new)
+        ⊎ ((e ≡ Refused.Contended) × Loses token.old token.new)) }
+{
+    let mut left = tries;
+    if next < jobs && attempt(board, token, slots + next, &mut left)? {
+        return Ok(next);
+    }
+    search(board, token, next, slots, jobs, left)
 }

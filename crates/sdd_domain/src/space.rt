@@ -271,6 +271,7 @@ impl<T: Item<T>, J: Job> RawItems<T> for Local<'_, T, J> {
 impl<T: Item<T>, J: Job> Deferrals<T> for Local<'_, T, J> {
     type Job = J;
 
+    #[inline]
     fn defer_execute(&mut self, job: J) -> Result<u32, (J, Refused)> {
         self.partner.membership.defer_execute(job)
     }

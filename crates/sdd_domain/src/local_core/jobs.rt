@@ -16,6 +16,7 @@ impl<'d, T: Item<T>, J: Job> LocalCore<'d, T, J> {
     ///
     /// The job comes back where it is refused: `NoJob` where a walk over all places found none free; `Contended` where as many exchanges were lost as
     /// the limits allow.
+    #[inline]
     pub(crate) fn defer_execute(&mut self, job: J) -> Result<u32, (J, Refused)>
         ensures { MatchResult result
             (λ place. (count : ℕ) × DefersTo place count self.old self.new)

@@ -13,6 +13,7 @@ use sdd_space::Item;
 
 impl<T: Item<T>, J: Job> WorldCore<T, J> {
     /// A change of a place: what is due is reclaimed.
+    #[inline]
     pub fn change(&mut self, place: usize, spare: &mut Vec<LimboEntry>)
         requires place { HasPlace self.old.world place }
         requires empty { spare.old.items ≡ [] }
@@ -31,6 +32,7 @@ impl<T: Item<T>, J: Job> WorldCore<T, J> {
     }
 
     /// A change of a place with which something waits.
+    #[inline(never)]
     fn reclaim_due(&mut self, place: usize, spare: &mut Vec<LimboEntry>)
         requires place { HasPlace self.old.world place }
         requires empty { spare.old.items ≡ [] }
