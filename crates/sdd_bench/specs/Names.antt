@@ -1,7 +1,7 @@
 -- The names of the operations
 use Rattle.std.specs.Prelude.{ℕ, List, codes}
 use Rattle.sdd_bench.specs.declared.threads.Timed.{Timed}
-use Rattle.sdd_bench.specs.declared.threads.Timed.TheVariants.{Guard, Nested as NestedGuard, Accelerate, MakeAndRetire}
+use Rattle.sdd_bench.specs.declared.threads.Timed.TheVariants.{Guard, Nested as NestedGuard, Accelerate, MakeAndRetire, CloneOwn, CloneCommon}
 use Rattle.sdd_bench.specs.declared.operation.Guarding.TheVariants.{Outermost, Nested, Accelerated}
 use Rattle.sdd_bench.specs.declared.operation.Task.TheVariants.{Guards, Items, HalfFull, Looks, Reads, Gets, Jobs, Raws, Changes, Shares}
 use Rattle.sdd_bench.specs.declared.operation.Operation.{Operation}
@@ -51,3 +51,5 @@ name_of_timed Guard = codes "guard"
 name_of_timed NestedGuard = codes "nested"
 name_of_timed Accelerate = codes "accelerate"
 name_of_timed MakeAndRetire = codes "make-and-retire"
+name_of_timed CloneOwn = codes "clone-own"
+name_of_timed CloneCommon = codes "clone-common"

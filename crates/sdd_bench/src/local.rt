@@ -2,6 +2,7 @@
 ghost use Rattle.std.specs.Prelude.{◌≡◌, All, Err};
 ghost use Rattle.sdd_core.specs.Limits.{AreInRange};
 ghost use Rattle.sdd_space.specs.CallerId.{IsSeated};
+ghost use Rattle.sdd_space.specs.Shared as shared;
 ghost use Rattle.sdd_domain.specs.Domain.{slots_in};
 ghost use Rattle.sdd_domain.specs.Receipt.{Receipt as EndedCounts};
 ghost use Rattle.sdd_domain.specs.Space.{seat_of};
@@ -11,7 +12,7 @@ use crate::turns;
 use sdd_core::{Limits, Refused};
 use sdd_domain::{Domain, Local, Receipt};
 use sdd_participants::Tally;
-use sdd_space::Owned;
+use sdd_space::{Owned, Shared};
 use std::alloc::Global;
 
 /// Half of the slots.
@@ -189,4 +190,18 @@ fn changes(local: &mut Local<'_, u64>, turns: u64) -> Result<u64, Refused>
     let last = *owner.get(local);
     owner.retire(local);
     Ok(last)
+}
+
+/// Clones an owner, whose item may have others, and releases the clone, that often.
+#[inline(always)]
+pub fn clones(local: &mut Local<'_, u64>, owner: &Shared<u64>, turns: u64) -> Result<(), Refused>
+    requires seated { IsSeated (seat_of local.old) }
+    requires home { shared.slots_home owner.now ≡ (seat_of local.old).home.slots }
+    ensures { (seat_of local.new ≡ seat_of local.old) × (local.new.member.own.guards ≡ local.old.member.own.guards) }
+{
+    for _turn in 0..turns {
+        let other = owner.clone(local)?;
+        let _ = other.release(local);
+    }
+    Ok(())
 }

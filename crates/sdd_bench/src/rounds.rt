@@ -1,15 +1,18 @@
 //! Rounds in which several participants work at once, each in a thread of its own.
+ghost use Rattle.std.specs.Option.{ForSome};
 ghost use Rattle.std.specs.Prelude.{◌≡◌, All, IfOk};
 ghost use Rattle.sdd_space.specs.CallerId.{IsSeated};
+ghost use Rattle.sdd_space.specs.Shared.{slots_home};
 ghost use Rattle.sdd_domain.specs.Domain.{slots_in};
 ghost use Rattle.sdd_domain.specs.Receipt.{Receipt as EndedCounts};
 ghost use Rattle.sdd_domain.specs.Space.{seat_of};
 
-use crate::local::worked;
+use crate::local::{clones, worked};
 use crate::operation::Task;
 use crate::spans::Span;
 use sdd_core::Refused;
 use sdd_domain::{Domain, Local, Receipt};
+use sdd_space::Shared;
 use std::alloc::{AllocError, AllocFailed, Global};
 use std::fmt::Display;
 use std::sync::Wait;
@@ -105,6 +108,9 @@ pub struct Course<'a> {
     pub task: Task,
     /// How often the task is done in each round.
     pub turns: u64,
+    /// Where it is there, each participant clones this owner and releases the clone, in place of the task.
+    pub common: &'a Option<Shared<u64>>,
+    pub ghost home: { ForSome common.now (λ owner. slots_home owner ≡ slots_in domain.now) },
 }
 
 /// What participants leave, and when each of them worked in each round.
@@ -151,7 +157,8 @@ fn works_in_rounds<R: Wait + Clock>(
     course: &Course<'_>,
     local: &mut Local<'_, u64>,
 ) -> Result<Vec<Span>, Trouble>
-    requires { IsSeated (seat_of local.old) }
+    requires seated { IsSeated (seat_of local.old) }
+    requires home { (seat_of local.old).home.slots ≡ slots_in course.now.domain.now }
     ensures { (seat_of local.new ≡ seat_of local.old) × (local.new.member.own.guards ≡ local.old.member.own.guards) }
 {
     let mut spans = Vec::new(alloc);
@@ -170,11 +177,17 @@ fn works_once(
     course: &Course<'_>,
     local: &mut Local<'_, u64>,
 ) -> Result<Span, Trouble>
-    requires { IsSeated (seat_of local.old) }
+    requires seated { IsSeated (seat_of local.old) }
+    requires home { (seat_of local.old).home.slots ≡ slots_in course.now.domain.now }
     ensures { (seat_of local.new ≡ seat_of local.old) × (local.new.member.own.guards ≡ local.old.member.own.guards) }
 {
     let begin = nanoseconds_since(clock, course.origin)?;
-    worked(local, course.task, course.turns)?;
+    match course.common {
+        Some(owner) => clones(local, owner, course.turns)?,
+        None => {
+            worked(local, course.task, course.turns)?;
+        }
+    }
     let end = nanoseconds_since(clock, course.origin)?;
     Ok(Span { begin, end })
 }

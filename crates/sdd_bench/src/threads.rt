@@ -2,13 +2,17 @@
 ghost use Rattle.std.specs.Prelude.{◌≡◌, All, IfOk};
 ghost use Rattle.sdd_domain.specs.Domain.{slots_in};
 ghost use Rattle.sdd_domain.specs.Receipt.{Receipt as EndedCounts};
+ghost use Rattle.sdd_space.specs.CallerId.{IsSeated};
+ghost use Rattle.sdd_domain.specs.Space.{seat_of};
 ghost use Rattle.sdd_bench.specs.Names.{name_of_timed};
 
+use crate::local::keep;
 use crate::operation::{Guarding, Task};
 use crate::rounds::{Course, Findings, Meeting, Trouble, takes_part};
 use crate::spans::{Span, Tenths, median_of};
 use sdd_core::{Limits, Refused};
-use sdd_domain::Domain;
+use sdd_domain::{Domain, Local};
+use sdd_space::Shared;
 use std::alloc::Global;
 use std::sync::Wait;
 use std::thread::{Threads, join};
@@ -25,6 +29,12 @@ const LIMITS: Limits = Limits {
     tries: 65535,
 };
 
+/// One place more, for the participant that makes what the others share.
+const FOR_ONE_MORE: Limits = Limits {
+    participants: 5,
+    ..LIMITS
+};
+
 /// What is timed.
 #[derive(Clone, Copy, Debug, PartialEq, Eq)]
 pub enum Timed {
@@ -36,13 +46,19 @@ pub enum Timed {
     Accelerate,
     /// Under a guard, an item is made and retired, and what is due is reclaimed.
     MakeAndRetire,
+    /// A shared owner is cloned, and the clone released: of an item of each thread's own.
+    CloneOwn,
+    /// The same of one item for all threads.
+    CloneCommon,
 }
 
-const ALL_TIMED: [Timed; 4] = [
+const ALL_TIMED: [Timed; 6] = [
     Timed::Guard,
     Timed::Nested,
     Timed::Accelerate,
     Timed::MakeAndRetire,
+    Timed::CloneOwn,
+    Timed::CloneCommon,
 ];
 
 impl Timed {
@@ -55,6 +71,8 @@ impl Timed {
             Timed::Nested => "nested",
             Timed::Accelerate => "accelerate",
             Timed::MakeAndRetire => "make-and-retire",
+            Timed::CloneOwn => "clone-own",
+            Timed::CloneCommon => "clone-common",
         }
     }
 
@@ -64,6 +82,14 @@ impl Timed {
             Timed::Nested => Task::Guards(Guarding::Nested),
             Timed::Accelerate => Task::Guards(Guarding::Accelerated),
             Timed::MakeAndRetire => Task::Items,
+            Timed::CloneOwn | Timed::CloneCommon => Task::Shares,
+        }
+    }
+
+    fn limits(self) -> Limits {
+        match self {
+            Timed::CloneCommon => FOR_ONE_MORE,
+            _ => LIMITS,
         }
     }
 
@@ -74,6 +100,8 @@ impl Timed {
             Timed::Nested => 100_000,
             Timed::Accelerate => 10_000,
             Timed::MakeAndRetire => 10_000,
+            Timed::CloneOwn => 50_000,
+            Timed::CloneCommon => 10_000,
         }
     }
 }
@@ -123,7 +151,7 @@ fn print_rows_of<R: Threads + Wait + Clock + Print + AllocGlobal + Sync>(
         if crowd.threads() > processors {
             break;
         }
-        match time_of(rt, rt.alloc(), timed.task(), crowd, turns) {
+        match time_of(rt, rt.alloc(), timed, crowd, turns) {
             Ok(time) => print_row(rt, timed, crowd, time)?,
             Err(trouble) => return Ok(Err(trouble)),
         }
@@ -145,23 +173,28 @@ fn print_row(rt: &impl Print, timed: Timed, crowd: Crowd, time: Option<Tenths>) 
 fn time_of<R: Threads + Wait + Clock + Sync>(
     rt: &R,
     alloc: Global,
-    task: Task,
+    timed: Timed,
     crowd: Crowd,
     turns: u64,
 ) -> Result<Option<Tenths>, Trouble> {
     let Ok(origin) = Instant::now(rt) else {
         return Err(Trouble::NoClock);
     };
-    let domain: Domain<u64> = Domain::new(alloc, LIMITS)?;
+    let domain: Domain<u64> = Domain::new(alloc, timed.limits())?;
     let meeting = Meeting::new(crowd.threads());
     let course = Course {
         domain: &domain,
         meeting: &meeting,
         origin,
-        task,
+        task: timed.task(),
         turns,
+        common: &None,
     };
-    match runs(rt, alloc, crowd, &course) {
+    let found = match timed {
+        Timed::CloneCommon => shares_one(rt, alloc, crowd, &course),
+        _ => runs(rt, alloc, crowd, &course),
+    };
+    match found {
         Ok(findings) => {
             let spans = closed(domain, findings)?;
             Ok(median_of(alloc, spans.as_slice(), turns)?)
@@ -171,6 +204,61 @@ fn time_of<R: Threads + Wait + Clock + Sync>(
             Err(trouble)
         }
     }
+}
+
+/// All threads run the course with an owner of one item, which a participant more makes and retires.
+fn shares_one<R: Threads + Wait + Clock + Sync>(
+    rt: &R,
+    alloc: Global,
+    crowd: Crowd,
+    course: &Course<'_>,
+) -> Result<Findings, Trouble>
+    ensures { IfOk result (λ found. All (λ (r : EndedCounts). r.home ≡ slots_in course.now.domain.now) found.receipts.items) }
+{
+    let mut local = Local::register(course.domain)?;
+    let found = runs_with_one(rt, alloc, crowd, course, &mut local);
+    match local.end() {
+        Ok(receipt) => {
+            let mut found = found?;
+            keep(course.domain, &mut found.receipts, receipt)?;
+            Ok(found)
+        }
+        Err(_) => unreachable!(),
+    }
+}
+
+/// The same by this participant.
+fn runs_with_one<R: Threads + Wait + Clock + Sync>(
+    rt: &R,
+    alloc: Global,
+    crowd: Crowd,
+    course: &Course<'_>,
+    local: &mut Local<'_, u64>,
+) -> Result<Findings, Trouble>
+    requires seated { IsSeated (seat_of local.old) }
+    requires home { (seat_of local.old).home.slots ≡ slots_in course.now.domain.now }
+    ensures found { IfOk result (λ found. All (λ (r : EndedCounts). r.home ≡ slots_in course.now.domain.now) found.receipts.items) }
+    ensures seat { seat_of local.new ≡ seat_of local.old }
+    ensures guards { local.new.member.own.guards ≡ local.old.member.own.guards }
+{
+    let owner = match Shared::new(1, local) {
+        Ok(owner) => owner,
+        Err((_value, refused)) => return Err(Trouble::Refused(refused)),
+    };
+    let common = Some(owner);
+    let course = Course {
+        domain: course.domain,
+        meeting: course.meeting,
+        origin: course.origin,
+        task: course.task,
+        turns: course.turns,
+        common: &common,
+    };
+    let found = runs(rt, alloc, crowd, &course);
+    if let Some(owner) = common {
+        let _ = owner.release(local);
+    }
+    found
 }
 
 /// Closes the domain. When each participant worked.

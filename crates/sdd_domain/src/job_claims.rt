@@ -70,6 +70,20 @@ fn walk(
     Ok(None)
 }
 
+/// Claims a place for a job, if it is free.
+#[inline]
+fn claim(board: &DomainTable, token: &mut DomainSeat, place: u32) -> bool
+    requires home { token.old.table_id ≡ id_of board.now }
+    requires knows { Knows board.now token.old }
+    requires rests { (view token.old).stakes.moves ≡ None }
+    requires inside { (slots_of board.now ≤ place) × (place < most_waiting_of board.now) }
+    requires place { HasPlace (epoch token.old) }
+    ensures won { result ≡ true → Defers place token.old token.new }
+    ensures lost { result ≡ false → Misses (λ k. k ≡ place) token.old token.new }
+{
+    defer(board, token, place) == FREE
+}
+
 /// Tries all places in a walk, once round, which begins at this one. So many exchanges may be lost.
 #[inline(never)]
 fn search(
@@ -103,10 +117,10 @@ fn search(
     Err(Refused::NoJob)
 }
 
-/// Claims a free place for a job: this one, or else the first one of a walk over all places, once round, which begins there. A job's place has the number
-/// behind those of so many slots.
+/// Claims a free place for a job: this one, by an exchange without a look before, or else the first one of a walk over all places, once round, which
+/// begins there. A job's place has the number behind those of so many slots.
 ///
-/// `NoJob` where none was found free; `Contended` where so many exchanges were lost.
+/// `NoJob` where none was found free; `Contended` where so many exchanges of the walk were lost.
 #[inline]
 pub fn claim_place(
     board: &DomainTable,
@@ -129,9 +143,8 @@ pub fn claim_place(
         (λ e. ((e ≡ Refused.NoJob) × Misses (λ k. (slots ≤ k) × (k < slots + jobs)) token.old token.new)
         ⊎ ((e ≡ Refused.Contended) × Loses token.old token.new)) }
 {
-    let mut left = tries;
-    if next < jobs && attempt(board, token, slots + next, &mut left)? {
+    if next < jobs && claim(board, token, slots + next) {
         return Ok(next);
     }
-    search(board, token, next, slots, jobs, left)
+    search(board, token, next, slots, jobs, tries)
 }
