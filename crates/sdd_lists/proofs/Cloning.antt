@@ -1,6 +1,6 @@
 -- What a push onto another queue leaves alone
-use Rattle.std.proofs.Common.{◌≡◌, ◌≢◌, ℕ, List, [], ◌∷◌, ◌++◌, Bool, true, false, Option, Some, None, sym, ap, ◌∙◌, arith, subst, slice_index_or, slice_set}
-use Rattle.std.specs.Prelude.{if◌then◌else◌}
+use Rattle.std.proofs.Common.{◌≡◌, ◌≢◌, ℕ, List, [], ◌∷◌, Bool, true, false, Option, Some, None, sym, ap, ◌∙◌, arith, subst, slice_index_or, slice_set}
+use Rattle.std.specs.Prelude.{drop, if◌then◌else◌}
 use Rattle.std.proofs.lemmas.List.{get_or-set_other, length-set}
 use Rattle.sdd_core.specs.declared.tag.Tag.TheVariants as tag
 use Rattle.sdd_participants.specs.Slab.{Entries, IsEmptyAt, entry_at}
@@ -11,13 +11,13 @@ use Rattle.sdd_space.specs.Shared.{slot_of}
 use Rattle.sdd_space.specs.WorldChanges.{made_as, nulled, with_cell}
 use Rattle.sdd_lists.specs.declared.linked_entry.LinkedEntry.{LinkedEntry}
 use Rattle.sdd_lists.specs.declared.walk.Walk.{Walk}
-use Rattle.sdd_lists.specs.Cloning.{AreBeside, AreClones, IsBeside, IsQueueBeside}
+use Rattle.sdd_lists.specs.Cloning.{AreBeside, IsBeside, IsQueueBeside}
 use Rattle.sdd_lists.specs.Ends.{end_of, through_last}
 use Rattle.sdd_lists.specs.Entries.{link_of}
 use Rattle.sdd_lists.specs.Lists.{Apart, AreLinked, Entry, first_slot, is_deleted, left}
 use Rattle.sdd_lists.specs.Queue.{IsQueue, QueueCells, made_newest}
 use Rattle.sdd_lists.specs.QueueFilling.{AddsBehind}
-use Rattle.sdd_lists.specs.Walk.{StandsBefore, entries_behind}
+use Rattle.sdd_lists.specs.Walk.{StandsBefore}
 use Rattle.sdd_lists.proofs.Beside.{beside-still, cell-still, links-still, list-still, standing-still}
 use Rattle.sdd_lists.proofs.Ending.{appended-other, apart-last, apart-through, put-values}
 use Rattle.sdd_lists.proofs.Fresh.{fresh-queue}
@@ -109,7 +109,7 @@ module _ {T : Type 0} (q : QueueCells) (fs : List (Entry (LinkedEntry T))) where
   beside-left [] all = tt
   beside-left (e ∷ es) all = left-by e es all (beside-left es all.1) (is_deleted e)
 
-  pub beside-behind : (es : List (Entry (LinkedEntry T))) → AreBeside es q fs → AreBeside (left (entries_behind es)) q fs
+  pub beside-behind : (es : List (Entry (LinkedEntry T))) → AreBeside es q fs → AreBeside (left (drop 1 es)) q fs
   beside-behind [] all = tt
   beside-behind (e ∷ es) all = beside-left es all.1
 
@@ -149,11 +149,3 @@ module _ {T : Type 0} (w : World (LinkedEntry T)) (q : QueueCells) (oldest : IsE
         newest = beside-new from.newest last queue.newest;
         links = links-new es queue.list.linked;
       }
-
-module _ {T : Type 0} (is_clone : T → T → Type 0) (is_infallible : T → Type 0) where
-  pub clones-more : (us vs : List T) (u v : T) → AreClones is_clone is_infallible us vs → is_clone u v →
-      AreClones is_clone is_infallible (us ++ u ∷ []) (vs ++ v ∷ [])
-  clones-more [] [] u v are one = (one, tt)
-  clones-more [] (y ∷ ys) u v are one = absurd are
-  clones-more (x ∷ xs) [] u v are one = absurd are
-  clones-more (x ∷ xs) (y ∷ ys) u v are one = (are.0, clones-more xs ys u v are.1 one)

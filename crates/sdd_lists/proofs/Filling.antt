@@ -1,5 +1,6 @@
 -- What filling a queue or stack makes of it
-use Rattle.std.proofs.Common.{◌≡◌, ℕ, List, [], ◌∷◌, ◌++◌, refl, sym, ap, ◌∙◌}
+use Rattle.std.proofs.Common.{◌≡◌, ℕ, List, [], ◌∷◌, ◌++◌, Option, Some, refl, sym, ap, ◌∙◌, subst}
+use Rattle.std.specs.Iterator.{Yields}
 use Rattle.std.proofs.lemmas.List.{reverse-append}
 use Rattle.sdd_core.specs.declared.tag.Tag.TheVariants as tag
 use Rattle.sdd_space.specs.World.{World, standing_at}
@@ -14,6 +15,12 @@ use Rattle.sdd_lists.specs.Stack.{IsStack, PushesOnto}
 use Rattle.sdd_lists.specs.Walk.{shown_of}
 use Rattle.sdd_lists.proofs.Lists.{bare, list-same}
 use Rattle.sdd_lists.proofs.Walking.{shown-left}
+
+-- a further step of an iterator, behind those that it made
+pub yields-more : {I A : Type 0} (next : I → Option A → I → Type 0) (start : I) (xs : List A) (i j : I) (x : A) → Yields next start xs i →
+    next i (Some x) j → Yields next start (xs ++ x ∷ []) j
+yields-more next start [] i j x gave more = (j, subst (λ (u : _). next u (Some x) j) (sym gave) more, refl)
+yields-more next start (y ∷ ys) i j x gave more = (gave.0, gave.1, yields-more next gave.0 ys i j x gave.2 more)
 
 module _ {T : Type 0} where
   pub added : (w between new : World (LinkedEntry T)) (p c : ℕ) (es : List (Entry (LinkedEntry T))) (value : T) (owner : Shared (LinkedEntry T)) →

@@ -1,6 +1,6 @@
 -- What a walk shows, and where it stands then
 use Rattle.std.proofs.Common.{◌≡◌, ◌≤◌, ℕ, ◌-◌, List, [], ◌∷◌, length, Bool, true, false, Option, Some, None, refl, sym, ap, ◌∙◌, arith, subst}
-use Rattle.std.specs.Prelude.{IfSome, MatchOption, map, if◌then◌else◌}
+use Rattle.std.specs.Prelude.{IfSome, MatchOption, drop, map, slice_get, if◌then◌else◌}
 use Rattle.sdd_space.specs.World.{World, standing_at}
 use Rattle.sdd_space.specs.Ptr.{slot_named}
 use Rattle.sdd_participants.specs.Slab.{entry_at}
@@ -12,7 +12,7 @@ use Rattle.sdd_lists.specs.declared.walk.Walk.{Walk}
 use Rattle.sdd_lists.specs.declared.walks.Front.{Front}
 use Rattle.sdd_lists.specs.Entries.{link_of, value_of}
 use Rattle.sdd_lists.specs.Lists.{AreLinked, Entry, first_slot, is_deleted, left}
-use Rattle.sdd_lists.specs.Walk.{ShowsInOrder, StandsBefore, behind_first, entries_behind, first_of, first_shown, shown_of}
+use Rattle.sdd_lists.specs.Walk.{ShowsInOrder, StandsBefore, first_shown, shown_of}
 use Rattle.sdd_lists.proofs.Order.{values-kept, values-left}
 use Rattle.sdd_lists.proofs.Popping.{stays-of}
 
@@ -81,7 +81,7 @@ module _ {T : Type 0} where
 module _ {T : Type 0} (w : World (LinkedEntry T)) (walk : Walk T) where
   -- what is shown first, and then
   pub shown-step : (es : List (Entry (LinkedEntry T))) (v : T) → StandsBefore w walk es → Some v ≡ first_shown es →
-      shown_of es ≡ v ∷ shown_of (left (entries_behind es))
+      shown_of es ≡ v ∷ shown_of (left (drop 1 es))
   shown-step [] v stood is = absurd (cc)
   shown-step (e ∷ rest) v stood is =
       let value : value_of e.value ≡ v = cc in
@@ -105,7 +105,7 @@ module _ {T : Type 0} (w : World (LinkedEntry T)) (walk : Walk T) (f : Front (Li
       (f.entry.now ≡ e.value) × (cell_of f.link.now ≡ link_of e.value))
 
   pub stands-next : (es : List (Entry (LinkedEntry T))) → StandsBefore w walk es →
-      (Some v ≡ first_shown es) × StandsBefore w (after walk o) (left (entries_behind es))
+      (Some v ≡ first_shown es) × StandsBefore w (after walk o) (left (drop 1 es))
   stands-next [] stood =
       let here : next-entry [] (Some f) = subst (λ (x : Option (Front (LinkedEntry T))). next-entry [] x) at stood.next in absurd (cc (here.2))
   stands-next (x ∷ xs) stood =
@@ -121,9 +121,9 @@ module _ {T : Type 0} (w : World (LinkedEntry T)) (walk : Walk T) (f : Front (Li
         stands w (after walk o) xs stood.linked.1 behind cell (omega (arith, none, few)),
       )
 
-  pub shows-next : (vs : List T) → ShowsInOrder w walk vs → (Some v ≡ first_of vs) × ShowsInOrder w (after walk o) (behind_first vs)
+  pub shows-next : (vs : List T) → ShowsInOrder w walk vs → (Some v ≡ slice_get vs 0) × ShowsInOrder w (after walk o) (drop 1 vs)
   shows-next vs shows =
       let es : List (Entry (LinkedEntry T)) = shows.0 in
       let next = stands-next es shows.1 in
-      let values : vs ≡ v ∷ shown_of (left (entries_behind es)) = shows.2 ∙ shown-step w walk es v shows.1 next.0 in
-      (sym (ap first_of values), (left (entries_behind es), next.1, ap behind_first values))
+      let values : vs ≡ v ∷ shown_of (left (drop 1 es)) = shows.2 ∙ shown-step w walk es v shows.1 next.0 in
+      (sym (ap (λ (xs : List T). slice_get xs 0) values), (left (drop 1 es), next.1, ap (drop 1) values))

@@ -1,5 +1,6 @@
 -- Clones of queues
 use Rattle.std.specs.Prelude.{ℕ, ◌≡◌, ◌≢◌, ◌⊎◌, List, [], ◌∷◌, ◌++◌, Option, None, Result, Ok, Err}
+use Rattle.std.specs.List.{AllZip}
 use Rattle.sdd_core.specs.declared.refused.Refused.{Refused}
 use Rattle.sdd_core.specs.declared.refused.Refused.TheVariants.{NoCell, NoMemory}
 use Rattle.sdd_participants.specs.Slab.{IsEmptyAt, IsFull}
@@ -17,13 +18,6 @@ use Rattle.sdd_lists.specs.QueueFilling.{FillsQueue}
 use Rattle.sdd_lists.specs.Walk.{shown_of}
 
 module _ {T : Type 0} (is_clone : T → T → Type 0) (is_infallible : T → Type 0) where
-  -- the second are clones of the first, in order
-  abbrev pub AreClones : List T → List T → Type 0
-  AreClones [] [] = Unit {0}
-  AreClones [] (v ∷ vs) = ⊥
-  AreClones (u ∷ us) [] = ⊥
-  AreClones (u ∷ us) (v ∷ vs) = is_clone u v × AreClones us vs
-
   -- a push of a clone is refused, the lowest reason first
   abbrev pub RefusesClone : World (LinkedEntry T) → T → Refused → Type 0
   RefusesClone w u why = RefusesPush w why ⊎
@@ -39,7 +33,7 @@ module _ {T : Type 0} (is_clone : T → T → Type 0) (is_infallible : T → Typ
     pub first : List T
     pub parts : shown_of es ≡ first ++ others
     pub clones : List T
-    pub are : AreClones first clones
+    pub are : AllZip is_clone first clones
     pub entries : List (Entry (LinkedEntry T))
     pub held : Option ℕ
     pub fills : FillsQueue p q (nulled (nulled w q.oldest) q.newest) [] None clones new entries held

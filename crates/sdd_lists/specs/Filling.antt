@@ -1,5 +1,6 @@
 -- Queues and stacks that are filled by an iterator
 use Rattle.std.specs.Prelude.{ℕ, ◌≡◌, ◌⊎◌, List, [], ◌∷◌, ◌++◌, Option, None, Some, Result, Ok, Err, reverse}
+use Rattle.std.specs.Iterator.{YieldsThen}
 use Rattle.sdd_core.specs.declared.refused.Refused.{Refused}
 use Rattle.sdd_core.specs.declared.refused.Refused.TheVariants.{NoCell, NoSlot}
 use Rattle.sdd_core.specs.declared.tag.Tag.TheVariants as tag
@@ -15,11 +16,6 @@ use Rattle.sdd_lists.specs.declared.unfinished.Unfinished.TheVariants.{NotBegun,
 use Rattle.sdd_lists.specs.Lists.{Entry, left}
 use Rattle.sdd_lists.specs.Stack.{IsStack, PushesOnto, cell_in}
 use Rattle.sdd_lists.specs.Walk.{shown_of}
-
--- an iterator gave these, one after another
-pub data Gives {I A : Type 0} (next : I → Option A → I → Type 0) (start : I) : List A → I → Type 0 where
-  nothing : Gives next start [] start
-  one_more : (xs : List A) (i j : I) (x : A) → Gives next start xs i → next i (Some x) j → Gives next start (xs ++ x ∷ []) j
 
 module _ {T : Type 0} where
   -- a push is refused, the lowest reason first
@@ -66,9 +62,7 @@ module _ {I T : Type 0} (next : I → Option T → I → Type 0) where
   pub record BuildsStack (p : ℕ) (w : World (LinkedEntry T)) (c : ℕ) (start end : I) (last : Option T) (new : World (LinkedEntry T)) : Type 0 where
     pub free : IsEmptyAt w.cells c
     pub given : List T
-    pub stopped : I
-    pub gives : Gives next start given stopped
-    pub gave_last : next stopped last end
+    pub gives : YieldsThen next start given last end
     pub entries : List (Entry (LinkedEntry T))
     pub fills : FillsStack p c (nulled w c) [] given new entries
 

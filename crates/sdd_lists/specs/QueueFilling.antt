@@ -1,5 +1,6 @@
 -- Queues that are filled by an iterator
 use Rattle.std.specs.Prelude.{ℕ, ◌≡◌, ◌≢◌, List, [], ◌∷◌, ◌++◌, Option, None, Some, Result, Ok, Err}
+use Rattle.std.specs.Iterator.{YieldsThen}
 use Rattle.sdd_core.specs.declared.refused.Refused.TheVariants.{NoCell}
 use Rattle.sdd_core.specs.declared.tag.Tag.TheVariants as tag
 use Rattle.sdd_participants.specs.Slab.{IsEmptyAt}
@@ -13,7 +14,7 @@ use Rattle.sdd_lists.specs.declared.unfinished.Unfinished.{Unfinished}
 use Rattle.sdd_lists.specs.declared.unfinished.Unfinished.TheVariants.{NotBegun, Part}
 use Rattle.sdd_lists.specs.Ends.{through_last}
 use Rattle.sdd_lists.specs.Entries.{link_of}
-use Rattle.sdd_lists.specs.Filling.{Gives, RefusesPush}
+use Rattle.sdd_lists.specs.Filling.{RefusesPush}
 use Rattle.sdd_lists.specs.Lists.{Entry}
 use Rattle.sdd_lists.specs.Queue.{HasOneAtMost, IsQueue, PushesBehind, QueueCells, cells_in}
 use Rattle.sdd_lists.specs.Walk.{shown_of}
@@ -58,9 +59,7 @@ module _ {I T : Type 0} (next : I → Option T → I → Type 0) where
     pub newest : IsEmptyAt w.cells q.newest
     pub two : q.oldest ≢ q.newest
     pub given : List T
-    pub stopped : I
-    pub gives : Gives next start given stopped
-    pub gave_last : next stopped last end
+    pub gives : YieldsThen next start given last end
     pub entries : List (Entry (LinkedEntry T))
     pub held : Option ℕ
     pub fills : FillsQueue p q (nulled (nulled w q.oldest) q.newest) [] None given new entries held

@@ -1,5 +1,6 @@
 -- Clones of stacks
 use Rattle.std.specs.Prelude.{ℕ, ◌≡◌, List, [], ◌∷◌, ◌++◌, MatchOption, Option, None, Result, Ok, Err, true}
+use Rattle.std.specs.List.{AllZip}
 use Rattle.sdd_core.specs.declared.refused.Refused.TheVariants.{NoCell}
 use Rattle.sdd_core.specs.declared.tag.Tag.{Tag}
 use Rattle.sdd_core.specs.declared.tag.Tag.TheVariants as tag
@@ -13,7 +14,7 @@ use Rattle.sdd_lists.specs.declared.stack.Stack.{Stack}
 use Rattle.sdd_lists.specs.declared.unfinished.Unfinished.{Unfinished}
 use Rattle.sdd_lists.specs.declared.unfinished.Unfinished.TheVariants.{NotBegun, Part}
 use Rattle.sdd_lists.specs.declared.walks.Front.{Front}
-use Rattle.sdd_lists.specs.Cloning.{AreBeside, AreClones, IsBeside, RefusesClone}
+use Rattle.sdd_lists.specs.Cloning.{AreBeside, IsBeside, RefusesClone}
 use Rattle.sdd_lists.specs.Ends.{IsLastOf, appended, is_spent, through_last}
 use Rattle.sdd_lists.specs.Entries.{link_of, value_of}
 use Rattle.sdd_lists.specs.Lists.{Entry, IsList}
@@ -78,7 +79,7 @@ module _ {T : Type 0} (is_clone : T → T → Type 0) (is_infallible : T → Typ
     pub first : List T
     pub parts : shown_of es ≡ first ++ others
     pub clones : List T
-    pub are : AreClones is_clone is_infallible first clones
+    pub are : AllZip is_clone first clones
     pub entries : List (Entry (LinkedEntry T))
     pub fills : ExtendsStack p c (nulled w c) [] clones new entries
     pub kept : IsStack new from es

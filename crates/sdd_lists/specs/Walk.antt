@@ -10,27 +10,14 @@ use Rattle.sdd_lists.specs.Histories.{values_of}
 use Rattle.sdd_lists.specs.Lists.{AreLinked, Entry, left}
 
 module _ {T : Type 0} where
-  -- the first value, if there is one, and those behind it
-  abbrev pub first_of : List T → Option T
-  first_of [] = None
-  first_of (v ∷ vs) = Some v
-
-  abbrev pub behind_first : List T → List T
-  behind_first [] = []
-  behind_first (v ∷ vs) = vs
-
   -- the values of a queue or a stack, in order
   abbrev pub shown_of : List (Entry (LinkedEntry T)) → List T
   shown_of es = map value_of (values_of es)
 
-  -- the value of the first entry, if there is one, and the entries behind it
+  -- the value of the first entry, if there is one
   abbrev pub first_shown : List (Entry (LinkedEntry T)) → Option T
   first_shown [] = None
   first_shown (e ∷ es) = Some (value_of e.value)
-
-  abbrev pub entries_behind : List (Entry (LinkedEntry T)) → List (Entry (LinkedEntry T))
-  entries_behind [] = []
-  entries_behind (e ∷ es) = es
 
   -- how many values it shows at most
   abbrev pub steps_left : Walk T → ℕ

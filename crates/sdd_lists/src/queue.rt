@@ -1,6 +1,7 @@
 //! A container whose oldest value comes out first.
 ghost use Rattle.std.specs.Borrow.{Bor};
-ghost use Rattle.std.specs.Iterator.{IsFinite};
+ghost use Rattle.std.specs.Iterator.{IsFinite, YieldsThen};
+ghost use Rattle.std.specs.List.{AllZip};
 ghost use Rattle.std.specs.Prelude.{◌≡◌, ◌≢◌, ◌↔◌, ◌⊎◌, ℕ, true, [], ◌∷◌, ◌++◌, IfErr, IfOk, IfSome, IsTrue, List, MatchOption, MatchResult, None, Option, Some, length, option_copied};
 ghost use Rattle.sdd_space.specs.Guard.{reader_of};
 ghost use Rattle.sdd_space.specs.OwnerOrCell.{AreOf};
@@ -43,8 +44,8 @@ pub struct Queue<T> {
 
 impl<T: Item<LinkedEntry<T>>> Queue<T> {
     ghost use Rattle.sdd_lists.specs.Queue.{AreOfCells, Dequeues, DequeuesIf, HasOneAtMost, IsQueue, PushesBehind, QueueCells, cells_in, queue_closed};
-    ghost use Rattle.sdd_lists.specs.Cloning.{AreBeside, AreClones, Clones, IsQueueBeside, RefusesClone};
-    ghost use Rattle.sdd_lists.specs.Filling.{Gives, RefusesPush, why_not};
+    ghost use Rattle.sdd_lists.specs.Cloning.{AreBeside, Clones, IsQueueBeside, RefusesClone};
+    ghost use Rattle.sdd_lists.specs.Filling.{RefusesPush, why_not};
     ghost use Rattle.sdd_lists.specs.QueueFilling.{AddsBehind, BuildsInOrder, FillsQueue, queue_of};
     ghost use Rattle.sdd_lists.specs.Walk.{IsWalkOf, ShowsInOrder, StandsBefore, shown_of};
 
@@ -260,9 +261,10 @@ impl<T: Item<LinkedEntry<T>>> Queue<T> {
         ensures back { IfErr result (λ e. (e.1 ≡ Refused.NoSlot) ⊎ (e.1 ≡ Refused.NoCell) ⊎ (e.1 ≡ Refused.Contended)) }
         ensures list { IsExact (S.seat s.old) → (es : List (Entry (LinkedEntry T))) (second : Option ℕ) →
             IsQueue link_of (S.world s.old) (cells_in self.now) es second →
-            (xs : List T) × (i : I) × (fs : List (Entry (LinkedEntry T))) × (held : Option ℕ) × Gives I.next_gives items.old xs i ×
+            (xs : List T) × (fs : List (Entry (LinkedEntry T))) × (held : Option ℕ) ×
             FillsQueue (S.seat s.old).place (cells_in self.now) (S.world s.old) es second xs (S.world s.new) fs held × MatchResult result
-            (λ _. I.next_gives i None items.new) (λ e. I.next_gives i (Some e.0) items.new × RefusesPush (S.world s.new) e.1) }
+            (λ _. YieldsThen I.next_gives items.old xs None items.new)
+            (λ e. YieldsThen I.next_gives items.old xs (Some e.0) items.new × RefusesPush (S.world s.new) e.1) }
     {
         while let Some(value) = items.next() {
             match self.add(value, guard, s) {
@@ -365,7 +367,7 @@ impl<T: Item<LinkedEntry<T>>> Queue<T> {
             IsQueue link_of (S.world s.old) (cells_in self.now) es second → (from : QueueCells) (now fs : List (Entry (LinkedEntry T))) (held : Option ℕ) →
             StandsBefore (S.world s.old) walk.entry now → AreBeside now (cells_in self.now) es →
             IsQueueBeside (S.world s.old) from fs held (cells_in self.now) es → (first others xs : List T) × (gs : List (Entry (LinkedEntry T))) ×
-            (holds : Option ℕ) × (shown_of now ≡ first ++ others) × AreClones T.is_clone T.is_infallible first xs ×
+            (holds : Option ℕ) × (shown_of now ≡ first ++ others) × AllZip T.is_clone first xs ×
             FillsQueue (S.seat s.old).place (cells_in self.now) (S.world s.old) es second xs (S.world s.new) gs holds ×
             IsQueue link_of (S.world s.new) from fs held × MatchResult result (λ _. others ≡ [])
             (λ e. (e.0 ≡ None) × (u : T) × (us : List T) × (others ≡ u ∷ us) ×

@@ -1,7 +1,8 @@
 //! A container whose newest value comes out first.
 ghost use Rattle.std.specs.Prelude.{◌≡◌, ◌↔◌, ◌⊎◌, ℕ, [], ◌∷◌, ◌++◌, IfErr, IfOk, IfSome, IsTrue, List, MatchResult, None, Some, length, option_copied};
 ghost use Rattle.std.specs.Borrow.{Bor};
-ghost use Rattle.std.specs.Iterator.{IsFinite};
+ghost use Rattle.std.specs.Iterator.{IsFinite, YieldsThen};
+ghost use Rattle.std.specs.List.{AllZip};
 ghost use Rattle.sdd_space.specs.Guard.{reader_of};
 ghost use Rattle.sdd_space.specs.OwnerOrCell.{AreOf};
 ghost use Rattle.sdd_space.specs.Undisturbed.{Undisturbed, Unmoved};
@@ -41,9 +42,9 @@ pub struct Stack<T> {
 
 impl<T: Item<LinkedEntry<T>>> Stack<T> {
     ghost use Rattle.sdd_lists.specs.Stack.{IsStack, PopsIf, PushesOnto, cell_in, home_in, poured};
-    ghost use Rattle.sdd_lists.specs.Cloning.{AreBeside, AreClones, RefusesClone};
+    ghost use Rattle.sdd_lists.specs.Cloning.{AreBeside, RefusesClone};
     ghost use Rattle.sdd_lists.specs.StackCloning.{AppendsTo, ExtendsStack, IsStackBeside, LastIs, StackClones, both};
-    ghost use Rattle.sdd_lists.specs.Filling.{AddsOnto, Builds, FillsStack, Gives, RefusesPush, stack_of, why_not};
+    ghost use Rattle.sdd_lists.specs.Filling.{AddsOnto, Builds, FillsStack, RefusesPush, stack_of, why_not};
     ghost use Rattle.sdd_lists.specs.Walk.{IsWalkOf, ShowsInOrder, StandsBefore, shown_of};
 
     /// An empty stack.
@@ -149,9 +150,10 @@ impl<T: Item<LinkedEntry<T>>> Stack<T> {
         ensures own { KeepsMoreWaiting (S.own s.old) (S.own s.new) }
         ensures back { IfErr result (λ e. (e.1 ≡ Refused.NoSlot) ⊎ IsRefusedBy (S.seat s.old) Refused.NoCell e.1) }
         ensures list { IsExact (S.seat s.old) → (es : List (Entry (LinkedEntry T))) → IsStack (S.world s.old) (cell_in self.now) es →
-            (xs : List T) × (i : I) × (fs : List (Entry (LinkedEntry T))) × Gives I.next_gives items.old xs i ×
+            (xs : List T) × (fs : List (Entry (LinkedEntry T))) ×
             FillsStack (S.seat s.old).place (cell_in self.now) (S.world s.old) es xs (S.world s.new) fs × MatchResult result
-            (λ _. I.next_gives i None items.new) (λ e. I.next_gives i (Some e.0) items.new × RefusesPush (S.world s.new) e.1) }
+            (λ _. YieldsThen I.next_gives items.old xs None items.new)
+            (λ e. YieldsThen I.next_gives items.old xs (Some e.0) items.new × RefusesPush (S.world s.new) e.1) }
     {
         while let Some(value) = items.next() {
             match self.add(value, guard, s) {
@@ -302,7 +304,7 @@ impl<T: Item<LinkedEntry<T>>> Stack<T> {
         ensures list { IsExact (S.seat s.old) → IsStack (S.world s.old) (cell_in self.now) [] → (from : ℕ) (now fs : List (Entry (LinkedEntry T))) →
             StandsBefore (S.world s.old) walk.entry now → AreBeside now (both (cell_in self.now)) [] →
             IsStackBeside (S.world s.old) from fs (cell_in self.now) [] → (first others xs : List T) × (gs : List (Entry (LinkedEntry T))) ×
-            (shown_of now ≡ first ++ others) × AreClones T.is_clone T.is_infallible first xs ×
+            (shown_of now ≡ first ++ others) × AllZip T.is_clone first xs ×
             ExtendsStack (S.seat s.old).place (cell_in self.now) (S.world s.old) [] xs (S.world s.new) gs × IsStack (S.world s.new) from fs ×
             MatchResult result (λ _. others ≡ []) (λ e. (e.0 ≡ None) × (u : T) × (us : List T) × (others ≡ u ∷ us) ×
             RefusesClone T.is_clone T.is_infallible (S.world s.new) u e.1) }

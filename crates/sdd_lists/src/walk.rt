@@ -1,5 +1,5 @@
 //! Walks along queues and stacks.
-ghost use Rattle.std.specs.Prelude.{◌≡◌, ◌<◌, ◌∷◌, ℕ, List, IfOk, IfSome, MatchOption, MatchResult, None, Option, Some, length, option_copied};
+ghost use Rattle.std.specs.Prelude.{◌≡◌, ◌<◌, ◌∷◌, ℕ, List, IfOk, IfSome, MatchOption, MatchResult, None, Option, Some, drop, length, option_copied, slice_get};
 ghost use Rattle.sdd_core.specs.declared.tag.Tag.{Tag};
 ghost use Rattle.sdd_space.specs.CallerId.{IsSeated, IsExact};
 ghost use Rattle.sdd_space.specs.Guard.{reader_of};
@@ -7,7 +7,7 @@ ghost use Rattle.sdd_space.specs.Shared.{cell_of, cells_home};
 ghost use Rattle.sdd_space.specs.Undisturbed.{Undisturbed};
 ghost use Rattle.sdd_lists.specs.Entries.{link_of};
 ghost use Rattle.sdd_lists.specs.Lists.{Entry, IsList, left};
-ghost use Rattle.sdd_lists.specs.Walk.{IsWalkOf, ShowsInOrder, StandsBefore, behind_first, entries_behind, first_of, first_shown, steps_left};
+ghost use Rattle.sdd_lists.specs.Walk.{IsWalkOf, ShowsInOrder, StandsBefore, first_shown, steps_left};
 
 use crate::linked_entry::LinkedEntry;
 use crate::walks::{Front, front_in, reach};
@@ -57,9 +57,9 @@ impl<'g, T: Item<LinkedEntry<T>>> Walk<'g, T> {
         ensures home { IsWalkOf (S.seat s.old).home.cells self.new }
         ensures world { IsExact (S.seat s.old) → S.world s.new ≡ S.world s.old }
         ensures list { IsExact (S.seat s.old) → (vs : List T) → ShowsInOrder (S.world s.old) self.old vs →
-            (option_copied result ≡ first_of vs) × ShowsInOrder (S.world s.new) self.new (behind_first vs) }
+            (option_copied result ≡ slice_get vs 0) × ShowsInOrder (S.world s.new) self.new (drop 1 vs) }
         ensures entries { IsExact (S.seat s.old) → (es : List (Entry (LinkedEntry T))) → StandsBefore (S.world s.old) self.old es →
-            (option_copied result ≡ first_shown es) × StandsBefore (S.world s.new) self.new (left (entries_behind es)) }
+            (option_copied result ≡ first_shown es) × StandsBefore (S.world s.new) self.new (left (drop 1 es)) }
         ensures ends { IfSome result (λ _. steps_left self.new < steps_left self.old) }
     {
         let Some(front) = self.next.take() else {

@@ -2,9 +2,10 @@ use Rattle.std.proofs.Common.{◌∷◌, ◌++◌, Some, [], ◌∙◌, ap, refl
 use Rattle.sdd_space.specs.CallerId.{CallerId, IsExact, IsSeated}
 use Rattle.sdd_space.specs.OwnerOrCell.{AreOf}
 use Rattle.sdd_space.specs.World.{World}
-use Rattle.sdd_lists.specs.Filling.{RefusesPush, nothing, one_more}
+use Rattle.sdd_lists.specs.Filling.{RefusesPush}
 use Rattle.sdd_lists.specs.QueueFilling.{AddsBehind, FillsQueue}
 use Rattle.sdd_lists.specs.Queue.{AreOfCells, cells_in}
+use Rattle.sdd_lists.proofs.Filling.{yields-more}
 use Rattle.sdd_lists.proofs.QueueFilling.{none-behind, one-behind}
 use Rattle.sdd_lists.proofs.Grows.{knows-on, knows-same}
 use Rattle.sdd_lists.proofs.queue.Queue.add_all.Goals as goal
@@ -17,7 +18,7 @@ loop-value-init g c = record {
   keeps = λ k v was. was;
   list = λ e es second queue.
       let place = (g.S.Caller.seat c.args.s.now).place in
-      ([], es, second, nothing, none-behind place (cells_in c.args.self.now) (g.S.Caller.world c.args.s.now) es second queue);
+      ([], es, second, refl, none-behind place (cells_in c.args.self.now) (g.S.Caller.world c.args.s.now) es second queue);
 }
 
 pub add-requires-clause-seated : goal.add-requires-clause-seated
@@ -54,7 +55,7 @@ loop-value-preserved g c = record {
         inv.0 ++ x ∷ [],
         more.0,
         more.1,
-        one_more inv.0 c.loop-value.items c.next.new.self x inv.3 c.in-Some.ensures.steps,
+        yields-more g.I.Iterator.next_gives c.args.items.now inv.0 c.loop-value.items c.next.new.self x inv.3 c.in-Some.ensures.steps,
         one-behind place cell w v new es inv.1 more.0 second inv.2 more.1 inv.0 x inv.4 adds,
       );
 }
@@ -76,13 +77,15 @@ returns-in-Err-clause-list g c = λ e es second queue.
     let inv = c.loop-value.invariant.list e es second queue in
     let why = c.in-Err.ensures.refused (subst (λ (s : CallerId). IsExact s) (sym c.loop-value.invariant.seat) e) inv.1 inv.2 inv.4.queue in (
       inv.0,
-      c.loop-value.items,
       inv.1,
       inv.2,
-      inv.3,
       subst (λ (y : World _). FillsQueue place (cells_in c.args.self.now) w es second inv.0 y inv.1 inv.2) (sym why.0) inv.4,
       (
-        subst (λ (x : _). g.I.Iterator.next_gives c.loop-value.items (Some x) c.next.new.self) (sym c.in-Err.ensures.back.0) c.in-Some.ensures.steps,
+        (
+          c.loop-value.items,
+          inv.3,
+          subst (λ (x : _). g.I.Iterator.next_gives c.loop-value.items (Some x) c.next.new.self) (sym c.in-Err.ensures.back.0) c.in-Some.ensures.steps,
+        ),
         subst (λ (y : World _). RefusesPush y c.in-Err.back.1) (sym why.0) why.1,
       ),
     )
@@ -99,4 +102,4 @@ returns-clause-own g c = c.loop-value.invariant.own
 
 pub returns-clause-list : goal.returns-clause-list
 returns-clause-list g c = λ e es second queue.
-    let inv = c.loop-value.invariant.list e es second queue in (inv.0, c.loop-value.items, inv.1, inv.2, inv.3, inv.4, c.in_default.ensures.steps)
+    let inv = c.loop-value.invariant.list e es second queue in (inv.0, inv.1, inv.2, inv.4, (c.loop-value.items, inv.3, c.in_default.ensures.steps))

@@ -1,9 +1,9 @@
 use Rattle.std.proofs.Common.{◌≡◌, ℕ, List, Option}
+use Rattle.std.specs.Iterator.{Yields}
 use Rattle.sdd_space.specs.CallerId.{IsExact}
 use Rattle.sdd_space.specs.KnownEpochs.{KnowsOn}
 use Rattle.sdd_space.specs.ParticipantChanges.{KeepsMoreWaiting}
 use Rattle.sdd_space.specs.Ptr.{KeepsShown}
-use Rattle.sdd_lists.specs.Filling.{Gives}
 use Rattle.sdd_lists.specs.Lists.{Entry}
 use Rattle.sdd_lists.specs.Entries.{link_of}
 use Rattle.sdd_lists.specs.Queue.{IsQueue, cells_in}
@@ -19,6 +19,6 @@ invariant-loop-value g l = record {
   keeps : KeepsShown (g.S.Shows.shows l.initial.s) (g.S.Shows.shows l.s);
   list : IsExact (g.S.Caller.seat l.initial.s) → (es : List (Entry _)) (second : Option ℕ) →
       IsQueue link_of (g.S.Caller.world l.initial.s) (cells_in l.self) es second →
-      (xs : List _) × (fs : List (Entry _)) × (held : Option ℕ) × Gives g.I.Iterator.next_gives l.initial.items xs l.items ×
+      (xs : List _) × (fs : List (Entry _)) × (held : Option ℕ) × Yields g.I.Iterator.next_gives l.initial.items xs l.items ×
       FillsQueue (g.S.Caller.seat l.initial.s).place (cells_in l.self) (g.S.Caller.world l.initial.s) es second xs (g.S.Caller.world l.s) fs held;
 }

@@ -1,4 +1,6 @@
 use Rattle.std.proofs.Common.{◌≡◌, ◌++◌, ◌∷◌, [], ◌∙◌, List, append_assoc, ap, refl, sym, subst}
+use Rattle.std.specs.Prelude.{drop}
+use Rattle.std.proofs.lemmas.List.Elements.{AllZip-push}
 use Rattle.sdd_space.specs.CallerId.{CallerId, IsExact}
 use Rattle.sdd_space.specs.World.{World}
 use Rattle.sdd_lists.specs.Cloning.{IsQueueBeside, RefusesClone}
@@ -6,8 +8,8 @@ use Rattle.sdd_lists.specs.Entries.{link_of}
 use Rattle.sdd_lists.specs.Lists.{Entry, left}
 use Rattle.sdd_lists.specs.Queue.{IsQueue, cells_in}
 use Rattle.sdd_lists.specs.QueueFilling.{AddsBehind, FillsQueue}
-use Rattle.sdd_lists.specs.Walk.{IsWalkOf, entries_behind, shown_of}
-use Rattle.sdd_lists.proofs.Cloning.{beside-behind, clones-more, queue-still, stands-still}
+use Rattle.sdd_lists.specs.Walk.{IsWalkOf, shown_of}
+use Rattle.sdd_lists.proofs.Cloning.{beside-behind, queue-still, stands-still}
 use Rattle.sdd_lists.proofs.Grows.{grows-not, knows-on, knows-same}
 use Rattle.sdd_lists.proofs.QueueFilling.{none-behind, one-behind}
 use Rattle.sdd_lists.proofs.Walking.{shown-step}
@@ -54,10 +56,10 @@ loop-value-preserved g c = record {
       let more = c.in-Ok.ensures.list ex1 got.3 got.4 (subst (λ (y : World _). IsQueue link_of y q got.3 got.4) (sym same) got.9.queue) in
       let adds = subst (λ (s : CallerId). AddsBehind u s.place q got.3 got.4 more.0 new more.2 more.3) at1 more.4 in
       let unused = c.values_fit_slots.ensures.bare ex1 in
-      let stands = stands-still u new place q got.3 more.2 got.4 more.3 more.0 adds unused c.next.new.self (left (entries_behind rest)) next.1
+      let stands = stands-still u new place q got.3 more.2 got.4 more.3 more.0 adds unused c.next.new.self (left (drop 1 rest)) next.1
       (beside-behind q got.3 rest got.6) in
       let filled = subst (λ (y : World _). FillsQueue place q w es second got.2 y got.3 got.4) (sym same) got.9 in (
-        left (entries_behind rest),
+        left (drop 1 rest),
         got.1 ++ x ∷ [],
         got.2 ++ more.0 ∷ [],
         more.2,
@@ -65,8 +67,8 @@ loop-value-preserved g c = record {
         stands.0,
         stands.1,
         got.7 ∙ ap (λ (ys : List _). got.1 ++ ys) (shown-step v c.loop-value.walk rest x got.5 next.0)
-            ∙ sym (append_assoc got.1 (x ∷ []) (shown_of (left (entries_behind rest)))),
-        clones-more g.T.Clone.is_clone g.T.Clone.is_infallible got.1 got.2 x more.0 got.8 more.1,
+            ∙ sym (append_assoc got.1 (x ∷ []) (shown_of (left (drop 1 rest)))),
+        AllZip-push g.T.Clone.is_clone got.1 got.2 x more.0 got.8 more.1,
         one-behind place q w u new es got.3 more.2 second got.4 more.3 got.2 more.0 filled adds,
         queue-still u new place q got.3 more.2 got.4 more.3 more.0 adds unused from fs held
             (subst (λ (y : World _). IsQueueBeside y from fs held q got.3) (sym same) got.10),
@@ -102,7 +104,7 @@ returns-in-Err-clause-list g c = λ e es second queue from now fs held stood bes
       (
         why.1,
         x,
-        shown_of (left (entries_behind rest)),
+        shown_of (left (drop 1 rest)),
         shown-step v c.loop-value.walk rest x got.5 next.0,
         subst (λ (y : World _). RefusesClone g.T.Clone.is_clone g.T.Clone.is_infallible y x c.in-Err.back.1) (sym why.0) why.2,
       ),

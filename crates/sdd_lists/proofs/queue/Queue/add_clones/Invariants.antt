@@ -1,9 +1,10 @@
 use Rattle.std.proofs.Common.{◌≡◌, ◌++◌, ℕ, List, Option}
+use Rattle.std.specs.List.{AllZip}
 use Rattle.sdd_space.specs.CallerId.{IsExact}
 use Rattle.sdd_space.specs.KnownEpochs.{KnowsOn}
 use Rattle.sdd_space.specs.ParticipantChanges.{KeepsMoreWaiting}
 use Rattle.sdd_space.specs.Ptr.{KeepsShown}
-use Rattle.sdd_lists.specs.Cloning.{AreBeside, AreClones, IsQueueBeside}
+use Rattle.sdd_lists.specs.Cloning.{AreBeside, IsQueueBeside}
 use Rattle.sdd_lists.specs.Entries.{link_of}
 use Rattle.sdd_lists.specs.Lists.{Entry}
 use Rattle.sdd_lists.specs.Queue.{IsQueue, QueueCells, cells_in}
@@ -25,7 +26,7 @@ invariant-loop-value g l = record {
       IsQueueBeside (g.S.Caller.world l.initial.s) from fs held (cells_in l.self) es →
       (rest : List (Entry _)) × (first xs : List _) × (gs : List (Entry _)) × (holds : Option ℕ) × StandsBefore (g.S.Caller.world l.s) l.walk rest ×
       AreBeside rest (cells_in l.self) gs × (shown_of now ≡ first ++ shown_of rest) ×
-      AreClones g.T.Clone.is_clone g.T.Clone.is_infallible first xs ×
+      AllZip g.T.Clone.is_clone first xs ×
       FillsQueue (g.S.Caller.seat l.initial.s).place (cells_in l.self) (g.S.Caller.world l.initial.s) es second xs (g.S.Caller.world l.s) gs holds ×
       IsQueueBeside (g.S.Caller.world l.s) from fs held (cells_in l.self) gs;
 }

@@ -17,14 +17,12 @@ returns-in-Ok-add_all-clause-list g c = λ e.
       newest = made.1;
       two = made.2;
       given = all.0;
-      stopped = all.1;
       gives = all.4;
-      gave_last = all.6;
-      entries = all.2;
-      held = all.3;
+      entries = all.1;
+      held = all.2;
       fills =
-          subst (λ (y : World _). FillsQueue (g.S.Caller.seat c.args.s.now).place cell y [] None all.0 new all.2 all.3) made.3
-          (subst (λ (s : CallerId). FillsQueue s.place cell (g.S.Caller.world c.new.new.s) [] None all.0 new all.2 all.3) at all.5);
+          subst (λ (y : World _). FillsQueue (g.S.Caller.seat c.args.s.now).place cell y [] None all.0 new all.1 all.2) made.3
+          (subst (λ (s : CallerId). FillsQueue s.place cell (g.S.Caller.world c.new.new.s) [] None all.0 new all.1 all.2) at all.3);
     }
 
 pub returns-in-Err-add_all-clause-list : goal.returns-in-Err-add_all-clause-list
@@ -39,14 +37,12 @@ returns-in-Err-add_all-clause-list g c = λ e.
         newest = made.1;
         two = made.2;
         given = all.0;
-        stopped = all.1;
-        gives = all.4;
-        gave_last = all.6.0;
-        entries = all.2;
-        held = all.3;
+        gives = all.4.0;
+        entries = all.1;
+        held = all.2;
         fills =
-            subst (λ (y : World _). FillsQueue (g.S.Caller.seat c.args.s.now).place cell y [] None all.0 new all.2 all.3) made.3
-            (subst (λ (s : CallerId). FillsQueue s.place cell (g.S.Caller.world c.new.new.s) [] None all.0 new all.2 all.3) at all.5);
+            subst (λ (y : World _). FillsQueue (g.S.Caller.seat c.args.s.now).place cell y [] None all.0 new all.1 all.2) made.3
+            (subst (λ (s : CallerId). FillsQueue s.place cell (g.S.Caller.world c.new.new.s) [] None all.0 new all.1 all.2) at all.3);
       },
-      all.6.1,
+      all.4.1,
     )

@@ -4,9 +4,9 @@ use Rattle.sdd_space.specs.CallerId.{CallerId, IsExact, IsSeated}
 use Rattle.sdd_space.specs.OwnerOrCell.{AreOf}
 use Rattle.sdd_space.specs.Refusals.{IsRefusedBy}
 use Rattle.sdd_space.specs.World.{World}
-use Rattle.sdd_lists.specs.Filling.{AddsOnto, FillsStack, RefusesPush, nothing, one_more}
+use Rattle.sdd_lists.specs.Filling.{AddsOnto, FillsStack, RefusesPush}
 use Rattle.sdd_lists.specs.Stack.{cell_in}
-use Rattle.sdd_lists.proofs.Filling.{none-added, one-added}
+use Rattle.sdd_lists.proofs.Filling.{none-added, one-added, yields-more}
 use Rattle.sdd_lists.proofs.Grows.{knows-on, knows-same}
 use Rattle.sdd_lists.proofs.stack.Stack.add_all.Goals as goal
 
@@ -17,7 +17,7 @@ loop-value-init g c = record {
   known = knows-same (g.S.Caller.known c.args.s.now);
   keeps = λ k v was. was;
   list = λ e es list.
-      ([], es, nothing, none-added (g.S.Caller.seat c.args.s.now).place (cell_in c.args.self.now) (g.S.Caller.world c.args.s.now) es list);
+      ([], es, refl, none-added (g.S.Caller.seat c.args.s.now).place (cell_in c.args.self.now) (g.S.Caller.world c.args.s.now) es list);
 }
 
 pub add-requires-clause-seated : goal.add-requires-clause-seated
@@ -53,7 +53,7 @@ loop-value-preserved g c = record {
       let adds = subst (λ (s : CallerId). AddsOnto v s.place cell inv.1 x new more.0) at more.1 in (
         inv.0 ++ x ∷ [],
         more.0,
-        one_more inv.0 c.loop-value.items c.next.new.self x inv.2 c.in-Some.ensures.steps,
+        yields-more g.I.Iterator.next_gives c.args.items.now inv.0 c.loop-value.items c.next.new.self x inv.2 c.in-Some.ensures.steps,
         one-added place cell w v new es inv.1 more.0 inv.0 x inv.3 adds,
       );
 }
@@ -79,12 +79,14 @@ returns-in-Err-clause-list g c = λ e es list.
     let inv = c.loop-value.invariant.list e es list in
     let why = c.in-Err.ensures.refused (subst (λ (s : CallerId). IsExact s) (sym c.loop-value.invariant.seat) e) in (
       inv.0,
-      c.loop-value.items,
       inv.1,
-      inv.2,
       subst (λ (y : World _). FillsStack place (cell_in c.args.self.now) w es inv.0 y inv.1) (sym why.0) inv.3,
       (
-        subst (λ (x : _). g.I.Iterator.next_gives c.loop-value.items (Some x) c.next.new.self) (sym c.in-Err.ensures.back.0) c.in-Some.ensures.steps,
+        (
+          c.loop-value.items,
+          inv.2,
+          subst (λ (x : _). g.I.Iterator.next_gives c.loop-value.items (Some x) c.next.new.self) (sym c.in-Err.ensures.back.0) c.in-Some.ensures.steps,
+        ),
         subst (λ (y : World _). RefusesPush y c.in-Err.back.1) (sym why.0) why.1,
       ),
     )
@@ -101,4 +103,4 @@ returns-clause-own g c = c.loop-value.invariant.own
 
 pub returns-clause-list : goal.returns-clause-list
 returns-clause-list g c = λ e es list.
-    let inv = c.loop-value.invariant.list e es list in (inv.0, c.loop-value.items, inv.1, inv.2, inv.3, c.in_default.ensures.steps)
+    let inv = c.loop-value.invariant.list e es list in (inv.0, inv.1, inv.3, (c.loop-value.items, inv.2, c.in_default.ensures.steps))

@@ -1,12 +1,14 @@
 use Rattle.std.proofs.Common.{◌≡◌, ◌++◌, ◌∷◌, [], ◌∙◌, List, append_assoc, ap, refl, sym, subst}
+use Rattle.std.specs.Prelude.{drop}
+use Rattle.std.proofs.lemmas.List.Elements.{AllZip-push}
 use Rattle.sdd_space.specs.CallerId.{CallerId, IsExact}
 use Rattle.sdd_space.specs.World.{World}
 use Rattle.sdd_lists.specs.Cloning.{RefusesClone}
 use Rattle.sdd_lists.specs.Lists.{Entry, left}
 use Rattle.sdd_lists.specs.Stack.{IsStack, cell_in}
 use Rattle.sdd_lists.specs.StackCloning.{AppendsTo, ExtendsStack, IsStackBeside, both}
-use Rattle.sdd_lists.specs.Walk.{IsWalkOf, entries_behind, shown_of}
-use Rattle.sdd_lists.proofs.Cloning.{beside-behind, clones-more}
+use Rattle.sdd_lists.specs.Walk.{IsWalkOf, shown_of}
+use Rattle.sdd_lists.proofs.Cloning.{beside-behind}
 use Rattle.sdd_lists.proofs.Grows.{grows-not, knows-on, knows-same}
 use Rattle.sdd_lists.proofs.StackCloning.{none-appended, one-appended, stack-still, walk-still}
 use Rattle.sdd_lists.proofs.Walking.{shown-step}
@@ -55,18 +57,18 @@ loop-value-preserved g c = record {
       let more = c.in-Ok.ensures.list ex1 got.3 (subst (λ (y : World _). IsStack y cell got.3) (sym same) got.8.list) got.10 in
       let adds = subst (λ (s : CallerId). AppendsTo u s.place cell got.3 more.0 new more.2) at1 more.3 in
       let unused = c.values_fit_slots.ensures.bare ex1 in
-      let stands = walk-still u new place cell got.3 more.2 more.0 adds unused c.next.new.self (left (entries_behind rest)) next.1
+      let stands = walk-still u new place cell got.3 more.2 more.0 adds unused c.next.new.self (left (drop 1 rest)) next.1
       (beside-behind (both cell) got.3 rest got.5) in
       let filled = subst (λ (y : World _). ExtendsStack place cell w [] got.2 y got.3) (sym same) got.8 in (
-        left (entries_behind rest),
+        left (drop 1 rest),
         got.1 ++ x ∷ [],
         got.2 ++ more.0 ∷ [],
         more.2,
         stands.0,
         stands.1,
         got.6 ∙ ap (λ (ys : List _). got.1 ++ ys) (shown-step v c.loop-value.walk rest x got.4 next.0)
-            ∙ sym (append_assoc got.1 (x ∷ []) (shown_of (left (entries_behind rest)))),
-        clones-more g.T.Clone.is_clone g.T.Clone.is_infallible got.1 got.2 x more.0 got.7 more.1,
+            ∙ sym (append_assoc got.1 (x ∷ []) (shown_of (left (drop 1 rest)))),
+        AllZip-push g.T.Clone.is_clone got.1 got.2 x more.0 got.7 more.1,
         one-appended place cell w u new [] got.3 more.2 got.2 more.0 filled adds unused,
         stack-still u new place cell got.3 more.2 more.0 adds unused from fs
             (subst (λ (y : World _). IsStackBeside y from fs cell got.3) (sym same) got.9),
@@ -102,7 +104,7 @@ returns-in-Err-clause-list g c = λ e list from now fs stood beside source.
       (
         why.1,
         x,
-        shown_of (left (entries_behind rest)),
+        shown_of (left (drop 1 rest)),
         shown-step v c.loop-value.walk rest x got.4 next.0,
         subst (λ (y : World _). RefusesClone g.T.Clone.is_clone g.T.Clone.is_infallible y x c.in-Err.back.1) (sym why.0) why.2,
       ),

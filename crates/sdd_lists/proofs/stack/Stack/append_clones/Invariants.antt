@@ -1,11 +1,12 @@
 use Rattle.std.proofs.Common.{◌≡◌, ◌++◌, ℕ, List, []}
 use Rattle.std.specs.Prelude.{IfSome}
+use Rattle.std.specs.List.{AllZip}
 use Rattle.sdd_space.specs.CallerId.{IsExact}
 use Rattle.sdd_space.specs.KnownEpochs.{KnowsOn}
 use Rattle.sdd_space.specs.ParticipantChanges.{KeepsMoreWaiting}
 use Rattle.sdd_space.specs.Ptr.{KeepsShown}
 use Rattle.sdd_space.specs.Shared.{cells_home}
-use Rattle.sdd_lists.specs.Cloning.{AreBeside, AreClones}
+use Rattle.sdd_lists.specs.Cloning.{AreBeside}
 use Rattle.sdd_lists.specs.Entries.{link_of}
 use Rattle.sdd_lists.specs.Lists.{Entry}
 use Rattle.sdd_lists.specs.Stack.{IsStack, cell_in}
@@ -27,7 +28,7 @@ invariant-loop-value g l = record {
       IsStackBeside (g.S.Caller.world l.initial.s) from fs (cell_in l.self) [] →
       (rest : List (Entry _)) × (first xs : List _) × (gs : List (Entry _)) × StandsBefore (g.S.Caller.world l.s) l.walk rest ×
       AreBeside rest (both (cell_in l.self)) gs × (shown_of now ≡ first ++ shown_of rest) ×
-      AreClones g.T.Clone.is_clone g.T.Clone.is_infallible first xs ×
+      AllZip g.T.Clone.is_clone first xs ×
       ExtendsStack (g.S.Caller.seat l.initial.s).place (cell_in l.self) (g.S.Caller.world l.initial.s) [] xs (g.S.Caller.world l.s) gs ×
       IsStackBeside (g.S.Caller.world l.s) from fs (cell_in l.self) gs × LastIs link_of l.last gs;
 }

@@ -15,13 +15,11 @@ returns-in-Ok-add_all-clause-list g c = λ e.
     record {
       free = made.0;
       given = all.0;
-      stopped = all.1;
       gives = all.3;
-      gave_last = all.5;
-      entries = all.2;
+      entries = all.1;
       fills =
-          subst (λ (y : World _). FillsStack (g.S.Caller.seat c.args.s.now).place cell y [] all.0 new all.2) made.1
-          (subst (λ (s : CallerId). FillsStack s.place cell (g.S.Caller.world c.new.new.s) [] all.0 new all.2) at all.4);
+          subst (λ (y : World _). FillsStack (g.S.Caller.seat c.args.s.now).place cell y [] all.0 new all.1) made.1
+          (subst (λ (s : CallerId). FillsStack s.place cell (g.S.Caller.world c.new.new.s) [] all.0 new all.1) at all.2);
     }
 
 pub returns-in-Err-add_all-clause-list : goal.returns-in-Err-add_all-clause-list
@@ -34,13 +32,11 @@ returns-in-Err-add_all-clause-list g c = λ e.
       record {
         free = made.0;
         given = all.0;
-        stopped = all.1;
-        gives = all.3;
-        gave_last = all.5.0;
-        entries = all.2;
+        gives = all.3.0;
+        entries = all.1;
         fills =
-            subst (λ (y : World _). FillsStack (g.S.Caller.seat c.args.s.now).place cell y [] all.0 new all.2) made.1
-            (subst (λ (s : CallerId). FillsStack s.place cell (g.S.Caller.world c.new.new.s) [] all.0 new all.2) at all.4);
+            subst (λ (y : World _). FillsStack (g.S.Caller.seat c.args.s.now).place cell y [] all.0 new all.1) made.1
+            (subst (λ (s : CallerId). FillsStack s.place cell (g.S.Caller.world c.new.new.s) [] all.0 new all.1) at all.2);
       },
-      all.5.1,
+      all.3.1,
     )

@@ -1,7 +1,8 @@
 use Rattle.std.proofs.Common.{◌∙◌, sym, subst}
+use Rattle.std.specs.Prelude.{drop}
 use Rattle.sdd_space.specs.World.{World}
 use Rattle.sdd_lists.specs.Lists.{left}
-use Rattle.sdd_lists.specs.Walk.{ShowsInOrder, StandsBefore, behind_first, entries_behind}
+use Rattle.sdd_lists.specs.Walk.{ShowsInOrder, StandsBefore}
 use Rattle.sdd_lists.proofs.Walking.{after, shows-next, stands-next}
 use Rattle.sdd_lists.proofs.walk.Walk.next.Goals as goal
 
@@ -14,7 +15,7 @@ returns-clause-list g c = λ e vs shows.
     let at = sym c.take.ensures.value ∙ c.in-Some.is in
     let next = shows-next w walk f at o c.front_in-self.ensures.link (c.front_in-self.ensures.exact e) c.as_ref.result.now c.as_ref.ensures vs shows in (
       next.0,
-      subst (λ (y : World _). ShowsInOrder y (after walk o) (behind_first vs)) (sym (c.front_in-self.ensures.world e)) next.1,
+      subst (λ (y : World _). ShowsInOrder y (after walk o) (drop 1 vs)) (sym (c.front_in-self.ensures.world e)) next.1,
     )
 
 pub returns-clause-entries : goal.returns-clause-entries
@@ -26,5 +27,5 @@ returns-clause-entries g c = λ e es stood.
     let at = sym c.take.ensures.value ∙ c.in-Some.is in
     let next = stands-next w walk f at o c.front_in-self.ensures.link (c.front_in-self.ensures.exact e) c.as_ref.result.now c.as_ref.ensures es stood in (
       next.0,
-      subst (λ (y : World _). StandsBefore y (after walk o) (left (entries_behind es))) (sym (c.front_in-self.ensures.world e)) next.1,
+      subst (λ (y : World _). StandsBefore y (after walk o) (left (drop 1 es))) (sym (c.front_in-self.ensures.world e)) next.1,
     )
