@@ -1,20 +1,25 @@
 -- What it makes of lists that an entry comes behind another one
-use Rattle.std.proofs.Common.{◌≡◌, ◌≢◌, inl, inr, ℕ, List, ◌∷◌, Option, Some, None, refl, sym, ap, ◌∙◌, subst, slice_index_or}
+use Rattle.std.proofs.Common.{◌≡◌, ◌≢◌, inl, inr, ℕ, ◌+◌, List, ◌∷◌, Option, Some, None, Result, Ok, Err, refl, sym, ap, ◌∙◌, subst, slice_index_or}
+use Rattle.std.specs.Prelude.{MatchResult}
 use Rattle.std.proofs.lemmas.List.{get_or-set_other}
+use Rattle.sdd_core.specs.declared.refused.Refused.{Refused}
 use Rattle.sdd_core.specs.declared.tag.Tag.{Tag}
 use Rattle.sdd_core.specs.declared.tag.Tag.TheVariants as tag
 use Rattle.sdd_space.specs.World.{World}
 use Rattle.sdd_participants.specs.declared.standing.CellContents.{CellContents}
 use Rattle.sdd_participants.specs.Slab.{entry_at}
-use Rattle.sdd_space.specs.WorldChanges.{with_cell}
-use Rattle.sdd_lists.specs.Behind.{IsFresh, IsLinkedBehind, entry_made, spliced}
+use Rattle.sdd_participants.specs.declared.standing.Standing.TheVariants.{Shared as shared_by}
+use Rattle.sdd_space.specs.WorldChanges.{with_cell, with_standing}
+use Rattle.sdd_space.specs.declared.shared.Shared.{Shared}
+use Rattle.sdd_lists.specs.Behind.{IsFresh, IsLinkedBehind, Reaches, entry_made, spliced}
 use Rattle.sdd_lists.specs.Ends.{EndsWith, IsAmong}
 use Rattle.sdd_lists.specs.Lists.{Apart, AreLinked, Entry, IsList, first_slot, left, linked_in, trimmed}
-use Rattle.sdd_lists.specs.Queue.{IsQueue, QueueCells}
+use Rattle.sdd_lists.specs.Queue.{IsNoneOrAmong, IsQueue, QueueCells}
 use Rattle.sdd_lists.proofs.Ending.{apart-ends, linked-ends}
-use Rattle.sdd_lists.proofs.Leaving.{list-apart}
-use Rattle.sdd_lists.proofs.Pushing.{pushed-as, trim-other, trim-values}
-use Rattle.sdd_lists.proofs.Spliced.{spliced-list, spliced-queue}
+use Rattle.sdd_lists.proofs.Leaving.{list-apart, queue-same}
+use Rattle.sdd_lists.proofs.Lists.{list-same}
+use Rattle.sdd_lists.proofs.Pushing.{apart-left, pushed-as, trim-other, trim-values}
+use Rattle.sdd_lists.proofs.Spliced.{apart-spliced, spliced-list, spliced-queue}
 
 module _ {T : Type 0} (link : T → ℕ) (w : World T) (c : ℕ) (t to : Tag) (es : List (Entry T)) (k : ℕ) (v : T)
     (list : IsList link w c t es) (fresh : IsFresh link w k v c es) where
@@ -87,16 +92,73 @@ module _ {T : Type 0} (link : T → ℕ) (w : World T) (p : ℕ) (e : Entry T) (
   abbrev pub cut : World T
   cut = trimmed link w p (link e.value) e.tag rest
 
-  pub trimmed-around : (c : ℕ) (t : Tag) (es : List (Entry T)) → IsList link w c t es → EndsWith es e rest → IsList link cut (link e.value) e.tag (left rest) →
-      IsList link cut c t (spliced e.slot (e ∷ left rest) es)
-  trimmed-around c t es list at after =
-      let before = linked-ends link w es e rest at list.linked in
-      let values = trim-values link w p (link e.value) e.tag rest in
-      spliced-list link w cut e rest e (left rest) refl values (λ d far all. trim-other link w p (link e.value) e.tag rest d far all) (
+  tail-cut : (es : List (Entry T)) → AreLinked link w es → EndsWith es e rest → IsList link cut (link e.value) e.tag (left rest) →
+      AreLinked link cut (e ∷ left rest)
+  tail-cut es linked at after =
+      let before = linked-ends link w es e rest at linked in
+      let values = trim-values link w p (link e.value) e.tag rest in (
         record {
           there = ap (λ (vs : List (Option T)). slice_index_or vs e.slot None) values ∙ before.0.there;
           linked = after.begins;
           plain = before.0.plain;
         },
         after.linked,
-      ) c t es list at
+      )
+
+  pub trimmed-around : (c : ℕ) (t : Tag) (es : List (Entry T)) → IsList link w c t es → EndsWith es e rest → IsList link cut (link e.value) e.tag (left rest) →
+      IsList link cut c t (spliced e.slot (e ∷ left rest) es)
+  trimmed-around c t es list at after =
+      spliced-list link w cut e rest e (left rest) refl (trim-values link w p (link e.value) e.tag rest)
+      (trim-other link w p (link e.value) e.tag rest) (tail-cut es list.linked at after) c t es list at
+
+  -- and of a queue whose second cell holds none of the deleted ones
+  pub trimmed-queue : (q : QueueCells) (es : List (Entry T)) (second : Option ℕ) → IsQueue link w q es second → EndsWith es e rest →
+      IsList link cut (link e.value) e.tag (left rest) → IsNoneOrAmong second (spliced e.slot (e ∷ left rest) es) →
+      IsQueue link cut q (spliced e.slot (e ∷ left rest) es) second
+  trimmed-queue q es second queue at after among =
+      let far = apart-ends link q.newest es e rest at queue.apart in
+      record {
+        list = trimmed-around q.oldest tag.None es queue.list at after;
+        newest = trim-other link w p (link e.value) e.tag rest q.newest (λ meet. far.0 (sym meet)) far.1 ∙ queue.newest;
+        among = among;
+        two = queue.two;
+        apart =
+            apart-spliced link w cut e rest e (left rest) refl (trim-values link w p (link e.value) e.tag rest)
+            (trim-other link w p (link e.value) e.tag rest) (tail-cut es queue.list.linked at after) q.newest es queue.list.linked at
+            (far.0, apart-left link q.newest rest far.1) queue.apart;
+      }
+
+-- and what a call makes of both that answers an owner of the entry behind
+module _ {T : Type 0} (link : T → ℕ) (w new : World T) (p : ℕ) (e : Entry T) (rest : List (Entry T)) where
+  pub reached-around : (r : Result (Option (Shared T)) Refused) → Reaches link w p (link e.value) e.tag rest r new → (c : ℕ) (t : Tag)
+      (es : List (Entry T)) → IsList link w c t es → EndsWith es e rest →
+      MatchResult r (λ _. IsList link new c t (spliced e.slot (e ∷ left rest) es)) (λ _. IsList link new c t es)
+  reached-around (Ok None) reached c t es list at =
+      let after = subst (λ (xs : List (Entry T)). IsList link new (link e.value) e.tag xs) (sym reached.none) reached.list in
+      subst (λ (y : World T). IsList link y c t (spliced e.slot (e ∷ left rest) es)) (sym reached.world)
+      (trimmed-around link w p e rest c t es list at
+      (subst (λ (y : World T). IsList link y (link e.value) e.tag (left rest)) reached.world after))
+  reached-around (Ok (Some owner)) (x, xs, is, reached) c t es list at =
+      let kept : World T = with_standing w x.slot (shared_by (reached.owners + 1)) in
+      let after = subst (λ (ys : List (Entry T)). IsList link new (link e.value) e.tag ys) (sym is) reached.list in
+      subst (λ (y : World T). IsList link y c t (spliced e.slot (e ∷ left rest) es)) (sym reached.world)
+      (trimmed-around link kept p e rest c t es (list-same link w kept c t es refl refl list) at
+      (subst (λ (y : World T). IsList link y (link e.value) e.tag (left rest)) reached.world after))
+  reached-around (Err why) (x, xs, is, crowded) c t es list at = subst (λ (y : World T). IsList link y c t es) (sym crowded.same) list
+
+  pub reached-queue : (r : Result (Option (Shared T)) Refused) → Reaches link w p (link e.value) e.tag rest r new → (q : QueueCells)
+      (es : List (Entry T)) (second : Option ℕ) → IsQueue link w q es second → EndsWith es e rest →
+      MatchResult r (λ _. IsNoneOrAmong second (spliced e.slot (e ∷ left rest) es) → IsQueue link new q (spliced e.slot (e ∷ left rest) es) second)
+      (λ _. IsQueue link new q es second)
+  reached-queue (Ok None) reached q es second queue at = λ among.
+      let after = subst (λ (xs : List (Entry T)). IsList link new (link e.value) e.tag xs) (sym reached.none) reached.list in
+      subst (λ (y : World T). IsQueue link y q (spliced e.slot (e ∷ left rest) es) second) (sym reached.world)
+      (trimmed-queue link w p e rest q es second queue at
+      (subst (λ (y : World T). IsList link y (link e.value) e.tag (left rest)) reached.world after) among)
+  reached-queue (Ok (Some owner)) (x, xs, is, reached) q es second queue at = λ among.
+      let kept : World T = with_standing w x.slot (shared_by (reached.owners + 1)) in
+      let after = subst (λ (ys : List (Entry T)). IsList link new (link e.value) e.tag ys) (sym is) reached.list in
+      subst (λ (y : World T). IsQueue link y q (spliced e.slot (e ∷ left rest) es) second) (sym reached.world)
+      (trimmed-queue link kept p e rest q es second (queue-same link w kept q es second refl refl queue) at
+      (subst (λ (y : World T). IsList link y (link e.value) e.tag (left rest)) reached.world after) among)
+  reached-queue (Err why) (x, xs, is, crowded) q es second queue at = subst (λ (y : World T). IsQueue link y q es second) (sym crowded.same) queue

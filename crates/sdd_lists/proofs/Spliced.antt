@@ -77,7 +77,7 @@ module _ {T : Type 0} (link : T → ℕ) (w new : World T) (e : Entry T) (rest :
   none-or-spliced None es linked at keeps among = tt
   none-or-spliced (Some k) es linked at keeps among = among-spliced k es linked at (keeps k) among
 
-  apart-spliced : (l : ℕ) (es : List (Entry T)) → AreLinked link w es → EndsWith es e rest → Apart link l (f ∷ others) → Apart link l es →
+  pub apart-spliced : (l : ℕ) (es : List (Entry T)) → AreLinked link w es → EndsWith es e rest → Apart link l (f ∷ others) → Apart link l es →
       Apart link l (spliced e.slot (f ∷ others) es)
   apart-spliced l [] linked at new_ones all = absurd at
   apart-spliced l (x ∷ xs) linked (inl is) new_ones all = rw (same-slot x xs is) new_ones

@@ -19,7 +19,7 @@ ghost use Rattle.sdd_lists.specs.Behind.{IsFresh, IsLinkedBehind, Reaches, entry
 ghost use Rattle.sdd_lists.specs.Ends.{EndsWith};
 ghost use Rattle.sdd_lists.specs.Lists.{Entry, IsList, first_slot, left, may_delete, trimmed};
 ghost use Rattle.sdd_lists.specs.Marks.{retagged, says_clear, says_deleted, says_marked};
-ghost use Rattle.sdd_lists.specs.Queue.{IsQueue, QueueCells};
+ghost use Rattle.sdd_lists.specs.Queue.{IsNoneOrAmong, IsQueue, QueueCells};
 
 use crate::behind::{link_behind, next_in};
 use crate::marks::{delete_link, mark_link, unmark_link};
@@ -194,6 +194,10 @@ pub trait LinkedList: Item<Self> {
         ensures around { IsExact (S.seat s.old) → (c : ℕ) (t : Tag) (es : List (Entry Self)) → IsList link (S.world s.old) c t es →
             (e : Entry Self) (rest : List (Entry Self)) → EndsWith es e rest → e.value ≡ self.now →
             IsList link (S.world s.new) c t (spliced e.slot (e ∷ left rest) es) }
+        ensures queue { IsExact (S.seat s.old) → (q : QueueCells) (es : List (Entry Self)) (second : Option ℕ) →
+            IsQueue link (S.world s.old) q es second → (e : Entry Self) (rest : List (Entry Self)) → EndsWith es e rest → e.value ≡ self.now →
+            IsNoneOrAmong second (spliced e.slot (e ∷ left rest) es) →
+            IsQueue link (S.world s.new) q (spliced e.slot (e ∷ left rest) es) second }
     {
         trim(self.link_ref(), guard, s)
     }
@@ -215,6 +219,13 @@ pub trait LinkedList: Item<Self> {
         ensures back { IfErr result (λ e. (e ≡ Refused.TooManyOwners) ⊎ (e ≡ Refused.Contended)) }
         ensures list { IsExact (S.seat s.old) → (t : Tag) (es : List (Entry Self)) → IsList link (S.world s.old) (link self.now) t es →
             Reaches link (S.world s.old) (S.seat s.old).place (link self.now) t es result (S.world s.new) }
+        ensures around { IsExact (S.seat s.old) → (c : ℕ) (t : Tag) (es : List (Entry Self)) → IsList link (S.world s.old) c t es →
+            (e : Entry Self) (rest : List (Entry Self)) → EndsWith es e rest → e.value ≡ self.now → MatchResult result
+            (λ _. IsList link (S.world s.new) c t (spliced e.slot (e ∷ left rest) es)) (λ _. IsList link (S.world s.new) c t es) }
+        ensures queue { IsExact (S.seat s.old) → (q : QueueCells) (es : List (Entry Self)) (second : Option ℕ) →
+            IsQueue link (S.world s.old) q es second → (e : Entry Self) (rest : List (Entry Self)) → EndsWith es e rest → e.value ≡ self.now →
+            MatchResult result (λ _. IsNoneOrAmong second (spliced e.slot (e ∷ left rest) es) →
+            IsQueue link (S.world s.new) q (spliced e.slot (e ∷ left rest) es) second) (λ _. IsQueue link (S.world s.new) q es second) }
     {
         next_in(self.link_ref(), guard, s)
     }
