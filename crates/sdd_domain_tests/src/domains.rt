@@ -164,13 +164,17 @@ fn an_ended_place_is_not_free_again(rt: HostRuntime) {
     closed_unused(&rt, domain, receipts);
 }
 
-#[test]
-fn a_participant_with_a_guard_open_does_not_end(rt: HostRuntime) {
-    let domain = new_domain::<u64>(&rt, SMALL);
-    let mut local = registered(&rt, &domain);
-    let outer = opened(&rt, &mut local);
-    let inner = opened(&rt, &mut local);
-    assert!(rt; refused_guard(&rt, &mut local) == Refused::TooManyGuards);
+/// Two guards may be open and no third one, and with one open the participant doesn't end.
+fn nests_and_ends(rt: &(impl Abort + AllocGlobal), participants: u64) {
+    let limits = Limits {
+        participants,
+        ..SMALL
+    };
+    let domain = new_domain::<u64>(rt, limits);
+    let mut local = registered(rt, &domain);
+    let outer = opened(rt, &mut local);
+    let inner = opened(rt, &mut local);
+    assert!(rt; refused_guard(rt, &mut local) == Refused::TooManyGuards);
     close(inner, &mut local);
     let Err(mut local) = local.end() else {
         panic!(rt; "a guard is open")
@@ -179,8 +183,15 @@ fn a_participant_with_a_guard_open_does_not_end(rt: HostRuntime) {
     outer.set_has_garbage::<u64, Local<'_, u64>>(&mut local);
     assert!(rt; outer.has_garbage::<u64, Local<'_, u64>>(&local));
     close(outer, &mut local);
-    let receipts = vec![in rt.alloc(); ended(&rt, local)].expect(&rt, "there is memory");
-    closed_unused(&rt, domain, receipts);
+    let receipts = vec![in rt.alloc(); ended(rt, local)].expect(rt, "there is memory");
+    closed_unused(rt, domain, receipts);
+}
+
+#[test]
+fn a_participant_with_a_guard_open_does_not_end(rt: HostRuntime) {
+    for participants in [1, 2, 3] {
+        nests_and_ends(&rt, participants);
+    }
 }
 
 #[test]

@@ -3,20 +3,27 @@ ghost use Rattle.std.specs.Prelude.{◌≡◌};
 ghost use Rattle.sdd_domain.specs.Domain.{slots_in};
 ghost use Rattle.sdd_domain_tests.specs.Slots.{IsReceiptIn, AreReceiptsIn};
 
+use crate::domains::refusal;
 use crate::owners::{copied, owned_item, released, shared_item};
 use crate::steps::{
-    ONE_SLOT, add, closed, ended, is_tally, new_domain, not_closed, registered, retire,
+    ONE_SLOT, add, closed, closed_with_one, ended, is_tally, new_domain, not_closed, registered,
+    retire,
 };
-use sdd_core::Limits;
+use sdd_core::{Limits, Refused};
 use sdd_domain::{Domain, Receipt};
 use sdd_space::Owned;
 use std::process::Abort;
 
+/// The only participant has two slots.
+const ONE_AND_TWO_SLOTS: Limits = Limits {
+    slots: 2,
+    ..ONE_SLOT
+};
+
 /// Two participants share two slots.
 const TWO_AND_TWO_SLOTS: Limits = Limits {
     participants: 2,
-    slots: 2,
-    ..ONE_SLOT
+    ..ONE_AND_TWO_SLOTS
 };
 
 /// What waited was reclaimed by the close, and the one that is out wasn't.
@@ -44,6 +51,39 @@ fn closes(rt: &impl Abort, domain: Domain<u64>, mut receipts: Vec<Receipt<u64>>,
 {
     add(rt, &domain, &mut receipts, last);
     is_tally(rt, closed(rt, domain, receipts), 2, 2);
+}
+
+/// Where there was one participant nobody comes after it: what it left out stays out.
+#[test]
+fn what_the_only_participant_left_out_keeps_a_domain(rt: HostRuntime) {
+    let domain = new_domain::<u64>(&rt, ONE_AND_TWO_SLOTS);
+    let mut local = registered(&rt, &domain);
+    let first = owned_item(&rt, &mut local, 1);
+    let second = owned_item(&rt, &mut local, 2);
+    retire(first, &mut local);
+    let receipt = ended(&rt, local);
+    let (domain, receipts) = comes_back(&rt, domain, receipt);
+    assert_eq!(rt; *second.get(&domain), 2);
+    assert_eq!(rt; refusal(&rt, &domain), Refused::NoPlace);
+    let (domain, receipts) = not_closed(&rt, domain, receipts);
+    for receipt in &receipts {
+        is_tally(&rt, receipt.tally(), 2, 1);
+    }
+    assert_eq!(rt; *second.get(&domain), 2);
+}
+
+/// Where it retires both before it ends the domain is closed.
+#[test]
+fn the_only_participant_retires_all_that_it_made(rt: HostRuntime) {
+    let domain = new_domain::<u64>(&rt, ONE_AND_TWO_SLOTS);
+    let mut local = registered(&rt, &domain);
+    let first = owned_item(&rt, &mut local, 1);
+    let second = owned_item(&rt, &mut local, 2);
+    retire(first, &mut local);
+    retire(second, &mut local);
+    is_tally(&rt, local.tally(), 2, 0);
+    let receipt = ended(&rt, local);
+    is_tally(&rt, closed_with_one(&rt, domain, receipt), 2, 2);
 }
 
 #[test]

@@ -5,7 +5,6 @@ use Rattle.std.specs.List.{list_all}
 use Rattle.std.proofs.lemmas.List.{get_or-set_same, get_or_past}
 use Rattle.std.proofs.lemmas.Bool.Decides.{nat_tests}
 use Rattle.sdd_participants.specs.Waiting.{Waiting, having_seen}
-use Rattle.sdd_participants.specs.declared.waiting.LimboEntry.TheVariants.{Item}
 use Rattle.sdd_participants.specs.PlaceStates.{is_ended}
 use Rattle.sdd_participants.specs.EpochState.{EpochState, with_place, nobody, is_open, phase_at, passes, last_count, rested}
 use Rattle.sdd_participants.specs.EpochState as time
@@ -60,6 +59,6 @@ adopts-what-is-left w i = λ p q scan over.
     ∙ ap (λ (y : Participant). y.bags) (get_or-set_same s.places p (rested t.marked (time.place_at s p)) nobody inside)
     ∙ ap (λ (ps : List Participant). (time.place_at (record s { places = ps }) p).bags) places in (
       ap (λ (v : EpochState). phase_at v q) is ∙ ap (λ xs. phase_at (record s { phases = xs }) q) phases ∙ free,
-      λ k seen h. subst (λ b. Contains b.waiting (having_seen 0 (Item k))) (sym here)
-          (moved (time.place_at u q).bags.waiting (having_seen seen (Item k)) bare (a.waits q (having_seen seen (Item k)) h)),
+      λ what seen h. subst (λ b. Contains b.waiting (having_seen 0 what)) (sym here)
+          (moved (time.place_at u q).bags.waiting (having_seen seen what) bare (a.waits q (having_seen seen what) h)),
     )

@@ -17,8 +17,7 @@ use Rattle.sdd_space.specs.WorldChanges.{opened}
 use Rattle.sdd_space.specs.OwnerOrCell.{OwnerOrCell}
 use Rattle.sdd_space.specs.ParticipantChanges.{all_awaiting, opened_at}
 use Rattle.sdd_space.specs.WorldInvariant.{is_of_slot, times_with, once_if, IsWhole}
-use Rattle.sdd_space.specs.ReclaimBound.{Waits}
-use Rattle.sdd_space.specs.WorkingGuards.{WaitsWith}
+use Rattle.sdd_space.specs.ReclaimBound.{Waits, WaitsWith}
 use Rattle.sdd_space.proofs.Own.{opens}
 use Rattle.sdd_space.proofs.Whole.{below-or-past, count-cons, times_among, times_listed, times-aged}
 use Rattle.sdd_space.proofs.Opening.{Nests, IsChange, all_awaiting-waiting}
@@ -66,7 +65,7 @@ left-or : (what : LimboEntry) (seen : ℕ) (w : Waiting) (ws : List Waiting) →
 left-or what seen w ws young (inl e) on = left-here what seen w ws young e
 left-or what seen w ws young (inr h) on = left-cons w ws (having_seen (seen + 1) what) (is_due (older w)) refl (on h)
 
-older-left : (what : LimboEntry) (seen : ℕ) (ws : List Waiting) → seen < 2 → Contains ws (having_seen seen what) →
+pub older-left : (what : LimboEntry) (seen : ℕ) (ws : List Waiting) → seen < 2 → Contains ws (having_seen seen what) →
     Contains (left (aged ws)) (having_seen (seen + 1) what)
 older-left what seen [] young h = absurd (omega (arith, h.1))
 older-left what seen (w ∷ ws) young h = left-or what seen w ws young (listed-cases w ws (having_seen seen what) h) (λ g. older-left what seen ws young g)

@@ -1,11 +1,12 @@
--- Four accelerated guards, one after another, reclaim what waits
+-- Four accelerated guards, one after another, reclaim what waits, and run it
 use Rattle.std.proofs.Common.{◌≡◌, ◌≢◌, ◌⊎◌, inl, inr, ℕ, ◌+◌, ◌<◌, ◌≤◌, List, [], ◌∷◌, length, Bool, refl, sym, ap, ◌∙◌, arith, true, false, Some, None, nat_lt, Option, zero, suc, slice_index_or, IsTrue, map, subst}
 use Rattle.std.specs.Prelude.{◌==◌, ◌&&◌, ◌||◌, Contains, is_some, not}
 use Rattle.std.specs.List.{list_all}
 use Rattle.std.proofs.lemmas.List.{get_or-set_same, get_or-set_other, get_or_past, length-set}
 use Rattle.std.proofs.lemmas.Bool.Decides.{nat_tests}
 use Rattle.sdd_participants.specs.Waiting.{Waiting, having_seen}
-use Rattle.sdd_participants.specs.declared.waiting.LimboEntry.TheVariants.{Item}
+use Rattle.sdd_participants.specs.declared.waiting.LimboEntry.{LimboEntry}
+use Rattle.sdd_participants.specs.declared.waiting.LimboEntry.TheVariants.{Item, Job}
 use Rattle.sdd_participants.specs.EpochState.{EpochState, with_place, nobody, is_open, passes, last_count, due_next, rested, IsLive}
 use Rattle.sdd_participants.specs.EpochState as time
 use Rattle.sdd_participants.specs.declared.participant.Participant.{Participant}
@@ -16,7 +17,7 @@ use Rattle.sdd_space.specs.WorldChanges as steps
 use Rattle.sdd_space.specs.OwnerOrCell.{OwnerOrCell}
 use Rattle.sdd_space.specs.ParticipantChanges.{opened_at}
 use Rattle.sdd_space.specs.WorldInvariant.{times_waiting, IsWhole}
-use Rattle.sdd_space.specs.ReclaimBound.{Waits, accelerated_guard, FourGuardsReclaim}
+use Rattle.sdd_space.specs.ReclaimBound.{WaitsWith, IsCleared, accelerated_guard, FourGuardsReclaim}
 use Rattle.sdd_space.proofs.Own.{opens, Gives-all_reclaimed}
 use Rattle.sdd_space.proofs.Own as own
 use Rattle.sdd_space.proofs.Whole.{below-or-past, filled-there, some-waits, all_awaiting-guards, times_among, times-aged}
@@ -24,10 +25,11 @@ use Rattle.sdd_space.proofs.Housed.{Whole-opened, Whole-closed, Whole-accelerate
 use Rattle.sdd_participants.proofs.Adopting.{adopts, keeps-closed, scans-if, scans-there, same-or-not}
 use Rattle.sdd_space.proofs.Closes.{how-closed}
 use Rattle.sdd_participants.specs.PlaceStates.{is_live, is_ended}
-use Rattle.sdd_participants.specs.Slab.{Entries}
+use Rattle.sdd_participants.specs.Slab.{Entries, entry_at}
 use Rattle.sdd_participants.specs.declared.place_states.PlaceState.{PlaceState}
 use Rattle.sdd_space.proofs.Opening.{how, Nests, IsChange, Stands, opened-stays, opened-goes, opened-other, in_before}
-use Rattle.sdd_space.proofs.Entries.{waits-standing, waits-young, entry-due, one-place, nests-waits, change-waits}
+use Rattle.sdd_space.proofs.Entries.{waits-standing, waiting-young, entry-due, ripe-due, one-place, nests-waiting, change-waiting}
+use Rattle.sdd_space.proofs.Jobs.{opened-ran, opened-kept}
 use Rattle.sdd_space.proofs.Under.{closed-persists}
 use Rattle.sdd_space.proofs.Guarded.{whichever, open-inside}
 
@@ -218,20 +220,24 @@ module _ {T : Type 0} (holds : T → List OwnerOrCell) where
   still-whole w p l shut i =
       Whole-closed (ready w p) p (ready-live w p l shut) (Whole-accelerated (opened holds w p) p (opened-live w p l shut) (Whole-opened holds w p l i))
 
-  -- the slot is free, or its item waits with p and has seen at least so many changes
-  data HasSeen (w : World T) (p k least : ℕ) : Type 0 where
-    gone : Stands k None None w → HasSeen w p k least
-    waits : (seen : ℕ) → least ≤ seen → Waits w p k seen → HasSeen w p k least
+  -- it has gone, or waits with p and has seen at least so many changes
+  data HasSeen (w : World T) (p : ℕ) (what : LimboEntry) (least : ℕ) : Type 0 where
+    gone : IsCleared w what → HasSeen w p what least
+    waits : (seen : ℕ) → least ≤ seen → WaitsWith w p what seen → HasSeen w p what least
 
-  -- an accelerated guard and its opening leave the same waiting
-  closed-waits : (w : World T) (p k seen : ℕ) → IsPlaceOf w p → AllClosed w → Waits (opened holds w p) p k seen →
-      Waits (accelerated_guard holds w p) p k seen
-  closed-waits w p k seen l shut h =
-      let y : Waiting = having_seen seen (Item k) in
+  -- an accelerated guard and its opening leave the same waiting, and the same gone
+  closed-waits : (w : World T) (p : ℕ) (what : LimboEntry) (seen : ℕ) → IsPlaceOf w p → AllClosed w → WaitsWith (opened holds w p) p what seen →
+      WaitsWith (accelerated_guard holds w p) p what seen
+  closed-waits w p what seen l shut h =
+      let y : Waiting = having_seen seen what in
       let ready_waits : Contains (place_at (ready w p) p).bags.waiting y =
       subst (λ (x : Participant). Contains x.bags.waiting y) (sym (ready-here w p l.0 shut)) h in
       let live = ready-live w p l shut in
       (closed-persists (ready w p).time p p live (ap is_ended (live-is (ready w p).time p live))).waits y ready_waits
+
+  closed-cleared : (w : World T) (p : ℕ) (what : LimboEntry) → IsCleared (opened holds w p) what → IsCleared (accelerated_guard holds w p) what
+  closed-cleared w p (Item k) h = h
+  closed-cleared w p (Job j) h = h
 
   -- what does not wait is not due
   never-due : (w : World T) (p k : ℕ) → IsWhole w → is_waiting (standing_at w k) ≡ false → Nests holds w p ⊎ IsChange holds w p →
@@ -242,11 +248,20 @@ module _ {T : Type 0} (holds : T → List OwnerOrCell) where
       let due : times_among k (due_next (place_at w p)) ≡ 0 = omega (arith, none, one-place k w.time.places p, times-aged k (place_at w p).bags.waiting) in
       ap (λ xs. times_among k xs) c.due ∙ due
 
-  -- a slot that is free stays so
-  gone-opened : (w : World T) (p k : ℕ) → p < length w.time.places → IsWhole w → Stands k None None w → Stands k None None (opened holds w p)
-  gone-opened w p k l i g = opened-stays holds w p l k None None refl (never-due w p k i (ap is_waiting g.standing) (how holds w p l)) g
+  -- no job is due whose place is free
+  never-runs : (w : World T) (p j : ℕ) → p < length w.time.places → IsWhole w → entry_at w.jobs j ≡ None → ¬ (Contains (reclaims w p) (Job j))
+  never-runs w p j l i free due =
+      let there : is_some (entry_at w.jobs j) ≡ true = (opened-ran holds w p j l i.jobs_once due (how holds w p l)).0 in
+      absurd (let never : true ≡ false = sym there ∙ ap (λ (o : Option (Unit {0})). is_some o) free in cc)
 
-  -- one accelerated guard: what waits is no younger
+  -- what has gone doesn't come back by an opening
+  gone-opened : (w : World T) (p : ℕ) (what : LimboEntry) → p < length w.time.places → IsWhole w → IsCleared w what → IsCleared (opened holds w p) what
+  gone-opened w p (Item k) l i g =
+      let o =
+      opened-stays holds w p l k None None refl (never-due w p k i (ap is_waiting g.0) (how holds w p l)) (record { standing = g.0; value = g.1 }) in
+      (o.standing, o.value)
+  gone-opened w p (Job j) l i g = opened-kept holds w p j l (never-runs w p j l i g) (how holds w p l) ∙ g
+
   value-there : (w : World T) (k : ℕ) → IsWhole w → is_waiting (standing_at w k) ≡ true → (v : Option T) → value_at w k ≡ v → is_some v ≡ true
   value-there w k i standing v e = ap is_some (sym e) ∙ filled-there w k i.filled ∙ some-waits (standing_at w k) standing
 
@@ -255,57 +270,69 @@ module _ {T : Type 0} (holds : T → List OwnerOrCell) where
   due-goes w p k l i standing some None e there = absurd (cc)
   due-goes w p k l i standing some (Some v) e there = opened-goes holds w p l k (standing_at w k) v standing some (record { standing = refl; value = e })
 
+  -- what has seen two changes goes at the next one
+  ripe-cleared : (w : World T) (p : ℕ) (what : LimboEntry) → p < length w.time.places → IsWhole w → WaitsWith w p what 2 → IsChange holds w p →
+      IsCleared (opened holds w p) what
+  ripe-cleared w p (Item k) l i h c =
+      let some : 1 ≤ times_among k (reclaims w p) =
+      subst (λ xs. 1 ≤ times_among k xs) (sym c.due) (entry-due k (place_at w p).bags.waiting h) in
+      let standing = waits-standing w p k 2 i h in
+      let free = due-goes w p k l i standing some (value_at w k) refl (value-there w k i standing (value_at w k) refl) in
+      (free.standing, free.value)
+  ripe-cleared w p (Job j) l i h c =
+      let among : Contains (reclaims w p) (Job j) =
+      subst (λ (xs : List LimboEntry). Contains xs (Job j)) (sym c.due) (ripe-due (Job j) (place_at w p).bags.waiting h) in
+      (opened-ran holds w p j l i.jobs_once among (inr c)).1
+
   nests-why : (w : World T) (p : ℕ) → AllClosed w → (place_at w p).found ≢ w.time.count →
       (is_open (place_at w p) ≡ true) ⊎ ((is_open (place_at w p) ≡ false) × ((place_at w p).found ≡ w.time.count)) → ⊥
   nests-why w p shut another (inl o) = let never : false ≡ true = sym (shut p) ∙ o in absurd (cc)
   nests-why w p shut another (inr h) = another h.1
 
-  change-grows : (w : World T) (p k least seen : ℕ) → IsPlaceOf w p → AllClosed w → IsWhole w → least ≤ seen → Waits w p k seen →
+  -- one accelerated guard: what waits is no younger
+  change-grows : (w : World T) (p : ℕ) (what : LimboEntry) (least seen : ℕ) → IsPlaceOf w p → AllClosed w → IsWhole w → least ≤ seen → WaitsWith w p what seen →
       IsChange holds w p → (seen < 2) ⊎ (2 ≤ seen) →
-      HasSeen (accelerated_guard holds w p) p k (least + 1)
-  change-grows w p k least seen l shut i more h c (inl young) =
-      waits (seen + 1) (omega (arith, more)) (closed-waits w p k (seen + 1) l shut (change-waits holds w p k seen l.0 c young h))
-  change-grows w p k least seen l shut i more h c (inr old) =
-      let two : seen ≡ 2 = omega (arith, old, waits-young w p k seen i h) in
-      let ripe = entry-due k (place_at w p).bags.waiting (subst (λ (n : ℕ). Waits w p k n) two h) in
-      let some : 1 ≤ times_among k (reclaims w p) = subst (λ xs. 1 ≤ times_among k xs) (sym c.due) ripe in
-      let standing = waits-standing w p k seen i h in
-      let free = due-goes w p k l.0 i standing some (value_at w k) refl (value-there w k i standing (value_at w k) refl) in
-      gone (record { standing = free.standing; value = free.value })
+      HasSeen (accelerated_guard holds w p) p what (least + 1)
+  change-grows w p what least seen l shut i more h c (inl young) =
+      waits (seen + 1) (omega (arith, more)) (closed-waits w p what (seen + 1) l shut (change-waiting holds w p what seen l.0 c young h))
+  change-grows w p what least seen l shut i more h c (inr old) =
+      let two : seen ≡ 2 = omega (arith, old, waiting-young w p what seen i h) in
+      gone (closed-cleared w p what (ripe-cleared w p what l.0 i (subst (λ (n : ℕ). WaitsWith w p what n) two h) c))
 
-  fewer : (w : World T) (p k least : ℕ) → HasSeen w p k (least + 1) → HasSeen w p k least
-  fewer w p k least (gone g) = gone g
-  fewer w p k least (waits seen more h) = waits seen (omega (arith, more)) h
+  fewer : (w : World T) (p : ℕ) (what : LimboEntry) (least : ℕ) → HasSeen w p what (least + 1) → HasSeen w p what least
+  fewer w p what least (gone g) = gone g
+  fewer w p what least (waits seen more h) = waits seen (omega (arith, more)) h
 
-  any-grows : (w : World T) (p k least seen : ℕ) → IsPlaceOf w p → AllClosed w → IsWhole w → least ≤ seen → Waits w p k seen →
-      Nests holds w p ⊎ IsChange holds w p → HasSeen (accelerated_guard holds w p) p k least
-  any-grows w p k least seen l shut i more h (inl n) = waits seen more (closed-waits w p k seen l shut (nests-waits holds w p k seen l.0 n h))
-  any-grows w p k least seen l shut i more h (inr c) =
-      fewer (accelerated_guard holds w p) p k least (change-grows w p k least seen l shut i more h c (below-or-past seen 2))
+  any-grows : (w : World T) (p : ℕ) (what : LimboEntry) (least seen : ℕ) → IsPlaceOf w p → AllClosed w → IsWhole w → least ≤ seen → WaitsWith w p what seen →
+      Nests holds w p ⊎ IsChange holds w p → HasSeen (accelerated_guard holds w p) p what least
+  any-grows w p what least seen l shut i more h (inl n) =
+      waits seen more (closed-waits w p what seen l shut (nests-waiting holds w p what seen l.0 n h))
+  any-grows w p what least seen l shut i more h (inr c) =
+      fewer (accelerated_guard holds w p) p what least (change-grows w p what least seen l shut i more h c (below-or-past seen 2))
 
   -- where p finds another count, its opening is a change
   must-change : (w : World T) (p : ℕ) → AllClosed w → (place_at w p).found ≢ w.time.count → Nests holds w p ⊎ IsChange holds w p → IsChange holds w p
   must-change w p shut another (inr c) = c
   must-change w p shut another (inl n) = absurd (nests-why w p shut another n.why)
 
-  after-one : (w : World T) (p k least : ℕ) → IsPlaceOf w p → AllClosed w → IsWhole w → HasSeen w p k least →
-      HasSeen (accelerated_guard holds w p) p k least
-  after-one w p k least l shut i (gone g) = let o = gone-opened w p k l.0 i g in gone (record { standing = o.standing; value = o.value })
-  after-one w p k least l shut i (waits seen more h) = any-grows w p k least seen l shut i more h (how holds w p l.0)
+  after-one : (w : World T) (p : ℕ) (what : LimboEntry) (least : ℕ) → IsPlaceOf w p → AllClosed w → IsWhole w → HasSeen w p what least →
+      HasSeen (accelerated_guard holds w p) p what least
+  after-one w p what least l shut i (gone g) = gone (closed-cleared w p what (gone-opened w p what l.0 i g))
+  after-one w p what least l shut i (waits seen more h) = any-grows w p what least seen l shut i more h (how holds w p l.0)
 
-  after-change : (w : World T) (p k least : ℕ) → IsPlaceOf w p → AllClosed w → IsWhole w → (place_at w p).found ≢ w.time.count →
-      HasSeen w p k least → HasSeen (accelerated_guard holds w p) p k (least + 1)
-  after-change w p k least l shut i another (gone g) = let o = gone-opened w p k l.0 i g in gone (record { standing = o.standing; value = o.value })
-  after-change w p k least l shut i another (waits seen more h) =
-      change-grows w p k least seen l shut i more h (must-change w p shut another (how holds w p l.0)) (below-or-past seen 2)
+  after-change : (w : World T) (p : ℕ) (what : LimboEntry) (least : ℕ) → IsPlaceOf w p → AllClosed w → IsWhole w → (place_at w p).found ≢ w.time.count →
+      HasSeen w p what least → HasSeen (accelerated_guard holds w p) p what (least + 1)
+  after-change w p what least l shut i another (gone g) = gone (closed-cleared w p what (gone-opened w p what l.0 i g))
+  after-change w p what least l shut i another (waits seen more h) =
+      change-grows w p what least seen l shut i more h (must-change w p shut another (how holds w p l.0)) (below-or-past seen 2)
 
   -- what has seen three changes is gone
-  gone-by-then : (w : World T) (p k : ℕ) → IsWhole w → HasSeen w p k 3 → Stands k None None w
-  gone-by-then w p k i (gone g) = g
-  gone-by-then w p k i (waits seen more h) = absurd (omega (arith, more, waits-young w p k seen i h))
+  gone-by-then : (w : World T) (p : ℕ) (what : LimboEntry) → IsWhole w → HasSeen w p what 3 → IsCleared w what
+  gone-by-then w p what i (gone g) = g
+  gone-by-then w p what i (waits seen more h) = absurd (omega (arith, more, waiting-young w p what seen i h))
 
   pub four-guards : (w : World T) → IsWhole w → FourGuardsReclaim holds w
-  four-guards w i = λ p k seen l quiet room h.
+  four-guards w i = λ p what seen l quiet room h.
       let g : World T → World T = λ u. accelerated_guard holds u p in
       let shut = all-closed w quiet in
       let l1 = still-place w p l shut in let s1 = still-closed w p l shut in let i1 = still-whole w p l shut i in
@@ -315,9 +342,8 @@ module _ {T : Type 0} (holds : T → List OwnerOrCell) where
       let r1 = raises w p l shut (omega (arith, room)) in
       let r2 = raises (g w) p l1 s1 (omega (arith, room, r1.count)) in
       let r3 = raises (g (g w)) p l2 s2 (omega (arith, room, r1.count, r2.count)) in
-      let h1 : HasSeen (g w) p k 0 = after-one w p k 0 l shut i (waits seen (omega arith) h) in
-      let h2 : HasSeen (g (g w)) p k 1 = after-change (g w) p k 0 l1 s1 i1 (λ e. absurd (omega (arith, e, r1.found, r1.count))) h1 in
-      let h3 : HasSeen (g (g (g w))) p k 2 = after-change (g (g w)) p k 1 l2 s2 i2 (λ e. absurd (omega (arith, e, r2.found, r2.count))) h2 in
-      let h4 : HasSeen (g (g (g (g w)))) p k 3 = after-change (g (g (g w))) p k 2 l3 s3 i3 (λ e. absurd (omega (arith, e, r3.found, r3.count))) h3 in
-      let end = gone-by-then (g (g (g (g w)))) p k i4 h4 in
-      (end.standing, end.value)
+      let h1 : HasSeen (g w) p what 0 = after-one w p what 0 l shut i (waits seen (omega arith) h) in
+      let h2 : HasSeen (g (g w)) p what 1 = after-change (g w) p what 0 l1 s1 i1 (λ e. absurd (omega (arith, e, r1.found, r1.count))) h1 in
+      let h3 : HasSeen (g (g (g w))) p what 2 = after-change (g (g w)) p what 1 l2 s2 i2 (λ e. absurd (omega (arith, e, r2.found, r2.count))) h2 in
+      let h4 : HasSeen (g (g (g (g w)))) p what 3 = after-change (g (g (g w))) p what 2 l3 s3 i3 (λ e. absurd (omega (arith, e, r3.found, r3.count))) h3 in
+      gone-by-then (g (g (g (g w)))) p what i4 h4

@@ -38,9 +38,9 @@ use Rattle.sdd_space.proofs.Whole as whole
 use Rattle.sdd_space.proofs.Listed.{listed-closed, listed-registered}
 use Rattle.sdd_space.proofs.Jobs.{JobsOnce}
 use Rattle.sdd_space.proofs.Jobs as jobs
-use Rattle.sdd_space.specs.ReclaimBound.{Waits}
+use Rattle.sdd_space.specs.ReclaimBound.{Waits, WaitsWith}
 use Rattle.sdd_space.proofs.Opening.{how, Nests, IsChange}
-use Rattle.sdd_space.proofs.Entries.{waits-place}
+use Rattle.sdd_space.proofs.Entries.{waiting-place}
 
 -- the place is there, and not free
 pub record IsTaken (t : EpochState) (p : ℕ) : Type 0 where
@@ -356,9 +356,12 @@ pub registered-keeps : (t : EpochState) (p q : ℕ) → IsTaken t q → IsVacant
 registered-keeps t p q l v = registered-at t p q l.there (vacant-apart t p q l v) (nat_lt p (length t.places)) refl
 
 -- who has something waiting has a place, and so has who has a guard open
+pub waiting-taken : {T : Type 0} (w : World T) (q : ℕ) (what : LimboEntry) (seen : ℕ) → IsWhole w → WaitsWith w q what seen → IsTaken w.time q
+waiting-taken w q what seen i h =
+    record { there = waiting-place w q what seen h; taken = λ none. nothing-waits (place_at w q).bags.waiting (having_seen seen what) h (i.housed.bare q none) }
+
 pub waits-taken : {T : Type 0} (w : World T) (q k seen : ℕ) → IsWhole w → Waits w q k seen → IsTaken w.time q
-waits-taken w q k seen i h =
-    record { there = waits-place w q k seen h; taken = λ none. nothing-waits (place_at w q).bags.waiting (having_seen seen (Item k)) h (i.housed.bare q none) }
+waits-taken w q k seen i h = waiting-taken w q (Item k) seen i h
 
 pub guard-taken : {T : Type 0} (w : World T) (p : ℕ) → IsWhole w → IsTrue (is_open (place_at w p)) → IsTaken w.time p
 guard-taken w p i o =

@@ -279,7 +279,7 @@ module _ {T : Type 0} where
               (subst (λ (xs : List LimboEntry). Contains xs (Job j)) (sym (due-here holds w p l)) due),
         )
 
-    opened-kept : (w : World T) (p j : ℕ) → p < length w.time.places → ¬ (Contains (reclaims w p) (Job j)) → Nests holds w p ⊎ IsChange holds w p →
+    pub opened-kept : (w : World T) (p j : ℕ) → p < length w.time.places → ¬ (Contains (reclaims w p) (Job j)) → Nests holds w p ⊎ IsChange holds w p →
         job_at (steps.opened holds w p) j ≡ job_at w j
     opened-kept w p j l other (inl n) = ap (λ (u : World T). job_at u j) n.nests
     opened-kept w p j l other (inr c) =

@@ -1,20 +1,20 @@
--- When an item goes at latest
+-- When an item or a job goes at latest
 use Rattle.std.proofs.Common.{◌≡◌, ◌≢◌, ◌⊎◌, inl, inr, ℕ, ◌+◌, ◌<◌, ◌≤◌, List, Bool, refl, sym, ◌∙◌, arith, true, false, None}
 use Rattle.std.specs.Prelude.{◌-◌, ◌*◌, ◌==◌, if◌then◌else◌, not}
 use Rattle.std.proofs.lemmas.Bool.Decides.{nat_tests}
 use Rattle.sdd_participants.specs.EpochState.{EpochState, with_place, nobody, is_open, passes, last_count, counted_down, phase_at, rested}
 use Rattle.sdd_participants.specs.EpochState as time
-use Rattle.sdd_participants.specs.declared.waiting.LimboEntry.TheVariants.{Item}
+use Rattle.sdd_participants.specs.declared.waiting.LimboEntry.{LimboEntry}
 use Rattle.sdd_participants.specs.declared.participant.Participant.{Participant}
-use Rattle.sdd_space.specs.World.{World, standing_at, place_at}
+use Rattle.sdd_space.specs.World.{World, place_at}
 use Rattle.sdd_space.specs.WorldChanges.{closed}
 use Rattle.sdd_space.specs.OwnerOrCell.{OwnerOrCell}
 use Rattle.sdd_space.specs.WorldInvariant.{IsWhole}
-use Rattle.sdd_space.specs.ReclaimBound.{Waits, left, IsHeldUp, OpeningsLower, NoCallRaises, GoesAtLatest, WaitsThrough, GoesInTime}
+use Rattle.sdd_space.specs.ReclaimBound.{WaitsWith, IsGone, left, IsHeldUp, OpeningsLower, NoCallRaises, GoesAtLatest, WaitsThrough, GoesInTime}
 use Rattle.sdd_space.specs.ReclaimBound.WaitsThrough.{starts, one_opening, one_call}
 use Rattle.sdd_space.proofs.Housed.{items}
 use Rattle.sdd_participants.proofs.Adopting.{same-or-not}
-use Rattle.sdd_space.proofs.Entries.{waits-place, differs}
+use Rattle.sdd_space.proofs.Entries.{waiting-place, differs}
 use Rattle.sdd_space.proofs.Waning.{Measure, IsIdleClose, resting, nested-open, not-open, opens-lower, Outcome, each-call, waits-low, Wanes, wanes-opening, wanes-call}
 
 -- what is left with this participant at this count
@@ -98,44 +98,44 @@ by_countdown = record {
 
 module _ {T : Type 0} (holds : T → List OwnerOrCell) where
   pub openings-lower : (w : World T) → IsWhole w → OpeningsLower holds w
-  openings-lower w i = λ q k seen h shut.
-      opens-lower by_countdown holds w q (Item k) seen (waits-place w q k seen h) i h (not-open (is_open (place_at w q)) shut)
+  openings-lower w i = λ q what seen h shut.
+      opens-lower by_countdown holds w q what seen (waiting-place w q what seen h) i h (not-open (is_open (place_at w q)) shut)
 
   -- a close that doesn't lower it is held up
   held : (w new : World T) (q : ℕ) → IsIdleClose (λ _. ⊥) w new q → (new ≡ closed w q) × IsHeldUp w q
   held w new q idle = (idle.closes, elim (idle.why) [ inl never ↦ absurd never | inr h ↦ h ])
 
-  outcome : (w new : World T) (q k seen : ℕ) → Outcome by_countdown holds w new q (Item k) seen →
-      (standing_at new k ≡ None)
-      ⊎ ((later : ℕ) × Waits new q k later × ((left new.time q later ≤ left w.time q seen) ⊎ ((new ≡ closed w q) × IsHeldUp w q)))
-  outcome w new q k seen (inl gone) = inl gone
-  outcome w new q k seen (inr (later, waits, inl lower)) = inr (later, waits, inl lower)
-  outcome w new q k seen (inr (later, waits, inr idle)) = inr (later, waits, inr (held w new q idle))
+  outcome : (w new : World T) (q : ℕ) (what : LimboEntry) (seen : ℕ) → Outcome by_countdown holds w new q what seen →
+      IsGone new what
+      ⊎ ((later : ℕ) × WaitsWith new q what later × ((left new.time q later ≤ left w.time q seen) ⊎ ((new ≡ closed w q) × IsHeldUp w q)))
+  outcome w new q what seen (inl gone) = inl gone
+  outcome w new q what seen (inr (later, waits, inl lower)) = inr (later, waits, inl lower)
+  outcome w new q what seen (inr (later, waits, inr idle)) = inr (later, waits, inr (held w new q idle))
 
   pub no-call-raises : (w : World T) → IsWhole w → NoCallRaises holds w
-  no-call-raises w i = λ new call q k seen live h. outcome w new q k seen (each-call by_countdown holds q (Item k) seen call i live h)
+  no-call-raises w i = λ new call q what seen live h. outcome w new q what seen (each-call by_countdown holds q what seen call i live h)
 
-  pub left-bounded : (w : World T) (q k seen : ℕ) → IsWhole w → Waits w q k seen → left w.time q seen ≤ 385
-  left-bounded w q k seen i h = omega (arith, waits-low w q (Item k) seen (items i) h, (left-bounds w.time.count seen (place_at w q)).1)
+  pub left-bounded : (w : World T) (q : ℕ) (what : LimboEntry) (seen : ℕ) → IsWhole w → WaitsWith w q what seen → left w.time q seen ≤ 385
+  left-bounded w q what seen i h = omega (arith, waits-low w q what seen (items i) h, (left-bounds w.time.count seen (place_at w q)).1)
 
   pub goes-at-latest : (w : World T) → IsWhole w → GoesAtLatest holds w
   goes-at-latest w i =
-      record { bounded = λ q k seen h. left-bounded w q k seen i h; lowered = openings-lower w i; never_raised = no-call-raises w i }
+      record { bounded = λ q what seen h. left-bounded w q what seen i h; lowered = openings-lower w i; never_raised = no-call-raises w i }
 
-  still : {w new : World T} {q k seen n : ℕ} → (standing_at new k ≡ None) ⊎ Wanes by_countdown holds w new q (Item k) seen n → standing_at new k ≢ None →
-      Wanes by_countdown holds w new q (Item k) seen n
+  still : {w new : World T} {q seen n : ℕ} {what : LimboEntry} → IsGone new what ⊎ Wanes by_countdown holds w new q what seen n → ¬ (IsGone new what) →
+      Wanes by_countdown holds w new q what seen n
   still (inl gone) there = absurd (there gone)
   still (inr on) there = on
 
-  wanes : (q k seen : ℕ) {n : ℕ} {w new : World T} → WaitsThrough holds q k n w new → IsWhole w → Waits w q k seen →
-      Wanes by_countdown holds w new q (Item k) seen n
-  wanes q k seen (starts w) i h = record { whole = i; later = seen; waits = h; lower = omega arith }
-  wanes q k seen (one_opening n w v path live shut there) i h =
-      still (wanes-opening by_countdown holds w v q (Item k) seen n (wanes q k seen path i h) live (not-open (is_open (place_at v q)) shut)) there
-  wanes q k seen (one_call n w v new path live call free there) i h =
-      still (wanes-call by_countdown holds w v new q (Item k) seen n (wanes q k seen path i h) live call (λ idle. free (held v new q idle))) there
+  wanes : (q : ℕ) (what : LimboEntry) (seen : ℕ) {n : ℕ} {w new : World T} → WaitsThrough holds q what n w new → IsWhole w → WaitsWith w q what seen →
+      Wanes by_countdown holds w new q what seen n
+  wanes q what seen (starts w) i h = record { whole = i; later = seen; waits = h; lower = omega arith }
+  wanes q what seen (one_opening n w v path live shut there) i h =
+      still (wanes-opening by_countdown holds w v q what seen n (wanes q what seen path i h) live (not-open (is_open (place_at v q)) shut)) there
+  wanes q what seen (one_call n w v new path live call free there) i h =
+      still (wanes-call by_countdown holds w v new q what seen n (wanes q what seen path i h) live call (λ idle. free (held v new q idle))) there
 
   pub goes-in-time : (w : World T) → IsWhole w → GoesInTime holds w
-  goes-in-time w i = λ q k seen h n new path.
-      let o = wanes q k seen path i h in
+  goes-in-time w i = λ q what seen h n new path.
+      let o = wanes q what seen path i h in
       omega (arith, o.lower, (left-bounds new.time.count o.later (place_at new q)).0)

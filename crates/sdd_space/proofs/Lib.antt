@@ -16,6 +16,7 @@ pub mod Safe
 pub mod Four
 pub mod Out
 pub mod Waning
+pub mod UnderJobs
 pub mod Left
 pub mod Passing
 pub mod Working

@@ -40,7 +40,7 @@ pub record Persists (x y : Participant) : Type 0 where
   pub found : y.found ≡ x.found
   pub waits : (w : Waiting) → Contains x.bags.waiting w → Contains y.bags.waiting w
 
-Persists-same : (x y : Participant) → y ≡ x → Persists x y
+pub Persists-same : (x y : Participant) → y ≡ x → Persists x y
 Persists-same x y e = record { found = ap (λ (z : Participant). z.found) e; waits = λ w h. subst (λ (z : Participant). Contains z.bags.waiting w) (sym e) h }
 
 -- one place changes, and goes on as it was
@@ -82,7 +82,7 @@ module _ {T : Type 0} where
       }
 
   module _ (holds : T → List OwnerOrCell) where
-    nests-persists : (w : World T) (r q : ℕ) → r < length w.time.places → Nests holds w r → Persists (place_at w q) (place_at (opened holds w r) q)
+    pub nests-persists : (w : World T) (r q : ℕ) → r < length w.time.places → Nests holds w r → Persists (place_at w q) (place_at (opened holds w r) q)
     nests-persists w r q l n =
         subst (λ (v : World T). Persists (place_at w q) (place_at v q)) (sym n.nests)
         (persists-place w.time r q (time.nested (place_at w r)) l (record { found = refl; waits = λ w h. h }))
@@ -206,7 +206,7 @@ module _ {T : Type 0} where
         kept w (record w { time = with_place w.time r x }) p k u o (record { standing = refl; value = refl }) (persists-place w.time r p x l on)
         (persists-place w.time r u.holder x l on)
 
-    persists-given : (ks : List ℕ) (x : Participant) → Persists x (all_awaiting ks x)
+    pub persists-given : (ks : List ℕ) (x : Participant) → Persists x (all_awaiting ks x)
     persists-given ks x = record { found = own.all_awaiting-found ks x; waits = λ w h. all_awaiting-waiting ks x w h }
 
     -- a close: the item goes on to wait with its holder, or waits anew with who adopted it

@@ -21,10 +21,9 @@ use Rattle.sdd_space.specs.WorldInvariant.{IsWhole}
 use Rattle.sdd_space.proofs.Listed.{rest-contains}
 use Rattle.sdd_space.proofs.Collecting.{goes}
 use Rattle.sdd_space.specs.Out.{is_out}
-use Rattle.sdd_space.specs.WorkingGuards.{WaitsWith, IsGone}
 use Rattle.sdd_space.proofs.Jobs.{opened-ran}
 use Rattle.sdd_participants.specs.declared.waiting.LimboEntry.{LimboEntry}
-use Rattle.sdd_space.specs.ReclaimBound.{Waits, IsHeldUp}
+use Rattle.sdd_space.specs.ReclaimBound.{Waits, WaitsWith, IsGone, IsHeldUp}
 use Rattle.sdd_space.specs.WorldStep.{WorldStep}
 use Rattle.sdd_space.specs.WorldStep.WorldStep.{registers, ends, opens, closes, stirs, accelerates, makes, shares, retires, releases, defers, collects, closes_collector, edits, drops, puts_out_raw, takes_back_raw, changes_cells, closes_cell, changes_pointers}
 use Rattle.sdd_space.proofs.Own.{Gives, Gives-all_reclaimed, Gives-owner_given, Gives-cell_closed, Gives-dropped, all_awaiting-found}

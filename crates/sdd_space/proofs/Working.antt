@@ -18,13 +18,13 @@ use Rattle.sdd_participants.specs.declared.standing.Standing.TheVariants.{Owned,
 use Rattle.sdd_space.specs.Collecting.{is_for, without_collector}
 use Rattle.sdd_space.specs.OwnerOrCell.{OwnerOrCell}
 use Rattle.sdd_space.specs.ParticipantChanges.{all_awaiting}
-use Rattle.sdd_space.specs.ReclaimBound.{IsHeldUp}
+use Rattle.sdd_space.specs.ReclaimBound.{WaitsWith, IsGone, IsHeldUp}
 use Rattle.sdd_space.specs.World.{World, IsPlaceOf, place_at}
 use Rattle.sdd_space.specs.WorldChanges.{made, made_shared, retired, owner_given, deferred, with_cell, opened, accelerated, closed}
 use Rattle.sdd_space.specs.WorldInvariant.{IsWhole}
 use Rattle.sdd_space.specs.WorldStep.{WorldStep}
 use Rattle.sdd_space.specs.WorldStep.WorldStep.{registers, ends, opens, closes, stirs, accelerates, makes, shares, retires, releases, defers, collects, closes_collector, edits, drops, puts_out_raw, takes_back_raw, changes_cells, closes_cell, changes_pointers}
-use Rattle.sdd_space.specs.WorkingGuards.{WaitsWith, IsGone, openings_left, Calls, HasGone, MovesOn, WorksThrough, IsWork, Works, PassesWork, WorkingGuardsPass, BusyGuardsCount, WorkLaws, WorkingGuardsReclaim}
+use Rattle.sdd_space.specs.WorkingGuards.{openings_left, Calls, HasGone, MovesOn, WorksThrough, IsWork, Works, PassesWork, WorkingGuardsPass, BusyGuardsCount, WorkLaws, WorkingGuardsReclaim}
 use Rattle.sdd_space.specs.UnderGuards.{CallsUnder}
 use Rattle.sdd_space.specs.UnderGuards.CallsUnder.{none, more_calls}
 use Rattle.sdd_space.proofs.Housed.{Whole-opened, Whole-closed, registered-lives, ended-lives}

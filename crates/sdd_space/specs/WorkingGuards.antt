@@ -1,11 +1,9 @@
 -- When what waits goes while its holder works under accelerated guards
-use Rattle.std.specs.Prelude.{ℕ, ◌+◌, ◌-◌, ◌<◌, ◌≤◌, ◌≡◌, Contains, IsTrue, List, None, Some, length, ◌⊎◌, if◌then◌else◌}
+use Rattle.std.specs.Prelude.{ℕ, ◌+◌, ◌-◌, ◌<◌, ◌≤◌, ◌≡◌, IsTrue, List, Some, length, ◌⊎◌, if◌then◌else◌}
 use Rattle.sdd_participants.specs.declared.waiting.LimboEntry.{LimboEntry}
-use Rattle.sdd_participants.specs.declared.waiting.LimboEntry.TheVariants.{Item, Job}
-use Rattle.sdd_participants.specs.Slab.{IsEmptyAt, entry_at}
+use Rattle.sdd_participants.specs.Slab.{IsEmptyAt}
 use Rattle.sdd_participants.specs.declared.standing.CellContents.{CellContents}
 use Rattle.sdd_participants.specs.declared.standing.Standing.TheVariants.{Owned, Shared}
-use Rattle.sdd_participants.specs.Waiting.{having_seen}
 use Rattle.sdd_participants.specs.EpochState.{EpochState, finds_another, is_open, last_count}
 use Rattle.sdd_participants.specs.EpochState as time
 use Rattle.sdd_space.specs.OwnerOrCell.{OwnerOrCell}
@@ -13,18 +11,8 @@ use Rattle.sdd_space.specs.World.{World, AnyGuardOpen, IsPlaceOf, place_at, stan
 use Rattle.sdd_space.specs.WorldChanges.{made, made_shared, retired, owner_given, deferred, with_cell, opened, accelerated, closed}
 use Rattle.sdd_space.specs.WorldStep.{WorldStep}
 use Rattle.sdd_space.specs.WorldStep.WorldStep.{registers, ends, opens, closes}
-use Rattle.sdd_space.specs.ReclaimBound.{IsHeldUp}
+use Rattle.sdd_space.specs.ReclaimBound.{WaitsWith, IsGone, IsHeldUp}
 use Rattle.sdd_space.specs.UnderGuards.{CallsUnder}
-
-module _ {T : Type 0} where
-  -- an item or a job waits with p, and has seen so many of p's changes
-  abbrev pub WaitsWith : World T → (place : ℕ) → LimboEntry → (seen : ℕ) → Type 0
-  WaitsWith w p what seen = Contains (place_at w p).bags.waiting (having_seen seen what)
-
-  -- an item's slot is free, or a job's place is
-  abbrev pub IsGone : World T → LimboEntry → Type 0
-  IsGone w (Item k) = standing_at w k ≡ None
-  IsGone w (Job j) = entry_at w.jobs j ≡ None
 
 -- after how many outermost openings of its holder, at latest, goes what has seen so many changes, where each close of the holder's last guard scans
 -- and isn't held up: the next one is a change where another count is there to be found; else the next but one

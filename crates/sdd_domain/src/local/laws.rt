@@ -7,7 +7,7 @@ ghost use Rattle.sdd_space.specs.ReclaimBound.{FourGuardsReclaim, GoesAtLatest, 
 ghost use Rattle.sdd_space.specs.Ledger.{LedgerLaws};
 ghost use Rattle.sdd_space.specs.AcceleratedGuards.{GuardsPass, ItemsPass};
 ghost use Rattle.sdd_space.specs.WorkingGuards.{BusyGuardsCount, WorkingGuardsPass, WorkingGuardsReclaim};
-ghost use Rattle.sdd_space.specs.UnderGuards.{KeepsFreshUnderGuards, KeepsUnderGuards};
+ghost use Rattle.sdd_space.specs.UnderGuards.{KeepsFreshJobsUnderGuards, KeepsFreshUnderGuards, KeepsJobsUnderGuards, KeepsUnderGuards};
 ghost use Rattle.sdd_space.specs.World.{World, AnyGuardOpen, IsPlaceOf};
 ghost use Rattle.sdd_domain.specs.Local.{world_of};
 ghost use Rattle.sdd_domain.specs.LocalState.{IsLone};
@@ -42,7 +42,7 @@ impl<T: Item<T>, J: Job> Local<'_, T, J> {
         self.is_whole();
     }
 
-    /// After how many openings an item that waits is reclaimed at latest.
+    /// After how many openings an item that waits is reclaimed at latest, or a job runs.
     pub fn reclaims_in_time(&self)
         ensures latest { IsLone self.now.member → GoesAtLatest T.holds (world_of self.now) }
         ensures in_time { IsLone self.now.member → GoesInTime T.holds (world_of self.now) }
@@ -60,7 +60,7 @@ impl<T: Item<T>, J: Job> Local<'_, T, J> {
         ensures { ItemsPass T }
     {}
 
-    /// Four accelerated guards, one after another, reclaim all that waits, where no guard is open.
+    /// Four accelerated guards, one after another, reclaim each item that waits and run each job, where no guard is open.
     pub fn four_guards_reclaim(&self)
         ensures { IsLone self.now.member → FourGuardsReclaim T.holds (world_of self.now) }
     {
@@ -77,10 +77,12 @@ impl<T: Item<T>, J: Job> Local<'_, T, J> {
         self.is_whole();
     }
 
-    /// No item is reclaimed while a guard that was open when it began to wait is open.
+    /// No item is reclaimed and no job runs while a guard that was open when it began to wait is open.
     pub fn keeps_under_guards(&self)
         ensures retired { IsLone self.now.member → KeepsUnderGuards T.holds (world_of self.now) }
         ensures fresh { IsLone self.now.member → KeepsFreshUnderGuards T.holds (world_of self.now) }
+        ensures deferred { IsLone self.now.member → KeepsJobsUnderGuards T.holds (world_of self.now) }
+        ensures fresh_jobs { IsLone self.now.member → KeepsFreshJobsUnderGuards T.holds (world_of self.now) }
     {
         self.is_whole();
     }

@@ -9,7 +9,7 @@ ghost use Rattle.sdd_space.specs.Collecting.{CollectedEnds};
 ghost use Rattle.sdd_space.specs.Adopting.{AdoptsWhatIsLeft};
 ghost use Rattle.sdd_space.specs.Ledger.{LedgerLaws};
 ghost use Rattle.sdd_space.specs.WorkingGuards.{BusyGuardsCount, WorkingGuardsPass, WorkingGuardsReclaim};
-ghost use Rattle.sdd_space.specs.UnderGuards.{KeepsCollectedUnderGuards, KeepsFreshUnderGuards, KeepsUnderGuards};
+ghost use Rattle.sdd_space.specs.UnderGuards.{KeepsCollectedUnderGuards, KeepsFreshJobsUnderGuards, KeepsFreshUnderGuards, KeepsJobsUnderGuards, KeepsUnderGuards};
 
 use super::World;
 use sdd_participants::Job;
@@ -43,7 +43,7 @@ impl<T: Item<T>, J: Job> World<T, J> {
         self.is_whole();
     }
 
-    /// After how many openings of its holder an item that waits is reclaimed at latest.
+    /// After how many openings of its holder an item that waits is reclaimed at latest, or a job runs.
     pub fn reclaims_in_time(&self)
         ensures latest { GoesAtLatest T.holds self.now }
         ensures in_time { GoesInTime T.holds self.now }
@@ -61,7 +61,7 @@ impl<T: Item<T>, J: Job> World<T, J> {
         ensures { ItemsPass T }
     {}
 
-    /// Four accelerated guards of a participant, one after another, reclaim all that waits with it, where no other guard is open.
+    /// Four accelerated guards of a participant, one after another, reclaim each item that waits with it and run each job, where no other guard is open.
     pub fn four_guards_reclaim(&self)
         ensures { FourGuardsReclaim T.holds self.now }
     {
@@ -78,7 +78,7 @@ impl<T: Item<T>, J: Job> World<T, J> {
         self.is_whole();
     }
 
-    /// A close that scans takes over what ended participants left: it waits with who scans, with no change seen, and their places are free.
+    /// A close that scans takes over what ended participants left, items and jobs: it waits with who scans, with no change seen, and their places are free.
     pub fn adopts_what_is_left(&self)
         ensures { AdoptsWhatIsLeft self.now }
     {
@@ -92,11 +92,13 @@ impl<T: Item<T>, J: Job> World<T, J> {
         self.is_whole();
     }
 
-    /// No item is reclaimed while a guard that was open when it began to wait is open.
+    /// No item is reclaimed and no job runs while a guard that was open when it began to wait is open.
     pub fn keeps_under_guards(&self)
         ensures retired { KeepsUnderGuards T.holds self.now }
         ensures collected { KeepsCollectedUnderGuards T.holds self.now }
         ensures fresh { KeepsFreshUnderGuards T.holds self.now }
+        ensures deferred { KeepsJobsUnderGuards T.holds self.now }
+        ensures fresh_jobs { KeepsFreshJobsUnderGuards T.holds self.now }
     {
         self.is_whole();
     }

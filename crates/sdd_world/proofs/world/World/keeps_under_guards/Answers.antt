@@ -1,4 +1,5 @@
 use Rattle.sdd_space.proofs.Under.{keeps-under-guards, keeps-collected-under-guards, keeps-fresh-under-guards}
+use Rattle.sdd_space.proofs.UnderJobs.{keeps-jobs-under-guards, keeps-fresh-jobs-under-guards}
 use Rattle.sdd_world.proofs.world.World.keeps_under_guards.Goals as goal
 
 pub returns : goal.returns
@@ -9,4 +10,6 @@ returns g c =
       retired = keeps-under-guards g.T.Item.holds now whole;
       collected = keeps-collected-under-guards g.T.Item.holds now whole;
       fresh = keeps-fresh-under-guards g.T.Item.holds now whole;
+      deferred = keeps-jobs-under-guards g.T.Item.holds now whole;
+      fresh_jobs = keeps-fresh-jobs-under-guards g.T.Item.holds now whole;
     }
