@@ -1,19 +1,23 @@
 //! Guards in a world, and what can be known under them.
-ghost use Rattle.std.specs.Prelude.{◌≡◌, IsTrue, Some, ℕ, ◌+◌, ◌^◌, ◌<◌, ◌≤◌, None};
+ghost use Rattle.std.specs.Prelude.{◌≡◌, IfOk, IsTrue, Some, ℕ, ◌+◌, ◌^◌, ◌<◌, ◌≤◌};
 ghost use Rattle.sdd_space.specs.World.{World, AnyGuardOpen, IsPlaceOf, place_at, standing_at, value_at};
 ghost use Rattle.sdd_space.specs.Out.{out};
-ghost use Rattle.sdd_space.specs.ReclaimBound.{Waits, accelerated_guard, four_guards};
+ghost use Rattle.sdd_space.specs.ReclaimBound.{WaitsWith, IsCleared, accelerated_guard, four_guards};
 ghost use Rattle.sdd_space.specs.AcceleratedGuards.{Passes};
 ghost use Rattle.sdd_space.specs.WorldInvariant.{IsCounted, taken};
 ghost use Rattle.sdd_space.specs.ReclaimBound.{left};
 ghost use Rattle.sdd_space.specs.Adopting.{AdoptsWhatIsLeft};
-ghost use Rattle.sdd_space.specs.UnderGuards.{CallsUnder};
+ghost use Rattle.sdd_space.specs.UnderGuards.{CallsUnder, JobStaysUnder};
+ghost use Rattle.sdd_space.specs.Guard.{reader_of};
 ghost use Rattle.sdd_space.specs.Owned.{slot_of, slots_home};
-ghost use Rattle.sdd_space.specs.CallerId.{IsSeated, IsExact, MayNest};
+ghost use Rattle.sdd_space.specs.CallerId.{IsSeated, IsExact, MayNest, reader_at};
 ghost use Rattle.sdd_participants.specs.EpochState.{is_open};
+ghost use Rattle.sdd_participants.specs.Slab.{IsEmptyAt};
+ghost use Rattle.sdd_participants.specs.declared.waiting.LimboEntry.{LimboEntry};
 ghost use Rattle.sdd_world.specs.Place.{index_of};
 
-use sdd_participants::{Idle, Standing};
+use sdd_core::Refused;
+use sdd_participants::{Idle, Job, Standing};
 use sdd_space::laws::epoch_moves_by_one;
 use sdd_space::{Guard, Guards, Item, Owned};
 use sdd_world::{Place, World};
@@ -45,14 +49,14 @@ pub fn accelerated<T: Item<T>, S: Guards<T>>(s: &mut S)
     guard.close(s);
 }
 
-/// Four accelerated guards, one after another: what waited with the participant is reclaimed.
+/// Four accelerated guards, one after another: what waited with the participant is reclaimed, and jobs that waited ran.
 pub fn four_guards<T: Item<T>>(world: &mut World<T>, place: &Place)
     requires place { IsPlaceOf world.old (index_of place.now) }
     requires quiet { ¬ (AnyGuardOpen world.old) }
     requires nesting { 1 ≤ world.old.time.nesting }
     requires early { world.old.time.count + 4 ≤ 2 ^ 64 }
     ensures passed { world.new ≡ four_guards T.holds world.old (index_of place.now) }
-    ensures reclaimed { (k seen : ℕ) → Waits world.old (index_of place.now) k seen → standing_at world.new k ≡ None }
+    ensures reclaimed { (what : LimboEntry) (seen : ℕ) → WaitsWith world.old (index_of place.now) what seen → IsCleared world.new what }
     ensures quiet { ¬ (AnyGuardOpen world.new) }
     ensures made { world.new.tally.made ≡ world.old.tally.made }
     ensures in_place { world.new.tally.in_place ≡ world.old.tally.in_place }
@@ -75,9 +79,9 @@ pub fn has_hardly_moved<T: Item<T>, S: Guards<T>>(guard: &Guard, s: &mut S) -> b
     second == first || second == first.next()
 }
 
-/// What waits in a world is reclaimed within 385 openings of the participant with which it waits.
+/// What waits in a world is reclaimed, or runs, within 385 openings of the participant with which it waits.
 pub fn waits_a_bounded_time<T: Item<T>>(world: &World<T>)
-    ensures { (q k seen : ℕ) → Waits world.now q k seen → left world.now.time q seen ≤ 385 }
+    ensures { (q : ℕ) (what : LimboEntry) (seen : ℕ) → WaitsWith world.now q what seen → left world.now.time q seen ≤ 385 }
 {
     world.reclaims_in_time();
 }
@@ -111,4 +115,25 @@ pub fn retired_under_a_guard<T: Item<T>>(
 {
     world.keeps_under_guards();
     owner.retire(&mut world.at(writer));
+}
+
+/// Defers a job under a guard of the writer while one of a reader is open: it waits in its place as long as the reader's guard is open, whatever is called,
+/// and no opening runs it.
+///
+/// `NoJob` where as many jobs wait as the limits say; the job comes back.
+pub fn deferred_under_a_guard<T: Item<T>, J: Job>(
+    world: &mut World<T, J>,
+    reader: &Place,
+    writer: &Place,
+    guard: &Guard,
+    job: J,
+) -> Result<(), (J, Refused)>
+    requires writer { IsPlaceOf world.old (index_of writer.now) }
+    requires guard { reader_of guard.now ≡ reader_at world.old (index_of writer.now) }
+    requires guarded { IsTrue (is_open (place_at world.old (index_of reader.now))) }
+    ensures { IfOk result (λ _. (place : ℕ) × IsEmptyAt world.old.jobs place ×
+        ((new : World T J) → CallsUnder T.holds (index_of reader.now) world.new new → JobStaysUnder new (index_of reader.now) place)) }
+{
+    world.keeps_under_guards();
+    guard.defer_execute(job, &mut world.at(writer))
 }

@@ -2,15 +2,16 @@
 ghost use Rattle.std.specs.Prelude.{◌≡◌, ◌⊎◌, ◌+◌, ◌^◌, ◌<◌, ◌≤◌, ℕ, Contains, IfOk, IsSome, MatchResult, None, Some, length};
 ghost use Rattle.sdd_participants.specs.EpochState.{CanNest};
 ghost use Rattle.sdd_participants.specs.Slab.{IsEmptyAt, IsFull, entry_at};
+ghost use Rattle.sdd_participants.specs.declared.waiting.LimboEntry.{LimboEntry};
 ghost use Rattle.sdd_participants.specs.declared.waiting.LimboEntry.TheVariants as entry;
 ghost use Rattle.sdd_space.specs.AcceleratedGuards.{HavePassed};
 ghost use Rattle.sdd_space.specs.Guard.{reader_of};
 ghost use Rattle.sdd_space.specs.Owned.{slot_of, slots_home};
-ghost use Rattle.sdd_space.specs.ReclaimBound.{Waits, accelerated_guard, four_guards};
+ghost use Rattle.sdd_space.specs.ReclaimBound.{WaitsWith, IsCleared, accelerated_guard, four_guards};
 ghost use Rattle.sdd_space.specs.WorkingGuards.{WorkingGuardsReclaim};
 ghost use Rattle.sdd_space.specs.CallerId.{IsSeated, IsExact};
 ghost use Rattle.sdd_space.specs.WorldChanges.{made, opened, retired, deferred, reclaims};
-ghost use Rattle.sdd_space.specs.World.{World, IsPlaceOf, standing_at, value_at};
+ghost use Rattle.sdd_space.specs.World.{World, IsPlaceOf, value_at};
 ghost use Rattle.sdd_space.specs.WorldInvariant.{taken, times_deferred};
 ghost use Rattle.sdd_world.specs.Place.{index_of};
 ghost use Rattle.sdd_domain.specs.Domain.{limits_of};
@@ -89,7 +90,7 @@ pub fn first_item(domain: &Domain<u64>) -> Result<u64, Refused>
     }
 }
 
-/// Four accelerated guards of the only participant of a domain, one after another: what waited is reclaimed.
+/// Four accelerated guards of the only participant of a domain, one after another: what waited is reclaimed, and jobs that waited ran.
 pub fn four_guards<T: Item<T>>(local: &mut Local<'_, T>)
     requires seated { IsSeated (seat_of local.old) }
     requires lone { IsLone local.old.member }
@@ -97,7 +98,7 @@ pub fn four_guards<T: Item<T>>(local: &mut Local<'_, T>)
     requires nesting { 0 < local.old.member.limits.nesting }
     requires early { local.old.member.known + 4 ≤ 2 ^ 64 }
     ensures passed { world_of local.new ≡ four_guards T.holds (world_of local.old) local.old.member.place }
-    ensures reclaimed { (slot seen : ℕ) → Waits (world_of local.old) local.old.member.place slot seen → standing_at (world_of local.new) slot ≡ None }
+    ensures reclaimed { (what : LimboEntry) (seen : ℕ) → WaitsWith (world_of local.old) local.old.member.place what seen → IsCleared (world_of local.new) what }
 {
     local.is_whole();
     local.four_guards_reclaim();

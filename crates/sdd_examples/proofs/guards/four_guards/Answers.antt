@@ -14,4 +14,4 @@ returns-clause-passed g c =
 pub returns-clause-reclaimed : goal.returns-clause-reclaimed
 returns-clause-reclaimed g c =
     rw (c.accelerated_guard-4.ensures.passed, c.accelerated_guard-3.ensures.passed, c.accelerated_guard-2.ensures.passed, c.accelerated_guard.ensures.passed)
-    (λ k seen h. (c.four_guards_reclaim.ensures (index_of c.args.place.now) k seen c.requires.place c.requires.quiet c.requires.early h).0)
+    (λ what seen h. c.four_guards_reclaim.ensures (index_of c.args.place.now) what seen c.requires.place c.requires.quiet c.requires.early h)

@@ -1,7 +1,7 @@
-use Rattle.std.proofs.Common.{◌≡◌, None, sym, ap, ◌∙◌, subst}
-use Rattle.sdd_space.specs.ReclaimBound.{accelerated_guard}
+use Rattle.std.proofs.Common.{sym, ap, ◌∙◌, subst}
+use Rattle.sdd_space.specs.ReclaimBound.{IsCleared, accelerated_guard}
 use Rattle.sdd_space.specs.CallerId.{CallerId}
-use Rattle.sdd_space.specs.World.{World, standing_at}
+use Rattle.sdd_space.specs.World.{World}
 use Rattle.sdd_examples.proofs.lone.four_guards.Goals as goal
 
 pub returns-clause-passed : goal.returns-clause-passed
@@ -14,7 +14,7 @@ returns-clause-passed g c =
     ∙ (λ d. accelerated_guard g.T.Item.holds (c.goes_on.ensures.passed d) (one d))) d) (two d))) d) (three d))
 
 pub returns-clause-reclaimed : goal.returns-clause-reclaimed
-returns-clause-reclaimed g c slot seen waits = let local = c.args.local.now in
-    subst (λ (w : World g.row.T.Denot). standing_at w slot ≡ None) (sym (returns-clause-passed g c))
-    (c.four_guards_reclaim.ensures c.requires.lone local.member.place slot seen c.is_whole.ensures.place (c.is_whole.ensures.shut.0 c.requires.shut)
-    c.requires.early waits).0
+returns-clause-reclaimed g c what seen waits = let local = c.args.local.now in
+    subst (λ (w : World g.row.T.Denot). IsCleared w what) (sym (returns-clause-passed g c))
+    (c.four_guards_reclaim.ensures c.requires.lone local.member.place what seen c.is_whole.ensures.place (c.is_whole.ensures.shut.0 c.requires.shut)
+    c.requires.early waits)
