@@ -8,6 +8,8 @@ mod collectors;
 #[cfg(test)]
 mod example;
 #[cfg(test)]
+mod full_tables;
+#[cfg(test)]
 mod giving_up;
 #[cfg(test)]
 mod in_place;

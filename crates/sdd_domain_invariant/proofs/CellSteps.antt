@@ -376,8 +376,12 @@ module _ (slots id : ℕ) (me : SeatState) (live : HasPlace me.0.epoch) (rests :
           cells_swapped w same more j u there_is has = cells_then w (λ d. let a = total_set (rights_at d) s.views id v w at in
               let e = ap (λ (c : CellsView). total (is_right d) c.rights) same in let o = h.kinds.cells.single d in omega arith)
               (λ k x r e mine. let old : (k' : ℕ) × (x' : View) × (get_elem? s.views k' ≡ some x') × HasRight x' r = ⊎_elim
-              (λ (t : (k ≡ id) × (w ≡ x)). (id, v, at,
-              (mine.0, ap (λ (c : CellsView). get_elem? c.rights mine.0) (sym same) ∙ (ap (λ (z : View). get_elem? z.cells.rights mine.0) t.1 ∙ mine.1))))
+              (λ (t : (k ≡ id) × (w ≡ x)). (
+                id,
+                v,
+                at,
+                (mine.0, ap (λ (c : CellsView). get_elem? c.rights mine.0) (sym same) ∙ (ap (λ (z : View). get_elem? z.cells.rights mine.0) t.1 ∙ mine.1)),
+              ))
               (λ (t : (k ≢ id) × (get_elem? s.views k ≡ some x)). (k, x, t.1, mine)) (at_set s.views id k w x e) in
               dite (ℕ_discrete r.cell cell)
               (λ is. let one = one_right sizes s.words s.views h.kinds.cells j old.0 u old.1 (record { cell = cell; kind = cell_kind shared }) r there_is old.2 has
@@ -418,11 +422,17 @@ module _ (slots id : ℕ) (me : SeatState) (live : HasPlace me.0.epoch) (rests :
           let value : Gv = shown_value s h at y owns loose undrawn shared given slot one kind in
           let base : View = brought_out cell y slot shared value v in let seat : SeatState = (base, me.1) in
           follows_one s h at y owns loose undrawn shared given slot one kind told rights (cells base refl)
-          (tells (base, me.1) ((λ none. absurd (let c : ◌≡◌ {A = List ℕ} (slot ∷ []) [] = sym one ∙ none in cc)),
-          λ other e. let same : slot ≡ other = ap (first_of slot) (sym one ∙ e) in
-          subst (λ (k : ℕ). (g : Gv) × (k < sizes.slots) × IsValueCode g × (seat ≡ (brought_out cell y k shared g v, me.1)) × KnewStored k shared g v) same
-          (value, low s h at y owns loose undrawn shared given slot one kind, is_value s h at y owns loose undrawn shared given slot one kind, refl,
-          knew_stored s h at y owns loose undrawn shared given slot one kind))))
+          (tells (base, me.1) (
+            (λ none. absurd (let c : ◌≡◌ {A = List ℕ} (slot ∷ []) [] = sym one ∙ none in cc)),
+            λ other e. let same : slot ≡ other = ap (first_of slot) (sym one ∙ e) in
+                subst (λ (k : ℕ). (g : Gv) × (k < sizes.slots) × IsValueCode g × (seat ≡ (brought_out cell y k shared g v, me.1)) × KnewStored k shared g v) same (
+                  value,
+                  low s h at y owns loose undrawn shared given slot one kind,
+                  is_value s h at y owns loose undrawn shared given slot one kind,
+                  refl,
+                  knew_stored s h at y owns loose undrawn shared given slot one kind,
+                ),
+          )))
           (λ (none : held_slots x ≡ []). let base : View = put_in cell y v in
           follows_none s h at y owns loose undrawn shared given told rights none (cells base refl)
           (tells (base, me.1) ((λ _. refl), λ slot one. absurd (let c : ◌≡◌ {A = List ℕ} (slot ∷ []) [] = sym one ∙ none in cc)))) (held_which x)
@@ -501,8 +511,11 @@ module _ (slots id : ℕ) (me : SeatState) (live : HasPlace me.0.epoch) (rests :
             h.kinds.cells.taken k' x' r e' has,
           ) in ⊎_elim
           (λ (b : (k ≡ id) × (now ≡ u)). ⊎_elim
-          (λ (first : right ≡ r). inr (ap (λ (q : CellRight). q.cell) (sym first), more,
-          subst (λ (q : CellRight). IsWordOf sizes s.words q.kind y) first (fits s.words (told_kind s h at y owns loose undrawn shared given))))
+          (λ (first : right ≡ r). inr (
+            ap (λ (q : CellRight). q.cell) (sym first),
+            more,
+            subst (λ (q : CellRight). IsWordOf sizes s.words q.kind y) first (fits s.words (told_kind s h at y owns loose undrawn shared given)),
+          ))
           (λ (has : HasRight v r). inl (old id v at has))
           (first_or right v.cells.rights r mine.0 (ap (λ (q : View). get_elem? q.cells.rights mine.0) b.1 ∙ mine.1)))
           (λ (b : (k ≢ id) × (get_elem? s.views k ≡ some u)). inl (old k u b.1 mine)) (at_set s.views id k now u e)))

@@ -47,17 +47,17 @@ bare_unpledged vs k at i q B e = let same : (x : View) → get_elem? vs q.seat �
     (λ (o : IsOfCell vs q). absurd (no_right o.owner (ap (λ (x : View). x.cells.rights) (same o.owner o.there)) o.right o.has)) B.beside
 
 module _ (sizes : Sizes) (ws : List ℕ) (vs : List View) (part : CellsInvariant sizes ws vs) (id : ℕ) (v : View) (at : get_elem? vs id ≡ some v) (c : CellsView)
-    where
-  -- the rights of one change, to as many at most as there were of each, and each is taken
-  rights_set : ((d : ℕ) → total (rights_at d) vs + total (is_right d) c.rights ≤ 1 + rights_at d v)
-      → ((m : ℕ) (r : CellRight) → get_elem? c.rights m ≡ some r → IsTaken sizes ws r) → CellsInvariant sizes ws (set vs id (record v { cells = c }))
-  rights_set few taken = let w : View = record v { cells = c } in record {
-    inside = part.inside;
-    single = λ d. let a = total_set (rights_at d) vs id v w at in let f = few d in omega arith;
-    taken = λ j u r e has. ⊎_elim
-        (λ (t : (j ≡ id) × (w ≡ u)). taken has.0 r (ap (λ (x : View). get_elem? x.cells.rights has.0) t.1 ∙ has.1))
-        (λ (t : (j ≢ id) × (get_elem? vs j ≡ some u)). part.taken j u r t.1 has) (at_set vs id j w u e);
-  }
+  where
+    -- the rights of one change, to as many at most as there were of each, and each is taken
+    rights_set : ((d : ℕ) → total (rights_at d) vs + total (is_right d) c.rights ≤ 1 + rights_at d v)
+        → ((m : ℕ) (r : CellRight) → get_elem? c.rights m ≡ some r → IsTaken sizes ws r) → CellsInvariant sizes ws (set vs id (record v { cells = c }))
+    rights_set few taken = let w : View = record v { cells = c } in record {
+      inside = part.inside;
+      single = λ d. let a = total_set (rights_at d) vs id v w at in let f = few d in omega arith;
+      taken = λ j u r e has. ⊎_elim
+          (λ (t : (j ≡ id) × (w ≡ u)). taken has.0 r (ap (λ (x : View). get_elem? x.cells.rights has.0) t.1 ∙ has.1))
+          (λ (t : (j ≢ id) × (get_elem? vs j ≡ some u)). part.taken j u r t.1 has) (at_set vs id j w u e);
+    }
 
 module _ (γ : ℕ) (sizes : Sizes) where
   -- the rights of one change

@@ -30,9 +30,9 @@ pub trait Plays {
 
 /// What was answered, what was counted before and after the close, and what the jobs added.
 #[derive(Drop)]
-struct Outcome {
-    answers: Vec<Answer>,
-    before: Tally,
+pub struct Outcome {
+    pub answers: Vec<Answer>,
+    pub before: Tally,
     after: Tally,
     total: u64,
 }
@@ -81,16 +81,12 @@ fn by_a_lone_participant<P: Plays, R: Abort + AllocGlobal>(
 }
 
 /// What both answered, and counted.
-pub fn compared<P: Plays, R: Abort + AllocGlobal>(
-    rt: &R,
-    plays: &P,
-    limits: Limits,
-) -> Vec<Answer> {
+pub fn compared<P: Plays, R: Abort + AllocGlobal>(rt: &R, plays: &P, limits: Limits) -> Outcome {
     let one = by_a_turn(rt, plays, limits);
     let other = by_a_lone_participant(rt, plays, limits);
     assert_eq!(rt; one.answers, other.answers);
     assert_eq!(rt; one.before, other.before);
     assert_eq!(rt; one.after, other.after);
     assert_eq!(rt; one.total, other.total);
-    one.answers
+    one
 }

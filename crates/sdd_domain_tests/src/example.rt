@@ -12,6 +12,7 @@ use crate::owners::{
 use crate::steps::ONE_SLOT;
 use crate::with_jobs::{Adds, Total, adding};
 use sdd_core::{Limits, Refused};
+use sdd_participants::Tally;
 use sdd_space::{
     Deferrals, Guard, Guards, InPlaceItems, Items, Look, Owned, RawItems, RawPtr, SharedOwners,
 };
@@ -83,11 +84,14 @@ fn goes_out<S: Look<u64> + Items<u64> + RawItems<u64> + Guards<u64>>(
     guard.close(s);
     match Owned::new(9, s) {
         Ok(_owner) => panic!(rt; "no slot is free"),
-        Err((_value, refused)) => note(rt, answers, Answer::Refused(refused)),
+        Err((value, refused)) => {
+            note(rt, answers, Answer::Number(value));
+            note(rt, answers, Answer::Refused(refused));
+        }
     }
 }
 
-/// Defers a job that adds this.
+/// Defers a job that adds this. Where it is refused it comes back.
 fn deferred<S: Deferrals<u64, Job = Adds>>(
     rt: &impl Abort,
     s: &mut S,
@@ -101,7 +105,10 @@ fn deferred<S: Deferrals<u64, Job = Adds>>(
 {
     match guard.defer_execute(adding(rt, total, amount), s) {
         Ok(()) => Answer::Done,
-        Err((_job, refused)) => Answer::Refused(refused),
+        Err((job, refused)) => {
+            assert!(rt; job.amount() == amount);
+            Answer::Refused(refused)
+        }
     }
 }
 
@@ -141,7 +148,7 @@ fn goes_on<S: Guards<u64>>(rt: &impl Abort, s: &mut S, total: &Total, answers: &
 }
 
 /// What is answered, in that order.
-const ANSWERS: [Answer; 28] = [
+const ANSWERS: [Answer; 29] = [
     Answer::Number(38),
     Answer::Refused(Refused::NotAlone),
     Answer::Number(39),
@@ -151,6 +158,7 @@ const ANSWERS: [Answer; 28] = [
     Answer::Number(7),
     Answer::Nothing,
     Answer::Number(7),
+    Answer::Number(9),
     Answer::Refused(Refused::NoSlot),
     Answer::Done,
     Answer::Refused(Refused::NoJob),
@@ -194,6 +202,12 @@ impl Plays for Example {
 
 #[test]
 fn a_lone_participant_answers_as_a_turn_does(rt: HostRuntime) {
-    let answers = compared(&rt, &Example, ONE_SLOT_AND_ONE_JOB);
-    assert_eq!(rt; answers.as_slice(), ANSWERS.as_slice());
+    let outcome = compared(&rt, &Example, ONE_SLOT_AND_ONE_JOB);
+    assert_eq!(rt; outcome.answers.as_slice(), ANSWERS.as_slice());
+    let counted = Tally {
+        made: 2,
+        reclaimed: 1,
+        in_place: 1,
+    };
+    assert_eq!(rt; outcome.before, counted);
 }

@@ -339,7 +339,7 @@ fn has_met(answers: &[Answer], refused: Refused) -> bool {
 /// Plays lists from this seed on, and answers how many of them met each refusal.
 fn lists_that_meet(rt: &(impl Abort + AllocGlobal), refusals: &[Refused; 5], met: &mut [u64; 5]) {
     for seed in 0..LISTS {
-        let answers = compared(rt, &Drawn { seed }, FEW);
+        let answers = compared(rt, &Drawn { seed }, FEW).answers;
         for place in 0..5usize {
             if has_met(&answers, refusals[place]) {
                 met[place] = met[place].saturating_add(1);

@@ -24,6 +24,13 @@ pub struct Adds {
     amount: u64,
 }
 
+impl Adds {
+    /// What it adds.
+    pub fn amount(&self) -> u64 {
+        self.amount
+    }
+}
+
 impl Job for Adds {
     fn run(&mut self) {
         self.total.fetch_add(self.amount, Ordering::SeqCst);

@@ -195,8 +195,11 @@ unfolding held_slots
 held_which x = let y : ℕ = x % 2 ^ 27 in ⊎_elim
     (λ (t : (leb unowned y ≡ true) × (unowned ≤ y)). inr (holds_none x (inr t.1)))
     (λ (t : (leb unowned y ≡ false) × (y < unowned)). dite (ℕ_discrete (y / 4) 0) (λ e. inr (holds_none x (inl (omega arith))))
-    (λ ne. inl (y / 4 - 1, ap (λ (b : Bool). if b then [] else (if eqb (y / 4) 0 then [] else (y / 4 - 1) ∷ [])) t.0
-    ∙ ap (λ (b : Bool). if b then [] else (y / 4 - 1) ∷ []) (ne_eqb (y / 4) 0 ne)))) (leb_tells unowned y)
+    (λ ne. inl (
+      y / 4 - 1,
+      ap (λ (b : Bool). if b then [] else (if eqb (y / 4) 0 then [] else (y / 4 - 1) ∷ [])) t.0
+          ∙ ap (λ (b : Bool). if b then [] else (y / 4 - 1) ∷ []) (ne_eqb (y / 4) 0 ne),
+    ))) (leb_tells unowned y)
 
 -- it owns one slot, or none
 pub which : (x : ℕ) → ((i : ℕ) × ((a : ℕ) → names a x ≡ is a i)) ⊎ ((a : ℕ) → names a x ≡ 0)

@@ -90,3 +90,19 @@ fn at_the_last_count_an_item_stays_until_the_world_is_closed(rt: HostRuntime) {
     let tally = closed(&rt, world);
     assert_eq!(rt; (tally.made, tally.reclaimed, tally.in_place), (1, 1, 0));
 }
+
+/// The first guard finds another count than the 0 of a participant that is new, so that what was retired before it goes at the third.
+#[test]
+fn a_world_that_begins_at_a_later_count_reclaims_at_the_third_guard(rt: HostRuntime) {
+    for (count, table) in [
+        (100, [(36, 0), (37, 0), (38, 1)]),
+        (u64::MAX - 2, [(61, 0), (62, 0), (63, 1)]),
+    ] {
+        let mut world: World<u64> = new_world(&rt, AMPLE, count);
+        let place = joined(&rt, &mut world);
+        let owner = made(&rt, &mut world, &place, 7);
+        retire(&mut world, &place, owner);
+        shows(&rt, &mut world, &place, table.as_slice());
+        closed(&rt, world);
+    }
+}

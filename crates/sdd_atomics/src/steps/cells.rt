@@ -17,8 +17,8 @@ ghost use Rattle.sdd_atomics.specs.DomainSeat.{view, epoch, slots, Taught, Moved
 
 use crate::domain_table::{DomainSeat, DomainTable};
 use crate::plays::{
-    ClaimForOwned, ClaimForShared, CutRight, ExchangeCell, FreeCell, JoinRight, LearnCell, LookIn, SeeIn,
-    SwapCell,
+    ClaimForOwned, ClaimForShared, CutRight, ExchangeCell, FreeCell, JoinRight, LearnCell, LookIn,
+    SeeIn, SwapCell,
 };
 use sdd_witness::{CompareExchange, Swap, Witness, part, step_beside};
 use std::marker::PhantomData;
@@ -80,19 +80,15 @@ pub fn claim_cell(
     ensures { Moved (ClaimsCell word (cell_kind shared) cell) token.old result token.new }
 {
     if shared {
-        board.table.shared.compare_exchange::<ClaimForShared>(
-            token,
-            board.cell_word(cell),
-            FREE_CELL,
-            word,
-        )
+        board
+            .table
+            .shared
+            .compare_exchange::<ClaimForShared>(token, board.cell_word(cell), FREE_CELL, word)
     } else {
-        board.table.shared.compare_exchange::<ClaimForOwned>(
-            token,
-            board.cell_word(cell),
-            FREE_CELL,
-            word,
-        )
+        board
+            .table
+            .shared
+            .compare_exchange::<ClaimForOwned>(token, board.cell_word(cell), FREE_CELL, word)
     }
 }
 

@@ -28,8 +28,8 @@ use crate::clones::AddOwner;
 pub use crate::clones::MOST_SHARED;
 use crate::domain_table::{DomainSeat, DomainTable};
 use crate::plays::{
-    AddSeen, Claim, CutOwner, Discard, DrawUnit, EnterUnit, FillSharedSlot, FillSlot, GiveBack, Hold,
-    JoinOwner, LearnOwned, Leave, LetGo, LookAtGuard, LookAtSlot, LookForValue, ReleaseHold,
+    AddSeen, Claim, CutOwner, Discard, DrawUnit, EnterUnit, FillSharedSlot, FillSlot, GiveBack,
+    Hold, JoinOwner, LearnOwned, Leave, LetGo, LookAtGuard, LookAtSlot, LookForValue, ReleaseHold,
     Retire, SeeOwned, ShareAgain, TakeHeld, TakeOut, TryHold,
 };
 use crate::words::state_word;

@@ -34,6 +34,7 @@ fn each_script_is_answered(rt: HostRuntime) {
         (SHORTEST_WAY, Ended::Played, ITS_ANSWERS),
         ("", Ended::Played, ""),
         ("register", Ended::Played, "p0\n"),
+        ("p7 open", Ended::Played, "invalid\n"),
         (
             "register\np0 open\np0 op\n",
             Ended::NotACall(3),

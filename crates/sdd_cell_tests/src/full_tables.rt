@@ -1,0 +1,101 @@
+//! A world whose one cell is taken: what was to lie in another one comes back, and nothing is made for it.
+ghost use Rattle.std.specs.Prelude.{◌≡◌};
+ghost use Rattle.sdd_space.specs.CallerId.{IsSeated};
+
+use crate::example::{AMPLE, Example, Setting};
+use crate::steps::{owned, shared};
+use sdd_core::{Limits, Refused};
+use sdd_space::{
+    AtomicOwned, AtomicRaw, AtomicShared, Cells, Items, Look, PrivateCollector, RawCells, Space,
+};
+use std::process::Abort;
+
+/// Values come back that were to lie in a cell.
+fn values_come_back<S: Cells<u64>>(rt: &impl Abort, s: &mut S)
+    requires seated { IsSeated (S.seat s.old) }
+    ensures seat { S.seat s.new ≡ S.seat s.old }
+{
+    match AtomicOwned::new(15, s) {
+        Ok(_cell) => panic!(rt; "no cell is free"),
+        Err(back) => assert_eq!(rt; back, (15, Refused::NoCell)),
+    }
+    match AtomicShared::new(16, s) {
+        Ok(_cell) => panic!(rt; "no cell is free"),
+        Err(back) => assert_eq!(rt; back, (16, Refused::NoCell)),
+    }
+}
+
+/// Owners come back that were to lie in a cell.
+fn owners_come_back<S: Look<u64> + Items<u64> + Cells<u64>>(rt: &impl Abort, s: &mut S)
+    requires seated { IsSeated (S.seat s.old) }
+    ensures seat { S.seat s.new ≡ S.seat s.old }
+{
+    let owner = owned::made(rt, s, 17);
+    match AtomicOwned::from(owner, s) {
+        Ok(_cell) => panic!(rt; "no cell is free"),
+        Err((owner, refused)) => {
+            assert_eq!(rt; (*owner.get(s), refused), (17, Refused::NoCell));
+            owner.retire(s);
+        }
+    }
+    let owner = shared::made(rt, s, 18);
+    match AtomicShared::from(owner, s) {
+        Ok(_cell) => panic!(rt; "no cell is free"),
+        Err((owner, refused)) => {
+            assert_eq!(rt; (*owner.get(s), refused), (18, Refused::NoCell));
+            assert!(rt; owner.release(s));
+        }
+    }
+}
+
+/// Cells and collectors that hold nothing are refused.
+fn none_is_made<S: Cells<u64> + RawCells<u64>>(rt: &impl Abort, s: &mut S)
+    requires seated { IsSeated (S.seat s.old) }
+    ensures seat { S.seat s.new ≡ S.seat s.old }
+{
+    match AtomicOwned::<u64>::null(s) {
+        Ok(_cell) => panic!(rt; "no cell is free"),
+        Err(refused) => assert_eq!(rt; refused, Refused::NoCell),
+    }
+    match AtomicShared::<u64>::null(s) {
+        Ok(_cell) => panic!(rt; "no cell is free"),
+        Err(refused) => assert_eq!(rt; refused, Refused::NoCell),
+    }
+    match AtomicRaw::<u64>::null(s) {
+        Ok(_cell) => panic!(rt; "no cell is free"),
+        Err(refused) => assert_eq!(rt; refused, Refused::NoCell),
+    }
+    match PrivateCollector::<u64>::new(s) {
+        Ok(_collector) => panic!(rt; "no cell is free"),
+        Err(refused) => assert_eq!(rt; refused, Refused::NoCell),
+    }
+}
+
+/// Once the cell is closed another one is made.
+struct OneCell;
+
+impl Example for OneCell {
+    fn run<R: Abort, S: Space<u64>>(rt: &R, s: &mut S) {
+        let cell = owned::cell(rt, s, 14);
+        values_come_back(rt, s);
+        owners_come_back(rt, s);
+        none_is_made(rt, s);
+        owned::close_cell(s, cell);
+        let cell = owned::cell(rt, s, 19);
+        owned::close_cell(s, cell);
+    }
+}
+
+/// Of the four items that there are then each has a slot, so that no value that came back took one.
+#[test]
+fn what_finds_no_cell_comes_back(rt: HostRuntime) {
+    let limits = Limits {
+        slots: 4,
+        cells: 1,
+        ..AMPLE
+    };
+    let mut setting: Setting<u64> = Setting::new(&rt, limits);
+    setting.run::<OneCell>(&rt);
+    assert_eq!(rt; setting.world.tally().made, 4);
+    setting.closed(&rt, 0);
+}
