@@ -1,5 +1,5 @@
 -- What the steps on cells ask for, and what they leave
-use Rattle.std.proofs.Common.{◌≡◌, ◌⊎◌, ℕ, ◌<◌, Bool, true, false, None, List, [], ◌∷◌, eqb, get_or, sym, refl, ap, ◌∙◌, subst, ⊎_elim, arith}
+use Rattle.std.proofs.Common.{◌≡◌, ℕ, ◌<◌, Bool, true, false, None, List, [], ◌∷◌, eqb, get_or, sym, refl, ap, ◌∙◌, subst, ⊎_elim, arith}
 use mathlib.Core.Logic.{dite}
 use native.Mathlib.Decide.{ℕ_discrete}
 use prog.Atomic.{either}
@@ -119,7 +119,9 @@ module _ (γ : ℕ) (sizes : Sizes) (slots id : ℕ) (me : SeatState) (same : me
         a.1,
         a.2,
         a.3,
-        λ other b where_is had. let e = one_kind me.0 cell other shared b mine had in subst (λ (t : Bool). FreesCell t other me (get_or s.words (cell_word me.0.sizes cell) 0) (a.0, carried_after me.1 a.1)) e (a.4 other where_is),
+        λ other b where_is had. let e = one_kind me.0 cell other shared b mine had in
+            subst (λ (t : Bool). FreesCell t other me (get_or s.words (cell_word me.0.sizes cell) 0) (a.0, carried_after me.1 a.1)) e
+            (a.4 other where_is),
       ))
 
 -- beside the right to a cell

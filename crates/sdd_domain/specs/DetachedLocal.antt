@@ -16,8 +16,8 @@ use Rattle.sdd_domain.specs.Receipt.{IsTallied}
 use Rattle.sdd_domain.specs.DomainValues.{sizes_in}
 
 -- on the board of its domain it is as between two calls, with no guard open
-pub record IsDormant {J : Type 0} (limits : Limits) (place : ℕ) (own : Participant) (due : Pending) (known_slots : ℕ) (table : List (Option J)) (tenure : Fraction SectionState) (token : Seat ValueFraction View)
-    (tally : Tally) : Type 0 where
+pub record IsDormant {J : Type 0} (limits : Limits) (place : ℕ) (own : Participant) (due : Pending) (known_slots : ℕ) (table : List (Option J))
+    (tenure : Fraction SectionState) (token : Seat ValueFraction View) (tally : Tally) : Type 0 where
   pub board : DomainTable
   pub sizes : sizes_of board ≡ sizes_in limits
   pub shut : own.guards ≡ 0

@@ -92,7 +92,8 @@ impl<'d, T: Item<T>, J: Job> Model for LocalCore<'d, T, J> {
       jobs = places_of l.jobs;
     } };
 
-    ghost invariant = { λ l. IsBetweenCalls l.domain.now.board l.place l.own l.token × (l.nesting ≡ l.domain.now.limits.nesting) × IsTenureOf l.own l.tenure × AreLentTo l.tenure.round l.token.me.1
+    ghost invariant = { λ l. IsBetweenCalls l.domain.now.board l.place l.own l.token × (l.nesting ≡ l.domain.now.limits.nesting)
+        × IsTenureOf l.own l.tenure × AreLentTo l.tenure.round l.token.me.1
         × IsReady l.domain.now.board l.own l.due l.known.slots l.jobs l.token.me.0.slots.waits
         × IsTallied 0 l.tally l.token.me.0.stakes.counts };
 }

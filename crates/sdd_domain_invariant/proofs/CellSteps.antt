@@ -1,14 +1,14 @@
 -- The steps on cells keep the whole invariant.
-use Rattle.std.proofs.Common.{◌≡◌, ◌≢◌, ◌⊎◌, inl, inr, ℕ, zero, suc, ◌+◌, ◌<◌, ◌≤◌, Bool, true, false, eqb, List, [], ◌∷◌, length, get_or, set, sym, refl, ap, ◌∙◌, subst, ⊎_elim, arith, length-set, get_or-set_other, get_or-set_same}
+use Rattle.std.proofs.Common.{◌≡◌, ◌≢◌, ◌⊎◌, inl, inr, ℕ, ◌<◌, ◌≤◌, Bool, true, false, eqb, List, [], ◌∷◌, length, get_or, set, sym, refl, ap, ◌∙◌, subst, ⊎_elim, arith, length-set, get_or-set_other, get_or-set_same}
 use Rattle.std.specs.Prelude.{Some, None}
-use mathlib.Core.Option.{none as absent, some, some-injective}
+use mathlib.Core.Option.{none as absent, some}
 use mathlib.Core.Logic.{dite}
 use native.Mathlib.Decide.{ℕ_discrete, dec_lt}
 use lib.ListN.{get_elem?}
 use lib.Seq.{set-get_or}
 use prog.Atomic.{either}
 use base.Stored.{Gv}
-use Rattle.atomic_table.specs.Table.{State, keeps, takes, Allows}
+use Rattle.atomic_table.specs.Table.{State, keeps, takes}
 use Rattle.atomic_table.proofs.Lists.{at_map, at_set, set_again, exchanged}
 use Rattle.sdd_witness.specs.Steps.{AllowsBeside}
 use Rattle.sdd_word_invariant.proofs.Lone.{finds, finds_word}
@@ -26,29 +26,27 @@ use Rattle.sdd_views.specs.declared.View.{View}
 use Rattle.sdd_views.specs.declared.Sizes.{Sizes}
 use Rattle.sdd_views.specs.Views.{no_rights, owner_of, right_to}
 use Rattle.sdd_word_invariant.specs.Words.{cell_word, slot_word, words_behind}
-use Rattle.sdd_word_invariant.specs.Codes.{codes, alive, waiting, full, counted, names, held_slots, raw_word}
-use Rattle.sdd_word_invariant.specs.Epoch.{HasPlace, IsOpen, IsLone}
+use Rattle.sdd_word_invariant.specs.Codes.{alive, full, counted, names, held_slots}
+use Rattle.sdd_word_invariant.specs.Epoch.{HasPlace, IsOpen}
 use Rattle.sdd_word_invariant.specs.Sums.{times, total}
-use Rattle.sdd_word_invariant.specs.Slots.{slot_at, items_at, Owns, Sees, Holds}
-use Rattle.sdd_word_invariant.specs.EpochSteps.{Steps}
-use Rattle.sdd_word_invariant.specs.CellSteps.{KnewCell, coming, cell_noted, SwapsCell, ExchangesCell, LooksAtCell, SeesCell, AtCell}
+use Rattle.sdd_word_invariant.specs.Slots.{slot_at, items_at, Owns}
+use Rattle.sdd_word_invariant.specs.CellSteps.{coming, cell_noted, SwapsCell, ExchangesCell, LooksAtCell, SeesCell, AtCell}
 use Rattle.sdd_word_invariant.specs.WordInvariant.{epoch_of}
 use Rattle.sdd_word_invariant.proofs.Codes.{sound, counts_or_not, held_in, held_which, holds_none}
 use Rattle.sdd_word_invariant.proofs.CellSteps as words
-use Rattle.sdd_word_invariant.proofs.SlotWords.{owner_in, owners_in}
 use Rattle.sdd_word_invariant.proofs.Frame.{each_set}
 use Rattle.sdd_word_invariant.proofs.Sums.{is_same, is_other, total_set, total_has, total_two}
-use Rattle.sdd_domain_invariant.specs.FractionsAtHome.{stake_at, away, full_at, Has, Moves, SeesFrom, LiesAt, FractionsInvariant}
+use Rattle.sdd_domain_invariant.specs.FractionsAtHome.{stake_at, full_at, Has, Moves, FractionsInvariant}
 use Rattle.sdd_domain_invariant.specs.BankInvariant.{one_where}
 use Rattle.sdd_domain_invariant.specs.CellsInvariant.{cell_at, IsInCell, is_right, rights_at, HasRight, IsWordOf, IsTaken, CellsInvariant}
 use Rattle.sdd_domain_invariant.specs.Records.{IsIn, IsKnown, IsTelling}
-use Rattle.sdd_domain_invariant.specs.FilledInvariant.{newest, HasRecord, Tells}
+use Rattle.sdd_domain_invariant.specs.FilledInvariant.{newest, HasRecord}
 use Rattle.sdd_domain_invariant.specs.LastFractions.{IsRaw, IsStored, LastIs}
 use Rattle.sdd_domain_invariant.specs.PledgesInvariant.{IsOfOwner, IsOfCell}
 use Rattle.sdd_domain_invariant.specs.KindsInvariant.{KnowsKinds, KindsInvariant}
 use Rattle.sdd_domain_invariant.specs.DomainInvariant.{DomainInvariant}
 use Rattle.sdd_domain_invariant.specs.FractionSteps.{SeatState, IsValue, SeesOwned, sighting}
-use Rattle.sdd_domain_invariant.specs.CellSteps.{put_in, brought_out, gaining, rightless, KnewStored, BringsOut, SwapsOne, ExchangesOne, ClaimsCell, FreesCell, LooksInCell, SeesInCell, LearnsCell, OfCell}
+use Rattle.sdd_domain_invariant.specs.CellSteps.{put_in, brought_out, KnewStored, BringsOut, SwapsOne, ExchangesOne, ClaimsCell, FreesCell, LooksInCell, SeesInCell, LearnsCell, OfCell}
 use Rattle.sdd_domain_invariant.proofs.Part.{none_out, only_seen, one_taken}
 use Rattle.sdd_domain_invariant.proofs.Part as part
 use Rattle.sdd_domain_invariant.proofs.Banks as banks
@@ -56,10 +54,10 @@ use Rattle.sdd_domain_invariant.proofs.Cells.{in_cell_alive, in_cell_beside, one
 use Rattle.sdd_domain_invariant.proofs.Counts.{as_full, ended_spared, uncounted}
 use Rattle.sdd_domain_invariant.proofs.Records.{in_head, in_tail, in_either, in_none, known_by, told_seen}
 use Rattle.sdd_domain_invariant.proofs.Records as records
-use Rattle.sdd_domain_invariant.proofs.Fillings.{has_none, filled_learned, filled_after}
-use Rattle.sdd_domain_invariant.proofs.Telling.{none_moved, one_view}
+use Rattle.sdd_domain_invariant.proofs.Fillings.{has_none, filled_learned}
+use Rattle.sdd_domain_invariant.proofs.Telling.{none_moved}
 use Rattle.sdd_domain_invariant.proofs.Lasts.{AllKnow, stored_same, lasts_out, lasts_fewer}
-use Rattle.sdd_domain_invariant.proofs.Lift.{Keeps, Follows, IsCalm, keeps_ended, lift_homes, lift_calm}
+use Rattle.sdd_domain_invariant.proofs.Lift.{Keeps, Follows, keeps_ended, lift_homes}
 use Rattle.sdd_domain_invariant.proofs.KindSteps.{has_first, knows_still, same_within, bound_kept, pledges_spent, no_participants}
 use Rattle.sdd_domain_invariant.proofs.KindSteps as kind_steps
 use Rattle.sdd_domain_invariant.proofs.RawSteps as raws

@@ -1,5 +1,5 @@
 -- What cells hold, after one step
-use Rattle.std.proofs.Common.{◌≡◌, ◌≢◌, ◌⊎◌, inl, inr, ℕ, zero, suc, Bool, true, false, ◌+◌, ◌<◌, ◌≤◌, List, [], ◌∷◌, ◌++◌, length, get_or, set, sym, refl, ap, ◌∙◌, subst, ⊎_elim, arith, get_or-set_other}
+use Rattle.std.proofs.Common.{◌≡◌, ◌≢◌, ◌⊎◌, inl, inr, ℕ, zero, suc, Bool, true, false, ◌<◌, List, [], ◌∷◌, ◌++◌, get_or, set, sym, refl, ap, ◌∙◌, ⊎_elim, arith, get_or-set_other}
 use mathlib.Core.Logic.{dite}
 use mathlib.Core.Option.{some, some-injective, some-ne-none}
 use native.Mathlib.Decide.{ℕ_discrete, dec_lt}
@@ -16,7 +16,7 @@ use Rattle.sdd_word_invariant.specs.Codes.{codes, alive, counted, names}
 use Rattle.sdd_word_invariant.specs.Slots.{slot_at, owners_at, SlotsInvariant}
 use Rattle.sdd_word_invariant.specs.Sums.{total}
 use Rattle.sdd_word_invariant.proofs.Codes.{sound}
-use Rattle.sdd_word_invariant.proofs.Frame.{each_set, each_snoc}
+use Rattle.sdd_word_invariant.proofs.Frame.{each_snoc}
 use Rattle.sdd_word_invariant.proofs.SlotWords.{named_in}
 use Rattle.sdd_word_invariant.proofs.Sums.{is_same, is_other, total_set, total_snoc, total_has, total_two, total_some, span_has}
 use Rattle.atomic_table.proofs.Lists.{at_set}

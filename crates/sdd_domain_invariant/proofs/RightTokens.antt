@@ -1,10 +1,8 @@
 -- The right to a cell goes to a token of its own, and comes back.
-use Rattle.std.proofs.Common.{◌≡◌, ◌≢◌, ◌⊎◌, inl, inr, ℕ, zero, suc, ◌+◌, ◌<◌, ◌≤◌, List, [], ◌∷◌, ◌++◌, length, set, sym, refl, ap, ◌∙◌, subst, ⊎_elim, arith, length-set}
+use Rattle.std.proofs.Common.{◌≡◌, ◌≢◌, inl, inr, ℕ, ◌+◌, ◌<◌, ◌≤◌, List, [], ◌∷◌, ◌++◌, length, set, sym, refl, ap, ◌∙◌, subst, ⊎_elim, arith, length-set}
 use Rattle.std.proofs.lemmas.List.{set_comm}
 use Rattle.std.proofs.Math.Seq.{set-append_seam}
 use mathlib.Core.Option.{some, some-injective}
-use mathlib.Core.Logic.{dite}
-use native.Mathlib.Decide.{ℕ_discrete}
 use lib.ListN.{get_elem?}
 use Rattle.atomic_table.specs.Table.{State, Splits}
 use Rattle.atomic_table.proofs.Lists.{at_map, at_set, at_longer, at_last, set_else}
@@ -22,7 +20,7 @@ use Rattle.sdd_word_invariant.specs.WordInvariant.{epoch_of}
 use Rattle.sdd_word_invariant.proofs.Frame.{each_set}
 use Rattle.sdd_word_invariant.proofs.Lift.{blind_tokens}
 use Rattle.sdd_word_invariant.proofs.Sums.{total_set, total_append}
-use Rattle.sdd_domain_invariant.specs.CellsInvariant.{is_right, rights_at, HasRight, IsTaken, CellsInvariant}
+use Rattle.sdd_domain_invariant.specs.CellsInvariant.{is_right, rights_at, IsTaken, CellsInvariant}
 use Rattle.sdd_domain_invariant.specs.CellSteps.{rightless, rights_of, righted}
 use Rattle.sdd_domain_invariant.specs.DomainInvariant.{DomainInvariant}
 use Rattle.sdd_domain_invariant.specs.KindsInvariant.{KnowsKinds}

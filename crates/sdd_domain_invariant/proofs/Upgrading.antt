@@ -1,5 +1,5 @@
 -- An owner comes of an item that a guard sees, of whose owners there are several: this step keeps the whole invariant.
-use Rattle.std.proofs.Common.{◌≡◌, ◌≢◌, ◌⊎◌, inl, inr, ℕ, suc, ◌+◌, ◌^◌, ◌<◌, ◌≤◌, true, eqb, List, [], ◌∷◌, get_or, set, sym, refl, ap, ◌∙◌, subst, ⊎_elim, arith}
+use Rattle.std.proofs.Common.{◌≡◌, ◌⊎◌, inl, inr, ℕ, ◌+◌, ◌^◌, ◌<◌, true, eqb, get_or, set, sym, refl, ap, ◌∙◌, subst, ⊎_elim, arith}
 use Rattle.std.specs.Prelude.{Some, None}
 use mathlib.Core.Option.{some}
 use mathlib.Core.Logic.{dite}
@@ -16,10 +16,9 @@ use Rattle.sdd_views.specs.declared.Sizes.{Sizes}
 use Rattle.sdd_word_invariant.specs.Words.{first_cell, slot_word}
 use Rattle.sdd_word_invariant.specs.Codes.{alive, full, names, counted as kind_of, shared_base, most_owners}
 use Rattle.sdd_word_invariant.specs.Epoch.{HasPlace}
-use Rattle.sdd_word_invariant.specs.Sums.{times, total}
-use Rattle.sdd_word_invariant.specs.Slots.{slot_at, owners_at, Owns, Sees, Holds}
+use Rattle.sdd_word_invariant.specs.Sums.{total}
+use Rattle.sdd_word_invariant.specs.Slots.{slot_at, owners_at, Owns, Sees}
 use Rattle.sdd_word_invariant.specs.SlotSteps.{one_more, AddsBeside, AtSlot}
-use Rattle.sdd_word_invariant.specs.WordInvariant.{Parts}
 use Rattle.sdd_word_invariant.proofs.Codes.{shared, counted_is, some_left}
 use Rattle.sdd_word_invariant.proofs.SlotSteps.{more_one}
 use Rattle.sdd_word_invariant.proofs.SlotSteps as words

@@ -1,19 +1,18 @@
 -- The steps on cells keep all parts.
-use Rattle.std.proofs.Common.{List, [], ◌∷◌, ◌≡◌, ◌≢◌, ◌⊎◌, None, Some, inl, inr, ℕ, ◌+◌, ◌<◌, eqb, map, get_or, set, sym, refl, ap, ◌∙◌, subst, ⊎_elim, arith, get_or-set_other}
+use Rattle.std.proofs.Common.{List, [], ◌∷◌, ◌≡◌, None, Some, ℕ, ◌<◌, eqb, map, get_or, set, sym, refl, ap, ◌∙◌, subst, ⊎_elim, arith, get_or-set_other}
 use mathlib.Core.Logic.{dite}
 use mathlib.Core.Option.{some}
 use lib.ListN.{get_elem?}
-use native.Mathlib.Decide.{ℕ_discrete, dec_lt}
+use native.Mathlib.Decide.{dec_lt}
 use prog.Atomic.{either}
 use Rattle.atomic_table.proofs.Lists.{set_here, exchanged}
-use Rattle.sdd_views.specs.declared.EpochView.{EpochView}
 use Rattle.sdd_views.specs.declared.CellsView.{CellsView}
 use Rattle.sdd_views.specs.declared.View.{View}
 use Rattle.sdd_views.specs.declared.Sizes.{Sizes}
 use Rattle.sdd_word_invariant.specs.Words.{cell_word, slot_word}
-use Rattle.sdd_word_invariant.specs.Codes.{codes, names, held_slots}
+use Rattle.sdd_word_invariant.specs.Codes.{codes, held_slots}
 use Rattle.sdd_word_invariant.specs.Epoch.{HasPlace, IsOpen}
-use Rattle.sdd_word_invariant.specs.Slots.{slot_at, owners_at, Holds, Sees, SeenBeforeRetired, SlotsInvariant}
+use Rattle.sdd_word_invariant.specs.Slots.{Sees}
 use Rattle.sdd_word_invariant.specs.Sums.{times}
 use Rattle.sdd_word_invariant.specs.EpochSteps.{Steps}
 use Rattle.sdd_word_invariant.specs.SlotSteps.{seeing}

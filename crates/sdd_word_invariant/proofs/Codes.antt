@@ -1,12 +1,12 @@
 -- The words as they are written are read as the rule asks.
-use Rattle.std.proofs.Common.{◌≡◌, ◌⊎◌, ℕ, suc, List, [], ◌∷◌, if◌then◌else◌, ◌+◌, ◌-◌, ◌*◌, ◌/◌, ◌%◌, ◌^◌, ◌<◌, ◌≤◌, Bool, eqb, leb, true, false, refl, sym, ap, ◌∙◌, inl, inr, ⊎_elim, eq-eqb, ne_eqb, arith}
+use Rattle.std.proofs.Common.{◌≡◌, ◌⊎◌, ℕ, suc, [], ◌∷◌, if◌then◌else◌, ◌+◌, ◌-◌, ◌*◌, ◌/◌, ◌%◌, ◌^◌, ◌<◌, ◌≤◌, Bool, eqb, leb, true, false, refl, sym, ap, ◌∙◌, inl, inr, ⊎_elim, eq-eqb, ne_eqb, arith}
 use mathlib.Core.Logic.{dite}
 use native.Mathlib.Decide.{ℕ_discrete}
 use prog.Atomic.{either}
 use Rattle.std.proofs.lemmas.Bool.{le-leb}
 use Rattle.std.proofs.lemmas.Bool.Decides.{leb_tells}
 use Rattle.sdd_word_invariant.specs.Sums.{is, times}
-use Rattle.sdd_word_invariant.specs.Codes.{IsWordReading, codes, shared_base, free_word, owned_word, raw_word, waiting_word, private_word, emptied_word, unowned, held_slots, holding_word, null_word, kind_alive, kind_waiting, kind_full, kind_valued, kind_emptying, emptying, emptying_word, left_word, alive, waiting, full, valued, counted, waits_for, names, claimed_word, retired_word, held_word, shared_word}
+use Rattle.sdd_word_invariant.specs.Codes.{IsWordReading, codes, shared_base, free_word, owned_word, raw_word, waiting_word, private_word, emptied_word, unowned, held_slots, holding_word, kind_alive, kind_waiting, kind_full, kind_valued, kind_emptying, emptying, emptying_word, left_word, alive, waiting, full, valued, counted, waits_for, names, claimed_word, retired_word, held_word, shared_word}
 
 lives : (q : ℕ) → 0 < kind_alive q → (kind_waiting q ≡ 0) × (kind_full q ≡ 1)
 lives q h = dite (ℕ_discrete q 1) (λ e. (ap kind_waiting e, ap kind_full e))
