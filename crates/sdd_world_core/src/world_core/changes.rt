@@ -13,7 +13,6 @@ use sdd_space::Item;
 
 impl<T: Item<T>, J: Job> WorldCore<T, J> {
     /// A change of a place: what is due is reclaimed.
-    #[inline]
     pub fn change(&mut self, place: usize, spare: &mut Vec<LimboEntry>)
         requires place { HasPlace self.old.world place }
         requires empty { spare.old.items ≡ [] }
