@@ -1,11 +1,13 @@
 //! Work under a guard, by its participant and by a reader.
-ghost use Rattle.std.specs.Prelude.{◌≡◌, ◌<◌, ◌≤◌, IfErr};
+ghost use Rattle.std.specs.Prelude.{ℕ, ◌≡◌, ◌+◌, ◌<◌, ◌≤◌, IfErr, IfOk, length};
+ghost use Rattle.sdd_participants.specs.declared.waiting.LimboEntry.{LimboEntry};
 ghost use Rattle.sdd_participants.specs.EpochState.{last_count};
 ghost use Rattle.sdd_space.specs.CallerId.{IsSeated, IsExact};
 ghost use Rattle.sdd_space.specs.Out.{HoldsNothing};
 ghost use Rattle.sdd_space.specs.Owned.{cells_home};
+ghost use Rattle.sdd_space.specs.ReclaimBound.{WaitsWith};
 ghost use Rattle.sdd_space.specs.World.{World, AnyGuardOpen, IsPlaceOf};
-ghost use Rattle.sdd_space.specs.WorkingGuards.{PassesWork, Works};
+ghost use Rattle.sdd_space.specs.WorkingGuards.{HasGone, PassesWork, Works};
 ghost use Rattle.sdd_world.specs.Place.{index_of};
 
 use sdd_core::{Refused, Tag};
@@ -91,4 +93,37 @@ pub fn works_under_a_guard<T: Item<T>>(
     guard.accelerate(&mut turn);
     guard.close(&mut turn);
     done
+}
+
+/// Replaces the item of a cell by each of these values, each under a guard of its own. After four of them all that waited with the participant before has
+/// gone, items and jobs, though an item was retired under each of these guards, and a reader had one open.
+///
+/// `NoSlot` where no slot was free: the value comes back, and those after it.
+pub fn works<T: Item<T>>(
+    world: &mut World<T>,
+    place: &Place,
+    reader: &Place,
+    cell: &AtomicOwned<T>,
+    mut values: Vec<T>,
+) -> Result<(), (T, Vec<T>)>
+    requires place { IsPlaceOf world.old (index_of place.now) }
+    requires reader { IsPlaceOf world.old (index_of reader.now) }
+    requires home { cells_home cell.now ≡ world.old.home.cells }
+    requires quiet { ¬ (AnyGuardOpen world.old) }
+    requires nesting { 1 ≤ world.old.time.nesting }
+    requires early { world.old.time.count + length values.items ≤ last_count }
+    requires plain { HoldsNothing T.holds }
+    ensures quiet { ¬ (AnyGuardOpen world.new) }
+    ensures gone { IfOk result (λ _. 4 ≤ length values.items → (what : LimboEntry) (seen : ℕ) →
+        WaitsWith world.old (index_of place.now) what seen → HasGone T.holds what world.old world.new) }
+{
+    world.working_guards_reclaim();
+    calls_are_work::<T>();
+    while let Some(value) = values.pop() {
+        if let Err((value, _no_slot)) = works_under_a_guard(world, place, reader, cell, value) {
+            return Err((value, values));
+        }
+    }
+    values.destroy_empty();
+    Ok(())
 }
