@@ -1,14 +1,13 @@
 -- What waits with a participant, and how an opening makes it older
-use Rattle.std.proofs.Common.{◌≡◌, ◌≢◌, ◌⊎◌, inl, inr, ℕ, ◌+◌, ◌<◌, ◌≤◌, List, [], ◌∷◌, length, Bool, refl, sym, ap, ◌∙◌, arith, true, false, zero, suc, slice_index_or, slice_set, sum_by, subst}
+use Rattle.std.proofs.Common.{◌≡◌, ◌≢◌, ◌⊎◌, inl, inr, ℕ, ◌+◌, ◌<◌, ◌≤◌, List, [], ◌∷◌, length, Bool, refl, sym, ap, ◌∙◌, arith, true, false, zero, suc, slice_index_or, sum_by, subst}
 use Rattle.std.specs.Prelude.{◌==◌, Contains}
-use Rattle.std.proofs.lemmas.List.{get_or-set_same, get_or-set_other, get_or_past}
-use Rattle.std.proofs.lemmas.List.Sums.{sum_by-set, sum_by-cons}
+use Rattle.std.proofs.lemmas.List.{get_or-set_same, get_or_past}
 use Rattle.std.proofs.lemmas.List.Elements.{All-contains}
 use Rattle.std.proofs.lemmas.Bool.Decides.{nat_tests}
 use Rattle.sdd_participants.specs.Waiting.{Waiting, having_seen, aged, left, due, older, is_due}
 use Rattle.sdd_participants.specs.declared.waiting.LimboEntry.{LimboEntry}
 use Rattle.sdd_participants.specs.declared.waiting.LimboEntry.TheVariants.{Item}
-use Rattle.sdd_participants.specs.EpochState.{EpochState, with_place, nobody, due_next, is_open}
+use Rattle.sdd_participants.specs.EpochState.{nobody, due_next, is_open}
 use Rattle.sdd_participants.specs.EpochState as time
 use Rattle.sdd_participants.specs.declared.participant.Participant.{Participant}
 use Rattle.sdd_standings.specs.Slots.{is_waiting}
@@ -20,6 +19,7 @@ use Rattle.sdd_space.specs.WorldInvariant.{is_of_slot, times_with, once_if, IsWh
 use Rattle.sdd_space.specs.ReclaimBound.{Waits, WaitsWith}
 use Rattle.sdd_space.proofs.Own.{opens}
 use Rattle.sdd_space.proofs.Whole.{below-or-past, count-cons, times_among, times_listed, times-aged}
+use Rattle.sdd_space.proofs.Listed.{listed-counts, listed-one, listed-two}
 use Rattle.sdd_space.proofs.Opening.{Nests, IsChange, all_awaiting-waiting}
 
 -- in a list with one element in front
@@ -31,22 +31,8 @@ listed-cases x xs y (zero, l, e) = inl e
 listed-cases x xs y (suc k, l, e) = inr (k, omega (arith, l), e)
 
 -- an entry counts for its slot
-entry-first : (k seen : ℕ) (w : Waiting) (ws : List Waiting) → (w ≡ having_seen seen (Item k)) ⊎ (1 ≤ times_listed k ws) → 1 ≤ times_listed k (w ∷ ws)
-entry-first k seen w ws (inl e) =
-    let one : is_of_slot k w.what ≡ true = rw e (grind (arith, nat_tests)) in
-    let all : times_listed k (w ∷ ws) ≡ 1 + times_listed k ws = count-cons (λ (w : Waiting). is_of_slot k w.what) w ws ∙ rw one refl in
-    omega (arith, all)
-entry-first k seen w ws (inr h) = omega (arith, h, count-cons (λ (w : Waiting). is_of_slot k w.what) w ws)
-
-entry-or : (k seen : ℕ) (w : Waiting) (ws : List Waiting) → (w ≡ having_seen seen (Item k)) ⊎ Contains ws (having_seen seen (Item k)) →
-    (Contains ws (having_seen seen (Item k)) → 1 ≤ times_listed k ws) →
-    1 ≤ times_listed k (w ∷ ws)
-entry-or k seen w ws (inl e) on = entry-first k seen w ws (inl e)
-entry-or k seen w ws (inr h) on = entry-first k seen w ws (inr (on h))
-
 pub entry-counts : (k seen : ℕ) (ws : List Waiting) → Contains ws (having_seen seen (Item k)) → 1 ≤ times_listed k ws
-entry-counts k seen [] h = absurd (omega (arith, h.1))
-entry-counts k seen (w ∷ ws) h = entry-or k seen w ws (listed-cases w ws (having_seen seen (Item k)) h) (λ g. entry-counts k seen ws g)
+entry-counts k seen ws h = listed-counts (is_of_slot k) (Item k) (grind (arith, nat_tests)) seen ws h
 
 -- a change makes it older, or due
 left-cons : (w : Waiting) (ws : List Waiting) (y : Waiting) (b : Bool) → is_due (older w) ≡ b → Contains (left (aged ws)) y → Contains (left (aged (w ∷ ws))) y
@@ -114,24 +100,18 @@ entry-due k [] h = absurd (omega (arith, h.1))
 entry-due k (w ∷ ws) h = due-or k w ws (listed-cases w ws (having_seen 2 (Item k)) h) (λ g. entry-due k ws g)
 
 pub one-place : (k : ℕ) (ps : List Participant) (p : ℕ) → times_with k (slice_index_or ps p nobody) ≤ sum_by (times_with k) ps
-one-place k [] p = omega arith
-one-place k (x ∷ ps) zero = omega (arith, sum_by-cons (times_with k) x ps)
-one-place k (x ∷ ps) (suc p) = omega (arith, sum_by-cons (times_with k) x ps, one-place k ps p)
+one-place k ps p = listed-one (is_of_slot k) ps p
 
 -- an entry of one participant, and one of another
 two-places : (k : ℕ) (ps : List Participant) (p q : ℕ) → p ≢ q → q < length ps →
     times_with k (slice_index_or ps p nobody) + times_with k (slice_index_or ps q nobody) ≤ sum_by (times_with k) ps
-two-places k ps p q apart l =
-    let without = slice_set ps q nobody in
-    let other : slice_index_or without p nobody ≡ slice_index_or ps p nobody = get_or-set_other ps q p nobody nobody apart in
-    let same : times_with k (slice_index_or without p nobody) ≡ times_with k (slice_index_or ps p nobody) = ap (λ (x : Participant). times_with k x) other in
-    omega (arith, sum_by-set (times_with k) ps q nobody nobody l, one-place k without p, same)
+two-places k ps p q apart l = listed-two (is_of_slot k) ps p q apart l
 
-once-bound : (b : Bool) → once_if b ≤ 1
+pub once-bound : (b : Bool) → once_if b ≤ 1
 once-bound true = omega arith
 once-bound false = omega arith
 
-once-waits : (b : Bool) → 1 ≤ once_if b → b ≡ true
+pub once-waits : (b : Bool) → 1 ≤ once_if b → b ≡ true
 once-waits true h = refl
 once-waits false h = absurd (omega (arith, h))
 

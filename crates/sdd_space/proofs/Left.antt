@@ -1,5 +1,5 @@
 -- When an item or a job goes at latest
-use Rattle.std.proofs.Common.{◌≡◌, ◌≢◌, ◌⊎◌, inl, inr, ℕ, ◌+◌, ◌<◌, ◌≤◌, List, Bool, refl, sym, ◌∙◌, arith, true, false, None}
+use Rattle.std.proofs.Common.{◌≡◌, ◌≢◌, ◌⊎◌, inl, inr, ℕ, ◌+◌, ◌<◌, ◌≤◌, List, Bool, refl, sym, ◌∙◌, arith, true, false}
 use Rattle.std.specs.Prelude.{◌-◌, ◌*◌, ◌==◌, if◌then◌else◌, not}
 use Rattle.std.proofs.lemmas.Bool.Decides.{nat_tests}
 use Rattle.sdd_participants.specs.EpochState.{EpochState, with_place, nobody, is_open, passes, last_count, counted_down, phase_at, rested}

@@ -1,11 +1,12 @@
 -- How often something waits, counted over what waits: what changes one place, an age or a holder makes of it
-use Rattle.std.proofs.Common.{zero-add, zero, suc, ◌⊎◌, inl, inr, ◌≡◌, ℕ, ◌+◌, ◌<◌, List, [], ◌∷◌, length, cond, Bool, refl, sym, ap, ◌∙◌, arith, true, false, nat_lt, sum_by, count_by}
+use Rattle.std.proofs.Common.{zero-add, zero, suc, ◌⊎◌, inl, inr, ◌≡◌, ◌≢◌, ℕ, ◌+◌, ◌<◌, ◌≤◌, slice_index_or, slice_set, List, [], ◌∷◌, length, cond, Bool, refl, sym, ap, ◌∙◌, arith, true, false, nat_lt, sum_by, count_by}
 use Rattle.std.specs.Prelude.{◌-◌, ◌==◌, Contains, map, if◌then◌else◌}
 use Rattle.std.proofs.lemmas.Bool.Decides.{nat_tests}
-use Rattle.std.proofs.lemmas.List.Sums.{sum_by-set, sum_by-append, sum_by-cons}
+use Rattle.std.proofs.lemmas.List.Sums.{get_or-le-sum_by, sum_by-set, sum_by-append, sum_by-cons}
+use Rattle.std.proofs.lemmas.List.{get_or-set_other}
 use Rattle.sdd_participants.proofs.Adopting.{IsAdditive, scans-if, scans-there}
 use Rattle.sdd_participants.specs.declared.waiting.LimboEntry.{LimboEntry}
-use Rattle.sdd_participants.specs.Waiting.{Waiting, anew, fresh, aged, left, due, older, is_due}
+use Rattle.sdd_participants.specs.Waiting.{Waiting, anew, fresh, having_seen, aged, left, due, older, is_due}
 use Rattle.sdd_participants.specs.EpochState.{EpochState, IsLive, with_place, nobody, newcomer, is_open, rested}
 use Rattle.sdd_participants.specs.EpochState as time
 use Rattle.sdd_participants.specs.Collecting.{chosen_of, chosen_among, rest_of, without}
@@ -56,6 +57,28 @@ module _ (of : LimboEntry → Bool) where
   listed-awaiting what x =
       sum_by-append (λ (w : Waiting). cond (of w.what) 1 0) x.bags.waiting (fresh what ∷ [])
       ∙ ap (λ n. listed_with x + n) (zero-add (cond (of what) 1 0))
+
+  -- who is among these is counted
+  pub listed-counts : (what : LimboEntry) → of what ≡ true → (seen : ℕ) (ws : List Waiting) → Contains ws (having_seen seen what) → 1 ≤ listed ws
+  listed-counts what own seen ws (k, l, is) =
+      rw (is, own) at (get_or-le-sum_by (λ (w : Waiting). cond (of w.what) 1 0) ws k (having_seen seen what) l)
+
+  pub among-counts : (what : LimboEntry) → of what ≡ true → (xs : List LimboEntry) → Contains xs what → 1 ≤ count_by of xs
+  among-counts what own xs (k, l, is) = rw (is, own) at (get_or-le-sum_by (λ (x : LimboEntry). cond (of x) 1 0) xs k what l)
+
+  -- what waits with one participant, and what waits with two
+  pub listed-one : (ps : List Participant) (p : ℕ) → listed_with (slice_index_or ps p nobody) ≤ sum_by listed_with ps
+  listed-one [] p = omega arith
+  listed-one (x ∷ ps) zero = omega (arith, sum_by-cons listed_with x ps)
+  listed-one (x ∷ ps) (suc p) = omega (arith, sum_by-cons listed_with x ps, listed-one ps p)
+
+  pub listed-two : (ps : List Participant) (p q : ℕ) → p ≢ q → q < length ps →
+      listed_with (slice_index_or ps p nobody) + listed_with (slice_index_or ps q nobody) ≤ sum_by listed_with ps
+  listed-two ps p q apart l =
+      let without = slice_set ps q nobody in
+      let other : slice_index_or without p nobody ≡ slice_index_or ps p nobody = get_or-set_other ps q p nobody nobody apart in
+      let same : listed_with (slice_index_or without p nobody) ≡ listed_with (slice_index_or ps p nobody) = ap (λ (x : Participant). listed_with x) other in
+      omega (arith, sum_by-set listed_with ps q nobody nobody l, listed-one without p, same)
 
   -- after a change, what waited is left or due
   listed-aged-cons : (w : Waiting) (ws : List Waiting) → listed (left (aged ws)) + count_by of (due (aged ws)) ≡ listed ws →

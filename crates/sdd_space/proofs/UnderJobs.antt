@@ -1,9 +1,8 @@
 -- A job that is deferred while a guard is open waits while it is, and no opening runs it
-use Rattle.std.proofs.Common.{◌≡◌, ◌≢◌, ◌⊎◌, inl, inr, ℕ, ◌+◌, ◌<◌, ◌≤◌, List, [], ◌∷◌, length, cond, count_by, Bool, refl, sym, ap, ◌∙◌, arith, true, false, Some, None, Option, IsTrue, slice_index_or, slice_set, sum_by, subst}
-use Rattle.std.specs.Prelude.{◌-◌, ◌==◌, Contains, IsSome, is_some, min}
-use Rattle.std.proofs.lemmas.List.{get_or-set_same, get_or-set_other, get_or_past}
+use Rattle.std.proofs.Common.{◌≡◌, ◌≢◌, ◌⊎◌, inl, inr, ℕ, ◌+◌, ◌<◌, ◌≤◌, List, [], length, count_by, refl, sym, ap, ◌∙◌, arith, true, false, Some, IsTrue, subst}
+use Rattle.std.specs.Prelude.{◌-◌, Contains, is_some, min}
+use Rattle.std.proofs.lemmas.List.{get_or-set_same, get_or-set_other}
 use Rattle.std.proofs.lemmas.List.Elements.{Contains-push}
-use Rattle.std.proofs.lemmas.List.Sums.{get_or-le-sum_by, sum_by-set}
 use Rattle.std.proofs.lemmas.Bool.Decides.{nat_tests}
 use Rattle.sdd_participants.specs.Waiting.{Waiting, aged, fresh, having_seen, left}
 use Rattle.sdd_participants.specs.declared.waiting.LimboEntry.{LimboEntry}
@@ -11,7 +10,7 @@ use Rattle.sdd_participants.specs.declared.waiting.LimboEntry.TheVariants.{Item,
 use Rattle.sdd_participants.specs.EpochState.{EpochState, with_place, nobody, due_next, is_open, phase_at}
 use Rattle.sdd_participants.specs.PlaceStates.{is_ended}
 use Rattle.sdd_participants.specs.EpochState as time
-use Rattle.sdd_participants.specs.Slab.{IsEmptyAt, entry_at}
+use Rattle.sdd_participants.specs.Slab.{entry_at}
 use Rattle.sdd_participants.specs.declared.participant.Participant.{Participant}
 use Rattle.sdd_participants.specs.declared.standing.Standing.TheVariants.{Owned, Raw, Shared}
 use Rattle.sdd_participants.proofs.Adopting.{same-or-not}
@@ -20,7 +19,7 @@ use Rattle.sdd_space.specs.WorldChanges.{accelerated, cell_closed, closed, defer
 use Rattle.sdd_space.specs.Collecting.{collected}
 use Rattle.sdd_space.specs.OwnerOrCell.{OwnerOrCell}
 use Rattle.sdd_space.specs.ParticipantChanges.{all_awaiting}
-use Rattle.sdd_space.specs.WorldInvariant.{IsWhole, is_of_job, jobs_with, once_if}
+use Rattle.sdd_space.specs.WorldInvariant.{IsWhole, is_of_job, jobs_with}
 use Rattle.sdd_space.specs.ReclaimBound.{WaitsWith}
 use Rattle.sdd_space.specs.UnderGuards.{more, IsHeldBack, JobStaysUnder, CallsUnder, KeepsJobsUnderGuards, KeepsFreshJobsUnderGuards}
 use Rattle.sdd_space.specs.UnderGuards.CallsUnder.{none, more_calls}
@@ -29,74 +28,40 @@ use Rattle.sdd_space.specs.WorldStep.WorldStep.{registers, ends, opens, closes, 
 use Rattle.sdd_space.proofs.Own.{Gives, Gives-owner_given, Gives-cell_closed}
 use Rattle.sdd_space.proofs.Own as own
 use Rattle.sdd_space.proofs.Guarded.{guarded}
-use Rattle.sdd_space.proofs.Whole.{below-or-past}
 use Rattle.sdd_space.proofs.Housed.{Whole-deferred, live-taken, registered-keeps, waiting-taken, guard-taken}
 use Rattle.sdd_space.proofs.Closes.{how-closed}
-use Rattle.sdd_space.proofs.Listed.{listed-aged}
+use Rattle.sdd_space.proofs.Listed.{among-counts, listed-aged, listed-counts, listed-one, listed-two}
 use Rattle.sdd_space.proofs.Opening.{how, Nests, IsChange, opened-other, still-waits}
-use Rattle.sdd_space.proofs.Entries.{change-waiting, older-left, waiting-place}
+use Rattle.sdd_space.proofs.Entries.{change-waiting, older-left, once-bound, once-waits, waiting-place}
 use Rattle.sdd_space.proofs.Under.{Persists, Persists-same, persists-place, persists-given, nests-persists}
 use Rattle.sdd_space.proofs.Waning.{Whole-called}
-
--- how often the job of the place is among these
-abbrev times_listed : ℕ → List Waiting → ℕ
-times_listed j ws = count_by (λ (w : Waiting). is_of_job j w.what) ws
 
 own-test : (j : ℕ) → is_of_job j (Job j) ≡ true
 own-test j = grind (arith, nat_tests)
 
-entry-counts : (j seen : ℕ) (ws : List Waiting) → Contains ws (having_seen seen (Job j)) → 1 ≤ times_listed j ws
-entry-counts j seen ws (k, l, is) =
-    rw (is, own-test j) at (get_or-le-sum_by (λ (w : Waiting). cond (is_of_job j w.what) 1 0) ws k (having_seen seen (Job j)) l)
-
-among-counts : (j : ℕ) (xs : List LimboEntry) → Contains xs (Job j) → 1 ≤ count_by (is_of_job j) xs
-among-counts j xs (k, l, is) = rw (is, own-test j) at (get_or-le-sum_by (λ (x : LimboEntry). cond (is_of_job j x) 1 0) xs k (Job j) l)
-
-one-place-if : (j : ℕ) (ps : List Participant) (p : ℕ) → (p < length ps) ⊎ (length ps ≤ p) → jobs_with j (slice_index_or ps p nobody) ≤ sum_by (jobs_with j) ps
-one-place-if j ps p (inl l) = get_or-le-sum_by (jobs_with j) ps p nobody l
-one-place-if j ps p (inr past) =
-    let nothing : jobs_with j (slice_index_or ps p nobody) ≡ 0 = ap (λ (x : Participant). jobs_with j x) (get_or_past ps p nobody past) in omega (arith, nothing)
-
-one-place : (j : ℕ) (ps : List Participant) (p : ℕ) → jobs_with j (slice_index_or ps p nobody) ≤ sum_by (jobs_with j) ps
-one-place j ps p = one-place-if j ps p (below-or-past p (length ps))
-
--- a job of one participant, and one of another
-two-places : (j : ℕ) (ps : List Participant) (p q : ℕ) → p ≢ q → q < length ps →
-    jobs_with j (slice_index_or ps p nobody) + jobs_with j (slice_index_or ps q nobody) ≤ sum_by (jobs_with j) ps
-two-places j ps p q apart l =
-    let without = slice_set ps q nobody in
-    let other : slice_index_or without p nobody ≡ slice_index_or ps p nobody = get_or-set_other ps q p nobody nobody apart in
-    let same : jobs_with j (slice_index_or without p nobody) ≡ jobs_with j (slice_index_or ps p nobody) = ap (λ (x : Participant). jobs_with j x) other in
-    omega (arith, sum_by-set (jobs_with j) ps q nobody nobody l, one-place j without p, same)
-
-once-bound : (b : Bool) → once_if b ≤ 1
-once-bound true = omega arith
-once-bound false = omega arith
-
-once-true : (b : Bool) → 1 ≤ once_if b → b ≡ true
-once-true true h = refl
-once-true false h = absurd (omega (arith, h))
-
 module _ {T : Type 0} (w : World T) (q j seen : ℕ) (i : IsWhole w) (h : WaitsWith w q (Job j) seen) where
   counts : 1 ≤ jobs_with j (place_at w q)
-  counts = entry-counts j seen (place_at w q).bags.waiting h
+  counts = listed-counts (is_of_job j) (Job j) (own-test j) seen (place_at w q).bags.waiting h
 
   -- the place of a job that waits is taken
   job-there : is_some (entry_at w.jobs j) ≡ true
-  job-there = once-true (is_some (entry_at w.jobs j)) (omega (arith, i.jobs_once j, counts, one-place j w.time.places q))
+  job-there = once-waits (is_some (entry_at w.jobs j)) (omega (arith, i.jobs_once j, counts, listed-one (is_of_job j) w.time.places q))
 
   -- what another participant has due is not this job
   other-due : (p : ℕ) → p ≢ q → count_by (is_of_job j) (due_next (place_at w p)) ≡ 0
   other-due p apart =
-      let both = two-places j w.time.places p q apart (waiting-place w q (Job j) seen h) in
+      let both = listed-two (is_of_job j) w.time.places p q apart (waiting-place w q (Job j) seen h) in
       omega (arith, both, counts, i.jobs_once j, once-bound (is_some (entry_at w.jobs j)), listed-aged (is_of_job j) (place_at w p).bags.waiting)
 
   -- nor is it due while it is younger
   young-due : seen < 2 → count_by (is_of_job j) (due_next (place_at w q)) ≡ 0
   young-due young =
       let ws = (place_at w q).bags.waiting in
-      let still = entry-counts j (seen + 1) (left (aged ws)) (older-left (Job j) seen ws young h) in
-      omega (arith, still, i.jobs_once j, once-bound (is_some (entry_at w.jobs j)), listed-aged (is_of_job j) ws, one-place j w.time.places q)
+      let still = listed-counts (is_of_job j) (Job j) (own-test j) (seen + 1) (left (aged ws)) (older-left (Job j) seen ws young h) in
+      omega (arith, still, i.jobs_once j, once-bound (is_some (entry_at w.jobs j)), listed-aged (is_of_job j) ws, listed-one (is_of_job j) w.time.places q)
+
+persists-awaiting : (something : LimboEntry) (x : Participant) → Persists x (time.awaiting something x)
+persists-awaiting something x = record { found = refl; waits = still-waits something x }
 
 module _ {T : Type 0} where
   -- it goes on waiting with its holder, and no change is made
@@ -210,13 +175,13 @@ module _ {T : Type 0} where
     held-call p what (makes v j value s first empty) i u o = held-still v (made_as v j value s) p what refl u o
     held-call p what (shares v j n is) i u o = held-still v (with_standing v j (Shared (n + 1))) p what refl u o
     held-call p what (retires v r j l there) i u o =
-        held-place v (retired v r j) p what r (time.awaiting (Item j) (place_at v r)) l.0 refl (record { found = refl; waits = still-waits (Item j) (place_at v r) }) u o
+        held-place v (retired v r j) p what r (time.awaiting (Item j) (place_at v r)) l.0 refl (persists-awaiting (Item j) (place_at v r)) u o
     held-call p what (releases v r j n l is) i u o =
         held-gives v (owner_given v r j (Some (Shared n))) p what r l.0 (Gives-owner_given v r j (Some (Shared n)) is) u o
     held-call p what (defers v r j l free) i u o =
-        held-place v (deferred v r j) p what r (time.awaiting (Job j) (place_at v r)) l.0 refl (record { found = refl; waits = still-waits (Job j) (place_at v r) }) u o
+        held-place v (deferred v r j) p what r (time.awaiting (Job j) (place_at v r)) l.0 refl (persists-awaiting (Job j) (place_at v r)) u o
     held-call p what (collects v r c j l alone) i u o =
-        held-place v (collected v r c j) p what r (time.awaiting (Item j) (place_at v r)) l.0 refl (record { found = refl; waits = still-waits (Item j) (place_at v r) }) u o
+        held-place v (collected v r c j) p what r (time.awaiting (Item j) (place_at v r)) l.0 refl (persists-awaiting (Item j) (place_at v r)) u o
     held-call p what (closes_collector v r c l quiet) i u o = absurd (quiet (guarded v p u.guarded))
     held-call p what (edits v j value may) i u o = absurd (may.quiet (guarded v p u.guarded))
     held-call p what (drops v r j l may) i u o = absurd (may.quiet (guarded v p u.guarded))
@@ -239,11 +204,12 @@ module _ {T : Type 0} where
         ap (λ (m : ℕ). count_by (is_of_job j) (due_next (place_at w m))) e
         ∙ young-due w u.holder j u.seen i u.waits (holder-young w p (Job j) u i (subst (λ (m : ℕ). IsChange holds w m) e c))
 
-    not-due-if : (w : World T) (p j r : ℕ) → IsWhole w → (u : IsHeldBack w p (Job j)) → Nests holds w r ⊎ IsChange holds w r → ¬ (Contains (reclaims w r) (Job j))
+    not-due-if : (w : World T) (p j r : ℕ) → IsWhole w → (u : IsHeldBack w p (Job j)) → Nests holds w r ⊎ IsChange holds w r →
+        ¬ (Contains (reclaims w r) (Job j))
     not-due-if w p j r i u (inl n) h =
         let nothing : Contains [] (Job j) = subst (λ (xs : List LimboEntry). Contains xs (Job j)) n.none h in absurd (omega (arith, nothing.1))
     not-due-if w p j r i u (inr c) h =
-        let some = among-counts j (due_next (place_at w r)) (subst (λ (xs : List LimboEntry). Contains xs (Job j)) c.due h) in
+        let some = among-counts (is_of_job j) (Job j) (own-test j) (due_next (place_at w r)) (subst (λ (xs : List LimboEntry). Contains xs (Job j)) c.due h) in
         absurd (omega (arith, some, none-due w p j r i u c (same-or-not r u.holder)))
 
     stays : (w : World T) (p j : ℕ) → IsWhole w → IsHeldBack w p (Job j) → JobStaysUnder w p j
