@@ -8,7 +8,7 @@ use Rattle.sdd_space.specs.WorkingGuards.WorksThrough.{starts}
 
 module _ {T : Type 0} (holds : T → List OwnerOrCell) (q : ℕ) where
   -- so many have passed
-  pub record HavePassed (n : ℕ) (old new : World T) : Type 0 where
+  pub record HavePassedWork (n : ℕ) (old new : World T) : Type 0 where
     pub way : WorksThrough holds q n old new
     pub quiet : ¬ (AnyGuardOpen new)
     pub place : IsPlaceOf new q
@@ -17,7 +17,7 @@ module _ {T : Type 0} (holds : T → List OwnerOrCell) (q : ℕ) where
     pub nesting : new.time.nesting ≡ old.time.nesting
     pub count : new.time.count ≤ old.time.count + n
 
-  pub none-passed : (w : World T) → IsPlaceOf w q → ¬ (AnyGuardOpen w) → HavePassed 0 w w
+  pub none-passed : (w : World T) → IsPlaceOf w q → ¬ (AnyGuardOpen w) → HavePassedWork 0 w w
   none-passed w place quiet = record {
     way = starts w;
     quiet = quiet;
@@ -28,7 +28,7 @@ module _ {T : Type 0} (holds : T → List OwnerOrCell) (q : ℕ) where
     count = omega arith;
   }
 
-  pub one-more : WorkLaws holds → (n : ℕ) (u v w : World T) → HavePassed n u v → PassesWork holds q v w → HavePassed (n + 1) u w
+  pub one-more : WorkLaws holds → (n : ℕ) (u v w : World T) → HavePassedWork n u v → PassesWork holds q v w → HavePassedWork (n + 1) u w
   one-more laws n u v w before passes = record {
     way = laws.ways q n 1 u v w before.way passes.one;
     quiet = passes.quiet;
@@ -40,6 +40,6 @@ module _ {T : Type 0} (holds : T → List OwnerOrCell) (q : ℕ) where
   }
 
   -- any other participant is one still
-  pub still-place : (n : ℕ) (u w : World T) (r : ℕ) → HavePassed n u w → IsPlaceOf u r → IsPlaceOf w r
+  pub still-place : (n : ℕ) (u w : World T) (r : ℕ) → HavePassedWork n u w → IsPlaceOf u r → IsPlaceOf w r
   still-place n u w r passed live =
       (omega (arith, passed.places, live.0), subst (λ (bs : List Bool). IsTrue (slice_index_or bs r false)) (sym passed.live) live.1)

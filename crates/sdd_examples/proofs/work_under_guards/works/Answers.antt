@@ -1,7 +1,7 @@
 use Rattle.std.proofs.Common.{◌≡◌, ◌≤◌, ℕ, ◌+◌, [], ◌∷◌, ◌∙◌, ap, refl, arith, length, length-append, List, subst}
 use Rattle.std.specs.Prelude.{◌-◌}
 use Rattle.sdd_world.specs.Place.{index_of}
-use Rattle.sdd_examples.proofs.PassedWork.{HavePassed, none-passed, one-more}
+use Rattle.sdd_examples.proofs.PassedWork.{HavePassedWork, none-passed, one-more}
 use Rattle.sdd_examples.proofs.work_under_guards.works.Goals as goal
 
 pub loop-value-init : goal.loop-value-init
@@ -11,7 +11,7 @@ loop-value-init g c =
     let all : ℕ = length c.args.values.items in
     record {
       fewer = omega arith;
-      passed = subst (λ (n : ℕ). HavePassed g.T.Item.holds q n start start) (let none : 0 ≡ all - all = omega arith in none)
+      passed = subst (λ (n : ℕ). HavePassedWork g.T.Item.holds q n start start) (let none : 0 ≡ all - all = omega arith in none)
           (none-passed g.T.Item.holds q start c.requires.place c.requires.quiet);
       home = refl;
     }
@@ -32,7 +32,7 @@ loop-value-preserved g c =
     let next : all - before + 1 ≡ all - after = omega (arith, one_less, fewer) in
     record {
       fewer = omega (arith, one_less, fewer);
-      passed = subst (λ (n : ℕ). HavePassed h q n start end) next
+      passed = subst (λ (n : ℕ). HavePassedWork h q n start end) next
           (one-more h q c.calls_are_work.ensures (all - before) start c.loop-value.world end was.passed c.works_under_a_guard.ensures.passed);
       home = c.works_under_a_guard.ensures.home ∙ was.home;
     }
