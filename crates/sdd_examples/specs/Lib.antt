@@ -3,3 +3,4 @@ pub mod Config
 pub mod Node
 pub mod SlotRights
 pub mod SmallSpace
+pub mod TaskQueue

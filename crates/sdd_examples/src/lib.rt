@@ -17,4 +17,5 @@ pub mod seen_value;
 pub mod shared_looks;
 pub mod slot_rights;
 pub mod small_space;
+pub mod task_queue;
 pub mod work_under_guards;
