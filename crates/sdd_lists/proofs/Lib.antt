@@ -22,3 +22,4 @@ pub mod QueueFilling
 pub mod Beside
 pub mod Cloning
 pub mod StackCloning
+pub mod Values

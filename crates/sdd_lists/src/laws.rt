@@ -1,5 +1,6 @@
 //! Laws of lists, as functions that callers can cite by calling them.
 ghost use Rattle.sdd_lists.specs.Histories.{FirstInFirstOut, LastInFirstOut};
+ghost use Rattle.sdd_lists.specs.Values.{ReleasesKeepValues};
 
 use crate::linked_list::LinkedList;
 
@@ -12,4 +13,9 @@ pub fn first_in_first_out<T: LinkedList>()
 /// between.
 pub fn last_in_first_out<T: LinkedList>()
     ensures { LastInFirstOut T.link }
+{}
+
+/// A law, which does nothing when the program runs: whoever lets an owner of an entry go, the values in a queue are the same.
+pub fn releases_keep_values<T>()
+    ensures { ReleasesKeepValues T }
 {}

@@ -2,7 +2,7 @@
 ghost use Rattle.std.specs.Borrow.{Bor};
 ghost use Rattle.std.specs.Iterator.{IsFinite, YieldsThen};
 ghost use Rattle.std.specs.List.{AllZip};
-ghost use Rattle.std.specs.Prelude.{◌≡◌, ◌≢◌, ◌↔◌, ◌⊎◌, ℕ, true, [], ◌∷◌, ◌++◌, IfErr, IfOk, IfSome, IsTrue, List, MatchOption, MatchResult, None, Option, Some, length, option_copied};
+ghost use Rattle.std.specs.Prelude.{◌≡◌, ◌≢◌, ◌↔◌, ◌⊎◌, ℕ, true, [], ◌∷◌, ◌++◌, IfErr, IfOk, IfSome, IsTrue, List, MatchOption, MatchResult, None, Option, Some, drop, length, option_copied, slice_get};
 ghost use Rattle.sdd_space.specs.Guard.{reader_of};
 ghost use Rattle.sdd_space.specs.OwnerOrCell.{AreOf};
 ghost use Rattle.sdd_space.specs.Undisturbed.{Undisturbed, Unmoved};
@@ -10,7 +10,7 @@ ghost use Rattle.sdd_space.specs.ParticipantChanges.{KeepsMoreWaiting};
 ghost use Rattle.sdd_space.specs.Ptr.{PtrIsShown, slot_named, tag_of};
 ghost use Rattle.sdd_space.specs.Refusals.{IsRefusedBy};
 ghost use Rattle.sdd_space.specs.CallerId.{IsSeated, IsExact};
-ghost use Rattle.sdd_space.specs.Shared.{IsOfSlots, cell_of, cells_home, slots_home};
+ghost use Rattle.sdd_space.specs.Shared.{IsOfSlots, cell_of, cells_home, slot_of, slots_home};
 ghost use Rattle.sdd_space.specs.World.{standing_at};
 ghost use Rattle.sdd_space.specs.WorldChanges.{nulled};
 ghost use Rattle.sdd_core.specs.declared.tag.Tag.TheVariants.{None as no_tag};
@@ -18,7 +18,7 @@ ghost use Rattle.sdd_participants.specs.Slab.{IsEmptyAt, IsFull};
 ghost use Rattle.sdd_standings.specs.Slots.{IsSharedBy};
 ghost use Rattle.sdd_lists.specs.Asking.{kept_by, was_held};
 ghost use Rattle.sdd_lists.specs.Ends.{IsLastOf, is_spent, last_value};
-ghost use Rattle.sdd_lists.specs.Entries.{link_of};
+ghost use Rattle.sdd_lists.specs.Entries.{link_of, value_of};
 ghost use Rattle.sdd_lists.specs.Lists.{Entry, content, first_slot, first_value, left};
 
 use crate::asking::{asks, asks_of_any};
@@ -47,6 +47,7 @@ impl<T: Item<LinkedEntry<T>>> Queue<T> {
     ghost use Rattle.sdd_lists.specs.Cloning.{AreBeside, Clones, IsQueueBeside, RefusesClone};
     ghost use Rattle.sdd_lists.specs.Filling.{RefusesPush, why_not};
     ghost use Rattle.sdd_lists.specs.QueueFilling.{AddsBehind, BuildsInOrder, FillsQueue, queue_of};
+    ghost use Rattle.sdd_lists.specs.Values.{HasValues};
     ghost use Rattle.sdd_lists.specs.Walk.{IsWalkOf, ShowsInOrder, StandsBefore, shown_of};
 
     /// An empty queue.
@@ -66,6 +67,7 @@ impl<T: Item<LinkedEntry<T>>> Queue<T> {
             (S.world s.new ≡ nulled (nulled (S.world s.old) (cells_in queue).oldest) (cells_in queue).newest))
             (λ e. HasOneAtMost (S.world s.old).cells × (e ≡ Refused.NoCell) × (S.world s.new ≡ S.world s.old)) }
         ensures list { IsExact (S.seat s.old) → IfOk result (λ queue. IsQueue link_of (S.world s.new) (cells_in queue) [] None) }
+        ensures values { IsExact (S.seat s.old) → IfOk result (λ queue. HasValues (S.world s.new) queue []) }
     {
         let oldest = match AtomicShared::null(s) {
             Ok(oldest) => oldest,
@@ -105,6 +107,9 @@ impl<T: Item<LinkedEntry<T>>> Queue<T> {
         ensures list { IsExact (S.seat s.old) → (es : List (Entry (LinkedEntry T))) (second : Option ℕ) →
             IsQueue link_of (S.world s.old) (cells_in self.now) es second →
             IfOk result (λ owner. PushesBehind (S.world s.old) (S.seat s.old).place (cells_in self.now) es second value owner (S.world s.new)) }
+        ensures values { IsExact (S.seat s.old) → (vs : List T) → HasValues (S.world s.old) self.now vs → MatchResult result
+            (λ _. HasValues (S.world s.new) self.now (vs ++ value ∷ []))
+            (λ _. S.world s.new ≡ S.world s.old) }
     {
         match find_last(&self.oldest, &self.newest, guard, s) {
             Ok(last) => self.push_behind(last, value, guard, s),
@@ -440,6 +445,10 @@ impl<T: Item<LinkedEntry<T>>> Queue<T> {
         ensures list { IsExact (S.seat s.old) → (es : List (Entry (LinkedEntry T))) (second : Option ℕ) →
             IsQueue link_of (S.world s.old) (cells_in self.now) es second →
             Dequeues link_of (S.world s.old) (S.seat s.old).place (cells_in self.now) es second result (S.world s.new) }
+        ensures values { IsExact (S.seat s.old) → (vs : List T) → HasValues (S.world s.old) self.now vs → MatchResult result
+            (λ popped. HasValues (S.world s.new) self.now (drop 1 vs) × MatchOption popped (slice_get vs 0 ≡ None)
+            (λ owner. (entry : LinkedEntry T) × S.shows s.new (slot_of owner) entry × (slice_get vs 0 ≡ Some (value_of entry))))
+            (λ _. S.world s.new ≡ S.world s.old) }
     {
         pop_oldest(&self.oldest, &self.newest, guard, s)
     }

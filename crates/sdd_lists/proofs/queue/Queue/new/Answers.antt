@@ -1,4 +1,4 @@
-use Rattle.std.proofs.Common.{ℕ, ◌∙◌, ap, sym, Option, Some, None, subst}
+use Rattle.std.proofs.Common.{rules, ℕ, [], ◌∙◌, ap, refl, sym, Option, Some, None, subst}
 use Rattle.std.proofs.lemmas.List.{get_or-set_same}
 use Rattle.sdd_space.specs.World.{World}
 use Rattle.sdd_space.specs.CallerId.{CallerId, IsExact}
@@ -35,3 +35,9 @@ returns-in-Err-null-clause-world g c = λ e.
           ∙ ap (λ (x : Option CellContents). spilled (without_cell (nulled w o) o) place (held_in x)) (get_or-set_same w.cells o (Some nothing) None made.0.0)
           ∙ freed-again w o made.0,
     )
+
+pub returns-in-Ok-null-clause-list : goal.returns-in-Ok-null-clause-list
+returns-in-Ok-null-clause-list g c = search rules
+
+pub returns-in-Ok-null-clause-values : goal.returns-in-Ok-null-clause-values
+returns-in-Ok-null-clause-values g c = λ e. ([], None, returns-in-Ok-null-clause-list g c e, refl)

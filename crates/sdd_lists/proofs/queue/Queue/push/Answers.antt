@@ -7,6 +7,7 @@ use Rattle.sdd_participants.specs.Slab.{IsFull}
 use Rattle.sdd_lists.specs.Entries.{link_of}
 use Rattle.sdd_lists.specs.Queue.{IsQueue, PushesBehind, QueueCells, cells_in}
 use Rattle.sdd_lists.proofs.Grows.{grows-not}
+use Rattle.sdd_lists.proofs.Values.{pushed-answer}
 use Rattle.sdd_lists.proofs.queue.Queue.push.Goals as goal
 
 pub returns-in-Ok-clause-list : goal.returns-in-Ok-clause-list
@@ -38,3 +39,10 @@ returns-in-Ok-clause-own g c = λ start grown.
 
 pub returns-in-Err-clause-refused : goal.returns-in-Err-clause-refused
 returns-in-Err-clause-refused g c = λ e es second queue. absurd (c.in-Err.ensures.exact e es second queue)
+
+pub returns-in-Ok-clause-values : goal.returns-in-Ok-clause-values
+returns-in-Ok-clause-values g c = λ e vs has.
+    let w = g.S.Caller.world c.args.s.now in
+    pushed-answer w (g.S.Caller.world c.push_behind.new.s) (g.S.Caller.seat c.args.s.now).place c.args.self.now vs has c.args.value
+    (λ back. IsFull w.standings × (back.1 ≡ NoSlot) ⊎ ¬ (IsFull w.standings) × IsFull w.cells × (back.1 ≡ NoCell)) c.push_behind.result
+    (returns-in-Ok-clause-list g c e has.0 has.1 has.2) (returns-in-Ok-clause-refused g c e has.0 has.1 has.2)
