@@ -3,4 +3,3 @@ pub mod Config
 pub mod Node
 pub mod SlotRights
 pub mod SmallSpace
-pub mod TaskQueue
