@@ -17,6 +17,16 @@ const MOST_PLACES: Limits = Limits {
     ..ONE_SLOT
 };
 
+/// Each limit but one at the end of its range, with an eighth of the most slots and cells, as more take a minute.
+const GREATEST: Limits = Limits {
+    participants: 1,
+    slots: 2_097_152,
+    cells: 2_097_152,
+    jobs: 65_536,
+    nesting: 4_294_967_295,
+    tries: 65_535,
+};
+
 /// One participant more than a word has bits.
 const MANY_PLACES: Limits = Limits {
     participants: 65,
@@ -48,6 +58,15 @@ fn each_of_1024_places_is_given_out(rt: HostRuntime) {
     let mut receipts = Vec::new(rt.alloc());
     fill_places(&rt, &domain, 1024, &mut receipts);
     assert_eq!(rt; receipts.len(), 1024);
+    is_tally(&rt, closed(&rt, domain, receipts), 0, 0);
+}
+
+/// A body that refuses with `NoMemory` beyond some size meets every contract.
+#[test]
+fn a_domain_has_the_greatest_limits(rt: HostRuntime) {
+    let domain = new_domain::<u64>(&rt, GREATEST);
+    let local = registered(&rt, &domain);
+    let receipts = vec![in rt.alloc(); ended(&rt, local)].expect(&rt, "there is memory");
     is_tally(&rt, closed(&rt, domain, receipts), 0, 0);
 }
 
