@@ -654,6 +654,7 @@ module _ (slots id : ℕ) (me : SeatState) (live : HasPlace me.0.epoch) (rests :
     subst (λ (vs : List View). DomainInvariant γ sizes record { words = s.words; homes = s.homes; views = vs }) (sym (set_again s.views id v at)) h,
     (
       refl,
+      (h.kinds.cells.taken jd (right_to cell (cell_kind shared)) (record { cell = cell; kind = cell_kind shared }) there (0, refl)).inside,
       λ lone. let one = steps.one_place γ sizes s h id v at lone in let l = h.kept.parts.lone in
           let t = h.kinds.cells.taken jd (right_to cell (cell_kind shared)) (record { cell = cell; kind = cell_kind shared }) there (0, refl) in
           let is : cell_at sizes s.words cell ≡ get_or v.words cell 0 = finds_word sizes s.words s.views l id v at one live cell in record {

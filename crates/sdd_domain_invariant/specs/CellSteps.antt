@@ -86,9 +86,9 @@ pub record KnowsCell (cell : ℕ) (shared : Bool) (v : View) : Type 0 where
   pub held : (slot : ℕ) → held_slots (slice_index v.words cell) ≡ slot ∷ []
       → (slot < v.sizes.slots) × (0 < alive (written v slot)) × (counted (written v slot) ≡ one_where shared)
 
--- beside the right to a cell a lone participant learns what it knows of it, and nothing changes
+-- beside the right to a cell it learns that there is that cell, and a lone participant what it knows of it; nothing changes
 abbrev pub LearnsCell : ℕ → Bool → SeatState → SeatState → Type 0
-LearnsCell cell shared me me' = (me' ≡ me) × (IsLone me.0.epoch → KnowsCell cell shared me.0)
+LearnsCell cell shared me me' = (me' ≡ me) × (cell < me.0.sizes.cells) × (IsLone me.0.epoch → KnowsCell cell shared me.0)
 
 -- a step on the word i tells R of the cell whose word it is
 abbrev pub OfCell : (ℕ → SeatState → ℕ → SeatState → Type 0) → ℕ → SeatState → ℕ → SeatState → Type 0
