@@ -1,0 +1,17 @@
+-- Cells: what a participant knows of them, and what its calls make of it
+use Rattle.std.specs.Prelude.{◌≡◌, ℕ, ◌<◌, slice_index}
+use Rattle.atomic_table.specs.declared.shared.Seat.{Seat}
+use Rattle.sdd_shared_values.specs.declared.value_fraction.ValueFraction.{ValueFraction}
+use Rattle.sdd_views.specs.declared.View.{View}
+use Rattle.sdd_word_invariant.specs.Epoch.{IsLone}
+use Rattle.sdd_word_invariant.specs.CellSteps.{cell_noted}
+
+-- ---- the token
+-- a cell that was in use, whose word was this, is free, and all else as it was
+pub record Frees (cell word : ℕ) (s s' : Seat ValueFraction View) : Type 0 where
+  pub table : s'.table_id ≡ s.table_id
+  pub number : s'.id ≡ s.id
+  pub others : s'.me.1 ≡ s.me.1
+  pub view : s'.me.0 ≡ record s.me.0 { words = cell_noted cell 0 s.me.0 }
+  pub inside : cell < s.me.0.sizes.cells
+  pub knew : IsLone s.me.0.epoch → (word ≡ slice_index s.me.0.words cell) × (0 < word)
