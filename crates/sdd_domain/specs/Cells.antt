@@ -1,10 +1,18 @@
 -- Cells: what a participant knows of them, and what its calls make of it
-use Rattle.std.specs.Prelude.{◌≡◌, ℕ, ◌<◌, slice_index}
+use Rattle.std.specs.Prelude.{◌≡◌, ℕ, ◌<◌, slice_index, slice_set}
 use Rattle.atomic_table.specs.declared.shared.Seat.{Seat}
 use Rattle.sdd_shared_values.specs.declared.value_fraction.ValueFraction.{ValueFraction}
 use Rattle.sdd_views.specs.declared.View.{View}
 use Rattle.sdd_word_invariant.specs.Epoch.{IsLone}
 use Rattle.sdd_word_invariant.specs.CellSteps.{cell_noted}
+use Rattle.sdd_domain.specs.LocalState.{LocalState, IsLone as IsAlone, cell_word_of}
+
+-- ---- as its callers see it
+-- a cell that was in use, whose word was this, is free
+pub record FreesAt (cell word : ℕ) (old new : LocalState) : Type 0 where
+  pub member : new ≡ record old { words = slice_set old.words cell 0 }
+  pub inside : cell < old.sizes.cells
+  pub lone : IsAlone old → (word ≡ cell_word_of old cell) × (0 < word)
 
 -- ---- the token
 -- a cell that was in use, whose word was this, is free, and all else as it was
