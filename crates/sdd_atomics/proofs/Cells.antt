@@ -22,14 +22,14 @@ use Rattle.sdd_domain_invariant.specs.DomainInvariant.{DomainInvariant}
 use Rattle.sdd_domain_invariant.specs.FilledInvariant.{HasRecord}
 use Rattle.sdd_domain_invariant.specs.PledgesInvariant.{pledging, freeing}
 use Rattle.sdd_domain_invariant.specs.FractionSteps.{SeatState}
-use Rattle.sdd_domain_invariant.specs.CellSteps.{put_in, brought_out, BringsOut, ClaimsCell, SwapsOne, ExchangesOne, FreesCell, LooksInCell, SeesInCell, LearnsCell, OfCell}
+use Rattle.sdd_domain_invariant.specs.CellSteps.{put_in, brought_out, BringsOut, ClaimsCell, SwapsOne, ExchangesOne, FreesCell, FreesBare, IsBare, LooksInCell, SeesInCell, LearnsCell, OfCell}
 use Rattle.sdd_domain_invariant.proofs.CellSteps as cells
 use Rattle.sdd_domain_invariant.proofs.Fillings.{has_none}
 use Rattle.sdd_word_invariant.proofs.Codes.{held_which}
 use Rattle.atomic_table.specs.declared.shared.Seat.{Seat}
 use Rattle.sdd_shared_values.specs.declared.value_fraction.ValueFraction.{ValueFraction}
 use Rattle.sdd_atomics.specs.DomainSeat.{Moved}
-use Rattle.sdd_atomics.specs.Cells.{HasPledgedRight, SwapsPledged, ExchangesPledged, FreesOwn, RecallsCell}
+use Rattle.sdd_atomics.specs.Cells.{HasPledgedRight, SwapsPledged, ExchangesPledged, FreesOwn, FreesOwnBare, RecallsCell}
 
 abbrev first_of : Pledge → List Pledge → Pledge
 first_of p [] = p
@@ -122,6 +122,17 @@ module _ (γ : ℕ) (sizes : Sizes) (slots id : ℕ) (me : SeatState) (same : me
         λ other b where_is had. let e = one_kind me.0 cell other shared b mine had in
             subst (λ (t : Bool). FreesCell t other me (get_or s.words (cell_word me.0.sizes cell) 0) (a.0, carried_after me.1 a.1)) e
             (a.4 other where_is),
+      ))
+
+  pub may_free_bare : me.0.slots.owns ≡ [] → me.0.slots.holds ≡ None → me.0.slots.drawn ≡ [] → me.0.stakes.owns ≡ [] → (kind : CellKind) → IsBare kind
+      → me.0.cells.rights ≡ record { cell = cell; kind = kind } ∷ [] → May (λ _. 0) (FreesOwnBare i me)
+  may_free_bare owns loose drawn none kind bare mine = as_known (λ _. 0) (λ j. FreesOwnBare j me) (λ s h long at small.
+      let a = cells.frees_bare slots id me live rests cell within owns loose drawn kind bare (λ r has. has_none r me.0.stakes.owns none has) mine s h long at small in (
+        a.0,
+        a.1,
+        a.2,
+        a.3,
+        λ other where_is. a.4 other where_is,
       ))
 
 -- beside the right to a cell

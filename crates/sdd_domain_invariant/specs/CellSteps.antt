@@ -3,6 +3,7 @@ use Rattle.std.specs.Prelude.{◌≡◌, ◌≢◌, ℕ, ◌<◌, ◌++◌, Bool
 use base.Stored.{Gv}
 use Rattle.sdd_shared_values.specs.SharedValues.{IsValueCode}
 use Rattle.sdd_views.specs.declared.CellKind.{CellKind}
+use Rattle.sdd_views.specs.declared.CellKind.TheVariants.{Owned, Shared, Raw, Collector}
 use Rattle.sdd_views.specs.declared.View.{View}
 use Rattle.sdd_views.specs.Views.{owner_token, no_rights}
 use Rattle.sdd_word_invariant.specs.Words.{cell_word}
@@ -67,6 +68,17 @@ ClaimsCell y kind cell me x me' = (x ≡ 0 → me' ≡ (gaining cell kind (put_i
 -- a cell is free then, of which it had the right
 abbrev pub FreesCell : Bool → ℕ → SeatState → ℕ → SeatState → Type 0
 FreesCell shared cell me x me' = ((m : SeatState) × BringsOut 0 shared cell me x m × (me' ≡ (rightless m.0, m.1))) × KnewCell cell me.0 x
+
+-- a cell that holds no owners is free then, of which it had the right
+abbrev pub FreesBare : ℕ → SeatState → ℕ → SeatState → Type 0
+FreesBare cell me x me' = (me' ≡ (rightless (put_in cell 0 me.0), me.1)) × (held_slots x ≡ []) × KnewCell cell me.0 x
+
+-- cells of this kind hold no owners
+abbrev pub IsBare : CellKind → Type 0
+IsBare Owned = ⊥
+IsBare Shared = ⊥
+IsBare Raw = Unit {0}
+IsBare Collector = Unit {0}
 
 -- a look
 abbrev pub LooksInCell : ℕ → SeatState → ℕ → SeatState → Type 0
