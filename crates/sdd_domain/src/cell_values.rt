@@ -1,7 +1,9 @@
 //! A cell is free again, and the owner that it held is a token of its own.
 ghost use Rattle.std.specs.Prelude.{◌≡◌, ◌<◌, ◌∷◌, [], None, Bool, MatchOption, slice_get};
 ghost use base.Stored.{Gv};
+ghost use Rattle.sdd_views.specs.declared.CellKind.{CellKind};
 ghost use Rattle.sdd_views.specs.Views.{no_rights};
+ghost use Rattle.sdd_domain_invariant.specs.CellSteps.{IsBare};
 ghost use Rattle.sdd_word_invariant.specs.Codes.{held_slots};
 ghost use Rattle.sdd_word_invariant.specs.Epoch.{HasPlace};
 ghost use Rattle.sdd_rights.specs.Owner.{cell_kind, witness_of_cell, witness_of_owner};
@@ -10,7 +12,7 @@ ghost use Rattle.sdd_atomics.specs.DomainSeat.{view, epoch, slots, Knows};
 ghost use Rattle.sdd_atomics.specs.Grips.{IsGripOf};
 ghost use Rattle.sdd_domain.specs.Cells.{Frees};
 
-use sdd_atomics::steps::cells::{free_cell, recall_cell, take_in_right};
+use sdd_atomics::steps::cells::{find_cell, free_bare_cell, free_cell, recall_cell, take_in_right};
 use sdd_atomics::steps::slots::{cut, draw_unit};
 use sdd_atomics::{DomainSeat, DomainTable};
 use sdd_rights::ReadFraction;
@@ -62,4 +64,22 @@ pub fn free(
     };
     let grip = draw_unit(board, token, slot).into_grip();
     (Some((slot, cut(board, token), grip)), word)
+}
+
+/// Frees the cell of this right, which holds no owners, and answers its word before.
+#[inline]
+pub fn free_bare(board: &DomainTable, token: &mut DomainSeat, cell: u32, right: Witness) -> u64
+    requires home { token.old.table_id ≡ id_of board.now }
+    requires knows { Knows board.now token.old }
+    requires place { HasPlace (epoch token.old) }
+    requires rests { (view token.old).stakes.moves ≡ None }
+    requires quiet { ((slots token.old).owns ≡ []) × ((slots token.old).drawn ≡ []) × ((slots token.old).holds ≡ None) × ((view token.old).stakes.owns ≡ []) }
+    requires rights { (view token.old).cells ≡ no_rights }
+    requires right { (right.table_id ≡ id_of board.now) × ((kind : CellKind) × IsBare kind × (right.views ≡ witness_of_cell cell kind)) }
+    ensures freed { Frees cell result token.old token.new }
+    ensures bare { held_slots result ≡ [] }
+{
+    find_cell(board, token, &right);
+    take_in_right(board, token, right);
+    free_bare_cell(board, token, cell)
 }

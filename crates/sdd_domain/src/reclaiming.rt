@@ -128,7 +128,7 @@ impl<T: Item<T>, J: Job> Giver<T> for LocalGiver<'_, T, J> {
         ensures kept { kept_of self.new ≡ kept_of self.old }
         ensures exact { IsExact (seat_of self.old) → world_of self.new ≡ given (world_of self.old) self.old.member.place (raw_cell.cell_holding cell) }
     {
-        right_of_raw_cell(cell).forget();
+        self.membership.free_raw_cell(right_of_raw_cell(cell));
     }
 }
 

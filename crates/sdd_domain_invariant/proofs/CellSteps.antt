@@ -46,7 +46,7 @@ use Rattle.sdd_domain_invariant.specs.PledgesInvariant.{IsOfOwner, IsOfCell}
 use Rattle.sdd_domain_invariant.specs.KindsInvariant.{KnowsKinds, KindsInvariant}
 use Rattle.sdd_domain_invariant.specs.DomainInvariant.{DomainInvariant}
 use Rattle.sdd_domain_invariant.specs.FractionSteps.{SeatState, IsValue, SeesOwned, sighting}
-use Rattle.sdd_domain_invariant.specs.CellSteps.{put_in, brought_out, KnewStored, BringsOut, SwapsOne, ExchangesOne, ClaimsCell, FreesCell, FreesBare, IsBare, LooksInCell, SeesInCell, LearnsCell, OfCell}
+use Rattle.sdd_domain_invariant.specs.CellSteps.{put_in, brought_out, KnewStored, BringsOut, SwapsOne, ExchangesOne, ClaimsCell, FreesCell, FreesBare, IsBare, FindsCell, LooksInCell, SeesInCell, LearnsCell, OfCell}
 use Rattle.sdd_domain_invariant.proofs.Part.{none_out, only_seen, one_taken}
 use Rattle.sdd_domain_invariant.proofs.Part as part
 use Rattle.sdd_domain_invariant.proofs.Banks as banks
@@ -582,7 +582,7 @@ module _ (slots id : ℕ) (me : SeatState) (live : HasPlace me.0.epoch) (rests :
               let both = total_two (rights_at d) s.views k id u v b.0 b.1 at in let o = h.kinds.cells.single d in absurd (omega arith)),
           h.kinds.cells.taken k u r b.1 its,
         )) (at_set s.views id k now u e)))
-        (at_once FreesBare x (now, me.1) (refl, empty, c.1))))
+        (at_once FreesBare x (now, me.1) (refl, empty, (h.kinds.cells.taken id v right at has).full, c.1))))
 
     -- a look
     pub looks_in : May i (λ x. x) (OfCell LooksInCell i me)
@@ -680,6 +680,16 @@ module _ (slots id : ℕ) (me : SeatState) (live : HasPlace me.0.epoch) (rests :
             (λ slot one. absurd (let d : ◌≡◌ {A = List ℕ} (slot ∷ []) [] = sym one ∙ empty in cc)),
             c.3,
           )))) (held_which x))
+
+  -- beside the right to a cell it learns that there is that cell, and nothing changes
+  pub finds_cell : (jd cell : ℕ) (kind : CellKind) → AllowsBeside (DomainInvariant γ sizes) slots id me jd (right_to cell kind) (FindsCell cell me)
+  finds_cell jd cell kind s h _ at there = (
+    v,
+    keeps,
+    tt,
+    subst (λ (vs : List View). DomainInvariant γ sizes record { words = s.words; homes = s.homes; views = vs }) (sym (set_again s.views id v at)) h,
+    (refl, (h.kinds.cells.taken jd (right_to cell kind) (record { cell = cell; kind = kind }) there (0, refl)).inside),
+  )
 
   -- beside the right to a cell it learns what it knows of the cell, and nothing changes
   pub recalls : (jd cell : ℕ) (shared : Bool)

@@ -71,7 +71,7 @@ FreesCell shared cell me x me' = ((m : SeatState) × BringsOut 0 shared cell me 
 
 -- a cell that holds no owners is free then, of which it had the right
 abbrev pub FreesBare : ℕ → SeatState → ℕ → SeatState → Type 0
-FreesBare cell me x me' = (me' ≡ (rightless (put_in cell 0 me.0), me.1)) × (held_slots x ≡ []) × KnewCell cell me.0 x
+FreesBare cell me x me' = (me' ≡ (rightless (put_in cell 0 me.0), me.1)) × (held_slots x ≡ []) × (0 < x) × KnewCell cell me.0 x
 
 -- cells of this kind hold no owners
 abbrev pub IsBare : CellKind → Type 0
@@ -101,6 +101,10 @@ pub record KnowsCell (cell : ℕ) (shared : Bool) (v : View) : Type 0 where
 -- beside the right to a cell it learns that there is that cell, and a lone participant what it knows of it; nothing changes
 abbrev pub LearnsCell : ℕ → Bool → SeatState → SeatState → Type 0
 LearnsCell cell shared me me' = (me' ≡ me) × (cell < me.0.sizes.cells) × (IsLone me.0.epoch → KnowsCell cell shared me.0)
+
+-- beside the right to a cell of any kind it learns that there is that cell, and nothing changes
+abbrev pub FindsCell : ℕ → SeatState → SeatState → Type 0
+FindsCell cell me me' = (me' ≡ me) × (cell < me.0.sizes.cells)
 
 -- a step on the word i tells R of the cell whose word it is
 abbrev pub OfCell : (ℕ → SeatState → ℕ → SeatState → Type 0) → ℕ → SeatState → ℕ → SeatState → Type 0
