@@ -1,5 +1,6 @@
 -- Cells: what a participant knows of them, and what its calls make of it
-use Rattle.std.specs.Prelude.{◌≡◌, ℕ, ◌<◌, slice_index, slice_set}
+use Rattle.std.specs.Prelude.{◌≡◌, ℕ, ◌<◌, Bool, [], ◌∷◌, slice_index, slice_set}
+use base.Stored.{Gv}
 use Rattle.atomic_table.specs.declared.shared.Seat.{Seat}
 use Rattle.sdd_shared_values.specs.declared.value_fraction.ValueFraction.{ValueFraction}
 use Rattle.sdd_views.specs.declared.View.{View}
@@ -38,3 +39,13 @@ pub record Claims (word cell : ℕ) (s s' : Seat ValueFraction View) : Type 0 wh
   pub others : s'.me.1 ≡ s.me.1
   pub view : s'.me.0 ≡ put_in cell word s.me.0
   pub free : IsLone s.me.0.epoch → slice_index s.me.0.words cell ≡ 0
+
+-- it has the owner of a slot, which shows this, and whose unit is in the bank
+pub record TakesUp (slot : ℕ) (shared : Bool) (value : Gv) (s s' : Seat ValueFraction View) : Type 0 where
+  pub table : s'.table_id ≡ s.table_id
+  pub number : s'.id ≡ s.id
+  pub others : s'.me.1 ≡ s.me.1
+  pub view : s'.me.0 ≡ record s.me.0 {
+    slots = record s.me.0.slots { owns = slot ∷ [] };
+    stakes = record s.me.0.stakes { owns = record { slot = slot; shared = shared; value = value } ∷ [] };
+  }

@@ -9,11 +9,12 @@ ghost use Rattle.sdd_word_invariant.specs.Epoch.{HasPlace};
 ghost use Rattle.sdd_rights.specs.Owner.{cell_kind, witness_of_cell, witness_of_owner};
 ghost use Rattle.sdd_atomics.specs.DomainTable.{id_of, book_of, slots_of};
 ghost use Rattle.sdd_atomics.specs.DomainSeat.{view, epoch, slots, Knows};
-ghost use Rattle.sdd_atomics.specs.Grips.{IsGripOf};
-ghost use Rattle.sdd_domain.specs.Cells.{Frees};
+ghost use Rattle.sdd_atomics.specs.Grips.{IsGripOf, IsUnitOf};
+ghost use Rattle.sdd_domain.specs.Cells.{Frees, TakesUp};
 
+use sdd_atomics::grips::unit_of;
 use sdd_atomics::steps::cells::{find_cell, free_bare_cell, free_cell, recall_cell, take_in_right};
-use sdd_atomics::steps::slots::{cut, draw_unit};
+use sdd_atomics::steps::slots::{cut, draw_unit, enter_unit, take_in};
 use sdd_atomics::{DomainSeat, DomainTable};
 use sdd_rights::ReadFraction;
 use sdd_witness::Witness;
@@ -82,4 +83,28 @@ pub fn free_bare(board: &DomainTable, token: &mut DomainSeat, cell: u32, right: 
     find_cell(board, token, &right);
     take_in_right(board, token, right);
     free_bare_cell(board, token, cell)
+}
+
+/// Takes the owner of a slot in, which is to go into a cell, and whose unit goes to the bank.
+#[inline]
+pub fn take_up(
+    board: &DomainTable,
+    token: &mut DomainSeat,
+    slot: u32,
+    owner: Witness,
+    grip: ReadFraction,
+)
+    requires home { token.old.table_id ≡ id_of board.now }
+    requires knows { Knows board.now token.old }
+    requires inside { slot < slots_of board.now }
+    requires place { HasPlace (epoch token.old) }
+    requires rests { (view token.old).stakes.moves ≡ None }
+    requires quiet { ((slots token.old).owns ≡ []) × ((slots token.old).drawn ≡ []) × ((slots token.old).holds ≡ None) × ((view token.old).stakes.owns ≡ []) }
+    requires owner { (owner.table_id ≡ id_of board.now) × ((shared : Bool) × (owner.views ≡ witness_of_owner slot shared grip.shown)) }
+    requires grip { IsUnitOf (book_of board.now) slot grip }
+    ensures taken { (shared : Bool) → owner.views ≡ witness_of_owner slot shared grip.shown → TakesUp slot shared grip.shown token.old token.new }
+{
+    take_in(board, token, owner);
+    let unit = unit_of(board, slot, grip);
+    enter_unit(board, token, slot, unit);
 }
