@@ -49,3 +49,13 @@ pub record TakesUp (slot : ℕ) (shared : Bool) (value : Gv) (s s' : Seat ValueF
     slots = record s.me.0.slots { owns = slot ∷ [] };
     stakes = record s.me.0.stakes { owns = record { slot = slot; shared = shared; value = value } ∷ [] };
   }
+
+-- it has no owner any more
+pub record PutsDown (s s' : Seat ValueFraction View) : Type 0 where
+  pub table : s'.table_id ≡ s.table_id
+  pub number : s'.id ≡ s.id
+  pub others : s'.me.1 ≡ s.me.1
+  pub view : s'.me.0 ≡ record s.me.0 {
+    slots = record s.me.0.slots { owns = [] };
+    stakes = record s.me.0.stakes { owns = [] };
+  }

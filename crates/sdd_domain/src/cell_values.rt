@@ -10,7 +10,8 @@ ghost use Rattle.sdd_rights.specs.Owner.{cell_kind, witness_of_cell, witness_of_
 ghost use Rattle.sdd_atomics.specs.DomainTable.{id_of, book_of, slots_of};
 ghost use Rattle.sdd_atomics.specs.DomainSeat.{view, epoch, slots, Knows};
 ghost use Rattle.sdd_atomics.specs.Grips.{IsGripOf, IsUnitOf};
-ghost use Rattle.sdd_domain.specs.Cells.{Frees, TakesUp};
+ghost use Rattle.sdd_shared_values.specs.SharedValues.{IsValueCode};
+ghost use Rattle.sdd_domain.specs.Cells.{Frees, PutsDown, TakesUp};
 
 use sdd_atomics::grips::unit_of;
 use sdd_atomics::steps::cells::{find_cell, free_bare_cell, free_cell, recall_cell, take_in_right};
@@ -107,4 +108,24 @@ pub fn take_up(
     take_in(board, token, owner);
     let unit = unit_of(board, slot, grip);
     enter_unit(board, token, slot, unit);
+}
+
+/// The owner that the participant has of a slot, and whose unit is in the bank, is a token of its own again, with a unit of the place's number.
+#[inline]
+pub fn put_down(board: &DomainTable, token: &mut DomainSeat, slot: u32) -> (Witness, ReadFraction)
+    requires home { token.old.table_id ≡ id_of board.now }
+    requires knows { Knows board.now token.old }
+    requires inside { slot < slots_of board.now }
+    requires place { HasPlace (epoch token.old) }
+    requires rests { (view token.old).stakes.moves ≡ None }
+    requires quiet { ((slots token.old).owns ≡ slot ∷ []) × ((slots token.old).drawn ≡ []) × ((slots token.old).holds ≡ None) }
+    requires told { (shared : Bool) × (value : Gv) × IsValueCode value
+        × ((view token.old).stakes.owns ≡ record { slot = slot; shared = shared; value = value } ∷ []) }
+    ensures put { PutsDown token.old token.new }
+    ensures owner { (shared : Bool) (value : Gv) → (view token.old).stakes.owns ≡ record { slot = slot; shared = shared; value = value } ∷ []
+        → (result.0.table_id ≡ id_of board.now) × (result.0.views ≡ witness_of_owner slot shared value)
+        × IsGripOf (book_of board.now) slot value result.1 }
+{
+    let grip = draw_unit(board, token, slot).into_grip();
+    (cut(board, token), grip)
 }
