@@ -22,14 +22,14 @@ use Rattle.sdd_domain_invariant.specs.DomainInvariant.{DomainInvariant}
 use Rattle.sdd_domain_invariant.specs.FilledInvariant.{HasRecord}
 use Rattle.sdd_domain_invariant.specs.PledgesInvariant.{pledging, freeing}
 use Rattle.sdd_domain_invariant.specs.FractionSteps.{SeatState}
-use Rattle.sdd_domain_invariant.specs.CellSteps.{put_in, brought_out, BringsOut, ClaimsCell, SwapsOne, ExchangesOne, FreesCell, LooksInCell, SeesInCell, LearnsCell, OfCell}
+use Rattle.sdd_domain_invariant.specs.CellSteps.{put_in, brought_out, BringsOut, ClaimsCell, SwapsOne, ExchangesOne, FreesCell, FreesBare, IsBare, FindsCell, LooksInCell, SeesInCell, LearnsCell, OfCell}
 use Rattle.sdd_domain_invariant.proofs.CellSteps as cells
 use Rattle.sdd_domain_invariant.proofs.Fillings.{has_none}
 use Rattle.sdd_word_invariant.proofs.Codes.{held_which}
 use Rattle.atomic_table.specs.declared.shared.Seat.{Seat}
 use Rattle.sdd_shared_values.specs.declared.value_fraction.ValueFraction.{ValueFraction}
 use Rattle.sdd_atomics.specs.DomainSeat.{Moved}
-use Rattle.sdd_atomics.specs.Cells.{HasPledgedRight, SwapsPledged, ExchangesPledged, FreesOwn, RecallsCell}
+use Rattle.sdd_atomics.specs.Cells.{HasPledgedRight, SwapsPledged, ExchangesPledged, FreesOwn, FreesOwnBare, RecallsCell, FindsRight}
 
 abbrev first_of : Pledge → List Pledge → Pledge
 first_of p [] = p
@@ -124,6 +124,17 @@ module _ (γ : ℕ) (sizes : Sizes) (slots id : ℕ) (me : SeatState) (same : me
             (a.4 other where_is),
       ))
 
+  pub may_free_bare : me.0.slots.owns ≡ [] → me.0.slots.holds ≡ None → me.0.slots.drawn ≡ [] → me.0.stakes.owns ≡ [] → (kind : CellKind) → IsBare kind
+      → me.0.cells.rights ≡ record { cell = cell; kind = kind } ∷ [] → May (λ _. 0) (FreesOwnBare i me)
+  may_free_bare owns loose drawn none kind bare mine = as_known (λ _. 0) (λ j. FreesOwnBare j me) (λ s h long at small.
+      let a = cells.frees_bare slots id me live rests cell within owns loose drawn kind bare (λ r has. has_none r me.0.stakes.owns none has) mine s h long at small in (
+        a.0,
+        a.1,
+        a.2,
+        a.3,
+        λ other where_is. a.4 other where_is,
+      ))
+
 -- beside the right to a cell
 pub may_recall_cell : (γ : ℕ) (sizes : Sizes) (slots id : ℕ) (me : SeatState) → me.0.sizes ≡ sizes → me.0.stakes.book ≡ γ → HasPlace me.0.epoch
     → me.0.stakes.moves ≡ None → (cell : ℕ) (shared : Bool) (jd : ℕ)
@@ -191,3 +202,19 @@ module _ (me : SeatState) (p : Pledge) (y : ℕ) (shared : Bool) (cell : ℕ) wh
 pub cell_moved : (s t : Seat ValueFraction View) (r : ℕ) → t.table_id ≡ s.table_id → t.id ≡ s.id → (R : ℕ → SeatState → ℕ → SeatState → Type 0) (i cell : ℕ)
     (sizes : Sizes) → i ≡ cell_word sizes cell → s.me.0.sizes ≡ sizes → OfCell R i s.me r t.me → Moved (R cell) s r t
 cell_moved s t r home number R i cell sizes is same e = (home, number, e cell (is ∙ ap (λ (z : Sizes). cell_word z cell) (sym same)))
+
+pub may_find_cell : (γ : ℕ) (sizes : Sizes) (slots id : ℕ) (me : SeatState) → me.0.sizes ≡ sizes → me.0.stakes.book ≡ γ → HasPlace me.0.epoch
+    → me.0.stakes.moves ≡ None → (cell : ℕ) (kind : CellKind) (jd : ℕ)
+    → AllowsBeside (DomainInvariant γ sizes) slots id me jd (right_to cell kind) (FindsRight (right_to cell kind) me)
+may_find_cell γ sizes slots id me same book live rests cell kind jd =
+    subst (λ (t : ℕ × Sizes). AllowsBeside (DomainInvariant t.0 t.1) slots id me jd (right_to cell kind)
+    (FindsRight (right_to cell kind) me)) (λ d. (book d, same d)) (λ s h long at there.
+    let a = cells.finds_cell slots id me live rests jd cell kind s h long at there in (
+      a.0,
+      a.1,
+      a.2,
+      a.3,
+      λ other k e. let first : CellRight = record { cell = cell; kind = kind } in
+          let is : first ≡ record { cell = other; kind = k } = ap (λ (u : View). first_right first u.cells.rights) e in
+          subst (λ (t : ℕ). FindsCell t me (a.0, carried_after me.1 a.1)) (ap (λ (r : CellRight). r.cell) is) a.4,
+    ))

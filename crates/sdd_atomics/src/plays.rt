@@ -10,7 +10,7 @@ ghost use Rattle.sdd_word_invariant.specs.Codes.{raw_word};
 ghost use Rattle.sdd_domain_invariant.specs.RawSteps.{TurnsRawOne, RegainsOne, SeesRawOne};
 ghost use Rattle.sdd_views.specs.declared.CellKind.TheVariants.{Owned as for_owned, Shared as for_shared};
 ghost use Rattle.sdd_domain_invariant.specs.CellSteps.{ClaimsCell, LooksInCell, SeesInCell, OfCell, rightless, rights_of, righted};
-ghost use Rattle.sdd_atomics.specs.Cells.{SwapsPledged, ExchangesPledged, FreesOwn, RecallsCell};
+ghost use Rattle.sdd_atomics.specs.Cells.{SwapsPledged, ExchangesPledged, FreesOwn, FreesOwnBare, RecallsCell, FindsRight};
 ghost use Rattle.sdd_atomics.specs.Clones.{AddsPledged, AddsBesideSeen};
 ghost use Rattle.sdd_atomics.specs.DomainSeat.{Sits, Told, HousesMoved, WatchesOwned, RecallsOwned};
 
@@ -307,10 +307,22 @@ impl Play<ValueFraction, View> for FreeCell {
     ghost then = { λ step. FreesOwn step.word };
 }
 
+pub struct FreeBareCell;
+
+impl Play<ValueFraction, View> for FreeBareCell {
+    ghost then = { λ step. FreesOwnBare step.word };
+}
+
 pub struct LearnCell;
 
 impl GhostUpdateBeside<ValueFraction, View> for LearnCell {
     ghost then = { RecallsCell };
+}
+
+pub struct FindCell;
+
+impl GhostUpdateBeside<ValueFraction, View> for FindCell {
+    ghost then = { FindsRight };
 }
 
 pub struct DrawUnit;

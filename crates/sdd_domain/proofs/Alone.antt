@@ -1,17 +1,30 @@
 -- What the calls of a lone participant do to its world
-use Rattle.std.proofs.Common.{◌≡◌, ℕ, suc, ◌+◌, false, List, [], ◌∷◌, Some, None, get_or, replicate, slice_index_or, sym, ◌∙◌}
+use Rattle.std.proofs.Common.{◌≡◌, ℕ, suc, ◌+◌, false, List, [], ◌∷◌, Some, None, get_or, get_or-set_other, set, replicate, slice_index_or, sym, ap, ◌∙◌, arith}
 use Rattle.std.specs.Prelude.{Option}
 use Rattle.sdd_participants.specs.declared.participant.Participant.{Participant}
 use Rattle.sdd_participants.specs.declared.place_states.PlaceState.TheVariants.{Live}
 use Rattle.sdd_participants.specs.declared.standing.Standing.{Standing}
+use Rattle.sdd_participants.specs.declared.standing.CellContents.{CellContents}
 use Rattle.sdd_participants.specs.declared.tally.Tally.{Tally}
+use Rattle.sdd_views.specs.declared.Sizes.{Sizes}
 use Rattle.sdd_word_invariant.specs.SlotSteps.{behind}
 use Rattle.sdd_standings.specs.Cells.{null_pointer}
 use Rattle.sdd_space.specs.World.{World}
 use Rattle.sdd_domain.specs.SpaceIds.{home_in}
-use Rattle.sdd_domain.specs.Local.{LocalModel, listing, standing_by, value_by, world_of}
+use Rattle.sdd_domain.proofs.Listings.{listing_same}
+use Rattle.sdd_domain.specs.Local.{LocalModel, listing, standing_by, value_by, contents_by, world_of}
 
 -- ---- a world of one participant
+-- what a cell holds by these words
+abbrev pub contents_with : List ℕ → ℕ → Option CellContents
+contents_with ws i = contents_by (get_or ws i 0)
+
+-- where the word of a slot, or of a job's place, changes, the cells hold what they held
+pub cells_kept : (n : ℕ) (z : Sizes) (ws : List ℕ) (number y : ℕ) → z.cells ≡ n
+    → listing n (contents_with (set ws (behind z number) y)) ≡ listing n (contents_with ws)
+cells_kept n z ws number y all = listing_same n (contents_with ws) (contents_with (set ws (behind z number) y))
+    (λ i l. ap contents_by (get_or-set_other ws (behind z number) i y 0 (λ e. omega arith)))
+
 module _ {T : Type 0} where
   abbrev pub standing_with : LocalModel T → List ℕ → ℕ → Option Standing
   standing_with p ws i = standing_by (get_or ws (behind p.member.sizes i) 0)
@@ -34,7 +47,7 @@ module _ {T : Type 0} where
     };
     standings = listing p.member.limits.slots (standing_with p ws);
     values = listing p.member.limits.slots (value_with p ws);
-    cells = replicate p.member.limits.cells None;
+    cells = listing p.member.limits.cells (contents_with ws);
     pointers = replicate p.member.limits.cells null_pointer;
     jobs = p.member.jobs;
     tally = tally;

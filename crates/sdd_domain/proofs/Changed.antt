@@ -50,6 +50,7 @@ module _ {T : Type 0} (v : LocalModel T) (t : AreTied v.member v.entries) (k : â
     place = t.place;
     slots = t.slots;
     places = t.places;
+    all_cells = t.all_cells;
     long = t.long;
     wide = length-set v.entries k (Some (x, g)) âˆ™ t.wide;
     plain = t.plain;

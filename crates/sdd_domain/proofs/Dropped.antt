@@ -22,6 +22,7 @@ use Rattle.sdd_domain.specs.Local.{LocalModel, listing, standing_by, value_by, s
 use Rattle.sdd_domain.proofs.Listings.{listing_set}
 use Rattle.sdd_domain.proofs.Owning.{entry, has_value}
 use Rattle.sdd_domain.proofs.Words.{word_same, word_other}
+use Rattle.sdd_domain.proofs.Alone.{cells_kept}
 
 -- an owner's item has the value that its owner tells
 module _ (R : RattleType) (v : LocalModel R.Denot) (t : AreTied v.member v.entries)
@@ -62,7 +63,7 @@ module _ (R : RattleType) (v : LocalModel R.Denot) (t : AreTied v.member v.entri
         let values : listing n (value_in then) ≡ set (listing n (value_in v)) k None
         = listing_set n (value_in v) (value_in then) k (λ i l ne. ap (λ (y : ℕ). value_by y (slice_index_or v.entries i None)) (other i ne))
         ∙ ap (λ (y : ℕ). set (listing n (value_in v)) k (value_by y (slice_index_or v.entries k None))) same in
-        λ d. record (world_of then) { standings = standings d; values = values d }
+        λ d. record (world_of then) { standings = standings d; values = values d; cells = cells_kept v.member.limits.cells z ws k 0 t.all_cells d }
 
     -- what the value gives up then is what the dropping does
     pub drops_now : (holds : R.Denot → List OwnerOrCell) → dropped holds (world_of v) v.member.place k
@@ -76,6 +77,7 @@ module _ (R : RattleType) (v : LocalModel R.Denot) (t : AreTied v.member v.entri
       place = t.place;
       slots = t.slots;
       places = t.places;
+      all_cells = t.all_cells;
       long = length-set ws (behind z k) 0 ∙ t.long;
       wide = t.wide;
       plain = λ i l. dite (ℕ_discrete i k) (λ e. subst (λ (w : ℕ). IsTrue (is_plain_word w)) (sym (ap (word_of now) e ∙ same)) refl)

@@ -57,6 +57,7 @@ module _ {T : Type 0} (v : LocalModel T) where
     slots = t.slots;
     long = t.long;
     places = t.places;
+    all_cells = t.all_cells;
     wide = t.wide;
     table = t.table;
     jobs = t.jobs;
@@ -74,6 +75,7 @@ module _ {T : Type 0} (v : LocalModel T) where
     slots = t.slots;
     long = t.long;
     places = t.places;
+    all_cells = t.all_cells;
     wide = t.wide;
     table = t.table;
     jobs = t.jobs;

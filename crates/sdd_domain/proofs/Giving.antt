@@ -27,19 +27,3 @@ given_of (x ∷ xs) old new grows none = let g = grows old ([], refl) in (g.0, g
 
 pub knows_more : (a b c : KnownEpochs) → KnowsOn a b → KnowsOn b c → KnowsOn a c
 knows_more a b c u v = let t = u.told in let s = v.told in record { told = omega arith; since = v.since ∙ u.since }
-
--- ---- a cell that is given: there is none in a domain
-module _ {E : Type 0} where
-  none_at : (n c : ℕ) → slice_index_or {A = Option E} (replicate n None) c None ≡ None
-  none_at zero c = refl
-  none_at (suc n) zero = refl
-  none_at (suc n) (suc c) = none_at n c
-
-  none_set : (n c : ℕ) → slice_set {A = Option E} (replicate n None) c None ≡ replicate n None
-  none_set zero c = refl
-  none_set (suc n) zero = refl
-  none_set (suc n) (suc c) = ap (λ (es : List (Option E)). None ∷ es) (none_set n c)
-
-pub no_cell_closed : {T : Type 0} (p : LocalModel T) (place c : ℕ) → world_of p ≡ cell_closed (world_of p) place c
-no_cell_closed p place c = let n : ℕ = p.member.limits.cells in
-    sym (λ d. spilled (record (world_of p) { cells = none_set n c d }) place (held_in (none_at n c d)))

@@ -32,6 +32,7 @@ use Rattle.sdd_domain.specs.Local.{LocalModel, listing, standing_by, value_by, s
 use Rattle.sdd_domain.proofs.Listings.{listing_at, listing_set}
 use Rattle.sdd_domain.proofs.Reclaims.{first_goes}
 use Rattle.sdd_domain.proofs.Words.{word_same, word_other, stands_retired, value_there, waiting_taken}
+use Rattle.sdd_domain.proofs.Alone.{cells_kept}
 
 value_or : Gv → Option ShownValue → Gv
 value_or g None = g
@@ -104,7 +105,11 @@ module _ (R : RattleType) (p : LocalModel R.Denot) (t : AreTied p.member p.entri
       let values : listing n (value_in then) ≡ set (listing n (value_in p)) slot None
       = listing_set n (value_in p) (value_in then) slot (λ i l ne. ap (λ (v : ℕ). value_by v (slice_index_or p.entries i None)) (other i ne))
       ∙ ap (λ (v : ℕ). set (listing n (value_in p)) slot (value_by v (slice_index_or p.entries slot None))) same in
-      λ d. record (world_of then) { standings = standings d; values = values d }
+      λ d. record (world_of then) {
+        standings = standings d;
+        values = values d;
+        cells = cells_kept p.member.limits.cells p.member.sizes p.member.words slot 0 t.all_cells d;
+      }
 
   goes_now : (holds : R.Denot → List OwnerOrCell) → slot_reclaimed holds (world_of p) p.member.place slot
       ≡ given_all (world_of then) p.member.place (holds x)
@@ -121,6 +126,7 @@ module _ (R : RattleType) (p : LocalModel R.Denot) (t : AreTied p.member p.entri
     place = t.place;
     slots = t.slots;
     places = t.places;
+    all_cells = t.all_cells;
     long = length-set ws (behind z slot) 0 ∙ t.long;
     wide = t.wide;
     plain = λ i l. dite (ℕ_discrete i slot) (λ e. subst (λ (w : ℕ). IsTrue (is_plain_word w)) (sym (ap (word_of now) e ∙ same)) refl)

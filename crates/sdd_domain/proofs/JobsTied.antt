@@ -22,7 +22,7 @@ use Rattle.sdd_domain.specs.LocalState.{LocalState, place_number, IsLone, Defers
 use Rattle.sdd_domain.specs.WaitingItems.{what_of, waiting_of, ripe, unripe}
 use Rattle.sdd_domain.specs.WordsAndValues.{AreTied, MatchesPlace, is_plain_word}
 use Rattle.sdd_domain.specs.Local.{LocalModel, listing, standing_by, value_by, standing_in, value_in, world_of}
-use Rattle.sdd_domain.proofs.Alone.{alone, steps_alone}
+use Rattle.sdd_domain.proofs.Alone.{alone, steps_alone, cells_kept}
 use Rattle.sdd_domain.proofs.Listings.{listing_same}
 use Rattle.sdd_domain.proofs.Reclaims.{first_goes, what_job}
 use Rattle.sdd_domain.proofs.Ripe.{ripe_snoc, unripe_too}
@@ -57,6 +57,7 @@ module _ {T : Type 0} (v : LocalModel T) (t : AreTied v.member v.entries) (place
     place = t.place;
     slots = t.slots;
     places = t.places;
+    all_cells = t.all_cells;
     long = length-set v.member.words (behind v.member.sizes number) y ∙ t.long;
     wide = t.wide;
     plain = λ i l. subst (λ (w : ℕ). IsTrue (is_plain_word w)) (sym (slot_then i l)) (t.plain i l);
@@ -143,7 +144,7 @@ module _ {T : Type 0} (v : LocalModel T) (t : AreTied v.member v.entries) where
 
     world_waits : alone (record { member = waits_too; entries = v.entries }) ≡ deferred (alone v) 0 place
     world_waits = let q : LocalModel T = record { member = waits_too; entries = v.entries } in
-        λ d. record (alone q) { standings = standings_same v t place 4 is.inside d; values = values_same v t place 4 is.inside d }
+        λ d. record (alone q) { standings = standings_same v t place 4 is.inside d; values = values_same v t place 4 is.inside d; cells = cells_kept v.member.limits.cells v.member.sizes v.member.words (place_number v.member place) 4 t.all_cells d }
 
     pub world_deferred : world_of (record { member = m; entries = v.entries }) ≡ deferred (world_of v) v.member.place place
     world_deferred = steps_alone (λ (w : World T) (p : ℕ). deferred w p place) v (record { member = m; entries = v.entries }) t.place
@@ -172,7 +173,7 @@ module _ {T : Type 0} (v : LocalModel T) (t : AreTied v.member v.entries) where
 
     world_gone : alone (record { member = gone; entries = v.entries }) ≡ ran (alone v) place
     world_gone = let q : LocalModel T = record { member = gone; entries = v.entries } in
-        λ d. record (alone q) { standings = standings_same v t place 0 is.inside d; values = values_same v t place 0 is.inside d }
+        λ d. record (alone q) { standings = standings_same v t place 0 is.inside d; values = values_same v t place 0 is.inside d; cells = cells_kept v.member.limits.cells v.member.sizes v.member.words (place_number v.member place) 0 t.all_cells d }
 
     pub world_taken : world_of (record { member = m; entries = v.entries }) ≡ ran (world_of v) place
     world_taken = steps_alone (λ (w : World T) (p : ℕ). ran w place) v (record { member = m; entries = v.entries }) t.place

@@ -35,6 +35,7 @@ use Rattle.sdd_domain.specs.Space.{ShowsBy, Shows, is_lone}
 use Rattle.sdd_domain.proofs.Listings.{listing_at, listing_long, listing_past, listing_set, listing_all}
 use Rattle.sdd_domain.proofs.Words.{word_same, word_other, plain_claimed, stands_claimed, stands_raw, stands_retired, value_there, alive_taken}
 use Rattle.sdd_domain.proofs.Exact.{lone_is}
+use Rattle.sdd_domain.proofs.Alone.{cells_kept}
 
 pub first_by : (kind : StandingKind) → first_standing kind ≡ (if is_shared kind then Shared 1 else Owned)
 first_by kinds.Free = refl
@@ -109,6 +110,7 @@ module _ {T : Type 0} (v : LocalModel T) (k : ℕ) (shared : Bool) (x : T) (g : 
       place = t.place;
       slots = t.slots;
       places = t.places;
+      all_cells = t.all_cells;
       long = length-set v.member.words (behind v.member.sizes k) y ∙ t.long;
       wide = length-set v.entries k (Some (x, g)) ∙ t.wide;
       plain = λ i l. dite (ℕ_discrete i k)
@@ -154,7 +156,11 @@ module _ {T : Type 0} (v : LocalModel T) (k : ℕ) (shared : Bool) (x : T) (g : 
         let values : listing v.member.limits.slots (value_in made_partaker) ≡ set (listing v.member.limits.slots (value_in v)) k (Some x)
         = listing_set v.member.limits.slots (value_in v) (value_in made_partaker) k (λ i l ne. λ d. value_by (word_then i ne d) (entry_then i ne d))
         ∙ ap (set (listing v.member.limits.slots (value_in v)) k) value_now in
-        λ d. record (world_of made_partaker) { standings = standings d; values = values d }
+        λ d. record (world_of made_partaker) {
+          standings = standings d;
+          values = values d;
+          cells = cells_kept v.member.limits.cells v.member.sizes v.member.words k (claimed_word shared) t.all_cells d;
+        }
 
     -- each slot shows what it showed
     pub value_kept : (i : ℕ) (u : T) → value_at (world_of v) i ≡ Some u → value_at (world_of made_partaker) i ≡ Some u

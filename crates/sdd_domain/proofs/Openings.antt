@@ -86,6 +86,7 @@ module _ {T : Type 0} (p : LocalModel T) (tied : AreTied p.member p.entries) (se
       slots = tied.slots;
       long = tied.long;
       places = tied.places;
+      all_cells = tied.all_cells;
       wide = tied.wide;
       table = tied.table;
       jobs = tied.jobs;
@@ -103,6 +104,7 @@ module _ {T : Type 0} (p : LocalModel T) (tied : AreTied p.member p.entries) (se
       slots = tied.slots;
       long = tied.long;
       places = tied.places;
+      all_cells = tied.all_cells;
       wide = tied.wide;
       table = tied.table;
       jobs = tied.jobs;

@@ -42,6 +42,7 @@ use Rattle.sdd_domain.proofs.Words.{plain_by, word_same, word_other, stands_owne
 use Rattle.sdd_domain.proofs.Owning.{low, taken, stands, shown_entry, only_looks, shows_it, keeps_it}
 use Rattle.sdd_domain.proofs.Exact.{lone_is}
 use Rattle.sdd_domain.proofs.Refusals.{words_only, words_undisturbed}
+use Rattle.sdd_domain.proofs.Alone.{cells_kept}
 
 -- ---- a word changes of an item that stays
 -- an item that neither waits nor is free
@@ -70,6 +71,7 @@ module _ {T : Type 0} (v : LocalModel T) (k y : ℕ) where
         place = t.place;
         slots = t.slots;
         places = t.places;
+        all_cells = t.all_cells;
         long = length-set v.member.words (behind v.member.sizes k) y ∙ t.long;
         wide = t.wide;
         plain = λ i l. dite (ℕ_discrete i k)
@@ -107,7 +109,11 @@ module _ {T : Type 0} (v : LocalModel T) (k y : ℕ) where
           let standings : listing n (standing_in changed) ≡ set (listing n (standing_in v)) k (Some s)
           = listing_set n (standing_in v) (standing_in changed) k (λ i l ne. ap standing_by (word_then i ne))
           ∙ ap (set (listing n (standing_in v)) k) (ap standing_by word_now ∙ is) in
-          λ d. record (world_of v) { standings = standings d; values = values_same d }
+          λ d. record (world_of v) {
+            standings = standings d;
+            values = values_same d;
+            cells = cells_kept v.member.limits.cells v.member.sizes v.member.words k y t.all_cells d;
+          }
 
       -- and each slot has its value still
       pub value_word : (i : ℕ) (u : T) → value_at (world_of v) i ≡ Some u → value_at (world_of changed) i ≡ Some u

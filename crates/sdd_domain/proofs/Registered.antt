@@ -14,10 +14,10 @@ use Rattle.sdd_word_invariant.specs.SlotSteps.{behind}
 use Rattle.sdd_word_invariant.specs.Sums.{total}
 use Rattle.sdd_word_invariant.specs.Slots.{waits_in}
 use Rattle.sdd_word_invariant.proofs.Codes.{free_is}
-use Rattle.sdd_domain.specs.LocalState.{LocalState, IsLone, IsNew, word_of, place_number}
+use Rattle.sdd_domain.specs.LocalState.{LocalState, IsLone, IsNew, word_of, cell_word_of, place_number}
 use Rattle.sdd_domain.specs.WaitingItems.{what_of, waiting_of, ripe, unripe}
 use Rattle.sdd_domain.specs.WordsAndValues.{Entries, WordsMatchValues, MatchesPlace, is_plain_word}
-use Rattle.sdd_domain.specs.Local.{LocalModel, IsBlankAlone, listing, standing_by, value_by, standing_in, value_in, world_of}
+use Rattle.sdd_domain.specs.Local.{LocalModel, IsBlankAlone, listing, standing_by, value_by, contents_by, standing_in, value_in, contents_in, world_of}
 use Rattle.sdd_space.proofs.Accounts.{blank-at}
 use Rattle.sdd_domain.proofs.Listings.{listing_same}
 
@@ -41,6 +41,12 @@ module _ {T : Type 0} (home : TableId) (book : ℕ) (most : Limits) (m : LocalSt
   jobs_are : m.limits.jobs ≡ most.jobs
   jobs_are = ap (λ (l : Limits). l.jobs) is.limits
 
+  cells_are : m.limits.cells ≡ most.cells
+  cells_are = ap (λ (l : Limits). l.cells) is.limits
+
+  cell_free : (i : ℕ) → cell_word_of m i ≡ 0
+  cell_free i = ap (λ (ws : List ℕ). get_or ws i 0) is.words ∙ zeros (words_behind m.sizes) i
+
   nothing_waits : (i : ℕ) → total (waits_in i) m.slots.waits ≡ 0
   nothing_waits i = ap (λ (s : SlotsView). total (waits_in i) s.waits) is.slots
 
@@ -52,6 +58,7 @@ module _ {T : Type 0} (home : TableId) (book : ℕ) (most : Limits) (m : LocalSt
     place = place_first one;
     slots = is.sizes.1 ∙ sym slots_are;
     places = is.sizes.2 ∙ sym jobs_are;
+    all_cells = is.sizes.3 ∙ sym cells_are;
     long = ap length is.words ∙ length-replicate (words_behind m.sizes) 0;
     wide = ap length none ∙ (length-replicate most.slots None ∙ sym slots_are);
     plain = λ i l. subst (λ (y : ℕ). IsTrue (is_plain_word y)) (sym (word_free i)) refl;
@@ -80,7 +87,8 @@ module _ {T : Type 0} (home : TableId) (book : ℕ) (most : Limits) (m : LocalSt
         ∙ (listing_none m.limits.slots ∙ ap (λ (n : ℕ). replicate n None) slots_are);
     values = listing_same m.limits.slots (λ (i : ℕ). None) (value_in q) (λ i l. ap (λ (w : ℕ). value_by w (slice_index_or es i None)) (word_free i))
         ∙ (listing_none m.limits.slots ∙ ap (λ (n : ℕ). replicate n None) slots_are);
-    cells = ap (λ (l : Limits). replicate l.cells None) is.limits;
+    cells = listing_same m.limits.cells (λ (i : ℕ). None) (contents_in q) (λ i l. ap contents_by (cell_free i))
+        ∙ (listing_none m.limits.cells ∙ ap (λ (n : ℕ). replicate n None) cells_are);
     pointers = ap (λ (l : Limits). replicate l.cells Rattle.sdd_standings.specs.Cells.null_pointer) is.limits;
     jobs = is.jobs;
     tally = is.tally;

@@ -12,6 +12,7 @@ pub mod Items
 pub mod Receipt
 pub mod Values
 pub mod RawItems
+pub mod Cells
 pub mod BetweenCalls
 pub mod InPlace
 pub mod GoesInPlace

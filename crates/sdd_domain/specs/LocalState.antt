@@ -74,7 +74,7 @@ pub record IsNew (domain : TableId) (book : ℕ) (most : Limits) (m : LocalState
   pub since : m.since ≡ 0
   pub lone : IsLone m → m.known ≡ 0
   pub tally : m.tally ≡ no_items
-  pub sizes : (m.sizes.participants ≡ most.participants) × (m.sizes.slots ≡ most.slots) × (m.sizes.jobs ≡ most.jobs)
+  pub sizes : (m.sizes.participants ≡ most.participants) × (m.sizes.slots ≡ most.slots) × (m.sizes.jobs ≡ most.jobs) × (m.sizes.cells ≡ most.cells)
   pub slots : m.slots ≡ bare
   pub shown : m.shown ≡ []
   pub filled : m.filled ≡ []
@@ -159,6 +159,10 @@ pub record IsTold (count : ℕ) (old new : LocalState) : Type 0 where
 -- the word of a slot, as a lone participant knows it
 abbrev pub word_of : LocalState → ℕ → ℕ
 word_of m slot = slice_index m.words (behind m.sizes slot)
+
+-- the word of a cell, as a lone participant knows it
+abbrev pub cell_word_of : LocalState → ℕ → ℕ
+cell_word_of m cell = slice_index m.words cell
 
 -- by the words that a lone participant knows the slot is free
 abbrev pub IsFree : LocalState → ℕ → Type 0

@@ -36,6 +36,7 @@ pub record AreTied {T : Type 0} (m : LocalState) (entries : Entries T) : Type 0 
   pub place : m.place ≡ 0
   pub slots : m.sizes.slots ≡ m.limits.slots
   pub places : m.sizes.jobs ≡ m.limits.jobs
+  pub all_cells : m.sizes.cells ≡ m.limits.cells
   pub long : length m.words ≡ words_behind m.sizes
   pub wide : length entries ≡ m.limits.slots
   pub plain : (slot : ℕ) → slot < m.limits.slots → IsTrue (is_plain_word (word_of m slot))

@@ -38,6 +38,7 @@ use sdd_values::{ReadSection, SectionState};
 use std::alloc::{AllocError, Global};
 use std::marker::Model;
 
+mod cells;
 pub mod detached_local;
 mod in_place;
 mod items;

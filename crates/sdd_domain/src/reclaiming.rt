@@ -11,7 +11,7 @@ ghost use Rattle.sdd_space.specs.Owned as owned;
 ghost use Rattle.sdd_space.specs.RawCell as raw_cell;
 ghost use Rattle.sdd_space.specs.CallerId.{IsSeated, IsExact};
 ghost use Rattle.sdd_space.specs.Shared as shared;
-ghost use Rattle.sdd_space.specs.WorldChanges.{given, given_all, all_reclaimed, dropped, owner_given, reclaimed, ran};
+ghost use Rattle.sdd_space.specs.WorldChanges.{cell_closed, given, given_all, all_reclaimed, dropped, owner_given, reclaimed, ran};
 ghost use Rattle.sdd_space.specs.WorldChanges as steps;
 ghost use Rattle.sdd_participants.specs.EpochState.{awaiting, settled};
 ghost use Rattle.sdd_participants.specs.declared.waiting.LimboEntry.{LimboEntry as Entry};
@@ -95,7 +95,6 @@ impl<T: Item<T>, J: Job> Giver<T> for LocalGiver<'_, T, J> {
             .release(right_of_shared(owner), StandingKind::Shared);
     }
 
-    /// A domain has no cells yet, so that nothing becomes of this one.
     fn atomic_owned(&mut self, cell: AtomicOwned<T>)
         requires seated { IsSeated (seat_of self.old) }
         requires home { owned.cells_home cell ≡ (home_in self.old.member).cells }
@@ -105,7 +104,7 @@ impl<T: Item<T>, J: Job> Giver<T> for LocalGiver<'_, T, J> {
         ensures kept { kept_of self.new ≡ kept_of self.old }
         ensures exact { IsExact (seat_of self.old) → world_of self.new ≡ given (world_of self.old) self.old.member.place (owned.cell_holding cell) }
     {
-        right_of_cell(cell).forget();
+        self.close_cell(right_of_cell(cell), StandingKind::Owned);
     }
 
     fn atomic_shared(&mut self, cell: AtomicShared<T>)
@@ -117,7 +116,7 @@ impl<T: Item<T>, J: Job> Giver<T> for LocalGiver<'_, T, J> {
         ensures kept { kept_of self.new ≡ kept_of self.old }
         ensures exact { IsExact (seat_of self.old) → world_of self.new ≡ given (world_of self.old) self.old.member.place (shared.cell_holding cell) }
     {
-        right_of_shared_cell(cell).forget();
+        self.close_cell(right_of_shared_cell(cell), StandingKind::Shared);
     }
 
     fn atomic_raw(&mut self, cell: AtomicRaw<T>)
@@ -129,11 +128,28 @@ impl<T: Item<T>, J: Job> Giver<T> for LocalGiver<'_, T, J> {
         ensures kept { kept_of self.new ≡ kept_of self.old }
         ensures exact { IsExact (seat_of self.old) → world_of self.new ≡ given (world_of self.old) self.old.member.place (raw_cell.cell_holding cell) }
     {
-        right_of_raw_cell(cell).forget();
+        self.membership.free_raw_cell(right_of_raw_cell(cell));
     }
 }
 
 impl<T: Item<T>, J: Job> LocalGiver<'_, T, J> {
+    /// A cell is free again, and the participant lets the owner go that it held, if it held one.
+    fn close_cell(&mut self, right: Right, kind: StandingKind)
+        requires home { home_of right ≡ (home_in self.old.member).cells }
+        requires kind { kind_of right ≡ kind }
+        ensures seat { seat_of self.new ≡ seat_of self.old }
+        ensures own { KeepsMoreWaiting self.old.member.own self.new.member.own }
+        ensures known { KnowsOn (known_of self.old) (known_of self.new) }
+        ensures kept { kept_of self.new ≡ kept_of self.old }
+        ensures exact { IsExact (seat_of self.old) → world_of self.new ≡ cell_closed (world_of self.old) self.old.member.place (number_of right) }
+    {
+        let (held, _word) = self.membership.into_contents(right, kind);
+        let Some(owner) = held else {
+            return;
+        };
+        self.membership.release(owner, kind);
+    }
+
     /// The item that is due before all others, in this slot, is reclaimed, and what its value held is retired then.
     fn reclaim_item(&mut self, slot: u32)
         requires first { (rest : List Entry) × (self.old.member.due ≡ item slot ∷ rest) }

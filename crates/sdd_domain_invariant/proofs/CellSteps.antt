@@ -46,7 +46,7 @@ use Rattle.sdd_domain_invariant.specs.PledgesInvariant.{IsOfOwner, IsOfCell}
 use Rattle.sdd_domain_invariant.specs.KindsInvariant.{KnowsKinds, KindsInvariant}
 use Rattle.sdd_domain_invariant.specs.DomainInvariant.{DomainInvariant}
 use Rattle.sdd_domain_invariant.specs.FractionSteps.{SeatState, IsValue, SeesOwned, sighting}
-use Rattle.sdd_domain_invariant.specs.CellSteps.{put_in, brought_out, KnewStored, BringsOut, SwapsOne, ExchangesOne, ClaimsCell, FreesCell, LooksInCell, SeesInCell, LearnsCell, OfCell}
+use Rattle.sdd_domain_invariant.specs.CellSteps.{put_in, brought_out, KnewStored, BringsOut, SwapsOne, ExchangesOne, ClaimsCell, FreesCell, FreesBare, IsBare, FindsCell, LooksInCell, SeesInCell, LearnsCell, OfCell}
 use Rattle.sdd_domain_invariant.proofs.Part.{none_out, only_seen, one_taken}
 use Rattle.sdd_domain_invariant.proofs.Part as part
 use Rattle.sdd_domain_invariant.proofs.Banks as banks
@@ -100,6 +100,12 @@ counted_word : (sizes : Sizes) (ws : List ℕ) (shared : Bool) (x : ℕ) → IsW
     → counted (slot_at sizes ws i) ≡ one_where shared
 counted_word sizes ws true x w = w
 counted_word sizes ws false x w = w
+
+names_nothing : (sizes : Sizes) (ws : List ℕ) (kind : CellKind) → IsBare kind → (x : ℕ) → IsWordOf sizes ws kind x → (i : ℕ) → names i x ≡ 0
+names_nothing sizes ws Owned bare x w i = absurd bare
+names_nothing sizes ws Shared bare x w i = absurd bare
+names_nothing sizes ws Raw bare x w i = w i
+names_nothing sizes ws Collector bare x w i = w i
 
 -- it has no owner, or one, with its record
 module _ (m : ℕ) (v : View) (t : IsTelling m v) (cell y : ℕ) (rights : CellsView) (rests : v.stakes.moves ≡ None) where
@@ -547,6 +553,37 @@ module _ (slots id : ℕ) (me : SeatState) (live : HasPlace me.0.epoch) (rests :
         )) (at_set s.views id k now u e)))
         (λ m brings. at_once (FreesCell shared) (cell_at sizes s.words cell) (record m.0 { cells = no_rights }, m.1) ((m, brings, refl), c.1))))
 
+    -- the same of a cell that holds no owners
+    pub frees_bare : v.slots.owns ≡ [] → v.slots.holds ≡ None → v.slots.drawn ≡ [] → (kind : CellKind) → IsBare kind
+        → ((r : ShownValue) → ¬ (HasRecord v.stakes.owns r)) → v.cells.rights ≡ record { cell = cell; kind = kind } ∷ [] → May i (λ _. 0) (OfCell FreesBare i me)
+    frees_bare owns loose undrawn kind bare none mine = let told : ℕ → SeatState → Type 0 = OfCell FreesBare i me in
+        let right : CellRight = record { cell = cell; kind = kind } in
+        let owns_is : v.slots.owns ≡ held_slots 0 = owns ∙ sym (holds_none 0 (inl (omega arith))) in
+        let given : (r : ShownValue) → HasRecord v.stakes.owns r → r.shared ≡ false = λ r has. absurd (none r has) in
+        lift_homes γ sizes slots id me i (λ _. 0) (AtCell (SwapsCell 0 no_rights) i v) told
+        (spares (λ _. 0) (AtCell (SwapsCell 0 no_rights) i v) (λ r w t. ap (λ (u : View). u.places) (t cell refl).0))
+        (words.swaps id v live cell 0 no_rights inside owns_is loose)
+        (λ s w h at t. let c = t cell refl in let has : HasRight v right = (0, ap (λ (l : List CellRight). get_elem? l 0) mine) in
+        let x : ℕ = cell_at sizes s.words cell in
+        let empty : held_slots x ≡ [] = ⊎_elim
+        (λ (one : (slot : ℕ) × (held_slots x ≡ slot ∷ [])). let no = names_nothing sizes s.words kind bare x (h.kinds.cells.taken id v right at has).kind one.0 in
+        let e = held_in x one.0 in let o = ap (times one.0) one.1 in let l = is_same one.0 one.0 refl in absurd (omega arith))
+        (λ (e : held_slots x ≡ []). e) (held_which x) in
+        let now : View = record (put_in cell 0 v) { cells = no_rights } in
+        subst (Follows γ sizes id i me told s 0) (sym c.0)
+        (follows_none s h at 0 owns_is loose undrawn false given told no_rights empty
+        (cells_then s h at 0 owns_is loose undrawn false given now
+        (λ d. let a = total_set (rights_at d) s.views id v now at in let o = h.kinds.cells.single d in omega arith)
+        (λ k u r e its. ⊎_elim
+        (λ (b : (k ≡ id) × (now ≡ u)). absurd (no_right u (ap (λ (q : View). q.cells.rights) (sym b.1)) r its))
+        (λ (b : (k ≢ id) × (get_elem? s.views k ≡ some u)). inl (
+          (λ is. let d : ℕ = r.cell in let m = total_has (is_right d) u.cells.rights its.0 r its.1 in let one = is_same d d refl in
+              let m' = total_has (is_right d) v.cells.rights has.0 right has.1 in let one' = is_same d cell (sym is) in
+              let both = total_two (rights_at d) s.views k id u v b.0 b.1 at in let o = h.kinds.cells.single d in absurd (omega arith)),
+          h.kinds.cells.taken k u r b.1 its,
+        )) (at_set s.views id k now u e)))
+        (at_once FreesBare x (now, me.1) (refl, empty, (h.kinds.cells.taken id v right at has).full, c.1))))
+
     -- a look
     pub looks_in : May i (λ x. x) (OfCell LooksInCell i me)
     looks_in = let told : ℕ → SeatState → Type 0 = OfCell LooksInCell i me in lift_homes γ sizes slots id me i (λ x. x) (AtCell LooksAtCell i v) told
@@ -644,6 +681,16 @@ module _ (slots id : ℕ) (me : SeatState) (live : HasPlace me.0.epoch) (rests :
             c.3,
           )))) (held_which x))
 
+  -- beside the right to a cell it learns that there is that cell, and nothing changes
+  pub finds_cell : (jd cell : ℕ) (kind : CellKind) → AllowsBeside (DomainInvariant γ sizes) slots id me jd (right_to cell kind) (FindsCell cell me)
+  finds_cell jd cell kind s h _ at there = (
+    v,
+    keeps,
+    tt,
+    subst (λ (vs : List View). DomainInvariant γ sizes record { words = s.words; homes = s.homes; views = vs }) (sym (set_again s.views id v at)) h,
+    (refl, (h.kinds.cells.taken jd (right_to cell kind) (record { cell = cell; kind = kind }) there (0, refl)).inside),
+  )
+
   -- beside the right to a cell it learns what it knows of the cell, and nothing changes
   pub recalls : (jd cell : ℕ) (shared : Bool)
       → AllowsBeside (DomainInvariant γ sizes) slots id me jd (right_to cell (cell_kind shared)) (LearnsCell cell shared me)
@@ -654,6 +701,7 @@ module _ (slots id : ℕ) (me : SeatState) (live : HasPlace me.0.epoch) (rests :
     subst (λ (vs : List View). DomainInvariant γ sizes record { words = s.words; homes = s.homes; views = vs }) (sym (set_again s.views id v at)) h,
     (
       refl,
+      (h.kinds.cells.taken jd (right_to cell (cell_kind shared)) (record { cell = cell; kind = cell_kind shared }) there (0, refl)).inside,
       λ lone. let one = steps.one_place γ sizes s h id v at lone in let l = h.kept.parts.lone in
           let t = h.kinds.cells.taken jd (right_to cell (cell_kind shared)) (record { cell = cell; kind = cell_kind shared }) there (0, refl) in
           let is : cell_at sizes s.words cell ≡ get_or v.words cell 0 = finds_word sizes s.words s.views l id v at one live cell in record {

@@ -3,6 +3,7 @@ use Rattle.std.specs.Prelude.{◌≡◌, ◌≢◌, ℕ, ◌<◌, ◌++◌, Bool
 use base.Stored.{Gv}
 use Rattle.sdd_shared_values.specs.SharedValues.{IsValueCode}
 use Rattle.sdd_views.specs.declared.CellKind.{CellKind}
+use Rattle.sdd_views.specs.declared.CellKind.TheVariants.{Owned, Shared, Raw, Collector}
 use Rattle.sdd_views.specs.declared.View.{View}
 use Rattle.sdd_views.specs.Views.{owner_token, no_rights}
 use Rattle.sdd_word_invariant.specs.Words.{cell_word}
@@ -68,6 +69,17 @@ ClaimsCell y kind cell me x me' = (x ≡ 0 → me' ≡ (gaining cell kind (put_i
 abbrev pub FreesCell : Bool → ℕ → SeatState → ℕ → SeatState → Type 0
 FreesCell shared cell me x me' = ((m : SeatState) × BringsOut 0 shared cell me x m × (me' ≡ (rightless m.0, m.1))) × KnewCell cell me.0 x
 
+-- a cell that holds no owners is free then, of which it had the right
+abbrev pub FreesBare : ℕ → SeatState → ℕ → SeatState → Type 0
+FreesBare cell me x me' = (me' ≡ (rightless (put_in cell 0 me.0), me.1)) × (held_slots x ≡ []) × (0 < x) × KnewCell cell me.0 x
+
+-- cells of this kind hold no owners
+abbrev pub IsBare : CellKind → Type 0
+IsBare Owned = ⊥
+IsBare Shared = ⊥
+IsBare Raw = Unit {0}
+IsBare Collector = Unit {0}
+
 -- a look
 abbrev pub LooksInCell : ℕ → SeatState → ℕ → SeatState → Type 0
 LooksInCell cell me x me' = (me' ≡ me) × KnewCell cell me.0 x
@@ -86,9 +98,13 @@ pub record KnowsCell (cell : ℕ) (shared : Bool) (v : View) : Type 0 where
   pub held : (slot : ℕ) → held_slots (slice_index v.words cell) ≡ slot ∷ []
       → (slot < v.sizes.slots) × (0 < alive (written v slot)) × (counted (written v slot) ≡ one_where shared)
 
--- beside the right to a cell a lone participant learns what it knows of it, and nothing changes
+-- beside the right to a cell it learns that there is that cell, and a lone participant what it knows of it; nothing changes
 abbrev pub LearnsCell : ℕ → Bool → SeatState → SeatState → Type 0
-LearnsCell cell shared me me' = (me' ≡ me) × (IsLone me.0.epoch → KnowsCell cell shared me.0)
+LearnsCell cell shared me me' = (me' ≡ me) × (cell < me.0.sizes.cells) × (IsLone me.0.epoch → KnowsCell cell shared me.0)
+
+-- beside the right to a cell of any kind it learns that there is that cell, and nothing changes
+abbrev pub FindsCell : ℕ → SeatState → SeatState → Type 0
+FindsCell cell me me' = (me' ≡ me) × (cell < me.0.sizes.cells)
 
 -- a step on the word i tells R of the cell whose word it is
 abbrev pub OfCell : (ℕ → SeatState → ℕ → SeatState → Type 0) → ℕ → SeatState → ℕ → SeatState → Type 0

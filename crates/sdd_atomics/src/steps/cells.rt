@@ -9,7 +9,7 @@ ghost use Rattle.sdd_views.specs.Views.{right_to};
 ghost use Rattle.sdd_word_invariant.specs.Codes.{held_slots};
 ghost use Rattle.sdd_word_invariant.specs.Epoch.{HasPlace, IsOpen};
 ghost use Rattle.sdd_domain_invariant.specs.FilledInvariant.{HasRecord};
-ghost use Rattle.sdd_domain_invariant.specs.CellSteps.{ClaimsCell, SwapsOne, ExchangesOne, FreesCell, LooksInCell, SeesInCell, LearnsCell, rightless, rights_of, righted};
+ghost use Rattle.sdd_domain_invariant.specs.CellSteps.{ClaimsCell, SwapsOne, ExchangesOne, FreesCell, FreesBare, IsBare, FindsCell, LooksInCell, SeesInCell, LearnsCell, rightless, rights_of, righted};
 ghost use Rattle.sdd_rights.specs.Owner.{cell_kind, witness_of_cell};
 ghost use Rattle.sdd_atomics.specs.DomainTable.{id_of, places_of};
 ghost use Rattle.sdd_atomics.specs.Cells.{cells_of};
@@ -17,8 +17,8 @@ ghost use Rattle.sdd_atomics.specs.DomainSeat.{view, epoch, slots, Taught, Moved
 
 use crate::domain_table::{DomainSeat, DomainTable};
 use crate::plays::{
-    ClaimForOwned, ClaimForShared, CutRight, ExchangeCell, FreeCell, JoinRight, LearnCell, LookIn,
-    SeeIn, SwapCell,
+    ClaimForOwned, ClaimForShared, CutRight, ExchangeCell, FindCell, FreeBareCell, FreeCell,
+    JoinRight, LearnCell, LookIn, SeeIn, SwapCell,
 };
 use sdd_witness::{CompareExchange, Swap, Witness, part, step_beside};
 use std::marker::PhantomData;
@@ -178,6 +178,24 @@ pub fn free_cell(board: &DomainTable, token: &mut DomainSeat, cell: u32) -> u64
         .swap::<FreeCell>(token, board.cell_word(cell), FREE_CELL)
 }
 
+/// The same of a cell that holds no owners.
+#[inline]
+pub fn free_bare_cell(board: &DomainTable, token: &mut DomainSeat, cell: u32) -> u64
+    requires home { token.old.table_id ≡ id_of board.now }
+    requires knows { Knows board.now token.old }
+    requires inside { cell < cells_of board.now }
+    requires place { HasPlace (epoch token.old) }
+    requires rests { (view token.old).stakes.moves ≡ None }
+    requires own { ((slots token.old).owns ≡ []) × ((slots token.old).holds ≡ None) × ((slots token.old).drawn ≡ []) × ((view token.old).stakes.owns ≡ []) }
+    requires right { (kind : CellKind) × IsBare kind × ((view token.old).cells.rights ≡ record { cell = cell; kind = kind } ∷ []) }
+    ensures { Moved (FreesBare cell) token.old result token.new }
+{
+    board
+        .table
+        .shared
+        .swap::<FreeBareCell>(token, board.cell_word(cell), FREE_CELL)
+}
+
 /// Cuts the right to a cell off that the participant has, as a token of its own. No word is touched.
 #[inline]
 pub fn cut_right(board: &DomainTable, token: &mut DomainSeat) -> Witness
@@ -219,4 +237,17 @@ pub fn recall_cell(board: &DomainTable, token: &mut DomainSeat, right: &Witness)
         → MovedAlone (LearnsCell cell shared) token.old token.new }
 {
     step_beside::<_, _, _, _, LearnCell>(&board.table.shared, token, right);
+}
+
+/// A participant learns beside the token of the right to a cell of any kind that there is that cell. Nothing changes, and no word is touched.
+#[inline]
+pub fn find_cell(board: &DomainTable, token: &mut DomainSeat, right: &Witness)
+    requires home { token.old.table_id ≡ id_of board.now }
+    requires knows { Knows board.now token.old }
+    requires place { HasPlace (epoch token.old) }
+    requires rests { (view token.old).stakes.moves ≡ None }
+    requires right { (right.now.table_id ≡ id_of board.now) × ((cell : ℕ) × (kind : CellKind) × (right.now.views ≡ witness_of_cell cell kind)) }
+    ensures { (cell : ℕ) (kind : CellKind) → right.now.views ≡ witness_of_cell cell kind → MovedAlone (FindsCell cell) token.old token.new }
+{
+    step_beside::<_, _, _, _, FindCell>(&board.table.shared, token, right);
 }

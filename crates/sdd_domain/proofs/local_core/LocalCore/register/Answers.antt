@@ -38,6 +38,7 @@ invariant_of-result g c = let jobs : ℕ = c.args.domain.now.limits.jobs in let 
     found = search rules;
     quiet = search rules;
     pledges = search rules;
+    rights = search rules;
     waiting = search rules;
     bags = search rules;
     room = search rules;

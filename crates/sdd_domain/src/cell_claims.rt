@@ -1,0 +1,159 @@
+//! The search for a free cell.
+ghost use Rattle.std.specs.Prelude.{◌≡◌, ◌⊎◌, ◌<◌, ◌≤◌, [], None, IfOk, MatchOption, MatchResult};
+ghost use Rattle.sdd_views.specs.declared.ShownValue.{ShownValue};
+ghost use Rattle.sdd_views.specs.Views.{no_rights};
+ghost use Rattle.sdd_word_invariant.specs.Codes.{held_slots};
+ghost use Rattle.sdd_word_invariant.specs.Epoch.{HasPlace};
+ghost use Rattle.sdd_domain_invariant.specs.FilledInvariant.{HasRecord};
+ghost use Rattle.sdd_rights.specs.Owner.{cell_kind, witness_of_cell};
+ghost use Rattle.sdd_atomics.specs.Cells.{cells_of};
+ghost use Rattle.sdd_atomics.specs.DomainTable.{id_of};
+ghost use Rattle.sdd_atomics.specs.DomainSeat.{view, epoch, slots, Knows};
+ghost use Rattle.sdd_domain.specs.Cells.{Claims, MissesCells};
+ghost use Rattle.sdd_domain.specs.Claims.{Loses};
+
+use sdd_atomics::steps::cells::{FREE_CELL, claim_cell, cut_right, look_in};
+use sdd_atomics::{DomainSeat, DomainTable};
+use sdd_core::Refused;
+use sdd_witness::Witness;
+
+/// Claims a cell by this word for owners of which there may be several, or not, if it is free: the right to it is a token of its own, and the owner that the
+/// participant had is in the cell.
+#[inline]
+pub fn claim(
+    board: &DomainTable,
+    token: &mut DomainSeat,
+    cell: u32,
+    word: u64,
+    shared: bool,
+) -> Option<Witness>
+    requires home { token.old.table_id ≡ id_of board.now }
+    requires knows { Knows board.now token.old }
+    requires inside { cell < cells_of board.now }
+    requires place { HasPlace (epoch token.old) }
+    requires rests { (view token.old).stakes.moves ≡ None }
+    requires own { ((slots token.old).owns ≡ held_slots word) × ((slots token.old).holds ≡ None) × ((slots token.old).drawn ≡ []) }
+    requires kind { (r : ShownValue) → HasRecord (view token.old).stakes.owns r → r.shared ≡ shared }
+    requires rights { (view token.old).cells ≡ no_rights }
+    requires word { 0 < word }
+    ensures claimed { MatchOption result
+        (MissesCells (λ k. k ≡ cell) token.old token.new)
+        (λ right. Claims word cell token.old token.new × (right.table_id ≡ id_of board.now) × (right.views ≡ witness_of_cell cell (cell_kind shared))) }
+{
+    if claim_cell(board, token, cell, word, shared) != FREE_CELL {
+        return None;
+    }
+    Some(cut_right(board, token))
+}
+
+/// One try at a cell, which is claimed if it is found free. So many exchanges more may be lost.
+fn attempt(
+    board: &DomainTable,
+    token: &mut DomainSeat,
+    cell: u32,
+    word: u64,
+    shared: bool,
+    left: &mut u64,
+) -> Result<Option<Witness>, Refused>
+    requires home { token.old.table_id ≡ id_of board.now }
+    requires knows { Knows board.now token.old }
+    requires inside { cell < cells_of board.now }
+    requires place { HasPlace (epoch token.old) }
+    requires rests { (view token.old).stakes.moves ≡ None }
+    requires own { ((slots token.old).owns ≡ held_slots word) × ((slots token.old).holds ≡ None) × ((slots token.old).drawn ≡ []) }
+    requires kind { (r : ShownValue) → HasRecord (view token.old).stakes.owns r → r.shared ≡ shared }
+    requires rights { (view token.old).cells ≡ no_rights }
+    requires word { 0 < word }
+    requires left { 0 < left.old }
+    ensures tried { MatchResult result
+        (λ won. MatchOption won (MissesCells (λ k. k ≡ cell) token.old token.new) (λ right. Claims word cell token.old token.new
+        × (right.table_id ≡ id_of board.now) × (right.views ≡ witness_of_cell cell (cell_kind shared))))
+        (λ e. (e ≡ Refused.Contended) × Loses token.old token.new) }
+    ensures left { IfOk result (λ _. 0 < left.new) }
+{
+    if look_in(board, token, cell) != FREE_CELL {
+        return Ok(None);
+    }
+    if let Some(right) = claim(board, token, cell, word, shared) {
+        return Ok(Some(right));
+    }
+    *left -= 1;
+    if *left == 0 {
+        return Err(Refused::Contended);
+    }
+    Ok(None)
+}
+
+/// Tries the cells from one up to another one.
+fn walk(
+    board: &DomainTable,
+    token: &mut DomainSeat,
+    from: u32,
+    to: u32,
+    word: u64,
+    shared: bool,
+    left: &mut u64,
+) -> Result<Option<(u32, Witness)>, Refused>
+    requires home { token.old.table_id ≡ id_of board.now }
+    requires knows { Knows board.now token.old }
+    requires inside { to ≤ cells_of board.now }
+    requires place { HasPlace (epoch token.old) }
+    requires rests { (view token.old).stakes.moves ≡ None }
+    requires own { ((slots token.old).owns ≡ held_slots word) × ((slots token.old).holds ≡ None) × ((slots token.old).drawn ≡ []) }
+    requires kind { (r : ShownValue) → HasRecord (view token.old).stakes.owns r → r.shared ≡ shared }
+    requires rights { (view token.old).cells ≡ no_rights }
+    requires word { 0 < word }
+    requires left { 0 < left.old }
+    ensures tried { MatchResult result
+        (λ found. MatchOption found (MissesCells (λ k. (from ≤ k) × (k < to)) token.old token.new)
+        (λ won. (won.0 < to) × Claims word won.0 token.old token.new
+        × (won.1.table_id ≡ id_of board.now) × (won.1.views ≡ witness_of_cell won.0 (cell_kind shared))))
+        (λ e. (e ≡ Refused.Contended) × Loses token.old token.new) }
+    ensures left { IfOk result (λ _. 0 < left.new) }
+{
+    for cell in from..to {
+        if let Some(right) = attempt(board, token, cell, word, shared, left)? {
+            return Ok(Some((cell, right)));
+        }
+    }
+    Ok(None)
+}
+
+/// Claims a free cell by this word: the first one of a walk over all cells, once round, which begins at this one.
+///
+/// `NoCell` where none was found free; `Contended` where so many exchanges were lost.
+#[inline(never)]
+pub fn claim_free(
+    board: &DomainTable,
+    token: &mut DomainSeat,
+    next: u32,
+    cells: u32,
+    word: u64,
+    shared: bool,
+    tries: u64,
+) -> Result<(u32, Witness), Refused>
+    requires home { token.old.table_id ≡ id_of board.now }
+    requires knows { Knows board.now token.old }
+    requires cells { cells ≡ cells_of board.now }
+    requires next { next ≤ cells }
+    requires place { HasPlace (epoch token.old) }
+    requires rests { (view token.old).stakes.moves ≡ None }
+    requires own { ((slots token.old).owns ≡ held_slots word) × ((slots token.old).holds ≡ None) × ((slots token.old).drawn ≡ []) }
+    requires kind { (r : ShownValue) → HasRecord (view token.old).stakes.owns r → r.shared ≡ shared }
+    requires rights { (view token.old).cells ≡ no_rights }
+    requires word { 0 < word }
+    requires tries { 0 < tries }
+    ensures tried { MatchResult result
+        (λ won. (won.0 < cells) × Claims word won.0 token.old token.new
+        × (won.1.table_id ≡ id_of board.now) × (won.1.views ≡ witness_of_cell won.0 (cell_kind shared)))
+        (λ e. ((e ≡ Refused.NoCell) × MissesCells (λ k. k < cells) token.old token.new) ⊎ ((e ≡ Refused.Contended) × Loses token.old token.new)) }
+{
+    let mut left = tries;
+    if let Some(won) = walk(board, token, next, cells, word, shared, &mut left)? {
+        return Ok(won);
+    }
+    if let Some(won) = walk(board, token, 0, next, word, shared, &mut left)? {
+        return Ok(won);
+    }
+    Err(Refused::NoCell)
+}
