@@ -5,11 +5,12 @@ use Rattle.sdd_shared_values.specs.SharedValues.{IsValueCode}
 use Rattle.sdd_views.specs.declared.CellKind.{CellKind}
 use Rattle.sdd_views.specs.declared.CellKind.TheVariants.{Owned, Shared, Raw, Collector}
 use Rattle.sdd_views.specs.declared.View.{View}
+use Rattle.sdd_rights.specs.Owner.{cell_kind}
 use Rattle.sdd_views.specs.Views.{owner_token, no_rights}
 use Rattle.sdd_word_invariant.specs.Words.{cell_word}
 use Rattle.sdd_word_invariant.specs.Codes.{alive, counted, held_slots}
 use Rattle.sdd_word_invariant.specs.Epoch.{IsLone}
-use Rattle.sdd_word_invariant.specs.CellSteps.{cell_noted, KnewCell}
+use Rattle.sdd_word_invariant.specs.CellSteps.{cell_noted, noting, KnewCell}
 use Rattle.sdd_domain_invariant.specs.BankInvariant.{one_where}
 use Rattle.sdd_domain_invariant.specs.KindsInvariant.{written}
 use Rattle.sdd_domain_invariant.specs.FractionSteps.{SeatState, IsNewest, SeesOwned}
@@ -72,6 +73,20 @@ FreesCell shared cell me x me' = ((m : SeatState) × BringsOut 0 shared cell me 
 -- a cell that holds no owners is free then, of which it had the right
 abbrev pub FreesBare : ℕ → SeatState → ℕ → SeatState → Type 0
 FreesBare cell me x me' = (me' ≡ (rightless (put_in cell 0 me.0), me.1)) × (held_slots x ≡ []) × (0 < x) × KnewCell cell me.0 x
+
+-- the owner that it has is in a cell then that held none and has this word, and the right that it has to it is one for owners of this kind
+abbrev pub FillsBare : ℕ → Bool → ℕ → SeatState → ℕ → SeatState → Type 0
+FillsBare y shared cell me x me' =
+    (me' ≡ (record (put_in cell y me.0) { cells = record { rights = record { cell = cell; kind = cell_kind shared } ∷ [] } }, me.1))
+    × (held_slots x ≡ []) × KnewCell cell me.0 x
+
+-- a cell that holds no owners has the word y then
+abbrev pub SwapsBare : ℕ → ℕ → SeatState → ℕ → SeatState → Type 0
+SwapsBare y cell me x me' = (me' ≡ (noting cell y me.0, me.1)) × (held_slots x ≡ []) × KnewCell cell me.0 x
+
+-- an exchange by which a cell holds what it held
+abbrev pub RetagsOne : ℕ → ℕ → ℕ → SeatState → ℕ → SeatState → Type 0
+RetagsOne old y cell me x me' = (x ≡ old → me' ≡ (noting cell y me.0, me.1)) × (x ≢ old → me' ≡ me) × KnewCell cell me.0 x
 
 -- cells of this kind hold no owners
 abbrev pub IsBare : CellKind → Type 0
