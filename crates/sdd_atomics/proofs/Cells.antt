@@ -17,12 +17,13 @@ use Rattle.sdd_views.specs.contracts.View.{the_row}
 use Rattle.sdd_views.specs.Views.{right_to}
 use Rattle.sdd_word_invariant.specs.Words.{cell_word}
 use Rattle.sdd_word_invariant.specs.Codes.{held_slots}
+use Rattle.sdd_word_invariant.specs.CellSteps.{noting}
 use Rattle.sdd_word_invariant.specs.Epoch.{HasPlace, IsOpen}
 use Rattle.sdd_domain_invariant.specs.DomainInvariant.{DomainInvariant}
 use Rattle.sdd_domain_invariant.specs.FilledInvariant.{HasRecord}
 use Rattle.sdd_domain_invariant.specs.PledgesInvariant.{pledging, freeing}
 use Rattle.sdd_domain_invariant.specs.FractionSteps.{SeatState}
-use Rattle.sdd_domain_invariant.specs.CellSteps.{put_in, brought_out, BringsOut, ClaimsCell, SwapsOne, ExchangesOne, FreesCell, FreesBare, IsBare, FindsCell, LooksInCell, SeesInCell, LearnsCell, OfCell}
+use Rattle.sdd_domain_invariant.specs.CellSteps.{put_in, brought_out, BringsOut, ClaimsCell, SwapsOne, ExchangesOne, FreesCell, FillsBare, RetagsOne, SwapsBare, FreesBare, IsBare, FindsCell, LooksInCell, SeesInCell, LearnsCell, OfCell}
 use Rattle.sdd_domain_invariant.proofs.CellSteps as cells
 use Rattle.sdd_domain_invariant.proofs.Fillings.{has_none}
 use Rattle.sdd_word_invariant.proofs.Codes.{held_which}
@@ -88,6 +89,10 @@ module _ (γ : ℕ) (sizes : Sizes) (slots id : ℕ) (me : SeatState) (same : me
         (cells.claims slots id me live rests cell within y owns loose drawn shared given (cell_kind shared) more
         (λ ws counts. cells.word_counted me.0.sizes ws shared y counts))
 
+    pub may_fill : (kind : CellKind) → IsBare kind → me.0.cells.rights ≡ record { cell = cell; kind = kind } ∷ [] → May (λ _. y) (OfCell (FillsBare y shared) i me)
+    may_fill kind bare mine = as_known (λ _. y) (λ j. OfCell (FillsBare y shared) j me)
+        (cells.fills_bare slots id me live rests cell within y owns loose drawn shared given kind bare mine more)
+
     module _ (p : Pledge) (own : me.0.pledges.own ≡ p ∷ []) (shows : p.view ≡ the_row.coded.code (right_to cell (cell_kind shared))) where
       pub may_swap : May (λ _. y) (SwapsPledged y i me)
       may_swap = as_known (λ _. y) (λ j. SwapsPledged y j me) (λ s h long at small.
@@ -110,6 +115,21 @@ module _ (γ : ℕ) (sizes : Sizes) (slots id : ℕ) (me : SeatState) (same : me
             λ other b where_is had. let e = one_pledge me.0 cell other shared b (p, own, shows) had in
                 subst (λ (t : Bool). ExchangesOne old y t other me (get_or s.words (cell_word me.0.sizes cell) 0) (a.0, carried_after me.1 a.1)) e (a.4 other where_is),
           ))
+
+  pub may_retag : (old y : ℕ) → held_slots y ≡ held_slots old → 0 < y → me.0.slots.holds ≡ None → May (λ x. either (eqb x old) y x) (OfCell (RetagsOne old y) i me)
+  may_retag old y holds more loose = as_known (λ x. either (eqb x old) y x) (λ j. OfCell (RetagsOne old y) j me)
+      (cells.retags slots id me live rests cell within old y holds more loose)
+
+  module _ (y : ℕ) (none : held_slots y ≡ []) (more : 0 < y) (owns : me.0.slots.owns ≡ []) (loose : me.0.slots.holds ≡ None) (kind : CellKind) where
+    pub may_claim_bare : me.0.slots.drawn ≡ [] → me.0.stakes.owns ≡ [] → May (λ x. either (eqb x 0) y x) (OfCell (ClaimsCell y kind) i me)
+    may_claim_bare drawn told = as_known (λ x. either (eqb x 0) y x) (λ j. OfCell (ClaimsCell y kind) j me)
+        (cells.claims slots id me live rests cell within y (owns ∙ sym none) loose drawn false (λ r has. absurd (has_none r me.0.stakes.owns told has)) kind more
+        (λ ws _. cells.fits_any me.0.sizes ws kind y none))
+
+    pub may_swap_bare : IsBare kind → (p : Pledge) → me.0.pledges.own ≡ p ∷ [] → p.view ≡ the_row.coded.code (right_to cell kind)
+        → May (λ _. y) (OfCell (SwapsBare y) i me)
+    may_swap_bare bare p own shows = as_known (λ _. y) (λ j. OfCell (SwapsBare y) j me)
+        (cells.swaps_bare slots id me live rests cell within kind p own shows y none more owns loose bare)
 
   pub may_free : me.0.slots.owns ≡ [] → me.0.slots.holds ≡ None → me.0.slots.drawn ≡ [] → me.0.stakes.owns ≡ [] → (shared : Bool)
       → me.0.cells.rights ≡ record { cell = cell; kind = cell_kind shared } ∷ [] → May (λ _. 0) (FreesOwn i me)
@@ -197,6 +217,23 @@ module _ (me : SeatState) (p : Pledge) (y : ℕ) (shared : Bool) (cell : ℕ) wh
           ∙ ap (λ (l : List Pledge). (record me.0 { pledges = record me.0.pledges { own = l } }, me.1)) (sym bare))),
       d.2,
     )
+
+-- the same of a cell that holds no owners
+module _ (me : SeatState) (p : Pledge) (y cell i : ℕ) (where_is : i ≡ cell_word me.0.sizes cell) where
+  abbrev pledged : SeatState
+  pledged = (pledging me.0 p, me.1)
+
+  pub bare_stays : (n : ℕ) (u : SeatState) → OfCell (SwapsBare y) i pledged n u → u.0.pledges.own ≡ p ∷ []
+  bare_stays n u done = ap (λ (m : SeatState). m.0.pledges.own) (done cell where_is).0
+
+  pub bare_swapped : me.0.pledges.own ≡ [] → (n : ℕ) (u after : SeatState) → OfCell (SwapsBare y) i pledged n u → after ≡ (freeing u.0, u.1)
+      → SwapsBare y cell me n after
+  bare_swapped bare n u after done freed = let d = done cell where_is in (
+    freed ∙ (ap (λ (m : SeatState). (freeing m.0, m.1)) d.0
+        ∙ ap (λ (l : List Pledge). (noting cell y (record me.0 { pledges = record me.0.pledges { own = l } }), me.1)) (sym bare)),
+    d.1,
+    d.2,
+  )
 
 -- the token after a step on a cell
 pub cell_moved : (s t : Seat ValueFraction View) (r : ℕ) → t.table_id ≡ s.table_id → t.id ≡ s.id → (R : ℕ → SeatState → ℕ → SeatState → Type 0) (i cell : ℕ)

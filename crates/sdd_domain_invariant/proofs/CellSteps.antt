@@ -122,6 +122,12 @@ holds_nothing sizes ws kind bare x w = ⊎_elim
 names_none : (x : ℕ) → held_slots x ≡ [] → (i : ℕ) → names i x ≡ 0
 names_none x none i = let e = held_in x i in let o = ap (times i) none in omega arith
 
+pub fits_any : (sizes : Sizes) (ws : List ℕ) (kind : CellKind) (x : ℕ) → held_slots x ≡ [] → IsWordOf sizes ws kind x
+fits_any sizes ws Owned x none = λ i n. absurd (let z = names_none x none i in omega arith)
+fits_any sizes ws Shared x none = λ i n. absurd (let z = names_none x none i in omega arith)
+fits_any sizes ws Raw x none = names_none x none
+fits_any sizes ws Collector x none = names_none x none
+
 -- it has no owner, or one, with its record
 module _ (m : ℕ) (v : View) (t : IsTelling m v) (cell y : ℕ) (rights : CellsView) (rests : v.stakes.moves ≡ None) where
   put_tells : IsTelling m (record (put_in cell y v) { cells = rights })

@@ -4,12 +4,13 @@
 ghost use Rattle.std.specs.Prelude.{◌≡◌, ◌<◌, ℕ, Bool, [], ◌∷◌, None};
 ghost use Rattle.sdd_views.specs.declared.ShownValue.{ShownValue};
 ghost use Rattle.sdd_views.specs.declared.CellKind.{CellKind};
+ghost use Rattle.sdd_views.specs.declared.CellKind.TheVariants.{Raw as for_raw};
 ghost use Rattle.sdd_views.specs.contracts.View.{the_row};
 ghost use Rattle.sdd_views.specs.Views.{right_to};
 ghost use Rattle.sdd_word_invariant.specs.Codes.{held_slots};
 ghost use Rattle.sdd_word_invariant.specs.Epoch.{HasPlace, IsOpen};
 ghost use Rattle.sdd_domain_invariant.specs.FilledInvariant.{HasRecord};
-ghost use Rattle.sdd_domain_invariant.specs.CellSteps.{ClaimsCell, SwapsOne, ExchangesOne, FreesCell, FreesBare, IsBare, FindsCell, LooksInCell, SeesInCell, LearnsCell, rightless, rights_of, righted};
+ghost use Rattle.sdd_domain_invariant.specs.CellSteps.{ClaimsCell, FillsBare, RetagsOne, SwapsBare, SwapsOne, ExchangesOne, FreesCell, FreesBare, IsBare, FindsCell, LooksInCell, SeesInCell, LearnsCell, rightless, rights_of, righted};
 ghost use Rattle.sdd_rights.specs.Owner.{cell_kind, witness_of_cell};
 ghost use Rattle.sdd_atomics.specs.DomainTable.{id_of, places_of};
 ghost use Rattle.sdd_atomics.specs.Cells.{cells_of};
@@ -17,8 +18,9 @@ ghost use Rattle.sdd_atomics.specs.DomainSeat.{view, epoch, slots, Taught, Moved
 
 use crate::domain_table::{DomainSeat, DomainTable};
 use crate::plays::{
-    ClaimForOwned, ClaimForShared, CutRight, ExchangeCell, FindCell, FreeBareCell, FreeCell,
-    JoinRight, LearnCell, LookIn, SeeIn, SwapCell,
+    ClaimForOwned, ClaimForRaw, ClaimForShared, CutRight, ExchangeCell, FillForOwned,
+    FillForShared, FindCell, FreeBareCell, FreeCell, JoinRight, LearnCell, LookIn, RetagCell, SeeIn,
+    SwapBareCell, SwapCell,
 };
 use sdd_witness::{CompareExchange, Swap, Witness, part, step_beside};
 use std::marker::PhantomData;
@@ -90,6 +92,115 @@ pub fn claim_cell(
             .shared
             .compare_exchange::<ClaimForOwned>(token, board.cell_word(cell), FREE_CELL, word)
     }
+}
+
+/// Tries to claim a cell that holds no owners by this word, and answers its word before. It was free where this is `FREE_CELL`: then the participant has the right
+/// to it.
+#[inline]
+pub fn claim_bare_cell(board: &DomainTable, token: &mut DomainSeat, cell: u32, word: u64) -> u64
+    requires home { token.old.table_id ≡ id_of board.now }
+    requires knows { Knows board.now token.old }
+    requires inside { cell < cells_of board.now }
+    requires place { HasPlace (epoch token.old) }
+    requires rests { (view token.old).stakes.moves ≡ None }
+    requires own { ((slots token.old).owns ≡ []) × ((slots token.old).holds ≡ None) × ((slots token.old).drawn ≡ []) × ((view token.old).stakes.owns ≡ []) }
+    requires word { (0 < word) × (held_slots word ≡ []) }
+    ensures { Moved (ClaimsCell word for_raw cell) token.old result token.new }
+{
+    board
+        .table
+        .shared
+        .compare_exchange::<ClaimForRaw>(token, board.cell_word(cell), FREE_CELL, word)
+}
+
+/// Puts the owner that the participant has into a cell to which it has the right and which holds none, by this word. The right is one to a cell for owners of
+/// which there may be several, or not, from then on.
+#[inline]
+pub fn fill_bare_cell(
+    board: &DomainTable,
+    token: &mut DomainSeat,
+    cell: u32,
+    word: u64,
+    shared: bool,
+) -> u64
+    requires home { token.old.table_id ≡ id_of board.now }
+    requires knows { Knows board.now token.old }
+    requires inside { cell < cells_of board.now }
+    requires place { HasPlace (epoch token.old) }
+    requires rests { (view token.old).stakes.moves ≡ None }
+    requires own { ((slots token.old).owns ≡ held_slots word) × ((slots token.old).holds ≡ None) × ((slots token.old).drawn ≡ []) }
+    requires kind { (r : ShownValue) → HasRecord (view token.old).stakes.owns r → r.shared ≡ shared }
+    requires right { (kind : CellKind) × IsBare kind × ((view token.old).cells.rights ≡ record { cell = cell; kind = kind } ∷ []) }
+    requires word { 0 < word }
+    ensures { Moved (FillsBare word shared cell) token.old result token.new }
+{
+    if shared {
+        board
+            .table
+            .shared
+            .swap::<FillForShared>(token, board.cell_word(cell), word)
+    } else {
+        board
+            .table
+            .shared
+            .swap::<FillForOwned>(token, board.cell_word(cell), word)
+    }
+}
+
+/// Puts this word into a cell in place of another one by which it holds the same owner, or none: where the cell's word is no more that one nothing changes.
+/// Answers its word before.
+#[inline]
+pub fn retag_cell(
+    board: &DomainTable,
+    token: &mut DomainSeat,
+    cell: u32,
+    old: u64,
+    word: u64,
+) -> u64
+    requires home { token.old.table_id ≡ id_of board.now }
+    requires knows { Knows board.now token.old }
+    requires inside { cell < cells_of board.now }
+    requires place { HasPlace (epoch token.old) }
+    requires rests { (view token.old).stakes.moves ≡ None }
+    requires loose { (slots token.old).holds ≡ None }
+    requires same { held_slots word ≡ held_slots old }
+    requires word { 0 < word }
+    ensures { Moved (RetagsOne old word cell) token.old result token.new }
+{
+    board
+        .table
+        .shared
+        .compare_exchange::<RetagCell>(token, board.cell_word(cell), old, word)
+}
+
+/// Puts this word into a cell that holds no owners, beside the token of the right to it, and answers its word before.
+#[inline]
+pub fn swap_bare_cell(
+    board: &DomainTable,
+    token: &mut DomainSeat,
+    cell: u32,
+    word: u64,
+    right: &Witness,
+) -> u64
+    requires home { token.old.table_id ≡ id_of board.now }
+    requires knows { Knows board.now token.old }
+    requires inside { cell < cells_of board.now }
+    requires place { HasPlace (epoch token.old) }
+    requires rests { (view token.old).stakes.moves ≡ None }
+    requires own { ((slots token.old).owns ≡ []) × ((slots token.old).holds ≡ None) }
+    requires free { (view token.old).pledges.own ≡ [] }
+    requires word { (0 < word) × (held_slots word ≡ []) }
+    requires right { (right.now.table_id ≡ id_of board.now) × ((kind : CellKind) × IsBare kind × (right.now.views ≡ witness_of_cell cell kind)) }
+    ensures { Moved (SwapsBare word cell) token.old result token.new }
+{
+    let deed = Swap::<SwapBareCell> {
+        word: board.cell_word(cell),
+        new: word,
+        marker: PhantomData,
+    };
+    board
+        .ledger
+        .beside(&board.table.shared, token, right, &deed)
 }
 
 /// Puts this word into a cell, beside the token of the right to it, and answers its word before. The owner that the participant had is in the cell then, and it
