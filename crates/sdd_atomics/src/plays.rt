@@ -8,7 +8,7 @@ ghost use Rattle.sdd_domain_invariant.specs.BankInvariant.{founded, bank_of, wit
 ghost use Rattle.sdd_domain_invariant.specs.FractionSteps.{ClaimsAll, TakesOut, TakesHeld, IsDeposit, RetiresOne, GivesAll, DefersJob, GivesPlace, DiscardsAll, ClosesHome, EndsAll, EntersUnit, OfSlot, parting, departing, regained, uncounting, counts_of, counting, ReleasesOne, LeavesOne, TakesOneBack, DrawsUnit};
 ghost use Rattle.sdd_word_invariant.specs.Codes.{raw_word};
 ghost use Rattle.sdd_domain_invariant.specs.RawSteps.{TurnsRawOne, RegainsOne, SeesRawOne};
-ghost use Rattle.sdd_views.specs.declared.CellKind.TheVariants.{Owned as for_owned, Shared as for_shared, Raw as for_raw};
+ghost use Rattle.sdd_views.specs.declared.CellKind.TheVariants.{Owned as for_owned, Shared as for_shared, Raw as for_raw, Collector as for_collector};
 ghost use Rattle.sdd_domain_invariant.specs.CellSteps.{ClaimsCell, FillsBare, LooksInCell, RetagsOne, SwapsBare, SeesInCell, OfCell, rightless, rights_of, righted};
 ghost use Rattle.sdd_atomics.specs.Cells.{SwapsPledged, ExchangesPledged, FreesOwn, FreesOwnBare, RecallsCell, FindsRight};
 ghost use Rattle.sdd_atomics.specs.Clones.{AddsPledged, AddsBesideSeen};
@@ -293,6 +293,12 @@ pub struct ClaimForRaw;
 
 impl Play<ValueFraction, View> for ClaimForRaw {
     ghost then = { λ step. OfCell (ClaimsCell step.second for_raw) step.word };
+}
+
+pub struct ClaimForCollector;
+
+impl Play<ValueFraction, View> for ClaimForCollector {
+    ghost then = { λ step. OfCell (ClaimsCell step.second for_collector) step.word };
 }
 
 pub struct FillForOwned;

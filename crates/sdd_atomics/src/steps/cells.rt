@@ -4,7 +4,6 @@
 ghost use Rattle.std.specs.Prelude.{◌≡◌, ◌<◌, ℕ, Bool, [], ◌∷◌, None};
 ghost use Rattle.sdd_views.specs.declared.ShownValue.{ShownValue};
 ghost use Rattle.sdd_views.specs.declared.CellKind.{CellKind};
-ghost use Rattle.sdd_views.specs.declared.CellKind.TheVariants.{Raw as for_raw};
 ghost use Rattle.sdd_views.specs.contracts.View.{the_row};
 ghost use Rattle.sdd_views.specs.Views.{right_to};
 ghost use Rattle.sdd_word_invariant.specs.Codes.{held_slots};
@@ -13,15 +12,16 @@ ghost use Rattle.sdd_domain_invariant.specs.FilledInvariant.{HasRecord};
 ghost use Rattle.sdd_domain_invariant.specs.CellSteps.{ClaimsCell, FillsBare, RetagsOne, SwapsBare, SwapsOne, ExchangesOne, FreesCell, FreesBare, IsBare, FindsCell, LooksInCell, SeesInCell, LearnsCell, rightless, rights_of, righted};
 ghost use Rattle.sdd_rights.specs.Owner.{cell_kind, witness_of_cell};
 ghost use Rattle.sdd_atomics.specs.DomainTable.{id_of, places_of};
-ghost use Rattle.sdd_atomics.specs.Cells.{cells_of};
+ghost use Rattle.sdd_atomics.specs.Cells.{cells_of, FitsCell};
 ghost use Rattle.sdd_atomics.specs.DomainSeat.{view, epoch, slots, Taught, Moved, MovedAlone, Knows};
 
 use crate::domain_table::{DomainSeat, DomainTable};
 use crate::plays::{
-    ClaimForOwned, ClaimForRaw, ClaimForShared, CutRight, ExchangeCell, FillForOwned,
+    ClaimForCollector, ClaimForOwned, ClaimForRaw, ClaimForShared, CutRight, ExchangeCell, FillForOwned,
     FillForShared, FindCell, FreeBareCell, FreeCell, JoinRight, LearnCell, LookIn, RetagCell, SeeIn,
     SwapBareCell, SwapCell,
 };
+use sdd_views::CellKind;
 use sdd_witness::{CompareExchange, Swap, Witness, part, step_beside};
 use std::marker::PhantomData;
 
@@ -61,15 +61,15 @@ pub fn see_in(board: &DomainTable, token: &mut DomainSeat, cell: u32) -> u64
         .load::<SeeIn>(token, board.cell_word(cell))
 }
 
-/// Tries to claim a cell for owners of which there may be several, or not, by this word, and answers its word before. It was free where this is
-/// `FREE_CELL`: then the participant has the right to it, and the owner that it had is in the cell.
+/// Tries to claim a cell of this kind by this word, and answers its word before. It was free where this is `FREE_CELL`: then the participant has the right to it,
+/// and the owner that it had is in the cell, if it had one.
 #[inline]
 pub fn claim_cell(
     board: &DomainTable,
     token: &mut DomainSeat,
     cell: u32,
     word: u64,
-    shared: bool,
+    kind: CellKind,
 ) -> u64
     requires home { token.old.table_id ≡ id_of board.now }
     requires knows { Knows board.now token.old }
@@ -77,40 +77,19 @@ pub fn claim_cell(
     requires place { HasPlace (epoch token.old) }
     requires rests { (view token.old).stakes.moves ≡ None }
     requires own { ((slots token.old).owns ≡ held_slots word) × ((slots token.old).holds ≡ None) × ((slots token.old).drawn ≡ []) }
-    requires kind { (r : ShownValue) → HasRecord (view token.old).stakes.owns r → r.shared ≡ shared }
+    requires fits { FitsCell kind word (view token.old).stakes.owns }
     requires word { 0 < word }
-    ensures { Moved (ClaimsCell word (cell_kind shared) cell) token.old result token.new }
+    ensures { Moved (ClaimsCell word kind cell) token.old result token.new }
 {
-    if shared {
-        board
-            .table
-            .shared
-            .compare_exchange::<ClaimForShared>(token, board.cell_word(cell), FREE_CELL, word)
-    } else {
-        board
-            .table
-            .shared
-            .compare_exchange::<ClaimForOwned>(token, board.cell_word(cell), FREE_CELL, word)
+    let shared = &board.table.shared;
+    let at = board.cell_word(cell);
+    match kind {
+        CellKind::Owned => shared.compare_exchange::<ClaimForOwned>(token, at, FREE_CELL, word),
+        CellKind::Shared => shared.compare_exchange::<ClaimForShared>(token, at, FREE_CELL, word),
+        CellKind::Raw => shared.compare_exchange::<ClaimForRaw>(token, at, FREE_CELL, word),
+        CellKind::Collector =>
+            shared.compare_exchange::<ClaimForCollector>(token, at, FREE_CELL, word),
     }
-}
-
-/// Tries to claim a cell that holds no owners by this word, and answers its word before. It was free where this is `FREE_CELL`: then the participant has the right
-/// to it.
-#[inline]
-pub fn claim_bare_cell(board: &DomainTable, token: &mut DomainSeat, cell: u32, word: u64) -> u64
-    requires home { token.old.table_id ≡ id_of board.now }
-    requires knows { Knows board.now token.old }
-    requires inside { cell < cells_of board.now }
-    requires place { HasPlace (epoch token.old) }
-    requires rests { (view token.old).stakes.moves ≡ None }
-    requires own { ((slots token.old).owns ≡ []) × ((slots token.old).holds ≡ None) × ((slots token.old).drawn ≡ []) × ((view token.old).stakes.owns ≡ []) }
-    requires word { (0 < word) × (held_slots word ≡ []) }
-    ensures { Moved (ClaimsCell word for_raw cell) token.old result token.new }
-{
-    board
-        .table
-        .shared
-        .compare_exchange::<ClaimForRaw>(token, board.cell_word(cell), FREE_CELL, word)
 }
 
 /// Puts the owner that the participant has into a cell to which it has the right and which holds none, by this word. The right is one to a cell for owners of
