@@ -1,157 +1,98 @@
--- A cell is free again: what is known once the owner that it held has its unit, and has left its participant
-use Rattle.std.proofs.Common.{◌≡◌, ℕ, ◌<◌, ◌≤◌, ◌-◌, ◌/◌, ◌%◌, ◌^◌, Bool, true, false, [], ◌∷◌, List, sym, refl, ap, ◌∙◌, subst, arith, leb, ⊎_elim, ne_eqb}
-use Rattle.std.specs.Prelude.{◌⊎◌, None, Some, Option, slice_get, slice_index, if◌then◌else◌}
+-- An owner goes into a cell and another one comes out: what is known between the steps, and after them
+use Rattle.std.proofs.Common.{◌≡◌, ◌≢◌, ◌⊎◌, ℕ, ◌<◌, Bool, [], ◌∷◌, List, None, Some, Option, sym, refl, ap, ◌∙◌, subst, arith, ⊎_elim}
+use Rattle.std.specs.Prelude.{slice_index}
 use base.Stored.{Gv}
-use Rattle.std.proofs.lemmas.Bool.Decides.{leb_tells}
 use Rattle.atomic_table.specs.declared.shared.Seat.{Seat}
-use Rattle.sdd_shared_values.specs.ValueFractions.{FractionContent}
-use Rattle.sdd_shared_values.specs.SharedValues.{IsValueCode, lot}
-use Rattle.sdd_shared_values.specs.ReadFractions.{lot_of}
+use Rattle.sdd_shared_values.specs.SharedValues.{IsValueCode}
 use Rattle.sdd_shared_values.specs.declared.value_fraction.ValueFraction.{ValueFraction}
-use Rattle.sdd_rights.specs.declared.read_fraction.ReadFraction.{ReadFraction}
+use Rattle.sdd_views.specs.declared.ShownValue.{ShownValue}
 use Rattle.sdd_views.specs.declared.View.{View}
-use Rattle.sdd_views.specs.contracts.View.{the_row}
+use Rattle.sdd_views.specs.declared.Sizes.{Sizes}
 use Rattle.sdd_views.specs.declared.CellsView.{CellsView}
-use Rattle.sdd_views.specs.Views.{owner_of, right_to, no_rights}
-use Rattle.sdd_word_invariant.specs.Codes.{held_slots, unowned}
+use Rattle.sdd_views.specs.declared.CellKind.{CellKind}
+use Rattle.sdd_views.specs.Views.{right_to, no_rights}
+use Rattle.sdd_rights.specs.Owner.{cell_kind}
+use Rattle.sdd_word_invariant.specs.Codes.{held_slots}
 use Rattle.sdd_word_invariant.specs.Epoch.{IsLone}
-use Rattle.sdd_word_invariant.specs.CellSteps.{cell_noted}
-use Rattle.sdd_domain_invariant.specs.Records.{IsIn}
-use Rattle.sdd_domain_invariant.specs.FractionSteps.{SeatState, DrawsUnit, parting, departing, drawing}
-use Rattle.sdd_domain_invariant.specs.CellSteps.{FreesCell, LearnsCell, brought_out, put_in, righted, rightless}
-use Rattle.sdd_rights.specs.Owner.{cell_kind, witness_of_owner}
+use Rattle.sdd_word_invariant.specs.CellSteps.{cell_noted, noting}
+use Rattle.sdd_word_invariant.proofs.Codes.{held_which}
+use Rattle.sdd_domain_invariant.specs.FractionSteps.{SeatState}
+use Rattle.sdd_domain_invariant.specs.FilledInvariant.{HasRecord}
+use Rattle.sdd_domain_invariant.specs.CellSteps.{BringsOut, righted, rightless}
+use Rattle.sdd_domain_invariant.proofs.Fillings.{has_none}
+use Rattle.sdd_domain_invariant.proofs.KindSteps.{has_first}
 use Rattle.sdd_atomics.specs.declared.domain_table.DomainTable.{DomainTable}
-use Rattle.sdd_atomics.specs.DomainTable.{book_of}
-use Rattle.sdd_atomics.specs.DomainSeat.{view, slots, Knows, Moved, MovedAlone, Taught}
-use Rattle.sdd_atomics.specs.Grips.{IsGripOf}
-use Rattle.sdd_atomics.specs.Owner.{IsCutOff}
-use Rattle.sdd_domain.specs.Cells.{Frees}
+use Rattle.sdd_atomics.specs.DomainTable.{sizes_of, slots_of}
+use Rattle.sdd_atomics.specs.DomainSeat.{Knows}
+use Rattle.sdd_domain.specs.declared.cell_values.LooseOwner.{LooseOwner}
+use Rattle.sdd_domain.specs.Cells.{AreLoose, HasHeld, holding, slots_in, told_of}
+use Rattle.sdd_domain.specs.InPlace.{IsBare}
 
--- ---- the word of a cell
-pub holds_at : (x : ℕ) → 4 ≤ x % 2 ^ 27 → x % 2 ^ 27 < unowned → held_slots x ≡ (x % 2 ^ 27 / 4 - 1) ∷ []
-unfolding held_slots
-holds_at x some low = let y : ℕ = x % 2 ^ 27 in ⊎_elim
-    (λ (t : (leb unowned y ≡ true) × (unowned ≤ y)). absurd (omega arith))
-    (λ (t : (leb unowned y ≡ false) × (y < unowned)).
-    ap (λ (b : Bool). if b then [] else (if Rattle.std.specs.Prelude.◌==◌ (y / 4) 0 then [] else (y / 4 - 1) ∷ [])) t.0
-    ∙ ap (λ (b : Bool). if b then [] else (y / 4 - 1) ∷ []) (ne_eqb (y / 4) 0 (λ c. omega arith))) (leb_tells unowned y)
+-- the first slot and the first record of a list
+abbrev first_slot : ℕ → List ℕ → ℕ
+first_slot k [] = k
+first_slot k (m ∷ ms) = m
 
--- what it names is one slot or none
-pub one_named : (xs : List ℕ) (slot : ℕ) → ((k : ℕ) × (xs ≡ k ∷ [])) ⊎ (xs ≡ []) → slice_get xs 0 ≡ Some slot → xs ≡ slot ∷ []
-one_named xs slot which is = ⊎_elim
-    (λ (one : (k : ℕ) × (xs ≡ k ∷ [])). let same : Some one.0 ≡ Some slot = sym (ap (λ (ys : List ℕ). slice_get ys 0) one.1) ∙ is in
-    one.1 ∙ ap (λ (o : Option ℕ). some_first o) same)
-    (λ (none : xs ≡ []). let no : ◌≡◌ {A = Option ℕ} None (Some slot) = sym (ap (λ (ys : List ℕ). slice_get ys 0) none) ∙ is in absurd cc) which
-  where
-    some_first : Option ℕ → List ℕ
-    some_first None = []
-    some_first (Some k) = k ∷ []
+-- what came out of a cell whose word was found is in hand
+module _ (y cell found : ℕ) (shared : Bool) (me me' : SeatState) (brings : BringsOut y shared cell me found me') where
+  pub brought : (told : List ShownValue) × (me' ≡ (holding (held_slots found) told (noting cell y me.0), me.1)) × HasHeld found shared me'.0
+  brought = ⊎_elim
+      (λ (c : (slot : ℕ) × (held_slots found ≡ slot ∷ [])). let slot : ℕ = c.0 in let one = c.1 in let b = brings.1 slot one in let value : Gv = b.0 in
+      let r : ShownValue = record { slot = slot; shared = shared; value = value } in (
+        r ∷ [],
+        b.3 ∙ (λ d. (holding (sym one d) (r ∷ []) (noting cell y me.0), me.1)),
+        record {
+          owns = ap (λ (m : SeatState). m.0.slots.owns) b.3 ∙ sym one;
+          none = λ none. absurd (let no : ◌≡◌ {A = List ℕ} (slot ∷ []) [] = sym one ∙ none in cc);
+          one = λ other is. let same : slot ≡ other = ap (first_slot slot) (sym one ∙ is) in
+              subst (λ (k : ℕ). (v : Gv) × (k < me'.0.sizes.slots) × IsValueCode v
+              × (me'.0.stakes.owns ≡ record { slot = k; shared = shared; value = v } ∷ [])) same (
+                value,
+                subst (λ (m : SeatState). slot < m.0.sizes.slots) (sym b.3) b.1,
+                b.2,
+                ap (λ (m : SeatState). m.0.stakes.owns) b.3,
+              );
+        },
+      ))
+      (λ (none : held_slots found ≡ []). let is = brings.0 none in (
+        [],
+        is ∙ (λ d. (holding (sym none d) [] (noting cell y me.0), me.1)),
+        record {
+          owns = ap (λ (m : SeatState). m.0.slots.owns) is ∙ sym none;
+          none = λ _. ap (λ (m : SeatState). m.0.stakes.owns) is;
+          one = λ slot one. absurd (let no : ◌≡◌ {A = List ℕ} (slot ∷ []) [] = sym one ∙ none in cc);
+        },
+      )) (held_which found)
 
-pub none_named : (xs : List ℕ) → slice_get xs 0 ≡ None → xs ≡ []
-none_named [] is = refl
-none_named (x ∷ xs) is = absurd cc
+-- the right that was taken in is the only one that it has
+pub rights_now : (cell : ℕ) (shared : Bool) (s a r : Seat ValueFraction View) → s.me.0.cells ≡ no_rights → a.me ≡ s.me
+    → r.me.0 ≡ righted a.me.0 (right_to cell (cell_kind shared)) → r.me.0.cells.rights ≡ record { cell = cell; kind = cell_kind shared } ∷ []
+rights_now cell shared s a r rights same took = ap (λ (v : View). v.cells.rights) took
+    ∙ ap (λ (c : CellsView). record { cell = cell; kind = cell_kind shared } ∷ c.rights) (ap (λ (m : SeatState). m.0.cells) same ∙ rights)
 
--- ---- the steps
-module _ (b : DomainTable) (cell : ℕ) (shared : Bool) (s a r : Seat ValueFraction View)
-    (rights : (view s).cells ≡ no_rights) (recalled : MovedAlone (LearnsCell cell shared) s a)
-    (took : Taught (λ v _ w. w ≡ righted v (right_to cell (cell_kind shared))) a 0 r) where
-  -- the seat with the right
-  pub view_righted : r.me.0 ≡ righted s.me.0 (right_to cell (cell_kind shared))
-  view_righted = took.3 ∙ ap (λ (m : SeatState). righted m.0 (right_to cell (cell_kind shared))) recalled.2.0
+-- of one that has no owner nothing is put down
+pub held_none : (v : View) → IsBare v → holding [] [] v ≡ v
+held_none v bare = λ d. record v { slots = record v.slots { owns = sym bare.quiet.owns d }; stakes = record v.stakes { owns = sym bare.untold d } }
 
-  others_righted : r.me.1 ≡ s.me.1
-  others_righted = took.2 ∙ ap (λ (m : SeatState). m.1) recalled.2.0
+-- the owner that was taken up, of a domain whose board is this
+module _ (b : DomainTable) (v : View) (knows : v.sizes ≡ sizes_of b) (shared : Bool) where
+  pub has_new : (new : Option LooseOwner) (word : ℕ) → AreLoose b shared new → held_slots word ≡ slots_in new
+      → HasHeld word shared (holding (slots_in new) (told_of shared new) v)
+  has_new None word loose holds = record {
+    owns = sym holds;
+    none = λ _. refl;
+    one = λ slot one. absurd (let no : ◌≡◌ {A = List ℕ} (slot ∷ []) [] = sym one ∙ holds in cc);
+  }
+  has_new (Some o) word loose holds = record {
+    owns = sym holds;
+    none = λ none. absurd (let no : ◌≡◌ {A = List ℕ} (o.slot ∷ []) [] = sym holds ∙ none in cc);
+    one = λ slot one. let same : o.slot ≡ slot = ap (first_slot o.slot) (sym holds ∙ one) in
+        subst (λ (k : ℕ). (g : Gv) × (k < v.sizes.slots) × IsValueCode g
+        × (told_of shared (Some o) ≡ record { slot = k; shared = shared; value = g } ∷ [])) same
+        (o.grip.shown, subst (λ (z : Sizes). o.slot < z.slots) (sym knows) loose.inside, o.grip.full, refl);
+  }
 
-  pub rights_now : (view r).cells.rights ≡ record { cell = cell; kind = cell_kind shared } ∷ []
-  rights_now = ap (λ (v : View). v.cells.rights) view_righted
-      ∙ ap (λ (c : CellsView). record { cell = cell; kind = cell_kind shared } ∷ c.rights) rights
-
-  module _ (word : ℕ) (f : Seat ValueFraction View) (freed : Moved (FreesCell shared cell) r word f)
-      (quiet : ((slots s).owns ≡ []) × ((slots s).drawn ≡ []) × ((slots s).holds ≡ None) × ((view s).stakes.owns ≡ [])) where
-    knew : IsLone s.me.0.epoch → (word ≡ slice_index s.me.0.words cell) × (0 < word)
-    knew lone =
-        let there = freed.2.1 (subst (λ (v : View). IsLone v.epoch) (sym view_righted) lone) ∙ ap (λ (v : View). slice_index v.words cell) view_righted in
-        (there, (let full = (recalled.2.2 lone).full in omega arith))
-
-    -- it held none
-    pub frees_none : held_slots word ≡ [] → Frees cell word s f
-    frees_none none = let m = freed.2.0.0 in let is : m ≡ (put_in cell 0 r.me.0, r.me.1) = freed.2.0.1.0 none in let v : View = s.me.0 in record {
-      table = freed.0 ∙ (took.0 ∙ recalled.0);
-      number = freed.1 ∙ (took.1 ∙ recalled.1);
-      others = ap (λ (x : SeatState). x.1) freed.2.0.2 ∙ (ap (λ (x : SeatState). x.1) is ∙ others_righted);
-      view =
-          ap (λ (x : SeatState). x.0) freed.2.0.2 ∙ (ap (λ (x : SeatState). rightless x.0) is ∙ (ap (λ (x : View). rightless (put_in cell 0 x)) view_righted
-          ∙ (λ d. record v {
-            slots = record v.slots { owns = sym quiet.0 d };
-            stakes = record v.stakes { owns = sym quiet.3 d };
-            cells = sym rights d;
-            words = cell_noted cell 0 v;
-          })));
-      inside = recalled.2.1;
-      knew = knew;
-    }
-
-    -- it held the owner of a slot
-    module _ (slot : ℕ) (one : held_slots word ≡ slot ∷ []) where
-      abbrev brings : (value : Gv) × (slot < r.me.0.sizes.slots) × IsValueCode value × (freed.2.0.0 ≡ (brought_out cell 0 slot shared value r.me.0, r.me.1))
-      brings = let x = freed.2.0.1.1 slot one in (x.0, x.1, x.2, x.3)
-
-      abbrev pub value : Gv
-      value = brings.0
-
-      pub low : slot < s.me.0.sizes.slots
-      low = subst (λ (v : View). slot < v.sizes.slots) view_righted brings.1
-
-      -- the seat without the cell
-      pub view_freed : f.me.0 ≡ rightless (brought_out cell 0 slot shared value s.me.0)
-      view_freed = ap (λ (x : SeatState). x.0) freed.2.0.2
-          ∙ (ap (λ (x : SeatState). rightless x.0) brings.3 ∙ ap (λ (x : View). rightless (brought_out cell 0 slot shared value x)) view_righted)
-
-      others_freed : f.me.1 ≡ s.me.1
-      others_freed = ap (λ (x : SeatState). x.1) freed.2.0.2 ∙ (ap (λ (x : SeatState). x.1) brings.3 ∙ others_righted)
-
-      module _ (knows : Knows b s) (t : Seat ValueFraction View) (l : FractionContent) (drawn : MovedAlone (λ me. DrawsUnit slot me l) f t) where
-        -- the unit shows what the slot does
-        unit : l ≡ lot (book_of b) slot l.round value 1
-        unit = drawn.2.2 value (subst (λ (v : View). IsIn v.stakes.owns slot value) (sym view_freed)
-            (0, record { slot = slot; shared = shared; value = value }, refl, refl, refl))
-            ∙ ap (λ (k : ℕ). lot k slot l.round value 1) (ap (λ (v : View). v.stakes.book) view_freed ∙ knows.1)
-
-        -- so it can be an owner's grip
-        pub unit_shows : IsValueCode l.shown
-        unit_shows = subst IsValueCode (sym (ap (λ (k : FractionContent). k.shown) unit)) brings.2
-
-        pub unit_single : l.units ≡ 1
-        unit_single = ap (λ (k : FractionContent). k.units) unit
-
-        pub unit_free : l.lent ≡ None
-        unit_free = ap (λ (k : FractionContent). k.lent) unit
-
-        pub grip_shows : (grip : ReadFraction) → lot_of grip ≡ l → IsGripOf (book_of b) slot value grip
-        grip_shows grip is = let e = is ∙ unit in record {
-          unit = record { book_is = ap (λ (k : FractionContent). k.book) e; number_is = ap (λ (k : FractionContent). k.number) e };
-          shows = ap (λ (k : FractionContent). k.shown) e;
-        }
-
-        -- the seat once the unit is drawn, and once the owner has left it
-        pub view_drawn : t.me.0 ≡ drawing slot (rightless (brought_out cell 0 slot shared value s.me.0))
-        view_drawn = drawn.2.0 ∙ ap (drawing slot) view_freed
-
-        pub frees_one : (u : Seat ValueFraction View) → Taught (λ v _ w. w ≡ parting v) t 0 u → Frees cell word s u
-        frees_one u cut = let v : View = s.me.0 in record {
-          table = cut.0 ∙ (drawn.0 ∙ (freed.0 ∙ (took.0 ∙ recalled.0)));
-          number = cut.1 ∙ (drawn.1 ∙ (freed.1 ∙ (took.1 ∙ recalled.1)));
-          others = cut.2 ∙ (drawn.2.1 ∙ others_freed);
-          view =
-              cut.3 ∙ (ap parting view_drawn ∙ (λ d. record v {
-                slots = record v.slots { owns = sym quiet.0 d };
-                stakes = record v.stakes { owns = sym quiet.3 d };
-                cells = sym rights d;
-                words = cell_noted cell 0 v;
-              }));
-          inside = recalled.2.1;
-          knew = knew;
-        }
-
-        pub owner_shows : (views : List Gv) → IsCutOff (view t) views → views ≡ witness_of_owner slot shared value
-        owner_shows views is = is ∙ ap (λ (v : View). the_row.coded.code v ∷ []) (ap departing view_drawn)
+  pub new_kind : (new : Option LooseOwner) (r : ShownValue) → HasRecord (told_of shared new) r → r.shared ≡ shared
+  new_kind None r has = absurd (has_none r [] refl has)
+  new_kind (Some o) r has = let first : ShownValue = record { slot = o.slot; shared = shared; value = o.grip.shown } in
+      ⊎_elim (λ (e : first ≡ r). ap (λ (x : ShownValue). x.shared) (sym e)) (λ (no : HasRecord [] r). absurd (has_none r [] refl no)) (has_first first [] r has)

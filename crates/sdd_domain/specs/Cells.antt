@@ -1,9 +1,17 @@
 -- Cells: what a participant knows of them, and what its calls make of it
-use Rattle.std.specs.Prelude.{◌≡◌, ℕ, ◌<◌, Bool, [], ◌∷◌, slice_index, slice_set}
+use Rattle.std.specs.Prelude.{◌≡◌, ℕ, ◌<◌, Bool, List, [], ◌∷◌, Option, Some, None, IfSome, slice_index, slice_set}
 use base.Stored.{Gv}
 use Rattle.atomic_table.specs.declared.shared.Seat.{Seat}
 use Rattle.sdd_shared_values.specs.declared.value_fraction.ValueFraction.{ValueFraction}
+use Rattle.sdd_shared_values.specs.SharedValues.{IsValueCode}
+use Rattle.sdd_views.specs.declared.ShownValue.{ShownValue}
 use Rattle.sdd_views.specs.declared.View.{View}
+use Rattle.sdd_rights.specs.Owner.{witness_of_owner}
+use Rattle.sdd_word_invariant.specs.Codes.{held_slots}
+use Rattle.sdd_atomics.specs.declared.domain_table.DomainTable.{DomainTable}
+use Rattle.sdd_atomics.specs.DomainTable.{id_of, book_of, slots_of}
+use Rattle.sdd_atomics.specs.Grips.{IsUnitOf}
+use Rattle.sdd_domain.specs.declared.cell_values.LooseOwner.{LooseOwner}
 use Rattle.sdd_word_invariant.specs.Epoch.{IsLone}
 use Rattle.sdd_word_invariant.specs.CellSteps.{cell_noted}
 use Rattle.sdd_domain_invariant.specs.CellSteps.{put_in}
@@ -11,21 +19,34 @@ use Rattle.sdd_domain.specs.Claims.{IsUnmoved}
 use Rattle.sdd_domain.specs.LocalState.{LocalState, IsLone as IsAlone, cell_word_of}
 
 -- ---- as its callers see it
--- a cell that was in use, whose word was this, is free
-pub record FreesAt (cell word : ℕ) (old new : LocalState) : Type 0 where
-  pub member : new ≡ record old { words = slice_set old.words cell 0 }
+-- the word of a cell was found to be this, and is that now
+pub record WritesAt (cell found word : ℕ) (old new : LocalState) : Type 0 where
+  pub member : new ≡ record old { words = slice_set old.words cell word }
   pub inside : cell < old.sizes.cells
-  pub lone : IsAlone old → (word ≡ cell_word_of old cell) × (0 < word)
+  pub lone : IsAlone old → found ≡ cell_word_of old cell
+
+-- the same of a cell that was in use
+pub record ChangesCell (cell found word : ℕ) (old new : LocalState) : Type 0 where
+  pub writes : WritesAt cell found word old new
+  pub full : IsAlone old → 0 < found
+
+-- a cell that was in use, whose word was this, is free
+abbrev pub FreesAt : ℕ → ℕ → LocalState → LocalState → Type 0
+FreesAt cell found = ChangesCell cell found 0
+
+-- no cell is free
+abbrev pub AllCellsTaken : LocalState → Type 0
+AllCellsTaken m = (cell : ℕ) → cell < m.limits.cells → 0 < cell_word_of m cell
 
 -- ---- the token
--- a cell that was in use, whose word was this, is free, and all else as it was
-pub record Frees (cell word : ℕ) (s s' : Seat ValueFraction View) : Type 0 where
+-- the word of a cell was found to be this, and is that now, and all else is as it was
+pub record Writes (cell found word : ℕ) (s s' : Seat ValueFraction View) : Type 0 where
   pub table : s'.table_id ≡ s.table_id
   pub number : s'.id ≡ s.id
   pub others : s'.me.1 ≡ s.me.1
-  pub view : s'.me.0 ≡ record s.me.0 { words = cell_noted cell 0 s.me.0 }
+  pub view : s'.me.0 ≡ record s.me.0 { words = cell_noted cell word s.me.0 }
   pub inside : cell < s.me.0.sizes.cells
-  pub knew : IsLone s.me.0.epoch → (word ≡ slice_index s.me.0.words cell) × (0 < word)
+  pub knew : IsLone s.me.0.epoch → (found ≡ slice_index s.me.0.words cell) × (0 < found)
 
 -- none of these cells was found free, and nothing has changed
 pub record MissesCells (P : ℕ → Type 0) (s s' : Seat ValueFraction View) : Type 0 where
@@ -38,24 +59,52 @@ pub record Claims (word cell : ℕ) (s s' : Seat ValueFraction View) : Type 0 wh
   pub number : s'.id ≡ s.id
   pub others : s'.me.1 ≡ s.me.1
   pub view : s'.me.0 ≡ put_in cell word s.me.0
+  pub inside : cell < s.me.0.sizes.cells
   pub free : IsLone s.me.0.epoch → slice_index s.me.0.words cell ≡ 0
 
--- it has the owner of a slot, which shows this, and whose unit is in the bank
-pub record TakesUp (slot : ℕ) (shared : Bool) (value : Gv) (s s' : Seat ValueFraction View) : Type 0 where
-  pub table : s'.table_id ≡ s.table_id
-  pub number : s'.id ≡ s.id
-  pub others : s'.me.1 ≡ s.me.1
-  pub view : s'.me.0 ≡ record s.me.0 {
-    slots = record s.me.0.slots { owns = slot ∷ [] };
-    stakes = record s.me.0.stakes { owns = record { slot = slot; shared = shared; value = value } ∷ [] };
-  }
+-- ---- an owner in hand
+-- its slot, if there is one
+abbrev pub slots_in : Option LooseOwner → List ℕ
+slots_in None = []
+slots_in (Some o) = o.slot ∷ []
 
--- it has no owner any more
-pub record PutsDown (s s' : Seat ValueFraction View) : Type 0 where
+-- what is told of it
+abbrev pub told_of : Bool → Option LooseOwner → List ShownValue
+told_of shared None = []
+told_of shared (Some o) = record { slot = o.slot; shared = shared; value = o.grip.shown } ∷ []
+
+-- it is an owner of an item of this domain, one of several or not, with a unit of the place's number
+pub record IsLoose (b : DomainTable) (shared : Bool) (o : LooseOwner) : Type 0 where
+  pub inside : o.slot < slots_of b
+  pub table : o.owner.table_id ≡ id_of b
+  pub views : o.owner.views ≡ witness_of_owner o.slot shared o.grip.shown
+  pub unit : IsUnitOf (book_of b) o.slot o.grip
+
+abbrev pub AreLoose : DomainTable → Bool → Option LooseOwner → Type 0
+AreLoose b shared held = IfSome held (IsLoose b shared)
+
+-- the participant has these owners, of which this is told
+abbrev pub holding : List ℕ → List ShownValue → View → View
+holding owns told v = record v { slots = record v.slots { owns = owns }; stakes = record v.stakes { owns = told } }
+
+-- what a cell of this kind with this word would hold the participant has
+pub record HasHeld (word : ℕ) (shared : Bool) (v : View) : Type 0 where
+  pub owns : v.slots.owns ≡ held_slots word
+  pub none : held_slots word ≡ [] → v.stakes.owns ≡ []
+  pub one : (slot : ℕ) → held_slots word ≡ slot ∷ [] → (value : Gv) × (slot < v.sizes.slots) × IsValueCode value
+      × (v.stakes.owns ≡ record { slot = slot; shared = shared; value = value } ∷ [])
+
+-- where it is, and all that it has out, are as before
+pub record IsWith (v : View) (s s' : Seat ValueFraction View) : Type 0 where
   pub table : s'.table_id ≡ s.table_id
   pub number : s'.id ≡ s.id
   pub others : s'.me.1 ≡ s.me.1
-  pub view : s'.me.0 ≡ record s.me.0 {
-    slots = record s.me.0.slots { owns = [] };
-    stakes = record s.me.0.stakes { owns = [] };
-  }
+  pub view : s'.me.0 ≡ v
+
+-- it has this owner in hand, if there is one
+abbrev pub TakesUp : Bool → Option LooseOwner → Seat ValueFraction View → Seat ValueFraction View → Type 0
+TakesUp shared new s s' = IsWith (holding (slots_in new) (told_of shared new) s.me.0) s s'
+
+-- it has none in hand any more
+abbrev pub PutsDown : Seat ValueFraction View → Seat ValueFraction View → Type 0
+PutsDown s s' = IsWith (holding [] [] s.me.0) s s'

@@ -13,6 +13,7 @@ pub mod Receipt
 pub mod Values
 pub mod RawItems
 pub mod Cells
+pub mod CellWords
 pub mod BetweenCalls
 pub mod InPlace
 pub mod GoesInPlace

@@ -1,12 +1,10 @@
 //! The search for a free cell.
 ghost use Rattle.std.specs.Prelude.{◌≡◌, ◌⊎◌, ◌<◌, ◌≤◌, [], None, IfOk, MatchOption, MatchResult};
-ghost use Rattle.sdd_views.specs.declared.ShownValue.{ShownValue};
 ghost use Rattle.sdd_views.specs.Views.{no_rights};
 ghost use Rattle.sdd_word_invariant.specs.Codes.{held_slots};
 ghost use Rattle.sdd_word_invariant.specs.Epoch.{HasPlace};
-ghost use Rattle.sdd_domain_invariant.specs.FilledInvariant.{HasRecord};
-ghost use Rattle.sdd_rights.specs.Owner.{cell_kind, witness_of_cell};
-ghost use Rattle.sdd_atomics.specs.Cells.{cells_of};
+ghost use Rattle.sdd_rights.specs.Owner.{witness_of_cell};
+ghost use Rattle.sdd_atomics.specs.Cells.{cells_of, FitsCell};
 ghost use Rattle.sdd_atomics.specs.DomainTable.{id_of};
 ghost use Rattle.sdd_atomics.specs.DomainSeat.{view, epoch, slots, Knows};
 ghost use Rattle.sdd_domain.specs.Cells.{Claims, MissesCells};
@@ -15,17 +13,18 @@ ghost use Rattle.sdd_domain.specs.Claims.{Loses};
 use sdd_atomics::steps::cells::{FREE_CELL, claim_cell, cut_right, look_in};
 use sdd_atomics::{DomainSeat, DomainTable};
 use sdd_core::Refused;
+use sdd_views::CellKind;
 use sdd_witness::Witness;
 
-/// Claims a cell by this word for owners of which there may be several, or not, if it is free: the right to it is a token of its own, and the owner that the
-/// participant had is in the cell.
+/// Claims a cell of this kind by this word, if it is free: the right to it is a token of its own, and the owner that the participant had is in the cell, if it had
+/// one.
 #[inline]
 pub fn claim(
     board: &DomainTable,
     token: &mut DomainSeat,
     cell: u32,
     word: u64,
-    shared: bool,
+    kind: CellKind,
 ) -> Option<Witness>
     requires home { token.old.table_id ≡ id_of board.now }
     requires knows { Knows board.now token.old }
@@ -33,14 +32,14 @@ pub fn claim(
     requires place { HasPlace (epoch token.old) }
     requires rests { (view token.old).stakes.moves ≡ None }
     requires own { ((slots token.old).owns ≡ held_slots word) × ((slots token.old).holds ≡ None) × ((slots token.old).drawn ≡ []) }
-    requires kind { (r : ShownValue) → HasRecord (view token.old).stakes.owns r → r.shared ≡ shared }
+    requires fits { FitsCell kind word (view token.old).stakes.owns }
     requires rights { (view token.old).cells ≡ no_rights }
     requires word { 0 < word }
     ensures claimed { MatchOption result
         (MissesCells (λ k. k ≡ cell) token.old token.new)
-        (λ right. Claims word cell token.old token.new × (right.table_id ≡ id_of board.now) × (right.views ≡ witness_of_cell cell (cell_kind shared))) }
+        (λ right. Claims word cell token.old token.new × (right.table_id ≡ id_of board.now) × (right.views ≡ witness_of_cell cell kind)) }
 {
-    if claim_cell(board, token, cell, word, shared) != FREE_CELL {
+    if claim_cell(board, token, cell, word, kind) != FREE_CELL {
         return None;
     }
     Some(cut_right(board, token))
@@ -52,7 +51,7 @@ fn attempt(
     token: &mut DomainSeat,
     cell: u32,
     word: u64,
-    shared: bool,
+    kind: CellKind,
     left: &mut u64,
 ) -> Result<Option<Witness>, Refused>
     requires home { token.old.table_id ≡ id_of board.now }
@@ -61,20 +60,20 @@ fn attempt(
     requires place { HasPlace (epoch token.old) }
     requires rests { (view token.old).stakes.moves ≡ None }
     requires own { ((slots token.old).owns ≡ held_slots word) × ((slots token.old).holds ≡ None) × ((slots token.old).drawn ≡ []) }
-    requires kind { (r : ShownValue) → HasRecord (view token.old).stakes.owns r → r.shared ≡ shared }
+    requires fits { FitsCell kind word (view token.old).stakes.owns }
     requires rights { (view token.old).cells ≡ no_rights }
     requires word { 0 < word }
     requires left { 0 < left.old }
     ensures tried { MatchResult result
         (λ won. MatchOption won (MissesCells (λ k. k ≡ cell) token.old token.new) (λ right. Claims word cell token.old token.new
-        × (right.table_id ≡ id_of board.now) × (right.views ≡ witness_of_cell cell (cell_kind shared))))
+        × (right.table_id ≡ id_of board.now) × (right.views ≡ witness_of_cell cell kind)))
         (λ e. (e ≡ Refused.Contended) × Loses token.old token.new) }
     ensures left { IfOk result (λ _. 0 < left.new) }
 {
     if look_in(board, token, cell) != FREE_CELL {
         return Ok(None);
     }
-    if let Some(right) = claim(board, token, cell, word, shared) {
+    if let Some(right) = claim(board, token, cell, word, kind) {
         return Ok(Some(right));
     }
     *left -= 1;
@@ -91,7 +90,7 @@ fn walk(
     from: u32,
     to: u32,
     word: u64,
-    shared: bool,
+    kind: CellKind,
     left: &mut u64,
 ) -> Result<Option<(u32, Witness)>, Refused>
     requires home { token.old.table_id ≡ id_of board.now }
@@ -100,19 +99,19 @@ fn walk(
     requires place { HasPlace (epoch token.old) }
     requires rests { (view token.old).stakes.moves ≡ None }
     requires own { ((slots token.old).owns ≡ held_slots word) × ((slots token.old).holds ≡ None) × ((slots token.old).drawn ≡ []) }
-    requires kind { (r : ShownValue) → HasRecord (view token.old).stakes.owns r → r.shared ≡ shared }
+    requires fits { FitsCell kind word (view token.old).stakes.owns }
     requires rights { (view token.old).cells ≡ no_rights }
     requires word { 0 < word }
     requires left { 0 < left.old }
     ensures tried { MatchResult result
         (λ found. MatchOption found (MissesCells (λ k. (from ≤ k) × (k < to)) token.old token.new)
         (λ won. (won.0 < to) × Claims word won.0 token.old token.new
-        × (won.1.table_id ≡ id_of board.now) × (won.1.views ≡ witness_of_cell won.0 (cell_kind shared))))
+        × (won.1.table_id ≡ id_of board.now) × (won.1.views ≡ witness_of_cell won.0 kind)))
         (λ e. (e ≡ Refused.Contended) × Loses token.old token.new) }
     ensures left { IfOk result (λ _. 0 < left.new) }
 {
     for cell in from..to {
-        if let Some(right) = attempt(board, token, cell, word, shared, left)? {
+        if let Some(right) = attempt(board, token, cell, word, kind, left)? {
             return Ok(Some((cell, right)));
         }
     }
@@ -129,7 +128,7 @@ pub fn claim_free(
     next: u32,
     cells: u32,
     word: u64,
-    shared: bool,
+    kind: CellKind,
     tries: u64,
 ) -> Result<(u32, Witness), Refused>
     requires home { token.old.table_id ≡ id_of board.now }
@@ -139,20 +138,20 @@ pub fn claim_free(
     requires place { HasPlace (epoch token.old) }
     requires rests { (view token.old).stakes.moves ≡ None }
     requires own { ((slots token.old).owns ≡ held_slots word) × ((slots token.old).holds ≡ None) × ((slots token.old).drawn ≡ []) }
-    requires kind { (r : ShownValue) → HasRecord (view token.old).stakes.owns r → r.shared ≡ shared }
+    requires fits { FitsCell kind word (view token.old).stakes.owns }
     requires rights { (view token.old).cells ≡ no_rights }
     requires word { 0 < word }
     requires tries { 0 < tries }
     ensures tried { MatchResult result
         (λ won. (won.0 < cells) × Claims word won.0 token.old token.new
-        × (won.1.table_id ≡ id_of board.now) × (won.1.views ≡ witness_of_cell won.0 (cell_kind shared)))
+        × (won.1.table_id ≡ id_of board.now) × (won.1.views ≡ witness_of_cell won.0 kind))
         (λ e. ((e ≡ Refused.NoCell) × MissesCells (λ k. k < cells) token.old token.new) ⊎ ((e ≡ Refused.Contended) × Loses token.old token.new)) }
 {
     let mut left = tries;
-    if let Some(won) = walk(board, token, next, cells, word, shared, &mut left)? {
+    if let Some(won) = walk(board, token, next, cells, word, kind, &mut left)? {
         return Ok(won);
     }
-    if let Some(won) = walk(board, token, 0, next, word, shared, &mut left)? {
+    if let Some(won) = walk(board, token, 0, next, word, kind, &mut left)? {
         return Ok(won);
     }
     Err(Refused::NoCell)

@@ -1,71 +1,94 @@
-//! A cell is free again, and the owner that it held is a token of its own.
-ghost use Rattle.std.specs.Prelude.{◌≡◌, ◌<◌, ◌∷◌, [], None, Bool, MatchOption, slice_get};
-ghost use base.Stored.{Gv};
+//! An owner goes into a cell, and what the cell held is a token of its own again.
+ghost use Rattle.std.specs.Prelude.{◌≡◌, ◌≢◌, ◌<◌, ◌∷◌, [], None, Bool, MatchResult, slice_index};
 ghost use Rattle.sdd_views.specs.declared.CellKind.{CellKind};
 ghost use Rattle.sdd_views.specs.Views.{no_rights};
 ghost use Rattle.sdd_domain_invariant.specs.CellSteps.{IsBare};
 ghost use Rattle.sdd_word_invariant.specs.Codes.{held_slots};
-ghost use Rattle.sdd_word_invariant.specs.Epoch.{HasPlace};
-ghost use Rattle.sdd_rights.specs.Owner.{cell_kind, witness_of_cell, witness_of_owner};
-ghost use Rattle.sdd_atomics.specs.DomainTable.{id_of, book_of, slots_of};
+ghost use Rattle.sdd_word_invariant.specs.Epoch.{HasPlace, IsLone};
+ghost use Rattle.sdd_rights.specs.Owner.{cell_kind, witness_of_cell};
+ghost use Rattle.sdd_atomics.specs.DomainTable.{id_of};
 ghost use Rattle.sdd_atomics.specs.DomainSeat.{view, epoch, slots, Knows};
-ghost use Rattle.sdd_atomics.specs.Grips.{IsGripOf, IsUnitOf};
-ghost use Rattle.sdd_shared_values.specs.SharedValues.{IsValueCode};
-ghost use Rattle.sdd_domain.specs.Cells.{Frees, PutsDown, TakesUp};
+ghost use Rattle.sdd_domain.specs.Cells.{AreLoose, HasHeld, IsWith, PutsDown, TakesUp, Writes, told_of, slots_in};
+ghost use Rattle.sdd_domain.specs.InPlace.{IsBare as HasNothing};
 
+use crate::cell_words::held_slot;
 use sdd_atomics::grips::unit_of;
-use sdd_atomics::steps::cells::{find_cell, free_bare_cell, free_cell, recall_cell, take_in_right};
+use sdd_atomics::steps::cells::{
+    exchange_cell, find_cell, free_bare_cell, free_cell, recall_cell, swap_cell, take_in_right,
+};
 use sdd_atomics::steps::slots::{cut, draw_unit, enter_unit, take_in};
 use sdd_atomics::{DomainSeat, DomainTable};
 use sdd_rights::ReadFraction;
 use sdd_witness::Witness;
 
-/// So much of a cell's word says which slot it holds an owner of, and has its tag.
-const BELOW_GENERATION: u64 = 134_217_728;
-
-/// From here on it holds none.
-const UNOWNED: u64 = 134_217_712;
-
-/// The slot whose owner a cell holds that has this word, if it holds one.
-#[inline]
-pub fn held_slot(word: u64) -> Option<u32>
-    ensures { result ≡ slice_get (held_slots word) 0 }
-{
-    let named = word % BELOW_GENERATION;
-    if named >= UNOWNED || named < 4 {
-        return None;
-    }
-    Some((named / 4 - 1) as u32)
+/// An owner of an item as a token of its own, with the item's slot, and a unit of the place's number.
+pub struct LooseOwner {
+    pub slot: u32,
+    pub owner: Witness,
+    pub grip: ReadFraction,
 }
 
-/// Frees the cell of this right, and answers the owner of the slot that it held, if it held one, with a unit of the place's number, and the cell's word before.
+/// Takes an owner in that is to go into a cell, if there is one. Its unit goes to the bank.
+#[inline]
+pub fn take_up(board: &DomainTable, token: &mut DomainSeat, new: Option<LooseOwner>)
+    requires home { token.old.table_id ≡ id_of board.now }
+    requires knows { Knows board.now token.old }
+    requires place { HasPlace (epoch token.old) }
+    requires bare { HasNothing (view token.old) }
+    requires owner { (shared : Bool) × AreLoose board.now shared new }
+    ensures { (shared : Bool) → AreLoose board.now shared new → TakesUp shared new token.old token.new }
+{
+    let Some(loose) = new else {
+        return;
+    };
+    let LooseOwner { slot, owner, grip } = loose;
+    take_in(board, token, owner);
+    let unit = unit_of(board, slot, grip);
+    enter_unit(board, token, slot, unit);
+}
+
+/// The owner that the participant has, and that a cell with this word would hold, is a token of its own again, if there is one. Its unit comes from the bank.
+#[inline]
+pub fn put_down(board: &DomainTable, token: &mut DomainSeat, word: u64) -> Option<LooseOwner>
+    requires home { token.old.table_id ≡ id_of board.now }
+    requires knows { Knows board.now token.old }
+    requires place { HasPlace (epoch token.old) }
+    requires rests { (view token.old).stakes.moves ≡ None }
+    requires quiet { ((slots token.old).drawn ≡ []) × ((slots token.old).holds ≡ None) }
+    requires held { (shared : Bool) × HasHeld word shared (view token.old) }
+    ensures put { PutsDown token.old token.new }
+    ensures slots { slots_in result ≡ held_slots word }
+    ensures owner { (shared : Bool) → HasHeld word shared (view token.old)
+        → AreLoose board.now shared result × (told_of shared result ≡ (view token.old).stakes.owns) }
+{
+    let slot = held_slot(word)?;
+    let grip = draw_unit(board, token, slot).into_grip();
+    let owner = cut(board, token);
+    Some(LooseOwner { slot, owner, grip })
+}
+
+/// Frees the cell of this right, and answers the owner that it held, if it held one, and the cell's word before.
 #[inline]
 pub fn free(
     board: &DomainTable,
     token: &mut DomainSeat,
     cell: u32,
     right: Witness,
-) -> (Option<(u32, Witness, ReadFraction)>, u64)
+) -> (Option<LooseOwner>, u64)
     requires home { token.old.table_id ≡ id_of board.now }
     requires knows { Knows board.now token.old }
     requires place { HasPlace (epoch token.old) }
-    requires rests { (view token.old).stakes.moves ≡ None }
-    requires quiet { ((slots token.old).owns ≡ []) × ((slots token.old).drawn ≡ []) × ((slots token.old).holds ≡ None) × ((view token.old).stakes.owns ≡ []) }
+    requires bare { HasNothing (view token.old) }
     requires rights { (view token.old).cells ≡ no_rights }
     requires right { (right.table_id ≡ id_of board.now) × ((shared : Bool) × (right.views ≡ witness_of_cell cell (cell_kind shared))) }
-    ensures freed { Frees cell result.1 token.old token.new }
-    ensures held { (shared : Bool) → right.views ≡ witness_of_cell cell (cell_kind shared) → MatchOption result.0 (held_slots result.1 ≡ [])
-        (λ owner. (held_slots result.1 ≡ owner.0 ∷ []) × (owner.0 < slots_of board.now) × ((value : Gv)
-        × (owner.1.table_id ≡ id_of board.now) × (owner.1.views ≡ witness_of_owner owner.0 shared value) × IsGripOf (book_of board.now) owner.0 value owner.2)) }
+    ensures freed { Writes cell result.1 0 token.old token.new }
+    ensures slots { slots_in result.0 ≡ held_slots result.1 }
+    ensures held { (shared : Bool) → right.views ≡ witness_of_cell cell (cell_kind shared) → AreLoose board.now shared result.0 }
 {
     recall_cell(board, token, &right);
     take_in_right(board, token, right);
     let word = free_cell(board, token, cell);
-    let Some(slot) = held_slot(word) else {
-        return (None, word);
-    };
-    let grip = draw_unit(board, token, slot).into_grip();
-    (Some((slot, cut(board, token), grip)), word)
+    (put_down(board, token, word), word)
 }
 
 /// Frees the cell of this right, which holds no owners, and answers its word before.
@@ -74,11 +97,10 @@ pub fn free_bare(board: &DomainTable, token: &mut DomainSeat, cell: u32, right: 
     requires home { token.old.table_id ≡ id_of board.now }
     requires knows { Knows board.now token.old }
     requires place { HasPlace (epoch token.old) }
-    requires rests { (view token.old).stakes.moves ≡ None }
-    requires quiet { ((slots token.old).owns ≡ []) × ((slots token.old).drawn ≡ []) × ((slots token.old).holds ≡ None) × ((view token.old).stakes.owns ≡ []) }
+    requires bare { HasNothing (view token.old) }
     requires rights { (view token.old).cells ≡ no_rights }
     requires right { (right.table_id ≡ id_of board.now) × ((kind : CellKind) × IsBare kind × (right.views ≡ witness_of_cell cell kind)) }
-    ensures freed { Frees cell result token.old token.new }
+    ensures freed { Writes cell result 0 token.old token.new }
     ensures bare { held_slots result ≡ [] }
 {
     find_cell(board, token, &right);
@@ -86,46 +108,66 @@ pub fn free_bare(board: &DomainTable, token: &mut DomainSeat, cell: u32, right: 
     free_bare_cell(board, token, cell)
 }
 
-/// Takes the owner of a slot in, which is to go into a cell, and whose unit goes to the bank.
+/// Puts an owner, or none, into the cell of this right by this word, and answers the owner that it held, if it held one, and its word before.
 #[inline]
-pub fn take_up(
+pub fn swap(
     board: &DomainTable,
     token: &mut DomainSeat,
-    slot: u32,
-    owner: Witness,
-    grip: ReadFraction,
-)
+    cell: u32,
+    right: &Witness,
+    new: Option<LooseOwner>,
+    word: u64,
+) -> (Option<LooseOwner>, u64)
     requires home { token.old.table_id ≡ id_of board.now }
     requires knows { Knows board.now token.old }
-    requires inside { slot < slots_of board.now }
     requires place { HasPlace (epoch token.old) }
-    requires rests { (view token.old).stakes.moves ≡ None }
-    requires quiet { ((slots token.old).owns ≡ []) × ((slots token.old).drawn ≡ []) × ((slots token.old).holds ≡ None) × ((view token.old).stakes.owns ≡ []) }
-    requires owner { (owner.table_id ≡ id_of board.now) × ((shared : Bool) × (owner.views ≡ witness_of_owner slot shared grip.shown)) }
-    requires grip { IsUnitOf (book_of board.now) slot grip }
-    ensures taken { (shared : Bool) → owner.views ≡ witness_of_owner slot shared grip.shown → TakesUp slot shared grip.shown token.old token.new }
+    requires bare { HasNothing (view token.old) }
+    requires pledges { (view token.old).pledges.own ≡ [] }
+    requires right { (right.now.table_id ≡ id_of board.now)
+        × ((shared : Bool) × (right.now.views ≡ witness_of_cell cell (cell_kind shared)) × AreLoose board.now shared new) }
+    requires word { (0 < word) × (held_slots word ≡ slots_in new) }
+    ensures swapped { Writes cell result.1 word token.old token.new }
+    ensures slots { slots_in result.0 ≡ held_slots result.1 }
+    ensures held { (shared : Bool) → right.now.views ≡ witness_of_cell cell (cell_kind shared) → AreLoose board.now shared result.0 }
 {
-    take_in(board, token, owner);
-    let unit = unit_of(board, slot, grip);
-    enter_unit(board, token, slot, unit);
+    recall_cell(board, token, right);
+    take_up(board, token, new);
+    let found = swap_cell(board, token, cell, word, right);
+    (put_down(board, token, found), found)
 }
 
-/// The owner that the participant has of a slot, and whose unit is in the bank, is a token of its own again, with a unit of the place's number.
+/// The same where the cell's word is still this one; else the owner comes back that was to go in.
 #[inline]
-pub fn put_down(board: &DomainTable, token: &mut DomainSeat, slot: u32) -> (Witness, ReadFraction)
+pub fn exchange(
+    board: &DomainTable,
+    token: &mut DomainSeat,
+    cell: u32,
+    right: &Witness,
+    old: u64,
+    new: Option<LooseOwner>,
+    word: u64,
+) -> Result<Option<LooseOwner>, Option<LooseOwner>>
     requires home { token.old.table_id ≡ id_of board.now }
     requires knows { Knows board.now token.old }
-    requires inside { slot < slots_of board.now }
     requires place { HasPlace (epoch token.old) }
-    requires rests { (view token.old).stakes.moves ≡ None }
-    requires quiet { ((slots token.old).owns ≡ slot ∷ []) × ((slots token.old).drawn ≡ []) × ((slots token.old).holds ≡ None) }
-    requires told { (shared : Bool) × (value : Gv) × IsValueCode value
-        × ((view token.old).stakes.owns ≡ record { slot = slot; shared = shared; value = value } ∷ []) }
-    ensures put { PutsDown token.old token.new }
-    ensures owner { (shared : Bool) (value : Gv) → (view token.old).stakes.owns ≡ record { slot = slot; shared = shared; value = value } ∷ []
-        → (result.0.table_id ≡ id_of board.now) × (result.0.views ≡ witness_of_owner slot shared value)
-        × IsGripOf (book_of board.now) slot value result.1 }
+    requires bare { HasNothing (view token.old) }
+    requires pledges { (view token.old).pledges.own ≡ [] }
+    requires right { (right.now.table_id ≡ id_of board.now)
+        × ((shared : Bool) × (right.now.views ≡ witness_of_cell cell (cell_kind shared)) × AreLoose board.now shared new) }
+    requires word { (0 < word) × (held_slots word ≡ slots_in new) }
+    ensures exchanged { MatchResult result
+        (λ held. Writes cell old word token.old token.new × (slots_in held ≡ held_slots old))
+        (λ back. IsWith (view token.old) token.old token.new × (slots_in back ≡ slots_in new)
+        × (IsLone (epoch token.old) → old ≢ slice_index (view token.old).words cell)) }
+    ensures held { (shared : Bool) → right.now.views ≡ witness_of_cell cell (cell_kind shared) → AreLoose board.now shared new → MatchResult result
+        (λ held. AreLoose board.now shared held)
+        (λ back. AreLoose board.now shared back × (told_of shared back ≡ told_of shared new)) }
 {
-    let grip = draw_unit(board, token, slot).into_grip();
-    (cut(board, token), grip)
+    recall_cell(board, token, right);
+    take_up(board, token, new);
+    if exchange_cell(board, token, cell, old, word, right) == old {
+        Ok(put_down(board, token, old))
+    } else {
+        Err(put_down(board, token, word))
+    }
 }

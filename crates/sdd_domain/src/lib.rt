@@ -3,6 +3,7 @@
 
 mod cell_claims;
 mod cell_values;
+mod cell_words;
 mod changes;
 mod claims;
 mod closing;

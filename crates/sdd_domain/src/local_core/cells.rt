@@ -1,13 +1,15 @@
 //! Cells: a participant frees one, and has the owner that it held.
-ghost use Rattle.std.specs.Prelude.{◌≡◌, ◌∷◌, [], MatchOption};
+ghost use Rattle.std.specs.Prelude.{◌≡◌, [], IfSome};
 ghost use base.Stored.{Gv};
 ghost use Rattle.sdd_rights.specs.Right.{number_of, home_of, kind_of, raw_number_of, raw_home_of};
+ghost use Rattle.sdd_standings.specs.Cells.{slot_held};
 ghost use Rattle.sdd_word_invariant.specs.Codes.{held_slots};
 ghost use Rattle.sdd_domain.specs.Cells.{FreesAt};
+ghost use Rattle.sdd_domain.specs.CellWords.{listed};
 ghost use Rattle.sdd_domain.specs.Items.{IsRightTo};
 ghost use Rattle.sdd_domain.specs.SpaceIds.{cells_home};
 
-use crate::cell_values::{free, free_bare};
+use crate::cell_values::{LooseOwner, free, free_bare};
 use crate::local_core::LocalCore;
 use sdd_participants::Job;
 use sdd_rights::{RawRight, Right, StandingKind};
@@ -19,15 +21,15 @@ impl<'d, T: Item<T>, J: Job> LocalCore<'d, T, J> {
         requires home { home_of right ≡ cells_home self.old.home }
         requires kind { kind_of right ≡ kind }
         ensures freed { FreesAt (number_of right) result.1 self.old self.new }
-        ensures held { MatchOption result.0 (held_slots result.1 ≡ [])
-            (λ owner. (held_slots result.1 ≡ number_of owner ∷ []) × ((value : Gv) × IsRightTo self.old kind value owner)) }
+        ensures slots { listed (slot_held result.0) ≡ held_slots result.1 }
+        ensures held { IfSome result.0 (λ owner. (value : Gv) × IsRightTo self.old kind value owner) }
     {
         let cell = right.number();
         let slots = self.domain.limits.slots as usize;
         let (of_cell, grip) = right.into_owner();
         grip.discard();
         let (held, word) = free(&self.domain.board, &mut self.token, cell, of_cell);
-        let Some((slot, owner, grip)) = held else {
+        let Some(LooseOwner { slot, owner, grip }) = held else {
             return (None, word);
         };
         (

@@ -1,158 +1,64 @@
-use lib.ListN.{get_elem?}
-use base.Stored.{Gv}
-use Rattle.std.proofs.Common.{◌≡◌, ℕ, ◌<◌, Bool, [], ◌∷◌, List, None, Some, Option, sym, refl, ap, ◌∙◌, subst}
+use Rattle.std.proofs.Common.{◌≡◌, ℕ, Bool, List, [], ◌∷◌, sym, refl, ap, ◌∙◌, subst, arith}
+use Rattle.std.specs.Prelude.{slice_index}
+use Rattle.atomic_table.specs.declared.shared.Seat.{Seat}
+use Rattle.sdd_shared_values.specs.declared.value_fraction.ValueFraction.{ValueFraction}
 use Rattle.sdd_views.specs.declared.View.{View}
-use Rattle.sdd_views.specs.declared.Sizes.{Sizes}
-use Rattle.sdd_word_invariant.specs.Codes.{held_slots}
-use Rattle.sdd_word_invariant.specs.Epoch.{HasPlace}
-use Rattle.sdd_word_invariant.proofs.Codes.{held_which}
+use Rattle.sdd_word_invariant.specs.Epoch.{HasPlace, IsLone}
+use Rattle.sdd_views.specs.declared.EpochView.{EpochView}
 use Rattle.sdd_rights.specs.Owner.{cell_kind}
-use Rattle.sdd_atomics.specs.DomainTable.{id_of, book_of, slots_of}
-use Rattle.sdd_domain.proofs.CellValues.{rights_now, one_named, value, low, view_freed, view_drawn, unit_shows, unit_single, unit_free, grip_shows, frees_one, owner_shows}
+use Rattle.sdd_domain_invariant.specs.FractionSteps.{SeatState}
+use Rattle.sdd_domain_invariant.specs.CellSteps.{rightless}
+use Rattle.sdd_domain.specs.Cells.{AreLoose, HasHeld, holding}
+use Rattle.sdd_domain.proofs.CellValues.{brought, rights_now}
 use Rattle.sdd_domain.proofs.cell_values.free.Goals as goal
 
-pub draw_unit-requires-clause-knows : goal.draw_unit-requires-clause-knows
-draw_unit-requires-clause-knows c = let s = c.args.token.now in let a = c.recall_cell.new.token in let r = c.take_in_right.new.token in let f = c.free_cell-word.new.token in
-    let word : ℕ = c.free_cell-word.result in let cell : ℕ = c.args.cell in let b = c.args.board.now in let slot : ℕ = c.in-Some.slot in
-    let shared : Bool = c.requires.right.1.0 in let known = c.requires.right.1.1 in
-    let recalled = c.recall_cell.ensures cell shared known in let took = c.take_in_right.ensures cell (cell_kind shared) known in
-    let freed = c.free_cell-word.ensures shared (rights_now b cell shared s a r c.requires.rights recalled took) in
-    let one : held_slots word ≡ slot ∷ [] = one_named (held_slots word) slot (held_which word) (sym c.held_slot.ensures ∙ c.in-Some.is) in
-    let is = (view_freed b cell shared s a r c.requires.rights recalled took word f freed c.requires.quiet slot one) in (ap (λ (v : View). v.sizes) is ∙ c.requires.knows.0, ap (λ (v : View). v.stakes.book) is ∙ c.requires.knows.1)
-
-pub draw_unit-requires-clause-inside : goal.draw_unit-requires-clause-inside
-draw_unit-requires-clause-inside c = let s = c.args.token.now in let a = c.recall_cell.new.token in let r = c.take_in_right.new.token in let f = c.free_cell-word.new.token in
-    let word : ℕ = c.free_cell-word.result in let cell : ℕ = c.args.cell in let b = c.args.board.now in let slot : ℕ = c.in-Some.slot in
-    let shared : Bool = c.requires.right.1.0 in let known = c.requires.right.1.1 in
-    let recalled = c.recall_cell.ensures cell shared known in let took = c.take_in_right.ensures cell (cell_kind shared) known in
-    let freed = c.free_cell-word.ensures shared (rights_now b cell shared s a r c.requires.rights recalled took) in
-    let one : held_slots word ≡ slot ∷ [] = one_named (held_slots word) slot (held_which word) (sym c.held_slot.ensures ∙ c.in-Some.is) in
-    subst (λ (z : Sizes). slot < z.slots) c.requires.knows.0 (low b cell shared s a r c.requires.rights recalled took word f freed c.requires.quiet slot one)
-
-pub draw_unit-requires-clause-place : goal.draw_unit-requires-clause-place
-draw_unit-requires-clause-place c = let s = c.args.token.now in let a = c.recall_cell.new.token in let r = c.take_in_right.new.token in let f = c.free_cell-word.new.token in
-    let word : ℕ = c.free_cell-word.result in let cell : ℕ = c.args.cell in let b = c.args.board.now in let slot : ℕ = c.in-Some.slot in
-    let shared : Bool = c.requires.right.1.0 in let known = c.requires.right.1.1 in
-    let recalled = c.recall_cell.ensures cell shared known in let took = c.take_in_right.ensures cell (cell_kind shared) known in
-    let freed = c.free_cell-word.ensures shared (rights_now b cell shared s a r c.requires.rights recalled took) in
-    let one : held_slots word ≡ slot ∷ [] = one_named (held_slots word) slot (held_which word) (sym c.held_slot.ensures ∙ c.in-Some.is) in
-    subst (λ (v : View). HasPlace v.epoch) (sym (view_freed b cell shared s a r c.requires.rights recalled took word f freed c.requires.quiet slot one)) c.requires.place
-
-pub draw_unit-requires-clause-own : goal.draw_unit-requires-clause-own
-draw_unit-requires-clause-own c = let s = c.args.token.now in let a = c.recall_cell.new.token in let r = c.take_in_right.new.token in let f = c.free_cell-word.new.token in
-    let word : ℕ = c.free_cell-word.result in let cell : ℕ = c.args.cell in let b = c.args.board.now in let slot : ℕ = c.in-Some.slot in
-    let shared : Bool = c.requires.right.1.0 in let known = c.requires.right.1.1 in
-    let recalled = c.recall_cell.ensures cell shared known in let took = c.take_in_right.ensures cell (cell_kind shared) known in
-    let freed = c.free_cell-word.ensures shared (rights_now b cell shared s a r c.requires.rights recalled took) in
-    let one : held_slots word ≡ slot ∷ [] = one_named (held_slots word) slot (held_which word) (sym c.held_slot.ensures ∙ c.in-Some.is) in
-    let is = (view_freed b cell shared s a r c.requires.rights recalled took word f freed c.requires.quiet slot one) in (
-      (shared, value b cell shared s a r c.requires.rights recalled took word f freed c.requires.quiet slot one, (0, ap (λ (v : View). get_elem? v.stakes.owns 0) is)),
-      (λ held. let no : ◌≡◌ {A = Option ℕ} None (Some slot) = sym (ap (λ (v : View). v.slots.holds) is ∙ c.requires.quiet.2) ∙ held in absurd cc),
-      ap (λ (v : View). v.slots.drawn) is ∙ c.requires.quiet.1,
+pub put_down-requires-clause-knows : goal.put_down-requires-clause-knows
+put_down-requires-clause-knows c = let q = c.requires.right.1 in let shared : Bool = q.0 in let s = c.args.token.now in
+    let a = c.recall_cell.ensures c.args.cell shared q.1 in let took = c.take_in_right.ensures c.args.cell (cell_kind shared) q.1 in
+    let freed = c.free_cell-word.ensures shared
+    (rights_now c.args.cell shared s c.recall_cell.new.token c.take_in_right.new.token c.requires.rights a.2.0 took.3) in
+    let out = brought 0 c.args.cell c.free_cell-word.result shared c.take_in_right.new.token.me freed.2.0.0 freed.2.0.1 in (
+      ap (λ (m : SeatState). m.0.sizes) freed.2.0.2 ∙ (ap (λ (m : SeatState). m.0.sizes) out.1
+          ∙ (ap (λ (v : View). v.sizes) took.3 ∙ ap (λ (m : SeatState). m.0.sizes) a.2.0)) ∙ c.requires.knows.0,
+      ap (λ (m : SeatState). m.0.stakes.book) freed.2.0.2 ∙ (ap (λ (m : SeatState). m.0.stakes.book) out.1
+          ∙ (ap (λ (v : View). v.stakes.book) took.3 ∙ ap (λ (m : SeatState). m.0.stakes.book) a.2.0)) ∙ c.requires.knows.1,
     )
 
-pub draw_unit-requires-clause-rests : goal.draw_unit-requires-clause-rests
-draw_unit-requires-clause-rests c = let s = c.args.token.now in let a = c.recall_cell.new.token in let r = c.take_in_right.new.token in let f = c.free_cell-word.new.token in
-    let word : ℕ = c.free_cell-word.result in let cell : ℕ = c.args.cell in let b = c.args.board.now in let slot : ℕ = c.in-Some.slot in
-    let shared : Bool = c.requires.right.1.0 in let known = c.requires.right.1.1 in
-    let recalled = c.recall_cell.ensures cell shared known in let took = c.take_in_right.ensures cell (cell_kind shared) known in
-    let freed = c.free_cell-word.ensures shared (rights_now b cell shared s a r c.requires.rights recalled took) in
-    let one : held_slots word ≡ slot ∷ [] = one_named (held_slots word) slot (held_which word) (sym c.held_slot.ensures ∙ c.in-Some.is) in
-    ap (λ (v : View). v.stakes.moves) (view_freed b cell shared s a r c.requires.rights recalled took word f freed c.requires.quiet slot one) ∙ c.requires.rests
+pub put_down-requires-clause-place : goal.put_down-requires-clause-place
+put_down-requires-clause-place c = let q = c.requires.right.1 in let shared : Bool = q.0 in let s = c.args.token.now in
+    let a = c.recall_cell.ensures c.args.cell shared q.1 in let took = c.take_in_right.ensures c.args.cell (cell_kind shared) q.1 in
+    let freed = c.free_cell-word.ensures shared
+    (rights_now c.args.cell shared s c.recall_cell.new.token c.take_in_right.new.token c.requires.rights a.2.0 took.3) in
+    let out = brought 0 c.args.cell c.free_cell-word.result shared c.take_in_right.new.token.me freed.2.0.0 freed.2.0.1 in 
+    subst (λ (e : EpochView). HasPlace e) (sym (ap (λ (m : SeatState). m.0.epoch) freed.2.0.2 ∙ (ap (λ (m : SeatState). m.0.epoch) out.1
+          ∙ (ap (λ (v : View). v.epoch) took.3 ∙ ap (λ (m : SeatState). m.0.epoch) a.2.0)))) c.requires.place
 
-pub into_grip-grip-requires-clause-full : goal.into_grip-grip-requires-clause-full
-into_grip-grip-requires-clause-full c = let s = c.args.token.now in let a = c.recall_cell.new.token in let r = c.take_in_right.new.token in let f = c.free_cell-word.new.token in
-    let word : ℕ = c.free_cell-word.result in let cell : ℕ = c.args.cell in let b = c.args.board.now in let slot : ℕ = c.in-Some.slot in
-    let shared : Bool = c.requires.right.1.0 in let known = c.requires.right.1.1 in
-    let recalled = c.recall_cell.ensures cell shared known in let took = c.take_in_right.ensures cell (cell_kind shared) known in
-    let freed = c.free_cell-word.ensures shared (rights_now b cell shared s a r c.requires.rights recalled took) in
-    let one : held_slots word ≡ slot ∷ [] = one_named (held_slots word) slot (held_which word) (sym c.held_slot.ensures ∙ c.in-Some.is) in
-    unit_shows b cell shared s a r c.requires.rights recalled took word f freed c.requires.quiet slot one c.requires.knows c.draw_unit.new.token c.draw_unit.result.lot c.draw_unit.ensures
+pub put_down-requires-clause-rests : goal.put_down-requires-clause-rests
+put_down-requires-clause-rests c = let q = c.requires.right.1 in let shared : Bool = q.0 in let s = c.args.token.now in
+    let a = c.recall_cell.ensures c.args.cell shared q.1 in let took = c.take_in_right.ensures c.args.cell (cell_kind shared) q.1 in
+    let freed = c.free_cell-word.ensures shared
+    (rights_now c.args.cell shared s c.recall_cell.new.token c.take_in_right.new.token c.requires.rights a.2.0 took.3) in
+    let out = brought 0 c.args.cell c.free_cell-word.result shared c.take_in_right.new.token.me freed.2.0.0 freed.2.0.1 in 
+    ap (λ (m : SeatState). m.0.stakes.moves) freed.2.0.2 ∙ (ap (λ (m : SeatState). m.0.stakes.moves) out.1
+          ∙ (ap (λ (v : View). v.stakes.moves) took.3 ∙ ap (λ (m : SeatState). m.0.stakes.moves) a.2.0)) ∙ c.requires.bare.rests
 
-pub into_grip-grip-requires-clause-one : goal.into_grip-grip-requires-clause-one
-into_grip-grip-requires-clause-one c = let s = c.args.token.now in let a = c.recall_cell.new.token in let r = c.take_in_right.new.token in let f = c.free_cell-word.new.token in
-    let word : ℕ = c.free_cell-word.result in let cell : ℕ = c.args.cell in let b = c.args.board.now in let slot : ℕ = c.in-Some.slot in
-    let shared : Bool = c.requires.right.1.0 in let known = c.requires.right.1.1 in
-    let recalled = c.recall_cell.ensures cell shared known in let took = c.take_in_right.ensures cell (cell_kind shared) known in
-    let freed = c.free_cell-word.ensures shared (rights_now b cell shared s a r c.requires.rights recalled took) in
-    let one : held_slots word ≡ slot ∷ [] = one_named (held_slots word) slot (held_which word) (sym c.held_slot.ensures ∙ c.in-Some.is) in
-    unit_single b cell shared s a r c.requires.rights recalled took word f freed c.requires.quiet slot one c.requires.knows c.draw_unit.new.token c.draw_unit.result.lot c.draw_unit.ensures
-
-pub into_grip-grip-requires-clause-free : goal.into_grip-grip-requires-clause-free
-into_grip-grip-requires-clause-free c = let s = c.args.token.now in let a = c.recall_cell.new.token in let r = c.take_in_right.new.token in let f = c.free_cell-word.new.token in
-    let word : ℕ = c.free_cell-word.result in let cell : ℕ = c.args.cell in let b = c.args.board.now in let slot : ℕ = c.in-Some.slot in
-    let shared : Bool = c.requires.right.1.0 in let known = c.requires.right.1.1 in
-    let recalled = c.recall_cell.ensures cell shared known in let took = c.take_in_right.ensures cell (cell_kind shared) known in
-    let freed = c.free_cell-word.ensures shared (rights_now b cell shared s a r c.requires.rights recalled took) in
-    let one : held_slots word ≡ slot ∷ [] = one_named (held_slots word) slot (held_which word) (sym c.held_slot.ensures ∙ c.in-Some.is) in
-    unit_free b cell shared s a r c.requires.rights recalled took word f freed c.requires.quiet slot one c.requires.knows c.draw_unit.new.token c.draw_unit.result.lot c.draw_unit.ensures
-
-pub cut-requires-clause-knows : goal.cut-requires-clause-knows
-cut-requires-clause-knows c = let s = c.args.token.now in let a = c.recall_cell.new.token in let r = c.take_in_right.new.token in let f = c.free_cell-word.new.token in
-    let word : ℕ = c.free_cell-word.result in let cell : ℕ = c.args.cell in let b = c.args.board.now in let slot : ℕ = c.in-Some.slot in
-    let shared : Bool = c.requires.right.1.0 in let known = c.requires.right.1.1 in
-    let recalled = c.recall_cell.ensures cell shared known in let took = c.take_in_right.ensures cell (cell_kind shared) known in
-    let freed = c.free_cell-word.ensures shared (rights_now b cell shared s a r c.requires.rights recalled took) in
-    let one : held_slots word ≡ slot ∷ [] = one_named (held_slots word) slot (held_which word) (sym c.held_slot.ensures ∙ c.in-Some.is) in
-    let is = (view_drawn b cell shared s a r c.requires.rights recalled took word f freed c.requires.quiet slot one c.requires.knows c.draw_unit.new.token c.draw_unit.result.lot c.draw_unit.ensures) in (ap (λ (v : View). v.sizes) is ∙ c.requires.knows.0, ap (λ (v : View). v.stakes.book) is ∙ c.requires.knows.1)
-
-pub cut-requires-clause-place : goal.cut-requires-clause-place
-cut-requires-clause-place c = let s = c.args.token.now in let a = c.recall_cell.new.token in let r = c.take_in_right.new.token in let f = c.free_cell-word.new.token in
-    let word : ℕ = c.free_cell-word.result in let cell : ℕ = c.args.cell in let b = c.args.board.now in let slot : ℕ = c.in-Some.slot in
-    let shared : Bool = c.requires.right.1.0 in let known = c.requires.right.1.1 in
-    let recalled = c.recall_cell.ensures cell shared known in let took = c.take_in_right.ensures cell (cell_kind shared) known in
-    let freed = c.free_cell-word.ensures shared (rights_now b cell shared s a r c.requires.rights recalled took) in
-    let one : held_slots word ≡ slot ∷ [] = one_named (held_slots word) slot (held_which word) (sym c.held_slot.ensures ∙ c.in-Some.is) in
-    subst (λ (v : View). HasPlace v.epoch) (sym (view_drawn b cell shared s a r c.requires.rights recalled took word f freed c.requires.quiet slot one c.requires.knows c.draw_unit.new.token c.draw_unit.result.lot c.draw_unit.ensures)) c.requires.place
-
-pub cut-requires-clause-one : goal.cut-requires-clause-one
-cut-requires-clause-one c = let s = c.args.token.now in let a = c.recall_cell.new.token in let r = c.take_in_right.new.token in let f = c.free_cell-word.new.token in
-    let word : ℕ = c.free_cell-word.result in let cell : ℕ = c.args.cell in let b = c.args.board.now in let slot : ℕ = c.in-Some.slot in
-    let shared : Bool = c.requires.right.1.0 in let known = c.requires.right.1.1 in
-    let recalled = c.recall_cell.ensures cell shared known in let took = c.take_in_right.ensures cell (cell_kind shared) known in
-    let freed = c.free_cell-word.ensures shared (rights_now b cell shared s a r c.requires.rights recalled took) in
-    let one : held_slots word ≡ slot ∷ [] = one_named (held_slots word) slot (held_which word) (sym c.held_slot.ensures ∙ c.in-Some.is) in
-    let is = (view_drawn b cell shared s a r c.requires.rights recalled took word f freed c.requires.quiet slot one c.requires.knows c.draw_unit.new.token c.draw_unit.result.lot c.draw_unit.ensures) in (slot, ap (λ (v : View). v.slots.owns) is, ap (λ (v : View). v.slots.drawn) is ∙ ap (λ (l : List ℕ). slot ∷ l) c.requires.quiet.1)
-
-pub cut-requires-clause-free : goal.cut-requires-clause-free
-cut-requires-clause-free c = let s = c.args.token.now in let a = c.recall_cell.new.token in let r = c.take_in_right.new.token in let f = c.free_cell-word.new.token in
-    let word : ℕ = c.free_cell-word.result in let cell : ℕ = c.args.cell in let b = c.args.board.now in let slot : ℕ = c.in-Some.slot in
-    let shared : Bool = c.requires.right.1.0 in let known = c.requires.right.1.1 in
-    let recalled = c.recall_cell.ensures cell shared known in let took = c.take_in_right.ensures cell (cell_kind shared) known in
-    let freed = c.free_cell-word.ensures shared (rights_now b cell shared s a r c.requires.rights recalled took) in
-    let one : held_slots word ≡ slot ∷ [] = one_named (held_slots word) slot (held_which word) (sym c.held_slot.ensures ∙ c.in-Some.is) in
-    ap (λ (v : View). v.slots.holds) (view_drawn b cell shared s a r c.requires.rights recalled took word f freed c.requires.quiet slot one c.requires.knows c.draw_unit.new.token c.draw_unit.result.lot c.draw_unit.ensures) ∙ c.requires.quiet.2
-
-pub cut-requires-clause-rests : goal.cut-requires-clause-rests
-cut-requires-clause-rests c = let s = c.args.token.now in let a = c.recall_cell.new.token in let r = c.take_in_right.new.token in let f = c.free_cell-word.new.token in
-    let word : ℕ = c.free_cell-word.result in let cell : ℕ = c.args.cell in let b = c.args.board.now in let slot : ℕ = c.in-Some.slot in
-    let shared : Bool = c.requires.right.1.0 in let known = c.requires.right.1.1 in
-    let recalled = c.recall_cell.ensures cell shared known in let took = c.take_in_right.ensures cell (cell_kind shared) known in
-    let freed = c.free_cell-word.ensures shared (rights_now b cell shared s a r c.requires.rights recalled took) in
-    let one : held_slots word ≡ slot ∷ [] = one_named (held_slots word) slot (held_which word) (sym c.held_slot.ensures ∙ c.in-Some.is) in
-    ap (λ (v : View). v.stakes.moves) (view_drawn b cell shared s a r c.requires.rights recalled took word f freed c.requires.quiet slot one c.requires.knows c.draw_unit.new.token c.draw_unit.result.lot c.draw_unit.ensures) ∙ c.requires.rests
-
-pub returns-clause-freed : goal.returns-clause-freed
-returns-clause-freed c = let s = c.args.token.now in let a = c.recall_cell.new.token in let r = c.take_in_right.new.token in let f = c.free_cell-word.new.token in
-    let word : ℕ = c.free_cell-word.result in let cell : ℕ = c.args.cell in let b = c.args.board.now in let slot : ℕ = c.in-Some.slot in
-    let shared : Bool = c.requires.right.1.0 in let known = c.requires.right.1.1 in
-    let recalled = c.recall_cell.ensures cell shared known in let took = c.take_in_right.ensures cell (cell_kind shared) known in
-    let freed = c.free_cell-word.ensures shared (rights_now b cell shared s a r c.requires.rights recalled took) in
-    let one : held_slots word ≡ slot ∷ [] = one_named (held_slots word) slot (held_which word) (sym c.held_slot.ensures ∙ c.in-Some.is) in
-    frees_one b cell shared s a r c.requires.rights recalled took word f freed c.requires.quiet slot one c.requires.knows c.draw_unit.new.token c.draw_unit.result.lot c.draw_unit.ensures c.cut.new.token c.cut.ensures.participant
-
-pub returns-clause-held : goal.returns-clause-held
-returns-clause-held c = λ shared known. let s = c.args.token.now in let a = c.recall_cell.new.token in let r = c.take_in_right.new.token in let f = c.free_cell-word.new.token in
-    let word : ℕ = c.free_cell-word.result in let cell : ℕ = c.args.cell in let b = c.args.board.now in let slot : ℕ = c.in-Some.slot in
-    let recalled = c.recall_cell.ensures cell shared known in let took = c.take_in_right.ensures cell (cell_kind shared) known in
-    let freed = c.free_cell-word.ensures shared (rights_now b cell shared s a r c.requires.rights recalled took) in
-    let one : held_slots word ≡ slot ∷ [] = one_named (held_slots word) slot (held_which word) (sym c.held_slot.ensures ∙ c.in-Some.is) in (
-      one,
-      subst (λ (z : Sizes). slot < z.slots) c.requires.knows.0 (low b cell shared s a r c.requires.rights recalled took word f freed c.requires.quiet slot one),
-      (
-        value b cell shared s a r c.requires.rights recalled took word f freed c.requires.quiet slot one,
-        c.cut.ensures.owner.0,
-        owner_shows b cell shared s a r c.requires.rights recalled took word f freed c.requires.quiet slot one c.requires.knows c.draw_unit.new.token c.draw_unit.result.lot c.draw_unit.ensures c.cut.result.views c.cut.ensures.owner.1,
-        grip_shows b cell shared s a r c.requires.rights recalled took word f freed c.requires.quiet slot one c.requires.knows c.draw_unit.new.token c.draw_unit.result.lot c.draw_unit.ensures c.into_grip-grip.result c.into_grip-grip.ensures,
-      ),
+pub put_down-requires-clause-quiet : goal.put_down-requires-clause-quiet
+put_down-requires-clause-quiet c = let q = c.requires.right.1 in let shared : Bool = q.0 in let s = c.args.token.now in
+    let a = c.recall_cell.ensures c.args.cell shared q.1 in let took = c.take_in_right.ensures c.args.cell (cell_kind shared) q.1 in
+    let freed = c.free_cell-word.ensures shared
+    (rights_now c.args.cell shared s c.recall_cell.new.token c.take_in_right.new.token c.requires.rights a.2.0 took.3) in
+    let out = brought 0 c.args.cell c.free_cell-word.result shared c.take_in_right.new.token.me freed.2.0.0 freed.2.0.1 in (
+      ap (λ (m : SeatState). m.0.slots.drawn) freed.2.0.2 ∙ (ap (λ (m : SeatState). m.0.slots.drawn) out.1
+          ∙ (ap (λ (v : View). v.slots.drawn) took.3 ∙ ap (λ (m : SeatState). m.0.slots.drawn) a.2.0)) ∙ c.requires.bare.quiet.drawn,
+      ap (λ (m : SeatState). m.0.slots.holds) freed.2.0.2 ∙ (ap (λ (m : SeatState). m.0.slots.holds) out.1
+          ∙ (ap (λ (v : View). v.slots.holds) took.3 ∙ ap (λ (m : SeatState). m.0.slots.holds) a.2.0)) ∙ c.requires.bare.quiet.holds,
     )
+
+pub put_down-requires-clause-held : goal.put_down-requires-clause-held
+put_down-requires-clause-held c = let q = c.requires.right.1 in let shared : Bool = q.0 in let s = c.args.token.now in
+    let a = c.recall_cell.ensures c.args.cell shared q.1 in let took = c.take_in_right.ensures c.args.cell (cell_kind shared) q.1 in
+    let freed = c.free_cell-word.ensures shared
+    (rights_now c.args.cell shared s c.recall_cell.new.token c.take_in_right.new.token c.requires.rights a.2.0 took.3) in
+    let out = brought 0 c.args.cell c.free_cell-word.result shared c.take_in_right.new.token.me freed.2.0.0 freed.2.0.1 in 
+    (shared, subst (λ (m : SeatState). HasHeld c.free_cell-word.result shared m.0) (sym freed.2.0.2)
+    record { owns = out.2.owns; none = out.2.none; one = out.2.one })

@@ -1,9 +1,9 @@
 use Rattle.std.proofs.Common.{ℕ, List, inl, inr, sym, ap, arith}
 use Rattle.std.specs.Prelude.{slice_get}
 use Rattle.sdd_word_invariant.proofs.Codes.{holds_none}
-use Rattle.sdd_domain.proofs.CellValues.{holds_at}
-use Rattle.sdd_domain.proofs.cell_values.held_slot.Goals.{then-named-ge-UNOWNED-via-then-named-ge-UNOWNED, then-named-ge-UNOWNED-via-else-named-ge-UNOWNED+then-named-lt4}
-use Rattle.sdd_domain.proofs.cell_values.held_slot.Goals as goal
+use Rattle.sdd_domain.proofs.CellWords.{holds_at}
+use Rattle.sdd_domain.proofs.cell_words.held_slot.Goals.{then-named-ge-UNOWNED-via-then-named-ge-UNOWNED, then-named-ge-UNOWNED-via-else-named-ge-UNOWNED+then-named-lt4}
+use Rattle.sdd_domain.proofs.cell_words.held_slot.Goals as goal
 
 pub returns-then-named-ge-UNOWNED : goal.returns-then-named-ge-UNOWNED
 returns-then-named-ge-UNOWNED c = elim c.then-named-ge-UNOWNED.branch [
