@@ -193,7 +193,7 @@ module _ (me : SeatState) (p : Pledge) (y : ℕ) (shared : Bool) (cell : ℕ) wh
           c.1,
           c.2,
           freed ∙ (ap free c.3 ∙ ap (λ (l : List Pledge). (brought_out cell y slot shared c.0 (as_was l), me.1)) (sym bare)),
-          c.4,
+          λ lone. let k = c.4 lone in record { newest = k.newest; alive = k.alive; kind = k.kind },
         ),
       )
 

@@ -45,7 +45,7 @@ use Rattle.sdd_domain_invariant.specs.LastFractions.{IsRaw, IsStored, LastIs}
 use Rattle.sdd_domain_invariant.specs.PledgesInvariant.{IsOfOwner, IsOfCell}
 use Rattle.sdd_domain_invariant.specs.KindsInvariant.{KnowsKinds, KindsInvariant}
 use Rattle.sdd_domain_invariant.specs.DomainInvariant.{DomainInvariant}
-use Rattle.sdd_domain_invariant.specs.FractionSteps.{SeatState, IsValue, SeesOwned, sighting}
+use Rattle.sdd_domain_invariant.specs.FractionSteps.{SeatState, IsNewest, IsRecalled, IsValue, SeesOwned, sighting}
 use Rattle.sdd_domain_invariant.specs.CellSteps.{put_in, brought_out, KnewStored, BringsOut, SwapsOne, ExchangesOne, ClaimsCell, FreesCell, FillsBare, SwapsBare, RetagsOne, FreesBare, IsBare, FindsCell, LooksInCell, SeesInCell, LearnsCell, OfCell}
 use Rattle.sdd_domain_invariant.proofs.Part.{none_out, only_seen, one_taken}
 use Rattle.sdd_domain_invariant.proofs.Part as part
@@ -222,6 +222,15 @@ module _ (slots id : ℕ) (me : SeatState) (live : HasPlace me.0.epoch) (rests :
             let quiet = (sound.lives (slot_at sizes s.words slot) alive_now).0 in absurd (omega arith))
             (h.homes.moving j u e slot m).1
 
+        -- what a lone participant knows of an item whose owner is in the cell
+        stored_known : sizes.participants ≡ 1 → (slot : ℕ) (shared : Bool) (value : Gv) → IsNewest slot shared value v
+            → 0 < names slot (cell_at sizes s.words cell) → counted (slot_at sizes s.words slot) ≡ one_where shared → IsRecalled slot shared value v
+        stored_known one slot shared value newest named kind = let word = finds sizes s.words s.views h.kept.parts.lone id v at one live slot in record {
+          newest = newest;
+          alive = subst (λ (y : ℕ). 0 < alive y) word (in_cell_alive sizes s.words s.views h.kept.parts.slots slot (cell, inside, named));
+          kind = sym (ap counted word) ∙ kind;
+        }
+
         -- one with a place isn't a token of owners alone
         placed : 0 < v.sizes.participants
         placed = let near = (h.kept.parts.epoch.each id v.epoch (at_map epoch_of s.views id v at)).inside live in omega arith
@@ -323,8 +332,9 @@ module _ (slots id : ℕ) (me : SeatState) (live : HasPlace me.0.epoch) (rests :
                 (h.homes.home slot n last.0 low (omega arith) last.1).1.0 (sound.lives (slot_at sizes s.words slot) a).1
 
             knew_stored : KnewStored slot shared shown_value v
-            knew_stored lone = h.lasts.stored (steps.one_place γ sizes s h id v at lone) id v at live slot shared last.0 low
-                (inr ((cell, inside, named), kind slot named)) last.1
+            knew_stored lone = let one_place = steps.one_place γ sizes s h id v at lone in stored_known one_place slot shared shown_value
+                (h.lasts.stored one_place id v at live slot shared last.0 low (inr ((cell, inside, named), kind slot named)) last.1)
+                named (kind slot named)
 
             follows_one : (told : ℕ → SeatState → Type 0) (rights : CellsView)
                 → CellsInvariant sizes (after y) (set s.views id (record (brought_out cell y slot shared shown_value v) { cells = rights }))
@@ -757,8 +767,9 @@ module _ (slots id : ℕ) (me : SeatState) (live : HasPlace me.0.epoch) (rests :
           let full_now : full_at sizes s.words slot ≡ 1 = (sound.lives (slot_at sizes s.words slot) alive_now).1 in let calm = still s h at slot named in
           let last = raws.last_home slots id me live slot low s h calm in let z : ValueFraction = last.0 in let value : Gv = z.lot.shown in
           let shows_all = raws.all_shown slots id me live slot low s h calm in let flag = flag_of (slot_at sizes s.words slot) in let shared : Bool = flag.0 in
-          let knew : KnewStored slot shared value v = λ lone. h.lasts.stored (steps.one_place γ sizes s h id v at lone) id v at live slot shared z low
-          (inr (in_it, flag.1)) last.1 in
+          let knew : KnewStored slot shared value v = λ lone. let one_place = steps.one_place γ sizes s h id v at lone in
+          stored_known s h at one_place slot shared value (h.lasts.stored one_place id v at live slot shared z low (inr (in_it, flag.1)) last.1)
+          named flag.1 in
           let told_of : (m : SeatState) → SeesOwned slot shared value me m → SeesInCell cell me x m
           = λ m sees. (
             (λ none. absurd (let d : ◌≡◌ {A = List ℕ} (slot ∷ []) [] = sym held.1 ∙ none in cc)),

@@ -13,7 +13,7 @@ use Rattle.sdd_word_invariant.specs.Epoch.{IsLone}
 use Rattle.sdd_word_invariant.specs.CellSteps.{cell_noted, noting, KnewCell}
 use Rattle.sdd_domain_invariant.specs.BankInvariant.{one_where}
 use Rattle.sdd_domain_invariant.specs.KindsInvariant.{written}
-use Rattle.sdd_domain_invariant.specs.FractionSteps.{SeatState, IsNewest, SeesOwned}
+use Rattle.sdd_domain_invariant.specs.FractionSteps.{SeatState, IsRecalled, SeesOwned}
 
 -- what it had of owners is in a cell, whose word is y then
 abbrev pub put_in : ℕ → ℕ → View → View
@@ -43,9 +43,9 @@ rights_of v = record (owner_token []) { cells = v.cells }
 abbrev pub righted : View → View → View
 righted v w = record v { cells = record { rights = w.cells.rights ++ v.cells.rights } }
 
--- what a stored item shows a lone participant moved in last, for an owner of this kind
+-- what a stored item shows a lone participant moved in last, for an owner of this kind, and by the words that it knows the item has one
 abbrev pub KnewStored : ℕ → Bool → Gv → View → Type 0
-KnewStored slot shared value v = IsLone v.epoch → IsNewest slot shared value v
+KnewStored slot shared value v = IsLone v.epoch → IsRecalled slot shared value v
 
 -- each of these: the seat before, the number found, and the seat after
 -- the owner that it has, or none, is in the cell then, whose word is y; and it has the one of this kind that the cell held, or none
