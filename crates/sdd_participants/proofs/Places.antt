@@ -3,9 +3,16 @@ use Rattle.std.proofs.Common.{◌≡◌, ℕ, ◌+◌, ◌<◌, List, Option, So
 use Rattle.std.specs.Prelude.{◌∷◌, option_map, replicate}
 use Rattle.std.proofs.Math.ListN.{get_or-map}
 use Rattle.std.proofs.lemmas.List.{map-set, length-map}
-use Rattle.sdd_participants.specs.Slab.{Entries, entry_at, with_entry, without_entry, IsEmptyAt}
+use Rattle.sdd_participants.specs.Slab.{Entries, entry_at, with_entry, without_entry, IsEmptyAt, IsFull}
 use Rattle.sdd_participants.specs.Jobs.{places_of, jobs_without, jobs_without_all}
+use Rattle.std.specs.Prelude.{◌++◌, [], filter}
+use Rattle.std.proofs.Common.{Bool, true, false, cond, is_some, IsSome, map}
+use Rattle.std.proofs.lemmas.List.{get_or_default}
 use Rattle.sdd_participants.specs.declared.waiting.LimboEntry.{LimboEntry}
+use Rattle.sdd_participants.specs.declared.waiting.LimboEntry.TheVariants.{Item, Job}
+use Rattle.sdd_participants.specs.declared.participant.Participant.{Participant}
+use Rattle.sdd_participants.specs.Waiting.{Waiting}
+use Rattle.sdd_participants.specs.Collecting.{chosen_of, chosen_among}
 
 none-unit : {J : Type 0} (o : Option J) → option_map (λ (_ : J). tt {0}) o ≡ None → o ≡ None
 none-unit None h = refl
@@ -14,6 +21,10 @@ none-unit (Some x) h = absurd (cc)
 pub places-none : (J : Type 0) (size : ℕ) → places_of {J = J} (replicate size None) ≡ replicate size None
 places-none J zero = refl
 places-none J (suc n) = ap (λ (os : List (Option (Unit {0}))). None ∷ os) (places-none J n)
+
+some-unit : {J : Type 0} (o : Option J) → is_some (option_map (λ (_ : J). tt {0}) o) ≡ is_some o
+some-unit None = refl
+some-unit (Some x) = refl
 
 module _ {J : Type 0} where
   pub places-put : (jobs : Entries J) (k : ℕ) (job : J) → places_of (with_entry jobs k job) ≡ with_entry (places_of jobs) k tt
@@ -43,3 +54,34 @@ module _ {J : Type 0} where
       jobs_without_all jobs (drop i xs) ≡ jobs_without_all (jobs_without jobs (get_or xs i d)) (drop (i + 1) xs)
   without-drop jobs xs i d l =
       ap (λ ys. jobs_without_all jobs ys) (drop-cons xs i d l ∙ ap (λ n. get_or xs i d ∷ drop n xs) (sym (add-one i)))
+
+  -- where each place has a job, no place is free
+  pub places-full : (jobs : Entries J) → IsFull jobs → IsFull (places_of jobs)
+  places-full jobs full k d inside =
+      let within : k < length jobs = omega (arith, inside, places-length jobs) in
+      ap is_some (get_or_default (places_of jobs) k d None inside ∙ places-at jobs k) ∙ (some-unit (entry_at jobs k) ∙ full k None within)
+
+  without-append : (xs ys : List LimboEntry) (jobs : Entries J) → jobs_without_all jobs (xs ++ ys) ≡ jobs_without_all (jobs_without_all jobs xs) ys
+  without-append [] ys jobs = refl
+  without-append (x ∷ xs) ys jobs = without-append xs ys (jobs_without jobs x)
+
+  -- an item, chosen or not, and what comes behind it
+  item-chosen : (b : Bool) (k : ℕ) (xs : List LimboEntry) (jobs : Entries J) → jobs_without_all jobs (cond b (Item k ∷ xs) xs) ≡ jobs_without_all jobs xs
+  item-chosen true k xs jobs = refl
+  item-chosen false k xs jobs = refl
+
+  module _ (chosen : LimboEntry → Bool) (items : (j : ℕ) → chosen (Job j) ≡ false) where
+    -- where items alone are chosen, the jobs wait as before
+    without-filtered : (xs : List LimboEntry) (jobs : Entries J) → jobs_without_all jobs (filter chosen xs) ≡ jobs
+    without-filtered [] jobs = refl
+    without-filtered (Item k ∷ xs) jobs = item-chosen (chosen (Item k)) k (filter chosen xs) jobs ∙ without-filtered xs jobs
+    without-filtered (Job j ∷ xs) jobs =
+        ap (λ (b : Bool). jobs_without_all jobs (cond b (Job j ∷ filter chosen xs) (filter chosen xs))) (items j) ∙ without-filtered xs jobs
+
+    pub without-chosen : (ps : List Participant) (jobs : Entries J) → jobs_without_all jobs (chosen_among chosen ps) ≡ jobs
+    without-chosen [] jobs = refl
+    without-chosen (p ∷ ps) jobs =
+        without-append (chosen_of chosen p.bags.waiting) (chosen_among chosen ps) jobs
+        ∙ ap (λ (left : Entries J). jobs_without_all left (chosen_among chosen ps))
+        (without-filtered (map (λ (w : Waiting). w.what) p.bags.waiting) jobs)
+        ∙ without-chosen ps jobs

@@ -81,15 +81,20 @@ impl<T: Item<T>, J: Job> WorldCore<T, J> {
     {
         let tenures = ReadSections::new(alloc, participants as usize)?;
         let jobs = Jobs::new(alloc, jobs)?;
-        let (slots, cells) = free_tables(alloc, slots, cells, participants)?;
-        Ok(WorldCore {
-            time,
-            slots,
-            cells,
-            jobs,
-            tenures,
-            tally: RunningTally::new(),
-        })
+        match free_tables(alloc, slots, cells, participants) {
+            Ok((slots, cells)) => Ok(WorldCore {
+                time,
+                slots,
+                cells,
+                jobs,
+                tenures,
+                tally: RunningTally::new(),
+            }),
+            Err(refused) => {
+                jobs.destroy();
+                Err(refused)
+            }
+        }
     }
 
     /// Lets go of a core whose slots and cells are all free, and with which no job waits.
