@@ -12,7 +12,7 @@ use Rattle.sdd_rights.specs.declared.read_fraction.ReadFraction.{ReadFraction}
 use Rattle.sdd_views.specs.declared.View.{View}
 use Rattle.sdd_views.specs.contracts.View.{the_row}
 use Rattle.sdd_views.specs.declared.CellsView.{CellsView}
-use Rattle.sdd_views.specs.Views.{owner_of, right_to, no_rights}
+use Rattle.sdd_views.specs.Views.{right_to, no_rights}
 use Rattle.sdd_word_invariant.specs.Codes.{held_slots, unowned}
 use Rattle.sdd_word_invariant.specs.Epoch.{IsLone}
 use Rattle.sdd_word_invariant.specs.CellSteps.{cell_noted}

@@ -12,7 +12,7 @@ use Rattle.sdd_domain.specs.LocalState.{LocalState, IsLone as IsAlone, cell_word
 
 -- ---- as its callers see it
 -- a cell that was in use, whose word was this, is free
-pub record FreesAt (cell word : ℕ) (old new : LocalState) : Type 0 where
+pub record FreesAt {J : Type 0} (cell word : ℕ) (old new : LocalState J) : Type 0 where
   pub member : new ≡ record old { words = slice_set old.words cell 0 }
   pub inside : cell < old.sizes.cells
   pub lone : IsAlone old → (word ≡ cell_word_of old cell) × (0 < word)

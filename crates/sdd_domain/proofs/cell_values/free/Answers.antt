@@ -1,13 +1,11 @@
 use lib.ListN.{get_elem?}
-use base.Stored.{Gv}
-use Rattle.std.proofs.Common.{◌≡◌, ℕ, ◌<◌, Bool, [], ◌∷◌, List, None, Some, Option, sym, refl, ap, ◌∙◌, subst}
+use Rattle.std.proofs.Common.{◌≡◌, ℕ, ◌<◌, Bool, [], ◌∷◌, List, None, Some, Option, sym, ap, ◌∙◌, subst}
 use Rattle.sdd_views.specs.declared.View.{View}
 use Rattle.sdd_views.specs.declared.Sizes.{Sizes}
 use Rattle.sdd_word_invariant.specs.Codes.{held_slots}
 use Rattle.sdd_word_invariant.specs.Epoch.{HasPlace}
 use Rattle.sdd_word_invariant.proofs.Codes.{held_which}
 use Rattle.sdd_rights.specs.Owner.{cell_kind}
-use Rattle.sdd_atomics.specs.DomainTable.{id_of, book_of, slots_of}
 use Rattle.sdd_domain.proofs.CellValues.{rights_now, one_named, value, low, view_freed, view_drawn, unit_shows, unit_single, unit_free, grip_shows, frees_one, owner_shows}
 use Rattle.sdd_domain.proofs.cell_values.free.Goals as goal
 

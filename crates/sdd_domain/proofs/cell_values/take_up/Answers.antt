@@ -1,5 +1,4 @@
 use lib.ListN.{get_elem?}
-use base.Stored.{Gv}
 use Rattle.std.proofs.Common.{ℕ, Bool, List, [], ◌∷◌, sym, refl, ap, ◌∙◌, subst}
 use Rattle.sdd_views.specs.declared.View.{View}
 use Rattle.sdd_word_invariant.specs.Epoch.{HasPlace}
