@@ -176,7 +176,8 @@ module _ {T J : Type 0} (v p : LocalModel T J) (same : v ≡ p) (tied : WordsMat
         (λ (h : (e ≡ Contended) × (m ≡ v.member) × (is_shared kind ≡ true) × ¬ (IsLone v.member)). absurd (h.3 lone)) h
 
 -- an item was changed
-module _ {J : Type 0} (R : RattleType) (holds : R.Denot → List OwnerOrCell) (v p : LocalModel R.Denot J) (same : v ≡ p) (tied : WordsMatchValues v.member v.entries)
+module _ {J : Type 0} (R : RattleType) (holds : R.Denot → List OwnerOrCell) (v p : LocalModel R.Denot J) (same : v ≡ p)
+    (tied : WordsMatchValues v.member v.entries)
     (codes : (place : ℕ) (y : R.Denot) (g : Gv) → slice_index_or v.entries place None ≡ Some (y, g) → g ≡ showing R y)
     (right : Right) (kind : StandingKind)
     (recalled : IsLone v.member → (g : Gv) × HasValue g right × KnowsOwner v.member (number_of right) (is_shared kind) g)

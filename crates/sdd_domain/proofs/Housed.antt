@@ -27,7 +27,8 @@ pub record IsOn {J : Type 0} (b : DomainTable) (m : LocalState J) : Type 0 where
   pub slots : m.limits.slots ≡ slots_of b
   pub jobs : m.limits.jobs ≡ (sizes_of b).jobs
 
-pub on_board : {J : Type 0} (l : Limits) (b : DomainTable) (table : TableId) → table ≡ id_of b → sizes_of b ≡ sizes_in l → (m : LocalState J) → m.home ≡ table → m.book ≡
+pub on_board : {J : Type 0} (l : Limits) (b : DomainTable) (table : TableId) → table ≡ id_of b → sizes_of b ≡ sizes_in l → (m : LocalState J) → m.home
+    ≡ table → m.book ≡
     book_of b → m.limits ≡ l
     → IsOn b m
 on_board l b table same sizes m home book limits = record {

@@ -162,7 +162,8 @@ module _ (b : DomainTable) (p : ℕ) (own : Participant) (t : Seat ValueFraction
   guard_of is_open = dite (dec_lt 0 own.guards) (λ some_open. some_open) (λ none. absurd (let e = q.closed (omega arith) in omega arith))
 
 -- what became of a participant's own state, where an owner was hindered, or went: it was recalled beside the owner before, and that changed nothing
-module _ {J : Type 0} (m : LocalState J) (slot k : ℕ) (is : slot ≡ k) (shared several : Bool) (sorted : shared ≡ several) (l t h : Seat ValueFraction View) (same : t ≡ l)
+module _ {J : Type 0} (m : LocalState J) (slot k : ℕ) (is : slot ≡ k) (shared several : Bool) (sorted : shared ≡ several) (l t h : Seat ValueFraction View)
+    (same : t ≡ l)
     (is_m : with_token m l ≡ m) (alone : IsLone m → l.me.0.epoch.all ≡ 1) where
   -- a lone participant knew this word
   pub knew_word : (w : ℕ) → Knew slot t.me.0 w → IsLone m → word_of m k ≡ w

@@ -98,7 +98,8 @@ pub none-there : {J : Type 0} (n jobs : ℕ) (table : List (Option J)) (xs : Lis
     length table ≡ jobs → ((j : ℕ) → j < jobs → IsSome (slice_index_or table j None) ↔ (0 < total (waits_in (n + j)) xs)) →
     items ≡ map (what_of n) (ripe xs) → items ≡ [] → bags ≡ map (waiting_of n) (unripe xs) → bags ≡ [] → (j : ℕ) → slice_index_or table j None ≡ None
 none-there n jobs table xs items bags long there due none_due waiting none_wait j =
-    let none : xs ≡ [] = nothing-waits xs (unmapped (what_of n) (ripe xs) (sym due ∙ none_due)) (unmapped (waiting_of n) (unripe xs) (sym waiting ∙ none_wait)) in
+    let none : xs ≡ [] = nothing-waits xs (unmapped (what_of n) (ripe xs) (sym due ∙ none_due))
+    (unmapped (waiting_of n) (unripe xs) (sym waiting ∙ none_wait)) in
     ⊎_elim
     (λ (low : j < jobs). not-there (slice_index_or table j None) (λ some. let w = (there j low).0 some in
     let zero_now = ap (λ (ys : List WaitingItem). total (waits_in (n + j)) ys) none in absurd (omega arith)))

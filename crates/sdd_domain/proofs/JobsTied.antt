@@ -145,7 +145,12 @@ module _ {T J : Type 0} (v : LocalModel T J) (t : AreTied v.member v.entries) wh
 
     world_waits : alone (record { member = waits_too; entries = v.entries }) ≡ deferred (alone v) 0 place
     world_waits = let q : LocalModel T J = record { member = waits_too; entries = v.entries } in
-        λ d. record (alone q) { standings = standings_same v t place 4 is.inside d; values = values_same v t place 4 is.inside d; cells = cells_kept v.member.limits.cells v.member.sizes v.member.words (place_number v.member place) 4 t.all_cells d; jobs = places-put v.member.jobs place job d }
+        λ d. record (alone q) {
+          standings = standings_same v t place 4 is.inside d;
+          values = values_same v t place 4 is.inside d;
+          cells = cells_kept v.member.limits.cells v.member.sizes v.member.words (place_number v.member place) 4 t.all_cells d;
+          jobs = places-put v.member.jobs place job d;
+        }
 
     pub world_deferred : world_of (record { member = m; entries = v.entries }) ≡ deferred (world_of v) v.member.place place
     world_deferred = steps_alone (λ (w : World T) (p : ℕ). deferred w p place) v (record { member = m; entries = v.entries }) t.place
@@ -174,7 +179,12 @@ module _ {T J : Type 0} (v : LocalModel T J) (t : AreTied v.member v.entries) wh
 
     world_gone : alone (record { member = gone; entries = v.entries }) ≡ ran (alone v) place
     world_gone = let q : LocalModel T J = record { member = gone; entries = v.entries } in
-        λ d. record (alone q) { standings = standings_same v t place 0 is.inside d; values = values_same v t place 0 is.inside d; cells = cells_kept v.member.limits.cells v.member.sizes v.member.words (place_number v.member place) 0 t.all_cells d; jobs = places-taken v.member.jobs place d }
+        λ d. record (alone q) {
+          standings = standings_same v t place 0 is.inside d;
+          values = values_same v t place 0 is.inside d;
+          cells = cells_kept v.member.limits.cells v.member.sizes v.member.words (place_number v.member place) 0 t.all_cells d;
+          jobs = places-taken v.member.jobs place d;
+        }
 
     pub world_taken : world_of (record { member = m; entries = v.entries }) ≡ ran (world_of v) place
     world_taken = steps_alone (λ (w : World T) (p : ℕ). ran w place) v (record { member = m; entries = v.entries }) t.place

@@ -14,7 +14,8 @@ with_own m own known since = record m { own = own; known = known; since = since 
 
 module _ {T : Type 0} (shown : T → Gv) (holds : T → List OwnerOrCell) where
   -- as its fields have it
-  keeps_from : {J : Type 0} (v p q : LocalModel T J) → v ≡ p → KeepsShown (Shows shown holds v) (Shows shown holds q) → KeepsShown (Shows shown holds p) (Shows shown holds q)
+  keeps_from : {J : Type 0} (v p q : LocalModel T J) → v ≡ p → KeepsShown (Shows shown holds v) (Shows shown holds q)
+      → KeepsShown (Shows shown holds p) (Shows shown holds q)
   keeps_from v p q is kept k value h = kept k value (subst (λ (z : LocalModel T _). Shows shown holds z k value) (sym is) h)
 
   own_by : {J : Type 0} (v : LocalModel T J) (own : Participant) (known since : ℕ) (b : Bool) (k : ℕ) (value : T) → ShowsBy b shown holds v k value

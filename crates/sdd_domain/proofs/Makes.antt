@@ -252,7 +252,8 @@ module _ {J : Type 0} (R : RattleType) (v : LocalModel R.Denot J) (m : LocalStat
         → MatchResult r (λ right. IsEmptyAt (world_of p).standings (number_of right)
         × ((x : R.Denot) × P x × (world_of after ≡ made_as (world_of p) (number_of right) x (first_standing kind))))
         (λ e. IsFull (world_of p).standings × (Back e × (e.1 ≡ Refused.NoSlot)) × (world_of after ≡ world_of p))
-    answered_world (Ok right) p is a tied exact = let lone = lone_is v.member (subst (λ (q : LocalModel R.Denot J). IsTrue (is_lone q.member)) (sym is) exact) in
+    answered_world (Ok right) p is a tied exact = let lone = lone_is v.member
+        (subst (λ (q : LocalModel R.Denot J). IsTrue (is_lone q.member)) (sym is) exact) in
         let w = did_world a.0 right (a.2, a.3, a.4) tied lone in (
           subst (λ (q : LocalModel R.Denot J). IsEmptyAt (world_of q).standings (number_of right)) is w.0,
           (a.0, a.1, w.1 ∙ ap (λ (q : LocalModel R.Denot J). made_as (world_of q) (number_of right) a.0 (first_standing kind)) is),

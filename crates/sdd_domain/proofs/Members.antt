@@ -44,7 +44,8 @@ with_view m id v = record m {
   words = v.words;
 }
 
-pub looks_at : {J : Type 0} (m : LocalState J) (slot : ℕ) (shared : Bool) (value : Gv) (s u z : Seat ValueFraction View) → MovedAlone (SeesOwned slot shared value) s u
+pub looks_at : {J : Type 0} (m : LocalState J) (slot : ℕ) (shared : Bool) (value : Gv) (s u z : Seat ValueFraction View)
+    → MovedAlone (SeesOwned slot shared value) s u
     → z ≡ record u { me = (u.me.0, z.me.1) } → LooksAt slot shared value (with_token m s) (with_token m z)
 looks_at m slot shared value s u z watched is = let w = watched.2 in
     let table : z.table_id ≡ s.table_id = ap (λ (x : Seat ValueFraction View). x.table_id) is ∙ watched.0 in
@@ -65,7 +66,8 @@ module _ {J : Type 0} (slot : ℕ) (shared : Bool) (value : Gv) (old new : Local
       (in_head (record { slot = slot; shared = shared; value = value }) old.shown slot value refl refl))
 
 -- beside a slot's owner a lone participant knows it
-pub recalls_to : {J : Type 0} (m : LocalState J) (slot : ℕ) (shared : Bool) (value : Gv) (s t : Seat ValueFraction View) → MovedAlone (LearnsOwned slot shared value) s t
+pub recalls_to : {J : Type 0} (m : LocalState J) (slot : ℕ) (shared : Bool) (value : Gv) (s t : Seat ValueFraction View)
+    → MovedAlone (LearnsOwned slot shared value) s t
     → s.me.0.epoch.all ≡ m.limits.participants → IsLone m → KnowsOwner (with_token m s) slot shared value
 recalls_to m slot shared value s t recalled all lone = let r = recalled.2.1 (all ∙ lone) in record { newest = r.newest; alive = r.alive; kind = r.kind }
 

@@ -342,7 +342,8 @@ module _ {T J : Type 0} (v : LocalModel T J) (m : LocalState J) (k : ℕ) (share
 
     keeps_when : (shown : T → Gv) (holds : T → List OwnerOrCell) (b : Bool) → (IsTrue b → IsLone v.member) → (i : ℕ) (u : T) → ShowsBy b shown holds v i u
         → ShowsBy b shown holds later i u
-    keeps_when shown holds true lone i u h = ap (λ (y : LocalState J). value_at (world_of (record { member = y; entries = v.entries })) i) (is_later (lone refl))
+    keeps_when shown holds true lone i u h = ap (λ (y : LocalState J). value_at (world_of (record { member = y; entries = v.entries })) i)
+        (is_later (lone refl))
         ∙ value_waits (tied (lone refl)) (knows (lone refl)) i u h
     keeps_when shown holds false lone i u h = subst (λ (y : LocalState J). space.SeesValue shown holds y i u) (sym is.member) h
 

@@ -159,7 +159,8 @@ module _ {T : Type 0} where
         let d = ap (λ (ss : List (Option Standing)). count_by is_some ss) is.standings ∙ none_taken Standing most.slots in omega arith;
   }
 
-  pub sound_new : {J : Type 0} (holds : T → List OwnerOrCell) (home : TableId) (book : ℕ) (most : Limits) (m : LocalState J) (es : Entries T) → IsNew home book most m
+  pub sound_new : {J : Type 0} (holds : T → List OwnerOrCell) (home : TableId) (book : ℕ) (most : Limits) (m : LocalState J) (es : Entries T)
+      → IsNew home book most m
       → es ≡ replicate most.slots None → IsSound holds (record { member = m; entries = es })
   sound_new holds home book most m es is none = record {
     settled = is.due;
@@ -239,7 +240,8 @@ module _ {J : Type 0} (R : RattleType) (holds : R.Denot → List OwnerOrCell) (v
       (sound.home place value g (sym (get_or-set_other v.entries k place (Some (x, showing R x)) None ne) ∙ is)))
 
 -- for an answer of `make`
-module _ {J : Type 0} (R : RattleType) (holds : R.Denot → List OwnerOrCell) (v : LocalModel R.Denot J) (m : LocalState J) (es : Entries R.Denot) (kind : StandingKind)
+module _ {J : Type 0} (R : RattleType) (holds : R.Denot → List OwnerOrCell) (v : LocalModel R.Denot J) (m : LocalState J) (es : Entries R.Denot)
+    (kind : StandingKind)
     {B : Type 0}
     (P : R.Denot → Type 0) (Back Why : B × Refused → Type 0) where
   pub sound_made : (r : Result Right (B × Refused)) → Answers R v m es kind P Back Why r → ((x : R.Denot) → P x → AreOf (home_in v.member) (holds x))

@@ -27,7 +27,8 @@ pub own_is_place : {T J : Type 0} (p : LocalModel T J) → p.member.own ≡ plac
 own_is_place p = sym (replicate_at p.member.place p.member.own nobody)
 
 module _ {T : Type 0} (shown : T → Gv) (holds : T → List OwnerOrCell) where
-  pub shows_is_value : {J : Type 0} (p : LocalModel T J) (b : Bool) → IsTrue b → (slot : ℕ) (value : T) → ShowsBy b shown holds p slot value ↔ (value_at (world_of p) slot ≡ Some value)
+  pub shows_is_value : {J : Type 0} (p : LocalModel T J) (b : Bool) → IsTrue b → (slot : ℕ) (value : T)
+      → ShowsBy b shown holds p slot value ↔ (value_at (world_of p) slot ≡ Some value)
   shows_is_value p true exact slot value = (λ h. h, λ h. h)
   shows_is_value p false exact slot value = absurd (true≢false (sym exact))
 

@@ -25,8 +25,8 @@ use Rattle.sdd_domain_invariant.specs.FilledInvariant.{newest}
 use Rattle.sdd_domain_invariant.specs.BankInvariant.{one_where}
 use Rattle.sdd_domain.specs.WaitingItems.{aged_at, due_at, arrived_at}
 
--- the domain, the book of its values' places, its limits, the place, whose guards are the participant's, what it keeps of its own, the greatest count that it knows,
--- the global count at its last publish (0 before the first), what it made and reclaimed, how many of each its domain has,
+-- the domain, the book of its values' places, its limits, the place, whose guards are the participant's, what it keeps of its own, the greatest count that
+-- it knows, the global count at its last publish (0 before the first), what it made and reclaimed, how many of each its domain has,
 -- what it knows of slots, what those show that its guards see, what it moved into slots, the newest first, the words that it knows if it is lone,
 -- and what the opening of a guard has still to reclaim, and the jobs that it deferred and that wait, each at its place of the table of jobs
 pub record LocalState (J : Type 0) : Type 0 where

@@ -29,10 +29,8 @@ impl BoxedJob for WritesDigit {
     fn run_boxed(&mut self) {
         let before = self.written.load(Ordering::SeqCst);
         let shifted = before.wrapping_mul(10);
-        self.written.store(
-            shifted.wrapping_add(self.digit),
-            Ordering::SeqCst,
-        );
+        self.written
+            .store(shifted.wrapping_add(self.digit), Ordering::SeqCst);
     }
 }
 

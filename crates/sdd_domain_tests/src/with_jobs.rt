@@ -143,4 +143,5 @@ pub fn keep_all<T: Item<T>, J: Job>(
 {
     let _ = domain;
     receipts.append(&mut others).expect(rt, "there is memory");
+    others.destroy_empty();
 }

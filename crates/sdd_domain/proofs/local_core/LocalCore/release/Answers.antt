@@ -282,12 +282,13 @@ returns-then-not-let_one_go-clause-went g c =
     let home : c.let_one_go.new.token.table_id ≡ l.token.table_id = went.0 ∙ took.0 in
     let alone : IsLone old → l.token.me.0.epoch.all ≡ 1 = λ one. (q.all ∙ ap (λ (z : Sizes). z.participants) l.domain.now.limited.1) ∙ one in (
       went.2.word,
-      subst (λ (m : LocalState _). LeavesAt slot went.2.word m (with_view old c.let_one_go.new.token.table_id c.let_one_go.new.token.me.0)) c.self.view_is record {
-        member = λ d. with_view old (home d) (left.0 d);
-        counted = went.2.counted;
-        several = went.2.several;
-        lone = λ one. sym (subst (λ (v : View). Knew slot v went.2.word) took.3 went.2.knew (alone one));
-      },
+      subst (λ (m : LocalState _). LeavesAt slot went.2.word m
+          (with_view old c.let_one_go.new.token.table_id c.let_one_go.new.token.me.0)) c.self.view_is record {
+            member = λ d. with_view old (home d) (left.0 d);
+            counted = went.2.counted;
+            several = went.2.several;
+            lone = λ one. sym (subst (λ (v : View). Knew slot v went.2.word) took.3 went.2.knew (alone one));
+          },
     )
 
 pub take_in-requires-clause-owner : goal.take_in-requires-clause-owner

@@ -14,7 +14,8 @@ pub returns-clause-own : goal.returns-clause-own
 returns-clause-own g c = let p : LocalModel g.row.T.Denot g.row.J.Denot = c.args.self.now in let e = c.reclaim_due.ensures in
     let given = given_of p.member.due p.member.own c.reclaim_due.new.self.member.own e.own e.none in (
       given.0,
-      ap (λ (m : LocalState _). m.own) c.settle.ensures ∙ (ap (λ (z : LocalModel g.row.T.Denot g.row.J.Denot). settled z.member.own) c.self.view_is ∙ ap settled given.1),
+      ap (λ (m : LocalState _). m.own) c.settle.ensures ∙ (ap (λ (z : LocalModel g.row.T.Denot g.row.J.Denot). settled z.member.own) c.self.view_is
+          ∙ ap settled given.1),
       given.2,
     )
 

@@ -21,14 +21,16 @@ use Rattle.sdd_domain.proofs.reclaiming.LocalGiver.drop_in_place.Goals as goal
 
 -- the owner stays
 pub invariant_of-self : goal.invariant_of-self
-invariant_of-self g c = let v : LocalModel g.row.T.Denot g.row.J.Denot = c.self.view_is 0 in let m : LocalState _ = c.drop_in_place.new.self in
+invariant_of-self g c = let v : LocalModel g.row.T.Denot g.row.J.Denot = c.self.view_is 0 in
+    let m : LocalState _ = c.drop_in_place.new.self in
     let right = c.args.right in let kind = c.args.kind in let k : ℕ = number_of right in let p : LocalModel g.row.T.Denot g.row.J.Denot = c.args.self.now in
     let recalled : IsLone v.member → (x : Gv) × KnowsOwner v.member k (is_shared kind) x
     = λ one. (let told = c.drop_in_place.ensures.recalled one in (told.0, told.2)) in
     stays_tied v p c.self.view_is c.self.invariant k kind recalled m c.in_err-value.field-0.0.1 c.in_err-value.ensures.gone.1
 
 pub returns-in_err-value-clause-owned : goal.returns-in_err-value-clause-owned
-returns-in_err-value-clause-owned g c lone = let v : LocalModel g.row.T.Denot g.row.J.Denot = c.self.view_is 0 in let m : LocalState _ = c.drop_in_place.new.self in
+returns-in_err-value-clause-owned g c lone = let v : LocalModel g.row.T.Denot g.row.J.Denot = c.self.view_is 0 in
+    let m : LocalState _ = c.drop_in_place.new.self in
     let right = c.args.right in let kind = c.args.kind in let k : ℕ = number_of right in let p : LocalModel g.row.T.Denot g.row.J.Denot = c.args.self.now in
     let recalled : IsLone v.member → (x : Gv) × KnowsOwner v.member k (is_shared kind) x
     = λ one. (let told = c.drop_in_place.ensures.recalled one in (told.0, told.2)) in
@@ -36,7 +38,8 @@ returns-in_err-value-clause-owned g c lone = let v : LocalModel g.row.T.Denot g.
     (owned_there v p c.self.view_is c.self.invariant k kind recalled (lone_true p.member lone))
 
 pub returns-in_err-value-clause-exact : goal.returns-in_err-value-clause-exact
-returns-in_err-value-clause-exact g c lone = let v : LocalModel g.row.T.Denot g.row.J.Denot = c.self.view_is 0 in let m : LocalState _ = c.drop_in_place.new.self in
+returns-in_err-value-clause-exact g c lone = let v : LocalModel g.row.T.Denot g.row.J.Denot = c.self.view_is 0 in
+    let m : LocalState _ = c.drop_in_place.new.self in
     let right = c.args.right in let kind = c.args.kind in let k : ℕ = number_of right in let p : LocalModel g.row.T.Denot g.row.J.Denot = c.args.self.now in
     let recalled : IsLone v.member → (x : Gv) × KnowsOwner v.member k (is_shared kind) x
     = λ one. (let told = c.drop_in_place.ensures.recalled one in (told.0, told.2)) in
@@ -45,7 +48,8 @@ returns-in_err-value-clause-exact g c lone = let v : LocalModel g.row.T.Denot g.
 
 -- it was the last
 pub invariant_of-self-in-Some : goal.invariant_of-self-in-Some
-invariant_of-self-in-Some g c one = let v : LocalModel g.row.T.Denot g.row.J.Denot = c.self.view_is 0 in let m : LocalState _ = c.drop_in_place.new.self in
+invariant_of-self-in-Some g c one = let v : LocalModel g.row.T.Denot g.row.J.Denot = c.self.view_is 0 in
+    let m : LocalState _ = c.drop_in_place.new.self in
     let right = c.args.right in let kind = c.args.kind in let k : ℕ = number_of right in let p : LocalModel g.row.T.Denot g.row.J.Denot = c.args.self.now in
     let recalled : IsLone v.member → (x : Gv) × KnowsOwner v.member k (is_shared kind) x
     = λ one. (let told = c.drop_in_place.ensures.recalled one in (told.0, told.2)) in
@@ -59,7 +63,8 @@ invariant_of-self-in-Some g c one = let v : LocalModel g.row.T.Denot g.row.J.Den
     tied_dropped g.row.T v (c.self.invariant lone) c.codes.ensures k (is_shared kind) c.in-Some.value (knows lone) m did.1
 
 pub returns-in-Some-clause-owned : goal.returns-in-Some-clause-owned
-returns-in-Some-clause-owned g c lone = let v : LocalModel g.row.T.Denot g.row.J.Denot = c.self.view_is 0 in let m : LocalState _ = c.drop_in_place.new.self in
+returns-in-Some-clause-owned g c lone = let v : LocalModel g.row.T.Denot g.row.J.Denot = c.self.view_is 0 in
+    let m : LocalState _ = c.drop_in_place.new.self in
     let right = c.args.right in let kind = c.args.kind in let k : ℕ = number_of right in let p : LocalModel g.row.T.Denot g.row.J.Denot = c.args.self.now in
     let recalled : IsLone v.member → (x : Gv) × KnowsOwner v.member k (is_shared kind) x
     = λ one. (let told = c.drop_in_place.ensures.recalled one in (told.0, told.2)) in
@@ -67,7 +72,8 @@ returns-in-Some-clause-owned g c lone = let v : LocalModel g.row.T.Denot g.row.J
     (owned_there v p c.self.view_is c.self.invariant k kind recalled (lone_true p.member lone))
 
 pub returns-in-Some-clause-exact : goal.returns-in-Some-clause-exact
-returns-in-Some-clause-exact g c exact = let v : LocalModel g.row.T.Denot g.row.J.Denot = c.self.view_is 0 in let m : LocalState _ = c.drop_in_place.new.self in
+returns-in-Some-clause-exact g c exact = let v : LocalModel g.row.T.Denot g.row.J.Denot = c.self.view_is 0 in
+    let m : LocalState _ = c.drop_in_place.new.self in
     let right = c.args.right in let kind = c.args.kind in let k : ℕ = number_of right in let p : LocalModel g.row.T.Denot g.row.J.Denot = c.args.self.now in
     let recalled : IsLone v.member → (x : Gv) × KnowsOwner v.member k (is_shared kind) x
     = λ one. (let told = c.drop_in_place.ensures.recalled one in (told.0, told.2)) in
@@ -88,7 +94,8 @@ returns-in-Some-clause-exact g c exact = let v : LocalModel g.row.T.Denot g.row.
 
 -- it went beside others
 pub invariant_of-self-in-None : goal.invariant_of-self-in-None
-invariant_of-self-in-None g c = let v : LocalModel g.row.T.Denot g.row.J.Denot = c.self.view_is 0 in let m : LocalState _ = c.drop_in_place.new.self in
+invariant_of-self-in-None g c = let v : LocalModel g.row.T.Denot g.row.J.Denot = c.self.view_is 0 in
+    let m : LocalState _ = c.drop_in_place.new.self in
     let right = c.args.right in let kind = c.args.kind in let k : ℕ = number_of right in let p : LocalModel g.row.T.Denot g.row.J.Denot = c.args.self.now in
     let recalled : IsLone v.member → (x : Gv) × KnowsOwner v.member k (is_shared kind) x
     = λ one. (let told = c.drop_in_place.ensures.recalled one in (told.0, told.2)) in
@@ -98,7 +105,8 @@ invariant_of-self-in-None g c = let v : LocalModel g.row.T.Denot g.row.J.Denot =
     beside_tied v p c.self.view_is c.self.invariant k kind recalled m beside
 
 pub returns-in-None-clause-owned : goal.returns-in-None-clause-owned
-returns-in-None-clause-owned g c lone = let v : LocalModel g.row.T.Denot g.row.J.Denot = c.self.view_is 0 in let m : LocalState _ = c.drop_in_place.new.self in
+returns-in-None-clause-owned g c lone = let v : LocalModel g.row.T.Denot g.row.J.Denot = c.self.view_is 0 in
+    let m : LocalState _ = c.drop_in_place.new.self in
     let right = c.args.right in let kind = c.args.kind in let k : ℕ = number_of right in let p : LocalModel g.row.T.Denot g.row.J.Denot = c.args.self.now in
     let recalled : IsLone v.member → (x : Gv) × KnowsOwner v.member k (is_shared kind) x
     = λ one. (let told = c.drop_in_place.ensures.recalled one in (told.0, told.2)) in
@@ -106,7 +114,8 @@ returns-in-None-clause-owned g c lone = let v : LocalModel g.row.T.Denot g.row.J
     (owned_there v p c.self.view_is c.self.invariant k kind recalled (lone_true p.member lone))
 
 pub returns-in-None-clause-exact : goal.returns-in-None-clause-exact
-returns-in-None-clause-exact g c lone = let v : LocalModel g.row.T.Denot g.row.J.Denot = c.self.view_is 0 in let m : LocalState _ = c.drop_in_place.new.self in
+returns-in-None-clause-exact g c lone = let v : LocalModel g.row.T.Denot g.row.J.Denot = c.self.view_is 0 in
+    let m : LocalState _ = c.drop_in_place.new.self in
     let right = c.args.right in let kind = c.args.kind in let k : ℕ = number_of right in let p : LocalModel g.row.T.Denot g.row.J.Denot = c.args.self.now in
     let recalled : IsLone v.member → (x : Gv) × KnowsOwner v.member k (is_shared kind) x
     = λ one. (let told = c.drop_in_place.ensures.recalled one in (told.0, told.2)) in

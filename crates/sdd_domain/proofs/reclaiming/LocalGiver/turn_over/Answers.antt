@@ -33,4 +33,5 @@ returns-clause-shut g c = let v : LocalModel g.row.T.Denot g.row.J.Denot = c.sel
       | else-goes_on w ↦ ap (λ (z : LocalModel g.row.T.Denot g.row.J.Denot). z.member.own.guards) w.self-is ∙ so
     ] in
     closed_none c.accelerate.new.self c.close_guard.new.self c.close_guard.ensures
-    (ap (λ (y : LocalState _). y.own.guards) c.accelerate.ensures ∙ (ap (λ (z : LocalModel g.row.T.Denot g.row.J.Denot). z.member.own.guards) c.self-2.view_is ∙ one))
+    (ap (λ (y : LocalState _). y.own.guards) c.accelerate.ensures
+    ∙ (ap (λ (z : LocalModel g.row.T.Denot g.row.J.Denot). z.member.own.guards) c.self-2.view_is ∙ one))

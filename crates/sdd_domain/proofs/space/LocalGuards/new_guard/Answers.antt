@@ -63,7 +63,8 @@ invariant_of-self-then-goes_on g c = let v : LocalModel g.row.T.Denot g.row.J.De
     let e = c.enter-guard.ensures.entered in let settled = ap (λ (z : LocalModel g.row.T.Denot g.row.J.Denot). z.member.due) inner ∙ c.self.invariant.settled in
     let shut : v.member.own.guards ≡ 0 = search rules in
     let went = goes_on e.0 c.enter-guard.result.1 v.member e.1 c.enter-guard.new.self e.2 e.3 c.if-goes_on.true in
-    let home : home_in q.member ≡ home_in v.member = ap (λ (z : LocalModel g.row.T.Denot g.row.J.Denot). home_in z.member) c.change.ensures.rest ∙ ap home_in went.1.member in
+    let home : home_in q.member ≡ home_in v.member = ap (λ (z : LocalModel g.row.T.Denot g.row.J.Denot). home_in z.member) c.change.ensures.rest
+    ∙ ap home_in went.1.member in
     let same : q.entries ≡ v.entries = ap (λ (z : LocalModel g.row.T.Denot g.row.J.Denot). z.entries) c.change.ensures.rest in
     let as_is : record v { member = q.member } ≡ q = λ d. record q { entries = sym same d } in
     subst (IsSound holds) as_is (sound_opened holds v q.member (subst (IsSound holds) (sym inner) c.self.invariant) c.change.ensures.due home

@@ -15,7 +15,8 @@ invariant_of-self g c = let v : LocalModel g.row.T.Denot g.row.J.Denot = c.self.
 
 pub returns-clause-owned : goal.returns-clause-owned
 returns-clause-owned g c exact = let v : LocalModel g.row.T.Denot g.row.J.Denot = c.self.inside.partner in let e = c.drop_in_place.ensures in
-    subst (λ (q : LocalModel g.row.T.Denot g.row.J.Denot). IsLone q.member → IsOwnedBy (kind_of c.args.right) (standing_at (world_of q) (number_of c.args.right)))
+    subst (λ (q : LocalModel g.row.T.Denot g.row.J.Denot). IsLone q.member
+    → IsOwnedBy (kind_of c.args.right) (standing_at (world_of q) (number_of c.args.right)))
     c.self.view_is e.owned (lone_is c.args.self.now.member exact)
 
 pub returns-clause-exact : goal.returns-clause-exact

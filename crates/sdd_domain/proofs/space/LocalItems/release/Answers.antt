@@ -45,7 +45,8 @@ returns-clause-unmoved g c = let v : LocalModel g.row.T.Denot g.row.J.Denot = (c
     let inner : v ≡ c.self.inside.partner = ap (λ (i : Inside g.row.T.Denot g.row.J.Denot). i.partner) c.self-inside.view_is in
     let tied = c.self-inside.invariant in let knows = c.release.ensures.recalled in let went = c.release.ensures.went in record {
       seat = went_seat v c.release.new.self c.args.right tied knows c.release.result went ∙ ap seat_of (inner ∙ c.self.view_is);
-      known = subst (λ (p : LocalModel g.row.T.Denot g.row.J.Denot). KnowsOn (known_of p) (known_of (record { member = c.release.new.self; entries = v.entries })))
+      known = subst (λ (p : LocalModel g.row.T.Denot g.row.J.Denot). KnowsOn (known_of p)
+          (known_of (record { member = c.release.new.self; entries = v.entries })))
           (inner ∙ c.self.view_is) (went_knows v c.release.new.self c.args.right tied knows c.release.result went);
       shown = release_keeps v c.release.new.self c.args.right tied knows c.release.result went c.args.self.now (inner ∙ c.self.view_is)
           (showing g.row.T) g.T.Item.holds;
