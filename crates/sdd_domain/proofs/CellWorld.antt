@@ -1,12 +1,10 @@
 -- What freeing a cell is for the world of a lone participant
-use Rattle.std.proofs.Common.{◌≡◌, ◌≢◌, ℕ, ◌<◌, IsTrue, List, [], ◌∷◌, Some, None, length, get_or, set, slice_index_or, sym, refl, ap, ◌∙◌, subst, arith, length-set, get_or-set_other, get_or-set_same, ne_eqb}
-use Rattle.std.specs.Prelude.{Option, slice_get, if◌then◌else◌}
+use Rattle.std.proofs.Common.{◌≡◌, ◌≢◌, ℕ, ◌<◌, IsTrue, Some, None, length, set, slice_index_or, sym, ap, ◌∙◌, subst, arith, length-set, get_or-set_other, get_or-set_same, ne_eqb}
+use Rattle.std.specs.Prelude.{slice_get, if◌then◌else◌}
 use Rattle.sdd_participants.specs.Slab.{entry_at}
-use Rattle.sdd_participants.specs.declared.standing.CellContents.{CellContents}
 use Rattle.sdd_word_invariant.specs.Codes.{held_slots, waiting, full}
 use Rattle.sdd_word_invariant.specs.SlotSteps.{behind}
 use Rattle.sdd_word_invariant.specs.Words.{words_behind}
-use Rattle.sdd_space.specs.World.{World}
 use Rattle.sdd_space.specs.WorldChanges.{without_cell, held_in}
 use Rattle.sdd_domain.specs.Cells.{FreesAt}
 use Rattle.sdd_domain.specs.LocalState.{LocalState, place_number, IsLone, word_of, cell_word_of}
@@ -14,11 +12,11 @@ use Rattle.sdd_domain.specs.WordsAndValues.{AreTied, MatchesPlace, is_plain_word
 use Rattle.sdd_domain.specs.Local.{LocalModel, listing, standing_by, value_by, contents_by, contents_of, standing_in, value_in, contents_in, world_of}
 use Rattle.sdd_domain.proofs.Listings.{listing_same, listing_set, listing_at}
 
-module _ {T : Type 0} (v : LocalModel T) (cell word : ℕ) (m : LocalState) (is : FreesAt cell word v.member m) where
-  abbrev freed : LocalState
+module _ {T J : Type 0} (v : LocalModel T J) (cell word : ℕ) (m : LocalState J) (is : FreesAt cell word v.member m) where
+  abbrev freed : LocalState J
   freed = record v.member { words = set v.member.words cell 0 }
 
-  abbrev after : LocalModel T
+  abbrev after : LocalModel T J
   after = record { member = freed; entries = v.entries }
 
   word_kept : (i : ℕ) → word_of freed i ≡ word_of v.member i
@@ -43,7 +41,7 @@ module _ {T : Type 0} (v : LocalModel T) (cell word : ℕ) (m : LocalState) (is 
   }
 
   pub tied_freed : AreTied v.member v.entries → AreTied m v.entries
-  tied_freed t = subst (λ (y : LocalState). AreTied y v.entries) (sym is.member) (tied_now t)
+  tied_freed t = subst (λ (y : LocalState J). AreTied y v.entries) (sym is.member) (tied_now t)
 
   module _ (t : AreTied v.member v.entries) where
     low : cell < v.member.limits.cells
@@ -64,7 +62,7 @@ module _ {T : Type 0} (v : LocalModel T) (cell word : ℕ) (m : LocalState) (is 
         λ d. record (world_of after) { standings = standings d; values = values d; cells = cells d }
 
     pub world_freed : world_of (record { member = m; entries = v.entries }) ≡ without_cell (world_of v) cell
-    world_freed = ap (λ (y : LocalState). world_of {T = T} (record { member = y; entries = v.entries })) is.member ∙ world_now
+    world_freed = ap (λ (y : LocalState J). world_of {T = T} (record { member = y; entries = v.entries })) is.member ∙ world_now
 
     -- what it held before
     pub held_before : IsLone v.member → held_in (entry_at (world_of v).cells cell) ≡ slice_get (held_slots word) 0

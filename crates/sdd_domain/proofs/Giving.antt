@@ -1,13 +1,11 @@
 -- What is given up waits with the participant
-use Rattle.std.proofs.Common.{◌≡◌, ℕ, zero, suc, List, [], ◌∷◌, ◌++◌, Option, None, replicate, slice_index_or, slice_set, refl, sym, ap, ◌∙◌, arith}
+use Rattle.std.proofs.Common.{◌≡◌, ℕ, List, [], ◌∷◌, ◌++◌, refl, ap, ◌∙◌, arith}
 use Rattle.sdd_participants.specs.declared.waiting.LimboEntry.{LimboEntry}
 use Rattle.sdd_participants.specs.declared.waiting.LimboEntry.TheVariants.{Item}
 use Rattle.sdd_participants.specs.declared.participant.Participant.{Participant}
 use Rattle.sdd_participants.specs.EpochState.{awaiting}
 use Rattle.sdd_space.specs.KnownEpochs.{KnownEpochs, KnowsOn}
 use Rattle.sdd_space.specs.ParticipantChanges.{all_awaiting, KeepsMoreWaiting}
-use Rattle.sdd_space.specs.WorldChanges.{cell_closed, spilled, held_in}
-use Rattle.sdd_domain.specs.Local.{LocalModel, world_of}
 
 one_more : (ks : List ℕ) (k : ℕ) (p : Participant) → awaiting (Item k) (all_awaiting ks p) ≡ all_awaiting (ks ++ k ∷ []) p
 one_more [] k p = refl

@@ -19,24 +19,25 @@ use Rattle.sdd_domain.specs.Claims.{IsUnmoved}
 use Rattle.sdd_domain.specs.LocalState.{LocalState, IsLone as IsAlone, cell_word_of}
 
 -- ---- as its callers see it
--- the word of a cell was found to be this, and is that now
-pub record WritesAt (cell found word : ℕ) (old new : LocalState) : Type 0 where
-  pub member : new ≡ record old { words = slice_set old.words cell word }
-  pub inside : cell < old.sizes.cells
-  pub lone : IsAlone old → found ≡ cell_word_of old cell
+module _ {J : Type 0} where
+  -- the word of a cell was found to be this, and is that now
+  pub record WritesAt (cell found word : ℕ) (old new : LocalState J) : Type 0 where
+    pub member : new ≡ record old { words = slice_set old.words cell word }
+    pub inside : cell < old.sizes.cells
+    pub lone : IsAlone old → found ≡ cell_word_of old cell
 
--- the same of a cell that was in use
-pub record ChangesCell (cell found word : ℕ) (old new : LocalState) : Type 0 where
-  pub writes : WritesAt cell found word old new
-  pub full : IsAlone old → 0 < found
+  -- the same of a cell that was in use
+  pub record ChangesCell (cell found word : ℕ) (old new : LocalState J) : Type 0 where
+    pub writes : WritesAt cell found word old new
+    pub full : IsAlone old → 0 < found
 
--- a cell that was in use, whose word was this, is free
-abbrev pub FreesAt : ℕ → ℕ → LocalState → LocalState → Type 0
-FreesAt cell found = ChangesCell cell found 0
+  -- a cell that was in use, whose word was this, is free
+  abbrev pub FreesAt : ℕ → ℕ → LocalState J → LocalState J → Type 0
+  FreesAt cell found = ChangesCell cell found 0
 
--- no cell is free
-abbrev pub AllCellsTaken : LocalState → Type 0
-AllCellsTaken m = (cell : ℕ) → cell < m.limits.cells → 0 < cell_word_of m cell
+  -- no cell is free
+  abbrev pub AllCellsTaken : LocalState J → Type 0
+  AllCellsTaken m = (cell : ℕ) → cell < m.limits.cells → 0 < cell_word_of m cell
 
 -- ---- the token
 -- the word of a cell was found to be this, and is that now, and all else is as it was

@@ -5,7 +5,6 @@ pub mod WaitingItems
 pub mod Claims
 pub mod Scan
 pub mod Domain
-pub mod Jobs
 pub mod LocalState
 pub mod SpaceIds
 pub mod Items

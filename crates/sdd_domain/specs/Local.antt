@@ -2,6 +2,7 @@
 use Rattle.std.specs.Prelude.{ℕ, zero, suc, ◌+◌, ◌%◌, ◌==◌, List, [], ◌∷◌, Option, Some, None, replicate, slice_get, slice_index_or, option_map, if◌then◌else◌, false}
 use base.Stored.{Gv}
 use Rattle.sdd_participants.specs.EpochState.{EpochState, newcomer}
+use Rattle.sdd_participants.specs.Jobs.{places_of}
 use Rattle.sdd_participants.specs.declared.place_states.PlaceState.TheVariants.{Live}
 use Rattle.sdd_participants.specs.declared.standing.Standing.{Standing}
 use Rattle.sdd_participants.specs.declared.standing.Standing.TheVariants.{Owned, Raw, Shared, Retired}
@@ -17,8 +18,8 @@ use Rattle.sdd_domain.specs.WordsAndValues.{Entries}
 use Rattle.sdd_domain.specs.SpaceIds.{home_in}
 
 -- its membership, and the ledger of what it moved into slots
-pub record LocalModel (T : Type 0) : Type 0 where
-  pub member : LocalState
+pub record LocalModel (T J : Type 0) : Type 0 where
+  pub member : LocalState J
   pub entries : Entries T
 
 -- so many things, each by its number
@@ -52,7 +53,7 @@ abbrev pub contents_by : ℕ → Option CellContents
 contents_by word = if word == 0 then None else Some (contents_of word)
 
 -- the count that it knows, and itself, alone
-abbrev pub time_of : LocalState → EpochState
+abbrev pub time_of : {J : Type 0} → LocalState J → EpochState
 time_of m = record {
   count = m.known;
   marked = false;
@@ -64,17 +65,17 @@ time_of m = record {
 }
 
 module _ {T : Type 0} where
-  abbrev pub standing_in : LocalModel T → ℕ → Option Standing
+  abbrev pub standing_in : {J : Type 0} → LocalModel T J → ℕ → Option Standing
   standing_in p slot = standing_by (word_of p.member slot)
 
-  abbrev pub value_in : LocalModel T → ℕ → Option T
+  abbrev pub value_in : {J : Type 0} → LocalModel T J → ℕ → Option T
   value_in p slot = value_by (word_of p.member slot) (slice_index_or p.entries slot None)
 
-  abbrev pub contents_in : LocalModel T → ℕ → Option CellContents
+  abbrev pub contents_in : {J : Type 0} → LocalModel T J → ℕ → Option CellContents
   contents_in p cell = contents_by (cell_word_of p.member cell)
 
   -- its domain as a world: no cell is a raw one, and all jobs are its own
-  abbrev pub world_of : LocalModel T → World T
+  abbrev pub world_of : {J : Type 0} → LocalModel T J → World T
   world_of p = record {
     home = home_in p.member;
     time = time_of p.member;
@@ -82,7 +83,7 @@ module _ {T : Type 0} where
     values = listing p.member.limits.slots (value_in p);
     cells = listing p.member.limits.cells (contents_in p);
     pointers = replicate p.member.limits.cells null_pointer;
-    jobs = p.member.jobs;
+    jobs = places_of p.member.jobs;
     tally = p.member.tally;
   }
 

@@ -30,5 +30,5 @@ home_at table book limits = record {
   readers = record nowhere { size = limits.participants };
 }
 
-abbrev pub home_in : LocalState → SpaceId
+abbrev pub home_in : {J : Type 0} → LocalState J → SpaceId
 home_in m = home_at m.home m.book m.limits

@@ -68,11 +68,10 @@ impl<'d, T: Item<T>, J: Job> Model for LocalCore<'d, T, J> {
     ghost use Rattle.std.specs.Prelude.{◌≡◌};
     ghost use Rattle.sdd_domain.specs.Domain.{book_of};
     ghost use Rattle.sdd_domain.specs.LocalState.{LocalState};
-    ghost use Rattle.sdd_domain.specs.Jobs.{places_of};
     ghost use Rattle.sdd_domain.specs.BetweenCalls.{IsBetweenCalls, AreLentTo, IsTenureOf, IsReady};
     ghost use Rattle.sdd_domain.specs.Receipt.{IsTallied};
 
-    ghost Value = { LocalState };
+    ghost Value = { LocalState J };
 
     ghost view = { λ l. record {
       home = l.token.table_id;
@@ -90,7 +89,7 @@ impl<'d, T: Item<T>, J: Job> Model for LocalCore<'d, T, J> {
       filled = l.token.me.0.stakes.filled;
       words = l.token.me.0.words;
       due = l.due.items;
-      jobs = places_of l.jobs;
+      jobs = l.jobs;
     } };
 
     ghost invariant = { λ l. IsBetweenCalls l.domain.now.board l.place l.own l.token × (l.nesting ≡ l.domain.now.limits.nesting)
@@ -220,6 +219,7 @@ impl<'d, T: Item<T>, J: Job> LocalCore<'d, T, J> {
         } = room;
         let mut token = steps::sit(&domain.board);
         let Some(place) = take_place(&domain.board, &mut token) else {
+            jobs.destroy();
             return Err(Refused::NoPlace);
         };
         steps::write(&domain.board, &mut token, place, 0);
@@ -239,9 +239,11 @@ impl<'d, T: Item<T>, J: Job> LocalCore<'d, T, J> {
         })
     }
 
-    /// Ends the participant, whose place isn't free again.
+    /// Ends the participant, with which nothing waits and so no job, whose place isn't free again.
     pub fn end(self) -> EndedCounts
-        requires { ¬ (HasOpenGuard self) }
+        requires shut { ¬ (HasOpenGuard self) }
+        requires idle { waits self ≡ false }
+        requires settled { self.due ≡ [] }
         ensures { result ≡ record { home = slots_home self.entry; tally = self.entry.tally; waits = false } }
     {
         let LocalCore {
@@ -252,10 +254,11 @@ impl<'d, T: Item<T>, J: Job> LocalCore<'d, T, J> {
             own: _,
             due: _,
             known: _,
-            jobs: _,
+            jobs,
             tenure: _,
             tally,
         } = self;
+        jobs.destroy();
         steps::end(&domain.board, &mut token, place);
         EndedCounts::new(token, domain.limits.slots, tally.total())
     }
@@ -337,7 +340,7 @@ impl<'d, T: Item<T>, J: Job> LocalCore<'d, T, J> {
         requires settled { self.old.due ≡ [] }
         ensures reader { reader_of result.0 ≡ self.old.reader }
         ensures nests { CanNest self.old }
-        ensures entered { (count : ℕ) × (entered : LocalState) × IsEntered count self.old entered × GoesOn count result.1 self.old entered self.new }
+        ensures entered { (count : ℕ) × (entered : LocalState J) × IsEntered count self.old entered × GoesOn count result.1 self.old entered self.new }
     {
         let goes_on = arrive(
             &self.domain.board,

@@ -1,5 +1,5 @@
 //! A change reclaims what is due, and a value that is reclaimed gives up what it holds.
-ghost use Rattle.std.specs.Prelude.{◌≡◌, ◌⊎◌, ◌+◌, ◌≤◌, ℕ, true, List, [], length, IfErr, IsTrue, MatchBool, MatchResult, ◌∷◌};
+ghost use Rattle.std.specs.Prelude.{◌≡◌, ◌⊎◌, ◌+◌, ◌≤◌, ℕ, true, List, [], length, IfErr, IsSome, IsTrue, MatchBool, MatchResult, ◌∷◌};
 ghost use Rattle.sdd_rights.specs.Right.{number_of, home_of, kind_of};
 ghost use Rattle.sdd_rights.specs.StandingKind.{is_shared};
 ghost use Rattle.sdd_standings.specs.Slots.{IsOwnedBy, has_others};
@@ -14,6 +14,8 @@ ghost use Rattle.sdd_space.specs.Shared as shared;
 ghost use Rattle.sdd_space.specs.WorldChanges.{cell_closed, given, given_all, all_reclaimed, dropped, owner_given, reclaimed, ran};
 ghost use Rattle.sdd_space.specs.WorldChanges as steps;
 ghost use Rattle.sdd_participants.specs.EpochState.{awaiting, settled};
+ghost use Rattle.sdd_participants.specs.Slab.{entry_at, without_entry};
+ghost use Rattle.sdd_participants.specs.Jobs.{jobs_without, jobs_without_all};
 ghost use Rattle.sdd_participants.specs.declared.waiting.LimboEntry.{LimboEntry as Entry};
 ghost use Rattle.sdd_participants.specs.declared.waiting.LimboEntry.TheVariants.{Item as item, Job as job};
 ghost use Rattle.sdd_participants.specs.Tally.{one_reclaimed};
@@ -47,7 +49,7 @@ impl<'d, T: Item<T>, J: Job> Model for LocalGiver<'d, T, J> {
     ghost use Rattle.sdd_domain.specs.Local.{LocalModel};
     ghost use Rattle.sdd_domain.specs.WordsAndValues.{WordsMatchValues};
 
-    ghost Value = { LocalModel T };
+    ghost Value = { LocalModel T J };
 
     ghost view = { λ p. record { member = p.membership; entries = p.ledger.entries } };
 
@@ -64,7 +66,7 @@ impl<T: Item<T>, J: Job> Giver<T> for LocalGiver<'_, T, J> {
 
     ghost known = { λ p. known_of p };
 
-    ghost Kept = { LocalModel T };
+    ghost Kept = { LocalModel T J };
 
     ghost kept = { λ p. kept_of p };
 
@@ -158,6 +160,7 @@ impl<T: Item<T>, J: Job> LocalGiver<'_, T, J> {
         ensures known { KnowsOn (known_of self.old) (known_of self.new) }
         ensures rest { rest_of self.new ≡ rest_of self.old }
         ensures tally { self.new.member.tally ≡ one_reclaimed self.old.member.tally }
+        ensures jobs { self.new.member.jobs ≡ self.old.member.jobs }
         ensures exact { IsLone self.old.member → world_of self.new ≡ reclaimed T.holds (world_of self.old) self.old.member.place (item slot) }
     {
         self.ledger.codes();
@@ -174,9 +177,11 @@ impl<T: Item<T>, J: Job> LocalGiver<'_, T, J> {
         ensures known { known_of self.new ≡ known_of self.old }
         ensures rest { rest_of self.new ≡ rest_of self.old }
         ensures tally { self.new.member.tally ≡ self.old.member.tally }
+        ensures there { IsSome (entry_at self.old.member.jobs place) }
+        ensures jobs { self.new.member.jobs ≡ without_entry self.old.member.jobs place }
         ensures exact { IsLone self.old.member → world_of self.new ≡ ran (world_of self.old) place }
     {
-        let mut job = self.membership.take_job(place);
+        let job = self.membership.take_job(place);
         job.run();
     }
 
@@ -189,6 +194,7 @@ impl<T: Item<T>, J: Job> LocalGiver<'_, T, J> {
         ensures known { KnowsOn (known_of self.old) (known_of self.new) }
         ensures rest { rest_of self.new ≡ rest_of self.old }
         ensures reclaimed { self.new.member.tally ≡ with_reclaimed (items_in (what ∷ [])) self.old.member.tally }
+        ensures jobs { self.new.member.jobs ≡ jobs_without self.old.member.jobs what }
         ensures exact { IsLone self.old.member → world_of self.new ≡ reclaimed T.holds (world_of self.old) self.old.member.place what }
     {
         match what {
@@ -205,6 +211,7 @@ impl<T: Item<T>, J: Job> LocalGiver<'_, T, J> {
         ensures rest { rest_of self.new ≡ rest_of self.old }
         ensures due { self.new.member.due ≡ [] }
         ensures reclaimed { self.new.member.tally ≡ with_reclaimed (items_in self.old.member.due) self.old.member.tally }
+        ensures jobs { self.new.member.jobs ≡ jobs_without_all self.old.member.jobs self.old.member.due }
         ensures exact { IsLone self.old.member → world_of self.new
             ≡ all_reclaimed T.holds (world_of self.old) self.old.member.place self.old.member.due }
     {
@@ -221,6 +228,7 @@ impl<T: Item<T>, J: Job> LocalGiver<'_, T, J> {
         ensures rest { rest_of self.new ≡ rest_of self.old }
         ensures due { self.new.member.due ≡ [] }
         ensures reclaimed { self.new.member.tally ≡ with_reclaimed (items_in self.old.member.due) self.old.member.tally }
+        ensures jobs { self.new.member.jobs ≡ jobs_without_all self.old.member.jobs self.old.member.due }
         ensures near { HasOpenGuard self.new.member → self.new.member.known ≤ self.new.member.since + 1 }
         ensures exact { IsLone self.old.member → world_of self.new
             ≡ steps.settled (all_reclaimed T.holds (world_of self.old) self.old.member.place self.old.member.due) self.old.member.place }

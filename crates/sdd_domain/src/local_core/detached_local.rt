@@ -32,9 +32,8 @@ pub struct DetachedLocal<J: Job> {
 impl<J: Job> Model for DetachedLocal<J> {
     ghost use Rattle.sdd_domain.specs.LocalState.{LocalState};
     ghost use Rattle.sdd_domain.specs.DetachedLocal.{IsDormant};
-    ghost use Rattle.sdd_domain.specs.Jobs.{places_of};
 
-    ghost Value = { LocalState };
+    ghost Value = { LocalState J };
 
     ghost view = { λ d. record {
       home = d.token.table_id;
@@ -52,7 +51,7 @@ impl<J: Job> Model for DetachedLocal<J> {
       filled = d.token.me.0.stakes.filled;
       words = d.token.me.0.words;
       due = d.due.items;
-      jobs = places_of d.jobs;
+      jobs = d.jobs;
     } };
 
     ghost invariant = { λ d. IsDormant d.limits d.place d.own d.due d.known.slots d.jobs d.tenure d.token d.tally };
