@@ -53,7 +53,7 @@ module _ (t : Tag) (n : ℕ) (is : n ≡ number_of t) where
   small : n < 4
   small = let s = tag_small t in omega arith
 
-  pub slot_held_by : (slot : ℕ) → slot < 2 ^ 24 → held_slots (4 * (slot + 1) + n) ≡ slot ∷ []
+  pub slot_held_by : (slot : ℕ) → slot < 2 ^ 25 - 5 → held_slots (4 * (slot + 1) + n) ≡ slot ∷ []
   slot_held_by slot low = let s = small in let x : ℕ = 4 * (slot + 1) + n in let y : ℕ = x % 2 ^ 27 in
       let same : y ≡ x = omega arith in let e : y / 4 - 1 ≡ slot = omega arith in
       holds_at x (omega arith) (omega arith) ∙ ap (λ (k : ℕ). k ∷ []) e
@@ -64,7 +64,7 @@ module _ (t : Tag) (n : ℕ) (is : n ≡ number_of t) where
   tagged : (x : ℕ) → x % 4 ≡ n → tag_by (x % 4) ≡ t
   tagged x e = ap tag_by (e ∙ is) ∙ tag_back t
 
-  pub slot_contents : (slot : ℕ) → slot < 2 ^ 24 → contents_of (4 * (slot + 1) + n) ≡ record { held = Some slot; tag = t }
+  pub slot_contents : (slot : ℕ) → slot < 2 ^ 25 - 5 → contents_of (4 * (slot + 1) + n) ≡ record { held = Some slot; tag = t }
   slot_contents slot low = let s = small in λ d. record {
     held = slice_get (slot_held_by slot low d) 0;
     tag = tagged (4 * (slot + 1) + n) (omega arith) d;

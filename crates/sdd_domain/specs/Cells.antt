@@ -1,5 +1,5 @@
 -- Cells: what a participant knows of them, and what its calls make of it
-use Rattle.std.specs.Prelude.{◌≡◌, ℕ, ◌<◌, Bool, List, [], ◌∷◌, Option, Some, None, IfSome, slice_index, slice_set}
+use Rattle.std.specs.Prelude.{◌≡◌, ℕ, ◌<◌, Bool, List, [], ◌∷◌, Option, Some, None, IfSome, option_map, slice_index, slice_set}
 use base.Stored.{Gv}
 use Rattle.atomic_table.specs.declared.shared.Seat.{Seat}
 use Rattle.sdd_shared_values.specs.declared.value_fraction.ValueFraction.{ValueFraction}
@@ -7,6 +7,12 @@ use Rattle.sdd_shared_values.specs.SharedValues.{IsValueCode}
 use Rattle.sdd_views.specs.declared.ShownValue.{ShownValue}
 use Rattle.sdd_views.specs.declared.View.{View}
 use Rattle.sdd_rights.specs.Owner.{witness_of_owner}
+use Rattle.sdd_rights.specs.declared.right.StandingKind.{StandingKind}
+use Rattle.sdd_rights.specs.declared.right.Right.{Right}
+use Rattle.sdd_rights.specs.Right.{home_of_table, views_of}
+use Rattle.sdd_rights.specs.Units.{GhostName}
+use Rattle.sdd_standings.specs.Cells.{MayHold, slot_held}
+use Rattle.sdd_domain.specs.CellWords.{listed}
 use Rattle.sdd_word_invariant.specs.Codes.{held_slots}
 use Rattle.sdd_atomics.specs.declared.domain_table.DomainTable.{DomainTable}
 use Rattle.sdd_atomics.specs.DomainTable.{id_of, book_of, slots_of}
@@ -109,3 +115,14 @@ TakesUp shared new s s' = IsWith (holding (slots_in new) (told_of shared new) s.
 -- it has none in hand any more
 abbrev pub PutsDown : Seat ValueFraction View → Seat ValueFraction View → Type 0
 PutsDown s s' = IsWith (holding [] [] s.me.0) s s'
+
+-- ---- the right of an owner in hand
+-- the rights of a domain's owners are to the slots of its board
+abbrev pub board_home : DomainTable → GhostName
+board_home b = home_of_table (id_of b) (book_of b) (slots_of b)
+
+-- the owner of this right, or none, is this one, of the same kind of this board's
+pub record IsBoundTo (b : DomainTable) (kind : StandingKind) (held : Option Right) (loose : Option LooseOwner) : Type 0 where
+  pub home : MayHold (board_home b) kind held
+  pub slots : listed (slot_held held) ≡ slots_in loose
+  pub views : option_map views_of held ≡ option_map (λ (o : LooseOwner). o.owner.views) loose

@@ -6,9 +6,11 @@ ghost use Rattle.sdd_domain_invariant.specs.CellSteps.{IsBare};
 ghost use Rattle.sdd_word_invariant.specs.Codes.{held_slots};
 ghost use Rattle.sdd_word_invariant.specs.Epoch.{HasPlace, IsLone};
 ghost use Rattle.sdd_rights.specs.Owner.{cell_kind, witness_of_cell};
-ghost use Rattle.sdd_atomics.specs.DomainTable.{id_of};
+ghost use Rattle.sdd_rights.specs.StandingKind.{IsOwner, is_shared};
+ghost use Rattle.sdd_standings.specs.Cells.{MayHold};
+ghost use Rattle.sdd_atomics.specs.DomainTable.{id_of, slots_of};
 ghost use Rattle.sdd_atomics.specs.DomainSeat.{view, epoch, slots, Knows};
-ghost use Rattle.sdd_domain.specs.Cells.{AreLoose, HasHeld, IsWith, PutsDown, TakesUp, Writes, told_of, slots_in};
+ghost use Rattle.sdd_domain.specs.Cells.{AreLoose, HasHeld, IsBoundTo, IsWith, PutsDown, TakesUp, Writes, board_home, slots_in, told_of};
 ghost use Rattle.sdd_domain.specs.InPlace.{IsBare as HasNothing};
 
 use crate::cell_words::held_slot;
@@ -18,7 +20,7 @@ use sdd_atomics::steps::cells::{
 };
 use sdd_atomics::steps::slots::{cut, draw_unit, enter_unit, take_in};
 use sdd_atomics::{DomainSeat, DomainTable};
-use sdd_rights::ReadFraction;
+use sdd_rights::{ReadFraction, Right, StandingKind};
 use sdd_witness::Witness;
 
 /// An owner of an item as a token of its own, with the item's slot, and a unit of the place's number.
@@ -26,6 +28,36 @@ pub struct LooseOwner {
     pub slot: u32,
     pub owner: Witness,
     pub grip: ReadFraction,
+}
+
+/// The owner of a right, if there is one, as a token of its own.
+#[inline]
+pub fn loosen(board: &DomainTable, held: Option<Right>, kind: StandingKind) -> Option<LooseOwner>
+    requires held { MayHold (board_home board.now) kind held }
+    ensures bound { IsBoundTo board.now kind held result }
+    ensures loose { AreLoose board.now (is_shared kind) result }
+{
+    let right = held?;
+    let slot = right.number();
+    let (owner, grip) = right.into_owner();
+    Some(LooseOwner { slot, owner, grip })
+}
+
+/// The right of an owner, if there is one, which is of this kind. The domain has so many slots.
+#[inline]
+pub fn bind(
+    board: &DomainTable,
+    slots: u64,
+    loose: Option<LooseOwner>,
+    kind: StandingKind,
+) -> Option<Right>
+    requires slots { slots ≡ slots_of board.now }
+    requires kind { IsOwner kind }
+    requires loose { AreLoose board.now (is_shared kind) loose }
+    ensures { IsBoundTo board.now kind result loose }
+{
+    let LooseOwner { slot, owner, grip } = loose?;
+    Some(Right::of_witness(slot, slots as usize, kind, owner, grip))
 }
 
 /// Takes an owner in that is to go into a cell, if there is one. Its unit goes to the bank.

@@ -1,5 +1,5 @@
 //! The words of cells that hold owners.
-ghost use Rattle.std.specs.Prelude.{◌≡◌, ◌%◌, ◌^◌, ◌<◌, [], ◌∷◌, IfSome, None, Some, slice_get};
+ghost use Rattle.std.specs.Prelude.{◌≡◌, ◌-◌, ◌%◌, ◌^◌, ◌<◌, [], ◌∷◌, IfSome, None, Some, slice_get};
 ghost use Rattle.sdd_core.specs.Tag.{number_of};
 ghost use Rattle.sdd_word_invariant.specs.Codes.{held_slots};
 ghost use Rattle.sdd_domain.specs.CellWords.{listed};
@@ -17,7 +17,8 @@ const UNOWNED: u64 = 134_217_712;
 /// The slot whose owner a cell holds that has this word, if it holds one.
 #[inline]
 pub fn held_slot(word: u64) -> Option<u32>
-    ensures { result ≡ slice_get (held_slots word) 0 }
+    ensures held { result ≡ slice_get (held_slots word) 0 }
+    ensures small { IfSome result (λ slot. slot < 2 ^ 25 - 5) }
 {
     let named = word % BELOW_GENERATION;
     if named >= UNOWNED || named < 4 {
@@ -42,7 +43,8 @@ pub fn tag_in(word: u64) -> Tag
 /// What a cell holds that has this word.
 #[inline]
 pub fn contents_in(word: u64) -> CellContents
-    ensures { result ≡ contents_of word }
+    ensures contents { result ≡ contents_of word }
+    ensures small { IfSome result.held (λ slot. slot < 2 ^ 25 - 5) }
 {
     CellContents {
         held: held_slot(word),
@@ -53,7 +55,7 @@ pub fn contents_in(word: u64) -> CellContents
 /// The word of a cell that holds the owner of a slot, or none, with a tag.
 #[inline]
 pub fn word_with(held: Option<u32>, tag: Tag) -> u64
-    requires { IfSome held (λ slot. slot < 2 ^ 24) }
+    requires { IfSome held (λ slot. slot < 2 ^ 25 - 5) }
     ensures taken { 0 < result }
     ensures held { held_slots result ≡ listed held }
     ensures contents { contents_of result ≡ record { held = held; tag = tag } }
