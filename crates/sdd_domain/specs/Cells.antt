@@ -1,5 +1,5 @@
 -- Cells: what a participant knows of them, and what its calls make of it
-use Rattle.std.specs.Prelude.{◌≡◌, ℕ, ◌<◌, Bool, List, [], ◌∷◌, Option, Some, None, IfSome, option_map, slice_index, slice_set}
+use Rattle.std.specs.Prelude.{◌≡◌, ◌⊎◌, ℕ, ◌<◌, Bool, List, [], ◌∷◌, Option, Some, None, IfSome, option_map, slice_index, slice_set}
 use base.Stored.{Gv}
 use Rattle.atomic_table.specs.declared.shared.Seat.{Seat}
 use Rattle.sdd_shared_values.specs.declared.value_fraction.ValueFraction.{ValueFraction}
@@ -13,16 +13,19 @@ use Rattle.sdd_rights.specs.Right.{home_of_table, views_of}
 use Rattle.sdd_rights.specs.Units.{GhostName}
 use Rattle.sdd_standings.specs.Cells.{MayHold, slot_held}
 use Rattle.sdd_domain.specs.CellWords.{listed}
-use Rattle.sdd_word_invariant.specs.Codes.{held_slots}
+use Rattle.sdd_word_invariant.specs.Codes.{alive, counted, held_slots}
+use Rattle.sdd_domain_invariant.specs.BankInvariant.{one_where}
 use Rattle.sdd_atomics.specs.declared.domain_table.DomainTable.{DomainTable}
 use Rattle.sdd_atomics.specs.DomainTable.{id_of, book_of, slots_of}
 use Rattle.sdd_atomics.specs.Grips.{IsUnitOf}
+use Rattle.sdd_core.specs.declared.refused.Refused.{Refused}
+use Rattle.sdd_core.specs.declared.refused.Refused.TheVariants.{NoCell, Contended}
 use Rattle.sdd_domain.specs.declared.cell_values.LooseOwner.{LooseOwner}
 use Rattle.sdd_word_invariant.specs.Epoch.{IsLone}
 use Rattle.sdd_word_invariant.specs.CellSteps.{cell_noted}
 use Rattle.sdd_domain_invariant.specs.CellSteps.{put_in}
 use Rattle.sdd_domain.specs.Claims.{IsUnmoved}
-use Rattle.sdd_domain.specs.LocalState.{LocalState, IsLone as IsAlone, cell_word_of}
+use Rattle.sdd_domain.specs.LocalState.{LocalState, IsLone as IsAlone, cell_word_of, word_of}
 
 -- ---- as its callers see it
 module _ {J : Type 0} where
@@ -44,6 +47,21 @@ module _ {J : Type 0} where
   -- no cell is free
   abbrev pub AllCellsTaken : LocalState J → Type 0
   AllCellsTaken m = (cell : ℕ) → cell < m.limits.cells → 0 < cell_word_of m cell
+
+  -- why no cell was claimed
+  abbrev pub ClaimsNone : Refused → LocalState J → Type 0
+  ClaimsNone why m = ((why ≡ NoCell) × (IsAlone m → AllCellsTaken m)) ⊎ ((why ≡ Contended) × ¬ (IsAlone m))
+
+  -- a cell was found to have this word
+  pub record FindsAt (cell word : ℕ) (m : LocalState J) : Type 0 where
+    pub inside : cell < m.sizes.cells
+    pub found : IsAlone m → word ≡ cell_word_of m cell
+    pub full : IsAlone m → 0 < word
+
+  -- a lone participant knows that the owner of this slot, which a cell holds, is one of several that there may be, or not
+  pub record IsOwnedThere (slot : ℕ) (shared : Bool) (m : LocalState J) : Type 0 where
+    pub alive : 0 < alive (word_of m slot)
+    pub kind : counted (word_of m slot) ≡ one_where shared
 
 -- ---- the token
 -- the word of a cell was found to be this, and is that now, and all else is as it was
@@ -68,6 +86,20 @@ pub record Claims (word cell : ℕ) (s s' : Seat ValueFraction View) : Type 0 wh
   pub view : s'.me.0 ≡ put_in cell word s.me.0
   pub inside : cell < s.me.0.sizes.cells
   pub free : IsLone s.me.0.epoch → slice_index s.me.0.words cell ≡ 0
+
+-- a cell that was free has this word, and all else is as it was
+pub record Fills (word cell : ℕ) (s s' : Seat ValueFraction View) : Type 0 where
+  pub table : s'.table_id ≡ s.table_id
+  pub number : s'.id ≡ s.id
+  pub others : s'.me.1 ≡ s.me.1
+  pub view : s'.me.0 ≡ record s.me.0 { words = cell_noted cell word s.me.0 }
+  pub inside : cell < s.me.0.sizes.cells
+  pub free : IsLone s.me.0.epoch → slice_index s.me.0.words cell ≡ 0
+
+-- why no cell was claimed of so many, as far as is known
+abbrev pub MissedAll : ℕ → Refused → View → Type 0
+MissedAll cells why v = ((why ≡ NoCell) × (IsLone v.epoch → (cell : ℕ) → cell < cells → 0 < slice_index v.words cell))
+    ⊎ ((why ≡ Contended) × ¬ (IsLone v.epoch))
 
 -- ---- an owner in hand
 -- its slot, if there is one

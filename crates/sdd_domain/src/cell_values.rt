@@ -1,5 +1,5 @@
 //! An owner goes into a cell, and what the cell held is a token of its own again.
-ghost use Rattle.std.specs.Prelude.{◌≡◌, ◌≢◌, ◌<◌, ◌∷◌, [], None, Bool, MatchResult, slice_index};
+ghost use Rattle.std.specs.Prelude.{◌≡◌, ◌≢◌, ◌<◌, ◌∷◌, ◌-◌, ◌^◌, [], None, Bool, IfSome, MatchResult, option_map, slice_index};
 ghost use Rattle.sdd_views.specs.declared.CellKind.{CellKind};
 ghost use Rattle.sdd_views.specs.Views.{no_rights};
 ghost use Rattle.sdd_domain_invariant.specs.CellSteps.{IsBare};
@@ -12,14 +12,17 @@ ghost use Rattle.sdd_atomics.specs.DomainTable.{id_of, slots_of};
 ghost use Rattle.sdd_atomics.specs.DomainSeat.{view, epoch, slots, Knows};
 ghost use Rattle.sdd_domain.specs.Cells.{AreLoose, HasHeld, IsBoundTo, IsWith, PutsDown, TakesUp, Writes, board_home, slots_in, told_of};
 ghost use Rattle.sdd_domain.specs.InPlace.{IsBare as HasNothing};
+ghost use Rattle.sdd_domain.specs.Local.{contents_of};
+ghost use Rattle.sdd_domain.specs.declared.cell_values.LooseOwner.{LooseOwner};
 
-use crate::cell_words::held_slot;
+use crate::cell_words::{held_slot, word_with};
 use sdd_atomics::grips::unit_of;
 use sdd_atomics::steps::cells::{
     exchange_cell, find_cell, free_bare_cell, free_cell, recall_cell, swap_cell, take_in_right,
 };
 use sdd_atomics::steps::slots::{cut, draw_unit, enter_unit, take_in};
 use sdd_atomics::{DomainSeat, DomainTable};
+use sdd_core::Tag;
 use sdd_rights::{ReadFraction, Right, StandingKind};
 use sdd_witness::Witness;
 
@@ -58,6 +61,20 @@ pub fn bind(
 {
     let LooseOwner { slot, owner, grip } = loose?;
     Some(Right::of_witness(slot, slots as usize, kind, owner, grip))
+}
+
+/// The word of a cell that holds this owner, or none, with a tag.
+#[inline]
+pub fn word_for(loose: &Option<LooseOwner>, tag: Tag) -> u64
+    requires { IfSome loose.now (λ o. o.slot < 2 ^ 25 - 5) }
+    ensures taken { 0 < result }
+    ensures held { held_slots result ≡ slots_in loose.now }
+    ensures contents { contents_of result ≡ record { held = option_map (λ (o : LooseOwner). o.slot) loose.now; tag = tag } }
+{
+    match loose {
+        Some(owner) => word_with(Some(owner.slot), tag),
+        None => word_with(None, tag),
+    }
 }
 
 /// Takes an owner in that is to go into a cell, if there is one. Its unit goes to the bank.

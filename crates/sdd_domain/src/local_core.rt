@@ -59,6 +59,8 @@ pub struct LocalCore<'d, T: Item<T>, J: Job> {
     due: DueItems,
     known: FreeSlotHints,
     jobs: DeferredJobs<J>,
+    /// Where it looks for a free cell first.
+    next_cell: u32,
     /// What its open guards don't have of its tenure: each of them has one unit.
     tenure: ReadSection,
     tally: RunningTally,
@@ -234,6 +236,7 @@ impl<'d, T: Item<T>, J: Job> LocalCore<'d, T, J> {
             due,
             known,
             jobs,
+            next_cell: share_of(place, domain.board.places(), domain.limits.cells as u32),
             tenure: own_tenure(),
             tally: RunningTally::new(),
         })
@@ -255,6 +258,7 @@ impl<'d, T: Item<T>, J: Job> LocalCore<'d, T, J> {
             due: _,
             known: _,
             jobs,
+            next_cell: _,
             tenure: _,
             tally,
         } = self;

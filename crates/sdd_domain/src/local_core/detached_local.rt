@@ -25,6 +25,7 @@ pub struct DetachedLocal<J: Job> {
     due: DueItems,
     known: FreeSlotHints,
     jobs: DeferredJobs<J>,
+    next_cell: u32,
     tenure: ReadSection,
     tally: RunningTally,
 }
@@ -73,6 +74,7 @@ impl<T: Item<T>, J: Job> LocalCore<'_, T, J> {
             due,
             known,
             jobs,
+            next_cell,
             tenure,
             tally,
         } = self;
@@ -84,6 +86,7 @@ impl<T: Item<T>, J: Job> LocalCore<'_, T, J> {
             due,
             known,
             jobs,
+            next_cell,
             tenure,
             tally,
         }
@@ -119,6 +122,7 @@ impl<J: Job> DetachedLocal<J> {
             due,
             known,
             jobs,
+            next_cell,
             tenure,
             tally,
         } = self;
@@ -131,6 +135,7 @@ impl<J: Job> DetachedLocal<J> {
             due,
             known,
             jobs,
+            next_cell,
             tenure,
             tally,
         })
