@@ -1,9 +1,9 @@
 -- What writing and freeing a cell are for the world of a lone participant
-use Rattle.std.proofs.Common.{◌≡◌, ◌≢◌, ℕ, ◌<◌, Bool, true, false, IsTrue, List, [], ◌∷◌, Some, None, length, set, slice_index_or, sym, refl, ap, ◌∙◌, subst, arith, length-set, get_or-set_other, get_or-set_same, ne_eqb}
+use Rattle.std.proofs.Common.{◌≡◌, ◌≢◌, ℕ, ◌<◌, Bool, true, false, IsTrue, List, Some, None, length, set, slice_index_or, sym, refl, ap, ◌∙◌, subst, arith, length-set, get_or-set_other, get_or-set_same, ne_eqb}
 use Rattle.std.specs.Prelude.{Option, IsSome, slice_get, if◌then◌else◌}
+use Rattle.std.proofs.lemmas.List.{set-set}
 use base.Stored.{Gv}
 use Rattle.sdd_participants.specs.Slab.{entry_at, IsEmptyAt, IsFull}
-use Rattle.sdd_participants.specs.declared.standing.Standing.{Standing}
 use Rattle.sdd_participants.specs.declared.standing.CellContents.{CellContents}
 use Rattle.sdd_word_invariant.specs.Codes.{held_slots, waiting, full}
 use Rattle.sdd_word_invariant.specs.SlotSteps.{behind}
@@ -22,13 +22,40 @@ use Rattle.sdd_domain.specs.Local.{LocalModel, listing, standing_by, value_by, c
 use Rattle.sdd_domain.specs.Sound.{IsSound}
 use Rattle.sdd_domain.specs.Space.{ShowsBy, Shows, is_lone, seat_of, known_of}
 use Rattle.sdd_domain.specs.SpaceIds.{home_in}
-use Rattle.sdd_domain.proofs.Listings.{listing_same, listing_set, listing_at, listing_long, listing_all, all_listed}
+use Rattle.sdd_domain.proofs.Exact.{lone_is}
+use Rattle.sdd_domain.proofs.Listings.{listing_same, listing_set, listing_at, listing_long, listing_all}
 use Rattle.sdd_domain.proofs.Refusals.{words_only, words_undisturbed}
 use Rattle.sdd_domain.proofs.Sound.{sound_then}
 
 -- a cell that isn't free holds what its word tells
 full_contents : (word : ℕ) → 0 < word → contents_by word ≡ Some (contents_of word)
 full_contents word some = let ne : word ≢ 0 = (λ e. absurd (omega arith)) in λ d. if ne_eqb word 0 ne d then None else Some (contents_of word)
+
+some_there : (word : ℕ) → 0 < word → IsSome (contents_by word)
+some_there word some = subst (λ (e : Option CellContents). IsSome e) (sym (full_contents word some)) refl
+
+-- ---- what cells hold by the words that it knows
+module _ {T : Type 0} (p : LocalModel T) where
+  -- no cell is free
+  pub cells_used_up : AllCellsTaken p.member → IsFull (world_of p).cells
+  cells_used_up taken = listing_all (λ (e : Option CellContents). IsSome e) p.member.limits.cells (contents_in p)
+      (λ i low. some_there (cell_word_of p.member i) (taken i low))
+
+  module _ (t : AreTied p.member p.entries) (cell word : ℕ) (inside : cell < p.member.sizes.cells) (is : word ≡ cell_word_of p.member cell) where
+    pub cell_inside : cell < p.member.limits.cells
+    cell_inside = let a = t.all_cells in omega arith
+
+    stands_so : entry_at (world_of p).cells cell ≡ contents_by word
+    stands_so = listing_at p.member.limits.cells (contents_in p) cell None cell_inside ∙ ap contents_by (sym is)
+
+    pub full_cell : 0 < word → entry_at (world_of p).cells cell ≡ Some (contents_of word)
+    full_cell some = stands_so ∙ full_contents word some
+
+    pub empty_cell : word ≡ 0 → IsEmptyAt (world_of p).cells cell
+    empty_cell none = (
+      (let e = listing_long p.member.limits.cells (contents_in p) in let l = cell_inside in omega arith),
+      stands_so ∙ ap contents_by none,
+    )
 
 -- ---- the word of a cell was written
 module _ {T : Type 0} (v : LocalModel T) (cell found word : ℕ) (m : LocalState) (is : WritesAt cell found word v.member m) where
@@ -85,9 +112,6 @@ module _ {T : Type 0} (v : LocalModel T) (cell found word : ℕ) (m : LocalState
   world_cells = ap (λ (y : LocalState). world_of {T = T} (record { member = y; entries = v.entries })) is.member ∙ cells_only
 
   module _ (t : AreTied v.member v.entries) where
-    low : cell < v.member.limits.cells
-    low = let l = is.inside in let a = t.all_cells in omega arith
-
     -- the cell is as its word tells
     cells_now : listing v.member.limits.cells (contents_in after) ≡ set (listing v.member.limits.cells (contents_in v)) cell (contents_by word)
     cells_now =
@@ -106,17 +130,11 @@ module _ {T : Type 0} (v : LocalModel T) (cell found word : ℕ) (m : LocalState
     world_written some = world_by (Some (contents_of word)) (full_contents word some)
 
     -- what was found
-    there_before : IsLone v.member → entry_at (world_of v).cells cell ≡ contents_by found
-    there_before lone = listing_at v.member.limits.cells (contents_in v) cell None low ∙ ap contents_by (sym (is.lone lone))
-
     pub found_full : IsLone v.member → 0 < found → entry_at (world_of v).cells cell ≡ Some (contents_of found)
-    found_full lone some = there_before lone ∙ full_contents found some
+    found_full lone = full_cell v t cell found is.inside (is.lone lone)
 
     pub found_empty : IsLone v.member → found ≡ 0 → IsEmptyAt (world_of v).cells cell
-    found_empty lone none = (
-      (let e = listing_long v.member.limits.cells (contents_in v) in let l = low in omega arith),
-      there_before lone ∙ ap contents_by none,
-    )
+    found_empty lone = empty_cell v t cell found is.inside (is.lone lone)
 
   -- what is always true is true after it
   pub sound_written : (holds : T → List OwnerOrCell) → IsSound holds v → IsSound holds (record { member = m; entries = v.entries })
@@ -125,7 +143,8 @@ module _ {T : Type 0} (v : LocalModel T) (cell found word : ℕ) (m : LocalState
       (Whole-cells (world_of v) (listing v.member.limits.cells (contents_in after)) (sound.whole (lone_before one))))
 
   -- what is shown is shown still, and nothing else is disturbed
-  keeps_by : (shown : T → Gv) (holds : T → List OwnerOrCell) (b : Bool) (i : ℕ) (u : T) → ShowsBy b shown holds v i u → ShowsBy b shown holds after i u
+  keeps_by : (shown : T → Gv) (holds : T → List OwnerOrCell) (b : Bool) (i : ℕ) (u : T) → ShowsBy b shown holds v i u
+      → ShowsBy b shown holds after i u
   keeps_by shown holds true i u h = ap (λ (l : List (Option T)). slice_index_or l i None) values_same ∙ h
   keeps_by shown holds false i u h = record { known = h.known; only = h.only; home = h.home }
 
@@ -139,6 +158,32 @@ module _ {T : Type 0} (v : LocalModel T) (cell found word : ℕ) (m : LocalState
       (record { member = m; entries = v.entries })
   written_undisturbed p same shown holds =
       words_undisturbed v m (words_only m v.member written.words is.member) shown holds p same (written_keeps shown holds)
+
+  -- for answers
+  module _ (tied : WordsMatchValues v.member v.entries) (p : LocalModel T) (same : v ≡ p) (exact : IsTrue (is_lone p.member)) where
+    lone_here : IsLone v.member
+    lone_here = lone_is v.member (subst (λ (q : LocalModel T). IsTrue (is_lone q.member)) (sym same) exact)
+
+    pub written_exact : (contents : CellContents) → 0 < word → contents_of word ≡ contents
+        → world_of (record { member = m; entries = v.entries }) ≡ with_cell (world_of p) cell contents
+    written_exact contents some tells = world_written (tied lone_here) some ∙ (λ d. with_cell (world_of (same d)) cell (tells d))
+
+    pub full_exact : (contents : CellContents) → 0 < found → contents_of found ≡ contents → entry_at (world_of p).cells cell ≡ Some contents
+    full_exact contents some tells = subst (λ (q : LocalModel T). entry_at (world_of q).cells cell ≡ Some contents) same
+        (found_full (tied lone_here) lone_here some ∙ ap Some tells)
+
+    pub empty_exact : found ≡ 0 → IsEmptyAt (world_of p).cells cell
+    empty_exact none = subst (λ (q : LocalModel T). IsEmptyAt (world_of q).cells cell) same (found_empty (tied lone_here) lone_here none)
+
+-- where it was written twice in a row it was written once
+pub written_twice : (cell found word other last : ℕ) (old mid new : LocalState) → WritesAt cell found word old mid → WritesAt cell other last mid new
+    → WritesAt cell found last old new
+written_twice cell found word other last old mid new first second = record {
+  member = second.member ∙ (ap (λ (y : LocalState). record y { words = set y.words cell last }) first.member
+      ∙ ap (λ (words : List ℕ). record old { words = words }) (set-set old.words cell word last));
+  inside = first.inside;
+  lone = first.lone;
+}
 
 -- ---- it was in use
 module _ {T : Type 0} (v : LocalModel T) (cell found word : ℕ) (m : LocalState) (is : ChangesCell cell found word v.member m) (t : AreTied v.member v.entries)
@@ -158,18 +203,7 @@ module _ {T : Type 0} (v : LocalModel T) (cell found : ℕ) (m : LocalState) (is
   pub world_freed : AreTied v.member v.entries → world_of (record { member = m; entries = v.entries }) ≡ without_cell (world_of v) cell
   world_freed t = world_by v cell found 0 m is.writes t None refl
 
--- ---- no cell is free
-some_there : (word : ℕ) → 0 < word → IsSome (contents_by word)
-some_there word some = subst (λ (e : Option CellContents). IsSome e) (sym (full_contents word some)) refl
-
-module _ {T : Type 0} (p : LocalModel T) where
-  pub cells_used_up : AllCellsTaken p.member → IsFull (world_of p).cells
-  cells_used_up taken = listing_all (λ (e : Option CellContents). IsSome e) p.member.limits.cells (contents_in p)
-      (λ i low. some_there (cell_word_of p.member i) (taken i low))
-
-  -- where one is free not all are taken
-  pub cells_not_full : (cell : ℕ) → cell < p.member.limits.cells → cell_word_of p.member cell ≡ 0 → ¬ (IsFull (world_of p).cells)
-  cells_not_full cell low free full =
-      let some : IsSome (contents_in p cell) = all_listed (λ (e : Option CellContents). IsSome e) p.member.limits.cells (contents_in p) full cell low in
-      let none : contents_in p cell ≡ None = ap contents_by free in
-      absurd (cc)
+  pub freed_exact : WordsMatchValues v.member v.entries → (p : LocalModel T) → v ≡ p → IsTrue (is_lone p.member)
+      → world_of (record { member = m; entries = v.entries }) ≡ without_cell (world_of p) cell
+  freed_exact tied p same exact = world_freed (tied (lone_is v.member (subst (λ (q : LocalModel T). IsTrue (is_lone q.member)) (sym same) exact)))
+      ∙ ap (λ (q : LocalModel T). without_cell (world_of q) cell) same
