@@ -176,14 +176,15 @@ module _ {T J : Type 0} (v : LocalModel T J) (cell found word : ℕ) (m : LocalS
     empty_exact none = subst (λ (q : LocalModel T J). IsEmptyAt (world_of q).cells cell) same (found_empty (tied lone_here) lone_here none)
 
 -- where it was written twice in a row it was written once
-pub written_twice : {J : Type 0} (cell found word other last : ℕ) (old mid new : LocalState J) → WritesAt cell found word old mid → WritesAt cell other last mid new
-    → WritesAt cell found last old new
-written_twice cell found word other last old mid new first second = record {
-  member = second.member ∙ (ap (λ (y : LocalState J). record y { words = set y.words cell last }) first.member
-      ∙ ap (λ (words : List ℕ). record old { words = words }) (set-set old.words cell word last));
-  inside = first.inside;
-  lone = first.lone;
-}
+module _ {J : Type 0} where
+  pub written_twice : (cell found word other last : ℕ) (old mid new : LocalState J) → WritesAt cell found word old mid → WritesAt cell other last mid new
+      → WritesAt cell found last old new
+  written_twice cell found word other last old mid new first second = record {
+    member = second.member ∙ (ap (λ (y : LocalState J). record y { words = set y.words cell last }) first.member
+        ∙ ap (λ (words : List ℕ). record old { words = words }) (set-set old.words cell word last));
+    inside = first.inside;
+    lone = first.lone;
+  }
 
 -- ---- it was in use
 module _ {T J : Type 0} (v : LocalModel T J) (cell found word : ℕ) (m : LocalState J) (is : ChangesCell cell found word v.member m) (t : AreTied v.member v.entries)

@@ -1,5 +1,5 @@
 //! Cells: a participant claims and frees them, loads, swaps and exchanges what they hold, and changes their tags.
-ghost use Rattle.std.specs.Prelude.{◌≡◌, ◌≢◌, ◌⊎◌, ◌<◌, ◌∷◌, ℕ, [], IfOk, IfSome, IsTrue, MatchBool, MatchOption, MatchResult, None, Some};
+ghost use Rattle.std.specs.Prelude.{◌≡◌, ◌≢◌, ◌⊎◌, ◌<◌, ◌∷◌, ℕ, Bool, [], IfErr, IfOk, IfSome, MatchOption, MatchResult, None, Some};
 ghost use base.Stored.{Gv};
 ghost use Rattle.sdd_core.specs.declared.tag.Tag.TheVariants.{None as no_tag};
 ghost use Rattle.sdd_rights.specs.StandingKind.{IsOwner, is_shared};
@@ -59,7 +59,8 @@ impl<'d, T: Item<T>, J: Job> LocalCore<'d, T, J> {
         ensures right { IfOk result (λ cell. (home_of cell ≡ cells_home self.old.home) × (kind_of cell ≡ kind)) }
         ensures claimed { MatchResult result
             (λ cell. (word : ℕ) × (0 < word) × (contents_of word ≡ cell_with held tag) × WritesAt (number_of cell) 0 word self.old self.new)
-            (λ e. (e.0 ≡ held) × (self.new ≡ self.old) × ClaimsNone e.1 self.old) }
+            (λ e. (self.new ≡ self.old) × ClaimsNone e.1 self.old) }
+        ensures back { IfErr result (λ e. e.0 ≡ held) }
     {
         let next = self.first_cell();
         let cells = self.domain.limits.cells as u32;
@@ -171,8 +172,8 @@ impl<'d, T: Item<T>, J: Job> LocalCore<'d, T, J> {
             (λ out. MayHold (slots_home self.old) kind out × (slot_held out ≡ current.held)
             × ((found : ℕ) × (word : ℕ) × (0 < word) × (contents_of word ≡ cell_with held tag) × (contents_of found ≡ current)
             × ChangesCell (number_of cell.now) found word self.old self.new))
-            (λ back. (back ≡ held) × (self.new ≡ self.old)
-            × (IsLone self.old → (contents_of (cell_word_of self.old (number_of cell.now)) ≢ current))) }
+            (λ _. (self.new ≡ self.old) × (IsLone self.old → (contents_of (cell_word_of self.old (number_of cell.now)) ≢ current))) }
+        ensures back { IfErr result (λ back. back ≡ held) }
     {
         let old = self.word_at(cell);
         if contents_in(old) != current {
@@ -182,10 +183,12 @@ impl<'d, T: Item<T>, J: Job> LocalCore<'d, T, J> {
         let board = &self.domain.board;
         let new = loosen(board, held, kind);
         let word = word_for(&new, tag);
-        match exchange(board, &mut self.token, cell.number(), cell.witness(), old, new, word) {
-            Ok(out) => Ok(bind(board, slots, out, kind)),
-            Err(back) => Err(bind(board, slots, back, kind)),
-        }
+        let tried = exchange(board, &mut self.token, cell.number(), cell.witness(), old, new, word);
+        let out = match tried {
+            Ok(out) => out,
+            Err(back) => return Err(bind(board, slots, back, kind)),
+        };
+        Ok(bind(board, slots, out, kind))
     }
 
     /// A cell is free again. The owner that it held comes, if it held one, with the cell's word before.

@@ -16,7 +16,7 @@ returns-clause-exact g c = λ exact.
     let p : LocalModel g.row.T.Denot g.row.J.Denot = c.args.self.now in
     let v : LocalModel g.row.T.Denot g.row.J.Denot = c.self.view_is 0 in let cell : ℕ = raw_number_of c.right_of_raw_cell.result in
     let found : ℕ = c.free_raw_cell.result in
-    let new : LocalState J = c.free_raw_cell.new.self in let is = c.free_raw_cell.ensures.freed in
+    let new : LocalState _ = c.free_raw_cell.new.self in let is = c.free_raw_cell.ensures.freed in
     let none = c.free_raw_cell.ensures.bare in
     let lone : IsLone v.member = lone_is v.member (subst (λ (q : LocalModel g.row.T.Denot g.row.J.Denot). IsTrue (is_lone q.member)) (sym c.self.view_is) exact) in
     let t = c.self.invariant lone in let w : World g.row.T.Denot = world_of v in
