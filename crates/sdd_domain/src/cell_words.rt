@@ -1,5 +1,5 @@
 //! The words of cells that hold owners.
-ghost use Rattle.std.specs.Prelude.{◌≡◌, ◌-◌, ◌%◌, ◌^◌, ◌<◌, [], ◌∷◌, IfSome, None, Some, slice_get};
+ghost use Rattle.std.specs.Prelude.{◌≡◌, ◌-◌, ◌%◌, ◌^◌, ◌<◌, [], ◌∷◌, ◌↔◌, IfSome, IsTrue, None, Some, slice_get};
 ghost use Rattle.sdd_core.specs.Tag.{number_of};
 ghost use Rattle.sdd_word_invariant.specs.Codes.{held_slots};
 ghost use Rattle.sdd_domain.specs.CellWords.{listed};
@@ -65,4 +65,12 @@ pub fn word_with(held: Option<u32>, tag: Tag) -> u64
         Some(slot) => 4 * (slot as u64 + 1) + number,
         None => UNOWNED + number,
     }
+}
+
+/// A cell that has this word holds this.
+#[inline]
+pub fn holds(word: u64, contents: CellContents) -> bool
+    ensures { IsTrue result ↔ (contents_of word ≡ contents) }
+{
+    contents_in(word) == contents
 }

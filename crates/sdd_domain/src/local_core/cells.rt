@@ -19,7 +19,7 @@ ghost use Rattle.sdd_domain.specs.SpaceIds.{cells_home, home_in};
 
 use crate::cell_claims::claim_with;
 use crate::cell_values::{bind, exchange, free, free_bare, loosen, swap, word_for};
-use crate::cell_words::{contents_in, held_slot, tag_in, word_with};
+use crate::cell_words::{contents_in, held_slot, holds, tag_in};
 use crate::local_core::LocalCore;
 use crate::local_core::items::is_one_of_several;
 use sdd_atomics::steps::cells::{look_in, recall_cell, retag_cell, see_in};
@@ -176,7 +176,7 @@ impl<'d, T: Item<T>, J: Job> LocalCore<'d, T, J> {
         ensures back { IfErr result (λ back. back ≡ held) }
     {
         let old = self.word_at(cell);
-        if contents_in(old) != current {
+        if !holds(old, current) {
             return Err(held);
         }
         let slots = self.domain.limits.slots;

@@ -1,22 +1,14 @@
-use Rattle.std.proofs.Common.{rules, ◌≡◌, ◌≢◌, ◌⊎◌, ◌<◌, ◌∷◌, ℕ, [], IfOk, IfSome, IsTrue, MatchBool, MatchOption, MatchResult, None, Some, ◌+◌, ◌-◌, ◌*◌, ◌≤◌, length, ◌/◌, ◌%◌, Bool, true, false, nat_eq, nat_lt, List, ◌++◌, slice_index_or, slice_set, bit_and, bit_or, Fits, w8, w32, w64, Bor, MutBor}
-use base.Stored.{Gv}
-use Rattle.sdd_core.specs.declared.tag.Tag.TheVariants.{None as no_tag}
-use Rattle.sdd_rights.specs.StandingKind.{IsOwner, is_shared}
-use Rattle.sdd_rights.specs.Right.{number_of, home_of, kind_of, raw_number_of, raw_home_of}
-use Rattle.sdd_standings.specs.Cells.{MayHold, cell_with, slot_held}
-use Rattle.sdd_shared_values.specs.SharedValues.{showing}
-use Rattle.sdd_space.specs.Guard.{reader_of}
-use Rattle.sdd_space.specs.OwnerOrCell.{AreOf}
-use Rattle.sdd_word_invariant.specs.Codes.{held_slots}
-use Rattle.sdd_domain.specs.Cells.{ChangesCell, ClaimsNone, FindsAt, FreesAt, IsOwnedThere, WritesAt}
-use Rattle.sdd_domain.specs.CellWords.{listed}
-use Rattle.sdd_domain.specs.Items.{IsRightTo, slots_home}
-use Rattle.sdd_domain.specs.Local.{contents_of}
-use Rattle.sdd_domain.specs.LocalState.{IsLone, KnowsOwner, LooksAt, cell_word_of}
-use Rattle.sdd_domain.specs.SeenSlots.{IsOnce}
-use Rattle.sdd_domain.specs.SpaceIds.{cells_home, home_in}
+use Rattle.std.proofs.Common.{rules, ℕ}
+use Rattle.sdd_domain.proofs.HeldOwners.{found_bound, word_bound}
 use Rattle.sdd_domain.proofs.local_core.LocalCore.swap.Goals as goal
 
--- src/local_core/cells.rt:134:5
 pub returns-clause-swapped : goal.returns-clause-swapped
-returns-clause-swapped g c = ?
+returns-clause-swapped g c = let new = c.loosen-new in let b = c.self.inside.domain.now.board in let found : ℕ = c.swap-out.result.1 in
+    let word : ℕ = c.word_for-word.result in (
+      found,
+      word,
+      c.word_for-word.ensures.taken,
+      word_bound b c.args.kind c.args.held new.result c.args.tag word new.ensures.bound c.word_for-word.ensures.contents,
+      found_bound b c.args.kind c.bind.result c.swap-out.result.0 found c.tag_in.result c.bind.ensures c.swap-out.ensures.slots c.tag_in.ensures,
+      record { writes = record { member = search rules; inside = search rules; lone = search rules }; full = search rules },
+    )
