@@ -96,8 +96,8 @@ pub fn works_under_a_guard<T: Item<T>>(
     done
 }
 
-/// Replaces the item of a cell by each of these values, the last one first, each under a guard of its own. After four of them all that waited with the participant before has
-/// gone, items and jobs, though an item was retired under each of these guards, and a reader had one open.
+/// Replaces the item of a cell by each of these values, the last one first, each under a guard of its own. After four of them all that waited with the
+/// participant before has gone, items and jobs, though an item was retired under each of these guards, and a reader had one open.
 ///
 /// `NoSlot` where no slot was free: the value that was refused comes back, and those in front of it, which weren't tried.
 pub fn works<T: Item<T>>(

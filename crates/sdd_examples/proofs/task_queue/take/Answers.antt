@@ -19,7 +19,8 @@ returns-in-Ok-Some-clause-tasks g c = λ e tasks has.
     let same = c.get_guarded_ref.ensures.exact (subst (λ (s : CallerId). IsExact s) (sym at1) e) in
     let gone = (c.release.ensures.released (subst (λ (s : CallerId). IsExact s) (sym at2) e)).world in (
       ap (λ (v : _). Some v) (c.as_ref-task.ensures ∙ ap value_of value) ∙ sym popped.1.2,
-      subst (λ (y : World _). QueueHas y c.args.queue.now (drop 1 tasks)) (sym gone) (c.releases_keep_values.ensures.queue _ _ slot c.args.queue.now (drop 1 tasks)
+      subst (λ (y : World _). QueueHas y c.args.queue.now (drop 1 tasks)) (sym gone)
+          (c.releases_keep_values.ensures.queue _ _ slot c.args.queue.now (drop 1 tasks)
           (subst (λ (y : World _). QueueHas y c.args.queue.now (drop 1 tasks)) (sym same) popped.0)),
     )
 
