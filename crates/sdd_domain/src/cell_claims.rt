@@ -204,7 +204,11 @@ pub fn claim_with(
 fn kind_for(shared: bool) -> CellKind
     ensures { result ≡ cell_kind shared }
 {
-    if shared { CellKind::Shared } else { CellKind::Owned }
+    if shared {
+        CellKind::Shared
+    } else {
+        CellKind::Owned
+    }
 }
 
 /// Reserves a free cell, as one that holds no owners: what it is for is decided when it is filled.

@@ -17,9 +17,9 @@ ghost use Rattle.sdd_atomics.specs.DomainSeat.{view, epoch, slots, Taught, Moved
 
 use crate::domain_table::{DomainSeat, DomainTable};
 use crate::plays::{
-    ClaimForCollector, ClaimForOwned, ClaimForRaw, ClaimForShared, CutRight, ExchangeCell, FillForOwned,
-    FillForShared, FindCell, FreeBareCell, FreeCell, JoinRight, LearnCell, LookIn, RetagCell, SeeIn,
-    SwapBareCell, SwapCell,
+    ClaimForCollector, ClaimForOwned, ClaimForRaw, ClaimForShared, CutRight, ExchangeCell,
+    FillForOwned, FillForShared, FindCell, FreeBareCell, FreeCell, JoinRight, LearnCell, LookIn,
+    RetagCell, SeeIn, SwapBareCell, SwapCell,
 };
 use sdd_views::CellKind;
 use sdd_witness::{CompareExchange, Swap, Witness, part, step_beside};
@@ -87,8 +87,9 @@ pub fn claim_cell(
         CellKind::Owned => shared.compare_exchange::<ClaimForOwned>(token, at, FREE_CELL, word),
         CellKind::Shared => shared.compare_exchange::<ClaimForShared>(token, at, FREE_CELL, word),
         CellKind::Raw => shared.compare_exchange::<ClaimForRaw>(token, at, FREE_CELL, word),
-        CellKind::Collector =>
-            shared.compare_exchange::<ClaimForCollector>(token, at, FREE_CELL, word),
+        CellKind::Collector => shared.compare_exchange::<ClaimForCollector>(
+            token, at, FREE_CELL, word,
+        ),
     }
 }
 

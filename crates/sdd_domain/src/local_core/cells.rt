@@ -70,7 +70,16 @@ impl<'d, T: Item<T>, J: Job> LocalCore<'d, T, J> {
         let shared = is_one_of_several(kind);
         let new = loosen(board, held, kind);
         let word = word_for(&new, tag);
-        match claim_with(board, &mut self.token, next, cells, new, word, shared, tries) {
+        match claim_with(
+            board,
+            &mut self.token,
+            next,
+            cells,
+            new,
+            word,
+            shared,
+            tries,
+        ) {
             Ok((cell, right)) => {
                 self.next_cell = cell + 1;
                 Ok(Right::of_cell(cell, MOST_CELLS, kind, right))
@@ -103,11 +112,7 @@ impl<'d, T: Item<T>, J: Job> LocalCore<'d, T, J> {
 
     /// The value of the item whose owner a cell holds, with its slot, for as long as the guard is borrowed; and the cell's tag.
     #[inline]
-    pub(crate) fn load<'g>(
-        &mut self,
-        cell: &Right,
-        guard: &'g Guard,
-    ) -> (Option<(u32, &'g T)>, Tag)
+    pub(crate) fn load<'g>(&mut self, cell: &Right, guard: &'g Guard) -> (Option<(u32, &'g T)>, Tag)
         requires home { home_of cell.now ≡ cells_home self.old.home }
         requires reader { reader_of guard.now ≡ self.old.reader }
         ensures found { (word : ℕ) × FindsAt (number_of cell.now) word self.old × MatchOption result.0
@@ -151,7 +156,14 @@ impl<'d, T: Item<T>, J: Job> LocalCore<'d, T, J> {
         let board = &self.domain.board;
         let new = loosen(board, held, kind);
         let word = word_for(&new, tag);
-        let (out, found) = swap(board, &mut self.token, cell.number(), cell.witness(), new, word);
+        let (out, found) = swap(
+            board,
+            &mut self.token,
+            cell.number(),
+            cell.witness(),
+            new,
+            word,
+        );
         (bind(board, slots, out, kind), tag_in(found))
     }
 
@@ -183,7 +195,15 @@ impl<'d, T: Item<T>, J: Job> LocalCore<'d, T, J> {
         let board = &self.domain.board;
         let new = loosen(board, held, kind);
         let word = word_for(&new, tag);
-        let tried = exchange(board, &mut self.token, cell.number(), cell.witness(), old, new, word);
+        let tried = exchange(
+            board,
+            &mut self.token,
+            cell.number(),
+            cell.witness(),
+            old,
+            new,
+            word,
+        );
         let out = match tried {
             Ok(out) => out,
             Err(back) => return Err(bind(board, slots, back, kind)),

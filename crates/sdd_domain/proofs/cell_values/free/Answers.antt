@@ -29,18 +29,18 @@ put_down-requires-clause-place c = let q = c.requires.right.1 in let shared : Bo
     let a = c.recall_cell.ensures c.args.cell shared q.1 in let took = c.take_in_right.ensures c.args.cell (cell_kind shared) q.1 in
     let freed = c.free_cell-word.ensures shared
     (rights_now c.args.cell shared s c.recall_cell.new.token c.take_in_right.new.token c.requires.rights a.2.0 took.3) in
-    let out = brought 0 c.args.cell c.free_cell-word.result shared c.take_in_right.new.token.me freed.2.0.0 freed.2.0.1 in 
+    let out = brought 0 c.args.cell c.free_cell-word.result shared c.take_in_right.new.token.me freed.2.0.0 freed.2.0.1 in
     subst (λ (e : EpochView). HasPlace e) (sym (ap (λ (m : SeatState). m.0.epoch) freed.2.0.2 ∙ (ap (λ (m : SeatState). m.0.epoch) out.1
-          ∙ (ap (λ (v : View). v.epoch) took.3 ∙ ap (λ (m : SeatState). m.0.epoch) a.2.0)))) c.requires.place
+    ∙ (ap (λ (v : View). v.epoch) took.3 ∙ ap (λ (m : SeatState). m.0.epoch) a.2.0)))) c.requires.place
 
 pub put_down-requires-clause-rests : goal.put_down-requires-clause-rests
 put_down-requires-clause-rests c = let q = c.requires.right.1 in let shared : Bool = q.0 in let s = c.args.token.now in
     let a = c.recall_cell.ensures c.args.cell shared q.1 in let took = c.take_in_right.ensures c.args.cell (cell_kind shared) q.1 in
     let freed = c.free_cell-word.ensures shared
     (rights_now c.args.cell shared s c.recall_cell.new.token c.take_in_right.new.token c.requires.rights a.2.0 took.3) in
-    let out = brought 0 c.args.cell c.free_cell-word.result shared c.take_in_right.new.token.me freed.2.0.0 freed.2.0.1 in 
+    let out = brought 0 c.args.cell c.free_cell-word.result shared c.take_in_right.new.token.me freed.2.0.0 freed.2.0.1 in
     ap (λ (m : SeatState). m.0.stakes.moves) freed.2.0.2 ∙ (ap (λ (m : SeatState). m.0.stakes.moves) out.1
-          ∙ (ap (λ (v : View). v.stakes.moves) took.3 ∙ ap (λ (m : SeatState). m.0.stakes.moves) a.2.0)) ∙ c.requires.bare.rests
+    ∙ (ap (λ (v : View). v.stakes.moves) took.3 ∙ ap (λ (m : SeatState). m.0.stakes.moves) a.2.0)) ∙ c.requires.bare.rests
 
 pub put_down-requires-clause-quiet : goal.put_down-requires-clause-quiet
 put_down-requires-clause-quiet c = let q = c.requires.right.1 in let shared : Bool = q.0 in let s = c.args.token.now in
@@ -59,6 +59,8 @@ put_down-requires-clause-held c = let q = c.requires.right.1 in let shared : Boo
     let a = c.recall_cell.ensures c.args.cell shared q.1 in let took = c.take_in_right.ensures c.args.cell (cell_kind shared) q.1 in
     let freed = c.free_cell-word.ensures shared
     (rights_now c.args.cell shared s c.recall_cell.new.token c.take_in_right.new.token c.requires.rights a.2.0 took.3) in
-    let out = brought 0 c.args.cell c.free_cell-word.result shared c.take_in_right.new.token.me freed.2.0.0 freed.2.0.1 in 
-    (shared, subst (λ (m : SeatState). HasHeld c.free_cell-word.result shared m.0) (sym freed.2.0.2)
-    record { owns = out.2.owns; none = out.2.none; one = out.2.one })
+    let out = brought 0 c.args.cell c.free_cell-word.result shared c.take_in_right.new.token.me freed.2.0.0 freed.2.0.1 in (
+      shared,
+      subst (λ (m : SeatState). HasHeld c.free_cell-word.result shared m.0) (sym freed.2.0.2)
+          record { owns = out.2.owns; none = out.2.none; one = out.2.one },
+    )

@@ -66,14 +66,14 @@ cut-owner-requires-clause-one c = let is = c.draw_unit.ensures.2.0 in let slot :
 pub returns-clause-put : goal.returns-clause-put
 returns-clause-put c = let cut = c.cut-owner.ensures.participant in let draw = c.draw_unit.ensures in let v : View = c.args.token.now.me.0 in
     let one = named c.args.word c.in_ok-slot.slot (sym c.held_slot.ensures.held ∙ c.in_ok-slot.was) in record {
-  table = cut.0 ∙ draw.0;
-  number = cut.1 ∙ draw.1;
-  others = cut.2 ∙ draw.2.1;
-  view = cut.3 ∙ (ap parting draw.2.0 ∙ (λ d. record v {
-    slots = record v.slots { owns = others ((c.requires.held.1.owns ∙ one) d) };
-    stakes = record v.stakes { owns = [] };
-  }));
-}
+      table = cut.0 ∙ draw.0;
+      number = cut.1 ∙ draw.1;
+      others = cut.2 ∙ draw.2.1;
+      view = cut.3 ∙ (ap parting draw.2.0 ∙ (λ d. record v {
+        slots = record v.slots { owns = others ((c.requires.held.1.owns ∙ one) d) };
+        stakes = record v.stakes { owns = [] };
+      }));
+    }
 
 pub returns-clause-slots : goal.returns-clause-slots
 returns-clause-slots c = sym (named c.args.word c.in_ok-slot.slot (sym c.held_slot.ensures.held ∙ c.in_ok-slot.was))
