@@ -8,7 +8,7 @@ pub use sdd_domain::{Domain, Local, Receipt};
 pub use sdd_lists::laws::{first_in_first_out, last_in_first_out, releases_keep_values};
 pub use sdd_lists::{Link, LinkedEntry, LinkedList, Queue, Stack, Unfinished, Unpopped, Walk};
 pub use sdd_machine::machine::{Did, Machine, Step, safety};
-pub use sdd_participants::{Deferred, Idle, Job, Tally};
+pub use sdd_participants::{BoxedJob, Deferred, Idle, Job, Tally};
 pub use sdd_space::laws::{
     calls_are_work, comes_back, epoch_moves_by_one, owned_is_shown, shared_is_shown,
     shows_what_was_made, values_fit_slots,

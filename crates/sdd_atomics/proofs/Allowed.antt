@@ -464,7 +464,7 @@ module _ {S : Type 0} (s t : Seat S View) (r : ℕ) (home : t.table_id ≡ s.tab
   pub told : (R : EpochView → ℕ → EpochView → Type 0) → Told (OnEpoch R) s.me r t.me → Stepped R s r t
   told R e = let w : EpochView = e.1.0 in let is : t.me.0 ≡ record s.me.0 { epoch = w } = e.1.1 in (
     (
-      (home, number, e.0, ap (λ (v : View). v.sizes) is, ap (λ (v : View). v.stakes) is, ap (λ (v : View). v.pledges) is),
+      (home, number, e.0, ap (λ (v : View). v.sizes) is, ap (λ (v : View). v.stakes) is, ap (λ (v : View). v.pledges) is, ap (λ (v : View). v.cells) is),
       ap (λ (v : View). v.places) is,
       ap (λ (v : View). v.slots)
           is,
@@ -475,7 +475,7 @@ module _ {S : Type 0} (s t : Seat S View) (r : ℕ) (home : t.table_id ≡ s.tab
 
   pub published : Told PublishesAll s.me 2 t.me → HasPublished s t
   published e = let w : EpochView = e.1.0 in let is : t.me.0 ≡ record s.me.0 { epoch = w; slots = changed s.me.0 } = e.1.1 in (
-    (home, number, e.0, ap (λ (v : View). v.sizes) is, ap (λ (v : View). v.stakes) is, ap (λ (v : View). v.pledges) is),
+    (home, number, e.0, ap (λ (v : View). v.sizes) is, ap (λ (v : View). v.stakes) is, ap (λ (v : View). v.pledges) is, ap (λ (v : View). v.cells) is),
     ap (λ (v : View). v.places) is,
     ap (λ (v : View). v.slots) is,
     ap (λ (v : View). v.words) is,
@@ -483,7 +483,7 @@ module _ {S : Type 0} (s t : Seat S View) (r : ℕ) (home : t.table_id ≡ s.tab
   )
 
 pub same_on : {S : Type 0} (s t u : Seat S View) → IsSame s t → IsSame t u → IsSame s u
-same_on s t u a b = (b.0 ∙ a.0, b.1 ∙ a.1, b.2 ∙ a.2, b.3 ∙ a.3, b.4 ∙ a.4, b.5 ∙ a.5)
+same_on s t u a b = (b.0 ∙ a.0, b.1 ∙ a.1, b.2 ∙ a.2, b.3 ∙ a.3, b.4 ∙ a.4, b.5 ∙ a.5, b.6 ∙ a.6)
 
 pub same_but_on : {S : Type 0} (s t u : Seat S View) → IsSameBut s t → IsSameBut t u → IsSameBut s u
 same_but_on s t u a b = (same_on s t u a.0 b.0, b.1 ∙ a.1, b.2 ∙ a.2, b.3 ∙ a.3)

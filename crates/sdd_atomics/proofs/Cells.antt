@@ -17,19 +17,20 @@ use Rattle.sdd_views.specs.contracts.View.{the_row}
 use Rattle.sdd_views.specs.Views.{right_to}
 use Rattle.sdd_word_invariant.specs.Words.{cell_word}
 use Rattle.sdd_word_invariant.specs.Codes.{held_slots}
+use Rattle.sdd_word_invariant.specs.CellSteps.{noting}
 use Rattle.sdd_word_invariant.specs.Epoch.{HasPlace, IsOpen}
 use Rattle.sdd_domain_invariant.specs.DomainInvariant.{DomainInvariant}
 use Rattle.sdd_domain_invariant.specs.FilledInvariant.{HasRecord}
 use Rattle.sdd_domain_invariant.specs.PledgesInvariant.{pledging, freeing}
 use Rattle.sdd_domain_invariant.specs.FractionSteps.{SeatState}
-use Rattle.sdd_domain_invariant.specs.CellSteps.{put_in, brought_out, BringsOut, ClaimsCell, SwapsOne, ExchangesOne, FreesCell, LooksInCell, SeesInCell, LearnsCell, OfCell}
+use Rattle.sdd_domain_invariant.specs.CellSteps.{put_in, brought_out, BringsOut, ClaimsCell, SwapsOne, ExchangesOne, FreesCell, FillsBare, RetagsOne, SwapsBare, FreesBare, IsBare, FindsCell, LooksInCell, SeesInCell, LearnsCell, OfCell}
 use Rattle.sdd_domain_invariant.proofs.CellSteps as cells
 use Rattle.sdd_domain_invariant.proofs.Fillings.{has_none}
 use Rattle.sdd_word_invariant.proofs.Codes.{held_which}
 use Rattle.atomic_table.specs.declared.shared.Seat.{Seat}
 use Rattle.sdd_shared_values.specs.declared.value_fraction.ValueFraction.{ValueFraction}
 use Rattle.sdd_atomics.specs.DomainSeat.{Moved}
-use Rattle.sdd_atomics.specs.Cells.{HasPledgedRight, SwapsPledged, ExchangesPledged, FreesOwn, RecallsCell}
+use Rattle.sdd_atomics.specs.Cells.{HasPledgedRight, SwapsPledged, ExchangesPledged, FreesOwn, FreesOwnBare, RecallsCell, FindsRight}
 
 abbrev first_of : Pledge → List Pledge → Pledge
 first_of p [] = p
@@ -88,6 +89,10 @@ module _ (γ : ℕ) (sizes : Sizes) (slots id : ℕ) (me : SeatState) (same : me
         (cells.claims slots id me live rests cell within y owns loose drawn shared given (cell_kind shared) more
         (λ ws counts. cells.word_counted me.0.sizes ws shared y counts))
 
+    pub may_fill : (kind : CellKind) → IsBare kind → me.0.cells.rights ≡ record { cell = cell; kind = kind } ∷ [] → May (λ _. y) (OfCell (FillsBare y shared) i me)
+    may_fill kind bare mine = as_known (λ _. y) (λ j. OfCell (FillsBare y shared) j me)
+        (cells.fills_bare slots id me live rests cell within y owns loose drawn shared given kind bare mine more)
+
     module _ (p : Pledge) (own : me.0.pledges.own ≡ p ∷ []) (shows : p.view ≡ the_row.coded.code (right_to cell (cell_kind shared))) where
       pub may_swap : May (λ _. y) (SwapsPledged y i me)
       may_swap = as_known (λ _. y) (λ j. SwapsPledged y j me) (λ s h long at small.
@@ -111,6 +116,21 @@ module _ (γ : ℕ) (sizes : Sizes) (slots id : ℕ) (me : SeatState) (same : me
                 subst (λ (t : Bool). ExchangesOne old y t other me (get_or s.words (cell_word me.0.sizes cell) 0) (a.0, carried_after me.1 a.1)) e (a.4 other where_is),
           ))
 
+  pub may_retag : (old y : ℕ) → held_slots y ≡ held_slots old → 0 < y → me.0.slots.holds ≡ None → May (λ x. either (eqb x old) y x) (OfCell (RetagsOne old y) i me)
+  may_retag old y holds more loose = as_known (λ x. either (eqb x old) y x) (λ j. OfCell (RetagsOne old y) j me)
+      (cells.retags slots id me live rests cell within old y holds more loose)
+
+  module _ (y : ℕ) (none : held_slots y ≡ []) (more : 0 < y) (owns : me.0.slots.owns ≡ []) (loose : me.0.slots.holds ≡ None) (kind : CellKind) where
+    pub may_claim_bare : me.0.slots.drawn ≡ [] → me.0.stakes.owns ≡ [] → May (λ x. either (eqb x 0) y x) (OfCell (ClaimsCell y kind) i me)
+    may_claim_bare drawn told = as_known (λ x. either (eqb x 0) y x) (λ j. OfCell (ClaimsCell y kind) j me)
+        (cells.claims slots id me live rests cell within y (owns ∙ sym none) loose drawn false (λ r has. absurd (has_none r me.0.stakes.owns told has)) kind more
+        (λ ws _. cells.fits_any me.0.sizes ws kind y none))
+
+    pub may_swap_bare : IsBare kind → (p : Pledge) → me.0.pledges.own ≡ p ∷ [] → p.view ≡ the_row.coded.code (right_to cell kind)
+        → May (λ _. y) (OfCell (SwapsBare y) i me)
+    may_swap_bare bare p own shows = as_known (λ _. y) (λ j. OfCell (SwapsBare y) j me)
+        (cells.swaps_bare slots id me live rests cell within kind p own shows y none more owns loose bare)
+
   pub may_free : me.0.slots.owns ≡ [] → me.0.slots.holds ≡ None → me.0.slots.drawn ≡ [] → me.0.stakes.owns ≡ [] → (shared : Bool)
       → me.0.cells.rights ≡ record { cell = cell; kind = cell_kind shared } ∷ [] → May (λ _. 0) (FreesOwn i me)
   may_free owns loose drawn none shared mine = as_known (λ _. 0) (λ j. FreesOwn j me) (λ s h long at small.
@@ -122,6 +142,17 @@ module _ (γ : ℕ) (sizes : Sizes) (slots id : ℕ) (me : SeatState) (same : me
         λ other b where_is had. let e = one_kind me.0 cell other shared b mine had in
             subst (λ (t : Bool). FreesCell t other me (get_or s.words (cell_word me.0.sizes cell) 0) (a.0, carried_after me.1 a.1)) e
             (a.4 other where_is),
+      ))
+
+  pub may_free_bare : me.0.slots.owns ≡ [] → me.0.slots.holds ≡ None → me.0.slots.drawn ≡ [] → me.0.stakes.owns ≡ [] → (kind : CellKind) → IsBare kind
+      → me.0.cells.rights ≡ record { cell = cell; kind = kind } ∷ [] → May (λ _. 0) (FreesOwnBare i me)
+  may_free_bare owns loose drawn none kind bare mine = as_known (λ _. 0) (λ j. FreesOwnBare j me) (λ s h long at small.
+      let a = cells.frees_bare slots id me live rests cell within owns loose drawn kind bare (λ r has. has_none r me.0.stakes.owns none has) mine s h long at small in (
+        a.0,
+        a.1,
+        a.2,
+        a.3,
+        λ other where_is. a.4 other where_is,
       ))
 
 -- beside the right to a cell
@@ -162,7 +193,7 @@ module _ (me : SeatState) (p : Pledge) (y : ℕ) (shared : Bool) (cell : ℕ) wh
           c.1,
           c.2,
           freed ∙ (ap free c.3 ∙ ap (λ (l : List Pledge). (brought_out cell y slot shared c.0 (as_was l), me.1)) (sym bare)),
-          c.4,
+          λ lone. let k = c.4 lone in record { newest = k.newest; alive = k.alive; kind = k.kind },
         ),
       )
 
@@ -187,7 +218,40 @@ module _ (me : SeatState) (p : Pledge) (y : ℕ) (shared : Bool) (cell : ℕ) wh
       d.2,
     )
 
+-- the same of a cell that holds no owners
+module _ (me : SeatState) (p : Pledge) (y cell i : ℕ) (where_is : i ≡ cell_word me.0.sizes cell) where
+  abbrev pledged : SeatState
+  pledged = (pledging me.0 p, me.1)
+
+  pub bare_stays : (n : ℕ) (u : SeatState) → OfCell (SwapsBare y) i pledged n u → u.0.pledges.own ≡ p ∷ []
+  bare_stays n u done = ap (λ (m : SeatState). m.0.pledges.own) (done cell where_is).0
+
+  pub bare_swapped : me.0.pledges.own ≡ [] → (n : ℕ) (u after : SeatState) → OfCell (SwapsBare y) i pledged n u → after ≡ (freeing u.0, u.1)
+      → SwapsBare y cell me n after
+  bare_swapped bare n u after done freed = let d = done cell where_is in (
+    freed ∙ (ap (λ (m : SeatState). (freeing m.0, m.1)) d.0
+        ∙ ap (λ (l : List Pledge). (noting cell y (record me.0 { pledges = record me.0.pledges { own = l } }), me.1)) (sym bare)),
+    d.1,
+    d.2,
+  )
+
 -- the token after a step on a cell
 pub cell_moved : (s t : Seat ValueFraction View) (r : ℕ) → t.table_id ≡ s.table_id → t.id ≡ s.id → (R : ℕ → SeatState → ℕ → SeatState → Type 0) (i cell : ℕ)
     (sizes : Sizes) → i ≡ cell_word sizes cell → s.me.0.sizes ≡ sizes → OfCell R i s.me r t.me → Moved (R cell) s r t
 cell_moved s t r home number R i cell sizes is same e = (home, number, e cell (is ∙ ap (λ (z : Sizes). cell_word z cell) (sym same)))
+
+pub may_find_cell : (γ : ℕ) (sizes : Sizes) (slots id : ℕ) (me : SeatState) → me.0.sizes ≡ sizes → me.0.stakes.book ≡ γ → HasPlace me.0.epoch
+    → me.0.stakes.moves ≡ None → (cell : ℕ) (kind : CellKind) (jd : ℕ)
+    → AllowsBeside (DomainInvariant γ sizes) slots id me jd (right_to cell kind) (FindsRight (right_to cell kind) me)
+may_find_cell γ sizes slots id me same book live rests cell kind jd =
+    subst (λ (t : ℕ × Sizes). AllowsBeside (DomainInvariant t.0 t.1) slots id me jd (right_to cell kind)
+    (FindsRight (right_to cell kind) me)) (λ d. (book d, same d)) (λ s h long at there.
+    let a = cells.finds_cell slots id me live rests jd cell kind s h long at there in (
+      a.0,
+      a.1,
+      a.2,
+      a.3,
+      λ other k e. let first : CellRight = record { cell = cell; kind = kind } in
+          let is : first ≡ record { cell = other; kind = k } = ap (λ (u : View). first_right first u.cells.rights) e in
+          subst (λ (t : ℕ). FindsCell t me (a.0, carried_after me.1 a.1)) (ap (λ (r : CellRight). r.cell) is) a.4,
+    ))

@@ -1,18 +1,30 @@
 -- Steps on a cell beside the token of the right to it
-use Rattle.std.specs.Prelude.{◌≡◌, ℕ, Bool, [], ◌∷◌}
+use Rattle.std.specs.Prelude.{◌≡◌, ℕ, Bool, true, false, List, [], ◌∷◌}
 use Rattle.sdd_witness.specs.Ledger.{Pledge}
+use Rattle.sdd_views.specs.declared.CellKind.{CellKind}
+use Rattle.sdd_views.specs.declared.CellKind.TheVariants.{Owned, Shared, Raw, Collector}
+use Rattle.sdd_views.specs.declared.ShownValue.{ShownValue}
 use Rattle.sdd_views.specs.declared.View.{View}
 use Rattle.sdd_views.specs.contracts.View.{the_row}
 use Rattle.sdd_views.specs.Views.{right_to}
 use Rattle.sdd_rights.specs.Owner.{cell_kind}
 use Rattle.sdd_word_invariant.specs.Words.{cell_word}
+use Rattle.sdd_word_invariant.specs.Codes.{held_slots}
+use Rattle.sdd_domain_invariant.specs.FilledInvariant.{HasRecord}
 use Rattle.sdd_domain_invariant.specs.FractionSteps.{SeatState}
-use Rattle.sdd_domain_invariant.specs.CellSteps.{SwapsOne, ExchangesOne, FreesCell, LearnsCell}
+use Rattle.sdd_domain_invariant.specs.CellSteps.{SwapsOne, ExchangesOne, FreesCell, FreesBare, LearnsCell, FindsCell}
 use Rattle.sdd_atomics.specs.declared.domain_table.DomainTable.{DomainTable}
 use Rattle.sdd_atomics.specs.DomainTable.{sizes_of}
 
 abbrev pub cells_of : DomainTable → ℕ
 cells_of b = (sizes_of b).cells
+
+-- what it has of owners may go into a cell of this kind, by this word: an owner of that kind, or none
+abbrev pub FitsCell : CellKind → ℕ → List ShownValue → Type 0
+FitsCell Owned word told = (r : ShownValue) → HasRecord told r → r.shared ≡ false
+FitsCell Shared word told = (r : ShownValue) → HasRecord told r → r.shared ≡ true
+FitsCell Raw word told = (held_slots word ≡ []) × (told ≡ [])
+FitsCell Collector word told = (held_slots word ≡ []) × (told ≡ [])
 
 -- it has a pledge of the view of the token of the right to a cell, which is for owners of which there may be several, or not
 abbrev pub HasPledgedRight : View → ℕ → Bool → Type 0
@@ -32,6 +44,14 @@ abbrev pub FreesOwn : ℕ → SeatState → ℕ → SeatState → Type 0
 FreesOwn i me x me' = (cell : ℕ) (shared : Bool) → i ≡ cell_word me.0.sizes cell → me.0.cells.rights ≡ record { cell = cell; kind = cell_kind shared } ∷ []
     → FreesCell shared cell me x me'
 
+-- the same of a cell that holds no owners
+abbrev pub FreesOwnBare : ℕ → SeatState → ℕ → SeatState → Type 0
+FreesOwnBare i me x me' = (cell : ℕ) → i ≡ cell_word me.0.sizes cell → FreesBare cell me x me'
+
 -- beside the token of the right to a cell
 abbrev pub RecallsCell : View → SeatState → SeatState → Type 0
 RecallsCell w me me' = (cell : ℕ) (shared : Bool) → w ≡ right_to cell (cell_kind shared) → LearnsCell cell shared me me'
+
+-- beside the token of a right to a cell of any kind
+abbrev pub FindsRight : View → SeatState → SeatState → Type 0
+FindsRight w me me' = (cell : ℕ) (kind : CellKind) → w ≡ right_to cell kind → FindsCell cell me me'

@@ -38,10 +38,10 @@ module _ {S : Type 0} where
   abbrev pub Told : (View → ℕ → View → Type 0) → Me S View → ℕ → Me S View → Type 0
   Told R m r m' = (m'.1 ≡ m.1) × R m.0 r m'.0
 
-  -- it is the same token, and knows the same of sizes, stakes and pledges
+  -- it is the same token, and knows the same of sizes, stakes, pledges and cells
   abbrev pub IsSame : Seat S View → Seat S View → Type 0
   IsSame s s' = (s'.table_id ≡ s.table_id) × (s'.id ≡ s.id) × (s'.me.1 ≡ s.me.1) × (s'.me.0.sizes ≡ s.me.0.sizes) × (s'.me.0.stakes ≡ s.me.0.stakes)
-      × (s'.me.0.pledges ≡ s.me.0.pledges)
+      × (s'.me.0.pledges ≡ s.me.0.pledges) × (s'.me.0.cells ≡ s.me.0.cells)
 
   -- the token is as it was, but for what it knows of the epoch
   abbrev pub IsSameBut : Seat S View → Seat S View → Type 0

@@ -8,9 +8,9 @@ ghost use Rattle.sdd_domain_invariant.specs.BankInvariant.{founded, bank_of, wit
 ghost use Rattle.sdd_domain_invariant.specs.FractionSteps.{ClaimsAll, TakesOut, TakesHeld, IsDeposit, RetiresOne, GivesAll, DefersJob, GivesPlace, DiscardsAll, ClosesHome, EndsAll, EntersUnit, OfSlot, parting, departing, regained, uncounting, counts_of, counting, ReleasesOne, LeavesOne, TakesOneBack, DrawsUnit};
 ghost use Rattle.sdd_word_invariant.specs.Codes.{raw_word};
 ghost use Rattle.sdd_domain_invariant.specs.RawSteps.{TurnsRawOne, RegainsOne, SeesRawOne};
-ghost use Rattle.sdd_views.specs.declared.CellKind.TheVariants.{Owned as for_owned, Shared as for_shared};
-ghost use Rattle.sdd_domain_invariant.specs.CellSteps.{ClaimsCell, LooksInCell, SeesInCell, OfCell, rightless, rights_of, righted};
-ghost use Rattle.sdd_atomics.specs.Cells.{SwapsPledged, ExchangesPledged, FreesOwn, RecallsCell};
+ghost use Rattle.sdd_views.specs.declared.CellKind.TheVariants.{Owned as for_owned, Shared as for_shared, Raw as for_raw, Collector as for_collector};
+ghost use Rattle.sdd_domain_invariant.specs.CellSteps.{ClaimsCell, FillsBare, LooksInCell, RetagsOne, SwapsBare, SeesInCell, OfCell, rightless, rights_of, righted};
+ghost use Rattle.sdd_atomics.specs.Cells.{SwapsPledged, ExchangesPledged, FreesOwn, FreesOwnBare, RecallsCell, FindsRight};
 ghost use Rattle.sdd_atomics.specs.Clones.{AddsPledged, AddsBesideSeen};
 ghost use Rattle.sdd_atomics.specs.DomainSeat.{Sits, Told, HousesMoved, WatchesOwned, RecallsOwned};
 
@@ -289,6 +289,42 @@ impl Play<ValueFraction, View> for ClaimForShared {
     ghost then = { λ step. OfCell (ClaimsCell step.second for_shared) step.word };
 }
 
+pub struct ClaimForRaw;
+
+impl Play<ValueFraction, View> for ClaimForRaw {
+    ghost then = { λ step. OfCell (ClaimsCell step.second for_raw) step.word };
+}
+
+pub struct ClaimForCollector;
+
+impl Play<ValueFraction, View> for ClaimForCollector {
+    ghost then = { λ step. OfCell (ClaimsCell step.second for_collector) step.word };
+}
+
+pub struct FillForOwned;
+
+impl Play<ValueFraction, View> for FillForOwned {
+    ghost then = { λ step. OfCell (FillsBare step.first false) step.word };
+}
+
+pub struct FillForShared;
+
+impl Play<ValueFraction, View> for FillForShared {
+    ghost then = { λ step. OfCell (FillsBare step.first true) step.word };
+}
+
+pub struct RetagCell;
+
+impl Play<ValueFraction, View> for RetagCell {
+    ghost then = { λ step. OfCell (RetagsOne step.first step.second) step.word };
+}
+
+pub struct SwapBareCell;
+
+impl Play<ValueFraction, View> for SwapBareCell {
+    ghost then = { λ step. OfCell (SwapsBare step.first) step.word };
+}
+
 pub struct SwapCell;
 
 impl Play<ValueFraction, View> for SwapCell {
@@ -307,10 +343,22 @@ impl Play<ValueFraction, View> for FreeCell {
     ghost then = { λ step. FreesOwn step.word };
 }
 
+pub struct FreeBareCell;
+
+impl Play<ValueFraction, View> for FreeBareCell {
+    ghost then = { λ step. FreesOwnBare step.word };
+}
+
 pub struct LearnCell;
 
 impl GhostUpdateBeside<ValueFraction, View> for LearnCell {
     ghost then = { RecallsCell };
+}
+
+pub struct FindCell;
+
+impl GhostUpdateBeside<ValueFraction, View> for FindCell {
+    ghost then = { FindsRight };
 }
 
 pub struct DrawUnit;

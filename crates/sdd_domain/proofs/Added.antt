@@ -31,9 +31,9 @@ use Rattle.sdd_domain.proofs.Refusals.{IsBack, back_keeps, back_sound, back_tied
 use Rattle.sdd_domain.proofs.Sound.{sound_then}
 use Rattle.sdd_domain.proofs.Words.{counts_of, plain_more}
 
-module _ {T : Type 0} (v : LocalModel T) (m : LocalState) (k : ℕ) (tied : WordsMatchValues v.member v.entries)
+module _ {T J : Type 0} (v : LocalModel T J) (m : LocalState J) (k : ℕ) (tied : WordsMatchValues v.member v.entries)
     (recalled : IsLone v.member → (g : Gv) × KnowsOwner v.member k true g) where
-  abbrev later : LocalModel T
+  abbrev later : LocalModel T J
   later = record { member = m; entries = v.entries }
 
   -- so many owners its word tells
@@ -56,7 +56,7 @@ module _ {T : Type 0} (v : LocalModel T) (m : LocalState) (k : ℕ) (tied : Word
     added_only = words_only m v.member (rewritten v k (word + 1)).words is.member
 
     lone_then : IsLone m → IsLone v.member
-    lone_then one = sym (ap (λ (y : LocalState). y.limits.participants) added_only) ∙ one
+    lone_then one = sym (ap (λ (y : LocalState J). y.limits.participants) added_only) ∙ one
 
     module _ (lone : IsLone v.member) where
       -- the word then
@@ -73,30 +73,30 @@ module _ {T : Type 0} (v : LocalModel T) (m : LocalState) (k : ℕ) (tied : Word
       few_before = let found = ap alive (is.lone lone) in let few = is.few in omega arith
 
       pub added_tied_then : AreTied m v.entries
-      added_tied_then = let told = recalled lone in subst (λ (y : LocalState). AreTied y v.entries) (sym is.member)
+      added_tied_then = let told = recalled lone in subst (λ (y : LocalState J). AreTied y v.entries) (sym is.member)
           (tied_recounted v (tied lone) k true told.0 told.1 (word + 1) more_lives more_now.2)
 
       pub added_world : world_of later ≡ with_standing (world_of v) k (Shared (owners + 1))
-      added_world = let told = recalled lone in ap (λ (y : LocalState). world_of (record { member = y; entries = v.entries })) is.member
+      added_world = let told = recalled lone in ap (λ (y : LocalState J). world_of (record { member = y; entries = v.entries })) is.member
           ∙ world_recounted v (tied lone) k true told.0 told.1 (word + 1) more_lives more_now.2 more_now.0 (owners + 1) more_now.1
 
       added_value : (i : ℕ) (u : T) → value_at (world_of v) i ≡ Some u → value_at (world_of later) i ≡ Some u
       added_value i u was = let told = recalled lone in
-          ap (λ (y : LocalState). value_at (world_of (record { member = y; entries = v.entries })) i) is.member
+          ap (λ (y : LocalState J). value_at (world_of (record { member = y; entries = v.entries })) i) is.member
           ∙ value_recounted v (tied lone) k true told.0 told.1 (word + 1) more_lives more_now.2 i u was
 
     added_tied : WordsMatchValues m v.entries
     added_tied one = added_tied_then (lone_then one)
 
     added_sound : (holds : T → List OwnerOrCell) → IsSound holds v → IsSound holds later
-    added_sound holds sound = sound_then holds v m sound (ap (λ (y : LocalState). y.due) added_only ∙ sound.settled) (ap home_in added_only)
+    added_sound holds sound = sound_then holds v m sound (ap (λ (y : LocalState J). y.due) added_only ∙ sound.settled) (ap home_in added_only)
         (λ one. let lone = lone_then one in subst (λ (w : World T). IsWhole w) (sym (added_world lone))
         (Whole-restands (world_of v) k (Shared (owners + 1)) (ap is_out (stands_before lone)) refl (sound.whole lone)))
 
     added_by : (shown : T → Gv) (holds : T → List OwnerOrCell) (b : Bool) → (IsTrue b → IsLone v.member) → (i : ℕ) (u : T) → ShowsBy b shown holds v i u
         → ShowsBy b shown holds later i u
     added_by shown holds true lone i u h = added_value (lone refl) i u h
-    added_by shown holds false lone i u h = subst (λ (y : LocalState). space.SeesValue shown holds y i u) (sym added_only) h
+    added_by shown holds false lone i u h = subst (λ (y : LocalState J). space.SeesValue shown holds y i u) (sym added_only) h
 
     added_keeps : (shown : T → Gv) (holds : T → List OwnerOrCell) → KeepsShown (Shows shown holds v) (Shows shown holds later)
     added_keeps shown holds i u h = subst (λ (b : Bool). ShowsBy b shown holds later i u) (ap is_lone (sym added_only))
@@ -136,18 +136,18 @@ module _ {T : Type 0} (v : LocalModel T) (m : LocalState) (k : ℕ) (tied : Word
     answered_keeps shown holds (Ok other) a = added_keeps a.0 a.1.0 shown holds
     answered_keeps shown holds (Err e) a = back_keeps v m v.entries (most_back a.0 a.1.1) shown holds
 
-    module _ (p : LocalModel T) (same : v ≡ p) where
+    module _ (p : LocalModel T J) (same : v ≡ p) where
       pub answered_undisturbed : (shown : T → Gv) (holds : T → List OwnerOrCell) (r : Result Right Refused) → Answers r
-          → Undisturbed seat_of (λ (q : LocalModel T). q.member.own) known_of (λ (q : LocalModel T). Shows shown holds q) p later
+          → Undisturbed seat_of (λ (q : LocalModel T J). q.member.own) known_of (λ (q : LocalModel T J). Shows shown holds q) p later
       answered_undisturbed shown holds r a = words_undisturbed v m (answered_only r a) shown holds p same (answered_keeps shown holds r a)
 
       pub answered_exact : (r : Result Right Refused) → Answers r → IsTrue (is_lone p.member)
           → (n : ℕ) × IsSharedBy n (standing_at (world_of p) k) × MatchResult r
           (λ _. (n < 2 ^ 62) × (world_of later ≡ with_standing (world_of p) k (Shared (n + 1))))
           (λ e. (n ≡ 2 ^ 62) × (e ≡ TooManyOwners) × (world_of later ≡ world_of p))
-      answered_exact r a exact = let lone : IsLone v.member = lone_is v.member (subst (λ (q : LocalModel T). IsTrue (is_lone q.member)) (sym same) exact) in (
+      answered_exact r a exact = let lone : IsLone v.member = lone_is v.member (subst (λ (q : LocalModel T J). IsTrue (is_lone q.member)) (sym same) exact) in (
         owners,
-        subst (λ (q : LocalModel T). IsSharedBy owners (standing_at (world_of q) k)) same (shared_before lone),
+        subst (λ (q : LocalModel T J). IsSharedBy owners (standing_at (world_of q) k)) same (shared_before lone),
         by r a lone,
       )
         where
@@ -156,7 +156,7 @@ module _ {T : Type 0} (v : LocalModel T) (m : LocalState) (k : ℕ) (tied : Word
               (λ e. (owners ≡ 2 ^ 62) × (e ≡ TooManyOwners) × (world_of later ≡ world_of p))
           by (Ok other) a lone = (
             few_before a.0 a.1.0 lone,
-            added_world a.0 a.1.0 lone ∙ ap (λ (q : LocalModel T). with_standing (world_of q) k (Shared (owners + 1))) same,
+            added_world a.0 a.1.0 lone ∙ ap (λ (q : LocalModel T J). with_standing (world_of q) k (Shared (owners + 1))) same,
           )
           by (Err e) a lone = (
             many_before a.0 a.1.1 lone,

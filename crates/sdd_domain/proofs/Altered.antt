@@ -65,7 +65,7 @@ is_opened : (own : Participant) → 0 < own.guards → IsTrue (is_open own)
 is_opened own some_open = grind arith
 
 -- an own guard is one of the world's
-pub opened_there : {T : Type 0} (p : LocalModel T) → HasOpenGuard p.member → AnyGuardOpen (world_of p)
+pub opened_there : {T J : Type 0} (p : LocalModel T J) → HasOpenGuard p.member → AnyGuardOpen (world_of p)
 opened_there p some_open = (
   p.member.place,
   p.member.own,
@@ -74,14 +74,14 @@ opened_there p some_open = (
   is_opened p.member.own some_open,
 )
 
-pub quiet_there : {T : Type 0} (p : LocalModel T) → ¬ (HasOpenGuard p.member) → ¬ (AnyGuardOpen (world_of p))
+pub quiet_there : {T J : Type 0} (p : LocalModel T J) → ¬ (HasOpenGuard p.member) → ¬ (AnyGuardOpen (world_of p))
 quiet_there p shut = (shut_there p).0 (omega (arith, shut))
 
 -- the item of an owner, of which a lone participant knows
-module _ {T : Type 0} (v p : LocalModel T) (same : v ≡ p) (tied : WordsMatchValues v.member v.entries) (k : ℕ) (kind : StandingKind)
+module _ {T J : Type 0} (v p : LocalModel T J) (same : v ≡ p) (tied : WordsMatchValues v.member v.entries) (k : ℕ) (kind : StandingKind)
     (recalled : IsLone v.member → (g : Gv) × KnowsOwner v.member k (is_shared kind) g) where
   pub lone_before : IsTrue (is_lone p.member) → IsLone v.member
-  lone_before exact = lone_is v.member (subst (λ (q : LocalModel T). IsTrue (is_lone q.member)) (sym same) exact)
+  lone_before exact = lone_is v.member (subst (λ (q : LocalModel T J). IsTrue (is_lone q.member)) (sym same) exact)
 
   -- so many owners its word tells
   abbrev owners : ℕ
@@ -89,7 +89,7 @@ module _ {T : Type 0} (v p : LocalModel T) (same : v ≡ p) (tied : WordsMatchVa
 
   stands_there : IsTrue (is_lone p.member) → standing_at (world_of p) k ≡ Some (if is_shared kind then Shared owners else Owned)
   stands_there exact = let lone = lone_before exact in let told = recalled lone in
-      ap (λ (q : LocalModel T). standing_at (world_of q) k) (sym same) ∙ stands v (tied lone) k (is_shared kind) told.0 told.1
+      ap (λ (q : LocalModel T J). standing_at (world_of q) k) (sym same) ∙ stands v (tied lone) k (is_shared kind) told.0 told.1
 
   pub owned_there : IsTrue (is_lone p.member) → IsOwnedBy kind (standing_at (world_of p) k)
   owned_there exact = let lone = lone_before exact in let told = recalled lone in subst (IsOwnedBy kind) (sym (stands_there exact))
@@ -108,7 +108,7 @@ module _ {T : Type 0} (v p : LocalModel T) (same : v ≡ p) (tied : WordsMatchVa
       subst IsAlone (sym (stands_there exact ∙ ap (λ (n : ℕ). Some (if is_shared kind then Shared n else Owned)) one)) (alone_as (is_shared kind))
 
   -- the owner isn't alone, or a guard is open: what that leaves, and why it is refused
-  module _ (m : LocalState) (es : Entries T) (set_is : es ≡ v.entries) where
+  module _ (m : LocalState J) (es : Entries T) (set_is : es ≡ v.entries) where
     abbrev pub Hinders : Refused → Type 0
     Hinders e = ((e ≡ NotAlone) × HasOthers k (is_shared kind) v.member m) ⊎ ((e ≡ GuardOpen) × SeesGuard k (is_shared kind) v.member m)
 
@@ -123,7 +123,7 @@ module _ {T : Type 0} (v p : LocalModel T) (same : v ≡ p) (tied : WordsMatchVa
         → IsAlone (standing_at (world_of p) k) × AnyGuardOpen (world_of p)
     guarded_there sees exact = (
       alone_there sees.sole exact,
-      opened_there p (subst (λ (q : LocalModel T). HasOpenGuard q.member) same (sees.guarded (lone_before exact))),
+      opened_there p (subst (λ (q : LocalModel T J). HasOpenGuard q.member) same (sees.guarded (lone_before exact))),
     )
 
     pub hindered_there : (e : Refused) → Hinders e → IsTrue (is_lone p.member) → RefusedInPlace (world_of p) k e
@@ -133,9 +133,9 @@ module _ {T : Type 0} (v p : LocalModel T) (same : v ≡ p) (tied : WordsMatchVa
         (λ (o : (e ≡ GuardOpen) × SeesGuard k (is_shared kind) v.member m). let there = guarded_there o.1 exact in inr (there.0, there.1, o.0)) h
 
   -- it goes beside others
-  module _ (m : LocalState) (beside : GoesBeside k (is_shared kind) v.member m) where
+  module _ (m : LocalState J) (beside : GoesBeside k (is_shared kind) v.member m) where
     lone_leaves : IsLone m → IsLone v.member
-    lone_leaves one = sym (ap (λ (y : LocalState). y.limits.participants) beside.leaves.member) ∙ one
+    lone_leaves one = sym (ap (λ (y : LocalState J). y.limits.participants) beside.leaves.member) ∙ one
 
     pub beside_tied : WordsMatchValues m v.entries
     beside_tied one = let lone = lone_leaves one in let told = recalled lone in
@@ -149,10 +149,10 @@ module _ {T : Type 0} (v p : LocalModel T) (same : v ≡ p) (tied : WordsMatchVa
         → world_of (record { member = m; entries = v.entries }) ≡ owner_given (world_of p) p.member.place k (standing_at (world_of p) k)
     beside_world exact = let lone = lone_before exact in let told = recalled lone in
         world_left v m k (is_shared kind) told.0 beside.word beside.leaves lone (tied lone) told.1
-        ∙ ap (λ (q : LocalModel T). owner_given (world_of q) q.member.place k (standing_at (world_of q) k)) same
+        ∙ ap (λ (q : LocalModel T J). owner_given (world_of q) q.member.place k (standing_at (world_of q) k)) same
 
   -- the last one doesn't go where a guard is open, or, where others share its domain, where those come and go
-  module _ (m : LocalState) where
+  module _ (m : LocalState J) where
     abbrev pub Stays : Refused → Type 0
     Stays e = ((e ≡ GuardOpen) × SeesGuard k (is_shared kind) v.member m)
         ⊎ ((e ≡ Contended) × (m ≡ v.member) × (is_shared kind ≡ true) × ¬ (IsLone v.member))
@@ -169,21 +169,22 @@ module _ {T : Type 0} (v p : LocalModel T) (same : v ≡ p) (tied : WordsMatchVa
     stays_there e h exact = let lone = lone_before exact in ⊎_elim
         (λ (h : (e ≡ GuardOpen) × SeesGuard k (is_shared kind) v.member m). (
           alone_there h.1.sole exact,
-          subst (λ (q : LocalModel T). HasOpenGuard q.member) same (h.1.guarded lone),
+          subst (λ (q : LocalModel T J). HasOpenGuard q.member) same (h.1.guarded lone),
           h.0,
           back_world v m v.entries (sees_back m v.entries refl h.1) lone ∙ ap world_of same,
         ))
         (λ (h : (e ≡ Contended) × (m ≡ v.member) × (is_shared kind ≡ true) × ¬ (IsLone v.member)). absurd (h.3 lone)) h
 
 -- an item was changed
-module _ (R : RattleType) (holds : R.Denot → List OwnerOrCell) (v p : LocalModel R.Denot) (same : v ≡ p) (tied : WordsMatchValues v.member v.entries)
+module _ {J : Type 0} (R : RattleType) (holds : R.Denot → List OwnerOrCell) (v p : LocalModel R.Denot J) (same : v ≡ p)
+    (tied : WordsMatchValues v.member v.entries)
     (codes : (place : ℕ) (y : R.Denot) (g : Gv) → slice_index_or v.entries place None ≡ Some (y, g) → g ≡ showing R y)
     (right : Right) (kind : StandingKind)
     (recalled : IsLone v.member → (g : Gv) × HasValue g right × KnowsOwner v.member (number_of right) (is_shared kind) g)
-    (was now : R.Denot) (has : HasValue (showing R was) right) (m : LocalState) (es : Entries R.Denot)
+    (was now : R.Denot) (has : HasValue (showing R was) right) (m : LocalState J) (es : Entries R.Denot)
     (is : ChangesAt (number_of right) (is_shared kind) (showing R now) v.member m)
     (set_is : es ≡ set v.entries (number_of right) (Some (now, showing R now))) where
-  abbrev after : LocalModel R.Denot
+  abbrev after : LocalModel R.Denot J
   after = record { member = m; entries = es }
 
   abbrev known : IsLone v.member → (g : Gv) × KnowsOwner v.member (number_of right) (is_shared kind) g
@@ -203,7 +204,7 @@ module _ (R : RattleType) (holds : R.Denot → List OwnerOrCell) (v p : LocalMod
   })
 
   lone_then : IsLone m → IsLone v.member
-  lone_then one = sym (ap (λ (y : LocalState). y.limits.participants) change_only) ∙ one
+  lone_then one = sym (ap (λ (y : LocalState J). y.limits.participants) change_only) ∙ one
 
   pub change_tied : WordsMatchValues m es
   change_tied one = let lone = lone_then one in
@@ -214,7 +215,7 @@ module _ (R : RattleType) (holds : R.Denot → List OwnerOrCell) (v p : LocalMod
 
   pub change_sound : AreOf (home_in v.member) (holds now) → IsSound holds v → IsSound holds after
   change_sound at sound = let home = ap home_in change_only in record {
-    settled = ap (λ (z : LocalState). z.due) change_only ∙ sound.settled;
+    settled = ap (λ (z : LocalState J). z.due) change_only ∙ sound.settled;
     home = entered_home R holds v m es (number_of right) now set_is (subst (λ h. AreOf h (holds now)) (sym home) at) home sound;
     whole = λ one. let lone = lone_then one in subst (λ (w : World R.Denot). IsWhole w) (sym (change_world lone))
         (Whole-with_value (world_of v) (number_of right) now
@@ -223,21 +224,21 @@ module _ (R : RattleType) (holds : R.Denot → List OwnerOrCell) (v p : LocalMod
 
   pub changed_there : IsTrue (is_lone p.member) → world_of after ≡ with_value (world_of p) (number_of right) now
   changed_there exact = change_world (lone_before v p same tied (number_of right) kind known exact)
-      ∙ ap (λ (q : LocalModel R.Denot). with_value (world_of q) (number_of right) now) same
+      ∙ ap (λ (q : LocalModel R.Denot J). with_value (world_of q) (number_of right) now) same
 
   pub was_there : IsTrue (is_lone p.member) → value_at (world_of p) (number_of right) ≡ Some was
   was_there exact = let lone = lone_before v p same tied (number_of right) kind known exact in
-      ap (λ (q : LocalModel R.Denot). value_at (world_of q) (number_of right)) (sym same)
+      ap (λ (q : LocalModel R.Denot J). value_at (world_of q) (number_of right)) (sym same)
       ∙ told_value R v (tied lone) codes (number_of right) (is_shared kind) was (knows lone)
 
   kept_by : (b : Bool) → (IsTrue b → IsLone v.member) → (i : ℕ) (u : R.Denot) → i ≢ number_of right → ShowsBy b (showing R) holds v i u
       → ShowsBy b (showing R) holds after i u
   kept_by true lone i u other h = ap (λ (w : World R.Denot). value_at w i) (change_world (lone refl))
       ∙ (get_or-set_other (world_of v).values (number_of right) i (Some now) None other ∙ h)
-  kept_by false lone i u other h = subst (λ (y : LocalState). space.SeesValue (showing R) holds y i u) (sym change_only) h
+  kept_by false lone i u other h = subst (λ (y : LocalState J). space.SeesValue (showing R) holds y i u) (sym change_only) h
 
   pub change_keeps : KeepsOthers (number_of right) (Shows (showing R) holds p) (Shows (showing R) holds after)
-  change_keeps i u other h = let before : Shows (showing R) holds v i u = subst (λ (q : LocalModel R.Denot). Shows (showing R) holds q i u) (sym same) h in
+  change_keeps i u other h = let before : Shows (showing R) holds v i u = subst (λ (q : LocalModel R.Denot J). Shows (showing R) holds q i u) (sym same) h in
       subst (λ (b : Bool). ShowsBy b (showing R) holds after i u) (ap is_lone (sym change_only))
       (kept_by (is_lone v.member) (λ exact. lone_is v.member exact) i u other before)
 
@@ -255,25 +256,25 @@ given_values w p k (Some Retired) = refl
 given_values w p k (Some (Private c)) = refl
 
 -- none was dropped
-module _ {T : Type 0} (shown : T → Gv) (holds : T → List OwnerOrCell) (p q : LocalModel T) (kept : kept_of q ≡ kept_of p) where
+module _ {T J : Type 0} (shown : T → Gv) (holds : T → List OwnerOrCell) (p q : LocalModel T J) (kept : kept_of q ≡ kept_of p) where
   lone_still : IsLone q.member → IsLone p.member
-  lone_still one = sym (ap (λ (x : LocalModel T). x.member.limits.participants) kept) ∙ one
+  lone_still one = sym (ap (λ (x : LocalModel T J). x.member.limits.participants) kept) ∙ one
 
   sound_by : (IsLone p.member → IsWhole (world_of p) → IsWhole (world_of q)) → IsSound holds p → IsSound holds q
-  sound_by whole sound = let home = ap (λ (x : LocalModel T). home_in x.member) kept in record {
-    settled = ap (λ (x : LocalModel T). x.member.due) kept ∙ sound.settled;
+  sound_by whole sound = let home = ap (λ (x : LocalModel T J). home_in x.member) kept in record {
+    settled = ap (λ (x : LocalModel T J). x.member.due) kept ∙ sound.settled;
     home = λ place value g there. subst (λ h. AreOf h (holds value)) (sym home)
-        (sound.home place value g (ap (λ (x : LocalModel T). slice_index_or x.entries place None) (sym kept) ∙ there));
+        (sound.home place value g (ap (λ (x : LocalModel T J). slice_index_or x.entries place None) (sym kept) ∙ there));
     whole = λ one. let lone = lone_still one in whole lone (sound.whole lone);
   }
 
   keeps_when : (IsLone p.member → (world_of q).values ≡ (world_of p).values) → (b : Bool) → (IsTrue b → IsLone p.member) → (i : ℕ) (u : T)
       → ShowsBy b shown holds p i u → ShowsBy b shown holds q i u
   keeps_when values true lone i u h = ap (λ (vs : List (Option T)). slice_index_or vs i None) (values (lone refl)) ∙ h
-  keeps_when values false lone i u h = subst (λ (x : LocalModel T). space.SeesValue shown holds x.member i u) (sym kept) h
+  keeps_when values false lone i u h = subst (λ (x : LocalModel T J). space.SeesValue shown holds x.member i u) (sym kept) h
 
   keeps_all : (IsLone p.member → (world_of q).values ≡ (world_of p).values) → KeepsShown (Shows shown holds p) (Shows shown holds q)
-  keeps_all values i u h = subst (λ (b : Bool). ShowsBy b shown holds q i u) (ap (λ (x : LocalModel T). is_lone x.member) (sym kept))
+  keeps_all values i u h = subst (λ (b : Bool). ShowsBy b shown holds q i u) (ap (λ (x : LocalModel T J). is_lone x.member) (sym kept))
       (keeps_when values (is_lone p.member) (λ exact. lone_is p.member exact) i u h)
 
   -- as its owner stayed
@@ -298,26 +299,26 @@ pub out_alone : (s : Option Standing) → IsAlone s → is_out s ≡ true
 out_alone s = ⊎_elim (λ (e : s ≡ Some Owned). ap is_out e) (λ (e : s ≡ Some (Shared 1)). ap is_out e)
 
 -- an item was dropped
-module _ {T : Type 0} (shown : T → Gv) (holds : T → List OwnerOrCell) (p q : LocalModel T) (kept : kept_of q ≡ kept_of (counted_in_place p)) (k : ℕ)
+module _ {T J : Type 0} (shown : T → Gv) (holds : T → List OwnerOrCell) (p q : LocalModel T J) (kept : kept_of q ≡ kept_of (counted_in_place p)) (k : ℕ)
     (world : IsLone p.member → world_of q ≡ dropped holds (world_of p) p.member.place k) where
   lone_kept : IsLone q.member → IsLone p.member
-  lone_kept one = sym (ap (λ (x : LocalModel T). x.member.limits.participants) kept) ∙ one
+  lone_kept one = sym (ap (λ (x : LocalModel T J). x.member.limits.participants) kept) ∙ one
 
   pub drop_sound : (IsLone p.member → is_out (standing_at (world_of p) k) ≡ true) → IsSound holds p → IsSound holds q
-  drop_sound out sound = let home = ap (λ (x : LocalModel T). home_in x.member) kept in record {
-    settled = ap (λ (x : LocalModel T). x.member.due) kept ∙ sound.settled;
+  drop_sound out sound = let home = ap (λ (x : LocalModel T J). home_in x.member) kept in record {
+    settled = ap (λ (x : LocalModel T J). x.member.due) kept ∙ sound.settled;
     home = λ place value g there. subst (λ h. AreOf h (holds value)) (sym home)
-        (sound.home place value g (ap (λ (x : LocalModel T). slice_index_or x.entries place None) (sym kept) ∙ there));
+        (sound.home place value g (ap (λ (x : LocalModel T J). slice_index_or x.entries place None) (sym kept) ∙ there));
     whole = λ one. let lone = lone_kept one in subst (λ (w : World T). IsWhole w) (sym (world lone))
         (Whole-dropped holds (world_of p) p.member.place k (live-taken (world_of p).time p.member.place (lives p)) (out lone) (sound.whole lone));
   }
 
   drop_by : (b : Bool) → (IsTrue b → IsLone p.member) → (i : ℕ) (u : T) → i ≢ k → ShowsBy b shown holds p i u → ShowsBy b shown holds q i u
   drop_by true lone i u other h = ap (λ (w : World T). value_at w i) (world (lone refl)) ∙ (dropped-others holds (world_of p) p.member.place k i other ∙ h)
-  drop_by false lone i u other h = subst (λ (x : LocalModel T). space.SeesValue shown holds x.member i u) (sym kept) h
+  drop_by false lone i u other h = subst (λ (x : LocalModel T J). space.SeesValue shown holds x.member i u) (sym kept) h
 
   pub drop_keeps : KeepsOthers k (Shows shown holds p) (Shows shown holds q)
-  drop_keeps i u other h = subst (λ (b : Bool). ShowsBy b shown holds q i u) (ap (λ (x : LocalModel T). is_lone x.member) (sym kept))
+  drop_keeps i u other h = subst (λ (b : Bool). ShowsBy b shown holds q i u) (ap (λ (x : LocalModel T J). is_lone x.member) (sym kept))
       (drop_by (is_lone p.member) (λ exact. lone_is p.member exact) i u other h)
 
 -- what came back is handed on
@@ -326,7 +327,7 @@ handed_on P Q (Ok a) e is holds = absurd is
 handed_on P Q (Err y) e is holds = subst Q (sym is) holds
 
 -- ---- for an answer: an owner went, as the last one or beside others, or stayed
-module _ {T : Type 0} (shown : T → Gv) (holds : T → List OwnerOrCell) (p q : LocalModel T) (k : ℕ) where
+module _ {T J : Type 0} (shown : T → Gv) (holds : T → List OwnerOrCell) (p q : LocalModel T J) (k : ℕ) where
   abbrev pub Kept : Result Bool (Right × Refused) → Type 0
   Kept r = MatchResult r (λ last. kept_of q ≡ kept_of (counted_where last p)) (λ _. kept_of q ≡ kept_of p)
 
@@ -354,7 +355,7 @@ module _ {T : Type 0} (shown : T → Gv) (holds : T → List OwnerOrCell) (p q :
   others_now (Ok false) kept world = λ i u other h. leave_keeps shown holds p q kept k (λ lone. (world lone).1) i u h
   others_now (Err e) kept world = λ i u other h. stay_keeps shown holds p q kept (λ lone. (world lone).3) i u h
 
-  abbrev pub Goes : LocalModel T → Result Bool (Right × Refused) → Type 0
+  abbrev pub Goes : LocalModel T J → Result Bool (Right × Refused) → Type 0
   Goes old r = MatchResult r
       (λ last. MatchBool last (MayInPlace (world_of old) k × (world_of q ≡ dropped holds (world_of old) old.member.place k))
       (IsTrue (has_others (standing_at (world_of old) k))
@@ -366,15 +367,15 @@ module _ {T : Type 0} (shown : T → Gv) (holds : T → List OwnerOrCell) (p q :
   goes_now (Ok false) world lone = world lone
   goes_now (Err e) world lone = let w = world lone in (w.0, opened_there p w.1, w.2, w.3)
 
-  module _ (old : LocalModel T) (same : p ≡ old) (r : Result Bool (Right × Refused)) (kept : Kept r) (world : Worlds r) where
+  module _ (old : LocalModel T J) (same : p ≡ old) (r : Result Bool (Right × Refused)) (kept : Kept r) (world : Worlds r) where
     pub gone_keeps : MatchResult r (λ last. ¬ (IsTrue last) → KeepsShown (Shows shown holds old) (Shows shown holds q))
         (λ _. KeepsShown (Shows shown holds old) (Shows shown holds q))
-    gone_keeps = subst (λ (x : LocalModel T). MatchResult r (λ last. ¬ (IsTrue last) → KeepsShown (Shows shown holds x) (Shows shown holds q))
+    gone_keeps = subst (λ (x : LocalModel T J). MatchResult r (λ last. ¬ (IsTrue last) → KeepsShown (Shows shown holds x) (Shows shown holds q))
         (λ _. KeepsShown (Shows shown holds x) (Shows shown holds q))) same (keeps_now r kept world)
 
     pub gone_others : KeepsOthers k (Shows shown holds old) (Shows shown holds q)
-    gone_others = subst (λ (x : LocalModel T). KeepsOthers k (Shows shown holds x) (Shows shown holds q)) same (others_now r kept world)
+    gone_others = subst (λ (x : LocalModel T J). KeepsOthers k (Shows shown holds x) (Shows shown holds q)) same (others_now r kept world)
 
     pub gone_worlds : IsTrue (is_lone old.member) → Goes old r
-    gone_worlds exact = subst (λ (x : LocalModel T). Goes x r) same
-        (goes_now r world (subst (λ (x : LocalModel T). IsLone x.member) (sym same) (lone_is old.member exact)))
+    gone_worlds exact = subst (λ (x : LocalModel T J). Goes x r) same
+        (goes_now r world (subst (λ (x : LocalModel T J). IsLone x.member) (sym same) (lone_is old.member exact)))

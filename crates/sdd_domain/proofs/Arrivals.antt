@@ -115,7 +115,7 @@ module _ (b : DomainTable) (p : ℕ) (own : Participant) (count : ℕ) where
       let lone : IsLone e → g ≡ count
       = λ one. pub_.4.3 (ap (λ (x : EpochView). x.all) read.1.0 ∙ one) ∙ ap (λ (x : EpochView). x.known) read.1.0 in (
         posed_arrived b p own own count g s.me.0.slots.waits s u q (pub_.0.0 ∙ read.0.0.0) (pub_.0.2 ∙ read.0.0.2) (pub_.0.3 ∙ read.0.0.3)
-            (λ i. record ((pub_.0.4 ∙ read.0.0.4) i) { counts = s.me.0.stakes.counts }) (pub_.0.5 ∙ read.0.0.5) epochs low lone keeps
+            (λ i. record ((pub_.0.4 ∙ read.0.0.4) i) { counts = s.me.0.stakes.counts }) (pub_.0.5 ∙ read.0.0.5) (pub_.0.6 ∙ read.0.0.6) epochs low lone keeps
             (λ i. omega arith) same shut q.bags refl q.pace q.idle,
         record {
           table = pub_.0.0 ∙ read.0.0.0;
@@ -160,7 +160,7 @@ module _ (b : DomainTable) (p : ℕ) (own : Participant) (count : ℕ) where
         ∙ (ap left (aged_alike (slots_of b) xs) ∙ left_alike (slots_of b) (map older xs)) in
         let idle : own.countdown ≡ 128 → left (aged own.bags.waiting) ≡ [] = λ full. ap (λ (ws : List Waiting). left (aged ws)) (q.idle full) in (
           posed_arrived b p own (rotated count own) count g (map older xs) s w q table others sizes
-              (λ i. record (stakes i) { counts = s.me.0.stakes.counts }) (pub_.0.5 ∙ (write.0.0.5 ∙ read.0.0.5)) epochs low lone older_now
+              (λ i. record (stakes i) { counts = s.me.0.stakes.counts }) (pub_.0.5 ∙ (write.0.0.5 ∙ read.0.0.5)) (pub_.0.6 ∙ (write.0.0.6 ∙ read.0.0.6)) epochs low lone older_now
               (λ i. let m = same_items i xs in omega arith)
               refl shut bags refl q.pace idle,
           record {
@@ -200,6 +200,7 @@ posed_settled b p own token none q = let paced : (settled own).countdown ≡ 128
   found = q.found;
   quiet = q.quiet;
   pledges = q.pledges;
+  rights = q.rights;
   waiting = q.waiting;
   bags = q.bags;
   room = q.room;

@@ -15,15 +15,15 @@ use Rattle.sdd_domain.proofs.Listings.{listing_set}
 use Rattle.sdd_domain.proofs.Owning.{sole_still, taken}
 use Rattle.sdd_domain.proofs.Words.{value_there}
 
-module _ {T : Type 0} (v : LocalModel T) (t : AreTied v.member v.entries) (k : ℕ) (shared : Bool) (was : Gv) (knows : KnowsOwner v.member k shared was)
-    (x : T) (g : Gv) (m : LocalState) (lone : IsLone v.member) (is : ChangesAt k shared g v.member m) where
+module _ {T J : Type 0} (v : LocalModel T J) (t : AreTied v.member v.entries) (k : ℕ) (shared : Bool) (was : Gv) (knows : KnowsOwner v.member k shared was)
+    (x : T) (g : Gv) (m : LocalState J) (lone : IsLone v.member) (is : ChangesAt k shared g v.member m) where
   abbrev r : ShownValue
   r = record { slot = k; shared = shared; value = g }
 
-  abbrev now : LocalState
+  abbrev now : LocalState J
   now = record v.member { filled = record { slot = k; shared = shared; value = g } ∷ v.member.filled }
 
-  abbrev later : LocalModel T
+  abbrev later : LocalModel T J
   later = record { member = now; entries = set v.entries k (Some (x, g)) }
 
   -- its word is as it was
@@ -50,6 +50,7 @@ module _ {T : Type 0} (v : LocalModel T) (t : AreTied v.member v.entries) (k : �
     place = t.place;
     slots = t.slots;
     places = t.places;
+    all_cells = t.all_cells;
     long = t.long;
     wide = length-set v.entries k (Some (x, g)) ∙ t.wide;
     plain = t.plain;
@@ -66,7 +67,7 @@ module _ {T : Type 0} (v : LocalModel T) (t : AreTied v.member v.entries) (k : �
   }
 
   pub tied_changed : (es : List (Option (T × Gv))) → es ≡ set v.entries k (Some (x, g)) → AreTied m es
-  tied_changed es set_is = subst (λ (z : LocalState × List (Option (T × Gv))). AreTied z.0 z.1) (λ d. (sym is_now d, sym set_is d)) tied_now
+  tied_changed es set_is = subst (λ (z : LocalState J × List (Option (T × Gv))). AreTied z.0 z.1) (λ d. (sym is_now d, sym set_is d)) tied_now
 
   -- the slot stands as it did
   world_now : world_of later ≡ with_value (world_of v) k x

@@ -56,6 +56,7 @@ module _ (b : DomainTable) (p : ℕ) (own : Participant) (s t : Seat ValueFracti
     found = q.found;
     quiet = record { owns = q.quiet.owns; drawn = q.quiet.drawn; holds = q.quiet.holds; looked = q.quiet.looked; over = q.quiet.over };
     pledges = q.pledges;
+    rights = q.rights;
     waiting = λ i some_wait. dite (ℕ_discrete (n + job) i) (λ e. subst (λ (k : ℕ). k < most_waiting_of b) e inside)
         (λ ne. q.waiting i (let o = is_other i (n + job) ne in let t = total_snoc (waits_in i) s.me.0.slots.waits (retired_now (n + job) d.0) in omega arith));
     bags = ap (λ (l : List Waiting). l ++ fresh (Job job) ∷ []) q.bags
@@ -88,6 +89,7 @@ module _ (b : DomainTable) (p : ℕ) (own : Participant) (s t : Seat ValueFracti
         found = q.found;
         quiet = record { owns = q.quiet.owns; drawn = q.quiet.drawn; holds = q.quiet.holds; looked = q.quiet.looked; over = q.quiet.over };
         pledges = q.pledges;
+        rights = q.rights;
         waiting = λ i some_wait. q.waiting i (let m = no_more (n + job) i s.me.0.slots.waits in omega arith);
         bags = q.bags ∙ ap (map (waiting_of n)) (sym goes.1);
         room = q.room;

@@ -22,9 +22,10 @@ use Rattle.sdd_domain.specs.Local.{LocalModel, listing, standing_by, value_by, s
 use Rattle.sdd_domain.proofs.Listings.{listing_set}
 use Rattle.sdd_domain.proofs.Owning.{entry, has_value}
 use Rattle.sdd_domain.proofs.Words.{word_same, word_other}
+use Rattle.sdd_domain.proofs.Alone.{cells_kept}
 
 -- an owner's item has the value that its owner tells
-module _ (R : RattleType) (v : LocalModel R.Denot) (t : AreTied v.member v.entries)
+module _ {J : Type 0} (R : RattleType) (v : LocalModel R.Denot J) (t : AreTied v.member v.entries)
     (codes : (place : ℕ) (y : R.Denot) (g : Gv) → slice_index_or v.entries place None ≡ Some (y, g) → g ≡ showing R y)
     (k : ℕ) (shared : Bool) (x : R.Denot) (knows : KnowsOwner v.member k shared (showing R x)) where
   pub told_value : value_at (world_of v) k ≡ Some x
@@ -32,17 +33,17 @@ module _ (R : RattleType) (v : LocalModel R.Denot) (t : AreTied v.member v.entri
       has_value v t k shared (showing R x) knows ∙ ap Some (one_showing R e.0.0 x (sym (codes k e.0.0 e.0.1 e.1) ∙ e.2))
 
   -- and is dropped
-  module _ (m : LocalState) (is : DropsAt k shared v.member m) where
+  module _ (m : LocalState J) (is : DropsAt k shared v.member m) where
     abbrev z : Sizes
     z = v.member.sizes
 
     abbrev ws : List ℕ
     ws = v.member.words
 
-    abbrev now : LocalState
+    abbrev now : LocalState J
     now = record v.member { tally = one_in_place v.member.tally; words = set v.member.words (behind v.member.sizes k) 0 }
 
-    abbrev then : LocalModel R.Denot
+    abbrev then : LocalModel R.Denot J
     then = record { member = now; entries = v.entries }
 
     here : k < v.member.sizes.slots
@@ -62,20 +63,21 @@ module _ (R : RattleType) (v : LocalModel R.Denot) (t : AreTied v.member v.entri
         let values : listing n (value_in then) ≡ set (listing n (value_in v)) k None
         = listing_set n (value_in v) (value_in then) k (λ i l ne. ap (λ (y : ℕ). value_by y (slice_index_or v.entries i None)) (other i ne))
         ∙ ap (λ (y : ℕ). set (listing n (value_in v)) k (value_by y (slice_index_or v.entries k None))) same in
-        λ d. record (world_of then) { standings = standings d; values = values d }
+        λ d. record (world_of then) { standings = standings d; values = values d; cells = cells_kept v.member.limits.cells z ws k 0 t.all_cells d }
 
     -- what the value gives up then is what the dropping does
     pub drops_now : (holds : R.Denot → List OwnerOrCell) → dropped holds (world_of v) v.member.place k
         ≡ given_all (world_of (record { member = m; entries = v.entries })) m.place (holds x)
     drops_now holds = ap (dropped_out holds (world_of v) v.member.place k) told_value
         ∙ (ap (λ (w : World R.Denot). given_all w v.member.place (holds x)) (sym vacated_is)
-        ∙ ap (λ (y : LocalState). given_all (world_of (record { member = y; entries = v.entries })) y.place (holds x)) (sym is.member))
+        ∙ ap (λ (y : LocalState J). given_all (world_of (record { member = y; entries = v.entries })) y.place (holds x)) (sym is.member))
 
     tied_now : AreTied now v.entries
     tied_now = let quiet = (sound.lives (word_of v.member k) knows.alive).0 in record {
       place = t.place;
       slots = t.slots;
       places = t.places;
+      all_cells = t.all_cells;
       long = length-set ws (behind z k) 0 ∙ t.long;
       wide = t.wide;
       plain = λ i l. dite (ℕ_discrete i k) (λ e. subst (λ (w : ℕ). IsTrue (is_plain_word w)) (sym (ap (word_of now) e ∙ same)) refl)
@@ -96,4 +98,4 @@ module _ (R : RattleType) (v : LocalModel R.Denot) (t : AreTied v.member v.entri
     }
 
     pub tied_dropped : AreTied m v.entries
-    tied_dropped = subst (λ (y : LocalState). AreTied y v.entries) (sym is.member) tied_now
+    tied_dropped = subst (λ (y : LocalState J). AreTied y v.entries) (sym is.member) tied_now

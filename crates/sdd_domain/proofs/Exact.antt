@@ -33,30 +33,31 @@ closed_last own last = let a : nat_lt 1 own.guards ≡ false = ap (nat_lt 1) las
     (if is_open own then record own { guards = 0; countdown = counted_down false own.countdown } else own))) a
     ∙ ap (λ (c : Bool). is_open (if c then record own { guards = 0; countdown = counted_down false own.countdown } else own)) b
 
-pub lone_is : (m : LocalState) → IsTrue (is_lone m) → IsLone m
+pub lone_is : {J : Type 0} (m : LocalState J) → IsTrue (is_lone m) → IsLone m
 lone_is m exact = grind arith
 
 -- where a guard is open after a close, it wasn't the last
-pub still_guarded : (old new : LocalState) → GuardCloses old new → IsTrue (is_open new.own) → old.own.guards ≢ 1
-still_guarded old new is opens last = let own = ap (λ (m : LocalState). m.own) is.member in
+pub still_guarded : {J : Type 0} (old new : LocalState J) → GuardCloses old new → IsTrue (is_open new.own) → old.own.guards ≢ 1
+still_guarded old new is opens last = let own = ap (λ (m : LocalState _). m.own) is.member in
     let none : is_open (closed_with false old.own) ≡ false = closed_last old.own last in
     absurd (true≢false (sym opens ∙ (ap is_open own ∙ none)))
 
 -- the close of the only guard leaves none
-pub closed_none : (old new : LocalState) → GuardCloses old new → old.own.guards ≡ 1 → ¬ (HasOpenGuard new)
+pub closed_none : {J : Type 0} (old new : LocalState J) → GuardCloses old new → old.own.guards ≡ 1 → ¬ (HasOpenGuard new)
 closed_none old new is last some_open = absurd (still_guarded old new is (open_guards new.own some_open) last)
 
-pub guarded_is : {T : Type 0} (v p : LocalModel T) → v ≡ p → IsTrue (is_open p.member.own) → HasOpenGuard v.member
-guarded_is v p is opens = subst (λ (q : LocalModel _). HasOpenGuard q.member) (sym is) (grind arith)
+pub guarded_is : {T J : Type 0} (v p : LocalModel T J) → v ≡ p → IsTrue (is_open p.member.own) → HasOpenGuard v.member
+guarded_is v p is opens = subst (λ (q : LocalModel _ _). HasOpenGuard q.member) (sym is) (grind arith)
 
 -- ---- an opening
-module _ {T : Type 0} (v : LocalModel T) where
+module _ {T J : Type 0} (v : LocalModel T J) where
   pub tied_nested : AreTied v.member v.entries → HasOpenGuard v.member → AreTied (record v.member { own = time.nested v.member.own }) v.entries
   tied_nested t some_open = record {
     place = t.place;
     slots = t.slots;
     long = t.long;
     places = t.places;
+    all_cells = t.all_cells;
     wide = t.wide;
     table = t.table;
     jobs = t.jobs;
@@ -68,12 +69,13 @@ module _ {T : Type 0} (v : LocalModel T) where
     now = λ _. t.now some_open;
   }
 
-  pub tied_settled : (m : LocalState) → AreTied m v.entries → AreTied (record m { own = time.settled m.own }) v.entries
+  pub tied_settled : (m : LocalState J) → AreTied m v.entries → AreTied (record m { own = time.settled m.own }) v.entries
   tied_settled m t = record {
     place = t.place;
     slots = t.slots;
     long = t.long;
     places = t.places;
+    all_cells = t.all_cells;
     wide = t.wide;
     table = t.table;
     jobs = t.jobs;
@@ -93,7 +95,7 @@ module _ {T : Type 0} (v : LocalModel T) where
         v.member.place)
         (ap time.is_open (sym (own_is_place v)) ∙ open_guards v.member.own some_open))
 
-    module _ (t : AreTied v.member v.entries) (settled : v.member.due ≡ []) (count : ℕ) (m : LocalState) (one : IsLone v.member)
+    module _ (t : AreTied v.member v.entries) (settled : v.member.due ≡ []) (count : ℕ) (m : LocalState J) (one : IsLone v.member)
         (shut : v.member.own.guards ≡ 0) (is : IsEntered count v.member m) where
       -- the outermost one finds the count that it found before
       pub opens_same : v.member.own.found ≡ v.member.known → alone (record { member = m; entries = v.entries }) ≡ opened holds (alone v) 0
@@ -104,13 +106,13 @@ module _ {T : Type 0} (v : LocalModel T) where
       -- or another one: then all that is due is reclaimed
       pub opens_changed : v.member.own.found ≢ v.member.known
           → steps.settled (all_reclaimed holds (alone (record { member = m; entries = v.entries })) 0 m.due) 0 ≡ opened holds (alone v) 0
-      opens_changed ne = let due : m.due ≡ time.due_next v.member.own = ap (λ (x : LocalState). x.due) (is_changed_member v t settled count m one is ne) in
+      opens_changed ne = let due : m.due ≡ time.due_next v.member.own = ap (λ (x : LocalState J). x.due) (is_changed_member v t settled count m one is ne) in
           (λ d. steps.settled (all_reclaimed holds (enters_changed v t settled count m one is ne d) 0 (due d)) 0)
           ∙ sym (ap (λ (b : Bool). if b then nested (alone v) 0 else caught_up holds (nested (alone v) 0) 0) (closed_guards v.member.own shut)
           ∙ ap (λ (b : Bool). if not b then changed holds (nested (alone v) 0) 0 else nested (alone v) 0) (ne_eqb v.member.own.found v.member.known ne))
 
       place_first : m.place ≡ 0
-      place_first = ap (λ (x : LocalState). x.place) is.member ∙ t.place
+      place_first = ap (λ (x : LocalState J). x.place) is.member ∙ t.place
 
       -- the same of its world, wherever it sits
       pub opened_same : v.member.own.found ≡ v.member.known → world_of (record { member = m; entries = v.entries }) ≡ opened holds (world_of v) v.member.place
@@ -125,19 +127,19 @@ module _ {T : Type 0} (v : LocalModel T) where
           ∙ (opens_changed ne ∙ (λ d. opened holds (sym (alone_is v t.place) d) (sym t.place d))))
 
       -- or nothing waited: then it is decided at once
-      pub opened_idle : v.member.own.found ≢ v.member.known → m.due ≡ [] → (n : LocalState) → n ≡ record m { own = time.settled m.own }
+      pub opened_idle : v.member.own.found ≢ v.member.known → m.due ≡ [] → (n : LocalState J) → n ≡ record m { own = time.settled m.own }
           → world_of (record { member = n; entries = v.entries }) ≡ opened holds (world_of v) v.member.place
-      opened_idle ne none n is_settled = let p : LocalModel T = record { member = m; entries = v.entries } in
+      opened_idle ne none n is_settled = let p : LocalModel T J = record { member = m; entries = v.entries } in
           opened_changed ne (world_of (record { member = n; entries = v.entries }))
-          (ap (λ (y : LocalState). world_of (record { member = y; entries = v.entries })) is_settled
+          (ap (λ (y : LocalState J). world_of (record { member = y; entries = v.entries })) is_settled
           ∙ (steps_alone (λ (w : World T) (k : ℕ). steps.settled w k) p (record p { member = record m { own = time.settled m.own } }) place_first place_first
           refl
           ∙ (λ d. steps.settled (all_reclaimed holds (world_of p) m.place (sym none d)) m.place)))
 
-module _ {T : Type 0} (v : LocalModel T) (m : LocalState) where
+module _ {T J : Type 0} (v : LocalModel T J) (m : LocalState J) where
   module _ (shown : T → Gv) (holds : T → List OwnerOrCell) where
     -- a close under which a guard stays open
-    pub keeps_closed : (p : LocalModel T) → v ≡ p → (own : Participant) (known : ℕ)
+    pub keeps_closed : (p : LocalModel T J) → v ≡ p → (own : Participant) (known : ℕ)
         → m ≡ record v.member { own = own; known = known; slots = m.slots; shown = m.shown } → m.slots ≡ v.member.slots → m.shown ≡ v.member.shown
         → KeepsShown (Shows shown holds p) (Shows shown holds (record v { member = m }))
     keeps_closed p is own known changed slots seen = keeps_own shown holds v p is m own known v.member.since

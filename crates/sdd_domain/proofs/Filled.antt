@@ -21,7 +21,7 @@ none_by false true raw s e f is = cc
 none_by false false true s e f is = cc
 none_by false false false s e f is = cc
 
-module _ {T : Type 0} (p : LocalModel T) where
+module _ {T J : Type 0} (p : LocalModel T J) where
   slots : ℕ
   slots = p.member.limits.slots
 

@@ -1,13 +1,11 @@
 -- What is given up waits with the participant
-use Rattle.std.proofs.Common.{◌≡◌, ℕ, zero, suc, List, [], ◌∷◌, ◌++◌, Option, None, replicate, slice_index_or, slice_set, refl, sym, ap, ◌∙◌, arith}
+use Rattle.std.proofs.Common.{◌≡◌, ℕ, List, [], ◌∷◌, ◌++◌, refl, ap, ◌∙◌, arith}
 use Rattle.sdd_participants.specs.declared.waiting.LimboEntry.{LimboEntry}
 use Rattle.sdd_participants.specs.declared.waiting.LimboEntry.TheVariants.{Item}
 use Rattle.sdd_participants.specs.declared.participant.Participant.{Participant}
 use Rattle.sdd_participants.specs.EpochState.{awaiting}
 use Rattle.sdd_space.specs.KnownEpochs.{KnownEpochs, KnowsOn}
 use Rattle.sdd_space.specs.ParticipantChanges.{all_awaiting, KeepsMoreWaiting}
-use Rattle.sdd_space.specs.WorldChanges.{cell_closed, spilled, held_in}
-use Rattle.sdd_domain.specs.Local.{LocalModel, world_of}
 
 one_more : (ks : List ℕ) (k : ℕ) (p : Participant) → awaiting (Item k) (all_awaiting ks p) ≡ all_awaiting (ks ++ k ∷ []) p
 one_more [] k p = refl
@@ -27,19 +25,3 @@ given_of (x ∷ xs) old new grows none = let g = grows old ([], refl) in (g.0, g
 
 pub knows_more : (a b c : KnownEpochs) → KnowsOn a b → KnowsOn b c → KnowsOn a c
 knows_more a b c u v = let t = u.told in let s = v.told in record { told = omega arith; since = v.since ∙ u.since }
-
--- ---- a cell that is given: there is none in a domain
-module _ {E : Type 0} where
-  none_at : (n c : ℕ) → slice_index_or {A = Option E} (replicate n None) c None ≡ None
-  none_at zero c = refl
-  none_at (suc n) zero = refl
-  none_at (suc n) (suc c) = none_at n c
-
-  none_set : (n c : ℕ) → slice_set {A = Option E} (replicate n None) c None ≡ replicate n None
-  none_set zero c = refl
-  none_set (suc n) zero = refl
-  none_set (suc n) (suc c) = ap (λ (es : List (Option E)). None ∷ es) (none_set n c)
-
-pub no_cell_closed : {T : Type 0} (p : LocalModel T) (place c : ℕ) → world_of p ≡ cell_closed (world_of p) place c
-no_cell_closed p place c = let n : ℕ = p.member.limits.cells in
-    sym (λ d. spilled (record (world_of p) { cells = none_set n c d }) place (held_in (none_at n c d)))

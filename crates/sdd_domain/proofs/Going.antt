@@ -32,6 +32,7 @@ use Rattle.sdd_domain.specs.Local.{LocalModel, listing, standing_by, value_by, s
 use Rattle.sdd_domain.proofs.Listings.{listing_at, listing_set}
 use Rattle.sdd_domain.proofs.Reclaims.{first_goes}
 use Rattle.sdd_domain.proofs.Words.{word_same, word_other, stands_retired, value_there, waiting_taken}
+use Rattle.sdd_domain.proofs.Alone.{cells_kept}
 
 value_or : Gv → Option ShownValue → Gv
 value_or g None = g
@@ -45,9 +46,9 @@ entry_of g (Some r) None slot shared is a = absurd a
 entry_of g (Some r) (Some x) slot shared is a = (x, refl, a ∙ ap (value_or g) is)
 
 -- an item of its slot goes
-module _ (R : RattleType) (p : LocalModel R.Denot) (t : AreTied p.member p.entries)
+module _ {J : Type 0} (R : RattleType) (p : LocalModel R.Denot J) (t : AreTied p.member p.entries)
     (codes : (place : ℕ) (y : R.Denot) (g : Gv) → slice_index_or p.entries place None ≡ Some (y, g) → g ≡ showing R y)
-    (slot : ℕ) (x : R.Denot) (m : LocalState) (is : Reclaims slot (showing R x) p.member m) (one : IsLone p.member) where
+    (slot : ℕ) (x : R.Denot) (m : LocalState J) (is : Reclaims slot (showing R x) p.member m) (one : IsLone p.member) where
   abbrev n : ℕ
   n = p.member.limits.slots
 
@@ -57,7 +58,7 @@ module _ (R : RattleType) (p : LocalModel R.Denot) (t : AreTied p.member p.entri
   abbrev ws : List ℕ
   ws = p.member.words
 
-  abbrev now : LocalState
+  abbrev now : LocalState J
   now = record p.member {
     tally = one_reclaimed p.member.tally;
     slots = record p.member.slots { waits = without_item slot p.member.slots.waits };
@@ -65,7 +66,7 @@ module _ (R : RattleType) (p : LocalModel R.Denot) (t : AreTied p.member p.entri
     due = m.due;
   }
 
-  abbrev then : LocalModel R.Denot
+  abbrev then : LocalModel R.Denot J
   then = record { member = now; entries = p.entries }
 
   here : slot < p.member.sizes.slots
@@ -104,7 +105,11 @@ module _ (R : RattleType) (p : LocalModel R.Denot) (t : AreTied p.member p.entri
       let values : listing n (value_in then) ≡ set (listing n (value_in p)) slot None
       = listing_set n (value_in p) (value_in then) slot (λ i l ne. ap (λ (v : ℕ). value_by v (slice_index_or p.entries i None)) (other i ne))
       ∙ ap (λ (v : ℕ). set (listing n (value_in p)) slot (value_by v (slice_index_or p.entries slot None))) same in
-      λ d. record (world_of then) { standings = standings d; values = values d }
+      λ d. record (world_of then) {
+        standings = standings d;
+        values = values d;
+        cells = cells_kept p.member.limits.cells p.member.sizes p.member.words slot 0 t.all_cells d;
+      }
 
   goes_now : (holds : R.Denot → List OwnerOrCell) → slot_reclaimed holds (world_of p) p.member.place slot
       ≡ given_all (world_of then) p.member.place (holds x)
@@ -121,6 +126,7 @@ module _ (R : RattleType) (p : LocalModel R.Denot) (t : AreTied p.member p.entri
     place = t.place;
     slots = t.slots;
     places = t.places;
+    all_cells = t.all_cells;
     long = length-set ws (behind z slot) 0 ∙ t.long;
     wide = t.wide;
     plain = λ i l. dite (ℕ_discrete i slot) (λ e. subst (λ (w : ℕ). IsTrue (is_plain_word w)) (sym (ap (word_of now) e ∙ same)) refl)
@@ -141,10 +147,10 @@ module _ (R : RattleType) (p : LocalModel R.Denot) (t : AreTied p.member p.entri
   }
 
   pub tied_then : AreTied m p.entries
-  tied_then = subst (λ (y : LocalState). AreTied y p.entries) (sym is.member) tied_now
+  tied_then = subst (λ (y : LocalState J). AreTied y p.entries) (sym is.member) tied_now
 
   -- what it gives up then is what the reclaiming of the item does
   pub reclaims_one : (holds : R.Denot → List OwnerOrCell) → reclaimed holds (world_of p) p.member.place (Item slot)
       ≡ given_all (world_of (record { member = m; entries = p.entries })) p.member.place (holds x)
   reclaims_one holds = goes_now holds
-      ∙ ap (λ (y : LocalState). given_all (world_of (record { member = y; entries = p.entries })) p.member.place (holds x)) (sym is.member)
+      ∙ ap (λ (y : LocalState J). given_all (world_of (record { member = y; entries = p.entries })) p.member.place (holds x)) (sym is.member)

@@ -31,7 +31,7 @@ use Rattle.sdd_domain.proofs.Reclaims.{either_way}
 use Rattle.sdd_domain.proofs.Sound.{lives, sound_opened}
 
 -- an opening that goes on has entered, and one that is over, unless nothing waited
-module _ (count : ℕ) (b : Bool) (old m new : LocalState) (is : IsEntered count old m) (goes : GoesOn count b old m new) where
+module _ {J : Type 0} (count : ℕ) (b : Bool) (old m new : LocalState J) (is : IsEntered count old m) (goes : GoesOn count b old m new) where
   pub goes_on : b ≡ true → (old.own.found ≢ count) × IsEntered count old new
   goes_on told = let g = goes.change told in (g.0, subst (IsEntered count old) (sym g.1) is)
 
@@ -62,20 +62,20 @@ one_before : (count : ℕ) (own : Participant) → own.guards ≡ 0 → (time.ne
 one_before count own shut = let o = as_open count own in omega arith
 
 -- what is known after an opening
-pub record Stands (count : ℕ) (old new : LocalState) : Type 0 where
+pub record Stands {J : Type 0} (count : ℕ) (old new : LocalState J) : Type 0 where
   pub limits : new.limits ≡ old.limits
   pub found : new.own.found ≡ count
   pub known : new.known ≡ new.since
   pub knows : count ≤ new.since
   pub one : old.own.guards ≡ 0 → new.own.guards ≡ 1
 
-pub stands : (count : ℕ) (b : Bool) (old m new : LocalState) → IsEntered count old m → GoesOn count b old m new → Stands count old new
+pub stands : {J : Type 0} (count : ℕ) (b : Bool) (old m new : LocalState J) → IsEntered count old m → GoesOn count b old m new → Stands count old new
 stands count b old m new is goes = let there : Stands count old m = record {
-  limits = ap (λ (y : LocalState). y.limits) is.member;
-  found = ap (λ (y : LocalState). y.own.found) is.member ∙ found_there count old.own;
-  known = ap (λ (y : LocalState). y.known) is.member;
+  limits = ap (λ (y : LocalState _). y.limits) is.member;
+  found = ap (λ (y : LocalState _). y.own.found) is.member ∙ found_there count old.own;
+  known = ap (λ (y : LocalState _). y.known) is.member;
   knows = is.knows;
-  one = λ shut. ap (λ (y : LocalState). y.own.guards) is.member ∙ one_before count old.own shut;
+  one = λ shut. ap (λ (y : LocalState _). y.own.guards) is.member ∙ one_before count old.own shut;
 } in
     let idle : Stands count old (record m { own = settled m.own }) =
     record { limits = there.limits; found = there.found; known = there.known; knows = there.knows; one = there.one } in
@@ -85,11 +85,11 @@ stands count b old m new is goes = let there : Stands count old m = record {
     (either_way b)
 
 -- a lone participant's words, bags and ledger have the same after it
-pub tied_stands : {T : Type 0} (v : LocalModel T) → AreTied v.member v.entries → v.member.due ≡ [] → (count : ℕ) (b : Bool) (m new : LocalState) → IsLone
+pub tied_stands : {T J : Type 0} (v : LocalModel T J) → AreTied v.member v.entries → v.member.due ≡ [] → (count : ℕ) (b : Bool) (m new : LocalState J) → IsLone
     v.member
     → IsEntered count v.member m → GoesOn count b v.member m new → AreTied new v.entries
 tied_stands v t none count b m new one is goes = let there : AreTied m v.entries = tied_enters v t none count m one is in
-    let Tied = λ (y : LocalState). AreTied y v.entries in
+    let Tied = λ (y : LocalState _). AreTied y v.entries in
     ⊎_elim (λ (told : b ≡ true). subst Tied (sym (goes.change told).1) there)
     (λ (told : b ≡ false). ⊎_elim (λ (g : (v.member.own.found ≡ count) × (new ≡ m)). subst Tied (sym g.1) there)
     (λ (g : (v.member.own.found ≢ count) × (m.due ≡ []) × (new ≡ record m { own = settled m.own })). subst Tied (sym g.2) (tied_settled v m there))
@@ -97,31 +97,31 @@ tied_stands v t none count b m new one is goes = let there : AreTied m v.entries
     (either_way b)
 
 -- an opening doesn't raise the count
-pub same_count : {T : Type 0} (holds : T → List OwnerOrCell) (p q : LocalModel T) → world_of q ≡ opened holds (world_of p) p.member.place → q.member.known ≡
+pub same_count : {T J : Type 0} (holds : T → List OwnerOrCell) (p q : LocalModel T J) → world_of q ≡ opened holds (world_of p) p.member.place → q.member.known ≡
     p.member.known
 same_count holds p q same = ap (λ (w : World _). w.time.count) same
     ∙ (opens holds (world_of p) p.member.place (lives p).0 (time.is_open (place_at (world_of p) p.member.place)) refl).count
 
 -- one guard more is within the limit
-pub can_nest : {T : Type 0} (v : LocalModel T) → CanNest v.member → time.CanNest (world_of v).time v.member.place
+pub can_nest : {T J : Type 0} (v : LocalModel T J) → CanNest v.member → time.CanNest (world_of v).time v.member.place
 can_nest v may = subst (λ (x : Participant). x.guards < v.member.limits.nesting) (own_is_place v) may
 
 -- one guard more beside others
-module _ {T : Type 0} (v : LocalModel T) (m : LocalState) {A : Type 0} (IsReader : A → Type 0) (holds : T → List OwnerOrCell) where
+module _ {T J : Type 0} (v : LocalModel T J) (m : LocalState J) {A : Type 0} (IsReader : A → Type 0) (holds : T → List OwnerOrCell) where
   abbrev pub Did : Result A Refused → Type 0
   Did r = MatchResult r (λ a. IsReader a × CanNest v.member × (m ≡ record v.member { own = time.nested v.member.own }))
       (λ e. (e ≡ Refused.TooManyGuards) × ¬ (CanNest v.member) × (m ≡ v.member))
 
   world_nested : m ≡ record v.member { own = time.nested v.member.own } → HasOpenGuard v.member → WordsMatchValues v.member v.entries → IsLone v.member
       → world_of (record v { member = m }) ≡ opened holds (world_of v) v.member.place
-  world_nested did some_open tied one = let first = (tied one).place in ap (λ (y : LocalState). world_of (record v { member = y })) did
+  world_nested did some_open tied one = let first = (tied one).place in ap (λ (y : LocalState J). world_of (record v { member = y })) did
       ∙ nests v holds some_open (steps_alone nested v (record v { member = record v.member { own = time.nested v.member.own } }) first first refl)
 
   pub nested_sound : (r : Result A Refused) → Did r → HasOpenGuard v.member → WordsMatchValues v.member v.entries → IsSound holds v → IsSound holds
       (record v { member = m })
-  nested_sound (Ok a) did some_open tied sound = sound_opened holds v m sound (ap (λ (y : LocalState). y.due) did.2 ∙ sound.settled) (ap home_in did.2)
+  nested_sound (Ok a) did some_open tied sound = sound_opened holds v m sound (ap (λ (y : LocalState J). y.due) did.2 ∙ sound.settled) (ap home_in did.2)
       (world_nested did.2 some_open tied)
-  nested_sound (Err e) did some_open tied sound = subst (λ (y : LocalState). IsSound holds (record v { member = y })) (sym did.2) sound
+  nested_sound (Err e) did some_open tied sound = subst (λ (y : LocalState J). IsSound holds (record v { member = y })) (sym did.2) sound
 
   answered : (r : Result A Refused) → Did r → HasOpenGuard v.member → WordsMatchValues v.member v.entries → IsLone v.member
       → MatchResult r (λ _. time.CanNest (world_of v).time v.member.place × (world_of (record v { member = m }) ≡ opened holds (world_of v) v.member.place))
@@ -130,19 +130,19 @@ module _ {T : Type 0} (v : LocalModel T) (m : LocalState) {A : Type 0} (IsReader
   answered (Err e) did some_open tied one = (
     did.0,
     (λ may. did.1 (subst (λ (x : Participant). x.guards < v.member.limits.nesting) (sym (own_is_place v)) may)),
-    ap (λ (x : LocalState). world_of (record v { member = x })) did.2,
+    ap (λ (x : LocalState J). world_of (record v { member = x })) did.2,
   )
 
-  pub nested_exact : (r : Result A Refused) (p : LocalModel T) → v ≡ p → Did r → HasOpenGuard v.member → WordsMatchValues v.member v.entries → IsTrue
+  pub nested_exact : (r : Result A Refused) (p : LocalModel T J) → v ≡ p → Did r → HasOpenGuard v.member → WordsMatchValues v.member v.entries → IsTrue
       (is_lone p.member)
       → MatchResult r (λ _. time.CanNest (world_of p).time p.member.place × (world_of (record v { member = m }) ≡ opened holds (world_of p) p.member.place))
       (λ e. (e ≡ Refused.TooManyGuards) × ¬ (time.CanNest (world_of p).time p.member.place) × (world_of (record v { member = m }) ≡ world_of p))
-  nested_exact r p is did some_open tied exact = subst (λ (q : LocalModel T).
+  nested_exact r p is did some_open tied exact = subst (λ (q : LocalModel T J).
       MatchResult r (λ _. time.CanNest (world_of q).time q.member.place × (world_of (record v { member = m }) ≡ opened holds (world_of q) q.member.place))
       (λ e. (e ≡ Refused.TooManyGuards) × ¬ (time.CanNest (world_of q).time q.member.place) × (world_of (record v { member = m }) ≡ world_of q))) is
-      (answered r did some_open tied (lone_is v.member (subst (λ (q : LocalModel T). IsTrue (is_lone q.member)) (sym is) exact)))
+      (answered r did some_open tied (lone_is v.member (subst (λ (q : LocalModel T J). IsTrue (is_lone q.member)) (sym is) exact)))
 
-  pub nested_keeps : (shown : T → Gv) (r : Result A Refused) (p : LocalModel T) → v ≡ p → Did r
+  pub nested_keeps : (shown : T → Gv) (r : Result A Refused) (p : LocalModel T J) → v ≡ p → Did r
       → KeepsShown (Shows shown holds p) (Shows shown holds (record v { member = m }))
   nested_keeps shown (Ok a) p is did = keeps_own shown holds v p is m (time.nested v.member.own) v.member.known v.member.since did.2
   nested_keeps shown (Err e) p is did = keeps_own shown holds v p is m v.member.own v.member.known v.member.since did.2

@@ -49,7 +49,7 @@ pub unmoved_same : (s t : Seat ValueFraction View) → IsUnmoved s t → t ≡ s
 unmoved_same s t e = λ d. record t { table_id = e.table d; id = e.number d; me = (e.view d, e.others d) }
 
 -- an owner of this kind, whose right is to a slot of the participant's domain
-module _ (b : DomainTable) (m : LocalState) (on : IsOn b m) (right : Right) (kind : StandingKind) (home : home_of right ≡ slots_home m)
+module _ {J : Type 0} (b : DomainTable) (m : LocalState J) (on : IsOn b m) (right : Right) (kind : StandingKind) (home : home_of right ≡ slots_home m)
     (of_kind : kind_of right ≡ kind) (w : Witness) (grip : ReadFraction)
     (by : AreSlotsOfTable (home_of right) → IsOwnerBy (home_of right) (number_of right) (is_shared (kind_of right)) w grip)
     (slot : ℕ) (is : slot ≡ number_of right) where
@@ -162,11 +162,12 @@ module _ (b : DomainTable) (p : ℕ) (own : Participant) (t : Seat ValueFraction
   guard_of is_open = dite (dec_lt 0 own.guards) (λ some_open. some_open) (λ none. absurd (let e = q.closed (omega arith) in omega arith))
 
 -- what became of a participant's own state, where an owner was hindered, or went: it was recalled beside the owner before, and that changed nothing
-module _ (m : LocalState) (slot k : ℕ) (is : slot ≡ k) (shared several : Bool) (sorted : shared ≡ several) (l t h : Seat ValueFraction View) (same : t ≡ l)
+module _ {J : Type 0} (m : LocalState J) (slot k : ℕ) (is : slot ≡ k) (shared several : Bool) (sorted : shared ≡ several) (l t h : Seat ValueFraction View)
+    (same : t ≡ l)
     (is_m : with_token m l ≡ m) (alone : IsLone m → l.me.0.epoch.all ≡ 1) where
   -- a lone participant knew this word
   pub knew_word : (w : ℕ) → Knew slot t.me.0 w → IsLone m → word_of m k ≡ w
-  knew_word w knew lone = ap (λ (x : LocalState). word_of x k) (sym is_m)
+  knew_word w knew lone = ap (λ (x : LocalState J). word_of x k) (sym is_m)
       ∙ sym (subst (λ (z : ℕ × Seat ValueFraction View). Knew z.0 z.1.me.0 w) (λ d. (is d, same d)) knew (alone lone))
 
   pub knew_sole : KnewSole slot shared t.me.0 → KnowsSole m k several
@@ -177,7 +178,7 @@ module _ (m : LocalState) (slot k : ℕ) (is : slot ≡ k) (shared several : Boo
       → with_token m h ≡ record m { words = words k m.sizes m.words }
   noted_at words table view = (λ d. with_view m (table d) (view d))
       ∙ ((λ d. with_view m (same d).table_id (record (same d).me.0 { words = words (is d) (same d).me.0.sizes (same d).me.0.words }))
-      ∙ ap (λ (x : LocalState). record x { words = words k x.sizes x.words }) is_m)
+      ∙ ap (λ (x : LocalState J). record x { words = words k x.sizes x.words }) is_m)
 
   -- nothing is
   pub unmoved_at : IsUnmoved t h → with_token m h ≡ m

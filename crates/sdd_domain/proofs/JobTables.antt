@@ -1,51 +1,26 @@
 -- The table of a participant's own, which has a job exactly for each place where one waits with it, over each step
-use Rattle.std.proofs.Common.{◌≡◌, ◌↔◌, ℕ, suc, zero, ◌+◌, ◌<◌, List, [], ◌∷◌, ◌++◌, Some, None, length, replicate, slice_index_or, sym, refl, ap, ◌∙◌, subst, arith, get_or-set_other, get_or-set_same}
-use Rattle.std.specs.Prelude.{Option, IsSome, option_map, MatchOption}
+use Rattle.std.proofs.Common.{◌≡◌, ◌↔◌, ℕ, ◌+◌, ◌<◌, List, [], ◌∷◌, ◌++◌, Some, None, length, slice_index_or, sym, refl, ap, ◌∙◌, subst, arith, get_or-set_other, get_or-set_same}
+use Rattle.std.specs.Prelude.{Option, IsSome, MatchOption}
 use mathlib.Core.Logic.{dite}
 use native.Mathlib.Decide.{ℕ_discrete}
-use lib.Seq.{map-set}
 use Rattle.std.proofs.lemmas.Bool.{true≢false}
 use Rattle.sdd_participants.specs.declared.waiting.LimboEntry.{LimboEntry}
-use Rattle.sdd_participants.specs.Slab.{entry_at, with_entry, without_entry}
+use Rattle.sdd_participants.specs.Slab.{with_entry, without_entry}
 use Rattle.sdd_views.specs.declared.WaitingItem.{WaitingItem}
 use Rattle.sdd_word_invariant.specs.Sums.{total}
 use Rattle.sdd_word_invariant.specs.Slots.{waits_in}
 use Rattle.sdd_word_invariant.specs.SlotSteps.{retired_now, without_item}
 use Rattle.sdd_word_invariant.proofs.Sums.{is_same, is_other, total_snoc}
 use Rattle.sdd_word_invariant.proofs.Owning.{item_gone, item_kept}
+use Rattle.std.proofs.Common.{Bool, true, false, not, cond, map, ◌≤◌, ⊎_elim}
+use Rattle.std.proofs.lemmas.Bool.{cases_lt}
+use Rattle.std.proofs.lemmas.List.{get_or_past}
+use Rattle.sdd_participants.specs.declared.participant.Participant.{Participant}
+use Rattle.sdd_participants.specs.Waiting.{Waiting}
+use Rattle.sdd_domain.specs.WaitingItems.{what_of, waiting_of, is_ripe, ripe, unripe}
 use Rattle.sdd_domain.specs.DueItems.{Pending}
-use Rattle.sdd_domain.specs.Jobs.{places_of}
-
--- where there is no job no place has one
-pub blank_places : (J : Type 0) (n : ℕ) → places_of {J = J} (replicate n None) ≡ replicate n None
-blank_places J zero = refl
-blank_places J (suc n) = ap (λ (l : List (Option (Unit {0}))). None ∷ l) (blank_places J n)
 
 module _ {J : Type 0} where
-  -- what the places tell is what the table has
-  pub place_in : (table : List (Option J)) (j : ℕ) → entry_at (places_of table) j ≡ option_map (λ _. tt) (slice_index_or table j None)
-  place_in [] j = refl
-  place_in (x ∷ xs) zero = refl
-  place_in (x ∷ xs) (suc j) = place_in xs j
-
-  unit_of : Option J → Option (Unit {0})
-  unit_of o = option_map (λ _. tt) o
-
-  some_place : (o : Option J) → IsSome o → IsSome (unit_of o)
-  unfolding unit_of
-  some_place None there = absurd (true≢false (sym there))
-  some_place (Some job) there = refl
-
-  pub place_there : (table : List (Option J)) (j : ℕ) → IsSome (slice_index_or table j None) → IsSome (entry_at (places_of table) j)
-  unfolding unit_of
-  place_there table j there = subst (λ (o : Option (Unit {0})). IsSome o) (sym (place_in table j)) (some_place (slice_index_or table j None) there)
-
-  pub place_put : (table : List (Option J)) (j : ℕ) (job : J) → places_of (with_entry table j job) ≡ with_entry (places_of table) j tt
-  place_put table j job = map-set (option_map (λ _. tt)) table j (Some job)
-
-  pub place_free : (table : List (Option J)) (j : ℕ) → places_of (without_entry table j) ≡ without_entry (places_of table) j
-  place_free table j = map-set (option_map (λ _. tt)) table j None
-
   -- so many slots, and so many places of jobs
   module _ (n jobs : ℕ) (table : List (Option J)) (xs : List WaitingItem)
       (old : (j : ℕ) → j < jobs → IsSome (slice_index_or table j None) ↔ (0 < total (waits_in (n + j)) xs)) where
@@ -92,3 +67,41 @@ pub next_goes : (old new : Pending) (r : Option LimboEntry) (w : LimboEntry) (re
 unfolding head_of
 next_goes old new None w rest is first = absurd (let none : [] ≡ w ∷ rest = sym is.0 ∙ first in cc)
 next_goes old new (Some what) w rest is first = let same : what ≡ w = ap (head_of what) (sym is ∙ first) in is ∙ ap (λ (v : LimboEntry). v ∷ new.items) same
+
+-- ---- where nothing waits with a participant it has no job
+pub not-there : {A : Type 0} (o : Option A) → (IsSome o → ⊥) → o ≡ None
+not-there None h = refl
+not-there (Some x) h = absurd (h refl)
+
+split-none : (b : Bool) (x : WaitingItem) (xs ys : List WaitingItem) → cond b (x ∷ xs) xs ≡ [] → cond (not b) (x ∷ ys) ys ≡ [] → ⊥
+split-none true x xs ys old young = cc
+split-none false x xs ys old young = cc
+
+-- what has seen three changes, and what hasn't, are all that waits
+nothing-waits : (xs : List WaitingItem) → ripe xs ≡ [] → unripe xs ≡ [] → xs ≡ []
+nothing-waits [] old young = refl
+nothing-waits (x ∷ xs) old young = absurd (split-none (is_ripe x) x (ripe xs) (unripe xs) old young)
+
+unmapped : {A B : Type 0} (f : A → B) (xs : List A) → map f xs ≡ [] → xs ≡ []
+unmapped f [] is = refl
+unmapped f (x ∷ xs) is = absurd (cc)
+
+pub none-wait : (m : Participant) → elim (m.bags.waiting) [ [] ↦ false | x ∷ xs ↦ true ] ≡ false → m.bags.waiting ≡ []
+none-wait m is = none-of m.bags.waiting is
+  where
+    none-of : (ws : List Waiting) → elim ws [ [] ↦ false | x ∷ xs ↦ true ] ≡ false → ws ≡ []
+    none-of [] is = refl
+    none-of (w ∷ ws) is = absurd (cc)
+
+-- so many slots, and so many places of jobs, of each of which there is a job exactly where one waits; nothing is due, and nothing waits in the bags
+pub none-there : {J : Type 0} (n jobs : ℕ) (table : List (Option J)) (xs : List WaitingItem) (items : List LimboEntry) (bags : List Waiting) →
+    length table ≡ jobs → ((j : ℕ) → j < jobs → IsSome (slice_index_or table j None) ↔ (0 < total (waits_in (n + j)) xs)) →
+    items ≡ map (what_of n) (ripe xs) → items ≡ [] → bags ≡ map (waiting_of n) (unripe xs) → bags ≡ [] → (j : ℕ) → slice_index_or table j None ≡ None
+none-there n jobs table xs items bags long there due none_due waiting none_wait j =
+    let none : xs ≡ [] = nothing-waits xs (unmapped (what_of n) (ripe xs) (sym due ∙ none_due))
+    (unmapped (waiting_of n) (unripe xs) (sym waiting ∙ none_wait)) in
+    ⊎_elim
+    (λ (low : j < jobs). not-there (slice_index_or table j None) (λ some. let w = (there j low).0 some in
+    let zero_now = ap (λ (ys : List WaitingItem). total (waits_in (n + j)) ys) none in absurd (omega arith)))
+    (λ (high : jobs ≤ j). get_or_past table j None (omega arith))
+    (cases_lt j jobs)

@@ -18,18 +18,19 @@ use Rattle.sdd_word_invariant.proofs.Sums.{is_other, total_snoc}
 use Rattle.sdd_word_invariant.proofs.Owning.{item_kept}
 use Rattle.sdd_space.specs.World.{World}
 use Rattle.sdd_space.specs.WorldChanges.{deferred, ran}
+use Rattle.sdd_participants.proofs.Places.{empty-places, places-full, places-put, places-taken}
 use Rattle.sdd_domain.specs.LocalState.{LocalState, place_number, IsLone, DefersTo, TakesJob, AllPlacesTaken, word_of}
 use Rattle.sdd_domain.specs.WaitingItems.{what_of, waiting_of, ripe, unripe}
 use Rattle.sdd_domain.specs.WordsAndValues.{AreTied, MatchesPlace, is_plain_word}
 use Rattle.sdd_domain.specs.Local.{LocalModel, listing, standing_by, value_by, standing_in, value_in, world_of}
-use Rattle.sdd_domain.proofs.Alone.{alone, steps_alone}
+use Rattle.sdd_domain.proofs.Alone.{alone, steps_alone, cells_kept}
 use Rattle.sdd_domain.proofs.Listings.{listing_same}
 use Rattle.sdd_domain.proofs.Reclaims.{first_goes, what_job}
 use Rattle.sdd_domain.proofs.Ripe.{ripe_snoc, unripe_too}
 use Rattle.sdd_domain.proofs.Words.{word_put, word_other}
 
 -- the word of a job's place becomes y, and slots stay as they were
-module _ {T : Type 0} (v : LocalModel T) (t : AreTied v.member v.entries) (place y : ℕ) (inside : place < v.member.limits.jobs) where
+module _ {T J : Type 0} (v : LocalModel T J) (t : AreTied v.member v.entries) (place y : ℕ) (inside : place < v.member.limits.jobs) where
   abbrev n : ℕ
   n = v.member.limits.slots
 
@@ -49,7 +50,7 @@ module _ {T : Type 0} (v : LocalModel T) (t : AreTied v.member v.entries) (place
   slot_then i low = then i (λ e. omega arith)
 
   -- a participant whose other words are so, with what waits and what it has of its own
-  pub tied_by : (own : Participant) (known : ℕ) (slots : SlotsView) (due : List LimboEntry) (e : Option (Unit {0}))
+  pub tied_by : (own : Participant) (known : ℕ) (slots : SlotsView) (due : List LimboEntry) (e : Option J)
       → ((i : ℕ) → i < n → total (waits_in i) slots.waits ≡ total (waits_in i) v.member.slots.waits) → MatchesPlace y e
       → own.bags.waiting ≡ map (waiting_of n) (unripe slots.waits) → due ≡ map (what_of n) (ripe slots.waits) → (0 < own.guards → known ≡ own.found)
       → AreTied (record v.member { own = own; known = known; slots = slots; words = words_then; due = due; jobs = set v.member.jobs place e }) v.entries
@@ -57,6 +58,7 @@ module _ {T : Type 0} (v : LocalModel T) (t : AreTied v.member v.entries) (place
     place = t.place;
     slots = t.slots;
     places = t.places;
+    all_cells = t.all_cells;
     long = length-set v.member.words (behind v.member.sizes number) y ∙ t.long;
     wide = t.wide;
     plain = λ i l. subst (λ (w : ℕ). IsTrue (is_plain_word w)) (sym (slot_then i l)) (t.plain i l);
@@ -64,13 +66,13 @@ module _ {T : Type 0} (v : LocalModel T) (t : AreTied v.member v.entries) (place
     kept = λ i l filled. t.kept i l (sym (ap full (slot_then i l)) ∙ filled);
     table = length-set v.member.jobs place e ∙ t.table;
     jobs = λ j l. dite (ℕ_discrete j place)
-        (λ eq. subst (λ (z : ℕ × Option (Unit {0})). MatchesPlace z.0 z.1)
+        (λ eq. subst (λ (z : ℕ × Option J). MatchesPlace z.0 z.1)
         (λ d. (
           sym (ap (λ (k : ℕ). get_or words_then (behind v.member.sizes (n + k)) 0) eq ∙ now) d,
           sym (ap (λ (k : ℕ). entry_at (set v.member.jobs place e) k) eq
               ∙ get_or-set_same v.member.jobs place e None (let s = t.table in let l = inside in omega arith)) d,
         )) matches)
-        (λ ne. subst (λ (z : ℕ × Option (Unit {0})). MatchesPlace z.0 z.1)
+        (λ ne. subst (λ (z : ℕ × Option J). MatchesPlace z.0 z.1)
         (λ d. (sym (then (n + j) (λ eq. ne (let f = eq in omega arith))) d, sym (get_or-set_other v.member.jobs place j e None ne) d)) (t.jobs j l));
     bags = bags;
     due = is_due;
@@ -89,20 +91,20 @@ module _ {T : Type 0} (v : LocalModel T) (t : AreTied v.member v.entries) (place
       (λ i l. ap (λ (w : ℕ). value_by w (slice_index_or v.entries i None)) (slot_then i l))
 
 -- which places are free, by the words
-free_by : (w : ℕ) (e : Option (Unit {0})) → MatchesPlace w e → w ≡ 0 → e ≡ None
+free_by : {J : Type 0} (w : ℕ) (e : Option J) → MatchesPlace w e → w ≡ 0 → e ≡ None
 free_by w None is free = refl
 free_by w (Some x) is free = absurd (let four : 0 ≡ 4 = sym free ∙ is in omega arith)
 
-taken_by : (w : ℕ) (e : Option (Unit {0})) → MatchesPlace w e → w ≢ 0 → IsSome e
+taken_by : {J : Type 0} (w : ℕ) (e : Option J) → MatchesPlace w e → w ≢ 0 → IsSome e
 taken_by w None is taken = absurd (taken is)
 taken_by w (Some x) is taken = refl
 
-module _ {T : Type 0} (v : LocalModel T) (t : AreTied v.member v.entries) where
+module _ {T J : Type 0} (v : LocalModel T J) (t : AreTied v.member v.entries) where
   -- where no place is free the world's table of jobs is full
   pub all_taken : AllPlacesTaken v.member → IsFull (world_of v).jobs
-  all_taken all j d low = let l : j < v.member.limits.jobs = (let s = t.table in omega arith) in
-      subst (λ (e : Option (Unit {0})). IsSome e) (get_or_any v.member.jobs j None d low)
-      (taken_by (word_of v.member (place_number v.member j)) (entry_at v.member.jobs j) (t.jobs j l) (all j l))
+  all_taken all = places-full v.member.jobs (λ j d low. let l : j < v.member.limits.jobs = (let s = t.table in omega arith) in
+      subst (λ (e : Option J). IsSome e) (get_or_any v.member.jobs j None d low)
+      (taken_by (word_of v.member (place_number v.member j)) (entry_at v.member.jobs j) (t.jobs j l) (all j l)))
     where
       get_or_any : {A : Type 0} (xs : List A) (i : ℕ) (a b : A) → i < length xs → get_or xs i a ≡ get_or xs i b
       get_or_any [] i a b low = absurd (omega arith)
@@ -110,20 +112,20 @@ module _ {T : Type 0} (v : LocalModel T) (t : AreTied v.member v.entries) where
       get_or_any (x ∷ xs) (Rattle.std.proofs.Common.suc i) a b low = get_or_any xs i a b (omega arith)
 
   -- ---- a job is deferred
-  module _ (place count : ℕ) (m : LocalState) (is : DefersTo place count v.member m) (lone : IsLone v.member) where
-    abbrev waits_too : LocalState
+  module _ (place count : ℕ) (job : J) (m : LocalState J) (is : DefersTo place count job v.member m) (lone : IsLone v.member) where
+    abbrev waits_too : LocalState J
     waits_too = record v.member {
       own = time.awaiting (Job place) v.member.own;
       slots = record v.member.slots { waits = v.member.slots.waits ++ retired_now (place_number v.member place) count ∷ [] };
       words = set v.member.words (behind v.member.sizes (place_number v.member place)) 4;
-      jobs = with_entry v.member.jobs place tt;
+      jobs = with_entry v.member.jobs place job;
     }
 
     is_later : m ≡ waits_too
     is_later = is.member ∙ (λ d. record waits_too { known = (is.lone lone).0 d })
 
     pub empty_before : IsEmptyAt (world_of v).jobs place
-    empty_before = (
+    empty_before = empty-places v.member.jobs place (
       (let s = t.table in let l = is.inside in omega arith),
       free_by (word_of v.member (place_number v.member place)) (entry_at v.member.jobs place) (t.jobs place is.inside) (is.lone lone).1,
     )
@@ -132,8 +134,8 @@ module _ {T : Type 0} (v : LocalModel T) (t : AreTied v.member v.entries) where
     what_there = what_job v.member.limits.slots (retired_now (place_number v.member place) count) (omega arith) ∙ ap (λ (k : ℕ). Job k) (omega arith)
 
     pub tied_deferred : AreTied m v.entries
-    tied_deferred = subst (λ (x : LocalState). AreTied x v.entries) (sym is_later)
-        (tied_by v t place 4 is.inside waits_too.own waits_too.known waits_too.slots waits_too.due (Some tt)
+    tied_deferred = subst (λ (x : LocalState J). AreTied x v.entries) (sym is_later)
+        (tied_by v t place 4 is.inside waits_too.own waits_too.known waits_too.slots waits_too.due (Some job)
         (λ i l. let s = total_snoc (waits_in i) v.member.slots.waits (retired_now (place_number v.member place) count) in
         let o = is_other i (place_number v.member place) (λ e. omega arith) in omega arith) refl
         (ap (λ (l : List Waiting). l ++ fresh (Job place) ∷ []) t.bags
@@ -142,17 +144,22 @@ module _ {T : Type 0} (v : LocalModel T) (t : AreTied v.member v.entries) where
         (sym (ripe_snoc (retired_now (place_number v.member place) count) refl v.member.slots.waits))) t.now)
 
     world_waits : alone (record { member = waits_too; entries = v.entries }) ≡ deferred (alone v) 0 place
-    world_waits = let q : LocalModel T = record { member = waits_too; entries = v.entries } in
-        λ d. record (alone q) { standings = standings_same v t place 4 is.inside d; values = values_same v t place 4 is.inside d }
+    world_waits = let q : LocalModel T J = record { member = waits_too; entries = v.entries } in
+        λ d. record (alone q) {
+          standings = standings_same v t place 4 is.inside d;
+          values = values_same v t place 4 is.inside d;
+          cells = cells_kept v.member.limits.cells v.member.sizes v.member.words (place_number v.member place) 4 t.all_cells d;
+          jobs = places-put v.member.jobs place job d;
+        }
 
     pub world_deferred : world_of (record { member = m; entries = v.entries }) ≡ deferred (world_of v) v.member.place place
     world_deferred = steps_alone (λ (w : World T) (p : ℕ). deferred w p place) v (record { member = m; entries = v.entries }) t.place
-        (ap (λ (y : LocalState). y.place) is.member ∙ t.place)
-        (ap (λ (y : LocalState). alone (record { member = y; entries = v.entries })) is_later ∙ world_waits)
+        (ap (λ (y : LocalState J). y.place) is.member ∙ t.place)
+        (ap (λ (y : LocalState J). alone (record { member = y; entries = v.entries })) is_later ∙ world_waits)
 
   -- ---- a job that is due is taken out
-  module _ (place : ℕ) (m : LocalState) (is : TakesJob place v.member m) where
-    abbrev gone : LocalState
+  module _ (place : ℕ) (job : J) (m : LocalState J) (is : TakesJob place job v.member m) where
+    abbrev gone : LocalState J
     gone = record v.member {
       slots = record v.member.slots { waits = without_item (place_number v.member place) v.member.slots.waits };
       words = set v.member.words (behind v.member.sizes (place_number v.member place)) 0;
@@ -165,16 +172,21 @@ module _ {T : Type 0} (v : LocalModel T) (t : AreTied v.member v.entries) where
     goes_first = first_goes v.member.limits.slots (Job place) m.due v.member.slots.waits (sym t.due ∙ is.first) is.once
 
     pub tied_taken : AreTied m v.entries
-    tied_taken = subst (λ (x : LocalState). AreTied x v.entries) (sym is.member)
+    tied_taken = subst (λ (x : LocalState J). AreTied x v.entries) (sym is.member)
         (tied_by v t place 0 is.inside gone.own gone.known gone.slots m.due None
         (λ i l. item_kept (place_number v.member place) i (λ e. omega arith) v.member.slots.waits) refl
         (t.bags ∙ ap (map (waiting_of v.member.limits.slots)) (sym goes_first.1)) (sym goes_first.0) t.now)
 
     world_gone : alone (record { member = gone; entries = v.entries }) ≡ ran (alone v) place
-    world_gone = let q : LocalModel T = record { member = gone; entries = v.entries } in
-        λ d. record (alone q) { standings = standings_same v t place 0 is.inside d; values = values_same v t place 0 is.inside d }
+    world_gone = let q : LocalModel T J = record { member = gone; entries = v.entries } in
+        λ d. record (alone q) {
+          standings = standings_same v t place 0 is.inside d;
+          values = values_same v t place 0 is.inside d;
+          cells = cells_kept v.member.limits.cells v.member.sizes v.member.words (place_number v.member place) 0 t.all_cells d;
+          jobs = places-taken v.member.jobs place d;
+        }
 
     pub world_taken : world_of (record { member = m; entries = v.entries }) ≡ ran (world_of v) place
     world_taken = steps_alone (λ (w : World T) (p : ℕ). ran w place) v (record { member = m; entries = v.entries }) t.place
-        (ap (λ (y : LocalState). y.place) is.member ∙ t.place)
-        (ap (λ (y : LocalState). alone (record { member = y; entries = v.entries })) is.member ∙ world_gone)
+        (ap (λ (y : LocalState J). y.place) is.member ∙ t.place)
+        (ap (λ (y : LocalState J). alone (record { member = y; entries = v.entries })) is.member ∙ world_gone)

@@ -35,6 +35,7 @@ use Rattle.sdd_domain.specs.Space.{ShowsBy, Shows, is_lone}
 use Rattle.sdd_domain.proofs.Listings.{listing_at, listing_long, listing_past, listing_set, listing_all}
 use Rattle.sdd_domain.proofs.Words.{word_same, word_other, plain_claimed, stands_claimed, stands_raw, stands_retired, value_there, alive_taken}
 use Rattle.sdd_domain.proofs.Exact.{lone_is}
+use Rattle.sdd_domain.proofs.Alone.{cells_kept}
 
 pub first_by : (kind : StandingKind) → first_standing kind ≡ (if is_shared kind then Shared 1 else Owned)
 first_by kinds.Free = refl
@@ -56,12 +57,12 @@ some_standing word taken = dite (ℕ_discrete (waiting word) 1) (λ e. (Retired,
 is_there : (s : Standing) → IsSome (Some s)
 is_there s = refl
 
-pub used_up : {T : Type 0} (p : LocalModel T) → IsUsedUp p.member → IsFull (world_of p).standings
+pub used_up : {T J : Type 0} (p : LocalModel T J) → IsUsedUp p.member → IsFull (world_of p).standings
 used_up p used = listing_all (λ (e : Option Standing). IsSome e) p.member.limits.slots (standing_in p)
     (λ i low. let s = some_standing (word_of p.member i) (used i low) in
     subst (λ (e : Option Standing). IsSome e) (sym s.1) (is_there s.0))
 
-module _ {T : Type 0} (v : LocalModel T) (k : ℕ) (shared : Bool) (x : T) (g : Gv) where
+module _ {T J : Type 0} (v : LocalModel T J) (k : ℕ) (shared : Bool) (x : T) (g : Gv) where
   abbrev r : ShownValue
   r = record { slot = k; shared = shared; value = g }
 
@@ -69,14 +70,14 @@ module _ {T : Type 0} (v : LocalModel T) (k : ℕ) (shared : Bool) (x : T) (g : 
   y = claimed_word shared
 
   -- what it is once the item was made
-  abbrev pub made_member : LocalState
+  abbrev pub made_member : LocalState J
   made_member = record v.member {
     tally = one_made v.member.tally;
     filled = record { slot = k; shared = shared; value = g } ∷ v.member.filled;
     words = set v.member.words (behind v.member.sizes k) (claimed_word shared);
   }
 
-  abbrev pub made_partaker : LocalModel T
+  abbrev pub made_partaker : LocalModel T J
   made_partaker = record { member = made_member; entries = set v.entries k (Some (x, g)) }
 
   module _ (t : AreTied v.member v.entries) (low : k < v.member.limits.slots) (free : word_of v.member k ≡ 0) where
@@ -109,6 +110,7 @@ module _ {T : Type 0} (v : LocalModel T) (k : ℕ) (shared : Bool) (x : T) (g : 
       place = t.place;
       slots = t.slots;
       places = t.places;
+      all_cells = t.all_cells;
       long = length-set v.member.words (behind v.member.sizes k) y ∙ t.long;
       wide = length-set v.entries k (Some (x, g)) ∙ t.wide;
       plain = λ i l. dite (ℕ_discrete i k)
@@ -154,7 +156,11 @@ module _ {T : Type 0} (v : LocalModel T) (k : ℕ) (shared : Bool) (x : T) (g : 
         let values : listing v.member.limits.slots (value_in made_partaker) ≡ set (listing v.member.limits.slots (value_in v)) k (Some x)
         = listing_set v.member.limits.slots (value_in v) (value_in made_partaker) k (λ i l ne. λ d. value_by (word_then i ne d) (entry_then i ne d))
         ∙ ap (set (listing v.member.limits.slots (value_in v)) k) value_now in
-        λ d. record (world_of made_partaker) { standings = standings d; values = values d }
+        λ d. record (world_of made_partaker) {
+          standings = standings d;
+          values = values d;
+          cells = cells_kept v.member.limits.cells v.member.sizes v.member.words k (claimed_word shared) t.all_cells d;
+        }
 
     -- each slot shows what it showed
     pub value_kept : (i : ℕ) (u : T) → value_at (world_of v) i ≡ Some u → value_at (world_of made_partaker) i ≡ Some u
@@ -170,8 +176,8 @@ module _ {T : Type 0} (v : LocalModel T) (k : ℕ) (shared : Bool) (x : T) (g : 
         no_value e = absurd cc
 
 -- ---- for an answer
-module _ (R : RattleType) (v : LocalModel R.Denot) (m : LocalState) (es : Entries R.Denot) (kind : StandingKind) where
-  abbrev after : LocalModel R.Denot
+module _ {J : Type 0} (R : RattleType) (v : LocalModel R.Denot J) (m : LocalState J) (es : Entries R.Denot) (kind : StandingKind) where
+  abbrev after : LocalModel R.Denot J
   after = record { member = m; entries = es }
 
   -- it made this, for this owner
@@ -191,8 +197,8 @@ module _ (R : RattleType) (v : LocalModel R.Denot) (m : LocalState) (es : Entrie
     is_made = λ d. record { member = did.0.member d; entries = did.2 d }
 
     did_tied : WordsMatchValues v.member v.entries → WordsMatchValues m es
-    did_tied tied one = let lone : IsLone v.member = sym (ap (λ (z : LocalState). z.limits.participants) did.0.member) ∙ one in
-        subst (λ (p : LocalModel R.Denot). AreTied p.member p.entries) (sym is_made)
+    did_tied tied one = let lone : IsLone v.member = sym (ap (λ (z : LocalState J). z.limits.participants) did.0.member) ∙ one in
+        subst (λ (p : LocalModel R.Denot J). AreTied p.member p.entries) (sym is_made)
         (tied_made v (number_of right) (is_shared kind) x (showing R x) (tied lone) did.0.inside (did.0.lone lone))
 
     pub did_world : WordsMatchValues v.member v.entries → IsLone v.member → IsEmptyAt (world_of v).standings (number_of right)
@@ -211,7 +217,7 @@ module _ (R : RattleType) (v : LocalModel R.Denot) (m : LocalState) (es : Entrie
 
     did_keep : (holds : R.Denot → List OwnerOrCell) → WordsMatchValues v.member v.entries → KeepsShown (Shows (showing R) holds v)
         (Shows (showing R) holds after)
-    did_keep holds tied i u h = subst (λ (p : LocalModel R.Denot). Shows (showing R) holds p i u) (sym is_made)
+    did_keep holds tied i u h = subst (λ (p : LocalModel R.Denot J). Shows (showing R) holds p i u) (sym is_made)
         (keeps_by holds (is_lone v.member) (λ exact. lone_is v.member exact) tied i u h)
 
   module _ {B : Type 0} (P : R.Denot → Type 0) (Back Why : B × Refused → Type 0) where
@@ -221,35 +227,36 @@ module _ (R : RattleType) (v : LocalModel R.Denot) (m : LocalState) (es : Entrie
 
     pub answered_tied : (r : Result Right (B × Refused)) → Answers r → WordsMatchValues v.member v.entries → WordsMatchValues m es
     answered_tied (Ok right) a tied = did_tied a.0 right (a.2, a.3, a.4) tied
-    answered_tied (Err e) a tied = subst (λ (p : LocalModel R.Denot). WordsMatchValues p.member p.entries)
+    answered_tied (Err e) a tied = subst (λ (p : LocalModel R.Denot J). WordsMatchValues p.member p.entries)
         (λ d. record { member = sym a.1 d; entries = sym a.4 d }) tied
 
     pub answered_owns : (r : Result Right (B × Refused)) → Answers r → IfOk r (λ right. (x : R.Denot) × P x × HasValue (showing R x) right)
     answered_owns (Ok right) a = (a.0, a.1, a.3.value)
     answered_owns (Err e) a = tt
 
-    pub answered_lone : (r : Result Right (B × Refused)) (p : LocalModel R.Denot) → v ≡ p → Answers r → IsTrue (is_lone p.member)
+    pub answered_lone : (r : Result Right (B × Refused)) (p : LocalModel R.Denot J) → v ≡ p → Answers r → IsTrue (is_lone p.member)
         → IfErr r (λ e. (e.1 ≡ Refused.NoSlot) × IsFull (world_of p).standings)
     answered_lone (Ok right) p is a exact = tt
-    answered_lone (Err e) p is a exact = let n = a.3 (lone_is v.member (subst (λ (q : LocalModel R.Denot). IsTrue (is_lone q.member)) (sym is) exact)) in
-        (n.0, subst (λ (q : LocalModel R.Denot). IsFull (world_of q).standings) is (used_up v n.1))
+    answered_lone (Err e) p is a exact = let n = a.3 (lone_is v.member (subst (λ (q : LocalModel R.Denot J). IsTrue (is_lone q.member)) (sym is) exact)) in
+        (n.0, subst (λ (q : LocalModel R.Denot J). IsFull (world_of q).standings) is (used_up v n.1))
 
-    pub answered_keeps : (holds : R.Denot → List OwnerOrCell) (r : Result Right (B × Refused)) (p : LocalModel R.Denot) → v ≡ p → Answers r
+    pub answered_keeps : (holds : R.Denot → List OwnerOrCell) (r : Result Right (B × Refused)) (p : LocalModel R.Denot J) → v ≡ p → Answers r
         → WordsMatchValues v.member v.entries → KeepsShown (Shows (showing R) holds p) (Shows (showing R) holds after)
     answered_keeps holds (Ok right) p is a tied i u h = did_keep a.0 right (a.2, a.3, a.4) holds tied i u
-        (subst (λ (q : LocalModel R.Denot). Shows (showing R) holds q i u) (sym is) h)
-    answered_keeps holds (Err e) p is a tied i u h = subst (λ (q : LocalModel R.Denot). Shows (showing R) holds q i u)
+        (subst (λ (q : LocalModel R.Denot J). Shows (showing R) holds q i u) (sym is) h)
+    answered_keeps holds (Err e) p is a tied i u h = subst (λ (q : LocalModel R.Denot J). Shows (showing R) holds q i u)
         (sym is ∙ (λ d. record { member = sym a.1 d; entries = sym a.4 d })) h
 
-    pub answered_world : (r : Result Right (B × Refused)) (p : LocalModel R.Denot) → v ≡ p → Answers r → WordsMatchValues v.member v.entries → IsTrue
+    pub answered_world : (r : Result Right (B × Refused)) (p : LocalModel R.Denot J) → v ≡ p → Answers r → WordsMatchValues v.member v.entries → IsTrue
         (is_lone p.member)
         → MatchResult r (λ right. IsEmptyAt (world_of p).standings (number_of right)
         × ((x : R.Denot) × P x × (world_of after ≡ made_as (world_of p) (number_of right) x (first_standing kind))))
         (λ e. IsFull (world_of p).standings × (Back e × (e.1 ≡ Refused.NoSlot)) × (world_of after ≡ world_of p))
-    answered_world (Ok right) p is a tied exact = let lone = lone_is v.member (subst (λ (q : LocalModel R.Denot). IsTrue (is_lone q.member)) (sym is) exact) in
+    answered_world (Ok right) p is a tied exact = let lone = lone_is v.member
+        (subst (λ (q : LocalModel R.Denot J). IsTrue (is_lone q.member)) (sym is) exact) in
         let w = did_world a.0 right (a.2, a.3, a.4) tied lone in (
-          subst (λ (q : LocalModel R.Denot). IsEmptyAt (world_of q).standings (number_of right)) is w.0,
-          (a.0, a.1, w.1 ∙ ap (λ (q : LocalModel R.Denot). made_as (world_of q) (number_of right) a.0 (first_standing kind)) is),
+          subst (λ (q : LocalModel R.Denot J). IsEmptyAt (world_of q).standings (number_of right)) is w.0,
+          (a.0, a.1, w.1 ∙ ap (λ (q : LocalModel R.Denot J). made_as (world_of q) (number_of right) a.0 (first_standing kind)) is),
         )
     answered_world (Err e) p is a tied exact = let n = answered_lone (Err e) p is a exact in (
       n.1,
@@ -258,7 +265,7 @@ module _ (R : RattleType) (v : LocalModel R.Denot) (m : LocalState) (es : Entrie
     )
 
   pub answered_exact : {B : Type 0} (P : R.Denot → Type 0) (back : B) (Why : B × Refused
-      → Type 0) (r : Result Right (B × Refused)) (p : LocalModel R.Denot) → v ≡ p
+      → Type 0) (r : Result Right (B × Refused)) (p : LocalModel R.Denot J) → v ≡ p
       → Answers P (λ e. e.0 ≡ back) Why r → WordsMatchValues v.member v.entries → IsTrue (is_lone p.member)
       → MatchResult r (λ right. IsEmptyAt (world_of p).standings (number_of right)
       × ((x : R.Denot) × P x × (world_of after ≡ made_as (world_of p) (number_of right) x (first_standing kind))))
@@ -281,7 +288,7 @@ module _ (R : RattleType) (v : LocalModel R.Denot) (m : LocalState) (es : Entrie
   value_owns x (Ok right) a = subst (λ (y : R.Denot). HasValue (showing R y) right) a.1 a.2
   value_owns x (Err e) a = tt
 
-  pub value_exact : (x : R.Denot) (r : Result Right (R.Denot × Refused)) (p : LocalModel R.Denot)
+  pub value_exact : (x : R.Denot) (r : Result Right (R.Denot × Refused)) (p : LocalModel R.Denot J)
       → MatchResult r (λ right. IsEmptyAt (world_of p).standings (number_of right)
       × ((y : R.Denot) × (y ≡ x) × (world_of after ≡ made_as (world_of p) (number_of right) y (first_standing kind))))
       (λ e. IsFull (world_of p).standings × (e ≡ (x, Refused.NoSlot)) × (world_of after ≡ world_of p))

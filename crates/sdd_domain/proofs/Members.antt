@@ -20,7 +20,7 @@ use Rattle.sdd_domain.specs.LocalState.{LocalState, IsLone, LooksAt, KnowsOwner}
 use Rattle.sdd_atomics.specs.DomainSeat.{MovedAlone}
 
 -- a participant with this token
-abbrev pub with_token : LocalState → Seat ValueFraction View → LocalState
+abbrev pub with_token : {J : Type 0} → LocalState J → Seat ValueFraction View → LocalState J
 with_token m s = record m {
   home = s.table_id;
   known = s.me.0.epoch.known;
@@ -32,7 +32,7 @@ with_token m s = record m {
   words = s.me.0.words;
 }
 
-abbrev pub with_view : LocalState → TableId → View → LocalState
+abbrev pub with_view : {J : Type 0} → LocalState J → TableId → View → LocalState J
 with_view m id v = record m {
   home = id;
   known = v.epoch.known;
@@ -44,7 +44,8 @@ with_view m id v = record m {
   words = v.words;
 }
 
-pub looks_at : (m : LocalState) (slot : ℕ) (shared : Bool) (value : Gv) (s u z : Seat ValueFraction View) → MovedAlone (SeesOwned slot shared value) s u
+pub looks_at : {J : Type 0} (m : LocalState J) (slot : ℕ) (shared : Bool) (value : Gv) (s u z : Seat ValueFraction View)
+    → MovedAlone (SeesOwned slot shared value) s u
     → z ≡ record u { me = (u.me.0, z.me.1) } → LooksAt slot shared value (with_token m s) (with_token m z)
 looks_at m slot shared value s u z watched is = let w = watched.2 in
     let table : z.table_id ≡ s.table_id = ap (λ (x : Seat ValueFraction View). x.table_id) is ∙ watched.0 in
@@ -57,20 +58,21 @@ looks_at m slot shared value s u z watched is = let w = watched.2 in
     }
 
 -- after a look what is shown is known, and what was known before
-module _ (slot : ℕ) (shared : Bool) (value : Gv) (old new : LocalState) (looks : LooksAt slot shared value old new) where
+module _ {J : Type 0} (slot : ℕ) (shared : Bool) (value : Gv) (old new : LocalState J) (looks : LooksAt slot shared value old new) where
   pub shown_now : IsIn new.shown slot value
   shown_now = dite (dec_lt 0 (times slot old.slots.sees))
-      (λ sees. let s = looks.seen sees in subst (λ (m : LocalState). IsIn m.shown slot value) (sym s.0) s.1)
-      (λ blind. subst (λ (m : LocalState). IsIn m.shown slot value) (sym (looks.unseen blind))
+      (λ sees. let s = looks.seen sees in subst (λ (m : LocalState J). IsIn m.shown slot value) (sym s.0) s.1)
+      (λ blind. subst (λ (m : LocalState J). IsIn m.shown slot value) (sym (looks.unseen blind))
       (in_head (record { slot = slot; shared = shared; value = value }) old.shown slot value refl refl))
 
 -- beside a slot's owner a lone participant knows it
-pub recalls_to : (m : LocalState) (slot : ℕ) (shared : Bool) (value : Gv) (s t : Seat ValueFraction View) → MovedAlone (LearnsOwned slot shared value) s t
+pub recalls_to : {J : Type 0} (m : LocalState J) (slot : ℕ) (shared : Bool) (value : Gv) (s t : Seat ValueFraction View)
+    → MovedAlone (LearnsOwned slot shared value) s t
     → s.me.0.epoch.all ≡ m.limits.participants → IsLone m → KnowsOwner (with_token m s) slot shared value
 recalls_to m slot shared value s t recalled all lone = let r = recalled.2.1 (all ∙ lone) in record { newest = r.newest; alive = r.alive; kind = r.kind }
 
 -- an owner of its domain has a token
-pub has_tables : (m : LocalState) (right : Right) → home_of right ≡ slots_home m → AreSlotsOfTable (home_of right)
+pub has_tables : {J : Type 0} (m : LocalState J) (right : Right) → home_of right ≡ slots_home m → AreSlotsOfTable (home_of right)
 has_tables m right e = (
   (λ none. let apart : m.home ∷ [] ≡ [] = sym (ap (λ (h : GhostName). h.tables) e) ∙ none in cc),
   ap (λ (h : GhostName). h.cells) e,

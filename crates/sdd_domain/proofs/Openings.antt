@@ -17,7 +17,7 @@ use Rattle.sdd_domain.proofs.Arrivals.{same_items}
 use Rattle.sdd_domain.proofs.Reclaims.{aged_alike, left_alike, due_alike, all_left}
 use Rattle.sdd_domain.proofs.Alone.{alone}
 
-module _ {T : Type 0} (p : LocalModel T) (tied : AreTied p.member p.entries) (settled : p.member.due ≡ []) where
+module _ {T J : Type 0} (p : LocalModel T J) (tied : AreTied p.member p.entries) (settled : p.member.due ≡ []) where
   abbrev xs : List WaitingItem
   xs = p.member.slots.waits
 
@@ -34,14 +34,14 @@ module _ {T : Type 0} (p : LocalModel T) (tied : AreTied p.member p.entries) (se
   left_are : left (aged p.member.own.bags.waiting) ≡ map (waiting_of p.member.limits.slots) (unripe (map older p.member.slots.waits))
   left_are = ap (λ (ws : List Waiting). left (aged ws)) bags ∙ (ap left (aged_alike p.member.limits.slots xs) ∙ left_alike p.member.limits.slots (map older xs))
 
-  module _ (count : ℕ) (m : LocalState) (one : IsLone p.member) (is : IsEntered count p.member m) where
+  module _ (count : ℕ) (m : LocalState J) (one : IsLone p.member) (is : IsEntered count p.member m) where
     found : count ≡ p.member.known
     found = (is.lone one).0
 
-    abbrev same_member : LocalState
+    abbrev same_member : LocalState J
     same_member = record p.member { own = time.nested p.member.own; since = p.member.known; due = [] }
 
-    abbrev changed_member : LocalState
+    abbrev changed_member : LocalState J
     changed_member = record p.member {
       own = time.nested (time.rotated p.member.known p.member.own);
       since = p.member.known;
@@ -75,10 +75,10 @@ module _ {T : Type 0} (p : LocalModel T) (tied : AreTied p.member p.entries) (se
 
     -- one guard more is open, and where another count is found what waits has seen one change more
     pub enters_same : p.member.own.found ≡ p.member.known → alone (record p { member = m }) ≡ nested (alone p) 0
-    enters_same e = ap (λ (x : LocalState). alone (record p { member = x })) (is_same_member e)
+    enters_same e = ap (λ (x : LocalState J). alone (record p { member = x })) (is_same_member e)
 
     pub enters_changed : p.member.own.found ≢ p.member.known → alone (record p { member = m }) ≡ rotated (nested (alone p) 0) 0
-    enters_changed ne = ap (λ (x : LocalState). alone (record p { member = x })) (is_changed_member ne)
+    enters_changed ne = ap (λ (x : LocalState J). alone (record p { member = x })) (is_changed_member ne)
 
     tied_same : p.member.own.found ≡ p.member.known → AreTied same_member p.entries
     tied_same e = record {
@@ -86,6 +86,7 @@ module _ {T : Type 0} (p : LocalModel T) (tied : AreTied p.member p.entries) (se
       slots = tied.slots;
       long = tied.long;
       places = tied.places;
+      all_cells = tied.all_cells;
       wide = tied.wide;
       table = tied.table;
       jobs = tied.jobs;
@@ -103,6 +104,7 @@ module _ {T : Type 0} (p : LocalModel T) (tied : AreTied p.member p.entries) (se
       slots = tied.slots;
       long = tied.long;
       places = tied.places;
+      all_cells = tied.all_cells;
       wide = tied.wide;
       table = tied.table;
       jobs = tied.jobs;
@@ -116,5 +118,5 @@ module _ {T : Type 0} (p : LocalModel T) (tied : AreTied p.member p.entries) (se
 
     pub tied_enters : AreTied m p.entries
     tied_enters = dite (ℕ_discrete p.member.own.found p.member.known)
-        (λ e. subst (λ (x : LocalState). AreTied x p.entries) (sym (is_same_member e)) (tied_same e))
-        (λ ne. subst (λ (x : LocalState). AreTied x p.entries) (sym (is_changed_member ne)) tied_changed)
+        (λ e. subst (λ (x : LocalState J). AreTied x p.entries) (sym (is_same_member e)) (tied_same e))
+        (λ ne. subst (λ (x : LocalState J). AreTied x p.entries) (sym (is_changed_member ne)) tied_changed)

@@ -55,7 +55,7 @@ use Rattle.sdd_domain.specs.Space as space
 use Rattle.sdd_domain.proofs.Listings.{listing_at, listing_set, listing_same}
 use Rattle.sdd_domain.proofs.Words.{place_dead, inside, word_same, word_other, alive_taken, waiting_taken, value_there, stands_owned, stands_retired, counts_of, plain_retired, plain_less}
 use Rattle.sdd_domain.proofs.Members.{shown_now}
-use Rattle.sdd_domain.proofs.Alone.{alone, steps_alone}
+use Rattle.sdd_domain.proofs.Alone.{alone, steps_alone, cells_kept}
 use Rattle.sdd_domain.proofs.Exact.{lone_is}
 use Rattle.sdd_domain.proofs.Reclaims.{what_item}
 use Rattle.sdd_domain.proofs.Ripe.{ripe_snoc, unripe_too}
@@ -66,12 +66,12 @@ one_owner x true some kind sole = ap alive (sole refl) ∙ (claimed_is true).0
 one_owner x false some kind sole = let few = sound.few x kind in omega arith
 
 -- a slot's word is written that it had, and else nothing
-pub sole_still : (m : LocalState) (k : ℕ) (several : Bool) → (several ≡ true → word_of m k ≡ claimed_word true) → with_sole several k m ≡ m
+pub sole_still : {J : Type 0} (m : LocalState J) (k : ℕ) (several : Bool) → (several ≡ true → word_of m k ≡ claimed_word true) → with_sole several k m ≡ m
 sole_still m k true sole = (λ d. record m { words = set m.words (behind m.sizes k) (sym (sole refl) d) })
     ∙ (λ d. record m { words = set-get_or m.words (behind m.sizes k) 0 d })
 sole_still m k false sole = refl
 
-pub sole_only : (m : LocalState) (k : ℕ) (several : Bool) → with_sole several k m ≡ record m { words = (with_sole several k m).words }
+pub sole_only : {J : Type 0} (m : LocalState J) (k : ℕ) (several : Bool) → with_sole several k m ≡ record m { words = (with_sole several k m).words }
 sole_only m k true = refl
 sole_only m k false = refl
 
@@ -87,7 +87,7 @@ shown_entry k shared g (Some r) None is a = absurd a
 shown_entry k shared g (Some r) (Some x) is a = (x, refl, a ∙ ap (value_or g) is)
 
 -- ---- an owner's item
-module _ {T : Type 0} (v : LocalModel T) (t : AreTied v.member v.entries) (k : ℕ) (shared : Bool) (g : Gv) (knows : KnowsOwner v.member k shared g) where
+module _ {T J : Type 0} (v : LocalModel T J) (t : AreTied v.member v.entries) (k : ℕ) (shared : Bool) (g : Gv) (knows : KnowsOwner v.member k shared g) where
   pub low : k < v.member.limits.slots
   low = let s = t.slots in let q = t.places in let i = inside v.member.sizes v.member.words t.long (λ j l.
       subst (λ (n : ℕ). alive (get_or v.member.words (behind v.member.sizes (n + j)) 0) ≡ 0) (sym t.slots)
@@ -116,7 +116,7 @@ module _ {T : Type 0} (v : LocalModel T) (t : AreTied v.member v.entries) (k : �
   few_owners e = let c = counts_of (word_of v.member k) (t.plain k low) (knows.kind ∙ ap one_where e) in let a = c.1 in let b = c.2 in omega arith
 
 -- in an owner's slot is the value that it tells
-module _ (R : RattleType) (v : LocalModel R.Denot) (k : ℕ) (shared : Bool) (x : R.Denot) (tied : WordsMatchValues v.member v.entries)
+module _ {J : Type 0} (R : RattleType) (v : LocalModel R.Denot J) (k : ℕ) (shared : Bool) (x : R.Denot) (tied : WordsMatchValues v.member v.entries)
     (codes : (place : ℕ) (y : R.Denot) (g : Gv) → slice_index_or v.entries place None ≡ Some (y, g) → g ≡ showing R y) where
   pub owned_value : (IsLone v.member → KnowsOwner v.member k shared (showing R x)) → IsLone v.member → value_at (world_of v) k ≡ Some x
   owned_value recalled lone = let e = entry v (tied lone) k shared (showing R x) (recalled lone) in
@@ -124,8 +124,8 @@ module _ (R : RattleType) (v : LocalModel R.Denot) (k : ℕ) (shared : Bool) (x 
       has_value v (tied lone) k shared (showing R x) (recalled lone) ∙ ap Some same
 
 -- ---- a look at a slot
-module _ (R : RattleType) (v : LocalModel R.Denot) (m : LocalState) (k : ℕ) (sh : Bool) (x : R.Denot) where
-  abbrev after : LocalModel R.Denot
+module _ {J : Type 0} (R : RattleType) (v : LocalModel R.Denot J) (m : LocalState J) (k : ℕ) (sh : Bool) (x : R.Denot) where
+  abbrev after : LocalModel R.Denot J
   after = record { member = m; entries = v.entries }
 
   module _ (looks : LooksAt k sh (showing R x) v.member m) where
@@ -137,10 +137,10 @@ module _ (R : RattleType) (v : LocalModel R.Denot) (m : LocalState) (k : ℕ) (s
         (λ blind. only_by _ _ (looks.unseen blind))
 
     pub same_world : world_of after ≡ world_of v
-    same_world = ap (λ (y : LocalState). world_of (record { member = y; entries = v.entries })) only_looks
+    same_world = ap (λ (y : LocalState J). world_of (record { member = y; entries = v.entries })) only_looks
 
     lone_then : IsTrue (is_lone m) → IsLone v.member
-    lone_then exact = sym (ap (λ (y : LocalState). y.limits.participants) only_looks) ∙ lone_is m exact
+    lone_then exact = sym (ap (λ (y : LocalState J). y.limits.participants) only_looks) ∙ lone_is m exact
 
     module _ (is_there : IsLone v.member → value_at (world_of v) k ≡ Some x) where
       is_value : IsLone v.member → value_at (world_of after) k ≡ Some x
@@ -152,7 +152,7 @@ module _ (R : RattleType) (v : LocalModel R.Denot) (m : LocalState) (k : ℕ) (s
       shows_by holds at once false lone = let there = shown_now k sh (showing R x) v.member m looks in record {
         known = there;
         only = λ other is. once k other (showing R x) is there;
-        home = subst (λ (y : LocalState). AreOf (home_in y) (holds x)) (sym only_looks) at;
+        home = subst (λ (y : LocalState J). AreOf (home_in y) (holds x)) (sym only_looks) at;
       }
 
       pub shows_it : (holds : R.Denot → List OwnerOrCell) → AreOf (home_in v.member) (holds x) → IsOnce m.shown → Shows (showing R) holds after k x
@@ -162,22 +162,22 @@ module _ (R : RattleType) (v : LocalModel R.Denot) (m : LocalState) (k : ℕ) (s
         → ShowsBy b (showing R) holds after i u
     keeps_by holds once true i u h = ap (λ (w : World R.Denot). value_at w i) same_world ∙ h
     keeps_by holds once false i u h = dite (dec_lt 0 (times k v.member.slots.sees))
-        (λ sees. subst (λ (y : LocalState). space.SeesValue (showing R) holds y i u) (sym (looks.seen sees).0) h)
-        (λ blind. let is = looks.unseen blind in let there : IsIn m.shown i (showing R u) = subst (λ (y : LocalState). IsIn y.shown i (showing R u)) (sym is)
+        (λ sees. subst (λ (y : LocalState J). space.SeesValue (showing R) holds y i u) (sym (looks.seen sees).0) h)
+        (λ blind. let is = looks.unseen blind in let there : IsIn m.shown i (showing R u) = subst (λ (y : LocalState J). IsIn y.shown i (showing R u)) (sym is)
         (in_tail (record { slot = k; shared = sh; value = showing R x }) v.member.shown i (showing R u) h.known) in record {
           known = there;
           only = λ g other. once i g (showing R u) other there;
-          home = subst (λ (y : LocalState). AreOf (home_in y) (holds u)) (sym is) h.home;
+          home = subst (λ (y : LocalState J). AreOf (home_in y) (holds u)) (sym is) h.home;
         })
 
-    pub keeps_it : (holds : R.Denot → List OwnerOrCell) → IsOnce m.shown → (p : LocalModel R.Denot) → v ≡ p
+    pub keeps_it : (holds : R.Denot → List OwnerOrCell) → IsOnce m.shown → (p : LocalModel R.Denot J) → v ≡ p
         → KeepsShown (Shows (showing R) holds p) (Shows (showing R) holds after)
     keeps_it holds once p is i u h = let before : Shows (showing R) holds v i u
-        = subst (λ (q : LocalModel R.Denot). Shows (showing R) holds q i u) (sym is) h in
+        = subst (λ (q : LocalModel R.Denot J). Shows (showing R) holds q i u) (sym is) h in
         subst (λ (b : Bool). ShowsBy b (showing R) holds after i u) (ap is_lone (sym only_looks)) (keeps_by holds once (is_lone v.member) i u before)
 
 -- ---- what an owner tells is what its slot shows to a lone participant
-module _ (R : RattleType) (v : LocalModel R.Denot) (right : Right) (tied : WordsMatchValues v.member v.entries)
+module _ {J : Type 0} (R : RattleType) (v : LocalModel R.Denot J) (right : Right) (tied : WordsMatchValues v.member v.entries)
     (codes : (place : ℕ) (y : R.Denot) (g : Gv) → slice_index_or v.entries place None ≡ Some (y, g) → g ≡ showing R y)
     (recalled : IsLone v.member → (g : Gv) × HasValue g right × KnowsOwner v.member (number_of right) (is_shared (kind_of right)) g) where
   -- the value that it moved into the slot last is in it, and is what the owner tells
@@ -195,13 +195,13 @@ module _ (R : RattleType) (v : LocalModel R.Denot) (right : Right) (tied : Words
     (λ there. subst (λ (y : R.Denot). HasValue (showing R y) right) (same_value f.0 x (sym f.1 ∙ there)) f.2),
   )
 
-  pub has_shown : (holds : R.Denot → List OwnerOrCell) (p : LocalModel R.Denot) → v ≡ p → IsTrue (is_lone p.member) → (x : R.Denot)
+  pub has_shown : (holds : R.Denot → List OwnerOrCell) (p : LocalModel R.Denot J) → v ≡ p → IsTrue (is_lone p.member) → (x : R.Denot)
       → HasValue (showing R x) right ↔ Shows (showing R) holds p (number_of right) x
   has_shown holds p same exact x =
-      let here = has_there x (lone_is v.member (subst (λ (q : LocalModel R.Denot). IsTrue (is_lone q.member)) (sym same) exact)) in
+      let here = has_there x (lone_is v.member (subst (λ (q : LocalModel R.Denot J). IsTrue (is_lone q.member)) (sym same) exact)) in
       let shows = shows_is_value (showing R) holds p (is_lone p.member) exact (number_of right) x in (
-        (λ has. shows.1 (subst (λ (q : LocalModel R.Denot). value_at (world_of q) (number_of right) ≡ Some x) same (here.0 has))),
-        (λ shown. here.1 (subst (λ (q : LocalModel R.Denot). value_at (world_of q) (number_of right) ≡ Some x) (sym same) (shows.0 shown))),
+        (λ has. shows.1 (subst (λ (q : LocalModel R.Denot J). value_at (world_of q) (number_of right) ≡ Some x) same (here.0 has))),
+        (λ shown. here.1 (subst (λ (q : LocalModel R.Denot J). value_at (world_of q) (number_of right) ≡ Some x) (sym same) (shows.0 shown))),
       )
 
 -- ---- an owner goes
@@ -221,8 +221,8 @@ owned_by kinds.Shared n some few = record { alone = λ e. absurd cc; together = 
 owned_by kinds.Retired n some few = record { alone = λ e. absurd cc; together = λ e. absurd cc }
 
 -- what it knows of words is otherwise
-module _ {T : Type 0} (v : LocalModel T) (k y : ℕ) where
-  abbrev pub rewritten : LocalState
+module _ {T J : Type 0} (v : LocalModel T J) (k y : ℕ) where
+  abbrev pub rewritten : LocalState J
   rewritten = record v.member { words = set v.member.words (behind v.member.sizes k) y }
 
   module _ (t : AreTied v.member v.entries) (inside_here : k < v.member.sizes.slots) where
@@ -244,14 +244,14 @@ module _ {T : Type 0} (v : LocalModel T) (k y : ℕ) where
     standing_then i ne = ap standing_by (rewritten_then i ne)
 
 -- ---- it was the last
-module _ {T : Type 0} (v : LocalModel T) (m : LocalState) (k : ℕ) (shared : Bool) (g : Gv) (count : ℕ) (is : RetiresAt k shared count v.member m) where
-  abbrev later : LocalModel T
+module _ {T J : Type 0} (v : LocalModel T J) (m : LocalState J) (k : ℕ) (shared : Bool) (g : Gv) (count : ℕ) (is : RetiresAt k shared count v.member m) where
+  abbrev later : LocalModel T J
   later = record { member = m; entries = v.entries }
 
   abbrev y : ℕ
   y = retired_word shared
 
-  abbrev waits_too : LocalState
+  abbrev waits_too : LocalState J
   waits_too = record v.member {
     own = time.awaiting (Item k) v.member.own;
     slots = record v.member.slots { waits = v.member.slots.waits ++ retired_now k count ∷ [] };
@@ -259,7 +259,7 @@ module _ {T : Type 0} (v : LocalModel T) (m : LocalState) (k : ℕ) (shared : Bo
   }
 
   lone_still : IsLone m → IsLone v.member
-  lone_still one = sym (ap (λ (y : LocalState). y.limits.participants) is.member) ∙ one
+  lone_still one = sym (ap (λ (y : LocalState J). y.limits.participants) is.member) ∙ one
 
   is_later : IsLone v.member → m ≡ waits_too
   is_later lone = is.member ∙ (λ d. record waits_too { known = is.lone lone d })
@@ -289,6 +289,7 @@ module _ {T : Type 0} (v : LocalModel T) (m : LocalState) (k : ℕ) (shared : Bo
       place = t.place;
       slots = t.slots;
       places = t.places;
+      all_cells = t.all_cells;
       long = length-set v.member.words (behind v.member.sizes k) y ∙ t.long;
       wide = t.wide;
       plain = λ i l. dite (ℕ_discrete i k)
@@ -315,13 +316,13 @@ module _ {T : Type 0} (v : LocalModel T) (m : LocalState) (k : ℕ) (shared : Bo
 
     world_waits : alone (record { member = waits_too; entries = v.entries }) ≡ retired (alone v) 0 k
     world_waits =
-        let n : ℕ = v.member.limits.slots in let q : LocalModel T = record { member = waits_too; entries = v.entries } in
+        let n : ℕ = v.member.limits.slots in let q : LocalModel T J = record { member = waits_too; entries = v.entries } in
         let standings : listing n (standing_in q) ≡ set (listing n (standing_in v)) k (Some Retired)
         = listing_set n (standing_in v) (standing_in q) k (λ i l ne. standing_then v k y t inside_here i ne)
         ∙ ap (set (listing n (standing_in v)) k) (ap standing_by word_now ∙ stands_retired y waits_there) in
         let values : listing n (value_in q) ≡ listing n (value_in v)
         = listing_same n (value_in v) (value_in q) (λ i l. value_still v k y t inside_here (taken v t k shared g knows) still_there i) in
-        λ d. record (alone q) { standings = standings d; values = values d }
+        λ d. record (alone q) { standings = standings d; values = values d; cells = cells_kept v.member.limits.cells v.member.sizes v.member.words k y t.all_cells d }
 
     value_waits : (i : ℕ) (u : T) → value_at (world_of v) i ≡ Some u → value_at (world_of (record { member = waits_too; entries = v.entries })) i ≡ Some u
     value_waits i u was = ap (λ (vs : List (Option T)). slice_index_or vs i None)
@@ -330,20 +331,21 @@ module _ {T : Type 0} (v : LocalModel T) (m : LocalState) (k : ℕ) (shared : Bo
 
   module _ (tied : WordsMatchValues v.member v.entries) (knows : IsLone v.member → KnowsOwner v.member k shared g) where
     pub tied_later : WordsMatchValues m v.entries
-    tied_later one = let lone = lone_still one in subst (λ (y : LocalState). AreTied y v.entries) (sym (is_later lone)) (tied_waits (tied lone) (knows lone))
+    tied_later one = let lone = lone_still one in subst (λ (y : LocalState J). AreTied y v.entries) (sym (is_later lone)) (tied_waits (tied lone) (knows lone))
 
     pub world_later : IsLone v.member → world_of later ≡ owner_given (world_of v) v.member.place k (standing_at (world_of v) k)
     world_later lone = let t = tied lone in let know = knows lone in
-        steps_alone (λ (w : World T) (p : ℕ). retired w p k) v later t.place (ap (λ (y : LocalState). y.place) is.member ∙ t.place)
-        (ap (λ (y : LocalState). alone (record { member = y; entries = v.entries })) (is_later lone) ∙ world_waits t know)
+        steps_alone (λ (w : World T) (p : ℕ). retired w p k) v later t.place (ap (λ (y : LocalState J). y.place) is.member ∙ t.place)
+        (ap (λ (y : LocalState J). alone (record { member = y; entries = v.entries })) (is_later lone) ∙ world_waits t know)
         ∙ (sym (retires_by (world_of v) v.member.place k (alive (word_of v.member k)) shared (last_owner lone know))
         ∙ ap (owner_given (world_of v) v.member.place k) (sym (stands v t k shared g know)))
 
     keeps_when : (shown : T → Gv) (holds : T → List OwnerOrCell) (b : Bool) → (IsTrue b → IsLone v.member) → (i : ℕ) (u : T) → ShowsBy b shown holds v i u
         → ShowsBy b shown holds later i u
-    keeps_when shown holds true lone i u h = ap (λ (y : LocalState). value_at (world_of (record { member = y; entries = v.entries })) i) (is_later (lone refl))
+    keeps_when shown holds true lone i u h = ap (λ (y : LocalState J). value_at (world_of (record { member = y; entries = v.entries })) i)
+        (is_later (lone refl))
         ∙ value_waits (tied (lone refl)) (knows (lone refl)) i u h
-    keeps_when shown holds false lone i u h = subst (λ (y : LocalState). space.SeesValue shown holds y i u) (sym is.member) h
+    keeps_when shown holds false lone i u h = subst (λ (y : LocalState J). space.SeesValue shown holds y i u) (sym is.member) h
 
 -- ---- others stay
 shared_of : (b : Bool) → one_where b ≡ 1 → b ≡ true
@@ -360,7 +362,7 @@ some_others n true e more = lt-ltb 1 n more
 some_others n false e more = absurd (true≢false (sym e))
 
 -- its word counts otherwise of an owner's item
-module _ {T : Type 0} (v : LocalModel T) (t : AreTied v.member v.entries) (k : ℕ) (shared : Bool) (g : Gv) (knows : KnowsOwner v.member k shared g)
+module _ {T J : Type 0} (v : LocalModel T J) (t : AreTied v.member v.entries) (k : ℕ) (shared : Bool) (g : Gv) (knows : KnowsOwner v.member k shared g)
     (y : ℕ) (lives : 0 < alive y) (plain : IsTrue (is_plain_word y)) where
   near : k < v.member.sizes.slots
   near = let l = low v t k shared g knows in let s = t.slots in omega arith
@@ -370,6 +372,7 @@ module _ {T : Type 0} (v : LocalModel T) (t : AreTied v.member v.entries) (k : �
     place = t.place;
     slots = t.slots;
     places = t.places;
+    all_cells = t.all_cells;
     long = length-set v.member.words (behind v.member.sizes k) y ∙ t.long;
     wide = t.wide;
     plain = λ i low. dite (ℕ_discrete i k)
@@ -398,19 +401,19 @@ module _ {T : Type 0} (v : LocalModel T) (t : AreTied v.member v.entries) (k : �
   pub world_recounted : counted y ≡ 1 → (n : ℕ) → alive y ≡ n
       → world_of (record { member = rewritten v k y; entries = v.entries }) ≡ with_standing (world_of v) k (Shared n)
   world_recounted several n so_many =
-      let slots : ℕ = v.member.limits.slots in let q : LocalModel T = record { member = rewritten v k y; entries = v.entries } in
+      let slots : ℕ = v.member.limits.slots in let q : LocalModel T J = record { member = rewritten v k y; entries = v.entries } in
       let standings : listing slots (standing_in q) ≡ set (listing slots (standing_in v)) k (Some (Shared n))
       = listing_set slots (standing_in v) (standing_in q) k (λ i l ne. standing_then v k y t near i ne)
       ∙ ap (set (listing slots (standing_in v)) k) (ap standing_by (rewritten_now v k y t near)
       ∙ (stands_owned y true lives several ∙ ap (λ (o : ℕ). Some (Shared o)) so_many)) in
-      λ d. record (world_of q) { standings = standings d; values = values_recounted d }
+      λ d. record (world_of q) { standings = standings d; values = values_recounted d; cells = cells_kept v.member.limits.cells v.member.sizes v.member.words k y t.all_cells d }
 
   pub value_recounted : (i : ℕ) (u : T) → value_at (world_of v) i ≡ Some u
       → value_at (world_of (record { member = rewritten v k y; entries = v.entries })) i ≡ Some u
   value_recounted i u was = ap (λ (vs : List (Option T)). slice_index_or vs i None) values_recounted ∙ was
 
-module _ {T : Type 0} (v : LocalModel T) (m : LocalState) (k : ℕ) (shared : Bool) (g : Gv) (word : ℕ) (is : LeavesAt k word v.member m) where
-  abbrev lessened : LocalModel T
+module _ {T J : Type 0} (v : LocalModel T J) (m : LocalState J) (k : ℕ) (shared : Bool) (g : Gv) (word : ℕ) (is : LeavesAt k word v.member m) where
+  abbrev lessened : LocalModel T J
   lessened = record { member = rewritten v k (word - 1); entries = v.entries }
 
   module _ (lone : IsLone v.member) (t : AreTied v.member v.entries) (knows : KnowsOwner v.member k shared g) where
@@ -436,14 +439,14 @@ module _ {T : Type 0} (v : LocalModel T) (m : LocalState) (k : ℕ) (shared : Bo
     tied_lessened = tied_recounted v t k shared g knows (word - 1) less_lives less_now.2
 
     pub tied_left : AreTied m v.entries
-    tied_left = subst (λ (y : LocalState). AreTied y v.entries) (sym is.member) tied_lessened
+    tied_left = subst (λ (y : LocalState J). AreTied y v.entries) (sym is.member) tied_lessened
 
     world_lessened : world_of lessened ≡ with_standing (world_of v) k (Shared (alive (word_of v.member k) - 1))
     world_lessened = world_recounted v t k shared g knows (word - 1) less_lives less_now.2 less_now.0 (alive (word_of v.member k) - 1)
         (let fewer = less_now.1 in let found = ap alive (is.lone lone) in omega arith)
 
     pub world_left : world_of (record { member = m; entries = v.entries }) ≡ owner_given (world_of v) v.member.place k (standing_at (world_of v) k)
-    world_left = ap (λ (y : LocalState). world_of (record { member = y; entries = v.entries })) is.member ∙ (world_lessened
+    world_left = ap (λ (y : LocalState J). world_of (record { member = y; entries = v.entries })) is.member ∙ (world_lessened
         ∙ (sym (fewer_by (world_of v) v.member.place k (alive (word_of v.member k)) shared is_several more_owners)
         ∙ ap (owner_given (world_of v) v.member.place k) (sym (stands v t k shared g knows))))
 
@@ -451,7 +454,7 @@ module _ {T : Type 0} (v : LocalModel T) (m : LocalState) (k : ℕ) (shared : Bo
     value_left = value_recounted v t k shared g knows (word - 1) less_lives less_now.2
 
 -- ---- for an answer
-module _ {T : Type 0} (v : LocalModel T) (m : LocalState) (right : Right) (tied : WordsMatchValues v.member v.entries)
+module _ {T J : Type 0} (v : LocalModel T J) (m : LocalState J) (right : Right) (tied : WordsMatchValues v.member v.entries)
     (knows : IsLone v.member → (g : Gv) × KnowsOwner v.member (number_of right) (is_shared (kind_of right)) g) where
   abbrev pub Went : Bool → Type 0
   Went last = OwnerGoes (number_of right) (is_shared (kind_of right)) last v.member m
@@ -464,41 +467,41 @@ module _ {T : Type 0} (v : LocalModel T) (m : LocalState) (right : Right) (tied 
 
   -- of its own, of its limits and of its home all stays, but what waits
   pub went_limits : (last : Bool) → Went last → m.limits ≡ v.member.limits
-  went_limits true w = ap (λ (y : LocalState). y.limits) w.1.member
-  went_limits false w = ap (λ (y : LocalState). y.limits) w.1.member
+  went_limits true w = ap (λ (y : LocalState J). y.limits) w.1.member
+  went_limits false w = ap (λ (y : LocalState J). y.limits) w.1.member
 
   pub went_home : (last : Bool) → Went last → home_in m ≡ home_in v.member
   went_home true w = ap home_in w.1.member
   went_home false w = ap home_in w.1.member
 
   pub went_due : (last : Bool) → Went last → m.due ≡ v.member.due
-  went_due true w = ap (λ (y : LocalState). y.due) w.1.member
-  went_due false w = ap (λ (y : LocalState). y.due) w.1.member
+  went_due true w = ap (λ (y : LocalState J). y.due) w.1.member
+  went_due false w = ap (λ (y : LocalState J). y.due) w.1.member
 
   -- nothing less waits with it
   pub grows_when : (last : Bool) → Went last → KeepsMoreWaiting v.member.own m.own
-  grows_when true w = grows_by (number_of right) v.member.own m.own (ap (λ (y : LocalState). y.own) w.1.member)
-  grows_when false w = grows_not v.member.own m.own (ap (λ (y : LocalState). y.own) w.1.member)
+  grows_when true w = grows_by (number_of right) v.member.own m.own (ap (λ (y : LocalState J). y.own) w.1.member)
+  grows_when false w = grows_not v.member.own m.own (ap (λ (y : LocalState J). y.own) w.1.member)
 
   -- what it keeps of its own
   pub went_own : (last : Bool) → Went last → m.own ≡ left_waiting last (number_of right) v.member.own
-  went_own true w = ap (λ (y : LocalState). y.own) w.1.member
-  went_own false w = ap (λ (y : LocalState). y.own) w.1.member
+  went_own true w = ap (λ (y : LocalState J). y.own) w.1.member
+  went_own false w = ap (λ (y : LocalState J). y.own) w.1.member
 
   -- what it knows of the count rises
   pub went_knows : (last : Bool) → Went last → KnowsOn (known_of v) (known_of (record { member = m; entries = v.entries }))
-  went_knows true w = let knew = w.1.knew in let told = ap (λ (y : LocalState). y.known) w.1.member in record {
+  went_knows true w = let knew = w.1.knew in let told = ap (λ (y : LocalState J). y.known) w.1.member in record {
     told = omega arith;
-    since = ap (λ (y : LocalState). y.since) w.1.member;
+    since = ap (λ (y : LocalState J). y.since) w.1.member;
   }
-  went_knows false w = let told = ap (λ (y : LocalState). y.known) w.1.member in record {
+  went_knows false w = let told = ap (λ (y : LocalState J). y.known) w.1.member in record {
     told = omega arith;
-    since = ap (λ (y : LocalState). y.since) w.1.member;
+    since = ap (λ (y : LocalState J). y.since) w.1.member;
   }
 
   pub went_seat : (last : Bool) → Went last → seat_of (record { member = m; entries = v.entries }) ≡ seat_of v
-  went_seat true w = ap (λ (y : LocalState). seat_of (record { member = y; entries = v.entries })) w.1.member
-  went_seat false w = ap (λ (y : LocalState). seat_of (record { member = y; entries = v.entries })) w.1.member
+  went_seat true w = ap (λ (y : LocalState J). seat_of (record { member = y; entries = v.entries })) w.1.member
+  went_seat false w = ap (λ (y : LocalState J). seat_of (record { member = y; entries = v.entries })) w.1.member
 
   went_lone : (last : Bool) → Went last → IsLone m → IsLone v.member
   went_lone last w one = sym (ap (λ (l : Limits). l.participants) (went_limits last w)) ∙ one
@@ -525,18 +528,18 @@ module _ {T : Type 0} (v : LocalModel T) (m : LocalState) (right : Right) (tied 
       → ShowsBy b shown holds v i u → ShowsBy b shown holds (record { member = m; entries = v.entries }) i u
   keeps_late true w shown holds true lone i u h = keeps_when v m own_slot shared (knows (lone refl)).0 w.0 w.1 tied
       (λ _. (knows (lone refl)).1) shown holds true lone i u h
-  keeps_late true w shown holds false lone i u h = subst (λ (y : LocalState). space.SeesValue shown holds y i u) (sym w.1.member) h
-  keeps_late false w shown holds true lone i u h = ap (λ (y : LocalState). value_at (world_of (record { member = y; entries = v.entries })) i) w.1.member
+  keeps_late true w shown holds false lone i u h = subst (λ (y : LocalState J). space.SeesValue shown holds y i u) (sym w.1.member) h
+  keeps_late false w shown holds true lone i u h = ap (λ (y : LocalState J). value_at (world_of (record { member = y; entries = v.entries })) i) w.1.member
       ∙ value_left v m own_slot shared (knows (lone refl)).0 w.0 w.1 (lone refl) (tied (lone refl)) (knows (lone refl)).1 i u h
-  keeps_late false w shown holds false lone i u h = subst (λ (y : LocalState). space.SeesValue shown holds y i u) (sym w.1.member) h
+  keeps_late false w shown holds false lone i u h = subst (λ (y : LocalState J). space.SeesValue shown holds y i u) (sym w.1.member) h
 
-  module _ (last : Bool) (went : Went last) (p : LocalModel T) (same : v ≡ p) where
+  module _ (last : Bool) (went : Went last) (p : LocalModel T J) (same : v ≡ p) where
     lone_of : IsTrue (is_lone p.member) → IsLone v.member
-    lone_of exact = lone_is v.member (subst (λ (q : LocalModel T). IsTrue (is_lone q.member)) (sym same) exact)
+    lone_of exact = lone_is v.member (subst (λ (q : LocalModel T J). IsTrue (is_lone q.member)) (sym same) exact)
 
     stands_now : (exact : IsTrue (is_lone p.member))
         → standing_at (world_of p) own_slot ≡ Some (if shared then Shared (alive (word_of v.member own_slot)) else Owned)
-    stands_now exact = let lone = lone_of exact in subst (λ (q : LocalModel T). standing_at (world_of q) own_slot
+    stands_now exact = let lone = lone_of exact in subst (λ (q : LocalModel T J). standing_at (world_of q) own_slot
         ≡ Some (if shared then Shared (alive (word_of v.member own_slot)) else Owned)) same (stands v (tied lone) own_slot shared (knows lone).0 (knows lone).1)
 
     pub release_owned : IsTrue (is_lone p.member) → IsOwnedBy (kind_of right) (standing_at (world_of p) (number_of right))
@@ -551,11 +554,11 @@ module _ {T : Type 0} (v : LocalModel T) (m : LocalState) (right : Right) (tied 
     pub release_world : IsTrue (is_lone p.member) → world_of (record { member = m; entries = v.entries })
         ≡ owner_given (world_of p) p.member.place (number_of right) (standing_at (world_of p) (number_of right))
     release_world exact = world_now last went (lone_of exact)
-        ∙ ap (λ (q : LocalModel T). owner_given (world_of q) q.member.place (number_of right) (standing_at (world_of q) (number_of right))) same
+        ∙ ap (λ (q : LocalModel T J). owner_given (world_of q) q.member.place (number_of right) (standing_at (world_of q) (number_of right))) same
 
     pub release_keeps : (shown : T → Gv) (holds : T → List OwnerOrCell)
         → KeepsShown (Shows shown holds p) (Shows shown holds (record { member = m; entries = v.entries }))
-    release_keeps shown holds i u h = let before : Shows shown holds v i u = subst (λ (q : LocalModel T). Shows shown holds q i u) (sym same) h in
+    release_keeps shown holds i u h = let before : Shows shown holds v i u = subst (λ (q : LocalModel T J). Shows shown holds q i u) (sym same) h in
         subst (λ (b : Bool). ShowsBy b shown holds (record { member = m; entries = v.entries }) i u)
         (ap (λ (l : Limits). l.participants == 1) (sym (went_limits last went)))
         (keeps_late last went shown holds (is_lone v.member) (λ exact. lone_is v.member exact) i u before)

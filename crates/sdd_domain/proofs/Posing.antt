@@ -130,6 +130,7 @@ module _ (b : DomainTable) (p : ℕ) where
         found = q.found;
         quiet = record { owns = q.quiet.owns; drawn = q.quiet.drawn; holds = q.quiet.holds; looked = q.quiet.looked; over = q.quiet.over };
         pledges = q.pledges;
+        rights = q.rights;
         waiting = λ i some_wait. dite (ℕ_discrete slot i) (λ e. subst (λ (k : ℕ). k < most_waiting_of b) e (let l = low in omega arith))
             (λ ne. q.waiting i (let o = is_other i slot ne in let t = total_snoc (waits_in i) s.me.0.slots.waits (retired_now slot r.0) in omega arith));
         bags = ap (λ (l : List Waiting). l ++ fresh (Item slot) ∷ []) q.bags ∙ sym (unripe_too (retired_now slot r.0) refl (slots_of b) (Item slot)
@@ -171,6 +172,7 @@ module _ (b : DomainTable) (p : ℕ) where
         found = q.found;
         quiet = record { owns = q.quiet.owns; drawn = q.quiet.drawn; holds = q.quiet.holds; looked = q.quiet.looked; over = q.quiet.over };
         pledges = q.pledges;
+        rights = q.rights;
         waiting = q.waiting;
         bags = q.bags;
         room = q.room;
@@ -201,6 +203,7 @@ module _ (b : DomainTable) (p : ℕ) where
         found = q.found;
         quiet = record { owns = q.quiet.owns; drawn = q.quiet.drawn; holds = q.quiet.holds; looked = q.quiet.looked; over = q.quiet.over };
         pledges = q.pledges;
+        rights = q.rights;
         waiting = λ i some_wait. q.waiting i (let m = no_more slot i s.me.0.slots.waits in omega arith);
         bags = q.bags ∙ ap (map (waiting_of (slots_of b))) (sym goes.1);
         room = q.room;
@@ -211,12 +214,12 @@ module _ (b : DomainTable) (p : ℕ) where
   pub posed_arrived : (own new : Participant) (c g : ℕ) (xs : List WaitingItem) (s t : Seat ValueFraction View) → IsBetweenCalls b p own s → t.table_id ≡
       s.table_id
       → t.me.1 ≡ s.me.1 → t.me.0.sizes ≡ s.me.0.sizes
-      → record t.me.0.stakes { counts = s.me.0.stakes.counts } ≡ s.me.0.stakes → t.me.0.pledges ≡ s.me.0.pledges
+      → record t.me.0.stakes { counts = s.me.0.stakes.counts } ≡ s.me.0.stakes → t.me.0.pledges ≡ s.me.0.pledges → t.me.0.cells ≡ s.me.0.cells
       → epoch t ≡ published (counted (knowing (epoch s) c) c) g → c ≤ g → (IsLone (epoch s) → g ≡ c)
       → slots t ≡ record s.me.0.slots { waits = xs } → ((i : ℕ) → total (waits_in i) xs ≤ items_at i (view s))
       → new.found ≡ c → new.guards ≡ 0 → new.bags.waiting ≡ map (waiting_of (slots_of b)) (unripe xs) → new.bags.room ≡ own.bags.room
       → new.countdown ≤ 128 → (new.countdown ≡ 128 → new.bags.waiting ≡ []) → IsBetweenCalls b p (nested new) t
-  posed_arrived own new c g xs s t q table others sizes stakes pledged epochs low one_only keeps fewer found none bags room pace idle =
+  posed_arrived own new c g xs s t q table others sizes stakes pledged cells epochs low one_only keeps fewer found none bags room pace idle =
       let is : t.me.0 ≡ record t.me.0 { epoch = published (counted (knowing (epoch s) c) c) g; slots = record s.me.0.slots { waits = xs } }
       = λ i. record t.me.0 { epoch = epochs i; slots = keeps i } in
       subst (λ (v : View). IsBetweenCalls b p (nested new) (record t { me = (v, t.me.1) })) (sym is) record {
@@ -243,6 +246,7 @@ module _ (b : DomainTable) (p : ℕ) where
         found = sym found;
         quiet = record { owns = q.quiet.owns; drawn = q.quiet.drawn; holds = q.quiet.holds; looked = q.quiet.looked; over = q.quiet.over };
         pledges = ap (λ (k : PledgesView). k.own) pledged ∙ q.pledges;
+        rights = cells ∙ q.rights;
         waiting = λ i some_wait. q.waiting i (let f = fewer i in omega arith);
         bags = bags;
         room = room ∙ q.room;
@@ -288,6 +292,7 @@ module _ (b : DomainTable) (p : ℕ) where
           found = q.found;
           quiet = record { owns = q.quiet.owns; drawn = q.quiet.drawn; holds = q.quiet.holds; looked = q.quiet.looked; over = q.quiet.over };
           pledges = q.pledges;
+          rights = q.rights;
           waiting = q.waiting;
           bags = q.bags;
           room = q.room;
@@ -324,6 +329,7 @@ module _ (b : DomainTable) (p : ℕ) where
         found = q.found;
         quiet = record { owns = q.quiet.owns; drawn = q.quiet.drawn; holds = q.quiet.holds; looked = q.quiet.looked; over = q.quiet.over };
         pledges = q.pledges;
+        rights = q.rights;
         waiting = q.waiting;
         bags = q.bags;
         room = q.room;
@@ -417,6 +423,7 @@ module _ (b : DomainTable) (p : ℕ) where
         found = q.found;
         quiet = record { owns = q.quiet.owns; drawn = q.quiet.drawn; holds = q.quiet.holds; looked = q.quiet.looked; over = q.quiet.over };
         pledges = q.pledges;
+        rights = q.rights;
         waiting = q.waiting;
         bags = q.bags;
         room = q.room;

@@ -58,6 +58,7 @@ module _ (b : DomainTable) (p : ℕ) (own : Participant) (slot : ℕ) (value : G
     found = q.found;
     quiet = record { owns = q.quiet.owns; drawn = q.quiet.drawn; holds = q.quiet.holds; looked = q.quiet.looked; over = q.quiet.over };
     pledges = q.pledges;
+    rights = q.rights;
     waiting = q.waiting;
     bags = q.bags;
     room = q.room;

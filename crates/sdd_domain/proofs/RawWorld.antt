@@ -42,14 +42,15 @@ use Rattle.sdd_domain.proofs.Words.{plain_by, word_same, word_other, stands_owne
 use Rattle.sdd_domain.proofs.Owning.{low, taken, stands, shown_entry, only_looks, shows_it, keeps_it}
 use Rattle.sdd_domain.proofs.Exact.{lone_is}
 use Rattle.sdd_domain.proofs.Refusals.{words_only, words_undisturbed}
+use Rattle.sdd_domain.proofs.Alone.{cells_kept}
 
 -- ---- a word changes of an item that stays
 -- an item that neither waits nor is free
 abbrev IsKeptBy : ℕ → Type 0
 IsKeptBy word = (waiting word ≡ 0) × (full word ≡ 1) × (word ≢ 0)
 
-module _ {T : Type 0} (v : LocalModel T) (k y : ℕ) where
-  abbrev changed : LocalModel T
+module _ {T J : Type 0} (v : LocalModel T J) (k y : ℕ) where
+  abbrev changed : LocalModel T J
   changed = record { member = with_word k y v.member; entries = v.entries }
 
   module _ (t : AreTied v.member v.entries) (near : k < v.member.limits.slots) where
@@ -70,6 +71,7 @@ module _ {T : Type 0} (v : LocalModel T) (k y : ℕ) where
         place = t.place;
         slots = t.slots;
         places = t.places;
+        all_cells = t.all_cells;
         long = length-set v.member.words (behind v.member.sizes k) y ∙ t.long;
         wide = t.wide;
         plain = λ i l. dite (ℕ_discrete i k)
@@ -107,7 +109,11 @@ module _ {T : Type 0} (v : LocalModel T) (k y : ℕ) where
           let standings : listing n (standing_in changed) ≡ set (listing n (standing_in v)) k (Some s)
           = listing_set n (standing_in v) (standing_in changed) k (λ i l ne. ap standing_by (word_then i ne))
           ∙ ap (set (listing n (standing_in v)) k) (ap standing_by word_now ∙ is) in
-          λ d. record (world_of v) { standings = standings d; values = values_same d }
+          λ d. record (world_of v) {
+            standings = standings d;
+            values = values_same d;
+            cells = cells_kept v.member.limits.cells v.member.sizes v.member.words k y t.all_cells d;
+          }
 
       -- and each slot has its value still
       pub value_word : (i : ℕ) (u : T) → value_at (world_of v) i ≡ Some u → value_at (world_of changed) i ≡ Some u
@@ -121,7 +127,7 @@ raw_kept : IsKeptBy 2
 raw_kept = let r = raw_is 0 (omega arith) in (r.1, r.2, λ e. absurd (omega arith))
 
 -- ---- it goes out
-module _ {T : Type 0} (v : LocalModel T) (k : ℕ) (tied : WordsMatchValues v.member v.entries)
+module _ {T J : Type 0} (v : LocalModel T J) (k : ℕ) (tied : WordsMatchValues v.member v.entries)
     (knows : IsLone v.member → (g : Gv) × KnowsOwner v.member k false g) where
   near_owned : (lone : IsLone v.member) → k < v.member.limits.slots
   near_owned lone = let r = knows lone in low v (tied lone) k false r.0 r.1
@@ -156,7 +162,7 @@ not_raw_owner : (x : ℕ) (several : Bool) → 0 < alive x → counted x ≡ one
 not_raw_owner x true some kind e = let a : Some (Shared (alive x)) ≡ Some Raw = sym (stands_owned x true some kind) ∙ e in absurd cc
 not_raw_owner x false some kind e = let a : Some Owned ≡ Some Raw = sym (stands_owned x false some kind) ∙ e in absurd cc
 
-module _ {T : Type 0} (v : LocalModel T) (k : ℕ) (tied : WordsMatchValues v.member v.entries) where
+module _ {T J : Type 0} (v : LocalModel T J) (k : ℕ) (tied : WordsMatchValues v.member v.entries) where
   -- what stands as raw is out
   out_if : (x : ℕ) → IsTrue (is_plain_word x) → standing_by x ≡ Some Raw → x ≡ 2
   out_if x plain is = plain_by x plain (λ e. absurd (let a : None ≡ Some Raw = sym (ap standing_by e) ∙ is in cc))
@@ -200,7 +206,7 @@ module _ {T : Type 0} (v : LocalModel T) (k : ℕ) (tied : WordsMatchValues v.me
     back_keeps shown holds i u h = back_keeps_by shown holds (is_lone v.member) (λ exact. lone_is v.member exact) i u h
 
 -- ---- what it shows meanwhile is what is in its slot
-module _ (R : RattleType) (v : LocalModel R.Denot) (k : ℕ) (x : R.Denot) (tied : WordsMatchValues v.member v.entries)
+module _ {J : Type 0} (R : RattleType) (v : LocalModel R.Denot J) (k : ℕ) (x : R.Denot) (tied : WordsMatchValues v.member v.entries)
     (codes : (place : ℕ) (y : R.Denot) (g : Gv) → slice_index_or v.entries place None ≡ Some (y, g) → g ≡ showing R y)
     (near : k < v.member.limits.slots) (knows : IsLone v.member → KnowsRaw v.member k (showing R x)) where
   -- it is the value that was moved in last
@@ -212,79 +218,79 @@ module _ (R : RattleType) (v : LocalModel R.Denot) (k : ℕ) (x : R.Denot) (tied
       listing_at v.member.limits.slots (value_in v) k None near ∙ ((λ d. value_by (r.out d) (e.1 d)) ∙ ap Some same)
 
 -- ---- for answers
-module _ {T : Type 0} (v : LocalModel T) (m : LocalState) (k : ℕ) (is : m ≡ put_out k v.member) (tied : WordsMatchValues v.member v.entries)
+module _ {T J : Type 0} (v : LocalModel T J) (m : LocalState J) (k : ℕ) (is : m ≡ put_out k v.member) (tied : WordsMatchValues v.member v.entries)
     (knows : IsLone v.member → (g : Gv) × KnowsOwner v.member k false g) where
   -- the invariants, how the slot stood, the world, and what is left alone
   pub puts_tied : WordsMatchValues m v.entries
-  puts_tied = subst (λ (y : LocalState). WordsMatchValues y v.entries) (sym is) (out_tied v k tied knows)
+  puts_tied = subst (λ (y : LocalState J). WordsMatchValues y v.entries) (sym is) (out_tied v k tied knows)
 
   puts_world_alone : IsLone v.member → world_of (record { member = m; entries = v.entries }) ≡ with_standing (world_of v) k Raw
-  puts_world_alone lone = ap (λ (y : LocalState). world_of (record { member = y; entries = v.entries })) is ∙ out_world v k tied knows lone
+  puts_world_alone lone = ap (λ (y : LocalState J). world_of (record { member = y; entries = v.entries })) is ∙ out_world v k tied knows lone
 
   pub puts_sound : (holds : T → List OwnerOrCell) → IsSound holds v → IsSound holds (record { member = m; entries = v.entries })
-  puts_sound holds sound = sound_then holds v m sound (ap (λ (y : LocalState). y.due) is ∙ sound.settled) (ap home_in is) (λ one.
-      let lone : IsLone v.member = sym (ap (λ (y : LocalState). y.limits.participants) is) ∙ one in
+  puts_sound holds sound = sound_then holds v m sound (ap (λ (y : LocalState J). y.due) is ∙ sound.settled) (ap home_in is) (λ one.
+      let lone : IsLone v.member = sym (ap (λ (y : LocalState J). y.limits.participants) is) ∙ one in
       subst (λ (w : World T). IsWhole w) (sym (puts_world_alone lone))
       (Whole-restands (world_of v) k Raw (ap is_out (out_stood v k tied knows lone)) refl (sound.whole lone)))
 
-  module _ (p : LocalModel T) (same : v ≡ p) where
+  module _ (p : LocalModel T J) (same : v ≡ p) where
     lone_of : IsTrue (is_lone p.member) → IsLone v.member
-    lone_of exact = lone_is v.member (subst (λ (q : LocalModel T). IsTrue (is_lone q.member)) (sym same) exact)
+    lone_of exact = lone_is v.member (subst (λ (q : LocalModel T J). IsTrue (is_lone q.member)) (sym same) exact)
 
     pub puts_stood : IsTrue (is_lone p.member) → standing_at (world_of p) k ≡ Some Owned
-    puts_stood exact = subst (λ (q : LocalModel T). standing_at (world_of q) k ≡ Some Owned) same (out_stood v k tied knows (lone_of exact))
+    puts_stood exact = subst (λ (q : LocalModel T J). standing_at (world_of q) k ≡ Some Owned) same (out_stood v k tied knows (lone_of exact))
 
     pub puts_world : IsTrue (is_lone p.member) → world_of (record { member = m; entries = v.entries }) ≡ with_standing (world_of p) k Raw
-    puts_world exact = puts_world_alone (lone_of exact) ∙ ap (λ (q : LocalModel T). with_standing (world_of q) k Raw) same
+    puts_world exact = puts_world_alone (lone_of exact) ∙ ap (λ (q : LocalModel T J). with_standing (world_of q) k Raw) same
 
     pub puts_undisturbed : (shown : T → Gv) (holds : T → List OwnerOrCell)
-        → Undisturbed seat_of (λ (q : LocalModel T). q.member.own) known_of (λ (q : LocalModel T). Shows shown holds q) p
+        → Undisturbed seat_of (λ (q : LocalModel T J). q.member.own) known_of (λ (q : LocalModel T J). Shows shown holds q) p
         (record { member = m; entries = v.entries })
-    puts_undisturbed shown holds = words_undisturbed v m (words_only m v.member (put_out k v.member).words is) shown holds p same (subst (λ (y : LocalState).
+    puts_undisturbed shown holds = words_undisturbed v m (words_only m v.member (put_out k v.member).words is) shown holds p same (subst (λ (y : LocalState J).
         KeepsShown (Shows shown holds v) (Shows shown holds (record { member = y; entries = v.entries }))) (sym is) (out_keeps v k tied knows shown holds))
 
 -- what the taking back of an item answers
-abbrev TakesOrNot : {T : Type 0} → LocalModel T → LocalState → ℕ → Option Right → Type 0
+abbrev TakesOrNot : {T J : Type 0} → LocalModel T J → LocalState J → ℕ → Option Right → Type 0
 TakesOrNot v m slot r = MatchOption r ((m ≡ v.member) × (IsLone v.member → slot < v.member.limits.slots → ¬ (IsOut v.member slot)))
     (λ right. (number_of right ≡ slot) × (slot < v.member.limits.slots) × (m ≡ taken_back slot v.member)
     × ((value : Gv) × IsRightTo v.member kinds.Owned value right × (IsLone v.member → KnowsRaw v.member slot value)))
 
-module _ {T : Type 0} (v : LocalModel T) (m : LocalState) (slot : ℕ) (tied : WordsMatchValues v.member v.entries) where
+module _ {T J : Type 0} (v : LocalModel T J) (m : LocalState J) (slot : ℕ) (tied : WordsMatchValues v.member v.entries) where
   -- only words are others
   takes_words : (r : Option Right) → TakesOrNot v m slot r → m ≡ record v.member { words = m.words }
-  takes_words None a = a.0 ∙ (λ d. record v.member { words = sym (ap (λ (y : LocalState). y.words) a.0) d })
-  takes_words (Some right) a = a.2 ∙ (λ d. record v.member { words = sym (ap (λ (y : LocalState). y.words) a.2) d })
+  takes_words None a = a.0 ∙ (λ d. record v.member { words = sym (ap (λ (y : LocalState J). y.words) a.0) d })
+  takes_words (Some right) a = a.2 ∙ (λ d. record v.member { words = sym (ap (λ (y : LocalState J). y.words) a.2) d })
 
   -- the invariants, what is shown, what is left alone, and the world
   pub takes_tied : (r : Option Right) → TakesOrNot v m slot r → WordsMatchValues m v.entries
-  takes_tied None a = subst (λ (y : LocalState). WordsMatchValues y v.entries) (sym a.0) tied
-  takes_tied (Some right) a = subst (λ (y : LocalState). WordsMatchValues y v.entries) (sym a.2)
+  takes_tied None a = subst (λ (y : LocalState J). WordsMatchValues y v.entries) (sym a.0) tied
+  takes_tied (Some right) a = subst (λ (y : LocalState J). WordsMatchValues y v.entries) (sym a.2)
       (back_tied v slot tied a.1 (λ lone. (a.3.0, a.3.2 lone)))
 
   takes_keeps : (shown : T → Gv) (holds : T → List OwnerOrCell) (r : Option Right) → TakesOrNot v m slot r
       → KeepsShown (Shows shown holds v) (Shows shown holds (record { member = m; entries = v.entries }))
   takes_keeps shown holds None a =
-      λ i u h. subst (λ (y : LocalState). Shows shown holds (record { member = y; entries = v.entries }) i u) (sym a.0) h
-  takes_keeps shown holds (Some right) a = subst (λ (y : LocalState). KeepsShown (Shows shown holds v)
+      λ i u h. subst (λ (y : LocalState J). Shows shown holds (record { member = y; entries = v.entries }) i u) (sym a.0) h
+  takes_keeps shown holds (Some right) a = subst (λ (y : LocalState J). KeepsShown (Shows shown holds v)
       (Shows shown holds (record { member = y; entries = v.entries }))) (sym a.2)
       (back_keeps v slot tied a.1 (λ lone. (a.3.0, a.3.2 lone)) shown holds)
 
   pub takes_sound : (holds : T → List OwnerOrCell) → IsSound holds v → (r : Option Right) → TakesOrNot v m slot r
       → IsSound holds (record { member = m; entries = v.entries })
-  takes_sound holds sound None a = subst (λ (y : LocalState). IsSound holds (record { member = y; entries = v.entries })) (sym a.0) sound
-  takes_sound holds sound (Some right) a = sound_then holds v m sound (ap (λ (y : LocalState). y.due) a.2 ∙ sound.settled) (ap home_in a.2) (λ one.
-      let lone : IsLone v.member = sym (ap (λ (y : LocalState). y.limits.participants) a.2) ∙ one in
+  takes_sound holds sound None a = subst (λ (y : LocalState J). IsSound holds (record { member = y; entries = v.entries })) (sym a.0) sound
+  takes_sound holds sound (Some right) a = sound_then holds v m sound (ap (λ (y : LocalState J). y.due) a.2 ∙ sound.settled) (ap home_in a.2) (λ one.
+      let lone : IsLone v.member = sym (ap (λ (y : LocalState J). y.limits.participants) a.2) ∙ one in
       let knows : IsLone v.member → (g : Gv) × KnowsRaw v.member slot g = λ lone. (a.3.0, a.3.2 lone) in
-      subst (λ (w : World T). IsWhole w) (sym (ap (λ (y : LocalState). world_of (record { member = y; entries = v.entries })) a.2
+      subst (λ (w : World T). IsWhole w) (sym (ap (λ (y : LocalState J). world_of (record { member = y; entries = v.entries })) a.2
       ∙ back_world v slot tied a.1 knows lone))
       (Whole-restands (world_of v) slot Owned (ap is_out (raw_stood v slot tied a.1 knows lone)) refl (sound.whole lone)))
 
-  module _ (p : LocalModel T) (same : v ≡ p) where
+  module _ (p : LocalModel T J) (same : v ≡ p) where
     lone_too : IsTrue (is_lone p.member) → IsLone v.member
-    lone_too exact = lone_is v.member (subst (λ (q : LocalModel T). IsTrue (is_lone q.member)) (sym same) exact)
+    lone_too exact = lone_is v.member (subst (λ (q : LocalModel T J). IsTrue (is_lone q.member)) (sym same) exact)
 
     pub takes_undisturbed : (shown : T → Gv) (holds : T → List OwnerOrCell) (r : Option Right) → TakesOrNot v m slot r
-        → Undisturbed seat_of (λ (q : LocalModel T). q.member.own) known_of (λ (q : LocalModel T). Shows shown holds q) p
+        → Undisturbed seat_of (λ (q : LocalModel T J). q.member.own) known_of (λ (q : LocalModel T J). Shows shown holds q) p
         (record { member = m; entries = v.entries })
     takes_undisturbed shown holds r a = words_undisturbed v m (takes_words r a) shown holds p same (takes_keeps shown holds r a)
 
@@ -293,26 +299,26 @@ module _ {T : Type 0} (v : LocalModel T) (m : LocalState) (slot : ℕ) (tied : W
         (λ _. (standing_at (world_of p) slot ≡ Some Raw)
         × (world_of (record { member = m; entries = v.entries }) ≡ with_standing (world_of p) slot Owned))
     takes_exact None a exact = (
-      subst (λ (q : LocalModel T). standing_at (world_of q) slot ≢ Some Raw) same (not_out v slot tied (lone_too exact) (a.1 (lone_too exact))),
-      ap (λ (y : LocalState). world_of (record { member = y; entries = v.entries })) a.0 ∙ ap world_of same,
+      subst (λ (q : LocalModel T J). standing_at (world_of q) slot ≢ Some Raw) same (not_out v slot tied (lone_too exact) (a.1 (lone_too exact))),
+      ap (λ (y : LocalState J). world_of (record { member = y; entries = v.entries })) a.0 ∙ ap world_of same,
     )
     takes_exact (Some right) a exact = let lone = lone_too exact in
         let knows : IsLone v.member → (g : Gv) × KnowsRaw v.member slot g = λ lone. (a.3.0, a.3.2 lone) in (
-          subst (λ (q : LocalModel T). standing_at (world_of q) slot ≡ Some Raw) same (raw_stood v slot tied a.1 knows lone),
-          ap (λ (y : LocalState). world_of (record { member = y; entries = v.entries })) a.2
-              ∙ (back_world v slot tied a.1 knows lone ∙ ap (λ (q : LocalModel T). with_standing (world_of q) slot Owned) same),
+          subst (λ (q : LocalModel T J). standing_at (world_of q) slot ≡ Some Raw) same (raw_stood v slot tied a.1 knows lone),
+          ap (λ (y : LocalState J). world_of (record { member = y; entries = v.entries })) a.2
+              ∙ (back_world v slot tied a.1 knows lone ∙ ap (λ (q : LocalModel T J). with_standing (world_of q) slot Owned) same),
         )
 
 -- what a look at an item under a guard answers that may be out
-abbrev LooksOrNot : (R : RattleType) → (R.Denot → List OwnerOrCell) → LocalModel R.Denot → LocalState → ℕ → Option (Bor R.Denot) → Type 0
+abbrev LooksOrNot : {J : Type 0} (R : RattleType) → (R.Denot → List OwnerOrCell) → LocalModel R.Denot J → LocalState J → ℕ → Option (Bor R.Denot) → Type 0
 LooksOrNot R holds v m slot r = MatchOption r ((m ≡ v.member) × (IsLone v.member → slot < v.member.limits.slots → ¬ (IsOut v.member slot)))
     (λ x. (slot < v.member.limits.slots) × LooksAt slot false (showing R x.now) v.member m × IsOnce m.shown × AreOf (home_in v.member) (holds x.now)
     × (IsLone v.member → KnowsRaw v.member slot (showing R x.now)))
 
-module _ (R : RattleType) (holds : R.Denot → List OwnerOrCell) (v : LocalModel R.Denot) (m : LocalState) (slot : ℕ)
+module _ {J : Type 0} (R : RattleType) (holds : R.Denot → List OwnerOrCell) (v : LocalModel R.Denot J) (m : LocalState J) (slot : ℕ)
     (tied : WordsMatchValues v.member v.entries)
     (codes : (place : ℕ) (y : R.Denot) (g : Gv) → slice_index_or v.entries place None ≡ Some (y, g) → g ≡ showing R y) where
-  abbrev after : LocalModel R.Denot
+  abbrev after : LocalModel R.Denot J
   after = record { member = m; entries = v.entries }
 
   -- only what its guards see is other
@@ -321,45 +327,45 @@ module _ (R : RattleType) (holds : R.Denot → List OwnerOrCell) (v : LocalModel
   looks_only (Some x) a = only_looks R v m slot false x.now a.1
 
   looks_world : (r : Option (Bor R.Denot)) → LooksOrNot R holds v m slot r → world_of after ≡ world_of v
-  looks_world r a = ap (λ (y : LocalState). world_of (record { member = y; entries = v.entries })) (looks_only r a)
+  looks_world r a = ap (λ (y : LocalState J). world_of (record { member = y; entries = v.entries })) (looks_only r a)
 
   -- the invariant, what is shown, what is left alone, and the world
   pub looks_sound : IsSound holds v → (r : Option (Bor R.Denot)) → LooksOrNot R holds v m slot r → IsSound holds after
-  looks_sound whole r a = sound_step holds v m whole (λ w _. w) (λ w _ _ i. i) (ap (λ (y : LocalState). y.due) (looks_only r a))
+  looks_sound whole r a = sound_step holds v m whole (λ w _. w) (λ w _ _ i. i) (ap (λ (y : LocalState J). y.due) (looks_only r a))
       (ap home_in (looks_only r a)) (λ _. looks_world r a)
 
   looks_keeps : (r : Option (Bor R.Denot)) → LooksOrNot R holds v m slot r → KeepsShown (Shows (showing R) holds v) (Shows (showing R) holds after)
-  looks_keeps None a = λ i u h. subst (λ (y : LocalState). Shows (showing R) holds (record { member = y; entries = v.entries }) i u) (sym a.0) h
+  looks_keeps None a = λ i u h. subst (λ (y : LocalState J). Shows (showing R) holds (record { member = y; entries = v.entries }) i u) (sym a.0) h
   looks_keeps (Some x) a = keeps_it R v m slot false x.now a.1 holds a.2 v refl
 
   pub looks_shown : (r : Option (Bor R.Denot)) → LooksOrNot R holds v m slot r → IfSome r (λ x. Shows (showing R) holds after slot x.now)
   looks_shown None a = tt
   looks_shown (Some x) a = shows_it R v m slot false x.now a.1 (raw_value R v slot x.now tied codes a.0 a.4) holds a.3 a.2
 
-  module _ (p : LocalModel R.Denot) (same : v ≡ p) where
+  module _ (p : LocalModel R.Denot J) (same : v ≡ p) where
     pub looks_undisturbed : (r : Option (Bor R.Denot)) → LooksOrNot R holds v m slot r
-        → Undisturbed seat_of (λ (q : LocalModel R.Denot). q.member.own) known_of (λ (q : LocalModel R.Denot). Shows (showing R) holds q) p after
-    looks_undisturbed r a = subst (λ (q : LocalModel R.Denot). Undisturbed seat_of (λ (q : LocalModel R.Denot). q.member.own) known_of
-        (λ (q : LocalModel R.Denot). Shows (showing R) holds q) q after) same record {
+        → Undisturbed seat_of (λ (q : LocalModel R.Denot J). q.member.own) known_of (λ (q : LocalModel R.Denot J). Shows (showing R) holds q) p after
+    looks_undisturbed r a = subst (λ (q : LocalModel R.Denot J). Undisturbed seat_of (λ (q : LocalModel R.Denot J). q.member.own) known_of
+        (λ (q : LocalModel R.Denot J). Shows (showing R) holds q) q after) same record {
           seat = ap seat_in (looks_only r a);
-          own = ap (λ (y : LocalState). y.own) (looks_only r a);
-          known = subst (λ (y : LocalState). KnowsOn (known_of v) (known_of (record { member = y; entries = v.entries }))) (sym (looks_only r a))
+          own = ap (λ (y : LocalState J). y.own) (looks_only r a);
+          known = subst (λ (y : LocalState J). KnowsOn (known_of v) (known_of (record { member = y; entries = v.entries }))) (sym (looks_only r a))
               (record { told = omega arith; since = refl });
           shown = looks_keeps r a;
         }
 
     pub looks_exact : (r : Option (Bor R.Denot)) → LooksOrNot R holds v m slot r → IsTrue (is_lone p.member)
         → (IsSome r ↔ (standing_at (world_of p) slot ≡ Some Raw)) × (world_of after ≡ world_of p)
-    looks_exact r a exact = let lone : IsLone v.member = lone_is v.member (subst (λ (q : LocalModel R.Denot). IsTrue (is_lone q.member)) (sym same) exact) in
+    looks_exact r a exact = let lone : IsLone v.member = lone_is v.member (subst (λ (q : LocalModel R.Denot J). IsTrue (is_lone q.member)) (sym same) exact) in
         (stood r a lone, looks_world r a ∙ ap world_of same)
       where
         stood : (r : Option (Bor R.Denot)) → LooksOrNot R holds v m slot r → IsLone v.member → IsSome r ↔ (standing_at (world_of p) slot ≡ Some Raw)
         stood None a lone = (
           (λ some. absurd cc),
-          (λ is. absurd (not_out v slot tied lone (a.1 lone) (subst (λ (q : LocalModel R.Denot). standing_at (world_of q) slot ≡ Some Raw) (sym same) is))),
+          (λ is. absurd (not_out v slot tied lone (a.1 lone) (subst (λ (q : LocalModel R.Denot J). standing_at (world_of q) slot ≡ Some Raw) (sym same) is))),
         )
         stood (Some x) a lone = (
-          (λ _. subst (λ (q : LocalModel R.Denot). standing_at (world_of q) slot ≡ Some Raw) same
+          (λ _. subst (λ (q : LocalModel R.Denot J). standing_at (world_of q) slot ≡ Some Raw) same
               (raw_stood v slot tied a.0 (λ lone. (showing R x.now, a.4 lone)) lone)),
           (λ _. refl),
         )

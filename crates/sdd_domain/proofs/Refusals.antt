@@ -17,21 +17,21 @@ use Rattle.sdd_domain.specs.WordsAndValues.{AreTied, Entries, WordsMatchValues}
 use Rattle.sdd_domain.proofs.Exact.{lone_is}
 use Rattle.sdd_domain.proofs.Owning.{sole_only, sole_still}
 
-pub record IsBack {T : Type 0} (v : LocalModel T) (m : LocalState) (es : Entries T) : Type 0 where
+pub record IsBack {T J : Type 0} (v : LocalModel T J) (m : LocalState J) (es : Entries T) : Type 0 where
   pub only : m ≡ record v.member { words = m.words }
   pub same : IsLone v.member → m ≡ v.member
   pub entries : es ≡ v.entries
 
 -- words were written, and nothing else
-pub words_only : (m old : LocalState) (words : List ℕ) → m ≡ record old { words = words } → m ≡ record old { words = m.words }
+pub words_only : {J : Type 0} (m old : LocalState J) (words : List ℕ) → m ≡ record old { words = words } → m ≡ record old { words = m.words }
 words_only m old words is = is ∙ (λ d. record old { words = (sym is d).words })
 
 -- all is as it was
-pub back_same : {T : Type 0} (v : LocalModel T) (m : LocalState) (es : Entries T) → m ≡ v.member → es ≡ v.entries → IsBack v m es
+pub back_same : {T J : Type 0} (v : LocalModel T J) (m : LocalState J) (es : Entries T) → m ≡ v.member → es ≡ v.entries → IsBack v m es
 back_same v m es is entries = record { only = words_only m v.member v.member.words is; same = λ _. is; entries = entries }
 
 -- a slot's word was written by its only owner
-pub back_sole : {T : Type 0} (v : LocalModel T) (m : LocalState) (es : Entries T) (k : ℕ) (several : Bool) → m ≡ with_sole several k v.member
+pub back_sole : {T J : Type 0} (v : LocalModel T J) (m : LocalState J) (es : Entries T) (k : ℕ) (several : Bool) → m ≡ with_sole several k v.member
     → KnowsSole v.member k several → es ≡ v.entries → IsBack v m es
 back_sole v m es k several is sole entries = record {
   only = words_only m v.member (with_sole several k v.member).words (is ∙ sole_only v.member k several);
@@ -39,26 +39,26 @@ back_sole v m es k several is sole entries = record {
   entries = entries;
 }
 
-module _ {T : Type 0} (v : LocalModel T) (m : LocalState) (es : Entries T) (is : IsBack v m es) where
-  abbrev later : LocalModel T
+module _ {T J : Type 0} (v : LocalModel T J) (m : LocalState J) (es : Entries T) (is : IsBack v m es) where
+  abbrev later : LocalModel T J
   later = record { member = m; entries = es }
 
   is_same : IsLone v.member → later ≡ v
   is_same lone = λ d. record { member = is.same lone d; entries = is.entries d }
 
   lone_before : IsLone m → IsLone v.member
-  lone_before one = sym (ap (λ (y : LocalState). y.limits.participants) is.only) ∙ one
+  lone_before one = sym (ap (λ (y : LocalState J). y.limits.participants) is.only) ∙ one
 
   -- the invariants, its world, and what is shown
   pub back_tied : WordsMatchValues v.member v.entries → WordsMatchValues m es
-  back_tied tied one = let lone = lone_before one in subst (λ (q : LocalModel T). AreTied q.member q.entries) (sym (is_same lone)) (tied lone)
+  back_tied tied one = let lone = lone_before one in subst (λ (q : LocalModel T J). AreTied q.member q.entries) (sym (is_same lone)) (tied lone)
 
   pub back_world : IsLone v.member → world_of later ≡ world_of v
   back_world lone = ap world_of (is_same lone)
 
   pub back_sound : (holds : T → List OwnerOrCell) → IsSound holds v → IsSound holds later
   back_sound holds sound = record {
-    settled = ap (λ (y : LocalState). y.due) is.only ∙ sound.settled;
+    settled = ap (λ (y : LocalState J). y.due) is.only ∙ sound.settled;
     home = λ place value g there. subst (λ h. AreOf h (holds value)) (sym (ap home_in is.only))
         (sound.home place value g (ap (λ (l : Entries T). slice_index_or l place None) (sym is.entries) ∙ there));
     whole = λ one. let lone = lone_before one in subst (λ (w : _). IsWhole w) (sym (back_world lone)) (sound.whole lone);
@@ -66,28 +66,28 @@ module _ {T : Type 0} (v : LocalModel T) (m : LocalState) (es : Entries T) (is :
 
   keeps_by : (shown : T → Gv) (holds : T → List OwnerOrCell) (b : Bool) → (IsTrue b → IsLone v.member) → (i : ℕ) (u : T) → ShowsBy b shown holds v i u
       → ShowsBy b shown holds later i u
-  keeps_by shown holds true lone i u h = ap (λ (q : LocalModel T). value_at (world_of q) i) (is_same (lone refl)) ∙ h
-  keeps_by shown holds false lone i u h = subst (λ (y : LocalState). space.SeesValue shown holds y i u) (sym is.only) h
+  keeps_by shown holds true lone i u h = ap (λ (q : LocalModel T J). value_at (world_of q) i) (is_same (lone refl)) ∙ h
+  keeps_by shown holds false lone i u h = subst (λ (y : LocalState J). space.SeesValue shown holds y i u) (sym is.only) h
 
   pub back_keeps : (shown : T → Gv) (holds : T → List OwnerOrCell) → KeepsShown (Shows shown holds v) (Shows shown holds later)
   back_keeps shown holds i u h = subst (λ (b : Bool). ShowsBy b shown holds later i u) (ap is_lone (sym is.only))
       (keeps_by shown holds (is_lone v.member) (λ exact. lone_is v.member exact) i u h)
 
 -- where nothing but words is other, and what is shown is kept, the participant is undisturbed
-module _ {T : Type 0} (v : LocalModel T) (m : LocalState) (is : m ≡ record v.member { words = m.words }) (shown : T → Gv) (holds : T → List OwnerOrCell)
-    (p : LocalModel T) (same : v ≡ p) where
-  abbrev now : LocalModel T
+module _ {T J : Type 0} (v : LocalModel T J) (m : LocalState J) (is : m ≡ record v.member { words = m.words }) (shown : T → Gv) (holds : T → List OwnerOrCell)
+    (p : LocalModel T J) (same : v ≡ p) where
+  abbrev now : LocalModel T J
   now = record { member = m; entries = v.entries }
 
   knows_still : KnowsOn (known_of v) (known_of v)
   knows_still = record { told = omega arith; since = refl }
 
   pub words_undisturbed : KeepsShown (Shows shown holds v) (Shows shown holds now)
-      → Undisturbed seat_of (λ (q : LocalModel T). q.member.own) known_of (λ (q : LocalModel T). Shows shown holds q) p now
-  words_undisturbed kept = subst (λ (q : LocalModel T). Undisturbed seat_of (λ (q : LocalModel T). q.member.own) known_of
-      (λ (q : LocalModel T). Shows shown holds q) q now) same record {
+      → Undisturbed seat_of (λ (q : LocalModel T J). q.member.own) known_of (λ (q : LocalModel T J). Shows shown holds q) p now
+  words_undisturbed kept = subst (λ (q : LocalModel T J). Undisturbed seat_of (λ (q : LocalModel T J). q.member.own) known_of
+      (λ (q : LocalModel T J). Shows shown holds q) q now) same record {
         seat = ap seat_in is;
-        own = ap (λ (y : LocalState). y.own) is;
-        known = subst (λ (y : LocalState). KnowsOn (known_of v) (known_of (record { member = y; entries = v.entries }))) (sym is) knows_still;
+        own = ap (λ (y : LocalState J). y.own) is;
+        known = subst (λ (y : LocalState J). KnowsOn (known_of v) (known_of (record { member = y; entries = v.entries }))) (sym is) knows_still;
         shown = kept;
       }

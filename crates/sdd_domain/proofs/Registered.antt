@@ -14,10 +14,12 @@ use Rattle.sdd_word_invariant.specs.SlotSteps.{behind}
 use Rattle.sdd_word_invariant.specs.Sums.{total}
 use Rattle.sdd_word_invariant.specs.Slots.{waits_in}
 use Rattle.sdd_word_invariant.proofs.Codes.{free_is}
-use Rattle.sdd_domain.specs.LocalState.{LocalState, IsLone, IsNew, word_of, place_number}
+use Rattle.sdd_participants.specs.Jobs.{places_of}
+use Rattle.sdd_participants.proofs.Places.{places-none}
+use Rattle.sdd_domain.specs.LocalState.{LocalState, IsLone, IsNew, word_of, cell_word_of, place_number}
 use Rattle.sdd_domain.specs.WaitingItems.{what_of, waiting_of, ripe, unripe}
 use Rattle.sdd_domain.specs.WordsAndValues.{Entries, WordsMatchValues, MatchesPlace, is_plain_word}
-use Rattle.sdd_domain.specs.Local.{LocalModel, IsBlankAlone, listing, standing_by, value_by, standing_in, value_in, world_of}
+use Rattle.sdd_domain.specs.Local.{LocalModel, IsBlankAlone, listing, standing_by, value_by, contents_by, standing_in, value_in, contents_in, world_of}
 use Rattle.sdd_space.proofs.Accounts.{blank-at}
 use Rattle.sdd_domain.proofs.Listings.{listing_same}
 
@@ -30,7 +32,7 @@ listing_none : {A : Type 0} (n : ℕ) → ◌≡◌ {A = List (Option A)} (listi
 listing_none zero = refl
 listing_none (suc n) = ap (λ l. None ∷ l) (listing_none n)
 
-module _ {T : Type 0} (home : TableId) (book : ℕ) (most : Limits) (m : LocalState) (es : Entries T) (is : IsNew home book most m)
+module _ {T J : Type 0} (home : TableId) (book : ℕ) (most : Limits) (m : LocalState J) (es : Entries T) (is : IsNew home book most m)
     (none : es ≡ replicate most.slots None) where
   word_free : (i : ℕ) → word_of m i ≡ 0
   word_free i = ap (λ (ws : List ℕ). get_or ws (behind m.sizes i) 0) is.words ∙ zeros (words_behind m.sizes) (behind m.sizes i)
@@ -40,6 +42,12 @@ module _ {T : Type 0} (home : TableId) (book : ℕ) (most : Limits) (m : LocalSt
 
   jobs_are : m.limits.jobs ≡ most.jobs
   jobs_are = ap (λ (l : Limits). l.jobs) is.limits
+
+  cells_are : m.limits.cells ≡ most.cells
+  cells_are = ap (λ (l : Limits). l.cells) is.limits
+
+  cell_free : (i : ℕ) → cell_word_of m i ≡ 0
+  cell_free i = ap (λ (ws : List ℕ). get_or ws i 0) is.words ∙ zeros (words_behind m.sizes) i
 
   nothing_waits : (i : ℕ) → total (waits_in i) m.slots.waits ≡ 0
   nothing_waits i = ap (λ (s : SlotsView). total (waits_in i) s.waits) is.slots
@@ -52,13 +60,14 @@ module _ {T : Type 0} (home : TableId) (book : ℕ) (most : Limits) (m : LocalSt
     place = place_first one;
     slots = is.sizes.1 ∙ sym slots_are;
     places = is.sizes.2 ∙ sym jobs_are;
+    all_cells = is.sizes.3 ∙ sym cells_are;
     long = ap length is.words ∙ length-replicate (words_behind m.sizes) 0;
     wide = ap length none ∙ (length-replicate most.slots None ∙ sym slots_are);
     plain = λ i l. subst (λ (y : ℕ). IsTrue (is_plain_word y)) (sym (word_free i)) refl;
     waits = λ i l. nothing_waits i ∙ (sym ((free_is 0 (omega arith)).1) ∙ ap waiting (sym (word_free i)));
     kept = λ i l filled. absurd (let f = (free_is 0 (omega arith)).2 in let g = ap full (word_free i) in omega arith);
     table = ap length is.jobs ∙ (length-replicate most.jobs None ∙ sym jobs_are);
-    jobs = λ j l. subst (λ (z : ℕ × Option (Unit {0})). MatchesPlace z.0 z.1)
+    jobs = λ j l. subst (λ (z : ℕ × Option J). MatchesPlace z.0 z.1)
         (λ d. (sym (word_free (place_number m j)) d, sym (ap (λ ps. entry_at ps j) is.jobs ∙ blank-at most.jobs j) d)) refl;
     bags = ap (λ (p : Participant). p.bags.waiting) is.own ∙ sym (ap (λ (s : SlotsView). map (waiting_of m.limits.slots) (unripe s.waits)) is.slots);
     due = is.due ∙ sym (ap (λ (s : SlotsView). map (what_of m.limits.slots) (ripe s.waits)) is.slots);
@@ -66,7 +75,7 @@ module _ {T : Type 0} (home : TableId) (book : ℕ) (most : Limits) (m : LocalSt
   }
 
   pub blank_new : IsLone m → IsBlankAlone most (world_of (record { member = m; entries = es }))
-  blank_new one = let q : LocalModel T = record { member = m; entries = es } in record {
+  blank_new one = let q : LocalModel T J = record { member = m; entries = es } in record {
     time = λ d. record {
       count = is.lone one d;
       marked = Rattle.std.proofs.Common.false;
@@ -80,8 +89,9 @@ module _ {T : Type 0} (home : TableId) (book : ℕ) (most : Limits) (m : LocalSt
         ∙ (listing_none m.limits.slots ∙ ap (λ (n : ℕ). replicate n None) slots_are);
     values = listing_same m.limits.slots (λ (i : ℕ). None) (value_in q) (λ i l. ap (λ (w : ℕ). value_by w (slice_index_or es i None)) (word_free i))
         ∙ (listing_none m.limits.slots ∙ ap (λ (n : ℕ). replicate n None) slots_are);
-    cells = ap (λ (l : Limits). replicate l.cells None) is.limits;
+    cells = listing_same m.limits.cells (λ (i : ℕ). None) (contents_in q) (λ i l. ap contents_by (cell_free i))
+        ∙ (listing_none m.limits.cells ∙ ap (λ (n : ℕ). replicate n None) cells_are);
     pointers = ap (λ (l : Limits). replicate l.cells Rattle.sdd_standings.specs.Cells.null_pointer) is.limits;
-    jobs = is.jobs;
+    jobs = ap places_of is.jobs ∙ places-none J most.jobs;
     tally = is.tally;
   }

@@ -72,7 +72,7 @@ first_is kinds.Raw = inl refl
 first_is kinds.Shared = inr refl
 first_is kinds.Retired = inl refl
 
-pub lone_true : (m : LocalState) → IsLone m → IsTrue (is_lone m)
+pub lone_true : {J : Type 0} (m : LocalState J) → IsLone m → IsTrue (is_lone m)
 lone_true m one = eq-eqb m.limits.participants 1 one
 
 -- a participant that is the first and only one
@@ -124,22 +124,22 @@ value_in_entry x y e = ap (λ (o : Option (_ × _)). entry_or x o) e
     entry_or d (Some e) = e.0
 
 module _ {T : Type 0} where
-  pub lives : (p : LocalModel T) → IsLive (world_of p).time p.member.place
+  pub lives : {J : Type 0} (p : LocalModel T J) → IsLive (world_of p).time p.member.place
   lives p = ((let e = length-replicate (suc p.member.place) p.member.own in omega arith), live_at p.member.place)
 
-  all_shut : (p : LocalModel T) → p.member.own.guards ≡ 0 → AllClosed (world_of p)
+  all_shut : {J : Type 0} (p : LocalModel T J) → p.member.own.guards ≡ 0 → AllClosed (world_of p)
   all_shut p shut q = ⊎_elim (λ (e : time.place_at (world_of p).time q ≡ p.member.own). ap time.is_open e ∙ ap (nat_lt 0) shut)
       (λ (e : time.place_at (world_of p).time q ≡ time.nobody). ap time.is_open e) (alike (suc p.member.place) q p.member.own time.nobody)
 
   -- a guard is open in its world exactly while one of its own is
-  pub shut_there : (p : LocalModel T) → (p.member.own.guards ≡ 0) ↔ ¬ (AnyGuardOpen (world_of p))
+  pub shut_there : {J : Type 0} (p : LocalModel T J) → (p.member.own.guards ≡ 0) ↔ ¬ (AnyGuardOpen (world_of p))
   shut_there p = (
     (λ shut. not-guarded (world_of p) (all_shut p shut)),
     (λ quiet. no_guards p.member.own (ap time.is_open (own_is_place p) ∙ all-closed (world_of p) quiet p.member.place)),
   )
 
   -- after a step that leaves each world whole
-  pub whole_by : (p q : LocalModel T) (step : World T → ℕ → World T) → ((w : World T) (k : ℕ) → IsLive w.time k → IsWhole w → IsWhole (step w k))
+  pub whole_by : {J : Type 0} (p q : LocalModel T J) (step : World T → ℕ → World T) → ((w : World T) (k : ℕ) → IsLive w.time k → IsWhole w → IsWhole (step w k))
       → world_of q ≡ step (world_of p) p.member.place → IsWhole (world_of p) → IsWhole (world_of q)
   whole_by p q step keeps same whole = subst (λ (w : World T). IsWhole w) (sym same) (keeps (world_of p) p.member.place (lives p) whole)
 
@@ -159,7 +159,8 @@ module _ {T : Type 0} where
         let d = ap (λ (ss : List (Option Standing)). count_by is_some ss) is.standings ∙ none_taken Standing most.slots in omega arith;
   }
 
-  pub sound_new : (holds : T → List OwnerOrCell) (home : TableId) (book : ℕ) (most : Limits) (m : LocalState) (es : Entries T) → IsNew home book most m
+  pub sound_new : {J : Type 0} (holds : T → List OwnerOrCell) (home : TableId) (book : ℕ) (most : Limits) (m : LocalState J) (es : Entries T)
+      → IsNew home book most m
       → es ≡ replicate most.slots None → IsSound holds (record { member = m; entries = es })
   sound_new holds home book most m es is none = record {
     settled = is.due;
@@ -167,7 +168,7 @@ module _ {T : Type 0} where
     whole = λ one. whole_blank most (world_of (record { member = m; entries = es })) (blank_new home book most m es is none one);
   }
 
-  module _ (holds : T → List OwnerOrCell) (v : LocalModel T) (m : LocalState) (sound : IsSound holds v) where
+  module _ {J : Type 0} (holds : T → List OwnerOrCell) (v : LocalModel T J) (m : LocalState J) (sound : IsSound holds v) where
     -- what becomes of a participant whose entries stay
     pub sound_then : m.due ≡ [] → home_in m ≡ home_in v.member → (IsLone m → IsWhole (world_of (record v { member = m }))) → IsSound holds
         (record v { member = m })
@@ -202,7 +203,7 @@ module _ {T : Type 0} where
         whole_by v (record v { member = m }) (opened holds) (Whole-opened holds) (same lone) (sound.whole lone))
 
 -- what is shown holds what is of its home
-module _ {T : Type 0} (shown : T → Gv) (holds : T → List OwnerOrCell) (p : LocalModel T) (sound : IsSound holds p) where
+module _ {T J : Type 0} (shown : T → Gv) (holds : T → List OwnerOrCell) (p : LocalModel T J) (sound : IsSound holds p) where
   entry_behind : (value : T) (free : Bool) (e : Option (T × Gv)) → (if free then None else option_map (λ (x : T × Gv). x.0) e) ≡ Some value
       → (g : Gv) × (e ≡ Some (value, g))
   entry_behind value true e is = absurd (none-some is)
@@ -224,7 +225,7 @@ module _ {T : Type 0} (shown : T → Gv) (holds : T → List OwnerOrCell) (p : L
   held_at_home k value h = held_by (is_lone p.member) k value h
 
 -- what is in the ledger once a value was entered is of the home
-module _ (R : RattleType) (holds : R.Denot → List OwnerOrCell) (v : LocalModel R.Denot) (m : LocalState) (es : Entries R.Denot) where
+module _ {J : Type 0} (R : RattleType) (holds : R.Denot → List OwnerOrCell) (v : LocalModel R.Denot J) (m : LocalState J) (es : Entries R.Denot) where
   pub entered_home : (k : ℕ) (x : R.Denot) → es ≡ set v.entries k (Some (x, showing R x)) → AreOf (home_in m) (holds x) → home_in m ≡ home_in v.member
       → IsSound holds v → (place : ℕ) (value : R.Denot) (g : Gv) → slice_index_or es place None ≡ Some (value, g) → AreOf (home_in m) (holds value)
   entered_home k x e at home sound place value g there = let is : slice_index_or (set v.entries k (Some (x, showing R x))) place None ≡ Some (value, g)
@@ -239,17 +240,18 @@ module _ (R : RattleType) (holds : R.Denot → List OwnerOrCell) (v : LocalModel
       (sound.home place value g (sym (get_or-set_other v.entries k place (Some (x, showing R x)) None ne) ∙ is)))
 
 -- for an answer of `make`
-module _ (R : RattleType) (holds : R.Denot → List OwnerOrCell) (v : LocalModel R.Denot) (m : LocalState) (es : Entries R.Denot) (kind : StandingKind)
+module _ {J : Type 0} (R : RattleType) (holds : R.Denot → List OwnerOrCell) (v : LocalModel R.Denot J) (m : LocalState J) (es : Entries R.Denot)
+    (kind : StandingKind)
     {B : Type 0}
     (P : R.Denot → Type 0) (Back Why : B × Refused → Type 0) where
   pub sound_made : (r : Result Right (B × Refused)) → Answers R v m es kind P Back Why r → ((x : R.Denot) → P x → AreOf (home_in v.member) (holds x))
       → WordsMatchValues v.member v.entries → IsSound holds v → IsSound holds (record { member = m; entries = es })
   sound_made (Ok right) a at tied sound = let home : home_in m ≡ home_in v.member = ap home_in a.2.member in record {
-    settled = ap (λ (z : LocalState). z.due) a.2.member ∙ sound.settled;
+    settled = ap (λ (z : LocalState J). z.due) a.2.member ∙ sound.settled;
     home = entered_home R holds v m es (number_of right) a.0 a.4 (subst (λ (h : SpaceId). AreOf h (holds a.0)) (sym home) (at a.0 a.1)) home sound;
-    whole = λ one. let lone : IsLone v.member = sym (ap (λ (z : LocalState). z.limits.participants) a.2.member) ∙ one in
+    whole = λ one. let lone : IsLone v.member = sym (ap (λ (z : LocalState J). z.limits.participants) a.2.member) ∙ one in
         let w = did_world R v m es kind a.0 right (a.2, a.3, a.4) tied lone in
         subst (λ (u : World R.Denot). IsWhole u) (sym w.1)
         (Whole-made_as (world_of v) (number_of right) a.0 (first_standing kind) (first_is kind) w.0 (sound.whole lone));
   }
-  sound_made (Err e) a at tied sound = subst (λ (p : LocalModel R.Denot). IsSound holds p) (λ d. record { member = sym a.1 d; entries = sym a.4 d }) sound
+  sound_made (Err e) a at tied sound = subst (λ (p : LocalModel R.Denot J). IsSound holds p) (λ d. record { member = sym a.1 d; entries = sym a.4 d }) sound

@@ -38,6 +38,7 @@ module _ (b d : DomainTable) (ids : id_of b ≡ id_of d) (sizes : sizes_of b ≡
     found = q.found;
     quiet = q.quiet;
     pledges = q.pledges;
+    rights = q.rights;
     waiting = λ i some_wait. subst (λ (z : Sizes). i < most_waiting z) sizes (q.waiting i some_wait);
     bags = subst (λ (z : Sizes). own.bags.waiting ≡ map (waiting_of z.slots) (unripe s.me.0.slots.waits)) sizes q.bags;
     room = q.room ∙ ap most_waiting sizes;

@@ -86,7 +86,7 @@ taken_full x plain ne = plain_by x plain (λ e. absurd (ne e))
     (λ e. ap full e ∙ (raw_is 0 (omega arith)).2) (λ b. (shared x b.0).2)
 
 -- by its word nobody owns what is in a job's place
-pub place_dead : (x : ℕ) (o : Option (Unit {0})) → MatchesPlace x o → alive x ≡ 0
+pub place_dead : {J : Type 0} (x : ℕ) (o : Option J) → MatchesPlace x o → alive x ≡ 0
 place_dead x None is = ap alive is ∙ (free_is 0 (omega arith)).0
 place_dead x (Some j) is = ap alive is ∙ (waiting_is 0 (omega arith)).0
 

@@ -8,6 +8,7 @@ use Rattle.sdd_values.specs.declared.read_sections.SectionState.{SectionState}
 use Rattle.sdd_values.specs.declared.read_sections.SectionState.TheVariants.{Closed, Open}
 use Rattle.sdd_views.specs.declared.EpochView.{EpochView}
 use Rattle.sdd_views.specs.declared.View.{View}
+use Rattle.sdd_views.specs.Views.{no_rights}
 use Rattle.sdd_word_invariant.specs.Epoch.{IsClosed, IsOpen, Scans, IsLone}
 use Rattle.sdd_views.specs.declared.ShownValue.{ShownValue}
 use Rattle.sdd_views.specs.declared.SlotsView.{SlotsView}
@@ -77,6 +78,7 @@ module _ (b : DomainTable) (p : ℕ) (own : Participant) (token : Seat ValueFrac
     pub found : (epoch token).found ≡ own.found
     pub quiet : IsQuiet (slots token)
     pub pledges : (view token).pledges.own ≡ []
+    pub rights : (view token).cells ≡ no_rights
     pub waiting : (i : ℕ) → 0 < items_at i (view token) → i < most_waiting_of b
     pub bags : own.bags.waiting ≡ map (waiting_of (slots_of b)) (unripe (slots token).waits)
     pub room : own.bags.room ≡ most_waiting_of b

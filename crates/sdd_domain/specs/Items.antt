@@ -10,7 +10,7 @@ use Rattle.sdd_rights.specs.Right.{number_of, home_of, kind_of, views_of, home_o
 use Rattle.sdd_domain.specs.LocalState.{LocalState}
 
 -- where the slots of its domain are numbered
-abbrev pub slots_home : LocalState → token.GhostName
+abbrev pub slots_home : {J : Type 0} → LocalState J → token.GhostName
 slots_home m = home_of_table m.home m.book m.limits.slots
 
 -- the owner's item shows this value
@@ -18,7 +18,7 @@ abbrev pub HasValue : Gv → Right → Type 0
 HasValue value right = views_of right ≡ witness_of_owner (number_of right) (is_shared (kind_of right)) value
 
 -- an owner of this kind of an item of its domain, which shows this value
-pub record IsRightTo (m : LocalState) (k : StandingKind) (shown : Gv) (right : Right) : Type 0 where
+pub record IsRightTo {J : Type 0} (m : LocalState J) (k : StandingKind) (shown : Gv) (right : Right) : Type 0 where
   pub home : home_of right ≡ slots_home m
   pub kind : kind_of right ≡ k
   pub value : HasValue shown right

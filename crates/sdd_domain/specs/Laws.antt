@@ -23,15 +23,16 @@ value_or d (Some x) = x
 pub same_value : {A : Type 0} (u v : A) → Some u ≡ Some v → u ≡ v
 same_value u v e = ap (value_or u) e
 
-pub own_is_place : {T : Type 0} (p : LocalModel T) → p.member.own ≡ place_at (world_of p) p.member.place
+pub own_is_place : {T J : Type 0} (p : LocalModel T J) → p.member.own ≡ place_at (world_of p) p.member.place
 own_is_place p = sym (replicate_at p.member.place p.member.own nobody)
 
 module _ {T : Type 0} (shown : T → Gv) (holds : T → List OwnerOrCell) where
-  pub shows_is_value : (p : LocalModel T) (b : Bool) → IsTrue b → (slot : ℕ) (value : T) → ShowsBy b shown holds p slot value ↔ (value_at (world_of p) slot ≡ Some value)
+  pub shows_is_value : {J : Type 0} (p : LocalModel T J) (b : Bool) → IsTrue b → (slot : ℕ) (value : T)
+      → ShowsBy b shown holds p slot value ↔ (value_at (world_of p) slot ≡ Some value)
   shows_is_value p true exact slot value = (λ h. h, λ h. h)
   shows_is_value p false exact slot value = absurd (true≢false (sym exact))
 
-module _ (R : RattleType) (p : LocalModel R.Denot) where
+module _ {J : Type 0} (R : RattleType) (p : LocalModel R.Denot J) where
   pub one_shown : (holds : R.Denot → List OwnerOrCell) (slot : ℕ) (u v : R.Denot) (b : Bool) → ShowsBy b (showing R) holds p slot u
       → ShowsBy b (showing R) holds p slot v → u ≡ v
   one_shown holds slot u v true a b = same_value u v (sym a ∙ b)

@@ -5,13 +5,14 @@ pub mod WaitingItems
 pub mod Claims
 pub mod Scan
 pub mod Domain
-pub mod Jobs
 pub mod LocalState
 pub mod SpaceIds
 pub mod Items
 pub mod Receipt
 pub mod Values
 pub mod RawItems
+pub mod Cells
+pub mod CellWords
 pub mod BetweenCalls
 pub mod InPlace
 pub mod GoesInPlace

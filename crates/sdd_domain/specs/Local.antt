@@ -1,21 +1,25 @@
 -- A participant of a domain with what it moved into slots, and the world of a lone one: nobody else changes its domain
-use Rattle.std.specs.Prelude.{ℕ, zero, suc, ◌+◌, ◌==◌, List, [], ◌∷◌, Option, Some, None, replicate, slice_index_or, option_map, if◌then◌else◌, false}
+use Rattle.std.specs.Prelude.{ℕ, zero, suc, ◌+◌, ◌%◌, ◌==◌, List, [], ◌∷◌, Option, Some, None, replicate, slice_get, slice_index_or, option_map, if◌then◌else◌, false}
 use base.Stored.{Gv}
 use Rattle.sdd_participants.specs.EpochState.{EpochState, newcomer}
+use Rattle.sdd_participants.specs.Jobs.{places_of}
 use Rattle.sdd_participants.specs.declared.place_states.PlaceState.TheVariants.{Live}
 use Rattle.sdd_participants.specs.declared.standing.Standing.{Standing}
 use Rattle.sdd_participants.specs.declared.standing.Standing.TheVariants.{Owned, Raw, Shared, Retired}
-use Rattle.sdd_word_invariant.specs.Codes.{free_word, raw_word, alive, waiting, counted}
+use Rattle.sdd_participants.specs.declared.standing.CellContents.{CellContents}
+use Rattle.sdd_word_invariant.specs.Codes.{free_word, raw_word, alive, waiting, counted, held_slots}
 use Rattle.sdd_standings.specs.Cells.{null_pointer}
 use Rattle.sdd_core.specs.declared.limits.Limits.{Limits}
+use Rattle.sdd_core.specs.declared.tag.Tag.{Tag}
+use Rattle.sdd_core.specs.declared.tag.Tag.TheVariants.{First, Second, Both, None as Untagged}
 use Rattle.sdd_space.specs.World.{World, IsBlank}
-use Rattle.sdd_domain.specs.LocalState.{LocalState, word_of}
+use Rattle.sdd_domain.specs.LocalState.{LocalState, word_of, cell_word_of}
 use Rattle.sdd_domain.specs.WordsAndValues.{Entries}
 use Rattle.sdd_domain.specs.SpaceIds.{home_in}
 
 -- its membership, and the ledger of what it moved into slots
-pub record LocalModel (T : Type 0) : Type 0 where
-  pub member : LocalState
+pub record LocalModel (T J : Type 0) : Type 0 where
+  pub member : LocalState J
   pub entries : Entries T
 
 -- so many things, each by its number
@@ -36,8 +40,20 @@ standing_by word =
 abbrev pub value_by : {T : Type 0} → ℕ → Option (T × Gv) → Option T
 value_by word entry = if word == free_word 0 then None else option_map (λ e. e.0) entry
 
+-- the tag of this number, which is below 4
+abbrev pub tag_by : ℕ → Tag
+tag_by number = if number == 1 then First else (if number == 2 then Second else (if number == 3 then Both else Untagged))
+
+-- what a cell holds by its word: the owner of a slot or none, with a tag
+abbrev pub contents_of : ℕ → CellContents
+contents_of word = record { held = slice_get (held_slots word) 0; tag = tag_by (word % 4) }
+
+-- a cell is free by its word, or holds that
+abbrev pub contents_by : ℕ → Option CellContents
+contents_by word = if word == 0 then None else Some (contents_of word)
+
 -- the count that it knows, and itself, alone
-abbrev pub time_of : LocalState → EpochState
+abbrev pub time_of : {J : Type 0} → LocalState J → EpochState
 time_of m = record {
   count = m.known;
   marked = false;
@@ -49,22 +65,25 @@ time_of m = record {
 }
 
 module _ {T : Type 0} where
-  abbrev pub standing_in : LocalModel T → ℕ → Option Standing
+  abbrev pub standing_in : {J : Type 0} → LocalModel T J → ℕ → Option Standing
   standing_in p slot = standing_by (word_of p.member slot)
 
-  abbrev pub value_in : LocalModel T → ℕ → Option T
+  abbrev pub value_in : {J : Type 0} → LocalModel T J → ℕ → Option T
   value_in p slot = value_by (word_of p.member slot) (slice_index_or p.entries slot None)
 
-  -- its domain as a world: all cells are free, and all jobs are its own
-  abbrev pub world_of : LocalModel T → World T
+  abbrev pub contents_in : {J : Type 0} → LocalModel T J → ℕ → Option CellContents
+  contents_in p cell = contents_by (cell_word_of p.member cell)
+
+  -- its domain as a world: no cell is a raw one, and all jobs are its own
+  abbrev pub world_of : {J : Type 0} → LocalModel T J → World T
   world_of p = record {
     home = home_in p.member;
     time = time_of p.member;
     standings = listing p.member.limits.slots (standing_in p);
     values = listing p.member.limits.slots (value_in p);
-    cells = replicate p.member.limits.cells None;
+    cells = listing p.member.limits.cells (contents_in p);
     pointers = replicate p.member.limits.cells null_pointer;
-    jobs = p.member.jobs;
+    jobs = places_of p.member.jobs;
     tally = p.member.tally;
   }
 

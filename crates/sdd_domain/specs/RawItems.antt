@@ -14,22 +14,22 @@ use Rattle.sdd_domain.specs.LocalState.{LocalState, word_of}
 
 -- ---- as its callers see it
 -- the word of a slot is this from now on
-abbrev pub with_word : ℕ → ℕ → LocalState → LocalState
+abbrev pub with_word : {J : Type 0} → ℕ → ℕ → LocalState J → LocalState J
 with_word slot y m = record m { words = slice_set m.words (behind m.sizes slot) y }
 
 -- the item of a slot is out as raw, or has its only owner again
-abbrev pub put_out : ℕ → LocalState → LocalState
+abbrev pub put_out : {J : Type 0} → ℕ → LocalState J → LocalState J
 put_out slot m = with_word slot (raw_word 0) m
 
-abbrev pub taken_back : ℕ → LocalState → LocalState
+abbrev pub taken_back : {J : Type 0} → ℕ → LocalState J → LocalState J
 taken_back slot m = with_word slot (owned_word 0) m
 
 -- by the words that a lone participant knows the item of the slot is out as raw
-abbrev pub IsOut : LocalState → ℕ → Type 0
+abbrev pub IsOut : {J : Type 0} → LocalState J → ℕ → Type 0
 IsOut m slot = word_of m slot ≡ raw_word 0
 
 -- and it moved this into the slot last, for an owner that was the only one
-pub record KnowsRaw (m : LocalState) (slot : ℕ) (value : Gv) : Type 0 where
+pub record KnowsRaw {J : Type 0} (m : LocalState J) (slot : ℕ) (value : Gv) : Type 0 where
   pub newest : newest slot m.filled ≡ Some (record { slot = slot; shared = false; value = value })
   pub out : IsOut m slot
 

@@ -6,21 +6,21 @@ use Rattle.sdd_domain.specs.LocalState.{LocalState}
 use Rattle.sdd_domain.specs.Local.{LocalModel}
 
 -- what a retirement leaves as it is
-abbrev pub kept_by : LocalState → LocalState
+abbrev pub kept_by : {J : Type 0} → LocalState J → LocalState J
 kept_by m = record m { own = nobody; known = 0; slots = record m.slots { waits = [] }; words = [] }
 
-abbrev pub kept_of : {T : Type 0} → LocalModel T → LocalModel T
+abbrev pub kept_of : {T J : Type 0} → LocalModel T J → LocalModel T J
 kept_of p = record p { member = kept_by p.member }
 
 -- what reclaiming leaves as it is
-abbrev pub rest_of : {T : Type 0} → LocalModel T → LocalModel T
+abbrev pub rest_of : {T J : Type 0} → LocalModel T J → LocalModel T J
 rest_of p = record p { member = record (kept_by p.member) { tally = no_items; due = []; jobs = [] } }
 
 -- it counts one item more that was dropped in its place
-abbrev pub counted_in_place : {T : Type 0} → LocalModel T → LocalModel T
+abbrev pub counted_in_place : {T J : Type 0} → LocalModel T J → LocalModel T J
 counted_in_place p = record p { member = record p.member { tally = one_in_place p.member.tally } }
 
 -- where that is so
-abbrev pub counted_where : {T : Type 0} → Bool → LocalModel T → LocalModel T
+abbrev pub counted_where : {T J : Type 0} → Bool → LocalModel T J → LocalModel T J
 counted_where true p = counted_in_place p
 counted_where false p = p

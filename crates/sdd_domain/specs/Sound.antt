@@ -8,7 +8,7 @@ use Rattle.sdd_domain.specs.SpaceIds.{home_in}
 use Rattle.sdd_domain.specs.Local.{LocalModel, world_of}
 
 -- nothing is left to reclaim; what its values hold is of its domain; where it is lone its world is whole
-pub record IsSound {T : Type 0} (holds : T → List OwnerOrCell) (p : LocalModel T) : Type 0 where
+pub record IsSound {T J : Type 0} (holds : T → List OwnerOrCell) (p : LocalModel T J) : Type 0 where
   pub settled : p.member.due ≡ []
   pub home : (place : ℕ) (value : T) (g : Gv) → slice_index_or p.entries place None ≡ Some (value, g) → AreOf (home_in p.member) (holds value)
   pub whole : IsLone p.member → IsWhole (world_of p)

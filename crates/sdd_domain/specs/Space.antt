@@ -20,15 +20,15 @@ pub record RecordsShow {T : Type 0} (shown : T → Gv) (holds : T → List Owner
   pub home : AreOf at (holds value)
 
 -- one of its guards sees the slot, which shows this value
-abbrev pub SeesValue : {T : Type 0} → (T → Gv) → (T → List OwnerOrCell) → LocalState → ℕ → T → Type 0
+abbrev pub SeesValue : {T J : Type 0} → (T → Gv) → (T → List OwnerOrCell) → LocalState J → ℕ → T → Type 0
 SeesValue shown holds m = RecordsShow shown holds (home_in m) m.shown
 
 -- no other participant may be
-abbrev pub is_lone : LocalState → Bool
+abbrev pub is_lone : {J : Type 0} → LocalState J → Bool
 is_lone m = m.limits.participants == 1
 
 -- where it sits
-abbrev pub seat_in : LocalState → CallerId
+abbrev pub seat_in : {J : Type 0} → LocalState J → CallerId
 seat_in m = record {
   place = m.place;
   places = m.limits.participants;
@@ -44,19 +44,19 @@ seat_in m = record {
 
 module _ {T : Type 0} where
   -- what a slot shows: to a lone participant the value that is in it, and else what one of its guards sees there
-  abbrev pub ShowsBy : Bool → (T → Gv) → (T → List OwnerOrCell) → LocalModel T → ℕ → T → Type 0
+  abbrev pub ShowsBy : {J : Type 0} → Bool → (T → Gv) → (T → List OwnerOrCell) → LocalModel T J → ℕ → T → Type 0
   ShowsBy true shown holds p slot value = value_at (world_of p) slot ≡ Some value
   ShowsBy false shown holds p slot value = SeesValue shown holds p.member slot value
 
-  abbrev pub Shows : (T → Gv) → (T → List OwnerOrCell) → LocalModel T → ℕ → T → Type 0
+  abbrev pub Shows : {J : Type 0} → (T → Gv) → (T → List OwnerOrCell) → LocalModel T J → ℕ → T → Type 0
   Shows shown holds p = ShowsBy (is_lone p.member) shown holds p
 
-  abbrev pub seat_of : LocalModel T → CallerId
+  abbrev pub seat_of : {J : Type 0} → LocalModel T J → CallerId
   seat_of p = seat_in p.member
 
-  abbrev pub known_of : LocalModel T → KnownEpochs
+  abbrev pub known_of : {J : Type 0} → LocalModel T J → KnownEpochs
   known_of p = record { told = p.member.known; since = p.member.since }
 
   -- where the slots of its domain are numbered
-  abbrev pub slots_home : LocalModel T → token.GhostName
+  abbrev pub slots_home : {J : Type 0} → LocalModel T J → token.GhostName
   slots_home p = items.slots_home p.member

@@ -27,15 +27,16 @@ Agrees (Some r) None = ⊥
 Agrees (Some r) (Some e) = e.1 ≡ r.value
 
 -- a job's place is free where its word says so, and where it has a job the word says that what is there waits
-abbrev pub MatchesPlace : ℕ → Option (Unit {0}) → Type 0
+abbrev pub MatchesPlace : {J : Type 0} → ℕ → Option J → Type 0
 MatchesPlace word None = word ≡ free_word 0
 MatchesPlace word (Some job) = word ≡ waiting_word 0
 
 -- of a lone participant: what it knows of words and of what it moved in is what its bags and its ledger have
-pub record AreTied {T : Type 0} (m : LocalState) (entries : Entries T) : Type 0 where
+pub record AreTied {T J : Type 0} (m : LocalState J) (entries : Entries T) : Type 0 where
   pub place : m.place ≡ 0
   pub slots : m.sizes.slots ≡ m.limits.slots
   pub places : m.sizes.jobs ≡ m.limits.jobs
+  pub all_cells : m.sizes.cells ≡ m.limits.cells
   pub long : length m.words ≡ words_behind m.sizes
   pub wide : length entries ≡ m.limits.slots
   pub plain : (slot : ℕ) → slot < m.limits.slots → IsTrue (is_plain_word (word_of m slot))
@@ -47,5 +48,5 @@ pub record AreTied {T : Type 0} (m : LocalState) (entries : Entries T) : Type 0 
   pub due : m.due ≡ map (what_of m.limits.slots) (ripe m.slots.waits)
   pub now : 0 < m.own.guards → m.known ≡ m.own.found
 
-abbrev pub WordsMatchValues : {T : Type 0} → LocalState → Entries T → Type 0
+abbrev pub WordsMatchValues : {T J : Type 0} → LocalState J → Entries T → Type 0
 WordsMatchValues m entries = IsLone m → AreTied m entries

@@ -170,6 +170,7 @@ pub fn take_all_counts<T: Item<T>, J: Job>(
     while let Some(receipt) = receipts.pop() {
         take_counts(board, token, receipt.into_counts(board));
     }
+    receipts.destroy_empty();
 }
 
 /// All stakes, of a closed table in which all slots are free.

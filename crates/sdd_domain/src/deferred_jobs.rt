@@ -1,5 +1,5 @@
 //! The jobs that a participant deferred.
-ghost use Rattle.std.specs.Prelude.{◌≡◌, ◌^◌, ◌<◌, ◌≤◌, IfOk, None, length, replicate, slice_index_or};
+ghost use Rattle.std.specs.Prelude.{◌≡◌, ℕ, ◌^◌, ◌<◌, ◌≤◌, IfOk, None, length, replicate, slice_index_or};
 ghost use Rattle.sdd_participants.specs.Slab.{with_entry, without_entry};
 
 use sdd_participants::Job;
@@ -7,6 +7,8 @@ use std::alloc::{AllocError, Global};
 use std::marker::Model;
 
 /// The jobs that wait with a participant, each by its place in the domain's table of jobs, and where it looks for a free place first.
+///
+/// It is spent by `destroy`, once no job waits any more; only where the jobs' type is `Drop` may it be let go of with what waits.
 #[derive(Drop)]
 pub struct DeferredJobs<J: Job> {
     jobs: Vec<Option<J>>,
@@ -63,10 +65,13 @@ impl<J: Job> DeferredJobs<J> {
 
     /// A job waits in a place; the next walk begins behind it.
     pub fn put(&mut self, place: u32, job: J)
-        requires { place < length self.old }
+        requires inside { place < length self.old }
+        requires free { slice_index_or self.old place None ≡ None }
         ensures { self.new ≡ with_entry self.old place job }
     {
-        self.jobs[place as usize] = Some(job);
+        if let Some(_) = self.jobs[place as usize].replace(job) {
+            unreachable!()
+        }
         self.next = place + 1;
     }
 
@@ -78,5 +83,18 @@ impl<J: Job> DeferredJobs<J> {
         ensures free { self.new ≡ without_entry self.old place }
     {
         self.jobs[place as usize].take()
+    }
+
+    /// Lets go of a table in which no job waits.
+    pub fn destroy(self)
+        requires free { (place : ℕ) → slice_index_or self place None ≡ None }
+    {
+        let DeferredJobs { mut jobs, next: _ } = self;
+        while let Some(job) = jobs.pop() {
+            if let Some(_) = job {
+                unreachable!()
+            }
+        }
+        jobs.destroy_empty();
     }
 }

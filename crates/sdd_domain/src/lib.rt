@@ -1,6 +1,9 @@
 //! A domain: what participants in several threads share, values and guards over them.
 #![tactic(auto)]
 
+mod cell_claims;
+mod cell_values;
+mod cell_words;
 mod changes;
 mod claims;
 mod closing;

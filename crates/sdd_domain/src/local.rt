@@ -31,7 +31,7 @@ impl<'d, T: Item<T>, J: Job> Model for Local<'d, T, J> {
     ghost use Rattle.sdd_domain.specs.Local.{LocalModel};
     ghost use Rattle.sdd_domain.specs.Sound.{IsSound};
 
-    ghost Value = { LocalModel T };
+    ghost Value = { LocalModel T J };
 
     ghost view = { λ l. l.partner };
 

@@ -38,6 +38,7 @@ use sdd_values::{ReadSection, SectionState};
 use std::alloc::{AllocError, Global};
 use std::marker::Model;
 
+mod cells;
 pub mod detached_local;
 mod in_place;
 mod items;
@@ -58,6 +59,8 @@ pub struct LocalCore<'d, T: Item<T>, J: Job> {
     due: DueItems,
     known: FreeSlotHints,
     jobs: DeferredJobs<J>,
+    /// Where it looks for a free cell first.
+    next_cell: u32,
     /// What its open guards don't have of its tenure: each of them has one unit.
     tenure: ReadSection,
     tally: RunningTally,
@@ -67,11 +70,10 @@ impl<'d, T: Item<T>, J: Job> Model for LocalCore<'d, T, J> {
     ghost use Rattle.std.specs.Prelude.{◌≡◌};
     ghost use Rattle.sdd_domain.specs.Domain.{book_of};
     ghost use Rattle.sdd_domain.specs.LocalState.{LocalState};
-    ghost use Rattle.sdd_domain.specs.Jobs.{places_of};
     ghost use Rattle.sdd_domain.specs.BetweenCalls.{IsBetweenCalls, AreLentTo, IsTenureOf, IsReady};
     ghost use Rattle.sdd_domain.specs.Receipt.{IsTallied};
 
-    ghost Value = { LocalState };
+    ghost Value = { LocalState J };
 
     ghost view = { λ l. record {
       home = l.token.table_id;
@@ -89,7 +91,7 @@ impl<'d, T: Item<T>, J: Job> Model for LocalCore<'d, T, J> {
       filled = l.token.me.0.stakes.filled;
       words = l.token.me.0.words;
       due = l.due.items;
-      jobs = places_of l.jobs;
+      jobs = l.jobs;
     } };
 
     ghost invariant = { λ l. IsBetweenCalls l.domain.now.board l.place l.own l.token × (l.nesting ≡ l.domain.now.limits.nesting)
@@ -219,6 +221,7 @@ impl<'d, T: Item<T>, J: Job> LocalCore<'d, T, J> {
         } = room;
         let mut token = steps::sit(&domain.board);
         let Some(place) = take_place(&domain.board, &mut token) else {
+            jobs.destroy();
             return Err(Refused::NoPlace);
         };
         steps::write(&domain.board, &mut token, place, 0);
@@ -233,14 +236,17 @@ impl<'d, T: Item<T>, J: Job> LocalCore<'d, T, J> {
             due,
             known,
             jobs,
+            next_cell: share_of(place, domain.board.places(), domain.limits.cells as u32),
             tenure: own_tenure(),
             tally: RunningTally::new(),
         })
     }
 
-    /// Ends the participant, whose place isn't free again.
+    /// Ends the participant, with which nothing waits and so no job, whose place isn't free again.
     pub fn end(self) -> EndedCounts
-        requires { ¬ (HasOpenGuard self) }
+        requires shut { ¬ (HasOpenGuard self) }
+        requires idle { waits self ≡ false }
+        requires settled { self.due ≡ [] }
         ensures { result ≡ record { home = slots_home self.entry; tally = self.entry.tally; waits = false } }
     {
         let LocalCore {
@@ -251,10 +257,12 @@ impl<'d, T: Item<T>, J: Job> LocalCore<'d, T, J> {
             own: _,
             due: _,
             known: _,
-            jobs: _,
+            jobs,
+            next_cell: _,
             tenure: _,
             tally,
         } = self;
+        jobs.destroy();
         steps::end(&domain.board, &mut token, place);
         EndedCounts::new(token, domain.limits.slots, tally.total())
     }
@@ -336,7 +344,7 @@ impl<'d, T: Item<T>, J: Job> LocalCore<'d, T, J> {
         requires settled { self.old.due ≡ [] }
         ensures reader { reader_of result.0 ≡ self.old.reader }
         ensures nests { CanNest self.old }
-        ensures entered { (count : ℕ) × (entered : LocalState) × IsEntered count self.old entered × GoesOn count result.1 self.old entered self.new }
+        ensures entered { (count : ℕ) × (entered : LocalState J) × IsEntered count self.old entered × GoesOn count result.1 self.old entered self.new }
     {
         let goes_on = arrive(
             &self.domain.board,

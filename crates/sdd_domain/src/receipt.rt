@@ -27,7 +27,7 @@ impl<T: Item<T>, J: Job> Model for EndedLocal<T, J> {
     ghost use Rattle.sdd_domain.specs.Local.{LocalModel};
     ghost use Rattle.sdd_domain.specs.WordsAndValues.{WordsMatchValues};
 
-    ghost Value = { LocalModel T };
+    ghost Value = { LocalModel T J };
 
     ghost view = { λ e. record { member = e.dormant; entries = e.ledger.entries } };
 

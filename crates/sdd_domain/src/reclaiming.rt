@@ -1,5 +1,5 @@
 //! A change reclaims what is due, and a value that is reclaimed gives up what it holds.
-ghost use Rattle.std.specs.Prelude.{◌≡◌, ◌⊎◌, ◌+◌, ◌≤◌, ℕ, true, List, [], length, IfErr, IsTrue, MatchBool, MatchResult, ◌∷◌};
+ghost use Rattle.std.specs.Prelude.{◌≡◌, ◌⊎◌, ◌+◌, ◌≤◌, ℕ, true, List, [], length, IfErr, IsSome, IsTrue, MatchBool, MatchResult, ◌∷◌};
 ghost use Rattle.sdd_rights.specs.Right.{number_of, home_of, kind_of};
 ghost use Rattle.sdd_rights.specs.StandingKind.{is_shared};
 ghost use Rattle.sdd_standings.specs.Slots.{IsOwnedBy, has_others};
@@ -11,9 +11,11 @@ ghost use Rattle.sdd_space.specs.Owned as owned;
 ghost use Rattle.sdd_space.specs.RawCell as raw_cell;
 ghost use Rattle.sdd_space.specs.CallerId.{IsSeated, IsExact};
 ghost use Rattle.sdd_space.specs.Shared as shared;
-ghost use Rattle.sdd_space.specs.WorldChanges.{given, given_all, all_reclaimed, dropped, owner_given, reclaimed, ran};
+ghost use Rattle.sdd_space.specs.WorldChanges.{cell_closed, given, given_all, all_reclaimed, dropped, owner_given, reclaimed, ran};
 ghost use Rattle.sdd_space.specs.WorldChanges as steps;
 ghost use Rattle.sdd_participants.specs.EpochState.{awaiting, settled};
+ghost use Rattle.sdd_participants.specs.Slab.{entry_at, without_entry};
+ghost use Rattle.sdd_participants.specs.Jobs.{jobs_without, jobs_without_all};
 ghost use Rattle.sdd_participants.specs.declared.waiting.LimboEntry.{LimboEntry as Entry};
 ghost use Rattle.sdd_participants.specs.declared.waiting.LimboEntry.TheVariants.{Item as item, Job as job};
 ghost use Rattle.sdd_participants.specs.Tally.{one_reclaimed};
@@ -47,7 +49,7 @@ impl<'d, T: Item<T>, J: Job> Model for LocalGiver<'d, T, J> {
     ghost use Rattle.sdd_domain.specs.Local.{LocalModel};
     ghost use Rattle.sdd_domain.specs.WordsAndValues.{WordsMatchValues};
 
-    ghost Value = { LocalModel T };
+    ghost Value = { LocalModel T J };
 
     ghost view = { λ p. record { member = p.membership; entries = p.ledger.entries } };
 
@@ -64,7 +66,7 @@ impl<T: Item<T>, J: Job> Giver<T> for LocalGiver<'_, T, J> {
 
     ghost known = { λ p. known_of p };
 
-    ghost Kept = { LocalModel T };
+    ghost Kept = { LocalModel T J };
 
     ghost kept = { λ p. kept_of p };
 
@@ -95,7 +97,6 @@ impl<T: Item<T>, J: Job> Giver<T> for LocalGiver<'_, T, J> {
             .release(right_of_shared(owner), StandingKind::Shared);
     }
 
-    /// A domain has no cells yet, so that nothing becomes of this one.
     fn atomic_owned(&mut self, cell: AtomicOwned<T>)
         requires seated { IsSeated (seat_of self.old) }
         requires home { owned.cells_home cell ≡ (home_in self.old.member).cells }
@@ -105,7 +106,7 @@ impl<T: Item<T>, J: Job> Giver<T> for LocalGiver<'_, T, J> {
         ensures kept { kept_of self.new ≡ kept_of self.old }
         ensures exact { IsExact (seat_of self.old) → world_of self.new ≡ given (world_of self.old) self.old.member.place (owned.cell_holding cell) }
     {
-        right_of_cell(cell).forget();
+        self.close_cell(right_of_cell(cell), StandingKind::Owned);
     }
 
     fn atomic_shared(&mut self, cell: AtomicShared<T>)
@@ -117,7 +118,7 @@ impl<T: Item<T>, J: Job> Giver<T> for LocalGiver<'_, T, J> {
         ensures kept { kept_of self.new ≡ kept_of self.old }
         ensures exact { IsExact (seat_of self.old) → world_of self.new ≡ given (world_of self.old) self.old.member.place (shared.cell_holding cell) }
     {
-        right_of_shared_cell(cell).forget();
+        self.close_cell(right_of_shared_cell(cell), StandingKind::Shared);
     }
 
     fn atomic_raw(&mut self, cell: AtomicRaw<T>)
@@ -129,11 +130,28 @@ impl<T: Item<T>, J: Job> Giver<T> for LocalGiver<'_, T, J> {
         ensures kept { kept_of self.new ≡ kept_of self.old }
         ensures exact { IsExact (seat_of self.old) → world_of self.new ≡ given (world_of self.old) self.old.member.place (raw_cell.cell_holding cell) }
     {
-        right_of_raw_cell(cell).forget();
+        self.membership.free_raw_cell(right_of_raw_cell(cell));
     }
 }
 
 impl<T: Item<T>, J: Job> LocalGiver<'_, T, J> {
+    /// A cell is free again, and the participant lets the owner go that it held, if it held one.
+    fn close_cell(&mut self, right: Right, kind: StandingKind)
+        requires home { home_of right ≡ (home_in self.old.member).cells }
+        requires kind { kind_of right ≡ kind }
+        ensures seat { seat_of self.new ≡ seat_of self.old }
+        ensures own { KeepsMoreWaiting self.old.member.own self.new.member.own }
+        ensures known { KnowsOn (known_of self.old) (known_of self.new) }
+        ensures kept { kept_of self.new ≡ kept_of self.old }
+        ensures exact { IsExact (seat_of self.old) → world_of self.new ≡ cell_closed (world_of self.old) self.old.member.place (number_of right) }
+    {
+        let (held, _word) = self.membership.into_contents(right, kind);
+        let Some(owner) = held else {
+            return;
+        };
+        self.membership.release(owner, kind);
+    }
+
     /// The item that is due before all others, in this slot, is reclaimed, and what its value held is retired then.
     fn reclaim_item(&mut self, slot: u32)
         requires first { (rest : List Entry) × (self.old.member.due ≡ item slot ∷ rest) }
@@ -142,6 +160,7 @@ impl<T: Item<T>, J: Job> LocalGiver<'_, T, J> {
         ensures known { KnowsOn (known_of self.old) (known_of self.new) }
         ensures rest { rest_of self.new ≡ rest_of self.old }
         ensures tally { self.new.member.tally ≡ one_reclaimed self.old.member.tally }
+        ensures jobs { self.new.member.jobs ≡ self.old.member.jobs }
         ensures exact { IsLone self.old.member → world_of self.new ≡ reclaimed T.holds (world_of self.old) self.old.member.place (item slot) }
     {
         self.ledger.codes();
@@ -158,9 +177,11 @@ impl<T: Item<T>, J: Job> LocalGiver<'_, T, J> {
         ensures known { known_of self.new ≡ known_of self.old }
         ensures rest { rest_of self.new ≡ rest_of self.old }
         ensures tally { self.new.member.tally ≡ self.old.member.tally }
+        ensures there { IsSome (entry_at self.old.member.jobs place) }
+        ensures jobs { self.new.member.jobs ≡ without_entry self.old.member.jobs place }
         ensures exact { IsLone self.old.member → world_of self.new ≡ ran (world_of self.old) place }
     {
-        let mut job = self.membership.take_job(place);
+        let job = self.membership.take_job(place);
         job.run();
     }
 
@@ -173,6 +194,7 @@ impl<T: Item<T>, J: Job> LocalGiver<'_, T, J> {
         ensures known { KnowsOn (known_of self.old) (known_of self.new) }
         ensures rest { rest_of self.new ≡ rest_of self.old }
         ensures reclaimed { self.new.member.tally ≡ with_reclaimed (items_in (what ∷ [])) self.old.member.tally }
+        ensures jobs { self.new.member.jobs ≡ jobs_without self.old.member.jobs what }
         ensures exact { IsLone self.old.member → world_of self.new ≡ reclaimed T.holds (world_of self.old) self.old.member.place what }
     {
         match what {
@@ -189,6 +211,7 @@ impl<T: Item<T>, J: Job> LocalGiver<'_, T, J> {
         ensures rest { rest_of self.new ≡ rest_of self.old }
         ensures due { self.new.member.due ≡ [] }
         ensures reclaimed { self.new.member.tally ≡ with_reclaimed (items_in self.old.member.due) self.old.member.tally }
+        ensures jobs { self.new.member.jobs ≡ jobs_without_all self.old.member.jobs self.old.member.due }
         ensures exact { IsLone self.old.member → world_of self.new
             ≡ all_reclaimed T.holds (world_of self.old) self.old.member.place self.old.member.due }
     {
@@ -205,6 +228,7 @@ impl<T: Item<T>, J: Job> LocalGiver<'_, T, J> {
         ensures rest { rest_of self.new ≡ rest_of self.old }
         ensures due { self.new.member.due ≡ [] }
         ensures reclaimed { self.new.member.tally ≡ with_reclaimed (items_in self.old.member.due) self.old.member.tally }
+        ensures jobs { self.new.member.jobs ≡ jobs_without_all self.old.member.jobs self.old.member.due }
         ensures near { HasOpenGuard self.new.member → self.new.member.known ≤ self.new.member.since + 1 }
         ensures exact { IsLone self.old.member → world_of self.new
             ≡ steps.settled (all_reclaimed T.holds (world_of self.old) self.old.member.place self.old.member.due) self.old.member.place }

@@ -30,7 +30,7 @@ use Rattle.sdd_word_invariant.specs.Codes.{alive, full, counted, names, held_slo
 use Rattle.sdd_word_invariant.specs.Epoch.{HasPlace, IsOpen}
 use Rattle.sdd_word_invariant.specs.Sums.{times, total}
 use Rattle.sdd_word_invariant.specs.Slots.{slot_at, items_at, Owns}
-use Rattle.sdd_word_invariant.specs.CellSteps.{coming, cell_noted, SwapsCell, ExchangesCell, LooksAtCell, SeesCell, AtCell}
+use Rattle.sdd_word_invariant.specs.CellSteps.{coming, noting, cell_noted, SwapsCell, ExchangesCell, RetagsCell, LooksAtCell, SeesCell, AtCell}
 use Rattle.sdd_word_invariant.specs.WordInvariant.{epoch_of}
 use Rattle.sdd_word_invariant.proofs.Codes.{sound, counts_or_not, held_in, held_which, holds_none}
 use Rattle.sdd_word_invariant.proofs.CellSteps as words
@@ -45,8 +45,8 @@ use Rattle.sdd_domain_invariant.specs.LastFractions.{IsRaw, IsStored, LastIs}
 use Rattle.sdd_domain_invariant.specs.PledgesInvariant.{IsOfOwner, IsOfCell}
 use Rattle.sdd_domain_invariant.specs.KindsInvariant.{KnowsKinds, KindsInvariant}
 use Rattle.sdd_domain_invariant.specs.DomainInvariant.{DomainInvariant}
-use Rattle.sdd_domain_invariant.specs.FractionSteps.{SeatState, IsValue, SeesOwned, sighting}
-use Rattle.sdd_domain_invariant.specs.CellSteps.{put_in, brought_out, KnewStored, BringsOut, SwapsOne, ExchangesOne, ClaimsCell, FreesCell, LooksInCell, SeesInCell, LearnsCell, OfCell}
+use Rattle.sdd_domain_invariant.specs.FractionSteps.{SeatState, IsNewest, IsRecalled, IsValue, SeesOwned, sighting}
+use Rattle.sdd_domain_invariant.specs.CellSteps.{put_in, brought_out, KnewStored, BringsOut, SwapsOne, ExchangesOne, ClaimsCell, FreesCell, FillsBare, SwapsBare, RetagsOne, FreesBare, IsBare, FindsCell, LooksInCell, SeesInCell, LearnsCell, OfCell}
 use Rattle.sdd_domain_invariant.proofs.Part.{none_out, only_seen, one_taken}
 use Rattle.sdd_domain_invariant.proofs.Part as part
 use Rattle.sdd_domain_invariant.proofs.Banks as banks
@@ -56,7 +56,7 @@ use Rattle.sdd_domain_invariant.proofs.Records.{in_head, in_tail, in_either, in_
 use Rattle.sdd_domain_invariant.proofs.Records as records
 use Rattle.sdd_domain_invariant.proofs.Fillings.{has_none, filled_learned}
 use Rattle.sdd_domain_invariant.proofs.Telling.{none_moved}
-use Rattle.sdd_domain_invariant.proofs.Lasts.{AllKnow, stored_same, lasts_out, lasts_fewer}
+use Rattle.sdd_domain_invariant.proofs.Lasts.{AllKnow, NoMoreStored, stored_same, lasts_out, lasts_fewer}
 use Rattle.sdd_domain_invariant.proofs.Lift.{Keeps, Follows, keeps_ended, lift_homes}
 use Rattle.sdd_domain_invariant.proofs.KindSteps.{has_first, knows_still, same_within, bound_kept, pledges_spent, no_participants}
 use Rattle.sdd_domain_invariant.proofs.KindSteps as kind_steps
@@ -83,13 +83,18 @@ abbrev first_right : CellRight → List CellRight → CellRight
 first_right r [] = r
 first_right r (q ∷ qs) = q
 
--- where slots' words stay a word is of the kind that it was
+-- where slots' words stay a word that names what another one does is of the kind that that is
+word_renamed : (sizes : Sizes) (ws ws' : List ℕ) → ((j : ℕ) → slot_at sizes ws' j ≡ slot_at sizes ws j) → (kind : CellKind) (x x' : ℕ)
+    → ((i : ℕ) → names i x' ≡ names i x) → IsWordOf sizes ws kind x → IsWordOf sizes ws' kind x'
+word_renamed sizes ws ws' same Owned x x' e w = λ i n. let q = e i in ap counted (same i) ∙ w i (omega arith)
+word_renamed sizes ws ws' same Shared x x' e w = λ i n. let q = e i in ap counted (same i) ∙ w i (omega arith)
+word_renamed sizes ws ws' same Raw x x' e w = λ i. e i ∙ w i
+word_renamed sizes ws ws' same Collector x x' e w = λ i. e i ∙ w i
+
+-- and so is the same word
 word_moves : (sizes : Sizes) (ws ws' : List ℕ) → ((j : ℕ) → slot_at sizes ws' j ≡ slot_at sizes ws j) → (kind : CellKind) (x x' : ℕ) → x' ≡ x
     → IsWordOf sizes ws kind x → IsWordOf sizes ws' kind x'
-word_moves sizes ws ws' same Owned x x' e w = λ i n. let q = ap (names i) e in ap counted (same i) ∙ w i (omega arith)
-word_moves sizes ws ws' same Shared x x' e w = λ i n. let q = ap (names i) e in ap counted (same i) ∙ w i (omega arith)
-word_moves sizes ws ws' same Raw x x' e w = λ i. ap (names i) e ∙ w i
-word_moves sizes ws ws' same Collector x x' e w = λ i. ap (names i) e ∙ w i
+word_moves sizes ws ws' same kind x x' e = word_renamed sizes ws ws' same kind x x' (λ i. ap (names i) e)
 
 pub word_counted : (sizes : Sizes) (ws : List ℕ) (shared : Bool) (x : ℕ) → ((i : ℕ) → 0 < names i x → counted (slot_at sizes ws i) ≡ one_where shared)
     → IsWordOf sizes ws (cell_kind shared) x
@@ -100,6 +105,28 @@ counted_word : (sizes : Sizes) (ws : List ℕ) (shared : Bool) (x : ℕ) → IsW
     → counted (slot_at sizes ws i) ≡ one_where shared
 counted_word sizes ws true x w = w
 counted_word sizes ws false x w = w
+
+names_nothing : (sizes : Sizes) (ws : List ℕ) (kind : CellKind) → IsBare kind → (x : ℕ) → IsWordOf sizes ws kind x → (i : ℕ) → names i x ≡ 0
+names_nothing sizes ws Owned bare x w i = absurd bare
+names_nothing sizes ws Shared bare x w i = absurd bare
+names_nothing sizes ws Raw bare x w i = w i
+names_nothing sizes ws Collector bare x w i = w i
+
+-- a word of such a kind holds no owner, and so it fits any cell
+holds_nothing : (sizes : Sizes) (ws : List ℕ) (kind : CellKind) → IsBare kind → (x : ℕ) → IsWordOf sizes ws kind x → held_slots x ≡ []
+holds_nothing sizes ws kind bare x w = ⊎_elim
+    (λ (one : (slot : ℕ) × (held_slots x ≡ slot ∷ [])). let no = names_nothing sizes ws kind bare x w one.0 in
+    let e = held_in x one.0 in let o = ap (times one.0) one.1 in let l = is_same one.0 one.0 refl in absurd (omega arith))
+    (λ (e : held_slots x ≡ []). e) (held_which x)
+
+names_none : (x : ℕ) → held_slots x ≡ [] → (i : ℕ) → names i x ≡ 0
+names_none x none i = let e = held_in x i in let o = ap (times i) none in omega arith
+
+pub fits_any : (sizes : Sizes) (ws : List ℕ) (kind : CellKind) (x : ℕ) → held_slots x ≡ [] → IsWordOf sizes ws kind x
+fits_any sizes ws Owned x none = λ i n. absurd (let z = names_none x none i in omega arith)
+fits_any sizes ws Shared x none = λ i n. absurd (let z = names_none x none i in omega arith)
+fits_any sizes ws Raw x none = names_none x none
+fits_any sizes ws Collector x none = names_none x none
 
 -- it has no owner, or one, with its record
 module _ (m : ℕ) (v : View) (t : IsTelling m v) (cell y : ℕ) (rights : CellsView) (rests : v.stakes.moves ≡ None) where
@@ -195,9 +222,38 @@ module _ (slots id : ℕ) (me : SeatState) (live : HasPlace me.0.epoch) (rests :
             let quiet = (sound.lives (slot_at sizes s.words slot) alive_now).0 in absurd (omega arith))
             (h.homes.moving j u e slot m).1
 
+        -- what a lone participant knows of an item whose owner is in the cell
+        stored_known : sizes.participants ≡ 1 → (slot : ℕ) (shared : Bool) (value : Gv) → IsNewest slot shared value v
+            → 0 < names slot (cell_at sizes s.words cell) → counted (slot_at sizes s.words slot) ≡ one_where shared → IsRecalled slot shared value v
+        stored_known one slot shared value newest named kind = let word = finds sizes s.words s.views h.kept.parts.lone id v at one live slot in record {
+          newest = newest;
+          alive = subst (λ (y : ℕ). 0 < alive y) word (in_cell_alive sizes s.words s.views h.kept.parts.slots slot (cell, inside, named));
+          kind = sym (ap counted word) ∙ kind;
+        }
+
         -- one with a place isn't a token of owners alone
         placed : 0 < v.sizes.participants
         placed = let near = (h.kept.parts.epoch.each id v.epoch (at_map epoch_of s.views id v at)).inside live in omega arith
+
+        -- what is known of kinds, where it has these rights
+        kinds_then : (y : ℕ) (w : View) → w.words ≡ cell_noted cell y v → w.stakes.moves ≡ None → w.slots.over ≡ v.slots.over → w.pledges ≡ v.pledges
+            → (HasPlace v.epoch → HasPlace w.epoch) → w.sizes ≡ v.sizes
+            → ((r : ShownValue) → HasRecord w.stakes.owns r → counted (slot_at sizes s.words r.slot) ≡ one_where r.shared)
+            → CellsInvariant sizes (after y) (set s.views id w) → KindsInvariant sizes (after y) (set s.views id w)
+        kinds_then y w words_are still_now over pledges lives of tells cells = record {
+          each = each_set (KnowsKinds sizes s.words) (KnowsKinds sizes (after y)) s.views id w
+              record {
+                long = ap length words_are ∙ (length-set v.words cell y ∙ ((h.kinds.each id v at).long ∙ ap words_behind (sym of)));
+                sole = λ j m. absurd (none_moved w j still_now m);
+                claimed = λ j m. absurd (none_moved w j still_now m);
+                told = λ r a _. ap counted (slots_stay y r.slot) ∙ tells r a;
+              }
+              (λ j u apart e. knows_still sizes s.words (after y) u (h.kinds.each j u e) (h.records.each j u e) (λ k. inl (slots_stay y k)));
+          bound = bound_kept sizes s.words s.views h.kinds.bound id v at (after y) w
+              (λ k. same_within (slot_at sizes s.words k) (slot_at sizes (after y) k) (slots_stay y k)) over (inl lives);
+          pledges = pledges_spent s.views h.kinds.pledges id v w at pledges (no_participants s.views h.kinds.pledges id v at placed);
+          cells = cells;
+        }
 
         -- what it has goes into the cell, whose word is y then
         module _ (y : ℕ) (owns : v.slots.owns ≡ held_slots y) (loose : v.slots.holds ≡ None) (undrawn : v.slots.drawn ≡ []) (shared : Bool)
@@ -228,26 +284,6 @@ module _ (slots id : ℕ) (me : SeatState) (live : HasPlace me.0.epoch) (rests :
               ∙ (λ d. Some (record { slot = r.2 d; shared = flags d; value = shows d })))))
               (λ ne. let q = ap (names j) (there y c.0 ne) in inl (inr ((c.0, c.1, (omega arith)), was)))) is
 
-          -- what is known of kinds, where it has these rights
-          kinds_then : (w : View) → w.words ≡ cell_noted cell y v → w.stakes.moves ≡ None → w.slots.over ≡ v.slots.over → w.pledges ≡ v.pledges
-              → (HasPlace v.epoch → HasPlace w.epoch) → w.sizes ≡ v.sizes
-              → ((r : ShownValue) → HasRecord w.stakes.owns r → counted (slot_at sizes s.words r.slot) ≡ one_where r.shared)
-              → CellsInvariant sizes (after y) (set s.views id w) → KindsInvariant sizes (after y) (set s.views id w)
-          kinds_then w words_are still_now over pledges lives of tells cells = record {
-            each = each_set (KnowsKinds sizes s.words) (KnowsKinds sizes (after y)) s.views id w
-                record {
-                  long = ap length words_are ∙ (length-set v.words cell y ∙ ((h.kinds.each id v at).long ∙ ap words_behind (sym of)));
-                  sole = λ j m. absurd (none_moved w j still_now m);
-                  claimed = λ j m. absurd (none_moved w j still_now m);
-                  told = λ r a _. ap counted (slots_stay y r.slot) ∙ tells r a;
-                }
-                (λ j u apart e. knows_still sizes s.words (after y) u (h.kinds.each j u e) (h.records.each j u e) (λ k. inl (slots_stay y k)));
-            bound = bound_kept sizes s.words s.views h.kinds.bound id v at (after y) w
-                (λ k. same_within (slot_at sizes s.words k) (slot_at sizes (after y) k) (slots_stay y k)) over (inl lives);
-            pledges = pledges_spent s.views h.kinds.pledges id v w at pledges (no_participants s.views h.kinds.pledges id v at placed);
-            cells = cells;
-          }
-
           -- the cell held none
           follows_none : (told : ℕ → SeatState → Type 0) (rights : CellsView) → held_slots (cell_at sizes s.words cell) ≡ []
               → CellsInvariant sizes (after y) (set s.views id (record (put_in cell y v) { cells = rights }))
@@ -273,7 +309,7 @@ module _ (slots id : ℕ) (me : SeatState) (live : HasPlace me.0.epoch) (rests :
                     record { bank = refl; founds = refl; book = refl; banked = refl; drawn = refl } refl
                     (λ k. let z = ap (times k) undrawn in omega arith) (full_stay y);
                 lasts = lasts_out sizes s.words s.views s.homes h.lasts id v at (after y) now (λ b. (b, refl)) refl (λ l. l) stored_then;
-                kinds = kinds_then now refl rests refl refl (λ l. l) refl (λ r a. absurd (has_none r [] refl a)) cells;
+                kinds = kinds_then y now refl rests refl refl (λ l. l) refl (λ r a. absurd (has_none r [] refl a)) cells;
                 tells = tells;
               }
 
@@ -296,8 +332,9 @@ module _ (slots id : ℕ) (me : SeatState) (live : HasPlace me.0.epoch) (rests :
                 (h.homes.home slot n last.0 low (omega arith) last.1).1.0 (sound.lives (slot_at sizes s.words slot) a).1
 
             knew_stored : KnewStored slot shared shown_value v
-            knew_stored lone = h.lasts.stored (steps.one_place γ sizes s h id v at lone) id v at live slot shared last.0 low
-                (inr ((cell, inside, named), kind slot named)) last.1
+            knew_stored lone = let one_place = steps.one_place γ sizes s h id v at lone in stored_known one_place slot shared shown_value
+                (h.lasts.stored one_place id v at live slot shared last.0 low (inr ((cell, inside, named), kind slot named)) last.1)
+                named (kind slot named)
 
             follows_one : (told : ℕ → SeatState → Type 0) (rights : CellsView)
                 → CellsInvariant sizes (after y) (set s.views id (record (brought_out cell y slot shared shown_value v) { cells = rights }))
@@ -331,7 +368,7 @@ module _ (slots id : ℕ) (me : SeatState) (live : HasPlace me.0.epoch) (rests :
                       record { bank = refl; founds = refl; book = refl; banked = refl; drawn = refl } refl
                       (λ k. let z = ap (times k) undrawn in omega arith) (full_stay y);
                   lasts = lasts_out sizes s.words s.views s.homes h.lasts id v at (after y) now (λ b. (b, refl)) refl (λ l. l) stored_then;
-                  kinds = kinds_then now refl rests refl refl (λ l. l) refl
+                  kinds = kinds_then y now refl rests refl refl (λ l. l) refl
                       (λ q a. ⊎_elim (λ (b : r ≡ q). subst (λ (x : ShownValue). counted (slot_at sizes s.words x.slot) ≡ one_where x.shared) b (kind slot named))
                       (λ (b : HasRecord [] q). absurd (has_none q [] refl b)) (has_first r [] q a)) cells;
                   tells = tells;
@@ -387,6 +424,64 @@ module _ (slots id : ℕ) (me : SeatState) (live : HasPlace me.0.epoch) (rests :
               inr (is, more, subst (λ (q : CellRight). IsWordOf sizes s.words q.kind y) one word_given))
               (λ ne. inl (ne, h.kinds.cells.taken old.0 old.1 r old.2 old.3)))
 
+        -- the cell's word is y then, which names what its word did
+        module _ (y : ℕ) (more : 0 < y) (alike : (j : ℕ) → names j y ≡ names j (cell_at sizes s.words cell)) (loose : v.slots.holds ≡ None) where
+          in_cell_was : (j : ℕ) → IsInCell sizes (after y) j → IsInCell sizes s.words j
+          in_cell_was j c = let some_in = c.2 in dite (ℕ_discrete c.0 cell)
+              (λ e. let q = ap (names j) (ap (cell_at sizes (after y)) e ∙ here y) in let k = alike j in (cell, inside, (omega arith)))
+              (λ ne. let q = ap (names j) (there y c.0 ne) in (c.0, c.1, (omega arith)))
+
+          stored_was : NoMoreStored sizes s.words (after y)
+          stored_was j kind near is = ⊎_elim
+              (λ (a : IsRaw sizes (after y) j × (kind ≡ false)). inl (sym (slots_stay y j) ∙ a.0, a.1))
+              (λ (b : IsInCell sizes (after y) j × (counted (slot_at sizes (after y) j) ≡ one_where kind)).
+              inr (in_cell_was j b.0, sym (ap counted (slots_stay y j)) ∙ b.1)) is
+
+          taken_now : (r : CellRight) → IsTaken sizes s.words r → IsTaken sizes (after y) r
+          taken_now r t = dite (ℕ_discrete r.cell cell)
+              (λ e. let q : cell_at sizes (after y) r.cell ≡ y = ap (cell_at sizes (after y)) e ∙ here y in record {
+                inside = t.inside;
+                full = omega arith;
+                kind = word_renamed sizes s.words (after y) (slots_stay y) r.kind (cell_at sizes s.words r.cell) (cell_at sizes (after y) r.cell)
+                    (λ k. ap (names k) q ∙ (alike k ∙ ap (λ (d : ℕ). names k (cell_at sizes s.words d)) (sym e))) t.kind;
+              })
+              (λ ne. let q = there y r.cell ne in record {
+                inside = t.inside;
+                full = let f = t.full in omega arith;
+                kind = word_moves sizes s.words (after y) (slots_stay y) r.kind (cell_at sizes s.words r.cell) (cell_at sizes (after y) r.cell) q t.kind;
+              })
+
+          abbrev noted : View
+          noted = noting cell y v
+
+          cells_noted : CellsInvariant sizes (after y) (set s.views id noted)
+          cells_noted = record {
+            inside = λ j c. h.kinds.cells.inside j (in_cell_was j c);
+            single = λ d. let a = total_set (rights_at d) s.views id v noted at in let o = h.kinds.cells.single d in omega arith;
+            taken = λ j u r e has. taken_now r (⊎_elim
+                (λ (t : (j ≡ id) × (noted ≡ u)). h.kinds.cells.taken id v r at
+                (has.0, ap (λ (x : View). get_elem? x.cells.rights has.0) t.1 ∙ has.1))
+                (λ (t : (j ≢ id) × (get_elem? s.views j ≡ some u)). h.kinds.cells.taken j u r t.1 has) (at_set s.views id j noted u e));
+          }
+
+          follows_renamed : (told : ℕ → SeatState → Type 0) → told (cell_at sizes s.words cell) (noted, me.1) → Follows γ sizes id i me told s y noted
+          follows_renamed told tells = record {
+            stakes = v.stakes;
+            act = keeps;
+            valid = tt;
+            homes = part.calm γ sizes s.words s.views s.homes h.homes id v at (after y) noted (λ j p out. out) (full_stay y) (none_out noted rests);
+            records = records.calm sizes s.views s.homes h.records id v at noted (refl, refl, refl, (λ _. refl), refl);
+            counts = uncounted sizes s.words s.views h.counts id v at (after y) noted refl (λ l. l) (as_full sizes s.words (after y) (full_stay y))
+                (ended_spared sizes s.words i y (λ p low e was. absurd (omega arith)) n (omega arith));
+            filled = steps.still_filled slots id me live s h at noted refl refl refl;
+            bank = banks.alike γ sizes s.words s.views h.bank id v at (after y) noted (refl, refl, refl, (λ _. refl), refl) (full_stay y);
+            lasts = lasts_fewer sizes s.words s.views s.homes h.lasts id v at (after y) noted s.homes (λ _ _ _ _ l. l) (λ b. (b, refl)) refl
+                (λ _ _. inl live) stored_was;
+            kinds = kinds_then y noted refl rests refl refl (λ l. l) refl
+                (λ r a. (h.kinds.each id v at).told r a (λ o. let c : None ≡ Some r.slot = sym loose ∙ o in cc)) cells_noted;
+            tells = tells;
+          }
+
         -- nothing changes
         unmoved : (told : ℕ → SeatState → Type 0) → told (get_or s.words i 0) me → Follows γ sizes id i me told s (get_or s.words i 0) v
         unmoved told tells = let x : ℕ = get_or s.words i 0 in record {
@@ -405,6 +500,55 @@ module _ (slots id : ℕ) (me : SeatState) (live : HasPlace me.0.epoch) (rests :
               (refl, refl, refl, (λ _. refl), refl) refl refl (λ _ o. o) (steps.post slots id me live s h at v refl refl refl refl (λ l. l));
           tells = tells;
         }
+
+    -- the token of the right to the cell, of whose view a share is pledged
+    module _ (kind : CellKind) (p : Pledge) (own : v.pledges.own ≡ p ∷ []) (is : p.view ≡ the_row.coded.code (right_to cell kind)) where
+      abbrev the_right : CellRight
+      the_right = record { cell = cell; kind = kind }
+
+      module _ (s : State ValueFraction View) (h : DomainInvariant γ sizes s) (at : get_elem? s.views id ≡ some v) where
+        beside : IsOfCell s.views p
+        beside = ⊎_elim
+            (λ (o : IsOfOwner s.views p). let e = the_row.coded.inj (right_to cell kind) (owner_of o.slot true o.value) (sym is ∙ o.view) in
+            let c : ◌≡◌ {A = List ℕ} [] (o.slot ∷ []) = ap (λ (u : View). u.slots.owns) e in cc)
+            (λ (o : IsOfCell s.views p). o) (h.kinds.pledges.backed id v p at own).beside
+
+        has_right : HasRight beside.owner the_right
+        has_right = let e = the_row.coded.inj (right_to cell kind) (right_to beside.right.cell beside.right.kind) (sym is ∙ beside.view) in
+            subst (HasRight beside.owner) (sym (ap (λ (u : View). first_right the_right u.cells.rights) e)) beside.has
+
+        of_pledge : IsTaken sizes s.words the_right
+        of_pledge = h.kinds.cells.taken p.seat beside.owner the_right beside.there has_right
+
+      -- a cell that holds no owners has another word that names none
+      pub swaps_bare : (y : ℕ) → held_slots y ≡ [] → 0 < y → v.slots.owns ≡ [] → v.slots.holds ≡ None → IsBare kind
+          → May i (λ _. y) (OfCell (SwapsBare y) i me)
+      swaps_bare y none more owns loose bare = let told : ℕ → SeatState → Type 0 = OfCell (SwapsBare y) i me in
+          lift_homes γ sizes slots id me i (λ _. y) (AtCell (SwapsCell y v.cells) i v) told
+          (spares (λ _. y) (AtCell (SwapsCell y v.cells) i v) (λ r w t. ap (λ (u : View). u.places) (t cell refl).0))
+          (words.swaps id v live cell y v.cells inside (owns ∙ sym none) loose)
+          (λ s w h at t. let c = t cell refl in let x : ℕ = cell_at sizes s.words cell in
+          let empty : held_slots x ≡ [] = holds_nothing sizes s.words kind bare x (of_pledge s h at).kind in
+          subst (Follows γ sizes id i me told s y)
+          ((λ d. record v { slots = record v.slots { owns = (owns ∙ sym empty) d }; words = cell_noted cell y v }) ∙ sym c.0)
+          (follows_renamed s h at y more (λ j. names_none y none j ∙ sym (names_none x empty j)) loose told
+          (at_once (SwapsBare y) x (noting cell y v, me.1) (refl, empty, c.1))))
+
+    -- an exchange by which the cell holds what it held
+    pub retags : (old y : ℕ) → held_slots y ≡ held_slots old → 0 < y → v.slots.holds ≡ None → May i (λ x. either (eqb x old) y x) (OfCell (RetagsOne old y) i me)
+    retags old y same more loose = let told : ℕ → SeatState → Type 0 = OfCell (RetagsOne old y) i me in let f : ℕ → ℕ = λ x. either (eqb x old) y x in
+        let R : ℕ → SeatState → ℕ → SeatState → Type 0 = RetagsOne old y in
+        lift_homes γ sizes slots id me i f (AtCell (RetagsCell old y) i v) told
+        (spares f (AtCell (RetagsCell old y) i v) (λ r w t. let c = t cell refl in dite (ℕ_discrete r old)
+        (λ e. ap (λ (u : View). u.places) (c.0 e)) (λ ne. ap (λ (u : View). u.places) (c.1 ne))))
+        (words.retags id v live cell old y inside same loose)
+        (λ s w h at t. let x : ℕ = get_or s.words i 0 in let c = t cell refl in exchanged x old y (λ z. Follows γ sizes id i me told s z w)
+        (λ hit. subst (Follows γ sizes id i me told s y) (sym (c.0 hit))
+        (follows_renamed s h at y more
+        (λ j. let e = held_in y j in let e' = held_in x j in let o = ap (times j) (same ∙ ap held_slots (sym hit)) in omega arith) loose told
+        (at_once R x (noting cell y v, me.1) ((λ _. refl), (λ no. absurd (no hit)), c.2))))
+        (λ miss. subst (Follows γ sizes id i me told s x) (sym (c.1 miss))
+        (unmoved s h at told (at_once R x me ((λ hit. absurd (miss hit)), (λ _. refl), c.2)))))
 
     -- what it has goes into the cell, and what that held comes out
     module _ (y : ℕ) (owns : v.slots.owns ≡ held_slots y) (loose : v.slots.holds ≡ None) (undrawn : v.slots.drawn ≡ []) (shared : Bool)
@@ -437,27 +581,13 @@ module _ (slots id : ℕ) (me : SeatState) (live : HasPlace me.0.epoch) (rests :
 
       -- beside the token of the right to the cell, of whose view a share is pledged
       module _ (p : Pledge) (own : v.pledges.own ≡ p ∷ []) (is : p.view ≡ the_row.coded.code (right_to cell (cell_kind shared))) (more : 0 < y) where
-        abbrev the_right : CellRight
-        the_right = record { cell = cell; kind = cell_kind shared }
-
         module _ (s : State ValueFraction View) (h : DomainInvariant γ sizes s) (at : get_elem? s.views id ≡ some v) where
-          beside : IsOfCell s.views p
-          beside = ⊎_elim
-              (λ (o : IsOfOwner s.views p). let e = the_row.coded.inj (right_to cell (cell_kind shared)) (owner_of o.slot true o.value) (sym is ∙ o.view) in
-              let c : ◌≡◌ {A = List ℕ} [] (o.slot ∷ []) = ap (λ (u : View). u.slots.owns) e in cc)
-              (λ (o : IsOfCell s.views p). o) (h.kinds.pledges.backed id v p at own).beside
-
-          has_right : HasRight beside.owner the_right
-          has_right = let e = the_row.coded.inj (right_to cell (cell_kind shared)) (right_to beside.right.cell beside.right.kind) (sym is ∙ beside.view) in
-              subst (HasRight beside.owner) (sym (ap (λ (u : View). first_right the_right u.cells.rights) e)) beside.has
-
           of_kind : IsOfKind s h shared
-          of_kind = counted_word sizes s.words shared (cell_at sizes s.words cell)
-              (h.kinds.cells.taken p.seat beside.owner the_right beside.there has_right).kind
+          of_kind = counted_word sizes s.words shared (cell_at sizes s.words cell) (of_pledge (cell_kind shared) p own is s h at).kind
 
           cells_stay : (base : View) → base.cells ≡ v.cells → CellsInvariant sizes (after s h y) (set s.views id (record base { cells = v.cells }))
-          cells_stay base same = cells_swapped s h at y owns loose undrawn shared given (record base { cells = v.cells }) refl more p.seat beside.owner
-              beside.there has_right
+          cells_stay base same = cells_swapped s h at y owns loose undrawn shared given (record base { cells = v.cells }) refl more p.seat
+              (beside (cell_kind shared) p own is s h at).owner (beside (cell_kind shared) p own is s h at).there (has_right (cell_kind shared) p own is s h at)
 
         pub swaps : May i (λ _. y) (OfCell (SwapsOne y shared) i me)
         swaps = let told : ℕ → SeatState → Type 0 = OfCell (SwapsOne y shared) i me in
@@ -521,6 +651,40 @@ module _ (slots id : ℕ) (me : SeatState) (live : HasPlace me.0.epoch) (rests :
           (λ miss. subst (Follows γ sizes id i me told s x) (sym (c.1 miss))
           (unmoved s h at told (at_once R x me ((λ hit. absurd (miss hit)), (λ _. refl), c.2)))))
 
+      -- what it has goes into a cell to which it has the right, and which held no owners
+      pub fills_bare : (kind : CellKind) → IsBare kind → v.cells.rights ≡ record { cell = cell; kind = kind } ∷ [] → 0 < y
+          → May i (λ _. y) (OfCell (FillsBare y shared) i me)
+      fills_bare kind bare mine more = let told : ℕ → SeatState → Type 0 = OfCell (FillsBare y shared) i me in
+          let was : CellRight = record { cell = cell; kind = kind } in let right : CellRight = record { cell = cell; kind = cell_kind shared } in
+          let rights : CellsView = record { rights = right ∷ [] } in
+          lift_homes γ sizes slots id me i (λ _. y) (AtCell (SwapsCell y rights) i v) told
+          (spares (λ _. y) (AtCell (SwapsCell y rights) i v) (λ r w t. ap (λ (u : View). u.places) (t cell refl).0))
+          (words.swaps id v live cell y rights inside owns loose)
+          (λ s w h at t. let c = t cell refl in let has : HasRight v was = (0, ap (λ (l : List CellRight). get_elem? l 0) mine) in
+          let x : ℕ = cell_at sizes s.words cell in
+          let empty : held_slots x ≡ [] = holds_nothing sizes s.words kind bare x (h.kinds.cells.taken id v was at has).kind in
+          let now : View = record (put_in cell y v) { cells = rights } in
+          subst (Follows γ sizes id i me told s y) (sym c.0)
+          (follows_none s h at y owns loose undrawn shared given told rights empty
+          (cells_then s h at y owns loose undrawn shared given now
+          (λ d. let a = total_set (rights_at d) s.views id v now at in let b = ap (total (is_right d)) mine in let o = h.kinds.cells.single d in omega arith)
+          (λ k u r e its. ⊎_elim
+          (λ (b : (k ≡ id) × (now ≡ u)). ⊎_elim
+          (λ (first : right ≡ r). inr (
+            ap (λ (q : CellRight). q.cell) (sym first),
+            more,
+            subst (λ (q : CellRight). IsWordOf sizes s.words q.kind y) first (word_given s h at y owns loose undrawn shared given),
+          ))
+          (λ (no : (m : ℕ) × (get_elem? [] m ≡ some r)). absurd (no_right (record v { cells = no_rights }) refl r no))
+          (first_or right [] r its.0 (ap (λ (q : View). get_elem? q.cells.rights its.0) b.1 ∙ its.1)))
+          (λ (b : (k ≢ id) × (get_elem? s.views k ≡ some u)). inl (
+            (λ is. let d : ℕ = r.cell in let m = total_has (is_right d) u.cells.rights its.0 r its.1 in let one = is_same d d refl in
+                let m' = total_has (is_right d) v.cells.rights has.0 was has.1 in let one' = is_same d cell (sym is) in
+                let both = total_two (rights_at d) s.views k id u v b.0 b.1 at in let o = h.kinds.cells.single d in absurd (omega arith)),
+            h.kinds.cells.taken k u r b.1 its,
+          )) (at_set s.views id k now u e)))
+          (at_once (FillsBare y shared) x (now, me.1) (refl, empty, c.1))))
+
     -- the cell is free again, of which it has the right
     pub frees : v.slots.owns ≡ [] → v.slots.holds ≡ None → v.slots.drawn ≡ [] → (shared : Bool) → ((r : ShownValue) → ¬ (HasRecord v.stakes.owns r))
         → v.cells.rights ≡ record { cell = cell; kind = cell_kind shared } ∷ [] → May i (λ _. 0) (OfCell (FreesCell shared) i me)
@@ -546,6 +710,34 @@ module _ (slots id : ℕ) (me : SeatState) (live : HasPlace me.0.epoch) (rests :
           h.kinds.cells.taken k u r b.1 its,
         )) (at_set s.views id k now u e)))
         (λ m brings. at_once (FreesCell shared) (cell_at sizes s.words cell) (record m.0 { cells = no_rights }, m.1) ((m, brings, refl), c.1))))
+
+    -- the same of a cell that holds no owners
+    pub frees_bare : v.slots.owns ≡ [] → v.slots.holds ≡ None → v.slots.drawn ≡ [] → (kind : CellKind) → IsBare kind
+        → ((r : ShownValue) → ¬ (HasRecord v.stakes.owns r)) → v.cells.rights ≡ record { cell = cell; kind = kind } ∷ [] → May i (λ _. 0) (OfCell FreesBare i me)
+    frees_bare owns loose undrawn kind bare none mine = let told : ℕ → SeatState → Type 0 = OfCell FreesBare i me in
+        let right : CellRight = record { cell = cell; kind = kind } in
+        let owns_is : v.slots.owns ≡ held_slots 0 = owns ∙ sym (holds_none 0 (inl (omega arith))) in
+        let given : (r : ShownValue) → HasRecord v.stakes.owns r → r.shared ≡ false = λ r has. absurd (none r has) in
+        lift_homes γ sizes slots id me i (λ _. 0) (AtCell (SwapsCell 0 no_rights) i v) told
+        (spares (λ _. 0) (AtCell (SwapsCell 0 no_rights) i v) (λ r w t. ap (λ (u : View). u.places) (t cell refl).0))
+        (words.swaps id v live cell 0 no_rights inside owns_is loose)
+        (λ s w h at t. let c = t cell refl in let has : HasRight v right = (0, ap (λ (l : List CellRight). get_elem? l 0) mine) in
+        let x : ℕ = cell_at sizes s.words cell in
+        let empty : held_slots x ≡ [] = holds_nothing sizes s.words kind bare x (h.kinds.cells.taken id v right at has).kind in
+        let now : View = record (put_in cell 0 v) { cells = no_rights } in
+        subst (Follows γ sizes id i me told s 0) (sym c.0)
+        (follows_none s h at 0 owns_is loose undrawn false given told no_rights empty
+        (cells_then s h at 0 owns_is loose undrawn false given now
+        (λ d. let a = total_set (rights_at d) s.views id v now at in let o = h.kinds.cells.single d in omega arith)
+        (λ k u r e its. ⊎_elim
+        (λ (b : (k ≡ id) × (now ≡ u)). absurd (no_right u (ap (λ (q : View). q.cells.rights) (sym b.1)) r its))
+        (λ (b : (k ≢ id) × (get_elem? s.views k ≡ some u)). inl (
+          (λ is. let d : ℕ = r.cell in let m = total_has (is_right d) u.cells.rights its.0 r its.1 in let one = is_same d d refl in
+              let m' = total_has (is_right d) v.cells.rights has.0 right has.1 in let one' = is_same d cell (sym is) in
+              let both = total_two (rights_at d) s.views k id u v b.0 b.1 at in let o = h.kinds.cells.single d in absurd (omega arith)),
+          h.kinds.cells.taken k u r b.1 its,
+        )) (at_set s.views id k now u e)))
+        (at_once FreesBare x (now, me.1) (refl, empty, (h.kinds.cells.taken id v right at has).full, c.1))))
 
     -- a look
     pub looks_in : May i (λ x. x) (OfCell LooksInCell i me)
@@ -575,8 +767,9 @@ module _ (slots id : ℕ) (me : SeatState) (live : HasPlace me.0.epoch) (rests :
           let full_now : full_at sizes s.words slot ≡ 1 = (sound.lives (slot_at sizes s.words slot) alive_now).1 in let calm = still s h at slot named in
           let last = raws.last_home slots id me live slot low s h calm in let z : ValueFraction = last.0 in let value : Gv = z.lot.shown in
           let shows_all = raws.all_shown slots id me live slot low s h calm in let flag = flag_of (slot_at sizes s.words slot) in let shared : Bool = flag.0 in
-          let knew : KnewStored slot shared value v = λ lone. h.lasts.stored (steps.one_place γ sizes s h id v at lone) id v at live slot shared z low
-          (inr (in_it, flag.1)) last.1 in
+          let knew : KnewStored slot shared value v = λ lone. let one_place = steps.one_place γ sizes s h id v at lone in
+          stored_known s h at one_place slot shared value (h.lasts.stored one_place id v at live slot shared z low (inr (in_it, flag.1)) last.1)
+          named flag.1 in
           let told_of : (m : SeatState) → SeesOwned slot shared value me m → SeesInCell cell me x m
           = λ m sees. (
             (λ none. absurd (let d : ◌≡◌ {A = List ℕ} (slot ∷ []) [] = sym held.1 ∙ none in cc)),
@@ -644,6 +837,16 @@ module _ (slots id : ℕ) (me : SeatState) (live : HasPlace me.0.epoch) (rests :
             c.3,
           )))) (held_which x))
 
+  -- beside the right to a cell it learns that there is that cell, and nothing changes
+  pub finds_cell : (jd cell : ℕ) (kind : CellKind) → AllowsBeside (DomainInvariant γ sizes) slots id me jd (right_to cell kind) (FindsCell cell me)
+  finds_cell jd cell kind s h _ at there = (
+    v,
+    keeps,
+    tt,
+    subst (λ (vs : List View). DomainInvariant γ sizes record { words = s.words; homes = s.homes; views = vs }) (sym (set_again s.views id v at)) h,
+    (refl, (h.kinds.cells.taken jd (right_to cell kind) (record { cell = cell; kind = kind }) there (0, refl)).inside),
+  )
+
   -- beside the right to a cell it learns what it knows of the cell, and nothing changes
   pub recalls : (jd cell : ℕ) (shared : Bool)
       → AllowsBeside (DomainInvariant γ sizes) slots id me jd (right_to cell (cell_kind shared)) (LearnsCell cell shared me)
@@ -654,6 +857,7 @@ module _ (slots id : ℕ) (me : SeatState) (live : HasPlace me.0.epoch) (rests :
     subst (λ (vs : List View). DomainInvariant γ sizes record { words = s.words; homes = s.homes; views = vs }) (sym (set_again s.views id v at)) h,
     (
       refl,
+      (h.kinds.cells.taken jd (right_to cell (cell_kind shared)) (record { cell = cell; kind = cell_kind shared }) there (0, refl)).inside,
       λ lone. let one = steps.one_place γ sizes s h id v at lone in let l = h.kept.parts.lone in
           let t = h.kinds.cells.taken jd (right_to cell (cell_kind shared)) (record { cell = cell; kind = cell_kind shared }) there (0, refl) in
           let is : cell_at sizes s.words cell ≡ get_or v.words cell 0 = finds_word sizes s.words s.views l id v at one live cell in record {

@@ -3,15 +3,17 @@ use Rattle.std.specs.Prelude.{◌≡◌, ◌≢◌, ℕ, ◌<◌, ◌++◌, Bool
 use base.Stored.{Gv}
 use Rattle.sdd_shared_values.specs.SharedValues.{IsValueCode}
 use Rattle.sdd_views.specs.declared.CellKind.{CellKind}
+use Rattle.sdd_views.specs.declared.CellKind.TheVariants.{Owned, Shared, Raw, Collector}
 use Rattle.sdd_views.specs.declared.View.{View}
+use Rattle.sdd_rights.specs.Owner.{cell_kind}
 use Rattle.sdd_views.specs.Views.{owner_token, no_rights}
 use Rattle.sdd_word_invariant.specs.Words.{cell_word}
 use Rattle.sdd_word_invariant.specs.Codes.{alive, counted, held_slots}
 use Rattle.sdd_word_invariant.specs.Epoch.{IsLone}
-use Rattle.sdd_word_invariant.specs.CellSteps.{cell_noted, KnewCell}
+use Rattle.sdd_word_invariant.specs.CellSteps.{cell_noted, noting, KnewCell}
 use Rattle.sdd_domain_invariant.specs.BankInvariant.{one_where}
 use Rattle.sdd_domain_invariant.specs.KindsInvariant.{written}
-use Rattle.sdd_domain_invariant.specs.FractionSteps.{SeatState, IsNewest, SeesOwned}
+use Rattle.sdd_domain_invariant.specs.FractionSteps.{SeatState, IsRecalled, SeesOwned}
 
 -- what it had of owners is in a cell, whose word is y then
 abbrev pub put_in : ℕ → ℕ → View → View
@@ -41,9 +43,9 @@ rights_of v = record (owner_token []) { cells = v.cells }
 abbrev pub righted : View → View → View
 righted v w = record v { cells = record { rights = w.cells.rights ++ v.cells.rights } }
 
--- what a stored item shows a lone participant moved in last, for an owner of this kind
+-- what a stored item shows a lone participant moved in last, for an owner of this kind, and by the words that it knows the item has one
 abbrev pub KnewStored : ℕ → Bool → Gv → View → Type 0
-KnewStored slot shared value v = IsLone v.epoch → IsNewest slot shared value v
+KnewStored slot shared value v = IsLone v.epoch → IsRecalled slot shared value v
 
 -- each of these: the seat before, the number found, and the seat after
 -- the owner that it has, or none, is in the cell then, whose word is y; and it has the one of this kind that the cell held, or none
@@ -68,6 +70,31 @@ ClaimsCell y kind cell me x me' = (x ≡ 0 → me' ≡ (gaining cell kind (put_i
 abbrev pub FreesCell : Bool → ℕ → SeatState → ℕ → SeatState → Type 0
 FreesCell shared cell me x me' = ((m : SeatState) × BringsOut 0 shared cell me x m × (me' ≡ (rightless m.0, m.1))) × KnewCell cell me.0 x
 
+-- a cell that holds no owners is free then, of which it had the right
+abbrev pub FreesBare : ℕ → SeatState → ℕ → SeatState → Type 0
+FreesBare cell me x me' = (me' ≡ (rightless (put_in cell 0 me.0), me.1)) × (held_slots x ≡ []) × (0 < x) × KnewCell cell me.0 x
+
+-- the owner that it has is in a cell then that held none and has this word, and the right that it has to it is one for owners of this kind
+abbrev pub FillsBare : ℕ → Bool → ℕ → SeatState → ℕ → SeatState → Type 0
+FillsBare y shared cell me x me' =
+    (me' ≡ (record (put_in cell y me.0) { cells = record { rights = record { cell = cell; kind = cell_kind shared } ∷ [] } }, me.1))
+    × (held_slots x ≡ []) × KnewCell cell me.0 x
+
+-- a cell that holds no owners has the word y then
+abbrev pub SwapsBare : ℕ → ℕ → SeatState → ℕ → SeatState → Type 0
+SwapsBare y cell me x me' = (me' ≡ (noting cell y me.0, me.1)) × (held_slots x ≡ []) × KnewCell cell me.0 x
+
+-- an exchange by which a cell holds what it held
+abbrev pub RetagsOne : ℕ → ℕ → ℕ → SeatState → ℕ → SeatState → Type 0
+RetagsOne old y cell me x me' = (x ≡ old → me' ≡ (noting cell y me.0, me.1)) × (x ≢ old → me' ≡ me) × KnewCell cell me.0 x
+
+-- cells of this kind hold no owners
+abbrev pub IsBare : CellKind → Type 0
+IsBare Owned = ⊥
+IsBare Shared = ⊥
+IsBare Raw = Unit {0}
+IsBare Collector = Unit {0}
+
 -- a look
 abbrev pub LooksInCell : ℕ → SeatState → ℕ → SeatState → Type 0
 LooksInCell cell me x me' = (me' ≡ me) × KnewCell cell me.0 x
@@ -86,9 +113,13 @@ pub record KnowsCell (cell : ℕ) (shared : Bool) (v : View) : Type 0 where
   pub held : (slot : ℕ) → held_slots (slice_index v.words cell) ≡ slot ∷ []
       → (slot < v.sizes.slots) × (0 < alive (written v slot)) × (counted (written v slot) ≡ one_where shared)
 
--- beside the right to a cell a lone participant learns what it knows of it, and nothing changes
+-- beside the right to a cell it learns that there is that cell, and a lone participant what it knows of it; nothing changes
 abbrev pub LearnsCell : ℕ → Bool → SeatState → SeatState → Type 0
-LearnsCell cell shared me me' = (me' ≡ me) × (IsLone me.0.epoch → KnowsCell cell shared me.0)
+LearnsCell cell shared me me' = (me' ≡ me) × (cell < me.0.sizes.cells) × (IsLone me.0.epoch → KnowsCell cell shared me.0)
+
+-- beside the right to a cell of any kind it learns that there is that cell, and nothing changes
+abbrev pub FindsCell : ℕ → SeatState → SeatState → Type 0
+FindsCell cell me me' = (me' ≡ me) × (cell < me.0.sizes.cells)
 
 -- a step on the word i tells R of the cell whose word it is
 abbrev pub OfCell : (ℕ → SeatState → ℕ → SeatState → Type 0) → ℕ → SeatState → ℕ → SeatState → Type 0

@@ -10,7 +10,7 @@ use crate::with_jobs::{
 };
 use sdd_core::{Limits, Refused};
 use sdd_domain::Local;
-use sdd_participants::Deferred;
+use sdd_participants::{Deferred, Job};
 use sdd_space::{Deferrals, Guard, Guards, Owned};
 use std::process::Abort;
 
@@ -57,7 +57,10 @@ fn defers<S: Guards<u64> + Deferrals<u64>>(rt: &impl Abort, s: &mut S, job: S::J
     requires { IsSeated (S.seat s.old) }
     ensures { S.seat s.new ≡ S.seat s.old }
 {
-    assert!(rt; deferred(rt, s, job).is_ok());
+    match deferred(rt, s, job) {
+        Ok(()) => {}
+        Err((_job, refused)) => panic!(rt; "refused: {refused:?}"),
+    }
 }
 
 /// No place is free for it, and it comes back.
@@ -123,11 +126,13 @@ fn without_a_table_no_job_is_deferred(rt: HostRuntime) {
     let total = number(&rt);
     let domain = new_domain::<u64>(&rt, ONE_SLOT);
     let mut local = registered(&rt, &domain);
-    let _job = finds_no_place(&rt, &mut local, job_adding(&rt, &total, 7));
+    let job = finds_no_place(&rt, &mut local, job_adding(&rt, &total, 7));
     turn(&rt, &mut local, &total, 0);
     let receipts = vec![in rt.alloc(); ended(&rt, local)].expect(&rt, "there is memory");
     closed(&rt, domain, receipts);
     is_total(&rt, &total, 0);
+    job.run();
+    is_total(&rt, &total, 7);
 }
 
 /// The table is the domain's: where the job of one participant waits the other one finds no place.
@@ -151,8 +156,8 @@ fn two_participants_share_the_table(rt: HostRuntime) {
     is_total(&rt, &total, 7);
     closed(&rt, domain, receipts);
     is_total(&rt, &total, 107);
-    drop(third);
-    is_total(&rt, &total, 107);
+    third.run();
+    is_total(&rt, &total, 1107);
 }
 
 /// A close without the receipt with which a job waits is refused, and the job hasn't run.

@@ -65,6 +65,8 @@ mod steps;
 #[cfg(test)]
 mod threads;
 #[cfg(test)]
+mod two_places;
+#[cfg(test)]
 mod two_workers;
 #[cfg(test)]
 mod with_jobs;

@@ -7,7 +7,7 @@ ghost use Rattle.sdd_domain_tests.specs.Slots.{IsReceiptIn, AreReceiptsIn};
 
 use sdd_core::Refused;
 use sdd_domain::{Domain, Local, Receipt};
-use sdd_participants::{Deferred, Job, Tally};
+use sdd_participants::{BoxedJob, Deferred, Job, Tally};
 use sdd_space::Item;
 use std::alloc::Global;
 use std::process::Abort;
@@ -32,7 +32,13 @@ impl Adds {
 }
 
 impl Job for Adds {
-    fn run(&mut self) {
+    fn run(self) {
+        self.total.fetch_add(self.amount, Ordering::SeqCst);
+    }
+}
+
+impl BoxedJob for Adds {
+    fn run_boxed(&mut self) {
         self.total.fetch_add(self.amount, Ordering::SeqCst);
     }
 }
@@ -52,7 +58,7 @@ pub fn adding(rt: &impl Abort, total: &Total, amount: u64) -> Adds {
 /// The same in a box.
 pub fn job_adding(rt: &(impl Abort + AllocGlobal), total: &Total, amount: u64) -> Deferred {
     let adds = adding(rt, total, amount);
-    let job: Box<dyn Job + Send> = Box::new(rt.alloc(), adds).expect(rt, "memory is there");
+    let job: Box<dyn BoxedJob + Send> = Box::new(rt.alloc(), adds).expect(rt, "memory is there");
     Deferred::Boxed(job)
 }
 
@@ -137,4 +143,5 @@ pub fn keep_all<T: Item<T>, J: Job>(
 {
     let _ = domain;
     receipts.append(&mut others).expect(rt, "there is memory");
+    others.destroy_empty();
 }

@@ -5,7 +5,7 @@ ghost use Rattle.sdd_space.specs.Guard.{reader_of};
 ghost use Rattle.sdd_space.specs.World.{World, IsPlaceOf};
 ghost use Rattle.sdd_lists.specs.Filling.{RefusesPush};
 ghost use Rattle.sdd_lists.specs.Queue.{AreOfCells};
-ghost use Rattle.sdd_lists.specs.Values.{HasValues};
+ghost use Rattle.sdd_lists.specs.Values.{QueueHas};
 ghost use Rattle.sdd_world.specs.Place.{index_of};
 
 use sdd_core::Refused;
@@ -38,8 +38,8 @@ pub fn put<
     requires home { AreOfCells (S.seat s.old).home.cells queue.now }
     requires reader { reader_of guard.now ≡ (S.seat s.old).reader }
     ensures seat { S.seat s.new ≡ S.seat s.old }
-    ensures tasks { IsExact (S.seat s.old) → (tasks : List Task) → HasValues (S.world s.old) queue.now tasks → MatchResult result
-        (λ _. HasValues (S.world s.new) queue.now (tasks ++ task ∷ []))
+    ensures tasks { IsExact (S.seat s.old) → (tasks : List Task) → QueueHas (S.world s.old) queue.now tasks → MatchResult result
+        (λ _. QueueHas (S.world s.new) queue.now (tasks ++ task ∷ []))
         (λ e. (S.world s.new ≡ S.world s.old) × RefusesPush (S.world s.old) e) }
 {
     match queue.push(task, guard, s) {
@@ -63,8 +63,8 @@ pub fn take<
     requires home { AreOfCells (S.seat s.old).home.cells queue.now }
     requires reader { reader_of guard.now ≡ (S.seat s.old).reader }
     ensures seat { S.seat s.new ≡ S.seat s.old }
-    ensures tasks { IsExact (S.seat s.old) → (tasks : List Task) → HasValues (S.world s.old) queue.now tasks → MatchResult result
-        (λ task. (task ≡ slice_get tasks 0) × HasValues (S.world s.new) queue.now (drop 1 tasks))
+    ensures tasks { IsExact (S.seat s.old) → (tasks : List Task) → QueueHas (S.world s.old) queue.now tasks → MatchResult result
+        (λ task. (task ≡ slice_get tasks 0) × QueueHas (S.world s.new) queue.now (drop 1 tasks))
         (λ e. (S.world s.new ≡ S.world s.old) × (e ≡ Refused.TooManyOwners)) }
 {
     match queue.pop(guard, s) {
@@ -121,7 +121,7 @@ fn put_and_taken<
     requires home { AreOfCells (S.seat s.old).home.cells queue.now }
     requires reader { reader_of guard.now ≡ (S.seat s.old).reader }
     ensures seat { S.seat s.new ≡ S.seat s.old }
-    ensures in_order { IsExact (S.seat s.old) → HasValues (S.world s.old) queue.now [] → IfOk result (λ tasks. tasks ≡ (Some first, Some second)) }
+    ensures in_order { IsExact (S.seat s.old) → QueueHas (S.world s.old) queue.now [] → IfOk result (λ tasks. tasks ≡ (Some first, Some second)) }
 {
     put(queue, first, guard, s)?;
     put(queue, second, guard, s)?;

@@ -1,7 +1,8 @@
 //! Work under a guard, by its participant and by a reader.
-ghost use Rattle.std.specs.Prelude.{ℕ, ◌≡◌, ◌+◌, ◌<◌, ◌≤◌, IfErr, IfOk, length};
+ghost use Rattle.std.specs.Prelude.{ℕ, ◌≡◌, ◌+◌, ◌<◌, ◌≤◌, List, ◌∷◌, ◌++◌, IfErr, IfOk, length};
 ghost use Rattle.sdd_participants.specs.declared.waiting.LimboEntry.{LimboEntry};
 ghost use Rattle.sdd_participants.specs.EpochState.{last_count};
+ghost use Rattle.sdd_participants.specs.Slab.{IsFull};
 ghost use Rattle.sdd_space.specs.CallerId.{IsSeated, IsExact};
 ghost use Rattle.sdd_space.specs.Out.{HoldsNothing};
 ghost use Rattle.sdd_space.specs.Owned.{cells_home};
@@ -17,7 +18,7 @@ use sdd_world::{Place, World};
 
 /// Puts an item of this value into the cell and retires the one that was there.
 ///
-/// `NoSlot` where no slot is free; the value comes back, and the cell stays as it is.
+/// `NoSlot` where no slot is free, and only there; the value comes back, and the cell stays as it is.
 pub fn replaced<T: Item<T>, S: Items<T> + Cells<T>>(
     cell: &AtomicOwned<T>,
     value: T,
@@ -29,7 +30,7 @@ pub fn replaced<T: Item<T>, S: Items<T> + Cells<T>>(
     requires place { IsPlaceOf (S.world s.old) (S.seat s.old).place }
     requires plain { HoldsNothing T.holds }
     ensures seat { S.seat s.new ≡ S.seat s.old }
-    ensures back { IfErr result (λ e. e ≡ (value, Refused.NoSlot)) }
+    ensures back { IfErr result (λ e. (e ≡ (value, Refused.NoSlot)) × IsFull (S.world s.old).standings) }
     ensures works { Works T.holds (S.world s.old) (S.world s.new) }
 {
     calls_are_work::<T>();
@@ -95,10 +96,10 @@ pub fn works_under_a_guard<T: Item<T>>(
     done
 }
 
-/// Replaces the item of a cell by each of these values, each under a guard of its own. After four of them all that waited with the participant before has
-/// gone, items and jobs, though an item was retired under each of these guards, and a reader had one open.
+/// Replaces the item of a cell by each of these values, the last one first, each under a guard of its own. After four of them all that waited with the
+/// participant before has gone, items and jobs, though an item was retired under each of these guards, and a reader had one open.
 ///
-/// `NoSlot` where no slot was free: the value comes back, and those after it.
+/// `NoSlot` where no slot was free: the value that was refused comes back, and those in front of it, which weren't tried.
 pub fn works<T: Item<T>>(
     world: &mut World<T>,
     place: &Place,
@@ -113,7 +114,10 @@ pub fn works<T: Item<T>>(
     requires nesting { 1 ≤ world.old.time.nesting }
     requires early { world.old.time.count + length values.items ≤ last_count }
     requires plain { HoldsNothing T.holds }
+    ensures home { world.new.home ≡ world.old.home }
+    ensures places { (p : ℕ) → IsPlaceOf world.old p → IsPlaceOf world.new p }
     ensures quiet { ¬ (AnyGuardOpen world.new) }
+    ensures back { IfErr result (λ e. (used : List T) × (values.items ≡ e.1.items ++ e.0 ∷ used)) }
     ensures gone { IfOk result (λ _. 4 ≤ length values.items → (what : LimboEntry) (seen : ℕ) →
         WaitsWith world.old (index_of place.now) what seen → HasGone T.holds what world.old world.new) }
 {

@@ -51,6 +51,7 @@ use Rattle.sdd_script_text.specs.declared.answer.Reply.{Reply}
 use Rattle.sdd_script_text.specs.declared.answer.Reply.TheVariants as reply
 use Rattle.sdd_script_model.proofs.Entry.{at-same, at-other, at-default, as-each, inside, spent_twice}
 use Rattle.sdd_script_model.proofs.Stocked.{stocked-as, no_slot-given, no_slot-retired, no_slot-same, no_slot-cell_closed}
+use Rattle.sdd_script_model.proofs.JobDates.{job_dates-shut}
 use Rattle.sdd_script_model.proofs.Keepers.{keepers-as, keepers-closed, keepers-uncollected}
 use Rattle.sdd_script_model.proofs.Counting.{AreCounted, counted-given, counted-cell_closed, counted-into_none, owned-out, out-there}
 use Rattle.sdd_script_names.proofs.Collectors.{collectors-spent, number-is}
@@ -136,9 +137,12 @@ module _ (d : ScriptState) (s : IsSound d) (shut : (g : ℕ) → opening_at d.gu
   -- what lets go of something is sound after it, where these parts are
   module _ (new : ScriptState) (l : LetsGo d.world new.world) (moment : new.moment ≡ d.moment) (places : new.places ≡ d.places) (guards : new.guards ≡ d.guards)
       (slots : new.slots ≡ d.slots) (dates : new.dates ≡ d.dates) (cells : length new.cells ≡ length d.cells)
-      (deferred : new.deferred ≡ d.deferred) (jobs : new.jobs ≡ d.jobs) where
+      (deferred : new.deferred ≡ d.deferred) (jobs : new.jobs ≡ d.jobs) (job_dates : new.job_dates ≡ d.job_dates) where
     still-place : (p : ℕ) → IsPlaceOf d.world p → IsPlaceOf new.world p
     still-place p h = rw (l.places, l.phases) h
+
+    still-shut : (p : ℕ) → IsTrue (is_open (place_at new.world p)) → ⊥
+    still-shut p o = omega (arith, ltb-true 0 (place_at new.world p).guards o, l.guards p, no-guards p)
 
     attended-let : ParticipantsMatch new
     attended-let = record {
@@ -164,11 +168,11 @@ module _ (d : ScriptState) (s : IsSound d) (shut : (g : ℕ) → opening_at d.gu
       cells_home = cells_home;
       collectors_home = collectors_home;
       attended = attended-let;
-      kept = λ n k x e o waits since.
-          absurd (omega (arith, ltb-true 0 (place_at new.world x.place).guards o, l.guards x.place, no-guards x.place));
+      kept = λ n k x e o waits since. absurd (still-shut x.place o);
       early = rw (dates, moment) s.early;
       made = ap (λ (t : Tally). t.made) l.tally ∙ s.made ∙ ap (λ (xs : List ℕ). length xs) (sym slots);
       deferred = rw (jobs, deferred, l.jobs) s.deferred;
+      jobs = job_dates-shut d new s.jobs job_dates moment still-shut l.jobs;
       few = rw (jobs, moment) s.few;
     }
 
@@ -181,7 +185,7 @@ module _ (d : ScriptState) (s : IsSound d) (shut : (g : ℕ) → opening_at d.gu
     pub sound-spent_owner : IsSound without
     sound-spent_owner =
         let l = lets-given d.world p k stands is in
-        sound-let without l refl refl refl refl refl refl refl refl
+        sound-let without l refl refl refl refl refl refl refl refl refl
         (stocked-as d without s.stocked refl refl refl (no_slot-given d.world p k stands is))
         (keepers-as d without s.cells l.values (cells-given d.world p k stands is) refl refl)
         (layered-for d without without.world refl refl (layered-given d d.world p k stands is s.layered))
@@ -197,7 +201,7 @@ module _ (d : ScriptState) (s : IsSound d) (shut : (g : ℕ) → opening_at d.gu
     sound-spent_cell =
         let l = lets-closed d.world p c in
         let e = without_the_cell in
-        sound-let e l refl refl refl refl refl (length-set d.cells n None) refl refl
+        sound-let e l refl refl refl refl refl (length-set d.cells n None) refl refl refl
         (stocked-as d e s.stocked refl refl refl (no_slot-cell_closed d.world p c))
         (keepers-closed d e n c s.cells named l.values (cells-closed d.world p c) refl refl)
         (layered-for d e e.world refl refl (layered-closed d d.world p c s.layered))
@@ -212,7 +216,7 @@ module _ (d : ScriptState) (s : IsSound d) (shut : (g : ℕ) → opening_at d.gu
     pub sound-spent_collector : IsSound without_the_collector
     sound-spent_collector =
         let e = without_the_collector in
-        sound-let e (lets-cell d.world d.world c (lets-start d.world)) refl refl refl refl refl refl refl refl
+        sound-let e (lets-cell d.world d.world c (lets-start d.world)) refl refl refl refl refl refl refl refl refl
         (stocked-as d e s.stocked refl refl refl (no_slot-same d.world e.world refl))
         (keepers-uncollected d e n c s.cells named refl refl refl refl) s.layered
         (counted-into_none d s.accounts c bare) s.owners_home s.cells_home
@@ -233,7 +237,7 @@ module _ (d : ScriptState) (s : IsSound d) (shut : (g : ℕ) → opening_at d.gu
     pub sound-left : IsSound with_it_left
     sound-left =
         let e = with_it_left in
-        sound-let e lets-left refl refl refl refl refl refl refl refl
+        sound-let e lets-left refl refl refl refl refl refl refl refl refl
         (stocked-as d e s.stocked refl refl refl (no_slot-retired d.world p k (ap is_some raw)))
         (keepers-as d e s.cells refl refl refl refl) s.layered counted-left s.owners_home s.cells_home s.collectors_home
 

@@ -45,7 +45,7 @@ use Rattle.sdd_script_names.specs.Interpreter.{desk_of, IsTied, GuardsIn}
 use Rattle.sdd_script_model.specs.Held.{owners_in, slots_among, places_among, waits_among}
 use Rattle.sdd_script_model.proofs.Entry.{as-each, at-other, at-pushed, at-end, at-default}
 use Rattle.sdd_script_model.proofs.Dates.{dated-same}
-use Rattle.sdd_script_model.proofs.Going.{sound-opened, dated-opened, home-opened, names-go, names-run, not-under, sound-deferred, dated-deferred, sound-stirred, sound-accelerated, sound-registered, sound-ended, sound-closed}
+use Rattle.sdd_script_model.proofs.Going.{sound-opened, dated-opened, home-opened, names-go, names-run, not-under, not-run-under, sound-deferred, dated-deferred, sound-stirred, sound-accelerated, sound-registered, sound-ended, sound-closed}
 use Rattle.sdd_script_names.proofs.Acts as stage
 use Rattle.sdd_script_names.proofs.Acts.{Goes, Does, does, goes, still, place}
 
@@ -193,12 +193,13 @@ module _ (h : Environment) (t : IsTied h) (whole : IsWhole h.world) where
 
     -- ---- jobs
 
-    pub acts-deferred : (g : GuardName) (k : ℕ) (w : World Val) (names : Vec ℕ) (count : ℕ) (j : JobName) → HasOpen d n g.0 → IsEmptyAt h.world.jobs k →
-        w ≡ deferred h.world p k → names.items ≡ slice_set h.deferred.items k h.jobs → count ≡ h.jobs + 1 → j.0 ≡ h.jobs → BeginsLine d →
-        Does d (At name (call.Defer g)) (reply.Job j) (record h { world = w; deferred = names; jobs = count })
-    acts-deferred g k w names count j valid free world named more job line =
+    pub acts-deferred : (g : GuardName) (k : ℕ) (w : World Val) (names dates : Vec ℕ) (count : ℕ) (j : JobName) → HasOpen d n g.0 →
+        IsEmptyAt h.world.jobs k → w ≡ deferred h.world p k → names.items ≡ slice_set h.deferred.items k h.jobs →
+        dates.items ≡ slice_set h.job_dates.items k h.moment → count ≡ h.jobs + 1 → j.0 ≡ h.jobs → BeginsLine d →
+        Does d (At name (call.Defer g)) (reply.Job j) (record h { world = w; deferred = names; job_dates = dates; jobs = count })
+    acts-deferred g k w names dates count j valid free world named dated more job line =
         does d (At name (call.Defer g)) (reply.Job j)
-        (goes (cc (world, named, more)) (sound-deferred d t.sound whole p k in_range free line.jobs) t.guards)
+        (goes (cc (world, named, dated, more)) (sound-deferred d t.sound whole p k in_range free line.jobs) t.guards)
         (record {
           meets = (valid, rw is (job, (k, free, refl)));
           dated = dated-deferred d t.sound whole p k in_range free;
@@ -304,7 +305,14 @@ module _ (h : Environment) (t : IsTied h) (whole : IsWhole h.world) where
               exactly = all_at;
               unguarded = λ i c g y e. not-under d t.sound whole p (slot_at d i.0) in_range ((all.1 i).0 c).1 g y e;
             };
-            runs = record { ascending = run.0; exactly = run_at };
+            runs = record {
+              ascending = run.0;
+              exactly = run_at;
+              unguarded = λ j c k waits g y e.
+                  let runs = (run.1 j).0 c in
+                  let one : runs.0 ≡ k = t.sound.deferred.apart runs.0 k runs.1.taken waits.taken (runs.1.last ∙ sym waits.last) in
+                  not-run-under d t.sound whole p k in_range (subst (λ (m : ℕ). Contains (reclaims d.world p) (Job m)) one runs.2) g y e;
+            };
           })
 
 -- whether it is an outermost opening or not, it is noted so

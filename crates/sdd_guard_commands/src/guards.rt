@@ -132,6 +132,7 @@ pub fn defer(stage: &mut Interpreter, name: PlaceName, guard: GuardName) -> Repl
     let job = stage.hand.jobs;
     prove!(job < stage.hand.moment);
     stage.hand.deferred[place as usize] = job;
+    stage.hand.job_dates[place as usize] = stage.hand.moment;
     stage.hand.jobs += 1;
     Reply::Job(JobName(job))
 }

@@ -42,6 +42,7 @@ pub fn close(mut stage: Interpreter) -> Tally
         dates: _,
         jobs: _,
         deferred: _,
+        job_dates: _,
     } = hand;
     guards.destroy_spent();
     owners.destroy_spent();

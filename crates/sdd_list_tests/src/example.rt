@@ -64,18 +64,23 @@ impl<T: Item<T>> Setting<T> {
         Setting { world, place }
     }
 
-    /// Ends the world, by which all that was made is reclaimed. So many items were made.
+    /// Ends the world, of which so many items were made.
     pub fn closed(self, rt: &impl Abort, made: u128) {
         let Setting { world, place: _ } = self;
-        match world.close() {
-            Ok(tally) => {
-                assert_eq!(rt;
-                    (tally.made, tally.reclaimed, tally.in_place),
-                    (made, made, 0)
-                );
-            }
-            Err((_world, refused)) => panic!(rt; "{refused:?}"),
+        ended(rt, world, made);
+    }
+}
+
+/// Ends a world, by which all that was made is reclaimed. So many items were made.
+pub fn ended<T: Item<T>>(rt: &impl Abort, world: World<T>, made: u128) {
+    match world.close() {
+        Ok(tally) => {
+            assert_eq!(rt;
+                (tally.made, tally.reclaimed, tally.in_place),
+                (made, made, 0)
+            );
         }
+        Err((_world, refused)) => panic!(rt; "{refused:?}"),
     }
 }
 

@@ -15,7 +15,8 @@ pub fn last_in_first_out<T: LinkedList>()
     ensures { LastInFirstOut T.link }
 {}
 
-/// A law, which does nothing when the program runs: whoever lets an owner of an entry go, the values in a queue are the same.
+/// A law, which does nothing when the program runs: whoever lets an owner of an entry go, a queue or a stack has the values that it
+/// had.
 pub fn releases_keep_values<T>()
     ensures { ReleasesKeepValues T }
 {}

@@ -47,7 +47,7 @@ impl<T: Item<LinkedEntry<T>>> Queue<T> {
     ghost use Rattle.sdd_lists.specs.Cloning.{AreBeside, Clones, IsQueueBeside, RefusesClone};
     ghost use Rattle.sdd_lists.specs.Filling.{RefusesPush, why_not};
     ghost use Rattle.sdd_lists.specs.QueueFilling.{AddsBehind, BuildsInOrder, FillsQueue, queue_of};
-    ghost use Rattle.sdd_lists.specs.Values.{HasValues};
+    ghost use Rattle.sdd_lists.specs.Values.{QueueHas};
     ghost use Rattle.sdd_lists.specs.Walk.{IsWalkOf, ShowsInOrder, StandsBefore, shown_of};
 
     /// An empty queue.
@@ -67,7 +67,7 @@ impl<T: Item<LinkedEntry<T>>> Queue<T> {
             (S.world s.new ≡ nulled (nulled (S.world s.old) (cells_in queue).oldest) (cells_in queue).newest))
             (λ e. HasOneAtMost (S.world s.old).cells × (e ≡ Refused.NoCell) × (S.world s.new ≡ S.world s.old)) }
         ensures list { IsExact (S.seat s.old) → IfOk result (λ queue. IsQueue link_of (S.world s.new) (cells_in queue) [] None) }
-        ensures values { IsExact (S.seat s.old) → IfOk result (λ queue. HasValues (S.world s.new) queue []) }
+        ensures values { IsExact (S.seat s.old) → IfOk result (λ queue. QueueHas (S.world s.new) queue []) }
     {
         let oldest = match AtomicShared::null(s) {
             Ok(oldest) => oldest,
@@ -107,8 +107,8 @@ impl<T: Item<LinkedEntry<T>>> Queue<T> {
         ensures list { IsExact (S.seat s.old) → (es : List (Entry (LinkedEntry T))) (second : Option ℕ) →
             IsQueue link_of (S.world s.old) (cells_in self.now) es second →
             IfOk result (λ owner. PushesBehind (S.world s.old) (S.seat s.old).place (cells_in self.now) es second value owner (S.world s.new)) }
-        ensures values { IsExact (S.seat s.old) → (vs : List T) → HasValues (S.world s.old) self.now vs → MatchResult result
-            (λ _. HasValues (S.world s.new) self.now (vs ++ value ∷ []))
+        ensures values { IsExact (S.seat s.old) → (vs : List T) → QueueHas (S.world s.old) self.now vs → MatchResult result
+            (λ _. QueueHas (S.world s.new) self.now (vs ++ value ∷ []))
             (λ _. S.world s.new ≡ S.world s.old) }
     {
         match find_last(&self.oldest, &self.newest, guard, s) {
@@ -445,8 +445,8 @@ impl<T: Item<LinkedEntry<T>>> Queue<T> {
         ensures list { IsExact (S.seat s.old) → (es : List (Entry (LinkedEntry T))) (second : Option ℕ) →
             IsQueue link_of (S.world s.old) (cells_in self.now) es second →
             Dequeues link_of (S.world s.old) (S.seat s.old).place (cells_in self.now) es second result (S.world s.new) }
-        ensures values { IsExact (S.seat s.old) → (vs : List T) → HasValues (S.world s.old) self.now vs → MatchResult result
-            (λ popped. HasValues (S.world s.new) self.now (drop 1 vs) × MatchOption popped (slice_get vs 0 ≡ None)
+        ensures values { IsExact (S.seat s.old) → (vs : List T) → QueueHas (S.world s.old) self.now vs → MatchResult result
+            (λ popped. QueueHas (S.world s.new) self.now (drop 1 vs) × MatchOption popped (slice_get vs 0 ≡ None)
             (λ owner. (entry : LinkedEntry T) × S.shows s.new (slot_of owner) entry × (slice_get vs 0 ≡ Some (value_of entry))))
             (λ _. S.world s.new ≡ S.world s.old) }
     {

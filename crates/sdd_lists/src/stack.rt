@@ -1,5 +1,5 @@
 //! A container whose newest value comes out first.
-ghost use Rattle.std.specs.Prelude.{◌≡◌, ◌↔◌, ◌⊎◌, ℕ, [], ◌∷◌, ◌++◌, IfErr, IfOk, IfSome, IsTrue, List, MatchResult, None, Some, length, option_copied};
+ghost use Rattle.std.specs.Prelude.{◌≡◌, ◌↔◌, ◌⊎◌, ℕ, [], ◌∷◌, ◌++◌, IfErr, IfOk, IfSome, IsTrue, List, MatchOption, MatchResult, None, Some, drop, length, option_copied, slice_get};
 ghost use Rattle.std.specs.Borrow.{Bor};
 ghost use Rattle.std.specs.Iterator.{IsFinite, YieldsThen};
 ghost use Rattle.std.specs.List.{AllZip};
@@ -10,14 +10,14 @@ ghost use Rattle.sdd_space.specs.ParticipantChanges.{KeepsMoreWaiting};
 ghost use Rattle.sdd_space.specs.Ptr.{PtrIsShown, slot_named, tag_of};
 ghost use Rattle.sdd_space.specs.Refusals.{IsRefusedBy};
 ghost use Rattle.sdd_space.specs.CallerId.{IsSeated, IsExact};
-ghost use Rattle.sdd_space.specs.Shared.{IsOfSlots, cell_of, cells_home, slots_home};
+ghost use Rattle.sdd_space.specs.Shared.{IsOfSlots, cell_of, cells_home, slot_of, slots_home};
 ghost use Rattle.sdd_space.specs.World.{standing_at};
 ghost use Rattle.sdd_space.specs.WorldChanges.{nulled, without_cell};
 ghost use Rattle.sdd_core.specs.declared.tag.Tag.TheVariants.{None as no_tag};
 ghost use Rattle.sdd_participants.specs.Slab.{IsEmptyAt, IsFull};
 ghost use Rattle.sdd_standings.specs.Slots.{IsSharedBy};
 ghost use Rattle.sdd_lists.specs.Asking.{kept_by, was_held};
-ghost use Rattle.sdd_lists.specs.Entries.{link_of};
+ghost use Rattle.sdd_lists.specs.Entries.{link_of, value_of};
 ghost use Rattle.sdd_lists.specs.Lists.{Entry, Pops, content, emptied, first_slot, first_value, left};
 
 use crate::asking::{asks, asks_of_any};
@@ -45,6 +45,7 @@ impl<T: Item<LinkedEntry<T>>> Stack<T> {
     ghost use Rattle.sdd_lists.specs.Cloning.{AreBeside, RefusesClone};
     ghost use Rattle.sdd_lists.specs.StackCloning.{AppendsTo, ExtendsStack, IsStackBeside, LastIs, StackClones, both};
     ghost use Rattle.sdd_lists.specs.Filling.{AddsOnto, Builds, FillsStack, RefusesPush, stack_of, why_not};
+    ghost use Rattle.sdd_lists.specs.Values.{StackHas};
     ghost use Rattle.sdd_lists.specs.Walk.{IsWalkOf, ShowsInOrder, StandsBefore, shown_of};
 
     /// An empty stack.
@@ -59,6 +60,7 @@ impl<T: Item<LinkedEntry<T>>> Stack<T> {
             (λ stack. IsEmptyAt (S.world s.old).cells (cell_in stack) × (S.world s.new ≡ nulled (S.world s.old) (cell_in stack)))
             (λ e. IsFull (S.world s.old).cells × (e ≡ Refused.NoCell) × (S.world s.new ≡ S.world s.old)) }
         ensures list { IsExact (S.seat s.old) → IfOk result (λ stack. IsStack (S.world s.new) (cell_in stack) []) }
+        ensures values { IsExact (S.seat s.old) → IfOk result (λ stack. StackHas (S.world s.new) stack []) }
     {
         match AtomicShared::null(s) {
             Ok(newest) => Ok(Stack { newest }),
@@ -89,6 +91,9 @@ impl<T: Item<LinkedEntry<T>>> Stack<T> {
             ¬ (IsFull (S.world s.old).standings) × IsFull (S.world s.old).cells × (e.1 ≡ Refused.NoCell))) }
         ensures list { IsExact (S.seat s.old) → (es : List (Entry (LinkedEntry T))) → IsStack (S.world s.old) (cell_in self.now) es →
             IfOk result (λ owner. PushesOnto (S.world s.old) (S.seat s.old).place (cell_in self.now) es value owner (S.world s.new)) }
+        ensures values { IsExact (S.seat s.old) → (vs : List T) → StackHas (S.world s.old) self.now vs → MatchResult result
+            (λ _. StackHas (S.world s.new) self.now (value ∷ vs))
+            (λ _. S.world s.new ≡ S.world s.old) }
     {
         let free = s.has_slot();
         if !free {
@@ -375,6 +380,10 @@ impl<T: Item<LinkedEntry<T>>> Stack<T> {
         ensures back { IfErr result (λ e. (e ≡ Refused.TooManyOwners) ⊎ (e ≡ Refused.Contended)) }
         ensures list { IsExact (S.seat s.old) → (es : List (Entry (LinkedEntry T))) → IsStack (S.world s.old) (cell_in self.now) es →
             Pops link_of (S.world s.old) (S.seat s.old).place (cell_in self.now) no_tag es result (S.world s.new) }
+        ensures values { IsExact (S.seat s.old) → (vs : List T) → StackHas (S.world s.old) self.now vs → MatchResult result
+            (λ popped. StackHas (S.world s.new) self.now (drop 1 vs) × MatchOption popped (slice_get vs 0 ≡ None)
+            (λ owner. (entry : LinkedEntry T) × S.shows s.new (slot_of owner) entry × (slice_get vs 0 ≡ Some (value_of entry))))
+            (λ _. S.world s.new ≡ S.world s.old) }
     {
         pop_first(&self.newest, guard, s)
     }

@@ -1,5 +1,5 @@
 -- A number in two words: one more writes the low word alone, where that isn't full
-use Rattle.std.proofs.Common.{◌≡◌, ℕ, ◌+◌, ◌-◌, ◌*◌, ◌%◌, ◌^◌, ◌<◌, ◌≤◌, min, arith}
+use Rattle.std.proofs.Common.{◌≡◌, ℕ, ◌+◌, ◌-◌, ◌*◌, ◌%◌, ◌^◌, ◌<◌, min, arith}
 
 -- the low word doesn't wrap round
 below : (low : ℕ) → low < 2 ^ 64 → ((low + 1) % 2 ^ 64 ≡ 0 → ⊥) → (low + 1) % 2 ^ 64 ≡ low + 1

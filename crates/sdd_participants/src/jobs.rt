@@ -1,28 +1,34 @@
-ghost use Rattle.std.specs.Prelude.{◌≡◌, IsSome, IsTrue, ◌↔◌, IfOk, MatchResult, None, replicate};
+ghost use Rattle.std.specs.Prelude.{◌≡◌, ℕ, IsSome, IsTrue, ◌↔◌, IfOk, MatchResult, None, replicate};
 ghost use Rattle.sdd_participants.specs.Slab.{entry_at, with_entry, without_entry, IsEmptyAt, IsFull};
 
 use crate::slab::Slab;
 use std::alloc::{AllocError, Global};
 use std::marker::Model;
 
-/// A job that can be deferred. It runs once.
-pub trait Job: Drop {
-    fn run(&mut self);
+/// A job that can be deferred. Its run spends it, and a type that isn't `Drop` can't be let go otherwise: so whoever has one of such a type `J: Job` runs
+/// it or hands it on, and no job runs twice.
+pub trait Job {
+    fn run(self);
 }
 
-/// What a caller defers: a job in a box, or one that does nothing.
+/// A job that can stand in a box, whose type a caller doesn't see. A call through a box can't take what is in it by value, so it is borrowed for its run,
+/// and let go of then.
+pub trait BoxedJob: Drop {
+    fn run_boxed(&mut self);
+}
+
+/// What a caller defers: a job in a box, or one that does nothing. It must be spent by its run.
 ///
 /// A closure can't be in the box, since no contract of a table can say of many closures that each may be called.
-#[derive(Drop)]
 pub enum Deferred {
-    Boxed(Box<dyn Job + Send>),
+    Boxed(Box<dyn BoxedJob + Send>),
     Empty,
 }
 
 impl Job for Deferred {
-    fn run(&mut self) {
+    fn run(self) {
         match self {
-            Deferred::Boxed(job) => job.run(),
+            Deferred::Boxed(mut job) => job.run_boxed(),
             Deferred::Empty => {}
         }
     }
@@ -33,13 +39,12 @@ impl Job for Deferred {
 pub struct Idle;
 
 impl Job for Idle {
-    fn run(&mut self) {}
+    fn run(self) {}
 }
 
 /// A table of a fixed number of places for jobs, each free or with a job that waits.
 ///
-/// A free place is found at once. Memory is taken when the table is made, and never again: a box is the caller's.
-#[derive(Drop)]
+/// A free place is found at once. Memory is taken when the table is made, and never again: a box is the caller's. A table must be spent by `destroy`.
 pub struct Jobs<J: Job> {
     numbers: Slab<()>,
     jobs: Vec<Option<J>>,
@@ -49,9 +54,9 @@ impl<J: Job> Model for Jobs<J> {
     ghost use Rattle.sdd_participants.specs.Slab.{Entries};
     ghost use Rattle.sdd_participants.specs.Jobs.{AreBeside};
 
-    ghost Value = { Entries (Unit {0}) };
+    ghost Value = { Entries J };
 
-    ghost view = { λ t. t.numbers };
+    ghost view = { λ t. t.jobs.items };
 
     ghost invariant = { λ t. AreBeside t.numbers t.jobs.items };
 }
@@ -76,28 +81,29 @@ impl<J: Job> Jobs<J> {
     /// Puts a job into some free place, and tells which; where none is free it comes back, and hasn't run.
     pub fn put(&mut self, job: J) -> Result<u32, J>
         ensures put { MatchResult result
-            (λ k. IsEmptyAt self.old k × (self.new ≡ with_entry self.old k tt))
+            (λ k. IsEmptyAt self.old k × (self.new ≡ with_entry self.old k job))
             (λ back. IsFull self.old × (back ≡ job) × (self.new ≡ self.old)) }
     {
         let Ok(place) = self.numbers.claim(()) else {
             return Err(job);
         };
-        self.jobs[place as usize] = Some(job);
+        if let Some(_) = self.jobs[place as usize].replace(job) {
+            unreachable!()
+        }
         Ok(place)
     }
 
-    /// Runs the job in a place, if one waits there; then the place is free.
-    pub fn run(&mut self, place: u32)
-        ensures { self.new ≡ without_entry self.old place }
+    /// Takes the job out that waits in a place, if one does; then the place is free. Whoever takes it is to run it.
+    pub fn take(&mut self, place: u32) -> Option<J>
+        ensures job { result ≡ entry_at self.old place }
+        ensures free { self.new ≡ without_entry self.old place }
     {
         if !self.is_taken(place) {
-            return;
+            return None;
         }
-        let Some(mut job) = self.jobs[place as usize].take() else {
-            unreachable!()
-        };
+        let job = self.jobs[place as usize].take();
         self.numbers.release(place);
-        job.run();
+        job
     }
 
     /// A job waits in a place.
@@ -108,6 +114,22 @@ impl<J: Job> Jobs<J> {
             Some(job) => job.is_some(),
             None => false,
         }
+    }
+
+    /// Lets go of a table in which no job waits.
+    pub fn destroy(self)
+        requires free { (place : ℕ) → entry_at self place ≡ None }
+    {
+        let Jobs {
+            numbers: _,
+            mut jobs,
+        } = self;
+        while let Some(job) = jobs.pop() {
+            if let Some(_) = job {
+                unreachable!()
+            }
+        }
+        jobs.destroy_empty();
     }
 }
 

@@ -14,7 +14,7 @@ pub mod waiting;
 
 pub use bags::Bags;
 pub use epoch_state::EpochState;
-pub use jobs::{Deferred, Idle, Job, Jobs};
+pub use jobs::{BoxedJob, Deferred, Idle, Job, Jobs};
 pub use participant::{CLOSES_TO_SCAN, CountdownState, NO_GARBAGE, Participant};
 pub use place_states::{PlaceState, PlaceStates};
 pub use slab::Slab;

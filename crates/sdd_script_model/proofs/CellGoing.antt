@@ -34,6 +34,7 @@ use Rattle.sdd_script_model.proofs.Entry.{is-there, inside}
 use Rattle.sdd_script_model.proofs.Stocked.{stocked-as, no_slot-same, no_slot-standing, no_slot-cell_closed, slot-inside}
 use Rattle.sdd_script_model.proofs.Keepers.{keepers-filled, keepers-named, keepers-closed, closed-bare, closed-same, named-cell}
 use Rattle.sdd_script_model.proofs.Attending.{keeps-time, keeps-cell_closed, attended-acts}
+use Rattle.sdd_script_model.proofs.JobDates.{job_dates-call, job_dates-two}
 use Rattle.sdd_script_model.proofs.Kept.{kept-call, kept-two, were-same}
 use Rattle.sdd_script_model.proofs.Dates.{begins-out, closed-other, dated-same, dated-stands, dated-either, early-dated}
 use Rattle.sdd_script_model.proofs.Counting.{AreCounted, owner-where, named-fewer, counted-cell, counted-into, counted-cell_closed, cell-out}
@@ -215,6 +216,7 @@ module _ (d : ScriptState) (s : IsSound d) where
             early = early-dated d after_cells dated-cells (omega arith) s.early;
             made = s.made;
             deferred = s.deferred;
+            jobs = job_dates-call d after_cells s.jobs refl refl (were-same d after_cells refl keeps.guards) refl (changes_cells d.world cells long);
             few = s.few;
           }
 
@@ -373,6 +375,8 @@ module _ (d : ScriptState) (s : IsSound d) where
             early = early-dated d after_cell_closed dated-cell_closed (omega arith) s.early;
             made = counts.made ∙ s.made;
             deferred = subst (AreDeferred d.jobs d.deferred) (sym (jobs-closed d.world p c)) s.deferred;
+            jobs = job_dates-call d after_cell_closed s.jobs refl refl (were-same d after_cell_closed refl keeps.guards) (jobs-closed d.world p c)
+                (closes_cell d.world p c live);
             few = s.few;
           }
 
@@ -456,6 +460,8 @@ module _ (d : ScriptState) (s : IsSound d) where
                 early = early-dated d after_copied_item dated-copied_item (omega arith) s.early;
                 made = s.made;
                 deferred = s.deferred;
+                jobs = job_dates-two d after_copied_item s.jobs refl refl (were-same d after_copied_item refl keeps.guards) refl midway cells-copied
+                    shares-copied (λ q o. o);
                 few = s.few;
               }
 

@@ -40,6 +40,7 @@ use Rattle.sdd_script_model.proofs.Counting.{AreCounted, counted-given, counted-
 use Rattle.sdd_script_model.proofs.Dates.{dated-same, dated-either, early-dated}
 use Rattle.sdd_script_model.proofs.Going.{at_home-given, at_home-spent, dated-released, sound-released}
 use Rattle.sdd_script_model.proofs.Keepers.{keepers-as, keepers-collecting}
+use Rattle.sdd_script_model.proofs.JobDates.{job_dates-call, job_dates-two}
 use Rattle.sdd_script_model.proofs.Kept.{kept-call, kept-two, were-same}
 use Rattle.sdd_script_model.proofs.Stocked.{stocked-as, no_slot-same, no_slot-set}
 
@@ -82,6 +83,7 @@ module _ (d : ScriptState) (s : IsSound d) (whole : IsWhole d.world) where
           early = early-dated d after_collecting dated-collecting (omega arith) s.early;
           made = s.made;
           deferred = s.deferred;
+          jobs = job_dates-two d after_collecting s.jobs refl refl (were-same d after_collecting refl keeps.guards) refl mid first second (λ q o. o);
           few = s.few;
         }
 
@@ -146,6 +148,7 @@ module _ (d : ScriptState) (s : IsSound d) (whole : IsWhole d.world) where
           early = early-dated d after_collected dated-collected (omega arith) s.early;
           made = s.made;
           deferred = s.deferred;
+          jobs = job_dates-call d after_collected s.jobs refl refl (were-same d after_collected refl keeps.guards) refl (collects d.world p c k live alone);
           few = s.few;
         }
 

@@ -43,6 +43,7 @@ use Rattle.sdd_script_model.proofs.Deferred.{jobs-given_all}
 use Rattle.sdd_script_model.proofs.Going.{at_home-spent, open-guard}
 use Rattle.sdd_script_model.proofs.Gone.{KeepsCounts, all-counts, all-give, given-out, times_in}
 use Rattle.sdd_script_model.proofs.Keepers.{all-kept, keepers-as, keepers-uncollected}
+use Rattle.sdd_script_model.proofs.JobDates.{job_dates-shut}
 use Rattle.sdd_script_model.proofs.Kept.{kept-shut}
 use Rattle.sdd_script_model.proofs.Layers.{layered-reclaimed}
 use Rattle.sdd_script_model.proofs.Stocked.{TakesNoSlot, all-no_slot, no_slot-same, stocked-as}
@@ -180,6 +181,7 @@ module _ (d : ScriptState) (s : IsSound d) (whole : IsWhole d.world) (p c n : �
     early = early-dated d after_uncollected dated (omega arith) s.early;
     made = counts.made ∙ s.made;
     deferred = subst (AreDeferred d.jobs d.deferred) (sym same-jobs) s.deferred;
+    jobs = job_dates-shut d after_uncollected s.jobs refl refl shut same-jobs;
     few = s.few;
   }
 
@@ -212,4 +214,5 @@ module _ (d : ScriptState) (s : IsSound d) (whole : IsWhole d.world) (c : ℕ) (
   runs-uncollected = record {
     ascending = λ j lt. absurd (omega (arith, lt));
     exactly = λ j. ((λ there. absurd (omega (arith, there.1))), (λ h. absurd (h.2)));
+    unguarded = λ j there. absurd (omega (arith, there.1));
   }

@@ -17,7 +17,7 @@ use Rattle.sdd_space.proofs.Whole.{times_among, times-aged}
 use Rattle.sdd_space.proofs.Entries.{one-place}
 use Rattle.sdd_space.proofs.Standings.{out-inside, out-waits-not}
 use Rattle.sdd_space.proofs.Opening.{Stands, how, all-stands, opened-stays, owner_given-stands, closed-stands, keeps-given_all}
-use Rattle.sdd_script_model.specs.ScriptState.{BeginsLine, IsStart}
+use Rattle.sdd_script_model.specs.ScriptState.{BeginsLine, IsStart, job_date_at}
 use Rattle.sdd_script_model.proofs.Terms.{◌≡◌, ◌≢◌, ◌⊎◌, ℕ, ◌+◌, ◌-◌, ◌<◌, ◌≤◌, ◌==◌, Bool, true, false, nat_lt, if◌then◌else◌, List, Option, Some, None, length, count_by, slice_index, slice_index_or, slice_set, inl, inr, refl, sym, ap, ◌∙◌, lt-ltb, ltb-true, arith, cases_lt, false≢true, length-set, due_next, Standing, Owned, Raw, Shared, Retired, privately, is_waiting, World, place_at, standing_at, retired, owner_given, cell_closed, reclaims, IsWhole, is_out, Val, holdings_of, ScriptState, IsDated, date_at, later, at-same, at-other}
 
 -- ---- what begins to wait was out
@@ -260,13 +260,14 @@ module _ (d new : ScriptState) where
         by false was date le = le
 
 -- one line later, each date is of an earlier line
-pub begins-line : (d : ScriptState) → ((s : ℕ) → date_at d s ≤ d.moment) → d.jobs ≤ d.moment → BeginsLine (later d)
-begins-line d early few = record { dates = λ s. omega (arith, early s); jobs = omega (arith, few) }
+pub begins-line : (d : ScriptState) → ((s : ℕ) → date_at d s ≤ d.moment) → ((k : ℕ) → job_date_at d k ≤ d.moment) → d.jobs ≤ d.moment → BeginsLine (later d)
+begins-line d early early_jobs few =
+    record { dates = λ s. omega (arith, early s); job_dates = λ k. omega (arith, early_jobs k); jobs = omega (arith, few) }
 
 pub early-later : (d : ScriptState) → ((s : ℕ) → date_at d s ≤ d.moment) → (s : ℕ) → date_at (later d) s ≤ (later d).moment
 early-later d early s = omega (arith, early s)
 
-zero-there : (n s : ℕ) → slice_index (replicate n 0) s ≡ 0
+pub zero-there : (n s : ℕ) → slice_index (replicate n 0) s ≡ 0
 zero-there n s =
     elim (cases_lt s n) [
       | inl lt ↦ get_or-replicate n s 0 0 lt

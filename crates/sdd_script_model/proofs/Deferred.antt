@@ -101,7 +101,7 @@ module _ (w : World Val) (p : ℕ) (whole : IsWhole w) (live : IsPlaceOf w p) wh
         let kept = law.keeps p k live (λ c. not-free (entry_at w.jobs k) (runs-taken k c) is) in
         absurd (not-free (entry_at (opened holdings_of w p).jobs k) some (kept ∙ is))
 
-  table-long : length (opened holdings_of w p).jobs ≡ length w.jobs
+  pub table-long : length (opened holdings_of w p).jobs ≡ length w.jobs
   table-long =
       let due = due_next (place_at (steps.nested w p) p) in
       elim (how holdings_of w p live.0) [

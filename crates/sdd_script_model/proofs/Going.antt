@@ -31,7 +31,7 @@ use Rattle.sdd_script_model.specs.declared.val.Val.{Val}
 use Rattle.sdd_script_model.specs.declared.owner_kind.OwnerKind.{OwnerKind}
 use Rattle.sdd_script_model.specs.declared.owner_kind.OwnerKind.TheVariants as ownership
 use Rattle.sdd_script_model.specs.Val.{holdings_of, body_of, link_of}
-use Rattle.sdd_script_model.specs.ScriptState.{ScriptState, OpenSince, BeginsLine, IsDated, IsStart, IsThere, WaitsAt, date_at, opening_at, holding_at, cell_of, collector_of, slot_at, slot_of, sole_slot, shared_slot, in_world, with_guard, with_newcomer, without_participant, without_guard, with_owner, without_owner, with_item, with_job, later}
+use Rattle.sdd_script_model.specs.ScriptState.{ScriptState, OpenSince, BeginsLine, IsDated, IsStart, IsThere, WaitsAt, date_at, job_date_at, opening_at, holding_at, cell_of, collector_of, slot_at, slot_of, sole_slot, shared_slot, in_world, with_guard, with_newcomer, without_participant, without_guard, with_owner, without_owner, with_item, with_job, later}
 use Rattle.sdd_script_model.specs.Made.{IsPutIn, owners_left, put_in}
 use Rattle.sdd_script_model.specs.Shown.{item_in, job_in}
 use Rattle.sdd_script_model.specs.Sound.{IsSound, AreDeferred, Keeper, Keeps, named_owners, owns}
@@ -52,6 +52,8 @@ use Rattle.sdd_script_model.proofs.Gone.{counts-given, counts-opened}
 use Rattle.sdd_script_model.proofs.Gone as gone
 use Rattle.sdd_script_model.proofs.Deferred.{jobs-given, deferred-more, deferred-opened}
 use Rattle.sdd_script_model.proofs.Deferred as jobs
+use Rattle.sdd_script_model.proofs.JobDates.{job_dates-call, job_dates-made, job_dates-deferred, job_dates-opened, job_dates-later, job_dates-start}
+use Rattle.sdd_script_model.proofs.JobDates as job_dates
 
 -- an owner, of either kind
 pub sole-is : (x : Option OwnerOrCell) (k : ℕ) → sole_slot x ≡ Some k → (h : OwnerOrCell) × (x ≡ Some h) × (slot_of (Some h) ≡ Some k)
@@ -117,6 +119,7 @@ module _ (d : ScriptState) (s : IsSound d) where
       early = early-dated d new dated (omega arith) s.early;
       made = s.made;
       deferred = s.deferred;
+      jobs = job_dates-call d new s.jobs refl refl (were-same d new refl (keeps-stirred d.world p).guards) refl (stirs d.world p live);
       few = s.few;
     } where
       new : ScriptState
@@ -139,6 +142,7 @@ module _ (d : ScriptState) (s : IsSound d) where
       early = early-dated d new dated (omega arith) s.early;
       made = s.made;
       deferred = s.deferred;
+      jobs = job_dates-call d new s.jobs refl refl (were-same d new refl (keeps-accelerated d.world p).guards) refl (accelerates d.world p live);
       few = s.few;
     } where
       new : ScriptState
@@ -161,6 +165,8 @@ module _ (d : ScriptState) (s : IsSound d) where
       early = early-dated d new dated (omega arith) s.early;
       made = s.made;
       deferred = s.deferred;
+      jobs = job_dates-call d new s.jobs refl refl (were-registered d new s.attended p vacant whole.housed.lengths refl refl) refl
+          (registers d.world p vacant);
       few = s.few;
     } where
       new : ScriptState
@@ -184,6 +190,8 @@ module _ (d : ScriptState) (s : IsSound d) where
       early = early-dated d new dated (omega arith) s.early;
       made = s.made;
       deferred = s.deferred;
+      jobs = job_dates-call d new s.jobs refl refl (were-ended d new s.attended n x.place refl refl) refl
+          (ends d.world x.place (s.attended.inside n x there) shut);
       few = s.few;
     } where
       new : ScriptState
@@ -207,6 +215,7 @@ module _ (d : ScriptState) (s : IsSound d) where
       early = early-dated d new dated (omega arith) s.early;
       made = s.made;
       deferred = s.deferred;
+      jobs = job_dates-call d new s.jobs refl refl (were-closed d new s.attended g p y there same refl refl) refl (closes d.world p live);
       few = s.few;
     } where
       new : ScriptState
@@ -239,6 +248,7 @@ module _ (d : ScriptState) (s : IsSound d) where
             early = early-dated d after_deferred dated-deferred (omega arith) s.early;
             made = s.made;
             deferred = deferred-more d.jobs d.deferred d.world.jobs k free s.deferred;
+            jobs = job_dates-deferred d after_deferred s.jobs whole p k live free refl refl refl (were-same d after_deferred refl keeps.guards);
             few = omega (arith, few);
           }
 
@@ -269,6 +279,8 @@ module _ (d : ScriptState) (s : IsSound d) where
             early = early-dated d after_retired dated-retired (omega arith) s.early;
             made = s.made;
             deferred = s.deferred;
+            jobs = job_dates-call d after_retired s.jobs refl refl (were-same d after_retired refl (keeps-retired d.world p k).guards) refl
+                (retires d.world p k live stands);
             few = s.few;
           }
 
@@ -306,6 +318,8 @@ module _ (d : ScriptState) (s : IsSound d) where
             early = early-dated d after_released dated-released (omega arith) s.early;
             made = counts.made ∙ s.made;
             deferred = subst (AreDeferred d.jobs d.deferred) (sym (jobs-given d.world p k (Some (standing.Shared count)) stands.shared)) s.deferred;
+            jobs = job_dates-call d after_released s.jobs refl refl (were-same d after_released refl keeps.guards)
+                (jobs-given d.world p k (Some (standing.Shared count)) stands.shared) (releases d.world p k count live stands.shared);
             few = s.few;
           }
 
@@ -332,6 +346,7 @@ module _ (d : ScriptState) (s : IsSound d) where
             early = early-dated d after_shared dated-shared (omega arith) s.early;
             made = s.made;
             deferred = s.deferred;
+            jobs = job_dates-call d after_shared s.jobs refl refl (were-same d after_shared refl keeps.guards) refl (shares d.world k count stands.shared);
             few = s.few;
           }
 
@@ -383,6 +398,7 @@ module _ (d : ScriptState) (s : IsSound d) where
             early = early-dated d after_made dated-made (omega arith) s.early;
             made = told-made d (nulled d.world c) k v (standing_first own) s.made few;
             deferred = s.deferred;
+            jobs = job_dates-made d after_made s.jobs c k v (standing_first own) (first own) slot refl refl refl (were-same d after_made refl keeps.guards);
             few = s.few;
           }
 
@@ -420,6 +436,7 @@ module _ (d : ScriptState) (s : IsSound d) where
             early = early-dated d after_opening dated-opened (omega arith) s.early;
             made = counts.made ∙ s.made;
             deferred = deferred-opened d.world x.place whole (s.attended.inside n x there) d.jobs d.deferred s.deferred;
+            jobs = job_dates-opened d after_opening s.jobs s.attended s.kept whole dated-opened line n x there refl refl refl refl;
             few = s.few;
           }
 
@@ -445,6 +462,11 @@ module _ (d : ScriptState) (s : IsSound d) where
     pub not-under : (p k : ℕ) → IsPlaceOf d.world p → Contains (reclaims d.world p) (Item k) → (g : ℕ) (y : OpenSince) →
         opening_at d.guards g ≡ Some y → date_at d k < y.since
     not-under p k live goes g y there = unguarded d s.attended s.kept whole p k live goes g y there
+
+    -- nor was what runs deferred under one
+    pub not-run-under : (p k : ℕ) → IsPlaceOf d.world p → Contains (reclaims d.world p) (Job k) → (g : ℕ) (y : OpenSince) →
+        opening_at d.guards g ≡ Some y → job_date_at d k < y.since
+    not-run-under p k live runs g y there = job_dates.unguarded d s.attended s.jobs whole p k live runs g y there
 
 -- ---- the start, and a line more
 
@@ -487,6 +509,7 @@ sound-start l d start names ranges = record {
     apart = λ k m some other same. absurd (not-free (entry_at d.world.jobs k) some (places k));
     long = ap length start.deferred ∙ length-replicate l.jobs 0 ∙ sym (ap length start.world.jobs ∙ length-replicate l.jobs None);
   };
+  jobs = job_dates-start d start;
   few = omega (arith, start.jobs);
 } where
   standings : (k : ℕ) → standing_at d.world k ≡ None
@@ -524,8 +547,9 @@ sound-later d s = record {
   early = early-later d s.early;
   made = s.made;
   deferred = s.deferred;
+  jobs = job_dates-later d s.jobs;
   few = omega (arith, s.few);
 }
 
 pub line-begins : (d : ScriptState) → IsSound d → BeginsLine (later d)
-line-begins d s = begins-line d s.early s.few
+line-begins d s = begins-line d s.early s.jobs.early s.few

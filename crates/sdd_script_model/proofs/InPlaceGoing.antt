@@ -34,6 +34,7 @@ use Rattle.sdd_script_model.proofs.Entry.{at-other, at-default, inside}
 use Rattle.sdd_script_model.proofs.Stocked.{stocked-as, no_slot-same, no_slot-standing, no_slot-dropped, slot-inside}
 use Rattle.sdd_script_model.proofs.Keepers.{keepers-as, keepers-edited, keepers-dropped}
 use Rattle.sdd_script_model.proofs.Attending.{keeps-time, keeps-dropped, attended-acts}
+use Rattle.sdd_script_model.proofs.JobDates.{job_dates-call}
 use Rattle.sdd_script_model.proofs.Kept.{kept-call, were-same}
 use Rattle.sdd_script_model.proofs.Dates.{dated-same, dated-stands, dated-kept, dated-either, early-dated}
 use Rattle.sdd_script_model.proofs.Counting.{times-held, named-more, named-fewer}
@@ -102,6 +103,7 @@ module _ (d : ScriptState) (s : IsSound d) (whole : IsWhole d.world) (p k : ℕ)
           early = early-dated d after_raw dated-raw (omega arith) s.early;
           made = s.made;
           deferred = s.deferred;
+          jobs = job_dates-call d after_raw s.jobs refl refl (were-same d after_raw refl keeps.guards) refl (puts_out_raw d.world k stands);
           few = s.few;
         }
 
@@ -133,6 +135,7 @@ module _ (d : ScriptState) (s : IsSound d) (whole : IsWhole d.world) (p k : ℕ)
           early = early-dated d after_back dated-back (omega arith) s.early;
           made = s.made;
           deferred = s.deferred;
+          jobs = job_dates-call d after_back s.jobs refl refl (were-same d after_back refl keeps.guards) refl (takes_back_raw d.world k stands);
           few = s.few;
         }
 
@@ -175,6 +178,7 @@ module _ (d : ScriptState) (s : IsSound d) (whole : IsWhole d.world) (p k : ℕ)
           early = early-dated d put_in_place dated-in_place (omega arith) s.early;
           made = s.made;
           deferred = s.deferred;
+          jobs = job_dates-call d put_in_place s.jobs refl refl (were-same d put_in_place refl keeps.guards) refl (edits d.world k puts.now may);
           few = s.few;
         }
 
@@ -261,6 +265,7 @@ module _ (d : ScriptState) (s : IsSound d) (whole : IsWhole d.world) (p k : ℕ)
           early = early-dated d after_dropped dated-dropped (omega arith) s.early;
           made = counts.made ∙ s.made;
           deferred = subst (AreDeferred d.jobs d.deferred) (sym jobs-dropped) s.deferred;
+          jobs = job_dates-call d after_dropped s.jobs refl refl (were-same d after_dropped refl keeps.guards) jobs-dropped (drops d.world p k live may);
           few = s.few;
         }
 

@@ -132,14 +132,14 @@ fresh-safe w p s l whole out waits o =
 module _ (d new : ScriptState) (a : ParticipantsMatch d) (kept : KeepsRecentItems d) (whole : IsWhole d.world) (dated : IsDated d new)
     (earlier : BeginsLine d) (n : ℕ) (x : OpenSince) (there : opening_at d.places n ≡ Some x)
     (world : new.world ≡ opened holdings_of d.world x.place) (places : new.places ≡ (desk.with_guard d n x.place).places) where
-  live : IsPlaceOf d.world x.place
+  pub live : IsPlaceOf d.world x.place
   live = a.inside n x there
 
-  call : WorldStep holdings_of d.world new.world
+  pub call : WorldStep holdings_of d.world new.world
   call = subst (WorldStep holdings_of d.world) (sym world) (opens d.world x.place live)
 
   -- another place is open as before, and so is this one if it was
-  open-before : (y : OpenSince) → (y.place ≡ x.place → is_open (place_at d.world x.place) ≡ true) → IsTrue (is_open (place_at new.world y.place)) →
+  pub open-before : (y : OpenSince) → (y.place ≡ x.place → is_open (place_at d.world x.place) ≡ true) → IsTrue (is_open (place_at new.world y.place)) →
       IsTrue (is_open (place_at d.world y.place))
   open-before y nested o =
       elim (cases_eq y.place x.place) [
@@ -165,7 +165,7 @@ module _ (d new : ScriptState) (a : ParticipantsMatch d) (kept : KeepsRecentItem
         (subst (λ (w : World Val). IsTrue (is_open (place_at w x.place))) world o))
 
   -- who has this place, and did not open it now, had it open
-  still-own : (m : ℕ) (y : OpenSince) → opening_at d.places m ≡ Some y → (is_open (place_at d.world x.place) ≡ false → m ≢ n) → y.place ≡ x.place →
+  pub still-own : (m : ℕ) (y : OpenSince) → opening_at d.places m ≡ Some y → (is_open (place_at d.world x.place) ≡ false → m ≢ n) → y.place ≡ x.place →
       (nested : Bool) → is_open (place_at d.world x.place) ≡ nested → is_open (place_at d.world x.place) ≡ true
   still-own m y entry other same true is = is
   still-own m y entry other same false is = absurd (other is (a.apart m n y x entry there same))

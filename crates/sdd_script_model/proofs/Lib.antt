@@ -10,6 +10,7 @@ pub mod Counting
 pub mod Layers
 pub mod Gone
 pub mod Deferred
+pub mod JobDates
 pub mod Going
 pub mod WaitingFor
 pub mod Collected

@@ -39,7 +39,7 @@ use Rattle.sdd_script_model.specs.Made.{Makes, RefusesItem, put_in}
 use Rattle.sdd_script_model.specs.Shown.{RepliesValue, IsCell, item_held, item_in}
 use Rattle.sdd_script_model.specs.Collecting.{Collects}
 use Rattle.sdd_script_model.specs.InPlace.{OwnsNumber, Puts, Drops, RefusesDrop, IsRaw}
-use Rattle.sdd_script_model.specs.ScriptState.{ScriptState, OpenSince, IsStart, IsDated, IsThere, WaitsAt, Leaves, opening_at, holding_at, slot_at, date_at, place_of, since_of, slot_of, sole_slot, shared_slot, shared_cell, collector_of, in_world, with_owner, without_owner, with_collector, without_collector, with_item, with_job, with_newcomer, without_participant, with_guard, without_guard, later}
+use Rattle.sdd_script_model.specs.ScriptState.{ScriptState, OpenSince, IsStart, IsDated, IsThere, WaitsAt, Leaves, opening_at, holding_at, slot_at, date_at, job_date_at, place_of, since_of, slot_of, sole_slot, shared_slot, shared_cell, collector_of, in_world, with_owner, without_owner, with_collector, without_collector, with_item, with_job, with_newcomer, without_participant, with_guard, without_guard, later}
 use Rattle.sdd_script_model.specs.ScriptState as desk
 use Rattle.sdd_script_model.specs.Due.{Line, NamesWhatIsDue}
 
@@ -373,6 +373,9 @@ IsRunBy d call other k = ⊥
 pub record NamesWhatRuns (d : ScriptState) (call : Call) (given : Reply) (names : List JobName) : Type 0 where
   pub ascending : IsStrictlyIncreasing (map (λ (j : JobName). j.0) names)
   pub exactly : (j : JobName) → Contains names j ↔ ((k : ℕ) × WaitsAt d j.0 k × IsRunBy d call given k)
+  -- each was deferred before any guard was opened that is open now
+  pub unguarded : (j : JobName) → Contains names j → (k : ℕ) → WaitsAt d j.0 k → (g : ℕ) (guard : OpenSince) → opening_at d.guards g ≡ Some guard →
+      job_date_at d k < guard.since
 
 pub record NamesWhatGoes (d : ScriptState) (call : Call) (given : Reply) (names : List ItemName) : Type 0 where
   pub ascending : IsStrictlyIncreasing (map (λ (i : ItemName). i.0) names)

@@ -37,6 +37,8 @@ pub record ScriptState : Type 0 where
   pub jobs : ℕ
   -- of each place of the table of jobs the job that it had last
   pub deferred : List ℕ
+  -- and the line in which that was deferred
+  pub job_dates : List ℕ
 
 -- ---- names
 
@@ -60,6 +62,10 @@ date_at d s = slice_index d.dates s
 -- the job that a place of the table of jobs had last
 abbrev pub job_at : ScriptState → ℕ → ℕ
 job_at d k = slice_index d.deferred k
+
+-- the line in which that was deferred
+abbrev pub job_date_at : ScriptState → ℕ → ℕ
+job_date_at d k = slice_index d.job_dates k
 
 -- a job waits in a place of the table of jobs until it ran: the place has it last, and is not free
 pub record WaitsAt (d : ScriptState) (j k : ℕ) : Type 0 where
@@ -160,9 +166,10 @@ without_owner d o = record d { owners = slice_set d.owners o None }
 abbrev pub with_item : ScriptState → ℕ → ScriptState
 with_item d k = record d { slots = d.slots ++ k ∷ []; names = slice_set d.names k (length d.slots) }
 
--- the next job is in place k of the table of jobs
+-- the next job is in place k of the table of jobs, since this line
 abbrev pub with_job : ScriptState → ℕ → ScriptState
-with_job d k = record d { jobs = d.jobs + 1; deferred = slice_set d.deferred k d.jobs }
+with_job d k =
+    record d { jobs = d.jobs + 1; deferred = slice_set d.deferred k d.jobs; job_dates = slice_set d.job_dates k d.moment }
 
 -- a newcomer is at place p
 abbrev pub with_newcomer : ScriptState → ℕ → ScriptState
@@ -197,6 +204,7 @@ later d = record d { moment = d.moment + 1 }
 -- a line begins: nothing began to wait in it so far, and there were fewer jobs than lines
 pub record BeginsLine (d : ScriptState) : Type 0 where
   pub dates : (s : ℕ) → date_at d s < d.moment
+  pub job_dates : (k : ℕ) → job_date_at d k < d.moment
   pub jobs : d.jobs < d.moment
 
 -- it is so now, whatever the dates are
@@ -222,3 +230,4 @@ pub record IsStart (limits : Limits) (d : ScriptState) : Type 0 where
   pub dates : d.dates ≡ replicate limits.slots 0
   pub jobs : d.jobs ≡ 0
   pub deferred : d.deferred ≡ replicate limits.jobs 0
+  pub job_dates : d.job_dates ≡ replicate limits.jobs 0

@@ -1,16 +1,17 @@
 -- What is always true of a desk
 use Rattle.std.specs.Prelude.{ℕ, ◌+◌, ◌^◌, ◌<◌, ◌≤◌, ◌≡◌, ◌==◌, Bool, false, IsTrue, IsSome, List, Option, None, Some, count_by, length, slice_index}
 use Rattle.sdd_participants.specs.EpochState.{is_open, phase_at}
-use Rattle.sdd_participants.specs.Slab.{Entries, entry_at}
+use Rattle.sdd_participants.specs.Slab.{Entries, IsEmptyAt, entry_at}
 use Rattle.sdd_standings.specs.Slots.{is_waiting}
 use Rattle.sdd_space.specs.OwnerOrCell.{OwnerOrCell, IsOf}
-use Rattle.sdd_space.specs.World.{IsPlaceOf, place_at, standing_at, value_at}
-use Rattle.sdd_space.specs.WorldChanges.{held_in}
+use Rattle.sdd_space.specs.World.{World, IsPlaceOf, place_at, standing_at, value_at}
+use Rattle.sdd_space.specs.WorldChanges.{deferred, held_in}
+use Rattle.sdd_space.specs.WorldInvariant.{IsWhole}
 use Rattle.sdd_space.specs.OwnerCounts.{IsAccounted, is_owner_of, times_held}
-use Rattle.sdd_space.specs.UnderGuards.{IsSafe}
+use Rattle.sdd_space.specs.UnderGuards.{CallsUnder, IsSafe}
 use Rattle.sdd_script_model.specs.declared.val.Val.{Val}
 use Rattle.sdd_script_model.specs.Val.{holdings_of, link_of}
-use Rattle.sdd_script_model.specs.ScriptState.{ScriptState, OpenSince, opening_at, holding_at, slot_at, name_at, date_at, cell_of, collector_of}
+use Rattle.sdd_script_model.specs.ScriptState.{ScriptState, OpenSince, opening_at, holding_at, slot_at, name_at, date_at, job_date_at, cell_of, collector_of}
 
 -- which item is in which slot
 pub record SlotsHaveNames (d : ScriptState) : Type 0 where
@@ -75,6 +76,29 @@ abbrev pub KeepsRecentItems : ScriptState → Type 0
 KeepsRecentItems d = (n s : ℕ) (x : OpenSince) → opening_at d.places n ≡ Some x → IsTrue (is_open (place_at d.world x.place)) →
     IsTrue (is_waiting (standing_at d.world s)) → x.since ≤ date_at d s → IsSafe d.world x.place s
 
+-- a guard of p has been open since before the job in place k of the table of jobs was deferred
+pub record WasDeferredUnder (w : World Val) (p k : ℕ) : Type 0 where
+  pub before : World Val
+  pub whole : IsWhole before
+  pub guarded : IsTrue (is_open (place_at before p))
+  -- with whom it waits since
+  pub holder : ℕ
+  pub live : IsPlaceOf before holder
+  pub free : IsEmptyAt before.jobs k
+  pub calls : CallsUnder holdings_of p (deferred before holder k) w
+
+-- what was deferred since a participant's last outermost opening was deferred under a guard of it, as long as one is open
+abbrev pub KeepsRecentJobs : ScriptState → Type 0
+KeepsRecentJobs d = (n k : ℕ) (x : OpenSince) → opening_at d.places n ≡ Some x → IsTrue (is_open (place_at d.world x.place)) →
+    IsSome (entry_at d.world.jobs k) → x.since ≤ job_date_at d k → WasDeferredUnder d.world x.place k
+
+-- when each job was deferred
+pub record JobsHaveDates (d : ScriptState) : Type 0 where
+  pub kept : KeepsRecentJobs d
+  -- in a line so far
+  pub early : (k : ℕ) → job_date_at d k ≤ d.moment
+  pub long : length d.job_dates ≡ length d.world.jobs
+
 -- what a value holds is an owner of an item that was made before its own: so with no owner outside, and none out as raw, all goes
 abbrev pub HoldsOnlyOlder : ScriptState → Type 0
 HoldsOnlyOlder d = (j k : ℕ) → 1 ≤ times_held holdings_of k (value_at d.world j) → name_at d k < name_at d j
@@ -99,5 +123,6 @@ pub record IsSound (d : ScriptState) : Type 0 where
   pub early : (s : ℕ) → date_at d s ≤ d.moment
   pub made : d.world.tally.made ≡ length d.slots
   pub deferred : AreDeferred d.jobs d.deferred d.world.jobs
+  pub jobs : JobsHaveDates d
   -- a line defers one job at most
   pub few : d.jobs ≤ d.moment

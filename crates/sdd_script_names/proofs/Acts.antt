@@ -161,8 +161,9 @@ same-owners h w owners world same = let named = ap (map (option_map owner_holdin
 -- nothing is in hand at the start
 pub tied-start : (h : Environment) (l : Limits) → IsNew l 0 h.world → h.moment ≡ 0 → h.places.entries.items ≡ [] → h.guards.entries.items ≡ [] →
     h.owners.entries.items ≡ [] → h.cells.entries.items ≡ [] → h.collectors.entries.items ≡ [] → h.slots.items ≡ [] → length h.names.items ≡ l.slots →
-    h.dates.items ≡ replicate l.slots 0 → h.jobs ≡ 0 → h.deferred.items ≡ replicate l.jobs 0 → AreInRange l → IsTied h
-tied-start h l new start places guards owners cells collectors slots names dates jobs deferred ranges = record {
+    h.dates.items ≡ replicate l.slots 0 → h.jobs ≡ 0 → h.deferred.items ≡ replicate l.jobs 0 → h.job_dates.items ≡ replicate l.jobs 0 →
+    AreInRange l → IsTied h
+tied-start h l new start places guards owners cells collectors slots names dates jobs deferred job_dates ranges = record {
   sound = sound-start l (desk_of h) (record {
     world = new;
     moment = start;
@@ -175,6 +176,7 @@ tied-start h l new start places guards owners cells collectors slots names dates
     dates = dates;
     jobs = jobs;
     deferred = deferred;
+    job_dates = job_dates;
   }) names ranges;
   guards = λ g. subst (λ gs. GuardsIn h.world.home.readers (map attending h.places.entries.items) (slice_index_or gs g None)) (sym guards) tt;
 }
@@ -192,5 +194,6 @@ answers-plain call given acts none never = record {
   runs = record {
     ascending = λ k lt. absurd (omega (arith, lt));
     exactly = λ j. ((λ c. absurd (omega (arith, c.1))), (λ h. absurd (never h.0 h.2)));
+    unguarded = λ j c. absurd (omega (arith, c.1));
   };
 }

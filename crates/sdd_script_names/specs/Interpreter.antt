@@ -25,6 +25,7 @@ desk_of s =
       dates = s.dates.items;
       jobs = s.jobs;
       deferred = s.deferred.items;
+      job_dates = s.job_dates.items;
     }
 
 -- a guard is that of the participant under whose name it was opened

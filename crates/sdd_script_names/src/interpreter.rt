@@ -33,6 +33,8 @@ pub struct Environment {
     pub jobs: u64,
     /// Of each place of the table of jobs the name of the job that it had last.
     pub deferred: Vec<u64>,
+    /// Of each place of the table of jobs the line in which that was deferred.
+    pub job_dates: Vec<u64>,
 }
 
 /// A script in the middle of a run.
@@ -71,6 +73,7 @@ impl Interpreter {
         let names = vec![in alloc; 0; limits.slots as usize]?;
         let dates = vec![in alloc; 0; limits.slots as usize]?;
         let deferred = vec![in alloc; 0; limits.jobs as usize]?;
+        let job_dates = vec![in alloc; 0; limits.jobs as usize]?;
         let world = World::new(alloc, limits)?;
         Ok(Interpreter {
             hand: Environment {
@@ -87,6 +90,7 @@ impl Interpreter {
                 dates,
                 jobs: 0,
                 deferred,
+                job_dates,
             },
         })
     }

@@ -84,6 +84,7 @@ pub struct SlotsView {
 }
 
 /// What a cell is for.
+#[derive(Clone, Copy, Drop)]
 pub enum CellKind {
     /// It holds an owner that is the only one.
     Owned,

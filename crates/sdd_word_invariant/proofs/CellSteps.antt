@@ -1,5 +1,5 @@
 -- The steps on cells keep all parts.
-use Rattle.std.proofs.Common.{List, [], ◌∷◌, ◌≡◌, None, Some, ℕ, ◌<◌, eqb, map, get_or, set, sym, refl, ap, ◌∙◌, subst, ⊎_elim, arith, get_or-set_other}
+use Rattle.std.proofs.Common.{List, [], ◌∷◌, ◌≡◌, None, Some, ℕ, ◌+◌, ◌<◌, eqb, map, get_or, set, sym, refl, ap, ◌∙◌, subst, ⊎_elim, arith, get_or-set_other}
 use mathlib.Core.Logic.{dite}
 use mathlib.Core.Option.{some}
 use lib.ListN.{get_elem?}
@@ -16,7 +16,7 @@ use Rattle.sdd_word_invariant.specs.Slots.{Sees}
 use Rattle.sdd_word_invariant.specs.Sums.{times}
 use Rattle.sdd_word_invariant.specs.EpochSteps.{Steps}
 use Rattle.sdd_word_invariant.specs.SlotSteps.{seeing}
-use Rattle.sdd_word_invariant.specs.CellSteps.{KnewCell, coming, SwapsCell, ExchangesCell, LooksAtCell, SeesCell, AtCell}
+use Rattle.sdd_word_invariant.specs.CellSteps.{KnewCell, cell_noted, coming, noting, SwapsCell, ExchangesCell, RetagsCell, LooksAtCell, SeesCell, AtCell}
 use Rattle.sdd_word_invariant.specs.WordInvariant.{epoch_of, Parts}
 use Rattle.sdd_word_invariant.proofs.Codes.{sound, held_in, held_which}
 use Rattle.sdd_word_invariant.proofs.Epoch as epochs
@@ -47,26 +47,40 @@ module _ (id : ℕ) (v : View) (live : HasPlace v.epoch) (cell : ℕ) where
     knew one = let f = p.epoch.each id v.epoch (steps.at_epoch id v live ws vs p at) in
         finds_word sizes ws vs p.lone id v at (sym (f.all (λ z. omega arith)) ∙ one) live cell
 
+    -- the cell's word is y, and it has these owners and rights: of a slot's owners there are as many as before in the cell and its own
+    changed : (inside : cell < sizes.cells) (y : ℕ) (owns : List ℕ) (rights : CellsView)
+        → ((j : ℕ) → codes.names j (get_or ws i 0) + times j v.slots.owns ≡ codes.names j y + times j owns) → v.slots.holds ≡ None
+        → Parts sizes (set ws i y) (set vs id (record v { slots = record v.slots { owns = owns }; cells = rights; words = cell_noted cell y v }))
+    changed inside y owns rights as_many free =
+        let w : View = record v { slots = record v.slots { owns = owns }; cells = rights; words = cell_noted cell y v } in
+        let s = p.slots in let f = s.each id v at in record {
+          epoch = seen_after sizes (set ws i y) vs id w
+              (epochs.behind sizes.participants ws (set (map epoch_of vs) id w.epoch) id i y w.epoch (steps.same_epochs id v live ws vs p at)
+              (set_here (map epoch_of vs) id w.epoch (epochs.at_length (map epoch_of vs) id v.epoch (steps.at_epoch id v live ws vs p at))) live (omega arith));
+          slots = cell_step codes sound sizes ws vs s id v at cell y w inside as_many (λ _. refl)
+              record {
+                timed = f.timed;
+                guarded = f.guarded;
+                full = λ j sees. ap codes.full (get_or-set_other ws i (slot_word sizes j) y 0 (λ e. omega arith)) ∙ f.full j sees;
+                held = λ j h. let c : None ≡ Some j = sym free ∙ h in cc;
+              }
+              (let o = s.two id id v v at at in record { since = o.since; looked = o.looked })
+              (λ j u _ e. let o = s.two id j v u at e in let o' = s.two j id u v e at in
+              (record { since = o.since; looked = o.looked }, record { since = o'.since; looked = o'.looked }));
+          lone = lone_written sizes ws vs p.lone id v at p.epoch live cell y w refl;
+        }
+
     -- what it has goes into the cell, and what the cell held comes
     comes : (inside : cell < sizes.cells) (y : ℕ) (rights : CellsView) → v.slots.owns ≡ held_slots y → v.slots.holds ≡ None
         → Parts sizes (set ws i y) (set vs id (coming cell (get_or ws i 0) y rights v))
-    comes inside y rights owns free = let x : ℕ = get_or ws i 0 in let w : View = coming cell x y rights v in let s = p.slots in let f = s.each id v at in record {
-      epoch = seen_after sizes (set ws i y) vs id w
-          (epochs.behind sizes.participants ws (set (map epoch_of vs) id w.epoch) id i y w.epoch (steps.same_epochs id v live ws vs p at)
-          (set_here (map epoch_of vs) id w.epoch (epochs.at_length (map epoch_of vs) id v.epoch (steps.at_epoch id v live ws vs p at))) live (omega arith));
-      slots = cell_step codes sound sizes ws vs s id v at cell y w inside
-          (λ j. let e = held_in y j in let e' = held_in x j in let o = ap (times j) owns in omega arith) (λ _. refl)
-          record {
-            timed = f.timed;
-            guarded = f.guarded;
-            full = λ j sees. ap codes.full (get_or-set_other ws i (slot_word sizes j) y 0 (λ e. omega arith)) ∙ f.full j sees;
-            held = λ j h. let c : None ≡ Some j = sym free ∙ h in cc;
-          }
-          (let o = s.two id id v v at at in record { since = o.since; looked = o.looked })
-          (λ j u _ e. let o = s.two id j v u at e in let o' = s.two j id u v e at in
-          (record { since = o.since; looked = o.looked }, record { since = o'.since; looked = o'.looked }));
-      lone = lone_written sizes ws vs p.lone id v at p.epoch live cell y w refl;
-    }
+    comes inside y rights owns free = let x : ℕ = get_or ws i 0 in changed inside y (held_slots x) rights
+        (λ j. let e = held_in y j in let e' = held_in x j in let o = ap (times j) owns in omega arith) free
+
+    -- the cell holds what it held
+    stays : (inside : cell < sizes.cells) (y : ℕ) → held_slots y ≡ held_slots (get_or ws i 0) → v.slots.holds ≡ None
+        → Parts sizes (set ws i y) (set vs id (noting cell y v))
+    stays inside y same free = let x : ℕ = get_or ws i 0 in changed inside y v.slots.owns v.cells
+        (λ j. let e = held_in y j in let e' = held_in x j in let o = ap (times j) same in omega arith) free
 
   -- a swap
   pub swaps : (y : ℕ) (rights : CellsView) → cell < sizes.cells → v.slots.owns ≡ held_slots y → v.slots.holds ≡ None
@@ -87,6 +101,26 @@ module _ (id : ℕ) (v : View) (live : HasPlace v.epoch) (cell : ℕ) where
         comes ws vs p at inside y rights owns free,
         λ other is. (
           (λ _. ap (λ (k : ℕ). coming k x y rights v) (same_cell other is)),
+          (λ no. absurd (no hit)),
+          knew_too other is x told,
+        ),
+      ))
+      (λ miss. (
+        v,
+        steps.unmoved id v live ws vs p at i,
+        λ other is. ((λ e. absurd (miss e)), (λ _. refl), knew_too other is x told),
+      ))
+
+  -- an exchange by which the cell holds what it held, where its word is old
+  pub retags : (old y : ℕ) → cell < sizes.cells → held_slots y ≡ held_slots old → v.slots.holds ≡ None
+      → Steps (Parts sizes) id v i (λ x. either (eqb x old) y x) (AtCell (RetagsCell old y) i v)
+  retags old y inside same free ws vs p at small = let x : ℕ = get_or ws i 0 in let told = knew ws vs p at in
+      exchanged x old y (λ z. (u : View) × Parts sizes (set ws i z) (set vs id u) × AtCell (RetagsCell old y) i v x u)
+      (λ hit. (
+        noting cell y v,
+        stays ws vs p at inside y (same ∙ ap held_slots (sym hit)) free,
+        λ other is. (
+          (λ _. ap (λ (k : ℕ). noting k y v) (same_cell other is)),
           (λ no. absurd (no hit)),
           knew_too other is x told,
         ),

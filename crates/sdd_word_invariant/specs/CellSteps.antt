@@ -29,6 +29,14 @@ SwapsCell y rights cell v x w = (w ≡ coming cell x y rights v) × KnewCell cel
 abbrev pub ExchangesCell : ℕ → ℕ → CellsView → ℕ → View → ℕ → View → Type 0
 ExchangesCell old y rights cell v x w = (x ≡ old → w ≡ coming cell x y rights v) × (x ≢ old → w ≡ v) × KnewCell cell v x
 
+-- the word of a cell is y, and all else as it was
+abbrev pub noting : ℕ → ℕ → View → View
+noting cell y v = record v { words = cell_noted cell y v }
+
+-- the word y comes in place of old, where the cell's word is old
+abbrev pub RetagsCell : ℕ → ℕ → ℕ → View → ℕ → View → Type 0
+RetagsCell old y cell v x w = (x ≡ old → w ≡ noting cell y v) × (x ≢ old → w ≡ v) × KnewCell cell v x
+
 -- the word of a cell is looked at
 abbrev pub LooksAtCell : ℕ → View → ℕ → View → Type 0
 LooksAtCell cell v x w = (w ≡ v) × KnewCell cell v x

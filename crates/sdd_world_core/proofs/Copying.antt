@@ -9,7 +9,7 @@ use Rattle.sdd_space.specs.WorldChanges.{with_cell, with_standing}
 use Rattle.sdd_space.specs.World.{standing_at}
 use Rattle.sdd_world_core.specs.WorldCore.{WorldCore}
 
-module _ {T : Type 0} (v m n : WorldCore T) (k : ℕ) (old : CellContents) (new : n ≡ record m { world = with_cell m.world k old })
+module _ {T J : Type 0} (v m n : WorldCore T J) (k : ℕ) (old : CellContents) (new : n ≡ record m { world = with_cell m.world k old })
     (free : IsEmptyAt m.world.cells k) where
   -- there is one owner more of what was held, if anything was
   abbrev Shares : Option ℕ → Type 0
@@ -25,12 +25,12 @@ module _ {T : Type 0} (v m n : WorldCore T) (k : ℕ) (old : CellContents) (new 
 
   holds : (held : Option ℕ) → Shares held → IsEmptyAt v.world.cells k × Holds held
   holds None same = (
-    subst (λ (x : WorldCore T). IsEmptyAt x.world.cells k) same free,
-    new ∙ ap (λ (x : WorldCore T). record x { world = with_cell x.world k old }) same,
+    subst (λ (x : WorldCore T J). IsEmptyAt x.world.cells k) same free,
+    new ∙ ap (λ (x : WorldCore T J). record x { world = with_cell x.world k old }) same,
   )
   holds (Some slot) (owners, shared, few, more) = (
-    subst (λ (x : WorldCore T). IsEmptyAt x.world.cells k) more free,
-    (owners, shared, few, new ∙ ap (λ (x : WorldCore T). record x { world = with_cell x.world k old }) more),
+    subst (λ (x : WorldCore T J). IsEmptyAt x.world.cells k) more free,
+    (owners, shared, few, new ∙ ap (λ (x : WorldCore T J). record x { world = with_cell x.world k old }) more),
   )
 
   pub copied : (held : Option ℕ) → old.held ≡ held → Shares held → IsEmptyAt v.world.cells k × Holds old.held

@@ -6,3 +6,4 @@ pub mod Letting
 pub mod Sound
 pub mod InPlace
 pub mod Several
+pub mod Deferring

@@ -61,5 +61,5 @@ pub record AreLentOf {T : Type 0} (w : World T) (l : Loans) : Type 0 where
   pub lent : AllLent (IsLentTo w l) l.stakes
   pub readers : HasReaders w
 
-abbrev pub AreLent : {T : Type 0} → WorldCore T → Type 0
+abbrev pub AreLent : {T J : Type 0} → WorldCore T J → Type 0
 AreLent c = AreLentOf c.world c.lending

@@ -9,10 +9,15 @@ use Rattle.sdd_space.specs.OwnerOrCell.{OwnerOrCell, ValuesAreOf}
 use Rattle.sdd_space.specs.World.{World, is_loose}
 use Rattle.sdd_space.specs.Loans.{Loans}
 
--- a world, and what of its values is lent
-pub record WorldCore (T : Type 0) : Type 0 where
+-- a world, what of its values is lent, and the jobs that wait, each at its place of the table
+pub record WorldCore (T J : Type 0) : Type 0 where
   pub world : World T
   pub lending : Loans
+  pub deferred : Entries J
+
+-- what a value leaves as it is that gives up what it holds: what is lent, and the jobs that wait
+abbrev pub kept_of : {T J : Type 0} → WorldCore T J → Loans × Entries J
+kept_of c = (c.lending, c.deferred)
 
 -- there is room for each slot and each job to wait, cells hold owners of these slots, values hold what is of this home, and each place may have a reader
 pub record IsSound {T : Type 0} (holds : T → List OwnerOrCell) (t : EpochState) (s : Slots T) (c : Cells) (jobs : Entries (Unit {0}))

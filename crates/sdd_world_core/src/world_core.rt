@@ -1,4 +1,5 @@
-ghost use Rattle.std.specs.Prelude.{◌≡◌, ◌+◌, ◌^◌, ◌<◌, [], None, replicate, IfOk, IsTrue, ◌↔◌};
+ghost use Rattle.std.specs.Prelude.{◌≡◌, ℕ, ◌+◌, ◌^◌, ◌<◌, [], None, replicate, IfOk, IsTrue, ◌↔◌};
+ghost use Rattle.sdd_participants.specs.Slab.{entry_at};
 ghost use Rattle.sdd_values.specs.Block.{unlent};
 ghost use Rattle.sdd_standings.specs.Cells.{null_pointer};
 ghost use Rattle.sdd_participants.specs.EpochState as time;
@@ -37,9 +38,10 @@ pub struct WorldCore<T: Item<T>, J: Job> {
 }
 
 impl<T: Item<T>, J: Job> Model for WorldCore<T, J> {
+    ghost use Rattle.sdd_participants.specs.Jobs.{places_of};
     ghost use Rattle.sdd_world_core.specs.WorldCore.{WorldCore, IsSound};
 
-    ghost Value = { WorldCore T };
+    ghost Value = { WorldCore T J };
 
     ghost view = { λ c. record {
       world = record {
@@ -49,13 +51,14 @@ impl<T: Item<T>, J: Job> Model for WorldCore<T, J> {
         values = c.slots.values;
         cells = c.cells.cells;
         pointers = c.cells.pointers;
-        jobs = c.jobs;
+        jobs = places_of c.jobs;
         tally = c.tally;
       };
       lending = record { stakes = c.slots.stakes; tenures = c.tenures };
+      deferred = c.jobs;
     } };
 
-    ghost invariant = { λ c. IsSound T.holds c.time c.slots c.cells c.jobs c.tenures };
+    ghost invariant = { λ c. IsSound T.holds c.time c.slots c.cells (places_of c.jobs) c.tenures };
 }
 
 impl<T: Item<T>, J: Job> WorldCore<T, J> {
@@ -74,35 +77,43 @@ impl<T: Item<T>, J: Job> WorldCore<T, J> {
         requires nesting { time.nesting < 2 ^ 32 }
         ensures blank { IfOk result (λ core. IsBlank time slots cells jobs core.world) }
         ensures lent { IfOk result AreLent }
+        ensures idle { IfOk result (λ core. core.deferred ≡ replicate jobs None) }
     {
         let tenures = ReadSections::new(alloc, participants as usize)?;
         let jobs = Jobs::new(alloc, jobs)?;
-        let (slots, cells) = free_tables(alloc, slots, cells, participants)?;
-        Ok(WorldCore {
-            time,
-            slots,
-            cells,
-            jobs,
-            tenures,
-            tally: RunningTally::new(),
-        })
+        match free_tables(alloc, slots, cells, participants) {
+            Ok((slots, cells)) => Ok(WorldCore {
+                time,
+                slots,
+                cells,
+                jobs,
+                tenures,
+                tally: RunningTally::new(),
+            }),
+            Err(refused) => {
+                jobs.destroy();
+                Err(refused)
+            }
+        }
     }
 
-    /// Lets go of a core whose slots and cells are all free.
+    /// Lets go of a core whose slots and cells are all free, and with which no job waits.
     pub fn destroy(self) -> Tally
-        requires { NothingIsOut self.world }
+        requires unused { NothingIsOut self.world }
+        requires idle { (number : ℕ) → entry_at self.world.jobs number ≡ None }
         ensures { result ≡ self.world.tally }
     {
         let WorldCore {
             time: _,
             slots,
             cells,
-            jobs: _,
+            jobs,
             tenures: _,
             tally,
         } = self;
         slots.destroy();
         cells.destroy();
+        jobs.destroy();
         tally.total()
     }
 

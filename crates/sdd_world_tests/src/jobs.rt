@@ -4,7 +4,7 @@ ghost use Rattle.sdd_space.specs.CallerId.{IsSeated};
 
 use crate::steps::AMPLE;
 use sdd_core::{Limits, Refused};
-use sdd_participants::{Deferred, Job};
+use sdd_participants::{BoxedJob, Deferred, Job};
 use sdd_space::{Deferrals, Guard, Guards};
 use sdd_world::World;
 use std::process::Abort;
@@ -18,8 +18,8 @@ struct Adds {
     amount: u64,
 }
 
-impl Job for Adds {
-    fn run(&mut self) {
+impl BoxedJob for Adds {
+    fn run_boxed(&mut self) {
         self.total.fetch_add(self.amount, Ordering::SeqCst);
     }
 }
@@ -62,6 +62,14 @@ fn deferred<S: Guards<u64> + Deferrals<u64>>(
     answer
 }
 
+/// The job waits.
+fn waits<J: Job>(rt: &impl Abort, answer: Result<(), (J, Refused)>) {
+    match answer {
+        Ok(()) => {}
+        Err((_job, refused)) => panic!(rt; "refused: {refused:?}"),
+    }
+}
+
 /// Defers two jobs where one may wait. The second one comes back, and once the first one ran it waits. What it was refused with.
 fn defers_two<S: Guards<u64> + Deferrals<u64>>(
     rt: &impl Abort,
@@ -73,12 +81,12 @@ fn defers_two<S: Guards<u64> + Deferrals<u64>>(
     requires { IsSeated (S.seat s.old) }
     ensures { S.seat s.new ≡ S.seat s.old }
 {
-    assert!(rt; deferred(rt, s, first).is_ok());
+    waits(rt, deferred(rt, s, first));
     match deferred(rt, s, second) {
         Ok(()) => panic!(rt; "no place is free"),
         Err((job, refused)) => {
             shows(rt, s, total, &[(0, 0), (1, 0), (2, 0), (3, 7), (4, 7)]);
-            assert!(rt; deferred(rt, s, job).is_ok());
+            waits(rt, deferred(rt, s, job));
             refused
         }
     }
@@ -95,7 +103,7 @@ fn adds_seven<R: Abort + AllocGlobal>(rt: &R, total: &Arc<AtomicU64>) -> Deferre
         total: Arc::try_clone(total).expect(rt, "the count has room"),
         amount: 7,
     };
-    let job: Box<dyn Job + Send> = Box::new(rt.alloc(), adds).expect(rt, "memory is there");
+    let job: Box<dyn BoxedJob + Send> = Box::new(rt.alloc(), adds).expect(rt, "memory is there");
     Deferred::Boxed(job)
 }
 

@@ -25,6 +25,7 @@ pub struct DetachedLocal<J: Job> {
     due: DueItems,
     known: FreeSlotHints,
     jobs: DeferredJobs<J>,
+    next_cell: u32,
     tenure: ReadSection,
     tally: RunningTally,
 }
@@ -32,9 +33,8 @@ pub struct DetachedLocal<J: Job> {
 impl<J: Job> Model for DetachedLocal<J> {
     ghost use Rattle.sdd_domain.specs.LocalState.{LocalState};
     ghost use Rattle.sdd_domain.specs.DetachedLocal.{IsDormant};
-    ghost use Rattle.sdd_domain.specs.Jobs.{places_of};
 
-    ghost Value = { LocalState };
+    ghost Value = { LocalState J };
 
     ghost view = { λ d. record {
       home = d.token.table_id;
@@ -52,7 +52,7 @@ impl<J: Job> Model for DetachedLocal<J> {
       filled = d.token.me.0.stakes.filled;
       words = d.token.me.0.words;
       due = d.due.items;
-      jobs = places_of d.jobs;
+      jobs = d.jobs;
     } };
 
     ghost invariant = { λ d. IsDormant d.limits d.place d.own d.due d.known.slots d.jobs d.tenure d.token d.tally };
@@ -74,6 +74,7 @@ impl<T: Item<T>, J: Job> LocalCore<'_, T, J> {
             due,
             known,
             jobs,
+            next_cell,
             tenure,
             tally,
         } = self;
@@ -85,6 +86,7 @@ impl<T: Item<T>, J: Job> LocalCore<'_, T, J> {
             due,
             known,
             jobs,
+            next_cell,
             tenure,
             tally,
         }
@@ -120,6 +122,7 @@ impl<J: Job> DetachedLocal<J> {
             due,
             known,
             jobs,
+            next_cell,
             tenure,
             tally,
         } = self;
@@ -132,6 +135,7 @@ impl<J: Job> DetachedLocal<J> {
             due,
             known,
             jobs,
+            next_cell,
             tenure,
             tally,
         })

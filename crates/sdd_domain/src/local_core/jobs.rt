@@ -19,7 +19,7 @@ impl<'d, T: Item<T>, J: Job> LocalCore<'d, T, J> {
     #[inline]
     pub(crate) fn defer_execute(&mut self, job: J) -> Result<u32, (J, Refused)>
         ensures { MatchResult result
-            (λ place. (count : ℕ) × DefersTo place count self.old self.new)
+            (λ place. (count : ℕ) × DefersTo place count job self.old self.new)
             (λ e. (e.0 ≡ job) × (self.new ≡ self.old) × ((e.1 ≡ Refused.NoJob) ⊎ ((e.1 ≡ Refused.Contended) × ¬ (IsLone self.old)))
             × (IsLone self.old → AllPlacesTaken self.old)) }
     {
@@ -42,7 +42,7 @@ impl<'d, T: Item<T>, J: Job> LocalCore<'d, T, J> {
     /// Takes the job out that is due before all others, in this place, which is given back. The job is to run: it hasn't so far.
     pub(crate) fn take_job(&mut self, place: u32) -> J
         requires first { (rest : List Entry) × (self.old.due ≡ waiting_job place ∷ rest) }
-        ensures { TakesJob place self.old self.new }
+        ensures { TakesJob place result self.old self.new }
     {
         self.due.next();
         let Some(job) = self.jobs.take(place) else {

@@ -2,6 +2,7 @@
 ghost use Rattle.std.specs.Prelude.{◌≡◌, ℕ, ◌+◌, ◌≤◌, Contains, [], length, vec_capacity};
 ghost use Rattle.sdd_participants.specs.declared.waiting.LimboEntry.TheVariants.{Item};
 ghost use Rattle.sdd_participants.specs.EpochState as time;
+ghost use Rattle.sdd_participants.specs.Jobs.{jobs_without_all};
 ghost use Rattle.sdd_space.specs.World.{most, weight, KeepsSizes, place_at, HasPlace};
 ghost use Rattle.sdd_space.specs.WorldChanges.{rotated, settled, changed};
 ghost use Rattle.sdd_values.specs.Block.{IsUnlent};
@@ -18,7 +19,10 @@ impl<T: Item<T>, J: Job> WorldCore<T, J> {
         requires empty { spare.old.items ≡ [] }
         requires reserved { most self.old.world ≤ vec_capacity spare.old }
         requires home { (k : ℕ) → Contains (time.due_next (place_at self.old.world place)) (Item k) → IsUnlent self.old.lending.stakes k }
-        ensures changed { self.new ≡ record self.old { world = changed T.holds self.old.world place } }
+        ensures changed { self.new ≡ record self.old {
+          world = changed T.holds self.old.world place;
+          deferred = jobs_without_all self.old.deferred (time.due_next (place_at self.old.world place));
+        } }
         ensures sizes { KeepsSizes self.old.world self.new.world }
         ensures empty { spare.new.items ≡ [] }
         ensures reserved { most self.new.world ≤ vec_capacity spare.new }
@@ -37,7 +41,10 @@ impl<T: Item<T>, J: Job> WorldCore<T, J> {
         requires empty { spare.old.items ≡ [] }
         requires reserved { most self.old.world ≤ vec_capacity spare.old }
         requires home { (k : ℕ) → Contains (time.due_next (place_at self.old.world place)) (Item k) → IsUnlent self.old.lending.stakes k }
-        ensures changed { self.new ≡ record self.old { world = changed T.holds self.old.world place } }
+        ensures changed { self.new ≡ record self.old {
+          world = changed T.holds self.old.world place;
+          deferred = jobs_without_all self.old.deferred (time.due_next (place_at self.old.world place));
+        } }
         ensures sizes { KeepsSizes self.old.world self.new.world }
         ensures empty { spare.new.items ≡ [] }
         ensures reserved { most self.new.world ≤ vec_capacity spare.new }
@@ -52,7 +59,10 @@ impl<T: Item<T>, J: Job> WorldCore<T, J> {
     fn catch_up(&mut self, place: usize)
         requires place { HasPlace self.old.world place }
         requires clear { (place_at self.old.world place).bags.waiting ≡ [] }
-        ensures changed { self.new ≡ record self.old { world = changed T.holds self.old.world place } }
+        ensures changed { self.new ≡ record self.old {
+          world = changed T.holds self.old.world place;
+          deferred = jobs_without_all self.old.deferred (time.due_next (place_at self.old.world place));
+        } }
         ensures sizes { KeepsSizes self.old.world self.new.world }
     {
         let found = self.time.count();

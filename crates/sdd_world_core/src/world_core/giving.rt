@@ -14,6 +14,8 @@ ghost use Rattle.sdd_space.specs.World.{KeepsSizes, place_at, HasPlace};
 ghost use Rattle.sdd_space.specs.WorldChanges.{dropped, given, given_all};
 ghost use Rattle.sdd_space.specs.InPlace.{MayInPlace};
 ghost use Rattle.sdd_space.specs.WorldInvariant.{IsWhole};
+ghost use Rattle.sdd_participants.specs.Slab.{Entries};
+ghost use Rattle.sdd_world_core.specs.WorldCore.{kept_of};
 ghost use Rattle.sdd_world_core.specs.Lending.{AreLent};
 
 use super::WorldCore;
@@ -44,9 +46,9 @@ impl<T: Item<T>, J: Job> Giver<T> for Retirement<'_, T, J> {
 
     ghost known = { λ _. nothing_told };
 
-    ghost Kept = { Loans };
+    ghost Kept = { Loans × Entries J };
 
-    ghost kept = { λ r. r.core.now.lending };
+    ghost kept = { λ r. kept_of r.core.now };
 
     fn owned(&mut self, owner: Owned<T>)
         requires seated { IsSeated (seat_for self.old.core.now.world self.old.place self.old.core.ghost_name) }
@@ -55,7 +57,7 @@ impl<T: Item<T>, J: Job> Giver<T> for Retirement<'_, T, J> {
             seat_for self.old.core.now.world self.old.place self.old.core.ghost_name }
         ensures own { KeepsMoreWaiting (place_at self.old.core.now.world self.old.place) (place_at self.new.core.now.world self.new.place) }
         ensures known { KnowsOn nothing_told nothing_told }
-        ensures kept { self.new.core.now.lending ≡ self.old.core.now.lending }
+        ensures kept { kept_of self.new.core.now ≡ kept_of self.old.core.now }
         ensures exact { IsExact (seat_for self.old.core.now.world self.old.place self.old.core.ghost_name) →
             self.new.core.now.world ≡ given self.old.core.now.world self.old.place (holding_of owner) }
     {
@@ -73,7 +75,7 @@ impl<T: Item<T>, J: Job> Giver<T> for Retirement<'_, T, J> {
             seat_for self.old.core.now.world self.old.place self.old.core.ghost_name }
         ensures own { KeepsMoreWaiting (place_at self.old.core.now.world self.old.place) (place_at self.new.core.now.world self.new.place) }
         ensures known { KnowsOn nothing_told nothing_told }
-        ensures kept { self.new.core.now.lending ≡ self.old.core.now.lending }
+        ensures kept { kept_of self.new.core.now ≡ kept_of self.old.core.now }
         ensures exact { IsExact (seat_for self.old.core.now.world self.old.place self.old.core.ghost_name) →
             self.new.core.now.world ≡ given self.old.core.now.world self.old.place (shared.holding_of owner) }
     {
@@ -91,7 +93,7 @@ impl<T: Item<T>, J: Job> Giver<T> for Retirement<'_, T, J> {
             seat_for self.old.core.now.world self.old.place self.old.core.ghost_name }
         ensures own { KeepsMoreWaiting (place_at self.old.core.now.world self.old.place) (place_at self.new.core.now.world self.new.place) }
         ensures known { KnowsOn nothing_told nothing_told }
-        ensures kept { self.new.core.now.lending ≡ self.old.core.now.lending }
+        ensures kept { kept_of self.new.core.now ≡ kept_of self.old.core.now }
         ensures exact { IsExact (seat_for self.old.core.now.world self.old.place self.old.core.ghost_name) →
             self.new.core.now.world ≡ given self.old.core.now.world self.old.place (cell_holding cell) }
     {
@@ -105,7 +107,7 @@ impl<T: Item<T>, J: Job> Giver<T> for Retirement<'_, T, J> {
             seat_for self.old.core.now.world self.old.place self.old.core.ghost_name }
         ensures own { KeepsMoreWaiting (place_at self.old.core.now.world self.old.place) (place_at self.new.core.now.world self.new.place) }
         ensures known { KnowsOn nothing_told nothing_told }
-        ensures kept { self.new.core.now.lending ≡ self.old.core.now.lending }
+        ensures kept { kept_of self.new.core.now ≡ kept_of self.old.core.now }
         ensures exact { IsExact (seat_for self.old.core.now.world self.old.place self.old.core.ghost_name) →
             self.new.core.now.world ≡ given self.old.core.now.world self.old.place (shared.cell_holding cell) }
     {
@@ -123,7 +125,7 @@ impl<T: Item<T>, J: Job> Giver<T> for Retirement<'_, T, J> {
             seat_for self.old.core.now.world self.old.place self.old.core.ghost_name }
         ensures own { KeepsMoreWaiting (place_at self.old.core.now.world self.old.place) (place_at self.new.core.now.world self.new.place) }
         ensures known { KnowsOn nothing_told nothing_told }
-        ensures kept { self.new.core.now.lending ≡ self.old.core.now.lending }
+        ensures kept { kept_of self.new.core.now ≡ kept_of self.old.core.now }
         ensures exact { IsExact (seat_for self.old.core.now.world self.old.place self.old.core.ghost_name) →
             self.new.core.now.world ≡ given self.old.core.now.world self.old.place (raw_cell.cell_holding cell) }
     {

@@ -2,6 +2,7 @@
 ghost use Rattle.std.specs.Prelude.{◌≡◌, ℕ, ◌^◌, ◌<◌, ◌≤◌, true, false, Contains, [], vec_capacity};
 ghost use Rattle.sdd_participants.specs.declared.waiting.LimboEntry.TheVariants.{Item};
 ghost use Rattle.sdd_participants.specs.EpochState as time;
+ghost use Rattle.sdd_participants.specs.Jobs.{jobs_without_all};
 ghost use Rattle.sdd_space.specs.World.{most, KeepsSizes, IsPlaceOf};
 ghost use Rattle.sdd_space.specs.WorldChanges.{opened, reclaims, closed, stirred, accelerated};
 ghost use Rattle.sdd_space.specs.WorldInvariant.{IsWhole};
@@ -24,6 +25,7 @@ impl<T: Item<T>, J: Job> WorldCore<T, J> {
         requires empty { spare.old.items ≡ [] }
         requires reserved { most self.old.world ≤ vec_capacity spare.old }
         ensures opened { self.new.world ≡ opened T.holds self.old.world place }
+        ensures jobs { self.new.deferred ≡ jobs_without_all self.old.deferred (reclaims self.old.world place) }
         ensures sizes { KeepsSizes self.old.world self.new.world }
         ensures whole { IsWhole self.new.world }
         ensures lent { AreLent self.new }
@@ -43,7 +45,10 @@ impl<T: Item<T>, J: Job> WorldCore<T, J> {
         requires home { (k : ℕ) → Contains (reclaims self.old.world place) (Item k) → IsUnlent self.old.lending.stakes k }
         requires empty { spare.old.items ≡ [] }
         requires reserved { most self.old.world ≤ vec_capacity spare.old }
-        ensures opened { self.new ≡ record self.old { world = opened T.holds self.old.world place } }
+        ensures opened { self.new ≡ record self.old {
+          world = opened T.holds self.old.world place;
+          deferred = jobs_without_all self.old.deferred (reclaims self.old.world place);
+        } }
         ensures sizes { KeepsSizes self.old.world self.new.world }
         ensures whole { IsWhole self.old.world → IsWhole self.new.world }
         ensures empty { spare.new.items ≡ [] }
@@ -77,6 +82,7 @@ impl<T: Item<T>, J: Job> WorldCore<T, J> {
         requires lent { AreLent self.old }
         requires part { IsPartAt self.old.world.home.readers place part }
         ensures closed { self.new.world ≡ closed self.old.world place }
+        ensures jobs { self.new.deferred ≡ self.old.deferred }
         ensures sizes { KeepsSizes self.old.world self.new.world }
         ensures whole { IsWhole self.new.world }
         ensures lent { AreLent self.new }

@@ -23,6 +23,7 @@ impl<T: Item<T>, J: Job> WorldCore<T, J> {
         requires part { IsPartAt self.old.world.home.readers place part.now }
         ensures value { value_at self.new.world (number_of right.now) ≡ Some result.now }
         ensures world { self.new.world ≡ self.old.world }
+        ensures jobs { self.new.deferred ≡ self.old.deferred }
         ensures lent { AreLent self.new }
     {
         let slot = self.slots.slot_of(right);
@@ -39,6 +40,7 @@ impl<T: Item<T>, J: Job> WorldCore<T, J> {
         ensures owned { IfSome (slot_named result) (λ slot. IsOwnedBy (kind_of cell.now) (standing_at self.old.world slot)) }
         ensures shown { PtrIsShown (λ k value. value_at self.old.world k ≡ Some value) result }
         ensures world { self.new.world ≡ self.old.world }
+        ensures jobs { self.new.deferred ≡ self.old.deferred }
         ensures lent { AreLent self.new }
     {
         let tag = self.cells.get(cell).tag;
@@ -56,6 +58,7 @@ impl<T: Item<T>, J: Job> WorldCore<T, J> {
         requires part { IsPartAt self.old.world.home.readers place part.now }
         ensures value { value_at self.new.world slot ≡ Some result.now }
         ensures world { self.new.world ≡ self.old.world }
+        ensures jobs { self.new.deferred ≡ self.old.deferred }
         ensures lent { AreLent self.new }
     {
         self.tenures.agree(place, part);
@@ -70,6 +73,7 @@ impl<T: Item<T>, J: Job> WorldCore<T, J> {
         ensures raw { IsSome result ↔ (standing_at self.old.world slot ≡ Some Standing.Raw) }
         ensures value { IfSome result (λ value. value_at self.new.world slot ≡ Some value.now) }
         ensures world { self.new.world ≡ self.old.world }
+        ensures jobs { self.new.deferred ≡ self.old.deferred }
         ensures lent { AreLent self.new }
     {
         let Some(Standing::Raw) = self.slots.standing(slot) else {

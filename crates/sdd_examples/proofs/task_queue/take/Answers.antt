@@ -4,7 +4,7 @@ use Rattle.sdd_space.specs.CallerId.{CallerId, IsExact}
 use Rattle.sdd_space.specs.Shared.{slot_of}
 use Rattle.sdd_space.specs.World.{World}
 use Rattle.sdd_lists.specs.Entries.{value_of}
-use Rattle.sdd_lists.specs.Values.{HasValues}
+use Rattle.sdd_lists.specs.Values.{QueueHas}
 use Rattle.sdd_examples.proofs.task_queue.take.Goals as goal
 
 pub returns-in-Ok-Some-clause-tasks : goal.returns-in-Ok-Some-clause-tasks
@@ -19,8 +19,9 @@ returns-in-Ok-Some-clause-tasks g c = λ e tasks has.
     let same = c.get_guarded_ref.ensures.exact (subst (λ (s : CallerId). IsExact s) (sym at1) e) in
     let gone = (c.release.ensures.released (subst (λ (s : CallerId). IsExact s) (sym at2) e)).world in (
       ap (λ (v : _). Some v) (c.as_ref-task.ensures ∙ ap value_of value) ∙ sym popped.1.2,
-      subst (λ (y : World _). HasValues y c.args.queue.now (drop 1 tasks)) (sym gone) (c.releases_keep_values.ensures _ _ slot c.args.queue.now (drop 1 tasks)
-          (subst (λ (y : World _). HasValues y c.args.queue.now (drop 1 tasks)) (sym same) popped.0)),
+      subst (λ (y : World _). QueueHas y c.args.queue.now (drop 1 tasks)) (sym gone)
+          (c.releases_keep_values.ensures.queue _ _ slot c.args.queue.now (drop 1 tasks)
+          (subst (λ (y : World _). QueueHas y c.args.queue.now (drop 1 tasks)) (sym same) popped.0)),
     )
 
 pub returns-in-Ok-None-clause-tasks : goal.returns-in-Ok-None-clause-tasks

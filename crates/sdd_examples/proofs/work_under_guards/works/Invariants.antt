@@ -1,4 +1,4 @@
-use Rattle.std.proofs.Common.{◌≡◌, ◌≤◌, length}
+use Rattle.std.proofs.Common.{◌≡◌, ◌≤◌, ◌++◌, List, length}
 use Rattle.std.specs.Prelude.{◌-◌}
 use Rattle.sdd_world.specs.Place.{index_of}
 use Rattle.sdd_examples.proofs.PassedWork.{HavePassedWork}
@@ -8,6 +8,7 @@ abbrev pub invariant-loop-value : goal.invariant-loop-value
 invariant-loop-value g l = record {
   fewer : length l.values.items ≤ length l.fn.values.items;
   passed : HavePassedWork g.T.Item.holds (index_of l.place) (length l.fn.values.items - length l.values.items) l.fn.world l.world;
+  rest : (used : List g.row.T.Denot) × (l.fn.values.items ≡ l.values.items ++ used);
   home : l.world.home ≡ l.fn.world.home;
 }
 

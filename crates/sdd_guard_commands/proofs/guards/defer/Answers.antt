@@ -27,8 +27,8 @@ invariant_of-stage-2 c =
     let h = c.stage.inside.hand in
     let taken = c.in-Ok.ensures.deferred in
     (acts-deferred h c.stage.invariant c.is_whole.ensures c.args.name _ c.in-Some.ensures.found.0 c.args.guard c.in-Ok.place _
-    (with_item h.deferred c.in-Ok.place h.jobs) _ (record { 0 = h.jobs }) c.in-Some.ensures.valid taken.0 taken.1 refl refl refl
-    (rw (← c.stage.view_is) at c.requires.line)).0
+    (with_item h.deferred c.in-Ok.place h.jobs) (with_item h.job_dates c.in-Ok.place h.moment) _ (record { 0 = h.jobs }) c.in-Some.ensures.valid
+    taken.0 taken.1 refl refl refl refl (rw (← c.stage.view_is) at c.requires.line)).0
 
 pub returns : goal.returns
 returns c =
@@ -36,6 +36,6 @@ returns c =
     let taken = c.in-Ok.ensures.deferred in
     record {
       acts = rw (← c.stage.view_is) (acts-deferred h c.stage.invariant c.is_whole.ensures c.args.name _ c.in-Some.ensures.found.0 c.args.guard c.in-Ok.place _
-          (with_item h.deferred c.in-Ok.place h.jobs) _ (record { 0 = h.jobs }) c.in-Some.ensures.valid taken.0 taken.1 refl refl refl
-          (rw (← c.stage.view_is) at c.requires.line)).1;
+          (with_item h.deferred c.in-Ok.place h.jobs) (with_item h.job_dates c.in-Ok.place h.moment) _ (record { 0 = h.jobs }) c.in-Some.ensures.valid
+          taken.0 taken.1 refl refl refl refl (rw (← c.stage.view_is) at c.requires.line)).1;
     }

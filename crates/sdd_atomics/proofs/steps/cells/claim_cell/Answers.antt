@@ -1,33 +1,66 @@
-use Rattle.std.proofs.Common.{Bool, true, false, sym, ◌∙◌, subst, arith}
-use Rattle.sdd_rights.specs.Owner.{cell_kind}
+use Rattle.std.proofs.Common.{Bool, true, false, sym, ap, ◌∙◌, subst, arith, ℕ, List}
+use Rattle.sdd_views.specs.declared.CellKind.{CellKind}
+use Rattle.sdd_views.specs.declared.CellKind.TheVariants.{Owned, Shared, Raw, Collector}
+use Rattle.sdd_views.specs.declared.ShownValue.{ShownValue}
 use Rattle.sdd_domain_invariant.specs.CellSteps.{ClaimsCell, OfCell}
-use Rattle.sdd_atomics.proofs.Cells.{cell_moved, may_claim}
+use Rattle.sdd_atomics.specs.Cells.{FitsCell}
+use Rattle.sdd_atomics.proofs.Cells.{cell_moved, may_claim, may_claim_bare}
 use Rattle.sdd_atomics.proofs.steps.cells.claim_cell.Goals as goal
 
 pub compare_exchange-requires : goal.compare_exchange-requires
 compare_exchange-requires c = let r = c.requires in (
   r.home,
   omega arith,
-  may_claim _ _ _ _ _ r.knows.0 r.knows.1 r.place r.rests c.args.cell r.inside _ c.cell_word.ensures c.args.word r.own.0 r.own.1 r.own.2 true
-      (λ s has. r.kind s has ∙ c.if-shared.true) r.word,
+  may_claim _ _ _ _ _ r.knows.0 r.knows.1 r.place r.rests c.args.cell r.inside _ c.cell_word-at.ensures c.args.word r.own.0 r.own.1 r.own.2 false
+      (subst (λ (k : CellKind). FitsCell k c.args.word c.args.token.now.me.0.stakes.owns) c.in-Owned.is r.fits) r.word,
 )
 
-pub compare_exchange-requires-else-shared : goal.compare_exchange-requires-else-shared
-compare_exchange-requires-else-shared c = let r = c.requires in (
+pub compare_exchange-requires-in-Shared : goal.compare_exchange-requires-in-Shared
+compare_exchange-requires-in-Shared c = let r = c.requires in (
   r.home,
   omega arith,
-  may_claim _ _ _ _ _ r.knows.0 r.knows.1 r.place r.rests c.args.cell r.inside _ c.cell_word-else-shared.ensures c.args.word r.own.0 r.own.1 r.own.2 false
-      (λ s has. r.kind s has ∙ c.if-shared.false) r.word,
+  may_claim _ _ _ _ _ r.knows.0 r.knows.1 r.place r.rests c.args.cell r.inside _ c.cell_word-at.ensures c.args.word r.own.0 r.own.1 r.own.2 true
+      (subst (λ (k : CellKind). FitsCell k c.args.word c.args.token.now.me.0.stakes.owns) c.in-Shared.is r.fits) r.word,
 )
 
-pub returns-then-shared : goal.returns-then-shared
-returns-then-shared c = let e = c.compare_exchange.ensures in
-    cell_moved c.args.token.now _ c.compare_exchange.result e.0 e.1 (ClaimsCell c.args.word (cell_kind c.args.shared)) _ c.args.cell _ c.cell_word.ensures
-    c.requires.knows.0 (subst (λ (b : Bool). OfCell (ClaimsCell c.args.word (cell_kind b)) c.cell_word.result c.args.token.now.me c.compare_exchange.result
-    c.compare_exchange.new.seat.me) (sym c.if-shared.true) e.2)
+pub compare_exchange-requires-in-Raw : goal.compare_exchange-requires-in-Raw
+compare_exchange-requires-in-Raw c = let r = c.requires in
+    let bare = subst (λ (k : CellKind). FitsCell k c.args.word c.args.token.now.me.0.stakes.owns) c.in-Raw.is r.fits in (
+      r.home,
+      omega arith,
+      may_claim_bare _ _ _ _ _ r.knows.0 r.knows.1 r.place r.rests c.args.cell r.inside _ c.cell_word-at.ensures c.args.word bare.0 r.word (r.own.0 ∙ bare.0)
+          r.own.1 Raw r.own.2 bare.1,
+    )
 
-pub returns-else-shared : goal.returns-else-shared
-returns-else-shared c = let e = c.compare_exchange-else-shared.ensures in
-    cell_moved c.args.token.now _ c.compare_exchange-else-shared.result e.0 e.1 (ClaimsCell c.args.word (cell_kind c.args.shared)) _ c.args.cell _
-    c.cell_word-else-shared.ensures c.requires.knows.0 (subst (λ (b : Bool). OfCell (ClaimsCell c.args.word (cell_kind b)) c.cell_word-else-shared.result
-    c.args.token.now.me c.compare_exchange-else-shared.result c.compare_exchange-else-shared.new.seat.me) (sym c.if-shared.false) e.2)
+pub compare_exchange-requires-in-Collector : goal.compare_exchange-requires-in-Collector
+compare_exchange-requires-in-Collector c = let r = c.requires in
+    let bare = subst (λ (k : CellKind). FitsCell k c.args.word c.args.token.now.me.0.stakes.owns) c.in-Collector.is r.fits in (
+      r.home,
+      omega arith,
+      may_claim_bare _ _ _ _ _ r.knows.0 r.knows.1 r.place r.rests c.args.cell r.inside _ c.cell_word-at.ensures c.args.word bare.0 r.word (r.own.0 ∙ bare.0)
+          r.own.1 Collector r.own.2 bare.1,
+    )
+
+pub returns-in-Owned : goal.returns-in-Owned
+returns-in-Owned c = let e = c.compare_exchange.ensures in
+    cell_moved c.args.token.now _ c.compare_exchange.result e.0 e.1 (ClaimsCell c.args.word c.args.kind) _ c.args.cell _ c.cell_word-at.ensures
+    c.requires.knows.0 (subst (λ (k : CellKind). OfCell (ClaimsCell c.args.word k) c.cell_word-at.result c.args.token.now.me c.compare_exchange.result
+    c.compare_exchange.new.seat.me) (sym c.in-Owned.is) e.2)
+
+pub returns-in-Shared : goal.returns-in-Shared
+returns-in-Shared c = let e = c.compare_exchange-in-Shared.ensures in
+    cell_moved c.args.token.now _ c.compare_exchange-in-Shared.result e.0 e.1 (ClaimsCell c.args.word c.args.kind) _ c.args.cell _ c.cell_word-at.ensures
+    c.requires.knows.0 (subst (λ (k : CellKind). OfCell (ClaimsCell c.args.word k) c.cell_word-at.result c.args.token.now.me c.compare_exchange-in-Shared.result
+    c.compare_exchange-in-Shared.new.seat.me) (sym c.in-Shared.is) e.2)
+
+pub returns-in-Raw : goal.returns-in-Raw
+returns-in-Raw c = let e = c.compare_exchange-in-Raw.ensures in
+    cell_moved c.args.token.now _ c.compare_exchange-in-Raw.result e.0 e.1 (ClaimsCell c.args.word c.args.kind) _ c.args.cell _ c.cell_word-at.ensures
+    c.requires.knows.0 (subst (λ (k : CellKind). OfCell (ClaimsCell c.args.word k) c.cell_word-at.result c.args.token.now.me c.compare_exchange-in-Raw.result
+    c.compare_exchange-in-Raw.new.seat.me) (sym c.in-Raw.is) e.2)
+
+pub returns-in-Collector : goal.returns-in-Collector
+returns-in-Collector c = let e = c.compare_exchange-in-Collector.ensures in
+    cell_moved c.args.token.now _ c.compare_exchange-in-Collector.result e.0 e.1 (ClaimsCell c.args.word c.args.kind) _ c.args.cell _ c.cell_word-at.ensures
+    c.requires.knows.0 (subst (λ (k : CellKind). OfCell (ClaimsCell c.args.word k) c.cell_word-at.result c.args.token.now.me c.compare_exchange-in-Collector.result
+    c.compare_exchange-in-Collector.new.seat.me) (sym c.in-Collector.is) e.2)

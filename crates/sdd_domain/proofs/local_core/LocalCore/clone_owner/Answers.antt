@@ -24,7 +24,7 @@ use Rattle.sdd_domain.proofs.local_core.LocalCore.clone_owner.Goals as goal
 
 pub add_owner-requires-clause-home : goal.add_owner-requires-clause-home
 add_owner-requires-clause-home g c =
-    let l = c.self.inside in let b = l.domain.now.board in let m : LocalState = c.self.view_is 0 in let right = c.args.right.now in
+    let l = c.self.inside in let b = l.domain.now.board in let m : LocalState _ = c.self.view_is 0 in let right = c.args.right.now in
     let k : ℕ = number_of right in
     let on = on_board l.domain.now.limits b l.token.table_id c.self.invariant.0.home l.domain.now.limited.1 m refl refl refl in
     let home = c.requires.home ∙ sym (ap slots_home c.self.view_is) in let found = c.witness-owner.ensures.owner (has_tables m right home) in
@@ -37,7 +37,7 @@ add_owner-requires-clause-home g c =
 
 pub add_owner-requires-clause-knows : goal.add_owner-requires-clause-knows
 add_owner-requires-clause-knows g c =
-    let l = c.self.inside in let b = l.domain.now.board in let m : LocalState = c.self.view_is 0 in let right = c.args.right.now in
+    let l = c.self.inside in let b = l.domain.now.board in let m : LocalState _ = c.self.view_is 0 in let right = c.args.right.now in
     let k : ℕ = number_of right in
     let on = on_board l.domain.now.limits b l.token.table_id c.self.invariant.0.home l.domain.now.limited.1 m refl refl refl in
     let home = c.requires.home ∙ sym (ap slots_home c.self.view_is) in let found = c.witness-owner.ensures.owner (has_tables m right home) in
@@ -50,7 +50,7 @@ add_owner-requires-clause-knows g c =
 
 pub add_owner-requires-clause-place : goal.add_owner-requires-clause-place
 add_owner-requires-clause-place g c =
-    let l = c.self.inside in let b = l.domain.now.board in let m : LocalState = c.self.view_is 0 in let right = c.args.right.now in
+    let l = c.self.inside in let b = l.domain.now.board in let m : LocalState _ = c.self.view_is 0 in let right = c.args.right.now in
     let k : ℕ = number_of right in
     let on = on_board l.domain.now.limits b l.token.table_id c.self.invariant.0.home l.domain.now.limited.1 m refl refl refl in
     let home = c.requires.home ∙ sym (ap slots_home c.self.view_is) in let found = c.witness-owner.ensures.owner (has_tables m right home) in
@@ -63,7 +63,7 @@ add_owner-requires-clause-place g c =
 
 pub add_owner-requires-clause-rests : goal.add_owner-requires-clause-rests
 add_owner-requires-clause-rests g c =
-    let l = c.self.inside in let b = l.domain.now.board in let m : LocalState = c.self.view_is 0 in let right = c.args.right.now in
+    let l = c.self.inside in let b = l.domain.now.board in let m : LocalState _ = c.self.view_is 0 in let right = c.args.right.now in
     let k : ℕ = number_of right in
     let on = on_board l.domain.now.limits b l.token.table_id c.self.invariant.0.home l.domain.now.limited.1 m refl refl refl in
     let home = c.requires.home ∙ sym (ap slots_home c.self.view_is) in let found = c.witness-owner.ensures.owner (has_tables m right home) in
@@ -76,7 +76,7 @@ add_owner-requires-clause-rests g c =
 
 pub add_owner-requires-clause-none : goal.add_owner-requires-clause-none
 add_owner-requires-clause-none g c =
-    let l = c.self.inside in let b = l.domain.now.board in let m : LocalState = c.self.view_is 0 in let right = c.args.right.now in
+    let l = c.self.inside in let b = l.domain.now.board in let m : LocalState _ = c.self.view_is 0 in let right = c.args.right.now in
     let k : ℕ = number_of right in
     let on = on_board l.domain.now.limits b l.token.table_id c.self.invariant.0.home l.domain.now.limited.1 m refl refl refl in
     let home = c.requires.home ∙ sym (ap slots_home c.self.view_is) in let found = c.witness-owner.ensures.owner (has_tables m right home) in
@@ -89,7 +89,7 @@ add_owner-requires-clause-none g c =
 
 pub add_owner-requires-clause-free : goal.add_owner-requires-clause-free
 add_owner-requires-clause-free g c =
-    let l = c.self.inside in let b = l.domain.now.board in let m : LocalState = c.self.view_is 0 in let right = c.args.right.now in
+    let l = c.self.inside in let b = l.domain.now.board in let m : LocalState _ = c.self.view_is 0 in let right = c.args.right.now in
     let k : ℕ = number_of right in
     let on = on_board l.domain.now.limits b l.token.table_id c.self.invariant.0.home l.domain.now.limited.1 m refl refl refl in
     let home = c.requires.home ∙ sym (ap slots_home c.self.view_is) in let found = c.witness-owner.ensures.owner (has_tables m right home) in
@@ -102,7 +102,7 @@ add_owner-requires-clause-free g c =
 
 pub add_owner-requires-clause-owner : goal.add_owner-requires-clause-owner
 add_owner-requires-clause-owner g c =
-    let l = c.self.inside in let b = l.domain.now.board in let m : LocalState = c.self.view_is 0 in let right = c.args.right.now in
+    let l = c.self.inside in let b = l.domain.now.board in let m : LocalState _ = c.self.view_is 0 in let right = c.args.right.now in
     let k : ℕ = number_of right in
     let on = on_board l.domain.now.limits b l.token.table_id c.self.invariant.0.home l.domain.now.limited.1 m refl refl refl in
     let home = c.requires.home ∙ sym (ap slots_home c.self.view_is) in let found = c.witness-owner.ensures.owner (has_tables m right home) in
@@ -115,7 +115,7 @@ add_owner-requires-clause-owner g c =
 
 pub invariant_of-self : goal.invariant_of-self
 invariant_of-self g c =
-    let l = c.self.inside in let b = l.domain.now.board in let m : LocalState = c.self.view_is 0 in let right = c.args.right.now in
+    let l = c.self.inside in let b = l.domain.now.board in let m : LocalState _ = c.self.view_is 0 in let right = c.args.right.now in
     let k : ℕ = number_of right in
     let on = on_board l.domain.now.limits b l.token.table_id c.self.invariant.0.home l.domain.now.limited.1 m refl refl refl in
     let home = c.requires.home ∙ sym (ap slots_home c.self.view_is) in let found = c.witness-owner.ensures.owner (has_tables m right home) in
@@ -138,7 +138,7 @@ invariant_of-self g c =
 
 pub returns-then-add_owner-ge-MOST_SHARED-clause-came : goal.returns-then-add_owner-ge-MOST_SHARED-clause-came
 returns-then-add_owner-ge-MOST_SHARED-clause-came g c =
-    let l = c.self.inside in let b = l.domain.now.board in let m : LocalState = c.self.view_is 0 in let right = c.args.right.now in
+    let l = c.self.inside in let b = l.domain.now.board in let m : LocalState _ = c.self.view_is 0 in let right = c.args.right.now in
     let k : ℕ = number_of right in
     let on = on_board l.domain.now.limits b l.token.table_id c.self.invariant.0.home l.domain.now.limited.1 m refl refl refl in
     let home = c.requires.home ∙ sym (ap slots_home c.self.view_is) in let found = c.witness-owner.ensures.owner (has_tables m right home) in
@@ -155,7 +155,7 @@ returns-then-add_owner-ge-MOST_SHARED-clause-came g c =
       n,
       (
         refl,
-        subst (λ (x : LocalState). HasMost k n x (with_token m a)) c.self.view_is record {
+        subst (λ (x : LocalState _). HasMost k n x (with_token m a)) c.self.view_is record {
           member = (full.0, noted_at m slot k is true true refl l.token t a same refl alone (λ i z ws. slice_set ws (behind z i) full.0) adds.0 full.1);
           counted = adds.2.several;
           many = many;
@@ -169,7 +169,7 @@ returns-then-add_owner-ge-MOST_SHARED-clause-came g c =
 
 pub returns-then-add_owner-ge-MOST_SHARED-clause-recalled : goal.returns-then-add_owner-ge-MOST_SHARED-clause-recalled
 returns-then-add_owner-ge-MOST_SHARED-clause-recalled g c =
-    let l = c.self.inside in let b = l.domain.now.board in let m : LocalState = c.self.view_is 0 in let right = c.args.right.now in
+    let l = c.self.inside in let b = l.domain.now.board in let m : LocalState _ = c.self.view_is 0 in let right = c.args.right.now in
     let k : ℕ = number_of right in
     let on = on_board l.domain.now.limits b l.token.table_id c.self.invariant.0.home l.domain.now.limited.1 m refl refl refl in
     let home = c.requires.home ∙ sym (ap slots_home c.self.view_is) in let found = c.witness-owner.ensures.owner (has_tables m right home) in
@@ -179,7 +179,7 @@ returns-then-add_owner-ge-MOST_SHARED-clause-recalled g c =
     let same = same_recalled b l.place slot true value l.token t (c.recall.ensures slot true value known) in
     let q = subst (λ (x : Seat ValueFraction View). IsBetweenCalls b l.place l.own x) (sym same) c.self.invariant.0 in
     let told = owner_views b m on right StandingKind.Shared home kind w grip by k refl in
-    subst (λ (x : LocalState). IsLone x → (value : Gv) × KnowsOwner x k true value) c.self.view_is (λ lone. (
+    subst (λ (x : LocalState _). IsLone x → (value : Gv) × KnowsOwner x k true value) c.self.view_is (λ lone. (
       value,
       recalls_to m k true value l.token t (c.recall.ensures k true value told)
           (c.self.invariant.0.all ∙ ap (λ (z : Sizes). z.participants) l.domain.now.limited.1) lone,
@@ -187,7 +187,7 @@ returns-then-add_owner-ge-MOST_SHARED-clause-recalled g c =
 
 pub draw_unit-requires-clause-home : goal.draw_unit-requires-clause-home
 draw_unit-requires-clause-home g c =
-    let l = c.self.inside in let b = l.domain.now.board in let m : LocalState = c.self.view_is 0 in let right = c.args.right.now in
+    let l = c.self.inside in let b = l.domain.now.board in let m : LocalState _ = c.self.view_is 0 in let right = c.args.right.now in
     let k : ℕ = number_of right in
     let on = on_board l.domain.now.limits b l.token.table_id c.self.invariant.0.home l.domain.now.limited.1 m refl refl refl in
     let home = c.requires.home ∙ sym (ap slots_home c.self.view_is) in let found = c.witness-owner.ensures.owner (has_tables m right home) in
@@ -202,7 +202,7 @@ draw_unit-requires-clause-home g c =
 
 pub draw_unit-requires-clause-knows : goal.draw_unit-requires-clause-knows
 draw_unit-requires-clause-knows g c =
-    let l = c.self.inside in let b = l.domain.now.board in let m : LocalState = c.self.view_is 0 in let right = c.args.right.now in
+    let l = c.self.inside in let b = l.domain.now.board in let m : LocalState _ = c.self.view_is 0 in let right = c.args.right.now in
     let k : ℕ = number_of right in
     let on = on_board l.domain.now.limits b l.token.table_id c.self.invariant.0.home l.domain.now.limited.1 m refl refl refl in
     let home = c.requires.home ∙ sym (ap slots_home c.self.view_is) in let found = c.witness-owner.ensures.owner (has_tables m right home) in
@@ -217,7 +217,7 @@ draw_unit-requires-clause-knows g c =
 
 pub draw_unit-requires-clause-place : goal.draw_unit-requires-clause-place
 draw_unit-requires-clause-place g c =
-    let l = c.self.inside in let b = l.domain.now.board in let m : LocalState = c.self.view_is 0 in let right = c.args.right.now in
+    let l = c.self.inside in let b = l.domain.now.board in let m : LocalState _ = c.self.view_is 0 in let right = c.args.right.now in
     let k : ℕ = number_of right in
     let on = on_board l.domain.now.limits b l.token.table_id c.self.invariant.0.home l.domain.now.limited.1 m refl refl refl in
     let home = c.requires.home ∙ sym (ap slots_home c.self.view_is) in let found = c.witness-owner.ensures.owner (has_tables m right home) in
@@ -232,7 +232,7 @@ draw_unit-requires-clause-place g c =
 
 pub draw_unit-requires-clause-own : goal.draw_unit-requires-clause-own
 draw_unit-requires-clause-own g c =
-    let l = c.self.inside in let b = l.domain.now.board in let m : LocalState = c.self.view_is 0 in let right = c.args.right.now in
+    let l = c.self.inside in let b = l.domain.now.board in let m : LocalState _ = c.self.view_is 0 in let right = c.args.right.now in
     let k : ℕ = number_of right in
     let on = on_board l.domain.now.limits b l.token.table_id c.self.invariant.0.home l.domain.now.limited.1 m refl refl refl in
     let home = c.requires.home ∙ sym (ap slots_home c.self.view_is) in let found = c.witness-owner.ensures.owner (has_tables m right home) in
@@ -247,7 +247,7 @@ draw_unit-requires-clause-own g c =
 
 pub draw_unit-requires-clause-rests : goal.draw_unit-requires-clause-rests
 draw_unit-requires-clause-rests g c =
-    let l = c.self.inside in let b = l.domain.now.board in let m : LocalState = c.self.view_is 0 in let right = c.args.right.now in
+    let l = c.self.inside in let b = l.domain.now.board in let m : LocalState _ = c.self.view_is 0 in let right = c.args.right.now in
     let k : ℕ = number_of right in
     let on = on_board l.domain.now.limits b l.token.table_id c.self.invariant.0.home l.domain.now.limited.1 m refl refl refl in
     let home = c.requires.home ∙ sym (ap slots_home c.self.view_is) in let found = c.witness-owner.ensures.owner (has_tables m right home) in
@@ -262,7 +262,7 @@ draw_unit-requires-clause-rests g c =
 
 pub into_grip-grip-requires-clause-full : goal.into_grip-grip-requires-clause-full
 into_grip-grip-requires-clause-full g c =
-    let l = c.self.inside in let b = l.domain.now.board in let m : LocalState = c.self.view_is 0 in let right = c.args.right.now in
+    let l = c.self.inside in let b = l.domain.now.board in let m : LocalState _ = c.self.view_is 0 in let right = c.args.right.now in
     let k : ℕ = number_of right in
     let on = on_board l.domain.now.limits b l.token.table_id c.self.invariant.0.home l.domain.now.limited.1 m refl refl refl in
     let home = c.requires.home ∙ sym (ap slots_home c.self.view_is) in let found = c.witness-owner.ensures.owner (has_tables m right home) in
@@ -278,7 +278,7 @@ into_grip-grip-requires-clause-full g c =
 
 pub into_grip-grip-requires-clause-one : goal.into_grip-grip-requires-clause-one
 into_grip-grip-requires-clause-one g c =
-    let l = c.self.inside in let b = l.domain.now.board in let m : LocalState = c.self.view_is 0 in let right = c.args.right.now in
+    let l = c.self.inside in let b = l.domain.now.board in let m : LocalState _ = c.self.view_is 0 in let right = c.args.right.now in
     let k : ℕ = number_of right in
     let on = on_board l.domain.now.limits b l.token.table_id c.self.invariant.0.home l.domain.now.limited.1 m refl refl refl in
     let home = c.requires.home ∙ sym (ap slots_home c.self.view_is) in let found = c.witness-owner.ensures.owner (has_tables m right home) in
@@ -293,7 +293,7 @@ into_grip-grip-requires-clause-one g c =
 
 pub into_grip-grip-requires-clause-free : goal.into_grip-grip-requires-clause-free
 into_grip-grip-requires-clause-free g c =
-    let l = c.self.inside in let b = l.domain.now.board in let m : LocalState = c.self.view_is 0 in let right = c.args.right.now in
+    let l = c.self.inside in let b = l.domain.now.board in let m : LocalState _ = c.self.view_is 0 in let right = c.args.right.now in
     let k : ℕ = number_of right in
     let on = on_board l.domain.now.limits b l.token.table_id c.self.invariant.0.home l.domain.now.limited.1 m refl refl refl in
     let home = c.requires.home ∙ sym (ap slots_home c.self.view_is) in let found = c.witness-owner.ensures.owner (has_tables m right home) in
@@ -308,7 +308,7 @@ into_grip-grip-requires-clause-free g c =
 
 pub cut-other-requires-clause-home : goal.cut-other-requires-clause-home
 cut-other-requires-clause-home g c =
-    let l = c.self.inside in let b = l.domain.now.board in let m : LocalState = c.self.view_is 0 in let right = c.args.right.now in
+    let l = c.self.inside in let b = l.domain.now.board in let m : LocalState _ = c.self.view_is 0 in let right = c.args.right.now in
     let k : ℕ = number_of right in
     let on = on_board l.domain.now.limits b l.token.table_id c.self.invariant.0.home l.domain.now.limited.1 m refl refl refl in
     let home = c.requires.home ∙ sym (ap slots_home c.self.view_is) in let found = c.witness-owner.ensures.owner (has_tables m right home) in
@@ -323,7 +323,7 @@ cut-other-requires-clause-home g c =
 
 pub cut-other-requires-clause-knows : goal.cut-other-requires-clause-knows
 cut-other-requires-clause-knows g c =
-    let l = c.self.inside in let b = l.domain.now.board in let m : LocalState = c.self.view_is 0 in let right = c.args.right.now in
+    let l = c.self.inside in let b = l.domain.now.board in let m : LocalState _ = c.self.view_is 0 in let right = c.args.right.now in
     let k : ℕ = number_of right in
     let on = on_board l.domain.now.limits b l.token.table_id c.self.invariant.0.home l.domain.now.limited.1 m refl refl refl in
     let home = c.requires.home ∙ sym (ap slots_home c.self.view_is) in let found = c.witness-owner.ensures.owner (has_tables m right home) in
@@ -339,7 +339,7 @@ cut-other-requires-clause-knows g c =
 
 pub cut-other-requires-clause-place : goal.cut-other-requires-clause-place
 cut-other-requires-clause-place g c =
-    let l = c.self.inside in let b = l.domain.now.board in let m : LocalState = c.self.view_is 0 in let right = c.args.right.now in
+    let l = c.self.inside in let b = l.domain.now.board in let m : LocalState _ = c.self.view_is 0 in let right = c.args.right.now in
     let k : ℕ = number_of right in
     let on = on_board l.domain.now.limits b l.token.table_id c.self.invariant.0.home l.domain.now.limited.1 m refl refl refl in
     let home = c.requires.home ∙ sym (ap slots_home c.self.view_is) in let found = c.witness-owner.ensures.owner (has_tables m right home) in
@@ -355,7 +355,7 @@ cut-other-requires-clause-place g c =
 
 pub cut-other-requires-clause-one : goal.cut-other-requires-clause-one
 cut-other-requires-clause-one g c =
-    let l = c.self.inside in let b = l.domain.now.board in let m : LocalState = c.self.view_is 0 in let right = c.args.right.now in
+    let l = c.self.inside in let b = l.domain.now.board in let m : LocalState _ = c.self.view_is 0 in let right = c.args.right.now in
     let k : ℕ = number_of right in
     let on = on_board l.domain.now.limits b l.token.table_id c.self.invariant.0.home l.domain.now.limited.1 m refl refl refl in
     let home = c.requires.home ∙ sym (ap slots_home c.self.view_is) in let found = c.witness-owner.ensures.owner (has_tables m right home) in
@@ -370,7 +370,7 @@ cut-other-requires-clause-one g c =
 
 pub cut-other-requires-clause-free : goal.cut-other-requires-clause-free
 cut-other-requires-clause-free g c =
-    let l = c.self.inside in let b = l.domain.now.board in let m : LocalState = c.self.view_is 0 in let right = c.args.right.now in
+    let l = c.self.inside in let b = l.domain.now.board in let m : LocalState _ = c.self.view_is 0 in let right = c.args.right.now in
     let k : ℕ = number_of right in
     let on = on_board l.domain.now.limits b l.token.table_id c.self.invariant.0.home l.domain.now.limited.1 m refl refl refl in
     let home = c.requires.home ∙ sym (ap slots_home c.self.view_is) in let found = c.witness-owner.ensures.owner (has_tables m right home) in
@@ -386,7 +386,7 @@ cut-other-requires-clause-free g c =
 
 pub cut-other-requires-clause-rests : goal.cut-other-requires-clause-rests
 cut-other-requires-clause-rests g c =
-    let l = c.self.inside in let b = l.domain.now.board in let m : LocalState = c.self.view_is 0 in let right = c.args.right.now in
+    let l = c.self.inside in let b = l.domain.now.board in let m : LocalState _ = c.self.view_is 0 in let right = c.args.right.now in
     let k : ℕ = number_of right in
     let on = on_board l.domain.now.limits b l.token.table_id c.self.invariant.0.home l.domain.now.limited.1 m refl refl refl in
     let home = c.requires.home ∙ sym (ap slots_home c.self.view_is) in let found = c.witness-owner.ensures.owner (has_tables m right home) in
@@ -401,7 +401,7 @@ cut-other-requires-clause-rests g c =
 
 pub of_witness-requires-clause-owner : goal.of_witness-requires-clause-owner
 of_witness-requires-clause-owner g c =
-    let l = c.self.inside in let b = l.domain.now.board in let m : LocalState = c.self.view_is 0 in let right = c.args.right.now in
+    let l = c.self.inside in let b = l.domain.now.board in let m : LocalState _ = c.self.view_is 0 in let right = c.args.right.now in
     let k : ℕ = number_of right in
     let on = on_board l.domain.now.limits b l.token.table_id c.self.invariant.0.home l.domain.now.limited.1 m refl refl refl in
     let home = c.requires.home ∙ sym (ap slots_home c.self.view_is) in let found = c.witness-owner.ensures.owner (has_tables m right home) in
@@ -419,7 +419,7 @@ of_witness-requires-clause-owner g c =
 
 pub of_witness-requires-clause-place : goal.of_witness-requires-clause-place
 of_witness-requires-clause-place g c =
-    let l = c.self.inside in let b = l.domain.now.board in let m : LocalState = c.self.view_is 0 in let right = c.args.right.now in
+    let l = c.self.inside in let b = l.domain.now.board in let m : LocalState _ = c.self.view_is 0 in let right = c.args.right.now in
     let k : ℕ = number_of right in
     let on = on_board l.domain.now.limits b l.token.table_id c.self.invariant.0.home l.domain.now.limited.1 m refl refl refl in
     let home = c.requires.home ∙ sym (ap slots_home c.self.view_is) in let found = c.witness-owner.ensures.owner (has_tables m right home) in
@@ -435,7 +435,7 @@ of_witness-requires-clause-place g c =
 
 pub invariant_of-self-2 : goal.invariant_of-self-2
 invariant_of-self-2 g c =
-    let l = c.self.inside in let b = l.domain.now.board in let m : LocalState = c.self.view_is 0 in let right = c.args.right.now in
+    let l = c.self.inside in let b = l.domain.now.board in let m : LocalState _ = c.self.view_is 0 in let right = c.args.right.now in
     let k : ℕ = number_of right in
     let on = on_board l.domain.now.limits b l.token.table_id c.self.invariant.0.home l.domain.now.limited.1 m refl refl refl in
     let home = c.requires.home ∙ sym (ap slots_home c.self.view_is) in let found = c.witness-owner.ensures.owner (has_tables m right home) in
@@ -461,7 +461,7 @@ invariant_of-self-2 g c =
 
 pub returns-clause-came : goal.returns-clause-came
 returns-clause-came g c =
-    let l = c.self.inside in let b = l.domain.now.board in let m : LocalState = c.self.view_is 0 in let right = c.args.right.now in
+    let l = c.self.inside in let b = l.domain.now.board in let m : LocalState _ = c.self.view_is 0 in let right = c.args.right.now in
     let k : ℕ = number_of right in
     let on = on_board l.domain.now.limits b l.token.table_id c.self.invariant.0.home l.domain.now.limited.1 m refl refl refl in
     let home = c.requires.home ∙ sym (ap slots_home c.self.view_is) in let found = c.witness-owner.ensures.owner (has_tables m right home) in
@@ -482,7 +482,7 @@ returns-clause-came g c =
     c.into_grip-grip.ensures in (
       n,
       (
-        subst (λ (x : LocalState). AddsAt k n x (with_token m u)) c.self.view_is record {
+        subst (λ (x : LocalState _). AddsAt k n x (with_token m u)) c.self.view_is record {
           member = noted_at m slot k is true true refl l.token t u same refl alone (λ i z ws. slice_set ws (behind z i) (n + 1)) left.0 left.2;
           counted = adds.2.several;
           left = adds.2.left;
@@ -503,7 +503,7 @@ returns-clause-came g c =
 
 pub returns-clause-recalled : goal.returns-clause-recalled
 returns-clause-recalled g c =
-    let l = c.self.inside in let b = l.domain.now.board in let m : LocalState = c.self.view_is 0 in let right = c.args.right.now in
+    let l = c.self.inside in let b = l.domain.now.board in let m : LocalState _ = c.self.view_is 0 in let right = c.args.right.now in
     let k : ℕ = number_of right in
     let on = on_board l.domain.now.limits b l.token.table_id c.self.invariant.0.home l.domain.now.limited.1 m refl refl refl in
     let home = c.requires.home ∙ sym (ap slots_home c.self.view_is) in let found = c.witness-owner.ensures.owner (has_tables m right home) in
@@ -513,7 +513,7 @@ returns-clause-recalled g c =
     let same = same_recalled b l.place slot true value l.token t (c.recall.ensures slot true value known) in
     let q = subst (λ (x : Seat ValueFraction View). IsBetweenCalls b l.place l.own x) (sym same) c.self.invariant.0 in
     let told = owner_views b m on right StandingKind.Shared home kind w grip by k refl in
-    subst (λ (x : LocalState). IsLone x → (value : Gv) × KnowsOwner x k true value) c.self.view_is (λ lone. (
+    subst (λ (x : LocalState _). IsLone x → (value : Gv) × KnowsOwner x k true value) c.self.view_is (λ lone. (
       value,
       recalls_to m k true value l.token t (c.recall.ensures k true value told)
           (c.self.invariant.0.all ∙ ap (λ (z : Sizes). z.participants) l.domain.now.limited.1) lone,

@@ -13,16 +13,23 @@ use Rattle.sdd_word_invariant.specs.Sums.{total}
 use Rattle.sdd_word_invariant.specs.Slots.{waits_in}
 use Rattle.sdd_word_invariant.specs.SlotSteps.{retired_now, DefersAt}
 use Rattle.sdd_atomics.specs.DomainTable.{sizes_of, slots_of}
-use Rattle.sdd_domain.specs.Jobs.{places_of}
 use Rattle.sdd_domain.specs.LocalState.{LocalState, DefersTo}
 use Rattle.sdd_domain.specs.BetweenCalls.{IsBetweenCalls, AreLentTo, IsTenureOf, IsReady}
 use Rattle.sdd_domain.specs.Receipt.{IsTallied}
 use Rattle.sdd_domain.specs.WaitingItems.{what_of, waiting_of, ripe, unripe}
 use Rattle.sdd_domain.proofs.Deferring.{posed_defers}
-use Rattle.sdd_domain.proofs.JobTables.{job_put, place_put}
+use Rattle.sdd_domain.proofs.JobTables.{job_put, not-there}
 use Rattle.sdd_domain.proofs.Members.{with_view}
 use Rattle.sdd_domain.proofs.Ripe.{ripe_snoc, fewer_unripe}
 use Rattle.sdd_domain.proofs.local_core.LocalCore.defer_execute.Goals as goal
+
+pub put-requires-clause-free : goal.put-requires-clause-free
+put-requires-clause-free g c = let l = c.self.inside in let b = l.domain.now.board in let n : ℕ = slots_of b in let place : ℕ = c.in-Ok.place in
+    let did = c.in-Ok.ensures.tried.1 in
+    let d = subst (λ (k : ℕ). DefersAt (k + place) 4 l.token.me.0 c.claim_place.new.token.me.0) (sym (ap (λ (z : Sizes). z.slots) l.domain.now.limited.1))
+    did.view in
+    let low : place < (sizes_of b).jobs = subst (λ (z : Sizes). place < z.jobs) (sym l.domain.now.limited.1) c.in-Ok.ensures.tried.0 in
+    not-there (slice_index_or l.jobs place None) (λ some. let waits = (c.self.invariant.4.jobs place low).0 some in let none = d.6 in absurd (omega arith))
 
 pub push-requires : goal.push-requires
 push-requires g c = let l = c.self.inside in let q = c.self.invariant.0 in let d = c.in-Ok.ensures.tried.1.view in
@@ -63,17 +70,17 @@ invariant_of-self g c = let l = c.self.inside in let b = l.domain.now.board in l
 
 pub returns-in-Ok : goal.returns-in-Ok
 returns-in-Ok g c = let l = c.self.inside in let i = c.self.invariant in let place : ℕ = c.in-Ok.place in let token = c.claim_place.new.token in
-    let did = c.in-Ok.ensures.tried.1 in let d = did.view in let old : LocalState = c.self.view_is 0 in
+    let did = c.in-Ok.ensures.tried.1 in let d = did.view in let old : LocalState _ = c.self.view_is 0 in
     let own_is : c.set_has_garbage.new.self ≡ awaiting (Job place) l.own
     = c.set_has_garbage.ensures ∙ ap (λ (bags : Bags). with_garbage (record l.own { bags = bags })) c.push.ensures in
     let all : l.token.me.0.epoch.all ≡ l.domain.now.limits.participants = i.0.all ∙ ap (λ (z : Sizes). z.participants) l.domain.now.limited.1 in (
       d.0,
-      subst (λ (m : LocalState). DefersTo place d.0 m
-          (record (with_view old token.table_id token.me.0) { own = c.set_has_garbage.new.self; jobs = places_of c.put.new.self })) c.self.view_is record {
+      subst (λ (m : LocalState _). DefersTo place d.0 c.args.job m
+          (record (with_view old token.table_id token.me.0) { own = c.set_has_garbage.new.self; jobs = c.put.new.self })) c.self.view_is record {
             inside = c.in-Ok.ensures.tried.0;
             member = λ k. record (with_view old (did.table k) (d.3 k)) {
               own = own_is k;
-              jobs = (ap places_of c.put.ensures ∙ place_put l.jobs place c.args.job) k;
+              jobs = c.put.ensures k;
             };
             knew = d.1;
             lone = λ one. (d.2 (all ∙ one), did.free (all ∙ one));

@@ -35,7 +35,7 @@ use Rattle.sdd_domain.proofs.local_core.LocalCore.drop_in_place.Goals as goal
 
 pub go_in_place-requires-clause-home : goal.go_in_place-requires-clause-home
 go_in_place-requires-clause-home g c =
-    let l = c.self.inside in let b = l.domain.now.board in let m : LocalState = c.self.view_is 0 in let right = c.args.right in let kind = c.args.kind in
+    let l = c.self.inside in let b = l.domain.now.board in let m : LocalState _ = c.self.view_is 0 in let right = c.args.right in let kind = c.args.kind in
     let on = on_board l.domain.now.limits b l.token.table_id c.self.invariant.0.home l.domain.now.limited.1 m refl refl refl in
     let home = c.requires.home ∙ sym (ap slots_home c.self.view_is) in
     let w = c.into_owner-owner.result.0 in let grip = c.into_owner-owner.result.1 in let by = c.into_owner-owner.ensures.owner in
@@ -47,7 +47,7 @@ go_in_place-requires-clause-home g c =
 
 pub go_in_place-requires-clause-knows : goal.go_in_place-requires-clause-knows
 go_in_place-requires-clause-knows g c =
-    let l = c.self.inside in let b = l.domain.now.board in let m : LocalState = c.self.view_is 0 in let right = c.args.right in let kind = c.args.kind in
+    let l = c.self.inside in let b = l.domain.now.board in let m : LocalState _ = c.self.view_is 0 in let right = c.args.right in let kind = c.args.kind in
     let on = on_board l.domain.now.limits b l.token.table_id c.self.invariant.0.home l.domain.now.limited.1 m refl refl refl in
     let home = c.requires.home ∙ sym (ap slots_home c.self.view_is) in
     let w = c.into_owner-owner.result.0 in let grip = c.into_owner-owner.result.1 in let by = c.into_owner-owner.ensures.owner in
@@ -59,7 +59,7 @@ go_in_place-requires-clause-knows g c =
 
 pub go_in_place-requires-clause-place : goal.go_in_place-requires-clause-place
 go_in_place-requires-clause-place g c =
-    let l = c.self.inside in let b = l.domain.now.board in let m : LocalState = c.self.view_is 0 in let right = c.args.right in let kind = c.args.kind in
+    let l = c.self.inside in let b = l.domain.now.board in let m : LocalState _ = c.self.view_is 0 in let right = c.args.right in let kind = c.args.kind in
     let on = on_board l.domain.now.limits b l.token.table_id c.self.invariant.0.home l.domain.now.limited.1 m refl refl refl in
     let home = c.requires.home ∙ sym (ap slots_home c.self.view_is) in
     let w = c.into_owner-owner.result.0 in let grip = c.into_owner-owner.result.1 in let by = c.into_owner-owner.ensures.owner in
@@ -71,7 +71,7 @@ go_in_place-requires-clause-place g c =
 
 pub go_in_place-requires-clause-bare : goal.go_in_place-requires-clause-bare
 go_in_place-requires-clause-bare g c =
-    let l = c.self.inside in let b = l.domain.now.board in let m : LocalState = c.self.view_is 0 in let right = c.args.right in let kind = c.args.kind in
+    let l = c.self.inside in let b = l.domain.now.board in let m : LocalState _ = c.self.view_is 0 in let right = c.args.right in let kind = c.args.kind in
     let on = on_board l.domain.now.limits b l.token.table_id c.self.invariant.0.home l.domain.now.limited.1 m refl refl refl in
     let home = c.requires.home ∙ sym (ap slots_home c.self.view_is) in
     let w = c.into_owner-owner.result.0 in let grip = c.into_owner-owner.result.1 in let by = c.into_owner-owner.ensures.owner in
@@ -83,7 +83,7 @@ go_in_place-requires-clause-bare g c =
 
 pub invariant_of-self : goal.invariant_of-self
 invariant_of-self g c =
-    let l = c.self.inside in let b = l.domain.now.board in let m : LocalState = c.self.view_is 0 in let right = c.args.right in let kind = c.args.kind in
+    let l = c.self.inside in let b = l.domain.now.board in let m : LocalState _ = c.self.view_is 0 in let right = c.args.right in let kind = c.args.kind in
     let on = on_board l.domain.now.limits b l.token.table_id c.self.invariant.0.home l.domain.now.limited.1 m refl refl refl in
     let home = c.requires.home ∙ sym (ap slots_home c.self.view_is) in
     let w = c.into_owner-owner.result.0 in let grip = c.into_owner-owner.result.1 in let by = c.into_owner-owner.ensures.owner in
@@ -110,7 +110,7 @@ invariant_of-self g c =
 
 pub invariant_of-self-in-None : goal.invariant_of-self-in-None
 invariant_of-self-in-None g c =
-    let l = c.self.inside in let b = l.domain.now.board in let m : LocalState = c.self.view_is 0 in let right = c.args.right in let kind = c.args.kind in
+    let l = c.self.inside in let b = l.domain.now.board in let m : LocalState _ = c.self.view_is 0 in let right = c.args.right in let kind = c.args.kind in
     let on = on_board l.domain.now.limits b l.token.table_id c.self.invariant.0.home l.domain.now.limited.1 m refl refl refl in
     let home = c.requires.home ∙ sym (ap slots_home c.self.view_is) in
     let w = c.into_owner-owner.result.0 in let grip = c.into_owner-owner.result.1 in let by = c.into_owner-owner.ensures.owner in
@@ -134,7 +134,7 @@ invariant_of-self-in-None g c =
 
 pub of_witness-requires-clause-owner : goal.of_witness-requires-clause-owner
 of_witness-requires-clause-owner g c =
-    let l = c.self.inside in let b = l.domain.now.board in let m : LocalState = c.self.view_is 0 in let right = c.args.right in let kind = c.args.kind in
+    let l = c.self.inside in let b = l.domain.now.board in let m : LocalState _ = c.self.view_is 0 in let right = c.args.right in let kind = c.args.kind in
     let on = on_board l.domain.now.limits b l.token.table_id c.self.invariant.0.home l.domain.now.limited.1 m refl refl refl in
     let home = c.requires.home ∙ sym (ap slots_home c.self.view_is) in
     let w = c.into_owner-owner.result.0 in let grip = c.into_owner-owner.result.1 in let by = c.into_owner-owner.ensures.owner in
@@ -151,7 +151,7 @@ of_witness-requires-clause-owner g c =
 
 pub of_witness-requires-clause-place : goal.of_witness-requires-clause-place
 of_witness-requires-clause-place g c =
-    let l = c.self.inside in let b = l.domain.now.board in let m : LocalState = c.self.view_is 0 in let right = c.args.right in let kind = c.args.kind in
+    let l = c.self.inside in let b = l.domain.now.board in let m : LocalState _ = c.self.view_is 0 in let right = c.args.right in let kind = c.args.kind in
     let on = on_board l.domain.now.limits b l.token.table_id c.self.invariant.0.home l.domain.now.limited.1 m refl refl refl in
     let home = c.requires.home ∙ sym (ap slots_home c.self.view_is) in
     let w = c.into_owner-owner.result.0 in let grip = c.into_owner-owner.result.1 in let by = c.into_owner-owner.ensures.owner in
@@ -167,7 +167,7 @@ of_witness-requires-clause-place g c =
 
 pub invariant_of-self-in-Err : goal.invariant_of-self-in-Err
 invariant_of-self-in-Err g c =
-    let l = c.self.inside in let b = l.domain.now.board in let m : LocalState = c.self.view_is 0 in let right = c.args.right in let kind = c.args.kind in
+    let l = c.self.inside in let b = l.domain.now.board in let m : LocalState _ = c.self.view_is 0 in let right = c.args.right in let kind = c.args.kind in
     let on = on_board l.domain.now.limits b l.token.table_id c.self.invariant.0.home l.domain.now.limited.1 m refl refl refl in
     let home = c.requires.home ∙ sym (ap slots_home c.self.view_is) in
     let w = c.into_owner-owner.result.0 in let grip = c.into_owner-owner.result.1 in let by = c.into_owner-owner.ensures.owner in
@@ -190,7 +190,7 @@ invariant_of-self-in-Err g c =
 
 pub returns-in-Some-clause-gone : goal.returns-in-Some-clause-gone
 returns-in-Some-clause-gone g c =
-    let l = c.self.inside in let b = l.domain.now.board in let m : LocalState = c.self.view_is 0 in let right = c.args.right in let kind = c.args.kind in
+    let l = c.self.inside in let b = l.domain.now.board in let m : LocalState _ = c.self.view_is 0 in let right = c.args.right in let kind = c.args.kind in
     let on = on_board l.domain.now.limits b l.token.table_id c.self.invariant.0.home l.domain.now.limited.1 m refl refl refl in
     let home = c.requires.home ∙ sym (ap slots_home c.self.view_is) in
     let w = c.into_owner-owner.result.0 in let grip = c.into_owner-owner.result.1 in let by = c.into_owner-owner.ensures.owner in
@@ -209,21 +209,21 @@ returns-in-Some-clause-gone g c =
     let fits = subst (λ (o : Option g.row.T.Denot). IfSome o (λ v. AreOf (home_of_slots (id_of b) (book_of b) (slots_of b)) (g.T.Item.holds v)))
     c.in-Some.is c.in-Ok.ensures.1 in
     let low = owner_inside b m on right kind home c.requires.kind w grip by slot is c.into_owner-owner.ensures.inside in
-    let now : LocalState = record (with_view m u.table_id u.me.0) { tally = c.count_in_place.new.self } in (
+    let now : LocalState _ = record (with_view m u.table_id u.me.0) { tally = c.count_in_place.new.self } in (
       sym c.into_owner-owner.ensures.views ∙ (gone.told ∙ (λ d. witness_of_owner (is d) ((sorted ∙ ap is_shared (sym c.requires.kind)) d) value)),
-      subst (λ (x : LocalState). DropsAt k (is_shared kind) x now) c.self.view_is record {
+      subst (λ (x : LocalState _). DropsAt k (is_shared kind) x now) c.self.view_is record {
         inside = subst (λ (n : ℕ). k < n) (sym on.slots) (subst (λ (j : ℕ). j < slots_of b) is low);
         member = λ d. record (with_view m (moved d) (at d)) { tally = c.count_in_place.ensures d };
         sole = knew_sole m slot k is shared (is_shared kind) sorted l.token t u same refl alone gone.sole;
         quiet = λ some_open. gone.quiet (q.opened some_open);
       },
-      subst (λ (x : LocalState). AreOf (home_in x) (g.T.Item.holds c.in-Some.value)) c.self.view_is
+      subst (λ (x : LocalState _). AreOf (home_in x) (g.T.Item.holds c.in-Some.value)) c.self.view_is
           (from_board b m on (g.T.Item.holds c.in-Some.value) fits),
     )
 
 pub returns-in-Some-clause-recalled : goal.returns-in-Some-clause-recalled
 returns-in-Some-clause-recalled g c =
-    let l = c.self.inside in let b = l.domain.now.board in let m : LocalState = c.self.view_is 0 in let right = c.args.right in let kind = c.args.kind in
+    let l = c.self.inside in let b = l.domain.now.board in let m : LocalState _ = c.self.view_is 0 in let right = c.args.right in let kind = c.args.kind in
     let on = on_board l.domain.now.limits b l.token.table_id c.self.invariant.0.home l.domain.now.limited.1 m refl refl refl in
     let home = c.requires.home ∙ sym (ap slots_home c.self.view_is) in
     let w = c.into_owner-owner.result.0 in let grip = c.into_owner-owner.result.1 in let by = c.into_owner-owner.ensures.owner in
@@ -232,7 +232,7 @@ returns-in-Some-clause-recalled g c =
     let same = same_recalled b l.place slot (is_shared kind) grip.shown l.token t (c.recall.ensures slot (is_shared kind) grip.shown known) in
     let q = subst (λ (x : Seat ValueFraction View). IsBetweenCalls b l.place l.own x) (sym same) c.self.invariant.0 in
     let j : ℕ = number_of right in let told = owner_views b m on right kind home c.requires.kind w grip by j refl in
-    subst (λ (x : LocalState). IsLone x → (value : Gv) × HasValue value right × KnowsOwner x j (is_shared kind) value) c.self.view_is (λ lone. (
+    subst (λ (x : LocalState _). IsLone x → (value : Gv) × HasValue value right × KnowsOwner x j (is_shared kind) value) c.self.view_is (λ lone. (
       grip.shown,
       owner_has b m on right kind home c.requires.kind w grip by slot is c.into_owner-owner.ensures.views,
       recalls_to m j (is_shared kind) grip.shown l.token t (c.recall.ensures j (is_shared kind) grip.shown told)
@@ -241,7 +241,7 @@ returns-in-Some-clause-recalled g c =
 
 pub returns-in-None-clause-gone : goal.returns-in-None-clause-gone
 returns-in-None-clause-gone g c =
-    let l = c.self.inside in let b = l.domain.now.board in let m : LocalState = c.self.view_is 0 in let right = c.args.right in let kind = c.args.kind in
+    let l = c.self.inside in let b = l.domain.now.board in let m : LocalState _ = c.self.view_is 0 in let right = c.args.right in let kind = c.args.kind in
     let on = on_board l.domain.now.limits b l.token.table_id c.self.invariant.0.home l.domain.now.limited.1 m refl refl refl in
     let home = c.requires.home ∙ sym (ap slots_home c.self.view_is) in
     let w = c.into_owner-owner.result.0 in let grip = c.into_owner-owner.result.1 in let by = c.into_owner-owner.ensures.owner in
@@ -253,12 +253,12 @@ returns-in-None-clause-gone g c =
     let u = c.go_in_place.new.token in let alone : IsLone m → l.token.me.0.epoch.all ≡ 1
     = λ lone. c.self.invariant.0.all ∙ (ap (λ (z : Sizes). z.participants) l.domain.now.limited.1 ∙ lone) in
     let beside = subst (λ (o : Option g.row.T.Denot). Goes g.row.T slot shared w.views o t u) c.in-None.is c.in-Ok.ensures.0 in
-    subst (λ (x : LocalState). GoesBeside k (is_shared kind) x (with_token m u)) c.self.view_is
+    subst (λ (x : LocalState _). GoesBeside k (is_shared kind) x (with_token m u)) c.self.view_is
     (gone_beside m slot k is shared (is_shared kind) sorted l.token t u same refl alone beside)
 
 pub returns-in-None-clause-recalled : goal.returns-in-None-clause-recalled
 returns-in-None-clause-recalled g c =
-    let l = c.self.inside in let b = l.domain.now.board in let m : LocalState = c.self.view_is 0 in let right = c.args.right in let kind = c.args.kind in
+    let l = c.self.inside in let b = l.domain.now.board in let m : LocalState _ = c.self.view_is 0 in let right = c.args.right in let kind = c.args.kind in
     let on = on_board l.domain.now.limits b l.token.table_id c.self.invariant.0.home l.domain.now.limited.1 m refl refl refl in
     let home = c.requires.home ∙ sym (ap slots_home c.self.view_is) in
     let w = c.into_owner-owner.result.0 in let grip = c.into_owner-owner.result.1 in let by = c.into_owner-owner.ensures.owner in
@@ -267,7 +267,7 @@ returns-in-None-clause-recalled g c =
     let same = same_recalled b l.place slot (is_shared kind) grip.shown l.token t (c.recall.ensures slot (is_shared kind) grip.shown known) in
     let q = subst (λ (x : Seat ValueFraction View). IsBetweenCalls b l.place l.own x) (sym same) c.self.invariant.0 in
     let j : ℕ = number_of right in let told = owner_views b m on right kind home c.requires.kind w grip by j refl in
-    subst (λ (x : LocalState). IsLone x → (value : Gv) × HasValue value right × KnowsOwner x j (is_shared kind) value) c.self.view_is (λ lone. (
+    subst (λ (x : LocalState _). IsLone x → (value : Gv) × HasValue value right × KnowsOwner x j (is_shared kind) value) c.self.view_is (λ lone. (
       grip.shown,
       owner_has b m on right kind home c.requires.kind w grip by slot is c.into_owner-owner.ensures.views,
       recalls_to m j (is_shared kind) grip.shown l.token t (c.recall.ensures j (is_shared kind) grip.shown told)
@@ -276,7 +276,7 @@ returns-in-None-clause-recalled g c =
 
 pub returns-in-Err-clause-gone : goal.returns-in-Err-clause-gone
 returns-in-Err-clause-gone g c =
-    let l = c.self.inside in let b = l.domain.now.board in let m : LocalState = c.self.view_is 0 in let right = c.args.right in let kind = c.args.kind in
+    let l = c.self.inside in let b = l.domain.now.board in let m : LocalState _ = c.self.view_is 0 in let right = c.args.right in let kind = c.args.kind in
     let on = on_board l.domain.now.limits b l.token.table_id c.self.invariant.0.home l.domain.now.limited.1 m refl refl refl in
     let home = c.requires.home ∙ sym (ap slots_home c.self.view_is) in
     let w = c.into_owner-owner.result.0 in let grip = c.into_owner-owner.result.1 in let by = c.into_owner-owner.ensures.owner in
@@ -294,7 +294,7 @@ returns-in-Err-clause-gone g c =
       ⊎_elim
           (λ (x : (c.in-Err.refused ≡ Refused.GuardOpen) × IsLetGoOf slot shared t u). inl (
             x.0,
-            subst (λ (z : LocalState). SeesGuard k (is_shared kind) z (with_token m u)) c.self.view_is
+            subst (λ (z : LocalState _). SeesGuard k (is_shared kind) z (with_token m u)) c.self.view_is
                 (guarded_at m slot k is shared (is_shared kind) sorted l.token t u same refl alone (guard_of b l.place l.own t q) x.1),
           ))
           (λ (x : (c.in-Err.refused ≡ Refused.Contended) × IsUnmoved t u × (shared ≡ true) × ¬ (IsLoneAt (epoch t))). inr (
@@ -302,13 +302,13 @@ returns-in-Err-clause-gone g c =
             unmoved_at m slot k is shared (is_shared kind) sorted l.token t u same refl alone x.1 ∙ c.self.view_is,
             sym sorted ∙ x.2,
             (λ lone. x.3 (ap (λ (y : Seat ValueFraction View). y.me.0.epoch.all) same
-                ∙ alone (subst (λ (z : LocalState). IsLone z) (sym c.self.view_is) lone))),
+                ∙ alone (subst (λ (z : LocalState _). IsLone z) (sym c.self.view_is) lone))),
           )) back.3,
     )
 
 pub returns-in-Err-clause-recalled : goal.returns-in-Err-clause-recalled
 returns-in-Err-clause-recalled g c =
-    let l = c.self.inside in let b = l.domain.now.board in let m : LocalState = c.self.view_is 0 in let right = c.args.right in let kind = c.args.kind in
+    let l = c.self.inside in let b = l.domain.now.board in let m : LocalState _ = c.self.view_is 0 in let right = c.args.right in let kind = c.args.kind in
     let on = on_board l.domain.now.limits b l.token.table_id c.self.invariant.0.home l.domain.now.limited.1 m refl refl refl in
     let home = c.requires.home ∙ sym (ap slots_home c.self.view_is) in
     let w = c.into_owner-owner.result.0 in let grip = c.into_owner-owner.result.1 in let by = c.into_owner-owner.ensures.owner in
@@ -317,7 +317,7 @@ returns-in-Err-clause-recalled g c =
     let same = same_recalled b l.place slot (is_shared kind) grip.shown l.token t (c.recall.ensures slot (is_shared kind) grip.shown known) in
     let q = subst (λ (x : Seat ValueFraction View). IsBetweenCalls b l.place l.own x) (sym same) c.self.invariant.0 in
     let j : ℕ = number_of right in let told = owner_views b m on right kind home c.requires.kind w grip by j refl in
-    subst (λ (x : LocalState). IsLone x → (value : Gv) × HasValue value right × KnowsOwner x j (is_shared kind) value) c.self.view_is (λ lone. (
+    subst (λ (x : LocalState _). IsLone x → (value : Gv) × HasValue value right × KnowsOwner x j (is_shared kind) value) c.self.view_is (λ lone. (
       grip.shown,
       owner_has b m on right kind home c.requires.kind w grip by slot is c.into_owner-owner.ensures.views,
       recalls_to m j (is_shared kind) grip.shown l.token t (c.recall.ensures j (is_shared kind) grip.shown told)

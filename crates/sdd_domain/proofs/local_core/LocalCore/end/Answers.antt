@@ -1,12 +1,22 @@
-use Rattle.std.proofs.Common.{sym, ap, subst}
+use Rattle.std.proofs.Common.{sym, ap, ◌∙◌, subst}
 use Rattle.sdd_participants.specs.declared.tally.Tally.{Tally}
 use Rattle.sdd_views.specs.declared.CountsView.{CountsView}
 use Rattle.sdd_views.specs.declared.View.{View}
+use Rattle.sdd_atomics.specs.DomainTable.{sizes_of, slots_of}
+use Rattle.sdd_domain.specs.LocalState.{LocalState, waits}
 use Rattle.sdd_domain.specs.Receipt.{IsTallied}
 use Rattle.sdd_domain.proofs.Tallies.{tallied_ended}
+use Rattle.sdd_domain.proofs.JobTables.{none-there, none-wait}
 use Rattle.sdd_domain.proofs.local_core.LocalCore.end.Goals as goal
 
 pub new-requires : goal.new-requires
 new-requires g c = let l = c.self.inside in let counts : CountsView = l.token.me.0.stakes.counts in
     subst (λ (z : Tally × CountsView). IsTallied 1 z.0 z.1)
     (λ d. (sym c.total.ensures d, sym (ap (λ (v : View). v.stakes.counts) c.end.ensures.3) d)) (tallied_ended l.tally counts c.self.invariant.5)
+
+pub destroy-requires : goal.destroy-requires
+destroy-requires g c = let l = c.self.inside in let i = c.self.invariant in let r = i.4 in record {
+  free = none-there (slots_of l.domain.now.board) (sizes_of l.domain.now.board).jobs l.jobs l.token.me.0.slots.waits l.due.items l.own.bags.waiting
+      r.places r.jobs r.due (ap (λ (m : LocalState _). m.due) c.self.view_is ∙ c.requires.settled) i.0.bags
+      (none-wait l.own (ap waits c.self.view_is ∙ c.requires.idle));
+}

@@ -27,12 +27,12 @@ Tenure = Fraction SectionState
 
 pub arrive-goes_on-requires-clause-settled : goal.arrive-goes_on-requires-clause-settled
 arrive-goes_on-requires-clause-settled g c = none_ripe (slots_of c.self.inside.domain.now.board) (ripe c.self.inside.token.me.0.slots.waits)
-    (sym c.self.invariant.4.due ∙ (ap (λ (m : LocalState). m.due) c.self.view_is ∙ c.requires.settled))
+    (sym c.self.invariant.4.due ∙ (ap (λ (m : LocalState _). m.due) c.self.view_is ∙ c.requires.settled))
 
 pub invariant_of-self : goal.invariant_of-self
 invariant_of-self g c = let l = c.self.inside in let i = c.self.invariant in let b = l.domain.now.board in
     let own : Participant = c.arrive-goes_on.new.own in let a = c.arrive-goes_on.ensures.arrived in let count : ℕ = a.0 in let arrives = a.1 in
-    let none = none_ripe (slots_of b) (ripe l.token.me.0.slots.waits) (sym i.4.due ∙ (ap (λ (m : LocalState). m.due) c.self.view_is ∙ c.requires.settled)) in
+    let none = none_ripe (slots_of b) (ripe l.token.me.0.slots.waits) (sym i.4.due ∙ (ap (λ (m : LocalState _). m.due) c.self.view_is ∙ c.requires.settled)) in
     let shut : l.own.guards ≡ 0 = search rules in
     let guards : own.guards ≡ 0 = has_open count l.own c.arrive-goes_on.result own a.2 ∙ shut in
     let one : own.guards + 1 ≡ 1 = omega arith in
@@ -65,17 +65,17 @@ invariant_of-self g c = let l = c.self.inside in let i = c.self.invariant in let
 
 pub returns-clause-entered : goal.returns-clause-entered
 returns-clause-entered g c = let l = c.self.inside in let i = c.self.invariant in let a = c.arrive-goes_on.ensures.arrived in let count : ℕ = a.0 in
-    let arrives = a.1 in let has = a.2 in let old : LocalState = c.self.view_is 0 in let own : Participant = c.arrive-goes_on.new.own in
+    let arrives = a.1 in let has = a.2 in let old : LocalState _ = c.self.view_is 0 in let own : Participant = c.arrive-goes_on.new.own in
     let token = c.arrive-goes_on.new.token in let shut : l.own.guards ≡ 0 = search rules in
     let guards : own.guards ≡ 0 = has_open count l.own c.arrive-goes_on.result own has ∙ shut in let one : 1 ≡ own.guards + 1 = omega arith in
     let opened : record own { guards = 1 } ≡ nested own = λ d. record own { guards = one d } in
     let tenure = ap (λ (t : Tenure). record t { units = 0; kind = Closed }) c.split.ensures.rest
     ∙ ap (λ (t : Tenure). record t { units = 0; kind = Closed }) c.set.ensures in
-    let now : LocalState = record (with_view old token.table_id token.me.0) {
+    let now : LocalState _ = record (with_view old token.table_id token.me.0) {
       reader = record { home = c.split.new.self.home; number = c.split.new.self.number };
       own = record own { guards = 1 };
       due = c.arrive-goes_on.new.due.items;
-    } in let m : LocalState = record old {
+    } in let m : LocalState _ = record old {
       own = nested (arrived_at count old.own);
       known = token.me.0.epoch.since;
       since = token.me.0.epoch.since;
@@ -107,6 +107,6 @@ returns-clause-entered g c = let l = c.self.inside in let i = c.self.invariant i
     } in (
       count,
       m,
-      subst (λ (o : LocalState). IsEntered count o m) c.self.view_is entered,
-      subst (λ (o : LocalState). GoesOn count c.arrive-goes_on.result o m now) c.self.view_is goes,
+      subst (λ (o : LocalState _). IsEntered count o m) c.self.view_is entered,
+      subst (λ (o : LocalState _). GoesOn count c.arrive-goes_on.result o m now) c.self.view_is goes,
     )

@@ -102,7 +102,7 @@ returns-clause-looks g c = let l = c.self.inside in let b = l.domain.now.board i
     let is = seen.once slot shown (showing g.row.T c.show.result.now) seen.there
     (shows_known (book_of b) (places_of b) l.place slot l.domain.now.shelf.book (showing g.row.T c.show.result.now) seen.records
     c.watch.new.token.me.1 seen.purse shows) in
-    subst (λ (m : LocalState). LooksAt slot shared (showing g.row.T c.show.result.now) m (with_token (c.self.view_is 0) c.show.new.seat)) c.self.view_is
+    subst (λ (m : LocalState _). LooksAt slot shared (showing g.row.T c.show.result.now) m (with_token (c.self.view_is 0) c.show.new.seat)) c.self.view_is
     (subst (λ (v : Gv). LooksAt slot shared v (c.self.view_is 0) (with_token (c.self.view_is 0) c.show.new.seat)) is
     (looks_at (c.self.view_is 0) slot shared shown l.token c.watch.new.token c.show.new.seat watch c.show.ensures.seat))
 
@@ -138,14 +138,14 @@ returns-clause-recalled g c = let l = c.self.inside in let b = l.domain.now.boar
     let is = seen.once slot shown (showing g.row.T c.show.result.now) seen.there
     (shows_known (book_of b) (places_of b) l.place slot l.domain.now.shelf.book (showing g.row.T c.show.result.now) seen.records
     c.watch.new.token.me.1 seen.purse shows) in
-    subst (λ (m : LocalState). IsLone m → KnowsOwner m slot shared (showing g.row.T c.show.result.now)) c.self.view_is
+    subst (λ (m : LocalState _). IsLone m → KnowsOwner m slot shared (showing g.row.T c.show.result.now)) c.self.view_is
     (subst (λ (v : Gv). IsLone (c.self.view_is 0) → KnowsOwner (c.self.view_is 0) slot shared v) is
     (recalls_to (c.self.view_is 0) slot shared shown l.token c.recall.new.token recalled
     (inv.0.all ∙ ap (λ (z : Sizes). z.participants) l.domain.now.limited.1)))
 
 pub returns-clause-home : goal.returns-clause-home
 returns-clause-home g c = let l = c.self.inside in let b = l.domain.now.board in let inv = c.self.invariant in
-    subst (λ (m : LocalState). AreOf (home_in m) (g.T.Item.holds c.show.result.now)) c.self.view_is
+    subst (λ (m : LocalState _). AreOf (home_in m) (g.T.Item.holds c.show.result.now)) c.self.view_is
     (from_shelf b (c.self.view_is 0) (on_board l.domain.now.limits b l.token.table_id inv.0.home l.domain.now.limited.1 (c.self.view_is 0) refl refl refl)
     l.domain.now.shelf l.domain.now.shelved.0 (g.T.Item.holds c.show.result.now) c.show.ensures.fits)
 
@@ -210,7 +210,7 @@ watch-requires-clause-owner g c =
     let own = (c.witness-owner.ensures.owner (has_tables c.args.self.now c.args.right.now c.requires.home)).1 in
     let shared : Bool = is_shared (kind_of c.args.right.now) in
     let shown : Gv = (c.witness-owner.ensures.owner (has_tables c.args.self.now c.args.right.now c.requires.home)).0.shown in
-    let tables = own.table in let mine = ap (λ (h : GhostName). h.tables) c.requires.home in let there = ap (λ (m : LocalState). m.home) c.self.view_is in
+    let tables = own.table in let mine = ap (λ (h : GhostName). h.tables) c.requires.home in let there = ap (λ (m : LocalState _). m.home) c.self.view_is in
     let board = q.home in
     let table : c.witness-owner.result.now.table_id ≡ id_of b = cc in
     let inside : slot < slots_of b = search rules in
@@ -222,7 +222,7 @@ recall-requires-clause-owner g c =
     let own = (c.witness-owner.ensures.owner (has_tables c.args.self.now c.args.right.now c.requires.home)).1 in
     let shared : Bool = is_shared (kind_of c.args.right.now) in
     let shown : Gv = (c.witness-owner.ensures.owner (has_tables c.args.self.now c.args.right.now c.requires.home)).0.shown in
-    let tables = own.table in let mine = ap (λ (h : GhostName). h.tables) c.requires.home in let there = ap (λ (m : LocalState). m.home) c.self.view_is in
+    let tables = own.table in let mine = ap (λ (h : GhostName). h.tables) c.requires.home in let there = ap (λ (m : LocalState _). m.home) c.self.view_is in
     let board = q.home in
     let table : c.witness-owner.result.now.table_id ≡ id_of b = cc in
     let inside : slot < slots_of b = search rules in

@@ -62,13 +62,13 @@ returns g c = let l = c.self.inside in let b = l.domain.now.board in let t : ℕ
     let watch : MovedAlone (SeesOwned slot false shown) l.token c.look_for_raw.new.token = (look.0, look.1, hit.1) in
     let seen = watched b l.place l.own t slot false shown l.token c.look_for_raw.new.token inv.0
     (subst (λ (t : ℕ). AreLentTo t l.token.me.1) (sym c.agree.ensures.round) inv.3) watch in
-    let out : Gv = showing g.row.T c.show.result.now in let old : LocalState = c.self.view_is 0 in
+    let out : Gv = showing g.row.T c.show.result.now in let old : LocalState _ = c.self.view_is 0 in
     let is = seen.once slot shown out seen.there (shows_known (book_of b) (places_of b) l.place slot l.domain.now.shelf.book out seen.records
     c.look_for_raw.new.token.me.1 seen.purse c.show.ensures.value) in
     let sees : c.show.new.seat.me.0.stakes.sees ≡ seen.records = ap (λ (x : Seat ValueFraction View). x.me.0.stakes.sees) c.show.ensures.seat
     ∙ ap (λ (v : View). v.stakes.sees) seen.view in
     let all = inv.0.all ∙ ap (λ (z : Sizes). z.participants) l.domain.now.limited.1 in
-    subst (λ (m : LocalState). (slot < m.limits.slots) × LooksAt slot false out m (with_token old c.show.new.seat)
+    subst (λ (m : LocalState _). (slot < m.limits.slots) × LooksAt slot false out m (with_token old c.show.new.seat)
     × IsOnce c.show.new.seat.me.0.stakes.sees × AreOf (home_in m) (g.T.Item.holds c.show.result.now) × (IsLone m → KnowsRaw m slot out)) c.self.view_is (
       omega (arith, c.if-slot-self.false),
       subst (λ (v : Gv). LooksAt slot false v old (with_token old c.show.new.seat)) is

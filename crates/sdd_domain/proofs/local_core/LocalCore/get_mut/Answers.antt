@@ -29,7 +29,7 @@ use Rattle.sdd_domain.proofs.local_core.LocalCore.get_mut.Goals as goal
 
 pub hold_alone-requires-clause-home : goal.hold_alone-requires-clause-home
 hold_alone-requires-clause-home g c =
-    let l = c.self.inside in let b = l.domain.now.board in let m : LocalState = c.self.view_is 0 in let right = c.args.right.now in let kind = c.args.kind in
+    let l = c.self.inside in let b = l.domain.now.board in let m : LocalState _ = c.self.view_is 0 in let right = c.args.right.now in let kind = c.args.kind in
     let on = on_board l.domain.now.limits b l.token.table_id c.self.invariant.0.home l.domain.now.limited.1 m refl refl refl in
     let home = c.requires.home ∙ sym (ap slots_home c.self.view_is) in
     let w = c.into_owner-owner.result.0 in let grip = c.into_owner-owner.result.1 in
@@ -43,7 +43,7 @@ hold_alone-requires-clause-home g c =
 
 pub hold_alone-requires-clause-knows : goal.hold_alone-requires-clause-knows
 hold_alone-requires-clause-knows g c =
-    let l = c.self.inside in let b = l.domain.now.board in let m : LocalState = c.self.view_is 0 in let right = c.args.right.now in let kind = c.args.kind in
+    let l = c.self.inside in let b = l.domain.now.board in let m : LocalState _ = c.self.view_is 0 in let right = c.args.right.now in let kind = c.args.kind in
     let on = on_board l.domain.now.limits b l.token.table_id c.self.invariant.0.home l.domain.now.limited.1 m refl refl refl in
     let home = c.requires.home ∙ sym (ap slots_home c.self.view_is) in
     let w = c.into_owner-owner.result.0 in let grip = c.into_owner-owner.result.1 in
@@ -57,7 +57,7 @@ hold_alone-requires-clause-knows g c =
 
 pub hold_alone-requires-clause-place : goal.hold_alone-requires-clause-place
 hold_alone-requires-clause-place g c =
-    let l = c.self.inside in let b = l.domain.now.board in let m : LocalState = c.self.view_is 0 in let right = c.args.right.now in let kind = c.args.kind in
+    let l = c.self.inside in let b = l.domain.now.board in let m : LocalState _ = c.self.view_is 0 in let right = c.args.right.now in let kind = c.args.kind in
     let on = on_board l.domain.now.limits b l.token.table_id c.self.invariant.0.home l.domain.now.limited.1 m refl refl refl in
     let home = c.requires.home ∙ sym (ap slots_home c.self.view_is) in
     let w = c.into_owner-owner.result.0 in let grip = c.into_owner-owner.result.1 in
@@ -71,7 +71,7 @@ hold_alone-requires-clause-place g c =
 
 pub hold_alone-requires-clause-bare : goal.hold_alone-requires-clause-bare
 hold_alone-requires-clause-bare g c =
-    let l = c.self.inside in let b = l.domain.now.board in let m : LocalState = c.self.view_is 0 in let right = c.args.right.now in let kind = c.args.kind in
+    let l = c.self.inside in let b = l.domain.now.board in let m : LocalState _ = c.self.view_is 0 in let right = c.args.right.now in let kind = c.args.kind in
     let on = on_board l.domain.now.limits b l.token.table_id c.self.invariant.0.home l.domain.now.limited.1 m refl refl refl in
     let home = c.requires.home ∙ sym (ap slots_home c.self.view_is) in
     let w = c.into_owner-owner.result.0 in let grip = c.into_owner-owner.result.1 in
@@ -85,7 +85,7 @@ hold_alone-requires-clause-bare g c =
 
 pub hold_alone-requires-clause-owner : goal.hold_alone-requires-clause-owner
 hold_alone-requires-clause-owner g c =
-    let l = c.self.inside in let b = l.domain.now.board in let m : LocalState = c.self.view_is 0 in let right = c.args.right.now in let kind = c.args.kind in
+    let l = c.self.inside in let b = l.domain.now.board in let m : LocalState _ = c.self.view_is 0 in let right = c.args.right.now in let kind = c.args.kind in
     let on = on_board l.domain.now.limits b l.token.table_id c.self.invariant.0.home l.domain.now.limited.1 m refl refl refl in
     let home = c.requires.home ∙ sym (ap slots_home c.self.view_is) in
     let w = c.into_owner-owner.result.0 in let grip = c.into_owner-owner.result.1 in
@@ -102,7 +102,7 @@ hold_alone-requires-clause-owner g c =
 
 pub change_alone-owner-requires-clause-home : goal.change_alone-owner-requires-clause-home
 change_alone-owner-requires-clause-home g c =
-    let l = c.self.inside in let b = l.domain.now.board in let m : LocalState = c.self.view_is 0 in let right = c.args.right.now in let kind = c.args.kind in
+    let l = c.self.inside in let b = l.domain.now.board in let m : LocalState _ = c.self.view_is 0 in let right = c.args.right.now in let kind = c.args.kind in
     let on = on_board l.domain.now.limits b l.token.table_id c.self.invariant.0.home l.domain.now.limited.1 m refl refl refl in
     let home = c.requires.home ∙ sym (ap slots_home c.self.view_is) in
     let w = c.into_owner-owner.result.0 in let grip = c.into_owner-owner.result.1 in
@@ -119,7 +119,7 @@ change_alone-owner-requires-clause-home g c =
 
 pub change_alone-owner-requires-clause-knows : goal.change_alone-owner-requires-clause-knows
 change_alone-owner-requires-clause-knows g c =
-    let l = c.self.inside in let b = l.domain.now.board in let m : LocalState = c.self.view_is 0 in let right = c.args.right.now in let kind = c.args.kind in
+    let l = c.self.inside in let b = l.domain.now.board in let m : LocalState _ = c.self.view_is 0 in let right = c.args.right.now in let kind = c.args.kind in
     let on = on_board l.domain.now.limits b l.token.table_id c.self.invariant.0.home l.domain.now.limited.1 m refl refl refl in
     let home = c.requires.home ∙ sym (ap slots_home c.self.view_is) in
     let w = c.into_owner-owner.result.0 in let grip = c.into_owner-owner.result.1 in
@@ -136,7 +136,7 @@ change_alone-owner-requires-clause-knows g c =
 
 pub change_alone-owner-requires-clause-place : goal.change_alone-owner-requires-clause-place
 change_alone-owner-requires-clause-place g c =
-    let l = c.self.inside in let b = l.domain.now.board in let m : LocalState = c.self.view_is 0 in let right = c.args.right.now in let kind = c.args.kind in
+    let l = c.self.inside in let b = l.domain.now.board in let m : LocalState _ = c.self.view_is 0 in let right = c.args.right.now in let kind = c.args.kind in
     let on = on_board l.domain.now.limits b l.token.table_id c.self.invariant.0.home l.domain.now.limited.1 m refl refl refl in
     let home = c.requires.home ∙ sym (ap slots_home c.self.view_is) in
     let w = c.into_owner-owner.result.0 in let grip = c.into_owner-owner.result.1 in
@@ -153,7 +153,7 @@ change_alone-owner-requires-clause-place g c =
 
 pub change_alone-owner-requires-clause-rests : goal.change_alone-owner-requires-clause-rests
 change_alone-owner-requires-clause-rests g c =
-    let l = c.self.inside in let b = l.domain.now.board in let m : LocalState = c.self.view_is 0 in let right = c.args.right.now in let kind = c.args.kind in
+    let l = c.self.inside in let b = l.domain.now.board in let m : LocalState _ = c.self.view_is 0 in let right = c.args.right.now in let kind = c.args.kind in
     let on = on_board l.domain.now.limits b l.token.table_id c.self.invariant.0.home l.domain.now.limited.1 m refl refl refl in
     let home = c.requires.home ∙ sym (ap slots_home c.self.view_is) in
     let w = c.into_owner-owner.result.0 in let grip = c.into_owner-owner.result.1 in
@@ -170,7 +170,7 @@ change_alone-owner-requires-clause-rests g c =
 
 pub change_alone-owner-requires-clause-held : goal.change_alone-owner-requires-clause-held
 change_alone-owner-requires-clause-held g c =
-    let l = c.self.inside in let b = l.domain.now.board in let m : LocalState = c.self.view_is 0 in let right = c.args.right.now in let kind = c.args.kind in
+    let l = c.self.inside in let b = l.domain.now.board in let m : LocalState _ = c.self.view_is 0 in let right = c.args.right.now in let kind = c.args.kind in
     let on = on_board l.domain.now.limits b l.token.table_id c.self.invariant.0.home l.domain.now.limited.1 m refl refl refl in
     let home = c.requires.home ∙ sym (ap slots_home c.self.view_is) in
     let w = c.into_owner-owner.result.0 in let grip = c.into_owner-owner.result.1 in
@@ -187,7 +187,7 @@ change_alone-owner-requires-clause-held g c =
 
 pub change_alone-owner-requires-clause-looked : goal.change_alone-owner-requires-clause-looked
 change_alone-owner-requires-clause-looked g c =
-    let l = c.self.inside in let b = l.domain.now.board in let m : LocalState = c.self.view_is 0 in let right = c.args.right.now in let kind = c.args.kind in
+    let l = c.self.inside in let b = l.domain.now.board in let m : LocalState _ = c.self.view_is 0 in let right = c.args.right.now in let kind = c.args.kind in
     let on = on_board l.domain.now.limits b l.token.table_id c.self.invariant.0.home l.domain.now.limited.1 m refl refl refl in
     let home = c.requires.home ∙ sym (ap slots_home c.self.view_is) in
     let w = c.into_owner-owner.result.0 in let grip = c.into_owner-owner.result.1 in
@@ -204,7 +204,7 @@ change_alone-owner-requires-clause-looked g c =
 
 pub change_alone-owner-requires-clause-held_on : goal.change_alone-owner-requires-clause-held_on
 change_alone-owner-requires-clause-held_on g c =
-    let l = c.self.inside in let b = l.domain.now.board in let m : LocalState = c.self.view_is 0 in let right = c.args.right.now in let kind = c.args.kind in
+    let l = c.self.inside in let b = l.domain.now.board in let m : LocalState _ = c.self.view_is 0 in let right = c.args.right.now in let kind = c.args.kind in
     let on = on_board l.domain.now.limits b l.token.table_id c.self.invariant.0.home l.domain.now.limited.1 m refl refl refl in
     let home = c.requires.home ∙ sym (ap slots_home c.self.view_is) in
     let w = c.into_owner-owner.result.0 in let grip = c.into_owner-owner.result.1 in
@@ -215,12 +215,12 @@ change_alone-owner-requires-clause-held_on g c =
     let same = same_recalled b l.place slot (is_shared kind) grip.shown l.token t (c.recall.ensures slot (is_shared kind) grip.shown known) in
     let q = subst (λ (x : Seat ValueFraction View). IsBetweenCalls b l.place l.own x) (sym same) c.self.invariant.0 in
     λ was now r then of_was. to_board b m on (g.T.Item.holds now)
-    (subst (λ (x : LocalState). AreOf (home_in x) (g.T.Item.holds now)) (sym c.self.view_is) (c.requires.held was now r then
-    (subst (λ (x : LocalState). AreOf (home_in x) (g.T.Item.holds was)) c.self.view_is (from_board b m on (g.T.Item.holds was) of_was))))
+    (subst (λ (x : LocalState _). AreOf (home_in x) (g.T.Item.holds now)) (sym c.self.view_is) (c.requires.held was now r then
+    (subst (λ (x : LocalState _). AreOf (home_in x) (g.T.Item.holds was)) c.self.view_is (from_board b m on (g.T.Item.holds was) of_was))))
 
 pub invariant_of-self : goal.invariant_of-self
 invariant_of-self g c =
-    let l = c.self.inside in let b = l.domain.now.board in let m : LocalState = c.self.view_is 0 in let right = c.args.right.now in let kind = c.args.kind in
+    let l = c.self.inside in let b = l.domain.now.board in let m : LocalState _ = c.self.view_is 0 in let right = c.args.right.now in let kind = c.args.kind in
     let on = on_board l.domain.now.limits b l.token.table_id c.self.invariant.0.home l.domain.now.limited.1 m refl refl refl in
     let home = c.requires.home ∙ sym (ap slots_home c.self.view_is) in
     let w = c.into_owner-owner.result.0 in let grip = c.into_owner-owner.result.1 in
@@ -250,7 +250,7 @@ invariant_of-self g c =
 
 pub change_alone-owner-requires-clause-shows : goal.change_alone-owner-requires-clause-shows
 change_alone-owner-requires-clause-shows g c =
-    let l = c.self.inside in let b = l.domain.now.board in let m : LocalState = c.self.view_is 0 in let right = c.args.right.now in let kind = c.args.kind in
+    let l = c.self.inside in let b = l.domain.now.board in let m : LocalState _ = c.self.view_is 0 in let right = c.args.right.now in let kind = c.args.kind in
     let on = on_board l.domain.now.limits b l.token.table_id c.self.invariant.0.home l.domain.now.limited.1 m refl refl refl in
     let home = c.requires.home ∙ sym (ap slots_home c.self.view_is) in
     let w = c.into_owner-owner.result.0 in let grip = c.into_owner-owner.result.1 in
@@ -267,7 +267,7 @@ change_alone-owner-requires-clause-shows g c =
 
 pub invariant_of-self-in-Err : goal.invariant_of-self-in-Err
 invariant_of-self-in-Err g c =
-    let l = c.self.inside in let b = l.domain.now.board in let m : LocalState = c.self.view_is 0 in let right = c.args.right.now in let kind = c.args.kind in
+    let l = c.self.inside in let b = l.domain.now.board in let m : LocalState _ = c.self.view_is 0 in let right = c.args.right.now in let kind = c.args.kind in
     let on = on_board l.domain.now.limits b l.token.table_id c.self.invariant.0.home l.domain.now.limited.1 m refl refl refl in
     let home = c.requires.home ∙ sym (ap slots_home c.self.view_is) in
     let w = c.into_owner-owner.result.0 in let grip = c.into_owner-owner.result.1 in
@@ -289,7 +289,7 @@ invariant_of-self-in-Err g c =
 
 pub returns-in-Ok-clause-changed : goal.returns-in-Ok-clause-changed
 returns-in-Ok-clause-changed g c =
-    let l = c.self.inside in let b = l.domain.now.board in let m : LocalState = c.self.view_is 0 in let right = c.args.right.now in let kind = c.args.kind in
+    let l = c.self.inside in let b = l.domain.now.board in let m : LocalState _ = c.self.view_is 0 in let right = c.args.right.now in let kind = c.args.kind in
     let on = on_board l.domain.now.limits b l.token.table_id c.self.invariant.0.home l.domain.now.limited.1 m refl refl refl in
     let home = c.requires.home ∙ sym (ap slots_home c.self.view_is) in
     let w = c.into_owner-owner.result.0 in let grip = c.into_owner-owner.result.1 in
@@ -315,7 +315,7 @@ returns-in-Ok-clause-changed g c =
     let from = table ∙ ap (λ (x : Seat ValueFraction View). x.table_id) same in
     let inside = subst (λ (r : Right). number_of r < (home_of r).size) c.take.ensures c.into_owner-owner.ensures.inside in
     let low = owner_inside b m on right kind home c.requires.kind w grip by slot is inside in
-    let new : LocalState = with_view m u.table_id u.me.0 in let made = c.of_witness.ensures in
+    let new : LocalState _ = with_view m u.table_id u.me.0 in let made = c.of_witness.ensures in
     let alone : IsLone m → l.token.me.0.epoch.all ≡ 1
     = λ lone. c.self.invariant.0.all ∙ (ap (λ (z : Sizes). z.participants) l.domain.now.limited.1 ∙ lone) in
     let owner : IsRightTo m kind now c.of_witness.result = record {
@@ -328,21 +328,21 @@ returns-in-Ok-clause-changed g c =
       did.1,
       subst (λ (x : Gv). HasValue x right) told (owner_has b m on right kind home c.requires.kind w grip by slot is seen),
       did.3,
-      subst (λ (x : LocalState). ChangesAt k (is_shared kind) now x new) c.self.view_is record {
+      subst (λ (x : LocalState _). ChangesAt k (is_shared kind) now x new) c.self.view_is record {
         inside = subst (λ (n : ℕ). k < n) (sym on.slots) (subst (λ (j : ℕ). j < slots_of b) is low);
         member = λ d. with_view m (from d) (at d);
         sole = knew_sole m slot k is shared (is_shared kind) sorted l.token t u same refl alone held.sole;
         quiet = held_shut b l.place l.own t q slot shared grip.shown h held;
       },
       subst (λ (r : Right). IsRightTo c.args.self.now kind now r) (sym c.put.ensures)
-          (subst (λ (x : LocalState). IsRightTo x kind now c.of_witness.result) c.self.view_is owner),
-      subst (λ (x : LocalState). AreOf (home_in x) (g.T.Item.holds did.1)) c.self.view_is (from_board b m on (g.T.Item.holds did.1) did.8),
+          (subst (λ (x : LocalState _). IsRightTo x kind now c.of_witness.result) c.self.view_is owner),
+      subst (λ (x : LocalState _). AreOf (home_in x) (g.T.Item.holds did.1)) c.self.view_is (from_board b m on (g.T.Item.holds did.1) did.8),
       did.9 ∙ ap (λ (j : ℕ). slice_set c.args.ledger.now.entries j (Some (did.1, now))) is,
     )
 
 pub returns-in-Ok-clause-recalled : goal.returns-in-Ok-clause-recalled
 returns-in-Ok-clause-recalled g c =
-    let l = c.self.inside in let b = l.domain.now.board in let m : LocalState = c.self.view_is 0 in let right = c.args.right.now in let kind = c.args.kind in
+    let l = c.self.inside in let b = l.domain.now.board in let m : LocalState _ = c.self.view_is 0 in let right = c.args.right.now in let kind = c.args.kind in
     let on = on_board l.domain.now.limits b l.token.table_id c.self.invariant.0.home l.domain.now.limited.1 m refl refl refl in
     let home = c.requires.home ∙ sym (ap slots_home c.self.view_is) in
     let w = c.into_owner-owner.result.0 in let grip = c.into_owner-owner.result.1 in
@@ -353,7 +353,7 @@ returns-in-Ok-clause-recalled g c =
     let same = same_recalled b l.place slot (is_shared kind) grip.shown l.token t (c.recall.ensures slot (is_shared kind) grip.shown known) in
     let q = subst (λ (x : Seat ValueFraction View). IsBetweenCalls b l.place l.own x) (sym same) c.self.invariant.0 in
     let k : ℕ = number_of right in let told = owner_views b m on right kind home c.requires.kind w grip by k refl in
-    subst (λ (x : LocalState). IsLone x → (value : Gv) × HasValue value right × KnowsOwner x k (is_shared kind) value) c.self.view_is (λ lone. (
+    subst (λ (x : LocalState _). IsLone x → (value : Gv) × HasValue value right × KnowsOwner x k (is_shared kind) value) c.self.view_is (λ lone. (
       grip.shown,
       owner_has b m on right kind home c.requires.kind w grip by slot is seen,
       recalls_to m k (is_shared kind) grip.shown l.token t (c.recall.ensures k (is_shared kind) grip.shown told)
@@ -362,7 +362,7 @@ returns-in-Ok-clause-recalled g c =
 
 pub returns-in-Err-clause-changed : goal.returns-in-Err-clause-changed
 returns-in-Err-clause-changed g c =
-    let l = c.self.inside in let b = l.domain.now.board in let m : LocalState = c.self.view_is 0 in let right = c.args.right.now in let kind = c.args.kind in
+    let l = c.self.inside in let b = l.domain.now.board in let m : LocalState _ = c.self.view_is 0 in let right = c.args.right.now in let kind = c.args.kind in
     let on = on_board l.domain.now.limits b l.token.table_id c.self.invariant.0.home l.domain.now.limited.1 m refl refl refl in
     let home = c.requires.home ∙ sym (ap slots_home c.self.view_is) in
     let w = c.into_owner-owner.result.0 in let grip = c.into_owner-owner.result.1 in
@@ -380,7 +380,7 @@ returns-in-Err-clause-changed g c =
       c.put-in-Err.ensures ∙ right_again b m on right kind home c.requires.kind w grip by slot is c.in-Err.owner l.domain.now.limits.slots
           c.of_witness-in-Err.result back.1 back.2 seen refl made.number made.home made.kind made.views,
       refl,
-      subst (λ (x : LocalState). ((c.refused.result ≡ Refused.NotAlone) × HasOthers k (is_shared kind) x (with_token m h))
+      subst (λ (x : LocalState _). ((c.refused.result ≡ Refused.NotAlone) × HasOthers k (is_shared kind) x (with_token m h))
           ⊎ ((c.refused.result ≡ Refused.GuardOpen) × SeesGuard k (is_shared kind) x (with_token m h))) c.self.view_is
           (hindered_at m slot k is shared (is_shared kind) sorted l.token t h same refl alone (guard_of b l.place l.own t q)
           c.in-Err.hindrance c.refused.result c.refused.ensures back.0),
@@ -388,7 +388,7 @@ returns-in-Err-clause-changed g c =
 
 pub returns-in-Err-clause-recalled : goal.returns-in-Err-clause-recalled
 returns-in-Err-clause-recalled g c =
-    let l = c.self.inside in let b = l.domain.now.board in let m : LocalState = c.self.view_is 0 in let right = c.args.right.now in let kind = c.args.kind in
+    let l = c.self.inside in let b = l.domain.now.board in let m : LocalState _ = c.self.view_is 0 in let right = c.args.right.now in let kind = c.args.kind in
     let on = on_board l.domain.now.limits b l.token.table_id c.self.invariant.0.home l.domain.now.limited.1 m refl refl refl in
     let home = c.requires.home ∙ sym (ap slots_home c.self.view_is) in
     let w = c.into_owner-owner.result.0 in let grip = c.into_owner-owner.result.1 in
@@ -399,7 +399,7 @@ returns-in-Err-clause-recalled g c =
     let same = same_recalled b l.place slot (is_shared kind) grip.shown l.token t (c.recall.ensures slot (is_shared kind) grip.shown known) in
     let q = subst (λ (x : Seat ValueFraction View). IsBetweenCalls b l.place l.own x) (sym same) c.self.invariant.0 in
     let k : ℕ = number_of right in let told = owner_views b m on right kind home c.requires.kind w grip by k refl in
-    subst (λ (x : LocalState). IsLone x → (value : Gv) × HasValue value right × KnowsOwner x k (is_shared kind) value) c.self.view_is (λ lone. (
+    subst (λ (x : LocalState _). IsLone x → (value : Gv) × HasValue value right × KnowsOwner x k (is_shared kind) value) c.self.view_is (λ lone. (
       grip.shown,
       owner_has b m on right kind home c.requires.kind w grip by slot is seen,
       recalls_to m k (is_shared kind) grip.shown l.token t (c.recall.ensures k (is_shared kind) grip.shown told)

@@ -153,7 +153,7 @@ returns-clause-out g c = let l = c.self.inside in let board = l.domain.now.board
     let took = subst (λ (x : Seat ValueFraction View). Taught (λ v _ w. w ≡ regained v (owner_of slot false shown)) x 0 c.take_in.new.token) same
     (c.take_in.ensures slot false shown views) in
     let put = subst (λ (k : ℕ). Moved (PutsOut k) c.take_in.new.token 2 c.put_out.new.token) c.number-slot.ensures c.put_out.ensures in
-    let old : LocalState = c.self.view_is 0 in
+    let old : LocalState _ = c.self.view_is 0 in
     let home = put_home board l.place l.own slot shown l.token c.take_in.new.token c.put_out.new.token q took put in
     let is = put_view board l.place l.own slot shown l.token c.take_in.new.token c.put_out.new.token q took put in
     (λ d. with_view old (home d) (is d)) ∙ ap (put_out slot) c.self.view_is
@@ -164,7 +164,7 @@ returns-clause-recalled g c = let l = c.self.inside in let board = l.domain.now.
     let views = by.owner ∙ ap (λ (b : Bool). witness_of_owner slot b shown) (ap is_shared c.requires.kind) in
     let recalled = c.recall.ensures slot false shown views in
     let same = same_recalled board l.place slot false shown l.token c.recall.new.token recalled in
-    subst (λ (m : LocalState). IsLone m → (value : Gv) × KnowsOwner m slot false value) c.self.view_is (λ lone. (
+    subst (λ (m : LocalState _). IsLone m → (value : Gv) × KnowsOwner m slot false value) c.self.view_is (λ lone. (
       shown,
       recalls_to (c.self.view_is 0) slot false shown l.token c.recall.new.token recalled
           (q.all ∙ ap (λ (z : Sizes). z.participants) l.domain.now.limited.1) lone,

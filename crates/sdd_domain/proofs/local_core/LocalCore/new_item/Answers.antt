@@ -30,7 +30,7 @@ pub put_value-owner-requires-clause-fits : goal.put_value-owner-requires-clause-
 put_value-owner-requires-clause-fits g c = let l = c.self.inside in let b = l.domain.now.board in let q = c.self.invariant.0 in
     to_board b (c.self.view_is 0) (on_board l.domain.now.limits b l.token.table_id q.home l.domain.now.limited.1 (c.self.view_is 0) refl refl refl)
     (g.T.Item.holds c.args.value)
-    (subst (λ (m : LocalState). AreOf (home_in m) (g.T.Item.holds c.args.value)) (sym c.self.view_is) (c.requires.home))
+    (subst (λ (m : LocalState _). AreOf (home_in m) (g.T.Item.holds c.args.value)) (sym c.self.view_is) (c.requires.home))
 
 pub invariant_of-self : goal.invariant_of-self
 invariant_of-self g c = let l = c.self.inside in let b = l.domain.now.board in let inv = c.self.invariant in let put = c.put_value-owner.ensures in

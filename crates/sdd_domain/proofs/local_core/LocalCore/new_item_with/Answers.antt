@@ -30,7 +30,7 @@ pub put_value-owner-requires-clause-fits : goal.put_value-owner-requires-clause-
 put_value-owner-requires-clause-fits g c = let l = c.self.inside in let b = l.domain.now.board in let q = c.self.invariant.0 in
     to_board b (c.self.view_is 0) (on_board l.domain.now.limits b l.token.table_id q.home l.domain.now.limited.1 (c.self.view_is 0) refl refl refl)
     (g.T.Item.holds c.make-value.result)
-    (subst (λ (m : LocalState). AreOf (home_in m) (g.T.Item.holds c.make-value.result)) (sym c.self.view_is)
+    (subst (λ (m : LocalState _). AreOf (home_in m) (g.T.Item.holds c.make-value.result)) (sym c.self.view_is)
     (c.requires.home c.make-value.result c.make-value.ensures))
 
 pub invariant_of-self : goal.invariant_of-self

@@ -19,7 +19,7 @@ use Rattle.sdd_domain.proofs.local_core.LocalCore.recall_owner.Goals as goal
 
 pub recall-requires-clause-owner : goal.recall-requires-clause-owner
 recall-requires-clause-owner g c =
-    let l = c.self.inside in let b = l.domain.now.board in let m : LocalState = c.self.view_is 0 in let right = c.args.right.now in
+    let l = c.self.inside in let b = l.domain.now.board in let m : LocalState _ = c.self.view_is 0 in let right = c.args.right.now in
     let on = on_board l.domain.now.limits b l.token.table_id c.self.invariant.0.home l.domain.now.limited.1 m refl refl refl in
     let home = c.requires ∙ sym (ap slots_home c.self.view_is) in let found = c.witness.ensures.owner (has_tables m right home) in
     let by = λ (_ : AreSlotsOfTable (home_of right)). found.1 in (
@@ -60,7 +60,7 @@ returns-clause-recalled g c =
     let shown : Gv = (c.witness.ensures.owner (has_tables c.args.self.now c.args.right.now c.requires)).0.shown in
     let own = (c.witness.ensures.owner (has_tables c.args.self.now c.args.right.now c.requires)).1 in
     let has : HasValue shown c.args.right.now = sym c.witness.ensures.views ∙ own.owner in
-    subst (λ (m : LocalState). IsLone m → (value : Gv) × HasValue value c.args.right.now × KnowsOwner m slot shared value) c.self.view_is (λ lone. (
+    subst (λ (m : LocalState _). IsLone m → (value : Gv) × HasValue value c.args.right.now × KnowsOwner m slot shared value) c.self.view_is (λ lone. (
       shown,
       has,
       recalls_to (c.self.view_is 0) slot shared shown l.token c.recall.new.token (c.recall.ensures slot shared shown own.owner)

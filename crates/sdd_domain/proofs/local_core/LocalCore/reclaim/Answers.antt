@@ -26,22 +26,22 @@ use Rattle.sdd_domain.proofs.local_core.LocalCore.reclaim.Goals as goal
 pub take_value-value-requires-clause-inside : goal.take_value-value-requires-clause-inside
 take_value-value-requires-clause-inside g c = let l = c.self.inside in let r = c.self.invariant.4 in
     item_inside (slots_of l.domain.now.board) c.args.slot c.requires.first.0 (ripe l.token.me.0.slots.waits)
-    (sym r.due ∙ (ap (λ (m : LocalState). m.due) c.self.view_is ∙ c.requires.first.1))
+    (sym r.due ∙ (ap (λ (m : LocalState _). m.due) c.self.view_is ∙ c.requires.first.1))
 
 pub take_value-value-requires-clause-due : goal.take_value-value-requires-clause-due
 take_value-value-requires-clause-due g c = let l = c.self.inside in let r = c.self.invariant.4 in
     first_is_due (slots_of l.domain.now.board) (Item c.args.slot) c.requires.first.0 l.token.me.0.slots.waits
-    (sym r.due ∙ (ap (λ (m : LocalState). m.due) c.self.view_is ∙ c.requires.first.1))
+    (sym r.due ∙ (ap (λ (m : LocalState _). m.due) c.self.view_is ∙ c.requires.first.1))
 
 pub remember-requires : goal.remember-requires
 remember-requires g c = let l = c.self.inside in let r = c.self.invariant.4 in
     let low = item_inside (slots_of l.domain.now.board) c.args.slot c.requires.first.0 (ripe l.token.me.0.slots.waits)
-    (sym r.due ∙ (ap (λ (m : LocalState). m.due) c.self.view_is ∙ c.requires.first.1)) in subst (λ (n : ℕ). c.args.slot < n) (sym r.slots) low
+    (sym r.due ∙ (ap (λ (m : LocalState _). m.due) c.self.view_is ∙ c.requires.first.1)) in subst (λ (n : ℕ). c.args.slot < n) (sym r.slots) low
 
 pub invariant_of-self : goal.invariant_of-self
 invariant_of-self g c = let l = c.self.inside in let b = l.domain.now.board in let i = c.self.invariant in let r = i.4 in let n : ℕ = slots_of b in
     let slot : ℕ = c.args.slot in let token = c.take_value-value.new.token in
-    let due = ap (λ (m : LocalState). m.due) c.self.view_is ∙ c.requires.first.1 in
+    let due = ap (λ (m : LocalState _). m.due) c.self.view_is ∙ c.requires.first.1 in
     let next = next_goes l.due c.next.new.self c.next.result (Item slot) c.requires.first.0 c.next.ensures.next due in
     let first : map (what_of n) (ripe l.token.me.0.slots.waits) ≡ Item slot ∷ c.next.new.self.items = sym r.due ∙ next in
     let low = item_inside n slot c.next.new.self.items (ripe l.token.me.0.slots.waits) first in
@@ -67,22 +67,22 @@ invariant_of-self g c = let l = c.self.inside in let b = l.domain.now.board in l
 
 pub returns-clause-home : goal.returns-clause-home
 returns-clause-home g c = let l = c.self.inside in let b = l.domain.now.board in let inv = c.self.invariant in let value = c.take_value-value.result in
-    subst (λ (m : LocalState). AreOf (home_in m) (g.T.Item.holds value)) c.self.view_is
+    subst (λ (m : LocalState _). AreOf (home_in m) (g.T.Item.holds value)) c.self.view_is
     (from_board b (c.self.view_is 0) (on_board l.domain.now.limits b l.token.table_id inv.0.home l.domain.now.limited.1 (c.self.view_is 0) refl refl refl)
     (g.T.Item.holds value) c.take_value-value.ensures.fits)
 
 pub returns-clause-reclaimed : goal.returns-clause-reclaimed
 returns-clause-reclaimed g c = let l = c.self.inside in let b = l.domain.now.board in let inv = c.self.invariant in let r = inv.4 in
     let slot : ℕ = c.args.slot in let rest = c.next.new.self.items in let token = c.take_value-value.new.token in
-    let due = ap (λ (m : LocalState). m.due) c.self.view_is ∙ c.requires.first.1 in
+    let due = ap (λ (m : LocalState _). m.due) c.self.view_is ∙ c.requires.first.1 in
     let next = next_goes l.due c.next.new.self c.next.result (Item slot) c.requires.first.0 c.next.ensures.next due in
     let first : map (what_of (slots_of b)) (ripe l.token.me.0.slots.waits) ≡ Item slot ∷ c.next.new.self.items = sym r.due ∙ next in
-    let gives = c.take_value-value.ensures.given_back in let old : LocalState = c.self.view_is 0 in
+    let gives = c.take_value-value.ensures.given_back in let old : LocalState _ = c.self.view_is 0 in
     let all : l.token.me.0.epoch.all ≡ l.domain.now.limits.participants = inv.0.all ∙ ap (λ (z : Sizes). z.participants) l.domain.now.limited.1 in
     let on = on_board l.domain.now.limits b l.token.table_id inv.0.home l.domain.now.limited.1 old refl refl refl in
     let low = item_inside (slots_of b) slot rest (ripe l.token.me.0.slots.waits) first in
-    let now : LocalState = record (with_view old token.table_id token.me.0) { tally = c.count_reclaimed.new.self; due = rest } in
-    subst (λ (m : LocalState). Reclaims slot (showing g.row.T c.take_value-value.result) m now) c.self.view_is record {
+    let now : LocalState _ = record (with_view old token.table_id token.me.0) { tally = c.count_reclaimed.new.self; due = rest } in
+    subst (λ (m : LocalState _). Reclaims slot (showing g.row.T c.take_value-value.result) m now) c.self.view_is record {
       inside = subst (λ (n : ℕ). slot < n) (sym on.slots) low;
       first = next;
       member = λ d. record (with_view old (gives.0 d) (gives.3.0 d)) { tally = c.count_reclaimed.ensures d; due = rest };

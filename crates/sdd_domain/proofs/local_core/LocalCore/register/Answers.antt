@@ -8,8 +8,6 @@ use Rattle.sdd_word_invariant.specs.Sums.{total}
 use Rattle.sdd_word_invariant.specs.Slots.{waits_in}
 use Rattle.sdd_space.proofs.Accounts.{blank-at}
 use Rattle.sdd_atomics.specs.DomainTable.{slots_of}
-use Rattle.sdd_domain.specs.Jobs.{places_of}
-use Rattle.sdd_domain.proofs.JobTables.{blank_places}
 use Rattle.sdd_domain.proofs.Moving.{no_purse, none_lent}
 use Rattle.sdd_domain.proofs.local_core.LocalCore.register.Given.{Over}
 use Rattle.sdd_domain.proofs.local_core.LocalCore.register.Goals as goal
@@ -38,6 +36,7 @@ invariant_of-result g c = let jobs : ℕ = c.args.domain.now.limits.jobs in let 
     found = search rules;
     quiet = search rules;
     pledges = search rules;
+    rights = search rules;
     waiting = search rules;
     bags = search rules;
     room = search rules;
@@ -78,5 +77,5 @@ returns-clause-registered g c = record {
   filled = search rules;
   words = search rules;
   due = search rules;
-  jobs = ap places_of (blank_jobs g c) ∙ blank_places g.row.J.Denot c.args.domain.now.limits.jobs;
+  jobs = blank_jobs g c;
 }

@@ -106,7 +106,7 @@ returns-clause-recalled g c = let l = c.self.inside in let board = l.domain.now.
     let slot : ℕ = number_of c.args.right in let shared : Bool = is_shared (kind_of c.args.right) in
     let by = c.into_owner-owner.ensures.owner (has_tables c.args.self.now c.args.right c.requires.home) in let shown : Gv = c.into_owner-owner.result.1.shown in
     let recalled = c.recall.ensures slot shared shown by.owner in
-    subst (λ (m : LocalState). IsLone m → (value : Gv) × KnowsOwner m slot shared value) c.self.view_is (λ lone. (
+    subst (λ (m : LocalState _). IsLone m → (value : Gv) × KnowsOwner m slot shared value) c.self.view_is (λ lone. (
       shown,
       recalls_to (c.self.view_is 0) slot shared shown l.token c.recall.new.token recalled
           (i.0.all ∙ ap (λ (z : Sizes). z.participants) l.domain.now.limited.1) lone,
@@ -117,7 +117,7 @@ returns-then-not-let_one_go-clause-recalled g c = let l = c.self.inside in let b
     let slot : ℕ = number_of c.args.right in let shared : Bool = is_shared (kind_of c.args.right) in
     let by = c.into_owner-owner.ensures.owner (has_tables c.args.self.now c.args.right c.requires.home) in let shown : Gv = c.into_owner-owner.result.1.shown in
     let recalled = c.recall.ensures slot shared shown by.owner in
-    subst (λ (m : LocalState). IsLone m → (value : Gv) × KnowsOwner m slot shared value) c.self.view_is (λ lone. (
+    subst (λ (m : LocalState _). IsLone m → (value : Gv) × KnowsOwner m slot shared value) c.self.view_is (λ lone. (
       shown,
       recalls_to (c.self.view_is 0) slot shared shown l.token c.recall.new.token recalled
           (i.0.all ∙ ap (λ (z : Sizes). z.participants) l.domain.now.limited.1) lone,
@@ -254,11 +254,11 @@ returns-clause-went g c =
     let own_is : c.set_has_garbage.new.self ≡ awaiting (Item slot) l.own
     = c.set_has_garbage.ensures ∙ (ap (λ (bags : Bags). with_garbage (record l.own { bags = bags })) c.push.ensures ∙ ap (λ (k : ℕ). awaiting
     (Item k) l.own) c.number-slot.ensures) in
-    let old : LocalState = c.self.view_is 0 in
+    let old : LocalState _ = c.self.view_is 0 in
     let home : c.let_one_go.new.token.table_id ≡ l.token.table_id = waits.0 ∙ took.0 in
     let alone : IsLone old → l.token.me.0.epoch.all ≡ 1 = λ one. (q.all ∙ ap (λ (z : Sizes). z.participants) l.domain.now.limited.1) ∙ one in (
       retired.0,
-      subst (λ (m : LocalState). RetiresAt slot shared retired.0 m
+      subst (λ (m : LocalState _). RetiresAt slot shared retired.0 m
           (record (with_view old c.let_one_go.new.token.table_id c.let_one_go.new.token.me.0) { own = c.set_has_garbage.new.self })) c.self.view_is record {
             member = λ d. record (with_view old (home d) (retired.1 d)) { own = own_is d };
             knew = retired.2;
@@ -278,22 +278,23 @@ returns-then-not-let_one_go-clause-went g c =
     let went = subst (λ (k : ℕ). MovedAlone (LeavesOthers k) c.take_in.new.token c.let_one_go.new.token) c.number-slot.ensures
     c.if-not-let_one_go.ensures.went in
     let left = leaves_to l.domain.now.board l.place l.own slot shared shown l.token c.take_in.new.token c.let_one_go.new.token q took went in
-    let old : LocalState = c.self.view_is 0 in
+    let old : LocalState _ = c.self.view_is 0 in
     let home : c.let_one_go.new.token.table_id ≡ l.token.table_id = went.0 ∙ took.0 in
     let alone : IsLone old → l.token.me.0.epoch.all ≡ 1 = λ one. (q.all ∙ ap (λ (z : Sizes). z.participants) l.domain.now.limited.1) ∙ one in (
       went.2.word,
-      subst (λ (m : LocalState). LeavesAt slot went.2.word m (with_view old c.let_one_go.new.token.table_id c.let_one_go.new.token.me.0)) c.self.view_is record {
-        member = λ d. with_view old (home d) (left.0 d);
-        counted = went.2.counted;
-        several = went.2.several;
-        lone = λ one. sym (subst (λ (v : View). Knew slot v went.2.word) took.3 went.2.knew (alone one));
-      },
+      subst (λ (m : LocalState _). LeavesAt slot went.2.word m
+          (with_view old c.let_one_go.new.token.table_id c.let_one_go.new.token.me.0)) c.self.view_is record {
+            member = λ d. with_view old (home d) (left.0 d);
+            counted = went.2.counted;
+            several = went.2.several;
+            lone = λ one. sym (subst (λ (v : View). Knew slot v went.2.word) took.3 went.2.knew (alone one));
+          },
     )
 
 pub take_in-requires-clause-owner : goal.take_in-requires-clause-owner
 take_in-requires-clause-owner g c = let q = c.self.invariant.0 in let b = c.self.inside.domain.now.board in
     let by = c.into_owner-owner.ensures.owner (has_tables c.args.self.now c.args.right c.requires.home) in
-    let tables = by.table in let mine = ap (λ (h : GhostName). h.tables) c.requires.home in let there = ap (λ (m : LocalState). m.home) c.self.view_is in
+    let tables = by.table in let mine = ap (λ (h : GhostName). h.tables) c.requires.home in let there = ap (λ (m : LocalState _). m.home) c.self.view_is in
     let board = q.home in
     let table : c.into_owner-owner.result.0.table_id ≡ id_of b = cc in
     (table, (number_of c.args.right, is_shared (kind_of c.args.right), c.into_owner-owner.result.1.shown, by.owner))

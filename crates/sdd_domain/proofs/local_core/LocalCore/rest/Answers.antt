@@ -7,7 +7,7 @@ invariant_of-result g c = let l = c.self.inside in let i = c.self.invariant in r
   board = l.domain.now.board;
   sizes = l.domain.now.limited.1;
   shut = search rules;
-  settled = ap (λ (m : LocalState). m.due) c.self.view_is ∙ c.requires.settled;
+  settled = ap (λ (m : LocalState _). m.due) c.self.view_is ∙ c.requires.settled;
   posed = i.0;
   tenure_is = i.2;
   lent = i.3;

@@ -11,13 +11,12 @@ use Rattle.sdd_word_invariant.specs.SlotSteps.{IsDue}
 use Rattle.sdd_domain_invariant.specs.FractionSteps.{GivesPlace}
 use Rattle.sdd_atomics.specs.DomainSeat.{Moved}
 use Rattle.sdd_atomics.specs.DomainTable.{sizes_of, slots_of}
-use Rattle.sdd_domain.specs.Jobs.{places_of}
 use Rattle.sdd_domain.specs.LocalState.{LocalState, TakesJob}
 use Rattle.sdd_domain.specs.BetweenCalls.{AreLentTo}
 use Rattle.sdd_domain.specs.Receipt.{IsTallied}
 use Rattle.sdd_domain.specs.WaitingItems.{what_of, ripe}
 use Rattle.sdd_domain.proofs.Deferring.{posed_takes, place_low, waits_now}
-use Rattle.sdd_domain.proofs.JobTables.{next_goes, job_taken, place_there, place_free}
+use Rattle.sdd_domain.proofs.JobTables.{next_goes, job_taken}
 use Rattle.sdd_domain.proofs.Members.{with_view}
 use Rattle.sdd_domain.proofs.Reclaims.{first_is_due, first_goes}
 use Rattle.sdd_domain.proofs.local_core.LocalCore.take_job.Goals as goal
@@ -26,7 +25,7 @@ pub take-requires : goal.take-requires
 take-requires g c = let first : map (what_of (slots_of c.self.inside.domain.now.board)) (ripe c.self.inside.token.me.0.slots.waits) ≡ Job c.args.place ∷
     c.next.new.self.items
     = sym c.self.invariant.4.due ∙ next_goes c.self.inside.due c.next.new.self c.next.result (Job c.args.place) c.requires.first.0 c.next.ensures.next
-    (ap (λ (m : LocalState). m.due) c.self.view_is ∙ c.requires.first.1) in
+    (ap (λ (m : LocalState _). m.due) c.self.view_is ∙ c.requires.first.1) in
     let low = place_low c.self.inside.domain.now.board c.args.place c.next.new.self.items c.self.inside.token.me.0.slots.waits first
     c.self.invariant.0.waiting in let long = c.self.invariant.4.places in omega arith
 
@@ -34,7 +33,7 @@ pub unreachable-requires : goal.unreachable-requires
 unreachable-requires g c = let first : map (what_of (slots_of c.self.inside.domain.now.board)) (ripe c.self.inside.token.me.0.slots.waits) ≡
     Job c.args.place ∷ c.next.new.self.items
     = sym c.self.invariant.4.due ∙ next_goes c.self.inside.due c.next.new.self c.next.result (Job c.args.place) c.requires.first.0 c.next.ensures.next
-    (ap (λ (m : LocalState). m.due) c.self.view_is ∙ c.requires.first.1) in
+    (ap (λ (m : LocalState _). m.due) c.self.view_is ∙ c.requires.first.1) in
     let low = place_low c.self.inside.domain.now.board c.args.place c.next.new.self.items c.self.inside.token.me.0.slots.waits first
     c.self.invariant.0.waiting in
     let wait = waits_now (slots_of c.self.inside.domain.now.board) c.args.place c.next.new.self.items c.self.inside.token.me.0.slots.waits first in
@@ -45,7 +44,7 @@ pub give_place_back-requires-clause-due : goal.give_place_back-requires-clause-d
 give_place_back-requires-clause-due g c = let first : map (what_of (slots_of c.self.inside.domain.now.board))
     (ripe c.self.inside.token.me.0.slots.waits) ≡ Job c.args.place ∷ c.next.new.self.items
     = sym c.self.invariant.4.due ∙ next_goes c.self.inside.due c.next.new.self c.next.result (Job c.args.place) c.requires.first.0 c.next.ensures.next
-    (ap (λ (m : LocalState). m.due) c.self.view_is ∙ c.requires.first.1) in let l = c.self.inside in let b = l.domain.now.board in
+    (ap (λ (m : LocalState _). m.due) c.self.view_is ∙ c.requires.first.1) in let l = c.self.inside in let b = l.domain.now.board in
     subst (λ (k : ℕ). IsDue l.token.me.0 (k + c.args.place)) (ap (λ (z : Sizes). z.slots) l.domain.now.limited.1)
     (first_is_due (slots_of b) (Job c.args.place) c.next.new.self.items l.token.me.0.slots.waits first)
 
@@ -53,7 +52,7 @@ pub invariant_of-self : goal.invariant_of-self
 invariant_of-self g c = let first : map (what_of (slots_of c.self.inside.domain.now.board)) (ripe c.self.inside.token.me.0.slots.waits) ≡ Job c.args.place
     ∷ c.next.new.self.items
     = sym c.self.invariant.4.due ∙ next_goes c.self.inside.due c.next.new.self c.next.result (Job c.args.place) c.requires.first.0 c.next.ensures.next
-    (ap (λ (m : LocalState). m.due) c.self.view_is ∙ c.requires.first.1) in
+    (ap (λ (m : LocalState _). m.due) c.self.view_is ∙ c.requires.first.1) in
     let low = place_low c.self.inside.domain.now.board c.args.place c.next.new.self.items c.self.inside.token.me.0.slots.waits first
     c.self.invariant.0.waiting in let l = c.self.inside in let b = l.domain.now.board in let i = c.self.invariant in let r = i.4 in
     let n : ℕ = slots_of b in
@@ -83,22 +82,22 @@ pub returns : goal.returns
 returns g c = let first : map (what_of (slots_of c.self.inside.domain.now.board)) (ripe c.self.inside.token.me.0.slots.waits) ≡ Job c.args.place ∷
     c.next.new.self.items
     = sym c.self.invariant.4.due ∙ next_goes c.self.inside.due c.next.new.self c.next.result (Job c.args.place) c.requires.first.0 c.next.ensures.next
-    (ap (λ (m : LocalState). m.due) c.self.view_is ∙ c.requires.first.1) in
+    (ap (λ (m : LocalState _). m.due) c.self.view_is ∙ c.requires.first.1) in
     let low = place_low c.self.inside.domain.now.board c.args.place c.next.new.self.items c.self.inside.token.me.0.slots.waits first
     c.self.invariant.0.waiting in
     let wait = waits_now (slots_of c.self.inside.domain.now.board) c.args.place c.next.new.self.items c.self.inside.token.me.0.slots.waits first in
     let l = c.self.inside in let b = l.domain.now.board in let r = c.self.invariant.4 in let place : ℕ = c.args.place in
-    let rest = c.next.new.self.items in let token = c.give_place_back.new.token in let old : LocalState = c.self.view_is 0 in
+    let rest = c.next.new.self.items in let token = c.give_place_back.new.token in let old : LocalState _ = c.self.view_is 0 in
     let gives = c.give_place_back.ensures in
-    let now : LocalState = record (with_view old token.table_id token.me.0) { due = rest; jobs = places_of c.take.new.self } in
-    subst (λ (m : LocalState). TakesJob place m now) c.self.view_is record {
+    let now : LocalState _ = record (with_view old token.table_id token.me.0) { due = rest; jobs = c.take.new.self } in
+    subst (λ (m : LocalState _). TakesJob place c.in-Some.job m now) c.self.view_is record {
       inside = subst (λ (z : Sizes). place < z.jobs) l.domain.now.limited.1 low;
       first = next_goes l.due c.next.new.self c.next.result (Job place) c.requires.first.0 c.next.ensures.next
-          (ap (λ (m : LocalState). m.due) c.self.view_is ∙ c.requires.first.1);
-      there = place_there l.jobs place ((r.jobs place low).1 wait);
+          (ap (λ (m : LocalState _). m.due) c.self.view_is ∙ c.requires.first.1);
+      there = sym c.take.ensures.job ∙ c.in-Some.is;
       member = λ d. record (with_view old (gives.0 d) (gives.2.1.0 d)) {
         due = rest;
-        jobs = (ap places_of c.take.ensures.free ∙ place_free l.jobs place) d;
+        jobs = c.take.ensures.free d;
       };
       once = gives.2.1.1;
     }

@@ -11,20 +11,21 @@ use Rattle.sdd_domain.proofs.Giving.{given_of}
 use Rattle.sdd_domain.proofs.reclaiming.LocalGiver.change.Goals as goal
 
 pub returns-clause-own : goal.returns-clause-own
-returns-clause-own g c = let p : LocalModel g.row.T.Denot = c.args.self.now in let e = c.reclaim_due.ensures in
+returns-clause-own g c = let p : LocalModel g.row.T.Denot g.row.J.Denot = c.args.self.now in let e = c.reclaim_due.ensures in
     let given = given_of p.member.due p.member.own c.reclaim_due.new.self.member.own e.own e.none in (
       given.0,
-      ap (λ (m : LocalState). m.own) c.settle.ensures ∙ (ap (λ (z : LocalModel g.row.T.Denot). settled z.member.own) c.self.view_is ∙ ap settled given.1),
+      ap (λ (m : LocalState _). m.own) c.settle.ensures ∙ (ap (λ (z : LocalModel g.row.T.Denot g.row.J.Denot). settled z.member.own) c.self.view_is
+          ∙ ap settled given.1),
       given.2,
     )
 
 pub returns-clause-exact : goal.returns-clause-exact
-returns-clause-exact g c = λ lone. let v : LocalModel g.row.T.Denot = c.self.view_is 0 in let e = c.reclaim_due.ensures in
+returns-clause-exact g c = λ lone. let v : LocalModel g.row.T.Denot g.row.J.Denot = c.self.view_is 0 in let e = c.reclaim_due.ensures in
     let rest = ap rest_of c.self.view_is ∙ e.rest in
-    let here : IsLone v.member = ap (λ (z : LocalModel g.row.T.Denot). z.member.limits.participants) rest ∙ lone in
-    let place = ap (λ (z : LocalModel g.row.T.Denot). z.member.place) rest in
+    let here : IsLone v.member = ap (λ (z : LocalModel g.row.T.Denot g.row.J.Denot). z.member.limits.participants) rest ∙ lone in
+    let place = ap (λ (z : LocalModel g.row.T.Denot g.row.J.Denot). z.member.place) rest in
     let first = (c.self.invariant here).place in
-    ap (λ (m : LocalState). world_of (record { member = m; entries = v.entries })) c.settle.ensures
+    ap (λ (m : LocalState _). world_of (record { member = m; entries = v.entries })) c.settle.ensures
     ∙ (steps_alone (λ (w : World g.row.T.Denot) (k : ℕ). steps.settled w k) v (record v { member = record v.member { own = settled v.member.own } }) first
     first refl
     ∙ (λ d. steps.settled ((ap world_of c.self.view_is ∙ e.exact lone) d) (place d)))

@@ -21,23 +21,26 @@ use Rattle.sdd_domain.proofs.reclaiming.LocalGiver.drop_in_place.Goals as goal
 
 -- the owner stays
 pub invariant_of-self : goal.invariant_of-self
-invariant_of-self g c = let v : LocalModel g.row.T.Denot = c.self.view_is 0 in let m : LocalState = c.drop_in_place.new.self in
-    let right = c.args.right in let kind = c.args.kind in let k : ℕ = number_of right in let p : LocalModel g.row.T.Denot = c.args.self.now in
+invariant_of-self g c = let v : LocalModel g.row.T.Denot g.row.J.Denot = c.self.view_is 0 in
+    let m : LocalState _ = c.drop_in_place.new.self in
+    let right = c.args.right in let kind = c.args.kind in let k : ℕ = number_of right in let p : LocalModel g.row.T.Denot g.row.J.Denot = c.args.self.now in
     let recalled : IsLone v.member → (x : Gv) × KnowsOwner v.member k (is_shared kind) x
     = λ one. (let told = c.drop_in_place.ensures.recalled one in (told.0, told.2)) in
     stays_tied v p c.self.view_is c.self.invariant k kind recalled m c.in_err-value.field-0.0.1 c.in_err-value.ensures.gone.1
 
 pub returns-in_err-value-clause-owned : goal.returns-in_err-value-clause-owned
-returns-in_err-value-clause-owned g c lone = let v : LocalModel g.row.T.Denot = c.self.view_is 0 in let m : LocalState = c.drop_in_place.new.self in
-    let right = c.args.right in let kind = c.args.kind in let k : ℕ = number_of right in let p : LocalModel g.row.T.Denot = c.args.self.now in
+returns-in_err-value-clause-owned g c lone = let v : LocalModel g.row.T.Denot g.row.J.Denot = c.self.view_is 0 in
+    let m : LocalState _ = c.drop_in_place.new.self in
+    let right = c.args.right in let kind = c.args.kind in let k : ℕ = number_of right in let p : LocalModel g.row.T.Denot g.row.J.Denot = c.args.self.now in
     let recalled : IsLone v.member → (x : Gv) × KnowsOwner v.member k (is_shared kind) x
     = λ one. (let told = c.drop_in_place.ensures.recalled one in (told.0, told.2)) in
     subst (λ (x : StandingKind). IsOwnedBy x (standing_at (world_of p) k)) (sym c.requires.kind)
     (owned_there v p c.self.view_is c.self.invariant k kind recalled (lone_true p.member lone))
 
 pub returns-in_err-value-clause-exact : goal.returns-in_err-value-clause-exact
-returns-in_err-value-clause-exact g c lone = let v : LocalModel g.row.T.Denot = c.self.view_is 0 in let m : LocalState = c.drop_in_place.new.self in
-    let right = c.args.right in let kind = c.args.kind in let k : ℕ = number_of right in let p : LocalModel g.row.T.Denot = c.args.self.now in
+returns-in_err-value-clause-exact g c lone = let v : LocalModel g.row.T.Denot g.row.J.Denot = c.self.view_is 0 in
+    let m : LocalState _ = c.drop_in_place.new.self in
+    let right = c.args.right in let kind = c.args.kind in let k : ℕ = number_of right in let p : LocalModel g.row.T.Denot g.row.J.Denot = c.args.self.now in
     let recalled : IsLone v.member → (x : Gv) × KnowsOwner v.member k (is_shared kind) x
     = λ one. (let told = c.drop_in_place.ensures.recalled one in (told.0, told.2)) in
     handed_on _ _ c.from_residual.result c.in_err-value.field-0.0 c.from_residual.ensures.1
@@ -45,8 +48,9 @@ returns-in_err-value-clause-exact g c lone = let v : LocalModel g.row.T.Denot = 
 
 -- it was the last
 pub invariant_of-self-in-Some : goal.invariant_of-self-in-Some
-invariant_of-self-in-Some g c one = let v : LocalModel g.row.T.Denot = c.self.view_is 0 in let m : LocalState = c.drop_in_place.new.self in
-    let right = c.args.right in let kind = c.args.kind in let k : ℕ = number_of right in let p : LocalModel g.row.T.Denot = c.args.self.now in
+invariant_of-self-in-Some g c one = let v : LocalModel g.row.T.Denot g.row.J.Denot = c.self.view_is 0 in
+    let m : LocalState _ = c.drop_in_place.new.self in
+    let right = c.args.right in let kind = c.args.kind in let k : ℕ = number_of right in let p : LocalModel g.row.T.Denot g.row.J.Denot = c.args.self.now in
     let recalled : IsLone v.member → (x : Gv) × KnowsOwner v.member k (is_shared kind) x
     = λ one. (let told = c.drop_in_place.ensures.recalled one in (told.0, told.2)) in
     let did = subst (λ (o : Option g.row.T.Denot). MatchOption o (GoesBeside k (is_shared kind) v.member m)
@@ -55,20 +59,22 @@ invariant_of-self-in-Some g c one = let v : LocalModel g.row.T.Denot = c.self.vi
     let knows : IsLone v.member → KnowsOwner v.member k (is_shared kind) (showing g.row.T c.in-Some.value)
     = λ lone. (let told = c.drop_in_place.ensures.recalled lone in subst (λ (x : Gv). KnowsOwner v.member k (is_shared kind) x)
     (one-shown k (is_shared (kind_of right)) told.0 (showing g.row.T c.in-Some.value) (sym told.1 ∙ did.0)) told.2) in
-    let lone : IsLone v.member = sym (ap (λ (y : LocalState). y.limits.participants) did.1.member) ∙ one in
+    let lone : IsLone v.member = sym (ap (λ (y : LocalState _). y.limits.participants) did.1.member) ∙ one in
     tied_dropped g.row.T v (c.self.invariant lone) c.codes.ensures k (is_shared kind) c.in-Some.value (knows lone) m did.1
 
 pub returns-in-Some-clause-owned : goal.returns-in-Some-clause-owned
-returns-in-Some-clause-owned g c lone = let v : LocalModel g.row.T.Denot = c.self.view_is 0 in let m : LocalState = c.drop_in_place.new.self in
-    let right = c.args.right in let kind = c.args.kind in let k : ℕ = number_of right in let p : LocalModel g.row.T.Denot = c.args.self.now in
+returns-in-Some-clause-owned g c lone = let v : LocalModel g.row.T.Denot g.row.J.Denot = c.self.view_is 0 in
+    let m : LocalState _ = c.drop_in_place.new.self in
+    let right = c.args.right in let kind = c.args.kind in let k : ℕ = number_of right in let p : LocalModel g.row.T.Denot g.row.J.Denot = c.args.self.now in
     let recalled : IsLone v.member → (x : Gv) × KnowsOwner v.member k (is_shared kind) x
     = λ one. (let told = c.drop_in_place.ensures.recalled one in (told.0, told.2)) in
     subst (λ (x : StandingKind). IsOwnedBy x (standing_at (world_of p) k)) (sym c.requires.kind)
     (owned_there v p c.self.view_is c.self.invariant k kind recalled (lone_true p.member lone))
 
 pub returns-in-Some-clause-exact : goal.returns-in-Some-clause-exact
-returns-in-Some-clause-exact g c exact = let v : LocalModel g.row.T.Denot = c.self.view_is 0 in let m : LocalState = c.drop_in_place.new.self in
-    let right = c.args.right in let kind = c.args.kind in let k : ℕ = number_of right in let p : LocalModel g.row.T.Denot = c.args.self.now in
+returns-in-Some-clause-exact g c exact = let v : LocalModel g.row.T.Denot g.row.J.Denot = c.self.view_is 0 in
+    let m : LocalState _ = c.drop_in_place.new.self in
+    let right = c.args.right in let kind = c.args.kind in let k : ℕ = number_of right in let p : LocalModel g.row.T.Denot g.row.J.Denot = c.args.self.now in
     let recalled : IsLone v.member → (x : Gv) × KnowsOwner v.member k (is_shared kind) x
     = λ one. (let told = c.drop_in_place.ensures.recalled one in (told.0, told.2)) in
     let did = subst (λ (o : Option g.row.T.Denot). MatchOption o (GoesBeside k (is_shared kind) v.member m)
@@ -77,19 +83,20 @@ returns-in-Some-clause-exact g c exact = let v : LocalModel g.row.T.Denot = c.se
     let knows : IsLone v.member → KnowsOwner v.member k (is_shared kind) (showing g.row.T c.in-Some.value)
     = λ lone. (let told = c.drop_in_place.ensures.recalled lone in subst (λ (x : Gv). KnowsOwner v.member k (is_shared kind) x)
     (one-shown k (is_shared (kind_of right)) told.0 (showing g.row.T c.in-Some.value) (sym told.1 ∙ did.0)) told.2) in
-    let lone : IsLone v.member = subst (λ (q : LocalModel g.row.T.Denot). IsLone q.member) (sym c.self.view_is) exact in
-    let there : IsLone m = ap (λ (y : LocalState). y.limits.participants) did.1.member ∙ lone in (
+    let lone : IsLone v.member = subst (λ (q : LocalModel g.row.T.Denot g.row.J.Denot). IsLone q.member) (sym c.self.view_is) exact in
+    let there : IsLone m = ap (λ (y : LocalState _). y.limits.participants) did.1.member ∙ lone in (
       alone_there v p c.self.view_is c.self.invariant k kind recalled did.1.sole (lone_true p.member exact),
-      subst (λ (q : LocalModel g.row.T.Denot). ¬ (HasOpenGuard q.member)) c.self.view_is did.1.quiet,
+      subst (λ (q : LocalModel g.row.T.Denot g.row.J.Denot). ¬ (HasOpenGuard q.member)) c.self.view_is did.1.quiet,
       c.give_up.ensures.exact (lone_true m there)
           ∙ (sym (drops_now g.row.T v (c.self.invariant lone) c.codes.ensures k (is_shared kind) c.in-Some.value (knows lone) m did.1 g.T.Item.holds)
-          ∙ ap (λ (q : LocalModel g.row.T.Denot). dropped g.T.Item.holds (world_of q) q.member.place k) c.self.view_is),
+          ∙ ap (λ (q : LocalModel g.row.T.Denot g.row.J.Denot). dropped g.T.Item.holds (world_of q) q.member.place k) c.self.view_is),
     )
 
 -- it went beside others
 pub invariant_of-self-in-None : goal.invariant_of-self-in-None
-invariant_of-self-in-None g c = let v : LocalModel g.row.T.Denot = c.self.view_is 0 in let m : LocalState = c.drop_in_place.new.self in
-    let right = c.args.right in let kind = c.args.kind in let k : ℕ = number_of right in let p : LocalModel g.row.T.Denot = c.args.self.now in
+invariant_of-self-in-None g c = let v : LocalModel g.row.T.Denot g.row.J.Denot = c.self.view_is 0 in
+    let m : LocalState _ = c.drop_in_place.new.self in
+    let right = c.args.right in let kind = c.args.kind in let k : ℕ = number_of right in let p : LocalModel g.row.T.Denot g.row.J.Denot = c.args.self.now in
     let recalled : IsLone v.member → (x : Gv) × KnowsOwner v.member k (is_shared kind) x
     = λ one. (let told = c.drop_in_place.ensures.recalled one in (told.0, told.2)) in
     let beside = subst (λ (o : Option g.row.T.Denot). MatchOption o (GoesBeside k (is_shared kind) v.member m)
@@ -98,16 +105,18 @@ invariant_of-self-in-None g c = let v : LocalModel g.row.T.Denot = c.self.view_i
     beside_tied v p c.self.view_is c.self.invariant k kind recalled m beside
 
 pub returns-in-None-clause-owned : goal.returns-in-None-clause-owned
-returns-in-None-clause-owned g c lone = let v : LocalModel g.row.T.Denot = c.self.view_is 0 in let m : LocalState = c.drop_in_place.new.self in
-    let right = c.args.right in let kind = c.args.kind in let k : ℕ = number_of right in let p : LocalModel g.row.T.Denot = c.args.self.now in
+returns-in-None-clause-owned g c lone = let v : LocalModel g.row.T.Denot g.row.J.Denot = c.self.view_is 0 in
+    let m : LocalState _ = c.drop_in_place.new.self in
+    let right = c.args.right in let kind = c.args.kind in let k : ℕ = number_of right in let p : LocalModel g.row.T.Denot g.row.J.Denot = c.args.self.now in
     let recalled : IsLone v.member → (x : Gv) × KnowsOwner v.member k (is_shared kind) x
     = λ one. (let told = c.drop_in_place.ensures.recalled one in (told.0, told.2)) in
     subst (λ (x : StandingKind). IsOwnedBy x (standing_at (world_of p) k)) (sym c.requires.kind)
     (owned_there v p c.self.view_is c.self.invariant k kind recalled (lone_true p.member lone))
 
 pub returns-in-None-clause-exact : goal.returns-in-None-clause-exact
-returns-in-None-clause-exact g c lone = let v : LocalModel g.row.T.Denot = c.self.view_is 0 in let m : LocalState = c.drop_in_place.new.self in
-    let right = c.args.right in let kind = c.args.kind in let k : ℕ = number_of right in let p : LocalModel g.row.T.Denot = c.args.self.now in
+returns-in-None-clause-exact g c lone = let v : LocalModel g.row.T.Denot g.row.J.Denot = c.self.view_is 0 in
+    let m : LocalState _ = c.drop_in_place.new.self in
+    let right = c.args.right in let kind = c.args.kind in let k : ℕ = number_of right in let p : LocalModel g.row.T.Denot g.row.J.Denot = c.args.self.now in
     let recalled : IsLone v.member → (x : Gv) × KnowsOwner v.member k (is_shared kind) x
     = λ one. (let told = c.drop_in_place.ensures.recalled one in (told.0, told.2)) in
     let beside = subst (λ (o : Option g.row.T.Denot). MatchOption o (GoesBeside k (is_shared kind) v.member m)

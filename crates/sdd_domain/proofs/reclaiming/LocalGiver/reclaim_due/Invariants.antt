@@ -2,6 +2,7 @@ use Rattle.std.proofs.Common.{◌≡◌, [], length}
 use Rattle.sdd_space.specs.KnownEpochs.{KnowsOn}
 use Rattle.sdd_space.specs.ParticipantChanges.{KeepsMoreWaiting}
 use Rattle.sdd_space.specs.WorldChanges.{all_reclaimed}
+use Rattle.sdd_participants.specs.Jobs.{jobs_without_all}
 use Rattle.sdd_domain.specs.Local.{world_of}
 use Rattle.sdd_domain.specs.LocalState.{IsLone}
 use Rattle.sdd_domain.specs.Receipt.{with_reclaimed}
@@ -18,6 +19,7 @@ invariant-loop-what g l = record {
   known : KnowsOn (known_of l.fn.self) (known_of l.self);
   rest : rest_of l.self ≡ rest_of l.fn.self;
   reclaimed : with_reclaimed (items_in l.self.member.due) l.self.member.tally ≡ with_reclaimed (items_in l.fn.self.member.due) l.fn.self.member.tally;
+  jobs : jobs_without_all l.self.member.jobs l.self.member.due ≡ jobs_without_all l.fn.self.member.jobs l.fn.self.member.due;
   exact : IsLone l.fn.self.member → all_reclaimed g.T.Item.holds (world_of l.self) l.self.member.place l.self.member.due
       ≡ all_reclaimed g.T.Item.holds (world_of l.fn.self) l.fn.self.member.place l.fn.self.member.due;
 }

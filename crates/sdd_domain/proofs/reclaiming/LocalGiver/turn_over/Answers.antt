@@ -9,28 +9,29 @@ use Rattle.sdd_domain.proofs.reclaiming.LocalGiver.turn_over.Goals.{then-goes_on
 use Rattle.sdd_domain.proofs.reclaiming.LocalGiver.turn_over.Goals as goal
 
 pub invariant_of-self : goal.invariant_of-self
-invariant_of-self g c one = let v : LocalModel g.row.T.Denot = c.self.view_is 0 in let e = c.enter-guard.ensures.entered in
-    let settled = ap (λ (z : LocalModel g.row.T.Denot). z.member.due) c.self.view_is ∙ c.requires.settled in
+invariant_of-self g c one = let v : LocalModel g.row.T.Denot g.row.J.Denot = c.self.view_is 0 in let e = c.enter-guard.ensures.entered in
+    let settled = ap (λ (z : LocalModel g.row.T.Denot g.row.J.Denot). z.member.due) c.self.view_is ∙ c.requires.settled in
     let so = stands e.0 c.enter-guard.result.1 v.member e.1 c.enter-guard.new.self e.2 e.3 in
     let lone : IsLone v.member = sym (ap (λ (l : Limits). l.participants) so.limits) ∙ one in
     tied_stands v (c.self.invariant lone) settled e.0 c.enter-guard.result.1 e.1 c.enter-guard.new.self lone e.2 e.3
 
 pub invariant_of-self-else-goes_on : goal.invariant_of-self-else-goes_on
-invariant_of-self-else-goes_on g c one = let v : LocalModel g.row.T.Denot = c.self.view_is 0 in let e = c.enter-guard.ensures.entered in
-    let settled = ap (λ (z : LocalModel g.row.T.Denot). z.member.due) c.self.view_is ∙ c.requires.settled in
+invariant_of-self-else-goes_on g c one = let v : LocalModel g.row.T.Denot g.row.J.Denot = c.self.view_is 0 in let e = c.enter-guard.ensures.entered in
+    let settled = ap (λ (z : LocalModel g.row.T.Denot g.row.J.Denot). z.member.due) c.self.view_is ∙ c.requires.settled in
     let so = stands e.0 c.enter-guard.result.1 v.member e.1 c.enter-guard.new.self e.2 e.3 in
     let lone : IsLone v.member = sym (ap (λ (l : Limits). l.participants) so.limits) ∙ one in
     tied_stands v (c.self.invariant lone) settled e.0 c.enter-guard.result.1 e.1 c.enter-guard.new.self lone e.2 e.3
 
 pub returns-clause-shut : goal.returns-clause-shut
-returns-clause-shut g c = let v : LocalModel g.row.T.Denot = c.self.view_is 0 in let e = c.enter-guard.ensures.entered in
-    let now = ap (λ (z : LocalModel g.row.T.Denot). z.member.own.guards) c.self.view_is in
+returns-clause-shut g c = let v : LocalModel g.row.T.Denot g.row.J.Denot = c.self.view_is 0 in let e = c.enter-guard.ensures.entered in
+    let now = ap (λ (z : LocalModel g.row.T.Denot g.row.J.Denot). z.member.own.guards) c.self.view_is in
     let shut : v.member.own.guards ≡ 0 = (let s = c.requires.shut in omega arith) in
     let so = (stands e.0 c.enter-guard.result.1 v.member e.1 c.enter-guard.new.self e.2 e.3).one shut in
     let one : c.if-goes_on.self.member.own.guards ≡ 1 = elim c.if-goes_on.branch [
-      | then-goes_on w ↦ ap (λ (z : LocalModel g.row.T.Denot). z.member.own.guards) w.self-is
+      | then-goes_on w ↦ ap (λ (z : LocalModel g.row.T.Denot g.row.J.Denot). z.member.own.guards) w.self-is
           ∙ (ap (λ (o : Participant). o.guards) w.change.ensures.own.1 ∙ (all_guards w.change.ensures.own.0 c.enter-guard.new.self.own ∙ so))
-      | else-goes_on w ↦ ap (λ (z : LocalModel g.row.T.Denot). z.member.own.guards) w.self-is ∙ so
+      | else-goes_on w ↦ ap (λ (z : LocalModel g.row.T.Denot g.row.J.Denot). z.member.own.guards) w.self-is ∙ so
     ] in
     closed_none c.accelerate.new.self c.close_guard.new.self c.close_guard.ensures
-    (ap (λ (y : LocalState). y.own.guards) c.accelerate.ensures ∙ (ap (λ (z : LocalModel g.row.T.Denot). z.member.own.guards) c.self-2.view_is ∙ one))
+    (ap (λ (y : LocalState _). y.own.guards) c.accelerate.ensures
+    ∙ (ap (λ (z : LocalModel g.row.T.Denot g.row.J.Denot). z.member.own.guards) c.self-2.view_is ∙ one))

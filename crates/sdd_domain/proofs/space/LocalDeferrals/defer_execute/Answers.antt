@@ -7,17 +7,17 @@ use Rattle.sdd_domain.proofs.JobAnswers.{answered_tied, answered_sound, answered
 use Rattle.sdd_domain.proofs.space.LocalDeferrals.defer_execute.Goals as goal
 
 pub invariant_of-self-inside : goal.invariant_of-self-inside
-invariant_of-self-inside g c = let v : LocalModel g.row.T.Denot = (c.self-inside.view_is 0).partner in
+invariant_of-self-inside g c = let v : LocalModel g.row.T.Denot g.row.J.Denot = (c.self-inside.view_is 0).partner in
     answered_tied v c.defer_execute.new.self c.self-inside.invariant c.args.job c.defer_execute.result c.defer_execute.ensures
 
 pub invariant_of-self : goal.invariant_of-self
-invariant_of-self g c = let v : LocalModel g.row.T.Denot = (c.self-inside.view_is 0).partner in
+invariant_of-self g c = let v : LocalModel g.row.T.Denot g.row.J.Denot = (c.self-inside.view_is 0).partner in
     let inner : v ≡ c.self.inside.partner = ap (λ (i : Inside g.row.T.Denot g.row.J.Denot). i.partner) c.self-inside.view_is in
     answered_sound v c.defer_execute.new.self c.self-inside.invariant c.args.job g.T.Item.holds c.defer_execute.result c.defer_execute.ensures
     (subst (IsSound g.T.Item.holds) (sym inner) c.self.invariant)
 
 pub returns-clause-unmoved : goal.returns-clause-unmoved
-returns-clause-unmoved g c = let v : LocalModel g.row.T.Denot = (c.self-inside.view_is 0).partner in
+returns-clause-unmoved g c = let v : LocalModel g.row.T.Denot g.row.J.Denot = (c.self-inside.view_is 0).partner in
     let inner : v ≡ c.self.inside.partner = ap (λ (i : Inside g.row.T.Denot g.row.J.Denot). i.partner) c.self-inside.view_is in
     let is = inner ∙ c.self.view_is in record {
       seat = answered_seat v c.defer_execute.new.self c.self-inside.invariant c.args.job c.defer_execute.result c.args.self.now is c.defer_execute.ensures;
@@ -27,7 +27,7 @@ returns-clause-unmoved g c = let v : LocalModel g.row.T.Denot = (c.self-inside.v
     }
 
 pub returns-clause-exact : goal.returns-clause-exact
-returns-clause-exact g c = λ exact. let v : LocalModel g.row.T.Denot = (c.self-inside.view_is 0).partner in
+returns-clause-exact g c = λ exact. let v : LocalModel g.row.T.Denot g.row.J.Denot = (c.self-inside.view_is 0).partner in
     let inner : v ≡ c.self.inside.partner = ap (λ (i : Inside g.row.T.Denot g.row.J.Denot). i.partner) c.self-inside.view_is in
     answered_exact v c.defer_execute.new.self c.self-inside.invariant c.args.job c.defer_execute.result c.args.self.now (inner ∙ c.self.view_is)
     c.defer_execute.ensures exact

@@ -12,16 +12,16 @@ use Rattle.sdd_domain.proofs.Sound.{sound_step}
 use Rattle.sdd_domain.proofs.space.LocalGuards.close_guard.Goals as goal
 
 pub invariant_of-self : goal.invariant_of-self
-invariant_of-self g c = let v : LocalModel g.row.T.Denot = (c.self-inside.view_is 0).partner in
+invariant_of-self g c = let v : LocalModel g.row.T.Denot g.row.J.Denot = (c.self-inside.view_is 0).partner in
     let inner : v ≡ c.self.inside.partner = ap (λ (i : Inside g.row.T.Denot g.row.J.Denot). i.partner) c.self-inside.view_is in
-    let m : LocalState = c.close_guard.new.self in let did = c.close_guard.ensures in
+    let m : LocalState _ = c.close_guard.new.self in let did = c.close_guard.ensures in
     let same : IsLone v.member → world_of {T = g.row.T.Denot} (record { member = m; entries = v.entries })
     ≡ closed (world_of {T = g.row.T.Denot} (record { member = v.member; entries = v.entries })) v.member.place = search rules in
     sound_step g.T.Item.holds v m (subst (IsSound g.T.Item.holds) (sym inner) c.self.invariant) closed Whole-closed
-    (ap (λ (y : LocalState). y.due) did.member) (ap home_in did.member) same
+    (ap (λ (y : LocalState _). y.due) did.member) (ap home_in did.member) same
 
 pub returns-clause-keeps : goal.returns-clause-keeps
-returns-clause-keeps g c = λ opens. let v : LocalModel g.row.T.Denot = (c.self-inside.view_is 0).partner in
+returns-clause-keeps g c = λ opens. let v : LocalModel g.row.T.Denot g.row.J.Denot = (c.self-inside.view_is 0).partner in
     let inner : v ≡ c.self.inside.partner = ap (λ (i : Inside g.row.T.Denot g.row.J.Denot). i.partner) c.self-inside.view_is in
     let e = c.close_guard.ensures in let more = still_guarded v.member c.close_guard.new.self e opens in
     keeps_closed v c.close_guard.new.self (showing g.row.T) g.T.Item.holds c.args.self.now (inner ∙ c.self.view_is) _ _ e.member

@@ -11,15 +11,15 @@ use Rattle.sdd_domain.proofs.Sound.{sound_step}
 use Rattle.sdd_domain.proofs.space.LocalGuards.count.Goals as goal
 
 pub invariant_of-self : goal.invariant_of-self
-invariant_of-self g c = let v : LocalModel g.row.T.Denot = (c.self-inside.view_is 0).partner in
+invariant_of-self g c = let v : LocalModel g.row.T.Denot g.row.J.Denot = (c.self-inside.view_is 0).partner in
     let inner : v ≡ c.self.inside.partner = ap (λ (i : Inside g.row.T.Denot g.row.J.Denot). i.partner) c.self-inside.view_is in
     let told = c.count.ensures in
     sound_step g.T.Item.holds v c.count.new.self (subst (IsSound g.T.Item.holds) (sym inner) c.self.invariant) (λ w _. w) (λ w _ _ whole. whole)
-    (ap (λ (m : LocalState). m.due) told.member) (ap home_in told.member)
-    (λ one. ap (λ (m : LocalState). world_of (record v { member = m })) (told.member ∙ (λ d. record v.member { known = told.lone one d })))
+    (ap (λ (m : LocalState _). m.due) told.member) (ap home_in told.member)
+    (λ one. ap (λ (m : LocalState _). world_of (record v { member = m })) (told.member ∙ (λ d. record v.member { known = told.lone one d })))
 
 pub returns-clause-undisturbed : goal.returns-clause-undisturbed
-returns-clause-undisturbed g c = let v : LocalModel g.row.T.Denot = (c.self-inside.view_is 0).partner in
+returns-clause-undisturbed g c = let v : LocalModel g.row.T.Denot g.row.J.Denot = (c.self-inside.view_is 0).partner in
     let inner : v ≡ c.self.inside.partner = ap (λ (i : Inside g.row.T.Denot g.row.J.Denot). i.partner) c.self-inside.view_is in
     record {
       seat = search rules;
@@ -30,10 +30,10 @@ returns-clause-undisturbed g c = let v : LocalModel g.row.T.Denot = (c.self-insi
     }
 
 pub returns-clause-exact : goal.returns-clause-exact
-returns-clause-exact g c = λ exact. let v : LocalModel g.row.T.Denot = (c.self-inside.view_is 0).partner in
+returns-clause-exact g c = λ exact. let v : LocalModel g.row.T.Denot g.row.J.Denot = (c.self-inside.view_is 0).partner in
     let inner : v ≡ c.self.inside.partner = ap (λ (i : Inside g.row.T.Denot g.row.J.Denot). i.partner) c.self-inside.view_is in
     let same : v ≡ c.args.self.now = inner ∙ c.self.view_is in let told = c.count.ensures in
-    let one : IsLone v.member = subst (λ (q : LocalModel g.row.T.Denot). IsLone q.member) (sym same) (lone_is c.args.self.now.member exact) in (
-      told.lone one ∙ ap (λ (q : LocalModel g.row.T.Denot). q.member.known) same,
-      ap (λ (m : LocalState). world_of (record v { member = m })) (told.member ∙ (λ d. record v.member { known = told.lone one d })) ∙ ap world_of same,
+    let one : IsLone v.member = subst (λ (q : LocalModel g.row.T.Denot g.row.J.Denot). IsLone q.member) (sym same) (lone_is c.args.self.now.member exact) in (
+      told.lone one ∙ ap (λ (q : LocalModel g.row.T.Denot g.row.J.Denot). q.member.known) same,
+      ap (λ (m : LocalState _). world_of (record v { member = m })) (told.member ∙ (λ d. record v.member { known = told.lone one d })) ∙ ap world_of same,
     )

@@ -17,15 +17,15 @@ use Rattle.sdd_domain.proofs.Refusals.{back_keeps, back_sound, back_tied, back_w
 use Rattle.sdd_domain.proofs.space.LocalInPlaceItems.get_mut.Goals as goal
 
 pub get_mut-requires-clause-held : goal.get_mut-requires-clause-held
-get_mut-requires-clause-held g c = let v : LocalModel g.row.T.Denot = c.self-2.view_is 0 in let same = c.self-2.view_is ∙ c.self.view_is in
+get_mut-requires-clause-held g c = let v : LocalModel g.row.T.Denot g.row.J.Denot = c.self-2.view_is 0 in let same = c.self-2.view_is ∙ c.self.view_is in
     let right = c.args.right.now in
     let kind = c.args.kind in let holds = g.T.Item.holds in λ was now r then of_was.
-    subst (λ (q : LocalModel g.row.T.Denot). AreOf (home_in q.member) (holds now)) (sym same) (c.requires.held was now r then
-    (subst (λ (q : LocalModel g.row.T.Denot). AreOf (home_in q.member) (holds was)) same of_was))
+    subst (λ (q : LocalModel g.row.T.Denot g.row.J.Denot). AreOf (home_in q.member) (holds now)) (sym same) (c.requires.held was now r then
+    (subst (λ (q : LocalModel g.row.T.Denot g.row.J.Denot). AreOf (home_in q.member) (holds was)) same of_was))
 
 pub invariant_of-self : goal.invariant_of-self
-invariant_of-self g c = let v : LocalModel g.row.T.Denot = c.self-2.view_is 0 in let same = c.self-2.view_is ∙ c.self.view_is in
-    let right = c.args.right.now in let kind = c.args.kind in let holds = g.T.Item.holds in let m : LocalState = c.get_mut.new.self in
+invariant_of-self g c = let v : LocalModel g.row.T.Denot g.row.J.Denot = c.self-2.view_is 0 in let same = c.self-2.view_is ∙ c.self.view_is in
+    let right = c.args.right.now in let kind = c.args.kind in let holds = g.T.Item.holds in let m : LocalState _ = c.get_mut.new.self in
     let es = c.get_mut.new.ledger.entries in
     let recalled : IsLone v.member → (x : Gv) × KnowsOwner v.member (number_of right) (is_shared kind) x =
     λ lone. (let told = c.get_mut.ensures.recalled lone in (told.0, told.2)) in
@@ -36,8 +36,8 @@ invariant_of-self g c = let v : LocalModel g.row.T.Denot = c.self-2.view_is 0 in
     c.self-2.invariant)
 
 pub invariant_of-self-2 : goal.invariant_of-self-2
-invariant_of-self-2 g c = let v : LocalModel g.row.T.Denot = c.self-2.view_is 0 in let same = c.self-2.view_is ∙ c.self.view_is in
-    let right = c.args.right.now in let kind = c.args.kind in let holds = g.T.Item.holds in let m : LocalState = c.get_mut.new.self in
+invariant_of-self-2 g c = let v : LocalModel g.row.T.Denot g.row.J.Denot = c.self-2.view_is 0 in let same = c.self-2.view_is ∙ c.self.view_is in
+    let right = c.args.right.now in let kind = c.args.kind in let holds = g.T.Item.holds in let m : LocalState _ = c.get_mut.new.self in
     let es = c.get_mut.new.ledger.entries in
     let recalled : IsLone v.member → (x : Gv) × KnowsOwner v.member (number_of right) (is_shared kind) x =
     λ lone. (let told = c.get_mut.ensures.recalled lone in (told.0, told.2)) in
@@ -49,25 +49,25 @@ invariant_of-self-2 g c = let v : LocalModel g.row.T.Denot = c.self-2.view_is 0 
     holds sound)
 
 pub returns-clause-owned : goal.returns-clause-owned
-returns-clause-owned g c exact = let v : LocalModel g.row.T.Denot = c.self-2.view_is 0 in let same = c.self-2.view_is ∙ c.self.view_is in
-    let right = c.args.right.now in let kind = c.args.kind in let p : LocalModel g.row.T.Denot = c.args.self.now in
+returns-clause-owned g c exact = let v : LocalModel g.row.T.Denot g.row.J.Denot = c.self-2.view_is 0 in let same = c.self-2.view_is ∙ c.self.view_is in
+    let right = c.args.right.now in let kind = c.args.kind in let p : LocalModel g.row.T.Denot g.row.J.Denot = c.args.self.now in
     let recalled : IsLone v.member → (x : Gv) × KnowsOwner v.member (number_of right) (is_shared kind) x =
     λ lone. (let told = c.get_mut.ensures.recalled lone in (told.0, told.2)) in
     subst (λ (x : StandingKind). IsOwnedBy x (standing_at (world_of p) (number_of right))) (sym c.requires.kind)
     (owned_there v p same c.self-2.invariant (number_of right) kind recalled exact)
 
 pub returns-clause-exact : goal.returns-clause-exact
-returns-clause-exact g c exact = let v : LocalModel g.row.T.Denot = c.self-2.view_is 0 in let same = c.self-2.view_is ∙ c.self.view_is in
-    let right = c.args.right.now in let kind = c.args.kind in let holds = g.T.Item.holds in let m : LocalState = c.get_mut.new.self in
+returns-clause-exact g c exact = let v : LocalModel g.row.T.Denot g.row.J.Denot = c.self-2.view_is 0 in let same = c.self-2.view_is ∙ c.self.view_is in
+    let right = c.args.right.now in let kind = c.args.kind in let holds = g.T.Item.holds in let m : LocalState _ = c.get_mut.new.self in
     let es = c.get_mut.new.ledger.entries in
-    let p : LocalModel g.row.T.Denot = c.args.self.now in
+    let p : LocalModel g.row.T.Denot g.row.J.Denot = c.args.self.now in
     let recalled : IsLone v.member → (x : Gv) × KnowsOwner v.member (number_of right) (is_shared kind) x =
     λ lone. (let told = c.get_mut.ensures.recalled lone in (told.0, told.2)) in
     by_either _ _ _ _ c.get_mut.result c.get_mut.ensures.changed
     (λ _ did. (
       record {
         alone = alone_there v p same c.self-2.invariant (number_of right) kind recalled did.4.sole exact;
-        quiet = quiet_there p (subst (λ (q : LocalModel g.row.T.Denot). ¬ (HasOpenGuard q.member)) same did.4.quiet);
+        quiet = quiet_there p (subst (λ (q : LocalModel g.row.T.Denot g.row.J.Denot). ¬ (HasOpenGuard q.member)) same did.4.quiet);
       },
       (
         did.0,
@@ -83,12 +83,12 @@ returns-clause-exact g c exact = let v : LocalModel g.row.T.Denot = c.self-2.vie
       hindered_there v p same c.self-2.invariant (number_of right) kind recalled m es back.2 e.1 back.3 exact,
       back_world v m es (hindered_back v p same c.self-2.invariant (number_of right) kind recalled m es back.2 e.1 back.3)
           (lone_before v p same c.self-2.invariant (number_of right) kind recalled exact)
-          ∙ ap (λ (q : LocalModel g.row.T.Denot). world_of q) same,
+          ∙ ap (λ (q : LocalModel g.row.T.Denot g.row.J.Denot). world_of q) same,
     ))
 
 pub returns-clause-keeps : goal.returns-clause-keeps
-returns-clause-keeps g c = let v : LocalModel g.row.T.Denot = c.self-2.view_is 0 in let same = c.self-2.view_is ∙ c.self.view_is in
-    let right = c.args.right.now in let kind = c.args.kind in let holds = g.T.Item.holds in let m : LocalState = c.get_mut.new.self in
+returns-clause-keeps g c = let v : LocalModel g.row.T.Denot g.row.J.Denot = c.self-2.view_is 0 in let same = c.self-2.view_is ∙ c.self.view_is in
+    let right = c.args.right.now in let kind = c.args.kind in let holds = g.T.Item.holds in let m : LocalState _ = c.get_mut.new.self in
     let es = c.get_mut.new.ledger.entries in
     let recalled : IsLone v.member → (x : Gv) × KnowsOwner v.member (number_of right) (is_shared kind) x =
     λ lone. (let told = c.get_mut.ensures.recalled lone in (told.0, told.2)) in
@@ -97,4 +97,4 @@ returns-clause-keeps g c = let v : LocalModel g.row.T.Denot = c.self-2.view_is 0
     right kind c.get_mut.ensures.recalled did.0 did.1 did.2 m es did.4 did.7)
     (λ e back i u h. back_keeps v m es
     (hindered_back v c.args.self.now same c.self-2.invariant (number_of right) kind recalled m es back.2 e.1 back.3) (showing g.row.T) holds i u
-    (subst (λ (q : LocalModel g.row.T.Denot). Shows (showing g.row.T) holds q i u) (sym same) h))
+    (subst (λ (q : LocalModel g.row.T.Denot g.row.J.Denot). Shows (showing g.row.T) holds q i u) (sym same) h))

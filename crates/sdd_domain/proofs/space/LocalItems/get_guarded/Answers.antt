@@ -11,16 +11,16 @@ use Rattle.sdd_domain.proofs.Sound.{sound_step}
 use Rattle.sdd_domain.proofs.space.LocalItems.get_guarded.Goals as goal
 
 pub invariant_of-self : goal.invariant_of-self
-invariant_of-self g c = let v : LocalModel g.row.T.Denot = (c.self-inside.view_is 0).partner in
+invariant_of-self g c = let v : LocalModel g.row.T.Denot g.row.J.Denot = (c.self-inside.view_is 0).partner in
     let inner : v ≡ c.self.inside.partner = ap (λ (i : Inside g.row.T.Denot g.row.J.Denot). i.partner) c.self-inside.view_is in
-    let looks = c.get_guarded.ensures.looks in let m : LocalState = c.get_guarded.new.self in
+    let looks = c.get_guarded.ensures.looks in let m : LocalState _ = c.get_guarded.new.self in
     let only = only_looks g.row.T v m (number_of c.args.right.now) (is_shared (kind_of c.args.right.now)) c.get_guarded.result.now looks in
     sound_step g.T.Item.holds v m (subst (IsSound g.T.Item.holds) (sym inner) c.self.invariant) (λ w _. w) (λ w _ _ whole. whole)
-    (ap (λ (y : LocalState). y.due) only) (ap home_in only) (λ _. same_world g.row.T v m (number_of c.args.right.now)
+    (ap (λ (y : LocalState _). y.due) only) (ap home_in only) (λ _. same_world g.row.T v m (number_of c.args.right.now)
     (is_shared (kind_of c.args.right.now)) c.get_guarded.result.now looks)
 
 pub returns-clause-shown : goal.returns-clause-shown
-returns-clause-shown g c = let v : LocalModel g.row.T.Denot = (c.self-inside.view_is 0).partner in
+returns-clause-shown g c = let v : LocalModel g.row.T.Denot g.row.J.Denot = (c.self-inside.view_is 0).partner in
     let inner : v ≡ c.self.inside.partner = ap (λ (i : Inside g.row.T.Denot g.row.J.Denot). i.partner) c.self-inside.view_is in
     shows_it g.row.T v c.get_guarded.new.self (number_of c.args.right.now) (is_shared (kind_of c.args.right.now)) c.get_guarded.result.now
     c.get_guarded.ensures.looks
@@ -28,7 +28,7 @@ returns-clause-shown g c = let v : LocalModel g.row.T.Denot = (c.self-inside.vie
     c.codes.ensures c.get_guarded.ensures.recalled) g.T.Item.holds c.get_guarded.ensures.home c.get_guarded.ensures.once
 
 pub returns-clause-undisturbed : goal.returns-clause-undisturbed
-returns-clause-undisturbed g c = let v : LocalModel g.row.T.Denot = (c.self-inside.view_is 0).partner in
+returns-clause-undisturbed g c = let v : LocalModel g.row.T.Denot g.row.J.Denot = (c.self-inside.view_is 0).partner in
     let inner : v ≡ c.self.inside.partner = ap (λ (i : Inside g.row.T.Denot g.row.J.Denot). i.partner) c.self-inside.view_is in
     record {
       seat = search rules;
@@ -40,7 +40,7 @@ returns-clause-undisturbed g c = let v : LocalModel g.row.T.Denot = (c.self-insi
     }
 
 pub returns-clause-exact : goal.returns-clause-exact
-returns-clause-exact g c = λ _. let v : LocalModel g.row.T.Denot = (c.self-inside.view_is 0).partner in
+returns-clause-exact g c = λ _. let v : LocalModel g.row.T.Denot g.row.J.Denot = (c.self-inside.view_is 0).partner in
     let inner : v ≡ c.self.inside.partner = ap (λ (i : Inside g.row.T.Denot g.row.J.Denot). i.partner) c.self-inside.view_is in
     same_world g.row.T v c.get_guarded.new.self (number_of c.args.right.now) (is_shared (kind_of c.args.right.now)) c.get_guarded.result.now
     c.get_guarded.ensures.looks ∙ ap world_of (inner ∙ c.self.view_is)

@@ -20,7 +20,7 @@ invariant_of-self-2 g c = let holds = g.T.Item.holds in sound_made g.row.T holds
     (λ y. y ≡ c.args.value) (λ e. e.0 ≡ c.args.value) (λ e. (e.1 ≡ Refused.NoSlot) ⊎ (e.1 ≡ Refused.Contended)) c.new_item.result
     (as_answered g.row.T (c.self-2.view_is 0) c.new_item.new.self c.new_item.new.ledger.entries c.args.kind c.args.value
     (λ e. (e.1 ≡ Refused.NoSlot) ⊎ (e.1 ≡ Refused.Contended)) c.new_item.result c.new_item.ensures.made c.new_item.ensures.entry)
-    (λ x e. subst (λ (z : LocalModel g.row.T.Denot × g.row.T.Denot). AreOf (home_in z.0.member) (holds z.1))
+    (λ x e. subst (λ (z : LocalModel g.row.T.Denot g.row.J.Denot × g.row.T.Denot). AreOf (home_in z.0.member) (holds z.1))
     (λ d. (sym (c.self-2.view_is ∙ c.self.view_is) d, sym e d)) c.requires.home)
     c.self-2.invariant (subst (IsSound holds) (sym c.self-2.view_is) c.self.invariant)
 

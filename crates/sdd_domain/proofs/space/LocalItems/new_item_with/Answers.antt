@@ -18,7 +18,8 @@ invariant_of-self-2 g c = let holds = g.T.Item.holds in
     sound_made g.row.T holds (c.self-2.view_is 0) c.new_item_with.new.self c.new_item_with.new.ledger.entries c.args.kind
     (λ x. g.F.FnOnce.post c.args.make tt x) (λ e. e.0 ≡ c.args.make) (λ e. (e.1 ≡ Refused.NoSlot) ⊎ (e.1 ≡ Refused.Contended))
     c.new_item_with.result c.new_item_with.ensures
-    (λ x made. subst (λ (z : LocalModel g.row.T.Denot). AreOf (home_in z.member) (holds x)) (sym (c.self-2.view_is ∙ c.self.view_is)) (c.requires.home x made))
+    (λ x made. subst (λ (z : LocalModel g.row.T.Denot g.row.J.Denot). AreOf (home_in z.member) (holds x)) (sym (c.self-2.view_is ∙ c.self.view_is))
+    (c.requires.home x made))
     c.self-2.invariant (subst (IsSound holds) (sym c.self-2.view_is) c.self.invariant)
 
 pub returns-clause-shown : goal.returns-clause-shown

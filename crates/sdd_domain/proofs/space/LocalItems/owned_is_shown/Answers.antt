@@ -5,7 +5,7 @@ use Rattle.sdd_domain.proofs.Owning.{has_shown}
 use Rattle.sdd_domain.proofs.space.LocalItems.owned_is_shown.Goals as goal
 
 pub returns-clause-shown : goal.returns-clause-shown
-returns-clause-shown g c = let v : LocalModel g.row.T.Denot = (c.self-inside.view_is 0).partner in
+returns-clause-shown g c = let v : LocalModel g.row.T.Denot g.row.J.Denot = (c.self-inside.view_is 0).partner in
     let inner : v ≡ c.self.inside.partner = ap (λ (i : Inside g.row.T.Denot g.row.J.Denot). i.partner) c.self-inside.view_is in
     has_shown g.row.T v c.args.right.now c.self-inside.invariant c.codes.ensures c.recall_owner.ensures.recalled
     g.T.Item.holds c.args.self.now (inner ∙ c.self.view_is)

@@ -12,20 +12,20 @@ use Rattle.sdd_domain.specs.Space.{seat_of, known_of}
 use Rattle.sdd_domain.proofs.space.LocalItems.release.Goals as goal
 
 pub invariant_of-self : goal.invariant_of-self
-invariant_of-self g c = let v : LocalModel g.row.T.Denot = (c.self-inside.view_is 0).partner in
+invariant_of-self g c = let v : LocalModel g.row.T.Denot g.row.J.Denot = (c.self-inside.view_is 0).partner in
     let inner : v ≡ c.self.inside.partner = ap (λ (i : Inside g.row.T.Denot g.row.J.Denot). i.partner) c.self-inside.view_is in
     let tied = c.self-inside.invariant in let knows = c.release.ensures.recalled in let went = c.release.ensures.went in
     sound_release g.T.Item.holds v c.release.new.self (subst (IsSound g.T.Item.holds) (sym inner) c.self.invariant) c.args.right tied knows
     c.release.result went
 
 pub invariant_of-self-inside : goal.invariant_of-self-inside
-invariant_of-self-inside g c = let v : LocalModel g.row.T.Denot = (c.self-inside.view_is 0).partner in
+invariant_of-self-inside g c = let v : LocalModel g.row.T.Denot g.row.J.Denot = (c.self-inside.view_is 0).partner in
     let inner : v ≡ c.self.inside.partner = ap (λ (i : Inside g.row.T.Denot g.row.J.Denot). i.partner) c.self-inside.view_is in
     let tied = c.self-inside.invariant in let knows = c.release.ensures.recalled in let went = c.release.ensures.went in
     release_tied v c.release.new.self c.args.right tied knows c.release.result went
 
 pub returns-clause-released : goal.returns-clause-released
-returns-clause-released g c = let v : LocalModel g.row.T.Denot = (c.self-inside.view_is 0).partner in
+returns-clause-released g c = let v : LocalModel g.row.T.Denot g.row.J.Denot = (c.self-inside.view_is 0).partner in
     let inner : v ≡ c.self.inside.partner = ap (λ (i : Inside g.row.T.Denot g.row.J.Denot). i.partner) c.self-inside.view_is in
     let tied = c.self-inside.invariant in let knows = c.release.ensures.recalled in let went = c.release.ensures.went in λ exact. record {
       owned = release_owned v c.release.new.self c.args.right tied knows c.release.result went c.args.self.now (inner ∙ c.self.view_is) exact;
@@ -34,18 +34,19 @@ returns-clause-released g c = let v : LocalModel g.row.T.Denot = (c.self-inside.
     }
 
 pub returns-clause-own : goal.returns-clause-own
-returns-clause-own g c = let v : LocalModel g.row.T.Denot = (c.self-inside.view_is 0).partner in
+returns-clause-own g c = let v : LocalModel g.row.T.Denot g.row.J.Denot = (c.self-inside.view_is 0).partner in
     let inner : v ≡ c.self.inside.partner = ap (λ (i : Inside g.row.T.Denot g.row.J.Denot). i.partner) c.self-inside.view_is in
     let tied = c.self-inside.invariant in let knows = c.release.ensures.recalled in let went = c.release.ensures.went in
     went_own v c.release.new.self c.args.right tied knows c.release.result went
-    ∙ ap (λ (p : LocalModel g.row.T.Denot). left_waiting c.release.result (number_of c.args.right) p.member.own) (inner ∙ c.self.view_is)
+    ∙ ap (λ (p : LocalModel g.row.T.Denot g.row.J.Denot). left_waiting c.release.result (number_of c.args.right) p.member.own) (inner ∙ c.self.view_is)
 
 pub returns-clause-unmoved : goal.returns-clause-unmoved
-returns-clause-unmoved g c = let v : LocalModel g.row.T.Denot = (c.self-inside.view_is 0).partner in
+returns-clause-unmoved g c = let v : LocalModel g.row.T.Denot g.row.J.Denot = (c.self-inside.view_is 0).partner in
     let inner : v ≡ c.self.inside.partner = ap (λ (i : Inside g.row.T.Denot g.row.J.Denot). i.partner) c.self-inside.view_is in
     let tied = c.self-inside.invariant in let knows = c.release.ensures.recalled in let went = c.release.ensures.went in record {
       seat = went_seat v c.release.new.self c.args.right tied knows c.release.result went ∙ ap seat_of (inner ∙ c.self.view_is);
-      known = subst (λ (p : LocalModel g.row.T.Denot). KnowsOn (known_of p) (known_of (record { member = c.release.new.self; entries = v.entries })))
+      known = subst (λ (p : LocalModel g.row.T.Denot g.row.J.Denot). KnowsOn (known_of p)
+          (known_of (record { member = c.release.new.self; entries = v.entries })))
           (inner ∙ c.self.view_is) (went_knows v c.release.new.self c.args.right tied knows c.release.result went);
       shown = release_keeps v c.release.new.self c.args.right tied knows c.release.result went c.args.self.now (inner ∙ c.self.view_is)
           (showing g.row.T) g.T.Item.holds;

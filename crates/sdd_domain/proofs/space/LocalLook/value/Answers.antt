@@ -7,8 +7,8 @@ use Rattle.sdd_domain.proofs.Housed.{of_domain}
 use Rattle.sdd_domain.proofs.space.LocalLook.value.Goals as goal
 
 pub returns-clause-held : goal.returns-clause-held
-returns-clause-held g c = let v : LocalModel g.row.T.Denot = (c.self-inside.view_is 0).partner in
+returns-clause-held g c = let v : LocalModel g.row.T.Denot g.row.J.Denot = (c.self-inside.view_is 0).partner in
     let inner : v ≡ c.self.inside.partner = ap (λ (i : Inside g.row.T.Denot g.row.J.Denot). i.partner) c.self-inside.view_is in
     let d = c.domain.result.now in let hs = g.T.Item.holds c.view.result.now in
     let here = subst (λ (h : SpaceId). AreOf h hs) c.domain.ensures.home (of_domain d.limits d.board d.shelf d.limited.1 d.shelved.0 hs c.view.ensures.fits) in
-    subst (λ (p : LocalModel g.row.T.Denot). AreOf (home_in p.member) hs) (inner ∙ c.self.view_is) here
+    subst (λ (p : LocalModel g.row.T.Denot g.row.J.Denot). AreOf (home_in p.member) hs) (inner ∙ c.self.view_is) here

@@ -8,29 +8,29 @@ use Rattle.sdd_domain.proofs.RawWorld.{puts_tied, puts_sound, puts_stood, puts_w
 use Rattle.sdd_domain.proofs.space.LocalRawItems.into_raw.Goals as goal
 
 pub invariant_of-self : goal.invariant_of-self
-invariant_of-self g c = let v : LocalModel g.row.T.Denot = (c.self-inside.view_is 0).partner in
+invariant_of-self g c = let v : LocalModel g.row.T.Denot g.row.J.Denot = (c.self-inside.view_is 0).partner in
     let inner : v ≡ c.self.inside.partner = ap (λ (i : Inside g.row.T.Denot g.row.J.Denot). i.partner) c.self-inside.view_is in
     let e = c.into_raw.ensures in puts_sound v c.into_raw.new.self (number_of c.args.right) e.out c.self-inside.invariant e.recalled g.T.Item.holds
     (subst (IsSound g.T.Item.holds) (sym inner) c.self.invariant)
 
 pub invariant_of-self-inside : goal.invariant_of-self-inside
-invariant_of-self-inside g c = let v : LocalModel g.row.T.Denot = (c.self-inside.view_is 0).partner in
+invariant_of-self-inside g c = let v : LocalModel g.row.T.Denot g.row.J.Denot = (c.self-inside.view_is 0).partner in
     let e = c.into_raw.ensures in puts_tied v c.into_raw.new.self (number_of c.args.right) e.out c.self-inside.invariant e.recalled
 
 pub returns-clause-owned : goal.returns-clause-owned
-returns-clause-owned g c = let v : LocalModel g.row.T.Denot = (c.self-inside.view_is 0).partner in
+returns-clause-owned g c = let v : LocalModel g.row.T.Denot g.row.J.Denot = (c.self-inside.view_is 0).partner in
     let inner : v ≡ c.self.inside.partner = ap (λ (i : Inside g.row.T.Denot g.row.J.Denot). i.partner) c.self-inside.view_is in
     let e = c.into_raw.ensures in puts_stood v c.into_raw.new.self (number_of c.args.right) e.out c.self-inside.invariant e.recalled c.args.self.now
     (inner ∙ c.self.view_is)
 
 pub returns-clause-exact : goal.returns-clause-exact
-returns-clause-exact g c = let v : LocalModel g.row.T.Denot = (c.self-inside.view_is 0).partner in
+returns-clause-exact g c = let v : LocalModel g.row.T.Denot g.row.J.Denot = (c.self-inside.view_is 0).partner in
     let inner : v ≡ c.self.inside.partner = ap (λ (i : Inside g.row.T.Denot g.row.J.Denot). i.partner) c.self-inside.view_is in
     let e = c.into_raw.ensures in puts_world v c.into_raw.new.self (number_of c.args.right) e.out c.self-inside.invariant e.recalled c.args.self.now
     (inner ∙ c.self.view_is)
 
 pub returns-clause-undisturbed : goal.returns-clause-undisturbed
-returns-clause-undisturbed g c = let v : LocalModel g.row.T.Denot = (c.self-inside.view_is 0).partner in
+returns-clause-undisturbed g c = let v : LocalModel g.row.T.Denot g.row.J.Denot = (c.self-inside.view_is 0).partner in
     let inner : v ≡ c.self.inside.partner = ap (λ (i : Inside g.row.T.Denot g.row.J.Denot). i.partner) c.self-inside.view_is in
     let e = c.into_raw.ensures in puts_undisturbed v c.into_raw.new.self (number_of c.args.right) e.out c.self-inside.invariant e.recalled c.args.self.now
     (inner ∙ c.self.view_is) (showing g.row.T) g.T.Item.holds

@@ -15,6 +15,7 @@ use Rattle.sdd_lists.proofs.Entering.{entry-held}
 use Rattle.sdd_lists.proofs.Fresh.{fresh-apart, fresh-clear, fresh-far, fresh-list}
 use Rattle.sdd_lists.proofs.Grows.{grows-not, grows-spilled}
 use Rattle.sdd_lists.proofs.Refusals.{full-of, no-cell-or}
+use Rattle.sdd_lists.proofs.Values.{pushed-onto}
 use Rattle.sdd_lists.proofs.stack.Stack.push.Goals as goal
 
 -- the entry's link is a cell that was free, so it is in no list
@@ -102,3 +103,17 @@ push_first-requires-clause-value g c =
     let held = entry-held g.T.Item.holds (g.S.Caller.seat c.args.s.now).home c.in-Ok.entry c.args.value c.in-Ok.ensures.value c.requires.value
     (c.in-Ok.ensures.home ∙ ap (λ (s : CallerId). s.home.cells) c.has_slot-free.ensures.undisturbed.seat) in
     subst (λ (s : CallerId). AreOf s.home (holdings_of g.T.Item.holds c.in-Ok.entry)) (sym at1) held
+
+pub returns-in-Ok-push_first-clause-values : goal.returns-in-Ok-push_first-clause-values
+returns-in-Ok-push_first-clause-values g c = λ e vs has.
+    pushed-onto (g.S.Caller.world c.args.s.now) (g.S.Caller.world c.push_first.new.s) (g.S.Caller.seat c.args.s.now).place c.args.self.now vs has
+    c.args.value c.in-Ok-push_first.owner (returns-in-Ok-push_first-clause-list g c e has.0 has.1)
+
+pub returns-then-not-free-clause-values : goal.returns-then-not-free-clause-values
+returns-then-not-free-clause-values g c = λ e vs has. (returns-then-not-free-clause-refused g c e).0
+
+pub returns-in-Err-clause-values : goal.returns-in-Err-clause-values
+returns-in-Err-clause-values g c = λ e vs has. (returns-in-Err-clause-refused g c e).0
+
+pub returns-in-Err-push_first-clause-values : goal.returns-in-Err-push_first-clause-values
+returns-in-Err-push_first-clause-values g c = λ e vs has. (returns-in-Err-push_first-clause-refused g c e).0

@@ -16,6 +16,6 @@ returns-clause-exact g c = λ _.
       copied.0,
       copied.1,
       MatchResult-weaker c.clone_cell.result copied.2
-          (λ other h. (h.0, held-on copied.0.held h.1 (ap (λ (x : WorldCore _). x.world)) (λ k s. (s.0, s.1, s.2, ap (λ (x : WorldCore _). x.world) s.3))))
-          (λ e h. (ap (λ (x : WorldCore _). x.world) h.0, h.1)),
+          (λ other h. (h.0, held-on copied.0.held h.1 (ap (λ (x : WorldCore _ _). x.world)) (λ k s. (s.0, s.1, s.2, ap (λ (x : WorldCore _ _). x.world) s.3))))
+          (λ e h. (ap (λ (x : WorldCore _ _). x.world) h.0, h.1)),
     )

@@ -29,6 +29,6 @@ returns-clause-exact g c = λ _.
         rw (← c.world.view_is) (c.cell.ensures ∙ ap Some (sym c.raw_ptr_to.ensures)),
         subst (λ (b : Bool). g.F.FnMut.post c.args.condition (c.raw_ptr_to.result, tt) b) c.if-not-condition.false met,
         rw (← c.world.view_is)
-            (ap (λ (x : WorldCore _). x.world) tagged ∙ ap (λ (x : CellContents). with_cell w n (record x { tag = c.args.tag })) (sym c.raw_ptr_to.ensures)),
+            (ap (λ (x : WorldCore _ _). x.world) tagged ∙ ap (λ (x : CellContents). with_cell w n (record x { tag = c.args.tag })) (sym c.raw_ptr_to.ensures)),
       ),
     )

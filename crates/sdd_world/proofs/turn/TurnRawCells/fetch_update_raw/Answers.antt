@@ -18,6 +18,6 @@ returns-clause-exact g c = λ _.
         rw (← c.world.view_is) (c.pointer.ensures ∙ ap Some (sym c.raw_ptr_of-was.ensures)),
         subst (λ (o : Option (RawPtr _)). g.F.FnMut.post c.args.f (was, tt) o) c.in-Some.is met,
         rw (← c.world.view_is)
-            (ap (λ (x : WorldCore _). x.world) c.point.ensures.pointed ∙ ap (λ (p : RawCellContents). with_pointer w n p) c.pointer_of_raw.ensures),
+            (ap (λ (x : WorldCore _ _). x.world) c.point.ensures.pointed ∙ ap (λ (p : RawCellContents). with_pointer w n p) c.pointer_of_raw.ensures),
       ),
     )

@@ -32,6 +32,7 @@ returns-clause-exact g c = λ _.
         rw (← c.world.view_is) (c.pointer.ensures ∙ ap Some (sym c.raw_ptr_of-ptr.ensures)),
         subst (λ (b : Bool). g.F.FnMut.post c.args.condition (ptr, tt) b) c.if-not-condition.false met,
         rw (← c.world.view_is)
-            (ap (λ (x : WorldCore _). x.world) c.point.ensures.pointed ∙ ap (λ (p : RawCellContents). with_pointer w n p) (c.pointer_of_raw.ensures ∙ tagged)),
+            (ap (λ (x : WorldCore _ _). x.world) c.point.ensures.pointed
+            ∙ ap (λ (p : RawCellContents). with_pointer w n p) (c.pointer_of_raw.ensures ∙ tagged)),
       ),
     )

@@ -1,6 +1,7 @@
 use Rattle.std.proofs.Common.{◌≡◌, subst, sym, refl, inl, inr, ap, ◌∙◌, IsTrue}
 use Rattle.sdd_space.specs.World.{World, AnyGuardOpen}
 use Rattle.sdd_space.specs.WorldInvariant.{IsCounted, IsWhole, taken}
+use Rattle.sdd_participants.specs.Slab.{entry_at}
 use Rattle.sdd_participants.specs.declared.tally.Tally.{Tally}
 use Rattle.sdd_world_core.specs.Closing.{NothingIsOut}
 use Rattle.sdd_world.proofs.Closing.{emptied-live}
@@ -46,7 +47,13 @@ returns-then-not-is_unused g c =
     }
 
 pub destroy-requires : goal.destroy-requires
-destroy-requires g c = c.is_unused.ensures.0 c.if-not-is_unused.false
+destroy-requires g c =
+    let whole : IsWhole c.clear.new.self = rw (← c.self.view_is) c.self.invariant.2 in
+    let swept = sweeps g.T.Item.holds c.args.self c.clear.new.self c.clear.ensures whole in
+    record {
+      unused = c.is_unused.ensures.0 c.if-not-is_unused.false;
+      idle = λ j. ap (λ (w : World g.row.T.Denot). entry_at w.jobs j) c.self.view_is ∙ swept.ran j;
+    }
 
 pub returns : goal.returns
 returns g c =

@@ -4,6 +4,7 @@ use Rattle.sdd_participants.specs.declared.waiting.LimboEntry.{LimboEntry}
 use Rattle.sdd_participants.specs.Waiting.{Waiting, aged, left, due}
 use Rattle.sdd_participants.specs.EpochState.{EpochState, with_place, nobody, due_next}
 use Rattle.sdd_participants.specs.EpochState as time
+use Rattle.sdd_participants.specs.Jobs.{jobs_without_all}
 use Rattle.sdd_participants.specs.declared.participant.Participant.{Participant}
 use Rattle.sdd_participants.specs.declared.participant.CountdownState.{CountdownState}
 use Rattle.sdd_space.specs.OwnerOrCell.{OwnerOrCell}
@@ -42,10 +43,13 @@ caught {T} holds w p l e =
     let nothing = ap (λ (xs : List LimboEntry). steps.settled (all_reclaimed holds (steps.rotated w p) p xs) p) none in
     sym (nothing ∙ ap (λ (t : EpochState). record w { time = t }) (turned_at w.time p l e))
 
-caught_as : {T : Type 0} {v w : WorldCore T} → v ≡ w → (holds : T → List OwnerOrCell) (p : ℕ) → p < length w.world.time.places →
-    (place_at w.world p).bags.waiting ≡ [] →
-    record v { world = paced v.world p (idle v.world.time.count) } ≡ record w { world = changed holds w.world p }
-caught_as {T} {v} {w} same holds p l e = rw same (ap (λ (u : World T). record w { world = u }) (caught holds w.world p l e))
+caught_as : {T J : Type 0} {v w : WorldCore T J} → v ≡ w → (holds : T → List OwnerOrCell) (p : ℕ) → p < length w.world.time.places →
+    (place_at w.world p).bags.waiting ≡ [] → record v { world = paced v.world p (idle v.world.time.count) }
+    ≡ record w { world = changed holds w.world p; deferred = jobs_without_all w.deferred (due_next (place_at w.world p)) }
+caught_as {T} {J} {v} {w} same holds p l e =
+    let none : due_next (place_at w.world p) ≡ [] = ap (λ (ws : List Waiting). due (aged ws)) e in
+    let after = λ (xs : List LimboEntry). record w { world = changed holds w.world p; deferred = jobs_without_all w.deferred xs } in
+    rw same (ap (λ (u : World T). record w { world = u }) (caught holds w.world p l e) ∙ ap after (sym none))
 
 pub returns-clause-changed : goal.returns-clause-changed
 returns-clause-changed g c =

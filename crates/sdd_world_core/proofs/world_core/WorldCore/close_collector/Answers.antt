@@ -1,6 +1,10 @@
-use Rattle.std.proofs.Common.{ℕ, ◌≡◌, refl, sym, subst}
+use Rattle.std.proofs.Common.{ℕ, ◌≡◌, List, ap, refl, sym, subst}
+use Rattle.sdd_participants.specs.Slab.{Entries}
+use Rattle.sdd_participants.specs.Jobs.{jobs_without_all}
+use Rattle.sdd_participants.proofs.Places.{without-chosen}
+use Rattle.sdd_space.specs.OwnerOrCell.{OwnerOrCell}
 use Rattle.sdd_rights.specs.Right.{raw_number_of}
-use Rattle.sdd_space.specs.Collecting.{collector_closed}
+use Rattle.sdd_space.specs.Collecting.{collector_closed, is_for, waiting_for}
 use Rattle.sdd_space.specs.World.{KeepsSizes}
 use Rattle.sdd_space.proofs.Housed.{Whole-collector_closed, live-taken}
 use Rattle.sdd_space.proofs.Weights.{KeepsSizes-trans}
@@ -9,6 +13,14 @@ use Rattle.sdd_world_core.specs.Lending.{AreLent}
 use Rattle.sdd_world_core.proofs.Quiet.{home-quiet}
 use Rattle.sdd_world_core.proofs.Collecting.{lent-closed}
 use Rattle.sdd_world_core.proofs.world_core.WorldCore.close_collector.Goals as goal
+
+-- what waits for a collector are items alone, so the jobs wait as before
+closed-as : {T J : Type 0} (holds : T → List OwnerOrCell) (core : WorldCore T J) (p c : ℕ) →
+    record core { world = collector_closed holds core.world p c; deferred = jobs_without_all core.deferred (waiting_for core.world c) }
+    ≡ record core { world = collector_closed holds core.world p c }
+closed-as {T} {J} holds core p c =
+    ap (λ (jobs : Entries J). record core { world = collector_closed holds core.world p c; deferred = jobs })
+    (without-chosen (is_for core.world c) (λ j. refl) core.world.time.places core.deferred)
 
 pub reclaim_all-requires-clause-home : goal.reclaim_all-requires-clause-home
 reclaim_all-requires-clause-home g c =
@@ -24,7 +36,7 @@ returns-clause-closed g c =
       c.as_slice.ensures.value,
       c.take_for.ensures.taken,
       c.number.ensures,
-    ) refl
+    ) (closed-as g.T.Item.holds c.args.self.now c.args.place (raw_number_of c.args.collector))
 
 pub returns-clause-whole : goal.returns-clause-whole
 returns-clause-whole g c =
@@ -52,7 +64,7 @@ returns-clause-lent g c =
       c.as_slice.ensures.value,
       c.take_for.ensures.taken,
       c.number.ensures,
-    ) refl in
-    subst (λ (core : WorldCore _). AreLent core) (sym closed)
+    ) (closed-as g.T.Item.holds c.args.self.now c.args.place number) in
+    subst (λ (core : WorldCore _ _). AreLent core) (sym closed)
     (lent-closed g.T.Item.holds w c.args.place number c.requires.place.0 c.args.self.now.lending c.requires.quiet
-    (subst (λ (core : WorldCore _). KeepsSizes w core.world) closed sizes) c.requires.lent)
+    (subst (λ (core : WorldCore _ _). KeepsSizes w core.world) closed sizes) c.requires.lent)

@@ -3,6 +3,7 @@ use Rattle.sdd_rights.specs.Right.{number_of}
 use Rattle.sdd_participants.specs.declared.standing.Standing.TheVariants.{Private}
 use Rattle.sdd_world_core.proofs.Sound.{item-room, last-waits, sound-item}
 use Rattle.sdd_world_core.proofs.Letting.{found, found-out, none-else, some-else, whole-collected, whole-fewer, lent-collected, lent-fewer}
+use Rattle.sdd_participants.specs.Jobs.{places_of}
 use Rattle.sdd_world_core.proofs.world_core.WorldCore.collect.Goals as goal
 
 pub returns-then-is_last-clause-whole : goal.returns-then-is_last-clause-whole
@@ -45,7 +46,7 @@ wait-requires-clause-room g c =
     let there = rw (← c.self.view_is) at c.requires.place in
     let e = c.collect-is_last.ensures in
     let i = c.self.inside in
-    item-room g.T.Item.holds i.time i.slots i.cells i.jobs i.tenures c.args.place there.0 c.self.invariant slot
+    item-room g.T.Item.holds i.time i.slots i.cells (places_of i.jobs) i.tenures c.args.place there.0 c.self.invariant slot
     (found-out _ (found _ _ c.args.right.owner e.owned))
 
 pub invariant_of-self : goal.invariant_of-self
@@ -56,5 +57,5 @@ invariant_of-self g c =
     let i = c.self.inside in
     let by = found _ _ c.args.right.owner e.owned in
     rw (e.gone, c.wait.ensures, c.number-slot.ensures)
-    (sound-item g.T.Item.holds i.time i.slots i.cells i.jobs i.tenures c.args.place there.0 c.self.invariant slot (found-out _ by) _
+    (sound-item g.T.Item.holds i.time i.slots i.cells (places_of i.jobs) i.tenures c.args.place there.0 c.self.invariant slot (found-out _ by) _
     (last-waits (Private c.args.collector) refl _ by (none-else _ _ e.last c.if-is_last.true)))

@@ -15,6 +15,7 @@ use Rattle.sdd_space.specs.World.{World}
 use Rattle.sdd_space.proofs.Housed.{Whole-restands}
 use Rattle.sdd_world_core.specs.Lending.{AreLentOf}
 use Rattle.sdd_world_core.proofs.Lending.{lent-call, readers-as}
+use Rattle.sdd_participants.specs.Jobs.{places_of}
 use Rattle.sdd_world_core.proofs.world_core.WorldCore.from_raw.Goals as goal
 
 -- the slots after an item is taken back, or after none is
@@ -43,7 +44,7 @@ returns-clause-whole g c =
     let i = c.self.inside in
     let slot : ℕ = c.args.slot in
     rw (← c.self.view_is)
-    (λ whole. either (λ s. IsWhole (of i.time i.cells i.jobs i.tenures i.tally s)) i.slots c.from_raw.new.self slot c.from_raw.result
+    (λ whole. either (λ s. IsWhole (of i.time i.cells (places_of i.jobs) i.tenures i.tally s)) i.slots c.from_raw.new.self slot c.from_raw.result
     c.from_raw.ensures.back whole (λ is. Whole-restands _ slot Owned (ap is_out is) refl whole))
 
 pub returns-clause-lent : goal.returns-clause-lent
@@ -51,6 +52,6 @@ returns-clause-lent g c =
     let i = c.self.inside in
     let slot : ℕ = c.args.slot in
     rw (← c.self.view_is)
-    (λ whole l. either (λ s. AreLentOf (of i.time i.cells i.jobs i.tenures i.tally s) (record { stakes = s.stakes; tenures = i.tenures })) i.slots
+    (λ whole l. either (λ s. AreLentOf (of i.time i.cells (places_of i.jobs) i.tenures i.tally s) (record { stakes = s.stakes; tenures = i.tenures })) i.slots
     c.from_raw.new.self slot c.from_raw.result c.from_raw.ensures.back l
     (λ is. lent-call g.T.Item.holds _ _ _ (takes_back_raw _ slot is) whole (λ h. readers-as _ _ refl refl h) (λ q. refl) l))

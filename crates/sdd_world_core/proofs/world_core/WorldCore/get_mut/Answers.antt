@@ -5,6 +5,7 @@ use Rattle.sdd_space.proofs.Housed.{Whole-with_value}
 use Rattle.sdd_space.proofs.Standings.{alone-out}
 use Rattle.sdd_world_core.proofs.Quiet.{home-quiet}
 use Rattle.sdd_world_core.proofs.InPlace.{lent-edited, sound-edited, value-of_home}
+use Rattle.sdd_participants.specs.Jobs.{places_of}
 use Rattle.sdd_world_core.proofs.world_core.WorldCore.get_mut.Goals as goal
 
 pub get_mut-requires-clause-home : goal.get_mut-requires-clause-home
@@ -21,7 +22,7 @@ invariant_of-self g c =
     let home : SpaceId = record { slots = slots.home; cells = c.self.inside.cells.home; readers = c.self.inside.tenures.home } in
     let was = value-of_home g.T.Item.holds home slots.values slot e.0 c.self.invariant.homes e.2 in
     let i = c.self.inside in
-    rw e.4 (sound-edited g.T.Item.holds i.time slots i.cells i.jobs i.tenures slot e.1 c.self.invariant (held was))
+    rw e.4 (sound-edited g.T.Item.holds i.time slots i.cells (places_of i.jobs) i.tenures slot e.1 c.self.invariant (held was))
 
 pub returns-clause-whole : goal.returns-clause-whole
 returns-clause-whole g c =

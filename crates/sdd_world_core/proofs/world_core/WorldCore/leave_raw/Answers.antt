@@ -22,12 +22,12 @@ module _ {T : Type 0} where
       ∙ ap (λ (ss : Entries Standing). record w { time = time.awaiting_at w.time p (Item k); standings = ss })
       (set-set w.standings k (Some Owned) (Some Retired))
 
-  left-as : (old mid new : WorldCore T) (p k n : ℕ) → standing_at old.world k ≡ Some Raw → n ≡ k
+  left-as : {J : Type 0} (old mid new : WorldCore T J) (p k n : ℕ) → standing_at old.world k ≡ Some Raw → n ≡ k
       → mid ≡ record old { world = with_standing old.world k Owned } →
       new ≡ record mid { world = owner_given mid.world p n (standing_at mid.world n) } → new ≡ record old { world = retired old.world p k }
-  left-as old mid new p k n is same back left =
+  left-as {J} old mid new p k n is same back left =
       let w : World T = with_standing old.world k Owned in
-      left ∙ ap (λ (m : WorldCore T). record m { world = owner_given m.world p n (standing_at m.world n) }) back
+      left ∙ ap (λ (m : WorldCore T J). record m { world = owner_given m.world p n (standing_at m.world n) }) back
       ∙ ap (λ (j : ℕ). record old { world = owner_given w p j (standing_at w j) }) same
       ∙ ap (λ (u : World T). record old { world = u }) (retires old.world p k is)
 

@@ -1,6 +1,7 @@
 use Rattle.std.proofs.Common.{ℕ, ◌+◌, get_or, arith, sym, ◌∙◌, length-drop}
 use Rattle.sdd_participants.specs.declared.waiting.LimboEntry.{LimboEntry}
 use Rattle.sdd_participants.specs.declared.waiting.LimboEntry.TheVariants.{Item}
+use Rattle.sdd_participants.proofs.Places.{without-drop}
 use Rattle.sdd_space.proofs.Weights.{FreesOne-reclaimed, FreesOne-sizes, KeepsSizes-trans, all_reclaimed-drop}
 use Rattle.sdd_world_core.proofs.world_core.WorldCore.reclaim_all.Goals as goal
 
@@ -17,4 +18,5 @@ loop-what-preserved g c =
       place = omega (arith, step.places_same, c.loop-what.invariant.place);
       sizes = KeepsSizes-trans c.loop-what.invariant.sizes (FreesOne-sizes step);
       lending = c.loop-what.invariant.lending;
+      jobs = sym (without-drop c.loop-what.self.deferred c.args.due.now i _ c.loop-what-test.true) ∙ c.loop-what.invariant.jobs;
     })

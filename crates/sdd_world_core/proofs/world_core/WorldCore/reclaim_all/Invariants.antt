@@ -1,5 +1,6 @@
 use Rattle.std.proofs.Common.{◌≡◌, ◌+◌, ◌<◌, ◌≤◌, length, drop}
 use Rattle.sdd_space.specs.World.{most, weight, KeepsSizes}
+use Rattle.sdd_participants.specs.Jobs.{jobs_without_all}
 use Rattle.sdd_space.specs.WorldChanges.{all_reclaimed}
 use Rattle.sdd_world_core.proofs.world_core.WorldCore.reclaim_all.Given as goal
 
@@ -12,4 +13,5 @@ invariant-loop-what g l = record {
   place : l.place < length l.self.world.time.places;
   sizes : KeepsSizes l.fn.self.world l.self.world;
   lending : l.self.lending ≡ l.fn.self.lending;
+  jobs : jobs_without_all l.self.deferred (drop l.what-index l.due) ≡ jobs_without_all l.fn.self.deferred l.fn.due;
 }

@@ -15,6 +15,7 @@ use Rattle.sdd_world_core.proofs.Lending.{lent-registered}
 use Rattle.sdd_space.specs.World.{World}
 use Rattle.sdd_space.specs.WorldInvariant.{IsWhole}
 use Rattle.sdd_space.proofs.Housed.{Whole-registered, registered-adds}
+use Rattle.sdd_participants.specs.Jobs.{places_of}
 use Rattle.sdd_world_core.proofs.world_core.WorldCore.register.Goals as goal
 
 -- one place more, or as before
@@ -51,7 +52,8 @@ sound holds t u s c jobs r (Err e) h i = rw h i
 pub invariant_of-self : goal.invariant_of-self
 invariant_of-self g c =
     let i = c.self.inside in
-    sound g.T.Item.holds i.time c.register.new.self i.slots i.cells i.jobs i.tenures c.register.result c.register.ensures.registered c.self.invariant
+    sound g.T.Item.holds i.time c.register.new.self i.slots i.cells
+    (places_of i.jobs) i.tenures c.register.result c.register.ensures.registered c.self.invariant
 
 pub returns-clause-whole : goal.returns-clause-whole
 returns-clause-whole g c = rw (← c.self.view_is) (λ i. registers _ c.register.new.self c.register.result c.register.ensures.registered i)

@@ -6,9 +6,9 @@ use Rattle.sdd_domain.proofs.local_core.detached_local.DetachedLocal.wake.Goals 
 
 pub invariant_of-result : goal.invariant_of-result
 invariant_of-result g c = let same : c.self.inside.limits ≡ c.args.domain.now.limits = search rules in let i = c.self.invariant in let d = c.args.domain.now in
-    let ids = sym i.posed.home ∙ (ap (λ (m : LocalState). m.home) c.self.view_is ∙ c.requires.home.0) in
+    let ids = sym i.posed.home ∙ (ap (λ (m : LocalState _). m.home) c.self.view_is ∙ c.requires.home.0) in
     let sizes = i.sizes ∙ (ap sizes_in same ∙ sym d.limited.1) in
-    let book = sym i.posed.knows.1 ∙ (ap (λ (m : LocalState). m.book) c.self.view_is ∙ c.requires.home.1) in (
+    let book = sym i.posed.knows.1 ∙ (ap (λ (m : LocalState _). m.book) c.self.view_is ∙ c.requires.home.1) in (
       posed_on i.board d.board ids sizes book c.self.inside.place c.self.inside.own c.self.inside.token i.posed,
       refl,
       i.tenure_is,
@@ -20,5 +20,5 @@ invariant_of-result g c = let same : c.self.inside.limits ≡ c.args.domain.now.
 
 pub returns-clause-same : goal.returns-clause-same
 returns-clause-same g c = let same : c.args.domain.now.limits ≡ c.self.inside.limits = search rules in
-    let book = sym (ap (λ (m : LocalState). m.book) c.self.view_is ∙ c.requires.home.1) in
+    let book = sym (ap (λ (m : LocalState _). m.book) c.self.view_is ∙ c.requires.home.1) in
     (λ d. record (c.self.view_is 0) { book = book d; limits = same d }) ∙ c.self.view_is

@@ -1,0 +1,173 @@
+use Rattle.std.specs.Prelude.{Bool, slice_index}
+use Rattle.std.proofs.Common.{rules, ◌≡◌, ℕ, ◌<◌, List, [], ◌∷◌, refl, sym, ap, ◌∙◌, subst, arith}
+use base.Stored.{Gv}
+use Rattle.atomic_table.specs.declared.shared.Seat.{Seat}
+use Rattle.sdd_rights.specs.Right.{number_of, kind_of}
+use Rattle.sdd_rights.specs.StandingKind.{is_shared}
+use Rattle.sdd_shared_values.specs.CarriedFractions.{lots}
+use Rattle.sdd_shared_values.specs.SharedValues.{CanShow, showing}
+use Rattle.sdd_shared_values.specs.declared.value_fraction.ValueFraction.{ValueFraction}
+use Rattle.sdd_views.specs.declared.View.{View}
+use Rattle.sdd_views.specs.declared.Sizes.{Sizes}
+use Rattle.sdd_word_invariant.specs.Codes.{held_slots}
+use Rattle.sdd_domain_invariant.specs.FractionSteps.{SeesOwned}
+use Rattle.sdd_domain_invariant.specs.CellSteps.{SeesInCell}
+use Rattle.sdd_domain_invariant.proofs.Records.{in_times}
+use Rattle.sdd_atomics.specs.DomainTable.{book_of, places_of}
+use Rattle.sdd_atomics.specs.DomainSeat.{Moved, MovedAlone}
+use Rattle.sdd_space.specs.OwnerOrCell.{AreOf}
+use Rattle.sdd_domain.specs.SpaceIds.{home_in}
+use Rattle.sdd_domain.specs.SeenSlots.{IsOnce}
+use Rattle.sdd_domain.specs.Cells.{IsOwnedThere}
+use Rattle.sdd_domain.specs.BetweenCalls.{IsBetweenCalls, IsReady, AreLentTo}
+use Rattle.sdd_domain.specs.Receipt.{IsTallied}
+use Rattle.sdd_domain.specs.LocalState.{LocalState, KnowsOwner, LooksAt, IsLone}
+use Rattle.sdd_domain.proofs.CellWords.{named, named_none}
+use Rattle.sdd_domain.proofs.HeldOwners.{cell_views}
+use Rattle.sdd_domain.proofs.Housed.{on_board, from_shelf}
+use Rattle.sdd_domain.proofs.Moving.{can_show, shows_known}
+use Rattle.sdd_domain.proofs.Posing.{watched, posed_shows}
+use Rattle.sdd_domain.proofs.Members.{with_token, looks_at}
+use Rattle.sdd_domain.proofs.local_core.LocalCore.load.Goals as goal
+
+pub invariant_of-self : goal.invariant_of-self
+invariant_of-self g c = let l = c.self.inside in let b = l.domain.now.board in let t : ℕ = c.tenure_of-tenure.result.now.round in let inv = c.self.invariant in
+    let cell = c.args.cell.now in let word : ℕ = c.see_in-word.result in let f = c.see_in-word.new.token in
+    let views = cell_views c.args.self.now.home cell (kind_of cell) c.witness.result.now (number_of cell) c.requires.home refl c.witness.ensures.cell refl in
+    let known = c.recall_cell.ensures (number_of cell) (is_shared (kind_of cell)) views in
+    let same : c.recall_cell.new.token ≡ l.token
+    = λ d. record c.recall_cell.new.token { table_id = known.0 d; id = known.1 d; me = known.2.0 d } in
+    let look = subst (λ (x : Seat ValueFraction View). Moved (SeesInCell c.number.result) x word f) same c.see_in-word.ensures in
+    let none = named_none word (sym c.in_default.ensures.held) in
+    let still : f ≡ l.token = λ d. record f { table_id = look.0 d; id = look.1 d; me = look.2.0 none d } in
+    let lent = subst (λ (t : ℕ). AreLentTo t l.token.me.1) (sym c.agree.ensures.round) inv.3 in (
+      subst (λ (x : Seat ValueFraction View). IsBetweenCalls b l.place l.own x) (sym still) inv.0,
+      inv.1,
+      inv.2,
+      subst (λ (x : Seat ValueFraction View). AreLentTo l.tenure.round x.me.1) (sym still) inv.3,
+      subst (λ (x : Seat ValueFraction View). IsReady b l.own l.due l.known.slots l.jobs x.me.0.slots.waits) (sym still) inv.4,
+      subst (λ (x : Seat ValueFraction View). IsTallied 0 l.tally x.me.0.stakes.counts) (sym still) inv.5,
+    )
+
+pub returns-in_default-clause-seen : goal.returns-in_default-clause-seen
+returns-in_default-clause-seen g c = let l = c.self.inside in let b = l.domain.now.board in let t : ℕ = c.tenure_of-tenure.result.now.round in let inv = c.self.invariant in
+    let cell = c.args.cell.now in let word : ℕ = c.see_in-word.result in let f = c.see_in-word.new.token in
+    let views = cell_views c.args.self.now.home cell (kind_of cell) c.witness.result.now (number_of cell) c.requires.home refl c.witness.ensures.cell refl in
+    let known = c.recall_cell.ensures (number_of cell) (is_shared (kind_of cell)) views in
+    let same : c.recall_cell.new.token ≡ l.token
+    = λ d. record c.recall_cell.new.token { table_id = known.0 d; id = known.1 d; me = known.2.0 d } in
+    let look = subst (λ (x : Seat ValueFraction View). Moved (SeesInCell c.number.result) x word f) same c.see_in-word.ensures in
+    let none = named_none word (sym c.in_default.ensures.held) in
+    let still : f ≡ l.token = λ d. record f { table_id = look.0 d; id = look.1 d; me = look.2.0 none d } in
+    ap (with_token (c.self.view_is 0)) still ∙ c.self.view_is
+
+pub show-value-requires-clause-inside : goal.show-value-requires-clause-inside
+show-value-requires-clause-inside g c = let l = c.self.inside in let b = l.domain.now.board in let t : ℕ = c.tenure_of-tenure.result.now.round in let inv = c.self.invariant in
+    let cell = c.args.cell.now in let word : ℕ = c.see_in-word.result in let f = c.see_in-word.new.token in
+    let views = cell_views c.args.self.now.home cell (kind_of cell) c.witness.result.now (number_of cell) c.requires.home refl c.witness.ensures.cell refl in
+    let known = c.recall_cell.ensures (number_of cell) (is_shared (kind_of cell)) views in
+    let same : c.recall_cell.new.token ≡ l.token
+    = λ d. record c.recall_cell.new.token { table_id = known.0 d; id = known.1 d; me = known.2.0 d } in
+    let look = subst (λ (x : Seat ValueFraction View). Moved (SeesInCell c.number.result) x word f) same c.see_in-word.ensures in
+    let slot : ℕ = c.in-Some.slot in let one = named word slot (sym c.held_slot.ensures.held ∙ c.in-Some.is) in let hit = look.2.1 slot one in
+    let shared : Bool = hit.0 in let shown : Gv = hit.1 in
+    let watch : MovedAlone (SeesOwned slot shared shown) l.token f = (look.0, look.1, hit.3) in
+    let seen = watched b l.place l.own t slot shared shown l.token f inv.0
+    (subst (λ (t : ℕ). AreLentTo t l.token.me.1) (sym c.agree.ensures.round) inv.3) watch in
+    let low = subst (λ (z : Sizes). slot < z.slots) inv.0.knows.0 hit.2 in let size = l.domain.now.shelved.0.size in omega (arith, low, size)
+
+pub show-value-requires-clause-stake : goal.show-value-requires-clause-stake
+show-value-requires-clause-stake g c = let l = c.self.inside in let b = l.domain.now.board in let t : ℕ = c.tenure_of-tenure.result.now.round in let inv = c.self.invariant in
+    let cell = c.args.cell.now in let word : ℕ = c.see_in-word.result in let f = c.see_in-word.new.token in
+    let views = cell_views c.args.self.now.home cell (kind_of cell) c.witness.result.now (number_of cell) c.requires.home refl c.witness.ensures.cell refl in
+    let known = c.recall_cell.ensures (number_of cell) (is_shared (kind_of cell)) views in
+    let same : c.recall_cell.new.token ≡ l.token
+    = λ d. record c.recall_cell.new.token { table_id = known.0 d; id = known.1 d; me = known.2.0 d } in
+    let look = subst (λ (x : Seat ValueFraction View). Moved (SeesInCell c.number.result) x word f) same c.see_in-word.ensures in
+    let slot : ℕ = c.in-Some.slot in let one = named word slot (sym c.held_slot.ensures.held ∙ c.in-Some.is) in let hit = look.2.1 slot one in
+    let shared : Bool = hit.0 in let shown : Gv = hit.1 in
+    let watch : MovedAlone (SeesOwned slot shared shown) l.token f = (look.0, look.1, hit.3) in
+    let seen = watched b l.place l.own t slot shared shown l.token f inv.0
+    (subst (λ (t : ℕ). AreLentTo t l.token.me.1) (sym c.agree.ensures.round) inv.3) watch in
+    subst (λ (k : ℕ). CanShow k slot t (lots f.me.1)) (sym l.domain.now.shelved.0.book)
+    (can_show (book_of b) (places_of b) l.place t slot seen.records f.me.1 seen.purse seen.lent (in_times seen.records slot shown seen.there))
+
+pub invariant_of-self-2 : goal.invariant_of-self-2
+invariant_of-self-2 g c = let l = c.self.inside in let b = l.domain.now.board in let t : ℕ = c.tenure_of-tenure.result.now.round in let inv = c.self.invariant in
+    let cell = c.args.cell.now in let word : ℕ = c.see_in-word.result in let f = c.see_in-word.new.token in
+    let views = cell_views c.args.self.now.home cell (kind_of cell) c.witness.result.now (number_of cell) c.requires.home refl c.witness.ensures.cell refl in
+    let known = c.recall_cell.ensures (number_of cell) (is_shared (kind_of cell)) views in
+    let same : c.recall_cell.new.token ≡ l.token
+    = λ d. record c.recall_cell.new.token { table_id = known.0 d; id = known.1 d; me = known.2.0 d } in
+    let look = subst (λ (x : Seat ValueFraction View). Moved (SeesInCell c.number.result) x word f) same c.see_in-word.ensures in
+    let slot : ℕ = c.in-Some.slot in let one = named word slot (sym c.held_slot.ensures.held ∙ c.in-Some.is) in let hit = look.2.1 slot one in
+    let shared : Bool = hit.0 in let shown : Gv = hit.1 in
+    let watch : MovedAlone (SeesOwned slot shared shown) l.token f = (look.0, look.1, hit.3) in
+    let seen = watched b l.place l.own t slot shared shown l.token f inv.0
+    (subst (λ (t : ℕ). AreLentTo t l.token.me.1) (sym c.agree.ensures.round) inv.3) watch in
+    let some_open : 0 < l.own.guards = search rules in
+    let posed = posed_shows b l.place l.own t slot shown l.token f c.show-value.new.seat inv.0 some_open
+    watch.0 seen c.show-value.ensures.seat c.show-value.ensures.lent in (
+      posed.0,
+      inv.1,
+      inv.2,
+      subst (λ (t : ℕ). AreLentTo t c.show-value.new.seat.me.1) c.agree.ensures.round posed.1,
+      subst (IsReady b l.own l.due l.known.slots l.jobs) (sym (ap (λ (x : Seat ValueFraction View). x.me.0.slots.waits) c.show-value.ensures.seat
+          ∙ ap (λ (v : View). v.slots.waits) seen.view)) inv.4,
+      subst (IsTallied 0 l.tally) (sym (ap (λ (x : Seat ValueFraction View). x.me.0.stakes.counts) c.show-value.ensures.seat
+          ∙ ap (λ (v : View). v.stakes.counts) seen.view)) inv.5,
+    )
+
+pub returns-clause-seen : goal.returns-clause-seen
+returns-clause-seen g c = let l = c.self.inside in let b = l.domain.now.board in let t : ℕ = c.tenure_of-tenure.result.now.round in let inv = c.self.invariant in
+    let cell = c.args.cell.now in let word : ℕ = c.see_in-word.result in let f = c.see_in-word.new.token in
+    let views = cell_views c.args.self.now.home cell (kind_of cell) c.witness.result.now (number_of cell) c.requires.home refl c.witness.ensures.cell refl in
+    let known = c.recall_cell.ensures (number_of cell) (is_shared (kind_of cell)) views in
+    let same : c.recall_cell.new.token ≡ l.token
+    = λ d. record c.recall_cell.new.token { table_id = known.0 d; id = known.1 d; me = known.2.0 d } in
+    let look = subst (λ (x : Seat ValueFraction View). Moved (SeesInCell c.number.result) x word f) same c.see_in-word.ensures in
+    let slot : ℕ = c.in-Some.slot in let one = named word slot (sym c.held_slot.ensures.held ∙ c.in-Some.is) in let hit = look.2.1 slot one in
+    let shared : Bool = hit.0 in let shown : Gv = hit.1 in
+    let watch : MovedAlone (SeesOwned slot shared shown) l.token f = (look.0, look.1, hit.3) in
+    let seen = watched b l.place l.own t slot shared shown l.token f inv.0
+    (subst (λ (t : ℕ). AreLentTo t l.token.me.1) (sym c.agree.ensures.round) inv.3) watch in
+    let out : Gv = showing g.row.T c.show-value.result.now in let old : LocalState g.row.J.Denot = c.self.view_is 0 in
+    let is = seen.once slot shown out seen.there (shows_known (book_of b) (places_of b) l.place slot l.domain.now.shelf.book out seen.records
+    f.me.1 seen.purse c.show-value.ensures.value) in
+    let sees : c.show-value.new.seat.me.0.stakes.sees ≡ seen.records = ap (λ (x : Seat ValueFraction View). x.me.0.stakes.sees) c.show-value.ensures.seat
+    ∙ ap (λ (v : View). v.stakes.sees) seen.view in
+    let all = inv.0.all ∙ ap (λ (z : Sizes). z.participants) l.domain.now.limited.1 in
+    let low = subst (λ (z : Sizes). slot < z.slots) (inv.0.knows.0 ∙ l.domain.now.limited.1) hit.2 in
+    subst (λ (m : LocalState g.row.J.Denot). ((flag : Bool) × LooksAt slot flag out m (with_token old c.show-value.new.seat)
+    × (IsLone m → KnowsOwner m slot flag out)) × (slot < m.limits.slots) × IsOnce c.show-value.new.seat.me.0.stakes.sees
+    × AreOf (home_in m) (g.T.Item.holds c.show-value.result.now)) c.self.view_is (
+      (
+        shared,
+        subst (λ (v : Gv). LooksAt slot shared v old (with_token old c.show-value.new.seat)) is
+            (looks_at old slot shared shown l.token f c.show-value.new.seat watch c.show-value.ensures.seat),
+        λ lone. let knows = hit.4 (all ∙ lone) in subst (λ (v : Gv). KnowsOwner old slot shared v) is
+            record { newest = knows.newest; alive = knows.alive; kind = knows.kind },
+      ),
+      low,
+      subst IsOnce (sym sees) seen.once,
+      from_shelf b old (on_board l.domain.now.limits b l.token.table_id inv.0.home l.domain.now.limited.1 old refl refl refl)
+          l.domain.now.shelf l.domain.now.shelved.0 (g.T.Item.holds c.show-value.result.now) c.show-value.ensures.fits,
+    )
+
+pub returns-clause-owned : goal.returns-clause-owned
+returns-clause-owned g c = let l = c.self.inside in let b = l.domain.now.board in let t : ℕ = c.tenure_of-tenure.result.now.round in let inv = c.self.invariant in
+    let cell = c.args.cell.now in let word : ℕ = c.see_in-word.result in let f = c.see_in-word.new.token in
+    let views = cell_views c.args.self.now.home cell (kind_of cell) c.witness.result.now (number_of cell) c.requires.home refl c.witness.ensures.cell refl in
+    let known = c.recall_cell.ensures (number_of cell) (is_shared (kind_of cell)) views in
+    let same : c.recall_cell.new.token ≡ l.token
+    = λ d. record c.recall_cell.new.token { table_id = known.0 d; id = known.1 d; me = known.2.0 d } in
+    let look = subst (λ (x : Seat ValueFraction View). Moved (SeesInCell c.number.result) x word f) same c.see_in-word.ensures in
+    let slot : ℕ = c.in-Some.slot in let one = named word slot (sym c.held_slot.ensures.held ∙ c.in-Some.is) in let hit = look.2.1 slot one in
+    let shared : Bool = hit.0 in let shown : Gv = hit.1 in
+    let watch : MovedAlone (SeesOwned slot shared shown) l.token f = (look.0, look.1, hit.3) in
+    let seen = watched b l.place l.own t slot shared shown l.token f inv.0
+    (subst (λ (t : ℕ). AreLentTo t l.token.me.1) (sym c.agree.ensures.round) inv.3) watch in
+    let all = inv.0.all ∙ ap (λ (z : Sizes). z.participants) l.domain.now.limited.1 in let flag : Bool = is_shared (kind_of cell) in
+    subst (λ (m : LocalState g.row.J.Denot). IsLone m → IsOwnedThere slot flag m) c.self.view_is (λ lone.
+    let knew = look.2.2 (all ∙ lone) ∙ ap (λ (k : ℕ). slice_index l.token.me.0.words k) c.number.ensures in
+    let owned = (known.2.2 (all ∙ lone)).held slot (ap held_slots (sym knew) ∙ one) in record { alive = owned.1; kind = owned.2 })

@@ -1,0 +1,160 @@
+-- Cells: what a participant knows of them, and what its calls make of it
+use Rattle.std.specs.Prelude.{◌≡◌, ◌⊎◌, ℕ, ◌<◌, Bool, List, [], ◌∷◌, Option, Some, None, IfSome, option_map, slice_index, slice_set}
+use base.Stored.{Gv}
+use Rattle.atomic_table.specs.declared.shared.Seat.{Seat}
+use Rattle.sdd_shared_values.specs.declared.value_fraction.ValueFraction.{ValueFraction}
+use Rattle.sdd_shared_values.specs.SharedValues.{IsValueCode}
+use Rattle.sdd_views.specs.declared.ShownValue.{ShownValue}
+use Rattle.sdd_views.specs.declared.View.{View}
+use Rattle.sdd_rights.specs.Owner.{witness_of_owner}
+use Rattle.sdd_rights.specs.declared.right.StandingKind.{StandingKind}
+use Rattle.sdd_rights.specs.declared.right.Right.{Right}
+use Rattle.sdd_rights.specs.Right.{home_of_table, views_of}
+use Rattle.sdd_rights.specs.Units.{GhostName}
+use Rattle.sdd_standings.specs.Cells.{MayHold, slot_held}
+use Rattle.sdd_domain.specs.CellWords.{listed}
+use Rattle.sdd_word_invariant.specs.Codes.{alive, counted, held_slots}
+use Rattle.sdd_domain_invariant.specs.BankInvariant.{one_where}
+use Rattle.sdd_atomics.specs.declared.domain_table.DomainTable.{DomainTable}
+use Rattle.sdd_atomics.specs.DomainTable.{id_of, book_of, slots_of}
+use Rattle.sdd_atomics.specs.Grips.{IsUnitOf}
+use Rattle.sdd_core.specs.declared.refused.Refused.{Refused}
+use Rattle.sdd_core.specs.declared.refused.Refused.TheVariants.{NoCell, Contended}
+use Rattle.sdd_domain.specs.declared.cell_values.LooseOwner.{LooseOwner}
+use Rattle.sdd_word_invariant.specs.Epoch.{IsLone}
+use Rattle.sdd_word_invariant.specs.CellSteps.{cell_noted}
+use Rattle.sdd_domain_invariant.specs.CellSteps.{put_in}
+use Rattle.sdd_domain.specs.Claims.{IsUnmoved}
+use Rattle.sdd_domain.specs.LocalState.{LocalState, IsLone as IsAlone, cell_word_of, word_of}
+
+-- ---- as its callers see it
+module _ {J : Type 0} where
+  -- the word of a cell was found to be this, and is that now
+  pub record WritesAt (cell found word : ℕ) (old new : LocalState J) : Type 0 where
+    pub member : new ≡ record old { words = slice_set old.words cell word }
+    pub inside : cell < old.sizes.cells
+    pub lone : IsAlone old → found ≡ cell_word_of old cell
+
+  -- the same of a cell that was in use
+  pub record ChangesCell (cell found word : ℕ) (old new : LocalState J) : Type 0 where
+    pub writes : WritesAt cell found word old new
+    pub full : IsAlone old → 0 < found
+
+  -- a cell that was in use, whose word was this, is free
+  abbrev pub FreesAt : ℕ → ℕ → LocalState J → LocalState J → Type 0
+  FreesAt cell found = ChangesCell cell found 0
+
+  -- no cell is free
+  abbrev pub AllCellsTaken : LocalState J → Type 0
+  AllCellsTaken m = (cell : ℕ) → cell < m.limits.cells → 0 < cell_word_of m cell
+
+  -- why no cell was claimed
+  abbrev pub ClaimsNone : Refused → LocalState J → Type 0
+  ClaimsNone why m = ((why ≡ NoCell) × (IsAlone m → AllCellsTaken m)) ⊎ ((why ≡ Contended) × ¬ (IsAlone m))
+
+  -- a cell was found to have this word
+  pub record FindsAt (cell word : ℕ) (m : LocalState J) : Type 0 where
+    pub inside : cell < m.sizes.cells
+    pub found : IsAlone m → word ≡ cell_word_of m cell
+    pub full : IsAlone m → 0 < word
+
+  -- a lone participant knows that the owner of this slot, which a cell holds, is one of several that there may be, or not
+  pub record IsOwnedThere (slot : ℕ) (shared : Bool) (m : LocalState J) : Type 0 where
+    pub alive : 0 < alive (word_of m slot)
+    pub kind : counted (word_of m slot) ≡ one_where shared
+
+-- ---- the token
+-- the word of a cell was found to be this, and is that now, and all else is as it was
+pub record Writes (cell found word : ℕ) (s s' : Seat ValueFraction View) : Type 0 where
+  pub table : s'.table_id ≡ s.table_id
+  pub number : s'.id ≡ s.id
+  pub others : s'.me.1 ≡ s.me.1
+  pub view : s'.me.0 ≡ record s.me.0 { words = cell_noted cell word s.me.0 }
+  pub inside : cell < s.me.0.sizes.cells
+  pub knew : IsLone s.me.0.epoch → (found ≡ slice_index s.me.0.words cell) × (0 < found)
+
+-- none of these cells was found free, and nothing has changed
+pub record MissesCells (P : ℕ → Type 0) (s s' : Seat ValueFraction View) : Type 0 where
+  pub same : IsUnmoved s s'
+  pub taken : IsLone s.me.0.epoch → (cell : ℕ) → P cell → 0 < slice_index s.me.0.words cell
+
+-- a cell that was free has this word, and the owner that the participant had is in it, if it had one
+pub record Claims (word cell : ℕ) (s s' : Seat ValueFraction View) : Type 0 where
+  pub table : s'.table_id ≡ s.table_id
+  pub number : s'.id ≡ s.id
+  pub others : s'.me.1 ≡ s.me.1
+  pub view : s'.me.0 ≡ put_in cell word s.me.0
+  pub inside : cell < s.me.0.sizes.cells
+  pub free : IsLone s.me.0.epoch → slice_index s.me.0.words cell ≡ 0
+
+-- a cell that was free has this word, and all else is as it was
+pub record Fills (word cell : ℕ) (s s' : Seat ValueFraction View) : Type 0 where
+  pub table : s'.table_id ≡ s.table_id
+  pub number : s'.id ≡ s.id
+  pub others : s'.me.1 ≡ s.me.1
+  pub view : s'.me.0 ≡ record s.me.0 { words = cell_noted cell word s.me.0 }
+  pub inside : cell < s.me.0.sizes.cells
+  pub free : IsLone s.me.0.epoch → slice_index s.me.0.words cell ≡ 0
+
+-- why no cell was claimed of so many, as far as is known
+abbrev pub MissedAll : ℕ → Refused → View → Type 0
+MissedAll cells why v = ((why ≡ NoCell) × (IsLone v.epoch → (cell : ℕ) → cell < cells → 0 < slice_index v.words cell))
+    ⊎ ((why ≡ Contended) × ¬ (IsLone v.epoch))
+
+-- ---- an owner in hand
+-- its slot, if there is one
+abbrev pub slots_in : Option LooseOwner → List ℕ
+slots_in None = []
+slots_in (Some o) = o.slot ∷ []
+
+-- what is told of it
+abbrev pub told_of : Bool → Option LooseOwner → List ShownValue
+told_of shared None = []
+told_of shared (Some o) = record { slot = o.slot; shared = shared; value = o.grip.shown } ∷ []
+
+-- it is an owner of an item of this domain, one of several or not, with a unit of the place's number
+pub record IsLoose (b : DomainTable) (shared : Bool) (o : LooseOwner) : Type 0 where
+  pub inside : o.slot < slots_of b
+  pub table : o.owner.table_id ≡ id_of b
+  pub views : o.owner.views ≡ witness_of_owner o.slot shared o.grip.shown
+  pub unit : IsUnitOf (book_of b) o.slot o.grip
+
+abbrev pub AreLoose : DomainTable → Bool → Option LooseOwner → Type 0
+AreLoose b shared held = IfSome held (IsLoose b shared)
+
+-- the participant has these owners, of which this is told
+abbrev pub holding : List ℕ → List ShownValue → View → View
+holding owns told v = record v { slots = record v.slots { owns = owns }; stakes = record v.stakes { owns = told } }
+
+-- what a cell of this kind with this word would hold the participant has
+pub record HasHeld (word : ℕ) (shared : Bool) (v : View) : Type 0 where
+  pub owns : v.slots.owns ≡ held_slots word
+  pub none : held_slots word ≡ [] → v.stakes.owns ≡ []
+  pub one : (slot : ℕ) → held_slots word ≡ slot ∷ [] → (value : Gv) × (slot < v.sizes.slots) × IsValueCode value
+      × (v.stakes.owns ≡ record { slot = slot; shared = shared; value = value } ∷ [])
+
+-- where it is, and all that it has out, are as before
+pub record IsWith (v : View) (s s' : Seat ValueFraction View) : Type 0 where
+  pub table : s'.table_id ≡ s.table_id
+  pub number : s'.id ≡ s.id
+  pub others : s'.me.1 ≡ s.me.1
+  pub view : s'.me.0 ≡ v
+
+-- it has this owner in hand, if there is one
+abbrev pub TakesUp : Bool → Option LooseOwner → Seat ValueFraction View → Seat ValueFraction View → Type 0
+TakesUp shared new s s' = IsWith (holding (slots_in new) (told_of shared new) s.me.0) s s'
+
+-- it has none in hand any more
+abbrev pub PutsDown : Seat ValueFraction View → Seat ValueFraction View → Type 0
+PutsDown s s' = IsWith (holding [] [] s.me.0) s s'
+
+-- ---- the right of an owner in hand
+-- the rights of a domain's owners are to the slots of its board
+abbrev pub board_home : DomainTable → GhostName
+board_home b = home_of_table (id_of b) (book_of b) (slots_of b)
+
+-- the owner of this right, or none, is this one, of the same kind of this board's
+pub record IsBoundTo (b : DomainTable) (kind : StandingKind) (held : Option Right) (loose : Option LooseOwner) : Type 0 where
+  pub home : MayHold (board_home b) kind held
+  pub slots : listed (slot_held held) ≡ slots_in loose
+  pub views : option_map views_of held ≡ option_map (λ (o : LooseOwner). o.owner.views) loose

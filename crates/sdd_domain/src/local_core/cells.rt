@@ -1,0 +1,243 @@
+//! Cells: a participant claims and frees them, loads, swaps and exchanges what they hold, and changes their tags.
+ghost use Rattle.std.specs.Prelude.{◌≡◌, ◌≢◌, ◌⊎◌, ◌<◌, ◌∷◌, ℕ, Bool, [], IfErr, IfOk, IfSome, MatchOption, MatchResult, None, Some};
+ghost use base.Stored.{Gv};
+ghost use Rattle.sdd_core.specs.declared.tag.Tag.TheVariants.{None as no_tag};
+ghost use Rattle.sdd_rights.specs.StandingKind.{IsOwner, is_shared};
+ghost use Rattle.sdd_rights.specs.Right.{number_of, home_of, kind_of, raw_number_of, raw_home_of};
+ghost use Rattle.sdd_standings.specs.Cells.{MayHold, cell_with, slot_held};
+ghost use Rattle.sdd_shared_values.specs.SharedValues.{showing};
+ghost use Rattle.sdd_space.specs.Guard.{reader_of};
+ghost use Rattle.sdd_space.specs.OwnerOrCell.{AreOf};
+ghost use Rattle.sdd_word_invariant.specs.Codes.{held_slots};
+ghost use Rattle.sdd_domain.specs.Cells.{ChangesCell, ClaimsNone, FindsAt, FreesAt, IsOwnedThere, WritesAt};
+ghost use Rattle.sdd_domain.specs.CellWords.{listed};
+ghost use Rattle.sdd_domain.specs.Items.{IsRightTo, slots_home};
+ghost use Rattle.sdd_domain.specs.Local.{contents_of};
+ghost use Rattle.sdd_domain.specs.LocalState.{IsLone, KnowsOwner, LooksAt, cell_word_of};
+ghost use Rattle.sdd_domain.specs.SeenSlots.{IsOnce};
+ghost use Rattle.sdd_domain.specs.SpaceIds.{cells_home, home_in};
+
+use crate::cell_claims::claim_with;
+use crate::cell_values::{bind, exchange, free, free_bare, loosen, swap, word_for};
+use crate::cell_words::{contents_in, held_slot, holds, tag_in};
+use crate::local_core::LocalCore;
+use crate::local_core::items::is_one_of_several;
+use sdd_atomics::steps::cells::{look_in, recall_cell, retag_cell, see_in};
+use sdd_core::{Refused, Tag};
+use sdd_participants::{CellContents, Job};
+use sdd_rights::{RawRight, Right, StandingKind};
+use sdd_space::inner::tenure_of;
+use sdd_space::{Guard, Item};
+
+/// So many cells a domain's table has at most, and their rights are numbered below.
+const MOST_CELLS: usize = 16_777_216;
+
+impl<'d, T: Item<T>, J: Job> LocalCore<'d, T, J> {
+    /// Where the walk for a free cell begins.
+    #[inline]
+    fn first_cell(&self) -> u32
+        ensures { result < self.now.limits.cells }
+    {
+        if (self.next_cell as u64) < self.domain.limits.cells {
+            self.next_cell
+        } else {
+            0
+        }
+    }
+
+    /// A free cell for owners of this kind holds this one, if there is one, with this tag. No memory is taken.
+    ///
+    /// The owner comes back: `NoCell` where a walk over all cells found none free; `Contended` where as many exchanges were lost as the limits allow.
+    pub(crate) fn cell_from(
+        &mut self,
+        held: Option<Right>,
+        tag: Tag,
+        kind: StandingKind,
+    ) -> Result<Right, (Option<Right>, Refused)>
+        requires owner { IsOwner kind }
+        requires held { MayHold (slots_home self.old) kind held }
+        ensures right { IfOk result (λ cell. (home_of cell ≡ cells_home self.old.home) × (kind_of cell ≡ kind)) }
+        ensures claimed { MatchResult result
+            (λ cell. (word : ℕ) × (0 < word) × (contents_of word ≡ cell_with held tag) × WritesAt (number_of cell) 0 word self.old self.new)
+            (λ e. (self.new ≡ self.old) × ClaimsNone e.1 self.old) }
+        ensures back { IfErr result (λ e. e.0 ≡ held) }
+    {
+        let next = self.first_cell();
+        let cells = self.domain.limits.cells as u32;
+        let slots = self.domain.limits.slots;
+        let tries = self.domain.limits.tries;
+        let board = &self.domain.board;
+        let shared = is_one_of_several(kind);
+        let new = loosen(board, held, kind);
+        let word = word_for(&new, tag);
+        match claim_with(
+            board,
+            &mut self.token,
+            next,
+            cells,
+            new,
+            word,
+            shared,
+            tries,
+        ) {
+            Ok((cell, right)) => {
+                self.next_cell = cell + 1;
+                Ok(Right::of_cell(cell, MOST_CELLS, kind, right))
+            }
+            Err((back, refused)) => Err((bind(board, slots, back, kind), refused)),
+        }
+    }
+
+    /// The word of a cell at this moment.
+    #[inline]
+    fn word_at(&mut self, cell: &Right) -> u64
+        requires home { home_of cell.now ≡ cells_home self.old.home }
+        ensures same { self.new ≡ self.old }
+        ensures found { FindsAt (number_of cell.now) result self.old }
+    {
+        let board = &self.domain.board;
+        recall_cell(board, &mut self.token, cell.witness());
+        look_in(board, &mut self.token, cell.number())
+    }
+
+    /// What a cell holds at this moment.
+    #[inline]
+    pub(crate) fn cell(&mut self, cell: &Right) -> CellContents
+        requires home { home_of cell.now ≡ cells_home self.old.home }
+        ensures same { self.new ≡ self.old }
+        ensures found { (word : ℕ) × (contents_of word ≡ result) × FindsAt (number_of cell.now) word self.old }
+    {
+        contents_in(self.word_at(cell))
+    }
+
+    /// The value of the item whose owner a cell holds, with its slot, for as long as the guard is borrowed; and the cell's tag.
+    #[inline]
+    pub(crate) fn load<'g>(&mut self, cell: &Right, guard: &'g Guard) -> (Option<(u32, &'g T)>, Tag)
+        requires home { home_of cell.now ≡ cells_home self.old.home }
+        requires reader { reader_of guard.now ≡ self.old.reader }
+        ensures found { (word : ℕ) × FindsAt (number_of cell.now) word self.old × MatchOption result.0
+            (contents_of word ≡ record { held = None; tag = result.1 }) (λ found. contents_of word ≡ record { held = Some found.0; tag = result.1 }) }
+        ensures seen { MatchOption result.0 (self.new ≡ self.old) (λ found. ((shared : Bool) × LooksAt found.0 shared (showing T.row found.1.now) self.old self.new
+            × (IsLone self.old → KnowsOwner self.old found.0 shared (showing T.row found.1.now)))
+            × (found.0 < self.old.limits.slots) × IsOnce self.new.shown × AreOf (home_in self.old) (T.holds found.1.now)) }
+        ensures owned { IsLone self.old → IfSome result.0 (λ found. IsOwnedThere found.0 (is_shared (kind_of cell.now)) self.old) }
+    {
+        let tenure = tenure_of(guard);
+        self.tenure.agree(tenure);
+        let board = &self.domain.board;
+        recall_cell(board, &mut self.token, cell.witness());
+        let word = see_in(board, &mut self.token, cell.number());
+        let tag = tag_in(word);
+        let Some(slot) = held_slot(word) else {
+            return (None, tag);
+        };
+        let shelf = &self.domain.shelf;
+        let value = shelf.show(slot as usize, &mut self.token, &board.table.shared, tenure);
+        (Some((slot, value)), tag)
+    }
+
+    /// A cell holds another owner, or none, and has this tag. What it held comes back, with its tag.
+    pub(crate) fn swap(
+        &mut self,
+        cell: &Right,
+        held: Option<Right>,
+        tag: Tag,
+        kind: StandingKind,
+    ) -> (Option<Right>, Tag)
+        requires home { home_of cell.now ≡ cells_home self.old.home }
+        requires kind { kind_of cell.now ≡ kind }
+        requires owner { IsOwner kind }
+        requires held { MayHold (slots_home self.old) kind held }
+        ensures held { MayHold (slots_home self.old) kind result.0 }
+        ensures swapped { (found : ℕ) × (word : ℕ) × (0 < word) × (contents_of word ≡ cell_with held tag) × (contents_of found ≡ cell_with result.0 result.1)
+            × ChangesCell (number_of cell.now) found word self.old self.new }
+    {
+        let slots = self.domain.limits.slots;
+        let board = &self.domain.board;
+        let new = loosen(board, held, kind);
+        let word = word_for(&new, tag);
+        let (out, found) = swap(
+            board,
+            &mut self.token,
+            cell.number(),
+            cell.witness(),
+            new,
+            word,
+        );
+        (bind(board, slots, out, kind), tag_in(found))
+    }
+
+    /// The same, if the cell holds what was expected; else the owner comes back, and nothing changes.
+    pub(crate) fn exchange(
+        &mut self,
+        cell: &Right,
+        current: CellContents,
+        held: Option<Right>,
+        tag: Tag,
+        kind: StandingKind,
+    ) -> Result<Option<Right>, Option<Right>>
+        requires home { home_of cell.now ≡ cells_home self.old.home }
+        requires kind { kind_of cell.now ≡ kind }
+        requires owner { IsOwner kind }
+        requires held { MayHold (slots_home self.old) kind held }
+        ensures exchanged { MatchResult result
+            (λ out. MayHold (slots_home self.old) kind out × (slot_held out ≡ current.held)
+            × ((found : ℕ) × (word : ℕ) × (0 < word) × (contents_of word ≡ cell_with held tag) × (contents_of found ≡ current)
+            × ChangesCell (number_of cell.now) found word self.old self.new))
+            (λ _. (self.new ≡ self.old) × (IsLone self.old → (contents_of (cell_word_of self.old (number_of cell.now)) ≢ current))) }
+        ensures back { IfErr result (λ back. back ≡ held) }
+    {
+        let old = self.word_at(cell);
+        if !holds(old, current) {
+            return Err(held);
+        }
+        let slots = self.domain.limits.slots;
+        let board = &self.domain.board;
+        let new = loosen(board, held, kind);
+        let word = word_for(&new, tag);
+        let tried = exchange(
+            board,
+            &mut self.token,
+            cell.number(),
+            cell.witness(),
+            old,
+            new,
+            word,
+        );
+        let out = match tried {
+            Ok(out) => out,
+            Err(back) => return Err(bind(board, slots, back, kind)),
+        };
+        Ok(bind(board, slots, out, kind))
+    }
+
+    /// A cell is free again. The owner that it held comes, if it held one, with the cell's word before.
+    pub(crate) fn into_contents(&mut self, right: Right, kind: StandingKind) -> (Option<Right>, u64)
+        requires home { home_of right ≡ cells_home self.old.home }
+        requires kind { kind_of right ≡ kind }
+        requires owner { IsOwner kind }
+        ensures freed { FreesAt (number_of right) result.1 self.old self.new }
+        ensures slots { listed (slot_held result.0) ≡ held_slots result.1 }
+        ensures held { MayHold (slots_home self.old) kind result.0 }
+    {
+        let cell = right.number();
+        let slots = self.domain.limits.slots;
+        let (of_cell, grip) = right.into_owner();
+        grip.discard();
+        let (held, word) = free(&self.domain.board, &mut self.token, cell, of_cell);
+        self.next_cell = cell;
+        (bind(&self.domain.board, slots, held, kind), word)
+    }
+
+    /// A cell that holds no owners is free again. Answers its word before.
+    pub(crate) fn free_raw_cell(&mut self, right: RawRight) -> u64
+        requires home { raw_home_of right ≡ cells_home self.old.home }
+        ensures freed { FreesAt (raw_number_of right) result self.old self.new }
+        ensures bare { held_slots result ≡ [] }
+    {
+        let cell = right.number();
+        let of_cell = right.into_witness();
+        self.next_cell = cell;
+        free_bare(&self.domain.board, &mut self.token, cell, of_cell)
+    }
+}
