@@ -1,5 +1,5 @@
 //! An owner goes into a cell, and what the cell held is a token of its own again.
-ghost use Rattle.std.specs.Prelude.{◌≡◌, ◌≢◌, ◌<◌, ◌∷◌, ◌-◌, ◌^◌, [], None, Bool, IfSome, MatchResult, option_map, slice_index};
+ghost use Rattle.std.specs.Prelude.{◌≡◌, ◌≢◌, ◌<◌, ◌∷◌, ◌-◌, ◌^◌, [], None, Bool, IfSome, MatchBool, MatchResult, ℕ, option_map, slice_index};
 ghost use Rattle.sdd_views.specs.declared.CellKind.{CellKind};
 ghost use Rattle.sdd_views.specs.Views.{no_rights};
 ghost use Rattle.sdd_domain_invariant.specs.CellSteps.{IsBare};
@@ -18,7 +18,8 @@ ghost use Rattle.sdd_domain.specs.declared.cell_values.LooseOwner.{LooseOwner};
 use crate::cell_words::{held_slot, word_with};
 use sdd_atomics::grips::unit_of;
 use sdd_atomics::steps::cells::{
-    exchange_cell, find_cell, free_bare_cell, free_cell, recall_cell, swap_cell, take_in_right,
+    exchange_cell, find_cell, free_bare_cell, free_cell, recall_cell, retag_cell, swap_cell,
+    take_in_right,
 };
 use sdd_atomics::steps::slots::{cut, draw_unit, enter_unit, take_in};
 use sdd_atomics::{DomainSeat, DomainTable};
@@ -219,4 +220,28 @@ pub fn exchange(
     } else {
         Err(put_down(board, token, word))
     }
+}
+
+/// The cell of this right has another tag, if it still has this word; else nothing changes.
+#[inline]
+pub fn retag(
+    board: &DomainTable,
+    token: &mut DomainSeat,
+    cell: u32,
+    right: &Witness,
+    old: u64,
+    tag: Tag,
+) -> bool
+    requires home { token.old.table_id ≡ id_of board.now }
+    requires knows { Knows board.now token.old }
+    requires place { HasPlace (epoch token.old) }
+    requires bare { HasNothing (view token.old) }
+    requires right { (right.now.table_id ≡ id_of board.now) × ((shared : Bool) × (right.now.views ≡ witness_of_cell cell (cell_kind shared))) }
+    ensures { MatchBool result
+        ((word : ℕ) × (0 < word) × (contents_of word ≡ record (contents_of old) { tag = tag }) × Writes cell old word token.old token.new)
+        (IsWith (view token.old) token.old token.new × (IsLone (epoch token.old) → old ≢ slice_index (view token.old).words cell)) }
+{
+    let word = word_with(held_slot(old), tag);
+    recall_cell(board, token, right);
+    retag_cell(board, token, cell, old, word) == old
 }

@@ -1,5 +1,5 @@
 //! Cells: a participant claims and frees them, loads, swaps and exchanges what they hold, and changes their tags.
-ghost use Rattle.std.specs.Prelude.{◌≡◌, ◌≢◌, ◌⊎◌, ◌<◌, ◌∷◌, ℕ, Bool, [], IfErr, IfOk, IfSome, MatchOption, MatchResult, None, Some};
+ghost use Rattle.std.specs.Prelude.{◌≡◌, ◌≢◌, ◌⊎◌, ◌<◌, ◌∷◌, ℕ, Bool, [], IfErr, IfOk, IfSome, MatchBool, MatchOption, MatchResult, None, Some, slice_set};
 ghost use base.Stored.{Gv};
 ghost use Rattle.sdd_core.specs.declared.tag.Tag.TheVariants.{None as no_tag};
 ghost use Rattle.sdd_rights.specs.StandingKind.{IsOwner, is_shared};
@@ -7,6 +7,7 @@ ghost use Rattle.sdd_rights.specs.Right.{number_of, home_of, kind_of, raw_number
 ghost use Rattle.sdd_standings.specs.Cells.{MayHold, cell_with, slot_held};
 ghost use Rattle.sdd_shared_values.specs.SharedValues.{showing};
 ghost use Rattle.sdd_space.specs.Guard.{reader_of};
+ghost use Rattle.sdd_space.specs.RawPtr as raw;
 ghost use Rattle.sdd_space.specs.OwnerOrCell.{AreOf};
 ghost use Rattle.sdd_word_invariant.specs.Codes.{held_slots};
 ghost use Rattle.sdd_domain.specs.Cells.{ChangesCell, ClaimsNone, FindsAt, FreesAt, IsOwnedThere, WritesAt};
@@ -17,17 +18,17 @@ ghost use Rattle.sdd_domain.specs.LocalState.{IsLone, KnowsOwner, LooksAt, cell_
 ghost use Rattle.sdd_domain.specs.SeenSlots.{IsOnce};
 ghost use Rattle.sdd_domain.specs.SpaceIds.{cells_home, home_in};
 
-use crate::cell_claims::claim_with;
-use crate::cell_values::{bind, exchange, free, free_bare, loosen, swap, word_for};
+use crate::cell_claims::{claim_with, fill, reserve};
+use crate::cell_values::{bind, exchange, free, free_bare, loosen, retag, swap, word_for};
 use crate::cell_words::{contents_in, held_slot, holds, tag_in};
 use crate::local_core::LocalCore;
 use crate::local_core::items::is_one_of_several;
-use sdd_atomics::steps::cells::{look_in, recall_cell, retag_cell, see_in};
+use sdd_atomics::steps::cells::{look_in, recall_cell, see_in};
 use sdd_core::{Refused, Tag};
 use sdd_participants::{CellContents, Job};
 use sdd_rights::{RawRight, Right, StandingKind};
-use sdd_space::inner::tenure_of;
-use sdd_space::{Guard, Item};
+use sdd_space::inner::{raw_ptr_to, tenure_of};
+use sdd_space::{Guard, Item, RawPtr};
 
 /// So many cells a domain's table has at most, and their rights are numbered below.
 const MOST_CELLS: usize = 16_777_216;
@@ -209,6 +210,91 @@ impl<'d, T: Item<T>, J: Job> LocalCore<'d, T, J> {
             Err(back) => return Err(bind(board, slots, back, kind)),
         };
         Ok(bind(board, slots, out, kind))
+    }
+
+    /// A cell has another tag, if it still has this word; else nothing changes.
+    fn retag(&mut self, cell: &Right, old: u64, tag: Tag) -> bool
+        requires home { home_of cell.now ≡ cells_home self.old.home }
+        ensures { MatchBool result
+            ((word : ℕ) × (0 < word) × (contents_of word ≡ record (contents_of old) { tag = tag }) × ChangesCell (number_of cell.now) old word self.old self.new)
+            ((self.new ≡ self.old) × (IsLone self.old → old ≢ cell_word_of self.old (number_of cell.now))) }
+    {
+        let board = &self.domain.board;
+        retag(board, &mut self.token, cell.number(), cell.witness(), old, tag)
+    }
+
+    /// A cell has another tag, if the condition holds of what it holds.
+    ///
+    /// `Contended` where others changed the cell meanwhile as often as the limits allow.
+    pub(crate) fn update_tag_if<F: FnMut(RawPtr<T>) -> bool>(
+        &mut self,
+        cell: &Right,
+        tag: Tag,
+        mut condition: F,
+    ) -> Result<bool, Refused>
+        requires home { home_of cell.now ≡ cells_home self.old.home }
+        requires callable { F.IsAlwaysCallable condition }
+        ensures changed { MatchResult result
+            (λ changed. (word : ℕ) × MatchBool changed
+            ((now : ℕ) × (0 < now) × (contents_of now ≡ record (contents_of word) { tag = tag }) × ChangesCell (number_of cell.now) word now self.old self.new)
+            ((self.new ≡ self.old) × FindsAt (number_of cell.now) word self.old))
+            (λ e. (e ≡ Refused.Contended) × (self.new ≡ self.old) × ¬ (IsLone self.old)) }
+        ensures asked { IsLone self.old → IfOk result (λ changed. (ptr : RawPtr T)
+            × (raw.cell_seen ptr ≡ contents_of (cell_word_of self.old (number_of cell.now))) × F.post condition ptr changed) }
+    {
+        for _attempt in 0..self.domain.limits.tries {
+            let word = self.word_at(cell);
+            if !condition(raw_ptr_to(contents_in(word))) {
+                return Ok(false);
+            }
+            if self.retag(cell, word, tag) {
+                return Ok(true);
+            }
+        }
+        Err(Refused::Contended)
+    }
+
+    /// Reserves a free cell, for what is decided when it is filled.
+    ///
+    /// `NoCell` where a walk over all cells found none free; `Contended` where as many exchanges were lost as the limits allow.
+    fn reserve_cell(&mut self) -> Result<RawRight, Refused>
+        ensures right { IfOk result (λ cell. raw_home_of cell ≡ cells_home self.old.home) }
+        ensures reserved { MatchResult result
+            (λ cell. (word : ℕ) × WritesAt (raw_number_of cell) 0 word self.old self.new)
+            (λ e. (self.new ≡ self.old) × ClaimsNone e self.old) }
+    {
+        let next = self.first_cell();
+        let cells = self.domain.limits.cells as u32;
+        let tries = self.domain.limits.tries;
+        let (cell, right) = reserve(&self.domain.board, &mut self.token, next, cells, tries)?;
+        self.next_cell = cell + 1;
+        Ok(RawRight::of_cell(cell, MOST_CELLS, right))
+    }
+
+    /// A cell that was reserved holds an owner of this kind, or none, with this tag.
+    fn fill_cell(
+        &mut self,
+        reserved: RawRight,
+        held: Option<Right>,
+        tag: Tag,
+        kind: StandingKind,
+    ) -> Right
+        requires home { raw_home_of reserved ≡ cells_home self.old.home }
+        requires owner { IsOwner kind }
+        requires held { MayHold (slots_home self.old) kind held }
+        ensures number { number_of result ≡ raw_number_of reserved }
+        ensures right { (home_of result ≡ cells_home self.old.home) × (kind_of result ≡ kind) }
+        ensures filled { (word : ℕ) × (0 < word) × (contents_of word ≡ cell_with held tag) × (raw_number_of reserved < self.old.sizes.cells)
+            × (self.new ≡ record self.old { words = slice_set self.old.words (raw_number_of reserved) word }) }
+    {
+        let cell = reserved.number();
+        let board = &self.domain.board;
+        let shared = is_one_of_several(kind);
+        let new = loosen(board, held, kind);
+        let word = word_for(&new, tag);
+        let of_cell = reserved.into_witness();
+        let right = fill(board, &mut self.token, cell, of_cell, new, word, shared);
+        Right::of_cell(cell, MOST_CELLS, kind, right)
     }
 
     /// A cell is free again. The owner that it held comes, if it held one, with the cell's word before.
