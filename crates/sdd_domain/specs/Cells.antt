@@ -13,19 +13,21 @@ use Rattle.sdd_rights.specs.Right.{home_of_table, views_of}
 use Rattle.sdd_rights.specs.Units.{GhostName}
 use Rattle.sdd_standings.specs.Cells.{MayHold, slot_held}
 use Rattle.sdd_domain.specs.CellWords.{listed}
+use Rattle.sdd_domain.specs.Local.{contents_of}
+use Rattle.sdd_core.specs.declared.tag.Tag.TheVariants.{None as Untagged}
 use Rattle.sdd_word_invariant.specs.Codes.{alive, counted, held_slots}
 use Rattle.sdd_domain_invariant.specs.BankInvariant.{one_where}
 use Rattle.sdd_atomics.specs.declared.domain_table.DomainTable.{DomainTable}
 use Rattle.sdd_atomics.specs.DomainTable.{id_of, book_of, slots_of}
 use Rattle.sdd_atomics.specs.Grips.{IsUnitOf}
 use Rattle.sdd_core.specs.declared.refused.Refused.{Refused}
-use Rattle.sdd_core.specs.declared.refused.Refused.TheVariants.{NoCell, Contended}
+use Rattle.sdd_core.specs.declared.refused.Refused.TheVariants.{NoSlot, NoCell, Contended}
 use Rattle.sdd_domain.specs.declared.cell_values.LooseOwner.{LooseOwner}
 use Rattle.sdd_word_invariant.specs.Epoch.{IsLone}
 use Rattle.sdd_word_invariant.specs.CellSteps.{cell_noted}
 use Rattle.sdd_domain_invariant.specs.CellSteps.{put_in}
 use Rattle.sdd_domain.specs.Claims.{IsUnmoved}
-use Rattle.sdd_domain.specs.LocalState.{LocalState, IsLone as IsAlone, cell_word_of, word_of}
+use Rattle.sdd_domain.specs.LocalState.{LocalState, IsLone as IsAlone, IsUsedUp, MakesAt, cell_word_of, word_of}
 
 -- ---- as its callers see it
 module _ {J : Type 0} where
@@ -51,6 +53,25 @@ module _ {J : Type 0} where
   -- why no cell was claimed
   abbrev pub ClaimsNone : Refused → LocalState J → Type 0
   ClaimsNone why m = ((why ≡ NoCell) × (IsAlone m → AllCellsTaken m)) ⊎ ((why ≡ Contended) × ¬ (IsAlone m))
+
+  -- a cell that was free holds an owner of an item from now on that was made in this slot, shows this, and has one owner that may be one of several
+  pub record MakesInCell (cell slot : ℕ) (shared : Bool) (value : Gv) (old new : LocalState J) : Type 0 where
+    pub reserved : LocalState J
+    pub made : LocalState J
+    pub first : ℕ
+    pub word : ℕ
+    pub reserves : WritesAt cell 0 first old reserved
+    pub makes : MakesAt slot shared value reserved made
+    pub full : 0 < word
+    pub holds : contents_of word ≡ record { held = Some slot; tag = Untagged }
+    pub filled : new ≡ record made { words = slice_set made.words cell word }
+
+  -- no item was made in a cell: no slot was found free, or no cell was, or exchanges were lost; what a lone participant knows is as it was
+  pub record MakesNone (why : Refused) (old new : LocalState J) : Type 0 where
+    pub same : new ≡ record old { words = new.words }
+    pub words : IsAlone old → new.words ≡ old.words
+    pub cause : (why ≡ NoSlot) ⊎ ((why ≡ NoCell) ⊎ (why ≡ Contended))
+    pub lone : IsAlone old → ((why ≡ NoSlot) × IsUsedUp old) ⊎ ((why ≡ NoCell) × ¬ (IsUsedUp old) × AllCellsTaken old)
 
   -- a cell was found to have this word
   pub record FindsAt (cell word : ℕ) (m : LocalState J) : Type 0 where

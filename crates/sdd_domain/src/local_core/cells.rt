@@ -10,7 +10,7 @@ ghost use Rattle.sdd_space.specs.Guard.{reader_of};
 ghost use Rattle.sdd_space.specs.RawPtr as raw;
 ghost use Rattle.sdd_space.specs.OwnerOrCell.{AreOf};
 ghost use Rattle.sdd_word_invariant.specs.Codes.{held_slots};
-ghost use Rattle.sdd_domain.specs.Cells.{ChangesCell, ClaimsNone, FindsAt, FreesAt, IsOwnedThere, WritesAt};
+ghost use Rattle.sdd_domain.specs.Cells.{ChangesCell, ClaimsNone, FindsAt, FreesAt, IsOwnedThere, MakesInCell, MakesNone, WritesAt};
 ghost use Rattle.sdd_domain.specs.CellWords.{listed};
 ghost use Rattle.sdd_domain.specs.Items.{IsRightTo, slots_home};
 ghost use Rattle.sdd_domain.specs.Local.{contents_of};
@@ -27,6 +27,7 @@ use sdd_atomics::steps::cells::{look_in, recall_cell, see_in};
 use sdd_core::{Refused, Tag};
 use sdd_participants::{CellContents, Job};
 use sdd_rights::{RawRight, Right, StandingKind};
+use sdd_shared_values::GhostValues;
 use sdd_space::inner::{raw_ptr_to, tenure_of};
 use sdd_space::{Guard, Item, RawPtr};
 
@@ -295,6 +296,41 @@ impl<'d, T: Item<T>, J: Job> LocalCore<'d, T, J> {
         let of_cell = reserved.into_witness();
         let right = fill(board, &mut self.token, cell, of_cell, new, word, shared);
         Right::of_cell(cell, MOST_CELLS, kind, right)
+    }
+
+    /// Puts a value into a free slot, and its owner, which is of this kind, into a free cell, and enters it in the ledger. No memory is taken.
+    ///
+    /// The value comes back: `NoSlot` where no slot was found free, else `NoCell` where no cell was; `Contended` where as many exchanges were lost as the
+    /// limits allow.
+    pub(crate) fn new_in_cell(
+        &mut self,
+        value: T,
+        kind: StandingKind,
+        ledger: &mut GhostValues<T>,
+    ) -> Result<Right, (T, Refused)>
+        requires owner { IsOwner kind }
+        requires home { AreOf (home_in self.old) (T.holds value) }
+        ensures right { IfOk result (λ cell. (home_of cell ≡ cells_home self.old.home) × (kind_of cell ≡ kind)) }
+        ensures back { IfErr result (λ e. e.0 ≡ value) }
+        ensures made { MatchResult result
+            (λ cell. (slot : ℕ) × MakesInCell (number_of cell) slot (is_shared kind) (showing T.row value) self.old self.new
+            × (ledger.new.entries ≡ slice_set ledger.old.entries slot (Some (value, showing T.row value))))
+            (λ e. MakesNone e.1 self.old self.new × (ledger.new.entries ≡ ledger.old.entries)) }
+    {
+        let reserved = match self.reserve_cell() {
+            Ok(reserved) => reserved,
+            Err(refused) => {
+                let refused = if self.has_slot() { refused } else { Refused::NoSlot };
+                return Err((value, refused));
+            }
+        };
+        match self.new_item(value, kind, ledger) {
+            Ok(owner) => Ok(self.fill_cell(reserved, Some(owner), Tag::None, kind)),
+            Err((value, refused)) => {
+                self.free_raw_cell(reserved);
+                Err((value, refused))
+            }
+        }
     }
 
     /// A cell is free again. The owner that it held comes, if it held one, with the cell's word before.
