@@ -1,5 +1,7 @@
 //! An owner goes into a cell, and what the cell held is a token of its own again.
 ghost use Rattle.std.specs.Prelude.{◌≡◌, ◌≢◌, ◌<◌, ◌∷◌, ◌-◌, ◌^◌, [], None, Bool, IfSome, MatchBool, MatchResult, ℕ, option_map, slice_index};
+ghost use base.Stored.{Gv};
+ghost use Rattle.sdd_shared_values.specs.SharedValues.{IsValueCode};
 ghost use Rattle.sdd_views.specs.declared.CellKind.{CellKind};
 ghost use Rattle.sdd_views.specs.Views.{no_rights};
 ghost use Rattle.sdd_domain_invariant.specs.CellSteps.{IsBare};
@@ -10,7 +12,7 @@ ghost use Rattle.sdd_rights.specs.StandingKind.{IsOwner, is_shared};
 ghost use Rattle.sdd_standings.specs.Cells.{MayHold};
 ghost use Rattle.sdd_atomics.specs.DomainTable.{id_of, slots_of};
 ghost use Rattle.sdd_atomics.specs.DomainSeat.{view, epoch, slots, Knows};
-ghost use Rattle.sdd_domain.specs.Cells.{AreLoose, HasHeld, IsBoundTo, IsWith, PutsDown, TakesUp, Writes, board_home, slots_in, told_of};
+ghost use Rattle.sdd_domain.specs.Cells.{AreLoose, HasHeld, IsBoundTo, IsLoose, IsWith, PutsDown, TakesUp, Writes, board_home, slots_in, told_of};
 ghost use Rattle.sdd_domain.specs.InPlace.{IsBare as HasNothing};
 ghost use Rattle.sdd_domain.specs.Local.{contents_of};
 ghost use Rattle.sdd_domain.specs.declared.cell_values.LooseOwner.{LooseOwner};
@@ -97,7 +99,28 @@ pub fn take_up(board: &DomainTable, token: &mut DomainSeat, new: Option<LooseOwn
     enter_unit(board, token, slot, unit);
 }
 
-/// The owner that the participant has, and that a cell with this word would hold, is a token of its own again, if there is one. Its unit comes from the bank.
+/// The owner of a slot that the participant has is a token of its own again. Its unit comes from the bank.
+#[inline]
+pub fn part_with(board: &DomainTable, token: &mut DomainSeat, slot: u32) -> LooseOwner
+    requires home { token.old.table_id ≡ id_of board.now }
+    requires knows { Knows board.now token.old }
+    requires inside { slot < slots_of board.now }
+    requires place { HasPlace (epoch token.old) }
+    requires rests { (view token.old).stakes.moves ≡ None }
+    requires quiet { ((slots token.old).owns ≡ slot ∷ []) × ((slots token.old).drawn ≡ []) × ((slots token.old).holds ≡ None) }
+    requires told { (shared : Bool) × (value : Gv) × IsValueCode value
+        × ((view token.old).stakes.owns ≡ record { slot = slot; shared = shared; value = value } ∷ []) }
+    ensures put { PutsDown token.old token.new }
+    ensures slot { result.slot ≡ slot }
+    ensures owner { (shared : Bool) (value : Gv) → (view token.old).stakes.owns ≡ record { slot = slot; shared = shared; value = value } ∷ []
+        → IsLoose board.now shared result × (result.grip.shown ≡ value) }
+{
+    let grip = draw_unit(board, token, slot).into_grip();
+    let owner = cut(board, token);
+    LooseOwner { slot, owner, grip }
+}
+
+/// The owner that the participant has, and that a cell with this word would hold, is a token of its own again, if there is one.
 #[inline]
 pub fn put_down(board: &DomainTable, token: &mut DomainSeat, word: u64) -> Option<LooseOwner>
     requires home { token.old.table_id ≡ id_of board.now }
@@ -112,9 +135,7 @@ pub fn put_down(board: &DomainTable, token: &mut DomainSeat, word: u64) -> Optio
         → AreLoose board.now shared result × (told_of shared result ≡ (view token.old).stakes.owns) }
 {
     let slot = held_slot(word)?;
-    let grip = draw_unit(board, token, slot).into_grip();
-    let owner = cut(board, token);
-    Some(LooseOwner { slot, owner, grip })
+    Some(part_with(board, token, slot))
 }
 
 /// Frees the cell of this right, and answers the owner that it held, if it held one, and the cell's word before.
