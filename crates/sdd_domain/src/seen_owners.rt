@@ -7,11 +7,12 @@ ghost use Rattle.sdd_domain_invariant.specs.Records.{IsIn};
 ghost use Rattle.sdd_atomics.specs.DomainTable.{id_of, slots_of};
 ghost use Rattle.sdd_atomics.specs.DomainSeat.{view, epoch, slots, Knows};
 ghost use Rattle.sdd_domain.specs.InPlace.{IsBare};
-ghost use Rattle.sdd_domain.specs.SeenOwners.{Tries};
+ghost use Rattle.sdd_domain.specs.SeenOwners.{Ends, Tries};
 
 use crate::cell_values::{LooseOwner, part_with};
 use sdd_atomics::steps::slots::{HELD, MOST_SHARED, add_seen, look};
 use sdd_atomics::{DomainSeat, DomainTable};
+use sdd_core::Refused;
 
 /// So much does the word of a slot have whose item several may own, and none does any more.
 const NO_OWNER: u64 = 1 << 63;
@@ -52,4 +53,33 @@ pub fn try_seen(board: &DomainTable, token: &mut DomainSeat, slot: u32) -> Tried
         return Tried::Lost;
     }
     Tried::Came(part_with(board, token, slot))
+}
+
+/// The same, tried so often. None where the item has no owner that counts any more.
+///
+/// `TooManyOwners` where as many own it as may; `Contended` where so many tries were lost.
+pub fn own_seen(
+    board: &DomainTable,
+    token: &mut DomainSeat,
+    slot: u32,
+    tries: u64,
+) -> Result<Option<LooseOwner>, Refused>
+    requires home { token.old.table_id ≡ id_of board.now }
+    requires knows { Knows board.now token.old }
+    requires inside { slot < slots_of board.now }
+    requires place { HasPlace (epoch token.old) }
+    requires bare { IsBare (view token.old) }
+    requires seen { (value : Gv) × IsIn (view token.old).stakes.sees slot value × IsValueCode value }
+    requires tries { 0 < tries }
+    ensures { (value : Gv) → IsIn (view token.old).stakes.sees slot value → Ends board.now slot value result token.old token.new }
+{
+    for _attempt in 0..tries {
+        match try_seen(board, token, slot) {
+            Tried::Came(owner) => return Ok(Some(owner)),
+            Tried::Gone => return Ok(None),
+            Tried::Most => return Err(Refused::TooManyOwners),
+            Tried::Lost => {}
+        }
+    }
+    Err(Refused::Contended)
 }
