@@ -1,5 +1,5 @@
 //! Cells: a participant claims and frees them, loads, swaps and exchanges what they hold, and changes their tags.
-ghost use Rattle.std.specs.Prelude.{◌≡◌, ◌≢◌, ◌⊎◌, ◌<◌, ◌∷◌, ℕ, Bool, [], IfErr, IfOk, IfSome, MatchBool, MatchOption, MatchResult, None, Some, slice_set};
+ghost use Rattle.std.specs.Prelude.{◌≡◌, ◌≢◌, ◌⊎◌, ◌<◌, ◌≤◌, ◌∷◌, ℕ, Bool, [], IfErr, IfOk, IfSome, MatchBool, MatchOption, MatchResult, None, Some, slice_set};
 ghost use base.Stored.{Gv};
 ghost use Rattle.sdd_core.specs.declared.tag.Tag.TheVariants.{None as no_tag};
 ghost use Rattle.sdd_rights.specs.StandingKind.{IsOwner, is_shared};
@@ -9,12 +9,13 @@ ghost use Rattle.sdd_shared_values.specs.SharedValues.{showing};
 ghost use Rattle.sdd_space.specs.Guard.{reader_of};
 ghost use Rattle.sdd_space.specs.RawPtr as raw;
 ghost use Rattle.sdd_space.specs.OwnerOrCell.{AreOf};
-ghost use Rattle.sdd_word_invariant.specs.Codes.{held_slots};
+ghost use Rattle.sdd_word_invariant.specs.Codes.{alive, counted, held_slots, held_word, most_owners};
+ghost use Rattle.sdd_domain_invariant.specs.Records.{IsIn};
 ghost use Rattle.sdd_domain.specs.Cells.{ChangesCell, ClaimsNone, FindsAt, FreesAt, IsOwnedThere, MakesInCell, MakesNone, WritesAt};
 ghost use Rattle.sdd_domain.specs.CellWords.{listed};
 ghost use Rattle.sdd_domain.specs.Items.{IsRightTo, slots_home};
 ghost use Rattle.sdd_domain.specs.Local.{contents_of};
-ghost use Rattle.sdd_domain.specs.LocalState.{IsLone, KnowsOwner, LooksAt, cell_word_of};
+ghost use Rattle.sdd_domain.specs.LocalState.{AddsAt, IsLone, KnowsOwner, LooksAt, cell_word_of, word_of};
 ghost use Rattle.sdd_domain.specs.SeenSlots.{IsOnce};
 ghost use Rattle.sdd_domain.specs.SpaceIds.{cells_home, home_in};
 
@@ -23,6 +24,7 @@ use crate::cell_values::{bind, exchange, free, free_bare, loosen, retag, swap, w
 use crate::cell_words::{contents_in, held_slot, holds, tag_in};
 use crate::local_core::LocalCore;
 use crate::local_core::items::is_one_of_several;
+use crate::seen_owners::own_seen;
 use sdd_atomics::steps::cells::{look_in, recall_cell, see_in};
 use sdd_core::{Refused, Tag};
 use sdd_participants::{CellContents, Job};
@@ -331,6 +333,31 @@ impl<'d, T: Item<T>, J: Job> LocalCore<'d, T, J> {
                 Err((value, refused))
             }
         }
+    }
+
+    /// One owner more of an item that its guards see, which shows this, if the item may have several and has one still.
+    ///
+    /// `TooManyOwners` where as many own it as may; `Contended` where others came or went meanwhile as often as the limits allow.
+    fn own_seen(&mut self, slot: u32, value: &T) -> Result<Option<Right>, Refused>
+        requires inside { slot < self.old.limits.slots }
+        requires seen { IsIn self.old.shown slot (showing T.row value.now) }
+        ensures came { MatchResult result
+            (λ o. MatchOption o
+            ((self.new ≡ self.old) × (IsLone self.old → (counted (word_of self.old slot) ≡ 0) ⊎ (alive (word_of self.old slot) ≡ 0)))
+            (λ right. (number_of right ≡ slot) × ((word : ℕ) × AddsAt slot word self.old self.new)))
+            (λ e. (self.new ≡ self.old)
+            × (((e ≡ Refused.TooManyOwners) × (IsLone self.old → (counted (word_of self.old slot) ≡ 1) × (most_owners ≤ alive (word_of self.old slot))))
+            ⊎ ((e ≡ Refused.Contended) × (IsLone self.old → word_of self.old slot ≡ held_word)))) }
+        ensures right { IfOk result (λ o. IfSome o (λ right. IsRightTo self.old StandingKind.Shared (showing T.row value.now) right)) }
+    {
+        let slots = self.domain.limits.slots;
+        let tries = self.domain.limits.tries;
+        let board = &self.domain.board;
+        let loose = match own_seen(board, &mut self.token, slot, value, tries) {
+            Ok(loose) => loose,
+            Err(refused) => return Err(refused),
+        };
+        Ok(bind(board, slots, loose, StandingKind::Shared))
     }
 
     /// A cell is free again. The owner that it held comes, if it held one, with the cell's word before.
