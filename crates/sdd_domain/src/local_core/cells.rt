@@ -11,7 +11,7 @@ ghost use Rattle.sdd_space.specs.RawPtr as raw;
 ghost use Rattle.sdd_space.specs.OwnerOrCell.{AreOf};
 ghost use Rattle.sdd_word_invariant.specs.Codes.{alive, counted, held_slots, held_word, most_owners};
 ghost use Rattle.sdd_domain_invariant.specs.Records.{IsIn};
-ghost use Rattle.sdd_domain.specs.Cells.{ChangesCell, ClaimsNone, FindsAt, FreesAt, IsOwnedThere, MakesInCell, MakesNone, WritesAt};
+ghost use Rattle.sdd_domain.specs.Cells.{ChangesCell, ClaimsNone, Copies, CopiesNone, FindsAt, FreesAt, IsOwnedThere, MakesInCell, MakesNone, WritesAt};
 ghost use Rattle.sdd_domain.specs.CellWords.{listed};
 ghost use Rattle.sdd_domain.specs.Items.{IsRightTo, slots_home};
 ghost use Rattle.sdd_domain.specs.Local.{contents_of};
@@ -358,6 +358,36 @@ impl<'d, T: Item<T>, J: Job> LocalCore<'d, T, J> {
             Err(refused) => return Err(refused),
         };
         Ok(bind(board, slots, loose, StandingKind::Shared))
+    }
+
+    /// One owner more of what a cell of shared owners holds, if it holds anything, with its tag.
+    ///
+    /// `TooManyOwners` where as many own it as may; `Contended` where others changed the cell or its item's owners meanwhile as often as the limits allow.
+    fn copy_held(
+        &mut self,
+        cell: &Right,
+        guard: &Guard,
+    ) -> Result<(Option<Right>, Tag), Refused>
+        requires home { home_of cell.now ≡ cells_home self.old.home }
+        requires kind { kind_of cell.now ≡ StandingKind.Shared }
+        requires reader { reader_of guard.now ≡ self.old.reader }
+        ensures right { IfOk result (λ copy. MayHold (slots_home self.old) StandingKind.Shared copy.0) }
+        ensures copied { MatchResult result
+            (λ copy. Copies (number_of cell.now) copy.0 copy.1 self.old self.new)
+            (λ e. CopiesNone (number_of cell.now) e self.old self.new) }
+    {
+        for _attempt in 0..self.domain.limits.tries {
+            let (held, tag) = self.load(cell, guard);
+            let Some((slot, value)) = held else {
+                return Ok((None, tag));
+            };
+            match self.own_seen(slot, value) {
+                Ok(Some(owner)) => return Ok((Some(owner), tag)),
+                Ok(None) => {}
+                Err(refused) => return Err(refused),
+            }
+        }
+        Err(Refused::Contended)
     }
 
     /// A cell is free again. The owner that it held comes, if it held one, with the cell's word before.
