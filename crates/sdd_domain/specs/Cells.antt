@@ -101,6 +101,30 @@ module _ {J : Type 0} where
         × (counted (word_of old slot) ≡ 1) × (most_owners ≤ alive (word_of old slot))))
         ⊎ ((why ≡ Contended) × ¬ (IsAlone old))
 
+  -- another cell, which was free, holds a copy of what a cell of shared owners holds, with its tag
+  pub record ClonesTo (cell other : ℕ) (old new : LocalState J) : Type 0 where
+    pub copy : Option Right
+    pub tag : Tag
+    pub reserved : LocalState J
+    pub copied : LocalState J
+    pub first : ℕ
+    pub word : ℕ
+    pub reserves : WritesAt other 0 first old reserved
+    pub copies : Copies cell copy tag reserved copied
+    pub full : 0 < word
+    pub holds : contents_of word ≡ cell_with copy tag
+    pub filled : new ≡ record copied { words = slice_set copied.words other word }
+
+  -- a cell was reserved, and is free again, as what a cell holds wasn't copied
+  pub record ClonesNone (cell : ℕ) (why : Refused) (old new : LocalState J) : Type 0 where
+    pub other : ℕ
+    pub reserved : LocalState J
+    pub missed : LocalState J
+    pub first : ℕ
+    pub reserves : WritesAt other 0 first old reserved
+    pub fails : CopiesNone cell why reserved missed
+    pub freed : new ≡ record missed { words = slice_set missed.words other 0 }
+
   -- a lone participant knows that the owner of this slot, which a cell holds, is one of several that there may be, or not
   pub record IsOwnedThere (slot : ℕ) (shared : Bool) (m : LocalState J) : Type 0 where
     pub alive : 0 < alive (word_of m slot)

@@ -11,7 +11,7 @@ ghost use Rattle.sdd_space.specs.RawPtr as raw;
 ghost use Rattle.sdd_space.specs.OwnerOrCell.{AreOf};
 ghost use Rattle.sdd_word_invariant.specs.Codes.{alive, counted, held_slots, held_word, most_owners};
 ghost use Rattle.sdd_domain_invariant.specs.Records.{IsIn};
-ghost use Rattle.sdd_domain.specs.Cells.{ChangesCell, ClaimsNone, Copies, CopiesNone, FindsAt, FreesAt, IsOwnedThere, MakesInCell, MakesNone, WritesAt};
+ghost use Rattle.sdd_domain.specs.Cells.{ChangesCell, ClaimsNone, ClonesNone, ClonesTo, Copies, CopiesNone, FindsAt, FreesAt, IsOwnedThere, MakesInCell, MakesNone, WritesAt};
 ghost use Rattle.sdd_domain.specs.CellWords.{listed};
 ghost use Rattle.sdd_domain.specs.Items.{IsRightTo, slots_home};
 ghost use Rattle.sdd_domain.specs.Local.{contents_of};
@@ -388,6 +388,32 @@ impl<'d, T: Item<T>, J: Job> LocalCore<'d, T, J> {
             }
         }
         Err(Refused::Contended)
+    }
+
+    /// Another cell holds one owner more of what a cell of shared owners holds, if it holds anything, with its tag. No memory is taken.
+    ///
+    /// `NoCell` where no cell was found free, else `TooManyOwners` where as many own the item as may; `Contended` where as many exchanges were lost as the
+    /// limits allow.
+    pub(crate) fn clone_cell(&mut self, cell: &Right, guard: &Guard) -> Result<Right, Refused>
+        requires home { home_of cell.now ≡ cells_home self.old.home }
+        requires kind { kind_of cell.now ≡ StandingKind.Shared }
+        requires reader { reader_of guard.now ≡ self.old.reader }
+        ensures right { IfOk result (λ other. (home_of other ≡ cells_home self.old.home) × (kind_of other ≡ StandingKind.Shared)) }
+        ensures cloned { MatchResult result
+            (λ other. ClonesTo (number_of cell.now) (number_of other) self.old self.new)
+            (λ e. ((self.new ≡ self.old) × ClaimsNone e self.old) ⊎ ClonesNone (number_of cell.now) e self.old self.new) }
+    {
+        let reserved = match self.reserve_cell() {
+            Ok(reserved) => reserved,
+            Err(refused) => return Err(refused),
+        };
+        match self.copy_held(cell, guard) {
+            Ok((copy, tag)) => Ok(self.fill_cell(reserved, copy, tag, StandingKind::Shared)),
+            Err(refused) => {
+                self.free_raw_cell(reserved);
+                Err(refused)
+            }
+        }
     }
 
     /// A cell is free again. The owner that it held comes, if it held one, with the cell's word before.
