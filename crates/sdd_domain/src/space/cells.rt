@@ -1,4 +1,7 @@
 //! A participant as the generic calls of cells have it.
+ghost use Rattle.std.specs.Prelude.{◌≡◌, MatchOption, None, Some};
+ghost use Rattle.sdd_space.specs.Ptr.{cell_seen, shown_by};
+
 use crate::local::Local;
 use crate::reclaiming::LocalGiver;
 use sdd_core::{Refused, Tag};
@@ -10,8 +13,6 @@ use sdd_space::{Cells, Guard, Item, Ptr, RawPtr};
 /// A pointer to what a cell was found to hold.
 #[inline]
 fn pointer_to<'g, T>(held: Option<(u32, &'g T)>, tag: Tag) -> Ptr<'g, T>
-    ghost use Rattle.std.specs.Prelude.{◌≡◌, MatchOption, None, Some};
-    ghost use Rattle.sdd_space.specs.Ptr.{cell_seen, shown_by};
     ensures { MatchOption held
         ((cell_seen result ≡ record { held = None; tag = tag }) × (shown_by result ≡ None))
         (λ found. (cell_seen result ≡ record { held = Some found.0; tag = tag }) × (shown_by result ≡ Some found.1.now)) }
@@ -49,8 +50,13 @@ impl<T: Item<T>, J: Job> Cells<T> for Local<'_, T, J> {
         pointer_to(held, tag)
     }
 
-    fn swap(&mut self, cell: &Right, new: Option<Right>, tag: Tag) -> (Option<Right>, Tag) {
-        let kind = cell.kind();
+    fn swap(
+        &mut self,
+        cell: &Right,
+        new: Option<Right>,
+        tag: Tag,
+        kind: StandingKind,
+    ) -> (Option<Right>, Tag) {
         self.partner.membership.swap(cell, new, tag, kind)
     }
 
@@ -60,9 +66,22 @@ impl<T: Item<T>, J: Job> Cells<T> for Local<'_, T, J> {
         current: CellContents,
         new: Option<Right>,
         tag: Tag,
+        kind: StandingKind,
         guard: &'g Guard,
     ) -> Result<(Option<Right>, Ptr<'g, T>), (Option<Right>, Ptr<'g, T>)> {
-        self.partner.compare_exchange(cell, current, new, tag, guard)
+        self.partner.ledger.codes();
+        let membership = &mut self.partner.membership;
+        let seen = match &new {
+            Some(owner) => Some((owner.number(), membership.get_guarded(owner, guard))),
+            None => None,
+        };
+        match membership.exchange(cell, current, new, tag, kind) {
+            Ok(old) => Ok((old, pointer_to(seen, tag))),
+            Err(back) => {
+                let (held, tag) = membership.load(cell, guard);
+                Err((back, pointer_to(held, tag)))
+            }
+        }
     }
 
     fn update_tag_if<F: FnMut(RawPtr<T>) -> bool>(
@@ -78,8 +97,7 @@ impl<T: Item<T>, J: Job> Cells<T> for Local<'_, T, J> {
         self.partner.membership.clone_cell(cell, guard)
     }
 
-    fn into_contents(&mut self, cell: Right) -> Option<Right> {
-        let kind = cell.kind();
+    fn into_contents(&mut self, cell: Right, kind: StandingKind) -> Option<Right> {
         self.partner.membership.into_contents(cell, kind).0
     }
 }

@@ -1,0 +1,7 @@
+use Rattle.std.proofs.Common.{rules, ◌≡◌, MatchOption, None, Some, ℕ, ◌+◌, ◌-◌, ◌*◌, ◌<◌, ◌≤◌, length, ◌/◌, ◌%◌, Bool, true, false, nat_eq, nat_lt, List, [], ◌∷◌, ◌++◌, slice_index_or, slice_set, bit_and, bit_or, Fits, w8, w32, w64, Bor, MutBor}
+use Rattle.sdd_space.specs.Ptr.{cell_seen, shown_by}
+use Rattle.sdd_domain.proofs.space.cells.LocalCells.cell.Goals as goal
+
+-- src/space/cells.rt:41:5
+pub returns-clause-exact : goal.returns-clause-exact
+returns-clause-exact g c = ?
