@@ -19,6 +19,7 @@ use Rattle.sdd_standings.specs.Cells.{cell_with, slot_held}
 use Rattle.sdd_views.specs.declared.ShownValue.{ShownValue}
 use Rattle.sdd_atomics.specs.declared.domain_table.DomainTable.{DomainTable}
 use Rattle.sdd_word_invariant.specs.Codes.{held_slots}
+use Rattle.sdd_word_invariant.proofs.Codes.{held_which}
 use Rattle.sdd_domain.specs.declared.cell_values.LooseOwner.{LooseOwner}
 use Rattle.sdd_domain.specs.CellWords.{listed}
 use Rattle.sdd_domain.specs.SpaceIds.{cells_home}
@@ -39,6 +40,12 @@ listed_first o xs is = ap (λ (ys : List ℕ). slice_get ys 0) (sym is) ∙ of o
     of : (o : Option ℕ) → slice_get (listed o) 0 ≡ o
     of None = refl
     of (Some k) = refl
+
+-- a word names what the first that it names is listed as
+pub listed_held : (x : ℕ) → listed (slice_get (held_slots x) 0) ≡ held_slots x
+listed_held x = ⊎_elim
+    (λ (one : (slot : ℕ) × (held_slots x ≡ slot ∷ [])). ap (λ (ys : List ℕ). listed (slice_get ys 0)) one.1 ∙ sym one.1)
+    (λ (none : held_slots x ≡ []). ap (λ (ys : List ℕ). listed (slice_get ys 0)) none ∙ sym none) (held_which x)
 
 abbrev slot_of : Option LooseOwner → Option ℕ
 slot_of = option_map (λ (o : LooseOwner). o.slot)

@@ -1,5 +1,5 @@
 -- Cells: what a participant knows of them, and what its calls make of it
-use Rattle.std.specs.Prelude.{◌≡◌, ◌⊎◌, ℕ, ◌<◌, Bool, List, [], ◌∷◌, Option, Some, None, IfSome, option_map, slice_index, slice_set}
+use Rattle.std.specs.Prelude.{◌≡◌, ◌⊎◌, ℕ, ◌<◌, ◌≤◌, Bool, List, [], ◌∷◌, Option, Some, None, IfSome, MatchOption, option_map, slice_index, slice_set}
 use base.Stored.{Gv}
 use Rattle.atomic_table.specs.declared.shared.Seat.{Seat}
 use Rattle.sdd_shared_values.specs.declared.value_fraction.ValueFraction.{ValueFraction}
@@ -9,23 +9,28 @@ use Rattle.sdd_views.specs.declared.View.{View}
 use Rattle.sdd_rights.specs.Owner.{witness_of_owner}
 use Rattle.sdd_rights.specs.declared.right.StandingKind.{StandingKind}
 use Rattle.sdd_rights.specs.declared.right.Right.{Right}
-use Rattle.sdd_rights.specs.Right.{home_of_table, views_of}
+use Rattle.sdd_rights.specs.Right.{home_of_table, number_of, views_of}
 use Rattle.sdd_rights.specs.Units.{GhostName}
-use Rattle.sdd_standings.specs.Cells.{MayHold, slot_held}
+use Rattle.sdd_standings.specs.Cells.{MayHold, cell_with, slot_held}
+use Rattle.sdd_core.specs.declared.tag.Tag.{Tag}
+use Rattle.sdd_domain_invariant.specs.Records.{IsIn}
+use Rattle.sdd_domain.specs.SeenSlots.{IsOnce}
 use Rattle.sdd_domain.specs.CellWords.{listed}
-use Rattle.sdd_word_invariant.specs.Codes.{alive, counted, held_slots}
+use Rattle.sdd_domain.specs.Local.{contents_of}
+use Rattle.sdd_core.specs.declared.tag.Tag.TheVariants.{None as Untagged}
+use Rattle.sdd_word_invariant.specs.Codes.{alive, counted, held_slots, most_owners}
 use Rattle.sdd_domain_invariant.specs.BankInvariant.{one_where}
 use Rattle.sdd_atomics.specs.declared.domain_table.DomainTable.{DomainTable}
 use Rattle.sdd_atomics.specs.DomainTable.{id_of, book_of, slots_of}
 use Rattle.sdd_atomics.specs.Grips.{IsUnitOf}
 use Rattle.sdd_core.specs.declared.refused.Refused.{Refused}
-use Rattle.sdd_core.specs.declared.refused.Refused.TheVariants.{NoCell, Contended}
+use Rattle.sdd_core.specs.declared.refused.Refused.TheVariants.{NoSlot, NoCell, TooManyOwners, Contended}
 use Rattle.sdd_domain.specs.declared.cell_values.LooseOwner.{LooseOwner}
 use Rattle.sdd_word_invariant.specs.Epoch.{IsLone}
 use Rattle.sdd_word_invariant.specs.CellSteps.{cell_noted}
 use Rattle.sdd_domain_invariant.specs.CellSteps.{put_in}
 use Rattle.sdd_domain.specs.Claims.{IsUnmoved}
-use Rattle.sdd_domain.specs.LocalState.{LocalState, IsLone as IsAlone, cell_word_of, word_of}
+use Rattle.sdd_domain.specs.LocalState.{LocalState, AddsAt, IsLone as IsAlone, IsUsedUp, MakesAt, cell_word_of, word_of}
 
 -- ---- as its callers see it
 module _ {J : Type 0} where
@@ -52,11 +57,73 @@ module _ {J : Type 0} where
   abbrev pub ClaimsNone : Refused → LocalState J → Type 0
   ClaimsNone why m = ((why ≡ NoCell) × (IsAlone m → AllCellsTaken m)) ⊎ ((why ≡ Contended) × ¬ (IsAlone m))
 
+  -- a cell that was free holds an owner of an item from now on that was made in this slot, shows this, and has one owner that may be one of several
+  pub record MakesInCell (cell slot : ℕ) (shared : Bool) (value : Gv) (old new : LocalState J) : Type 0 where
+    pub reserved : LocalState J
+    pub made : LocalState J
+    pub first : ℕ
+    pub word : ℕ
+    pub reserves : WritesAt cell 0 first old reserved
+    pub makes : MakesAt slot shared value reserved made
+    pub full : 0 < word
+    pub holds : contents_of word ≡ record { held = Some slot; tag = Untagged }
+    pub filled : new ≡ record made { words = slice_set made.words cell word }
+
+  -- no item was made in a cell: no slot was found free, or no cell was, or exchanges were lost; what a lone participant knows is as it was
+  pub record MakesNone (why : Refused) (old new : LocalState J) : Type 0 where
+    pub same : new ≡ record old { words = new.words }
+    pub words : IsAlone old → new.words ≡ old.words
+    pub cause : (why ≡ NoSlot) ⊎ ((why ≡ NoCell) ⊎ (why ≡ Contended))
+    pub lone : IsAlone old → ((why ≡ NoSlot) × IsUsedUp old) ⊎ ((why ≡ NoCell) × ¬ (IsUsedUp old) × AllCellsTaken old)
+
   -- a cell was found to have this word
   pub record FindsAt (cell word : ℕ) (m : LocalState J) : Type 0 where
     pub inside : cell < m.sizes.cells
     pub found : IsAlone m → word ≡ cell_word_of m cell
     pub full : IsAlone m → 0 < word
+
+  -- its guards see what they saw, and more, and nothing else that callers see is other
+  pub record SeesMore (old new : LocalState J) : Type 0 where
+    pub member : new ≡ record old { slots = new.slots; shown = new.shown }
+    pub waits : new.slots.waits ≡ old.slots.waits
+    pub keeps : (slot : ℕ) (value : Gv) → IsIn old.shown slot value → IsIn new.shown slot value
+    pub once : (new ≡ old) ⊎ IsOnce new.shown
+
+  -- what a cell of shared owners was found to hold is copied: of the item that it names one owner more came
+  abbrev pub Copies : ℕ → Option Right → Tag → LocalState J → LocalState J → Type 0
+  Copies cell copy tag old new = (word : ℕ) × (contents_of word ≡ cell_with copy tag) × FindsAt cell word old × MatchOption copy (SeesMore old new)
+      (λ right. (mid : LocalState J) × (owners : ℕ) × SeesMore old mid × AddsAt (number_of right) owners mid new)
+
+  -- why it wasn't copied
+  pub record CopiesNone (cell : ℕ) (why : Refused) (old new : LocalState J) : Type 0 where
+    pub sees : SeesMore old new
+    pub cause : ((why ≡ TooManyOwners) × (IsAlone old → (slot : ℕ) × ((contents_of (cell_word_of old cell)).held ≡ Some slot)
+        × (counted (word_of old slot) ≡ 1) × (most_owners ≤ alive (word_of old slot))))
+        ⊎ ((why ≡ Contended) × ¬ (IsAlone old))
+
+  -- another cell, which was free, holds a copy of what a cell of shared owners holds, with its tag
+  pub record ClonesTo (cell other : ℕ) (old new : LocalState J) : Type 0 where
+    pub copy : Option Right
+    pub tag : Tag
+    pub reserved : LocalState J
+    pub copied : LocalState J
+    pub first : ℕ
+    pub word : ℕ
+    pub reserves : WritesAt other 0 first old reserved
+    pub copies : Copies cell copy tag reserved copied
+    pub full : 0 < word
+    pub holds : contents_of word ≡ cell_with copy tag
+    pub filled : new ≡ record copied { words = slice_set copied.words other word }
+
+  -- a cell was reserved, and is free again, as what a cell holds wasn't copied
+  pub record ClonesNone (cell : ℕ) (why : Refused) (old new : LocalState J) : Type 0 where
+    pub other : ℕ
+    pub reserved : LocalState J
+    pub missed : LocalState J
+    pub first : ℕ
+    pub reserves : WritesAt other 0 first old reserved
+    pub fails : CopiesNone cell why reserved missed
+    pub freed : new ≡ record missed { words = slice_set missed.words other 0 }
 
   -- a lone participant knows that the owner of this slot, which a cell holds, is one of several that there may be, or not
   pub record IsOwnedThere (slot : ℕ) (shared : Bool) (m : LocalState J) : Type 0 where

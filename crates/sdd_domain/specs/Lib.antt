@@ -13,6 +13,7 @@ pub mod Values
 pub mod RawItems
 pub mod Cells
 pub mod CellWords
+pub mod SeenOwners
 pub mod BetweenCalls
 pub mod InPlace
 pub mod GoesInPlace

@@ -1,5 +1,7 @@
 //! An owner goes into a cell, and what the cell held is a token of its own again.
-ghost use Rattle.std.specs.Prelude.{◌≡◌, ◌≢◌, ◌<◌, ◌∷◌, ◌-◌, ◌^◌, [], None, Bool, IfSome, MatchResult, option_map, slice_index};
+ghost use Rattle.std.specs.Prelude.{◌≡◌, ◌≢◌, ◌<◌, ◌∷◌, ◌-◌, ◌^◌, [], None, Bool, IfSome, MatchBool, MatchResult, ℕ, option_map, slice_index};
+ghost use base.Stored.{Gv};
+ghost use Rattle.sdd_shared_values.specs.SharedValues.{IsValueCode};
 ghost use Rattle.sdd_views.specs.declared.CellKind.{CellKind};
 ghost use Rattle.sdd_views.specs.Views.{no_rights};
 ghost use Rattle.sdd_domain_invariant.specs.CellSteps.{IsBare};
@@ -10,7 +12,7 @@ ghost use Rattle.sdd_rights.specs.StandingKind.{IsOwner, is_shared};
 ghost use Rattle.sdd_standings.specs.Cells.{MayHold};
 ghost use Rattle.sdd_atomics.specs.DomainTable.{id_of, slots_of};
 ghost use Rattle.sdd_atomics.specs.DomainSeat.{view, epoch, slots, Knows};
-ghost use Rattle.sdd_domain.specs.Cells.{AreLoose, HasHeld, IsBoundTo, IsWith, PutsDown, TakesUp, Writes, board_home, slots_in, told_of};
+ghost use Rattle.sdd_domain.specs.Cells.{AreLoose, HasHeld, IsBoundTo, IsLoose, IsWith, PutsDown, TakesUp, Writes, board_home, slots_in, told_of};
 ghost use Rattle.sdd_domain.specs.InPlace.{IsBare as HasNothing};
 ghost use Rattle.sdd_domain.specs.Local.{contents_of};
 ghost use Rattle.sdd_domain.specs.declared.cell_values.LooseOwner.{LooseOwner};
@@ -18,7 +20,8 @@ ghost use Rattle.sdd_domain.specs.declared.cell_values.LooseOwner.{LooseOwner};
 use crate::cell_words::{held_slot, word_with};
 use sdd_atomics::grips::unit_of;
 use sdd_atomics::steps::cells::{
-    exchange_cell, find_cell, free_bare_cell, free_cell, recall_cell, swap_cell, take_in_right,
+    exchange_cell, find_cell, free_bare_cell, free_cell, recall_cell, retag_cell, swap_cell,
+    take_in_right,
 };
 use sdd_atomics::steps::slots::{cut, draw_unit, enter_unit, take_in};
 use sdd_atomics::{DomainSeat, DomainTable};
@@ -96,7 +99,28 @@ pub fn take_up(board: &DomainTable, token: &mut DomainSeat, new: Option<LooseOwn
     enter_unit(board, token, slot, unit);
 }
 
-/// The owner that the participant has, and that a cell with this word would hold, is a token of its own again, if there is one. Its unit comes from the bank.
+/// The owner of a slot that the participant has is a token of its own again. Its unit comes from the bank.
+#[inline]
+pub fn part_with(board: &DomainTable, token: &mut DomainSeat, slot: u32) -> LooseOwner
+    requires home { token.old.table_id ≡ id_of board.now }
+    requires knows { Knows board.now token.old }
+    requires inside { slot < slots_of board.now }
+    requires place { HasPlace (epoch token.old) }
+    requires rests { (view token.old).stakes.moves ≡ None }
+    requires quiet { ((slots token.old).owns ≡ slot ∷ []) × ((slots token.old).drawn ≡ []) × ((slots token.old).holds ≡ None) }
+    requires told { (shared : Bool) × (value : Gv) × IsValueCode value
+        × ((view token.old).stakes.owns ≡ record { slot = slot; shared = shared; value = value } ∷ []) }
+    ensures put { PutsDown token.old token.new }
+    ensures slot { result.slot ≡ slot }
+    ensures owner { (shared : Bool) (value : Gv) → (view token.old).stakes.owns ≡ record { slot = slot; shared = shared; value = value } ∷ []
+        → IsLoose board.now shared result × (result.grip.shown ≡ value) }
+{
+    let grip = draw_unit(board, token, slot).into_grip();
+    let owner = cut(board, token);
+    LooseOwner { slot, owner, grip }
+}
+
+/// The owner that the participant has, and that a cell with this word would hold, is a token of its own again, if there is one.
 #[inline]
 pub fn put_down(board: &DomainTable, token: &mut DomainSeat, word: u64) -> Option<LooseOwner>
     requires home { token.old.table_id ≡ id_of board.now }
@@ -111,9 +135,7 @@ pub fn put_down(board: &DomainTable, token: &mut DomainSeat, word: u64) -> Optio
         → AreLoose board.now shared result × (told_of shared result ≡ (view token.old).stakes.owns) }
 {
     let slot = held_slot(word)?;
-    let grip = draw_unit(board, token, slot).into_grip();
-    let owner = cut(board, token);
-    Some(LooseOwner { slot, owner, grip })
+    Some(part_with(board, token, slot))
 }
 
 /// Frees the cell of this right, and answers the owner that it held, if it held one, and the cell's word before.
@@ -219,4 +241,28 @@ pub fn exchange(
     } else {
         Err(put_down(board, token, word))
     }
+}
+
+/// The cell of this right has another tag, if it still has this word; else nothing changes.
+#[inline]
+pub fn retag(
+    board: &DomainTable,
+    token: &mut DomainSeat,
+    cell: u32,
+    right: &Witness,
+    old: u64,
+    tag: Tag,
+) -> bool
+    requires home { token.old.table_id ≡ id_of board.now }
+    requires knows { Knows board.now token.old }
+    requires place { HasPlace (epoch token.old) }
+    requires bare { HasNothing (view token.old) }
+    requires right { (right.now.table_id ≡ id_of board.now) × ((shared : Bool) × (right.now.views ≡ witness_of_cell cell (cell_kind shared))) }
+    ensures { MatchBool result
+        ((word : ℕ) × (0 < word) × (contents_of word ≡ record (contents_of old) { tag = tag }) × Writes cell old word token.old token.new)
+        (IsWith (view token.old) token.old token.new × (IsLone (epoch token.old) → old ≢ slice_index (view token.old).words cell)) }
+{
+    let word = word_with(held_slot(old), tag);
+    recall_cell(board, token, right);
+    retag_cell(board, token, cell, old, word) == old
 }

@@ -22,6 +22,7 @@ mod raw_values;
 pub mod receipt;
 mod reclaiming;
 mod scan;
+mod seen_owners;
 mod shut;
 mod space;
 mod values;

@@ -1,6 +1,8 @@
 //! A participant as the generic calls of guards and items have it.
 ghost use Rattle.sdd_shared_values.specs.SharedValues.{showing};
 
+mod cells;
+
 use crate::domain::Domain;
 use crate::local::Local;
 use crate::reclaiming::LocalGiver;

@@ -187,7 +187,7 @@ impl<T: Item<T>> AtomicOwned<T> {
             (S.world s.new ≡ with_cell (S.world s.old) (cell_of self.now) (cell_with next.0 next.1)) }
     {
         let (owner, tag) = next;
-        let (old, old_tag) = s.swap(self.right(), Owned::into_held(owner), tag);
+        let (old, old_tag) = s.swap(self.right(), Owned::into_held(owner), tag, StandingKind::Owned);
         (Owned::of_held(old), old_tag)
     }
 
@@ -242,7 +242,7 @@ impl<T: Item<T>> AtomicOwned<T> {
             held: current.slot(),
             tag: current.tag(),
         };
-        match s.compare_exchange(self.right(), expected, Owned::into_held(owner), tag, guard) {
+        match s.compare_exchange(self.right(), expected, Owned::into_held(owner), tag, StandingKind::Owned, guard) {
             Ok((old, ptr)) => Ok((Owned::of_held(old), ptr)),
             Err((back, ptr)) => Err((Owned::of_held(back), ptr)),
         }
@@ -284,7 +284,7 @@ impl<T: Item<T>> AtomicOwned<T> {
         ensures exact { IsExact (S.seat s.old) → ((tag : Tag) × (entry_at (S.world s.old).cells (cell_of self) ≡ Some (cell_with result tag))) ×
             (S.world s.new ≡ without_cell (S.world s.old) (cell_of self)) }
     {
-        Owned::of_held(s.into_contents(self.into_right()))
+        Owned::of_held(s.into_contents(self.into_right(), StandingKind::Owned))
     }
 
     /// Frees the cell, and retires what it holds.
@@ -295,7 +295,7 @@ impl<T: Item<T>> AtomicOwned<T> {
         ensures own { HasContentsGivenUp (S.own s.old) (S.own s.new) }
         ensures exact { IsExact (S.seat s.old) → S.world s.new ≡ cell_closed (S.world s.old) (S.seat s.old).place (cell_of self) }
     {
-        if let Some(right) = s.into_contents(self.into_right()) {
+        if let Some(right) = s.into_contents(self.into_right(), StandingKind::Owned) {
             let _ = s.release(right, StandingKind::Owned);
         }
     }

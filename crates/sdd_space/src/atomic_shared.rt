@@ -188,7 +188,7 @@ impl<T: Item<T>> AtomicShared<T> {
             (S.world s.new ≡ with_cell (S.world s.old) (cell_of self.now) (cell_with next.0 next.1)) }
     {
         let (owner, tag) = next;
-        let (old, old_tag) = s.swap(self.right(), Shared::into_held(owner), tag);
+        let (old, old_tag) = s.swap(self.right(), Shared::into_held(owner), tag, StandingKind::Shared);
         (Shared::of_held(old), old_tag)
     }
 
@@ -243,7 +243,7 @@ impl<T: Item<T>> AtomicShared<T> {
             held: current.slot(),
             tag: current.tag(),
         };
-        match s.compare_exchange(self.right(), expected, Shared::into_held(owner), tag, guard) {
+        match s.compare_exchange(self.right(), expected, Shared::into_held(owner), tag, StandingKind::Shared, guard) {
             Ok((old, ptr)) => Ok((Shared::of_held(old), ptr)),
             Err((back, ptr)) => Err((Shared::of_held(back), ptr)),
         }
@@ -285,7 +285,7 @@ impl<T: Item<T>> AtomicShared<T> {
         ensures exact { IsExact (S.seat s.old) → ((tag : Tag) × (entry_at (S.world s.old).cells (cell_of self) ≡ Some (cell_with result tag))) ×
             (S.world s.new ≡ without_cell (S.world s.old) (cell_of self)) }
     {
-        Shared::of_held(s.into_contents(self.into_right()))
+        Shared::of_held(s.into_contents(self.into_right(), StandingKind::Shared))
     }
 
     /// Frees the cell, and gives up what it holds.
@@ -296,7 +296,7 @@ impl<T: Item<T>> AtomicShared<T> {
         ensures own { HasContentsGivenUp (S.own s.old) (S.own s.new) }
         ensures exact { IsExact (S.seat s.old) → S.world s.new ≡ cell_closed (S.world s.old) (S.seat s.old).place (cell_of self) }
     {
-        if let Some(right) = s.into_contents(self.into_right()) {
+        if let Some(right) = s.into_contents(self.into_right(), StandingKind::Shared) {
             let _ = s.release(right, StandingKind::Shared);
         }
     }

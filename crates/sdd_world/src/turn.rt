@@ -357,7 +357,14 @@ impl<T: Item<T>, J: Job> Cells<T> for Turn<'_, T, J> {
         world.core.load(self.place, cell, inner::tenure_of(guard))
     }
 
-    fn swap(&mut self, cell: &Right, new: Option<Right>, tag: Tag) -> (Option<Right>, Tag) {
+    fn swap(
+        &mut self,
+        cell: &Right,
+        new: Option<Right>,
+        tag: Tag,
+        kind: StandingKind,
+    ) -> (Option<Right>, Tag) {
+        let _ = kind;
         let world = &mut *self.world;
         let old = world.core.cell(cell).tag;
         (world.core.swap(cell, new, tag), old)
@@ -369,8 +376,10 @@ impl<T: Item<T>, J: Job> Cells<T> for Turn<'_, T, J> {
         current: CellContents,
         new: Option<Right>,
         tag: Tag,
+        kind: StandingKind,
         guard: &'g Guard,
     ) -> Result<(Option<Right>, Ptr<'g, T>), (Option<Right>, Ptr<'g, T>)> {
+        let _ = kind;
         let world = &mut *self.world;
         let part = inner::tenure_of(guard);
         match world.core.compare_exchange(cell, current, new, tag) {
@@ -399,7 +408,8 @@ impl<T: Item<T>, J: Job> Cells<T> for Turn<'_, T, J> {
         world.core.clone_cell(cell)
     }
 
-    fn into_contents(&mut self, cell: Right) -> Option<Right> {
+    fn into_contents(&mut self, cell: Right, kind: StandingKind) -> Option<Right> {
+        let _ = kind;
         let world = &mut *self.world;
         world.core.into_contents(cell)
     }

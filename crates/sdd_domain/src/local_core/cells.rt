@@ -1,5 +1,5 @@
 //! Cells: a participant claims and frees them, loads, swaps and exchanges what they hold, and changes their tags.
-ghost use Rattle.std.specs.Prelude.{◌≡◌, ◌≢◌, ◌⊎◌, ◌<◌, ◌∷◌, ℕ, Bool, [], IfErr, IfOk, IfSome, MatchOption, MatchResult, None, Some};
+ghost use Rattle.std.specs.Prelude.{◌≡◌, ◌≢◌, ◌⊎◌, ◌<◌, ◌≤◌, ◌∷◌, ℕ, Bool, [], IfErr, IfOk, IfSome, MatchBool, MatchOption, MatchResult, None, Some, slice_set};
 ghost use base.Stored.{Gv};
 ghost use Rattle.sdd_core.specs.declared.tag.Tag.TheVariants.{None as no_tag};
 ghost use Rattle.sdd_rights.specs.StandingKind.{IsOwner, is_shared};
@@ -7,27 +7,31 @@ ghost use Rattle.sdd_rights.specs.Right.{number_of, home_of, kind_of, raw_number
 ghost use Rattle.sdd_standings.specs.Cells.{MayHold, cell_with, slot_held};
 ghost use Rattle.sdd_shared_values.specs.SharedValues.{showing};
 ghost use Rattle.sdd_space.specs.Guard.{reader_of};
+ghost use Rattle.sdd_space.specs.RawPtr as raw;
 ghost use Rattle.sdd_space.specs.OwnerOrCell.{AreOf};
-ghost use Rattle.sdd_word_invariant.specs.Codes.{held_slots};
-ghost use Rattle.sdd_domain.specs.Cells.{ChangesCell, ClaimsNone, FindsAt, FreesAt, IsOwnedThere, WritesAt};
+ghost use Rattle.sdd_word_invariant.specs.Codes.{alive, counted, held_slots, held_word, most_owners};
+ghost use Rattle.sdd_domain_invariant.specs.Records.{IsIn};
+ghost use Rattle.sdd_domain.specs.Cells.{ChangesCell, ClaimsNone, ClonesNone, ClonesTo, Copies, CopiesNone, FindsAt, FreesAt, IsOwnedThere, MakesInCell, MakesNone, WritesAt};
 ghost use Rattle.sdd_domain.specs.CellWords.{listed};
 ghost use Rattle.sdd_domain.specs.Items.{IsRightTo, slots_home};
 ghost use Rattle.sdd_domain.specs.Local.{contents_of};
-ghost use Rattle.sdd_domain.specs.LocalState.{IsLone, KnowsOwner, LooksAt, cell_word_of};
+ghost use Rattle.sdd_domain.specs.LocalState.{AddsAt, IsLone, KnowsOwner, LooksAt, cell_word_of, word_of};
 ghost use Rattle.sdd_domain.specs.SeenSlots.{IsOnce};
 ghost use Rattle.sdd_domain.specs.SpaceIds.{cells_home, home_in};
 
-use crate::cell_claims::claim_with;
-use crate::cell_values::{bind, exchange, free, free_bare, loosen, swap, word_for};
+use crate::cell_claims::{claim_with, fill, reserve};
+use crate::cell_values::{bind, exchange, free, free_bare, loosen, retag, swap, word_for};
 use crate::cell_words::{contents_in, held_slot, holds, tag_in};
 use crate::local_core::LocalCore;
 use crate::local_core::items::is_one_of_several;
-use sdd_atomics::steps::cells::{look_in, recall_cell, retag_cell, see_in};
+use crate::seen_owners::own_seen;
+use sdd_atomics::steps::cells::{look_in, recall_cell, see_in};
 use sdd_core::{Refused, Tag};
 use sdd_participants::{CellContents, Job};
 use sdd_rights::{RawRight, Right, StandingKind};
-use sdd_space::inner::tenure_of;
-use sdd_space::{Guard, Item};
+use sdd_shared_values::GhostValues;
+use sdd_space::inner::{raw_ptr_to, tenure_of};
+use sdd_space::{Guard, Item, RawPtr};
 
 /// So many cells a domain's table has at most, and their rights are numbered below.
 const MOST_CELLS: usize = 16_777_216;
@@ -209,6 +213,207 @@ impl<'d, T: Item<T>, J: Job> LocalCore<'d, T, J> {
             Err(back) => return Err(bind(board, slots, back, kind)),
         };
         Ok(bind(board, slots, out, kind))
+    }
+
+    /// A cell has another tag, if it still has this word; else nothing changes.
+    fn retag(&mut self, cell: &Right, old: u64, tag: Tag) -> bool
+        requires home { home_of cell.now ≡ cells_home self.old.home }
+        ensures { MatchBool result
+            ((word : ℕ) × (0 < word) × (contents_of word ≡ record (contents_of old) { tag = tag }) × ChangesCell (number_of cell.now) old word self.old self.new)
+            ((self.new ≡ self.old) × (IsLone self.old → old ≢ cell_word_of self.old (number_of cell.now))) }
+    {
+        let board = &self.domain.board;
+        retag(board, &mut self.token, cell.number(), cell.witness(), old, tag)
+    }
+
+    /// A cell has another tag, if the condition holds of what it holds.
+    ///
+    /// `Contended` where others changed the cell meanwhile as often as the limits allow.
+    pub(crate) fn update_tag_if<F: FnMut(RawPtr<T>) -> bool>(
+        &mut self,
+        cell: &Right,
+        tag: Tag,
+        mut condition: F,
+    ) -> Result<bool, Refused>
+        requires home { home_of cell.now ≡ cells_home self.old.home }
+        requires callable { F.IsAlwaysCallable condition }
+        ensures changed { MatchResult result
+            (λ changed. (word : ℕ) × MatchBool changed
+            ((now : ℕ) × (0 < now) × (contents_of now ≡ record (contents_of word) { tag = tag }) × ChangesCell (number_of cell.now) word now self.old self.new)
+            ((self.new ≡ self.old) × FindsAt (number_of cell.now) word self.old))
+            (λ e. (e ≡ Refused.Contended) × (self.new ≡ self.old) × ¬ (IsLone self.old)) }
+        ensures asked { IsLone self.old → IfOk result (λ changed. (ptr : RawPtr T)
+            × (raw.cell_seen ptr ≡ contents_of (cell_word_of self.old (number_of cell.now))) × F.post condition ptr changed) }
+    {
+        for _attempt in 0..self.domain.limits.tries {
+            let word = self.word_at(cell);
+            if !condition(raw_ptr_to(contents_in(word))) {
+                return Ok(false);
+            }
+            if self.retag(cell, word, tag) {
+                return Ok(true);
+            }
+        }
+        Err(Refused::Contended)
+    }
+
+    /// Reserves a free cell, for what is decided when it is filled.
+    ///
+    /// `NoCell` where a walk over all cells found none free; `Contended` where as many exchanges were lost as the limits allow.
+    fn reserve_cell(&mut self) -> Result<RawRight, Refused>
+        ensures right { IfOk result (λ cell. raw_home_of cell ≡ cells_home self.old.home) }
+        ensures reserved { MatchResult result
+            (λ cell. (word : ℕ) × WritesAt (raw_number_of cell) 0 word self.old self.new)
+            (λ e. (self.new ≡ self.old) × ClaimsNone e self.old) }
+    {
+        let next = self.first_cell();
+        let cells = self.domain.limits.cells as u32;
+        let tries = self.domain.limits.tries;
+        let (cell, right) = reserve(&self.domain.board, &mut self.token, next, cells, tries)?;
+        self.next_cell = cell + 1;
+        Ok(RawRight::of_cell(cell, MOST_CELLS, right))
+    }
+
+    /// A cell that was reserved holds an owner of this kind, or none, with this tag.
+    fn fill_cell(
+        &mut self,
+        reserved: RawRight,
+        held: Option<Right>,
+        tag: Tag,
+        kind: StandingKind,
+    ) -> Right
+        requires home { raw_home_of reserved ≡ cells_home self.old.home }
+        requires owner { IsOwner kind }
+        requires held { MayHold (slots_home self.old) kind held }
+        ensures number { number_of result ≡ raw_number_of reserved }
+        ensures right { (home_of result ≡ cells_home self.old.home) × (kind_of result ≡ kind) }
+        ensures filled { (word : ℕ) × (0 < word) × (contents_of word ≡ cell_with held tag) × (raw_number_of reserved < self.old.sizes.cells)
+            × (self.new ≡ record self.old { words = slice_set self.old.words (raw_number_of reserved) word }) }
+    {
+        let cell = reserved.number();
+        let board = &self.domain.board;
+        let shared = is_one_of_several(kind);
+        let new = loosen(board, held, kind);
+        let word = word_for(&new, tag);
+        let of_cell = reserved.into_witness();
+        let right = fill(board, &mut self.token, cell, of_cell, new, word, shared);
+        Right::of_cell(cell, MOST_CELLS, kind, right)
+    }
+
+    /// Puts a value into a free slot, and its owner, which is of this kind, into a free cell, and enters it in the ledger. No memory is taken.
+    ///
+    /// The value comes back: `NoSlot` where no slot was found free, else `NoCell` where no cell was; `Contended` where as many exchanges were lost as the
+    /// limits allow.
+    pub(crate) fn new_in_cell(
+        &mut self,
+        value: T,
+        kind: StandingKind,
+        ledger: &mut GhostValues<T>,
+    ) -> Result<Right, (T, Refused)>
+        requires owner { IsOwner kind }
+        requires home { AreOf (home_in self.old) (T.holds value) }
+        ensures right { IfOk result (λ cell. (home_of cell ≡ cells_home self.old.home) × (kind_of cell ≡ kind)) }
+        ensures back { IfErr result (λ e. e.0 ≡ value) }
+        ensures made { MatchResult result
+            (λ cell. (slot : ℕ) × MakesInCell (number_of cell) slot (is_shared kind) (showing T.row value) self.old self.new
+            × (ledger.new.entries ≡ slice_set ledger.old.entries slot (Some (value, showing T.row value))))
+            (λ e. MakesNone e.1 self.old self.new × (ledger.new.entries ≡ ledger.old.entries)) }
+    {
+        let reserved = match self.reserve_cell() {
+            Ok(reserved) => reserved,
+            Err(refused) => {
+                let refused = if self.has_slot() { refused } else { Refused::NoSlot };
+                return Err((value, refused));
+            }
+        };
+        match self.new_item(value, kind, ledger) {
+            Ok(owner) => Ok(self.fill_cell(reserved, Some(owner), Tag::None, kind)),
+            Err((value, refused)) => {
+                self.free_raw_cell(reserved);
+                Err((value, refused))
+            }
+        }
+    }
+
+    /// One owner more of an item that its guards see, which shows this, if the item may have several and has one still.
+    ///
+    /// `TooManyOwners` where as many own it as may; `Contended` where others came or went meanwhile as often as the limits allow.
+    fn own_seen(&mut self, slot: u32, value: &T) -> Result<Option<Right>, Refused>
+        requires inside { slot < self.old.limits.slots }
+        requires seen { IsIn self.old.shown slot (showing T.row value.now) }
+        ensures came { MatchResult result
+            (λ o. MatchOption o
+            ((self.new ≡ self.old) × (IsLone self.old → (counted (word_of self.old slot) ≡ 0) ⊎ (alive (word_of self.old slot) ≡ 0)))
+            (λ right. (number_of right ≡ slot) × ((word : ℕ) × AddsAt slot word self.old self.new)))
+            (λ e. (self.new ≡ self.old)
+            × (((e ≡ Refused.TooManyOwners) × (IsLone self.old → (counted (word_of self.old slot) ≡ 1) × (most_owners ≤ alive (word_of self.old slot))))
+            ⊎ ((e ≡ Refused.Contended) × (IsLone self.old → word_of self.old slot ≡ held_word)))) }
+        ensures right { IfOk result (λ o. IfSome o (λ right. IsRightTo self.old StandingKind.Shared (showing T.row value.now) right)) }
+    {
+        let slots = self.domain.limits.slots;
+        let tries = self.domain.limits.tries;
+        let board = &self.domain.board;
+        let loose = match own_seen(board, &mut self.token, slot, value, tries) {
+            Ok(loose) => loose,
+            Err(refused) => return Err(refused),
+        };
+        Ok(bind(board, slots, loose, StandingKind::Shared))
+    }
+
+    /// One owner more of what a cell of shared owners holds, if it holds anything, with its tag.
+    ///
+    /// `TooManyOwners` where as many own it as may; `Contended` where others changed the cell or its item's owners meanwhile as often as the limits allow.
+    fn copy_held(
+        &mut self,
+        cell: &Right,
+        guard: &Guard,
+    ) -> Result<(Option<Right>, Tag), Refused>
+        requires home { home_of cell.now ≡ cells_home self.old.home }
+        requires kind { kind_of cell.now ≡ StandingKind.Shared }
+        requires reader { reader_of guard.now ≡ self.old.reader }
+        ensures right { IfOk result (λ copy. MayHold (slots_home self.old) StandingKind.Shared copy.0) }
+        ensures copied { MatchResult result
+            (λ copy. Copies (number_of cell.now) copy.0 copy.1 self.old self.new)
+            (λ e. CopiesNone (number_of cell.now) e self.old self.new) }
+    {
+        for _attempt in 0..self.domain.limits.tries {
+            let (held, tag) = self.load(cell, guard);
+            let Some((slot, value)) = held else {
+                return Ok((None, tag));
+            };
+            match self.own_seen(slot, value) {
+                Ok(Some(owner)) => return Ok((Some(owner), tag)),
+                Ok(None) => {}
+                Err(refused) => return Err(refused),
+            }
+        }
+        Err(Refused::Contended)
+    }
+
+    /// Another cell holds one owner more of what a cell of shared owners holds, if it holds anything, with its tag. No memory is taken.
+    ///
+    /// `NoCell` where no cell was found free, else `TooManyOwners` where as many own the item as may; `Contended` where as many exchanges were lost as the
+    /// limits allow.
+    pub(crate) fn clone_cell(&mut self, cell: &Right, guard: &Guard) -> Result<Right, Refused>
+        requires home { home_of cell.now ≡ cells_home self.old.home }
+        requires kind { kind_of cell.now ≡ StandingKind.Shared }
+        requires reader { reader_of guard.now ≡ self.old.reader }
+        ensures right { IfOk result (λ other. (home_of other ≡ cells_home self.old.home) × (kind_of other ≡ StandingKind.Shared)) }
+        ensures cloned { MatchResult result
+            (λ other. ClonesTo (number_of cell.now) (number_of other) self.old self.new)
+            (λ e. ((self.new ≡ self.old) × ClaimsNone e self.old) ⊎ ClonesNone (number_of cell.now) e self.old self.new) }
+    {
+        let reserved = match self.reserve_cell() {
+            Ok(reserved) => reserved,
+            Err(refused) => return Err(refused),
+        };
+        match self.copy_held(cell, guard) {
+            Ok((copy, tag)) => Ok(self.fill_cell(reserved, copy, tag, StandingKind::Shared)),
+            Err(refused) => {
+                self.free_raw_cell(reserved);
+                Err(refused)
+            }
+        }
     }
 
     /// A cell is free again. The owner that it held comes, if it held one, with the cell's word before.

@@ -92,10 +92,18 @@ pub trait Cells<T: Item<T>>: Caller<T> {
         ensures exact { IsExact (Self.seat self.old) →
             (entry_at (Self.world self.old).cells (number_of cell.now) ≡ Some (cell_seen result)) × (Self.world self.new ≡ Self.world self.old) };
 
-    /// The cell holds another owner, or none, and has this tag. What it held, and its tag, come back.
-    fn swap(&mut self, cell: &Right, new: Option<Right>, tag: Tag) -> (Option<Right>, Tag)
+    /// The cell, which is for owners of this kind, holds another owner, or none, and has this tag. What it held, and its tag, come back.
+    fn swap(
+        &mut self,
+        cell: &Right,
+        new: Option<Right>,
+        tag: Tag,
+        kind: StandingKind,
+    ) -> (Option<Right>, Tag)
         requires seated { IsSeated (Self.seat self.old) }
         requires home { home_of cell.now ≡ (Self.seat self.old).home.cells }
+        requires kind { kind_of cell.now ≡ kind }
+        requires owner { IsOwner kind }
         requires held { MayHold (Self.seat self.old).home.slots (kind_of cell.now) new }
         ensures undisturbed { Undisturbed Self.seat Self.own Self.known Self.shows self.old self.new }
         ensures held { MayHold (Self.seat self.old).home.slots (kind_of cell.now) result.0 }
@@ -111,10 +119,13 @@ pub trait Cells<T: Item<T>>: Caller<T> {
         current: CellContents,
         new: Option<Right>,
         tag: Tag,
+        kind: StandingKind,
         guard: &'g Guard,
     ) -> Result<(Option<Right>, Ptr<'g, T>), (Option<Right>, Ptr<'g, T>)>
         requires seated { IsSeated (Self.seat self.old) }
         requires home { home_of cell.now ≡ (Self.seat self.old).home.cells }
+        requires kind { kind_of cell.now ≡ kind }
+        requires owner { IsOwner kind }
         requires held { MayHold (Self.seat self.old).home.slots (kind_of cell.now) new }
         requires reader { reader_of guard.now ≡ (Self.seat self.old).reader }
         ensures undisturbed { Undisturbed Self.seat Self.own Self.known Self.shows self.old self.new }
@@ -172,10 +183,12 @@ pub trait Cells<T: Item<T>>: Caller<T> {
             ¬ (IsFull (Self.world self.old).cells) × (e ≡ Refused.TooManyOwners) × IsSome old.held ×
             IfSome old.held (λ slot. IsSharedBy (2 ^ 62) (standing_at (Self.world self.old) slot)))) };
 
-    /// Gives a cell up. What it held comes back.
-    fn into_contents(&mut self, cell: Right) -> Option<Right>
+    /// Gives a cell up, which is for owners of this kind. What it held comes back.
+    fn into_contents(&mut self, cell: Right, kind: StandingKind) -> Option<Right>
         requires seated { IsSeated (Self.seat self.old) }
         requires home { home_of cell ≡ (Self.seat self.old).home.cells }
+        requires kind { kind_of cell ≡ kind }
+        requires owner { IsOwner kind }
         ensures undisturbed { Undisturbed Self.seat Self.own Self.known Self.shows self.old self.new }
         ensures held { MayHold (Self.seat self.old).home.slots (kind_of cell) result }
         ensures exact { IsExact (Self.seat self.old) →

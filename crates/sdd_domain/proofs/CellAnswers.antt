@@ -1,0 +1,67 @@
+-- What a participant's calls of cells answer and leave, as generic code sees it
+use Rattle.std.proofs.Common.{◌≡◌, ◌⊎◌, inl, inr, ⊎_elim, ℕ, ◌<◌, IsTrue, List, Some, None, Option, arith, sym, refl, ap, ◌∙◌, subst}
+use Rattle.std.specs.Prelude.{Result, Ok, Err, IfErr, MatchResult}
+use base.Stored.{Gv}
+use Rattle.sdd_core.specs.declared.refused.Refused.{Refused}
+use Rattle.sdd_core.specs.declared.refused.Refused.TheVariants.{NoCell, Contended}
+use Rattle.sdd_core.specs.declared.tag.Tag.{Tag}
+use Rattle.sdd_participants.specs.Slab.{IsEmptyAt, IsFull, entry_at}
+use Rattle.sdd_rights.specs.declared.right.Right.{Right}
+use Rattle.sdd_rights.specs.Right.{number_of}
+use Rattle.sdd_standings.specs.Cells.{cell_with}
+use Rattle.sdd_space.specs.OwnerOrCell.{OwnerOrCell}
+use Rattle.sdd_space.specs.Undisturbed.{Undisturbed}
+use Rattle.sdd_space.specs.WorldChanges.{with_cell}
+use Rattle.sdd_domain.specs.Cells.{ChangesCell, ClaimsNone, WritesAt}
+use Rattle.sdd_domain.specs.LocalState.{LocalState, IsLone}
+use Rattle.sdd_domain.specs.Local.{LocalModel, contents_of, world_of}
+use Rattle.sdd_domain.specs.Sound.{IsSound}
+use Rattle.sdd_domain.specs.Space.{Shows, is_lone, known_of, seat_of}
+use Rattle.sdd_domain.specs.WordsAndValues.{WordsMatchValues}
+use Rattle.sdd_domain.proofs.CellWorld.{cells_used_up, empty_exact, full_exact, matched_written, sound_written, written_exact, written_undisturbed}
+use Rattle.sdd_domain.proofs.Exact.{lone_is}
+
+-- a claim by a word that holds this
+module _ {T J : Type 0} (v : LocalModel T J) (m : LocalState J) (held : Option Right) (tag : Tag) where
+  abbrev pub Claimed : Result Right (Option Right × Refused) → Type 0
+  Claimed r = MatchResult r
+      (λ cell. (word : ℕ) × (0 < word) × (contents_of word ≡ cell_with held tag) × WritesAt (number_of cell) 0 word v.member m)
+      (λ e. (m ≡ v.member) × ClaimsNone e.1 v.member)
+
+  abbrev after : LocalModel T J
+  after = record { member = m; entries = v.entries }
+
+  pub claimed_tied : (r : Result Right (Option Right × Refused)) → Claimed r → WordsMatchValues v.member v.entries → WordsMatchValues m v.entries
+  claimed_tied (Ok cell) a tied = matched_written v (number_of cell) 0 a.0 m a.3 tied
+  claimed_tied (Err e) a tied = subst (λ (y : LocalState J). WordsMatchValues y v.entries) (sym a.0) tied
+
+  pub claimed_sound : (r : Result Right (Option Right × Refused)) → Claimed r → (holds : T → List OwnerOrCell) → IsSound holds v → IsSound holds after
+  claimed_sound (Ok cell) a holds sound = sound_written v (number_of cell) 0 a.0 m a.3 holds sound
+  claimed_sound (Err e) a holds sound = subst (λ (y : LocalState J). IsSound holds (record { member = y; entries = v.entries })) (sym a.0) sound
+
+  module _ (p : LocalModel T J) (same : v ≡ p) where
+    abbrev Leaves : (T → Gv) → (T → List OwnerOrCell) → LocalModel T J → Type 0
+    Leaves shown holds q = Undisturbed seat_of (λ (x : LocalModel T J). x.member.own) known_of (λ (x : LocalModel T J). Shows shown holds x) p q
+
+    pub claimed_undisturbed : (r : Result Right (Option Right × Refused)) → Claimed r → (shown : T → Gv) (holds : T → List OwnerOrCell) → Leaves shown holds after
+    claimed_undisturbed (Ok cell) a shown holds = written_undisturbed v (number_of cell) 0 a.0 m a.3 p same shown holds
+    claimed_undisturbed (Err e) a shown holds = subst (λ (q : LocalModel T J). Undisturbed seat_of (λ (x : LocalModel T J). x.member.own) known_of
+        (λ (x : LocalModel T J). Shows shown holds x) q after) same
+        (subst (λ (y : LocalState J). Undisturbed seat_of (λ (x : LocalModel T J). x.member.own) known_of (λ (x : LocalModel T J). Shows shown holds x) v
+        (record { member = y; entries = v.entries })) (sym a.0)
+        record { seat = refl; own = refl; known = record { told = omega arith; since = refl }; shown = λ _ _ shows. shows })
+
+    pub claimed_exact : (r : Result Right (Option Right × Refused)) → Claimed r → IfErr r (λ e. e.0 ≡ held)
+        → WordsMatchValues v.member v.entries → IsTrue (is_lone p.member) → MatchResult r
+        (λ cell. IsEmptyAt (world_of p).cells (number_of cell) × (world_of after ≡ with_cell (world_of p) (number_of cell) (cell_with held tag)))
+        (λ e. IsFull (world_of p).cells × (e ≡ (held, NoCell)) × (world_of after ≡ world_of p))
+    claimed_exact (Ok cell) a back tied exact = (
+      empty_exact v (number_of cell) 0 a.0 m a.3 tied p same exact refl,
+      written_exact v (number_of cell) 0 a.0 m a.3 tied p same exact (cell_with held tag) a.1 a.2,
+    )
+    claimed_exact (Err e) a back tied exact = let lone : IsLone v.member = lone_is v.member (subst (λ (q : LocalModel T J). IsTrue (is_lone q.member)) (sym same) exact) in
+        ⊎_elim (λ (none : (e.1 ≡ NoCell) × (IsLone v.member → Rattle.sdd_domain.specs.Cells.AllCellsTaken v.member)). (
+          subst (λ (q : LocalModel T J). IsFull (world_of q).cells) same (cells_used_up v (none.1 lone)),
+          (λ d. (back d, none.0 d)),
+          ap (λ (y : LocalState J). world_of {T = T} (record { member = y; entries = v.entries })) a.0 ∙ ap world_of same,
+        )) (λ (lost : (e.1 ≡ Contended) × ¬ (IsLone v.member)). absurd (lost.1 lone)) a.1

@@ -1,0 +1,103 @@
+//! A participant as the generic calls of cells have it.
+ghost use Rattle.std.specs.Prelude.{◌≡◌, MatchOption, None, Some};
+ghost use Rattle.sdd_space.specs.Ptr.{cell_seen, shown_by};
+
+use crate::local::Local;
+use crate::reclaiming::LocalGiver;
+use sdd_core::{Refused, Tag};
+use sdd_participants::{CellContents, Job};
+use sdd_rights::{Right, StandingKind};
+use sdd_space::inner::{null_with, ptr_to};
+use sdd_space::{Cells, Guard, Item, Ptr, RawPtr};
+
+/// A pointer to what a cell was found to hold.
+#[inline]
+fn pointer_to<'g, T>(held: Option<(u32, &'g T)>, tag: Tag) -> Ptr<'g, T>
+    ensures { MatchOption held
+        ((cell_seen result ≡ record { held = None; tag = tag }) × (shown_by result ≡ None))
+        (λ found. (cell_seen result ≡ record { held = Some found.0; tag = tag }) × (shown_by result ≡ Some found.1.now)) }
+{
+    match held {
+        Some((slot, value)) => ptr_to(slot, value).with_tag(tag),
+        None => null_with(tag),
+    }
+}
+
+impl<T: Item<T>, J: Job> Cells<T> for Local<'_, T, J> {
+    fn cell_from(
+        &mut self,
+        held: Option<Right>,
+        tag: Tag,
+        kind: StandingKind,
+    ) -> Result<Right, (Option<Right>, Refused)> {
+        self.partner.membership.cell_from(held, tag, kind)
+    }
+
+    fn new_in_cell(&mut self, value: T, kind: StandingKind) -> Result<Right, (T, Refused)> {
+        let LocalGiver { membership, ledger } = &mut self.partner;
+        membership.new_in_cell(value, kind, ledger)
+    }
+
+    #[inline]
+    fn cell(&mut self, cell: &Right) -> CellContents {
+        self.partner.membership.cell(cell)
+    }
+
+    #[inline]
+    fn load<'g>(&mut self, cell: &Right, guard: &'g Guard) -> Ptr<'g, T> {
+        self.partner.ledger.codes();
+        let (held, tag) = self.partner.membership.load(cell, guard);
+        pointer_to(held, tag)
+    }
+
+    fn swap(
+        &mut self,
+        cell: &Right,
+        new: Option<Right>,
+        tag: Tag,
+        kind: StandingKind,
+    ) -> (Option<Right>, Tag) {
+        self.partner.membership.swap(cell, new, tag, kind)
+    }
+
+    fn compare_exchange<'g>(
+        &mut self,
+        cell: &Right,
+        current: CellContents,
+        new: Option<Right>,
+        tag: Tag,
+        kind: StandingKind,
+        guard: &'g Guard,
+    ) -> Result<(Option<Right>, Ptr<'g, T>), (Option<Right>, Ptr<'g, T>)> {
+        self.partner.ledger.codes();
+        let membership = &mut self.partner.membership;
+        let seen = match &new {
+            Some(owner) => Some((owner.number(), membership.get_guarded(owner, guard))),
+            None => None,
+        };
+        match membership.exchange(cell, current, new, tag, kind) {
+            Ok(old) => Ok((old, pointer_to(seen, tag))),
+            Err(back) => {
+                let (held, tag) = membership.load(cell, guard);
+                Err((back, pointer_to(held, tag)))
+            }
+        }
+    }
+
+    fn update_tag_if<F: FnMut(RawPtr<T>) -> bool>(
+        &mut self,
+        cell: &Right,
+        tag: Tag,
+        condition: F,
+    ) -> Result<bool, Refused> {
+        self.partner.membership.update_tag_if(cell, tag, condition)
+    }
+
+    fn clone_cell(&mut self, cell: &Right, guard: &Guard) -> Result<Right, Refused> {
+        self.partner.membership.clone_cell(cell, guard)
+    }
+
+    fn into_contents(&mut self, cell: Right, kind: StandingKind) -> Option<Right> {
+        self.partner.membership.into_contents(cell, kind).0
+    }
+}
