@@ -1,6 +1,6 @@
 -- What a participant's calls of cells answer and leave, as generic code sees it
-use Rattle.std.proofs.Common.{◌≡◌, ◌⊎◌, inl, inr, ⊎_elim, ℕ, ◌<◌, IsTrue, List, Some, None, Option, arith, sym, refl, ap, ◌∙◌, subst}
-use Rattle.std.specs.Prelude.{Result, Ok, Err, IfErr, MatchResult}
+use Rattle.std.proofs.Common.{◌≡◌, ◌⊎◌, inl, inr, ⊎_elim, ℕ, ◌<◌, Bool, true, false, IsTrue, List, Some, None, Option, arith, sym, refl, ap, ◌∙◌, subst}
+use Rattle.std.specs.Prelude.{Result, Ok, Err, IfErr, IfOk, IsOk, MatchBool, MatchResult, if◌then◌else◌}
 use base.Stored.{Gv}
 use Rattle.sdd_core.specs.declared.refused.Refused.{Refused}
 use Rattle.sdd_core.specs.declared.refused.Refused.TheVariants.{NoCell, Contended}
@@ -10,16 +10,20 @@ use Rattle.sdd_rights.specs.declared.right.Right.{Right}
 use Rattle.sdd_rights.specs.Right.{number_of}
 use Rattle.sdd_standings.specs.Cells.{cell_with}
 use Rattle.sdd_space.specs.OwnerOrCell.{OwnerOrCell}
+use Rattle.sdd_space.specs.RawPtr as raw
+use Rattle.sdd_space.specs.declared.raw_ptr.RawPtr.{RawPtr}
 use Rattle.sdd_space.specs.Undisturbed.{Undisturbed}
 use Rattle.sdd_space.specs.WorldChanges.{with_cell}
-use Rattle.sdd_domain.specs.Cells.{ChangesCell, ClaimsNone, WritesAt}
-use Rattle.sdd_domain.specs.LocalState.{LocalState, IsLone}
+use Rattle.sdd_domain.specs.Cells.{ChangesCell, ClaimsNone, FindsAt, WritesAt}
+use Rattle.sdd_domain.specs.LocalState.{LocalState, IsLone, cell_word_of}
 use Rattle.sdd_domain.specs.Local.{LocalModel, contents_of, world_of}
 use Rattle.sdd_domain.specs.Sound.{IsSound}
 use Rattle.sdd_domain.specs.Space.{Shows, is_lone, known_of, seat_of}
 use Rattle.sdd_domain.specs.WordsAndValues.{WordsMatchValues}
-use Rattle.sdd_domain.proofs.CellWorld.{cells_used_up, empty_exact, full_exact, matched_written, sound_written, written_exact, written_undisturbed}
+use Rattle.sdd_domain.proofs.CellWorld.{cells_used_up, empty_exact, full_exact, full_exact, matched_written, sound_written, written_exact, written_undisturbed}
 use Rattle.sdd_domain.proofs.Exact.{lone_is}
+use Rattle.sdd_domain.proofs.Pointers.{finds_exact}
+use Rattle.sdd_domain.proofs.Steps.{IsStep, same_step, writes_step}
 
 -- a claim by a word that holds this
 module _ {T J : Type 0} (v : LocalModel T J) (m : LocalState J) (held : Option Right) (tag : Tag) where
@@ -65,3 +69,48 @@ module _ {T J : Type 0} (v : LocalModel T J) (m : LocalState J) (held : Option R
           (λ d. (back d, none.0 d)),
           ap (λ (y : LocalState J). world_of {T = T} (record { member = y; entries = v.entries })) a.0 ∙ ap world_of same,
         )) (λ (lost : (e.1 ≡ Contended) × ¬ (IsLone v.member)). absurd (lost.1 lone)) a.1
+
+-- ---- another tag of a cell
+module _ {T J : Type 0} (v : LocalModel T J) (m : LocalState J) (cell : ℕ) (tag : Tag) where
+  abbrev pub Retags : Result Bool Refused → Type 0
+  Retags r = MatchResult r (λ changed. (word : ℕ) × MatchBool changed
+      ((now : ℕ) × (0 < now) × (contents_of now ≡ record (contents_of word) { tag = tag }) × ChangesCell cell word now v.member m)
+      ((m ≡ v.member) × FindsAt cell word v.member))
+      (λ e. (e ≡ Contended) × (m ≡ v.member) × ¬ (IsLone v.member))
+
+  abbrev retagged : LocalModel T J
+  retagged = record { member = m; entries = v.entries }
+
+  pub retags_step : (shown : T → Gv) (holds : T → List OwnerOrCell) (r : Result Bool Refused) → Retags r → IsStep shown holds v retagged
+  retags_step shown holds (Ok true) a = writes_step shown holds v m cell a.0 a.1.0 a.1.3.writes
+  retags_step shown holds (Ok false) a = same_step shown holds v m a.1.0
+  retags_step shown holds (Err e) a = same_step shown holds v m a.1
+
+  -- the condition was asked of what the cell held
+  module _ (Met : RawPtr T → Bool → Type 0) where
+    abbrev Asked : Result Bool Refused → Type 0
+    Asked r = IsLone v.member → IfOk r (λ changed. (ptr : RawPtr T) × (raw.cell_seen ptr ≡ contents_of (cell_word_of v.member cell)) × Met ptr changed)
+
+    pub retags_exact : (r : Result Bool Refused) → Retags r → Asked r → WordsMatchValues v.member v.entries → (p : LocalModel T J) → v ≡ p
+        → IsTrue (is_lone p.member) → IsOk r × IfOk r (λ changed. (ptr : RawPtr T) × (entry_at (world_of p).cells cell ≡ Some (raw.cell_seen ptr))
+        × Met ptr changed × (world_of retagged ≡ (if changed then with_cell (world_of p) cell (record (raw.cell_seen ptr) { tag = tag }) else world_of p)))
+    retags_exact (Ok true) a asked tied p same exact =
+        let lone : IsLone v.member = lone_is v.member (subst (λ (q : LocalModel T J). IsTrue (is_lone q.member)) (sym same) exact) in
+        let q = asked lone in let is = a.1.3 in
+        let seen : contents_of a.0 ≡ raw.cell_seen q.0 = ap contents_of (is.writes.lone lone) ∙ sym q.1 in (refl, (
+          q.0,
+          full_exact v cell a.0 a.1.0 m is.writes tied p same exact (raw.cell_seen q.0) (is.full lone) seen,
+          q.2,
+          written_exact v cell a.0 a.1.0 m is.writes tied p same exact (record (raw.cell_seen q.0) { tag = tag }) a.1.1
+              (a.1.2 ∙ (λ d. record (seen d) { tag = tag })),
+        ))
+    retags_exact (Ok false) a asked tied p same exact =
+        let lone : IsLone v.member = lone_is v.member (subst (λ (q : LocalModel T J). IsTrue (is_lone q.member)) (sym same) exact) in
+        let q = asked lone in (refl, (
+          q.0,
+          finds_exact v cell a.0 a.1.1 tied p same exact (raw.cell_seen q.0) (ap contents_of (a.1.1.found lone) ∙ sym q.1),
+          q.2,
+          ap (λ (y : LocalState J). world_of {T = T} (record { member = y; entries = v.entries })) a.1.0 ∙ ap world_of same,
+        ))
+    retags_exact (Err e) a asked tied p same exact =
+        absurd (a.2 (lone_is v.member (subst (λ (q : LocalModel T J). IsTrue (is_lone q.member)) (sym same) exact)))

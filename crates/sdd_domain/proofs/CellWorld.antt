@@ -28,7 +28,7 @@ use Rattle.sdd_domain.proofs.Refusals.{words_only, words_undisturbed}
 use Rattle.sdd_domain.proofs.Sound.{sound_then}
 
 -- a cell that isn't free holds what its word tells
-full_contents : (word : ℕ) → 0 < word → contents_by word ≡ Some (contents_of word)
+pub full_contents : (word : ℕ) → 0 < word → contents_by word ≡ Some (contents_of word)
 full_contents word some = let ne : word ≢ 0 = (λ e. absurd (omega arith)) in λ d. if ne_eqb word 0 ne d then None else Some (contents_of word)
 
 some_there : (word : ℕ) → 0 < word → IsSome (contents_by word)
@@ -101,7 +101,7 @@ module _ {T J : Type 0} (v : LocalModel T J) (cell found word : ℕ) (m : LocalS
       (λ i l. ap (λ (w : ℕ). value_by w (slice_index_or v.entries i None)) (word_kept i))
 
   -- in its world no more than cells are others
-  cells_only : world_of after ≡ record (world_of v) { cells = listing v.member.limits.cells (contents_in after) }
+  pub cells_only : world_of after ≡ record (world_of v) { cells = listing v.member.limits.cells (contents_in after) }
   cells_only = let n : ℕ = v.member.limits.slots in
       let standings : listing n (standing_in after) ≡ listing n (standing_in v)
       = listing_same n (standing_in v) (standing_in after) (λ i l. ap standing_by (word_kept i)) in
@@ -121,7 +121,7 @@ module _ {T J : Type 0} (v : LocalModel T J) (cell found word : ℕ) (m : LocalS
         (λ i l ne. ap contents_by (get_or-set_other v.member.words cell i word 0 ne))
         ∙ ap (set (listing v.member.limits.cells (contents_in v)) cell) now
 
-    world_by : (contents : Option CellContents) → contents_by word ≡ contents
+    pub world_by : (contents : Option CellContents) → contents_by word ≡ contents
         → world_of (record { member = m; entries = v.entries }) ≡ record (world_of v) { cells = set (world_of v).cells cell contents }
     world_by contents tells = world_cells ∙ ap (λ (cells : List (Option CellContents)). record (world_of v) { cells = cells })
         (cells_now ∙ ap (set (listing v.member.limits.cells (contents_in v)) cell) tells)

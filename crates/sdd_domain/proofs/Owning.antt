@@ -86,12 +86,25 @@ shown_entry k shared g None e is a = absurd a
 shown_entry k shared g (Some r) None is a = absurd a
 shown_entry k shared g (Some r) (Some x) is a = (x, refl, a ∙ ap (value_or g) is)
 
+-- ---- a slot whose word tells of owners
+module _ {T J : Type 0} (v : LocalModel T J) (t : AreTied v.member v.entries) (k : ℕ) (some : 0 < alive (word_of v.member k)) where
+  pub low_alive : k < v.member.limits.slots
+  low_alive = let s = t.slots in let q = t.places in let i = inside v.member.sizes v.member.words t.long (λ j l.
+      subst (λ (n : ℕ). alive (get_or v.member.words (behind v.member.sizes (n + j)) 0) ≡ 0) (sym t.slots)
+      (place_dead (word_of v.member (place_number v.member j)) (entry_at v.member.jobs j) (t.jobs j (omega arith)))) k some in omega arith
+
+  module _ (shared : Bool) (kind : counted (word_of v.member k) ≡ one_where shared) where
+    pub stands_alive : standing_at (world_of v) k ≡ Some (if shared then Shared (alive (word_of v.member k)) else Owned)
+    stands_alive = listing_at v.member.limits.slots (standing_in v) k None low_alive ∙ stands_owned (word_of v.member k) shared some kind
+
+    -- no more than may be
+    pub few_alive : shared ≡ true → alive (word_of v.member k) ≤ 2 ^ 62
+    few_alive e = let c = counts_of (word_of v.member k) (t.plain k low_alive) (kind ∙ ap one_where e) in let a = c.1 in let b = c.2 in omega arith
+
 -- ---- an owner's item
 module _ {T J : Type 0} (v : LocalModel T J) (t : AreTied v.member v.entries) (k : ℕ) (shared : Bool) (g : Gv) (knows : KnowsOwner v.member k shared g) where
   pub low : k < v.member.limits.slots
-  low = let s = t.slots in let q = t.places in let i = inside v.member.sizes v.member.words t.long (λ j l.
-      subst (λ (n : ℕ). alive (get_or v.member.words (behind v.member.sizes (n + j)) 0) ≡ 0) (sym t.slots)
-      (place_dead (word_of v.member (place_number v.member j)) (entry_at v.member.jobs j) (t.jobs j (omega arith)))) k knows.alive in omega arith
+  low = low_alive v t k knows.alive
 
   pub taken : word_of v.member k ≢ 0
   taken = alive_taken (word_of v.member k) knows.alive
@@ -109,11 +122,11 @@ module _ {T J : Type 0} (v : LocalModel T J) (t : AreTied v.member v.entries) (k
   owners = alive (word_of v.member k)
 
   pub stands : standing_at (world_of v) k ≡ Some (if shared then Shared owners else Owned)
-  stands = listing_at v.member.limits.slots (standing_in v) k None low ∙ stands_owned (word_of v.member k) shared knows.alive knows.kind
+  stands = stands_alive v t k knows.alive shared knows.kind
 
   -- no more than may be
   pub few_owners : shared ≡ true → owners ≤ 2 ^ 62
-  few_owners e = let c = counts_of (word_of v.member k) (t.plain k low) (knows.kind ∙ ap one_where e) in let a = c.1 in let b = c.2 in omega arith
+  few_owners = few_alive v t k knows.alive shared knows.kind
 
 -- in an owner's slot is the value that it tells
 module _ {J : Type 0} (R : RattleType) (v : LocalModel R.Denot J) (k : ℕ) (shared : Bool) (x : R.Denot) (tied : WordsMatchValues v.member v.entries)

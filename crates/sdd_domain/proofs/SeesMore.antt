@@ -1,5 +1,5 @@
 -- What a participant's guards see grows, and what is known of cells and owners meanwhile stays
-use Rattle.std.proofs.Common.{◌≡◌, ◌⊎◌, inl, inr, ⊎_elim, ℕ, ◌<◌, ◌≤◌, List, ◌∷◌, Some, None, true, sym, refl, ap, ◌∙◌, subst, arith}
+use Rattle.std.proofs.Common.{◌≡◌, ◌⊎◌, inl, inr, ⊎_elim, ℕ, ◌<◌, ◌≤◌, List, ◌∷◌, Some, None, true, false, sym, refl, ap, ◌∙◌, subst, arith}
 use Rattle.std.specs.Prelude.{Bool, Option}
 use mathlib.Core.Logic.{dite}
 use native.Mathlib.Decide.{dec_lt}
@@ -15,9 +15,13 @@ use Rattle.sdd_domain_invariant.specs.BankInvariant.{one_where}
 use Rattle.sdd_domain_invariant.specs.Records.{IsIn}
 use Rattle.sdd_domain_invariant.proofs.Records.{in_head, in_tail}
 use Rattle.sdd_domain.specs.SeenSlots.{IsOnce}
-use Rattle.sdd_domain.specs.LocalState.{LocalState, IsLone, LooksAt, cell_word_of, word_of}
+use Rattle.sdd_domain.specs.LocalState.{LocalState, IsLone, KnowsOwner, LooksAt, cell_word_of, word_of}
 use Rattle.sdd_domain.specs.Local.{contents_of}
 use Rattle.sdd_domain.specs.Cells.{CopiesNone, FindsAt, IsOwnedThere, SeesMore}
+
+of_several : (b : Bool) → one_where b ≡ 1 → b ≡ true
+of_several true e = refl
+of_several false e = absurd (omega arith)
 
 module _ {J : Type 0} where
   pub same_sees : (a b : LocalState J) → b ≡ a → SeesMore a b
@@ -53,6 +57,12 @@ module _ {J : Type 0} where
         ))
 
   module _ (a b : LocalState J) (more : SeesMore a b) where
+    -- of an owner that a cell of shared owners holds
+    pub knows_more : (slot : ℕ) (shared : Bool) (value : Gv) → KnowsOwner a slot shared value → IsOwnedThere slot true a → KnowsOwner b slot true value
+    knows_more slot shared value knows owned = let is : shared ≡ true = of_several shared (sym knows.kind ∙ owned.kind) in
+        let told = subst (λ (s : Bool). KnowsOwner a slot s value) is knows in
+        subst (λ (m : LocalState J). KnowsOwner m slot true value) (sym more.member) record { newest = told.newest; alive = told.alive; kind = told.kind }
+
     pub finds_before : (cell word : ℕ) → FindsAt cell word b → FindsAt cell word a
     finds_before cell word f = record {
       inside = subst (λ (m : LocalState J). cell < m.sizes.cells) more.member f.inside;

@@ -1,5 +1,5 @@
 -- Cells: what a participant knows of them, and what its calls make of it
-use Rattle.std.specs.Prelude.{◌≡◌, ◌⊎◌, ℕ, ◌<◌, ◌≤◌, Bool, List, [], ◌∷◌, Option, Some, None, IfSome, MatchOption, option_map, slice_index, slice_set}
+use Rattle.std.specs.Prelude.{◌≡◌, ◌⊎◌, ℕ, ◌<◌, ◌≤◌, Bool, true, List, [], ◌∷◌, Option, Some, None, IfSome, MatchOption, option_map, slice_index, slice_set}
 use base.Stored.{Gv}
 use Rattle.atomic_table.specs.declared.shared.Seat.{Seat}
 use Rattle.sdd_shared_values.specs.declared.value_fraction.ValueFraction.{ValueFraction}
@@ -30,7 +30,11 @@ use Rattle.sdd_word_invariant.specs.Epoch.{IsLone}
 use Rattle.sdd_word_invariant.specs.CellSteps.{cell_noted}
 use Rattle.sdd_domain_invariant.specs.CellSteps.{put_in}
 use Rattle.sdd_domain.specs.Claims.{IsUnmoved}
-use Rattle.sdd_domain.specs.LocalState.{LocalState, AddsAt, IsLone as IsAlone, IsUsedUp, MakesAt, cell_word_of, word_of}
+use Rattle.sdd_domain.specs.LocalState.{LocalState, AddsAt, IsLone as IsAlone, IsUsedUp, KnowsOwner, LooksAt, MakesAt, cell_word_of, word_of}
+use Rattle.sdd_space.specs.OwnerOrCell.{OwnerOrCell, AreOf}
+use Rattle.sdd_space.specs.Ptr.{shown_by, slot_named}
+use Rattle.sdd_space.specs.declared.ptr.Ptr.{Ptr}
+use Rattle.sdd_domain.specs.SpaceIds.{home_in}
 
 -- ---- as its callers see it
 module _ {J : Type 0} where
@@ -89,10 +93,11 @@ module _ {J : Type 0} where
     pub keeps : (slot : ℕ) (value : Gv) → IsIn old.shown slot value → IsIn new.shown slot value
     pub once : (new ≡ old) ⊎ IsOnce new.shown
 
-  -- what a cell of shared owners was found to hold is copied: of the item that it names one owner more came
+  -- what a cell of shared owners was found to hold is copied: of the item that it names, of whose owner a lone participant knows, one owner more came
   abbrev pub Copies : ℕ → Option Right → Tag → LocalState J → LocalState J → Type 0
   Copies cell copy tag old new = (word : ℕ) × (contents_of word ≡ cell_with copy tag) × FindsAt cell word old × MatchOption copy (SeesMore old new)
-      (λ right. (mid : LocalState J) × (owners : ℕ) × SeesMore old mid × AddsAt (number_of right) owners mid new)
+      (λ right. (mid : LocalState J) × (owners : ℕ) × SeesMore old mid × AddsAt (number_of right) owners mid new
+      × (IsAlone mid → (value : Gv) × KnowsOwner mid (number_of right) true value))
 
   -- why it wasn't copied
   pub record CopiesNone (cell : ℕ) (why : Refused) (old new : LocalState J) : Type 0 where
@@ -129,6 +134,21 @@ module _ {J : Type 0} where
   pub record IsOwnedThere (slot : ℕ) (shared : Bool) (m : LocalState J) : Type 0 where
     pub alive : 0 < alive (word_of m slot)
     pub kind : counted (word_of m slot) ≡ one_where shared
+
+-- what a pointer shows
+module _ {T J : Type 0} (shown : T → Gv) (holds : T → List OwnerOrCell) where
+  -- its guards see the item of a slot, if they didn't before, which has this value, and whose owner a lone participant knows
+  pub record SeesItem (slot : ℕ) (value : T) (old new : LocalState J) : Type 0 where
+    pub shared : Bool
+    pub looks : LooksAt slot shared (shown value) old new
+    pub recalled : IsAlone old → KnowsOwner old slot shared (shown value)
+    pub once : IsOnce new.shown
+    pub home : AreOf (home_in old) (holds value)
+
+  -- a pointer shows what its guards see there; a null one shows nothing, and nothing has changed
+  abbrev pub LooksThrough : Ptr T → LocalState J → LocalState J → Type 0
+  LooksThrough ptr old new = MatchOption (slot_named ptr) ((shown_by ptr ≡ None) × (new ≡ old))
+      (λ slot. (value : T) × (shown_by ptr ≡ Some value) × SeesItem slot value old new)
 
 -- ---- the token
 -- the word of a cell was found to be this, and is that now, and all else is as it was

@@ -43,6 +43,7 @@ pub mod detached_local;
 mod in_place;
 mod items;
 mod jobs;
+mod pointers;
 mod raw;
 
 /// A participant's membership of a domain: its place, its bags, and what it knows of the words.

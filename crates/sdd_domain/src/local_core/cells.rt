@@ -92,6 +92,18 @@ impl<'d, T: Item<T>, J: Job> LocalCore<'d, T, J> {
         }
     }
 
+    /// Beside the right to a cell a lone participant knows that the cell is taken. Nothing changes, and no word is touched.
+    #[inline]
+    fn recall_full(&mut self, cell: &Right)
+        requires home { home_of cell.now ≡ cells_home self.old.home }
+        ensures same { self.new ≡ self.old }
+        ensures inside { number_of cell.now < self.old.sizes.cells }
+        ensures full { IsLone self.old → 0 < cell_word_of self.old (number_of cell.now) }
+    {
+        let board = &self.domain.board;
+        recall_cell(board, &mut self.token, cell.witness());
+    }
+
     /// The word of a cell at this moment.
     #[inline]
     fn word_at(&mut self, cell: &Right) -> u64
@@ -399,10 +411,13 @@ impl<'d, T: Item<T>, J: Job> LocalCore<'d, T, J> {
         requires kind { kind_of cell.now ≡ StandingKind.Shared }
         requires reader { reader_of guard.now ≡ self.old.reader }
         ensures right { IfOk result (λ other. (home_of other ≡ cells_home self.old.home) × (kind_of other ≡ StandingKind.Shared)) }
+        ensures inside { number_of cell.now < self.old.sizes.cells }
+        ensures full { IsLone self.old → 0 < cell_word_of self.old (number_of cell.now) }
         ensures cloned { MatchResult result
             (λ other. ClonesTo (number_of cell.now) (number_of other) self.old self.new)
             (λ e. ((self.new ≡ self.old) × ClaimsNone e self.old) ⊎ ClonesNone (number_of cell.now) e self.old self.new) }
     {
+        self.recall_full(cell);
         let reserved = match self.reserve_cell() {
             Ok(reserved) => reserved,
             Err(refused) => return Err(refused),

@@ -1,4 +1,4 @@
-use Rattle.std.proofs.Common.{◌≡◌, ℕ, Some, sym, refl, ap, ◌∙◌, subst}
+use Rattle.std.proofs.Common.{◌≡◌, ℕ, Some, true, sym, refl, ap, ◌∙◌, subst}
 use base.Stored.{Gv}
 use Rattle.sdd_participants.specs.declared.standing.CellContents.{CellContents}
 use Rattle.sdd_rights.specs.Right.{number_of, kind_of}
@@ -6,8 +6,8 @@ use Rattle.sdd_shared_values.specs.SharedValues.{showing}
 use Rattle.sdd_rights.specs.declared.right.StandingKind.{StandingKind}
 use Rattle.sdd_rights.specs.StandingKind.{is_shared}
 use Rattle.sdd_domain.specs.Cells.{IsOwnedThere}
-use Rattle.sdd_domain.specs.LocalState.{AddsAt, LocalState}
-use Rattle.sdd_domain.proofs.SeesMore.{copies_none, finds_before, looks_more, not_gone, same_sees, sees_then}
+use Rattle.sdd_domain.specs.LocalState.{AddsAt, IsLone, KnowsOwner, LocalState}
+use Rattle.sdd_domain.proofs.SeesMore.{copies_none, finds_before, knows_more, looks_more, not_gone, same_sees, sees_then}
 use Rattle.sdd_domain.proofs.local_core.LocalCore.copy_held.Goals as goal
 
 pub own_seen-requires-clause-seen : goal.own_seen-requires-clause-seen
@@ -33,6 +33,11 @@ returns-in-Ok-Some-clause-copied g c = let a : LocalState g.row.J.Denot = c.args
         came.1.0,
         sees_then a b m c.loop-attempt.invariant.sees more.0,
         subst (λ (k : ℕ). AddsAt k came.1.0 m c.own_seen.new.self) (sym came.0) came.1.1,
+        λ lone. let before : IsLone b = sym (ap (λ (x : LocalState g.row.J.Denot). x.limits.participants) more.0.member) ∙ lone in (
+          value,
+          subst (λ (k : ℕ). KnowsOwner m k true value) (sym came.0) (knows_more b m more.0 slot seen.0.0 value (seen.0.2 before)
+              (subst (λ (k : StandingKind). IsOwnedThere slot (is_shared k) b) c.requires.kind (owned before))),
+        ),
       ),
     )
 
