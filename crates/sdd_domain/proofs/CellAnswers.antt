@@ -97,20 +97,26 @@ module _ {T J : Type 0} (v : LocalModel T J) (m : LocalState J) (cell : ℕ) (ta
     retags_exact (Ok true) a asked tied p same exact =
         let lone : IsLone v.member = lone_is v.member (subst (λ (q : LocalModel T J). IsTrue (is_lone q.member)) (sym same) exact) in
         let q = asked lone in let is = a.1.3 in
-        let seen : contents_of a.0 ≡ raw.cell_seen q.0 = ap contents_of (is.writes.lone lone) ∙ sym q.1 in (refl, (
-          q.0,
-          full_exact v cell a.0 a.1.0 m is.writes tied p same exact (raw.cell_seen q.0) (is.full lone) seen,
-          q.2,
-          written_exact v cell a.0 a.1.0 m is.writes tied p same exact (record (raw.cell_seen q.0) { tag = tag }) a.1.1
-              (a.1.2 ∙ (λ d. record (seen d) { tag = tag })),
-        ))
+        let seen : contents_of a.0 ≡ raw.cell_seen q.0 = ap contents_of (is.writes.lone lone) ∙ sym q.1 in (
+          refl,
+          (
+            q.0,
+            full_exact v cell a.0 a.1.0 m is.writes tied p same exact (raw.cell_seen q.0) (is.full lone) seen,
+            q.2,
+            written_exact v cell a.0 a.1.0 m is.writes tied p same exact (record (raw.cell_seen q.0) { tag = tag }) a.1.1
+                (a.1.2 ∙ (λ d. record (seen d) { tag = tag })),
+          ),
+        )
     retags_exact (Ok false) a asked tied p same exact =
         let lone : IsLone v.member = lone_is v.member (subst (λ (q : LocalModel T J). IsTrue (is_lone q.member)) (sym same) exact) in
-        let q = asked lone in (refl, (
-          q.0,
-          finds_exact v cell a.0 a.1.1 tied p same exact (raw.cell_seen q.0) (ap contents_of (a.1.1.found lone) ∙ sym q.1),
-          q.2,
-          ap (λ (y : LocalState J). world_of {T = T} (record { member = y; entries = v.entries })) a.1.0 ∙ ap world_of same,
-        ))
+        let q = asked lone in (
+          refl,
+          (
+            q.0,
+            finds_exact v cell a.0 a.1.1 tied p same exact (raw.cell_seen q.0) (ap contents_of (a.1.1.found lone) ∙ sym q.1),
+            q.2,
+            ap (λ (y : LocalState J). world_of {T = T} (record { member = y; entries = v.entries })) a.1.0 ∙ ap world_of same,
+          ),
+        )
     retags_exact (Err e) a asked tied p same exact =
         absurd (a.2 (lone_is v.member (subst (λ (q : LocalModel T J). IsTrue (is_lone q.member)) (sym same) exact)))

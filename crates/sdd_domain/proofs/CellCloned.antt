@@ -155,7 +155,6 @@ module _ {T J : Type 0} (v : LocalModel T J) (m : LocalState J) (cell other : �
     world_filled = world_written made other (cell_word_of did.copied other) did.word m fills (tied_made lone_made) did.full
         ∙ ap (with_cell (world_of made) other) (did.holds ∙ holds_old)
 
-
     world_one : world_of reserving_one ≡ record (world_of v) { cells = set (world_of v).cells other (contents_by did.first) }
     world_one = world_reserving v cell other did.first did.reserved did.reserves tied lone full
 

@@ -147,10 +147,13 @@ module _ {J : Type 0} (R : RattleType) (holds : R.Denot → List OwnerOrCell) (v
 
   pub none_why : (p : LocalModel R.Denot J) → v ≡ p → (why ≡ NoSlot) ⊎ IsRefusedBy (seat_of p) NoCell why
   none_why p same = ⊎_elim (λ (a : why ≡ NoSlot). inl a) (λ (b : (why ≡ NoCell) ⊎ (why ≡ Contended)).
-      ⊎_elim (λ (c : why ≡ NoCell). inr (inl c)) (λ (d : why ≡ Contended). inr (inr (d, (λ exact.
-      let lone : IsLone v.member = lone_is v.member (subst (λ (q : LocalModel R.Denot J). IsTrue (is_lone q.member)) (sym same) exact) in
-      ⊎_elim (λ (a : (why ≡ NoSlot) × IsUsedUp v.member). let e = a.0 in absurd (cc))
-      (λ (b : (why ≡ NoCell) × ¬ (IsUsedUp v.member) × AllCellsTaken v.member). let e = b.0 in absurd (cc)) (none.lone lone))))) b) none.cause
+      ⊎_elim (λ (c : why ≡ NoCell). inr (inl c)) (λ (d : why ≡ Contended). inr (inr (
+        d,
+        (λ exact.
+            let lone : IsLone v.member = lone_is v.member (subst (λ (q : LocalModel R.Denot J). IsTrue (is_lone q.member)) (sym same) exact) in
+            ⊎_elim (λ (a : (why ≡ NoSlot) × IsUsedUp v.member). let e = a.0 in absurd (cc))
+            (λ (b : (why ≡ NoCell) × ¬ (IsUsedUp v.member) × AllCellsTaken v.member). let e = b.0 in absurd (cc)) (none.lone lone)),
+      ))) b) none.cause
 
 -- ---- for an answer
 module _ {J : Type 0} (R : RattleType) (holds : R.Denot → List OwnerOrCell) (v : LocalModel R.Denot J) (m : LocalState J) (es : Entries R.Denot)

@@ -79,8 +79,12 @@ module _ {J : Type 0} (R : RattleType) (holds : R.Denot → List OwnerOrCell) (v
         → (value : R.Denot) × (seen ≡ Some value) × Shows (showing R) holds after k value
     full_by None seen t k is = absurd cc
     full_by (Some slot) seen t k is = subst (λ (j : ℕ). (value : R.Denot) × (seen ≡ Some value) × Shows (showing R) holds after j value)
-        (same_value slot k is) (t.0, t.1, shows_it R v m slot t.2.shared t.0 t.2.looks
-        (owned_value R v slot t.2.shared t.0 tied codes t.2.recalled) holds t.2.home t.2.once)
+        (same_value slot k is) (
+          t.0,
+          t.1,
+          shows_it R v m slot t.2.shared t.0 t.2.looks
+              (owned_value R v slot t.2.shared t.0 tied codes t.2.recalled) holds t.2.home t.2.once,
+        )
 
     null_by : (named : Option ℕ) (seen : Option R.Denot) → Through named seen → named ≡ None → seen ≡ None
     null_by None seen t is = t.0
