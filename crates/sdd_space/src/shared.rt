@@ -180,7 +180,8 @@ impl<T: Item<T>> Shared<T> {
         }
     }
 
-    /// One owner more of the item that a pointer names, if it is shared.
+    /// One owner more of the item that a pointer names, if it is shared. In a domain with others the guard under which the pointer was had is one of the
+    /// participant that calls.
     ///
     /// The pointer comes back for null, for an item with one owner that can't be shared, and after the last owner went; with `TooManyOwners` where 2^62 own
     /// the item, cells counted; and with `Contended`, in a domain alone, where as many exchanges were lost as its limits allow.
@@ -189,6 +190,7 @@ impl<T: Item<T>> Shared<T> {
         s: &mut S,
     ) -> Result<Shared<T>, (Ptr<'g, T>, Option<Refused>)>
         requires seated { IsSeated (S.seat s.old) }
+        requires shown { S.asks_sight s.old → PtrIsShown (S.shows s.old) ptr }
         ensures undisturbed { Undisturbed S.seat S.own S.known S.shows s.old s.new }
         ensures home { IfOk result (λ owner. slots_home owner ≡ (S.seat s.old).home.slots) }
         ensures slot { IfOk result (λ owner. slot_named ptr.entry ≡ Some (slot_of owner)) }

@@ -15,11 +15,18 @@ use sdd_rights::{Right, StandingKind};
 
 /// Items with several owners, which are found by their slots too.
 pub trait SharedItems<T: Item<T>>: SharedOwners<T> {
+    /// One owner more is had of what a guard of the caller sees alone. In a domain with others it is; a world, and a lone participant, ask nothing.
+    ghost asks_sight: { Self → Type 0 } = { λ _. ⊥ };
+
+    /// Where nobody else changes the space nothing is asked.
+    ghost exact_asks_nothing: { (s : Self) → IsExact (Self.seat s) → ¬ (asks_sight s) };
+
     /// One owner more of the item in a slot, if it is shared. What the slot shows is its value.
     ///
     /// `TooManyOwners` where as many share the item as may; `Contended`, in a domain alone, where others changed how many do too often meanwhile.
     fn get_shared(&mut self, slot: u32) -> Result<Option<Right>, Refused>
         requires seated { IsSeated (Self.seat self.old) }
+        requires seen { Self.asks_sight self.old → (value : T) × Self.shows self.old slot value }
         ensures undisturbed { Undisturbed Self.seat Self.own Self.known Self.shows self.old self.new }
         ensures home { IfOk result (λ o. IfSome o (λ right. home_of right ≡ (Self.seat self.old).home.slots)) }
         ensures slot { IfOk result (λ o. IfSome o (λ right. number_of right ≡ slot)) }
