@@ -1,7 +1,6 @@
 -- What a slot's word tells of an item's owners
 use Rattle.std.proofs.Common.{List, Option, None, Some, ◌≡◌, ◌⊎◌, inl, inr, ℕ, ◌+◌, ◌-◌, ◌<◌, ◌≤◌, ⊎_elim, sym, ap, ◌∙◌, subst, arith}
 use Rattle.std.specs.Prelude.{Ok}
-use base.Stored.{Gv}
 use Rattle.atomic_table.specs.declared.shared.Seat.{Seat}
 use Rattle.sdd_shared_values.specs.declared.value_fraction.ValueFraction.{ValueFraction}
 use Rattle.sdd_views.specs.declared.View.{View}
@@ -28,7 +27,7 @@ pub most_count : (x : ℕ) → shared_base + most_owners ≤ x → (counted x �
 most_count x many = let s = some_left x (omega arith) in let a = s.0 in (s.3, (omega arith))
 
 -- whether an owner came or not, what is known of words alone may be other
-pub ends_with : (b : DomainTable) (slot : ℕ) (value : Gv) (came : Option LooseOwner) (s s' : Seat ValueFraction View) → Ends b slot value (Ok came) s s'
+pub ends_with : (b : DomainTable) (slot : ℕ) (came : Option LooseOwner) (s s' : Seat ValueFraction View) → Ends b slot (Ok came) s s'
     → (words : List ℕ) × IsWith (record s.me.0 { words = words }) s s'
-ends_with b slot value None s s' e = (s.me.0.words, e.0)
-ends_with b slot value (Some o) s s' e = (noted slot (e.word + 1) s.me.0, e.after)
+ends_with b slot None s s' e = (s.me.0.words, e.0)
+ends_with b slot (Some o) s s' e = (noted slot (e.word + 1) s.me.0, e.after)

@@ -12,7 +12,7 @@ ghost use Rattle.sdd_space.specs.ParticipantChanges.{KeepsMoreWaiting};
 ghost use Rattle.sdd_space.specs.WorldChanges.{made_shared, with_standing, with_value, dropped};
 ghost use Rattle.sdd_space.specs.Shared.{right_of, slot_of, slots_home};
 ghost use Rattle.sdd_core.specs.declared.tag.Tag.TheVariants.{None as no_tag};
-ghost use Rattle.sdd_space.specs.Ptr.{slot_named, shown_by, tag_of, KeepsOthers, KeepsShown};
+ghost use Rattle.sdd_space.specs.Ptr.{PtrIsShown, slot_named, shown_by, tag_of, KeepsOthers, KeepsShown};
 ghost use Rattle.sdd_space.specs.Guard.{reader_of};
 ghost use Rattle.sdd_standings.specs.Slots.{IsSharedBy, owners_of};
 ghost use Rattle.sdd_participants.specs.Slab.{IsEmptyAt, IsFull};

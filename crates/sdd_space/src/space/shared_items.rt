@@ -16,10 +16,7 @@ use sdd_rights::{Right, StandingKind};
 /// Items with several owners, which are found by their slots too.
 pub trait SharedItems<T: Item<T>>: SharedOwners<T> {
     /// One owner more is had of what a guard of the caller sees alone. In a domain with others it is; a world, and a lone participant, ask nothing.
-    ghost asks_sight: { Self → Type 0 } = { λ _. ⊥ };
-
-    /// Where nobody else changes the space nothing is asked.
-    ghost exact_asks_nothing: { (s : Self) → IsExact (Self.seat s) → ¬ (asks_sight s) };
+    ghost asks_sight: { Self → Type 0 };
 
     /// One owner more of the item in a slot, if it is shared. What the slot shows is its value.
     ///
@@ -39,4 +36,7 @@ pub trait SharedItems<T: Item<T>>: SharedOwners<T> {
             (λ _. (owners : ℕ) × IsSharedBy owners (standing_at (Self.world self.old) slot) × (owners < 2 ^ 62) ×
             (Self.world self.new ≡ with_standing (Self.world self.old) slot (Standing.Shared (owners + 1)))))
             (λ e. IsSharedBy (2 ^ 62) (standing_at (Self.world self.old) slot) × (e ≡ Refused.TooManyOwners) × (Self.world self.new ≡ Self.world self.old)) };
+
+    /// In an exact space nothing is asked.
+    ghost exact_asks_nothing: { (s : Self) → IsExact (Self.seat s) → ¬ (Self.asks_sight s) };
 }
