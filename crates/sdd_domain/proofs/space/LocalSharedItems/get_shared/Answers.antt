@@ -4,7 +4,7 @@ use Rattle.sdd_domain.specs.Local.{LocalModel}
 use Rattle.sdd_domain.specs.declared.local.Local.TheInside.{Inside}
 use Rattle.sdd_domain.specs.Sound.{IsSound}
 use Rattle.sdd_domain.proofs.Upgraded.{still_known, upgraded_back, upgraded_exact, upgraded_sound, upgraded_tied, upgraded_undisturbed, upgraded_value}
-use Rattle.sdd_domain.proofs.space.shared_items.LocalSharedItems.get_shared.Goals as goal
+use Rattle.sdd_domain.proofs.space.LocalSharedItems.get_shared.Goals as goal
 
 pub own_seen-requires : goal.own_seen-requires
 own_seen-requires g c = let v : LocalModel g.row.T.Denot g.row.J.Denot = (c.self-inside.view_is 0).partner in
