@@ -4,6 +4,7 @@ ghost use Rattle.sdd_space.specs.Guard.{reader_of};
 ghost use Rattle.sdd_space.specs.OwnerOrCell.{AreOf};
 ghost use Rattle.sdd_space.specs.Shared.{slot_of, slots_home, cells_home, IsOfSlots};
 ghost use Rattle.sdd_space.specs.CallerId.{IsSeated};
+ghost use Rattle.sdd_space.specs.Ptr.{KeepsShown, PtrIsShown};
 
 use crate::steps::{Read, close, opened, seen};
 use sdd_core::{Refused, Tag};
@@ -43,6 +44,7 @@ pub fn release<S: Items<u64>>(s: &mut S, owner: Shared<u64>) -> bool
     requires seated { IsSeated (S.seat s.old) }
     requires home { slots_home owner ≡ (S.seat s.old).home.slots }
     ensures seat { S.seat s.new ≡ S.seat s.old }
+    ensures shown { KeepsShown (S.shows s.old) (S.shows s.new) }
 {
     owner.release(s)
 }
@@ -52,6 +54,7 @@ pub fn copied<S: SharedItems<u64>>(rt: &impl Abort, s: &mut S, owner: &Shared<u6
     requires seated { IsSeated (S.seat s.old) }
     requires home { slots_home owner.now ≡ (S.seat s.old).home.slots }
     ensures seat { S.seat s.new ≡ S.seat s.old }
+    ensures shown { KeepsShown (S.shows s.old) (S.shows s.new) }
     ensures home { slots_home result ≡ (S.seat s.new).home.slots }
 {
     owner.clone(s).expect(rt, "another owner may be had")
@@ -64,7 +67,9 @@ pub fn upgraded<S: Items<u64> + SharedItems<u64>>(
     ptr: Ptr<'_, u64>,
 ) -> Option<bool>
     requires seated { IsSeated (S.seat s.old) }
+    requires shown { PtrIsShown (S.shows s.old) ptr }
     ensures seat { S.seat s.new ≡ S.seat s.old }
+    ensures shown { KeepsShown (S.shows s.old) (S.shows s.new) }
 {
     let owner = ptr.get_shared(s).expect(rt, "another owner may be had")?;
     Some(owner.release(s))
@@ -77,7 +82,9 @@ pub fn converted<S: Items<u64> + SharedItems<u64>>(
     ptr: Ptr<'_, u64>,
 ) -> Option<bool>
     requires seated { IsSeated (S.seat s.old) }
+    requires shown { PtrIsShown (S.shows s.old) ptr }
     ensures seat { S.seat s.new ≡ S.seat s.old }
+    ensures shown { KeepsShown (S.shows s.old) (S.shows s.new) }
 {
     match Shared::try_from_ptr(ptr, s) {
         Ok(owner) => Some(owner.release(s)),
@@ -96,6 +103,7 @@ pub fn refused_copy<S: Items<u64> + SharedItems<u64>>(
     requires seated { IsSeated (S.seat s.old) }
     requires home { slots_home owner.now ≡ (S.seat s.old).home.slots }
     ensures seat { S.seat s.new ≡ S.seat s.old }
+    ensures shown { KeepsShown (S.shows s.old) (S.shows s.new) }
 {
     match owner.clone(s) {
         Ok(other) => {
@@ -112,6 +120,7 @@ pub fn refused_upgrade<S: Look<u64> + Items<u64> + SharedItems<u64>>(
     ptr: Ptr<'_, u64>,
 ) -> Option<Refused>
     requires seated { IsSeated (S.seat s.old) }
+    requires shown { PtrIsShown (S.shows s.old) ptr }
     ensures seat { S.seat s.new ≡ S.seat s.old }
 {
     match ptr.get_shared(s) {

@@ -24,7 +24,6 @@ use crate::cell_values::{bind, exchange, free, free_bare, loosen, retag, swap, w
 use crate::cell_words::{contents_in, held_slot, holds, tag_in};
 use crate::local_core::LocalCore;
 use crate::local_core::items::is_one_of_several;
-use crate::seen_owners::own_seen;
 use sdd_atomics::steps::cells::{look_in, recall_cell, see_in};
 use sdd_core::{Refused, Tag};
 use sdd_participants::{CellContents, Job};
@@ -358,31 +357,6 @@ impl<'d, T: Item<T>, J: Job> LocalCore<'d, T, J> {
         }
     }
 
-    /// One owner more of an item that its guards see, which shows this, if the item may have several and has one still.
-    ///
-    /// `TooManyOwners` where as many own it as may; `Contended` where others came or went meanwhile as often as the limits allow.
-    fn own_seen(&mut self, slot: u32, value: &T) -> Result<Option<Right>, Refused>
-        requires inside { slot < self.old.limits.slots }
-        requires seen { IsIn self.old.shown slot (showing T.row value.now) }
-        ensures came { MatchResult result
-            (λ o. MatchOption o
-            ((self.new ≡ self.old) × (IsLone self.old → (counted (word_of self.old slot) ≡ 0) ⊎ (alive (word_of self.old slot) ≡ 0)))
-            (λ right. (number_of right ≡ slot) × ((word : ℕ) × AddsAt slot word self.old self.new)))
-            (λ e. (self.new ≡ self.old)
-            × (((e ≡ Refused.TooManyOwners) × (IsLone self.old → (counted (word_of self.old slot) ≡ 1) × (most_owners ≤ alive (word_of self.old slot))))
-            ⊎ ((e ≡ Refused.Contended) × (IsLone self.old → word_of self.old slot ≡ held_word)))) }
-        ensures right { IfOk result (λ o. IfSome o (λ right. IsRightTo self.old StandingKind.Shared (showing T.row value.now) right)) }
-    {
-        let slots = self.domain.limits.slots;
-        let tries = self.domain.limits.tries;
-        let board = &self.domain.board;
-        let loose = match own_seen(board, &mut self.token, slot, value, tries) {
-            Ok(loose) => loose,
-            Err(refused) => return Err(refused),
-        };
-        Ok(bind(board, slots, loose, StandingKind::Shared))
-    }
-
     /// One owner more of what a cell of shared owners holds, if it holds anything, with its tag.
     ///
     /// `TooManyOwners` where as many own it as may; `Contended` where others changed the cell or its item's owners meanwhile as often as the limits allow.
@@ -397,10 +371,10 @@ impl<'d, T: Item<T>, J: Job> LocalCore<'d, T, J> {
     {
         for _attempt in 0..self.domain.limits.tries {
             let (held, tag) = self.load(cell, guard);
-            let Some((slot, value)) = held else {
+            let Some((slot, _value)) = held else {
                 return Ok((None, tag));
             };
-            match self.own_seen(slot, value) {
+            match self.own_seen(slot) {
                 Ok(Some(owner)) => return Ok((Some(owner), tag)),
                 Ok(None) => {}
                 Err(refused) => return Err(refused),
