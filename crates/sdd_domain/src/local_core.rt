@@ -44,6 +44,7 @@ mod in_place;
 mod items;
 mod jobs;
 mod raw;
+mod raw_cells;
 
 /// A participant's membership of a domain: its place, its bags, and what it knows of the words.
 ///
