@@ -99,6 +99,17 @@ module _ {T J : Type 0} (v : LocalModel T J) (cell : ℕ) (pointer : RawCellCont
   sound_made holds sound = sound_pointed reserved cell is.last pointer m is.points holds
       (sound_written v cell 0 (null_word 0) is.reserved is.reserves holds sound)
 
+  pub made_undisturbed : (p : LocalModel T J) → v ≡ p → (shown : T → Gv) (holds : T → List OwnerOrCell)
+      → Undisturbed seat_of (λ (q : LocalModel T J). q.member.own) known_of (λ (q : LocalModel T J). Shows shown holds q) p
+      (record { member = m; entries = v.entries })
+  made_undisturbed p same shown holds = let a = written_undisturbed v cell 0 (null_word 0) is.reserved is.reserves p same shown holds in
+      let b = pointed_undisturbed reserved cell is.last pointer m is.points reserved refl shown holds in record {
+        seat = b.seat ∙ a.seat;
+        own = b.own ∙ a.own;
+        known = record { told = let l = a.known.told in let l' = b.known.told in omega arith; since = b.known.since ∙ a.known.since };
+        shown = λ i u h. b.shown i u (a.shown i u h);
+      }
+
   world_made : AreTied v.member v.entries → world_of (record { member = m; entries = v.entries }) ≡ pointing (world_of v) cell pointer
   world_made t = world_pointed reserved cell is.last pointer m is.points (tied_written v cell 0 (null_word 0) is.reserved is.reserves t)
       ∙ ap (λ (w : World T). with_pointer w cell pointer) (world_written v cell 0 (null_word 0) is.reserved is.reserves t (omega arith)
