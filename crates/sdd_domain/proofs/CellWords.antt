@@ -61,7 +61,7 @@ module _ (t : Tag) (n : ℕ) (is : n ≡ number_of t) where
   pub none_held_by : held_slots (unowned + n) ≡ []
   none_held_by = let s = small in holds_none (unowned + n) (inr (omega arith))
 
-  tagged : (x : ℕ) → x % 4 ≡ n → tag_by (x % 4) ≡ t
+  pub tagged : (x : ℕ) → x % 4 ≡ n → tag_by (x % 4) ≡ t
   tagged x e = ap tag_by (e ∙ is) ∙ tag_back t
 
   pub slot_contents : (slot : ℕ) → slot < 2 ^ 25 - 5 → contents_of (4 * (slot + 1) + n) ≡ record { held = Some slot; tag = t }

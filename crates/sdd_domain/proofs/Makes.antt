@@ -35,7 +35,7 @@ use Rattle.sdd_domain.specs.Space.{ShowsBy, Shows, is_lone}
 use Rattle.sdd_domain.proofs.Listings.{listing_at, listing_long, listing_past, listing_set, listing_all}
 use Rattle.sdd_domain.proofs.Words.{word_same, word_other, plain_claimed, stands_claimed, stands_raw, stands_retired, value_there, alive_taken}
 use Rattle.sdd_domain.proofs.Exact.{lone_is}
-use Rattle.sdd_domain.proofs.Alone.{cells_kept}
+use Rattle.sdd_domain.proofs.Alone.{cells_kept, pointers_kept}
 
 pub first_by : (kind : StandingKind) → first_standing kind ≡ (if is_shared kind then Shared 1 else Owned)
 first_by kinds.Free = refl
@@ -160,6 +160,7 @@ module _ {T J : Type 0} (v : LocalModel T J) (k : ℕ) (shared : Bool) (x : T) (
           standings = standings d;
           values = values d;
           cells = cells_kept v.member.limits.cells v.member.sizes v.member.words k (claimed_word shared) t.all_cells d;
+          pointers = pointers_kept v.member.limits.cells v.member.sizes v.member.words k (claimed_word shared) t.all_cells d;
         }
 
     -- each slot shows what it showed

@@ -55,7 +55,7 @@ use Rattle.sdd_domain.specs.Space as space
 use Rattle.sdd_domain.proofs.Listings.{listing_at, listing_set, listing_same}
 use Rattle.sdd_domain.proofs.Words.{place_dead, inside, word_same, word_other, alive_taken, waiting_taken, value_there, stands_owned, stands_retired, counts_of, plain_retired, plain_less}
 use Rattle.sdd_domain.proofs.Members.{shown_now}
-use Rattle.sdd_domain.proofs.Alone.{alone, steps_alone, cells_kept}
+use Rattle.sdd_domain.proofs.Alone.{alone, steps_alone, cells_kept, pointers_kept}
 use Rattle.sdd_domain.proofs.Exact.{lone_is}
 use Rattle.sdd_domain.proofs.Reclaims.{what_item}
 use Rattle.sdd_domain.proofs.Ripe.{ripe_snoc, unripe_too}
@@ -335,7 +335,12 @@ module _ {T J : Type 0} (v : LocalModel T J) (m : LocalState J) (k : ℕ) (share
         ∙ ap (set (listing n (standing_in v)) k) (ap standing_by word_now ∙ stands_retired y waits_there) in
         let values : listing n (value_in q) ≡ listing n (value_in v)
         = listing_same n (value_in v) (value_in q) (λ i l. value_still v k y t inside_here (taken v t k shared g knows) still_there i) in
-        λ d. record (alone q) { standings = standings d; values = values d; cells = cells_kept v.member.limits.cells v.member.sizes v.member.words k y t.all_cells d }
+        λ d. record (alone q) {
+          standings = standings d;
+          values = values d;
+          cells = cells_kept v.member.limits.cells v.member.sizes v.member.words k y t.all_cells d;
+          pointers = pointers_kept v.member.limits.cells v.member.sizes v.member.words k y t.all_cells d;
+        }
 
     value_waits : (i : ℕ) (u : T) → value_at (world_of v) i ≡ Some u → value_at (world_of (record { member = waits_too; entries = v.entries })) i ≡ Some u
     value_waits i u was = ap (λ (vs : List (Option T)). slice_index_or vs i None)
@@ -419,7 +424,12 @@ module _ {T J : Type 0} (v : LocalModel T J) (t : AreTied v.member v.entries) (k
       = listing_set slots (standing_in v) (standing_in q) k (λ i l ne. standing_then v k y t near i ne)
       ∙ ap (set (listing slots (standing_in v)) k) (ap standing_by (rewritten_now v k y t near)
       ∙ (stands_owned y true lives several ∙ ap (λ (o : ℕ). Some (Shared o)) so_many)) in
-      λ d. record (world_of q) { standings = standings d; values = values_recounted d; cells = cells_kept v.member.limits.cells v.member.sizes v.member.words k y t.all_cells d }
+      λ d. record (world_of q) {
+        standings = standings d;
+        values = values_recounted d;
+        cells = cells_kept v.member.limits.cells v.member.sizes v.member.words k y t.all_cells d;
+        pointers = pointers_kept v.member.limits.cells v.member.sizes v.member.words k y t.all_cells d;
+      }
 
   pub value_recounted : (i : ℕ) (u : T) → value_at (world_of v) i ≡ Some u
       → value_at (world_of (record { member = rewritten v k y; entries = v.entries })) i ≡ Some u

@@ -13,12 +13,13 @@ use Rattle.sdd_rights.specs.Right.{home_of_table, number_of, views_of}
 use Rattle.sdd_rights.specs.Units.{GhostName}
 use Rattle.sdd_standings.specs.Cells.{MayHold, cell_with, slot_held}
 use Rattle.sdd_core.specs.declared.tag.Tag.{Tag}
+use Rattle.sdd_participants.specs.declared.standing.RawCellContents.{RawCellContents}
 use Rattle.sdd_domain_invariant.specs.Records.{IsIn}
 use Rattle.sdd_domain.specs.SeenSlots.{IsOnce}
 use Rattle.sdd_domain.specs.CellWords.{listed}
-use Rattle.sdd_domain.specs.Local.{contents_of}
+use Rattle.sdd_domain.specs.Local.{contents_of, pointer_by}
 use Rattle.sdd_core.specs.declared.tag.Tag.TheVariants.{None as Untagged}
-use Rattle.sdd_word_invariant.specs.Codes.{alive, counted, held_slots, most_owners}
+use Rattle.sdd_word_invariant.specs.Codes.{alive, counted, held_slots, most_owners, null_word}
 use Rattle.sdd_domain_invariant.specs.BankInvariant.{one_where}
 use Rattle.sdd_atomics.specs.declared.domain_table.DomainTable.{DomainTable}
 use Rattle.sdd_atomics.specs.DomainTable.{id_of, book_of, slots_of}
@@ -27,10 +28,10 @@ use Rattle.sdd_core.specs.declared.refused.Refused.{Refused}
 use Rattle.sdd_core.specs.declared.refused.Refused.TheVariants.{NoSlot, NoCell, TooManyOwners, Contended}
 use Rattle.sdd_domain.specs.declared.cell_values.LooseOwner.{LooseOwner}
 use Rattle.sdd_word_invariant.specs.Epoch.{IsLone}
-use Rattle.sdd_word_invariant.specs.CellSteps.{cell_noted}
+use Rattle.sdd_word_invariant.specs.CellSteps.{cell_noted, pointer_behind}
 use Rattle.sdd_domain_invariant.specs.CellSteps.{put_in}
 use Rattle.sdd_domain.specs.Claims.{IsUnmoved}
-use Rattle.sdd_domain.specs.LocalState.{LocalState, AddsAt, IsLone as IsAlone, IsUsedUp, KnowsOwner, LooksAt, MakesAt, cell_word_of, word_of}
+use Rattle.sdd_domain.specs.LocalState.{LocalState, AddsAt, IsLone as IsAlone, IsUsedUp, KnowsOwner, LooksAt, MakesAt, cell_word_of, pointer_word_of, word_of}
 use Rattle.sdd_space.specs.OwnerOrCell.{OwnerOrCell, AreOf}
 use Rattle.sdd_space.specs.Ptr.{shown_by, slot_named}
 use Rattle.sdd_space.specs.declared.ptr.Ptr.{Ptr}
@@ -85,6 +86,26 @@ module _ {J : Type 0} where
     pub inside : cell < m.sizes.cells
     pub found : IsAlone m → word ≡ cell_word_of m cell
     pub full : IsAlone m → 0 < word
+
+  -- a raw cell was found to point to this, and points to that now
+  pub record PointsAt (cell : ℕ) (found now : RawCellContents) (old new : LocalState J) : Type 0 where
+    pub word : ℕ
+    pub tells : pointer_by word ≡ now
+    pub member : new ≡ record old { words = slice_set old.words (pointer_behind old.sizes cell) word }
+    pub inside : cell < old.sizes.cells
+    pub lone : IsAlone old → pointer_by (pointer_word_of old cell) ≡ found
+
+  -- a raw cell was found to point to this
+  pub record FindsPointer (cell : ℕ) (found : RawCellContents) (m : LocalState J) : Type 0 where
+    pub inside : cell < m.sizes.cells
+    pub lone : IsAlone m → pointer_by (pointer_word_of m cell) ≡ found
+
+  -- a cell that was free is a raw one, and points to this
+  pub record MakesRaw (cell : ℕ) (pointer : RawCellContents) (old new : LocalState J) : Type 0 where
+    pub reserved : LocalState J
+    pub last : RawCellContents
+    pub reserves : WritesAt cell 0 (null_word 0) old reserved
+    pub points : PointsAt cell last pointer reserved new
 
   -- its guards see what they saw, and more, and nothing else that callers see is other
   pub record SeesMore (old new : LocalState J) : Type 0 where

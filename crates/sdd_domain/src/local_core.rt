@@ -45,6 +45,7 @@ mod items;
 mod jobs;
 mod pointers;
 mod raw;
+mod raw_cells;
 
 /// A participant's membership of a domain: its place, its bags, and what it knows of the words.
 ///

@@ -2,6 +2,7 @@
 ghost use Rattle.sdd_shared_values.specs.SharedValues.{showing};
 
 mod cells;
+mod raw_cells;
 
 use crate::domain::Domain;
 use crate::local::Local;

@@ -9,7 +9,7 @@ ghost use Rattle.sdd_shared_values.specs.SharedValues.{showing};
 ghost use Rattle.sdd_space.specs.Guard.{reader_of};
 ghost use Rattle.sdd_space.specs.RawPtr as raw;
 ghost use Rattle.sdd_space.specs.OwnerOrCell.{AreOf};
-ghost use Rattle.sdd_word_invariant.specs.Codes.{alive, counted, held_slots, held_word, most_owners};
+ghost use Rattle.sdd_word_invariant.specs.Codes.{alive, counted, held_slots, held_word, most_owners, null_word};
 ghost use Rattle.sdd_domain_invariant.specs.Records.{IsIn};
 ghost use Rattle.sdd_domain.specs.Cells.{ChangesCell, ClaimsNone, ClonesNone, ClonesTo, Copies, CopiesNone, FindsAt, FreesAt, IsOwnedThere, MakesInCell, MakesNone, WritesAt};
 ghost use Rattle.sdd_domain.specs.CellWords.{listed};
@@ -278,10 +278,10 @@ impl<'d, T: Item<T>, J: Job> LocalCore<'d, T, J> {
     /// Reserves a free cell, for what is decided when it is filled.
     ///
     /// `NoCell` where a walk over all cells found none free; `Contended` where as many exchanges were lost as the limits allow.
-    fn reserve_cell(&mut self) -> Result<RawRight, Refused>
+    pub(crate) fn reserve_cell(&mut self) -> Result<RawRight, Refused>
         ensures right { IfOk result (λ cell. raw_home_of cell ≡ cells_home self.old.home) }
         ensures reserved { MatchResult result
-            (λ cell. (word : ℕ) × WritesAt (raw_number_of cell) 0 word self.old self.new)
+            (λ cell. WritesAt (raw_number_of cell) 0 (null_word 0) self.old self.new)
             (λ e. (self.new ≡ self.old) × ClaimsNone e self.old) }
     {
         let next = self.first_cell();
