@@ -1,5 +1,5 @@
 -- A participant's membership of a domain as its callers see it, and what each call does to it
-use Rattle.std.specs.Prelude.{◌≡◌, ◌≢◌, ◌⊎◌, ℕ, ◌+◌, ◌^◌, ◌<◌, ◌≤◌, Bool, Option, Some, None, true, false, List, [], ◌∷◌, ◌++◌, replicate, slice_index, slice_set, ◌-◌}
+use Rattle.std.specs.Prelude.{◌≡◌, ◌≢◌, ◌⊎◌, ℕ, ◌+◌, ◌^◌, ◌<◌, ◌≤◌, Bool, Some, None, true, false, List, [], ◌∷◌, ◌++◌, replicate, slice_index, slice_set, ◌-◌}
 use base.Stored.{Gv}
 use Rattle.atomic_table.specs.Seated.{TableId}
 use Rattle.sdd_core.specs.declared.limits.Limits.{Limits}
@@ -23,8 +23,6 @@ use Rattle.sdd_word_invariant.specs.SlotSteps.{blank, behind, retired_now, witho
 use Rattle.sdd_domain_invariant.specs.Records.{IsIn}
 use Rattle.sdd_domain_invariant.specs.FilledInvariant.{newest}
 use Rattle.sdd_domain_invariant.specs.BankInvariant.{one_where}
-use Rattle.sdd_domain.specs.declared.scan.ScanEnd.{ScanEnd}
-use Rattle.sdd_domain.specs.Scan.{Tells}
 use Rattle.sdd_domain.specs.WaitingItems.{aged_at, due_at, arrived_at}
 
 -- the domain, the book of its values' places, its limits, the place, whose guards are the participant's, what it keeps of its own, the greatest count that
@@ -148,11 +146,6 @@ pub record GuardCloses {J : Type 0} (old new : LocalState J) : Type 0 where
   pub raised : IsLone old → old.own.guards ≡ 1 → old.own.countdown ≡ 0 → old.known + 1 < 2 ^ 64 → new.known ≡ old.known + 1
   pub last : IsLone old → old.own.guards ≡ 1 → old.own.countdown ≡ 0 → old.known + 1 ≡ 2 ^ 64 → new.known ≡ old.known
   pub few : IsLone old → old.own.guards ≡ 1 → old.known < 2 ^ 64
-
--- how the scan ended that a close tried: the last close at countdown 0 tries one, and no other does
-pub record TellsScan {J : Type 0} (told : Option ScanEnd) (old new : LocalState J) : Type 0 where
-  pub tried : old.own.guards ≡ 1 → old.own.countdown ≡ 0 → (end : ScanEnd) × (told ≡ Some end) × Tells end (IsLone old) old.own.found new.known
-  pub none : (old.own.guards ≢ 1) ⊎ (old.own.countdown ≢ 0) → told ≡ None
 
 -- a count that is told is at least the greatest that was known, and known from then on;
 -- under a guard it is the one at the guard's publish or the next, and the greatest that was known or the next
