@@ -150,7 +150,7 @@ impl<T: Item<T>, J: Job> Guards<T> for Local<'_, T, J> {
 
     #[inline]
     fn close_guard(&mut self, guard: Guard) {
-        self.partner.membership.close_guard(guard);
+        let _told = self.partner.membership.close_guard(guard);
     }
 
     #[inline]
