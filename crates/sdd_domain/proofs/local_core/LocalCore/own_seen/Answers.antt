@@ -1,7 +1,5 @@
 use Rattle.std.proofs.Common.{ap, sym, subst}
-use Rattle.atomic_table.specs.declared.shared.Seat.{Seat}
 use Rattle.sdd_shared_values.specs.SharedValues.{showing}
-use Rattle.sdd_shared_values.specs.declared.value_fraction.ValueFraction.{ValueFraction}
 use Rattle.sdd_views.specs.declared.View.{View}
 use Rattle.sdd_domain.specs.BetweenCalls.{AreLentTo, IsReady}
 use Rattle.sdd_domain.specs.Receipt.{IsTallied}
