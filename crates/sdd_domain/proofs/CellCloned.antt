@@ -1,11 +1,10 @@
 -- What another cell that holds one owner more of a cell's item is for the participant that clones it
-use Rattle.std.proofs.Common.{◌≡◌, ◌≢◌, ◌⊎◌, inl, inr, ⊎_elim, ℕ, ◌+◌, ◌^◌, ◌<◌, ◌≤◌, Bool, true, IsTrue, List, None, Some, length, set, slice_index_or, refl, sym, ap, ◌∙◌, subst, arith, get_or-set_other}
-use Rattle.std.specs.Prelude.{Result, Ok, Err, IfErr, IfSome, IsSome, MatchOption, MatchResult, Option}
+use Rattle.std.proofs.Common.{◌≡◌, ◌≢◌, ◌⊎◌, inl, inr, ⊎_elim, ℕ, ◌+◌, ◌^◌, ◌<◌, ◌≤◌, true, IsTrue, List, None, Some, set, refl, sym, ap, ◌∙◌, subst, arith, get_or-set_other}
+use Rattle.std.specs.Prelude.{Result, Ok, Err, IfSome, IsSome, MatchOption, MatchResult, Option}
 use Rattle.std.proofs.lemmas.List.{set-get_or, set-set}
 use base.Stored.{Gv}
 use Rattle.sdd_core.specs.declared.refused.Refused.{Refused}
 use Rattle.sdd_core.specs.declared.refused.Refused.TheVariants.{NoCell, TooManyOwners, Contended}
-use Rattle.sdd_core.specs.declared.tag.Tag.{Tag}
 use Rattle.sdd_participants.specs.Slab.{IsEmptyAt, IsFull, entry_at}
 use Rattle.sdd_participants.specs.declared.standing.CellContents.{CellContents}
 use Rattle.sdd_participants.specs.declared.standing.Standing.{Standing}
@@ -18,20 +17,18 @@ use Rattle.sdd_views.specs.declared.Sizes.{Sizes}
 use Rattle.sdd_word_invariant.specs.Codes.{alive, counted, most_owners}
 use Rattle.sdd_space.specs.OwnerOrCell.{OwnerOrCell}
 use Rattle.sdd_space.specs.ParticipantChanges.{HasContentsGivenUp}
-use Rattle.sdd_space.specs.Refusals.{IsRefusedBy}
 use Rattle.sdd_space.specs.Undisturbed.{Unmoved}
 use Rattle.sdd_space.specs.World.{World, standing_at}
 use Rattle.sdd_space.specs.WorldChanges.{with_cell, with_standing}
-use Rattle.sdd_domain.specs.Cells.{AllCellsTaken, ClaimsNone, ClonesNone, ClonesTo, Copies, FindsAt, SeesMore, WritesAt}
+use Rattle.sdd_domain.specs.Cells.{AllCellsTaken, ClaimsNone, ClonesNone, ClonesTo, SeesMore, WritesAt}
 use Rattle.sdd_domain.specs.Local.{LocalModel, contents_by, contents_of, world_of}
 use Rattle.sdd_domain.specs.LocalState.{AddsAt, IsLone, KnowsOwner, LocalState, cell_word_of, word_of}
 use Rattle.sdd_domain.specs.Space.{Shows, is_lone, known_of, seat_of}
 use Rattle.sdd_domain.specs.WordsAndValues.{WordsMatchValues}
 use Rattle.sdd_domain.proofs.Added.{added_world, few_before, shared_before}
 use Rattle.sdd_domain.proofs.CellWorld.{cells_used_up, found_empty, full_cell, matched_written, world_by, world_written}
-use Rattle.sdd_domain.proofs.Exact.{lone_is}
 use Rattle.sdd_domain.proofs.Owning.{few_alive, stands_alive}
-use Rattle.sdd_domain.proofs.Steps.{IsStep, adds_step, same_step, sees_step, sees_tied, sees_world, step_leaves, step_then, writes_step}
+use Rattle.sdd_domain.proofs.Steps.{IsStep, adds_step, lone_begun, same_step, sees_step, sees_tied, sees_world, step_leaves, step_then, writes_step}
 
 -- ---- one owner more came of what a cell holds, or the cell holds none
 module _ {T J : Type 0} (v : LocalModel T J) (m : LocalState J) where
@@ -242,7 +239,8 @@ module _ {T J : Type 0} (v : LocalModel T J) (m : LocalState J) (cell : ℕ) (wh
 
     pub missed_cause : ¬ (IsFull (world_of v).cells) × (why ≡ TooManyOwners) × IsSome there.held
         × IfSome there.held (λ slot. IsSharedBy (2 ^ 62) (standing_at (world_of v) slot))
-    missed_cause = ⊎_elim (λ (a : (why ≡ TooManyOwners) × (IsLone none.reserved → (slot : ℕ) × ((contents_of (cell_word_of none.reserved cell)).held ≡ Some slot)
+    missed_cause = ⊎_elim (λ (a : (why ≡ TooManyOwners)
+        × (IsLone none.reserved → (slot : ℕ) × ((contents_of (cell_word_of none.reserved cell)).held ≡ Some slot)
         × (counted (word_of none.reserved slot) ≡ 1) × (most_owners ≤ alive (word_of none.reserved slot)))).
         let b = a.1 lone_none in let held : there.held ≡ Some b.0 = ap (λ (x : ℕ). (contents_of x).held)
         (sym (word_kept v cell none.other none.first none.reserved none.reserves tied lone full)) ∙ b.1 in (
@@ -304,4 +302,4 @@ module _ {T J : Type 0} (v : LocalModel T J) (m : LocalState J) (cell : ℕ) whe
 
       pub answered_exact : (r : Result Right Refused) → Cloned r → IsTrue (is_lone p.member) → Exactly p r
       answered_exact r a exact = subst (λ (q : LocalModel T J). Exactly q r) same
-          (exactly_there (lone_is v.member (subst (λ (q : LocalModel T J). IsTrue (is_lone q.member)) (sym same) exact)) r a)
+          (exactly_there (lone_begun v p same exact) r a)

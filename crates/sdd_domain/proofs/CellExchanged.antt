@@ -1,5 +1,5 @@
 -- What an exchange of a cell's owner is for the participant, which looks at the new owner's item first, and through another pointer where it was refused
-use Rattle.std.proofs.Common.{◌≡◌, ◌≢◌, ℕ, ◌<◌, IsTrue, List, None, Some, slice_index_or, refl, sym, ap, ◌∙◌, subst}
+use Rattle.std.proofs.Common.{◌≡◌, ◌≢◌, ℕ, ◌<◌, IsTrue, List, None, Some, slice_index_or, sym, ap, ◌∙◌, subst}
 use base.Stored.{Gv}
 use denote.RattleType.{RattleType}
 use Rattle.sdd_participants.specs.Slab.{entry_at}
@@ -16,9 +16,8 @@ use Rattle.sdd_domain.specs.LocalState.{IsLone, LocalState, cell_word_of}
 use Rattle.sdd_domain.specs.Space.{Shows, is_lone}
 use Rattle.sdd_domain.specs.WordsAndValues.{WordsMatchValues}
 use Rattle.sdd_domain.proofs.CellWorld.{found_full, full_cell, world_written}
-use Rattle.sdd_domain.proofs.Exact.{lone_is}
 use Rattle.sdd_domain.proofs.Pointers.{keeps_pointer, through_more, through_shown, through_step, through_world}
-use Rattle.sdd_domain.proofs.Steps.{IsStep, same_step, sees_tied, step_then, writes_step}
+use Rattle.sdd_domain.proofs.Steps.{IsStep, lone_begun, same_step, sees_tied, step_then, writes_step}
 
 module _ {J : Type 0} (R : RattleType) (holds : R.Denot → List OwnerOrCell) (v : LocalModel R.Denot J) (m : LocalState J) (now : Ptr R.Denot)
     (looks : LooksThrough (showing R) holds now v.member m) (cell : ℕ) where
@@ -58,7 +57,7 @@ module _ {J : Type 0} (R : RattleType) (holds : R.Denot → List OwnerOrCell) (v
           → contents_of word ≡ contents → contents_of found ≡ before
           → (entry_at (world_of p).cells cell ≡ Some before) × (world_of exchanged ≡ with_cell (world_of p) cell contents)
       exchanged_exact p same exact before contents some tells told =
-          let lone = lone_looked (lone_is v.member (subst (λ (q : LocalModel R.Denot J). IsTrue (is_lone q.member)) (sym same) exact)) in
+          let lone = lone_looked (lone_begun v p same exact) in
           let worlds : world_of looked ≡ world_of p = world_looked ∙ ap world_of same in let t = tied_looked tied lone in (
             subst (λ (w : World R.Denot). entry_at w.cells cell ≡ Some before) worlds
                 (found_full looked cell found word n is.writes t lone (is.full lone) ∙ ap Some told),
@@ -88,7 +87,7 @@ module _ {J : Type 0} (R : RattleType) (holds : R.Denot → List OwnerOrCell) (v
           → contents_of word ≡ cell_seen ptr → (current : CellContents) → (IsLone m → contents_of (cell_word_of m cell) ≢ current)
           → (entry_at (world_of p).cells cell ≡ Some (cell_seen ptr)) × (cell_seen ptr ≢ current) × (world_of loaded ≡ world_of p)
       refused_exact p begun exact word finds tells current other =
-          let alone = lone_looked (lone_is v.member (subst (λ (q : LocalModel R.Denot J). IsTrue (is_lone q.member)) (sym begun) exact)) in
+          let alone = lone_looked (lone_begun v p begun exact) in
           let lone : IsLone n = subst (λ (y : LocalState J). IsLone y) (sym same) alone in
           let worlds : world_of refused ≡ world_of p = ap (λ (y : LocalState J). world_of {T = R.Denot} (record { member = y; entries = v.entries })) same
           ∙ (world_looked ∙ ap world_of begun) in (

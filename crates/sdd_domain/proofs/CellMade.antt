@@ -1,8 +1,7 @@
 -- What an item that is made in a cell is for the participant that makes it
-use Rattle.std.proofs.Common.{◌≡◌, ◌⊎◌, inl, inr, ⊎_elim, ℕ, ◌<◌, IsTrue, List, None, Some, length, set, slice_index_or, refl, sym, ap, ◌∙◌, subst, arith, get_or-set_same}
+use Rattle.std.proofs.Common.{◌≡◌, ◌⊎◌, inl, inr, ⊎_elim, ℕ, ◌<◌, IsTrue, List, None, Some, set, refl, sym, ap, ◌∙◌, subst, arith, get_or-set_same}
 use Rattle.std.specs.Prelude.{Result, Ok, Err, IfErr, IfOk, MatchResult, Option}
 use Rattle.std.proofs.lemmas.List.{set-set}
-use base.Stored.{Gv}
 use denote.RattleType.{RattleType}
 use Rattle.sdd_core.specs.declared.refused.Refused.{Refused}
 use Rattle.sdd_core.specs.declared.refused.Refused.TheVariants.{NoCell, NoSlot, Contended}
@@ -23,17 +22,16 @@ use Rattle.sdd_space.specs.World.{World, value_at}
 use Rattle.sdd_space.specs.WorldChanges.{made_as, with_cell}
 use Rattle.sdd_domain.specs.Cells.{AllCellsTaken, MakesInCell, MakesNone, WritesAt}
 use Rattle.sdd_domain.specs.Laws.{shows_is_value}
-use Rattle.sdd_domain.specs.Local.{LocalModel, contents_by, contents_of, world_of}
+use Rattle.sdd_domain.specs.Local.{LocalModel, contents_by, world_of}
 use Rattle.sdd_domain.specs.LocalState.{IsLone, IsUsedUp, LocalState, cell_word_of}
 use Rattle.sdd_domain.specs.Space.{Shows, is_lone, known_of, seat_in, seat_of}
 use Rattle.sdd_domain.specs.SpaceIds.{home_in}
 use Rattle.sdd_domain.specs.WordsAndValues.{Entries, WordsMatchValues}
 use Rattle.sdd_domain.proofs.CellWorld.{cells_used_up, found_empty, matched_written, world_by, world_written}
-use Rattle.sdd_domain.proofs.Exact.{lone_is}
 use Rattle.sdd_domain.proofs.Filled.{as_many, not_full}
 use Rattle.sdd_domain.proofs.Makes.{makes_tied, makes_world, used_up}
 use Rattle.sdd_domain.proofs.Refusals.{IsBack, back_keeps, back_sound, back_tied, back_world}
-use Rattle.sdd_domain.proofs.Steps.{IsStep, makes_step, step_then, writes_step}
+use Rattle.sdd_domain.proofs.Steps.{IsStep, lone_begun, makes_step, step_then, writes_step}
 
 -- what a cell holds then
 abbrev pub fresh_in : ℕ → CellContents
@@ -55,8 +53,8 @@ module _ {J : Type 0} (R : RattleType) (holds : R.Denot → List OwnerOrCell) (v
   fills : WritesAt cell (cell_word_of did.made cell) did.word did.made m
   fills = record {
     member = did.filled;
-    inside = subst (λ (z : Sizes). cell < z.cells) (sym (ap (λ (y : LocalState J). y.sizes) did.makes.member ∙ ap (λ (y : LocalState J). y.sizes) did.reserves.member))
-        did.reserves.inside;
+    inside = subst (λ (z : Sizes). cell < z.cells)
+        (sym (ap (λ (y : LocalState J). y.sizes) did.makes.member ∙ ap (λ (y : LocalState J). y.sizes) did.reserves.member)) did.reserves.inside;
     lone = λ _. refl;
   }
 
@@ -150,7 +148,7 @@ module _ {J : Type 0} (R : RattleType) (holds : R.Denot → List OwnerOrCell) (v
       ⊎_elim (λ (c : why ≡ NoCell). inr (inl c)) (λ (d : why ≡ Contended). inr (inr (
         d,
         (λ exact.
-            let lone : IsLone v.member = lone_is v.member (subst (λ (q : LocalModel R.Denot J). IsTrue (is_lone q.member)) (sym same) exact) in
+            let lone = lone_begun v p same exact in
             ⊎_elim (λ (a : (why ≡ NoSlot) × IsUsedUp v.member). let e = a.0 in absurd (cc))
             (λ (b : (why ≡ NoCell) × ¬ (IsUsedUp v.member) × AllCellsTaken v.member). let e = b.0 in absurd (cc)) (none.lone lone)),
       ))) b) none.cause
@@ -171,7 +169,7 @@ module _ {J : Type 0} (R : RattleType) (holds : R.Denot → List OwnerOrCell) (v
 
   module _ (tied : WordsMatchValues v.member v.entries) (p : LocalModel R.Denot J) (same : v ≡ p) (exact : IsTrue (is_lone p.member)) where
     lone_here : IsLone v.member
-    lone_here = lone_is v.member (subst (λ (q : LocalModel R.Denot J). IsTrue (is_lone q.member)) (sym same) exact)
+    lone_here = lone_begun v p same exact
 
     pub answered_shown : (r : Result Right (R.Denot × Refused)) → Made r → IsTrue (is_lone m) → IfOk r (λ cell. (slot : ℕ)
         × Shows (showing R) holds now slot x × (entry_at (world_of now).cells (number_of cell) ≡ Some (record { held = Some slot; tag = tag.None })))

@@ -1,22 +1,19 @@
 -- Pointers to what a participant's guards see, and what cells hold that they were loaded from
-use Rattle.std.proofs.Common.{◌≡◌, ◌≢◌, ℕ, ◌<◌, IsTrue, List, Some, None, slice_index_or, refl, sym, ap, ◌∙◌, subst, arith}
+use Rattle.std.proofs.Common.{◌≡◌, ℕ, IsTrue, List, Some, None, slice_index_or, sym, ap, ◌∙◌, subst}
 use Rattle.std.specs.Prelude.{IfSome, MatchOption, Option}
 use base.Stored.{Gv}
 use denote.RattleType.{RattleType}
-use Rattle.sdd_core.specs.declared.tag.Tag.{Tag}
 use Rattle.sdd_participants.specs.Slab.{entry_at}
 use Rattle.sdd_participants.specs.declared.standing.CellContents.{CellContents}
-use Rattle.sdd_rights.specs.declared.right.Right.{Right}
 use Rattle.sdd_rights.specs.declared.right.StandingKind.{StandingKind}
 use Rattle.sdd_rights.specs.StandingKind.{is_shared}
 use Rattle.sdd_shared_values.specs.SharedValues.{showing}
-use Rattle.sdd_standings.specs.Cells.{cell_with, slot_held}
 use Rattle.sdd_standings.specs.Slots.{IsOwnedBy}
 use Rattle.sdd_word_invariant.specs.Codes.{alive}
 use Rattle.sdd_space.specs.OwnerOrCell.{OwnerOrCell}
-use Rattle.sdd_space.specs.Ptr.{KeepsShown, PtrIsShown, cell_seen, shown_by, slot_named, tag_of}
+use Rattle.sdd_space.specs.Ptr.{KeepsShown, PtrIsShown, shown_by, slot_named}
 use Rattle.sdd_space.specs.declared.ptr.Ptr.{Ptr}
-use Rattle.sdd_space.specs.World.{World, standing_at}
+use Rattle.sdd_space.specs.World.{standing_at}
 use Rattle.sdd_domain.specs.Cells.{FindsAt, IsOwnedThere, LooksThrough, SeesItem, SeesMore}
 use Rattle.sdd_domain.specs.Laws.{same_value}
 use Rattle.sdd_domain.specs.Local.{LocalModel, contents_of, world_of}
@@ -24,10 +21,9 @@ use Rattle.sdd_domain.specs.LocalState.{IsLone, LocalState, word_of}
 use Rattle.sdd_domain.specs.Space.{Shows, is_lone}
 use Rattle.sdd_domain.specs.WordsAndValues.{WordsMatchValues}
 use Rattle.sdd_domain.proofs.CellWorld.{full_cell}
-use Rattle.sdd_domain.proofs.Exact.{lone_is}
 use Rattle.sdd_domain.proofs.Owning.{few_alive, owned_by, owned_value, shows_it, stands_alive}
 use Rattle.sdd_domain.proofs.SeesMore.{looks_more, same_sees}
-use Rattle.sdd_domain.proofs.Steps.{IsStep, sees_step, sees_world}
+use Rattle.sdd_domain.proofs.Steps.{IsStep, lone_begun, sees_step, sees_world}
 
 -- ---- a pointer that was made
 module _ {T J : Type 0} (shown : T → Gv) (holds : T → List OwnerOrCell) (ptr : Ptr T) (old new : LocalState J) where
@@ -100,7 +96,7 @@ module _ {J : Type 0} (R : RattleType) (holds : R.Denot → List OwnerOrCell) (v
 module _ {T J : Type 0} (v : LocalModel T J) (cell word : ℕ) (finds : FindsAt cell word v.member) (tied : WordsMatchValues v.member v.entries)
     (p : LocalModel T J) (same : v ≡ p) (exact : IsTrue (is_lone p.member)) where
   lone_here : IsLone v.member
-  lone_here = lone_is v.member (subst (λ (q : LocalModel T J). IsTrue (is_lone q.member)) (sym same) exact)
+  lone_here = lone_begun v p same exact
 
   pub finds_exact : (contents : CellContents) → contents_of word ≡ contents → entry_at (world_of p).cells cell ≡ Some contents
   finds_exact contents tells = subst (λ (q : LocalModel T J). entry_at (world_of q).cells cell ≡ Some contents) same

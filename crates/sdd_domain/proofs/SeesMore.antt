@@ -1,12 +1,11 @@
 -- What a participant's guards see grows, and what is known of cells and owners meanwhile stays
-use Rattle.std.proofs.Common.{◌≡◌, ◌⊎◌, inl, inr, ⊎_elim, ℕ, ◌<◌, ◌≤◌, List, ◌∷◌, Some, None, true, false, sym, refl, ap, ◌∙◌, subst, arith}
-use Rattle.std.specs.Prelude.{Bool, Option}
+use Rattle.std.proofs.Common.{◌≡◌, ◌⊎◌, inl, inr, ⊎_elim, ℕ, ◌<◌, ◌≤◌, Some, true, false, sym, refl, ap, ◌∙◌, subst, arith}
+use Rattle.std.specs.Prelude.{Bool}
 use mathlib.Core.Logic.{dite}
 use native.Mathlib.Decide.{dec_lt}
 use base.Stored.{Gv}
 use Rattle.sdd_core.specs.declared.refused.Refused.{Refused}
 use Rattle.sdd_core.specs.declared.refused.Refused.TheVariants.{TooManyOwners, Contended}
-use Rattle.sdd_participants.specs.declared.standing.CellContents.{CellContents}
 use Rattle.sdd_views.specs.declared.ShownValue.{ShownValue}
 use Rattle.sdd_word_invariant.specs.Codes.{alive, counted, held_word, most_owners}
 use Rattle.sdd_word_invariant.specs.Sums.{times}

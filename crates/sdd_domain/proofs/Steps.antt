@@ -1,11 +1,10 @@
 -- Steps that leave a participant sound and undisturbed: several in a row are one
-use Rattle.std.proofs.Common.{◌≡◌, ⊎_elim, ℕ, ◌<◌, Bool, true, false, IsTrue, List, Some, map, set, refl, sym, ap, ◌∙◌, subst, arith}
+use Rattle.std.proofs.Common.{◌≡◌, ⊎_elim, ℕ, Bool, true, false, IsTrue, List, Some, map, set, refl, sym, ap, ◌∙◌, subst, arith}
 use base.Stored.{Gv}
 use denote.RattleType.{RattleType}
 use Rattle.sdd_shared_values.specs.SharedValues.{showing}
 use Rattle.sdd_rights.specs.declared.right.StandingKind.{StandingKind}
 use Rattle.sdd_rights.specs.StandingKind.{is_shared}
-use Rattle.sdd_participants.specs.Waiting.{Waiting}
 use Rattle.sdd_views.specs.declared.WaitingItem.{WaitingItem}
 use Rattle.sdd_word_invariant.specs.Slots.{waits_in}
 use Rattle.sdd_word_invariant.specs.Sums.{total}
@@ -30,6 +29,10 @@ use Rattle.sdd_domain.proofs.Exact.{lone_is}
 use Rattle.sdd_domain.proofs.Makes.{makes_keeps, makes_tied}
 use Rattle.sdd_domain.proofs.Refusals.{words_undisturbed}
 use Rattle.sdd_domain.proofs.Sound.{sound_makes, sound_step}
+
+-- a participant is lone by what it began with
+pub lone_begun : {T J : Type 0} (v p : LocalModel T J) → v ≡ p → IsTrue (is_lone p.member) → IsLone v.member
+lone_begun v p same exact = lone_is v.member (subst (λ (q : LocalModel _ _). IsTrue (is_lone q.member)) (sym same) exact)
 
 -- ---- its guards see more
 module _ {T J : Type 0} (v : LocalModel T J) (m : LocalState J) (more : SeesMore v.member m) where

@@ -1,9 +1,9 @@
-use Rattle.std.proofs.Common.{◌≡◌, ℕ, ◌∷◌, [], List, ◌⊎◌, ◌+◌, true, sym, refl, ap, ◌∙◌, subst, arith}
+use Rattle.std.proofs.Common.{◌≡◌, ℕ, ◌∷◌, [], List, ◌⊎◌, ◌+◌, true, sym, ap, ◌∙◌, subst, arith}
 use base.Stored.{Gv}
 use Rattle.sdd_views.specs.declared.View.{View}
 use Rattle.sdd_views.specs.declared.EpochView.{EpochView}
 use Rattle.sdd_views.specs.declared.ShownValue.{ShownValue}
-use Rattle.sdd_word_invariant.specs.Codes.{alive, counted, most_owners}
+use Rattle.sdd_word_invariant.specs.Codes.{alive, counted}
 use Rattle.std.specs.Prelude.{None, slice_index}
 use Rattle.sdd_word_invariant.specs.Epoch.{HasPlace, IsLone}
 use Rattle.sdd_word_invariant.specs.SlotSteps.{behind, noted, one_more}

@@ -1,7 +1,7 @@
 use Rattle.std.proofs.Common.{◌≡◌, inl, ℕ, Some, true, sym, refl, ap, ◌∙◌, subst, arith}
 use base.Stored.{Gv}
 use Rattle.sdd_participants.specs.declared.standing.CellContents.{CellContents}
-use Rattle.sdd_rights.specs.Right.{number_of, kind_of}
+use Rattle.sdd_rights.specs.Right.{number_of}
 use Rattle.sdd_shared_values.specs.SharedValues.{showing}
 use Rattle.sdd_rights.specs.declared.right.StandingKind.{StandingKind}
 use Rattle.sdd_rights.specs.StandingKind.{is_shared}
