@@ -127,6 +127,7 @@ impl<T: Item<T>> Shared<T> {
         ensures shown { IfSome (shown_by result) (S.shows s.new (slot_of self.now)) }
         ensures value { IfSome (shown_by result) (S.owns_value s.new (right_of self.now)) }
         ensures full { IsSome (shown_by result) }
+        ensures sight { PtrIsShown (S.shows s.new) result }
         ensures exact { IsExact (S.seat s.old) → S.world s.new ≡ S.world s.old }
     {
         let value = s.get_guarded(self.right(), guard);
