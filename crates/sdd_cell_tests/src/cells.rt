@@ -2,7 +2,8 @@
 use crate::example::{AMPLE, CommonExample, in_each_space};
 use crate::steps::{close, opened, owned, seen};
 use sdd_core::Tag;
-use sdd_space::{Cells, Guards, InPlaceItems, Items, Look, RawItems, SharedOwners};
+use sdd_participants::Idle;
+use sdd_space::{Cells, Deferrals, Guards, InPlaceItems, Items, Look, RawItems, SharedOwners};
 use std::process::Abort;
 
 /// A swap answers what the cell held and its tag. It is left with nothing, which the weak exchange gives back.
@@ -17,7 +18,8 @@ impl CommonExample for Swaps {
             + SharedOwners<u64>
             + InPlaceItems<u64>
             + RawItems<u64>
-            + Cells<u64>,
+            + Cells<u64>
+            + Deferrals<u64, Job = Idle>,
     >(rt: &R, s: &mut S) {
         let cell = owned::cell(rt, s, 14);
         assert!(rt; owned::swapped(rt, s, &cell, Some(15), Tag::Second) == (Some(14), Tag::None));
@@ -43,7 +45,8 @@ impl CommonExample for Exchanges {
             + SharedOwners<u64>
             + InPlaceItems<u64>
             + RawItems<u64>
-            + Cells<u64>,
+            + Cells<u64>
+            + Deferrals<u64, Job = Idle>,
     >(rt: &R, s: &mut S) {
         let cell = owned::cell(rt, s, 17);
         let guard = opened(rt, s);
@@ -81,7 +84,8 @@ impl CommonExample for KeepsTag {
             + SharedOwners<u64>
             + InPlaceItems<u64>
             + RawItems<u64>
-            + Cells<u64>,
+            + Cells<u64>
+            + Deferrals<u64, Job = Idle>,
     >(rt: &R, s: &mut S) {
         let cell = owned::cell(rt, s, 7);
         let (times, shown) = owned::asked(rt, s, &cell, Tag::First);
@@ -104,7 +108,8 @@ impl CommonExample for ComesOut {
             + SharedOwners<u64>
             + InPlaceItems<u64>
             + RawItems<u64>
-            + Cells<u64>,
+            + Cells<u64>
+            + Deferrals<u64, Job = Idle>,
     >(rt: &R, s: &mut S) {
         let cell = owned::cell(rt, s, 7);
         let out = owned::into_owned(s, cell);

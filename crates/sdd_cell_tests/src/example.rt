@@ -7,8 +7,10 @@ ghost use Rattle.sdd_domain.specs.Domain.{slots_in};
 use crate::steps::accelerated;
 use sdd_core::Limits;
 use sdd_domain::{Domain, Local, Receipt};
-use sdd_participants::Tally;
-use sdd_space::{Cells, Guards, InPlaceItems, Item, Items, Look, RawItems, SharedOwners, Space};
+use sdd_participants::{Idle, Tally};
+use sdd_space::{
+    Cells, Deferrals, Guards, InPlaceItems, Item, Items, Look, RawItems, SharedOwners, Space,
+};
 use sdd_world::{Place, World};
 use std::marker::Model;
 use std::process::Abort;
@@ -43,7 +45,8 @@ pub trait CommonExample {
             + SharedOwners<u64>
             + InPlaceItems<u64>
             + RawItems<u64>
-            + Cells<u64>,
+            + Cells<u64>
+            + Deferrals<u64, Job = Idle>,
     >(rt: &R, s: &mut S)
         requires seated { IsSeated (S.seat s.old) }
         ensures seat { S.seat s.new ≡ S.seat s.old };
@@ -102,7 +105,7 @@ impl<T: Item<T>> Setting<T> {
 }
 
 /// All that was made is reclaimed, but for so many items that were dropped in their place.
-fn all_went(rt: &impl Abort, tally: Tally, in_place: u128) {
+pub fn all_went(rt: &impl Abort, tally: Tally, in_place: u128) {
     let gone = tally.reclaimed.saturating_add(tally.in_place);
     assert_eq!(rt; (gone, tally.in_place), (tally.made, in_place));
 }
@@ -133,8 +136,21 @@ pub fn in_a_world<E: Example, R: Abort + AllocGlobal>(
     setting.closed(rt, in_place);
 }
 
+/// A new domain.
+pub fn new_domain<T: Item<T>>(rt: &(impl Abort + AllocGlobal), limits: Limits) -> Domain<T> {
+    Domain::new(rt.alloc(), limits).expect(rt, "the limits are in range")
+}
+
+/// A participant of it.
+pub fn registered<'d, T: Item<T>>(rt: &impl Abort, domain: &'d Domain<T>) -> Local<'d, T>
+    ensures seated { IsSeated (seat_of result) }
+    ensures home { slots_home result ≡ slots_in domain.now }
+{
+    Local::register(domain).expect(rt, "a place is free")
+}
+
 /// The participant's next accelerated guards show this.
-fn local_shows(rt: &impl Abort, local: &mut Local<'_, u64>, table: &[Shown])
+pub fn local_shows<T: Item<T>>(rt: &impl Abort, local: &mut Local<'_, T>, table: &[Shown])
     requires seated { IsSeated (seat_of local.old) }
     ensures seat { seat_of local.new ≡ seat_of local.old }
 {
@@ -145,7 +161,7 @@ fn local_shows(rt: &impl Abort, local: &mut Local<'_, u64>, table: &[Shown])
 }
 
 /// Ends the participant.
-fn ended(rt: &impl Abort, local: Local<'_, u64>) -> Receipt<u64>
+pub fn ended<T: Item<T>>(rt: &impl Abort, local: Local<'_, T>) -> Receipt<T>
     ensures { result.home ≡ slots_home local.entry }
 {
     match local.end() {
@@ -155,7 +171,11 @@ fn ended(rt: &impl Abort, local: Local<'_, u64>) -> Receipt<u64>
 }
 
 /// Closes the domain, whose one participant ended.
-fn closed(rt: &(impl Abort + AllocGlobal), domain: Domain<u64>, receipt: Receipt<u64>) -> Tally
+pub fn closed<T: Item<T>>(
+    rt: &(impl Abort + AllocGlobal),
+    domain: Domain<T>,
+    receipt: Receipt<T>,
+) -> Tally
     requires { receipt.home ≡ slots_in domain }
 {
     let receipts = vec![in rt.alloc(); receipt].expect(rt, "there is memory");
@@ -172,8 +192,8 @@ pub fn in_a_domain<E: CommonExample, R: Abort + AllocGlobal>(
     table: &[Shown],
     in_place: u128,
 ) {
-    let domain: Domain<u64> = Domain::new(rt.alloc(), limits).expect(rt, "the limits are in range");
-    let mut local = Local::register(&domain).expect(rt, "a place is free");
+    let domain: Domain<u64> = new_domain(rt, limits);
+    let mut local = registered(rt, &domain);
     E::run(rt, &mut local);
     local_shows(rt, &mut local, table);
     let receipt = ended(rt, local);

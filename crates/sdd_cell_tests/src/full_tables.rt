@@ -5,8 +5,9 @@ ghost use Rattle.sdd_space.specs.CallerId.{IsSeated};
 use crate::example::{AMPLE, CommonExample, Example, Setting, in_each_space};
 use crate::steps::{close, opened, owned, shared};
 use sdd_core::{Limits, Refused};
+use sdd_participants::Idle;
 use sdd_space::{
-    AtomicOwned, AtomicRaw, AtomicShared, Cells, Guards, InPlaceItems, Items, Look,
+    AtomicOwned, AtomicRaw, AtomicShared, Cells, Deferrals, Guards, InPlaceItems, Items, Look,
     PrivateCollector, RawCells, RawItems, SharedOwners, Space,
 };
 use std::process::Abort;
@@ -91,7 +92,8 @@ impl CommonExample for OneCell {
             + SharedOwners<u64>
             + InPlaceItems<u64>
             + RawItems<u64>
-            + Cells<u64>,
+            + Cells<u64>
+            + Deferrals<u64, Job = Idle>,
     >(rt: &R, s: &mut S) {
         let cell = owned::cell(rt, s, 14);
         values_come_back(rt, s);
@@ -157,7 +159,8 @@ impl CommonExample for NoSlots {
             + SharedOwners<u64>
             + InPlaceItems<u64>
             + RawItems<u64>
-            + Cells<u64>,
+            + Cells<u64>
+            + Deferrals<u64, Job = Idle>,
     >(rt: &R, s: &mut S) {
         let owner = owned::made(rt, s, 14);
         match AtomicOwned::new(15, s) {

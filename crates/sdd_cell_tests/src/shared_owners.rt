@@ -2,7 +2,10 @@
 use crate::example::{AMPLE, CommonExample, Example, Setting, in_each_space};
 use crate::steps::{close, opened, seen, shared};
 use sdd_core::Tag;
-use sdd_space::{Cells, Guards, InPlaceItems, Items, Look, RawItems, SharedOwners, Space};
+use sdd_participants::Idle;
+use sdd_space::{
+    Cells, Deferrals, Guards, InPlaceItems, Items, Look, RawItems, SharedOwners, Space,
+};
 use std::process::Abort;
 
 /// The last owner is told, and a guard sees the value still.
@@ -17,7 +20,8 @@ impl CommonExample for LetsGo {
             + SharedOwners<u64>
             + InPlaceItems<u64>
             + RawItems<u64>
-            + Cells<u64>,
+            + Cells<u64>
+            + Deferrals<u64, Job = Idle>,
     >(rt: &R, s: &mut S) {
         let owner = shared::made_by_closure(rt, s, 47);
         let guard = opened(rt, s);
@@ -63,7 +67,8 @@ impl CommonExample for Copies {
             + SharedOwners<u64>
             + InPlaceItems<u64>
             + RawItems<u64>
-            + Cells<u64>,
+            + Cells<u64>
+            + Deferrals<u64, Job = Idle>,
     >(rt: &R, s: &mut S) {
         let cell = shared::cell(rt, s, 7);
         assert!(rt; shared::swapped(rt, s, &cell, 8, Tag::Second) == (Some(7), Tag::None));
@@ -93,7 +98,8 @@ impl CommonExample for Exchanges {
             + SharedOwners<u64>
             + InPlaceItems<u64>
             + RawItems<u64>
-            + Cells<u64>,
+            + Cells<u64>
+            + Deferrals<u64, Job = Idle>,
     >(rt: &R, s: &mut S) {
         let cell = shared::cell(rt, s, 17);
         let guard = opened(rt, s);

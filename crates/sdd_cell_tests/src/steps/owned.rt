@@ -191,6 +191,17 @@ pub fn asked<S: Cells<u64>>(
     (times, last)
 }
 
+/// Sets the tag where the cell has none, and tells whether it did.
+pub fn tagged<S: Cells<u64>>(rt: &impl Abort, s: &mut S, cell: &AtomicOwned<u64>, tag: Tag) -> bool
+    requires seated { IsSeated (S.seat s.old) }
+    requires home { cells_home cell.now ≡ (S.seat s.old).home.cells }
+    ensures seat { S.seat s.new ≡ S.seat s.old }
+{
+    let condition = |ptr: RawPtr<u64>| ptr.tag() == Tag::None;
+    cell.update_tag_if(tag, condition, s)
+        .expect(rt, "nobody comes between")
+}
+
 /// A condition that doesn't hold leaves the tag. How often that was asked, and the tag that it was shown last.
 pub fn refused_tag<S: Cells<u64>>(
     rt: &impl Abort,
