@@ -41,6 +41,8 @@ mod node;
 #[cfg(test)]
 mod owned_calls;
 #[cfg(test)]
+mod owned_cell_calls;
+#[cfg(test)]
 mod owners;
 #[cfg(test)]
 mod places;
@@ -56,6 +58,8 @@ mod refused_closes;
 mod several_owners;
 #[cfg(test)]
 mod shared_calls;
+#[cfg(test)]
+mod shared_cell_calls;
 #[cfg(test)]
 mod sharing;
 #[cfg(test)]
