@@ -7,6 +7,10 @@ mod answers;
 #[cfg(test)]
 mod both_spaces;
 #[cfg(test)]
+mod cell_crowd;
+#[cfg(test)]
+mod cell_crowd_calls;
+#[cfg(test)]
 mod counted;
 #[cfg(test)]
 mod counted_owners;
@@ -20,6 +24,7 @@ mod domains;
 mod drops;
 #[cfg(test)]
 mod example;
+mod few_cells;
 mod four;
 #[cfg(test)]
 mod generator;
@@ -46,6 +51,8 @@ mod owned_cell_calls;
 mod owners;
 #[cfg(test)]
 mod places;
+#[cfg(test)]
+mod published;
 #[cfg(test)]
 mod random_calls;
 #[cfg(test)]
