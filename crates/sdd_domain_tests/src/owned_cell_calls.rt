@@ -10,7 +10,7 @@ use crate::hand::{
     keep_guard, keep_owned, keep_owned_cell, take_guard, take_owned, take_owned_cell,
 };
 use sdd_core::Tag;
-use sdd_space::{AtomicOwned, Cells, Guard, Items, Look, Owned, Ptr, RawPtr};
+use sdd_space::{AtomicOwned, Cells, Guard, Items, Look, Owned, RawPtr};
 use std::process::Abort;
 
 pub fn makes<S: Cells<u64>>(
@@ -193,27 +193,8 @@ pub fn swaps<S: Look<u64> + Items<u64> + Cells<u64>>(
     answer
 }
 
-/// A pointer to compare with: to what the cell holds, the same with another tag, or null.
-fn expected<'g, S: Cells<u64>>(
-    s: &mut S,
-    cell: &AtomicOwned<u64>,
-    guard: &'g Guard,
-    draw: u64,
-) -> Ptr<'g, u64>
-    requires seated { IsSeated (S.seat s.old) }
-    requires home { owned.cells_home cell.now ≡ (S.seat s.old).home.cells }
-    requires reader { reader_of guard.now ≡ (S.seat s.old).reader }
-    ensures seat { S.seat s.new ≡ S.seat s.old }
-{
-    let ptr = cell.load(guard, s);
-    match draw % 4 {
-        0 => ptr.with_tag(tag_of(draw / 4)),
-        1 => Ptr::null(),
-        _ => ptr,
-    }
-}
-
-/// The cell holds another owner, or none, if it held what was expected.
+/// The cell holds another owner, or none, if it held what was expected: what was loaded, in some calls with another tag, and in some before the cell was
+/// left with nothing.
 fn exchanged<S: Look<u64> + Items<u64> + Cells<u64>>(
     rt: &impl Abort,
     s: &mut S,
@@ -230,7 +211,17 @@ fn exchanged<S: Look<u64> + Items<u64> + Cells<u64>>(
     ensures seat { S.seat s.new ≡ S.seat s.old }
     ensures owners { AreOwnedIn (S.seat s.old).home.slots owners.new.items }
 {
-    let current = expected(s, cell, guard, draw);
+    let loaded = cell.load(guard, s);
+    let tag = if draw % 4 == 0 {
+        tag_of(draw / 4)
+    } else {
+        loaded.tag()
+    };
+    if draw % 4 == 1 {
+        let (old, _tag) = cell.swap((None, tag), s);
+        let _ = kept(rt, s, owners, old);
+    }
+    let current = loaded.with_tag(tag);
     let next = take_owned(owners, pick);
     match cell.compare_exchange(current, (next, tag_of(draw)), guard, s) {
         Ok((old, now)) => {
