@@ -12,10 +12,8 @@ pub enum Answer {
     Number(u64),
     /// What a cell holds, and its tag.
     Held(Option<u64>, Tag),
-    /// What came out of a cell, what it holds now, and its tag.
-    Exchanged(Option<u64>, Option<u64>, Tag),
-    /// What came back, what the cell holds, and its tag.
-    NotExchanged(Option<u64>, Option<u64>, Tag),
+    /// Whether a cell was exchanged, what came out of it, or back, what it holds now, and its tag.
+    Exchanged(bool, Option<u64>, Option<u64>, Tag),
     Refused(Refused),
 }
 

@@ -10,7 +10,7 @@ use crate::hand::{
     keep_guard, keep_owned, keep_owned_cell, take_guard, take_owned, take_owned_cell,
 };
 use sdd_core::Tag;
-use sdd_space::{AtomicOwned, Cells, Guard, Items, Look, Owned, RawPtr};
+use sdd_space::{AtomicOwned, Cells, Guard, Items, Look, Owned, Ptr, RawPtr};
 use std::process::Abort;
 
 pub fn makes<S: Cells<u64>>(
@@ -193,8 +193,58 @@ pub fn swaps<S: Look<u64> + Items<u64> + Cells<u64>>(
     answer
 }
 
-/// The cell holds another owner, or none, if it held what was expected: what was loaded, in some calls with another tag, and in some before the cell was
-/// left with nothing.
+/// A pointer to compare with: to what the cell holds, in some calls with another tag; and in some the cell is left with nothing after that.
+fn expected<'g, S: Look<u64> + Items<u64> + Cells<u64>>(
+    rt: &impl Abort,
+    s: &mut S,
+    cell: &AtomicOwned<u64>,
+    owners: &mut Vec<Owned<u64>>,
+    guard: &'g Guard,
+    draw: u64,
+) -> Ptr<'g, u64>
+    requires seated { IsSeated (S.seat s.old) }
+    requires home { owned.cells_home cell.now ≡ (S.seat s.old).home.cells }
+    requires reader { reader_of guard.now ≡ (S.seat s.old).reader }
+    requires owners { AreOwnedIn (S.seat s.old).home.slots owners.old.items }
+    ensures seat { S.seat s.new ≡ S.seat s.old }
+    ensures owners { AreOwnedIn (S.seat s.old).home.slots owners.new.items }
+{
+    let loaded = cell.load(guard, s);
+    if draw % 4 == 1 {
+        let (old, _tag) = cell.swap((None, Tag::None), s);
+        let _ = kept(rt, s, owners, old);
+    }
+    let tag = if draw % 4 == 0 {
+        tag_of(draw / 4)
+    } else {
+        loaded.tag()
+    };
+    loaded.with_tag(tag)
+}
+
+/// The cell holds another owner, or none, if it held what was expected. Whether it did, what came out or back, and a pointer to what it holds.
+fn tried<'g, S: Cells<u64>>(
+    s: &mut S,
+    cell: &AtomicOwned<u64>,
+    current: Ptr<'g, u64>,
+    next: Option<Owned<u64>>,
+    tag: Tag,
+    guard: &'g Guard,
+) -> (bool, Option<Owned<u64>>, Ptr<'g, u64>)
+    requires seated { IsSeated (S.seat s.old) }
+    requires home { owned.cells_home cell.now ≡ (S.seat s.old).home.cells }
+    requires reader { reader_of guard.now ≡ (S.seat s.old).reader }
+    requires next { owned.IsOfSlots (S.seat s.old).home.slots next }
+    ensures seat { S.seat s.new ≡ S.seat s.old }
+    ensures back { owned.IsOfSlots (S.seat s.old).home.slots result.1 }
+{
+    match cell.compare_exchange(current, (next, tag), guard, s) {
+        Ok((old, now)) => (true, old, now),
+        Err((back, now)) => (false, back, now),
+    }
+}
+
+/// The owner that is taken goes in, or comes back; and what came out is kept.
 fn exchanged<S: Look<u64> + Items<u64> + Cells<u64>>(
     rt: &impl Abort,
     s: &mut S,
@@ -211,28 +261,11 @@ fn exchanged<S: Look<u64> + Items<u64> + Cells<u64>>(
     ensures seat { S.seat s.new ≡ S.seat s.old }
     ensures owners { AreOwnedIn (S.seat s.old).home.slots owners.new.items }
 {
-    let loaded = cell.load(guard, s);
-    let tag = if draw % 4 == 0 {
-        tag_of(draw / 4)
-    } else {
-        loaded.tag()
-    };
-    if draw % 4 == 1 {
-        let (old, _tag) = cell.swap((None, tag), s);
-        let _ = kept(rt, s, owners, old);
-    }
-    let current = loaded.with_tag(tag);
+    let current = expected(rt, s, cell, owners, guard, draw);
     let next = take_owned(owners, pick);
-    match cell.compare_exchange(current, (next, tag_of(draw)), guard, s) {
-        Ok((old, now)) => {
-            let shown = now.as_ref(s).copied();
-            Answer::Exchanged(kept(rt, s, owners, old), shown, now.tag())
-        }
-        Err((back, now)) => {
-            let shown = now.as_ref(s).copied();
-            Answer::NotExchanged(kept(rt, s, owners, back), shown, now.tag())
-        }
-    }
+    let (done, back, now) = tried(s, cell, current, next, tag_of(draw), guard);
+    let shown = now.as_ref(s).copied();
+    Answer::Exchanged(done, kept(rt, s, owners, back), shown, now.tag())
 }
 
 pub fn exchanges<S: Look<u64> + Items<u64> + Cells<u64>>(
