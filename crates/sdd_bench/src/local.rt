@@ -8,7 +8,7 @@ ghost use Rattle.sdd_domain.specs.Receipt.{Receipt as EndedCounts};
 ghost use Rattle.sdd_domain.specs.Space.{seat_of};
 
 use crate::operation::Task;
-use crate::turns;
+use crate::{cells, configuration, turns};
 use sdd_core::{Limits, Refused};
 use sdd_domain::{Domain, Local, Receipt};
 use sdd_participants::Tally;
@@ -119,6 +119,9 @@ pub fn worked(local: &mut Local<'_, u64>, task: Task, turns: u64) -> Result<u64,
         Task::Raws => return raws(local, turns),
         Task::Changes => return changes(local, turns),
         Task::Shares => turns::shares(local, turns)?,
+        Task::Loads => return cells::loads(local, turns),
+        Task::Swaps => cells::swaps(local, turns)?,
+        Task::OfCell(work) => return configuration::alone(local, work, turns),
     }
     Ok(0)
 }

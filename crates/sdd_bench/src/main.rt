@@ -2,6 +2,7 @@
 #![tactic(auto)]
 
 mod cells;
+mod configuration;
 mod local;
 mod operation;
 mod places;

@@ -13,6 +13,22 @@ pub enum Guarding {
     Accelerated,
 }
 
+/// What a participant of a domain does in each turn with a cell of owners that may have others.
+#[derive(Clone, Copy, Debug, PartialEq, Eq)]
+pub enum CellWork {
+    /// A load under a guard that stays open, and a look through the pointer.
+    Loads,
+    /// Under a guard, an item is made and put into the cell by an exchange, and what the cell held is released; what is due is reclaimed.
+    Exchanges,
+    /// A read of a configuration: a guard is opened, the cell loaded from, the pointer looked through, and the guard closed.
+    Reads,
+    /// Another configuration is published: under a guard, an item is made and swapped into the cell, and what it held is released; what is due is
+    /// reclaimed.
+    Publishes,
+    /// In one of 1,024 turns another configuration is published, and in each other one it is read.
+    MostlyReads,
+}
+
 /// What a participant of a domain does in each turn.
 #[derive(Clone, Copy, Debug, PartialEq, Eq)]
 pub enum Task {
@@ -35,6 +51,11 @@ pub enum Task {
     Changes,
     /// A shared owner is cloned, and the clone released.
     Shares,
+    /// A cell is loaded from under a guard, and the pointer looked through.
+    Loads,
+    /// Under a guard, an item is made and put into a cell, and what the cell held is retired; what is due is reclaimed.
+    Swaps,
+    OfCell(CellWork),
 }
 
 /// What is done in each turn, and where.
@@ -94,6 +115,13 @@ pub fn named(word: &str) -> Option<Operation>
         "local-raw" => Some(Operation::Local(Task::Raws)),
         "local-change" => Some(Operation::Local(Task::Changes)),
         "local-share" => Some(Operation::Local(Task::Shares)),
+        "local-load" => Some(Operation::Local(Task::Loads)),
+        "local-swap" => Some(Operation::Local(Task::Swaps)),
+        "local-shared-load" => Some(Operation::Local(Task::OfCell(CellWork::Loads))),
+        "local-exchange" => Some(Operation::Local(Task::OfCell(CellWork::Exchanges))),
+        "local-config-read" => Some(Operation::Local(Task::OfCell(CellWork::Reads))),
+        "local-publish" => Some(Operation::Local(Task::OfCell(CellWork::Publishes))),
+        "local-config" => Some(Operation::Local(Task::OfCell(CellWork::MostlyReads))),
         "beside-outermost" => Some(Operation::Beside(Task::Guards(Guarding::Outermost))),
         "beside-nested" => Some(Operation::Beside(Task::Guards(Guarding::Nested))),
         "beside-accelerated" => Some(Operation::Beside(Task::Guards(Guarding::Accelerated))),
@@ -106,6 +134,13 @@ pub fn named(word: &str) -> Option<Operation>
         "beside-raw" => Some(Operation::Beside(Task::Raws)),
         "beside-change" => Some(Operation::Beside(Task::Changes)),
         "beside-share" => Some(Operation::Beside(Task::Shares)),
+        "beside-load" => Some(Operation::Beside(Task::Loads)),
+        "beside-swap" => Some(Operation::Beside(Task::Swaps)),
+        "beside-shared-load" => Some(Operation::Beside(Task::OfCell(CellWork::Loads))),
+        "beside-exchange" => Some(Operation::Beside(Task::OfCell(CellWork::Exchanges))),
+        "beside-config-read" => Some(Operation::Beside(Task::OfCell(CellWork::Reads))),
+        "beside-publish" => Some(Operation::Beside(Task::OfCell(CellWork::Publishes))),
+        "beside-config" => Some(Operation::Beside(Task::OfCell(CellWork::MostlyReads))),
         "domain-places" => Some(Operation::Places),
         _ => None,
     }

@@ -2,17 +2,18 @@
 ghost use Rattle.std.specs.Option.{ForSome};
 ghost use Rattle.std.specs.Prelude.{◌≡◌, All, IfOk};
 ghost use Rattle.sdd_space.specs.CallerId.{IsSeated};
-ghost use Rattle.sdd_space.specs.Shared.{slots_home};
-ghost use Rattle.sdd_domain.specs.Domain.{slots_in};
+ghost use Rattle.sdd_space.specs.Shared.{cells_home, slots_home};
+ghost use Rattle.sdd_domain.specs.Domain.{cells_in, slots_in};
 ghost use Rattle.sdd_domain.specs.Receipt.{Receipt as EndedCounts};
 ghost use Rattle.sdd_domain.specs.Space.{seat_of};
 
+use crate::configuration::with_cell;
 use crate::local::{clones, worked};
-use crate::operation::Task;
+use crate::operation::{CellWork, Task};
 use crate::spans::Span;
 use sdd_core::Refused;
 use sdd_domain::{Domain, Local, Receipt};
-use sdd_space::Shared;
+use sdd_space::{AtomicShared, Shared};
 use std::alloc::{AllocError, AllocFailed, Global};
 use std::fmt::Display;
 use std::sync::Wait;
@@ -110,7 +111,11 @@ pub struct Course<'a> {
     pub turns: u64,
     /// Where it is there, each participant clones this owner and releases the clone, in place of the task.
     pub common: &'a Option<Shared<u64>>,
+    /// What each participant does with the cell, where it is there, in place of the task.
+    pub work: CellWork,
+    pub cell: &'a Option<AtomicShared<u64>>,
     pub ghost home: { ForSome common.now (λ owner. slots_home owner ≡ slots_in domain.now) },
+    pub ghost cells: { ForSome cell.now (λ c. cells_home c ≡ cells_in domain.now) },
 }
 
 /// What participants leave, and when each of them worked in each round.
@@ -159,6 +164,7 @@ fn works_in_rounds<R: Wait + Clock>(
 ) -> Result<Vec<Span>, Trouble>
     requires seated { IsSeated (seat_of local.old) }
     requires home { (seat_of local.old).home.slots ≡ slots_in course.now.domain.now }
+    requires cells { (seat_of local.old).home.cells ≡ cells_in course.now.domain.now }
     ensures { (seat_of local.new ≡ seat_of local.old) × (local.new.member.own.guards ≡ local.old.member.own.guards) }
 {
     let mut spans = Vec::new(alloc);
@@ -179,17 +185,30 @@ fn works_once(
 ) -> Result<Span, Trouble>
     requires seated { IsSeated (seat_of local.old) }
     requires home { (seat_of local.old).home.slots ≡ slots_in course.now.domain.now }
+    requires cells { (seat_of local.old).home.cells ≡ cells_in course.now.domain.now }
     ensures { (seat_of local.new ≡ seat_of local.old) × (local.new.member.own.guards ≡ local.old.member.own.guards) }
 {
     let begin = nanoseconds_since(clock, course.origin)?;
-    match course.common {
-        Some(owner) => clones(local, owner, course.turns)?,
-        None => {
-            worked(local, course.task, course.turns)?;
-        }
-    }
+    does_turns(course, local)?;
     let end = nanoseconds_since(clock, course.origin)?;
     Ok(Span { begin, end })
+}
+
+/// What a participant does in one round.
+fn does_turns(course: &Course<'_>, local: &mut Local<'_, u64>) -> Result<(), Refused>
+    requires seated { IsSeated (seat_of local.old) }
+    requires home { (seat_of local.old).home.slots ≡ slots_in course.now.domain.now }
+    requires cells { (seat_of local.old).home.cells ≡ cells_in course.now.domain.now }
+    ensures { (seat_of local.new ≡ seat_of local.old) × (local.new.member.own.guards ≡ local.old.member.own.guards) }
+{
+    if let Some(owner) = course.common {
+        return clones(local, owner, course.turns);
+    }
+    match course.cell {
+        Some(cell) => with_cell(local, cell, course.work, course.turns)?,
+        None => worked(local, course.task, course.turns)?,
+    };
+    Ok(())
 }
 
 fn nanoseconds_since(clock: &impl Clock, origin: Instant) -> Result<u64, Trouble> {

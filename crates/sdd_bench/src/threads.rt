@@ -1,18 +1,18 @@
 //! What participants in several threads take for what they do at once.
 ghost use Rattle.std.specs.Prelude.{◌≡◌, All, IfOk};
-ghost use Rattle.sdd_domain.specs.Domain.{slots_in};
+ghost use Rattle.sdd_domain.specs.Domain.{cells_in, slots_in};
 ghost use Rattle.sdd_domain.specs.Receipt.{Receipt as EndedCounts};
 ghost use Rattle.sdd_space.specs.CallerId.{IsSeated};
 ghost use Rattle.sdd_domain.specs.Space.{seat_of};
 ghost use Rattle.sdd_bench.specs.Names.{name_of_timed};
 
 use crate::local::keep;
-use crate::operation::{Guarding, Task};
+use crate::operation::{CellWork, Guarding, Task};
 use crate::rounds::{Course, Findings, Meeting, Trouble, takes_part};
 use crate::spans::{Span, Tenths, median_of};
 use sdd_core::{Limits, Refused};
 use sdd_domain::{Domain, Local};
-use sdd_space::Shared;
+use sdd_space::{AtomicShared, Shared};
 use std::alloc::Global;
 use std::sync::Wait;
 use std::thread::{Threads, join};
@@ -23,7 +23,7 @@ use std::{io, thread};
 const LIMITS: Limits = Limits {
     participants: 4,
     slots: 1 << 18,
-    cells: 1,
+    cells: 4,
     jobs: 0,
     nesting: 2,
     tries: 65535,
@@ -50,15 +50,24 @@ pub enum Timed {
     CloneOwn,
     /// The same of one item for all threads.
     CloneCommon,
+    /// Under an open guard, a load from a cell that all threads have, and a look through the pointer.
+    Load,
+    /// Under a guard, an item is made and put into a cell of each thread's own, and what it held is retired; what is due is reclaimed.
+    SwapAndRetire,
+    /// All threads read one configuration, each under a guard of its own, and in one of 1,024 turns publish another one.
+    Configuration,
 }
 
-const ALL_TIMED: [Timed; 6] = [
+const ALL_TIMED: [Timed; 9] = [
     Timed::Guard,
     Timed::Nested,
     Timed::Accelerate,
     Timed::MakeAndRetire,
     Timed::CloneOwn,
     Timed::CloneCommon,
+    Timed::Load,
+    Timed::SwapAndRetire,
+    Timed::Configuration,
 ];
 
 impl Timed {
@@ -73,6 +82,9 @@ impl Timed {
             Timed::MakeAndRetire => "make-and-retire",
             Timed::CloneOwn => "clone-own",
             Timed::CloneCommon => "clone-common",
+            Timed::Load => "load",
+            Timed::SwapAndRetire => "swap-and-retire",
+            Timed::Configuration => "configuration",
         }
     }
 
@@ -83,12 +95,23 @@ impl Timed {
             Timed::Accelerate => Task::Guards(Guarding::Accelerated),
             Timed::MakeAndRetire => Task::Items,
             Timed::CloneOwn | Timed::CloneCommon => Task::Shares,
+            Timed::Load => Task::OfCell(CellWork::Loads),
+            Timed::SwapAndRetire => Task::Swaps,
+            Timed::Configuration => Task::OfCell(CellWork::MostlyReads),
+        }
+    }
+
+    /// What is done with a cell that all threads have.
+    fn work(self) -> CellWork {
+        match self {
+            Timed::Load => CellWork::Loads,
+            _ => CellWork::MostlyReads,
         }
     }
 
     fn limits(self) -> Limits {
         match self {
-            Timed::CloneCommon => FOR_ONE_MORE,
+            Timed::CloneCommon | Timed::Load | Timed::Configuration => FOR_ONE_MORE,
             _ => LIMITS,
         }
     }
@@ -102,6 +125,9 @@ impl Timed {
             Timed::MakeAndRetire => 10_000,
             Timed::CloneOwn => 50_000,
             Timed::CloneCommon => 10_000,
+            Timed::Load => 500_000,
+            Timed::SwapAndRetire => 10_000,
+            Timed::Configuration => 50_000,
         }
     }
 }
@@ -189,9 +215,14 @@ fn time_of<R: Threads + Wait + Clock + Sync>(
         task: timed.task(),
         turns,
         common: &None,
+        work: timed.work(),
+        cell: &None,
     };
     let found = match timed {
-        Timed::CloneCommon => shares_one(rt, alloc, crowd, &course),
+        Timed::CloneCommon => shares_one(rt, alloc, crowd, &course, Common::Item),
+        Timed::Load | Timed::Configuration => {
+            shares_one(rt, alloc, crowd, &course, Common::Cell)
+        }
         _ => runs(rt, alloc, crowd, &course),
     };
     match found {
@@ -206,17 +237,30 @@ fn time_of<R: Threads + Wait + Clock + Sync>(
     }
 }
 
-/// All threads run the course with an owner of one item, which a participant more makes and retires.
+/// What all threads have.
+#[derive(Clone, Copy, Debug, PartialEq, Eq)]
+enum Common {
+    /// An owner of one item.
+    Item,
+    /// A cell that holds one.
+    Cell,
+}
+
+/// All threads run the course with what a participant more makes and lets go.
 fn shares_one<R: Threads + Wait + Clock + Sync>(
     rt: &R,
     alloc: Global,
     crowd: Crowd,
     course: &Course<'_>,
+    common: Common,
 ) -> Result<Findings, Trouble>
     ensures { IfOk result (λ found. All (λ (r : EndedCounts). r.home ≡ slots_in course.now.domain.now) found.receipts.items) }
 {
     let mut local = Local::register(course.domain)?;
-    let found = runs_with_one(rt, alloc, crowd, course, &mut local);
+    let found = match common {
+        Common::Item => runs_with_one(rt, alloc, crowd, course, &mut local),
+        Common::Cell => runs_with_cell(rt, alloc, crowd, course, &mut local),
+    };
     match local.end() {
         Ok(receipt) => {
             let mut found = found?;
@@ -253,10 +297,48 @@ fn runs_with_one<R: Threads + Wait + Clock + Sync>(
         task: course.task,
         turns: course.turns,
         common: &common,
+        work: course.work,
+        cell: &None,
     };
     let found = runs(rt, alloc, crowd, &course);
     if let Some(owner) = common {
         let _ = owner.release(local);
+    }
+    found
+}
+
+/// The same with a cell that all have.
+fn runs_with_cell<R: Threads + Wait + Clock + Sync>(
+    rt: &R,
+    alloc: Global,
+    crowd: Crowd,
+    course: &Course<'_>,
+    local: &mut Local<'_, u64>,
+) -> Result<Findings, Trouble>
+    requires seated { IsSeated (seat_of local.old) }
+    requires home { (seat_of local.old).home.cells ≡ cells_in course.now.domain.now }
+    ensures found { IfOk result (λ found. All (λ (r : EndedCounts). r.home ≡ slots_in course.now.domain.now) found.receipts.items) }
+    ensures seat { seat_of local.new ≡ seat_of local.old }
+    ensures guards { local.new.member.own.guards ≡ local.old.member.own.guards }
+{
+    let made = match AtomicShared::new(1, local) {
+        Ok(made) => made,
+        Err((_value, refused)) => return Err(Trouble::Refused(refused)),
+    };
+    let cell = Some(made);
+    let course = Course {
+        domain: course.domain,
+        meeting: course.meeting,
+        origin: course.origin,
+        task: course.task,
+        turns: course.turns,
+        common: &None,
+        work: course.work,
+        cell: &cell,
+    };
+    let found = runs(rt, alloc, crowd, &course);
+    if let Some(made) = cell {
+        made.close(local);
     }
     found
 }

@@ -1,4 +1,5 @@
-//! Worked examples of shared owners, cells, pointers and private collectors over a world, as tests, and of values that hold owners and cells.
+//! Worked examples of shared owners, cells, pointers and private collectors, as tests, and of values that hold owners and cells: over a world, and over a
+//! domain, with one participant and with two, what it has.
 #![tactic(auto)]
 
 #[cfg(test)]
@@ -7,6 +8,8 @@ mod cells;
 mod collectors;
 #[cfg(test)]
 mod example;
+#[cfg(test)]
+mod first_example;
 #[cfg(test)]
 mod full_tables;
 #[cfg(test)]

@@ -1,22 +1,51 @@
 //! Owners that may have others beside them, pointers to their items, and cells that hold such owners.
-use crate::example::{AMPLE, Example, Setting};
+use crate::example::{AMPLE, CommonExample, Example, Setting, in_each_space};
 use crate::steps::{close, opened, seen, shared};
 use sdd_core::Tag;
-use sdd_space::Space;
+use sdd_participants::Idle;
+use sdd_space::{
+    Cells, Deferrals, Guards, InPlaceItems, Items, Look, RawItems, SharedOwners, Space,
+};
 use std::process::Abort;
 
 /// The last owner is told, and a guard sees the value still.
-struct Releases;
+struct LetsGo;
 
-impl Example for Releases {
-    fn run<R: Abort, S: Space<u64>>(rt: &R, s: &mut S) {
+impl CommonExample for LetsGo {
+    fn run<
+        R: Abort,
+        S: Look<u64>
+            + Guards<u64>
+            + Items<u64>
+            + SharedOwners<u64>
+            + InPlaceItems<u64>
+            + RawItems<u64>
+            + Cells<u64>
+            + Deferrals<u64, Job = Idle>,
+    >(rt: &R, s: &mut S) {
         let owner = shared::made_by_closure(rt, s, 47);
+        let guard = opened(rt, s);
+        let ptr = owner.get_guarded_ptr(&guard, s);
+        let other = shared::copied(rt, s, &owner);
+        assert!(rt; *owner.get_guarded_ref(&guard, s) == 47);
+        assert!(rt; !shared::release(s, owner));
+        assert!(rt; shared::release(s, other));
+        assert!(rt; seen(s, ptr) == Some(47));
+        close(s, guard);
+    }
+}
+
+/// Of a pointer one owner more is had for as long as there is one.
+struct Upgrades;
+
+impl Example for Upgrades {
+    fn run<R: Abort, S: Space<u64>>(rt: &R, s: &mut S) {
+        let owner = shared::made(rt, s, 47);
         let guard = opened(rt, s);
         let ptr = owner.get_guarded_ptr(&guard, s);
         let other = shared::copied(rt, s, &owner);
         assert!(rt; shared::upgraded(rt, s, ptr) == Some(false));
         assert!(rt; shared::converted(rt, s, ptr) == Some(false));
-        assert!(rt; *owner.get_guarded_ref(&guard, s) == 47);
         assert!(rt; !shared::release(s, owner));
         assert!(rt; shared::release(s, other));
         assert!(rt; shared::upgraded(rt, s, ptr) == None);
@@ -26,28 +55,104 @@ impl Example for Releases {
     }
 }
 
-/// A copy of a cell has its tag. It is left with nothing, which the weak exchange gives back.
+/// A copy of a cell has its tag, and holds an owner more of its item, or nothing as it does.
 struct Copies;
 
-impl Example for Copies {
-    fn run<R: Abort, S: Space<u64>>(rt: &R, s: &mut S) {
+impl CommonExample for Copies {
+    fn run<
+        R: Abort,
+        S: Look<u64>
+            + Guards<u64>
+            + Items<u64>
+            + SharedOwners<u64>
+            + InPlaceItems<u64>
+            + RawItems<u64>
+            + Cells<u64>
+            + Deferrals<u64, Job = Idle>,
+    >(rt: &R, s: &mut S) {
         let cell = shared::cell(rt, s, 7);
-        assert!(rt; shared::emptied_weakly(rt, s, &cell, Tag::Second) == Some(7));
+        assert!(rt; shared::swapped(rt, s, &cell, 8, Tag::Second) == (Some(7), Tag::None));
         let copy = shared::copied_cell(rt, s, &cell);
-        assert_eq!(rt; (copy.is_null(s), copy.tag(s)), (true, Tag::Second));
+        assert!(rt; shared::read(rt, s, &copy) == (Some(8), Tag::Second));
+        assert!(rt; shared::emptied_weakly(rt, s, &cell, Tag::First) == Some(8));
+        assert!(rt; shared::read(rt, s, &copy) == (Some(8), Tag::Second));
+        let empty = shared::copied_cell(rt, s, &cell);
+        assert!(rt; (empty.is_null(s), empty.tag(s)) == (true, Tag::First));
         shared::close_cell(s, cell);
-        shared::close_cell(s, copy);
+        shared::close_cell(s, empty);
+        let owner = shared::into_shared(s, copy).expect(rt, "the copy holds one");
+        assert!(rt; *owner.get(s) == 8);
+        assert!(rt; shared::release(s, owner));
+    }
+}
+
+/// An exchange with owners that may have others.
+struct Exchanges;
+
+impl CommonExample for Exchanges {
+    fn run<
+        R: Abort,
+        S: Look<u64>
+            + Guards<u64>
+            + Items<u64>
+            + SharedOwners<u64>
+            + InPlaceItems<u64>
+            + RawItems<u64>
+            + Cells<u64>
+            + Deferrals<u64, Job = Idle>,
+    >(rt: &R, s: &mut S) {
+        let cell = shared::cell(rt, s, 17);
+        let guard = opened(rt, s);
+        let mut ptr = shared::load(s, &cell, &guard);
+        assert!(rt; shared::tagged(rt, s, &cell, Tag::Both));
+        assert!(rt;
+            shared::exchanged(rt, s, &cell, ptr, 18, Tag::First, &guard)
+                == Err((Some(18), Some(17), Tag::Both))
+        );
+        assert!(rt; ptr.set_tag(Tag::Both) == Tag::None);
+        assert!(rt;
+            shared::exchanged(rt, s, &cell, ptr, 18, Tag::First, &guard)
+                == Ok((Some(17), Some(18), Tag::First))
+        );
+        assert!(rt; seen(s, ptr) == Some(17));
+        close(s, guard);
+        shared::close_cell(s, cell);
     }
 }
 
 #[test]
-fn the_last_owner_is_told_and_a_copy_of_a_cell_has_its_tag(rt: HostRuntime) {
-    let mut setting: Setting<u64> = Setting::new(&rt, AMPLE);
-    setting.run::<Releases>(&rt);
-    setting.run::<Copies>(&rt);
-    setting.shows(
+fn the_last_owner_is_told(rt: HostRuntime) {
+    in_each_space::<LetsGo, _>(
         &rt,
-        &[(0, 0, true), (1, 0, true), (2, 0, true), (3, 2, false)],
+        AMPLE,
+        &[(0, 0, true), (1, 0, true), (2, 0, true), (3, 1, false)],
+        0,
     );
+}
+
+#[test]
+fn a_copy_of_a_cell_has_its_tag(rt: HostRuntime) {
+    in_each_space::<Copies, _>(
+        &rt,
+        AMPLE,
+        &[(0, 0, true), (1, 0, true), (2, 0, true), (3, 2, false)],
+        0,
+    );
+}
+
+#[test]
+fn an_exchange_of_shared_owners_compares_the_item_and_the_tag(rt: HostRuntime) {
+    in_each_space::<Exchanges, _>(
+        &rt,
+        AMPLE,
+        &[(0, 0, true), (1, 0, true), (2, 0, true), (3, 3, false)],
+        0,
+    );
+}
+
+#[test]
+fn a_pointer_gives_an_owner_while_there_is_one(rt: HostRuntime) {
+    let mut setting: Setting<u64> = Setting::new(&rt, AMPLE);
+    setting.run::<Upgrades>(&rt);
     setting.closed(&rt, 0);
 }

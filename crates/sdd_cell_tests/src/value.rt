@@ -3,8 +3,10 @@ use sdd_space::{AtomicOwned, AtomicRaw, AtomicShared, Giver, Item, Owned, Shared
 /// A number, or what holds other items.
 pub enum Value {
     Number(u64),
-    /// The owner of an item.
+    /// The only owner of an item.
     Of(Owned<Value>),
+    /// An owner of an item that may have others.
+    Beside(Shared<Value>),
     /// One of each kind of owner, and of cell.
     Each(Owned<Value>, Shared<Value>, AtomicOwned<Value>, AtomicShared<Value>, AtomicRaw<Value>),
 }
@@ -18,6 +20,7 @@ impl Item<Value> for Value {
         match self {
             Value::Number(_) => {}
             Value::Of(owner) => giver.owned(owner),
+            Value::Beside(owner) => giver.shared(owner),
             Value::Each(owned, shared, owned_cell, shared_cell, raw_cell) => {
                 giver.owned(owned);
                 giver.shared(shared);

@@ -1,9 +1,9 @@
 -- A domain as its callers see it
 use Rattle.sdd_core.specs.declared.limits.Limits.{Limits}
 use Rattle.atomic_table.specs.Seated.{TableId}
-use Rattle.std.specs.Prelude.{ℕ}
+use Rattle.std.specs.Prelude.{ℕ, ◌^◌}
 use Rattle.sdd_rights.specs.Units as token
-use Rattle.sdd_rights.specs.Right.{home_of_table}
+use Rattle.sdd_rights.specs.Right.{home_of_table, cells_of_table}
 use Rattle.sdd_atomics.specs.DomainTable.{id_of}
 use Rattle.sdd_atomics.specs.DomainTable as board
 use Rattle.sdd_domain.specs.declared.domain.Domain.{Domain}
@@ -22,3 +22,7 @@ book_of d = board.book_of d.board
 -- where its slots are numbered
 abbrev pub slots_in : {T : Type 0} → Domain T → token.GhostName
 slots_in d = home_of_table (home_of d) (book_of d) (limits_of d).slots
+
+-- where its cells are numbered
+abbrev pub cells_in : {T : Type 0} → Domain T → token.GhostName
+cells_in d = cells_of_table (home_of d) (2 ^ 24)

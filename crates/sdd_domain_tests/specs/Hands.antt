@@ -4,6 +4,8 @@ use Rattle.sdd_rights.specs.Units as token
 use Rattle.sdd_space.specs.Guard.{ReaderId, reader_of}
 use Rattle.sdd_space.specs.Owned as owned
 use Rattle.sdd_space.specs.Shared as shared
+use Rattle.sdd_space.specs.declared.atomic_owned.AtomicOwned.{AtomicOwned}
+use Rattle.sdd_space.specs.declared.atomic_shared.AtomicShared.{AtomicShared}
 use Rattle.sdd_space.specs.declared.guard.Guard.{Guard}
 use Rattle.sdd_space.specs.declared.owned.Owned.{Owned}
 use Rattle.sdd_space.specs.declared.shared.Shared.{Shared}
@@ -15,6 +17,13 @@ module _ {T : Type 0} where
 
   abbrev pub AreSharedIn : token.GhostName → List (Shared T) → Type 0
   AreSharedIn home = All (λ o. shared.slots_home o ≡ home)
+
+  -- the cells are numbered there
+  abbrev pub AreOwnedCellsIn : token.GhostName → List (AtomicOwned T) → Type 0
+  AreOwnedCellsIn home = All (λ c. owned.cells_home c ≡ home)
+
+  abbrev pub AreSharedCellsIn : token.GhostName → List (AtomicShared T) → Type 0
+  AreSharedCellsIn home = All (λ c. shared.cells_home c ≡ home)
 
 -- the guards are this reader's
 abbrev pub AreGuardsOf : ReaderId → List Guard → Type 0

@@ -2,3 +2,4 @@ pub mod Slots
 pub mod Held
 pub mod Hands
 pub mod Four
+pub mod FewCells

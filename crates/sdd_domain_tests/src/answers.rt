@@ -1,5 +1,5 @@
 //! What calls answer, as it is compared.
-use sdd_core::Refused;
+use sdd_core::{Refused, Tag};
 use std::process::Abort;
 
 /// What one call answered.
@@ -10,6 +10,10 @@ pub enum Answer {
     Done,
     Told(bool),
     Number(u64),
+    /// What a cell holds, and its tag.
+    Held(Option<u64>, Tag),
+    /// Whether a cell was exchanged, what came out of it, or back, what it holds now, and its tag.
+    Exchanged(bool, Option<u64>, Option<u64>, Tag),
     Refused(Refused),
 }
 
@@ -34,4 +38,14 @@ impl Answer {
 /// One answer more.
 pub fn note(rt: &impl Abort, answers: &mut Vec<Answer>, answer: Answer) {
     answers.push(answer).expect(rt, "there is memory");
+}
+
+/// A tag by a number that was drawn.
+pub fn tag_of(draw: u64) -> Tag {
+    match draw % 4 {
+        0 => Tag::None,
+        1 => Tag::First,
+        2 => Tag::Second,
+        _ => Tag::Both,
+    }
 }

@@ -7,7 +7,7 @@ use crate::steps::new_domain;
 use crate::with_jobs::{Adds, Total, closed, ended, number, registered};
 use sdd_core::Limits;
 use sdd_participants::Tally;
-use sdd_space::{Deferrals, Guards, InPlaceItems, Items, Look, RawItems, SharedOwners};
+use sdd_space::{Cells, Deferrals, Guards, InPlaceItems, Items, Look, RawItems, SharedOwners};
 use sdd_world::World;
 use std::process::Abort;
 use std::sync::atomic::Ordering;
@@ -21,6 +21,7 @@ pub trait Plays {
             + SharedOwners<u64>
             + InPlaceItems<u64>
             + RawItems<u64>
+            + Cells<u64>
             + Guards<u64>
             + Deferrals<u64, Job = Adds>,
     >(&self, rt: &R, s: &mut S, total: &Total, answers: &mut Vec<Answer>)

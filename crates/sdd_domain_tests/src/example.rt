@@ -14,7 +14,8 @@ use crate::with_jobs::{Adds, Total, adding};
 use sdd_core::{Limits, Refused};
 use sdd_participants::Tally;
 use sdd_space::{
-    Deferrals, Guard, Guards, InPlaceItems, Items, Look, Owned, RawItems, RawPtr, SharedOwners,
+    Cells, Deferrals, Guard, Guards, InPlaceItems, Items, Look, Owned, RawItems, RawPtr,
+    SharedOwners,
 };
 use std::process::Abort;
 use std::sync::atomic::Ordering;
@@ -190,6 +191,7 @@ impl Plays for Example {
             + SharedOwners<u64>
             + InPlaceItems<u64>
             + RawItems<u64>
+            + Cells<u64>
             + Guards<u64>
             + Deferrals<u64, Job = Adds>,
     >(&self, rt: &R, s: &mut S, total: &Total, answers: &mut Vec<Answer>) {

@@ -1,18 +1,20 @@
-//! What a participant has that makes calls as they come: owners, pointers to what it put out, and guards.
+//! What a participant has that makes calls as they come: owners, cells, pointers to what it put out, and guards.
 ghost use Rattle.std.specs.Prelude.{◌≡◌, IfSome};
 ghost use Rattle.sdd_rights.specs.Units as token;
 ghost use Rattle.sdd_space.specs.Guard.{ReaderId, reader_of};
 ghost use Rattle.sdd_space.specs.Owned as owned;
 ghost use Rattle.sdd_space.specs.Shared as shared;
-ghost use Rattle.sdd_domain_tests.specs.Hands.{AreOwnedIn, AreSharedIn, AreGuardsOf};
+ghost use Rattle.sdd_domain_tests.specs.Hands.{AreOwnedIn, AreOwnedCellsIn, AreSharedIn, AreSharedCellsIn, AreGuardsOf};
 
-use sdd_space::{Guard, Owned, RawPtr, Shared};
+use sdd_space::{AtomicOwned, AtomicShared, Guard, Owned, RawPtr, Shared};
 use std::alloc::Global;
 use std::process::Abort;
 
 pub struct Hand {
     pub owned: Vec<Owned<u64>>,
     pub shared: Vec<Shared<u64>>,
+    pub owned_cells: Vec<AtomicOwned<u64>>,
+    pub shared_cells: Vec<AtomicShared<u64>>,
     /// What is out as raw, and nobody has.
     pub out: Vec<RawPtr<u64>>,
     pub guards: Vec<Guard>,
@@ -22,11 +24,15 @@ impl Hand {
     pub fn new(alloc: Global) -> Hand
         ensures owned { (home : token.GhostName) → AreOwnedIn home result.owned.items }
         ensures shared { (home : token.GhostName) → AreSharedIn home result.shared.items }
+        ensures owned_cells { (home : token.GhostName) → AreOwnedCellsIn home result.owned_cells.items }
+        ensures shared_cells { (home : token.GhostName) → AreSharedCellsIn home result.shared_cells.items }
         ensures guards { (reader : ReaderId) → AreGuardsOf reader result.guards.items }
     {
         Hand {
             owned: Vec::new(alloc),
             shared: Vec::new(alloc),
+            owned_cells: Vec::new(alloc),
+            shared_cells: Vec::new(alloc),
             out: Vec::new(alloc),
             guards: Vec::new(alloc),
         }
@@ -68,6 +74,55 @@ pub fn keep_shared(rt: &impl Abort, owners: &mut Vec<Shared<u64>>, owner: Shared
     ensures { (home : token.GhostName) → AreSharedIn home owners.old.items → shared.slots_home owner ≡ home → AreSharedIn home owners.new.items }
 {
     match owners.push(owner) {
+        Ok(()) => {}
+        Err(_refused) => panic!(rt; "there is memory"),
+    }
+}
+
+/// Takes some cell of an owner that is alone.
+pub fn take_owned_cell(cells: &mut Vec<AtomicOwned<u64>>, pick: usize) -> Option<AtomicOwned<u64>>
+    ensures { (home : token.GhostName) → AreOwnedCellsIn home cells.old.items →
+        AreOwnedCellsIn home cells.new.items × IfSome result (λ cell. owned.cells_home cell ≡ home) }
+{
+    if cells.is_empty() {
+        return None;
+    }
+    let place = pick % cells.len();
+    Some(cells.remove(place))
+}
+
+pub fn keep_owned_cell(rt: &impl Abort, cells: &mut Vec<AtomicOwned<u64>>, cell: AtomicOwned<u64>)
+    ensures { (home : token.GhostName) → AreOwnedCellsIn home cells.old.items → owned.cells_home cell ≡ home → AreOwnedCellsIn home cells.new.items }
+{
+    match cells.push(cell) {
+        Ok(()) => {}
+        Err(_refused) => panic!(rt; "there is memory"),
+    }
+}
+
+/// Takes some cell of an owner that may have others beside it.
+pub fn take_shared_cell(
+    cells: &mut Vec<AtomicShared<u64>>,
+    pick: usize,
+) -> Option<AtomicShared<u64>>
+    ensures { (home : token.GhostName) → AreSharedCellsIn home cells.old.items →
+        AreSharedCellsIn home cells.new.items × IfSome result (λ cell. shared.cells_home cell ≡ home) }
+{
+    if cells.is_empty() {
+        return None;
+    }
+    let place = pick % cells.len();
+    Some(cells.remove(place))
+}
+
+pub fn keep_shared_cell(
+    rt: &impl Abort,
+    cells: &mut Vec<AtomicShared<u64>>,
+    cell: AtomicShared<u64>,
+)
+    ensures { (home : token.GhostName) → AreSharedCellsIn home cells.old.items → shared.cells_home cell ≡ home → AreSharedCellsIn home cells.new.items }
+{
+    match cells.push(cell) {
         Ok(()) => {}
         Err(_refused) => panic!(rt; "there is memory"),
     }

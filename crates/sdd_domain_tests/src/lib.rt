@@ -7,6 +7,10 @@ mod answers;
 #[cfg(test)]
 mod both_spaces;
 #[cfg(test)]
+mod cell_crowd;
+#[cfg(test)]
+mod cell_crowd_calls;
+#[cfg(test)]
 mod counted;
 #[cfg(test)]
 mod counted_owners;
@@ -20,6 +24,7 @@ mod domains;
 mod drops;
 #[cfg(test)]
 mod example;
+mod few_cells;
 mod four;
 #[cfg(test)]
 mod generator;
@@ -41,9 +46,13 @@ mod node;
 #[cfg(test)]
 mod owned_calls;
 #[cfg(test)]
+mod owned_cell_calls;
+#[cfg(test)]
 mod owners;
 #[cfg(test)]
 mod places;
+#[cfg(test)]
+mod published;
 #[cfg(test)]
 mod random_calls;
 #[cfg(test)]
@@ -56,6 +65,8 @@ mod refused_closes;
 mod several_owners;
 #[cfg(test)]
 mod shared_calls;
+#[cfg(test)]
+mod shared_cell_calls;
 #[cfg(test)]
 mod sharing;
 #[cfg(test)]

@@ -1,7 +1,7 @@
 //! Lists of calls as they come, which a turn at a world and the only participant of a domain answer alike.
 ghost use Rattle.std.specs.Prelude.{◌≡◌};
 ghost use Rattle.sdd_space.specs.CallerId.{IsSeated};
-ghost use Rattle.sdd_domain_tests.specs.Hands.{AreOwnedIn, AreSharedIn, AreGuardsOf};
+ghost use Rattle.sdd_domain_tests.specs.Hands.{AreOwnedIn, AreOwnedCellsIn, AreSharedIn, AreSharedCellsIn, AreGuardsOf};
 
 use crate::answers::{Answer, note};
 use crate::both_spaces::{Plays, compared};
@@ -9,11 +9,11 @@ use crate::generator::Generator;
 use crate::hand::Hand;
 use crate::steps::ONE_SLOT;
 use crate::with_jobs::{Adds, Total};
-use crate::{guard_calls, owned_calls, shared_calls};
+use crate::{guard_calls, owned_calls, owned_cell_calls, shared_calls, shared_cell_calls};
 use sdd_core::{Limits, Refused};
 use sdd_space::{
-    Deferrals, Guard, Guards, InPlaceItems, Items, Look, Owned, RawItems, RawPtr, Shared,
-    SharedOwners,
+    AtomicOwned, AtomicShared, Cells, Deferrals, Guard, Guards, InPlaceItems, Items, Look, Owned,
+    RawItems, RawPtr, Shared, SharedOwners,
 };
 use std::process::Abort;
 use std::sync::atomic::Ordering;
@@ -27,6 +27,7 @@ const CALLS: u64 = 100;
 /// So few of everything that each refusal comes.
 const FEW: Limits = Limits {
     slots: 3,
+    cells: 3,
     jobs: 2,
     ..ONE_SLOT
 };
@@ -75,6 +76,33 @@ const SHARED_CALLS: [SharedCall; 8] = [
     SharedCall::Release,
     SharedCall::Change,
     SharedCall::Drop,
+];
+
+#[derive(Clone, Copy)]
+enum CellCall {
+    Make,
+    MakeNull,
+    TakeIn,
+    Look,
+    Swap,
+    Exchange,
+    Tag,
+    Clone,
+    ComeOut,
+    Close,
+}
+
+const CELL_CALLS: [CellCall; 10] = [
+    CellCall::Make,
+    CellCall::MakeNull,
+    CellCall::TakeIn,
+    CellCall::Look,
+    CellCall::Swap,
+    CellCall::Exchange,
+    CellCall::Tag,
+    CellCall::Clone,
+    CellCall::ComeOut,
+    CellCall::Close,
 ];
 
 #[derive(Clone, Copy)]
@@ -211,6 +239,78 @@ fn raw_call<S: Look<u64> + RawItems<u64>>(
     }
 }
 
+fn owned_cell_call<S: Look<u64> + Items<u64> + Cells<u64>>(
+    rt: &impl Abort,
+    s: &mut S,
+    cells: &mut Vec<AtomicOwned<u64>>,
+    owners: &mut Vec<Owned<u64>>,
+    guards: &mut Vec<Guard>,
+    drawn: &mut Generator,
+) -> Answer
+    requires seated { IsSeated (S.seat s.old) }
+    requires cells { AreOwnedCellsIn (S.seat s.old).home.cells cells.old.items }
+    requires owners { AreOwnedIn (S.seat s.old).home.slots owners.old.items }
+    requires guards { AreGuardsOf (S.seat s.old).reader guards.old.items }
+    ensures seat { S.seat s.new ≡ S.seat s.old }
+    ensures cells { AreOwnedCellsIn (S.seat s.old).home.cells cells.new.items }
+    ensures owners { AreOwnedIn (S.seat s.old).home.slots owners.new.items }
+    ensures guards { AreGuardsOf (S.seat s.old).reader guards.new.items }
+{
+    let call = CELL_CALLS[drawn.below(10) as usize];
+    let value = drawn.below(1000);
+    let pick = value as usize;
+    let draw = drawn.below(16);
+    match call {
+        CellCall::Make => owned_cell_calls::makes(rt, s, cells, value),
+        CellCall::MakeNull => owned_cell_calls::makes_null(rt, s, cells),
+        CellCall::TakeIn => owned_cell_calls::takes_in(rt, s, cells, owners, pick),
+        CellCall::Look => owned_cell_calls::looks(rt, s, cells, guards, pick),
+        CellCall::Swap => owned_cell_calls::swaps(rt, s, cells, owners, pick, draw),
+        CellCall::Exchange => owned_cell_calls::exchanges(rt, s, cells, owners, guards, pick, draw),
+        CellCall::Tag => owned_cell_calls::tags(rt, s, cells, pick, draw),
+        CellCall::Clone => Answer::Nothing,
+        CellCall::ComeOut => owned_cell_calls::comes_out(rt, s, cells, owners, pick),
+        CellCall::Close => owned_cell_calls::closes(s, cells, pick),
+    }
+}
+
+fn shared_cell_call<S: Look<u64> + Items<u64> + Cells<u64>>(
+    rt: &impl Abort,
+    s: &mut S,
+    cells: &mut Vec<AtomicShared<u64>>,
+    owners: &mut Vec<Shared<u64>>,
+    guards: &mut Vec<Guard>,
+    drawn: &mut Generator,
+) -> Answer
+    requires seated { IsSeated (S.seat s.old) }
+    requires cells { AreSharedCellsIn (S.seat s.old).home.cells cells.old.items }
+    requires owners { AreSharedIn (S.seat s.old).home.slots owners.old.items }
+    requires guards { AreGuardsOf (S.seat s.old).reader guards.old.items }
+    ensures seat { S.seat s.new ≡ S.seat s.old }
+    ensures cells { AreSharedCellsIn (S.seat s.old).home.cells cells.new.items }
+    ensures owners { AreSharedIn (S.seat s.old).home.slots owners.new.items }
+    ensures guards { AreGuardsOf (S.seat s.old).reader guards.new.items }
+{
+    let call = CELL_CALLS[drawn.below(10) as usize];
+    let value = drawn.below(1000);
+    let pick = value as usize;
+    let draw = drawn.below(16);
+    match call {
+        CellCall::Make => shared_cell_calls::makes(rt, s, cells, value),
+        CellCall::MakeNull => shared_cell_calls::makes_null(rt, s, cells),
+        CellCall::TakeIn => shared_cell_calls::takes_in(rt, s, cells, owners, pick),
+        CellCall::Look => shared_cell_calls::looks(rt, s, cells, guards, pick),
+        CellCall::Swap => shared_cell_calls::swaps(rt, s, cells, owners, pick, draw),
+        CellCall::Exchange => shared_cell_calls::exchanges(
+            rt, s, cells, owners, guards, pick, draw,
+        ),
+        CellCall::Tag => shared_cell_calls::tags(rt, s, cells, pick, draw),
+        CellCall::Clone => shared_cell_calls::clones(rt, s, cells, guards, pick),
+        CellCall::ComeOut => shared_cell_calls::comes_out(rt, s, cells, owners, pick),
+        CellCall::Close => shared_cell_calls::closes(s, cells, pick),
+    }
+}
+
 /// The next call, with what there is.
 pub fn call<
     S: Look<u64>
@@ -218,19 +318,24 @@ pub fn call<
         + SharedOwners<u64>
         + InPlaceItems<u64>
         + RawItems<u64>
+        + Cells<u64>
         + Guards<u64>
         + Deferrals<u64, Job = Adds>,
 >(rt: &impl Abort, s: &mut S, hand: &mut Hand, total: &Total, drawn: &mut Generator) -> Answer
     requires seated { IsSeated (S.seat s.old) }
     requires owned { AreOwnedIn (S.seat s.old).home.slots hand.old.owned.items }
     requires shared { AreSharedIn (S.seat s.old).home.slots hand.old.shared.items }
+    requires owned_cells { AreOwnedCellsIn (S.seat s.old).home.cells hand.old.owned_cells.items }
+    requires shared_cells { AreSharedCellsIn (S.seat s.old).home.cells hand.old.shared_cells.items }
     requires guards { AreGuardsOf (S.seat s.old).reader hand.old.guards.items }
     ensures seat { S.seat s.new ≡ S.seat s.old }
     ensures owned { AreOwnedIn (S.seat s.old).home.slots hand.new.owned.items }
     ensures shared { AreSharedIn (S.seat s.old).home.slots hand.new.shared.items }
+    ensures owned_cells { AreOwnedCellsIn (S.seat s.old).home.cells hand.new.owned_cells.items }
+    ensures shared_cells { AreSharedCellsIn (S.seat s.old).home.cells hand.new.shared_cells.items }
     ensures guards { AreGuardsOf (S.seat s.old).reader hand.new.guards.items }
 {
-    match drawn.below(5) {
+    match drawn.below(8) {
         0 => owned_call(rt, s, &mut hand.owned, &mut hand.guards, drawn),
         1 => shared_call(rt, s, &mut hand.shared, &mut hand.guards, drawn),
         2 => raw_call(
@@ -238,6 +343,22 @@ pub fn call<
             s,
             &mut hand.owned,
             &mut hand.out,
+            &mut hand.guards,
+            drawn,
+        ),
+        3 => owned_cell_call(
+            rt,
+            s,
+            &mut hand.owned_cells,
+            &mut hand.owned,
+            &mut hand.guards,
+            drawn,
+        ),
+        4 => shared_cell_call(
+            rt,
+            s,
+            &mut hand.shared_cells,
+            &mut hand.shared,
             &mut hand.guards,
             drawn,
         ),
@@ -278,6 +399,28 @@ pub fn release_all<S: Items<u64>>(s: &mut S, mut owners: Vec<Shared<u64>>)
     owners.destroy_empty();
 }
 
+pub fn close_owned_cells<S: Items<u64> + Cells<u64>>(s: &mut S, mut cells: Vec<AtomicOwned<u64>>)
+    requires seated { IsSeated (S.seat s.old) }
+    requires cells { AreOwnedCellsIn (S.seat s.old).home.cells cells.items }
+    ensures { S.seat s.new ≡ S.seat s.old }
+{
+    while let Some(cell) = cells.pop() {
+        cell.close(s);
+    }
+    cells.destroy_empty();
+}
+
+pub fn close_shared_cells<S: Items<u64> + Cells<u64>>(s: &mut S, mut cells: Vec<AtomicShared<u64>>)
+    requires seated { IsSeated (S.seat s.old) }
+    requires cells { AreSharedCellsIn (S.seat s.old).home.cells cells.items }
+    ensures { S.seat s.new ≡ S.seat s.old }
+{
+    while let Some(cell) = cells.pop() {
+        cell.close(s);
+    }
+    cells.destroy_empty();
+}
+
 pub fn take_all_back<S: Items<u64> + RawItems<u64>>(s: &mut S, out: Vec<RawPtr<u64>>)
     requires { IsSeated (S.seat s.old) }
     ensures { S.seat s.new ≡ S.seat s.old }
@@ -303,6 +446,7 @@ impl Plays for Drawn {
             + SharedOwners<u64>
             + InPlaceItems<u64>
             + RawItems<u64>
+            + Cells<u64>
             + Guards<u64>
             + Deferrals<u64, Job = Adds>,
     >(&self, rt: &R, s: &mut S, total: &Total, answers: &mut Vec<Answer>) {
@@ -316,10 +460,14 @@ impl Plays for Drawn {
         let Hand {
             owned,
             shared,
+            owned_cells,
+            shared_cells,
             out,
             guards,
         } = hand;
         close_all(s, guards);
+        close_owned_cells(s, owned_cells);
+        close_shared_cells(s, shared_cells);
         retire_all(s, owned);
         release_all(s, shared);
         take_all_back(s, out);
@@ -337,10 +485,10 @@ fn has_met(answers: &[Answer], refused: Refused) -> bool {
 }
 
 /// Plays lists from this seed on, and answers how many of them met each refusal.
-fn lists_that_meet(rt: &(impl Abort + AllocGlobal), refusals: &[Refused; 5], met: &mut [u64; 5]) {
+fn lists_that_meet(rt: &(impl Abort + AllocGlobal), refusals: &[Refused; 6], met: &mut [u64; 6]) {
     for seed in 0..LISTS {
         let answers = compared(rt, &Drawn { seed }, FEW).answers;
-        for place in 0..5usize {
+        for place in 0..6usize {
             if has_met(&answers, refusals[place]) {
                 met[place] = met[place].saturating_add(1);
             }
@@ -352,12 +500,13 @@ fn lists_that_meet(rt: &(impl Abort + AllocGlobal), refusals: &[Refused; 5], met
 fn a_lone_participant_answers_drawn_calls_as_a_turn_does(rt: HostRuntime) {
     let refusals = [
         Refused::NoSlot,
+        Refused::NoCell,
         Refused::NoJob,
         Refused::TooManyGuards,
         Refused::GuardOpen,
         Refused::NotAlone,
     ];
-    let mut met = [0; 5];
+    let mut met = [0; 6];
     lists_that_meet(&rt, &refusals, &mut met);
     for count in met {
         assert!(rt; count > 0, "{met:?}");

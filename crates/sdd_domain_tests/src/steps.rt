@@ -5,7 +5,7 @@ ghost use Rattle.sdd_space.specs.Guard.{reader_of};
 ghost use Rattle.sdd_space.specs.Owned as owned;
 ghost use Rattle.sdd_domain.specs.Space.{seat_of, slots_home};
 ghost use Rattle.sdd_domain.specs.Receipt.{AddsUp};
-ghost use Rattle.sdd_domain.specs.Domain.{slots_in};
+ghost use Rattle.sdd_domain.specs.Domain.{cells_in, slots_in};
 ghost use Rattle.sdd_domain_tests.specs.Slots.{IsReceiptIn, AreReceiptsIn, AreOfAll};
 
 use sdd_core::{Limits, Refused};
@@ -37,6 +37,7 @@ pub fn new_domain<T: Item<T>>(rt: &(impl Abort + AllocGlobal), limits: Limits) -
 pub fn registered<'d, T: Item<T>>(rt: &impl Abort, domain: &'d Domain<T>) -> Local<'d, T>
     ensures seated { IsSeated (seat_of result) }
     ensures home { slots_home result ≡ slots_in domain.now }
+    ensures cells { (seat_of result).home.cells ≡ cells_in domain.now }
 {
     Local::register(domain).expect(rt, "a place is free")
 }

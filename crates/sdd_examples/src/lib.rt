@@ -14,6 +14,7 @@ pub mod nodes;
 pub mod owners;
 pub mod programs;
 pub mod seen_value;
+pub mod shared_config;
 pub mod shared_looks;
 pub mod slot_rights;
 pub mod small_space;

@@ -8,7 +8,8 @@ ghost use Rattle.sdd_space.specs.CallerId.{IsSeated};
 use crate::steps::{Read, close, opened, seen};
 use sdd_core::{Refused, Tag};
 use sdd_space::{
-    AtomicOwned, Cells, Guard, InPlaceItems, Item, Items, Look, Owned, Ptr, RawItems, RawPtr, Space,
+    AtomicOwned, Cells, Guard, Guards, InPlaceItems, Item, Items, Look, Owned, Ptr, RawItems,
+    RawPtr,
 };
 use std::process::Abort;
 
@@ -129,8 +130,25 @@ pub fn exchanged<'g, S: Look<u64> + Items<u64> + Cells<u64>>(
     }
 }
 
+/// What the cell holds, and its tag, under a guard of its own.
+pub fn read<S: Look<u64> + Guards<u64> + Cells<u64>>(
+    rt: &impl Abort,
+    s: &mut S,
+    cell: &AtomicOwned<u64>,
+) -> (Option<u64>, Tag)
+    requires seated { IsSeated (S.seat s.old) }
+    requires home { cells_home cell.now ≡ (S.seat s.old).home.cells }
+    ensures seat { S.seat s.new ≡ S.seat s.old }
+{
+    let guard = opened(rt, s);
+    let ptr = load(s, cell, &guard);
+    let found = (seen(s, ptr), ptr.tag());
+    close(s, guard);
+    found
+}
+
 /// The cell holds nothing, with this tag. The number that it held, whose item waits from now on.
-pub fn emptied_weakly<S: Space<u64>>(
+pub fn emptied_weakly<S: Look<u64> + Guards<u64> + Items<u64> + Cells<u64>>(
     rt: &impl Abort,
     s: &mut S,
     cell: &AtomicOwned<u64>,
@@ -144,7 +162,7 @@ pub fn emptied_weakly<S: Space<u64>>(
     let ptr = load(s, cell, &guard);
     let old = match cell.compare_exchange_weak(ptr, (None, tag), &guard, s) {
         Ok((old, _now)) => old,
-        Err((_back, _now)) => panic!(rt; "in a world nobody comes between"),
+        Err((_back, _now)) => panic!(rt; "nobody comes between"),
     };
     close(s, guard);
     spent(s, old)
@@ -171,6 +189,79 @@ pub fn asked<S: Cells<u64>>(
     let was_set = cell.update_tag_if(tag, condition, s);
     assert!(rt; was_set == Ok(true));
     (times, last)
+}
+
+/// Sets the tag where the cell has none, and tells whether it did.
+pub fn tagged<S: Cells<u64>>(rt: &impl Abort, s: &mut S, cell: &AtomicOwned<u64>, tag: Tag) -> bool
+    requires seated { IsSeated (S.seat s.old) }
+    requires home { cells_home cell.now ≡ (S.seat s.old).home.cells }
+    ensures seat { S.seat s.new ≡ S.seat s.old }
+{
+    let condition = |ptr: RawPtr<u64>| ptr.tag() == Tag::None;
+    cell.update_tag_if(tag, condition, s)
+        .expect(rt, "nobody comes between")
+}
+
+/// A condition that doesn't hold leaves the tag. How often that was asked, and the tag that it was shown last.
+pub fn refused_tag<S: Cells<u64>>(
+    rt: &impl Abort,
+    s: &mut S,
+    cell: &AtomicOwned<u64>,
+    tag: Tag,
+) -> (u8, Tag)
+    requires seated { IsSeated (S.seat s.old) }
+    requires home { cells_home cell.now ≡ (S.seat s.old).home.cells }
+    ensures seat { S.seat s.new ≡ S.seat s.old }
+{
+    let mut times = 0u8;
+    let mut last = Tag::None;
+    let condition = |ptr: RawPtr<u64>| {
+        times = times.wrapping_add(1);
+        last = ptr.tag();
+        false
+    };
+    let was_set = cell.update_tag_if(tag, condition, s);
+    assert!(rt; was_set == Ok(false));
+    (times, last)
+}
+
+/// A cell that holds nothing.
+pub fn null<S: Cells<u64>>(rt: &impl Abort, s: &mut S) -> AtomicOwned<u64>
+    requires seated { IsSeated (S.seat s.old) }
+    ensures seat { S.seat s.new ≡ S.seat s.old }
+    ensures home { cells_home result ≡ (S.seat s.new).home.cells }
+{
+    AtomicOwned::null(s).expect(rt, "a cell is free")
+}
+
+/// A cell that holds this owner.
+pub fn cell_from<S: Cells<u64>>(rt: &impl Abort, s: &mut S, owner: Owned<u64>) -> AtomicOwned<u64>
+    requires seated { IsSeated (S.seat s.old) }
+    requires home { slots_home owner ≡ (S.seat s.old).home.slots }
+    ensures seat { S.seat s.new ≡ S.seat s.old }
+    ensures home { cells_home result ≡ (S.seat s.new).home.cells }
+{
+    match AtomicOwned::from(owner, s) {
+        Ok(cell) => cell,
+        Err((_owner, refused)) => panic!(rt; "{refused:?}"),
+    }
+}
+
+/// The cell is free again, and what it held comes back.
+pub fn into_owned<S: Cells<u64>>(s: &mut S, cell: AtomicOwned<u64>) -> Option<Owned<u64>>
+    requires seated { IsSeated (S.seat s.old) }
+    requires home { cells_home cell ≡ (S.seat s.old).home.cells }
+    ensures seat { S.seat s.new ≡ S.seat s.old }
+    ensures home { IsOfSlots (S.seat s.new).home.slots result }
+{
+    cell.into_owned(s)
+}
+
+/// Nothing is there.
+pub fn none(rt: &impl Abort, owner: Option<Owned<u64>>) {
+    if let Some(_owner) = owner {
+        panic!(rt; "an owner is there")
+    }
 }
 
 /// The item has another number from now on. The one before.

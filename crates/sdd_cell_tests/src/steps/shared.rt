@@ -9,8 +9,8 @@ ghost use Rattle.sdd_space.specs.Ptr.{KeepsShown, PtrIsShown};
 use crate::steps::{Read, close, opened, seen};
 use sdd_core::{Refused, Tag};
 use sdd_space::{
-    AtomicShared, Cells, Guard, Guards, InPlaceItems, Item, Items, Look, Ptr, Shared, SharedItems,
-    Space,
+    AtomicShared, Cells, Guard, Guards, InPlaceItems, Item, Items, Look, Ptr, RawPtr, Shared,
+    SharedItems, SharedOwners, Space,
 };
 use std::process::Abort;
 
@@ -50,7 +50,7 @@ pub fn release<S: Items<u64>>(s: &mut S, owner: Shared<u64>) -> bool
 }
 
 /// One owner more.
-pub fn copied<S: SharedItems<u64>>(rt: &impl Abort, s: &mut S, owner: &Shared<u64>) -> Shared<u64>
+pub fn copied<S: SharedOwners<u64>>(rt: &impl Abort, s: &mut S, owner: &Shared<u64>) -> Shared<u64>
     requires seated { IsSeated (S.seat s.old) }
     requires home { slots_home owner.now ≡ (S.seat s.old).home.slots }
     ensures seat { S.seat s.new ≡ S.seat s.old }
@@ -197,6 +197,41 @@ pub fn cell<T: Item<T>, S: Cells<T>>(rt: &impl Abort, s: &mut S, value: T) -> At
     }
 }
 
+/// A pointer to what the cell holds.
+pub fn load<'g, S: Cells<u64>>(
+    s: &mut S,
+    cell: &AtomicShared<u64>,
+    guard: &'g Guard,
+) -> Ptr<'g, u64>
+    requires seated { IsSeated (S.seat s.old) }
+    requires home { cells_home cell.now ≡ (S.seat s.old).home.cells }
+    requires reader { reader_of guard.now ≡ (S.seat s.old).reader }
+    ensures seat { S.seat s.new ≡ S.seat s.old }
+{
+    cell.load(guard, s)
+}
+
+/// Sets the tag where the cell has none, and tells whether it did.
+pub fn tagged<S: Cells<u64>>(rt: &impl Abort, s: &mut S, cell: &AtomicShared<u64>, tag: Tag) -> bool
+    requires seated { IsSeated (S.seat s.old) }
+    requires home { cells_home cell.now ≡ (S.seat s.old).home.cells }
+    ensures seat { S.seat s.new ≡ S.seat s.old }
+{
+    let condition = |ptr: RawPtr<u64>| ptr.tag() == Tag::None;
+    cell.update_tag_if(tag, condition, s)
+        .expect(rt, "nobody comes between")
+}
+
+/// The cell is free again, and what it held comes back.
+pub fn into_shared<S: Cells<u64>>(s: &mut S, cell: AtomicShared<u64>) -> Option<Shared<u64>>
+    requires seated { IsSeated (S.seat s.old) }
+    requires home { cells_home cell ≡ (S.seat s.old).home.cells }
+    ensures seat { S.seat s.new ≡ S.seat s.old }
+    ensures home { IsOfSlots (S.seat s.new).home.slots result }
+{
+    cell.into_shared(s)
+}
+
 /// The cell is free again, and what it held is given up.
 pub fn close_cell<S: Items<u64> + Cells<u64>>(s: &mut S, cell: AtomicShared<u64>)
     requires seated { IsSeated (S.seat s.old) }
@@ -206,8 +241,64 @@ pub fn close_cell<S: Items<u64> + Cells<u64>>(s: &mut S, cell: AtomicShared<u64>
     cell.close(s);
 }
 
+/// The cell holds the owner of a new item with this tag, and what it held is given up. The number that it held, and the tag before.
+pub fn swapped<S: Look<u64> + Items<u64> + Cells<u64>>(
+    rt: &impl Abort,
+    s: &mut S,
+    cell: &AtomicShared<u64>,
+    next: u64,
+    tag: Tag,
+) -> (Option<u64>, Tag)
+    requires seated { IsSeated (S.seat s.old) }
+    requires home { cells_home cell.now ≡ (S.seat s.old).home.cells }
+    ensures seat { S.seat s.new ≡ S.seat s.old }
+{
+    let owner = made(rt, s, next);
+    let (old, old_tag) = cell.swap((Some(owner), tag), s);
+    (spent(s, old), old_tag)
+}
+
+/// The cell holds the owner of a new item with this tag, if it held what the pointer names.
+pub fn exchanged<'g, S: Look<u64> + Items<u64> + Cells<u64>>(
+    rt: &impl Abort,
+    s: &mut S,
+    cell: &AtomicShared<u64>,
+    current: Ptr<'g, u64>,
+    next: u64,
+    tag: Tag,
+    guard: &'g Guard,
+) -> Result<Read, Read>
+    requires seated { IsSeated (S.seat s.old) }
+    requires home { cells_home cell.now ≡ (S.seat s.old).home.cells }
+    requires reader { reader_of guard.now ≡ (S.seat s.old).reader }
+    ensures seat { S.seat s.new ≡ S.seat s.old }
+{
+    let owner = made(rt, s, next);
+    match cell.compare_exchange(current, (Some(owner), tag), guard, s) {
+        Ok((old, now)) => Ok((spent(s, old), seen(s, now), now.tag())),
+        Err((back, now)) => Err((spent(s, back), seen(s, now), now.tag())),
+    }
+}
+
+/// What the cell holds, and its tag, under a guard of its own.
+pub fn read<S: Look<u64> + Guards<u64> + Cells<u64>>(
+    rt: &impl Abort,
+    s: &mut S,
+    cell: &AtomicShared<u64>,
+) -> (Option<u64>, Tag)
+    requires seated { IsSeated (S.seat s.old) }
+    requires home { cells_home cell.now ≡ (S.seat s.old).home.cells }
+    ensures seat { S.seat s.new ≡ S.seat s.old }
+{
+    let guard = opened(rt, s);
+    let ptr = cell.load(&guard, s);
+    let found = (seen(s, ptr), ptr.tag());
+    close(s, guard);
+    found
+}
+
 /// The cell holds nothing, with this tag. The number that it held, whose owner is given up.
-pub fn emptied_weakly<S: Space<u64>>(
+pub fn emptied_weakly<S: Look<u64> + Guards<u64> + Items<u64> + Cells<u64>>(
     rt: &impl Abort,
     s: &mut S,
     cell: &AtomicShared<u64>,
@@ -221,7 +312,7 @@ pub fn emptied_weakly<S: Space<u64>>(
     let ptr = cell.load(&guard, s);
     let old = match cell.compare_exchange_weak(ptr, (None, tag), &guard, s) {
         Ok((old, _now)) => old,
-        Err((_back, _now)) => panic!(rt; "in a world nobody comes between"),
+        Err((_back, _now)) => panic!(rt; "nobody comes between"),
     };
     close(s, guard);
     spent(s, old)

@@ -1,0 +1,361 @@
+//! The calls of each of many threads that share few cells. What a call may be refused with is all that is known, since others come between.
+ghost use Rattle.std.specs.Prelude.{◌≡◌};
+ghost use Rattle.sdd_space.specs.CallerId.{IsSeated};
+ghost use Rattle.sdd_space.specs.Guard.{reader_of};
+ghost use Rattle.sdd_space.specs.Owned as owned;
+ghost use Rattle.sdd_space.specs.Shared as shared;
+ghost use Rattle.sdd_domain_tests.specs.FewCells.{AreFewOf};
+
+use crate::answers::tag_of;
+use crate::counted::Counted;
+use crate::crowd_calls::Counts;
+use crate::few_cells::FewCells;
+use crate::generator::Generator;
+use sdd_core::Refused;
+use sdd_space::{
+    AtomicOwned, AtomicShared, Cells, Guard, Guards, InPlaceItems, Items, Look, Owned, Ptr, Shared,
+};
+use std::process::Abort;
+use std::sync::atomic::Ordering;
+
+/// What a guard shows stays the same, whatever becomes of the cell.
+fn shows_twice<S: Look<Counted>>(rt: &impl Abort, s: &S, ptr: Ptr<'_, Counted>) {
+    let Some(seen) = ptr.as_ref(s) else {
+        return;
+    };
+    let number = seen.number;
+    match ptr.as_ref(s) {
+        Some(again) => assert_eq!(rt; (again.number, seen.number), (number, number)),
+        None => panic!(rt; "it was seen"),
+    }
+}
+
+/// Something found no place.
+fn is_refused(rt: &impl Abort, refused: Refused, wanted: Refused) {
+    assert!(rt;
+        refused == wanted || refused == Refused::Contended,
+        "refused: {refused:?}"
+    );
+}
+
+/// The owner of a new item, if a slot is free.
+fn new_owned<S: Items<Counted>>(
+    rt: &impl Abort,
+    s: &mut S,
+    counts: &Counts,
+    number: u64,
+) -> Option<Owned<Counted>>
+    requires seated { IsSeated (S.seat s.old) }
+    ensures seat { S.seat s.new ≡ S.seat s.old }
+    ensures home { owned.IsOfSlots (S.seat s.old).home.slots result }
+{
+    match Owned::new(Counted::new(rt, number, &counts.drops), s) {
+        Ok(owner) => Some(owner),
+        Err((_value, refused)) => {
+            is_refused(rt, refused, Refused::NoSlot);
+            counts.refused.fetch_add(1, Ordering::SeqCst);
+            None
+        }
+    }
+}
+
+/// The same of an owner that may have others beside it.
+fn new_shared<S: Items<Counted>>(
+    rt: &impl Abort,
+    s: &mut S,
+    counts: &Counts,
+    number: u64,
+) -> Option<Shared<Counted>>
+    requires seated { IsSeated (S.seat s.old) }
+    ensures seat { S.seat s.new ≡ S.seat s.old }
+    ensures home { shared.IsOfSlots (S.seat s.old).home.slots result }
+{
+    match Shared::new(Counted::new(rt, number, &counts.drops), s) {
+        Ok(owner) => Some(owner),
+        Err((_value, refused)) => {
+            is_refused(rt, refused, Refused::NoSlot);
+            counts.refused.fetch_add(1, Ordering::SeqCst);
+            None
+        }
+    }
+}
+
+/// Adds one to the number, where no guard is open, and lets go.
+fn changes_and_retires<S: Items<Counted> + InPlaceItems<Counted>>(
+    rt: &impl Abort,
+    s: &mut S,
+    owner: Option<Owned<Counted>>,
+)
+    requires seated { IsSeated (S.seat s.old) }
+    requires home { owned.IsOfSlots (S.seat s.old).home.slots owner }
+    ensures { S.seat s.new ≡ S.seat s.old }
+{
+    let Some(mut owner) = owner else {
+        return;
+    };
+    match owner.get_mut(|value| value.number = value.number.wrapping_add(1), s) {
+        Ok(()) => {}
+        Err((_add, refused)) => assert_eq!(rt; refused, Refused::GuardOpen),
+    }
+    owner.retire(s);
+}
+
+/// The same where the owner may have others beside it.
+fn changes_and_releases<S: Items<Counted> + InPlaceItems<Counted>>(
+    rt: &impl Abort,
+    s: &mut S,
+    owner: Option<Shared<Counted>>,
+)
+    requires seated { IsSeated (S.seat s.old) }
+    requires home { shared.IsOfSlots (S.seat s.old).home.slots owner }
+    ensures { S.seat s.new ≡ S.seat s.old }
+{
+    let Some(mut owner) = owner else {
+        return;
+    };
+    match owner.get_mut(|value| value.number = value.number.wrapping_add(1), s) {
+        Ok(()) => {}
+        Err((_add, refused)) => {
+            assert!(rt; refused == Refused::NotAlone || refused == Refused::GuardOpen);
+        }
+    }
+    let _ = owner.release(s);
+}
+
+/// Looks twice at what a cell holds.
+fn looks_alone<S: Look<Counted> + Guards<Counted> + Cells<Counted>>(
+    rt: &impl Abort,
+    s: &mut S,
+    cell: &AtomicOwned<Counted>,
+)
+    requires seated { IsSeated (S.seat s.old) }
+    requires home { owned.cells_home cell.now ≡ (S.seat s.old).home.cells }
+    ensures { S.seat s.new ≡ S.seat s.old }
+{
+    let guard = Guard::new(s).expect(rt, "a guard may be opened");
+    let ptr = cell.load(&guard, s);
+    shows_twice(rt, s, ptr);
+    let later = cell.load(&guard, s);
+    shows_twice(rt, s, ptr);
+    shows_twice(rt, s, later);
+    guard.accelerate(s);
+    guard.close(s);
+}
+
+/// The same of a cell of owners that may have others.
+fn looks_shared<S: Look<Counted> + Guards<Counted> + Cells<Counted>>(
+    rt: &impl Abort,
+    s: &mut S,
+    cell: &AtomicShared<Counted>,
+)
+    requires seated { IsSeated (S.seat s.old) }
+    requires home { shared.cells_home cell.now ≡ (S.seat s.old).home.cells }
+    ensures { S.seat s.new ≡ S.seat s.old }
+{
+    let guard = Guard::new(s).expect(rt, "a guard may be opened");
+    let ptr = cell.load(&guard, s);
+    shows_twice(rt, s, ptr);
+    let later = cell.load(&guard, s);
+    shows_twice(rt, s, ptr);
+    shows_twice(rt, s, later);
+    guard.accelerate(s);
+    guard.close(s);
+}
+
+/// A new item, or nothing where no slot is free, takes the place of what a cell held, which goes.
+fn swaps_alone<S: Items<Counted> + InPlaceItems<Counted> + Cells<Counted>>(
+    rt: &impl Abort,
+    s: &mut S,
+    counts: &Counts,
+    cell: &AtomicOwned<Counted>,
+    draw: u64,
+)
+    requires seated { IsSeated (S.seat s.old) }
+    requires home { owned.cells_home cell.now ≡ (S.seat s.old).home.cells }
+    ensures { S.seat s.new ≡ S.seat s.old }
+{
+    let next = new_owned(rt, s, counts, draw);
+    let (old, _tag) = cell.swap((next, tag_of(draw)), s);
+    changes_and_retires(rt, s, old);
+}
+
+fn swaps_shared<S: Items<Counted> + InPlaceItems<Counted> + Cells<Counted>>(
+    rt: &impl Abort,
+    s: &mut S,
+    counts: &Counts,
+    cell: &AtomicShared<Counted>,
+    draw: u64,
+)
+    requires seated { IsSeated (S.seat s.old) }
+    requires home { shared.cells_home cell.now ≡ (S.seat s.old).home.cells }
+    ensures { S.seat s.new ≡ S.seat s.old }
+{
+    let next = new_shared(rt, s, counts, draw);
+    let (old, _tag) = cell.swap((next, tag_of(draw)), s);
+    changes_and_releases(rt, s, old);
+}
+
+/// The same where the cell still holds what was loaded. Whoever goes, the pointer shows what it showed.
+fn exchanges_alone<
+    S: Look<Counted> + Guards<Counted> + Items<Counted> + InPlaceItems<Counted> + Cells<Counted>,
+>(rt: &impl Abort, s: &mut S, counts: &Counts, cell: &AtomicOwned<Counted>, draw: u64)
+    requires seated { IsSeated (S.seat s.old) }
+    requires home { owned.cells_home cell.now ≡ (S.seat s.old).home.cells }
+    ensures { S.seat s.new ≡ S.seat s.old }
+{
+    let guard = Guard::new(s).expect(rt, "a guard may be opened");
+    let ptr = cell.load(&guard, s);
+    let next = new_owned(rt, s, counts, draw);
+    match cell.compare_exchange(ptr, (next, tag_of(draw)), &guard, s) {
+        Ok((old, now)) => {
+            assert!(rt; old.is_none() == ptr.is_null());
+            shows_twice(rt, s, now);
+            changes_and_retires(rt, s, old);
+        }
+        Err((back, now)) => {
+            shows_twice(rt, s, now);
+            changes_and_retires(rt, s, back);
+        }
+    }
+    shows_twice(rt, s, ptr);
+    guard.accelerate(s);
+    guard.close(s);
+}
+
+fn exchanges_shared<
+    S: Look<Counted> + Guards<Counted> + Items<Counted> + InPlaceItems<Counted> + Cells<Counted>,
+>(rt: &impl Abort, s: &mut S, counts: &Counts, cell: &AtomicShared<Counted>, draw: u64)
+    requires seated { IsSeated (S.seat s.old) }
+    requires home { shared.cells_home cell.now ≡ (S.seat s.old).home.cells }
+    ensures { S.seat s.new ≡ S.seat s.old }
+{
+    let guard = Guard::new(s).expect(rt, "a guard may be opened");
+    let ptr = cell.load(&guard, s);
+    let next = new_shared(rt, s, counts, draw);
+    match cell.compare_exchange(ptr, (next, tag_of(draw)), &guard, s) {
+        Ok((old, now)) => {
+            assert!(rt; old.is_none() == ptr.is_null());
+            shows_twice(rt, s, now);
+            changes_and_releases(rt, s, old);
+        }
+        Err((back, now)) => {
+            shows_twice(rt, s, now);
+            changes_and_releases(rt, s, back);
+        }
+    }
+    shows_twice(rt, s, ptr);
+    guard.accelerate(s);
+    guard.close(s);
+}
+
+/// Another cell holds what this one does, for a while.
+fn copies<
+    S: Look<Counted> + Guards<Counted> + Items<Counted> + InPlaceItems<Counted> + Cells<Counted>,
+>(rt: &impl Abort, s: &mut S, cell: &AtomicShared<Counted>, comes_out: bool)
+    requires seated { IsSeated (S.seat s.old) }
+    requires home { shared.cells_home cell.now ≡ (S.seat s.old).home.cells }
+    ensures { S.seat s.new ≡ S.seat s.old }
+{
+    let guard = Guard::new(s).expect(rt, "a guard may be opened");
+    let copied = cell.clone(&guard, s);
+    guard.accelerate(s);
+    guard.close(s);
+    match copied {
+        Ok(copy) => {
+            looks_shared(rt, s, &copy);
+            if comes_out {
+                let owner = copy.into_shared(s);
+                changes_and_releases(rt, s, owner);
+            } else {
+                copy.close(s);
+            }
+        }
+        Err(refused) => is_refused(rt, refused, Refused::NoCell),
+    }
+}
+
+/// Sets another tag where the condition holds.
+fn tags<S: Cells<Counted>>(rt: &impl Abort, s: &mut S, cells: &FewCells<Counted>, draw: u64)
+    requires seated { IsSeated (S.seat s.old) }
+    requires cells { AreFewOf (S.seat s.old).home.cells cells.now }
+    ensures { S.seat s.new ≡ S.seat s.old }
+{
+    let wanted = tag_of(draw / 4);
+    if let Err(refused) = cells
+        .first
+        .update_tag_if(tag_of(draw), |ptr| ptr.tag() == wanted, s)
+    {
+        assert_eq!(rt; refused, Refused::Contended);
+    }
+    if let Err(refused) = cells
+        .third
+        .update_tag_if(tag_of(draw), |ptr| ptr.tag() != wanted, s)
+    {
+        assert_eq!(rt; refused, Refused::Contended);
+    }
+}
+
+/// A cell of its own, which holds a new item, if one is free.
+fn makes_own<S: Items<Counted> + Cells<Counted>>(rt: &impl Abort, s: &mut S, counts: &Counts)
+    requires seated { IsSeated (S.seat s.old) }
+    ensures { S.seat s.new ≡ S.seat s.old }
+{
+    match AtomicOwned::new(Counted::new(rt, 7, &counts.drops), s) {
+        Ok(cell) => {
+            assert!(rt; !cell.is_null(s));
+            cell.close(s);
+        }
+        Err((_value, refused)) => {
+            assert!(rt;
+                refused == Refused::NoSlot
+                    || refused == Refused::NoCell
+                    || refused == Refused::Contended
+            );
+            counts.refused.fetch_add(1, Ordering::SeqCst);
+        }
+    }
+}
+
+/// One call, drawn.
+fn draw<
+    S: Look<Counted> + Guards<Counted> + Items<Counted> + InPlaceItems<Counted> + Cells<Counted>,
+>(rt: &impl Abort, s: &mut S, counts: &Counts, cells: &FewCells<Counted>, drawn: &mut Generator)
+    requires seated { IsSeated (S.seat s.old) }
+    requires cells { AreFewOf (S.seat s.old).home.cells cells.now }
+    ensures { S.seat s.new ≡ S.seat s.old }
+{
+    let call = drawn.below(10);
+    let draw = drawn.below(16);
+    match call {
+        0 => looks_shared(rt, s, &cells.first),
+        1 => looks_alone(rt, s, &cells.third),
+        2 => swaps_shared(rt, s, counts, &cells.first, draw),
+        3 => swaps_alone(rt, s, counts, &cells.third, draw),
+        4 => exchanges_shared(rt, s, counts, &cells.second, draw),
+        5 => exchanges_alone(rt, s, counts, &cells.fourth, draw),
+        6 => copies(rt, s, &cells.first, draw % 2 == 0),
+        7 => copies(rt, s, &cells.second, draw % 2 == 0),
+        8 => tags(rt, s, cells, draw),
+        _ => makes_own(rt, s, counts),
+    }
+}
+
+/// So many calls, drawn.
+pub fn draws<
+    S: Look<Counted> + Guards<Counted> + Items<Counted> + InPlaceItems<Counted> + Cells<Counted>,
+>(
+    rt: &impl Abort,
+    s: &mut S,
+    counts: &Counts,
+    cells: &FewCells<Counted>,
+    drawn: &mut Generator,
+    calls: u64,
+)
+    requires seated { IsSeated (S.seat s.old) }
+    requires cells { AreFewOf (S.seat s.old).home.cells cells.now }
+    ensures { S.seat s.new ≡ S.seat s.old }
+{
+    for _ in 0..calls {
+        draw(rt, s, counts, cells, drawn);
+    }
+}

@@ -1,0 +1,152 @@
+//! A configuration across threads: whoever has it publishes another one as a whole, and others look at it under guards, without a lock.
+ghost use Rattle.std.specs.Prelude.{◌≡◌, ◌≤◌, ◌+◌, ◌↔◌, [], IfErr, IfOk, IsSome};
+ghost use Rattle.sdd_space.specs.CallerId.{IsSeated};
+ghost use Rattle.sdd_space.specs.Guard.{reader_of};
+ghost use Rattle.sdd_space.specs.Shared.{cells_home, IsOfSlots};
+
+use sdd_core::{Refused, Tag};
+use sdd_space::{AtomicShared, Cells, Giver, Guard, Guards, Item, Items, Look, Shared};
+
+/// The bounds that a service works within. They are replaced together, so that nobody finds the low one above the high one.
+#[derive(Clone, Copy)]
+pub struct Bounds {
+    low: u64,
+    high: u64,
+    ghost ordered: { low ≤ high },
+}
+
+impl<I> Item<I> for Bounds {
+    ghost holds = { λ _. [] };
+
+    fn give_up<G: Giver<I>>(self, _giver: &mut G) {}
+}
+
+impl Bounds {
+    /// None where the low one is above the high one.
+    pub fn new(low: u64, high: u64) -> Option<Bounds>
+        ensures { IsSome result ↔ (low ≤ high) }
+    {
+        if low <= high {
+            Some(Bounds { low, high })
+        } else {
+            None
+        }
+    }
+
+    /// How far the high one is above the low one.
+    pub fn width(&self) -> u64
+        ensures { self.now.low + result ≡ self.now.high }
+    {
+        self.high - self.low
+    }
+
+    /// The same, with the high one further up. None past the greatest number.
+    pub fn widened(&self, by: u64) -> Option<Bounds> {
+        Bounds::new(self.low, self.high.checked_add(by)?)
+    }
+}
+
+/// What one pointer shows at two looks, whatever others publish between them: the same. None where nothing is published.
+///
+/// `TooManyGuards` where no guard can be opened.
+pub fn looks_twice<S: Look<Bounds> + Guards<Bounds> + Cells<Bounds>>(
+    config: &AtomicShared<Bounds>,
+    s: &mut S,
+) -> Result<(Option<Bounds>, Option<Bounds>), Refused>
+    requires seated { IsSeated (S.seat s.old) }
+    requires home { cells_home config.now ≡ (S.seat s.old).home.cells }
+    ensures seat { S.seat s.new ≡ S.seat s.old }
+    ensures same { IfOk result (λ looks. looks.1 ≡ looks.0) }
+    ensures refused { IfErr result (λ e. e ≡ Refused.TooManyGuards) }
+{
+    let guard = Guard::new(s)?;
+    let ptr = config.load(&guard, s);
+    let first = ptr.as_ref(s).copied();
+    let _now = config.load(&guard, s);
+    let second = ptr.as_ref(s).copied();
+    guard.close(s);
+    Ok((first, second))
+}
+
+/// Lets go of what came out of a cell: it is reclaimed once nobody looks at it, unless it has other owners.
+fn let_go<S: Items<Bounds>>(owner: Option<Shared<Bounds>>, s: &mut S)
+    requires seated { IsSeated (S.seat s.old) }
+    requires home { IsOfSlots (S.seat s.old).home.slots owner }
+    ensures { S.seat s.new ≡ S.seat s.old }
+{
+    if let Some(owner) = owner {
+        let _ = owner.release(s);
+    }
+}
+
+/// Publishes other bounds, whatever was there.
+///
+/// `NoSlot` where no slot is free; `Contended`, in a domain alone, where as many exchanges were lost as its limits allow. The bounds come back.
+pub fn publish<S: Items<Bounds> + Cells<Bounds>>(
+    config: &AtomicShared<Bounds>,
+    bounds: Bounds,
+    s: &mut S,
+) -> Result<(), (Bounds, Refused)>
+    requires seated { IsSeated (S.seat s.old) }
+    requires home { cells_home config.now ≡ (S.seat s.old).home.cells }
+    ensures seat { S.seat s.new ≡ S.seat s.old }
+    ensures back { IfErr result (λ e. e.0 ≡ bounds) }
+{
+    let next = Shared::new(bounds, s)?;
+    let (before, _tag) = config.swap((Some(next), Tag::None), s);
+    let_go(before, s);
+    Ok(())
+}
+
+/// Publishes wider bounds, unless others publish meanwhile. Whether it did.
+///
+/// `TooManyGuards` where no guard can be opened, `NoSlot` where no slot is free, and `Contended` as above.
+pub fn widen<S: Look<Bounds> + Guards<Bounds> + Items<Bounds> + Cells<Bounds>>(
+    config: &AtomicShared<Bounds>,
+    by: u64,
+    s: &mut S,
+) -> Result<bool, Refused>
+    requires seated { IsSeated (S.seat s.old) }
+    requires home { cells_home config.now ≡ (S.seat s.old).home.cells }
+    ensures seat { S.seat s.new ≡ S.seat s.old }
+{
+    let guard = Guard::new(s)?;
+    let widened = widen_under(config, by, &guard, s);
+    guard.close(s);
+    widened
+}
+
+/// The same under a guard.
+fn widen_under<S: Look<Bounds> + Items<Bounds> + Cells<Bounds>>(
+    config: &AtomicShared<Bounds>,
+    by: u64,
+    guard: &Guard,
+    s: &mut S,
+) -> Result<bool, Refused>
+    requires seated { IsSeated (S.seat s.old) }
+    requires home { cells_home config.now ≡ (S.seat s.old).home.cells }
+    requires reader { reader_of guard.now ≡ (S.seat s.old).reader }
+    ensures seat { S.seat s.new ≡ S.seat s.old }
+{
+    let ptr = config.load(guard, s);
+    let Some(bounds) = ptr.as_ref(s) else {
+        return Ok(false);
+    };
+    let Some(wider) = bounds.widened(by) else {
+        return Ok(false);
+    };
+    let next = match Shared::new(wider, s) {
+        Ok(next) => next,
+        Err((_wider, refused)) => return Err(refused),
+    };
+    match config.compare_exchange(ptr, (Some(next), ptr.tag()), guard, s) {
+        Ok((before, _now)) => {
+            let_go(before, s);
+            Ok(true)
+        }
+        Err((back, _now)) => {
+            let_go(back, s);
+            Ok(false)
+        }
+    }
+}
