@@ -21,13 +21,33 @@ use Rattle.sdd_domain.proofs.Members.{with_view}
 use Rattle.sdd_domain.proofs.Reclaims.{first_is_due, first_goes}
 use Rattle.sdd_domain.proofs.local_core.LocalCore.take_job.Goals as goal
 
-pub take-requires : goal.take-requires
-take-requires g c = let first : map (what_of (slots_of c.self.inside.domain.now.board)) (ripe c.self.inside.token.me.0.slots.waits) ≡ Job c.args.place ∷
+pub take-job-requires : goal.take-job-requires
+take-job-requires g c = let first : map (what_of (slots_of c.self.inside.domain.now.board)) (ripe c.self.inside.token.me.0.slots.waits) ≡ Job c.args.place ∷
     c.next.new.self.items
     = sym c.self.invariant.4.due ∙ next_goes c.self.inside.due c.next.new.self c.next.result (Job c.args.place) c.requires.first.0 c.next.ensures.next
     (ap (λ (m : LocalState _). m.due) c.self.view_is ∙ c.requires.first.1) in
     let low = place_low c.self.inside.domain.now.board c.args.place c.next.new.self.items c.self.inside.token.me.0.slots.waits first
     c.self.invariant.0.waiting in let long = c.self.invariant.4.places in omega arith
+
+pub overflow_add-slots : goal.overflow_add-slots
+overflow_add-slots g c = let first : map (what_of (slots_of c.self.inside.domain.now.board))
+    (ripe c.self.inside.token.me.0.slots.waits) ≡ Job c.args.place ∷ c.next.new.self.items
+    = sym c.self.invariant.4.due ∙ next_goes c.self.inside.due c.next.new.self c.next.result (Job c.args.place) c.requires.first.0 c.next.ensures.next
+    (ap (λ (m : LocalState _). m.due) c.self.view_is ∙ c.requires.first.1) in
+    let low = place_low c.self.inside.domain.now.board c.args.place c.next.new.self.items c.self.inside.token.me.0.slots.waits first
+    c.self.invariant.0.waiting in
+    let slots = ap (λ (z : Sizes). z.slots) c.self.inside.domain.now.limited.1 in
+    let jobs = ap (λ (z : Sizes). z.jobs) c.self.inside.domain.now.limited.1 in let few = c.self.inside.domain.now.limited.0 in
+    let few_slots = few.slots in let few_jobs = few.jobs in omega arith
+
+pub give_place_back-requires-clause-inside : goal.give_place_back-requires-clause-inside
+give_place_back-requires-clause-inside g c = let first : map (what_of (slots_of c.self.inside.domain.now.board))
+    (ripe c.self.inside.token.me.0.slots.waits) ≡ Job c.args.place ∷ c.next.new.self.items
+    = sym c.self.invariant.4.due ∙ next_goes c.self.inside.due c.next.new.self c.next.result (Job c.args.place) c.requires.first.0 c.next.ensures.next
+    (ap (λ (m : LocalState _). m.due) c.self.view_is ∙ c.requires.first.1) in
+    let low = place_low c.self.inside.domain.now.board c.args.place c.next.new.self.items c.self.inside.token.me.0.slots.waits first
+    c.self.invariant.0.waiting in
+    let slots = ap (λ (z : Sizes). z.slots) c.self.inside.domain.now.limited.1 in (omega arith, omega arith)
 
 pub give_place_back-requires-clause-due : goal.give_place_back-requires-clause-due
 give_place_back-requires-clause-due g c = let first : map (what_of (slots_of c.self.inside.domain.now.board))
