@@ -58,6 +58,8 @@ mod random_calls;
 #[cfg(test)]
 mod raw;
 #[cfg(test)]
+mod raw_cells;
+#[cfg(test)]
 mod reclaims;
 #[cfg(test)]
 mod refused_closes;

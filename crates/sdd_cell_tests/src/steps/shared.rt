@@ -369,3 +369,25 @@ pub fn dropped_in_place<S: InPlaceItems<u64>>(
         Err((_owner, refused)) => panic!(rt; "{refused:?}"),
     }
 }
+
+/// Sets the tag by a condition that holds, or doesn't. How often that was asked.
+pub fn asked<S: Cells<u64>>(
+    rt: &impl Abort,
+    s: &mut S,
+    cell: &AtomicShared<u64>,
+    tag: Tag,
+    holds: bool,
+) -> u8
+    requires seated { IsSeated (S.seat s.old) }
+    requires home { cells_home cell.now ≡ (S.seat s.old).home.cells }
+    ensures seat { S.seat s.new ≡ S.seat s.old }
+{
+    let mut times = 0u8;
+    let condition = |_ptr: RawPtr<u64>| {
+        times = times.wrapping_add(1);
+        holds
+    };
+    let was_set = cell.update_tag_if(tag, condition, s);
+    assert!(rt; was_set == Ok(holds));
+    times
+}

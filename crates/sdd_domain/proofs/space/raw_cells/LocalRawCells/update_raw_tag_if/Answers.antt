@@ -31,5 +31,5 @@ pub returns-clause-exact : goal.returns-clause-exact
 returns-clause-exact g c = λ exact. let v : LocalModel g.row.T.Denot g.row.J.Denot = (c.self-inside.view_is 0).partner in
     let inner : v ≡ c.self.inside.partner = ap (λ (i : Inside g.row.T.Denot g.row.J.Denot). i.partner) c.self-inside.view_is in
     let cell = raw_number_of c.args.cell.now in
-    retagged_exact v c.update_raw_tag_if.new.self cell c.args.tag _ c.update_raw_tag_if.result c.update_raw_tag_if.ensures.changed c.update_raw_tag_if.ensures.asked
+    retagged_exact v c.update_raw_tag_if.new.self cell c.args.tag (λ ptr changed. g.F.FnMut.post c.args.condition (ptr, tt) changed) c.update_raw_tag_if.result c.update_raw_tag_if.ensures.changed c.update_raw_tag_if.ensures.asked
     c.self-inside.invariant c.args.self.now (inner ∙ c.self.view_is) exact
