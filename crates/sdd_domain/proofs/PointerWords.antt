@@ -41,10 +41,10 @@ name_back n = dite (ℕ_discrete n 0) (λ e. ap (λ (k : ℕ). number_named (nam
     (λ ne. let more : suc (n - 1) ≡ n = omega arith in ap number_named (named_some n (n - 1) (omega arith)) ∙ more)
 
 tag_number : (n : ℕ) → n < 4 → number_of (tag_by n) ≡ n
-tag_number 0 low = refl
-tag_number 1 low = refl
-tag_number 2 low = refl
-tag_number 3 low = refl
+tag_number zero low = refl
+tag_number (suc zero) low = refl
+tag_number (suc (suc zero)) low = refl
+tag_number (suc (suc (suc zero))) low = refl
 tag_number (suc (suc (suc (suc n)))) low = absurd (omega arith)
 
 pub pointer_only : (x y : ℕ) → pointer_by x ≡ pointer_by y → x ≡ y
