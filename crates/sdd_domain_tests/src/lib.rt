@@ -45,6 +45,8 @@ mod owners;
 #[cfg(test)]
 mod places;
 #[cfg(test)]
+mod pointed_owners;
+#[cfg(test)]
 mod random_calls;
 #[cfg(test)]
 mod raw;
