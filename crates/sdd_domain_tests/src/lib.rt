@@ -52,6 +52,8 @@ mod owners;
 #[cfg(test)]
 mod places;
 #[cfg(test)]
+mod pointed_owners;
+#[cfg(test)]
 mod published;
 #[cfg(test)]
 mod random_calls;

@@ -61,6 +61,7 @@ pub fn copied<S: SharedOwners<u64>>(rt: &impl Abort, s: &mut S, owner: &Shared<u
 }
 
 /// Whether one owner more can be had of the pointer's item; if so it is given up again, and tells whether it was the last.
+#[tactic(auto, using(sdd_space::proofs::Shown::shown_still))]
 pub fn upgraded<S: Items<u64> + SharedItems<u64>>(
     rt: &impl Abort,
     s: &mut S,
@@ -69,13 +70,14 @@ pub fn upgraded<S: Items<u64> + SharedItems<u64>>(
     requires seated { IsSeated (S.seat s.old) }
     requires shown { PtrIsShown (S.shows s.old) ptr }
     ensures seat { S.seat s.new ≡ S.seat s.old }
-    ensures shown { KeepsShown (S.shows s.old) (S.shows s.new) }
+    ensures still { PtrIsShown (S.shows s.new) ptr }
 {
     let owner = ptr.get_shared(s).expect(rt, "another owner may be had")?;
     Some(owner.release(s))
 }
 
 /// The same by a call that gives the pointer back where there is none.
+#[tactic(auto, using(sdd_space::proofs::Shown::shown_still))]
 pub fn converted<S: Items<u64> + SharedItems<u64>>(
     rt: &impl Abort,
     s: &mut S,
@@ -84,7 +86,7 @@ pub fn converted<S: Items<u64> + SharedItems<u64>>(
     requires seated { IsSeated (S.seat s.old) }
     requires shown { PtrIsShown (S.shows s.old) ptr }
     ensures seat { S.seat s.new ≡ S.seat s.old }
-    ensures shown { KeepsShown (S.shows s.old) (S.shows s.new) }
+    ensures still { PtrIsShown (S.shows s.new) ptr }
 {
     match Shared::try_from_ptr(ptr, s) {
         Ok(owner) => Some(owner.release(s)),
