@@ -2,6 +2,7 @@
 ghost use Rattle.std.specs.Prelude.{◌≡◌};
 ghost use Rattle.sdd_space.specs.CallerId.{IsSeated};
 ghost use Rattle.sdd_space.specs.Guard.{reader_of};
+ghost use Rattle.sdd_space.specs.Shared as shared;
 
 use crate::answers::{Answer, note};
 use crate::both_spaces::{Plays, compared};
@@ -11,10 +12,10 @@ use crate::owners::{
 };
 use crate::steps::ONE_SLOT;
 use crate::with_jobs::{Adds, Total, adding};
-use sdd_core::{Limits, Refused};
+use sdd_core::{Limits, Refused, Tag};
 use sdd_participants::Tally;
 use sdd_space::{
-    Cells, Deferrals, Guard, Guards, InPlaceItems, Items, Look, Owned, RawItems, RawPtr,
+    AtomicShared, Cells, Deferrals, Guard, Guards, InPlaceItems, Items, Look, Owned, Ptr, RawItems, RawPtr,
     SharedOwners,
 };
 use std::process::Abort;
@@ -45,6 +46,79 @@ fn shares<S: Items<u64> + SharedOwners<u64> + InPlaceItems<u64> + Guards<u64>>(
     note(rt, answers, Answer::of_number(put(s, &mut owner, 41)));
     let owner = stays_in_place(rt, s, owner);
     guard.close(s);
+    note(rt, answers, Answer::Told(dropped_in_place(rt, s, owner)));
+}
+
+/// What a cell shows under a guard, and its tag.
+fn held<S: Look<u64> + Guards<u64> + Cells<u64>>(
+    rt: &impl Abort,
+    s: &mut S,
+    cell: &AtomicShared<u64>,
+) -> Answer
+    requires seated { IsSeated (S.seat s.old) }
+    requires home { shared.cells_home cell.now ≡ (S.seat s.old).home.cells }
+    ensures { S.seat s.new ≡ S.seat s.old }
+{
+    let guard = Guard::new(s).expect(rt, "a guard may be opened");
+    let ptr = cell.load(&guard, s);
+    let answer = Answer::Held(ptr.as_ref(s).copied(), ptr.tag());
+    guard.close(s);
+    answer
+}
+
+/// What a cell answers to an exchange that expects it to hold nothing.
+fn emptied<S: Look<u64> + Guards<u64> + Cells<u64>>(
+    rt: &impl Abort,
+    s: &mut S,
+    cell: &AtomicShared<u64>,
+) -> Answer
+    requires seated { IsSeated (S.seat s.old) }
+    requires home { shared.cells_home cell.now ≡ (S.seat s.old).home.cells }
+    ensures { S.seat s.new ≡ S.seat s.old }
+{
+    let guard = Guard::new(s).expect(rt, "a guard may be opened");
+    let answer = match cell.compare_exchange(Ptr::null(), (None, Tag::Both), &guard, s) {
+        Ok(_) => panic!(rt; "the cell holds an owner"),
+        Err((back, now)) => {
+            if let Some(_owner) = back {
+                panic!(rt; "nothing was handed in")
+            }
+            Answer::Exchanged(false, None, now.as_ref(s).copied(), now.tag())
+        }
+    };
+    guard.close(s);
+    answer
+}
+
+/// The one slot and the one cell are taken, and what the cell held comes out.
+fn holds<S: Look<u64> + Items<u64> + InPlaceItems<u64> + Guards<u64> + Cells<u64>>(
+    rt: &impl Abort,
+    s: &mut S,
+    answers: &mut Vec<Answer>,
+)
+    requires { IsSeated (S.seat s.old) }
+    ensures { S.seat s.new ≡ S.seat s.old }
+{
+    let owner = shared_item(rt, s, 5);
+    let cell = match AtomicShared::from(owner, s) {
+        Ok(cell) => cell,
+        Err((_owner, refused)) => panic!(rt; "refused: {refused:?}"),
+    };
+    note(rt, answers, held(rt, s, &cell));
+    match AtomicShared::<u64>::null(s) {
+        Ok(_cell) => panic!(rt; "no cell is free"),
+        Err(refused) => note(rt, answers, Answer::Refused(refused)),
+    }
+    let tagged = cell.update_tag_if(Tag::First, |ptr| ptr.tag() == Tag::None, s);
+    note(rt, answers, Answer::Told(tagged == Ok(true)));
+    note(rt, answers, emptied(rt, s, &cell));
+    let (old, tag) = cell.swap((None, Tag::Second), s);
+    let Some(owner) = old else {
+        panic!(rt; "the cell held an owner")
+    };
+    note(rt, answers, Answer::Held(Some(*owner.get(s)), tag));
+    note(rt, answers, held(rt, s, &cell));
+    cell.close(s);
     note(rt, answers, Answer::Told(dropped_in_place(rt, s, owner)));
 }
 
@@ -149,7 +223,14 @@ fn goes_on<S: Guards<u64>>(rt: &impl Abort, s: &mut S, total: &Total, answers: &
 }
 
 /// What is answered, in that order.
-const ANSWERS: [Answer; 29] = [
+const ANSWERS: [Answer; 36] = [
+    Answer::Held(Some(5), Tag::None),
+    Answer::Refused(Refused::NoCell),
+    Answer::Told(true),
+    Answer::Exchanged(false, None, Some(5), Tag::First),
+    Answer::Held(Some(5), Tag::First),
+    Answer::Held(None, Tag::Second),
+    Answer::Told(true),
     Answer::Number(38),
     Answer::Refused(Refused::NotAlone),
     Answer::Number(39),
@@ -195,6 +276,7 @@ impl Plays for Example {
             + Guards<u64>
             + Deferrals<u64, Job = Adds>,
     >(&self, rt: &R, s: &mut S, total: &Total, answers: &mut Vec<Answer>) {
+        holds(rt, s, answers);
         shares(rt, s, answers);
         goes_out(rt, s, answers);
         defers(rt, s, total, answers);
@@ -207,9 +289,9 @@ fn a_lone_participant_answers_as_a_turn_does(rt: HostRuntime) {
     let outcome = compared(&rt, &Example, ONE_SLOT_AND_ONE_JOB);
     assert_eq!(rt; outcome.answers.as_slice(), ANSWERS.as_slice());
     let counted = Tally {
-        made: 2,
+        made: 3,
         reclaimed: 1,
-        in_place: 1,
+        in_place: 2,
     };
     assert_eq!(rt; outcome.before, counted);
 }

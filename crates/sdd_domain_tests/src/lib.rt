@@ -11,6 +11,8 @@ mod cell_crowd;
 #[cfg(test)]
 mod cell_crowd_calls;
 #[cfg(test)]
+mod configuration;
+#[cfg(test)]
 mod counted;
 #[cfg(test)]
 mod counted_owners;

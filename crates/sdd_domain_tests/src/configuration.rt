@@ -1,0 +1,136 @@
+//! A configuration of three threads: two make it wider by exchanges, and one looks.
+ghost use Rattle.std.specs.Prelude.{◌≡◌};
+ghost use Rattle.sdd_space.specs.CallerId.{IsSeated};
+ghost use Rattle.sdd_space.specs.Shared as shared;
+ghost use Rattle.sdd_domain.specs.Domain.{cells_in, slots_in};
+ghost use Rattle.sdd_domain.specs.Space.{seat_of};
+ghost use Rattle.sdd_domain_tests.specs.Slots.{IsReceiptIn};
+
+use crate::steps::{ONE_SLOT, add, closed, ended, new_domain, registered};
+use sdd_core::Limits;
+use sdd_domain::{Domain, Local, Receipt};
+use sdd_examples::shared_config::{Bounds, looks_twice, publish, widen};
+use sdd_space::AtomicShared;
+use std::process::Abort;
+use std::thread::{Threads, join};
+
+const LIMITS: Limits = Limits {
+    participants: 4,
+    slots: 256,
+    cells: 1,
+    tries: 8,
+    ..ONE_SLOT
+};
+
+/// How often it published wider bounds, and its receipt.
+fn widens(
+    rt: &impl Abort,
+    domain: &Domain<Bounds>,
+    config: &AtomicShared<Bounds>,
+) -> (u64, Receipt<Bounds>)
+    requires { shared.cells_home config.now ≡ cells_in domain.now }
+    ensures { IsReceiptIn (slots_in domain.now) result.1 }
+{
+    let mut local = registered(rt, domain);
+    let mut times = 0u64;
+    for _ in 0..500 {
+        if widen(config, 1, &mut local) == Ok(true) {
+            times = times.saturating_add(1);
+        }
+    }
+    (times, ended(rt, local))
+}
+
+/// How wide the bounds are, which both looks show.
+fn width(rt: &impl Abort, local: &mut Local<'_, Bounds>, config: &AtomicShared<Bounds>) -> u64
+    requires seated { IsSeated (seat_of local.old) }
+    requires home { shared.cells_home config.now ≡ (seat_of local.old).home.cells }
+    ensures { seat_of local.new ≡ seat_of local.old }
+{
+    let (first, second) = looks_twice(config, local).expect(rt, "a guard may be opened");
+    let bounds = first.expect(rt, "bounds are published");
+    let again = second.expect(rt, "bounds are published");
+    assert_eq!(rt; bounds.width(), again.width());
+    bounds.width()
+}
+
+/// What a reader sees never gets narrower.
+fn looks(
+    rt: &impl Abort,
+    domain: &Domain<Bounds>,
+    config: &AtomicShared<Bounds>,
+) -> Receipt<Bounds>
+    requires { shared.cells_home config.now ≡ cells_in domain.now }
+    ensures { IsReceiptIn (slots_in domain.now) result }
+{
+    let mut local = registered(rt, domain);
+    let mut last = 0u64;
+    for _ in 0..500 {
+        let seen = width(rt, &mut local, config);
+        assert!(rt; last <= seen);
+        last = seen;
+    }
+    ended(rt, local)
+}
+
+/// Bounds without numbers between them.
+fn narrow(rt: &impl Abort) -> Bounds {
+    Bounds::new(7, 7).expect(rt, "they are in order")
+}
+
+/// A cell that holds narrow bounds.
+fn new_config(rt: &impl Abort, local: &mut Local<'_, Bounds>) -> AtomicShared<Bounds>
+    requires seated { IsSeated (seat_of local.old) }
+    ensures seat { seat_of local.new ≡ seat_of local.old }
+    ensures home { shared.cells_home result ≡ (seat_of local.old).home.cells }
+{
+    match AtomicShared::new(narrow(rt), local) {
+        Ok(config) => config,
+        Err((_bounds, refused)) => panic!(rt; "refused: {refused:?}"),
+    }
+}
+
+/// What three threads leave, and how often bounds were published.
+fn three_work(
+    rt: &(impl Abort + AllocGlobal + Threads + Sync),
+    domain: &Domain<Bounds>,
+    config: &AtomicShared<Bounds>,
+) -> (u64, (Receipt<Bounds>, Receipt<Bounds>, Receipt<Bounds>))
+    requires { shared.cells_home config.now ≡ cells_in domain.now }
+    ensures first { IsReceiptIn (slots_in domain.now) result.1.0 }
+    ensures second { IsReceiptIn (slots_in domain.now) result.1.1 }
+    ensures third { IsReceiptIn (slots_in domain.now) result.1.2 }
+{
+    let (((times, one), (more, other)), reader) = join(
+        rt,
+        || {
+            join(
+                rt,
+                || widens(rt, domain, config),
+                || widens(rt, domain, config),
+            )
+        },
+        || looks(rt, domain, config),
+    );
+    (times.saturating_add(more), (one, other, reader))
+}
+
+/// An exchange that answers that it was done was, and no other one.
+#[test]
+fn the_bounds_are_as_wide_as_was_published(rt: HostRuntime) {
+    let domain = new_domain::<Bounds>(&rt, LIMITS);
+    let mut local = registered(&rt, &domain);
+    let config = new_config(&rt, &mut local);
+    let (times, (one, other, reader)) = three_work(&rt, &domain, &config);
+    assert!(rt; times > 0);
+    assert_eq!(rt; width(&rt, &mut local, &config), times);
+    match publish(&config, narrow(&rt), &mut local) {
+        Ok(()) => assert_eq!(rt; width(&rt, &mut local, &config), 0),
+        Err((_bounds, refused)) => panic!(rt; "refused: {refused:?}"),
+    }
+    config.close(&mut local);
+    let mut receipts = vec![in rt.alloc(); one, other, reader].expect(&rt, "there is memory");
+    add(&rt, &domain, &mut receipts, ended(&rt, local));
+    let tally = closed(&rt, domain, receipts);
+    assert_eq!(rt; tally.reclaimed, tally.made);
+}
