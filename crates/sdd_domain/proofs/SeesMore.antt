@@ -93,13 +93,19 @@ module _ {J : Type 0} where
     copies_none why cause = record {
       sees = sees_then a c d more (same_sees c d same);
       cause = ⊎_elim
-          (λ (m : (why ≡ TooManyOwners) × (IsLone c → (counted (word_of c slot) ≡ 1) × (most_owners ≤ alive (word_of c slot)))). inl (m.0, λ lone.
-          let most = m.1 (lone_after a c more lone) in let w = word_before a c more slot in (
-            slot,
-            ap (λ (x : ℕ). (contents_of x).held) (sym ((finds_before a b first cell word finds).found lone)) ∙ held,
-            ap counted (sym w) ∙ most.0,
-            (let e = ap alive w in let k = most.1 in omega arith),
-          )))
-          (λ (h : (why ≡ Contended) × (IsLone c → word_of c slot ≡ held_word)). inr (h.0, λ lone.
-          let e = ap counted (h.1 (lone_after a c more lone)) in let k = (there lone).0 in let z = only_held.2 in absurd (omega arith))) cause;
+          (λ (m : (why ≡ TooManyOwners) × (IsLone c → (counted (word_of c slot) ≡ 1) × (most_owners ≤ alive (word_of c slot)))). inl (
+            m.0,
+            λ lone.
+                let most = m.1 (lone_after a c more lone) in let w = word_before a c more slot in (
+                  slot,
+                  ap (λ (x : ℕ). (contents_of x).held) (sym ((finds_before a b first cell word finds).found lone)) ∙ held,
+                  ap counted (sym w) ∙ most.0,
+                  (let e = ap alive w in let k = most.1 in omega arith),
+                ),
+          ))
+          (λ (h : (why ≡ Contended) × (IsLone c → word_of c slot ≡ held_word)). inr (
+            h.0,
+            λ lone.
+                let e = ap counted (h.1 (lone_after a c more lone)) in let k = (there lone).0 in let z = only_held.2 in absurd (omega arith),
+          )) cause;
     }

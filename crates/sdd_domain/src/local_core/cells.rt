@@ -223,7 +223,14 @@ impl<'d, T: Item<T>, J: Job> LocalCore<'d, T, J> {
             ((self.new ≡ self.old) × (IsLone self.old → old ≢ cell_word_of self.old (number_of cell.now))) }
     {
         let board = &self.domain.board;
-        retag(board, &mut self.token, cell.number(), cell.witness(), old, tag)
+        retag(
+            board,
+            &mut self.token,
+            cell.number(),
+            cell.witness(),
+            old,
+            tag,
+        )
     }
 
     /// A cell has another tag, if the condition holds of what it holds.
@@ -322,7 +329,11 @@ impl<'d, T: Item<T>, J: Job> LocalCore<'d, T, J> {
         let reserved = match self.reserve_cell() {
             Ok(reserved) => reserved,
             Err(refused) => {
-                let refused = if self.has_slot() { refused } else { Refused::NoSlot };
+                let refused = if self.has_slot() {
+                    refused
+                } else {
+                    Refused::NoSlot
+                };
                 return Err((value, refused));
             }
         };
@@ -363,11 +374,7 @@ impl<'d, T: Item<T>, J: Job> LocalCore<'d, T, J> {
     /// One owner more of what a cell of shared owners holds, if it holds anything, with its tag.
     ///
     /// `TooManyOwners` where as many own it as may; `Contended` where others changed the cell or its item's owners meanwhile as often as the limits allow.
-    fn copy_held(
-        &mut self,
-        cell: &Right,
-        guard: &Guard,
-    ) -> Result<(Option<Right>, Tag), Refused>
+    fn copy_held(&mut self, cell: &Right, guard: &Guard) -> Result<(Option<Right>, Tag), Refused>
         requires home { home_of cell.now ≡ cells_home self.old.home }
         requires kind { kind_of cell.now ≡ StandingKind.Shared }
         requires reader { reader_of guard.now ≡ self.old.reader }

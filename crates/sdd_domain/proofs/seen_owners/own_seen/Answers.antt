@@ -29,8 +29,11 @@ returns-in-Gone g c = let slot : ℕ = c.args.slot in let value : Gv = showing g
 pub returns-in-Most : goal.returns-in-Most
 returns-in-Most g c = let slot : ℕ = c.args.slot in let value : Gv = showing g.row.T c.args.value.now in
     let same = same_seat c.args.token.now c.loop-attempt.token c.loop-attempt.invariant.same in
-    inl (refl, subst (λ (x : Seat ValueFraction View). IsIn x.me.0.stakes.sees slot value
-    → Tries c.args.board.now slot value Most x c.try_seen.new.token) same (c.in-Most.ensures value) c.requires.seen)
+    inl (
+      refl,
+      subst (λ (x : Seat ValueFraction View). IsIn x.me.0.stakes.sees slot value
+          → Tries c.args.board.now slot value Most x c.try_seen.new.token) same (c.in-Most.ensures value) c.requires.seen,
+    )
 
 pub loop-attempt-preserved : goal.loop-attempt-preserved
 loop-attempt-preserved g c = let slot : ℕ = c.args.slot in let value : Gv = showing g.row.T c.args.value.now in
