@@ -55,11 +55,7 @@ fn width(rt: &impl Abort, local: &mut Local<'_, Bounds>, config: &AtomicShared<B
 }
 
 /// What a reader sees never gets narrower.
-fn looks(
-    rt: &impl Abort,
-    domain: &Domain<Bounds>,
-    config: &AtomicShared<Bounds>,
-) -> Receipt<Bounds>
+fn looks(rt: &impl Abort, domain: &Domain<Bounds>, config: &AtomicShared<Bounds>) -> Receipt<Bounds>
     requires { shared.cells_home config.now ≡ cells_in domain.now }
     ensures { IsReceiptIn (slots_in domain.now) result }
 {
