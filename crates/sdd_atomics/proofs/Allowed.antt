@@ -18,7 +18,7 @@ use Rattle.sdd_views.specs.declared.EpochView.{EpochView}
 use Rattle.sdd_views.specs.declared.View.{View}
 use Rattle.sdd_views.specs.declared.Sizes.{Sizes}
 use Rattle.sdd_word_invariant.specs.Words.{global_word, lock_word, state_word, count_word, slot_word, after_places}
-use Rattle.sdd_word_invariant.specs.Codes.{free_word, owned_word, raw_word, waiting_word, alive, counted as counts_owners, held_word, shared_word}
+use Rattle.sdd_word_invariant.specs.Codes.{free_word, owned_word, raw_word, waiting_word, alive, counted as counts_owners, held_word, most_owners, shared_word}
 use Rattle.sdd_word_invariant.proofs.Codes.{one_left}
 use Rattle.sdd_word_invariant.specs.Epoch.{HasPlace, IsClosed, IsOpen, Scans}
 use Rattle.sdd_views.specs.Views.{nobody, owner_of}
@@ -39,11 +39,12 @@ use Rattle.sdd_views.specs.declared.ShownValue.{ShownValue}
 use Rattle.sdd_word_invariant.proofs.SlotSteps.{less_one}
 use Rattle.sdd_domain_invariant.specs.Records.{IsIn}
 use Rattle.sdd_domain_invariant.specs.DomainInvariant.{DomainInvariant}
-use Rattle.sdd_domain_invariant.specs.FractionSteps.{SeatState, CarriesAll, IsValue, CarriesSeen, ClaimsAll, FillsSlot, EntersUnit, TakesOut, TakesHeld, IsDeposit, RetiresOne, ReleasesOne, LeavesOne, GivesAll, DiscardsAll, SeesOwned, LearnsOwned, ClosesHome, EndsAll, OfSlot}
+use Rattle.sdd_domain_invariant.specs.FractionSteps.{SeatState, CarriesAll, IsValue, CarriesSeen, ClaimsAll, FillsSlot, EntersUnit, TakesOut, TakesHeld, IsDeposit, RetiresOne, ReleasesOne, LeavesOne, GivesAll, DiscardsAll, SeesOwned, LearnsOwned, ClosesHome, EndsAll, OfSlot, AddsSeen, IsStill}
 use Rattle.sdd_domain_invariant.proofs.Lift.{lift_epoch, lift_publish, lift_end}
 use Rattle.sdd_domain_invariant.proofs.Steps.{own_place}
 use Rattle.sdd_domain_invariant.proofs.Steps as steps
 use Rattle.sdd_domain_invariant.proofs.RawSteps as raw
+use Rattle.sdd_domain_invariant.proofs.Upgrading as upgrading
 use Rattle.sdd_domain_invariant.specs.FilledInvariant.{HasRecord}
 use Rattle.sdd_domain_invariant.specs.RawSteps.{TurnsRawOne, RegainsOne, SeesRawOne}
 use Rattle.sdd_domain_invariant.proofs.Telling.{one_moved}
@@ -381,6 +382,12 @@ module _ (γ : ℕ) (sizes : Sizes) (slots id : ℕ) (me : SeatState) where
           (OfSlot (λ slot. RegainsOne slot (raw_word 0) (owned_word 0)) i me)
       may_regain rests = at_slot (λ x. either (eqb x (raw_word 0)) (owned_word 0) x) (λ j. OfSlot (λ slot. RegainsOne slot (raw_word 0) (owned_word 0)) j me)
           (raw.regains slots id me live slot within rests)
+
+      -- one owner more of an item whose value nobody moves
+      pub may_add_seen : me.0.stakes.moves ≡ None → me.0.slots.over ≡ None → IsStill slot me.0 → (word : ℕ) → counts_owners word ≡ 1 → 0 < alive word
+          → alive word < most_owners → May i (λ x. either (eqb x word) (word + 1) x) (OfSlot (AddsSeen word) i me)
+      may_add_seen rests free still word several left few = at_slot (λ x. either (eqb x word) (word + 1) x) (λ j. OfSlot (AddsSeen word) j me)
+          (upgrading.adds_seen slots id me live rests slot within free still word several left few)
 
       pub may_look_for_raw : IsOpen v → v.place < sizes.participants → me.0.stakes.moves ≡ None
           → May i (λ x. x) (OfSlot (λ slot. SeesRawOne slot (raw_word 0)) i me)

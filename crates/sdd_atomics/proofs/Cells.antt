@@ -23,7 +23,7 @@ use Rattle.sdd_domain_invariant.specs.DomainInvariant.{DomainInvariant}
 use Rattle.sdd_domain_invariant.specs.FilledInvariant.{HasRecord}
 use Rattle.sdd_domain_invariant.specs.PledgesInvariant.{pledging, freeing}
 use Rattle.sdd_domain_invariant.specs.FractionSteps.{SeatState}
-use Rattle.sdd_domain_invariant.specs.CellSteps.{put_in, brought_out, BringsOut, ClaimsCell, SwapsOne, ExchangesOne, FreesCell, FillsBare, RetagsOne, SwapsBare, FreesBare, IsBare, FindsCell, LooksInCell, SeesInCell, LearnsCell, OfCell}
+use Rattle.sdd_domain_invariant.specs.CellSteps.{put_in, brought_out, BringsOut, ClaimsCell, SwapsOne, ExchangesOne, FreesCell, FillsBare, RetagsOne, SwapsBare, IsBare, FindsCell, LooksInCell, SeesInCell, LearnsCell, OfCell}
 use Rattle.sdd_domain_invariant.proofs.CellSteps as cells
 use Rattle.sdd_domain_invariant.proofs.Fillings.{has_none}
 use Rattle.sdd_word_invariant.proofs.Codes.{held_which}

@@ -23,11 +23,10 @@ use Rattle.sdd_domain_invariant.specs.BankInvariant.{IsBank, banked}
 use Rattle.sdd_domain_invariant.specs.DomainInvariant.{DomainInvariant}
 use Rattle.sdd_domain_invariant.specs.FilledInvariant.{HasRecord}
 use Rattle.sdd_domain_invariant.specs.PledgesInvariant.{pledging, freeing}
-use Rattle.sdd_domain_invariant.specs.FractionSteps.{SeatState, AddsOne, AddsSeen, TakesOneBack, DrawsUnit, OfSlot, owning_more, untold}
+use Rattle.sdd_domain_invariant.specs.FractionSteps.{SeatState, AddsOne, TakesOneBack, DrawsUnit, OfSlot, owning_more, untold}
 use Rattle.sdd_domain_invariant.specs.Records.{IsIn}
 use Rattle.sdd_domain_invariant.proofs.Cloning as cloning
-use Rattle.sdd_domain_invariant.proofs.Upgrading as upgrading
-use Rattle.sdd_atomics.specs.Clones.{most_word, HasPledged, AddsPledged, HasAdded, ClonesOne, AddsBesideSeen}
+use Rattle.sdd_atomics.specs.Clones.{most_word, HasPledged, AddsPledged, HasAdded, ClonesOne}
 use Rattle.sdd_atomics.proofs.Allowed.{owner_told}
 
 abbrev first_of : Pledge → List Pledge → Pledge
@@ -169,24 +168,3 @@ may_undo γ sizes slots id me same book live rests places slot inside i is value
     let e : u ≡ then = passed me p slot value shows i (is ∙ ap (λ (z : Sizes). slot_word z slot) (sym same)) n u adds many in
     subst (λ (m : SeatState). Allows (DomainInvariant γ sizes) slots id m i (λ k. (k + (2 ^ 64 - 1)) % 2 ^ 64) (OfSlot TakesOneBack i m)) (sym e)
     (may_take_back γ sizes slots id then same book live rests places slot inside i is value (p, refl, shows) (ap (λ (l : List ℕ). slot ∷ l) owns) drawn refl)
-
--- beside others, of an item that a guard sees
-pub may_add_seen : (γ : ℕ) (sizes : Sizes) (slots id : ℕ) (me : SeatState) → me.0.sizes ≡ sizes → me.0.stakes.book ≡ γ → HasPlace me.0.epoch
-    → me.0.stakes.moves ≡ None → (slot : ℕ) → slot < sizes.slots → (i : ℕ) → i ≡ slot_word sizes slot → me.0.slots.over ≡ None → (value : Gv)
-    → IsIn me.0.stakes.sees slot value → (word : ℕ) → counted word ≡ 1 → 0 < alive word → alive word < most_owners
-    → Allows (DomainInvariant γ sizes) slots id me i (λ x. either (eqb x word) (word + 1) x) (AddsBesideSeen word i me)
-may_add_seen γ sizes slots id me same book live rests slot inside i is none value seen word several left few =
-    let within : slot < me.0.sizes.slots = (let e = ap (λ (z : Sizes). z.slots) same in omega arith) in
-    let there : i ≡ slot_word me.0.sizes slot = is ∙ ap (λ (z : Sizes). slot_word z slot) (sym same) in let f : ℕ → ℕ = λ x. either (eqb x word) (word + 1) x in
-    subst (λ (t : ℕ × Sizes × ℕ). Allows (DomainInvariant t.0 t.1) slots id me t.2 f (AddsBesideSeen word t.2 me)) (λ d. (book d, same d, sym there d))
-    (λ s h long at small. let a = upgrading.adds_seen slots id me live rests slot within none value seen word several left few s h long at small in (
-      a.0,
-      a.1,
-      a.2,
-      a.3,
-      λ other another where_is sees. let one : slot ≡ other = omega arith in
-          let shows = upgrading.seen_once slots id me live rests slot within none value seen word several left few s h at another
-          (subst (λ (k : ℕ). IsIn me.0.stakes.sees k another) (sym one) sees) in
-          subst (λ (t : ℕ × Gv). AddsSeen word t.1 t.0 me (get_or s.words (slot_word me.0.sizes slot) 0) (a.0, carried_after me.1 a.1))
-          (λ d. (one d, sym shows d)) (a.4 slot refl),
-    ))

@@ -3,6 +3,7 @@ pub mod Zeros
 pub mod Shown
 pub mod Cloning
 pub mod Cells
+pub mod Pointers
 pub mod Ending
 pub mod Lasts
 pub mod JobsAllowed

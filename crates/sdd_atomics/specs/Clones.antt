@@ -12,8 +12,7 @@ use Rattle.sdd_word_invariant.specs.Codes.{alive, counted, most_owners, shared_w
 use Rattle.sdd_word_invariant.specs.Epoch.{IsLone}
 use Rattle.sdd_word_invariant.specs.SlotSteps.{Knew, one_more, noted}
 use Rattle.sdd_domain_invariant.specs.DomainInvariant.{DomainInvariant}
-use Rattle.sdd_domain_invariant.specs.Records.{IsIn}
-use Rattle.sdd_domain_invariant.specs.FractionSteps.{SeatState, AddsOne, AddsSeen, TakesOneBack, OfSlot, owning_more}
+use Rattle.sdd_domain_invariant.specs.FractionSteps.{SeatState, AddsOne, TakesOneBack, OfSlot, owning_more}
 use Rattle.sdd_atomics.specs.declared.domain_table.TableLayout.{TableLayout}
 
 -- a word that counts as many owners as may share a slot
@@ -47,8 +46,3 @@ pub record ClonesOne (value : Gv) (slot : ℕ) (me : SeatState) (x : ℕ) (me' :
   pub refused : most_owners ≤ alive x → (z : ℕ) × (me' ≡ (record me.0 { words = noted slot z me.0 }, me.1))
   pub lone : most_owners ≤ alive x → IsLone me.0.epoch → me' ≡ me
   pub knew : Knew slot me.0 x
-
--- one of several owners comes of an item that a guard sees, where its slot's word is still the one that was found
-abbrev pub AddsBesideSeen : ℕ → ℕ → SeatState → ℕ → SeatState → Type 0
-AddsBesideSeen word i me x me' = (slot : ℕ) (value : Gv) → i ≡ slot_word me.0.sizes slot → IsIn me.0.stakes.sees slot value
-    → AddsSeen word value slot me x me'

@@ -134,6 +134,15 @@ impl DomainTable {
         state_word(self.places) + cell as usize
     }
 
+    /// Where the word of a cell's pointer is. There are as many of these as cells, and they lie between the cells and the slots.
+    #[inline]
+    pub fn pointer_word(&self, cell: u32) -> usize
+        requires { cell < (sizes_of self.now).cells }
+        ensures { result ≡ words.pointer_word (sizes_of self.now) cell }
+    {
+        (state_word(self.places) + self.first_slot) / 2 + cell as usize
+    }
+
     /// How many places there are.
     #[inline]
     pub fn places(&self) -> usize

@@ -2,16 +2,17 @@
 ghost use Rattle.std.specs.Prelude.{[], true, false};
 ghost use Rattle.sdd_word_invariant.specs.EpochSteps.{Registers, Reads, Counts, Locks, LooksAtLock, LooksAtState, LooksAtCount, Advances, Unlocks};
 ghost use Rattle.sdd_word_invariant.specs.SlotSteps.{OnEpoch, PublishesAll, LooksAtSlot, TakesHold, LetsGo, TriesHold, SharesAgain, LooksForGuard, AtSlot};
+ghost use Rattle.sdd_word_invariant.specs.CellSteps.{LooksAtPointer, SwapsPointer, ExchangesPointer};
 ghost use Rattle.sdd_word_invariant.specs.Barred.{Bars, LooksForValue};
 ghost use Rattle.sdd_views.specs.Views.{owner_token};
 ghost use Rattle.sdd_domain_invariant.specs.BankInvariant.{founded, bank_of, with_ledger, ledger_of};
-ghost use Rattle.sdd_domain_invariant.specs.FractionSteps.{ClaimsAll, TakesOut, TakesHeld, IsDeposit, RetiresOne, GivesAll, DefersJob, GivesPlace, DiscardsAll, ClosesHome, EndsAll, EntersUnit, OfSlot, parting, departing, regained, uncounting, counts_of, counting, ReleasesOne, LeavesOne, TakesOneBack, DrawsUnit};
+ghost use Rattle.sdd_domain_invariant.specs.FractionSteps.{ClaimsAll, TakesOut, TakesHeld, IsDeposit, RetiresOne, GivesAll, DefersJob, GivesPlace, DiscardsAll, ClosesHome, EndsAll, EntersUnit, OfSlot, parting, departing, regained, uncounting, counts_of, counting, ReleasesOne, LeavesOne, TakesOneBack, DrawsUnit, AddsSeen};
 ghost use Rattle.sdd_word_invariant.specs.Codes.{raw_word};
 ghost use Rattle.sdd_domain_invariant.specs.RawSteps.{TurnsRawOne, RegainsOne, SeesRawOne};
 ghost use Rattle.sdd_views.specs.declared.CellKind.TheVariants.{Owned as for_owned, Shared as for_shared, Raw as for_raw, Collector as for_collector};
-ghost use Rattle.sdd_domain_invariant.specs.CellSteps.{ClaimsCell, FillsBare, LooksInCell, RetagsOne, SwapsBare, SeesInCell, OfCell, rightless, rights_of, righted};
+ghost use Rattle.sdd_domain_invariant.specs.CellSteps.{ClaimsCell, FillsBare, LooksInCell, RetagsOne, SwapsBare, SeesInCell, OfCell, FindsPointer, OfPointer, rightless, rights_of, righted};
 ghost use Rattle.sdd_atomics.specs.Cells.{SwapsPledged, ExchangesPledged, FreesOwn, FreesOwnBare, RecallsCell, FindsRight};
-ghost use Rattle.sdd_atomics.specs.Clones.{AddsPledged, AddsBesideSeen};
+ghost use Rattle.sdd_atomics.specs.Clones.{AddsPledged};
 ghost use Rattle.sdd_atomics.specs.DomainSeat.{Sits, Told, HousesMoved, WatchesOwned, RecallsOwned};
 
 use atomic_table::{Join, Play, Split};
@@ -130,7 +131,7 @@ impl Play<ValueFraction, View> for OneMore {
 pub struct AddSeen;
 
 impl Play<ValueFraction, View> for AddSeen {
-    ghost then = { λ step. AddsBesideSeen step.first step.word };
+    ghost then = { λ step. OfSlot (AddsSeen step.first) step.word };
 }
 
 pub struct TakeBack;
@@ -347,6 +348,24 @@ pub struct FreeBareCell;
 
 impl Play<ValueFraction, View> for FreeBareCell {
     ghost then = { λ step. FreesOwnBare step.word };
+}
+
+pub struct LookAtPointer;
+
+impl Play<ValueFraction, View> for LookAtPointer {
+    ghost then = { λ step. OfPointer (FindsPointer LooksAtPointer) step.word };
+}
+
+pub struct SwapPointer;
+
+impl Play<ValueFraction, View> for SwapPointer {
+    ghost then = { λ step. OfPointer (FindsPointer (SwapsPointer step.first)) step.word };
+}
+
+pub struct ExchangePointer;
+
+impl Play<ValueFraction, View> for ExchangePointer {
+    ghost then = { λ step. OfPointer (FindsPointer (ExchangesPointer step.first step.second)) step.word };
 }
 
 pub struct LearnCell;

@@ -14,6 +14,7 @@ ghost use Rattle.sdd_atomics.specs.DomainSeat.{view, epoch, words_known, Stepped
 pub mod cells;
 pub mod counts;
 pub mod jobs;
+pub mod pointers;
 pub mod raw;
 pub mod slots;
 

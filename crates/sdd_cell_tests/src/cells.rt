@@ -51,7 +51,7 @@ impl CommonExample for Exchanges {
         let cell = owned::cell(rt, s, 17);
         let guard = opened(rt, s);
         let mut ptr = owned::load(s, &cell, &guard);
-        let (times, shown) = owned::asked(rt, s, &cell, Tag::Both);
+        let (times, shown) = owned::asked(rt, s, &cell, Tag::Both, true);
         assert!(rt; (times, shown.is_null(), shown.tag()) == (1, false, Tag::None));
         assert!(rt;
             owned::exchanged(rt, s, &cell, ptr, 18, Tag::First, &guard)

@@ -43,7 +43,7 @@ module _ {T J : Type 0} (v : LocalModel T J) (m : LocalState J) (k : ℕ) (tied 
   stands_before : IsLone v.member → standing_at (world_of v) k ≡ Some (Shared owners)
   stands_before lone = let told = recalled lone in stands v (tied lone) k true told.0 told.1
 
-  shared_before : IsLone v.member → IsSharedBy owners (standing_at (world_of v) k)
+  pub shared_before : IsLone v.member → IsSharedBy owners (standing_at (world_of v) k)
   shared_before lone = let told = recalled lone in let some = told.1.alive in record {
     shared = stands_before lone;
     some = omega arith;
@@ -52,7 +52,7 @@ module _ {T J : Type 0} (v : LocalModel T J) (m : LocalState J) (k : ℕ) (tied 
 
   -- ---- one came
   module _ (word : ℕ) (is : AddsAt k word v.member m) where
-    added_only : m ≡ record v.member { words = m.words }
+    pub added_only : m ≡ record v.member { words = m.words }
     added_only = words_only m v.member (rewritten v k (word + 1)).words is.member
 
     lone_then : IsLone m → IsLone v.member
@@ -85,10 +85,10 @@ module _ {T J : Type 0} (v : LocalModel T J) (m : LocalState J) (k : ℕ) (tied 
           ap (λ (y : LocalState J). value_at (world_of (record { member = y; entries = v.entries })) i) is.member
           ∙ value_recounted v (tied lone) k true told.0 told.1 (word + 1) more_lives more_now.2 i u was
 
-    added_tied : WordsMatchValues m v.entries
+    pub added_tied : WordsMatchValues m v.entries
     added_tied one = added_tied_then (lone_then one)
 
-    added_sound : (holds : T → List OwnerOrCell) → IsSound holds v → IsSound holds later
+    pub added_sound : (holds : T → List OwnerOrCell) → IsSound holds v → IsSound holds later
     added_sound holds sound = sound_then holds v m sound (ap (λ (y : LocalState J). y.due) added_only ∙ sound.settled) (ap home_in added_only)
         (λ one. let lone = lone_then one in subst (λ (w : World T). IsWhole w) (sym (added_world lone))
         (Whole-restands (world_of v) k (Shared (owners + 1)) (ap is_out (stands_before lone)) refl (sound.whole lone)))
@@ -98,7 +98,7 @@ module _ {T J : Type 0} (v : LocalModel T J) (m : LocalState J) (k : ℕ) (tied 
     added_by shown holds true lone i u h = added_value (lone refl) i u h
     added_by shown holds false lone i u h = subst (λ (y : LocalState J). space.SeesValue shown holds y i u) (sym added_only) h
 
-    added_keeps : (shown : T → Gv) (holds : T → List OwnerOrCell) → KeepsShown (Shows shown holds v) (Shows shown holds later)
+    pub added_keeps : (shown : T → Gv) (holds : T → List OwnerOrCell) → KeepsShown (Shows shown holds v) (Shows shown holds later)
     added_keeps shown holds i u h = subst (λ (b : Bool). ShowsBy b shown holds later i u) (ap is_lone (sym added_only))
         (added_by shown holds (is_lone v.member) (λ exact. lone_is v.member exact) i u h)
 

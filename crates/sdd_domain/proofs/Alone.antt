@@ -5,15 +5,16 @@ use Rattle.sdd_participants.specs.declared.participant.Participant.{Participant}
 use Rattle.sdd_participants.specs.declared.place_states.PlaceState.TheVariants.{Live}
 use Rattle.sdd_participants.specs.declared.standing.Standing.{Standing}
 use Rattle.sdd_participants.specs.declared.standing.CellContents.{CellContents}
+use Rattle.sdd_participants.specs.declared.standing.RawCellContents.{RawCellContents}
 use Rattle.sdd_participants.specs.declared.tally.Tally.{Tally}
 use Rattle.sdd_views.specs.declared.Sizes.{Sizes}
 use Rattle.sdd_word_invariant.specs.SlotSteps.{behind}
-use Rattle.sdd_standings.specs.Cells.{null_pointer}
+use Rattle.sdd_word_invariant.specs.CellSteps.{pointer_behind}
 use Rattle.sdd_participants.specs.Jobs.{places_of}
 use Rattle.sdd_space.specs.World.{World}
 use Rattle.sdd_domain.specs.SpaceIds.{home_in}
 use Rattle.sdd_domain.proofs.Listings.{listing_same}
-use Rattle.sdd_domain.specs.Local.{LocalModel, listing, standing_by, value_by, contents_by, world_of}
+use Rattle.sdd_domain.specs.Local.{LocalModel, listing, standing_by, value_by, contents_by, pointer_by, world_of}
 
 -- ---- a world of one participant
 -- what a cell holds by these words
@@ -25,6 +26,16 @@ pub cells_kept : (n : ℕ) (z : Sizes) (ws : List ℕ) (number y : ℕ) → z.ce
     → listing n (contents_with (set ws (behind z number) y)) ≡ listing n (contents_with ws)
 cells_kept n z ws number y all = listing_same n (contents_with ws) (contents_with (set ws (behind z number) y))
     (λ i l. ap contents_by (get_or-set_other ws (behind z number) i y 0 (λ e. omega arith)))
+
+-- what raw cells point to by these words
+abbrev pub pointer_with : Sizes → List ℕ → ℕ → RawCellContents
+pointer_with z ws i = pointer_by (get_or ws (pointer_behind z i) 0)
+
+-- they point to what they pointed to
+pub pointers_kept : (n : ℕ) (z : Sizes) (ws : List ℕ) (number y : ℕ) → z.cells ≡ n
+    → listing n (pointer_with z (set ws (behind z number) y)) ≡ listing n (pointer_with z ws)
+pointers_kept n z ws number y all = listing_same n (pointer_with z ws) (pointer_with z (set ws (behind z number) y))
+    (λ i l. ap pointer_by (get_or-set_other ws (behind z number) (pointer_behind z i) y 0 (λ e. omega arith)))
 
 module _ {T : Type 0} where
   abbrev pub standing_with : {J : Type 0} → LocalModel T J → List ℕ → ℕ → Option Standing
@@ -49,7 +60,7 @@ module _ {T : Type 0} where
     standings = listing p.member.limits.slots (standing_with p ws);
     values = listing p.member.limits.slots (value_with p ws);
     cells = listing p.member.limits.cells (contents_with ws);
-    pointers = replicate p.member.limits.cells null_pointer;
+    pointers = listing p.member.limits.cells (pointer_with p.member.sizes ws);
     jobs = places_of p.member.jobs;
     tally = tally;
   }

@@ -5,8 +5,10 @@ use Rattle.std.proofs.lemmas.List.{set-set}
 use base.Stored.{Gv}
 use Rattle.sdd_participants.specs.Slab.{entry_at, IsEmptyAt, IsFull}
 use Rattle.sdd_participants.specs.declared.standing.CellContents.{CellContents}
+use Rattle.sdd_participants.specs.declared.standing.RawCellContents.{RawCellContents}
 use Rattle.sdd_word_invariant.specs.Codes.{held_slots, waiting, full}
 use Rattle.sdd_word_invariant.specs.SlotSteps.{behind}
+use Rattle.sdd_word_invariant.specs.CellSteps.{pointer_behind}
 use Rattle.sdd_word_invariant.specs.Words.{words_behind}
 use Rattle.sdd_space.specs.OwnerOrCell.{OwnerOrCell}
 use Rattle.sdd_space.specs.Ptr.{KeepsShown}
@@ -18,17 +20,16 @@ use Rattle.sdd_space.proofs.Housed.{Whole-cells}
 use Rattle.sdd_domain.specs.Cells.{WritesAt, ChangesCell, FreesAt, AllCellsTaken}
 use Rattle.sdd_domain.specs.LocalState.{LocalState, place_number, IsLone, word_of, cell_word_of}
 use Rattle.sdd_domain.specs.WordsAndValues.{AreTied, MatchesPlace, WordsMatchValues, is_plain_word}
-use Rattle.sdd_domain.specs.Local.{LocalModel, listing, standing_by, value_by, contents_by, contents_of, standing_in, value_in, contents_in, world_of}
+use Rattle.sdd_domain.specs.Local.{LocalModel, listing, standing_by, value_by, contents_by, contents_of, standing_in, value_in, contents_in, pointer_by, pointer_in, world_of}
 use Rattle.sdd_domain.specs.Sound.{IsSound}
 use Rattle.sdd_domain.specs.Space.{ShowsBy, Shows, is_lone, seat_of, known_of}
 use Rattle.sdd_domain.specs.SpaceIds.{home_in}
 use Rattle.sdd_domain.proofs.Exact.{lone_is}
 use Rattle.sdd_domain.proofs.Listings.{listing_same, listing_set, listing_at, listing_long, listing_all}
-use Rattle.sdd_domain.proofs.Refusals.{words_only, words_undisturbed}
-use Rattle.sdd_domain.proofs.Sound.{sound_then}
+use Rattle.sdd_domain.proofs.NotedWorld.{matched_noted, noted_keeps, noted_undisturbed, sound_noted, tied_noted, world_noted}
 
 -- a cell that isn't free holds what its word tells
-full_contents : (word : ℕ) → 0 < word → contents_by word ≡ Some (contents_of word)
+pub full_contents : (word : ℕ) → 0 < word → contents_by word ≡ Some (contents_of word)
 full_contents word some = let ne : word ≢ 0 = (λ e. absurd (omega arith)) in λ d. if ne_eqb word 0 ne d then None else Some (contents_of word)
 
 some_there : (word : ℕ) → 0 < word → IsSome (contents_by word)
@@ -68,48 +69,25 @@ module _ {T J : Type 0} (v : LocalModel T J) (cell found word : ℕ) (m : LocalS
   word_kept : (i : ℕ) → word_of written i ≡ word_of v.member i
   word_kept i = get_or-set_other v.member.words cell (behind v.member.sizes i) word 0 (λ e. let l = is.inside in omega arith)
 
-  lone_before : IsLone m → IsLone v.member
-  lone_before one = sym (ap (λ (y : LocalState J). y.limits.participants) is.member) ∙ one
-
-  tied_now : AreTied v.member v.entries → AreTied written v.entries
-  tied_now t = record {
-    place = t.place;
-    slots = t.slots;
-    places = t.places;
-    all_cells = t.all_cells;
-    long = length-set v.member.words cell word ∙ t.long;
-    wide = t.wide;
-    plain = λ i l. subst (λ (w : ℕ). IsTrue (is_plain_word w)) (sym (word_kept i)) (t.plain i l);
-    waits = λ i l. t.waits i l ∙ ap waiting (sym (word_kept i));
-    kept = λ i l filled. t.kept i l (sym (ap full (word_kept i)) ∙ filled);
-    table = t.table;
-    jobs = λ j l. subst (λ (w : ℕ). MatchesPlace w (entry_at v.member.jobs j)) (sym (word_kept (place_number v.member j))) (t.jobs j l);
-    bags = t.bags;
-    due = t.due;
-    now = t.now;
-  }
+  as_long : length (set v.member.words cell word) ≡ length v.member.words
+  as_long = length-set v.member.words cell word
 
   -- words, bags and ledger go together still
   pub tied_written : AreTied v.member v.entries → AreTied m v.entries
-  tied_written t = subst (λ (y : LocalState J). AreTied y v.entries) (sym is.member) (tied_now t)
+  tied_written = tied_noted v (set v.member.words cell word) as_long word_kept m is.member
 
   pub matched_written : WordsMatchValues v.member v.entries → WordsMatchValues m v.entries
-  matched_written tied one = tied_written (tied (lone_before one))
+  matched_written = matched_noted v (set v.member.words cell word) as_long word_kept m is.member
 
-  values_same : listing v.member.limits.slots (value_in after) ≡ listing v.member.limits.slots (value_in v)
-  values_same = listing_same v.member.limits.slots (value_in v) (value_in after)
-      (λ i l. ap (λ (w : ℕ). value_by w (slice_index_or v.entries i None)) (word_kept i))
+  pointers_same : listing v.member.limits.cells (pointer_in after) ≡ listing v.member.limits.cells (pointer_in v)
+  pointers_same = listing_same v.member.limits.cells (pointer_in v) (pointer_in after)
+      (λ i l. ap pointer_by (get_or-set_other v.member.words cell (pointer_behind v.member.sizes i) word 0 (λ e. let l = is.inside in omega arith)))
 
   -- in its world no more than cells are others
-  cells_only : world_of after ≡ record (world_of v) { cells = listing v.member.limits.cells (contents_in after) }
-  cells_only = let n : ℕ = v.member.limits.slots in
-      let standings : listing n (standing_in after) ≡ listing n (standing_in v)
-      = listing_same n (standing_in v) (standing_in after) (λ i l. ap standing_by (word_kept i)) in
-      λ d. record (world_of after) { standings = standings d; values = values_same d }
-
   pub world_cells : world_of (record { member = m; entries = v.entries })
       ≡ record (world_of v) { cells = listing v.member.limits.cells (contents_in after) }
-  world_cells = ap (λ (y : LocalState J). world_of {T = T} (record { member = y; entries = v.entries })) is.member ∙ cells_only
+  world_cells = world_noted v (set v.member.words cell word) as_long word_kept m is.member
+      ∙ ap (λ (l : List RawCellContents). record (world_of v) { cells = listing v.member.limits.cells (contents_in after); pointers = l }) pointers_same
 
   module _ (t : AreTied v.member v.entries) where
     -- the cell is as its word tells
@@ -121,7 +99,7 @@ module _ {T J : Type 0} (v : LocalModel T J) (cell found word : ℕ) (m : LocalS
         (λ i l ne. ap contents_by (get_or-set_other v.member.words cell i word 0 ne))
         ∙ ap (set (listing v.member.limits.cells (contents_in v)) cell) now
 
-    world_by : (contents : Option CellContents) → contents_by word ≡ contents
+    pub world_by : (contents : Option CellContents) → contents_by word ≡ contents
         → world_of (record { member = m; entries = v.entries }) ≡ record (world_of v) { cells = set (world_of v).cells cell contents }
     world_by contents tells = world_cells ∙ ap (λ (cells : List (Option CellContents)). record (world_of v) { cells = cells })
         (cells_now ∙ ap (set (listing v.member.limits.cells (contents_in v)) cell) tells)
@@ -138,26 +116,17 @@ module _ {T J : Type 0} (v : LocalModel T J) (cell found word : ℕ) (m : LocalS
 
   -- what is always true is true after it
   pub sound_written : (holds : T → List OwnerOrCell) → IsSound holds v → IsSound holds (record { member = m; entries = v.entries })
-  sound_written holds sound = sound_then holds v m sound (ap (λ (y : LocalState J). y.due) is.member ∙ sound.settled) (ap home_in is.member)
-      (λ one. subst (λ (w : World T). IsWhole w) (sym world_cells)
-      (Whole-cells (world_of v) (listing v.member.limits.cells (contents_in after)) (sound.whole (lone_before one))))
+  sound_written = sound_noted v (set v.member.words cell word) as_long word_kept m is.member
 
   -- what is shown is shown still, and nothing else is disturbed
-  keeps_by : (shown : T → Gv) (holds : T → List OwnerOrCell) (b : Bool) (i : ℕ) (u : T) → ShowsBy b shown holds v i u
-      → ShowsBy b shown holds after i u
-  keeps_by shown holds true i u h = ap (λ (l : List (Option T)). slice_index_or l i None) values_same ∙ h
-  keeps_by shown holds false i u h = record { known = h.known; only = h.only; home = h.home }
-
   pub written_keeps : (shown : T → Gv) (holds : T → List OwnerOrCell)
       → KeepsShown (Shows shown holds v) (Shows shown holds (record { member = m; entries = v.entries }))
-  written_keeps shown holds = subst (λ (y : LocalState J). KeepsShown (Shows shown holds v) (Shows shown holds (record { member = y; entries = v.entries })))
-      (sym is.member) (λ i u h. keeps_by shown holds (is_lone v.member) i u h)
+  written_keeps = noted_keeps v (set v.member.words cell word) as_long word_kept m is.member
 
   pub written_undisturbed : (p : LocalModel T J) → v ≡ p → (shown : T → Gv) (holds : T → List OwnerOrCell)
       → Undisturbed seat_of (λ (q : LocalModel T J). q.member.own) known_of (λ (q : LocalModel T J). Shows shown holds q) p
       (record { member = m; entries = v.entries })
-  written_undisturbed p same shown holds =
-      words_undisturbed v m (words_only m v.member written.words is.member) shown holds p same (written_keeps shown holds)
+  written_undisturbed = noted_undisturbed v (set v.member.words cell word) as_long word_kept m is.member
 
   -- for answers
   module _ (tied : WordsMatchValues v.member v.entries) (p : LocalModel T J) (same : v ≡ p) (exact : IsTrue (is_lone p.member)) where

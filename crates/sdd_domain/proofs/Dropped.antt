@@ -22,7 +22,7 @@ use Rattle.sdd_domain.specs.Local.{LocalModel, listing, standing_by, value_by, s
 use Rattle.sdd_domain.proofs.Listings.{listing_set}
 use Rattle.sdd_domain.proofs.Owning.{entry, has_value}
 use Rattle.sdd_domain.proofs.Words.{word_same, word_other}
-use Rattle.sdd_domain.proofs.Alone.{cells_kept}
+use Rattle.sdd_domain.proofs.Alone.{cells_kept, pointers_kept}
 
 -- an owner's item has the value that its owner tells
 module _ {J : Type 0} (R : RattleType) (v : LocalModel R.Denot J) (t : AreTied v.member v.entries)
@@ -63,7 +63,12 @@ module _ {J : Type 0} (R : RattleType) (v : LocalModel R.Denot J) (t : AreTied v
         let values : listing n (value_in then) ≡ set (listing n (value_in v)) k None
         = listing_set n (value_in v) (value_in then) k (λ i l ne. ap (λ (y : ℕ). value_by y (slice_index_or v.entries i None)) (other i ne))
         ∙ ap (λ (y : ℕ). set (listing n (value_in v)) k (value_by y (slice_index_or v.entries k None))) same in
-        λ d. record (world_of then) { standings = standings d; values = values d; cells = cells_kept v.member.limits.cells z ws k 0 t.all_cells d }
+        λ d. record (world_of then) {
+          standings = standings d;
+          values = values d;
+          cells = cells_kept v.member.limits.cells z ws k 0 t.all_cells d;
+          pointers = pointers_kept v.member.limits.cells z ws k 0 t.all_cells d;
+        }
 
     -- what the value gives up then is what the dropping does
     pub drops_now : (holds : R.Denot → List OwnerOrCell) → dropped holds (world_of v) v.member.place k

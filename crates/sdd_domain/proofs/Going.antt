@@ -32,7 +32,7 @@ use Rattle.sdd_domain.specs.Local.{LocalModel, listing, standing_by, value_by, s
 use Rattle.sdd_domain.proofs.Listings.{listing_at, listing_set}
 use Rattle.sdd_domain.proofs.Reclaims.{first_goes}
 use Rattle.sdd_domain.proofs.Words.{word_same, word_other, stands_retired, value_there, waiting_taken}
-use Rattle.sdd_domain.proofs.Alone.{cells_kept}
+use Rattle.sdd_domain.proofs.Alone.{cells_kept, pointers_kept}
 
 value_or : Gv → Option ShownValue → Gv
 value_or g None = g
@@ -109,6 +109,7 @@ module _ {J : Type 0} (R : RattleType) (p : LocalModel R.Denot J) (t : AreTied p
         standings = standings d;
         values = values d;
         cells = cells_kept p.member.limits.cells p.member.sizes p.member.words slot 0 t.all_cells d;
+        pointers = pointers_kept p.member.limits.cells p.member.sizes p.member.words slot 0 t.all_cells d;
       }
 
   goes_now : (holds : R.Denot → List OwnerOrCell) → slot_reclaimed holds (world_of p) p.member.place slot

@@ -23,7 +23,7 @@ use Rattle.sdd_domain.specs.LocalState.{LocalState, place_number, IsLone, Defers
 use Rattle.sdd_domain.specs.WaitingItems.{what_of, waiting_of, ripe, unripe}
 use Rattle.sdd_domain.specs.WordsAndValues.{AreTied, MatchesPlace, is_plain_word}
 use Rattle.sdd_domain.specs.Local.{LocalModel, listing, standing_by, value_by, standing_in, value_in, world_of}
-use Rattle.sdd_domain.proofs.Alone.{alone, steps_alone, cells_kept}
+use Rattle.sdd_domain.proofs.Alone.{alone, steps_alone, cells_kept, pointers_kept}
 use Rattle.sdd_domain.proofs.Listings.{listing_same}
 use Rattle.sdd_domain.proofs.Reclaims.{first_goes, what_job}
 use Rattle.sdd_domain.proofs.Ripe.{ripe_snoc, unripe_too}
@@ -149,6 +149,7 @@ module _ {T J : Type 0} (v : LocalModel T J) (t : AreTied v.member v.entries) wh
           standings = standings_same v t place 4 is.inside d;
           values = values_same v t place 4 is.inside d;
           cells = cells_kept v.member.limits.cells v.member.sizes v.member.words (place_number v.member place) 4 t.all_cells d;
+          pointers = pointers_kept v.member.limits.cells v.member.sizes v.member.words (place_number v.member place) 4 t.all_cells d;
           jobs = places-put v.member.jobs place job d;
         }
 
@@ -183,6 +184,7 @@ module _ {T J : Type 0} (v : LocalModel T J) (t : AreTied v.member v.entries) wh
           standings = standings_same v t place 0 is.inside d;
           values = values_same v t place 0 is.inside d;
           cells = cells_kept v.member.limits.cells v.member.sizes v.member.words (place_number v.member place) 0 t.all_cells d;
+          pointers = pointers_kept v.member.limits.cells v.member.sizes v.member.words (place_number v.member place) 0 t.all_cells d;
           jobs = places-taken v.member.jobs place d;
         }
 

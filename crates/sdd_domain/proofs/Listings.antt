@@ -1,5 +1,6 @@
 -- Lists of things by their numbers
 use Rattle.std.proofs.Common.{◌≡◌, ◌≢◌, ℕ, zero, suc, ◌<◌, ◌≤◌, ◌∷◌, length, get_or, set, sym, refl, ap, subst, arith, All}
+use Rattle.std.specs.Prelude.{Some, slice_get}
 use Rattle.sdd_domain.specs.Local.{listing}
 
 module _ {A : Type 0} where
@@ -11,6 +12,11 @@ module _ {A : Type 0} where
   listing_at zero f i d l = absurd (omega arith)
   listing_at (suc n) f zero d l = refl
   listing_at (suc n) f (suc i) d l = listing_at n (λ j. f (suc j)) i d (omega arith)
+
+  pub listing_get : (n : ℕ) (f : ℕ → A) (i : ℕ) → i < n → slice_get (listing n f) i ≡ Some (f i)
+  listing_get zero f i l = absurd (omega arith)
+  listing_get (suc n) f zero l = refl
+  listing_get (suc n) f (suc i) l = listing_get n (λ j. f (suc j)) i (omega arith)
 
   pub listing_past : (n : ℕ) (f : ℕ → A) (i : ℕ) (d : A) → n ≤ i → get_or (listing n f) i d ≡ d
   listing_past zero f i d l = refl

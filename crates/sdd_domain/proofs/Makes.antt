@@ -35,7 +35,7 @@ use Rattle.sdd_domain.specs.Space.{ShowsBy, Shows, is_lone}
 use Rattle.sdd_domain.proofs.Listings.{listing_at, listing_long, listing_past, listing_set, listing_all}
 use Rattle.sdd_domain.proofs.Words.{word_same, word_other, plain_claimed, stands_claimed, stands_raw, stands_retired, value_there, alive_taken}
 use Rattle.sdd_domain.proofs.Exact.{lone_is}
-use Rattle.sdd_domain.proofs.Alone.{cells_kept}
+use Rattle.sdd_domain.proofs.Alone.{cells_kept, pointers_kept}
 
 pub first_by : (kind : StandingKind) → first_standing kind ≡ (if is_shared kind then Shared 1 else Owned)
 first_by kinds.Free = refl
@@ -160,6 +160,7 @@ module _ {T J : Type 0} (v : LocalModel T J) (k : ℕ) (shared : Bool) (x : T) (
           standings = standings d;
           values = values d;
           cells = cells_kept v.member.limits.cells v.member.sizes v.member.words k (claimed_word shared) t.all_cells d;
+          pointers = pointers_kept v.member.limits.cells v.member.sizes v.member.words k (claimed_word shared) t.all_cells d;
         }
 
     -- each slot shows what it showed
@@ -180,44 +181,36 @@ module _ {J : Type 0} (R : RattleType) (v : LocalModel R.Denot J) (m : LocalStat
   abbrev after : LocalModel R.Denot J
   after = record { member = m; entries = es }
 
-  -- it made this, for this owner
-  abbrev pub Did : R.Denot → Right → Type 0
-  Did x right = MakesAt (number_of right) (is_shared kind) (showing R x) v.member m × IsRightTo v.member kind (showing R x) right
-      × (es ≡ set v.entries (number_of right) (Some (x, showing R x)))
-
-  -- or it was refused
+  -- it was refused
   abbrev pub Was : {B : Type 0} → (B × Refused → Type 0) → (B × Refused → Type 0) → B × Refused → Type 0
   Was Back Why e = Back e × (m ≡ v.member) × Why e × (IsLone v.member → (e.1 ≡ Refused.NoSlot) × IsUsedUp v.member) × (es ≡ v.entries)
 
-  module _ (x : R.Denot) (right : Right) (did : Did x right) where
-    abbrev k : ℕ
-    k = number_of right
+  -- the value is in the slot, and in the ledger
+  module _ (x : R.Denot) (k : ℕ) (makes : MakesAt k (is_shared kind) (showing R x) v.member m) (entered : es ≡ set v.entries k (Some (x, showing R x))) where
+    is_made : after ≡ made_partaker v k (is_shared kind) x (showing R x)
+    is_made = λ d. record { member = makes.member d; entries = entered d }
 
-    is_made : after ≡ made_partaker v (number_of right) (is_shared kind) x (showing R x)
-    is_made = λ d. record { member = did.0.member d; entries = did.2 d }
-
-    did_tied : WordsMatchValues v.member v.entries → WordsMatchValues m es
-    did_tied tied one = let lone : IsLone v.member = sym (ap (λ (z : LocalState J). z.limits.participants) did.0.member) ∙ one in
+    pub makes_tied : WordsMatchValues v.member v.entries → WordsMatchValues m es
+    makes_tied tied one = let lone : IsLone v.member = sym (ap (λ (z : LocalState J). z.limits.participants) makes.member) ∙ one in
         subst (λ (p : LocalModel R.Denot J). AreTied p.member p.entries) (sym is_made)
-        (tied_made v (number_of right) (is_shared kind) x (showing R x) (tied lone) did.0.inside (did.0.lone lone))
+        (tied_made v k (is_shared kind) x (showing R x) (tied lone) makes.inside (makes.lone lone))
 
-    pub did_world : WordsMatchValues v.member v.entries → IsLone v.member → IsEmptyAt (world_of v).standings (number_of right)
-        × (world_of after ≡ made_as (world_of v) (number_of right) x (first_standing kind))
-    did_world tied lone = (
-      empty_then v (number_of right) (is_shared kind) x (showing R x) (tied lone) did.0.inside (did.0.lone lone),
-      ap world_of is_made ∙ (made_world v (number_of right) (is_shared kind) x (showing R x) (tied lone) did.0.inside (did.0.lone lone)
-          ∙ ap (made_as (world_of v) (number_of right) x) (sym (first_by kind))),
+    pub makes_world : WordsMatchValues v.member v.entries → IsLone v.member → IsEmptyAt (world_of v).standings k
+        × (world_of after ≡ made_as (world_of v) k x (first_standing kind))
+    makes_world tied lone = (
+      empty_then v k (is_shared kind) x (showing R x) (tied lone) makes.inside (makes.lone lone),
+      ap world_of is_made ∙ (made_world v k (is_shared kind) x (showing R x) (tied lone) makes.inside (makes.lone lone)
+          ∙ ap (made_as (world_of v) k x) (sym (first_by kind))),
     )
 
     keeps_by : (holds : R.Denot → List OwnerOrCell) (b : Bool) → (IsTrue b → IsLone v.member) → WordsMatchValues v.member v.entries → (i : ℕ) (u : R.Denot)
-        → ShowsBy b (showing R) holds v i u → ShowsBy b (showing R) holds (made_partaker v (number_of right) (is_shared kind) x (showing R x)) i u
-    keeps_by holds true lone tied i u h = value_kept v (number_of right) (is_shared kind) x (showing R x) (tied (lone refl)) did.0.inside
-        (did.0.lone (lone refl)) i u h
+        → ShowsBy b (showing R) holds v i u → ShowsBy b (showing R) holds (made_partaker v k (is_shared kind) x (showing R x)) i u
+    keeps_by holds true lone tied i u h = value_kept v k (is_shared kind) x (showing R x) (tied (lone refl)) makes.inside (makes.lone (lone refl)) i u h
     keeps_by holds false lone tied i u h = h
 
-    did_keep : (holds : R.Denot → List OwnerOrCell) → WordsMatchValues v.member v.entries → KeepsShown (Shows (showing R) holds v)
+    pub makes_keeps : (holds : R.Denot → List OwnerOrCell) → WordsMatchValues v.member v.entries → KeepsShown (Shows (showing R) holds v)
         (Shows (showing R) holds after)
-    did_keep holds tied i u h = subst (λ (p : LocalModel R.Denot J). Shows (showing R) holds p i u) (sym is_made)
+    makes_keeps holds tied i u h = subst (λ (p : LocalModel R.Denot J). Shows (showing R) holds p i u) (sym is_made)
         (keeps_by holds (is_lone v.member) (λ exact. lone_is v.member exact) tied i u h)
 
   module _ {B : Type 0} (P : R.Denot → Type 0) (Back Why : B × Refused → Type 0) where
@@ -226,7 +219,7 @@ module _ {J : Type 0} (R : RattleType) (v : LocalModel R.Denot J) (m : LocalStat
         × IsRightTo v.member kind (showing R x) right × (es ≡ set v.entries (number_of right) (Some (x, showing R x)))) (Was Back Why)
 
     pub answered_tied : (r : Result Right (B × Refused)) → Answers r → WordsMatchValues v.member v.entries → WordsMatchValues m es
-    answered_tied (Ok right) a tied = did_tied a.0 right (a.2, a.3, a.4) tied
+    answered_tied (Ok right) a tied = makes_tied a.0 (number_of right) a.2 a.4 tied
     answered_tied (Err e) a tied = subst (λ (p : LocalModel R.Denot J). WordsMatchValues p.member p.entries)
         (λ d. record { member = sym a.1 d; entries = sym a.4 d }) tied
 
@@ -242,7 +235,7 @@ module _ {J : Type 0} (R : RattleType) (v : LocalModel R.Denot J) (m : LocalStat
 
     pub answered_keeps : (holds : R.Denot → List OwnerOrCell) (r : Result Right (B × Refused)) (p : LocalModel R.Denot J) → v ≡ p → Answers r
         → WordsMatchValues v.member v.entries → KeepsShown (Shows (showing R) holds p) (Shows (showing R) holds after)
-    answered_keeps holds (Ok right) p is a tied i u h = did_keep a.0 right (a.2, a.3, a.4) holds tied i u
+    answered_keeps holds (Ok right) p is a tied i u h = makes_keeps a.0 (number_of right) a.2 a.4 holds tied i u
         (subst (λ (q : LocalModel R.Denot J). Shows (showing R) holds q i u) (sym is) h)
     answered_keeps holds (Err e) p is a tied i u h = subst (λ (q : LocalModel R.Denot J). Shows (showing R) holds q i u)
         (sym is ∙ (λ d. record { member = sym a.1 d; entries = sym a.4 d })) h
@@ -254,7 +247,7 @@ module _ {J : Type 0} (R : RattleType) (v : LocalModel R.Denot J) (m : LocalStat
         (λ e. IsFull (world_of p).standings × (Back e × (e.1 ≡ Refused.NoSlot)) × (world_of after ≡ world_of p))
     answered_world (Ok right) p is a tied exact = let lone = lone_is v.member
         (subst (λ (q : LocalModel R.Denot J). IsTrue (is_lone q.member)) (sym is) exact) in
-        let w = did_world a.0 right (a.2, a.3, a.4) tied lone in (
+        let w = makes_world a.0 (number_of right) a.2 a.4 tied lone in (
           subst (λ (q : LocalModel R.Denot J). IsEmptyAt (world_of q).standings (number_of right)) is w.0,
           (a.0, a.1, w.1 ∙ ap (λ (q : LocalModel R.Denot J). made_as (world_of q) (number_of right) a.0 (first_standing kind)) is),
         )

@@ -55,7 +55,7 @@ use Rattle.sdd_domain.specs.Space as space
 use Rattle.sdd_domain.proofs.Listings.{listing_at, listing_set, listing_same}
 use Rattle.sdd_domain.proofs.Words.{place_dead, inside, word_same, word_other, alive_taken, waiting_taken, value_there, stands_owned, stands_retired, counts_of, plain_retired, plain_less}
 use Rattle.sdd_domain.proofs.Members.{shown_now}
-use Rattle.sdd_domain.proofs.Alone.{alone, steps_alone, cells_kept}
+use Rattle.sdd_domain.proofs.Alone.{alone, steps_alone, cells_kept, pointers_kept}
 use Rattle.sdd_domain.proofs.Exact.{lone_is}
 use Rattle.sdd_domain.proofs.Reclaims.{what_item}
 use Rattle.sdd_domain.proofs.Ripe.{ripe_snoc, unripe_too}
@@ -86,12 +86,25 @@ shown_entry k shared g None e is a = absurd a
 shown_entry k shared g (Some r) None is a = absurd a
 shown_entry k shared g (Some r) (Some x) is a = (x, refl, a ∙ ap (value_or g) is)
 
+-- ---- a slot whose word tells of owners
+module _ {T J : Type 0} (v : LocalModel T J) (t : AreTied v.member v.entries) (k : ℕ) (some : 0 < alive (word_of v.member k)) where
+  pub low_alive : k < v.member.limits.slots
+  low_alive = let s = t.slots in let q = t.places in let i = inside v.member.sizes v.member.words t.long (λ j l.
+      subst (λ (n : ℕ). alive (get_or v.member.words (behind v.member.sizes (n + j)) 0) ≡ 0) (sym t.slots)
+      (place_dead (word_of v.member (place_number v.member j)) (entry_at v.member.jobs j) (t.jobs j (omega arith)))) k some in omega arith
+
+  module _ (shared : Bool) (kind : counted (word_of v.member k) ≡ one_where shared) where
+    pub stands_alive : standing_at (world_of v) k ≡ Some (if shared then Shared (alive (word_of v.member k)) else Owned)
+    stands_alive = listing_at v.member.limits.slots (standing_in v) k None low_alive ∙ stands_owned (word_of v.member k) shared some kind
+
+    -- no more than may be
+    pub few_alive : shared ≡ true → alive (word_of v.member k) ≤ 2 ^ 62
+    few_alive e = let c = counts_of (word_of v.member k) (t.plain k low_alive) (kind ∙ ap one_where e) in let a = c.1 in let b = c.2 in omega arith
+
 -- ---- an owner's item
 module _ {T J : Type 0} (v : LocalModel T J) (t : AreTied v.member v.entries) (k : ℕ) (shared : Bool) (g : Gv) (knows : KnowsOwner v.member k shared g) where
   pub low : k < v.member.limits.slots
-  low = let s = t.slots in let q = t.places in let i = inside v.member.sizes v.member.words t.long (λ j l.
-      subst (λ (n : ℕ). alive (get_or v.member.words (behind v.member.sizes (n + j)) 0) ≡ 0) (sym t.slots)
-      (place_dead (word_of v.member (place_number v.member j)) (entry_at v.member.jobs j) (t.jobs j (omega arith)))) k knows.alive in omega arith
+  low = low_alive v t k knows.alive
 
   pub taken : word_of v.member k ≢ 0
   taken = alive_taken (word_of v.member k) knows.alive
@@ -109,11 +122,11 @@ module _ {T J : Type 0} (v : LocalModel T J) (t : AreTied v.member v.entries) (k
   owners = alive (word_of v.member k)
 
   pub stands : standing_at (world_of v) k ≡ Some (if shared then Shared owners else Owned)
-  stands = listing_at v.member.limits.slots (standing_in v) k None low ∙ stands_owned (word_of v.member k) shared knows.alive knows.kind
+  stands = stands_alive v t k knows.alive shared knows.kind
 
   -- no more than may be
   pub few_owners : shared ≡ true → owners ≤ 2 ^ 62
-  few_owners e = let c = counts_of (word_of v.member k) (t.plain k low) (knows.kind ∙ ap one_where e) in let a = c.1 in let b = c.2 in omega arith
+  few_owners = few_alive v t k knows.alive shared knows.kind
 
 -- in an owner's slot is the value that it tells
 module _ {J : Type 0} (R : RattleType) (v : LocalModel R.Denot J) (k : ℕ) (shared : Bool) (x : R.Denot) (tied : WordsMatchValues v.member v.entries)
@@ -322,7 +335,12 @@ module _ {T J : Type 0} (v : LocalModel T J) (m : LocalState J) (k : ℕ) (share
         ∙ ap (set (listing n (standing_in v)) k) (ap standing_by word_now ∙ stands_retired y waits_there) in
         let values : listing n (value_in q) ≡ listing n (value_in v)
         = listing_same n (value_in v) (value_in q) (λ i l. value_still v k y t inside_here (taken v t k shared g knows) still_there i) in
-        λ d. record (alone q) { standings = standings d; values = values d; cells = cells_kept v.member.limits.cells v.member.sizes v.member.words k y t.all_cells d }
+        λ d. record (alone q) {
+          standings = standings d;
+          values = values d;
+          cells = cells_kept v.member.limits.cells v.member.sizes v.member.words k y t.all_cells d;
+          pointers = pointers_kept v.member.limits.cells v.member.sizes v.member.words k y t.all_cells d;
+        }
 
     value_waits : (i : ℕ) (u : T) → value_at (world_of v) i ≡ Some u → value_at (world_of (record { member = waits_too; entries = v.entries })) i ≡ Some u
     value_waits i u was = ap (λ (vs : List (Option T)). slice_index_or vs i None)
@@ -406,7 +424,12 @@ module _ {T J : Type 0} (v : LocalModel T J) (t : AreTied v.member v.entries) (k
       = listing_set slots (standing_in v) (standing_in q) k (λ i l ne. standing_then v k y t near i ne)
       ∙ ap (set (listing slots (standing_in v)) k) (ap standing_by (rewritten_now v k y t near)
       ∙ (stands_owned y true lives several ∙ ap (λ (o : ℕ). Some (Shared o)) so_many)) in
-      λ d. record (world_of q) { standings = standings d; values = values_recounted d; cells = cells_kept v.member.limits.cells v.member.sizes v.member.words k y t.all_cells d }
+      λ d. record (world_of q) {
+        standings = standings d;
+        values = values_recounted d;
+        cells = cells_kept v.member.limits.cells v.member.sizes v.member.words k y t.all_cells d;
+        pointers = pointers_kept v.member.limits.cells v.member.sizes v.member.words k y t.all_cells d;
+      }
 
   pub value_recounted : (i : ℕ) (u : T) → value_at (world_of v) i ≡ Some u
       → value_at (world_of (record { member = rewritten v k y; entries = v.entries })) i ≡ Some u

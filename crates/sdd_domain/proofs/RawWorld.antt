@@ -42,7 +42,7 @@ use Rattle.sdd_domain.proofs.Words.{plain_by, word_same, word_other, stands_owne
 use Rattle.sdd_domain.proofs.Owning.{low, taken, stands, shown_entry, only_looks, shows_it, keeps_it}
 use Rattle.sdd_domain.proofs.Exact.{lone_is}
 use Rattle.sdd_domain.proofs.Refusals.{words_only, words_undisturbed}
-use Rattle.sdd_domain.proofs.Alone.{cells_kept}
+use Rattle.sdd_domain.proofs.Alone.{cells_kept, pointers_kept}
 
 -- ---- a word changes of an item that stays
 -- an item that neither waits nor is free
@@ -113,6 +113,7 @@ module _ {T J : Type 0} (v : LocalModel T J) (k y : ℕ) where
             standings = standings d;
             values = values_same d;
             cells = cells_kept v.member.limits.cells v.member.sizes v.member.words k y t.all_cells d;
+            pointers = pointers_kept v.member.limits.cells v.member.sizes v.member.words k y t.all_cells d;
           }
 
       -- and each slot has its value still

@@ -11,15 +11,17 @@ use Rattle.sdd_views.specs.declared.SlotsView.{SlotsView}
 use Rattle.sdd_word_invariant.specs.Codes.{waiting, full}
 use Rattle.sdd_word_invariant.specs.Words.{words_behind}
 use Rattle.sdd_word_invariant.specs.SlotSteps.{behind}
+use Rattle.sdd_word_invariant.specs.CellSteps.{pointer_behind}
+use Rattle.sdd_standings.specs.Cells.{null_pointer}
 use Rattle.sdd_word_invariant.specs.Sums.{total}
 use Rattle.sdd_word_invariant.specs.Slots.{waits_in}
 use Rattle.sdd_word_invariant.proofs.Codes.{free_is}
 use Rattle.sdd_participants.specs.Jobs.{places_of}
 use Rattle.sdd_participants.proofs.Places.{places-none}
-use Rattle.sdd_domain.specs.LocalState.{LocalState, IsLone, IsNew, word_of, cell_word_of, place_number}
+use Rattle.sdd_domain.specs.LocalState.{LocalState, IsLone, IsNew, word_of, cell_word_of, pointer_word_of, place_number}
 use Rattle.sdd_domain.specs.WaitingItems.{what_of, waiting_of, ripe, unripe}
 use Rattle.sdd_domain.specs.WordsAndValues.{Entries, WordsMatchValues, MatchesPlace, is_plain_word}
-use Rattle.sdd_domain.specs.Local.{LocalModel, IsBlankAlone, listing, standing_by, value_by, contents_by, standing_in, value_in, contents_in, world_of}
+use Rattle.sdd_domain.specs.Local.{LocalModel, IsBlankAlone, listing, standing_by, value_by, contents_by, pointer_by, standing_in, value_in, contents_in, pointer_in, world_of}
 use Rattle.sdd_space.proofs.Accounts.{blank-at}
 use Rattle.sdd_domain.proofs.Listings.{listing_same}
 
@@ -28,9 +30,9 @@ zeros zero i = refl
 zeros (suc n) zero = refl
 zeros (suc n) (suc i) = zeros n i
 
-listing_none : {A : Type 0} (n : ℕ) → ◌≡◌ {A = List (Option A)} (listing n (λ (i : ℕ). None)) (replicate n None)
-listing_none zero = refl
-listing_none (suc n) = ap (λ l. None ∷ l) (listing_none n)
+listing_alike : {A : Type 0} (a : A) (n : ℕ) → listing n (λ (i : ℕ). a) ≡ replicate n a
+listing_alike a zero = refl
+listing_alike a (suc n) = ap (λ l. a ∷ l) (listing_alike a n)
 
 module _ {T J : Type 0} (home : TableId) (book : ℕ) (most : Limits) (m : LocalState J) (es : Entries T) (is : IsNew home book most m)
     (none : es ≡ replicate most.slots None) where
@@ -48,6 +50,9 @@ module _ {T J : Type 0} (home : TableId) (book : ℕ) (most : Limits) (m : Local
 
   cell_free : (i : ℕ) → cell_word_of m i ≡ 0
   cell_free i = ap (λ (ws : List ℕ). get_or ws i 0) is.words ∙ zeros (words_behind m.sizes) i
+
+  pointer_free : (i : ℕ) → pointer_word_of m i ≡ 0
+  pointer_free i = ap (λ (ws : List ℕ). get_or ws (pointer_behind m.sizes i) 0) is.words ∙ zeros (words_behind m.sizes) (pointer_behind m.sizes i)
 
   nothing_waits : (i : ℕ) → total (waits_in i) m.slots.waits ≡ 0
   nothing_waits i = ap (λ (s : SlotsView). total (waits_in i) s.waits) is.slots
@@ -86,12 +91,13 @@ module _ {T J : Type 0} (home : TableId) (book : ℕ) (most : Limits) (m : Local
       room = (is.limits d).slots + (is.limits d).jobs;
     };
     standings = listing_same m.limits.slots (λ (i : ℕ). None) (standing_in q) (λ i l. ap standing_by (word_free i))
-        ∙ (listing_none m.limits.slots ∙ ap (λ (n : ℕ). replicate n None) slots_are);
+        ∙ (listing_alike None m.limits.slots ∙ ap (λ (n : ℕ). replicate n None) slots_are);
     values = listing_same m.limits.slots (λ (i : ℕ). None) (value_in q) (λ i l. ap (λ (w : ℕ). value_by w (slice_index_or es i None)) (word_free i))
-        ∙ (listing_none m.limits.slots ∙ ap (λ (n : ℕ). replicate n None) slots_are);
+        ∙ (listing_alike None m.limits.slots ∙ ap (λ (n : ℕ). replicate n None) slots_are);
     cells = listing_same m.limits.cells (λ (i : ℕ). None) (contents_in q) (λ i l. ap contents_by (cell_free i))
-        ∙ (listing_none m.limits.cells ∙ ap (λ (n : ℕ). replicate n None) cells_are);
-    pointers = ap (λ (l : Limits). replicate l.cells Rattle.sdd_standings.specs.Cells.null_pointer) is.limits;
+        ∙ (listing_alike None m.limits.cells ∙ ap (λ (n : ℕ). replicate n None) cells_are);
+    pointers = listing_same m.limits.cells (λ (i : ℕ). null_pointer) (pointer_in q) (λ i l. ap pointer_by (pointer_free i))
+        ∙ (listing_alike null_pointer m.limits.cells ∙ ap (λ (n : ℕ). replicate n null_pointer) cells_are);
     jobs = ap places_of is.jobs ∙ places-none J most.jobs;
     tally = is.tally;
   }

@@ -1,12 +1,11 @@
 -- What a participant's guards see grows, and what is known of cells and owners meanwhile stays
-use Rattle.std.proofs.Common.{◌≡◌, ◌⊎◌, inl, inr, ⊎_elim, ℕ, ◌<◌, ◌≤◌, List, ◌∷◌, Some, None, true, sym, refl, ap, ◌∙◌, subst, arith}
-use Rattle.std.specs.Prelude.{Bool, Option}
+use Rattle.std.proofs.Common.{◌≡◌, ◌⊎◌, inl, inr, ⊎_elim, ℕ, ◌<◌, ◌≤◌, Some, true, false, sym, refl, ap, ◌∙◌, subst, arith}
+use Rattle.std.specs.Prelude.{Bool}
 use mathlib.Core.Logic.{dite}
 use native.Mathlib.Decide.{dec_lt}
 use base.Stored.{Gv}
 use Rattle.sdd_core.specs.declared.refused.Refused.{Refused}
 use Rattle.sdd_core.specs.declared.refused.Refused.TheVariants.{TooManyOwners, Contended}
-use Rattle.sdd_participants.specs.declared.standing.CellContents.{CellContents}
 use Rattle.sdd_views.specs.declared.ShownValue.{ShownValue}
 use Rattle.sdd_word_invariant.specs.Codes.{alive, counted, held_word, most_owners}
 use Rattle.sdd_word_invariant.specs.Sums.{times}
@@ -15,9 +14,13 @@ use Rattle.sdd_domain_invariant.specs.BankInvariant.{one_where}
 use Rattle.sdd_domain_invariant.specs.Records.{IsIn}
 use Rattle.sdd_domain_invariant.proofs.Records.{in_head, in_tail}
 use Rattle.sdd_domain.specs.SeenSlots.{IsOnce}
-use Rattle.sdd_domain.specs.LocalState.{LocalState, IsLone, LooksAt, cell_word_of, word_of}
+use Rattle.sdd_domain.specs.LocalState.{LocalState, IsLone, KnowsOwner, LooksAt, cell_word_of, word_of}
 use Rattle.sdd_domain.specs.Local.{contents_of}
 use Rattle.sdd_domain.specs.Cells.{CopiesNone, FindsAt, IsOwnedThere, SeesMore}
+
+of_several : (b : Bool) → one_where b ≡ 1 → b ≡ true
+of_several true e = refl
+of_several false e = absurd (omega arith)
 
 module _ {J : Type 0} where
   pub same_sees : (a b : LocalState J) → b ≡ a → SeesMore a b
@@ -53,6 +56,12 @@ module _ {J : Type 0} where
         ))
 
   module _ (a b : LocalState J) (more : SeesMore a b) where
+    -- of an owner that a cell of shared owners holds
+    pub knows_more : (slot : ℕ) (shared : Bool) (value : Gv) → KnowsOwner a slot shared value → IsOwnedThere slot true a → KnowsOwner b slot true value
+    knows_more slot shared value knows owned = let is : shared ≡ true = of_several shared (sym knows.kind ∙ owned.kind) in
+        let told = subst (λ (s : Bool). KnowsOwner a slot s value) is knows in
+        subst (λ (m : LocalState J). KnowsOwner m slot true value) (sym more.member) record { newest = told.newest; alive = told.alive; kind = told.kind }
+
     pub finds_before : (cell word : ℕ) → FindsAt cell word b → FindsAt cell word a
     finds_before cell word f = record {
       inside = subst (λ (m : LocalState J). cell < m.sizes.cells) more.member f.inside;
@@ -93,13 +102,19 @@ module _ {J : Type 0} where
     copies_none why cause = record {
       sees = sees_then a c d more (same_sees c d same);
       cause = ⊎_elim
-          (λ (m : (why ≡ TooManyOwners) × (IsLone c → (counted (word_of c slot) ≡ 1) × (most_owners ≤ alive (word_of c slot)))). inl (m.0, λ lone.
-          let most = m.1 (lone_after a c more lone) in let w = word_before a c more slot in (
-            slot,
-            ap (λ (x : ℕ). (contents_of x).held) (sym ((finds_before a b first cell word finds).found lone)) ∙ held,
-            ap counted (sym w) ∙ most.0,
-            (let e = ap alive w in let k = most.1 in omega arith),
-          )))
-          (λ (h : (why ≡ Contended) × (IsLone c → word_of c slot ≡ held_word)). inr (h.0, λ lone.
-          let e = ap counted (h.1 (lone_after a c more lone)) in let k = (there lone).0 in let z = only_held.2 in absurd (omega arith))) cause;
+          (λ (m : (why ≡ TooManyOwners) × (IsLone c → (counted (word_of c slot) ≡ 1) × (most_owners ≤ alive (word_of c slot)))). inl (
+            m.0,
+            λ lone.
+                let most = m.1 (lone_after a c more lone) in let w = word_before a c more slot in (
+                  slot,
+                  ap (λ (x : ℕ). (contents_of x).held) (sym ((finds_before a b first cell word finds).found lone)) ∙ held,
+                  ap counted (sym w) ∙ most.0,
+                  (let e = ap alive w in let k = most.1 in omega arith),
+                ),
+          ))
+          (λ (h : (why ≡ Contended) × (IsLone c → word_of c slot ≡ held_word)). inr (
+            h.0,
+            λ lone.
+                let e = ap counted (h.1 (lone_after a c more lone)) in let k = (there lone).0 in let z = only_held.2 in absurd (omega arith),
+          )) cause;
     }

@@ -33,14 +33,14 @@ use Rattle.sdd_space.proofs.Accounts.{blank-at}
 use Rattle.sdd_space.proofs.Four.{AllClosed, all-closed, not-guarded}
 use Rattle.sdd_space.proofs.Housed.{Whole-opened, Whole-made_as, Whole-owner_given, live-taken}
 use Rattle.sdd_domain.specs.SpaceIds.{home_in}
-use Rattle.sdd_domain.specs.LocalState.{LocalState, word_of, IsLone, IsNew, OwnerGoes, KnowsOwner}
+use Rattle.sdd_domain.specs.LocalState.{LocalState, word_of, IsLone, IsNew, MakesAt, OwnerGoes, KnowsOwner}
 use Rattle.sdd_domain.specs.WordsAndValues.{Entries, WordsMatchValues}
 use Rattle.sdd_domain.specs.Local.{LocalModel, IsBlankAlone, value_in, world_of}
 use Rattle.sdd_domain.specs.Space.{ShowsBy, Shows, is_lone}
 use Rattle.sdd_domain.proofs.Listings.{listing_at, listing_past}
 use Rattle.sdd_domain.specs.Laws.{own_is_place}
 use Rattle.sdd_domain.specs.Sound.{IsSound}
-use Rattle.sdd_domain.proofs.Makes.{Answers, did_world}
+use Rattle.sdd_domain.proofs.Makes.{Answers, makes_world}
 use Rattle.sdd_domain.proofs.Owning.{went_due, went_home, went_limits, release_world}
 use Rattle.sdd_domain.proofs.Registered.{blank_new}
 
@@ -239,19 +239,23 @@ module _ {J : Type 0} (R : RattleType) (holds : R.Denot → List OwnerOrCell) (v
       (λ ne. subst (λ (h : SpaceId). AreOf h (holds value)) (sym home)
       (sound.home place value g (sym (get_or-set_other v.entries k place (Some (x, showing R x)) None ne) ∙ is)))
 
--- for an answer of `make`
+-- once an item was made
 module _ {J : Type 0} (R : RattleType) (holds : R.Denot → List OwnerOrCell) (v : LocalModel R.Denot J) (m : LocalState J) (es : Entries R.Denot)
-    (kind : StandingKind)
-    {B : Type 0}
-    (P : R.Denot → Type 0) (Back Why : B × Refused → Type 0) where
-  pub sound_made : (r : Result Right (B × Refused)) → Answers R v m es kind P Back Why r → ((x : R.Denot) → P x → AreOf (home_in v.member) (holds x))
-      → WordsMatchValues v.member v.entries → IsSound holds v → IsSound holds (record { member = m; entries = es })
-  sound_made (Ok right) a at tied sound = let home : home_in m ≡ home_in v.member = ap home_in a.2.member in record {
-    settled = ap (λ (z : LocalState J). z.due) a.2.member ∙ sound.settled;
-    home = entered_home R holds v m es (number_of right) a.0 a.4 (subst (λ (h : SpaceId). AreOf h (holds a.0)) (sym home) (at a.0 a.1)) home sound;
-    whole = λ one. let lone : IsLone v.member = sym (ap (λ (z : LocalState J). z.limits.participants) a.2.member) ∙ one in
-        let w = did_world R v m es kind a.0 right (a.2, a.3, a.4) tied lone in
+    (kind : StandingKind) where
+  pub sound_makes : (x : R.Denot) (k : ℕ) → MakesAt k (is_shared kind) (showing R x) v.member m → es ≡ set v.entries k (Some (x, showing R x))
+      → AreOf (home_in v.member) (holds x) → WordsMatchValues v.member v.entries → IsSound holds v → IsSound holds (record { member = m; entries = es })
+  sound_makes x k makes entered at tied sound = let home : home_in m ≡ home_in v.member = ap home_in makes.member in record {
+    settled = ap (λ (z : LocalState J). z.due) makes.member ∙ sound.settled;
+    home = entered_home R holds v m es k x entered (subst (λ (h : SpaceId). AreOf h (holds x)) (sym home) at) home sound;
+    whole = λ one. let lone : IsLone v.member = sym (ap (λ (z : LocalState J). z.limits.participants) makes.member) ∙ one in
+        let w = makes_world R v m es kind x k makes entered tied lone in
         subst (λ (u : World R.Denot). IsWhole u) (sym w.1)
-        (Whole-made_as (world_of v) (number_of right) a.0 (first_standing kind) (first_is kind) w.0 (sound.whole lone));
+        (Whole-made_as (world_of v) k x (first_standing kind) (first_is kind) w.0 (sound.whole lone));
   }
-  sound_made (Err e) a at tied sound = subst (λ (p : LocalModel R.Denot J). IsSound holds p) (λ d. record { member = sym a.1 d; entries = sym a.4 d }) sound
+
+  -- for an answer of `make`
+  module _ {B : Type 0} (P : R.Denot → Type 0) (Back Why : B × Refused → Type 0) where
+    pub sound_made : (r : Result Right (B × Refused)) → Answers R v m es kind P Back Why r → ((x : R.Denot) → P x → AreOf (home_in v.member) (holds x))
+        → WordsMatchValues v.member v.entries → IsSound holds v → IsSound holds (record { member = m; entries = es })
+    sound_made (Ok right) a at tied sound = sound_makes a.0 (number_of right) a.2 a.4 (at a.0 a.1) tied sound
+    sound_made (Err e) a at tied sound = subst (λ (p : LocalModel R.Denot J). IsSound holds p) (λ d. record { member = sym a.1 d; entries = sym a.4 d }) sound

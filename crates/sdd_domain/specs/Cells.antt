@@ -1,5 +1,5 @@
 -- Cells: what a participant knows of them, and what its calls make of it
-use Rattle.std.specs.Prelude.{◌≡◌, ◌⊎◌, ℕ, ◌<◌, ◌≤◌, Bool, List, [], ◌∷◌, Option, Some, None, IfSome, MatchOption, option_map, slice_index, slice_set}
+use Rattle.std.specs.Prelude.{◌≡◌, ◌⊎◌, ℕ, ◌<◌, ◌≤◌, Bool, true, List, [], ◌∷◌, Option, Some, None, IfSome, MatchOption, option_map, slice_index, slice_set}
 use base.Stored.{Gv}
 use Rattle.atomic_table.specs.declared.shared.Seat.{Seat}
 use Rattle.sdd_shared_values.specs.declared.value_fraction.ValueFraction.{ValueFraction}
@@ -13,12 +13,13 @@ use Rattle.sdd_rights.specs.Right.{home_of_table, number_of, views_of}
 use Rattle.sdd_rights.specs.Units.{GhostName}
 use Rattle.sdd_standings.specs.Cells.{MayHold, cell_with, slot_held}
 use Rattle.sdd_core.specs.declared.tag.Tag.{Tag}
+use Rattle.sdd_participants.specs.declared.standing.RawCellContents.{RawCellContents}
 use Rattle.sdd_domain_invariant.specs.Records.{IsIn}
 use Rattle.sdd_domain.specs.SeenSlots.{IsOnce}
 use Rattle.sdd_domain.specs.CellWords.{listed}
-use Rattle.sdd_domain.specs.Local.{contents_of}
+use Rattle.sdd_domain.specs.Local.{contents_of, pointer_by}
 use Rattle.sdd_core.specs.declared.tag.Tag.TheVariants.{None as Untagged}
-use Rattle.sdd_word_invariant.specs.Codes.{alive, counted, held_slots, most_owners}
+use Rattle.sdd_word_invariant.specs.Codes.{alive, counted, held_slots, most_owners, null_word}
 use Rattle.sdd_domain_invariant.specs.BankInvariant.{one_where}
 use Rattle.sdd_atomics.specs.declared.domain_table.DomainTable.{DomainTable}
 use Rattle.sdd_atomics.specs.DomainTable.{id_of, book_of, slots_of}
@@ -27,10 +28,14 @@ use Rattle.sdd_core.specs.declared.refused.Refused.{Refused}
 use Rattle.sdd_core.specs.declared.refused.Refused.TheVariants.{NoSlot, NoCell, TooManyOwners, Contended}
 use Rattle.sdd_domain.specs.declared.cell_values.LooseOwner.{LooseOwner}
 use Rattle.sdd_word_invariant.specs.Epoch.{IsLone}
-use Rattle.sdd_word_invariant.specs.CellSteps.{cell_noted}
+use Rattle.sdd_word_invariant.specs.CellSteps.{cell_noted, pointer_behind}
 use Rattle.sdd_domain_invariant.specs.CellSteps.{put_in}
 use Rattle.sdd_domain.specs.Claims.{IsUnmoved}
-use Rattle.sdd_domain.specs.LocalState.{LocalState, AddsAt, IsLone as IsAlone, IsUsedUp, MakesAt, cell_word_of, word_of}
+use Rattle.sdd_domain.specs.LocalState.{LocalState, AddsAt, IsLone as IsAlone, IsUsedUp, KnowsOwner, LooksAt, MakesAt, cell_word_of, pointer_word_of, word_of}
+use Rattle.sdd_space.specs.OwnerOrCell.{OwnerOrCell, AreOf}
+use Rattle.sdd_space.specs.Ptr.{shown_by, slot_named}
+use Rattle.sdd_space.specs.declared.ptr.Ptr.{Ptr}
+use Rattle.sdd_domain.specs.SpaceIds.{home_in}
 
 -- ---- as its callers see it
 module _ {J : Type 0} where
@@ -82,6 +87,26 @@ module _ {J : Type 0} where
     pub found : IsAlone m → word ≡ cell_word_of m cell
     pub full : IsAlone m → 0 < word
 
+  -- a raw cell was found to point to this, and points to that now
+  pub record PointsAt (cell : ℕ) (found now : RawCellContents) (old new : LocalState J) : Type 0 where
+    pub word : ℕ
+    pub tells : pointer_by word ≡ now
+    pub member : new ≡ record old { words = slice_set old.words (pointer_behind old.sizes cell) word }
+    pub inside : cell < old.sizes.cells
+    pub lone : IsAlone old → pointer_by (pointer_word_of old cell) ≡ found
+
+  -- a raw cell was found to point to this
+  pub record FindsPointer (cell : ℕ) (found : RawCellContents) (m : LocalState J) : Type 0 where
+    pub inside : cell < m.sizes.cells
+    pub lone : IsAlone m → pointer_by (pointer_word_of m cell) ≡ found
+
+  -- a cell that was free is a raw one, and points to this
+  pub record MakesRaw (cell : ℕ) (pointer : RawCellContents) (old new : LocalState J) : Type 0 where
+    pub reserved : LocalState J
+    pub last : RawCellContents
+    pub reserves : WritesAt cell 0 (null_word 0) old reserved
+    pub points : PointsAt cell last pointer reserved new
+
   -- its guards see what they saw, and more, and nothing else that callers see is other
   pub record SeesMore (old new : LocalState J) : Type 0 where
     pub member : new ≡ record old { slots = new.slots; shown = new.shown }
@@ -89,10 +114,11 @@ module _ {J : Type 0} where
     pub keeps : (slot : ℕ) (value : Gv) → IsIn old.shown slot value → IsIn new.shown slot value
     pub once : (new ≡ old) ⊎ IsOnce new.shown
 
-  -- what a cell of shared owners was found to hold is copied: of the item that it names one owner more came
+  -- what a cell of shared owners was found to hold is copied: of the item that it names, of whose owner a lone participant knows, one owner more came
   abbrev pub Copies : ℕ → Option Right → Tag → LocalState J → LocalState J → Type 0
   Copies cell copy tag old new = (word : ℕ) × (contents_of word ≡ cell_with copy tag) × FindsAt cell word old × MatchOption copy (SeesMore old new)
-      (λ right. (mid : LocalState J) × (owners : ℕ) × SeesMore old mid × AddsAt (number_of right) owners mid new)
+      (λ right. (mid : LocalState J) × (owners : ℕ) × SeesMore old mid × AddsAt (number_of right) owners mid new
+      × (IsAlone mid → (value : Gv) × KnowsOwner mid (number_of right) true value))
 
   -- why it wasn't copied
   pub record CopiesNone (cell : ℕ) (why : Refused) (old new : LocalState J) : Type 0 where
@@ -129,6 +155,21 @@ module _ {J : Type 0} where
   pub record IsOwnedThere (slot : ℕ) (shared : Bool) (m : LocalState J) : Type 0 where
     pub alive : 0 < alive (word_of m slot)
     pub kind : counted (word_of m slot) ≡ one_where shared
+
+-- what a pointer shows
+module _ {T J : Type 0} (shown : T → Gv) (holds : T → List OwnerOrCell) where
+  -- its guards see the item of a slot, if they didn't before, which has this value, and whose owner a lone participant knows
+  pub record SeesItem (slot : ℕ) (value : T) (old new : LocalState J) : Type 0 where
+    pub shared : Bool
+    pub looks : LooksAt slot shared (shown value) old new
+    pub recalled : IsAlone old → KnowsOwner old slot shared (shown value)
+    pub once : IsOnce new.shown
+    pub home : AreOf (home_in old) (holds value)
+
+  -- a pointer shows what its guards see there; a null one shows nothing, and nothing has changed
+  abbrev pub LooksThrough : Ptr T → LocalState J → LocalState J → Type 0
+  LooksThrough ptr old new = MatchOption (slot_named ptr) ((shown_by ptr ≡ None) × (new ≡ old))
+      (λ slot. (value : T) × (shown_by ptr ≡ Some value) × SeesItem slot value old new)
 
 -- ---- the token
 -- the word of a cell was found to be this, and is that now, and all else is as it was

@@ -1,5 +1,5 @@
 -- What is always true of a participant as the generic calls see it
-use Rattle.std.proofs.Common.{◌≡◌, ◌↔◌, ℕ, zero, suc, Bool, true, false, IsTrue, List, replicate, slice_index_or, sym, refl, ap, ◌∙◌}
+use Rattle.std.proofs.Common.{◌≡◌, ◌↔◌, ℕ, zero, suc, Bool, true, false, IsTrue, List, replicate, slice_index_or, sym, refl, ap, ◌∙◌, arith}
 use Rattle.std.specs.Prelude.{Option, Some, None}
 use Rattle.std.proofs.lemmas.Bool.{true≢false}
 use base.Stored.{Gv}
@@ -9,8 +9,9 @@ use Rattle.sdd_participants.specs.EpochState.{nobody}
 use Rattle.sdd_space.specs.OwnerOrCell.{OwnerOrCell}
 use Rattle.sdd_space.specs.World.{place_at, value_at}
 use Rattle.sdd_domain.specs.Values.{one_showing}
+use Rattle.sdd_domain.specs.LocalState.{LocalState, IsLone}
 use Rattle.sdd_domain.specs.Local.{LocalModel, world_of}
-use Rattle.sdd_domain.specs.Space.{ShowsBy}
+use Rattle.sdd_domain.specs.Space.{ShowsBy, is_lone}
 
 replicate_at : {A : Type 0} (n : ℕ) (x d : A) → slice_index_or (replicate (suc n) x) n d ≡ x
 replicate_at zero x d = refl
@@ -37,3 +38,7 @@ module _ {J : Type 0} (R : RattleType) (p : LocalModel R.Denot J) where
       → ShowsBy b (showing R) holds p slot v → u ≡ v
   one_shown holds slot u v true a b = same_value u v (sym a ∙ b)
   one_shown holds slot u v false a b = one_showing R u v (b.only (showing R u) a.known)
+
+-- where nobody else takes part no sight is asked for
+pub lone_asks_nothing : {J : Type 0} (m : LocalState J) → IsTrue (is_lone m) → ¬ ¬ (IsLone m)
+lone_asks_nothing m exact asks = asks (grind arith)

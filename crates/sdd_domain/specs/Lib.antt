@@ -6,6 +6,7 @@ pub mod Claims
 pub mod Scan
 pub mod Domain
 pub mod LocalState
+pub mod ScanAtClose
 pub mod SpaceIds
 pub mod Items
 pub mod Receipt

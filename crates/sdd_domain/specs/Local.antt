@@ -1,5 +1,5 @@
 -- A participant of a domain with what it moved into slots, and the world of a lone one: nobody else changes its domain
-use Rattle.std.specs.Prelude.{ℕ, zero, suc, ◌+◌, ◌%◌, ◌==◌, List, [], ◌∷◌, Option, Some, None, replicate, slice_get, slice_index_or, option_map, if◌then◌else◌, false}
+use Rattle.std.specs.Prelude.{ℕ, zero, suc, ◌+◌, ◌-◌, ◌/◌, ◌%◌, ◌==◌, List, [], ◌∷◌, Option, Some, None, replicate, slice_get, slice_index_or, option_map, if◌then◌else◌, false}
 use base.Stored.{Gv}
 use Rattle.sdd_participants.specs.EpochState.{EpochState, newcomer}
 use Rattle.sdd_participants.specs.Jobs.{places_of}
@@ -7,13 +7,13 @@ use Rattle.sdd_participants.specs.declared.place_states.PlaceState.TheVariants.{
 use Rattle.sdd_participants.specs.declared.standing.Standing.{Standing}
 use Rattle.sdd_participants.specs.declared.standing.Standing.TheVariants.{Owned, Raw, Shared, Retired}
 use Rattle.sdd_participants.specs.declared.standing.CellContents.{CellContents}
+use Rattle.sdd_participants.specs.declared.standing.RawCellContents.{RawCellContents}
 use Rattle.sdd_word_invariant.specs.Codes.{free_word, raw_word, alive, waiting, counted, held_slots}
-use Rattle.sdd_standings.specs.Cells.{null_pointer}
 use Rattle.sdd_core.specs.declared.limits.Limits.{Limits}
 use Rattle.sdd_core.specs.declared.tag.Tag.{Tag}
 use Rattle.sdd_core.specs.declared.tag.Tag.TheVariants.{First, Second, Both, None as Untagged}
 use Rattle.sdd_space.specs.World.{World, IsBlank}
-use Rattle.sdd_domain.specs.LocalState.{LocalState, word_of, cell_word_of}
+use Rattle.sdd_domain.specs.LocalState.{LocalState, word_of, cell_word_of, pointer_word_of}
 use Rattle.sdd_domain.specs.WordsAndValues.{Entries}
 use Rattle.sdd_domain.specs.SpaceIds.{home_in}
 
@@ -52,6 +52,10 @@ contents_of word = record { held = slice_get (held_slots word) 0; tag = tag_by (
 abbrev pub contents_by : ℕ → Option CellContents
 contents_by word = if word == 0 then None else Some (contents_of word)
 
+-- what the word of a pointer names: a slot or nothing, with a tag
+abbrev pub pointer_by : ℕ → RawCellContents
+pointer_by word = record { named = if word / 4 == 0 then None else Some (word / 4 - 1); tag = tag_by (word % 4) }
+
 -- the count that it knows, and itself, alone
 abbrev pub time_of : {J : Type 0} → LocalState J → EpochState
 time_of m = record {
@@ -74,7 +78,11 @@ module _ {T : Type 0} where
   abbrev pub contents_in : {J : Type 0} → LocalModel T J → ℕ → Option CellContents
   contents_in p cell = contents_by (cell_word_of p.member cell)
 
-  -- its domain as a world: no cell is a raw one, and all jobs are its own
+  -- what a raw cell of this number points to, or pointed to last
+  abbrev pub pointer_in : {J : Type 0} → LocalModel T J → ℕ → RawCellContents
+  pointer_in p cell = pointer_by (pointer_word_of p.member cell)
+
+  -- its domain as a world: all jobs are its own
   abbrev pub world_of : {J : Type 0} → LocalModel T J → World T
   world_of p = record {
     home = home_in p.member;
@@ -82,7 +90,7 @@ module _ {T : Type 0} where
     standings = listing p.member.limits.slots (standing_in p);
     values = listing p.member.limits.slots (value_in p);
     cells = listing p.member.limits.cells (contents_in p);
-    pointers = replicate p.member.limits.cells null_pointer;
+    pointers = listing p.member.limits.cells (pointer_in p);
     jobs = places_of p.member.jobs;
     tally = p.member.tally;
   }

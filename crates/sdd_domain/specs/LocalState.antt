@@ -20,6 +20,7 @@ use Rattle.sdd_word_invariant.specs.Sums.{times, total}
 use Rattle.sdd_word_invariant.specs.Slots.{waits_in}
 use Rattle.sdd_views.specs.Views.{bare}
 use Rattle.sdd_word_invariant.specs.SlotSteps.{blank, behind, retired_now, without_item}
+use Rattle.sdd_word_invariant.specs.CellSteps.{pointer_behind}
 use Rattle.sdd_domain_invariant.specs.Records.{IsIn}
 use Rattle.sdd_domain_invariant.specs.FilledInvariant.{newest}
 use Rattle.sdd_domain_invariant.specs.BankInvariant.{one_where}
@@ -163,6 +164,10 @@ word_of m slot = slice_index m.words (behind m.sizes slot)
 -- the word of a cell, as a lone participant knows it
 abbrev pub cell_word_of : {J : Type 0} → LocalState J → ℕ → ℕ
 cell_word_of m cell = slice_index m.words cell
+
+-- the word of a cell's pointer, as a lone participant knows it
+abbrev pub pointer_word_of : {J : Type 0} → LocalState J → ℕ → ℕ
+pointer_word_of m cell = slice_index m.words (pointer_behind m.sizes cell)
 
 -- by the words that a lone participant knows the slot is free
 abbrev pub IsFree : {J : Type 0} → LocalState J → ℕ → Type 0

@@ -1,7 +1,7 @@
 //! The search for a free cell.
 ghost use Rattle.std.specs.Prelude.{◌≡◌, ◌⊎◌, ◌<◌, ◌≤◌, ℕ, [], None, IfOk, MatchOption, MatchResult};
 ghost use Rattle.sdd_views.specs.Views.{no_rights};
-ghost use Rattle.sdd_word_invariant.specs.Codes.{held_slots};
+ghost use Rattle.sdd_word_invariant.specs.Codes.{held_slots, null_word};
 ghost use Rattle.sdd_word_invariant.specs.Epoch.{HasPlace};
 ghost use Rattle.sdd_rights.specs.Owner.{cell_kind, witness_of_cell};
 ghost use Rattle.sdd_word_invariant.specs.CellSteps.{cell_noted};
@@ -13,12 +13,12 @@ ghost use Rattle.sdd_domain.specs.InPlace.{IsBare as HasNothing};
 ghost use Rattle.sdd_domain.specs.Claims.{Loses};
 
 use crate::cell_values::{LooseOwner, put_down, take_up};
-use crate::cell_words::word_with;
+use crate::cell_words::NULL_WORD;
 use sdd_atomics::steps::cells::{
     FREE_CELL, claim_cell, cut_right, fill_bare_cell, find_cell, look_in, take_in_right,
 };
 use sdd_atomics::{DomainSeat, DomainTable};
-use sdd_core::{Refused, Tag};
+use sdd_core::Refused;
 use sdd_views::CellKind;
 use sdd_witness::Witness;
 
@@ -230,12 +230,11 @@ pub fn reserve(
     requires rights { (view token.old).cells ≡ no_rights }
     requires tries { 0 < tries }
     ensures { MatchResult result
-        (λ won. (won.0 < cells) × ((word : ℕ) × Fills word won.0 token.old token.new)
+        (λ won. (won.0 < cells) × Fills (null_word 0) won.0 token.old token.new
         × (won.1.table_id ≡ id_of board.now) × (won.1.views ≡ witness_of_cell won.0 CellKind.Raw))
         (λ e. IsWith (view token.old) token.old token.new × MissedAll cells e (view token.old)) }
 {
-    let word = word_with(None, Tag::None);
-    claim_free(board, token, next, cells, word, CellKind::Raw, tries)
+    claim_free(board, token, next, cells, NULL_WORD, CellKind::Raw, tries)
 }
 
 /// Puts an owner, or none, into a cell that was reserved, by this word.

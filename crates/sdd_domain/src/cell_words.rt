@@ -14,6 +14,9 @@ const BELOW_GENERATION: u64 = 134_217_728;
 /// From here on it holds none.
 const UNOWNED: u64 = 134_217_712;
 
+/// The word of a cell that holds none and has no tag.
+pub const NULL_WORD: u64 = UNOWNED;
+
 /// The slot whose owner a cell holds that has this word, if it holds one.
 #[inline]
 pub fn held_slot(word: u64) -> Option<u32>

@@ -8,7 +8,7 @@ ghost use Rattle.sdd_domain.specs.Claims.{Defers, Misses, Loses};
 use sdd_atomics::steps::jobs::{defer, look_at_place};
 use sdd_atomics::steps::slots::FREE;
 use sdd_atomics::{DomainSeat, DomainTable};
-use sdd_core::Refused;
+use sdd_core::{Limits, Refused};
 
 /// One try at a place, which is claimed for a job if it is found free. So many exchanges more may be lost.
 fn attempt(
@@ -117,34 +117,62 @@ fn search(
     Err(Refused::NoJob)
 }
 
+/// The same search, with so many slots and places of jobs, and so many tries, as the limits say.
+// Compiled into its caller, so that the place in memory of the search's answer is made ready only where there is a search.
+#[inline]
+fn search_within(
+    board: &DomainTable,
+    token: &mut DomainSeat,
+    next: u32,
+    limits: &Limits,
+) -> Result<u32, Refused>
+    requires home { token.old.table_id ≡ id_of board.now }
+    requires knows { Knows board.now token.old }
+    requires rests { (view token.old).stakes.moves ≡ None }
+    requires slots { (limits.now.slots ≡ slots_of board.now) × (limits.now.slots + limits.now.jobs ≡ most_waiting_of board.now) }
+    requires small { limits.now.slots + limits.now.jobs < 2 ^ 32 }
+    requires next { next ≤ limits.now.jobs }
+    requires place { HasPlace (epoch token.old) }
+    requires tries { 0 < limits.now.tries }
+    ensures tried { MatchResult result
+        (λ job. (job < limits.now.jobs) × Defers (limits.now.slots + job) token.old token.new)
+        (λ e. ((e ≡ Refused.NoJob) × Misses (λ k. (limits.now.slots ≤ k) × (k < limits.now.slots + limits.now.jobs)) token.old token.new)
+        ⊎ ((e ≡ Refused.Contended) × Loses token.old token.new)) }
+{
+    let slots = limits.slots as u32;
+    let jobs = limits.jobs as u32;
+    match search(board, token, next, slots, jobs, limits.tries) {
+        Ok(place) => Ok(place),
+        Err(refused) => Err(refused),
+    }
+}
+
 /// Claims a free place for a job: this one, by an exchange without a look before, or else the first one of a walk over all places, once round, which
-/// begins there. A job's place has the number behind those of so many slots.
+/// begins there. A job's place has the number behind those of the slots.
 ///
-/// `NoJob` where none was found free; `Contended` where so many exchanges of the walk were lost.
+/// `NoJob` where none was found free; `Contended` where as many exchanges of the walk were lost as the limits allow.
 #[inline]
 pub fn claim_place(
     board: &DomainTable,
     token: &mut DomainSeat,
     next: u32,
-    slots: u32,
-    jobs: u32,
-    tries: u64,
+    limits: &Limits,
 ) -> Result<u32, Refused>
     requires home { token.old.table_id ≡ id_of board.now }
     requires knows { Knows board.now token.old }
     requires rests { (view token.old).stakes.moves ≡ None }
-    requires slots { (slots ≡ slots_of board.now) × (slots + jobs ≡ most_waiting_of board.now) }
-    requires small { slots + jobs < 2 ^ 32 }
-    requires next { next ≤ jobs }
+    requires slots { (limits.now.slots ≡ slots_of board.now) × (limits.now.slots + limits.now.jobs ≡ most_waiting_of board.now) }
+    requires small { limits.now.slots + limits.now.jobs < 2 ^ 32 }
+    requires next { next ≤ limits.now.jobs }
     requires place { HasPlace (epoch token.old) }
-    requires tries { 0 < tries }
+    requires tries { 0 < limits.now.tries }
     ensures tried { MatchResult result
-        (λ job. (job < jobs) × Defers (slots + job) token.old token.new)
-        (λ e. ((e ≡ Refused.NoJob) × Misses (λ k. (slots ≤ k) × (k < slots + jobs)) token.old token.new)
+        (λ job. (job < limits.now.jobs) × Defers (limits.now.slots + job) token.old token.new)
+        (λ e. ((e ≡ Refused.NoJob) × Misses (λ k. (limits.now.slots ≤ k) × (k < limits.now.slots + limits.now.jobs)) token.old token.new)
         ⊎ ((e ≡ Refused.Contended) × Loses token.old token.new)) }
 {
-    if next < jobs && claim(board, token, slots + next) {
+    if next < limits.jobs as u32 && claim(board, token, limits.slots as u32 + next) {
         return Ok(next);
     }
-    search(board, token, next, slots, jobs, tries)
+    search_within(board, token, next, limits)
 }

@@ -18,6 +18,7 @@ mod holds_own_domain;
 mod job_claims;
 pub mod local;
 mod local_core;
+mod pointer_words;
 mod raw_values;
 pub mod receipt;
 mod reclaiming;

@@ -14,6 +14,7 @@ ghost use Rattle.sdd_domain.specs.Domain.{home_of, book_of, limits_of};
 ghost use Rattle.sdd_domain.specs.SpaceIds.{home_at, home_in};
 ghost use Rattle.sdd_domain.specs.Items.{slots_home};
 ghost use Rattle.sdd_domain.specs.LocalState.{waits, CanNest, HasOpenGuard, IsNew, IsEntered, GoesOn, LocalState, Reclaims, GuardCloses, IsTold};
+ghost use Rattle.sdd_domain.specs.ScanAtClose.{TellsScan};
 ghost use Rattle.sdd_space.specs.Guard.{reader_of};
 ghost use Rattle.sdd_space.specs.OwnerOrCell.{AreOf};
 ghost use Rattle.sdd_values.specs.declared.read_sections.SectionState.TheVariants.{Closed as is_closed};
@@ -24,7 +25,7 @@ use crate::domain::Domain;
 use crate::due_items::{DueItems, count_items};
 use crate::ended_counts::EndedCounts;
 use crate::free_slot_hints::FreeSlotHints;
-use crate::scan::scan;
+use crate::scan::{ScanEnd, scan};
 use crate::shut::shut;
 use crate::values::take_value;
 use sdd_atomics::words::state_word;
@@ -43,7 +44,9 @@ pub mod detached_local;
 mod in_place;
 mod items;
 mod jobs;
+mod pointers;
 mod raw;
+mod raw_cells;
 
 /// A participant's membership of a domain: its place, its bags, and what it knows of the words.
 ///
@@ -395,29 +398,32 @@ impl<'d, T: Item<T>, J: Job> LocalCore<'d, T, J> {
         let _token = &self.token;
     }
 
-    /// Closes a guard; the last one publishes the end, after a scan at countdown 0. Since the guard is here, one is open.
+    /// Closes a guard; the last one publishes the end, after a scan at countdown 0, and tells how that ended. Since the guard is here, one is open.
     #[inline]
-    pub(crate) fn close_guard(&mut self, guard: Guard)
+    pub(crate) fn close_guard(&mut self, guard: Guard) -> Option<ScanEnd>
         requires { reader_of guard ≡ self.old.reader }
-        ensures { GuardCloses self.old self.new }
+        ensures closed { GuardCloses self.old self.new }
+        ensures told { TellsScan result self.old self.new }
     {
         let mut part = part_of_guard(guard);
         self.tenure.apart(&mut part);
         if self.own.guards > 1 {
             self.own.guards -= 1;
             self.tenure.join(part);
+            None
         } else {
-            self.leave(part);
+            self.leave(part)
         }
     }
 
     /// The last close, which gives back the one part of the tenure that was out: the tenure ends.
     #[inline]
-    fn leave(&mut self, part: ReadSection)
+    fn leave(&mut self, part: ReadSection) -> Option<ScanEnd>
         requires last { self.old.own.guards ≡ 1 }
         requires reader { (part.home ≡ self.old.reader.home) × (part.number ≡ self.old.reader.number) }
         requires single { part.units ≡ 1 }
-        ensures { GuardCloses self.old self.new }
+        ensures closed { GuardCloses self.old self.new }
+        ensures told { TellsScan result self.old self.new }
     {
         let board = &self.domain.board;
         let place = self.place;
@@ -425,10 +431,13 @@ impl<'d, T: Item<T>, J: Job> LocalCore<'d, T, J> {
         is_a_count(self.own.found);
         // No place is marked as ended yet.
         self.own.leave(false);
-        if scans {
-            scan(board, &mut self.token, place, self.own.found);
-        }
+        let told = if scans {
+            Some(scan(board, &mut self.token, place, self.own.found))
+        } else {
+            None
+        };
         shut(board, &mut self.token, place, &mut self.tenure, part);
+        told
     }
 
     /// The count of epochs at this moment.

@@ -181,8 +181,10 @@ impl<T: Item<T>, J: Job> LocalGiver<'_, T, J> {
         ensures jobs { self.new.member.jobs ≡ without_entry self.old.member.jobs place }
         ensures exact { IsLone self.old.member → world_of self.new ≡ ran (world_of self.old) place }
     {
-        let job = self.membership.take_job(place);
-        job.run();
+        // There is one: where a job does nothing when it runs, nothing is left of the test.
+        if let Some(job) = self.membership.take_job(place) {
+            job.run();
+        }
     }
 
     /// What is due before all others is reclaimed: an item, or a job, which runs.

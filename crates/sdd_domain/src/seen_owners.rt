@@ -1,9 +1,7 @@
-//! One owner more of an item that a guard sees, of whose owners there may be several.
+//! One owner more of an item whose value nobody moves, of whose owners there may be several.
 ghost use Rattle.std.specs.Prelude.{◌≡◌, ◌<◌, [], MatchResult, None};
-ghost use base.Stored.{Gv};
-ghost use Rattle.sdd_shared_values.specs.SharedValues.{IsValueCode, showing};
 ghost use Rattle.sdd_word_invariant.specs.Epoch.{HasPlace};
-ghost use Rattle.sdd_domain_invariant.specs.Records.{IsIn};
+ghost use Rattle.sdd_domain_invariant.specs.FractionSteps.{IsStill};
 ghost use Rattle.sdd_atomics.specs.DomainTable.{id_of, slots_of};
 ghost use Rattle.sdd_atomics.specs.DomainSeat.{view, epoch, slots, Knows};
 ghost use Rattle.sdd_domain.specs.InPlace.{IsBare};
@@ -29,15 +27,15 @@ pub enum Tried {
     Lost,
 }
 
-/// Tries to have one owner more of an item that a guard sees, which shows this.
+/// Tries to have one owner more of an item whose value nobody moves.
 pub fn try_seen(board: &DomainTable, token: &mut DomainSeat, slot: u32) -> Tried
     requires home { token.old.table_id ≡ id_of board.now }
     requires knows { Knows board.now token.old }
     requires inside { slot < slots_of board.now }
     requires place { HasPlace (epoch token.old) }
     requires bare { IsBare (view token.old) }
-    requires seen { (value : Gv) × IsIn (view token.old).stakes.sees slot value × IsValueCode value }
-    ensures { (value : Gv) → IsIn (view token.old).stakes.sees slot value → Tries board.now slot value result token.old token.new }
+    requires still { IsStill slot (view token.old) }
+    ensures { Tries board.now slot result token.old token.new }
 {
     let word = look(board, token, slot);
     if word == HELD {
@@ -55,14 +53,13 @@ pub fn try_seen(board: &DomainTable, token: &mut DomainSeat, slot: u32) -> Tried
     Tried::Came(part_with(board, token, slot))
 }
 
-/// The same of an item that shows this value, tried so often. None where the item has no owner that counts any more.
+/// The same, tried so often. None where the item has no owner that counts any more.
 ///
 /// `TooManyOwners` where as many own it as may; `Contended` where so many tries were lost.
-pub fn own_seen<T>(
+pub fn own_seen(
     board: &DomainTable,
     token: &mut DomainSeat,
     slot: u32,
-    value: &T,
     tries: u64,
 ) -> Result<Option<LooseOwner>, Refused>
     requires home { token.old.table_id ≡ id_of board.now }
@@ -70,11 +67,10 @@ pub fn own_seen<T>(
     requires inside { slot < slots_of board.now }
     requires place { HasPlace (epoch token.old) }
     requires bare { IsBare (view token.old) }
-    requires seen { IsIn (view token.old).stakes.sees slot (showing T.row value.now) }
+    requires still { IsStill slot (view token.old) }
     requires tries { 0 < tries }
-    ensures { Ends board.now slot (showing T.row value.now) result token.old token.new }
+    ensures { Ends board.now slot result token.old token.new }
 {
-    let _ = value;
     for _attempt in 0..tries {
         match try_seen(board, token, slot) {
             Tried::Came(owner) => return Ok(Some(owner)),

@@ -2,6 +2,7 @@
 ghost use Rattle.sdd_shared_values.specs.SharedValues.{showing};
 
 mod cells;
+mod raw_cells;
 
 use crate::domain::Domain;
 use crate::local::Local;
@@ -12,7 +13,7 @@ use sdd_rights::{Right, StandingKind};
 use sdd_space::inner::value_of_ptr;
 use sdd_space::{
     Caller, Deferrals, Guard, Guards, InPlaceItems, Item, Items, Look, LookThrough, Ptr, RawItems,
-    SharedOwners, Shows,
+    SharedItems, SharedOwners, Shows,
 };
 
 impl<T: Item<T>, J: Job> Shows<T> for Local<'_, T, J> {
@@ -149,7 +150,7 @@ impl<T: Item<T>, J: Job> Guards<T> for Local<'_, T, J> {
 
     #[inline]
     fn close_guard(&mut self, guard: Guard) {
-        self.partner.membership.close_guard(guard);
+        let _told = self.partner.membership.close_guard(guard);
     }
 
     #[inline]
@@ -228,6 +229,22 @@ impl<T: Item<T>, J: Job> SharedOwners<T> for Local<'_, T, J> {
     fn clone_owner(&mut self, right: &Right) -> Result<Right, Refused> {
         self.partner.membership.clone_owner(right)
     }
+}
+
+/// Where others take part, what a slot's word tells isn't enough: while an item is being made its word counts an owner already. Who sees the item by a guard
+/// of its own knows that it is there.
+impl<T: Item<T>, J: Job> SharedItems<T> for Local<'_, T, J> {
+    ghost use Rattle.sdd_domain.specs.LocalState.{IsLone};
+    ghost use Rattle.sdd_domain.specs.Laws.{lone_asks_nothing};
+
+    ghost asks_sight = { λ p. ¬ (IsLone p.member) };
+
+    fn get_shared(&mut self, slot: u32) -> Result<Option<Right>, Refused> {
+        self.partner.ledger.codes();
+        self.partner.membership.own_seen(slot)
+    }
+
+    ghost exact_asks_nothing = { λ p exact. lone_asks_nothing p.member exact };
 }
 
 impl<T: Item<T>, J: Job> InPlaceItems<T> for Local<'_, T, J> {

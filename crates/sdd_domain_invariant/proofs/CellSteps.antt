@@ -1,5 +1,5 @@
 -- The steps on cells keep the whole invariant.
-use Rattle.std.proofs.Common.{◌≡◌, ◌≢◌, ◌⊎◌, inl, inr, ℕ, ◌<◌, ◌≤◌, Bool, true, false, eqb, List, [], ◌∷◌, length, get_or, set, sym, refl, ap, ◌∙◌, subst, ⊎_elim, arith, length-set, get_or-set_other, get_or-set_same}
+use Rattle.std.proofs.Common.{◌≡◌, ◌≢◌, ◌⊎◌, inl, inr, ℕ, ◌+◌, ◌<◌, ◌≤◌, Bool, true, false, eqb, List, [], ◌∷◌, length, get_or, set, sym, refl, ap, ◌∙◌, subst, ⊎_elim, arith, length-set, get_or-set_other, get_or-set_same}
 use Rattle.std.specs.Prelude.{Some, None}
 use mathlib.Core.Option.{none as absent, some}
 use mathlib.Core.Logic.{dite}
@@ -38,7 +38,7 @@ use Rattle.sdd_word_invariant.proofs.Frame.{each_set}
 use Rattle.sdd_word_invariant.proofs.Sums.{is_same, is_other, total_set, total_has, total_two}
 use Rattle.sdd_domain_invariant.specs.FractionsAtHome.{stake_at, full_at, Has, Moves, FractionsInvariant}
 use Rattle.sdd_domain_invariant.specs.BankInvariant.{one_where}
-use Rattle.sdd_domain_invariant.specs.CellsInvariant.{cell_at, IsInCell, is_right, rights_at, HasRight, IsWordOf, IsTaken, CellsInvariant}
+use Rattle.sdd_domain_invariant.specs.CellsInvariant.{cell_at, IsInCell, is_right, rights_at, HasRight, IsWordOf, IsTaken, HavePointers, CellsInvariant}
 use Rattle.sdd_domain_invariant.specs.Records.{IsIn, IsKnown, IsTelling}
 use Rattle.sdd_domain_invariant.specs.FilledInvariant.{newest, HasRecord}
 use Rattle.sdd_domain_invariant.specs.LastFractions.{IsRaw, IsStored, LastIs}
@@ -207,6 +207,9 @@ module _ (slots id : ℕ) (me : SeatState) (live : HasPlace me.0.epoch) (rests :
 
         there : (d : ℕ) → d ≢ cell → cell_at sizes after d ≡ cell_at sizes s.words d
         there d ne = get_or-set_other s.words i (cell_word sizes d) y 0 (λ e. ne (omega arith))
+
+        pointers_stay : HavePointers sizes after
+        pointers_stay d low = let e = there (sizes.cells + d) (λ e. omega arith) in let o = h.kinds.cells.pointers d low in omega arith
 
       -- whoever has the right to the cell, its word is of this kind
       abbrev IsOfKind : Bool → Type 0
@@ -399,6 +402,7 @@ module _ (slots id : ℕ) (me : SeatState) (live : HasPlace me.0.epoch) (rests :
                   full = omega arith;
                   kind = word_moves sizes s.words (after y) (slots_stay y) r.kind y (cell_at sizes (after y) r.cell) q b.2;
                 }) (rights j u r e has);
+            pointers = pointers_stay y;
           }
 
           -- a word that names an owner that it has is one of that kind of cells
@@ -462,6 +466,7 @@ module _ (slots id : ℕ) (me : SeatState) (live : HasPlace me.0.epoch) (rests :
                 (λ (t : (j ≡ id) × (noted ≡ u)). h.kinds.cells.taken id v r at
                 (has.0, ap (λ (x : View). get_elem? x.cells.rights has.0) t.1 ∙ has.1))
                 (λ (t : (j ≢ id) × (get_elem? s.views j ≡ some u)). h.kinds.cells.taken j u r t.1 has) (at_set s.views id j noted u e));
+            pointers = pointers_stay y;
           }
 
           follows_renamed : (told : ℕ → SeatState → Type 0) → told (cell_at sizes s.words cell) (noted, me.1) → Follows γ sizes id i me told s y noted

@@ -1,5 +1,5 @@
 -- What cells hold, after one step
-use Rattle.std.proofs.Common.{◌≡◌, ◌≢◌, ◌⊎◌, inl, inr, ℕ, zero, suc, Bool, true, false, ◌<◌, List, [], ◌∷◌, ◌++◌, get_or, set, sym, refl, ap, ◌∙◌, ⊎_elim, arith, get_or-set_other}
+use Rattle.std.proofs.Common.{◌≡◌, ◌≢◌, ◌⊎◌, inl, inr, ℕ, zero, suc, ◌+◌, ◌*◌, Bool, true, false, ◌<◌, List, [], ◌∷◌, ◌++◌, length, get_or, set, sym, refl, ap, ◌∙◌, subst, ⊎_elim, arith, get_or-set_other, get_or-set_same}
 use mathlib.Core.Logic.{dite}
 use mathlib.Core.Option.{some, some-injective, some-ne-none}
 use native.Mathlib.Decide.{ℕ_discrete, dec_lt}
@@ -11,8 +11,8 @@ use Rattle.sdd_views.specs.declared.CellRight.{CellRight}
 use Rattle.sdd_views.specs.declared.CellsView.{CellsView}
 use Rattle.sdd_views.specs.declared.View.{View}
 use Rattle.sdd_views.specs.declared.Sizes.{Sizes}
-use Rattle.sdd_word_invariant.specs.Words.{first_cell, cell_word, slot_word}
-use Rattle.sdd_word_invariant.specs.Codes.{codes, alive, counted, names}
+use Rattle.sdd_word_invariant.specs.Words.{first_cell, cell_word, pointer_word, slot_word}
+use Rattle.sdd_word_invariant.specs.Codes.{codes, alive, counted, names, pointers_end}
 use Rattle.sdd_word_invariant.specs.Slots.{slot_at, owners_at, SlotsInvariant}
 use Rattle.sdd_word_invariant.specs.Sums.{total}
 use Rattle.sdd_word_invariant.proofs.Codes.{sound}
@@ -21,7 +21,7 @@ use Rattle.sdd_word_invariant.proofs.SlotWords.{named_in}
 use Rattle.sdd_word_invariant.proofs.Sums.{is_same, is_other, total_set, total_snoc, total_has, total_two, total_some, span_has}
 use Rattle.atomic_table.proofs.Lists.{at_set}
 use Rattle.sdd_domain_invariant.specs.BankInvariant.{one_where}
-use Rattle.sdd_domain_invariant.specs.CellsInvariant.{cell_at, IsInCell, is_right, rights_at, HasRight, IsWordOf, IsTaken, CellsInvariant}
+use Rattle.sdd_domain_invariant.specs.CellsInvariant.{cell_at, pointer_at, IsInCell, is_right, rights_at, HasRight, IsWordOf, IsTaken, HavePointers, CellsInvariant}
 
 -- a flag is told by its number
 pub one_flag : (a b : Bool) → one_where a ≡ one_where b → a ≡ b
@@ -30,9 +30,10 @@ one_flag false false e = refl
 one_flag true false e = absurd (omega arith)
 one_flag false true e = absurd (omega arith)
 
--- the words of cells are as before
-abbrev pub SameCells : Sizes → List ℕ → List ℕ → Type 0
-SameCells sizes ws ws' = (d : ℕ) → d < sizes.cells → cell_at sizes ws' d ≡ cell_at sizes ws d
+-- the words of cells are as before, and those of their pointers are such still
+pub record SameCells (sizes : Sizes) (ws ws' : List ℕ) : Type 0 where
+  pub words : (d : ℕ) → d < sizes.cells → cell_at sizes ws' d ≡ cell_at sizes ws d
+  pub pointers : HavePointers sizes ws → HavePointers sizes ws'
 
 -- the owners of a slot in cells are counted as before
 abbrev pub KeepsKinds : Sizes → List ℕ → List ℕ → Type 0
@@ -44,18 +45,26 @@ pub record SameWords (sizes : Sizes) (ws ws' : List ℕ) : Type 0 where
   pub slots : (i : ℕ) → slot_at sizes ws' i ≡ slot_at sizes ws i
 
 pub no_change : (sizes : Sizes) (ws : List ℕ) → SameWords sizes ws ws
-no_change sizes ws = record { cells = λ _ _. refl; slots = λ _. refl }
+no_change sizes ws = record { cells = record { words = λ _ _. refl; pointers = λ p. p }; slots = λ _. refl }
 
 module _ (sizes : Sizes) (ws : List ℕ) where
+  -- a word that is no cell's and no pointer's changes
+  cells_stay : (j y : ℕ) → ((d : ℕ) → d < 2 * sizes.cells → cell_word sizes d ≢ j) → SameCells sizes ws (set ws j y)
+  cells_stay j y ne = record {
+    words = λ d inside. get_or-set_other ws j (cell_word sizes d) y 0 (ne d (omega arith));
+    pointers = λ p d inside. let e = get_or-set_other ws j (cell_word sizes (sizes.cells + d)) y 0 (ne (sizes.cells + d) (omega arith)) in
+        let o = p d inside in omega arith;
+  }
+
   -- a word below the cells' changes, or a slot's, or none does
   pub cells_below : (j y : ℕ) → j < first_cell sizes → SameCells sizes ws (set ws j y)
-  cells_below j y low d inside = get_or-set_other ws j (cell_word sizes d) y 0 (λ e. omega arith)
+  cells_below j y low = cells_stay j y (λ d inside e. omega arith)
 
   pub cells_slot : (slot y : ℕ) → SameCells sizes ws (set ws (slot_word sizes slot) y)
-  cells_slot slot y d inside = get_or-set_other ws (slot_word sizes slot) (cell_word sizes d) y 0 (λ e. omega arith)
+  cells_slot slot y = cells_stay (slot_word sizes slot) y (λ d inside e. omega arith)
 
   pub cells_same : (j : ℕ) → SameCells sizes ws (set ws j (get_or ws j 0))
-  cells_same j d inside = ap (λ (l : List ℕ). cell_at sizes l d) (set-get_or ws j 0)
+  cells_same j = subst (SameCells sizes ws) (sym (set-get_or ws j 0)) (no_change sizes ws).cells
 
   pub words_below : (j y : ℕ) → j < first_cell sizes → SameWords sizes ws (set ws j y)
   words_below j y low = record { cells = cells_below j y low; slots = λ i. get_or-set_other ws j (slot_word sizes i) y 0 (λ e. omega arith) }
@@ -63,26 +72,39 @@ module _ (sizes : Sizes) (ws : List ℕ) where
   pub words_same : (j : ℕ) → SameWords sizes ws (set ws j (get_or ws j 0))
   words_same j = record { cells = cells_same j; slots = λ i. ap (λ (l : List ℕ). slot_at sizes l i) (set-get_or ws j 0) }
 
+  -- the word of a pointer does
+  pub words_pointed : (cell y : ℕ) → cell < sizes.cells → pointer_word sizes cell < length ws → y < pointers_end
+      → SameWords sizes ws (set ws (pointer_word sizes cell) y)
+  words_pointed cell y low long small = let i : ℕ = pointer_word sizes cell in record {
+    cells = record {
+      words = λ d inside. get_or-set_other ws i (cell_word sizes d) y 0 (λ e. omega arith);
+      pointers = λ p d inside. dite (ℕ_discrete d cell)
+          (λ e. let here = ap (λ (k : ℕ). pointer_at sizes (set ws i y) k) e ∙ get_or-set_same ws i y 0 long in omega arith)
+          (λ ne. let there = get_or-set_other ws i (cell_word sizes (sizes.cells + d)) y 0 (λ e. ne (omega arith)) in let o = p d inside in omega arith);
+    };
+    slots = λ k. get_or-set_other ws i (slot_word sizes k) y 0 (λ e. omega arith);
+  }
+
   module _ (ws' : List ℕ) (same : SameCells sizes ws ws') where
     pub in_cell_before : (i : ℕ) → IsInCell sizes ws' i → IsInCell sizes ws i
-    in_cell_before i c = let e = ap (names i) (same c.0 c.1) in let n = c.2 in (c.0, c.1, omega arith)
+    in_cell_before i c = let e = ap (names i) (same.words c.0 c.1) in let n = c.2 in (c.0, c.1, omega arith)
 
     pub in_cell_still : (i : ℕ) → IsInCell sizes ws i → IsInCell sizes ws' i
-    in_cell_still i c = let e = ap (names i) (same c.0 c.1) in let n = c.2 in (c.0, c.1, omega arith)
+    in_cell_still i c = let e = ap (names i) (same.words c.0 c.1) in let n = c.2 in (c.0, c.1, omega arith)
 
     word_still : KeepsKinds sizes ws ws' → (d : ℕ) → d < sizes.cells → (kind : CellKind) → IsWordOf sizes ws kind (cell_at sizes ws d)
         → IsWordOf sizes ws' kind (cell_at sizes ws' d)
-    word_still kinds d inside Owned w = λ i n. let e = ap (names i) (same d inside) in let m : 0 < names i (cell_at sizes ws d) = omega arith in
+    word_still kinds d inside Owned w = λ i n. let e = ap (names i) (same.words d inside) in let m : 0 < names i (cell_at sizes ws d) = omega arith in
         kinds i (d, inside, m) ∙ w i m
-    word_still kinds d inside Shared w = λ i n. let e = ap (names i) (same d inside) in let m : 0 < names i (cell_at sizes ws d) = omega arith in
+    word_still kinds d inside Shared w = λ i n. let e = ap (names i) (same.words d inside) in let m : 0 < names i (cell_at sizes ws d) = omega arith in
         kinds i (d, inside, m) ∙ w i m
-    word_still kinds d inside Raw w = λ i. ap (names i) (same d inside) ∙ w i
-    word_still kinds d inside Collector w = λ i. ap (names i) (same d inside) ∙ w i
+    word_still kinds d inside Raw w = λ i. ap (names i) (same.words d inside) ∙ w i
+    word_still kinds d inside Collector w = λ i. ap (names i) (same.words d inside) ∙ w i
 
     pub taken_still : KeepsKinds sizes ws ws' → (r : CellRight) → IsTaken sizes ws r → IsTaken sizes ws' r
     taken_still kinds r t = record {
       inside = t.inside;
-      full = let e = same r.cell t.inside in let f = t.full in omega arith;
+      full = let e = same.words r.cell t.inside in let f = t.full in omega arith;
       kind = word_still kinds r.cell t.inside r.kind t.kind;
     }
 
@@ -133,6 +155,7 @@ module _ (sizes : Sizes) (ws : List ℕ) (vs : List View) (part : CellsInvariant
     single = λ d. let a = total_snoc (rights_at d) vs t in let z = ap (total (is_right d)) none in let o = part.single d in omega arith;
     taken = λ j v r e has. each_snoc (λ u. (q : CellRight) → HasRight u q → IsTaken sizes ws q) vs t (λ k u e' q. part.taken k u q e')
         (λ q has'. absurd (no_right t none q has')) j v e r has;
+    pointers = part.pointers;
   }
 
   module _ (id : ℕ) (v w : View) (at : get_elem? vs id ≡ some v) where
@@ -146,4 +169,5 @@ module _ (sizes : Sizes) (ws : List ℕ) (vs : List View) (part : CellsInvariant
           (λ (t : (j ≡ id) × (w ≡ u)). part.taken id v r at
           (has.0, ap (λ (c : CellsView). get_elem? c.rights has.0) (sym rights) ∙ (ap (λ (x : View). get_elem? x.cells.rights has.0) t.1 ∙ has.1)))
           (λ (t : (j ≢ id) × (get_elem? vs j ≡ some u)). part.taken j u r t.1 has) (at_set vs id j w u e));
+      pointers = same.pointers part.pointers;
     }

@@ -312,7 +312,7 @@ module _ (sizes : Sizes) (ws : List ℕ) (vs : List View) (k : KindsInvariant si
       each = each_set (KnowsKinds sizes ws) (KnowsKinds sizes ws) vs id w mine (λ j u _ e. k.each j u e);
       bound = bound_kept sizes ws vs k.bound id v at ws w (λ i c. inr (c, (omega arith))) over lives;
       pledges = pledges;
-      cells = cells_kept sizes ws vs k.cells id v w at ws (λ _ _. refl) (λ _ _. refl) rights;
+      cells = cells_kept sizes ws vs k.cells id v w at ws (no_change sizes ws).cells (λ _ _. refl) rights;
     }
 
     -- the words of slots and cells stay

@@ -28,7 +28,7 @@ use Rattle.sdd_domain_invariant.specs.FilledInvariant.{newest}
 use Rattle.sdd_domain_invariant.specs.BankInvariant.{one_where, offices, deposited, banked, IsBank, BankInvariant}
 use Rattle.sdd_domain_invariant.specs.CellsInvariant.{IsInCell}
 use Rattle.sdd_domain_invariant.specs.LastFractions.{ShowOnly, IsRaw, IsStored, LastIs, ShowsLast, KnowsStored, LastsInvariant}
-use Rattle.sdd_domain_invariant.proofs.Cells.{SameCells, cells_below, cells_slot, in_cell_before}
+use Rattle.sdd_domain_invariant.proofs.Cells.{SameCells, SameWords, cells_below, cells_slot, in_cell_before}
 use Rattle.sdd_domain_invariant.proofs.Banks.{with_deposits, banked_then}
 use Rattle.sdd_domain_invariant.proofs.Records.{IsAlike}
 use Rattle.sdd_domain_invariant.proofs.Rows.{Given, given_lies}
@@ -106,6 +106,9 @@ module _ (sizes : Sizes) (ws : List ℕ) where
   stored_still : (ws' : List ℕ) → SameCells sizes ws ws' → (i : ℕ) (shared : Bool) → slot_at sizes ws' i ≡ slot_at sizes ws i → IsStored sizes ws' i shared
       → IsStored sizes ws i shared
   stored_still ws' same i shared e = stored_by ws' same i shared (λ is. sym e ∙ is) (λ _. ap counted e)
+
+  pub stored_kept : (ws' : List ℕ) → SameWords sizes ws ws' → NoMoreStored sizes ws ws'
+  stored_kept ws' same i shared near = stored_still ws' same.cells i shared (same.slots i)
 
   -- a word before the cells' changes
   pub stored_before : (j y : ℕ) → j < first_cell sizes → NoMoreStored sizes ws (set ws j y)

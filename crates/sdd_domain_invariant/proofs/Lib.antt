@@ -14,6 +14,7 @@ pub mod Lift
 pub mod Steps
 pub mod RawSteps
 pub mod CellSteps
+pub mod PointerSteps
 pub mod Upgrading
 pub mod JobSteps
 pub mod Tokens

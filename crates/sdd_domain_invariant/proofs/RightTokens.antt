@@ -55,6 +55,7 @@ module _ (sizes : Sizes) (ws : List ℕ) (vs : List View) (part : CellsInvariant
       taken = λ j u r e has. ⊎_elim
           (λ (t : (j ≡ id) × (w ≡ u)). taken has.0 r (ap (λ (x : View). get_elem? x.cells.rights has.0) t.1 ∙ has.1))
           (λ (t : (j ≢ id) × (get_elem? vs j ≡ some u)). part.taken j u r t.1 has) (at_set vs id j w u e);
+      pointers = part.pointers;
     }
 
 module _ (γ : ℕ) (sizes : Sizes) where

@@ -68,7 +68,7 @@ use Rattle.sdd_domain_invariant.proofs.Counts.{ended_spared, as_full, one_full, 
 use Rattle.sdd_domain_invariant.proofs.Records.{in_either, in_none, in_both, in_others, known_by, told_seen, comes_show, leaves_show}
 use Rattle.sdd_domain_invariant.proofs.Records as records
 use Rattle.sdd_domain_invariant.proofs.Fillings.{newest_before, TellsNoMore, has_none, has_either, has_old, told_by, tells_old, filled_after, filled_same, filled_housed}
-use Rattle.sdd_domain_invariant.specs.CellsInvariant.{cell_at, IsInCell}
+use Rattle.sdd_domain_invariant.specs.CellsInvariant.{IsInCell}
 use Rattle.sdd_domain_invariant.proofs.Cells.{SameWords, no_change, words_below, words_same, in_cell_alive, in_cell_beside}
 use Rattle.sdd_domain_invariant.proofs.Lasts.{none_shown, shown_leaves, shown_comes, stored_before, stored_same, stored_other, not_stored, stored_set, lasts_kept, lasts_fewer, lasts_given, lasts_dealt, one_bank}
 use Rattle.sdd_domain_invariant.proofs.Rows.{Taken, Given, takes_row, gives_row, gives_purse, taken_lies, given_lies}
@@ -1423,9 +1423,6 @@ module _ (γ : ℕ) (sizes : Sizes) (slots id : ℕ) (me : SeatState) (slot : �
         had = λ _ l. inl l;
         stored = stored_same sizes s.words word;
         kinds = kind_steps.calm sizes s.words s.views h.kinds h.records.each id me.0 at (set s.words word x) (record me.0 { places = (looked_for x w t).0 })
-            record {
-              cells = λ j _. ap (λ (l : List ℕ). cell_at sizes l j) (as_before s h at);
-              slots = λ j. ap (λ (l : List ℕ). slot_at sizes l j) (as_before s h at);
-            } (refl, refl, refl, (λ _. refl), refl) refl refl (λ _ o. o)
+            (subst (SameWords sizes s.words) (sym (as_before s h at)) (no_change sizes s.words)) (refl, refl, refl, (λ _. refl), refl) refl refl (λ _ o. o)
             (same_post me.0 (record me.0 { places = (looked_for x w t).0 }) refl refl refl refl (λ l. l) refl refl);
       })

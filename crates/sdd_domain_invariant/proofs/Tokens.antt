@@ -159,6 +159,7 @@ module _ (γ : ℕ) (sizes : Sizes) where
             omega arith);
         single = λ d. omega arith;
         taken = λ j v r e has. absurd (no_right v (ap (λ (u : View). u.cells.rights) (sym (only j v e))) r has);
+        pointers = λ d _. let z = none (Rattle.sdd_word_invariant.specs.Words.pointer_word sizes d) in omega arith;
       };
     };
   }

@@ -1,4 +1,4 @@
--- An owner comes of an item that a guard sees, of whose owners there are several: this step keeps the whole invariant.
+-- An owner comes of an item that a guard sees, or where nobody else takes part, of whose owners there are several: this step keeps the whole invariant.
 use Rattle.std.proofs.Common.{◌≡◌, ◌⊎◌, inl, inr, ℕ, ◌+◌, ◌^◌, ◌<◌, true, eqb, get_or, set, sym, refl, ap, ◌∙◌, subst, ⊎_elim, arith}
 use Rattle.std.specs.Prelude.{Some, None}
 use mathlib.Core.Option.{some}
@@ -8,17 +8,18 @@ use lib.ListN.{get_elem?}
 use prog.Atomic.{either}
 use base.Stored.{Gv}
 use Rattle.atomic_table.specs.Table.{State, keeps}
-use Rattle.atomic_table.proofs.Lists.{exchanged}
+use Rattle.atomic_table.proofs.Lists.{at_map, exchanged}
 use Rattle.sdd_shared_values.specs.declared.value_fraction.ValueFraction.{ValueFraction}
 use Rattle.sdd_views.specs.declared.ShownValue.{ShownValue}
 use Rattle.sdd_views.specs.declared.View.{View}
 use Rattle.sdd_views.specs.declared.Sizes.{Sizes}
 use Rattle.sdd_word_invariant.specs.Words.{first_cell, slot_word}
 use Rattle.sdd_word_invariant.specs.Codes.{alive, full, names, counted as kind_of, shared_base, most_owners}
-use Rattle.sdd_word_invariant.specs.Epoch.{HasPlace}
+use Rattle.sdd_word_invariant.specs.Epoch.{HasPlace, IsLone}
 use Rattle.sdd_word_invariant.specs.Sums.{total}
-use Rattle.sdd_word_invariant.specs.Slots.{slot_at, owners_at, Owns, Sees}
+use Rattle.sdd_word_invariant.specs.Slots.{slot_at, owners_at, Owns}
 use Rattle.sdd_word_invariant.specs.SlotSteps.{one_more, AddsBeside, AtSlot}
+use Rattle.sdd_word_invariant.specs.WordInvariant.{epoch_of}
 use Rattle.sdd_word_invariant.proofs.Codes.{shared, counted_is, some_left}
 use Rattle.sdd_word_invariant.proofs.SlotSteps.{more_one}
 use Rattle.sdd_word_invariant.proofs.SlotSteps as words
@@ -27,8 +28,9 @@ use Rattle.sdd_domain_invariant.specs.FractionsAtHome.{Moves, full_at}
 use Rattle.sdd_domain_invariant.specs.BankInvariant.{one_where}
 use Rattle.sdd_domain_invariant.specs.Records.{IsIn, IsKnown}
 use Rattle.sdd_domain_invariant.specs.FilledInvariant.{newest, HasRecord}
+use Rattle.sdd_domain_invariant.specs.LastFractions.{LastIs}
 use Rattle.sdd_domain_invariant.specs.DomainInvariant.{DomainInvariant}
-use Rattle.sdd_domain_invariant.specs.FractionSteps.{SeatState, owning_more, AddsSeen, OfSlot}
+use Rattle.sdd_domain_invariant.specs.FractionSteps.{SeatState, owning_more, AddsSeen, IsStill, OfSlot}
 use Rattle.sdd_domain_invariant.proofs.Part.{none_out}
 use Rattle.sdd_domain_invariant.proofs.Part as part
 use Rattle.sdd_domain_invariant.proofs.Banks as banks
@@ -39,7 +41,7 @@ use Rattle.sdd_domain_invariant.proofs.Records as records
 use Rattle.sdd_domain_invariant.proofs.Fillings.{filled_learned}
 use Rattle.sdd_domain_invariant.proofs.KindSteps.{has_first}
 use Rattle.sdd_domain_invariant.proofs.KindSteps as kind_steps
-use Rattle.sdd_domain_invariant.proofs.Telling.{none_moved}
+use Rattle.sdd_domain_invariant.proofs.Telling.{none_moved, one_view}
 use Rattle.sdd_domain_invariant.proofs.Lasts.{stored_set, lasts_fewer}
 use Rattle.sdd_domain_invariant.proofs.Lift.{Follows, lift_homes}
 use Rattle.sdd_domain_invariant.proofs.RawSteps as raws
@@ -47,7 +49,7 @@ use Rattle.sdd_domain_invariant.proofs.Steps.{full_owned}
 use Rattle.sdd_domain_invariant.proofs.Steps as steps
 
 module _ (slots id : ℕ) (me : SeatState) (live : HasPlace me.0.epoch) (rests : me.0.stakes.moves ≡ None) (slot : ℕ) (inside : slot < me.0.sizes.slots)
-    (none : me.0.slots.over ≡ None) (value : Gv) (seen : IsIn me.0.stakes.sees slot value) (word : ℕ) (several : kind_of word ≡ 1) (left : 0 < alive word)
+    (none : me.0.slots.over ≡ None) (calm : IsStill slot me.0) (word : ℕ) (several : kind_of word ≡ 1) (left : 0 < alive word)
     (few : alive word < most_owners) where
   abbrev v : View
   v = me.0
@@ -67,8 +69,8 @@ module _ (slots id : ℕ) (me : SeatState) (live : HasPlace me.0.epoch) (rests :
   abbrev y : ℕ
   y = word + 1
 
-  abbrev now_shown : ShownValue
-  now_shown = record { slot = slot; shared = true; value = value }
+  abbrev shows : Gv → ShownValue
+  shows value = record { slot = slot; shared = true; value = value }
 
   above : shared_base < word
   above = let a = counted_is word several in let c = (shared word a).0 in omega arith
@@ -89,35 +91,50 @@ module _ (slots id : ℕ) (me : SeatState) (live : HasPlace me.0.epoch) (rests :
     owned : 0 < alive (slot_at sizes s.words slot)
     owned = let e = ap alive hit in let l = left in omega arith
 
-    sees : Sees v slot
-    sees = sees_told v (h.records.each id v at) slot value seen
-
-    -- nobody moves the value of an item that a guard sees
+    -- nobody moves the value of an item that a guard sees, nor where nobody else takes part
     unmoved : (j : ℕ) (u : View) → get_elem? s.views j ≡ some u → ¬ (Moves u slot)
-    unmoved j u e m = h.records.apart j id u v slot e at m sees
+    unmoved j u e m = ⊎_elim
+        (λ (seen : (value : Gv) × IsIn v.stakes.sees slot value).
+        h.records.apart j id u v slot e at m (sees_told v (h.records.each id v at) slot seen.0 seen.1))
+        (λ (lone : IsLone v.epoch). dite (ℕ_discrete j id)
+        (λ same. none_moved u slot (ap (λ (x : View). x.stakes.moves) (one_view s.views id j u v e at same) ∙ rests) m)
+        (λ ne. let one = steps.one_place γ sizes s h id v at lone in let p = h.kept.parts.epoch in let placed = (h.homes.moving j u e slot m).0 in
+        let mine = (p.each id v.epoch (at_map epoch_of s.views id v at)).inside live in
+        let theirs = (p.each j u.epoch (at_map epoch_of s.views j u e)).inside placed in
+        let apart = (p.two j id u.epoch v.epoch ne (at_map epoch_of s.views j u e) (at_map epoch_of s.views id v at)).places placed live in
+        apart (omega arith))) calm
 
-    known : IsKnown s.views slot value
-    known = records.mine sizes s.views s.homes h.records id v at slot value (inr (inl seen))
+    -- so the last fraction is at home
+    abbrev last : ValueFraction
+    last = (raws.last_home slots id me live slot inside s h unmoved).0
 
-    -- where there is one place, its participant knows what the item shows, by the owner that it has somewhere
-    find : n ≡ 1 → (j : ℕ) (u : View) → get_elem? s.views j ≡ some u → HasPlace u.epoch → newest slot u.stakes.filled ≡ Some now_shown
+    abbrev lies : LastIs sizes s.homes slot last
+    lies = (raws.last_home slots id me live slot inside s h unmoved).1
+
+    -- it shows what is known of the slot
+    abbrev value : Gv
+    value = last.lot.shown
+
+    shows_known : (g : Gv) → IsKnown s.views slot g → value ≡ g
+    shows_known g k = h.records.home slot n g last inside (omega arith) k lies
+
+    -- where there is one place, its participant knows what the item shows, by the owner that it has somewhere, or as a cell holds that
+    find : n ≡ 1 → (j : ℕ) (u : View) → get_elem? s.views j ≡ some u → HasPlace u.epoch → newest slot u.stakes.filled ≡ Some (shows value)
     find one j u e placed = dite (dec_lt 0 (total (owners_at slot) s.views))
         (λ more. let a = total_some (owners_at slot) s.views more in let w : View = a.1 in let mine = h.records.each a.0 w a.2 in
         let b = mine.owned slot a.3 (unmoved a.0 w a.2) in let r : ShownValue = b.1.1 in let has : HasRecord w.stakes.owns r = (b.1.0, b.1.2) in
         let told = (h.kinds.each a.0 w a.2).told r has
         (λ held. let k = (h.kept.parts.slots.each a.0 w a.2).held slot (held ∙ ap (λ (m : ℕ). Some m) b.1.3) in let c = counts in absurd (omega (arith, k.1))) in
         let flag : r.shared ≡ true = one_flag r.shared true (sym told ∙ (ap (λ (m : ℕ). kind_of (slot_at sizes s.words m)) b.1.3 ∙ counts)) in
-        let shows : r.value ≡ value = h.records.agree slot r.value value (a.0, w, a.2, inl (b.1.0, r, b.1.2, b.1.3, refl)) known in
+        let is : r.value ≡ value = sym (shows_known r.value (a.0, w, a.2, inl (b.1.0, r, b.1.2, b.1.3, refl))) in
         ap (λ (m : ℕ). newest m u.stakes.filled) (sym b.1.3) ∙ (h.filled.knows one j a.0 u w r e placed a.2 (inl has)
-        ∙ (λ d. Some (record { slot = b.1.3 d; shared = flag d; value = shows d }))))
+        ∙ (λ d. Some (record { slot = b.1.3 d; shared = flag d; value = is d }))))
         (λ no. let sum = h.kept.parts.slots.owned slot in let o = owned in let c = span_some (names slot) s.words (first_cell sizes) sizes.cells (omega arith) in
-        let last = raws.last_home slots id me live slot inside s h unmoved in
-        h.lasts.stored one j u e placed slot true last.0 inside (inr (c, counts)) last.1
-        ∙ ap (λ (g : Gv). Some (record { slot = slot; shared = true; value = g })) (h.records.home slot n value last.0 inside (omega arith) known last.1))
+        h.lasts.stored one j u e placed slot true last inside (inr (c, counts)) lies)
 
-    comes : Follows γ sizes id i me (OfSlot (AddsSeen word value) i me) s y (one_more slot y None v)
+    comes : Follows γ sizes id i me (OfSlot (AddsSeen word) i me) s y (one_more slot y None v)
     comes = let x : ℕ = get_or s.words i 0 in let now : View = owning_more slot value (one_more slot y None v) in
-        let r = h.records in let mine = r.each id v at in let low = steps.within slots id me live slot inside s h in
+        let now_shown : ShownValue = shows value in let r = h.records in let mine = r.each id v at in let low = steps.within slots id me live slot inside s h in
         let here : slot_at sizes (set s.words i y) slot ≡ y = steps.here slots id me live slot inside s.words y low in
         let high = higher in let counts_y = (some_left y high) in
         let same : (j : ℕ) → j < sizes.slots → full_at sizes (set s.words i y) j ≡ full_at sizes s.words j
@@ -130,7 +147,8 @@ module _ (slots id : ℕ) (me : SeatState) (live : HasPlace me.0.epoch) (rests :
           act = keeps;
           valid = tt;
           homes = part.calm γ sizes s.words s.views s.homes h.homes id v at (set s.words i y) now (λ j q out. out) same (none_out now rests);
-          records = records.no_more sizes s.views s.homes r id v at now (λ b. r.deposits id v at b) s.homes
+          records = records.comes_to_learn sizes s.views s.homes r id v at slot n value last inside (omega arith) lies
+              (raws.all_shown slots id me live slot inside s h unmoved) (λ j b e is. h.lasts.banks j b e is slot last inside lies) now (λ is. (is, refl)) s.homes
               record {
                 owns = λ j g k. ⊎_elim
                     (λ (e : (slot ≡ j) × (value ≡ g)). (let o = is_same j slot e.0 in let l : Owns now j = omega arith in l, none_moved now j rests))
@@ -148,10 +166,12 @@ module _ (slots id : ℕ) (me : SeatState) (live : HasPlace me.0.epoch) (rests :
                     (λ (b : IsIn v.stakes.sees j g ⊎ IsIn v.stakes.waits j g). mine.inside j g (inr b)) k;
               }
               (λ j g k. known_by now j g
-              (λ a. ⊎_elim (λ (e : (slot ≡ j) × (value ≡ g)). subst (λ (t : ℕ × Gv). IsKnown s.views t.0 t.1) (λ d. (e.0 d, e.1 d)) known)
-              (λ (b : IsIn v.stakes.owns j g). mine_known j g (inl b)) (in_either now_shown v.stakes.owns j g a))
-              (λ a. mine_known j g (inr (inl a))) (λ a. mine_known j g (inr (inr a))) k)
-              (λ j q z _ _ lies. inl lies) (λ j m. m) (λ j a. a);
+              (λ a. ⊎_elim (λ (e : (slot ≡ j) × (value ≡ g)). inl (sym e.0, sym e.1))
+              (λ (b : IsIn v.stakes.owns j g). inr (mine_known j g (inl b))) (in_either now_shown v.stakes.owns j g a))
+              (λ a. inr (mine_known j g (inr (inl a)))) (λ a. inr (mine_known j g (inr (inr a)))) k)
+              (λ j q z l. l)
+              (λ j m. absurd (none_moved now j rests m))
+              (λ j u _ e. ((λ k m. absurd (none_moved now k rests m)), (λ k m sees. r.apart j id u v k e at m sees)));
           counts = uncounted sizes s.words s.views h.counts id v at (set s.words i y) now refl (λ l. l) (as_full sizes s.words (set s.words i y) same)
               (steps.over_slot slots id me live slot inside s h y);
           filled = filled_learned sizes s.views h.filled id v at now refl (λ l. l) now_shown
@@ -180,16 +200,24 @@ module _ (slots id : ℕ) (me : SeatState) (live : HasPlace me.0.epoch) (rests :
               }
               (λ j u apart e. inr (unmoved j u e, counts_y.3 ∙ sym counts)) here (λ _. inl (let c = counts_more in omega arith)) (λ _. counts_y.3 ∙ sym counts)
               (steps.post slots id me live s h at now refl (sym none) refl refl (λ l. l));
-          tells = steps.at_once slots id me live slot inside (AddsSeen word value) x (now, me.1) (
-            (λ _. refl),
+          tells = steps.at_once slots id me live slot inside (AddsSeen word) x (now, me.1) (
+            (λ _. (
+              value,
+              record {
+                code = (h.homes.home slot n last inside (omega arith) lies).1.0 (full_owned (slot_at sizes s.words slot) owned);
+                seen = λ g is. shows_known g (id, v, at, inr (inl is));
+                newest = λ lone. find (steps.one_place γ sizes s h id v at lone) id v at live;
+              },
+              refl,
+            )),
             (λ no. absurd (no hit)),
             words.knew id v live s.words s.views h.kept.parts at slot,
           );
         }
 
   -- where the word is still the one that was found, an owner comes
-  pub adds_seen : steps.May slots id me live i (λ x. either (eqb x word) y x) (OfSlot (AddsSeen word value) i me)
-  adds_seen = let told : ℕ → SeatState → Type 0 = OfSlot (AddsSeen word value) i me in let f : ℕ → ℕ = λ x. either (eqb x word) y x in
+  pub adds_seen : steps.May slots id me live i (λ x. either (eqb x word) y x) (OfSlot (AddsSeen word) i me)
+  adds_seen = let told : ℕ → SeatState → Type 0 = OfSlot (AddsSeen word) i me in let f : ℕ → ℕ = λ x. either (eqb x word) y x in
       lift_homes γ sizes slots id me i f (AtSlot (AddsBeside word) i v) told
       (steps.spares slots id me live slot inside f (AtSlot (AddsBeside word) i v) (λ r w t. let c = t slot refl in dite (ℕ_discrete r word)
       (λ e. ap (λ (u : View). u.places) (c.0 e)) (λ ne. ap (λ (u : View). u.places) (c.1 ne))))
@@ -197,10 +225,4 @@ module _ (slots id : ℕ) (me : SeatState) (live : HasPlace me.0.epoch) (rests :
       (λ s w h at t. let x : ℕ = get_or s.words i 0 in let c = t slot refl in exchanged x word y (λ z. Follows γ sizes id i me told s z w)
       (λ hit. subst (Follows γ sizes id i me told s y) (sym (c.0 hit)) (comes s h at hit))
       (λ miss. subst (Follows γ sizes id i me told s x) (sym (c.1 miss)) (steps.unmoved slots id me live slot inside s h at told
-      (steps.at_once slots id me live slot inside (AddsSeen word value) x me ((λ hit. absurd (miss hit)), (λ _. refl), c.2)))))
-
-  -- of each value that it sees there, as that is one
-  pub seen_once : (s : State ValueFraction View) → DomainInvariant γ sizes s → get_elem? s.views id ≡ some v → (other : Gv) → IsIn v.stakes.sees slot other
-      → other ≡ value
-  seen_once s h at other is = let mine = records.mine sizes s.views s.homes h.records id v at in
-      h.records.agree slot other value (mine slot other (inr (inl is))) (mine slot value (inr (inl seen)))
+      (steps.at_once slots id me live slot inside (AddsSeen word) x me ((λ hit. absurd (miss hit)), (λ _. refl), c.2)))))

@@ -7,8 +7,8 @@ use Rattle.sdd_views.specs.declared.CellKind.TheVariants.{Owned, Shared, Raw, Co
 use Rattle.sdd_views.specs.declared.View.{View}
 use Rattle.sdd_rights.specs.Owner.{cell_kind}
 use Rattle.sdd_views.specs.Views.{owner_token, no_rights}
-use Rattle.sdd_word_invariant.specs.Words.{cell_word}
-use Rattle.sdd_word_invariant.specs.Codes.{alive, counted, held_slots}
+use Rattle.sdd_word_invariant.specs.Words.{cell_word, pointer_word}
+use Rattle.sdd_word_invariant.specs.Codes.{alive, counted, held_slots, pointers_end}
 use Rattle.sdd_word_invariant.specs.Epoch.{IsLone}
 use Rattle.sdd_word_invariant.specs.CellSteps.{cell_noted, noting, KnewCell}
 use Rattle.sdd_domain_invariant.specs.BankInvariant.{one_where}
@@ -124,3 +124,11 @@ FindsCell cell me me' = (me' ≡ me) × (cell < me.0.sizes.cells)
 -- a step on the word i tells R of the cell whose word it is
 abbrev pub OfCell : (ℕ → SeatState → ℕ → SeatState → Type 0) → ℕ → SeatState → ℕ → SeatState → Type 0
 OfCell R i me x me' = (cell : ℕ) → i ≡ cell_word me.0.sizes cell → R cell me x me'
+
+-- a step on the word of a cell's pointer, which takes no fractions and gives none, tells R, and finds such a word
+abbrev pub FindsPointer : (ℕ → View → ℕ → View → Type 0) → ℕ → SeatState → ℕ → SeatState → Type 0
+FindsPointer R cell me x me' = (me'.1 ≡ me.1) × R cell me.0 x me'.0 × (x < pointers_end)
+
+-- a step on the word i tells R of the cell whose pointer's word it is
+abbrev pub OfPointer : (ℕ → SeatState → ℕ → SeatState → Type 0) → ℕ → SeatState → ℕ → SeatState → Type 0
+OfPointer R i me x me' = (cell : ℕ) → i ≡ pointer_word me.0.sizes cell → R cell me x me'

@@ -1,5 +1,5 @@
 -- The cells' part of the rule: who has the right to a cell, and what a cell of a kind holds
-use Rattle.std.specs.Prelude.{◌≡◌, ℕ, ◌<◌, ◌≤◌, List, slice_index}
+use Rattle.std.specs.Prelude.{◌≡◌, ℕ, ◌+◌, ◌<◌, ◌≤◌, List, slice_index}
 use mathlib.Core.Option.{some}
 use lib.ListN.{get_elem?}
 use Rattle.sdd_views.specs.declared.CellKind.{CellKind}
@@ -8,12 +8,16 @@ use Rattle.sdd_views.specs.declared.CellRight.{CellRight}
 use Rattle.sdd_views.specs.declared.View.{View}
 use Rattle.sdd_views.specs.declared.Sizes.{Sizes}
 use Rattle.sdd_word_invariant.specs.Words.{cell_word}
-use Rattle.sdd_word_invariant.specs.Codes.{counted, names}
+use Rattle.sdd_word_invariant.specs.Codes.{counted, names, pointers_end}
 use Rattle.sdd_word_invariant.specs.Slots.{slot_at}
 use Rattle.sdd_word_invariant.specs.Sums.{total, is}
 
 abbrev pub cell_at : Sizes → List ℕ → ℕ → ℕ
 cell_at sizes ws d = slice_index ws (cell_word sizes d)
+
+-- the word of a cell's pointer comes behind all cells'
+abbrev pub pointer_at : Sizes → List ℕ → ℕ → ℕ
+pointer_at sizes ws d = cell_at sizes ws (sizes.cells + d)
 
 -- a cell holds an owner of the slot i
 abbrev pub IsInCell : Sizes → List ℕ → ℕ → Type 0
@@ -42,8 +46,13 @@ pub record IsTaken (sizes : Sizes) (ws : List ℕ) (r : CellRight) : Type 0 wher
   pub full : 0 < cell_at sizes ws r.cell
   pub kind : IsWordOf sizes ws r.kind (cell_at sizes ws r.cell)
 
--- cells hold owners of slots alone; one right at most is to each; and to a cell that is taken
+-- the words of pointers are such
+abbrev pub HavePointers : Sizes → List ℕ → Type 0
+HavePointers sizes ws = (d : ℕ) → d < sizes.cells → pointer_at sizes ws d < pointers_end
+
+-- cells hold owners of slots alone; one right at most is to each; and to a cell that is taken; and words of pointers are such
 pub record CellsInvariant (sizes : Sizes) (ws : List ℕ) (vs : List View) : Type 0 where
   pub inside : (i : ℕ) → IsInCell sizes ws i → i < sizes.slots
   pub single : (d : ℕ) → total (rights_at d) vs ≤ 1
   pub taken : (j : ℕ) (v : View) (r : CellRight) → get_elem? vs j ≡ some v → HasRight v r → IsTaken sizes ws r
+  pub pointers : HavePointers sizes ws

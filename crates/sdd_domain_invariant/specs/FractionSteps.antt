@@ -1,5 +1,5 @@
 -- What a seat carries, and what each step that takes or gives stakes makes of it
-use Rattle.std.specs.Prelude.{◌≡◌, ◌≢◌, ℕ, zero, suc, ◌+◌, ◌-◌, ◌<◌, ◌≤◌, ◌==◌, not, Bool, true, List, [], ◌∷◌, ◌++◌, drop, Some, None}
+use Rattle.std.specs.Prelude.{◌≡◌, ◌≢◌, ◌⊎◌, ℕ, zero, suc, ◌+◌, ◌-◌, ◌<◌, ◌≤◌, ◌==◌, not, Bool, true, List, [], ◌∷◌, ◌++◌, drop, Some, None}
 use Rattle.std.specs.List.{filter}
 use base.Stored.{Gv}
 use Rattle.atomic_table.specs.Table.{Me}
@@ -210,10 +210,21 @@ AddsOne value slot me x me' = (counted x ≡ 1) × (0 < alive x)
     × (alive x < most_owners → me' ≡ (owning_more slot value (one_more slot (x + 1) None me.0), me.1))
     × (most_owners ≤ alive x → me' ≡ (owning_more slot value (one_more slot (x + 1) (Some slot) me.0), me.1)) × Knew slot me.0 x
 
--- one of several owners comes of an item that a guard sees, which shows this, where its slot's word is still the one that was found
-abbrev pub AddsSeen : ℕ → Gv → ℕ → SeatState → ℕ → SeatState → Type 0
-AddsSeen word value slot me x me' = (x ≡ word → me' ≡ (owning_more slot value (one_more slot (word + 1) None me.0), me.1)) × (x ≢ word → me' ≡ me)
-    × Knew slot me.0 x
+-- nobody moves the value of the slot, as far as it knows: a guard of its own sees the slot, or no other participant may be
+abbrev pub IsStill : ℕ → View → Type 0
+IsStill slot v = ((value : Gv) × IsIn v.stakes.sees slot value) ⊎ IsLone v.epoch
+
+-- an item of whose owners there are several shows this: each sight of it says so, and a lone participant moved it in last
+pub record ShowsSeen (slot : ℕ) (value : Gv) (v : View) : Type 0 where
+  pub code : IsValueCode value
+  pub seen : (g : Gv) → IsIn v.stakes.sees slot g → value ≡ g
+  pub newest : IsLone v.epoch → IsNewest slot true value v
+
+-- one of several owners comes of an item whose value nobody moves, where its slot's word is still the one that was found
+abbrev pub AddsSeen : ℕ → ℕ → SeatState → ℕ → SeatState → Type 0
+AddsSeen word slot me x me' =
+    (x ≡ word → (value : Gv) × ShowsSeen slot value me.0 × (me' ≡ (owning_more slot value (one_more slot (word + 1) None me.0), me.1)))
+    × (x ≢ word → me' ≡ me) × Knew slot me.0 x
 
 -- it is taken back
 abbrev pub TakesOneBack : ℕ → SeatState → ℕ → SeatState → Type 0

@@ -54,11 +54,15 @@ mod owners;
 #[cfg(test)]
 mod places;
 #[cfg(test)]
+mod pointed_owners;
+#[cfg(test)]
 mod published;
 #[cfg(test)]
 mod random_calls;
 #[cfg(test)]
 mod raw;
+#[cfg(test)]
+mod raw_cells;
 #[cfg(test)]
 mod reclaims;
 #[cfg(test)]

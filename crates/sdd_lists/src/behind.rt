@@ -123,6 +123,7 @@ fn reach_first<T: LinkedList, S: Items<T> + SharedItems<T> + Cells<T> + LookThro
     requires seated { IsSeated (S.seat s.old) }
     requires home { cells_home cell.now ≡ (S.seat s.old).home.cells }
     requires reader { reader_of guard.now ≡ (S.seat s.old).reader }
+    requires shown { PtrIsShown (S.shows s.old) front.ptr }
     ensures unmoved { Unmoved S.seat S.known S.shows s.old s.new }
     ensures own { KeepsMoreWaiting (S.own s.old) (S.own s.new) }
     ensures owner { IfOk result (λ owner. slots_home owner ≡ (S.seat s.old).home.slots) }

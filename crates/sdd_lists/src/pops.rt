@@ -3,7 +3,7 @@ ghost use Rattle.std.specs.Prelude.{◌≡◌, ◌⊎◌, ℕ, IfErr, IfOk, IsOk
 ghost use Rattle.sdd_space.specs.Guard.{reader_of};
 ghost use Rattle.sdd_space.specs.Undisturbed.{Undisturbed, Unmoved};
 ghost use Rattle.sdd_space.specs.ParticipantChanges.{KeepsMoreWaiting};
-ghost use Rattle.sdd_space.specs.Ptr.{slot_named};
+ghost use Rattle.sdd_space.specs.Ptr.{PtrIsShown, slot_named};
 ghost use Rattle.sdd_space.specs.CallerId.{IsSeated, IsExact};
 ghost use Rattle.sdd_space.specs.Shared.{IsOfSlots, slots_home, cell_of, cells_home};
 ghost use Rattle.sdd_space.specs.World.{standing_at};
@@ -61,6 +61,7 @@ pub(crate) fn take_first<T: LinkedList, S: Items<T> + SharedItems<T> + Cells<T> 
     requires home { cells_home cell.now ≡ (S.seat s.old).home.cells }
     requires reader { reader_of guard.now ≡ (S.seat s.old).reader }
     requires link { cells_home front.link.now ≡ (S.seat s.old).home.cells }
+    requires shown { PtrIsShown (S.shows s.old) front.ptr }
     ensures unmoved { Unmoved S.seat S.known S.shows s.old s.new }
     ensures own { KeepsMoreWaiting (S.own s.old) (S.own s.new) }
     ensures owner { IfOk result (λ owner. slots_home owner ≡ (S.seat s.old).home.slots) }
@@ -93,6 +94,7 @@ pub(crate) fn keep_first<T: LinkedList, S: SharedItems<T>>(
     s: &mut S,
 ) -> Result<Shared<T>, Refused>
     requires seated { IsSeated (S.seat s.old) }
+    requires shown { PtrIsShown (S.shows s.old) front.ptr }
     ensures undisturbed { Undisturbed S.seat S.own S.known S.shows s.old s.new }
     ensures owner { IfOk result (λ owner. slots_home owner ≡ (S.seat s.old).home.slots) }
     ensures back { IfErr result (λ e. (e ≡ Refused.TooManyOwners) ⊎ (e ≡ Refused.Contended)) }
@@ -154,6 +156,7 @@ pub(crate) fn take_oldest<T: LinkedList, S: Items<T> + SharedItems<T> + Cells<T>
     requires newest { cells_home newest.now ≡ (S.seat s.old).home.cells }
     requires reader { reader_of guard.now ≡ (S.seat s.old).reader }
     requires link { cells_home front.link.now ≡ (S.seat s.old).home.cells }
+    requires shown { PtrIsShown (S.shows s.old) front.ptr }
     ensures unmoved { Unmoved S.seat S.known S.shows s.old s.new }
     ensures own { KeepsMoreWaiting (S.own s.old) (S.own s.new) }
     ensures owner { IfOk result (λ owner. slots_home owner ≡ (S.seat s.old).home.slots) }

@@ -517,6 +517,7 @@ impl<T: Item<LinkedEntry<T>>> Queue<T> {
         requires home { AreOfCells (S.seat s.old).home.cells self.now }
         requires reader { reader_of guard.now ≡ (S.seat s.old).reader }
         requires link { cells_home front.link.now ≡ (S.seat s.old).home.cells }
+        requires shown { PtrIsShown (S.shows s.old) front.ptr }
         ensures unmoved { Unmoved S.seat S.known S.shows s.old s.new }
         ensures own { KeepsMoreWaiting (S.own s.old) (S.own s.new) }
         ensures owner { MatchResult result (IsOfSlots (S.seat s.old).home.slots) (λ e. IsOfSlots (S.seat s.old).home.slots (kept_by e)) }

@@ -30,3 +30,4 @@ pub mod Composed
 pub mod Rights
 pub mod Sheds
 pub mod Ledger
+pub mod Shown

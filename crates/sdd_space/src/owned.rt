@@ -10,7 +10,7 @@ ghost use Rattle.sdd_space.specs.ParticipantChanges.{KeepsMoreWaiting};
 ghost use Rattle.sdd_space.specs.WorldChanges.{made, retired, with_standing, with_value, dropped};
 ghost use Rattle.sdd_space.specs.Owned.{right_of, slot_of, slots_home, IsOfSlots};
 ghost use Rattle.sdd_core.specs.declared.tag.Tag.TheVariants.{None as no_tag};
-ghost use Rattle.sdd_space.specs.Ptr.{slot_named, shown_by, tag_of, KeepsOthers, KeepsShown};
+ghost use Rattle.sdd_space.specs.Ptr.{PtrIsShown, slot_named, shown_by, tag_of, KeepsOthers, KeepsShown};
 ghost use Rattle.sdd_space.specs.Guard.{reader_of};
 ghost use Rattle.sdd_space.specs.RawPtr as raw;
 ghost use Rattle.sdd_participants.specs.Slab.{IsEmptyAt, IsFull};
@@ -128,6 +128,7 @@ impl<T: Item<T>> Owned<T> {
         ensures shown { IfSome (shown_by result) (S.shows s.new (slot_of self.now)) }
         ensures value { IfSome (shown_by result) (S.owns_value s.new (right_of self.now)) }
         ensures full { IsSome (shown_by result) }
+        ensures sight { PtrIsShown (S.shows s.new) result }
         ensures exact { IsExact (S.seat s.old) → S.world s.new ≡ S.world s.old }
     {
         let value = s.get_guarded(self.right(), guard);

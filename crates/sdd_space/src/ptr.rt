@@ -186,7 +186,7 @@ impl<'g, T: Item<T>> Ptr<'g, T> {
     ghost use Rattle.sdd_space.specs.Undisturbed.{Undisturbed};
     ghost use Rattle.sdd_space.specs.WorldChanges.{with_standing};
     ghost use Rattle.sdd_space.specs.Shared.{IsOfSlots, right_of, slot_of};
-    ghost use Rattle.sdd_space.specs.Ptr.{IsNull, shown_by, slot_named};
+    ghost use Rattle.sdd_space.specs.Ptr.{IsNull, PtrIsShown, shown_by, slot_named};
 
     /// The value of the item, which is the one that the pointer was made with, whatever was called since; None for null.
     ///
@@ -200,9 +200,12 @@ impl<'g, T: Item<T>> Ptr<'g, T> {
 
     /// One owner more of the item, if it is shared: None for null, for an item with one owner that can't be shared, and after the last owner went.
     ///
+    /// In a domain with others the guard under which the pointer was had is one of the participant that calls.
+    ///
     /// `TooManyOwners` where 2^62 own it, cells counted; `Contended`, in a domain alone, where as many exchanges were lost as its limits allow.
     pub fn get_shared<S: SharedItems<T>>(&self, s: &mut S) -> Result<Option<Shared<T>>, Refused>
         requires seated { IsSeated (S.seat s.old) }
+        requires shown { S.asks_sight s.old → PtrIsShown (S.shows s.old) self.now }
         ensures undisturbed { Undisturbed S.seat S.own S.known S.shows s.old s.new }
         ensures owner { IfOk result (IsOfSlots (S.seat s.old).home.slots) }
         ensures slot { IfOk result (λ o. IfSome o (λ owner. slot_named self.now ≡ Some (slot_of owner))) }

@@ -12,7 +12,7 @@ ghost use Rattle.sdd_space.specs.ParticipantChanges.{KeepsMoreWaiting};
 ghost use Rattle.sdd_space.specs.WorldChanges.{made_shared, with_standing, with_value, dropped};
 ghost use Rattle.sdd_space.specs.Shared.{right_of, slot_of, slots_home};
 ghost use Rattle.sdd_core.specs.declared.tag.Tag.TheVariants.{None as no_tag};
-ghost use Rattle.sdd_space.specs.Ptr.{slot_named, shown_by, tag_of, KeepsOthers, KeepsShown};
+ghost use Rattle.sdd_space.specs.Ptr.{PtrIsShown, slot_named, shown_by, tag_of, KeepsOthers, KeepsShown};
 ghost use Rattle.sdd_space.specs.Guard.{reader_of};
 ghost use Rattle.sdd_standings.specs.Slots.{IsSharedBy, owners_of};
 ghost use Rattle.sdd_participants.specs.Slab.{IsEmptyAt, IsFull};
@@ -127,6 +127,7 @@ impl<T: Item<T>> Shared<T> {
         ensures shown { IfSome (shown_by result) (S.shows s.new (slot_of self.now)) }
         ensures value { IfSome (shown_by result) (S.owns_value s.new (right_of self.now)) }
         ensures full { IsSome (shown_by result) }
+        ensures sight { PtrIsShown (S.shows s.new) result }
         ensures exact { IsExact (S.seat s.old) → S.world s.new ≡ S.world s.old }
     {
         let value = s.get_guarded(self.right(), guard);
@@ -180,7 +181,8 @@ impl<T: Item<T>> Shared<T> {
         }
     }
 
-    /// One owner more of the item that a pointer names, if it is shared.
+    /// One owner more of the item that a pointer names, if it is shared. In a domain with others the guard under which the pointer was had is one of the
+    /// participant that calls.
     ///
     /// The pointer comes back for null, for an item with one owner that can't be shared, and after the last owner went; with `TooManyOwners` where 2^62 own
     /// the item, cells counted; and with `Contended`, in a domain alone, where as many exchanges were lost as its limits allow.
@@ -189,6 +191,7 @@ impl<T: Item<T>> Shared<T> {
         s: &mut S,
     ) -> Result<Shared<T>, (Ptr<'g, T>, Option<Refused>)>
         requires seated { IsSeated (S.seat s.old) }
+        requires shown { S.asks_sight s.old → PtrIsShown (S.shows s.old) ptr }
         ensures undisturbed { Undisturbed S.seat S.own S.known S.shows s.old s.new }
         ensures home { IfOk result (λ owner. slots_home owner ≡ (S.seat s.old).home.slots) }
         ensures slot { IfOk result (λ owner. slot_named ptr.entry ≡ Some (slot_of owner)) }

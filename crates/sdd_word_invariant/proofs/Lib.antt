@@ -16,5 +16,6 @@ pub mod EpochSteps
 pub mod SlotSteps
 pub mod RawSteps
 pub mod CellSteps
+pub mod PointerSteps
 pub mod Lift
 pub mod Barred

@@ -7,7 +7,7 @@ use lib.ListN.{get_elem?}
 use Rattle.sdd_views.specs.declared.WaitingItem.{WaitingItem}
 use Rattle.sdd_views.specs.declared.View.{View}
 use Rattle.sdd_views.specs.declared.Sizes.{Sizes}
-use Rattle.sdd_word_invariant.specs.Words.{first_cell, cell_word, slot_word, most_waiting}
+use Rattle.sdd_word_invariant.specs.Words.{first_cell, first_slot, cell_word, slot_word, most_waiting}
 use Rattle.sdd_word_invariant.specs.Sums.{times}
 use Rattle.sdd_word_invariant.specs.Codes.{WordReading, IsWordReading}
 use Rattle.sdd_word_invariant.specs.Slots.{slot_at, owners_at, waits_in, items_at, Owns, Sees, Holds, Tallies, SeenBeforeRetired, SlotsInvariant}
@@ -136,13 +136,13 @@ module _ (z : WordReading) (sound : IsWordReading z) (sizes : Sizes) (ws : List 
         (λ (t : z.alive (slot_at sizes ws i) ≢ 1). t (held_is j i u e h))
         (λ (t : z.counted (slot_at sizes ws i) ≢ 0). t ((s.each j u e).held i h).1) r) why
 
--- a word below the cells'
-pub below : (z : WordReading) (sizes : Sizes) (ws : List ℕ) (vs : List View) (j y : ℕ) → j < first_cell sizes → SlotsInvariant z sizes ws vs
-    → SlotsInvariant z sizes (set ws j y) vs
-below z sizes ws vs j y low s =
+-- a word that is neither a cell's nor a slot's
+pub aside : (z : WordReading) (sizes : Sizes) (ws : List ℕ) (vs : List View) (j y : ℕ) → (j < first_cell sizes) ⊎ (first_cell sizes + sizes.cells ≤ j)
+    → j < first_slot sizes → SlotsInvariant z sizes ws vs → SlotsInvariant z sizes (set ws j y) vs
+aside z sizes ws vs j y out low s =
     let there : (i : ℕ) → slot_at sizes (set ws j y) i ≡ slot_at sizes ws i = λ i. get_or-set_other ws j (slot_word sizes i) y 0 (λ e. omega arith) in record {
       long = length-set ws j y ∙ s.long;
-      owned = λ i. let o = span_out (z.names i) ws (first_cell sizes) sizes.cells j y (inl low) in let a = s.owned i in
+      owned = λ i. let o = span_out (z.names i) ws (first_cell sizes) sizes.cells j y out in let a = s.owned i in
           let h = ap z.alive (there i) in omega arith;
       waited = λ i. ap z.waiting (there i) ∙ s.waited i;
       each = λ l u e. let f = s.each l u e in record {
@@ -153,3 +153,8 @@ below z sizes ws vs j y low s =
       };
       two = s.two;
     }
+
+-- a word below the cells'
+pub below : (z : WordReading) (sizes : Sizes) (ws : List ℕ) (vs : List View) (j y : ℕ) → j < first_cell sizes → SlotsInvariant z sizes ws vs
+    → SlotsInvariant z sizes (set ws j y) vs
+below z sizes ws vs j y low = aside z sizes ws vs j y (inl low) (omega arith)

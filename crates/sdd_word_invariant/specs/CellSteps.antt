@@ -1,8 +1,9 @@
 -- What each step on a cell makes of what the participant knows, and what it tells
-use Rattle.std.specs.Prelude.{◌≡◌, ◌≢◌, ℕ, List, [], ◌∷◌, slice_index, slice_set}
+use Rattle.std.specs.Prelude.{◌≡◌, ◌≢◌, ℕ, ◌+◌, List, [], ◌∷◌, slice_index, slice_set}
 use Rattle.sdd_views.specs.declared.CellsView.{CellsView}
 use Rattle.sdd_views.specs.declared.View.{View}
-use Rattle.sdd_word_invariant.specs.Words.{cell_word}
+use Rattle.sdd_views.specs.declared.Sizes.{Sizes}
+use Rattle.sdd_word_invariant.specs.Words.{cell_word, pointer_word}
 use Rattle.sdd_word_invariant.specs.Codes.{held_slots}
 use Rattle.sdd_word_invariant.specs.Epoch.{IsLone}
 use Rattle.sdd_word_invariant.specs.Slots.{Sees}
@@ -49,3 +50,32 @@ SeesCell cell v x w = ((slot : ℕ) → held_slots x ≡ slot ∷ [] → ¬ (See
 -- a step on the word i tells R of the cell whose word it is
 abbrev pub AtCell : (ℕ → View → ℕ → View → Type 0) → ℕ → View → ℕ → View → Type 0
 AtCell R i v x w = (cell : ℕ) → i ≡ cell_word v.sizes cell → R cell v x w
+
+-- ---- the word beside a cell's own, which is its pointer where the cell is for raw pointers
+-- where it is among those behind the places'
+abbrev pub pointer_behind : Sizes → ℕ → ℕ
+pointer_behind sizes cell = sizes.cells + cell
+
+-- it is y, and all else as it was
+abbrev pub noting_pointer : ℕ → ℕ → View → View
+noting_pointer cell y v = noting (pointer_behind v.sizes cell) y v
+
+-- a lone participant finds what it knew
+abbrev pub KnewPointer : ℕ → View → ℕ → Type 0
+KnewPointer cell v = KnewCell (pointer_behind v.sizes cell) v
+
+-- it is looked at
+abbrev pub LooksAtPointer : ℕ → View → ℕ → View → Type 0
+LooksAtPointer cell v x w = (w ≡ v) × KnewPointer cell v x
+
+-- y comes in its place
+abbrev pub SwapsPointer : ℕ → ℕ → View → ℕ → View → Type 0
+SwapsPointer y cell v x w = (w ≡ noting_pointer cell y v) × KnewPointer cell v x
+
+-- y comes in place of old, where it is old
+abbrev pub ExchangesPointer : ℕ → ℕ → ℕ → View → ℕ → View → Type 0
+ExchangesPointer old y cell v x w = (x ≡ old → w ≡ noting_pointer cell y v) × (x ≢ old → w ≡ v) × KnewPointer cell v x
+
+-- a step on the word i tells R of the cell whose pointer's word it is
+abbrev pub AtPointer : (ℕ → View → ℕ → View → Type 0) → ℕ → View → ℕ → View → Type 0
+AtPointer R i v x w = (cell : ℕ) → i ≡ pointer_word v.sizes cell → R cell v x w

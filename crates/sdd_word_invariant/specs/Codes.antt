@@ -4,6 +4,7 @@
 -- once the collector's close has claimed it, 7 while its value is moved out, 8 the same where its bag has let go of it meanwhile, and 6 emptied, and still
 -- in the bag. Shared by n owners: 2^63 + n; none left, it waits: 2^63.
 -- A cell: 0 free; else 2^27 * generation + 4 * (slot + 1) + tag, or a mark from 2^27 - 16 on, which owns nothing: null with a tag, raw pointers, a collector.
+-- A cell's pointer: 4 * (slot + 1) + tag, or its tag alone, which names nothing.
 use Rattle.std.specs.Prelude.{◌≡◌, ℕ, ◌+◌, ◌-◌, ◌*◌, ◌/◌, ◌%◌, ◌^◌, ◌<◌, ◌≤◌, if◌then◌else◌, Bool, List, [], ◌∷◌, suc, eqb, leb}
 use prog.Atomic.{either}
 use Rattle.sdd_word_invariant.specs.Sums.{is}
@@ -138,6 +139,10 @@ holding_word slot tag = 4 * suc slot + tag
 
 abbrev pub null_word : ℕ → ℕ
 null_word tag = unowned + tag
+
+-- all words of pointers are below: a slot's number is below 2^32
+abbrev pub pointers_end : ℕ
+pointers_end = 4 * 2 ^ 32 + 4
 
 unfoldable pub names : ℕ → ℕ → ℕ
 names i x = either (leb unowned (x % 2 ^ 27)) 0 (either (eqb (x % 2 ^ 27 / 4) 0) 0 (is i (x % 2 ^ 27 / 4 - 1)))

@@ -34,9 +34,9 @@ first_cell sizes = after_places sizes.participants
 abbrev pub cell_word : Sizes → ℕ → ℕ
 cell_word sizes cell = first_cell sizes + cell
 
--- where a cell for raw pointers has its pointer, beside its mark
+-- where a cell for raw pointers has its pointer, beside its mark: pointers come behind all cells
 abbrev pub pointer_word : Sizes → ℕ → ℕ
-pointer_word sizes cell = first_cell sizes + sizes.cells + cell
+pointer_word sizes cell = cell_word sizes (sizes.cells + cell)
 
 abbrev pub first_slot : Sizes → ℕ
 first_slot sizes = after_places sizes.participants + 2 * sizes.cells

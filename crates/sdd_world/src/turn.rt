@@ -296,6 +296,10 @@ impl<T: Item<T>, J: Job> SharedOwners<T> for Turn<'_, T, J> {
 }
 
 impl<T: Item<T>, J: Job> SharedItems<T> for Turn<'_, T, J> {
+    ghost asks_sight = { λ _. ⊥ };
+
+    ghost exact_asks_nothing = { λ _ _ asks. asks };
+
     fn get_shared(&mut self, slot: u32) -> Result<Option<Right>, Refused> {
         let world = &mut *self.world;
         world.core.get_shared(slot)

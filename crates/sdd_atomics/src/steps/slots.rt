@@ -14,7 +14,7 @@ ghost use Rattle.sdd_views.specs.declared.ShownValue.{ShownValue};
 ghost use Rattle.sdd_shared_values.specs.SharedValues.{IsNoValueCode, lot};
 ghost use Rattle.sdd_domain_invariant.specs.FractionsAtHome.{CarriedFractions, Moves, spare};
 ghost use Rattle.sdd_domain_invariant.specs.Records.{IsIn};
-ghost use Rattle.sdd_domain_invariant.specs.FractionSteps.{CarriesAll, IsValue, ClaimsAll, FillsSlot, EntersUnit, TakesOut, TakesHeld, IsDeposit, GivesAll, DiscardsAll, RetiresOne, SeesOwned, LearnsOwned, DrawsUnit, AddsSeen, parting, regained, ReleasesOne, LeavesOne};
+ghost use Rattle.sdd_domain_invariant.specs.FractionSteps.{CarriesAll, IsValue, ClaimsAll, FillsSlot, EntersUnit, TakesOut, TakesHeld, IsDeposit, GivesAll, DiscardsAll, RetiresOne, SeesOwned, LearnsOwned, DrawsUnit, AddsSeen, IsStill, parting, regained, ReleasesOne, LeavesOne};
 ghost use Rattle.sdd_atomics.specs.DomainTable.{id_of, book_of, places_of, slots_of, most_waiting_of};
 ghost use Rattle.sdd_domain_invariant.specs.BankInvariant.{one_where};
 ghost use Rattle.sdd_domain_invariant.specs.FilledInvariant.{HasRecord};
@@ -140,8 +140,9 @@ pub fn add_owner(board: &DomainTable, token: &mut DomainSeat, slot: u32, owner: 
         .beside(&board.table.shared, token, owner, &deed)
 }
 
-/// Tries to make one owner more of an item that a guard sees, of whose owners there are several, where the slot's word is still this one, which counts one at
-/// least, and fewer than may be. Answers its word before: the participant has the owner where this is the same, and nothing changes else.
+/// Tries to make one owner more of an item whose value nobody moves, since a guard sees it or nobody else takes part, where the slot's word is still this
+/// one, which counts one owner at least, and fewer than may be. Answers its word before: the participant has the owner where this is the same, and knows what
+/// the slot shows, and nothing changes else.
 #[inline]
 pub fn add_seen(board: &DomainTable, token: &mut DomainSeat, slot: u32, word: u64) -> u64
     requires home { token.old.table_id ≡ id_of board.now }
@@ -150,9 +151,9 @@ pub fn add_seen(board: &DomainTable, token: &mut DomainSeat, slot: u32, word: u6
     requires place { HasPlace (epoch token.old) }
     requires rests { (view token.old).stakes.moves ≡ None }
     requires within { (slots token.old).over ≡ None }
-    requires seen { (value : Gv) × IsIn (view token.old).stakes.sees slot value }
+    requires still { IsStill slot (view token.old) }
     requires several { (counted word ≡ 1) × (0 < alive word) × (alive word < most_owners) }
-    ensures { (value : Gv) → IsIn (view token.old).stakes.sees slot value → Moved (AddsSeen word value slot) token.old result token.new }
+    ensures { Moved (AddsSeen word slot) token.old result token.new }
 {
     board
         .table

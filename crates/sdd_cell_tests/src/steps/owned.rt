@@ -168,12 +168,13 @@ pub fn emptied_weakly<S: Look<u64> + Guards<u64> + Items<u64> + Cells<u64>>(
     spent(s, old)
 }
 
-/// Sets the tag by a condition that holds. How often that was asked, and what it was shown last.
+/// Sets the tag by a condition that holds, or doesn't. How often that was asked, and what it was shown last.
 pub fn asked<S: Cells<u64>>(
     rt: &impl Abort,
     s: &mut S,
     cell: &AtomicOwned<u64>,
     tag: Tag,
+    holds: bool,
 ) -> (u8, RawPtr<u64>)
     requires seated { IsSeated (S.seat s.old) }
     requires home { cells_home cell.now ≡ (S.seat s.old).home.cells }
@@ -184,10 +185,10 @@ pub fn asked<S: Cells<u64>>(
     let condition = |ptr: RawPtr<u64>| {
         times = times.wrapping_add(1);
         last = ptr;
-        true
+        holds
     };
     let was_set = cell.update_tag_if(tag, condition, s);
-    assert!(rt; was_set == Ok(true));
+    assert!(rt; was_set == Ok(holds));
     (times, last)
 }
 

@@ -103,3 +103,49 @@ pub fn updated<S: Guards<u64> + RawCells<u64>>(
     close(s, guard);
     result.expect(rt, "in a world it is called once")
 }
+
+/// Sets the tag by a condition that holds, or doesn't. How often that was asked.
+pub fn asked<S: RawCells<u64>>(
+    rt: &impl Abort,
+    s: &mut S,
+    cell: &AtomicRaw<u64>,
+    tag: Tag,
+    holds: bool,
+) -> u8
+    requires seated { IsSeated (S.seat s.old) }
+    requires home { cells_home cell.now ≡ (S.seat s.old).home.cells }
+    ensures seat { S.seat s.new ≡ S.seat s.old }
+{
+    let mut times = 0u8;
+    let condition = |_ptr: RawPtr<u64>| {
+        times = times.wrapping_add(1);
+        holds
+    };
+    let was_set = cell.update_tag_if(tag, condition, s);
+    assert!(rt; was_set == Ok(holds));
+    times
+}
+
+/// The cell has this pointer from now on, or the one that it had where this is none. How often the closure was called that says so.
+pub fn called<S: Guards<u64> + RawCells<u64>>(
+    rt: &impl Abort,
+    s: &mut S,
+    cell: &AtomicRaw<u64>,
+    next: Option<RawPtr<u64>>,
+) -> u8
+    requires seated { IsSeated (S.seat s.old) }
+    requires home { cells_home cell.now ≡ (S.seat s.old).home.cells }
+    ensures seat { S.seat s.new ≡ S.seat s.old }
+{
+    let guard = opened(rt, s);
+    let mut times = 0u8;
+    let update = |_ptr: RawPtr<u64>| {
+        times = times.wrapping_add(1);
+        next
+    };
+    let result = cell.fetch_update(update, &guard, s);
+    close(s, guard);
+    let updated = result.expect(rt, "in a world it is called once");
+    assert!(rt; updated.is_ok() == next.is_some());
+    times
+}

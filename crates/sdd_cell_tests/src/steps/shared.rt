@@ -4,6 +4,7 @@ ghost use Rattle.sdd_space.specs.Guard.{reader_of};
 ghost use Rattle.sdd_space.specs.OwnerOrCell.{AreOf};
 ghost use Rattle.sdd_space.specs.Shared.{slot_of, slots_home, cells_home, IsOfSlots};
 ghost use Rattle.sdd_space.specs.CallerId.{IsSeated};
+ghost use Rattle.sdd_space.specs.Ptr.{KeepsShown, PtrIsShown};
 
 use crate::steps::{Read, close, opened, seen};
 use sdd_core::{Refused, Tag};
@@ -43,6 +44,7 @@ pub fn release<S: Items<u64>>(s: &mut S, owner: Shared<u64>) -> bool
     requires seated { IsSeated (S.seat s.old) }
     requires home { slots_home owner ≡ (S.seat s.old).home.slots }
     ensures seat { S.seat s.new ≡ S.seat s.old }
+    ensures shown { KeepsShown (S.shows s.old) (S.shows s.new) }
 {
     owner.release(s)
 }
@@ -52,32 +54,39 @@ pub fn copied<S: SharedOwners<u64>>(rt: &impl Abort, s: &mut S, owner: &Shared<u
     requires seated { IsSeated (S.seat s.old) }
     requires home { slots_home owner.now ≡ (S.seat s.old).home.slots }
     ensures seat { S.seat s.new ≡ S.seat s.old }
+    ensures shown { KeepsShown (S.shows s.old) (S.shows s.new) }
     ensures home { slots_home result ≡ (S.seat s.new).home.slots }
 {
     owner.clone(s).expect(rt, "another owner may be had")
 }
 
 /// Whether one owner more can be had of the pointer's item; if so it is given up again, and tells whether it was the last.
+#[tactic(auto, using(sdd_space::proofs::Shown::shown_still))]
 pub fn upgraded<S: Items<u64> + SharedItems<u64>>(
     rt: &impl Abort,
     s: &mut S,
     ptr: Ptr<'_, u64>,
 ) -> Option<bool>
     requires seated { IsSeated (S.seat s.old) }
+    requires shown { PtrIsShown (S.shows s.old) ptr }
     ensures seat { S.seat s.new ≡ S.seat s.old }
+    ensures still { PtrIsShown (S.shows s.new) ptr }
 {
     let owner = ptr.get_shared(s).expect(rt, "another owner may be had")?;
     Some(owner.release(s))
 }
 
 /// The same by a call that gives the pointer back where there is none.
+#[tactic(auto, using(sdd_space::proofs::Shown::shown_still))]
 pub fn converted<S: Items<u64> + SharedItems<u64>>(
     rt: &impl Abort,
     s: &mut S,
     ptr: Ptr<'_, u64>,
 ) -> Option<bool>
     requires seated { IsSeated (S.seat s.old) }
+    requires shown { PtrIsShown (S.shows s.old) ptr }
     ensures seat { S.seat s.new ≡ S.seat s.old }
+    ensures still { PtrIsShown (S.shows s.new) ptr }
 {
     match Shared::try_from_ptr(ptr, s) {
         Ok(owner) => Some(owner.release(s)),
@@ -96,6 +105,7 @@ pub fn refused_copy<S: Items<u64> + SharedItems<u64>>(
     requires seated { IsSeated (S.seat s.old) }
     requires home { slots_home owner.now ≡ (S.seat s.old).home.slots }
     ensures seat { S.seat s.new ≡ S.seat s.old }
+    ensures shown { KeepsShown (S.shows s.old) (S.shows s.new) }
 {
     match owner.clone(s) {
         Ok(other) => {
@@ -112,6 +122,7 @@ pub fn refused_upgrade<S: Look<u64> + Items<u64> + SharedItems<u64>>(
     ptr: Ptr<'_, u64>,
 ) -> Option<Refused>
     requires seated { IsSeated (S.seat s.old) }
+    requires shown { PtrIsShown (S.shows s.old) ptr }
     ensures seat { S.seat s.new ≡ S.seat s.old }
 {
     match ptr.get_shared(s) {
@@ -359,4 +370,26 @@ pub fn dropped_in_place<S: InPlaceItems<u64>>(
         Ok(last) => last,
         Err((_owner, refused)) => panic!(rt; "{refused:?}"),
     }
+}
+
+/// Sets the tag by a condition that holds, or doesn't. How often that was asked.
+pub fn asked<S: Cells<u64>>(
+    rt: &impl Abort,
+    s: &mut S,
+    cell: &AtomicShared<u64>,
+    tag: Tag,
+    holds: bool,
+) -> u8
+    requires seated { IsSeated (S.seat s.old) }
+    requires home { cells_home cell.now ≡ (S.seat s.old).home.cells }
+    ensures seat { S.seat s.new ≡ S.seat s.old }
+{
+    let mut times = 0u8;
+    let condition = |_ptr: RawPtr<u64>| {
+        times = times.wrapping_add(1);
+        holds
+    };
+    let was_set = cell.update_tag_if(tag, condition, s);
+    assert!(rt; was_set == Ok(holds));
+    times
 }

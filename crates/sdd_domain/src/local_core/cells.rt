@@ -9,7 +9,7 @@ ghost use Rattle.sdd_shared_values.specs.SharedValues.{showing};
 ghost use Rattle.sdd_space.specs.Guard.{reader_of};
 ghost use Rattle.sdd_space.specs.RawPtr as raw;
 ghost use Rattle.sdd_space.specs.OwnerOrCell.{AreOf};
-ghost use Rattle.sdd_word_invariant.specs.Codes.{alive, counted, held_slots, held_word, most_owners};
+ghost use Rattle.sdd_word_invariant.specs.Codes.{alive, counted, held_slots, held_word, most_owners, null_word};
 ghost use Rattle.sdd_domain_invariant.specs.Records.{IsIn};
 ghost use Rattle.sdd_domain.specs.Cells.{ChangesCell, ClaimsNone, ClonesNone, ClonesTo, Copies, CopiesNone, FindsAt, FreesAt, IsOwnedThere, MakesInCell, MakesNone, WritesAt};
 ghost use Rattle.sdd_domain.specs.CellWords.{listed};
@@ -24,7 +24,6 @@ use crate::cell_values::{bind, exchange, free, free_bare, loosen, retag, swap, w
 use crate::cell_words::{contents_in, held_slot, holds, tag_in};
 use crate::local_core::LocalCore;
 use crate::local_core::items::is_one_of_several;
-use crate::seen_owners::own_seen;
 use sdd_atomics::steps::cells::{look_in, recall_cell, see_in};
 use sdd_core::{Refused, Tag};
 use sdd_participants::{CellContents, Job};
@@ -90,6 +89,18 @@ impl<'d, T: Item<T>, J: Job> LocalCore<'d, T, J> {
             }
             Err((back, refused)) => Err((bind(board, slots, back, kind), refused)),
         }
+    }
+
+    /// Beside the right to a cell a lone participant knows that the cell is taken. Nothing changes, and no word is touched.
+    #[inline]
+    fn recall_full(&mut self, cell: &Right)
+        requires home { home_of cell.now ≡ cells_home self.old.home }
+        ensures same { self.new ≡ self.old }
+        ensures inside { number_of cell.now < self.old.sizes.cells }
+        ensures full { IsLone self.old → 0 < cell_word_of self.old (number_of cell.now) }
+    {
+        let board = &self.domain.board;
+        recall_cell(board, &mut self.token, cell.witness());
     }
 
     /// The word of a cell at this moment.
@@ -223,7 +234,14 @@ impl<'d, T: Item<T>, J: Job> LocalCore<'d, T, J> {
             ((self.new ≡ self.old) × (IsLone self.old → old ≢ cell_word_of self.old (number_of cell.now))) }
     {
         let board = &self.domain.board;
-        retag(board, &mut self.token, cell.number(), cell.witness(), old, tag)
+        retag(
+            board,
+            &mut self.token,
+            cell.number(),
+            cell.witness(),
+            old,
+            tag,
+        )
     }
 
     /// A cell has another tag, if the condition holds of what it holds.
@@ -260,10 +278,10 @@ impl<'d, T: Item<T>, J: Job> LocalCore<'d, T, J> {
     /// Reserves a free cell, for what is decided when it is filled.
     ///
     /// `NoCell` where a walk over all cells found none free; `Contended` where as many exchanges were lost as the limits allow.
-    fn reserve_cell(&mut self) -> Result<RawRight, Refused>
+    pub(crate) fn reserve_cell(&mut self) -> Result<RawRight, Refused>
         ensures right { IfOk result (λ cell. raw_home_of cell ≡ cells_home self.old.home) }
         ensures reserved { MatchResult result
-            (λ cell. (word : ℕ) × WritesAt (raw_number_of cell) 0 word self.old self.new)
+            (λ cell. WritesAt (raw_number_of cell) 0 (null_word 0) self.old self.new)
             (λ e. (self.new ≡ self.old) × ClaimsNone e self.old) }
     {
         let next = self.first_cell();
@@ -322,7 +340,11 @@ impl<'d, T: Item<T>, J: Job> LocalCore<'d, T, J> {
         let reserved = match self.reserve_cell() {
             Ok(reserved) => reserved,
             Err(refused) => {
-                let refused = if self.has_slot() { refused } else { Refused::NoSlot };
+                let refused = if self.has_slot() {
+                    refused
+                } else {
+                    Refused::NoSlot
+                };
                 return Err((value, refused));
             }
         };
@@ -335,39 +357,10 @@ impl<'d, T: Item<T>, J: Job> LocalCore<'d, T, J> {
         }
     }
 
-    /// One owner more of an item that its guards see, which shows this, if the item may have several and has one still.
-    ///
-    /// `TooManyOwners` where as many own it as may; `Contended` where others came or went meanwhile as often as the limits allow.
-    fn own_seen(&mut self, slot: u32, value: &T) -> Result<Option<Right>, Refused>
-        requires inside { slot < self.old.limits.slots }
-        requires seen { IsIn self.old.shown slot (showing T.row value.now) }
-        ensures came { MatchResult result
-            (λ o. MatchOption o
-            ((self.new ≡ self.old) × (IsLone self.old → (counted (word_of self.old slot) ≡ 0) ⊎ (alive (word_of self.old slot) ≡ 0)))
-            (λ right. (number_of right ≡ slot) × ((word : ℕ) × AddsAt slot word self.old self.new)))
-            (λ e. (self.new ≡ self.old)
-            × (((e ≡ Refused.TooManyOwners) × (IsLone self.old → (counted (word_of self.old slot) ≡ 1) × (most_owners ≤ alive (word_of self.old slot))))
-            ⊎ ((e ≡ Refused.Contended) × (IsLone self.old → word_of self.old slot ≡ held_word)))) }
-        ensures right { IfOk result (λ o. IfSome o (λ right. IsRightTo self.old StandingKind.Shared (showing T.row value.now) right)) }
-    {
-        let slots = self.domain.limits.slots;
-        let tries = self.domain.limits.tries;
-        let board = &self.domain.board;
-        let loose = match own_seen(board, &mut self.token, slot, value, tries) {
-            Ok(loose) => loose,
-            Err(refused) => return Err(refused),
-        };
-        Ok(bind(board, slots, loose, StandingKind::Shared))
-    }
-
     /// One owner more of what a cell of shared owners holds, if it holds anything, with its tag.
     ///
     /// `TooManyOwners` where as many own it as may; `Contended` where others changed the cell or its item's owners meanwhile as often as the limits allow.
-    fn copy_held(
-        &mut self,
-        cell: &Right,
-        guard: &Guard,
-    ) -> Result<(Option<Right>, Tag), Refused>
+    fn copy_held(&mut self, cell: &Right, guard: &Guard) -> Result<(Option<Right>, Tag), Refused>
         requires home { home_of cell.now ≡ cells_home self.old.home }
         requires kind { kind_of cell.now ≡ StandingKind.Shared }
         requires reader { reader_of guard.now ≡ self.old.reader }
@@ -378,10 +371,10 @@ impl<'d, T: Item<T>, J: Job> LocalCore<'d, T, J> {
     {
         for _attempt in 0..self.domain.limits.tries {
             let (held, tag) = self.load(cell, guard);
-            let Some((slot, value)) = held else {
+            let Some((slot, _value)) = held else {
                 return Ok((None, tag));
             };
-            match self.own_seen(slot, value) {
+            match self.own_seen(slot) {
                 Ok(Some(owner)) => return Ok((Some(owner), tag)),
                 Ok(None) => {}
                 Err(refused) => return Err(refused),
@@ -399,10 +392,13 @@ impl<'d, T: Item<T>, J: Job> LocalCore<'d, T, J> {
         requires kind { kind_of cell.now ≡ StandingKind.Shared }
         requires reader { reader_of guard.now ≡ self.old.reader }
         ensures right { IfOk result (λ other. (home_of other ≡ cells_home self.old.home) × (kind_of other ≡ StandingKind.Shared)) }
+        ensures inside { number_of cell.now < self.old.sizes.cells }
+        ensures full { IsLone self.old → 0 < cell_word_of self.old (number_of cell.now) }
         ensures cloned { MatchResult result
             (λ other. ClonesTo (number_of cell.now) (number_of other) self.old self.new)
             (λ e. ((self.new ≡ self.old) × ClaimsNone e self.old) ⊎ ClonesNone (number_of cell.now) e self.old self.new) }
     {
+        self.recall_full(cell);
         let reserved = match self.reserve_cell() {
             Ok(reserved) => reserved,
             Err(refused) => return Err(refused),

@@ -1,5 +1,5 @@
 //! Items in slots: a participant makes one, looks at it beside its owner, and lets it go.
-ghost use Rattle.std.specs.Prelude.{◌≡◌, ◌<◌, ◌⊎◌, ℕ, true, IsTrue, MatchResult, Some, slice_set};
+ghost use Rattle.std.specs.Prelude.{◌≡◌, ◌<◌, ◌⊎◌, ℕ, true, IfOk, IfSome, IsTrue, MatchOption, MatchResult, Some, slice_set};
 ghost use base.Stored.{Gv};
 ghost use Rattle.sdd_rights.specs.StandingKind.{IsOwner, is_shared};
 ghost use Rattle.sdd_rights.specs.Right.{number_of, home_of, kind_of};
@@ -10,10 +10,13 @@ ghost use Rattle.sdd_shared_values.specs.SharedValues.{showing};
 ghost use Rattle.sdd_word_invariant.specs.Codes.{claimed_word};
 ghost use Rattle.sdd_domain.specs.LocalState.{IsFree, IsLone, IsUsedUp, KnowsOwner, MakesAt, LooksAt, OwnerGoes, AddsAt, HasMost};
 ghost use Rattle.sdd_domain.specs.Items.{slots_home, HasValue, IsRightTo, IsSameOwner};
+ghost use Rattle.sdd_domain.specs.SeenOwners.{HasNoOwner, KnowsStill, OwnsNoMore, ShowsTo};
 ghost use Rattle.sdd_domain.specs.SeenSlots.{IsOnce};
 
+use crate::cell_values::bind;
 use crate::claims::{claim_free, finds_free};
 use crate::local_core::LocalCore;
+use crate::seen_owners::own_seen;
 use crate::values::{let_one_go, put_value};
 use sdd_atomics::steps::slots::{
     MOST_SHARED, OWNED, SHARED_BY_ONE, add_owner, cut, draw_unit, recall, take_in, watch,
@@ -214,6 +217,31 @@ impl<'d, T: Item<T>, J: Job> LocalCore<'d, T, J> {
         let grip = draw_unit(board, &mut self.token, slot).into_grip();
         let other = cut(board, &mut self.token);
         Ok(Right::of_witness(slot, slots, StandingKind::Shared, other, grip))
+    }
+
+    /// One owner more of an item whose value nobody moves, as its guards see it or nobody else takes part, if it may have several and has one still. No
+    /// memory is taken.
+    ///
+    /// `TooManyOwners` where as many own it as may; `Contended` where others came or went meanwhile as often as the limits allow.
+    pub(crate) fn own_seen(&mut self, slot: u32) -> Result<Option<Right>, Refused>
+        requires still { KnowsStill self.old slot }
+        ensures came { MatchResult result
+            (λ o. MatchOption o ((self.new ≡ self.old) × HasNoOwner self.old slot)
+            (λ right. (number_of right ≡ slot) × ((word : ℕ) × AddsAt slot word self.old self.new)))
+            (λ e. (self.new ≡ self.old) × OwnsNoMore self.old slot e) }
+        ensures right { IfOk result (λ o. IfSome o (λ right. (value : Gv) × IsRightTo self.old StandingKind.Shared value right × ShowsTo self.old slot value)) }
+    {
+        let slots = self.domain.limits.slots;
+        if slot as u64 >= slots {
+            return Ok(None);
+        }
+        let tries = self.domain.limits.tries;
+        let board = &self.domain.board;
+        let loose = match own_seen(board, &mut self.token, slot, tries) {
+            Ok(loose) => loose,
+            Err(refused) => return Err(refused),
+        };
+        Ok(bind(board, slots, loose, StandingKind::Shared))
     }
 
     /// Lets an owner of this kind go, and answers whether it was the last. The last one's item waits until three changes were seen. No memory is taken.

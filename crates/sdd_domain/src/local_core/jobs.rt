@@ -1,5 +1,5 @@
 //! Jobs in places of the domain's table of jobs: a participant defers one, and takes one out that is to run.
-ghost use Rattle.std.specs.Prelude.{◌≡◌, ◌⊎◌, ℕ, List, ◌∷◌, MatchResult};
+ghost use Rattle.std.specs.Prelude.{◌≡◌, ◌⊎◌, ℕ, List, ◌∷◌, Some, MatchResult};
 ghost use Rattle.sdd_participants.specs.declared.waiting.LimboEntry.{LimboEntry as Entry};
 ghost use Rattle.sdd_participants.specs.declared.waiting.LimboEntry.TheVariants.{Job as waiting_job};
 ghost use Rattle.sdd_domain.specs.LocalState.{AllPlacesTaken, DefersTo, IsLone, TakesJob};
@@ -23,12 +23,9 @@ impl<'d, T: Item<T>, J: Job> LocalCore<'d, T, J> {
             (λ e. (e.0 ≡ job) × (self.new ≡ self.old) × ((e.1 ≡ Refused.NoJob) ⊎ ((e.1 ≡ Refused.Contended) × ¬ (IsLone self.old)))
             × (IsLone self.old → AllPlacesTaken self.old)) }
     {
-        let slots = self.domain.limits.slots as u32;
-        let jobs = self.domain.limits.jobs as u32;
-        let tries = self.domain.limits.tries;
         let board = &self.domain.board;
         let next = self.jobs.next();
-        match claim_place(board, &mut self.token, next, slots, jobs, tries) {
+        match claim_place(board, &mut self.token, next, &self.domain.limits) {
             Ok(place) => {
                 self.jobs.put(place, job);
                 self.own.bags.push(LimboEntry::Job(place));
@@ -40,14 +37,12 @@ impl<'d, T: Item<T>, J: Job> LocalCore<'d, T, J> {
     }
 
     /// Takes the job out that is due before all others, in this place, which is given back. The job is to run: it hasn't so far.
-    pub(crate) fn take_job(&mut self, place: u32) -> J
+    pub(crate) fn take_job(&mut self, place: u32) -> Option<J>
         requires first { (rest : List Entry) × (self.old.due ≡ waiting_job place ∷ rest) }
-        ensures { TakesJob place result self.old self.new }
+        ensures { (job : J) × (result ≡ Some job) × TakesJob place job self.old self.new }
     {
         self.due.next();
-        let Some(job) = self.jobs.take(place) else {
-            unreachable!()
-        };
+        let job = self.jobs.take(place);
         let slots = self.domain.limits.slots as u32;
         give_place_back(&self.domain.board, &mut self.token, slots + place);
         job

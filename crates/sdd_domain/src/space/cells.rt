@@ -1,27 +1,11 @@
 //! A participant as the generic calls of cells have it.
-ghost use Rattle.std.specs.Prelude.{◌≡◌, MatchOption, None, Some};
-ghost use Rattle.sdd_space.specs.Ptr.{cell_seen, shown_by};
 
 use crate::local::Local;
 use crate::reclaiming::LocalGiver;
 use sdd_core::{Refused, Tag};
 use sdd_participants::{CellContents, Job};
 use sdd_rights::{Right, StandingKind};
-use sdd_space::inner::{null_with, ptr_to};
 use sdd_space::{Cells, Guard, Item, Ptr, RawPtr};
-
-/// A pointer to what a cell was found to hold.
-#[inline]
-fn pointer_to<'g, T>(held: Option<(u32, &'g T)>, tag: Tag) -> Ptr<'g, T>
-    ensures { MatchOption held
-        ((cell_seen result ≡ record { held = None; tag = tag }) × (shown_by result ≡ None))
-        (λ found. (cell_seen result ≡ record { held = Some found.0; tag = tag }) × (shown_by result ≡ Some found.1.now)) }
-{
-    match held {
-        Some((slot, value)) => ptr_to(slot, value).with_tag(tag),
-        None => null_with(tag),
-    }
-}
 
 impl<T: Item<T>, J: Job> Cells<T> for Local<'_, T, J> {
     fn cell_from(
@@ -46,8 +30,7 @@ impl<T: Item<T>, J: Job> Cells<T> for Local<'_, T, J> {
     #[inline]
     fn load<'g>(&mut self, cell: &Right, guard: &'g Guard) -> Ptr<'g, T> {
         self.partner.ledger.codes();
-        let (held, tag) = self.partner.membership.load(cell, guard);
-        pointer_to(held, tag)
+        self.partner.membership.load_pointer(cell, guard)
     }
 
     fn swap(
@@ -71,16 +54,10 @@ impl<T: Item<T>, J: Job> Cells<T> for Local<'_, T, J> {
     ) -> Result<(Option<Right>, Ptr<'g, T>), (Option<Right>, Ptr<'g, T>)> {
         self.partner.ledger.codes();
         let membership = &mut self.partner.membership;
-        let seen = match &new {
-            Some(owner) => Some((owner.number(), membership.get_guarded(owner, guard))),
-            None => None,
-        };
+        let now = membership.point_to(&new, tag, guard);
         match membership.exchange(cell, current, new, tag, kind) {
-            Ok(old) => Ok((old, pointer_to(seen, tag))),
-            Err(back) => {
-                let (held, tag) = membership.load(cell, guard);
-                Err((back, pointer_to(held, tag)))
-            }
+            Ok(old) => Ok((old, now)),
+            Err(back) => Err((back, membership.load_pointer(cell, guard))),
         }
     }
 

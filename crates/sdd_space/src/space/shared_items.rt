@@ -15,11 +15,15 @@ use sdd_rights::{Right, StandingKind};
 
 /// Items with several owners, which are found by their slots too.
 pub trait SharedItems<T: Item<T>>: SharedOwners<T> {
+    /// One owner more is had of what a guard of the caller sees alone. In a domain with others it is; a world, and a lone participant, ask nothing.
+    ghost asks_sight: { Self → Type 0 };
+
     /// One owner more of the item in a slot, if it is shared. What the slot shows is its value.
     ///
     /// `TooManyOwners` where as many share the item as may; `Contended`, in a domain alone, where others changed how many do too often meanwhile.
     fn get_shared(&mut self, slot: u32) -> Result<Option<Right>, Refused>
         requires seated { IsSeated (Self.seat self.old) }
+        requires seen { Self.asks_sight self.old → (value : T) × Self.shows self.old slot value }
         ensures undisturbed { Undisturbed Self.seat Self.own Self.known Self.shows self.old self.new }
         ensures home { IfOk result (λ o. IfSome o (λ right. home_of right ≡ (Self.seat self.old).home.slots)) }
         ensures slot { IfOk result (λ o. IfSome o (λ right. number_of right ≡ slot)) }
@@ -32,4 +36,7 @@ pub trait SharedItems<T: Item<T>>: SharedOwners<T> {
             (λ _. (owners : ℕ) × IsSharedBy owners (standing_at (Self.world self.old) slot) × (owners < 2 ^ 62) ×
             (Self.world self.new ≡ with_standing (Self.world self.old) slot (Standing.Shared (owners + 1)))))
             (λ e. IsSharedBy (2 ^ 62) (standing_at (Self.world self.old) slot) × (e ≡ Refused.TooManyOwners) × (Self.world self.new ≡ Self.world self.old)) };
+
+    /// In an exact space nothing is asked.
+    ghost exact_asks_nothing: { (s : Self) → IsExact (Self.seat s) → ¬ (Self.asks_sight s) };
 }

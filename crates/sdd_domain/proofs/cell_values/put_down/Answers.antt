@@ -1,5 +1,4 @@
-use Rattle.std.proofs.Common.{◌≡◌, ℕ, ◌<◌, List, [], ◌∷◌, sym, refl, ap, ◌∙◌, subst}
-use Rattle.sdd_views.specs.declared.ShownValue.{ShownValue}
+use Rattle.std.proofs.Common.{ℕ, ◌<◌, [], ◌∷◌, sym, ap, ◌∙◌, subst}
 use Rattle.sdd_views.specs.declared.Sizes.{Sizes}
 use Rattle.sdd_domain.proofs.CellWords.{named}
 use Rattle.sdd_domain.proofs.cell_values.put_down.Goals as goal

@@ -1,14 +1,9 @@
-use Rattle.std.proofs.Common.{◌≡◌, ℕ, Bool, List, [], ◌∷◌, sym, refl, ap, ◌∙◌, subst, arith}
-use Rattle.std.specs.Prelude.{slice_index}
-use Rattle.atomic_table.specs.declared.shared.Seat.{Seat}
-use Rattle.sdd_shared_values.specs.declared.value_fraction.ValueFraction.{ValueFraction}
+use Rattle.std.proofs.Common.{Bool, sym, ap, ◌∙◌, subst}
 use Rattle.sdd_views.specs.declared.View.{View}
-use Rattle.sdd_word_invariant.specs.Epoch.{HasPlace, IsLone}
-use Rattle.sdd_word_invariant.specs.CellSteps.{noting}
+use Rattle.sdd_word_invariant.specs.Epoch.{HasPlace}
 use Rattle.sdd_domain_invariant.specs.FractionSteps.{SeatState}
 use Rattle.sdd_domain_invariant.specs.FilledInvariant.{HasRecord}
-use Rattle.sdd_domain.specs.Cells.{AreLoose, HasHeld, holding}
-use Rattle.sdd_domain.proofs.CellValues.{brought, held_none, new_kind, has_new}
+use Rattle.sdd_domain.proofs.CellValues.{brought, new_kind}
 use Rattle.sdd_domain.proofs.cell_values.swap.Goals as goal
 
 pub swap_cell-found-requires-clause-right : goal.swap_cell-found-requires-clause-right

@@ -1,11 +1,11 @@
 use lib.ListN.{get_elem?}
-use Rattle.std.proofs.Common.{◌≡◌, ℕ, Bool, List, [], ◌∷◌, sym, refl, ap, ◌∙◌, subst}
-use Rattle.std.specs.Prelude.{Option, Some, None}
+use Rattle.std.proofs.Common.{ℕ, Bool, List, [], ◌∷◌, sym, refl, ap, ◌∙◌, subst}
+use Rattle.std.specs.Prelude.{Option}
 use Rattle.sdd_views.specs.declared.View.{View}
 use Rattle.sdd_word_invariant.specs.Epoch.{HasPlace}
 use Rattle.sdd_domain_invariant.specs.FractionSteps.{undrawing}
 use Rattle.sdd_domain.specs.declared.cell_values.LooseOwner.{LooseOwner}
-use Rattle.sdd_domain.specs.Cells.{AreLoose, IsLoose, TakesUp, told_of, slots_in, holding}
+use Rattle.sdd_domain.specs.Cells.{IsLoose, TakesUp}
 use Rattle.sdd_domain.proofs.cell_values.take_up.Goals as goal
 
 pub enter_unit-requires-clause-home : goal.enter_unit-requires-clause-home

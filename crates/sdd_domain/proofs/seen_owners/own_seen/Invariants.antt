@@ -6,7 +6,7 @@ use Rattle.sdd_domain.specs.Cells.{IsWith}
 use Rattle.sdd_domain.proofs.seen_owners.own_seen.Given as goal
 
 abbrev pub invariant-loop-attempt : goal.invariant-loop-attempt
-invariant-loop-attempt g l = record {
+invariant-loop-attempt l = record {
   same : IsWith l.fn.token.me.0 l.fn.token l.token;
   held : 0 < l._attempt → IsLone l.fn.token.me.0.epoch → written l.fn.token.me.0 l.slot ≡ held_word;
 }

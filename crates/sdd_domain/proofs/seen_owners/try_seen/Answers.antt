@@ -1,45 +1,46 @@
-use Rattle.std.proofs.Common.{◌≡◌, ℕ, ◌∷◌, [], List, ◌⊎◌, ◌+◌, true, sym, refl, ap, ◌∙◌, subst, arith}
+use Rattle.std.proofs.Common.{◌≡◌, ℕ, ◌∷◌, [], List, ◌⊎◌, ◌+◌, true, sym, ap, ◌∙◌, subst, arith}
 use base.Stored.{Gv}
 use Rattle.sdd_views.specs.declared.View.{View}
 use Rattle.sdd_views.specs.declared.EpochView.{EpochView}
 use Rattle.sdd_views.specs.declared.ShownValue.{ShownValue}
-use Rattle.sdd_word_invariant.specs.Codes.{alive, counted, most_owners}
+use Rattle.sdd_word_invariant.specs.Codes.{alive, counted}
 use Rattle.std.specs.Prelude.{None, slice_index}
 use Rattle.sdd_word_invariant.specs.Epoch.{HasPlace, IsLone}
 use Rattle.sdd_word_invariant.specs.SlotSteps.{behind, noted, one_more}
-use Rattle.sdd_domain_invariant.specs.FractionSteps.{SeatState, owning_more}
-use Rattle.sdd_domain_invariant.specs.Records.{IsIn}
+use Rattle.sdd_domain_invariant.specs.FractionSteps.{SeatState, IsStill, ShowsSeen, owning_more}
 use Rattle.sdd_domain.specs.Cells.{holding}
 use Rattle.sdd_domain.proofs.SeenOwners.{most_count, none_counts, some_count}
 use Rattle.sdd_domain.proofs.seen_owners.try_seen.Goals as goal
 
 pub returns-then-word-eq-HELD : goal.returns-then-word-eq-HELD
-returns-then-word-eq-HELD c = λ value there. let k = c.look-word.ensures in (
+returns-then-word-eq-HELD c = let k = c.look-word.ensures in (
   record { table = k.0; number = k.1; others = k.2; view = k.3.0 },
   λ lone. sym (k.3.1 lone) ∙ c.if-word-eq-HELD.true,
 )
 
 pub returns-then-word-le-NO_OWNER : goal.returns-then-word-le-NO_OWNER
-returns-then-word-le-NO_OWNER c = λ value there. let k = c.look-word.ensures in (
+returns-then-word-le-NO_OWNER c = let k = c.look-word.ensures in (
   record { table = k.0; number = k.1; others = k.2; view = k.3.0 },
   λ lone. subst (λ (x : ℕ). (counted x ≡ 0) ⊎ (alive x ≡ 0)) (k.3.1 lone) (none_counts c.look-word.result (let l = c.if-word-le-NO_OWNER.true in omega arith)),
 )
 
 pub returns-then-word-ge-MOST_SHARED : goal.returns-then-word-ge-MOST_SHARED
-returns-then-word-ge-MOST_SHARED c = λ value there. let k = c.look-word.ensures in (
+returns-then-word-ge-MOST_SHARED c = let k = c.look-word.ensures in (
   record { table = k.0; number = k.1; others = k.2; view = k.3.0 },
   λ lone. let most = most_count c.look-word.result (let l = c.if-word-ge-MOST_SHARED.true in omega arith) in
       (ap counted (sym (k.3.1 lone)) ∙ most.0, (let e = ap alive (k.3.1 lone) in let m = most.1 in omega arith)),
 )
+
+pub add_seen-requires-clause-still : goal.add_seen-requires-clause-still
+add_seen-requires-clause-still c = subst (IsStill c.args.slot) (sym c.look-word.ensures.3.0) c.requires.still
 
 pub add_seen-requires-clause-several : goal.add_seen-requires-clause-several
 add_seen-requires-clause-several c =
     some_count c.look-word.result (let l = c.if-word-le-NO_OWNER.false in omega arith) (let l = c.if-word-ge-MOST_SHARED.false in omega arith)
 
 pub returns-then-add_seen-word : goal.returns-then-add_seen-word
-returns-then-add_seen-word c = λ value there. let s = c.args.token.now in let k = c.look-word.ensures in let word : ℕ = c.look-word.result in let slot : ℕ = c.args.slot in
-    let e = c.add_seen.ensures value (subst (λ (v : View). IsIn v.stakes.sees slot value) (sym k.3.0) there) in
-    let miss = e.2.1 c.if-add_seen-word.true in (
+returns-then-add_seen-word c = let s = c.args.token.now in let k = c.look-word.ensures in let slot : ℕ = c.args.slot in
+    let e = c.add_seen.ensures in let miss = e.2.1 c.if-add_seen-word.true in (
       record {
         table = e.0 ∙ k.0;
         number = e.1 ∙ k.1;
@@ -52,47 +53,37 @@ returns-then-add_seen-word c = λ value there. let s = c.args.token.now in let k
 
 pub part_with-requires-clause-home : goal.part_with-requires-clause-home
 part_with-requires-clause-home c = let s = c.args.token.now in let k = c.look-word.ensures in let word : ℕ = c.look-word.result in let slot : ℕ = c.args.slot in
-    let value : Gv = c.requires.seen.0 in
-    let e = c.add_seen.ensures value (subst (λ (v : View). IsIn v.stakes.sees slot value) (sym k.3.0) c.requires.seen.1) in
-    let hit = e.2.0 c.if-add_seen-word.false in
+    let e = c.add_seen.ensures in let hit = e.2.0 c.if-add_seen-word.false in let value : Gv = hit.0 in
     let is : c.add_seen.new.token.me.0 ≡ owning_more slot value (one_more slot (word + 1) None s.me.0)
-    = ap (λ (m : SeatState). m.0) hit ∙ ap (λ (v : View). owning_more slot value (one_more slot (word + 1) None v)) k.3.0 in
+    = ap (λ (m : SeatState). m.0) hit.2 ∙ ap (λ (v : View). owning_more slot value (one_more slot (word + 1) None v)) k.3.0 in
     e.0 ∙ (k.0 ∙ c.requires.home)
 
 pub part_with-requires-clause-knows : goal.part_with-requires-clause-knows
 part_with-requires-clause-knows c = let s = c.args.token.now in let k = c.look-word.ensures in let word : ℕ = c.look-word.result in let slot : ℕ = c.args.slot in
-    let value : Gv = c.requires.seen.0 in
-    let e = c.add_seen.ensures value (subst (λ (v : View). IsIn v.stakes.sees slot value) (sym k.3.0) c.requires.seen.1) in
-    let hit = e.2.0 c.if-add_seen-word.false in
+    let e = c.add_seen.ensures in let hit = e.2.0 c.if-add_seen-word.false in let value : Gv = hit.0 in
     let is : c.add_seen.new.token.me.0 ≡ owning_more slot value (one_more slot (word + 1) None s.me.0)
-    = ap (λ (m : SeatState). m.0) hit ∙ ap (λ (v : View). owning_more slot value (one_more slot (word + 1) None v)) k.3.0 in
+    = ap (λ (m : SeatState). m.0) hit.2 ∙ ap (λ (v : View). owning_more slot value (one_more slot (word + 1) None v)) k.3.0 in
     (ap (λ (v : View). v.sizes) is ∙ c.requires.knows.0, ap (λ (v : View). v.stakes.book) is ∙ c.requires.knows.1)
 
 pub part_with-requires-clause-place : goal.part_with-requires-clause-place
 part_with-requires-clause-place c = let s = c.args.token.now in let k = c.look-word.ensures in let word : ℕ = c.look-word.result in let slot : ℕ = c.args.slot in
-    let value : Gv = c.requires.seen.0 in
-    let e = c.add_seen.ensures value (subst (λ (v : View). IsIn v.stakes.sees slot value) (sym k.3.0) c.requires.seen.1) in
-    let hit = e.2.0 c.if-add_seen-word.false in
+    let e = c.add_seen.ensures in let hit = e.2.0 c.if-add_seen-word.false in let value : Gv = hit.0 in
     let is : c.add_seen.new.token.me.0 ≡ owning_more slot value (one_more slot (word + 1) None s.me.0)
-    = ap (λ (m : SeatState). m.0) hit ∙ ap (λ (v : View). owning_more slot value (one_more slot (word + 1) None v)) k.3.0 in
+    = ap (λ (m : SeatState). m.0) hit.2 ∙ ap (λ (v : View). owning_more slot value (one_more slot (word + 1) None v)) k.3.0 in
     subst (λ (x : EpochView). HasPlace x) (sym (ap (λ (v : View). v.epoch) is)) c.requires.place
 
 pub part_with-requires-clause-rests : goal.part_with-requires-clause-rests
 part_with-requires-clause-rests c = let s = c.args.token.now in let k = c.look-word.ensures in let word : ℕ = c.look-word.result in let slot : ℕ = c.args.slot in
-    let value : Gv = c.requires.seen.0 in
-    let e = c.add_seen.ensures value (subst (λ (v : View). IsIn v.stakes.sees slot value) (sym k.3.0) c.requires.seen.1) in
-    let hit = e.2.0 c.if-add_seen-word.false in
+    let e = c.add_seen.ensures in let hit = e.2.0 c.if-add_seen-word.false in let value : Gv = hit.0 in
     let is : c.add_seen.new.token.me.0 ≡ owning_more slot value (one_more slot (word + 1) None s.me.0)
-    = ap (λ (m : SeatState). m.0) hit ∙ ap (λ (v : View). owning_more slot value (one_more slot (word + 1) None v)) k.3.0 in
+    = ap (λ (m : SeatState). m.0) hit.2 ∙ ap (λ (v : View). owning_more slot value (one_more slot (word + 1) None v)) k.3.0 in
     ap (λ (v : View). v.stakes.moves) is ∙ c.requires.bare.rests
 
 pub part_with-requires-clause-quiet : goal.part_with-requires-clause-quiet
 part_with-requires-clause-quiet c = let s = c.args.token.now in let k = c.look-word.ensures in let word : ℕ = c.look-word.result in let slot : ℕ = c.args.slot in
-    let value : Gv = c.requires.seen.0 in
-    let e = c.add_seen.ensures value (subst (λ (v : View). IsIn v.stakes.sees slot value) (sym k.3.0) c.requires.seen.1) in
-    let hit = e.2.0 c.if-add_seen-word.false in
+    let e = c.add_seen.ensures in let hit = e.2.0 c.if-add_seen-word.false in let value : Gv = hit.0 in
     let is : c.add_seen.new.token.me.0 ≡ owning_more slot value (one_more slot (word + 1) None s.me.0)
-    = ap (λ (m : SeatState). m.0) hit ∙ ap (λ (v : View). owning_more slot value (one_more slot (word + 1) None v)) k.3.0 in
+    = ap (λ (m : SeatState). m.0) hit.2 ∙ ap (λ (v : View). owning_more slot value (one_more slot (word + 1) None v)) k.3.0 in
     let q = c.requires.bare.quiet in (
       ap (λ (v : View). v.slots.owns) is ∙ ap (λ (l : List ℕ). slot ∷ l) q.owns,
       ap (λ (v : View). v.slots.drawn) is ∙ q.drawn,
@@ -101,20 +92,17 @@ part_with-requires-clause-quiet c = let s = c.args.token.now in let k = c.look-w
 
 pub part_with-requires-clause-told : goal.part_with-requires-clause-told
 part_with-requires-clause-told c = let s = c.args.token.now in let k = c.look-word.ensures in let word : ℕ = c.look-word.result in let slot : ℕ = c.args.slot in
-    let value : Gv = c.requires.seen.0 in
-    let e = c.add_seen.ensures value (subst (λ (v : View). IsIn v.stakes.sees slot value) (sym k.3.0) c.requires.seen.1) in
-    let hit = e.2.0 c.if-add_seen-word.false in
+    let e = c.add_seen.ensures in let hit = e.2.0 c.if-add_seen-word.false in let value : Gv = hit.0 in
     let is : c.add_seen.new.token.me.0 ≡ owning_more slot value (one_more slot (word + 1) None s.me.0)
-    = ap (λ (m : SeatState). m.0) hit ∙ ap (λ (v : View). owning_more slot value (one_more slot (word + 1) None v)) k.3.0 in
-    (true, value, c.requires.seen.2,
+    = ap (λ (m : SeatState). m.0) hit.2 ∙ ap (λ (v : View). owning_more slot value (one_more slot (word + 1) None v)) k.3.0 in
+    (true, value, hit.1.code,
     ap (λ (v : View). v.stakes.owns) is ∙ ap (λ (l : List ShownValue). record { slot = slot; shared = true; value = value } ∷ l) c.requires.bare.untold)
 
 pub returns : goal.returns
-returns c = λ value there. let s = c.args.token.now in let k = c.look-word.ensures in let word : ℕ = c.look-word.result in let slot : ℕ = c.args.slot in
-    let e = c.add_seen.ensures value (subst (λ (v : View). IsIn v.stakes.sees slot value) (sym k.3.0) there) in
-    let hit = e.2.0 c.if-add_seen-word.false in
+returns c = let s = c.args.token.now in let k = c.look-word.ensures in let word : ℕ = c.look-word.result in let slot : ℕ = c.args.slot in
+    let e = c.add_seen.ensures in let hit = e.2.0 c.if-add_seen-word.false in let value : Gv = hit.0 in
     let is : c.add_seen.new.token.me.0 ≡ owning_more slot value (one_more slot (word + 1) None s.me.0)
-    = ap (λ (m : SeatState). m.0) hit ∙ ap (λ (v : View). owning_more slot value (one_more slot (word + 1) None v)) k.3.0 in
+    = ap (λ (m : SeatState). m.0) hit.2 ∙ ap (λ (v : View). owning_more slot value (one_more slot (word + 1) None v)) k.3.0 in
     let told = ap (λ (v : View). v.stakes.owns) is
     ∙ ap (λ (l : List ShownValue). record { slot = slot; shared = true; value = value } ∷ l) c.requires.bare.untold in
     let own = c.part_with.ensures.owner true value told in let put = c.part_with.ensures.put in let v : View = s.me.0 in let bare = c.requires.bare in
@@ -126,7 +114,7 @@ returns c = λ value there. let s = c.args.token.now in let k = c.look-word.ensu
       after = record {
         table = put.table ∙ (e.0 ∙ k.0);
         number = put.number ∙ (e.1 ∙ k.1);
-        others = put.others ∙ (ap (λ (m : SeatState). m.1) hit ∙ k.2);
+        others = put.others ∙ (ap (λ (m : SeatState). m.1) hit.2 ∙ k.2);
         view = put.view ∙ (ap (holding [] []) is ∙ (λ d. record v {
           slots = record v.slots { owns = sym bare.quiet.owns d; over = sym bare.quiet.over d };
           stakes = record v.stakes { owns = sym bare.untold d };
@@ -136,5 +124,5 @@ returns c = λ value there. let s = c.args.token.now in let k = c.look-word.ensu
       knew = k.3.1;
       loose = own.0;
       of_slot = c.part_with.ensures.slot;
-      shows = own.1;
+      shows = subst (λ (t : Gv × View). ShowsSeen slot t.0 t.1) (λ d. (sym own.1 d, k.3.0 d)) hit.1;
     }

@@ -11,7 +11,13 @@ use Rattle.sdd_lists.specs.Lists.{IsCrowded, IsList, removed}
 use Rattle.sdd_lists.specs.Queue.{IsQueue, QueueCells, cell_emptied, cell_left, lets_go_of}
 use Rattle.sdd_lists.proofs.Grows.{grows-if, grows-not}
 use Rattle.sdd_lists.proofs.Leaving.{left-list, queue-same, rest-queue}
+use Rattle.sdd_space.proofs.Shown.{shown_still}
 use Rattle.sdd_lists.proofs.pops.take_oldest.Goals as goal
+
+pub keep_first-requires-clause-shown : goal.keep_first-requires-clause-shown
+keep_first-requires-clause-shown g c = let shows = g.S.Shows.shows in
+    shown_still (shows c.args.s.now) (shows c.is_let_go_of-goes.new.s) c.args.front.ptr
+    (λ k v is. c.is_let_go_of-goes.ensures.undisturbed.shown k v (c.slot_in-second.ensures.undisturbed.shown k v is)) c.requires.shown
 
 pub returns-in-Ok-remove_first-clause-exact : goal.returns-in-Ok-remove_first-clause-exact
 returns-in-Ok-remove_first-clause-exact g c = λ e es second queue x rest first named cell_is shared.

@@ -1,7 +1,6 @@
-use Rattle.std.proofs.Common.{Bool, true, false, sym, ap, ◌∙◌, subst, arith, ℕ, List}
+use Rattle.std.proofs.Common.{true, false, sym, ◌∙◌, subst, arith}
 use Rattle.sdd_views.specs.declared.CellKind.{CellKind}
-use Rattle.sdd_views.specs.declared.CellKind.TheVariants.{Owned, Shared, Raw, Collector}
-use Rattle.sdd_views.specs.declared.ShownValue.{ShownValue}
+use Rattle.sdd_views.specs.declared.CellKind.TheVariants.{Raw, Collector}
 use Rattle.sdd_domain_invariant.specs.CellSteps.{ClaimsCell, OfCell}
 use Rattle.sdd_atomics.specs.Cells.{FitsCell}
 use Rattle.sdd_atomics.proofs.Cells.{cell_moved, may_claim, may_claim_bare}

@@ -1,7 +1,6 @@
 use Rattle.std.proofs.Common.{ℕ, refl, sym, ap, ◌∙◌, arith}
 use base.Fml.{Share}
 use Rattle.sdd_witness.specs.Ledger.{Pledge}
-use Rattle.sdd_views.specs.declared.View.{View}
 use Rattle.sdd_views.specs.declared.Sizes.{Sizes}
 use Rattle.sdd_views.specs.contracts.View.{the_row}
 use Rattle.sdd_views.specs.Views.{right_to}

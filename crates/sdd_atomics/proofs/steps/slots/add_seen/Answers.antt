@@ -1,8 +1,7 @@
-use Rattle.std.proofs.Common.{sym, ap, ◌∙◌, arith}
-use Rattle.sdd_views.specs.declared.Sizes.{Sizes}
-use Rattle.sdd_word_invariant.specs.Words.{slot_word}
+use Rattle.std.proofs.Common.{arith}
+use Rattle.sdd_domain_invariant.specs.FractionSteps.{AddsSeen}
 use Rattle.sdd_word_invariant.proofs.Codes.{shared, counted_is}
-use Rattle.sdd_atomics.proofs.Cloning.{may_add_seen}
+use Rattle.sdd_atomics.proofs.Allowed.{moved_at, may_add_seen}
 use Rattle.sdd_atomics.proofs.steps.slots.add_seen.Goals as goal
 
 pub overflow_add-word : goal.overflow_add-word
@@ -12,13 +11,10 @@ pub compare_exchange-requires : goal.compare_exchange-requires
 compare_exchange-requires c = let r = c.requires in (
   r.home,
   omega arith,
-  may_add_seen _ _ _ _ _ r.knows.0 r.knows.1 r.place r.rests c.args.slot r.inside _ c.slot_word.ensures r.within r.seen.0 r.seen.1 c.args.word r.several.0
-      r.several.1 r.several.2,
+  may_add_seen _ _ _ _ _ r.knows.0 r.knows.1 r.place _ c.args.slot c.slot_word.ensures r.inside r.rests r.within r.still c.args.word r.several.0 r.several.1
+      r.several.2,
 )
 
 pub returns : goal.returns
-returns c = λ value sees. let e = c.compare_exchange.ensures in (
-  e.0,
-  e.1,
-  e.2 c.args.slot value (c.slot_word.ensures ∙ ap (λ (z : Sizes). slot_word z c.args.slot) (sym c.requires.knows.0)) sees,
-)
+returns c = let e = c.compare_exchange.ensures in
+    moved_at c.args.token.now _ c.compare_exchange.result e.0 e.1 (AddsSeen c.args.word) _ c.args.slot _ c.slot_word.ensures c.requires.knows.0 e.2

@@ -1,17 +1,28 @@
-use Rattle.std.proofs.Common.{ap, sym, subst}
+use Rattle.std.proofs.Common.{◌≡◌, ◌⊎◌, ℕ, inl, inr, ⊎_elim, refl, ap, sym, ◌∙◌, subst}
+use Rattle.std.specs.Prelude.{IfSome}
+use base.Stored.{Gv}
 use Rattle.atomic_table.specs.declared.shared.Seat.{Seat}
-use Rattle.sdd_shared_values.specs.SharedValues.{showing}
 use Rattle.sdd_shared_values.specs.declared.value_fraction.ValueFraction.{ValueFraction}
 use Rattle.sdd_views.specs.declared.View.{View}
+use Rattle.sdd_views.specs.declared.Sizes.{Sizes}
+use Rattle.sdd_rights.specs.Right.{home_of_table}
+use Rattle.sdd_rights.specs.declared.right.StandingKind.TheVariants as kinds
+use Rattle.sdd_word_invariant.specs.Epoch.{IsLone}
+use Rattle.sdd_domain_invariant.specs.Records.{IsIn}
+use Rattle.sdd_domain.specs.Cells.{board_home}
+use Rattle.sdd_domain.specs.Items.{IsRightTo, slots_home}
+use Rattle.sdd_domain.specs.LocalState.{LocalState, IsLone as IsAlone}
+use Rattle.sdd_domain.specs.SeenOwners.{KnowsStill, ShowsTo}
 use Rattle.sdd_domain.specs.BetweenCalls.{AreLentTo, IsReady}
 use Rattle.sdd_domain.specs.Receipt.{IsTallied}
+use Rattle.sdd_domain.proofs.Housed.{on_board}
 use Rattle.sdd_domain.proofs.InPlace.{posed_noted}
-use Rattle.sdd_domain.proofs.SeenOwners.{ends_with}
+use Rattle.sdd_domain.proofs.SeenOwners.{came_right, ends_with}
 use Rattle.sdd_domain.proofs.local_core.LocalCore.own_seen.Goals as goal
 
 pub invariant_of-self-2 : goal.invariant_of-self-2
 invariant_of-self-2 g c = let l = c.self.inside in let b = l.domain.now.board in let inv = c.self.invariant in let u = c.own_seen.new.token in
-    let e = ends_with b c.args.slot (showing g.row.T c.args.value.now) c.in-Ok.loose l.token u c.in-Ok.ensures in let is = e.1 in (
+    let e = ends_with b c.args.slot c.in-Ok.loose l.token u c.in-Ok.ensures in let is = e.1 in (
       posed_noted b l.place l.own l.token inv.0 u e.0 is.table is.others is.view,
       inv.1,
       inv.2,
@@ -19,3 +30,20 @@ invariant_of-self-2 g c = let l = c.self.inside in let b = l.domain.now.board in
       subst (IsReady b l.own l.due l.known.slots l.jobs) (sym (ap (λ (v : View). v.slots.waits) is.view)) inv.4,
       subst (IsTallied 0 l.tally) (sym (ap (λ (v : View). v.stakes.counts) is.view)) inv.5,
     )
+
+pub own_seen-requires-clause-still : goal.own_seen-requires-clause-still
+own_seen-requires-clause-still g c = let l = c.self.inside in let slot : ℕ = c.args.slot in
+    let alone : l.domain.now.limits.participants ≡ 1 → IsLone l.token.me.0.epoch
+    = λ lone. c.self.invariant.0.all ∙ (ap (λ (z : Sizes). z.participants) l.domain.now.limited.1 ∙ lone) in
+    ⊎_elim (λ (sees : (value : Gv) × IsIn l.token.me.0.stakes.sees slot value). inl sees)
+    (λ (lone : l.domain.now.limits.participants ≡ 1). inr (alone lone))
+    (subst (λ (x : LocalState g.row.J.Denot). KnowsStill x slot) (sym c.self.view_is) c.requires.still)
+
+pub returns-clause-right : goal.returns-clause-right
+returns-clause-right g c = let l = c.self.inside in let b = l.domain.now.board in let m : LocalState g.row.J.Denot = c.self.view_is 0 in
+    let alone : IsAlone m → IsLone l.token.me.0.epoch
+    = λ lone. c.self.invariant.0.all ∙ (ap (λ (z : Sizes). z.participants) l.domain.now.limited.1 ∙ lone) in
+    let on = on_board l.domain.now.limits b l.token.table_id c.self.invariant.0.home l.domain.now.limited.1 m refl refl refl in
+    let home : board_home b ≡ slots_home m = λ d. home_of_table (sym on.home d) (sym on.book d) (sym on.slots d) in
+    subst (λ (x : LocalState g.row.J.Denot). IfSome c.bind.result (λ right. (value : Gv) × IsRightTo x kinds.Shared value right × ShowsTo x c.args.slot value))
+    c.self.view_is (came_right m c.args.slot b l.token c.own_seen.new.token home refl refl alone c.bind.result c.in-Ok.loose c.in-Ok.ensures c.bind.ensures)

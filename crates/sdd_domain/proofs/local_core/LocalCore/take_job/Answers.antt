@@ -1,4 +1,4 @@
-use Rattle.std.proofs.Common.{◌≡◌, ℕ, ◌+◌, ◌<◌, ◌≤◌, ◌∷◌, List, None, length, map, sym, ap, ◌∙◌, subst, arith, slice_index_or, length-set}
+use Rattle.std.proofs.Common.{◌≡◌, ℕ, ◌+◌, ◌<◌, ◌≤◌, ◌∷◌, List, Some, None, length, map, refl, sym, ap, ◌∙◌, subst, arith, slice_index_or, length-set}
 use Rattle.std.proofs.lemmas.Bool.{true≢false}
 use Rattle.std.specs.Prelude.{◌↔◌, Option, IsSome}
 use Rattle.sdd_participants.specs.declared.waiting.LimboEntry.TheVariants.{Job}
@@ -21,24 +21,33 @@ use Rattle.sdd_domain.proofs.Members.{with_view}
 use Rattle.sdd_domain.proofs.Reclaims.{first_is_due, first_goes}
 use Rattle.sdd_domain.proofs.local_core.LocalCore.take_job.Goals as goal
 
-pub take-requires : goal.take-requires
-take-requires g c = let first : map (what_of (slots_of c.self.inside.domain.now.board)) (ripe c.self.inside.token.me.0.slots.waits) ≡ Job c.args.place ∷
+pub take-job-requires : goal.take-job-requires
+take-job-requires g c = let first : map (what_of (slots_of c.self.inside.domain.now.board)) (ripe c.self.inside.token.me.0.slots.waits) ≡ Job c.args.place ∷
     c.next.new.self.items
     = sym c.self.invariant.4.due ∙ next_goes c.self.inside.due c.next.new.self c.next.result (Job c.args.place) c.requires.first.0 c.next.ensures.next
     (ap (λ (m : LocalState _). m.due) c.self.view_is ∙ c.requires.first.1) in
     let low = place_low c.self.inside.domain.now.board c.args.place c.next.new.self.items c.self.inside.token.me.0.slots.waits first
     c.self.invariant.0.waiting in let long = c.self.invariant.4.places in omega arith
 
-pub unreachable-requires : goal.unreachable-requires
-unreachable-requires g c = let first : map (what_of (slots_of c.self.inside.domain.now.board)) (ripe c.self.inside.token.me.0.slots.waits) ≡
-    Job c.args.place ∷ c.next.new.self.items
+pub overflow_add-slots : goal.overflow_add-slots
+overflow_add-slots g c = let first : map (what_of (slots_of c.self.inside.domain.now.board))
+    (ripe c.self.inside.token.me.0.slots.waits) ≡ Job c.args.place ∷ c.next.new.self.items
     = sym c.self.invariant.4.due ∙ next_goes c.self.inside.due c.next.new.self c.next.result (Job c.args.place) c.requires.first.0 c.next.ensures.next
     (ap (λ (m : LocalState _). m.due) c.self.view_is ∙ c.requires.first.1) in
     let low = place_low c.self.inside.domain.now.board c.args.place c.next.new.self.items c.self.inside.token.me.0.slots.waits first
     c.self.invariant.0.waiting in
-    let wait = waits_now (slots_of c.self.inside.domain.now.board) c.args.place c.next.new.self.items c.self.inside.token.me.0.slots.waits first in
-    let there = (c.self.invariant.4.jobs c.args.place low).1 wait in
-    absurd (true≢false (sym (subst (λ (o : Option g.row.J.Denot). IsSome o) (sym c.take.ensures.job ∙ c.in_default.is) there)))
+    let slots = ap (λ (z : Sizes). z.slots) c.self.inside.domain.now.limited.1 in
+    let jobs = ap (λ (z : Sizes). z.jobs) c.self.inside.domain.now.limited.1 in let few = c.self.inside.domain.now.limited.0 in
+    let few_slots = few.slots in let few_jobs = few.jobs in omega arith
+
+pub give_place_back-requires-clause-inside : goal.give_place_back-requires-clause-inside
+give_place_back-requires-clause-inside g c = let first : map (what_of (slots_of c.self.inside.domain.now.board))
+    (ripe c.self.inside.token.me.0.slots.waits) ≡ Job c.args.place ∷ c.next.new.self.items
+    = sym c.self.invariant.4.due ∙ next_goes c.self.inside.due c.next.new.self c.next.result (Job c.args.place) c.requires.first.0 c.next.ensures.next
+    (ap (λ (m : LocalState _). m.due) c.self.view_is ∙ c.requires.first.1) in
+    let low = place_low c.self.inside.domain.now.board c.args.place c.next.new.self.items c.self.inside.token.me.0.slots.waits first
+    c.self.invariant.0.waiting in
+    let slots = ap (λ (z : Sizes). z.slots) c.self.inside.domain.now.limited.1 in (omega arith, omega arith)
 
 pub give_place_back-requires-clause-due : goal.give_place_back-requires-clause-due
 give_place_back-requires-clause-due g c = let first : map (what_of (slots_of c.self.inside.domain.now.board))
@@ -69,14 +78,18 @@ invariant_of-self g c = let first : map (what_of (slots_of c.self.inside.domain.
         due = sym goes.0 ∙ ap (λ (v : View). map (what_of n) (ripe v.slots.waits)) (sym gives.2.1.0);
         large = subst (λ (n : ℕ). l.own.bags.room ≤ n) (sym c.next.ensures.room) r.large;
         slots = r.slots;
-        places = ap length c.take.ensures.free ∙ (length-set l.jobs place None ∙ r.places);
+        places = ap length c.take-job.ensures.free ∙ (length-set l.jobs place None ∙ r.places);
         jobs = λ j near. subst (λ (z : List (Option g.row.J.Denot) × List WaitingItem).
             IsSome (slice_index_or z.0 j None) ↔ (0 < total (waits_in (n + j)) z.1))
-            (λ d. (sym c.take.ensures.free d, ap (λ (v : View). v.slots.waits) (sym gives.2.1.0) d))
+            (λ d. (sym c.take-job.ensures.free d, ap (λ (v : View). v.slots.waits) (sym gives.2.1.0) d))
             (job_taken n (sizes_of b).jobs l.jobs waits r.jobs place inside j near);
       },
       subst (IsTallied 0 l.tally) (sym (ap (λ (v : View). v.stakes.counts) gives.2.1.0)) i.5,
     )
+
+some_of : {A : Type 0} (o : Option A) → IsSome o → (x : A) × o ≡ Some x
+some_of (Some x) is = (x, refl)
+some_of None is = absurd (true≢false (sym is))
 
 pub returns : goal.returns
 returns g c = let first : map (what_of (slots_of c.self.inside.domain.now.board)) (ripe c.self.inside.token.me.0.slots.waits) ≡ Job c.args.place ∷
@@ -87,17 +100,21 @@ returns g c = let first : map (what_of (slots_of c.self.inside.domain.now.board)
     c.self.invariant.0.waiting in
     let wait = waits_now (slots_of c.self.inside.domain.now.board) c.args.place c.next.new.self.items c.self.inside.token.me.0.slots.waits first in
     let l = c.self.inside in let b = l.domain.now.board in let r = c.self.invariant.4 in let place : ℕ = c.args.place in
+    let there = some_of (slice_index_or l.jobs place None) ((r.jobs place low).1 wait) in
     let rest = c.next.new.self.items in let token = c.give_place_back.new.token in let old : LocalState _ = c.self.view_is 0 in
     let gives = c.give_place_back.ensures in
-    let now : LocalState _ = record (with_view old token.table_id token.me.0) { due = rest; jobs = c.take.new.self } in
-    subst (λ (m : LocalState _). TakesJob place c.in-Some.job m now) c.self.view_is record {
-      inside = subst (λ (z : Sizes). place < z.jobs) l.domain.now.limited.1 low;
-      first = next_goes l.due c.next.new.self c.next.result (Job place) c.requires.first.0 c.next.ensures.next
-          (ap (λ (m : LocalState _). m.due) c.self.view_is ∙ c.requires.first.1);
-      there = sym c.take.ensures.job ∙ c.in-Some.is;
-      member = λ d. record (with_view old (gives.0 d) (gives.2.1.0 d)) {
-        due = rest;
-        jobs = c.take.ensures.free d;
-      };
-      once = gives.2.1.1;
-    }
+    let now : LocalState _ = record (with_view old token.table_id token.me.0) { due = rest; jobs = c.take-job.new.self } in (
+      there.0,
+      c.take-job.ensures.job ∙ there.1,
+      subst (λ (m : LocalState _). TakesJob place there.0 m now) c.self.view_is record {
+        inside = subst (λ (z : Sizes). place < z.jobs) l.domain.now.limited.1 low;
+        first = next_goes l.due c.next.new.self c.next.result (Job place) c.requires.first.0 c.next.ensures.next
+            (ap (λ (m : LocalState _). m.due) c.self.view_is ∙ c.requires.first.1);
+        there = there.1;
+        member = λ d. record (with_view old (gives.0 d) (gives.2.1.0 d)) {
+          due = rest;
+          jobs = c.take-job.ensures.free d;
+        };
+        once = gives.2.1.1;
+      },
+    )

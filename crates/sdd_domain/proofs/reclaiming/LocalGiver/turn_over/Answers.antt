@@ -32,6 +32,6 @@ returns-clause-shut g c = let v : LocalModel g.row.T.Denot g.row.J.Denot = c.sel
           ∙ (ap (λ (o : Participant). o.guards) w.change.ensures.own.1 ∙ (all_guards w.change.ensures.own.0 c.enter-guard.new.self.own ∙ so))
       | else-goes_on w ↦ ap (λ (z : LocalModel g.row.T.Denot g.row.J.Denot). z.member.own.guards) w.self-is ∙ so
     ] in
-    closed_none c.accelerate.new.self c.close_guard.new.self c.close_guard.ensures
+    closed_none c.accelerate.new.self c.close_guard.new.self c.close_guard.ensures.closed
     (ap (λ (y : LocalState _). y.own.guards) c.accelerate.ensures
     ∙ (ap (λ (z : LocalModel g.row.T.Denot g.row.J.Denot). z.member.own.guards) c.self-2.view_is ∙ one))

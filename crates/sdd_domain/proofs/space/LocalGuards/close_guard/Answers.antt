@@ -1,4 +1,4 @@
-use Rattle.std.proofs.Common.{◌≡◌, rules, sym, ap, ◌∙◌, subst}
+use Rattle.std.proofs.Common.{◌≡◌, sym, ap, ◌∙◌, subst}
 use Rattle.sdd_shared_values.specs.SharedValues.{showing}
 use Rattle.sdd_space.specs.WorldChanges.{closed}
 use Rattle.sdd_space.proofs.Housed.{Whole-closed}
@@ -7,22 +7,29 @@ use Rattle.sdd_domain.specs.LocalState.{LocalState, IsLone}
 use Rattle.sdd_domain.specs.Local.{LocalModel, world_of}
 use Rattle.sdd_domain.specs.declared.local.Local.TheInside.{Inside}
 use Rattle.sdd_domain.specs.Sound.{IsSound}
-use Rattle.sdd_domain.proofs.Exact.{keeps_closed, still_guarded}
+use Rattle.sdd_domain.proofs.ClosedWorld.{world_closed}
+use Rattle.sdd_domain.proofs.Exact.{lone_is, keeps_closed, still_guarded}
 use Rattle.sdd_domain.proofs.Sound.{sound_step}
 use Rattle.sdd_domain.proofs.space.LocalGuards.close_guard.Goals as goal
 
 pub invariant_of-self : goal.invariant_of-self
 invariant_of-self g c = let v : LocalModel g.row.T.Denot g.row.J.Denot = (c.self-inside.view_is 0).partner in
     let inner : v ≡ c.self.inside.partner = ap (λ (i : Inside g.row.T.Denot g.row.J.Denot). i.partner) c.self-inside.view_is in
-    let m : LocalState _ = c.close_guard.new.self in let did = c.close_guard.ensures in
-    let same : IsLone v.member → world_of {T = g.row.T.Denot} (record { member = m; entries = v.entries })
-    ≡ closed (world_of {T = g.row.T.Denot} (record { member = v.member; entries = v.entries })) v.member.place = search rules in
+    let m : LocalState _ = c.close_guard-told.new.self in let did = c.close_guard-told.ensures.closed in
     sound_step g.T.Item.holds v m (subst (IsSound g.T.Item.holds) (sym inner) c.self.invariant) closed Whole-closed
-    (ap (λ (y : LocalState _). y.due) did.member) (ap home_in did.member) same
+    (ap (λ (y : LocalState _). y.due) did.member) (ap home_in did.member) (λ one. world_closed v m (c.self-inside.invariant one) one did)
+
+pub returns-clause-exact : goal.returns-clause-exact
+returns-clause-exact g c = λ exact. let v : LocalModel g.row.T.Denot g.row.J.Denot = (c.self-inside.view_is 0).partner in
+    let inner : v ≡ c.self.inside.partner = ap (λ (i : Inside g.row.T.Denot g.row.J.Denot). i.partner) c.self-inside.view_is in
+    let same : v ≡ c.args.self.now = inner ∙ c.self.view_is in
+    let one : IsLone v.member = subst (λ (q : LocalModel g.row.T.Denot g.row.J.Denot). IsLone q.member) (sym same) (lone_is c.args.self.now.member exact) in
+    world_closed v c.close_guard-told.new.self (c.self-inside.invariant one) one c.close_guard-told.ensures.closed
+    ∙ ap (λ (q : LocalModel g.row.T.Denot g.row.J.Denot). closed (world_of q) q.member.place) same
 
 pub returns-clause-keeps : goal.returns-clause-keeps
 returns-clause-keeps g c = λ opens. let v : LocalModel g.row.T.Denot g.row.J.Denot = (c.self-inside.view_is 0).partner in
     let inner : v ≡ c.self.inside.partner = ap (λ (i : Inside g.row.T.Denot g.row.J.Denot). i.partner) c.self-inside.view_is in
-    let e = c.close_guard.ensures in let more = still_guarded v.member c.close_guard.new.self e opens in
-    keeps_closed v c.close_guard.new.self (showing g.row.T) g.T.Item.holds c.args.self.now (inner ∙ c.self.view_is) _ _ e.member
+    let e = c.close_guard-told.ensures.closed in let more = still_guarded v.member c.close_guard-told.new.self e opens in
+    keeps_closed v c.close_guard-told.new.self (showing g.row.T) g.T.Item.holds c.args.self.now (inner ∙ c.self.view_is) _ _ e.member
     (e.seen more).0 (e.seen more).1

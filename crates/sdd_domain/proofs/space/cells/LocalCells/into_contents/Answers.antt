@@ -1,18 +1,15 @@
-use Rattle.std.proofs.Common.{◌≡◌, ℕ, Some, sym, refl, ap, ◌∙◌, subst, IsTrue}
+use Rattle.std.proofs.Common.{◌≡◌, ℕ, sym, refl, ap, ◌∙◌, subst}
 use Rattle.std.specs.Prelude.{IfSome, IsSome, Option}
-use Rattle.sdd_core.specs.declared.tag.Tag.{Tag}
 use Rattle.sdd_participants.specs.declared.standing.CellContents.{CellContents}
 use Rattle.sdd_rights.specs.Right.{number_of}
-use Rattle.sdd_standings.specs.Cells.{cell_with, slot_held}
+use Rattle.sdd_standings.specs.Cells.{slot_held}
 use Rattle.sdd_shared_values.specs.SharedValues.{showing}
 use Rattle.sdd_word_invariant.specs.Codes.{held_slots}
-use Rattle.sdd_domain.specs.Local.{LocalModel, contents_of, world_of}
-use Rattle.sdd_domain.specs.LocalState.{IsLone}
-use Rattle.sdd_domain.specs.Space.{is_lone}
+use Rattle.sdd_domain.specs.Local.{LocalModel, contents_of}
 use Rattle.sdd_domain.specs.declared.local.Local.TheInside.{Inside}
 use Rattle.sdd_domain.specs.Sound.{IsSound}
 use Rattle.sdd_domain.proofs.CellWorld.{freed_exact, full_exact, sound_written, written_undisturbed}
-use Rattle.sdd_domain.proofs.Exact.{lone_is}
+use Rattle.sdd_domain.proofs.Steps.{lone_begun}
 use Rattle.sdd_domain.proofs.HeldOwners.{listed_first}
 use Rattle.sdd_domain.proofs.space.cells.LocalCells.into_contents.Goals as goal
 
@@ -31,7 +28,7 @@ returns-clause-undisturbed g c = let v : LocalModel g.row.T.Denot g.row.J.Denot 
 pub returns-clause-exact : goal.returns-clause-exact
 returns-clause-exact g c = λ exact. let v : LocalModel g.row.T.Denot g.row.J.Denot = (c.self-inside.view_is 0).partner in
     let inner : v ≡ c.self.inside.partner = ap (λ (i : Inside g.row.T.Denot g.row.J.Denot). i.partner) c.self-inside.view_is in
-    let lone : IsLone v.member = lone_is v.member (subst (λ (q : LocalModel g.row.T.Denot g.row.J.Denot). IsTrue (is_lone q.member)) (sym (inner ∙ c.self.view_is)) exact) in
+    let lone = lone_begun v c.args.self.now (inner ∙ c.self.view_is) exact in
     let found : ℕ = c.into_contents.result.1 in let cell : ℕ = number_of c.args.cell in let is = c.into_contents.ensures.freed in
     let there = full_exact v cell found 0 c.into_contents.new.self is.writes c.self-inside.invariant c.args.self.now (inner ∙ c.self.view_is) exact
     (contents_of found) (is.full lone) refl in

@@ -1,17 +1,12 @@
-use Rattle.std.proofs.Common.{◌≡◌, ℕ, Some, sym, refl, ap, ◌∙◌, subst, IsTrue}
-use Rattle.sdd_core.specs.declared.tag.Tag.{Tag}
-use Rattle.sdd_participants.specs.declared.standing.CellContents.{CellContents}
+use Rattle.std.proofs.Common.{◌≡◌, ℕ, sym, ap, ◌∙◌, subst}
 use Rattle.sdd_rights.specs.Right.{number_of}
-use Rattle.sdd_standings.specs.Cells.{cell_with, slot_held}
+use Rattle.sdd_standings.specs.Cells.{cell_with}
 use Rattle.sdd_shared_values.specs.SharedValues.{showing}
-use Rattle.sdd_word_invariant.specs.Codes.{held_slots}
-use Rattle.sdd_domain.specs.Local.{LocalModel, contents_of, world_of}
-use Rattle.sdd_domain.specs.LocalState.{IsLone}
-use Rattle.sdd_domain.specs.Space.{is_lone}
+use Rattle.sdd_domain.specs.Local.{LocalModel}
 use Rattle.sdd_domain.specs.declared.local.Local.TheInside.{Inside}
 use Rattle.sdd_domain.specs.Sound.{IsSound}
 use Rattle.sdd_domain.proofs.CellWorld.{full_exact, sound_written, written_exact, written_undisturbed}
-use Rattle.sdd_domain.proofs.Exact.{lone_is}
+use Rattle.sdd_domain.proofs.Steps.{lone_begun}
 use Rattle.sdd_domain.proofs.space.cells.LocalCells.swap.Goals as goal
 
 pub invariant_of-self : goal.invariant_of-self
@@ -24,12 +19,13 @@ pub returns-clause-undisturbed : goal.returns-clause-undisturbed
 returns-clause-undisturbed g c = let v : LocalModel g.row.T.Denot g.row.J.Denot = (c.self-inside.view_is 0).partner in
     let inner : v ≡ c.self.inside.partner = ap (λ (i : Inside g.row.T.Denot g.row.J.Denot). i.partner) c.self-inside.view_is in
     let s = c.swap.ensures.swapped in
-    written_undisturbed v (number_of c.args.cell.now) s.0 s.1 c.swap.new.self s.5.writes c.args.self.now (inner ∙ c.self.view_is) (showing g.row.T) g.T.Item.holds
+    written_undisturbed v (number_of c.args.cell.now) s.0 s.1 c.swap.new.self s.5.writes
+    c.args.self.now (inner ∙ c.self.view_is) (showing g.row.T) g.T.Item.holds
 
 pub returns-clause-exact : goal.returns-clause-exact
 returns-clause-exact g c = λ exact. let v : LocalModel g.row.T.Denot g.row.J.Denot = (c.self-inside.view_is 0).partner in
     let inner : v ≡ c.self.inside.partner = ap (λ (i : Inside g.row.T.Denot g.row.J.Denot). i.partner) c.self-inside.view_is in
-    let lone : IsLone v.member = lone_is v.member (subst (λ (q : LocalModel g.row.T.Denot g.row.J.Denot). IsTrue (is_lone q.member)) (sym (inner ∙ c.self.view_is)) exact) in
+    let lone = lone_begun v c.args.self.now (inner ∙ c.self.view_is) exact in
     let s = c.swap.ensures.swapped in let cell : ℕ = number_of c.args.cell.now in let r = c.swap.result in (
       full_exact v cell s.0 s.1 c.swap.new.self s.5.writes c.self-inside.invariant c.args.self.now (inner ∙ c.self.view_is) exact
           (cell_with r.0 r.1) (s.5.full lone) s.4,

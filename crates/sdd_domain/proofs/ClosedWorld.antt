@@ -1,0 +1,38 @@
+-- What the close of a guard is for the world of a lone participant
+use Rattle.std.proofs.Common.{◌≡◌, ℕ, ◌+◌, ◌∷◌, [], Some, false, rules, ap, sym, ◌∙◌}
+use Rattle.sdd_participants.specs.EpochState.{EpochState}
+use Rattle.sdd_participants.specs.EpochState as time
+use Rattle.sdd_participants.specs.declared.participant.Participant.{Participant}
+use Rattle.sdd_participants.specs.declared.place_states.PlaceState.TheVariants.{Live}
+use Rattle.sdd_core.specs.declared.limits.Limits.{Limits}
+use Rattle.sdd_space.specs.ParticipantChanges.{closed_with}
+use Rattle.sdd_space.specs.WorldChanges.{closed}
+use Rattle.sdd_space.specs.World.{World}
+use Rattle.sdd_domain.specs.LocalState.{LocalState, IsLone, GuardCloses, HasOpenGuard}
+use Rattle.sdd_domain.specs.WordsAndValues.{AreTied}
+use Rattle.sdd_domain.specs.Local.{LocalModel, world_of}
+use Rattle.sdd_domain.proofs.Alone.{alone, steps_alone}
+
+-- time of one participant at this count
+abbrev time_with : Limits → ℕ → Participant → EpochState
+time_with l count own = record {
+  count = count;
+  marked = false;
+  places = own ∷ [];
+  phases = Some Live ∷ [];
+  participants = l.participants;
+  nesting = l.nesting;
+  room = l.slots + l.jobs;
+}
+
+module _ {T J : Type 0} (v : LocalModel T J) (m : LocalState J) (t : AreTied v.member v.entries) (one : IsLone v.member) (is : GuardCloses v.member m) where
+  abbrev later : LocalModel T J
+  later = record { member = record v.member { own = closed_with false v.member.own; known = m.known; slots = m.slots; shown = m.shown }; entries = v.entries }
+
+  closes_time : time_with v.member.limits m.known (closed_with false v.member.own) ≡ time.closed (time_with v.member.limits v.member.known v.member.own) 0
+  closes_time = search rules
+
+  -- its world is that after the close
+  pub world_closed : world_of (record { member = m; entries = v.entries }) ≡ closed (world_of v) v.member.place
+  world_closed = ap (λ (y : LocalState J). world_of {T = T} (record { member = y; entries = v.entries })) is.member
+      ∙ steps_alone closed v later t.place t.place (ap (λ (y : EpochState). record (alone v) { time = y }) closes_time)

@@ -1,0 +1,12 @@
+use Rattle.std.proofs.Common.{◌≡◌, ◌<◌}
+use Rattle.sdd_domain.specs.LocalState.{IsLone}
+use Rattle.sdd_domain.proofs.local_core.LocalCore.fetch_update_raw.Given as goal
+
+-- a lone participant needs the first try alone
+abbrev pub invariant-loop-attempt : goal.invariant-loop-attempt
+invariant-loop-attempt g l = record {
+  same : l.self ≡ l.fn.self;
+  callable : goal.F-IsAlwaysCallable g l.f;
+  first : l._attempt ≡ 0 → l.f ≡ l.fn.f;
+  others : 0 < l._attempt → ¬ (IsLone l.fn.self);
+}
