@@ -14,11 +14,12 @@ use sdd_space::AtomicShared;
 use std::process::Abort;
 use std::thread::{Threads, join};
 
+/// More slots than there are items in all.
 const LIMITS: Limits = Limits {
     participants: 4,
-    slots: 256,
+    slots: 1024,
     cells: 1,
-    tries: 8,
+    tries: 1024,
     ..ONE_SLOT
 };
 

@@ -31,8 +31,12 @@ fn is_tagged(rt: &impl Abort, local: &mut Local<'_, u64>, cell: &AtomicRaw<u64>)
     assert!(rt; cell.update_tag_if(Tag::Second, |ptr| ptr.tag() == Tag::Both, local) == Ok(false));
     assert!(rt; cell.update_tag_if(Tag::Second, |ptr| ptr.tag() == Tag::First, local) == Ok(true));
     assert!(rt; cell.tag(local) == Tag::Second);
-    assert!(rt; cell.fetch_update(|_ptr| None, &guard, local) == Ok(Err(null.with_tag(Tag::Second))));
-    assert!(rt; cell.fetch_update(|_ptr| Some(both), &guard, local) == Ok(Ok(null.with_tag(Tag::Second))));
+    assert!(rt;
+        cell.fetch_update(|_ptr| None, &guard, local) == Ok(Err(null.with_tag(Tag::Second)))
+    );
+    assert!(rt;
+        cell.fetch_update(|_ptr| Some(both), &guard, local) == Ok(Ok(null.with_tag(Tag::Second)))
+    );
     assert!(rt; (cell.is_null(local), cell.tag(local)) == (true, Tag::Both));
     close(guard, local);
 }
