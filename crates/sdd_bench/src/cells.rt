@@ -12,7 +12,10 @@ use sdd_space::{AtomicOwned, Cells, Guard, Guards, Items, Look, Owned};
 
 /// Opens a guard, puts two items into cells, loads from them that often, and gives all back.
 #[inline(always)]
-pub fn loads<S: Look<u64> + Guards<u64> + Items<u64> + Cells<u64>>(space: &mut S, turns: u64) -> Result<u64, Refused>
+pub fn loads<S: Look<u64> + Guards<u64> + Items<u64> + Cells<u64>>(
+    space: &mut S,
+    turns: u64,
+) -> Result<u64, Refused>
     requires { IsSeated (S.seat space.old) }
     ensures { Leaves (S.seat space.old) (S.own space.old) (S.world space.old) (S.seat space.new) (S.own space.new) (S.world space.new) }
 {

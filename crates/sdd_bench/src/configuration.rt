@@ -74,12 +74,7 @@ fn loads(local: &mut Local<'_, u64>, cell: &AtomicShared<u64>, turns: u64) -> Re
 }
 
 #[inline(always)]
-fn sum_found(
-    local: &mut Local<'_, u64>,
-    cell: &AtomicShared<u64>,
-    guard: &Guard,
-    turns: u64,
-) -> u64
+fn sum_found(local: &mut Local<'_, u64>, cell: &AtomicShared<u64>, guard: &Guard, turns: u64) -> u64
     requires seated { IsSeated (seat_of local.old) }
     requires home { cells_home cell.now ≡ (seat_of local.old).home.cells }
     requires reader { reader_of guard.now ≡ (seat_of local.old).reader }
@@ -131,11 +126,7 @@ fn let_go(local: &mut Local<'_, u64>, owner: Option<Shared<u64>>)
 
 /// Another item takes the place of the one in the cell.
 #[inline(always)]
-fn replace(
-    local: &mut Local<'_, u64>,
-    cell: &AtomicShared<u64>,
-    value: u64,
-) -> Result<(), Refused>
+fn replace(local: &mut Local<'_, u64>, cell: &AtomicShared<u64>, value: u64) -> Result<(), Refused>
     requires seated { IsSeated (seat_of local.old) }
     requires home { cells_home cell.now ≡ (seat_of local.old).home.cells }
     ensures { (seat_of local.new ≡ seat_of local.old) × (local.new.member.own.guards ≡ local.old.member.own.guards) }
@@ -151,11 +142,7 @@ fn replace(
 }
 
 #[inline(always)]
-fn publish(
-    local: &mut Local<'_, u64>,
-    cell: &AtomicShared<u64>,
-    value: u64,
-) -> Result<(), Refused>
+fn publish(local: &mut Local<'_, u64>, cell: &AtomicShared<u64>, value: u64) -> Result<(), Refused>
     requires seated { IsSeated (seat_of local.old) }
     requires home { cells_home cell.now ≡ (seat_of local.old).home.cells }
     ensures { (seat_of local.new ≡ seat_of local.old) × (local.new.member.own.guards ≡ local.old.member.own.guards) }

@@ -3,7 +3,9 @@ use crate::example::{AMPLE, CommonExample, in_each_space};
 use crate::steps::{close, opened, owned, seen};
 use sdd_core::Tag;
 use sdd_participants::Idle;
-use sdd_space::{Cells, Deferrals, Guards, InPlaceItems, Items, Look, RawItems, SharedOwners};
+use sdd_space::{
+    Cells, Deferrals, Guards, InPlaceItems, Items, Look, RawCells, RawItems, SharedItems,
+};
 use std::process::Abort;
 
 /// A swap answers what the cell held and its tag. It is left with nothing, which the weak exchange gives back.
@@ -15,10 +17,11 @@ impl CommonExample for Swaps {
         S: Look<u64>
             + Guards<u64>
             + Items<u64>
-            + SharedOwners<u64>
+            + SharedItems<u64>
             + InPlaceItems<u64>
             + RawItems<u64>
             + Cells<u64>
+            + RawCells<u64>
             + Deferrals<u64, Job = Idle>,
     >(rt: &R, s: &mut S) {
         let cell = owned::cell(rt, s, 14);
@@ -42,10 +45,11 @@ impl CommonExample for Exchanges {
         S: Look<u64>
             + Guards<u64>
             + Items<u64>
-            + SharedOwners<u64>
+            + SharedItems<u64>
             + InPlaceItems<u64>
             + RawItems<u64>
             + Cells<u64>
+            + RawCells<u64>
             + Deferrals<u64, Job = Idle>,
     >(rt: &R, s: &mut S) {
         let cell = owned::cell(rt, s, 17);
@@ -81,16 +85,18 @@ impl CommonExample for KeepsTag {
         S: Look<u64>
             + Guards<u64>
             + Items<u64>
-            + SharedOwners<u64>
+            + SharedItems<u64>
             + InPlaceItems<u64>
             + RawItems<u64>
             + Cells<u64>
+            + RawCells<u64>
             + Deferrals<u64, Job = Idle>,
     >(rt: &R, s: &mut S) {
         let cell = owned::cell(rt, s, 7);
-        let (times, shown) = owned::asked(rt, s, &cell, Tag::First);
+        let (times, shown) = owned::asked(rt, s, &cell, Tag::First, true);
         assert!(rt; (times, shown.is_null(), shown.tag()) == (1, false, Tag::None));
-        assert!(rt; owned::refused_tag(rt, s, &cell, Tag::Second) == (1, Tag::First));
+        let (times, shown) = owned::asked(rt, s, &cell, Tag::Second, false);
+        assert!(rt; (times, shown.is_null(), shown.tag()) == (1, false, Tag::First));
         assert!(rt; owned::read(rt, s, &cell) == (Some(7), Tag::First));
         owned::close_cell(s, cell);
     }
@@ -105,10 +111,11 @@ impl CommonExample for ComesOut {
         S: Look<u64>
             + Guards<u64>
             + Items<u64>
-            + SharedOwners<u64>
+            + SharedItems<u64>
             + InPlaceItems<u64>
             + RawItems<u64>
             + Cells<u64>
+            + RawCells<u64>
             + Deferrals<u64, Job = Idle>,
     >(rt: &R, s: &mut S) {
         let cell = owned::cell(rt, s, 7);

@@ -9,7 +9,8 @@ use sdd_core::Limits;
 use sdd_domain::{Domain, Local, Receipt};
 use sdd_participants::{Idle, Tally};
 use sdd_space::{
-    Cells, Deferrals, Guards, InPlaceItems, Item, Items, Look, RawItems, SharedOwners, Space,
+    Cells, Deferrals, Guards, InPlaceItems, Item, Items, Look, RawCells, RawItems, SharedItems,
+    Space,
 };
 use sdd_world::{Place, World};
 use std::marker::Model;
@@ -42,10 +43,11 @@ pub trait CommonExample {
         S: Look<u64>
             + Guards<u64>
             + Items<u64>
-            + SharedOwners<u64>
+            + SharedItems<u64>
             + InPlaceItems<u64>
             + RawItems<u64>
             + Cells<u64>
+            + RawCells<u64>
             + Deferrals<u64, Job = Idle>,
     >(rt: &R, s: &mut S)
         requires seated { IsSeated (S.seat s.old) }

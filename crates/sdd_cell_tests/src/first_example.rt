@@ -8,15 +8,15 @@ ghost use Rattle.sdd_space.specs.Shared as common;
 
 use crate::Value;
 use crate::example::{
-    AMPLE, CommonExample, Example, Setting, Shown, all_went, closed, ended, in_a_world,
-    in_each_space, local_shows, new_domain, registered,
+    AMPLE, CommonExample, Setting, Shown, all_went, closed, ended, in_each_space, local_shows,
+    new_domain, registered,
 };
 use crate::steps::{close, opened, owned, raw, seen, shared};
 use sdd_core::{Limits, Tag};
 use sdd_participants::Idle;
 use sdd_space::{
     AtomicOwned, AtomicShared, Cells, Deferrals, Guard, Guards, InPlaceItems, Items, Look, Ptr,
-    RawCells, RawItems, RawPtr, Shared, SharedOwners, Space,
+    RawCells, RawItems, RawPtr, Shared, SharedItems,
 };
 use std::process::Abort;
 
@@ -84,10 +84,11 @@ impl CommonExample for Manages {
         S: Look<u64>
             + Guards<u64>
             + Items<u64>
-            + SharedOwners<u64>
+            + SharedItems<u64>
             + InPlaceItems<u64>
             + RawItems<u64>
             + Cells<u64>
+            + RawCells<u64>
             + Deferrals<u64, Job = Idle>,
     >(rt: &R, s: &mut S) {
         let cell = owned::cell(rt, s, 19);
@@ -121,8 +122,19 @@ fn a_guard_shows_what_its_owners_gave_up(rt: HostRuntime) {
 /// A raw cell names what is out, and whoever takes it back owns it.
 struct NamesWhatIsOut;
 
-impl Example for NamesWhatIsOut {
-    fn run<R: Abort, S: Space<u64>>(rt: &R, s: &mut S) {
+impl CommonExample for NamesWhatIsOut {
+    fn run<
+        R: Abort,
+        S: Look<u64>
+            + Guards<u64>
+            + Items<u64>
+            + SharedItems<u64>
+            + InPlaceItems<u64>
+            + RawItems<u64>
+            + Cells<u64>
+            + RawCells<u64>
+            + Deferrals<u64, Job = Idle>,
+    >(rt: &R, s: &mut S) {
         let cell = raw::cell(rt, s, RawPtr::null());
         let tagged = RawPtr::null().with_tag(Tag::Both);
         assert!(rt; raw::exchanged(rt, s, &cell, RawPtr::null(), tagged) == Ok(RawPtr::null()));
@@ -141,7 +153,7 @@ impl Example for NamesWhatIsOut {
 
 #[test]
 fn a_raw_cell_names_what_is_out(rt: HostRuntime) {
-    in_a_world::<NamesWhatIsOut, _>(&rt, AMPLE, &[], 0);
+    in_each_space::<NamesWhatIsOut, _>(&rt, AMPLE, &[], 0);
 }
 
 /// An owner of a value that holds the owner of one that holds an owner of a number.

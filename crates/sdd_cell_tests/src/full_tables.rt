@@ -2,13 +2,13 @@
 ghost use Rattle.std.specs.Prelude.{◌≡◌};
 ghost use Rattle.sdd_space.specs.CallerId.{IsSeated};
 
-use crate::example::{AMPLE, CommonExample, Example, Setting, in_each_space};
+use crate::example::{AMPLE, CommonExample, in_each_space};
 use crate::steps::{close, opened, owned, shared};
 use sdd_core::{Limits, Refused};
 use sdd_participants::Idle;
 use sdd_space::{
     AtomicOwned, AtomicRaw, AtomicShared, Cells, Deferrals, Guards, InPlaceItems, Items, Look,
-    PrivateCollector, RawCells, RawItems, SharedOwners, Space,
+    PrivateCollector, RawCells, RawItems, SharedItems,
 };
 use std::process::Abort;
 
@@ -89,10 +89,11 @@ impl CommonExample for OneCell {
         S: Look<u64>
             + Guards<u64>
             + Items<u64>
-            + SharedOwners<u64>
+            + SharedItems<u64>
             + InPlaceItems<u64>
             + RawItems<u64>
             + Cells<u64>
+            + RawCells<u64>
             + Deferrals<u64, Job = Idle>,
     >(rt: &R, s: &mut S) {
         let cell = owned::cell(rt, s, 14);
@@ -114,8 +115,19 @@ impl CommonExample for OneCell {
 /// The same of what owns nothing.
 struct OneRawCell;
 
-impl Example for OneRawCell {
-    fn run<R: Abort, S: Space<u64>>(rt: &R, s: &mut S) {
+impl CommonExample for OneRawCell {
+    fn run<
+        R: Abort,
+        S: Look<u64>
+            + Guards<u64>
+            + Items<u64>
+            + SharedItems<u64>
+            + InPlaceItems<u64>
+            + RawItems<u64>
+            + Cells<u64>
+            + RawCells<u64>
+            + Deferrals<u64, Job = Idle>,
+    >(rt: &R, s: &mut S) {
         let cell = owned::cell(rt, s, 14);
         none_is_bare(rt, s);
         owned::close_cell(s, cell);
@@ -141,10 +153,12 @@ fn what_finds_no_cell_comes_back(rt: HostRuntime) {
 
 #[test]
 fn what_owns_nothing_finds_no_cell(rt: HostRuntime) {
-    let mut setting: Setting<u64> = Setting::new(&rt, FOUR_SLOTS_AND_ONE_CELL);
-    setting.run::<OneRawCell>(&rt);
-    assert_eq!(rt; setting.world.tally().made, 1);
-    setting.closed(&rt, 0);
+    in_each_space::<OneRawCell, _>(
+        &rt,
+        FOUR_SLOTS_AND_ONE_CELL,
+        &[(0, 0, true), (1, 0, true), (2, 0, true), (3, 1, false)],
+        0,
+    );
 }
 
 /// No slot is free, and the value comes back whether a cell is or not.
@@ -156,10 +170,11 @@ impl CommonExample for NoSlots {
         S: Look<u64>
             + Guards<u64>
             + Items<u64>
-            + SharedOwners<u64>
+            + SharedItems<u64>
             + InPlaceItems<u64>
             + RawItems<u64>
             + Cells<u64>
+            + RawCells<u64>
             + Deferrals<u64, Job = Idle>,
     >(rt: &R, s: &mut S) {
         let owner = owned::made(rt, s, 14);

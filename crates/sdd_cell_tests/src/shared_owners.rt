@@ -1,10 +1,10 @@
 //! Owners that may have others beside them, pointers to their items, and cells that hold such owners.
-use crate::example::{AMPLE, CommonExample, Example, Setting, in_each_space};
+use crate::example::{AMPLE, CommonExample, in_each_space};
 use crate::steps::{close, opened, seen, shared};
 use sdd_core::Tag;
 use sdd_participants::Idle;
 use sdd_space::{
-    Cells, Deferrals, Guards, InPlaceItems, Items, Look, RawItems, SharedOwners, Space,
+    Cells, Deferrals, Guards, InPlaceItems, Items, Look, RawCells, RawItems, SharedItems,
 };
 use std::process::Abort;
 
@@ -17,10 +17,11 @@ impl CommonExample for LetsGo {
         S: Look<u64>
             + Guards<u64>
             + Items<u64>
-            + SharedOwners<u64>
+            + SharedItems<u64>
             + InPlaceItems<u64>
             + RawItems<u64>
             + Cells<u64>
+            + RawCells<u64>
             + Deferrals<u64, Job = Idle>,
     >(rt: &R, s: &mut S) {
         let owner = shared::made_by_closure(rt, s, 47);
@@ -38,8 +39,19 @@ impl CommonExample for LetsGo {
 /// Of a pointer one owner more is had for as long as there is one.
 struct Upgrades;
 
-impl Example for Upgrades {
-    fn run<R: Abort, S: Space<u64>>(rt: &R, s: &mut S) {
+impl CommonExample for Upgrades {
+    fn run<
+        R: Abort,
+        S: Look<u64>
+            + Guards<u64>
+            + Items<u64>
+            + SharedItems<u64>
+            + InPlaceItems<u64>
+            + RawItems<u64>
+            + Cells<u64>
+            + RawCells<u64>
+            + Deferrals<u64, Job = Idle>,
+    >(rt: &R, s: &mut S) {
         let owner = shared::made(rt, s, 47);
         let guard = opened(rt, s);
         let ptr = owner.get_guarded_ptr(&guard, s);
@@ -64,10 +76,11 @@ impl CommonExample for Copies {
         S: Look<u64>
             + Guards<u64>
             + Items<u64>
-            + SharedOwners<u64>
+            + SharedItems<u64>
             + InPlaceItems<u64>
             + RawItems<u64>
             + Cells<u64>
+            + RawCells<u64>
             + Deferrals<u64, Job = Idle>,
     >(rt: &R, s: &mut S) {
         let cell = shared::cell(rt, s, 7);
@@ -95,10 +108,11 @@ impl CommonExample for Exchanges {
         S: Look<u64>
             + Guards<u64>
             + Items<u64>
-            + SharedOwners<u64>
+            + SharedItems<u64>
             + InPlaceItems<u64>
             + RawItems<u64>
             + Cells<u64>
+            + RawCells<u64>
             + Deferrals<u64, Job = Idle>,
     >(rt: &R, s: &mut S) {
         let cell = shared::cell(rt, s, 17);
@@ -152,7 +166,10 @@ fn an_exchange_of_shared_owners_compares_the_item_and_the_tag(rt: HostRuntime) {
 
 #[test]
 fn a_pointer_gives_an_owner_while_there_is_one(rt: HostRuntime) {
-    let mut setting: Setting<u64> = Setting::new(&rt, AMPLE);
-    setting.run::<Upgrades>(&rt);
-    setting.closed(&rt, 0);
+    in_each_space::<Upgrades, _>(
+        &rt,
+        AMPLE,
+        &[(0, 0, true), (1, 0, true), (2, 0, true), (3, 1, false)],
+        0,
+    );
 }

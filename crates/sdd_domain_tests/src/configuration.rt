@@ -14,11 +14,12 @@ use sdd_space::AtomicShared;
 use std::process::Abort;
 use std::thread::{Threads, join};
 
+/// More slots than there are items in all.
 const LIMITS: Limits = Limits {
     participants: 4,
-    slots: 256,
+    slots: 1024,
     cells: 1,
-    tries: 8,
+    tries: 1024,
     ..ONE_SLOT
 };
 
@@ -55,11 +56,7 @@ fn width(rt: &impl Abort, local: &mut Local<'_, Bounds>, config: &AtomicShared<B
 }
 
 /// What a reader sees never gets narrower.
-fn looks(
-    rt: &impl Abort,
-    domain: &Domain<Bounds>,
-    config: &AtomicShared<Bounds>,
-) -> Receipt<Bounds>
+fn looks(rt: &impl Abort, domain: &Domain<Bounds>, config: &AtomicShared<Bounds>) -> Receipt<Bounds>
     requires { shared.cells_home config.now ≡ cells_in domain.now }
     ensures { IsReceiptIn (slots_in domain.now) result }
 {

@@ -15,8 +15,8 @@ use crate::with_jobs::{Adds, Total, adding};
 use sdd_core::{Limits, Refused, Tag};
 use sdd_participants::Tally;
 use sdd_space::{
-    AtomicShared, Cells, Deferrals, Guard, Guards, InPlaceItems, Items, Look, Owned, Ptr, RawItems, RawPtr,
-    SharedOwners,
+    AtomicShared, Cells, Deferrals, Guard, Guards, InPlaceItems, Items, Look, Owned, Ptr, RawItems,
+    RawPtr, SharedOwners,
 };
 use std::process::Abort;
 use std::sync::atomic::Ordering;

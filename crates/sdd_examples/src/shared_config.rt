@@ -1,11 +1,13 @@
 //! A configuration across threads: whoever has it publishes another one as a whole, and others look at it under guards, without a lock.
-ghost use Rattle.std.specs.Prelude.{◌≡◌, ◌≤◌, ◌+◌, ◌↔◌, [], IfErr, IfOk, IsSome};
+ghost use Rattle.std.specs.Prelude.{◌≡◌, ◌≤◌, ◌+◌, ◌↔◌, [], IfErr, IfOk, IfSome, IsSome};
 ghost use Rattle.sdd_space.specs.CallerId.{IsSeated};
 ghost use Rattle.sdd_space.specs.Guard.{reader_of};
-ghost use Rattle.sdd_space.specs.Shared.{cells_home, IsOfSlots};
+ghost use Rattle.sdd_space.specs.Shared.{cells_home, right_of, slots_home, IsOfSlots};
 
 use sdd_core::{Refused, Tag};
-use sdd_space::{AtomicShared, Cells, Giver, Guard, Guards, Item, Items, Look, Shared};
+use sdd_space::{
+    AtomicShared, Cells, Giver, Guard, Guards, Item, Items, Look, LookThrough, Shared, SharedItems,
+};
 
 /// The bounds that a service works within. They are replaced together, so that nobody finds the low one above the high one.
 #[derive(Clone, Copy)]
@@ -149,4 +151,48 @@ fn widen_under<S: Look<Bounds> + Items<Bounds> + Cells<Bounds>>(
             Ok(false)
         }
     }
+}
+
+/// The bounds that are published, with an owner of theirs, which the caller may keep for as long as it likes. None where nothing is published, or where
+/// what was found has no owner any more.
+///
+/// `TooManyOwners` where 2^62 own them, and `Contended` as above.
+pub fn keep_under<S: LookThrough<Bounds> + SharedItems<Bounds> + Cells<Bounds>>(
+    config: &AtomicShared<Bounds>,
+    guard: &Guard,
+    s: &mut S,
+) -> Result<Option<(Bounds, Shared<Bounds>)>, Refused>
+    requires seated { IsSeated (S.seat s.old) }
+    requires home { cells_home config.now ≡ (S.seat s.old).home.cells }
+    requires reader { reader_of guard.now ≡ (S.seat s.old).reader }
+    ensures seat { S.seat s.new ≡ S.seat s.old }
+    ensures home { IfOk result (λ o. IfSome o (λ kept. slots_home kept.1 ≡ (S.seat s.old).home.slots)) }
+    ensures owned { IfOk result (λ o. IfSome o (λ kept. S.owns_value s.new (right_of kept.1) kept.0)) }
+{
+    let ptr = config.load(guard, s);
+    let Some(bounds) = ptr.as_ref(s) else {
+        return Ok(None);
+    };
+    match ptr.get_shared(s)? {
+        Some(owner) => Ok(Some((*bounds, owner))),
+        None => Ok(None),
+    }
+}
+
+/// An owner of the bounds that are published, which outlasts the guard under which it was had.
+///
+/// `TooManyGuards` where no guard can be opened, and else as above.
+pub fn keep<S: LookThrough<Bounds> + Guards<Bounds> + SharedItems<Bounds> + Cells<Bounds>>(
+    config: &AtomicShared<Bounds>,
+    s: &mut S,
+) -> Result<Option<(Bounds, Shared<Bounds>)>, Refused>
+    requires seated { IsSeated (S.seat s.old) }
+    requires home { cells_home config.now ≡ (S.seat s.old).home.cells }
+    ensures seat { S.seat s.new ≡ S.seat s.old }
+    ensures home { IfOk result (λ o. IfSome o (λ kept. slots_home kept.1 ≡ (S.seat s.old).home.slots)) }
+{
+    let guard = Guard::new(s)?;
+    let kept = keep_under(config, &guard, s);
+    guard.close(s);
+    kept
 }

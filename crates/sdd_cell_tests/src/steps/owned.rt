@@ -203,29 +203,6 @@ pub fn tagged<S: Cells<u64>>(rt: &impl Abort, s: &mut S, cell: &AtomicOwned<u64>
         .expect(rt, "nobody comes between")
 }
 
-/// A condition that doesn't hold leaves the tag. How often that was asked, and the tag that it was shown last.
-pub fn refused_tag<S: Cells<u64>>(
-    rt: &impl Abort,
-    s: &mut S,
-    cell: &AtomicOwned<u64>,
-    tag: Tag,
-) -> (u8, Tag)
-    requires seated { IsSeated (S.seat s.old) }
-    requires home { cells_home cell.now ≡ (S.seat s.old).home.cells }
-    ensures seat { S.seat s.new ≡ S.seat s.old }
-{
-    let mut times = 0u8;
-    let mut last = Tag::None;
-    let condition = |ptr: RawPtr<u64>| {
-        times = times.wrapping_add(1);
-        last = ptr.tag();
-        false
-    };
-    let was_set = cell.update_tag_if(tag, condition, s);
-    assert!(rt; was_set == Ok(false));
-    (times, last)
-}
-
 /// A cell that holds nothing.
 pub fn null<S: Cells<u64>>(rt: &impl Abort, s: &mut S) -> AtomicOwned<u64>
     requires seated { IsSeated (S.seat s.old) }
