@@ -1,11 +1,10 @@
 -- The word of a cell that holds an owner, or none
-use Rattle.std.proofs.Common.{◌≡◌, ℕ, ◌+◌, ◌*◌, ◌<◌, ◌≤◌, ◌-◌, ◌/◌, ◌%◌, ◌^◌, Bool, true, false, [], ◌∷◌, List, sym, refl, ap, ◌∙◌, subst, arith, leb, ⊎_elim, ne_eqb, inr}
+use Rattle.std.proofs.Common.{◌≡◌, ℕ, ◌+◌, ◌*◌, ◌<◌, ◌≤◌, ◌-◌, ◌/◌, ◌%◌, ◌^◌, Bool, true, false, [], ◌∷◌, List, sym, refl, ap, ◌∙◌, arith, leb, ⊎_elim, ne_eqb, inr}
 use Rattle.std.specs.Prelude.{◌⊎◌, None, Some, Option, slice_get, if◌then◌else◌}
 use Rattle.std.proofs.lemmas.Bool.Decides.{leb_tells}
 use Rattle.sdd_core.specs.declared.tag.Tag.{Tag}
 use Rattle.sdd_core.specs.declared.tag.Tag.TheVariants as tags
 use Rattle.sdd_core.specs.Tag.{number_of}
-use Rattle.sdd_participants.specs.declared.standing.CellContents.{CellContents}
 use Rattle.sdd_word_invariant.specs.Codes.{held_slots, unowned}
 use Rattle.sdd_word_invariant.proofs.Codes.{held_which, holds_none}
 use Rattle.sdd_domain.specs.Local.{contents_of, tag_by}
