@@ -1,29 +1,25 @@
 -- What writing and freeing a cell are for the world of a lone participant
-use Rattle.std.proofs.Common.{◌≡◌, ◌≢◌, ℕ, ◌<◌, Bool, true, false, IsTrue, List, Some, None, length, set, slice_index_or, sym, refl, ap, ◌∙◌, subst, arith, length-set, get_or-set_other, get_or-set_same, ne_eqb}
+use Rattle.std.proofs.Common.{◌≡◌, ◌≢◌, ℕ, ◌<◌, IsTrue, List, Some, None, length, set, sym, refl, ap, ◌∙◌, subst, arith, length-set, get_or-set_other, get_or-set_same, ne_eqb}
 use Rattle.std.specs.Prelude.{Option, IsSome, slice_get, if◌then◌else◌}
 use Rattle.std.proofs.lemmas.List.{set-set}
 use base.Stored.{Gv}
 use Rattle.sdd_participants.specs.Slab.{entry_at, IsEmptyAt, IsFull}
 use Rattle.sdd_participants.specs.declared.standing.CellContents.{CellContents}
 use Rattle.sdd_participants.specs.declared.standing.RawCellContents.{RawCellContents}
-use Rattle.sdd_word_invariant.specs.Codes.{held_slots, waiting, full}
+use Rattle.sdd_word_invariant.specs.Codes.{held_slots}
 use Rattle.sdd_word_invariant.specs.SlotSteps.{behind}
 use Rattle.sdd_word_invariant.specs.CellSteps.{pointer_behind}
 use Rattle.sdd_word_invariant.specs.Words.{words_behind}
 use Rattle.sdd_space.specs.OwnerOrCell.{OwnerOrCell}
 use Rattle.sdd_space.specs.Ptr.{KeepsShown}
 use Rattle.sdd_space.specs.Undisturbed.{Undisturbed}
-use Rattle.sdd_space.specs.World.{World}
 use Rattle.sdd_space.specs.WorldChanges.{with_cell, without_cell, held_in}
-use Rattle.sdd_space.specs.WorldInvariant.{IsWhole}
-use Rattle.sdd_space.proofs.Housed.{Whole-cells}
 use Rattle.sdd_domain.specs.Cells.{WritesAt, ChangesCell, FreesAt, AllCellsTaken}
-use Rattle.sdd_domain.specs.LocalState.{LocalState, place_number, IsLone, word_of, cell_word_of}
-use Rattle.sdd_domain.specs.WordsAndValues.{AreTied, MatchesPlace, WordsMatchValues, is_plain_word}
-use Rattle.sdd_domain.specs.Local.{LocalModel, listing, standing_by, value_by, contents_by, contents_of, standing_in, value_in, contents_in, pointer_by, pointer_in, world_of}
+use Rattle.sdd_domain.specs.LocalState.{LocalState, IsLone, word_of, cell_word_of}
+use Rattle.sdd_domain.specs.WordsAndValues.{AreTied, WordsMatchValues}
+use Rattle.sdd_domain.specs.Local.{LocalModel, listing, contents_by, contents_of, contents_in, pointer_by, pointer_in, world_of}
 use Rattle.sdd_domain.specs.Sound.{IsSound}
-use Rattle.sdd_domain.specs.Space.{ShowsBy, Shows, is_lone, seat_of, known_of}
-use Rattle.sdd_domain.specs.SpaceIds.{home_in}
+use Rattle.sdd_domain.specs.Space.{Shows, is_lone, seat_of, known_of}
 use Rattle.sdd_domain.proofs.Exact.{lone_is}
 use Rattle.sdd_domain.proofs.Listings.{listing_same, listing_set, listing_at, listing_long, listing_all}
 use Rattle.sdd_domain.proofs.NotedWorld.{matched_noted, noted_keeps, noted_undisturbed, sound_noted, tied_noted, world_noted}

@@ -1,5 +1,5 @@
 -- What is noted of words that are no slot's, nor a job's place's, is for the world of a lone participant
-use Rattle.std.proofs.Common.{◌≡◌, ℕ, ◌<◌, Bool, true, false, IsTrue, List, None, length, get_or, slice_index_or, sym, refl, ap, ◌∙◌, subst}
+use Rattle.std.proofs.Common.{◌≡◌, ℕ, Bool, true, false, IsTrue, List, None, length, get_or, slice_index_or, sym, ap, ◌∙◌, subst}
 use Rattle.std.specs.Prelude.{Option}
 use base.Stored.{Gv}
 use Rattle.sdd_participants.specs.Slab.{entry_at}

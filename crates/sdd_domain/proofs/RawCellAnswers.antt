@@ -5,8 +5,7 @@ use base.Stored.{Gv}
 use Rattle.sdd_core.specs.declared.refused.Refused.{Refused}
 use Rattle.sdd_core.specs.declared.refused.Refused.TheVariants.{NoCell, Contended}
 use Rattle.sdd_core.specs.declared.tag.Tag.{Tag}
-use Rattle.sdd_participants.specs.Slab.{IsEmptyAt, IsFull, entry_at}
-use Rattle.sdd_participants.specs.declared.standing.CellContents.{CellContents}
+use Rattle.sdd_participants.specs.Slab.{IsEmptyAt, IsFull}
 use Rattle.sdd_participants.specs.declared.standing.RawCellContents.{RawCellContents}
 use Rattle.sdd_rights.specs.declared.right.RawRight.{RawRight}
 use Rattle.sdd_rights.specs.Right.{raw_number_of}
@@ -17,7 +16,7 @@ use Rattle.sdd_space.specs.OwnerOrCell.{OwnerOrCell}
 use Rattle.sdd_space.specs.Out.{IsNullCell}
 use Rattle.sdd_space.specs.Refusals.{IsContended}
 use Rattle.sdd_space.specs.Undisturbed.{Undisturbed}
-use Rattle.sdd_space.specs.World.{World, pointer_at}
+use Rattle.sdd_space.specs.World.{pointer_at}
 use Rattle.sdd_space.specs.WorldChanges.{pointing, with_pointer, without_cell}
 use Rattle.sdd_domain.specs.Cells.{ClaimsNone, FindsPointer, FreesAt, MakesRaw, PointsAt}
 use Rattle.sdd_domain.specs.LocalState.{LocalState, IsLone, pointer_word_of}

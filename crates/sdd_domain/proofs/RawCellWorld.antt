@@ -1,21 +1,18 @@
 -- What a write to the word of a pointer is for the world of a lone participant
-use Rattle.std.proofs.Common.{◌≡◌, ◌≢◌, ℕ, ◌<◌, IsTrue, List, Some, None, length, get_or, set, sym, refl, ap, ◌∙◌, subst, arith, length-set, get_or-set_other, get_or-set_same}
-use Rattle.std.specs.Prelude.{Option}
+use Rattle.std.proofs.Common.{◌≡◌, ℕ, IsTrue, List, Some, length, get_or, set, sym, refl, ap, ◌∙◌, subst, arith, length-set, get_or-set_other, get_or-set_same}
 use base.Stored.{Gv}
 use Rattle.sdd_core.specs.declared.tag.Tag.TheVariants.{None as no_tag}
 use Rattle.sdd_participants.specs.Slab.{IsEmptyAt}
-use Rattle.sdd_participants.specs.declared.standing.CellContents.{CellContents}
 use Rattle.sdd_participants.specs.declared.standing.RawCellContents.{RawCellContents}
 use Rattle.sdd_word_invariant.specs.Codes.{null_word}
 use Rattle.sdd_word_invariant.specs.CellSteps.{pointer_behind}
 use Rattle.sdd_word_invariant.specs.SlotSteps.{behind}
-use Rattle.sdd_word_invariant.specs.Words.{words_behind}
 use Rattle.sdd_space.specs.OwnerOrCell.{OwnerOrCell}
 use Rattle.sdd_space.specs.Undisturbed.{Undisturbed}
 use Rattle.sdd_space.specs.World.{World, pointer_at}
 use Rattle.sdd_space.specs.WorldChanges.{with_cell, with_pointer, pointing}
 use Rattle.sdd_domain.specs.Cells.{FindsPointer, MakesRaw, PointsAt}
-use Rattle.sdd_domain.specs.LocalState.{LocalState, IsLone, word_of, pointer_word_of}
+use Rattle.sdd_domain.specs.LocalState.{LocalState, IsLone, word_of}
 use Rattle.sdd_domain.specs.WordsAndValues.{AreTied, WordsMatchValues}
 use Rattle.sdd_domain.specs.Local.{LocalModel, listing, contents_by, pointer_by, contents_in, pointer_in, world_of}
 use Rattle.sdd_domain.specs.Sound.{IsSound}

@@ -1,4 +1,4 @@
-use Rattle.std.proofs.Common.{rules, refl, sym, ◌∙◌}
+use Rattle.std.proofs.Common.{rules, refl}
 use Rattle.sdd_core.specs.declared.tag.Tag.TheVariants.{None as no_tag}
 use Rattle.sdd_domain.proofs.CellWords.{none_held_by}
 use Rattle.sdd_domain.proofs.cell_claims.reserve.Goals as goal

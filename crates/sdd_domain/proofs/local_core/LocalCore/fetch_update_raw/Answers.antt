@@ -1,4 +1,4 @@
-use Rattle.std.proofs.Common.{rules, ◌≡◌, ◌<◌, arith}
+use Rattle.std.proofs.Common.{rules, ◌≡◌, arith}
 use mathlib.Core.Logic.{dite}
 use native.Mathlib.Decide.{dec_lt}
 use Rattle.sdd_domain.proofs.local_core.LocalCore.fetch_update_raw.Goals as goal

@@ -1,5 +1,4 @@
-use Rattle.std.proofs.Common.{◌≡◌, inr, sym, ap, ◌∙◌, subst}
-use Rattle.sdd_rights.specs.Right.{raw_number_of}
+use Rattle.std.proofs.Common.{◌≡◌, sym, ap, ◌∙◌, subst}
 use Rattle.sdd_shared_values.specs.SharedValues.{showing}
 use Rattle.sdd_domain.specs.Local.{LocalModel}
 use Rattle.sdd_domain.specs.declared.local.Local.TheInside.{Inside}

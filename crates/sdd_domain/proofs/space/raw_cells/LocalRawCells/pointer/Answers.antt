@@ -1,9 +1,7 @@
-use Rattle.std.proofs.Common.{◌≡◌, inr, sym, ap, ◌∙◌, subst}
+use Rattle.std.proofs.Common.{◌≡◌, ap, ◌∙◌}
 use Rattle.sdd_rights.specs.Right.{raw_number_of}
-use Rattle.sdd_shared_values.specs.SharedValues.{showing}
 use Rattle.sdd_domain.specs.Local.{LocalModel}
 use Rattle.sdd_domain.specs.declared.local.Local.TheInside.{Inside}
-use Rattle.sdd_domain.specs.Sound.{IsSound}
 use Rattle.sdd_domain.proofs.RawCellAnswers.{same_exact}
 use Rattle.sdd_domain.proofs.RawCellWorld.{found_exact}
 use Rattle.sdd_domain.proofs.space.raw_cells.LocalRawCells.pointer.Goals as goal
