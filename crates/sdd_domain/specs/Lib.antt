@@ -24,5 +24,6 @@ pub mod Local
 pub mod Sound
 pub mod Space
 pub mod Reclaiming
+pub mod OpeningTally
 pub mod Laws
 pub mod ReceiptContents

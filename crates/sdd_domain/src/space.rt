@@ -135,9 +135,40 @@ impl<T: Item<T>, J: Job> Caller<T> for Local<'_, T, J> {
 }
 
 impl<T: Item<T>, J: Job> Guards<T> for Local<'_, T, J> {
+    ghost use Rattle.std.specs.Prelude.{◌≡◌, MatchResult, IfOk, IsTrue};
+    ghost use Rattle.sdd_participants.specs.EpochState.{CanNest, is_open};
+    ghost use Rattle.sdd_space.specs.CallerId.{IsSeated, IsExact, IsLone, MayNest};
+    ghost use Rattle.sdd_space.specs.ParticipantChanges.{GuardOpened};
+    ghost use Rattle.sdd_space.specs.KnownEpochs.{KnowsOn, KnowsOpened};
+    ghost use Rattle.sdd_space.specs.Guard.{reader_of};
+    ghost use Rattle.sdd_space.specs.Ptr.{KeepsShown};
+    ghost use Rattle.sdd_space.specs.WorldChanges.{opened};
+    ghost use Rattle.sdd_domain.specs.Local.{world_of};
+    ghost use Rattle.sdd_domain.specs.OpeningTally.{CountsReclaimed};
+    ghost use Rattle.sdd_domain.specs.Space.{Shows, seat_of, known_of};
+
     // The compiler puts an opening into its caller as long as it is short: that is all but spent. Five instructions more here, and each guard takes 12 more.
     #[inline]
-    fn new_guard(&mut self) -> Result<Guard, Refused> {
+    fn new_guard(&mut self) -> Result<Guard, Refused>
+        requires seated { IsSeated (seat_of self.old) }
+        ensures seat { seat_of self.new ≡ seat_of self.old }
+        ensures reader { IfOk result (λ guard. reader_of guard ≡ (seat_of self.old).reader) }
+        ensures own { MatchResult result
+            (λ _. MayNest (seat_of self.old) self.old.member.own × GuardOpened self.old.member.own self.new.member.own)
+            (λ e. (e ≡ Refused.TooManyGuards) × ¬ (MayNest (seat_of self.old) self.old.member.own) × (self.new.member.own ≡ self.old.member.own)) }
+        ensures known { MatchResult result
+            (λ _. KnowsOpened (known_of self.old) self.old.member.own self.new.member.own (known_of self.new))
+            (λ _. KnowsOn (known_of self.old) (known_of self.new)) }
+        ensures lone { IsLone (seat_of self.old) → (known_of self.new).told ≡ (known_of self.old).told }
+        ensures exact { IsExact (seat_of self.old) → MatchResult result
+            (λ _. CanNest (world_of self.old).time (seat_of self.old).place ×
+            (world_of self.new ≡ opened T.holds (world_of self.old) (seat_of self.old).place))
+            (λ e. (e ≡ Refused.TooManyGuards) × ¬ (CanNest (world_of self.old).time (seat_of self.old).place) ×
+            (world_of self.new ≡ world_of self.old)) }
+        ensures keeps { IsTrue (is_open self.old.member.own) →
+            KeepsShown (Shows (showing T.row) T.holds self.old) (Shows (showing T.row) T.holds self.new) }
+        ensures tally { MatchResult result (λ _. CountsReclaimed self.old.member self.new.member) (λ _. self.new.member.tally ≡ self.old.member.tally) }
+    {
         if self.partner.membership.is_guarded() {
             return self.partner.membership.nest();
         }

@@ -25,13 +25,9 @@ impl<T: Item<T>, J: Job> WorldCore<T, J> {
         ensures whole { IsWhole self.old.world → IsWhole self.new.world }
         ensures lent { IsWhole self.old.world → AreLent self.old → AreLent self.new }
     {
-        match self.jobs.put(job) {
-            Ok(number) => {
-                self.time.wait(place, LimboEntry::Job(number));
-                Ok(number)
-            }
-            Err(back) => Err(back),
-        }
+        let number = self.jobs.put(job)?;
+        self.time.wait(place, LimboEntry::Job(number));
+        Ok(number)
     }
 
     /// An item that waited is reclaimed, and its value gives up to the place what it holds.

@@ -40,8 +40,12 @@ returns-clause-told g c = let l = c.self.inside in
     let countdown : l.own.countdown ≡ c.args.self.now.own.countdown = ap (λ (p : Participant). p.countdown) own in
     let last : l.own.guards ≡ 1 = guards ∙ c.requires.last in record {
       tried = λ _ zero. elim c.if-scans.branch [
-        | then-scans w ↦ (w.scan.result, w.told-is, tells_as w.scan.result _ _ _ _ _ _ (all g c) (c.self.invariant.0.count
-            ∙ ap (λ (p : Participant). p.found) own) (search rules) w.scan.ensures.told)
+        | then-scans w ↦ (
+          w.scan.result,
+          w.told-is,
+          tells_as w.scan.result _ _ _ _ _ _ (all g c) (c.self.invariant.0.count
+              ∙ ap (λ (p : Participant). p.found) own) (search rules) w.scan.ensures.told,
+        )
         | else-scans w ↦ absurd (w.if-scans.false (countdown ∙ zero))
       ];
       none = λ other. elim c.if-scans.branch [

@@ -1,3 +1,4 @@
+use Rattle.std.specs.Prelude.{MatchResult}
 use Rattle.std.proofs.Common.{◌≡◌, ◌<◌, ◌≤◌, rules, IsTrue, sym, ap, ◌∙◌, subst, ⊎_elim, arith}
 use Rattle.sdd_shared_values.specs.SharedValues.{showing}
 use Rattle.sdd_participants.specs.declared.participant.Participant.{Participant}
@@ -14,6 +15,8 @@ use Rattle.sdd_domain.proofs.Arrivals.{due_stayed}
 use Rattle.sdd_domain.proofs.Exact.{lone_is, guarded_is, opened_same, opened_changed, opened_idle}
 use Rattle.sdd_domain.proofs.Guarding.{goes_on, WasIdle, is_over, stands, tied_stands, found_after, open_after, same_count, nested_sound, nested_exact, nested_keeps, can_nest}
 use Rattle.sdd_domain.proofs.Sound.{sound_opened}
+use Rattle.sdd_domain.specs.OpeningTally.{CountsReclaimed}
+use Rattle.sdd_domain.proofs.OpeningTallies.{nested_counts, counted_at, counted_due, counted_over}
 use Rattle.sdd_space.specs.KnownEpochs.{KnowsFound}
 use Rattle.sdd_space.specs.ParticipantChanges.{all_awaiting}
 use Rattle.sdd_domain.specs.Space.{known_of}
@@ -147,3 +150,30 @@ returns-clause-known g c = let v : LocalModel g.row.T.Denot g.row.J.Denot = (c.s
             record { known = omega arith; told = omega arith; since = omega arith; near = omega arith }
       ];
     }
+
+pub returns-then-is_guarded-clause-tally : goal.returns-then-is_guarded-clause-tally
+returns-then-is_guarded-clause-tally g c = let v : LocalModel g.row.T.Denot g.row.J.Denot = (c.self-inside.view_is 0).partner in
+    let inner : v ≡ c.self.inside.partner = ap (λ (i : Inside g.row.T.Denot g.row.J.Denot). i.partner) c.self-inside.view_is in
+    let some_open : HasOpenGuard v.member = search rules in
+    subst (λ (q : LocalModel g.row.T.Denot g.row.J.Denot). MatchResult c.nest.result (λ _. CountsReclaimed q.member c.nest.new.self)
+    (λ _. c.nest.new.self.tally ≡ q.member.tally)) (inner ∙ c.self.view_is)
+    (nested_counts _ v.member c.nest.new.self c.nest.result c.nest.ensures some_open)
+
+pub returns-clause-tally : goal.returns-clause-tally
+returns-clause-tally g c = let v : LocalModel g.row.T.Denot g.row.J.Denot = (c.self-inside.view_is 0).partner in
+    let inner : v ≡ c.self.inside.partner = ap (λ (i : Inside g.row.T.Denot g.row.J.Denot). i.partner) c.self-inside.view_is in
+    let now = inner ∙ c.self.view_is in let n : LocalState _ = c.enter-guard.new.self in
+    let e = c.enter-guard.ensures.entered in let shut : v.member.own.guards ≡ 0 = search rules in
+    subst (λ (q : LocalModel g.row.T.Denot g.row.J.Denot). CountsReclaimed q.member c.if-goes_on.self.member) now (elim c.if-goes_on.branch [
+      | then-goes_on w ↦ let q : LocalModel g.row.T.Denot g.row.J.Denot = w.change.new.self in let given = w.change.ensures.own in
+          let went = goes_on e.0 c.enter-guard.result.1 v.member e.1 n e.2 e.3 w.if-goes_on.true in
+          let own : n.own ≡ time.nested (arrived_at e.0 v.member.own) = ap (λ (y : LocalState _). y.own) went.1.member in
+          let own_then : q.member.own ≡ time.settled (all_awaiting given.0 (time.nested (arrived_at e.0 v.member.own)))
+          = given.1 ∙ ap (λ (o : Participant). time.settled (all_awaiting given.0 o)) own in
+          let found : q.member.own.found ≡ e.0 = ap (λ (o : Participant). o.found) own_then ∙ found_after given.0 e.0 v.member.own in
+          subst (λ (z : LocalModel g.row.T.Denot g.row.J.Denot). CountsReclaimed v.member z.member) (sym w.self-is)
+          (counted_at e.0 v.member q.member shut found (counted_due e.0 v.member n q.member went.1 w.change.ensures.reclaimed))
+      | else-goes_on w ↦ let so = stands e.0 c.enter-guard.result.1 v.member e.1 n e.2 e.3 in
+          subst (λ (z : LocalModel g.row.T.Denot g.row.J.Denot). CountsReclaimed v.member z.member) (sym w.self-is)
+          (counted_at e.0 v.member n shut so.found (counted_over e.0 c.enter-guard.result.1 v.member e.1 n e.2 e.3 w.if-goes_on.false))
+    ])

@@ -9,6 +9,7 @@ use Rattle.sdd_space.specs.World.{World, IsPlaceOf, place_at}
 use Rattle.sdd_space.specs.WorldInvariant.{IsWhole}
 use Rattle.sdd_space.specs.WorldChanges.{deferred}
 use Rattle.sdd_space.specs.WorldStep.WorldStep.{defers}
+use Rattle.std.proofs.lemmas.Result.{err_from_is_err_and}
 use Rattle.sdd_participants.proofs.Places.{empty-places, places-full, places-put}
 use Rattle.sdd_space.proofs.Housed.{Whole-deferred, live-taken}
 use Rattle.sdd_world_core.specs.WorldCore.{WorldCore}
@@ -26,54 +27,55 @@ lent-after holds w l p j live free i k =
     lent-call holds w (deferred w p j) l (defers w p j live free) i
     (λ h. let r = readers-placed w p x h in record { places = r.places; nesting = r.nesting }) (guards-placed w p x live.0 refl) k
 
-pub returns-in-Ok-clause-deferred : goal.returns-in-Ok-clause-deferred
-returns-in-Ok-clause-deferred g c =
-    let put = c.in-Ok.ensures.put in
+pub returns-clause-deferred : goal.returns-clause-deferred
+returns-clause-deferred g c =
+    let put = c.in_ok-number.ensures.put in
     let w = c.self.view_is 0 in
     rw (← c.self.view_is, put.1, c.wait.ensures) (
-      empty-places c.self.inside.jobs c.in-Ok.number put.0,
+      empty-places c.self.inside.jobs c.in_ok-number.number put.0,
       put.0,
-      put-as w.world w.lending c.self.inside.jobs c.args.place c.in-Ok.number c.args.job,
+      put-as w.world w.lending c.self.inside.jobs c.args.place c.in_ok-number.number c.args.job,
     )
 
-pub returns-in-Err-clause-deferred : goal.returns-in-Err-clause-deferred
-returns-in-Err-clause-deferred g c =
-    let full = c.in-Err.ensures.put in
-    rw (← c.self.view_is) (places-full c.self.inside.jobs full.0, full.1, rw full.2 refl)
+pub returns-in_err-number-clause-deferred : goal.returns-in_err-number-clause-deferred
+returns-in_err-number-clause-deferred g c =
+    let full = c.in_err-number.ensures.put in
+    let p = err_from_is_err_and c.from_residual.result c.from_residual.ensures.1 in
+    rw (p.1, p.2, ← c.self.view_is) (places-full c.self.inside.jobs full.0, full.1, rw full.2 refl)
 
-pub returns-in-Ok-clause-whole : goal.returns-in-Ok-clause-whole
-returns-in-Ok-clause-whole g c =
-    let put = c.in-Ok.ensures.put in
+pub returns-clause-whole : goal.returns-clause-whole
+returns-clause-whole g c =
+    let put = c.in_ok-number.ensures.put in
     let w = c.self.view_is 0 in
     let there = rw (← c.self.view_is) at c.requires.place in
     rw (← c.self.view_is, put.1, c.wait.ensures)
     (λ whole. subst (λ (x : WorldCore g.row.T.Denot g.row.J.Denot). IsWhole x.world)
-    (sym (put-as w.world w.lending c.self.inside.jobs c.args.place c.in-Ok.number c.args.job))
-    (Whole-deferred w.world c.args.place c.in-Ok.number (live-taken w.world.time c.args.place there)
-    (empty-places c.self.inside.jobs c.in-Ok.number put.0) whole))
+    (sym (put-as w.world w.lending c.self.inside.jobs c.args.place c.in_ok-number.number c.args.job))
+    (Whole-deferred w.world c.args.place c.in_ok-number.number (live-taken w.world.time c.args.place there)
+    (empty-places c.self.inside.jobs c.in_ok-number.number put.0) whole))
 
-pub returns-in-Ok-clause-lent : goal.returns-in-Ok-clause-lent
-returns-in-Ok-clause-lent g c =
-    let put = c.in-Ok.ensures.put in
+pub returns-clause-lent : goal.returns-clause-lent
+returns-clause-lent g c =
+    let put = c.in_ok-number.ensures.put in
     let w = c.self.view_is 0 in
     rw (← c.self.view_is, put.1, c.wait.ensures)
     (λ whole lent. subst (λ (x : WorldCore g.row.T.Denot g.row.J.Denot). AreLent x)
-    (sym (put-as w.world w.lending c.self.inside.jobs c.args.place c.in-Ok.number c.args.job))
-    (lent-after g.T.Item.holds _ _ c.args.place c.in-Ok.number (rw (← c.self.view_is) at c.requires.place)
-    (empty-places c.self.inside.jobs c.in-Ok.number put.0) whole lent))
+    (sym (put-as w.world w.lending c.self.inside.jobs c.args.place c.in_ok-number.number c.args.job))
+    (lent-after g.T.Item.holds _ _ c.args.place c.in_ok-number.number (rw (← c.self.view_is) at c.requires.place)
+    (empty-places c.self.inside.jobs c.in_ok-number.number put.0) whole lent))
 
 pub wait-requires-clause-room : goal.wait-requires-clause-room
 wait-requires-clause-room g c =
     let there = rw (← c.self.view_is) at c.requires.place in
     let i = c.self.inside in
-    job-room g.T.Item.holds i.time i.slots i.cells (places_of i.jobs) i.tenures c.args.place there.0 c.self.invariant c.in-Ok.number
-    (empty-places i.jobs c.in-Ok.number c.in-Ok.ensures.put.0)
+    job-room g.T.Item.holds i.time i.slots i.cells (places_of i.jobs) i.tenures c.args.place there.0 c.self.invariant c.in_ok-number.number
+    (empty-places i.jobs c.in_ok-number.number c.in_ok-number.ensures.put.0)
 
-pub invariant_of-self : goal.invariant_of-self
-invariant_of-self g c =
+pub invariant_of-self-2 : goal.invariant_of-self-2
+invariant_of-self-2 g c =
     let there = rw (← c.self.view_is) at c.requires.place in
     let i = c.self.inside in
-    let put = c.in-Ok.ensures.put in
-    rw (put.1, c.wait.ensures, places-put i.jobs c.in-Ok.number c.args.job)
-    (sound-job g.T.Item.holds i.time i.slots i.cells (places_of i.jobs) i.tenures c.args.place there.0 c.self.invariant c.in-Ok.number
-    (empty-places i.jobs c.in-Ok.number put.0))
+    let put = c.in_ok-number.ensures.put in
+    rw (put.1, c.wait.ensures, places-put i.jobs c.in_ok-number.number c.args.job)
+    (sound-job g.T.Item.holds i.time i.slots i.cells (places_of i.jobs) i.tenures c.args.place there.0 c.self.invariant c.in_ok-number.number
+    (empty-places i.jobs c.in_ok-number.number put.0))
