@@ -50,5 +50,6 @@ tag_number (suc (suc (suc (suc n)))) low = absurd (omega arith)
 pub pointer_only : (x y : ℕ) → pointer_by x ≡ pointer_by y → x ≡ y
 pointer_only x y same =
     let named : x / 4 ≡ y / 4 = sym (name_back (x / 4)) ∙ (ap (λ (p : RawCellContents). number_named p.named) same ∙ name_back (y / 4)) in
-    let tags : x % 4 ≡ y % 4 = sym (tag_number (x % 4) (omega arith)) ∙ (ap (λ (p : RawCellContents). number_of p.tag) same ∙ tag_number (y % 4) (omega arith)) in
+    let tags : x % 4 ≡ y % 4 = sym (tag_number (x % 4) (omega arith))
+    ∙ (ap (λ (p : RawCellContents). number_of p.tag) same ∙ tag_number (y % 4) (omega arith)) in
     omega arith

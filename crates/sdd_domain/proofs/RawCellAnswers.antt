@@ -157,7 +157,8 @@ module _ {T J : Type 0} (v : LocalModel T J) (m : LocalState J) where
     abbrev pub Asked : (RawPtr T → Bool → Type 0) → Result Bool Refused → Type 0
     Asked post r = IsLone v.member → IfOk r (λ changed. (ptr : RawPtr T) × (pointer_of ptr ≡ pointer_by (pointer_word_of v.member cell)) × post ptr changed)
 
-    pub retagged_exact : (post : RawPtr T → Bool → Type 0) (r : Result Bool Refused) → Retagged r → Asked post r → WordsMatchValues v.member v.entries → (p : LocalModel T J) → v ≡ p
+    pub retagged_exact : (post : RawPtr T → Bool → Type 0) (r : Result Bool Refused) → Retagged r → Asked post r → WordsMatchValues v.member v.entries
+        → (p : LocalModel T J) → v ≡ p
         → IsTrue (is_lone p.member) → IsOk r × IfOk r (λ changed. (ptr : RawPtr T) × (pointer_at (world_of p) cell ≡ Some (pointer_of ptr)) × post ptr changed
         × (world_of after ≡ (if changed then with_pointer (world_of p) cell (record (pointer_of ptr) { tag = tag }) else world_of p)))
     retagged_exact post (Ok true) a asked tied p is exact = let lone = lone_here p is exact in let ptr = asked lone in
@@ -198,7 +199,8 @@ module _ {T J : Type 0} (v : LocalModel T J) (m : LocalState J) where
         (λ was. (next : RawPtr T) × PointsAt cell (pointer_of was) (pointer_of next) v.member m × post was (Some next))
         (λ now. post now None))
 
-    pub updated_exact : (post : RawPtr T → Option (RawPtr T) → Type 0) (r : Result (Result (RawPtr T) (RawPtr T)) Refused) → Updated r → AskedNext post r → WordsMatchValues v.member v.entries
+    pub updated_exact : (post : RawPtr T → Option (RawPtr T) → Type 0) (r : Result (Result (RawPtr T) (RawPtr T)) Refused) → Updated r → AskedNext post r
+        → WordsMatchValues v.member v.entries
         → (p : LocalModel T J) → v ≡ p → IsTrue (is_lone p.member) → IsOk r × IfOk r (λ updated. MatchResult updated
         (λ was. (next : RawPtr T) × (pointer_at (world_of p) cell ≡ Some (pointer_of was)) × post was (Some next)
         × (world_of after ≡ with_pointer (world_of p) cell (pointer_of next)))

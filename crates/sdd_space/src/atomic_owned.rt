@@ -187,7 +187,12 @@ impl<T: Item<T>> AtomicOwned<T> {
             (S.world s.new ≡ with_cell (S.world s.old) (cell_of self.now) (cell_with next.0 next.1)) }
     {
         let (owner, tag) = next;
-        let (old, old_tag) = s.swap(self.right(), Owned::into_held(owner), tag, StandingKind::Owned);
+        let (old, old_tag) = s.swap(
+            self.right(),
+            Owned::into_held(owner),
+            tag,
+            StandingKind::Owned,
+        );
         (Owned::of_held(old), old_tag)
     }
 
@@ -242,7 +247,14 @@ impl<T: Item<T>> AtomicOwned<T> {
             held: current.slot(),
             tag: current.tag(),
         };
-        match s.compare_exchange(self.right(), expected, Owned::into_held(owner), tag, StandingKind::Owned, guard) {
+        match s.compare_exchange(
+            self.right(),
+            expected,
+            Owned::into_held(owner),
+            tag,
+            StandingKind::Owned,
+            guard,
+        ) {
             Ok((old, ptr)) => Ok((Owned::of_held(old), ptr)),
             Err((back, ptr)) => Err((Owned::of_held(back), ptr)),
         }

@@ -188,7 +188,12 @@ impl<T: Item<T>> AtomicShared<T> {
             (S.world s.new ≡ with_cell (S.world s.old) (cell_of self.now) (cell_with next.0 next.1)) }
     {
         let (owner, tag) = next;
-        let (old, old_tag) = s.swap(self.right(), Shared::into_held(owner), tag, StandingKind::Shared);
+        let (old, old_tag) = s.swap(
+            self.right(),
+            Shared::into_held(owner),
+            tag,
+            StandingKind::Shared,
+        );
         (Shared::of_held(old), old_tag)
     }
 
@@ -243,7 +248,14 @@ impl<T: Item<T>> AtomicShared<T> {
             held: current.slot(),
             tag: current.tag(),
         };
-        match s.compare_exchange(self.right(), expected, Shared::into_held(owner), tag, StandingKind::Shared, guard) {
+        match s.compare_exchange(
+            self.right(),
+            expected,
+            Shared::into_held(owner),
+            tag,
+            StandingKind::Shared,
+            guard,
+        ) {
             Ok((old, ptr)) => Ok((Shared::of_held(old), ptr)),
             Err((back, ptr)) => Err((Shared::of_held(back), ptr)),
         }

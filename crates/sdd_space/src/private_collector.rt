@@ -72,7 +72,7 @@ impl<T: Item<T>> PrivateCollector<T> {
     /// A collector for which nothing waits.
     ///
     /// `NoCell` where no cell is free; `Contended`, in a domain alone, where as many exchanges were lost as its limits allow.
-    pub fn new<S: RawCells<T>>(s: &mut S) -> Result<PrivateCollector<T>, Refused>
+    pub fn new<S: RawCells<T> + Collectors<T>>(s: &mut S) -> Result<PrivateCollector<T>, Refused>
         requires seated { IsSeated (S.seat s.old) }
         ensures undisturbed { Undisturbed S.seat S.own S.known S.shows s.old s.new }
         ensures home { IfOk result (λ collector. cells_home collector ≡ (S.seat s.old).home.cells) }

@@ -1,7 +1,7 @@
 //! The atomic steps on the words of cells' pointers, by a participant.
 //!
-//! Such a word owns nothing, so that each may be written whoever has the right to its cell. It names a slot or nothing, with a tag: `4 * (slot + 1) + tag`, or the
-//! tag alone. A lone participant knows each word beforehand.
+//! Such a word owns nothing, so that each may be written whoever has the right to its cell. It names a slot or nothing, with a tag:
+//! `4 * (slot + 1) + tag`, or the tag alone. A lone participant knows each word beforehand.
 ghost use Rattle.std.specs.Prelude.{◌≡◌, ◌<◌, None};
 ghost use Rattle.sdd_word_invariant.specs.CellSteps.{LooksAtPointer, SwapsPointer, ExchangesPointer};
 ghost use Rattle.sdd_word_invariant.specs.Codes.{pointers_end};

@@ -10,7 +10,7 @@ use sdd_space::{Collectors, Guards, Items, Owned, PrivateCollector, RawCells, Sh
 use std::process::Abort;
 
 /// A collector for which nothing waits.
-pub fn made<S: RawCells<u64>>(rt: &impl Abort, s: &mut S) -> PrivateCollector<u64>
+pub fn made<S: RawCells<u64> + Collectors<u64>>(rt: &impl Abort, s: &mut S) -> PrivateCollector<u64>
     requires seated { IsSeated (S.seat s.old) }
     ensures seat { S.seat s.new ≡ S.seat s.old }
     ensures home { cells_home result ≡ (S.seat s.new).home.cells }

@@ -129,7 +129,8 @@ impl<'d, T: Item<T>, J: Job> LocalCore<'d, T, J> {
             (λ now. (self.new ≡ self.old) × FindsPointer (raw_number_of cell.now) (raw.pointer_of now) self.old))
             (λ e. (e ≡ Refused.Contended) × (self.new ≡ self.old) × ¬ (IsLone self.old)) }
         ensures asked { IsLone self.old → IfOk result (λ updated. MatchResult updated
-            (λ was. (next : RawPtr T) × PointsAt (raw_number_of cell.now) (raw.pointer_of was) (raw.pointer_of next) self.old self.new × F.post f was (Some next))
+            (λ was. (next : RawPtr T) × PointsAt (raw_number_of cell.now) (raw.pointer_of was) (raw.pointer_of next) self.old self.new
+            × F.post f was (Some next))
             (λ now. F.post f now None)) }
     {
         for _attempt in 0..self.domain.limits.tries {

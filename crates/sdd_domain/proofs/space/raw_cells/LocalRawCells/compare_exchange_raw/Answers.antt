@@ -11,14 +11,16 @@ pub invariant_of-self : goal.invariant_of-self
 invariant_of-self g c = let v : LocalModel g.row.T.Denot g.row.J.Denot = (c.self-inside.view_is 0).partner in
     let inner : v ≡ c.self.inside.partner = ap (λ (i : Inside g.row.T.Denot g.row.J.Denot). i.partner) c.self-inside.view_is in
     let cell = raw_number_of c.args.cell.now in
-    may_sound v c.compare_exchange_raw.new.self cell (exchanged_may v c.compare_exchange_raw.new.self cell c.args.current c.args.new c.compare_exchange_raw.result c.compare_exchange_raw.ensures)
+    may_sound v c.compare_exchange_raw.new.self cell
+    (exchanged_may v c.compare_exchange_raw.new.self cell c.args.current c.args.new c.compare_exchange_raw.result c.compare_exchange_raw.ensures)
     g.T.Item.holds (subst (IsSound g.T.Item.holds) (sym inner) c.self.invariant)
 
 pub returns-clause-undisturbed : goal.returns-clause-undisturbed
 returns-clause-undisturbed g c = let v : LocalModel g.row.T.Denot g.row.J.Denot = (c.self-inside.view_is 0).partner in
     let inner : v ≡ c.self.inside.partner = ap (λ (i : Inside g.row.T.Denot g.row.J.Denot). i.partner) c.self-inside.view_is in
     let cell = raw_number_of c.args.cell.now in
-    may_undisturbed v c.compare_exchange_raw.new.self cell (exchanged_may v c.compare_exchange_raw.new.self cell c.args.current c.args.new c.compare_exchange_raw.result c.compare_exchange_raw.ensures)
+    may_undisturbed v c.compare_exchange_raw.new.self cell
+    (exchanged_may v c.compare_exchange_raw.new.self cell c.args.current c.args.new c.compare_exchange_raw.result c.compare_exchange_raw.ensures)
     c.args.self.now (inner ∙ c.self.view_is) (showing g.row.T) g.T.Item.holds
 
 pub returns-clause-exact : goal.returns-clause-exact

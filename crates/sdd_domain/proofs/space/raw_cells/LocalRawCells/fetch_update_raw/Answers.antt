@@ -18,7 +18,8 @@ pub returns-clause-undisturbed : goal.returns-clause-undisturbed
 returns-clause-undisturbed g c = let v : LocalModel g.row.T.Denot g.row.J.Denot = (c.self-inside.view_is 0).partner in
     let inner : v ≡ c.self.inside.partner = ap (λ (i : Inside g.row.T.Denot g.row.J.Denot). i.partner) c.self-inside.view_is in
     let cell = raw_number_of c.args.cell.now in
-    may_undisturbed v c.fetch_update_raw.new.self cell (updated_may v c.fetch_update_raw.new.self cell c.fetch_update_raw.result c.fetch_update_raw.ensures.updated)
+    may_undisturbed v c.fetch_update_raw.new.self cell
+    (updated_may v c.fetch_update_raw.new.self cell c.fetch_update_raw.result c.fetch_update_raw.ensures.updated)
     c.args.self.now (inner ∙ c.self.view_is) (showing g.row.T) g.T.Item.holds
 
 pub returns-clause-back : goal.returns-clause-back
@@ -31,5 +32,6 @@ pub returns-clause-exact : goal.returns-clause-exact
 returns-clause-exact g c = λ exact. let v : LocalModel g.row.T.Denot g.row.J.Denot = (c.self-inside.view_is 0).partner in
     let inner : v ≡ c.self.inside.partner = ap (λ (i : Inside g.row.T.Denot g.row.J.Denot). i.partner) c.self-inside.view_is in
     let cell = raw_number_of c.args.cell.now in
-    updated_exact v c.fetch_update_raw.new.self cell (λ ptr next. g.F.FnMut.post c.args.f (ptr, tt) next) c.fetch_update_raw.result c.fetch_update_raw.ensures.updated c.fetch_update_raw.ensures.asked
+    updated_exact v c.fetch_update_raw.new.self cell (λ ptr next. g.F.FnMut.post c.args.f (ptr, tt) next) c.fetch_update_raw.result
+    c.fetch_update_raw.ensures.updated c.fetch_update_raw.ensures.asked
     c.self-inside.invariant c.args.self.now (inner ∙ c.self.view_is) exact

@@ -11,25 +11,29 @@ pub invariant_of-self : goal.invariant_of-self
 invariant_of-self g c = let v : LocalModel g.row.T.Denot g.row.J.Denot = (c.self-inside.view_is 0).partner in
     let inner : v ≡ c.self.inside.partner = ap (λ (i : Inside g.row.T.Denot g.row.J.Denot). i.partner) c.self-inside.view_is in
     let cell = raw_number_of c.args.cell.now in
-    may_sound v c.update_raw_tag_if.new.self cell (retagged_may v c.update_raw_tag_if.new.self cell c.args.tag c.update_raw_tag_if.result c.update_raw_tag_if.ensures.changed)
+    may_sound v c.update_raw_tag_if.new.self cell
+    (retagged_may v c.update_raw_tag_if.new.self cell c.args.tag c.update_raw_tag_if.result c.update_raw_tag_if.ensures.changed)
     g.T.Item.holds (subst (IsSound g.T.Item.holds) (sym inner) c.self.invariant)
 
 pub returns-clause-undisturbed : goal.returns-clause-undisturbed
 returns-clause-undisturbed g c = let v : LocalModel g.row.T.Denot g.row.J.Denot = (c.self-inside.view_is 0).partner in
     let inner : v ≡ c.self.inside.partner = ap (λ (i : Inside g.row.T.Denot g.row.J.Denot). i.partner) c.self-inside.view_is in
     let cell = raw_number_of c.args.cell.now in
-    may_undisturbed v c.update_raw_tag_if.new.self cell (retagged_may v c.update_raw_tag_if.new.self cell c.args.tag c.update_raw_tag_if.result c.update_raw_tag_if.ensures.changed)
+    may_undisturbed v c.update_raw_tag_if.new.self cell
+    (retagged_may v c.update_raw_tag_if.new.self cell c.args.tag c.update_raw_tag_if.result c.update_raw_tag_if.ensures.changed)
     c.args.self.now (inner ∙ c.self.view_is) (showing g.row.T) g.T.Item.holds
 
 pub returns-clause-back : goal.returns-clause-back
 returns-clause-back g c = let v : LocalModel g.row.T.Denot g.row.J.Denot = (c.self-inside.view_is 0).partner in
     let inner : v ≡ c.self.inside.partner = ap (λ (i : Inside g.row.T.Denot g.row.J.Denot). i.partner) c.self-inside.view_is in
     let cell = raw_number_of c.args.cell.now in
-    retagged_back v c.update_raw_tag_if.new.self cell c.args.tag c.update_raw_tag_if.result c.update_raw_tag_if.ensures.changed c.args.self.now (inner ∙ c.self.view_is)
+    retagged_back v c.update_raw_tag_if.new.self cell c.args.tag c.update_raw_tag_if.result c.update_raw_tag_if.ensures.changed
+    c.args.self.now (inner ∙ c.self.view_is)
 
 pub returns-clause-exact : goal.returns-clause-exact
 returns-clause-exact g c = λ exact. let v : LocalModel g.row.T.Denot g.row.J.Denot = (c.self-inside.view_is 0).partner in
     let inner : v ≡ c.self.inside.partner = ap (λ (i : Inside g.row.T.Denot g.row.J.Denot). i.partner) c.self-inside.view_is in
     let cell = raw_number_of c.args.cell.now in
-    retagged_exact v c.update_raw_tag_if.new.self cell c.args.tag (λ ptr changed. g.F.FnMut.post c.args.condition (ptr, tt) changed) c.update_raw_tag_if.result c.update_raw_tag_if.ensures.changed c.update_raw_tag_if.ensures.asked
+    retagged_exact v c.update_raw_tag_if.new.self cell c.args.tag (λ ptr changed. g.F.FnMut.post c.args.condition (ptr, tt) changed)
+    c.update_raw_tag_if.result c.update_raw_tag_if.ensures.changed c.update_raw_tag_if.ensures.asked
     c.self-inside.invariant c.args.self.now (inner ∙ c.self.view_is) exact
