@@ -21,7 +21,7 @@ fn upgraded<S: Items<u64> + SharedItems<u64>>(
     requires seated { IsSeated (S.seat s.old) }
     requires shown { PtrIsShown (S.shows s.old) ptr }
     ensures seat { S.seat s.new ≡ S.seat s.old }
-    ensures still { PtrIsShown (S.shows s.new) ptr }
+    ensures still { PtrIsShown (S.shows s.new) ptr.entry }
 {
     let owner = ptr.get_shared(s).expect(rt, "another owner may be had")?;
     Some(owner.release(s))
@@ -37,7 +37,7 @@ fn converted<S: Items<u64> + SharedItems<u64> + LookThrough<u64>>(
     requires seated { IsSeated (S.seat s.old) }
     requires shown { PtrIsShown (S.shows s.old) ptr }
     ensures seat { S.seat s.new ≡ S.seat s.old }
-    ensures still { PtrIsShown (S.shows s.new) ptr }
+    ensures still { PtrIsShown (S.shows s.new) ptr.entry }
 {
     match Shared::try_from_ptr(ptr, s) {
         Ok(owner) => Some(owner.release(s)),
