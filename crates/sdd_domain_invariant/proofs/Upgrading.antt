@@ -124,12 +124,14 @@ module _ (slots id : ℕ) (me : SeatState) (live : HasPlace me.0.epoch) (rests :
         (λ more. let a = total_some (owners_at slot) s.views more in let w : View = a.1 in let mine = h.records.each a.0 w a.2 in
         let b = mine.owned slot a.3 (unmoved a.0 w a.2) in let r : ShownValue = b.1.1 in let has : HasRecord w.stakes.owns r = (b.1.0, b.1.2) in
         let told = (h.kinds.each a.0 w a.2).told r has
-        (λ held. let k = (h.kept.parts.slots.each a.0 w a.2).held slot (held ∙ ap (λ (m : ℕ). Some m) b.1.3) in let c = counts in absurd (omega (arith, k.1))) in
+        (λ held. let k = (h.kept.parts.slots.each a.0 w a.2).held slot (held ∙ ap (λ (m : ℕ). Some m) b.1.3) in let c = counts in
+        absurd (omega (arith, k.1))) in
         let flag : r.shared ≡ true = one_flag r.shared true (sym told ∙ (ap (λ (m : ℕ). kind_of (slot_at sizes s.words m)) b.1.3 ∙ counts)) in
         let is : r.value ≡ value = sym (shows_known r.value (a.0, w, a.2, inl (b.1.0, r, b.1.2, b.1.3, refl))) in
         ap (λ (m : ℕ). newest m u.stakes.filled) (sym b.1.3) ∙ (h.filled.knows one j a.0 u w r e placed a.2 (inl has)
         ∙ (λ d. Some (record { slot = b.1.3 d; shared = flag d; value = is d }))))
-        (λ no. let sum = h.kept.parts.slots.owned slot in let o = owned in let c = span_some (names slot) s.words (first_cell sizes) sizes.cells (omega arith) in
+        (λ no. let sum = h.kept.parts.slots.owned slot in let o = owned in
+        let c = span_some (names slot) s.words (first_cell sizes) sizes.cells (omega arith) in
         h.lasts.stored one j u e placed slot true last inside (inr (c, counts)) lies)
 
     comes : Follows γ sizes id i me (OfSlot (AddsSeen word) i me) s y (one_more slot y None v)
@@ -148,7 +150,8 @@ module _ (slots id : ℕ) (me : SeatState) (live : HasPlace me.0.epoch) (rests :
           valid = tt;
           homes = part.calm γ sizes s.words s.views s.homes h.homes id v at (set s.words i y) now (λ j q out. out) same (none_out now rests);
           records = records.comes_to_learn sizes s.views s.homes r id v at slot n value last inside (omega arith) lies
-              (raws.all_shown slots id me live slot inside s h unmoved) (λ j b e is. h.lasts.banks j b e is slot last inside lies) now (λ is. (is, refl)) s.homes
+              (raws.all_shown slots id me live slot inside s h unmoved) (λ j b e is. h.lasts.banks j b e is slot last inside lies) now (λ is. (is, refl))
+              s.homes
               record {
                 owns = λ j g k. ⊎_elim
                     (λ (e : (slot ≡ j) × (value ≡ g)). (let o = is_same j slot e.0 in let l : Owns now j = omega arith in l, none_moved now j rests))

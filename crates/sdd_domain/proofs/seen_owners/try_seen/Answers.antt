@@ -59,28 +59,32 @@ part_with-requires-clause-home c = let s = c.args.token.now in let k = c.look-wo
     e.0 ∙ (k.0 ∙ c.requires.home)
 
 pub part_with-requires-clause-knows : goal.part_with-requires-clause-knows
-part_with-requires-clause-knows c = let s = c.args.token.now in let k = c.look-word.ensures in let word : ℕ = c.look-word.result in let slot : ℕ = c.args.slot in
+part_with-requires-clause-knows c = let s = c.args.token.now in let k = c.look-word.ensures in let word : ℕ = c.look-word.result in
+    let slot : ℕ = c.args.slot in
     let e = c.add_seen.ensures in let hit = e.2.0 c.if-add_seen-word.false in let value : Gv = hit.0 in
     let is : c.add_seen.new.token.me.0 ≡ owning_more slot value (one_more slot (word + 1) None s.me.0)
     = ap (λ (m : SeatState). m.0) hit.2 ∙ ap (λ (v : View). owning_more slot value (one_more slot (word + 1) None v)) k.3.0 in
     (ap (λ (v : View). v.sizes) is ∙ c.requires.knows.0, ap (λ (v : View). v.stakes.book) is ∙ c.requires.knows.1)
 
 pub part_with-requires-clause-place : goal.part_with-requires-clause-place
-part_with-requires-clause-place c = let s = c.args.token.now in let k = c.look-word.ensures in let word : ℕ = c.look-word.result in let slot : ℕ = c.args.slot in
+part_with-requires-clause-place c = let s = c.args.token.now in let k = c.look-word.ensures in let word : ℕ = c.look-word.result in
+    let slot : ℕ = c.args.slot in
     let e = c.add_seen.ensures in let hit = e.2.0 c.if-add_seen-word.false in let value : Gv = hit.0 in
     let is : c.add_seen.new.token.me.0 ≡ owning_more slot value (one_more slot (word + 1) None s.me.0)
     = ap (λ (m : SeatState). m.0) hit.2 ∙ ap (λ (v : View). owning_more slot value (one_more slot (word + 1) None v)) k.3.0 in
     subst (λ (x : EpochView). HasPlace x) (sym (ap (λ (v : View). v.epoch) is)) c.requires.place
 
 pub part_with-requires-clause-rests : goal.part_with-requires-clause-rests
-part_with-requires-clause-rests c = let s = c.args.token.now in let k = c.look-word.ensures in let word : ℕ = c.look-word.result in let slot : ℕ = c.args.slot in
+part_with-requires-clause-rests c = let s = c.args.token.now in let k = c.look-word.ensures in let word : ℕ = c.look-word.result in
+    let slot : ℕ = c.args.slot in
     let e = c.add_seen.ensures in let hit = e.2.0 c.if-add_seen-word.false in let value : Gv = hit.0 in
     let is : c.add_seen.new.token.me.0 ≡ owning_more slot value (one_more slot (word + 1) None s.me.0)
     = ap (λ (m : SeatState). m.0) hit.2 ∙ ap (λ (v : View). owning_more slot value (one_more slot (word + 1) None v)) k.3.0 in
     ap (λ (v : View). v.stakes.moves) is ∙ c.requires.bare.rests
 
 pub part_with-requires-clause-quiet : goal.part_with-requires-clause-quiet
-part_with-requires-clause-quiet c = let s = c.args.token.now in let k = c.look-word.ensures in let word : ℕ = c.look-word.result in let slot : ℕ = c.args.slot in
+part_with-requires-clause-quiet c = let s = c.args.token.now in let k = c.look-word.ensures in let word : ℕ = c.look-word.result in
+    let slot : ℕ = c.args.slot in
     let e = c.add_seen.ensures in let hit = e.2.0 c.if-add_seen-word.false in let value : Gv = hit.0 in
     let is : c.add_seen.new.token.me.0 ≡ owning_more slot value (one_more slot (word + 1) None s.me.0)
     = ap (λ (m : SeatState). m.0) hit.2 ∙ ap (λ (v : View). owning_more slot value (one_more slot (word + 1) None v)) k.3.0 in

@@ -5,7 +5,8 @@ use Rattle.sdd_atomics.proofs.Allowed.{moved_at, may_add_seen}
 use Rattle.sdd_atomics.proofs.steps.slots.add_seen.Goals as goal
 
 pub overflow_add-word : goal.overflow_add-word
-overflow_add-word c = let r = c.requires in let a = counted_is c.args.word r.several.0 in let n = (shared c.args.word a).0 in let few = r.several.2 in omega arith
+overflow_add-word c = let r = c.requires in let a = counted_is c.args.word r.several.0 in let n = (shared c.args.word a).0 in let few = r.several.2 in
+    omega arith
 
 pub compare_exchange-requires : goal.compare_exchange-requires
 compare_exchange-requires c = let r = c.requires in (
