@@ -85,10 +85,12 @@ impl CommonExample for Copies {
     >(rt: &R, s: &mut S) {
         let cell = shared::cell(rt, s, 7);
         assert!(rt; shared::swapped(rt, s, &cell, 8, Tag::Second) == (Some(7), Tag::None));
+        assert!(rt; shared::had_of(rt, s, &cell) == Some(8));
         let copy = shared::copied_cell(rt, s, &cell);
         assert!(rt; shared::read(rt, s, &copy) == (Some(8), Tag::Second));
         assert!(rt; shared::emptied_weakly(rt, s, &cell, Tag::First) == Some(8));
         assert!(rt; shared::read(rt, s, &copy) == (Some(8), Tag::Second));
+        assert!(rt; shared::had_of(rt, s, &cell) == None);
         let empty = shared::copied_cell(rt, s, &cell);
         assert!(rt; (empty.is_null(s), empty.tag(s)) == (true, Tag::First));
         shared::close_cell(s, cell);

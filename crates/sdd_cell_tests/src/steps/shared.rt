@@ -76,6 +76,27 @@ pub fn upgraded<S: Items<u64> + SharedItems<u64>>(
     Some(owner.release(s))
 }
 
+/// What is seen by an owner that is had of what a cell holds; it is given up again.
+pub fn had_of<S: Look<u64> + Guards<u64> + Items<u64> + SharedItems<u64> + Cells<u64>>(
+    rt: &impl Abort,
+    s: &mut S,
+    cell: &AtomicShared<u64>,
+) -> Option<u64>
+    requires seated { IsSeated (S.seat s.old) }
+    requires home { cells_home cell.now ≡ (S.seat s.old).home.cells }
+    ensures seat { S.seat s.new ≡ S.seat s.old }
+{
+    let guard = opened(rt, s);
+    let had = cell
+        .get_shared(&guard, s)
+        .expect(rt, "another owner may be had");
+    close(s, guard);
+    let owner = had?;
+    let value = *owner.get(s);
+    let _ = owner.release(s);
+    Some(value)
+}
+
 /// The same by a call that gives the pointer back where there is none.
 #[tactic(auto, using(sdd_space::proofs::Shown::shown_still))]
 pub fn converted<S: Items<u64> + SharedItems<u64>>(
