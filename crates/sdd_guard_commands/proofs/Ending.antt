@@ -1,8 +1,7 @@
 -- How a script lets go of what it holds, where no guard is open, and that then all goes at the end of its world
-use Rattle.std.proofs.Common.{◌≡◌, ◌≢◌, ◌⊎◌, ◌<◌, inl, inr, ℕ, List, [], ◌∷◌, ◌++◌, length, true, Option, Some, None, IsSome, is_some, map, count_by, slice_index_or, slice_set, refl, sym, ap, ◌∙◌, subst, arith, ltb-true}
-use Rattle.std.specs.Prelude.{IsTrue, slice_get}
+use Rattle.std.proofs.Common.{◌≡◌, ◌≢◌, ◌⊎◌, ◌<◌, inl, inr, ℕ, List, [], ◌∷◌, ◌++◌, length, true, Option, Some, None, IsSome, is_some, map, slice_index_or, slice_set, refl, sym, ap, ◌∙◌, subst, arith, ltb-true}
+use Rattle.std.specs.Prelude.{◌==◌, IsTrue, slice_get}
 use Rattle.std.proofs.Math.ListN.{get_or-map}
-use Rattle.std.proofs.lemmas.Bool.{cases_eq}
 use Rattle.std.proofs.lemmas.List.{get_or_default, length-set, map-set}
 use Rattle.std.specs.Option.{option_map}
 use Rattle.std.specs.Global.{Vec}
@@ -12,28 +11,30 @@ use Rattle.sdd_participants.specs.Slab.{entry_at, without_entry}
 use Rattle.sdd_participants.specs.declared.standing.Standing.{Standing}
 use Rattle.sdd_participants.specs.declared.standing.Standing.TheVariants.{Raw, Retired, Shared}
 use Rattle.sdd_participants.specs.declared.standing.CellContents.{CellContents}
-use Rattle.sdd_participants.specs.declared.tally.Tally.{Tally}
 use Rattle.sdd_participants.specs.declared.participant.Participant.{Participant}
 use Rattle.sdd_participants.specs.declared.waiting.LimboEntry.TheVariants.{Item}
-use Rattle.sdd_space.specs.OwnerOrCell.{OwnerOrCell, SpaceId, IsOf}
+use Rattle.sdd_space.specs.Ledger.{owner_of, right_to, IsLedger}
+use Rattle.sdd_participants.specs.declared.tally.Tally.{Tally}
+use Rattle.sdd_space.specs.OwnerOrCell.{OwnerOrCell, IsOf}
 use Rattle.sdd_space.specs.Out.{IsNullCell, is_out}
 use Rattle.sdd_space.specs.declared.private_collector.PrivateCollector.{PrivateCollector}
 use Rattle.sdd_space.specs.Collector as collector
 use Rattle.sdd_space.specs.Owned as owned
-use Rattle.sdd_space.specs.World.{World, AnyGuardOpen, IsPlaceOf, place_at, standing_at, value_at}
-use Rattle.sdd_space.specs.WorldChanges.{retired, owner_given, with_standing, spilled, cell_closed, without_cell, held_in}
+use Rattle.sdd_space.specs.World.{World, AnyGuardOpen, place_at, standing_at}
+use Rattle.sdd_space.specs.WorldChanges.{retired, owner_given, with_standing, cell_closed, without_cell, held_in}
 use Rattle.sdd_space.specs.WorldInvariant.{IsWhole}
-use Rattle.sdd_space.specs.OwnerCounts.{IsAccounted, owner_count}
-use Rattle.sdd_space.proofs.Accounts.{accounted-as}
-use Rattle.sdd_space.proofs.Standings.{owner-given}
+use Rattle.sdd_space.specs.OwnerCounts.{IsAccounted, owner_count, is_of as is_of_slot}
+use Rattle.sdd_space.proofs.Accounts.{accounted-as, accounted-cell_closed, accounted-owner_given, accounted-without_cell}
+use Rattle.sdd_space.proofs.Rights.{held-cell_closed, held-cell_spent, held-owner_given, once-where}
+use Rattle.sdd_space.proofs.Sheds.{Sheds, sheds-cell, sheds-cell_closed, sheds-owner_given, sheds-same}
+use Rattle.sdd_space.proofs.Whole.{one_where}
 use Rattle.sdd_world.specs.Closing.{AllGo, cell_held, held_by}
 use Rattle.sdd_world.proofs.AllGo.{all-go}
 use Rattle.sdd_world.proofs.Sweeping.{all-uncounted}
 use Rattle.sdd_script_model.specs.declared.val.Val.{Val, out-Val}
 use Rattle.sdd_script_model.specs.Val.{body_of, owner_in, link_of, holdings_of}
 use Rattle.sdd_script_model.specs.ScriptState.{ScriptState, OpenSince, holding_at, opening_at, place_in, slot_at, slot_of, cell_of, collector_of, name_at, in_world, without_owner}
-use Rattle.sdd_script_model.specs.Sound.{IsSound, ParticipantsMatch, SlotsHaveNames, HoldsOnlyOlder, EachCellHasKeeper, AreAtHome, Keeper, Keeps, is_of, owns, named_owners}
-use Rattle.sdd_script_model.specs.Sound.Keeper.{value_in, name_of, collector_named}
+use Rattle.sdd_script_model.specs.Sound.{IsSound, SlotsHaveNames, NamesAreAtHome, has_right, is_of, named, named_owners, owns}
 use Rattle.sdd_script_model.specs.Script.{Acts, HasOpen, Meets}
 use Rattle.sdd_guard_commands.specs.Leaving.{SpendsOwner, SpendsCell, SpendsCollector, SpendsGuard, LeavesRaw}
 use Rattle.sdd_script_names.specs.Environment.{guarding}
@@ -49,19 +50,21 @@ use Rattle.sdd_script_text.specs.declared.call.Call.TheVariants.{At}
 use Rattle.sdd_script_text.specs.declared.call.Action.TheVariants as call
 use Rattle.sdd_script_text.specs.declared.answer.Reply.{Reply}
 use Rattle.sdd_script_text.specs.declared.answer.Reply.TheVariants as reply
-use Rattle.sdd_script_model.proofs.Entry.{at-same, at-other, at-default, as-each, inside, spent_twice}
-use Rattle.sdd_script_model.proofs.Stocked.{stocked-as, no_slot-given, no_slot-retired, no_slot-same, no_slot-cell_closed}
+use Rattle.sdd_script_model.proofs.Entry.{at-same, as-each, inside, set-either, spent_twice}
+use Rattle.sdd_script_model.proofs.Stocked.{stocked-as, slots-cell_closed, slots-given, slots-same, slots-set}
+use Rattle.sdd_script_model.proofs.SmallSteps.{keeps-closed, keeps-given}
+use Rattle.sdd_script_model.proofs.Attending.{KeepsGuards, attended-same, placed-still}
+use Rattle.sdd_script_model.proofs.Chains.{at_home-spent}
 use Rattle.sdd_script_model.proofs.JobDates.{job_dates-shut}
-use Rattle.sdd_script_model.proofs.Keepers.{keepers-as, keepers-closed, keepers-uncollected}
-use Rattle.sdd_script_model.proofs.Counting.{AreCounted, counted-given, counted-cell_closed, counted-into_none, owned-out, out-there}
+use Rattle.sdd_script_model.proofs.Counting.{accounts, cell-spent, collector-spent, linked, out-there, owned-out, owner-spent, some-holding}
 use Rattle.sdd_script_names.proofs.Collectors.{collectors-spent, number-is}
-use Rattle.sdd_script_model.proofs.Layers.{layered-for, layered-given, layered-closed, keeps-given, keeps-closed, set-either}
+use Rattle.sdd_script_model.proofs.Layers.{layered-less}
+use Rattle.sdd_script_model.proofs.Links.{bare-shed, less-shed}
 
 -- ---- what letting go leaves
 
--- places, values, the home and the tally are as before, but for what waits
+-- places, jobs, the home and the tally are as before, but for what waits
 pub record LetsGo (old new : World Val) : Type 0 where
-  pub values : new.values ≡ old.values
   pub home : new.home ≡ old.home
   pub tally : new.tally ≡ old.tally
   pub phases : new.time.phases ≡ old.time.phases
@@ -71,13 +74,12 @@ pub record LetsGo (old new : World Val) : Type 0 where
 
 module _ (w : World Val) where
   lets-start : LetsGo w w
-  lets-start = record { values = refl; home = refl; tally = refl; phases = refl; places = refl; guards = λ q. refl; jobs = refl }
+  lets-start = record { home = refl; tally = refl; phases = refl; places = refl; guards = λ q. refl; jobs = refl }
 
   lets-retired : (u : World Val) (p k : ℕ) → is_out (standing_at u k) ≡ true → LetsGo w u → LetsGo w (retired u p k)
   lets-retired u p k out l =
       let y : Participant = time.awaiting (Item k) (place_at u p) in
       record {
-        values = l.values;
         home = l.home;
         tally = l.tally;
         phases = l.phases;
@@ -87,39 +89,17 @@ module _ (w : World Val) where
       }
 
   lets-cell : (u : World Val) (c : ℕ) → LetsGo w u → LetsGo w (record u { cells = without_entry u.cells c })
-  lets-cell u c l = record { values = l.values; home = l.home; tally = l.tally; phases = l.phases; places = l.places; guards = l.guards; jobs = l.jobs }
+  lets-cell u c l = record { home = l.home; tally = l.tally; phases = l.phases; places = l.places; guards = l.guards; jobs = l.jobs }
 
   lets-shared : (u : World Val) (k n m : ℕ) → standing_at u k ≡ Some (Shared n) → LetsGo w u → LetsGo w (with_standing u k (Shared m))
   lets-shared u k n m is l =
-      record { values = l.values; home = l.home; tally = l.tally; phases = l.phases; places = l.places; guards = l.guards; jobs = l.jobs }
+      record { home = l.home; tally = l.tally; phases = l.phases; places = l.places; guards = l.guards; jobs = l.jobs }
 
   pub lets-given : (p k : ℕ) (s : Option Standing) → standing_at w k ≡ s → LetsGo w (owner_given w p k s)
   lets-given p k s is = keeps-given (LetsGo w) lets-retired lets-cell lets-shared w p k s is lets-start
 
   pub lets-closed : (p c : ℕ) → LetsGo w (cell_closed w p c)
   lets-closed p c = keeps-closed (LetsGo w) lets-retired lets-cell lets-shared w p c lets-start
-
--- an owner that is given leaves the cells
-pub cells-given : (w : World Val) (p k : ℕ) (s : Option Standing) → standing_at w k ≡ s → (owner_given w p k s).cells ≡ w.cells
-cells-given w p k s is = owner-given (λ (u : World Val). u.cells ≡ w.cells) w p k s is refl (λ out. refl) (λ n several more. refl)
-
-pub cells-closed : (w : World Val) (p c : ℕ) → (cell_closed w p c).cells ≡ without_entry w.cells c
-cells-closed w p c = by (held_in (entry_at w.cells c)) where
-  by : (held : Option ℕ) → (spilled (record w { cells = without_entry w.cells c }) p held).cells ≡ without_entry w.cells c
-  by None = refl
-  by (Some k) =
-      let u : World Val = record w { cells = without_entry w.cells c } in cells-given u p k (standing_at u k) refl
-
--- where names are of the home, they are after one is spent
-at-home-spent : (home : SpaceId) (hs : List (Option OwnerOrCell)) (o : ℕ) →
-    ((n : ℕ) (h : OwnerOrCell) → holding_at hs n ≡ Some h → IsOf home h) →
-    (n : ℕ) (h : OwnerOrCell) → holding_at (slice_set hs o None) n ≡ Some h → IsOf home h
-at-home-spent home hs o all n h e =
-    elim (cases_eq n o) [
-      | inl same ↦
-          (let never : None ≡ Some h = sym (ap (λ (i : ℕ). holding_at (slice_set hs o None) i) same ∙ at-default hs o None) ∙ e in absurd (cc))
-      | inr apart ↦ all n h (sym (at-other hs o n None None apart) ∙ e)
-    ]
 
 -- ---- no guard is open
 
@@ -138,36 +118,21 @@ module _ (d : ScriptState) (s : IsSound d) (shut : (g : ℕ) → opening_at d.gu
   module _ (new : ScriptState) (l : LetsGo d.world new.world) (moment : new.moment ≡ d.moment) (places : new.places ≡ d.places) (guards : new.guards ≡ d.guards)
       (slots : new.slots ≡ d.slots) (dates : new.dates ≡ d.dates) (cells : length new.cells ≡ length d.cells)
       (deferred : new.deferred ≡ d.deferred) (jobs : new.jobs ≡ d.jobs) (job_dates : new.job_dates ≡ d.job_dates) where
-    still-place : (p : ℕ) → IsPlaceOf d.world p → IsPlaceOf new.world p
-    still-place p h = rw (l.places, l.phases) h
-
     still-shut : (p : ℕ) → IsTrue (is_open (place_at new.world p)) → ⊥
     still-shut p o = omega (arith, ltb-true 0 (place_at new.world p).guards o, l.guards p, no-guards p)
 
-    attended-let : ParticipantsMatch new
-    attended-let = record {
-      inside = λ n x e. still-place x.place (s.attended.inside n x (ap (λ (xs : List (Option OpenSince)). opening_at xs n) (sym places) ∙ e));
-      apart = rw places s.attended.apart;
-      opened = λ p. l.guards p ∙ s.attended.opened p ∙ ap (λ (xs : List (Option OpenSince)). count_by (is_of p) xs) (sym guards);
-      since = rw (places, guards) s.attended.since;
-      early = rw (places, moment) s.attended.early;
-      placed = λ some.
-          (let was = s.attended.placed (omega (arith, some, ap (λ (xs : List ℕ). length xs) slots, cells)) in
-          (was.0, rw l.phases was.1));
-    }
+    still-guards : KeepsGuards d.world new.world
+    still-guards = record { phases = l.phases; places = l.places; guards = l.guards }
 
-    pub sound-let : SlotsHaveNames new → EachCellHasKeeper new → HoldsOnlyOlder new → AreCounted new new.world → AreAtHome new new.owners
-        → AreAtHome new new.cells →
-        AreAtHome new new.collectors → IsSound new
-    sound-let stocked keepers layered counted owners_home cells_home collectors_home = record {
+    pub sound-let : SlotsHaveNames new → IsLedger holdings_of (named new) new.world → Sheds d.world new.world → NamesAreAtHome new → new.names ≡ d.names → IsSound new
+    sound-let stocked ledger shed home names = record {
       stocked = stocked;
-      cells = keepers;
-      layered = layered;
-      accounts = counted;
-      owners_home = owners_home;
-      cells_home = cells_home;
-      collectors_home = collectors_home;
-      attended = attended-let;
+      ledger = ledger;
+      bare = bare-shed shed s.bare;
+      layered = layered-less d new s.layered (less-shed shed) names;
+      home = home;
+      attended = attended-same d new s.attended still-guards places guards (omega (arith, moment))
+          (placed-still d new s.attended still-guards (ap (λ (xs : List ℕ). length xs) slots) cells);
       kept = λ n k x e o waits since. absurd (still-shut x.place o);
       early = rw (dates, moment) s.early;
       made = ap (λ (t : Tally). t.made) l.tally ∙ s.made ∙ ap (λ (xs : List ℕ). length xs) (sym slots);
@@ -182,45 +147,68 @@ module _ (d : ScriptState) (s : IsSound d) (shut : (g : ℕ) → opening_at d.gu
     abbrev pub without : ScriptState
     without = in_world (without_owner d o) (owner_given d.world p k stands)
 
+    ledger-spent_owner : IsLedger holdings_of (named without) without.world
+    ledger-spent_owner (owner_of j) =
+        accounted-owner_given holdings_of d.world p k (named_owners d) (named_owners without)
+        (λ i. omega (arith, owner-spent d.owners d.cells d.collectors o k h there slot (owner_of i), once-where (k == i))) (accounts d s) stands is j
+    ledger-spent_owner (right_to c) =
+        held-owner_given holdings_of d.world p k stands (λ i. named d (right_to i)) is (λ i. s.ledger (right_to i)) c
+
     pub sound-spent_owner : IsSound without
     sound-spent_owner =
         let l = lets-given d.world p k stands is in
         sound-let without l refl refl refl refl refl refl refl refl refl
-        (stocked-as d without s.stocked refl refl refl (no_slot-given d.world p k stands is))
-        (keepers-as d without s.cells l.values (cells-given d.world p k stands is) refl refl)
-        (layered-for d without without.world refl refl (layered-given d d.world p k stands is s.layered))
-        (counted-given d s.accounts o h there k slot p stands is)
-        (at-home-spent without.world.home d.owners o (rw l.home s.owners_home)) (rw l.home s.cells_home) (rw l.home s.collectors_home)
+        (stocked-as d without s.stocked refl refl refl (slots-given d.world p k stands is)) ledger-spent_owner (sheds-owner_given d.world p k stands is)
+        (record {
+          owners = rw l.home (at_home-spent d.world.home d.owners o s.home.owners);
+          cells = rw l.home s.home.cells;
+          collectors = rw l.home s.home.collectors;
+        }) refl
 
   -- the cell of this name is spent: it is free, and p is given what it held
-  module _ (p n c : ℕ) (named : cell_of (holding_at d.cells n) ≡ Some c) where
+  module _ (p n c : ℕ) (named_cell : cell_of (holding_at d.cells n) ≡ Some c) where
     abbrev pub without_the_cell : ScriptState
     without_the_cell = record d { world = cell_closed d.world p c; cells = slice_set d.cells n None }
+
+    ledger-spent_cell : IsLedger holdings_of (named without_the_cell) without_the_cell.world
+    ledger-spent_cell (owner_of j) = accounted-cell_closed holdings_of d.world p c (named_owners d) (accounts d s) j
+    ledger-spent_cell (right_to j) =
+        let h = some-holding cell_of refl (holding_at d.cells n) c named_cell in
+        held-cell_closed holdings_of d.world p c (λ i. named d (right_to i)) (λ i. named without_the_cell (right_to i))
+        (λ i. cell-spent d.owners d.cells d.collectors n c h.0 h.1 h.2 (right_to i)) (λ i. s.ledger (right_to i)) j
 
     pub sound-spent_cell : IsSound without_the_cell
     sound-spent_cell =
         let l = lets-closed d.world p c in
         let e = without_the_cell in
         sound-let e l refl refl refl refl refl (length-set d.cells n None) refl refl refl
-        (stocked-as d e s.stocked refl refl refl (no_slot-cell_closed d.world p c))
-        (keepers-closed d e n c s.cells named l.values (cells-closed d.world p c) refl refl)
-        (layered-for d e e.world refl refl (layered-closed d d.world p c s.layered))
-        (counted-cell_closed d s.accounts p c) (rw l.home s.owners_home)
-        (at-home-spent e.world.home d.cells n (rw l.home s.cells_home)) (rw l.home s.collectors_home)
+        (stocked-as d e s.stocked refl refl refl (slots-cell_closed d.world p c)) ledger-spent_cell (sheds-cell_closed d.world p c)
+        (record {
+          owners = rw l.home s.home.owners;
+          cells = rw l.home (at_home-spent d.world.home d.cells n s.home.cells);
+          collectors = rw l.home s.home.collectors;
+        }) refl
 
   -- the collector of this name is spent: its cell is free, and what waits for it waits on
-  module _ (n c : ℕ) (named : collector_of (holding_at d.collectors n) ≡ Some c) (bare : held_in (entry_at d.world.cells c) ≡ None) where
+  module _ (n c : ℕ) (named_collector : collector_of (holding_at d.collectors n) ≡ Some c) (bare : held_in (entry_at d.world.cells c) ≡ None) where
     abbrev pub without_the_collector : ScriptState
     without_the_collector = record d { world = without_cell d.world c; collectors = slice_set d.collectors n None }
+
+    ledger-spent_collector : IsLedger holdings_of (named without_the_collector) without_the_collector.world
+    ledger-spent_collector (owner_of j) =
+        accounted-without_cell holdings_of d.world c (named_owners d) (named_owners d)
+        (λ i. omega (arith, ap (λ (x : Option ℕ). one_where (is_of_slot i x)) bare)) (accounts d s) j
+    ledger-spent_collector (right_to j) =
+        let h = some-holding collector_of refl (holding_at d.collectors n) c named_collector in
+        held-cell_spent holdings_of d.world c (λ i. named d (right_to i)) (λ i. named without_the_collector (right_to i))
+        (λ i. collector-spent d.owners d.cells d.collectors n c h.0 h.1 h.2 (right_to i)) (λ i. s.ledger (right_to i)) j
 
     pub sound-spent_collector : IsSound without_the_collector
     sound-spent_collector =
         let e = without_the_collector in
         sound-let e (lets-cell d.world d.world c (lets-start d.world)) refl refl refl refl refl refl refl refl refl
-        (stocked-as d e s.stocked refl refl refl (no_slot-same d.world e.world refl))
-        (keepers-uncollected d e n c s.cells named refl refl refl refl) s.layered
-        (counted-into_none d s.accounts c bare) s.owners_home s.cells_home
-        (at-home-spent d.world.home d.collectors n s.collectors_home)
+        (stocked-as d e s.stocked refl refl refl (slots-same d.world e.world refl refl refl)) ledger-spent_collector (sheds-cell d.world c)
+        (record { owners = s.home.owners; cells = s.home.cells; collectors = at_home-spent d.world.home d.collectors n s.home.collectors }) refl
 
   -- the item in this slot, which is out as raw, waits at p
   module _ (p k : ℕ) (raw : standing_at d.world k ≡ Some Raw) where
@@ -228,8 +216,9 @@ module _ (d : ScriptState) (s : IsSound d) (shut : (g : ℕ) → opening_at d.gu
     with_it_left = in_world d (retired d.world p k)
 
     -- it had no owner, and has none
-    counted-left : AreCounted with_it_left with_it_left.world
-    counted-left j = as-each owner_count d.world.standings k (Some Retired) None (sym (ap owner_count raw)) j ∙ s.accounts j
+    ledger-left : IsLedger holdings_of (named d) with_it_left.world
+    ledger-left (owner_of j) = as-each owner_count d.world.standings k (Some Retired) None (sym (ap owner_count raw)) j ∙ s.ledger (owner_of j)
+    ledger-left (right_to c) = s.ledger (right_to c)
 
     pub lets-left : LetsGo d.world with_it_left.world
     lets-left = lets-retired d.world d.world p k (ap is_out raw) (lets-start d.world)
@@ -238,8 +227,8 @@ module _ (d : ScriptState) (s : IsSound d) (shut : (g : ℕ) → opening_at d.gu
     sound-left =
         let e = with_it_left in
         sound-let e lets-left refl refl refl refl refl refl refl refl refl
-        (stocked-as d e s.stocked refl refl refl (no_slot-retired d.world p k (ap is_some raw)))
-        (keepers-as d e s.cells refl refl refl refl) s.layered counted-left s.owners_home s.cells_home s.collectors_home
+        (stocked-as d e s.stocked refl refl refl (slots-set d.world e.world k Retired (ap is_some raw) refl refl refl)) ledger-left
+        (sheds-same d.world e.world refl refl) (record { owners = s.home.owners; cells = s.home.cells; collectors = s.home.collectors }) refl
 
 -- it isn't out as raw then, and no other is that wasn't
 module _ (w : World Val) (p k : ℕ) where
@@ -279,28 +268,28 @@ module _ (d : ScriptState) (s : IsSound d) (whole : IsWhole d.world) (owners : (
     (cells : (c : ℕ) → holding_at d.cells c ≡ None) (collectors : (k : ℕ) → holding_at d.collectors k ≡ None) where
   no-owners : IsAccounted holdings_of (λ _. 0) d.world
   no-owners = accounted-as holdings_of (named_owners d) (λ _. 0) d.world
-      (λ k. sym (all-uncounted (owns k) d.owners (λ o. ap (owns k) (owners o)))) s.accounts
+      (λ k. sym (all-uncounted (owns k) d.owners (λ o. ap (owns k) (owners o)))) (accounts d s)
 
-  -- a cell that is taken is a value's link
-  linked : (c : ℕ) → IsSome (entry_at d.world.cells c) → (j : ℕ) × (v : Val) × (value_at d.world j ≡ Some v) × (link_of v ≡ c)
-  linked c some = let k = s.cells.keeper c some in by k.0 k.1 where
-    by : (k : Keeper) → Keeps d k c → (j : ℕ) × (v : Val) × (value_at d.world j ≡ Some v) × (link_of v ≡ c)
-    by (value_in j) h = (j, h.0, h.1, h.2)
-    by (name_of n) h = absurd (let never : None ≡ Some c = sym (ap cell_of (cells n)) ∙ h in cc)
-    by (collector_named n) h = absurd (let never : None ≡ Some c = sym (ap collector_of (collectors n)) ∙ h in cc)
+  no-rights : (c : ℕ) → named d (right_to c) ≡ 0
+  no-rights c =
+      omega (
+        arith,
+        all-uncounted (has_right c) d.cells (λ n. ap (has_right c) (cells n)),
+        all-uncounted (has_right c) d.collectors (λ n. ap (has_right c) (collectors n)),
+      )
 
   idle : (c : ℕ) → held_in (entry_at d.world.cells c) ≡ None
   idle c = by (entry_at d.world.cells c) refl where
     by : (e : Option CellContents) → entry_at d.world.cells c ≡ e → held_in e ≡ None
     by None is = refl
     by (Some cell) is =
-        let at = linked c (ap is_some is) in sym (ap held_in is) ∙ s.cells.bare at.0 c (at.1, at.2, at.3)
+        let at = linked d s c (no-rights c) (ap is_some is) in sym (ap held_in is) ∙ ap (λ b. held_in (entry_at d.world.cells b)) (sym at.3) ∙ s.bare at.0 at.1 at.2
 
   -- all that is out goes with what waits, where no item is out as raw
   pub goes-all : ((k : ℕ) → standing_at d.world k ≢ Some Raw) → AllGo holdings_of d.world
   goes-all none_raw =
       all-go holdings_of d.world whole.filled (name_at d) no-owners idle none_raw s.layered
-      (λ c some. let at = linked c some in (
+      (λ c some. let at = linked d s c (no-rights c) some in (
         at.0,
         length (owner_in (body_of at.1)),
         ap (λ (v : Option Val). cell_held (held_by holdings_of v (length (owner_in (body_of at.1))))) at.2
@@ -321,7 +310,7 @@ none-in {X} {Y} f some xs none k = by (slice_index_or xs k None) (sym (get_or-ma
 module _ (d : ScriptState) (s : IsSound d) where
   pub placed-owner : (o : ℕ) (h : OwnerOrCell) (k : ℕ) → holding_at d.owners o ≡ Some h → slot_of (Some h) ≡ Some k → (p : ℕ) × IsSome (phase_at d.world.time p)
   placed-owner o h k there slot =
-      let out = owned-out d s.accounts o h k there slot in
+      let out = owned-out d (accounts d s) o h k there slot in
       s.attended.placed (omega (arith, (s.stocked.named k (out-there d.world k out)).0))
 
   pub placed-cell : (n : ℕ) → IsSome (holding_at d.cells n) → (p : ℕ) × IsSome (phase_at d.world.time p)
@@ -345,10 +334,10 @@ module _ (h : Environment) (t : IsTied h) where
   cell-placed n x e = placed-cell d t.sound n (ap is_some (cell-named n x e))
 
   pub owner-home : (o : ℕ) (x : AnyOwner) → slice_index_or h.owners.entries.items o None ≡ Some x → IsOf h.world.home (owner_holding x)
-  owner-home o x e = t.sound.owners_home o (owner_holding x) (owner-named o x e)
+  owner-home o x e = t.sound.home.owners o (owner_holding x) (owner-named o x e)
 
   pub cell-home : (n : ℕ) (x : AnyCell) → slice_index_or h.cells.entries.items n None ≡ Some x → IsOf h.world.home (cell_holding x)
-  cell-home n x e = t.sound.cells_home n (cell_holding x) (cell-named n x e)
+  cell-home n x e = t.sound.home.cells n (cell_holding x) (cell-named n x e)
 
   pub owners-spent : (owners : Vec (Option AnyOwner)) (o : ℕ) → owners.items ≡ slice_set h.owners.entries.items o None →
       map (option_map owner_holding) owners.items ≡ slice_set d.owners o None

@@ -16,7 +16,7 @@ use Rattle.sdd_participants.specs.Slab.{IsEmptyAt, IsFull}
 use Rattle.sdd_participants.specs.EpochState as time
 use Rattle.sdd_participants.specs.EpochState.{CanNest, IsCrowded, IsVacant, has_garbage, is_open}
 use Rattle.sdd_participants.specs.declared.waiting.LimboEntry.TheVariants.{Item, Job}
-use Rattle.sdd_space.specs.WorldStep.WorldStep.{registers, ends, closes, stirs, accelerates, opens, defers}
+use Rattle.sdd_space.specs.WorldStep.WorldStep.{registers, ends, closes, opens}
 use Rattle.sdd_space.specs.Guard.{reader_of}
 use Rattle.sdd_space.specs.CallerId.{reader_at}
 use Rattle.sdd_space.specs.WorldChanges.{registered, ended, opened, reclaims, closed, stirred, accelerated, deferred}
@@ -45,9 +45,9 @@ use Rattle.sdd_script_names.specs.Interpreter.{desk_of, IsTied, GuardsIn}
 use Rattle.sdd_script_model.specs.Held.{owners_in, slots_among, places_among, waits_among}
 use Rattle.sdd_script_model.proofs.Entry.{as-each, at-other, at-pushed, at-end, at-default}
 use Rattle.sdd_script_model.proofs.Dates.{dated-same}
-use Rattle.sdd_script_model.proofs.Going.{sound-opened, dated-opened, home-opened, names-go, names-run, not-under, not-run-under, sound-deferred, dated-deferred, sound-stirred, sound-accelerated, sound-registered, sound-ended, sound-closed}
+use Rattle.sdd_script_model.proofs.Going.{sound-opened, dated-opened, home-opened, names-go, names-run, not-under, not-run-under, deferred-leaves, stirred-leaves, accelerated-leaves, sound-registered, sound-ended, sound-closed}
 use Rattle.sdd_script_names.proofs.Acts as stage
-use Rattle.sdd_script_names.proofs.Acts.{Goes, Does, does, goes, still, place}
+use Rattle.sdd_script_names.proofs.Acts.{Goes, Does, does, goes, leads, still, place}
 
 -- of what is spent nothing is in hand
 spent : {X : Type 0} (P : Option X → Type 0) → P None → (xs : List (Option X)) (k : ℕ) → ((j : ℕ) → P (slice_index_or xs j None)) → (j : ℕ) →
@@ -126,22 +126,12 @@ module _ (h : Environment) (t : IsTied h) (whole : IsWhole h.world) where
     pub acts-stirred : (g : GuardName) (w : World Val) → HasOpen d n g.0 → w ≡ stirred h.world p →
         Does d (At name (call.Set g)) reply.Done (record h { world = w })
     acts-stirred g w valid world =
-        does d (At name (call.Set g)) reply.Done (goes (cc world) (sound-stirred d t.sound whole p in_range) t.guards) (record {
-          meets = (valid, rw is refl);
-          dated = dated-same d (in_world d (stirred h.world p)) refl refl;
-          line = refl;
-          calls = one_more h.world h.world _ (no_call h.world) (stirs h.world p in_range);
-        })
+        leads h t (At name (call.Set g)) reply.Done refl (cc world) (stirred-leaves d t.sound whole p in_range) (valid, rw is refl)
 
     pub acts-accelerated : (g : GuardName) (w : World Val) → HasOpen d n g.0 → w ≡ accelerated h.world p →
         Does d (At name (call.Accelerate g)) reply.Done (record h { world = w })
     acts-accelerated g w valid world =
-        does d (At name (call.Accelerate g)) reply.Done (goes (cc world) (sound-accelerated d t.sound whole p in_range) t.guards) (record {
-          meets = (valid, rw is refl);
-          dated = dated-same d (in_world d (accelerated h.world p)) refl refl;
-          line = refl;
-          calls = one_more h.world h.world _ (no_call h.world) (accelerates h.world p in_range);
-        })
+        leads h t (At name (call.Accelerate g)) reply.Done refl (cc world) (accelerated-leaves d t.sound whole p in_range) (valid, rw is refl)
 
     pub acts-ended : (w : World Val) (places : Vec (Option NamedParticipant)) → places.items ≡ slice_set h.places.entries.items n None →
         (IsTrue (is_open (time.place_at h.world.time p)) → ⊥) → w ≡ ended h.world p →
@@ -198,14 +188,8 @@ module _ (h : Environment) (t : IsTied h) (whole : IsWhole h.world) where
         dates.items ≡ slice_set h.job_dates.items k h.moment → count ≡ h.jobs + 1 → j.0 ≡ h.jobs → BeginsLine d →
         Does d (At name (call.Defer g)) (reply.Job j) (record h { world = w; deferred = names; job_dates = dates; jobs = count })
     acts-deferred g k w names dates count j valid free world named dated more job line =
-        does d (At name (call.Defer g)) (reply.Job j)
-        (goes (cc (world, named, dated, more)) (sound-deferred d t.sound whole p k in_range free line.jobs) t.guards)
-        (record {
-          meets = (valid, rw is (job, (k, free, refl)));
-          dated = dated-deferred d t.sound whole p k in_range free;
-          line = refl;
-          calls = one_more h.world h.world _ (no_call h.world) (defers h.world p k in_range free);
-        })
+        leads h t (At name (call.Defer g)) (reply.Job j) refl (cc (world, named, dated, more)) (deferred-leaves d t.sound whole p k in_range free line.jobs)
+        (valid, rw is (job, (k, free, refl)))
 
     -- no place of the table of jobs is free
     pub deferral-refused : (g : GuardName) → HasOpen d n g.0 → IsFull h.world.jobs → Acts d (At name (call.Defer g)) (reply.Refused NoJob) d

@@ -22,7 +22,6 @@ use Rattle.sdd_script_text.specs.declared.name.OwnerName.{OwnerName}
 use Rattle.sdd_script_text.specs.declared.name.CellName.{CellName}
 use Rattle.sdd_script_text.specs.declared.name.ItemName.{ItemName}
 use Rattle.sdd_script_text.specs.declared.call.Call.TheVariants.{At}
-use Rattle.sdd_script_text.specs.declared.call.Action.{Action}
 use Rattle.sdd_script_text.specs.declared.call.Action.TheVariants as call
 use Rattle.sdd_script_text.specs.declared.answer.Reply.TheVariants as reply
 use Rattle.sdd_script_model.specs.declared.val.Val.{Val}
@@ -41,16 +40,15 @@ use Rattle.sdd_script_names.specs.Environment.{attending, FitsIn, Fills, named_o
 use Rattle.sdd_space_commands.specs.Owners.{owner_holding, cell_holding, cell_number, holding_around, filling_holding, filling_kind}
 use Rattle.sdd_script_names.specs.Interpreter.{desk_of, IsTied}
 use Rattle.sdd_item_commands.specs.Lines.{making_cell}
-use Rattle.sdd_script_names.proofs.Acts.{Does, does, goes, still, is, is-there, in_range}
-use Rattle.sdd_script_model.proofs.Entry.{not-free}
-use Rattle.sdd_script_model.proofs.Gone.{counts-cell_closed}
-use Rattle.sdd_script_model.proofs.CellGoing.{after_celled, IsPut, put-sole, put-shared, cell-there, held-inside, dates_spilled, calls-celled, dated-celled, sound-celled, calls-tagged, dated-tagged, sound-tagged, calls-cell_closed, dated-cell_closed, sound-cell_closed}
+use Rattle.sdd_script_names.proofs.Acts.{Does, does, goes, leads, still, is, is-there, in_range}
+use Rattle.sdd_script_model.proofs.Counting.{IsPut}
+use Rattle.sdd_script_model.proofs.CellGoing.{after_celled, put-sole, put-shared, cell-there, held-inside, dates_spilled, celled-leaves, tagged-leaves, cell_closed-leaves}
 
-numbered : (x : AnyCell) → cell_of (Some (cell_holding x)) ≡ Some (cell_number x)
+pub numbered : (x : AnyCell) → cell_of (Some (cell_holding x)) ≡ Some (cell_number x)
 numbered (Sole c) = refl
 numbered (Share c) = refl
 
-slot-of-put : (d : ScriptState) (x : Option OwnerName) → slot_of (named_owner d.owners x) ≡ slot_put d x
+pub slot-of-put : (d : ScriptState) (x : Option OwnerName) → slot_of (named_owner d.owners x) ≡ slot_put d x
 slot-of-put d None = refl
 slot-of-put d (Some o) = refl
 
@@ -67,6 +65,14 @@ put-in : (d : ScriptState) (own : OwnerKind) (x : Option OwnerName) → FitsIn d
 put-in d own None fits = tt
 put-in d ownership.Sole (Some o) fits = put-sole d (Some o) fits
 put-in d ownership.Shared (Some o) fits = put-shared d (Some o) fits
+
+-- who makes a cell is there, and what goes into it fits
+pub valid-celling : (d : ScriptState) (n : ℕ) (own : OwnerKind) (x : Option OwnerName) → IsValid d n (making_cell own x) →
+    IsParticipant d n × FitsIn d.owners own x
+valid-celling d n ownership.Sole None valid = (valid.0, tt)
+valid-celling d n ownership.Sole (Some o) valid = valid
+valid-celling d n ownership.Shared None valid = (valid.0, tt)
+valid-celling d n ownership.Shared (Some o) valid = valid
 
 abbrev named_item : ℕ → Option ItemName
 named_item i = Some (record { 0 = i })
@@ -88,7 +94,7 @@ module _ (h : Environment) (t : IsTied h) where
   named-cell n x there = get_or-map (option_map cell_holding) h.cells.entries.items n None ∙ ap (option_map cell_holding) (sym there)
 
   pub cell-home : (n : ℕ) (x : AnyCell) → Some x ≡ slice_index_or h.cells.entries.items n None → holding.IsOf h.world.home (cell_holding x)
-  cell-home n x there = t.sound.cells_home n (cell_holding x) (named-cell n x there)
+  cell-home n x there = t.sound.home.cells n (cell_holding x) (named-cell n x there)
 
   pub number-is : (n : ℕ) (x : AnyCell) → Some x ≡ slice_index_or h.cells.entries.items n None → cell_of (holding_at d.cells n) ≡ Some (cell_number x)
   number-is n x there = ap cell_of (named-cell n x there) ∙ numbered x
@@ -103,45 +109,11 @@ module _ (h : Environment) (t : IsTied h) where
   filling-home own x new f fills = rw fills.holding (named x) where
     at-home : (o : ℕ) (y : Option OwnerOrCell) → holding_at d.owners o ≡ y → IfSome y (holding.IsOf h.world.home)
     at-home o None e = tt
-    at-home o (Some y) e = t.sound.owners_home o y e
+    at-home o (Some y) e = t.sound.home.owners o y e
 
     named : (x : Option OwnerName) → IfSome (named_owner d.owners x) (holding.IsOf h.world.home)
     named None = tt
     named (Some o) = at-home o.0 (holding_at d.owners o.0) refl
-
-  -- ---- a name that stands for nothing
-  invalid : (name : PlaceName) (action : Action) → ¬ (IsValid d name.0 action) → Acts d (At name action) reply.Invalid d
-  invalid name action wrong = still d (At name action) reply.Invalid (wrong, refl)
-
-  pub invalid-away : (name : PlaceName) (action : Action) → None ≡ slice_index_or h.places.entries.items name.0 None →
-      (IsValid d name.0 action → IsParticipant d name.0) → Acts d (At name action) reply.Invalid d
-  invalid-away name action none there =
-      invalid name action (λ v. not-free (opening_at d.places name.0) (there v)
-      (get_or-map attending h.places.entries.items name.0 None ∙ ap attending (sym none)))
-
-  pub invalid-gone : (name : PlaceName) (action : Action) (n : ℕ) → None ≡ slice_index_or h.cells.entries.items n None →
-      (IsValid d name.0 action → IsCellName d n) → Acts d (At name action) reply.Invalid d
-  invalid-gone name action n none there =
-      let gone : holding_at d.cells n ≡ None =
-      get_or-map (option_map cell_holding) h.cells.entries.items n None ∙ ap (option_map cell_holding) (sym none) in
-      invalid name action (λ v. not-free (cell_of (holding_at d.cells n)) (there v) (ap cell_of gone))
-
-  pub invalid-under : (name : PlaceName) (action : Action) (g : ℕ) → ¬ (HasOpen d name.0 g) → (IsValid d name.0 action → HasOpen d name.0 g) →
-      Acts d (At name action) reply.Invalid d
-  invalid-under name action g wrong there = invalid name action (λ v. wrong (there v))
-
-  pub invalid-unfit : (name : PlaceName) (own : OwnerKind) (x : Option OwnerName) → ¬ (FitsIn d.owners own x) →
-      Acts d (At name (making_cell own x)) reply.Invalid d
-  invalid-unfit name ownership.Sole None wrong = absurd (wrong tt)
-  invalid-unfit name ownership.Sole (Some o) wrong = invalid name (making_cell ownership.Sole (Some o)) (λ v. wrong v.1)
-  invalid-unfit name ownership.Shared None wrong = absurd (wrong tt)
-  invalid-unfit name ownership.Shared (Some o) wrong = invalid name (making_cell ownership.Shared (Some o)) (λ v. wrong v.1)
-
-  -- no participant makes a cell
-  pub invalid-maker : (name : PlaceName) (own : OwnerKind) (x : Option OwnerName) → None ≡ slice_index_or h.places.entries.items name.0 None →
-      Acts d (At name (making_cell own x)) reply.Invalid d
-  invalid-maker name ownership.Sole x none = invalid-away name (making_cell ownership.Sole x) none (λ v. v.0)
-  invalid-maker name ownership.Shared x none = invalid-away name (making_cell ownership.Shared x) none (λ v. v.0)
 
   -- the item of what a closed cell held began to wait in this line, if it waits now
   dates-same : (w : World Val) (held : Option ℕ) → dated_if_waiting w held h.moment h.dates.items ≡ dates_spilled d w held
@@ -197,14 +169,9 @@ module _ (h : Environment) (t : IsTied h) where
         ap (map (option_map cell_holding)) pushed ∙ map_push (option_map cell_holding) h.cells.entries.items (Some c)
         ∙ ap (λ y. d.cells ++ Some y ∷ []) is_holding in
         let left = fills.left in
-        does d (At name (making_cell own x)) (reply.Cell r)
-        (goes (cc (now, left, more)) (sound-celled d t.sound whole p k (like d own) x live free put) t.guards)
-        (record {
-          meets = celled-meets own x k r fits free (named ∙ sym (length-map h.cells.entries.items (option_map cell_holding)));
-          dated = dated-celled d t.sound whole p k (like d own) x live free put;
-          line = refl;
-          calls = calls-celled d t.sound whole p k (like d own) x live free put;
-        })
+        leads h t (At name (making_cell own x)) (reply.Cell r) refl (cc (now, left, more))
+        (celled-leaves d t.sound whole p k (like d own) x live free put)
+        (celled-meets own x k r fits free (named ∙ sym (length-map h.cells.entries.items (option_map cell_holding))))
 
     -- ---- a cell with a name
     module _ (c : CellName) (x : AnyCell) (mine : Some x ≡ slice_index_or h.cells.entries.items c.0 None) where
@@ -247,14 +214,8 @@ module _ (h : Environment) (t : IsTied h) where
           Does d (At name (call.TagIf c tag was)) (reply.Truth b) (record h { world = w })
       acts-tagged tag was cell true w holds decides world =
           let own = is-cell c.0 x cell mine holds in
-          does d (At name (call.TagIf c tag was)) (reply.Truth true)
-          (goes (ap (in_world d) world) (sound-tagged d t.sound whole p c.0 k cell live own tag) t.guards)
-          (record {
-            meets = ((here, known), (k, cell, own, decides, refl));
-            dated = dated-tagged d t.sound whole p c.0 k cell live own tag;
-            line = refl;
-            calls = calls-tagged d t.sound whole p c.0 k cell live own tag;
-          })
+          leads h t (At name (call.TagIf c tag was)) (reply.Truth true) refl (ap (in_world d) world)
+          (tagged-leaves d t.sound whole p c.0 k cell live own tag) ((here, known), (k, cell, own, decides, refl))
       acts-tagged tag was cell false w holds decides world =
           let own = is-cell c.0 x cell mine holds in
           does d (At name (call.TagIf c tag was)) (reply.Truth false) (goes (ap (in_world d) world) t.sound t.guards)
@@ -271,13 +232,6 @@ module _ (h : Environment) (t : IsTied h) where
           let now : dates.items ≡ dates_spilled d (cell_closed h.world p k) found.0.held =
           dated ∙ dates-same w (held_in (entry_at h.world.cells k)) ∙ ap (λ v. dates_spilled d v (held_in (entry_at h.world.cells k))) world
           ∙ ap (λ e. dates_spilled d (cell_closed h.world p k) (held_in e)) found.1.holds in
-          let home : (cell_closed h.world p k).home ≡ h.world.home = (counts-cell_closed h.world p k).home in
-          does d (At name (call.CloseCell c)) reply.Done
-          (goes (cc (world, gone, now)) (sound-cell_closed d t.sound whole p c.0 k found.0 live found.1)
-          (λ g. rw home (t.guards g)))
-          (record {
-            meets = ((here, known), (k, found.1.named, rw (is h t whole name a there) refl));
-            dated = dated-cell_closed d t.sound whole p c.0 k found.0 live found.1;
-            line = refl;
-            calls = calls-cell_closed d t.sound whole p c.0 k found.0 live found.1;
-          })
+          leads h t (At name (call.CloseCell c)) reply.Done refl (cc (world, gone, now))
+          (cell_closed-leaves d t.sound whole p c.0 k found.0 live found.1)
+          ((here, known), (k, found.1.named, rw (is h t whole name a there) refl))

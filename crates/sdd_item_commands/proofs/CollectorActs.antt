@@ -10,7 +10,7 @@ use Rattle.sdd_core.specs.declared.refused.Refused.TheVariants.{GuardOpen, NoCel
 use Rattle.sdd_participants.specs.Slab.{IsEmptyAt, IsFull, entry_at}
 use Rattle.sdd_standings.specs.Cells.{null_pointer}
 use Rattle.sdd_space.specs.declared.private_collector.PrivateCollector.{PrivateCollector}
-use Rattle.sdd_space.specs.Collecting.{collector_closed, waiting_for, without_collector as freed_collector}
+use Rattle.sdd_space.specs.Collecting.{collector_closed}
 use Rattle.sdd_space.specs.Collector as collector
 use Rattle.sdd_space.specs.OwnerOrCell as holding
 use Rattle.sdd_space.specs.Out.{IsNullCell}
@@ -40,12 +40,12 @@ use Rattle.sdd_space_commands.specs.Owners.{collector_holding, owner_holding}
 use Rattle.sdd_script_names.specs.declared.participants.NamedParticipant.{NamedParticipant}
 use Rattle.sdd_script_names.specs.Environment.{attending, dated_if_waiting}
 use Rattle.sdd_script_names.specs.declared.interpreter.Environment.{Environment}
-use Rattle.sdd_script_names.specs.Interpreter.{GuardsIn, IsTied, desk_of}
-use Rattle.sdd_script_model.proofs.Collected.{after_given, calls-collecting, dated-collecting, owner-inside, sound-collecting, sound-given}
-use Rattle.sdd_script_model.proofs.CollectorGoing.{calls-uncollected, dated-uncollected, goes-uncollected, runs-uncollected, sound-uncollected}
-use Rattle.sdd_script_model.proofs.Gone.{all-counts}
+use Rattle.sdd_script_names.specs.Interpreter.{IsTied, desk_of}
+use Rattle.sdd_script_model.proofs.Collected.{after_given, collecting-leaves, owner-inside, sound-given}
+use Rattle.sdd_script_model.proofs.Chains.{LeavesSound}
+use Rattle.sdd_script_model.proofs.CollectorGoing.{dated-uncollected, goes-uncollected, runs-uncollected, uncollected-leaves}
 use Rattle.sdd_script_names.proofs.Collectors.{number-is, collectors-spent}
-use Rattle.sdd_script_names.proofs.Acts.{Does, Goes, does, goes, in_range, is, is-there, named-owner, owner-spent, still}
+use Rattle.sdd_script_names.proofs.Acts.{Does, Goes, goes, leads, in_range, is, is-there, named-owner, owner-spent, still}
 
 -- what a collector names, of its own home, and what a name of one stands for
 module _ (h : Environment) (t : IsTied h) where
@@ -109,14 +109,9 @@ module _ (h : Environment) (t : IsTied h) (whole : IsWhole h.world) (name : Plac
       ≡ (desk_of h).collectors ++ Some (holding.atomic_raw c h.world.home.cells) ∷ [] =
       ap (map (option_map collector_holding)) pushed ∙ map_push (option_map collector_holding) h.collectors.entries.items (Some x)
       ∙ ap (λ z. (desk_of h).collectors ++ Some (holding.atomic_raw c z) ∷ []) home in
-      does (desk_of h) (At name call.Collector) (reply.Collector r)
-      (goes (cc (world, more)) (sound-collecting (desk_of h) t.sound whole p c live free) t.guards)
-      (record {
-        meets = (here, (named ∙ sym (length-map h.collectors.entries.items (option_map collector_holding)), (c, free, refl)));
-        dated = dated-collecting (desk_of h) t.sound whole p c live free;
-        line = refl;
-        calls = calls-collecting (desk_of h) t.sound whole p c live free;
-      })
+      leads h t (At name call.Collector) (reply.Collector r) refl (cc (world, more))
+      (collecting-leaves (desk_of h) t.sound whole p c live free)
+      (here, (named ∙ sym (length-map h.collectors.entries.items (option_map collector_holding)), (c, free, refl)))
 
   -- ---- an owner is given to a collector
 
@@ -135,10 +130,7 @@ module _ (h : Environment) (t : IsTied h) (whole : IsWhole h.world) (name : Plac
       sound-given (desk_of h) t.sound whole p (collector.collector_of y) k o.0 live (owner_holding x) given w
       (named-owner h t whole o.0 x (sym mine)) slot did in
       let gone = owner-spent h t whole owners o.0 taken in
-      does (desk_of h) (At name (call.Collect o g r)) given
-      (goes (cc (gone, become)) left.sound
-      (λ i. subst (λ z. GuardsIn z.readers (desk_of h).places (slice_index_or h.guards.entries.items i None)) (sym left.home) (t.guards i)))
-      (record { meets = by x given mine did; dated = left.dated; line = refl; calls = left.calls }) where
+      leads h t (At name (call.Collect o g r)) given refl (cc (gone, become)) left (by x given mine did) where
         entry : (x : AnyOwner) → Some x ≡ slice_index_or h.owners.entries.items o.0 None → holding_at (desk_of h).owners o.0 ≡ Some (owner_holding x)
         entry x mine = named-owner h t whole o.0 x (sym mine)
 
@@ -201,16 +193,13 @@ module _ (h : Environment) (t : IsTied h) (whole : IsWhole h.world) (name : Plac
         (subst (λ (u : World Val). (s : ℕ) → slice_index dates.items s
         ≡ (if waits_among u (owners_in h.world slots) s then h.moment else slice_index h.dates.items s)) world dated)
 
-    home : (collector_closed holdings_of h.world p c).home ≡ h.world.home
-    home =
-        (all-counts h.world p holdings_of (waiting_for h.world c) (freed_collector h.world c)
-        (record { slots = refl; made = refl; in_place = refl; home = refl })).home
+    left : LeavesSound (desk_of h) closed
+    left = uncollected-leaves (desk_of h) t.sound whole p c r.0 live number bare quiet dates.items is-dated
 
     closes-to : Goes after_close closed
     closes-to =
         let spent = collectors-spent h t collectors r.0 taken in
-        goes (cc (world, spent)) (sound-uncollected (desk_of h) t.sound whole p c r.0 live number bare quiet dates.items is-dated)
-        (λ g. rw home (t.guards g))
+        goes (cc (world, spent)) left.sound (λ g. rw left.home (t.guards g))
 
     pub tied-closed : IsTied after_close
     tied-closed = closes-to.tied
@@ -225,7 +214,7 @@ module _ (h : Environment) (t : IsTied h) (whole : IsWhole h.world) (name : Plac
             meets = ((here, ap is_some number), rw (is h t whole name a there) (c, number, quiet, refl));
             dated = is-dated;
             line = refl;
-            calls = calls-uncollected d t.sound whole p c r.0 live number bare quiet dates.items;
+            calls = left.calls;
           };
           goes = goes-uncollected d t.sound whole c name r number quiet (map (item_in h.names.items) slots) sorted refl moved up;
           runs = runs-uncollected d t.sound whole c name r number quiet;

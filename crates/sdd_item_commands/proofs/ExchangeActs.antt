@@ -14,7 +14,6 @@ use Rattle.sdd_participants.specs.declared.standing.Standing.TheVariants as stan
 use Rattle.sdd_standings.specs.Slots.{IsSharedBy}
 use Rattle.sdd_space.specs.declared.shared.Shared.{Shared}
 use Rattle.sdd_space.specs.declared.atomic_shared.AtomicShared.{AtomicShared}
-use Rattle.sdd_space.specs.WorldStep.WorldStep.{shares}
 use Rattle.sdd_space.specs.OwnerOrCell as holding
 use Rattle.sdd_space.specs.OwnerOrCell.{OwnerOrCell}
 use Rattle.sdd_space.specs.WorldChanges.{with_cell, with_standing, without_cell}
@@ -28,7 +27,9 @@ use Rattle.sdd_script_text.specs.declared.name.GuardName.{GuardName}
 use Rattle.sdd_script_text.specs.declared.name.OwnerName.{OwnerName}
 use Rattle.sdd_script_text.specs.declared.name.ItemName.{ItemName}
 use Rattle.sdd_script_text.specs.declared.name.CellName.{CellName}
+use Rattle.sdd_script_text.specs.declared.call.Call.{Call}
 use Rattle.sdd_script_text.specs.declared.call.Call.TheVariants.{At}
+use Rattle.sdd_script_text.specs.declared.answer.Reply.{Reply}
 use Rattle.sdd_script_text.specs.declared.call.Action.TheVariants as call
 use Rattle.sdd_script_text.specs.declared.answer.Reply.TheVariants as reply
 use Rattle.sdd_script_model.specs.declared.val.Val.{Val}
@@ -44,17 +45,16 @@ use Rattle.sdd_script_names.specs.declared.participants.NamedGuard.{NamedGuard}
 use Rattle.sdd_script_names.specs.declared.interpreter.Environment.{Environment}
 use Rattle.sdd_script_model.specs.ScriptState.{ScriptState, holding_at, cell_of, slot_of, sole_slot, shared_slot, shared_cell, opening_at}
 use Rattle.sdd_script_model.specs.Script.{Meets, HasOpen, IsCellName, IsSharedCell, CanCompare, FitsCell, IsNameOf, IsGivenBack, IsShareFull, MayShare, shared_once_more, slot_compared, slot_put, owner_as, owners_put, owners_taken}
-use Rattle.sdd_script_model.specs.Script.AreCalls.{none as no_call, one_more}
 use Rattle.sdd_script_model.specs.Shown.{IsCell, item_held}
 use Rattle.sdd_script_names.specs.Environment.{attending, named_owner, Fills, FitsIn, IsGiven, given_back, CanPutBack, owners_back, CanCompareAt}
 use Rattle.sdd_space_commands.specs.Owners.{owner_holding, cell_holding, cell_kind, cell_number, filling_holding, held_as}
 use Rattle.sdd_script_names.specs.Interpreter.{desk_of, IsTied}
 use Rattle.sdd_script_model.specs.Held.{holding_first}
-use Rattle.sdd_script_model.proofs.Going.{dated-shared}
-use Rattle.sdd_script_model.proofs.CellGoing.{put-fits, held-inside, calls-swapped, dated-swapped, sound-swapped, calls-taken, dated-taken, sound-taken, calls-copied, dated-copied, sound-copied}
+use Rattle.sdd_script_model.proofs.CellGoing.{put-fits, held-inside, swapped-leaves, taken-leaves, copied-leaves}
 use Rattle.sdd_script_model.proofs.Entry.{at-default, inside}
 use Rattle.sdd_script_names.proofs.Missing.{points, points-not}
-use Rattle.sdd_script_names.proofs.Acts.{Goes, Does, does, goes, goes-shared, is-there, in_range, stays-here}
+use Rattle.sdd_item_commands.proofs.CellActs.{numbered, slot-of-put}
+use Rattle.sdd_script_names.proofs.Acts.{Does, adds-owner, leads, is-there, in_range, stays-here}
 
 -- what a name of a cell stands for
 pub named-cell : (h : Environment) (c : ℕ) (x : AnyCell) → slice_index_or h.cells.entries.items c None ≡ Some x →
@@ -63,7 +63,7 @@ named-cell h c x e = get_or-map (option_map cell_holding) h.cells.entries.items 
 
 pub cell-home : (h : Environment) → IsTied h → (c : ℕ) (x : AnyCell) → slice_index_or h.cells.entries.items c None ≡ Some x →
     holding.IsOf h.world.home (cell_holding x)
-cell-home h t c x e = t.sound.cells_home c (cell_holding x) (named-cell h c x e)
+cell-home h t c x e = t.sound.home.cells c (cell_holding x) (named-cell h c x e)
 
 -- it is no shared cell's
 pub not-shared : (h : Environment) (c : ℕ) → ((x : AtomicShared Val) → slice_index_or h.cells.entries.items c None ≢ Some (cell.Share x)) →
@@ -95,10 +95,6 @@ same-cells h w cells world same = let named = ap (map (option_map cell_holding))
 
 -- ---- a cell of either kind
 
-pub number-is : (x : AnyCell) → cell_of (Some (cell_holding x)) ≡ Some (cell_number x)
-number-is (cell.Sole x) = refl
-number-is (cell.Share x) = refl
-
 owner-as : (x : AnyCell) (k : ℕ) (d : ScriptState) → owner_as (Some (cell_holding x)) k d ≡ holding_first (cell_kind x) k d.world.home.slots
 owner-as (cell.Sole x) k d = refl
 owner-as (cell.Share x) k d = refl
@@ -119,10 +115,6 @@ fits-in d (cell.Share x) (Some o) fits = fits
 fits-none : (d : ScriptState) (y : Option OwnerName) → FitsCell d None y → ⊥
 fits-none d None fits = absurd (cc)
 fits-none d (Some o) fits = fits
-
-slot-put : (d : ScriptState) (y : Option OwnerName) → slot_of (named_owner d.owners y) ≡ slot_put d y
-slot-put d None = refl
-slot-put d (Some o) = refl
 
 put-long : (owners : List (Option OwnerOrCell)) (y : Option OwnerName) → length (owners_put owners y) ≡ length owners
 put-long owners None = refl
@@ -209,24 +201,17 @@ module _ (h : Environment) (t : IsTied h) (whole : IsWhole h.world) where
           w ≡ with_standing h.world (shared.slot_of y) (standing.Shared (count + 1)) → r.0 ≡ length h.owners.entries.items →
           Does d (At name (call.Share c g)) (reply.Owner r) (record h { world = w; owners = record { entries = owners } })
       acts-shared_out w owners r y count pushed home out stands few world named =
-          does d (At name (call.Share c g)) (reply.Owner r)
-          (goes-shared h t whole name a there w owners y count pushed home stands world)
-          (record {
-            meets = (
-              (valid, is-shared h c.0 x mine),
-              (
-                shared.cell_of x,
-                shared.slot_of y,
-                held,
-                is,
-                out,
-                (count, stands, few, (named ∙ sym (length-map h.owners.entries.items (option_map owner_holding)), refl)),
-              ),
-            );
-            dated = dated-shared d t.sound whole p (shared.slot_of y) count live stands;
-            line = refl;
-            calls = one_more h.world h.world _ (no_call h.world) (shares h.world (shared.slot_of y) count stands.shared);
-          })
+          adds-owner h t whole name a there w owners y count pushed home stands world (At name (call.Share c g)) (reply.Owner r) (
+            (valid, is-shared h c.0 x mine),
+            (
+              shared.cell_of x,
+              shared.slot_of y,
+              held,
+              is,
+              out,
+              (count, stands, few, (named ∙ sym (length-map h.owners.entries.items (option_map owner_holding)), refl)),
+            ),
+          )
 
       pub none-shared : held.held ≡ None → Meets d (At name (call.Share c g)) reply.Nothing d
       none-shared none = ((valid, is-shared h c.0 x mine), ((shared.cell_of x, held, is, none), refl))
@@ -246,10 +231,6 @@ module _ (h : Environment) (t : IsTied h) (whole : IsWhole h.world) where
         cells = d.cells ++ Some (holding.atomic_shared other h.world.home.cells) ∷ [];
       }
 
-      home-more : (o : Option ℕ) (owners : ℕ) → (shared_once_more h.world o owners).home ≡ h.world.home
-      home-more None owners = refl
-      home-more (Some k) owners = refl
-
       pub acts-copied : (w : World Val) (cells : Vec (Option AnyCell)) (r : CellName) (y : AtomicShared Val) (count : ℕ) →
           cells.items ≡ h.cells.entries.items ++ Some (cell.Share y) ∷ [] → shared.cells_home y ≡ h.world.home.cells →
           IsEmptyAt h.world.cells (shared.cell_of y) → MayShare h.world held.held count →
@@ -260,21 +241,14 @@ module _ (h : Environment) (t : IsTied h) (whole : IsWhole h.world) where
           let told : map (option_map cell_holding) cells.items ≡ d.cells ++ Some (holding.atomic_shared other h.world.home.cells) ∷ [] =
           ap (map (option_map cell_holding)) pushed ∙ map_push (option_map cell_holding) h.cells.entries.items (Some (cell.Share y))
           ∙ ap (λ home. d.cells ++ Some (holding.atomic_shared other home) ∷ []) home in
-          does d (At name (call.Copy c g)) (reply.Cell r)
-          (goes {e = after_copied other count} (cc (world, told)) (sound-copied d t.sound whole p c.0 (shared.cell_of x) held live is other count free may)
-          (λ k. rw (home-more held.held count) (t.guards k)))
-          (record {
-            meets = (
-              (valid, is-shared h c.0 x mine),
-              (
-                named ∙ sym (length-map h.cells.entries.items (option_map cell_holding)),
-                (shared.cell_of x, held, is, (count, other, may, free, refl)),
-              ),
-            );
-            dated = dated-copied d t.sound whole p c.0 (shared.cell_of x) held live is other count free may;
-            line = refl;
-            calls = calls-copied d t.sound whole p c.0 (shared.cell_of x) held live is other count free may;
-          })
+          leads h t (At name (call.Copy c g)) (reply.Cell r) refl (cc (world, told))
+          (copied-leaves d t.sound whole p c.0 (shared.cell_of x) held live is other count free may) (
+            (valid, is-shared h c.0 x mine),
+            (
+              named ∙ sym (length-map h.cells.entries.items (option_map cell_holding)),
+              (shared.cell_of x, held, is, (count, other, may, free, refl)),
+            ),
+          )
 
       pub copy-refused : (refused : Refused) → (IsFull h.world.cells × (refused ≡ NoCell)) ⊎ (¬ (IsFull h.world.cells) × (refused ≡ TooManyOwners)
           × IsSome held.held × IfSome held.held (λ slot. IsSharedBy (2 ^ 62) (standing_at h.world slot))) →
@@ -293,7 +267,7 @@ module _ (h : Environment) (t : IsTied h) (whole : IsWhole h.world) where
       entry = named-cell h c.0 x mine
 
       is-cell : IsCell d c.0 (cell_number x) held
-      is-cell = record { named = ap cell_of entry ∙ number-is x; holds = holds }
+      is-cell = record { named = ap cell_of entry ∙ numbered x; holds = holds }
 
       cell-name : IsCellName d c.0
       cell-name = ap is_some is-cell.named
@@ -321,14 +295,8 @@ module _ (h : Environment) (t : IsTied h) (whole : IsWhole h.world) where
           let all = given-taken d d.owners refl x (holding_at d.cells c.0) entry held.held (map (option_map owner_holding) owners.items) r
           (subst (λ z. IsGiven d.owners z (map (option_map owner_holding) owners.items) r) out given) in
           let told = all.0 in
-          does d (At name (call.Into c)) (given_back r)
-          (goes {e = after_taken} (cc (world, told, gone)) (sound-taken d t.sound whole p c.0 (cell_number x) held live is-cell) t.guards)
-          (record {
-            meets = meets-taken r all.1;
-            dated = dated-taken d t.sound whole p c.0 (cell_number x) held live is-cell;
-            line = refl;
-            calls = calls-taken d t.sound whole p c.0 (cell_number x) held live is-cell;
-          })
+          leads h t (At name (call.Into c)) (given_back r) refl (cc (world, told, gone))
+          (taken-leaves d t.sound whole p c.0 (cell_number x) held live is-cell) (meets-taken r all.1)
 
       -- this goes into it, which is of its kind
       module _ (y : Option OwnerName) (tag : Tag) (fits : FitsIn d.owners (cell_kind x) y) where
@@ -352,32 +320,26 @@ module _ (h : Environment) (t : IsTied h) (whole : IsWhole h.world) where
               (subst (λ z. IsGiven z (held_as (cell_kind x) held.held h.world.home.slots) (map (option_map owner_holding) owners.items) r) fills.left
               (subst (λ z. IsGiven between z (map (option_map owner_holding) owners.items) r) out given))
 
-          goes-swapped : Goes (record h { world = w; owners = record { entries = owners } }) after_swapped
-          goes-swapped =
+          -- by any call
+          leads-swapped : (line : Call) (given : Reply) → Meets d line given after_swapped → Does d line given (record h { world = w; owners = record { entries = owners } })
+          leads-swapped line given meets =
               let told = all.0 in
               let into : w ≡ with_cell h.world (cell_number x) (record { held = slot_put d y; tag = tag }) =
-              world ∙ ap (λ o. with_cell h.world (cell_number x) (record { held = o; tag = tag })) (ap slot_of fills.holding ∙ slot-put d y) in
-              goes (cc (into, told)) (sound-swapped d t.sound whole p c.0 (cell_number x) held live is-cell y tag (put-fits d (holding_at d.cells c.0) y put))
-              t.guards
+              world ∙ ap (λ o. with_cell h.world (cell_number x) (record { held = o; tag = tag })) (ap slot_of fills.holding ∙ slot-of-put d y) in
+              leads h t line given refl (cc (into, told))
+              (swapped-leaves d t.sound whole p c.0 (cell_number x) held live is-cell y tag (put-fits d (holding_at d.cells c.0) y put)) meets
 
           pub acts-swapped : (was : Tag) → was ≡ held.tag →
               Does d (At name (call.Swap c y tag)) (reply.Swapped r was) (record h { world = w; owners = record { entries = owners } })
-          acts-swapped was same = does d (At name (call.Swap c y tag)) (reply.Swapped r was) goes-swapped (record {
-            meets = ((is-there h t whole name a there, put), (cell_number x, held, is-cell, all.1, same, refl));
-            dated = dated-swapped d t.sound whole p c.0 (cell_number x) held live is-cell y tag (put-fits d (holding_at d.cells c.0) y put);
-            line = refl;
-            calls = calls-swapped d t.sound whole p c.0 (cell_number x) held live is-cell y tag (put-fits d (holding_at d.cells c.0) y put);
-          })
+          acts-swapped was same =
+              leads-swapped (At name (call.Swap c y tag)) (reply.Swapped r was)
+              ((is-there h t whole name a there, put), (cell_number x, held, is-cell, all.1, same, refl))
 
           pub acts-exchanged : (g : GuardName) (i : Option ItemName) (was : Tag) → HasOpen d n g.0 → CanCompare d n i →
               held ≡ record { held = slot_compared d i; tag = was } →
               Does d (At name (call.Exchange c g i was y tag)) (reply.Exchanged r) (record h { world = w; owners = record { entries = owners } })
-          acts-exchanged g i was valid can same = does d (At name (call.Exchange c g i was y tag)) (reply.Exchanged r) goes-swapped (record {
-            meets = ((valid, can, put), (cell_number x, held, is-cell, same, all.1, refl));
-            dated = dated-swapped d t.sound whole p c.0 (cell_number x) held live is-cell y tag (put-fits d (holding_at d.cells c.0) y put);
-            line = refl;
-            calls = calls-swapped d t.sound whole p c.0 (cell_number x) held live is-cell y tag (put-fits d (holding_at d.cells c.0) y put);
-          })
+          acts-exchanged g i was valid can same =
+              leads-swapped (At name (call.Exchange c g i was y tag)) (reply.Exchanged r) ((valid, can, put), (cell_number x, held, is-cell, same, all.1, refl))
 
         -- it holds something else than the exchange compares with
         pub differs : (g : GuardName) (i : Option ItemName) (was : Tag) (j : Option ItemName) → HasOpen d n g.0 → CanCompare d n i →
@@ -403,7 +365,7 @@ put-home h t None = tt
 put-home h t (Some o) = by (holding_at (desk_of h).owners o.0) refl where
   by : (x : Option OwnerOrCell) → holding_at (desk_of h).owners o.0 ≡ x → IfSome x (holding.IsOf h.world.home)
   by None e = tt
-  by (Some x) e = t.sound.owners_home o.0 x e
+  by (Some x) e = t.sound.home.owners o.0 x e
 
 pub room-kept : (old new : List (Option AnyOwner)) (y : Option OwnerName) →
     map (option_map owner_holding) new ≡ owners_put (map (option_map owner_holding) old) y → length new ≡ length old

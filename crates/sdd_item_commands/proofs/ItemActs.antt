@@ -1,5 +1,5 @@
 -- What the making of an item leaves in hand, and what an item shows: it is sound, and it is what the call means
-use Rattle.std.proofs.Common.{◌≡◌, ℕ, ◌+◌, ◌^◌, ◌<◌, if◌then◌else◌, List, [], ◌∷◌, ◌++◌, Option, Some, None, is_some, map, length, slice_index_or, slice_set, inl, inr, refl, sym, ap, ◌∙◌, subst}
+use Rattle.std.proofs.Common.{◌≡◌, ℕ, ◌+◌, ◌^◌, ◌<◌, List, [], ◌∷◌, ◌++◌, Option, Some, None, is_some, map, length, slice_index_or, slice_set, refl, sym, ap, ◌∙◌, subst}
 use Rattle.std.specs.Prelude.{◌-◌}
 use Rattle.std.specs.Option.{option_map}
 use Rattle.std.specs.Global.{Vec}
@@ -9,8 +9,6 @@ use Rattle.sdd_participants.specs.Slab.{IsEmptyAt}
 use Rattle.sdd_participants.specs.declared.waiting.LimboEntry.TheVariants.{Item}
 use Rattle.sdd_space.specs.declared.owned.Owned.{Owned}
 use Rattle.sdd_space.specs.declared.shared.Shared.{Shared}
-use Rattle.sdd_space.specs.WorldStep.{IsFirst}
-use Rattle.sdd_space.specs.WorldStep.WorldStep.{makes, changes_cells}
 use Rattle.sdd_space.specs.OwnerOrCell.{OwnerOrCell}
 use Rattle.sdd_space.specs.WorldChanges.{made_as, nulled}
 use Rattle.sdd_space.specs.WorldInvariant.{IsWhole}
@@ -40,16 +38,15 @@ use Rattle.sdd_script_model.specs.ScriptState.{ScriptState, opening_at, holding_
 use Rattle.sdd_script_model.specs.Script.{Acts, Meets, HasOpen, IsParticipant, IsThereToPut, IsValid, CanPointTo}
 use Rattle.sdd_script_model.specs.Made.{IsPutIn, RefusesItem, owners_left, put_in}
 use Rattle.sdd_script_model.specs.Script as script
-use Rattle.sdd_script_model.specs.Script.AreCalls.{none as no_call, one_more}
 use Rattle.sdd_script_model.specs.Shown.{RepliesValue, told_of}
 use Rattle.sdd_script_names.specs.Environment.{attending, BecomesBody}
 use Rattle.sdd_space_commands.specs.Owners.{owner_holding}
 use Rattle.sdd_script_names.specs.Interpreter.{desk_of, IsTied}
 use Rattle.sdd_item_commands.specs.Lines.{making}
 use Rattle.sdd_script_model.specs.Held.{standing_first, holding_first}
-use Rattle.sdd_script_model.proofs.Going.{sound-made, dated-made}
+use Rattle.sdd_script_model.proofs.Going.{made-leaves}
 use Rattle.sdd_script_names.proofs.Acts as stage
-use Rattle.sdd_script_names.proofs.Acts.{Does, does, goes, still, place}
+use Rattle.sdd_script_names.proofs.Acts.{Does, leads, still, place}
 
 module _ (h : Environment) (t : IsTied h) (whole : IsWhole h.world) where
   abbrev d : ScriptState
@@ -173,21 +170,9 @@ module _ (h : Environment) (t : IsTied h) (whole : IsWhole h.world) where
           let more_owners : map (option_map owner_holding) owners.items ≡ owners_left d.owners value ++ Some (holding_first own k h.world.home.slots) ∷ [] =
           ap (map (option_map owner_holding)) pushed ∙ map_push (option_map owner_holding) between.items (Some x)
           ∙ ap (λ hs. hs ++ Some (owner_holding x) ∷ []) put.2 ∙ ap (λ z. owners_left d.owners value ++ Some z ∷ []) holding in
-          does d (At name (making own value)) (reply.Item o i)
-          (goes (cc (world, more_owners, longer, written))
-          (sound-made d t.sound whole own value p k c v in_range cell slot body_put link few) t.guards)
-          (record {
-            meets = made-meets o i put.1 cell slot body_put link home
-                (owner_name ∙ sym (length-map h.owners.entries.items (option_map owner_holding))) item_name own refl;
-            dated = dated-made d t.sound whole own value p k c v in_range cell slot body_put link few;
-            line = refl;
-            calls = one_more h.world (nulled h.world c) _
-                (one_more h.world h.world _ (no_call h.world) (changes_cells h.world (nulled h.world c).cells (length-set h.world.cells c _)))
-                (makes (nulled h.world c) k v (standing_first own) (first-is own) slot);
-          }) where
-            first-is : (own : OwnerKind) → IsFirst (standing_first own)
-            first-is ownership.Sole = inl refl
-            first-is ownership.Shared = inr refl
+          leads h t (At name (making own value)) (reply.Item o i) refl (cc (world, more_owners, longer, written))
+          (made-leaves d t.sound whole own value p k c v in_range cell slot body_put link few)
+          (made-meets o i put.1 cell slot body_put link home (owner_name ∙ sym (length-map h.owners.entries.items (option_map owner_holding))) item_name own refl)
 
     pub acts-refused : (own : OwnerKind) (value : Value) (refused : Refused) → IsThereToPut d value → RefusesItem h.world refused →
         Acts d (At name (making own value)) (reply.Refused refused) d

@@ -1,6 +1,5 @@
 pub mod OwnerActs
 pub mod ItemActs
-pub mod MissingItems
 pub mod Making
 pub mod Unshared
 pub mod RawActs

@@ -1,5 +1,5 @@
 -- How an item of a script is made: what goes into it, and its owner
-use Rattle.std.proofs.Common.{◌≡◌, ℕ, List, Option, Some, None, is_some, length, slice_index_or, refl, ap, ◌∙◌}
+use Rattle.std.proofs.Common.{◌≡◌, ℕ, List, Option, Some, None, is_some, length, slice_index_or, refl, sym, ap, ◌∙◌}
 use Rattle.std.specs.Option.{option_map}
 use Rattle.std.proofs.Math.ListN.{get_or-map}
 use Rattle.std.proofs.lemmas.List.{length-set}
@@ -16,13 +16,15 @@ use Rattle.sdd_script_model.specs.declared.owner_kind.OwnerKind.TheVariants as o
 use Rattle.sdd_space_commands.specs.declared.holding.AnyOwner.{AnyOwner}
 use Rattle.sdd_space_commands.specs.declared.holding.AnyOwner.TheVariants.{Sole, Share}
 use Rattle.sdd_script_names.specs.declared.interpreter.Environment.{Environment}
-use Rattle.sdd_script_model.specs.ScriptState.{holding_at, slot_of}
-use Rattle.sdd_script_model.specs.Script.{IsOwnerName, IsThereToPut}
+use Rattle.sdd_script_model.specs.ScriptState.{ScriptState, holding_at, slot_of}
+use Rattle.sdd_script_model.specs.Script.{IsOwnerName, IsParticipant, IsThereToPut, IsValid}
 use Rattle.sdd_space_commands.specs.Owners.{owner_holding}
 use Rattle.sdd_script_names.specs.Interpreter.{desk_of, IsTied}
 use Rattle.sdd_script_names.specs.Environment.{BecomesBody, IsMissing}
 use Rattle.sdd_script_model.specs.Held.{holding_first}
+use Rattle.sdd_item_commands.specs.Lines.{making}
 use Rattle.sdd_script_names.proofs.Acts.{owner-home}
+use Rattle.sdd_script_names.proofs.Missing.{no-owner}
 
 -- the slot of the first owner of an item
 pub first-slot : (own : OwnerKind) (k : ℕ) (home : GhostName) (s : ℕ) → slot_of (Some (holding_first own k home)) ≡ Some s → k ≡ s
@@ -34,7 +36,17 @@ pub becomes-long : (owners new : List (Option AnyOwner)) (value : Value) (b : Bo
 becomes-long owners new (Number n) b becomes = ap length becomes.1
 becomes-long owners new (Of o) b becomes = ap length becomes.3 ∙ length-set owners o.0 None
 
+-- who makes an item is there, and so is what its value takes
+pub valid-making : (d : ScriptState) (n : ℕ) (own : OwnerKind) (value : Value) → IsValid d n (making own value) → IsParticipant d n × IsThereToPut d value
+valid-making d n ownership.Sole value valid = valid
+valid-making d n ownership.Shared value valid = valid
+
 module _ (h : Environment) where
+  -- what is missing is not there
+  pub none-to-put : (value : Value) → IsMissing h.owners.entries.items value → ¬ (IsThereToPut (desk_of h) value)
+  none-to-put (Number n) missing there = missing
+  none-to-put (Of o) missing there = no-owner h o.0 (sym missing) there
+
   -- what a value takes is there, where it is not missing
   pub there-to-put : (value : Value) → ¬ (IsMissing h.owners.entries.items value) → IsThereToPut (desk_of h) value
   there-to-put (Number n) there = tt

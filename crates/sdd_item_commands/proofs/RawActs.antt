@@ -39,13 +39,13 @@ use Rattle.sdd_script_names.specs.declared.participants.NamedParticipant.{NamedP
 use Rattle.sdd_script_names.specs.declared.interpreter.Environment.{Environment}
 use Rattle.sdd_script_names.specs.Environment.{attending, dated_if_waiting, CanPointAt}
 use Rattle.sdd_space_commands.specs.Owners.{owner_holding}
-use Rattle.sdd_script_names.specs.Interpreter.{desk_of, GuardsIn, IsTied}
+use Rattle.sdd_script_names.specs.Interpreter.{desk_of, IsTied}
 use Rattle.sdd_script_model.proofs.CellGoing.{dates_spilled}
-use Rattle.sdd_script_model.proofs.InPlaceGoing.{calls-raw, dated-raw, sound-raw, calls-back, dated-back, sound-back, calls-put, dated-put, sound-put, after_drop, drop-leaves, value-held-out}
+use Rattle.sdd_script_model.proofs.InPlaceGoing.{raw-leaves, back-leaves, put-leaves, after_drop, drop-leaves, value-held-out}
 use Rattle.sdd_script_model.proofs.Stocked.{slot-inside}
 use Rattle.sdd_script_model.proofs.Counting.{out-there}
 use Rattle.std.specs.Prelude.{IfSome, ◌<◌}
-use Rattle.sdd_script_names.proofs.Acts.{Does, does, goes, still, is, is-there, in_range, named-owner, owner-spent, owner-more}
+use Rattle.sdd_script_names.proofs.Acts.{Does, leads, still, is, is-there, in_range, named-owner, owner-spent, owner-more}
 use Rattle.sdd_script_names.proofs.Missing.{invalid}
 
 -- what is told of a slot's dates is the same
@@ -122,14 +122,9 @@ module _ (h : Environment) (t : IsTied h) (whole : IsWhole h.world) (name : Plac
       let entry = named-owner h t whole o.0 (Sole x) mine in
       let gone = owner-spent h t whole owners o.0 taken in
       let live = in_range h t whole name a there in
-      does d (At name (call.Raw o)) (reply.Raw i)
-      (goes (cc (world, gone)) (sound-raw d t.sound whole p k live o.0 (ap sole_slot entry) stands) t.guards)
-      (record {
-        meets = ((is-there h t whole name a there, ap (λ s. is_some (sole_slot s)) entry), (k, ap sole_slot entry, ap (λ n. record i { 0 = n }) named, refl));
-        dated = dated-raw d t.sound whole p k live o.0 (ap sole_slot entry) stands;
-        line = refl;
-        calls = calls-raw d t.sound whole p k live o.0 (ap sole_slot entry) stands;
-      })
+      leads h t (At name (call.Raw o)) (reply.Raw i) refl (cc (world, gone))
+      (raw-leaves d t.sound whole p k live o.0 (ap sole_slot entry) stands)
+      ((is-there h t whole name a there, ap (λ s. is_some (sole_slot s)) entry), (k, ap sole_slot entry, ap (λ n. record i { 0 = n }) named, refl))
 
   -- ---- and comes back
   pub acts-back : (i : ItemName) (r : OwnerName) (w : World Val) (owners : Vec (Option AnyOwner)) (x : Owned Val) → IsThere d i.0 →
@@ -141,17 +136,8 @@ module _ (h : Environment) (t : IsTied h) (whole : IsWhole h.world) (name : Plac
       let live = in_range h t whole name a there in
       let told = owner-more h t whole owners (Sole x) pushed ∙ ap (λ z. d.owners ++ Some (holding.owned z (owned.slots_home x)) ∷ []) slot
       ∙ ap (λ z. d.owners ++ Some (holding.owned k z) ∷ []) home in
-      does d (At name (call.Unraw i)) (reply.Owner r)
-      (goes (cc (world, told)) (sound-back d t.sound whole p k live raw) t.guards)
-      (record {
-        meets = (
-          (is-there h t whole name a there, is_there),
-          (raw, (named ∙ sym (length-map h.owners.entries.items (option_map owner_holding)), refl)),
-        );
-        dated = dated-back d t.sound whole p k live raw;
-        line = refl;
-        calls = calls-back d t.sound whole p k live raw;
-      })
+      leads h t (At name (call.Unraw i)) (reply.Owner r) refl (cc (world, told)) (back-leaves d t.sound whole p k live raw)
+      ((is-there h t whole name a there, is_there), (raw, (named ∙ sym (length-map h.owners.entries.items (option_map owner_holding)), refl)))
 
   pub none-back : (i : ItemName) → IsThere d i.0 → ¬ (IsRaw d i.0) → Meets d (At name (call.Unraw i)) reply.Nothing d
   none-back i is_there other = ((is-there h t whole name a there, is_there), (other, refl))
@@ -193,15 +179,8 @@ module _ (h : Environment) (t : IsTied h) (whole : IsWhole h.world) (name : Plac
         let live = in_range h t whole name a there in
         let one : Some v ≡ Some puts.was = sym shown ∙ puts.there in
         let was : body_of puts.was ≡ body.Number m = (let value : v ≡ puts.was = cc in ap body_of (sym value) ∙ is_number) in
-        does d (At name (call.Put o number)) reply.Done
-        (goes (cc same) (sound-put d t.sound whole p k live number m w may puts was)
-        (λ g. subst (λ (u : World Val). GuardsIn u.home.readers d.places (slice_index_or h.guards.entries.items g None)) (sym puts.put) (t.guards g)))
-        (record {
-          meets = ((is-there h t whole name a there, owns k v slot shown m is_number), (k, w, ap slot_of entry ∙ slot, may, puts, refl));
-          dated = dated-put d t.sound whole p k live number m w may puts was;
-          line = refl;
-          calls = calls-put d t.sound whole p k live number m w may puts was;
-        })
+        leads h t (At name (call.Put o number)) reply.Done refl (cc same) (put-leaves d t.sound whole p k live number m w may puts was)
+        ((is-there h t whole name a there, owns k v slot shown m is_number), (k, w, ap slot_of entry ∙ slot, may, puts, refl))
 
     pub put-refused : (number k m : ℕ) (v : Val) (e : Refused) → slot_of (Some (owner_holding x)) ≡ Some k → value_at h.world k ≡ Some v →
         body_of v ≡ body.Number m → RefusedInPlace h.world k e → Meets d (At name (call.Put o number)) (reply.Refused e) d
@@ -229,10 +208,7 @@ module _ (h : Environment) (t : IsTied h) (whole : IsWhole h.world) (name : Plac
         let left = drop-leaves d t.sound whole p live o.0 k v shown (owner_holding x) given w entry slot did in
         let gone = owner-spent h t whole owners o.0 taken in
         let now : dates.items ≡ dates_spilled d w (slot_held (body_of v)) = become ∙ dated-spilled d w (slot_held (body_of v)) in
-        does d (At name (call.Drop o)) given
-        (goes (cc (gone, now)) left.sound
-        (λ g. subst (λ z. GuardsIn z.readers d.places (slice_index_or h.guards.entries.items g None)) (sym left.home) (t.guards g)))
-        (record { meets = by (owner_holding x) given did refl; dated = left.dated; line = refl; calls = left.calls }) where
+        leads h t (At name (call.Drop o)) given refl (cc (gone, now)) left (by (owner_holding x) given did refl) where
           said : Reply → Type 0
           said r = Meets d (At name (call.Drop o)) r (after_drop d t.sound whole p (in_range h t whole name a there) o.0 k v shown w)
 

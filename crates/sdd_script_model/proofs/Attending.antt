@@ -18,7 +18,7 @@ use Rattle.sdd_space.proofs.Housed.{live-is, ended-lives, registered-live, regis
 use Rattle.sdd_space.proofs.Nesting.{one-if, none-if, guards-closed, guards-registered, still-live}
 use Rattle.sdd_script_model.specs.ScriptState as desk
 use Rattle.sdd_script_model.specs.ScriptState.{IsStart, in_world}
-use Rattle.sdd_script_model.proofs.Terms.{◌≡◌, ◌≢◌, ◌⊎◌, ℕ, suc, ◌+◌, ◌<◌, ◌≤◌, ◌==◌, Bool, true, false, nat_lt, if◌then◌else◌, List, [], ◌∷◌, ◌++◌, Option, Some, None, IsSome, is_some, map, length, count_by, slice_index_or, slice_set, inl, inr, refl, sym, ap, ◌∙◌, subst, lt-ltb, arith, IsTrue, cases_eq, false≢true, length-set, Item, EpochState, IsLive, IsVacant, is_open, nobody, phase_at, due_next, Participant, Standing, World, IsPlaceOf, place_at, standing_at, retired, owner_given, cell_closed, opened, Val, holdings_of, ScriptState, OpenSince, opening_at, later, ParticipantsMatch, is_of, at-same, at-other, at-pushed, at-end, at-default, as-each, inside}
+use Rattle.sdd_script_model.proofs.Terms.{◌≡◌, ◌≢◌, ◌⊎◌, ℕ, suc, ◌+◌, ◌<◌, ◌≤◌, ◌==◌, Bool, true, false, if◌then◌else◌, List, [], ◌∷◌, ◌++◌, Option, Some, None, IsSome, is_some, map, length, count_by, slice_index_or, slice_set, inl, inr, refl, sym, ap, ◌∙◌, subst, lt-ltb, arith, IsTrue, cases_eq, false≢true, length-set, Item, EpochState, IsLive, IsVacant, is_open, nobody, phase_at, due_next, Participant, Standing, World, IsPlaceOf, place_at, standing_at, retired, owner_given, cell_closed, opened, Val, holdings_of, ScriptState, OpenSince, opening_at, later, ParticipantsMatch, is_of, at-same, at-other, at-pushed, at-end, at-default, as-each, inside}
 
 -- ---- what stands in a list of names
 
@@ -257,13 +257,6 @@ module _ (d : ScriptState) (a : ParticipantsMatch d) where
   -- no guard is open at a place that is nobody's
   pub shut : (p : ℕ) → ((n : ℕ) (x : OpenSince) → opening_at d.places n ≡ Some x → x.place ≢ p) → (place_at d.world p).guards ≡ 0
   shut p nobodys = a.opened p ∙ none-of d.guards p (λ g y e same. let who = a.since g y e in nobodys who.0 who.1 who.2 (who.3 ∙ same))
-
-  -- where all guards are closed none is open
-  pub none-open : ((g : ℕ) → opening_at d.guards g ≡ None) → (p : ℕ) → IsTrue (is_open (place_at d.world p)) → ⊥
-  none-open all p o =
-      let none : (place_at d.world p).guards ≡ 0 =
-      a.opened p ∙ none-of d.guards p (λ g y e. let never : None ≡ Some y = sym (all g) ∙ e in absurd (cc)) in
-      false≢true (sym (ap (nat_lt 0) none) ∙ o)
 
   -- ---- a participant registers at a place that nobody has
   module _ (p : ℕ) (vacant : IsVacant d.world.time p) (phased : length d.world.time.phases ≡ length d.world.time.places) where

@@ -1,6 +1,6 @@
 -- What a list has at each number, after one entry of it is replaced or pushed
 use Rattle.std.proofs.lemmas.List.{set_past, set-get_or, get_or_push}
-use Rattle.std.proofs.Common.{◌≡◌, ◌≢◌, ℕ, ◌<◌, ◌≤◌, List, [], ◌∷◌, ◌++◌, Option, Some, None, IsSome, is_some, length, slice_index_or, slice_set, refl, sym, ap, ◌∙◌, arith}
+use Rattle.std.proofs.Common.{◌≡◌, ◌≢◌, ◌⊎◌, inl, inr, ℕ, zero, suc, ◌<◌, List, [], ◌∷◌, ◌++◌, Option, Some, None, IsSome, is_some, length, slice_index_or, slice_set, refl, sym, ap, ◌∙◌, arith}
 use Rattle.std.proofs.lemmas.Bool.{false≢true}
 use Rattle.std.proofs.lemmas.Grind.{common_steps}
 pub use Rattle.std.proofs.lemmas.List.{get_or-set_same as at-same, get_or-set_other as at-other}
@@ -38,10 +38,15 @@ pub record IsSpentTo {E : Type 0} (k n : ℕ) (xs : List (Option E)) : Type 0 wh
   pub spent : (j : ℕ) → j < k → slice_index_or xs j None ≡ None
   pub long : length xs ≡ n
 
--- all is spent, up to the end
-pub spent-all : {E : Type 0} (k n : ℕ) (xs : List (Option E)) → n ≤ k → IsSpentTo k n xs → (j : ℕ) → slice_index_or xs j None ≡ None
-spent-all k n xs all to j = let to_k = to.spent j in let long = to.long in grind (arith, common_steps)
-
 -- to spend what is spent changes nothing
 pub spent_twice : {E : Type 0} (xs : List (Option E)) (k : ℕ) → slice_index_or xs k None ≡ None → xs ≡ slice_set xs k None
 spent_twice xs k none = sym (rw none at (set-get_or xs k None))
+
+-- where a list was written it has what was written there, or what it had
+pub set-either : {E : Type 0} (xs : List E) (k j : ℕ) (x d : E) →
+    (slice_index_or (slice_set xs k x) j d ≡ x) ⊎ (slice_index_or (slice_set xs k x) j d ≡ slice_index_or xs j d)
+set-either [] k j x d = inr refl
+set-either (y ∷ ys) zero zero x d = inl refl
+set-either (y ∷ ys) zero (suc j) x d = inr refl
+set-either (y ∷ ys) (suc k) zero x d = inr refl
+set-either (y ∷ ys) (suc k) (suc j) x d = set-either ys k j x d

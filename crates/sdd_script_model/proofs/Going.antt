@@ -1,28 +1,33 @@
 -- What is always true of a desk is true after each call
-use Rattle.std.proofs.Common.{◌≡◌, ℕ, zero, suc, ◌+◌, ◌^◌, ◌<◌, ◌≤◌, Bool, true, false, nat_lt, if◌then◌else◌, List, [], ◌∷◌, ◌++◌, Option, Some, None, IsSome, is_some, map, length, count_by, slice_index, slice_index_or, slice_set, inl, inr, refl, sym, ap, ◌∙◌, subst, arith}
+use Rattle.std.proofs.Common.{◌≡◌, ℕ, zero, suc, ◌+◌, ◌^◌, ◌<◌, ◌≤◌, Bool, true, false, nat_lt, if◌then◌else◌, List, Option, Some, None, IsSome, map, length, count_by, slice_index, slice_index_or, slice_set, inl, inr, refl, sym, ap, ◌∙◌, arith}
 use Rattle.std.specs.Prelude.{All, Contains, IsTrue, replicate, ◌↔◌}
 use Rattle.std.specs.List.Sorted.{IsPermutation, IsNonDecreasingBy, IsStrictlyIncreasing}
-use Rattle.std.proofs.lemmas.List.{length-set, length-replicate}
+use Rattle.std.proofs.lemmas.List.{length_push, length-replicate}
 use Rattle.std.proofs.lemmas.Bool.Decides.{nat_tests}
+use Rattle.std.proofs.lemmas.Bool.{cases_eq}
+use Rattle.sdd_participants.specs.EpochState.{EpochState}
 use Rattle.sdd_participants.specs.Slab.{IsEmptyAt, entry_at}
 use Rattle.sdd_participants.specs.EpochState.{IsVacant, is_open}
 use Rattle.sdd_participants.specs.declared.waiting.LimboEntry.TheVariants.{Item, Job}
 use Rattle.sdd_participants.specs.declared.standing.Standing.TheVariants as standing
 use Rattle.sdd_standings.specs.Slots.{IsSharedBy, is_waiting}
-use Rattle.sdd_space.specs.WorldStep.{IsFirst}
-use Rattle.sdd_space.specs.WorldStep.WorldStep.{registers, ends, closes, stirs, accelerates, shares, retires, releases, defers}
-use Rattle.sdd_space.specs.OwnerOrCell.{OwnerOrCell, SpaceId, IsOf}
+use Rattle.sdd_space.specs.Ledger.{Claim, owner_of, right_to, Keeps, claims, nothing, one}
+use Rattle.sdd_space.specs.Ledger.Moves.{opens, stirs, accelerates, makes, shares, retires, releases, makes_cell}
+use Rattle.sdd_space.specs.WorldStep.{IsFirst, WorldStep}
+use Rattle.sdd_space.specs.WorldStep.WorldStep.{registers, ends, closes, defers, makes as makes_item}
+use Rattle.sdd_space.specs.OwnerOrCell.{OwnerOrCell, IsOf}
 use Rattle.sdd_space.specs.OwnerOrCell as holding
 use Rattle.sdd_space.specs.Out.{is_out}
-use Rattle.sdd_space.specs.WorldChanges.{registered, ended, opened, reclaims, made_as, nulled, retired, closed, stirred, accelerated, deferred, owner_given, with_standing}
+use Rattle.sdd_space.specs.WorldChanges.{registered, ended, opened, reclaims, made_as, nulled, retired, closed, stirred, accelerated, deferred, held_in, owner_given, with_standing}
 use Rattle.sdd_space.specs.UnderGuards.{CannotGo}
 use Rattle.sdd_space.specs.WorldInvariant.{IsWhole}
 use Rattle.sdd_core.specs.declared.limits.Limits.{Limits}
 use Rattle.sdd_core.specs.Limits.{AreInRange}
 use Rattle.sdd_space.specs.World.{IsPlaceOf, place_at, standing_at, value_at}
 use Rattle.sdd_space.specs.OwnerCounts.{times_held}
-use Rattle.sdd_space.proofs.Accounts.{accounted-as, accounted-blank}
 use Rattle.sdd_participants.specs.declared.tally.Tally.{Tally}
+use Rattle.sdd_space.proofs.Ledger.{ledger-laws}
+use Rattle.sdd_space.proofs.Sheds.{sheds-opened}
 use Rattle.sdd_script_text.specs.declared.name.ItemName.{ItemName}
 use Rattle.sdd_script_text.specs.declared.name.JobName.{JobName}
 use Rattle.sdd_script_text.specs.declared.call.Value.{Value}
@@ -31,28 +36,29 @@ use Rattle.sdd_script_model.specs.declared.val.Val.{Val}
 use Rattle.sdd_script_model.specs.declared.owner_kind.OwnerKind.{OwnerKind}
 use Rattle.sdd_script_model.specs.declared.owner_kind.OwnerKind.TheVariants as ownership
 use Rattle.sdd_script_model.specs.Val.{holdings_of, body_of, link_of}
-use Rattle.sdd_script_model.specs.ScriptState.{ScriptState, OpenSince, BeginsLine, IsDated, IsStart, IsThere, WaitsAt, date_at, job_date_at, opening_at, holding_at, cell_of, collector_of, slot_at, slot_of, sole_slot, shared_slot, in_world, with_guard, with_newcomer, without_participant, without_guard, with_owner, without_owner, with_item, with_job, later}
+use Rattle.sdd_script_model.specs.ScriptState.{ScriptState, OpenSince, BeginsLine, IsDated, IsStart, IsThere, WaitsAt, date_at, job_date_at, opening_at, holding_at, slot_at, slot_of, sole_slot, shared_slot, in_world, with_guard, with_newcomer, without_participant, without_guard, with_owner, without_owner, with_item, with_job, later}
+use Rattle.sdd_script_model.specs.Script.AreCalls.{none as no_call, one_more}
 use Rattle.sdd_script_model.specs.Made.{IsPutIn, owners_left, put_in}
 use Rattle.sdd_script_model.specs.Shown.{item_in, job_in}
-use Rattle.sdd_script_model.specs.Sound.{IsSound, AreDeferred, Keeper, Keeps, named_owners, owns}
-use Rattle.sdd_script_model.specs.Sound.Keeper.{value_in, name_of, collector_named}
+use Rattle.sdd_script_model.specs.Sound.{IsSound, LinksAreBare, ParticipantsMatch, has_right, named, named_among, owns}
 use Rattle.sdd_script_model.specs.Held.{owners_in, slots_among, places_among, standing_first, holding_first, waits_among}
-use Rattle.sdd_script_model.proofs.Entry.{not-free}
-use Rattle.sdd_script_model.proofs.Stocked.{stocked-as, stocked-made, no_slot-same, no_slot-standing, no_slot-retired, no_slot-given, no_slot-opened}
-use Rattle.sdd_script_model.proofs.Keepers.{keepers-as, keepers-made, keepers-opened, given-same}
-use Rattle.sdd_script_model.proofs.Attending.{pushed-entry, left-entry, keeps-time, keeps-retired, keeps-deferred, keeps-owner_given, keeps-stirred, keeps-accelerated, attended-acts, attended-later, attended-start, attended-registered, attended-ended, attended-closed, attended-opened}
+use Rattle.sdd_script_model.proofs.Entry.{at-other, at-same, not-free}
+use Rattle.sdd_script_model.proofs.Stocked.{stocked-as, stocked-made, slots-same, slots-opened}
+use Rattle.sdd_script_model.proofs.Links.{bare-shed, holds-so, less-shed, null}
+use Rattle.sdd_script_model.proofs.Frames.{Passes, passes-on}
+use Rattle.sdd_script_model.proofs.Chains.{AtHome, IsMidway, LeavesSound, at_home-given, at_home-spent, finishes, moves, sound-after, starts}
+use Rattle.sdd_script_model.proofs.Attending.{keeps-time, keeps-deferred, attended-acts, attended-later, attended-start, attended-registered, attended-ended, attended-closed, attended-opened}
 use Rattle.sdd_script_model.proofs.Attending as attending
 use Rattle.sdd_script_model.proofs.Kept as kept
-use Rattle.sdd_script_model.proofs.Kept.{kept-call, kept-made, kept-later, kept-start, kept-opened, were-same, were-registered, were-ended, were-closed, unguarded}
+use Rattle.sdd_script_model.proofs.Kept.{WereOpen, kept-call, kept-later, kept-start, kept-opened, were-same, were-registered, were-ended, were-closed, unguarded}
 use Rattle.sdd_script_model.proofs.Dates.{first-waits-not, dated-same, dated-stands, early-dated, early-later, early-start, begins-line}
 use Rattle.sdd_script_model.proofs.Dates as dates
-use Rattle.sdd_script_model.proofs.Counting.{puts-number, puts-owner, times_in, counted-made, counted-retired, counted-released, counted-shared, counted-opened}
-use Rattle.sdd_script_model.proofs.Layers.{told-made, layered-given, layered-opened, layered-made}
-use Rattle.sdd_script_model.proofs.Gone.{counts-given, counts-opened}
+use Rattle.sdd_script_model.proofs.Counting.{accounts, owner-given, owner-spent, value-spent}
+use Rattle.sdd_script_model.proofs.Layers.{filled-long, layered-less, layered-made}
 use Rattle.sdd_script_model.proofs.Gone as gone
-use Rattle.sdd_script_model.proofs.Deferred.{jobs-given, deferred-more, deferred-opened}
+use Rattle.sdd_script_model.proofs.Deferred.{deferred-more, deferred-opened}
 use Rattle.sdd_script_model.proofs.Deferred as jobs
-use Rattle.sdd_script_model.proofs.JobDates.{job_dates-call, job_dates-made, job_dates-deferred, job_dates-opened, job_dates-later, job_dates-start}
+use Rattle.sdd_script_model.proofs.JobDates.{job_dates-call, job_dates-deferred, job_dates-opened, job_dates-later, job_dates-start}
 use Rattle.sdd_script_model.proofs.JobDates as job_dates
 
 -- an owner, of either kind
@@ -71,20 +77,6 @@ shared-is (Some (holding.shared j home)) k e = (holding.shared j home, refl, e)
 shared-is (Some (holding.atomic_owned c home)) k e = absurd (cc)
 shared-is (Some (holding.atomic_shared c home)) k e = absurd (cc)
 shared-is (Some (holding.atomic_raw c home)) k e = absurd (cc)
-
--- what has a name is at home
-abbrev pub AtHome : SpaceId → List (Option OwnerOrCell) → Type 0
-AtHome home hs = (n : ℕ) (h : OwnerOrCell) → holding_at hs n ≡ Some h → IsOf home h
-
-pub at_home-spent : (home : SpaceId) (hs : List (Option OwnerOrCell)) (o : ℕ) → AtHome home hs → AtHome home (slice_set hs o None)
-at_home-spent home hs o all n h e = all n h (left-entry hs o n h e).1
-
-pub at_home-given : (home : SpaceId) (hs : List (Option OwnerOrCell)) (x : OwnerOrCell) → IsOf home x → AtHome home hs → AtHome home (hs ++ Some x ∷ [])
-at_home-given home hs x own all n h e =
-    elim (pushed-entry hs x h n e) [
-      | inl last ↦ subst (IsOf home) last.1 own
-      | inr was ↦ all n h was
-    ]
 
 -- a shared owner is the last one
 last-or-not : {X : Type 0} (b : Bool) (count : ℕ) (x y : X) → 1 ≤ count → (IsTrue b ↔ (count ≡ 1)) →
@@ -105,152 +97,103 @@ module _ (d : ScriptState) (s : IsSound d) where
   can-point n k x there o taken since = kept.can-point d s.kept n k x there o taken since
 
   module _ (whole : IsWhole d.world) where
-    pub sound-stirred : (p : ℕ) → IsPlaceOf d.world p → IsSound (in_world d (stirred d.world p))
-    sound-stirred p live = record {
-      stocked = stocked-as d new s.stocked refl refl refl (no_slot-same d.world new.world refl);
-      cells = keepers-as d new s.cells refl refl refl refl;
-      layered = s.layered;
-      accounts = s.accounts;
-      owners_home = s.owners_home;
-      cells_home = s.cells_home;
-      collectors_home = s.collectors_home;
-      attended = attended-acts d new s.attended (keeps-stirred d.world p) refl refl (omega arith) p live;
-      kept = kept-call d new s.kept dated whole (stirs d.world p live) (were-same d new refl (keeps-stirred d.world p).guards);
-      early = early-dated d new dated (omega arith) s.early;
-      made = s.made;
-      deferred = s.deferred;
-      jobs = job_dates-call d new s.jobs refl refl (were-same d new refl (keeps-stirred d.world p).guards) refl (stirs d.world p live);
-      few = s.few;
-    } where
-      new : ScriptState
-      new = in_world d (stirred d.world p)
+    homes : AtHome d.world.home d.owners × AtHome d.world.home d.cells × AtHome d.world.home d.collectors
+    homes = (s.home.owners, s.home.cells, s.home.collectors)
 
-      dated : IsDated d new
-      dated = dated-same d new refl refl
+    -- ---- calls with nothing in hand
 
-    pub sound-accelerated : (p : ℕ) → IsPlaceOf d.world p → IsSound (in_world d (accelerated d.world p))
-    sound-accelerated p live = record {
-      stocked = stocked-as d new s.stocked refl refl refl (no_slot-same d.world new.world refl);
-      cells = keepers-as d new s.cells refl refl refl refl;
-      layered = s.layered;
-      accounts = s.accounts;
-      owners_home = s.owners_home;
-      cells_home = s.cells_home;
-      collectors_home = s.collectors_home;
-      attended = attended-acts d new s.attended (keeps-accelerated d.world p) refl refl (omega arith) p live;
-      kept = kept-call d new s.kept dated whole (accelerates d.world p live) (were-same d new refl (keeps-accelerated d.world p).guards);
-      early = early-dated d new dated (omega arith) s.early;
-      made = s.made;
-      deferred = s.deferred;
-      jobs = job_dates-call d new s.jobs refl refl (were-same d new refl (keeps-accelerated d.world p).guards) refl (accelerates d.world p live);
-      few = s.few;
-    } where
-      new : ScriptState
-      new = in_world d (accelerated d.world p)
+    pub stirred-leaves : (p : ℕ) → IsPlaceOf d.world p → LeavesSound d (in_world d (stirred d.world p))
+    stirred-leaves p live =
+        finishes d (stirred d.world p) d.owners d.cells d.collectors d.dates s
+        (moves (starts d s whole) (stirs d.world p live) tt (named d) (λ u. omega arith) (λ u never. absurd never))
+        (λ u. omega arith) homes (dated-same d _ refl refl) p live
 
-      dated : IsDated d new
-      dated = dated-same d new refl refl
+    pub accelerated-leaves : (p : ℕ) → IsPlaceOf d.world p → LeavesSound d (in_world d (accelerated d.world p))
+    accelerated-leaves p live =
+        finishes d (accelerated d.world p) d.owners d.cells d.collectors d.dates s
+        (moves (starts d s whole) (accelerates d.world p live) tt (named d) (λ u. omega arith) (λ u never. absurd never))
+        (λ u. omega arith) homes (dated-same d _ refl refl) p live
+
+    -- ---- who is there changes, and the time: no item, no cell, no job, and no name of one
+    module _ (t : EpochState) (places guards : List (Option OpenSince)) where
+      abbrev met : ScriptState
+      met = record d { world = record d.world { time = t }; places = places; guards = guards }
+
+      sound-met : ParticipantsMatch met → WereOpen d met → WorldStep holdings_of d.world met.world → IsSound met
+      sound-met attended were call =
+          let dated = dated-same d met refl refl in
+          record {
+            stocked = stocked-as d met s.stocked refl refl refl (slots-same d.world met.world refl refl refl);
+            ledger = s.ledger;
+            bare = s.bare;
+            layered = s.layered;
+            home = record { owners = s.home.owners; cells = s.home.cells; collectors = s.home.collectors };
+            attended = attended;
+            kept = kept-call d met s.kept dated whole call were;
+            early = early-dated d met dated (omega arith) s.early;
+            made = s.made;
+            deferred = s.deferred;
+            jobs = job_dates-call d met s.jobs refl refl were refl call;
+            few = s.few;
+          }
 
     pub sound-registered : (p : ℕ) → IsVacant d.world.time p → IsSound (in_world (with_newcomer d p) (registered d.world p))
-    sound-registered p vacant = record {
-      stocked = stocked-as d new s.stocked refl refl refl (no_slot-same d.world new.world refl);
-      cells = keepers-as d new s.cells refl refl refl refl;
-      layered = s.layered;
-      accounts = s.accounts;
-      owners_home = s.owners_home;
-      cells_home = s.cells_home;
-      collectors_home = s.collectors_home;
-      attended = attended-registered d s.attended p vacant whole.housed.lengths new refl refl refl (omega arith);
-      kept = kept-call d new s.kept dated whole (registers d.world p vacant) (were-registered d new s.attended p vacant whole.housed.lengths refl refl);
-      early = early-dated d new dated (omega arith) s.early;
-      made = s.made;
-      deferred = s.deferred;
-      jobs = job_dates-call d new s.jobs refl refl (were-registered d new s.attended p vacant whole.housed.lengths refl refl) refl
-          (registers d.world p vacant);
-      few = s.few;
-    } where
-      new : ScriptState
-      new = in_world (with_newcomer d p) (registered d.world p)
-
-      dated : IsDated d new
-      dated = dated-same d new refl refl
+    sound-registered p vacant =
+        let new : ScriptState = in_world (with_newcomer d p) (registered d.world p) in
+        sound-met new.world.time new.places d.guards
+        (attended-registered d s.attended p vacant whole.housed.lengths new refl refl refl (omega arith))
+        (were-registered d new s.attended p vacant whole.housed.lengths refl refl) (registers d.world p vacant)
 
     pub sound-ended : (n : ℕ) (x : OpenSince) → opening_at d.places n ≡ Some x → (IsTrue (is_open (place_at d.world x.place)) → ⊥) →
         IsSound (in_world (without_participant d n) (ended d.world x.place))
-    sound-ended n x there shut = record {
-      stocked = stocked-as d new s.stocked refl refl refl (no_slot-same d.world new.world refl);
-      cells = keepers-as d new s.cells refl refl refl refl;
-      layered = s.layered;
-      accounts = s.accounts;
-      owners_home = s.owners_home;
-      cells_home = s.cells_home;
-      collectors_home = s.collectors_home;
-      attended = attended-ended d s.attended n x there shut new refl refl refl (omega arith);
-      kept = kept-call d new s.kept dated whole (ends d.world x.place (s.attended.inside n x there) shut) (were-ended d new s.attended n x.place refl refl);
-      early = early-dated d new dated (omega arith) s.early;
-      made = s.made;
-      deferred = s.deferred;
-      jobs = job_dates-call d new s.jobs refl refl (were-ended d new s.attended n x.place refl refl) refl
-          (ends d.world x.place (s.attended.inside n x there) shut);
-      few = s.few;
-    } where
-      new : ScriptState
-      new = in_world (without_participant d n) (ended d.world x.place)
-
-      dated : IsDated d new
-      dated = dated-same d new refl refl
+    sound-ended n x there shut =
+        let new : ScriptState = in_world (without_participant d n) (ended d.world x.place) in
+        sound-met new.world.time new.places d.guards (attended-ended d s.attended n x there shut new refl refl refl (omega arith))
+        (were-ended d new s.attended n x.place refl refl) (ends d.world x.place (s.attended.inside n x there) shut)
 
     pub sound-closed : (g p : ℕ) (y : OpenSince) → opening_at d.guards g ≡ Some y → y.place ≡ p → IsPlaceOf d.world p →
         IsSound (in_world (without_guard d g) (closed d.world p))
-    sound-closed g p y there same live = record {
-      stocked = stocked-as d new s.stocked refl refl refl (no_slot-same d.world new.world refl);
-      cells = keepers-as d new s.cells refl refl refl refl;
-      layered = s.layered;
-      accounts = s.accounts;
-      owners_home = s.owners_home;
-      cells_home = s.cells_home;
-      collectors_home = s.collectors_home;
-      attended = attended-closed d s.attended g p y there same new refl refl refl (omega arith);
-      kept = kept-call d new s.kept dated whole (closes d.world p live) (were-closed d new s.attended g p y there same refl refl);
-      early = early-dated d new dated (omega arith) s.early;
-      made = s.made;
-      deferred = s.deferred;
-      jobs = job_dates-call d new s.jobs refl refl (were-closed d new s.attended g p y there same refl refl) refl (closes d.world p live);
-      few = s.few;
-    } where
-      new : ScriptState
-      new = in_world (without_guard d g) (closed d.world p)
-
-      dated : IsDated d new
-      dated = dated-same d new refl refl
+    sound-closed g p y there same live =
+        let new : ScriptState = in_world (without_guard d g) (closed d.world p) in
+        sound-met new.world.time d.places new.guards (attended-closed d s.attended g p y there same new refl refl refl (omega arith))
+        (were-closed d new s.attended g p y there same refl refl) (closes d.world p live)
 
     -- ---- a job is deferred
     module _ (p k : ℕ) (live : IsPlaceOf d.world p) (free : IsEmptyAt d.world.jobs k) where
       abbrev pub after_deferred : ScriptState
       after_deferred = in_world (with_job d k) (deferred d.world p k)
 
-      pub dated-deferred : IsDated d after_deferred
+      dated-deferred : IsDated d after_deferred
       dated-deferred = dated-same d after_deferred refl refl
 
-      pub sound-deferred : d.jobs < d.moment → IsSound after_deferred
+      sound-deferred : d.jobs < d.moment → IsSound after_deferred
       sound-deferred few =
           let keeps = keeps-deferred d.world p k in
+          let were = were-same d after_deferred refl keeps.guards in
           record {
-            stocked = stocked-as d after_deferred s.stocked refl refl refl (no_slot-same d.world after_deferred.world refl);
-            cells = keepers-as d after_deferred s.cells refl refl refl refl;
+            stocked = stocked-as d after_deferred s.stocked refl refl refl (slots-same d.world after_deferred.world refl refl refl);
+            ledger = s.ledger;
+            bare = s.bare;
             layered = s.layered;
-            accounts = s.accounts;
-            owners_home = s.owners_home;
-            cells_home = s.cells_home;
-            collectors_home = s.collectors_home;
+            home = record { owners = s.home.owners; cells = s.home.cells; collectors = s.home.collectors };
             attended = attended-acts d after_deferred s.attended keeps refl refl (omega arith) p live;
-            kept = kept-call d after_deferred s.kept dated-deferred whole (defers d.world p k live free) (were-same d after_deferred refl keeps.guards);
+            kept = kept-call d after_deferred s.kept dated-deferred whole (defers d.world p k live free) were;
             early = early-dated d after_deferred dated-deferred (omega arith) s.early;
             made = s.made;
             deferred = deferred-more d.jobs d.deferred d.world.jobs k free s.deferred;
-            jobs = job_dates-deferred d after_deferred s.jobs whole p k live free refl refl refl (were-same d after_deferred refl keeps.guards);
+            jobs = job_dates-deferred d after_deferred s.jobs whole p k live free refl refl refl were;
             few = omega (arith, few);
           }
+
+      pub deferred-leaves : d.jobs < d.moment → LeavesSound d after_deferred
+      deferred-leaves few = record {
+        line = refl;
+        places = refl;
+        sound = sound-deferred few;
+        dated = dated-deferred;
+        calls = one_more d.world d.world _ (no_call d.world) (defers d.world p k live free);
+        home = refl;
+      }
 
     -- ---- owners
 
@@ -259,30 +202,15 @@ module _ (d : ScriptState) (s : IsSound d) where
       abbrev after_retired : ScriptState
       after_retired = record (in_world (without_owner d o) (retired d.world p k)) { dates = slice_set d.dates k d.moment }
 
-      pub dated-retired : IsDated d after_retired
-      dated-retired = dates.dated-retired d after_retired p k (ap is_out stands) s.stocked.dates refl refl
-
-      pub sound-retired : IsSound after_retired
-      sound-retired =
+      pub retired-leaves : LeavesSound d after_retired
+      retired-leaves =
           let h = sole-is (holding_at d.owners o) k owner in
-          record {
-            stocked = stocked-as d after_retired s.stocked refl refl (length-set d.dates k d.moment) (no_slot-retired d.world p k (ap is_some stands));
-            cells = keepers-as d after_retired s.cells refl refl refl refl;
-            layered = s.layered;
-            accounts = counted-retired d s.accounts o h.0 h.1 k h.2 p stands;
-            owners_home = at_home-spent d.world.home d.owners o s.owners_home;
-            cells_home = s.cells_home;
-            collectors_home = s.collectors_home;
-            attended = attended-acts d after_retired s.attended (keeps-retired d.world p k) refl refl (omega arith) p live;
-            kept = kept-call d after_retired s.kept dated-retired whole (retires d.world p k live stands)
-                (were-same d after_retired refl (keeps-retired d.world p k).guards);
-            early = early-dated d after_retired dated-retired (omega arith) s.early;
-            made = s.made;
-            deferred = s.deferred;
-            jobs = job_dates-call d after_retired s.jobs refl refl (were-same d after_retired refl (keeps-retired d.world p k).guards) refl
-                (retires d.world p k live stands);
-            few = s.few;
-          }
+          let left = slice_set d.owners o None in
+          finishes d after_retired.world left d.cells d.collectors after_retired.dates s
+          (moves (starts d s whole) (retires d.world p k live stands) tt (named_among left d.cells d.collectors)
+          (owner-spent d.owners d.cells d.collectors o k h.0 h.1 h.2) (λ u never. absurd never))
+          (λ u. omega arith) (at_home-spent d.world.home d.owners o s.home.owners, s.home.cells, s.home.collectors)
+          (dates.dated-retired d after_retired p k (ap is_out stands) s.stocked.dates refl refl) p live
 
     module _ (p k o count : ℕ) (b : Bool) (live : IsPlaceOf d.world p) (owner : shared_slot (holding_at d.owners o) ≡ Some k)
         (stands : IsSharedBy count (standing_at d.world k)) (last : IsTrue b ↔ (count ≡ 1)) where
@@ -291,64 +219,29 @@ module _ (d : ScriptState) (s : IsSound d) where
         dates = if b then slice_set d.dates k d.moment else d.dates;
       }
 
-      pub dated-released : IsDated d after_released
-      dated-released =
-          dates.dated-released d after_released p k count stands.shared s.stocked.dates
-          (last-or-not b count (slice_set d.dates k d.moment) d.dates stands.some last) refl
-
-      pub sound-released : IsSound after_released
-      sound-released =
+      pub released-leaves : LeavesSound d after_released
+      released-leaves =
           let h = shared-is (holding_at d.owners o) k owner in
-          let layers = layered-given d d.world p k (Some (standing.Shared count)) stands.shared s.layered in
-          let same = given-same d.world p k (Some (standing.Shared count)) stands.shared in
-          let counts = counts-given d.world p k (Some (standing.Shared count)) stands.shared in
-          let keeps = keeps-owner_given d.world p k (Some (standing.Shared count)) stands.shared in
-          record {
-            stocked = stocked-as d after_released s.stocked refl refl dated-released.long (no_slot-given d.world p k (Some (standing.Shared count))
-                stands.shared);
-            cells = keepers-as d after_released s.cells same.0 same.1 refl refl;
-            layered = layers;
-            accounts = counted-released d s.accounts o h.0 h.1 k h.2 p count stands.shared;
-            owners_home = rw counts.home (at_home-spent d.world.home d.owners o s.owners_home);
-            cells_home = rw counts.home s.cells_home;
-            collectors_home = rw counts.home s.collectors_home;
-            attended = attended-acts d after_released s.attended keeps refl refl (omega arith) p live;
-            kept = kept-call d after_released s.kept dated-released whole (releases d.world p k count live stands.shared)
-                (were-same d after_released refl keeps.guards);
-            early = early-dated d after_released dated-released (omega arith) s.early;
-            made = counts.made ∙ s.made;
-            deferred = subst (AreDeferred d.jobs d.deferred) (sym (jobs-given d.world p k (Some (standing.Shared count)) stands.shared)) s.deferred;
-            jobs = job_dates-call d after_released s.jobs refl refl (were-same d after_released refl keeps.guards)
-                (jobs-given d.world p k (Some (standing.Shared count)) stands.shared) (releases d.world p k count live stands.shared);
-            few = s.few;
-          }
+          let left = slice_set d.owners o None in
+          finishes d after_released.world left d.cells d.collectors after_released.dates s
+          (moves (starts d s whole) (releases d.world p k count live stands.shared) tt (named_among left d.cells d.collectors)
+          (owner-spent d.owners d.cells d.collectors o k h.0 h.1 h.2) (λ u never. absurd never))
+          (λ u. omega arith) (at_home-spent d.world.home d.owners o s.home.owners, s.home.cells, s.home.collectors)
+          (dates.dated-released d after_released p k count stands.shared s.stocked.dates
+          (last-or-not b count (slice_set d.dates k d.moment) d.dates stands.some last) refl) p live
 
     module _ (p k count : ℕ) (live : IsPlaceOf d.world p) (stands : IsSharedBy count (standing_at d.world k)) where
       abbrev after_shared : ScriptState
       after_shared = with_owner (in_world d (with_standing d.world k (standing.Shared (count + 1)))) (holding.shared k d.world.home.slots)
 
-      pub dated-shared : IsDated d after_shared
-      dated-shared = dated-stands d after_shared k (standing.Shared (count + 1)) refl refl refl
-
-      pub sound-shared : IsSound after_shared
-      sound-shared =
-          let keeps = keeps-time d.world after_shared.world refl in
-          record {
-            stocked = stocked-as d after_shared s.stocked refl refl refl (no_slot-standing d.world k (standing.Shared (count + 1)) (ap is_some stands.shared));
-            cells = keepers-as d after_shared s.cells refl refl refl refl;
-            layered = s.layered;
-            accounts = counted-shared d s.accounts (holding.shared k d.world.home.slots) k count refl stands.shared stands.some;
-            owners_home = at_home-given d.world.home d.owners (holding.shared k d.world.home.slots) refl s.owners_home;
-            cells_home = s.cells_home;
-            collectors_home = s.collectors_home;
-            attended = attended-acts d after_shared s.attended keeps refl refl (omega arith) p live;
-            kept = kept-call d after_shared s.kept dated-shared whole (shares d.world k count stands.shared) (were-same d after_shared refl keeps.guards);
-            early = early-dated d after_shared dated-shared (omega arith) s.early;
-            made = s.made;
-            deferred = s.deferred;
-            jobs = job_dates-call d after_shared s.jobs refl refl (were-same d after_shared refl keeps.guards) refl (shares d.world k count stands.shared);
-            few = s.few;
-          }
+      pub shared-leaves : LeavesSound d after_shared
+      shared-leaves =
+          let h = holding.shared k d.world.home.slots in
+          finishes d after_shared.world after_shared.owners d.cells d.collectors d.dates s
+          (moves (starts d s whole) (shares d.world k count stands) tt (named d) (λ u. omega arith) (λ u never. absurd never))
+          (owner-given d.owners d.cells d.collectors h k refl)
+          (at_home-given d.world.home d.owners h refl s.home.owners, s.home.cells, s.home.collectors)
+          (dated-stands d after_shared k (standing.Shared (count + 1)) refl refl refl) p live
 
     -- ---- an item is made
     module _ (own : OwnerKind) (value : Value) (p k c : ℕ) (v : Val) (live : IsPlaceOf d.world p) (cell : IsEmptyAt d.world.cells c)
@@ -369,43 +262,72 @@ module _ (d : ScriptState) (s : IsSound d) where
       its-home ownership.Sole = refl
       its-home ownership.Shared = refl
 
-      moved : (x : Value) → IsPutIn d x (body_of v) → (j : ℕ) → named_owners d j ≡ named_owners (put_in d x) j + times_in j (body_of v)
-      moved (Number n) e j = puts-number d v n e j
-      moved (Of o) (h, there, is) j = puts-owner d v o.0 h there is j
-
       at_home-left : (x : Value) → AtHome d.world.home (owners_left d.owners x)
-      at_home-left (Number n) = s.owners_home
-      at_home-left (Of o) = at_home-spent d.world.home d.owners o.0 s.owners_home
+      at_home-left (Number n) = s.home.owners
+      at_home-left (Of o) = at_home-spent d.world.home d.owners o.0 s.home.owners
 
-      pub dated-made : IsDated d after_made
+      dated-made : IsDated d after_made
       dated-made = dated-stands d after_made k (standing_first own) (first-waits-not (standing_first own) (first own)) refl refl
 
-      pub sound-made : IsSound after_made
-      sound-made =
-          let keeps = keeps-time d.world after_made.world refl in
-          record {
-            stocked = stocked-made d k s.stocked slot after_made (standing_first own) refl refl refl refl;
-            cells = keepers-made d after_made c k v s.cells cell slot link whole.filled refl refl refl refl;
-            layered = layered-made d s.layered s.accounts s.stocked whole.filled (put_in d value) c k v (standing_first own) slot (moved value put)
-                after_made refl refl;
-            accounts = counted-made d s.accounts (put_in d value) c k v (standing_first own) (holding_first own k d.world.home.slots) whole.filled cell slot
-                (first own) (its-slot own) (moved value put);
-            owners_home = at_home-given d.world.home (owners_left d.owners value) (holding_first own k d.world.home.slots) (its-home own) (at_home-left value);
-            cells_home = s.cells_home;
-            collectors_home = s.collectors_home;
-            attended = attended-acts d after_made s.attended keeps refl refl (omega arith) p live;
-            kept = kept-made d after_made s.kept dated-made whole c k v (standing_first own) (first own) slot refl (were-same d after_made refl keeps.guards);
-            early = early-dated d after_made dated-made (omega arith) s.early;
-            made = told-made d (nulled d.world c) k v (standing_first own) s.made few;
-            deferred = s.deferred;
-            jobs = job_dates-made d after_made s.jobs c k v (standing_first own) (first own) slot refl refl refl (were-same d after_made refl keeps.guards);
-            few = s.few;
-          }
+      -- the cell of its link is there, with its right in hand
+      celled : IsMidway d (nulled d.world c) (λ u. named d u + one (right_to c) u)
+      celled = moves (starts d s whole) (makes_cell d.world c null cell) tt (named d) (λ u. omega arith) (λ u never. absurd never)
+
+      -- the right goes into the value, with what has no name any more
+      abbrev rest : Claim → ℕ
+      rest = named_among (owners_left d.owners value) d.cells d.collectors
+
+      put-inside : (u : Claim) → named d u + one (right_to c) u ≡ rest u + claims (holdings_of v) u
+      put-inside u = omega (arith, value-spent d value v put u, holds-so v u, ap (λ x. one (right_to x) u) link)
+
+      item : Keeps holdings_of (makes (nulled d.world c) k v (standing_first own) (first own) slot)
+      item = (ledger-laws holdings_of (nulled d.world c)).kept celled.whole _ _ after_made.world (makes (nulled d.world c) k v (standing_first own) (first own) slot)
+
+      passes-made : Passes d.world after_made.world
+      passes-made =
+          passes-on celled.frames.slots celled.frames.passes celled.whole (makes_item (nulled d.world c) k v (standing_first own) (first own) slot)
+          (keeps-time (nulled d.world c) after_made.world refl) refl
+
+      bare-made : LinksAreBare after_made.world
+      bare-made j x e = elim (cases_eq j k) [
+        | inl same ↦
+            let long : k < length d.world.values = omega (arith, slot.0, filled-long d.world.values d.world.standings whole.filled) in
+            let here : slice_index_or (slice_set d.world.values k (Some v)) k None ≡ Some v = at-same d.world.values k (Some v) None long in
+            let both : Some v ≡ Some x = sym here ∙ ap (λ i. slice_index_or (slice_set d.world.values k (Some v)) i None) (sym same) ∙ e in
+            let is : v ≡ x = cc in
+            ap (λ i. held_in (entry_at after_made.world.cells i)) (ap link_of (sym is) ∙ link) ∙ ap held_in (at-same d.world.cells c (Some null) None cell.0)
+        | inr apart ↦ celled.bare j x (sym (at-other d.world.values k j (Some v) None apart) ∙ e)
+      ]
+
+      pub made-leaves : LeavesSound d after_made
+      made-leaves = record {
+        line = refl;
+        places = refl;
+        sound = sound-after d after_made s passes-made (refl, refl, refl, refl, refl, refl) dated-made p live
+            (stocked-made d k s.stocked slot after_made (standing_first own) refl refl refl refl)
+            (λ u. omega (
+              arith,
+              item.ledger rest (λ x. omega (arith, celled.ledger x, put-inside x)) u,
+              owner-given (owners_left d.owners value) d.cells d.collectors (holding_first own k d.world.home.slots) k (its-slot own) u,
+            ))
+            bare-made
+            (layered-made d s.layered (accounts d s) s.stocked whole.filled (put_in d value) c k v (standing_first own) slot
+            (λ j. value-spent d value v put (owner_of j)) after_made refl refl)
+            (record {
+              owners = at_home-given d.world.home (owners_left d.owners value) (holding_first own k d.world.home.slots) (its-home own) (at_home-left value);
+              cells = s.home.cells;
+              collectors = s.home.collectors;
+            })
+            (omega (arith, s.made, few, length_push d.slots k));
+        dated = dated-made;
+        calls = passes-made.calls;
+        home = refl;
+      }
 
     -- ---- a guard is opened
 
     pub home-opened : (p : ℕ) → (opened holdings_of d.world p).home ≡ d.world.home
-    home-opened p = (counts-opened d.world p holdings_of).home
+    home-opened p = (slots-opened d.world p).home
 
     module _ (n : ℕ) (x : OpenSince) (there : opening_at d.places n ≡ Some x) (slots : List ℕ) (are : slots ≡ slots_among (reclaims d.world x.place))
         (new_dates : List ℕ) (long : length new_dates ≡ length d.dates)
@@ -416,26 +338,29 @@ module _ (d : ScriptState) (s : IsSound d) where
 
       pub dated-opened : IsDated d after_opening
       dated-opened =
-          gone.dated-opened d x.place (s.attended.inside n x there).0 s.stocked s.cells whole s.accounts slots are after_opening refl long now
+          gone.dated-opened d x.place (s.attended.inside n x there).0 s.stocked s.bare whole (accounts d s) slots are after_opening refl long now
 
       pub sound-opened : BeginsLine d → IsSound after_opening
       sound-opened line =
-          let layers = layered-opened d d.world x.place s.layered in
-          let counts = counts-opened d.world x.place holdings_of in
-          let middle = in_world d (opened holdings_of d.world x.place) in
+          let live = s.attended.inside n x there in
+          let shed = sheds-opened holdings_of x.place d.world in
+          let slots = slots-opened d.world x.place in
+          let kept = (ledger-laws holdings_of d.world).kept whole nothing nothing _ (opens d.world x.place live) in
           record {
-            stocked = stocked-as d after_opening s.stocked refl refl long (no_slot-opened d.world x.place holdings_of);
-            cells = keepers-as middle after_opening (keepers-opened d x.place s.cells) refl refl refl refl;
-            layered = layers;
-            accounts = counted-opened d s.accounts x.place;
-            owners_home = rw counts.home s.owners_home;
-            cells_home = rw counts.home s.cells_home;
-            collectors_home = rw counts.home s.collectors_home;
+            stocked = stocked-as d after_opening s.stocked refl refl long slots;
+            ledger = λ u. omega (arith, kept.ledger (named d) (λ y. omega (arith, s.ledger y)) u);
+            bare = bare-shed shed s.bare;
+            layered = layered-less d after_opening s.layered (less-shed shed) refl;
+            home = record {
+              owners = rw slots.home s.home.owners;
+              cells = rw slots.home s.home.cells;
+              collectors = rw slots.home s.home.collectors;
+            };
             attended = attended-opened d s.attended n x there after_opening refl refl refl (omega arith);
             kept = kept-opened d after_opening s.attended s.kept whole dated-opened line n x there refl refl;
             early = early-dated d after_opening dated-opened (omega arith) s.early;
-            made = counts.made ∙ s.made;
-            deferred = deferred-opened d.world x.place whole (s.attended.inside n x there) d.jobs d.deferred s.deferred;
+            made = slots.made ∙ s.made;
+            deferred = deferred-opened d.world x.place whole live d.jobs d.deferred s.deferred;
             jobs = job_dates-opened d after_opening s.jobs s.attended s.kept whole dated-opened line n x there refl refl refl refl;
             few = s.few;
           }
@@ -484,22 +409,18 @@ sound-start l d start names ranges = record {
     dates = ap length start.dates ∙ length-replicate l.slots 0 ∙ sym long;
     few = omega (arith, names, ranges.slots);
   };
-  cells = record {
-    keeper = λ c some. absurd (not-free (entry_at d.world.cells c) some (entries c));
-    taken = λ k c h. absurd (no-keeper k c h);
-    apart = λ j k c h g. absurd (no-keeper j c h);
-    bare = λ k c h. absurd (no-keeper (value_in k) c h);
-  };
+  ledger = λ u. omega (arith, none-named u, (ledger-laws holdings_of d.world).blank _ l.slots l.cells l.jobs start.world u);
+  bare = λ k v e. absurd (let never : None ≡ Some v = sym (values k) ∙ e in cc);
   layered = λ j k some. absurd (let none : times_held holdings_of k (value_at d.world j) ≡ 0 = ap (times_held holdings_of k) (values j) in omega (
     arith,
     none,
     some,
   ));
-  accounts = accounted-as holdings_of (λ _. 0) (named_owners d) d.world (λ k. ap (count_by (owns k)) start.owners)
-      (accounted-blank holdings_of d.world _ l.slots l.cells l.jobs start.world);
-  owners_home = λ n h e. absurd (let never : None ≡ Some h = sym (ap (λ hs. holding_at hs n) start.owners) ∙ e in cc);
-  cells_home = λ n h e. absurd (let never : None ≡ Some h = sym (ap (λ hs. holding_at hs n) start.cells) ∙ e in cc);
-  collectors_home = λ n h e. absurd (let never : None ≡ Some h = sym (ap (λ hs. holding_at hs n) start.collectors) ∙ e in cc);
+  home = record {
+    owners = λ n h e. absurd (let never : None ≡ Some h = sym (ap (λ hs. holding_at hs n) start.owners) ∙ e in cc);
+    cells = λ n h e. absurd (let never : None ≡ Some h = sym (ap (λ hs. holding_at hs n) start.cells) ∙ e in cc);
+    collectors = λ n h e. absurd (let never : None ≡ Some h = sym (ap (λ hs. holding_at hs n) start.collectors) ∙ e in cc);
+  };
   attended = attended-start d start;
   kept = kept-start d start;
   early = early-start d start;
@@ -521,27 +442,21 @@ sound-start l d start names ranges = record {
   places : (k : ℕ) → entry_at d.world.jobs k ≡ None
   places k = ap (λ js. slice_index_or js k None) start.world.jobs ∙ blank l.jobs k
 
-  entries : (c : ℕ) → entry_at d.world.cells c ≡ None
-  entries c = ap (λ cs. slice_index_or cs c None) start.world.cells ∙ blank l.cells c
-
   long : length d.world.standings ≡ l.slots
   long = ap length start.world.standings ∙ length-replicate l.slots None
 
-  no-keeper : (k : Keeper) (c : ℕ) → Keeps d k c → ⊥
-  no-keeper (value_in j) c h = let never : None ≡ Some h.0 = sym (values j) ∙ h.1 in cc
-  no-keeper (name_of n) c h = let never : None ≡ Some c = sym (ap (λ hs. cell_of (holding_at hs n)) start.cells) ∙ h in cc
-  no-keeper (collector_named n) c h = let never : None ≡ Some c = sym (ap (λ hs. collector_of (holding_at hs n)) start.collectors) ∙ h in cc
+  none-named : (u : Claim) → named d u ≡ 0
+  none-named (owner_of k) = ap (count_by (owns k)) start.owners
+  none-named (right_to c) = omega (arith, ap (count_by (has_right c)) start.cells, ap (count_by (has_right c)) start.collectors)
 
 -- a line is counted
 pub sound-later : (d : ScriptState) → IsSound d → IsSound (later d)
 sound-later d s = record {
   stocked = record { named = s.stocked.named; names = s.stocked.names; dates = s.stocked.dates; few = s.stocked.few };
-  cells = keepers-as d (later d) s.cells refl refl refl refl;
+  ledger = s.ledger;
+  bare = s.bare;
   layered = s.layered;
-  accounts = s.accounts;
-  owners_home = s.owners_home;
-  cells_home = s.cells_home;
-  collectors_home = s.collectors_home;
+  home = record { owners = s.home.owners; cells = s.home.cells; collectors = s.home.collectors };
   attended = attended-later d s.attended;
   kept = kept-later d s.kept;
   early = early-later d s.early;

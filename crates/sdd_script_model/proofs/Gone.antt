@@ -7,7 +7,7 @@ use Rattle.std.proofs.lemmas.List.Recursion.{is_sum_by}
 use Rattle.std.proofs.lemmas.List.Sorted.{sum_by-IsPermutation, IsPermutation-sym, Contains-permutation}
 use Rattle.std.proofs.lemmas.List.Sums.{get_or-le-sum_by, sum_by_more, sum_by_more_le, sum_by-append}
 use Rattle.sdd_rights.specs.Units.{GhostName}
-use Rattle.sdd_participants.specs.EpochState.{is_open, finds_another, due_next}
+use Rattle.sdd_participants.specs.EpochState.{due_next}
 use Rattle.sdd_participants.specs.declared.standing.Standing.TheVariants.{Shared as standing_shared, Retired}
 use Rattle.sdd_space.specs.Owned as owned
 use Rattle.sdd_space.specs.Shared as shared
@@ -18,22 +18,23 @@ use Rattle.sdd_space.specs.WorldChanges.{retired, with_standing, owner_given, ce
 use Rattle.sdd_space.specs.OwnerCounts.{IsAccounted, is_owner_of, times_held}
 use Rattle.sdd_space.proofs.Accounts.{in_value-out}
 use Rattle.sdd_space.proofs.Entries.{one-place}
-use Rattle.sdd_space.proofs.Opening.{Nests, IsChange, how, before, due-here, opened-stays, opened-goes, keeps-owner_given, keeps-cell_closed, keeps-given_all}
+use Rattle.sdd_space.proofs.Opening.{Nests, IsChange, how, before, due-here}
+use Rattle.sdd_space.proofs.Rights.{given-same}
 use Rattle.sdd_space.proofs.Safe.{opens-keeps}
-use Rattle.sdd_space.proofs.Standings.{owner-given, out-some, out-waits-not, waits-out-not}
+use Rattle.sdd_space.proofs.Standings.{owner-given, out-some, out-waits-not}
 use Rattle.sdd_space.proofs.Whole.{some-waits, times-aged}
 use Rattle.sdd_script_text.specs.declared.name.ItemName.{ItemName}
 use Rattle.sdd_script_model.proofs.Entry.{at-other, at-default}
-use Rattle.sdd_script_model.proofs.StockWords.{◌≡◌, ◌≢◌, ◌⊎◌, ℕ, suc, ◌+◌, ◌-◌, ◌<◌, ◌≤◌, ◌==◌, ◌&&◌, ◌↔◌, Bool, true, false, nat_lt, if◌then◌else◌, List, [], ◌∷◌, ◌++◌, Option, Some, None, IsSome, is_some, map, length, count_by, slice_index_or, slice_set, inl, inr, refl, sym, ap, ◌∙◌, eq-eqb, ne_eqb, lt-ltb, cases_lt, arith, nat_tests, All, Contains, cases_eq, length-map, length-set, entry_at, without_entry, LimboEntry, Item, Job, Standing, is_waiting, is_out, held_in, reclaims, IsWhole, is_of_slot, once_if, OwnerOrCell, World, place_at, standing_at, value_at, one_where, times_among, count-cons, some-waits, filled-there, Val, holdings_of, body_of, link_of, zero, subst}
+use Rattle.sdd_script_model.proofs.StockWords.{◌≡◌, ◌≢◌, ◌⊎◌, ℕ, suc, ◌+◌, ◌-◌, ◌<◌, ◌≤◌, ◌==◌, ◌&&◌, ◌↔◌, Bool, true, false, nat_lt, if◌then◌else◌, List, [], ◌∷◌, ◌++◌, Option, Some, None, IsSome, is_some, map, length, count_by, slice_index_or, slice_set, inl, inr, refl, sym, ap, ◌∙◌, eq-eqb, ne_eqb, lt-ltb, cases_lt, arith, nat_tests, All, Contains, cases_eq, length-map, entry_at, LimboEntry, Item, Job, Standing, is_waiting, is_out, held_in, reclaims, IsWhole, is_of_slot, once_if, World, place_at, standing_at, value_at, one_where, times_among, count-cons, some-waits, filled-there, Val, holdings_of, body_of, link_of, zero, subst}
 use Rattle.sdd_script_model.specs.declared.val.Body.{Body}
 use Rattle.sdd_script_model.specs.declared.val.Body.TheVariants.{Number, Owned, Shared}
 use Rattle.sdd_script_model.specs.Val.{owner_in, link_home}
-use Rattle.sdd_script_model.specs.ScriptState.{ScriptState, IsThere, IsDated, slot_at, name_at, date_at, in_world}
+use Rattle.sdd_script_model.specs.ScriptState.{ScriptState, IsThere, IsDated, slot_at, name_at, date_at}
 use Rattle.sdd_script_model.specs.Shown.{item_in}
-use Rattle.sdd_script_model.specs.Sound.{SlotsHaveNames, EachCellHasKeeper, named_owners}
+use Rattle.sdd_script_model.specs.Sound.{SlotsHaveNames, LinksAreBare, named_owners}
 use Rattle.sdd_script_model.specs.Held.{slots_of, slots_in, owners_in, slots_among, waits_among}
 use Rattle.sdd_script_model.proofs.Stocked.{item-there, slot-inside}
-use Rattle.sdd_script_model.proofs.Keepers.{given-same, body-given, closed-bare, one-kept_on, waiting-there, keepers-as}
+use Rattle.sdd_script_model.proofs.Links.{body-given, closed-bare, freed-bare, waiting-there}
 
 -- ---- how often a list names something
 
@@ -121,41 +122,6 @@ module _ (w : World Val) (p : ℕ) (whole : IsWhole w) where
       (is_waiting (standing_at w s) ≡ true) × IsSome (standing_at w s) × IsSome (value_at w s)
   reclaimed-waits s c = counted-waits s (reclaimed-counts w p s c)
 
-  module _ (l : p < length w.time.places) where
-    -- its slot is free afterwards
-    pub counted-gone : (s : ℕ) → 1 ≤ times_among s (reclaims w p) →
-        (standing_at (steps.opened holdings_of w p) s ≡ None) × (value_at (steps.opened holdings_of w p) s ≡ None)
-    counted-gone s some =
-        let was = counted-waits s some in
-        let value = some-value (value_at w s) was.2 in
-        let gone = opened-goes holdings_of w p l s (standing_at w s) value.0 was.0 some (record { standing = refl; value = value.1 }) in
-        (gone.standing, gone.value)
-
-    pub reclaimed-gone : (s : ℕ) → Contains (reclaims w p) (Item s) →
-        (standing_at (steps.opened holdings_of w p) s ≡ None) × (value_at (steps.opened holdings_of w p) s ≡ None)
-    reclaimed-gone s c = counted-gone s (reclaimed-counts w p s c)
-
-    -- what waits and isn't reclaimed stays
-    pub waiting-stays : (s : ℕ) → is_waiting (standing_at w s) ≡ true → times_among s (reclaims w p) ≡ 0 →
-        (standing_at (steps.opened holdings_of w p) s ≡ standing_at w s) × (value_at (steps.opened holdings_of w p) s ≡ value_at w s)
-    waiting-stays s waits none =
-        let stays = opened-stays holdings_of w p l s (standing_at w s) (value_at w s) (waits-out-not (standing_at w s) waits) none
-        (record { standing = refl; value = refl }) in
-        (stays.standing, stays.value)
-
-    -- a slot that is taken and isn't reclaimed is taken afterwards
-    pub taken-stays : (s : ℕ) → IsSome (standing_at w s) → times_among s (reclaims w p) ≡ 0 → IsSome (standing_at (steps.opened holdings_of w p) s)
-    taken-stays s some none = by (is_out (standing_at w s)) refl where
-      by : (b : Bool) → is_out (standing_at w s) ≡ b → IsSome (standing_at (steps.opened holdings_of w p) s)
-      by true out =
-          elim ((opens-keeps p s holdings_of w l whole out).1) [
-            | inl still ↦ out-some (standing_at (steps.opened holdings_of w p) s) still
-            | inr fresh ↦ some-waits (standing_at (steps.opened holdings_of w p) s) fresh.0
-          ]
-      by false idle =
-          let stays = opened-stays holdings_of w p l s (standing_at w s) (value_at w s) idle none (record { standing = refl; value = refl }) in
-          rw stays.standing some
-
 -- ---- what begins to wait was given up
 
 -- an owner that is given changes no other slot
@@ -189,10 +155,10 @@ body-waits w p c s home b bare idle waits = by b waits where
   by (Owned o) waits = given (owned.slot_of o) waits
   by (Shared o) waits = given (shared.slot_of o) waits
 
-module _ (d : ScriptState) (p : ℕ) (start : World Val) (s : ℕ) where
+module _ (p : ℕ) (start : World Val) (s : ℕ) where
   -- the item of slot s doesn't wait yet; the values that are still there are those of the start
   pub record IsBefore (w : World Val) : Type 0 where
-    pub kept : EachCellHasKeeper (in_world d w)
+    pub bare : LinksAreBare w
     pub values : (k : ℕ) (v : Val) → value_at w k ≡ Some v → value_at start k ≡ Some v
     pub idle : is_waiting (standing_at w s) ≡ false
 
@@ -209,16 +175,16 @@ module _ (d : ScriptState) (p : ℕ) (start : World Val) (s : ℕ) where
   out-gives w k None is i waits = let never : false ≡ true = sym i.idle ∙ waits in absurd (cc)
   out-gives w k (Some v) is i waits =
       let there = is v refl in
-      let bare = i.kept.bare k (link_of v) (v, there, refl) in
+      let bare = i.bare k v there in
       rw (i.values k v there) (body-waits (freed w k) p (link_of v) s (link_home v) (body_of v) bare (freed-idle w k i.idle) waits)
 
   -- and each value that is there then was there before
-  out-values : (w : World Val) (k : ℕ) (v : Option Val) → ((u : Val) → v ≡ Some u → value_at w k ≡ Some u) → EachCellHasKeeper (in_world d w) →
+  out-values : (w : World Val) (k : ℕ) (v : Option Val) → ((u : Val) → v ≡ Some u → value_at w k ≡ Some u) → LinksAreBare w →
       (j : ℕ) (u : Val) → value_at (taken_out holdings_of w p k v) j ≡ Some u → value_at w j ≡ Some u
   out-values w k None is i j u h = h
   out-values w k (Some v) is i j u h =
       let there = is v refl in
-      let g = body-given (freed w k) p (link_of v) (link_home v) (body_of v) (i.bare k (link_of v) (v, there, refl)) in
+      let g = body-given (freed w k) p (link_of v) (link_home v) (body_of v) (i k v there) in
       let left : slice_index_or (slice_set w.values k None) j None ≡ Some u = sym (ap (λ vs. slice_index_or vs j None) g.0) ∙ h in
       elim (cases_eq j k) [
         | inl e ↦ absurd (let none : None ≡ Some u = sym (at-default w.values k None) ∙ ap (λ n. slice_index_or (slice_set w.values k None) n None) (sym e)
@@ -226,11 +192,20 @@ module _ (d : ScriptState) (p : ℕ) (start : World Val) (s : ℕ) where
         | inr ne ↦ sym (at-other w.values k j None None ne) ∙ left
       ]
 
+  -- links stay bare
+  out-bare : (w : World Val) (k : ℕ) (v : Option Val) → ((u : Val) → v ≡ Some u → value_at w k ≡ Some u) → LinksAreBare w →
+      LinksAreBare (taken_out holdings_of w p k v)
+  out-bare w k None is i s x e = i s x e
+  out-bare w k (Some v) is i s x e =
+      let g = body-given (freed w k) p (link_of v) (link_home v) (body_of v) (i k v (is v refl)) in
+      ap (λ cs. held_in (entry_at cs (link_of x))) g.1
+      ∙ freed-bare w.cells (link_of v) (link_of x) (i s x (out-values w k (Some v) is i s x e))
+
   -- all that begins to wait was its owner's whose value was among these
   pub all-give : (xs : List LimboEntry) (w : World Val) → IsBefore w → is_waiting (standing_at (all_reclaimed holdings_of w p xs) s) ≡ true →
       1 ≤ times_in s (owners_in start (slots_among xs))
   all-give (Job j ∷ xs) w i waits =
-      all-give xs (reclaimed holdings_of w p (Job j)) (record { kept = one-kept_on d p w (Job j) i.kept; values = i.values; idle = i.idle }) waits
+      all-give xs (reclaimed holdings_of w p (Job j)) (record { bare = i.bare; values = i.values; idle = i.idle }) waits
   all-give [] w i waits = let never : false ≡ true = sym i.idle ∙ waits in absurd (cc)
   all-give (Item k ∷ xs) w i waits = by (is_waiting (standing_at u s)) refl (λ now. all-give xs u now waits) where
     ks : List ℕ
@@ -246,15 +221,15 @@ module _ (d : ScriptState) (p : ℕ) (start : World Val) (s : ℕ) where
     both = sum_by-append (λ j. one_where (j == s)) here (owners_in start ks)
 
     is : (v : Val) → waiting_value w k (standing_at w k) ≡ Some v → value_at w k ≡ Some v
-    is = waiting-there d p w k (standing_at w k)
+    is = waiting-there w k (standing_at w k)
 
     by : (b : Bool) → is_waiting (standing_at u s) ≡ b → (IsBefore u → 1 ≤ times_in s (owners_in start ks)) →
         1 ≤ times_in s (here ++ owners_in start ks)
     by true now rest = omega (arith, both, out-gives w k (waiting_value w k (standing_at w k)) is i now)
     by false idle rest =
         let more = rest (record {
-          kept = one-kept_on d p w (Item k) i.kept;
-          values = λ j v h. i.values j v (out-values w k (waiting_value w k (standing_at w k)) is i.kept j v h);
+          bare = out-bare w k (waiting_value w k (standing_at w k)) is i.bare;
+          values = λ j v h. i.values j v (out-values w k (waiting_value w k (standing_at w k)) is i.bare j v h);
           idle = idle;
         }) in
         omega (arith, both, more)
@@ -291,7 +266,7 @@ held-by-one w s (j ∷ js) some =
 
 -- ---- an opening of p, whose desk is sound
 
-module _ (d : ScriptState) (p : ℕ) (l : p < length d.world.time.places) (stocked : SlotsHaveNames d) (kept : EachCellHasKeeper d) (whole : IsWhole d.world)
+module _ (d : ScriptState) (p : ℕ) (l : p < length d.world.time.places) (stocked : SlotsHaveNames d) (bare : LinksAreBare d.world) (whole : IsWhole d.world)
     (accounts : IsAccounted holdings_of (named_owners d) d.world) where
   abbrev after : World Val
   after = steps.opened holdings_of d.world p
@@ -321,8 +296,8 @@ module _ (d : ScriptState) (p : ℕ) (l : p < length d.world.time.places) (stock
         let now : is_waiting (standing_at (all_reclaimed holdings_of first p (reclaims d.world p)) s) ≡ true =
         ap (λ xs. is_waiting (standing_at (all_reclaimed holdings_of first p xs) s)) (sym due)
         ∙ ap (λ (u : World Val). is_waiting (standing_at u s)) (sym c.change) ∙ waits in
-        subst (λ ks. 1 ≤ times_in s (owners_in d.world ks)) (sym are) (all-give d p d.world s (reclaims d.world p) first (record {
-          kept = keepers-as d (in_world d first) kept refl refl refl refl;
+        subst (λ ks. 1 ≤ times_in s (owners_in d.world ks)) (sym are) (all-give p d.world s (reclaims d.world p) first (record {
+          bare = bare;
           values = λ k v h. h;
           idle = idle;
         }) now)
@@ -460,15 +435,6 @@ module _ (d : ScriptState) (p : ℕ) (stocked : SlotsHaveNames d) (whole : IsWho
   pub slots-filled : All (λ s. IsSome (value_at d.world s)) slots
   slots-filled k e lt = (slot-before (slice_index_or slots k e) (Contains-get_or slots k e lt)).2
 
-  -- a slot that is taken and isn't one of them is taken afterwards
-  pub others-stay : (s : ℕ) → p < length d.world.time.places → IsSome (standing_at d.world s) → (Contains slots s → ⊥) →
-      IsSome (standing_at (steps.opened holdings_of d.world p) s)
-  others-stay s l some not_one =
-      elim (cases_lt 0 (times_among s (reclaims d.world p))) [
-        | inl counted ↦ absurd (not_one (counted-contains s slots (omega (arith, counted, times-slots s))))
-        | inr none ↦ taken-stays d.world p whole l s some (omega (arith, none))
-      ]
-
   -- each of them is there once
   slots-once : (s : ℕ) → times_in s slots ≤ 1
   slots-once s = omega (arith, times-slots s, reclaims-once d.world p s whole, once-bound (is_waiting (standing_at d.world s)))
@@ -486,63 +452,3 @@ module _ (d : ScriptState) (p : ℕ) (stocked : SlotsHaveNames d) (whole : IsWho
           (λ h. (all.1 i).1 (h.0, subst (λ ks. Contains ks (slot_at d i.0)) (sym are) (contain-slots (reclaims d.world p) (slot_at d i.0) h.1))),
         )),
       )
-
--- ---- an opening counts nothing but what it reclaims
-
--- as many slots, items made and items dropped in place, and the same home
-pub record KeepsCounts {T : Type 0} (old new : World T) : Type 0 where
-  pub slots : length new.standings ≡ length old.standings
-  pub made : new.tally.made ≡ old.tally.made
-  pub in_place : new.tally.in_place ≡ old.tally.in_place
-  pub home : new.home ≡ old.home
-
-module _ {T : Type 0} (w : World T) (p : ℕ) where
-  counts-retired : (u : World T) (k : ℕ) → is_out (standing_at u k) ≡ true → KeepsCounts w u → KeepsCounts w (retired u p k)
-  counts-retired u k out i = record { slots = length-set u.standings k (Some Retired) ∙ i.slots; made = i.made; in_place = i.in_place; home = i.home }
-
-  counts-cell : (u : World T) (c : ℕ) → KeepsCounts w u → KeepsCounts w (record u { cells = without_entry u.cells c })
-  counts-cell u c i = record { slots = i.slots; made = i.made; in_place = i.in_place; home = i.home }
-
-  counts-shared : (u : World T) (k n m : ℕ) → standing_at u k ≡ Some (standing_shared n) → KeepsCounts w u →
-      KeepsCounts w (with_standing u k (standing_shared m))
-  counts-shared u k n m is i =
-      record { slots = length-set u.standings k (Some (standing_shared m)) ∙ i.slots; made = i.made; in_place = i.in_place; home = i.home }
-
-  counts-freed : (u : World T) (k : ℕ) → KeepsCounts w u → KeepsCounts w (freed u k)
-  counts-freed u k i = record { slots = length-set u.standings k None ∙ i.slots; made = i.made; in_place = i.in_place; home = i.home }
-
-  -- what p is given is not counted
-  pub counts-given : (k : ℕ) (s : Option Standing) → standing_at w k ≡ s → KeepsCounts w (owner_given w p k s)
-  counts-given k s is =
-      keeps-owner_given p (KeepsCounts w) counts-retired counts-cell counts-shared w k s is (record { slots = refl; made = refl; in_place = refl; home = refl })
-
-  pub counts-cell_closed : (c : ℕ) → KeepsCounts w (cell_closed w p c)
-  counts-cell_closed c =
-      keeps-cell_closed p (KeepsCounts w) counts-retired counts-cell counts-shared w c (record { slots = refl; made = refl; in_place = refl; home = refl })
-
-  pub counts-given_all : (hs : List OwnerOrCell) → KeepsCounts w (given_all w p hs)
-  counts-given_all hs =
-      keeps-given_all p (KeepsCounts w) counts-retired counts-cell counts-shared w hs (record { slots = refl; made = refl; in_place = refl; home = refl })
-
-  module _ (holds : T → List OwnerOrCell) where
-    out-counts : (u : World T) (k : ℕ) (v : Option T) → KeepsCounts w u → KeepsCounts w (taken_out holds u p k v)
-    out-counts u k None i = i
-    out-counts u k (Some v) i =
-        keeps-given_all p (KeepsCounts w) counts-retired counts-cell counts-shared (freed u k) (holds v) (counts-freed u k i)
-
-    pub all-counts : (xs : List LimboEntry) (u : World T) → KeepsCounts w u → KeepsCounts w (all_reclaimed holds u p xs)
-    all-counts [] u i = i
-    all-counts (Item k ∷ xs) u i =
-        all-counts xs (reclaimed holds u p (Item k)) (out-counts u k (waiting_value u k (standing_at u k)) i)
-    all-counts (Job j ∷ xs) u i =
-        all-counts xs (reclaimed holds u p (Job j)) (record { slots = i.slots; made = i.made; in_place = i.in_place; home = i.home })
-
-    pub counts-opened : KeepsCounts w (steps.opened holds w p)
-    counts-opened = by (is_open (place_at w p)) (finds_another (steps.nested w p).time p) where
-      by : (b c : Bool) → (let u = steps.nested w p in KeepsCounts w (if b then u else (if c then steps.changed holds u p else u)))
-      by true c = record { slots = refl; made = refl; in_place = refl; home = refl }
-      by false false = record { slots = refl; made = refl; in_place = refl; home = refl }
-      by false true =
-          let first = steps.rotated (steps.nested w p) p in
-          let all = all-counts (due_next (place_at (steps.nested w p) p)) first (record { slots = refl; made = refl; in_place = refl; home = refl }) in
-          record { slots = all.slots; made = all.made; in_place = all.in_place; home = all.home }

@@ -7,14 +7,13 @@ use Rattle.sdd_core.specs.declared.limits.Limits.{Limits}
 use Rattle.sdd_participants.specs.Slab.{Entries, IsEmptyAt, entry_at, with_entry}
 use Rattle.sdd_participants.specs.EpochState.{is_open}
 use Rattle.sdd_participants.specs.declared.waiting.LimboEntry.TheVariants.{Job}
-use Rattle.sdd_participants.specs.declared.standing.Standing.{Standing}
 use Rattle.sdd_space.specs.UnderGuards.{CallsUnder}
 use Rattle.sdd_space.specs.UnderGuards.CallsUnder.{none, more_calls}
 use Rattle.sdd_space.specs.World.{World, IsPlaceOf, place_at}
-use Rattle.sdd_space.specs.WorldChanges.{deferred, made_as, nulled, opened, reclaims}
+use Rattle.sdd_space.specs.WorldChanges.{deferred, opened, reclaims}
 use Rattle.sdd_space.specs.WorldInvariant.{IsWhole}
-use Rattle.sdd_space.specs.WorldStep.{WorldStep, IsFirst}
-use Rattle.sdd_space.specs.WorldStep.WorldStep.{changes_cells, defers, makes}
+use Rattle.sdd_space.specs.WorldStep.{WorldStep}
+use Rattle.sdd_space.specs.WorldStep.WorldStep.{defers}
 use Rattle.sdd_space.proofs.UnderJobs.{keeps-jobs-under-guards}
 use Rattle.sdd_script_model.specs.declared.val.Val.{Val}
 use Rattle.sdd_script_model.specs.Val.{holdings_of}
@@ -29,7 +28,7 @@ use Rattle.sdd_script_model.proofs.Kept.{WereOpen}
 use Rattle.sdd_script_model.proofs.Kept as kept
 
 -- it is so after a call that leaves the guard open
-under-call : (v w : World Val) (p k : ℕ) → WasDeferredUnder v p k → WorldStep holdings_of v w → IsTrue (is_open (place_at w p)) → WasDeferredUnder w p k
+pub under-call : (v w : World Val) (p k : ℕ) → WasDeferredUnder v p k → WorldStep holdings_of v w → IsTrue (is_open (place_at w p)) → WasDeferredUnder w p k
 under-call v w p k was call o = record {
   before = was.before;
   whole = was.whole;
@@ -41,7 +40,7 @@ under-call v w p k was call o = record {
 }
 
 -- what was deferred under a guard stays so
-abbrev KeepsUnder : World Val → World Val → Type 0
+abbrev pub KeepsUnder : World Val → World Val → Type 0
 KeepsUnder v w = (p k : ℕ) → IsTrue (is_open (place_at w p)) → WasDeferredUnder v p k → WasDeferredUnder w p k
 
 module _ (d new : ScriptState) (jobs : JobsHaveDates d) (dates : new.job_dates ≡ d.job_dates) (moment : new.moment ≡ d.moment) where
@@ -63,19 +62,13 @@ module _ (d new : ScriptState) (jobs : JobsHaveDates d) (dates : new.job_dates �
   }
 
   module _ (were : WereOpen d new) (same : new.world.jobs ≡ d.world.jobs) where
-    by-keeping : KeepsUnder d.world new.world → JobsHaveDates new
+    pub by-keeping : KeepsUnder d.world new.world → JobsHaveDates new
     by-keeping keeps =
         as-before were keeps (λ k some. subst (λ (js : Entries _). IsSome (entry_at js k)) same some) (ap length same)
 
     -- one call, which defers none
     pub job_dates-call : WorldStep holdings_of d.world new.world → JobsHaveDates new
     job_dates-call call = by-keeping (λ p k o was. under-call d.world new.world p k was call o)
-
-    -- two calls, one after the other
-    pub job_dates-two : (mid : World Val) → WorldStep holdings_of d.world mid → WorldStep holdings_of mid new.world →
-        ((p : ℕ) → IsTrue (is_open (place_at new.world p)) → IsTrue (is_open (place_at mid p))) → JobsHaveDates new
-    job_dates-two mid first second mid_open =
-        by-keeping (λ p k o was. under-call mid new.world p k (under-call d.world mid p k was first (mid_open p o)) second o)
 
   -- nobody has a guard open
   pub job_dates-shut : ((p : ℕ) → IsTrue (is_open (place_at new.world p)) → ⊥) → new.world.jobs ≡ d.world.jobs → JobsHaveDates new
@@ -84,18 +77,6 @@ module _ (d new : ScriptState) (jobs : JobsHaveDates d) (dates : new.job_dates �
     early = same-early;
     long = ap length dates ∙ jobs.long ∙ sym (ap length same);
   }
-
--- an item is made, with its cell
-module _ (d new : ScriptState) (jobs : JobsHaveDates d) where
-  pub job_dates-made : (c k : ℕ) (value : Val) (x : Standing) → IsFirst x → IsEmptyAt d.world.standings k →
-      new.world ≡ made_as (nulled d.world c) k value x → new.job_dates ≡ d.job_dates → new.moment ≡ d.moment → WereOpen d new → JobsHaveDates new
-  job_dates-made c k value x first empty world dates moment were =
-      let mid = nulled d.world c in
-      let cells : WorldStep holdings_of d.world mid = changes_cells d.world mid.cells (length-set d.world.cells c _) in
-      let item : WorldStep holdings_of mid new.world =
-      subst (λ (w : World Val). WorldStep holdings_of mid w) (sym world) (makes mid k value x first empty) in
-      job_dates-two d new jobs dates moment were (ap (λ (w : World Val). w.jobs) world) mid cells item
-      (λ p o. subst (λ (w : World Val). IsTrue (is_open (place_at w p))) world o)
 
 -- a job is deferred, in place k of the table, in this line
 module _ (d new : ScriptState) (jobs : JobsHaveDates d) (whole : IsWhole d.world) (p k : ℕ) (live : IsPlaceOf d.world p) (free : IsEmptyAt d.world.jobs k)

@@ -2,14 +2,11 @@
 use Rattle.std.proofs.lemmas.List.Sums.{get_or-le-sum_by}
 use Rattle.sdd_participants.specs.EpochState as time
 use Rattle.sdd_core.specs.declared.limits.Limits.{Limits}
-use Rattle.sdd_space.specs.WorldStep.{WorldStep, IsFirst}
-use Rattle.sdd_space.specs.WorldStep.WorldStep.{opens, makes, changes_cells}
-use Rattle.sdd_participants.specs.Slab.{IsEmptyAt}
-use Rattle.sdd_space.specs.WorldChanges.{made_as, nulled}
+use Rattle.sdd_space.specs.WorldStep.{WorldStep}
+use Rattle.sdd_space.specs.WorldStep.WorldStep.{opens}
 use Rattle.sdd_space.specs.UnderGuards.{IsSafe, CannotGo}
 use Rattle.sdd_space.specs.WorldInvariant.{is_of_slot}
 use Rattle.sdd_space.proofs.Whole.{one_where, times_among}
-use Rattle.sdd_space.proofs.Housed.{Whole-cells}
 use Rattle.sdd_space.proofs.Nesting.{none-if}
 use Rattle.sdd_space.proofs.Safe.{safe-call, safe-not-due, opens-keeps}
 use Rattle.sdd_space.proofs.Standings.{out-waits-not}
@@ -17,7 +14,7 @@ use Rattle.sdd_script_model.specs.ScriptState as desk
 use Rattle.sdd_script_model.specs.ScriptState.{BeginsLine, IsStart}
 use Rattle.sdd_script_model.proofs.Attending.{pushed-entry, left-entry, place, opens-one, open-place, vacant-apart, registered-guards, closed-guards, shut, entry-before}
 use Rattle.sdd_script_model.proofs.Dates.{idle-not-due, begins-out, date-before}
-use Rattle.sdd_script_model.proofs.Terms.{◌≡◌, ◌≢◌, ℕ, ◌<◌, ◌≤◌, Bool, true, false, nat_lt, List, Option, Some, None, IsSome, length, inl, inr, refl, sym, ap, ◌∙◌, subst, lt-ltb, ltb-true, arith, Contains, IsTrue, cases_eq, cases_lt, false≢true, nat_tests, length-set, LimboEntry, Item, EpochState, IsVacant, is_open, Standing, Owned, Raw, Shared, Retired, privately, is_waiting, World, IsPlaceOf, place_at, standing_at, opened, reclaims, IsWhole, is_out, Val, holdings_of, ScriptState, OpenSince, IsDated, opening_at, date_at, later, ParticipantsMatch, KeepsRecentItems}
+use Rattle.sdd_script_model.proofs.Terms.{◌≡◌, ◌≢◌, ℕ, ◌<◌, ◌≤◌, Bool, true, false, nat_lt, List, Option, Some, None, IsSome, length, inl, inr, refl, sym, ap, ◌∙◌, subst, lt-ltb, ltb-true, arith, Contains, IsTrue, cases_eq, cases_lt, false≢true, nat_tests, LimboEntry, Item, EpochState, IsVacant, is_open, Standing, Owned, Raw, Shared, Retired, privately, is_waiting, World, IsPlaceOf, place_at, standing_at, opened, reclaims, IsWhole, is_out, Val, holdings_of, ScriptState, OpenSince, IsDated, opening_at, date_at, later, ParticipantsMatch, KeepsRecentItems}
 
 -- each participant that has a guard open had one open before, since the same line
 abbrev pub WereOpen : ScriptState → ScriptState → Type 0
@@ -50,27 +47,6 @@ module _ (d new : ScriptState) (kept : KeepsRecentItems d) (dated : IsDated d ne
     -- one call
     pub kept-call : WorldStep holdings_of d.world new.world → WereOpen d new → KeepsRecentItems new
     kept-call call were = kept-by were (λ p s o safe. safe-call p s holdings_of call whole safe o) (begins-out call whole)
-
-    -- two calls, one after the other
-    pub kept-two : (mid : World Val) → WorldStep holdings_of d.world mid → WorldStep holdings_of mid new.world → IsWhole mid →
-        ((p : ℕ) → IsTrue (is_open (place_at new.world p)) → IsTrue (is_open (place_at mid p))) → WereOpen d new → BeginsOut d.world new.world → KeepsRecentItems new
-    kept-two mid first second whole_mid mid_open were begins =
-        kept-by were (λ p s o safe. safe-call p s holdings_of second whole_mid (safe-call p s holdings_of first whole safe (mid_open p o)) o) begins
-
-    -- an item is made, with its cell
-    pub kept-made : (c k : ℕ) (value : Val) (x : Standing) → IsFirst x → IsEmptyAt d.world.standings k →
-        new.world ≡ made_as (nulled d.world c) k value x → WereOpen d new → KeepsRecentItems new
-    kept-made c k value x first empty world were =
-        let mid = nulled d.world c in
-        let whole_mid = Whole-cells d.world mid.cells whole in
-        let cells : WorldStep holdings_of d.world mid = changes_cells d.world mid.cells (length-set d.world.cells c _) in
-        let item : WorldStep holdings_of mid new.world =
-        subst (λ (w : World Val). WorldStep holdings_of mid w) (sym world) (makes mid k value x first empty) in
-        kept-two mid cells item whole_mid (λ p o. subst (λ (w : World Val). IsTrue (is_open (place_at w p))) world o) were (begins-out item whole_mid)
-
--- nobody has a guard open
-pub kept-shut : (d : ScriptState) → ((p : ℕ) → IsTrue (is_open (place_at d.world p)) → ⊥) → KeepsRecentItems d
-kept-shut d none n s x there o waits since = absurd (none x.place o)
 
 -- nobody is there
 pub kept-start : {limits : Limits} (d : ScriptState) → IsStart limits d → KeepsRecentItems d

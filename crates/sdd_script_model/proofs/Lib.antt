@@ -1,8 +1,9 @@
 pub mod StockWords
 pub mod Terms
 pub mod Entry
+pub mod SmallSteps
 pub mod Stocked
-pub mod Keepers
+pub mod Links
 pub mod Attending
 pub mod Dates
 pub mod Kept
@@ -11,6 +12,8 @@ pub mod Layers
 pub mod Gone
 pub mod Deferred
 pub mod JobDates
+pub mod Frames
+pub mod Chains
 pub mod Going
 pub mod WaitingFor
 pub mod Collected

@@ -1,113 +1,97 @@
 -- Which item is in which slot, after each step of a call
-use Rattle.sdd_participants.specs.EpochState.{EpochState, is_open, finds_another, due_next}
-use Rattle.sdd_space.specs.WorldChanges as steps
-use Rattle.sdd_space.specs.WorldChanges.{retired, with_standing, owner_given, cell_closed, freed, taken_out, waiting_value, reclaimed, all_reclaimed, vacated, dropped_out, dropped}
-use Rattle.sdd_space.proofs.Opening.{keeps-owner_given, keeps-cell_closed, keeps-given_all}
-use Rattle.sdd_space.proofs.Standings.{out-some}
-use Rattle.sdd_script_model.proofs.Entry.{at-same, at-other, at-pushed, at-end, at-default, as-each, inside, not-free}
-use Rattle.sdd_script_model.proofs.StockWords.{◌≡◌, ◌≢◌, ℕ, ◌<◌, Bool, true, false, if◌then◌else◌, List, [], ◌∷◌, ◌++◌, Option, Some, None, IsSome, is_some, length, slice_index_or, slice_set, inl, inr, refl, sym, ap, ◌∙◌, subst, arith, cases_eq, length-set, IsEmptyAt, with_entry, without_entry, LimboEntry, Item, Job, Standing, is_out, OwnerOrCell, World, place_at, standing_at, value_at}
-use Rattle.std.proofs.lemmas.List.{length_push}
+use Rattle.sdd_participants.specs.EpochState.{EpochState}
 use Rattle.sdd_participants.specs.declared.standing.Standing.TheVariants.{Shared, Retired}
+use Rattle.sdd_space.specs.WorldChanges.{retired, with_standing, owner_given, cell_closed, freed, all_reclaimed, vacated, dropped_out, dropped, opened, ran}
+use Rattle.sdd_space.proofs.Standings.{out-some}
 use Rattle.sdd_script_model.specs.ScriptState.{ScriptState, IsThere, slot_at, name_at}
 use Rattle.sdd_script_model.specs.Sound.{SlotsHaveNames}
+use Rattle.sdd_script_model.proofs.Entry.{at-same, at-other, at-pushed, at-end, as-each, inside, not-free, set-either}
+use Rattle.sdd_script_model.proofs.SmallSteps.{keeps-given, keeps-closed, keeps-all_given, keeps-all, keeps-opened}
+use Rattle.sdd_script_model.proofs.StockWords.{◌≡◌, ◌≢◌, ℕ, ◌<◌, true, List, [], ◌∷◌, ◌++◌, Option, Some, None, IsSome, is_some, length, slice_index_or, slice_set, inl, inr, refl, sym, ap, ◌∙◌, subst, arith, cases_eq, length-set, IsEmptyAt, with_entry, without_entry, LimboEntry, Standing, is_out, World, standing_at, value_at, Val, holdings_of}
+use Rattle.std.proofs.lemmas.List.{length_push}
 
--- the same slots are there, and none is taken that was free
-pub record TakesNoSlot {T : Type 0} (old new : World T) : Type 0 where
+-- the same slots are there, none is taken that was free, no item is made, and the home is the same
+pub record KeepsSlots (old new : World Val) : Type 0 where
   pub taken : (s : ℕ) → IsSome (standing_at new s) → IsSome (standing_at old s)
   pub slots : length new.standings ≡ length old.standings
+  pub home : new.home ≡ old.home
+  pub made : new.tally.made ≡ old.tally.made
 
-module _ {T : Type 0} where
-  -- only time, values or cells change
-  pub no_slot-same : (w u : World T) → u.standings ≡ w.standings → TakesNoSlot w u
-  no_slot-same w u e = record { taken = λ s t. rw e at t; slots = ap length e }
+-- only time, values, cells or jobs change
+pub slots-same : (w u : World Val) → u.standings ≡ w.standings → u.home ≡ w.home → u.tally.made ≡ w.tally.made → KeepsSlots w u
+slots-same w u e home made = record { taken = λ s t. rw e at t; slots = ap length e; home = home; made = made }
 
-  pub no_slot-then : {u v w : World T} → TakesNoSlot u v → TakesNoSlot v w → TakesNoSlot u w
-  no_slot-then a b = record { taken = λ s t. a.taken s (b.taken s t); slots = b.slots ∙ a.slots }
+pub slots-then : {u v w : World Val} → KeepsSlots u v → KeepsSlots v w → KeepsSlots u w
+slots-then a b = record { taken = λ s t. a.taken s (b.taken s t); slots = b.slots ∙ a.slots; home = b.home ∙ a.home; made = b.made ∙ a.made }
 
-  -- a slot that is taken stands otherwise
-  pub no_slot-set : (w : World T) (k : ℕ) (s : Standing) (t : EpochState) → IsSome (standing_at w k) →
-      TakesNoSlot w (record w { time = t; standings = with_entry w.standings k s })
-  no_slot-set w k s t some = record {
-    taken = λ j now. subst (λ b. b ≡ true) (as-each is_some w.standings k (Some s) None (sym some) j) now;
-    slots = length-set w.standings k (Some s);
-  }
+-- a slot that is taken stands otherwise
+pub slots-set : (w u : World Val) (k : ℕ) (s : Standing) → IsSome (standing_at w k) → u.standings ≡ with_entry w.standings k s → u.home ≡ w.home →
+    u.tally.made ≡ w.tally.made → KeepsSlots w u
+slots-set w u k s some is home made = record {
+  taken = λ j now. subst (λ b. b ≡ true) (as-each is_some w.standings k (Some s) None (sym some) j) (rw is at now);
+  slots = ap length is ∙ length-set w.standings k (Some s);
+  home = home;
+  made = made;
+}
 
-  pub no_slot-standing : (w : World T) (k : ℕ) (s : Standing) → IsSome (standing_at w k) → TakesNoSlot w (with_standing w k s)
-  no_slot-standing w k s some = no_slot-set w k s w.time some
+-- a slot is free
+slots-freed : (w u : World Val) (k : ℕ) → u.standings ≡ without_entry w.standings k → u.home ≡ w.home → u.tally.made ≡ w.tally.made → KeepsSlots w u
+slots-freed w u k is home made = record {
+  taken = λ s t. elim (set-either w.standings k s None None) [
+    | inl gone ↦ absurd (not-free (standing_at u s) t (rw is gone))
+    | inr same ↦ subst (λ (x : Option Standing). IsSome x) (ap (λ ss. slice_index_or ss s None) is ∙ same) t
+  ];
+  slots = ap length is ∙ length-set w.standings k None;
+  home = home;
+  made = made;
+}
 
-  pub no_slot-retired : (w : World T) (p k : ℕ) → IsSome (standing_at w k) → TakesNoSlot w (retired w p k)
-  no_slot-retired w p k some = no_slot-set w k Retired (retired w p k).time some
+module _ (w : World Val) where
+  abbrev P : World Val → Type 0
+  P = KeepsSlots w
 
-  -- a slot is free
-  pub no_slot-freed : (w : World T) (k : ℕ) → TakesNoSlot w (freed w k)
-  no_slot-freed w k = record {
-    taken = λ s t.
-        elim (cases_eq s k) [
-          | inl e ↦ absurd (not-free (standing_at (freed w k) s) t (rw e (at-default w.standings k None)))
-          | inr ne ↦ rw (at-other w.standings k s None None ne) at t
-        ];
-    slots = length-set w.standings k None;
-  }
+  retires : (u : World Val) (p k : ℕ) → is_out (standing_at u k) ≡ true → P u → P (retired u p k)
+  retires u p k out i = slots-then i (slots-set u (retired u p k) k Retired (out-some (standing_at u k) out) refl refl refl)
 
-  -- what p is given takes none
-  module _ (w : World T) (p : ℕ) where
-    retires : (u : World T) (k : ℕ) → is_out (standing_at u k) ≡ true → TakesNoSlot w u → TakesNoSlot w (retired u p k)
-    retires u k out i = no_slot-then i (no_slot-retired u p k (out-some (standing_at u k) out))
+  frees_cell : (u : World Val) (c : ℕ) → P u → P (record u { cells = without_entry u.cells c })
+  frees_cell u c i = record { taken = i.taken; slots = i.slots; home = i.home; made = i.made }
 
-    frees_cell : (u : World T) (c : ℕ) → TakesNoSlot w u → TakesNoSlot w (record u { cells = without_entry u.cells c })
-    frees_cell u c i = record { taken = i.taken; slots = i.slots }
+  shares : (u : World Val) (k n m : ℕ) → standing_at u k ≡ Some (Shared n) → P u → P (with_standing u k (Shared m))
+  shares u k n m is i = slots-then i (slots-set u (with_standing u k (Shared m)) k (Shared m) (ap is_some is) refl refl refl)
 
-    shares : (u : World T) (k n m : ℕ) → standing_at u k ≡ Some (Shared n) → TakesNoSlot w u → TakesNoSlot w (with_standing u k (Shared m))
-    shares u k n m is i = no_slot-then i (no_slot-standing u k (Shared m) (ap is_some is))
+  frees : (u : World Val) (k : ℕ) → P u → P (freed u k)
+  frees u k i = slots-then i (slots-freed u (freed u k) k refl refl refl)
 
-    start : TakesNoSlot w w
-    start = no_slot-same w w refl
+  times : (u : World Val) (t : EpochState) → P u → P (record u { time = t })
+  times u t i = record { taken = i.taken; slots = i.slots; home = i.home; made = i.made }
 
-    pub no_slot-given : (k : ℕ) (s : Option Standing) → standing_at w k ≡ s → TakesNoSlot w (owner_given w p k s)
-    no_slot-given k s is = keeps-owner_given p (TakesNoSlot w) retires frees_cell shares w k s is start
+  runs : (u : World Val) (j : ℕ) → P u → P (ran u j)
+  runs u j i = record { taken = i.taken; slots = i.slots; home = i.home; made = i.made }
 
-    pub no_slot-cell_closed : (c : ℕ) → TakesNoSlot w (cell_closed w p c)
-    no_slot-cell_closed c = keeps-cell_closed p (TakesNoSlot w) retires frees_cell shares w c start
+  start : P w
+  start = slots-same w w refl refl refl
 
-    module _ (holds : T → List OwnerOrCell) where
-      out-no_slot : (u : World T) (k : ℕ) (v : Option T) → TakesNoSlot w u → TakesNoSlot w (taken_out holds u p k v)
-      out-no_slot u k None i = i
-      out-no_slot u k (Some v) i =
-          keeps-given_all p (TakesNoSlot w) retires frees_cell shares (freed u k) (holds v) (no_slot-then i (no_slot-freed u k))
+  pub slots-given : (p k : ℕ) (s : Option Standing) → standing_at w k ≡ s → P (owner_given w p k s)
+  slots-given p k s is = keeps-given P retires frees_cell shares w p k s is start
 
-      one-no_slot : (u : World T) (x : LimboEntry) → TakesNoSlot w u → TakesNoSlot w (reclaimed holds u p x)
-      one-no_slot u (Item k) i = out-no_slot u k (waiting_value u k (standing_at u k)) i
-      one-no_slot u (Job j) i = record { taken = i.taken; slots = i.slots }
+  pub slots-cell_closed : (p c : ℕ) → P (cell_closed w p c)
+  slots-cell_closed p c = keeps-closed P retires frees_cell shares w p c start
 
-      pub all-no_slot : (xs : List LimboEntry) (u : World T) → TakesNoSlot w u → TakesNoSlot w (all_reclaimed holds u p xs)
-      all-no_slot [] u i = i
-      all-no_slot (x ∷ xs) u i = all-no_slot xs (reclaimed holds u p x) (one-no_slot u x i)
+  pub slots-all : (p : ℕ) (xs : List LimboEntry) (u : World Val) → P u → P (all_reclaimed holdings_of u p xs)
+  slots-all p xs u i = keeps-all P retires frees_cell shares frees times runs u p xs i
 
-      -- a drop in place takes none
-      dropped_out-no_slot : (k : ℕ) (v : Option T) → TakesNoSlot w (dropped_out holds w p k v)
-      dropped_out-no_slot k None = start
-      dropped_out-no_slot k (Some v) =
-          let f = no_slot-freed w k in
-          let first : TakesNoSlot w (vacated w k) = record { taken = f.taken; slots = f.slots } in
-          keeps-given_all p (TakesNoSlot w) retires frees_cell shares (vacated w k) (holds v) first
+  pub slots-opened : (p : ℕ) → P (opened holdings_of w p)
+  slots-opened p = keeps-opened P retires frees_cell shares frees times runs w p start
 
-      pub no_slot-dropped : (k : ℕ) → TakesNoSlot w (dropped holds w p k)
-      no_slot-dropped k = dropped_out-no_slot k (value_at w k)
-
-      -- an opening takes none
-      pub no_slot-opened : TakesNoSlot w (steps.opened holds w p)
-      no_slot-opened = by (is_open (place_at w p)) (finds_another (steps.nested w p).time p) where
-        by : (b c : Bool) → (let u = steps.nested w p in TakesNoSlot w (if b then u else (if c then steps.changed holds u p else u)))
-        by true c = no_slot-same w (steps.nested w p) refl
-        by false false = no_slot-same w (steps.nested w p) refl
-        by false true =
-            let first = steps.rotated (steps.nested w p) p in
-            let all = all-no_slot (due_next (place_at (steps.nested w p) p)) first (no_slot-same w first refl) in
-            record { taken = all.taken; slots = all.slots }
+  pub slots-dropped : (p k : ℕ) → P (dropped holdings_of w p k)
+  slots-dropped p k = by (value_at w k) where
+    by : (v : Option Val) → P (dropped_out holdings_of w p k v)
+    by None = start
+    by (Some v) = keeps-all_given P retires frees_cell shares (vacated w k) p (holdings_of v) (slots-freed w (vacated w k) k refl refl refl)
 
 -- no item is made, and no slot is taken
 pub stocked-as : (d new : ScriptState) → SlotsHaveNames d → new.slots ≡ d.slots → new.names ≡ d.names → length new.dates ≡ length d.dates →
-    TakesNoSlot d.world new.world → SlotsHaveNames new
+    KeepsSlots d.world new.world → SlotsHaveNames new
 stocked-as d new i slots names dates none = record {
   named = λ s t. rw (slots, names) (i.named s (none.taken s t));
   names = ap length names ∙ i.names ∙ sym none.slots;

@@ -134,8 +134,8 @@ module _ (d new : ScriptState) (whole : IsWhole d.world) (after : IsWhole new.wo
   abbrev Quiet : Call → Reply → Type 0
   Quiet call given = (k : ℕ) → (is_opening k call given ≡ false) × (is_close k call given ≡ false) × (is_end k call given ≡ false)
 
-  still : (call : Call) (given : Reply) → Quiet call given → Still d new → Turn d new call given
-  still call given quiet s = calm (record {
+  still : {call : Call} {given : Reply} → Quiet call given → Still d new → Turn d new call given
+  still quiet s = calm (record {
     place = 0;
     world = calm-still 0 d.world new.world whole after s.0;
     places = s.1;
@@ -148,13 +148,13 @@ module _ (d new : ScriptState) (whole : IsWhole d.world) (after : IsWhole new.wo
   live : (n : ℕ) → IsParticipant d n → IsPlaceOf d.world (place_of d n)
   live n there = let x = some-is (opening_at d.places n) there in subst (IsPlaceOf d.world) (sym (ap place_in x.1)) (inside n x.0 x.1)
 
-  acts : (n : PlaceName) (action : Action) (given : Reply) → Quiet (At n action) given → IsParticipant d n.0 → new.places ≡ d.places →
-      Calmly (place_of d n.0) d.world new.world → Turn d new (At n action) given
-  acts n action given quiet there places world =
+  acts : {n : PlaceName} {action : Action} {given : Reply} (w : World Val) → Quiet (At n action) given → IsParticipant d n.0 → new.places ≡ d.places →
+      new.world ≡ w → (IsWhole w → Calmly (place_of d n.0) d.world w) → Turn d new (At n action) given
+  acts {n} w quiet there places world calmly =
       let x = some-is (opening_at d.places n.0) there in
       calm (record {
         place = place_of d n.0;
-        world = world;
+        world = subst (λ (u : World Val). Calmly (place_of d n.0) d.world u) (sym world) (calmly (subst (λ (u : World Val). IsWhole u) world after));
         places = places;
         own = λ k now was. (x.0, x.1, sym (ap place_in x.1));
         no_opening = λ k. (quiet k).0;
@@ -162,143 +162,104 @@ module _ (d new : ScriptState) (whole : IsWhole d.world) (after : IsWhole new.wo
         no_end = λ k. (quiet k).2;
       })
 
-  gives : (n : PlaceName) (action : Action) (given : Reply) → Quiet (At n action) given → IsParticipant d n.0 → new.places ≡ d.places →
-      Gives (place_of d n.0) d.world new.world → Turn d new (At n action) given
-  gives n action given quiet there places g =
-      acts n action given quiet there places (calm-gives (place_of d n.0) d.world new.world whole after (live n.0 there).0 g)
+  gives : {n : PlaceName} {action : Action} {given : Reply} (w : World Val) → Quiet (At n action) given → IsParticipant d n.0 → new.places ≡ d.places →
+      new.world ≡ w → Gives (place_of d n.0) d.world w → Turn d new (At n action) given
+  gives {n} w quiet there places world g =
+      acts w quiet there places world (λ whole_now. calm-gives (place_of d n.0) d.world w whole whole_now (live n.0 there).0 g)
 
-  -- the world is this one
-  calm-as : (p : ℕ) (w : World Val) → new.world ≡ w → (IsWhole w → Calmly p d.world w) → Calmly p d.world new.world
-  calm-as p w e calmly = subst (λ (u : World Val). Calmly p d.world u) (sym e) (calmly (subst (λ (u : World Val). IsWhole u) e after))
+  -- what is left of the desk
+  world-left : {e : ScriptState} → new ≡ e → new.world ≡ e.world
+  world-left same = ap (λ (x : ScriptState). x.world) same
+
+  time-left : {e : ScriptState} → new ≡ e → new.world.time ≡ e.world.time
+  time-left same = ap (λ (x : ScriptState). x.world.time) same
+
+  places-left : {e : ScriptState} → new ≡ e → new.places ≡ e.places
+  places-left same = ap (λ (x : ScriptState). x.places) same
 
   turn-does : (n : PlaceName) (action : Action) (given : Reply) → IsValid d n.0 action → Does d n.0 (place_of d n.0) action given new →
       Turn d new (At n action) given
-  turn-does n call.Open (reply.Guard g epoch) valid (nests, name, is, leaves) =
-      opens n g epoch valid is (ap (λ (e : ScriptState). e.world) leaves) (ap (λ (e : ScriptState). e.places) leaves)
-  turn-does n call.Open (reply.Refused TooManyGuards) valid (full, e) =
-      still (At n call.Open) (reply.Refused TooManyGuards) (λ k. (refl, refl, refl)) (same-desk d new e)
-  turn-does n (call.Epoch g) (reply.Epoch epoch) valid (is, e) = still (At n (call.Epoch g)) (reply.Epoch epoch) (λ k. (refl, refl, refl)) (same-desk d new e)
-  turn-does n (call.Garbage g) (reply.Truth b) valid (is, e) = still (At n (call.Garbage g)) (reply.Truth b) (λ k. (refl, refl, refl)) (same-desk d new e)
+  turn-does n call.Open (reply.Guard g epoch) valid (nests, name, is, leaves) = opens n g epoch valid is (world-left leaves) (places-left leaves)
+  turn-does n call.Open (reply.Refused TooManyGuards) valid (full, e) = still (λ k. (refl, refl, refl)) (same-desk d new e)
+  turn-does n (call.Epoch g) (reply.Epoch epoch) valid (is, e) = still (λ k. (refl, refl, refl)) (same-desk d new e)
+  turn-does n (call.Garbage g) (reply.Truth b) valid (is, e) = still (λ k. (refl, refl, refl)) (same-desk d new e)
   turn-does n (call.Set g) reply.Done valid leaves =
-      acts n (call.Set g) reply.Done (λ k. (refl, refl, refl)) valid.0 (ap (λ (e : ScriptState). e.places) leaves)
-      (calm-as (place_of d n.0) (steps.stirred d.world (place_of d n.0)) (ap (λ (e : ScriptState). e.world) leaves)
-      (calm-stirred d.world (place_of d n.0) (live n.0 valid.0).0 whole))
+      acts (steps.stirred d.world (place_of d n.0)) (λ k. (refl, refl, refl)) valid.0 (places-left leaves) (world-left leaves)
+      (calm-stirred d.world (place_of d n.0) (live n.0 valid.0).0 whole)
   turn-does n (call.Accelerate g) reply.Done valid leaves =
-      acts n (call.Accelerate g) reply.Done (λ k. (refl, refl, refl)) valid.0 (ap (λ (e : ScriptState). e.places) leaves)
-      (calm-as (place_of d n.0) (steps.accelerated d.world (place_of d n.0)) (ap (λ (e : ScriptState). e.world) leaves)
-      (calm-accelerated d.world (place_of d n.0) (live n.0 valid.0).0 whole))
+      acts (steps.accelerated d.world (place_of d n.0)) (λ k. (refl, refl, refl)) valid.0 (places-left leaves) (world-left leaves)
+      (calm-accelerated d.world (place_of d n.0) (live n.0 valid.0).0 whole)
   turn-does n (call.Defer g) (reply.Job j) valid (name, (k, free, leaves)) =
-      acts n (call.Defer g) (reply.Job j) (λ k. (refl, refl, refl)) valid.0 (ap (λ (e : ScriptState). e.places) leaves)
-      (calm-as (place_of d n.0) (steps.deferred d.world (place_of d n.0) k) (ap (λ (e : ScriptState). e.world) leaves)
-      (calm-deferred d.world (place_of d n.0) (live n.0 valid.0).0 whole k))
-  turn-does n (call.Defer g) (reply.Refused NoJob) valid (full, e) =
-      still (At n (call.Defer g)) (reply.Refused NoJob) (λ k. (refl, refl, refl)) (same-desk d new e)
-  turn-does n (call.Close g) reply.Done valid leaves =
-      closes n g valid.0 (ap (λ (e : ScriptState). e.world) leaves) (ap (λ (e : ScriptState). e.places) leaves)
-  turn-does n call.End reply.Done valid (shut, leaves) =
-      goes n valid (ap (λ (e : ScriptState). e.world) leaves) (ap (λ (e : ScriptState). e.places) leaves)
-  turn-does n call.End (reply.Refused GuardOpen) valid (is, e) = still (At n call.End) (reply.Refused GuardOpen) (λ k. (refl, refl, refl)) (same-desk d new e)
+      acts (steps.deferred d.world (place_of d n.0) k) (λ k. (refl, refl, refl)) valid.0 (places-left leaves) (world-left leaves)
+      (calm-deferred d.world (place_of d n.0) (live n.0 valid.0).0 whole k)
+  turn-does n (call.Defer g) (reply.Refused NoJob) valid (full, e) = still (λ k. (refl, refl, refl)) (same-desk d new e)
+  turn-does n (call.Close g) reply.Done valid leaves = closes n g valid.0 (world-left leaves) (places-left leaves)
+  turn-does n call.End reply.Done valid (shut, leaves) = goes n valid (world-left leaves) (places-left leaves)
+  turn-does n call.End (reply.Refused GuardOpen) valid (is, e) = still (λ k. (refl, refl, refl)) (same-desk d new e)
   turn-does n (call.Owned value) (reply.Item o i) valid (name, (k, w, makes, given)) =
-      still (At n (call.Owned value)) (reply.Item o i) (λ k. (refl, refl, refl))
-      (ap (λ (e : ScriptState). e.world.time) given.1 ∙ ap (λ (u : World Val). u.time) makes.made, ap (λ (e : ScriptState). e.places) given.1)
-  turn-does n (call.Owned value) (reply.Refused r) valid (is, e) =
-      still (At n (call.Owned value)) (reply.Refused r) (λ k. (refl, refl, refl)) (same-desk d new e)
+      still (λ k. (refl, refl, refl)) (time-left given.1 ∙ ap (λ (u : World Val). u.time) makes.made, places-left given.1)
+  turn-does n (call.Owned value) (reply.Refused r) valid (is, e) = still (λ k. (refl, refl, refl)) (same-desk d new e)
   turn-does n (call.Shared value) (reply.Item o i) valid (name, (k, w, makes, given)) =
-      still (At n (call.Shared value)) (reply.Item o i) (λ k. (refl, refl, refl))
-      (ap (λ (e : ScriptState). e.world.time) given.1 ∙ ap (λ (u : World Val). u.time) makes.made, ap (λ (e : ScriptState). e.places) given.1)
-  turn-does n (call.Shared value) (reply.Refused r) valid (is, e) =
-      still (At n (call.Shared value)) (reply.Refused r) (λ k. (refl, refl, refl)) (same-desk d new e)
-  turn-does n (call.Read o) given valid (is, e) = still (At n (call.Read o)) given (λ k. (refl, refl, refl)) (same-desk d new e)
-  turn-does n (call.Look i g) given valid (is, e) = still (At n (call.Look i g)) given (λ k. (refl, refl, refl)) (same-desk d new e)
-  turn-does n (call.Upgrade i g) reply.Nothing valid (is, e) = still (At n (call.Upgrade i g)) reply.Nothing (λ k. (refl, refl, refl)) (same-desk d new e)
-  turn-does n (call.Upgrade i g) given valid does =
-      still (At n (call.Upgrade i g)) given (λ k. (refl, refl, refl)) (still-adds d (desk.slot_at d i.0) given new does)
-  turn-does n (call.Clone o) given valid (k, is, does) = still (At n (call.Clone o)) given (λ k. (refl, refl, refl)) (still-adds d k given new does)
+      still (λ k. (refl, refl, refl)) (time-left given.1 ∙ ap (λ (u : World Val). u.time) makes.made, places-left given.1)
+  turn-does n (call.Shared value) (reply.Refused r) valid (is, e) = still (λ k. (refl, refl, refl)) (same-desk d new e)
+  turn-does n (call.Read o) given valid (is, e) = still (λ k. (refl, refl, refl)) (same-desk d new e)
+  turn-does n (call.Look i g) given valid (is, e) = still (λ k. (refl, refl, refl)) (same-desk d new e)
+  turn-does n (call.Upgrade i g) reply.Nothing valid (is, e) = still (λ k. (refl, refl, refl)) (same-desk d new e)
+  turn-does n (call.Upgrade i g) given valid does = still (λ k. (refl, refl, refl)) (still-adds d (desk.slot_at d i.0) given new does)
+  turn-does n (call.Clone o) given valid (k, is, does) = still (λ k. (refl, refl, refl)) (still-adds d k given new does)
   turn-does n (call.Retire o) reply.Done valid (k, is, leaves) =
-      gives n (call.Retire o) reply.Done (λ k. (refl, refl, refl)) valid.0 (ap (λ (e : ScriptState). e.places) leaves)
-      (gives-as (place_of d n.0) d.world new.world (retired d.world (place_of d n.0) k) (ap (λ (e : ScriptState). e.world) leaves)
-      (Gives-retired d.world (place_of d n.0) k))
+      gives (retired d.world (place_of d n.0) k) (λ k. (refl, refl, refl)) valid.0 (places-left leaves) (world-left leaves)
+      (Gives-retired d.world (place_of d n.0) k)
   turn-does n (call.Release o) (reply.Truth b) valid (k, owners, is, by, last, leaves) =
-      gives n (call.Release o) (reply.Truth b) (λ k. (refl, refl, refl)) valid.0 (ap (λ (e : ScriptState). e.places) leaves)
-      (gives-as (place_of d n.0) d.world new.world (owner_given d.world (place_of d n.0) k (Some (Shared owners))) (ap (λ (e : ScriptState). e.world) leaves)
-      (Gives-owner_given d.world (place_of d n.0) k (Some (Shared owners)) by.shared))
+      gives (owner_given d.world (place_of d n.0) k (Some (Shared owners))) (λ k. (refl, refl, refl)) valid.0 (places-left leaves) (world-left leaves)
+      (Gives-owner_given d.world (place_of d n.0) k (Some (Shared owners)) by.shared)
   turn-does n (call.Put o number) reply.Done valid (k, w, is, may, puts, leaves) =
-      still (At n (call.Put o number)) reply.Done (λ k. (refl, refl, refl))
-      (ap (λ (e : ScriptState). e.world.time) leaves ∙ ap (λ (u : World Val). u.time) puts.put, ap (λ (e : ScriptState). e.places) leaves)
-  turn-does n (call.Put o number) (reply.Refused r) valid (is, e) =
-      still (At n (call.Put o number)) (reply.Refused r) (λ k. (refl, refl, refl)) (same-desk d new e)
-  turn-does n (call.Drop o) (reply.Refused GuardOpen) valid (is, e) =
-      still (At n (call.Drop o)) (reply.Refused GuardOpen) (λ k. (refl, refl, refl)) (same-desk d new e)
+      still (λ k. (refl, refl, refl)) (time-left leaves ∙ ap (λ (u : World Val). u.time) puts.put, places-left leaves)
+  turn-does n (call.Put o number) (reply.Refused r) valid (is, e) = still (λ k. (refl, refl, refl)) (same-desk d new e)
+  turn-does n (call.Drop o) (reply.Refused GuardOpen) valid (is, e) = still (λ k. (refl, refl, refl)) (same-desk d new e)
   turn-does n (call.Drop o) given valid does =
-      gives n (call.Drop o) given (λ k. (refl, refl, refl)) valid.0 (ap (λ (e : ScriptState). e.places) does.4)
-      (gives-as (place_of d n.0) d.world new.world does.1 (ap (λ (e : ScriptState). e.world) does.4)
-      (gives-drops d.world (place_of d n.0) does.0 given does.1 (live n.0 valid.0).0 does.3))
-  turn-does n (call.Raw o) (reply.Raw i) valid (k, is, name, leaves) =
-      still (At n (call.Raw o)) (reply.Raw i) (λ k. (refl, refl, refl))
-      (ap (λ (e : ScriptState). e.world.time) leaves, ap (λ (e : ScriptState). e.places) leaves)
-  turn-does n (call.Unraw i) reply.Nothing valid (is, e) = still (At n (call.Unraw i)) reply.Nothing (λ k. (refl, refl, refl)) (same-desk d new e)
-  turn-does n (call.Unraw i) (reply.Owner o) valid (raw, given) =
-      still (At n (call.Unraw i)) (reply.Owner o) (λ k. (refl, refl, refl))
-      (ap (λ (e : ScriptState). e.world.time) given.1, ap (λ (e : ScriptState). e.places) given.1)
-  turn-does n (call.See i g) reply.Nothing valid (is, e) = still (At n (call.See i g)) reply.Nothing (λ k. (refl, refl, refl)) (same-desk d new e)
-  turn-does n (call.See i g) given valid does = still (At n (call.See i g)) given (λ k. (refl, refl, refl)) (same-desk d new does.2)
-  turn-does n (call.CellOwned x) given valid does =
-      still (At n (call.CellOwned x)) given (λ k. (refl, refl, refl)) (still-cell d x (cell_as None) given new does)
+      gives does.1 (λ k. (refl, refl, refl)) valid.0 (places-left does.4) (world-left does.4)
+      (gives-drops d.world (place_of d n.0) does.0 given does.1 (live n.0 valid.0).0 does.3)
+  turn-does n (call.Raw o) (reply.Raw i) valid (k, is, name, leaves) = still (λ k. (refl, refl, refl)) (time-left leaves, places-left leaves)
+  turn-does n (call.Unraw i) reply.Nothing valid (is, e) = still (λ k. (refl, refl, refl)) (same-desk d new e)
+  turn-does n (call.Unraw i) (reply.Owner o) valid (raw, given) = still (λ k. (refl, refl, refl)) (time-left given.1, places-left given.1)
+  turn-does n (call.See i g) reply.Nothing valid (is, e) = still (λ k. (refl, refl, refl)) (same-desk d new e)
+  turn-does n (call.See i g) given valid does = still (λ k. (refl, refl, refl)) (same-desk d new does.2)
+  turn-does n (call.CellOwned x) given valid does = still (λ k. (refl, refl, refl)) (still-cell d x (cell_as None) given new does)
   turn-does n (call.CellShared x) given valid does =
-      still (At n (call.CellShared x)) given (λ k. (refl, refl, refl))
-      (still-cell d x (cell_as (Some (holding.atomic_shared 0 d.world.home.cells))) given new does)
-  turn-does n (call.Load c g) (reply.Pointer i tag) valid (is, e) =
-      still (At n (call.Load c g)) (reply.Pointer i tag) (λ k. (refl, refl, refl)) (same-desk d new e)
-  turn-does n (call.Tag c) (reply.Tag tag) valid (is, e) = still (At n (call.Tag c)) (reply.Tag tag) (λ k. (refl, refl, refl)) (same-desk d new e)
-  turn-does n (call.Swap c x tag) (reply.Swapped o was) valid (k, cell, is, name, same, leaves) =
-      still (At n (call.Swap c x tag)) (reply.Swapped o was) (λ k. (refl, refl, refl))
-      (ap (λ (e : ScriptState). e.world.time) leaves, ap (λ (e : ScriptState). e.places) leaves)
+      still (λ k. (refl, refl, refl)) (still-cell d x (cell_as (Some (holding.atomic_shared 0 d.world.home.cells))) given new does)
+  turn-does n (call.Load c g) (reply.Pointer i tag) valid (is, e) = still (λ k. (refl, refl, refl)) (same-desk d new e)
+  turn-does n (call.Tag c) (reply.Tag tag) valid (is, e) = still (λ k. (refl, refl, refl)) (same-desk d new e)
+  turn-does n (call.Swap c x tag) (reply.Swapped o was) valid (k, cell, is, name, same, leaves) = still (λ k. (refl, refl, refl)) (time-left leaves, places-left leaves)
   turn-does n (call.TagIf c tag was) (reply.Truth b) valid (k, cell, is, same, leaves) =
-      still (At n (call.TagIf c tag was)) (reply.Truth b) (λ k. (refl, refl, refl))
-      (ap (λ (e : ScriptState). e.world.time) leaves ∙ still-if b d.world k (record cell { tag = tag }), ap (λ (e : ScriptState). e.places) leaves)
+      still (λ k. (refl, refl, refl)) (time-left leaves ∙ still-if b d.world k (record cell { tag = tag }), places-left leaves)
   turn-does n (call.Exchange c g i was x tag) (reply.Exchanged o) valid (k, cell, is, same, name, leaves) =
-      still (At n (call.Exchange c g i was x tag)) (reply.Exchanged o) (λ k. (refl, refl, refl))
-      (ap (λ (e : ScriptState). e.world.time) leaves, ap (λ (e : ScriptState). e.places) leaves)
-  turn-does n (call.Exchange c g i was x tag) (reply.Differs j now) valid (is, e) =
-      still (At n (call.Exchange c g i was x tag)) (reply.Differs j now) (λ k. (refl, refl, refl)) (same-desk d new e)
-  turn-does n (call.Into c) given valid (k, cell, is, back, leaves) =
-      still (At n (call.Into c)) given (λ k. (refl, refl, refl)) (ap (λ (e : ScriptState). e.world.time) leaves, ap (λ (e : ScriptState). e.places) leaves)
+      still (λ k. (refl, refl, refl)) (time-left leaves, places-left leaves)
+  turn-does n (call.Exchange c g i was x tag) (reply.Differs j now) valid (is, e) = still (λ k. (refl, refl, refl)) (same-desk d new e)
+  turn-does n (call.Into c) given valid (k, cell, is, back, leaves) = still (λ k. (refl, refl, refl)) (time-left leaves, places-left leaves)
   turn-does n (call.Copy c g) (reply.Cell r) valid (name, (k, cell, is, (owners, other, may, free, leaves))) =
-      still (At n (call.Copy c g)) (reply.Cell r) (λ k. (refl, refl, refl))
-      (ap (λ (e : ScriptState). e.world.time) leaves ∙ still-shared d.world cell.held owners, ap (λ (e : ScriptState). e.places) leaves)
-  turn-does n (call.Copy c g) (reply.Refused NoCell) valid (full, e) =
-      still (At n (call.Copy c g)) (reply.Refused NoCell) (λ k. (refl, refl, refl)) (same-desk d new e)
-  turn-does n (call.Copy c g) (reply.Refused TooManyOwners) valid (some, full, e) =
-      still (At n (call.Copy c g)) (reply.Refused TooManyOwners) (λ k. (refl, refl, refl)) (same-desk d new e)
-  turn-does n (call.Share c g) reply.Nothing valid (is, e) = still (At n (call.Share c g)) reply.Nothing (λ k. (refl, refl, refl)) (same-desk d new e)
-  turn-does n (call.Share c g) given valid does =
-      still (At n (call.Share c g)) given (λ k. (refl, refl, refl)) (still-adds d does.1 given new does.5)
+      still (λ k. (refl, refl, refl)) (time-left leaves ∙ still-shared d.world cell.held owners, places-left leaves)
+  turn-does n (call.Copy c g) (reply.Refused NoCell) valid (full, e) = still (λ k. (refl, refl, refl)) (same-desk d new e)
+  turn-does n (call.Copy c g) (reply.Refused TooManyOwners) valid (some, full, e) = still (λ k. (refl, refl, refl)) (same-desk d new e)
+  turn-does n (call.Share c g) reply.Nothing valid (is, e) = still (λ k. (refl, refl, refl)) (same-desk d new e)
+  turn-does n (call.Share c g) given valid does = still (λ k. (refl, refl, refl)) (still-adds d does.1 given new does.5)
   turn-does n (call.CloseCell c) reply.Done valid (k, is, leaves) =
-      gives n (call.CloseCell c) reply.Done (λ k. (refl, refl, refl)) valid.0 (ap (λ (e : ScriptState). e.places) leaves)
-      (gives-as (place_of d n.0) d.world new.world (cell_closed d.world (place_of d n.0) k) (ap (λ (e : ScriptState). e.world) leaves)
-      (Gives-cell_closed d.world (place_of d n.0) k (live n.0 valid.0).0))
-  turn-does n call.Collector (reply.Collector k) valid (name, (c, free, leaves)) =
-      still (At n call.Collector) (reply.Collector k) (λ k. (refl, refl, refl))
-      (ap (λ (e : ScriptState). e.world.time) leaves, ap (λ (e : ScriptState). e.places) leaves)
-  turn-does n call.Collector (reply.Refused NoCell) valid (full, e) =
-      still (At n call.Collector) (reply.Refused NoCell) (λ k. (refl, refl, refl)) (same-desk d new e)
+      gives (cell_closed d.world (place_of d n.0) k) (λ k. (refl, refl, refl)) valid.0 (places-left leaves) (world-left leaves)
+      (Gives-cell_closed d.world (place_of d n.0) k (live n.0 valid.0).0)
+  turn-does n call.Collector (reply.Collector k) valid (name, (c, free, leaves)) = still (λ k. (refl, refl, refl)) (time-left leaves, places-left leaves)
+  turn-does n call.Collector (reply.Refused NoCell) valid (full, e) = still (λ k. (refl, refl, refl)) (same-desk d new e)
   turn-does n (call.Collect o g k) given valid (c, h, w, is, at, collects, leaves) =
-      gives n (call.Collect o g k) given (λ k. (refl, refl, refl)) valid.0.0 (ap (λ (e : ScriptState). e.places) leaves)
-      (gives-as (place_of d n.0) d.world new.world w (ap (λ (e : ScriptState). e.world) leaves)
-      (gives-collects d.world (place_of d n.0) c h given w collects))
+      gives w (λ k. (refl, refl, refl)) valid.0.0 (places-left leaves) (world-left leaves) (gives-collects d.world (place_of d n.0) c h given w collects)
   turn-does n (call.CloseCollector k) reply.Done valid (c, is, quiet, leaves) =
-      acts n (call.CloseCollector k) reply.Done (λ k. (refl, refl, refl)) valid.0 (ap (λ (e : ScriptState). e.places) leaves)
-      (calm-as (place_of d n.0) (collector_closed holdings_of d.world (place_of d n.0) c) (ap (λ (e : ScriptState). e.world) leaves)
-      (calm-collector d.world (place_of d n.0) (live n.0 valid.0).0 whole c))
-  turn-does n (call.CloseCollector k) (reply.Refused GuardOpen) valid (is, e) =
-      still (At n (call.CloseCollector k)) (reply.Refused GuardOpen) (λ k. (refl, refl, refl)) (same-desk d new e)
+      acts (collector_closed holdings_of d.world (place_of d n.0) c) (λ k. (refl, refl, refl)) valid.0 (places-left leaves) (world-left leaves)
+      (calm-collector d.world (place_of d n.0) (live n.0 valid.0).0 whole c)
+  turn-does n (call.CloseCollector k) (reply.Refused GuardOpen) valid (is, e) = still (λ k. (refl, refl, refl)) (same-desk d new e)
   turn-does n action given valid never = absurd never
 
   pub turn : (call : Call) (given : Reply) → Meets d call given new → Turn d new call given
-  turn Register (reply.Place name) (is, (p, vacant, leaves)) =
-      comes name p is vacant (ap (λ (e : ScriptState). e.world) leaves) (ap (λ (e : ScriptState). e.places) leaves)
-  turn Register (reply.Refused NoPlace) (full, e) = still Register (reply.Refused NoPlace) (λ k. (refl, refl, refl)) (same-desk d new e)
-  turn Tally (reply.Tally t) (is, e) = still Tally (reply.Tally t) (λ k. (refl, refl, refl)) (same-desk d new e)
-  turn (At n action) reply.Invalid (is, e) = still (At n action) reply.Invalid (λ k. quiet-invalid k n action) (same-desk d new e)
+  turn Register (reply.Place name) (is, (p, vacant, leaves)) = comes name p is vacant (world-left leaves) (places-left leaves)
+  turn Register (reply.Refused NoPlace) (full, e) = still (λ k. (refl, refl, refl)) (same-desk d new e)
+  turn Tally (reply.Tally t) (is, e) = still (λ k. (refl, refl, refl)) (same-desk d new e)
+  turn (At n action) reply.Invalid (is, e) = still (λ k. quiet-invalid k n action) (same-desk d new e)
   turn (At n action) given (valid, does) = turn-does n action given valid does
   turn call given never = absurd never

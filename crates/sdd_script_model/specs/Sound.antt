@@ -7,11 +7,12 @@ use Rattle.sdd_space.specs.OwnerOrCell.{OwnerOrCell, IsOf}
 use Rattle.sdd_space.specs.World.{World, IsPlaceOf, place_at, standing_at, value_at}
 use Rattle.sdd_space.specs.WorldChanges.{deferred, held_in}
 use Rattle.sdd_space.specs.WorldInvariant.{IsWhole}
-use Rattle.sdd_space.specs.OwnerCounts.{IsAccounted, is_owner_of, times_held}
+use Rattle.sdd_space.specs.Ledger.{Claim, owner_of, right_to, is_right_to, IsLedger}
+use Rattle.sdd_space.specs.OwnerCounts.{is_owner_of, times_held}
 use Rattle.sdd_space.specs.UnderGuards.{CallsUnder, IsSafe}
 use Rattle.sdd_script_model.specs.declared.val.Val.{Val}
 use Rattle.sdd_script_model.specs.Val.{holdings_of, link_of}
-use Rattle.sdd_script_model.specs.ScriptState.{ScriptState, OpenSince, opening_at, holding_at, slot_at, name_at, date_at, job_date_at, cell_of, collector_of}
+use Rattle.sdd_script_model.specs.ScriptState.{ScriptState, OpenSince, opening_at, holding_at, slot_at, name_at, date_at, job_date_at}
 
 -- which item is in which slot
 pub record SlotsHaveNames (d : ScriptState) : Type 0 where
@@ -21,24 +22,6 @@ pub record SlotsHaveNames (d : ScriptState) : Type 0 where
   pub dates : length d.dates ≡ length d.world.standings
   -- a slot is numbered by 32 bits
   pub few : length d.names ≤ 2 ^ 32
-
--- what keeps a cell: the value in a slot, whose link it is, or a name, of a cell or of a collector
-pub data Keeper : Type 0 where
-  value_in : (slot : ℕ) → Keeper
-  name_of : (cell : ℕ) → Keeper
-  collector_named : (collector : ℕ) → Keeper
-
-abbrev pub Keeps : ScriptState → Keeper → ℕ → Type 0
-Keeps d (value_in s) c = (v : Val) × (value_at d.world s ≡ Some v) × (link_of v ≡ c)
-Keeps d (name_of n) c = cell_of (holding_at d.cells n) ≡ Some c
-Keeps d (collector_named n) c = collector_of (holding_at d.collectors n) ≡ Some c
-
--- the cells that are taken are those that something keeps, each one thing; links hold nothing
-pub record EachCellHasKeeper (d : ScriptState) : Type 0 where
-  pub keeper : (c : ℕ) → IsSome (entry_at d.world.cells c) → (k : Keeper) × Keeps d k c
-  pub taken : (k : Keeper) (c : ℕ) → Keeps d k c → IsSome (entry_at d.world.cells c)
-  pub apart : (j k : Keeper) (c : ℕ) → Keeps d j c → Keeps d k c → j ≡ k
-  pub bare : (s c : ℕ) → Keeps d (value_in s) c → held_in (entry_at d.world.cells c) ≡ None
 
 -- the guard is one of p's
 abbrev pub is_of : ℕ → Option OpenSince → Bool
@@ -54,9 +37,32 @@ owns k (Some h) = is_owner_of k h
 abbrev pub named_owners : ScriptState → ℕ → ℕ
 named_owners d k = count_by (owns k) d.owners
 
+-- what is named is the right to the cell
+abbrev pub has_right : ℕ → Option OwnerOrCell → Bool
+has_right c None = false
+has_right c (Some h) = is_right_to c h
+
+-- so many of each have names among these owners, cells and collectors
+abbrev pub named_among : (owners cells collectors : List (Option OwnerOrCell)) → Claim → ℕ
+named_among owners cells collectors (owner_of k) = count_by (owns k) owners
+named_among owners cells collectors (right_to c) = count_by (has_right c) cells + count_by (has_right c) collectors
+
+-- so many of each a script has outside its world
+abbrev pub named : ScriptState → Claim → ℕ
+named d = named_among d.owners d.cells d.collectors
+
+-- links hold nothing
+abbrev pub LinksAreBare : World Val → Type 0
+LinksAreBare w = (s : ℕ) (v : Val) → value_at w s ≡ Some v → held_in (entry_at w.cells (link_of v)) ≡ None
+
 -- what has a name is of the world's home
 abbrev pub AreAtHome : ScriptState → List (Option OwnerOrCell) → Type 0
 AreAtHome d hs = (n : ℕ) (h : OwnerOrCell) → holding_at hs n ≡ Some h → IsOf d.world.home h
+
+pub record NamesAreAtHome (d : ScriptState) : Type 0 where
+  pub owners : AreAtHome d d.owners
+  pub cells : AreAtHome d d.cells
+  pub collectors : AreAtHome d d.collectors
 
 -- who is there, and which guards are open
 pub record ParticipantsMatch (d : ScriptState) : Type 0 where
@@ -111,16 +117,16 @@ pub record AreDeferred (jobs : ℕ) (deferred : List ℕ) (table : Entries (Unit
 
 pub record IsSound (d : ScriptState) : Type 0 where
   pub stocked : SlotsHaveNames d
-  pub cells : EachCellHasKeeper d
+  -- of each owner and each right to a cell there are as many as the world needs: those inside it, and those with names
+  pub ledger : IsLedger holdings_of (named d) d.world
+  pub bare : LinksAreBare d.world
   pub layered : HoldsOnlyOlder d
-  pub accounts : IsAccounted holdings_of (named_owners d) d.world
-  pub owners_home : AreAtHome d d.owners
-  pub cells_home : AreAtHome d d.cells
-  pub collectors_home : AreAtHome d d.collectors
+  pub home : NamesAreAtHome d
   pub attended : ParticipantsMatch d
   pub kept : KeepsRecentItems d
   -- in a line so far
   pub early : (s : ℕ) → date_at d s ≤ d.moment
+  -- by this the tally balances at the end: no number of it is full
   pub made : d.world.tally.made ≡ length d.slots
   pub deferred : AreDeferred d.jobs d.deferred d.world.jobs
   pub jobs : JobsHaveDates d

@@ -38,7 +38,8 @@ use Rattle.sdd_script_names.specs.Environment.{attending, guarding}
 use Rattle.sdd_space_commands.specs.Owners.{owner_holding, cell_holding, collector_holding}
 use Rattle.sdd_script_names.specs.Interpreter.{desk_of, IsTied, GuardsIn}
 use Rattle.sdd_script_model.proofs.Dates.{dated-same}
-use Rattle.sdd_script_model.proofs.Going.{open-guard, can-point, sound-start, sound-shared}
+use Rattle.sdd_script_model.proofs.Chains.{LeavesSound}
+use Rattle.sdd_script_model.proofs.Going.{open-guard, can-point, shared-leaves, sound-start}
 
 -- what is left in hand is sound, and is this desk
 pub record Goes (new : Environment) (e : ScriptState) : Type 0 where
@@ -63,6 +64,15 @@ goes {new} same sound guards = record {
   desk = same;
 }
 
+-- a call of a participant that leaves this, with the same guards in hand
+pub leads : {new : Environment} {e : ScriptState} (h : Environment) → IsTied h → (call : Call) (given : Reply) →
+    new.guards.entries.items ≡ h.guards.entries.items → desk_of new ≡ e → LeavesSound (desk_of h) e → Meets (desk_of h) call given e →
+    Does (desk_of h) call given new
+leads {new} {e} h t call given same desk left meets =
+    does (desk_of h) call given
+    (goes desk left.sound (λ g. rw (left.home, left.places, same) (t.guards g)))
+    (record { meets = meets; dated = left.dated; line = left.line; calls = left.calls })
+
 -- a call that changes nothing
 pub still : (d : ScriptState) (call : Call) (given : Reply) → Meets d call given d → Acts d call given d
 still d call given meets = record { meets = meets; dated = dated-same d d refl refl; line = refl; calls = no_call d.world }
@@ -84,7 +94,7 @@ module _ (h : Environment) (t : IsTied h) (whole : IsWhole h.world) where
   named-owner o x e = get_or-map (option_map owner_holding) h.owners.entries.items o None ∙ ap (option_map owner_holding) e
 
   pub owner-home : (o : ℕ) (x : AnyOwner) → slice_index_or h.owners.entries.items o None ≡ Some x → holding.IsOf h.world.home (owner_holding x)
-  owner-home o x e = t.sound.owners_home o (owner_holding x) (named-owner o x e)
+  owner-home o x e = t.sound.home.owners o (owner_holding x) (named-owner o x e)
 
   pub owner-spent : (owners : Vec (Option AnyOwner)) (o : ℕ) → owners.items ≡ slice_set h.owners.entries.items o None →
       map (option_map owner_holding) owners.items ≡ slice_set d.owners o None
@@ -135,10 +145,10 @@ module _ (h : Environment) (t : IsTied h) (whole : IsWhole h.world) where
       abbrev more : ScriptState
       more = with_owner (in_world d (with_standing h.world k (standing.Shared (count + 1)))) (holding.shared k h.world.home.slots)
 
-      pub goes-shared : Goes (record h { world = w; owners = record { entries = owners } }) more
-      goes-shared =
+      pub adds-owner : (call : Call) (given : Reply) → Meets d call given more → Does d call given (record h { world = w; owners = record { entries = owners } })
+      adds-owner call given meets =
           let told = owner-more owners (Share x) pushed ∙ ap (λ home. d.owners ++ Some (holding.shared k home) ∷ []) home in
-          goes (cc (world, told)) (sound-shared d t.sound whole p k count in_range stands) t.guards
+          leads h t call given refl (cc (world, told)) (shared-leaves d t.sound whole p k count in_range stands) meets
 
     -- an item that this participant can point to can't go while its guard is open
     pub stays-here : (g i : ℕ) (held : NamedGuard) → slice_index_or h.guards.entries.items g None ≡ Some held → held.place ≡ p →

@@ -23,7 +23,7 @@ module _ (h : Environment) (t : IsTied h) where
 
   pub collector-home : (k : ℕ) (x : PrivateCollector Val) → Some x ≡ slice_index_or h.collectors.entries.items k None →
       collector.cells_home x ≡ h.world.home.cells
-  collector-home k x there = t.sound.collectors_home k (collector_holding x) (named-collector k x there)
+  collector-home k x there = t.sound.home.collectors k (collector_holding x) (named-collector k x there)
 
   pub number-is : (k : ℕ) (x : PrivateCollector Val) → Some x ≡ slice_index_or h.collectors.entries.items k None →
       collector_of (holding_at d.collectors k) ≡ Some (collector.collector_of x)

@@ -12,7 +12,7 @@ use Rattle.sdd_script_model.specs.ScriptState.{slot_of}
 use Rattle.sdd_script_names.specs.declared.interpreter.Environment.{Environment}
 use Rattle.sdd_script_names.specs.Interpreter.{desk_of, IsTied}
 use Rattle.sdd_script_names.specs.Environment.{SlotInside}
-use Rattle.sdd_script_model.proofs.Counting.{value-owner-out, out-there}
+use Rattle.sdd_script_model.proofs.Counting.{accounts, value-owner-out, out-there}
 use Rattle.sdd_script_model.proofs.Stocked.{slot-inside}
 
 module _ (h : Environment) (t : IsTied h) where
@@ -22,7 +22,7 @@ module _ (h : Environment) (t : IsTied h) where
     inside : (x : OwnerOrCell) (k : ℕ) → owner_in (body_of v) ≡ x ∷ [] → slot_of (Some x) ≡ Some k → k < length h.names.items
     inside x k is slot =
         (slot-inside (desk_of h) t.sound.stocked k
-        (out-there h.world k (value-owner-out (desk_of h) t.sound.accounts j v x k here is slot))).0
+        (out-there h.world k (value-owner-out (desk_of h) (accounts (desk_of h) t.sound) j v x k here is slot))).0
 
     by : (b : Body Val) → body_of v ≡ b → SlotInside h.names.items b
     by (body.Number n) e = tt

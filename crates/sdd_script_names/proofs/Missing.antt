@@ -7,7 +7,6 @@ use Rattle.sdd_space.specs.declared.owned.Owned.{Owned}
 use Rattle.sdd_space.specs.declared.shared.Shared.{Shared}
 use Rattle.sdd_script_text.specs.declared.name.PlaceName.{PlaceName}
 use Rattle.sdd_script_text.specs.declared.call.Call.TheVariants.{At}
-use Rattle.sdd_script_text.specs.declared.call.Action.TheVariants as call
 use Rattle.sdd_script_text.specs.declared.call.Action.{Action}
 use Rattle.sdd_script_text.specs.declared.answer.Reply.TheVariants as reply
 use Rattle.sdd_script_model.specs.declared.val.Val.{Val}
@@ -26,44 +25,6 @@ use Rattle.sdd_script_names.proofs.Acts.{still}
 pub invalid : (d : ScriptState) (n : PlaceName) (a : Action) → ¬ (IsValid d n.0 a) → Acts d (At n a) reply.Invalid d
 invalid d n a wrong = still d (At n a) reply.Invalid (wrong, refl)
 
--- who does what is valid is there
-pub valid-there : (d : ScriptState) (n : ℕ) (a : Action) → IsValid d n a → IsParticipant d n
-valid-there d n call.Open valid = valid
-valid-there d n call.End valid = valid
-valid-there d n (call.Epoch g) valid = valid.0
-valid-there d n (call.Garbage g) valid = valid.0
-valid-there d n (call.Set g) valid = valid.0
-valid-there d n (call.Accelerate g) valid = valid.0
-valid-there d n (call.Defer g) valid = valid.0
-valid-there d n (call.Close g) valid = valid.0
-valid-there d n (call.Owned value) valid = valid.0
-valid-there d n (call.Shared value) valid = valid.0
-valid-there d n (call.Read o) valid = valid.0
-valid-there d n (call.Retire o) valid = valid.0
-valid-there d n (call.Release o) valid = valid.0
-valid-there d n (call.Clone o) valid = valid.0
-valid-there d n (call.Put o number) valid = valid.0
-valid-there d n (call.Drop o) valid = valid.0
-valid-there d n (call.Raw o) valid = valid.0
-valid-there d n (call.Unraw i) valid = valid.0
-valid-there d n (call.See i g) valid = valid.0.0
-valid-there d n (call.Look i g) valid = valid.0.0
-valid-there d n (call.Upgrade i g) valid = valid.0.0
-valid-there d n (call.CellOwned x) valid = valid.0
-valid-there d n (call.CellShared x) valid = valid.0
-valid-there d n (call.Load c g) valid = valid.0.0
-valid-there d n (call.Tag c) valid = valid.0
-valid-there d n (call.Swap c x tag) valid = valid.0
-valid-there d n (call.TagIf c tag was) valid = valid.0
-valid-there d n (call.Exchange c g i was x tag) valid = valid.0.0
-valid-there d n (call.Into c) valid = valid.0
-valid-there d n (call.Copy c g) valid = valid.0.0
-valid-there d n (call.Share c g) valid = valid.0.0
-valid-there d n (call.CloseCell c) valid = valid.0
-valid-there d n call.Collector valid = valid
-valid-there d n (call.Collect o g k) valid = valid.0.0
-valid-there d n (call.CloseCollector k) valid = valid.0
-
 module _ (h : Environment) where
   abbrev d : ScriptState
   d = desk_of h
@@ -75,8 +36,10 @@ module _ (h : Environment) where
       let entry : opening_at d.places n ≡ None = get_or-map attending h.places.entries.items n None ∙ ap attending (sym none) in
       false≢true (rw entry at there)
 
-  pub nobody : (name : PlaceName) (a : Action) → None ≡ slice_index_or h.places.entries.items name.0 None → Acts d (At name a) reply.Invalid d
-  nobody name a none = invalid d name a (λ valid. no-participant name.0 none (valid-there d name.0 a valid))
+  -- so what one would do is invalid
+  pub nobody : (name : PlaceName) (a : Action) → None ≡ slice_index_or h.places.entries.items name.0 None → (IsValid d name.0 a → IsParticipant d name.0) →
+      Acts d (At name a) reply.Invalid d
+  nobody name a none there = invalid d name a (λ valid. no-participant name.0 none (there valid))
 
   -- ---- no owner has this name, or none of this kind
 

@@ -4,6 +4,7 @@ use Rattle.sdd_script_text.specs.declared.call.Call.TheVariants.{At}
 use Rattle.sdd_script_names.specs.Interpreter.{desk_of}
 use Rattle.sdd_script_model.specs.Held.{slots_among}
 use Rattle.sdd_script_model.proofs.Going.{places-inside}
+use Rattle.sdd_script_model.proofs.Counting.{accounts}
 use Rattle.sdd_script_model.proofs.Gone.{slots-inside, slots-filled, given-inside}
 use Rattle.sdd_script_names.proofs.Acts.{got, in_range, answers-plain}
 use Rattle.sdd_guard_commands.proofs.GuardActs.{noted-is, opening-refused, answers-opened, tied-opened}
@@ -14,7 +15,7 @@ use Rattle.sdd_guard_commands.proofs.guards.open.Goals as goal
 pub returns-in_default : goal.returns-in_default
 returns-in_default c = record {
   answers = rw (c.answer.ensures, ← c.stage.view_is)
-      (answers-plain _ _ (nobody c.stage.inside.hand c.args.name call.Open c.in_default.ensures) (λ s e. e) (λ k e. e));
+      (answers-plain _ _ (nobody c.stage.inside.hand c.args.name call.Open c.in_default.ensures (λ valid. valid)) (λ s e. e) (λ k e. e));
 }
 
 pub jobs_among-requires : goal.jobs_among-requires
@@ -51,7 +52,7 @@ date_waiting-requires c =
     let s = c.stage.invariant.sound in
     record {
       inside = rw (c.as_slice.ensures.value, c.in_ok-due.ensures.owners) (given-inside (desk_of c.stage.inside.hand) _
-          (inside c.stage.inside.hand c.args.name.0 _ c.stage.invariant c.in-Some.ensures) s.stocked s.cells c.is_whole.ensures s.accounts _);
+          (inside c.stage.inside.hand c.args.name.0 _ c.stage.invariant c.in-Some.ensures) s.stocked s.bare c.is_whole.ensures (accounts _ s) _);
     }
 
 pub invariant_of-stage-2 : goal.invariant_of-stage-2

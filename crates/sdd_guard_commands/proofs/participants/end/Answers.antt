@@ -20,7 +20,7 @@ returns c =
     }
 
 pub returns-in_default : goal.returns-in_default
-returns-in_default c = record { acts = rw (← c.stage.view_is) (nobody c.stage.inside.hand c.args.name call.End c.in_default.ensures) }
+returns-in_default c = record { acts = rw (← c.stage.view_is) (nobody c.stage.inside.hand c.args.name call.End c.in_default.ensures (λ valid. valid)) }
 
 pub returns-then-is_open : goal.returns-then-is_open
 returns-then-is_open c =

@@ -1,13 +1,13 @@
 use Rattle.std.proofs.Common.{sym, ◌∙◌}
-use Rattle.sdd_script_text.specs.declared.call.Action.TheVariants as call
 use Rattle.sdd_script_names.proofs.Acts.{got}
 use Rattle.sdd_script_model.proofs.Entry.{spent_twice}
-use Rattle.sdd_item_commands.proofs.CellActs.{acts-cell_closed, cell-home, held-within, invalid-away, invalid-gone}
+use Rattle.sdd_script_names.proofs.Missing.{invalid, no-cell, nobody}
+use Rattle.sdd_item_commands.proofs.CellActs.{acts-cell_closed, cell-home, held-within}
 use Rattle.sdd_item_commands.proofs.cells.close_cell.Goals as goal
 
 pub returns-in_default : goal.returns-in_default
 returns-in_default c = record {
-  acts = rw (← c.stage.view_is) (invalid-away _ c.stage.invariant c.args.name (call.CloseCell c.args.cell) c.in_default.ensures (λ v. v.0));
+  acts = rw (← c.stage.view_is) (nobody c.stage.inside.hand c.args.name _ c.in_default.ensures (λ v. v.0));
 }
 
 pub returns-in_default-take : goal.returns-in_default-take
@@ -15,8 +15,7 @@ returns-in_default-take c =
     let cells = c.stage.inside.hand.cells.entries.items in
     let same = c.in_default-take.ensures.spent ∙ sym (spent_twice cells c.args.cell.0 (sym c.in_default-take.ensures.taken)) in
     record {
-      acts = rw (← c.stage.view_is, same) (invalid-gone _ c.stage.invariant c.args.name (call.CloseCell c.args.cell) c.args.cell.0
-          c.in_default-take.ensures.taken (λ v. v.1));
+      acts = rw (← c.stage.view_is, same) (invalid _ _ _ (λ valid. no-cell c.stage.inside.hand c.args.cell.0 c.in_default-take.ensures.taken valid.1));
     }
 
 pub slot_in-held-requires-clause-home : goal.slot_in-held-requires-clause-home

@@ -1,22 +1,20 @@
 use Rattle.std.proofs.Common.{◌≡◌, arith}
 use Rattle.std.proofs.lemmas.List.{get_or_read}
-use Rattle.sdd_script_text.specs.declared.call.Action.TheVariants as call
 use Rattle.sdd_script_model.specs.Shown.{item_held}
 use Rattle.sdd_script_names.specs.Interpreter.{desk_of}
-use Rattle.sdd_item_commands.proofs.CellActs.{acts-loaded, cell-home, invalid-under, invalid-gone, slot-inside, told-item, told-none}
+use Rattle.sdd_script_names.proofs.Missing.{invalid, no-cell}
+use Rattle.sdd_item_commands.proofs.CellActs.{acts-loaded, cell-home, slot-inside, told-item, told-none}
 use Rattle.sdd_item_commands.proofs.cells.load.Goals as goal
 use Rattle.sdd_item_commands.proofs.cells.load.Goals.{in-Some-held, in-None}
 
 pub returns-in_default : goal.returns-in_default
 returns-in_default c = record {
-  acts = rw (← c.stage.view_is) (invalid-under _ c.stage.invariant c.args.name (call.Load c.args.cell c.args.guard) c.args.guard.0 c.in_default.ensures.valid
-      (λ v. v.0));
+  acts = rw (← c.stage.view_is) (invalid _ _ _ (λ valid. c.in_default.ensures.valid valid.0));
 }
 
 pub returns-in_default-get : goal.returns-in_default-get
 returns-in_default-get c = record {
-  acts = rw (← c.stage.view_is) (invalid-gone _ c.stage.invariant c.args.name (call.Load c.args.cell c.args.guard) c.args.cell.0 c.in_default-get.ensures
-      (λ v. v.1));
+  acts = rw (← c.stage.view_is) (invalid _ _ _ (λ valid. no-cell c.stage.inside.hand c.args.cell.0 c.in_default-get.ensures valid.1));
 }
 
 pub cell_loaded-loaded-requires-clause-home : goal.cell_loaded-loaded-requires-clause-home

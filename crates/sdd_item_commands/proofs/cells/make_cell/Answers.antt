@@ -1,17 +1,21 @@
 use Rattle.std.proofs.Common.{length, ap, refl, ◌∙◌}
 use Rattle.std.proofs.lemmas.Bool.{false≢true}
+use Rattle.sdd_script_names.specs.Interpreter.{desk_of}
 use Rattle.sdd_script_names.proofs.Acts.{got}
-use Rattle.sdd_item_commands.proofs.CellActs.{acts-celled, acts-no_cell, filling-home, invalid-maker, invalid-unfit}
+use Rattle.sdd_script_names.proofs.Missing.{invalid, nobody}
+use Rattle.sdd_item_commands.proofs.CellActs.{acts-celled, acts-no_cell, filling-home, valid-celling}
 use Rattle.sdd_item_commands.proofs.cells.make_cell.Goals as goal
 
 pub returns-in_default : goal.returns-in_default
 returns-in_default c = record {
-  acts = rw (← c.stage.view_is) (invalid-maker _ c.stage.invariant c.args.name c.args.ownership c.args.owner c.in_default.ensures);
+  acts = rw (← c.stage.view_is) (nobody c.stage.inside.hand c.args.name _ c.in_default.ensures
+      (λ valid. (valid-celling (desk_of c.stage.inside.hand) c.args.name.0 c.args.ownership c.args.owner valid).0));
 }
 
 pub returns-then-not-fits : goal.returns-then-not-fits
 returns-then-not-fits c = record {
-  acts = rw (← c.stage.view_is) (invalid-unfit _ c.stage.invariant c.args.name c.args.ownership c.args.owner (λ f. false≢true (c.if-not-fits.ensures.1 f)));
+  acts = rw (← c.stage.view_is) (invalid _ _ _
+      (λ valid. false≢true (c.if-not-fits.ensures.1 (valid-celling (desk_of c.stage.inside.hand) c.args.name.0 c.args.ownership c.args.owner valid).1)));
 }
 
 pub returns-then-has_no_cell : goal.returns-then-has_no_cell

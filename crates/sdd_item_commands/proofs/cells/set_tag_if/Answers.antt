@@ -1,17 +1,16 @@
-use Rattle.sdd_script_text.specs.declared.call.Action.TheVariants as call
 use Rattle.sdd_script_names.proofs.Acts.{got}
-use Rattle.sdd_item_commands.proofs.CellActs.{acts-tagged, cell-home, invalid-away, invalid-gone}
+use Rattle.sdd_script_names.proofs.Missing.{invalid, no-cell, nobody}
+use Rattle.sdd_item_commands.proofs.CellActs.{acts-tagged, cell-home}
 use Rattle.sdd_item_commands.proofs.cells.set_tag_if.Goals as goal
 
 pub returns-in_default : goal.returns-in_default
 returns-in_default c = record {
-  acts = rw (← c.stage.view_is) (invalid-away _ c.stage.invariant c.args.name (call.TagIf c.args.cell c.args.tag c.args.was) c.in_default.ensures (λ v. v.0));
+  acts = rw (← c.stage.view_is) (nobody c.stage.inside.hand c.args.name _ c.in_default.ensures (λ v. v.0));
 }
 
 pub returns-in_default-get : goal.returns-in_default-get
 returns-in_default-get c = record {
-  acts = rw (← c.stage.view_is) (invalid-gone _ c.stage.invariant c.args.name (call.TagIf c.args.cell c.args.tag c.args.was) c.args.cell.0
-      c.in_default-get.ensures (λ v. v.1));
+  acts = rw (← c.stage.view_is) (invalid _ _ _ (λ valid. no-cell c.stage.inside.hand c.args.cell.0 c.in_default-get.ensures valid.1));
 }
 
 pub tag_if-requires-clause-home : goal.tag_if-requires-clause-home

@@ -1,16 +1,16 @@
-use Rattle.sdd_script_text.specs.declared.call.Action.TheVariants as call
 use Rattle.sdd_script_names.proofs.Acts.{got}
-use Rattle.sdd_item_commands.proofs.CellActs.{acts-tag_told, cell-home, invalid-away, invalid-gone}
+use Rattle.sdd_script_names.proofs.Missing.{invalid, no-cell, nobody}
+use Rattle.sdd_item_commands.proofs.CellActs.{acts-tag_told, cell-home}
 use Rattle.sdd_item_commands.proofs.cells.tag.Goals as goal
 
 pub returns-in_default : goal.returns-in_default
 returns-in_default c = record {
-  acts = rw (← c.stage.view_is) (invalid-away _ c.stage.invariant c.args.name (call.Tag c.args.cell) c.in_default.ensures (λ v. v.0));
+  acts = rw (← c.stage.view_is) (nobody c.stage.inside.hand c.args.name _ c.in_default.ensures (λ v. v.0));
 }
 
 pub returns-in_default-get : goal.returns-in_default-get
 returns-in_default-get c = record {
-  acts = rw (← c.stage.view_is) (invalid-gone _ c.stage.invariant c.args.name (call.Tag c.args.cell) c.args.cell.0 c.in_default-get.ensures (λ v. v.1));
+  acts = rw (← c.stage.view_is) (invalid _ _ _ (λ valid. no-cell c.stage.inside.hand c.args.cell.0 c.in_default-get.ensures valid.1));
 }
 
 pub tag_of-requires-clause-home : goal.tag_of-requires-clause-home

@@ -2,6 +2,7 @@ use Rattle.std.proofs.Common.{◌≡◌, Option, Some, sym, ◌∙◌}
 use Rattle.sdd_space.specs.Collector.{collector_of}
 use Rattle.sdd_space.specs.declared.private_collector.PrivateCollector.{PrivateCollector}
 use Rattle.sdd_script_model.specs.declared.val.Val.{Val}
+use Rattle.sdd_script_model.proofs.Counting.{accounts}
 use Rattle.sdd_script_model.proofs.Gone.{given-inside}
 use Rattle.sdd_script_model.proofs.WaitingFor.{found-filled, found-inside}
 use Rattle.sdd_script_text.specs.declared.call.Action.TheVariants as call
@@ -18,7 +19,7 @@ use Rattle.sdd_item_commands.proofs.collectors.close_collector.Goals as goal
 pub returns-in_default : goal.returns-in_default
 returns-in_default c = record {
   answers = rw (c.answer.ensures, ← c.stage.view_is)
-      (answers-plain _ _ (nobody c.stage.inside.hand c.args.name (call.CloseCollector c.args.collector) c.in_default.ensures) (λ s e. e) (λ k e. e));
+      (answers-plain _ _ (nobody c.stage.inside.hand c.args.name (call.CloseCollector c.args.collector) c.in_default.ensures (λ valid. valid.0)) (λ s e. e) (λ k e. e));
 }
 
 pub returns-in_default-get : goal.returns-in_default-get
@@ -77,7 +78,7 @@ date_waiting-requires c =
     let s = c.stage.invariant.sound in
     record {
       inside = rw (c.as_slice.ensures.value, c.in_ok-gone.ensures.owners) (given-inside (desk_of c.stage.inside.hand) _
-          (inside c.stage.inside.hand c.args.name.0 _ c.stage.invariant c.in-Some.ensures) s.stocked s.cells c.is_whole.ensures s.accounts _);
+          (inside c.stage.inside.hand c.args.name.0 _ c.stage.invariant c.in-Some.ensures) s.stocked s.bare c.is_whole.ensures (accounts _ s) _);
     }
 
 pub invariant_of-stage-2 : goal.invariant_of-stage-2

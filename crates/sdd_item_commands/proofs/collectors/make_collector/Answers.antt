@@ -6,7 +6,7 @@ use Rattle.sdd_script_names.proofs.Missing.{nobody}
 use Rattle.sdd_item_commands.proofs.collectors.make_collector.Goals as goal
 
 pub returns-in_default : goal.returns-in_default
-returns-in_default c = record { acts = rw (← c.stage.view_is) (nobody c.stage.inside.hand c.args.name call.Collector c.in_default.ensures) }
+returns-in_default c = record { acts = rw (← c.stage.view_is) (nobody c.stage.inside.hand c.args.name call.Collector c.in_default.ensures (λ valid. valid)) }
 
 pub returns-in-Err : goal.returns-in-Err
 returns-in-Err c =

@@ -9,7 +9,7 @@ use Rattle.sdd_item_commands.proofs.ExchangeActs.{none-copied, cell-home, acts-t
 use Rattle.sdd_item_commands.proofs.exchanges.into_owner.Goals as goal
 
 pub returns-in_default : goal.returns-in_default
-returns-in_default c = record { acts = rw (← c.stage.view_is) (nobody c.stage.inside.hand c.args.name _ c.in_default.ensures) }
+returns-in_default c = record { acts = rw (← c.stage.view_is) (nobody c.stage.inside.hand c.args.name _ c.in_default.ensures (λ valid. valid.0)) }
 
 pub returns-then-is_none : goal.returns-then-is_none
 returns-then-is_none c =

@@ -10,7 +10,7 @@ use Rattle.sdd_item_commands.proofs.ExchangeActs.{cell-home, no-fit, fits-not, p
 use Rattle.sdd_item_commands.proofs.exchanges.swap.Goals as goal
 
 pub returns-in_default : goal.returns-in_default
-returns-in_default c = record { acts = rw (← c.stage.view_is) (nobody c.stage.inside.hand c.args.name _ c.in_default.ensures) }
+returns-in_default c = record { acts = rw (← c.stage.view_is) (nobody c.stage.inside.hand c.args.name _ c.in_default.ensures (λ valid. valid.0)) }
 
 pub returns-in_default-get : goal.returns-in_default-get
 returns-in_default-get c = record {

@@ -3,14 +3,13 @@ use Rattle.sdd_script_model.specs.Shown.{told_of}
 use Rattle.sdd_script_model.specs.Val.{body_of}
 use Rattle.sdd_item_commands.proofs.ItemActs.{acts-looked}
 use Rattle.sdd_script_names.proofs.Acts.{stays-here}
-use Rattle.sdd_item_commands.proofs.MissingItems.{shut-looked, gone-looked}
-use Rattle.sdd_script_names.proofs.Missing.{points}
+use Rattle.sdd_script_names.proofs.Missing.{invalid, points, points-not}
 use Rattle.sdd_script_names.proofs.Inside.{value-inside}
 use Rattle.sdd_item_commands.proofs.items.look.Goals as goal
 
 pub returns-in_default : goal.returns-in_default
 returns-in_default c = record {
-  acts = rw (← c.stage.view_is) (shut-looked c.stage.inside.hand c.args.name c.args.item c.args.guard c.in_default.ensures.valid);
+  acts = rw (← c.stage.view_is) (invalid _ _ _ (λ valid. c.in_default.ensures.valid valid.0));
 }
 
 pub slot_since-requires-clause-inside : goal.slot_since-requires-clause-inside
@@ -18,10 +17,12 @@ slot_since-requires-clause-inside c s some =
     rw (c.as_slice-slots.ensures.value, c.as_slice-names.ensures.value) (c.stage.invariant.sound.stocked.named s some).0
 
 pub returns-in_default-slot_since : goal.returns-in_default-slot_since
-returns-in_default-slot_since c = record {
-  acts = rw (← c.stage.view_is) (gone-looked c.stage.inside.hand c.args.name _ c.in-Some.ensures.found.0 c.args.item c.args.guard
-      (rw (c.as_slice-slots.ensures.value, c.as_slice-names.ensures.value, c.as_slice-dates.ensures.value) at c.in_default-slot_since.ensures));
-}
+returns-in_default-slot_since c =
+    let cannot = rw (c.as_slice-slots.ensures.value, c.as_slice-names.ensures.value, c.as_slice-dates.ensures.value) at c.in_default-slot_since.ensures in
+    record {
+      acts = rw (← c.stage.view_is)
+          (invalid _ _ _ (λ valid. points-not c.stage.inside.hand c.args.name.0 _ c.in-Some.ensures.found.0 c.args.item.0 cannot valid.1));
+    }
 
 pub value_shown-requires-clause-stays : goal.value_shown-requires-clause-stays
 value_shown-requires-clause-stays c =

@@ -10,17 +10,20 @@ use Rattle.sdd_script_names.specs.Interpreter.{desk_of, IsTied}
 use Rattle.sdd_item_commands.specs.Lines.{making}
 use Rattle.sdd_script_names.proofs.Acts.{got}
 use Rattle.sdd_item_commands.proofs.ItemActs.{acts-refused, acts-made}
-use Rattle.sdd_script_names.proofs.Missing.{nobody}
-use Rattle.sdd_item_commands.proofs.MissingItems.{none-made}
-use Rattle.sdd_item_commands.proofs.Making.{first-slot, becomes-long, there-to-put, body-home}
+use Rattle.sdd_script_names.proofs.Missing.{invalid, nobody}
+use Rattle.sdd_item_commands.proofs.Making.{first-slot, becomes-long, none-to-put, valid-making, there-to-put, body-home}
 use Rattle.sdd_item_commands.proofs.items.make.Goals as goal
 
 pub returns-in_default : goal.returns-in_default
-returns-in_default c = record { acts = rw (← c.stage.view_is) (nobody c.stage.inside.hand c.args.name _ c.in_default.ensures) }
+returns-in_default c = record {
+  acts = rw (← c.stage.view_is) (nobody c.stage.inside.hand c.args.name _ c.in_default.ensures
+      (λ valid. (valid-making (desk_of c.stage.inside.hand) c.args.name.0 c.args.ownership c.args.value valid).0));
+}
 
 pub returns-then-is_missing : goal.returns-then-is_missing
 returns-then-is_missing c = record {
-  acts = rw (← c.stage.view_is) (none-made c.stage.inside.hand c.args.name c.args.ownership c.args.value (c.if-is_missing.ensures.0 refl));
+  acts = rw (← c.stage.view_is) (invalid _ _ _ (λ valid. none-to-put c.stage.inside.hand c.args.value (c.if-is_missing.ensures.0 refl)
+      (valid-making (desk_of c.stage.inside.hand) c.args.name.0 c.args.ownership c.args.value valid).1));
 }
 
 pub returns-in-Some-refuses_item : goal.returns-in-Some-refuses_item

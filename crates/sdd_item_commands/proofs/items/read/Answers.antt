@@ -1,7 +1,6 @@
 use Rattle.sdd_script_names.proofs.Acts.{got, owner-home}
 use Rattle.sdd_item_commands.proofs.ItemActs.{acts-read}
-use Rattle.sdd_script_names.proofs.Missing.{nobody}
-use Rattle.sdd_item_commands.proofs.MissingItems.{none-read}
+use Rattle.sdd_script_names.proofs.Missing.{invalid, no-owner, nobody}
 use Rattle.sdd_script_names.proofs.Inside.{value-inside}
 use Rattle.std.proofs.Common.{◌≡◌, sym}
 use Rattle.sdd_script_model.specs.Shown.{told_of}
@@ -9,10 +8,12 @@ use Rattle.sdd_script_model.specs.Val.{body_of}
 use Rattle.sdd_item_commands.proofs.items.read.Goals as goal
 
 pub returns-in_default : goal.returns-in_default
-returns-in_default c = record { acts = rw (← c.stage.view_is) (nobody c.stage.inside.hand c.args.name _ c.in_default.ensures) }
+returns-in_default c = record { acts = rw (← c.stage.view_is) (nobody c.stage.inside.hand c.args.name _ c.in_default.ensures (λ valid. valid.0)) }
 
 pub returns-in_default-get : goal.returns-in_default-get
-returns-in_default-get c = record { acts = rw (← c.stage.view_is) (none-read c.stage.inside.hand c.args.name c.args.owner c.in_default-get.ensures) }
+returns-in_default-get c = record {
+  acts = rw (← c.stage.view_is) (invalid _ _ _ (λ valid. no-owner c.stage.inside.hand c.args.owner.0 c.in_default-get.ensures valid.1));
+}
 
 pub value_of-requires : goal.value_of-requires
 value_of-requires c = record {

@@ -1,18 +1,19 @@
 use Rattle.std.proofs.Common.{length, sym, ap, ◌∙◌}
 use Rattle.sdd_script_names.proofs.Acts.{got, owner-home}
 use Rattle.sdd_item_commands.proofs.OwnerActs.{acts-cloned}
-use Rattle.sdd_script_names.proofs.Missing.{nobody}
-use Rattle.sdd_item_commands.proofs.MissingItems.{none-cloned}
+use Rattle.sdd_script_names.proofs.Missing.{invalid, no-shared, nobody}
 use Rattle.sdd_item_commands.proofs.Unshared.{full-cloned}
 use Rattle.sdd_item_commands.proofs.owners.clone_owner.Goals as goal
 
 pub returns-in_default : goal.returns-in_default
-returns-in_default c = record { acts = rw (← c.stage.view_is) (nobody c.stage.inside.hand c.args.name _ c.in_default.ensures) }
+returns-in_default c = record { acts = rw (← c.stage.view_is) (nobody c.stage.inside.hand c.args.name _ c.in_default.ensures (λ valid. valid.0)) }
 
 pub returns-in_default-shared_of : goal.returns-in_default-shared_of
 returns-in_default-shared_of c =
     let none = rw c.make_room.ensures.kept at c.in_default-shared_of.ensures in
-    record { acts = rw (← c.stage.view_is, c.make_room.ensures.kept) (none-cloned c.stage.inside.hand c.args.name c.args.owner none) }
+    record {
+      acts = rw (← c.stage.view_is, c.make_room.ensures.kept) (invalid _ _ _ (λ valid. no-shared c.stage.inside.hand c.args.owner.0 none valid.1));
+    }
 
 pub clone_held-requires-clause-home : goal.clone_held-requires-clause-home
 clone_held-requires-clause-home c =

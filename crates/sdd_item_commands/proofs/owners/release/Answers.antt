@@ -2,18 +2,17 @@ use Rattle.std.proofs.Common.{slice_set, refl, ap}
 use Rattle.std.specs.Vec.{with_item}
 use Rattle.sdd_script_names.proofs.Acts.{got, owner-home}
 use Rattle.sdd_item_commands.proofs.OwnerActs.{acts-released}
-use Rattle.sdd_script_names.proofs.Missing.{nobody}
-use Rattle.sdd_item_commands.proofs.MissingItems.{none-released}
+use Rattle.sdd_script_names.proofs.Missing.{invalid, no-shared, nobody}
 use Rattle.sdd_item_commands.proofs.owners.release.Goals.{then-was_last, else-was_last}
 use Rattle.sdd_item_commands.proofs.owners.release.Goals as goal
 
 pub returns-in_default : goal.returns-in_default
-returns-in_default c = record { acts = rw (← c.stage.view_is) (nobody c.stage.inside.hand c.args.name _ c.in_default.ensures) }
+returns-in_default c = record { acts = rw (← c.stage.view_is) (nobody c.stage.inside.hand c.args.name _ c.in_default.ensures (λ valid. valid.0)) }
 
 pub returns-in_default-take_shared : goal.returns-in_default-take_shared
 returns-in_default-take_shared c = record {
   acts = rw (← c.stage.view_is, c.in_default-take_shared.ensures.1)
-      (none-released c.stage.inside.hand c.args.name c.args.owner c.in_default-take_shared.ensures.0);
+      (invalid _ _ _ (λ valid. no-shared c.stage.inside.hand c.args.owner.0 c.in_default-take_shared.ensures.0 valid.1));
 }
 
 pub release_owner-was_last-requires-clause-home : goal.release_owner-was_last-requires-clause-home

@@ -2,17 +2,16 @@ use Rattle.std.proofs.Common.{slice_set, ap}
 use Rattle.std.specs.Vec.{with_item}
 use Rattle.sdd_script_names.proofs.Acts.{got, owner-home}
 use Rattle.sdd_item_commands.proofs.OwnerActs.{acts-retired}
-use Rattle.sdd_script_names.proofs.Missing.{nobody}
-use Rattle.sdd_item_commands.proofs.MissingItems.{none-retired}
+use Rattle.sdd_script_names.proofs.Missing.{invalid, no-sole, nobody}
 use Rattle.sdd_item_commands.proofs.owners.retire.Goals as goal
 
 pub returns-in_default : goal.returns-in_default
-returns-in_default c = record { acts = rw (← c.stage.view_is) (nobody c.stage.inside.hand c.args.name _ c.in_default.ensures) }
+returns-in_default c = record { acts = rw (← c.stage.view_is) (nobody c.stage.inside.hand c.args.name _ c.in_default.ensures (λ valid. valid.0)) }
 
 pub returns-in_default-take_sole : goal.returns-in_default-take_sole
 returns-in_default-take_sole c = record {
   acts = rw (← c.stage.view_is, c.in_default-take_sole.ensures.1)
-      (none-retired c.stage.inside.hand c.args.name c.args.owner c.in_default-take_sole.ensures.0);
+      (invalid _ _ _ (λ valid. no-sole c.stage.inside.hand c.args.owner.0 c.in_default-take_sole.ensures.0 valid.1));
 }
 
 pub retire_item-requires-clause-home : goal.retire_item-requires-clause-home

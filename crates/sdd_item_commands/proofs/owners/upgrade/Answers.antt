@@ -5,14 +5,13 @@ use Rattle.sdd_script_text.specs.declared.answer.Reply.TheVariants as reply
 use Rattle.sdd_script_names.specs.Interpreter.{desk_of}
 use Rattle.sdd_item_commands.proofs.OwnerActs.{acts-upgraded}
 use Rattle.sdd_script_names.proofs.Acts.{Does, stays-here}
-use Rattle.sdd_item_commands.proofs.MissingItems.{gone-upgraded, shut-upgraded}
-use Rattle.sdd_script_names.proofs.Missing.{points}
+use Rattle.sdd_script_names.proofs.Missing.{invalid, points, points-not}
 use Rattle.sdd_item_commands.proofs.Unshared.{alone-upgraded, full-upgraded}
 use Rattle.sdd_item_commands.proofs.owners.upgrade.Goals as goal
 
 pub returns-in_default : goal.returns-in_default
 returns-in_default c = record {
-  acts = rw (← c.stage.view_is) (shut-upgraded c.stage.inside.hand c.args.name c.args.item c.args.guard c.in_default.ensures.valid);
+  acts = rw (← c.stage.view_is) (invalid _ _ _ (λ valid. c.in_default.ensures.valid valid.0));
 }
 
 pub returns-in_default-slot_since : goal.returns-in_default-slot_since
@@ -20,7 +19,7 @@ returns-in_default-slot_since c =
     let cannot = rw (c.as_slice-slots.ensures.value, c.as_slice-names.ensures.value, c.as_slice-dates.ensures.value) at c.in_default-slot_since.ensures in
     record {
       acts = rw (← c.stage.view_is, c.make_room.ensures.kept)
-          (gone-upgraded c.stage.inside.hand c.args.name _ c.in-Some.ensures.found.0 c.args.item c.args.guard cannot);
+          (invalid _ _ _ (λ valid. points-not c.stage.inside.hand c.args.name.0 _ c.in-Some.ensures.found.0 c.args.item.0 cannot valid.1));
     }
 
 pub share_item-requires-clause-stays : goal.share_item-requires-clause-stays

@@ -9,7 +9,7 @@ use Rattle.sdd_item_commands.proofs.RawActs.{acts-dropped, drop-refused, held-da
 use Rattle.sdd_item_commands.proofs.raw.drop_owner.Goals as goal
 
 pub returns-in_default : goal.returns-in_default
-returns-in_default c = record { acts = rw (← c.stage.view_is) (nobody c.stage.inside.hand c.args.name _ c.in_default.ensures) }
+returns-in_default c = record { acts = rw (← c.stage.view_is) (nobody c.stage.inside.hand c.args.name _ c.in_default.ensures (λ valid. valid.0)) }
 
 pub returns-in_default-take : goal.returns-in_default-take
 returns-in_default-take c =

@@ -14,7 +14,7 @@ use Rattle.sdd_item_commands.proofs.RawActs.{acts-raw}
 use Rattle.sdd_item_commands.proofs.raw.put_out_raw.Goals as goal
 
 pub returns-in_default : goal.returns-in_default
-returns-in_default c = record { acts = rw (← c.stage.view_is) (nobody c.stage.inside.hand c.args.name _ c.in_default.ensures) }
+returns-in_default c = record { acts = rw (← c.stage.view_is) (nobody c.stage.inside.hand c.args.name _ c.in_default.ensures (λ valid. valid.0)) }
 
 pub returns-in_default-take_sole : goal.returns-in_default-take_sole
 returns-in_default-take_sole c =

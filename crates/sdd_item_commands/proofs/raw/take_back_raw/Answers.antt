@@ -10,7 +10,7 @@ use Rattle.sdd_item_commands.proofs.RawActs.{acts-back, none-back, there-from, t
 use Rattle.sdd_item_commands.proofs.raw.take_back_raw.Goals as goal
 
 pub returns-in_default : goal.returns-in_default
-returns-in_default c = record { acts = rw (← c.stage.view_is) (nobody c.stage.inside.hand c.args.name _ c.in_default.ensures) }
+returns-in_default c = record { acts = rw (← c.stage.view_is) (nobody c.stage.inside.hand c.args.name _ c.in_default.ensures (λ valid. valid.0)) }
 
 pub slot_since-requires-clause-inside : goal.slot_since-requires-clause-inside
 slot_since-requires-clause-inside c s some =

@@ -1,0 +1,125 @@
+-- What values hold: the owner that a body is, and a link, which holds nothing
+use Rattle.std.proofs.Common.{◌≡◌, inl, inr, ℕ, ◌+◌, ◌≤◌, ◌∷◌, [], ◌++◌, Option, Some, None, is_some, slice_index_or, slice_set, refl, sym, ap, ◌∙◌, arith}
+use Rattle.std.specs.Prelude.{◌==◌}
+use Rattle.std.proofs.lemmas.Bool.{cases_eq}
+use Rattle.std.proofs.lemmas.Bool.Decides.{nat_tests}
+use Rattle.std.proofs.lemmas.List.Sums.{sum_by_push}
+use Rattle.sdd_core.specs.declared.tag.Tag.TheVariants.{None as no_tag}
+use Rattle.sdd_rights.specs.Units.{GhostName}
+use Rattle.sdd_participants.specs.Slab.{Entries, entry_at, without_entry}
+use Rattle.sdd_participants.specs.declared.standing.CellContents.{CellContents}
+use Rattle.sdd_participants.specs.declared.standing.Standing.{Standing}
+use Rattle.sdd_space.specs.Owned as owned
+use Rattle.sdd_space.specs.Shared as shared
+use Rattle.sdd_space.specs.Ledger.{Claim, owner_of, right_to, is_right_to, claims, one}
+use Rattle.sdd_space.specs.OwnerOrCell.{atomic_owned}
+use Rattle.sdd_space.specs.OwnerCounts.{is_owner_of}
+use Rattle.sdd_space.specs.World.{World, standing_at, value_at}
+use Rattle.sdd_space.specs.WorldChanges.{held_in, owner_given, cell_closed, spilled, given_all, waiting_value}
+use Rattle.sdd_space.specs.WorldInvariant.{once_if}
+use Rattle.sdd_space.proofs.Rights.{given-same, once-where}
+use Rattle.sdd_space.proofs.Sheds.{Sheds}
+use Rattle.sdd_space.proofs.Whole.{one_where}
+use Rattle.sdd_script_model.specs.declared.val.Body.{Body}
+use Rattle.sdd_script_model.specs.declared.val.Body.TheVariants.{Number, Owned, Shared}
+use Rattle.sdd_script_model.specs.declared.val.Val.{Val, out-Val}
+use Rattle.sdd_script_model.specs.Val.{holdings_of, body_of, link_of, owner_in}
+use Rattle.sdd_script_model.specs.Sound.{LinksAreBare}
+use Rattle.sdd_script_model.proofs.Entry.{at-same, at-other, inside, set-either}
+
+-- each value that is there was there, but for a number
+abbrev pub HoldsLess : World Val → World Val → Type 0
+HoldsLess old new = (s : ℕ) (x : Val) → value_at new s ≡ Some x →
+    (y : Val) × (value_at old s ≡ Some y) × (link_of x ≡ link_of y) × (owner_in (body_of x) ≡ owner_in (body_of y))
+
+pub less-same : (old new : World Val) → new.values ≡ old.values → HoldsLess old new
+less-same old new same s x e = (x, ap (λ vs. slice_index_or vs s None) (sym same) ∙ e, refl, refl)
+
+pub less-then : (u v w : World Val) → HoldsLess u v → HoldsLess v w → HoldsLess u w
+less-then u v w a b s x e =
+    let mid = b s x e in
+    let was = a s mid.0 mid.1 in
+    (was.0, was.1, mid.2 ∙ was.2, mid.3 ∙ was.3)
+
+pub less-shed : {old new : World Val} → Sheds old new → HoldsLess old new
+less-shed shed s x e = elim (shed.values s) [
+  | inl same ↦ (x, sym same ∙ e, refl, refl)
+  | inr gone ↦ absurd (let never : None ≡ Some x = sym gone ∙ e in cc)
+]
+
+-- one value is another, with the same link and the same owner
+pub less-edited : (w : World Val) (k : ℕ) (was now : Val) → value_at w k ≡ Some was → link_of now ≡ link_of was → owner_in (body_of now) ≡ owner_in (body_of was) →
+    HoldsLess w (record w { values = slice_set w.values k (Some now) })
+less-edited w k was now there link body s x e = elim (cases_eq s k) [
+  | inl same ↦
+      (let here : slice_index_or (slice_set w.values k (Some now)) k None ≡ Some now = at-same w.values k (Some now) None (inside w.values k (ap is_some there)) in
+      let both : Some now ≡ Some x = sym here ∙ ap (λ j. slice_index_or (slice_set w.values k (Some now)) j None) (sym same) ∙ e in
+      let is : now ≡ x = cc in
+      (was, ap (value_at w) same ∙ there, ap link_of (sym is) ∙ link, ap (λ v. owner_in (body_of v)) (sym is) ∙ body))
+  | inr apart ↦ (x, sym (at-other w.values k s (Some now) None apart) ∙ e, refl, refl)
+]
+
+-- ---- links
+
+-- a cell that holds nothing
+abbrev pub null : CellContents
+null = record { held = None; tag = no_tag }
+
+-- a value holds its owner, and the right to its link
+pub holds-so : (v : Val) (u : Claim) → claims (holdings_of v) u ≡ claims (owner_in (body_of v)) u + one (right_to (link_of v)) u
+holds-so v (owner_of k) = sum_by_push (λ h. one_where (is_owner_of k h)) (owner_in (body_of v)) (owned.cell_holding (out-Val v).link) ∙ omega arith
+holds-so v (right_to c) =
+    sum_by_push (λ h. one_where (is_right_to c h)) (owner_in (body_of v)) (owned.cell_holding (out-Val v).link)
+    ∙ omega (arith, once-where (link_of v == c))
+
+pub same-once : (c : ℕ) → once_if (c == c) ≡ 1
+same-once c = grind (arith, nat_tests)
+
+pub link-claimed : (v : Val) → 1 ≤ claims (holdings_of v) (right_to (link_of v))
+link-claimed v = omega (arith, holds-so v (right_to (link_of v)), same-once (link_of v))
+
+-- a cell that is free holds nothing
+pub freed-bare : (cells : Entries CellContents) (c d : ℕ) → held_in (entry_at cells d) ≡ None → held_in (entry_at (without_entry cells c) d) ≡ None
+freed-bare cells c d bare = elim (set-either cells c d None None) [
+  | inl gone ↦ ap held_in gone
+  | inr same ↦ ap held_in same ∙ bare
+]
+
+-- what gives something up leaves links bare
+pub bare-shed : {old new : World Val} → Sheds old new → LinksAreBare old → LinksAreBare new
+bare-shed {old} {new} shed bare s x e =
+    let was = less-shed shed s x e in
+    let before : held_in (entry_at old.cells (link_of x)) ≡ None = ap (λ c. held_in (entry_at old.cells c)) was.2 ∙ bare s was.0 was.1 in
+    elim (shed.cells (link_of x)) [
+      | inl same ↦ ap held_in same ∙ before
+      | inr gone ↦ ap held_in gone
+    ]
+
+-- ---- what is given up
+
+-- a cell that holds nothing is closed
+pub closed-bare : {T : Type 0} (w : World T) (p c : ℕ) → held_in (entry_at w.cells c) ≡ None →
+    cell_closed w p c ≡ record w { cells = without_entry w.cells c }
+closed-bare w p c none = ap (spilled (record w { cells = without_entry w.cells c }) p) none
+
+-- p is given the owner that a body is, if it is one, and then a cell that holds nothing
+pub body-given : (w : World Val) (p c : ℕ) (home : GhostName) (b : Body Val) → held_in (entry_at w.cells c) ≡ None →
+    (let u = given_all w p (owner_in b ++ atomic_owned c home ∷ []) in (u.values ≡ w.values) × (u.cells ≡ without_entry w.cells c))
+body-given w p c home b none = by b where
+  closes : (u : World Val) → u.values ≡ w.values → u.cells ≡ w.cells →
+      ((cell_closed u p c).values ≡ w.values) × ((cell_closed u p c).cells ≡ without_entry w.cells c)
+  closes u values cells =
+      let bare : held_in (entry_at u.cells c) ≡ None = rw cells none in
+      rw (closed-bare u p c bare) (values, ap (λ cs. without_entry cs c) cells)
+
+  by : (b : Body Val) → (let u = given_all w p (owner_in b ++ atomic_owned c home ∷ []) in (u.values ≡ w.values) × (u.cells ≡ without_entry w.cells c))
+  by (Number n) = closes w refl refl
+  by (Owned o) =
+      let g = given-same w p (owned.slot_of o) (standing_at w (owned.slot_of o)) refl in
+      closes (owner_given w p (owned.slot_of o) (standing_at w (owned.slot_of o))) g.0 g.1
+  by (Shared o) =
+      let g = given-same w p (shared.slot_of o) (standing_at w (shared.slot_of o)) refl in
+      closes (owner_given w p (shared.slot_of o) (standing_at w (shared.slot_of o))) g.0 g.1
+
+pub waiting-there : (w : World Val) (k : ℕ) (s : Option Standing) (v : Val) → waiting_value w k s ≡ Some v → value_at w k ≡ Some v
+waiting-there w k s v e = grind arith
