@@ -2,13 +2,13 @@
 ghost use Rattle.std.specs.Prelude.{◌≡◌};
 ghost use Rattle.sdd_space.specs.CallerId.{IsSeated};
 
-use crate::example::{AMPLE, CommonExample, in_each_space};
+use crate::example::{AMPLE, CommonExample, Example, in_a_world, in_each_space};
 use crate::steps::{close, opened, owned, shared};
 use sdd_core::{Limits, Refused};
 use sdd_participants::Idle;
 use sdd_space::{
     AtomicOwned, AtomicRaw, AtomicShared, Cells, Deferrals, Guards, InPlaceItems, Items, Look,
-    PrivateCollector, RawCells, RawItems, SharedItems,
+    PrivateCollector, RawCells, RawItems, SharedItems, Space,
 };
 use std::process::Abort;
 
@@ -65,17 +65,13 @@ fn none_is_made<S: Cells<u64>>(rt: &impl Abort, s: &mut S)
     }
 }
 
-/// Raw cells and collectors are refused.
+/// Raw cells are refused.
 fn none_is_bare<S: RawCells<u64>>(rt: &impl Abort, s: &mut S)
     requires seated { IsSeated (S.seat s.old) }
     ensures seat { S.seat s.new ≡ S.seat s.old }
 {
     match AtomicRaw::<u64>::null(s) {
         Ok(_cell) => panic!(rt; "no cell is free"),
-        Err(refused) => assert_eq!(rt; refused, Refused::NoCell),
-    }
-    match PrivateCollector::<u64>::new(s) {
-        Ok(_collector) => panic!(rt; "no cell is free"),
         Err(refused) => assert_eq!(rt; refused, Refused::NoCell),
     }
 }
@@ -134,6 +130,20 @@ impl CommonExample for OneRawCell {
     }
 }
 
+/// A collector is refused.
+struct NoCollector;
+
+impl Example for NoCollector {
+    fn run<R: Abort, S: Space<u64>>(rt: &R, s: &mut S) {
+        let cell = owned::cell(rt, s, 14);
+        match PrivateCollector::<u64>::new(s) {
+            Ok(_collector) => panic!(rt; "no cell is free"),
+            Err(refused) => assert_eq!(rt; refused, Refused::NoCell),
+        }
+        owned::close_cell(s, cell);
+    }
+}
+
 const FOUR_SLOTS_AND_ONE_CELL: Limits = Limits {
     slots: 4,
     cells: 1,
@@ -154,6 +164,16 @@ fn what_finds_no_cell_comes_back(rt: HostRuntime) {
 #[test]
 fn what_owns_nothing_finds_no_cell(rt: HostRuntime) {
     in_each_space::<OneRawCell, _>(
+        &rt,
+        FOUR_SLOTS_AND_ONE_CELL,
+        &[(0, 0, true), (1, 0, true), (2, 0, true), (3, 1, false)],
+        0,
+    );
+}
+
+#[test]
+fn a_collector_finds_no_cell(rt: HostRuntime) {
+    in_a_world::<NoCollector, _>(
         &rt,
         FOUR_SLOTS_AND_ONE_CELL,
         &[(0, 0, true), (1, 0, true), (2, 0, true), (3, 1, false)],
