@@ -6,7 +6,7 @@ use prog.Atomic.{either}
 use Rattle.std.proofs.lemmas.Bool.{le-leb}
 use Rattle.std.proofs.lemmas.Bool.Decides.{leb_tells}
 use Rattle.sdd_word_invariant.specs.Sums.{is, times}
-use Rattle.sdd_word_invariant.specs.Codes.{IsWordReading, codes, shared_base, free_word, owned_word, raw_word, waiting_word, private_word, emptied_word, unowned, held_slots, holding_word, kind_alive, kind_waiting, kind_full, kind_valued, kind_emptying, emptying, emptying_word, left_word, alive, waiting, full, valued, counted, waits_for, names, claimed_word, retired_word, held_word, shared_word}
+use Rattle.sdd_word_invariant.specs.Codes.{IsWordReading, codes, shared_base, free_word, owned_word, raw_word, waiting_word, private_word, emptied_word, unowned, held_slots, holding_word, kind_alive, kind_waiting, kind_full, kind_valued, private, emptying, emptying_word, left_word, alive, waiting, full, valued, counted, waits_for, names, claimed_word, retired_word, held_word, shared_word}
 
 lives : (q : ℕ) → 0 < kind_alive q → (kind_waiting q ≡ 0) × (kind_full q ≡ 1)
 lives q h = dite (ℕ_discrete q 1) (λ e. (ap kind_waiting e, ap kind_full e))
@@ -16,19 +16,7 @@ lives q h = dite (ℕ_discrete q 1) (λ e. (ap kind_waiting e, ap kind_full e))
 
 waits : (q : ℕ) → 0 < kind_waiting q → (kind_waiting q ≡ 1) × (kind_full q ≡ 1)
 waits q h = dite (ℕ_discrete q 4) (λ e. (ap kind_waiting e, ap kind_full e))
-    (λ n4. dite (ℕ_discrete q 5) (λ e. (ap kind_waiting e, ap kind_full e))
-    (λ n5. dite (ℕ_discrete q 6) (λ e. (ap kind_waiting e, ap kind_full e))
-    (λ n6. dite (ℕ_discrete q 7) (λ e. (ap kind_waiting e, ap kind_full e))
-    (λ n7. let a = ap (λ (t : _). either t 1 (either (eqb q 5) 1 (either (eqb q 6) 1 (either (eqb q 7) 1 0)))) (ne_eqb q 4 n4) in
-    let b = ap (λ (t : _). either t 1 (either (eqb q 6) 1 (either (eqb q 7) 1 0))) (ne_eqb q 5 n5) in
-    let c = ap (λ (t : _). either t 1 (either (eqb q 7) 1 0)) (ne_eqb q 6 n6) in let d = ap (λ (t : _). either t 1 0) (ne_eqb q 7 n7) in
-    absurd (omega arith)))))
-
-empties : (q : ℕ) → 0 < kind_emptying q → (kind_emptying q ≡ 1) × (kind_alive q ≡ 0) × (kind_full q ≡ 1) × (kind_valued q ≡ 0)
-empties q h = dite (ℕ_discrete q 7) (λ e. (ap kind_emptying e, ap kind_alive e, ap kind_full e, ap kind_valued e))
-    (λ n7. dite (ℕ_discrete q 8) (λ e. (ap kind_emptying e, ap kind_alive e, ap kind_full e, ap kind_valued e))
-    (λ n8. let a = ap (λ (t : _). either t 1 (either (eqb q 8) 1 0)) (ne_eqb q 7 n7) in let b = ap (λ (t : _). either t 1 0) (ne_eqb q 8 n8) in
-    absurd (omega arith)))
+    (λ n4. let a = ap (λ (t : _). either t 1 0) (ne_eqb q 4 n4) in absurd (omega arith))
 
 valued_is : (q : ℕ) → 0 < kind_alive q → kind_valued q ≡ 1
 valued_is q h = dite (ℕ_discrete q 1) (λ e. ap kind_valued e)
@@ -87,43 +75,98 @@ kind x q low e = let f = below shared_base x low in (
 )
 
 -- it waits for the collector k
-pub private_is : (k : ℕ) → private_word k < shared_base → (alive (private_word k) ≡ 0) × (waiting (private_word k) ≡ 1) × (waits_for k (private_word k) ≡ 1)
-unfolding waits_for
+pub private_is : (k : ℕ) → private_word k < shared_base → (alive (private_word k) ≡ 0) × (waiting (private_word k) ≡ 0) × (full (private_word k) ≡ 1)
+    × (private (private_word k) ≡ 1) × (waits_for k (private_word k) ≡ 1)
+unfolding waits_for private
 private_is k low = let s = kind (private_word k) 5 low (omega arith) in let q : (16 * k + 5) / 16 ≡ k = omega arith in
-    let r : (16 * k + 5) % 16 ≡ 5 = omega arith in (
+    let r : (16 * k + 5) % 16 ≡ 5 = omega arith in let f = below shared_base (16 * k + 5) low in (
       s.0,
       s.1,
-      ap (λ (t : _). either t 0 (either (eqb ((16 * k + 5) % 16) 5) (is k ((16 * k + 5) / 16)) 0)) (below shared_base (16 * k + 5) low)
+      s.2,
+      ap (λ (t : _). either t 0 (either (eqb ((16 * k + 5) % 16) 5) 1 (is emptied_word (16 * k + 5) + is emptying_word (16 * k + 5)))) f
+          ∙ ap (λ (t : _). either t 1 (is emptied_word (16 * k + 5) + is emptying_word (16 * k + 5))) (eq-eqb ((16 * k + 5) % 16) 5 r),
+      ap (λ (t : _). either t 0 (either (eqb ((16 * k + 5) % 16) 5) (is k ((16 * k + 5) / 16)) 0)) f
           ∙ (ap (λ (t : _). either t (is k ((16 * k + 5) / 16)) 0) (eq-eqb ((16 * k + 5) % 16) 5 r) ∙
           (ap (is k) q ∙ ap (λ (t : _). either t 1 0) (eq-eqb k k refl))),
     )
 
--- it was emptied: it waits still, and has no value
-pub emptied_is : (alive emptied_word ≡ 0) × (waiting emptied_word ≡ 1) × (full emptied_word ≡ 1) × (valued emptied_word ≡ 0)
-unfolding alive waiting full valued
-emptied_is = (refl, refl, refl, refl)
+-- it was emptied: it is private still, and has no value
+pub emptied_is : (alive emptied_word ≡ 0) × (waiting emptied_word ≡ 0) × (full emptied_word ≡ 1) × (private emptied_word ≡ 1) × (emptying emptied_word ≡ 0)
+unfolding alive waiting full private emptying
+emptied_is = (refl, refl, refl, refl, refl)
 
--- a close empties it: the bag has it still; and has let go of it
-pub emptying_is : (waiting emptying_word ≡ 1) × (emptying emptying_word ≡ 1) × (waiting left_word ≡ 0) × (emptying left_word ≡ 1)
-unfolding waiting emptying
-emptying_is = (refl, refl, refl, refl)
+-- a close empties it, and the bag has it still
+pub emptying_is : (alive emptying_word ≡ 0) × (waiting emptying_word ≡ 0) × (full emptying_word ≡ 1) × (private emptying_word ≡ 1)
+    × (emptying emptying_word ≡ 1)
+unfolding alive waiting full private emptying
+emptying_is = (refl, refl, refl, refl, refl)
 
-is_emptying : (x : ℕ) → 0 < emptying x → (emptying x ≡ 1) × (alive x ≡ 0) × (full x ≡ 1) × (valued x ≡ 0)
+-- and the bag has let go of it
+pub left_is : (alive left_word ≡ 0) × (waiting left_word ≡ 0) × (full left_word ≡ 1) × (private left_word ≡ 0) × (emptying left_word ≡ 1)
+unfolding alive waiting full private emptying
+left_is = (refl, refl, refl, refl, refl)
+
+none_valued : (valued emptying_word ≡ 0) × (valued left_word ≡ 0)
+unfolding valued
+none_valued = (refl, refl)
+
+-- what a close empties is in its bag still, or no more
+pub which_emptying : (x : ℕ) → 0 < emptying x → (x ≡ emptying_word) ⊎ (x ≡ left_word)
 unfolding emptying
-is_emptying x h = ⊎_elim (λ (t : (leb shared_base x ≡ true) × (shared_base ≤ x)).
-    let e = ap (λ (b : _). either b 0 (kind_emptying (x % 16))) t.0 in absurd (omega arith))
-    (λ (t : (leb shared_base x ≡ false) × (x < shared_base)). let f = ap (λ (b : _). either b 0 (kind_emptying (x % 16))) t.0 in
-    let s = kind x (x % 16) t.1 refl in let q = empties (x % 16) (omega arith) in (f ∙ q.0, s.0 ∙ q.1, s.2 ∙ q.2, s.4 ∙ q.3))
-    (leb_tells shared_base x)
+which_emptying x h = dite (ℕ_discrete x emptying_word) (λ e. inl e) (λ ne. dite (ℕ_discrete x left_word) (λ e. inr e)
+    (λ ne'. let a = ap (λ (t : _). either t 1 0) (ne_eqb x emptying_word ne) in let b = ap (λ (t : _). either t 1 0) (ne_eqb x left_word ne') in
+    absurd (omega arith)))
 
-waits_privately : (k x : ℕ) → 0 < waits_for k x → (x < shared_base) × (x % 16 ≡ 5)
+is_emptying : (x : ℕ) → 0 < emptying x → (emptying x ≡ 1) × (alive x ≡ 0) × (full x ≡ 1) × (valued x ≡ 0) × (waiting x ≡ 0)
+is_emptying x h = ⊎_elim
+    (λ (e : x ≡ emptying_word). let s = emptying_is in
+    (ap emptying e ∙ s.4, ap alive e ∙ s.0, ap full e ∙ s.2, ap valued e ∙ none_valued.0, ap waiting e ∙ s.1))
+    (λ (e : x ≡ left_word). let s = left_is in
+    (ap emptying e ∙ s.4, ap alive e ∙ s.0, ap full e ∙ s.2, ap valued e ∙ none_valued.1, ap waiting e ∙ s.1)) (which_emptying x h)
+
+-- what waits for a collector has its word
+pub waits_privately : (k x : ℕ) → 0 < waits_for k x → (x < shared_base) × (x ≡ private_word k)
 unfolding waits_for
 waits_privately k x h = ⊎_elim (λ (t : (leb shared_base x ≡ true) × (shared_base ≤ x)).
     let e = ap (λ (b : _). either b 0 (either (eqb (x % 16) 5) (is k (x / 16)) 0)) t.0 in absurd (omega arith))
-    (λ (t : (leb shared_base x ≡ false) × (x < shared_base)). dite (ℕ_discrete (x % 16) 5) (λ e. (t.1, e))
-    (λ ne. let f = ap (λ (b : _). either b 0 (either (eqb (x % 16) 5) (is k (x / 16)) 0)) t.0 in
-    let g = ap (λ (b : _). either b (is k (x / 16)) 0) (ne_eqb (x % 16) 5 ne) in absurd (omega arith)))
+    (λ (t : (leb shared_base x ≡ false) × (x < shared_base)). let f = ap (λ (b : _). either b 0 (either (eqb (x % 16) 5) (is k (x / 16)) 0)) t.0 in
+    dite (ℕ_discrete (x % 16) 5)
+    (λ e. let g = ap (λ (b : _). either b (is k (x / 16)) 0) (eq-eqb (x % 16) 5 e) in dite (ℕ_discrete (x / 16) k) (λ same. (t.1, omega arith))
+    (λ ne. let d = ap (λ (b : _). either b 1 0) (ne_eqb (x / 16) k ne) in absurd (omega arith)))
+    (λ ne. let g = ap (λ (b : _). either b (is k (x / 16)) 0) (ne_eqb (x % 16) 5 ne) in absurd (omega arith)))
     (leb_tells shared_base x)
+
+-- what is private waits for a collector, or its close empties it, or has done so
+pub which_private : (x : ℕ) → 0 < private x → ((k : ℕ) × (x ≡ private_word k) × (x < shared_base)) ⊎ ((x ≡ emptied_word) ⊎ (x ≡ emptying_word))
+unfolding private
+which_private x h = ⊎_elim (λ (t : (leb shared_base x ≡ true) × (shared_base ≤ x)).
+    let e = ap (λ (b : _). either b 0 (either (eqb (x % 16) 5) 1 (is emptied_word x + is emptying_word x))) t.0 in absurd (omega arith))
+    (λ (t : (leb shared_base x ≡ false) × (x < shared_base)).
+    let f = ap (λ (b : _). either b 0 (either (eqb (x % 16) 5) 1 (is emptied_word x + is emptying_word x))) t.0 in dite (ℕ_discrete (x % 16) 5)
+    (λ e. inl (x / 16, omega arith, t.1))
+    (λ ne. let g = ap (λ (b : _). either b 1 (is emptied_word x + is emptying_word x)) (ne_eqb (x % 16) 5 ne) in
+    dite (ℕ_discrete x emptied_word) (λ e. inr (inl e)) (λ n6. dite (ℕ_discrete x emptying_word) (λ e. inr (inr e))
+    (λ n7. let a = ap (λ (t : _). either t 1 0) (ne_eqb x emptied_word n6) in let b = ap (λ (t : _). either t 1 0) (ne_eqb x emptying_word n7) in
+    absurd (omega arith)))))
+    (leb_tells shared_base x)
+
+is_private : (x : ℕ) → 0 < private x → (private x ≡ 1) × (alive x ≡ 0) × (full x ≡ 1) × (waiting x ≡ 0)
+is_private x h = ⊎_elim
+    (λ (t : (k : ℕ) × (x ≡ private_word k) × (x < shared_base)). let e = t.1 in let l = t.2 in let s = private_is t.0 (omega arith) in
+    (ap private e ∙ s.3, ap alive e ∙ s.0, ap full e ∙ s.2, ap waiting e ∙ s.1))
+    (λ (t : (x ≡ emptied_word) ⊎ (x ≡ emptying_word)). ⊎_elim
+    (λ (e : x ≡ emptied_word). let s = emptied_is in (ap private e ∙ s.3, ap alive e ∙ s.0, ap full e ∙ s.2, ap waiting e ∙ s.1))
+    (λ (e : x ≡ emptying_word). let s = emptying_is in (ap private e ∙ s.3, ap alive e ∙ s.0, ap full e ∙ s.2, ap waiting e ∙ s.1)) t)
+    (which_private x h)
+
+-- nothing moves the value of one that waits for a collector
+for_one_is : (k x : ℕ) → 0 < waits_for k x → (private x ≡ 1) × (valued x ≡ 1) × (emptying x ≡ 0)
+for_one_is k x h = let p = waits_privately k x h in let e = p.1 in let l = p.0 in let s = private_is k (omega arith) in
+    let v = (kind x 5 p.0 (omega arith)).4 in (
+      ap private e ∙ s.3,
+      v,
+      dite (ℕ_discrete (emptying x) 0) (λ z. z) (λ ne. let q = is_emptying x (omega arith) in let q3 = q.3 in absurd (omega arith)),
+    )
 
 pub free_is : (g : ℕ) → free_word g < shared_base → (alive (free_word g) ≡ 0) × (waiting (free_word g) ≡ 0) × (full (free_word g) ≡ 0)
 free_is g low = let k = kind (free_word g) 0 low (omega arith) in (k.0, k.1, k.2)
@@ -252,7 +295,9 @@ sound = record {
       (λ (t : (leb shared_base x ≡ false) × (x < shared_base)). let s = kind x (x % 16) t.1 refl in let s0 = s.0 in
       s.4 ∙ valued_is (x % 16) (omega arith)) (leb_tells shared_base x);
   emptying = is_emptying;
-  private = λ k x h. let p = waits_privately k x h in let s = kind x 5 p.0 p.1 in (s.1, s.4);
+  private = is_private;
+  for_one = for_one_is;
+  one_of = λ k l x h h'. let a = (waits_privately k x h).1 in let b = (waits_privately l x h').1 in omega arith;
   waits = λ x h. ⊎_elim (λ (t : (leb shared_base x ≡ true) × (shared_base ≤ x)). let s = shared x t.1 in let s1 = s.1 in
       dite (ℕ_discrete x shared_base) (λ e. (s1 ∙ ap (λ (b : _). either b 1 0) (eq-eqb x shared_base e), s.2))
       (λ ne. let n = ap (λ (b : _). either b 1 0) (ne_eqb x shared_base ne) in absurd (omega arith)))

@@ -3,6 +3,7 @@ pub mod Sums
 pub mod Codes
 pub mod Epoch
 pub mod Slots
+pub mod Collectors
 pub mod EpochSteps
 pub mod SlotSteps
 pub mod CellSteps
