@@ -177,6 +177,18 @@ owned_is g low = let k = kind (owned_word g) 1 low (omega arith) in (k.0, k.1, k
 pub raw_is : (g : ℕ) → raw_word g < shared_base → (alive (raw_word g) ≡ 0) × (waiting (raw_word g) ≡ 0) × (full (raw_word g) ≡ 1)
 raw_is g low = let k = kind (raw_word g) 2 low (omega arith) in (k.0, k.1, k.2)
 
+-- what is out as raw isn't private
+pub raw_plain : (g : ℕ) → raw_word g < shared_base → (private (raw_word g) ≡ 0) × (emptying (raw_word g) ≡ 0)
+raw_plain g low = (
+  dite (ℕ_discrete (private (raw_word g)) 0) (λ e. e) (λ ne. ⊎_elim
+      (λ (t : (k : ℕ) × (raw_word g ≡ private_word k) × (raw_word g < shared_base)). absurd (let e = t.1 in omega arith))
+      (λ (t : (raw_word g ≡ emptied_word) ⊎ (raw_word g ≡ emptying_word)). ⊎_elim (λ (e : raw_word g ≡ emptied_word). absurd (omega arith))
+      (λ (e : raw_word g ≡ emptying_word). absurd (omega arith)) t) (which_private (raw_word g) (omega arith))),
+  dite (ℕ_discrete (emptying (raw_word g)) 0) (λ e. e) (λ ne. ⊎_elim
+      (λ (e : raw_word g ≡ emptying_word). absurd (omega arith))
+      (λ (e : raw_word g ≡ left_word). absurd (omega arith)) (which_emptying (raw_word g) (omega arith))),
+)
+
 pub waiting_is : (g : ℕ) → waiting_word g < shared_base → (alive (waiting_word g) ≡ 0) × (waiting (waiting_word g) ≡ 1)
 waiting_is g low = let k = kind (waiting_word g) 4 low (omega arith) in (k.0, k.1)
 

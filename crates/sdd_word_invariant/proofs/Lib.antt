@@ -6,6 +6,7 @@ pub mod SlotWords
 pub mod Owning
 pub mod Seeing
 pub mod SlotEpochs
+pub mod Collectors
 pub mod Lone
 pub mod Holding
 pub mod Tokens

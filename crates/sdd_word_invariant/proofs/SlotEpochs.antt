@@ -20,7 +20,7 @@ use Rattle.sdd_word_invariant.specs.WordInvariant.{with_epoch, with_both}
 use Rattle.sdd_word_invariant.proofs.Sums.{total_map}
 use Rattle.sdd_word_invariant.proofs.SlotWords.{view_step, below}
 
-of_map : {A B : Type 0} (f : A → B) (l : List A) (i : ℕ) (y : B) → get_elem? (map f l) i ≡ some y → (x : A) × (get_elem? l i ≡ some x) × (f x ≡ y)
+pub of_map : {A B : Type 0} (f : A → B) (l : List A) (i : ℕ) (y : B) → get_elem? (map f l) i ≡ some y → (x : A) × (get_elem? l i ≡ some x) × (f x ≡ y)
 of_map f [] i y e = absurd (some-ne-none y (sym e))
 of_map f (x ∷ xs) zero y e = (x, refl, some-injective _ _ e)
 of_map f (x ∷ xs) (suc i) y e = of_map f xs i y e
