@@ -33,6 +33,7 @@ use Rattle.sdd_word_invariant.proofs.Barred as barring
 use Rattle.sdd_word_invariant.proofs.Codes.{sound, free_is, raw_is, waiting_is, shared, counted_is, none_left, some_left, one_left, only_held}
 use Rattle.sdd_word_invariant.proofs.EpochSteps as over
 use Rattle.sdd_word_invariant.proofs.SlotSteps as steps
+use Rattle.sdd_word_invariant.proofs.Collectors.{plain_free}
 use Rattle.sdd_word_invariant.proofs.Owning.{item_gone, item_kept}
 use Rattle.sdd_word_invariant.proofs.Owning as owning
 use Rattle.sdd_word_invariant.proofs.Holding as holding
@@ -268,7 +269,7 @@ module _ (slots id : ℕ) (me : SeatState) (live : HasPlace me.0.epoch) where
     pub claims : (y : ℕ) → alive y ≡ 1 → v.stakes.moves ≡ None → May i (λ x. either (eqb x (free_word 0)) y x)
         (OfSlot (λ slot. ClaimsAll slot (free_word 0) y) i me)
     claims y owns_one rests = let told : ℕ → SeatState → Type 0 = OfSlot (λ slot. ClaimsAll slot (free_word 0) y) i me in let free = free_is 0 (omega arith) in
-        let step = steps.claims id v live slot (free_word 0) y inside free.0 free.1 owns_one in
+        let step = steps.claims id v live slot (free_word 0) y inside free.0 free.1 (plain_free codes sound (free_word 0) free.2) owns_one in
         lift_homes γ sizes slots id me i (λ x. either (eqb x (free_word 0)) y x) (AtSlot (λ slot. Claims slot (free_word 0) y) i v) told (claim_keeps y) step
         (λ s w h at t. let x : ℕ = get_or s.words i 0 in let c = t slot refl in
         exchanged x (free_word 0) y (λ z. Follows γ sizes id i me told s z w)

@@ -15,6 +15,7 @@ pub mod Deferring
 pub mod Pigeons
 pub mod EpochSteps
 pub mod SlotSteps
+pub mod PrivateSlots
 pub mod RawSteps
 pub mod CellSteps
 pub mod Lift

@@ -57,17 +57,24 @@ module _ (id : ℕ) (v : View) (live : HasPlace v.epoch) where
     same_epochs = subst (λ (l : List EpochView). EpochInvariant sizes.participants ws l) (sym (set_again (map epoch_of vs) id v.epoch at_epoch)) p.epoch
 
     -- the other parts after a step on a slot's word
-    pub around : (slot y : ℕ) (w : View) → HasPlace w.epoch → w.words ≡ noted slot y v → IsUnmarked codes (slot_at sizes ws slot) y → Aside v w
-        → w.slots.looked ≤ v.slots.looked → v.epoch.known ≤ w.epoch.known → EpochInvariant sizes.participants ws (set (map epoch_of vs) id w.epoch)
-        → SlotsInvariant codes sizes (set ws (slot_word sizes slot) y) (set vs id w) → Parts sizes (set ws (slot_word sizes slot) y) (set vs id w)
-    around slot y w still is plain aside looked known epoch slots = record {
+    pub builds : (slot y : ℕ) (w : View) → HasPlace w.epoch → w.words ≡ noted slot y v → EpochInvariant sizes.participants ws (set (map epoch_of vs) id w.epoch)
+        → SlotsInvariant codes sizes (set ws (slot_word sizes slot) y) (set vs id w)
+        → CollectorsInvariant codes sizes (set ws (slot_word sizes slot) y) (set vs id w) → Parts sizes (set ws (slot_word sizes slot) y) (set vs id w)
+    builds slot y w still is epoch slots collectors = record {
       epoch = seen_after sizes (set ws (slot_word sizes slot) y) vs id w
           (epochs.behind sizes.participants ws (set (map epoch_of vs) id w.epoch) id (slot_word sizes slot) y w.epoch epoch
           (set_here (map epoch_of vs) id w.epoch (epochs.at_length (map epoch_of vs) id v.epoch at_epoch)) still (omega arith));
       slots = slots;
       lone = lone_noted sizes ws vs p.lone id v at p.epoch live slot y w is;
-      collectors = private.slot_aside codes sound sizes ws vs p.collectors id v at slot y w plain aside looked known;
+      collectors = collectors;
     }
+
+    -- the same where the slot's item is neither private nor emptied
+    pub around : (slot y : ℕ) (w : View) → HasPlace w.epoch → w.words ≡ noted slot y v → IsUnmarked codes (slot_at sizes ws slot) y → Aside v w
+        → w.slots.looked ≤ v.slots.looked → v.epoch.known ≤ w.epoch.known → EpochInvariant sizes.participants ws (set (map epoch_of vs) id w.epoch)
+        → SlotsInvariant codes sizes (set ws (slot_word sizes slot) y) (set vs id w) → Parts sizes (set ws (slot_word sizes slot) y) (set vs id w)
+    around slot y w still is plain aside looked known epoch slots = builds slot y w still is epoch slots
+        (private.slot_aside codes sound sizes ws vs p.collectors id v at slot y w plain aside looked known)
 
     -- nothing changes
     pub unmoved : (i : ℕ) → Parts sizes (set ws i (get_or ws i 0)) (set vs id v)

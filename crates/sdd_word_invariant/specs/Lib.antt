@@ -6,6 +6,7 @@ pub mod Slots
 pub mod Collectors
 pub mod EpochSteps
 pub mod SlotSteps
+pub mod CollectorSteps
 pub mod CellSteps
 pub mod Barred
 pub mod WordInvariant
