@@ -129,7 +129,7 @@ module _ (z : WordReading) (sound : IsWordReading z) where
     dite (ℕ_discrete (z.emptying x) 0) (λ e. e) (λ ne. let p = (sound.emptying x (omega arith)).2 in absurd (omega arith)),
   )
 
-  none_for : (k x : ℕ) → z.private x ≡ 0 → ¬ (0 < z.waits_for k x)
+  pub none_for : (k x : ℕ) → z.private x ≡ 0 → ¬ (0 < z.waits_for k x)
   none_for k x none h = let p = (sound.for_one k x h).0 in absurd (omega arith)
 
   module _ (sizes : Sizes) (ws : List ℕ) (vs : List View) (c : CollectorsInvariant z sizes ws vs) where

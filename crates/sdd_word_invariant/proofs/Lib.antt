@@ -16,6 +16,7 @@ pub mod Pigeons
 pub mod EpochSteps
 pub mod SlotSteps
 pub mod PrivateSlots
+pub mod CollectorSteps
 pub mod RawSteps
 pub mod CellSteps
 pub mod Lift
