@@ -119,3 +119,214 @@ module _ (z : WordReading) (sizes : Sizes) (ws : List ℕ) (vs : List View) (c :
             })
             (λ j u _ e. (guards j u e, closers j u e));
       }
+
+module _ (z : WordReading) (sizes : Sizes) (ws : List ℕ) (vs : List View) (c : CollectorsInvariant z sizes ws vs) (id : ℕ) (v : View)
+    (at : get_elem? vs id ≡ some v) where
+  -- no word changes, and it has the private items that it had
+  pub private_view : (w : View) → w.slots.privates ≡ v.slots.privates → w.slots.empties ≡ v.slots.empties → w.slots.sees ≡ v.slots.sees
+      → w.epoch ≡ v.epoch
+      → ((d : ℕ) → FoundEmptied w d → (slot_at sizes ws d ≡ emptied_word) × (0 < privates_at d v))
+      → (w.slots.left ≡ true → (d : ℕ) → Empties v d → slot_at sizes ws d ≡ left_word)
+      → ((j : ℕ) (u : View) → get_elem? vs j ≡ some u → (d k : ℕ) → Sees u d → Closes w k → 0 < z.waits_for k (slot_at sizes ws d)
+      → w.slots.looked ≤ u.epoch.place)
+      → CollectorsInvariant z sizes ws (set vs id w)
+  private_view w privates empties sees epoch found left looked = let f = c.each id v at in
+      let saw : (k : ℕ) → Sees w k → Sees v k = λ k h. subst (λ (l : List ℕ). 0 < times k l) sees h in
+      let had : (x : PrivateItem) → HasPrivate w x → HasPrivate v x = λ x has. (has.0, ap (λ (l : List PrivateItem). get_elem? l has.0) (sym privates) ∙ has.1) in
+      let guards : (u : View) → SeenBeforeClosed z sizes ws v u → SeenBeforeClosed z sizes ws w u = λ u g. record {
+        since = λ d x h has same. let o = g.since d x (saw d h) has same in let q = ap (λ (t : EpochView). t.since) epoch in omega arith;
+        looked = λ d k h shuts for. let o = g.looked d k (saw d h) shuts for in let q = ap (λ (t : EpochView). t.place) epoch in omega arith;
+      } in
+      let closers : (j : ℕ) (u : View) → get_elem? vs j ≡ some u → SeenBeforeClosed z sizes ws u w = λ j u e. record {
+        since = λ d x h has same. (c.two j id u v e at).since d x h (had x has) same;
+        looked = looked j u e;
+      } in record {
+        private = λ j. let t = total_set (privates_at j) vs id v w at in let s = c.private j in let e = ap (total (private_in j)) privates in omega arith;
+        emptied = λ j. let t = total_set (empties_at j) vs id v w at in let s = c.emptied j in let e = ap (one_in j) empties in omega arith;
+        each = each_set (KnowsPrivates z sizes ws) (KnowsPrivates z sizes ws) vs id w
+            record {
+              timed = λ x has. subst (λ (e : EpochView). IsTimed e x.item) (sym epoch) (f.timed x (had x has));
+              names = λ x has. f.names x (had x has);
+              found = λ d h. let g = found d h in let e = ap (total (private_in d)) privates in let g1 = g.1 in (g.0, omega arith);
+              left = λ l d h. left l d (sym empties ∙ h);
+              seen = λ d h. f.seen d (saw d h);
+            }
+            (λ j u _ e. c.each j u e);
+        two = both_set (SeenBeforeClosed z sizes ws) vs id w c.two
+            (record {
+              since = λ d x h has same. let o = (closers id v at).since d x (saw d h) has same in let q = ap (λ (t : EpochView). t.since) epoch in omega arith;
+              looked = λ d k h shuts for. let o = (closers id v at).looked d k (saw d h) shuts for in
+                  let q = ap (λ (t : EpochView). t.place) epoch in omega arith;
+            })
+            (λ j u _ e. (guards u (c.two id j v u at e), closers j u e));
+      }
+
+module _ (id : ℕ) (v : View) (live : HasPlace v.epoch) where
+  abbrev sizes : Sizes
+  sizes = v.sizes
+
+  module _ (ws : List ℕ) (vs : List View) (p : Parts sizes ws vs) (at : get_elem? vs id ≡ some v) where
+    -- no word changes
+    stays : (w : View) → w.epoch ≡ v.epoch → w.words ≡ v.words → SlotsInvariant codes sizes ws (set vs id w) → CollectorsInvariant codes sizes ws (set vs id w)
+        → (i : ℕ) → Parts sizes (set ws i (get_or ws i 0)) (set vs id w)
+    stays w epoch words slots collectors i = steps.loaded id v live ws vs p at i w epoch words slots collectors
+
+    -- it begins to close a collector, or closes none
+    closes_next : (closes : Option ℕ)
+        → CollectorsInvariant codes sizes ws (set vs id (record v { slots = record v.slots { closes = closes; looked = 0 } }))
+    closes_next closes = let f = p.collectors.each id v at in
+        private_view codes sizes ws vs p.collectors id v at (record v { slots = record v.slots { closes = closes; looked = 0 } })
+        refl refl refl refl f.found f.left (λ _ _ _ _ _ _ _ _. omega arith)
+
+    pub closes : (collector i : ℕ) → Parts sizes (set ws i (get_or ws i 0)) (set vs id (closing collector v))
+    closes collector = stays (closing collector v) refl refl
+        (blind_privates codes sound sizes ws vs p.slots id v at v.slots.privates v.slots.emptied v.slots.empties v.slots.left (Some collector) 0 (omega arith))
+        (closes_next (Some collector))
+
+    pub closes_none : (i : ℕ) → Parts sizes (set ws i (get_or ws i 0)) (set vs id (closed_none v))
+    closes_none = stays (closed_none v) refl refl
+        (blind_privates codes sound sizes ws vs p.slots id v at v.slots.privates v.slots.emptied v.slots.empties v.slots.left None 0 (omega arith))
+        (closes_next None)
+
+  module _ (slot : ℕ) (inside : slot < sizes.slots) where
+    abbrev i : ℕ
+    i = slot_word sizes slot
+
+    -- the word tells which slot it is
+    at_slot : (R : ℕ → View → ℕ → View → Type 0) (x : ℕ) (w : View) → R slot v x w → AtSlot R i v x w
+    at_slot R x w r other is = subst (λ (k : ℕ). R k v x w) (steps.same_slot id v live slot other is) r
+
+    module _ (ws : List ℕ) (vs : List View) (p : Parts sizes ws vs) (at : get_elem? vs id ≡ some v) where
+      abbrev x : ℕ
+      x = slot_at sizes ws slot
+
+      low : i < length ws
+      low = let l = p.slots.long in omega arith
+
+      -- the slots' part, whatever it knows of private items then
+      blinded : (y : ℕ) (w : View) → SlotsInvariant codes sizes (set ws i y) (set vs id w) → (privates : List PrivateItem) (emptied : List ℕ) (empties : Option ℕ)
+          (left : _) → SlotsInvariant codes sizes (set ws i y) (set vs id (with_privates w privates emptied empties left w.slots.closes w.slots.looked))
+      blinded y w s privates emptied empties left =
+          let w' : View = with_privates w privates emptied empties left w.slots.closes w.slots.looked in
+          subst (λ (l : List View). SlotsInvariant codes sizes (set ws i y) l) (set-set vs id w w')
+          (blind_privates codes sound sizes (set ws i y) (set vs id w) s id w (set_here vs id w (at_length vs id v at)) privates emptied empties left
+          w.slots.closes w.slots.looked (omega arith))
+
+      -- the word after the step, of this slot and of others
+      here : (y d : ℕ) → d ≡ slot → slot_at sizes (set ws i y) d ≡ y
+      here y = now codes sizes ws vs p.collectors id v at slot y low
+
+      beside : (y d : ℕ) → d ≢ slot → slot_at sizes (set ws i y) d ≡ slot_at sizes ws d
+      beside y = there codes sizes ws vs p.collectors id v at slot y low
+
+      -- it is the only one with a private item of the slot
+      alone : (r : PrivateItem) → HasPrivate v r → r.item.slot ≡ slot
+          → (privates_at slot v ≡ 1) × (codes.private x ≡ 1) × ((j : ℕ) (u : View) → j ≢ id → get_elem? vs j ≡ some u → privates_at slot u ≡ 0)
+      alone r has same = let one = is_same slot r.item.slot same in let m = total_has (private_in slot) v.slots.privates has.0 r has.1 in
+          let most = privates_in codes sound sizes ws vs p.collectors id slot v at in let sum = p.collectors.private slot in
+          let single = (sound.private x (omega arith)).0 in (
+            omega arith,
+            single,
+            λ j u apart e. let both = total_two (privates_at slot) vs j id u v apart e at in omega arith,
+          )
+
+      -- another one that found it emptied has a private item of it, and one that has such an item counts it
+      none_found : (u : View) → KnowsPrivates codes sizes ws u → privates_at slot u ≡ 0 → ¬ (FoundEmptied u slot)
+      none_found u k none h = let g = (k.found slot h).1 in omega arith
+
+      none_has : (u : View) → privates_at slot u ≡ 0 → (r : PrivateItem) → HasPrivate u r → r.item.slot ≢ slot
+      none_has u none r has same = let one = is_same slot r.item.slot same in let m = total_has (private_in slot) u.slots.privates has.0 r has.1 in omega arith
+
+      -- only one empties the slot
+      one_empties : Empties v slot → (codes.emptying x ≡ 1) × ((j : ℕ) (u : View) → j ≢ id → get_elem? vs j ≡ some u → ¬ (Empties u slot))
+      one_empties mine = let more = emptying_at codes sound sizes ws vs p.collectors id slot v at mine in let single = (sound.emptying x more).0 in
+          let one = is_same slot slot refl in let e = ap (one_in slot) mine in let sum = p.collectors.emptied slot in (
+            single,
+            λ j u apart at' h. let e' = ap (one_in slot) h in let both = total_two (empties_at slot) vs j id u v apart at' at in omega arith,
+          )
+
+      -- nobody does where the word says so
+      none_empties : codes.emptying x ≡ 0 → (j : ℕ) (u : View) → get_elem? vs j ≡ some u → ¬ (Empties u slot)
+      none_empties none j u e h = let m = emptying_at codes sound sizes ws vs p.collectors j slot u e h in omega arith
+
+      -- nobody sees what is emptied
+      none_sees : codes.emptying x ≡ 1 → (j : ℕ) (u : View) → get_elem? vs j ≡ some u → ¬ (Sees u slot)
+      none_sees busy j u e h = let z = (p.collectors.each j u e).seen slot h in omega arith
+
+      -- nor a private item that has seen three changes
+      none_sees_due : (r : PrivateItem) → HasPrivate v r → r.item.slot ≡ slot → 3 ≤ r.item.changes → (j : ℕ) (u : View) → get_elem? vs j ≡ some u
+          → ¬ (Sees u slot)
+      none_sees_due r has same ripe j u e sees = let before = (p.collectors.two j id u v e at).since slot r sees has same in
+          let late = ((p.collectors.each id v at).timed r has).found (omega arith) in let is_open = (p.slots.each j u e).guarded slot sees in
+          let mine = p.epoch.each id v.epoch (at_map epoch_of vs id v at) in let found = mine.found in let known = mine.known in
+          let once = ((p.epoch.each j u.epoch (at_map epoch_of vs j u e)).published is_open).once in omega arith
+
+      -- nor what waits for the collector that it closes, once it has looked at all places
+      none_sees_closed : (k : ℕ) → Closes v k → sizes.participants ≤ v.slots.looked → 0 < codes.waits_for k x → (j : ℕ) (u : View) → get_elem? vs j ≡ some u
+          → ¬ (Sees u slot)
+      none_sees_closed k mine all for j u e sees = let past = (p.collectors.two j id u v e at).looked slot k sees mine for in
+          let is_open = (p.slots.each j u e).guarded slot sees in
+          let near = (p.epoch.each j u.epoch (at_map epoch_of vs j u e)).inside (omega arith) in omega arith
+
+      -- the step, of which the slots' part and the collectors' are known
+      done : (y : ℕ) (w : View) → w.epoch ≡ v.epoch → w.words ≡ noted slot y v → SlotsInvariant codes sizes (set ws i y) (set vs id w)
+          → CollectorsInvariant codes sizes (set ws i y) (set vs id w) → Parts sizes (set ws i y) (set vs id w)
+      done y w epoch words = steps.builds id v live ws vs p at slot y w (subst HasPlace (sym epoch) live) words
+          (subst (λ (e : EpochView). EpochInvariant sizes.participants ws (set (map epoch_of vs) id e)) (sym epoch) (steps.same_epochs id v live ws vs p at))
+
+    -- an item that waits does so for a collector that nobody closes
+    pub collects : (collector : ℕ) (r : WaitingItem) → HasWaiting v slot r → private_word collector < shared_base → (ws : List ℕ) (vs : List View)
+        → Parts sizes ws vs → get_elem? vs id ≡ some v → ((j : ℕ) (u : View) → get_elem? vs j ≡ some u → ¬ (Closes u collector))
+        → (w : View) × Parts sizes (set ws i (private_word collector)) (set vs id w)
+        × AtSlot (Collects collector) i v (private_word collector) w
+    collects collector r has fits ws vs p at quiet =
+        let y : ℕ = private_word collector in let w : View = collected slot collector r y v in let pr = private_is collector fits in
+        let waits : 0 < waiting (x ws vs p at)
+        = subst (λ (d : ℕ). 0 < waiting (slot_at sizes ws d)) has.0 (waiter_in codes sound sizes ws vs p.slots id has.1.0 v r at has.1.1) in
+        let plain = plain_waiting codes sound (x ws vs p at) waits in let pr3 = pr.3 in let pr4 = pr.4 in
+        let silent : codes.emptying y ≡ 0 = (sound.for_one collector y (omega arith)).2 in
+        let lacks : (j : ℕ) (u : View) → get_elem? vs j ≡ some u → privates_at slot u ≡ 0
+        = λ j u e. let m = privates_in codes sound sizes ws vs p.collectors j slot u e in let z = plain.0 in omega arith in
+        let f = p.collectors.each id v at in
+        let new : PrivateItem = for_collector collector r in
+        let old_or_new : (q : PrivateItem) → HasPrivate w q → HasPrivate v q ⊎ (new ≡ q)
+        = λ q h. ⊎_elim (λ (t : get_elem? v.slots.privates h.0 ≡ some q). inl (h.0, t)) (λ (t : new ≡ q). inr t) (at_snoc v.slots.privates new q h.0 h.1) in
+        let in_slot : (q : PrivateItem) → new ≡ q → q.item.slot ≡ slot = λ q e. ap (λ (t : PrivateItem). t.item.slot) (sym e) ∙ has.0 in
+        let one_is = is_same slot r.slot has.0 in
+        (w, done ws vs p at y w refl refl
+        (blinded ws vs p at y (record v { slots = record v.slots { waits = without_item slot v.slots.waits }; words = noted slot y v })
+        (waits_no_more codes sound sizes ws vs p.slots id v at slot y (omega arith) has.1.0 r (noted slot y v) has.1.1 has.0 pr.0 pr.1 pr.2)
+        (v.slots.privates ++ new ∷ []) v.slots.emptied v.slots.empties v.slots.left)
+        (private_step codes sizes ws vs p.collectors id v at slot y (low ws vs p at) w
+        (let t = total_snoc (private_in slot) v.slots.privates new in let z = plain.0 in omega arith)
+        (λ j ne. let t = total_snoc (private_in j) v.slots.privates new in let o = is_other j r.slot (λ e. ne (sym e ∙ has.0)) in omega arith)
+        (let z = plain.1 in omega arith) (λ _ _. refl)
+        (λ k h. inr (λ j u e shuts. quiet j u e (subst (Closes u) (sound.one_of k collector y h (omega arith)) shuts)))
+        record {
+          timed = λ q h. ⊎_elim (λ (t : HasPrivate v q). f.timed q t)
+              (λ (t : new ≡ q). subst (λ (q : PrivateItem). IsTimed v.epoch q.item) t ((p.slots.each id v at).timed has.1.0 r has.1.1)) (old_or_new q h);
+          names = λ q h k for. ⊎_elim
+              (λ (t : HasPrivate v q). let ne = none_has ws vs p at v (lacks id v at) q t in
+              f.names q t k (subst (λ (n : ℕ). 0 < codes.waits_for k n) (beside ws vs p at y q.item.slot ne) for))
+              (λ (t : new ≡ q). let for' = subst (λ (n : ℕ). 0 < codes.waits_for k n) (here ws vs p at y q.item.slot (in_slot q t)) for in
+              sound.one_of k collector y for' (omega arith) ∙ ap (λ (t : PrivateItem). t.collector) t)
+              (old_or_new q h);
+          found = λ d h. let g = f.found d h in let g1 = g.1 in let t = total_snoc (private_in d) v.slots.privates new in dite (ℕ_discrete d slot)
+              (λ e. absurd (none_found ws vs p at v f (lacks id v at) (subst (FoundEmptied v) e h)))
+              (λ ne. (beside ws vs p at y d ne ∙ g.0, omega arith));
+          left = λ l d h. dite (ℕ_discrete d slot) (λ e. absurd (none_empties ws vs p at plain.1 id v at (subst (Empties v) e h)))
+              (λ ne. beside ws vs p at y d ne ∙ f.left l d h);
+          seen = λ d h. dite (ℕ_discrete d slot) (λ e. ap codes.emptying (here ws vs p at y d e) ∙ silent)
+              (λ ne. ap codes.emptying (beside ws vs p at y d ne) ∙ f.seen d h);
+        }
+        record {
+          names = λ j u _ e q h same. absurd (none_has ws vs p at u (lacks j u e) q h same);
+          found = λ j u _ e h. absurd (none_found ws vs p at u (p.collectors.each j u e) (lacks j u e) h);
+          left = λ j u _ e h. absurd (none_empties ws vs p at plain.1 j u e h);
+          seen = λ _ _ _ _ _. silent;
+        }
+        refl refl refl refl
+        (λ q h. ⊎_elim (λ (t : HasPrivate v q). inl t)
+        (λ (t : new ≡ q). inr (λ j u e sees. let g = (p.slots.two j id u v e at).since slot has.1.0 r (subst (Sees u) (in_slot q t) sees) has.1.1 has.0 in
+        let a = ap (λ (t : PrivateItem). t.item.retired_at) t in omega arith)) (old_or_new q h))),
+        at_slot (Collects collector) y w (r, has, refl))

@@ -19,17 +19,17 @@ abbrev pub for_collector : ℕ → WaitingItem → PrivateItem
 for_collector collector x = record { collector = collector; item = x }
 
 -- an item that waits does so for a collector from now on
-abbrev pub collected : ℕ → WaitingItem → ℕ → View → View
-collected collector x y v = record v {
-  slots = record v.slots { waits = without_item x.slot v.slots.waits; privates = v.slots.privates ++ for_collector collector x ∷ [] };
-  words = noted x.slot y v;
+abbrev pub collected : ℕ → ℕ → WaitingItem → ℕ → View → View
+collected slot collector x y v = record v {
+  slots = record v.slots { waits = without_item slot v.slots.waits; privates = v.slots.privates ++ for_collector collector x ∷ [] };
+  words = noted slot y v;
 }
 
 -- it waits as any other from now on, before its collector's close came to it
-abbrev pub reclaimed : WaitingItem → ℕ → View → View
-reclaimed x y v = record v {
-  slots = record v.slots { waits = v.slots.waits ++ x ∷ []; privates = without_private x.slot v.slots.privates };
-  words = noted x.slot y v;
+abbrev pub reclaimed : ℕ → WaitingItem → ℕ → View → View
+reclaimed slot x y v = record v {
+  slots = record v.slots { waits = v.slots.waits ++ x ∷ []; privates = without_private slot v.slots.privates };
+  words = noted slot y v;
 }
 
 -- it was found emptied
@@ -86,12 +86,12 @@ HasWaiting v slot x = (x.slot ≡ slot) × ((m : ℕ) × (get_elem? v.slots.wait
 -- each of these: what was known before, the number found (at a store the number stored), and what is known after
 -- an item that waits is collected
 abbrev pub Collects : ℕ → ℕ → View → ℕ → View → Type 0
-Collects collector slot v y w = (x : WaitingItem) × HasWaiting v slot x × (w ≡ collected collector x y v)
+Collects collector slot v y w = (x : WaitingItem) × HasWaiting v slot x × (w ≡ collected slot collector x y v)
 
 -- a private item is claimed for the bag, unless its collector's close came first: then it is emptied, or was
 abbrev pub Reclaims : ℕ → ℕ → View → ℕ → View → Type 0
 Reclaims collector slot v x w =
-    (x ≡ private_word collector → (r : PrivateItem) × HasPrivate v r × (r.item.slot ≡ slot) × (w ≡ reclaimed r.item (waiting_word 0) v))
+    (x ≡ private_word collector → (r : PrivateItem) × HasPrivate v r × (r.item.slot ≡ slot) × (w ≡ reclaimed slot r.item (waiting_word 0) v))
     × (x ≡ emptied_word → w ≡ found_emptied slot v) × (x ≡ emptying_word → w ≡ v)
     × ((x ≡ private_word collector) ⊎ ((x ≡ emptied_word) ⊎ (x ≡ emptying_word))) × Knew slot v x
 
