@@ -14,8 +14,8 @@ lives q h = dite (ℕ_discrete q 1) (λ e. (ap kind_waiting e, ap kind_full e))
     (λ n3. let a = ap (λ (t : _). either t 1 (either (eqb q 3) 1 0)) (ne_eqb q 1 n1) in let b = ap (λ (t : _). either t 1 0) (ne_eqb q 3 n3) in
     absurd (omega arith)))
 
-waits : (q : ℕ) → 0 < kind_waiting q → (kind_waiting q ≡ 1) × (kind_full q ≡ 1)
-waits q h = dite (ℕ_discrete q 4) (λ e. (ap kind_waiting e, ap kind_full e))
+waits : (q : ℕ) → 0 < kind_waiting q → (kind_waiting q ≡ 1) × (kind_full q ≡ 1) × (kind_valued q ≡ 1)
+waits q h = dite (ℕ_discrete q 4) (λ e. (ap kind_waiting e, ap kind_full e, ap kind_valued e))
     (λ n4. let a = ap (λ (t : _). either t 1 0) (ne_eqb q 4 n4) in absurd (omega arith))
 
 valued_is : (q : ℕ) → 0 < kind_alive q → kind_valued q ≡ 1
@@ -23,6 +23,10 @@ valued_is q h = dite (ℕ_discrete q 1) (λ e. ap kind_valued e)
     (λ n1. dite (ℕ_discrete q 3) (λ e. ap kind_valued e)
     (λ n3. let a = ap (λ (t : _). either t 1 (either (eqb q 3) 1 0)) (ne_eqb q 1 n1) in let b = ap (λ (t : _). either t 1 0) (ne_eqb q 3 n3) in
     absurd (omega arith)))
+
+none_there : (q : ℕ) → kind_full q ≡ 0 → kind_valued q ≡ 0
+none_there q h = dite (ℕ_discrete q 0) (λ e. ap kind_valued e)
+    (λ ne. let a = ap (λ (t : _). either t 0 1) (ne_eqb q 0 ne) in absurd (omega arith))
 
 -- a count: alive as long as one is left
 pub shared : (x : ℕ) → shared_base ≤ x → (alive x ≡ x - shared_base) × (waiting x ≡ is shared_base x) × (full x ≡ 1) × (counted x ≡ 1) × (valued x ≡ 1)
@@ -92,8 +96,9 @@ private_is k low = let s = kind (private_word k) 5 low (omega arith) in let q : 
 
 -- it was emptied: it is private still, and has no value
 pub emptied_is : (alive emptied_word ≡ 0) × (waiting emptied_word ≡ 0) × (full emptied_word ≡ 1) × (private emptied_word ≡ 1) × (emptying emptied_word ≡ 0)
-unfolding alive waiting full private emptying
-emptied_is = (refl, refl, refl, refl, refl)
+    × (valued emptied_word ≡ 0)
+unfolding alive waiting full private emptying valued
+emptied_is = (refl, refl, refl, refl, refl, refl)
 
 -- a close empties it, and the bag has it still
 pub emptying_is : (alive emptying_word ≡ 0) × (waiting emptying_word ≡ 0) × (full emptying_word ≡ 1) × (private emptying_word ≡ 1)
@@ -106,9 +111,9 @@ pub left_is : (alive left_word ≡ 0) × (waiting left_word ≡ 0) × (full left
 unfolding alive waiting full private emptying
 left_is = (refl, refl, refl, refl, refl)
 
-none_valued : (valued emptying_word ≡ 0) × (valued left_word ≡ 0)
+moved_valued : (valued emptying_word ≡ 1) × (valued left_word ≡ 1)
 unfolding valued
-none_valued = (refl, refl)
+moved_valued = (refl, refl)
 
 -- what a close empties is in its bag still, or no more
 pub which_emptying : (x : ℕ) → 0 < emptying x → (x ≡ emptying_word) ⊎ (x ≡ left_word)
@@ -117,12 +122,12 @@ which_emptying x h = dite (ℕ_discrete x emptying_word) (λ e. inl e) (λ ne. d
     (λ ne'. let a = ap (λ (t : _). either t 1 0) (ne_eqb x emptying_word ne) in let b = ap (λ (t : _). either t 1 0) (ne_eqb x left_word ne') in
     absurd (omega arith)))
 
-is_emptying : (x : ℕ) → 0 < emptying x → (emptying x ≡ 1) × (alive x ≡ 0) × (full x ≡ 1) × (valued x ≡ 0) × (waiting x ≡ 0)
+is_emptying : (x : ℕ) → 0 < emptying x → (emptying x ≡ 1) × (alive x ≡ 0) × (full x ≡ 1) × (valued x ≡ 1) × (waiting x ≡ 0)
 is_emptying x h = ⊎_elim
     (λ (e : x ≡ emptying_word). let s = emptying_is in
-    (ap emptying e ∙ s.4, ap alive e ∙ s.0, ap full e ∙ s.2, ap valued e ∙ none_valued.0, ap waiting e ∙ s.1))
+    (ap emptying e ∙ s.4, ap alive e ∙ s.0, ap full e ∙ s.2, ap valued e ∙ moved_valued.0, ap waiting e ∙ s.1))
     (λ (e : x ≡ left_word). let s = left_is in
-    (ap emptying e ∙ s.4, ap alive e ∙ s.0, ap full e ∙ s.2, ap valued e ∙ none_valued.1, ap waiting e ∙ s.1)) (which_emptying x h)
+    (ap emptying e ∙ s.4, ap alive e ∙ s.0, ap full e ∙ s.2, ap valued e ∙ moved_valued.1, ap waiting e ∙ s.1)) (which_emptying x h)
 
 -- what waits for a collector has its word
 pub waits_privately : (k x : ℕ) → 0 < waits_for k x → (x < shared_base) × (x ≡ private_word k)
@@ -165,7 +170,8 @@ for_one_is k x h = let p = waits_privately k x h in let e = p.1 in let l = p.0 i
     let v = (kind x 5 p.0 (omega arith)).4 in (
       ap private e ∙ s.3,
       v,
-      dite (ℕ_discrete (emptying x) 0) (λ z. z) (λ ne. let q = is_emptying x (omega arith) in let q3 = q.3 in absurd (omega arith)),
+      dite (ℕ_discrete (emptying x) 0) (λ z. z) (λ ne. ⊎_elim (λ (d : x ≡ emptying_word). absurd (omega arith)) (λ (d : x ≡ left_word). absurd (omega arith))
+          (which_emptying x (omega arith))),
     )
 
 pub free_is : (g : ℕ) → free_word g < shared_base → (alive (free_word g) ≡ 0) × (waiting (free_word g) ≡ 0) × (full (free_word g) ≡ 0)
@@ -311,10 +317,13 @@ sound = record {
   for_one = for_one_is;
   one_of = λ k l x h h'. let a = (waits_privately k x h).1 in let b = (waits_privately l x h').1 in omega arith;
   waits = λ x h. ⊎_elim (λ (t : (leb shared_base x ≡ true) × (shared_base ≤ x)). let s = shared x t.1 in let s1 = s.1 in
-      dite (ℕ_discrete x shared_base) (λ e. (s1 ∙ ap (λ (b : _). either b 1 0) (eq-eqb x shared_base e), s.2))
+      dite (ℕ_discrete x shared_base) (λ e. (s1 ∙ ap (λ (b : _). either b 1 0) (eq-eqb x shared_base e), s.2, s.4))
       (λ ne. let n = ap (λ (b : _). either b 1 0) (ne_eqb x shared_base ne) in absurd (omega arith)))
       (λ (t : (leb shared_base x ≡ false) × (x < shared_base)). let s = kind x (x % 16) t.1 refl in let s1 = s.1 in let q = waits (x % 16) (omega arith) in
-      (s.1 ∙ q.0, s.2 ∙ q.1)) (leb_tells shared_base x);
+      (s.1 ∙ q.0, s.2 ∙ q.1, s.4 ∙ q.2)) (leb_tells shared_base x);
+  empty = λ x h. ⊎_elim (λ (t : (leb shared_base x ≡ true) × (shared_base ≤ x)). let s = (shared x t.1).2 in absurd (omega arith))
+      (λ (t : (leb shared_base x ≡ false) × (x < shared_base)). let s = kind x (x % 16) t.1 refl in let s2 = s.2 in s.4 ∙ none_there (x % 16) (omega arith))
+      (leb_tells shared_base x);
   free = free;
   null = λ i. cell_null 0 (inl (omega arith)) i;
 }

@@ -15,7 +15,7 @@ pub record WordReading : Type 0 where
   pub waiting : ℕ → ℕ
   -- 1 where the slot isn't free
   pub full : ℕ → ℕ
-  -- 1 where its value is there
+  -- 1 where its value is there, or is being moved
   pub valued : ℕ → ℕ
   -- 1 where its owners are counted
   pub counted : ℕ → ℕ
@@ -34,11 +34,12 @@ pub record IsWordReading (z : WordReading) : Type 0 where
   pub lives : (x : ℕ) → 0 < z.alive x → (z.waiting x ≡ 0) × (z.full x ≡ 1)
   pub few : (x : ℕ) → z.counted x ≡ 0 → z.alive x ≤ 1
   pub valued : (x : ℕ) → 0 < z.alive x → z.valued x ≡ 1
-  pub emptying : (x : ℕ) → 0 < z.emptying x → (z.emptying x ≡ 1) × (z.alive x ≡ 0) × (z.full x ≡ 1) × (z.valued x ≡ 0) × (z.waiting x ≡ 0)
+  pub emptying : (x : ℕ) → 0 < z.emptying x → (z.emptying x ≡ 1) × (z.alive x ≡ 0) × (z.full x ≡ 1) × (z.valued x ≡ 1) × (z.waiting x ≡ 0)
   pub private : (x : ℕ) → 0 < z.private x → (z.private x ≡ 1) × (z.alive x ≡ 0) × (z.full x ≡ 1) × (z.waiting x ≡ 0)
   pub for_one : (k x : ℕ) → 0 < z.waits_for k x → (z.private x ≡ 1) × (z.valued x ≡ 1) × (z.emptying x ≡ 0)
   pub one_of : (k l x : ℕ) → 0 < z.waits_for k x → 0 < z.waits_for l x → k ≡ l
-  pub waits : (x : ℕ) → 0 < z.waiting x → (z.waiting x ≡ 1) × (z.full x ≡ 1)
+  pub waits : (x : ℕ) → 0 < z.waiting x → (z.waiting x ≡ 1) × (z.full x ≡ 1) × (z.valued x ≡ 1)
+  pub empty : (x : ℕ) → z.full x ≡ 0 → z.valued x ≡ 0
   pub free : (z.alive 0 ≡ 0) × (z.waiting 0 ≡ 0) × (z.full 0 ≡ 0)
   pub null : (i : ℕ) → z.names i 0 ≡ 0
 
@@ -87,7 +88,7 @@ abbrev pub kind_full : ℕ → ℕ
 kind_full q = either (eqb q 0) 0 1
 
 abbrev pub kind_valued : ℕ → ℕ
-kind_valued q = either (eqb q 0) 0 (either (eqb q 6) 0 (either (eqb q 7) 0 (either (eqb q 8) 0 1)))
+kind_valued q = either (eqb q 0) 0 (either (eqb q 6) 0 1)
 
 -- an item that a collector's close emptied
 abbrev pub emptied_word : ℕ
