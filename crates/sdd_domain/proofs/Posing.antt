@@ -212,8 +212,8 @@ module _ (b : DomainTable) (p : ℕ) where
         idle = q.idle;
       }
 
-  pub posed_arrived : (own new : Participant) (c g : ℕ) (xs : List WaitingItem) (ys : List PrivateItem) (s t : Seat ValueFraction View) → IsBetweenCalls b p own s → t.table_id ≡
-      s.table_id
+  pub posed_arrived : (own new : Participant) (c g : ℕ) (xs : List WaitingItem) (ys : List PrivateItem) (s t : Seat ValueFraction View)
+      → IsBetweenCalls b p own s → t.table_id ≡ s.table_id
       → t.me.1 ≡ s.me.1 → t.me.0.sizes ≡ s.me.0.sizes
       → record t.me.0.stakes { counts = s.me.0.stakes.counts } ≡ s.me.0.stakes → t.me.0.pledges ≡ s.me.0.pledges → t.me.0.cells ≡ s.me.0.cells
       → epoch t ≡ published (counted (knowing (epoch s) c) c) g → c ≤ g → (IsLone (epoch s) → g ≡ c)

@@ -13,9 +13,9 @@ use Rattle.sdd_views.specs.declared.PrivateItem.{PrivateItem}
 use Rattle.sdd_views.specs.declared.WaitingItem.{WaitingItem}
 use Rattle.sdd_views.specs.declared.View.{View}
 use Rattle.sdd_views.specs.declared.Sizes.{Sizes}
-use Rattle.sdd_word_invariant.specs.Words.{slot_word, most_waiting}
+use Rattle.sdd_word_invariant.specs.Words.{slot_word}
 use Rattle.sdd_word_invariant.specs.Sums.{total, is as is_at, times}
-use Rattle.sdd_word_invariant.specs.Codes.{WordReading, IsWordReading, codes, waiting, shared_base, free_word, waiting_word, private_word, emptying_word, emptied_word, left_word}
+use Rattle.sdd_word_invariant.specs.Codes.{WordReading, codes, waiting, shared_base, free_word, waiting_word, private_word, emptying_word, emptied_word, left_word}
 use Rattle.sdd_word_invariant.specs.Epoch.{HasPlace, EpochInvariant}
 use Rattle.sdd_word_invariant.specs.EpochSteps.{Steps}
 use Rattle.sdd_word_invariant.specs.Slots.{slot_at, Sees, IsTimed, SlotsInvariant}
@@ -104,8 +104,11 @@ module _ (z : WordReading) (sizes : Sizes) (ws : List ℕ) (vs : List View) (c :
           names = λ x has k h. dite (ℕ_discrete x.item.slot i)
               (λ same. others.names j u apart e x has same k (subst (λ (q : ℕ). 0 < z.waits_for k q) (now x.item.slot same) h))
               (λ ne. f.names x has k (subst (λ (q : ℕ). 0 < z.waits_for k q) (there x.item.slot ne) h));
-          found = λ d h. let g = f.found d h in (dite (ℕ_discrete d i)
-              (λ same. now d same ∙ others.found j u apart e (subst (FoundEmptied u) same h)) (λ ne. there d ne ∙ g.0), g.1);
+          found = λ d h. let g = f.found d h in (
+            dite (ℕ_discrete d i)
+                (λ same. now d same ∙ others.found j u apart e (subst (FoundEmptied u) same h)) (λ ne. there d ne ∙ g.0),
+            g.1,
+          );
           left = λ l d h. dite (ℕ_discrete d i)
               (λ same. now d same ∙ others.left j u apart e (subst (Empties u) same h)) (λ ne. there d ne ∙ f.left l d h);
           seen = λ d h. dite (ℕ_discrete d i)
@@ -133,7 +136,8 @@ module _ (z : WordReading) (sizes : Sizes) (ws : List ℕ) (vs : List View) (c :
       → CollectorsInvariant z sizes ws (set vs id w)
   private_view w privates empties sees epoch found left looked = let f = c.each id v at in
       let saw : (k : ℕ) → Sees w k → Sees v k = λ k h. subst (λ (l : List ℕ). 0 < times k l) sees h in
-      let had : (x : PrivateItem) → HasPrivate w x → HasPrivate v x = λ x has. (has.0, ap (λ (l : List PrivateItem). get_elem? l has.0) (sym privates) ∙ has.1) in
+      let had : (x : PrivateItem) → HasPrivate w x → HasPrivate v x
+      = λ x has. (has.0, ap (λ (l : List PrivateItem). get_elem? l has.0) (sym privates) ∙ has.1) in
       let guards : (u : View) → SeenBeforeClosed z sizes ws v u → SeenBeforeClosed z sizes ws w u = λ u g. record {
         since = λ d x h has same. let o = g.since d x (saw d h) has same in let q = ap (λ (t : EpochView). t.since) epoch in omega arith;
         looked = λ d k h shuts for. let o = g.looked d k (saw d h) shuts for in let q = ap (λ (t : EpochView). t.place) epoch in omega arith;
@@ -205,7 +209,8 @@ module _ (id : ℕ) (v : View) (live : HasPlace v.epoch) where
       low = let l = p.slots.long in omega arith
 
       -- the slots' part, whatever it knows of private items then
-      blinded : (y : ℕ) (w : View) → SlotsInvariant codes sizes (set ws i y) (set vs id w) → (privates : List PrivateItem) (emptied : List ℕ) (empties : Option ℕ)
+      blinded : (y : ℕ) (w : View) → SlotsInvariant codes sizes (set ws i y) (set vs id w) → (privates : List PrivateItem)
+          (emptied : List ℕ) (empties : Option ℕ)
           (left : _) → SlotsInvariant codes sizes (set ws i y) (set vs id (with_privates w privates emptied empties left w.slots.closes w.slots.looked))
       blinded y w s privates emptied empties left =
           let w' : View = with_privates w privates emptied empties left w.slots.closes w.slots.looked in
@@ -294,50 +299,53 @@ module _ (id : ℕ) (v : View) (live : HasPlace v.epoch) where
         let old_or_new : (q : PrivateItem) → HasPrivate w q → HasPrivate v q ⊎ (new ≡ q)
         = λ q h. ⊎_elim (λ (t : get_elem? v.slots.privates h.0 ≡ some q). inl (h.0, t)) (λ (t : new ≡ q). inr t) (at_snoc v.slots.privates new q h.0 h.1) in
         let in_slot : (q : PrivateItem) → new ≡ q → q.item.slot ≡ slot = λ q e. ap (λ (t : PrivateItem). t.item.slot) (sym e) ∙ has.0 in
-        let one_is = is_same slot r.slot has.0 in
-        (w, done ws vs p at y w refl refl
-        (blinded ws vs p at y (record v { slots = record v.slots { waits = without_item slot v.slots.waits }; words = noted slot y v })
-        (waits_no_more codes sound sizes ws vs p.slots id v at slot y (omega arith) has.1.0 r (noted slot y v) has.1.1 has.0 pr.0 pr.1 pr.2)
-        (v.slots.privates ++ new ∷ []) v.slots.emptied v.slots.empties v.slots.left)
-        (private_step codes sizes ws vs p.collectors id v at slot y (low ws vs p at) w
-        (let t = total_snoc (private_in slot) v.slots.privates new in let z = plain.0 in omega arith)
-        (λ j ne. let t = total_snoc (private_in j) v.slots.privates new in let o = is_other j r.slot (λ e. ne (sym e ∙ has.0)) in omega arith)
-        (let z = plain.1 in omega arith) (λ _ _. refl)
-        (λ k h. inr (λ j u e shuts. quiet j u e (subst (Closes u) (sound.one_of k collector y h (omega arith)) shuts)))
-        record {
-          timed = λ q h. ⊎_elim (λ (t : HasPrivate v q). f.timed q t)
-              (λ (t : new ≡ q). subst (λ (q : PrivateItem). IsTimed v.epoch q.item) t ((p.slots.each id v at).timed has.1.0 r has.1.1)) (old_or_new q h);
-          names = λ q h k for. ⊎_elim
-              (λ (t : HasPrivate v q). let ne = none_has ws vs p at v (lacks id v at) q t in
-              f.names q t k (subst (λ (n : ℕ). 0 < codes.waits_for k n) (beside ws vs p at y q.item.slot ne) for))
-              (λ (t : new ≡ q). let for' = subst (λ (n : ℕ). 0 < codes.waits_for k n) (here ws vs p at y q.item.slot (in_slot q t)) for in
-              sound.one_of k collector y for' (omega arith) ∙ ap (λ (t : PrivateItem). t.collector) t)
-              (old_or_new q h);
-          found = λ d h. let g = f.found d h in let g1 = g.1 in let t = total_snoc (private_in d) v.slots.privates new in dite (ℕ_discrete d slot)
-              (λ e. absurd (none_found ws vs p at v f (lacks id v at) (subst (FoundEmptied v) e h)))
-              (λ ne. (beside ws vs p at y d ne ∙ g.0, omega arith));
-          left = λ l d h. dite (ℕ_discrete d slot) (λ e. absurd (none_empties ws vs p at plain.1 id v at (subst (Empties v) e h)))
-              (λ ne. beside ws vs p at y d ne ∙ f.left l d h);
-          seen = λ d h. dite (ℕ_discrete d slot) (λ e. subst (HasValue codes) (sym (here ws vs p at y d e)) there_still)
-              (λ ne. subst (HasValue codes) (sym (beside ws vs p at y d ne)) (f.seen d h));
-        }
-        record {
-          names = λ j u _ e q h same. absurd (none_has ws vs p at u (lacks j u e) q h same);
-          found = λ j u _ e h. absurd (none_found ws vs p at u (p.collectors.each j u e) (lacks j u e) h);
-          left = λ j u _ e h. absurd (none_empties ws vs p at plain.1 j u e h);
-          seen = λ _ _ _ _ _. there_still;
-        }
-        refl refl refl refl
-        (λ q h. ⊎_elim (λ (t : HasPrivate v q). inl t)
-        (λ (t : new ≡ q). inr (λ j u e sees. let g = (p.slots.two j id u v e at).since slot has.1.0 r (subst (Sees u) (in_slot q t) sees) has.1.1 has.0 in
-        let a = ap (λ (t : PrivateItem). t.item.retired_at) t in omega arith)) (old_or_new q h))),
-        at_slot (Collects collector) y w (r, has, refl))
+        let one_is = is_same slot r.slot has.0 in (
+          w,
+          done ws vs p at y w refl refl
+              (blinded ws vs p at y (record v { slots = record v.slots { waits = without_item slot v.slots.waits }; words = noted slot y v })
+              (waits_no_more codes sound sizes ws vs p.slots id v at slot y (omega arith) has.1.0 r (noted slot y v) has.1.1 has.0 pr.0 pr.1 pr.2)
+              (v.slots.privates ++ new ∷ []) v.slots.emptied v.slots.empties v.slots.left)
+              (private_step codes sizes ws vs p.collectors id v at slot y (low ws vs p at) w
+              (let t = total_snoc (private_in slot) v.slots.privates new in let z = plain.0 in omega arith)
+              (λ j ne. let t = total_snoc (private_in j) v.slots.privates new in let o = is_other j r.slot (λ e. ne (sym e ∙ has.0)) in omega arith)
+              (let z = plain.1 in omega arith) (λ _ _. refl)
+              (λ k h. inr (λ j u e shuts. quiet j u e (subst (Closes u) (sound.one_of k collector y h (omega arith)) shuts)))
+              record {
+                timed = λ q h. ⊎_elim (λ (t : HasPrivate v q). f.timed q t)
+                    (λ (t : new ≡ q). subst (λ (q : PrivateItem). IsTimed v.epoch q.item) t ((p.slots.each id v at).timed has.1.0 r has.1.1)) (old_or_new q h);
+                names = λ q h k for. ⊎_elim
+                    (λ (t : HasPrivate v q). let ne = none_has ws vs p at v (lacks id v at) q t in
+                    f.names q t k (subst (λ (n : ℕ). 0 < codes.waits_for k n) (beside ws vs p at y q.item.slot ne) for))
+                    (λ (t : new ≡ q). let for' = subst (λ (n : ℕ). 0 < codes.waits_for k n) (here ws vs p at y q.item.slot (in_slot q t)) for in
+                    sound.one_of k collector y for' (omega arith) ∙ ap (λ (t : PrivateItem). t.collector) t)
+                    (old_or_new q h);
+                found = λ d h. let g = f.found d h in let g1 = g.1 in let t = total_snoc (private_in d) v.slots.privates new in dite (ℕ_discrete d slot)
+                    (λ e. absurd (none_found ws vs p at v f (lacks id v at) (subst (FoundEmptied v) e h)))
+                    (λ ne. (beside ws vs p at y d ne ∙ g.0, omega arith));
+                left = λ l d h. dite (ℕ_discrete d slot) (λ e. absurd (none_empties ws vs p at plain.1 id v at (subst (Empties v) e h)))
+                    (λ ne. beside ws vs p at y d ne ∙ f.left l d h);
+                seen = λ d h. dite (ℕ_discrete d slot) (λ e. subst (HasValue codes) (sym (here ws vs p at y d e)) there_still)
+                    (λ ne. subst (HasValue codes) (sym (beside ws vs p at y d ne)) (f.seen d h));
+              }
+              record {
+                names = λ j u _ e q h same. absurd (none_has ws vs p at u (lacks j u e) q h same);
+                found = λ j u _ e h. absurd (none_found ws vs p at u (p.collectors.each j u e) (lacks j u e) h);
+                left = λ j u _ e h. absurd (none_empties ws vs p at plain.1 j u e h);
+                seen = λ _ _ _ _ _. there_still;
+              }
+              refl refl refl refl
+              (λ q h. ⊎_elim (λ (t : HasPrivate v q). inl t)
+              (λ (t : new ≡ q). inr (λ j u e sees. let g = (p.slots.two j id u v e at).since slot has.1.0 r (subst (Sees u) (in_slot q t) sees) has.1.1 has.0 in
+              let a = ap (λ (t : PrivateItem). t.item.retired_at) t in omega arith)) (old_or_new q h))),
+          at_slot (Collects collector) y w (r, has, refl),
+        )
 
     -- which words a private item's slot may have
     module _ (ws : List ℕ) (vs : List View) (p : Parts sizes ws vs) (at : get_elem? vs id ≡ some v) (collector : ℕ) (has : WaitsFor collector v slot) where
       which : (slot_at sizes ws slot ≡ private_word collector) ⊎ ((slot_at sizes ws slot ≡ emptied_word) ⊎ (slot_at sizes ws slot ≡ emptying_word))
       which = let n : ℕ = slot_at sizes ws slot in let r : PrivateItem = has.0 in
-          let there = subst (λ (d : ℕ). 0 < codes.private (slot_at sizes ws d)) has.2 (private_at codes sound sizes ws vs p.collectors id v r at has.1) in ⊎_elim
+          let there = subst (λ (d : ℕ). 0 < codes.private (slot_at sizes ws d)) has.2
+          (private_at codes sound sizes ws vs p.collectors id v r at has.1) in ⊎_elim
           (λ (t : (k : ℕ) × (n ≡ private_word k) × (n < shared_base)). let e = t.1 in let l = t.2 in let q = private_is t.0 (omega arith) in let q4 = q.4 in
           let a = ap (codes.waits_for t.0) e in
           let waits = subst (λ (d : ℕ). 0 < codes.waits_for t.0 (slot_at sizes ws d)) (sym has.2) (omega arith) in
@@ -352,8 +360,11 @@ module _ (id : ℕ) (v : View) (live : HasPlace v.epoch) where
           (omega arith))
           (private_view codes sizes ws vs p.collectors id v at w refl refl refl refl
           (λ d h. dite (ℕ_discrete d slot)
-          (λ e. (ap (slot_at sizes ws) e ∙ is, subst (λ (k : ℕ). 0 < privates_at k v) (sym e)
-              (let one = (alone ws vs p at has.0 has.1 has.2).0 in omega arith)))
+          (λ e. (
+            ap (slot_at sizes ws) e ∙ is,
+            subst (λ (k : ℕ). 0 < privates_at k v) (sym e)
+                (let one = (alone ws vs p at has.0 has.1 has.2).0 in omega arith),
+          ))
           (λ ne. let o = is_other d slot (λ e. ne (sym e)) in f.found d (omega arith)))
           f.left (λ j u e d k sees shuts for. (p.collectors.two j id u v e at).looked d k sees shuts for)) i
 
@@ -371,50 +382,60 @@ module _ (id : ℕ) (v : View) (live : HasPlace v.epoch) where
         = λ q h. let o = at_filter (λ (x : PrivateItem). not (eqb x.item.slot slot)) v.slots.privates h.0 q h.1 in (o.0, o.1) in
         let gone = private_gone slot v.slots.privates in
         let none : (k : ℕ) → ¬ (0 < codes.waits_for k y) = λ k. none_for codes sound k y plain.0 in
-        let mismatched : n ≢ emptied_word = λ e. absurd (omega arith) in
-        (w, done ws vs p at y w refl refl
-        (blinded ws vs p at y (record v { slots = record v.slots { waits = v.slots.waits ++ r.item ∷ [] }; words = noted slot y v })
-        (comes_to_wait codes sound sizes ws vs p.slots id v at slot y (omega arith) r.item (noted slot y v) has.2
-        (ap codes.alive hit ∙ pr.0) (ap codes.waiting hit ∙ pr.1) wt.0 wt.1 (f.timed r has.1)
-        (λ j u e sees. (p.collectors.two j id u v e at).since slot r sees has.1 has.2))
-        (without_private slot v.slots.privates) v.slots.emptied v.slots.empties v.slots.left)
-        (private_step codes sizes ws vs p.collectors id v at slot y (low ws vs p at) w
-        (let z = plain.0 in omega arith) (λ j ne. sym (private_kept slot j ne v.slots.privates))
-        (let z = plain.1 in omega arith) (λ _ _. refl)
-        (λ k h. absurd (none k h))
-        record {
-          timed = λ q h. f.timed q (young q h);
-          names = λ q h k for. dite (ℕ_discrete q.item.slot slot)
-              (λ e. absurd (none k (subst (λ (m : ℕ). 0 < codes.waits_for k m) (here ws vs p at y q.item.slot e) for)))
-              (λ ne. f.names q (young q h) k (subst (λ (m : ℕ). 0 < codes.waits_for k m) (beside ws vs p at y q.item.slot ne) for));
-          found = λ d h. let g = f.found d h in let g1 = g.1 in dite (ℕ_discrete d slot)
-              (λ e. absurd (mismatched (ap (slot_at sizes ws) (sym e) ∙ g.0)))
-              (λ ne. let k = private_kept slot d ne v.slots.privates in (beside ws vs p at y d ne ∙ g.0, omega arith));
-          left = λ l d h. dite (ℕ_discrete d slot) (λ e. absurd (none_empties ws vs p at quiet id v at (subst (Empties v) e h)))
-              (λ ne. beside ws vs p at y d ne ∙ f.left l d h);
-          seen = λ d h. dite (ℕ_discrete d slot) (λ e. subst (HasValue codes) (sym (here ws vs p at y d e)) (plain_has codes sound y plain))
-              (λ ne. subst (HasValue codes) (sym (beside ws vs p at y d ne)) (f.seen d h));
-        }
-        record {
-          names = λ j u apart e q h same k for. absurd (none k for);
-          found = λ j u apart e h. absurd (none_found ws vs p at u (p.collectors.each j u e) (a.2 j u apart e) h);
-          left = λ j u _ e h. absurd (none_empties ws vs p at quiet j u e h);
-          seen = λ _ _ _ _ _. plain_has codes sound y plain;
-        }
-        refl refl refl refl
-        (λ q h. inl (young q h))),
-        at_slot (Reclaims collector) n w (
-          (λ _. (r, has.1, has.2, refl)),
-          (λ e. absurd (mismatched e)),
-          (λ e. absurd (omega arith)),
-          possible,
-          told,
-        )))
+        let mismatched : n ≢ emptied_word = λ e. absurd (omega arith) in (
+          w,
+          done ws vs p at y w refl refl
+              (blinded ws vs p at y (record v { slots = record v.slots { waits = v.slots.waits ++ r.item ∷ [] }; words = noted slot y v })
+              (comes_to_wait codes sound sizes ws vs p.slots id v at slot y (omega arith) r.item (noted slot y v) has.2
+              (ap codes.alive hit ∙ pr.0) (ap codes.waiting hit ∙ pr.1) wt.0 wt.1 (f.timed r has.1)
+              (λ j u e sees. (p.collectors.two j id u v e at).since slot r sees has.1 has.2))
+              (without_private slot v.slots.privates) v.slots.emptied v.slots.empties v.slots.left)
+              (private_step codes sizes ws vs p.collectors id v at slot y (low ws vs p at) w
+              (let z = plain.0 in omega arith) (λ j ne. sym (private_kept slot j ne v.slots.privates))
+              (let z = plain.1 in omega arith) (λ _ _. refl)
+              (λ k h. absurd (none k h))
+              record {
+                timed = λ q h. f.timed q (young q h);
+                names = λ q h k for. dite (ℕ_discrete q.item.slot slot)
+                    (λ e. absurd (none k (subst (λ (m : ℕ). 0 < codes.waits_for k m) (here ws vs p at y q.item.slot e) for)))
+                    (λ ne. f.names q (young q h) k (subst (λ (m : ℕ). 0 < codes.waits_for k m) (beside ws vs p at y q.item.slot ne) for));
+                found = λ d h. let g = f.found d h in let g1 = g.1 in dite (ℕ_discrete d slot)
+                    (λ e. absurd (mismatched (ap (slot_at sizes ws) (sym e) ∙ g.0)))
+                    (λ ne. let k = private_kept slot d ne v.slots.privates in (beside ws vs p at y d ne ∙ g.0, omega arith));
+                left = λ l d h. dite (ℕ_discrete d slot) (λ e. absurd (none_empties ws vs p at quiet id v at (subst (Empties v) e h)))
+                    (λ ne. beside ws vs p at y d ne ∙ f.left l d h);
+                seen = λ d h. dite (ℕ_discrete d slot) (λ e. subst (HasValue codes) (sym (here ws vs p at y d e)) (plain_has codes sound y plain))
+                    (λ ne. subst (HasValue codes) (sym (beside ws vs p at y d ne)) (f.seen d h));
+              }
+              record {
+                names = λ j u apart e q h same k for. absurd (none k for);
+                found = λ j u apart e h. absurd (none_found ws vs p at u (p.collectors.each j u e) (a.2 j u apart e) h);
+                left = λ j u _ e h. absurd (none_empties ws vs p at quiet j u e h);
+                seen = λ _ _ _ _ _. plain_has codes sound y plain;
+              }
+              refl refl refl refl
+              (λ q h. inl (young q h))),
+          at_slot (Reclaims collector) n w (
+            (λ _. (r, has.1, has.2, refl)),
+            (λ e. absurd (mismatched e)),
+            (λ e. absurd (omega arith)),
+            possible,
+            told,
+          ),
+        ))
         (λ miss. ⊎_elim (λ (e : n ≡ old). absurd (miss e)) (λ (t : (n ≡ emptied_word) ⊎ (n ≡ emptying_word)). ⊎_elim
-        (λ (e : n ≡ emptied_word). (found_emptied slot v, finds ws vs p at collector has e, at_slot (Reclaims collector) n (found_emptied slot v)
-        ((λ hit. absurd (miss hit)), (λ _. refl), (λ e'. absurd (omega arith)), possible, told)))
-        (λ (e : n ≡ emptying_word). (v, steps.unmoved id v live ws vs p at i, at_slot (Reclaims collector) n v
-        ((λ hit. absurd (miss hit)), (λ e'. absurd (omega arith)), (λ _. refl), possible, told))) t) possible)
+        (λ (e : n ≡ emptied_word). (
+          found_emptied slot v,
+          finds ws vs p at collector has e,
+          at_slot (Reclaims collector) n (found_emptied slot v)
+              ((λ hit. absurd (miss hit)), (λ _. refl), (λ e'. absurd (omega arith)), possible, told),
+        ))
+        (λ (e : n ≡ emptying_word). (
+          v,
+          steps.unmoved id v live ws vs p at i,
+          at_slot (Reclaims collector) n v
+              ((λ hit. absurd (miss hit)), (λ e'. absurd (omega arith)), (λ _. refl), possible, told),
+        )) t) possible)
 
     -- a private item is left to the close that empties it
     pub leaves_to_close : (collector : ℕ) → WaitsFor collector v slot → private_word collector < shared_base
@@ -428,42 +449,52 @@ module _ (id : ℕ) (v : View) (live : HasPlace v.epoch) where
         let young : (q : PrivateItem) → HasPrivate w q → HasPrivate v q
         = λ q h. let o = at_filter (λ (x : PrivateItem). not (eqb x.item.slot slot)) v.slots.privates h.0 q h.1 in (o.0, o.1) in
         let gone = private_gone slot v.slots.privates in
-        let none : (k : ℕ) → ¬ (0 < codes.waits_for k y) = λ k. none_for codes sound k y lt.3 in
-        (w, done ws vs p at y w refl refl
-        (blinded ws vs p at y (record v { words = noted slot y v })
-        (turns codes sound sizes ws vs p.slots id v at slot y (omega arith) (noted slot y v) (ap codes.alive hit ∙ em.0) (ap codes.waiting hit ∙ em.1)
-        lt.0 lt.1 (λ _ _ _ _. lt.2))
-        (without_private slot v.slots.privates) v.slots.emptied v.slots.empties v.slots.left)
-        (private_step codes sizes ws vs p.collectors id v at slot y (low ws vs p at) w
-        (omega arith) (λ j ne. sym (private_kept slot j ne v.slots.privates)) (omega arith) (λ _ _. refl)
-        (λ k h. absurd (none k h))
-        record {
-          timed = λ q h. f.timed q (young q h);
-          names = λ q h k for. dite (ℕ_discrete q.item.slot slot)
-              (λ e. absurd (none k (subst (λ (m : ℕ). 0 < codes.waits_for k m) (here ws vs p at y q.item.slot e) for)))
-              (λ ne. f.names q (young q h) k (subst (λ (m : ℕ). 0 < codes.waits_for k m) (beside ws vs p at y q.item.slot ne) for));
-          found = λ d h. let g = f.found d h in let g1 = g.1 in dite (ℕ_discrete d slot)
-              (λ e. absurd (let z = ap (slot_at sizes ws) (sym e) ∙ g.0 in omega arith))
-              (λ ne. let k = private_kept slot d ne v.slots.privates in (beside ws vs p at y d ne ∙ g.0, omega arith));
-          left = λ l d h. dite (ℕ_discrete d slot) (λ e. here ws vs p at y d e) (λ ne. beside ws vs p at y d ne ∙ f.left l d h);
-          seen = λ d h. dite (ℕ_discrete d slot) (λ e. absurd (none_sees ws vs p at busy id v at (subst (Sees v) e h)))
-              (λ ne. subst (HasValue codes) (sym (beside ws vs p at y d ne)) (f.seen d h));
-        }
-        record {
-          names = λ j u apart e q h same k for. absurd (none k for);
-          found = λ j u apart e h. absurd (none_found ws vs p at u (p.collectors.each j u e) (a.2 j u apart e) h);
-          left = λ _ _ _ _ _. refl;
-          seen = λ j u _ e h. absurd (none_sees ws vs p at busy j u e h);
-        }
-        refl refl refl refl
-        (λ q h. inl (young q h))),
-        at_slot (LeavesToClose collector) n w ((λ _. refl), (λ e. absurd (omega arith)), (λ e. absurd (omega arith)), possible, told)))
+        let none : (k : ℕ) → ¬ (0 < codes.waits_for k y) = λ k. none_for codes sound k y lt.3 in (
+          w,
+          done ws vs p at y w refl refl
+              (blinded ws vs p at y (record v { words = noted slot y v })
+              (turns codes sound sizes ws vs p.slots id v at slot y (omega arith) (noted slot y v) (ap codes.alive hit ∙ em.0) (ap codes.waiting hit ∙ em.1)
+              lt.0 lt.1 (λ _ _ _ _. lt.2))
+              (without_private slot v.slots.privates) v.slots.emptied v.slots.empties v.slots.left)
+              (private_step codes sizes ws vs p.collectors id v at slot y (low ws vs p at) w
+              (omega arith) (λ j ne. sym (private_kept slot j ne v.slots.privates)) (omega arith) (λ _ _. refl)
+              (λ k h. absurd (none k h))
+              record {
+                timed = λ q h. f.timed q (young q h);
+                names = λ q h k for. dite (ℕ_discrete q.item.slot slot)
+                    (λ e. absurd (none k (subst (λ (m : ℕ). 0 < codes.waits_for k m) (here ws vs p at y q.item.slot e) for)))
+                    (λ ne. f.names q (young q h) k (subst (λ (m : ℕ). 0 < codes.waits_for k m) (beside ws vs p at y q.item.slot ne) for));
+                found = λ d h. let g = f.found d h in let g1 = g.1 in dite (ℕ_discrete d slot)
+                    (λ e. absurd (let z = ap (slot_at sizes ws) (sym e) ∙ g.0 in omega arith))
+                    (λ ne. let k = private_kept slot d ne v.slots.privates in (beside ws vs p at y d ne ∙ g.0, omega arith));
+                left = λ l d h. dite (ℕ_discrete d slot) (λ e. here ws vs p at y d e) (λ ne. beside ws vs p at y d ne ∙ f.left l d h);
+                seen = λ d h. dite (ℕ_discrete d slot) (λ e. absurd (none_sees ws vs p at busy id v at (subst (Sees v) e h)))
+                    (λ ne. subst (HasValue codes) (sym (beside ws vs p at y d ne)) (f.seen d h));
+              }
+              record {
+                names = λ j u apart e q h same k for. absurd (none k for);
+                found = λ j u apart e h. absurd (none_found ws vs p at u (p.collectors.each j u e) (a.2 j u apart e) h);
+                left = λ _ _ _ _ _. refl;
+                seen = λ j u _ e h. absurd (none_sees ws vs p at busy j u e h);
+              }
+              refl refl refl refl
+              (λ q h. inl (young q h))),
+          at_slot (LeavesToClose collector) n w ((λ _. refl), (λ e. absurd (omega arith)), (λ e. absurd (omega arith)), possible, told),
+        ))
         (λ miss. ⊎_elim
-        (λ (e : n ≡ private_word collector). (v, steps.unmoved id v live ws vs p at i, at_slot (LeavesToClose collector) n v
-        ((λ hit. absurd (miss hit)), (λ e'. absurd (omega arith)), (λ _. refl), possible, told)))
+        (λ (e : n ≡ private_word collector). (
+          v,
+          steps.unmoved id v live ws vs p at i,
+          at_slot (LeavesToClose collector) n v
+              ((λ hit. absurd (miss hit)), (λ e'. absurd (omega arith)), (λ _. refl), possible, told),
+        ))
         (λ (t : (n ≡ emptied_word) ⊎ (n ≡ emptying_word)). ⊎_elim
-        (λ (e : n ≡ emptied_word). (found_emptied slot v, finds ws vs p at collector has e, at_slot (LeavesToClose collector) n (found_emptied slot v)
-        ((λ hit. absurd (miss hit)), (λ _. refl), (λ e'. absurd (omega arith)), possible, told)))
+        (λ (e : n ≡ emptied_word). (
+          found_emptied slot v,
+          finds ws vs p at collector has e,
+          at_slot (LeavesToClose collector) n (found_emptied slot v)
+              ((λ hit. absurd (miss hit)), (λ _. refl), (λ e'. absurd (omega arith)), possible, told),
+        ))
         (λ (e : n ≡ emptying_word). absurd (miss e)) t) possible)
 
     -- the slot of an item that was found emptied is free, once the item has seen three changes
@@ -477,38 +508,40 @@ module _ (id : ℕ) (v : View) (live : HasPlace v.epoch) where
         let young : (q : PrivateItem) → HasPrivate w q → HasPrivate v q
         = λ q h. let o = at_filter (λ (x : PrivateItem). not (eqb x.item.slot slot)) v.slots.privates h.0 q h.1 in (o.0, o.1) in
         let gone = private_gone slot v.slots.privates in let none_left = without_same slot v.slots.emptied in
-        let none : (k : ℕ) → ¬ (0 < codes.waits_for k y) = λ k. none_for codes sound k y plain.0 in
-        (w, done ws vs p at y w refl refl
-        (blinded ws vs p at y (record v { words = noted slot y v })
-        (turns codes sound sizes ws vs p.slots id v at slot y (omega arith) (noted slot y v) (ap codes.alive is ∙ em.0) (ap codes.waiting is ∙ em.1)
-        fr.0 fr.1 (λ j u e sees. absurd (unseen j u e sees)))
-        (without_private slot v.slots.privates) (without slot v.slots.emptied) v.slots.empties v.slots.left)
-        (private_step codes sizes ws vs p.collectors id v at slot y (low ws vs p at) w
-        (let z = plain.0 in omega arith) (λ j ne. sym (private_kept slot j ne v.slots.privates)) (let z = plain.1 in omega arith) (λ _ _. refl)
-        (λ k h. absurd (none k h))
-        record {
-          timed = λ q h. f.timed q (young q h);
-          names = λ q h k for. dite (ℕ_discrete q.item.slot slot)
-              (λ e. absurd (none k (subst (λ (m : ℕ). 0 < codes.waits_for k m) (here ws vs p at y q.item.slot e) for)))
-              (λ ne. f.names q (young q h) k (subst (λ (m : ℕ). 0 < codes.waits_for k m) (beside ws vs p at y q.item.slot ne) for));
-          found = λ d h. dite (ℕ_discrete d slot)
-              (λ e. absurd (let z = ap (λ (k : ℕ). times k (without slot v.slots.emptied)) e in omega arith))
-              (λ ne. let o = without_other slot d ne v.slots.emptied in let g = f.found d (omega arith) in let g1 = g.1 in
-              let k = private_kept slot d ne v.slots.privates in (beside ws vs p at y d ne ∙ g.0, omega arith));
-          left = λ l d h. dite (ℕ_discrete d slot) (λ e. absurd (none_empties ws vs p at quiet id v at (subst (Empties v) e h)))
-              (λ ne. beside ws vs p at y d ne ∙ f.left l d h);
-          seen = λ d h. dite (ℕ_discrete d slot) (λ e. subst (HasValue codes) (sym (here ws vs p at y d e)) (plain_has codes sound y plain))
-              (λ ne. subst (HasValue codes) (sym (beside ws vs p at y d ne)) (f.seen d h));
-        }
-        record {
-          names = λ j u apart e q h same k for. absurd (none k for);
-          found = λ j u apart e h. absurd (none_found ws vs p at u (p.collectors.each j u e) (a.2 j u apart e) h);
-          left = λ j u _ e h. absurd (none_empties ws vs p at quiet j u e h);
-          seen = λ _ _ _ _ _. plain_has codes sound y plain;
-        }
-        refl refl refl refl
-        (λ q h. inl (young q h))),
-        at_slot GivesPrivateBack y w refl)
+        let none : (k : ℕ) → ¬ (0 < codes.waits_for k y) = λ k. none_for codes sound k y plain.0 in (
+          w,
+          done ws vs p at y w refl refl
+              (blinded ws vs p at y (record v { words = noted slot y v })
+              (turns codes sound sizes ws vs p.slots id v at slot y (omega arith) (noted slot y v) (ap codes.alive is ∙ em.0) (ap codes.waiting is ∙ em.1)
+              fr.0 fr.1 (λ j u e sees. absurd (unseen j u e sees)))
+              (without_private slot v.slots.privates) (without slot v.slots.emptied) v.slots.empties v.slots.left)
+              (private_step codes sizes ws vs p.collectors id v at slot y (low ws vs p at) w
+              (let z = plain.0 in omega arith) (λ j ne. sym (private_kept slot j ne v.slots.privates)) (let z = plain.1 in omega arith) (λ _ _. refl)
+              (λ k h. absurd (none k h))
+              record {
+                timed = λ q h. f.timed q (young q h);
+                names = λ q h k for. dite (ℕ_discrete q.item.slot slot)
+                    (λ e. absurd (none k (subst (λ (m : ℕ). 0 < codes.waits_for k m) (here ws vs p at y q.item.slot e) for)))
+                    (λ ne. f.names q (young q h) k (subst (λ (m : ℕ). 0 < codes.waits_for k m) (beside ws vs p at y q.item.slot ne) for));
+                found = λ d h. dite (ℕ_discrete d slot)
+                    (λ e. absurd (let z = ap (λ (k : ℕ). times k (without slot v.slots.emptied)) e in omega arith))
+                    (λ ne. let o = without_other slot d ne v.slots.emptied in let g = f.found d (omega arith) in let g1 = g.1 in
+                    let k = private_kept slot d ne v.slots.privates in (beside ws vs p at y d ne ∙ g.0, omega arith));
+                left = λ l d h. dite (ℕ_discrete d slot) (λ e. absurd (none_empties ws vs p at quiet id v at (subst (Empties v) e h)))
+                    (λ ne. beside ws vs p at y d ne ∙ f.left l d h);
+                seen = λ d h. dite (ℕ_discrete d slot) (λ e. subst (HasValue codes) (sym (here ws vs p at y d e)) (plain_has codes sound y plain))
+                    (λ ne. subst (HasValue codes) (sym (beside ws vs p at y d ne)) (f.seen d h));
+              }
+              record {
+                names = λ j u apart e q h same k for. absurd (none k for);
+                found = λ j u apart e h. absurd (none_found ws vs p at u (p.collectors.each j u e) (a.2 j u apart e) h);
+                left = λ j u _ e h. absurd (none_empties ws vs p at quiet j u e h);
+                seen = λ _ _ _ _ _. plain_has codes sound y plain;
+              }
+              refl refl refl refl
+              (λ q h. inl (young q h))),
+          at_slot GivesPrivateBack y w refl,
+        )
 
     -- a close claims what waits for its collector, once it has looked at all places
     pub empties : (collector : ℕ) → private_word collector < shared_base → Closes v collector → sizes.participants ≤ v.slots.looked → v.slots.empties ≡ None
@@ -523,38 +556,40 @@ module _ (id : ℕ) (v : View) (live : HasPlace v.epoch) where
         let unseen = none_sees_closed ws vs p at collector shuts all (let e = ap (codes.waits_for collector) hit in omega arith) in
         let none : (k : ℕ) → ¬ (0 < codes.waits_for k y) = λ k h. let z = (sound.for_one k y h).2 in absurd (omega arith) in
         let mismatched : n ≢ emptied_word = λ e. absurd (omega arith) in
-        let before : (d : ℕ) → empties_at d v ≡ 0 = λ d. ap (one_in d) idle in
-        (w, done ws vs p at y w refl refl
-        (blinded ws vs p at y (record v { words = noted slot y v })
-        (turns codes sound sizes ws vs p.slots id v at slot y (omega arith) (noted slot y v) (ap codes.alive hit ∙ pr.0) (ap codes.waiting hit ∙ pr.1)
-        em.0 em.1 (λ _ _ _ _. em.2))
-        v.slots.privates v.slots.emptied (Some slot) v.slots.left)
-        (private_step codes sizes ws vs p.collectors id v at slot y (low ws vs p at) w
-        (omega arith) (λ _ _. refl)
-        (let b = before slot in let o = is_same slot slot refl in omega arith)
-        (λ j ne. let b = before j in let o = is_other j slot (λ e. ne (sym e)) in omega arith)
-        (λ k h. absurd (none k h))
-        record {
-          timed = f.timed;
-          names = λ q h k for. dite (ℕ_discrete q.item.slot slot)
-              (λ e. absurd (none k (subst (λ (m : ℕ). 0 < codes.waits_for k m) (here ws vs p at y q.item.slot e) for)))
-              (λ ne. f.names q h k (subst (λ (m : ℕ). 0 < codes.waits_for k m) (beside ws vs p at y q.item.slot ne) for));
-          found = λ d h. let g = f.found d h in dite (ℕ_discrete d slot)
-              (λ e. absurd (mismatched (ap (slot_at sizes ws) (sym e) ∙ g.0)))
-              (λ ne. (beside ws vs p at y d ne ∙ g.0, g.1));
-          left = λ l d h. let e : ◌≡◌ {A = Bool} false true = sym fresh ∙ l in cc;
-          seen = λ d h. dite (ℕ_discrete d slot) (λ e. absurd (unseen id v at (subst (Sees v) e h)))
-              (λ ne. subst (HasValue codes) (sym (beside ws vs p at y d ne)) (f.seen d h));
-        }
-        record {
-          names = λ j u apart e q h same k for. absurd (none k for);
-          found = λ j u apart e h. absurd (mismatched ((p.collectors.each j u e).found slot h).0);
-          left = λ j u _ e h. absurd (none_empties ws vs p at quiet j u e h);
-          seen = λ j u _ e h. absurd (unseen j u e h);
-        }
-        refl refl refl refl
-        (λ q h. inl h)),
-        at_slot (EmptiesSlot collector) n w ((λ _. refl), (λ miss. absurd (miss hit)), told)))
+        let before : (d : ℕ) → empties_at d v ≡ 0 = λ d. ap (one_in d) idle in (
+          w,
+          done ws vs p at y w refl refl
+              (blinded ws vs p at y (record v { words = noted slot y v })
+              (turns codes sound sizes ws vs p.slots id v at slot y (omega arith) (noted slot y v) (ap codes.alive hit ∙ pr.0) (ap codes.waiting hit ∙ pr.1)
+              em.0 em.1 (λ _ _ _ _. em.2))
+              v.slots.privates v.slots.emptied (Some slot) v.slots.left)
+              (private_step codes sizes ws vs p.collectors id v at slot y (low ws vs p at) w
+              (omega arith) (λ _ _. refl)
+              (let b = before slot in let o = is_same slot slot refl in omega arith)
+              (λ j ne. let b = before j in let o = is_other j slot (λ e. ne (sym e)) in omega arith)
+              (λ k h. absurd (none k h))
+              record {
+                timed = f.timed;
+                names = λ q h k for. dite (ℕ_discrete q.item.slot slot)
+                    (λ e. absurd (none k (subst (λ (m : ℕ). 0 < codes.waits_for k m) (here ws vs p at y q.item.slot e) for)))
+                    (λ ne. f.names q h k (subst (λ (m : ℕ). 0 < codes.waits_for k m) (beside ws vs p at y q.item.slot ne) for));
+                found = λ d h. let g = f.found d h in dite (ℕ_discrete d slot)
+                    (λ e. absurd (mismatched (ap (slot_at sizes ws) (sym e) ∙ g.0)))
+                    (λ ne. (beside ws vs p at y d ne ∙ g.0, g.1));
+                left = λ l d h. let e : ◌≡◌ {A = Bool} false true = sym fresh ∙ l in cc;
+                seen = λ d h. dite (ℕ_discrete d slot) (λ e. absurd (unseen id v at (subst (Sees v) e h)))
+                    (λ ne. subst (HasValue codes) (sym (beside ws vs p at y d ne)) (f.seen d h));
+              }
+              record {
+                names = λ j u apart e q h same k for. absurd (none k for);
+                found = λ j u apart e h. absurd (mismatched ((p.collectors.each j u e).found slot h).0);
+                left = λ j u _ e h. absurd (none_empties ws vs p at quiet j u e h);
+                seen = λ j u _ e h. absurd (unseen j u e h);
+              }
+              refl refl refl refl
+              (λ q h. inl h)),
+          at_slot (EmptiesSlot collector) n w ((λ _. refl), (λ miss. absurd (miss hit)), told),
+        ))
         (λ miss. (v, steps.unmoved id v live ws vs p at i, at_slot (EmptiesSlot collector) n v ((λ hit. absurd (miss hit)), (λ _. refl), told)))
 
     -- what is emptied is so from now on, and its bag has it still, or has let go of it
@@ -566,43 +601,50 @@ module _ (id : ℕ) (v : View) (live : HasPlace v.epoch) where
         exchanged n emptying_word y (λ m. (u : View) × Parts sizes (set ws i m) (set vs id u) × AtSlot HasEmptied i v n u)
         (λ hit. let was : codes.private n ≡ 1 = ap codes.private hit ∙ em.3 in
         let none : (k : ℕ) → ¬ (0 < codes.waits_for k y) = λ k h. let z = (waits_privately k y h).1 in absurd (omega arith) in
-        let at_own : (d : ℕ) → empties_at d v ≡ is_at d slot = λ d. ap (one_in d) mine in
-        (w, done ws vs p at y w refl refl
-        (blinded ws vs p at y (record v { words = noted slot y v })
-        (turns codes sound sizes ws vs p.slots id v at slot y (omega arith) (noted slot y v) (ap codes.alive hit ∙ em.0) (ap codes.waiting hit ∙ em.1)
-        ed.0 ed.1 (λ _ _ _ _. ed.2))
-        v.slots.privates v.slots.emptied None v.slots.left)
-        (private_step codes sizes ws vs p.collectors id v at slot y (low ws vs p at) w
-        (omega arith) (λ _ _. refl)
-        (let b = at_own slot in let o = is_same slot slot refl in omega arith)
-        (λ j ne. let b = at_own j in let o = is_other j slot (λ e. ne (sym e)) in omega arith)
-        (λ k h. absurd (none k h))
-        record {
-          timed = f.timed;
-          names = λ q h k for. dite (ℕ_discrete q.item.slot slot)
-              (λ e. absurd (none k (subst (λ (m : ℕ). 0 < codes.waits_for k m) (here ws vs p at y q.item.slot e) for)))
-              (λ ne. f.names q h k (subst (λ (m : ℕ). 0 < codes.waits_for k m) (beside ws vs p at y q.item.slot ne) for));
-          found = λ d h. let g = f.found d h in dite (ℕ_discrete d slot) (λ e. (here ws vs p at y d e, g.1)) (λ ne. (beside ws vs p at y d ne ∙ g.0, g.1));
-          left = λ l d h. let e : None ≡ Some d = h in cc;
-          seen = λ d h. dite (ℕ_discrete d slot) (λ e. absurd (none_sees ws vs p at only.0 id v at (subst (Sees v) e h)))
-              (λ ne. subst (HasValue codes) (sym (beside ws vs p at y d ne)) (f.seen d h));
-        }
-        record {
-          names = λ j u apart e q h same k for. absurd (none k for);
-          found = λ _ _ _ _ _. refl;
-          left = λ j u apart e h. absurd (only.1 j u apart e h);
-          seen = λ j u _ e h. absurd (none_sees ws vs p at only.0 j u e h);
-        }
-        refl refl refl refl
-        (λ q h. inl h)),
-        at_slot HasEmptied n w ((λ _. refl), (λ e. absurd (omega arith)), possible, told)))
+        let at_own : (d : ℕ) → empties_at d v ≡ is_at d slot = λ d. ap (one_in d) mine in (
+          w,
+          done ws vs p at y w refl refl
+              (blinded ws vs p at y (record v { words = noted slot y v })
+              (turns codes sound sizes ws vs p.slots id v at slot y (omega arith) (noted slot y v) (ap codes.alive hit ∙ em.0) (ap codes.waiting hit ∙ em.1)
+              ed.0 ed.1 (λ _ _ _ _. ed.2))
+              v.slots.privates v.slots.emptied None v.slots.left)
+              (private_step codes sizes ws vs p.collectors id v at slot y (low ws vs p at) w
+              (omega arith) (λ _ _. refl)
+              (let b = at_own slot in let o = is_same slot slot refl in omega arith)
+              (λ j ne. let b = at_own j in let o = is_other j slot (λ e. ne (sym e)) in omega arith)
+              (λ k h. absurd (none k h))
+              record {
+                timed = f.timed;
+                names = λ q h k for. dite (ℕ_discrete q.item.slot slot)
+                    (λ e. absurd (none k (subst (λ (m : ℕ). 0 < codes.waits_for k m) (here ws vs p at y q.item.slot e) for)))
+                    (λ ne. f.names q h k (subst (λ (m : ℕ). 0 < codes.waits_for k m) (beside ws vs p at y q.item.slot ne) for));
+                found = λ d h. let g = f.found d h in dite (ℕ_discrete d slot) (λ e. (here ws vs p at y d e, g.1))
+                    (λ ne. (beside ws vs p at y d ne ∙ g.0, g.1));
+                left = λ l d h. let e : None ≡ Some d = h in cc;
+                seen = λ d h. dite (ℕ_discrete d slot) (λ e. absurd (none_sees ws vs p at only.0 id v at (subst (Sees v) e h)))
+                    (λ ne. subst (HasValue codes) (sym (beside ws vs p at y d ne)) (f.seen d h));
+              }
+              record {
+                names = λ j u apart e q h same k for. absurd (none k for);
+                found = λ _ _ _ _ _. refl;
+                left = λ j u apart e h. absurd (only.1 j u apart e h);
+                seen = λ j u _ e h. absurd (none_sees ws vs p at only.0 j u e h);
+              }
+              refl refl refl refl
+              (λ q h. inl h)),
+          at_slot HasEmptied n w ((λ _. refl), (λ e. absurd (omega arith)), possible, told),
+        ))
         (λ miss. ⊎_elim (λ (e : n ≡ emptying_word). absurd (miss e))
-        (λ (e : n ≡ left_word). let u : View = finds_left v in (u, stays ws vs p at u refl refl
-        (blind_privates codes sound sizes ws vs p.slots id v at v.slots.privates v.slots.emptied v.slots.empties true v.slots.closes v.slots.looked (omega arith))
-        (private_view codes sizes ws vs p.collectors id v at u refl refl refl refl f.found
-        (λ _ d h. let same : d ≡ slot = (let c : Some d ≡ Some slot = sym h ∙ mine in cc) in ap (slot_at sizes ws) same ∙ e)
-        (λ j u' e' d k sees shuts for. (p.collectors.two j id u' v e' at).looked d k sees shuts for)) i,
-        at_slot HasEmptied n u ((λ hit. absurd (miss hit)), (λ _. refl), possible, told))) possible)
+        (λ (e : n ≡ left_word). let u : View = finds_left v in (
+          u,
+          stays ws vs p at u refl refl
+              (blind_privates codes sound sizes ws vs p.slots id v at v.slots.privates v.slots.emptied v.slots.empties true v.slots.closes
+              v.slots.looked (omega arith))
+              (private_view codes sizes ws vs p.collectors id v at u refl refl refl refl f.found
+              (λ _ d h. let same : d ≡ slot = (let c : Some d ≡ Some slot = sym h ∙ mine in cc) in ap (slot_at sizes ws) same ∙ e)
+              (λ j u' e' d k sees shuts for. (p.collectors.two j id u' v e' at).looked d k sees shuts for)) i,
+          at_slot HasEmptied n u ((λ hit. absurd (miss hit)), (λ _. refl), possible, told),
+        )) possible)
 
     -- and its slot is free, where the bag has let go of it
     pub gives_empty_back : Empties v slot → v.slots.left ≡ true
@@ -613,34 +655,36 @@ module _ (id : ℕ) (v : View) (live : HasPlace v.epoch) where
         let was : codes.private (x ws vs p at) ≡ 0 = ap codes.private is ∙ lt.3 in
         let unseen = none_sees ws vs p at only.0 in
         let none : (k : ℕ) → ¬ (0 < codes.waits_for k y) = λ k. none_for codes sound k y plain.0 in
-        let at_own : (d : ℕ) → empties_at d v ≡ is_at d slot = λ d. ap (one_in d) mine in
-        (w, done ws vs p at y w refl refl
-        (blinded ws vs p at y (record v { words = noted slot y v })
-        (turns codes sound sizes ws vs p.slots id v at slot y (omega arith) (noted slot y v) (ap codes.alive is ∙ lt.0) (ap codes.waiting is ∙ lt.1)
-        fr.0 fr.1 (λ j u e sees. absurd (unseen j u e sees)))
-        v.slots.privates v.slots.emptied None false)
-        (private_step codes sizes ws vs p.collectors id v at slot y (low ws vs p at) w
-        (let z = plain.0 in omega arith) (λ _ _. refl)
-        (let b = at_own slot in let o = is_same slot slot refl in let z = plain.1 in omega arith)
-        (λ j ne. let b = at_own j in let o = is_other j slot (λ e. ne (sym e)) in omega arith)
-        (λ k h. absurd (none k h))
-        record {
-          timed = f.timed;
-          names = λ q h k for. dite (ℕ_discrete q.item.slot slot)
-              (λ e. absurd (none k (subst (λ (m : ℕ). 0 < codes.waits_for k m) (here ws vs p at y q.item.slot e) for)))
-              (λ ne. f.names q h k (subst (λ (m : ℕ). 0 < codes.waits_for k m) (beside ws vs p at y q.item.slot ne) for));
-          found = λ d h. let g = f.found d h in let g1 = g.1 in dite (ℕ_discrete d slot)
-              (λ e. absurd (let z = ap (slot_at sizes ws) (sym e) ∙ g.0 in omega arith)) (λ ne. (beside ws vs p at y d ne ∙ g.0, g.1));
-          left = λ l d h. let e : None ≡ Some d = h in cc;
-          seen = λ d h. dite (ℕ_discrete d slot) (λ e. subst (HasValue codes) (sym (here ws vs p at y d e)) (plain_has codes sound y plain))
-              (λ ne. subst (HasValue codes) (sym (beside ws vs p at y d ne)) (f.seen d h));
-        }
-        record {
-          names = λ j u apart e q h same k for. absurd (none k for);
-          found = λ j u apart e h. absurd (let z = ((p.collectors.each j u e).found slot h).0 in omega arith);
-          left = λ j u apart e h. absurd (only.1 j u apart e h);
-          seen = λ _ _ _ _ _. plain_has codes sound y plain;
-        }
-        refl refl refl refl
-        (λ q h. inl h)),
-        at_slot GivesEmptyBack y w refl)
+        let at_own : (d : ℕ) → empties_at d v ≡ is_at d slot = λ d. ap (one_in d) mine in (
+          w,
+          done ws vs p at y w refl refl
+              (blinded ws vs p at y (record v { words = noted slot y v })
+              (turns codes sound sizes ws vs p.slots id v at slot y (omega arith) (noted slot y v) (ap codes.alive is ∙ lt.0) (ap codes.waiting is ∙ lt.1)
+              fr.0 fr.1 (λ j u e sees. absurd (unseen j u e sees)))
+              v.slots.privates v.slots.emptied None false)
+              (private_step codes sizes ws vs p.collectors id v at slot y (low ws vs p at) w
+              (let z = plain.0 in omega arith) (λ _ _. refl)
+              (let b = at_own slot in let o = is_same slot slot refl in let z = plain.1 in omega arith)
+              (λ j ne. let b = at_own j in let o = is_other j slot (λ e. ne (sym e)) in omega arith)
+              (λ k h. absurd (none k h))
+              record {
+                timed = f.timed;
+                names = λ q h k for. dite (ℕ_discrete q.item.slot slot)
+                    (λ e. absurd (none k (subst (λ (m : ℕ). 0 < codes.waits_for k m) (here ws vs p at y q.item.slot e) for)))
+                    (λ ne. f.names q h k (subst (λ (m : ℕ). 0 < codes.waits_for k m) (beside ws vs p at y q.item.slot ne) for));
+                found = λ d h. let g = f.found d h in let g1 = g.1 in dite (ℕ_discrete d slot)
+                    (λ e. absurd (let z = ap (slot_at sizes ws) (sym e) ∙ g.0 in omega arith)) (λ ne. (beside ws vs p at y d ne ∙ g.0, g.1));
+                left = λ l d h. let e : None ≡ Some d = h in cc;
+                seen = λ d h. dite (ℕ_discrete d slot) (λ e. subst (HasValue codes) (sym (here ws vs p at y d e)) (plain_has codes sound y plain))
+                    (λ ne. subst (HasValue codes) (sym (beside ws vs p at y d ne)) (f.seen d h));
+              }
+              record {
+                names = λ j u apart e q h same k for. absurd (none k for);
+                found = λ j u apart e h. absurd (let z = ((p.collectors.each j u e).found slot h).0 in omega arith);
+                left = λ j u apart e h. absurd (only.1 j u apart e h);
+                seen = λ _ _ _ _ _. plain_has codes sound y plain;
+              }
+              refl refl refl refl
+              (λ q h. inl h)),
+          at_slot GivesEmptyBack y w refl,
+        )

@@ -1,5 +1,5 @@
 -- The collectors' part after one step of one participant that takes no part in it, and after tokens come and go
-use Rattle.std.proofs.Common.{◌≡◌, ◌≢◌, ◌⊎◌, ℕ, suc, ◌+◌, ◌<◌, ◌≤◌, List, [], ◌∷◌, ◌++◌, length, map, set, sym, refl, ap, ◌∙◌, subst, inl, inr, ⊎_elim, arith, length-set, get_or-set_other, get_or-set_same}
+use Rattle.std.proofs.Common.{◌≡◌, ◌≢◌, ◌⊎◌, ℕ, suc, ◌<◌, ◌≤◌, List, [], ◌∷◌, ◌++◌, length, set, sym, refl, ap, ◌∙◌, subst, inl, inr, ⊎_elim, arith, length-set, get_or-set_other, get_or-set_same}
 use Rattle.std.proofs.lemmas.List.{get_or_past}
 use Rattle.std.specs.Prelude.{None, Some}
 use mathlib.Core.Option.{some, some-ne-none}
@@ -169,9 +169,12 @@ module _ (z : WordReading) (sound : IsWordReading z) where
         each = λ j v e. let f = c.each j v e in record {
           timed = f.timed;
           names = λ x has k h. f.names x has k (still_for k x.item.slot h);
-          found = λ i h. let g = f.found i h in (⊎_elim (λ (t : slot_at sizes ws' i ≡ slot_at sizes ws i). t ∙ g.0)
-              (λ (p : IsPlain z (slot_at sizes ws i) × IsPlain z (slot_at sizes ws' i)). let n = p.0.0 in let more = g.1 in
-              let s = privates_in j i v e in absurd (omega arith)) (same i), g.1);
+          found = λ i h. let g = f.found i h in (
+            ⊎_elim (λ (t : slot_at sizes ws' i ≡ slot_at sizes ws i). t ∙ g.0)
+                (λ (p : IsPlain z (slot_at sizes ws i) × IsPlain z (slot_at sizes ws' i)). let n = p.0.0 in let more = g.1 in
+                let s = privates_in j i v e in absurd (omega arith)) (same i),
+            g.1,
+          );
           left = λ l i h. ⊎_elim (λ (t : slot_at sizes ws' i ≡ slot_at sizes ws i). t ∙ f.left l i h)
               (λ (p : IsPlain z (slot_at sizes ws i) × IsPlain z (slot_at sizes ws' i)). let n = p.0.1 in let s = emptying_at j i v e h in absurd (omega arith))
               (same i);

@@ -164,7 +164,8 @@ module _ {S : Type 0} (sizes : Sizes) where
           slots = tokens.cuts codes sizes s.words s.views k.parts.slots id v at os units mine t os' refl parts held;
           lone = snoc_lone sizes s.words vs t (λ z. absurd (omega arith)) (lone_same sizes s.words s.views k.parts.lone id v at w refl (λ z. z));
           collectors = more codes sound sizes s.words vs
-              (view_aside codes sound sizes s.words s.views k.parts.collectors id v w at (refl, refl, refl, refl, refl, refl, refl, refl, refl) (omega arith) (omega arith)) t
+              (view_aside codes sound sizes s.words s.views k.parts.collectors id v w at
+              (refl, refl, refl, refl, refl, refl, refl, refl, refl) (omega arith) (omega arith)) t
               record { privates = refl; emptied = refl; empties = refl; closes = refl; sees = refl };
         };
         places = record {
@@ -191,7 +192,8 @@ module _ {S : Type 0} (sizes : Sizes) where
           slots = tokens.takes_in codes sizes s.words s.views k.parts.slots id v at os units mine other t t' os' refl refl parts apart was;
           lone = lone_same sizes s.words vs (lone_same sizes s.words s.views k.parts.lone id v at w refl (λ z. z)) other t there t' refl (λ z. z);
           collectors = view_aside codes sound sizes s.words vs
-              (view_aside codes sound sizes s.words s.views k.parts.collectors id v w at (refl, refl, refl, refl, refl, refl, refl, refl, refl) (omega arith) (omega arith)) other t t' there
+              (view_aside codes sound sizes s.words s.views k.parts.collectors id v w at
+              (refl, refl, refl, refl, refl, refl, refl, refl, refl) (omega arith) (omega arith)) other t t' there
               (refl, refl, refl, refl, refl, refl, refl, refl, refl) (omega arith) (omega arith);
         };
         places = record {

@@ -1,5 +1,5 @@
 -- The slots' part after steps on the words of private items
-use Rattle.std.proofs.Common.{◌≡◌, ◌≢◌, ◌⊎◌, ℕ, ◌+◌, ◌<◌, ◌≤◌, Bool, eqb, List, [], ◌∷◌, ◌++◌, map, get_or, set, sym, refl, ap, ◌∙◌, subst, inl, inr, ⊎_elim, eq-eqb, ne_eqb, arith, get_or-set_other, get_or-set_same}
+use Rattle.std.proofs.Common.{◌≡◌, ◌≢◌, ◌⊎◌, ℕ, ◌<◌, ◌≤◌, Bool, eqb, List, [], ◌∷◌, ◌++◌, set, sym, refl, ap, ◌∙◌, subst, ⊎_elim, eq-eqb, ne_eqb, arith, get_or-set_other, get_or-set_same}
 use Rattle.std.specs.Prelude.{Option, not}
 use mathlib.Core.Option.{some}
 use mathlib.Core.Logic.{dite}
@@ -135,7 +135,8 @@ module _ (z : WordReading) (sound : IsWordReading z) (sizes : Sizes) (ws : List 
         (λ _ _ _ _. full)
         (λ j u _ e. unheld i dead j u e)
         record {
-          timed = λ k r e. ⊎_elim (λ (t : get_elem? v.slots.waits k ≡ some r). f.timed k r t) (λ (t : x ≡ r). subst (IsTimed v.epoch) t timed) (old_or_new k r e);
+          timed = λ k r e. ⊎_elim (λ (t : get_elem? v.slots.waits k ≡ some r). f.timed k r t)
+              (λ (t : x ≡ r). subst (IsTimed v.epoch) t timed) (old_or_new k r e);
           guarded = f.guarded;
           full = λ a sees. dite (ℕ_discrete a i) (λ e. ap z.full (now a e) ∙ full) (λ ne. ap z.full (there a ne) ∙ f.full a sees);
           held = λ k h. dite (ℕ_discrete k i) (λ e. absurd (unheld i dead id v at (subst (Holds v) e h)))

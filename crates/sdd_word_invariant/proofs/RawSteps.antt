@@ -32,8 +32,11 @@ module _ (id : ℕ) (v : View) (live : HasPlace v.epoch) where
   turns_raw slot g inside mine free low ws vs p at firm = let y : ℕ = raw_word g in let w : View = turned_raw slot y v in let word = raw_is g low in (
     w,
     steps.around id v live ws vs p at slot y w live refl
-        (inr (plain_alive codes sound (slot_at v.sizes ws slot)
-        (let a = (alone_is codes sound v.sizes ws vs p.slots id slot v at mine firm).1 in omega arith), raw_plain g low))
+        (inr (
+          plain_alive codes sound (slot_at v.sizes ws slot)
+              (let a = (alone_is codes sound v.sizes ws vs p.slots id slot v at mine firm).1 in omega arith),
+          raw_plain g low,
+        ))
         (refl, refl, refl, refl, refl, refl, refl, refl, refl) (omega arith) (omega arith) (steps.same_epochs id v live ws vs p at)
         (owning.turns_raw codes sound v.sizes ws vs p.slots id v at slot y (noted slot y v) inside mine firm free word.0 word.1 word.2),
     λ other is. ap (λ (k : ℕ). turned_raw k y v) (steps.same_slot id v live slot other is),

@@ -314,8 +314,11 @@ module _ (id : ℕ) (v : View) (live : HasPlace v.epoch) where
       let y : ℕ = free_word g in let w : View = given_back slot y v in let word = free_is g low in
       let giving_back = λ (i : ℕ). owning.giving_back codes sound sizes ws vs p.slots id v at p.epoch i (noted slot y v) in (
         w,
-        around ws vs p at slot y w live refl (inr (plain_waiting codes sound (slot_at sizes ws slot) (subst (λ (i : ℕ). 0 < waiting (slot_at sizes ws i)) same
-            (waiter_in codes sound sizes ws vs p.slots id k v x at has)), plain_free codes sound y word.2))
+        around ws vs p at slot y w live refl (inr (
+          plain_waiting codes sound (slot_at sizes ws slot) (subst (λ (i : ℕ). 0 < waiting (slot_at sizes ws i)) same
+              (waiter_in codes sound sizes ws vs p.slots id k v x at has)),
+          plain_free codes sound y word.2,
+        ))
             (refl, refl, refl, refl, refl, refl, refl, refl, refl) (omega arith) (omega arith) (same_epochs ws vs p at)
             (subst (λ (i : ℕ). SlotsInvariant codes sizes (set ws (slot_word sizes i) y) (set vs id (giving_back i))) same
             (owning.gives_back codes sound sizes ws vs p.slots id v at p.epoch k y x (noted slot y v) has ripe (omega arith) word.0 word.1)),
@@ -361,7 +364,8 @@ module _ (id : ℕ) (v : View) (live : HasPlace v.epoch) where
         w,
         loaded ws vs p at i w refl refl (subst (λ (l : List ℕ). SlotsInvariant codes sizes l (set vs id w)) (set-get_or ws i 0)
             (holding.takes_hold codes sound sizes ws vs p.slots id v at slot x v.words inside mine one free one firm))
-            (private.view_aside codes sound sizes ws vs p.collectors id v w at (refl, refl, refl, refl, refl, refl, refl, refl, refl) (omega arith) (omega arith)),
+            (private.view_aside codes sound sizes ws vs p.collectors id v w at (refl, refl, refl, refl, refl, refl, refl, refl, refl) (omega arith)
+            (omega arith)),
         λ other is. (ap (λ (k : ℕ). held k v) (same_slot slot other is), knew_too slot other is x (knew ws vs p at slot)),
       )
 
@@ -373,7 +377,8 @@ module _ (id : ℕ) (v : View) (live : HasPlace v.epoch) where
     loaded ws vs p at i w refl refl (subst (λ (l : List ℕ). SlotsInvariant codes sizes l (set vs id w)) (set-get_or ws i 0)
         (holding.lets_go codes sound sizes ws vs p.slots id v at slot x v.words inside held
         (held_is codes sound sizes ws vs p.slots id slot v at held)))
-        (private.view_aside codes sound sizes ws vs p.collectors id v w at (refl, refl, refl, refl, refl, refl, refl, refl, refl) (omega arith) (omega arith)),
+        (private.view_aside codes sound sizes ws vs p.collectors id v w at (refl, refl, refl, refl, refl, refl, refl, refl, refl) (omega arith)
+        (omega arith)),
     λ other is. (refl, knew_too slot other is x (knew ws vs p at slot)),
   )
 
@@ -389,7 +394,8 @@ module _ (id : ℕ) (v : View) (live : HasPlace v.epoch) where
       exchanged x (shared_word 1) held_word (λ y. (u : View) × Parts sizes (set ws i y) (set vs id u) × AtSlot TriesHold i v x u)
       (λ hit. (
         w,
-        around ws vs p at slot held_word w live refl (inr (plain_alive codes sound x left, plain_alive codes sound held_word (let e = only_held.0 in omega arith)))
+        around ws vs p at slot held_word w live refl
+            (inr (plain_alive codes sound x left, plain_alive codes sound held_word (let e = only_held.0 in omega arith)))
             (refl, refl, refl, refl, refl, refl, refl, refl, refl) (omega arith) (omega arith) (same_epochs ws vs p at)
             (holding.takes_hold codes sound sizes ws vs p.slots id v at slot held_word (noted slot held_word v) inside mine (ap codes.alive hit ∙ one_left.0)
             free
@@ -409,8 +415,11 @@ module _ (id : ℕ) (v : View) (live : HasPlace v.epoch) where
       → Steps (Parts sizes) id v (slot_word sizes slot) (λ _. y) (λ _. AtSlot SharesAgain (slot_word sizes slot) v y)
   shares_again slot y inside held one ws vs p at small = let w : View = shared_again slot y v in (
     w,
-    around ws vs p at slot y w live refl (inr (plain_alive codes sound (slot_at sizes ws slot)
-        (let e = held_is codes sound sizes ws vs p.slots id slot v at held in omega arith), plain_alive codes sound y (omega arith)))
+    around ws vs p at slot y w live refl (inr (
+      plain_alive codes sound (slot_at sizes ws slot)
+          (let e = held_is codes sound sizes ws vs p.slots id slot v at held in omega arith),
+      plain_alive codes sound y (omega arith),
+    ))
         (refl, refl, refl, refl, refl, refl, refl, refl, refl) (omega arith) (omega arith) (same_epochs ws vs p at)
         (holding.lets_go codes sound sizes ws vs p.slots id v at slot y (noted slot y v) inside held one),
     λ other is. ap (λ (k : ℕ). shared_again k y v) (same_slot slot other is),
@@ -421,8 +430,11 @@ module _ (id : ℕ) (v : View) (live : HasPlace v.epoch) where
       → Steps (Parts sizes) id v (slot_word sizes slot) (λ _. free_word generation) (λ _. AtSlot Discards (slot_word sizes slot) v (free_word generation))
   discards slot g inside held all low ws vs p at small = let y : ℕ = free_word g in let w : View = discarded slot y v in let word = free_is g low in (
     w,
-    around ws vs p at slot y w live refl (inr (plain_alive codes sound (slot_at sizes ws slot)
-        (let e = held_is codes sound sizes ws vs p.slots id slot v at held in omega arith), plain_free codes sound y word.2))
+    around ws vs p at slot y w live refl (inr (
+      plain_alive codes sound (slot_at sizes ws slot)
+          (let e = held_is codes sound sizes ws vs p.slots id slot v at held in omega arith),
+      plain_free codes sound y word.2,
+    ))
         (refl, refl, refl, refl, refl, refl, refl, refl, refl) (omega arith) (omega arith) (same_epochs ws vs p at)
         (holding.discards codes sound sizes ws vs p.slots id v at p.epoch slot y (noted slot y v) inside held all word.0 word.1),
     λ other is. ap (λ (k : ℕ). discarded k y v) (same_slot slot other is),

@@ -1,5 +1,5 @@
 -- The collectors' part of the rule: which items wait privately, which of them a close empties, and that no guard sees what a close may take
-use Rattle.std.specs.Prelude.{◌≡◌, ℕ, ◌+◌, ◌<◌, ◌≤◌, List, Option, Some, None, true}
+use Rattle.std.specs.Prelude.{◌≡◌, ℕ, ◌<◌, ◌≤◌, List, Option, Some, None, true}
 use mathlib.Core.Option.{some}
 use lib.ListN.{get_elem?}
 use Rattle.sdd_views.specs.declared.PrivateItem.{PrivateItem}
