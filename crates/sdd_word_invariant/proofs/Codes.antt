@@ -181,7 +181,8 @@ pub owned_is : (g : ℕ) → owned_word g < shared_base → (alive (owned_word g
 owned_is g low = let k = kind (owned_word g) 1 low (omega arith) in (k.0, k.1, k.3)
 
 pub raw_is : (g : ℕ) → raw_word g < shared_base → (alive (raw_word g) ≡ 0) × (waiting (raw_word g) ≡ 0) × (full (raw_word g) ≡ 1)
-raw_is g low = let k = kind (raw_word g) 2 low (omega arith) in (k.0, k.1, k.2)
+    × (valued (raw_word g) ≡ 1)
+raw_is g low = let k = kind (raw_word g) 2 low (omega arith) in (k.0, k.1, k.2, k.4)
 
 -- what is out as raw isn't private
 pub raw_plain : (g : ℕ) → raw_word g < shared_base → (private (raw_word g) ≡ 0) × (emptying (raw_word g) ≡ 0)
