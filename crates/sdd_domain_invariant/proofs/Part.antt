@@ -1,5 +1,5 @@
 -- The homes' part after one step of one participant, from what the step takes from home or gives
-use Rattle.std.proofs.Common.{◌≡◌, ◌≢◌, inl, inr, None, ℕ, suc, ◌<◌, ◌≤◌, List, [], ◌∷◌, ◌++◌, map, set, sym, ap, ◌∙◌, subst, ⊎_elim, arith, length-set, get_or-set_other}
+use Rattle.std.proofs.Common.{◌⊎◌, ◌≡◌, ◌≢◌, inl, inr, None, ℕ, suc, ◌<◌, ◌≤◌, List, [], ◌∷◌, ◌++◌, map, set, sym, ap, ◌∙◌, subst, ⊎_elim, arith, length-set, get_or-set_other}
 use Rattle.std.specs.Prelude.{Some}
 use mathlib.Core.Option.{none, some, some-injective, some-ne-none}
 use mathlib.Core.Logic.{dite}

@@ -124,6 +124,13 @@ module _ (γ : ℕ) (sizes : Sizes) (s : State ValueFraction View) (h : DomainIn
       (λ (o : Empties u i). not_emptied j u e (plain_waiting codes sound (slot_at sizes s.words i) (omega arith)).1 o) r)
       (h.homes.moving j u e i m).1
 
+-- what a guard sees has its value
+seen_valued : (γ : ℕ) (sizes : Sizes) (s : State ValueFraction View) → DomainInvariant γ sizes s → (id : ℕ) (v : View) → get_elem? s.views id ≡ some v
+    → (k : ℕ) → Sees v k → full_at sizes s.words k ≡ 1
+seen_valued γ sizes s h id v at k sees = let x : ℕ = slot_at sizes s.words k in let full_now = (h.kept.parts.slots.each id v at).full k sees in
+    let seen = (h.kept.parts.collectors.each id v at).seen k sees in dite (ℕ_discrete (codes.private x) 0) (λ none. sound.there x full_now none)
+    (λ ne. seen.1 (sound.private x (omega arith)).0)
+
 -- the own place hasn't ended
 pub own_place : (γ : ℕ) (sizes : Sizes) (id : ℕ) (v : View) → HasPlace v.epoch → (y : ℕ) (s : State ValueFraction View) → DomainInvariant γ sizes s
     → get_elem? s.views id ≡ some v → Spares sizes s.words (state_word v.epoch.place) y
@@ -451,7 +458,7 @@ module _ (slots id : ℕ) (me : SeatState) (live : HasPlace me.0.epoch) where
           IsBank b
           → ¬ (id ≡ bd) → v.stakes.moves ≡ None → full_at sizes s.words slot ≡ 1 → total (drawn_at slot) s.views ≡ 0 → (Is : Gv → Type 0)
           → ((p : ℕ) (y : ValueFraction) → p ≤ n → LiesAt n s.homes slot p y → MatchesSlotWord (full_at sizes s.words slot) y.lot.shown → Is y.lot.shown)
-          → Owns v slot ⊎ (0 < items_at slot v) → (Owns v slot → Holds v slot × (alive (slot_at sizes s.words slot) ≡ 1))
+          → Owns v slot ⊎ ((0 < items_at slot v) ⊎ Empties v slot) → (Owns v slot → Holds v slot × (alive (slot_at sizes s.words slot) ≡ 1))
           → ((j : ℕ) (u : View) → get_elem? s.views j ≡ some u → ¬ (Sees u slot))
           → ((j : ℕ) (u : View) → get_elem? s.views j ≡ some u → id ≢ j → ¬ (Moves u slot))
           → (t : FractionsView) → t.counts ≡ v.stakes.counts → t.moves ≡ Some slot → t.bank ≡ v.stakes.bank → t.founds ≡ v.stakes.founds
@@ -504,7 +511,7 @@ module _ (slots id : ℕ) (me : SeatState) (live : HasPlace me.0.epoch) where
                 (part.takes γ sizes s.words s.views s.homes h.homes id v at slot (spare n) Is me.1 tk s.words w is
                 (λ j p _. still_seen w rests refl refl j p) (λ j _ _. refl)
                 (λ j m. let e : slot ≡ j = sym (one_moved w slot j is m) in
-                (live, subst (λ (k : ℕ). Owns v k ⊎ (0 < items_at k v)) e may)))
+                (live, subst (λ (k : ℕ). Owns v k ⊎ ((0 < items_at k v) ⊎ Empties v k)) e may)))
                 came
                 (uncounted_alone sizes s.words s.views h.counts id v at w same refl)
                 (filled_by s h at w kept no_more)
@@ -1249,7 +1256,7 @@ module _ (slots id : ℕ) (me : SeatState) (live : HasPlace me.0.epoch) where
         act = g.act;
         valid = g.valid;
         homes = part.closes γ sizes s.words s.views s.homes h.homes id v at q le near me.1 g (set s.words j 1) (unsighted now) told.sees refl
-            rests (λ k sees. same k ∙ f.full k sees) (λ k _. same k) (none_out (unsighted now) rests);
+            rests (λ k sees. same k ∙ seen_valued γ sizes s h id v at k sees) (λ k _. same k) (none_out (unsighted now) rests);
         records = records.no_more sizes s.views s.homes r id v at (unsighted now) (λ is. r.deposits id v at is) (homes_after s.homes me.1 g.act)
             record {
               owns = told.owns;

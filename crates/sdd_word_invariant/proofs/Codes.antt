@@ -1,12 +1,12 @@
 -- The words as they are written are read as the rule asks.
-use Rattle.std.proofs.Common.{◌≡◌, ◌⊎◌, ℕ, suc, [], ◌∷◌, if◌then◌else◌, ◌+◌, ◌-◌, ◌*◌, ◌/◌, ◌%◌, ◌^◌, ◌<◌, ◌≤◌, Bool, eqb, leb, true, false, refl, sym, ap, ◌∙◌, inl, inr, ⊎_elim, eq-eqb, ne_eqb, arith}
+use Rattle.std.proofs.Common.{◌≡◌, ◌≢◌, ◌⊎◌, ℕ, suc, [], ◌∷◌, if◌then◌else◌, ◌+◌, ◌-◌, ◌*◌, ◌/◌, ◌%◌, ◌^◌, ◌<◌, ◌≤◌, Bool, eqb, leb, true, false, refl, sym, ap, ◌∙◌, inl, inr, ⊎_elim, eq-eqb, ne_eqb, arith}
 use mathlib.Core.Logic.{dite}
 use native.Mathlib.Decide.{ℕ_discrete}
 use prog.Atomic.{either}
 use Rattle.std.proofs.lemmas.Bool.{le-leb}
 use Rattle.std.proofs.lemmas.Bool.Decides.{leb_tells}
 use Rattle.sdd_word_invariant.specs.Sums.{is, times}
-use Rattle.sdd_word_invariant.specs.Codes.{IsWordReading, codes, shared_base, free_word, owned_word, raw_word, waiting_word, private_word, emptied_word, unowned, held_slots, holding_word, kind_alive, kind_waiting, kind_full, kind_valued, private, emptying, emptying_word, left_word, alive, waiting, full, valued, counted, waits_for, names, claimed_word, retired_word, held_word, shared_word}
+use Rattle.sdd_word_invariant.specs.Codes.{IsWordReading, codes, shared_base, free_word, owned_word, raw_word, waiting_word, private_word, emptied_word, unowned, held_slots, holding_word, kind_alive, kind_waiting, kind_full, private, emptying, emptying_word, left_word, alive, waiting, full, valued, counted, waits_for, names, claimed_word, retired_word, held_word, shared_word}
 
 lives : (q : ℕ) → 0 < kind_alive q → (kind_waiting q ≡ 0) × (kind_full q ≡ 1)
 lives q h = dite (ℕ_discrete q 1) (λ e. (ap kind_waiting e, ap kind_full e))
@@ -14,29 +14,23 @@ lives q h = dite (ℕ_discrete q 1) (λ e. (ap kind_waiting e, ap kind_full e))
     (λ n3. let a = ap (λ (t : _). either t 1 (either (eqb q 3) 1 0)) (ne_eqb q 1 n1) in let b = ap (λ (t : _). either t 1 0) (ne_eqb q 3 n3) in
     absurd (omega arith)))
 
-waits : (q : ℕ) → 0 < kind_waiting q → (kind_waiting q ≡ 1) × (kind_full q ≡ 1) × (kind_valued q ≡ 1)
-waits q h = dite (ℕ_discrete q 4) (λ e. (ap kind_waiting e, ap kind_full e, ap kind_valued e))
+waits : (q : ℕ) → 0 < kind_waiting q → (kind_waiting q ≡ 1) × (kind_full q ≡ 1)
+waits q h = dite (ℕ_discrete q 4) (λ e. (ap kind_waiting e, ap kind_full e))
     (λ n4. let a = ap (λ (t : _). either t 1 0) (ne_eqb q 4 n4) in absurd (omega arith))
 
-valued_is : (q : ℕ) → 0 < kind_alive q → kind_valued q ≡ 1
-valued_is q h = dite (ℕ_discrete q 1) (λ e. ap kind_valued e)
-    (λ n1. dite (ℕ_discrete q 3) (λ e. ap kind_valued e)
-    (λ n3. let a = ap (λ (t : _). either t 1 (either (eqb q 3) 1 0)) (ne_eqb q 1 n1) in let b = ap (λ (t : _). either t 1 0) (ne_eqb q 3 n3) in
-    absurd (omega arith)))
-
-none_there : (q : ℕ) → kind_full q ≡ 0 → kind_valued q ≡ 0
-none_there q h = dite (ℕ_discrete q 0) (λ e. ap kind_valued e)
-    (λ ne. let a = ap (λ (t : _). either t 0 1) (ne_eqb q 0 ne) in absurd (omega arith))
+-- a slot that isn't free has its value, unless it was emptied
+valued_full : (x : ℕ) → x ≢ emptied_word → valued x ≡ full x
+unfolding valued
+valued_full x ne = ap (λ (t : _). either t 0 (full x)) (ne_eqb x emptied_word ne)
 
 -- a count: alive as long as one is left
-pub shared : (x : ℕ) → shared_base ≤ x → (alive x ≡ x - shared_base) × (waiting x ≡ is shared_base x) × (full x ≡ 1) × (counted x ≡ 1) × (valued x ≡ 1)
-unfolding alive waiting full counted valued
+pub shared : (x : ℕ) → shared_base ≤ x → (alive x ≡ x - shared_base) × (waiting x ≡ is shared_base x) × (full x ≡ 1) × (counted x ≡ 1)
+unfolding alive waiting full counted
 shared x h = let e = le-leb shared_base x h in (
   ap (λ (t : _). either t (x - shared_base) (kind_alive (x % 16))) e,
   ap (λ (t : _). either t (is shared_base x) (kind_waiting (x % 16))) e,
   ap (λ (t : _). either t 1 (kind_full (x % 16))) e,
   ap (λ (t : _). either t 1 0) e,
-  ap (λ (t : _). either t 1 (kind_valued (x % 16))) e,
 )
 
 -- what is counted is shared
@@ -68,14 +62,13 @@ below a x low = ⊎_elim (λ (t : (leb a x ≡ true) × (a ≤ x)). let t1 = t.1
 
 -- a kind, with any generation
 pub kind : (x q : ℕ) → x < shared_base → x % 16 ≡ q
-    → (alive x ≡ kind_alive q) × (waiting x ≡ kind_waiting q) × (full x ≡ kind_full q) × (counted x ≡ 0) × (valued x ≡ kind_valued q)
-unfolding alive waiting full counted valued
+    → (alive x ≡ kind_alive q) × (waiting x ≡ kind_waiting q) × (full x ≡ kind_full q) × (counted x ≡ 0)
+unfolding alive waiting full counted
 kind x q low e = let f = below shared_base x low in (
   ap (λ (t : _). either t (x - shared_base) (kind_alive (x % 16))) f ∙ ap kind_alive e,
   ap (λ (t : _). either t (is shared_base x) (kind_waiting (x % 16))) f ∙ ap kind_waiting e,
   ap (λ (t : _). either t 1 (kind_full (x % 16))) f ∙ ap kind_full e,
   ap (λ (t : _). either t 1 0) f,
-  ap (λ (t : _). either t 1 (kind_valued (x % 16))) f ∙ ap kind_valued e,
 )
 
 -- it waits for the collector k
@@ -112,7 +105,7 @@ unfolding alive waiting full private emptying
 left_is = (refl, refl, refl, refl, refl)
 
 moved_valued : (valued emptying_word ≡ 1) × (valued left_word ≡ 1)
-unfolding valued
+unfolding valued full
 moved_valued = (refl, refl)
 
 -- what a close empties is in its bag still, or no more
@@ -167,9 +160,9 @@ is_private x h = ⊎_elim
 -- nothing moves the value of one that waits for a collector
 for_one_is : (k x : ℕ) → 0 < waits_for k x → (private x ≡ 1) × (valued x ≡ 1) × (emptying x ≡ 0)
 for_one_is k x h = let p = waits_privately k x h in let e = p.1 in let l = p.0 in let s = private_is k (omega arith) in
-    let v = (kind x 5 p.0 (omega arith)).4 in (
+    let f = (kind x 5 p.0 (omega arith)).2 in (
       ap private e ∙ s.3,
-      v,
+      valued_full x (λ d. omega arith) ∙ f,
       dite (ℕ_discrete (emptying x) 0) (λ z. z) (λ ne. ⊎_elim (λ (d : x ≡ emptying_word). absurd (omega arith)) (λ (d : x ≡ left_word). absurd (omega arith))
           (which_emptying x (omega arith))),
     )
@@ -182,7 +175,7 @@ owned_is g low = let k = kind (owned_word g) 1 low (omega arith) in (k.0, k.1, k
 
 pub raw_is : (g : ℕ) → raw_word g < shared_base → (alive (raw_word g) ≡ 0) × (waiting (raw_word g) ≡ 0) × (full (raw_word g) ≡ 1)
     × (valued (raw_word g) ≡ 1)
-raw_is g low = let k = kind (raw_word g) 2 low (omega arith) in (k.0, k.1, k.2, k.4)
+raw_is g low = let k = kind (raw_word g) 2 low (omega arith) in (k.0, k.1, k.2, valued_full (raw_word g) (λ e. omega arith) ∙ k.2)
 
 -- what is out as raw isn't private
 pub raw_plain : (g : ℕ) → raw_word g < shared_base → (private (raw_word g) ≡ 0) × (emptying (raw_word g) ≡ 0)
@@ -301,30 +294,35 @@ few_of q = dite (ℕ_discrete q 1) (λ e. let a = ap kind_alive e in omega arith
     (λ e. let b = ap kind_alive e in omega arith)
     (λ n3. let b = ap (λ (t : _). either t 1 0) (ne_eqb q 3 n3) in omega arith))
 
+-- an item with an owner doesn't wait
+has_owner : (x : ℕ) → 0 < alive x → (waiting x ≡ 0) × (full x ≡ 1)
+has_owner x h = ⊎_elim (λ (t : (leb shared_base x ≡ true) × (shared_base ≤ x)). let s = shared x t.1 in let s0 = s.0 in
+    let l = some_left x (omega arith) in (l.1, l.2))
+    (λ (t : (leb shared_base x ≡ false) × (x < shared_base)). let s = kind x (x % 16) t.1 refl in let s0 = s.0 in let q = lives (x % 16) (omega arith) in
+    (s.1 ∙ q.0, s.2 ∙ q.1)) (leb_tells shared_base x)
+
+is_waiting : (x : ℕ) → 0 < waiting x → (waiting x ≡ 1) × (full x ≡ 1)
+is_waiting x h = ⊎_elim (λ (t : (leb shared_base x ≡ true) × (shared_base ≤ x)). let s = shared x t.1 in let s1 = s.1 in
+    dite (ℕ_discrete x shared_base) (λ e. (s1 ∙ ap (λ (b : _). either b 1 0) (eq-eqb x shared_base e), s.2))
+    (λ ne. let n = ap (λ (b : _). either b 1 0) (ne_eqb x shared_base ne) in absurd (omega arith)))
+    (λ (t : (leb shared_base x ≡ false) × (x < shared_base)). let s = kind x (x % 16) t.1 refl in let s1 = s.1 in let q = waits (x % 16) (omega arith) in
+    (s.1 ∙ q.0, s.2 ∙ q.1)) (leb_tells shared_base x)
+
 pub sound : IsWordReading codes
 sound = record {
-  lives = λ x h. ⊎_elim (λ (t : (leb shared_base x ≡ true) × (shared_base ≤ x)). let s = shared x t.1 in let s0 = s.0 in
-      let l = some_left x (omega arith) in (l.1, l.2))
-      (λ (t : (leb shared_base x ≡ false) × (x < shared_base)). let s = kind x (x % 16) t.1 refl in let s0 = s.0 in let q = lives (x % 16) (omega arith) in
-      (s.1 ∙ q.0, s.2 ∙ q.1)) (leb_tells shared_base x);
+  lives = has_owner;
   few = λ x none. ⊎_elim (λ (t : (leb shared_base x ≡ true) × (shared_base ≤ x)). let c = (shared x t.1).3 in absurd (omega arith))
       (λ (t : (leb shared_base x ≡ false) × (x < shared_base)). let s = (kind x (x % 16) t.1 refl).0 in let f = few_of (x % 16) in omega arith)
       (leb_tells shared_base x);
-  valued = λ x h. ⊎_elim (λ (t : (leb shared_base x ≡ true) × (shared_base ≤ x)). (shared x t.1).4)
-      (λ (t : (leb shared_base x ≡ false) × (x < shared_base)). let s = kind x (x % 16) t.1 refl in let s0 = s.0 in
-      s.4 ∙ valued_is (x % 16) (omega arith)) (leb_tells shared_base x);
+  valued = λ x h. valued_full x (λ e. let z = ap alive e in let q = emptied_is.0 in omega arith) ∙ (has_owner x h).1;
   emptying = is_emptying;
   private = is_private;
   for_one = for_one_is;
   one_of = λ k l x h h'. let a = (waits_privately k x h).1 in let b = (waits_privately l x h').1 in omega arith;
-  waits = λ x h. ⊎_elim (λ (t : (leb shared_base x ≡ true) × (shared_base ≤ x)). let s = shared x t.1 in let s1 = s.1 in
-      dite (ℕ_discrete x shared_base) (λ e. (s1 ∙ ap (λ (b : _). either b 1 0) (eq-eqb x shared_base e), s.2, s.4))
-      (λ ne. let n = ap (λ (b : _). either b 1 0) (ne_eqb x shared_base ne) in absurd (omega arith)))
-      (λ (t : (leb shared_base x ≡ false) × (x < shared_base)). let s = kind x (x % 16) t.1 refl in let s1 = s.1 in let q = waits (x % 16) (omega arith) in
-      (s.1 ∙ q.0, s.2 ∙ q.1, s.4 ∙ q.2)) (leb_tells shared_base x);
-  empty = λ x h. ⊎_elim (λ (t : (leb shared_base x ≡ true) × (shared_base ≤ x)). let s = (shared x t.1).2 in absurd (omega arith))
-      (λ (t : (leb shared_base x ≡ false) × (x < shared_base)). let s = kind x (x % 16) t.1 refl in let s2 = s.2 in s.4 ∙ none_there (x % 16) (omega arith))
-      (leb_tells shared_base x);
+  waits = λ x h. let w = is_waiting x h in
+      (w.0, w.1, valued_full x (λ e. let z = ap waiting e in let q = emptied_is.1 in omega arith) ∙ w.1);
+  empty = λ x none. valued_full x (λ e. let z = ap full e in let q = emptied_is.2 in omega arith) ∙ none;
+  there = λ x some none. valued_full x (λ e. let z = ap private e in let q = emptied_is.3 in omega arith) ∙ some;
   free = free;
   null = λ i. cell_null 0 (inl (omega arith)) i;
 }

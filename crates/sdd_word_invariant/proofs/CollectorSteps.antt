@@ -20,7 +20,7 @@ use Rattle.sdd_word_invariant.specs.Epoch.{HasPlace, EpochInvariant}
 use Rattle.sdd_word_invariant.specs.EpochSteps.{Steps}
 use Rattle.sdd_word_invariant.specs.Slots.{slot_at, Sees, IsTimed, SlotsInvariant}
 use Rattle.sdd_word_invariant.specs.SlotSteps.{noted, without, without_item, AtSlot}
-use Rattle.sdd_word_invariant.specs.Collectors.{private_in, privates_at, one_in, empties_at, Empties, Closes, FoundEmptied, HasPrivate, KnowsPrivates, SeenBeforeClosed, CollectorsInvariant}
+use Rattle.sdd_word_invariant.specs.Collectors.{private_in, privates_at, one_in, empties_at, Empties, Closes, FoundEmptied, HasPrivate, HasValue, KnowsPrivates, SeenBeforeClosed, CollectorsInvariant}
 use Rattle.sdd_word_invariant.specs.CollectorSteps.{without_private, for_collector, collected, reclaimed, found_emptied, left_to_close, private_given_back, closing, closed_none, empties_now, emptied_now, finds_left, empty_given_back, WaitsFor, IsDuePrivately, HasWaiting, Collects, Reclaims, LeavesToClose, GivesPrivateBack, EmptiesSlot, HasEmptied, GivesEmptyBack}
 use Rattle.sdd_word_invariant.specs.WordInvariant.{epoch_of, Parts}
 use Rattle.sdd_word_invariant.proofs.Frame.{each_set}
@@ -28,7 +28,7 @@ use Rattle.sdd_word_invariant.proofs.Sums.{total_set, total_snoc, total_has, tot
 use Rattle.sdd_word_invariant.proofs.Codes.{sound, private_is, emptied_is, emptying_is, left_is, free_is, waiting_is, which_private, which_emptying, waits_privately}
 use Rattle.sdd_word_invariant.proofs.SlotWords.{waiter_in}
 use Rattle.sdd_word_invariant.proofs.Epoch.{at_length}
-use Rattle.sdd_word_invariant.proofs.Collectors.{plain_waiting, plain_free, none_for, private_at, privates_in, emptying_at}
+use Rattle.sdd_word_invariant.proofs.Collectors.{plain_waiting, plain_free, plain_has, none_for, private_at, privates_in, emptying_at}
 use Rattle.sdd_word_invariant.proofs.PrivateSlots.{private_gone, private_kept, with_privates, blind_privates, turns, waits_no_more, comes_to_wait}
 use Rattle.sdd_word_invariant.proofs.SlotSteps as steps
 
@@ -38,7 +38,7 @@ pub record SparesOthers (z : WordReading) (vs : List View) (id i y : ℕ) : Type
       → k ≡ x.collector
   pub found : (j : ℕ) (u : View) → j ≢ id → get_elem? vs j ≡ some u → FoundEmptied u i → y ≡ emptied_word
   pub left : (j : ℕ) (u : View) → j ≢ id → get_elem? vs j ≡ some u → Empties u i → y ≡ left_word
-  pub seen : (j : ℕ) (u : View) → j ≢ id → get_elem? vs j ≡ some u → Sees u i → z.emptying y ≡ 0
+  pub seen : (j : ℕ) (u : View) → j ≢ id → get_elem? vs j ≡ some u → Sees u i → HasValue z y
 
 module _ (z : WordReading) (sizes : Sizes) (ws : List ℕ) (vs : List View) (c : CollectorsInvariant z sizes ws vs) (id : ℕ) (v : View)
     (at : get_elem? vs id ≡ some v) (i y : ℕ) (low : slot_word sizes i < length ws) where
@@ -109,7 +109,8 @@ module _ (z : WordReading) (sizes : Sizes) (ws : List ℕ) (vs : List View) (c :
           left = λ l d h. dite (ℕ_discrete d i)
               (λ same. now d same ∙ others.left j u apart e (subst (Empties u) same h)) (λ ne. there d ne ∙ f.left l d h);
           seen = λ d h. dite (ℕ_discrete d i)
-              (λ same. ap z.emptying (now d same) ∙ others.seen j u apart e (subst (Sees u) same h)) (λ ne. ap z.emptying (there d ne) ∙ f.seen d h);
+              (λ same. subst (HasValue z) (sym (now d same)) (others.seen j u apart e (subst (Sees u) same h)))
+              (λ ne. subst (HasValue z) (sym (there d ne)) (f.seen d h));
         });
         two = both_set (SeenBeforeClosed z sizes after) vs id w (λ j k a b ea eb. still k a b eb (c.two j k a b ea eb))
             (record {
@@ -251,7 +252,7 @@ module _ (id : ℕ) (v : View) (live : HasPlace v.epoch) where
 
       -- nobody sees what is emptied
       none_sees : codes.emptying x ≡ 1 → (j : ℕ) (u : View) → get_elem? vs j ≡ some u → ¬ (Sees u slot)
-      none_sees busy j u e h = let z = (p.collectors.each j u e).seen slot h in omega arith
+      none_sees busy j u e h = let z = ((p.collectors.each j u e).seen slot h).0 in omega arith
 
       -- nor a private item that has seen three changes
       none_sees_due : (r : PrivateItem) → HasPrivate v r → r.item.slot ≡ slot → 3 ≤ r.item.changes → (j : ℕ) (u : View) → get_elem? vs j ≡ some u
@@ -285,6 +286,7 @@ module _ (id : ℕ) (v : View) (live : HasPlace v.epoch) where
         = subst (λ (d : ℕ). 0 < waiting (slot_at sizes ws d)) has.0 (waiter_in codes sound sizes ws vs p.slots id has.1.0 v r at has.1.1) in
         let plain = plain_waiting codes sound (x ws vs p at) waits in let pr3 = pr.3 in let pr4 = pr.4 in
         let silent : codes.emptying y ≡ 0 = (sound.for_one collector y (omega arith)).2 in
+        let there_still : HasValue codes y = (silent, λ _. (sound.for_one collector y (omega arith)).1) in
         let lacks : (j : ℕ) (u : View) → get_elem? vs j ≡ some u → privates_at slot u ≡ 0
         = λ j u e. let m = privates_in codes sound sizes ws vs p.collectors j slot u e in let z = plain.0 in omega arith in
         let f = p.collectors.each id v at in
@@ -316,14 +318,14 @@ module _ (id : ℕ) (v : View) (live : HasPlace v.epoch) where
               (λ ne. (beside ws vs p at y d ne ∙ g.0, omega arith));
           left = λ l d h. dite (ℕ_discrete d slot) (λ e. absurd (none_empties ws vs p at plain.1 id v at (subst (Empties v) e h)))
               (λ ne. beside ws vs p at y d ne ∙ f.left l d h);
-          seen = λ d h. dite (ℕ_discrete d slot) (λ e. ap codes.emptying (here ws vs p at y d e) ∙ silent)
-              (λ ne. ap codes.emptying (beside ws vs p at y d ne) ∙ f.seen d h);
+          seen = λ d h. dite (ℕ_discrete d slot) (λ e. subst (HasValue codes) (sym (here ws vs p at y d e)) there_still)
+              (λ ne. subst (HasValue codes) (sym (beside ws vs p at y d ne)) (f.seen d h));
         }
         record {
           names = λ j u _ e q h same. absurd (none_has ws vs p at u (lacks j u e) q h same);
           found = λ j u _ e h. absurd (none_found ws vs p at u (p.collectors.each j u e) (lacks j u e) h);
           left = λ j u _ e h. absurd (none_empties ws vs p at plain.1 j u e h);
-          seen = λ _ _ _ _ _. silent;
+          seen = λ _ _ _ _ _. there_still;
         }
         refl refl refl refl
         (λ q h. ⊎_elim (λ (t : HasPrivate v q). inl t)
@@ -390,14 +392,14 @@ module _ (id : ℕ) (v : View) (live : HasPlace v.epoch) where
               (λ ne. let k = private_kept slot d ne v.slots.privates in (beside ws vs p at y d ne ∙ g.0, omega arith));
           left = λ l d h. dite (ℕ_discrete d slot) (λ e. absurd (none_empties ws vs p at quiet id v at (subst (Empties v) e h)))
               (λ ne. beside ws vs p at y d ne ∙ f.left l d h);
-          seen = λ d h. dite (ℕ_discrete d slot) (λ e. ap codes.emptying (here ws vs p at y d e) ∙ plain.1)
-              (λ ne. ap codes.emptying (beside ws vs p at y d ne) ∙ f.seen d h);
+          seen = λ d h. dite (ℕ_discrete d slot) (λ e. subst (HasValue codes) (sym (here ws vs p at y d e)) (plain_has codes sound y plain))
+              (λ ne. subst (HasValue codes) (sym (beside ws vs p at y d ne)) (f.seen d h));
         }
         record {
           names = λ j u apart e q h same k for. absurd (none k for);
           found = λ j u apart e h. absurd (none_found ws vs p at u (p.collectors.each j u e) (a.2 j u apart e) h);
           left = λ j u _ e h. absurd (none_empties ws vs p at quiet j u e h);
-          seen = λ _ _ _ _ _. plain.1;
+          seen = λ _ _ _ _ _. plain_has codes sound y plain;
         }
         refl refl refl refl
         (λ q h. inl (young q h))),
@@ -445,7 +447,7 @@ module _ (id : ℕ) (v : View) (live : HasPlace v.epoch) where
               (λ ne. let k = private_kept slot d ne v.slots.privates in (beside ws vs p at y d ne ∙ g.0, omega arith));
           left = λ l d h. dite (ℕ_discrete d slot) (λ e. here ws vs p at y d e) (λ ne. beside ws vs p at y d ne ∙ f.left l d h);
           seen = λ d h. dite (ℕ_discrete d slot) (λ e. absurd (none_sees ws vs p at busy id v at (subst (Sees v) e h)))
-              (λ ne. ap codes.emptying (beside ws vs p at y d ne) ∙ f.seen d h);
+              (λ ne. subst (HasValue codes) (sym (beside ws vs p at y d ne)) (f.seen d h));
         }
         record {
           names = λ j u apart e q h same k for. absurd (none k for);
@@ -495,14 +497,14 @@ module _ (id : ℕ) (v : View) (live : HasPlace v.epoch) where
               let k = private_kept slot d ne v.slots.privates in (beside ws vs p at y d ne ∙ g.0, omega arith));
           left = λ l d h. dite (ℕ_discrete d slot) (λ e. absurd (none_empties ws vs p at quiet id v at (subst (Empties v) e h)))
               (λ ne. beside ws vs p at y d ne ∙ f.left l d h);
-          seen = λ d h. dite (ℕ_discrete d slot) (λ e. ap codes.emptying (here ws vs p at y d e) ∙ plain.1)
-              (λ ne. ap codes.emptying (beside ws vs p at y d ne) ∙ f.seen d h);
+          seen = λ d h. dite (ℕ_discrete d slot) (λ e. subst (HasValue codes) (sym (here ws vs p at y d e)) (plain_has codes sound y plain))
+              (λ ne. subst (HasValue codes) (sym (beside ws vs p at y d ne)) (f.seen d h));
         }
         record {
           names = λ j u apart e q h same k for. absurd (none k for);
           found = λ j u apart e h. absurd (none_found ws vs p at u (p.collectors.each j u e) (a.2 j u apart e) h);
           left = λ j u _ e h. absurd (none_empties ws vs p at quiet j u e h);
-          seen = λ _ _ _ _ _. plain.1;
+          seen = λ _ _ _ _ _. plain_has codes sound y plain;
         }
         refl refl refl refl
         (λ q h. inl (young q h))),
@@ -542,7 +544,7 @@ module _ (id : ℕ) (v : View) (live : HasPlace v.epoch) where
               (λ ne. (beside ws vs p at y d ne ∙ g.0, g.1));
           left = λ l d h. let e : ◌≡◌ {A = Bool} false true = sym fresh ∙ l in cc;
           seen = λ d h. dite (ℕ_discrete d slot) (λ e. absurd (unseen id v at (subst (Sees v) e h)))
-              (λ ne. ap codes.emptying (beside ws vs p at y d ne) ∙ f.seen d h);
+              (λ ne. subst (HasValue codes) (sym (beside ws vs p at y d ne)) (f.seen d h));
         }
         record {
           names = λ j u apart e q h same k for. absurd (none k for);
@@ -582,14 +584,14 @@ module _ (id : ℕ) (v : View) (live : HasPlace v.epoch) where
               (λ ne. f.names q h k (subst (λ (m : ℕ). 0 < codes.waits_for k m) (beside ws vs p at y q.item.slot ne) for));
           found = λ d h. let g = f.found d h in dite (ℕ_discrete d slot) (λ e. (here ws vs p at y d e, g.1)) (λ ne. (beside ws vs p at y d ne ∙ g.0, g.1));
           left = λ l d h. let e : None ≡ Some d = h in cc;
-          seen = λ d h. dite (ℕ_discrete d slot) (λ e. ap codes.emptying (here ws vs p at y d e) ∙ ed.4)
-              (λ ne. ap codes.emptying (beside ws vs p at y d ne) ∙ f.seen d h);
+          seen = λ d h. dite (ℕ_discrete d slot) (λ e. absurd (none_sees ws vs p at only.0 id v at (subst (Sees v) e h)))
+              (λ ne. subst (HasValue codes) (sym (beside ws vs p at y d ne)) (f.seen d h));
         }
         record {
           names = λ j u apart e q h same k for. absurd (none k for);
           found = λ _ _ _ _ _. refl;
           left = λ j u apart e h. absurd (only.1 j u apart e h);
-          seen = λ _ _ _ _ _. ed.4;
+          seen = λ j u _ e h. absurd (none_sees ws vs p at only.0 j u e h);
         }
         refl refl refl refl
         (λ q h. inl h)),
@@ -630,14 +632,14 @@ module _ (id : ℕ) (v : View) (live : HasPlace v.epoch) where
           found = λ d h. let g = f.found d h in let g1 = g.1 in dite (ℕ_discrete d slot)
               (λ e. absurd (let z = ap (slot_at sizes ws) (sym e) ∙ g.0 in omega arith)) (λ ne. (beside ws vs p at y d ne ∙ g.0, g.1));
           left = λ l d h. let e : None ≡ Some d = h in cc;
-          seen = λ d h. dite (ℕ_discrete d slot) (λ e. ap codes.emptying (here ws vs p at y d e) ∙ plain.1)
-              (λ ne. ap codes.emptying (beside ws vs p at y d ne) ∙ f.seen d h);
+          seen = λ d h. dite (ℕ_discrete d slot) (λ e. subst (HasValue codes) (sym (here ws vs p at y d e)) (plain_has codes sound y plain))
+              (λ ne. subst (HasValue codes) (sym (beside ws vs p at y d ne)) (f.seen d h));
         }
         record {
           names = λ j u apart e q h same k for. absurd (none k for);
           found = λ j u apart e h. absurd (let z = ((p.collectors.each j u e).found slot h).0 in omega arith);
           left = λ j u apart e h. absurd (only.1 j u apart e h);
-          seen = λ _ _ _ _ _. plain.1;
+          seen = λ _ _ _ _ _. plain_has codes sound y plain;
         }
         refl refl refl refl
         (λ q h. inl h)),

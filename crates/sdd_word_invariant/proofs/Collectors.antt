@@ -16,7 +16,7 @@ use Rattle.sdd_word_invariant.specs.Epoch.{IsClosed}
 use Rattle.sdd_word_invariant.specs.EpochSteps.{published}
 use Rattle.sdd_word_invariant.specs.Codes.{WordReading, IsWordReading}
 use Rattle.sdd_word_invariant.specs.Slots.{slot_at, Sees, IsTimed}
-use Rattle.sdd_word_invariant.specs.Collectors.{private_in, privates_at, one_in, empties_at, Empties, Closes, HasPrivate, KnowsPrivates, SeenBeforeClosed, CollectorsInvariant}
+use Rattle.sdd_word_invariant.specs.Collectors.{private_in, privates_at, one_in, empties_at, Empties, Closes, HasPrivate, HasValue, KnowsPrivates, SeenBeforeClosed, CollectorsInvariant}
 use Rattle.sdd_word_invariant.specs.SlotSteps.{older_private, aged, seeing}
 use Rattle.sdd_word_invariant.specs.Sums.{total, times}
 use Rattle.sdd_word_invariant.specs.WordInvariant.{with_both}
@@ -129,6 +129,9 @@ module _ (z : WordReading) (sound : IsWordReading z) where
     dite (ℕ_discrete (z.emptying x) 0) (λ e. e) (λ ne. let p = (sound.emptying x (omega arith)).2 in absurd (omega arith)),
   )
 
+  pub plain_has : (x : ℕ) → IsPlain z x → HasValue z x
+  plain_has x p = (p.1, λ e. let n = p.0 in absurd (omega arith))
+
   pub none_for : (k x : ℕ) → z.private x ≡ 0 → ¬ (0 < z.waits_for k x)
   none_for k x none h = let p = (sound.for_one k x h).0 in absurd (omega arith)
 
@@ -172,7 +175,8 @@ module _ (z : WordReading) (sound : IsWordReading z) where
           left = λ l i h. ⊎_elim (λ (t : slot_at sizes ws' i ≡ slot_at sizes ws i). t ∙ f.left l i h)
               (λ (p : IsPlain z (slot_at sizes ws i) × IsPlain z (slot_at sizes ws' i)). let n = p.0.1 in let s = emptying_at j i v e h in absurd (omega arith))
               (same i);
-          seen = λ i h. same_emptying i ∙ f.seen i h;
+          seen = λ i h. ⊎_elim (λ (t : slot_at sizes ws' i ≡ slot_at sizes ws i). subst (HasValue z) (sym t) (f.seen i h))
+              (λ (p : IsPlain z (slot_at sizes ws i) × IsPlain z (slot_at sizes ws' i)). plain_has (slot_at sizes ws' i) p.1) (same i);
         };
         two = λ j k v w e e'. let t = c.two j k v w e e' in record {
           since = t.since;
@@ -219,7 +223,7 @@ module _ (z : WordReading) (sound : IsWordReading z) where
                   left = λ l i h. f.left (sym k.left ∙ l) i (sym k.empties ∙ h);
                   seen = λ i h. ⊎_elim
                       (λ (t : Sees v i × (w.epoch.since ≡ v.epoch.since) × (w.epoch.place ≡ v.epoch.place)). f.seen i t.0)
-                      (λ (p : IsPlain z (slot_at sizes ws i)). p.1) (sees i h);
+                      (λ (p : IsPlain z (slot_at sizes ws i)). plain_has (slot_at sizes ws i) p) (sees i h);
                 }
                 (λ j u _ e. c.each j u e);
             two = both_set (SeenBeforeClosed z sizes ws) vs id w c.two (closers w (guards id v at))

@@ -40,6 +40,7 @@ pub record IsWordReading (z : WordReading) : Type 0 where
   pub one_of : (k l x : ℕ) → 0 < z.waits_for k x → 0 < z.waits_for l x → k ≡ l
   pub waits : (x : ℕ) → 0 < z.waiting x → (z.waiting x ≡ 1) × (z.full x ≡ 1) × (z.valued x ≡ 1)
   pub empty : (x : ℕ) → z.full x ≡ 0 → z.valued x ≡ 0
+  pub there : (x : ℕ) → z.full x ≡ 1 → z.private x ≡ 0 → z.valued x ≡ 1
   pub free : (z.alive 0 ≡ 0) × (z.waiting 0 ≡ 0) × (z.full 0 ≡ 0)
   pub null : (i : ℕ) → z.names i 0 ≡ 0
 
@@ -87,9 +88,6 @@ kind_waiting q = either (eqb q 4) 1 0
 abbrev pub kind_full : ℕ → ℕ
 kind_full q = either (eqb q 0) 0 1
 
-abbrev pub kind_valued : ℕ → ℕ
-kind_valued q = either (eqb q 0) 0 (either (eqb q 6) 0 1)
-
 -- an item that a collector's close emptied
 abbrev pub emptied_word : ℕ
 emptied_word = 6
@@ -115,7 +113,7 @@ unfoldable pub full : ℕ → ℕ
 full x = either (leb shared_base x) 1 (kind_full (x % 16))
 
 unfoldable pub valued : ℕ → ℕ
-valued x = either (leb shared_base x) 1 (kind_valued (x % 16))
+valued x = either (eqb x emptied_word) 0 (full x)
 
 unfoldable pub private : ℕ → ℕ
 private x = either (leb shared_base x) 0 (either (eqb (x % 16) 5) 1 (is emptied_word x + is emptying_word x))

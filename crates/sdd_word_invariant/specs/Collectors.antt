@@ -39,15 +39,19 @@ FoundEmptied v i = 0 < times i v.slots.emptied
 abbrev pub HasPrivate : View → PrivateItem → Type 0
 HasPrivate v x = (m : ℕ) × (get_elem? v.slots.privates m ≡ some x)
 
+-- nobody moves the value of a slot with this word, and the value is there where its item is private
+abbrev pub HasValue : WordReading → ℕ → Type 0
+HasValue z x = (z.emptying x ≡ 0) × (z.private x ≡ 1 → z.valued x ≡ 1)
+
 -- what is true of one participant and the words: its private items were retired at counts that it knows, and wait for their collectors or no more;
 -- what it found emptied is so, and private with it still; a slot that it empties has the word of one that its bag has let go of, once it found that;
--- and it sees none that is emptied
+-- and it sees none that a close empties, or that is emptied, as its value is there
 pub record KnowsPrivates (z : WordReading) (sizes : Sizes) (ws : List ℕ) (v : View) : Type 0 where
   pub timed : (x : PrivateItem) → HasPrivate v x → IsTimed v.epoch x.item
   pub names : (x : PrivateItem) → HasPrivate v x → (k : ℕ) → 0 < z.waits_for k (slot_at sizes ws x.item.slot) → k ≡ x.collector
   pub found : (i : ℕ) → FoundEmptied v i → (slot_at sizes ws i ≡ emptied_word) × (0 < privates_at i v)
   pub left : v.slots.left ≡ true → (i : ℕ) → Empties v i → slot_at sizes ws i ≡ left_word
-  pub seen : (i : ℕ) → Sees v i → z.emptying (slot_at sizes ws i) ≡ 0
+  pub seen : (i : ℕ) → Sees v i → HasValue z (slot_at sizes ws i)
 
 -- what is true of any two participants, and of one with itself: a guard that sees a private item's slot has published at most at the item's
 -- retirement; and who closes a collector has not looked past a place whose guard sees what waits for it
