@@ -37,9 +37,11 @@ only_seen v rests i p out = ⊎_elim (λ (m : Moves v i). let e : None ≡ Some 
 -- a participant that keeps its place and its owners, and has the same out
 pub still_mover : (v w : View) → w.stakes.moves ≡ v.stakes.moves → (HasPlace v.epoch → HasPlace w.epoch) → ((i : ℕ) → Owns v i → Owns w i)
     → ((i : ℕ) → 0 < items_at i v → 0 < items_at i w) → ((i : ℕ) → Empties v i → Empties w i) → IsMover v → IsMover w
-still_mover v w same lives owns waits empties is i m = let o = is i (sym same ∙ m) in
-    (lives o.0, ⊎_elim (λ (a : Owns v i). inl (owns i a)) (λ (r : (0 < items_at i v) ⊎ Empties v i). inr (⊎_elim
-    (λ (a : 0 < items_at i v). inl (waits i a)) (λ (a : Empties v i). inr (empties i a)) r)) o.1)
+still_mover v w same lives owns waits empties is i m = let o = is i (sym same ∙ m) in (
+  lives o.0,
+  ⊎_elim (λ (a : Owns v i). inl (owns i a)) (λ (r : (0 < items_at i v) ⊎ Empties v i). inr (⊎_elim
+      (λ (a : 0 < items_at i v). inl (waits i a)) (λ (a : Empties v i). inr (empties i a)) r)) o.1,
+)
 
 -- what lies at home as full as the slot is
 shown_as : (γ i n p f f' : ℕ) (y : ValueFraction) → f' ≡ f → Has γ i (share n (away n f) p) (MatchesSlotWord f) y → Has γ i (share n (away n f') p)
