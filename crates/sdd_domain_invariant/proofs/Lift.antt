@@ -190,7 +190,7 @@ module _ (γ : ℕ) (sizes : Sizes) (slots id : ℕ) (me : SeatState) (i : ℕ) 
         more = λ j p out. ⊎_elim (λ (m : Moves me.0 j). inl m)
             (λ (o : SeesFrom me.0 j p). inr (o.0, stays (get_or s.words i 0) e t.2 (own.guarded j o.0) ∙ o.1)) out;
         same = λ j _. before_slots sizes s.words i y j (omega arith);
-        mover = still_mover me.0 (record me.0 { epoch = e }) refl (lives (get_or s.words i 0) e t.2) (λ _ o. o) (λ _ o. o) (h.homes.moving id me.0 at);
+        mover = still_mover me.0 (record me.0 { epoch = e }) refl (lives (get_or s.words i 0) e t.2) (λ _ o. o) (λ _ o. o) (λ _ o. o) (h.homes.moving id me.0 at);
         alike = (refl, refl, refl, (λ _. refl), refl);
         counts = refl;
         lives = lives (get_or s.words i 0) e t.2;
@@ -222,7 +222,7 @@ module _ (γ : ℕ) (sizes : Sizes) (slots : ℕ) where
       let same = λ (j : ℕ) (_ : j < sizes.slots). before_slots sizes s.words i y j (omega arith) in let n : ℕ = sizes.participants in
       let more : (j p : ℕ) → FractionIsTaken v j p → FractionIsTaken (record v { epoch = e }) j p
       = λ j p out. ⊎_elim (λ (m : Moves v j). inl m) (λ (o : SeesFrom v j p). inr (o.0, (stays e t.2).1 ∙ o.1)) out in
-      let movers = still_mover v (record v { epoch = e }) refl (λ _. (stays e t.2).0) (λ _ o. o) (λ _ o. o) (h.homes.moving id v at) in
+      let movers = still_mover v (record v { epoch = e }) refl (λ _. (stays e t.2).0) (λ _ o. o) (λ _ o. o) (λ _ o. o) (h.homes.moving id v at) in
       subst (IsCalm γ sizes slots id me i (λ _. y) s y) (sym t.1) (changed_or_not v calm
       record {
         more = more;
@@ -241,7 +241,7 @@ module _ (γ : ℕ) (sizes : Sizes) (slots : ℕ) where
         more = more;
         same = same;
         mover = still_mover v (record v { epoch = e; slots = aged_slots v.slots }) refl (λ _. (stays e t.2).0) (λ _ o. o)
-            (λ j o. let k = total_map (waits_in j) older (λ x. refl) v.slots.waits in omega arith) (h.homes.moving id v at);
+            (λ j o. let k = total_map (waits_in j) older (λ x. refl) v.slots.waits in omega arith) (λ _ o. o) (h.homes.moving id v at);
         alike = (refl, refl, refl, (λ j. total_map (waits_in j) older (λ x. refl) v.slots.waits), refl);
         counts = refl;
         lives = λ _. (stays e t.2).0;
