@@ -48,6 +48,10 @@ closes-one : (old new : Participant) (n : ℕ) → old.guards ≡ n + 1 → Guar
 closes-one old new n g c =
     ap (λ (p : Participant). p.guards) c.own ∙ closed-guards c.marked (adopting c.left old) n g (nat_lt 1 old.guards) refl
 
+-- a guard under which no other is opened or closed leaves as many open as before
+pub guard-over : (a b c d : Participant) → GuardOpened a b → c.guards ≡ b.guards → GuardClosed c d → d.guards ≡ a.guards
+guard-over a b c d opens same closes = closes-one c d a.guards (same ∙ opens-one a b opens) closes
+
 pub exact-on : (s r : CallerId) → r ≡ s → IsExact s → IsExact r
 exact-on s r e exact = subst (λ (x : CallerId). IsExact x) (sym e) exact
 
