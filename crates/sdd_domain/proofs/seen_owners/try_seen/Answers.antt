@@ -98,9 +98,12 @@ pub part_with-requires-clause-told : goal.part_with-requires-clause-told
 part_with-requires-clause-told c = let s = c.args.token.now in let k = c.look-word.ensures in let word : ℕ = c.look-word.result in let slot : ℕ = c.args.slot in
     let e = c.add_seen.ensures in let hit = e.2.0 c.if-add_seen-word.false in let value : Gv = hit.0 in
     let is : c.add_seen.new.token.me.0 ≡ owning_more slot value (one_more slot (word + 1) None s.me.0)
-    = ap (λ (m : SeatState). m.0) hit.2 ∙ ap (λ (v : View). owning_more slot value (one_more slot (word + 1) None v)) k.3.0 in
-    (true, value, hit.1.code,
-    ap (λ (v : View). v.stakes.owns) is ∙ ap (λ (l : List ShownValue). record { slot = slot; shared = true; value = value } ∷ l) c.requires.bare.untold)
+    = ap (λ (m : SeatState). m.0) hit.2 ∙ ap (λ (v : View). owning_more slot value (one_more slot (word + 1) None v)) k.3.0 in (
+      true,
+      value,
+      hit.1.code,
+      ap (λ (v : View). v.stakes.owns) is ∙ ap (λ (l : List ShownValue). record { slot = slot; shared = true; value = value } ∷ l) c.requires.bare.untold,
+    )
 
 pub returns : goal.returns
 returns c = let s = c.args.token.now in let k = c.look-word.ensures in let word : ℕ = c.look-word.result in let slot : ℕ = c.args.slot in

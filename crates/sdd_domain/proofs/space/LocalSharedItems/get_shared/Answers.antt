@@ -9,8 +9,10 @@ use Rattle.sdd_domain.proofs.space.LocalSharedItems.get_shared.Goals as goal
 pub own_seen-requires : goal.own_seen-requires
 own_seen-requires g c = let v : LocalModel g.row.T.Denot g.row.J.Denot = (c.self-inside.view_is 0).partner in
     let inner : v ≡ c.self.inside.partner = ap (λ (i : Inside g.row.T.Denot g.row.J.Denot). i.partner) c.self-inside.view_is in
-    record { still = still_known g.row.T v v.member c.args.slot c.self-inside.invariant g.T.Item.holds c.args.self.now (inner ∙ c.self.view_is)
-      c.requires.seen }
+    record {
+      still = still_known g.row.T v v.member c.args.slot c.self-inside.invariant g.T.Item.holds c.args.self.now (inner ∙ c.self.view_is)
+          c.requires.seen;
+    }
 
 pub invariant_of-self-inside : goal.invariant_of-self-inside
 invariant_of-self-inside g c = let v : LocalModel g.row.T.Denot g.row.J.Denot = (c.self-inside.view_is 0).partner in
