@@ -1,5 +1,5 @@
 -- What the close of a guard is for the world of a lone participant
-use Rattle.std.proofs.Common.{◌≡◌, ℕ, ◌+◌, ◌∷◌, [], Some, false, rules, ap, sym, ◌∙◌}
+use Rattle.std.proofs.Common.{◌≡◌, ℕ, ◌+◌, ◌∷◌, [], Some, false, rules, ap, ◌∙◌}
 use Rattle.sdd_participants.specs.EpochState.{EpochState}
 use Rattle.sdd_participants.specs.EpochState as time
 use Rattle.sdd_participants.specs.declared.participant.Participant.{Participant}
@@ -7,8 +7,7 @@ use Rattle.sdd_participants.specs.declared.place_states.PlaceState.TheVariants.{
 use Rattle.sdd_core.specs.declared.limits.Limits.{Limits}
 use Rattle.sdd_space.specs.ParticipantChanges.{closed_with}
 use Rattle.sdd_space.specs.WorldChanges.{closed}
-use Rattle.sdd_space.specs.World.{World}
-use Rattle.sdd_domain.specs.LocalState.{LocalState, IsLone, GuardCloses, HasOpenGuard}
+use Rattle.sdd_domain.specs.LocalState.{LocalState, IsLone, GuardCloses}
 use Rattle.sdd_domain.specs.WordsAndValues.{AreTied}
 use Rattle.sdd_domain.specs.Local.{LocalModel, world_of}
 use Rattle.sdd_domain.proofs.Alone.{alone, steps_alone}

@@ -1,5 +1,5 @@
 -- What an opening reclaims is counted
-use Rattle.std.proofs.Common.{◌≡◌, ◌≢◌, ◌⊎◌, ℕ, ◌<◌, Bool, true, false, List, [], sym, ap, ◌∙◌, subst, ⊎_elim, arith}
+use Rattle.std.proofs.Common.{◌≡◌, ℕ, Bool, false, List, [], sym, ap, ◌∙◌, ⊎_elim, arith}
 use Rattle.std.specs.Prelude.{Result, Ok, Err, MatchResult}
 use Rattle.sdd_core.specs.declared.refused.Refused.{Refused}
 use Rattle.sdd_participants.specs.EpochState as time
@@ -9,7 +9,7 @@ use Rattle.sdd_domain.specs.OpeningTally.{CountsReclaimed}
 use Rattle.sdd_domain.specs.Receipt.{with_reclaimed}
 use Rattle.sdd_domain.specs.WaitingItems.{items_in, due_at}
 use Rattle.sdd_domain.proofs.Arrivals.{due_stayed}
-use Rattle.sdd_domain.proofs.Guarding.{WasIdle, is_over, stands}
+use Rattle.sdd_domain.proofs.Guarding.{WasIdle, is_over}
 
 -- beside an open guard nothing is
 pub beside : {J : Type 0} (old new : LocalState J) → HasOpenGuard old → new.tally ≡ old.tally → CountsReclaimed old new

@@ -18,7 +18,7 @@ use Rattle.sdd_word_invariant.proofs.Codes.{none_left, owned_is, shared, waiting
 use Rattle.sdd_space.specs.OwnerOrCell.{OwnerOrCell}
 use Rattle.sdd_space.specs.Refusals.{IsRefusedBy}
 use Rattle.sdd_space.specs.Undisturbed.{Undisturbed}
-use Rattle.sdd_space.specs.World.{standing_at, value_at}
+use Rattle.sdd_space.specs.World.{standing_at}
 use Rattle.sdd_space.specs.WorldChanges.{with_standing}
 use Rattle.sdd_domain.specs.Items.{HasValue, IsRightTo, IsSameOwner}
 use Rattle.sdd_domain.specs.Laws.{same_value}

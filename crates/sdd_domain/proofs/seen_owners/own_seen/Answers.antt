@@ -4,7 +4,6 @@ use Rattle.sdd_shared_values.specs.declared.value_fraction.ValueFraction.{ValueF
 use Rattle.sdd_views.specs.declared.View.{View}
 use Rattle.sdd_domain_invariant.specs.FractionSteps.{IsStill}
 use Rattle.sdd_domain.specs.Cells.{IsWith}
-use Rattle.sdd_domain.specs.declared.seen_owners.Tried.{Tried}
 use Rattle.sdd_domain.specs.declared.seen_owners.Tried.TheVariants.{Came, Gone, Most, Lost}
 use Rattle.sdd_domain.specs.SeenOwners.{Tries}
 use Rattle.sdd_domain.proofs.seen_owners.own_seen.Goals as goal

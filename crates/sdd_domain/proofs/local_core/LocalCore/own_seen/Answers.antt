@@ -1,8 +1,6 @@
-use Rattle.std.proofs.Common.{◌≡◌, ◌⊎◌, ℕ, inl, inr, ⊎_elim, refl, ap, sym, ◌∙◌, subst}
+use Rattle.std.proofs.Common.{◌≡◌, ℕ, inl, inr, ⊎_elim, refl, ap, sym, ◌∙◌, subst}
 use Rattle.std.specs.Prelude.{IfSome}
 use base.Stored.{Gv}
-use Rattle.atomic_table.specs.declared.shared.Seat.{Seat}
-use Rattle.sdd_shared_values.specs.declared.value_fraction.ValueFraction.{ValueFraction}
 use Rattle.sdd_views.specs.declared.View.{View}
 use Rattle.sdd_views.specs.declared.Sizes.{Sizes}
 use Rattle.sdd_rights.specs.Right.{home_of_table}
