@@ -1,5 +1,5 @@
 -- A step that keeps the words' parts, the homes' part, what is known of what slots show and of owners, and the counts is a step of the table.
-use Rattle.std.proofs.Common.{◌≡◌, ◌⊎◌, inl, inr, ℕ, ◌^◌, ◌<◌, List, map, get_or, set, sym, refl, ap, ◌∙◌, subst, ⊎_elim, arith, length-set, eq-eqb, ne_eqb}
+use Rattle.std.proofs.Common.{◌≡◌, ◌⊎◌, inl, inr, ℕ, ◌^◌, ◌<◌, List, get_or, set, sym, refl, ap, ◌∙◌, subst, ⊎_elim, arith, length-set, eq-eqb, ne_eqb}
 use Rattle.std.specs.Prelude.{None}
 use mathlib.Core.Bool.{cond}
 use mathlib.Core.Option.{some}
