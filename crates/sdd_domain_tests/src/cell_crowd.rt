@@ -44,7 +44,7 @@ fn works(
     counts: &Counts,
     cells: &FewCells<Counted>,
 ) -> Receipt<Counted>
-    requires { AreFewOf (cells_in domain.now) cells.now }
+    requires few { AreFewOf (cells_in domain.now) cells.now }
     ensures { IsReceiptIn (slots_in domain.now) result }
 {
     let mut drawn = Generator::new(counts.seeds.fetch_add(1, Ordering::SeqCst));
@@ -60,7 +60,7 @@ fn two(
     counts: &Counts,
     cells: &FewCells<Counted>,
 ) -> (Receipt<Counted>, Receipt<Counted>)
-    requires { AreFewOf (cells_in domain.now) cells.now }
+    requires few { AreFewOf (cells_in domain.now) cells.now }
     ensures { IsReceiptIn (slots_in domain.now) result.0 × IsReceiptIn (slots_in domain.now) result.1 }
 {
     join(
@@ -77,13 +77,17 @@ fn four(
     counts: &Counts,
     cells: &FewCells<Counted>,
 ) -> Vec<Receipt<Counted>>
-    requires { AreFewOf (cells_in domain.now) cells.now }
+    requires few { AreFewOf (cells_in domain.now) cells.now }
     ensures { AreReceiptsIn (slots_in domain.now) result.items }
 {
     let ((first, second), (third, fourth)) = join(
         rt,
-        || two(rt, domain, counts, cells),
-        || two(rt, domain, counts, cells),
+        ||
+            requires { AreFewOf (cells_in domain.now) cells.now }
+        { two(rt, domain, counts, cells) },
+        ||
+            requires { AreFewOf (cells_in domain.now) cells.now }
+        { two(rt, domain, counts, cells) },
     );
     vec![in rt.alloc(); first, second, third, fourth].expect(rt, "there is memory")
 }
@@ -95,13 +99,17 @@ fn eight(
     counts: &Counts,
     cells: &FewCells<Counted>,
 ) -> Vec<Receipt<Counted>>
-    requires { AreFewOf (cells_in domain.now) cells.now }
+    requires few { AreFewOf (cells_in domain.now) cells.now }
     ensures { AreReceiptsIn (slots_in domain.now) result.items }
 {
     let (mut receipts, others) = join(
         rt,
-        || four(rt, domain, counts, cells),
-        || four(rt, domain, counts, cells),
+        ||
+            requires { AreFewOf (cells_in domain.now) cells.now }
+        { four(rt, domain, counts, cells) },
+        ||
+            requires { AreFewOf (cells_in domain.now) cells.now }
+        { four(rt, domain, counts, cells) },
     );
     add_all(rt, domain, &mut receipts, others);
     receipts

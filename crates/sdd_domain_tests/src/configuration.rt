@@ -1,4 +1,4 @@
-//! A configuration of three threads: two make it wider by exchanges, and one looks.
+//! A configuration of two threads: one makes it wider by exchanges, and one looks.
 ghost use Rattle.std.specs.Prelude.{◌≡◌};
 ghost use Rattle.sdd_space.specs.CallerId.{IsSeated};
 ghost use Rattle.sdd_space.specs.Shared as shared;
@@ -87,29 +87,22 @@ fn new_config(rt: &impl Abort, local: &mut Local<'_, Bounds>) -> AtomicShared<Bo
     }
 }
 
-/// What three threads leave, and how often bounds were published.
-fn three_work(
-    rt: &(impl Abort + AllocGlobal + Threads + Sync),
+/// What two threads leave, one that makes the bounds wider and one that looks, and how often they were made wider.
+fn two_work(
+    rt: &(impl Abort + Threads + Sync),
     domain: &Domain<Bounds>,
     config: &AtomicShared<Bounds>,
-) -> (u64, (Receipt<Bounds>, Receipt<Bounds>, Receipt<Bounds>))
+) -> (u64, (Receipt<Bounds>, Receipt<Bounds>))
     requires { shared.cells_home config.now ≡ cells_in domain.now }
     ensures first { IsReceiptIn (slots_in domain.now) result.1.0 }
     ensures second { IsReceiptIn (slots_in domain.now) result.1.1 }
-    ensures third { IsReceiptIn (slots_in domain.now) result.1.2 }
 {
-    let (((times, one), (more, other)), reader) = join(
+    let ((times, writer), reader) = join(
         rt,
-        || {
-            join(
-                rt,
-                || widens(rt, domain, config),
-                || widens(rt, domain, config),
-            )
-        },
+        || widens(rt, domain, config),
         || looks(rt, domain, config),
     );
-    (times.saturating_add(more), (one, other, reader))
+    (times, (writer, reader))
 }
 
 /// An exchange that answers that it was done was, and no other one.
@@ -118,7 +111,7 @@ fn the_bounds_are_as_wide_as_was_published(rt: HostRuntime) {
     let domain = new_domain::<Bounds>(&rt, LIMITS);
     let mut local = registered(&rt, &domain);
     let config = new_config(&rt, &mut local);
-    let (times, (one, other, reader)) = three_work(&rt, &domain, &config);
+    let (times, (writer, reader)) = two_work(&rt, &domain, &config);
     assert!(rt; times > 0);
     assert_eq!(rt; width(&rt, &mut local, &config), times);
     match publish(&config, narrow(&rt), &mut local) {
@@ -126,7 +119,7 @@ fn the_bounds_are_as_wide_as_was_published(rt: HostRuntime) {
         Err((_bounds, refused)) => panic!(rt; "refused: {refused:?}"),
     }
     config.close(&mut local);
-    let mut receipts = vec![in rt.alloc(); one, other, reader].expect(&rt, "there is memory");
+    let mut receipts = vec![in rt.alloc(); writer, reader].expect(&rt, "there is memory");
     add(&rt, &domain, &mut receipts, ended(&rt, local));
     let tally = closed(&rt, domain, receipts);
     assert_eq!(rt; tally.reclaimed, tally.made);

@@ -45,7 +45,7 @@ fn replaces(rt: &impl Abort, local: &mut Local<'_, u64>, cell: &AtomicShared<u64
 
 /// What the writer's thread does.
 fn writes(rt: &impl Abort, domain: &Domain<u64>, cell: &AtomicShared<u64>) -> Receipt<u64>
-    requires { shared.cells_home cell.now ≡ cells_in domain.now }
+    requires home { shared.cells_home cell.now ≡ cells_in domain.now }
     ensures { IsReceiptIn (slots_in domain.now) result }
 {
     let mut local = registered(rt, domain);
@@ -76,7 +76,7 @@ fn looks_twice(rt: &impl Abort, local: &mut Local<'_, u64>, cell: &AtomicShared<
 
 /// What a reader's thread does. What it sees is never older than what it saw.
 fn reads(rt: &impl Abort, domain: &Domain<u64>, cell: &AtomicShared<u64>) -> Receipt<u64>
-    requires { shared.cells_home cell.now ≡ cells_in domain.now }
+    requires home { shared.cells_home cell.now ≡ cells_in domain.now }
     ensures { IsReceiptIn (slots_in domain.now) result }
 {
     let mut local = registered(rt, domain);
@@ -95,10 +95,29 @@ fn two_read(
     domain: &Domain<u64>,
     cell: &AtomicShared<u64>,
 ) -> (Receipt<u64>, Receipt<u64>)
-    requires { shared.cells_home cell.now ≡ cells_in domain.now }
+    requires home { shared.cells_home cell.now ≡ cells_in domain.now }
     ensures { IsReceiptIn (slots_in domain.now) result.0 × IsReceiptIn (slots_in domain.now) result.1 }
 {
     join(rt, || reads(rt, domain, cell), || reads(rt, domain, cell))
+}
+
+/// What a writer leaves, and two readers beside it.
+fn three_share(
+    rt: &(impl Abort + Threads + Sync),
+    domain: &Domain<u64>,
+    cell: &AtomicShared<u64>,
+) -> (Receipt<u64>, (Receipt<u64>, Receipt<u64>))
+    requires home { shared.cells_home cell.now ≡ cells_in domain.now }
+    ensures writer { IsReceiptIn (slots_in domain.now) result.0 }
+    ensures readers { IsReceiptIn (slots_in domain.now) result.1.0 × IsReceiptIn (slots_in domain.now) result.1.1 }
+{
+    join(
+        rt,
+        || writes(rt, domain, cell),
+        ||
+            requires { shared.cells_home cell.now ≡ cells_in domain.now }
+        { two_read(rt, domain, cell) },
+    )
 }
 
 /// A cell that holds the number 0.
@@ -118,11 +137,7 @@ fn readers_look_at_what_a_writer_replaces(rt: HostRuntime) {
     let domain = new_domain::<u64>(&rt, LIMITS);
     let mut local = registered(&rt, &domain);
     let cell = new_cell(&rt, &mut local);
-    let (written, (one, other)) = join(
-        &rt,
-        || writes(&rt, &domain, &cell),
-        || two_read(&rt, &domain, &cell),
-    );
+    let (written, (one, other)) = three_share(&rt, &domain, &cell);
     cell.close(&mut local);
     let mut receipts = vec![in rt.alloc(); written, one, other].expect(&rt, "there is memory");
     add(&rt, &domain, &mut receipts, ended(&rt, local));
