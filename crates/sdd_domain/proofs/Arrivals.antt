@@ -9,19 +9,19 @@ use Rattle.sdd_participants.specs.Waiting.{Waiting, aged, due, left}
 use Rattle.sdd_participants.specs.EpochState.{nested, rotated, settled, due_next}
 use Rattle.sdd_shared_values.specs.declared.value_fraction.ValueFraction.{ValueFraction}
 use Rattle.sdd_views.specs.declared.EpochView.{EpochView}
-use Rattle.sdd_views.specs.declared.SlotsView.{SlotsView}
+use Rattle.sdd_views.specs.declared.PrivateItem.{PrivateItem}
 use Rattle.sdd_views.specs.declared.WaitingItem.{WaitingItem}
 use Rattle.sdd_views.specs.declared.View.{View}
 use Rattle.sdd_word_invariant.specs.Epoch.{IsLone}
 use Rattle.sdd_word_invariant.specs.EpochSteps.{knowing, counted, published, Reads, Counts}
 use Rattle.sdd_word_invariant.specs.Sums.{total}
 use Rattle.sdd_word_invariant.specs.Slots.{waits_in}
-use Rattle.sdd_word_invariant.specs.SlotSteps.{older, changed}
+use Rattle.sdd_word_invariant.specs.SlotSteps.{older, older_private, aged as aged_slots, changed}
 use Rattle.sdd_word_invariant.proofs.Sums.{total_map}
 use Rattle.sdd_atomics.specs.declared.domain_table.DomainTable.{DomainTable}
 use Rattle.sdd_atomics.specs.DomainTable.{slots_of}
 use Rattle.sdd_atomics.specs.DomainSeat.{view, epoch, slots, Stepped, HasPublished}
-use Rattle.sdd_domain.specs.WaitingItems.{what_of, waiting_of, ripe, unripe, aged_at, due_at, arrived_at, Arrives, HasArrived}
+use Rattle.sdd_domain.specs.WaitingItems.{what_of, waiting_of, ripe, unripe, aged_at, aged_privates_at, due_at, arrived_at, Arrives, HasArrived}
 use Rattle.sdd_domain.specs.BetweenCalls.{IsBetweenCalls}
 use Rattle.sdd_domain.proofs.Reclaims.{aged_alike, left_alike, due_alike, all_left}
 use Rattle.sdd_domain.proofs.Posing.{posed_arrived, has_place}
@@ -41,10 +41,10 @@ pub same_items : (i : ℕ) (xs : List WaitingItem) → total (waits_in i) (map o
 same_items i xs = total_map (waits_in i) older (λ x. refl) xs
 
 pub unchanged : (v : View) → v.epoch.count ≡ v.epoch.found → changed v ≡ v.slots
-unchanged v e = ap (λ (b : Bool). if b then v.slots else record v.slots { waits = map older v.slots.waits }) (eq-eqb v.epoch.count v.epoch.found e)
+unchanged v e = ap (λ (b : Bool). if b then v.slots else aged_slots v.slots) (eq-eqb v.epoch.count v.epoch.found e)
 
-pub has_changed : (v : View) → v.epoch.count ≢ v.epoch.found → changed v ≡ record v.slots { waits = map older v.slots.waits }
-has_changed v ne = ap (λ (b : Bool). if b then v.slots else record v.slots { waits = map older v.slots.waits }) (ne_eqb v.epoch.count v.epoch.found ne)
+pub has_changed : (v : View) → v.epoch.count ≢ v.epoch.found → changed v ≡ aged_slots v.slots
+has_changed v ne = ap (λ (b : Bool). if b then v.slots else aged_slots v.slots) (ne_eqb v.epoch.count v.epoch.found ne)
 
 module _ (count : ℕ) (own : Participant) where
   pub stayed : own.found ≡ count → arrived_at count own ≡ own
@@ -58,6 +58,12 @@ module _ (count : ℕ) (own : Participant) where
 
   aged_moved : (xs : List WaitingItem) → own.found ≢ count → aged_at count own xs ≡ map older xs
   aged_moved xs ne = ap (λ (b : Bool). if b then xs else map older xs) (ne_eqb own.found count ne)
+
+  privates_stayed : (xs : List PrivateItem) → own.found ≡ count → aged_privates_at count own xs ≡ xs
+  privates_stayed xs e = ap (λ (b : Bool). if b then xs else map older_private xs) (eq-eqb own.found count e)
+
+  privates_moved : (xs : List PrivateItem) → own.found ≢ count → aged_privates_at count own xs ≡ map older_private xs
+  privates_moved xs ne = ap (λ (b : Bool). if b then xs else map older_private xs) (ne_eqb own.found count ne)
 
   pub due_stayed : own.found ≡ count → due_at count own ≡ []
   due_stayed e = ap (λ (b : Bool). if b then [] else due_next own) (eq-eqb own.found count e)
@@ -114,7 +120,7 @@ module _ (b : DomainTable) (p : ℕ) (own : Participant) (count : ℕ) where
       let keeps : slots u ≡ slots s = pub_.2 ∙ (unchanged (view t) found ∙ read.0.2) in
       let lone : IsLone e → g ≡ count
       = λ one. pub_.4.3 (ap (λ (x : EpochView). x.all) read.1.0 ∙ one) ∙ ap (λ (x : EpochView). x.known) read.1.0 in (
-        posed_arrived b p own own count g s.me.0.slots.waits s u q (pub_.0.0 ∙ read.0.0.0) (pub_.0.2 ∙ read.0.0.2) (pub_.0.3 ∙ read.0.0.3)
+        posed_arrived b p own own count g s.me.0.slots.waits s.me.0.slots.privates s u q (pub_.0.0 ∙ read.0.0.0) (pub_.0.2 ∙ read.0.0.2) (pub_.0.3 ∙ read.0.0.3)
             (λ i. record ((pub_.0.4 ∙ read.0.0.4) i) { counts = s.me.0.stakes.counts }) (pub_.0.5 ∙ read.0.0.5) (pub_.0.6 ∙ read.0.0.6) epochs low lone keeps
             (λ i. omega arith) same shut q.bags refl q.pace q.idle,
         record {
@@ -127,7 +133,10 @@ module _ (b : DomainTable) (p : ℕ) (own : Participant) (count : ℕ) where
           knows = (let f = ap (λ (x : EpochView). x.since) epochs in omega arith);
           known = ap (λ (x : EpochView). x.known) epochs ∙ sym (ap (λ (x : EpochView). x.since) epochs);
           lone = λ one. let k = read.1.3 one (has_place b p own s q) in (k, ap (λ (x : EpochView). x.since) epochs ∙ (lone one ∙ k));
-          slots = keeps ∙ sym (ap (λ (xs : List WaitingItem). record s.me.0.slots { waits = xs }) (aged_stayed count own s.me.0.slots.waits same));
+          slots = keeps ∙ sym (λ d. record s.me.0.slots {
+            waits = aged_stayed count own s.me.0.slots.waits same d;
+            privates = privates_stayed count own s.me.0.slots.privates same d;
+          });
           words = pub_.3 ∙ read.0.3;
         },
       )
@@ -137,10 +146,10 @@ module _ (b : DomainTable) (p : ℕ) (own : Participant) (count : ℕ) where
     known_now : epoch u ≡ counted (knowing (epoch s) count) count
     known_now = write.1 ∙ ap (λ (x : EpochView). counted x count) read.1.0
 
-    pub older_now : slots w ≡ record s.me.0.slots { waits = map older s.me.0.slots.waits }
+    pub older_now : slots w ≡ aged_slots s.me.0.slots
     older_now = pub_.2 ∙ (has_changed (view u)
         (λ e. apart (sym q.found ∙ (sym (ap (λ (x : EpochView). x.found) known_now) ∙ (sym e ∙ ap (λ (x : EpochView). x.count) known_now))))
-        ∙ ap (λ (l : SlotsView). record l { waits = map older l.waits }) (write.0.2 ∙ read.0.2))
+        ∙ ap aged_slots (write.0.2 ∙ read.0.2))
 
     -- another count is found: what waits has seen one change more, and what is due comes out of the bags
     pub arrived_moved : own.guards ≡ 0 → ripe s.me.0.slots.waits ≡ [] → IsBetweenCalls b p (nested (rotated count own)) w × Arrives count own s w
@@ -159,7 +168,7 @@ module _ (b : DomainTable) (p : ℕ) (own : Participant) (count : ℕ) where
         = ap (λ (ws : List Waiting). left (aged ws)) (q.bags ∙ ap (map (waiting_of (slots_of b))) all)
         ∙ (ap left (aged_alike (slots_of b) xs) ∙ left_alike (slots_of b) (map older xs)) in
         let idle : own.countdown ≡ 128 → left (aged own.bags.waiting) ≡ [] = λ full. ap (λ (ws : List Waiting). left (aged ws)) (q.idle full) in (
-          posed_arrived b p own (rotated count own) count g (map older xs) s w q table others sizes
+          posed_arrived b p own (rotated count own) count g (map older xs) (map older_private s.me.0.slots.privates) s w q table others sizes
               (λ i. record (stakes i) { counts = s.me.0.stakes.counts }) (pub_.0.5 ∙ (write.0.0.5 ∙ read.0.0.5)) (pub_.0.6 ∙ (write.0.0.6 ∙ read.0.0.6)) epochs low lone older_now
               (λ i. let m = same_items i xs in omega arith)
               refl shut bags refl q.pace idle,
@@ -173,7 +182,10 @@ module _ (b : DomainTable) (p : ℕ) (own : Participant) (count : ℕ) where
             knows = (let f = ap (λ (x : EpochView). x.since) epochs in omega arith);
             known = ap (λ (x : EpochView). x.known) epochs ∙ sym (ap (λ (x : EpochView). x.since) epochs);
             lone = λ one. let k = read.1.3 one (has_place b p own s q) in (k, ap (λ (x : EpochView). x.since) epochs ∙ (lone one ∙ k));
-            slots = older_now ∙ sym (ap (λ (l : List WaitingItem). record s.me.0.slots { waits = l }) (aged_moved count own xs apart));
+            slots = older_now ∙ sym (λ d. record s.me.0.slots {
+              waits = aged_moved count own xs apart d;
+              privates = privates_moved count own s.me.0.slots.privates apart d;
+            });
             words = pub_.3 ∙ (write.0.3 ∙ read.0.3);
           },
         )

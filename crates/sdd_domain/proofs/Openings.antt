@@ -7,7 +7,7 @@ use Rattle.sdd_participants.specs.Waiting.{Waiting, aged, due, left}
 use Rattle.sdd_participants.specs.EpochState.{due_next}
 use Rattle.sdd_participants.specs.EpochState as time
 use Rattle.sdd_views.specs.declared.WaitingItem.{WaitingItem}
-use Rattle.sdd_word_invariant.specs.SlotSteps.{older}
+use Rattle.sdd_word_invariant.specs.SlotSteps.{older, older_private, aged as aged_slots}
 use Rattle.sdd_space.specs.WorldChanges.{nested, rotated}
 use Rattle.sdd_domain.specs.LocalState.{LocalState, IsLone, IsEntered}
 use Rattle.sdd_domain.specs.WaitingItems.{what_of, waiting_of, ripe, unripe}
@@ -45,7 +45,7 @@ module _ {T J : Type 0} (p : LocalModel T J) (tied : AreTied p.member p.entries)
     changed_member = record p.member {
       own = time.nested (time.rotated p.member.known p.member.own);
       since = p.member.known;
-      slots = record p.member.slots { waits = map older p.member.slots.waits };
+      slots = aged_slots p.member.slots;
       due = due_next p.member.own;
     }
 
@@ -60,7 +60,10 @@ module _ {T J : Type 0} (p : LocalModel T J) (tied : AreTied p.member p.entries)
       own = time.nested (if b d then p.member.own else time.rotated count p.member.own);
       known = since d;
       since = since d;
-      slots = record p.member.slots { waits = if b d then p.member.slots.waits else map older p.member.slots.waits };
+      slots = record p.member.slots {
+        waits = if b d then p.member.slots.waits else map older p.member.slots.waits;
+        privates = if b d then p.member.slots.privates else map older_private p.member.slots.privates;
+      };
       due = if b d then [] else due_next p.member.own;
     })
 
@@ -69,7 +72,10 @@ module _ {T J : Type 0} (p : LocalModel T J) (tied : AreTied p.member p.entries)
       own = time.nested (if b d then p.member.own else time.rotated (found d) p.member.own);
       known = since d;
       since = since d;
-      slots = record p.member.slots { waits = if b d then p.member.slots.waits else map older p.member.slots.waits };
+      slots = record p.member.slots {
+        waits = if b d then p.member.slots.waits else map older p.member.slots.waits;
+        privates = if b d then p.member.slots.privates else map older_private p.member.slots.privates;
+      };
       due = if b d then [] else due_next p.member.own;
     })
 

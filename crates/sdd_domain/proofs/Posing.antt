@@ -16,6 +16,7 @@ use Rattle.sdd_views.specs.declared.CountsView.{CountsView}
 use Rattle.sdd_views.specs.declared.ShownValue.{ShownValue}
 use Rattle.sdd_views.specs.declared.FractionsView.{FractionsView}
 use Rattle.sdd_views.specs.declared.PledgesView.{PledgesView}
+use Rattle.sdd_views.specs.declared.PrivateItem.{PrivateItem}
 use Rattle.sdd_views.specs.declared.WaitingItem.{WaitingItem}
 use Rattle.sdd_views.specs.declared.View.{View}
 use Rattle.sdd_word_invariant.specs.Epoch.{HasPlace, IsLone, IsOpen}
@@ -211,16 +212,16 @@ module _ (b : DomainTable) (p : ℕ) where
         idle = q.idle;
       }
 
-  pub posed_arrived : (own new : Participant) (c g : ℕ) (xs : List WaitingItem) (s t : Seat ValueFraction View) → IsBetweenCalls b p own s → t.table_id ≡
-      s.table_id
+  pub posed_arrived : (own new : Participant) (c g : ℕ) (xs : List WaitingItem) (ys : List PrivateItem) (s t : Seat ValueFraction View)
+      → IsBetweenCalls b p own s → t.table_id ≡ s.table_id
       → t.me.1 ≡ s.me.1 → t.me.0.sizes ≡ s.me.0.sizes
       → record t.me.0.stakes { counts = s.me.0.stakes.counts } ≡ s.me.0.stakes → t.me.0.pledges ≡ s.me.0.pledges → t.me.0.cells ≡ s.me.0.cells
       → epoch t ≡ published (counted (knowing (epoch s) c) c) g → c ≤ g → (IsLone (epoch s) → g ≡ c)
-      → slots t ≡ record s.me.0.slots { waits = xs } → ((i : ℕ) → total (waits_in i) xs ≤ items_at i (view s))
+      → slots t ≡ record s.me.0.slots { waits = xs; privates = ys } → ((i : ℕ) → total (waits_in i) xs ≤ items_at i (view s))
       → new.found ≡ c → new.guards ≡ 0 → new.bags.waiting ≡ map (waiting_of (slots_of b)) (unripe xs) → new.bags.room ≡ own.bags.room
       → new.countdown ≤ 128 → (new.countdown ≡ 128 → new.bags.waiting ≡ []) → IsBetweenCalls b p (nested new) t
-  posed_arrived own new c g xs s t q table others sizes stakes pledged cells epochs low one_only keeps fewer found none bags room pace idle =
-      let is : t.me.0 ≡ record t.me.0 { epoch = published (counted (knowing (epoch s) c) c) g; slots = record s.me.0.slots { waits = xs } }
+  posed_arrived own new c g xs ys s t q table others sizes stakes pledged cells epochs low one_only keeps fewer found none bags room pace idle =
+      let is : t.me.0 ≡ record t.me.0 { epoch = published (counted (knowing (epoch s) c) c) g; slots = record s.me.0.slots { waits = xs; privates = ys } }
       = λ i. record t.me.0 { epoch = epochs i; slots = keeps i } in
       subst (λ (v : View). IsBetweenCalls b p (nested new) (record t { me = (v, t.me.1) })) (sym is) record {
         home = table ∙ q.home;

@@ -24,7 +24,7 @@ use Rattle.sdd_word_invariant.specs.CellSteps.{pointer_behind}
 use Rattle.sdd_domain_invariant.specs.Records.{IsIn}
 use Rattle.sdd_domain_invariant.specs.FilledInvariant.{newest}
 use Rattle.sdd_domain_invariant.specs.BankInvariant.{one_where}
-use Rattle.sdd_domain.specs.WaitingItems.{aged_at, due_at, arrived_at}
+use Rattle.sdd_domain.specs.WaitingItems.{aged_slots_at, due_at, arrived_at}
 
 -- the domain, the book of its values' places, its limits, the place, whose guards are the participant's, what it keeps of its own, the greatest count that
 -- it knows, the global count at its last publish (0 before the first), what it made and reclaimed, how many of each its domain has,
@@ -90,7 +90,7 @@ pub record IsEntered {J : Type 0} (count : ℕ) (old new : LocalState J) : Type 
     own = nested (arrived_at count old.own);
     known = new.since;
     since = new.since;
-    slots = record old.slots { waits = aged_at count old.own old.slots.waits };
+    slots = aged_slots_at count old.own old.slots;
     due = due_at count old.own;
   }
   pub knew : old.known ≤ count

@@ -6,12 +6,14 @@ use Rattle.sdd_participants.specs.declared.participant.Participant.{Participant}
 use Rattle.sdd_participants.specs.Waiting.{Waiting}
 use Rattle.sdd_participants.specs.EpochState.{due_next, rotated, settled}
 use Rattle.atomic_table.specs.declared.shared.Seat.{Seat}
+use Rattle.sdd_views.specs.declared.PrivateItem.{PrivateItem}
+use Rattle.sdd_views.specs.declared.SlotsView.{SlotsView}
 use Rattle.sdd_views.specs.declared.WaitingItem.{WaitingItem}
 use Rattle.sdd_views.specs.declared.View.{View}
 use Rattle.sdd_word_invariant.specs.Epoch.{IsLone}
 use Rattle.sdd_word_invariant.specs.Slots.{items_at}
 use Rattle.sdd_domain_invariant.specs.FractionSteps.{with_gone, forgetting}
-use Rattle.sdd_word_invariant.specs.SlotSteps.{given_back, older}
+use Rattle.sdd_word_invariant.specs.SlotSteps.{given_back, older, older_private}
 
 -- what waits, in the bags: the item of a slot, or behind the slots, of which there are so many, the job of a place
 abbrev pub what_of : ℕ → WaitingItem → LimboEntry
@@ -47,6 +49,13 @@ unripe = filter (λ (x : WaitingItem). not (is_ripe x))
 abbrev pub aged_at : ℕ → Participant → List WaitingItem → List WaitingItem
 aged_at count own xs = if own.found == count then xs else map older xs
 
+-- and so has each private item
+abbrev pub aged_privates_at : ℕ → Participant → List PrivateItem → List PrivateItem
+aged_privates_at count own xs = if own.found == count then xs else map older_private xs
+
+abbrev pub aged_slots_at : ℕ → Participant → SlotsView → SlotsView
+aged_slots_at count own s = record s { waits = aged_at count own s.waits; privates = aged_privates_at count own s.privates }
+
 -- what such an opening takes out of the bags
 abbrev pub due_at : ℕ → Participant → List LimboEntry
 due_at count own = if own.found == count then [] else due_next own
@@ -76,5 +85,5 @@ pub record Arrives {S : Type 0} (count : ℕ) (own : Participant) (s s' : Seat S
   pub knows : count ≤ s'.me.0.epoch.since
   pub known : s'.me.0.epoch.known ≡ s'.me.0.epoch.since
   pub lone : IsLone s.me.0.epoch → (count ≡ s.me.0.epoch.known) × (s'.me.0.epoch.since ≡ s.me.0.epoch.known)
-  pub slots : s'.me.0.slots ≡ record s.me.0.slots { waits = aged_at count own s.me.0.slots.waits }
+  pub slots : s'.me.0.slots ≡ aged_slots_at count own s.me.0.slots
   pub words : s'.me.0.words ≡ s.me.0.words

@@ -26,7 +26,7 @@ use Rattle.sdd_views.specs.declared.View.{View}
 use Rattle.sdd_views.specs.declared.Sizes.{Sizes}
 use Rattle.sdd_views.specs.Views.{no_rights, owner_of, right_to}
 use Rattle.sdd_word_invariant.specs.Words.{cell_word, slot_word, words_behind}
-use Rattle.sdd_word_invariant.specs.Codes.{alive, full, counted, names, held_slots}
+use Rattle.sdd_word_invariant.specs.Codes.{codes, alive, valued, counted, names, held_slots}
 use Rattle.sdd_word_invariant.specs.Epoch.{HasPlace, IsOpen}
 use Rattle.sdd_word_invariant.specs.Sums.{times, total}
 use Rattle.sdd_word_invariant.specs.Slots.{slot_at, items_at, Owns}
@@ -61,7 +61,10 @@ use Rattle.sdd_domain_invariant.proofs.Lift.{Keeps, Follows, keeps_ended, lift_h
 use Rattle.sdd_domain_invariant.proofs.KindSteps.{has_first, knows_still, same_within, bound_kept, pledges_spent, no_participants}
 use Rattle.sdd_domain_invariant.proofs.KindSteps as kind_steps
 use Rattle.sdd_domain_invariant.proofs.RawSteps as raws
+use Rattle.sdd_domain_invariant.proofs.Steps.{not_emptied}
 use Rattle.sdd_domain_invariant.proofs.Steps as steps
+use Rattle.sdd_word_invariant.specs.Collectors.{Empties}
+use Rattle.sdd_word_invariant.proofs.Collectors.{plain_alive}
 
 -- whether a word counts its slot's owners
 flag_of : (x : ℕ) → (shared : Bool) × (counted x ≡ one_where shared)
@@ -200,7 +203,7 @@ module _ (slots id : ℕ) (me : SeatState) (live : HasPlace me.0.epoch) (rests :
         slots_stay j = get_or-set_other s.words i (slot_word sizes j) y 0 (λ e. omega arith)
 
         full_stay : (j : ℕ) → j < sizes.slots → full_at sizes after j ≡ full_at sizes s.words j
-        full_stay j _ = ap full (slots_stay j)
+        full_stay j _ = ap valued (slots_stay j)
 
         here : cell_at sizes after cell ≡ y
         here = get_or-set_same s.words i y 0 within
@@ -221,8 +224,10 @@ module _ (slots id : ℕ) (me : SeatState) (live : HasPlace me.0.epoch) (rests :
         still slot named j u e m = let c : IsInCell sizes s.words slot = (cell, inside, named) in let alive_now = in_cell_alive sizes s.words s.views h.kept.parts.slots slot c in ⊎_elim
             (λ (o : Owns u slot). let one = (h.kinds.each j u e).sole slot m o in
             let b = in_cell_beside sizes s.words s.views h.kept.parts.slots slot c j u e in absurd (omega arith))
+            (λ (r : (0 < items_at slot u) ⊎ Empties u slot). ⊎_elim
             (λ (o : 0 < items_at slot u). let t = total_has (items_at slot) s.views j u e in let w = h.kept.parts.slots.waited slot in
             let quiet = (sound.lives (slot_at sizes s.words slot) alive_now).0 in absurd (omega arith))
+            (λ (o : Empties u slot). not_emptied γ sizes s h slot j u e (plain_alive codes sound (slot_at sizes s.words slot) alive_now).1 o) r)
             (h.homes.moving j u e slot m).1
 
         -- what a lone participant knows of an item whose owner is in the cell
@@ -332,7 +337,7 @@ module _ (slots id : ℕ) (me : SeatState) (live : HasPlace me.0.epoch) (rests :
 
             is_value : IsValueCode shown_value
             is_value = let a = in_cell_alive sizes s.words s.views h.kept.parts.slots slot (cell, inside, named) in
-                (h.homes.home slot n last.0 low (omega arith) last.1).1.0 (sound.lives (slot_at sizes s.words slot) a).1
+                (h.homes.home slot n last.0 low (omega arith) last.1).1.0 (sound.valued (slot_at sizes s.words slot) a)
 
             knew_stored : KnewStored slot shared shown_value v
             knew_stored lone = let one_place = steps.one_place γ sizes s h id v at lone in stored_known one_place slot shared shown_value
@@ -769,7 +774,7 @@ module _ (slots id : ℕ) (me : SeatState) (live : HasPlace me.0.epoch) (rests :
           let named : 0 < names slot x = (let e = held_in x slot in let o = ap (times slot) held.1 in let l = is_same slot slot refl in omega arith) in
           let in_it : IsInCell sizes s.words slot = (cell, inside, named) in let low = h.kinds.cells.inside slot in_it in
           let alive_now = in_cell_alive sizes s.words s.views h.kept.parts.slots slot in_it in
-          let full_now : full_at sizes s.words slot ≡ 1 = (sound.lives (slot_at sizes s.words slot) alive_now).1 in let calm = still s h at slot named in
+          let full_now : full_at sizes s.words slot ≡ 1 = sound.valued (slot_at sizes s.words slot) alive_now in let calm = still s h at slot named in
           let last = raws.last_home slots id me live slot low s h calm in let z : ValueFraction = last.0 in let value : Gv = z.lot.shown in
           let shows_all = raws.all_shown slots id me live slot low s h calm in let flag = flag_of (slot_at sizes s.words slot) in let shared : Bool = flag.0 in
           let knew : KnewStored slot shared value v = λ lone. let one_place = steps.one_place γ sizes s h id v at lone in

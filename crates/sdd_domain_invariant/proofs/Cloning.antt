@@ -24,7 +24,7 @@ use Rattle.sdd_shared_values.specs.Bank.{Leaves, AllowsDeal}
 use Rattle.sdd_shared_values.specs.declared.value_fraction.ValueFraction.{ValueFraction}
 use Rattle.sdd_shared_values.proofs.Deposits.{draws}
 use Rattle.sdd_word_invariant.specs.Words.{slot_word}
-use Rattle.sdd_word_invariant.specs.Codes.{codes, alive, full, counted as kind_of, shared_base, most_owners}
+use Rattle.sdd_word_invariant.specs.Codes.{codes, alive, valued, counted as kind_of, shared_base, most_owners}
 use Rattle.sdd_word_invariant.specs.Epoch.{HasPlace}
 use Rattle.sdd_word_invariant.specs.Sums.{total, times}
 use Rattle.sdd_word_invariant.specs.Slots.{slot_at, owners_at, Owns, Holds}
@@ -281,9 +281,9 @@ module _ (slots id : ℕ) (me : SeatState) (live : HasPlace me.0.epoch) (slot : 
     module _ (several : kind_of x ≡ 1) (left : 0 < alive x) (y : ℕ) (above : shared_base < y) where
       -- the slots are as full as before
       full_still : (j : ℕ) → j < sizes.slots → full_at sizes (set s.words i y) j ≡ full_at sizes s.words j
-      full_still j low = let was = full_owned x left in let is = (some_left y above).2 in dite (ℕ_discrete j slot)
+      full_still j low = let was = full_owned x left in let is = full_owned y (let m = (some_left y above).0 in omega arith) in dite (ℕ_discrete j slot)
           (λ e. subst (λ (k : ℕ). full_at sizes (set s.words i y) k ≡ full_at sizes s.words k) (sym e)
-          (ap full (steps.here slots id me live slot inside s.words y (steps.within slots id me live slot inside s h)) ∙ (is ∙ sym was)))
+          (ap valued (steps.here slots id me live slot inside s.words y (steps.within slots id me live slot inside s h)) ∙ (is ∙ sym was)))
           (λ ne. steps.others slots id me live slot inside s.words y j low ne)
 
       -- and their kinds are

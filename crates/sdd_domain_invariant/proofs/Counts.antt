@@ -12,7 +12,7 @@ use Rattle.sdd_views.specs.declared.CountsView.{CountsView}
 use Rattle.sdd_views.specs.declared.View.{View}
 use Rattle.sdd_views.specs.declared.Sizes.{Sizes}
 use Rattle.sdd_word_invariant.specs.Words.{first_slot, state_word, slot_word, all_words}
-use Rattle.sdd_word_invariant.specs.Codes.{full}
+use Rattle.sdd_word_invariant.specs.Codes.{valued}
 use Rattle.sdd_word_invariant.specs.Epoch.{HasPlace}
 use Rattle.sdd_word_invariant.specs.Slots.{slot_at}
 use Rattle.sdd_word_invariant.proofs.Barred.{Spares}
@@ -69,13 +69,13 @@ ended_more ws p low before (suc m) inside = let i : ℕ = state_word p in let z 
     (λ ne. let a = one_ended ws i 3 m (λ _ was. omega arith) in let b = ended_more ws p low before m (omega arith) in omega arith)
 
 -- ---- slots that have an item
-pub as_full : (sizes : Sizes) (ws ws' : List ℕ) → ((j : ℕ) → j < sizes.slots → full (slot_at sizes ws' j) ≡ full (slot_at sizes ws j))
+pub as_full : (sizes : Sizes) (ws ws' : List ℕ) → ((j : ℕ) → j < sizes.slots → valued (slot_at sizes ws' j) ≡ valued (slot_at sizes ws j))
     → full_slots sizes ws' ≡ full_slots sizes ws
-as_full sizes ws ws' same = span_same full ws ws' (first_slot sizes) sizes.slots same
+as_full sizes ws ws' same = span_same valued ws ws' (first_slot sizes) sizes.slots same
 
 pub one_full : (sizes : Sizes) (ws : List ℕ) (slot y : ℕ) → slot < sizes.slots → length ws ≡ all_words sizes
-    → full_slots sizes (set ws (slot_word sizes slot) y) + full (slot_at sizes ws slot) ≡ full_slots sizes ws + full y
-one_full sizes ws slot y low long = span_set full ws (first_slot sizes) sizes.slots slot y low (omega arith)
+    → full_slots sizes (set ws (slot_word sizes slot) y) + valued (slot_at sizes ws slot) ≡ full_slots sizes ws + valued y
+one_full sizes ws slot y low long = span_set valued ws (first_slot sizes) sizes.slots slot y low (omega arith)
 
 -- ---- the part
 module _ (sizes : Sizes) (ws : List ℕ) (vs : List View) (c : CountsInvariant sizes ws vs) where

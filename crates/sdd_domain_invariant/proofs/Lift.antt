@@ -1,5 +1,5 @@
 -- A step that keeps the words' parts, the homes' part, what is known of what slots show and of owners, and the counts is a step of the table.
-use Rattle.std.proofs.Common.{◌≡◌, ◌⊎◌, inl, inr, ℕ, ◌^◌, ◌<◌, List, map, get_or, set, sym, refl, ap, ◌∙◌, subst, ⊎_elim, arith, length-set, eq-eqb, ne_eqb}
+use Rattle.std.proofs.Common.{◌≡◌, ◌⊎◌, inl, inr, ℕ, ◌^◌, ◌<◌, List, get_or, set, sym, refl, ap, ◌∙◌, subst, ⊎_elim, arith, length-set, eq-eqb, ne_eqb}
 use Rattle.std.specs.Prelude.{None}
 use mathlib.Core.Bool.{cond}
 use mathlib.Core.Option.{some}
@@ -19,7 +19,7 @@ use Rattle.sdd_word_invariant.specs.Words.{first_cell, state_word}
 use Rattle.sdd_word_invariant.specs.Epoch.{HasPlace, IsClosed, IsOpen}
 use Rattle.sdd_word_invariant.specs.EpochSteps.{Steps, Publishes, Ends}
 use Rattle.sdd_word_invariant.specs.Slots.{waits_in}
-use Rattle.sdd_word_invariant.specs.SlotSteps.{older, changed, OnEpoch, PublishesAll}
+use Rattle.sdd_word_invariant.specs.SlotSteps.{older, aged as aged_slots, changed, OnEpoch, PublishesAll}
 use Rattle.sdd_word_invariant.specs.WordInvariant.{epoch_of, Parts}
 use Rattle.atomic_table.proofs.Lists.{at_map, set_again, set_else}
 use Rattle.sdd_word_invariant.proofs.Frame.{each_set}
@@ -190,7 +190,7 @@ module _ (γ : ℕ) (sizes : Sizes) (slots id : ℕ) (me : SeatState) (i : ℕ) 
         more = λ j p out. ⊎_elim (λ (m : Moves me.0 j). inl m)
             (λ (o : SeesFrom me.0 j p). inr (o.0, stays (get_or s.words i 0) e t.2 (own.guarded j o.0) ∙ o.1)) out;
         same = λ j _. before_slots sizes s.words i y j (omega arith);
-        mover = still_mover me.0 (record me.0 { epoch = e }) refl (lives (get_or s.words i 0) e t.2) (λ _ o. o) (λ _ o. o) (h.homes.moving id me.0 at);
+        mover = still_mover me.0 (record me.0 { epoch = e }) refl (lives (get_or s.words i 0) e t.2) (λ _ o. o) (λ _ o. o) (λ _ o. o) (h.homes.moving id me.0 at);
         alike = (refl, refl, refl, (λ _. refl), refl);
         counts = refl;
         lives = lives (get_or s.words i 0) e t.2;
@@ -202,8 +202,8 @@ module _ (γ : ℕ) (sizes : Sizes) (slots id : ℕ) (me : SeatState) (i : ℕ) 
       })
 
 -- a publish may make each item that waits a change older, and leaves all else of slots
-changed_or_not : (v : View) (P : SlotsView → Type 0) → P v.slots → P (record v.slots { waits = map older v.slots.waits }) → P (changed v)
-changed_or_not v P same aged = let older_slots : SlotsView = record v.slots { waits = map older v.slots.waits } in dite (ℕ_discrete v.epoch.count v.epoch.found)
+changed_or_not : (v : View) (P : SlotsView → Type 0) → P v.slots → P (aged_slots v.slots) → P (changed v)
+changed_or_not v P same aged = let older_slots : SlotsView = aged_slots v.slots in dite (ℕ_discrete v.epoch.count v.epoch.found)
     (λ e. subst P (sym (ap (λ (t : _). cond t v.slots older_slots) (eq-eqb v.epoch.count v.epoch.found e))) same)
     (λ ne. subst P (sym (ap (λ (t : _). cond t v.slots older_slots) (ne_eqb v.epoch.count v.epoch.found ne))) aged)
 
@@ -222,7 +222,7 @@ module _ (γ : ℕ) (sizes : Sizes) (slots : ℕ) where
       let same = λ (j : ℕ) (_ : j < sizes.slots). before_slots sizes s.words i y j (omega arith) in let n : ℕ = sizes.participants in
       let more : (j p : ℕ) → FractionIsTaken v j p → FractionIsTaken (record v { epoch = e }) j p
       = λ j p out. ⊎_elim (λ (m : Moves v j). inl m) (λ (o : SeesFrom v j p). inr (o.0, (stays e t.2).1 ∙ o.1)) out in
-      let movers = still_mover v (record v { epoch = e }) refl (λ _. (stays e t.2).0) (λ _ o. o) (λ _ o. o) (h.homes.moving id v at) in
+      let movers = still_mover v (record v { epoch = e }) refl (λ _. (stays e t.2).0) (λ _ o. o) (λ _ o. o) (λ _ o. o) (h.homes.moving id v at) in
       subst (IsCalm γ sizes slots id me i (λ _. y) s y) (sym t.1) (changed_or_not v calm
       record {
         more = more;
@@ -240,17 +240,17 @@ module _ (γ : ℕ) (sizes : Sizes) (slots : ℕ) where
       record {
         more = more;
         same = same;
-        mover = still_mover v (record v { epoch = e; slots = record v.slots { waits = map older v.slots.waits } }) refl (λ _. (stays e t.2).0) (λ _ o. o)
-            (λ j o. let k = total_map (waits_in j) older (λ x. refl) v.slots.waits in omega arith) (h.homes.moving id v at);
+        mover = still_mover v (record v { epoch = e; slots = aged_slots v.slots }) refl (λ _. (stays e t.2).0) (λ _ o. o)
+            (λ j o. let k = total_map (waits_in j) older (λ x. refl) v.slots.waits in omega arith) (λ _ o. o) (h.homes.moving id v at);
         alike = (refl, refl, refl, (λ j. total_map (waits_in j) older (λ x. refl) v.slots.waits), refl);
         counts = refl;
         lives = λ _. (stays e t.2).0;
         had = λ _ _. inl live;
         stored = stored_before sizes s.words i y low;
         kinds = kind_steps.calm sizes s.words s.views h.kinds h.records.each id v at (set s.words i y)
-            (record v { epoch = e; slots = record v.slots { waits = map older v.slots.waits } }) (words_below sizes s.words i y low)
+            (record v { epoch = e; slots = aged_slots v.slots }) (words_below sizes s.words i y low)
             (refl, refl, refl, (λ j. total_map (waits_in j) older (λ x. refl) v.slots.waits), refl) refl refl (λ _ o. o)
-            (same_post v (record v { epoch = e; slots = record v.slots { waits = map older v.slots.waits } }) refl refl refl refl (λ _. (stays e t.2).0) refl refl);
+            (same_post v (record v { epoch = e; slots = aged_slots v.slots }) refl refl refl refl (λ _. (stays e t.2).0) refl refl);
       }))
 
   -- the end of a place, which is counted

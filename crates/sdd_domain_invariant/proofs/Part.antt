@@ -1,5 +1,5 @@
 -- The homes' part after one step of one participant, from what the step takes from home or gives
-use Rattle.std.proofs.Common.{◌≡◌, ◌≢◌, inl, inr, None, ℕ, suc, ◌<◌, ◌≤◌, List, [], ◌∷◌, ◌++◌, map, set, sym, ap, ◌∙◌, subst, ⊎_elim, arith, length-set, get_or-set_other}
+use Rattle.std.proofs.Common.{◌⊎◌, ◌≡◌, ◌≢◌, inl, inr, None, ℕ, suc, ◌<◌, ◌≤◌, List, [], ◌∷◌, ◌++◌, map, set, sym, ap, ◌∙◌, subst, ⊎_elim, arith, length-set, get_or-set_other}
 use Rattle.std.specs.Prelude.{Some}
 use mathlib.Core.Option.{none, some, some-injective, some-ne-none}
 use mathlib.Core.Logic.{dite}
@@ -12,7 +12,8 @@ use Rattle.sdd_shared_values.specs.declared.value_fraction.ValueFraction.{ValueF
 use Rattle.sdd_views.specs.declared.View.{View}
 use Rattle.sdd_views.specs.declared.Sizes.{Sizes}
 use Rattle.sdd_word_invariant.specs.Words.{slot_word, first_slot}
-use Rattle.sdd_word_invariant.specs.Codes.{full}
+use Rattle.sdd_word_invariant.specs.Codes.{valued}
+use Rattle.sdd_word_invariant.specs.Collectors.{Empties}
 use Rattle.sdd_word_invariant.specs.Epoch.{HasPlace}
 use Rattle.sdd_word_invariant.specs.Slots.{items_at, Owns, Sees}
 use Rattle.sdd_word_invariant.specs.Sums.{times}
@@ -35,9 +36,12 @@ only_seen v rests i p out = ⊎_elim (λ (m : Moves v i). let e : None ≡ Some 
 
 -- a participant that keeps its place and its owners, and has the same out
 pub still_mover : (v w : View) → w.stakes.moves ≡ v.stakes.moves → (HasPlace v.epoch → HasPlace w.epoch) → ((i : ℕ) → Owns v i → Owns w i)
-    → ((i : ℕ) → 0 < items_at i v → 0 < items_at i w) → IsMover v → IsMover w
-still_mover v w same lives owns waits is i m = let o = is i (sym same ∙ m) in
-    (lives o.0, ⊎_elim (λ (a : Owns v i). inl (owns i a)) (λ (a : 0 < items_at i v). inr (waits i a)) o.1)
+    → ((i : ℕ) → 0 < items_at i v → 0 < items_at i w) → ((i : ℕ) → Empties v i → Empties w i) → IsMover v → IsMover w
+still_mover v w same lives owns waits empties is i m = let o = is i (sym same ∙ m) in (
+  lives o.0,
+  ⊎_elim (λ (a : Owns v i). inl (owns i a)) (λ (r : (0 < items_at i v) ⊎ Empties v i). inr (⊎_elim
+      (λ (a : 0 < items_at i v). inl (waits i a)) (λ (a : Empties v i). inr (empties i a)) r)) o.1,
+)
 
 -- what lies at home as full as the slot is
 shown_as : (γ i n p f f' : ℕ) (y : ValueFraction) → f' ≡ f → Has γ i (share n (away n f) p) (MatchesSlotWord f) y → Has γ i (share n (away n f') p)
@@ -51,11 +55,11 @@ one_taken hs spot j y lies = ⊎_elim (λ (h : (j ≡ spot) × (none ≡ some y)
 
 -- a word before the slots' changes
 pub before_slots : (sizes : Sizes) (ws : List ℕ) (j y i : ℕ) → j < first_slot sizes → full_at sizes (set ws j y) i ≡ full_at sizes ws i
-before_slots sizes ws j y i low = ap full (get_or-set_other ws j (slot_word sizes i) y 0 (λ e. omega arith))
+before_slots sizes ws j y i low = ap valued (get_or-set_other ws j (slot_word sizes i) y 0 (λ e. omega arith))
 
 -- the word of another slot
 pub of_another : (sizes : Sizes) (ws : List ℕ) (i y j : ℕ) → j ≢ i → full_at sizes (set ws (slot_word sizes i) y) j ≡ full_at sizes ws j
-of_another sizes ws i y j ne = ap full (get_or-set_other ws (slot_word sizes i) (slot_word sizes j) y 0 (λ e. ne (omega arith)))
+of_another sizes ws i y j ne = ap valued (get_or-set_other ws (slot_word sizes i) (slot_word sizes j) y 0 (λ e. ne (omega arith)))
 
 module _ (γ : ℕ) (sizes : Sizes) (ws : List ℕ) (vs : List View) (hs : FractionsAtHome) (part : FractionsInvariant γ sizes ws vs hs) where
   abbrev n : ℕ

@@ -12,7 +12,7 @@ use Rattle.sdd_shared_values.specs.declared.value_fraction.ValueFraction.{ValueF
 use Rattle.sdd_views.specs.declared.View.{View}
 use Rattle.sdd_views.specs.declared.Sizes.{Sizes}
 use Rattle.sdd_word_invariant.specs.Words.{pointer_word}
-use Rattle.sdd_word_invariant.specs.Codes.{full, pointers_end}
+use Rattle.sdd_word_invariant.specs.Codes.{valued, pointers_end}
 use Rattle.sdd_word_invariant.specs.Epoch.{HasPlace}
 use Rattle.sdd_word_invariant.specs.EpochSteps.{Steps}
 use Rattle.sdd_word_invariant.specs.CellSteps.{pointer_behind, noting_pointer, LooksAtPointer, SwapsPointer, ExchangesPointer, AtPointer}
@@ -53,7 +53,7 @@ module _ (slots id : ℕ) (me : SeatState) (live : HasPlace me.0.epoch) (rests :
       → SameWords sizes s.words (set s.words i y) → (known : List ℕ) → length known ≡ length v.words → IsCalm γ sizes slots id me i f s y (knowing known)
   calm f s h at y same known long = let w : View = knowing known in record {
     more = λ j p out. out;
-    same = λ j _. ap full (same.slots j);
+    same = λ j _. ap valued (same.slots j);
     mover = h.homes.moving id v at;
     alike = (refl, refl, refl, (λ _. refl), refl);
     counts = refl;

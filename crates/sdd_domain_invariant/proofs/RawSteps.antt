@@ -15,13 +15,13 @@ use Rattle.sdd_views.specs.declared.ShownValue.{ShownValue}
 use Rattle.sdd_views.specs.declared.View.{View}
 use Rattle.sdd_views.specs.declared.Sizes.{Sizes}
 use Rattle.sdd_word_invariant.specs.Words.{slot_word}
-use Rattle.sdd_word_invariant.specs.Codes.{codes, alive, waiting, full, owned_word, raw_word}
+use Rattle.sdd_word_invariant.specs.Codes.{codes, alive, waiting, valued, owned_word, raw_word}
 use Rattle.sdd_word_invariant.specs.Epoch.{HasPlace, IsOpen, IsLone}
 use Rattle.sdd_word_invariant.specs.Sums.{times}
 use Rattle.sdd_word_invariant.specs.Slots.{slot_at, Owns, Sees, Holds}
 use Rattle.sdd_word_invariant.specs.SlotSteps.{without, turned_raw, AtSlot, TurnsRaw, Regains, SeesRaw}
 use Rattle.sdd_word_invariant.specs.WordInvariant.{epoch_of}
-use Rattle.sdd_word_invariant.proofs.Codes.{sound, owned_is, raw_is}
+use Rattle.sdd_word_invariant.proofs.Codes.{sound, owned_is, raw_is, raw_plain}
 use Rattle.sdd_word_invariant.proofs.RawSteps as words
 use Rattle.sdd_word_invariant.proofs.SlotWords.{owner_in, owners_in}
 use Rattle.sdd_word_invariant.proofs.Sums.{is_same, is_other, without_same, without_other}
@@ -131,11 +131,11 @@ module _ (slots id : ℕ) (me : SeatState) (live : HasPlace me.0.epoch) where
       quiet : waiting (slot_at sizes s.words slot) ≡ 0
       quiet = ap waiting hit ∙ (raw_is 0 (omega arith)).1
 
-      filled : full (slot_at sizes s.words slot) ≡ 1
-      filled = ap full hit ∙ (raw_is 0 (omega arith)).2
+      filled : valued (slot_at sizes s.words slot) ≡ 1
+      filled = ap valued hit ∙ (raw_is 0 (omega arith)).3
 
       still : (j : ℕ) (u : View) → get_elem? s.views j ≡ some u → ¬ (Moves u slot)
-      still j u e = steps.still_free γ sizes s h slot j u e dead quiet
+      still j u e = steps.still_free γ sizes s h slot j u e dead quiet (ap codes.emptying hit ∙ (raw_plain 0 (omega arith)).1)
 
       -- the last fraction
       abbrev last : ValueFraction
@@ -145,10 +145,10 @@ module _ (slots id : ℕ) (me : SeatState) (live : HasPlace me.0.epoch) where
       lies = (last_home s h still).1
 
       -- the slots are as full as before once it is owned
-      as_before : (y : ℕ) → full y ≡ 1 → (j : ℕ) → j < sizes.slots → full_at sizes (set s.words i y) j ≡ full_at sizes s.words j
+      as_before : (y : ℕ) → valued y ≡ 1 → (j : ℕ) → j < sizes.slots → full_at sizes (set s.words i y) j ≡ full_at sizes s.words j
       as_before y one j low = dite (ℕ_discrete j slot)
           (λ e. subst (λ (k : ℕ). full_at sizes (set s.words i y) k ≡ full_at sizes s.words k) (sym e)
-          (ap full (steps.here slots id me live slot inside s.words y (steps.within slots id me live slot inside s h)) ∙ (one ∙ sym filled)))
+          (ap valued (steps.here slots id me live slot inside s.words y (steps.within slots id me live slot inside s h)) ∙ (one ∙ sym filled)))
           (λ ne. steps.others slots id me live slot inside s.words y j low ne)
 
     -- it goes out as raw: its owner's unit is in the bank
@@ -168,7 +168,7 @@ module _ (slots id : ℕ) (me : SeatState) (live : HasPlace me.0.epoch) where
         let same : (j : ℕ) → j < sizes.slots → full_at sizes (set s.words i y) j ≡ full_at sizes s.words j
         = λ j near. dite (ℕ_discrete j slot)
         (λ e. subst (λ (k : ℕ). full_at sizes (set s.words i y) k ≡ full_at sizes s.words k) (sym e)
-        (ap full word ∙ ((raw_is 0 (omega arith)).2 ∙ sym was)))
+        (ap valued word ∙ ((raw_is 0 (omega arith)).3 ∙ sym was)))
         (λ ne. steps.others slots id me live slot inside s.words y j near ne) in
         let mine = records.mine sizes s.views s.homes h.records id v at in
         let free_of : ¬ (IsInCell sizes s.words slot) = steps.in_no_cell_too slots id me live slot inside s h at own one in

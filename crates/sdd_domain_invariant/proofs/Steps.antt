@@ -20,7 +20,7 @@ use Rattle.sdd_views.specs.declared.Deposit.{Deposit}
 use Rattle.sdd_views.specs.declared.View.{View}
 use Rattle.sdd_views.specs.declared.Sizes.{Sizes}
 use Rattle.sdd_word_invariant.specs.Words.{slot_word, state_word, words_behind}
-use Rattle.sdd_word_invariant.specs.Codes.{codes, alive, waiting, full, counted as kind_of, shared_base, held_word, shared_word, free_word, waiting_word}
+use Rattle.sdd_word_invariant.specs.Codes.{codes, alive, waiting, full, valued, emptying, counted as kind_of, shared_base, held_word, shared_word, free_word, waiting_word}
 use Rattle.sdd_word_invariant.specs.Epoch.{HasPlace, IsOpen, Scans, IsLone}
 use Rattle.sdd_word_invariant.specs.EpochSteps.{Steps}
 use Rattle.sdd_word_invariant.specs.Sums.{total, times, is as is_at}
@@ -33,6 +33,8 @@ use Rattle.sdd_word_invariant.proofs.Barred as barring
 use Rattle.sdd_word_invariant.proofs.Codes.{sound, free_is, raw_is, waiting_is, shared, counted_is, none_left, some_left, one_left, only_held}
 use Rattle.sdd_word_invariant.proofs.EpochSteps as over
 use Rattle.sdd_word_invariant.proofs.SlotSteps as steps
+use Rattle.sdd_word_invariant.specs.Collectors.{Empties}
+use Rattle.sdd_word_invariant.proofs.Collectors.{plain_alive, plain_waiting, plain_free, emptying_at}
 use Rattle.sdd_word_invariant.proofs.Owning.{item_gone, item_kept}
 use Rattle.sdd_word_invariant.proofs.Owning as owning
 use Rattle.sdd_word_invariant.proofs.Holding as holding
@@ -76,8 +78,8 @@ use Rattle.sdd_domain_invariant.proofs.Telling.{one_moved, none_moved, one_view,
 use Rattle.sdd_domain_invariant.proofs.Tops.{rest_is, share_one}
 use Rattle.sdd_domain_invariant.proofs.Lift.{Keeps, Follows, IsCalm, keeps_ended, lift_whole, lift_homes, lift_calm_whole, lift_calm, stands, stands_by, stands_dealt}
 
-pub full_owned : (x : ℕ) → 0 < alive x → full x ≡ 1
-full_owned x h = (sound.lives x h).1
+pub full_owned : (x : ℕ) → 0 < alive x → valued x ≡ 1
+full_owned x h = sound.valued x h
 
 vacant_shown : (f : ℕ) (g : Gv) → f ≡ 0 → IsNoValueCode g → MatchesSlotWord f g
 vacant_shown f g empty vacant = (λ e. absurd (omega arith), λ _. vacant)
@@ -87,12 +89,18 @@ module _ (γ : ℕ) (sizes : Sizes) (s : State ValueFraction View) (h : DomainIn
   x : ℕ
   x = slot_at sizes s.words i
 
-  -- nobody moves the value of a slot without owners in which none waits
+  -- nobody empties it, where its word says so
+  pub not_emptied : (j : ℕ) (u : View) → get_elem? s.views j ≡ some u → emptying (slot_at sizes s.words i) ≡ 0 → ¬ (Empties u i)
+  not_emptied j u e idle o = let m = emptying_at codes sound sizes s.words s.views h.kept.parts.collectors j i u e o in omega arith
+
+  -- nobody moves the value of a slot without owners in which none waits, and which nobody empties
   pub still_free : (j : ℕ) (u : View) → get_elem? s.views j ≡ some u → alive (slot_at sizes s.words i) ≡ 0
-      → waiting (slot_at sizes s.words i) ≡ 0 → ¬ (Moves u i)
-  still_free j u e dead quiet m = ⊎_elim
+      → waiting (slot_at sizes s.words i) ≡ 0 → emptying (slot_at sizes s.words i) ≡ 0 → ¬ (Moves u i)
+  still_free j u e dead quiet idle m = ⊎_elim
       (λ (o : Owns u i). let g = owner_in codes sound sizes s.words s.views h.kept.parts.slots j i u e in absurd (omega arith))
+      (λ (r : (0 < items_at i u) ⊎ Empties u i). ⊎_elim
       (λ (o : 0 < items_at i u). let t = total_has (items_at i) s.views j u e in let w = h.kept.parts.slots.waited i in absurd (omega arith))
+      (λ (o : Empties u i). not_emptied j u e idle o) r)
       (h.homes.moving j u e i m).1
 
   -- where a participant has an owner, or an item that waits, none else moves the value
@@ -101,7 +109,9 @@ module _ (γ : ℕ) (sizes : Sizes) (s : State ValueFraction View) (h : DomainIn
       let l = (sound.lives (slot_at sizes s.words i) (omega arith)).0 in ⊎_elim
       (λ (o : Owns u i). let g = (h.kinds.each j u e).sole i m o in
       let both = owners_in codes sound sizes s.words s.views h.kept.parts.slots id j i v u ne at e in absurd (omega arith))
+      (λ (r : (0 < items_at i u) ⊎ Empties u i). ⊎_elim
       (λ (o : 0 < items_at i u). let t = total_has (items_at i) s.views j u e in let w = h.kept.parts.slots.waited i in absurd (omega arith))
+      (λ (o : Empties u i). not_emptied j u e (plain_alive codes sound (slot_at sizes s.words i) (omega arith)).1 o) r)
       (h.homes.moving j u e i m).1
 
   still_waiting : (id j : ℕ) (v u : View) → get_elem? s.views id ≡ some v → get_elem? s.views j ≡ some u → id ≢ j → 0 < items_at i v → ¬ (Moves u i)
@@ -109,8 +119,17 @@ module _ (γ : ℕ) (sizes : Sizes) (s : State ValueFraction View) (h : DomainIn
       let one = (sound.waits (slot_at sizes s.words i) (omega arith)).0 in ⊎_elim
       (λ (o : Owns u i). let g = owner_in codes sound sizes s.words s.views h.kept.parts.slots j i u e in
       let l = (sound.lives (slot_at sizes s.words i) (omega arith)).0 in absurd (omega arith))
+      (λ (r : (0 < items_at i u) ⊎ Empties u i). ⊎_elim
       (λ (o : 0 < items_at i u). let both = total_two (items_at i) s.views id j v u ne at e in absurd (omega arith))
+      (λ (o : Empties u i). not_emptied j u e (plain_waiting codes sound (slot_at sizes s.words i) (omega arith)).1 o) r)
       (h.homes.moving j u e i m).1
+
+-- what a guard sees has its value
+seen_valued : (γ : ℕ) (sizes : Sizes) (s : State ValueFraction View) → DomainInvariant γ sizes s → (id : ℕ) (v : View) → get_elem? s.views id ≡ some v
+    → (k : ℕ) → Sees v k → full_at sizes s.words k ≡ 1
+seen_valued γ sizes s h id v at k sees = let x : ℕ = slot_at sizes s.words k in let full_now = (h.kept.parts.slots.each id v at).full k sees in
+    let seen = (h.kept.parts.collectors.each id v at).seen k sees in dite (ℕ_discrete (codes.private x) 0) (λ none. sound.there x full_now none)
+    (λ ne. seen.1 (sound.private x (omega arith)).0)
 
 -- the own place hasn't ended
 pub own_place : (γ : ℕ) (sizes : Sizes) (id : ℕ) (v : View) → HasPlace v.epoch → (y : ℕ) (s : State ValueFraction View) → DomainInvariant γ sizes s
@@ -268,15 +287,15 @@ module _ (slots id : ℕ) (me : SeatState) (live : HasPlace me.0.epoch) where
     pub claims : (y : ℕ) → alive y ≡ 1 → v.stakes.moves ≡ None → May i (λ x. either (eqb x (free_word 0)) y x)
         (OfSlot (λ slot. ClaimsAll slot (free_word 0) y) i me)
     claims y owns_one rests = let told : ℕ → SeatState → Type 0 = OfSlot (λ slot. ClaimsAll slot (free_word 0) y) i me in let free = free_is 0 (omega arith) in
-        let step = steps.claims id v live slot (free_word 0) y inside free.0 free.1 owns_one in
+        let step = steps.claims id v live slot (free_word 0) y inside free.0 free.1 (plain_free codes sound (free_word 0) free.2) owns_one in
         lift_homes γ sizes slots id me i (λ x. either (eqb x (free_word 0)) y x) (AtSlot (λ slot. Claims slot (free_word 0) y) i v) told (claim_keeps y) step
         (λ s w h at t. let x : ℕ = get_or s.words i 0 in let c = t slot refl in
         exchanged x (free_word 0) y (λ z. Follows γ sizes id i me told s z w)
         (λ hit. let dead : alive x ≡ 0 = ap alive hit ∙ free.0 in let quiet : waiting x ≡ 0 = ap waiting hit ∙ free.1 in
-        let empty : full x ≡ 0 = ap full hit ∙ free.2 in
+        let unused : full x ≡ 0 = ap full hit ∙ free.2 in let empty : valued x ≡ 0 = sound.empty x unused in
         let tk = all_taken s h 0 (ap (away n) empty) IsNoValueCode (λ p y _ _ sh. sh.1 empty) (λ j u e. (
-          owning.fresh codes sound sizes s.words s.views h.kept.parts.slots id v at slot empty j u e,
-          still_free γ sizes s h slot j u e dead quiet,
+          owning.fresh codes sound sizes s.words s.views h.kept.parts.slots id v at slot unused j u e,
+          still_free γ sizes s h slot j u e dead quiet (plain_free codes sound x unused).1,
         )) in let now : View = making slot y v in
         let nobody : (j : ℕ) (u : View) → get_elem? s.views j ≡ some u → ¬ (Owns u slot)
         = λ j u e o. let a = owner_in codes sound sizes s.words s.views h.kept.parts.slots j slot u e in omega arith in
@@ -295,7 +314,7 @@ module _ (slots id : ℕ) (me : SeatState) (live : HasPlace me.0.epoch) where
               (λ o. let a = total_has (items_at slot) s.views id v at in let sum = h.kept.parts.slots.waited slot in omega arith) y)
               (records.mine sizes s.views s.homes h.records id v at)
               (λ j p y _ near l. (taken_lies γ n slot 0 IsNoValueCode s.homes me.1 tk j p y near l).1) refl (λ j m. one_moved now slot j refl m)
-              (owning.fresh codes sound sizes s.words s.views h.kept.parts.slots id v at slot empty);
+              (owning.fresh codes sound sizes s.words s.views h.kept.parts.slots id v at slot unused);
           counts = counted sizes s.words s.views h.counts id v at (set s.words i y) now
               (let f = one_full sizes s.words slot y inside h.kept.parts.slots.long in let filled = full_owned y (omega arith) in omega arith)
               (let o = over_slot s h y in omega arith) (λ none. absurd (omega arith));
@@ -439,7 +458,7 @@ module _ (slots id : ℕ) (me : SeatState) (live : HasPlace me.0.epoch) where
           IsBank b
           → ¬ (id ≡ bd) → v.stakes.moves ≡ None → full_at sizes s.words slot ≡ 1 → total (drawn_at slot) s.views ≡ 0 → (Is : Gv → Type 0)
           → ((p : ℕ) (y : ValueFraction) → p ≤ n → LiesAt n s.homes slot p y → MatchesSlotWord (full_at sizes s.words slot) y.lot.shown → Is y.lot.shown)
-          → Owns v slot ⊎ (0 < items_at slot v) → (Owns v slot → Holds v slot × (alive (slot_at sizes s.words slot) ≡ 1))
+          → Owns v slot ⊎ ((0 < items_at slot v) ⊎ Empties v slot) → (Owns v slot → Holds v slot × (alive (slot_at sizes s.words slot) ≡ 1))
           → ((j : ℕ) (u : View) → get_elem? s.views j ≡ some u → ¬ (Sees u slot))
           → ((j : ℕ) (u : View) → get_elem? s.views j ≡ some u → id ≢ j → ¬ (Moves u slot))
           → (t : FractionsView) → t.counts ≡ v.stakes.counts → t.moves ≡ Some slot → t.bank ≡ v.stakes.bank → t.founds ≡ v.stakes.founds
@@ -492,7 +511,7 @@ module _ (slots id : ℕ) (me : SeatState) (live : HasPlace me.0.epoch) where
                 (part.takes γ sizes s.words s.views s.homes h.homes id v at slot (spare n) Is me.1 tk s.words w is
                 (λ j p _. still_seen w rests refl refl j p) (λ j _ _. refl)
                 (λ j m. let e : slot ≡ j = sym (one_moved w slot j is m) in
-                (live, subst (λ (k : ℕ). Owns v k ⊎ (0 < items_at k v)) e may)))
+                (live, subst (λ (k : ℕ). Owns v k ⊎ ((0 < items_at k v) ⊎ Empties v k)) e may)))
                 came
                 (uncounted_alone sizes s.words s.views h.counts id v at w same refl)
                 (filled_by s h at w kept no_more)
@@ -591,7 +610,7 @@ module _ (slots id : ℕ) (me : SeatState) (live : HasPlace me.0.epoch) where
         let once = waits_once codes sound sizes s.words s.views p.slots id v at slot k item due.2 due.3 in
         let waits : 0 < items_at slot v = omega arith in let tells = h.records.each id v at in
         let here_waits = total_has (items_at slot) s.views id v at in let sum = p.slots.waited slot in
-        let filled = (sound.waits (slot_at sizes s.words slot) (omega arith)).1 in
+        let filled = (sound.waits (slot_at sizes s.words slot) (omega arith)).2 in
         let dead : alive (slot_at sizes s.words slot) ≡ 0 = dite (dec_lt 0 (alive (slot_at sizes s.words slot)))
         (λ l. absurd (let w = (sound.lives (slot_at sizes s.words slot) l).0 in omega arith)) (λ none. omega arith) in
         let undrawn : total (drawn_at slot) s.views ≡ 0 = (let low = total_below (drawn_at slot) (owners_at slot) s.views (λ j u e. h.bank.low j u e slot) in
@@ -600,7 +619,7 @@ module _ (slots id : ℕ) (me : SeatState) (live : HasPlace me.0.epoch) where
         let known = records.mine sizes s.views s.homes h.records id v at slot value (inr (inr there.1)) in
         let w : View = moving slot (forgetting slot v) in
         moves_out bd s b h at held bank ne rests filled undrawn (IsValue value)
-        (λ q y near lies sh. (sh.0 filled, h.records.home slot q value y inside near known lies)) (inr waits)
+        (λ q y near lies sh. (sh.0 filled, h.records.home slot q value y inside near known lies)) (inr (inl waits))
         (λ o. absurd (none_owns γ sizes s h slot id v at waits id v at o))
         (λ j u e sees. owning.unseen codes sound sizes s.words s.views p.slots id v at p.epoch k item due.2 due.4 j u e (subst (Sees u) (sym due.3) sees))
         (λ j u e ne. still_waiting γ sizes s h slot id j v u at e ne waits)
@@ -630,14 +649,14 @@ module _ (slots id : ℕ) (me : SeatState) (live : HasPlace me.0.epoch) where
         (steps.gives_back id v live slot 0 due.0 due.1 due.2 due.3 due.4 (omega arith) (omega arith))
         (λ s w h at t. let c = t slot refl in let now : View = given_back slot y v in
         let g = gives_row γ n slot 0 IsNoValueCode sizes.slots inside (suc n) (omega arith) s.homes rest me.1 h.homes.deep row in
-        let empty = (free_is 0 (omega arith)).2 in
+        let empty = sound.empty (free_word 0) (free_is 0 (omega arith)).2 in
         subst (Follows γ sizes id i me told s y) (sym c.0) record {
           stakes = (giving now).stakes;
           act = g.act;
           valid = g.valid;
           homes = part.gives γ sizes s.words s.views s.homes h.homes id v at slot 0 IsNoValueCode rest me.1 g (set s.words i y) (giving now)
-              (ap (λ (x : ℕ). away n (full x)) (here s.words y (within s h)) ∙ ap (away n) empty)
-              (λ g vacant. vacant_shown (full_at sizes (set s.words i y) slot) g (ap full (here s.words y (within s h)) ∙ empty) vacant)
+              (ap (λ (x : ℕ). away n (valued x)) (here s.words y (within s h)) ∙ ap (away n) empty)
+              (λ g vacant. vacant_shown (full_at sizes (set s.words i y) slot) g (ap valued (here s.words y (within s h)) ∙ empty) vacant)
               (seen_but (giving now) slot mine refl refl) (others s.words y) (none_out (giving now) refl);
           records = let waits : 0 < items_at slot v = (let once = c.1 in omega arith) in
               comes_home γ sizes s h slot id v at 0 IsNoValueCode rest me.1 g (unknown_waiting γ sizes s h slot id v at mine waits) (giving now)
@@ -645,7 +664,7 @@ module _ (slots id : ℕ) (me : SeatState) (live : HasPlace me.0.epoch) where
               (λ j ne. item_kept slot j ne v.slots.waits) (λ o. let z = item_gone slot v.slots.waits in omega arith) refl)
               refl refl;
           counts = let once = c.1 in let here = total_has (items_at slot) s.views id v at in let sum = h.kept.parts.slots.waited slot in
-              let was = (sound.waits (slot_at sizes s.words slot) (omega arith)).1 in
+              let was = (sound.waits (slot_at sizes s.words slot) (omega arith)).2 in
               counted sizes s.words s.views h.counts id v at (set s.words i y) (giving now)
               (let f = one_full sizes s.words slot y inside h.kept.parts.slots.long in omega arith)
               (let o = over_slot s h y in omega arith) (λ none. absurd (omega arith));
@@ -653,7 +672,7 @@ module _ (slots id : ℕ) (me : SeatState) (live : HasPlace me.0.epoch) where
           bank = banks.moves_over γ sizes s.words s.views h.bank id v at (set s.words i y) (giving now) slot
               record { bank = refl; founds = refl; book = refl; banked = refl; drawn = refl } (h.bank.low id v at)
               (banks.moved_outside γ sizes s.words s.views h.bank id v at slot mine)
-              (outside_free sizes (set s.words i y) (set s.views id (giving now)) slot (ap full (here s.words y (within s h)) ∙ empty))
+              (outside_free sizes (set s.words i y) (set s.views id (giving now)) slot (ap valued (here s.words y (within s h)) ∙ empty))
               (λ k ne. sym (moves_other k v slot mine ne)) (others s.words y);
           lasts = goes_home s h at mine (unfilled s h at (let once = c.1 in omega arith)) rest g (giving now) refl refl refl;
           kinds = let waits : 0 < items_at slot v = (let once = c.1 in omega arith) in
@@ -695,14 +714,14 @@ module _ (slots id : ℕ) (me : SeatState) (live : HasPlace me.0.epoch) where
         (steps.discards id v live slot 0 inside held all (omega arith))
         (λ s w h at t. let now : View = discarded slot y v in
         let g = gives_row γ n slot 0 IsNoValueCode sizes.slots inside (suc n) (omega arith) s.homes rest me.1 h.homes.deep row in
-        let empty = (free_is 0 (omega arith)).2 in
+        let empty = sound.empty (free_word 0) (free_is 0 (omega arith)).2 in
         subst (Follows γ sizes id i me told s y) (sym (t slot refl)) record {
           stakes = (dropping now).stakes;
           act = g.act;
           valid = g.valid;
           homes = part.gives γ sizes s.words s.views s.homes h.homes id v at slot 0 IsNoValueCode rest me.1 g (set s.words i y) (dropping now)
-              (ap (λ (x : ℕ). away n (full x)) (here s.words y (within s h)) ∙ ap (away n) empty)
-              (λ g vacant. vacant_shown (full_at sizes (set s.words i y) slot) g (ap full (here s.words y (within s h)) ∙ empty) vacant)
+              (ap (λ (x : ℕ). away n (valued x)) (here s.words y (within s h)) ∙ ap (away n) empty)
+              (λ g vacant. vacant_shown (full_at sizes (set s.words i y) slot) g (ap valued (here s.words y (within s h)) ∙ empty) vacant)
               (seen_but (dropping now) slot mine refl refl) (others s.words y) (none_out (dropping now) refl);
           records = let own = ((h.kept.parts.slots.each id v at).held slot held).0 in
               comes_home γ sizes s h slot id v at 0 IsNoValueCode rest me.1 g (unknown_owned γ sizes s h slot id v at mine own) (dropping now)
@@ -722,7 +741,7 @@ module _ (slots id : ℕ) (me : SeatState) (live : HasPlace me.0.epoch) where
               let z = ap (λ (j : ℕ). drawn_at j v) e in omega arith)
               (λ ne. let o = without_other slot k ne v.slots.owns in omega arith))
               (banks.moved_outside γ sizes s.words s.views h.bank id v at slot mine)
-              (outside_free sizes (set s.words i y) (set s.views id (dropping now)) slot (ap full (here s.words y (within s h)) ∙ empty))
+              (outside_free sizes (set s.words i y) (set s.views id (dropping now)) slot (ap valued (here s.words y (within s h)) ∙ empty))
               (λ k ne. sym (moves_other k v slot mine ne)) (others s.words y);
           lasts = goes_home s h at mine (in_no_cell_too s h at ((h.kept.parts.slots.each id v at).held slot held).0
               (held_is codes sound sizes s.words s.views h.kept.parts.slots id slot v at held)) rest g (dropping now) refl refl refl;
@@ -776,11 +795,11 @@ module _ (slots id : ℕ) (me : SeatState) (live : HasPlace me.0.epoch) where
       waits_now y told is owns empty rests value told_it one w c telling_it = let own = owns_it v slot owns in let r = h.records in
           let was = full_owned (slot_at sizes s.words slot) (omega arith) in let now : View = remembering (retired slot y c.0 v) in
           let word : slot_at sizes (set s.words i y) slot ≡ y = here s.words y (within s h) in
-          let will = (sound.waits y (omega arith)).1 in
+          let will = (sound.waits y (omega arith)).2 in
           let dead : alive y ≡ 0 = dite (dec_lt 0 (alive y)) (λ l. absurd (let q = (sound.lives y l).0 in omega arith)) (λ none. omega arith) in
           let same : (j : ℕ) → j < sizes.slots → full_at sizes (set s.words i y) j ≡ full_at sizes s.words j
           = λ j low. dite (ℕ_discrete j slot)
-          (λ e. subst (λ (k : ℕ). full_at sizes (set s.words i y) k ≡ full_at sizes s.words k) (sym e) (ap full word ∙ (will ∙ sym was)))
+          (λ e. subst (λ (k : ℕ). full_at sizes (set s.words i y) k ≡ full_at sizes s.words k) (sym e) (ap valued word ∙ (will ∙ sym was)))
           (λ ne. others s.words y j low ne) in
           let mine_known = records.mine sizes s.views s.homes r id v at in
           subst (Follows γ sizes id i me told s y) (sym c.3) record {
@@ -868,7 +887,7 @@ module _ (slots id : ℕ) (me : SeatState) (live : HasPlace me.0.epoch) where
             let word : slot_at sizes (set s.words i y) slot ≡ y = here s.words y (within s h) in let was = full_owned count_word (omega arith) in
             let same : (j : ℕ) → j < sizes.slots → full_at sizes (set s.words i y) j ≡ full_at sizes s.words j
             = λ j low. dite (ℕ_discrete j slot)
-            (λ e. subst (λ (k : ℕ). full_at sizes (set s.words i y) k ≡ full_at sizes s.words k) (sym e) (ap full word ∙ (fewer.2 ∙ sym was)))
+            (λ e. subst (λ (k : ℕ). full_at sizes (set s.words i y) k ≡ full_at sizes s.words k) (sym e) (ap valued word ∙ (full_owned y (let m = fewer.0 in omega arith) ∙ sym was)))
             (λ ne. others s.words y j low ne) in
             let mine_known = records.mine sizes s.views s.homes r id v at in record {
               stakes = now.stakes;
@@ -1082,7 +1101,7 @@ module _ (slots id : ℕ) (me : SeatState) (live : HasPlace me.0.epoch) where
       as_full_still : (j : ℕ) → j < sizes.slots → full_at sizes (set s.words i y) j ≡ full_at sizes s.words j
       as_full_still j low = let was = full_owned (slot_at sizes s.words slot) (omega arith) in let is = full_owned y (omega arith) in dite (ℕ_discrete j slot)
           (λ e. subst (λ (k : ℕ). full_at sizes (set s.words i y) k ≡ full_at sizes s.words k) (sym e)
-          (ap full (here s.words y (within s h)) ∙ (is ∙ sym was)))
+          (ap valued (here s.words y (within s h)) ∙ (is ∙ sym was)))
           (λ ne. others s.words y j low ne)
 
       -- nobody else has an owner of it
@@ -1237,7 +1256,7 @@ module _ (slots id : ℕ) (me : SeatState) (live : HasPlace me.0.epoch) where
         act = g.act;
         valid = g.valid;
         homes = part.closes γ sizes s.words s.views s.homes h.homes id v at q le near me.1 g (set s.words j 1) (unsighted now) told.sees refl
-            rests (λ k sees. same k ∙ f.full k sees) (λ k _. same k) (none_out (unsighted now) rests);
+            rests (λ k sees. same k ∙ seen_valued γ sizes s h id v at k sees) (λ k _. same k) (none_out (unsighted now) rests);
         records = records.no_more sizes s.views s.homes r id v at (unsighted now) (λ is. r.deposits id v at is) (homes_after s.homes me.1 g.act)
             record {
               owns = told.owns;

@@ -16,7 +16,7 @@ use Rattle.sdd_views.specs.declared.CountsView.{CountsView}
 use Rattle.sdd_views.specs.declared.View.{View}
 use Rattle.sdd_views.specs.declared.Sizes.{Sizes}
 use Rattle.sdd_word_invariant.specs.Words.{first_slot, words_behind, all_words}
-use Rattle.sdd_word_invariant.specs.Codes.{alive, waiting, full, names, counted as counts_owners}
+use Rattle.sdd_word_invariant.specs.Codes.{codes, alive, waiting, full, valued, names, counted as counts_owners}
 use Rattle.sdd_word_invariant.specs.Sums.{is, times}
 use Rattle.sdd_word_invariant.specs.Slots.{slot_at, Owns}
 use Rattle.sdd_word_invariant.specs.SlotSteps.{first, others}
@@ -24,6 +24,7 @@ use Rattle.sdd_word_invariant.specs.Epoch.{HasPlace}
 use Rattle.sdd_views.specs.Views.{owner_token, owner_of}
 use Rattle.sdd_word_invariant.specs.WordInvariant.{epoch_of, idle}
 use Rattle.sdd_word_invariant.proofs.Codes.{sound, none_counted}
+use Rattle.sdd_word_invariant.proofs.Collectors.{plain_free}
 use Rattle.sdd_word_invariant.proofs.Lift as kept
 use Rattle.sdd_word_invariant.proofs.Frame.{each_set, each_snoc}
 use Rattle.sdd_word_invariant.proofs.Sums.{is_same, is_other, total_set, total_snoc, total_has, total_two, total_only, total_append, span_zero}
@@ -109,14 +110,14 @@ module _ (γ : ℕ) (sizes : Sizes) where
       home = λ i p y low near lies. let l = laid.each i p near (inside n sizes.slots i p low near) in
           let same : l.0 ≡ y = some-injective l.0 y (some-injective (some l.0) (some y) (sym (at_map some xs (stake_at n i p) l.0 l.1) ∙ lies)) in
           let has = subst (Has γ i (share n 0 p) IsNoValueCode) same l.2 in let word = none (Rattle.sdd_word_invariant.specs.Words.slot_word sizes i) in
-          let empty : full_at sizes ws i ≡ 0 = ap full word ∙ sound.free.2 in
+          let empty : full_at sizes ws i ≡ 0 = ap valued word ∙ sound.empty 0 sound.free.2 in
           subst (λ (k : ℕ). Has γ i (share n k p) (MatchesSlotWord (full_at sizes ws i)) y) (sym (ap (away n) empty))
           (has.0, (λ e. absurd (omega arith), λ _. has.1));
       back = λ i p low near away. let l = laid.each i p near (inside n sizes.slots i p low near) in (l.0, at_map some xs (stake_at n i p) l.0 l.1);
       moving = λ j v e. none_out v (subst (λ (u : View). u.stakes.moves ≡ None) (only j v e) refl);
     };
     counts = record {
-      items = let z = span_zero full ws (first_slot sizes) sizes.slots (λ d l. ap full (none (first_slot sizes + d)) ∙ sound.free.2) in omega arith;
+      items = let z = span_zero valued ws (first_slot sizes) sizes.slots (λ d l. ap valued (none (first_slot sizes + d)) ∙ sound.empty 0 sound.free.2) in omega arith;
       places = omega arith;
       each = λ j v e. subst CountsByPlace (only j v e) (λ _ _. (refl, refl));
     };
@@ -135,7 +136,7 @@ module _ (γ : ℕ) (sizes : Sizes) where
       low = λ j v e. subst HasUnits (only j v e) (λ i. omega arith);
       quiet = λ i near z. refl;
       founds = λ j v e is i near. outside_free sizes ws (founder sizes γ ∷ []) i
-          (ap full (none (Rattle.sdd_word_invariant.specs.Words.slot_word sizes i)) ∙ sound.free.2);
+          (ap valued (none (Rattle.sdd_word_invariant.specs.Words.slot_word sizes i)) ∙ sound.empty 0 sound.free.2);
       banks = λ j v e is. let f : false ≡ true = ap (λ (u : View). u.stakes.bank) (only j v e) ∙ is in absurd cc;
     };
     lasts = record {
@@ -451,11 +452,12 @@ module _ (γ : ℕ) (sizes : Sizes) where
       → alive (slot_at sizes s.words i) ≡ 0 → waiting (slot_at sizes s.words i) ≡ 0 → full (slot_at sizes s.words i) ≡ 0
       → (y : ValueFraction) × LiesAt sizes.participants s.homes i p y × Has γ i (share sizes.participants 0 p) IsNoValueCode y
   free_at_home s h i p low near dead quiet empty = let n : ℕ = sizes.participants in let b = h.homes.back i p low near (λ j u e out. ⊎_elim
-      (λ (m : Moves u i). still_free γ sizes s h i j u e dead quiet m)
+      (λ (m : Moves u i). still_free γ sizes s h i j u e dead quiet (plain_free codes sound (slot_at sizes s.words i) empty).1 m)
       (λ (o : SeesFrom u i p). let f = (h.kept.parts.slots.each j u e).full i o.0 in absurd (omega arith)) out) in
-      let has = subst (λ (k : ℕ). Has γ i (share n k p) (MatchesSlotWord (full_at sizes s.words i)) b.0) (ap (away n) empty)
+      let vacant : full_at sizes s.words i ≡ 0 = sound.empty (slot_at sizes s.words i) empty in
+      let has = subst (λ (k : ℕ). Has γ i (share n k p) (MatchesSlotWord (full_at sizes s.words i)) b.0) (ap (away n) vacant)
       (h.homes.home i p b.0 low near b.1) in
-      (b.0, b.1, (has.0, has.1.1 empty))
+      (b.0, b.1, (has.0, has.1.1 vacant))
 
   -- once a token knows that all places have ended, nobody has one
   no_place : (s : State ValueFraction View) → DomainInvariant γ sizes s → (id : ℕ) (v : View) → get_elem? s.views id ≡ some v → sizes.participants ≤

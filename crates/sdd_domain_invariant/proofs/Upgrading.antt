@@ -14,7 +14,7 @@ use Rattle.sdd_views.specs.declared.ShownValue.{ShownValue}
 use Rattle.sdd_views.specs.declared.View.{View}
 use Rattle.sdd_views.specs.declared.Sizes.{Sizes}
 use Rattle.sdd_word_invariant.specs.Words.{first_cell, slot_word}
-use Rattle.sdd_word_invariant.specs.Codes.{alive, full, names, counted as kind_of, shared_base, most_owners}
+use Rattle.sdd_word_invariant.specs.Codes.{alive, valued, names, counted as kind_of, shared_base, most_owners}
 use Rattle.sdd_word_invariant.specs.Epoch.{HasPlace, IsLone}
 use Rattle.sdd_word_invariant.specs.Sums.{total}
 use Rattle.sdd_word_invariant.specs.Slots.{slot_at, owners_at, Owns}
@@ -142,7 +142,7 @@ module _ (slots id : ℕ) (me : SeatState) (live : HasPlace me.0.epoch) (rests :
         let same : (j : ℕ) → j < sizes.slots → full_at sizes (set s.words i y) j ≡ full_at sizes s.words j
         = λ j near. dite (ℕ_discrete j slot)
         (λ e. subst (λ (k : ℕ). full_at sizes (set s.words i y) k ≡ full_at sizes s.words k) (sym e)
-        (ap full here ∙ (counts_y.2 ∙ sym (full_owned (slot_at sizes s.words slot) owned))))
+        (ap valued here ∙ (full_owned y (let m = counts_y.0 in omega arith) ∙ sym (full_owned (slot_at sizes s.words slot) owned))))
         (λ ne. steps.others slots id me live slot inside s.words y j near ne) in
         let mine_known = records.mine sizes s.views s.homes r id v at in record {
           stakes = now.stakes;

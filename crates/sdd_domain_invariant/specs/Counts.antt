@@ -7,7 +7,7 @@ use Rattle.sdd_views.specs.declared.View.{View}
 use Rattle.sdd_views.specs.declared.Sizes.{Sizes}
 use Rattle.sdd_word_invariant.specs.Words.{first_slot, state_word}
 use Rattle.sdd_word_invariant.specs.Sums.{total, span}
-use Rattle.sdd_word_invariant.specs.Codes.{full}
+use Rattle.sdd_word_invariant.specs.Codes.{valued}
 
 -- how many items it made, how many it gave back, and how many places it counts for that have ended
 abbrev pub made_by : View → ℕ
@@ -28,9 +28,9 @@ abbrev pub ended_places : List ℕ → ℕ → ℕ
 ended_places ws zero = 0
 ended_places ws (suc p) = over (slice_index ws (state_word p)) + ended_places ws p
 
--- how many slots have an item
+-- how many slots have a value
 abbrev pub full_slots : Sizes → List ℕ → ℕ
-full_slots sizes ws = span full ws (first_slot sizes) sizes.slots
+full_slots sizes ws = span valued ws (first_slot sizes) sizes.slots
 
 -- it made nothing and gave nothing back
 abbrev pub HasNoCounts : View → Type 0

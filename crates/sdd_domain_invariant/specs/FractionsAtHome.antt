@@ -12,9 +12,10 @@ use Rattle.sdd_shared_values.specs.SharedValues.{IsValueCode, IsNoValueCode, mos
 use Rattle.sdd_shared_values.specs.declared.value_fraction.ValueFraction.{ValueFraction}
 use Rattle.sdd_views.specs.declared.View.{View}
 use Rattle.sdd_views.specs.declared.Sizes.{Sizes}
-use Rattle.sdd_word_invariant.specs.Codes.{full}
+use Rattle.sdd_word_invariant.specs.Codes.{valued}
 use Rattle.sdd_word_invariant.specs.Epoch.{HasPlace}
 use Rattle.sdd_word_invariant.specs.Slots.{slot_at, items_at, Owns, Sees}
+use Rattle.sdd_word_invariant.specs.Collectors.{Empties}
 
 -- what lies in the table's slots, where it is at home
 abbrev pub FractionsAtHome : Type 0
@@ -44,9 +45,9 @@ spare n = most - suc n
 abbrev pub away : ℕ → ℕ → ℕ
 away n f = either (eqb f 0) 0 (spare n)
 
--- how full a slot is
+-- 1 where the slot's value is there, or is being moved
 abbrev pub full_at : Sizes → List ℕ → ℕ → ℕ
-full_at sizes ws i = full (slot_at sizes ws i)
+full_at sizes ws i = valued (slot_at sizes ws i)
 
 -- so many units of the place i of the book γ, which aren't lent and show this
 abbrev pub Has : ℕ → ℕ → ℕ → (Gv → Type 0) → ValueFraction → Type 0
@@ -71,9 +72,9 @@ FractionIsTaken v i p = Moves v i ⊎ SeesFrom v i p
 abbrev pub NoneOut : List View → ℕ → ℕ → Type 0
 NoneOut vs i p = (j : ℕ) (v : View) → get_elem? vs j ≡ some v → ¬ (FractionIsTaken v i p)
 
--- who moves a value has a place and an owner of it, or its item waits with it
+-- who moves a value has a place and an owner of it, or its item waits with it, or it empties its slot for a close
 abbrev pub IsMover : View → Type 0
-IsMover v = (i : ℕ) → Moves v i → HasPlace v.epoch × (Owns v i ⊎ (0 < items_at i v))
+IsMover v = (i : ℕ) → Moves v i → HasPlace v.epoch × (Owns v i ⊎ ((0 < items_at i v) ⊎ Empties v i))
 
 -- the p-th stake in the slot i is at home, and it is this one
 abbrev pub LiesAt : ℕ → FractionsAtHome → ℕ → ℕ → ValueFraction → Type 0

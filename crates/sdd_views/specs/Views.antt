@@ -27,11 +27,13 @@ bare = record {
   drawn = [];
   sees = [];
   waits = [];
-  jobs = [];
+  privates = [];
+  emptied = [];
   holds = None;
   closes = None;
   looked = 0;
   empties = None;
+  left = false;
   over = None;
 }
 

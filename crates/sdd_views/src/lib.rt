@@ -3,8 +3,8 @@
 //! No value of these types is made: a token carries one for the proofs alone. Who only carries a token reads no more than this crate; what words and views
 //! have to do with one another is the rule of `sdd_word_invariant`.
 //!
-//! No step of a domain sets these: `adopts` of an epoch's view; `jobs`, `closes` and `empties` of a slots'; `links`; what is counted as `registered`; and what
-//! is `plain`. They are what `specs/Views` says of a token that knows nothing.
+//! No step of a domain sets these: `adopts` of an epoch's view; `links`; what is counted as `registered`; and what is `plain`. They are what `specs/Views` says
+//! of a token that knows nothing.
 #![tactic(auto)]
 
 ghost use base.Stored.{Gv};
@@ -59,6 +59,12 @@ pub struct WaitingItem {
     pub name: u64,
 }
 
+/// An item that waits with a participant for a collector, whose close may take it before its time.
+pub struct PrivateItem {
+    pub collector: u64,
+    pub item: WaitingItem,
+}
+
 /// What a participant knows of slots. A clause reads an array as a list, of any length.
 pub struct SlotsView {
     /// The slots of its owners, one entry for each owner. A slot's word says whether its owners are counted, so that there may be several.
@@ -67,10 +73,12 @@ pub struct SlotsView {
     pub drawn: [u64; 0],
     /// The slots that it sees under its guards, one entry for each time.
     pub sees: [u64; 0],
-    /// The items that wait with it.
+    /// The items that wait with it, and the jobs, by their places in the table of jobs; but for private items.
     pub waits: [WaitingItem; 0],
-    /// The jobs that wait with it, by their places in the table of jobs.
-    pub jobs: [WaitingItem; 0],
+    /// The private items that wait with it, each for its collector.
+    pub privates: [PrivateItem; 0],
+    /// The slots of those private items that it found emptied by their collector's close.
+    pub emptied: [u64; 0],
     /// The slot of its own that it holds, so that nobody comes to see it.
     pub holds: Option<u64>,
     /// The collector for which it looks at the places.
@@ -79,6 +87,8 @@ pub struct SlotsView {
     pub looked: u64,
     /// The slot whose private item it moves out for a collector's close.
     pub empties: Option<u64>,
+    /// Whether it found that the item's bag has let go of that slot, which is then its to give back.
+    pub left: bool,
     /// The slot whose number of owners it has raised past the bound, until it takes that back.
     pub over: Option<u64>,
 }

@@ -1,5 +1,5 @@
 -- Places that are barred stay so, and one that is nobody's may be barred by a token without a place. Once all are, a slot that is free stays quiet.
-use Rattle.std.proofs.Common.{◌≡◌, ◌⊎◌, ℕ, ◌+◌, ◌<◌, ◌≤◌, eqb, List, length, map, get_or, set, sym, refl, ap, ◌∙◌, subst, ⊎_elim, arith, length-set, get_or-set_other, get_or-set_same}
+use Rattle.std.proofs.Common.{◌≡◌, ◌⊎◌, ℕ, ◌+◌, ◌<◌, ◌≤◌, eqb, List, length, map, get_or, set, sym, refl, ap, ◌∙◌, subst, inl, ⊎_elim, arith, length-set, get_or-set_other, get_or-set_same}
 use Rattle.std.proofs.lemmas.List.{get_or_past}
 use mathlib.Core.Option.{some}
 use mathlib.Core.Logic.{dite}
@@ -22,6 +22,7 @@ use Rattle.sdd_word_invariant.proofs.Codes.{sound}
 use Rattle.sdd_word_invariant.proofs.Epoch as epochs
 use Rattle.sdd_word_invariant.proofs.SlotWords.{below}
 use Rattle.sdd_word_invariant.proofs.Lone.{lone_beside}
+use Rattle.sdd_word_invariant.proofs.Collectors.{words_kept}
 use Rattle.sdd_word_invariant.proofs.Lift.{blind_places}
 
 module _ (sizes : Sizes) (ws : List ℕ) (i y : ℕ) where
@@ -87,6 +88,8 @@ module _ (sizes : Sizes) where
     epoch = epochs.barred sizes.participants ws (map epoch_of vs) p k.epoch inside nobodys;
     slots = below codes sizes ws vs (state_word p) 4 (omega arith) k.slots;
     lone = lone_beside sizes ws vs k.lone (state_word p) 4 (omega arith);
+    collectors = words_kept codes sound sizes ws vs k.collectors (set ws (state_word p) 4)
+        (λ j. inl (get_or-set_other ws (state_word p) (slot_word sizes j) 4 0 (λ e. omega arith)));
   }
 
   -- the next place is barred, or is now, unless it is in another state

@@ -1,5 +1,5 @@
 -- The steps on cells keep all parts.
-use Rattle.std.proofs.Common.{List, [], ◌∷◌, ◌≡◌, None, Some, ℕ, ◌+◌, ◌<◌, eqb, map, get_or, set, sym, refl, ap, ◌∙◌, subst, ⊎_elim, arith, get_or-set_other}
+use Rattle.std.proofs.Common.{List, [], ◌∷◌, ◌≡◌, None, Some, ℕ, ◌+◌, ◌<◌, eqb, map, get_or, set, sym, refl, ap, ◌∙◌, subst, inl, ⊎_elim, arith, get_or-set_other}
 use mathlib.Core.Logic.{dite}
 use mathlib.Core.Option.{some}
 use lib.ListN.{get_elem?}
@@ -12,7 +12,7 @@ use Rattle.sdd_views.specs.declared.Sizes.{Sizes}
 use Rattle.sdd_word_invariant.specs.Words.{cell_word, slot_word}
 use Rattle.sdd_word_invariant.specs.Codes.{codes, held_slots}
 use Rattle.sdd_word_invariant.specs.Epoch.{HasPlace, IsOpen}
-use Rattle.sdd_word_invariant.specs.Slots.{Sees}
+use Rattle.sdd_word_invariant.specs.Slots.{slot_at, Sees}
 use Rattle.sdd_word_invariant.specs.Sums.{times}
 use Rattle.sdd_word_invariant.specs.EpochSteps.{Steps}
 use Rattle.sdd_word_invariant.specs.SlotSteps.{seeing}
@@ -24,7 +24,9 @@ use Rattle.sdd_word_invariant.proofs.EpochSteps.{seen_after}
 use Rattle.sdd_word_invariant.proofs.Lone.{finds_word, lone_written}
 use Rattle.sdd_word_invariant.proofs.Seeing as seen
 use Rattle.sdd_word_invariant.proofs.SlotSteps as steps
-use Rattle.sdd_word_invariant.proofs.SlotWords.{cell_step}
+use Rattle.sdd_word_invariant.proofs.SlotWords.{cell_step, named_in}
+use Rattle.sdd_word_invariant.proofs.Collectors.{sees_plain, plain_alive}
+use Rattle.sdd_word_invariant.proofs.Collectors as private
 use Rattle.sdd_word_invariant.proofs.Sums.{is_same}
 
 module _ (id : ℕ) (v : View) (live : HasPlace v.epoch) (cell : ℕ) where
@@ -68,6 +70,8 @@ module _ (id : ℕ) (v : View) (live : HasPlace v.epoch) (cell : ℕ) where
               (λ j u _ e. let o = s.two id j v u at e in let o' = s.two j id u v e at in
               (record { since = o.since; looked = o.looked }, record { since = o'.since; looked = o'.looked }));
           lone = lone_written sizes ws vs p.lone id v at p.epoch live cell y w refl;
+          collectors = private.word_kept codes sound sizes ws vs p.collectors id v at i y w (omega arith)
+              (private.aside_kept v w (refl, refl, refl, refl, refl, refl, refl, refl, refl) (omega arith) (omega arith)) (λ k h. inl (h, refl, refl));
         }
 
     -- what it has goes into the cell, and what the cell held comes
@@ -150,7 +154,10 @@ module _ (id : ℕ) (v : View) (live : HasPlace v.epoch) (cell : ℕ) where
       (λ no. let named = held_in x slot in let t = ap (times slot) one.1 in let one_is = is_same slot slot refl in (
         seeing slot v,
         steps.loaded id v live ws vs p at i (seeing slot v) refl refl
-            (seen.loads codes sound sizes ws vs p.slots id v at cell slot inside is_open (omega arith)),
+            (seen.loads codes sound sizes ws vs p.slots id v at cell slot inside is_open (omega arith))
+            (private.view_kept codes sound sizes ws vs p.collectors id v (seeing slot v) at
+            (private.sight_kept v slot) (sees_plain codes sizes ws v slot (plain_alive codes sound (slot_at sizes ws slot)
+            (let n = named_in codes sound sizes ws vs p.slots id cell slot v at inside in omega arith)))),
         λ other is. (
           (λ k e _. ap (λ (m : ℕ). seeing m v) (same k e)),
           (λ k e has. absurd (no (subst (Sees v) (sym (same k e)) has))),

@@ -1,23 +1,30 @@
 -- The steps of the epoch's part keep the other parts too.
-use Rattle.std.proofs.Common.{◌≡◌, ℕ, ◌<◌, List, map, get_or, set, sym, refl, ap, ◌∙◌, subst, eqb, arith}
+use Rattle.std.proofs.Common.{◌≡◌, ℕ, ◌<◌, List, map, get_or, set, sym, refl, ap, ◌∙◌, subst, eqb, inl, eq-eqb, ne_eqb, arith, get_or-set_other}
+use mathlib.Core.Bool.{cond}
+use mathlib.Core.Option.{some}
+use lib.ListN.{get_elem?}
 use mathlib.Core.Logic.{dite}
 use native.Mathlib.Decide.{ℕ_discrete}
 use lib.Seq.{map-set}
 use prog.Atomic.{either}
 use Rattle.atomic_table.proofs.Lists.{at_map}
 use Rattle.sdd_views.specs.declared.EpochView.{EpochView}
+use Rattle.sdd_views.specs.declared.SlotsView.{SlotsView}
 use Rattle.sdd_views.specs.declared.View.{View}
 use Rattle.sdd_views.specs.declared.Sizes.{Sizes}
-use Rattle.sdd_word_invariant.specs.Words.{state_word, after_places}
+use Rattle.sdd_word_invariant.specs.Words.{state_word, slot_word, first_slot, after_places}
 use Rattle.sdd_word_invariant.specs.Codes.{codes}
 use Rattle.sdd_word_invariant.specs.Epoch.{HasPlace, IsClosed, IsOpen, Scans, EpochInvariant}
+use Rattle.sdd_word_invariant.specs.Slots.{Sees}
+use Rattle.sdd_word_invariant.specs.Collectors.{CollectorsInvariant}
 use Rattle.sdd_views.specs.Views.{nobody}
-use Rattle.sdd_word_invariant.specs.EpochSteps.{Steps, Keeps, published, closed, Registers}
-use Rattle.sdd_word_invariant.specs.SlotSteps.{blank, changed, unseeing, OnEpoch, PublishesAll, ClosesAll}
+use Rattle.sdd_word_invariant.specs.EpochSteps.{Steps, Keeps, Rises, published, closed, Registers}
+use Rattle.sdd_word_invariant.specs.SlotSteps.{blank, aged, changed, unseeing, OnEpoch, PublishesAll, ClosesAll}
 use Rattle.sdd_word_invariant.specs.WordInvariant.{epoch_of, with_epoch, with_both, Parts}
 use Rattle.sdd_word_invariant.proofs.Codes.{sound}
 use Rattle.sdd_word_invariant.proofs.Epoch as epochs
 use Rattle.sdd_word_invariant.proofs.SlotEpochs as slots
+use Rattle.sdd_word_invariant.proofs.Collectors as private
 use Rattle.sdd_word_invariant.proofs.Lone.{still_blank, lone_spared}
 
 module _ (sizes : Sizes) where
@@ -25,6 +32,22 @@ module _ (sizes : Sizes) where
   pub seen_after : (ws : List ℕ) (vs : List View) (id : ℕ) (w : View) → EpochInvariant sizes.participants ws (set (map epoch_of vs) id w.epoch)
       → EpochInvariant sizes.participants ws (map epoch_of (set vs id w))
   seen_after ws vs id w = subst (λ (l : List EpochView). EpochInvariant sizes.participants ws l) (sym (map-set epoch_of vs id w))
+
+  -- what is known of the epoch rises, and an open guard stays as it is published
+  rises : (ws : List ℕ) (vs : List View) → Parts sizes ws vs → (id : ℕ) (v : View) → get_elem? vs id ≡ some v → (i y : ℕ) → i < first_slot sizes
+      → (e : EpochView) → Rises v.epoch e → CollectorsInvariant codes sizes (set ws i y) (set vs id (with_epoch v e))
+  rises ws vs p id v at i y low e up = private.word_kept codes sound sizes ws vs p.collectors id v at i y (with_epoch v e) low
+      record {
+        privates = refl;
+        emptied = refl;
+        empties = refl;
+        left = refl;
+        closes = refl;
+        looked = omega arith;
+        known = up.known;
+        found = up.found;
+      }
+      (λ j h. let g = up.guard ((p.slots.each id v at).guarded j h) in inl (h, g.1, g.2))
 
   module _ (id : ℕ) (v : View) (i : ℕ) (f : ℕ → ℕ) (low : i < after_places sizes.participants) where
     -- a step that takes no place, publishes nothing and closes nothing
@@ -37,6 +60,7 @@ module _ (sizes : Sizes) where
             epoch = seen_after (set ws i y) vs id w k.1;
             slots = slots.mild codes sound sizes ws vs p.slots id v at i y (omega arith) e k.2;
             lone = lone_spared sizes ws vs p.lone id v at i y w low refl (λ one z. p.lone.knows one id v at (had (get_or ws i 0) e k.3 z));
+            collectors = rises ws vs p id v at i y (omega arith) e k.2;
           },
           (e, refl, k.3),
         )
@@ -57,6 +81,7 @@ module _ (sizes : Sizes) where
               clean ∙ sym (still_blank sizes ws k.slots.long (k.epoch.unused one (ap (λ (q : ℕ). get_or ws (state_word q) 0) first ∙ hit))))
               (λ miss. let same = ap (λ (u : EpochView). u.state) ((r.3 p refl).1 miss) in let free = ap (λ (u : EpochView). u.state) none in
               absurd (omega arith)));
+          collectors = rises ws vs k id v at i y (omega arith) e r.2;
         },
         (e, refl, r.3),
       )
@@ -73,6 +98,26 @@ module _ (sizes : Sizes) where
               k.1);
           slots = slots.publishes codes sound sizes ws vs p.slots id v at i 2 (omega arith) g shut now t.2 found;
           lone = lone_spared sizes ws vs p.lone id v at i 2 w (omega arith) refl (λ one z. p.lone.knows one id v at (omega arith));
+          collectors = let c = private.words_kept codes sound sizes ws vs p.collectors (set ws i 2)
+              (λ j. inl (get_or-set_other ws i (slot_word sizes j) 2 0 (λ e. omega arith))) in
+              let blind : (j : ℕ) → ¬ (Sees v j) = λ j h. let o = (p.slots.each id v at).guarded j h in omega arith in
+              let after = λ (s : SlotsView). CollectorsInvariant codes sizes (set ws i 2) (set vs id (with_both v (published v.epoch g) s)) in
+              dite (ℕ_discrete v.epoch.count v.epoch.found)
+              (λ e. subst after (sym (ap (λ (b : _). cond b v.slots (aged v.slots)) (eq-eqb v.epoch.count v.epoch.found e)))
+              (private.view_kept codes sound sizes (set ws i 2) vs c id v (with_both v (published v.epoch g) v.slots) at
+              record {
+                privates = refl;
+                emptied = refl;
+                empties = refl;
+                left = refl;
+                closes = refl;
+                looked = omega arith;
+                known = t.2;
+                found = omega arith;
+              }
+              (λ j h. absurd (blind j h))))
+              (λ ne. subst after (sym (ap (λ (b : _). cond b v.slots (aged v.slots)) (ne_eqb v.epoch.count v.epoch.found ne)))
+              (private.ages codes sound sizes (set ws i 2) vs c id v at g shut now t.2 found blind ne));
         },
         (published v.epoch g, refl, (g, refl, t.2, t.3)),
       )
@@ -88,6 +133,18 @@ module _ (sizes : Sizes) where
               k.1);
           slots = slots.closes codes sound sizes ws vs p.slots id v at i 1 (omega arith);
           lone = lone_spared sizes ws vs p.lone id v at i 1 w (omega arith) refl (λ one z. p.lone.knows one id v at (omega arith));
+          collectors = private.word_kept codes sound sizes ws vs p.collectors id v at i 1 w (omega arith)
+              record {
+                privates = refl;
+                emptied = refl;
+                empties = refl;
+                left = refl;
+                closes = refl;
+                looked = omega arith;
+                known = omega arith;
+                found = omega arith;
+              }
+              (λ j h. absurd (omega arith));
         },
         refl,
       )

@@ -6,6 +6,7 @@ pub mod SlotWords
 pub mod Owning
 pub mod Seeing
 pub mod SlotEpochs
+pub mod Collectors
 pub mod Lone
 pub mod Holding
 pub mod Tokens
@@ -14,6 +15,8 @@ pub mod Deferring
 pub mod Pigeons
 pub mod EpochSteps
 pub mod SlotSteps
+pub mod PrivateSlots
+pub mod CollectorSteps
 pub mod RawSteps
 pub mod CellSteps
 pub mod PointerSteps

@@ -14,7 +14,7 @@ use Rattle.sdd_views.specs.declared.PledgesView.{PledgesView}
 use Rattle.sdd_views.specs.declared.View.{View}
 use Rattle.sdd_views.specs.declared.Sizes.{Sizes}
 use Rattle.sdd_word_invariant.specs.Codes.{codes}
-use Rattle.sdd_word_invariant.specs.Words.{all_words}
+use Rattle.sdd_word_invariant.specs.Words.{slot_word, all_words}
 use Rattle.sdd_word_invariant.specs.Sums.{is, times}
 use Rattle.sdd_word_invariant.specs.SlotSteps.{first, others, parted, joined}
 use Rattle.sdd_word_invariant.proofs.Sums.{total_append}
@@ -32,6 +32,7 @@ use Rattle.sdd_word_invariant.proofs.SlotWords.{view_step}
 use Rattle.sdd_word_invariant.proofs.Tokens.{with_owners, sits, starts}
 use Rattle.sdd_word_invariant.proofs.Tokens as tokens
 use Rattle.sdd_word_invariant.proofs.Lone.{lone_same}
+use Rattle.sdd_word_invariant.proofs.Collectors.{view_aside, more, starts as nothing}
 
 -- a step that leaves what is known of the epoch
 pub same_epochs : (vs : List View) (id : ℕ) (v w : View) → get_elem? vs id ≡ some v → w.epoch ≡ v.epoch → map epoch_of (set vs id w) ≡ map epoch_of vs
@@ -57,6 +58,7 @@ blind_units sizes ws vs id u v was p t units = let us : List View = set vs id v 
           (λ j x apart e. let a = p.slots.two id j v x at e in let b = p.slots.two j id x v e at in
           (record { since = a.since; looked = a.looked }, record { since = b.since; looked = b.looked }));
       lone = lone_same sizes ws us p.lone id v at w refl (λ z. z);
+      collectors = view_aside codes sound sizes ws us p.collectors id v w at (refl, refl, refl, refl, refl, refl, refl, refl, refl) (omega arith) (omega arith);
     }
 
 pub blind : (sizes : Sizes) (ws : List ℕ) (vs : List View) (id : ℕ) (u v : View) → get_elem? vs id ≡ some u → Parts sizes ws (set vs id v)
@@ -74,6 +76,7 @@ blind_places sizes ws vs id v at p t = let w : View = record v { places = t } in
       (λ j x apart e. let a = p.slots.two id j v x at e in let b = p.slots.two j id x v e at in
       (record { since = a.since; looked = a.looked }, record { since = b.since; looked = b.looked }));
   lone = lone_same sizes ws vs p.lone id v at w refl (λ z. z);
+  collectors = view_aside codes sound sizes ws vs p.collectors id v w at (refl, refl, refl, refl, refl, refl, refl, refl, refl) (omega arith) (omega arith);
 }
 
 -- nor of what is pledged, nor of rights to cells
@@ -87,6 +90,7 @@ blind_tokens sizes ws vs id v at p t c = let w : View = record v { pledges = t; 
       (λ j x apart e. let a = p.slots.two id j v x at e in let b = p.slots.two j id x v e at in
       (record { since = a.since; looked = a.looked }, record { since = b.since; looked = b.looked }));
   lone = lone_same sizes ws vs p.lone id v at w refl (λ z. z);
+  collectors = view_aside codes sound sizes ws vs p.collectors id v w at (refl, refl, refl, refl, refl, refl, refl, refl, refl) (omega arith) (omega arith);
 }
 
 -- one token more, which has no place
@@ -111,6 +115,8 @@ module _ {S : Type 0} (sizes : Sizes) where
             (seated n n (λ _. refl) s.words (map epoch_of s.views) k.parts.epoch);
         slots = sits codes sizes s.words s.views k.parts.slots w refl;
         lone = snoc_lone sizes s.words s.views w (λ z. absurd (omega arith)) k.parts.lone;
+        collectors = more codes sound sizes s.words s.views k.parts.collectors w
+            record { privates = refl; emptied = refl; empties = refl; closes = refl; sees = refl };
       };
       places = record {
         wide = k.places.wide;
@@ -129,6 +135,8 @@ module _ {S : Type 0} (sizes : Sizes) where
       epoch = epochs.begins sizes.participants ws (omega arith) none;
       slots = starts codes sound sizes ws w long none refl;
       lone = record { knows = λ one j v e z. let e' = ap (λ (x : View). x.epoch.state) (only w j v e) in absurd (omega arith) };
+      collectors = more codes sound sizes ws [] (nothing codes sound sizes ws (λ i. none (slot_word sizes i))) w
+          record { privates = refl; emptied = refl; empties = refl; closes = refl; sees = refl };
     };
     places = record {
       wide = omega arith;
@@ -155,6 +163,10 @@ module _ {S : Type 0} (sizes : Sizes) where
               (seated n 0 (λ z. absurd (z refl)) s.words (map epoch_of s.views) k.parts.epoch);
           slots = tokens.cuts codes sizes s.words s.views k.parts.slots id v at os units mine t os' refl parts held;
           lone = snoc_lone sizes s.words vs t (λ z. absurd (omega arith)) (lone_same sizes s.words s.views k.parts.lone id v at w refl (λ z. z));
+          collectors = more codes sound sizes s.words vs
+              (view_aside codes sound sizes s.words s.views k.parts.collectors id v w at
+              (refl, refl, refl, refl, refl, refl, refl, refl, refl) (omega arith) (omega arith)) t
+              record { privates = refl; emptied = refl; empties = refl; closes = refl; sees = refl };
         };
         places = record {
           wide = k.places.wide;
@@ -179,6 +191,10 @@ module _ {S : Type 0} (sizes : Sizes) where
               (sym (same_epochs vs other t t' there refl ∙ same_epochs s.views id v w at refl)) k.parts.epoch;
           slots = tokens.takes_in codes sizes s.words s.views k.parts.slots id v at os units mine other t t' os' refl refl parts apart was;
           lone = lone_same sizes s.words vs (lone_same sizes s.words s.views k.parts.lone id v at w refl (λ z. z)) other t there t' refl (λ z. z);
+          collectors = view_aside codes sound sizes s.words vs
+              (view_aside codes sound sizes s.words s.views k.parts.collectors id v w at
+              (refl, refl, refl, refl, refl, refl, refl, refl, refl) (omega arith) (omega arith)) other t t' there
+              (refl, refl, refl, refl, refl, refl, refl, refl, refl) (omega arith) (omega arith);
         };
         places = record {
           wide = k.places.wide;

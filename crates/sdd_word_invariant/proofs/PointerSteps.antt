@@ -1,5 +1,5 @@
 -- The steps on the words of cells' pointers keep all parts: these words own nothing, and so any may be written there.
-use Rattle.std.proofs.Common.{◌≡◌, ◌<◌, ℕ, List, eqb, map, get_or, set, sym, refl, ap, ◌∙◌, subst, inr, arith}
+use Rattle.std.proofs.Common.{◌≡◌, ◌<◌, ℕ, List, eqb, map, get_or, set, sym, refl, ap, ◌∙◌, subst, inl, inr, arith}
 use mathlib.Core.Option.{some}
 use lib.ListN.{get_elem?}
 use prog.Atomic.{either}
@@ -18,6 +18,7 @@ use Rattle.sdd_word_invariant.proofs.EpochSteps.{seen_after}
 use Rattle.sdd_word_invariant.proofs.Lone.{finds_word, lone_written}
 use Rattle.sdd_word_invariant.proofs.SlotSteps as steps
 use Rattle.sdd_word_invariant.proofs.SlotWords.{aside, view_step}
+use Rattle.sdd_word_invariant.proofs.Collectors as private
 
 module _ (id : ℕ) (v : View) (live : HasPlace v.epoch) (cell : ℕ) (inside : cell < v.sizes.cells) where
   abbrev sizes : Sizes
@@ -51,6 +52,8 @@ module _ (id : ℕ) (v : View) (live : HasPlace v.epoch) (cell : ℕ) (inside : 
           (λ j u _ e. let o = s.two id j v u at e in let o' = s.two j id u v e at in
           (record { since = o.since; looked = o.looked }, record { since = o'.since; looked = o'.looked })));
       lone = lone_written sizes ws vs p.lone id v at p.epoch live (pointer_behind sizes cell) y w refl;
+      collectors = private.word_kept codes sound sizes ws vs p.collectors id v at i y w (omega arith)
+          (private.aside_kept v w (refl, refl, refl, refl, refl, refl, refl, refl, refl) (omega arith) (omega arith)) (λ k h. inl (h, refl, refl));
     }
 
   -- a look

@@ -1,5 +1,5 @@
 -- An item is put out as raw, taken back, and seen under a guard meanwhile: these steps keep all parts.
-use Rattle.std.proofs.Common.{List, ◌≡◌, ◌≢◌, ◌⊎◌, inl, inr, ℕ, ◌<◌, eqb, get_or, set, sym, refl, ap, ◌∙◌, subst, ⊎_elim}
+use Rattle.std.proofs.Common.{List, ◌≡◌, ◌≢◌, ◌⊎◌, inl, inr, ℕ, ◌<◌, eqb, get_or, set, sym, refl, ap, ◌∙◌, subst, ⊎_elim, arith}
 use mathlib.Core.Logic.{dite}
 use lib.ListN.{get_elem?}
 use mathlib.Core.Option.{some}
@@ -15,7 +15,10 @@ use Rattle.sdd_word_invariant.specs.Sums.{times}
 use Rattle.sdd_word_invariant.specs.EpochSteps.{Steps}
 use Rattle.sdd_word_invariant.specs.SlotSteps.{noted, claimed, turned_raw, seeing, TurnsRaw, Regains, SeesRaw, AtSlot}
 use Rattle.sdd_word_invariant.specs.WordInvariant.{Parts}
-use Rattle.sdd_word_invariant.proofs.Codes.{sound, owned_is, raw_is}
+use Rattle.sdd_word_invariant.proofs.Codes.{sound, owned_is, raw_is, raw_plain}
+use Rattle.sdd_word_invariant.proofs.SlotWords.{alone_is}
+use Rattle.sdd_word_invariant.proofs.Collectors.{IsPlain, plain_alive, sees_plain}
+use Rattle.sdd_word_invariant.proofs.Collectors as private
 use Rattle.sdd_word_invariant.proofs.Owning as owning
 use Rattle.sdd_word_invariant.proofs.Seeing as seen
 use Rattle.sdd_word_invariant.proofs.SlotSteps as steps
@@ -28,7 +31,13 @@ module _ (id : ℕ) (v : View) (live : HasPlace v.epoch) where
       × AtSlot TurnsRaw (slot_word v.sizes slot) v (raw_word generation) w
   turns_raw slot g inside mine free low ws vs p at firm = let y : ℕ = raw_word g in let w : View = turned_raw slot y v in let word = raw_is g low in (
     w,
-    steps.around id v live ws vs p at slot y w live refl (steps.same_epochs id v live ws vs p at)
+    steps.around id v live ws vs p at slot y w live refl
+        (inr (
+          plain_alive codes sound (slot_at v.sizes ws slot)
+              (let a = (alone_is codes sound v.sizes ws vs p.slots id slot v at mine firm).1 in omega arith),
+          raw_plain g low,
+        ))
+        (refl, refl, refl, refl, refl, refl, refl, refl, refl) (omega arith) (omega arith) (steps.same_epochs id v live ws vs p at)
         (owning.turns_raw codes sound v.sizes ws vs p.slots id v at slot y (noted slot y v) inside mine firm free word.0 word.1 word.2),
     λ other is. ap (λ (k : ℕ). turned_raw k y v) (steps.same_slot id v live slot other is),
   )
@@ -42,7 +51,9 @@ module _ (id : ℕ) (v : View) (live : HasPlace v.epoch) where
       exchanged x old new (λ y. (u : View) × Parts v.sizes (set ws i y) (set vs id u) × AtSlot (λ slot. Regains slot old new) i v x u)
       (λ hit. let raw = raw_is g low' in let own = owned_is g low in (
         w,
-        steps.around id v live ws vs p at slot new w live refl (steps.same_epochs id v live ws vs p at)
+        steps.around id v live ws vs p at slot new w live refl
+            (inr (subst (IsPlain codes) (sym hit) (raw_plain g low'), plain_alive codes sound new (let o = own.0 in omega arith)))
+            (refl, refl, refl, refl, refl, refl, refl, refl, refl) (omega arith) (omega arith) (steps.same_epochs id v live ws vs p at)
             (owning.claims codes sound v.sizes ws vs p.slots id v at slot new (noted slot new v) inside
             (ap codes.alive hit ∙ raw.0) (ap codes.waiting hit ∙ raw.1) own.0),
         λ other is. (
@@ -78,7 +89,9 @@ module _ (id : ℕ) (v : View) (live : HasPlace v.epoch) where
         w,
         steps.loaded id v live ws vs p at i w refl refl
             (seen.sees_raw codes sound v.sizes ws vs p.slots id v at slot is_open (ap codes.full hit ∙ raw.2) (ap codes.alive hit ∙ raw.0)
-            (ap codes.waiting hit ∙ raw.1)),
+            (ap codes.waiting hit ∙ raw.1))
+            (private.view_kept codes sound v.sizes ws vs p.collectors id v w at (private.sight_kept v slot)
+            (sees_plain codes v.sizes ws v slot (subst (IsPlain codes) (sym hit) (raw_plain g low)))),
         λ other is. let same = steps.same_slot id v live slot other is in (
           (λ _ _. ap (λ (k : ℕ). seeing k v) same),
           (λ why. ⊎_elim (λ (miss : x ≢ old). absurd (miss hit)) (λ (sees : Sees v other). absurd (unseen (subst (Sees v) (sym same) sees))) why),

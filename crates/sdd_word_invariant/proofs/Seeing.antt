@@ -16,7 +16,7 @@ use Rattle.sdd_word_invariant.proofs.Sums.{is_other}
 use Rattle.sdd_word_invariant.proofs.SlotWords.{view_step, none_waits, owner_in, named_in, waiter_in, none_holds, held_is}
 
 -- what is seen now was seen before, or is the new slot
-sees_more : (v : View) (i a : ℕ) → Sees (seeing i v) a → (a ≡ i) ⊎ Sees v a
+pub sees_more : (v : View) (i a : ℕ) → Sees (seeing i v) a → (a ≡ i) ⊎ Sees v a
 sees_more v i a h = dite (ℕ_discrete a i) (λ e. inl e) (λ ne. let o = is_other a i (λ e. ne (sym e)) in inr (omega arith))
 
 module _ (z : WordReading) (sound : IsWordReading z) (sizes : Sizes) (ws : List ℕ) (vs : List View) (s : SlotsInvariant z sizes ws vs) (id : ℕ) (v : View)

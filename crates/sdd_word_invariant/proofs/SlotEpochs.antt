@@ -15,12 +15,12 @@ use Rattle.sdd_word_invariant.specs.Epoch.{IsClosed, IsOpen}
 use Rattle.sdd_word_invariant.specs.EpochSteps.{Rises, published, closed}
 use Rattle.sdd_word_invariant.specs.Codes.{WordReading, IsWordReading}
 use Rattle.sdd_word_invariant.specs.Slots.{waits_in, Sees, IsTimed, SlotsInvariant}
-use Rattle.sdd_word_invariant.specs.SlotSteps.{older, changed, unseeing}
+use Rattle.sdd_word_invariant.specs.SlotSteps.{older, aged as aged_slots, changed, unseeing}
 use Rattle.sdd_word_invariant.specs.WordInvariant.{with_epoch, with_both}
 use Rattle.sdd_word_invariant.proofs.Sums.{total_map}
 use Rattle.sdd_word_invariant.proofs.SlotWords.{view_step, below}
 
-of_map : {A B : Type 0} (f : A → B) (l : List A) (i : ℕ) (y : B) → get_elem? (map f l) i ≡ some y → (x : A) × (get_elem? l i ≡ some x) × (f x ≡ y)
+pub of_map : {A B : Type 0} (f : A → B) (l : List A) (i : ℕ) (y : B) → get_elem? (map f l) i ≡ some y → (x : A) × (get_elem? l i ≡ some x) × (f x ≡ y)
 of_map f [] i y e = absurd (some-ne-none y (sym e))
 of_map f (x ∷ xs) zero y e = (x, refl, some-injective _ _ e)
 of_map f (x ∷ xs) (suc i) y e = of_map f xs i y e
@@ -54,7 +54,7 @@ module _ (z : WordReading) (sound : IsWordReading z) (sizes : Sizes) (ws : List 
   -- each item has seen one change more, since a publish found another count than the last one
   module _ (g : ℕ) (shut : IsClosed v.epoch) (now : v.epoch.count ≡ v.epoch.known) (rises : v.epoch.known ≤ g) (found : v.epoch.found ≤ v.epoch.known) where
     abbrev aged : View
-    aged = with_both v (published v.epoch g) (record v.slots { waits = map older v.slots.waits })
+    aged = with_both v (published v.epoch g) (aged_slots v.slots)
 
     ages : v.epoch.count ≢ v.epoch.found → SlotsInvariant z sizes (set ws j y) (set vs id aged)
     ages other = let f = s.each id v at in
@@ -86,9 +86,9 @@ module _ (z : WordReading) (sound : IsWordReading z) (sizes : Sizes) (ws : List 
     pub publishes : SlotsInvariant z sizes (set ws j y) (set vs id (with_both v (published v.epoch g) (changed v)))
     publishes = let slots = λ (t : SlotsView). SlotsInvariant z sizes (set ws j y) (set vs id (with_both v (published v.epoch g) t)) in
         dite (ℕ_discrete v.epoch.count v.epoch.found)
-        (λ e. subst slots (sym (ap (λ (t : _). cond t v.slots (record v.slots { waits = map older v.slots.waits })) (eq-eqb v.epoch.count v.epoch.found e)))
+        (λ e. subst slots (sym (ap (λ (t : _). cond t v.slots (aged_slots v.slots)) (eq-eqb v.epoch.count v.epoch.found e)))
         (mild (published v.epoch g) record { known = rises; found = omega arith; guard = λ is_open. absurd (omega arith) }))
-        (λ ne. subst slots (sym (ap (λ (t : _). cond t v.slots (record v.slots { waits = map older v.slots.waits })) (ne_eqb v.epoch.count v.epoch.found ne)))
+        (λ ne. subst slots (sym (ap (λ (t : _). cond t v.slots (aged_slots v.slots)) (ne_eqb v.epoch.count v.epoch.found ne)))
         (ages ne))
 
   -- a close: what was seen is forgotten

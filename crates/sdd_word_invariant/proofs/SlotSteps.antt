@@ -1,7 +1,7 @@
 -- The steps on slots keep all parts.
 use Rattle.std.specs.Prelude.{Option, Some}
 use Rattle.std.proofs.lemmas.List.{set-set}
-use Rattle.std.proofs.Common.{None, ◌≡◌, ◌≢◌, ℕ, suc, ◌+◌, ◌-◌, ◌%◌, ◌^◌, ◌<◌, ◌≤◌, eqb, List, ◌∷◌, map, get_or, set, sym, refl, ap, ◌∙◌, subst, arith}
+use Rattle.std.proofs.Common.{None, ◌≡◌, ◌≢◌, ℕ, suc, ◌+◌, ◌-◌, ◌%◌, ◌^◌, ◌<◌, ◌≤◌, eqb, List, ◌∷◌, map, get_or, set, sym, refl, ap, ◌∙◌, subst, inr, arith}
 use mathlib.Core.Option.{some}
 use mathlib.Core.Logic.{dite}
 use native.Mathlib.Decide.{ℕ_discrete, dec_lt}
@@ -17,7 +17,8 @@ use Rattle.sdd_word_invariant.specs.Words.{global_word, state_word, slot_word, m
 use Rattle.sdd_word_invariant.specs.Codes.{codes, shared_base, free_word, waiting_word, alive, waiting, counted, most_owners, shared_word, held_word}
 use Rattle.sdd_word_invariant.specs.Sums.{times}
 use Rattle.sdd_word_invariant.specs.Epoch.{HasPlace, IsOpen, EpochInvariant}
-use Rattle.sdd_word_invariant.specs.Slots.{slot_at, owners_at, items_at, Owns, Holds, SlotsInvariant}
+use Rattle.sdd_word_invariant.specs.Slots.{slot_at, owners_at, items_at, Owns, Sees, Holds, SlotsInvariant}
+use Rattle.sdd_word_invariant.specs.Collectors.{CollectorsInvariant}
 use Rattle.sdd_word_invariant.specs.EpochSteps.{Steps}
 use Rattle.sdd_word_invariant.specs.SlotSteps.{noted, Knew, claimed, retired, deferred, given_back, seeing, Claims, Retires, Defers, GivesBack, AtSlot, held, release_hold, looked_past, discarded, TakesHold, LetsGo, Discards, LooksForGuard, LooksAtSlot, others, one_less, Releases, one_more, taken_back, Adds, TakesBack, held_by, shared_again, TriesHold, SharesAgain, LeavesBeside, AddsBeside}
 use Rattle.sdd_word_invariant.specs.WordInvariant.{epoch_of, Parts}
@@ -27,10 +28,12 @@ use Rattle.sdd_word_invariant.proofs.EpochSteps.{seen_after}
 use Rattle.sdd_word_invariant.proofs.Owning as owning
 use Rattle.sdd_word_invariant.proofs.Seeing as seen
 use Rattle.sdd_word_invariant.proofs.Holding as holding
-use Rattle.sdd_word_invariant.proofs.SlotWords.{view_step, owner_in, alone_is, held_is}
+use Rattle.sdd_word_invariant.proofs.SlotWords.{view_step, owner_in, waiter_in, alone_is, held_is}
 use Rattle.sdd_word_invariant.proofs.Sums.{is_same, is_other}
 use Rattle.sdd_word_invariant.proofs.Lone.{finds, lone_same, lone_noted}
 use Rattle.sdd_word_invariant.proofs.Waits as waits
+use Rattle.sdd_word_invariant.proofs.Collectors.{IsPlain, IsUnmarked, Aside, sees_plain, plain_alive, plain_waiting, plain_free}
+use Rattle.sdd_word_invariant.proofs.Collectors as private
 use Rattle.sdd_word_invariant.proofs.Deferring as deferring
 
 -- an addition of one, as the machine does it
@@ -54,15 +57,24 @@ module _ (id : ℕ) (v : View) (live : HasPlace v.epoch) where
     same_epochs = subst (λ (l : List EpochView). EpochInvariant sizes.participants ws l) (sym (set_again (map epoch_of vs) id v.epoch at_epoch)) p.epoch
 
     -- the other parts after a step on a slot's word
-    pub around : (slot y : ℕ) (w : View) → HasPlace w.epoch → w.words ≡ noted slot y v → EpochInvariant sizes.participants ws (set (map epoch_of vs) id w.epoch)
-        → SlotsInvariant codes sizes (set ws (slot_word sizes slot) y) (set vs id w) → Parts sizes (set ws (slot_word sizes slot) y) (set vs id w)
-    around slot y w still is epoch slots = record {
+    pub builds : (slot y : ℕ) (w : View) → HasPlace w.epoch → w.words ≡ noted slot y v → EpochInvariant sizes.participants ws (set (map epoch_of vs) id w.epoch)
+        → SlotsInvariant codes sizes (set ws (slot_word sizes slot) y) (set vs id w)
+        → CollectorsInvariant codes sizes (set ws (slot_word sizes slot) y) (set vs id w) → Parts sizes (set ws (slot_word sizes slot) y) (set vs id w)
+    builds slot y w still is epoch slots collectors = record {
       epoch = seen_after sizes (set ws (slot_word sizes slot) y) vs id w
           (epochs.behind sizes.participants ws (set (map epoch_of vs) id w.epoch) id (slot_word sizes slot) y w.epoch epoch
           (set_here (map epoch_of vs) id w.epoch (epochs.at_length (map epoch_of vs) id v.epoch at_epoch)) still (omega arith));
       slots = slots;
       lone = lone_noted sizes ws vs p.lone id v at p.epoch live slot y w is;
+      collectors = collectors;
     }
+
+    -- the same where the slot's item is neither private nor emptied
+    pub around : (slot y : ℕ) (w : View) → HasPlace w.epoch → w.words ≡ noted slot y v → IsUnmarked codes (slot_at sizes ws slot) y → Aside v w
+        → w.slots.looked ≤ v.slots.looked → v.epoch.known ≤ w.epoch.known → EpochInvariant sizes.participants ws (set (map epoch_of vs) id w.epoch)
+        → SlotsInvariant codes sizes (set ws (slot_word sizes slot) y) (set vs id w) → Parts sizes (set ws (slot_word sizes slot) y) (set vs id w)
+    around slot y w still is plain aside looked known epoch slots = builds slot y w still is epoch slots
+        (private.slot_aside codes sound sizes ws vs p.collectors id v at slot y w plain aside looked known)
 
     -- nothing changes
     pub unmoved : (i : ℕ) → Parts sizes (set ws i (get_or ws i 0)) (set vs id v)
@@ -87,14 +99,15 @@ module _ (id : ℕ) (v : View) (live : HasPlace v.epoch) where
     knew_too x = subst (λ (k : ℕ). Knew k v x) same_slot
 
   -- claim a free slot, by a word with one owner
-  pub claims : (slot old new : ℕ) → slot < sizes.slots → alive old ≡ 0 → waiting old ≡ 0 → alive new ≡ 1
+  pub claims : (slot old new : ℕ) → slot < sizes.slots → alive old ≡ 0 → waiting old ≡ 0 → IsPlain codes old → alive new ≡ 1
       → Steps (Parts sizes) id v (slot_word sizes slot) (λ x. either (eqb x old) new x) (AtSlot (λ slot. Claims slot old new) (slot_word sizes slot) v)
-  claims slot old new inside none quiet one ws vs p at small = let i : ℕ = slot_word sizes slot in let x : ℕ = get_or ws i 0 in
+  claims slot old new inside none quiet plain one ws vs p at small = let i : ℕ = slot_word sizes slot in let x : ℕ = get_or ws i 0 in
       let w : View = claimed slot new v in let told = knew ws vs p at slot in
       exchanged x old new (λ y. (u : View) × Parts sizes (set ws i y) (set vs id u) × AtSlot (λ slot. Claims slot old new) i v x u)
       (λ hit. (
         w,
-        around ws vs p at slot new w live refl (same_epochs ws vs p at)
+        around ws vs p at slot new w live refl (inr (subst (IsPlain codes) (sym hit) plain, plain_alive codes sound new (omega arith)))
+            (refl, refl, refl, refl, refl, refl, refl, refl, refl) (omega arith) (omega arith) (same_epochs ws vs p at)
             (owning.claims codes sound sizes ws vs p.slots id v at slot new (noted slot new v) inside
             (ap codes.alive hit ∙ none) (ap codes.waiting hit ∙ quiet) one),
         λ other is. ((λ _. ap (λ (k : ℕ). claimed k new v) (same_slot slot other is)), (λ no. absurd (no hit)), knew_too slot other is x told),
@@ -114,7 +127,10 @@ module _ (id : ℕ) (v : View) (live : HasPlace v.epoch) where
       let count : ℕ = get_or ws global_word 0 in let w : View = retired slot y count v in
       let f = p.epoch.each id v.epoch (at_epoch ws vs p at) in (
         w,
-        around ws vs p at slot y w live refl (epochs.knows sizes.participants ws (map epoch_of vs) id v.epoch p.epoch (at_epoch ws vs p at))
+        around ws vs p at slot y w live refl
+            (inr (plain_alive codes sound (slot_at sizes ws slot) (omega arith), plain_waiting codes sound y (omega arith)))
+            (refl, refl, refl, refl, refl, refl, refl, refl, refl) (omega arith) f.known
+            (epochs.knows sizes.participants ws (map epoch_of vs) id v.epoch p.epoch (at_epoch ws vs p at))
             (owning.retires codes sound sizes ws vs p.slots id v at p.epoch slot y (noted slot y v) inside mine last free none waits_now),
         λ other is. (
           count,
@@ -137,7 +153,10 @@ module _ (id : ℕ) (v : View) (live : HasPlace v.epoch) where
       (λ hit. let free = free_is g (omega arith) in let word = waiting_is g low in let quiet : codes.waiting x ≡ 0 = ap codes.waiting hit ∙ free.1 in
       let empty : codes.full x ≡ 0 = ap codes.full hit ∙ free.2 in (
         w,
-        around ws vs p at slot new w live refl (epochs.knows sizes.participants ws (map epoch_of vs) id v.epoch p.epoch (at_epoch ws vs p at))
+        around ws vs p at slot new w live refl
+            (inr (plain_free codes sound x empty, plain_waiting codes sound new (let e = word.1 in omega arith)))
+            (refl, refl, refl, refl, refl, refl, refl, refl, refl) (omega arith) f.known
+            (epochs.knows sizes.participants ws (map epoch_of vs) id v.epoch p.epoch (at_epoch ws vs p at))
             (deferring.defers codes sound sizes ws vs p.slots id v at p.epoch slot new (noted slot new v) inside
             (ap codes.alive hit ∙ free.0) quiet empty word.0 word.1),
         λ other is. (
@@ -162,7 +181,8 @@ module _ (id : ℕ) (v : View) (live : HasPlace v.epoch) where
       → Parts sizes (set ws (slot_word sizes slot) (slot_at sizes ws slot - 1)) (set vs id (one_less slot (slot_at sizes ws slot - 1) v))
   one_goes slot rest inside has ws vs p at several more = let x : ℕ = slot_at sizes ws slot in let y : ℕ = x - 1 in
       let so_many = (shared x (counted_is x several)).0 in let l = some_left y (omega arith) in let l0 = l.0 in let rest_is = ap others has in
-      around ws vs p at slot y (one_less slot y v) live refl (same_epochs ws vs p at)
+      around ws vs p at slot y (one_less slot y v) live refl (inr (plain_alive codes sound x (omega arith), plain_alive codes sound y (omega arith)))
+      (refl, refl, refl, refl, refl, refl, refl, refl, refl) (omega arith) (omega arith) (same_epochs ws vs p at)
       (owning.counts codes sound sizes ws vs p.slots id v at slot y (others v.slots.owns) (noted slot y v) inside several (omega arith) (omega arith)
       (let a = ap (times slot) has in let b = ap (times slot) rest_is in let one = is_same slot slot refl in omega arith)
       (λ j ne. let a = ap (times j) has in let b = ap (times j) rest_is in let z = is_other j slot (λ e. ne (sym e)) in omega arith))
@@ -230,7 +250,8 @@ module _ (id : ℕ) (v : View) (live : HasPlace v.epoch) where
         (let x = p.slots.two id id v v at at in record { since = x.since; looked = x.looked })
         (λ j x apart e. let a = p.slots.two id j v x at e in let b = p.slots.two j id x v e at in
         (record { since = a.since; looked = a.looked }, record { since = b.since; looked = b.looked })) in
-        around ws vs p at slot y w live refl (same_epochs ws vs p at)
+        around ws vs p at slot y w live refl (inr (plain_alive codes sound (slot_at sizes ws slot) was, plain_alive codes sound y now))
+        (refl, refl, refl, refl, refl, refl, refl, refl, refl) (omega arith) (omega arith) (same_epochs ws vs p at)
         (subst (λ (l : List View). SlotsInvariant codes sizes (set ws (slot_word sizes slot) y) l) (set-set vs id v' w)
         (owning.counts codes sound sizes ws vs' with_over id v' (set_here vs id v' (epochs.at_length vs id v at)) slot y os (noted slot y v) inside several was
         now
@@ -293,7 +314,12 @@ module _ (id : ℕ) (v : View) (live : HasPlace v.epoch) where
       let y : ℕ = free_word g in let w : View = given_back slot y v in let word = free_is g low in
       let giving_back = λ (i : ℕ). owning.giving_back codes sound sizes ws vs p.slots id v at p.epoch i (noted slot y v) in (
         w,
-        around ws vs p at slot y w live refl (same_epochs ws vs p at)
+        around ws vs p at slot y w live refl (inr (
+          plain_waiting codes sound (slot_at sizes ws slot) (subst (λ (i : ℕ). 0 < waiting (slot_at sizes ws i)) same
+              (waiter_in codes sound sizes ws vs p.slots id k v x at has)),
+          plain_free codes sound y word.2,
+        ))
+            (refl, refl, refl, refl, refl, refl, refl, refl, refl) (omega arith) (omega arith) (same_epochs ws vs p at)
             (subst (λ (i : ℕ). SlotsInvariant codes sizes (set ws (slot_word sizes i) y) (set vs id (giving_back i))) same
             (owning.gives_back codes sound sizes ws vs p.slots id v at p.epoch k y x (noted slot y v) has ripe (omega arith) word.0 word.1)),
         λ other is. (
@@ -309,17 +335,23 @@ module _ (id : ℕ) (v : View) (live : HasPlace v.epoch) where
     epoch = seen_after sizes ws vs id w (same_epochs ws vs p at);
     slots = seen.watches_beside codes sound sizes ws vs p.slots id v at k u there slot is_open mine free;
     lone = lone_same sizes ws vs p.lone id v at w refl (λ z. z);
+    collectors = private.view_kept codes sound sizes ws vs p.collectors id v w at
+        (private.sight_kept v slot)
+        (sees_plain codes sizes ws v slot (plain_alive codes sound (slot_at sizes ws slot)
+        (let o = owner_in codes sound sizes ws vs p.slots k slot u there in omega arith)));
   }
 
   -- a load leaves the other parts
   module _ (ws : List ℕ) (vs : List View) (p : Parts sizes ws vs) (at : get_elem? vs id ≡ some v) where
     pub loaded : (i : ℕ) (w : View) → w.epoch ≡ v.epoch → w.words ≡ v.words → SlotsInvariant codes sizes ws (set vs id w)
+        → CollectorsInvariant codes sizes ws (set vs id w)
         → Parts sizes (set ws i (get_or ws i 0)) (set vs id w)
-    loaded i w same known slots = subst (λ (l : List ℕ). Parts sizes l (set vs id w)) (sym (set-get_or ws i 0)) record {
+    loaded i w same known slots collectors = subst (λ (l : List ℕ). Parts sizes l (set vs id w)) (sym (set-get_or ws i 0)) record {
       epoch = seen_after sizes ws vs id w
           (subst (λ (e : EpochView). EpochInvariant sizes.participants ws (set (map epoch_of vs) id e)) (sym same) (same_epochs ws vs p at));
       slots = slots;
       lone = lone_same sizes ws vs p.lone id v at w known (λ z. subst HasPlace same z);
+      collectors = collectors;
     }
 
   -- hold a slot, which needs no other word, as its owner isn't counted
@@ -331,7 +363,9 @@ module _ (id : ℕ) (v : View) (live : HasPlace v.epoch) where
       let one = (alone_is codes sound sizes ws vs p.slots id slot v at mine firm).1 in (
         w,
         loaded ws vs p at i w refl refl (subst (λ (l : List ℕ). SlotsInvariant codes sizes l (set vs id w)) (set-get_or ws i 0)
-            (holding.takes_hold codes sound sizes ws vs p.slots id v at slot x v.words inside mine one free one firm)),
+            (holding.takes_hold codes sound sizes ws vs p.slots id v at slot x v.words inside mine one free one firm))
+            (private.view_aside codes sound sizes ws vs p.collectors id v w at (refl, refl, refl, refl, refl, refl, refl, refl, refl) (omega arith)
+            (omega arith)),
         λ other is. (ap (λ (k : ℕ). held k v) (same_slot slot other is), knew_too slot other is x (knew ws vs p at slot)),
       )
 
@@ -342,7 +376,9 @@ module _ (id : ℕ) (v : View) (live : HasPlace v.epoch) where
     w,
     loaded ws vs p at i w refl refl (subst (λ (l : List ℕ). SlotsInvariant codes sizes l (set vs id w)) (set-get_or ws i 0)
         (holding.lets_go codes sound sizes ws vs p.slots id v at slot x v.words inside held
-        (held_is codes sound sizes ws vs p.slots id slot v at held))),
+        (held_is codes sound sizes ws vs p.slots id slot v at held)))
+        (private.view_aside codes sound sizes ws vs p.collectors id v w at (refl, refl, refl, refl, refl, refl, refl, refl, refl) (omega arith)
+        (omega arith)),
     λ other is. (refl, knew_too slot other is x (knew ws vs p at slot)),
   )
 
@@ -358,7 +394,9 @@ module _ (id : ℕ) (v : View) (live : HasPlace v.epoch) where
       exchanged x (shared_word 1) held_word (λ y. (u : View) × Parts sizes (set ws i y) (set vs id u) × AtSlot TriesHold i v x u)
       (λ hit. (
         w,
-        around ws vs p at slot held_word w live refl (same_epochs ws vs p at)
+        around ws vs p at slot held_word w live refl
+            (inr (plain_alive codes sound x left, plain_alive codes sound held_word (let e = only_held.0 in omega arith)))
+            (refl, refl, refl, refl, refl, refl, refl, refl, refl) (omega arith) (omega arith) (same_epochs ws vs p at)
             (holding.takes_hold codes sound sizes ws vs p.slots id v at slot held_word (noted slot held_word v) inside mine (ap codes.alive hit ∙ one_left.0)
             free
             only_held.0 only_held.2),
@@ -377,7 +415,12 @@ module _ (id : ℕ) (v : View) (live : HasPlace v.epoch) where
       → Steps (Parts sizes) id v (slot_word sizes slot) (λ _. y) (λ _. AtSlot SharesAgain (slot_word sizes slot) v y)
   shares_again slot y inside held one ws vs p at small = let w : View = shared_again slot y v in (
     w,
-    around ws vs p at slot y w live refl (same_epochs ws vs p at)
+    around ws vs p at slot y w live refl (inr (
+      plain_alive codes sound (slot_at sizes ws slot)
+          (let e = held_is codes sound sizes ws vs p.slots id slot v at held in omega arith),
+      plain_alive codes sound y (omega arith),
+    ))
+        (refl, refl, refl, refl, refl, refl, refl, refl, refl) (omega arith) (omega arith) (same_epochs ws vs p at)
         (holding.lets_go codes sound sizes ws vs p.slots id v at slot y (noted slot y v) inside held one),
     λ other is. ap (λ (k : ℕ). shared_again k y v) (same_slot slot other is),
   )
@@ -387,7 +430,12 @@ module _ (id : ℕ) (v : View) (live : HasPlace v.epoch) where
       → Steps (Parts sizes) id v (slot_word sizes slot) (λ _. free_word generation) (λ _. AtSlot Discards (slot_word sizes slot) v (free_word generation))
   discards slot g inside held all low ws vs p at small = let y : ℕ = free_word g in let w : View = discarded slot y v in let word = free_is g low in (
     w,
-    around ws vs p at slot y w live refl (same_epochs ws vs p at)
+    around ws vs p at slot y w live refl (inr (
+      plain_alive codes sound (slot_at sizes ws slot)
+          (let e = held_is codes sound sizes ws vs p.slots id slot v at held in omega arith),
+      plain_free codes sound y word.2,
+    ))
+        (refl, refl, refl, refl, refl, refl, refl, refl, refl) (omega arith) (omega arith) (same_epochs ws vs p at)
         (holding.discards codes sound sizes ws vs p.slots id v at p.epoch slot y (noted slot y v) inside held all word.0 word.1),
     λ other is. ap (λ (k : ℕ). discarded k y v) (same_slot slot other is),
   )
@@ -397,6 +445,10 @@ module _ (id : ℕ) (v : View) (live : HasPlace v.epoch) where
       → Steps (Parts sizes) id v (state_word place) (λ x. x) (LooksForGuard (state_word place) v)
   looks place next ws vs p at small = let i : ℕ = state_word place in let x : ℕ = get_or ws i 0 in
       let f = p.epoch.each id v.epoch (at_epoch ws vs p at) in
+      let unseen_there : (q : ℕ) → get_or ws (state_word q) 0 ≢ 2 → (j : ℕ) (u : View) → get_elem? vs j ≡ some u → (k : ℕ) → Sees u k → u.epoch.place ≢ q
+      = λ q shut j u e k sees same. let is_open = (p.slots.each j u e).guarded k sees in
+      let g = (p.epoch.each j u.epoch (at_map epoch_of vs j u e)).state (omega arith) in
+      shut (ap (λ (d : ℕ). get_or ws (state_word d) 0) (sym same) ∙ (g ∙ is_open)) in
       let own : (q : ℕ) → i ≡ state_word q → HasPlace v.epoch → q ≡ v.epoch.place → x ≡ v.epoch.state
       = λ q is z e. ap (λ (k : ℕ). get_or ws k 0) (let same : i ≡ state_word v.epoch.place = omega arith in same) ∙ f.state z in
       dite (ℕ_discrete x 2)
@@ -405,7 +457,9 @@ module _ (id : ℕ) (v : View) (live : HasPlace v.epoch) where
         w,
         loaded ws vs p at i w refl refl (subst (λ (k : ℕ). SlotsInvariant codes sizes ws (set vs id (record v { slots = record v.slots { looked = k } })))
             (let e : suc place ≡ place + 1 = omega arith in e)
-            (holding.passes codes sound sizes ws vs p.slots id v at p.epoch place next no)),
+            (holding.passes codes sound sizes ws vs p.slots id v at p.epoch place next no))
+            (private.passes codes sound sizes ws vs p.collectors id v w at place refl refl refl refl refl refl refl next
+            (let e : place + 1 ≡ suc place = omega arith in e) (unseen_there place no)),
         λ q is. ((λ _. ap (λ (k : ℕ). looked_past k v) (let e : place ≡ q = omega arith in e)), (λ e. absurd (no e)), own q is),
       ))
 

@@ -12,14 +12,16 @@ use Rattle.sdd_word_invariant.specs.Sums.{is}
 pub record WordReading : Type 0 where
   -- how many owners the item of a slot has, those in cells too
   pub alive : ℕ → ℕ
-  -- 1 where it waits
+  -- 1 where it waits, and for no collector
   pub waiting : ℕ → ℕ
   -- 1 where the slot isn't free
   pub full : ℕ → ℕ
-  -- 1 where its value is there
+  -- 1 where its value is there, or is being moved
   pub valued : ℕ → ℕ
   -- 1 where its owners are counted
   pub counted : ℕ → ℕ
+  -- 1 where it is private, and still in a bag: it waits for a collector, or the collector's close empties it, or has done so
+  pub private : ℕ → ℕ
   -- 1 where it waits for this collector
   pub waits_for : ℕ → ℕ → ℕ
   -- 1 while a close moves its value out
@@ -28,14 +30,18 @@ pub record WordReading : Type 0 where
   pub names : ℕ → ℕ → ℕ
 
 -- what the rule asks of a reading: an item with an owner doesn't wait, one whose owners aren't counted has one at most, one waits once at most,
--- and a word is 0 at the start
+-- either privately or not, and for one collector; and a word is 0 at the start
 pub record IsWordReading (z : WordReading) : Type 0 where
   pub lives : (x : ℕ) → 0 < z.alive x → (z.waiting x ≡ 0) × (z.full x ≡ 1)
   pub few : (x : ℕ) → z.counted x ≡ 0 → z.alive x ≤ 1
   pub valued : (x : ℕ) → 0 < z.alive x → z.valued x ≡ 1
-  pub emptying : (x : ℕ) → 0 < z.emptying x → (z.emptying x ≡ 1) × (z.alive x ≡ 0) × (z.full x ≡ 1) × (z.valued x ≡ 0)
-  pub private : (k x : ℕ) → 0 < z.waits_for k x → (z.waiting x ≡ 1) × (z.valued x ≡ 1)
-  pub waits : (x : ℕ) → 0 < z.waiting x → (z.waiting x ≡ 1) × (z.full x ≡ 1)
+  pub emptying : (x : ℕ) → 0 < z.emptying x → (z.emptying x ≡ 1) × (z.alive x ≡ 0) × (z.full x ≡ 1) × (z.valued x ≡ 1) × (z.waiting x ≡ 0)
+  pub private : (x : ℕ) → 0 < z.private x → (z.private x ≡ 1) × (z.alive x ≡ 0) × (z.full x ≡ 1) × (z.waiting x ≡ 0)
+  pub for_one : (k x : ℕ) → 0 < z.waits_for k x → (z.private x ≡ 1) × (z.valued x ≡ 1) × (z.emptying x ≡ 0)
+  pub one_of : (k l x : ℕ) → 0 < z.waits_for k x → 0 < z.waits_for l x → k ≡ l
+  pub waits : (x : ℕ) → 0 < z.waiting x → (z.waiting x ≡ 1) × (z.full x ≡ 1) × (z.valued x ≡ 1)
+  pub empty : (x : ℕ) → z.full x ≡ 0 → z.valued x ≡ 0
+  pub there : (x : ℕ) → z.full x ≡ 1 → z.private x ≡ 0 → z.valued x ≡ 1
   pub free : (z.alive 0 ≡ 0) × (z.waiting 0 ≡ 0) × (z.full 0 ≡ 0)
   pub null : (i : ℕ) → z.names i 0 ≡ 0
 
@@ -78,16 +84,10 @@ abbrev pub kind_alive : ℕ → ℕ
 kind_alive q = either (eqb q 1) 1 (either (eqb q 3) 1 0)
 
 abbrev pub kind_waiting : ℕ → ℕ
-kind_waiting q = either (eqb q 4) 1 (either (eqb q 5) 1 (either (eqb q 6) 1 (either (eqb q 7) 1 0)))
+kind_waiting q = either (eqb q 4) 1 0
 
 abbrev pub kind_full : ℕ → ℕ
 kind_full q = either (eqb q 0) 0 1
-
-abbrev pub kind_valued : ℕ → ℕ
-kind_valued q = either (eqb q 0) 0 (either (eqb q 6) 0 (either (eqb q 7) 0 (either (eqb q 8) 0 1)))
-
-abbrev pub kind_emptying : ℕ → ℕ
-kind_emptying q = either (eqb q 7) 1 (either (eqb q 8) 1 0)
 
 -- an item that a collector's close emptied
 abbrev pub emptied_word : ℕ
@@ -114,13 +114,16 @@ unfoldable pub full : ℕ → ℕ
 full x = either (leb shared_base x) 1 (kind_full (x % 16))
 
 unfoldable pub valued : ℕ → ℕ
-valued x = either (leb shared_base x) 1 (kind_valued (x % 16))
+valued x = either (eqb x emptied_word) 0 (full x)
+
+unfoldable pub private : ℕ → ℕ
+private x = either (leb shared_base x) 0 (either (eqb (x % 16) 5) 1 (is emptied_word x + is emptying_word x))
 
 unfoldable pub waits_for : ℕ → ℕ → ℕ
 waits_for k x = either (leb shared_base x) 0 (either (eqb (x % 16) 5) (is k (x / 16)) 0)
 
 unfoldable pub emptying : ℕ → ℕ
-emptying x = either (leb shared_base x) 0 (kind_emptying (x % 16))
+emptying x = is emptying_word x + is left_word x
 
 unfoldable pub counted : ℕ → ℕ
 counted x = either (leb shared_base x) 1 0
@@ -148,4 +151,14 @@ unfoldable pub names : ℕ → ℕ → ℕ
 names i x = either (leb unowned (x % 2 ^ 27)) 0 (either (eqb (x % 2 ^ 27 / 4) 0) 0 (is i (x % 2 ^ 27 / 4 - 1)))
 
 abbrev pub codes : WordReading
-codes = record { alive = alive; waiting = waiting; full = full; valued = valued; counted = counted; waits_for = waits_for; emptying = emptying; names = names }
+codes = record {
+  alive = alive;
+  waiting = waiting;
+  full = full;
+  valued = valued;
+  counted = counted;
+  private = private;
+  waits_for = waits_for;
+  emptying = emptying;
+  names = names;
+}

@@ -3,8 +3,10 @@ pub mod Sums
 pub mod Codes
 pub mod Epoch
 pub mod Slots
+pub mod Collectors
 pub mod EpochSteps
 pub mod SlotSteps
+pub mod CollectorSteps
 pub mod CellSteps
 pub mod Barred
 pub mod WordInvariant

@@ -4,6 +4,7 @@ use Rattle.std.specs.List.{filter}
 use mathlib.Core.Option.{some}
 use lib.ListN.{get_elem?}
 use Rattle.sdd_views.specs.declared.EpochView.{EpochView}
+use Rattle.sdd_views.specs.declared.PrivateItem.{PrivateItem}
 use Rattle.sdd_views.specs.declared.SlotsView.{SlotsView}
 use Rattle.sdd_views.specs.declared.WaitingItem.{WaitingItem}
 use Rattle.sdd_views.specs.declared.View.{View}
@@ -135,9 +136,16 @@ discarded slot y v = record v { slots = record v.slots { owns = without slot v.s
 abbrev pub older : WaitingItem → WaitingItem
 older x = record x { changes = x.changes + 1 }
 
+abbrev pub older_private : PrivateItem → PrivateItem
+older_private x = record x { item = older x.item }
+
+-- each item that waits, privately or not, has seen one change more
+abbrev pub aged : SlotsView → SlotsView
+aged s = record s { waits = map older s.waits; privates = map older_private s.privates }
+
 -- at a publish: another count than the last one that was found is a change for each item that waits
 abbrev pub changed : View → SlotsView
-changed v = if v.epoch.count == v.epoch.found then v.slots else record v.slots { waits = map older v.slots.waits }
+changed v = if v.epoch.count == v.epoch.found then v.slots else aged v.slots
 
 -- at a close: nothing is seen any more
 abbrev pub unseeing : View → SlotsView

@@ -11,6 +11,7 @@ use Rattle.sdd_word_invariant.specs.Words.{mark_word}
 use Rattle.sdd_word_invariant.specs.Codes.{codes}
 use Rattle.sdd_word_invariant.specs.Epoch.{EpochInvariant}
 use Rattle.sdd_word_invariant.specs.Slots.{SlotsInvariant, LoneInvariant}
+use Rattle.sdd_word_invariant.specs.Collectors.{CollectorsInvariant}
 use Rattle.sdd_views.specs.Views.{nobody, none_ended, bare, no_rights, at_rest, no_pledges}
 use Rattle.sdd_word_invariant.specs.SlotSteps.{blank}
 use Rattle.sdd_word_invariant.specs.Barred.{AreBarred, AreQuiet}
@@ -43,6 +44,7 @@ pub record Parts (sizes : Sizes) (ws : List ℕ) (vs : List View) : Type 0 where
   pub epoch : EpochInvariant sizes.participants ws (map epoch_of vs)
   pub slots : SlotsInvariant codes sizes ws vs
   pub lone : LoneInvariant sizes ws vs
+  pub collectors : CollectorsInvariant codes sizes ws vs
 
 module _ {S : Type 0} (sizes : Sizes) (s : State S View) where
   -- what ended places left, and the mark: the word is there; a place that has ended stays so, and a slot that is quiet then

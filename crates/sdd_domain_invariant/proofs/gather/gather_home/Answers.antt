@@ -3,6 +3,8 @@ use base.Stored.{Gv}
 use Rattle.core.specs.Mem.Slots.{slots_items}
 use Rattle.sdd_shared_values.specs.ValueFractions.{FractionContent}
 use Rattle.sdd_shared_values.specs.SharedValues.{most}
+use Rattle.sdd_word_invariant.specs.Slots.{slot_at}
+use Rattle.sdd_word_invariant.proofs.Codes.{sound}
 use Rattle.sdd_domain_invariant.specs.FractionsAtHome.{stake_at, homes_for, away, full_at, MatchesSlotWord}
 use Rattle.sdd_domain_invariant.proofs.Places.{inside}
 use Rattle.sdd_domain_invariant.proofs.Laid.{next_stake, next_slot, found, one_joined, unit_of, rest_of}
@@ -18,13 +20,13 @@ loop-place-init g c = let γ : ℕ = c.args.title.now.book in let z = c.args.siz
     let e = next_slot n i (i + 1) (n - 0) refl (omega arith) in let left : t.new.left ≡ stake_at n i (n - 0) = omega arith in
     let words = t.ensures.same.0 in
     let Is : ℕ → Gv → Type 0 = λ j. MatchesSlotWord (full_at z (slots_items c.args.closed.now.words) j) in
-    let own : ℕ → ℕ = λ j. away n (full_at z (slots_items c.args.closed.now.words) j) in let none : own i ≡ 0 = ap (away n) c.requires.free in
+    let own : ℕ → ℕ = λ j. away n (full_at z (slots_items c.args.closed.now.words) j) in let free = sound.empty (slot_at z (slots_items c.args.closed.now.words) i) c.requires.free in let none : own i ≡ 0 = ap (away n) free in
     let has = found γ n own Is i (n - 0) (homes_for n z.slots) t.new.left (slots_items c.args.closed.now.slots) t.result (omega arith)
     (inside n z.slots i (n - 0) c.requires.inside (omega arith)) left t.ensures.stake c.requires.home.laid in record {
       home = t.ensures.home;
       left = left;
       whole = rest_of γ i n (own i) (Is i) (n - 0) (most - n + 0) t.result (omega arith) (omega arith) has;
-      vacant = has.1.1 c.requires.free;
+      vacant = has.1.1 free;
       words = words;
     }
 

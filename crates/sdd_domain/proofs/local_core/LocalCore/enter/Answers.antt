@@ -16,7 +16,7 @@ use Rattle.sdd_values.specs.declared.read_sections.SectionState.TheVariants.{Clo
 use Rattle.sdd_domain.specs.LocalState.{LocalState, IsEntered, GoesOn}
 use Rattle.sdd_domain.specs.BetweenCalls.{IsBetweenCalls, AreLentTo}
 use Rattle.sdd_domain.specs.Receipt.{IsTallied}
-use Rattle.sdd_domain.specs.WaitingItems.{what_of, ripe, arrived_at, aged_at, due_at}
+use Rattle.sdd_domain.specs.WaitingItems.{what_of, ripe, arrived_at, aged_slots_at, due_at}
 use Rattle.sdd_domain.proofs.Arrivals.{has_open, has_room, due_moved, quiet_due, due_ripe, same_aged}
 use Rattle.sdd_domain.proofs.Members.{with_view}
 use Rattle.sdd_domain.proofs.Reclaims.{none_ripe}
@@ -79,7 +79,7 @@ returns-clause-entered g c = let l = c.self.inside in let i = c.self.invariant i
       own = nested (arrived_at count old.own);
       known = token.me.0.epoch.since;
       since = token.me.0.epoch.since;
-      slots = record old.slots { waits = aged_at count old.own old.slots.waits };
+      slots = aged_slots_at count old.own old.slots;
       due = due_at count old.own;
     } in let entered : IsEntered count old m = record {
       member = refl;
