@@ -12,3 +12,4 @@ pub mod DomainInvariant
 pub mod FractionSteps
 pub mod RawSteps
 pub mod CellSteps
+pub mod CollectorSteps
