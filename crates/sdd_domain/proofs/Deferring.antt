@@ -62,7 +62,6 @@ module _ (b : DomainTable) (p : ℕ) (own : Participant) (s t : Seat ValueFracti
       looked = q.quiet.looked;
       over = q.quiet.over;
       emptied = q.quiet.emptied;
-      closes = q.quiet.closes;
       empties = q.quiet.empties;
       left = q.quiet.left;
     };
@@ -102,7 +101,6 @@ module _ (b : DomainTable) (p : ℕ) (own : Participant) (s t : Seat ValueFracti
           looked = q.quiet.looked;
           over = q.quiet.over;
           emptied = q.quiet.emptied;
-          closes = q.quiet.closes;
           empties = q.quiet.empties;
           left = q.quiet.left;
         };

@@ -1,5 +1,5 @@
 //! A change reclaims what is due, and a value that is reclaimed gives up what it holds.
-ghost use Rattle.std.specs.Prelude.{◌≡◌, ◌⊎◌, ◌+◌, ◌≤◌, ℕ, true, List, [], length, IfErr, IsSome, IsTrue, MatchBool, MatchResult, ◌∷◌};
+ghost use Rattle.std.specs.Prelude.{◌≡◌, ◌⊎◌, ◌+◌, ◌≤◌, ℕ, true, List, [], None, length, IfErr, IsSome, IsTrue, MatchBool, MatchResult, ◌∷◌};
 ghost use Rattle.sdd_rights.specs.Right.{number_of, home_of, kind_of};
 ghost use Rattle.sdd_rights.specs.StandingKind.{is_shared};
 ghost use Rattle.sdd_standings.specs.Slots.{IsOwnedBy, has_others};
@@ -250,6 +250,7 @@ impl<T: Item<T>, J: Job> LocalGiver<'_, T, J> {
     ) -> Result<bool, (Right, Refused)>
         requires home { home_of right ≡ slots_home self.old }
         requires kind { kind_of right ≡ kind }
+        requires closes { self.old.member.slots.closes ≡ None }
         ensures own { MatchResult result (λ _. KeepsMoreWaiting self.old.member.own self.new.member.own) (λ _. self.new.member.own ≡ self.old.member.own) }
         ensures known { KnowsOn (known_of self.old) (known_of self.new) }
         ensures kept { MatchResult result
