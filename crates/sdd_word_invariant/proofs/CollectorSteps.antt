@@ -1,7 +1,7 @@
 -- The steps on private items keep all parts.
-use Rattle.std.proofs.Common.{◌≡◌, ◌≢◌, ◌⊎◌, inl, inr, ℕ, ◌+◌, ◌<◌, ◌≤◌, eqb, Bool, true, false, List, [], ◌∷◌, ◌++◌, length, map, get_or, set, sym, refl, ap, ◌∙◌, subst, ⊎_elim, arith, get_or-set_other, get_or-set_same}
+use Rattle.std.proofs.Common.{◌≡◌, ◌≢◌, ◌⊎◌, inl, inr, ℕ, ◌+◌, ◌<◌, ◌≤◌, eqb, ne_eqb, Bool, true, false, List, [], ◌∷◌, ◌++◌, length, map, get_or, set, sym, refl, ap, ◌∙◌, subst, ⊎_elim, arith, get_or-set_other, get_or-set_same}
 use Rattle.std.proofs.lemmas.List.{set-set}
-use Rattle.std.specs.Prelude.{Option, None, Some, not}
+use Rattle.std.specs.Prelude.{Option, None, Some, not, if◌then◌else◌}
 use mathlib.Core.Option.{some}
 use mathlib.Core.Logic.{dite}
 use native.Mathlib.Decide.{ℕ_discrete}
@@ -18,15 +18,16 @@ use Rattle.sdd_word_invariant.specs.Sums.{total, is as is_at, times}
 use Rattle.sdd_word_invariant.specs.Codes.{WordReading, codes, waiting, shared_base, free_word, waiting_word, private_word, emptying_word, emptied_word, left_word}
 use Rattle.sdd_word_invariant.specs.Epoch.{HasPlace, EpochInvariant}
 use Rattle.sdd_word_invariant.specs.EpochSteps.{Steps}
-use Rattle.sdd_word_invariant.specs.Slots.{slot_at, Sees, IsTimed, SlotsInvariant}
+use Rattle.sdd_word_invariant.specs.Slots.{slot_at, waits_in, items_at, Sees, IsTimed, SlotsInvariant}
 use Rattle.sdd_word_invariant.specs.SlotSteps.{noted, without, without_item, AtSlot}
 use Rattle.sdd_word_invariant.specs.Collectors.{private_in, privates_at, one_in, empties_at, Empties, Closes, FoundEmptied, HasPrivate, HasValue, KnowsPrivates, SeenBeforeClosed, CollectorsInvariant}
-use Rattle.sdd_word_invariant.specs.CollectorSteps.{without_private, for_collector, collected, reclaimed, found_emptied, left_to_close, private_given_back, closing, closed_none, empties_now, emptied_now, finds_left, empty_given_back, WaitsFor, IsDuePrivately, HasWaiting, Collects, Reclaims, LeavesToClose, GivesPrivateBack, EmptiesSlot, HasEmptied, GivesEmptyBack}
+use Rattle.sdd_word_invariant.specs.CollectorSteps.{without_private, for_collector, collected, reclaimed, no_collector, orphan, orphaned, found_emptied, left_to_close, private_given_back, closing, closed_none, empties_now, emptied_now, finds_left, empty_given_back, WaitsFor, IsDuePrivately, HasWaiting, Collects, Reclaims, LooksAtWaiting, LeavesToClose, GivesPrivateBack, EmptiesSlot, HasEmptied, GivesEmptyBack}
 use Rattle.sdd_word_invariant.specs.WordInvariant.{epoch_of, Parts}
 use Rattle.sdd_word_invariant.proofs.Frame.{each_set}
-use Rattle.sdd_word_invariant.proofs.Sums.{total_set, total_snoc, total_has, total_two, at_filter, both_set, is_same, is_other, without_same, without_other}
+use Rattle.sdd_word_invariant.proofs.Sums.{total_set, total_snoc, total_has, total_map, total_two, at_filter, both_set, is_same, is_other, without_same, without_other}
 use Rattle.sdd_word_invariant.proofs.Codes.{sound, private_is, emptied_is, emptying_is, left_is, free_is, waiting_is, which_private, which_emptying, waits_privately}
 use Rattle.sdd_word_invariant.proofs.SlotWords.{waiter_in}
+use Rattle.sdd_word_invariant.proofs.SlotEpochs.{of_map}
 use Rattle.sdd_word_invariant.proofs.Epoch.{at_length}
 use Rattle.sdd_word_invariant.proofs.Collectors.{plain_waiting, plain_free, plain_has, none_for, private_at, privates_in, emptying_at}
 use Rattle.sdd_word_invariant.proofs.PrivateSlots.{private_gone, private_kept, with_privates, blind_privates, turns, waits_no_more, comes_to_wait}
@@ -164,6 +165,53 @@ module _ (z : WordReading) (sizes : Sizes) (ws : List ℕ) (vs : List View) (c :
                   let q = ap (λ (t : EpochView). t.place) epoch in omega arith;
             })
             (λ j u _ e. (guards u (c.two id j v u at e), closers j u e));
+      }
+
+-- what waits is the same where it waits for no collector from now on, and other slots' items are as they were
+orphan_here : (b : Bool) (x : PrivateItem) → (if b then record x { collector = no_collector } else x).item ≡ x.item
+orphan_here true x = refl
+orphan_here false x = refl
+
+orphan_item : (slot : ℕ) (x : PrivateItem) → (orphan slot x).item ≡ x.item
+orphan_item slot x = orphan_here (eqb x.item.slot slot) x
+
+orphan_other : (slot : ℕ) (x : PrivateItem) → x.item.slot ≢ slot → orphan slot x ≡ x
+orphan_other slot x ne = ap (λ (b : Bool). if b then record x { collector = no_collector } else x) (ne_eqb x.item.slot slot ne)
+
+module _ (z : WordReading) (sizes : Sizes) (ws : List ℕ) (vs : List View) (c : CollectorsInvariant z sizes ws vs) (id : ℕ) (v : View)
+    (at : get_elem? vs id ≡ some v) (slot : ℕ) (silent : (k : ℕ) → ¬ (0 < z.waits_for k (slot_at sizes ws slot))) where
+  -- no word changes, and an item whose word tells of no collector waits for none
+  private_orphaned : CollectorsInvariant z sizes ws (set vs id (orphaned slot v))
+  private_orphaned = let w : View = orphaned slot v in let f = c.each id v at in
+      let young : (x : PrivateItem) → HasPrivate w x → (y : PrivateItem) × HasPrivate v y × (orphan slot y ≡ x)
+      = λ x has. let p = of_map (orphan slot) v.slots.privates has.0 x has.1 in (p.0, (has.0, p.1), p.2) in
+      let item_of : (x y : PrivateItem) → orphan slot y ≡ x → y.item ≡ x.item
+      = λ x y e. sym (orphan_item slot y) ∙ ap (λ (q : PrivateItem). q.item) e in
+      let same : (j : ℕ) → privates_at j w ≡ privates_at j v
+      = λ j. total_map (private_in j) (orphan slot) (λ x. ap (waits_in j) (orphan_item slot x)) v.slots.privates in
+      let closers : (j : ℕ) (u : View) → get_elem? vs j ≡ some u → SeenBeforeClosed z sizes ws u w = λ j u e. let g = c.two j id u v e at in record {
+        since = λ d x h has is. let p = young x has in let i = item_of x p.0 p.2 in
+            subst (λ (t : WaitingItem). u.epoch.since ≤ t.retired_at) i (g.since d p.0 h p.1 (ap (λ (t : WaitingItem). t.slot) i ∙ is));
+        looked = g.looked;
+      } in record {
+        private = λ j. let t = total_set (privates_at j) vs id v w at in let s = c.private j in let e = same j in omega arith;
+        emptied = λ j. let t = total_set (empties_at j) vs id v w at in let s = c.emptied j in omega arith;
+        each = each_set (KnowsPrivates z sizes ws) (KnowsPrivates z sizes ws) vs id w
+            record {
+              timed = λ x has. let p = young x has in subst (IsTimed v.epoch) (item_of x p.0 p.2) (f.timed p.0 p.1);
+              names = λ x has k for. let p = young x has in let y : PrivateItem = p.0 in dite (ℕ_discrete y.item.slot slot)
+                  (λ e. absurd (silent k (subst (λ (d : ℕ). 0 < z.waits_for k (slot_at sizes ws d))
+                  (sym (ap (λ (t : WaitingItem). t.slot) (item_of x y p.2)) ∙ e) for)))
+                  (λ ne. let is : y ≡ x = sym (orphan_other slot y ne) ∙ p.2 in subst (λ (q : PrivateItem). k ≡ q.collector) is
+                  (f.names y p.1 k (subst (λ (q : PrivateItem). 0 < z.waits_for k (slot_at sizes ws q.item.slot)) (sym is) for)));
+              found = λ d h. let g = f.found d h in let e = same d in let g1 = g.1 in (g.0, omega arith);
+              left = f.left;
+              seen = f.seen;
+            }
+            (λ j u _ e. c.each j u e);
+        two = both_set (SeenBeforeClosed z sizes ws) vs id w c.two
+            (record { since = (closers id v at).since; looked = (c.two id id v v at at).looked })
+            (λ j u _ e. (let g = c.two id j v u at e in record { since = g.since; looked = g.looked }, closers j u e));
       }
 
 module _ (id : ℕ) (v : View) (live : HasPlace v.epoch) where
@@ -368,6 +416,14 @@ module _ (id : ℕ) (v : View) (live : HasPlace v.epoch) where
           (λ ne. let o = is_other d slot (λ e. ne (sym e)) in f.found d (omega arith)))
           f.left (λ j u e d k sees shuts for. (p.collectors.two j id u v e at).looked d k sees shuts for)) i
 
+      -- or that a close has claimed it
+      claimed : slot_at sizes ws slot ≡ emptying_word → Parts sizes (set ws i (get_or ws i 0)) (set vs id (orphaned slot v))
+      claimed is = stays ws vs p at (orphaned slot v) refl refl
+          (blind_privates codes sound sizes ws vs p.slots id v at (map (orphan slot) v.slots.privates) v.slots.emptied v.slots.empties v.slots.left
+          v.slots.closes v.slots.looked (omega arith))
+          (private_orphaned codes sizes ws vs p.collectors id v at slot
+          (λ k h. let t = (sound.for_one k (slot_at sizes ws slot) h).2 in let e = ap codes.emptying is in let busy = emptying_is.4 in absurd (omega arith))) i
+
     -- a private item is claimed for the bag
     pub reclaims : (collector : ℕ) → WaitsFor collector v slot → private_word collector < shared_base
         → Steps (Parts sizes) id v i (λ n. either (eqb n (private_word collector)) (waiting_word 0) n) (AtSlot (Reclaims collector) i v)
@@ -431,9 +487,9 @@ module _ (id : ℕ) (v : View) (live : HasPlace v.epoch) where
               ((λ hit. absurd (miss hit)), (λ _. refl), (λ e'. absurd (omega arith)), possible, told),
         ))
         (λ (e : n ≡ emptying_word). (
-          v,
-          steps.unmoved id v live ws vs p at i,
-          at_slot (Reclaims collector) n v
+          orphaned slot v,
+          claimed ws vs p at collector has e,
+          at_slot (Reclaims collector) n (orphaned slot v)
               ((λ hit. absurd (miss hit)), (λ e'. absurd (omega arith)), (λ _. refl), possible, told),
         )) t) possible)
 

@@ -1,13 +1,14 @@
 -- What each step on private items makes of what the participant knows, and what it tells
-use Rattle.std.specs.Prelude.{◌≡◌, ◌≢◌, ◌⊎◌, ℕ, ◌==◌, ◌≤◌, not, List, [], ◌∷◌, ◌++◌, Some, None, true, false}
+use Rattle.std.specs.Prelude.{◌≡◌, ◌≢◌, ◌⊎◌, ℕ, ◌^◌, ◌==◌, ◌<◌, ◌≤◌, not, List, [], ◌∷◌, ◌++◌, map, Some, None, true, false, if◌then◌else◌}
 use Rattle.std.specs.List.{filter}
 use mathlib.Core.Option.{some}
 use lib.ListN.{get_elem?}
 use Rattle.sdd_views.specs.declared.PrivateItem.{PrivateItem}
 use Rattle.sdd_views.specs.declared.WaitingItem.{WaitingItem}
 use Rattle.sdd_views.specs.declared.View.{View}
-use Rattle.sdd_word_invariant.specs.Codes.{private_word, waiting_word, emptying_word, emptied_word, left_word}
-use Rattle.sdd_word_invariant.specs.Collectors.{HasPrivate}
+use Rattle.sdd_word_invariant.specs.Slots.{items_at}
+use Rattle.sdd_word_invariant.specs.Codes.{waiting, private, private_word, waiting_word, emptying_word, emptied_word, left_word}
+use Rattle.sdd_word_invariant.specs.Collectors.{HasPrivate, privates_at}
 use Rattle.sdd_word_invariant.specs.SlotSteps.{noted, Knew, without, without_item}
 
 -- the private items of other slots
@@ -31,6 +32,17 @@ reclaimed slot x y v = record v {
   slots = record v.slots { waits = v.slots.waits ++ x ∷ []; privates = without_private slot v.slots.privates };
   words = noted slot y v;
 }
+
+-- no collector has this number: no word tells of it
+abbrev pub no_collector : ℕ
+no_collector = 2 ^ 60
+
+-- once a close is found to have claimed what waits in the slot, that waits for no collector
+abbrev pub orphan : ℕ → PrivateItem → PrivateItem
+orphan slot x = if x.item.slot == slot then record x { collector = no_collector } else x
+
+abbrev pub orphaned : ℕ → View → View
+orphaned slot v = record v { slots = record v.slots { privates = map (orphan slot) v.slots.privates } }
 
 -- it was found emptied
 abbrev pub found_emptied : ℕ → View → View
@@ -92,8 +104,14 @@ Collects collector slot v y w = (x : WaitingItem) × HasWaiting v slot x × (w �
 abbrev pub Reclaims : ℕ → ℕ → View → ℕ → View → Type 0
 Reclaims collector slot v x w =
     (x ≡ private_word collector → (r : PrivateItem) × HasPrivate v r × (r.item.slot ≡ slot) × (w ≡ reclaimed slot r.item (waiting_word 0) v))
-    × (x ≡ emptied_word → w ≡ found_emptied slot v) × (x ≡ emptying_word → w ≡ v)
+    × (x ≡ emptied_word → w ≡ found_emptied slot v) × (x ≡ emptying_word → w ≡ orphaned slot v)
     × ((x ≡ private_word collector) ⊎ ((x ≡ emptied_word) ⊎ (x ≡ emptying_word))) × Knew slot v x
+
+-- the word of a slot whose item waits, privately or not, is looked at: which it is, and what a close made of it
+abbrev pub LooksAtWaiting : ℕ → View → ℕ → View → Type 0
+LooksAtWaiting slot v x w = (0 < items_at slot v → (waiting x ≡ 1) × (w ≡ v)) × (0 < privates_at slot v → (private x ≡ 1)
+    × (x ≡ emptied_word → w ≡ found_emptied slot v) × (x ≡ emptying_word → w ≡ orphaned slot v)
+    × ((k : ℕ) → x ≡ private_word k → (w ≡ v) × WaitsFor k v slot)) × Knew slot v x
 
 -- a private item is left to the close that empties it, unless that is done, or hasn't begun
 abbrev pub LeavesToClose : ℕ → ℕ → View → ℕ → View → Type 0
