@@ -24,7 +24,7 @@ use Rattle.sdd_word_invariant.specs.Collectors.{private_in, privates_at, one_in,
 use Rattle.sdd_word_invariant.specs.CollectorSteps.{without_private, for_collector, collected, reclaimed, no_collector, orphan, orphaned, found_emptied, left_to_close, private_given_back, closing, closed_none, empties_now, emptied_now, finds_left, empty_given_back, WaitsFor, IsDuePrivately, HasWaiting, Collects, Reclaims, LooksAtWaiting, LeavesToClose, GivesPrivateBack, EmptiesSlot, HasEmptied, GivesEmptyBack}
 use Rattle.sdd_word_invariant.specs.WordInvariant.{epoch_of, Parts}
 use Rattle.sdd_word_invariant.proofs.Frame.{each_set}
-use Rattle.sdd_word_invariant.proofs.Sums.{total_set, total_snoc, total_has, total_map, total_two, at_filter, both_set, is_same, is_other, without_same, without_other}
+use Rattle.sdd_word_invariant.proofs.Sums.{total_set, total_snoc, total_has, total_map, total_some, total_two, at_filter, both_set, is_same, is_other, without_same, without_other}
 use Rattle.sdd_word_invariant.proofs.Codes.{sound, private_is, emptied_is, emptying_is, left_is, free_is, waiting_is, which_private, which_emptying, waits_privately}
 use Rattle.sdd_word_invariant.proofs.SlotWords.{waiter_in}
 use Rattle.sdd_word_invariant.proofs.SlotEpochs.{of_map}
@@ -423,6 +423,51 @@ module _ (id : ℕ) (v : View) (live : HasPlace v.epoch) where
           v.slots.closes v.slots.looked (omega arith))
           (private_orphaned codes sizes ws vs p.collectors id v at slot
           (λ k h. let t = (sound.for_one k (slot_at sizes ws slot) h).2 in let e = ap codes.emptying is in let busy = emptying_is.4 in absurd (omega arith))) i
+
+    -- the word of a slot whose item waits, privately or not, is looked at
+    pub looks_at_waiting : Steps (Parts sizes) id v i (λ n. n) (AtSlot LooksAtWaiting i v)
+    looks_at_waiting ws vs p at small = let n : ℕ = get_or ws i 0 in let told = steps.knew id v live ws vs p at slot in
+        let plain : 0 < items_at slot v → waiting n ≡ 1
+        = λ h. let t = total_has (items_at slot) vs id v at in let s = p.slots.waited slot in (sound.waits n (omega arith)).0 in
+        let no_plain : codes.private n ≡ 1 → ¬ (0 < items_at slot v)
+        = λ is h. let t = total_has (items_at slot) vs id v at in let s = p.slots.waited slot in let z = (sound.private n (omega arith)).3 in omega arith in
+        dite (ℕ_discrete (privates_at slot v) 0)
+        (λ none. (
+          v,
+          steps.unmoved id v live ws vs p at i,
+          at_slot LooksAtWaiting n v ((λ h. (plain h, refl)), (λ some. absurd (omega arith)), told),
+        ))
+        (λ ne. let s = total_some (private_in slot) v.slots.privates (omega arith) in let r : PrivateItem = s.1 in let some_in = s.3 in
+        let same : r.item.slot ≡ slot = dite (ℕ_discrete r.item.slot slot) (λ e. e) (λ apart. let z = is_other slot r.item.slot apart in absurd (omega arith)) in
+        let has : WaitsFor r.collector v slot = (r, (s.0, s.2), same, refl) in
+        let one = (alone ws vs p at r (s.0, s.2) same).1 in let quiet = no_plain one in ⊎_elim
+        (λ (e : n ≡ private_word r.collector). (
+          v,
+          steps.unmoved id v live ws vs p at i,
+          at_slot LooksAtWaiting n v (
+            (λ h. absurd (quiet h)),
+            (λ _. (
+              one,
+              (λ d. absurd (omega arith)),
+              (λ d. absurd (omega arith)),
+              (λ k d. (refl, (let c : r.collector ≡ k = omega arith in subst (λ (q : ℕ). WaitsFor q v slot) c has))),
+            )),
+            told,
+          ),
+        ))
+        (λ (t : (n ≡ emptied_word) ⊎ (n ≡ emptying_word)). ⊎_elim
+        (λ (e : n ≡ emptied_word). (
+          found_emptied slot v,
+          finds ws vs p at r.collector has e,
+          at_slot LooksAtWaiting n (found_emptied slot v)
+              ((λ h. absurd (quiet h)), (λ _. (one, (λ _. refl), (λ d. absurd (omega arith)), (λ k d. absurd (omega arith)))), told),
+        ))
+        (λ (e : n ≡ emptying_word). (
+          orphaned slot v,
+          claimed ws vs p at r.collector has e,
+          at_slot LooksAtWaiting n (orphaned slot v)
+              ((λ h. absurd (quiet h)), (λ _. (one, (λ d. absurd (omega arith)), (λ _. refl), (λ k d. absurd (omega arith)))), told),
+        )) t) (which ws vs p at r.collector has))
 
     -- a private item is claimed for the bag
     pub reclaims : (collector : ℕ) → WaitsFor collector v slot → private_word collector < shared_base
