@@ -1,5 +1,5 @@
 -- The steps on private items keep all parts.
-use Rattle.std.proofs.Common.{◌≡◌, ◌≢◌, ◌⊎◌, inl, inr, ℕ, ◌+◌, ◌<◌, ◌≤◌, eqb, ne_eqb, Bool, true, false, List, [], ◌∷◌, ◌++◌, length, map, get_or, set, sym, refl, ap, ◌∙◌, subst, ⊎_elim, arith, get_or-set_other, get_or-set_same}
+use Rattle.std.proofs.Common.{◌≡◌, ◌≢◌, ◌⊎◌, inl, inr, ℕ, ◌+◌, ◌<◌, ◌≤◌, eqb, eq-eqb, ne_eqb, Bool, true, false, List, [], ◌∷◌, ◌++◌, length, map, get_or, set, sym, refl, ap, ◌∙◌, subst, ⊎_elim, arith, get_or-set_other, get_or-set_same}
 use Rattle.std.proofs.lemmas.List.{set-set}
 use Rattle.std.specs.Prelude.{Option, None, Some, not, if◌then◌else◌}
 use mathlib.Core.Option.{some}
@@ -18,10 +18,10 @@ use Rattle.sdd_word_invariant.specs.Sums.{total, is as is_at, times}
 use Rattle.sdd_word_invariant.specs.Codes.{WordReading, codes, waiting, shared_base, free_word, waiting_word, private_word, emptying_word, emptied_word, left_word}
 use Rattle.sdd_word_invariant.specs.Epoch.{HasPlace, EpochInvariant}
 use Rattle.sdd_word_invariant.specs.EpochSteps.{Steps}
-use Rattle.sdd_word_invariant.specs.Slots.{slot_at, waits_in, items_at, Sees, IsTimed, SlotsInvariant}
+use Rattle.sdd_word_invariant.specs.Slots.{slot_at, waits_in, Sees, IsTimed, SlotsInvariant}
 use Rattle.sdd_word_invariant.specs.SlotSteps.{noted, without, without_item, AtSlot}
 use Rattle.sdd_word_invariant.specs.Collectors.{private_in, privates_at, one_in, empties_at, Empties, Closes, FoundEmptied, HasPrivate, HasValue, KnowsPrivates, SeenBeforeClosed, CollectorsInvariant}
-use Rattle.sdd_word_invariant.specs.CollectorSteps.{without_private, for_collector, collected, reclaimed, no_collector, orphan, orphaned, found_emptied, left_to_close, private_given_back, closing, closed_none, empties_now, emptied_now, finds_left, empty_given_back, WaitsFor, IsDuePrivately, HasWaiting, Collects, Reclaims, LooksAtWaiting, LeavesToClose, GivesPrivateBack, EmptiesSlot, HasEmptied, GivesEmptyBack}
+use Rattle.sdd_word_invariant.specs.CollectorSteps.{without_private, for_collector, collected, reclaimed, no_collector, orphan, orphaned, found_emptied, left_to_close, private_given_back, closing, closed_none, empties_now, emptied_now, finds_left, empty_given_back, WaitsFor, HasWaiting, Collects, Reclaims, LeavesToClose, GivesPrivateBack, EmptiesSlot, EmptiesOwn, HasEmptied, GivesEmptyBack}
 use Rattle.sdd_word_invariant.specs.WordInvariant.{epoch_of, Parts}
 use Rattle.sdd_word_invariant.proofs.Frame.{each_set}
 use Rattle.sdd_word_invariant.proofs.Sums.{total_set, total_snoc, total_has, total_map, total_some, total_two, at_filter, both_set, is_same, is_other, without_same, without_other}
@@ -307,14 +307,6 @@ module _ (id : ℕ) (v : View) (live : HasPlace v.epoch) where
       none_sees : codes.emptying x ≡ 1 → (j : ℕ) (u : View) → get_elem? vs j ≡ some u → ¬ (Sees u slot)
       none_sees busy j u e h = let z = ((p.collectors.each j u e).seen slot h).0 in omega arith
 
-      -- nor a private item that has seen three changes
-      none_sees_due : (r : PrivateItem) → HasPrivate v r → r.item.slot ≡ slot → 3 ≤ r.item.changes → (j : ℕ) (u : View) → get_elem? vs j ≡ some u
-          → ¬ (Sees u slot)
-      none_sees_due r has same ripe j u e sees = let before = (p.collectors.two j id u v e at).since slot r sees has same in
-          let late = ((p.collectors.each id v at).timed r has).found (omega arith) in let is_open = (p.slots.each j u e).guarded slot sees in
-          let mine = p.epoch.each id v.epoch (at_map epoch_of vs id v at) in let found = mine.found in let known = mine.known in
-          let once = ((p.epoch.each j u.epoch (at_map epoch_of vs j u e)).published is_open).once in omega arith
-
       -- nor what waits for the collector that it closes, once it has looked at all places
       none_sees_closed : (k : ℕ) → Closes v k → sizes.participants ≤ v.slots.looked → 0 < codes.waits_for k x → (j : ℕ) (u : View) → get_elem? vs j ≡ some u
           → ¬ (Sees u slot)
@@ -423,51 +415,6 @@ module _ (id : ℕ) (v : View) (live : HasPlace v.epoch) where
           v.slots.closes v.slots.looked (omega arith))
           (private_orphaned codes sizes ws vs p.collectors id v at slot
           (λ k h. let t = (sound.for_one k (slot_at sizes ws slot) h).2 in let e = ap codes.emptying is in let busy = emptying_is.4 in absurd (omega arith))) i
-
-    -- the word of a slot whose item waits, privately or not, is looked at
-    pub looks_at_waiting : Steps (Parts sizes) id v i (λ n. n) (AtSlot LooksAtWaiting i v)
-    looks_at_waiting ws vs p at small = let n : ℕ = get_or ws i 0 in let told = steps.knew id v live ws vs p at slot in
-        let plain : 0 < items_at slot v → waiting n ≡ 1
-        = λ h. let t = total_has (items_at slot) vs id v at in let s = p.slots.waited slot in (sound.waits n (omega arith)).0 in
-        let no_plain : codes.private n ≡ 1 → ¬ (0 < items_at slot v)
-        = λ is h. let t = total_has (items_at slot) vs id v at in let s = p.slots.waited slot in let z = (sound.private n (omega arith)).3 in omega arith in
-        dite (ℕ_discrete (privates_at slot v) 0)
-        (λ none. (
-          v,
-          steps.unmoved id v live ws vs p at i,
-          at_slot LooksAtWaiting n v ((λ h. (plain h, refl)), (λ some. absurd (omega arith)), told),
-        ))
-        (λ ne. let s = total_some (private_in slot) v.slots.privates (omega arith) in let r : PrivateItem = s.1 in let some_in = s.3 in
-        let same : r.item.slot ≡ slot = dite (ℕ_discrete r.item.slot slot) (λ e. e) (λ apart. let z = is_other slot r.item.slot apart in absurd (omega arith)) in
-        let has : WaitsFor r.collector v slot = (r, (s.0, s.2), same, refl) in
-        let one = (alone ws vs p at r (s.0, s.2) same).1 in let quiet = no_plain one in ⊎_elim
-        (λ (e : n ≡ private_word r.collector). (
-          v,
-          steps.unmoved id v live ws vs p at i,
-          at_slot LooksAtWaiting n v (
-            (λ h. absurd (quiet h)),
-            (λ _. (
-              one,
-              (λ d. absurd (omega arith)),
-              (λ d. absurd (omega arith)),
-              (λ k d. (refl, (let c : r.collector ≡ k = omega arith in subst (λ (q : ℕ). WaitsFor q v slot) c has))),
-            )),
-            told,
-          ),
-        ))
-        (λ (t : (n ≡ emptied_word) ⊎ (n ≡ emptying_word)). ⊎_elim
-        (λ (e : n ≡ emptied_word). (
-          found_emptied slot v,
-          finds ws vs p at r.collector has e,
-          at_slot LooksAtWaiting n (found_emptied slot v)
-              ((λ h. absurd (quiet h)), (λ _. (one, (λ _. refl), (λ d. absurd (omega arith)), (λ k d. absurd (omega arith)))), told),
-        ))
-        (λ (e : n ≡ emptying_word). (
-          orphaned slot v,
-          claimed ws vs p at r.collector has e,
-          at_slot LooksAtWaiting n (orphaned slot v)
-              ((λ h. absurd (quiet h)), (λ _. (one, (λ d. absurd (omega arith)), (λ _. refl), (λ k d. absurd (omega arith)))), told),
-        )) t) (which ws vs p at r.collector has))
 
     -- a private item is claimed for the bag
     pub reclaims : (collector : ℕ) → WaitsFor collector v slot → private_word collector < shared_base
@@ -598,14 +545,20 @@ module _ (id : ℕ) (v : View) (live : HasPlace v.epoch) where
         ))
         (λ (e : n ≡ emptying_word). absurd (miss e)) t) possible)
 
-    -- the slot of an item that was found emptied is free, once the item has seen three changes
-    pub gives_private_back : FoundEmptied v slot → IsDuePrivately v slot
+    -- it has a private item of the slot where it counts one
+    item_in : 0 < privates_at slot v → (r : PrivateItem) × HasPrivate v r × (r.item.slot ≡ slot)
+    item_in some_in = let s = total_some (private_in slot) v.slots.privates some_in in let r : PrivateItem = s.1 in let counts = s.3 in
+        (r, (s.0, s.2), dite (ℕ_discrete r.item.slot slot) (λ e. e) (λ apart. let z = is_other slot r.item.slot apart in absurd (omega arith)))
+
+    -- the slot of an item that was found emptied is free
+    pub gives_private_back : FoundEmptied v slot
         → Steps (Parts sizes) id v i (λ _. free_word 0) (λ _. AtSlot GivesPrivateBack i v (free_word 0))
-    gives_private_back was due ws vs p at small = let y : ℕ = free_word 0 in let w : View = private_given_back slot y v in let r : PrivateItem = due.0 in
-        let f = p.collectors.each id v at in let is = (f.found slot was).0 in let fr = free_is 0 (omega arith) in let em = emptied_is in
-        let a = alone ws vs p at r due.1 due.2 in let a0 = a.0 in let a1 = a.1 in let plain = plain_free codes sound y fr.2 in
+    gives_private_back was ws vs p at small = let y : ℕ = free_word 0 in let w : View = private_given_back slot y v in let f = p.collectors.each id v at in
+        let is = (f.found slot was).0 in let has = item_in (f.found slot was).1 in let r : PrivateItem = has.0 in let fr = free_is 0 (omega arith) in let em = emptied_is in
+        let a = alone ws vs p at r has.1 has.2 in let a0 = a.0 in let a1 = a.1 in let plain = plain_free codes sound y fr.2 in
         let quiet : codes.emptying (x ws vs p at) ≡ 0 = ap codes.emptying is ∙ em.4 in
-        let unseen = none_sees_due ws vs p at r due.1 due.2 due.3 in
+        let unseen : (j : ℕ) (u : View) → get_elem? vs j ≡ some u → ¬ (Sees u slot)
+        = λ j u e h. let there = ((p.collectors.each j u e).seen slot h).1 (ap codes.private is ∙ em.3) in let gone = ap codes.valued is ∙ em.5 in omega arith in
         let young : (q : PrivateItem) → HasPrivate w q → HasPrivate v q
         = λ q h. let o = at_filter (λ (x : PrivateItem). not (eqb x.item.slot slot)) v.slots.privates h.0 q h.1 in (o.0, o.1) in
         let gone = private_gone slot v.slots.privates in let none_left = without_same slot v.slots.emptied in
@@ -692,6 +645,32 @@ module _ (id : ℕ) (v : View) (live : HasPlace v.epoch) where
           at_slot (EmptiesSlot collector) n w ((λ _. refl), (λ miss. absurd (miss hit)), told),
         ))
         (λ miss. (v, steps.unmoved id v live ws vs p at i, at_slot (EmptiesSlot collector) n v ((λ hit. absurd (miss hit)), (λ _. refl), told)))
+
+    -- the same of an item of its own bag, of which it knows for whom it waits
+    pub empties_own : (collector : ℕ) → WaitsFor collector v slot → private_word collector < shared_base → Closes v collector
+        → sizes.participants ≤ v.slots.looked → v.slots.empties ≡ None → v.slots.left ≡ false
+        → Steps (Parts sizes) id v i (λ n. either (eqb n (private_word collector)) emptying_word n) (AtSlot (EmptiesOwn collector) i v)
+    empties_own collector has fits shuts all idle fresh ws vs p at small = let n : ℕ = get_or ws i 0 in let old : ℕ = private_word collector in
+        let y : ℕ = emptying_word in let told = steps.knew id v live ws vs p at slot in let possible = which ws vs p at collector has in
+        exchanged n old y (λ m. (u : View) × Parts sizes (set ws i m) (set vs id u) × AtSlot (EmptiesOwn collector) i v n u)
+        (λ hit. let e = empties collector fits shuts all idle fresh ws vs p at small in let is = (e.2 slot refl).0 hit in (
+          e.0,
+          subst (λ (m : ℕ). Parts sizes (set ws i m) (set vs id e.0)) (ap (λ (b : Bool). either b y n) (eq-eqb n old hit)) e.1,
+          at_slot (EmptiesOwn collector) n e.0 ((λ _. is), (λ d. absurd (omega arith)), (λ d. absurd (omega arith)), possible, told),
+        ))
+        (λ miss. ⊎_elim (λ (e : n ≡ old). absurd (miss e)) (λ (t : (n ≡ emptied_word) ⊎ (n ≡ emptying_word)). ⊎_elim
+        (λ (e : n ≡ emptied_word). (
+          found_emptied slot v,
+          finds ws vs p at collector has e,
+          at_slot (EmptiesOwn collector) n (found_emptied slot v)
+              ((λ hit. absurd (miss hit)), (λ _. refl), (λ d. absurd (omega arith)), possible, told),
+        ))
+        (λ (e : n ≡ emptying_word). (
+          orphaned slot v,
+          claimed ws vs p at collector has e,
+          at_slot (EmptiesOwn collector) n (orphaned slot v)
+              ((λ hit. absurd (miss hit)), (λ d. absurd (omega arith)), (λ _. refl), possible, told),
+        )) t) possible)
 
     -- what is emptied is so from now on, and its bag has it still, or has let go of it
     pub has_emptied : Empties v slot → Steps (Parts sizes) id v i (λ n. either (eqb n emptying_word) emptied_word n) (AtSlot HasEmptied i v)

@@ -1,14 +1,13 @@
 -- What each step on private items makes of what the participant knows, and what it tells
-use Rattle.std.specs.Prelude.{◌≡◌, ◌≢◌, ◌⊎◌, ℕ, ◌^◌, ◌==◌, ◌<◌, ◌≤◌, not, List, [], ◌∷◌, ◌++◌, map, Some, None, true, false, if◌then◌else◌}
+use Rattle.std.specs.Prelude.{◌≡◌, ◌≢◌, ◌⊎◌, ℕ, ◌^◌, ◌==◌, not, List, [], ◌∷◌, ◌++◌, map, Some, None, true, false, if◌then◌else◌}
 use Rattle.std.specs.List.{filter}
 use mathlib.Core.Option.{some}
 use lib.ListN.{get_elem?}
 use Rattle.sdd_views.specs.declared.PrivateItem.{PrivateItem}
 use Rattle.sdd_views.specs.declared.WaitingItem.{WaitingItem}
 use Rattle.sdd_views.specs.declared.View.{View}
-use Rattle.sdd_word_invariant.specs.Slots.{items_at}
-use Rattle.sdd_word_invariant.specs.Codes.{waiting, private, private_word, waiting_word, emptying_word, emptied_word, left_word}
-use Rattle.sdd_word_invariant.specs.Collectors.{HasPrivate, privates_at}
+use Rattle.sdd_word_invariant.specs.Codes.{private_word, waiting_word, emptying_word, emptied_word, left_word}
+use Rattle.sdd_word_invariant.specs.Collectors.{HasPrivate}
 use Rattle.sdd_word_invariant.specs.SlotSteps.{noted, Knew, without, without_item}
 
 -- the private items of other slots
@@ -87,10 +86,6 @@ empty_given_back slot y v = record v { slots = record v.slots { empties = None; 
 abbrev pub WaitsFor : ℕ → View → ℕ → Type 0
 WaitsFor collector v slot = (x : PrivateItem) × HasPrivate v x × (x.item.slot ≡ slot) × (x.collector ≡ collector)
 
--- one that has seen three changes
-abbrev pub IsDuePrivately : View → ℕ → Type 0
-IsDuePrivately v slot = (x : PrivateItem) × HasPrivate v x × (x.item.slot ≡ slot) × (3 ≤ x.item.changes)
-
 -- an item of the slot waits with it
 abbrev pub HasWaiting : View → ℕ → WaitingItem → Type 0
 HasWaiting v slot x = (x.slot ≡ slot) × ((m : ℕ) × (get_elem? v.slots.waits m ≡ some x))
@@ -107,12 +102,6 @@ Reclaims collector slot v x w =
     × (x ≡ emptied_word → w ≡ found_emptied slot v) × (x ≡ emptying_word → w ≡ orphaned slot v)
     × ((x ≡ private_word collector) ⊎ ((x ≡ emptied_word) ⊎ (x ≡ emptying_word))) × Knew slot v x
 
--- the word of a slot whose item waits, privately or not, is looked at: which it is, and what a close made of it
-abbrev pub LooksAtWaiting : ℕ → View → ℕ → View → Type 0
-LooksAtWaiting slot v x w = (0 < items_at slot v → (waiting x ≡ 1) × (w ≡ v)) × (0 < privates_at slot v → (private x ≡ 1)
-    × (x ≡ emptied_word → w ≡ found_emptied slot v) × (x ≡ emptying_word → w ≡ orphaned slot v)
-    × ((k : ℕ) → x ≡ private_word k → (w ≡ v) × WaitsFor k v slot)) × Knew slot v x
-
 -- a private item is left to the close that empties it, unless that is done, or hasn't begun
 abbrev pub LeavesToClose : ℕ → ℕ → View → ℕ → View → Type 0
 LeavesToClose collector slot v x w = (x ≡ emptying_word → w ≡ left_to_close slot left_word v) × (x ≡ emptied_word → w ≡ found_emptied slot v)
@@ -126,6 +115,12 @@ GivesPrivateBack slot v y w = w ≡ private_given_back slot y v
 -- a close claims what waits for its collector
 abbrev pub EmptiesSlot : ℕ → ℕ → View → ℕ → View → Type 0
 EmptiesSlot collector slot v x w = (x ≡ private_word collector → w ≡ empties_now slot emptying_word v) × (x ≢ private_word collector → w ≡ v) × Knew slot v x
+
+-- one claims an item of its own bag so, unless an earlier close did, which empties it, or has done so
+abbrev pub EmptiesOwn : ℕ → ℕ → View → ℕ → View → Type 0
+EmptiesOwn collector slot v x w = (x ≡ private_word collector → w ≡ empties_now slot emptying_word v)
+    × (x ≡ emptied_word → w ≡ found_emptied slot v) × (x ≡ emptying_word → w ≡ orphaned slot v)
+    × ((x ≡ private_word collector) ⊎ ((x ≡ emptied_word) ⊎ (x ≡ emptying_word))) × Knew slot v x
 
 -- it is emptied: its bag gives the slot back, or has let go of it
 abbrev pub HasEmptied : ℕ → View → ℕ → View → Type 0
