@@ -486,9 +486,9 @@ module _ (id : ℕ) (v : View) (live : HasPlace v.epoch) where
         )) t) possible)
 
     -- a private item is left to the close that empties it
-    pub leaves_to_close : (collector : ℕ) → WaitsFor collector v slot → private_word collector < shared_base
+    pub leaves_to_close : (collector : ℕ) → WaitsFor collector v slot
         → Steps (Parts sizes) id v i (λ n. either (eqb n emptying_word) left_word n) (AtSlot (LeavesToClose collector) i v)
-    leaves_to_close collector has fits ws vs p at small = let n : ℕ = get_or ws i 0 in let old : ℕ = emptying_word in let y : ℕ = left_word in
+    leaves_to_close collector has ws vs p at small = let n : ℕ = get_or ws i 0 in let old : ℕ = emptying_word in let y : ℕ = left_word in
         let r : PrivateItem = has.0 in let w : View = left_to_close slot y v in let told = steps.knew id v live ws vs p at slot in
         let possible = which ws vs p at collector has in let em = emptying_is in let lt = left_is in
         exchanged n old y (λ m. (u : View) × Parts sizes (set ws i m) (set vs id u) × AtSlot (LeavesToClose collector) i v n u)
