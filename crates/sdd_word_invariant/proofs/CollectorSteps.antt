@@ -21,7 +21,7 @@ use Rattle.sdd_word_invariant.specs.EpochSteps.{Steps}
 use Rattle.sdd_word_invariant.specs.Slots.{slot_at, waits_in, Sees, IsTimed, SlotsInvariant}
 use Rattle.sdd_word_invariant.specs.SlotSteps.{noted, without, without_item, AtSlot}
 use Rattle.sdd_word_invariant.specs.Collectors.{private_in, privates_at, one_in, empties_at, Empties, Closes, FoundEmptied, HasPrivate, HasValue, KnowsPrivates, SeenBeforeClosed, CollectorsInvariant}
-use Rattle.sdd_word_invariant.specs.CollectorSteps.{without_private, for_collector, collected, reclaimed, no_collector, orphan, orphaned, found_emptied, left_to_close, private_given_back, closing, closed_none, empties_now, emptied_now, finds_left, empty_given_back, WaitsFor, HasWaiting, Collects, Reclaims, LeavesToClose, GivesPrivateBack, EmptiesSlot, EmptiesOwn, HasEmptied, GivesEmptyBack}
+use Rattle.sdd_word_invariant.specs.CollectorSteps.{without_private, for_collector, collected, reclaimed, no_collector, orphan, orphaned, found_emptied, left_to_close, private_given_back, closing, closed_none, empties_now, emptied_now, finds_left, empty_given_back, own_given_back, WaitsFor, HasWaiting, Collects, Reclaims, LeavesToClose, GivesPrivateBack, EmptiesSlot, EmptiesOwn, HasEmptied, GivesEmptyBack, GivesOwnBack}
 use Rattle.sdd_word_invariant.specs.WordInvariant.{epoch_of, Parts}
 use Rattle.sdd_word_invariant.proofs.Frame.{each_set}
 use Rattle.sdd_word_invariant.proofs.Sums.{total_set, total_snoc, total_has, total_map, total_some, total_two, at_filter, both_set, is_same, is_other, without_same, without_other}
@@ -767,4 +767,54 @@ module _ (id : ℕ) (v : View) (live : HasPlace v.epoch) where
               refl refl refl refl
               (λ q h. inl h)),
           at_slot GivesEmptyBack y w refl,
+        )
+
+    -- the same of an item of its own bag, which nobody else lets go of
+    pub gives_own_back : Empties v slot → (r : PrivateItem) → HasPrivate v r → r.item.slot ≡ slot
+        → Steps (Parts sizes) id v i (λ _. free_word 0) (λ _. AtSlot GivesOwnBack i v (free_word 0))
+    gives_own_back mine r has same ws vs p at small = let y : ℕ = free_word 0 in let w : View = own_given_back slot y v in
+        let f = p.collectors.each id v at in let fr = free_is 0 (omega arith) in let em = emptying_is in let lt = left_is in
+        let plain = plain_free codes sound y fr.2 in let only = one_empties ws vs p at mine in let only0 = only.0 in
+        let a = alone ws vs p at r has same in let a0 = a.0 in let a1 = a.1 in
+        let is : slot_at sizes ws slot ≡ emptying_word = ⊎_elim (λ (e : slot_at sizes ws slot ≡ emptying_word). e)
+        (λ (e : slot_at sizes ws slot ≡ left_word). let z = ap codes.private e in let l3 = lt.3 in absurd (omega arith))
+        (which_emptying (slot_at sizes ws slot) (omega arith)) in
+        let unseen = none_sees ws vs p at only.0 in
+        let none : (k : ℕ) → ¬ (0 < codes.waits_for k y) = λ k. none_for codes sound k y plain.0 in
+        let at_own : (d : ℕ) → empties_at d v ≡ is_at d slot = λ d. ap (one_in d) mine in
+        let young : (q : PrivateItem) → HasPrivate w q → HasPrivate v q
+        = λ q h. let o = at_filter (λ (x : PrivateItem). not (eqb x.item.slot slot)) v.slots.privates h.0 q h.1 in (o.0, o.1) in
+        let gone = private_gone slot v.slots.privates in (
+          w,
+          done ws vs p at y w refl refl
+              (blinded ws vs p at y (record v { words = noted slot y v })
+              (turns codes sound sizes ws vs p.slots id v at slot y (omega arith) (noted slot y v) (ap codes.alive is ∙ em.0) (ap codes.waiting is ∙ em.1)
+              fr.0 fr.1 (λ j u e sees. absurd (unseen j u e sees)))
+              (without_private slot v.slots.privates) v.slots.emptied None v.slots.left)
+              (private_step codes sizes ws vs p.collectors id v at slot y (low ws vs p at) w
+              (let z = plain.0 in omega arith) (λ j ne. sym (private_kept slot j ne v.slots.privates))
+              (let b = at_own slot in let o = is_same slot slot refl in let z = plain.1 in omega arith)
+              (λ j ne. let b = at_own j in let o = is_other j slot (λ e. ne (sym e)) in omega arith)
+              (λ k h. absurd (none k h))
+              record {
+                timed = λ q h. f.timed q (young q h);
+                names = λ q h k for. dite (ℕ_discrete q.item.slot slot)
+                    (λ e. absurd (none k (subst (λ (m : ℕ). 0 < codes.waits_for k m) (here ws vs p at y q.item.slot e) for)))
+                    (λ ne. f.names q (young q h) k (subst (λ (m : ℕ). 0 < codes.waits_for k m) (beside ws vs p at y q.item.slot ne) for));
+                found = λ d h. let g = f.found d h in let g1 = g.1 in dite (ℕ_discrete d slot)
+                    (λ e. absurd (let z = ap (slot_at sizes ws) (sym e) ∙ g.0 in omega arith))
+                    (λ ne. let k = private_kept slot d ne v.slots.privates in (beside ws vs p at y d ne ∙ g.0, omega arith));
+                left = λ l d h. let e : None ≡ Some d = h in cc;
+                seen = λ d h. dite (ℕ_discrete d slot) (λ e. subst (HasValue codes) (sym (here ws vs p at y d e)) (plain_has codes sound y plain))
+                    (λ ne. subst (HasValue codes) (sym (beside ws vs p at y d ne)) (f.seen d h));
+              }
+              record {
+                names = λ j u apart e q h same' k for. absurd (none k for);
+                found = λ j u apart e h. absurd (let z = ((p.collectors.each j u e).found slot h).0 in omega arith);
+                left = λ j u apart e h. absurd (only.1 j u apart e h);
+                seen = λ _ _ _ _ _. plain_has codes sound y plain;
+              }
+              refl refl refl refl
+              (λ q h. inl (young q h))),
+          at_slot GivesOwnBack y w refl,
         )

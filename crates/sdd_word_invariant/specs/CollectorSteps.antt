@@ -82,6 +82,13 @@ finds_left v = record v { slots = record v.slots { left = true } }
 abbrev pub empty_given_back : ℕ → ℕ → View → View
 empty_given_back slot y v = record v { slots = record v.slots { empties = None; left = false }; words = noted slot y v }
 
+-- it has emptied an item of its own bag, and gives the slot back
+abbrev pub own_given_back : ℕ → ℕ → View → View
+own_given_back slot y v = record v {
+  slots = record v.slots { privates = without_private slot v.slots.privates; empties = None };
+  words = noted slot y v;
+}
+
 -- a private item of the slot waits with it for this collector
 abbrev pub WaitsFor : ℕ → View → ℕ → Type 0
 WaitsFor collector v slot = (x : PrivateItem) × HasPrivate v x × (x.item.slot ≡ slot) × (x.collector ≡ collector)
@@ -130,3 +137,7 @@ HasEmptied slot v x w = (x ≡ emptying_word → w ≡ emptied_now slot emptied_
 -- and the slot is free
 abbrev pub GivesEmptyBack : ℕ → View → ℕ → View → Type 0
 GivesEmptyBack slot v y w = w ≡ empty_given_back slot y v
+
+-- an item of its own bag is emptied, and the slot is free
+abbrev pub GivesOwnBack : ℕ → View → ℕ → View → Type 0
+GivesOwnBack slot v y w = w ≡ own_given_back slot y v
