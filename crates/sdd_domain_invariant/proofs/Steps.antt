@@ -267,7 +267,7 @@ module _ (slots id : ℕ) (me : SeatState) (live : HasPlace me.0.epoch) where
       same_words j = ap (λ (l : List ℕ). full_at sizes l j) (set-get_or s.words i 0)
 
     -- of a slot whose value it moves the bank has nothing
-    moved_unbanked : (s : State ValueFraction View) → DomainInvariant γ sizes s → get_elem? s.views id ≡ some v → Moves v slot → (j : ℕ) (b : View)
+    pub moved_unbanked : (s : State ValueFraction View) → DomainInvariant γ sizes s → get_elem? s.views id ≡ some v → Moves v slot → (j : ℕ) (b : View)
         → get_elem? s.views j ≡ some b → IsBank b → (c : Gv) → ShowOnly slot c (banked b)
     moved_unbanked s h at mine j b there is c = let o = h.bank.banks j b there is in none_shown slot c γ (banked b) o.deposits
         (let sum = o.sums slot inside in let out = banks.moved_outside γ sizes s.words s.views h.bank id v at slot mine in omega arith)
@@ -458,7 +458,7 @@ module _ (slots id : ℕ) (me : SeatState) (live : HasPlace me.0.epoch) where
           }
 
       -- where nobody sees a slot, and its value may be moved out by this one alone, all stakes in it are taken, and the bank's deposit of it, as none is drawn
-      moves_out : (s : State ValueFraction View) (b : View) (h : DomainInvariant γ sizes s) → get_elem? s.views id ≡ some v → get_elem? s.views bd ≡ some b →
+      pub moves_out : (s : State ValueFraction View) (b : View) (h : DomainInvariant γ sizes s) → get_elem? s.views id ≡ some v → get_elem? s.views bd ≡ some b →
           IsBank b
           → ¬ (id ≡ bd) → v.stakes.moves ≡ None → full_at sizes s.words slot ≡ 1 → total (drawn_at slot) s.views ≡ 0 → (Is : Gv → Type 0)
           → ((p : ℕ) (y : ValueFraction) → p ≤ n → LiesAt n s.homes slot p y → MatchesSlotWord (full_at sizes s.words slot) y.lot.shown → Is y.lot.shown)
