@@ -14,7 +14,7 @@ ghost use Rattle.sdd_views.specs.declared.CellKind.TheVariants.{Owned as for_own
 ghost use Rattle.sdd_domain_invariant.specs.CellSteps.{ClaimsCell, FillsBare, LooksInCell, RetagsOne, SwapsBare, SeesInCell, OfCell, FindsPointer, OfPointer, rightless, rights_of, righted};
 ghost use Rattle.sdd_atomics.specs.Cells.{SwapsPledged, ExchangesPledged, FreesOwn, FreesOwnBare, RecallsCell, FindsRight};
 ghost use Rattle.sdd_atomics.specs.Clones.{AddsPledged};
-ghost use Rattle.sdd_atomics.specs.Emptying.{collector_of};
+ghost use Rattle.sdd_atomics.specs.Emptying.{collector_named};
 ghost use Rattle.sdd_atomics.specs.DomainSeat.{Sits, Told, HousesMoved, WatchesOwned, RecallsOwned};
 
 use atomic_table::{Join, Play, Split};
@@ -187,7 +187,7 @@ impl Play<ValueFraction, View> for GiveBack {
 pub struct ReclaimPrivate;
 
 impl Play<ValueFraction, View> for ReclaimPrivate {
-    ghost then = { λ step. OfSlot (ReclaimsOne (collector_of step.first)) step.word };
+    ghost then = { λ step. OfSlot (ReclaimsOne (collector_named step.first)) step.word };
 }
 
 pub struct TakePrivate;
