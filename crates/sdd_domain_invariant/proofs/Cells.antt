@@ -1,4 +1,5 @@
 -- What cells hold, after one step
+use Rattle.std.specs.Prelude.{Option, None, Some}
 use Rattle.std.proofs.Common.{◌≡◌, ◌≢◌, ◌⊎◌, inl, inr, ℕ, zero, suc, ◌+◌, ◌*◌, Bool, true, false, ◌<◌, List, [], ◌∷◌, ◌++◌, length, get_or, set, sym, refl, ap, ◌∙◌, subst, ⊎_elim, arith, get_or-set_other, get_or-set_same}
 use mathlib.Core.Logic.{dite}
 use mathlib.Core.Option.{some, some-injective, some-ne-none}
@@ -14,9 +15,10 @@ use Rattle.sdd_views.specs.declared.Sizes.{Sizes}
 use Rattle.sdd_word_invariant.specs.Words.{first_cell, cell_word, pointer_word, slot_word}
 use Rattle.sdd_word_invariant.specs.Codes.{codes, alive, counted, names, pointers_end}
 use Rattle.sdd_word_invariant.specs.Slots.{slot_at, owners_at, SlotsInvariant}
+use Rattle.sdd_word_invariant.specs.Collectors.{Closes}
 use Rattle.sdd_word_invariant.specs.Sums.{total}
 use Rattle.sdd_word_invariant.proofs.Codes.{sound}
-use Rattle.sdd_word_invariant.proofs.Frame.{each_snoc}
+use Rattle.sdd_word_invariant.proofs.Frame.{each_set, each_snoc}
 use Rattle.sdd_word_invariant.proofs.SlotWords.{named_in}
 use Rattle.sdd_word_invariant.proofs.Sums.{is_same, is_other, total_set, total_snoc, total_has, total_two, total_some, span_has}
 use Rattle.atomic_table.proofs.Lists.{at_set}
@@ -121,6 +123,10 @@ pub first_or : (r : CellRight) (rs : List CellRight) (q : CellRight) (k : ℕ) �
 first_or r rs q zero e = inl (some-injective r q e)
 first_or r rs q (suc k) e = inr (k, e)
 
+-- one that closes none
+pub none_closed : (u : View) → u.slots.closes ≡ None → (k : ℕ) → ¬ (Closes u k)
+none_closed u none k shuts = let c : None ≡ Some k = sym none ∙ shuts in cc
+
 -- one that has the right to none
 pub no_right : (u : View) → u.cells.rights ≡ [] → (q : CellRight) → ¬ (HasRight u q)
 no_right u empty q has = some-ne-none q (sym has.1 ∙ ap (λ (l : List CellRight). get_elem? l has.0) empty)
@@ -149,19 +155,27 @@ module _ (sizes : Sizes) (ws : List ℕ) (vs : List View) (part : CellsInvariant
       (λ none. omega arith)
 
   -- a new token that has the right to none
-  pub cells_more : (t : View) → t.cells.rights ≡ [] → CellsInvariant sizes ws (vs ++ t ∷ [])
-  cells_more t none = record {
+  pub cells_more : (t : View) → t.cells.rights ≡ [] → t.slots.closes ≡ None → CellsInvariant sizes ws (vs ++ t ∷ [])
+  cells_more t none idle = record {
     inside = part.inside;
     single = λ d. let a = total_snoc (rights_at d) vs t in let z = ap (total (is_right d)) none in let o = part.single d in omega arith;
     taken = λ j v r e has. each_snoc (λ u. (q : CellRight) → HasRight u q → IsTaken sizes ws q) vs t (λ k u e' q. part.taken k u q e')
         (λ q has'. absurd (no_right t none q has')) j v e r has;
+    closing = λ j k v e shuts. each_snoc (λ u. (d : ℕ) → Closes u d → 0 < rights_at d u) vs t (λ i u e' d. part.closing i d u e')
+        (λ d shuts'. absurd (none_closed t idle d shuts')) j v e k shuts;
     pointers = part.pointers;
   }
 
   module _ (id : ℕ) (v w : View) (at : get_elem? vs id ≡ some v) where
+    -- who closes a collector then has the right to its cell, where this one has
+    pub closers : ((k : ℕ) → Closes w k → 0 < rights_at k w) → (j k : ℕ) (u : View) → get_elem? (set vs id w) j ≡ some u → Closes u k → 0 < rights_at k u
+    closers mine j k u e shuts = each_set (λ u. (d : ℕ) → Closes u d → 0 < rights_at d u) (λ u. (d : ℕ) → Closes u d → 0 < rights_at d u) vs id w mine
+        (λ i x _ e' d. part.closing i d x e') j u e k shuts
+
     -- it has the rights that it had
-    pub cells_kept : (ws' : List ℕ) → SameCells sizes ws ws' → KeepsKinds sizes ws ws' → w.cells ≡ v.cells → CellsInvariant sizes ws' (set vs id w)
-    cells_kept ws' same kinds rights = record {
+    pub cells_kept : (ws' : List ℕ) → SameCells sizes ws ws' → KeepsKinds sizes ws ws' → w.cells ≡ v.cells → w.slots.closes ≡ v.slots.closes
+        → CellsInvariant sizes ws' (set vs id w)
+    cells_kept ws' same kinds rights closes = record {
       inside = λ i c. part.inside i (in_cell_before sizes ws ws' same i c);
       single = λ d. let a = total_set (rights_at d) vs id v w at in let e = ap (λ (c : CellsView). total (is_right d) c.rights) rights in
           let o = part.single d in omega arith;
@@ -169,5 +183,7 @@ module _ (sizes : Sizes) (ws : List ℕ) (vs : List View) (part : CellsInvariant
           (λ (t : (j ≡ id) × (w ≡ u)). part.taken id v r at
           (has.0, ap (λ (c : CellsView). get_elem? c.rights has.0) (sym rights) ∙ (ap (λ (x : View). get_elem? x.cells.rights has.0) t.1 ∙ has.1)))
           (λ (t : (j ≢ id) × (get_elem? vs j ≡ some u)). part.taken j u r t.1 has) (at_set vs id j w u e));
+      closing = closers (λ k shuts. let e = ap (λ (c : CellsView). total (is_right k) c.rights) rights in
+          let o = part.closing id k v at (sym closes ∙ shuts) in omega arith);
       pointers = same.pointers part.pointers;
     }
