@@ -23,7 +23,7 @@ use Rattle.sdd_word_invariant.proofs.SlotWords.{named_in}
 use Rattle.sdd_word_invariant.proofs.Sums.{is_same, is_other, total_set, total_snoc, total_has, total_two, total_some, span_has}
 use Rattle.atomic_table.proofs.Lists.{at_set}
 use Rattle.sdd_domain_invariant.specs.BankInvariant.{one_where}
-use Rattle.sdd_domain_invariant.specs.CellsInvariant.{cell_at, pointer_at, IsInCell, is_right, rights_at, HasRight, IsWordOf, IsTaken, HavePointers, CellsInvariant}
+use Rattle.sdd_domain_invariant.specs.CellsInvariant.{cell_at, pointer_at, IsInCell, is_right, rights_at, HasRight, IsWordOf, IsTaken, HavePointers, MayClose, CellsInvariant}
 
 -- a flag is told by its number
 pub one_flag : (a b : Bool) → one_where a ≡ one_where b → a ≡ b
@@ -123,6 +123,10 @@ pub first_or : (r : CellRight) (rs : List CellRight) (q : CellRight) (k : ℕ) �
 first_or r rs q zero e = inl (some-injective r q e)
 first_or r rs q (suc k) e = inr (k, e)
 
+-- how many participants it knows of, and the collector that it closes
+abbrev pub closer_of : View → Sizes × Option ℕ
+closer_of v = (v.sizes, v.slots.closes)
+
 -- one that closes none
 pub none_closed : (u : View) → u.slots.closes ≡ None → (k : ℕ) → ¬ (Closes u k)
 none_closed u none k shuts = let c : None ≡ Some k = sym none ∙ shuts in cc
@@ -161,21 +165,27 @@ module _ (sizes : Sizes) (ws : List ℕ) (vs : List View) (part : CellsInvariant
     single = λ d. let a = total_snoc (rights_at d) vs t in let z = ap (total (is_right d)) none in let o = part.single d in omega arith;
     taken = λ j v r e has. each_snoc (λ u. (q : CellRight) → HasRight u q → IsTaken sizes ws q) vs t (λ k u e' q. part.taken k u q e')
         (λ q has'. absurd (no_right t none q has')) j v e r has;
-    closing = λ j k v e shuts. each_snoc (λ u. (d : ℕ) → Closes u d → 0 < rights_at d u) vs t (λ i u e' d. part.closing i d u e')
+    closing = λ j k v e shuts. each_snoc (λ u. (d : ℕ) → Closes u d → MayClose u d) vs t (λ i u e' d. part.closing i d u e')
         (λ d shuts'. absurd (none_closed t idle d shuts')) j v e k shuts;
     pointers = part.pointers;
   }
 
   module _ (id : ℕ) (v w : View) (at : get_elem? vs id ≡ some v) where
     -- who closes a collector then has the right to its cell, where this one has
-    pub closers : ((k : ℕ) → Closes w k → 0 < rights_at k w) → (j k : ℕ) (u : View) → get_elem? (set vs id w) j ≡ some u → Closes u k → 0 < rights_at k u
-    closers mine j k u e shuts = each_set (λ u. (d : ℕ) → Closes u d → 0 < rights_at d u) (λ u. (d : ℕ) → Closes u d → 0 < rights_at d u) vs id w mine
+    pub closers : ((k : ℕ) → Closes w k → MayClose w k) → (j k : ℕ) (u : View) → get_elem? (set vs id w) j ≡ some u → Closes u k → MayClose u k
+    closers mine j k u e shuts = each_set (λ u. (d : ℕ) → Closes u d → MayClose u d) (λ u. (d : ℕ) → Closes u d → MayClose u d) vs id w mine
         (λ i x _ e' d. part.closing i d x e') j u e k shuts
 
+    -- as long as it closes what it closed, and has the rights that it had
+    pub still_closes : w.cells ≡ v.cells → closer_of w ≡ closer_of v → (k : ℕ) → Closes w k → MayClose w k
+    still_closes rights closer k shuts = let o = part.closing id k v at (sym (ap (λ (c : Sizes × Option ℕ). c.1) closer) ∙ shuts) in let o0 = o.0 in let o1 = o.1 in
+        let e = ap (λ (c : CellsView). total (is_right k) c.rights) rights in
+        let e' = ap (λ (c : Sizes × Option ℕ). c.0.participants) closer in (omega arith, omega arith)
+
     -- it has the rights that it had
-    pub cells_kept : (ws' : List ℕ) → SameCells sizes ws ws' → KeepsKinds sizes ws ws' → w.cells ≡ v.cells → w.slots.closes ≡ v.slots.closes
+    pub cells_kept : (ws' : List ℕ) → SameCells sizes ws ws' → KeepsKinds sizes ws ws' → w.cells ≡ v.cells → closer_of w ≡ closer_of v
         → CellsInvariant sizes ws' (set vs id w)
-    cells_kept ws' same kinds rights closes = record {
+    cells_kept ws' same kinds rights closer = record {
       inside = λ i c. part.inside i (in_cell_before sizes ws ws' same i c);
       single = λ d. let a = total_set (rights_at d) vs id v w at in let e = ap (λ (c : CellsView). total (is_right d) c.rights) rights in
           let o = part.single d in omega arith;
@@ -183,7 +193,6 @@ module _ (sizes : Sizes) (ws : List ℕ) (vs : List View) (part : CellsInvariant
           (λ (t : (j ≡ id) × (w ≡ u)). part.taken id v r at
           (has.0, ap (λ (c : CellsView). get_elem? c.rights has.0) (sym rights) ∙ (ap (λ (x : View). get_elem? x.cells.rights has.0) t.1 ∙ has.1)))
           (λ (t : (j ≢ id) × (get_elem? vs j ≡ some u)). part.taken j u r t.1 has) (at_set vs id j w u e));
-      closing = closers (λ k shuts. let e = ap (λ (c : CellsView). total (is_right k) c.rights) rights in
-          let o = part.closing id k v at (sym closes ∙ shuts) in omega arith);
+      closing = closers (still_closes rights closer);
       pointers = same.pointers part.pointers;
     }

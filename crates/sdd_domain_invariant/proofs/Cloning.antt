@@ -105,7 +105,7 @@ module _ (γ : ℕ) (sizes : Sizes) where
       (lasts_fewer sizes s.words s.views s.homes h.lasts id v at s.words w s.homes (λ _ _ _ _ l. l) (λ b. (b, refl)) refl (λ _ live. inl live)
       (λ _ _ _ is. is))
       (kind_steps.spends sizes s.words s.views h.kinds h.records.each id v at w
-      (knows_alike sizes s.words v w (h.kinds.each id v at) refl refl (λ i m. m) (λ i o. o) (λ r a. a) (λ i a. a)) refl (inl (λ l. l)) refl p)
+      (knows_alike sizes s.words v w (h.kinds.each id v at) refl refl (λ i m. m) (λ i o. o) (λ r a. a) (λ i a. a)) refl refl (inl (λ l. l)) refl p)
 
   -- a pledge of a share of a token's view is entered, first in the ledger, where there is something to do beside the token
   enters_by : (v : View) (bd : ℕ) (token : View) (p : Pledge) → token.pledges.ledger ≡ false

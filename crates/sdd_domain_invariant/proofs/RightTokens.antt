@@ -22,7 +22,7 @@ use Rattle.sdd_word_invariant.specs.WordInvariant.{epoch_of}
 use Rattle.sdd_word_invariant.proofs.Frame.{each_set}
 use Rattle.sdd_word_invariant.proofs.Lift.{blind_tokens}
 use Rattle.sdd_word_invariant.proofs.Sums.{total_set, total_append}
-use Rattle.sdd_domain_invariant.specs.CellsInvariant.{is_right, rights_at, IsTaken, CellsInvariant}
+use Rattle.sdd_domain_invariant.specs.CellsInvariant.{is_right, rights_at, IsTaken, MayClose, CellsInvariant}
 use Rattle.sdd_domain_invariant.specs.CellSteps.{rightless, rights_of, righted}
 use Rattle.sdd_domain_invariant.specs.DomainInvariant.{DomainInvariant}
 use Rattle.sdd_domain_invariant.specs.KindsInvariant.{KnowsKinds}
@@ -50,7 +50,7 @@ module _ (sizes : Sizes) (ws : List ℕ) (vs : List View) (part : CellsInvariant
   where
     -- the rights of one change, to as many at most as there were of each, and each is taken
     rights_set : ((d : ℕ) → total (rights_at d) vs + total (is_right d) c.rights ≤ 1 + rights_at d v)
-        → ((m : ℕ) (r : CellRight) → get_elem? c.rights m ≡ some r → IsTaken sizes ws r) → ((k : ℕ) → Closes v k → 0 < total (is_right k) c.rights)
+        → ((m : ℕ) (r : CellRight) → get_elem? c.rights m ≡ some r → IsTaken sizes ws r) → ((k : ℕ) → Closes v k → MayClose (record v { cells = c }) k)
         → CellsInvariant sizes ws (set vs id (record v { cells = c }))
     rights_set few taken closing = let w : View = record v { cells = c } in record {
       inside = part.inside;
@@ -127,6 +127,7 @@ module _ (γ : ℕ) (sizes : Sizes) where
       (λ m r has. ⊎_elim (λ (e : record { cell = cell; kind = kind } ≡ r). h.kinds.cells.taken other t r was (0, ap some e))
       (λ (k : (n : ℕ) × (get_elem? v.cells.rights n ≡ some r)). h.kinds.cells.taken id v r at k)
       (first_or (record { cell = cell; kind = kind }) v.cells.rights r m has))
-      (λ d shuts. let o = h.kinds.cells.closing id d v at shuts in let j = total_append (is_right d) t.cells.rights v.cells.rights in omega arith)) in
+      (λ d shuts. let o = h.kinds.cells.closing id d v at shuts in let o1 = o.1 in let j = total_append (is_right d) t.cells.rights v.cells.rights in
+      (o.0, omega arith))) in
       subst (λ (l : List View). DomainInvariant γ sizes record { words = s.words; homes = s.homes; views = l })
       (set_comm s.views other id t' w apart) two

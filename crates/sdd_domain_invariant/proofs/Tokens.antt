@@ -329,7 +329,7 @@ module _ (γ : ℕ) (sizes : Sizes) where
               records = λ _ x a. (suc a.0, a.1);
               holds = λ _. refl;
             } in
-            kind_steps.spends sizes s.words vs now_mine came.each other t there t' (knows_no_kind sizes s.words t' refl refl refl) refl (inl (λ l. l)) refl
+            kind_steps.spends sizes s.words vs now_mine came.each other t there t' (knows_no_kind sizes s.words t' refl refl refl) refl refl (inl (λ l. l)) refl
             (pledges_spent vs now_mine.pledges other t t' there refl (λ i q B.
             let l = forth s.views h.kinds.pledges id v w at (λ x y. y.pledges ≡ x.pledges) refl (λ _. refl) bd b at_b in
             let had : HasPledge q b.pledges.booked = subst (λ (x : PledgesView). HasPledge q x.booked) l.2
