@@ -131,6 +131,25 @@ fits_any sizes ws Shared x none = λ i n. absurd (let z = names_none x none i in
 fits_any sizes ws Raw x none = names_none x none
 fits_any sizes ws Collector x none = names_none x none
 
+-- the token that has this right, of whose view a share is pledged; no participant has that view
+pub record RightBeside (vs : List View) (p : Pledge) (r : CellRight) : Type 0 where
+  pub owner : View
+  pub there : get_elem? vs p.seat ≡ some owner
+  pub has : HasRight owner r
+  pub nobodys : owner.sizes.participants ≡ 0
+
+pub right_beside : (vs : List View) (p : Pledge) (cell : ℕ) (kind : CellKind) → p.view ≡ the_row.coded.code (right_to cell kind)
+    → IsOfOwner vs p ⊎ IsOfCell vs p → RightBeside vs p (record { cell = cell; kind = kind })
+right_beside vs p cell kind is beside = let the_right : CellRight = record { cell = cell; kind = kind } in ⊎_elim
+    (λ (o : IsOfOwner vs p). let e = the_row.coded.inj (right_to cell kind) (owner_of o.slot true o.value) (sym is ∙ o.view) in
+    let c : ◌≡◌ {A = List ℕ} [] (o.slot ∷ []) = ap (λ (u : View). u.slots.owns) e in cc)
+    (λ (o : IsOfCell vs p). let e = the_row.coded.inj (right_to cell kind) (right_to o.right.cell o.right.kind) (sym is ∙ o.view) in record {
+      owner = o.owner;
+      there = o.there;
+      has = subst (HasRight o.owner) (sym (ap (λ (u : View). first_right the_right u.cells.rights) e)) o.has;
+      nobodys = o.nobodys;
+    }) beside
+
 -- it has no owner, or one, with its record
 module _ (m : ℕ) (v : View) (t : IsTelling m v) (cell y : ℕ) (rights : CellsView) (rests : v.stakes.moves ≡ None) where
   put_tells : IsTelling m (record (put_in cell y v) { cells = rights })
@@ -520,18 +539,11 @@ module _ (slots id : ℕ) (me : SeatState) (live : HasPlace me.0.epoch) (rests :
       the_right = record { cell = cell; kind = kind }
 
       module _ (s : State ValueFraction View) (h : DomainInvariant γ sizes s) (at : get_elem? s.views id ≡ some v) where
-        beside : IsOfCell s.views p
-        beside = ⊎_elim
-            (λ (o : IsOfOwner s.views p). let e = the_row.coded.inj (right_to cell kind) (owner_of o.slot true o.value) (sym is ∙ o.view) in
-            let c : ◌≡◌ {A = List ℕ} [] (o.slot ∷ []) = ap (λ (u : View). u.slots.owns) e in cc)
-            (λ (o : IsOfCell s.views p). o) (h.kinds.pledges.backed id v p at own).beside
-
-        has_right : HasRight beside.owner the_right
-        has_right = let e = the_row.coded.inj (right_to cell kind) (right_to beside.right.cell beside.right.kind) (sym is ∙ beside.view) in
-            subst (HasRight beside.owner) (sym (ap (λ (u : View). first_right the_right u.cells.rights) e)) beside.has
+        beside : RightBeside s.views p the_right
+        beside = right_beside s.views p cell kind is (h.kinds.pledges.backed id v p at own).beside
 
         of_pledge : IsTaken sizes s.words the_right
-        of_pledge = h.kinds.cells.taken p.seat beside.owner the_right beside.there has_right
+        of_pledge = h.kinds.cells.taken p.seat beside.owner the_right beside.there beside.has
 
       -- a cell that holds no owners has another word that names none
       pub swaps_bare : (y : ℕ) → held_slots y ≡ [] → 0 < y → v.slots.owns ≡ [] → v.slots.holds ≡ None → IsBare kind
@@ -602,7 +614,7 @@ module _ (slots id : ℕ) (me : SeatState) (live : HasPlace me.0.epoch) (rests :
           cells_stay : (base : View) → base.cells ≡ v.cells → closer_of base ≡ closer_of v
               → CellsInvariant sizes (after s h y) (set s.views id (record base { cells = v.cells }))
           cells_stay base same closer = cells_swapped s h at y owns loose undrawn shared given (record base { cells = v.cells }) refl closer more p.seat
-              (beside (cell_kind shared) p own is s h at).owner (beside (cell_kind shared) p own is s h at).there (has_right (cell_kind shared) p own is s h at)
+              (beside (cell_kind shared) p own is s h at).owner (beside (cell_kind shared) p own is s h at).there (beside (cell_kind shared) p own is s h at).has
 
         pub swaps : May i (λ _. y) (OfCell (SwapsOne y shared) i me)
         swaps = let told : ℕ → SeatState → Type 0 = OfCell (SwapsOne y shared) i me in

@@ -183,9 +183,9 @@ module _ (sizes : Sizes) (ws : List ℕ) (vs : List View) (part : CellsInvariant
         let e' = ap (λ (c : Sizes × Option ℕ). c.0.participants) closer in (omega arith, omega arith)
 
     -- it has the rights that it had
-    pub cells_kept : (ws' : List ℕ) → SameCells sizes ws ws' → KeepsKinds sizes ws ws' → w.cells ≡ v.cells → closer_of w ≡ closer_of v
+    pub cells_by : (ws' : List ℕ) → SameCells sizes ws ws' → KeepsKinds sizes ws ws' → w.cells ≡ v.cells → ((k : ℕ) → Closes w k → MayClose w k)
         → CellsInvariant sizes ws' (set vs id w)
-    cells_kept ws' same kinds rights closer = record {
+    cells_by ws' same kinds rights closing = record {
       inside = λ i c. part.inside i (in_cell_before sizes ws ws' same i c);
       single = λ d. let a = total_set (rights_at d) vs id v w at in let e = ap (λ (c : CellsView). total (is_right d) c.rights) rights in
           let o = part.single d in omega arith;
@@ -193,6 +193,11 @@ module _ (sizes : Sizes) (ws : List ℕ) (vs : List View) (part : CellsInvariant
           (λ (t : (j ≡ id) × (w ≡ u)). part.taken id v r at
           (has.0, ap (λ (c : CellsView). get_elem? c.rights has.0) (sym rights) ∙ (ap (λ (x : View). get_elem? x.cells.rights has.0) t.1 ∙ has.1)))
           (λ (t : (j ≢ id) × (get_elem? vs j ≡ some u)). part.taken j u r t.1 has) (at_set vs id j w u e));
-      closing = closers (still_closes rights closer);
+      closing = closers closing;
       pointers = same.pointers part.pointers;
     }
+
+    -- and closes what it closed
+    pub cells_kept : (ws' : List ℕ) → SameCells sizes ws ws' → KeepsKinds sizes ws ws' → w.cells ≡ v.cells → closer_of w ≡ closer_of v
+        → CellsInvariant sizes ws' (set vs id w)
+    cells_kept ws' same kinds rights closer = cells_by ws' same kinds rights (still_closes rights closer)
