@@ -41,7 +41,7 @@ use Rattle.sdd_domain_invariant.specs.BankInvariant.{one_where}
 use Rattle.sdd_domain_invariant.specs.CellsInvariant.{cell_at, IsInCell, is_right, rights_at, HasRight, IsWordOf, IsTaken, HavePointers, MayClose, CellsInvariant}
 use Rattle.sdd_domain_invariant.specs.Records.{IsIn, IsKnown, IsTelling}
 use Rattle.sdd_domain_invariant.specs.FilledInvariant.{newest, HasRecord}
-use Rattle.sdd_domain_invariant.specs.LastFractions.{IsRaw, IsStored, LastIs}
+use Rattle.sdd_domain_invariant.specs.LastFractions.{IsRaw, IsStored, HidesItem, LastIs}
 use Rattle.sdd_domain_invariant.specs.PledgesInvariant.{IsOfOwner, IsOfCell}
 use Rattle.sdd_domain_invariant.specs.KindsInvariant.{KnowsKinds, KindsInvariant}
 use Rattle.sdd_domain_invariant.specs.DomainInvariant.{DomainInvariant}
@@ -335,7 +335,8 @@ module _ (slots id : ℕ) (me : SeatState) (live : HasPlace me.0.epoch) (rests :
                 bank = banks.calm γ sizes s.words s.views h.bank id v at (after y) now
                     record { bank = refl; founds = refl; book = refl; banked = refl; drawn = refl } refl
                     (λ k. let z = ap (times k) undrawn in omega arith) (full_stay y);
-                lasts = lasts_out sizes s.words s.views s.homes h.lasts id v at (after y) now (λ b. (b, refl)) refl (λ l. l) stored_then;
+                lasts = lasts_out sizes s.words s.views s.homes h.lasts id v at (after y) now (λ b. (b, refl)) refl (λ l. l) stored_then
+                    (λ j near is. inl (subst HidesItem (slots_stay y j) is));
                 kinds = kinds_then y now refl rests refl refl (λ l. l) refl (λ r a. absurd (has_none r [] refl a)) cells;
                 tells = tells;
               }
@@ -394,7 +395,8 @@ module _ (slots id : ℕ) (me : SeatState) (live : HasPlace me.0.epoch) (rests :
                   bank = banks.calm γ sizes s.words s.views h.bank id v at (after y) now
                       record { bank = refl; founds = refl; book = refl; banked = refl; drawn = refl } refl
                       (λ k. let z = ap (times k) undrawn in omega arith) (full_stay y);
-                  lasts = lasts_out sizes s.words s.views s.homes h.lasts id v at (after y) now (λ b. (b, refl)) refl (λ l. l) stored_then;
+                  lasts = lasts_out sizes s.words s.views s.homes h.lasts id v at (after y) now (λ b. (b, refl)) refl (λ l. l) stored_then
+                      (λ j near is. inl (subst HidesItem (slots_stay y j) is));
                   kinds = kinds_then y now refl rests refl refl (λ l. l) refl
                       (λ q a. ⊎_elim (λ (b : r ≡ q). subst (λ (x : ShownValue). counted (slot_at sizes s.words x.slot) ≡ one_where x.shared) b (kind slot named))
                       (λ (b : HasRecord [] q). absurd (has_none q [] refl b)) (has_first r [] q a)) cells;
@@ -462,10 +464,13 @@ module _ (slots id : ℕ) (me : SeatState) (live : HasPlace me.0.epoch) (rests :
               (λ ne. let q = ap (names j) (there y c.0 ne) in (c.0, c.1, (omega arith)))
 
           stored_was : NoMoreStored sizes s.words (after y)
-          stored_was j kind near is = ⊎_elim
-              (λ (a : IsRaw sizes (after y) j × (kind ≡ false)). inl (sym (slots_stay y j) ∙ a.0, a.1))
-              (λ (b : IsInCell sizes (after y) j × (counted (slot_at sizes (after y) j) ≡ one_where kind)).
-              inr (in_cell_was j b.0, sym (ap counted (slots_stay y j)) ∙ b.1)) is
+          stored_was j near = (
+            λ kind is. ⊎_elim
+                (λ (a : IsRaw sizes (after y) j × (kind ≡ false)). inl (sym (slots_stay y j) ∙ a.0, a.1))
+                (λ (b : IsInCell sizes (after y) j × (counted (slot_at sizes (after y) j) ≡ one_where kind)).
+                inr (in_cell_was j b.0, sym (ap counted (slots_stay y j)) ∙ b.1)) is,
+            subst HidesItem (slots_stay y j),
+          )
 
           taken_now : (r : CellRight) → IsTaken sizes s.words r → IsTaken sizes (after y) r
           taken_now r t = dite (ℕ_discrete r.cell cell)

@@ -62,7 +62,7 @@ use Rattle.sdd_domain_invariant.proofs.Cells.{no_change, cells_slot, cells_kept}
 use Rattle.sdd_domain_invariant.proofs.KindSteps as kind_steps
 use Rattle.sdd_domain_invariant.proofs.Telling.{none_moved, one_view, owns_it}
 use Rattle.sdd_domain_invariant.proofs.Tokens.{nothing_out, set_front}
-use Rattle.sdd_domain_invariant.proofs.Lasts.{shown_leaves, stored_set, lasts_fewer, lasts_more, lasts_dealt}
+use Rattle.sdd_domain_invariant.proofs.Lasts.{shown_leaves, owned_shows, stored_as_is, stored_set, lasts_fewer, lasts_more, lasts_dealt}
 use Rattle.sdd_domain_invariant.proofs.Lift.{Follows, lift_whole, stands, stands_dealt}
 use Rattle.sdd_domain_invariant.proofs.Steps.{full_owned, still_owned}
 use Rattle.sdd_domain_invariant.proofs.Steps as steps
@@ -103,7 +103,7 @@ module _ (γ : ℕ) (sizes : Sizes) where
       (filled_same sizes s.views h.filled id v at w refl refl refl (λ l. l))
       (banks.alike γ sizes s.words s.views h.bank id v at s.words w (refl, refl, refl, (λ _. refl), refl) (λ _ _. refl))
       (lasts_fewer sizes s.words s.views s.homes h.lasts id v at s.words w s.homes (λ _ _ _ _ l. l) (λ b. (b, refl)) refl (λ _ live. inl live)
-      (λ _ _ _ is. is))
+      (stored_as_is sizes s.words))
       (kind_steps.spends sizes s.words s.views h.kinds h.records.each id v at w
       (knows_alike sizes s.words v w (h.kinds.each id v at) refl refl (λ i m. m) (λ i o. o) (λ r a. a) (λ i a. a)) refl refl (inl (λ l. l)) refl p)
 
@@ -414,7 +414,7 @@ module _ (slots id : ℕ) (me : SeatState) (live : HasPlace me.0.epoch) (slot : 
                 record { bank = refl; founds = refl; book = refl; banked = refl; drawn = refl } refl (λ k. let low = h.bank.low id v at k in omega arith) same;
             lasts = lasts_fewer sizes s.words s.views s.homes h.lasts id v at (set s.words i y) now s.homes (λ _ _ _ _ l. l) (λ b. (b, refl)) refl
                 (λ _ _. inl live) (stored_set sizes s.words slot y (steps.within slots id me live slot inside s h) (λ e. absurd (omega arith))
-                (λ _. (some_left y high).3 ∙ sym several));
+                (owned_shows y (let o = (some_left y high).0 in omega arith)) (λ _. (some_left y high).3 ∙ sym several));
             kinds = record {
               each = each_set (KnowsKinds sizes s.words) (KnowsKinds sizes (set s.words i y)) s.views id now
                   record {
@@ -471,7 +471,7 @@ module _ (slots id : ℕ) (me : SeatState) (live : HasPlace me.0.epoch) (slot : 
                 record { bank = refl; founds = refl; book = refl; banked = refl; drawn = refl } refl (λ k. let z = ap (times k) empty in omega arith) same;
             lasts = lasts_fewer sizes s.words s.views s.homes h.lasts id v at (set s.words i y) now s.homes (λ _ _ _ _ l. l) (λ b. (b, refl)) refl
                 (λ _ _. inl live) (stored_set sizes s.words slot y (steps.within slots id me live slot inside s h) (λ e. absurd (omega arith))
-                (λ _. (some_left y high).3 ∙ sym several));
+                (owned_shows y (let o = (some_left y high).0 in omega arith)) (λ _. (some_left y high).3 ∙ sym several));
             kinds = record {
               each = each_set (KnowsKinds sizes s.words) (KnowsKinds sizes (set s.words i y)) s.views id now
                   record {
@@ -579,7 +579,7 @@ module _ (slots id : ℕ) (me : SeatState) (live : HasPlace me.0.epoch) (slot : 
             (λ apart. let o = is_other k slot (λ e. apart (sym e)) in let kept_as = goes.others k apart in omega arith)))
             (lasts_dealt sizes s.words (set s.views id w) s.homes
             (lasts_fewer sizes s.words s.views s.homes h.lasts id v at s.words w s.homes (λ _ _ _ _ l. l) (λ b. (b, refl)) refl (λ _ _. inl live)
-            (λ _ _ _ is. is))
+            (stored_as_is sizes s.words))
             γ bd b (set_else s.views id bd w (λ e. ne (sym e)) ∙ there) bank ls balance.book goes.deposits
             (λ k z low last show. (shown_leaves k z.lot.shown (banked b) l ls goes.goes show).0));
         ours = bank;

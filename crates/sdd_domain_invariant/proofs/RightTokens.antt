@@ -33,7 +33,7 @@ use Rattle.sdd_domain_invariant.proofs.Cloning.{arrives_bare}
 use Rattle.sdd_domain_invariant.proofs.Counts.{uncounted_alone}
 use Rattle.sdd_domain_invariant.proofs.Fillings.{has_none, filled_same}
 use Rattle.sdd_domain_invariant.proofs.KindSteps.{bound_kept, knows_alike, no_participants, pledges_spent}
-use Rattle.sdd_domain_invariant.proofs.Lasts.{lasts_fewer}
+use Rattle.sdd_domain_invariant.proofs.Lasts.{stored_as_is, lasts_fewer}
 use Rattle.sdd_domain_invariant.proofs.Lift.{stands}
 use Rattle.sdd_domain_invariant.proofs.Part as part
 use Rattle.sdd_domain_invariant.proofs.Records as records
@@ -75,7 +75,7 @@ module _ (γ : ℕ) (sizes : Sizes) where
       (filled_same sizes s.views h.filled id v at w refl refl refl (λ l. l))
       (banks.alike γ sizes s.words s.views h.bank id v at s.words w (refl, refl, refl, (λ _. refl), refl) (λ _ _. refl))
       (lasts_fewer sizes s.words s.views s.homes h.lasts id v at s.words w s.homes (λ _ _ _ _ l. l) (λ b. (b, refl)) refl (λ _ live. inl live)
-      (λ _ _ _ is. is))
+      (stored_as_is sizes s.words))
       record {
         each = each_set (KnowsKinds sizes s.words) (KnowsKinds sizes s.words) s.views id w
             (knows_alike sizes s.words v w (h.kinds.each id v at) refl refl (λ i m. m) (λ i o. o) (λ r a. a) (λ i a. a)) (λ j u _ e. h.kinds.each j u e);

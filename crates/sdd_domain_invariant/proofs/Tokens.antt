@@ -53,7 +53,7 @@ use Rattle.sdd_domain_invariant.proofs.Records.{in_head, in_tail, in_either, in_
 use Rattle.sdd_domain_invariant.proofs.Records as records
 use Rattle.sdd_domain_invariant.proofs.Fillings.{IsTold, has_none, has_either, told_by, tells_none, tells_old, filled_more, filled_after, filled_same}
 use Rattle.sdd_domain_invariant.specs.LastFractions.{LastsInvariant}
-use Rattle.sdd_domain_invariant.proofs.Lasts.{KeepsBank, no_bank, lasts_more, lasts_fewer}
+use Rattle.sdd_domain_invariant.proofs.Lasts.{KeepsBank, no_bank, stored_as_is, lasts_more, lasts_fewer}
 use Rattle.sdd_domain_invariant.proofs.Steps.{still_free}
 use Rattle.sdd_domain_invariant.proofs.Telling.{none_moved}
 
@@ -70,7 +70,7 @@ module _ (γ : ℕ) (sizes : Sizes) where
   lasts_stay : (s : State ValueFraction View) → DomainInvariant γ sizes s → (id : ℕ) (v : View) → get_elem? s.views id ≡ some v → (w : View) → KeepsBank v w
       → w.stakes.filled ≡ v.stakes.filled → (HasPlace w.epoch → HasPlace v.epoch) → LastsInvariant sizes s.words (set s.views id w) s.homes
   lasts_stay s h id v at w bank filled had = lasts_fewer sizes s.words s.views s.homes h.lasts id v at s.words w s.homes (λ _ _ _ _ l. l) bank filled
-      (λ _ live. inl (had live)) (λ _ _ _ is. is)
+      (λ _ live. inl (had live)) (stored_as_is sizes s.words)
 
   -- a new token, which knows nothing
   pub enters : (slots i : ℕ) (told : ℕ → View → Type 0) → ((r : ℕ) → told r (idle sizes γ)) → Enters (DomainInvariant γ sizes) slots i told
@@ -143,6 +143,7 @@ module _ (γ : ℕ) (sizes : Sizes) where
       alike = λ i p y z low near l lz. all_laid i p y low near l ∙ sym (all_laid i n z low (omega arith) lz);
       banks = λ j v e is. let f : false ≡ true = ap (λ (u : View). u.stakes.bank) (only j v e) ∙ is in absurd cc;
       stored = λ one j v e live. absurd (let f = ap (λ (w : View). w.epoch.state) (only j v e) in omega arith);
+      hidden = λ one j v e live. absurd (let f = ap (λ (w : View). w.epoch.state) (only j v e) in omega arith);
     };
     kinds = record {
       each = λ j v e. subst (KnowsKinds sizes ws) (only j v e) (knows_no_kind sizes ws (founder sizes γ) (length-replicate (words_behind sizes) 0) refl refl);
@@ -308,7 +309,7 @@ module _ (γ : ℕ) (sizes : Sizes) where
             record { bank = refl; founds = refl; book = refl; banked = refl; moves = refl } refl refl refl refl refl refl refl
             (λ i. let low = h.bank.low id v at i in omega arith) (λ i. omega arith);
         lasts = lasts_fewer sizes s.words vs s.homes (lasts_stay s h id v at w (λ b. (b, refl)) refl (λ live. live)) other t there s.words t' s.homes
-            (λ _ _ _ _ l. l) (no_bank t t' refl) refl (λ _ live. inl live) (λ _ _ _ is. is);
+            (λ _ _ _ _ l. l) (no_bank t t' refl) refl (λ _ live. inl live) (stored_as_is sizes s.words);
         kinds = let k = h.kinds.each id v at in
             let now_mine = kind_steps.stays sizes s.words s.views h.kinds r.each id v at s.words w (no_change sizes s.words)
             record {
@@ -435,7 +436,7 @@ module _ (γ : ℕ) (sizes : Sizes) where
             record { bank = refl; founds = refl; book = refl; banked = refl; moves = refl } refl refl refl refl refl refl refl
             (h.bank.low id v at) (λ i. omega arith);
         lasts = lasts_fewer sizes s.words vs s.homes (lasts_stay s h id v at w (λ b. (b, refl)) refl (λ live. live)) other t there s.words t' s.homes
-            (λ _ _ _ _ l. l) (no_bank t t' refl) refl (λ _ live. inl live) (λ _ _ _ is. is);
+            (λ _ _ _ _ l. l) (no_bank t t' refl) refl (λ _ live. inl live) (stored_as_is sizes s.words);
         kinds = kind_steps.stays sizes s.words vs
             (kind_steps.same sizes s.words s.views h.kinds h.records.each id v at w refl refl refl refl refl refl s.words (no_change sizes s.words)
             (same_post v w refl refl refl refl (λ l. l) refl refl))
