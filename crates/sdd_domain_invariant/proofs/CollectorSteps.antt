@@ -1,6 +1,6 @@
 -- The steps on private items keep the whole invariant: a collector's close begins, claims what waits for it and ends, and an item that waits is collected, left
 -- to its close, and its slot given back.
-use Rattle.std.proofs.Common.{◌≡◌, ◌≢◌, ◌⊎◌, inl, inr, ℕ, ◌<◌, ◌≤◌, Bool, false, eqb, List, [], ◌∷◌, ◌++◌, length, get_or, set, sym, refl, ap, ◌∙◌, subst, ⊎_elim, arith}
+use Rattle.std.proofs.Common.{◌≡◌, ◌≢◌, ◌⊎◌, inl, inr, ℕ, ◌<◌, ◌≤◌, Bool, false, eqb, List, [], ◌∷◌, length, get_or, set, sym, refl, ap, ◌∙◌, subst, ⊎_elim, arith}
 use Rattle.std.specs.Prelude.{Option, Some, None}
 use mathlib.Core.Option.{some}
 use mathlib.Core.Logic.{dite}
@@ -8,7 +8,6 @@ use native.Mathlib.Decide.{ℕ_discrete, dec_lt}
 use lib.ListN.{get_elem?}
 use lib.Seq.{set-get_or}
 use prog.Atomic.{either}
-use base.Stored.{Gv}
 use Rattle.atomic_table.specs.Table.{State, keeps}
 use Rattle.atomic_table.proofs.Lists.{at_map, exchanged}
 use Rattle.sdd_witness.specs.Ledger.{Pledge}
@@ -25,12 +24,11 @@ use Rattle.sdd_views.specs.contracts.View.{the_row}
 use Rattle.sdd_views.specs.Views.{right_to}
 use Rattle.sdd_word_invariant.specs.Words.{slot_word, words_behind}
 use Rattle.sdd_word_invariant.specs.Codes.{codes, alive, waiting, valued, private, emptying, shared_base, free_word, private_word, emptying_word, emptied_word, left_word, raw_word}
-use Rattle.sdd_word_invariant.specs.Collectors.{Closes, FoundEmptied, HasPrivate}
-use Rattle.sdd_word_invariant.specs.CollectorSteps.{closing, closed_none, collected, empties_now, left_to_close, private_given_back, found_emptied, WaitsFor, IsDuePrivately, HasWaiting, Collects, LeavesToClose, GivesPrivateBack, EmptiesSlot}
+use Rattle.sdd_word_invariant.specs.Collectors.{Closes, FoundEmptied}
+use Rattle.sdd_word_invariant.specs.CollectorSteps.{closing, closed_none, collected, left_to_close, private_given_back, found_emptied, WaitsFor, IsDuePrivately, HasWaiting, Collects, LeavesToClose, GivesPrivateBack, EmptiesSlot}
 use Rattle.sdd_word_invariant.specs.Epoch.{HasPlace}
-use Rattle.sdd_word_invariant.specs.Slots.{slot_at, items_at, Owns}
+use Rattle.sdd_word_invariant.specs.Slots.{slot_at, waits_in, items_at, Owns}
 use Rattle.sdd_word_invariant.specs.SlotSteps.{noted, AtSlot}
-use Rattle.sdd_word_invariant.specs.Sums.{total}
 use Rattle.sdd_word_invariant.specs.WordInvariant.{epoch_of, Parts}
 use Rattle.sdd_word_invariant.proofs.Codes.{sound, private_is, emptied_is, emptying_is, left_is, free_is}
 use Rattle.sdd_word_invariant.proofs.CollectorSteps as words
@@ -39,30 +37,30 @@ use Rattle.sdd_word_invariant.proofs.Owning.{item_gone, item_kept}
 use Rattle.sdd_word_invariant.proofs.PrivateSlots.{with_privates}
 use Rattle.sdd_word_invariant.proofs.SlotWords.{owner_in, waiter_in}
 use Rattle.sdd_word_invariant.proofs.Sums.{is_same, total_has, total_two}
-use Rattle.sdd_domain_invariant.specs.BankInvariant.{one_where}
-use Rattle.sdd_domain_invariant.specs.CellsInvariant.{is_right, rights_at, IsInCell}
+use Rattle.sdd_domain_invariant.specs.CellsInvariant.{is_right, rights_at}
 use Rattle.sdd_domain_invariant.specs.CollectorSteps.{CollectsOne, LeavesOneToClose, GivesOnePrivateBack, ClosesOne, ClosesNone, EmptiesOne}
 use Rattle.sdd_domain_invariant.specs.DomainInvariant.{DomainInvariant}
-use Rattle.sdd_domain_invariant.specs.FilledInvariant.{HasRecord}
+use Rattle.sdd_domain_invariant.specs.FilledInvariant.{newest, HasRecord}
 use Rattle.sdd_domain_invariant.specs.FractionSteps.{SeatState, forgetting, OfSlot}
 use Rattle.sdd_domain_invariant.specs.FractionsAtHome.{full_at}
 use Rattle.sdd_domain_invariant.specs.KindsInvariant.{KnowsKinds, KindsInvariant}
-use Rattle.sdd_domain_invariant.specs.Records.{IsIn, IsTelling}
+use Rattle.sdd_domain_invariant.specs.LastFractions.{IsStored, HidesItem}
+use Rattle.sdd_domain_invariant.specs.Records.{IsTelling}
 use Rattle.sdd_domain_invariant.proofs.Banks as banks
-use Rattle.sdd_domain_invariant.proofs.Cells.{no_change, cells_by}
+use Rattle.sdd_domain_invariant.proofs.Cells.{no_change, cells_slot, cells_by}
 use Rattle.sdd_domain_invariant.proofs.CellSteps.{right_beside}
 use Rattle.sdd_domain_invariant.proofs.Counts.{as_full, uncounted, uncounted_alone}
 use Rattle.sdd_domain_invariant.proofs.Fillings.{has_old, filled_same}
 use Rattle.sdd_domain_invariant.proofs.KindSteps.{KeepsOwner, same_owner, knows_alike, bound_kept, forth, pledges_by}
 use Rattle.sdd_domain_invariant.proofs.KindSteps as kind_steps
-use Rattle.sdd_domain_invariant.proofs.Lasts.{stored_same, stored_set, lasts_fewer}
+use Rattle.sdd_domain_invariant.proofs.Lasts.{empty_shows, stored_as_is, stored_same, stored_by, stored_other, stored_hid, AllKnow, lasts_fewer, lasts_out}
 use Rattle.sdd_domain_invariant.proofs.Lift.{Follows, IsCalm, lift_whole, lift_calm, stands}
 use Rattle.sdd_domain_invariant.proofs.Part.{none_out}
 use Rattle.sdd_domain_invariant.proofs.Part as part
 use Rattle.sdd_domain_invariant.proofs.Records.{in_others, in_kept, known_by}
 use Rattle.sdd_domain_invariant.proofs.Records as records
 use Rattle.sdd_domain_invariant.proofs.Steps as steps
-use Rattle.sdd_domain_invariant.proofs.Telling.{one_view}
+use Rattle.sdd_domain_invariant.proofs.Telling.{none_moved, one_view}
 
 -- while a close empties it its value counts as there
 emptying_valued : valued emptying_word ≡ 1
@@ -126,7 +124,7 @@ module _ (slots id : ℕ) (me : SeatState) (live : HasPlace me.0.epoch) where
         (filled_same sizes s.views h.filled id v at w refl refl refl (λ l. l))
         (banks.alike γ sizes s.words s.views h.bank id v at s.words w (refl, refl, refl, (λ _. refl), refl) (λ _ _. refl))
         (lasts_fewer sizes s.words s.views s.homes h.lasts id v at s.words w s.homes (λ _ _ _ _ l. l) (λ b. (b, refl)) refl (λ _ l. inl l)
-        (λ _ _ _ is. is))
+        (stored_as_is sizes s.words))
         record {
           each = each_set (KnowsKinds sizes s.words) (KnowsKinds sizes s.words) s.views id w
               (knows_alike sizes s.words v w (h.kinds.each id v at) refl refl (λ i m. m) (λ i o. o) (λ r a. a) (λ i a. a)) (λ j u _ e. h.kinds.each j u e);
@@ -199,8 +197,8 @@ module _ (slots id : ℕ) (me : SeatState) (live : HasPlace me.0.epoch) where
       module _ (f : ℕ → ℕ) (privates : List PrivateItem) (emptied : List ℕ) (empties : Option ℕ) (left : Bool) where
         -- where a slot without owners has another word, and is as full as before
         rewritten : (y : ℕ) → alive (slot_at sizes s.words slot) ≡ 0 → alive y ≡ 0 → valued y ≡ valued (slot_at sizes s.words slot) → y ≢ raw_word 0
-            → IsCalm γ sizes slots id me i f s y (record (knowing privates emptied empties left) { words = noted slot y v })
-        rewritten y dead none same apart = let w : View = record (knowing privates emptied empties left) { words = noted slot y v } in record {
+            → (HidesItem y → HidesItem (slot_at sizes s.words slot)) → IsCalm γ sizes slots id me i f s y (record (knowing privates emptied empties left) { words = noted slot y v })
+        rewritten y dead none same apart hid = let w : View = record (knowing privates emptied empties left) { words = noted slot y v } in record {
           more = λ j p out. out;
           same = as_before y same;
           mover = none_out w rests;
@@ -208,7 +206,7 @@ module _ (slots id : ℕ) (me : SeatState) (live : HasPlace me.0.epoch) where
           counts = refl;
           lives = λ l. l;
           had = λ _ l. inl l;
-          stored = stored_set sizes s.words slot y (steps.within slots id me live slot inside s h) apart
+          stored = stored_hid sizes s.words slot y (steps.within slots id me live slot inside s h) apart hid
               (λ c. absurd (steps.in_no_cell slots id me live slot inside s h dead c));
           kinds = kinds_then y dead none w (steps.wrote_long slots id me live slot inside s h at y) rests refl refl (steps.post slots id me live s h at w refl refl refl refl (λ l. l));
         }
@@ -243,7 +241,8 @@ module _ (slots id : ℕ) (me : SeatState) (live : HasPlace me.0.epoch) where
         exchanged x old emptying_word (λ z. IsCalm γ sizes slots id me i f s z w)
         (λ hit. subst (IsCalm γ sizes slots id me i f s emptying_word) (sym (c.0 hit))
         (rewritten s h at f v.slots.privates v.slots.emptied (Some slot) v.slots.left emptying_word (ap alive hit ∙ is.0) emptying_is.0
-        (emptying_valued ∙ sym (ap valued hit ∙ waits.1)) (λ e. absurd (omega arith))))
+        (emptying_valued ∙ sym (ap valued hit ∙ waits.1)) (λ e. absurd (omega arith))
+        (λ _. let one = ap private hit ∙ is.3 in (omega arith, ap valued hit ∙ waits.1))))
         (λ miss. subst (IsCalm γ sizes slots id me i f s x) (sym (c.1 miss))
         (looked_at s h at f v.slots.privates v.slots.emptied v.slots.empties v.slots.left)))
 
@@ -266,7 +265,8 @@ module _ (slots id : ℕ) (me : SeatState) (live : HasPlace me.0.epoch) where
         exchanged x emptying_word left_word (λ z. calm z w)
         (λ hit. subst (calm left_word) (sym (c.0 hit))
         (rewritten s h at f (left_to_close slot left_word v).slots.privates v.slots.emptied v.slots.empties v.slots.left left_word
-        (ap alive hit ∙ emptying_is.0) left_is.0 (left_valued ∙ sym (ap valued hit ∙ emptying_valued)) (λ e. absurd (omega arith))))
+        (ap alive hit ∙ emptying_is.0) left_is.0 (left_valued ∙ sym (ap valued hit ∙ emptying_valued)) (λ e. absurd (omega arith))
+        (λ _. let one = ap emptying hit ∙ emptying_is.4 in (omega arith, ap valued hit ∙ emptying_valued))))
         (λ miss. ⊎_elim
         (λ (e : x ≡ private_word collector). subst (calm x) (sym (c.2 e)) (looked_at s h at f v.slots.privates v.slots.emptied v.slots.empties v.slots.left))
         (λ (t : (x ≡ emptied_word) ⊎ (x ≡ emptying_word)). ⊎_elim
@@ -285,7 +285,7 @@ module _ (slots id : ℕ) (me : SeatState) (live : HasPlace me.0.epoch) where
         (λ s w h at t. let is = ((h.kept.parts.collectors.each id v at).found slot was).0 in let free = free_is 0 (omega arith) in
         subst (IsCalm γ sizes slots id me i f s y) (sym (t slot refl))
         (rewritten s h at f now.slots.privates now.slots.emptied v.slots.empties v.slots.left y (ap alive is ∙ emptied_is.0) free.0
-        (sound.empty y free.2 ∙ sym (ap valued is ∙ emptied_is.5)) (λ e. absurd (omega arith))))
+        (sound.empty y free.2 ∙ sym (ap valued is ∙ emptied_is.5)) (λ e. absurd (omega arith)) (λ hides. absurd (empty_shows y (sound.empty y free.2) hides))))
 
     -- an item that waits is collected, beside the right to the collector's cell, of which a share is pledged
     module _ (collector : ℕ) (kind : CellKind) (p : Pledge) (own : v.pledges.own ≡ p ∷ []) (is : p.view ≡ the_row.coded.code (right_to collector kind)) where
@@ -299,6 +299,18 @@ module _ (slots id : ℕ) (me : SeatState) (live : HasPlace me.0.epoch) where
           let single = h.kinds.cells.single collector in dite (ℕ_discrete j p.seat)
           (λ same. absurd (let d = ap (λ (x : View). x.sizes.participants) (one_view s.views p.seat j u b.owner e b.there same) in omega arith))
           (λ ne. absurd (let both = total_two (rights_at collector) s.views j p.seat u b.owner ne e b.there in omega arith))
+
+      -- what an item shows that waits with it is known to whoever has the only place
+      known : (s : State ValueFraction View) (h : DomainInvariant γ sizes s) (at : get_elem? s.views id ≡ some v) (x : WaitingItem) → HasWaiting v slot x
+          → (shared : Bool) × AllKnow sizes s.words s.views s.homes h.lasts id v at slot shared
+      known s h at x has = let one = total_has (waits_in slot) v.slots.waits has.1.0 x has.1.1 in let same = is_same slot x.slot has.0 in
+          let b = ((h.records.each id v at).waiting slot inside (omega arith) (none_moved v slot rests)).1 in let r : ShownValue = b.1 in (
+            r.shared,
+            λ single j u e placed z last. let shows : r.value ≡ z.lot.shown = sym (h.records.home slot n r.value z inside (omega arith)
+                (records.mine sizes s.views s.homes h.records id v at slot r.value (inr (inr (b.0, r, b.2, b.3, refl)))) last) in
+                ap (λ (k : ℕ). newest k u.stakes.filled) (sym b.3) ∙ (h.filled.knows single j id u v r e placed at (inr (b.0, b.2))
+                ∙ (λ d. Some (record { slot = b.3 d; shared = r.shared; value = shows d }))),
+          )
 
       pub collects : (item : WaitingItem) → HasWaiting v slot item → private_word collector < shared_base
           → May i (λ _. private_word collector) (λ _. OfSlot (CollectsOne collector) i me (private_word collector))
@@ -331,9 +343,16 @@ module _ (slots id : ℕ) (me : SeatState) (live : HasPlace me.0.epoch) where
                 (steps.tells_old_by slots id me live s h at now (λ q a. inl a) (λ q a. inr (has_old slot v.stakes.waits q a)));
             bank = banks.calm γ sizes s.words s.views h.bank id v at (set s.words i y) now
                 record { bank = refl; founds = refl; book = refl; banked = refl; drawn = refl } refl (h.bank.low id v at) same;
-            lasts = lasts_fewer sizes s.words s.views s.homes h.lasts id v at (set s.words i y) now s.homes (λ _ _ _ _ l. l) (λ b. (b, refl)) refl
-                (λ _ _. inl live) (stored_set sizes s.words slot y (steps.within slots id me live slot inside s h) (λ e. absurd (omega arith))
-                (λ d. absurd (outside d)));
+            lasts = lasts_out sizes s.words s.views s.homes h.lasts id v at (set s.words i y) now (λ b. (b, refl)) refl (λ l. l)
+                (λ j other near is. inl (dite (ℕ_discrete j slot)
+                (λ e. subst (λ (k : ℕ). IsStored sizes s.words k other) (sym e)
+                (stored_by sizes s.words (set s.words i y) (cells_slot sizes s.words slot y) slot other
+                (λ raw. absurd (let d = sym (steps.here slots id me live slot inside s.words y (steps.within slots id me live slot inside s h)) ∙ raw in omega arith))
+                (λ d. absurd (outside d)) (subst (λ (k : ℕ). IsStored sizes (set s.words i y) k other) e is)))
+                (λ ne. (stored_other sizes s.words slot y j near ne).0 other is)))
+                (λ j near is. dite (ℕ_discrete j slot)
+                (λ e. let b = known s h at x c.1 in inr (b.0, subst (λ (k : ℕ). AllKnow sizes s.words s.views s.homes h.lasts id v at k b.0) (sym e) b.1))
+                (λ ne. inl ((stored_other sizes s.words slot y j near ne).1 is)));
             kinds = kinds_then s h at y dead code.0 now (steps.wrote_long slots id me live slot inside s h at y) rests refl refl (steps.post slots id me live s h at now refl refl refl refl (λ l. l));
             tells = steps.at_once slots id me live slot inside (CollectsOne collector) y (now, me.1) (collected slot collector x y v, (x, c.1, refl), refl, refl);
           })
