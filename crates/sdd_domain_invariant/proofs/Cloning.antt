@@ -105,7 +105,7 @@ module _ (γ : ℕ) (sizes : Sizes) where
       (lasts_fewer sizes s.words s.views s.homes h.lasts id v at s.words w s.homes (λ _ _ _ _ l. l) (λ b. (b, refl)) refl (λ _ live. inl live)
       (stored_as_is sizes s.words))
       (kind_steps.spends sizes s.words s.views h.kinds h.records.each id v at w
-      (knows_alike sizes s.words v w (h.kinds.each id v at) refl refl (λ i m. m) (λ i o. o) (λ r a. a) (λ i a. a)) refl (inl (λ l. l)) refl p)
+      (knows_alike sizes s.words v w (h.kinds.each id v at) refl refl (λ i m. m) (λ i o. o) (λ r a. a) (λ i a. a)) refl refl (inl (λ l. l)) refl p)
 
   -- a pledge of a share of a token's view is entered, first in the ledger, where there is something to do beside the token
   enters_by : (v : View) (bd : ℕ) (token : View) (p : Pledge) → token.pledges.ledger ≡ false
@@ -194,7 +194,7 @@ module _ (γ : ℕ) (sizes : Sizes) where
     bank = banks.arrives γ sizes s.words s.views h.bank t refl refl refl refl;
     lasts = lasts_more sizes s.words s.views s.homes h.lasts t (λ _. refl) (λ z. absurd (omega arith));
     kinds = kind_steps.arrives sizes s.words s.views h.kinds t (knows_no_kind sizes s.words t refl refl refl)
-        record { over = refl; ledger = refl; founds = refl; own = refl; rights = refl };
+        record { over = refl; ledger = refl; founds = refl; own = refl; rights = refl; closes = refl };
   }
 
   -- nobody has a pledge as long as the ledger isn't founded
@@ -431,7 +431,8 @@ module _ (slots id : ℕ) (me : SeatState) (live : HasPlace me.0.epoch) (slot : 
               bound = bound_then s h at several left y high now live (omega arith) (λ k ne. apart k ne ∙ sym (over_none k v none));
               pledges = pledges_by s.views h.kinds.pledges id v now at refl (λ k q b u e _. forth s.views h.kinds.pledges id v now at KeepsOwner
                   record { sizes = refl; cells = refl; records = λ _ r a. (suc a.0, a.1); holds = λ _. refl } same_owner q.seat u e);
-              cells = cells_kept sizes s.words s.views h.kinds.cells id v now at (set s.words i y) (cells_slot sizes s.words slot y) (λ j _. kinds_same j) refl;
+              cells = cells_kept sizes s.words s.views h.kinds.cells id v now at (set s.words i y) (cells_slot sizes s.words slot y) (λ j _. kinds_same j) refl
+                  refl;
             };
             tells = steps.at_once slots id me live slot inside (AddsOne value) count (now, me.1) tells;
           }
@@ -484,7 +485,7 @@ module _ (slots id : ℕ) (me : SeatState) (live : HasPlace me.0.epoch) (slot : 
                   (λ k ne. let z = passed k in let q = is_other k slot (λ e. ne (sym e)) in omega arith);
               pledges = pledges_spent s.views h.kinds.pledges id v now at refl nobodys;
               cells = cells_kept sizes s.words s.views h.kinds.cells id v now at (set s.words i y) (cells_slot sizes s.words slot y)
-                  (λ j _. kind_still s h at several left y high j) refl;
+                  (λ j _. kind_still s h at several left y high j) refl refl;
             };
             tells = steps.at_once slots id me live slot inside TakesOneBack count (now, me.1) (refl, knew);
           }

@@ -17,7 +17,7 @@ use Rattle.sdd_views.specs.declared.ShownValue.{ShownValue}
 use Rattle.sdd_views.specs.declared.View.{View}
 use Rattle.sdd_views.specs.declared.Sizes.{Sizes}
 use Rattle.sdd_word_invariant.specs.Words.{slot_word, words_behind}
-use Rattle.sdd_word_invariant.specs.Codes.{codes, alive, waiting, valued, private, emptying, shared_base, raw_word, free_word, waiting_word, private_word, emptying_word, emptied_word, left_word}
+use Rattle.sdd_word_invariant.specs.Codes.{codes, alive, waiting, valued, emptying, shared_base, raw_word, free_word, waiting_word, private_word, emptying_word, emptied_word, left_word}
 use Rattle.sdd_word_invariant.specs.Epoch.{HasPlace}
 use Rattle.sdd_word_invariant.specs.Sums.{total}
 use Rattle.sdd_word_invariant.specs.Slots.{slot_at, waits_in, owners_at, items_at, Owns, Sees}

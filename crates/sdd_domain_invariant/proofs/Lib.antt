@@ -21,4 +21,5 @@ pub mod JobSteps
 pub mod Tokens
 pub mod Cloning
 pub mod RightTokens
+pub mod CollectorSteps
 pub mod Laid

@@ -55,7 +55,7 @@ use Rattle.sdd_domain_invariant.specs.DomainInvariant.{DomainInvariant}
 use Rattle.sdd_domain_invariant.specs.BankInvariant.{drawn_at, moves_at, banked, IsBank, outside, one_where, deposited}
 use Rattle.sdd_domain_invariant.specs.FractionSteps.{SeatState, CarriesAll, IsValue, CarriesSeen, moving, making, giving, dropping, resting, telling, drawing, undrawing, untold, remembering, forgetting, sighting, unsighted, IsNewest, ClaimsAll, FillsSlot, EntersUnit, TakesOut, TakesHeld, IsDeposit, RetiresOne, GivesAll, DiscardsAll, SeesOwned, LearnsOwned, ClosesHome, OfSlot, ReleasesOne, LeavesOne}
 use Rattle.sdd_domain_invariant.specs.KindsInvariant.{written}
-use Rattle.sdd_domain_invariant.proofs.KindSteps.{written_now, KeepsPost, same_post}
+use Rattle.sdd_domain_invariant.proofs.KindSteps.{marks_of, written_now, KeepsPost, same_post}
 use Rattle.sdd_domain_invariant.proofs.KindSteps as kind_steps
 use Rattle.sdd_domain_invariant.specs.Records.{IsIn, KnowsShown, IsKnown, IsTelling, AllShowKnown}
 use Rattle.sdd_domain_invariant.specs.Counts.{ended_places}
@@ -168,11 +168,11 @@ module _ (slots id : ℕ) (me : SeatState) (live : HasPlace me.0.epoch) where
     filled_by w same tells = filled_after sizes s.views h.filled id v at w same tells (λ _ _. inl live)
 
     -- what it has of counts and pledges stays
-    pub post : (w : View) → w.pledges ≡ v.pledges → w.slots.over ≡ v.slots.over → w.sizes ≡ v.sizes → w.cells ≡ v.cells
+    pub post : (w : View) → w.pledges ≡ v.pledges → marks_of w ≡ marks_of v → w.sizes ≡ v.sizes → w.cells ≡ v.cells
         → (HasPlace v.epoch → HasPlace w.epoch) → KeepsPost v w
-    post w pledges over of rights lives = let near = (h.kept.parts.epoch.each id v.epoch (at_map epoch_of s.views id v at)).inside live in record {
+    post w pledges marked of rights lives = let near = (h.kept.parts.epoch.each id v.epoch (at_map epoch_of s.views id v at)).inside live in record {
       pledges = pledges;
-      over = over;
+      marks = marked;
       sizes = of;
       cells = rights;
       place = inl lives;

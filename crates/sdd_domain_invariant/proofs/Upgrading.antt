@@ -203,7 +203,7 @@ module _ (slots id : ℕ) (me : SeatState) (live : HasPlace me.0.epoch) (rests :
                     (has_first now_shown v.stakes.owns q a);
               }
               (λ j u apart e. inr (unmoved j u e, counts_y.3 ∙ sym counts)) here (λ _. inl (let c = counts_more in omega arith)) (λ _. counts_y.3 ∙ sym counts)
-              (steps.post slots id me live s h at now refl (sym none) refl refl (λ l. l));
+              (steps.post slots id me live s h at now refl (λ d. (sym none d, v.slots.closes)) refl refl (λ l. l));
           tells = steps.at_once slots id me live slot inside (AddsSeen word) x (now, me.1) (
             (λ _. (
               value,
