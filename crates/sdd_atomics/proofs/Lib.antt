@@ -7,3 +7,4 @@ pub mod Pointers
 pub mod Ending
 pub mod Lasts
 pub mod JobsAllowed
+pub mod EmptyingAllowed

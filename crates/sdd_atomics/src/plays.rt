@@ -8,11 +8,13 @@ ghost use Rattle.sdd_views.specs.Views.{owner_token};
 ghost use Rattle.sdd_domain_invariant.specs.BankInvariant.{founded, bank_of, with_ledger, ledger_of};
 ghost use Rattle.sdd_domain_invariant.specs.FractionSteps.{ClaimsAll, TakesOut, TakesHeld, IsDeposit, RetiresOne, GivesAll, DefersJob, GivesPlace, DiscardsAll, ClosesHome, EndsAll, EntersUnit, OfSlot, parting, departing, regained, uncounting, counts_of, counting, ReleasesOne, LeavesOne, TakesOneBack, DrawsUnit, AddsSeen};
 ghost use Rattle.sdd_word_invariant.specs.Codes.{raw_word};
+ghost use Rattle.sdd_domain_invariant.specs.CollectorSteps.{ReclaimsOne, TakesPrivate, EmptiedOne, GivesOneEmptyBack};
 ghost use Rattle.sdd_domain_invariant.specs.RawSteps.{TurnsRawOne, RegainsOne, SeesRawOne};
 ghost use Rattle.sdd_views.specs.declared.CellKind.TheVariants.{Owned as for_owned, Shared as for_shared, Raw as for_raw, Collector as for_collector};
 ghost use Rattle.sdd_domain_invariant.specs.CellSteps.{ClaimsCell, FillsBare, LooksInCell, RetagsOne, SwapsBare, SeesInCell, OfCell, FindsPointer, OfPointer, rightless, rights_of, righted};
 ghost use Rattle.sdd_atomics.specs.Cells.{SwapsPledged, ExchangesPledged, FreesOwn, FreesOwnBare, RecallsCell, FindsRight};
 ghost use Rattle.sdd_atomics.specs.Clones.{AddsPledged};
+ghost use Rattle.sdd_atomics.specs.Emptying.{collector_named};
 ghost use Rattle.sdd_atomics.specs.DomainSeat.{Sits, Told, HousesMoved, WatchesOwned, RecallsOwned};
 
 use atomic_table::{Join, Play, Split};
@@ -180,6 +182,30 @@ pub struct GiveBack;
 
 impl Play<ValueFraction, View> for GiveBack {
     ghost then = { λ step. OfSlot GivesAll step.word };
+}
+
+pub struct ReclaimPrivate;
+
+impl Play<ValueFraction, View> for ReclaimPrivate {
+    ghost then = { λ step. OfSlot (ReclaimsOne (collector_named step.first)) step.word };
+}
+
+pub struct TakePrivate;
+
+impl Deals<View> for TakePrivate {
+    ghost then = { λ slot me l me'. TakesPrivate slot me me' × IsDeposit slot me l };
+}
+
+pub struct FinishEmptying;
+
+impl Play<ValueFraction, View> for FinishEmptying {
+    ghost then = { λ step. OfSlot EmptiedOne step.word };
+}
+
+pub struct GiveEmptyBack;
+
+impl Play<ValueFraction, View> for GiveEmptyBack {
+    ghost then = { λ step. OfSlot GivesOneEmptyBack step.word };
 }
 
 pub struct Defer;

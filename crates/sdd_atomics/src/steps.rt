@@ -13,6 +13,7 @@ ghost use Rattle.sdd_atomics.specs.DomainSeat.{view, epoch, words_known, Stepped
 
 pub mod cells;
 pub mod counts;
+pub mod emptying;
 pub mod jobs;
 pub mod pointers;
 pub mod raw;

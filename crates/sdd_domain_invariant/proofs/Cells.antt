@@ -1,4 +1,5 @@
 -- What cells hold, after one step
+use Rattle.std.specs.Prelude.{Option, None, Some}
 use Rattle.std.proofs.Common.{◌≡◌, ◌≢◌, ◌⊎◌, inl, inr, ℕ, zero, suc, ◌+◌, ◌*◌, Bool, true, false, ◌<◌, List, [], ◌∷◌, ◌++◌, length, get_or, set, sym, refl, ap, ◌∙◌, subst, ⊎_elim, arith, get_or-set_other, get_or-set_same}
 use mathlib.Core.Logic.{dite}
 use mathlib.Core.Option.{some, some-injective, some-ne-none}
@@ -14,14 +15,15 @@ use Rattle.sdd_views.specs.declared.Sizes.{Sizes}
 use Rattle.sdd_word_invariant.specs.Words.{first_cell, cell_word, pointer_word, slot_word}
 use Rattle.sdd_word_invariant.specs.Codes.{codes, alive, counted, names, pointers_end}
 use Rattle.sdd_word_invariant.specs.Slots.{slot_at, owners_at, SlotsInvariant}
+use Rattle.sdd_word_invariant.specs.Collectors.{Closes}
 use Rattle.sdd_word_invariant.specs.Sums.{total}
 use Rattle.sdd_word_invariant.proofs.Codes.{sound}
-use Rattle.sdd_word_invariant.proofs.Frame.{each_snoc}
+use Rattle.sdd_word_invariant.proofs.Frame.{each_set, each_snoc}
 use Rattle.sdd_word_invariant.proofs.SlotWords.{named_in}
 use Rattle.sdd_word_invariant.proofs.Sums.{is_same, is_other, total_set, total_snoc, total_has, total_two, total_some, span_has}
 use Rattle.atomic_table.proofs.Lists.{at_set}
 use Rattle.sdd_domain_invariant.specs.BankInvariant.{one_where}
-use Rattle.sdd_domain_invariant.specs.CellsInvariant.{cell_at, pointer_at, IsInCell, is_right, rights_at, HasRight, IsWordOf, IsTaken, HavePointers, CellsInvariant}
+use Rattle.sdd_domain_invariant.specs.CellsInvariant.{cell_at, pointer_at, IsInCell, is_right, rights_at, HasRight, IsWordOf, IsTaken, HavePointers, MayClose, CellsInvariant}
 
 -- a flag is told by its number
 pub one_flag : (a b : Bool) → one_where a ≡ one_where b → a ≡ b
@@ -121,6 +123,14 @@ pub first_or : (r : CellRight) (rs : List CellRight) (q : CellRight) (k : ℕ) �
 first_or r rs q zero e = inl (some-injective r q e)
 first_or r rs q (suc k) e = inr (k, e)
 
+-- how many participants it knows of, and the collector that it closes
+abbrev pub closer_of : View → Sizes × Option ℕ
+closer_of v = (v.sizes, v.slots.closes)
+
+-- one that closes none
+pub none_closed : (u : View) → u.slots.closes ≡ None → (k : ℕ) → ¬ (Closes u k)
+none_closed u none k shuts = let c : None ≡ Some k = sym none ∙ shuts in cc
+
 -- one that has the right to none
 pub no_right : (u : View) → u.cells.rights ≡ [] → (q : CellRight) → ¬ (HasRight u q)
 no_right u empty q has = some-ne-none q (sym has.1 ∙ ap (λ (l : List CellRight). get_elem? l has.0) empty)
@@ -149,19 +159,33 @@ module _ (sizes : Sizes) (ws : List ℕ) (vs : List View) (part : CellsInvariant
       (λ none. omega arith)
 
   -- a new token that has the right to none
-  pub cells_more : (t : View) → t.cells.rights ≡ [] → CellsInvariant sizes ws (vs ++ t ∷ [])
-  cells_more t none = record {
+  pub cells_more : (t : View) → t.cells.rights ≡ [] → t.slots.closes ≡ None → CellsInvariant sizes ws (vs ++ t ∷ [])
+  cells_more t none idle = record {
     inside = part.inside;
     single = λ d. let a = total_snoc (rights_at d) vs t in let z = ap (total (is_right d)) none in let o = part.single d in omega arith;
     taken = λ j v r e has. each_snoc (λ u. (q : CellRight) → HasRight u q → IsTaken sizes ws q) vs t (λ k u e' q. part.taken k u q e')
         (λ q has'. absurd (no_right t none q has')) j v e r has;
+    closing = λ j k v e shuts. each_snoc (λ u. (d : ℕ) → Closes u d → MayClose u d) vs t (λ i u e' d. part.closing i d u e')
+        (λ d shuts'. absurd (none_closed t idle d shuts')) j v e k shuts;
     pointers = part.pointers;
   }
 
   module _ (id : ℕ) (v w : View) (at : get_elem? vs id ≡ some v) where
+    -- who closes a collector then has the right to its cell, where this one has
+    pub closers : ((k : ℕ) → Closes w k → MayClose w k) → (j k : ℕ) (u : View) → get_elem? (set vs id w) j ≡ some u → Closes u k → MayClose u k
+    closers mine j k u e shuts = each_set (λ u. (d : ℕ) → Closes u d → MayClose u d) (λ u. (d : ℕ) → Closes u d → MayClose u d) vs id w mine
+        (λ i x _ e' d. part.closing i d x e') j u e k shuts
+
+    -- as long as it closes what it closed, and has the rights that it had
+    pub still_closes : w.cells ≡ v.cells → closer_of w ≡ closer_of v → (k : ℕ) → Closes w k → MayClose w k
+    still_closes rights closer k shuts = let o = part.closing id k v at (sym (ap (λ (c : Sizes × Option ℕ). c.1) closer) ∙ shuts) in let o0 = o.0 in let o1 = o.1 in
+        let e = ap (λ (c : CellsView). total (is_right k) c.rights) rights in
+        let e' = ap (λ (c : Sizes × Option ℕ). c.0.participants) closer in (omega arith, omega arith)
+
     -- it has the rights that it had
-    pub cells_kept : (ws' : List ℕ) → SameCells sizes ws ws' → KeepsKinds sizes ws ws' → w.cells ≡ v.cells → CellsInvariant sizes ws' (set vs id w)
-    cells_kept ws' same kinds rights = record {
+    pub cells_by : (ws' : List ℕ) → SameCells sizes ws ws' → KeepsKinds sizes ws ws' → w.cells ≡ v.cells → ((k : ℕ) → Closes w k → MayClose w k)
+        → CellsInvariant sizes ws' (set vs id w)
+    cells_by ws' same kinds rights closing = record {
       inside = λ i c. part.inside i (in_cell_before sizes ws ws' same i c);
       single = λ d. let a = total_set (rights_at d) vs id v w at in let e = ap (λ (c : CellsView). total (is_right d) c.rights) rights in
           let o = part.single d in omega arith;
@@ -169,5 +193,11 @@ module _ (sizes : Sizes) (ws : List ℕ) (vs : List View) (part : CellsInvariant
           (λ (t : (j ≡ id) × (w ≡ u)). part.taken id v r at
           (has.0, ap (λ (c : CellsView). get_elem? c.rights has.0) (sym rights) ∙ (ap (λ (x : View). get_elem? x.cells.rights has.0) t.1 ∙ has.1)))
           (λ (t : (j ≢ id) × (get_elem? vs j ≡ some u)). part.taken j u r t.1 has) (at_set vs id j w u e));
+      closing = closers closing;
       pointers = same.pointers part.pointers;
     }
+
+    -- and closes what it closed
+    pub cells_kept : (ws' : List ℕ) → SameCells sizes ws ws' → KeepsKinds sizes ws ws' → w.cells ≡ v.cells → closer_of w ≡ closer_of v
+        → CellsInvariant sizes ws' (set vs id w)
+    cells_kept ws' same kinds rights closer = cells_by ws' same kinds rights (still_closes rights closer)

@@ -283,7 +283,7 @@ module _ (γ : ℕ) (sizes : Sizes) (slots : ℕ) where
             (λ _ live. absurd (omega arith)) (stored_before sizes s.words i 3 (omega arith));
         kinds = kind_steps.calm sizes s.words s.views h.kinds h.records.each id v at (set s.words i 3) now (words_below sizes s.words i 3 (omega arith))
             (refl, refl, refl, (λ _. refl), refl) refl refl (λ _ o. o)
-            record { pledges = refl; over = refl; sizes = refl; cells = refl; place = inr over; records = λ _ r a. a; holds = λ _. refl };
+            record { pledges = refl; marks = refl; sizes = refl; cells = refl; place = inr over; records = λ _ r a. a; holds = λ _. refl };
         tells = tells;
       })
 

@@ -9,6 +9,7 @@ use Rattle.sdd_views.specs.declared.View.{View}
 use Rattle.sdd_views.specs.declared.Sizes.{Sizes}
 use Rattle.sdd_word_invariant.specs.Words.{cell_word}
 use Rattle.sdd_word_invariant.specs.Codes.{counted, names, pointers_end}
+use Rattle.sdd_word_invariant.specs.Collectors.{Closes}
 use Rattle.sdd_word_invariant.specs.Slots.{slot_at}
 use Rattle.sdd_word_invariant.specs.Sums.{total, is}
 
@@ -50,9 +51,15 @@ pub record IsTaken (sizes : Sizes) (ws : List ℕ) (r : CellRight) : Type 0 wher
 abbrev pub HavePointers : Sizes → List ℕ → Type 0
 HavePointers sizes ws = (d : ℕ) → d < sizes.cells → pointer_at sizes ws d < pointers_end
 
--- cells hold owners of slots alone; one right at most is to each; and to a cell that is taken; and words of pointers are such
+-- it is a participant that has the right to the cell d
+abbrev pub MayClose : View → ℕ → Type 0
+MayClose v d = (0 < v.sizes.participants) × (0 < rights_at d v)
+
+-- cells hold owners of slots alone; one right at most is to each; and to a cell that is taken; who closes a collector is a participant that has the right to
+-- its cell; and words of pointers are such
 pub record CellsInvariant (sizes : Sizes) (ws : List ℕ) (vs : List View) : Type 0 where
   pub inside : (i : ℕ) → IsInCell sizes ws i → i < sizes.slots
   pub single : (d : ℕ) → total (rights_at d) vs ≤ 1
   pub taken : (j : ℕ) (v : View) (r : CellRight) → get_elem? vs j ≡ some v → HasRight v r → IsTaken sizes ws r
+  pub closing : (j k : ℕ) (v : View) → get_elem? vs j ≡ some v → Closes v k → MayClose v k
   pub pointers : HavePointers sizes ws

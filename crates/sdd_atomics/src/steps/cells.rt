@@ -259,6 +259,7 @@ pub fn free_cell(board: &DomainTable, token: &mut DomainSeat, cell: u32) -> u64
     requires place { HasPlace (epoch token.old) }
     requires rests { (view token.old).stakes.moves ≡ None }
     requires own { ((slots token.old).owns ≡ []) × ((slots token.old).holds ≡ None) × ((slots token.old).drawn ≡ []) × ((view token.old).stakes.owns ≡ []) }
+    requires closes { (slots token.old).closes ≡ None }
     requires right { (shared : Bool) × ((view token.old).cells.rights ≡ record { cell = cell; kind = cell_kind shared } ∷ []) }
     ensures { (shared : Bool) → (view token.old).cells.rights ≡ record { cell = cell; kind = cell_kind shared } ∷ []
         → Moved (FreesCell shared cell) token.old result token.new }
@@ -278,6 +279,7 @@ pub fn free_bare_cell(board: &DomainTable, token: &mut DomainSeat, cell: u32) ->
     requires place { HasPlace (epoch token.old) }
     requires rests { (view token.old).stakes.moves ≡ None }
     requires own { ((slots token.old).owns ≡ []) × ((slots token.old).holds ≡ None) × ((slots token.old).drawn ≡ []) × ((view token.old).stakes.owns ≡ []) }
+    requires closes { (slots token.old).closes ≡ None }
     requires right { (kind : CellKind) × IsBare kind × ((view token.old).cells.rights ≡ record { cell = cell; kind = kind } ∷ []) }
     ensures { Moved (FreesBare cell) token.old result token.new }
 {
@@ -293,6 +295,7 @@ pub fn cut_right(board: &DomainTable, token: &mut DomainSeat) -> Witness
     requires home { token.old.table_id ≡ id_of board.now }
     requires knows { Knows board.now token.old }
     requires place { HasPlace (epoch token.old) }
+    requires closes { (slots token.old).closes ≡ None }
     ensures participant { Taught (λ v _ w. w ≡ rightless v) token.old 0 token.new }
     ensures right { (result.table_id ≡ id_of board.now) × (result.views ≡ the_row.coded.code (rights_of (view token.old)) ∷ []) }
 {
