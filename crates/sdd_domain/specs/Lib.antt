@@ -12,6 +12,8 @@ pub mod Items
 pub mod Receipt
 pub mod Values
 pub mod RawItems
+pub mod PrivateTable
+pub mod Collectors
 pub mod Cells
 pub mod CellWords
 pub mod SeenOwners

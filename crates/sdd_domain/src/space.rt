@@ -2,6 +2,7 @@
 ghost use Rattle.sdd_shared_values.specs.SharedValues.{showing};
 
 mod cells;
+mod collectors;
 mod raw_cells;
 
 use crate::domain::Domain;

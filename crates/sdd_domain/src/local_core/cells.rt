@@ -33,7 +33,7 @@ use sdd_space::inner::{raw_ptr_to, tenure_of};
 use sdd_space::{Guard, Item, RawPtr};
 
 /// So many cells a domain's table has at most, and their rights are numbered below.
-const MOST_CELLS: usize = 16_777_216;
+pub(super) const MOST_CELLS: usize = 16_777_216;
 
 impl<'d, T: Item<T>, J: Job> LocalCore<'d, T, J> {
     /// Where the walk for a free cell begins.
