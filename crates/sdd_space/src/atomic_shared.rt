@@ -1,6 +1,7 @@
-ghost use Rattle.std.specs.Prelude.{ℕ, ◌≡◌, ◌≢◌, ◌+◌, ◌^◌, ◌<◌, ◌⊎◌, ◌↔◌, IfErr, IfOk, IfSome, IsOk, IsSome, IsTrue, MatchOption, MatchResult, None, Some, if◌then◌else◌, option_map};
+ghost use Rattle.std.specs.Prelude.{ℕ, ◌≡◌, ◌≢◌, ◌+◌, ◌^◌, ◌<◌, ◌⊎◌, ◌↔◌, IfErr, IfOk, IfSome, IsOk, IsSome, IsTrue, MatchOption, MatchResult, None, Some, if◌then◌else◌, option_map, true};
 ghost use Rattle.sdd_rights.specs.Right.{kind_of};
 ghost use Rattle.sdd_standings.specs.Slots.{IsSharedBy};
+ghost use Rattle.sdd_space.specs.Asked.{WasAsked};
 ghost use Rattle.sdd_space.specs.OwnerOrCell.{AreOf};
 ghost use Rattle.sdd_space.specs.World.{World, standing_at};
 ghost use Rattle.sdd_space.specs.CallerId.{IsSeated, IsExact};
@@ -211,6 +212,8 @@ impl<T: Item<T>> AtomicShared<T> {
         requires callable { F.IsAlwaysCallable condition }
         ensures undisturbed { Undisturbed S.seat S.own S.known S.shows s.old s.new }
         ensures back { IfErr result (IsContended (S.seat s.old)) }
+        ensures asked { IfOk result (λ changed. (ptr : RawPtr T) ×
+            WasAsked (λ p x q. F.step p x true q) (λ p x r. F.post p x r) condition ptr changed) }
         ensures exact { IsExact (S.seat s.old) → IsOk result × IfOk result (λ changed. (ptr : RawPtr T) ×
             (entry_at (S.world s.old).cells (cell_of self.now) ≡ Some (raw.cell_seen ptr)) × F.post condition ptr changed ×
             (S.world s.new ≡ (if changed then with_cell (S.world s.old) (cell_of self.now) (record (raw.cell_seen ptr) { tag = tag }) else S.world s.old))) }
