@@ -1,11 +1,12 @@
 //! Cells: a participant claims and frees them, loads, swaps and exchanges what they hold, and changes their tags.
-ghost use Rattle.std.specs.Prelude.{◌≡◌, ◌≢◌, ◌⊎◌, ◌<◌, ◌≤◌, ◌∷◌, ℕ, Bool, [], IfErr, IfOk, IfSome, MatchBool, MatchOption, MatchResult, None, Some, slice_set};
+ghost use Rattle.std.specs.Prelude.{◌≡◌, ◌≢◌, ◌⊎◌, ◌<◌, ◌≤◌, ◌∷◌, ℕ, Bool, [], IfErr, IfOk, IfSome, MatchBool, MatchOption, MatchResult, None, Some, slice_set, true};
 ghost use base.Stored.{Gv};
 ghost use Rattle.sdd_core.specs.declared.tag.Tag.TheVariants.{None as no_tag};
 ghost use Rattle.sdd_rights.specs.StandingKind.{IsOwner, is_shared};
 ghost use Rattle.sdd_rights.specs.Right.{number_of, home_of, kind_of, raw_number_of, raw_home_of};
 ghost use Rattle.sdd_standings.specs.Cells.{MayHold, cell_with, slot_held};
 ghost use Rattle.sdd_shared_values.specs.SharedValues.{showing};
+ghost use Rattle.sdd_space.specs.Asked.{WasAsked};
 ghost use Rattle.sdd_space.specs.Guard.{reader_of};
 ghost use Rattle.sdd_space.specs.RawPtr as raw;
 ghost use Rattle.sdd_space.specs.OwnerOrCell.{AreOf};
@@ -260,7 +261,9 @@ impl<'d, T: Item<T>, J: Job> LocalCore<'d, T, J> {
             ((now : ℕ) × (0 < now) × (contents_of now ≡ record (contents_of word) { tag = tag }) × ChangesCell (number_of cell.now) word now self.old self.new)
             ((self.new ≡ self.old) × FindsAt (number_of cell.now) word self.old))
             (λ e. (e ≡ Refused.Contended) × (self.new ≡ self.old) × ¬ (IsLone self.old)) }
-        ensures asked { IsLone self.old → IfOk result (λ changed. (ptr : RawPtr T)
+        ensures asked { IfOk result (λ changed. (ptr : RawPtr T)
+            × WasAsked (λ p x q. F.step p x true q) (λ p x r. F.post p x r) condition ptr changed) }
+        ensures once { IsLone self.old → IfOk result (λ changed. (ptr : RawPtr T)
             × (raw.cell_seen ptr ≡ contents_of (cell_word_of self.old (number_of cell.now))) × F.post condition ptr changed) }
     {
         for _attempt in 0..self.domain.limits.tries {
