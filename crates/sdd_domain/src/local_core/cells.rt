@@ -153,6 +153,7 @@ impl<'d, T: Item<T>, J: Job> LocalCore<'d, T, J> {
     }
 
     /// A cell holds another owner, or none, and has this tag. What it held comes back, with its tag.
+    #[inline]
     pub(crate) fn swap(
         &mut self,
         cell: &Right,
@@ -184,6 +185,7 @@ impl<'d, T: Item<T>, J: Job> LocalCore<'d, T, J> {
     }
 
     /// The same, if the cell holds what was expected; else the owner comes back, and nothing changes.
+    #[inline]
     pub(crate) fn exchange(
         &mut self,
         cell: &Right,
