@@ -133,7 +133,8 @@ impl<'d, T: Item<T>, J: Job> LocalCore<'d, T, J> {
         requires reader { reader_of guard.now ≡ self.old.reader }
         ensures found { (word : ℕ) × FindsAt (number_of cell.now) word self.old × MatchOption result.0
             (contents_of word ≡ record { held = None; tag = result.1 }) (λ found. contents_of word ≡ record { held = Some found.0; tag = result.1 }) }
-        ensures seen { MatchOption result.0 (self.new ≡ self.old) (λ found. ((shared : Bool) × LooksAt found.0 shared (showing T.row found.1.now) self.old self.new
+        ensures seen { MatchOption result.0 (self.new ≡ self.old) (λ found.
+            ((shared : Bool) × LooksAt found.0 shared (showing T.row found.1.now) self.old self.new
             × (IsLone self.old → KnowsOwner self.old found.0 shared (showing T.row found.1.now)))
             × (found.0 < self.old.limits.slots) × IsOnce self.new.shown × AreOf (home_in self.old) (T.holds found.1.now)) }
         ensures owned { IsLone self.old → IfSome result.0 (λ found. IsOwnedThere found.0 (is_shared (kind_of cell.now)) self.old) }
@@ -233,7 +234,8 @@ impl<'d, T: Item<T>, J: Job> LocalCore<'d, T, J> {
     fn retag(&mut self, cell: &Right, old: u64, tag: Tag) -> bool
         requires home { home_of cell.now ≡ cells_home self.old.home }
         ensures { MatchBool result
-            ((word : ℕ) × (0 < word) × (contents_of word ≡ record (contents_of old) { tag = tag }) × ChangesCell (number_of cell.now) old word self.old self.new)
+            ((word : ℕ) × (0 < word) × (contents_of word ≡ record (contents_of old) { tag = tag })
+            × ChangesCell (number_of cell.now) old word self.old self.new)
             ((self.new ≡ self.old) × (IsLone self.old → old ≢ cell_word_of self.old (number_of cell.now))) }
     {
         let board = &self.domain.board;

@@ -28,7 +28,9 @@ loop-attempt-preserved g c = let i = c.loop-attempt.invariant in
       same = search rules;
       callable = search of_calls;
       first = λ none. absurd (omega arith);
-      went_on =
-        (i.went_on.0 ++ was ∷ [], FoldsTo-push (λ p x q. (r : RawPtr _) × Called g.F.FnMut p (x, tt) (Some r) q) _ _ _ was _ i.went_on.1 (c.in-Some.next, step));
+      went_on = (
+        i.went_on.0 ++ was ∷ [],
+        FoldsTo-push (λ p x q. (r : RawPtr _) × Called g.F.FnMut p (x, tt) (Some r) q) _ _ _ was _ i.went_on.1 (c.in-Some.next, step),
+      );
       others = search rules;
     }
