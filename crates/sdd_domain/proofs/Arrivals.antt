@@ -169,7 +169,8 @@ module _ (b : DomainTable) (p : ℕ) (own : Participant) (count : ℕ) where
         ∙ (ap left (aged_alike (slots_of b) xs) ∙ left_alike (slots_of b) (map older xs)) in
         let idle : own.countdown ≡ 128 → left (aged own.bags.waiting) ≡ [] = λ full. ap (λ (ws : List Waiting). left (aged ws)) (q.idle full) in (
           posed_arrived b p own (rotated count own) count g (map older xs) (map older_private s.me.0.slots.privates) s w q table others sizes
-              (λ i. record (stakes i) { counts = s.me.0.stakes.counts }) (pub_.0.5 ∙ (write.0.0.5 ∙ read.0.0.5)) (pub_.0.6 ∙ (write.0.0.6 ∙ read.0.0.6)) epochs low lone older_now
+              (λ i. record (stakes i) { counts = s.me.0.stakes.counts }) (pub_.0.5 ∙ (write.0.0.5 ∙ read.0.0.5)) (pub_.0.6 ∙ (write.0.0.6 ∙ read.0.0.6))
+              epochs low lone older_now
               (λ i. let m = same_items i xs in omega arith)
               refl shut bags refl q.pace idle,
           record {
@@ -193,29 +194,30 @@ module _ (b : DomainTable) (p : ℕ) (own : Participant) (count : ℕ) where
 -- a participant is posed still once it is decided that nothing waits
 pub posed_settled : (b : DomainTable) (p : ℕ) (own : Participant) (token : Seat ValueFraction View) → own.bags.waiting ≡ [] → IsBetweenCalls b p own token →
     IsBetweenCalls b p (settled own) token
-posed_settled b p own token none q = let paced : (settled own).countdown ≡ 128 = ap (λ (ws : List Waiting). elim ws [ [] ↦ 128 | x ∷ xs ↦ 127 ]) none in record {
-  home = q.home;
-  purse = q.purse;
-  sight = q.sight;
-  unseen = q.unseen;
-  rests = q.rests;
-  all = q.all;
-  place = q.place;
-  inside = q.inside;
-  count = q.count;
-  closed = q.closed;
-  opened = q.opened;
-  near = q.near;
-  lone = q.lone;
-  free = q.free;
-  knows = q.knows;
-  found = q.found;
-  quiet = q.quiet;
-  pledges = q.pledges;
-  rights = q.rights;
-  waiting = q.waiting;
-  bags = q.bags;
-  room = q.room;
-  pace = omega arith;
-  idle = λ _. none;
-}
+posed_settled b p own token none q =
+    let paced : (settled own).countdown ≡ 128 = ap (λ (ws : List Waiting). elim ws [ [] ↦ 128 | x ∷ xs ↦ 127 ]) none in record {
+      home = q.home;
+      purse = q.purse;
+      sight = q.sight;
+      unseen = q.unseen;
+      rests = q.rests;
+      all = q.all;
+      place = q.place;
+      inside = q.inside;
+      count = q.count;
+      closed = q.closed;
+      opened = q.opened;
+      near = q.near;
+      lone = q.lone;
+      free = q.free;
+      knows = q.knows;
+      found = q.found;
+      quiet = q.quiet;
+      pledges = q.pledges;
+      rights = q.rights;
+      waiting = q.waiting;
+      bags = q.bags;
+      room = q.room;
+      pace = omega arith;
+      idle = λ _. none;
+    }
