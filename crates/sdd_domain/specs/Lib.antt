@@ -15,6 +15,7 @@ pub mod RawItems
 pub mod PrivateTable
 pub mod Collectors
 pub mod Cells
+pub mod PrivateItems
 pub mod CellWords
 pub mod SeenOwners
 pub mod BetweenCalls

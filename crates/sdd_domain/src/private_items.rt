@@ -1,7 +1,9 @@
 //! Items that wait for a collector: what becomes of one that is due, and how a close takes the value of one out before.
-ghost use Rattle.std.specs.Prelude.{◌≡◌, ◌≤◌, ◌<◌, None, false, MatchOption, MatchResult};
+ghost use Rattle.std.specs.Prelude.{◌≡◌, ◌≢◌, ◌≤◌, ◌<◌, ◌⊎◌, ℕ, [], None, false, IfSome, MatchOption};
 ghost use Rattle.sdd_shared_values.specs.SharedValues.{showing};
 ghost use Rattle.sdd_word_invariant.specs.Epoch.{HasPlace, IsLone};
+ghost use Rattle.sdd_word_invariant.specs.Codes as codes;
+ghost use Rattle.sdd_word_invariant.specs.SlotSteps.{Knew};
 ghost use Rattle.sdd_word_invariant.specs.Collectors.{Closes};
 ghost use Rattle.sdd_word_invariant.specs.CollectorSteps.{WaitsFor};
 ghost use Rattle.sdd_atomics.specs.DomainTable.{id_of, book_of, places_of, slots_of};
@@ -9,7 +11,8 @@ ghost use Rattle.sdd_atomics.specs.DomainSeat.{view, epoch, slots, Knows};
 ghost use Rattle.sdd_space.specs.OwnerOrCell.{AreOf};
 ghost use Rattle.sdd_domain.specs.SpaceIds.{home_of_slots};
 ghost use Rattle.sdd_domain.specs.DomainValues.{IsShelfOf};
-ghost use Rattle.sdd_domain.specs.PrivateItems.{IsClaimedBack, LetsGoOf, EmptiesOwn, EmptiesAnothers, EmptiesNone};
+ghost use Rattle.sdd_domain.specs.Claims.{IsUnmoved};
+ghost use Rattle.sdd_domain.specs.PrivateItems.{IsClaimedBack, LetsGoOf, EmptiesOwn, EmptiesAnothers};
 
 use crate::free_slot_hints::FreeSlotHints;
 use crate::holds_own_domain::HoldsOwnDomain;
@@ -49,7 +52,18 @@ pub fn claim_back(
     known: &mut FreeSlotHints,
     slot: u32,
     collector: u32,
-) -> bool {
+) -> bool
+    requires home { token.old.table_id ≡ id_of board.now }
+    requires knows { Knows board.now token.old }
+    requires inside { slot < slots_of board.now }
+    requires place { HasPlace (epoch token.old) }
+    requires rests { (view token.old).stakes.moves ≡ None }
+    requires known { known.old.slots ≡ slots_of board.now }
+    requires waits { WaitsFor collector (view token.old) slot }
+    requires found { (slots token.old).emptied ≡ [] }
+    ensures claimed { IsClaimedBack collector slot result token.old token.new }
+    ensures known { known.new.slots ≡ known.old.slots }
+{
     let found = reclaim_private(board, token, slot, collector);
     if found == private_word(collector) {
         return true;
@@ -80,7 +94,22 @@ pub fn empty_own<T: Item<T>>(
     known: &mut FreeSlotHints,
     slot: u32,
     collector: u32,
-) -> Option<T> {
+) -> Option<T>
+    requires home { token.old.table_id ≡ id_of board.now }
+    requires knows { Knows board.now token.old }
+    requires inside { slot < slots_of board.now }
+    requires place { HasPlace (epoch token.old) }
+    requires rests { (view token.old).stakes.moves ≡ None }
+    requires shelf { IsShelfOf board.now shelf.now }
+    requires known { known.old.slots ≡ slots_of board.now }
+    requires waits { WaitsFor collector (view token.old) slot }
+    requires closing { Closes (view token.old) collector × (places_of board.now ≤ (slots token.old).looked) }
+    requires idle { ((slots token.old).emptied ≡ []) × ((slots token.old).empties ≡ None) × ((slots token.old).left ≡ false) }
+    ensures emptied { MatchOption result (LetsGoOf collector slot token.old token.new)
+        (λ value. EmptiesOwn slot (showing T.row value) token.old token.new) }
+    ensures known { known.new.slots ≡ known.old.slots }
+    ensures fits { IfSome result (λ value. AreOf (home_of_slots (id_of board.now) (book_of board.now) (slots_of board.now)) (T.holds value)) }
+{
     let found = claim_own_private(board, token, slot, collector);
     if found != private_word(collector) {
         let_go(board, token, known, slot, found);
@@ -100,7 +129,20 @@ pub fn empty_anothers<T: Item<T>>(
     token: &mut DomainSeat,
     slot: u32,
     collector: u32,
-) -> Option<T> {
+) -> Option<T>
+    requires home { token.old.table_id ≡ id_of board.now }
+    requires knows { Knows board.now token.old }
+    requires inside { slot < slots_of board.now }
+    requires place { HasPlace (epoch token.old) }
+    requires rests { (view token.old).stakes.moves ≡ None }
+    requires shelf { IsShelfOf board.now shelf.now }
+    requires closing { Closes (view token.old) collector × (places_of board.now ≤ (slots token.old).looked) }
+    requires idle { ((slots token.old).empties ≡ None) × ((slots token.old).left ≡ false) }
+    ensures emptied { MatchOption result
+        (IsUnmoved token.old token.new × ¬ (IsLone (epoch token.old) × Knew slot (view token.old) (codes.private_word collector)))
+        (λ _. EmptiesAnothers collector slot token.old token.new) }
+    ensures fits { IfSome result (λ value. AreOf (home_of_slots (id_of board.now) (book_of board.now) (slots_of board.now)) (T.holds value)) }
+{
     let word = private_word(collector);
     // An exchange takes the slot's line from others: it is tried only where the item seems to wait.
     if look(board, token, slot) != word || claim_private(board, token, slot, collector) != word {
