@@ -8,6 +8,7 @@ use Rattle.sdd_word_invariant.specs.Sums.{total}
 use Rattle.sdd_word_invariant.specs.Slots.{waits_in}
 use Rattle.sdd_space.proofs.Accounts.{blank-at}
 use Rattle.sdd_atomics.specs.DomainTable.{slots_of}
+use Rattle.sdd_domain.proofs.InBags.{nothing_there}
 use Rattle.sdd_domain.proofs.Moving.{no_purse, none_lent}
 use Rattle.sdd_domain.proofs.local_core.LocalCore.register.Given.{Over}
 use Rattle.sdd_domain.proofs.local_core.LocalCore.register.Goals as goal
@@ -16,7 +17,9 @@ blank_jobs : (g : Over) (c : goal.After-new-3 g) → c.begin_at-2.new.self ≡ r
 blank_jobs g c = c.begin_at-2.ensures ∙ c.in-Ok.ensures.jobs
 
 pub invariant_of-result : goal.invariant_of-result
-invariant_of-result g c = let jobs : ℕ = c.args.domain.now.limits.jobs in let none : c.write.new.token.me.0.slots.waits ≡ [] = search rules in (
+invariant_of-result g c = let jobs : ℕ = c.args.domain.now.limits.jobs in let none : c.write.new.token.me.0.slots.waits ≡ [] = search rules in
+    let none_private : c.write.new.token.me.0.slots.privates ≡ [] = search rules in (
+
   record {
     home = search rules;
     purse = no_purse _ _ _ _ _ (search rules) (search rules);
@@ -38,7 +41,6 @@ invariant_of-result g c = let jobs : ℕ = c.args.domain.now.limits.jobs in let 
     pledges = search rules;
     rights = search rules;
     waiting = search rules;
-    bags = search rules;
     room = search rules;
     pace = search rules;
     idle = search rules;
@@ -47,7 +49,8 @@ invariant_of-result g c = let jobs : ℕ = c.args.domain.now.limits.jobs in let 
   search rules,
   none_lent _ _ (search rules),
   record {
-    due = search rules;
+    bags = nothing_there _ _ _ _ none none_private (search rules) (search rules);
+    uncollected = none_private;
     large = search rules;
     slots = search rules;
     places = ap length (blank_jobs g c) ∙ (length-replicate jobs None ∙ sym (ap (λ (z : Sizes). z.jobs) c.args.domain.now.limited.1));
