@@ -16,7 +16,7 @@ use Rattle.sdd_space.specs.WorldInvariant.{IsWhole}
 use Rattle.sdd_space.specs.World.{World, IsPlaceOf, standing_at}
 use Rattle.sdd_space.proofs.Standings.{out-some, out-waits-not}
 use Rattle.sdd_script_text.specs.declared.name.OwnerName.{OwnerName}
-use Rattle.sdd_script_model.specs.declared.val.Val.{Val}
+use Rattle.sdd_script_model.specs.Val.{Val}
 use Rattle.sdd_script_model.specs.ScriptState.{ScriptState, IsDated, holding_at, cell_of, slot_of, sole_slot, shared_slot, in_world}
 use Rattle.sdd_script_model.specs.Script.{FitsSole, FitsShared, FitsCell, MayShare, shared_once_more, slot_put, owners_put, owners_taken, cell_as, owner_as}
 use Rattle.sdd_script_model.specs.Shown.{IsCell}
