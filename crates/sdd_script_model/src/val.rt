@@ -34,8 +34,10 @@ impl Body {
     pub fn put(&mut self, number: u64)
         ensures { out-Body self.new ≡ renumbered (out-Body self.old) number }
     {
-        if let Body::Number(held) = self {
-            *held = number;
+        match self {
+            Body::Number(held) => *held = number,
+            Body::Owned(_) => {}
+            Body::Shared(_) => {}
         }
     }
 }

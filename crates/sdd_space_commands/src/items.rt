@@ -35,8 +35,9 @@ impl CellCommand for MakeItem {
         s: &mut S,
     ) -> AnyOwner {
         let MakeItem { body, ownership } = self;
-        let Ok(value) = LinkedEntry::new(body, s) else {
-            unreachable!()
+        let value = match LinkedEntry::new(body, s) {
+            Ok(value) => value,
+            Err(_) => unreachable!(),
         };
         match ownership {
             OwnerKind::Sole => match Owned::new(value, s) {

@@ -15,7 +15,7 @@ ghost use Rattle.sdd_script_model.specs.Held.{standing_first, holding_first};
 
 use crate::turn::cell_step_at;
 use sdd_script_model::{Body, OwnerKind, Val};
-use sdd_space::Guard;
+use sdd_space::{Guard, Shows};
 use sdd_space_commands::holding::AnyOwner;
 use sdd_space_commands::items::MakeItem;
 use sdd_world::inner::ptr_at;
@@ -51,11 +51,13 @@ pub fn value_shown<'g>(
     requires reader { reader_of guard.now ≡ reader_at world.old (index_of place.now) }
     requires stays { CannotGo world.old (index_of place.now) slot }
     ensures shown { value_at world.old slot ≡ Some result.now }
+    ensures home { link_home result.now ≡ world.old.home.cells }
     ensures world { world.new ≡ world.old }
 {
     let ptr = ptr_at(world, place, slot, guard);
     let Some(value) = ptr.as_ref(world) else {
         unreachable!()
     };
+    world.shown_is_of_home();
     value
 }
