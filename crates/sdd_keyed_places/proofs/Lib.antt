@@ -1,2 +1,3 @@
 pub mod Loans
 pub mod Fields
+pub mod Keys

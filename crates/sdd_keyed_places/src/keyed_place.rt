@@ -1,10 +1,14 @@
-//! A place and its key.
-ghost use Rattle.std.specs.Prelude.{◌≡◌, ℕ};
+//! A place and its key, and the keys of several places.
+ghost use Rattle.std.specs.Prelude.{◌≡◌, ◌<◌, ℕ, List, [], Some, length, slice_get};
+ghost use base.Stored.{coded_list};
+ghost use Rattle.sdd_keyed_places.specs.KeptValues.{KeptValue, kept_as, kept_coded, keys_own, inserted, without_at};
 ghost use Rattle.sdd_keyed_places.specs.KeyedPlaces.{PlaceName, name_coded, place_owns, place_shares, key_owns};
 
 use std::marker::{Model, Move, Owns, PhantomData};
 
 const _: () = prove!(size_of::<PlaceKey<u64>>() == 0);
+
+const _: () = prove!(size_of::<PlaceKeys<u64>>() == 0);
 
 /// A value in place, which changes behind a `&` for whoever has the place's key. In a clause it is its name, which no other place has.
 pub struct KeyedPlace<T> {
@@ -33,6 +37,16 @@ pub struct PlaceKey<T> {
 
 impl<T> Model for PlaceKey<T> {
     ghost also_owns = { λ k. key_owns T.row k.name k.value };
+}
+
+/// The keys of any number of places, in order. They have no bytes, however many they are.
+pub struct PlaceKeys<T> {
+    of: PhantomData<T>,
+    pub ghost kept: { List (KeptValue T) } by { coded_list (kept_coded T.code) },
+}
+
+impl<T> Model for PlaceKeys<T> {
+    ghost also_owns = { λ k. keys_own T.row k.kept };
 }
 
 impl<T> KeyedPlace<T> {
@@ -77,6 +91,36 @@ impl<T> KeyedPlace<T> {
     }
 }
 
+impl<T> PlaceKey<T> {
+    /// Puts the key among others, at that index, before the one that was there; behind all where there are fewer.
+    pub fn put(self, keys: &mut PlaceKeys<T>, at: usize)
+        ensures { keys.new ≡ record keys.old { kept = inserted keys.old.kept at (kept_as self.name self.value) } }
+    {
+        let _ = keys;
+        let _ = at;
+        let PlaceKey { of: _ } = self;
+    }
+}
+
+impl<T> PlaceKeys<T> {
+    /// No keys.
+    pub fn new() -> PlaceKeys<T>
+        ensures { result.kept ≡ [] }
+    {
+        PlaceKeys { of: PhantomData }
+    }
+
+    /// The key at that index, which is no longer among these.
+    pub fn take(&mut self, at: usize) -> PlaceKey<T>
+        requires { at < length self.old.kept }
+        ensures rest { self.new ≡ record self.old { kept = without_at self.old.kept at } }
+        ensures key { slice_get self.old.kept at ≡ Some (kept_as result.name result.value) }
+    {
+        let _ = at;
+        PlaceKey { of: PhantomData }
+    }
+}
+
 impl<T: Drop> Drop for KeyedPlace<T> {
     fn drop(self) {
         drop(self.into_inner());
@@ -96,3 +140,13 @@ unsafe impl<T: Send> Sync for KeyedPlace<T> {}
 unsafe impl<T> Send for PlaceKey<T> {}
 
 unsafe impl<T> Sync for PlaceKey<T> {}
+
+impl<T> Drop for PlaceKeys<T> {
+    fn drop(self) {
+        let PlaceKeys { of: _ } = self;
+    }
+}
+
+unsafe impl<T> Send for PlaceKeys<T> {}
+
+unsafe impl<T> Sync for PlaceKeys<T> {}
