@@ -118,7 +118,7 @@ module _ {T : Type 0} where
   new-long (n ∷ names) ps = omega (arith, new-long names ps)
 
   pub newly-marked : (len : ℕ) (marks : List Bool) (arrays : ℕ) (names : List PlaceName) (ps : List (KeptPlace T)) → length names ≡ len → AreFull len ps
-      → length ps < 2 ^ 40 → AreMarked len marks arrays ps → AreMarked len (replicate len false) (arrays + 1) (map empty_place names ++ ps)
+      → length ps < 2 ^ 80 → AreMarked len marks arrays ps → AreMarked len (replicate len false) (arrays + 1) (map empty_place names ++ ps)
   newly-marked len marks arrays names ps long full short m =
       let all : List (KeptPlace T) = map empty_place names ++ ps in
       let each : (k j : ℕ) → k ≡ len + j → j < length ps → is_some (value_at all k) ≡ true = λ k j e near.

@@ -69,7 +69,7 @@ module _ {T : Type 0} where
   pub record AreMarked (len : ℕ) (marks : List Bool) (arrays : ℕ) (places : List (KeptPlace T)) : Type 0 where
     pub some : 0 < len
     pub fits : len ≤ 32
-    pub few : arrays < 2 ^ 48
+    pub few : arrays < 2 ^ 96
     pub size : length places ≡ arrays * len
     pub marked : (k : ℕ) → k < len → slice_index_or marks k false ≡ is_some (value_at places k)
     pub behind : (k : ℕ) → len ≤ k → k < length places → is_some (value_at places k) ≡ true

@@ -1,5 +1,5 @@
 //! The keys of a bag's storages.
-ghost use Rattle.std.specs.Prelude.{◌≡◌, ◌≢◌, ◌^◌, ◌<◌, ◌≤◌, ◌++◌, ℕ, List, [], MatchOption, MatchResult, None, Some, drop, is_some, length, map, take};
+ghost use Rattle.std.specs.Prelude.{◌≡◌, ◌≢◌, ◌↔◌, ◌^◌, ◌<◌, ◌≤◌, ◌++◌, ℕ, IsTrue, List, [], MatchOption, MatchResult, None, Some, drop, is_some, length, map, take};
 ghost use Rattle.sdd_keyed_places.specs.KeyedPlaces.{PlaceName};
 ghost use Rattle.sdd_bag_storage.specs.Storage.{KeptPlace, empty_place, value_at, with_value_at, IsEmptyAt, IsFullWith, AreFull, AreEmpty, StandInFront, values_in};
 
@@ -11,7 +11,7 @@ use std::marker::Model;
 #[derive(Drop)]
 pub struct StorageKeys<T, const LEN: usize> {
     full: [bool; LEN],
-    arrays: u64,
+    arrays: u128,
     keys: Keys<T>,
 }
 
@@ -43,7 +43,7 @@ impl<T, const LEN: usize> StorageKeys<T, LEN> {
     /// A new array of places without values, in front of the others, whose places all have values.
     pub fn add_places(&mut self) -> Places<T, LEN>
         requires full { AreFull LEN self.old }
-        requires few { length self.old < 2 ^ 40 }
+        requires few { length self.old < 2 ^ 80 }
         ensures long { length result ≡ LEN }
         ensures places { self.new ≡ map empty_place result ++ self.old }
     {
@@ -67,7 +67,7 @@ impl<T, const LEN: usize> StorageKeys<T, LEN> {
     }
 
     /// How many places of the first array have a value.
-    fn front_len(&self) -> u64
+    fn front_len(&self) -> u128
         ensures value { result ≡ length (values_in (take LEN self.now)) }
         ensures few { result ≤ LEN }
     {
@@ -81,14 +81,21 @@ impl<T, const LEN: usize> StorageKeys<T, LEN> {
     }
 
     /// How many places have a value.
-    pub fn len(&self) -> u64
+    pub fn len(&self) -> u128
         ensures { result ≡ length (values_in self.now) }
     {
         if self.arrays == 0 {
             0
         } else {
-            self.front_len() + (self.arrays - 1) * LEN as u64
+            self.front_len() + (self.arrays - 1) * LEN as u128
         }
+    }
+
+    /// No place of the first array has a value.
+    pub fn is_front_empty(&self) -> bool
+        ensures { IsTrue result ↔ AreEmpty LEN self.now }
+    {
+        self.first(true).is_none()
     }
 
     /// The first place of the first array that has a value, or that has none.
