@@ -1,7 +1,8 @@
 //! The keys of a bag's storages.
-ghost use Rattle.std.specs.Prelude.{◌≡◌, ◌≢◌, ◌↔◌, ◌^◌, ◌<◌, ◌≤◌, ◌++◌, ℕ, IsTrue, List, [], MatchOption, MatchResult, None, Some, drop, is_some, length, map, take};
+ghost use Rattle.std.specs.Prelude.{◌≡◌, ◌≢◌, ◌↔◌, ◌^◌, ◌<◌, ◌≤◌, ◌++◌, ℕ, IfOk, IfSome, IsTrue, List, [], MatchOption, MatchResult, None, Some, drop, is_some, length, map, take};
 ghost use Rattle.sdd_keyed_places.specs.KeyedPlaces.{PlaceName};
-ghost use Rattle.sdd_bag_storage.specs.Storage.{KeptPlace, empty_place, value_at, with_value_at, IsEmptyAt, IsFullWith, AreFull, AreEmpty, StandInFront, values_in};
+ghost use Rattle.sdd_bag_storage.specs.Storage.{KeptPlace, empty_place, value_at, with_value_at, IsEmptyAt, IsFullWith, AreFull, AreEmpty, StandInFront, names_of, values_in};
+ghost use Rattle.sdd_bag_storage.specs.Values.{HasOneMore};
 
 use crate::place::{Keys, exchange, forget};
 use crate::places::Places;
@@ -130,9 +131,11 @@ impl<T, const LEN: usize> StorageKeys<T, LEN> {
     /// Moves a value into the first empty place of the first array. If there is none, the value comes back.
     pub fn push(&mut self, places: &Places<T, LEN>, value: T) -> Result<(), T>
         requires keys { StandInFront places.now self.old }
-        ensures { MatchResult result
+        ensures place { MatchResult result
             (λ _. (at : ℕ) × (at < LEN) × IsEmptyAt at self.old × (self.new ≡ with_value_at self.old at (Some value)))
             (λ back. (back ≡ value) × AreFull LEN self.old × (self.new ≡ self.old)) }
+        ensures names { names_of self.new ≡ names_of self.old }
+        ensures values { IfOk result (λ _. HasOneMore value (values_in self.old) (values_in self.new)) }
     {
         let Some(at) = self.first(false) else {
             return Err(value);
@@ -147,9 +150,11 @@ impl<T, const LEN: usize> StorageKeys<T, LEN> {
     /// Moves the value of the first full place of the first array out, if any is full.
     pub fn pop(&mut self, places: &Places<T, LEN>) -> Option<T>
         requires keys { StandInFront places.now self.old }
-        ensures { MatchOption result
+        ensures place { MatchOption result
             (AreEmpty LEN self.old × (self.new ≡ self.old))
             (λ value. (at : ℕ) × (at < LEN) × IsFullWith value at self.old × (self.new ≡ with_value_at self.old at None)) }
+        ensures names { names_of self.new ≡ names_of self.old }
+        ensures values { IfSome result (λ value. HasOneMore value (values_in self.new) (values_in self.old)) }
     {
         let Some(at) = self.first(true) else {
             return None;
