@@ -2,7 +2,7 @@
 -- to its close, and its slot given back.
 use Rattle.std.proofs.Common.{◌≡◌, ◌≢◌, ◌⊎◌, inl, inr, ℕ, ◌<◌, ◌≤◌, Bool, false, eqb, List, [], ◌∷◌, length, get_or, set, sym, refl, ap, ◌∙◌, subst, ⊎_elim, arith}
 use Rattle.std.specs.Prelude.{Option, Some, None}
-use mathlib.Core.Option.{some}
+use mathlib.Core.Option.{some, some-injective}
 use mathlib.Core.Logic.{dite}
 use native.Mathlib.Decide.{ℕ_discrete, dec_lt}
 use lib.ListN.{get_elem?}
@@ -24,13 +24,14 @@ use Rattle.sdd_views.specs.contracts.View.{the_row}
 use Rattle.sdd_views.specs.Views.{right_to}
 use Rattle.sdd_word_invariant.specs.Words.{slot_word, words_behind}
 use Rattle.sdd_word_invariant.specs.Codes.{codes, alive, waiting, valued, private, emptying, shared_base, free_word, private_word, emptying_word, emptied_word, left_word, raw_word}
-use Rattle.sdd_word_invariant.specs.Collectors.{Closes, FoundEmptied}
+use Rattle.sdd_word_invariant.specs.Collectors.{private_in, Closes, FoundEmptied}
 use Rattle.sdd_word_invariant.specs.CollectorSteps.{closing, closed_none, collected, left_to_close, private_given_back, found_emptied, WaitsFor, IsDuePrivately, HasWaiting, Collects, LeavesToClose, GivesPrivateBack, EmptiesSlot}
 use Rattle.sdd_word_invariant.specs.Epoch.{HasPlace}
 use Rattle.sdd_word_invariant.specs.Slots.{slot_at, waits_in, items_at, Owns}
 use Rattle.sdd_word_invariant.specs.SlotSteps.{noted, AtSlot}
 use Rattle.sdd_word_invariant.specs.WordInvariant.{epoch_of, Parts}
 use Rattle.sdd_word_invariant.proofs.Codes.{sound, private_is, emptied_is, emptying_is, left_is, free_is}
+use Rattle.sdd_word_invariant.proofs.Collectors.{privates_in}
 use Rattle.sdd_word_invariant.proofs.CollectorSteps as words
 use Rattle.sdd_word_invariant.proofs.Frame.{each_set}
 use Rattle.sdd_word_invariant.proofs.Owning.{item_gone, item_kept}
@@ -245,6 +246,18 @@ module _ (slots id : ℕ) (me : SeatState) (live : HasPlace me.0.epoch) where
         (λ _. let one = ap private hit ∙ is.3 in (omega arith, ap valued hit ∙ waits.1))))
         (λ miss. subst (IsCalm γ sizes slots id me i f s x) (sym (c.1 miss))
         (looked_at s h at f v.slots.privates v.slots.emptied v.slots.empties v.slots.left)))
+
+    -- what it has of a slot waits for one collector
+    pub one_collector : (s : State ValueFraction View) → DomainInvariant γ sizes s → get_elem? s.views id ≡ some v → (a b : ℕ) → WaitsFor a v slot
+        → WaitsFor b v slot → a ≡ b
+    one_collector s h at a b has has' = let c = h.kept.parts.collectors in let x : PrivateItem = has.0 in let y : PrivateItem = has'.0 in
+        let there = has.1 in let there' = has'.1 in let few = privates_in codes sound sizes s.words s.views c id slot v at in
+        let one = is_same slot x.item.slot has.2 in let two = is_same slot y.item.slot has'.2 in
+        let mine = total_has (private_in slot) v.slots.privates there.0 x there.1 in
+        let single = (sound.private (slot_at sizes s.words slot) (omega arith)).0 in dite (ℕ_discrete there.0 there'.0)
+        (λ same. let is : x ≡ y = some-injective x y (sym there.1 ∙ (ap (get_elem? v.slots.privates) same ∙ there'.1)) in
+        sym has.3 ∙ (ap (λ (p : PrivateItem). p.collector) is ∙ has'.3))
+        (λ ne. absurd (let both = total_two (private_in slot) v.slots.privates there.0 there'.0 x y ne there.1 there'.1 in omega arith))
 
     -- a private item is left to the close that empties it
     pub leaves_to_close : (collector : ℕ) → WaitsFor collector v slot → private_word collector < shared_base
