@@ -38,7 +38,8 @@ use Rattle.sdd_atomics.proofs.EmptyingAllowed.{collector_told}
 pub claimed_at : (s t : Seat ValueFraction View) (r : ℕ) → t.table_id ≡ s.table_id → t.id ≡ s.id → (collector word : ℕ) → word ≡ private_word collector
     → (i slot : ℕ) (sizes : Sizes) → i ≡ slot_word sizes slot → s.me.0.sizes ≡ sizes → OfSlot (EmptiesOne (collector_of word)) i s.me r t.me
     → Moved (EmptiesOne collector slot) s r t
-claimed_at s t r home number collector word this i slot sizes is same e = subst (λ (k : ℕ). Moved (EmptiesOne k slot) s r t) (collector_told collector word this)
+claimed_at s t r home number collector word this i slot sizes is same e =
+    subst (λ (k : ℕ). Moved (EmptiesOne k slot) s r t) (collector_told collector word this)
     (moved_at s t r home number (EmptiesOne (collector_of word)) i slot sizes is same e)
 
 abbrev first_cell_of : ℕ → List CellRight → ℕ

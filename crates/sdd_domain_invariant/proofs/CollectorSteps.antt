@@ -198,7 +198,8 @@ module _ (slots id : ℕ) (me : SeatState) (live : HasPlace me.0.epoch) where
       module _ (f : ℕ → ℕ) (privates : List PrivateItem) (emptied : List ℕ) (empties : Option ℕ) (left : Bool) where
         -- where a slot without owners has another word, and is as full as before
         rewritten : (y : ℕ) → alive (slot_at sizes s.words slot) ≡ 0 → alive y ≡ 0 → valued y ≡ valued (slot_at sizes s.words slot) → y ≢ raw_word 0
-            → (HidesItem y → HidesItem (slot_at sizes s.words slot)) → IsCalm γ sizes slots id me i f s y (record (knowing privates emptied empties left) { words = noted slot y v })
+            → (HidesItem y → HidesItem (slot_at sizes s.words slot))
+            → IsCalm γ sizes slots id me i f s y (record (knowing privates emptied empties left) { words = noted slot y v })
         rewritten y dead none same apart hid = let w : View = record (knowing privates emptied empties left) { words = noted slot y v } in record {
           more = λ j p out. out;
           same = as_before y same;
@@ -209,7 +210,8 @@ module _ (slots id : ℕ) (me : SeatState) (live : HasPlace me.0.epoch) where
           had = λ _ l. inl l;
           stored = stored_hid sizes s.words slot y (steps.within slots id me live slot inside s h) apart hid
               (λ c. absurd (steps.in_no_cell slots id me live slot inside s h dead c));
-          kinds = kinds_then y dead none w (steps.wrote_long slots id me live slot inside s h at y) rests refl refl (steps.post slots id me live s h at w refl refl refl refl (λ l. l));
+          kinds = kinds_then y dead none w (steps.wrote_long slots id me live slot inside s h at y) rests refl refl
+              (steps.post slots id me live s h at w refl refl refl refl (λ l. l));
         }
 
         -- where no word changes
@@ -336,7 +338,8 @@ module _ (slots id : ℕ) (me : SeatState) (live : HasPlace me.0.epoch) where
           (λ s w h at t. let c = t slot refl in let x : WaitingItem = c.0 in let now : View = forgetting slot (collected slot collector x y v) in
           let r = h.records in let mine = records.mine sizes s.views s.homes r id v at in
           let waits : 0 < waiting (slot_at sizes s.words slot)
-          = subst (λ (d : ℕ). 0 < waiting (slot_at sizes s.words d)) c.1.0 (waiter_in codes sound sizes s.words s.views h.kept.parts.slots id c.1.1.0 v x at c.1.1.1) in
+          = subst (λ (d : ℕ). 0 < waiting (slot_at sizes s.words d)) c.1.0
+          (waiter_in codes sound sizes s.words s.views h.kept.parts.slots id c.1.1.0 v x at c.1.1.1) in
           let dead : alive (slot_at sizes s.words slot) ≡ 0 = waiting_dead (slot_at sizes s.words slot) waits in
           let same = as_before s h at y (will.1 ∙ sym (sound.waits (slot_at sizes s.words slot) waits).2) in
           let outside = steps.in_no_cell slots id me live slot inside s h dead in
@@ -360,12 +363,15 @@ module _ (slots id : ℕ) (me : SeatState) (live : HasPlace me.0.epoch) where
                 (λ j other near is. inl (dite (ℕ_discrete j slot)
                 (λ e. subst (λ (k : ℕ). IsStored sizes s.words k other) (sym e)
                 (stored_by sizes s.words (set s.words i y) (cells_slot sizes s.words slot y) slot other
-                (λ raw. absurd (let d = sym (steps.here slots id me live slot inside s.words y (steps.within slots id me live slot inside s h)) ∙ raw in omega arith))
+                (λ raw. absurd (let d = sym (steps.here slots id me live slot inside s.words y (steps.within slots id me live slot inside s h)) ∙ raw in
+                omega arith))
                 (λ d. absurd (outside d)) (subst (λ (k : ℕ). IsStored sizes (set s.words i y) k other) e is)))
                 (λ ne. (stored_other sizes s.words slot y j near ne).0 other is)))
                 (λ j near is. dite (ℕ_discrete j slot)
                 (λ e. let b = known s h at x c.1 in inr (b.0, subst (λ (k : ℕ). AllKnow sizes s.words s.views s.homes h.lasts id v at k b.0) (sym e) b.1))
                 (λ ne. inl ((stored_other sizes s.words slot y j near ne).1 is)));
-            kinds = kinds_then s h at y dead code.0 now (steps.wrote_long slots id me live slot inside s h at y) rests refl refl (steps.post slots id me live s h at now refl refl refl refl (λ l. l));
-            tells = steps.at_once slots id me live slot inside (CollectsOne collector) y (now, me.1) (collected slot collector x y v, (x, c.1, refl), refl, refl);
+            kinds = kinds_then s h at y dead code.0 now (steps.wrote_long slots id me live slot inside s h at y) rests refl refl
+                (steps.post slots id me live s h at now refl refl refl refl (λ l. l));
+            tells = steps.at_once slots id me live slot inside (CollectsOne collector) y (now, me.1)
+                (collected slot collector x y v, (x, c.1, refl), refl, refl);
           })

@@ -41,6 +41,6 @@ returns c = let r = c.requires in let e = c.beside.ensures in let slot : ℕ = c
     let known = c.slot_word.ensures ∙ ap (λ (x : Sizes). slot_word x slot) (sym r.knows.0) in let s = e.2.2 in (
       e.0,
       e.1,
-      collected_then c.args.token.now.me _ c.private_word.result c.args.collector slot c.slot_word.result c.private_word.ensures known r.free c.beside.result s.1 _
-          s.2 s.3,
+      collected_then c.args.token.now.me _ c.private_word.result c.args.collector slot c.slot_word.result c.private_word.ensures known r.free
+          c.beside.result s.1 _ s.2 s.3,
     )
