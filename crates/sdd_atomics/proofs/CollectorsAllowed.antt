@@ -28,7 +28,7 @@ use Rattle.sdd_domain_invariant.specs.FractionSteps.{SeatState, forgetting, OfSl
 use Rattle.sdd_domain_invariant.specs.PledgesInvariant.{pledging, freeing}
 use Rattle.sdd_domain_invariant.proofs.CollectorSteps as steps
 use Rattle.sdd_atomics.specs.DomainSeat.{Moved}
-use Rattle.sdd_atomics.specs.Emptying.{collector_of}
+use Rattle.sdd_atomics.specs.Emptying.{collector_named}
 use Rattle.sdd_atomics.specs.Collectors.{ClosesOwn, LeavesWaiting, CollectsBy}
 use Rattle.sdd_atomics.proofs.Allowed.{moved_at}
 use Rattle.sdd_atomics.proofs.Allowed as allowed
@@ -36,11 +36,11 @@ use Rattle.sdd_atomics.proofs.EmptyingAllowed.{collector_told}
 
 -- the token after a slot was claimed for a close, or wasn't
 pub claimed_at : (s t : Seat ValueFraction View) (r : ℕ) → t.table_id ≡ s.table_id → t.id ≡ s.id → (collector word : ℕ) → word ≡ private_word collector
-    → (i slot : ℕ) (sizes : Sizes) → i ≡ slot_word sizes slot → s.me.0.sizes ≡ sizes → OfSlot (EmptiesOne (collector_of word)) i s.me r t.me
+    → (i slot : ℕ) (sizes : Sizes) → i ≡ slot_word sizes slot → s.me.0.sizes ≡ sizes → OfSlot (EmptiesOne (collector_named word)) i s.me r t.me
     → Moved (EmptiesOne collector slot) s r t
 claimed_at s t r home number collector word this i slot sizes is same e =
     subst (λ (k : ℕ). Moved (EmptiesOne k slot) s r t) (collector_told collector word this)
-    (moved_at s t r home number (EmptiesOne (collector_of word)) i slot sizes is same e)
+    (moved_at s t r home number (EmptiesOne (collector_named word)) i slot sizes is same e)
 
 abbrev first_cell_of : ℕ → List CellRight → ℕ
 first_cell_of k [] = k
@@ -80,7 +80,7 @@ module _ (γ : ℕ) (sizes : Sizes) (slots id : ℕ) (me : SeatState) (same : me
 
     pub may_claim_private : (collector : ℕ) → collector < 2 ^ 32 → Closes me.0 collector → sizes.participants ≤ me.0.slots.looked
         → me.0.slots.empties ≡ None → me.0.slots.left ≡ false → (word : ℕ) → word ≡ private_word collector
-        → May (λ x. either (eqb x word) emptying_word x) (OfSlot (EmptiesOne (collector_of word)) i me)
+        → May (λ x. either (eqb x word) emptying_word x) (OfSlot (EmptiesOne (collector_named word)) i me)
     may_claim_private collector fits shuts all idle fresh word this =
         subst (λ (w : ℕ × ℕ). May (λ x. either (eqb x w.0) emptying_word x) (OfSlot (EmptiesOne w.1) i me))
         (λ d. (sym this d, sym (collector_told collector word this) d))
@@ -129,9 +129,9 @@ module _ (me : SeatState) (p : Pledge) (word collector slot i : ℕ) (this : wor
       → CollectsOne collector slot me (private_word collector) after
   collected_then bare n u after done freed = let c = done slot where_is in let item : WaitingItem = c.1.0 in
       subst (λ (w : ℕ × ℕ). CollectsOne w.1 slot me w.0 after) (λ d. (this d, collector_told collector word this d)) (
-        collected slot (collector_of word) item word me.0,
+        collected slot (collector_named word) item word me.0,
         (item, c.1.1, refl),
         ap (λ (m : SeatState). m.0) freed ∙ (ap freeing (c.2 ∙ ap (forgetting slot) c.1.2)
-            ∙ ap (λ (own : List Pledge). forgetting slot (collected slot (collector_of word) item word (pledging_these own))) (sym bare)),
+            ∙ ap (λ (own : List Pledge). forgetting slot (collected slot (collector_named word) item word (pledging_these own))) (sym bare)),
         ap (λ (m : SeatState). m.1) freed ∙ c.3,
       )

@@ -21,20 +21,20 @@ use Rattle.sdd_domain_invariant.specs.FractionSteps.{SeatState, CarriesAll, IsDe
 use Rattle.sdd_domain_invariant.specs.CollectorSteps.{ReclaimsOne, TakesPrivate, EmptiedOne, GivesOneEmptyBack}
 use Rattle.sdd_domain_invariant.proofs.EmptyingSteps as steps
 use Rattle.sdd_atomics.specs.DomainSeat.{Moved}
-use Rattle.sdd_atomics.specs.Emptying.{collector_of}
+use Rattle.sdd_atomics.specs.Emptying.{collector_named}
 use Rattle.sdd_atomics.proofs.Allowed.{moved_at}
 
 -- the word of a private item tells its collector
-pub collector_told : (collector word : ℕ) → word ≡ private_word collector → collector_of word ≡ collector
+pub collector_told : (collector word : ℕ) → word ≡ private_word collector → collector_named word ≡ collector
 collector_told collector word is = omega arith
 
 -- the token after a private item was claimed for its bag, or wasn't
 pub reclaimed_at : (s t : Seat ValueFraction View) (r : ℕ) → t.table_id ≡ s.table_id → t.id ≡ s.id → (collector word : ℕ) → word ≡ private_word collector
-    → (i slot : ℕ) (sizes : Sizes) → i ≡ slot_word sizes slot → s.me.0.sizes ≡ sizes → OfSlot (ReclaimsOne (collector_of word)) i s.me r t.me
+    → (i slot : ℕ) (sizes : Sizes) → i ≡ slot_word sizes slot → s.me.0.sizes ≡ sizes → OfSlot (ReclaimsOne (collector_named word)) i s.me r t.me
     → Moved (ReclaimsOne collector slot) s r t
 reclaimed_at s t r home number collector word this i slot sizes is same e =
     subst (λ (k : ℕ). Moved (ReclaimsOne k slot) s r t) (collector_told collector word this)
-    (moved_at s t r home number (ReclaimsOne (collector_of word)) i slot sizes is same e)
+    (moved_at s t r home number (ReclaimsOne (collector_named word)) i slot sizes is same e)
 
 module _ (γ : ℕ) (sizes : Sizes) (slots id : ℕ) (me : SeatState) (same : me.0.sizes ≡ sizes) (book : me.0.stakes.book ≡ γ) (live : HasPlace me.0.epoch)
     (slot : ℕ) (inside : slot < sizes.slots) where
@@ -58,7 +58,7 @@ module _ (γ : ℕ) (sizes : Sizes) (slots id : ℕ) (me : SeatState) (same : me
         subst (λ (t : ℕ × Sizes × ℕ). Allows (DomainInvariant t.0 t.1) slots id me t.2 f (told t.2)) (λ d. (book d, same d, there d))
 
     pub may_reclaim : (collector : ℕ) → WaitsFor collector me.0 slot → collector < 2 ^ 32 → me.0.stakes.moves ≡ None → (word : ℕ)
-        → word ≡ private_word collector → May (λ x. either (eqb x word) (waiting_word 0) x) (OfSlot (ReclaimsOne (collector_of word)) i me)
+        → word ≡ private_word collector → May (λ x. either (eqb x word) (waiting_word 0) x) (OfSlot (ReclaimsOne (collector_named word)) i me)
     may_reclaim collector has fits rests word this = subst (λ (w : ℕ × ℕ). May (λ x. either (eqb x w.0) (waiting_word 0) x) (OfSlot (ReclaimsOne w.1) i me))
         (λ d. (sym this d, sym (collector_told collector word this) d))
         (at_slot (λ x. either (eqb x (private_word collector)) (waiting_word 0) x) (λ j. OfSlot (ReclaimsOne collector) j me)

@@ -5,7 +5,7 @@ use Rattle.sdd_word_invariant.specs.Words.{slot_word}
 use Rattle.sdd_word_invariant.specs.CollectorSteps.{WaitsFor}
 use Rattle.sdd_domain_invariant.specs.FractionSteps.{SeatState, OfSlot}
 use Rattle.sdd_domain_invariant.specs.CollectorSteps.{CollectsOne, LeavesOneToClose, ClosesOne}
-use Rattle.sdd_atomics.specs.Emptying.{collector_of}
+use Rattle.sdd_atomics.specs.Emptying.{collector_named}
 
 -- it begins to close the collector to whose cell it has the right
 abbrev pub ClosesOwn : SeatState → SeatState → Type 0
@@ -17,4 +17,4 @@ LeavesWaiting i me x me' = (slot collector : ℕ) → i ≡ slot_word me.0.sizes
 
 -- an item that waits is collected by this word
 abbrev pub CollectsBy : ℕ → ℕ → SeatState → ℕ → SeatState → Type 0
-CollectsBy word i me x me' = OfSlot (CollectsOne (collector_of word)) i me word me'
+CollectsBy word i me x me' = OfSlot (CollectsOne (collector_named word)) i me word me'

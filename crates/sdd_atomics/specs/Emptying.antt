@@ -2,5 +2,5 @@
 use Rattle.std.specs.Prelude.{ℕ, ◌/◌}
 
 -- the collector for which an item with this word waits
-abbrev pub collector_of : ℕ → ℕ
-collector_of word = word / 16
+abbrev pub collector_named : ℕ → ℕ
+collector_named word = word / 16

@@ -14,7 +14,7 @@ ghost use Rattle.sdd_views.specs.declared.CellKind.TheVariants.{Owned as for_own
 ghost use Rattle.sdd_domain_invariant.specs.CellSteps.{ClaimsCell, FillsBare, LooksInCell, RetagsOne, SwapsBare, SeesInCell, OfCell, FindsPointer, OfPointer, rightless, rights_of, righted};
 ghost use Rattle.sdd_atomics.specs.Cells.{SwapsPledged, ExchangesPledged, FreesOwn, FreesOwnBare, RecallsCell, FindsRight};
 ghost use Rattle.sdd_atomics.specs.Clones.{AddsPledged};
-ghost use Rattle.sdd_atomics.specs.Emptying.{collector_of};
+ghost use Rattle.sdd_atomics.specs.Emptying.{collector_named};
 ghost use Rattle.sdd_atomics.specs.Collectors.{ClosesOwn, LeavesWaiting, CollectsBy};
 ghost use Rattle.sdd_atomics.specs.DomainSeat.{Sits, Told, HousesMoved, WatchesOwned, RecallsOwned};
 
@@ -188,7 +188,7 @@ impl Play<ValueFraction, View> for GiveBack {
 pub struct ReclaimPrivate;
 
 impl Play<ValueFraction, View> for ReclaimPrivate {
-    ghost then = { λ step. OfSlot (ReclaimsOne (collector_of step.first)) step.word };
+    ghost then = { λ step. OfSlot (ReclaimsOne (collector_named step.first)) step.word };
 }
 
 pub struct TakePrivate;
@@ -224,7 +224,7 @@ impl GhostUpdate<ValueFraction, View> for EndClose {
 pub struct ClaimPrivate;
 
 impl Play<ValueFraction, View> for ClaimPrivate {
-    ghost then = { λ step. OfSlot (EmptiesOne (collector_of step.first)) step.word };
+    ghost then = { λ step. OfSlot (EmptiesOne (collector_named step.first)) step.word };
 }
 
 pub struct LeaveToClose;
