@@ -134,7 +134,8 @@ module _ (γ : ℕ) (sizes : Sizes) (slots id : ℕ) (me : SeatState) (same : me
   pub may_free : me.0.slots.owns ≡ [] → me.0.slots.holds ≡ None → me.0.slots.closes ≡ None → me.0.slots.drawn ≡ [] → me.0.stakes.owns ≡ [] → (shared : Bool)
       → me.0.cells.rights ≡ record { cell = cell; kind = cell_kind shared } ∷ [] → May (λ _. 0) (FreesOwn i me)
   may_free owns loose idle drawn none shared mine = as_known (λ _. 0) (λ j. FreesOwn j me) (λ s h long at small.
-      let a = cells.frees slots id me live rests cell within owns loose idle drawn shared (λ r has. has_none r me.0.stakes.owns none has) mine s h long at small in (
+      let a = cells.frees slots id me live rests cell within owns loose idle drawn shared (λ r has. has_none r me.0.stakes.owns none has) mine s h long at small
+      in (
         a.0,
         a.1,
         a.2,
@@ -144,10 +145,11 @@ module _ (γ : ℕ) (sizes : Sizes) (slots id : ℕ) (me : SeatState) (same : me
             (a.4 other where_is),
       ))
 
-  pub may_free_bare : me.0.slots.owns ≡ [] → me.0.slots.holds ≡ None → me.0.slots.closes ≡ None → me.0.slots.drawn ≡ [] → me.0.stakes.owns ≡ [] → (kind : CellKind) → IsBare kind
-      → me.0.cells.rights ≡ record { cell = cell; kind = kind } ∷ [] → May (λ _. 0) (FreesOwnBare i me)
+  pub may_free_bare : me.0.slots.owns ≡ [] → me.0.slots.holds ≡ None → me.0.slots.closes ≡ None → me.0.slots.drawn ≡ [] → me.0.stakes.owns ≡ []
+      → (kind : CellKind) → IsBare kind → me.0.cells.rights ≡ record { cell = cell; kind = kind } ∷ [] → May (λ _. 0) (FreesOwnBare i me)
   may_free_bare owns loose idle drawn none kind bare mine = as_known (λ _. 0) (λ j. FreesOwnBare j me) (λ s h long at small.
-      let a = cells.frees_bare slots id me live rests cell within owns loose idle drawn kind bare (λ r has. has_none r me.0.stakes.owns none has) mine s h long at small in (
+      let a = cells.frees_bare slots id me live rests cell within owns loose idle drawn kind bare (λ r has. has_none r me.0.stakes.owns none has) mine s h long
+      at small in (
         a.0,
         a.1,
         a.2,

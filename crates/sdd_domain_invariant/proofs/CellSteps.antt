@@ -619,7 +619,8 @@ module _ (slots id : ℕ) (me : SeatState) (live : HasPlace me.0.epoch) (rests :
           cells_stay : (base : View) → base.cells ≡ v.cells → closer_of base ≡ closer_of v
               → CellsInvariant sizes (after s h y) (set s.views id (record base { cells = v.cells }))
           cells_stay base same closer = cells_swapped s h at y owns loose undrawn shared given (record base { cells = v.cells }) refl closer more p.seat
-              (beside (cell_kind shared) p own is s h at).owner (beside (cell_kind shared) p own is s h at).there (beside (cell_kind shared) p own is s h at).has
+              (beside (cell_kind shared) p own is s h at).owner (beside (cell_kind shared) p own is s h at).there
+              (beside (cell_kind shared) p own is s h at).has
 
         pub swaps : May i (λ _. y) (OfCell (SwapsOne y shared) i me)
         swaps = let told : ℕ → SeatState → Type 0 = OfCell (SwapsOne y shared) i me in
@@ -720,7 +721,8 @@ module _ (slots id : ℕ) (me : SeatState) (live : HasPlace me.0.epoch) (rests :
           (at_once (FillsBare y shared) x (now, me.1) (refl, empty, c.1))))
 
     -- the cell is free again, of which it has the right
-    pub frees : v.slots.owns ≡ [] → v.slots.holds ≡ None → v.slots.closes ≡ None → v.slots.drawn ≡ [] → (shared : Bool) → ((r : ShownValue) → ¬ (HasRecord v.stakes.owns r))
+    pub frees : v.slots.owns ≡ [] → v.slots.holds ≡ None → v.slots.closes ≡ None → v.slots.drawn ≡ [] → (shared : Bool)
+        → ((r : ShownValue) → ¬ (HasRecord v.stakes.owns r))
         → v.cells.rights ≡ record { cell = cell; kind = cell_kind shared } ∷ [] → May i (λ _. 0) (OfCell (FreesCell shared) i me)
     frees owns loose idle undrawn shared none mine = let told : ℕ → SeatState → Type 0 = OfCell (FreesCell shared) i me in
         let right : CellRight = record { cell = cell; kind = cell_kind shared } in

@@ -178,8 +178,8 @@ module _ (sizes : Sizes) (ws : List ℕ) (vs : List View) (part : CellsInvariant
 
     -- as long as it closes what it closed, and has the rights that it had
     pub still_closes : w.cells ≡ v.cells → closer_of w ≡ closer_of v → (k : ℕ) → Closes w k → MayClose w k
-    still_closes rights closer k shuts = let o = part.closing id k v at (sym (ap (λ (c : Sizes × Option ℕ). c.1) closer) ∙ shuts) in let o0 = o.0 in let o1 = o.1 in
-        let e = ap (λ (c : CellsView). total (is_right k) c.rights) rights in
+    still_closes rights closer k shuts = let o = part.closing id k v at (sym (ap (λ (c : Sizes × Option ℕ). c.1) closer) ∙ shuts) in let o0 = o.0 in
+        let o1 = o.1 in let e = ap (λ (c : CellsView). total (is_right k) c.rights) rights in
         let e' = ap (λ (c : Sizes × Option ℕ). c.0.participants) closer in (omega arith, omega arith)
 
     -- it has the rights that it had

@@ -2,7 +2,7 @@
 -- to its close, and its slot given back.
 use Rattle.std.proofs.Common.{◌≡◌, ◌≢◌, ◌⊎◌, inl, inr, ℕ, ◌<◌, ◌≤◌, Bool, false, eqb, List, [], ◌∷◌, length, get_or, set, sym, refl, ap, ◌∙◌, subst, ⊎_elim, arith}
 use Rattle.std.specs.Prelude.{Option, Some, None}
-use mathlib.Core.Option.{some}
+use mathlib.Core.Option.{some, some-injective}
 use mathlib.Core.Logic.{dite}
 use native.Mathlib.Decide.{ℕ_discrete, dec_lt}
 use lib.ListN.{get_elem?}
@@ -24,13 +24,14 @@ use Rattle.sdd_views.specs.contracts.View.{the_row}
 use Rattle.sdd_views.specs.Views.{right_to}
 use Rattle.sdd_word_invariant.specs.Words.{slot_word, words_behind}
 use Rattle.sdd_word_invariant.specs.Codes.{codes, alive, waiting, valued, private, emptying, shared_base, free_word, private_word, emptying_word, emptied_word, left_word, raw_word}
-use Rattle.sdd_word_invariant.specs.Collectors.{Closes, FoundEmptied}
+use Rattle.sdd_word_invariant.specs.Collectors.{private_in, Closes, FoundEmptied}
 use Rattle.sdd_word_invariant.specs.CollectorSteps.{closing, closed_none, collected, left_to_close, private_given_back, found_emptied, WaitsFor, IsDuePrivately, HasWaiting, Collects, LeavesToClose, GivesPrivateBack, EmptiesSlot}
 use Rattle.sdd_word_invariant.specs.Epoch.{HasPlace}
 use Rattle.sdd_word_invariant.specs.Slots.{slot_at, waits_in, items_at, Owns}
 use Rattle.sdd_word_invariant.specs.SlotSteps.{noted, AtSlot}
 use Rattle.sdd_word_invariant.specs.WordInvariant.{epoch_of, Parts}
 use Rattle.sdd_word_invariant.proofs.Codes.{sound, private_is, emptied_is, emptying_is, left_is, free_is}
+use Rattle.sdd_word_invariant.proofs.Collectors.{privates_in}
 use Rattle.sdd_word_invariant.proofs.CollectorSteps as words
 use Rattle.sdd_word_invariant.proofs.Frame.{each_set}
 use Rattle.sdd_word_invariant.proofs.Owning.{item_gone, item_kept}
@@ -197,7 +198,8 @@ module _ (slots id : ℕ) (me : SeatState) (live : HasPlace me.0.epoch) where
       module _ (f : ℕ → ℕ) (privates : List PrivateItem) (emptied : List ℕ) (empties : Option ℕ) (left : Bool) where
         -- where a slot without owners has another word, and is as full as before
         rewritten : (y : ℕ) → alive (slot_at sizes s.words slot) ≡ 0 → alive y ≡ 0 → valued y ≡ valued (slot_at sizes s.words slot) → y ≢ raw_word 0
-            → (HidesItem y → HidesItem (slot_at sizes s.words slot)) → IsCalm γ sizes slots id me i f s y (record (knowing privates emptied empties left) { words = noted slot y v })
+            → (HidesItem y → HidesItem (slot_at sizes s.words slot))
+            → IsCalm γ sizes slots id me i f s y (record (knowing privates emptied empties left) { words = noted slot y v })
         rewritten y dead none same apart hid = let w : View = record (knowing privates emptied empties left) { words = noted slot y v } in record {
           more = λ j p out. out;
           same = as_before y same;
@@ -208,7 +210,8 @@ module _ (slots id : ℕ) (me : SeatState) (live : HasPlace me.0.epoch) where
           had = λ _ l. inl l;
           stored = stored_hid sizes s.words slot y (steps.within slots id me live slot inside s h) apart hid
               (λ c. absurd (steps.in_no_cell slots id me live slot inside s h dead c));
-          kinds = kinds_then y dead none w (steps.wrote_long slots id me live slot inside s h at y) rests refl refl (steps.post slots id me live s h at w refl refl refl refl (λ l. l));
+          kinds = kinds_then y dead none w (steps.wrote_long slots id me live slot inside s h at y) rests refl refl
+              (steps.post slots id me live s h at w refl refl refl refl (λ l. l));
         }
 
         -- where no word changes
@@ -245,6 +248,18 @@ module _ (slots id : ℕ) (me : SeatState) (live : HasPlace me.0.epoch) where
         (λ _. let one = ap private hit ∙ is.3 in (omega arith, ap valued hit ∙ waits.1))))
         (λ miss. subst (IsCalm γ sizes slots id me i f s x) (sym (c.1 miss))
         (looked_at s h at f v.slots.privates v.slots.emptied v.slots.empties v.slots.left)))
+
+    -- what it has of a slot waits for one collector
+    pub one_collector : (s : State ValueFraction View) → DomainInvariant γ sizes s → get_elem? s.views id ≡ some v → (a b : ℕ) → WaitsFor a v slot
+        → WaitsFor b v slot → a ≡ b
+    one_collector s h at a b has has' = let c = h.kept.parts.collectors in let x : PrivateItem = has.0 in let y : PrivateItem = has'.0 in
+        let there = has.1 in let there' = has'.1 in let few = privates_in codes sound sizes s.words s.views c id slot v at in
+        let one = is_same slot x.item.slot has.2 in let two = is_same slot y.item.slot has'.2 in
+        let mine = total_has (private_in slot) v.slots.privates there.0 x there.1 in
+        let single = (sound.private (slot_at sizes s.words slot) (omega arith)).0 in dite (ℕ_discrete there.0 there'.0)
+        (λ same. let is : x ≡ y = some-injective x y (sym there.1 ∙ (ap (get_elem? v.slots.privates) same ∙ there'.1)) in
+        sym has.3 ∙ (ap (λ (p : PrivateItem). p.collector) is ∙ has'.3))
+        (λ ne. absurd (let both = total_two (private_in slot) v.slots.privates there.0 there'.0 x y ne there.1 there'.1 in omega arith))
 
     -- a private item is left to the close that empties it
     pub leaves_to_close : (collector : ℕ) → WaitsFor collector v slot → private_word collector < shared_base
@@ -323,7 +338,8 @@ module _ (slots id : ℕ) (me : SeatState) (live : HasPlace me.0.epoch) where
           (λ s w h at t. let c = t slot refl in let x : WaitingItem = c.0 in let now : View = forgetting slot (collected slot collector x y v) in
           let r = h.records in let mine = records.mine sizes s.views s.homes r id v at in
           let waits : 0 < waiting (slot_at sizes s.words slot)
-          = subst (λ (d : ℕ). 0 < waiting (slot_at sizes s.words d)) c.1.0 (waiter_in codes sound sizes s.words s.views h.kept.parts.slots id c.1.1.0 v x at c.1.1.1) in
+          = subst (λ (d : ℕ). 0 < waiting (slot_at sizes s.words d)) c.1.0
+          (waiter_in codes sound sizes s.words s.views h.kept.parts.slots id c.1.1.0 v x at c.1.1.1) in
           let dead : alive (slot_at sizes s.words slot) ≡ 0 = waiting_dead (slot_at sizes s.words slot) waits in
           let same = as_before s h at y (will.1 ∙ sym (sound.waits (slot_at sizes s.words slot) waits).2) in
           let outside = steps.in_no_cell slots id me live slot inside s h dead in
@@ -347,12 +363,15 @@ module _ (slots id : ℕ) (me : SeatState) (live : HasPlace me.0.epoch) where
                 (λ j other near is. inl (dite (ℕ_discrete j slot)
                 (λ e. subst (λ (k : ℕ). IsStored sizes s.words k other) (sym e)
                 (stored_by sizes s.words (set s.words i y) (cells_slot sizes s.words slot y) slot other
-                (λ raw. absurd (let d = sym (steps.here slots id me live slot inside s.words y (steps.within slots id me live slot inside s h)) ∙ raw in omega arith))
+                (λ raw. absurd (let d = sym (steps.here slots id me live slot inside s.words y (steps.within slots id me live slot inside s h)) ∙ raw in
+                omega arith))
                 (λ d. absurd (outside d)) (subst (λ (k : ℕ). IsStored sizes (set s.words i y) k other) e is)))
                 (λ ne. (stored_other sizes s.words slot y j near ne).0 other is)))
                 (λ j near is. dite (ℕ_discrete j slot)
                 (λ e. let b = known s h at x c.1 in inr (b.0, subst (λ (k : ℕ). AllKnow sizes s.words s.views s.homes h.lasts id v at k b.0) (sym e) b.1))
                 (λ ne. inl ((stored_other sizes s.words slot y j near ne).1 is)));
-            kinds = kinds_then s h at y dead code.0 now (steps.wrote_long slots id me live slot inside s h at y) rests refl refl (steps.post slots id me live s h at now refl refl refl refl (λ l. l));
-            tells = steps.at_once slots id me live slot inside (CollectsOne collector) y (now, me.1) (collected slot collector x y v, (x, c.1, refl), refl, refl);
+            kinds = kinds_then s h at y dead code.0 now (steps.wrote_long slots id me live slot inside s h at y) rests refl refl
+                (steps.post slots id me live s h at now refl refl refl refl (λ l. l));
+            tells = steps.at_once slots id me live slot inside (CollectsOne collector) y (now, me.1)
+                (collected slot collector x y v, (x, c.1, refl), refl, refl);
           })

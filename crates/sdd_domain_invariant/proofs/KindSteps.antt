@@ -311,8 +311,8 @@ module _ (sizes : Sizes) (ws : List ℕ) (vs : List View) (k : KindsInvariant si
     }
 
     -- on no word, where it has no pledge and its own view isn't pledged: it may lose what it knows of owners
-    pub spends : (w : View) → KnowsKinds sizes ws w → w.sizes ≡ v.sizes → marks_of w ≡ marks_of v → (HasPlace v.epoch → HasPlace w.epoch) ⊎ (v.slots.over ≡ None)
-        → w.cells ≡ v.cells → PledgesInvariant (set vs id w) → KindsInvariant sizes ws (set vs id w)
+    pub spends : (w : View) → KnowsKinds sizes ws w → w.sizes ≡ v.sizes → marks_of w ≡ marks_of v
+        → (HasPlace v.epoch → HasPlace w.epoch) ⊎ (v.slots.over ≡ None) → w.cells ≡ v.cells → PledgesInvariant (set vs id w) → KindsInvariant sizes ws (set vs id w)
     spends w mine of marked lives rights pledges = record {
       each = each_set (KnowsKinds sizes ws) (KnowsKinds sizes ws) vs id w mine (λ j u _ e. k.each j u e);
       bound = bound_kept sizes ws vs k.bound id v at ws w (λ i c. inr (c, (omega arith))) (ap (λ (m : Option ℕ × Option ℕ). m.0) marked)
