@@ -8,3 +8,4 @@ pub mod Ending
 pub mod Lasts
 pub mod JobsAllowed
 pub mod EmptyingAllowed
+pub mod CollectorsAllowed

@@ -7,3 +7,4 @@ pub mod Grips
 pub mod Clones
 pub mod Cells
 pub mod Emptying
+pub mod Collectors

@@ -307,18 +307,18 @@ module _ (sizes : Sizes) (ws : List ℕ) (vs : List View) (k : KindsInvariant si
           (λ j u apart e. knows_still sizes ws ws' u (k.each j u e) (tells j u e) (others j u apart e));
       bound = bound_kept sizes ws vs k.bound id v at ws' w within (ap (λ (m : Option ℕ × Option ℕ). m.0) post.marks) post.place;
       pledges = pledges_kept vs k.pledges id v w at post;
-      cells = cells_kept sizes ws vs k.cells id v w at ws' same kinds post.cells (λ d. (post.sizes d, (post.marks d).1));
+      cells = cells_kept sizes ws vs k.cells id v w at ws' same kinds post.cells (λ d. (post.marks d).1);
     }
 
     -- on no word, where it has no pledge and its own view isn't pledged: it may lose what it knows of owners
-    pub spends : (w : View) → KnowsKinds sizes ws w → w.sizes ≡ v.sizes → marks_of w ≡ marks_of v → (HasPlace v.epoch → HasPlace w.epoch) ⊎ (v.slots.over ≡ None)
-        → w.cells ≡ v.cells → PledgesInvariant (set vs id w) → KindsInvariant sizes ws (set vs id w)
+    pub spends : (w : View) → KnowsKinds sizes ws w → w.sizes ≡ v.sizes → marks_of w ≡ marks_of v
+        → (HasPlace v.epoch → HasPlace w.epoch) ⊎ (v.slots.over ≡ None) → w.cells ≡ v.cells → PledgesInvariant (set vs id w) → KindsInvariant sizes ws (set vs id w)
     spends w mine of marked lives rights pledges = record {
       each = each_set (KnowsKinds sizes ws) (KnowsKinds sizes ws) vs id w mine (λ j u _ e. k.each j u e);
       bound = bound_kept sizes ws vs k.bound id v at ws w (λ i c. inr (c, (omega arith))) (ap (λ (m : Option ℕ × Option ℕ). m.0) marked)
           lives;
       pledges = pledges;
-      cells = cells_kept sizes ws vs k.cells id v w at ws (no_change sizes ws).cells (λ _ _. refl) rights (λ d. (of d, (marked d).1));
+      cells = cells_kept sizes ws vs k.cells id v w at ws (no_change sizes ws).cells (λ _ _. refl) rights (λ d. (marked d).1);
     }
 
     -- the words of slots and cells stay
