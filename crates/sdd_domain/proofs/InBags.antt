@@ -1,15 +1,14 @@
 -- What is in the bags and what is due, beside what is known to wait, over each step on what waits
-use Rattle.std.proofs.Common.{◌≡◌, ◌≢◌, ◌⊎◌, ℕ, ◌+◌, ◌<◌, ◌≤◌, ◌==◌, not, List, [], ◌∷◌, ◌++◌, map, filter, length, sym, refl, ap, ◌∙◌, subst, inl, inr, ⊎_elim, eq-eqb, ne_eqb, arith}
+use Rattle.std.proofs.Common.{◌≡◌, ◌≢◌, ℕ, ◌+◌, ◌<◌, ◌≤◌, ◌==◌, not, List, [], ◌∷◌, ◌++◌, map, filter, length, sym, refl, ap, ◌∙◌, subst, eq-eqb, ne_eqb, arith}
 use Rattle.std.proofs.lemmas.List.{length-map}
 use mathlib.Core.Bool.{Bool, true, false, cond}
 use mathlib.Core.Option.{some}
 use mathlib.Core.Logic.{dite}
 use native.Mathlib.Decide.{ℕ_discrete, dec_lt}
 use lib.ListN.{get_elem?}
-use Rattle.std.specs.Prelude.{nat_lt}
 use Rattle.sdd_participants.specs.Collecting.{rest_of}
 use Rattle.sdd_participants.specs.declared.waiting.LimboEntry.{LimboEntry}
-use Rattle.sdd_participants.specs.declared.waiting.LimboEntry.TheVariants.{Item, Job}
+use Rattle.sdd_participants.specs.declared.waiting.LimboEntry.TheVariants.{Item}
 use Rattle.sdd_participants.specs.Waiting.{Waiting, aged, left, having_seen}
 use Rattle.sdd_participants.specs.Waiting.{due as due_of}
 use Rattle.sdd_views.specs.declared.PrivateItem.{PrivateItem}
@@ -19,12 +18,12 @@ use Rattle.sdd_word_invariant.specs.CollectorSteps.{for_collector, without_priva
 use Rattle.sdd_word_invariant.specs.Slots.{waits_in}
 use Rattle.sdd_word_invariant.specs.SlotSteps.{older, older_private, without_item}
 use Rattle.sdd_word_invariant.specs.Sums.{total, times}
-use Rattle.sdd_word_invariant.proofs.Sums.{is_same, is_other, total_gone, total_has, total_kept, total_map, total_snoc, total_some, total_two}
+use Rattle.sdd_word_invariant.proofs.Sums.{is_same, is_other, total_has, total_map, total_snoc, total_some}
 use Rattle.sdd_word_invariant.proofs.Waits.{few}
-use Rattle.sdd_domain.specs.InBags.{Kept, Plainly, Privately, AreInBags, AreSame, KnownWaiting, item_of, plain_of, private_of}
+use Rattle.sdd_domain.specs.InBags.{Plainly, AreInBags, KnownWaiting, item_of, plain_of, private_of}
 use Rattle.sdd_domain.specs.WaitingItems.{what_of, number_in, waiting_of, is_ripe, ripe, unripe}
 use Rattle.sdd_domain.proofs.KeptLists.{total_fewer, total_le, some_part, total_of_one, filter_alike, filter_both, filter_mapped, filter_true, same_snoc, same_filter, same_map, plain_snoc, private_snoc, items_snoc, older_kept, plain_older, private_older, items_older, left_kept, plain_left, private_left, items_left, counts, kept_for, items_for, plain_for, private_for, kept_plainly, items_plainly, private_plainly, plain_plainly}
-use Rattle.sdd_domain.proofs.Reclaims.{aged_alike, left_alike, due_alike, all_left, either_way, first_is_due, first_goes, item_inside, number_of, what_item, what_job}
+use Rattle.sdd_domain.proofs.Reclaims.{aged_alike, left_alike, due_alike, all_left, first_is_due, first_goes, item_inside, what_item}
 use Rattle.sdd_domain.proofs.Ripe.{fewer_unripe, ripe_snoc, unripe_too}
 
 -- where nothing waits at all
@@ -123,7 +122,8 @@ module _ (n : ℕ) (known : KnownWaiting) (waiting : List Waiting) (taken : List
         bags = ap left bags ∙ (left_alike n (map older items) ∙ ap (λ (l : List WaitingItem). map (waiting_of n) (unripe l)) (sym (items_older t.all)));
         due = ap due_of bags ∙ (due_alike n (map older items) ∙ ap (λ (l : List WaitingItem). map (what_of n) (ripe l)) (sym (items_older t.all)));
         items = λ i high. total_map (private_in i) older_private (λ x. refl) known.private ∙ t.items i high;
-        once = λ i. let s = ap (total (waits_in i)) (items_older t.all) in let m = total_map (waits_in i) older (λ x. refl) items in let o = t.once i in omega arith;
+        once = λ i. let s = ap (total (waits_in i)) (items_older t.all) in let m = total_map (waits_in i) older (λ x. refl) items in let o = t.once i in
+            omega arith;
       }
 
   -- ---- what is due first
@@ -216,7 +216,8 @@ module _ (n : ℕ) (known : KnownWaiting) (waiting : List Waiting) (taken : List
         ∙ ap (total f) (sym (private_plainly slot t.all));
     bags = t.bags ∙ ap (λ (l : List WaitingItem). map (waiting_of n) (unripe l)) (sym (items_plainly slot t.all));
     due = t.due ∙ ap (λ (l : List WaitingItem). map (what_of n) (ripe l)) (sym (items_plainly slot t.all));
-    items = λ i high. let m = total_fewer (λ (p : PrivateItem). not (p.item.slot == slot)) (private_in i) known.private in let z = t.items i high in omega arith;
+    items = λ i high. let m = total_fewer (λ (p : PrivateItem). not (p.item.slot == slot)) (private_in i) known.private in let z = t.items i high in
+        omega arith;
     once = λ i. let s = ap (total (waits_in i)) (items_plainly slot t.all) in let o = t.once i in omega arith;
   }
 
@@ -261,7 +262,8 @@ module _ (n : ℕ) (known : KnownWaiting) (waiting : List Waiting) (taken : List
     chosen_out = record {
       all = left_kept stays t.all;
       plain = λ f. same_filter stays known.plain (plain_of t.all) t.plain f ∙ ap (total f) (sym (plain_left stays t.all));
-      private = λ f. same_filter (λ (x : PrivateItem). stays x.item) known.private (private_of t.all) t.private f ∙ ap (total f) (sym (private_left stays t.all));
+      private = λ f. same_filter (λ (x : PrivateItem). stays x.item) known.private (private_of t.all) t.private f
+          ∙ ap (total f) (sym (private_left stays t.all));
       bags = ap (rest_of chosen) t.bags ∙ (filter_mapped (waiting_of n) (λ (w : Waiting). not (chosen w.what)) (unripe items)
           ∙ ap (map (waiting_of n)) (filter_both stays (λ (x : WaitingItem). not (is_ripe x)) items ∙ ap unripe (sym (items_left stays t.all))));
       due = ap (filter is_left) t.due ∙ (filter_mapped (what_of n) is_left (ripe items)
@@ -274,7 +276,7 @@ module _ (n : ℕ) (known : KnownWaiting) (waiting : List Waiting) (taken : List
     pub collector_out : (c : ℕ) → ((k : ℕ) (x : WaitingItem) → get_elem? known.plain k ≡ some x → chosen (what_of n x) ≡ false)
         → ((k : ℕ) (x : PrivateItem) → get_elem? known.private k ≡ some x → chosen (Item x.item.slot) ≡ (x.collector == c))
         → AreInBags n (record { plain = known.plain; private = filter (λ (x : PrivateItem). not (x.collector == c)) known.private })
-            (rest_of chosen waiting) (filter (λ (w : LimboEntry). not (chosen w)) taken)
+        (rest_of chosen waiting) (filter (λ (w : LimboEntry). not (chosen w)) taken)
     collector_out c none those = subst (λ (z : KnownWaiting). AreInBags n z (rest_of chosen waiting) (filter (λ (w : LimboEntry). not (chosen w)) taken))
         (λ d. record {
           plain = (filter_alike stays (λ (x : WaitingItem). true) known.plain (λ k x at. ap not (none k x at)) ∙ filter_true known.plain) d;
