@@ -12,13 +12,14 @@ use Rattle.sdd_views.specs.declared.Sizes.{Sizes}
 use Rattle.sdd_word_invariant.specs.Words.{slot_word}
 use Rattle.sdd_word_invariant.specs.Codes.{free_word, waiting_word, private_word, emptying_word, emptied_word}
 use Rattle.sdd_word_invariant.specs.Epoch.{HasPlace}
-use Rattle.sdd_word_invariant.specs.Collectors.{Empties}
+use Rattle.sdd_views.specs.declared.PrivateItem.{PrivateItem}
+use Rattle.sdd_word_invariant.specs.Collectors.{Empties, HasPrivate}
 use Rattle.sdd_word_invariant.specs.CollectorSteps.{WaitsFor}
 use Rattle.sdd_domain_invariant.specs.BankInvariant.{IsBank, banked}
 use Rattle.sdd_domain_invariant.specs.FractionsAtHome.{CarriedFractions, Moves}
 use Rattle.sdd_domain_invariant.specs.DomainInvariant.{DomainInvariant}
 use Rattle.sdd_domain_invariant.specs.FractionSteps.{SeatState, CarriesAll, IsDeposit, OfSlot}
-use Rattle.sdd_domain_invariant.specs.CollectorSteps.{ReclaimsOne, TakesPrivate, EmptiedOne, GivesOneEmptyBack}
+use Rattle.sdd_domain_invariant.specs.CollectorSteps.{ReclaimsOne, TakesPrivate, EmptiedOne, GivesOneEmptyBack, GivesOneOwnBack}
 use Rattle.sdd_domain_invariant.proofs.EmptyingSteps as steps
 use Rattle.sdd_atomics.specs.DomainSeat.{Moved}
 use Rattle.sdd_atomics.specs.Emptying.{collector_named}
@@ -76,3 +77,8 @@ module _ (γ : ℕ) (sizes : Sizes) (slots id : ℕ) (me : SeatState) (same : me
       pub may_give_empty_back : me.0.slots.left ≡ true → May (λ _. free_word 0) (λ _. OfSlot GivesOneEmptyBack i me (free_word 0))
       may_give_empty_back late = at_slot (λ _. free_word 0) (λ j _. OfSlot GivesOneEmptyBack j me (free_word 0))
           (steps.gives_empty_back slots id me live slot within moved mine rest row_known late)
+
+      pub may_give_own_back : (item : PrivateItem) → HasPrivate me.0 item → item.item.slot ≡ slot
+          → May (λ _. free_word 0) (λ _. OfSlot GivesOneOwnBack i me (free_word 0))
+      may_give_own_back item has of = at_slot (λ _. free_word 0) (λ j _. OfSlot GivesOneOwnBack j me (free_word 0))
+          (steps.gives_own_back slots id me live slot within moved mine rest row_known item has of)

@@ -8,14 +8,14 @@ ghost use Rattle.sdd_views.specs.Views.{owner_token};
 ghost use Rattle.sdd_domain_invariant.specs.BankInvariant.{founded, bank_of, with_ledger, ledger_of};
 ghost use Rattle.sdd_domain_invariant.specs.FractionSteps.{ClaimsAll, TakesOut, TakesHeld, IsDeposit, RetiresOne, GivesAll, DefersJob, GivesPlace, DiscardsAll, ClosesHome, EndsAll, EntersUnit, OfSlot, parting, departing, regained, uncounting, counts_of, counting, ReleasesOne, LeavesOne, TakesOneBack, DrawsUnit, AddsSeen};
 ghost use Rattle.sdd_word_invariant.specs.Codes.{raw_word};
-ghost use Rattle.sdd_domain_invariant.specs.CollectorSteps.{ReclaimsOne, TakesPrivate, EmptiedOne, GivesOneEmptyBack, EmptiesOne, GivesOnePrivateBack, ClosesNone};
+ghost use Rattle.sdd_domain_invariant.specs.CollectorSteps.{ReclaimsOne, TakesPrivate, EmptiedOne, GivesOneEmptyBack, GivesOneOwnBack, EmptiesOne, EmptiesOwnOne, GivesOnePrivateBack};
 ghost use Rattle.sdd_domain_invariant.specs.RawSteps.{TurnsRawOne, RegainsOne, SeesRawOne};
-ghost use Rattle.sdd_views.specs.declared.CellKind.TheVariants.{Owned as for_owned, Shared as for_shared, Raw as for_raw, Collector as for_collector};
+ghost use Rattle.sdd_views.specs.declared.CellKind.TheVariants.{Owned as for_owned, Shared as for_shared, Raw as for_raw};
 ghost use Rattle.sdd_domain_invariant.specs.CellSteps.{ClaimsCell, FillsBare, LooksInCell, RetagsOne, SwapsBare, SeesInCell, OfCell, FindsPointer, OfPointer, rightless, rights_of, righted};
 ghost use Rattle.sdd_atomics.specs.Cells.{SwapsPledged, ExchangesPledged, FreesOwn, FreesOwnBare, RecallsCell, FindsRight};
 ghost use Rattle.sdd_atomics.specs.Clones.{AddsPledged};
 ghost use Rattle.sdd_atomics.specs.Emptying.{collector_named};
-ghost use Rattle.sdd_atomics.specs.Collectors.{ClosesOwn, LeavesWaiting, CollectsBy};
+ghost use Rattle.sdd_atomics.specs.Collectors.{ClosesOwn, EndsOwn, LeavesWaiting, CollectsBy};
 ghost use Rattle.sdd_atomics.specs.DomainSeat.{Sits, Told, HousesMoved, WatchesOwned, RecallsOwned};
 
 use atomic_table::{Join, Play, Split};
@@ -209,6 +209,12 @@ impl Play<ValueFraction, View> for GiveEmptyBack {
     ghost then = { λ step. OfSlot GivesOneEmptyBack step.word };
 }
 
+pub struct GiveOwnBack;
+
+impl Play<ValueFraction, View> for GiveOwnBack {
+    ghost then = { λ step. OfSlot GivesOneOwnBack step.word };
+}
+
 pub struct BeginClose;
 
 impl GhostUpdate<ValueFraction, View> for BeginClose {
@@ -218,13 +224,19 @@ impl GhostUpdate<ValueFraction, View> for BeginClose {
 pub struct EndClose;
 
 impl GhostUpdate<ValueFraction, View> for EndClose {
-    ghost then = { ClosesNone };
+    ghost then = { EndsOwn };
 }
 
 pub struct ClaimPrivate;
 
 impl Play<ValueFraction, View> for ClaimPrivate {
     ghost then = { λ step. OfSlot (EmptiesOne (collector_named step.first)) step.word };
+}
+
+pub struct ClaimOwnPrivate;
+
+impl Play<ValueFraction, View> for ClaimOwnPrivate {
+    ghost then = { λ step. OfSlot (EmptiesOwnOne (collector_named step.first)) step.word };
 }
 
 pub struct LeaveToClose;
@@ -357,12 +369,6 @@ pub struct ClaimForRaw;
 
 impl Play<ValueFraction, View> for ClaimForRaw {
     ghost then = { λ step. OfCell (ClaimsCell step.second for_raw) step.word };
-}
-
-pub struct ClaimForCollector;
-
-impl Play<ValueFraction, View> for ClaimForCollector {
-    ghost then = { λ step. OfCell (ClaimsCell step.second for_collector) step.word };
 }
 
 pub struct FillForOwned;

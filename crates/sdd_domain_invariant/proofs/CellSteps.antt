@@ -1,6 +1,6 @@
 -- The steps on cells keep the whole invariant.
 use Rattle.std.proofs.Common.{◌≡◌, ◌≢◌, ◌⊎◌, inl, inr, ℕ, ◌+◌, ◌<◌, ◌≤◌, Bool, true, false, eqb, List, [], ◌∷◌, length, get_or, set, sym, refl, ap, ◌∙◌, subst, ⊎_elim, arith, length-set, get_or-set_other, get_or-set_same}
-use Rattle.std.specs.Prelude.{Option, Some, None}
+use Rattle.std.specs.Prelude.{Some, None}
 use mathlib.Core.Option.{none as absent, some}
 use mathlib.Core.Logic.{dite}
 use native.Mathlib.Decide.{ℕ_discrete, dec_lt}
@@ -38,7 +38,7 @@ use Rattle.sdd_word_invariant.proofs.Frame.{each_set}
 use Rattle.sdd_word_invariant.proofs.Sums.{is_same, is_other, total_set, total_has, total_two}
 use Rattle.sdd_domain_invariant.specs.FractionsAtHome.{stake_at, full_at, Has, Moves, FractionsInvariant}
 use Rattle.sdd_domain_invariant.specs.BankInvariant.{one_where}
-use Rattle.sdd_domain_invariant.specs.CellsInvariant.{cell_at, IsInCell, is_right, rights_at, HasRight, IsWordOf, IsTaken, HavePointers, MayClose, CellsInvariant}
+use Rattle.sdd_domain_invariant.specs.CellsInvariant.{cell_at, IsInCell, is_right, rights_at, HasRight, IsWordOf, IsTaken, HavePointers, closes_by, is_closing_right, CellsInvariant}
 use Rattle.sdd_domain_invariant.specs.Records.{IsIn, IsKnown, IsTelling}
 use Rattle.sdd_domain_invariant.specs.FilledInvariant.{newest, HasRecord}
 use Rattle.sdd_domain_invariant.specs.LastFractions.{IsRaw, IsStored, HidesItem, LastIs}
@@ -50,7 +50,7 @@ use Rattle.sdd_domain_invariant.specs.CellSteps.{put_in, brought_out, KnewStored
 use Rattle.sdd_domain_invariant.proofs.Part.{none_out, only_seen, one_taken}
 use Rattle.sdd_domain_invariant.proofs.Part as part
 use Rattle.sdd_domain_invariant.proofs.Banks as banks
-use Rattle.sdd_domain_invariant.proofs.Cells.{in_cell_alive, in_cell_beside, one_right, no_right, closer_of, none_closed, closers, still_closes, cell_is_free, first_or, one_flag, words_same}
+use Rattle.sdd_domain_invariant.proofs.Cells.{in_cell_alive, in_cell_beside, KeepsClosing, bare_open, owner_open, closes_alike, one_right, no_right, closers, cell_is_free, first_or, one_flag, words_same}
 use Rattle.sdd_domain_invariant.proofs.Counts.{as_full, ended_spared, uncounted}
 use Rattle.sdd_domain_invariant.proofs.Records.{in_head, in_tail, in_either, in_none, known_by, told_seen}
 use Rattle.sdd_domain_invariant.proofs.Records as records
@@ -63,7 +63,7 @@ use Rattle.sdd_domain_invariant.proofs.KindSteps as kind_steps
 use Rattle.sdd_domain_invariant.proofs.RawSteps as raws
 use Rattle.sdd_domain_invariant.proofs.Steps.{not_emptied}
 use Rattle.sdd_domain_invariant.proofs.Steps as steps
-use Rattle.sdd_word_invariant.specs.Collectors.{Closes, Empties}
+use Rattle.sdd_word_invariant.specs.Collectors.{one_in, Empties}
 use Rattle.sdd_word_invariant.proofs.Collectors.{plain_alive}
 
 -- whether a word counts its slot's owners
@@ -113,7 +113,7 @@ names_nothing : (sizes : Sizes) (ws : List ℕ) (kind : CellKind) → IsBare kin
 names_nothing sizes ws Owned bare x w i = absurd bare
 names_nothing sizes ws Shared bare x w i = absurd bare
 names_nothing sizes ws Raw bare x w i = w i
-names_nothing sizes ws Collector bare x w i = w i
+names_nothing sizes ws Collector bare x w i = absurd bare
 
 -- a word of such a kind holds no owner, and so it fits any cell
 holds_nothing : (sizes : Sizes) (ws : List ℕ) (kind : CellKind) → IsBare kind → (x : ℕ) → IsWordOf sizes ws kind x → held_slots x ≡ []
@@ -407,7 +407,7 @@ module _ (slots id : ℕ) (me : SeatState) (live : HasPlace me.0.epoch) (rests :
           cells_then : (w : View) → ((d : ℕ) → total (rights_at d) (set s.views id w) ≤ 1)
               → ((j : ℕ) (u : View) (r : CellRight) → get_elem? (set s.views id w) j ≡ some u → HasRight u r
               → ((r.cell ≢ cell) × IsTaken sizes s.words r) ⊎ ((r.cell ≡ cell) × (0 < y) × IsWordOf sizes s.words r.kind y))
-              → ((k : ℕ) → Closes w k → MayClose w k) → CellsInvariant sizes (after y) (set s.views id w)
+              → KeepsClosing v w → CellsInvariant sizes (after y) (set s.views id w)
           cells_then w single rights closing = record {
             inside = λ j c. dite (ℕ_discrete c.0 cell)
                 (λ e. let q = ap (names j) (ap (cell_at sizes (after y)) e ∙ here y) in let n' = c.2 in let named : 0 < names j y = omega arith in
@@ -437,9 +437,9 @@ module _ (slots id : ℕ) (me : SeatState) (live : HasPlace me.0.epoch) (rests :
           word_given = word_counted sizes s.words shared y told_kind
 
           -- it has the rights that it had, among which is one to this cell, or another's
-          cells_swapped : (w : View) → w.cells ≡ v.cells → closer_of w ≡ closer_of v → 0 < y → (j : ℕ) (u : View) → get_elem? s.views j ≡ some u
+          cells_swapped : (w : View) → w.cells ≡ v.cells → w.slots.closes ≡ v.slots.closes → 0 < y → (j : ℕ) (u : View) → get_elem? s.views j ≡ some u
               → HasRight u (record { cell = cell; kind = cell_kind shared }) → CellsInvariant sizes (after y) (set s.views id w)
-          cells_swapped w same closer more j u there_is has = cells_then w (λ d. let a = total_set (rights_at d) s.views id v w at in
+          cells_swapped w same closes more j u there_is has = cells_then w (λ d. let a = total_set (rights_at d) s.views id v w at in
               let e = ap (λ (c : CellsView). total (is_right d) c.rights) same in let o = h.kinds.cells.single d in omega arith)
               (λ k x r e mine. let old : (k' : ℕ) × (x' : View) × (get_elem? s.views k' ≡ some x') × HasRight x' r = ⊎_elim
               (λ (t : (k ≡ id) × (w ≡ x)). (
@@ -454,7 +454,7 @@ module _ (slots id : ℕ) (me : SeatState) (live : HasPlace me.0.epoch) (rests :
               old.3 (sym is) in
               inr (is, more, subst (λ (q : CellRight). IsWordOf sizes s.words q.kind y) one word_given))
               (λ ne. inl (ne, h.kinds.cells.taken old.0 old.1 r old.2 old.3)))
-              (still_closes sizes s.words s.views h.kinds.cells id v w at same closer)
+              (closes_alike v w same closes)
 
         -- the cell's word is y then, which names what its word did
         module _ (y : ℕ) (more : 0 < y) (alike : (j : ℕ) → names j y ≡ names j (cell_at sizes s.words cell)) (loose : v.slots.holds ≡ None) where
@@ -497,7 +497,7 @@ module _ (slots id : ℕ) (me : SeatState) (live : HasPlace me.0.epoch) (rests :
                 (λ (t : (j ≡ id) × (noted ≡ u)). h.kinds.cells.taken id v r at
                 (has.0, ap (λ (x : View). get_elem? x.cells.rights has.0) t.1 ∙ has.1))
                 (λ (t : (j ≢ id) × (get_elem? s.views j ≡ some u)). h.kinds.cells.taken j u r t.1 has) (at_set s.views id j noted u e));
-            closing = closers sizes s.words s.views h.kinds.cells id v noted at (λ d shuts. h.kinds.cells.closing id d v at shuts);
+            closing = closers sizes s.words s.views h.kinds.cells id v noted at (closes_alike v noted refl refl);
             pointers = pointers_stay y;
           }
 
@@ -586,7 +586,7 @@ module _ (slots id : ℕ) (me : SeatState) (live : HasPlace me.0.epoch) (rests :
       -- by any step that tells what came out
       comes_out : (s : State ValueFraction View) (h : DomainInvariant γ sizes s) (at : get_elem? s.views id ≡ some v) (told : ℕ → SeatState → Type 0)
           (rights : CellsView) → IsOfKind s h shared
-          → ((base : View) → base.cells ≡ v.cells → closer_of base ≡ closer_of v
+          → ((base : View) → base.cells ≡ v.cells → base.slots.closes ≡ v.slots.closes
           → CellsInvariant sizes (after s h y) (set s.views id (record base { cells = rights })))
           → ((m : SeatState) → BringsOut y shared cell me (cell_at sizes s.words cell) m → told (cell_at sizes s.words cell) (record m.0 { cells = rights }, m.1))
           → Follows γ sizes id i me told s y (coming cell (cell_at sizes s.words cell) y rights v)
@@ -616,9 +616,9 @@ module _ (slots id : ℕ) (me : SeatState) (live : HasPlace me.0.epoch) (rests :
           of_kind : IsOfKind s h shared
           of_kind = counted_word sizes s.words shared (cell_at sizes s.words cell) (of_pledge (cell_kind shared) p own is s h at).kind
 
-          cells_stay : (base : View) → base.cells ≡ v.cells → closer_of base ≡ closer_of v
+          cells_stay : (base : View) → base.cells ≡ v.cells → base.slots.closes ≡ v.slots.closes
               → CellsInvariant sizes (after s h y) (set s.views id (record base { cells = v.cells }))
-          cells_stay base same closer = cells_swapped s h at y owns loose undrawn shared given (record base { cells = v.cells }) refl closer more p.seat
+          cells_stay base same closes = cells_swapped s h at y owns loose undrawn shared given (record base { cells = v.cells }) refl closes more p.seat
               (beside (cell_kind shared) p own is s h at).owner (beside (cell_kind shared) p own is s h at).there
               (beside (cell_kind shared) p own is s h at).has
 
@@ -646,10 +646,10 @@ module _ (slots id : ℕ) (me : SeatState) (live : HasPlace me.0.epoch) (rests :
             (unmoved s h at told (at_once R x me ((λ hit. absurd (miss hit)), (λ _. refl), c.2)))))
 
       -- the claim of a cell for this kind of owners, which has the word of such a cell then
-      pub claims : (kind : CellKind) → 0 < y
+      pub claims : (kind : CellKind) → ((k : ℕ) → closes_by kind k cell ≡ 0) → 0 < y
           → ((ws : List ℕ) → ((j : ℕ) → 0 < names j y → counted (slot_at sizes ws j) ≡ one_where shared) → IsWordOf sizes ws kind y)
           → May i (λ x. either (eqb x 0) y x) (OfCell (ClaimsCell y kind) i me)
-      claims kind more fits = let told : ℕ → SeatState → Type 0 = OfCell (ClaimsCell y kind) i me in let f : ℕ → ℕ = λ x. either (eqb x 0) y x in
+      claims kind unclosing more fits = let told : ℕ → SeatState → Type 0 = OfCell (ClaimsCell y kind) i me in let f : ℕ → ℕ = λ x. either (eqb x 0) y x in
           let right : CellRight = record { cell = cell; kind = kind } in let rights : CellsView = record { rights = right ∷ v.cells.rights } in
           let R : ℕ → SeatState → ℕ → SeatState → Type 0 = ClaimsCell y kind in
           lift_homes γ sizes slots id me i f (AtCell (ExchangesCell 0 y rights) i v) told
@@ -680,7 +680,7 @@ module _ (slots id : ℕ) (me : SeatState) (live : HasPlace me.0.epoch) (rests :
           (λ (has : HasRight v r). inl (old id v at has))
           (first_or right v.cells.rights r mine.0 (ap (λ (q : View). get_elem? q.cells.rights mine.0) b.1 ∙ mine.1)))
           (λ (b : (k ≢ id) × (get_elem? s.views k ≡ some u)). inl (old k u b.1 mine)) (at_set s.views id k now u e))
-          (λ d shuts. let o = h.kinds.cells.closing id d v at shuts in let o1 = o.1 in (o.0, omega arith)))
+          (λ k. let z = unclosing k in omega arith))
           (at_once R x (now, me.1) ((λ _. refl), (λ no. absurd (no hit)), c.2))))
           (λ miss. subst (Follows γ sizes id i me told s x) (sym (c.1 miss))
           (unmoved s h at told (at_once R x me ((λ hit. absurd (miss hit)), (λ _. refl), c.2)))))
@@ -717,14 +717,14 @@ module _ (slots id : ℕ) (me : SeatState) (live : HasPlace me.0.epoch) (rests :
                 let both = total_two (rights_at d) s.views k id u v b.0 b.1 at in let o = h.kinds.cells.single d in absurd (omega arith)),
             h.kinds.cells.taken k u r b.1 its,
           )) (at_set s.views id k now u e))
-          (λ d shuts. let o = h.kinds.cells.closing id d v at shuts in let o1 = o.1 in let b = ap (total (is_right d)) mine in (o.0, omega arith)))
+          (λ k. let b = ap (total (is_closing_right k)) mine in let z = bare_open kind bare k cell in let z' = owner_open shared k cell in omega arith))
           (at_once (FillsBare y shared) x (now, me.1) (refl, empty, c.1))))
 
     -- the cell is free again, of which it has the right
-    pub frees : v.slots.owns ≡ [] → v.slots.holds ≡ None → v.slots.closes ≡ None → v.slots.drawn ≡ [] → (shared : Bool)
+    pub frees : v.slots.owns ≡ [] → v.slots.holds ≡ None → v.slots.drawn ≡ [] → (shared : Bool)
         → ((r : ShownValue) → ¬ (HasRecord v.stakes.owns r))
         → v.cells.rights ≡ record { cell = cell; kind = cell_kind shared } ∷ [] → May i (λ _. 0) (OfCell (FreesCell shared) i me)
-    frees owns loose idle undrawn shared none mine = let told : ℕ → SeatState → Type 0 = OfCell (FreesCell shared) i me in
+    frees owns loose undrawn shared none mine = let told : ℕ → SeatState → Type 0 = OfCell (FreesCell shared) i me in
         let right : CellRight = record { cell = cell; kind = cell_kind shared } in
         let owns_is : v.slots.owns ≡ held_slots 0 = owns ∙ sym (holds_none 0 (inl (omega arith))) in
         let given : (r : ShownValue) → HasRecord v.stakes.owns r → r.shared ≡ shared = λ r has. absurd (none r has) in
@@ -735,7 +735,7 @@ module _ (slots id : ℕ) (me : SeatState) (live : HasPlace me.0.epoch) (rests :
         subst (Follows γ sizes id i me told s 0) (sym c.0)
         (comes_out 0 owns_is loose undrawn shared given s h at told no_rights
         (counted_word sizes s.words shared (cell_at sizes s.words cell) (h.kinds.cells.taken id v right at has).kind)
-        (λ base same closer. let now : View = record base { cells = no_rights } in cells_then s h at 0 owns_is loose undrawn shared given now
+        (λ base same closes. let now : View = record base { cells = no_rights } in cells_then s h at 0 owns_is loose undrawn shared given now
         (λ d. let a = total_set (rights_at d) s.views id v now at in let o = h.kinds.cells.single d in omega arith)
         (λ k u r e its. ⊎_elim
         (λ (b : (k ≡ id) × (now ≡ u)). absurd (no_right u (ap (λ (q : View). q.cells.rights) (sym b.1)) r its))
@@ -745,13 +745,13 @@ module _ (slots id : ℕ) (me : SeatState) (live : HasPlace me.0.epoch) (rests :
               let both = total_two (rights_at d) s.views k id u v b.0 b.1 at in let o = h.kinds.cells.single d in absurd (omega arith)),
           h.kinds.cells.taken k u r b.1 its,
         )) (at_set s.views id k now u e))
-        (λ d shuts. absurd (none_closed v idle d (sym (ap (λ (c : Sizes × Option ℕ). c.1) closer) ∙ shuts))))
+        (λ k. let a = ap (one_in k) closes in let b = ap (total (is_closing_right k)) mine in let z = owner_open shared k cell in omega arith))
         (λ m brings. at_once (FreesCell shared) (cell_at sizes s.words cell) (record m.0 { cells = no_rights }, m.1) ((m, brings, refl), c.1))))
 
     -- the same of a cell that holds no owners
-    pub frees_bare : v.slots.owns ≡ [] → v.slots.holds ≡ None → v.slots.closes ≡ None → v.slots.drawn ≡ [] → (kind : CellKind) → IsBare kind
+    pub frees_bare : v.slots.owns ≡ [] → v.slots.holds ≡ None → v.slots.drawn ≡ [] → (kind : CellKind) → IsBare kind
         → ((r : ShownValue) → ¬ (HasRecord v.stakes.owns r)) → v.cells.rights ≡ record { cell = cell; kind = kind } ∷ [] → May i (λ _. 0) (OfCell FreesBare i me)
-    frees_bare owns loose idle undrawn kind bare none mine = let told : ℕ → SeatState → Type 0 = OfCell FreesBare i me in
+    frees_bare owns loose undrawn kind bare none mine = let told : ℕ → SeatState → Type 0 = OfCell FreesBare i me in
         let right : CellRight = record { cell = cell; kind = kind } in
         let owns_is : v.slots.owns ≡ held_slots 0 = owns ∙ sym (holds_none 0 (inl (omega arith))) in
         let given : (r : ShownValue) → HasRecord v.stakes.owns r → r.shared ≡ false = λ r has. absurd (none r has) in
@@ -774,7 +774,7 @@ module _ (slots id : ℕ) (me : SeatState) (live : HasPlace me.0.epoch) (rests :
               let both = total_two (rights_at d) s.views k id u v b.0 b.1 at in let o = h.kinds.cells.single d in absurd (omega arith)),
           h.kinds.cells.taken k u r b.1 its,
         )) (at_set s.views id k now u e))
-        (λ d shuts. absurd (none_closed v idle d shuts)))
+        (λ k. let b = ap (total (is_closing_right k)) mine in let z = bare_open kind bare k cell in omega arith))
         (at_once FreesBare x (now, me.1) (refl, empty, (h.kinds.cells.taken id v right at has).full, c.1))))
 
     -- a look

@@ -1,19 +1,21 @@
 -- The steps on private items keep the whole invariant: a collector's close begins, claims what waits for it and ends, and an item that waits is collected, left
 -- to its close, and its slot given back.
-use Rattle.std.proofs.Common.{◌≡◌, ◌≢◌, ◌⊎◌, inl, inr, ℕ, ◌<◌, ◌≤◌, Bool, false, eqb, List, [], ◌∷◌, length, get_or, set, sym, refl, ap, ◌∙◌, subst, ⊎_elim, arith}
+use Rattle.std.proofs.Common.{◌≡◌, ◌≢◌, ◌⊎◌, inl, inr, ℕ, ◌<◌, ◌≤◌, Bool, false, eqb, List, [], ◌∷◌, length, map, get_or, set, sym, refl, ap, ◌∙◌, subst, ⊎_elim, arith}
 use Rattle.std.specs.Prelude.{Option, Some, None}
 use mathlib.Core.Option.{some, some-injective}
 use mathlib.Core.Logic.{dite}
 use native.Mathlib.Decide.{ℕ_discrete, dec_lt}
 use lib.ListN.{get_elem?}
 use lib.Seq.{set-get_or}
+use Rattle.std.proofs.lemmas.List.{set-set}
 use prog.Atomic.{either}
 use Rattle.atomic_table.specs.Table.{State, keeps}
-use Rattle.atomic_table.proofs.Lists.{at_map, exchanged}
+use Rattle.atomic_table.proofs.Lists.{at_map, at_set, set_here, exchanged}
 use Rattle.sdd_witness.specs.Ledger.{Pledge}
 use Rattle.sdd_witness.specs.Steps.{AllowsAlone}
 use Rattle.sdd_shared_values.specs.declared.value_fraction.ValueFraction.{ValueFraction}
 use Rattle.sdd_views.specs.declared.CellKind.{CellKind}
+use Rattle.sdd_views.specs.declared.CellKind.TheVariants.{Raw, Collector}
 use Rattle.sdd_views.specs.declared.CellRight.{CellRight}
 use Rattle.sdd_views.specs.declared.PrivateItem.{PrivateItem}
 use Rattle.sdd_views.specs.declared.ShownValue.{ShownValue}
@@ -21,11 +23,11 @@ use Rattle.sdd_views.specs.declared.WaitingItem.{WaitingItem}
 use Rattle.sdd_views.specs.declared.View.{View}
 use Rattle.sdd_views.specs.declared.Sizes.{Sizes}
 use Rattle.sdd_views.specs.contracts.View.{the_row}
-use Rattle.sdd_views.specs.Views.{right_to}
+use Rattle.sdd_views.specs.Views.{no_rights, right_to}
 use Rattle.sdd_word_invariant.specs.Words.{slot_word, words_behind}
 use Rattle.sdd_word_invariant.specs.Codes.{codes, alive, waiting, valued, private, emptying, shared_base, free_word, private_word, emptying_word, emptied_word, left_word, raw_word}
-use Rattle.sdd_word_invariant.specs.Collectors.{private_in, Closes, FoundEmptied}
-use Rattle.sdd_word_invariant.specs.CollectorSteps.{closing, closed_none, collected, left_to_close, private_given_back, found_emptied, WaitsFor, IsDuePrivately, HasWaiting, Collects, LeavesToClose, GivesPrivateBack, EmptiesSlot}
+use Rattle.sdd_word_invariant.specs.Collectors.{private_in, one_in, Closes, FoundEmptied}
+use Rattle.sdd_word_invariant.specs.CollectorSteps.{closing, closed_none, collected, left_to_close, private_given_back, found_emptied, orphan, orphaned, empties_now, WaitsFor, HasWaiting, Collects, LeavesToClose, GivesPrivateBack, EmptiesSlot, EmptiesOwn}
 use Rattle.sdd_word_invariant.specs.Epoch.{HasPlace}
 use Rattle.sdd_word_invariant.specs.Slots.{slot_at, waits_in, items_at, Owns}
 use Rattle.sdd_word_invariant.specs.SlotSteps.{noted, AtSlot}
@@ -33,13 +35,17 @@ use Rattle.sdd_word_invariant.specs.WordInvariant.{epoch_of, Parts}
 use Rattle.sdd_word_invariant.proofs.Codes.{sound, private_is, emptied_is, emptying_is, left_is, free_is}
 use Rattle.sdd_word_invariant.proofs.Collectors.{privates_in}
 use Rattle.sdd_word_invariant.proofs.CollectorSteps as words
+use Rattle.sdd_word_invariant.proofs.Epoch.{at_length}
 use Rattle.sdd_word_invariant.proofs.Frame.{each_set}
+use Rattle.sdd_word_invariant.proofs.Lift.{blind_tokens}
 use Rattle.sdd_word_invariant.proofs.Owning.{item_gone, item_kept}
 use Rattle.sdd_word_invariant.proofs.PrivateSlots.{with_privates}
 use Rattle.sdd_word_invariant.proofs.SlotWords.{owner_in, waiter_in}
-use Rattle.sdd_word_invariant.proofs.Sums.{is_same, total_has, total_two}
-use Rattle.sdd_domain_invariant.specs.CellsInvariant.{is_right, rights_at}
-use Rattle.sdd_domain_invariant.specs.CollectorSteps.{CollectsOne, LeavesOneToClose, GivesOnePrivateBack, ClosesOne, ClosesNone, EmptiesOne}
+use Rattle.sdd_word_invariant.proofs.Sums.{is_same, total_set, total_has, total_two}
+use Rattle.sdd_word_invariant.specs.Sums.{total}
+use Rattle.sdd_domain_invariant.specs.CellsInvariant.{is_right, rights_at, IsTaken, is_closing_right}
+use Rattle.sdd_domain_invariant.specs.CellSteps.{IsBare}
+use Rattle.sdd_domain_invariant.specs.CollectorSteps.{with_right, CollectsOne, LeavesOneToClose, GivesOnePrivateBack, ClosesOne, ClosesNone, EmptiesOne, EmptiesOwnOne}
 use Rattle.sdd_domain_invariant.specs.DomainInvariant.{DomainInvariant}
 use Rattle.sdd_domain_invariant.specs.FilledInvariant.{newest, HasRecord}
 use Rattle.sdd_domain_invariant.specs.FractionSteps.{SeatState, forgetting, OfSlot}
@@ -48,11 +54,11 @@ use Rattle.sdd_domain_invariant.specs.KindsInvariant.{KnowsKinds, KindsInvariant
 use Rattle.sdd_domain_invariant.specs.LastFractions.{IsStored, HidesItem}
 use Rattle.sdd_domain_invariant.specs.Records.{IsTelling}
 use Rattle.sdd_domain_invariant.proofs.Banks as banks
-use Rattle.sdd_domain_invariant.proofs.Cells.{no_change, cells_slot, cells_by}
+use Rattle.sdd_domain_invariant.proofs.Cells.{KeepsClosing, first_or, no_right, one_right, closing_right, closers, cells_slot}
 use Rattle.sdd_domain_invariant.proofs.CellSteps.{right_beside}
 use Rattle.sdd_domain_invariant.proofs.Counts.{as_full, uncounted, uncounted_alone}
 use Rattle.sdd_domain_invariant.proofs.Fillings.{has_old, filled_same}
-use Rattle.sdd_domain_invariant.proofs.KindSteps.{KeepsOwner, same_owner, knows_alike, bound_kept, forth, pledges_by}
+use Rattle.sdd_domain_invariant.proofs.KindSteps.{knows_alike, bound_kept, no_participants, pledges_spent}
 use Rattle.sdd_domain_invariant.proofs.KindSteps as kind_steps
 use Rattle.sdd_domain_invariant.proofs.Lasts.{empty_shows, stored_as_is, stored_same, stored_by, stored_other, stored_hid, AllKnow, lasts_fewer, lasts_out}
 use Rattle.sdd_domain_invariant.proofs.Lift.{Follows, IsCalm, lift_whole, lift_calm, stands}
@@ -61,7 +67,7 @@ use Rattle.sdd_domain_invariant.proofs.Part as part
 use Rattle.sdd_domain_invariant.proofs.Records.{in_others, in_kept, known_by}
 use Rattle.sdd_domain_invariant.proofs.Records as records
 use Rattle.sdd_domain_invariant.proofs.Steps as steps
-use Rattle.sdd_domain_invariant.proofs.Telling.{none_moved, one_view}
+use Rattle.sdd_domain_invariant.proofs.Telling.{none_moved}
 
 -- while a close empties it its value counts as there
 emptying_valued : valued emptying_word ≡ 1
@@ -108,52 +114,78 @@ module _ (slots id : ℕ) (me : SeatState) (live : HasPlace me.0.epoch) where
   MayAlone = AllowsAlone (DomainInvariant γ sizes) slots id me
 
   -- ---- on no word
-  -- it closes another collector, or none, and has looked at no place yet
+  -- it closes another collector, or none, and has looked at no place yet; and the right that it has is of another kind
   abbrev reclosed : Option ℕ → View
   reclosed closes = record v { slots = record v.slots { closes = closes; looked = 0 } }
 
-  module _ (s : State ValueFraction View) (h : DomainInvariant γ sizes s) (at : get_elem? s.views id ≡ some v) where
-    recloses : (closes : Option ℕ) → Parts sizes (set s.words 0 (get_or s.words 0 0)) (set s.views id (reclosed closes))
-        → ((k : ℕ) → closes ≡ Some k → 0 < rights_at k v)
-        → DomainInvariant γ sizes record { words = s.words; homes = s.homes; views = set s.views id (reclosed closes) }
-    recloses closes parts right = let w : View = reclosed closes in
-        let near = (h.kept.parts.epoch.each id v.epoch (at_map epoch_of s.views id v at)).inside live in
-        stands γ sizes id v s h at w refl (subst (λ (ws : List ℕ). Parts sizes ws (set s.views id w)) (set-get_or s.words 0 0) parts) s.homes
-        (part.calm γ sizes s.words s.views s.homes h.homes id v at s.words w (λ j q out. out) (λ j _. refl) (h.homes.moving id v at))
-        (records.calm sizes s.views s.homes h.records id v at w (refl, refl, refl, (λ _. refl), refl))
-        (uncounted_alone sizes s.words s.views h.counts id v at w refl refl)
-        (filled_same sizes s.views h.filled id v at w refl refl refl (λ l. l))
-        (banks.alike γ sizes s.words s.views h.bank id v at s.words w (refl, refl, refl, (λ _. refl), refl) (λ _ _. refl))
-        (lasts_fewer sizes s.words s.views s.homes h.lasts id v at s.words w s.homes (λ _ _ _ _ l. l) (λ b. (b, refl)) refl (λ _ l. inl l)
-        (stored_as_is sizes s.words))
-        record {
-          each = each_set (KnowsKinds sizes s.words) (KnowsKinds sizes s.words) s.views id w
-              (knows_alike sizes s.words v w (h.kinds.each id v at) refl refl (λ i m. m) (λ i o. o) (λ r a. a) (λ i a. a)) (λ j u _ e. h.kinds.each j u e);
-          bound = bound_kept sizes s.words s.views h.kinds.bound id v at s.words w (λ i m. inr (m, (omega arith))) refl (inl (λ l. l));
-          pledges = pledges_by s.views h.kinds.pledges id v w at refl (λ i q b x there _. forth s.views h.kinds.pledges id v w at KeepsOwner
-              record { sizes = refl; cells = refl; records = λ _ r a. a; holds = λ _. refl } same_owner q.seat x there);
-          cells = cells_by sizes s.words s.views h.kinds.cells id v w at s.words (no_change sizes s.words).cells (λ _ _. refl) refl
-              (λ k shuts. (omega arith, right k shuts));
-        }
+  module _ (collector : ℕ) (was kind : CellKind) (mine : v.cells.rights ≡ record { cell = collector; kind = was } ∷ []) (closes : Option ℕ) where
+    abbrev the_right : CellRight
+    the_right = record { cell = collector; kind = was }
 
-  -- a participant that has the right to a collector's cell begins to close it
-  pub closes : (collector : ℕ) → 0 < rights_at collector v → MayAlone (ClosesOne collector me)
-  closes collector right s h _ at = (
-    closing collector v,
+    abbrev turned : View
+    turned = with_right collector kind (reclosed closes)
+
+    module _ (s : State ValueFraction View) (h : DomainInvariant γ sizes s) (at : get_elem? s.views id ≡ some v) where
+      recloses : Parts sizes (set s.words 0 (get_or s.words 0 0)) (set s.views id (reclosed closes))
+          → (IsTaken sizes s.words the_right → IsTaken sizes s.words (record { cell = collector; kind = kind })) → KeepsClosing v turned
+          → DomainInvariant γ sizes record { words = s.words; homes = s.homes; views = set s.views id turned }
+      recloses parts taken even = let w : View = turned in let base : View = reclosed closes in
+          let near = (h.kept.parts.epoch.each id v.epoch (at_map epoch_of s.views id v at)).inside live in
+          let there = set_here s.views id base (at_length s.views id v at) in
+          let now : Parts sizes s.words (set s.views id w) = subst (λ (l : List View). Parts sizes s.words l) (set-set s.views id base w)
+          (blind_tokens sizes s.words (set s.views id base) id base there
+          (subst (λ (ws : List ℕ). Parts sizes ws (set s.views id base)) (set-get_or s.words 0 0) parts) v.pledges w.cells) in
+          stands γ sizes id v s h at w refl now s.homes
+          (part.calm γ sizes s.words s.views s.homes h.homes id v at s.words w (λ j q out. out) (λ j _. refl) (h.homes.moving id v at))
+          (records.calm sizes s.views s.homes h.records id v at w (refl, refl, refl, (λ _. refl), refl))
+          (uncounted_alone sizes s.words s.views h.counts id v at w refl refl)
+          (filled_same sizes s.views h.filled id v at w refl refl refl (λ l. l))
+          (banks.alike γ sizes s.words s.views h.bank id v at s.words w (refl, refl, refl, (λ _. refl), refl) (λ _ _. refl))
+          (lasts_fewer sizes s.words s.views s.homes h.lasts id v at s.words w s.homes (λ _ _ _ _ l. l) (λ b. (b, refl)) refl (λ _ l. inl l)
+          (stored_as_is sizes s.words))
+          record {
+            each = each_set (KnowsKinds sizes s.words) (KnowsKinds sizes s.words) s.views id w
+                (knows_alike sizes s.words v w (h.kinds.each id v at) refl refl (λ i m. m) (λ i o. o) (λ r a. a) (λ i a. a)) (λ j u _ e. h.kinds.each j u e);
+            bound = bound_kept sizes s.words s.views h.kinds.bound id v at s.words w (λ i m. inr (m, (omega arith))) refl (inl (λ l. l));
+            pledges = pledges_spent s.views h.kinds.pledges id v w at refl (no_participants s.views h.kinds.pledges id v at (omega arith));
+            cells = record {
+              inside = h.kinds.cells.inside;
+              single = λ d. let a = total_set (rights_at d) s.views id v w at in let e = ap (total (is_right d)) mine in
+                  let o = h.kinds.cells.single d in omega arith;
+              taken = λ j u r e has. ⊎_elim
+                  (λ (b : (j ≡ id) × (w ≡ u)). ⊎_elim
+                  (λ (first : record { cell = collector; kind = kind } ≡ r). subst (IsTaken sizes s.words) first
+                  (taken (h.kinds.cells.taken id v the_right at (0, ap (λ (l : List CellRight). get_elem? l 0) mine))))
+                  (λ (no : (m : ℕ) × (get_elem? [] m ≡ some r)). absurd (no_right (record v { cells = no_rights }) refl r no))
+                  (first_or (record { cell = collector; kind = kind }) [] r has.0 (ap (λ (q : View). get_elem? q.cells.rights has.0) b.1 ∙ has.1)))
+                  (λ (b : (j ≢ id) × (get_elem? s.views j ≡ some u)). h.kinds.cells.taken j u r b.1 has) (at_set s.views id j w u e);
+              closing = closers sizes s.words s.views h.kinds.cells id v w at even;
+              pointers = h.kinds.cells.pointers;
+            };
+          }
+
+  -- a participant that has the right to a collector's cell, and closes none, begins to close it
+  pub closes : (collector : ℕ) → v.cells.rights ≡ record { cell = collector; kind = Raw } ∷ [] → v.slots.closes ≡ None → MayAlone (ClosesOne collector me)
+  closes collector mine idle s h _ at = (
+    with_right collector Collector (closing collector v),
     keeps,
     tt,
-    recloses s h at (Some collector) (words.closes id v live s.words s.views h.kept.parts at collector 0)
-        (λ k e. let same : collector ≡ k = (let c : Some collector ≡ Some k = e in cc) in subst (λ (j : ℕ). 0 < rights_at j v) same right),
+    recloses collector Raw Collector mine (Some collector) s h at (words.closes id v live s.words s.views h.kept.parts at collector 0)
+        (λ t. record { inside = t.inside; full = t.full; kind = t.kind })
+        (λ k. let e = ap (total (is_closing_right k)) mine in let c = ap (one_in k) idle in omega arith),
     refl,
   )
 
   -- and ends that
-  pub closes_none : MayAlone (ClosesNone me)
-  closes_none s h _ at = (
-    closed_none v,
+  pub closes_none : (collector : ℕ) → v.cells.rights ≡ record { cell = collector; kind = Collector } ∷ [] → Closes v collector
+      → MayAlone (ClosesNone collector me)
+  closes_none collector mine shuts s h _ at = (
+    with_right collector Raw (closed_none v),
     keeps,
     tt,
-    recloses s h at None (words.closes_none id v live s.words s.views h.kept.parts at 0) (λ k e. let c : None ≡ Some k = e in absurd cc),
+    recloses collector Collector Raw mine None s h at (words.closes_none id v live s.words s.views h.kept.parts at 0)
+        (λ t. record { inside = t.inside; full = t.full; kind = t.kind })
+        (λ k. let e = ap (total (is_closing_right k)) mine in let c = ap (one_in k) shuts in omega arith),
     refl,
   )
 
@@ -249,6 +281,37 @@ module _ (slots id : ℕ) (me : SeatState) (live : HasPlace me.0.epoch) where
         (λ miss. subst (IsCalm γ sizes slots id me i f s x) (sym (c.1 miss))
         (looked_at s h at f v.slots.privates v.slots.emptied v.slots.empties v.slots.left)))
 
+    -- what becomes of a private item of its own bag whose word is the one or the other
+    module _ (collector : ℕ) (P : View → Type 0) (x : ℕ) (w one : View) (hit : x ≡ private_word collector → w ≡ one)
+        (done : x ≡ emptied_word → w ≡ found_emptied slot v) (busy : x ≡ emptying_word → w ≡ orphaned slot v) where
+      by_word : (x ≡ private_word collector) ⊎ ((x ≡ emptied_word) ⊎ (x ≡ emptying_word)) → P one → P (found_emptied slot v) → P (orphaned slot v) → P w
+      by_word which a b c = ⊎_elim (λ (e : x ≡ private_word collector). subst P (sym (hit e)) a)
+          (λ (t : (x ≡ emptied_word) ⊎ (x ≡ emptying_word)). ⊎_elim (λ (e : x ≡ emptied_word). subst P (sym (done e)) b)
+          (λ (e : x ≡ emptying_word). subst P (sym (busy e)) c) t) which
+
+    -- a close claims an item of its own bag, of which it knows for whom it waits
+    pub empties_own : (collector : ℕ) → WaitsFor collector v slot → private_word collector < shared_base → Closes v collector → n ≤ v.slots.looked
+        → v.slots.empties ≡ None → v.slots.left ≡ false
+        → May i (λ x. either (eqb x (private_word collector)) emptying_word x) (OfSlot (EmptiesOwnOne collector) i me)
+    empties_own collector has fits shuts all idle fresh = let old : ℕ = private_word collector in
+        let f : ℕ → ℕ = λ x. either (eqb x old) emptying_word x in let one : View = empties_now slot emptying_word v in
+        let then = AtSlot (EmptiesOwn collector) i v in lift_calm γ sizes slots id me i f then (OfSlot (EmptiesOwnOne collector) i me)
+        (steps.spares slots id me live slot inside f then (λ r w t. let c = t slot refl in
+        by_word collector (λ (u : View). u.places ≡ v.places) r w one c.0 c.1 c.2 c.3 refl refl refl))
+        (words.empties_own id v live slot inside collector has fits shuts all idle fresh)
+        (λ r w t. steps.at_once slots id me live slot inside (EmptiesOwnOne collector) r (w, me.1) (t slot refl, refl))
+        (λ s w h at t. let x : ℕ = get_or s.words i 0 in let c = t slot refl in let is = private_is collector fits in
+        let waits = sound.for_one collector old (let o = is.4 in omega arith) in let calm : ℕ → View → Type 0 = IsCalm γ sizes slots id me i f s in
+        exchanged x old emptying_word (λ z. calm z w)
+        (λ hit. subst (calm emptying_word) (sym (c.0 hit))
+        (rewritten s h at f v.slots.privates v.slots.emptied (Some slot) v.slots.left emptying_word (ap alive hit ∙ is.0) emptying_is.0
+        (emptying_valued ∙ sym (ap valued hit ∙ waits.1)) (λ e. absurd (omega arith))
+        (λ _. let one = ap private hit ∙ is.3 in (omega arith, ap valued hit ∙ waits.1))))
+        (λ miss. ⊎_elim (λ (e : x ≡ old). absurd (miss e)) (λ (o : (x ≡ emptied_word) ⊎ (x ≡ emptying_word)). ⊎_elim
+        (λ (e : x ≡ emptied_word). subst (calm x) (sym (c.1 e)) (looked_at s h at f v.slots.privates (slot ∷ v.slots.emptied) v.slots.empties v.slots.left))
+        (λ (e : x ≡ emptying_word). subst (calm x) (sym (c.2 e))
+        (looked_at s h at f (map (orphan slot) v.slots.privates) v.slots.emptied v.slots.empties v.slots.left)) o) c.3))
+
     -- what it has of a slot waits for one collector
     pub one_collector : (s : State ValueFraction View) → DomainInvariant γ sizes s → get_elem? s.views id ≡ some v → (a b : ℕ) → WaitsFor a v slot
         → WaitsFor b v slot → a ≡ b
@@ -262,9 +325,9 @@ module _ (slots id : ℕ) (me : SeatState) (live : HasPlace me.0.epoch) where
         (λ ne. absurd (let both = total_two (private_in slot) v.slots.privates there.0 there'.0 x y ne there.1 there'.1 in omega arith))
 
     -- a private item is left to the close that empties it
-    pub leaves_to_close : (collector : ℕ) → WaitsFor collector v slot → private_word collector < shared_base
+    pub leaves_to_close : (collector : ℕ) → WaitsFor collector v slot
         → May i (λ x. either (eqb x emptying_word) left_word x) (OfSlot (LeavesOneToClose collector) i me)
-    leaves_to_close collector has fits = let f : ℕ → ℕ = λ x. either (eqb x emptying_word) left_word x in
+    leaves_to_close collector has = let f : ℕ → ℕ = λ x. either (eqb x emptying_word) left_word x in
         let then = AtSlot (LeavesToClose collector) i v in
         let which : (P : View → Type 0) (x : ℕ) (w : View) → LeavesToClose collector slot v x w → P (left_to_close slot left_word v) → P (found_emptied slot v)
         → P v → P w
@@ -273,7 +336,7 @@ module _ (slots id : ℕ) (me : SeatState) (live : HasPlace me.0.epoch) where
         (λ (e : x ≡ emptying_word). subst P (sym (c.0 e)) one) t) c.3 in
         lift_calm γ sizes slots id me i f then (OfSlot (LeavesOneToClose collector) i me)
         (steps.spares slots id me live slot inside f then (λ r w t. which (λ (u : View). u.places ≡ v.places) r w (t slot refl) refl refl refl))
-        (words.leaves_to_close id v live slot inside collector has fits)
+        (words.leaves_to_close id v live slot inside collector has)
         (λ r w t. steps.at_once slots id me live slot inside (LeavesOneToClose collector) r (w, me.1) (t slot refl, refl))
         (λ s w h at t. let x : ℕ = get_or s.words i 0 in let c = t slot refl in
         let calm : ℕ → View → Type 0 = IsCalm γ sizes slots id me i f s in
@@ -288,32 +351,29 @@ module _ (slots id : ℕ) (me : SeatState) (live : HasPlace me.0.epoch) where
         (λ (e : x ≡ emptied_word). subst (calm x) (sym (c.1 e)) (looked_at s h at f v.slots.privates (slot ∷ v.slots.emptied) v.slots.empties v.slots.left))
         (λ (e : x ≡ emptying_word). absurd (miss e)) t) c.3))
 
-    -- the slot of one that was found emptied is free, once it has seen three changes
-    pub gives_private_back : FoundEmptied v slot → IsDuePrivately v slot
-        → May i (λ _. free_word 0) (λ _. OfSlot GivesOnePrivateBack i me (free_word 0))
-    gives_private_back was due = let y : ℕ = free_word 0 in let f : ℕ → ℕ = λ _. y in let then : ℕ → View → Type 0 = λ _. AtSlot GivesPrivateBack i v y in
+    -- the slot of one that was found emptied is free
+    pub gives_private_back : FoundEmptied v slot → May i (λ _. free_word 0) (λ _. OfSlot GivesOnePrivateBack i me (free_word 0))
+    gives_private_back was = let y : ℕ = free_word 0 in let f : ℕ → ℕ = λ _. y in let then : ℕ → View → Type 0 = λ _. AtSlot GivesPrivateBack i v y in
         let now : View = private_given_back slot y v in
         lift_calm γ sizes slots id me i f then (λ _. OfSlot GivesOnePrivateBack i me y)
         (steps.spares slots id me live slot inside f then (λ r w t. ap (λ (u : View). u.places) (t slot refl)))
-        (words.gives_private_back id v live slot inside was due)
+        (words.gives_private_back id v live slot inside was)
         (λ r w t. steps.at_once slots id me live slot inside GivesOnePrivateBack y (w, me.1) (t slot refl, refl))
         (λ s w h at t. let is = ((h.kept.parts.collectors.each id v at).found slot was).0 in let free = free_is 0 (omega arith) in
         subst (IsCalm γ sizes slots id me i f s y) (sym (t slot refl))
         (rewritten s h at f now.slots.privates now.slots.emptied v.slots.empties v.slots.left y (ap alive is ∙ emptied_is.0) free.0
         (sound.empty y free.2 ∙ sym (ap valued is ∙ emptied_is.5)) (λ e. absurd (omega arith)) (λ hides. absurd (empty_shows y (sound.empty y free.2) hides))))
 
-    -- an item that waits is collected, beside the right to the collector's cell, of which a share is pledged
-    module _ (collector : ℕ) (kind : CellKind) (p : Pledge) (own : v.pledges.own ≡ p ∷ []) (is : p.view ≡ the_row.coded.code (right_to collector kind)) where
+    -- an item that waits is collected, beside the right to the cell of an open collector, of which a share is pledged
+    module _ (collector : ℕ) (p : Pledge) (own : v.pledges.own ≡ p ∷ []) (is : p.view ≡ the_row.coded.code (right_to collector Raw)) where
       -- so nobody closes the collector
       none_closes : (s : State ValueFraction View) (h : DomainInvariant γ sizes s) → get_elem? s.views id ≡ some v → (j : ℕ) (u : View)
           → get_elem? s.views j ≡ some u → ¬ (Closes u collector)
-      none_closes s h at j u e shuts = let r : CellRight = record { cell = collector; kind = kind } in
-          let b = right_beside s.views p collector kind is (h.kinds.pledges.backed id v p at own).beside in
-          let has = h.kinds.cells.closing j collector u e shuts in let placed = has.0 in let right = has.1 in let nobodys = b.nobodys in
-          let mine = total_has (is_right collector) b.owner.cells.rights b.has.0 r b.has.1 in let one = is_same collector collector refl in
-          let single = h.kinds.cells.single collector in dite (ℕ_discrete j p.seat)
-          (λ same. absurd (let d = ap (λ (x : View). x.sizes.participants) (one_view s.views p.seat j u b.owner e b.there same) in omega arith))
-          (λ ne. absurd (let both = total_two (rights_at collector) s.views j p.seat u b.owner ne e b.there in omega arith))
+      none_closes s h at j u e shuts = let r : CellRight = record { cell = collector; kind = Raw } in let cells = h.kinds.cells in
+          let b = right_beside s.views p collector Raw is (h.kinds.pledges.backed id v p at own).beside in
+          let c = closing_right sizes s.words s.views cells j collector u e shuts in let q : CellRight = c.2 in
+          let same : r ≡ q = one_right sizes s.words s.views cells p.seat c.0 b.owner c.1 r q b.there c.3 b.has c.4 (sym c.5.0) in
+          subst IsBare (ap (λ (x : CellRight). x.kind) same ∙ c.5.1) tt
 
       -- what an item shows that waits with it is known to whoever has the only place
       known : (s : State ValueFraction View) (h : DomainInvariant γ sizes s) (at : get_elem? s.views id ≡ some v) (x : WaitingItem) → HasWaiting v slot x

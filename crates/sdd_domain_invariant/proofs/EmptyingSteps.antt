@@ -12,6 +12,7 @@ use Rattle.atomic_table.proofs.Lists.{at_map, exchanged}
 use Rattle.sdd_shared_values.specs.SharedValues.{IsNoValueCode}
 use Rattle.sdd_shared_values.specs.Bank.{Leaves}
 use Rattle.sdd_shared_values.specs.declared.value_fraction.ValueFraction.{ValueFraction}
+use Rattle.sdd_views.specs.declared.PrivateItem.{PrivateItem}
 use Rattle.sdd_views.specs.declared.WaitingItem.{WaitingItem}
 use Rattle.sdd_views.specs.declared.ShownValue.{ShownValue}
 use Rattle.sdd_views.specs.declared.View.{View}
@@ -21,11 +22,11 @@ use Rattle.sdd_word_invariant.specs.Codes.{codes, alive, waiting, valued, emptyi
 use Rattle.sdd_word_invariant.specs.Epoch.{HasPlace}
 use Rattle.sdd_word_invariant.specs.Sums.{total}
 use Rattle.sdd_word_invariant.specs.Slots.{slot_at, waits_in, owners_at, items_at, Owns, Sees}
-use Rattle.sdd_word_invariant.specs.Collectors.{one_in, empties_at, Empties}
+use Rattle.sdd_word_invariant.specs.Collectors.{one_in, empties_at, Empties, HasPrivate}
 use Rattle.sdd_word_invariant.specs.SlotSteps.{noted, AtSlot}
-use Rattle.sdd_word_invariant.specs.CollectorSteps.{reclaimed, found_emptied, emptied_now, finds_left, empty_given_back, WaitsFor, Reclaims, HasEmptied, GivesEmptyBack}
+use Rattle.sdd_word_invariant.specs.CollectorSteps.{without_private, reclaimed, found_emptied, orphaned, emptied_now, finds_left, empty_given_back, own_given_back, WaitsFor, Reclaims, HasEmptied, GivesEmptyBack, GivesOwnBack}
 use Rattle.sdd_word_invariant.specs.WordInvariant.{epoch_of}
-use Rattle.sdd_word_invariant.proofs.Codes.{sound, private_is, emptied_is, free_is, waiting_is}
+use Rattle.sdd_word_invariant.proofs.Codes.{sound, private_is, emptied_is, emptying_is, free_is, waiting_is}
 use Rattle.sdd_word_invariant.proofs.Collectors.{emptying_at}
 use Rattle.sdd_word_invariant.proofs.CollectorSteps as words
 use Rattle.sdd_word_invariant.proofs.SlotWords.{owner_in}
@@ -38,7 +39,7 @@ use Rattle.sdd_domain_invariant.specs.KindsInvariant.{KindsInvariant}
 use Rattle.sdd_domain_invariant.specs.LastFractions.{HidesItem, LastIs}
 use Rattle.sdd_domain_invariant.specs.DomainInvariant.{DomainInvariant}
 use Rattle.sdd_domain_invariant.specs.FractionSteps.{SeatState, CarriesAll, IsValue, IsDeposit, OfSlot, moving, giving}
-use Rattle.sdd_domain_invariant.specs.CollectorSteps.{ReclaimsOne, TakesPrivate, EmptiedOne, GivesOneEmptyBack, recollecting}
+use Rattle.sdd_domain_invariant.specs.CollectorSteps.{ReclaimsOne, TakesPrivate, EmptiedOne, GivesOneEmptyBack, GivesOneOwnBack, recollecting}
 use Rattle.sdd_domain_invariant.proofs.Part.{none_out}
 use Rattle.sdd_domain_invariant.proofs.Part as part
 use Rattle.sdd_domain_invariant.proofs.Banks.{moves_other, outside_free, total_below}
@@ -148,10 +149,10 @@ module _ (slots id : ℕ) (me : SeatState) (live : HasPlace me.0.epoch) where
           (λ _. inl (omega arith)) (λ c. absurd (steps.in_no_cell slots id me live slot inside s h dead c)) post
 
       -- nothing changes but what it knows of private items
-      learns : (told : ℕ → SeatState → Type 0) (emptied : List ℕ) (left : Bool)
-          → told found (record v { slots = record v.slots { emptied = emptied; left = left } }, me.1)
-          → Follows γ sizes id i me told s found (record v { slots = record v.slots { emptied = emptied; left = left } })
-      learns told emptied left tells = let w : View = record v { slots = record v.slots { emptied = emptied; left = left } } in
+      learns : (told : ℕ → SeatState → Type 0) (privates : List PrivateItem) (emptied : List ℕ) (left : Bool)
+          → told found (record v { slots = record v.slots { privates = privates; emptied = emptied; left = left } }, me.1)
+          → Follows γ sizes id i me told s found (record v { slots = record v.slots { privates = privates; emptied = emptied; left = left } })
+      learns told privates emptied left tells = let w : View = record v { slots = record v.slots { privates = privates; emptied = emptied; left = left } } in
           let same = λ (j : ℕ). steps.same_words slots id me live slot inside s h j in record {
             stakes = v.stakes;
             act = keeps;
@@ -270,11 +271,13 @@ module _ (slots id : ℕ) (me : SeatState) (live : HasPlace me.0.epoch) where
         })
         (λ miss. ⊎_elim (λ (e : x ≡ old). absurd (miss e)) (λ (o : (x ≡ emptied_word) ⊎ (x ≡ emptying_word)). ⊎_elim
         (λ (e : x ≡ emptied_word). let u : View = found_emptied slot v in let ed = emptied_is in
-        subst (Follows γ sizes id i me told s x) (sym (c.1 e)) (learns s h at (ap alive e ∙ ed.0) (ap waiting e ∙ ed.1) told (slot ∷ v.slots.emptied)
-        v.slots.left (at_once x (u, me.1)
+        subst (Follows γ sizes id i me told s x) (sym (c.1 e)) (learns s h at (ap alive e ∙ ed.0) (ap waiting e ∙ ed.1) told v.slots.privates
+        (slot ∷ v.slots.emptied) v.slots.left (at_once x (u, me.1)
         (u, subst (Reclaims collector slot v x) (c.1 e) c, refl, (λ hit. absurd (miss hit)), (λ _. refl)))))
-        (λ (e : x ≡ emptying_word). subst (Follows γ sizes id i me told s x) (sym (c.2 e)) (steps.unmoved slots id me live slot inside s h at told
-        (at_once x me (v, subst (Reclaims collector slot v x) (c.2 e) c, refl, (λ hit. absurd (miss hit)), (λ _. refl))))) o) c.3))
+        (λ (e : x ≡ emptying_word). let u : View = orphaned slot v in let em = emptying_is in
+        subst (Follows γ sizes id i me told s x) (sym (c.2 e)) (learns s h at (ap alive e ∙ em.0) (ap waiting e ∙ em.1) told u.slots.privates v.slots.emptied
+        v.slots.left (at_once x (u, me.1)
+        (u, subst (Reclaims collector slot v x) (c.2 e) c, refl, (λ hit. absurd (miss hit)), (λ _. refl))))) o) c.3))
 
     -- a slot that it empties for a close
     module _ (s : State ValueFraction View) (h : DomainInvariant γ sizes s) (at : get_elem? s.views id ≡ some v) (mine : Empties v slot) where
@@ -343,15 +346,15 @@ module _ (slots id : ℕ) (me : SeatState) (live : HasPlace me.0.epoch) where
     -- the value was moved out
     module _ (moved : Moves v slot) (mine : Empties v slot) (rest : CarriedFractions) (row : CarriesAll γ slot n 0 IsNoValueCode rest me.1) where
       -- it empties the slot no more, whose word is y then
-      abbrev vacated : ℕ → Bool → View
-      vacated y left = record v { slots = record v.slots { empties = None; left = left }; words = noted slot y v }
+      abbrev vacated : List PrivateItem → ℕ → Bool → View
+      vacated privates y left = record v { slots = record v.slots { privates = privates; empties = None; left = left }; words = noted slot y v }
 
       -- all stakes in it go home, where its word says that no value is there
       vacates : (s : State ValueFraction View) (h : DomainInvariant γ sizes s) → get_elem? s.views id ≡ some v → (told : ℕ → SeatState → Type 0)
-          (y : ℕ) (left : Bool) → alive y ≡ 0 → valued y ≡ 0 → y ≢ raw_word 0
-          → ((xs : CarriedFractions) → xs ≡ drop (suc n) me.1 → told (get_or s.words i 0) (giving (vacated y left), xs))
-          → Follows γ sizes id i me told s y (vacated y left)
-      vacates s h at told y left none empty apart tells = let now : View = giving (vacated y left) in
+          (privates : List PrivateItem) (y : ℕ) (left : Bool) → alive y ≡ 0 → valued y ≡ 0 → y ≢ raw_word 0
+          → ((xs : CarriedFractions) → xs ≡ drop (suc n) me.1 → told (get_or s.words i 0) (giving (vacated privates y left), xs))
+          → Follows γ sizes id i me told s y (vacated privates y left)
+      vacates s h at told privates y left none empty apart tells = let now : View = giving (vacated privates y left) in
           let dead = dead_now s h at mine in let quiet = quiet_now s h at mine in let low = steps.within slots id me live slot inside s h in
           let word = steps.here slots id me live slot inside s.words y low in let others = steps.others slots id me live slot inside s.words y in
           let g = gives_row γ n slot 0 IsNoValueCode sizes.slots inside (suc n) (omega arith) s.homes rest me.1 h.homes.deep row in
@@ -400,11 +403,11 @@ module _ (slots id : ℕ) (me : SeatState) (live : HasPlace me.0.epoch) where
           (λ s w h at t. let x : ℕ = get_or s.words i 0 in let c = t slot refl in let ed = emptied_is in
           exchanged x emptying_word emptied_word (λ y. Follows γ sizes id i me told s y w)
           (λ hit. subst (Follows γ sizes id i me told s emptied_word) (sym (c.0 hit))
-          (vacates s h at told emptied_word v.slots.left ed.0 ed.5 (λ e. absurd (omega arith)) (λ xs is. at_once x
+          (vacates s h at told v.slots.privates emptied_word v.slots.left ed.0 ed.5 (λ e. absurd (omega arith)) (λ xs is. at_once x
           (giving (emptied_now slot emptied_word v), xs) ((λ _. (refl, is)), (λ e. absurd (omega arith)), c.2, c.3))))
           (λ miss. ⊎_elim (λ (e : x ≡ emptying_word). absurd (miss e))
           (λ (e : x ≡ left_word). subst (Follows γ sizes id i me told s x) (sym (c.1 e))
-          (learns s h at (dead_now s h at mine) (quiet_now s h at mine) told v.slots.emptied true
+          (learns s h at (dead_now s h at mine) (quiet_now s h at mine) told v.slots.privates v.slots.emptied true
           (at_once x (finds_left v, me.1) ((λ hit. absurd (miss hit)), (λ _. refl), c.2, c.3)))) c.2))
 
       -- its bag has let go of it: the slot is free
@@ -415,5 +418,16 @@ module _ (slots id : ℕ) (me : SeatState) (live : HasPlace me.0.epoch) where
           (steps.spares slots id me live slot inside (λ _. y) then (λ r w t. ap (λ (u : View). u.places) (t slot refl)))
           (words.gives_empty_back id v live slot inside mine late)
           (λ s w h at t. subst (Follows γ sizes id i me told s y) (sym (t slot refl))
-          (vacates s h at told y false fr.0 (sound.empty y fr.2) (λ e. absurd (omega arith)) (λ xs is.
+          (vacates s h at told v.slots.privates y false fr.0 (sound.empty y fr.2) (λ e. absurd (omega arith)) (λ xs is.
           steps.at_once slots id me live slot inside GivesOneEmptyBack y (giving (empty_given_back slot y v), xs) (refl, is))))
+
+      -- it emptied an item of its own bag: the slot is free
+      pub gives_own_back : (r : PrivateItem) → HasPrivate v r → r.item.slot ≡ slot → May i (λ _. free_word 0) (λ _. OfSlot GivesOneOwnBack i me (free_word 0))
+      gives_own_back r has of = let y : ℕ = free_word 0 in let told : ℕ → SeatState → Type 0 = λ _. OfSlot GivesOneOwnBack i me y in
+          let then : ℕ → View → Type 0 = λ _. AtSlot GivesOwnBack i v y in let fr = free_is 0 (omega arith) in
+          lift_homes γ sizes slots id me i (λ _. y) then told
+          (steps.spares slots id me live slot inside (λ _. y) then (λ r w t. ap (λ (u : View). u.places) (t slot refl)))
+          (words.gives_own_back id v live slot inside mine r has of)
+          (λ s w h at t. subst (Follows γ sizes id i me told s y) (sym (t slot refl))
+          (vacates s h at told (without_private slot v.slots.privates) y v.slots.left fr.0 (sound.empty y fr.2) (λ e. absurd (omega arith)) (λ xs is.
+          steps.at_once slots id me live slot inside GivesOneOwnBack y (giving (own_given_back slot y v), xs) (refl, is))))

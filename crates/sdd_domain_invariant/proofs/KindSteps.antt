@@ -307,7 +307,7 @@ module _ (sizes : Sizes) (ws : List ℕ) (vs : List View) (k : KindsInvariant si
           (λ j u apart e. knows_still sizes ws ws' u (k.each j u e) (tells j u e) (others j u apart e));
       bound = bound_kept sizes ws vs k.bound id v at ws' w within (ap (λ (m : Option ℕ × Option ℕ). m.0) post.marks) post.place;
       pledges = pledges_kept vs k.pledges id v w at post;
-      cells = cells_kept sizes ws vs k.cells id v w at ws' same kinds post.cells (λ d. (post.sizes d, (post.marks d).1));
+      cells = cells_kept sizes ws vs k.cells id v w at ws' same kinds post.cells (λ d. (post.marks d).1);
     }
 
     -- on no word, where it has no pledge and its own view isn't pledged: it may lose what it knows of owners
@@ -318,7 +318,7 @@ module _ (sizes : Sizes) (ws : List ℕ) (vs : List View) (k : KindsInvariant si
       bound = bound_kept sizes ws vs k.bound id v at ws w (λ i c. inr (c, (omega arith))) (ap (λ (m : Option ℕ × Option ℕ). m.0) marked)
           lives;
       pledges = pledges;
-      cells = cells_kept sizes ws vs k.cells id v w at ws (no_change sizes ws).cells (λ _ _. refl) rights (λ d. (of d, (marked d).1));
+      cells = cells_kept sizes ws vs k.cells id v w at ws (no_change sizes ws).cells (λ _ _. refl) rights (λ d. (marked d).1);
     }
 
     -- the words of slots and cells stay

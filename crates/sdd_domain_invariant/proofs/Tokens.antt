@@ -38,7 +38,7 @@ use Rattle.sdd_witness.specs.Ledger.{Pledge, Free, JoinsFree}
 use Rattle.sdd_views.specs.declared.PledgesView.{PledgesView}
 use Rattle.sdd_domain_invariant.specs.BoundInvariant.{over_at}
 use Rattle.sdd_domain_invariant.specs.PledgesInvariant.{HasPledge, IsLedger, booked_by}
-use Rattle.sdd_domain_invariant.proofs.Cells.{no_change, no_right, none_closed}
+use Rattle.sdd_domain_invariant.proofs.Cells.{no_change, no_right}
 use Rattle.sdd_domain_invariant.proofs.KindSteps as kind_steps
 use Rattle.sdd_domain_invariant.specs.DomainInvariant.{DomainInvariant}
 use Rattle.sdd_domain_invariant.specs.FractionSteps.{parting, departing, regained, uncounting, counts_of, counts_token, counting}
@@ -161,7 +161,7 @@ module _ (γ : ℕ) (sizes : Sizes) where
             omega arith);
         single = λ d. omega arith;
         taken = λ j v r e has. absurd (no_right v (ap (λ (u : View). u.cells.rights) (sym (only j v e))) r has);
-        closing = λ j k v e shuts. absurd (none_closed v (ap (λ (u : View). u.slots.closes) (sym (only j v e))) k shuts);
+        closing = λ k. omega arith;
         pointers = λ d _. let z = none (Rattle.sdd_word_invariant.specs.Words.pointer_word sizes d) in omega arith;
       };
     };

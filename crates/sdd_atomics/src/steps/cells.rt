@@ -17,9 +17,9 @@ ghost use Rattle.sdd_atomics.specs.DomainSeat.{view, epoch, slots, Taught, Moved
 
 use crate::domain_table::{DomainSeat, DomainTable};
 use crate::plays::{
-    ClaimForCollector, ClaimForOwned, ClaimForRaw, ClaimForShared, CutRight, ExchangeCell,
-    FillForOwned, FillForShared, FindCell, FreeBareCell, FreeCell, JoinRight, LearnCell, LookIn,
-    RetagCell, SeeIn, SwapBareCell, SwapCell,
+    ClaimForOwned, ClaimForRaw, ClaimForShared, CutRight, ExchangeCell, FillForOwned,
+    FillForShared, FindCell, FreeBareCell, FreeCell, JoinRight, LearnCell, LookIn, RetagCell,
+    SeeIn, SwapBareCell, SwapCell,
 };
 use sdd_views::CellKind;
 use sdd_witness::{CompareExchange, Swap, Witness, part, step_beside};
@@ -62,7 +62,7 @@ pub fn see_in(board: &DomainTable, token: &mut DomainSeat, cell: u32) -> u64
 }
 
 /// Tries to claim a cell of this kind by this word, and answers its word before. It was free where this is `FREE_CELL`: then the participant has the right to it,
-/// and the owner that it had is in the cell, if it had one.
+/// and the owner that it had is in the cell, if it had one. The kind is no collector's: one that is being closed comes of an open one.
 #[inline]
 pub fn claim_cell(
     board: &DomainTable,
@@ -87,9 +87,7 @@ pub fn claim_cell(
         CellKind::Owned => shared.compare_exchange::<ClaimForOwned>(token, at, FREE_CELL, word),
         CellKind::Shared => shared.compare_exchange::<ClaimForShared>(token, at, FREE_CELL, word),
         CellKind::Raw => shared.compare_exchange::<ClaimForRaw>(token, at, FREE_CELL, word),
-        CellKind::Collector => shared.compare_exchange::<ClaimForCollector>(
-            token, at, FREE_CELL, word,
-        ),
+        CellKind::Collector => unreachable!(),
     }
 }
 
@@ -259,7 +257,6 @@ pub fn free_cell(board: &DomainTable, token: &mut DomainSeat, cell: u32) -> u64
     requires place { HasPlace (epoch token.old) }
     requires rests { (view token.old).stakes.moves ≡ None }
     requires own { ((slots token.old).owns ≡ []) × ((slots token.old).holds ≡ None) × ((slots token.old).drawn ≡ []) × ((view token.old).stakes.owns ≡ []) }
-    requires closes { (slots token.old).closes ≡ None }
     requires right { (shared : Bool) × ((view token.old).cells.rights ≡ record { cell = cell; kind = cell_kind shared } ∷ []) }
     ensures { (shared : Bool) → (view token.old).cells.rights ≡ record { cell = cell; kind = cell_kind shared } ∷ []
         → Moved (FreesCell shared cell) token.old result token.new }
@@ -279,7 +276,6 @@ pub fn free_bare_cell(board: &DomainTable, token: &mut DomainSeat, cell: u32) ->
     requires place { HasPlace (epoch token.old) }
     requires rests { (view token.old).stakes.moves ≡ None }
     requires own { ((slots token.old).owns ≡ []) × ((slots token.old).holds ≡ None) × ((slots token.old).drawn ≡ []) × ((view token.old).stakes.owns ≡ []) }
-    requires closes { (slots token.old).closes ≡ None }
     requires right { (kind : CellKind) × IsBare kind × ((view token.old).cells.rights ≡ record { cell = cell; kind = kind } ∷ []) }
     ensures { Moved (FreesBare cell) token.old result token.new }
 {
@@ -295,7 +291,6 @@ pub fn cut_right(board: &DomainTable, token: &mut DomainSeat) -> Witness
     requires home { token.old.table_id ≡ id_of board.now }
     requires knows { Knows board.now token.old }
     requires place { HasPlace (epoch token.old) }
-    requires closes { (slots token.old).closes ≡ None }
     ensures participant { Taught (λ v _ w. w ≡ rightless v) token.old 0 token.new }
     ensures right { (result.table_id ≡ id_of board.now) × (result.views ≡ the_row.coded.code (rights_of (view token.old)) ∷ []) }
 {

@@ -3,24 +3,27 @@ ghost use Rattle.std.specs.Prelude.{◌≡◌, ◌<◌, true, None};
 ghost use Rattle.sdd_word_invariant.specs.Codes as codes;
 ghost use Rattle.sdd_word_invariant.specs.Codes.{free_word};
 ghost use Rattle.sdd_word_invariant.specs.Epoch.{HasPlace};
-ghost use Rattle.sdd_word_invariant.specs.Collectors.{Empties};
+ghost use Rattle.sdd_views.specs.declared.PrivateItem.{PrivateItem};
+ghost use Rattle.sdd_word_invariant.specs.Collectors.{Empties, HasPrivate};
 ghost use Rattle.sdd_word_invariant.specs.CollectorSteps.{WaitsFor};
 ghost use Rattle.sdd_shared_values.specs.SharedValues.{IsNoValueCode};
 ghost use Rattle.sdd_domain_invariant.specs.FractionsAtHome.{CarriedFractions, Moves};
 ghost use Rattle.sdd_domain_invariant.specs.FractionSteps.{CarriesAll, IsDeposit};
-ghost use Rattle.sdd_domain_invariant.specs.CollectorSteps.{ReclaimsOne, TakesPrivate, EmptiedOne, GivesOneEmptyBack};
+ghost use Rattle.sdd_domain_invariant.specs.CollectorSteps.{ReclaimsOne, TakesPrivate, EmptiedOne, GivesOneEmptyBack, GivesOneOwnBack};
 ghost use Rattle.sdd_atomics.specs.DomainTable.{id_of, book_of, places_of, slots_of};
 ghost use Rattle.sdd_atomics.specs.DomainSeat.{view, epoch, slots, Moved, MovedAlone, Knows};
 
 use super::slots::{FREE, WAITING};
 use crate::domain_table::{DomainSeat, DomainTable};
-use crate::plays::{FinishEmptying, GiveEmptyBack, ReclaimPrivate, TakePrivate};
+use crate::plays::{FinishEmptying, GiveEmptyBack, GiveOwnBack, ReclaimPrivate, TakePrivate};
 use sdd_shared_values::ValueFraction;
 
 /// Its private item was moved out by the close of its collector, and is still in its bag.
 pub const EMPTIED: u64 = 6;
 /// The close of its collector moves its private item out.
 pub const EMPTYING: u64 = 7;
+/// The close of its collector moves its private item out, and its bag has let go of it.
+pub const LEFT: u64 = 8;
 
 /// The word of a slot whose item waits for this collector.
 #[inline]
@@ -31,7 +34,7 @@ pub fn private_word(collector: u32) -> u64
 }
 
 /// Tries to claim a private item for its bag, and answers the slot's word before. Where this is the `private_word` of its collector, it waits as any other
-/// from now on, and it is known what it shows. Else the collector's close came first: `EMPTYING`, and nothing changes, or `EMPTIED`.
+/// from now on, and it is known what it shows. Else the collector's close came first: `EMPTYING`, and it waits for no collector from now on, or `EMPTIED`.
 #[inline]
 pub fn reclaim_private(
     board: &DomainTable,
@@ -105,4 +108,22 @@ pub fn give_empty_back(board: &DomainTable, token: &mut DomainSeat, slot: u32)
         .table
         .shared
         .store::<GiveEmptyBack>(token, board.slot_word(slot), FREE);
+}
+
+/// Gives back the slot of an item of its own bag that it emptied: all stakes in it go home.
+#[inline]
+pub fn give_own_back(board: &DomainTable, token: &mut DomainSeat, slot: u32)
+    requires home { token.old.table_id ≡ id_of board.now }
+    requires knows { Knows board.now token.old }
+    requires inside { slot < slots_of board.now }
+    requires place { HasPlace (epoch token.old) }
+    requires emptied { Moves (view token.old) slot × Empties (view token.old) slot }
+    requires own { (item : PrivateItem) × HasPrivate (view token.old) item × (item.item.slot ≡ slot) }
+    requires row { (rest : CarriedFractions) × CarriesAll (book_of board.now) slot (places_of board.now) 0 IsNoValueCode rest token.old.me.1 }
+    ensures { Moved (GivesOneOwnBack slot) token.old (free_word 0) token.new }
+{
+    board
+        .table
+        .shared
+        .store::<GiveOwnBack>(token, board.slot_word(slot), FREE);
 }

@@ -7,7 +7,7 @@ use Rattle.sdd_atomics.proofs.steps.collectors.give_private_back.Goals as goal
 
 pub store-requires : goal.store-requires
 store-requires c = let r = c.requires in
-    (r.home, omega arith, may_give_private_back _ _ _ _ _ r.knows.0 r.knows.1 r.place _ c.args.slot c.slot_word.ensures r.inside r.rests r.found r.due)
+    (r.home, omega arith, may_give_private_back _ _ _ _ _ r.knows.0 r.knows.1 r.place _ c.args.slot c.slot_word.ensures r.inside r.rests r.found)
 
 pub returns : goal.returns
 returns c = let e = c.store.ensures in

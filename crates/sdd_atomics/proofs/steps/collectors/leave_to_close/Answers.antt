@@ -8,12 +8,12 @@ pub compare_exchange-requires : goal.compare_exchange-requires
 compare_exchange-requires c = let r = c.requires in (
   r.home,
   omega arith,
-  may_leave_to_close _ _ _ _ _ r.knows.0 r.knows.1 r.place _ c.args.slot c.slot_word.ensures r.inside r.rests c.args.collector (omega arith) r.waits,
+  may_leave_to_close _ _ _ _ _ r.knows.0 r.knows.1 r.place _ c.args.slot c.slot_word.ensures r.inside r.rests r.waits.0 r.waits.1,
 )
 
 pub returns : goal.returns
-returns c = let e = c.compare_exchange.ensures in (
+returns c = λ k waits. let e = c.compare_exchange.ensures in (
   e.0,
   e.1,
-  e.2 c.args.slot c.args.collector (c.slot_word.ensures ∙ ap (λ (z : Sizes). slot_word z c.args.slot) (sym c.requires.knows.0)) c.requires.waits,
+  e.2 c.args.slot k (c.slot_word.ensures ∙ ap (λ (z : Sizes). slot_word z c.args.slot) (sym c.requires.knows.0)) waits,
 )
