@@ -78,6 +78,7 @@ module _ (γ : ℕ) (sizes : Sizes) (slots id : ℕ) (me : SeatState) (same : me
       may_give_empty_back late = at_slot (λ _. free_word 0) (λ j _. OfSlot GivesOneEmptyBack j me (free_word 0))
           (steps.gives_empty_back slots id me live slot within moved mine rest row_known late)
 
-      pub may_give_own_back : (item : PrivateItem) → HasPrivate me.0 item → item.item.slot ≡ slot → May (λ _. free_word 0) (λ _. OfSlot GivesOneOwnBack i me (free_word 0))
+      pub may_give_own_back : (item : PrivateItem) → HasPrivate me.0 item → item.item.slot ≡ slot
+          → May (λ _. free_word 0) (λ _. OfSlot GivesOneOwnBack i me (free_word 0))
       may_give_own_back item has of = at_slot (λ _. free_word 0) (λ j _. OfSlot GivesOneOwnBack j me (free_word 0))
           (steps.gives_own_back slots id me live slot within moved mine rest row_known item has of)

@@ -271,8 +271,8 @@ module _ (slots id : ℕ) (me : SeatState) (live : HasPlace me.0.epoch) where
         })
         (λ miss. ⊎_elim (λ (e : x ≡ old). absurd (miss e)) (λ (o : (x ≡ emptied_word) ⊎ (x ≡ emptying_word)). ⊎_elim
         (λ (e : x ≡ emptied_word). let u : View = found_emptied slot v in let ed = emptied_is in
-        subst (Follows γ sizes id i me told s x) (sym (c.1 e)) (learns s h at (ap alive e ∙ ed.0) (ap waiting e ∙ ed.1) told v.slots.privates (slot ∷ v.slots.emptied)
-        v.slots.left (at_once x (u, me.1)
+        subst (Follows γ sizes id i me told s x) (sym (c.1 e)) (learns s h at (ap alive e ∙ ed.0) (ap waiting e ∙ ed.1) told v.slots.privates
+        (slot ∷ v.slots.emptied) v.slots.left (at_once x (u, me.1)
         (u, subst (Reclaims collector slot v x) (c.1 e) c, refl, (λ hit. absurd (miss hit)), (λ _. refl)))))
         (λ (e : x ≡ emptying_word). let u : View = orphaned slot v in let em = emptying_is in
         subst (Follows γ sizes id i me told s x) (sym (c.2 e)) (learns s h at (ap alive e ∙ em.0) (ap waiting e ∙ em.1) told u.slots.privates v.slots.emptied

@@ -17,9 +17,9 @@ ghost use Rattle.sdd_atomics.specs.DomainSeat.{view, epoch, slots, Taught, Moved
 
 use crate::domain_table::{DomainSeat, DomainTable};
 use crate::plays::{
-    ClaimForOwned, ClaimForRaw, ClaimForShared, CutRight, ExchangeCell,
-    FillForOwned, FillForShared, FindCell, FreeBareCell, FreeCell, JoinRight, LearnCell, LookIn,
-    RetagCell, SeeIn, SwapBareCell, SwapCell,
+    ClaimForOwned, ClaimForRaw, ClaimForShared, CutRight, ExchangeCell, FillForOwned,
+    FillForShared, FindCell, FreeBareCell, FreeCell, JoinRight, LearnCell, LookIn, RetagCell,
+    SeeIn, SwapBareCell, SwapCell,
 };
 use sdd_views::CellKind;
 use sdd_witness::{CompareExchange, Swap, Witness, part, step_beside};
@@ -61,8 +61,8 @@ pub fn see_in(board: &DomainTable, token: &mut DomainSeat, cell: u32) -> u64
         .load::<SeeIn>(token, board.cell_word(cell))
 }
 
-/// Tries to claim a cell of this kind by this word, which is no collector's that is being closed, and answers its word before. It was free where this is `FREE_CELL`: then the participant has the right to it,
-/// and the owner that it had is in the cell, if it had one.
+/// Tries to claim a cell of this kind by this word, and answers its word before. It was free where this is `FREE_CELL`: then the participant has the right to it,
+/// and the owner that it had is in the cell, if it had one. The kind is no collector's: one that is being closed comes of an open one.
 #[inline]
 pub fn claim_cell(
     board: &DomainTable,

@@ -137,8 +137,8 @@ pub fn give_private_back(board: &DomainTable, token: &mut DomainSeat, slot: u32)
         .store::<GivePrivateBack>(token, board.slot_word(slot), FREE);
 }
 
-/// Collects an item that waits, beside the token of the right to the cell of an open collector: from now on it waits for this collector, and what was remembered of it
-/// is forgotten, since the close of the collector may move the value out.
+/// Collects an item that waits, beside the token of the right to the cell of an open collector: from now on it waits for this collector, and what was
+/// remembered of it is forgotten, since the close of the collector may move the value out.
 #[inline]
 pub fn collect(
     board: &DomainTable,
