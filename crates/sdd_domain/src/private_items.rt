@@ -18,10 +18,11 @@ use crate::free_slot_hints::FreeSlotHints;
 use crate::holds_own_domain::HoldsOwnDomain;
 use sdd_atomics::grips::join_rest;
 use sdd_atomics::steps::collectors::{
-    LEFT, claim_own_private, claim_private, give_own_back, give_private_back, leave_to_close,
+    claim_own_private, claim_private, give_private_back, leave_to_close,
 };
 use sdd_atomics::steps::emptying::{
-    EMPTYING, finish_emptying, give_empty_back, private_word, reclaim_private, take_private,
+    EMPTYING, LEFT, finish_emptying, give_empty_back, give_own_back, private_word, reclaim_private,
+    take_private,
 };
 use sdd_atomics::steps::slots::look;
 use sdd_atomics::{DomainSeat, DomainTable};
