@@ -353,17 +353,17 @@ module _ (γ : ℕ) (sizes : Sizes) (slots id : ℕ) (me : SeatState) where
       there : i ≡ slot_word me.0.sizes slot
       there = is ∙ ap (λ (z : Sizes). slot_word z slot) (sym same)
 
-      within : slot < me.0.sizes.slots
+      pub within : slot < me.0.sizes.slots
       within = let e = ap (λ (z : Sizes). z.slots) same in omega arith
 
-      at_slot : (f : ℕ → ℕ) (told : ℕ → ℕ → SeatState → Type 0) → Own (slot_word me.0.sizes slot) f (told (slot_word me.0.sizes slot)) → May i f (told i)
+      pub at_slot : (f : ℕ → ℕ) (told : ℕ → ℕ → SeatState → Type 0) → Own (slot_word me.0.sizes slot) f (told (slot_word me.0.sizes slot)) → May i f (told i)
       at_slot f told = as_known i (slot_word me.0.sizes slot) f told there
 
       row_known : (Is : _ → Type 0) (rest : CarriedFractions) → CarriesAll γ slot sizes.participants 0 Is rest me.1
           → CarriesAll me.0.stakes.book slot me.0.sizes.participants 0 Is rest me.1
       row_known Is rest = row_as_known slot 0 Is rest
 
-      all_looked : sizes.participants ≤ me.0.slots.looked → me.0.sizes.participants ≤ me.0.slots.looked
+      pub all_looked : sizes.participants ≤ me.0.slots.looked → me.0.sizes.participants ≤ me.0.slots.looked
       all_looked all = let e = ap (λ (z : Sizes). z.participants) same in omega arith
 
       pub may_claim : (y : ℕ) → alive y ≡ 1 → me.0.stakes.moves ≡ None → May i (λ x. either (eqb x (free_word 0)) y x)

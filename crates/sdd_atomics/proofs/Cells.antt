@@ -24,6 +24,7 @@ use Rattle.sdd_domain_invariant.specs.FilledInvariant.{HasRecord}
 use Rattle.sdd_domain_invariant.specs.PledgesInvariant.{pledging, freeing}
 use Rattle.sdd_domain_invariant.specs.FractionSteps.{SeatState}
 use Rattle.sdd_domain_invariant.specs.CellSteps.{put_in, brought_out, BringsOut, ClaimsCell, SwapsOne, ExchangesOne, FreesCell, FillsBare, RetagsOne, SwapsBare, IsBare, FindsCell, LooksInCell, SeesInCell, LearnsCell, OfCell}
+use Rattle.sdd_domain_invariant.proofs.Cells.{bare_open, owner_open}
 use Rattle.sdd_domain_invariant.proofs.CellSteps as cells
 use Rattle.sdd_domain_invariant.proofs.Fillings.{has_none}
 use Rattle.sdd_word_invariant.proofs.Codes.{held_which}
@@ -86,7 +87,7 @@ module _ (γ : ℕ) (sizes : Sizes) (slots id : ℕ) (me : SeatState) (same : me
       (given : (r : ShownValue) → HasRecord me.0.stakes.owns r → r.shared ≡ shared) (more : 0 < y) where
     pub may_claim : May (λ x. either (eqb x 0) y x) (OfCell (ClaimsCell y (cell_kind shared)) i me)
     may_claim = as_known (λ x. either (eqb x 0) y x) (λ j. OfCell (ClaimsCell y (cell_kind shared)) j me)
-        (cells.claims slots id me live rests cell within y owns loose drawn shared given (cell_kind shared) more
+        (cells.claims slots id me live rests cell within y owns loose drawn shared given (cell_kind shared) (λ k. owner_open shared k cell) more
         (λ ws counts. cells.word_counted me.0.sizes ws shared y counts))
 
     pub may_fill : (kind : CellKind) → IsBare kind → me.0.cells.rights ≡ record { cell = cell; kind = kind } ∷ [] → May (λ _. y) (OfCell (FillsBare y shared) i me)
@@ -121,9 +122,10 @@ module _ (γ : ℕ) (sizes : Sizes) (slots id : ℕ) (me : SeatState) (same : me
       (cells.retags slots id me live rests cell within old y holds more loose)
 
   module _ (y : ℕ) (none : held_slots y ≡ []) (more : 0 < y) (owns : me.0.slots.owns ≡ []) (loose : me.0.slots.holds ≡ None) (kind : CellKind) where
-    pub may_claim_bare : me.0.slots.drawn ≡ [] → me.0.stakes.owns ≡ [] → May (λ x. either (eqb x 0) y x) (OfCell (ClaimsCell y kind) i me)
-    may_claim_bare drawn told = as_known (λ x. either (eqb x 0) y x) (λ j. OfCell (ClaimsCell y kind) j me)
-        (cells.claims slots id me live rests cell within y (owns ∙ sym none) loose drawn false (λ r has. absurd (has_none r me.0.stakes.owns told has)) kind more
+    pub may_claim_bare : IsBare kind → me.0.slots.drawn ≡ [] → me.0.stakes.owns ≡ [] → May (λ x. either (eqb x 0) y x) (OfCell (ClaimsCell y kind) i me)
+    may_claim_bare bare drawn told = as_known (λ x. either (eqb x 0) y x) (λ j. OfCell (ClaimsCell y kind) j me)
+        (cells.claims slots id me live rests cell within y (owns ∙ sym none) loose drawn false (λ r has. absurd (has_none r me.0.stakes.owns told has)) kind
+        (λ k. bare_open kind bare k cell) more
         (λ ws _. cells.fits_any me.0.sizes ws kind y none))
 
     pub may_swap_bare : IsBare kind → (p : Pledge) → me.0.pledges.own ≡ p ∷ [] → p.view ≡ the_row.coded.code (right_to cell kind)
@@ -134,7 +136,8 @@ module _ (γ : ℕ) (sizes : Sizes) (slots id : ℕ) (me : SeatState) (same : me
   pub may_free : me.0.slots.owns ≡ [] → me.0.slots.holds ≡ None → me.0.slots.drawn ≡ [] → me.0.stakes.owns ≡ [] → (shared : Bool)
       → me.0.cells.rights ≡ record { cell = cell; kind = cell_kind shared } ∷ [] → May (λ _. 0) (FreesOwn i me)
   may_free owns loose drawn none shared mine = as_known (λ _. 0) (λ j. FreesOwn j me) (λ s h long at small.
-      let a = cells.frees slots id me live rests cell within owns loose drawn shared (λ r has. has_none r me.0.stakes.owns none has) mine s h long at small in (
+      let a = cells.frees slots id me live rests cell within owns loose drawn shared (λ r has. has_none r me.0.stakes.owns none has) mine s h long at small
+      in (
         a.0,
         a.1,
         a.2,
@@ -144,10 +147,11 @@ module _ (γ : ℕ) (sizes : Sizes) (slots id : ℕ) (me : SeatState) (same : me
             (a.4 other where_is),
       ))
 
-  pub may_free_bare : me.0.slots.owns ≡ [] → me.0.slots.holds ≡ None → me.0.slots.drawn ≡ [] → me.0.stakes.owns ≡ [] → (kind : CellKind) → IsBare kind
-      → me.0.cells.rights ≡ record { cell = cell; kind = kind } ∷ [] → May (λ _. 0) (FreesOwnBare i me)
+  pub may_free_bare : me.0.slots.owns ≡ [] → me.0.slots.holds ≡ None → me.0.slots.drawn ≡ [] → me.0.stakes.owns ≡ []
+      → (kind : CellKind) → IsBare kind → me.0.cells.rights ≡ record { cell = cell; kind = kind } ∷ [] → May (λ _. 0) (FreesOwnBare i me)
   may_free_bare owns loose drawn none kind bare mine = as_known (λ _. 0) (λ j. FreesOwnBare j me) (λ s h long at small.
-      let a = cells.frees_bare slots id me live rests cell within owns loose drawn kind bare (λ r has. has_none r me.0.stakes.owns none has) mine s h long at small in (
+      let a = cells.frees_bare slots id me live rests cell within owns loose drawn kind bare (λ r has. has_none r me.0.stakes.owns none has) mine s h long
+      at small in (
         a.0,
         a.1,
         a.2,

@@ -7,3 +7,5 @@ pub mod Pointers
 pub mod Ending
 pub mod Lasts
 pub mod JobsAllowed
+pub mod EmptyingAllowed
+pub mod CollectorsAllowed

@@ -24,7 +24,7 @@ abbrev pub FitsCell : CellKind → ℕ → List ShownValue → Type 0
 FitsCell Owned word told = (r : ShownValue) → HasRecord told r → r.shared ≡ false
 FitsCell Shared word told = (r : ShownValue) → HasRecord told r → r.shared ≡ true
 FitsCell Raw word told = (held_slots word ≡ []) × (told ≡ [])
-FitsCell Collector word told = (held_slots word ≡ []) × (told ≡ [])
+FitsCell Collector word told = ⊥
 
 -- it has a pledge of the view of the token of the right to a cell, which is for owners of which there may be several, or not
 abbrev pub HasPledgedRight : View → ℕ → Bool → Type 0

@@ -6,3 +6,5 @@ pub mod Counts
 pub mod Grips
 pub mod Clones
 pub mod Cells
+pub mod Emptying
+pub mod Collectors

@@ -8,17 +8,20 @@ ghost use Rattle.sdd_views.specs.Views.{owner_token};
 ghost use Rattle.sdd_domain_invariant.specs.BankInvariant.{founded, bank_of, with_ledger, ledger_of};
 ghost use Rattle.sdd_domain_invariant.specs.FractionSteps.{ClaimsAll, TakesOut, TakesHeld, IsDeposit, RetiresOne, GivesAll, DefersJob, GivesPlace, DiscardsAll, ClosesHome, EndsAll, EntersUnit, OfSlot, parting, departing, regained, uncounting, counts_of, counting, ReleasesOne, LeavesOne, TakesOneBack, DrawsUnit, AddsSeen};
 ghost use Rattle.sdd_word_invariant.specs.Codes.{raw_word};
+ghost use Rattle.sdd_domain_invariant.specs.CollectorSteps.{ReclaimsOne, TakesPrivate, EmptiedOne, GivesOneEmptyBack, GivesOneOwnBack, EmptiesOne, EmptiesOwnOne, GivesOnePrivateBack};
 ghost use Rattle.sdd_domain_invariant.specs.RawSteps.{TurnsRawOne, RegainsOne, SeesRawOne};
-ghost use Rattle.sdd_views.specs.declared.CellKind.TheVariants.{Owned as for_owned, Shared as for_shared, Raw as for_raw, Collector as for_collector};
+ghost use Rattle.sdd_views.specs.declared.CellKind.TheVariants.{Owned as for_owned, Shared as for_shared, Raw as for_raw};
 ghost use Rattle.sdd_domain_invariant.specs.CellSteps.{ClaimsCell, FillsBare, LooksInCell, RetagsOne, SwapsBare, SeesInCell, OfCell, FindsPointer, OfPointer, rightless, rights_of, righted};
 ghost use Rattle.sdd_atomics.specs.Cells.{SwapsPledged, ExchangesPledged, FreesOwn, FreesOwnBare, RecallsCell, FindsRight};
 ghost use Rattle.sdd_atomics.specs.Clones.{AddsPledged};
+ghost use Rattle.sdd_atomics.specs.Emptying.{collector_named};
+ghost use Rattle.sdd_atomics.specs.Collectors.{ClosesOwn, EndsOwn, LeavesWaiting, CollectsBy};
 ghost use Rattle.sdd_atomics.specs.DomainSeat.{Sits, Told, HousesMoved, WatchesOwned, RecallsOwned};
 
 use atomic_table::{Join, Play, Split};
 use sdd_shared_values::{Deals, ValueFraction};
 use sdd_views::View;
-use sdd_witness::GhostUpdateBeside;
+use sdd_witness::{GhostUpdate, GhostUpdateBeside};
 
 pub struct NewSeat;
 
@@ -182,6 +185,78 @@ impl Play<ValueFraction, View> for GiveBack {
     ghost then = { λ step. OfSlot GivesAll step.word };
 }
 
+pub struct ReclaimPrivate;
+
+impl Play<ValueFraction, View> for ReclaimPrivate {
+    ghost then = { λ step. OfSlot (ReclaimsOne (collector_named step.first)) step.word };
+}
+
+pub struct TakePrivate;
+
+impl Deals<View> for TakePrivate {
+    ghost then = { λ slot me l me'. TakesPrivate slot me me' × IsDeposit slot me l };
+}
+
+pub struct FinishEmptying;
+
+impl Play<ValueFraction, View> for FinishEmptying {
+    ghost then = { λ step. OfSlot EmptiedOne step.word };
+}
+
+pub struct GiveEmptyBack;
+
+impl Play<ValueFraction, View> for GiveEmptyBack {
+    ghost then = { λ step. OfSlot GivesOneEmptyBack step.word };
+}
+
+pub struct GiveOwnBack;
+
+impl Play<ValueFraction, View> for GiveOwnBack {
+    ghost then = { λ step. OfSlot GivesOneOwnBack step.word };
+}
+
+pub struct BeginClose;
+
+impl GhostUpdate<ValueFraction, View> for BeginClose {
+    ghost then = { ClosesOwn };
+}
+
+pub struct EndClose;
+
+impl GhostUpdate<ValueFraction, View> for EndClose {
+    ghost then = { EndsOwn };
+}
+
+pub struct ClaimPrivate;
+
+impl Play<ValueFraction, View> for ClaimPrivate {
+    ghost then = { λ step. OfSlot (EmptiesOne (collector_named step.first)) step.word };
+}
+
+pub struct ClaimOwnPrivate;
+
+impl Play<ValueFraction, View> for ClaimOwnPrivate {
+    ghost then = { λ step. OfSlot (EmptiesOwnOne (collector_named step.first)) step.word };
+}
+
+pub struct LeaveToClose;
+
+impl Play<ValueFraction, View> for LeaveToClose {
+    ghost then = { λ step. LeavesWaiting step.word };
+}
+
+pub struct GivePrivateBack;
+
+impl Play<ValueFraction, View> for GivePrivateBack {
+    ghost then = { λ step. OfSlot GivesOnePrivateBack step.word };
+}
+
+pub struct Collect;
+
+impl Play<ValueFraction, View> for Collect {
+    ghost then = { λ step. CollectsBy step.first step.word };
+}
+
 pub struct Defer;
 
 impl Play<ValueFraction, View> for Defer {
@@ -294,12 +369,6 @@ pub struct ClaimForRaw;
 
 impl Play<ValueFraction, View> for ClaimForRaw {
     ghost then = { λ step. OfCell (ClaimsCell step.second for_raw) step.word };
-}
-
-pub struct ClaimForCollector;
-
-impl Play<ValueFraction, View> for ClaimForCollector {
-    ghost then = { λ step. OfCell (ClaimsCell step.second for_collector) step.word };
 }
 
 pub struct FillForOwned;

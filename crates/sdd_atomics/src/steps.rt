@@ -12,7 +12,9 @@ ghost use Rattle.sdd_domain_invariant.specs.FractionSteps.{CarriesSeen, EndsAll}
 ghost use Rattle.sdd_atomics.specs.DomainSeat.{view, epoch, words_known, Stepped, Taught, HasPublished, HasClosed, Knows, slots};
 
 pub mod cells;
+pub mod collectors;
 pub mod counts;
+pub mod emptying;
 pub mod jobs;
 pub mod pointers;
 pub mod raw;

@@ -1,5 +1,5 @@
 -- A participant is posed after each step on a place of a job.
-use Rattle.std.proofs.Common.{◌≡◌, ℕ, ◌+◌, ◌<◌, List, [], ◌∷◌, ◌++◌, map, sym, refl, ap, ◌∙◌, subst, arith}
+use Rattle.std.proofs.Common.{◌≡◌, ℕ, ◌+◌, ◌<◌, List, ◌∷◌, sym, ap, ◌∙◌, subst, arith}
 use mathlib.Core.Logic.{dite}
 use native.Mathlib.Decide.{ℕ_discrete}
 use Rattle.atomic_table.specs.declared.shared.Seat.{Seat}
@@ -9,16 +9,14 @@ use Rattle.sdd_participants.specs.declared.participant.Participant.{Participant}
 use Rattle.sdd_participants.specs.Waiting.{Waiting}
 use Rattle.sdd_participants.specs.EpochState.{awaiting}
 use Rattle.sdd_shared_values.specs.declared.value_fraction.ValueFraction.{ValueFraction}
-use Rattle.sdd_views.specs.declared.WaitingItem.{WaitingItem}
 use Rattle.sdd_views.specs.declared.View.{View}
 use Rattle.sdd_word_invariant.specs.Sums.{total}
 use Rattle.sdd_word_invariant.specs.Slots.{waits_in}
 use Rattle.sdd_word_invariant.specs.SlotSteps.{retired_now, DefersAt, GivesBack}
-use Rattle.sdd_word_invariant.proofs.Sums.{is_same, is_other, total_has, total_snoc}
+use Rattle.sdd_word_invariant.proofs.Sums.{is_other, total_snoc}
 use Rattle.sdd_domain_invariant.specs.FractionsAtHome.{CarriedFractions}
 use Rattle.sdd_atomics.specs.declared.domain_table.DomainTable.{DomainTable}
-use Rattle.sdd_atomics.specs.DomainTable.{sizes_of, book_of, places_of, slots_of, most_waiting_of}
-use Rattle.sdd_atomics.specs.DomainSeat.{slots}
+use Rattle.sdd_atomics.specs.DomainTable.{book_of, places_of, slots_of, most_waiting_of}
 use Rattle.sdd_domain.specs.InBags.{AreInBags, KnownWaiting}
 use Rattle.sdd_domain.specs.WaitingItems.{what_of}
 use Rattle.sdd_domain.specs.BetweenCalls.{CarriesSeenOnly, IsBetweenCalls}

@@ -1,5 +1,5 @@
 -- What a lone participant reclaims, for its world
-use Rattle.std.proofs.Common.{◌≡◌, ◌≢◌, ℕ, ◌<◌, IsTrue, List, Some, None, map, set, slice_index_or, sym, refl, ap, ◌∙◌, subst, arith, length-set}
+use Rattle.std.proofs.Common.{◌≡◌, ◌≢◌, ℕ, ◌<◌, IsTrue, List, Some, None, set, slice_index_or, sym, refl, ap, ◌∙◌, subst, arith, length-set}
 use Rattle.std.specs.Prelude.{Option, Bool, option_map}
 use mathlib.Core.Logic.{dite}
 use native.Mathlib.Decide.{ℕ_discrete}
@@ -143,7 +143,8 @@ module _ {J : Type 0} (R : RattleType) (p : LocalModel R.Denot J) (t : AreTied p
     table = t.table;
     jobs = λ j l. subst (λ (w : ℕ). MatchesPlace w (entry_at p.member.jobs j))
         (sym (other (place_number p.member j) (λ e. let s = is.inside in omega arith))) (t.jobs j l);
-    bags = first_plain_out p.member.limits.slots (known_waiting p.member.slots) p.member.own.bags.waiting p.member.due t.bags (Item slot) m.due is.first is.once;
+    bags = first_plain_out p.member.limits.slots (known_waiting p.member.slots) p.member.own.bags.waiting p.member.due t.bags (Item slot) m.due is.first
+        is.once;
     now = t.now;
   }
 

@@ -281,7 +281,8 @@ module _ (n : ℕ) (known : KnownWaiting) (waiting : List Waiting) (taken : List
         bags = ap left bags ∙ (left_alike n (map older items) ∙ ap (map (waiting_of n)) (sym (older_by known.closes not t.all each)));
         due = ap due_of bags ∙ (due_alike n (map older items) ∙ ap (map (what_of n)) (sym (older_by known.closes (λ b. b) t.all each)));
         items = λ i high. total_map (private_in i) older_private (λ x. refl) known.private ∙ t.items i high;
-        once = λ i. let s = ap (total (waits_in i)) (items_older t.all) in let m = total_map (waits_in i) older (λ x. refl) items in let o = t.once i in omega arith;
+        once = λ i. let s = ap (total (waits_in i)) (items_older t.all) in let m = total_map (waits_in i) older (λ x. refl) items in let o = t.once i in
+            omega arith;
       }
 
   -- ---- what is due first

@@ -5,9 +5,7 @@ use mathlib.Core.Option.{some}
 use lib.ListN.{get_elem?}
 use Rattle.sdd_views.specs.declared.PrivateItem.{PrivateItem}
 use Rattle.sdd_views.specs.declared.WaitingItem.{WaitingItem}
-use Rattle.sdd_word_invariant.specs.Collectors.{private_in}
 use Rattle.sdd_word_invariant.specs.CollectorSteps.{for_collector, without_private}
-use Rattle.sdd_word_invariant.specs.Slots.{waits_in}
 use Rattle.sdd_word_invariant.specs.SlotSteps.{older, older_private, without_item}
 use Rattle.sdd_word_invariant.specs.Sums.{total}
 use Rattle.sdd_word_invariant.proofs.Sums.{total_only, total_snoc, total_two}
@@ -55,7 +53,8 @@ module _ {X : Type 0} where
 
 -- ---- two tests
 module _ {X : Type 0} where
-  swap : (b c : Bool) (p q : X → Bool) (x : X) (us : List X) → p x ≡ b → q x ≡ c → filter p (cond c (x ∷ us) us) ≡ cond b (cond c (x ∷ filter p us) (filter p us)) (filter p us)
+  swap : (b c : Bool) (p q : X → Bool) (x : X) (us : List X) → p x ≡ b → q x ≡ c
+      → filter p (cond c (x ∷ us) us) ≡ cond b (cond c (x ∷ filter p us) (filter p us)) (filter p us)
   swap b true p q x us at_p at_q = ap (λ (e : Bool). cond e (x ∷ filter p us) (filter p us)) at_p
   swap true false p q x us at_p at_q = refl
   swap false false p q x us at_p at_q = refl
@@ -168,7 +167,8 @@ module _ (p : WaitingItem → Bool) where
       ∙ ap (λ (l : List WaitingItem). cond (p (item_of x)) (item_of x ∷ l) l) (items_left xs)
 
 -- ---- each counts in one of the two lists
-pub counts : (g : WaitingItem → ℕ) (all : List Kept) → total g (map item_of all) ≡ total g (plain_of all) + total (λ (x : PrivateItem). g x.item) (private_of all)
+pub counts : (g : WaitingItem → ℕ) (all : List Kept)
+    → total g (map item_of all) ≡ total g (plain_of all) + total (λ (x : PrivateItem). g x.item) (private_of all)
 counts g [] = refl
 counts g (Plainly x ∷ xs) = let r = counts g xs in omega arith
 counts g (Privately x ∷ xs) = let r = counts g xs in omega arith

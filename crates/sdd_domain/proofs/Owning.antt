@@ -1,5 +1,5 @@
 -- What a lone participant's looks at an owner's item, and its letting go, are for its world
-use Rattle.std.proofs.Common.{◌≡◌, ◌≢◌, ◌↔◌, ℕ, ◌+◌, ◌<◌, Bool, true, false, IsTrue, List, [], ◌∷◌, ◌++◌, Some, None, map, get_or, set, slice_index_or, sym, refl, ap, ◌∙◌, subst, arith, length-set, ◌-◌, ◌^◌, ◌≤◌}
+use Rattle.std.proofs.Common.{◌≡◌, ◌≢◌, ◌↔◌, ℕ, ◌+◌, ◌<◌, Bool, true, false, IsTrue, List, [], ◌∷◌, ◌++◌, Some, None, get_or, set, slice_index_or, sym, refl, ap, ◌∙◌, subst, arith, length-set, ◌-◌, ◌^◌, ◌≤◌}
 use Rattle.std.specs.Prelude.{Option, if◌then◌else◌, option_map, ◌==◌}
 use Rattle.std.proofs.lemmas.Bool.{true≢false, lt-ltb}
 use Rattle.std.proofs.lemmas.List.{set-get_or}

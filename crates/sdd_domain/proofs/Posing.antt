@@ -200,39 +200,39 @@ module _ (b : DomainTable) (p : ℕ) where
   pub posed_reclaims : (own : Participant) (slot : ℕ) (s t : Seat ValueFraction View) → IsBetweenCalls b p own s
       → Taught (GivesOneBack slot) s 0 t → IsBetweenCalls b p own t
   posed_reclaims own slot s t q e = subst (λ (v : View). IsBetweenCalls b p own (record t { me = (v, t.me.1) })) (sym e.3.0) record {
-        home = e.0 ∙ q.home;
-        purse = subst (λ (xs : CarriedFractions). CarriesSeenOnly (book_of b) (places_of b) p s.me.0.stakes.sees xs) (sym e.2) q.purse;
-        sight = record { owns = q.sight.owns; sees = q.sight.sees; once = q.sight.once };
-        unseen = q.unseen;
-        rests = q.rests;
-        all = q.all;
-        place = q.place;
-        inside = q.inside;
-        count = q.count;
-        closed = q.closed;
-        opened = q.opened;
-        near = q.near;
-        lone = q.lone;
-        free = q.free;
-        knows = q.knows;
-        found = q.found;
-        quiet = record {
-          owns = q.quiet.owns;
-          drawn = q.quiet.drawn;
-          holds = q.quiet.holds;
-          looked = q.quiet.looked;
-          over = q.quiet.over;
-          emptied = q.quiet.emptied;
-          empties = q.quiet.empties;
-          left = q.quiet.left;
-        };
-        pledges = q.pledges;
-        rights = q.rights;
-        waiting = λ i some_wait. q.waiting i (let m = no_more slot i s.me.0.slots.waits in omega arith);
-        room = q.room;
-        pace = q.pace;
-        idle = q.idle;
-      }
+    home = e.0 ∙ q.home;
+    purse = subst (λ (xs : CarriedFractions). CarriesSeenOnly (book_of b) (places_of b) p s.me.0.stakes.sees xs) (sym e.2) q.purse;
+    sight = record { owns = q.sight.owns; sees = q.sight.sees; once = q.sight.once };
+    unseen = q.unseen;
+    rests = q.rests;
+    all = q.all;
+    place = q.place;
+    inside = q.inside;
+    count = q.count;
+    closed = q.closed;
+    opened = q.opened;
+    near = q.near;
+    lone = q.lone;
+    free = q.free;
+    knows = q.knows;
+    found = q.found;
+    quiet = record {
+      owns = q.quiet.owns;
+      drawn = q.quiet.drawn;
+      holds = q.quiet.holds;
+      looked = q.quiet.looked;
+      over = q.quiet.over;
+      emptied = q.quiet.emptied;
+      empties = q.quiet.empties;
+      left = q.quiet.left;
+    };
+    pledges = q.pledges;
+    rights = q.rights;
+    waiting = λ i some_wait. q.waiting i (let m = no_more slot i s.me.0.slots.waits in omega arith);
+    room = q.room;
+    pace = q.pace;
+    idle = q.idle;
+  }
 
   pub posed_arrived : (own new : Participant) (c g : ℕ) (xs : List WaitingItem) (ys : List PrivateItem) (s t : Seat ValueFraction View)
       → IsBetweenCalls b p own s → t.table_id ≡ s.table_id

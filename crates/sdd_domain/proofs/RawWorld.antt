@@ -125,7 +125,8 @@ module _ {T J : Type 0} (v : LocalModel T J) (k y : ℕ) where
 
 -- so it is where it has an owner, and where it is out as raw
 owned_kept : IsKeptBy 1
-owned_kept = let o = owned_is 0 (omega arith) in (o.1, (sound.lives 1 (let a = o.0 in omega arith)).1, (λ e. absurd (omega arith)), alive_public 1 (let a = o.0 in omega arith))
+owned_kept = let o = owned_is 0 (omega arith) in
+    (o.1, (sound.lives 1 (let a = o.0 in omega arith)).1, (λ e. absurd (omega arith)), alive_public 1 (let a = o.0 in omega arith))
 
 raw_kept : IsKeptBy 2
 raw_kept = let r = raw_is 0 (omega arith) in (r.1, r.2, (λ e. absurd (omega arith)), (raw_plain 0 (omega arith)).0)

@@ -1,5 +1,5 @@
 -- Steps that leave a participant sound and undisturbed: several in a row are one
-use Rattle.std.proofs.Common.{◌≡◌, ⊎_elim, ℕ, Bool, true, false, IsTrue, List, Some, map, set, refl, sym, ap, ◌∙◌, subst, arith}
+use Rattle.std.proofs.Common.{◌≡◌, ⊎_elim, ℕ, Bool, true, false, IsTrue, List, Some, set, refl, sym, ap, ◌∙◌, subst, arith}
 use base.Stored.{Gv}
 use denote.RattleType.{RattleType}
 use Rattle.sdd_shared_values.specs.SharedValues.{showing}

@@ -1,5 +1,5 @@
 -- A participant that took no part is posed as it was where it takes part in its domain again
-use Rattle.std.proofs.Common.{◌≡◌, ◌↔◌, ℕ, ◌+◌, ◌<◌, List, None, map, slice_index_or, ap, ◌∙◌, subst}
+use Rattle.std.proofs.Common.{◌≡◌, ◌↔◌, ℕ, ◌+◌, ◌<◌, List, None, slice_index_or, ap, ◌∙◌, subst}
 use Rattle.std.specs.Prelude.{Option, IsSome}
 use Rattle.atomic_table.specs.declared.shared.Seat.{Seat}
 use Rattle.sdd_participants.specs.declared.participant.Participant.{Participant}

@@ -85,7 +85,7 @@ counting_plain : (x : ℕ) → shared_base ≤ x → x ≤ most_word → IsTrue 
 counting_plain x low high = let n0 : x ≢ 0 = (λ e. omega arith) in let n1 : x ≢ 1 = (λ e. omega arith) in let n4 : x ≢ 4 = (λ e. omega arith) in
     let n2 : x ≢ 2 = (λ e. omega arith) in
     λ d. ne_eqb x 0 n0 d || (ne_eqb x 1 n1 d || (ne_eqb x 4 n4 d || (ne_eqb x 2 n2 d
-        || ((le-leb shared_base x low d && le-leb x most_word high d) || waits_by x))))
+    || ((le-leb shared_base x low d && le-leb x most_word high d) || waits_by x))))
 
 -- one of an item that waits for a collector
 named_by : (k : ℕ) → private_word k < shared_base → waits_by (private_word k) ≡ true
@@ -187,7 +187,7 @@ pub stands_private : (k : ℕ) → private_word k < shared_base → standing_by 
 stands_private k low = let x : ℕ = private_word k in let n0 : x ≢ 0 = (λ e. omega arith) in let n2 : x ≢ 2 = (λ e. omega arith) in
     let quiet = (private_is k low).1 in let ne : waiting x ≢ 1 = (λ e. omega arith) in let name : x / 16 ≡ k = omega arith in
     λ d. if ne_eqb x 0 n0 d then None else (if ne_eqb (waiting x) 1 ne d then Some Retired
-        else (if ne_eqb x 2 n2 d then Some Raw else Some (if named_by k low d then Private (name d) else owner_standing x)))
+    else (if ne_eqb x 2 n2 d then Some Raw else Some (if named_by k low d then Private (name d) else owner_standing x)))
 
 pub value_there : {T : Type 0} (x : ℕ) (e : Option (T × Gv)) → x ≢ 0 → value_by x e ≡ option_map (λ (y : T × Gv). y.0) e
 value_there x e taken = λ d. if ne_eqb x 0 taken d then None else option_map (λ (y : _ × Gv). y.0) e

@@ -22,10 +22,15 @@ impl<T: Item<T>, J: Job> LocalGiver<'_, T, J> {
         ensures reclaimed { self.new.member.tally ≡ with_reclaimed result.0 self.old.member.tally }
     {
         let (guard, goes_on) = self.membership.enter();
-        let items = self.membership.now_due();
+        let due = self.membership.now_due();
+        let before = self.membership.tally().reclaimed;
         if goes_on {
             self.change();
         }
+        // Of what was due some may have been claimed by the close of its collector.
+        let items = self.membership.tally().reclaimed - before;
+        prove!(items <= due as u128);
+        let items = items as usize;
         self.membership.accelerate();
         self.membership.close_guard(guard);
         (items, goes_on)

@@ -57,8 +57,9 @@ impl Hindrance {
     }
 }
 
-/// Looks at each place, the own one too, while a slot is held: where no guard is open, none sees the slot, nor will as long as it is held.
-fn none_is_open(board: &DomainTable, token: &mut DomainSeat) -> bool
+/// Looks at each place, the own one too, while a slot is held, or a collector is closed: where no guard is open, none sees what is held or waits for the
+/// collector, nor will meanwhile.
+pub fn none_is_open(board: &DomainTable, token: &mut DomainSeat) -> bool
     requires home { token.old.table_id ≡ id_of board.now }
     requires knows { Knows board.now token.old }
     requires place { HasPlace (epoch token.old) × ((epoch token.old).place < places_of board.now) × ((epoch token.old).all ≡ places_of board.now) }

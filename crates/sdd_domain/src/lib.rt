@@ -19,6 +19,8 @@ mod job_claims;
 pub mod local;
 mod local_core;
 mod pointer_words;
+mod private_items;
+mod private_table;
 mod raw_values;
 pub mod receipt;
 mod reclaiming;

@@ -1,5 +1,5 @@
 //! A participant's part in a domain: its guards, what waits with it, and the items that it makes and lets go.
-ghost use Rattle.std.specs.Prelude.{◌≡◌, ◌↔◌, ◌⊎◌, ◌+◌, ◌*◌, ◌/◌, ◌^◌, ◌<◌, ◌≤◌, ◌==◌, ℕ, List, [], ◌∷◌, false, IsTrue, not, IfSome, IfOk, IfErr, MatchOption, MatchResult};
+ghost use Rattle.std.specs.Prelude.{◌≡◌, ◌↔◌, ◌⊎◌, ◌+◌, ◌*◌, ◌/◌, ◌^◌, ◌<◌, ◌≤◌, ◌==◌, ℕ, List, [], ◌∷◌, false, IsTrue, not, IfSome, IfOk, IfErr, MatchOption, MatchResult, option_map};
 ghost use Rattle.sdd_shared_values.specs.SharedValues.{showing};
 ghost use Rattle.sdd_participants.specs.declared.waiting.LimboEntry.{LimboEntry as Entry};
 ghost use Rattle.sdd_participants.specs.declared.waiting.LimboEntry.TheVariants.{Item as item};
@@ -13,7 +13,8 @@ ghost use Rattle.sdd_atomics.specs.DomainSeat.{epoch, words_known, IsSameBut};
 ghost use Rattle.sdd_domain.specs.Domain.{home_of, book_of, limits_of};
 ghost use Rattle.sdd_domain.specs.SpaceIds.{home_at, home_in};
 ghost use Rattle.sdd_domain.specs.Items.{slots_home};
-ghost use Rattle.sdd_domain.specs.LocalState.{waits, CanNest, HasOpenGuard, IsNew, IsEntered, GoesOn, LocalState, Reclaims, GuardCloses, IsTold};
+ghost use Rattle.sdd_domain.specs.LocalState.{waits, CanNest, HasOpenGuard, IsNew, IsEntered, GoesOn, LocalState, GuardCloses, IsTold};
+ghost use Rattle.sdd_domain.specs.Collectors.{GoesFirst};
 ghost use Rattle.sdd_domain.specs.ScanAtClose.{TellsScan};
 ghost use Rattle.sdd_space.specs.Guard.{reader_of};
 ghost use Rattle.sdd_space.specs.OwnerOrCell.{AreOf};
@@ -25,6 +26,8 @@ use crate::domain::Domain;
 use crate::due_items::{DueItems, count_items};
 use crate::ended_counts::EndedCounts;
 use crate::free_slot_hints::FreeSlotHints;
+use crate::private_items::claim_back;
+use crate::private_table::PrivateTable;
 use crate::scan::{ScanEnd, scan};
 use crate::shut::shut;
 use crate::values::take_value;
@@ -40,6 +43,7 @@ use std::alloc::{AllocError, Global};
 use std::marker::Model;
 
 mod cells;
+mod collectors;
 pub mod detached_local;
 mod in_place;
 mod items;
@@ -62,6 +66,8 @@ pub struct LocalCore<'d, T: Item<T>, J: Job> {
     due: DueItems,
     known: FreeSlotHints,
     jobs: DeferredJobs<J>,
+    /// For which collectors its items wait.
+    privates: PrivateTable,
     /// Where it looks for a free cell first.
     next_cell: u32,
     /// What its open guards don't have of its tenure: each of them has one unit.
@@ -96,6 +102,7 @@ impl<'d, T: Item<T>, J: Job> Model for LocalCore<'d, T, J> {
       words = l.token.me.0.words;
       due = l.due.items;
       jobs = l.jobs;
+      collectors = l.privates;
     } };
 
     ghost invariant = { λ l. IsBetweenCalls l.domain.now.board l.place l.own l.token × (l.nesting ≡ l.domain.now.limits.nesting)
@@ -110,6 +117,7 @@ struct Room<J: Job> {
     due: DueItems,
     known: FreeSlotHints,
     jobs: DeferredJobs<J>,
+    privates: PrivateTable,
 }
 
 impl<J: Job> Room<J> {
@@ -122,17 +130,20 @@ impl<J: Job> Room<J> {
         ensures due { IfOk result (λ room. (room.due.items ≡ []) × (slots + jobs ≤ room.due.room)) }
         ensures known { IfOk result (λ room. room.known.slots ≡ slots) }
         ensures jobs { IfOk result (λ room. room.jobs ≡ replicate jobs None) }
+        ensures privates { IfOk result (λ room. room.privates ≡ replicate slots None) }
     {
         let most = (slots + jobs) as usize;
         let bags = Bags::with_room(alloc, most)?;
         let due = DueItems::with_room(alloc, most)?;
         let known = FreeSlotHints::new(alloc, slots)?;
+        let privates = PrivateTable::new(alloc, slots)?;
         let jobs = DeferredJobs::new(alloc, jobs)?;
         Ok(Room {
             bags,
             due,
             known,
             jobs,
+            privates,
         })
     }
 }
@@ -222,6 +233,7 @@ impl<'d, T: Item<T>, J: Job> LocalCore<'d, T, J> {
             due,
             mut known,
             mut jobs,
+            privates,
         } = room;
         let mut token = steps::sit(&domain.board);
         let Some(place) = take_place(&domain.board, &mut token) else {
@@ -240,6 +252,7 @@ impl<'d, T: Item<T>, J: Job> LocalCore<'d, T, J> {
             due,
             known,
             jobs,
+            privates,
             next_cell: share_of(place, domain.board.places(), domain.limits.cells as u32),
             tenure: own_tenure(),
             tally: RunningTally::new(),
@@ -262,6 +275,7 @@ impl<'d, T: Item<T>, J: Job> LocalCore<'d, T, J> {
             due: _,
             known: _,
             jobs,
+            privates: _,
             next_cell: _,
             tenure: _,
             tally,
@@ -362,14 +376,25 @@ impl<'d, T: Item<T>, J: Job> LocalCore<'d, T, J> {
         (guard_with(self.tenure.split(1)), goes_on)
     }
 
-    /// Moves the value out of the item that is due before all others, in this slot, which is given back.
+    /// Moves the value out of the item that is due before all others, in this slot, which is given back. None where the close of its collector came first.
     #[inline]
-    pub(crate) fn reclaim(&mut self, slot: u32) -> T
+    pub(crate) fn reclaim(&mut self, slot: u32) -> Option<T>
         requires first { (rest : List Entry) × (self.old.due ≡ item slot ∷ rest) }
-        ensures reclaimed { Reclaims slot (showing T.row result) self.old self.new }
-        ensures home { AreOf (home_in self.old) (T.holds result) }
+        ensures gone { GoesFirst slot (option_map (λ (value : T). showing T.row value) result) self.old self.new }
+        ensures home { IfSome result (λ value. AreOf (home_in self.old) (T.holds value)) }
     {
         self.due.next();
+        if let Some(collector) = self.privates.take(slot) {
+            if !claim_back(
+                &self.domain.board,
+                &mut self.token,
+                &mut self.known,
+                slot,
+                collector,
+            ) {
+                return None;
+            }
+        }
         let value = take_value(
             &self.domain.board,
             &self.domain.shelf,
@@ -378,7 +403,7 @@ impl<'d, T: Item<T>, J: Job> LocalCore<'d, T, J> {
         );
         self.known.remember(slot);
         self.tally.count_reclaimed();
-        value
+        Some(value)
     }
 
     /// It is decided whether anything waits.

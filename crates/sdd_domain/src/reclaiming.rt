@@ -18,7 +18,6 @@ ghost use Rattle.sdd_participants.specs.Slab.{entry_at, without_entry};
 ghost use Rattle.sdd_participants.specs.Jobs.{jobs_without, jobs_without_all};
 ghost use Rattle.sdd_participants.specs.declared.waiting.LimboEntry.{LimboEntry as Entry};
 ghost use Rattle.sdd_participants.specs.declared.waiting.LimboEntry.TheVariants.{Item as item, Job as job};
-ghost use Rattle.sdd_participants.specs.Tally.{one_reclaimed};
 ghost use Rattle.sdd_domain.specs.WaitingItems.{items_in};
 ghost use Rattle.sdd_domain.specs.SpaceIds.{home_in};
 ghost use Rattle.sdd_domain.specs.Local.{LocalModel};
@@ -26,12 +25,16 @@ ghost use Rattle.sdd_domain.specs.LocalState.{HasOpenGuard, IsLone};
 ghost use Rattle.sdd_domain.specs.Receipt.{with_reclaimed};
 ghost use Rattle.sdd_domain.specs.Local.{world_of};
 ghost use Rattle.sdd_domain.specs.Reclaiming.{counted_where, kept_of, rest_of};
+ghost use Rattle.sdd_domain.specs.OpeningTally.{CountsGone};
+ghost use Rattle.sdd_domain.specs.Collectors.{IsClosing, waits_for};
+ghost use Rattle.sdd_space.specs.Collecting.{collector_closed};
+ghost use Rattle.sdd_space.specs.Out.{IsNullCell};
 ghost use Rattle.sdd_domain.specs.Space.{seat_of, known_of, slots_home};
 
 use crate::local_core::LocalCore;
 use sdd_core::Refused;
 use sdd_participants::{Job, LimboEntry};
-use sdd_rights::{Right, StandingKind};
+use sdd_rights::{RawRight, Right, StandingKind};
 use sdd_shared_values::GhostValues;
 use sdd_space::inner::{
     right_of_cell, right_of_owner, right_of_raw_cell, right_of_shared, right_of_shared_cell,
@@ -159,14 +162,15 @@ impl<T: Item<T>, J: Job> LocalGiver<'_, T, J> {
         ensures own { KeepsMoreWaiting self.old.member.own self.new.member.own }
         ensures known { KnowsOn (known_of self.old) (known_of self.new) }
         ensures rest { rest_of self.new ≡ rest_of self.old }
-        ensures tally { self.new.member.tally ≡ one_reclaimed self.old.member.tally }
+        ensures counted { CountsGone 1 self.old.member self.new.member }
         ensures jobs { self.new.member.jobs ≡ self.old.member.jobs }
         ensures exact { IsLone self.old.member → world_of self.new ≡ reclaimed T.holds (world_of self.old) self.old.member.place (item slot) }
     {
         self.ledger.codes();
         self.membership.stands();
-        let value = self.membership.reclaim(slot);
-        value.give_up(self);
+        if let Some(value) = self.membership.reclaim(slot) {
+            value.give_up(self);
+        }
     }
 
     /// The job that is due before all others, in this place, runs, once; the place is free before it does.
@@ -176,7 +180,7 @@ impl<T: Item<T>, J: Job> LocalGiver<'_, T, J> {
         ensures own { self.new.member.own ≡ self.old.member.own }
         ensures known { known_of self.new ≡ known_of self.old }
         ensures rest { rest_of self.new ≡ rest_of self.old }
-        ensures tally { self.new.member.tally ≡ self.old.member.tally }
+        ensures counted { CountsGone 0 self.old.member self.new.member }
         ensures there { IsSome (entry_at self.old.member.jobs place) }
         ensures jobs { self.new.member.jobs ≡ without_entry self.old.member.jobs place }
         ensures exact { IsLone self.old.member → world_of self.new ≡ ran (world_of self.old) place }
@@ -195,7 +199,7 @@ impl<T: Item<T>, J: Job> LocalGiver<'_, T, J> {
         ensures own { KeepsMoreWaiting self.old.member.own self.new.member.own }
         ensures known { KnowsOn (known_of self.old) (known_of self.new) }
         ensures rest { rest_of self.new ≡ rest_of self.old }
-        ensures reclaimed { self.new.member.tally ≡ with_reclaimed (items_in (what ∷ [])) self.old.member.tally }
+        ensures counted { CountsGone (items_in (what ∷ [])) self.old.member self.new.member }
         ensures jobs { self.new.member.jobs ≡ jobs_without self.old.member.jobs what }
         ensures exact { IsLone self.old.member → world_of self.new ≡ reclaimed T.holds (world_of self.old) self.old.member.place what }
     {
@@ -212,7 +216,7 @@ impl<T: Item<T>, J: Job> LocalGiver<'_, T, J> {
         ensures known { KnowsOn (known_of self.old) (known_of self.new) }
         ensures rest { rest_of self.new ≡ rest_of self.old }
         ensures due { self.new.member.due ≡ [] }
-        ensures reclaimed { self.new.member.tally ≡ with_reclaimed (items_in self.old.member.due) self.old.member.tally }
+        ensures counted { CountsGone (items_in self.old.member.due) self.old.member self.new.member }
         ensures jobs { self.new.member.jobs ≡ jobs_without_all self.old.member.jobs self.old.member.due }
         ensures exact { IsLone self.old.member → world_of self.new
             ≡ all_reclaimed T.holds (world_of self.old) self.old.member.place self.old.member.due }
@@ -229,7 +233,7 @@ impl<T: Item<T>, J: Job> LocalGiver<'_, T, J> {
         ensures known { KnowsOn (known_of self.old) (known_of self.new) }
         ensures rest { rest_of self.new ≡ rest_of self.old }
         ensures due { self.new.member.due ≡ [] }
-        ensures reclaimed { self.new.member.tally ≡ with_reclaimed (items_in self.old.member.due) self.old.member.tally }
+        ensures counted { CountsGone (items_in self.old.member.due) self.old.member self.new.member }
         ensures jobs { self.new.member.jobs ≡ jobs_without_all self.old.member.jobs self.old.member.due }
         ensures near { HasOpenGuard self.new.member → self.new.member.known ≤ self.new.member.since + 1 }
         ensures exact { IsLone self.old.member → world_of self.new
@@ -238,6 +242,72 @@ impl<T: Item<T>, J: Job> LocalGiver<'_, T, J> {
         self.reclaim_due();
         self.membership.settle();
         self.membership.stands();
+    }
+
+    /// What was taken out of the bags for the collector that is closed is emptied, one item after another, and what each value held is retired then.
+    fn empty_own(&mut self, collector: u32)
+        requires closing { IsClosing collector self.old.member }
+        requires taken { All (λ what. IsTrue (waits_for self.old.member collector what)) self.old.member.due }
+        ensures own { KeepsMoreWaiting self.old.member.own self.new.member.own }
+        ensures known { KnowsOn (known_of self.old) (known_of self.new) }
+        ensures rest { rest_of self.new ≡ rest_of self.old }
+        ensures due { self.new.member.due ≡ [] }
+        ensures jobs { self.new.member.jobs ≡ self.old.member.jobs }
+        ensures exact { IsLone self.old.member → world_of self.new
+            ≡ all_reclaimed T.holds (world_of self.old) self.old.member.place self.old.member.due }
+    {
+        while let Some(LimboEntry::Item(slot)) = self.membership.first_due() {
+            self.ledger.codes();
+            if let Some(value) = self.membership.empty_first(slot, collector) {
+                value.give_up(self);
+            }
+        }
+    }
+
+    /// What waits for the collector that is closed with others is emptied, and what each value held is retired then.
+    fn empty_others(&mut self, collector: u32)
+        requires closing { IsClosing collector self.old.member }
+        requires settled { self.old.member.due ≡ [] }
+        ensures own { KeepsMoreWaiting self.old.member.own self.new.member.own }
+        ensures known { KnowsOn (known_of self.old) (known_of self.new) }
+        ensures rest { rest_of self.new ≡ rest_of self.old }
+        ensures due { self.new.member.due ≡ [] }
+        ensures jobs { self.new.member.jobs ≡ self.old.member.jobs }
+        ensures alone { IsLone self.old.member → ((slot : ℕ) → entry_at self.old.member.collectors slot ≢ Some collector) → self.new ≡ self.old }
+    {
+        let slots = self.membership.domain().limits.slots as u32;
+        for slot in 0..slots {
+            self.ledger.codes();
+            if let Some(value) = self.membership.empty_slot(slot, collector) {
+                value.give_up(self);
+            }
+        }
+    }
+
+    /// Gives a collector up. What waits for it, with whomever, is reclaimed at once, and what its values give up waits with the participant.
+    ///
+    /// `GuardOpen` where a guard is open: the collector comes back, and nothing has changed.
+    pub fn close_collector(&mut self, collector: RawRight) -> Result<(), (RawRight, Refused)>
+        requires home { raw_home_of collector ≡ (home_in self.old.member).cells }
+        requires settled { self.old.member.due ≡ [] }
+        requires open { self.old.member.slots.closes ≡ None }
+        ensures own { MatchResult result (λ _. IsCollected self.old.member.own self.new.member.own) (λ _. self.new ≡ self.old) }
+        ensures known { KnowsOn (known_of self.old) (known_of self.new) }
+        ensures rest { rest_of self.new ≡ rest_of self.old }
+        ensures settled { (self.new.member.due ≡ []) × (self.new.member.slots.closes ≡ None) }
+        ensures jobs { self.new.member.jobs ≡ self.old.member.jobs }
+        ensures shut { IfOk result (λ _. ¬ (HasOpenGuard self.old.member)) }
+        ensures back { IfErr result (λ e. (e.0 ≡ collector) × (e.1 ≡ Refused.GuardOpen) × (IsLone self.old.member → HasOpenGuard self.old.member)) }
+        ensures exact { IsLone self.old.member → IfOk result (λ _. IsNullCell (world_of self.old) (raw_number_of collector)
+            × (world_of self.new ≡ collector_closed T.holds (world_of self.old) self.old.member.place (raw_number_of collector))) }
+    {
+        let number = collector.number();
+        let right = self.membership.begin_close(collector)?;
+        self.membership.take_for(number);
+        self.empty_own(number);
+        self.empty_others(number);
+        self.membership.end_close(number, right);
+        Ok(())
     }
 
     /// Lets an owner go, and answers whether it was the last, whose item is dropped in its place: its value gives up at once what it holds.

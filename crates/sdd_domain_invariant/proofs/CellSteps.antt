@@ -38,10 +38,10 @@ use Rattle.sdd_word_invariant.proofs.Frame.{each_set}
 use Rattle.sdd_word_invariant.proofs.Sums.{is_same, is_other, total_set, total_has, total_two}
 use Rattle.sdd_domain_invariant.specs.FractionsAtHome.{stake_at, full_at, Has, Moves, FractionsInvariant}
 use Rattle.sdd_domain_invariant.specs.BankInvariant.{one_where}
-use Rattle.sdd_domain_invariant.specs.CellsInvariant.{cell_at, IsInCell, is_right, rights_at, HasRight, IsWordOf, IsTaken, HavePointers, CellsInvariant}
+use Rattle.sdd_domain_invariant.specs.CellsInvariant.{cell_at, IsInCell, is_right, rights_at, HasRight, IsWordOf, IsTaken, HavePointers, closes_by, is_closing_right, CellsInvariant}
 use Rattle.sdd_domain_invariant.specs.Records.{IsIn, IsKnown, IsTelling}
 use Rattle.sdd_domain_invariant.specs.FilledInvariant.{newest, HasRecord}
-use Rattle.sdd_domain_invariant.specs.LastFractions.{IsRaw, IsStored, LastIs}
+use Rattle.sdd_domain_invariant.specs.LastFractions.{IsRaw, IsStored, HidesItem, LastIs}
 use Rattle.sdd_domain_invariant.specs.PledgesInvariant.{IsOfOwner, IsOfCell}
 use Rattle.sdd_domain_invariant.specs.KindsInvariant.{KnowsKinds, KindsInvariant}
 use Rattle.sdd_domain_invariant.specs.DomainInvariant.{DomainInvariant}
@@ -50,7 +50,7 @@ use Rattle.sdd_domain_invariant.specs.CellSteps.{put_in, brought_out, KnewStored
 use Rattle.sdd_domain_invariant.proofs.Part.{none_out, only_seen, one_taken}
 use Rattle.sdd_domain_invariant.proofs.Part as part
 use Rattle.sdd_domain_invariant.proofs.Banks as banks
-use Rattle.sdd_domain_invariant.proofs.Cells.{in_cell_alive, in_cell_beside, one_right, no_right, cell_is_free, first_or, one_flag, words_same}
+use Rattle.sdd_domain_invariant.proofs.Cells.{in_cell_alive, in_cell_beside, KeepsClosing, bare_open, owner_open, closes_alike, one_right, no_right, closers, cell_is_free, first_or, one_flag, words_same}
 use Rattle.sdd_domain_invariant.proofs.Counts.{as_full, ended_spared, uncounted}
 use Rattle.sdd_domain_invariant.proofs.Records.{in_head, in_tail, in_either, in_none, known_by, told_seen}
 use Rattle.sdd_domain_invariant.proofs.Records as records
@@ -63,7 +63,7 @@ use Rattle.sdd_domain_invariant.proofs.KindSteps as kind_steps
 use Rattle.sdd_domain_invariant.proofs.RawSteps as raws
 use Rattle.sdd_domain_invariant.proofs.Steps.{not_emptied}
 use Rattle.sdd_domain_invariant.proofs.Steps as steps
-use Rattle.sdd_word_invariant.specs.Collectors.{Empties}
+use Rattle.sdd_word_invariant.specs.Collectors.{one_in, Empties}
 use Rattle.sdd_word_invariant.proofs.Collectors.{plain_alive}
 
 -- whether a word counts its slot's owners
@@ -113,7 +113,7 @@ names_nothing : (sizes : Sizes) (ws : List ℕ) (kind : CellKind) → IsBare kin
 names_nothing sizes ws Owned bare x w i = absurd bare
 names_nothing sizes ws Shared bare x w i = absurd bare
 names_nothing sizes ws Raw bare x w i = w i
-names_nothing sizes ws Collector bare x w i = w i
+names_nothing sizes ws Collector bare x w i = absurd bare
 
 -- a word of such a kind holds no owner, and so it fits any cell
 holds_nothing : (sizes : Sizes) (ws : List ℕ) (kind : CellKind) → IsBare kind → (x : ℕ) → IsWordOf sizes ws kind x → held_slots x ≡ []
@@ -130,6 +130,25 @@ fits_any sizes ws Owned x none = λ i n. absurd (let z = names_none x none i in 
 fits_any sizes ws Shared x none = λ i n. absurd (let z = names_none x none i in omega arith)
 fits_any sizes ws Raw x none = names_none x none
 fits_any sizes ws Collector x none = names_none x none
+
+-- the token that has this right, of whose view a share is pledged; no participant has that view
+pub record RightBeside (vs : List View) (p : Pledge) (r : CellRight) : Type 0 where
+  pub owner : View
+  pub there : get_elem? vs p.seat ≡ some owner
+  pub has : HasRight owner r
+  pub nobodys : owner.sizes.participants ≡ 0
+
+pub right_beside : (vs : List View) (p : Pledge) (cell : ℕ) (kind : CellKind) → p.view ≡ the_row.coded.code (right_to cell kind)
+    → IsOfOwner vs p ⊎ IsOfCell vs p → RightBeside vs p (record { cell = cell; kind = kind })
+right_beside vs p cell kind is beside = let the_right : CellRight = record { cell = cell; kind = kind } in ⊎_elim
+    (λ (o : IsOfOwner vs p). let e = the_row.coded.inj (right_to cell kind) (owner_of o.slot true o.value) (sym is ∙ o.view) in
+    let c : ◌≡◌ {A = List ℕ} [] (o.slot ∷ []) = ap (λ (u : View). u.slots.owns) e in cc)
+    (λ (o : IsOfCell vs p). let e = the_row.coded.inj (right_to cell kind) (right_to o.right.cell o.right.kind) (sym is ∙ o.view) in record {
+      owner = o.owner;
+      there = o.there;
+      has = subst (HasRight o.owner) (sym (ap (λ (u : View). first_right the_right u.cells.rights) e)) o.has;
+      nobodys = o.nobodys;
+    }) beside
 
 -- it has no owner, or one, with its record
 module _ (m : ℕ) (v : View) (t : IsTelling m v) (cell y : ℕ) (rights : CellsView) (rests : v.stakes.moves ≡ None) where
@@ -316,7 +335,8 @@ module _ (slots id : ℕ) (me : SeatState) (live : HasPlace me.0.epoch) (rests :
                 bank = banks.calm γ sizes s.words s.views h.bank id v at (after y) now
                     record { bank = refl; founds = refl; book = refl; banked = refl; drawn = refl } refl
                     (λ k. let z = ap (times k) undrawn in omega arith) (full_stay y);
-                lasts = lasts_out sizes s.words s.views s.homes h.lasts id v at (after y) now (λ b. (b, refl)) refl (λ l. l) stored_then;
+                lasts = lasts_out sizes s.words s.views s.homes h.lasts id v at (after y) now (λ b. (b, refl)) refl (λ l. l) stored_then
+                    (λ j near is. inl (subst HidesItem (slots_stay y j) is));
                 kinds = kinds_then y now refl rests refl refl (λ l. l) refl (λ r a. absurd (has_none r [] refl a)) cells;
                 tells = tells;
               }
@@ -375,7 +395,8 @@ module _ (slots id : ℕ) (me : SeatState) (live : HasPlace me.0.epoch) (rests :
                   bank = banks.calm γ sizes s.words s.views h.bank id v at (after y) now
                       record { bank = refl; founds = refl; book = refl; banked = refl; drawn = refl } refl
                       (λ k. let z = ap (times k) undrawn in omega arith) (full_stay y);
-                  lasts = lasts_out sizes s.words s.views s.homes h.lasts id v at (after y) now (λ b. (b, refl)) refl (λ l. l) stored_then;
+                  lasts = lasts_out sizes s.words s.views s.homes h.lasts id v at (after y) now (λ b. (b, refl)) refl (λ l. l) stored_then
+                      (λ j near is. inl (subst HidesItem (slots_stay y j) is));
                   kinds = kinds_then y now refl rests refl refl (λ l. l) refl
                       (λ q a. ⊎_elim (λ (b : r ≡ q). subst (λ (x : ShownValue). counted (slot_at sizes s.words x.slot) ≡ one_where x.shared) b (kind slot named))
                       (λ (b : HasRecord [] q). absurd (has_none q [] refl b)) (has_first r [] q a)) cells;
@@ -386,8 +407,8 @@ module _ (slots id : ℕ) (me : SeatState) (live : HasPlace me.0.epoch) (rests :
           cells_then : (w : View) → ((d : ℕ) → total (rights_at d) (set s.views id w) ≤ 1)
               → ((j : ℕ) (u : View) (r : CellRight) → get_elem? (set s.views id w) j ≡ some u → HasRight u r
               → ((r.cell ≢ cell) × IsTaken sizes s.words r) ⊎ ((r.cell ≡ cell) × (0 < y) × IsWordOf sizes s.words r.kind y))
-              → CellsInvariant sizes (after y) (set s.views id w)
-          cells_then w single rights = record {
+              → KeepsClosing v w → CellsInvariant sizes (after y) (set s.views id w)
+          cells_then w single rights closing = record {
             inside = λ j c. dite (ℕ_discrete c.0 cell)
                 (λ e. let q = ap (names j) (ap (cell_at sizes (after y)) e ∙ here y) in let n' = c.2 in let named : 0 < names j y = omega arith in
                 let r = named_record j named in
@@ -407,6 +428,7 @@ module _ (slots id : ℕ) (me : SeatState) (live : HasPlace me.0.epoch) (rests :
                   full = omega arith;
                   kind = word_moves sizes s.words (after y) (slots_stay y) r.kind y (cell_at sizes (after y) r.cell) q b.2;
                 }) (rights j u r e has);
+            closing = closers sizes s.words s.views h.kinds.cells id v w at closing;
             pointers = pointers_stay y;
           }
 
@@ -415,9 +437,9 @@ module _ (slots id : ℕ) (me : SeatState) (live : HasPlace me.0.epoch) (rests :
           word_given = word_counted sizes s.words shared y told_kind
 
           -- it has the rights that it had, among which is one to this cell, or another's
-          cells_swapped : (w : View) → w.cells ≡ v.cells → 0 < y → (j : ℕ) (u : View) → get_elem? s.views j ≡ some u
+          cells_swapped : (w : View) → w.cells ≡ v.cells → w.slots.closes ≡ v.slots.closes → 0 < y → (j : ℕ) (u : View) → get_elem? s.views j ≡ some u
               → HasRight u (record { cell = cell; kind = cell_kind shared }) → CellsInvariant sizes (after y) (set s.views id w)
-          cells_swapped w same more j u there_is has = cells_then w (λ d. let a = total_set (rights_at d) s.views id v w at in
+          cells_swapped w same closes more j u there_is has = cells_then w (λ d. let a = total_set (rights_at d) s.views id v w at in
               let e = ap (λ (c : CellsView). total (is_right d) c.rights) same in let o = h.kinds.cells.single d in omega arith)
               (λ k x r e mine. let old : (k' : ℕ) × (x' : View) × (get_elem? s.views k' ≡ some x') × HasRight x' r = ⊎_elim
               (λ (t : (k ≡ id) × (w ≡ x)). (
@@ -432,6 +454,7 @@ module _ (slots id : ℕ) (me : SeatState) (live : HasPlace me.0.epoch) (rests :
               old.3 (sym is) in
               inr (is, more, subst (λ (q : CellRight). IsWordOf sizes s.words q.kind y) one word_given))
               (λ ne. inl (ne, h.kinds.cells.taken old.0 old.1 r old.2 old.3)))
+              (closes_alike v w same closes)
 
         -- the cell's word is y then, which names what its word did
         module _ (y : ℕ) (more : 0 < y) (alike : (j : ℕ) → names j y ≡ names j (cell_at sizes s.words cell)) (loose : v.slots.holds ≡ None) where
@@ -441,10 +464,13 @@ module _ (slots id : ℕ) (me : SeatState) (live : HasPlace me.0.epoch) (rests :
               (λ ne. let q = ap (names j) (there y c.0 ne) in (c.0, c.1, (omega arith)))
 
           stored_was : NoMoreStored sizes s.words (after y)
-          stored_was j kind near is = ⊎_elim
-              (λ (a : IsRaw sizes (after y) j × (kind ≡ false)). inl (sym (slots_stay y j) ∙ a.0, a.1))
-              (λ (b : IsInCell sizes (after y) j × (counted (slot_at sizes (after y) j) ≡ one_where kind)).
-              inr (in_cell_was j b.0, sym (ap counted (slots_stay y j)) ∙ b.1)) is
+          stored_was j near = (
+            λ kind is. ⊎_elim
+                (λ (a : IsRaw sizes (after y) j × (kind ≡ false)). inl (sym (slots_stay y j) ∙ a.0, a.1))
+                (λ (b : IsInCell sizes (after y) j × (counted (slot_at sizes (after y) j) ≡ one_where kind)).
+                inr (in_cell_was j b.0, sym (ap counted (slots_stay y j)) ∙ b.1)) is,
+            subst HidesItem (slots_stay y j),
+          )
 
           taken_now : (r : CellRight) → IsTaken sizes s.words r → IsTaken sizes (after y) r
           taken_now r t = dite (ℕ_discrete r.cell cell)
@@ -471,6 +497,7 @@ module _ (slots id : ℕ) (me : SeatState) (live : HasPlace me.0.epoch) (rests :
                 (λ (t : (j ≡ id) × (noted ≡ u)). h.kinds.cells.taken id v r at
                 (has.0, ap (λ (x : View). get_elem? x.cells.rights has.0) t.1 ∙ has.1))
                 (λ (t : (j ≢ id) × (get_elem? s.views j ≡ some u)). h.kinds.cells.taken j u r t.1 has) (at_set s.views id j noted u e));
+            closing = closers sizes s.words s.views h.kinds.cells id v noted at (closes_alike v noted refl refl);
             pointers = pointers_stay y;
           }
 
@@ -517,18 +544,11 @@ module _ (slots id : ℕ) (me : SeatState) (live : HasPlace me.0.epoch) (rests :
       the_right = record { cell = cell; kind = kind }
 
       module _ (s : State ValueFraction View) (h : DomainInvariant γ sizes s) (at : get_elem? s.views id ≡ some v) where
-        beside : IsOfCell s.views p
-        beside = ⊎_elim
-            (λ (o : IsOfOwner s.views p). let e = the_row.coded.inj (right_to cell kind) (owner_of o.slot true o.value) (sym is ∙ o.view) in
-            let c : ◌≡◌ {A = List ℕ} [] (o.slot ∷ []) = ap (λ (u : View). u.slots.owns) e in cc)
-            (λ (o : IsOfCell s.views p). o) (h.kinds.pledges.backed id v p at own).beside
-
-        has_right : HasRight beside.owner the_right
-        has_right = let e = the_row.coded.inj (right_to cell kind) (right_to beside.right.cell beside.right.kind) (sym is ∙ beside.view) in
-            subst (HasRight beside.owner) (sym (ap (λ (u : View). first_right the_right u.cells.rights) e)) beside.has
+        beside : RightBeside s.views p the_right
+        beside = right_beside s.views p cell kind is (h.kinds.pledges.backed id v p at own).beside
 
         of_pledge : IsTaken sizes s.words the_right
-        of_pledge = h.kinds.cells.taken p.seat beside.owner the_right beside.there has_right
+        of_pledge = h.kinds.cells.taken p.seat beside.owner the_right beside.there beside.has
 
       -- a cell that holds no owners has another word that names none
       pub swaps_bare : (y : ℕ) → held_slots y ≡ [] → 0 < y → v.slots.owns ≡ [] → v.slots.holds ≡ None → IsBare kind
@@ -566,14 +586,15 @@ module _ (slots id : ℕ) (me : SeatState) (live : HasPlace me.0.epoch) (rests :
       -- by any step that tells what came out
       comes_out : (s : State ValueFraction View) (h : DomainInvariant γ sizes s) (at : get_elem? s.views id ≡ some v) (told : ℕ → SeatState → Type 0)
           (rights : CellsView) → IsOfKind s h shared
-          → ((base : View) → base.cells ≡ v.cells → CellsInvariant sizes (after s h y) (set s.views id (record base { cells = rights })))
+          → ((base : View) → base.cells ≡ v.cells → base.slots.closes ≡ v.slots.closes
+          → CellsInvariant sizes (after s h y) (set s.views id (record base { cells = rights })))
           → ((m : SeatState) → BringsOut y shared cell me (cell_at sizes s.words cell) m → told (cell_at sizes s.words cell) (record m.0 { cells = rights }, m.1))
           → Follows γ sizes id i me told s y (coming cell (cell_at sizes s.words cell) y rights v)
       comes_out s h at told rights kind cells tells = let x : ℕ = cell_at sizes s.words cell in ⊎_elim
           (λ (c : (slot : ℕ) × (held_slots x ≡ slot ∷ [])). let slot : ℕ = c.0 in let one = c.1 in
           let value : Gv = shown_value s h at y owns loose undrawn shared given slot one kind in
           let base : View = brought_out cell y slot shared value v in let seat : SeatState = (base, me.1) in
-          follows_one s h at y owns loose undrawn shared given slot one kind told rights (cells base refl)
+          follows_one s h at y owns loose undrawn shared given slot one kind told rights (cells base refl refl)
           (tells (base, me.1) (
             (λ none. absurd (let c : ◌≡◌ {A = List ℕ} (slot ∷ []) [] = sym one ∙ none in cc)),
             λ other e. let same : slot ≡ other = ap (first_of slot) (sym one ∙ e) in
@@ -586,7 +607,7 @@ module _ (slots id : ℕ) (me : SeatState) (live : HasPlace me.0.epoch) (rests :
                 ),
           )))
           (λ (none : held_slots x ≡ []). let base : View = put_in cell y v in
-          follows_none s h at y owns loose undrawn shared given told rights none (cells base refl)
+          follows_none s h at y owns loose undrawn shared given told rights none (cells base refl refl)
           (tells (base, me.1) ((λ _. refl), λ slot one. absurd (let c : ◌≡◌ {A = List ℕ} (slot ∷ []) [] = sym one ∙ none in cc)))) (held_which x)
 
       -- beside the token of the right to the cell, of whose view a share is pledged
@@ -595,9 +616,11 @@ module _ (slots id : ℕ) (me : SeatState) (live : HasPlace me.0.epoch) (rests :
           of_kind : IsOfKind s h shared
           of_kind = counted_word sizes s.words shared (cell_at sizes s.words cell) (of_pledge (cell_kind shared) p own is s h at).kind
 
-          cells_stay : (base : View) → base.cells ≡ v.cells → CellsInvariant sizes (after s h y) (set s.views id (record base { cells = v.cells }))
-          cells_stay base same = cells_swapped s h at y owns loose undrawn shared given (record base { cells = v.cells }) refl more p.seat
-              (beside (cell_kind shared) p own is s h at).owner (beside (cell_kind shared) p own is s h at).there (has_right (cell_kind shared) p own is s h at)
+          cells_stay : (base : View) → base.cells ≡ v.cells → base.slots.closes ≡ v.slots.closes
+              → CellsInvariant sizes (after s h y) (set s.views id (record base { cells = v.cells }))
+          cells_stay base same closes = cells_swapped s h at y owns loose undrawn shared given (record base { cells = v.cells }) refl closes more p.seat
+              (beside (cell_kind shared) p own is s h at).owner (beside (cell_kind shared) p own is s h at).there
+              (beside (cell_kind shared) p own is s h at).has
 
         pub swaps : May i (λ _. y) (OfCell (SwapsOne y shared) i me)
         swaps = let told : ℕ → SeatState → Type 0 = OfCell (SwapsOne y shared) i me in
@@ -623,10 +646,10 @@ module _ (slots id : ℕ) (me : SeatState) (live : HasPlace me.0.epoch) (rests :
             (unmoved s h at told (at_once R x me ((λ hit. absurd (miss hit)), (λ _. refl), c.2)))))
 
       -- the claim of a cell for this kind of owners, which has the word of such a cell then
-      pub claims : (kind : CellKind) → 0 < y
+      pub claims : (kind : CellKind) → ((k : ℕ) → closes_by kind k cell ≡ 0) → 0 < y
           → ((ws : List ℕ) → ((j : ℕ) → 0 < names j y → counted (slot_at sizes ws j) ≡ one_where shared) → IsWordOf sizes ws kind y)
           → May i (λ x. either (eqb x 0) y x) (OfCell (ClaimsCell y kind) i me)
-      claims kind more fits = let told : ℕ → SeatState → Type 0 = OfCell (ClaimsCell y kind) i me in let f : ℕ → ℕ = λ x. either (eqb x 0) y x in
+      claims kind unclosing more fits = let told : ℕ → SeatState → Type 0 = OfCell (ClaimsCell y kind) i me in let f : ℕ → ℕ = λ x. either (eqb x 0) y x in
           let right : CellRight = record { cell = cell; kind = kind } in let rights : CellsView = record { rights = right ∷ v.cells.rights } in
           let R : ℕ → SeatState → ℕ → SeatState → Type 0 = ClaimsCell y kind in
           lift_homes γ sizes slots id me i f (AtCell (ExchangesCell 0 y rights) i v) told
@@ -656,7 +679,8 @@ module _ (slots id : ℕ) (me : SeatState) (live : HasPlace me.0.epoch) (rests :
           ))
           (λ (has : HasRight v r). inl (old id v at has))
           (first_or right v.cells.rights r mine.0 (ap (λ (q : View). get_elem? q.cells.rights mine.0) b.1 ∙ mine.1)))
-          (λ (b : (k ≢ id) × (get_elem? s.views k ≡ some u)). inl (old k u b.1 mine)) (at_set s.views id k now u e)))
+          (λ (b : (k ≢ id) × (get_elem? s.views k ≡ some u)). inl (old k u b.1 mine)) (at_set s.views id k now u e))
+          (λ k. let z = unclosing k in omega arith))
           (at_once R x (now, me.1) ((λ _. refl), (λ no. absurd (no hit)), c.2))))
           (λ miss. subst (Follows γ sizes id i me told s x) (sym (c.1 miss))
           (unmoved s h at told (at_once R x me ((λ hit. absurd (miss hit)), (λ _. refl), c.2)))))
@@ -692,11 +716,13 @@ module _ (slots id : ℕ) (me : SeatState) (live : HasPlace me.0.epoch) (rests :
                 let m' = total_has (is_right d) v.cells.rights has.0 was has.1 in let one' = is_same d cell (sym is) in
                 let both = total_two (rights_at d) s.views k id u v b.0 b.1 at in let o = h.kinds.cells.single d in absurd (omega arith)),
             h.kinds.cells.taken k u r b.1 its,
-          )) (at_set s.views id k now u e)))
+          )) (at_set s.views id k now u e))
+          (λ k. let b = ap (total (is_closing_right k)) mine in let z = bare_open kind bare k cell in let z' = owner_open shared k cell in omega arith))
           (at_once (FillsBare y shared) x (now, me.1) (refl, empty, c.1))))
 
     -- the cell is free again, of which it has the right
-    pub frees : v.slots.owns ≡ [] → v.slots.holds ≡ None → v.slots.drawn ≡ [] → (shared : Bool) → ((r : ShownValue) → ¬ (HasRecord v.stakes.owns r))
+    pub frees : v.slots.owns ≡ [] → v.slots.holds ≡ None → v.slots.drawn ≡ [] → (shared : Bool)
+        → ((r : ShownValue) → ¬ (HasRecord v.stakes.owns r))
         → v.cells.rights ≡ record { cell = cell; kind = cell_kind shared } ∷ [] → May i (λ _. 0) (OfCell (FreesCell shared) i me)
     frees owns loose undrawn shared none mine = let told : ℕ → SeatState → Type 0 = OfCell (FreesCell shared) i me in
         let right : CellRight = record { cell = cell; kind = cell_kind shared } in
@@ -709,7 +735,7 @@ module _ (slots id : ℕ) (me : SeatState) (live : HasPlace me.0.epoch) (rests :
         subst (Follows γ sizes id i me told s 0) (sym c.0)
         (comes_out 0 owns_is loose undrawn shared given s h at told no_rights
         (counted_word sizes s.words shared (cell_at sizes s.words cell) (h.kinds.cells.taken id v right at has).kind)
-        (λ base same. let now : View = record base { cells = no_rights } in cells_then s h at 0 owns_is loose undrawn shared given now
+        (λ base same closes. let now : View = record base { cells = no_rights } in cells_then s h at 0 owns_is loose undrawn shared given now
         (λ d. let a = total_set (rights_at d) s.views id v now at in let o = h.kinds.cells.single d in omega arith)
         (λ k u r e its. ⊎_elim
         (λ (b : (k ≡ id) × (now ≡ u)). absurd (no_right u (ap (λ (q : View). q.cells.rights) (sym b.1)) r its))
@@ -718,7 +744,8 @@ module _ (slots id : ℕ) (me : SeatState) (live : HasPlace me.0.epoch) (rests :
               let m' = total_has (is_right d) v.cells.rights has.0 right has.1 in let one' = is_same d cell (sym is) in
               let both = total_two (rights_at d) s.views k id u v b.0 b.1 at in let o = h.kinds.cells.single d in absurd (omega arith)),
           h.kinds.cells.taken k u r b.1 its,
-        )) (at_set s.views id k now u e)))
+        )) (at_set s.views id k now u e))
+        (λ k. let a = ap (one_in k) closes in let b = ap (total (is_closing_right k)) mine in let z = owner_open shared k cell in omega arith))
         (λ m brings. at_once (FreesCell shared) (cell_at sizes s.words cell) (record m.0 { cells = no_rights }, m.1) ((m, brings, refl), c.1))))
 
     -- the same of a cell that holds no owners
@@ -746,7 +773,8 @@ module _ (slots id : ℕ) (me : SeatState) (live : HasPlace me.0.epoch) (rests :
               let m' = total_has (is_right d) v.cells.rights has.0 right has.1 in let one' = is_same d cell (sym is) in
               let both = total_two (rights_at d) s.views k id u v b.0 b.1 at in let o = h.kinds.cells.single d in absurd (omega arith)),
           h.kinds.cells.taken k u r b.1 its,
-        )) (at_set s.views id k now u e)))
+        )) (at_set s.views id k now u e))
+        (λ k. let b = ap (total (is_closing_right k)) mine in let z = bare_open kind bare k cell in omega arith))
         (at_once FreesBare x (now, me.1) (refl, empty, (h.kinds.cells.taken id v right at has).full, c.1))))
 
     -- a look

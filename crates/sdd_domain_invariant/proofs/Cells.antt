@@ -1,4 +1,5 @@
 -- What cells hold, after one step
+use Rattle.std.specs.Prelude.{None}
 use Rattle.std.proofs.Common.{◌≡◌, ◌≢◌, ◌⊎◌, inl, inr, ℕ, zero, suc, ◌+◌, ◌*◌, Bool, true, false, ◌<◌, List, [], ◌∷◌, ◌++◌, length, get_or, set, sym, refl, ap, ◌∙◌, subst, ⊎_elim, arith, get_or-set_other, get_or-set_same}
 use mathlib.Core.Logic.{dite}
 use mathlib.Core.Option.{some, some-injective, some-ne-none}
@@ -14,6 +15,7 @@ use Rattle.sdd_views.specs.declared.Sizes.{Sizes}
 use Rattle.sdd_word_invariant.specs.Words.{first_cell, cell_word, pointer_word, slot_word}
 use Rattle.sdd_word_invariant.specs.Codes.{codes, alive, counted, names, pointers_end}
 use Rattle.sdd_word_invariant.specs.Slots.{slot_at, owners_at, SlotsInvariant}
+use Rattle.sdd_word_invariant.specs.Collectors.{one_in, Closes}
 use Rattle.sdd_word_invariant.specs.Sums.{total}
 use Rattle.sdd_word_invariant.proofs.Codes.{sound}
 use Rattle.sdd_word_invariant.proofs.Frame.{each_snoc}
@@ -21,7 +23,9 @@ use Rattle.sdd_word_invariant.proofs.SlotWords.{named_in}
 use Rattle.sdd_word_invariant.proofs.Sums.{is_same, is_other, total_set, total_snoc, total_has, total_two, total_some, span_has}
 use Rattle.atomic_table.proofs.Lists.{at_set}
 use Rattle.sdd_domain_invariant.specs.BankInvariant.{one_where}
-use Rattle.sdd_domain_invariant.specs.CellsInvariant.{cell_at, pointer_at, IsInCell, is_right, rights_at, HasRight, IsWordOf, IsTaken, HavePointers, CellsInvariant}
+use Rattle.sdd_domain_invariant.specs.CellSteps.{IsBare}
+use Rattle.sdd_rights.specs.Owner.{cell_kind}
+use Rattle.sdd_domain_invariant.specs.CellsInvariant.{cell_at, pointer_at, IsInCell, is_right, rights_at, HasRight, IsWordOf, IsTaken, HavePointers, closes_by, is_closing_right, closing_rights_at, closes_at, CellsInvariant}
 
 -- a flag is told by its number
 pub one_flag : (a b : Bool) → one_where a ≡ one_where b → a ≡ b
@@ -121,6 +125,34 @@ pub first_or : (r : CellRight) (rs : List CellRight) (q : CellRight) (k : ℕ) �
 first_or r rs q zero e = inl (some-injective r q e)
 first_or r rs q (suc k) e = inr (k, e)
 
+-- a right of another kind is to no collector that is being closed
+pub bare_open : (kind : CellKind) → IsBare kind → (k cell : ℕ) → closes_by kind k cell ≡ 0
+bare_open Owned bare k cell = refl
+bare_open Shared bare k cell = refl
+bare_open Raw bare k cell = refl
+bare_open Collector bare k cell = absurd bare
+
+pub owner_open : (shared : Bool) (k cell : ℕ) → closes_by (cell_kind shared) k cell ≡ 0
+owner_open true k cell = refl
+owner_open false k cell = refl
+
+-- what a right tells of a collector that is being closed
+told_closing : (kind : CellKind) (k cell : ℕ) → 0 < closes_by kind k cell → (cell ≡ k) × (kind ≡ Collector)
+told_closing Owned k cell more = absurd (omega arith)
+told_closing Shared k cell more = absurd (omega arith)
+told_closing Raw k cell more = absurd (omega arith)
+told_closing Collector k cell more =
+    (dite (ℕ_discrete cell k) (λ e. e) (λ ne. absurd (let z = is_other k cell ne in omega arith)), refl)
+
+-- what it closes changes as the rights do that it has
+abbrev pub KeepsClosing : View → View → Type 0
+KeepsClosing v w = (k : ℕ) → closes_at k w + closing_rights_at k v ≡ closes_at k v + closing_rights_at k w
+
+-- neither does
+pub closes_alike : (v w : View) → w.cells ≡ v.cells → w.slots.closes ≡ v.slots.closes → KeepsClosing v w
+closes_alike v w rights closes k = let a = ap (one_in k) closes in
+    let b = ap (λ (c : CellsView). total (is_closing_right k) c.rights) rights in omega arith
+
 -- one that has the right to none
 pub no_right : (u : View) → u.cells.rights ≡ [] → (q : CellRight) → ¬ (HasRight u q)
 no_right u empty q has = some-ne-none q (sym has.1 ∙ ap (λ (l : List CellRight). get_elem? l has.0) empty)
@@ -148,20 +180,36 @@ module _ (sizes : Sizes) (ws : List ℕ) (vs : List View) (part : CellsInvariant
       (λ ne. let z = is_other cell r.cell ne in let m = b.3 in absurd (omega arith)))
       (λ none. omega arith)
 
+  -- where somebody closes a collector, somebody has the right to it, of that kind
+  pub closing_right : (j k : ℕ) (u : View) → get_elem? vs j ≡ some u → Closes u k → (m : ℕ) × (x : View) × (r : CellRight)
+      × (get_elem? vs m ≡ some x) × HasRight x r × ((r.cell ≡ k) × (r.kind ≡ Collector))
+  closing_right j k u at shuts = let c = part.closing k in let mine = total_has (closes_at k) vs j u at in let one = ap (one_in k) shuts in
+      let same = is_same k k refl in let a = total_some (closing_rights_at k) vs (omega arith) in let x : View = a.1 in
+      let b = total_some (is_closing_right k) x.cells.rights a.3 in let r : CellRight = b.1 in
+      (a.0, x, r, a.2, (b.0, b.2), told_closing r.kind k r.cell b.3)
+
   -- a new token that has the right to none
-  pub cells_more : (t : View) → t.cells.rights ≡ [] → CellsInvariant sizes ws (vs ++ t ∷ [])
-  cells_more t none = record {
+  pub cells_more : (t : View) → t.cells.rights ≡ [] → t.slots.closes ≡ None → CellsInvariant sizes ws (vs ++ t ∷ [])
+  cells_more t none idle = record {
     inside = part.inside;
     single = λ d. let a = total_snoc (rights_at d) vs t in let z = ap (total (is_right d)) none in let o = part.single d in omega arith;
     taken = λ j v r e has. each_snoc (λ u. (q : CellRight) → HasRight u q → IsTaken sizes ws q) vs t (λ k u e' q. part.taken k u q e')
         (λ q has'. absurd (no_right t none q has')) j v e r has;
+    closing = λ k. let a = total_snoc (closes_at k) vs t in let b = total_snoc (closing_rights_at k) vs t in let c = part.closing k in
+        let d = ap (one_in k) idle in let e = ap (total (is_closing_right k)) none in omega arith;
     pointers = part.pointers;
   }
 
   module _ (id : ℕ) (v w : View) (at : get_elem? vs id ≡ some v) where
-    -- it has the rights that it had
-    pub cells_kept : (ws' : List ℕ) → SameCells sizes ws ws' → KeepsKinds sizes ws ws' → w.cells ≡ v.cells → CellsInvariant sizes ws' (set vs id w)
-    cells_kept ws' same kinds rights = record {
+    -- a collector is being closed exactly where the right to it says so
+    pub closers : KeepsClosing v w → (k : ℕ) → total (closes_at k) (set vs id w) ≡ total (closing_rights_at k) (set vs id w)
+    closers keeps k = let a = total_set (closes_at k) vs id v w at in let b = total_set (closing_rights_at k) vs id v w at in
+        let c = part.closing k in let d = keeps k in omega arith
+
+    -- it has the rights that it had, and closes what it closed
+    pub cells_kept : (ws' : List ℕ) → SameCells sizes ws ws' → KeepsKinds sizes ws ws' → w.cells ≡ v.cells → w.slots.closes ≡ v.slots.closes
+        → CellsInvariant sizes ws' (set vs id w)
+    cells_kept ws' same kinds rights closes = record {
       inside = λ i c. part.inside i (in_cell_before sizes ws ws' same i c);
       single = λ d. let a = total_set (rights_at d) vs id v w at in let e = ap (λ (c : CellsView). total (is_right d) c.rights) rights in
           let o = part.single d in omega arith;
@@ -169,5 +217,6 @@ module _ (sizes : Sizes) (ws : List ℕ) (vs : List View) (part : CellsInvariant
           (λ (t : (j ≡ id) × (w ≡ u)). part.taken id v r at
           (has.0, ap (λ (c : CellsView). get_elem? c.rights has.0) (sym rights) ∙ (ap (λ (x : View). get_elem? x.cells.rights has.0) t.1 ∙ has.1)))
           (λ (t : (j ≢ id) × (get_elem? vs j ≡ some u)). part.taken j u r t.1 has) (at_set vs id j w u e));
+      closing = closers (closes_alike v w rights closes);
       pointers = same.pointers part.pointers;
     }

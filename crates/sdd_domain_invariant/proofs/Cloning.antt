@@ -62,7 +62,7 @@ use Rattle.sdd_domain_invariant.proofs.Cells.{no_change, cells_slot, cells_kept}
 use Rattle.sdd_domain_invariant.proofs.KindSteps as kind_steps
 use Rattle.sdd_domain_invariant.proofs.Telling.{none_moved, one_view, owns_it}
 use Rattle.sdd_domain_invariant.proofs.Tokens.{nothing_out, set_front}
-use Rattle.sdd_domain_invariant.proofs.Lasts.{shown_leaves, stored_set, lasts_fewer, lasts_more, lasts_dealt}
+use Rattle.sdd_domain_invariant.proofs.Lasts.{shown_leaves, owned_shows, stored_as_is, stored_set, lasts_fewer, lasts_more, lasts_dealt}
 use Rattle.sdd_domain_invariant.proofs.Lift.{Follows, lift_whole, stands, stands_dealt}
 use Rattle.sdd_domain_invariant.proofs.Steps.{full_owned, still_owned}
 use Rattle.sdd_domain_invariant.proofs.Steps as steps
@@ -103,9 +103,9 @@ module _ (γ : ℕ) (sizes : Sizes) where
       (filled_same sizes s.views h.filled id v at w refl refl refl (λ l. l))
       (banks.alike γ sizes s.words s.views h.bank id v at s.words w (refl, refl, refl, (λ _. refl), refl) (λ _ _. refl))
       (lasts_fewer sizes s.words s.views s.homes h.lasts id v at s.words w s.homes (λ _ _ _ _ l. l) (λ b. (b, refl)) refl (λ _ live. inl live)
-      (λ _ _ _ is. is))
+      (stored_as_is sizes s.words))
       (kind_steps.spends sizes s.words s.views h.kinds h.records.each id v at w
-      (knows_alike sizes s.words v w (h.kinds.each id v at) refl refl (λ i m. m) (λ i o. o) (λ r a. a) (λ i a. a)) refl (inl (λ l. l)) refl p)
+      (knows_alike sizes s.words v w (h.kinds.each id v at) refl refl (λ i m. m) (λ i o. o) (λ r a. a) (λ i a. a)) refl refl (inl (λ l. l)) refl p)
 
   -- a pledge of a share of a token's view is entered, first in the ledger, where there is something to do beside the token
   enters_by : (v : View) (bd : ℕ) (token : View) (p : Pledge) → token.pledges.ledger ≡ false
@@ -194,7 +194,7 @@ module _ (γ : ℕ) (sizes : Sizes) where
     bank = banks.arrives γ sizes s.words s.views h.bank t refl refl refl refl;
     lasts = lasts_more sizes s.words s.views s.homes h.lasts t (λ _. refl) (λ z. absurd (omega arith));
     kinds = kind_steps.arrives sizes s.words s.views h.kinds t (knows_no_kind sizes s.words t refl refl refl)
-        record { over = refl; ledger = refl; founds = refl; own = refl; rights = refl };
+        record { over = refl; ledger = refl; founds = refl; own = refl; rights = refl; closes = refl };
   }
 
   -- nobody has a pledge as long as the ledger isn't founded
@@ -414,7 +414,7 @@ module _ (slots id : ℕ) (me : SeatState) (live : HasPlace me.0.epoch) (slot : 
                 record { bank = refl; founds = refl; book = refl; banked = refl; drawn = refl } refl (λ k. let low = h.bank.low id v at k in omega arith) same;
             lasts = lasts_fewer sizes s.words s.views s.homes h.lasts id v at (set s.words i y) now s.homes (λ _ _ _ _ l. l) (λ b. (b, refl)) refl
                 (λ _ _. inl live) (stored_set sizes s.words slot y (steps.within slots id me live slot inside s h) (λ e. absurd (omega arith))
-                (λ _. (some_left y high).3 ∙ sym several));
+                (owned_shows y (let o = (some_left y high).0 in omega arith)) (λ _. (some_left y high).3 ∙ sym several));
             kinds = record {
               each = each_set (KnowsKinds sizes s.words) (KnowsKinds sizes (set s.words i y)) s.views id now
                   record {
@@ -431,7 +431,8 @@ module _ (slots id : ℕ) (me : SeatState) (live : HasPlace me.0.epoch) (slot : 
               bound = bound_then s h at several left y high now live (omega arith) (λ k ne. apart k ne ∙ sym (over_none k v none));
               pledges = pledges_by s.views h.kinds.pledges id v now at refl (λ k q b u e _. forth s.views h.kinds.pledges id v now at KeepsOwner
                   record { sizes = refl; cells = refl; records = λ _ r a. (suc a.0, a.1); holds = λ _. refl } same_owner q.seat u e);
-              cells = cells_kept sizes s.words s.views h.kinds.cells id v now at (set s.words i y) (cells_slot sizes s.words slot y) (λ j _. kinds_same j) refl;
+              cells = cells_kept sizes s.words s.views h.kinds.cells id v now at (set s.words i y) (cells_slot sizes s.words slot y) (λ j _. kinds_same j) refl
+                  refl;
             };
             tells = steps.at_once slots id me live slot inside (AddsOne value) count (now, me.1) tells;
           }
@@ -470,7 +471,7 @@ module _ (slots id : ℕ) (me : SeatState) (live : HasPlace me.0.epoch) (slot : 
                 record { bank = refl; founds = refl; book = refl; banked = refl; drawn = refl } refl (λ k. let z = ap (times k) empty in omega arith) same;
             lasts = lasts_fewer sizes s.words s.views s.homes h.lasts id v at (set s.words i y) now s.homes (λ _ _ _ _ l. l) (λ b. (b, refl)) refl
                 (λ _ _. inl live) (stored_set sizes s.words slot y (steps.within slots id me live slot inside s h) (λ e. absurd (omega arith))
-                (λ _. (some_left y high).3 ∙ sym several));
+                (owned_shows y (let o = (some_left y high).0 in omega arith)) (λ _. (some_left y high).3 ∙ sym several));
             kinds = record {
               each = each_set (KnowsKinds sizes s.words) (KnowsKinds sizes (set s.words i y)) s.views id now
                   record {
@@ -484,7 +485,7 @@ module _ (slots id : ℕ) (me : SeatState) (live : HasPlace me.0.epoch) (slot : 
                   (λ k ne. let z = passed k in let q = is_other k slot (λ e. ne (sym e)) in omega arith);
               pledges = pledges_spent s.views h.kinds.pledges id v now at refl nobodys;
               cells = cells_kept sizes s.words s.views h.kinds.cells id v now at (set s.words i y) (cells_slot sizes s.words slot y)
-                  (λ j _. kind_still s h at several left y high j) refl;
+                  (λ j _. kind_still s h at several left y high j) refl refl;
             };
             tells = steps.at_once slots id me live slot inside TakesOneBack count (now, me.1) (refl, knew);
           }
@@ -578,7 +579,7 @@ module _ (slots id : ℕ) (me : SeatState) (live : HasPlace me.0.epoch) (slot : 
             (λ apart. let o = is_other k slot (λ e. apart (sym e)) in let kept_as = goes.others k apart in omega arith)))
             (lasts_dealt sizes s.words (set s.views id w) s.homes
             (lasts_fewer sizes s.words s.views s.homes h.lasts id v at s.words w s.homes (λ _ _ _ _ l. l) (λ b. (b, refl)) refl (λ _ _. inl live)
-            (λ _ _ _ is. is))
+            (stored_as_is sizes s.words))
             γ bd b (set_else s.views id bd w (λ e. ne (sym e)) ∙ there) bank ls balance.book goes.deposits
             (λ k z low last show. (shown_leaves k z.lot.shown (banked b) l ls goes.goes show).0));
         ours = bank;

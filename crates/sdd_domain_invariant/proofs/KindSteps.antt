@@ -1,6 +1,6 @@
 -- The kinds' part after one step of one participant, and after tokens come and go
 use Rattle.std.proofs.Common.{◌≡◌, ◌≢◌, ◌⊎◌, inl, inr, ℕ, zero, suc, ◌<◌, Bool, List, [], ◌∷◌, ◌++◌, length, get_or, set, sym, refl, ap, ◌∙◌, subst, ⊎_elim, arith, length-set, get_or-set_other, get_or-set_same, ◌+◌, ◌≤◌, true, false}
-use Rattle.std.specs.Prelude.{Some, None, false}
+use Rattle.std.specs.Prelude.{Option, Some, None, false}
 use mathlib.Core.Option.{some, some-injective}
 use base.Stored.{Gv}
 use mathlib.Core.Logic.{dite}
@@ -89,18 +89,23 @@ knows_alike sizes ws v w k of_same words_same moves owns tells holds = record {
 }
 
 -- ---- counts and pledges
--- it has raised no count past the bound, has no pledge and no right to a cell, nor is it the ledger's, or may found it
+-- it has raised no count past the bound, has no pledge and no right to a cell, closes no collector, nor is it the ledger's, or may found it
 pub record HasNoPost (t : View) : Type 0 where
   pub over : t.slots.over ≡ None
   pub ledger : t.pledges.ledger ≡ false
   pub founds : t.pledges.founds ≡ false
   pub own : t.pledges.own ≡ []
   pub rights : t.cells.rights ≡ []
+  pub closes : t.slots.closes ≡ None
+
+-- the slot whose count it has raised past the bound, and the collector that it closes
+abbrev pub marks_of : View → Option ℕ × Option ℕ
+marks_of v = (v.slots.over, v.slots.closes)
 
 -- what it has of these stays; and the records of owners, where it is no participant's
 pub record KeepsPost (v w : View) : Type 0 where
   pub pledges : w.pledges ≡ v.pledges
-  pub over : w.slots.over ≡ v.slots.over
+  pub marks : marks_of w ≡ marks_of v
   pub sizes : w.sizes ≡ v.sizes
   pub cells : w.cells ≡ v.cells
   pub place : (HasPlace v.epoch → HasPlace w.epoch) ⊎ (v.slots.over ≡ None)
@@ -108,11 +113,11 @@ pub record KeepsPost (v w : View) : Type 0 where
   pub holds : v.sizes.participants ≡ 0 → w.slots.holds ≡ v.slots.holds
 
 -- nothing of these is touched
-pub same_post : (v w : View) → w.pledges ≡ v.pledges → w.slots.over ≡ v.slots.over → w.sizes ≡ v.sizes → w.cells ≡ v.cells
+pub same_post : (v w : View) → w.pledges ≡ v.pledges → marks_of w ≡ marks_of v → w.sizes ≡ v.sizes → w.cells ≡ v.cells
     → (HasPlace v.epoch → HasPlace w.epoch) → w.stakes.owns ≡ v.stakes.owns → w.slots.holds ≡ v.slots.holds → KeepsPost v w
-same_post v w pledges over of rights lives told holds = record {
+same_post v w pledges marked of rights lives told holds = record {
   pledges = pledges;
-  over = over;
+  marks = marked;
   sizes = of;
   cells = rights;
   place = inl lives;
@@ -288,7 +293,7 @@ module _ (sizes : Sizes) (ws : List ℕ) (vs : List View) (k : KindsInvariant si
     each = each_snoc (KnowsKinds sizes ws) vs t k.each knows;
     bound = bound_more sizes ws vs k.bound t none.over;
     pledges = pledges_more vs k.pledges t none;
-    cells = cells_more sizes ws vs k.cells t none.rights;
+    cells = cells_more sizes ws vs k.cells t none.rights none.closes;
   }
 
   module _ (tells : (j : ℕ) (u : View) → get_elem? vs j ≡ some u → IsTelling sizes.slots u) (id : ℕ) (v : View) (at : get_elem? vs id ≡ some v) where
@@ -300,19 +305,20 @@ module _ (sizes : Sizes) (ws : List ℕ) (vs : List View) (k : KindsInvariant si
     steps ws' w mine others within same kinds post = record {
       each = each_set (KnowsKinds sizes ws) (KnowsKinds sizes ws') vs id w mine
           (λ j u apart e. knows_still sizes ws ws' u (k.each j u e) (tells j u e) (others j u apart e));
-      bound = bound_kept sizes ws vs k.bound id v at ws' w within post.over post.place;
+      bound = bound_kept sizes ws vs k.bound id v at ws' w within (ap (λ (m : Option ℕ × Option ℕ). m.0) post.marks) post.place;
       pledges = pledges_kept vs k.pledges id v w at post;
-      cells = cells_kept sizes ws vs k.cells id v w at ws' same kinds post.cells;
+      cells = cells_kept sizes ws vs k.cells id v w at ws' same kinds post.cells (λ d. (post.marks d).1);
     }
 
     -- on no word, where it has no pledge and its own view isn't pledged: it may lose what it knows of owners
-    pub spends : (w : View) → KnowsKinds sizes ws w → w.slots.over ≡ v.slots.over → (HasPlace v.epoch → HasPlace w.epoch) ⊎ (v.slots.over ≡ None)
-        → w.cells ≡ v.cells → PledgesInvariant (set vs id w) → KindsInvariant sizes ws (set vs id w)
-    spends w mine over lives rights pledges = record {
+    pub spends : (w : View) → KnowsKinds sizes ws w → w.sizes ≡ v.sizes → marks_of w ≡ marks_of v
+        → (HasPlace v.epoch → HasPlace w.epoch) ⊎ (v.slots.over ≡ None) → w.cells ≡ v.cells → PledgesInvariant (set vs id w) → KindsInvariant sizes ws (set vs id w)
+    spends w mine of marked lives rights pledges = record {
       each = each_set (KnowsKinds sizes ws) (KnowsKinds sizes ws) vs id w mine (λ j u _ e. k.each j u e);
-      bound = bound_kept sizes ws vs k.bound id v at ws w (λ i c. inr (c, (omega arith))) over lives;
+      bound = bound_kept sizes ws vs k.bound id v at ws w (λ i c. inr (c, (omega arith))) (ap (λ (m : Option ℕ × Option ℕ). m.0) marked)
+          lives;
       pledges = pledges;
-      cells = cells_kept sizes ws vs k.cells id v w at ws (no_change sizes ws).cells (λ _ _. refl) rights;
+      cells = cells_kept sizes ws vs k.cells id v w at ws (no_change sizes ws).cells (λ _ _. refl) rights (λ d. (marked d).1);
     }
 
     -- the words of slots and cells stay

@@ -17,17 +17,18 @@ use Rattle.sdd_views.specs.declared.FractionsView.{FractionsView}
 use Rattle.sdd_views.specs.declared.View.{View}
 use Rattle.sdd_views.specs.declared.Sizes.{Sizes}
 use Rattle.sdd_word_invariant.specs.Words.{slot_word, cell_word, first_cell}
-use Rattle.sdd_word_invariant.specs.Codes.{counted, names, raw_word}
+use Rattle.sdd_word_invariant.specs.Codes.{codes, alive, waiting, full, valued, counted, names, raw_word}
 use Rattle.sdd_word_invariant.specs.Epoch.{HasPlace}
 use Rattle.sdd_word_invariant.specs.Slots.{slot_at}
 use Rattle.sdd_word_invariant.proofs.Codes.{sound}
+use Rattle.sdd_word_invariant.proofs.Collectors.{IsPlain, plain_alive, plain_waiting}
 use Rattle.sdd_word_invariant.proofs.Frame.{each_set, each_snoc}
 use Rattle.sdd_word_invariant.proofs.Sums.{total_two}
 use Rattle.sdd_domain_invariant.specs.FractionsAtHome.{FractionsAtHome, CarriedFractions, LiesAt, share, Has}
 use Rattle.sdd_domain_invariant.specs.FilledInvariant.{newest}
 use Rattle.sdd_domain_invariant.specs.BankInvariant.{one_where, offices, deposited, banked, IsBank, BankInvariant}
 use Rattle.sdd_domain_invariant.specs.CellsInvariant.{IsInCell}
-use Rattle.sdd_domain_invariant.specs.LastFractions.{ShowOnly, IsRaw, IsStored, LastIs, ShowsLast, KnowsStored, LastsInvariant}
+use Rattle.sdd_domain_invariant.specs.LastFractions.{ShowOnly, IsRaw, IsStored, HidesItem, IsHidden, LastIs, ShowsLast, KnowsStored, KnowsHidden, LastsInvariant}
 use Rattle.sdd_domain_invariant.proofs.Cells.{SameCells, SameWords, cells_below, cells_slot, in_cell_before}
 use Rattle.sdd_domain_invariant.proofs.Banks.{with_deposits, banked_then}
 use Rattle.sdd_domain_invariant.proofs.Records.{IsAlike}
@@ -74,25 +75,52 @@ module _ (i : ℕ) (g : Gv) where
       (show.0, shown_comes hs l d.0 d.1 show.1 mine)) r) comes
 
 -- ---- the part
--- no item is stored
+-- the item of the slot is neither stored nor hidden
+abbrev pub IsUnstored : Sizes → List ℕ → ℕ → Type 0
+IsUnstored sizes ws i = ((shared : Bool) → ¬ (IsStored sizes ws i shared)) × ¬ (IsHidden sizes ws i)
+
+-- if it is stored then, or hidden, it was so before
+abbrev pub StaysStored : Sizes → List ℕ → List ℕ → ℕ → Type 0
+StaysStored sizes ws ws' i = ((shared : Bool) → IsStored sizes ws' i shared → IsStored sizes ws i shared) × (IsHidden sizes ws' i → IsHidden sizes ws i)
+
+-- no item is stored or hidden
 abbrev pub NoneStored : Sizes → List ℕ → Type 0
-NoneStored sizes ws = (i : ℕ) (shared : Bool) → i < sizes.slots → ¬ (IsStored sizes ws i shared)
+NoneStored sizes ws = (i : ℕ) → i < sizes.slots → IsUnstored sizes ws i
 
--- what is stored then was so before
+-- what is stored then or hidden was so before
 abbrev pub NoMoreStored : Sizes → List ℕ → List ℕ → Type 0
-NoMoreStored sizes ws ws' = (i : ℕ) (shared : Bool) → i < sizes.slots → IsStored sizes ws' i shared → IsStored sizes ws i shared
+NoMoreStored sizes ws ws' = (i : ℕ) → i < sizes.slots → StaysStored sizes ws ws' i
 
--- what is out as raw then was so before
-abbrev pub NoMoreRaw : Sizes → List ℕ → List ℕ → Type 0
-NoMoreRaw sizes ws ws' = (i : ℕ) → i < sizes.slots → IsRaw sizes ws' i → IsRaw sizes ws i
+-- it knows what each item shows that is stored, or hidden
+abbrev KnowsOf : Sizes → List ℕ → FractionsAtHome → View → Type 0
+KnowsOf sizes ws hs v = KnowsStored sizes ws hs v × KnowsHidden sizes ws hs v
+
+-- a word hides nothing where its item is neither private nor emptied
+pub plain_shows : (x : ℕ) → IsPlain codes x → ¬ (HidesItem x)
+plain_shows x plain hides = let some = hides.0 in let a = plain.0 in let b = plain.1 in absurd (omega arith)
+
+-- or where it has an owner
+pub owned_shows : (x : ℕ) → 0 < alive x → ¬ (HidesItem x)
+owned_shows x lives = plain_shows x (plain_alive codes sound x lives)
+
+-- or where it waits for no collector
+pub waiting_shows : (x : ℕ) → 0 < waiting x → ¬ (HidesItem x)
+waiting_shows x waits = plain_shows x (plain_waiting codes sound x waits)
+
+-- or where it has no value
+pub empty_shows : (x : ℕ) → valued x ≡ 0 → ¬ (HidesItem x)
+empty_shows x empty hides = let one = hides.1 in absurd (omega arith)
 
 module _ (sizes : Sizes) (ws : List ℕ) where
   -- while all words are 0 none is
   pub none_stored : ((j : ℕ) → get_or ws j 0 ≡ 0) → NoneStored sizes ws
-  none_stored zeros i shared low is = let z = zeros (slot_word sizes i) in ⊎_elim
-      (λ (a : IsRaw sizes ws i × (shared ≡ false)). let r = a.0 in absurd (omega arith))
-      (λ (b : IsInCell sizes ws i × (counted (slot_at sizes ws i) ≡ one_where shared)). let c = b.0 in let n = c.2 in
-      let e = ap (names i) (zeros (cell_word sizes c.0)) ∙ sound.null i in absurd (omega arith)) is
+  none_stored zeros i low = let z = zeros (slot_word sizes i) in (
+    λ shared is. ⊎_elim
+        (λ (a : IsRaw sizes ws i × (shared ≡ false)). let r = a.0 in absurd (omega arith))
+        (λ (b : IsInCell sizes ws i × (counted (slot_at sizes ws i) ≡ one_where shared)). let c = b.0 in let n = c.2 in
+        let e = ap (names i) (zeros (cell_word sizes c.0)) ∙ sound.null i in absurd (omega arith)) is,
+    empty_shows (slot_at sizes ws i) (sound.empty (slot_at sizes ws i) (ap full z ∙ sound.free.2)),
+  )
 
   -- where words of cells stay, and the slot's word is raw only if it was, and counts its owners in cells as before
   pub stored_by : (ws' : List ℕ) → SameCells sizes ws ws' → (i : ℕ) (shared : Bool) → (IsRaw sizes ws' i → IsRaw sizes ws i)
@@ -103,32 +131,42 @@ module _ (sizes : Sizes) (ws : List ℕ) where
       inr (c, sym (kind c) ∙ b.1)) is
 
   -- where the slot's word stays too
-  stored_still : (ws' : List ℕ) → SameCells sizes ws ws' → (i : ℕ) (shared : Bool) → slot_at sizes ws' i ≡ slot_at sizes ws i → IsStored sizes ws' i shared
-      → IsStored sizes ws i shared
-  stored_still ws' same i shared e = stored_by ws' same i shared (λ is. sym e ∙ is) (λ _. ap counted e)
+  stored_still : (ws' : List ℕ) → SameCells sizes ws ws' → (i : ℕ) → slot_at sizes ws' i ≡ slot_at sizes ws i → StaysStored sizes ws ws' i
+  stored_still ws' same i e = (λ shared. stored_by ws' same i shared (λ is. sym e ∙ is) (λ _. ap counted e), subst HidesItem e)
 
   pub stored_kept : (ws' : List ℕ) → SameWords sizes ws ws' → NoMoreStored sizes ws ws'
-  stored_kept ws' same i shared near = stored_still ws' same.cells i shared (same.slots i)
+  stored_kept ws' same i near = stored_still ws' same.cells i (same.slots i)
 
   -- a word before the cells' changes
   pub stored_before : (j y : ℕ) → j < first_cell sizes → NoMoreStored sizes ws (set ws j y)
-  stored_before j y low i shared near = stored_still (set ws j y) (cells_below sizes ws j y low) i shared
+  stored_before j y low i near = stored_still (set ws j y) (cells_below sizes ws j y low) i
       (get_or-set_other ws j (slot_word sizes i) y 0 (λ e. omega arith))
 
   -- a word past the slots' changes
   pub stored_past : (other y : ℕ) → sizes.slots ≤ other → NoMoreStored sizes ws (set ws (slot_word sizes other) y)
-  stored_past other y past i shared near = stored_still (set ws (slot_word sizes other) y) (cells_slot sizes ws other y) i shared
+  stored_past other y past i near = stored_still (set ws (slot_word sizes other) y) (cells_slot sizes ws other y) i
       (get_or-set_other ws (slot_word sizes other) (slot_word sizes i) y 0 (λ e. omega arith))
+
+  -- no word changes
+  pub stored_as_is : NoMoreStored sizes ws ws
+  stored_as_is i near = (λ _ is. is, λ is. is)
 
   -- a word is looked at
   pub stored_same : (j : ℕ) → NoMoreStored sizes ws (set ws j (get_or ws j 0))
-  stored_same j i shared near is = subst (λ (l : List ℕ). IsStored sizes l i shared) (set-get_or ws j 0) is
+  stored_same j = subst (NoMoreStored sizes ws) (sym (set-get_or ws j 0)) stored_as_is
 
   -- a slot's word changes: another item is stored as before
-  pub stored_other : (slot y : ℕ) → (i : ℕ) (shared : Bool) → i < sizes.slots → i ≢ slot → IsStored sizes (set ws (slot_word sizes slot) y) i shared
-      → IsStored sizes ws i shared
-  stored_other slot y i shared near ne = stored_still (set ws (slot_word sizes slot) y) (cells_slot sizes ws slot y) i shared
+  pub stored_other : (slot y : ℕ) → (i : ℕ) → i < sizes.slots → i ≢ slot → StaysStored sizes ws (set ws (slot_word sizes slot) y) i
+  stored_other slot y i near ne = stored_still (set ws (slot_word sizes slot) y) (cells_slot sizes ws slot y) i
       (get_or-set_other ws (slot_word sizes slot) (slot_word sizes i) y 0 (λ e. ne (omega arith)))
+
+  -- and no more are hidden, where its own is only if it was
+  pub hidden_set : (slot y : ℕ) → slot_word sizes slot < length ws → (HidesItem y → HidesItem (slot_at sizes ws slot)) → (i : ℕ) → i < sizes.slots
+      → IsHidden sizes (set ws (slot_word sizes slot) y) i → IsHidden sizes ws i
+  hidden_set slot y low hid i near is = dite (ℕ_discrete i slot)
+      (λ e. subst (IsHidden sizes ws) (sym e)
+      (hid (subst HidesItem (get_or-set_same ws (slot_word sizes slot) y 0 low) (subst (IsHidden sizes (set ws (slot_word sizes slot) y)) e is))))
+      (λ ne. (stored_other slot y i near ne).1 is)
 
   module _ (slot y : ℕ) (low : slot_word sizes slot < length ws) (ne : y ≢ raw_word 0) where
     abbrev after : List ℕ
@@ -137,19 +175,28 @@ module _ (sizes : Sizes) (ws : List ℕ) where
     here : slot_at sizes after slot ≡ y
     here = get_or-set_same ws (slot_word sizes slot) y 0 low
 
-    -- its own isn't out as raw; and isn't stored where no cell holds an owner of it
-    pub not_stored : ¬ (IsInCell sizes ws slot) → (shared : Bool) → ¬ (IsStored sizes after slot shared)
-    not_stored free shared is = ⊎_elim (λ (a : IsRaw sizes after slot × (shared ≡ false)). ne (sym here ∙ a.0))
-        (λ (b : IsInCell sizes after slot × (counted (slot_at sizes after slot) ≡ one_where shared)).
-        free (in_cell_before sizes ws after (cells_slot sizes ws slot y) slot b.0)) is
+    -- its own isn't out as raw; and isn't stored where no cell holds an owner of it, nor hidden where its word hides nothing
+    pub not_stored : ¬ (HidesItem y) → ¬ (IsInCell sizes ws slot) → IsUnstored sizes after slot
+    not_stored shows free = (
+      λ shared is. ⊎_elim (λ (a : IsRaw sizes after slot × (shared ≡ false)). ne (sym here ∙ a.0))
+          (λ (b : IsInCell sizes after slot × (counted (slot_at sizes after slot) ≡ one_where shared)).
+          free (in_cell_before sizes ws after (cells_slot sizes ws slot y) slot b.0)) is,
+      λ is. shows (subst HidesItem here is),
+    )
 
-    -- so no more are, where its owners in cells are counted as before
-    pub stored_set : (IsInCell sizes ws slot → counted y ≡ counted (slot_at sizes ws slot)) → NoMoreStored sizes ws after
-    stored_set kind i shared near is = dite (ℕ_discrete i slot)
-        (λ e. subst (λ (k : ℕ). IsStored sizes ws k shared) (sym e)
-        (stored_by after (cells_slot sizes ws slot y) slot shared (λ raw. absurd (ne (sym here ∙ raw))) (λ c. ap counted here ∙ kind c)
-        (subst (λ (k : ℕ). IsStored sizes after k shared) e is)))
-        (λ apart. stored_other slot y i shared near apart is)
+    -- so no more are, where its owners in cells are counted as before, and it is hidden only if it was
+    pub stored_hid : (HidesItem y → HidesItem (slot_at sizes ws slot)) → (IsInCell sizes ws slot → counted y ≡ counted (slot_at sizes ws slot))
+        → NoMoreStored sizes ws after
+    stored_hid hid kind i near = dite (ℕ_discrete i slot)
+        (λ e. subst (StaysStored sizes ws after) (sym e) (
+          λ shared. stored_by after (cells_slot sizes ws slot y) slot shared (λ raw. absurd (ne (sym here ∙ raw))) (λ c. ap counted here ∙ kind c),
+          λ is. hid (subst HidesItem here is),
+        ))
+        (λ apart. stored_other slot y i near apart)
+
+    -- as where its word hides nothing
+    pub stored_set : ¬ (HidesItem y) → (IsInCell sizes ws slot → counted y ≡ counted (slot_at sizes ws slot)) → NoMoreStored sizes ws after
+    stored_set shows = stored_hid (λ hides. absurd (shows hides))
 
 -- the one is the bank's only if the other is, and has the same then
 abbrev pub KeepsBank : View → View → Type 0
@@ -172,9 +219,21 @@ alike_bank v w same is = (
   ap (λ (s : FractionsView). map (deposited s.book) s.banked) same.0,
 )
 
+-- one that moved in the same last
+knows_alike : (sizes : Sizes) (ws : List ℕ) (hs : FractionsAtHome) (v w : View) → w.stakes.filled ≡ v.stakes.filled → KnowsOf sizes ws hs v
+    → KnowsOf sizes ws hs w
+knows_alike sizes ws hs v w same old = (
+  λ i shared z low is l. ap (newest i) same ∙ old.0 i shared z low is l,
+  λ i z low is l. let k = old.1 i z low is l in (k.0, ap (newest i) same ∙ k.1),
+)
+
 module _ (sizes : Sizes) (ws : List ℕ) (vs : List View) (hs : FractionsAtHome) (part : LastsInvariant sizes ws vs hs) where
   abbrev n : ℕ
   n = sizes.participants
+
+  -- what each participant knew
+  knew : n ≡ 1 → (j : ℕ) (u : View) → get_elem? vs j ≡ some u → HasPlace u.epoch → KnowsOf sizes ws hs u
+  knew one j u e live = (part.stored one j u e live, part.hidden one j u e live)
 
   -- a new token without a place; if it is the bank's it has nothing yet
   pub lasts_more : (t : View) → (IsBank t → banked t ≡ []) → ¬ (HasPlace t.epoch) → LastsInvariant sizes ws (vs ++ t ∷ []) hs
@@ -182,6 +241,7 @@ module _ (sizes : Sizes) (ws : List ℕ) (vs : List View) (hs : FractionsAtHome)
     alike = part.alike;
     banks = each_snoc (λ u. IsBank u → ShowsLast sizes hs u) vs t part.banks (λ is i z low last. subst (ShowOnly i z.lot.shown) (sym (empty is)) tt);
     stored = λ one. each_snoc (λ u. HasPlace u.epoch → KnowsStored sizes ws hs u) vs t (part.stored one) (λ live. absurd (none live));
+    hidden = λ one. each_snoc (λ u. HasPlace u.epoch → KnowsHidden sizes ws hs u) vs t (part.hidden one) (λ live. absurd (none live));
   }
 
   module _ (id : ℕ) (v : View) (at : get_elem? vs id ≡ some v) where
@@ -195,6 +255,18 @@ module _ (sizes : Sizes) (ws : List ℕ) (vs : List View) (hs : FractionsAtHome)
         let last : (i : ℕ) (z : ValueFraction) → i < sizes.slots → LastIs sizes hs' i z → LastIs sizes hs i z
         = λ i z low l. ⊎_elim (λ (a : LastIs sizes hs i z). a)
         (λ (b : (n ≢ n) × ((y : ValueFraction) → LastIs sizes hs i y → z.lot.shown ≡ y.lot.shown)). absurd (b.0 refl)) (lies i n z low (omega arith) l) in
+        let still : (u : View) → KnowsOf sizes ws hs u → KnowsOf sizes ws' hs' u = λ u old. (
+          (λ i shared z low is l. old.0 i shared z low ((raws i low).0 shared is) (last i z low l)),
+          (λ i z low is l. old.1 i z low ((raws i low).1 is) (last i z low l)),
+        ) in
+        let none_still : (u : View) → NoneStored sizes ws → KnowsOf sizes ws' hs' u = λ u none. (
+          (λ i shared z low is l. absurd ((none i low).0 shared ((raws i low).0 shared is))),
+          (λ i z low is l. absurd ((none i low).1 ((raws i low).1 is))),
+        ) in
+        let knows = λ (one : n ≡ 1). each_set (λ u. HasPlace u.epoch → KnowsOf sizes ws' hs' u) (λ u. HasPlace u.epoch → KnowsOf sizes ws' hs' u) vs id w
+        (λ live. ⊎_elim (λ (was : HasPlace v.epoch). knows_alike sizes ws' hs' v w filled (still v (knew one id v at was)))
+        (λ (none : NoneStored sizes ws). none_still w none) (had one live))
+        (λ j u _ e live. still u (knew one j u e live)) in
         record {
           alike = λ i p y z low near l lz. ⊎_elim (λ (a : LiesAt n hs i p y). part.alike i p y z low near a (last i z low lz))
               (λ (b : (p ≢ n) × ((z : ValueFraction) → LastIs sizes hs i z → y.lot.shown ≡ z.lot.shown)). b.1 z (last i z low lz)) (lies i p y low near l);
@@ -202,12 +274,8 @@ module _ (sizes : Sizes) (ws : List ℕ) (vs : List View) (hs : FractionsAtHome)
               (λ u. IsBank u → ShowsLast sizes hs' u) vs id w
               (λ is i z low l. let b = bank is in subst (ShowOnly i z.lot.shown) (sym b.1) (part.banks id v at b.0 i z low (last i z low l)))
               (λ j u _ e is i z low l. part.banks j u e is i z low (last i z low l));
-          stored = λ one. each_set (λ u. HasPlace u.epoch → KnowsStored sizes ws' hs' u)
-              (λ u. HasPlace u.epoch → KnowsStored sizes ws' hs' u) vs id w
-              (λ live i shared z low is l. ⊎_elim
-              (λ (was : HasPlace v.epoch). ap (newest i) filled ∙ part.stored one id v at was i shared z low (raws i shared low is) (last i z low l))
-              (λ (none : NoneStored sizes ws). absurd (none i shared low (raws i shared low is))) (had one live))
-              (λ j u _ e live i shared z low is l. part.stored one j u e live i shared z low (raws i shared low is) (last i z low l));
+          stored = λ one j u e live. (knows one j u e live).0;
+          hidden = λ one j u e live. (knows one j u e live).1;
         }
 
     -- what lies at home lay there
@@ -222,8 +290,8 @@ module _ (sizes : Sizes) (ws : List ℕ) (vs : List View) (hs : FractionsAtHome)
         ((a b : Gv) → Is a → Is b → a ≡ b)
         → (ws' : List ℕ) (w : View) → ((j : ℕ) (b : View) → get_elem? vs j ≡ some b → IsBank b → (c : Gv) → ShowOnly slot c (banked b)) → KeepsBank v w
         → ((i : ℕ) → i ≢ slot → newest i w.stakes.filled ≡ newest i v.stakes.filled) → (HasPlace w.epoch → HasPlace v.epoch)
-        → ((shared : Bool) → ¬ (IsStored sizes ws' slot shared))
-        → ((i : ℕ) (shared : Bool) → i < sizes.slots → i ≢ slot → IsStored sizes ws' i shared → IsStored sizes ws i shared)
+        → IsUnstored sizes ws' slot
+        → ((i : ℕ) → i < sizes.slots → i ≢ slot → StaysStored sizes ws ws' i)
         → LastsInvariant sizes ws' (set vs id w) (homes_after hs xs g.act)
     lasts_given γ slot o Is rest xs g single ws' w nothing bank filled had free raws =
         let hs' : FractionsAtHome = homes_after hs xs g.act in
@@ -233,11 +301,20 @@ module _ (sizes : Sizes) (ws : List ℕ) (vs : List View) (hs : FractionsAtHome)
         = λ u u' is same old none i z low l. subst (ShowOnly i z.lot.shown) (sym same) (⊎_elim
         (λ (a : (i ≡ slot) × Has γ slot (share n o n) Is z). subst (λ (k : ℕ). ShowOnly k z.lot.shown (banked u)) (sym a.0) (none z.lot.shown))
         (λ (b : (i ≢ slot) × LiesAt n hs i n z). old i z low b.1) (which i n z (omega arith) l)) in
-        let stored_of : (u u' : View) → ((i : ℕ) → i ≢ slot → newest i u'.stakes.filled ≡ newest i u.stakes.filled)
-        → KnowsStored sizes ws hs u → KnowsStored sizes ws' hs' u'
-        = λ u u' same old i shared z low is l. ⊎_elim
-        (λ (a : (i ≡ slot) × Has γ slot (share n o n) Is z). absurd (free shared (subst (λ (k : ℕ). IsStored sizes ws' k shared) a.0 is)))
-        (λ (b : (i ≢ slot) × LiesAt n hs i n z). same i b.0 ∙ old i shared z low (raws i shared low b.0 is) b.1) (which i n z (omega arith) l) in record {
+        let now_of : (u u' : View) → ((i : ℕ) → i ≢ slot → newest i u'.stakes.filled ≡ newest i u.stakes.filled)
+        → KnowsOf sizes ws hs u → KnowsOf sizes ws' hs' u'
+        = λ u u' same old. (
+          (λ i shared z low is l. ⊎_elim
+              (λ (a : (i ≡ slot) × Has γ slot (share n o n) Is z). absurd (free.0 shared (subst (λ (k : ℕ). IsStored sizes ws' k shared) a.0 is)))
+              (λ (b : (i ≢ slot) × LiesAt n hs i n z). same i b.0 ∙ old.0 i shared z low ((raws i low b.0).0 shared is) b.1) (which i n z (omega arith) l)),
+          (λ i z low is l. ⊎_elim
+              (λ (a : (i ≡ slot) × Has γ slot (share n o n) Is z). absurd (free.1 (subst (IsHidden sizes ws') a.0 is)))
+              (λ (b : (i ≢ slot) × LiesAt n hs i n z). let k = old.1 i z low ((raws i low b.0).1 is) b.1 in (k.0, same i b.0 ∙ k.1))
+              (which i n z (omega arith) l)),
+        ) in
+        let knows = λ (one : n ≡ 1). each_set (λ u. HasPlace u.epoch → KnowsOf sizes ws' hs' u) (λ u. HasPlace u.epoch → KnowsOf sizes ws' hs' u) vs id w
+        (λ live. now_of v w filled (knew one id v at (had live)))
+        (λ j u _ e live. now_of u u (λ _ _. refl) (knew one j u e live)) in record {
           alike = λ i p y z low near l lz. ⊎_elim
               (λ (a : (i ≡ slot) × Has γ slot (share n o p) Is y). ⊎_elim
               (λ (b : (i ≡ slot) × Has γ slot (share n o n) Is z). single y.lot.shown z.lot.shown a.1.1 b.1.1)
@@ -249,10 +326,8 @@ module _ (sizes : Sizes) (ws : List ℕ) (vs : List View) (hs : FractionsAtHome)
               (λ u. IsBank u → ShowsLast sizes hs' u) vs id w
               (λ is. let b = bank is in show v w b.0 b.1 (part.banks id v at b.0) (nothing id v at b.0))
               (λ j u _ e is. show u u is refl (part.banks j u e is) (nothing j u e is));
-          stored = λ one. each_set (λ u. HasPlace u.epoch → KnowsStored sizes ws' hs' u)
-              (λ u. HasPlace u.epoch → KnowsStored sizes ws' hs' u) vs id w
-              (λ live. stored_of v w filled (part.stored one id v at (had live)))
-              (λ j u _ e live. stored_of u u (λ _ _. refl) (part.stored one j u e live));
+          stored = λ one j u e live. (knows one j u e live).0;
+          hidden = λ one j u e live. (knows one j u e live).1;
         }
 
     -- every participant knows what an item shows, as where there is one
@@ -260,21 +335,28 @@ module _ (sizes : Sizes) (ws : List ℕ) (vs : List View) (hs : FractionsAtHome)
     AllKnow i shared = n ≡ 1 → (j : ℕ) (u : View) → get_elem? vs j ≡ some u → HasPlace u.epoch → (z : ValueFraction) → LastIs sizes hs i z
         → newest i u.stakes.filled ≡ Some (record { slot = i; shared = shared; value = z.lot.shown })
 
-    -- items are stored that were stored, or of which it is known what they show
+    -- items are stored or hidden that were so before, or of which it is known what they show
     pub lasts_out : (ws' : List ℕ) (w : View) → KeepsBank v w → w.stakes.filled ≡ v.stakes.filled → (HasPlace w.epoch → HasPlace v.epoch)
         → ((i : ℕ) (shared : Bool) → i < sizes.slots → IsStored sizes ws' i shared → IsStored sizes ws i shared ⊎ AllKnow i shared)
+        → ((i : ℕ) → i < sizes.slots → IsHidden sizes ws' i → IsHidden sizes ws i ⊎ ((shared : Bool) × AllKnow i shared))
         → LastsInvariant sizes ws' (set vs id w) hs
-    lasts_out ws' w bank filled had stored =
-        let now : (j : ℕ) (u u' : View) → get_elem? vs j ≡ some u → n ≡ 1 → HasPlace u.epoch → u'.stakes.filled ≡ u.stakes.filled → KnowsStored sizes ws' hs u'
-        = λ j u u' e one live same i shared z low is l. ap (newest i) same ∙ ⊎_elim
-        (λ (old : IsStored sizes ws i shared). part.stored one j u e live i shared z low old l) (λ (all : AllKnow i shared). all one j u e live z l)
-        (stored i shared low is) in record {
+    lasts_out ws' w bank filled had stored hidden =
+        let now : (j : ℕ) (u u' : View) → get_elem? vs j ≡ some u → n ≡ 1 → HasPlace u.epoch → u'.stakes.filled ≡ u.stakes.filled → KnowsOf sizes ws' hs u'
+        = λ j u u' e one live same. knows_alike sizes ws' hs u u' same (
+          (λ i shared z low is l. ⊎_elim
+              (λ (old : IsStored sizes ws i shared). part.stored one j u e live i shared z low old l) (λ (all : AllKnow i shared). all one j u e live z l)
+              (stored i shared low is)),
+          (λ i z low is l. ⊎_elim (λ (old : IsHidden sizes ws i). part.hidden one j u e live i z low old l)
+              (λ (all : (shared : Bool) × AllKnow i shared). (all.0, all.1 one j u e live z l)) (hidden i low is)),
+        ) in
+        let knows = λ (one : n ≡ 1). each_set (λ u. HasPlace u.epoch → KnowsOf sizes ws' hs u) (λ u. HasPlace u.epoch → KnowsOf sizes ws' hs u) vs id w
+        (λ live. now id v w at one (had live) filled) (λ j u _ e live. now j u u e one live refl) in record {
           alike = part.alike;
           banks = each_set (λ u. IsBank u → ShowsLast sizes hs u) (λ u. IsBank u → ShowsLast sizes hs u) vs id w
               (λ is i z low l. let b = bank is in subst (ShowOnly i z.lot.shown) (sym b.1) (part.banks id v at b.0 i z low l))
               (λ j u _ e. part.banks j u e);
-          stored = λ one. each_set (λ u. HasPlace u.epoch → KnowsStored sizes ws' hs u) (λ u. HasPlace u.epoch → KnowsStored sizes ws' hs u) vs id w
-              (λ live. now id v w at one (had live) filled) (λ j u _ e live. now j u u e one live refl);
+          stored = λ one j u e live. (knows one j u e live).0;
+          hidden = λ one j u e live. (knows one j u e live).1;
         }
 
   -- what the bank has is other than before
@@ -289,4 +371,7 @@ module _ (sizes : Sizes) (ws : List ℕ) (vs : List View) (hs : FractionsAtHome)
     stored = λ one. each_set (λ u. HasPlace u.epoch → KnowsStored sizes ws hs u)
         (λ u. HasPlace u.epoch → KnowsStored sizes ws hs u) vs bd (with_deposits ls b)
         (λ live. part.stored one bd b there live) (λ j u _ e. part.stored one j u e);
+    hidden = λ one. each_set (λ u. HasPlace u.epoch → KnowsHidden sizes ws hs u)
+        (λ u. HasPlace u.epoch → KnowsHidden sizes ws hs u) vs bd (with_deposits ls b)
+        (λ live. part.hidden one bd b there live) (λ j u _ e. part.hidden one j u e);
   }

@@ -13,6 +13,7 @@ pub mod KindSteps
 pub mod Lift
 pub mod Steps
 pub mod RawSteps
+pub mod EmptyingSteps
 pub mod CellSteps
 pub mod PointerSteps
 pub mod Upgrading
@@ -20,4 +21,5 @@ pub mod JobSteps
 pub mod Tokens
 pub mod Cloning
 pub mod RightTokens
+pub mod CollectorSteps
 pub mod Laid

@@ -20,7 +20,7 @@ use Rattle.sdd_word_invariant.specs.Epoch.{HasPlace, IsClosed, IsOpen}
 use Rattle.sdd_word_invariant.specs.EpochSteps.{Steps, Publishes, Ends}
 use Rattle.sdd_word_invariant.specs.Slots.{waits_in}
 use Rattle.sdd_word_invariant.specs.SlotSteps.{older, aged as aged_slots, changed, OnEpoch, PublishesAll}
-use Rattle.sdd_word_invariant.specs.WordInvariant.{epoch_of, Parts}
+use Rattle.sdd_word_invariant.specs.WordInvariant.{epoch_of, Parts, WordInvariant}
 use Rattle.atomic_table.proofs.Lists.{at_map, set_again, set_else}
 use Rattle.sdd_word_invariant.proofs.Frame.{each_set}
 use Rattle.sdd_word_invariant.proofs.Sums.{total_map}
@@ -283,11 +283,27 @@ module _ (γ : ℕ) (sizes : Sizes) (slots : ℕ) where
             (λ _ live. absurd (omega arith)) (stored_before sizes s.words i 3 (omega arith));
         kinds = kind_steps.calm sizes s.words s.views h.kinds h.records.each id v at (set s.words i 3) now (words_below sizes s.words i 3 (omega arith))
             (refl, refl, refl, (λ _. refl), refl) refl refl (λ _ o. o)
-            record { pledges = refl; over = refl; sizes = refl; cells = refl; place = inr over; records = λ _ r a. a; holds = λ _. refl };
+            record { pledges = refl; marks = refl; sizes = refl; cells = refl; place = inr over; records = λ _ r a. a; holds = λ _. refl };
         tells = tells;
       })
 
--- a step on no word
+-- a step on no word, by which the same places have ended
+pub kept_stands : (sizes : Sizes) (s : State ValueFraction View) → WordInvariant sizes s → (id : ℕ) (v : View) → get_elem? s.views id ≡ some v → (w : View)
+    → w.places ≡ v.places → Parts sizes s.words (set s.views id w) → (hs : FractionsAtHome)
+    → WordInvariant {S = ValueFraction} sizes record { words = s.words; homes = hs; views = set s.views id w }
+kept_stands sizes s kept id v at w same parts hs = record {
+  parts = parts;
+  places = record {
+    wide = kept.places.wide;
+    ended = each_set (AreBarred sizes s.words) (AreBarred sizes s.words) s.views id w
+        (λ p low l. kept.places.ended id v at p low (subst (λ (x : EndedView). p < x.ended) same l)) (λ j u _ e. kept.places.ended j u e);
+    quiet = each_set (AreQuiet sizes s.words) (AreQuiet sizes s.words) s.views id w
+        (subst (λ (x : EndedView). AreQuiet sizes s.words (record v { places = x })) (sym same) (kept.places.quiet id v at))
+        (λ j u _ e. kept.places.quiet j u e);
+  };
+}
+
+-- and all parts stand
 module _ (γ : ℕ) (sizes : Sizes) (id : ℕ) (v : View) (s : State ValueFraction View) (h : DomainInvariant γ sizes s) (at : get_elem? s.views id ≡ some v) where
   pub stands : (w : View) → w.places ≡ v.places → Parts sizes s.words (set s.views id w) → (hs : FractionsAtHome)
       → FractionsInvariant γ sizes s.words (set s.views id w) hs → RecordsInvariant sizes (set s.views id w) hs → CountsInvariant sizes s.words
@@ -295,17 +311,7 @@ module _ (γ : ℕ) (sizes : Sizes) (id : ℕ) (v : View) (s : State ValueFracti
       → FilledInvariant sizes (set s.views id w) → BankInvariant γ sizes s.words (set s.views id w) → LastsInvariant sizes s.words (set s.views id w) hs
       → KindsInvariant sizes s.words (set s.views id w) → DomainInvariant γ sizes record { words = s.words; homes = hs; views = set s.views id w }
   stands w same parts hs homes records counts filled bank lasts kinds = record {
-    kept = record {
-      parts = parts;
-      places = record {
-        wide = h.kept.places.wide;
-        ended = each_set (AreBarred sizes s.words) (AreBarred sizes s.words) s.views id w
-            (λ p low l. h.kept.places.ended id v at p low (subst (λ (x : EndedView). p < x.ended) same l)) (λ j u _ e. h.kept.places.ended j u e);
-        quiet = each_set (AreQuiet sizes s.words) (AreQuiet sizes s.words) s.views id w
-            (subst (λ (x : EndedView). AreQuiet sizes s.words (record v { places = x })) (sym same) (h.kept.places.quiet id v at))
-            (λ j u _ e. h.kept.places.quiet j u e);
-      };
-    };
+    kept = kept_stands sizes s h.kept id v at w same parts hs;
     homes = homes;
     records = records;
     counts = counts;

@@ -44,7 +44,7 @@ use Rattle.sdd_domain_invariant.proofs.Records as records
 use Rattle.sdd_domain_invariant.proofs.Fillings.{has_none, filled_learned}
 use Rattle.sdd_domain_invariant.proofs.Telling.{none_moved, one_view, owns_it}
 use Rattle.sdd_domain_invariant.proofs.Tops.{share_one}
-use Rattle.sdd_domain_invariant.proofs.Lasts.{stored_other, stored_set, stored_same, AllKnow, lasts_out, lasts_fewer}
+use Rattle.sdd_domain_invariant.proofs.Lasts.{plain_shows, owned_shows, stored_other, hidden_set, stored_set, stored_same, AllKnow, lasts_out, lasts_fewer}
 use Rattle.sdd_domain_invariant.proofs.Lift.{Follows, lift_homes, lift_whole}
 use Rattle.sdd_domain_invariant.proofs.KindSteps as kind_steps
 use Rattle.sdd_domain_invariant.proofs.Steps.{full_owned}
@@ -199,7 +199,8 @@ module _ (slots id : ℕ) (me : SeatState) (live : HasPlace me.0.epoch) where
               (h.filled.knows single j id u v r e placed at (inl has))))
               (λ (b : IsInCell sizes (set s.words i y) j × _). absurd (free_of (subst (IsInCell sizes s.words) e
               (in_cell_before sizes s.words (set s.words i y) (cells_slot sizes s.words slot y) j b.0)))) is)))
-              (λ ne. inl (stored_other sizes s.words slot y j kind near ne is)));
+              (λ ne. inl ((stored_other sizes s.words slot y j near ne).0 kind is)))
+              (λ j near is. inl (hidden_set sizes s.words slot y low (λ hides. absurd (plain_shows y (raw_plain 0 (omega arith)) hides)) j near is));
           kinds = kind_steps.goes sizes s.words s.views h.kinds h.records.each id v at slot y now inside
               (steps.wrote_long slots id me live slot inside s h at y) rests refl (λ _ o. o) word
               (λ j u apart e. inl (λ o. let both = owners_in codes sound sizes s.words s.views h.kept.parts.slots j id slot u v apart e at in omega arith))
@@ -249,7 +250,7 @@ module _ (slots id : ℕ) (me : SeatState) (live : HasPlace me.0.epoch) where
               record { bank = refl; founds = refl; book = refl; banked = refl; drawn = refl } refl
               (λ k. let l = h.bank.low id v at k in omega arith) same;
           lasts = lasts_fewer sizes s.words s.views s.homes h.lasts id v at (set s.words i y) now s.homes (λ _ _ _ _ l. l) (λ b. (b, refl)) refl
-              (λ _ _. inl live) (stored_set sizes s.words slot y low (λ e. absurd (omega arith))
+              (λ _ _. inl live) (stored_set sizes s.words slot y low (λ e. absurd (omega arith)) (owned_shows y (let o = own.0 in omega arith))
               (λ c. absurd (steps.in_no_cell slots id me live slot inside s h (dead s h hit) c)));
           kinds = let none = dead s h hit in kind_steps.regains sizes s.words s.views h.kinds h.records.each id v at slot y value now inside
               (steps.wrote_long slots id me live slot inside s h at y) rests refl (λ _ o. o) own.2

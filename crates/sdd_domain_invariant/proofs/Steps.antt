@@ -55,7 +55,7 @@ use Rattle.sdd_domain_invariant.specs.DomainInvariant.{DomainInvariant}
 use Rattle.sdd_domain_invariant.specs.BankInvariant.{drawn_at, moves_at, banked, IsBank, outside, one_where, deposited}
 use Rattle.sdd_domain_invariant.specs.FractionSteps.{SeatState, CarriesAll, IsValue, CarriesSeen, moving, making, giving, dropping, resting, telling, drawing, undrawing, untold, remembering, forgetting, sighting, unsighted, IsNewest, ClaimsAll, FillsSlot, EntersUnit, TakesOut, TakesHeld, IsDeposit, RetiresOne, GivesAll, DiscardsAll, SeesOwned, LearnsOwned, ClosesHome, OfSlot, ReleasesOne, LeavesOne}
 use Rattle.sdd_domain_invariant.specs.KindsInvariant.{written}
-use Rattle.sdd_domain_invariant.proofs.KindSteps.{written_now, KeepsPost, same_post}
+use Rattle.sdd_domain_invariant.proofs.KindSteps.{marks_of, written_now, KeepsPost, same_post}
 use Rattle.sdd_domain_invariant.proofs.KindSteps as kind_steps
 use Rattle.sdd_domain_invariant.specs.Records.{IsIn, KnowsShown, IsKnown, IsTelling, AllShowKnown}
 use Rattle.sdd_domain_invariant.specs.Counts.{ended_places}
@@ -72,7 +72,7 @@ use Rattle.sdd_domain_invariant.proofs.Records as records
 use Rattle.sdd_domain_invariant.proofs.Fillings.{newest_before, TellsNoMore, has_none, has_either, has_old, told_by, tells_old, filled_after, filled_same, filled_housed}
 use Rattle.sdd_domain_invariant.specs.CellsInvariant.{IsInCell}
 use Rattle.sdd_domain_invariant.proofs.Cells.{SameWords, no_change, words_below, words_same, in_cell_alive, in_cell_beside}
-use Rattle.sdd_domain_invariant.proofs.Lasts.{none_shown, shown_leaves, shown_comes, stored_before, stored_same, stored_other, not_stored, stored_set, lasts_kept, lasts_fewer, lasts_given, lasts_dealt, one_bank}
+use Rattle.sdd_domain_invariant.proofs.Lasts.{none_shown, shown_leaves, shown_comes, owned_shows, waiting_shows, empty_shows, stored_before, stored_as_is, stored_same, stored_other, not_stored, stored_set, lasts_kept, lasts_fewer, lasts_given, lasts_dealt, one_bank}
 use Rattle.sdd_domain_invariant.proofs.Rows.{Taken, Given, takes_row, gives_row, gives_purse, taken_lies, given_lies}
 use Rattle.sdd_domain_invariant.proofs.Telling.{one_moved, none_moved, one_view, owns_it, claimed_tells, moving_tells, held_tells, retired_tells, housed_tells, rested_tells, none_owns, none_waits, unknown_owned, unknown_waiting, comes_home}
 use Rattle.sdd_domain_invariant.proofs.Tops.{rest_is, share_one}
@@ -168,11 +168,11 @@ module _ (slots id : ℕ) (me : SeatState) (live : HasPlace me.0.epoch) where
     filled_by w same tells = filled_after sizes s.views h.filled id v at w same tells (λ _ _. inl live)
 
     -- what it has of counts and pledges stays
-    pub post : (w : View) → w.pledges ≡ v.pledges → w.slots.over ≡ v.slots.over → w.sizes ≡ v.sizes → w.cells ≡ v.cells
+    pub post : (w : View) → w.pledges ≡ v.pledges → marks_of w ≡ marks_of v → w.sizes ≡ v.sizes → w.cells ≡ v.cells
         → (HasPlace v.epoch → HasPlace w.epoch) → KeepsPost v w
-    post w pledges over of rights lives = let near = (h.kept.parts.epoch.each id v.epoch (at_map epoch_of s.views id v at)).inside live in record {
+    post w pledges marked of rights lives = let near = (h.kept.parts.epoch.each id v.epoch (at_map epoch_of s.views id v at)).inside live in record {
       pledges = pledges;
-      over = over;
+      marks = marked;
       sizes = of;
       cells = rights;
       place = inl lives;
@@ -267,7 +267,7 @@ module _ (slots id : ℕ) (me : SeatState) (live : HasPlace me.0.epoch) where
       same_words j = ap (λ (l : List ℕ). full_at sizes l j) (set-get_or s.words i 0)
 
     -- of a slot whose value it moves the bank has nothing
-    moved_unbanked : (s : State ValueFraction View) → DomainInvariant γ sizes s → get_elem? s.views id ≡ some v → Moves v slot → (j : ℕ) (b : View)
+    pub moved_unbanked : (s : State ValueFraction View) → DomainInvariant γ sizes s → get_elem? s.views id ≡ some v → Moves v slot → (j : ℕ) (b : View)
         → get_elem? s.views j ≡ some b → IsBank b → (c : Gv) → ShowOnly slot c (banked b)
     moved_unbanked s h at mine j b there is c = let o = h.bank.banks j b there is in none_shown slot c γ (banked b) o.deposits
         (let sum = o.sums slot inside in let out = banks.moved_outside γ sizes s.words s.views h.bank id v at slot mine in omega arith)
@@ -280,7 +280,8 @@ module _ (slots id : ℕ) (me : SeatState) (live : HasPlace me.0.epoch) where
         → LastsInvariant sizes (set s.words i (free_word 0)) (set s.views id w) (homes_after s.homes me.1 g.act)
     goes_home s h at mine free rest g w bank same filled = lasts_given sizes s.words s.views s.homes h.lasts id v at γ slot 0 IsNoValueCode rest me.1 g
         (λ a b e e'. e ∙ sym e') (set s.words i (free_word 0)) w (moved_unbanked s h at mine) (λ b. (sym bank ∙ b, same)) (λ k _. ap (newest k) filled)
-        (λ _. live) (not_stored sizes s.words slot (free_word 0) (within s h) (λ e. absurd (omega arith)) free)
+        (λ _. live) (not_stored sizes s.words slot (free_word 0) (within s h) (λ e. absurd (omega arith))
+        (empty_shows (free_word 0) (sound.empty (free_word 0) (free_is 0 (omega arith)).2)) free)
         (stored_other sizes s.words slot (free_word 0))
 
     -- claim a free slot, by a word with one owner, counted or not
@@ -327,7 +328,7 @@ module _ (slots id : ℕ) (me : SeatState) (live : HasPlace me.0.epoch) where
           lasts = lasts_fewer sizes s.words s.views s.homes h.lasts id v at (set s.words i y) now (homes_after s.homes me.1 tk.act)
               (λ j p y near l. (taken_lies γ n slot 0 IsNoValueCode s.homes me.1 tk j p y near l).1) (λ b. (b, refl)) refl (λ _ _. inl live)
               (stored_set sizes s.words slot y (within s h) (λ e. let dead = ap alive e ∙ (raw_is 0 (omega arith)).0 in absurd (omega arith))
-              (λ c. absurd (in_no_cell s h dead c)));
+              (owned_shows y (omega arith)) (λ c. absurd (in_no_cell s h dead c)));
           kinds = kind_steps.claims sizes s.words s.views h.kinds h.records.each id v at slot y refl inside owns_one (here s.words y (within s h)) nobody
               (in_no_cell s h dead) (post s h at now refl refl refl refl (λ l. l));
           tells = at_once (λ slot. ClaimsAll slot (free_word 0) y) x (now, carried_after me.1 tk.act)
@@ -437,10 +438,13 @@ module _ (slots id : ℕ) (me : SeatState) (live : HasPlace me.0.epoch) where
                 let z = moves_other k v slot mine apart in omega arith) in omega arith)))
                 (lasts_dealt sizes s.words (set s.views id w) (homes_after s.homes me.1 g.act)
                 (lasts_given sizes s.words s.views s.homes h.lasts id v at γ slot (spare n) (IsValue value) rest me.1 g (λ c d e e'. e.1 ∙ sym e'.1)
-                s.words w (moved_unbanked s h at mine) (λ b. (b, refl)) (λ k apart. newest_before r v.stakes.filled k (λ e. apart (sym e))) (λ _. live)
-                (λ _ is. let one = (h.kinds.each id v at).sole slot mine own in ⊎_elim
-                (λ (a : IsRaw sizes s.words slot × _). let e = ap alive a.0 in let dead = (raw_is 0 (omega arith)).0 in absurd (omega arith))
-                (λ (b : IsInCell sizes s.words slot × _). in_no_cell_too s h at own one b.0) is) (λ _ _ _ _ is. is))
+                s.words w (moved_unbanked s h at mine) (λ b. (b, refl)) (λ k apart. newest_before r v.stakes.filled k (λ e. apart (sym e))) (λ _. live) (
+                  (λ _ is. let one = (h.kinds.each id v at).sole slot mine own in ⊎_elim
+                      (λ (a : IsRaw sizes s.words slot × _). let e = ap alive a.0 in let dead = (raw_is 0 (omega arith)).0 in absurd (omega arith))
+                      (λ (b : IsInCell sizes s.words slot × _). in_no_cell_too s h at own one b.0) is),
+                  owned_shows (slot_at sizes s.words slot) (let one = (h.kinds.each id v at).sole slot mine own in omega arith),
+                )
+                (λ k near _. stored_as_is sizes s.words k near))
                 γ bd b (set_else s.views id bd w (λ e. ne (sym e)) ∙ there) bank ls (h.bank.banks bd b there bank).book brought.deposits
                 (λ k z low last show. shown_comes k z.lot.shown (banked b) l ls brought.comes show (λ same. ⊎_elim
                 (λ (d : (k ≡ slot) × Has γ slot (share n (spare n) n) (IsValue value) z).
@@ -454,7 +458,7 @@ module _ (slots id : ℕ) (me : SeatState) (live : HasPlace me.0.epoch) where
           }
 
       -- where nobody sees a slot, and its value may be moved out by this one alone, all stakes in it are taken, and the bank's deposit of it, as none is drawn
-      moves_out : (s : State ValueFraction View) (b : View) (h : DomainInvariant γ sizes s) → get_elem? s.views id ≡ some v → get_elem? s.views bd ≡ some b →
+      pub moves_out : (s : State ValueFraction View) (b : View) (h : DomainInvariant γ sizes s) → get_elem? s.views id ≡ some v → get_elem? s.views bd ≡ some b →
           IsBank b
           → ¬ (id ≡ bd) → v.stakes.moves ≡ None → full_at sizes s.words slot ≡ 1 → total (drawn_at slot) s.views ≡ 0 → (Is : Gv → Type 0)
           → ((p : ℕ) (y : ValueFraction) → p ≤ n → LiesAt n s.homes slot p y → MatchesSlotWord (full_at sizes s.words slot) y.lot.shown → Is y.lot.shown)
@@ -529,7 +533,7 @@ module _ (slots id : ℕ) (me : SeatState) (live : HasPlace me.0.epoch) where
                 (lasts_fewer sizes s.words s.views s.homes h.lasts id v at s.words w (homes_after s.homes me.1 tk.act)
                 (λ j p y near l. (taken_lies γ n slot (spare n) Is s.homes me.1 tk j p y near l).1)
                 (λ mine. absurd (one_bank γ sizes s.words s.views h.bank id bd v b ne at there (sym bank_is ∙ mine) bank)) kept (λ _ _. inl live)
-                (λ _ _ _ is. is))
+                (stored_as_is sizes s.words))
                 γ bd b (set_else s.views id bd w (λ e. ne (sym e)) ∙ there) bank ls balance.book goes.deposits
                 (λ k z low last show. (shown_leaves k z.lot.shown (banked b) l ls goes.goes show).0));
             ours = bank;
@@ -581,7 +585,7 @@ module _ (slots id : ℕ) (me : SeatState) (live : HasPlace me.0.epoch) where
                 (λ apart. let o = is_other k slot (λ e. apart (sym e)) in let same = brought.others k (λ e. apart (e ∙ number)) in omega arith)))
                 (lasts_dealt sizes s.words (set s.views id w) s.homes
                 (lasts_fewer sizes s.words s.views s.homes h.lasts id v at s.words w s.homes (λ _ _ _ _ l. l) (λ b. (b, refl)) refl (λ _ _. inl live)
-                (λ _ _ _ is. is))
+                (stored_as_is sizes s.words))
                 γ bd b (set_else s.views id bd w (λ e. ne (sym e)) ∙ there) bank ls (h.bank.banks bd b there bank).book brought.deposits
                 (λ k z low last show. shown_comes k z.lot.shown (banked b) l ls brought.comes show
                 (λ e. let same : slot ≡ k = sym number ∙ e in sym (subst (λ (x : ℕ). z.lot.shown ≡ l.shown) same
@@ -821,7 +825,8 @@ module _ (slots id : ℕ) (me : SeatState) (live : HasPlace me.0.epoch) where
                 (λ k. let z = ap (times k) empty in omega arith) same;
             lasts = lasts_fewer sizes s.words s.views s.homes h.lasts id v at (set s.words i y) now s.homes (λ _ _ _ _ l. l) (λ b. (b, refl)) refl
                 (λ _ _. inl live) (stored_set sizes s.words slot y (within s h)
-                (λ e. let quiet = ap waiting e ∙ (raw_is 0 (omega arith)).1 in absurd (omega arith)) (λ c. absurd (in_no_cell_too s h at own one c)));
+                (λ e. let quiet = ap waiting e ∙ (raw_is 0 (omega arith)).1 in absurd (omega arith)) (waiting_shows y (omega arith))
+                (λ c. absurd (in_no_cell_too s h at own one c)));
             kinds = kind_steps.goes sizes s.words s.views h.kinds h.records.each id v at slot y now inside (wrote_long s h at y) rests refl (λ _ o. o) word
                 (λ j u apart e. inl (λ o. let both = owners_in codes sound sizes s.words s.views h.kept.parts.slots j id slot u v apart e at in omega arith))
                 (λ c. inl (let z = dead in omega arith)) (λ c. absurd (in_no_cell_too s h at own one c))
@@ -913,7 +918,8 @@ module _ (slots id : ℕ) (me : SeatState) (live : HasPlace me.0.epoch) where
                   (λ k. let z = ap (times k) empty in omega arith) same;
               lasts = lasts_fewer sizes s.words s.views s.homes h.lasts id v at (set s.words i y) now s.homes (λ _ _ _ _ l. l) (λ b. (b, refl)) refl
                   (λ _ _. inl live) (stored_set sizes s.words slot y (within s h)
-                  (λ e. let dead = ap alive e ∙ (raw_is 0 (omega arith)).0 in absurd (omega arith)) (λ _. fewer.3 ∙ sym several));
+                  (λ e. let dead = ap alive e ∙ (raw_is 0 (omega arith)).0 in absurd (omega arith)) (owned_shows y (let m = fewer.0 in omega arith))
+                  (λ _. fewer.3 ∙ sym several));
               kinds = kind_steps.goes sizes s.words s.views h.kinds h.records.each id v at slot y now inside (wrote_long s h at y) rests refl (λ _ o. o) word
                   (λ j u apart e. inr (still_owned γ sizes s h slot id j v u at e (λ z. apart (sym z)) own, fewer.3 ∙ sym several))
                   (λ c. inr (several, (let n = fewer.0 in omega arith))) (λ _. fewer.3 ∙ sym several) (post s h at now refl refl refl refl (λ l. l));
@@ -976,7 +982,7 @@ module _ (slots id : ℕ) (me : SeatState) (live : HasPlace me.0.epoch) where
               (records.calm sizes s.views s.homes r id v at v (refl, refl, refl, (λ _. refl), refl)) (still_filled s h at v refl refl refl)
               (banks.alike γ sizes s.words s.views h.bank id v at s.words v (refl, refl, refl, (λ _. refl), refl) (λ _ _. refl))
               (lasts_fewer sizes s.words s.views s.homes h.lasts id v at s.words v s.homes (λ _ _ _ _ l. l) (λ b. (b, refl)) refl (λ _ _. inl live)
-              (λ _ _ _ is. is))
+              (stored_as_is sizes s.words))
               (kind_steps.same sizes s.words s.views h.kinds h.records.each id v at v refl refl refl refl refl refl s.words (no_change sizes s.words)
               (post s h at v refl refl refl refl (λ l. l))),
           (
@@ -1036,7 +1042,7 @@ module _ (slots id : ℕ) (me : SeatState) (live : HasPlace me.0.epoch) where
               (banks.calm γ sizes s.words s.views h.bank id v at s.words now
               record { bank = refl; founds = refl; book = refl; banked = refl; drawn = refl } refl (h.bank.low id v at) (λ _ _. refl))
               (lasts_fewer sizes s.words s.views s.homes h.lasts id v at s.words now (set s.homes spot none)
-              (λ j p z _ lies. one_taken s.homes spot (stake_at n j p) z lies) (λ b. (b, refl)) refl (λ _ _. inl live) (λ _ _ _ is. is))
+              (λ j p z _ lies. one_taken s.homes spot (stake_at n j p) z lies) (λ b. (b, refl)) refl (λ _ _. inl live) (stored_as_is sizes s.words))
               (kind_steps.same sizes s.words s.views h.kinds h.records.each id v at now refl refl refl refl refl refl s.words (no_change sizes s.words)
               (post s h at now refl refl refl refl (λ l. l))),
           ((λ sees. absurd (unseen sees)), (λ _. (y, it, refl))),
@@ -1131,7 +1137,8 @@ module _ (slots id : ℕ) (me : SeatState) (live : HasPlace me.0.epoch) where
           counts = refl;
           lives = λ l. l;
           had = λ _ l. inl l;
-          stored = stored_set sizes s.words slot held_word (within s h) (λ e. absurd (omega arith)) (λ c. absurd (in_no_cell_too s h at own one c));
+          stored = stored_set sizes s.words slot held_word (within s h) (λ e. absurd (omega arith)) (owned_shows held_word (let o = only_held.0 in omega arith))
+              (λ c. absurd (in_no_cell_too s h at own one c));
           kinds = kind_steps.takes_hold sizes s.words s.views h.kinds h.records.each id v at slot held_word (held_by slot held_word v) inside
               (wrote_long s h at held_word) rests refl free refl (here s.words held_word (within s h)) (no_other s h at own one held_word only_held.0)
               only_held.2 (in_no_cell_too s h at own one) (post s h at (held_by slot held_word v) refl refl refl refl (λ l. l));
@@ -1168,6 +1175,7 @@ module _ (slots id : ℕ) (me : SeatState) (live : HasPlace me.0.epoch) where
           lives = λ l. l;
           had = λ _ l. inl l;
           stored = stored_set sizes s.words slot y (within s h) (λ e. let dead = ap alive e ∙ (raw_is 0 (omega arith)).0 in absurd (omega arith))
+              (owned_shows y (omega arith))
               (λ c. absurd (in_no_cell_too s h at own one c));
           kinds = kind_steps.shares_again sizes s.words s.views h.kinds h.records.each id v at slot y (shared_again slot y v) inside
               (wrote_long s h at y) rests refl holds kind (here s.words y (within s h)) (no_other s h at own one y is_one)

@@ -53,7 +53,7 @@ use Rattle.sdd_domain_invariant.proofs.Records.{in_head, in_tail, in_either, in_
 use Rattle.sdd_domain_invariant.proofs.Records as records
 use Rattle.sdd_domain_invariant.proofs.Fillings.{IsTold, has_none, has_either, told_by, tells_none, tells_old, filled_more, filled_after, filled_same}
 use Rattle.sdd_domain_invariant.specs.LastFractions.{LastsInvariant}
-use Rattle.sdd_domain_invariant.proofs.Lasts.{KeepsBank, no_bank, lasts_more, lasts_fewer}
+use Rattle.sdd_domain_invariant.proofs.Lasts.{KeepsBank, no_bank, stored_as_is, lasts_more, lasts_fewer}
 use Rattle.sdd_domain_invariant.proofs.Steps.{still_free}
 use Rattle.sdd_domain_invariant.proofs.Telling.{none_moved}
 
@@ -70,7 +70,7 @@ module _ (γ : ℕ) (sizes : Sizes) where
   lasts_stay : (s : State ValueFraction View) → DomainInvariant γ sizes s → (id : ℕ) (v : View) → get_elem? s.views id ≡ some v → (w : View) → KeepsBank v w
       → w.stakes.filled ≡ v.stakes.filled → (HasPlace w.epoch → HasPlace v.epoch) → LastsInvariant sizes s.words (set s.views id w) s.homes
   lasts_stay s h id v at w bank filled had = lasts_fewer sizes s.words s.views s.homes h.lasts id v at s.words w s.homes (λ _ _ _ _ l. l) bank filled
-      (λ _ live. inl (had live)) (λ _ _ _ is. is)
+      (λ _ live. inl (had live)) (stored_as_is sizes s.words)
 
   -- a new token, which knows nothing
   pub enters : (slots i : ℕ) (told : ℕ → View → Type 0) → ((r : ℕ) → told r (idle sizes γ)) → Enters (DomainInvariant γ sizes) slots i told
@@ -94,7 +94,7 @@ module _ (γ : ℕ) (sizes : Sizes) where
               (lasts_more sizes s.words s.views s.homes h.lasts t (λ _. refl) (λ z. absurd (omega arith)));
           kinds = subst (λ (w : View). KindsInvariant sizes s.words (s.views ++ w ∷ [])) (sym r.2.0)
               (kind_steps.arrives sizes s.words s.views h.kinds t (knows_no_kind sizes s.words t (length-replicate (words_behind sizes) 0) refl refl)
-              record { over = refl; ledger = refl; founds = refl; own = refl; rights = refl });
+              record { over = refl; ledger = refl; founds = refl; own = refl; rights = refl; closes = refl });
         },
         r.2.1,
       )
@@ -143,6 +143,7 @@ module _ (γ : ℕ) (sizes : Sizes) where
       alike = λ i p y z low near l lz. all_laid i p y low near l ∙ sym (all_laid i n z low (omega arith) lz);
       banks = λ j v e is. let f : false ≡ true = ap (λ (u : View). u.stakes.bank) (only j v e) ∙ is in absurd cc;
       stored = λ one j v e live. absurd (let f = ap (λ (w : View). w.epoch.state) (only j v e) in omega arith);
+      hidden = λ one j v e live. absurd (let f = ap (λ (w : View). w.epoch.state) (only j v e) in omega arith);
     };
     kinds = record {
       each = λ j v e. subst (KnowsKinds sizes ws) (only j v e) (knows_no_kind sizes ws (founder sizes γ) (length-replicate (words_behind sizes) 0) refl refl);
@@ -160,6 +161,7 @@ module _ (γ : ℕ) (sizes : Sizes) where
             omega arith);
         single = λ d. omega arith;
         taken = λ j v r e has. absurd (no_right v (ap (λ (u : View). u.cells.rights) (sym (only j v e))) r has);
+        closing = λ k. omega arith;
         pointers = λ d _. let z = none (Rattle.sdd_word_invariant.specs.Words.pointer_word sizes d) in omega arith;
       };
     };
@@ -237,14 +239,14 @@ module _ (γ : ℕ) (sizes : Sizes) where
             (λ z. absurd (omega arith));
         kinds = let k = h.kinds.each id v at in kind_steps.arrives sizes s.words (set s.views id w)
             (kind_steps.stays sizes s.words s.views h.kinds r.each id v at s.words w (no_change sizes s.words) (knows_no_kind sizes s.words w k.long rests refl)
-            record { pledges = refl; over = refl; sizes = refl; cells = refl; place = inl (λ l. l); records = λ z. absurd (omega arith); holds = λ _. refl }) t
+            record { pledges = refl; marks = refl; sizes = refl; cells = refl; place = inl (λ l. l); records = λ z. absurd (omega arith); holds = λ _. refl }) t
             record {
               long = refl;
               sole = λ i m. absurd (none_moved t i refl m);
               claimed = λ i m. absurd (none_moved t i refl m);
               told = λ x a _. k.told x a (λ o. let c : None ≡ Some x.slot = sym free ∙ o in cc);
             }
-            record { over = refl; ledger = refl; founds = refl; own = refl; rights = refl };
+            record { over = refl; ledger = refl; founds = refl; own = refl; rights = refl; closes = refl };
       }
 
   -- the first record is of the owner's token, and the others were known
@@ -307,7 +309,7 @@ module _ (γ : ℕ) (sizes : Sizes) where
             record { bank = refl; founds = refl; book = refl; banked = refl; moves = refl } refl refl refl refl refl refl refl
             (λ i. let low = h.bank.low id v at i in omega arith) (λ i. omega arith);
         lasts = lasts_fewer sizes s.words vs s.homes (lasts_stay s h id v at w (λ b. (b, refl)) refl (λ live. live)) other t there s.words t' s.homes
-            (λ _ _ _ _ l. l) (no_bank t t' refl) refl (λ _ live. inl live) (λ _ _ _ is. is);
+            (λ _ _ _ _ l. l) (no_bank t t' refl) refl (λ _ live. inl live) (stored_as_is sizes s.words);
         kinds = let k = h.kinds.each id v at in
             let now_mine = kind_steps.stays sizes s.words s.views h.kinds r.each id v at s.words w (no_change sizes s.words)
             record {
@@ -321,14 +323,14 @@ module _ (γ : ℕ) (sizes : Sizes) where
             }
             record {
               pledges = refl;
-              over = refl;
+              marks = refl;
               sizes = refl;
               cells = refl;
               place = inl (λ l. l);
               records = λ _ x a. (suc a.0, a.1);
               holds = λ _. refl;
             } in
-            kind_steps.spends sizes s.words vs now_mine came.each other t there t' (knows_no_kind sizes s.words t' refl refl refl) refl (inl (λ l. l)) refl
+            kind_steps.spends sizes s.words vs now_mine came.each other t there t' (knows_no_kind sizes s.words t' refl refl refl) refl refl (inl (λ l. l)) refl
             (pledges_spent vs now_mine.pledges other t t' there refl (λ i q B.
             let l = forth s.views h.kinds.pledges id v w at (λ x y. y.pledges ≡ x.pledges) refl (λ _. refl) bd b at_b in
             let had : HasPledge q b.pledges.booked = subst (λ (x : PledgesView). HasPledge q x.booked) l.2
@@ -369,7 +371,7 @@ module _ (γ : ℕ) (sizes : Sizes) where
     kinds = kind_steps.arrives sizes s.words (set s.views id w)
         (kind_steps.same sizes s.words s.views h.kinds h.records.each id v at w refl refl refl refl refl refl s.words (no_change sizes s.words)
         (same_post v w refl refl refl refl (λ l. l) refl refl)) t (knows_no_kind sizes s.words t refl refl refl) record
-        { over = refl; ledger = refl; founds = refl; own = refl; rights = refl };
+        { over = refl; ledger = refl; founds = refl; own = refl; rights = refl; closes = refl };
   }
 
   -- the bank is founded
@@ -395,7 +397,7 @@ module _ (γ : ℕ) (sizes : Sizes) where
         kinds = kind_steps.arrives sizes s.words us
             (kind_steps.same sizes s.words s.views h.kinds h.records.each id v at w refl refl refl refl refl refl s.words (no_change sizes s.words)
             (same_post v w refl refl refl refl (λ l. l) refl refl)) t (knows_no_kind sizes s.words t refl refl refl) record
-            { over = refl; ledger = refl; founds = refl; own = refl; rights = refl };
+            { over = refl; ledger = refl; founds = refl; own = refl; rights = refl; closes = refl };
       }
 
   -- and come to another
@@ -434,7 +436,7 @@ module _ (γ : ℕ) (sizes : Sizes) where
             record { bank = refl; founds = refl; book = refl; banked = refl; moves = refl } refl refl refl refl refl refl refl
             (h.bank.low id v at) (λ i. omega arith);
         lasts = lasts_fewer sizes s.words vs s.homes (lasts_stay s h id v at w (λ b. (b, refl)) refl (λ live. live)) other t there s.words t' s.homes
-            (λ _ _ _ _ l. l) (no_bank t t' refl) refl (λ _ live. inl live) (λ _ _ _ is. is);
+            (λ _ _ _ _ l. l) (no_bank t t' refl) refl (λ _ live. inl live) (stored_as_is sizes s.words);
         kinds = kind_steps.stays sizes s.words vs
             (kind_steps.same sizes s.words s.views h.kinds h.records.each id v at w refl refl refl refl refl refl s.words (no_change sizes s.words)
             (same_post v w refl refl refl refl (λ l. l) refl refl))

@@ -42,7 +42,7 @@ use Rattle.sdd_domain_invariant.proofs.Fillings.{filled_learned}
 use Rattle.sdd_domain_invariant.proofs.KindSteps.{has_first}
 use Rattle.sdd_domain_invariant.proofs.KindSteps as kind_steps
 use Rattle.sdd_domain_invariant.proofs.Telling.{none_moved, one_view}
-use Rattle.sdd_domain_invariant.proofs.Lasts.{stored_set, lasts_fewer}
+use Rattle.sdd_domain_invariant.proofs.Lasts.{owned_shows, stored_set, lasts_fewer}
 use Rattle.sdd_domain_invariant.proofs.Lift.{Follows, lift_homes}
 use Rattle.sdd_domain_invariant.proofs.RawSteps as raws
 use Rattle.sdd_domain_invariant.proofs.Steps.{full_owned}
@@ -185,7 +185,8 @@ module _ (slots id : ℕ) (me : SeatState) (live : HasPlace me.0.epoch) (rests :
           bank = banks.calm γ sizes s.words s.views h.bank id v at (set s.words i y) now
               record { bank = refl; founds = refl; book = refl; banked = refl; drawn = refl } refl (λ k. let l = h.bank.low id v at k in omega arith) same;
           lasts = lasts_fewer sizes s.words s.views s.homes h.lasts id v at (set s.words i y) now s.homes (λ _ _ _ _ l. l) (λ b. (b, refl)) refl
-              (λ _ _. inl live) (stored_set sizes s.words slot y low (λ e. absurd (omega arith)) (λ _. counts_y.3 ∙ sym counts));
+              (λ _ _. inl live) (stored_set sizes s.words slot y low (λ e. absurd (omega arith)) (owned_shows y (let c = counts_y in omega arith))
+              (λ _. counts_y.3 ∙ sym counts));
           kinds = kind_steps.one_slot sizes s.words s.views h.kinds h.records.each id v at slot inside y now
               record {
                 long = steps.wrote_long slots id me live slot inside s h at y;
@@ -202,7 +203,7 @@ module _ (slots id : ℕ) (me : SeatState) (live : HasPlace me.0.epoch) (rests :
                     (has_first now_shown v.stakes.owns q a);
               }
               (λ j u apart e. inr (unmoved j u e, counts_y.3 ∙ sym counts)) here (λ _. inl (let c = counts_more in omega arith)) (λ _. counts_y.3 ∙ sym counts)
-              (steps.post slots id me live s h at now refl (sym none) refl refl (λ l. l));
+              (steps.post slots id me live s h at now refl (λ d. (sym none d, v.slots.closes)) refl refl (λ l. l));
           tells = steps.at_once slots id me live slot inside (AddsSeen word) x (now, me.1) (
             (λ _. (
               value,

@@ -88,12 +88,12 @@ SwapsBare y cell me x me' = (me' ≡ (noting cell y me.0, me.1)) × (held_slots 
 abbrev pub RetagsOne : ℕ → ℕ → ℕ → SeatState → ℕ → SeatState → Type 0
 RetagsOne old y cell me x me' = (x ≡ old → me' ≡ (noting cell y me.0, me.1)) × (x ≢ old → me' ≡ me) × KnewCell cell me.0 x
 
--- cells of this kind hold no owners
+-- cells of this kind hold no owners, and are no collectors that are being closed
 abbrev pub IsBare : CellKind → Type 0
 IsBare Owned = ⊥
 IsBare Shared = ⊥
 IsBare Raw = Unit {0}
-IsBare Collector = Unit {0}
+IsBare Collector = ⊥
 
 -- a look
 abbrev pub LooksInCell : ℕ → SeatState → ℕ → SeatState → Type 0

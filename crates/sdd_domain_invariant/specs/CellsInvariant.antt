@@ -9,6 +9,7 @@ use Rattle.sdd_views.specs.declared.View.{View}
 use Rattle.sdd_views.specs.declared.Sizes.{Sizes}
 use Rattle.sdd_word_invariant.specs.Words.{cell_word}
 use Rattle.sdd_word_invariant.specs.Codes.{counted, names, pointers_end}
+use Rattle.sdd_word_invariant.specs.Collectors.{one_in}
 use Rattle.sdd_word_invariant.specs.Slots.{slot_at}
 use Rattle.sdd_word_invariant.specs.Sums.{total, is}
 
@@ -50,9 +51,29 @@ pub record IsTaken (sizes : Sizes) (ws : List ℕ) (r : CellRight) : Type 0 wher
 abbrev pub HavePointers : Sizes → List ℕ → Type 0
 HavePointers sizes ws = (d : ℕ) → d < sizes.cells → pointer_at sizes ws d < pointers_end
 
--- cells hold owners of slots alone; one right at most is to each; and to a cell that is taken; and words of pointers are such
+-- 1 where a right of this kind to this cell is the one to the collector k, which is being closed
+abbrev pub closes_by : CellKind → ℕ → ℕ → ℕ
+closes_by Owned k cell = 0
+closes_by Shared k cell = 0
+closes_by Raw k cell = 0
+closes_by Collector k cell = is k cell
+
+abbrev pub is_closing_right : ℕ → CellRight → ℕ
+is_closing_right k r = closes_by r.kind k r.cell
+
+-- how many rights it has to the collector k that is being closed
+abbrev pub closing_rights_at : ℕ → View → ℕ
+closing_rights_at k v = total (is_closing_right k) v.cells.rights
+
+-- 1 where it closes the collector k
+abbrev pub closes_at : ℕ → View → ℕ
+closes_at k v = one_in k v.slots.closes
+
+-- cells hold owners of slots alone; one right at most is to each; and to a cell that is taken; a collector is being closed exactly where the right to its cell,
+-- whoever has it, is of that kind; and words of pointers are such
 pub record CellsInvariant (sizes : Sizes) (ws : List ℕ) (vs : List View) : Type 0 where
   pub inside : (i : ℕ) → IsInCell sizes ws i → i < sizes.slots
   pub single : (d : ℕ) → total (rights_at d) vs ≤ 1
   pub taken : (j : ℕ) (v : View) (r : CellRight) → get_elem? vs j ≡ some v → HasRight v r → IsTaken sizes ws r
+  pub closing : (k : ℕ) → total (closes_at k) vs ≡ total (closing_rights_at k) vs
   pub pointers : HavePointers sizes ws

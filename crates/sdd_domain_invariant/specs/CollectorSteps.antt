@@ -1,13 +1,15 @@
 -- What each step on private items makes of the seat
-use Rattle.std.specs.Prelude.{◌≡◌, ◌≢◌, ◌⊎◌, ℕ, suc, Bool, ◌∷◌, drop, Some}
+use Rattle.std.specs.Prelude.{◌≡◌, ◌≢◌, ◌⊎◌, ℕ, suc, Bool, [], ◌∷◌, drop, Some}
 use base.Stored.{Gv}
 use Rattle.sdd_shared_values.specs.SharedValues.{IsValueCode}
+use Rattle.sdd_views.specs.declared.CellKind.{CellKind}
+use Rattle.sdd_views.specs.declared.CellKind.TheVariants.{Raw, Collector}
 use Rattle.sdd_views.specs.declared.ShownValue.{ShownValue}
 use Rattle.sdd_views.specs.declared.View.{View}
 use Rattle.sdd_word_invariant.specs.Codes.{private_word, emptying_word, emptied_word, left_word}
 use Rattle.sdd_word_invariant.specs.Epoch.{IsLone}
 use Rattle.sdd_word_invariant.specs.SlotSteps.{Knew}
-use Rattle.sdd_word_invariant.specs.CollectorSteps.{Collects, Reclaims, LeavesToClose, GivesPrivateBack, EmptiesSlot, emptied_now, finds_left, empty_given_back, closing, closed_none}
+use Rattle.sdd_word_invariant.specs.CollectorSteps.{Collects, Reclaims, LeavesToClose, GivesPrivateBack, EmptiesSlot, EmptiesOwn, emptied_now, finds_left, empty_given_back, own_given_back, closing, closed_none}
 use Rattle.sdd_domain_invariant.specs.FractionsAtHome.{spare}
 use Rattle.sdd_domain_invariant.specs.FilledInvariant.{newest}
 use Rattle.sdd_domain_invariant.specs.FractionSteps.{SeatState, CarriesAll, IsValue, IsNewest, book_of, places_of, moving, giving, forgetting}
@@ -15,6 +17,10 @@ use Rattle.sdd_domain_invariant.specs.FractionSteps.{SeatState, CarriesAll, IsVa
 -- it knows what an item shows that waits with it
 abbrev pub recollecting : ShownValue → View → View
 recollecting r v = record v { stakes = record v.stakes { waits = r ∷ v.stakes.waits } }
+
+-- the right that it has is to this cell, and of this kind
+abbrev pub with_right : ℕ → CellKind → View → View
+with_right cell kind v = record v { cells = record { rights = record { cell = cell; kind = kind } ∷ [] } }
 
 -- what a private item shows, which a lone participant moved in last
 pub record ShowsPrivate (slot : ℕ) (r : ShownValue) (v : View) : Type 0 where
@@ -41,16 +47,20 @@ LeavesOneToClose collector slot me x me' = LeavesToClose collector slot me.0 x m
 abbrev pub GivesOnePrivateBack : ℕ → SeatState → ℕ → SeatState → Type 0
 GivesOnePrivateBack slot me y me' = GivesPrivateBack slot me.0 y me'.0 × (me'.1 ≡ me.1)
 
--- it closes a collector, and has looked at no place yet; or none
+-- it closes a collector, and has looked at no place yet: the right to it is of that kind; or none
 abbrev pub ClosesOne : ℕ → SeatState → SeatState → Type 0
-ClosesOne collector me me' = me' ≡ (closing collector me.0, me.1)
+ClosesOne collector me me' = me' ≡ (with_right collector Collector (closing collector me.0), me.1)
 
-abbrev pub ClosesNone : SeatState → SeatState → Type 0
-ClosesNone me me' = me' ≡ (closed_none me.0, me.1)
+abbrev pub ClosesNone : ℕ → SeatState → SeatState → Type 0
+ClosesNone collector me me' = me' ≡ (with_right collector Raw (closed_none me.0), me.1)
 
 -- a close claims what waits for its collector
 abbrev pub EmptiesOne : ℕ → ℕ → SeatState → ℕ → SeatState → Type 0
 EmptiesOne collector slot me x me' = EmptiesSlot collector slot me.0 x me'.0 × (me'.1 ≡ me.1)
+
+-- one claims an item of its own bag so
+abbrev pub EmptiesOwnOne : ℕ → ℕ → SeatState → ℕ → SeatState → Type 0
+EmptiesOwnOne collector slot me x me' = EmptiesOwn collector slot me.0 x me'.0 × (me'.1 ≡ me.1)
 
 -- the value of an item that it claimed so is to be moved out, so that all stakes in it are out; a lone participant moved this into the slot last
 pub record TakesPrivate (slot : ℕ) (me me' : SeatState) : Type 0 where
@@ -67,3 +77,7 @@ EmptiedOne slot me x me' = (x ≡ emptying_word → (me'.0 ≡ giving (emptied_n
 -- then its slot is free, and all stakes in it go home
 abbrev pub GivesOneEmptyBack : ℕ → SeatState → ℕ → SeatState → Type 0
 GivesOneEmptyBack slot me y me' = (me'.0 ≡ giving (empty_given_back slot y me.0)) × (me'.1 ≡ drop (suc (places_of me)) me.1)
+
+-- an item of its own bag was moved out: its slot is free, and all stakes in it go home
+abbrev pub GivesOneOwnBack : ℕ → SeatState → ℕ → SeatState → Type 0
+GivesOneOwnBack slot me y me' = (me'.0 ≡ giving (own_given_back slot y me.0)) × (me'.1 ≡ drop (suc (places_of me)) me.1)

@@ -1,5 +1,5 @@
 -- The last fractions' part of the rule: what is known of what a slot shows where no participant knows it, as of an item that is out as raw or in a cell
-use Rattle.std.specs.Prelude.{◌≡◌, ◌⊎◌, ℕ, ◌<◌, ◌≤◌, Bool, List, [], ◌∷◌, Some, false}
+use Rattle.std.specs.Prelude.{◌≡◌, ◌⊎◌, ℕ, ◌+◌, ◌<◌, ◌≤◌, Bool, List, [], ◌∷◌, Some, false}
 use mathlib.Core.Option.{some}
 use lib.ListN.{get_elem?}
 use base.Stored.{Gv}
@@ -7,7 +7,7 @@ use Rattle.sdd_shared_values.specs.ValueFractions.{FractionContent}
 use Rattle.sdd_shared_values.specs.declared.value_fraction.ValueFraction.{ValueFraction}
 use Rattle.sdd_views.specs.declared.View.{View}
 use Rattle.sdd_views.specs.declared.Sizes.{Sizes}
-use Rattle.sdd_word_invariant.specs.Codes.{counted, raw_word}
+use Rattle.sdd_word_invariant.specs.Codes.{valued, private, emptying, counted, raw_word}
 use Rattle.sdd_word_invariant.specs.Epoch.{HasPlace}
 use Rattle.sdd_word_invariant.specs.Slots.{slot_at}
 use Rattle.sdd_domain_invariant.specs.FractionsAtHome.{FractionsAtHome, LiesAt}
@@ -41,10 +41,24 @@ abbrev pub KnowsStored : Sizes → List ℕ → FractionsAtHome → View → Typ
 KnowsStored sizes ws hs v = (i : ℕ) (shared : Bool) (z : ValueFraction) → i < sizes.slots → IsStored sizes ws i shared → LastIs sizes hs i z
     → newest i v.stakes.filled ≡ Some (record { slot = i; shared = shared; value = z.lot.shown })
 
+-- an item with this word is hidden: it waits for a collector, or a close empties its slot, and its value is there still. Who has it in a bag remembers
+-- nothing of what it shows, since the close of another may move that out
+abbrev pub HidesItem : ℕ → Type 0
+HidesItem x = (0 < private x + emptying x) × (valued x ≡ 1)
+
+abbrev pub IsHidden : Sizes → List ℕ → ℕ → Type 0
+IsHidden sizes ws i = HidesItem (slot_at sizes ws i)
+
+-- what an item shows that is hidden it moved in last, for an owner of some kind
+abbrev pub KnowsHidden : Sizes → List ℕ → FractionsAtHome → View → Type 0
+KnowsHidden sizes ws hs v = (i : ℕ) (z : ValueFraction) → i < sizes.slots → IsHidden sizes ws i → LastIs sizes hs i z
+    → (shared : Bool) × (newest i v.stakes.filled ≡ Some (record { slot = i; shared = shared; value = z.lot.shown }))
+
 -- where a slot's last fraction is at home, the others that are at home show what it shows, and so does what the bank has of the slot;
--- and where there is one place, its participant knows it of an item that is stored
+-- and where there is one place, its participant knows it of an item that is stored, and of one that is hidden
 pub record LastsInvariant (sizes : Sizes) (ws : List ℕ) (vs : List View) (hs : FractionsAtHome) : Type 0 where
   pub alike : (i p : ℕ) (y z : ValueFraction) → i < sizes.slots → p ≤ sizes.participants → LiesAt sizes.participants hs i p y → LastIs sizes hs i z
       → y.lot.shown ≡ z.lot.shown
   pub banks : (j : ℕ) (b : View) → get_elem? vs j ≡ some b → IsBank b → ShowsLast sizes hs b
   pub stored : sizes.participants ≡ 1 → (j : ℕ) (v : View) → get_elem? vs j ≡ some v → HasPlace v.epoch → KnowsStored sizes ws hs v
+  pub hidden : sizes.participants ≡ 1 → (j : ℕ) (v : View) → get_elem? vs j ≡ some v → HasPlace v.epoch → KnowsHidden sizes ws hs v

@@ -6,10 +6,10 @@ use Rattle.sdd_views.specs.declared.CellKind.{CellKind}
 use Rattle.sdd_rights.specs.Owner.{witness_of_owner, witness_of_cell}
 use Rattle.sdd_rights.specs.Units.{GhostName}
 pub use Rattle.sdd_rights.specs.RightModel.{home_of_table, cells_of_table, home_in_table, home_by}
+use Rattle.sdd_rights.specs.RightModel.{RawRightModel}
 use Rattle.sdd_rights.specs.declared.read_fraction.ReadFraction.{ReadFraction}
 use Rattle.sdd_rights.specs.declared.right.StandingKind.{StandingKind}
 use Rattle.sdd_rights.specs.declared.right.Right.{Right}
-use Rattle.sdd_rights.specs.declared.right.RawRight.{RawRight}
 use Rattle.sdd_rights.specs.declared.right.NameWitness.{NameWitness}
 
 -- the number that a right is to
@@ -50,15 +50,11 @@ abbrev pub kind_of : Right → StandingKind
 kind_of right = right.kind
 
 -- the number that a right of kind raw is to, and the home whose number it is
-abbrev pub raw_number_of : RawRight → ℕ
+abbrev pub raw_number_of : RawRightModel → ℕ
 raw_number_of right = right.number
 
-abbrev pub raw_home_of : RawRight → GhostName
-raw_home_of right = home_by right.witness.views right.witness.table_id 0 true right.part.home
-
--- in a domain: the token of the right to the cell
-abbrev pub raw_witness_of : RawRight → Witness
-raw_witness_of right = right.witness
+abbrev pub raw_home_of : RawRightModel → GhostName
+raw_home_of right = right.home
 
 -- the home that a badge names
 abbrev pub badge_home : NameWitness → GhostName

@@ -53,3 +53,18 @@ told_of r = (r.number, (r.home, (r.kind, r.views)))
 abbrev pub right_coded : Coded RightModel
 right_coded = coded_via (coded× coded_ℕ (coded× home_coded (coded× kinds.coded (coded_list itself)))) told_of
     (λ x y e. same_right x y (λ i. (e i).0) (λ i. (e i).1.0) (λ i. (e i).1.1.0) (λ i. (e i).1.1.1))
+
+-- what a raw right tells: its number, and the home whose number it is
+pub record RawRightModel : Type 0 where
+  pub number : ℕ
+  pub home : GhostName
+
+-- raw rights that tell the same are the same
+pub same_raw_right : (x y : RawRightModel) → x.number ≡ y.number → x.home ≡ y.home → x ≡ y
+same_raw_right x y number home = λ i. record { number = number i; home = home i }
+
+abbrev raw_told_of : RawRightModel → ℕ × GhostName
+raw_told_of r = (r.number, r.home)
+
+abbrev pub raw_right_coded : Coded RawRightModel
+raw_right_coded = coded_via (coded× coded_ℕ home_coded) raw_told_of (λ x y e. same_raw_right x y (λ i. (e i).0) (λ i. (e i).1))

@@ -369,8 +369,19 @@ pub struct RawRight {
 
 const _: () = prove!(size_of::<RawRight>() == 4);
 
+impl Model for RawRight {
+    ghost use Rattle.std.specs.Prelude.{true};
+    ghost use Rattle.sdd_rights.specs.RightModel.{RawRightModel, home_by, raw_right_coded};
+
+    ghost Value = { RawRightModel };
+
+    ghost coded = { raw_right_coded };
+
+    ghost view = { λ r. record { number = r.number; home = home_by r.witness.views r.witness.table_id 0 true r.part.home } };
+}
+
 impl RawRight {
-    ghost use Rattle.sdd_rights.specs.Right.{raw_number_of, raw_home_of, raw_witness_of, cells_of_table, AreCellsOfTable, IsCellBy};
+    ghost use Rattle.sdd_rights.specs.Right.{raw_number_of, raw_home_of, cells_of_table, AreCellsOfTable, IsCellBy};
 
     /// The right to a cell of raw pointers of a domain, by its token. The domain has so many cells.
     pub fn of_cell(number: u32, size: usize, witness: Witness) -> RawRight
@@ -378,7 +389,6 @@ impl RawRight {
         requires inside { number < size }
         ensures number { raw_number_of result ≡ number }
         ensures home { raw_home_of result ≡ cells_of_table witness.table_id size }
-        ensures witness { raw_witness_of result ≡ witness }
     {
         let mut book = GhostKeys::new(size);
         RawRight {
@@ -390,7 +400,6 @@ impl RawRight {
 
     /// The cell's token, in a domain; a blank one else.
     pub fn witness(&self) -> &Witness
-        ensures witness { result.now ≡ raw_witness_of self.now }
         ensures cell { AreCellsOfTable (raw_home_of self.now) → IsCellBy (raw_home_of self.now) (raw_number_of self.now) CellKind.Raw result.now }
     {
         &self.witness
@@ -398,7 +407,6 @@ impl RawRight {
 
     /// The same, of a right that is spent by that.
     pub fn into_witness(self) -> Witness
-        ensures witness { result ≡ raw_witness_of self }
         ensures cell { AreCellsOfTable (raw_home_of self) → IsCellBy (raw_home_of self) (raw_number_of self) CellKind.Raw result }
     {
         let RawRight {

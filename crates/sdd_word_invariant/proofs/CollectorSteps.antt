@@ -1,7 +1,7 @@
 -- The steps on private items keep all parts.
-use Rattle.std.proofs.Common.{◌≡◌, ◌≢◌, ◌⊎◌, inl, inr, ℕ, ◌+◌, ◌<◌, ◌≤◌, eqb, Bool, true, false, List, [], ◌∷◌, ◌++◌, length, map, get_or, set, sym, refl, ap, ◌∙◌, subst, ⊎_elim, arith, get_or-set_other, get_or-set_same}
+use Rattle.std.proofs.Common.{◌≡◌, ◌≢◌, ◌⊎◌, inl, inr, ℕ, ◌+◌, ◌<◌, ◌≤◌, eqb, eq-eqb, ne_eqb, Bool, true, false, List, [], ◌∷◌, ◌++◌, length, map, get_or, set, sym, refl, ap, ◌∙◌, subst, ⊎_elim, arith, get_or-set_other, get_or-set_same}
 use Rattle.std.proofs.lemmas.List.{set-set}
-use Rattle.std.specs.Prelude.{Option, None, Some, not}
+use Rattle.std.specs.Prelude.{Option, None, Some, not, if◌then◌else◌}
 use mathlib.Core.Option.{some}
 use mathlib.Core.Logic.{dite}
 use native.Mathlib.Decide.{ℕ_discrete}
@@ -18,15 +18,16 @@ use Rattle.sdd_word_invariant.specs.Sums.{total, is as is_at, times}
 use Rattle.sdd_word_invariant.specs.Codes.{WordReading, codes, waiting, shared_base, free_word, waiting_word, private_word, emptying_word, emptied_word, left_word}
 use Rattle.sdd_word_invariant.specs.Epoch.{HasPlace, EpochInvariant}
 use Rattle.sdd_word_invariant.specs.EpochSteps.{Steps}
-use Rattle.sdd_word_invariant.specs.Slots.{slot_at, Sees, IsTimed, SlotsInvariant}
+use Rattle.sdd_word_invariant.specs.Slots.{slot_at, waits_in, Sees, IsTimed, SlotsInvariant}
 use Rattle.sdd_word_invariant.specs.SlotSteps.{noted, without, without_item, AtSlot}
 use Rattle.sdd_word_invariant.specs.Collectors.{private_in, privates_at, one_in, empties_at, Empties, Closes, FoundEmptied, HasPrivate, HasValue, KnowsPrivates, SeenBeforeClosed, CollectorsInvariant}
-use Rattle.sdd_word_invariant.specs.CollectorSteps.{without_private, for_collector, collected, reclaimed, found_emptied, left_to_close, private_given_back, closing, closed_none, empties_now, emptied_now, finds_left, empty_given_back, WaitsFor, IsDuePrivately, HasWaiting, Collects, Reclaims, LeavesToClose, GivesPrivateBack, EmptiesSlot, HasEmptied, GivesEmptyBack}
+use Rattle.sdd_word_invariant.specs.CollectorSteps.{without_private, for_collector, collected, reclaimed, no_collector, orphan, orphaned, found_emptied, left_to_close, private_given_back, closing, closed_none, empties_now, emptied_now, finds_left, empty_given_back, own_given_back, WaitsFor, HasWaiting, Collects, Reclaims, LeavesToClose, GivesPrivateBack, EmptiesSlot, EmptiesOwn, HasEmptied, GivesEmptyBack, GivesOwnBack}
 use Rattle.sdd_word_invariant.specs.WordInvariant.{epoch_of, Parts}
 use Rattle.sdd_word_invariant.proofs.Frame.{each_set}
-use Rattle.sdd_word_invariant.proofs.Sums.{total_set, total_snoc, total_has, total_two, at_filter, both_set, is_same, is_other, without_same, without_other}
+use Rattle.sdd_word_invariant.proofs.Sums.{total_set, total_snoc, total_has, total_map, total_some, total_two, at_filter, both_set, is_same, is_other, without_same, without_other}
 use Rattle.sdd_word_invariant.proofs.Codes.{sound, private_is, emptied_is, emptying_is, left_is, free_is, waiting_is, which_private, which_emptying, waits_privately}
 use Rattle.sdd_word_invariant.proofs.SlotWords.{waiter_in}
+use Rattle.sdd_word_invariant.proofs.SlotEpochs.{of_map}
 use Rattle.sdd_word_invariant.proofs.Epoch.{at_length}
 use Rattle.sdd_word_invariant.proofs.Collectors.{plain_waiting, plain_free, plain_has, none_for, private_at, privates_in, emptying_at}
 use Rattle.sdd_word_invariant.proofs.PrivateSlots.{private_gone, private_kept, with_privates, blind_privates, turns, waits_no_more, comes_to_wait}
@@ -166,6 +167,53 @@ module _ (z : WordReading) (sizes : Sizes) (ws : List ℕ) (vs : List View) (c :
             (λ j u _ e. (guards u (c.two id j v u at e), closers j u e));
       }
 
+-- what waits is the same where it waits for no collector from now on, and other slots' items are as they were
+orphan_here : (b : Bool) (x : PrivateItem) → (if b then record x { collector = no_collector } else x).item ≡ x.item
+orphan_here true x = refl
+orphan_here false x = refl
+
+orphan_item : (slot : ℕ) (x : PrivateItem) → (orphan slot x).item ≡ x.item
+orphan_item slot x = orphan_here (eqb x.item.slot slot) x
+
+orphan_other : (slot : ℕ) (x : PrivateItem) → x.item.slot ≢ slot → orphan slot x ≡ x
+orphan_other slot x ne = ap (λ (b : Bool). if b then record x { collector = no_collector } else x) (ne_eqb x.item.slot slot ne)
+
+module _ (z : WordReading) (sizes : Sizes) (ws : List ℕ) (vs : List View) (c : CollectorsInvariant z sizes ws vs) (id : ℕ) (v : View)
+    (at : get_elem? vs id ≡ some v) (slot : ℕ) (silent : (k : ℕ) → ¬ (0 < z.waits_for k (slot_at sizes ws slot))) where
+  -- no word changes, and an item whose word tells of no collector waits for none
+  private_orphaned : CollectorsInvariant z sizes ws (set vs id (orphaned slot v))
+  private_orphaned = let w : View = orphaned slot v in let f = c.each id v at in
+      let young : (x : PrivateItem) → HasPrivate w x → (y : PrivateItem) × HasPrivate v y × (orphan slot y ≡ x)
+      = λ x has. let p = of_map (orphan slot) v.slots.privates has.0 x has.1 in (p.0, (has.0, p.1), p.2) in
+      let item_of : (x y : PrivateItem) → orphan slot y ≡ x → y.item ≡ x.item
+      = λ x y e. sym (orphan_item slot y) ∙ ap (λ (q : PrivateItem). q.item) e in
+      let same : (j : ℕ) → privates_at j w ≡ privates_at j v
+      = λ j. total_map (private_in j) (orphan slot) (λ x. ap (waits_in j) (orphan_item slot x)) v.slots.privates in
+      let closers : (j : ℕ) (u : View) → get_elem? vs j ≡ some u → SeenBeforeClosed z sizes ws u w = λ j u e. let g = c.two j id u v e at in record {
+        since = λ d x h has is. let p = young x has in let i = item_of x p.0 p.2 in
+            subst (λ (t : WaitingItem). u.epoch.since ≤ t.retired_at) i (g.since d p.0 h p.1 (ap (λ (t : WaitingItem). t.slot) i ∙ is));
+        looked = g.looked;
+      } in record {
+        private = λ j. let t = total_set (privates_at j) vs id v w at in let s = c.private j in let e = same j in omega arith;
+        emptied = λ j. let t = total_set (empties_at j) vs id v w at in let s = c.emptied j in omega arith;
+        each = each_set (KnowsPrivates z sizes ws) (KnowsPrivates z sizes ws) vs id w
+            record {
+              timed = λ x has. let p = young x has in subst (IsTimed v.epoch) (item_of x p.0 p.2) (f.timed p.0 p.1);
+              names = λ x has k for. let p = young x has in let y : PrivateItem = p.0 in dite (ℕ_discrete y.item.slot slot)
+                  (λ e. absurd (silent k (subst (λ (d : ℕ). 0 < z.waits_for k (slot_at sizes ws d))
+                  (sym (ap (λ (t : WaitingItem). t.slot) (item_of x y p.2)) ∙ e) for)))
+                  (λ ne. let is : y ≡ x = sym (orphan_other slot y ne) ∙ p.2 in subst (λ (q : PrivateItem). k ≡ q.collector) is
+                  (f.names y p.1 k (subst (λ (q : PrivateItem). 0 < z.waits_for k (slot_at sizes ws q.item.slot)) (sym is) for)));
+              found = λ d h. let g = f.found d h in let e = same d in let g1 = g.1 in (g.0, omega arith);
+              left = f.left;
+              seen = f.seen;
+            }
+            (λ j u _ e. c.each j u e);
+        two = both_set (SeenBeforeClosed z sizes ws) vs id w c.two
+            (record { since = (closers id v at).since; looked = (c.two id id v v at at).looked })
+            (λ j u _ e. (let g = c.two id j v u at e in record { since = g.since; looked = g.looked }, closers j u e));
+      }
+
 module _ (id : ℕ) (v : View) (live : HasPlace v.epoch) where
   abbrev sizes : Sizes
   sizes = v.sizes
@@ -258,14 +306,6 @@ module _ (id : ℕ) (v : View) (live : HasPlace v.epoch) where
       -- nobody sees what is emptied
       none_sees : codes.emptying x ≡ 1 → (j : ℕ) (u : View) → get_elem? vs j ≡ some u → ¬ (Sees u slot)
       none_sees busy j u e h = let z = ((p.collectors.each j u e).seen slot h).0 in omega arith
-
-      -- nor a private item that has seen three changes
-      none_sees_due : (r : PrivateItem) → HasPrivate v r → r.item.slot ≡ slot → 3 ≤ r.item.changes → (j : ℕ) (u : View) → get_elem? vs j ≡ some u
-          → ¬ (Sees u slot)
-      none_sees_due r has same ripe j u e sees = let before = (p.collectors.two j id u v e at).since slot r sees has same in
-          let late = ((p.collectors.each id v at).timed r has).found (omega arith) in let is_open = (p.slots.each j u e).guarded slot sees in
-          let mine = p.epoch.each id v.epoch (at_map epoch_of vs id v at) in let found = mine.found in let known = mine.known in
-          let once = ((p.epoch.each j u.epoch (at_map epoch_of vs j u e)).published is_open).once in omega arith
 
       -- nor what waits for the collector that it closes, once it has looked at all places
       none_sees_closed : (k : ℕ) → Closes v k → sizes.participants ≤ v.slots.looked → 0 < codes.waits_for k x → (j : ℕ) (u : View) → get_elem? vs j ≡ some u
@@ -368,6 +408,14 @@ module _ (id : ℕ) (v : View) (live : HasPlace v.epoch) where
           (λ ne. let o = is_other d slot (λ e. ne (sym e)) in f.found d (omega arith)))
           f.left (λ j u e d k sees shuts for. (p.collectors.two j id u v e at).looked d k sees shuts for)) i
 
+      -- or that a close has claimed it
+      claimed : slot_at sizes ws slot ≡ emptying_word → Parts sizes (set ws i (get_or ws i 0)) (set vs id (orphaned slot v))
+      claimed is = stays ws vs p at (orphaned slot v) refl refl
+          (blind_privates codes sound sizes ws vs p.slots id v at (map (orphan slot) v.slots.privates) v.slots.emptied v.slots.empties v.slots.left
+          v.slots.closes v.slots.looked (omega arith))
+          (private_orphaned codes sizes ws vs p.collectors id v at slot
+          (λ k h. let t = (sound.for_one k (slot_at sizes ws slot) h).2 in let e = ap codes.emptying is in let busy = emptying_is.4 in absurd (omega arith))) i
+
     -- a private item is claimed for the bag
     pub reclaims : (collector : ℕ) → WaitsFor collector v slot → private_word collector < shared_base
         → Steps (Parts sizes) id v i (λ n. either (eqb n (private_word collector)) (waiting_word 0) n) (AtSlot (Reclaims collector) i v)
@@ -431,16 +479,16 @@ module _ (id : ℕ) (v : View) (live : HasPlace v.epoch) where
               ((λ hit. absurd (miss hit)), (λ _. refl), (λ e'. absurd (omega arith)), possible, told),
         ))
         (λ (e : n ≡ emptying_word). (
-          v,
-          steps.unmoved id v live ws vs p at i,
-          at_slot (Reclaims collector) n v
+          orphaned slot v,
+          claimed ws vs p at collector has e,
+          at_slot (Reclaims collector) n (orphaned slot v)
               ((λ hit. absurd (miss hit)), (λ e'. absurd (omega arith)), (λ _. refl), possible, told),
         )) t) possible)
 
     -- a private item is left to the close that empties it
-    pub leaves_to_close : (collector : ℕ) → WaitsFor collector v slot → private_word collector < shared_base
+    pub leaves_to_close : (collector : ℕ) → WaitsFor collector v slot
         → Steps (Parts sizes) id v i (λ n. either (eqb n emptying_word) left_word n) (AtSlot (LeavesToClose collector) i v)
-    leaves_to_close collector has fits ws vs p at small = let n : ℕ = get_or ws i 0 in let old : ℕ = emptying_word in let y : ℕ = left_word in
+    leaves_to_close collector has ws vs p at small = let n : ℕ = get_or ws i 0 in let old : ℕ = emptying_word in let y : ℕ = left_word in
         let r : PrivateItem = has.0 in let w : View = left_to_close slot y v in let told = steps.knew id v live ws vs p at slot in
         let possible = which ws vs p at collector has in let em = emptying_is in let lt = left_is in
         exchanged n old y (λ m. (u : View) × Parts sizes (set ws i m) (set vs id u) × AtSlot (LeavesToClose collector) i v n u)
@@ -497,14 +545,20 @@ module _ (id : ℕ) (v : View) (live : HasPlace v.epoch) where
         ))
         (λ (e : n ≡ emptying_word). absurd (miss e)) t) possible)
 
-    -- the slot of an item that was found emptied is free, once the item has seen three changes
-    pub gives_private_back : FoundEmptied v slot → IsDuePrivately v slot
+    -- it has a private item of the slot where it counts one
+    item_in : 0 < privates_at slot v → (r : PrivateItem) × HasPrivate v r × (r.item.slot ≡ slot)
+    item_in some_in = let s = total_some (private_in slot) v.slots.privates some_in in let r : PrivateItem = s.1 in let counts = s.3 in
+        (r, (s.0, s.2), dite (ℕ_discrete r.item.slot slot) (λ e. e) (λ apart. let z = is_other slot r.item.slot apart in absurd (omega arith)))
+
+    -- the slot of an item that was found emptied is free
+    pub gives_private_back : FoundEmptied v slot
         → Steps (Parts sizes) id v i (λ _. free_word 0) (λ _. AtSlot GivesPrivateBack i v (free_word 0))
-    gives_private_back was due ws vs p at small = let y : ℕ = free_word 0 in let w : View = private_given_back slot y v in let r : PrivateItem = due.0 in
-        let f = p.collectors.each id v at in let is = (f.found slot was).0 in let fr = free_is 0 (omega arith) in let em = emptied_is in
-        let a = alone ws vs p at r due.1 due.2 in let a0 = a.0 in let a1 = a.1 in let plain = plain_free codes sound y fr.2 in
+    gives_private_back was ws vs p at small = let y : ℕ = free_word 0 in let w : View = private_given_back slot y v in let f = p.collectors.each id v at in
+        let is = (f.found slot was).0 in let has = item_in (f.found slot was).1 in let r : PrivateItem = has.0 in let fr = free_is 0 (omega arith) in let em = emptied_is in
+        let a = alone ws vs p at r has.1 has.2 in let a0 = a.0 in let a1 = a.1 in let plain = plain_free codes sound y fr.2 in
         let quiet : codes.emptying (x ws vs p at) ≡ 0 = ap codes.emptying is ∙ em.4 in
-        let unseen = none_sees_due ws vs p at r due.1 due.2 due.3 in
+        let unseen : (j : ℕ) (u : View) → get_elem? vs j ≡ some u → ¬ (Sees u slot)
+        = λ j u e h. let there = ((p.collectors.each j u e).seen slot h).1 (ap codes.private is ∙ em.3) in let gone = ap codes.valued is ∙ em.5 in omega arith in
         let young : (q : PrivateItem) → HasPrivate w q → HasPrivate v q
         = λ q h. let o = at_filter (λ (x : PrivateItem). not (eqb x.item.slot slot)) v.slots.privates h.0 q h.1 in (o.0, o.1) in
         let gone = private_gone slot v.slots.privates in let none_left = without_same slot v.slots.emptied in
@@ -591,6 +645,32 @@ module _ (id : ℕ) (v : View) (live : HasPlace v.epoch) where
           at_slot (EmptiesSlot collector) n w ((λ _. refl), (λ miss. absurd (miss hit)), told),
         ))
         (λ miss. (v, steps.unmoved id v live ws vs p at i, at_slot (EmptiesSlot collector) n v ((λ hit. absurd (miss hit)), (λ _. refl), told)))
+
+    -- the same of an item of its own bag, of which it knows for whom it waits
+    pub empties_own : (collector : ℕ) → WaitsFor collector v slot → private_word collector < shared_base → Closes v collector
+        → sizes.participants ≤ v.slots.looked → v.slots.empties ≡ None → v.slots.left ≡ false
+        → Steps (Parts sizes) id v i (λ n. either (eqb n (private_word collector)) emptying_word n) (AtSlot (EmptiesOwn collector) i v)
+    empties_own collector has fits shuts all idle fresh ws vs p at small = let n : ℕ = get_or ws i 0 in let old : ℕ = private_word collector in
+        let y : ℕ = emptying_word in let told = steps.knew id v live ws vs p at slot in let possible = which ws vs p at collector has in
+        exchanged n old y (λ m. (u : View) × Parts sizes (set ws i m) (set vs id u) × AtSlot (EmptiesOwn collector) i v n u)
+        (λ hit. let e = empties collector fits shuts all idle fresh ws vs p at small in let is = (e.2 slot refl).0 hit in (
+          e.0,
+          subst (λ (m : ℕ). Parts sizes (set ws i m) (set vs id e.0)) (ap (λ (b : Bool). either b y n) (eq-eqb n old hit)) e.1,
+          at_slot (EmptiesOwn collector) n e.0 ((λ _. is), (λ d. absurd (omega arith)), (λ d. absurd (omega arith)), possible, told),
+        ))
+        (λ miss. ⊎_elim (λ (e : n ≡ old). absurd (miss e)) (λ (t : (n ≡ emptied_word) ⊎ (n ≡ emptying_word)). ⊎_elim
+        (λ (e : n ≡ emptied_word). (
+          found_emptied slot v,
+          finds ws vs p at collector has e,
+          at_slot (EmptiesOwn collector) n (found_emptied slot v)
+              ((λ hit. absurd (miss hit)), (λ _. refl), (λ d. absurd (omega arith)), possible, told),
+        ))
+        (λ (e : n ≡ emptying_word). (
+          orphaned slot v,
+          claimed ws vs p at collector has e,
+          at_slot (EmptiesOwn collector) n (orphaned slot v)
+              ((λ hit. absurd (miss hit)), (λ d. absurd (omega arith)), (λ _. refl), possible, told),
+        )) t) possible)
 
     -- what is emptied is so from now on, and its bag has it still, or has let go of it
     pub has_emptied : Empties v slot → Steps (Parts sizes) id v i (λ n. either (eqb n emptying_word) emptied_word n) (AtSlot HasEmptied i v)
@@ -687,4 +767,54 @@ module _ (id : ℕ) (v : View) (live : HasPlace v.epoch) where
               refl refl refl refl
               (λ q h. inl h)),
           at_slot GivesEmptyBack y w refl,
+        )
+
+    -- the same of an item of its own bag, which nobody else lets go of
+    pub gives_own_back : Empties v slot → (r : PrivateItem) → HasPrivate v r → r.item.slot ≡ slot
+        → Steps (Parts sizes) id v i (λ _. free_word 0) (λ _. AtSlot GivesOwnBack i v (free_word 0))
+    gives_own_back mine r has same ws vs p at small = let y : ℕ = free_word 0 in let w : View = own_given_back slot y v in
+        let f = p.collectors.each id v at in let fr = free_is 0 (omega arith) in let em = emptying_is in let lt = left_is in
+        let plain = plain_free codes sound y fr.2 in let only = one_empties ws vs p at mine in let only0 = only.0 in
+        let a = alone ws vs p at r has same in let a0 = a.0 in let a1 = a.1 in
+        let is : slot_at sizes ws slot ≡ emptying_word = ⊎_elim (λ (e : slot_at sizes ws slot ≡ emptying_word). e)
+        (λ (e : slot_at sizes ws slot ≡ left_word). let z = ap codes.private e in let l3 = lt.3 in absurd (omega arith))
+        (which_emptying (slot_at sizes ws slot) (omega arith)) in
+        let unseen = none_sees ws vs p at only.0 in
+        let none : (k : ℕ) → ¬ (0 < codes.waits_for k y) = λ k. none_for codes sound k y plain.0 in
+        let at_own : (d : ℕ) → empties_at d v ≡ is_at d slot = λ d. ap (one_in d) mine in
+        let young : (q : PrivateItem) → HasPrivate w q → HasPrivate v q
+        = λ q h. let o = at_filter (λ (x : PrivateItem). not (eqb x.item.slot slot)) v.slots.privates h.0 q h.1 in (o.0, o.1) in
+        let gone = private_gone slot v.slots.privates in (
+          w,
+          done ws vs p at y w refl refl
+              (blinded ws vs p at y (record v { words = noted slot y v })
+              (turns codes sound sizes ws vs p.slots id v at slot y (omega arith) (noted slot y v) (ap codes.alive is ∙ em.0) (ap codes.waiting is ∙ em.1)
+              fr.0 fr.1 (λ j u e sees. absurd (unseen j u e sees)))
+              (without_private slot v.slots.privates) v.slots.emptied None v.slots.left)
+              (private_step codes sizes ws vs p.collectors id v at slot y (low ws vs p at) w
+              (let z = plain.0 in omega arith) (λ j ne. sym (private_kept slot j ne v.slots.privates))
+              (let b = at_own slot in let o = is_same slot slot refl in let z = plain.1 in omega arith)
+              (λ j ne. let b = at_own j in let o = is_other j slot (λ e. ne (sym e)) in omega arith)
+              (λ k h. absurd (none k h))
+              record {
+                timed = λ q h. f.timed q (young q h);
+                names = λ q h k for. dite (ℕ_discrete q.item.slot slot)
+                    (λ e. absurd (none k (subst (λ (m : ℕ). 0 < codes.waits_for k m) (here ws vs p at y q.item.slot e) for)))
+                    (λ ne. f.names q (young q h) k (subst (λ (m : ℕ). 0 < codes.waits_for k m) (beside ws vs p at y q.item.slot ne) for));
+                found = λ d h. let g = f.found d h in let g1 = g.1 in dite (ℕ_discrete d slot)
+                    (λ e. absurd (let z = ap (slot_at sizes ws) (sym e) ∙ g.0 in omega arith))
+                    (λ ne. let k = private_kept slot d ne v.slots.privates in (beside ws vs p at y d ne ∙ g.0, omega arith));
+                left = λ l d h. let e : None ≡ Some d = h in cc;
+                seen = λ d h. dite (ℕ_discrete d slot) (λ e. subst (HasValue codes) (sym (here ws vs p at y d e)) (plain_has codes sound y plain))
+                    (λ ne. subst (HasValue codes) (sym (beside ws vs p at y d ne)) (f.seen d h));
+              }
+              record {
+                names = λ j u apart e q h same' k for. absurd (none k for);
+                found = λ j u apart e h. absurd (let z = ((p.collectors.each j u e).found slot h).0 in omega arith);
+                left = λ j u apart e h. absurd (only.1 j u apart e h);
+                seen = λ _ _ _ _ _. plain_has codes sound y plain;
+              }
+              refl refl refl refl
+              (λ q h. inl (young q h))),
+          at_slot GivesOwnBack y w refl,
         )

@@ -1,5 +1,5 @@
 -- What each step on private items makes of what the participant knows, and what it tells
-use Rattle.std.specs.Prelude.{◌≡◌, ◌≢◌, ◌⊎◌, ℕ, ◌==◌, ◌≤◌, not, List, [], ◌∷◌, ◌++◌, Some, None, true, false}
+use Rattle.std.specs.Prelude.{◌≡◌, ◌≢◌, ◌⊎◌, ℕ, ◌^◌, ◌==◌, not, List, [], ◌∷◌, ◌++◌, map, Some, None, true, false, if◌then◌else◌}
 use Rattle.std.specs.List.{filter}
 use mathlib.Core.Option.{some}
 use lib.ListN.{get_elem?}
@@ -31,6 +31,17 @@ reclaimed slot x y v = record v {
   slots = record v.slots { waits = v.slots.waits ++ x ∷ []; privates = without_private slot v.slots.privates };
   words = noted slot y v;
 }
+
+-- no collector has this number: no word tells of it
+abbrev pub no_collector : ℕ
+no_collector = 2 ^ 60
+
+-- once a close is found to have claimed what waits in the slot, that waits for no collector
+abbrev pub orphan : ℕ → PrivateItem → PrivateItem
+orphan slot x = if x.item.slot == slot then record x { collector = no_collector } else x
+
+abbrev pub orphaned : ℕ → View → View
+orphaned slot v = record v { slots = record v.slots { privates = map (orphan slot) v.slots.privates } }
 
 -- it was found emptied
 abbrev pub found_emptied : ℕ → View → View
@@ -71,13 +82,16 @@ finds_left v = record v { slots = record v.slots { left = true } }
 abbrev pub empty_given_back : ℕ → ℕ → View → View
 empty_given_back slot y v = record v { slots = record v.slots { empties = None; left = false }; words = noted slot y v }
 
+-- it has emptied an item of its own bag, and gives the slot back
+abbrev pub own_given_back : ℕ → ℕ → View → View
+own_given_back slot y v = record v {
+  slots = record v.slots { privates = without_private slot v.slots.privates; empties = None };
+  words = noted slot y v;
+}
+
 -- a private item of the slot waits with it for this collector
 abbrev pub WaitsFor : ℕ → View → ℕ → Type 0
 WaitsFor collector v slot = (x : PrivateItem) × HasPrivate v x × (x.item.slot ≡ slot) × (x.collector ≡ collector)
-
--- one that has seen three changes
-abbrev pub IsDuePrivately : View → ℕ → Type 0
-IsDuePrivately v slot = (x : PrivateItem) × HasPrivate v x × (x.item.slot ≡ slot) × (3 ≤ x.item.changes)
 
 -- an item of the slot waits with it
 abbrev pub HasWaiting : View → ℕ → WaitingItem → Type 0
@@ -92,7 +106,7 @@ Collects collector slot v y w = (x : WaitingItem) × HasWaiting v slot x × (w �
 abbrev pub Reclaims : ℕ → ℕ → View → ℕ → View → Type 0
 Reclaims collector slot v x w =
     (x ≡ private_word collector → (r : PrivateItem) × HasPrivate v r × (r.item.slot ≡ slot) × (w ≡ reclaimed slot r.item (waiting_word 0) v))
-    × (x ≡ emptied_word → w ≡ found_emptied slot v) × (x ≡ emptying_word → w ≡ v)
+    × (x ≡ emptied_word → w ≡ found_emptied slot v) × (x ≡ emptying_word → w ≡ orphaned slot v)
     × ((x ≡ private_word collector) ⊎ ((x ≡ emptied_word) ⊎ (x ≡ emptying_word))) × Knew slot v x
 
 -- a private item is left to the close that empties it, unless that is done, or hasn't begun
@@ -109,6 +123,12 @@ GivesPrivateBack slot v y w = w ≡ private_given_back slot y v
 abbrev pub EmptiesSlot : ℕ → ℕ → View → ℕ → View → Type 0
 EmptiesSlot collector slot v x w = (x ≡ private_word collector → w ≡ empties_now slot emptying_word v) × (x ≢ private_word collector → w ≡ v) × Knew slot v x
 
+-- one claims an item of its own bag so, unless an earlier close did, which empties it, or has done so
+abbrev pub EmptiesOwn : ℕ → ℕ → View → ℕ → View → Type 0
+EmptiesOwn collector slot v x w = (x ≡ private_word collector → w ≡ empties_now slot emptying_word v)
+    × (x ≡ emptied_word → w ≡ found_emptied slot v) × (x ≡ emptying_word → w ≡ orphaned slot v)
+    × ((x ≡ private_word collector) ⊎ ((x ≡ emptied_word) ⊎ (x ≡ emptying_word))) × Knew slot v x
+
 -- it is emptied: its bag gives the slot back, or has let go of it
 abbrev pub HasEmptied : ℕ → View → ℕ → View → Type 0
 HasEmptied slot v x w = (x ≡ emptying_word → w ≡ emptied_now slot emptied_word v) × (x ≡ left_word → w ≡ finds_left v)
@@ -117,3 +137,7 @@ HasEmptied slot v x w = (x ≡ emptying_word → w ≡ emptied_now slot emptied_
 -- and the slot is free
 abbrev pub GivesEmptyBack : ℕ → View → ℕ → View → Type 0
 GivesEmptyBack slot v y w = w ≡ empty_given_back slot y v
+
+-- an item of its own bag is emptied, and the slot is free
+abbrev pub GivesOwnBack : ℕ → View → ℕ → View → Type 0
+GivesOwnBack slot v y w = w ≡ own_given_back slot y v

@@ -147,7 +147,12 @@ impl<T: Item<T>, J: Job> Caller<T> for Turn<'_, T, J> {
     ghost shows_is_value = { λ _ _ _ _. (λ h. h, λ h. h) };
 }
 
+/// What its change of the world says is all.
 impl<T: Item<T>, J: Job> Guards<T> for Turn<'_, T, J> {
+    ghost says_at_opening = { λ _ _. ⊤ };
+
+    ghost says_at_close = { λ _ _. ⊤ };
+
     fn new_guard(&mut self) -> Result<Guard, Refused> {
         if !self.world.time().can_nest(self.place) {
             return Err(Refused::TooManyGuards);

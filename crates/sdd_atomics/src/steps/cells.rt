@@ -17,9 +17,9 @@ ghost use Rattle.sdd_atomics.specs.DomainSeat.{view, epoch, slots, Taught, Moved
 
 use crate::domain_table::{DomainSeat, DomainTable};
 use crate::plays::{
-    ClaimForCollector, ClaimForOwned, ClaimForRaw, ClaimForShared, CutRight, ExchangeCell,
-    FillForOwned, FillForShared, FindCell, FreeBareCell, FreeCell, JoinRight, LearnCell, LookIn,
-    RetagCell, SeeIn, SwapBareCell, SwapCell,
+    ClaimForOwned, ClaimForRaw, ClaimForShared, CutRight, ExchangeCell, FillForOwned,
+    FillForShared, FindCell, FreeBareCell, FreeCell, JoinRight, LearnCell, LookIn, RetagCell,
+    SeeIn, SwapBareCell, SwapCell,
 };
 use sdd_views::CellKind;
 use sdd_witness::{CompareExchange, Swap, Witness, part, step_beside};
@@ -62,7 +62,7 @@ pub fn see_in(board: &DomainTable, token: &mut DomainSeat, cell: u32) -> u64
 }
 
 /// Tries to claim a cell of this kind by this word, and answers its word before. It was free where this is `FREE_CELL`: then the participant has the right to it,
-/// and the owner that it had is in the cell, if it had one.
+/// and the owner that it had is in the cell, if it had one. The kind is no collector's: one that is being closed comes of an open one.
 #[inline]
 pub fn claim_cell(
     board: &DomainTable,
@@ -87,9 +87,7 @@ pub fn claim_cell(
         CellKind::Owned => shared.compare_exchange::<ClaimForOwned>(token, at, FREE_CELL, word),
         CellKind::Shared => shared.compare_exchange::<ClaimForShared>(token, at, FREE_CELL, word),
         CellKind::Raw => shared.compare_exchange::<ClaimForRaw>(token, at, FREE_CELL, word),
-        CellKind::Collector => shared.compare_exchange::<ClaimForCollector>(
-            token, at, FREE_CELL, word,
-        ),
+        CellKind::Collector => unreachable!(),
     }
 }
 

@@ -8,6 +8,7 @@ use crate::domain::Domain;
 use crate::due_items::DueItems;
 use crate::free_slot_hints::FreeSlotHints;
 use crate::local_core::LocalCore;
+use crate::private_table::PrivateTable;
 use sdd_atomics::DomainSeat;
 use sdd_core::Limits;
 use sdd_participants::{Job, Participant, RunningTally, Tally};
@@ -25,6 +26,7 @@ pub struct DetachedLocal<J: Job> {
     due: DueItems,
     known: FreeSlotHints,
     jobs: DeferredJobs<J>,
+    privates: PrivateTable,
     next_cell: u32,
     tenure: ReadSection,
     tally: RunningTally,
@@ -53,6 +55,7 @@ impl<J: Job> Model for DetachedLocal<J> {
       words = d.token.me.0.words;
       due = d.due.items;
       jobs = d.jobs;
+      collectors = d.privates;
     } };
 
     ghost invariant = { λ d. IsDormant d.limits d.place d.own d.due d.known.slots d.jobs d.tenure d.token d.tally };
@@ -74,6 +77,7 @@ impl<T: Item<T>, J: Job> LocalCore<'_, T, J> {
             due,
             known,
             jobs,
+            privates,
             next_cell,
             tenure,
             tally,
@@ -86,6 +90,7 @@ impl<T: Item<T>, J: Job> LocalCore<'_, T, J> {
             due,
             known,
             jobs,
+            privates,
             next_cell,
             tenure,
             tally,
@@ -122,6 +127,7 @@ impl<J: Job> DetachedLocal<J> {
             due,
             known,
             jobs,
+            privates,
             next_cell,
             tenure,
             tally,
@@ -135,6 +141,7 @@ impl<J: Job> DetachedLocal<J> {
             due,
             known,
             jobs,
+            privates,
             next_cell,
             tenure,
             tally,

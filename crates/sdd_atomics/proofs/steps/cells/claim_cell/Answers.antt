@@ -1,6 +1,6 @@
 use Rattle.std.proofs.Common.{true, false, sym, ◌∙◌, subst, arith}
 use Rattle.sdd_views.specs.declared.CellKind.{CellKind}
-use Rattle.sdd_views.specs.declared.CellKind.TheVariants.{Raw, Collector}
+use Rattle.sdd_views.specs.declared.CellKind.TheVariants.{Raw}
 use Rattle.sdd_domain_invariant.specs.CellSteps.{ClaimsCell, OfCell}
 use Rattle.sdd_atomics.specs.Cells.{FitsCell}
 use Rattle.sdd_atomics.proofs.Cells.{cell_moved, may_claim, may_claim_bare}
@@ -28,17 +28,11 @@ compare_exchange-requires-in-Raw c = let r = c.requires in
       r.home,
       omega arith,
       may_claim_bare _ _ _ _ _ r.knows.0 r.knows.1 r.place r.rests c.args.cell r.inside _ c.cell_word-at.ensures c.args.word bare.0 r.word (r.own.0 ∙ bare.0)
-          r.own.1 Raw r.own.2 bare.1,
+          r.own.1 Raw tt r.own.2 bare.1,
     )
 
-pub compare_exchange-requires-in-Collector : goal.compare_exchange-requires-in-Collector
-compare_exchange-requires-in-Collector c = let r = c.requires in
-    let bare = subst (λ (k : CellKind). FitsCell k c.args.word c.args.token.now.me.0.stakes.owns) c.in-Collector.is r.fits in (
-      r.home,
-      omega arith,
-      may_claim_bare _ _ _ _ _ r.knows.0 r.knows.1 r.place r.rests c.args.cell r.inside _ c.cell_word-at.ensures c.args.word bare.0 r.word (r.own.0 ∙ bare.0)
-          r.own.1 Collector r.own.2 bare.1,
-    )
+pub unreachable-requires : goal.unreachable-requires
+unreachable-requires c = subst (λ (k : CellKind). FitsCell k c.args.word c.args.token.now.me.0.stakes.owns) c.in-Collector.is c.requires.fits
 
 pub returns-in-Owned : goal.returns-in-Owned
 returns-in-Owned c = let e = c.compare_exchange.ensures in
@@ -57,9 +51,3 @@ returns-in-Raw c = let e = c.compare_exchange-in-Raw.ensures in
     cell_moved c.args.token.now _ c.compare_exchange-in-Raw.result e.0 e.1 (ClaimsCell c.args.word c.args.kind) _ c.args.cell _ c.cell_word-at.ensures
     c.requires.knows.0 (subst (λ (k : CellKind). OfCell (ClaimsCell c.args.word k) c.cell_word-at.result c.args.token.now.me c.compare_exchange-in-Raw.result
     c.compare_exchange-in-Raw.new.seat.me) (sym c.in-Raw.is) e.2)
-
-pub returns-in-Collector : goal.returns-in-Collector
-returns-in-Collector c = let e = c.compare_exchange-in-Collector.ensures in
-    cell_moved c.args.token.now _ c.compare_exchange-in-Collector.result e.0 e.1 (ClaimsCell c.args.word c.args.kind) _ c.args.cell _ c.cell_word-at.ensures
-    c.requires.knows.0 (subst (λ (k : CellKind). OfCell (ClaimsCell c.args.word k) c.cell_word-at.result c.args.token.now.me c.compare_exchange-in-Collector.result
-    c.compare_exchange-in-Collector.new.seat.me) (sym c.in-Collector.is) e.2)

@@ -8,7 +8,8 @@ pub swap-requires : goal.swap-requires
 swap-requires c = let r = c.requires in (
   r.home,
   omega arith,
-  may_free _ _ _ _ _ r.knows.0 r.knows.1 r.place r.rests c.args.cell r.inside _ c.cell_word.ensures r.own.0 r.own.1 r.own.2 r.own.3 r.right.0 r.right.1,
+  may_free _ _ _ _ _ r.knows.0 r.knows.1 r.place r.rests c.args.cell r.inside _ c.cell_word.ensures r.own.0 r.own.1 r.own.2 r.own.3
+      r.right.0 r.right.1,
 )
 
 pub returns : goal.returns

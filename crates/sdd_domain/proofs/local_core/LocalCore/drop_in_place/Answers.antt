@@ -13,7 +13,6 @@ use Rattle.sdd_shared_values.specs.declared.value_fraction.ValueFraction.{ValueF
 use Rattle.sdd_space.specs.OwnerOrCell.{AreOf}
 use Rattle.sdd_views.specs.declared.Sizes.{Sizes}
 use Rattle.sdd_views.specs.declared.View.{View}
-use Rattle.sdd_views.specs.declared.WaitingItem.{WaitingItem}
 use Rattle.sdd_word_invariant.specs.Epoch.{IsLone as IsLoneAt}
 use Rattle.sdd_word_invariant.specs.SlotSteps.{noted}
 use Rattle.sdd_atomics.specs.DomainTable.{id_of, book_of, slots_of}

@@ -2,7 +2,7 @@ use lib.ListN.{get_elem?}
 use mathlib.Core.Option.{some}
 use mathlib.Core.Logic.{dite}
 use native.Mathlib.Decide.{dec_lt}
-use Rattle.std.proofs.Common.{List, [], ◌∷◌, ◌≡◌, ℕ, ◌+◌, ◌<◌, map, length, rules, refl, sym, ap, ◌∙◌, subst, arith}
+use Rattle.std.proofs.Common.{List, [], ◌∷◌, ◌≡◌, ℕ, ◌+◌, ◌<◌, rules, refl, sym, ap, ◌∙◌, subst, arith}
 use Rattle.sdd_word_invariant.specs.Collectors.{privates_at}
 use Rattle.sdd_word_invariant.specs.Sums.{total}
 use Rattle.sdd_word_invariant.specs.Slots.{items_at, waits_in}
@@ -60,7 +60,8 @@ invariant_of-self-2 g c =
     let board = l.domain.now.board in let i = c.self.invariant in let inside : slot < slots_of board = search rules in
     subst (λ (o : Participant). IsBetweenCalls board l.place o c.let_one_go.new.token
     × l.nesting ≡ l.domain.now.limits.nesting × IsTenureOf o l.tenure × AreLentTo l.tenure.round c.let_one_go.new.token.me.1
-    × IsReady board o l.due l.known.slots l.jobs (known_waiting c.let_one_go.new.token.me.0.slots) × IsTallied 0 l.tally c.let_one_go.new.token.me.0.stakes.counts)
+    × IsReady board o l.due l.known.slots l.jobs (known_waiting c.let_one_go.new.token.me.0.slots)
+    × IsTallied 0 l.tally c.let_one_go.new.token.me.0.stakes.counts)
     (sym own_is) (
       posed_retires board l.place l.own y slot shared shown l.token c.take_in.new.token c.let_one_go.new.token i.0 inside took waits,
       i.1,

@@ -1,0 +1,16 @@
+use Rattle.std.proofs.Common.{arith}
+use Rattle.sdd_atomics.proofs.CollectorsAllowed.{own_claimed_at, may_claim_own_private}
+use Rattle.sdd_atomics.proofs.steps.collectors.claim_own_private.Goals as goal
+
+pub compare_exchange-requires : goal.compare_exchange-requires
+compare_exchange-requires c = let r = c.requires in (
+  r.home,
+  omega arith,
+  may_claim_own_private _ _ _ _ _ r.knows.0 r.knows.1 r.place _ c.args.slot c.slot_word.ensures r.inside r.rests c.args.collector r.waits (omega arith)
+      r.closes r.looked r.idle.0 r.idle.1 _ c.private_word-word.ensures,
+)
+
+pub returns : goal.returns
+returns c = let e = c.compare_exchange.ensures in
+    own_claimed_at c.args.token.now _ c.compare_exchange.result e.0 e.1 c.args.collector _ c.private_word-word.ensures _ c.args.slot _ c.slot_word.ensures
+    c.requires.knows.0 e.2

@@ -1,0 +1,54 @@
+-- Private items: what claiming one, letting it go and emptying it make of what a participant knows
+use Rattle.std.specs.Prelude.{◌≡◌, ◌≢◌, ℕ, List, Bool, true, false}
+use base.Stored.{Gv}
+use Rattle.atomic_table.specs.declared.shared.Seat.{Seat}
+use Rattle.sdd_shared_values.specs.declared.value_fraction.ValueFraction.{ValueFraction}
+use Rattle.sdd_views.specs.declared.PrivateItem.{PrivateItem}
+use Rattle.sdd_views.specs.declared.ShownValue.{ShownValue}
+use Rattle.sdd_views.specs.declared.View.{View}
+use Rattle.sdd_word_invariant.specs.Codes.{free_word, private_word, waiting_word}
+use Rattle.sdd_word_invariant.specs.Epoch.{IsLone}
+use Rattle.sdd_word_invariant.specs.Collectors.{HasPrivate}
+use Rattle.sdd_word_invariant.specs.CollectorSteps.{reclaimed, without_private}
+use Rattle.sdd_word_invariant.specs.SlotSteps.{Knew, noted}
+use Rattle.sdd_domain_invariant.specs.FractionSteps.{with_gone}
+use Rattle.sdd_domain_invariant.specs.CollectorSteps.{ShowsPrivate, recollecting}
+use Rattle.sdd_domain.specs.Cells.{IsWith}
+use Rattle.sdd_domain.specs.Values.{WasFilled}
+
+-- a view that has no private item of the slot any more, and these words
+abbrev pub without_kept : ℕ → View → View
+without_kept slot v = record v { slots = record v.slots { privates = without_private slot v.slots.privates } }
+
+-- the slot's private item was let go of, since a close had claimed it
+pub record LetsGoOf (collector slot : ℕ) (s s' : Seat ValueFraction View) : Type 0 where
+  pub words : List ℕ
+  pub seat : IsWith (record (without_kept slot s.me.0) { words = words }) s s'
+  pub word : ℕ
+  pub knew : Knew slot s.me.0 word
+  pub claimed : word ≢ private_word collector
+
+-- it waits as any other from now on, and it is known what it shows
+pub record ClaimsBack (slot : ℕ) (s s' : Seat ValueFraction View) : Type 0 where
+  pub item : PrivateItem
+  pub there : HasPrivate s.me.0 item
+  pub here : item.item.slot ≡ slot
+  pub shown : ShownValue
+  pub shows : ShowsPrivate slot shown s.me.0
+  pub seat : IsWith (recollecting shown (reclaimed slot item.item (waiting_word 0) s.me.0)) s s'
+
+-- a private item was claimed for its bag, or let go of
+abbrev pub IsClaimedBack : ℕ → ℕ → Bool → Seat ValueFraction View → Seat ValueFraction View → Type 0
+IsClaimedBack collector slot true s s' = ClaimsBack slot s s'
+IsClaimedBack collector slot false s s' = LetsGoOf collector slot s s'
+
+-- a private item of its own was emptied, and its slot is free; a lone participant moved its value in
+pub record EmptiesOwn (slot : ℕ) (value : Gv) (s s' : Seat ValueFraction View) : Type 0 where
+  pub seat : IsWith (with_gone (record (without_kept slot s.me.0) { words = noted slot (free_word 0) s.me.0 })) s s'
+  pub lone : IsLone s.me.0.epoch → WasFilled slot value s.me.0
+
+-- one of another was emptied for the collector, whoever gives its slot back
+pub record EmptiesAnothers (collector slot : ℕ) (s s' : Seat ValueFraction View) : Type 0 where
+  pub words : List ℕ
+  pub seat : IsWith (with_gone (record s.me.0 { words = words })) s s'
+  pub knew : Knew slot s.me.0 (private_word collector)
