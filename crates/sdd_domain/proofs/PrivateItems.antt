@@ -11,7 +11,7 @@ use Rattle.sdd_views.specs.declared.View.{View}
 use Rattle.sdd_word_invariant.specs.Codes.{private_word, emptying_word, emptied_word, left_word}
 use Rattle.sdd_word_invariant.specs.CollectorSteps.{WaitsFor, no_collector, orphan, orphaned, found_emptied, without_private}
 use Rattle.sdd_word_invariant.specs.SlotSteps.{Knew, noted}
-use Rattle.sdd_domain_invariant.specs.CollectorSteps.{LeavesOneToClose}
+use Rattle.sdd_domain_invariant.specs.CollectorSteps.{LeavesOneToClose, ReclaimsOne, EmptiesOwnOne}
 use Rattle.sdd_atomics.specs.DomainSeat.{Moved}
 use Rattle.sdd_domain.specs.PrivateItems.{IsLost, FindsEmptied, GivesUpLost, LetsGoOf, without_kept}
 
@@ -127,4 +127,33 @@ module _ (collector slot x : ℕ) (s t : Seat ValueFraction View) (m : MissesOne
     word = x;
     knew = m.knew;
     claimed = m.miss;
+  }
+
+-- so it is where the bag claims one, and where a close of its own does
+module _ (collector slot x k : ℕ) (s t : Seat ValueFraction View) (is : k ≡ private_word collector) (other : x ≢ k) where
+  miss_of : x ≢ private_word collector
+  miss_of = λ e. other (e ∙ sym is)
+
+  pub reclaim_missed : Moved (ReclaimsOne collector slot) s x t → MissesOne collector slot x s t
+  reclaim_missed m = let c = m.2.1 in let e = m.2.4 miss_of in record {
+    table = m.0;
+    number = m.1;
+    others = m.2.2;
+    miss = miss_of;
+    done = λ is. e ∙ c.1 is;
+    busy = λ is. e ∙ c.2 is;
+    which = c.3;
+    knew = c.4;
+  }
+
+  pub own_missed : Moved (EmptiesOwnOne collector slot) s x t → MissesOne collector slot x s t
+  own_missed m = let c = m.2.0 in record {
+    table = m.0;
+    number = m.1;
+    others = m.2.1;
+    miss = miss_of;
+    done = c.1;
+    busy = c.2;
+    which = c.3;
+    knew = c.4;
   }
