@@ -1,19 +1,29 @@
 -- What a participant knows once it has let go of a private item that a close had claimed, and once it has emptied one
-use Rattle.std.proofs.Common.{◌≡◌, ◌≢◌, ◌⊎◌, ℕ, List, [], ◌∷◌, map, eqb, eq-eqb, not, sym, refl, ap, ◌∙◌, subst, ⊎_elim, inl, inr, arith}
-use Rattle.std.specs.Prelude.{◌<◌, Bool, true, false, None, Some, MatchBool, if◌then◌else◌}
+use Rattle.std.proofs.Common.{◌≡◌, ◌≢◌, ◌⊎◌, ℕ, suc, List, [], ◌∷◌, map, drop, eqb, eq-eqb, not, sym, refl, ap, ◌∙◌, subst, ⊎_elim, inl, inr, arith}
+use Rattle.std.specs.Prelude.{◌<◌, Bool, true, false, None, Some, MatchBool, slice_set, if◌then◌else◌}
 use Rattle.std.proofs.lemmas.List.{set-set}
+use base.Stored.{Gv}
 use mathlib.Core.Bool.{cond}
 use Rattle.atomic_table.proofs.Lists.{at_map}
 use Rattle.atomic_table.specs.declared.shared.Seat.{Seat}
 use Rattle.sdd_shared_values.specs.declared.value_fraction.ValueFraction.{ValueFraction}
 use Rattle.sdd_views.specs.declared.PrivateItem.{PrivateItem}
 use Rattle.sdd_views.specs.declared.View.{View}
-use Rattle.sdd_word_invariant.specs.Codes.{private_word, emptying_word, emptied_word, left_word}
-use Rattle.sdd_word_invariant.specs.CollectorSteps.{WaitsFor, no_collector, orphan, orphaned, found_emptied, without_private}
-use Rattle.sdd_word_invariant.specs.SlotSteps.{Knew, noted}
-use Rattle.sdd_domain_invariant.specs.CollectorSteps.{LeavesOneToClose, ReclaimsOne, EmptiesOwnOne}
-use Rattle.sdd_atomics.specs.DomainSeat.{Moved}
-use Rattle.sdd_domain.specs.PrivateItems.{IsLost, FindsEmptied, GivesUpLost, LetsGoOf, without_kept}
+use Rattle.sdd_word_invariant.specs.Codes.{private_word, emptying_word, emptied_word, free_word, left_word}
+use Rattle.sdd_word_invariant.specs.CollectorSteps.{WaitsFor, no_collector, orphan, orphaned, found_emptied, without_private, empties_now, emptied_now, finds_left, empty_given_back, own_given_back}
+use Rattle.sdd_word_invariant.specs.SlotSteps.{Knew, behind, noted}
+use Rattle.sdd_word_invariant.specs.Epoch.{IsLone}
+use Rattle.sdd_shared_values.specs.SharedValues.{IsNoValueCode}
+use Rattle.sdd_views.specs.declared.Sizes.{Sizes}
+use Rattle.sdd_domain_invariant.specs.FractionsAtHome.{CarriedFractions}
+use Rattle.sdd_domain_invariant.specs.FractionSteps.{SeatState, CarriesAll, giving, moving, with_gone}
+use Rattle.sdd_atomics.specs.declared.domain_table.DomainTable.{DomainTable}
+use Rattle.sdd_atomics.specs.DomainTable.{book_of, places_of}
+use Rattle.sdd_domain.specs.Values.{WasFilled}
+use Rattle.sdd_domain.proofs.Moving.{rest_out}
+use Rattle.sdd_domain_invariant.specs.CollectorSteps.{LeavesOneToClose, ReclaimsOne, EmptiesOwnOne, EmptiedOne, GivesOneEmptyBack, GivesOneOwnBack}
+use Rattle.sdd_atomics.specs.DomainSeat.{Knows, Moved}
+use Rattle.sdd_domain.specs.PrivateItems.{IsLost, FindsEmptied, GivesUpLost, LetsGoOf, EmptiesOwn, EmptiesAnothers, without_kept}
 
 -- ---- what a close has claimed waits for no collector
 orphan_here : (b : Bool) (x : PrivateItem) → (if b then record x { collector = no_collector } else x).item ≡ x.item
@@ -157,3 +167,74 @@ module _ (collector slot x k : ℕ) (s t : Seat ValueFraction View) (is : k ≡ 
     which = c.3;
     knew = c.4;
   }
+
+-- ---- it empties one, whose value was moved out
+module _ (b : DomainTable) (slot : ℕ) (s t u : Seat ValueFraction View) (knows : Knows b s) (rests : s.me.0.stakes.moves ≡ None)
+    (idle : s.me.0.slots.empties ≡ None) (claimed : t.me.0 ≡ empties_now slot emptying_word s.me.0) (same : t.me.1 ≡ s.me.1)
+    (home : (u.table_id ≡ t.table_id) × (u.id ≡ t.id)) (moved : u.me.0 ≡ moving slot t.me.0)
+    (row : CarriesAll (book_of b) slot (places_of b) 0 IsNoValueCode t.me.1 u.me.1) where
+  pub view_moved : u.me.0 ≡ moving slot (empties_now slot emptying_word s.me.0)
+  view_moved = moved ∙ ap (moving slot) claimed
+
+  -- all stakes in it have gone home
+  rest_home : (ys : CarriedFractions) → ys ≡ drop (suc u.me.0.sizes.participants) u.me.1 → ys ≡ s.me.1
+  rest_home ys e = rest_out (book_of b) slot (places_of b) u.me.0.sizes.participants 0 IsNoValueCode t.me.1 u.me.1 ys
+      (ap (λ (v : View). v.sizes.participants) view_moved ∙ ap (λ (z : Sizes). z.participants) knows.0) row e ∙ same
+
+  filled_before : (value : Gv) → (IsLone t.me.0.epoch → WasFilled slot value t.me.0) → IsLone s.me.0.epoch → WasFilled slot value s.me.0
+  filled_before value filled one = subst (WasFilled slot value) claimed (filled (subst (λ (v : View). IsLone v.epoch) (sym claimed) one))
+
+  module _ (table : t.table_id ≡ s.table_id) (number : t.id ≡ s.id) where
+    -- one of its own bag, whose slot it gave back
+    pub own_emptied : (value : Gv) (w : Seat ValueFraction View) → (IsLone t.me.0.epoch → WasFilled slot value t.me.0)
+        → Moved (GivesOneOwnBack slot) u (free_word 0) w → EmptiesOwn slot value s w
+    own_emptied value w filled back = let v : View = s.me.0 in record {
+      seat = record {
+        table = back.0 ∙ (home.0 ∙ table);
+        number = back.1 ∙ (home.1 ∙ number);
+        others = rest_home w.me.1 back.2.1;
+        view = back.2.0 ∙ (ap (λ (a : View). giving (own_given_back slot (free_word 0) a)) view_moved ∙ (λ d. record (with_gone v) {
+          slots = record v.slots { privates = without_private slot v.slots.privates; empties = sym idle d };
+          stakes = record (with_gone v).stakes { moves = sym rests d };
+          words = set-set v.words (behind v.sizes slot) emptying_word (free_word 0) d;
+        }));
+      };
+      lone = filled_before value filled;
+    }
+
+    -- one of another's bag, which gives the slot back, or has let go of it
+    module _ (collector r : ℕ) (f : Seat ValueFraction View) (knew : Knew slot s.me.0 (private_word collector)) (done : Moved (EmptiedOne slot) u r f) where
+      pub another_emptied : r ≢ left_word → EmptiesAnothers collector slot s f
+      another_emptied ne = let v : View = s.me.0 in ⊎_elim (λ (e : r ≡ emptying_word). let gave = done.2.0 e in record {
+        words = slice_set (noted slot emptying_word v) (behind v.sizes slot) emptied_word;
+        seat = record {
+          table = done.0 ∙ (home.0 ∙ table);
+          number = done.1 ∙ (home.1 ∙ number);
+          others = rest_home f.me.1 gave.1;
+          view = gave.0 ∙ (ap (λ (a : View). giving (emptied_now slot emptied_word a)) view_moved ∙ (λ d. record (with_gone v) {
+            slots = record v.slots { empties = sym idle d };
+            stakes = record (with_gone v).stakes { moves = sym rests d };
+            words = slice_set (noted slot emptying_word v) (behind v.sizes slot) emptied_word;
+          }));
+        };
+        knew = knew;
+      }) (λ (e : r ≡ left_word). absurd (ne e)) done.2.2
+
+      pub another_left : (w : Seat ValueFraction View) → s.me.0.slots.left ≡ false → r ≡ left_word → Moved (GivesOneEmptyBack slot) f (free_word 0) w
+          → EmptiesAnothers collector slot s w
+      another_left w none e back = let v : View = s.me.0 in let found = done.2.1 e in
+          let seen : f.me.0 ≡ finds_left u.me.0 = ap (λ (m : SeatState). m.0) found in record {
+            words = slice_set (noted slot emptying_word v) (behind v.sizes slot) (free_word 0);
+            seat = record {
+              table = back.0 ∙ (done.0 ∙ (home.0 ∙ table));
+              number = back.1 ∙ (done.1 ∙ (home.1 ∙ number));
+              others = rest_home w.me.1 (back.2.1 ∙ ap (λ (m : SeatState). drop (suc m.0.sizes.participants) m.1) found);
+              view = back.2.0 ∙ (ap (λ (a : View). giving (empty_given_back slot (free_word 0) a)) (seen ∙ ap finds_left view_moved)
+                  ∙ (λ d. record (with_gone v) {
+                    slots = record v.slots { empties = sym idle d; left = sym none d };
+                    stakes = record (with_gone v).stakes { moves = sym rests d };
+                    words = slice_set (noted slot emptying_word v) (behind v.sizes slot) (free_word 0);
+                  }));
+            };
+            knew = knew;
+          }
