@@ -46,7 +46,7 @@ nothing_there n known waiting taken plain private bags due = subst (λ (z : Know
     (λ d. (record { plain = sym plain d; private = sym private d; closes = known.closes }, sym bags d, sym due d)) (nothing_known n known.closes)
 
 -- where no private item of a slot waits none is taken out
-none_private : (slot : ℕ) (xs : List PrivateItem) → total (private_in slot) xs ≡ 0 → without_private slot xs ≡ xs
+pub none_private : (slot : ℕ) (xs : List PrivateItem) → total (private_in slot) xs ≡ 0 → without_private slot xs ≡ xs
 none_private slot [] e = refl
 none_private slot (x ∷ xs) e = let r = none_private slot xs (omega arith) in
     let ne : x.item.slot ≢ slot = λ same. let i = is_same slot x.item.slot same in omega arith in
@@ -58,6 +58,10 @@ none_plain slot [] e = refl
 none_plain slot (x ∷ xs) e = let r = none_plain slot xs (omega arith) in
     let ne : x.slot ≢ slot = λ same. let i = is_same slot x.slot same in omega arith in
     ap (λ (b : Bool). cond (not b) (x ∷ without_item slot xs) (without_item slot xs)) (ne_eqb x.slot slot ne) ∙ ap (λ (l : List WaitingItem). x ∷ l) r
+
+-- the last one goes, as it is of the slot
+pub without_last : (slot : ℕ) (xs : List WaitingItem) (x : WaitingItem) → x.slot ≡ slot → without_item slot (xs ++ x ∷ []) ≡ without_item slot xs
+without_last slot xs x here = filter_past (λ (y : WaitingItem). not (y.slot == slot)) x (ap not (eq-eqb x.slot slot here)) xs
 
 times_map : (i : ℕ) (xs : List WaitingItem) → times i (map (λ (x : WaitingItem). x.slot) xs) ≡ total (waits_in i) xs
 times_map i [] = refl

@@ -1,5 +1,5 @@
 -- Private items: what a participant's calls make of what its callers see
-use Rattle.std.specs.Prelude.{◌≡◌, ℕ, ◌<◌, ◌≤◌, Bool, true, false, ◌∷◌, [], ◌++◌, Option, Some, None, MatchOption, MatchResult, slice_set}
+use Rattle.std.specs.Prelude.{◌≡◌, ◌≢◌, ℕ, ◌+◌, ◌<◌, ◌≤◌, Bool, true, false, ◌∷◌, [], ◌++◌, Option, Some, None, MatchOption, MatchResult, slice_set}
 use base.Stored.{Gv}
 use Rattle.sdd_participants.specs.Slab.{Entries, entry_at, with_entry, without_entry}
 use Rattle.sdd_participants.specs.Collecting.{is_kept_for, chosen_of, without}
@@ -7,8 +7,11 @@ use Rattle.sdd_participants.specs.EpochState.{awaiting}
 use Rattle.sdd_participants.specs.Tally.{one_reclaimed}
 use Rattle.sdd_participants.specs.declared.waiting.LimboEntry.{LimboEntry}
 use Rattle.sdd_participants.specs.declared.waiting.LimboEntry.TheVariants.{Item}
-use Rattle.sdd_word_invariant.specs.Codes.{claimed_word, private_word}
-use Rattle.sdd_word_invariant.specs.SlotSteps.{behind, retired_now}
+use Rattle.sdd_word_invariant.specs.Codes.{claimed_word, free_word, private_word}
+use Rattle.sdd_word_invariant.specs.SlotSteps.{behind, retired_now, without_item}
+use Rattle.sdd_word_invariant.specs.Slots.{waits_in}
+use Rattle.sdd_word_invariant.specs.Sums.{total}
+use Rattle.sdd_word_invariant.specs.Collectors.{private_in}
 use Rattle.sdd_word_invariant.specs.CollectorSteps.{for_collector, without_private}
 use Rattle.sdd_domain.specs.PrivateTable.{standings_of}
 use Rattle.sdd_domain.specs.LocalState.{LocalState, IsLone, HasOpenGuard, LeavesAt, Reclaims, word_of}
@@ -52,7 +55,20 @@ module _ {J : Type 0} where
   abbrev pub takes_for : ℕ → LocalState J → LocalState J
   takes_for collector m = record m { own = without (waits_for m collector) m.own; due = chosen_of (waits_for m collector) m.own.bags.waiting }
 
-  -- the item of the slot was due before all others, and waited for a collector whose close had claimed it: it waits no more, and was reclaimed by another
+  -- the item of the slot, which was due before all others, waits for no collector any more, if it did, and may be taken out
+  pub record ClaimsFirst (slot : ℕ) (old new : LocalState J) : Type 0 where
+    pub member : new ≡ record old {
+      slots = record old.slots { waits = new.slots.waits; privates = without_private slot old.slots.privates };
+      words = new.words;
+      collectors = without_entry old.collectors slot;
+    }
+    pub others : without_item slot new.slots.waits ≡ without_item slot old.slots.waits
+    pub words : slice_set new.words (behind old.sizes slot) (free_word 0) ≡ slice_set old.words (behind old.sizes slot) (free_word 0)
+    pub once : total (waits_in slot) new.slots.waits ≡ 1
+    pub was : total (waits_in slot) old.slots.waits + total (private_in slot) old.slots.privates ≡ 1
+
+  -- the item of the slot was due before all others, and waited for a collector whose close had claimed it: it waits no more, and was reclaimed by another. A lone
+  -- participant knew its word, which was that of no item that waits for the collector
   pub record LosesItem (slot : ℕ) (old new : LocalState J) : Type 0 where
     pub first : old.due ≡ Item slot ∷ new.due
     pub member : new ≡ record old {
@@ -61,7 +77,9 @@ module _ {J : Type 0} where
       due = new.due;
       collectors = without_entry old.collectors slot;
     }
-    pub others : ¬ (IsLone old)
+    pub collector : ℕ
+    pub kept : entry_at old.collectors slot ≡ Some collector
+    pub claimed : IsLone old → word_of old slot ≢ private_word collector
 
   -- the item of the slot was due before all others; it is reclaimed, and its value shows this, or another's close had claimed it
   abbrev pub GoesFirst : ℕ → Option Gv → LocalState J → LocalState J → Type 0

@@ -1,6 +1,7 @@
 -- What is in a participant's bags, and what is due, beside what its view knows to wait
-use Rattle.std.specs.Prelude.{◌≡◌, ℕ, ◌*◌, ◌≤◌, ◌==◌, ◌||◌, not, Bool, false, Option, None, Some, List, [], ◌∷◌, map, filter}
+use Rattle.std.specs.Prelude.{◌≡◌, ◌↔◌, ℕ, ◌*◌, ◌<◌, ◌≤◌, ◌==◌, ◌||◌, not, Bool, false, Option, None, Some, List, [], ◌∷◌, length, map, filter}
 use Rattle.sdd_participants.specs.declared.waiting.LimboEntry.{LimboEntry}
+use Rattle.sdd_participants.specs.Slab.{Entries, entry_at}
 use Rattle.sdd_participants.specs.Waiting.{Waiting}
 use Rattle.sdd_views.specs.declared.PrivateItem.{PrivateItem}
 use Rattle.sdd_views.specs.declared.SlotsView.{SlotsView}
@@ -45,6 +46,11 @@ known_waiting s = record { plain = s.waits; private = s.privates; closes = s.clo
 -- 1 for a private item of the slot that waits for this collector
 abbrev pub private_for : ℕ → ℕ → PrivateItem → ℕ
 private_for collector slot x = is slot x.item.slot * is collector x.collector
+
+-- a table of so many slots tells for which collector the item of each waits privately, where it does
+pub record TellsCollectors (slots : ℕ) (table : Entries ℕ) (private : List PrivateItem) : Type 0 where
+  pub long : length table ≡ slots
+  pub waits : (slot collector : ℕ) → (entry_at table slot ≡ Some collector) ↔ (0 < total (private_for collector slot) private)
 
 -- the collector is being closed
 abbrev pub is_closed : Option ℕ → ℕ → Bool

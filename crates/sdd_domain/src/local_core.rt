@@ -1,5 +1,5 @@
 //! A participant's part in a domain: its guards, what waits with it, and the items that it makes and lets go.
-ghost use Rattle.std.specs.Prelude.{◌≡◌, ◌↔◌, ◌⊎◌, ◌+◌, ◌*◌, ◌/◌, ◌^◌, ◌<◌, ◌≤◌, ◌==◌, ℕ, List, [], ◌∷◌, false, IsTrue, not, IfSome, IfOk, IfErr, MatchOption, MatchResult, option_map};
+ghost use Rattle.std.specs.Prelude.{◌≡◌, ◌↔◌, ◌⊎◌, ◌+◌, ◌*◌, ◌/◌, ◌^◌, ◌<◌, ◌≤◌, ◌==◌, ℕ, List, [], ◌∷◌, false, IsTrue, not, IfSome, IfOk, IfErr, MatchOption, MatchResult, None, option_map};
 ghost use Rattle.sdd_shared_values.specs.SharedValues.{showing};
 ghost use Rattle.sdd_participants.specs.declared.waiting.LimboEntry.{LimboEntry as Entry};
 ghost use Rattle.sdd_participants.specs.declared.waiting.LimboEntry.TheVariants.{Item as item};
@@ -15,6 +15,7 @@ ghost use Rattle.sdd_domain.specs.SpaceIds.{home_at, home_in};
 ghost use Rattle.sdd_domain.specs.Items.{slots_home};
 ghost use Rattle.sdd_domain.specs.LocalState.{waits, CanNest, HasOpenGuard, IsNew, IsEntered, GoesOn, LocalState, GuardCloses, IsTold};
 ghost use Rattle.sdd_domain.specs.Collectors.{GoesFirst};
+ghost use Rattle.sdd_domain.specs.InBags.{TellsCollectors};
 ghost use Rattle.sdd_domain.specs.ScanAtClose.{TellsScan};
 ghost use Rattle.sdd_space.specs.Guard.{reader_of};
 ghost use Rattle.sdd_space.specs.OwnerOrCell.{AreOf};
@@ -26,7 +27,6 @@ use crate::domain::Domain;
 use crate::due_items::{DueItems, count_items};
 use crate::ended_counts::EndedCounts;
 use crate::free_slot_hints::FreeSlotHints;
-use crate::private_items::claim_back;
 use crate::private_table::PrivateTable;
 use crate::scan::{ScanEnd, scan};
 use crate::shut::shut;
@@ -107,7 +107,7 @@ impl<'d, T: Item<T>, J: Job> Model for LocalCore<'d, T, J> {
 
     ghost invariant = { λ l. IsBetweenCalls l.domain.now.board l.place l.own l.token × (l.nesting ≡ l.domain.now.limits.nesting)
         × IsTenureOf l.own l.tenure × AreLentTo l.tenure.round l.token.me.1
-        × IsReady l.domain.now.board l.own l.due l.known.slots l.jobs (known_waiting l.token.me.0.slots)
+        × IsReady l.domain.now.board l.own l.due l.known.slots l.jobs l.privates (known_waiting l.token.me.0.slots)
         × IsTallied 0 l.tally l.token.me.0.stakes.counts };
 }
 
@@ -380,21 +380,14 @@ impl<'d, T: Item<T>, J: Job> LocalCore<'d, T, J> {
     #[inline]
     pub(crate) fn reclaim(&mut self, slot: u32) -> Option<T>
         requires first { (rest : List Entry) × (self.old.due ≡ item slot ∷ rest) }
+        requires closes { self.old.slots.closes ≡ None }
         ensures gone { GoesFirst slot (option_map (λ (value : T). showing T.row value) result) self.old self.new }
         ensures home { IfSome result (λ value. AreOf (home_in self.old) (T.holds value)) }
     {
-        self.due.next();
-        if let Some(collector) = self.privates.take(slot) {
-            if !claim_back(
-                &self.domain.board,
-                &mut self.token,
-                &mut self.known,
-                slot,
-                collector,
-            ) {
-                return None;
-            }
+        if !self.claim_first(slot) {
+            return None;
         }
+        self.due.next();
         let value = take_value(
             &self.domain.board,
             &self.domain.shelf,
@@ -415,10 +408,11 @@ impl<'d, T: Item<T>, J: Job> LocalCore<'d, T, J> {
     }
 
     /// What is always true of a participant, as a call that does nothing when the program runs: it has a place, and while a guard is open the count
-    /// that it knows is the one at its publish or the next.
+    /// that it knows is the one at its publish or the next; and its table tells for which collectors its items wait.
     #[inline]
     pub(crate) fn stands(&self)
         ensures inside { self.now.place < self.now.limits.participants }
+        ensures collectors { TellsCollectors self.now.limits.slots self.now.collectors self.now.slots.privates }
         ensures near { HasOpenGuard self.now → (self.now.since ≤ self.now.known) × (self.now.known ≤ self.now.since + 1) }
     {
         let _token = &self.token;

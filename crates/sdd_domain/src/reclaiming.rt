@@ -158,6 +158,7 @@ impl<T: Item<T>, J: Job> LocalGiver<'_, T, J> {
     /// The item that is due before all others, in this slot, is reclaimed, and what its value held is retired then.
     fn reclaim_item(&mut self, slot: u32)
         requires first { (rest : List Entry) × (self.old.member.due ≡ item slot ∷ rest) }
+        requires closes { self.old.member.slots.closes ≡ None }
         ensures first { self.old.member.due ≡ item slot ∷ self.new.member.due }
         ensures own { KeepsMoreWaiting self.old.member.own self.new.member.own }
         ensures known { KnowsOn (known_of self.old) (known_of self.new) }
@@ -195,6 +196,7 @@ impl<T: Item<T>, J: Job> LocalGiver<'_, T, J> {
     #[inline]
     fn reclaim_first(&mut self, what: LimboEntry)
         requires first { (rest : List Entry) × (self.old.member.due ≡ what ∷ rest) }
+        requires closes { self.old.member.slots.closes ≡ None }
         ensures first { self.old.member.due ≡ what ∷ self.new.member.due }
         ensures own { KeepsMoreWaiting self.old.member.own self.new.member.own }
         ensures known { KnowsOn (known_of self.old) (known_of self.new) }
@@ -211,6 +213,7 @@ impl<T: Item<T>, J: Job> LocalGiver<'_, T, J> {
 
     /// What is due is reclaimed, one after another, and what each value held is retired then.
     fn reclaim_due(&mut self)
+        requires closes { self.old.member.slots.closes ≡ None }
         ensures own { KeepsMoreWaiting self.old.member.own self.new.member.own }
         ensures none { self.old.member.due ≡ [] → self.new.member.own ≡ self.old.member.own }
         ensures known { KnowsOn (known_of self.old) (known_of self.new) }
@@ -229,6 +232,7 @@ impl<T: Item<T>, J: Job> LocalGiver<'_, T, J> {
     /// The rest of a change: what is due is reclaimed, and what each value held is retired then; and then it is decided whether anything waits.
     #[inline(never)]
     pub fn change(&mut self)
+        requires closes { self.old.member.slots.closes ≡ None }
         ensures own { (given : List ℕ) × (self.new.member.own ≡ settled (all_awaiting given self.old.member.own)) × (self.old.member.due ≡ [] → given ≡ []) }
         ensures known { KnowsOn (known_of self.old) (known_of self.new) }
         ensures rest { rest_of self.new ≡ rest_of self.old }
@@ -290,7 +294,7 @@ impl<T: Item<T>, J: Job> LocalGiver<'_, T, J> {
     pub fn close_collector(&mut self, collector: RawRight) -> Result<(), (RawRight, Refused)>
         requires home { raw_home_of collector ≡ (home_in self.old.member).cells }
         requires settled { self.old.member.due ≡ [] }
-        requires open { self.old.member.slots.closes ≡ None }
+        requires closes { self.old.member.slots.closes ≡ None }
         ensures own { MatchResult result (λ _. IsCollected self.old.member.own self.new.member.own) (λ _. self.new ≡ self.old) }
         ensures known { KnowsOn (known_of self.old) (known_of self.new) }
         ensures rest { rest_of self.new ≡ rest_of self.old }

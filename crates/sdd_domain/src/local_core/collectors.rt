@@ -1,5 +1,5 @@
 //! Private items: a participant collects one, takes those for a collector out of its bags, and empties what waits for it.
-ghost use Rattle.std.specs.Prelude.{◌≡◌, ◌<◌, ℕ, [], ◌∷◌, IfSome, IsTrue, MatchOption, MatchResult, Some, None, option_map};
+ghost use Rattle.std.specs.Prelude.{◌≡◌, ◌<◌, ℕ, List, [], ◌∷◌, IfSome, IsTrue, MatchBool, MatchOption, MatchResult, Some, None, option_map};
 ghost use base.Stored.{Gv};
 ghost use Rattle.sdd_participants.specs.Slab.{entry_at};
 ghost use Rattle.sdd_participants.specs.declared.waiting.LimboEntry.{LimboEntry as Entry};
@@ -15,12 +15,12 @@ ghost use Rattle.sdd_domain.specs.SpaceIds.{home_in, cells_home};
 ghost use Rattle.sdd_domain.specs.Items.{slots_home, HasValue};
 ghost use Rattle.sdd_domain.specs.Cells.{FreesAt};
 ghost use Rattle.sdd_domain.specs.LocalState.{HasOpenGuard, IsLone, KnowsOwner, LocalState};
-ghost use Rattle.sdd_domain.specs.Collectors.{BeginsClose, EmptiesAt, GoesFirst, IsClosing, OwnerCollected, ends_close, takes_for};
+ghost use Rattle.sdd_domain.specs.Collectors.{BeginsClose, ClaimsFirst, EmptiesAt, LosesItem, GoesFirst, IsClosing, OwnerCollected, ends_close, takes_for};
 
 use crate::holding::none_is_open;
 use crate::local_core::LocalCore;
 use crate::local_core::cells::MOST_CELLS;
-use crate::private_items::{empty_anothers, empty_own};
+use crate::private_items::{claim_back, empty_anothers, empty_own};
 use sdd_atomics::steps::cells::{cut_right, take_in_right};
 use sdd_atomics::steps::collectors::{begin_close, collect, end_close};
 use sdd_core::Refused;
@@ -55,12 +55,31 @@ impl<'d, T: Item<T>, J: Job> LocalCore<'d, T, J> {
         true
     }
 
+    /// Claims the item of this slot that is due before all others, if it waits for a collector: it waits as any other from then on. False where the close of its
+    /// collector came first: then the item is let go of, and due no more.
+    #[inline]
+    pub(crate) fn claim_first(&mut self, slot: u32) -> bool
+        requires first { (rest : List Entry) × (self.old.due ≡ item slot ∷ rest) }
+        requires closes { self.old.slots.closes ≡ None }
+        ensures { MatchBool result (ClaimsFirst slot self.old self.new) (LosesItem slot self.old self.new) }
+    {
+        let Some(collector) = self.privates.take(slot) else {
+            return true;
+        };
+        let board = &self.domain.board;
+        if claim_back(board, &mut self.token, &mut self.known, slot, collector) {
+            return true;
+        }
+        self.due.next();
+        false
+    }
+
     /// Begins to close a collector, where no guard is open at any place, the own one too. The right to its cell is kept for `end_close`.
     ///
     /// `GuardOpen` where one is: the right comes back, and nothing has changed.
     pub(crate) fn begin_close(&mut self, collector: RawRight) -> Result<Witness, (RawRight, Refused)>
         requires home { raw_home_of collector ≡ cells_home self.old.home }
-        requires open { self.old.slots.closes ≡ None }
+        requires closes { self.old.slots.closes ≡ None }
         ensures begun { MatchResult result
             (λ right. BeginsClose (raw_number_of collector) self.old self.new × (right.table_id ≡ self.old.home)
             × (right.views ≡ witness_of_cell (raw_number_of collector) of_closed))

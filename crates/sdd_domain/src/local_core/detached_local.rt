@@ -1,5 +1,5 @@
 //! A participant without its domain, between its end and the close of the domain.
-ghost use Rattle.std.specs.Prelude.{◌≡◌, [], MatchResult};
+ghost use Rattle.std.specs.Prelude.{◌≡◌, [], None, MatchResult};
 ghost use Rattle.sdd_domain.specs.Domain.{home_of, book_of};
 ghost use Rattle.sdd_domain.specs.LocalState.{HasOpenGuard};
 
@@ -58,7 +58,7 @@ impl<J: Job> Model for DetachedLocal<J> {
       collectors = d.privates;
     } };
 
-    ghost invariant = { λ d. IsDormant d.limits d.place d.own d.due d.known.slots d.jobs d.tenure d.token d.tally };
+    ghost invariant = { λ d. IsDormant d.limits d.place d.own d.due d.known.slots d.jobs d.privates d.tenure d.token d.tally };
 }
 
 impl<T: Item<T>, J: Job> LocalCore<'_, T, J> {
@@ -66,6 +66,7 @@ impl<T: Item<T>, J: Job> LocalCore<'_, T, J> {
     pub fn rest(self) -> DetachedLocal<J>
         requires shut { ¬ (HasOpenGuard self) }
         requires settled { self.due ≡ [] }
+        requires closes { self.slots.closes ≡ None }
         ensures { result ≡ self.entry }
     {
         let LocalCore {
@@ -114,6 +115,7 @@ impl<J: Job> DetachedLocal<J> {
         requires home { (self.home ≡ home_of domain.now) × (self.book ≡ book_of domain.now) }
         ensures shut { ¬ (HasOpenGuard self) }
         ensures settled { self.due ≡ [] }
+        ensures closes { self.slots.closes ≡ None }
         ensures same { MatchResult result (λ membership. membership ≡ self) (λ dormant. dormant ≡ self) }
     {
         if self.limits != domain.limits {

@@ -113,7 +113,7 @@ invariant_of-self g c =
       i.1,
       i.2,
       subst (AreLentTo l.tenure.round) (sym (gone.others ∙ ap (λ (x : Seat ValueFraction View). x.me.1) same)) i.3,
-      subst (λ (z : ℕ × KnownWaiting). IsReady b l.own l.due z.0 l.jobs z.1)
+      subst (λ (z : ℕ × KnownWaiting). IsReady b l.own l.due z.0 l.jobs l.privates z.1)
           (λ d. (sym c.remember.ensures.slots d, sym (ap (λ (v : View). known_waiting v.slots) here) d)) i.4,
       subst (λ (x : Tally). IsTallied 0 x u.me.0.stakes.counts) (sym c.count_in_place.ensures)
           (subst (IsTallied 0 (one_in_place l.tally)) (sym (ap (λ (v : View). v.stakes.counts) here))
@@ -140,7 +140,7 @@ invariant_of-self-in-None g c =
       i.1,
       i.2,
       subst (AreLentTo l.tenure.round) (sym (gone.others ∙ ap (λ (x : Seat ValueFraction View). x.me.1) same)) i.3,
-      subst (IsReady b l.own l.due l.known.slots l.jobs) (sym (ap (λ (v : View). known_waiting v.slots) here)) i.4,
+      subst (IsReady b l.own l.due l.known.slots l.jobs l.privates) (sym (ap (λ (v : View). known_waiting v.slots) here)) i.4,
       subst (IsTallied 0 l.tally) (sym (ap (λ (v : View). v.stakes.counts) here)) i.5,
     )
 
@@ -196,7 +196,7 @@ invariant_of-self-in-Err g c =
       i.1,
       i.2,
       subst (AreLentTo l.tenure.round) (sym (e.2 ∙ ap (λ (x : Seat ValueFraction View). x.me.1) same)) i.3,
-      subst (IsReady b l.own l.due l.known.slots l.jobs) (sym (ap (λ (v : View). known_waiting v.slots) here)) i.4,
+      subst (IsReady b l.own l.due l.known.slots l.jobs l.privates) (sym (ap (λ (v : View). known_waiting v.slots) here)) i.4,
       subst (IsTallied 0 l.tally) (sym (ap (λ (v : View). v.stakes.counts) here)) i.5,
     )
 

@@ -261,7 +261,7 @@ invariant_of-self g c =
       i.1,
       i.2,
       subst (AreLentTo l.tenure.round) (sym (others ∙ ap (λ (x : Seat ValueFraction View). x.me.1) same)) i.3,
-      subst (IsReady b l.own l.due l.known.slots l.jobs) (sym (ap (λ (v : View). known_waiting v.slots) here)) i.4,
+      subst (IsReady b l.own l.due l.known.slots l.jobs l.privates) (sym (ap (λ (v : View). known_waiting v.slots) here)) i.4,
       subst (IsTallied 0 l.tally) (sym (ap (λ (v : View). v.stakes.counts) here)) i.5,
     )
 
@@ -300,7 +300,7 @@ invariant_of-self-in-Err g c =
       i.1,
       i.2,
       subst (AreLentTo l.tenure.round) (sym (e.2 ∙ ap (λ (x : Seat ValueFraction View). x.me.1) same)) i.3,
-      subst (IsReady b l.own l.due l.known.slots l.jobs) (sym (ap (λ (v : View). known_waiting v.slots) here)) i.4,
+      subst (IsReady b l.own l.due l.known.slots l.jobs l.privates) (sym (ap (λ (v : View). known_waiting v.slots) here)) i.4,
       subst (IsTallied 0 l.tally) (sym (ap (λ (v : View). v.stakes.counts) here)) i.5,
     )
 

@@ -49,7 +49,7 @@ invariant_of-result g c = let jobs : ℕ = c.args.domain.now.limits.jobs in let 
       none_lent _ _ (search rules),
       record {
         bags = nothing_there _ _ _ _ none none_private (search rules) (search rules);
-        uncollected = none_private;
+        told = told_nothing _ _ _ (? ) none_private;
         large = search rules;
         slots = search rules;
         places = ap length (blank_jobs g c) ∙ (length-replicate jobs None ∙ sym (ap (λ (z : Sizes). z.jobs) c.args.domain.now.limited.1));
