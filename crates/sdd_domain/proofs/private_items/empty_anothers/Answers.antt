@@ -6,7 +6,6 @@ use Rattle.sdd_views.specs.declared.View.{View}
 use Rattle.sdd_word_invariant.specs.Codes.{emptying_word, private_word}
 use Rattle.sdd_word_invariant.specs.CollectorSteps.{empties_now}
 use Rattle.sdd_word_invariant.specs.SlotSteps.{Knew}
-use Rattle.sdd_domain_invariant.specs.FractionsAtHome.{CarriedFractions}
 use Rattle.sdd_domain_invariant.specs.FractionSteps.{SeatState, CarriesAll}
 use Rattle.sdd_atomics.specs.DomainTable.{book_of, places_of}
 use Rattle.sdd_domain.specs.PrivateItems.{EmptiesAnothers}
