@@ -105,8 +105,11 @@ module _ (collector slot x : ℕ) (s t : Seat ValueFraction View) (m : MissesOne
   pub lost : s.me.0.slots.emptied ≡ [] → WaitsFor collector s.me.0 slot → IsLost slot x t.me.0
   lost none has = by_word (IsLost slot x t.me.0)
       (λ is e. inl (is, ap (λ (u : View). u.slots.emptied) e ∙ ap (λ (l : List ℕ). slot ∷ l) none))
-      (λ is e. inr (is, ap (λ (u : View). u.slots.emptied) e ∙ none,
-      subst (λ (u : View). WaitsFor no_collector u slot) (sym e) (now_orphan collector slot s.me.0 has)))
+      (λ is e. inr (
+        is,
+        ap (λ (u : View). u.slots.emptied) e ∙ none,
+        subst (λ (u : View). WaitsFor no_collector u slot) (sym e) (now_orphan collector slot s.me.0 has),
+      ))
 
   abbrev given_up : View → List ℕ → View
   given_up u words = record u { slots = record u.slots { privates = without_private slot u.slots.privates; emptied = [] }; words = words }
@@ -132,7 +135,8 @@ module _ (collector slot x : ℕ) (s t : Seat ValueFraction View) (m : MissesOne
       others = gone.seat.others ∙ m.others;
       view = gone.seat.view ∙ view_gone none gone.words;
     };
-    notes = let P : View → Type 0 = λ v. NotesOf slot left_word v gone.words in by_word (P s.me.0) (λ _ e. subst P e gone.notes) (λ _ e. subst P e gone.notes);
+    notes = let P : View → Type 0 = λ v. NotesOf slot left_word v gone.words in
+        by_word (P s.me.0) (λ _ e. subst P e gone.notes) (λ _ e. subst P e gone.notes);
     word = x;
     knew = m.knew;
     claimed = m.miss;
