@@ -307,7 +307,6 @@ impl<T: Item<T>, J: Job> LocalGiver<'_, T, J> {
     {
         let number = collector.number();
         let right = self.membership.begin_close(collector)?;
-        self.membership.take_for(number);
         self.empty_own(number);
         self.empty_others(number);
         self.membership.end_close(number, right);
