@@ -1,5 +1,5 @@
 //! Private items: a participant collects one, takes those for a collector out of its bags, and empties what waits for it.
-ghost use Rattle.std.specs.Prelude.{◌≡◌, ◌<◌, ℕ, [], ◌∷◌, IfSome, IsTrue, MatchOption, MatchResult, Some, None, option_map};
+ghost use Rattle.std.specs.Prelude.{◌≡◌, ◌<◌, ℕ, List, [], ◌∷◌, IfSome, IsTrue, MatchOption, MatchResult, Some, None, option_map};
 ghost use base.Stored.{Gv};
 ghost use Rattle.sdd_participants.specs.Slab.{entry_at};
 ghost use Rattle.sdd_participants.specs.declared.waiting.LimboEntry.{LimboEntry as Entry};
