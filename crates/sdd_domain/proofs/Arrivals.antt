@@ -105,13 +105,13 @@ module _ (count : ℕ) (own : Participant) where
   bags_aged n s taken t none = dite (ℕ_discrete own.found count)
       (λ e. subst (λ (z : KnownWaiting × List Waiting × List LimboEntry). AreInBags n z.0 z.1 z.2)
       (λ d. (
-        record { plain = sym (aged_stayed s.waits e) d; private = sym (privates_stayed s.privates e) d },
+        record { plain = sym (aged_stayed s.waits e) d; private = sym (privates_stayed s.privates e) d; closes = s.closes },
         (sym (stayed e) d).bags.waiting,
         (none ∙ sym (due_stayed e)) d,
       )) t)
       (λ ne. subst (λ (z : KnownWaiting × List Waiting × List LimboEntry). AreInBags n z.0 z.1 z.2)
       (λ d. (
-        record { plain = sym (aged_moved s.waits ne) d; private = sym (privates_moved s.privates ne) d },
+        record { plain = sym (aged_moved s.waits ne) d; private = sym (privates_moved s.privates ne) d; closes = s.closes },
         (sym (moved ne) d).bags.waiting,
         sym (due_moved ne) d,
       )) (all_older n (known_waiting s) own.bags.waiting taken t none))

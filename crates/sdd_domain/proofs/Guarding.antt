@@ -119,7 +119,8 @@ module _ {T J : Type 0} (v : LocalModel T J) (m : LocalState J) {A : Type 0} (Is
 
   pub nested_sound : (r : Result A Refused) → Did r → HasOpenGuard v.member → WordsMatchValues v.member v.entries → IsSound holds v → IsSound holds
       (record v { member = m })
-  nested_sound (Ok a) did some_open tied sound = sound_opened holds v m sound (ap (λ (y : LocalState J). y.due) did.2 ∙ sound.settled) (ap home_in did.2)
+  nested_sound (Ok a) did some_open tied sound = sound_opened holds v m sound (ap (λ (y : LocalState J). y.due) did.2 ∙ sound.settled)
+      (ap (λ (y : LocalState J). y.slots.closes) did.2 ∙ sound.closes) (ap home_in did.2)
       (world_nested did.2 some_open tied)
   nested_sound (Err e) did some_open tied sound = subst (λ (y : LocalState J). IsSound holds (record v { member = y })) (sym did.2) sound
 

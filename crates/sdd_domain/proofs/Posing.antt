@@ -136,7 +136,6 @@ module _ (b : DomainTable) (p : ℕ) where
           looked = q.quiet.looked;
           over = q.quiet.over;
           emptied = q.quiet.emptied;
-          closes = q.quiet.closes;
           empties = q.quiet.empties;
           left = q.quiet.left;
         };
@@ -186,7 +185,6 @@ module _ (b : DomainTable) (p : ℕ) where
           looked = q.quiet.looked;
           over = q.quiet.over;
           emptied = q.quiet.emptied;
-          closes = q.quiet.closes;
           empties = q.quiet.empties;
           left = q.quiet.left;
         };
@@ -225,7 +223,6 @@ module _ (b : DomainTable) (p : ℕ) where
       looked = q.quiet.looked;
       over = q.quiet.over;
       emptied = q.quiet.emptied;
-      closes = q.quiet.closes;
       empties = q.quiet.empties;
       left = q.quiet.left;
     };
@@ -277,7 +274,6 @@ module _ (b : DomainTable) (p : ℕ) where
           looked = q.quiet.looked;
           over = q.quiet.over;
           emptied = q.quiet.emptied;
-          closes = q.quiet.closes;
           empties = q.quiet.empties;
           left = q.quiet.left;
         };
@@ -332,7 +328,6 @@ module _ (b : DomainTable) (p : ℕ) where
             looked = q.quiet.looked;
             over = q.quiet.over;
             emptied = q.quiet.emptied;
-            closes = q.quiet.closes;
             empties = q.quiet.empties;
             left = q.quiet.left;
           };
@@ -378,7 +373,6 @@ module _ (b : DomainTable) (p : ℕ) where
           looked = q.quiet.looked;
           over = q.quiet.over;
           emptied = q.quiet.emptied;
-          closes = q.quiet.closes;
           empties = q.quiet.empties;
           left = q.quiet.left;
         };
@@ -481,7 +475,6 @@ module _ (b : DomainTable) (p : ℕ) where
           looked = q.quiet.looked;
           over = q.quiet.over;
           emptied = q.quiet.emptied;
-          closes = q.quiet.closes;
           empties = q.quiet.empties;
           left = q.quiet.left;
         };

@@ -34,16 +34,15 @@ pub record IsNear (v : EpochView) : Type 0 where
   pub since : v.since ≤ v.known
   pub known : v.known ≤ v.since + 1
 
--- no slot is held, no count is raised past its bound, and no owner is with the participant itself: each is a token of its own. It closes no collector, empties
--- no slot, and found none emptied
+-- no slot is held, no count is raised past its bound, and no owner is with the participant itself: each is a token of its own. It looks at no place unless it
+-- closes a collector, empties no slot, and found none emptied
 pub record IsQuiet (v : SlotsView) : Type 0 where
   pub owns : v.owns ≡ []
   pub drawn : v.drawn ≡ []
   pub holds : v.holds ≡ None
-  pub looked : v.looked ≡ 0
+  pub looked : v.closes ≡ None → v.looked ≡ 0
   pub over : v.over ≡ None
   pub emptied : v.emptied ≡ []
-  pub closes : v.closes ≡ None
   pub empties : v.empties ≡ None
   pub left : v.left ≡ false
 

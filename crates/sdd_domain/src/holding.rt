@@ -132,6 +132,7 @@ pub fn hold_alone(
     requires inside { slot < slots_of board.now }
     requires place { HasPlace (epoch token.old) × ((epoch token.old).place < places_of board.now) × ((epoch token.old).all ≡ places_of board.now) }
     requires bare { IsBare (view token.old) }
+    requires closes { (slots token.old).closes ≡ None }
     requires owner { (owner.table_id ≡ id_of board.now) × ((value : Gv) × (owner.views ≡ witness_of_owner slot shared value)) }
     ensures { MatchResult result
         (λ _. (value : Gv) → owner.views ≡ witness_of_owner slot shared value → IsHeldBy slot shared value (places_of board.now) token.old token.new)
@@ -267,6 +268,7 @@ fn try_to_go<T: Item<T>>(
     requires inside { slot < slots_of board.now }
     requires place { HasPlace (epoch token.old) × ((epoch token.old).place < places_of board.now) × ((epoch token.old).all ≡ places_of board.now) }
     requires bare { IsBare (view token.old) }
+    requires closes { (slots token.old).closes ≡ None }
     requires owner { (owner.table_id ≡ id_of board.now)
         × ((value : Gv) × (owner.views ≡ witness_of_owner slot shared value) × IsGripOf (book_of board.now) slot value grip) }
     ensures { MatchResult result
@@ -310,6 +312,7 @@ pub fn go_in_place<T: Item<T>>(
     requires inside { slot < slots_of board.now }
     requires place { HasPlace (epoch token.old) × ((epoch token.old).place < places_of board.now) × ((epoch token.old).all ≡ places_of board.now) }
     requires bare { IsBare (view token.old) }
+    requires closes { (slots token.old).closes ≡ None }
     requires owner { (owner.table_id ≡ id_of board.now)
         × ((value : Gv) × (owner.views ≡ witness_of_owner slot shared value) × IsGripOf (book_of board.now) slot value grip) }
     requires tries { 0 < tries }

@@ -320,6 +320,7 @@ impl<T: Item<T>, J: Job> LocalGiver<'_, T, J> {
     ) -> Result<bool, (Right, Refused)>
         requires home { home_of right ≡ slots_home self.old }
         requires kind { kind_of right ≡ kind }
+        requires closes { self.old.member.slots.closes ≡ None }
         ensures own { MatchResult result (λ _. KeepsMoreWaiting self.old.member.own self.new.member.own) (λ _. self.new.member.own ≡ self.old.member.own) }
         ensures known { KnowsOn (known_of self.old) (known_of self.new) }
         ensures kept { MatchResult result
