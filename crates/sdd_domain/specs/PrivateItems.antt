@@ -1,15 +1,15 @@
 -- Private items: what claiming one, letting it go and emptying it make of what a participant knows
-use Rattle.std.specs.Prelude.{◌≡◌, ◌≢◌, ℕ, List, Bool, true, false}
+use Rattle.std.specs.Prelude.{◌≡◌, ◌≢◌, ◌⊎◌, ℕ, List, [], ◌∷◌, Bool, true, false}
 use base.Stored.{Gv}
 use Rattle.atomic_table.specs.declared.shared.Seat.{Seat}
 use Rattle.sdd_shared_values.specs.declared.value_fraction.ValueFraction.{ValueFraction}
 use Rattle.sdd_views.specs.declared.PrivateItem.{PrivateItem}
 use Rattle.sdd_views.specs.declared.ShownValue.{ShownValue}
 use Rattle.sdd_views.specs.declared.View.{View}
-use Rattle.sdd_word_invariant.specs.Codes.{free_word, private_word, waiting_word}
+use Rattle.sdd_word_invariant.specs.Codes.{free_word, private_word, waiting_word, emptied_word, emptying_word}
 use Rattle.sdd_word_invariant.specs.Epoch.{IsLone}
 use Rattle.sdd_word_invariant.specs.Collectors.{HasPrivate}
-use Rattle.sdd_word_invariant.specs.CollectorSteps.{reclaimed, without_private}
+use Rattle.sdd_word_invariant.specs.CollectorSteps.{WaitsFor, no_collector, reclaimed, without_private}
 use Rattle.sdd_word_invariant.specs.SlotSteps.{Knew, noted}
 use Rattle.sdd_domain_invariant.specs.FractionSteps.{with_gone}
 use Rattle.sdd_domain_invariant.specs.CollectorSteps.{ShowsPrivate, recollecting}
@@ -19,6 +19,23 @@ use Rattle.sdd_domain.specs.Values.{WasFilled}
 -- a view that has no private item of the slot any more, and these words
 abbrev pub without_kept : ℕ → View → View
 without_kept slot v = record v { slots = record v.slots { privates = without_private slot v.slots.privates } }
+
+-- the slot's private item was claimed by a close, as the word says that was found: the close has emptied it, or empties it, and it waits for no collector
+abbrev pub IsLost : ℕ → ℕ → View → Type 0
+IsLost slot found v = ((found ≡ emptied_word) × (v.slots.emptied ≡ slot ∷ []))
+    ⊎ ((found ≡ emptying_word) × (v.slots.emptied ≡ []) × WaitsFor no_collector v slot)
+
+-- its slot is found emptied
+abbrev pub FindsEmptied : ℕ → Seat ValueFraction View → Seat ValueFraction View → Type 0
+FindsEmptied slot s s' = IsWith (record s.me.0 { slots = record s.me.0.slots { emptied = slot ∷ [] } }) s s'
+
+-- one that was lost so is private with the participant no more, whoever gives the slot back
+pub record GivesUpLost (slot : ℕ) (s s' : Seat ValueFraction View) : Type 0 where
+  pub words : List ℕ
+  pub seat : IsWith (record s.me.0 {
+    slots = record s.me.0.slots { privates = without_private slot s.me.0.slots.privates; emptied = [] };
+    words = words;
+  }) s s'
 
 -- the slot's private item was let go of, since a close had claimed it
 pub record LetsGoOf (collector slot : ℕ) (s s' : Seat ValueFraction View) : Type 0 where

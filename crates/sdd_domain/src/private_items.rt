@@ -1,18 +1,20 @@
 //! Items that wait for a collector: what becomes of one that is due, and how a close takes the value of one out before.
-ghost use Rattle.std.specs.Prelude.{◌≡◌, ◌≢◌, ◌≤◌, ◌<◌, ◌⊎◌, ℕ, [], None, false, IfSome, MatchOption};
-ghost use Rattle.sdd_shared_values.specs.SharedValues.{showing};
+ghost use Rattle.std.specs.Prelude.{◌≡◌, ◌≢◌, ◌≤◌, ◌<◌, ◌⊎◌, ℕ, [], None, false, IfSome, MatchBool, MatchOption};
+ghost use Rattle.sdd_shared_values.specs.SharedValues.{IsNoValueCode, showing};
 ghost use Rattle.sdd_word_invariant.specs.Epoch.{HasPlace, IsLone};
 ghost use Rattle.sdd_word_invariant.specs.Codes as codes;
 ghost use Rattle.sdd_word_invariant.specs.SlotSteps.{Knew};
-ghost use Rattle.sdd_word_invariant.specs.Collectors.{Closes};
+ghost use Rattle.sdd_word_invariant.specs.Collectors.{Closes, Empties};
 ghost use Rattle.sdd_word_invariant.specs.CollectorSteps.{WaitsFor};
+ghost use Rattle.sdd_domain_invariant.specs.FractionSteps.{CarriesAll, moving};
 ghost use Rattle.sdd_atomics.specs.DomainTable.{id_of, book_of, places_of, slots_of};
 ghost use Rattle.sdd_atomics.specs.DomainSeat.{view, epoch, slots, Knows};
 ghost use Rattle.sdd_space.specs.OwnerOrCell.{AreOf};
 ghost use Rattle.sdd_domain.specs.SpaceIds.{home_of_slots};
 ghost use Rattle.sdd_domain.specs.DomainValues.{IsShelfOf};
 ghost use Rattle.sdd_domain.specs.Claims.{IsUnmoved};
-ghost use Rattle.sdd_domain.specs.PrivateItems.{IsClaimedBack, LetsGoOf, EmptiesOwn, EmptiesAnothers};
+ghost use Rattle.sdd_domain.specs.PrivateItems.{IsClaimedBack, IsLost, FindsEmptied, GivesUpLost, LetsGoOf, EmptiesOwn, EmptiesAnothers};
+ghost use Rattle.sdd_domain.specs.Values.{WasFilled};
 
 use crate::free_slot_hints::FreeSlotHints;
 use crate::holds_own_domain::HoldsOwnDomain;
@@ -29,6 +31,23 @@ use sdd_atomics::{DomainSeat, DomainTable};
 use sdd_shared_values::SharedValues;
 use sdd_space::Item;
 
+/// Leaves a private item of the participant's own to the close that has claimed it, as the word says that was found, where the close is not done with it yet.
+/// Else its slot is found emptied.
+fn try_to_leave(board: &DomainTable, token: &mut DomainSeat, slot: u32, found: u64) -> bool
+    requires home { token.old.table_id ≡ id_of board.now }
+    requires knows { Knows board.now token.old }
+    requires inside { slot < slots_of board.now }
+    requires place { HasPlace (epoch token.old) }
+    requires rests { (view token.old).stakes.moves ≡ None }
+    requires lost { IsLost slot found (view token.old) }
+    ensures { MatchBool result (GivesUpLost slot token.old token.new) (FindsEmptied slot token.old token.new) }
+{
+    if found != EMPTYING {
+        return false;
+    }
+    leave_to_close(board, token, slot) == EMPTYING
+}
+
 /// Lets go of a private item of the participant's own that a close has claimed, whose word was found to be this. Where the close is done with it, the slot
 /// is given back, and remembered; else the close gives it back.
 fn let_go(
@@ -37,8 +56,18 @@ fn let_go(
     known: &mut FreeSlotHints,
     slot: u32,
     found: u64,
-) {
-    if found == EMPTYING && leave_to_close(board, token, slot) == EMPTYING {
+)
+    requires home { token.old.table_id ≡ id_of board.now }
+    requires knows { Knows board.now token.old }
+    requires inside { slot < slots_of board.now }
+    requires place { HasPlace (epoch token.old) }
+    requires rests { (view token.old).stakes.moves ≡ None }
+    requires known { known.old.slots ≡ slots_of board.now }
+    requires lost { IsLost slot found (view token.old) }
+    ensures gone { GivesUpLost slot token.old token.new }
+    ensures known { known.new.slots ≡ known.old.slots }
+{
+    if try_to_leave(board, token, slot, found) {
         return;
     }
     give_private_back(board, token, slot);
@@ -79,7 +108,20 @@ fn take_claimed<T: Item<T>>(
     shelf: &SharedValues<T, HoldsOwnDomain>,
     token: &mut DomainSeat,
     slot: u32,
-) -> T {
+) -> T
+    requires home { token.old.table_id ≡ id_of board.now }
+    requires shelf { IsShelfOf board.now shelf.now }
+    requires knows { Knows board.now token.old }
+    requires inside { slot < slots_of board.now }
+    requires place { HasPlace (epoch token.old) }
+    requires rests { (view token.old).stakes.moves ≡ None }
+    requires empties { Empties (view token.old) slot }
+    ensures home { (token.new.table_id ≡ token.old.table_id) × (token.new.id ≡ token.old.id) }
+    ensures view { view token.new ≡ moving slot (view token.old) }
+    ensures row { CarriesAll (book_of board.now) slot (places_of board.now) 0 IsNoValueCode token.old.me.1 token.new.me.1 }
+    ensures fits { AreOf (home_of_slots (id_of board.now) (book_of board.now) (slots_of board.now)) (T.holds result) }
+    ensures lone { IsLone (epoch token.old) → WasFilled slot (showing T.row result) (view token.old) }
+{
     let rest = take_private(board, token, slot);
     join_rest(board, token, slot, rest);
     let count = board.places() + 1;
