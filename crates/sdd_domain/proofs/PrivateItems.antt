@@ -1,29 +1,29 @@
 -- What a participant knows once it has let go of a private item that a close had claimed, and once it has emptied one
 use Rattle.std.proofs.Common.{◌≡◌, ◌≢◌, ◌⊎◌, ℕ, suc, List, [], ◌∷◌, map, drop, eqb, eq-eqb, not, sym, refl, ap, ◌∙◌, subst, ⊎_elim, inl, inr, arith}
-use Rattle.std.specs.Prelude.{◌<◌, Bool, true, false, None, Some, MatchBool, slice_set, if◌then◌else◌}
+use Rattle.std.specs.Prelude.{◌<◌, Bool, true, false, None, MatchBool, slice_set, if◌then◌else◌}
 use Rattle.std.proofs.lemmas.List.{set-set}
-use base.Stored.{Gv}
 use mathlib.Core.Bool.{cond}
+use base.Stored.{Gv}
 use Rattle.atomic_table.proofs.Lists.{at_map}
 use Rattle.atomic_table.specs.declared.shared.Seat.{Seat}
 use Rattle.sdd_shared_values.specs.declared.value_fraction.ValueFraction.{ValueFraction}
+use Rattle.sdd_shared_values.specs.SharedValues.{IsNoValueCode}
 use Rattle.sdd_views.specs.declared.PrivateItem.{PrivateItem}
 use Rattle.sdd_views.specs.declared.View.{View}
+use Rattle.sdd_views.specs.declared.Sizes.{Sizes}
 use Rattle.sdd_word_invariant.specs.Codes.{private_word, emptying_word, emptied_word, free_word, left_word}
 use Rattle.sdd_word_invariant.specs.CollectorSteps.{WaitsFor, no_collector, orphan, orphaned, found_emptied, without_private, empties_now, emptied_now, finds_left, empty_given_back, own_given_back}
 use Rattle.sdd_word_invariant.specs.SlotSteps.{Knew, behind, noted}
 use Rattle.sdd_word_invariant.specs.Epoch.{IsLone}
-use Rattle.sdd_shared_values.specs.SharedValues.{IsNoValueCode}
-use Rattle.sdd_views.specs.declared.Sizes.{Sizes}
 use Rattle.sdd_domain_invariant.specs.FractionsAtHome.{CarriedFractions}
 use Rattle.sdd_domain_invariant.specs.FractionSteps.{SeatState, CarriesAll, giving, moving, with_gone}
+use Rattle.sdd_domain_invariant.specs.CollectorSteps.{LeavesOneToClose, ReclaimsOne, EmptiesOwnOne, EmptiedOne, GivesOneEmptyBack, GivesOneOwnBack}
 use Rattle.sdd_atomics.specs.declared.domain_table.DomainTable.{DomainTable}
 use Rattle.sdd_atomics.specs.DomainTable.{book_of, places_of}
+use Rattle.sdd_atomics.specs.DomainSeat.{Knows, Moved}
 use Rattle.sdd_domain.specs.Values.{WasFilled}
 use Rattle.sdd_domain.proofs.Moving.{rest_out}
-use Rattle.sdd_domain_invariant.specs.CollectorSteps.{LeavesOneToClose, ReclaimsOne, EmptiesOwnOne, EmptiedOne, GivesOneEmptyBack, GivesOneOwnBack}
-use Rattle.sdd_atomics.specs.DomainSeat.{Knows, Moved}
-use Rattle.sdd_domain.specs.PrivateItems.{IsLost, FindsEmptied, GivesUpLost, LetsGoOf, EmptiesOwn, EmptiesAnothers, without_kept}
+use Rattle.sdd_domain.specs.PrivateItems.{IsLost, FindsEmptied, GivesUpLost, NotesOf, LetsGoOf, EmptiesOwn, EmptiesAnothers, without_kept}
 
 -- ---- what a close has claimed waits for no collector
 orphan_here : (b : Bool) (x : PrivateItem) → (if b then record x { collector = no_collector } else x).item ≡ x.item
@@ -81,6 +81,7 @@ module _ (slot r : ℕ) (s t : Seat ValueFraction View) (none : s.me.0.slots.emp
             words = noted slot left_word v;
           });
         };
+        notes = inr refl;
       })) k) c.3
 
 -- the token before and after a try to claim an item that waits for a collector, where a close had claimed it
@@ -95,20 +96,20 @@ pub record MissesOne (collector slot x : ℕ) (s t : Seat ValueFraction View) : 
   pub knew : Knew slot s.me.0 x
 
 module _ (collector slot x : ℕ) (s t : Seat ValueFraction View) (m : MissesOne collector slot x s t) where
-  by_word : (P : Type 0) → (x ≡ emptied_word → t.me.0 ≡ found_emptied slot s.me.0 → P) → (x ≡ emptying_word → t.me.0 ≡ orphaned slot s.me.0 → P) → P
+  by_word : (P : Type 0) → (x ≡ emptied_word → t.me.0 ≡ found_emptied slot s.me.0 → P)
+      → (x ≡ emptying_word → t.me.0 ≡ orphaned slot s.me.0 → P) → P
   by_word P one two = ⊎_elim (λ (e : x ≡ private_word collector). absurd (m.miss e))
       (λ (k : (x ≡ emptied_word) ⊎ (x ≡ emptying_word)). ⊎_elim (λ (e : x ≡ emptied_word). one e (m.done e))
       (λ (e : x ≡ emptying_word). two e (m.busy e)) k) m.which
 
-  -- what is known of all but slots is as before
-  pub as_before : (P : View → Type 0) → P (found_emptied slot s.me.0) → P (orphaned slot s.me.0) → P t.me.0
-  as_before P one two = by_word (P t.me.0) (λ _ e. subst P (sym e) one) (λ _ e. subst P (sym e) two)
-
   pub lost : s.me.0.slots.emptied ≡ [] → WaitsFor collector s.me.0 slot → IsLost slot x t.me.0
   lost none has = by_word (IsLost slot x t.me.0)
       (λ is e. inl (is, ap (λ (u : View). u.slots.emptied) e ∙ ap (λ (l : List ℕ). slot ∷ l) none))
-      (λ is e. inr (is, ap (λ (u : View). u.slots.emptied) e ∙ none,
-      subst (λ (u : View). WaitsFor no_collector u slot) (sym e) (now_orphan collector slot s.me.0 has)))
+      (λ is e. inr (
+        is,
+        ap (λ (u : View). u.slots.emptied) e ∙ none,
+        subst (λ (u : View). WaitsFor no_collector u slot) (sym e) (now_orphan collector slot s.me.0 has),
+      ))
 
   abbrev given_up : View → List ℕ → View
   given_up u words = record u { slots = record u.slots { privates = without_private slot u.slots.privates; emptied = [] }; words = words }
@@ -134,6 +135,8 @@ module _ (collector slot x : ℕ) (s t : Seat ValueFraction View) (m : MissesOne
       others = gone.seat.others ∙ m.others;
       view = gone.seat.view ∙ view_gone none gone.words;
     };
+    notes = let P : View → Type 0 = λ v. NotesOf slot left_word v gone.words in
+        by_word (P s.me.0) (λ _ e. subst P e gone.notes) (λ _ e. subst P e gone.notes);
     word = x;
     knew = m.knew;
     claimed = m.miss;
@@ -217,6 +220,7 @@ module _ (b : DomainTable) (slot : ℕ) (s t u : Seat ValueFraction View) (knows
             words = slice_set (noted slot emptying_word v) (behind v.sizes slot) emptied_word;
           }));
         };
+        notes = inr (set-set v.words (behind v.sizes slot) emptying_word emptied_word);
         knew = knew;
       }) (λ (e : r ≡ left_word). absurd (ne e)) done.2.2
 
@@ -236,5 +240,6 @@ module _ (b : DomainTable) (slot : ℕ) (s t u : Seat ValueFraction View) (knows
                     words = slice_set (noted slot emptying_word v) (behind v.sizes slot) (free_word 0);
                   }));
             };
+            notes = inl (set-set v.words (behind v.sizes slot) emptying_word (free_word 0));
             knew = knew;
           }

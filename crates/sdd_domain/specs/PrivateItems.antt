@@ -6,7 +6,7 @@ use Rattle.sdd_shared_values.specs.declared.value_fraction.ValueFraction.{ValueF
 use Rattle.sdd_views.specs.declared.PrivateItem.{PrivateItem}
 use Rattle.sdd_views.specs.declared.ShownValue.{ShownValue}
 use Rattle.sdd_views.specs.declared.View.{View}
-use Rattle.sdd_word_invariant.specs.Codes.{free_word, private_word, waiting_word, emptied_word, emptying_word}
+use Rattle.sdd_word_invariant.specs.Codes.{free_word, private_word, waiting_word, emptied_word, emptying_word, left_word}
 use Rattle.sdd_word_invariant.specs.Epoch.{IsLone}
 use Rattle.sdd_word_invariant.specs.Collectors.{HasPrivate}
 use Rattle.sdd_word_invariant.specs.CollectorSteps.{WaitsFor, no_collector, reclaimed, without_private}
@@ -19,6 +19,10 @@ use Rattle.sdd_domain.specs.Values.{WasFilled}
 -- a view that has no private item of the slot any more, and these words
 abbrev pub without_kept : ℕ → View → View
 without_kept slot v = record v { slots = record v.slots { privates = without_private slot v.slots.privates } }
+
+-- of all words only the slot's is noted anew: it is free, or has this one
+abbrev pub NotesOf : ℕ → ℕ → View → List ℕ → Type 0
+NotesOf slot word v words = (words ≡ noted slot (free_word 0) v) ⊎ (words ≡ noted slot word v)
 
 -- the slot's private item was claimed by a close, as the word says that was found: the close has emptied it, or empties it, and it waits for no collector
 abbrev pub IsLost : ℕ → ℕ → View → Type 0
@@ -36,11 +40,13 @@ pub record GivesUpLost (slot : ℕ) (s s' : Seat ValueFraction View) : Type 0 wh
     slots = record s.me.0.slots { privates = without_private slot s.me.0.slots.privates; emptied = [] };
     words = words;
   }) s s'
+  pub notes : NotesOf slot left_word s.me.0 words
 
 -- the slot's private item was let go of, since a close had claimed it
 pub record LetsGoOf (collector slot : ℕ) (s s' : Seat ValueFraction View) : Type 0 where
   pub words : List ℕ
   pub seat : IsWith (record (without_kept slot s.me.0) { words = words }) s s'
+  pub notes : NotesOf slot left_word s.me.0 words
   pub word : ℕ
   pub knew : Knew slot s.me.0 word
   pub claimed : word ≢ private_word collector
@@ -68,4 +74,5 @@ pub record EmptiesOwn (slot : ℕ) (value : Gv) (s s' : Seat ValueFraction View)
 pub record EmptiesAnothers (collector slot : ℕ) (s s' : Seat ValueFraction View) : Type 0 where
   pub words : List ℕ
   pub seat : IsWith (with_gone (record s.me.0 { words = words })) s s'
+  pub notes : NotesOf slot emptied_word s.me.0 words
   pub knew : Knew slot s.me.0 (private_word collector)

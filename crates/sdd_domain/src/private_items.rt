@@ -1,5 +1,5 @@
 //! Items that wait for a collector: what becomes of one that is due, and how a close takes the value of one out before.
-ghost use Rattle.std.specs.Prelude.{◌≡◌, ◌≢◌, ◌≤◌, ◌<◌, ◌⊎◌, ℕ, [], None, false, IfSome, MatchBool, MatchOption};
+ghost use Rattle.std.specs.Prelude.{◌≡◌, ◌≤◌, ◌<◌, [], None, false, IfSome, MatchBool, MatchOption};
 ghost use Rattle.sdd_shared_values.specs.SharedValues.{IsNoValueCode, showing};
 ghost use Rattle.sdd_word_invariant.specs.Epoch.{HasPlace, IsLone};
 ghost use Rattle.sdd_word_invariant.specs.Codes as codes;

@@ -1,12 +1,12 @@
 //! A change reclaims what is due, and a value that is reclaimed gives up what it holds.
-ghost use Rattle.std.specs.Prelude.{◌≡◌, ◌⊎◌, ◌+◌, ◌≤◌, ℕ, true, List, [], None, length, IfErr, IsSome, IsTrue, MatchBool, MatchResult, ◌∷◌};
-ghost use Rattle.sdd_rights.specs.Right.{number_of, home_of, kind_of};
+ghost use Rattle.std.specs.Prelude.{◌≡◌, ◌≢◌, ◌⊎◌, ◌+◌, ◌≤◌, ℕ, true, List, [], length, All, IfErr, IfOk, IsSome, IsTrue, MatchBool, MatchResult, None, Some, ◌∷◌};
+ghost use Rattle.sdd_rights.specs.Right.{number_of, home_of, kind_of, raw_number_of, raw_home_of};
 ghost use Rattle.sdd_rights.specs.StandingKind.{is_shared};
 ghost use Rattle.sdd_standings.specs.Slots.{IsOwnedBy, has_others};
 ghost use Rattle.sdd_space.specs.InPlace.{IsAlone};
 ghost use Rattle.sdd_space.specs.World.{standing_at};
 ghost use Rattle.sdd_space.specs.KnownEpochs.{KnowsOn};
-ghost use Rattle.sdd_space.specs.ParticipantChanges.{KeepsMoreWaiting, all_awaiting};
+ghost use Rattle.sdd_space.specs.ParticipantChanges.{IsCollected, KeepsMoreWaiting, all_awaiting};
 ghost use Rattle.sdd_space.specs.Owned as owned;
 ghost use Rattle.sdd_space.specs.RawCell as raw_cell;
 ghost use Rattle.sdd_space.specs.CallerId.{IsSeated, IsExact};

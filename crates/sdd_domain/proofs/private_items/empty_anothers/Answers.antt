@@ -6,7 +6,6 @@ use Rattle.sdd_views.specs.declared.View.{View}
 use Rattle.sdd_word_invariant.specs.Codes.{emptying_word, private_word}
 use Rattle.sdd_word_invariant.specs.CollectorSteps.{empties_now}
 use Rattle.sdd_word_invariant.specs.SlotSteps.{Knew}
-use Rattle.sdd_domain_invariant.specs.FractionsAtHome.{CarriedFractions}
 use Rattle.sdd_domain_invariant.specs.FractionSteps.{SeatState, CarriesAll}
 use Rattle.sdd_atomics.specs.DomainTable.{book_of, places_of}
 use Rattle.sdd_domain.specs.PrivateItems.{EmptiesAnothers}
@@ -29,7 +28,7 @@ returns-clause-emptied g c = let r = c.requires in let s = c.args.token.now in l
     let knew : Knew slot s.me.0 (private_word collector) = subst (Knew slot s.me.0) hit
     (subst (λ (v : View). Knew slot v c.claim_private.result) look.3.0 claim.2.0.2) in
     let Done : Seat ValueFraction View → Type 0 = EmptiesAnothers collector slot s in elim c.if-finish_emptying-eq-LEFT.branch [
-      then-finish_emptying-eq-LEFT w ↦ subst Done (sym w.token-is)
+      | then-finish_emptying-eq-LEFT w ↦ subst Done (sym w.token-is)
           (another_left c.args.board.now slot s t c.take_claimed-value.new.token r.knows r.rests r.idle.0 claimed same take.home take.view take.row
           (claim.0 ∙ look.0) (claim.1 ∙ look.1) collector c.finish_emptying.result c.finish_emptying.new.token knew c.finish_emptying.ensures
           w.give_empty_back.new.token r.idle.1 w.if-finish_emptying-eq-LEFT.true w.give_empty_back.ensures)
