@@ -4,7 +4,8 @@ use crate::steps::{close, opened, owned, seen};
 use sdd_core::Tag;
 use sdd_participants::Idle;
 use sdd_space::{
-    Cells, Deferrals, Guards, InPlaceItems, Items, Look, RawCells, RawItems, SharedItems,
+    Cells, Collectors, Deferrals, Guards, InPlaceItems, Items, Look, RawCells, RawItems,
+    SharedItems,
 };
 use std::process::Abort;
 
@@ -22,6 +23,7 @@ impl CommonExample for Swaps {
             + RawItems<u64>
             + Cells<u64>
             + RawCells<u64>
+            + Collectors<u64>
             + Deferrals<u64, Job = Idle>,
     >(rt: &R, s: &mut S) {
         let cell = owned::cell(rt, s, 14);
@@ -50,6 +52,7 @@ impl CommonExample for Exchanges {
             + RawItems<u64>
             + Cells<u64>
             + RawCells<u64>
+            + Collectors<u64>
             + Deferrals<u64, Job = Idle>,
     >(rt: &R, s: &mut S) {
         let cell = owned::cell(rt, s, 17);
@@ -90,6 +93,7 @@ impl CommonExample for KeepsTag {
             + RawItems<u64>
             + Cells<u64>
             + RawCells<u64>
+            + Collectors<u64>
             + Deferrals<u64, Job = Idle>,
     >(rt: &R, s: &mut S) {
         let cell = owned::cell(rt, s, 7);
@@ -116,6 +120,7 @@ impl CommonExample for ComesOut {
             + RawItems<u64>
             + Cells<u64>
             + RawCells<u64>
+            + Collectors<u64>
             + Deferrals<u64, Job = Idle>,
     >(rt: &R, s: &mut S) {
         let cell = owned::cell(rt, s, 7);

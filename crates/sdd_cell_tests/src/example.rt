@@ -9,8 +9,8 @@ use sdd_core::Limits;
 use sdd_domain::{Domain, Local, Receipt};
 use sdd_participants::{Idle, Tally};
 use sdd_space::{
-    Cells, Deferrals, Guards, InPlaceItems, Item, Items, Look, RawCells, RawItems, SharedItems,
-    Space,
+    Cells, Collectors, Deferrals, Guards, InPlaceItems, Item, Items, Look, RawCells, RawItems,
+    SharedItems, Space,
 };
 use sdd_world::{Place, World};
 use std::marker::Model;
@@ -48,6 +48,7 @@ pub trait CommonExample {
             + RawItems<u64>
             + Cells<u64>
             + RawCells<u64>
+            + Collectors<u64>
             + Deferrals<u64, Job = Idle>,
     >(rt: &R, s: &mut S)
         requires seated { IsSeated (S.seat s.old) }

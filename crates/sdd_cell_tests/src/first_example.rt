@@ -15,8 +15,8 @@ use crate::steps::{close, opened, owned, raw, seen, shared};
 use sdd_core::{Limits, Tag};
 use sdd_participants::Idle;
 use sdd_space::{
-    AtomicOwned, AtomicShared, Cells, Deferrals, Guard, Guards, InPlaceItems, Items, Look, Ptr,
-    RawCells, RawItems, RawPtr, Shared, SharedItems,
+    AtomicOwned, AtomicShared, Cells, Collectors, Deferrals, Guard, Guards, InPlaceItems, Items,
+    Look, Ptr, RawCells, RawItems, RawPtr, Shared, SharedItems,
 };
 use std::process::Abort;
 
@@ -89,6 +89,7 @@ impl CommonExample for Manages {
             + RawItems<u64>
             + Cells<u64>
             + RawCells<u64>
+            + Collectors<u64>
             + Deferrals<u64, Job = Idle>,
     >(rt: &R, s: &mut S) {
         let cell = owned::cell(rt, s, 19);
@@ -133,6 +134,7 @@ impl CommonExample for NamesWhatIsOut {
             + RawItems<u64>
             + Cells<u64>
             + RawCells<u64>
+            + Collectors<u64>
             + Deferrals<u64, Job = Idle>,
     >(rt: &R, s: &mut S) {
         let cell = raw::cell(rt, s, RawPtr::null());

@@ -7,8 +7,8 @@ use crate::steps::{close, opened, owned, shared};
 use sdd_core::{Limits, Refused};
 use sdd_participants::Idle;
 use sdd_space::{
-    AtomicOwned, AtomicRaw, AtomicShared, Cells, Deferrals, Guards, InPlaceItems, Items, Look,
-    PrivateCollector, RawCells, RawItems, SharedItems, Space,
+    AtomicOwned, AtomicRaw, AtomicShared, Cells, Collectors, Deferrals, Guards, InPlaceItems,
+    Items, Look, PrivateCollector, RawCells, RawItems, SharedItems, Space,
 };
 use std::process::Abort;
 
@@ -90,6 +90,7 @@ impl CommonExample for OneCell {
             + RawItems<u64>
             + Cells<u64>
             + RawCells<u64>
+            + Collectors<u64>
             + Deferrals<u64, Job = Idle>,
     >(rt: &R, s: &mut S) {
         let cell = owned::cell(rt, s, 14);
@@ -122,6 +123,7 @@ impl CommonExample for OneRawCell {
             + RawItems<u64>
             + Cells<u64>
             + RawCells<u64>
+            + Collectors<u64>
             + Deferrals<u64, Job = Idle>,
     >(rt: &R, s: &mut S) {
         let cell = owned::cell(rt, s, 14);
@@ -195,6 +197,7 @@ impl CommonExample for NoSlots {
             + RawItems<u64>
             + Cells<u64>
             + RawCells<u64>
+            + Collectors<u64>
             + Deferrals<u64, Job = Idle>,
     >(rt: &R, s: &mut S) {
         let owner = owned::made(rt, s, 14);

@@ -4,7 +4,8 @@ use crate::steps::{close, opened, seen, shared};
 use sdd_core::Tag;
 use sdd_participants::Idle;
 use sdd_space::{
-    Cells, Deferrals, Guards, InPlaceItems, Items, Look, RawCells, RawItems, SharedItems,
+    Cells, Collectors, Deferrals, Guards, InPlaceItems, Items, Look, RawCells, RawItems,
+    SharedItems,
 };
 use std::process::Abort;
 
@@ -22,6 +23,7 @@ impl CommonExample for LetsGo {
             + RawItems<u64>
             + Cells<u64>
             + RawCells<u64>
+            + Collectors<u64>
             + Deferrals<u64, Job = Idle>,
     >(rt: &R, s: &mut S) {
         let owner = shared::made_by_closure(rt, s, 47);
@@ -50,6 +52,7 @@ impl CommonExample for Upgrades {
             + RawItems<u64>
             + Cells<u64>
             + RawCells<u64>
+            + Collectors<u64>
             + Deferrals<u64, Job = Idle>,
     >(rt: &R, s: &mut S) {
         let owner = shared::made(rt, s, 47);
@@ -81,6 +84,7 @@ impl CommonExample for Copies {
             + RawItems<u64>
             + Cells<u64>
             + RawCells<u64>
+            + Collectors<u64>
             + Deferrals<u64, Job = Idle>,
     >(rt: &R, s: &mut S) {
         let cell = shared::cell(rt, s, 7);
@@ -115,6 +119,7 @@ impl CommonExample for Exchanges {
             + RawItems<u64>
             + Cells<u64>
             + RawCells<u64>
+            + Collectors<u64>
             + Deferrals<u64, Job = Idle>,
     >(rt: &R, s: &mut S) {
         let cell = shared::cell(rt, s, 17);

@@ -46,14 +46,14 @@ module _ {J : Type 0} where
     pub looked : m.limits.participants ≤ m.slots.looked
     pub shut : ¬ (HasOpenGuard m)
 
-  -- it closes the collector from now on
-  pub record BeginsClose (collector : ℕ) (old new : LocalState J) : Type 0 where
-    pub member : new ≡ record old { slots = record old.slots { closes = Some collector; looked = new.slots.looked } }
-    pub closing : IsClosing collector new
-
   -- what waits with it for the collector is due at once
   abbrev pub takes_for : ℕ → LocalState J → LocalState J
   takes_for collector m = record m { own = without (waits_for m collector) m.own; due = chosen_of (waits_for m collector) m.own.bags.waiting }
+
+  -- it closes the collector from now on, and what waits with it for that is due at once
+  pub record BeginsClose (collector : ℕ) (old new : LocalState J) : Type 0 where
+    pub member : new ≡ takes_for collector (record old { slots = record old.slots { closes = Some collector; looked = new.slots.looked } })
+    pub closing : IsClosing collector new
 
   -- the item of the slot, which was due before all others, waits for no collector any more, if it did, and may be taken out
   pub record ClaimsFirst (slot : ℕ) (old new : LocalState J) : Type 0 where

@@ -1,5 +1,5 @@
 //! A change reclaims what is due, and a value that is reclaimed gives up what it holds.
-ghost use Rattle.std.specs.Prelude.{◌≡◌, ◌≢◌, ◌⊎◌, ◌+◌, ◌<◌, ◌≤◌, ℕ, true, List, [], None, Some, length, All, IfErr, IfOk, IsSome, IsTrue, MatchBool, MatchResult, ◌∷◌};
+ghost use Rattle.std.specs.Prelude.{◌≡◌, ◌≢◌, ◌⊎◌, ◌+◌, ◌≤◌, ℕ, true, List, [], length, All, IfErr, IfOk, IsSome, IsTrue, MatchBool, MatchResult, None, Some, ◌∷◌};
 ghost use Rattle.sdd_rights.specs.Right.{number_of, home_of, kind_of, raw_number_of, raw_home_of};
 ghost use Rattle.sdd_rights.specs.StandingKind.{is_shared};
 ghost use Rattle.sdd_standings.specs.Slots.{IsOwnedBy, has_others};
@@ -307,7 +307,6 @@ impl<T: Item<T>, J: Job> LocalGiver<'_, T, J> {
     {
         let number = collector.number();
         let right = self.membership.begin_close(collector)?;
-        self.membership.take_for(number);
         self.empty_own(number);
         self.empty_others(number);
         self.membership.end_close(number, right);

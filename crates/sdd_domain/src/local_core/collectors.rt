@@ -15,7 +15,7 @@ ghost use Rattle.sdd_domain.specs.SpaceIds.{home_in, cells_home};
 ghost use Rattle.sdd_domain.specs.Items.{slots_home, HasValue};
 ghost use Rattle.sdd_domain.specs.Cells.{FreesAt};
 ghost use Rattle.sdd_domain.specs.LocalState.{HasOpenGuard, IsLone, KnowsOwner, LocalState};
-ghost use Rattle.sdd_domain.specs.Collectors.{BeginsClose, ClaimsFirst, EmptiesAt, LosesItem, GoesFirst, IsClosing, OwnerCollected, ends_close, takes_for};
+ghost use Rattle.sdd_domain.specs.Collectors.{BeginsClose, ClaimsFirst, EmptiesAt, LosesItem, GoesFirst, IsClosing, OwnerCollected, ends_close};
 
 use crate::holding::none_is_open;
 use crate::local_core::LocalCore;
@@ -74,11 +74,13 @@ impl<'d, T: Item<T>, J: Job> LocalCore<'d, T, J> {
         false
     }
 
-    /// Begins to close a collector, where no guard is open at any place, the own one too. The right to its cell is kept for `end_close`.
+    /// Begins to close a collector, where no guard is open at any place, the own one too. What waits with the participant for it comes out of its bags, and is to
+    /// be emptied. The right to its cell is kept for `end_close`.
     ///
     /// `GuardOpen` where one is: the right comes back, and nothing has changed.
     pub(crate) fn begin_close(&mut self, collector: RawRight) -> Result<Witness, (RawRight, Refused)>
         requires home { raw_home_of collector ≡ cells_home self.old.home }
+        requires settled { self.old.due ≡ [] }
         requires closes { self.old.slots.closes ≡ None }
         ensures begun { MatchResult result
             (λ right. BeginsClose (raw_number_of collector) self.old self.new × (right.table_id ≡ self.old.home)
@@ -91,19 +93,12 @@ impl<'d, T: Item<T>, J: Job> LocalCore<'d, T, J> {
         take_in_right(board, &mut self.token, collector.into_witness());
         begin_close(board, &mut self.token, cell);
         if none_is_open(board, &mut self.token) {
+            self.due.take_for(&mut self.own.bags, cell, &self.privates);
             return Ok(cut_right(board, &mut self.token));
         }
         end_close(board, &mut self.token, cell);
         let right = cut_right(board, &mut self.token);
         Err((RawRight::of_cell(cell, MOST_CELLS, right), Refused::GuardOpen))
-    }
-
-    /// What waits with the participant for the collector comes out of its bags, and is to be emptied.
-    pub(crate) fn take_for(&mut self, collector: u32)
-        requires none { self.old.due ≡ [] }
-        ensures { self.new ≡ takes_for collector self.old }
-    {
-        self.due.take_for(&mut self.own.bags, collector, &self.privates);
     }
 
     /// Moves the value out of the item that was taken out of the bags before all others, in this slot, which is given back. None where a close of another had
@@ -145,6 +140,7 @@ impl<'d, T: Item<T>, J: Job> LocalCore<'d, T, J> {
     /// Ends the close of a collector, whose cell is free again. Answers its word before.
     pub(crate) fn end_close(&mut self, collector: u32, right: Witness) -> u64
         requires closing { IsClosing collector self.old }
+        requires settled { self.old.due ≡ [] }
         requires inside { collector < self.old.sizes.cells }
         requires right { (right.table_id ≡ self.old.home) × (right.views ≡ witness_of_cell collector of_closed) }
         ensures freed { FreesAt collector result (ends_close self.old) self.new }

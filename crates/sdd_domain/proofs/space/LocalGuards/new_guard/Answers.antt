@@ -174,7 +174,7 @@ returns-clause-says g c = let v : LocalModel g.row.T.Denot g.row.J.Denot = (c.se
           = given.1 ∙ ap (λ (o : Participant). time.settled (all_awaiting given.0 o)) own in
           let found : q.member.own.found ≡ e.0 = ap (λ (o : Participant). o.found) own_then ∙ found_after given.0 e.0 v.member.own in
           subst (λ (z : LocalModel g.row.T.Denot g.row.J.Denot). CountsReclaimed v.member z.member) (sym w.self-is)
-          (counted_at e.0 v.member q.member shut found (counted_due e.0 v.member n q.member went.1 w.change.ensures.reclaimed))
+          (counted_at e.0 v.member q.member shut found (counted_due e.0 v.member n q.member went.1 w.change.ensures.counted))
       | else-goes_on w ↦ let so = stands e.0 c.enter-guard.result.1 v.member e.1 n e.2 e.3 in
           subst (λ (z : LocalModel g.row.T.Denot g.row.J.Denot). CountsReclaimed v.member z.member) (sym w.self-is)
           (counted_at e.0 v.member n shut so.found (counted_over e.0 c.enter-guard.result.1 v.member e.1 n e.2 e.3 w.if-goes_on.false))
