@@ -113,6 +113,12 @@ told_nothing n table xs blank none = record {
   );
 }
 
+-- how an item stands that waits with a participant, by its table
+pub mapped_at : (es : Entries ℕ) (s : ℕ) → entry_at (standings_of es) s ≡ option_map Private (entry_at es s)
+mapped_at [] s = refl
+mapped_at (e ∷ es) zero = refl
+mapped_at (e ∷ es) (suc s) = mapped_at es s
+
 module _ (n : ℕ) (table : Entries ℕ) (xs : List PrivateItem) (t : TellsCollectors n table xs) where
   -- the item of a slot waits for the collector that the table tells, or for none
   pub told_some : (slot collector : ℕ) → entry_at table slot ≡ Some collector
@@ -181,11 +187,6 @@ module _ (n : ℕ) (table : Entries ℕ) (xs : List PrivateItem) (t : TellsColle
   }
 
   -- ---- the choice of what waits for a collector
-  mapped_at : (es : Entries ℕ) (s : ℕ) → entry_at (standings_of es) s ≡ option_map Private (entry_at es s)
-  mapped_at [] s = refl
-  mapped_at (e ∷ es) zero = refl
-  mapped_at (e ∷ es) (suc s) = mapped_at es s
-
   pub choice_private : (c k : ℕ) (x : PrivateItem) → get_elem? xs k ≡ some x → is_kept_for c (standings_of table) (Item x.item.slot) ≡ (x.collector == c)
   choice_private c k x at = ap (is_private_to c) (mapped_at table x.item.slot ∙ ap (option_map Private) (told_at k x at))
 

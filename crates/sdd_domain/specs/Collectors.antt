@@ -1,5 +1,5 @@
 -- Private items: what a participant's calls make of what its callers see
-use Rattle.std.specs.Prelude.{◌≡◌, ◌≢◌, ℕ, ◌+◌, ◌<◌, ◌≤◌, Bool, true, false, ◌∷◌, [], ◌++◌, Option, Some, None, MatchOption, MatchResult, slice_set}
+use Rattle.std.specs.Prelude.{◌≡◌, ◌≢◌, ℕ, ◌+◌, ◌<◌, ◌≤◌, Bool, true, false, List, ◌∷◌, [], ◌++◌, All, Option, Some, None, MatchOption, MatchResult, slice_set}
 use base.Stored.{Gv}
 use Rattle.sdd_participants.specs.Slab.{Entries, entry_at, with_entry, without_entry}
 use Rattle.sdd_participants.specs.Collecting.{is_kept_for, chosen_of, without}
@@ -39,6 +39,10 @@ module _ {J : Type 0} where
   -- which of its items wait for the collector
   abbrev pub waits_for : LocalState J → ℕ → LimboEntry → Bool
   waits_for m collector = is_kept_for collector (standings_of m.collectors)
+
+  -- all of these do
+  abbrev pub AllWaitFor : LocalState J → ℕ → List LimboEntry → Type 0
+  AllWaitFor m collector = All (λ what. waits_for m collector what ≡ true)
 
   -- it closes the collector, and has looked at each place: no guard is open that sees what waits for it
   pub record IsClosing (collector : ℕ) (m : LocalState J) : Type 0 where

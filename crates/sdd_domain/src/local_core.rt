@@ -1,6 +1,7 @@
 //! A participant's part in a domain: its guards, what waits with it, and the items that it makes and lets go.
-ghost use Rattle.std.specs.Prelude.{◌≡◌, ◌↔◌, ◌⊎◌, ◌+◌, ◌*◌, ◌/◌, ◌^◌, ◌<◌, ◌≤◌, ◌==◌, ℕ, List, [], ◌∷◌, false, IsTrue, not, IfSome, IfOk, IfErr, MatchOption, MatchResult, None, option_map};
+ghost use Rattle.std.specs.Prelude.{◌≡◌, ◌≢◌, ◌↔◌, ◌⊎◌, ◌+◌, ◌*◌, ◌/◌, ◌^◌, ◌<◌, ◌≤◌, ◌==◌, ℕ, List, [], ◌∷◌, false, All, IsTrue, not, IfSome, IfOk, IfErr, MatchOption, MatchResult, None, Some, option_map};
 ghost use Rattle.sdd_shared_values.specs.SharedValues.{showing};
+ghost use Rattle.sdd_participants.specs.Slab.{entry_at};
 ghost use Rattle.sdd_participants.specs.declared.waiting.LimboEntry.{LimboEntry as Entry};
 ghost use Rattle.sdd_participants.specs.declared.waiting.LimboEntry.TheVariants.{Item as item};
 ghost use Rattle.sdd_domain.specs.WaitingItems.{items_in};
@@ -408,11 +409,14 @@ impl<'d, T: Item<T>, J: Job> LocalCore<'d, T, J> {
     }
 
     /// What is always true of a participant, as a call that does nothing when the program runs: it has a place, and while a guard is open the count
-    /// that it knows is the one at its publish or the next; and its table tells for which collectors its items wait.
+    /// that it knows is the one at its publish or the next; its table tells for which collectors its items wait; what is due comes once;
+    /// and for a collector that it closes nothing waits with it but what is due.
     #[inline]
     pub(crate) fn stands(&self)
         ensures inside { self.now.place < self.now.limits.participants }
         ensures collectors { TellsCollectors self.now.limits.slots self.now.collectors self.now.slots.privates }
+        ensures once { (slot : ℕ) (rest : List Entry) → self.now.due ≡ item slot ∷ rest → All (λ what. what ≢ item slot) rest }
+        ensures none { (collector : ℕ) → self.now.slots.closes ≡ Some collector → self.now.due ≡ [] → (slot : ℕ) → entry_at self.now.collectors slot ≢ Some collector }
         ensures near { HasOpenGuard self.now → (self.now.since ≤ self.now.known) × (self.now.known ≤ self.now.since + 1) }
     {
         let _token = &self.token;

@@ -1,5 +1,5 @@
 //! A change reclaims what is due, and a value that is reclaimed gives up what it holds.
-ghost use Rattle.std.specs.Prelude.{◌≡◌, ◌≢◌, ◌⊎◌, ◌+◌, ◌≤◌, ℕ, true, List, [], length, All, IfErr, IfOk, IsSome, IsTrue, MatchBool, MatchResult, None, Some, ◌∷◌};
+ghost use Rattle.std.specs.Prelude.{◌≡◌, ◌≢◌, ◌⊎◌, ◌+◌, ◌≤◌, ℕ, true, List, [], length, IfErr, IfOk, IsSome, IsTrue, MatchBool, MatchResult, None, Some, ◌∷◌};
 ghost use Rattle.sdd_rights.specs.Right.{number_of, home_of, kind_of, raw_number_of, raw_home_of};
 ghost use Rattle.sdd_rights.specs.StandingKind.{is_shared};
 ghost use Rattle.sdd_standings.specs.Slots.{IsOwnedBy, has_others};
@@ -26,7 +26,7 @@ ghost use Rattle.sdd_domain.specs.Receipt.{with_reclaimed};
 ghost use Rattle.sdd_domain.specs.Local.{world_of};
 ghost use Rattle.sdd_domain.specs.Reclaiming.{counted_where, kept_of, rest_of};
 ghost use Rattle.sdd_domain.specs.OpeningTally.{CountsGone};
-ghost use Rattle.sdd_domain.specs.Collectors.{IsClosing, waits_for};
+ghost use Rattle.sdd_domain.specs.Collectors.{AllWaitFor, IsClosing};
 ghost use Rattle.sdd_space.specs.Collecting.{collector_closed};
 ghost use Rattle.sdd_space.specs.Out.{IsNullCell};
 ghost use Rattle.sdd_domain.specs.Space.{seat_of, known_of, slots_home};
@@ -248,10 +248,33 @@ impl<T: Item<T>, J: Job> LocalGiver<'_, T, J> {
         self.membership.stands();
     }
 
-    /// What was taken out of the bags for the collector that is closed is emptied, one item after another, and what each value held is retired then.
-    fn empty_own(&mut self, collector: u32)
+    /// The item that was taken out of the bags before all others for the collector that is closed, in this slot, is reclaimed, and what its value held is
+    /// retired then.
+    fn empty_item(&mut self, slot: u32, collector: u32)
+        requires first { (rest : List Entry) × (self.old.member.due ≡ item slot ∷ rest) }
+        requires taken { AllWaitFor self.old.member collector self.old.member.due }
         requires closing { IsClosing collector self.old.member }
-        requires taken { All (λ what. IsTrue (waits_for self.old.member collector what)) self.old.member.due }
+        ensures first { self.old.member.due ≡ item slot ∷ self.new.member.due }
+        ensures taken { AllWaitFor self.new.member collector self.new.member.due }
+        ensures closing { IsClosing collector self.new.member }
+        ensures own { KeepsMoreWaiting self.old.member.own self.new.member.own }
+        ensures known { KnowsOn (known_of self.old) (known_of self.new) }
+        ensures rest { rest_of self.new ≡ rest_of self.old }
+        ensures jobs { self.new.member.jobs ≡ self.old.member.jobs }
+        ensures exact { IsLone self.old.member → world_of self.new ≡ reclaimed T.holds (world_of self.old) self.old.member.place (item slot) }
+    {
+        self.ledger.codes();
+        self.membership.stands();
+        if let Some(value) = self.membership.empty_first(slot, collector) {
+            value.give_up(self);
+        }
+    }
+
+    /// What was taken out of the bags for the collector that is closed is reclaimed, one item after another, and what each value held is retired then.
+    fn empty_own(&mut self, collector: u32)
+        requires taken { AllWaitFor self.old.member collector self.old.member.due }
+        requires closing { IsClosing collector self.old.member }
+        ensures closing { IsClosing collector self.new.member }
         ensures own { KeepsMoreWaiting self.old.member.own self.new.member.own }
         ensures known { KnowsOn (known_of self.old) (known_of self.new) }
         ensures rest { rest_of self.new ≡ rest_of self.old }
@@ -261,10 +284,7 @@ impl<T: Item<T>, J: Job> LocalGiver<'_, T, J> {
             ≡ all_reclaimed T.holds (world_of self.old) self.old.member.place self.old.member.due }
     {
         while let Some(LimboEntry::Item(slot)) = self.membership.first_due() {
-            self.ledger.codes();
-            if let Some(value) = self.membership.empty_first(slot, collector) {
-                value.give_up(self);
-            }
+            self.empty_item(slot, collector);
         }
     }
 
