@@ -330,7 +330,7 @@ module _ (n : ℕ) (known : KnownWaiting) (waiting : List Waiting) (taken : List
         (λ none. dite (dec_lt number n) (λ near. omega arith) (λ far. let z = t.items number (omega arith) in absurd (omega arith)))
 
     -- it goes, and nothing else
-    first_out : AreInBags n (record known { plain = without_item (number_in n w) known.plain; private = without_private (number_in n w) known.private }) waiting rest
+    pub first_out : AreInBags n (record known { plain = without_item (number_in n w) known.plain; private = without_private (number_in n w) known.private }) waiting rest
     first_out = let goes = first_goes n is_due w rest t.all due_first first_once in let p : WaitingItem → Bool = (λ x. not (x.slot == number)) in
         let out : map item_of (left_kept p t.all) ≡ without_item number items = items_left p t.all in record {
           all = left_kept p t.all;
