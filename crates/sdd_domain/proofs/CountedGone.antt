@@ -2,11 +2,11 @@
 use Rattle.std.proofs.Common.{◌≡◌, ◌⊎◌, ℕ, ◌+◌, ◌≤◌, List, [], ◌∷◌, inl, inr, ⊎_elim, refl, ap, ◌∙◌, arith}
 use Rattle.sdd_participants.specs.declared.tally.Tally.{Tally}
 use Rattle.sdd_participants.specs.declared.waiting.LimboEntry.{LimboEntry}
-use Rattle.sdd_participants.specs.declared.waiting.LimboEntry.TheVariants.{Item, Job}
+use Rattle.sdd_space.proofs.Listed.{count-cons}
 use Rattle.sdd_domain.specs.LocalState.{LocalState, IsLone}
 use Rattle.sdd_domain.specs.OpeningTally.{CountsGone}
 use Rattle.sdd_domain.specs.Receipt.{with_reclaimed}
-use Rattle.sdd_domain.specs.WaitingItems.{items_in}
+use Rattle.sdd_domain.specs.WaitingItems.{is_item, items_in}
 use Rattle.sdd_domain.proofs.Tallies.{many_more}
 
 -- of so many items that were due, so many still are; of the others some were reclaimed, and are counted
@@ -53,5 +53,4 @@ module _ {J : Type 0} where
   }
 
 pub items_first : (what : LimboEntry) (xs : List LimboEntry) → items_in (what ∷ xs) ≡ items_in (what ∷ []) + items_in xs
-items_first (Item slot) xs = omega arith
-items_first (Job place) xs = omega arith
+items_first what xs = let a = count-cons is_item what xs in let b = count-cons is_item what [] in omega arith

@@ -13,8 +13,8 @@ use Rattle.sdd_domain.proofs.PrivateTables.{told_in}
 use Rattle.sdd_domain.proofs.Sound.{lone_true}
 use Rattle.sdd_domain.proofs.reclaiming.LocalGiver.reclaim_item.Goals as goal
 
-pub invariant_of-self-in-Some : goal.invariant_of-self-in-Some
-invariant_of-self-in-Some g c one = let v : LocalModel g.row.T.Denot g.row.J.Denot = c.self.view_is 0 in let did = c.in-Some.ensures.gone in
+pub invariant_of-self : goal.invariant_of-self
+invariant_of-self g c one = let v : LocalModel g.row.T.Denot g.row.J.Denot = c.self.view_is 0 in let did = c.in-Some.ensures.gone in
     let lone : IsLone v.member = sym (ap (λ (y : LocalState _). y.limits.participants) did.member) ∙ one in
     tied_then g.row.T v (c.self.invariant lone) c.codes.ensures c.args.slot c.in-Some.value c.reclaim.new.self did lone
 
@@ -44,18 +44,18 @@ returns-in-Some-clause-counted g c = let v : LocalModel g.row.T.Denot g.row.J.De
     }
 
 -- a close of another came first: never where the participant is lone
-pub invariant_of-self : goal.invariant_of-self
-invariant_of-self g c one = let v : LocalModel g.row.T.Denot g.row.J.Denot = c.self.view_is 0 in let did = c.in_default.ensures.gone in
+pub invariant_of-self-in_default : goal.invariant_of-self-in_default
+invariant_of-self-in_default g c one = let v : LocalModel g.row.T.Denot g.row.J.Denot = c.self.view_is 0 in let did = c.in_default.ensures.gone in
     let lone : IsLone v.member = sym (ap (λ (y : LocalState _). y.limits.participants) did.member) ∙ one in
     absurd (loses_none v (c.self.invariant lone) c.args.slot c.reclaim.new.self did c.stands.ensures.collectors lone)
 
-pub returns-clause-exact : goal.returns-clause-exact
-returns-clause-exact g c = λ is_lone. let v : LocalModel g.row.T.Denot g.row.J.Denot = c.self.view_is 0 in let did = c.in_default.ensures.gone in
+pub returns-in_default-clause-exact : goal.returns-in_default-clause-exact
+returns-in_default-clause-exact g c = λ is_lone. let v : LocalModel g.row.T.Denot g.row.J.Denot = c.self.view_is 0 in let did = c.in_default.ensures.gone in
     let lone : IsLone v.member = ap (λ (z : LocalModel g.row.T.Denot g.row.J.Denot). z.member.limits.participants) c.self.view_is ∙ is_lone in
     absurd (loses_none v (c.self.invariant lone) c.args.slot c.reclaim.new.self did c.stands.ensures.collectors lone)
 
-pub returns-clause-counted : goal.returns-clause-counted
-returns-clause-counted g c = let v : LocalModel g.row.T.Denot g.row.J.Denot = c.self.view_is 0 in let did = c.in_default.ensures.gone in
+pub returns-in_default-clause-counted : goal.returns-in_default-clause-counted
+returns-in_default-clause-counted g c = let v : LocalModel g.row.T.Denot g.row.J.Denot = c.self.view_is 0 in let did = c.in_default.ensures.gone in
     let told = c.stands.ensures.collectors in let m : LocalState _ = v.member in record {
       gone = 0;
       few = omega arith;

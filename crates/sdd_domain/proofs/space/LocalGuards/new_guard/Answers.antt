@@ -76,6 +76,16 @@ invariant_of-self-then-goes_on g c = let v : LocalModel g.row.T.Denot g.row.J.De
     ap world_of as_is ∙ opened_changed v holds (c.self-inside.invariant lone) settled e.0 c.enter-guard.new.self lone shut went.1
     (λ f. went.0 (f ∙ sym (went.1.lone lone).0)) (world_of q) (c.change.ensures.exact there)))
 
+pub change-requires : goal.change-requires
+change-requires g c = let v : LocalModel g.row.T.Denot g.row.J.Denot = (c.self-inside.view_is 0).partner in
+    let inner : v ≡ c.self.inside.partner = ap (λ (i : Inside g.row.T.Denot g.row.J.Denot). i.partner) c.self-inside.view_is in
+    let e = c.enter-guard.ensures.entered in
+    let went = goes_on e.0 c.enter-guard.result.1 v.member e.1 c.enter-guard.new.self e.2 e.3 c.if-goes_on.true in
+    record {
+      closes = ap (λ (y : LocalState _). y.slots.closes) went.1.member
+          ∙ (ap (λ (z : LocalModel g.row.T.Denot g.row.J.Denot). z.member.slots.closes) inner ∙ c.self.invariant.closes);
+    }
+
 pub invariant_of-self-else-goes_on : goal.invariant_of-self-else-goes_on
 invariant_of-self-else-goes_on g c = let v : LocalModel g.row.T.Denot g.row.J.Denot = (c.self-inside.view_is 0).partner in
     let inner : v ≡ c.self.inside.partner = ap (λ (i : Inside g.row.T.Denot g.row.J.Denot). i.partner) c.self-inside.view_is in
