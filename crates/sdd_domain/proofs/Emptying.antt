@@ -1,5 +1,5 @@
 -- What is taken out of the bags for a collector that is closed: each slot comes once, and its item waits for that collector
-use Rattle.std.proofs.Common.{◌≡◌, ◌≢◌, ℕ, zero, suc, ◌+◌, ◌<◌, ◌≤◌, ◌==◌, List, [], ◌∷◌, Option, Some, None, map, filter, Bool, true, false, sym, refl, ap, ◌∙◌, subst, eq-eqb, ne_eqb, arith, get_or-set_other}
+use Rattle.std.proofs.Common.{◌≡◌, ◌≢◌, ℕ, zero, suc, ◌+◌, ◌<◌, ◌≤◌, ◌^◌, ◌==◌, List, [], ◌∷◌, Option, Some, None, map, filter, Bool, true, false, sym, refl, ap, ◌∙◌, subst, eq-eqb, ne_eqb, arith, get_or-set_other}
 use Rattle.std.specs.Prelude.{All, ◌||◌, option_map, slice_index_or}
 use Rattle.std.proofs.lemmas.Bool.{true≢false}
 use Rattle.std.proofs.lemmas.List.Elements.{All-nil, All-cons, All-head, All-tail}
@@ -17,14 +17,18 @@ use Rattle.sdd_participants.specs.declared.waiting.LimboEntry.{LimboEntry}
 use Rattle.sdd_participants.specs.declared.waiting.LimboEntry.TheVariants.{Item, Job}
 use Rattle.sdd_views.specs.declared.PrivateItem.{PrivateItem}
 use Rattle.sdd_views.specs.declared.WaitingItem.{WaitingItem}
+use Rattle.sdd_word_invariant.specs.Codes.{waits_for as word_waits_for}
 use Rattle.sdd_word_invariant.specs.Slots.{waits_in}
 use Rattle.sdd_word_invariant.specs.Sums.{total}
+use Rattle.sdd_word_invariant.proofs.Codes.{private_is}
 use Rattle.sdd_word_invariant.proofs.Sums.{is_same}
 use Rattle.sdd_space.specs.ParticipantChanges.{KeepsMoreWaiting}
-use Rattle.sdd_domain.specs.Collectors.{AllWaitFor, IsClosing, waits_for}
+use Rattle.sdd_domain.specs.Collectors.{AllWaitFor, EmptiesAt, IsClosing, waits_for}
 use Rattle.sdd_domain.specs.InBags.{AreInBags, Kept, KnownWaiting, Plainly, Privately, TellsCollectors, is_closed, is_out, item_of, out_of, private_for, private_of}
-use Rattle.sdd_domain.specs.LocalState.{LocalState}
+use Rattle.sdd_domain.specs.Local.{LocalModel}
+use Rattle.sdd_domain.specs.LocalState.{LocalState, IsLone}
 use Rattle.sdd_domain.specs.PrivateTable.{standings_of}
+use Rattle.sdd_domain.specs.WordsAndValues.{AreTied}
 use Rattle.sdd_domain.specs.WaitingItems.{what_of, number_in, is_ripe}
 use Rattle.sdd_domain.proofs.Guarding.{all_guards}
 use Rattle.sdd_domain.proofs.KeptLists.{total_fewer, total_of_map}
@@ -67,7 +71,7 @@ module _ (n slot : ℕ) where
 private_there : (all : List Kept) (k : ℕ) (x : PrivateItem) → get_elem? (private_of all) k ≡ some x → (j : ℕ) × (get_elem? all j ≡ some (Privately x))
 private_there [] k x at = absurd (some-ne-none x (sym at))
 private_there (Plainly y ∷ ys) k x at = let r = private_there ys k x at in (suc r.0, r.1)
-private_there (Privately y ∷ ys) zero x at = (0, ap (λ (z : PrivateItem). some (Privately z)) (some-injective at))
+private_there (Privately y ∷ ys) zero x at = (0, ap (λ (z : PrivateItem). some (Privately z)) (some-injective y x at))
 private_there (Privately y ∷ ys) (suc k) x at = let r = private_there ys k x at in (suc r.0, r.1)
 
 pub none_for_closed : (n c : ℕ) (known : KnownWaiting) (waiting : List Waiting) (taken : List LimboEntry) → AreInBags n known waiting taken → taken ≡ []
@@ -125,3 +129,10 @@ module _ {J : Type 0} (m : LocalState J) (c : ℕ) where
 -- what it gives up waits, and it has as many guards as before
 pub more_guards : (old new : Participant) → KeepsMoreWaiting old new → new.guards ≡ old.guards
 more_guards old new keeps = let more = keeps old ([], refl) in ap (λ (p : Participant). p.guards) more.1 ∙ all_guards more.0 old
+
+-- a lone participant finds no item of another
+pub empties_none : {T J : Type 0} (v : LocalModel T J) (c slot : ℕ) {u : LocalState J} → EmptiesAt c slot v.member u → AreTied v.member v.entries
+    → TellsCollectors v.member.limits.slots v.member.collectors v.member.slots.privates → entry_at v.member.collectors slot ≢ Some c → c < 2 ^ 32
+    → IsLone v.member → ⊥
+empties_none v c slot did tied told none small one = let word = (private_is c (omega arith)).4 in let same = tied.privates slot did.inside c in
+    let there = ap (word_waits_for c) (did.lone one) in none ((told.waits slot c).1 (omega arith))

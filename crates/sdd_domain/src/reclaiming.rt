@@ -1,5 +1,5 @@
 //! A change reclaims what is due, and a value that is reclaimed gives up what it holds.
-ghost use Rattle.std.specs.Prelude.{◌≡◌, ◌≢◌, ◌⊎◌, ◌+◌, ◌≤◌, ℕ, true, List, [], length, IfErr, IfOk, IsSome, IsTrue, MatchBool, MatchResult, None, Some, ◌∷◌};
+ghost use Rattle.std.specs.Prelude.{◌≡◌, ◌≢◌, ◌⊎◌, ◌+◌, ◌<◌, ◌≤◌, ℕ, true, List, [], length, IfErr, IfOk, IsSome, IsTrue, MatchBool, MatchResult, None, Some, ◌∷◌};
 ghost use Rattle.sdd_rights.specs.Right.{number_of, home_of, kind_of, raw_number_of, raw_home_of};
 ghost use Rattle.sdd_rights.specs.StandingKind.{is_shared};
 ghost use Rattle.sdd_standings.specs.Slots.{IsOwnedBy, has_others};
@@ -288,23 +288,39 @@ impl<T: Item<T>, J: Job> LocalGiver<'_, T, J> {
         }
     }
 
-    /// What waits for the collector that is closed with others is emptied, and what each value held is retired then.
-    fn empty_others(&mut self, collector: u32)
-        requires closing { IsClosing collector self.old.member }
+    /// The item in this slot is reclaimed if it waits with another for the collector that is closed, and what its value held is retired then.
+    fn empty_other(&mut self, slot: u32, collector: u32)
+        requires inside { slot < self.old.member.limits.slots }
         requires settled { self.old.member.due ≡ [] }
+        requires closing { IsClosing collector self.old.member }
+        ensures closing { IsClosing collector self.new.member }
         ensures own { KeepsMoreWaiting self.old.member.own self.new.member.own }
         ensures known { KnowsOn (known_of self.old) (known_of self.new) }
         ensures rest { rest_of self.new ≡ rest_of self.old }
         ensures due { self.new.member.due ≡ [] }
         ensures jobs { self.new.member.jobs ≡ self.old.member.jobs }
-        ensures alone { IsLone self.old.member → ((slot : ℕ) → entry_at self.old.member.collectors slot ≢ Some collector) → self.new ≡ self.old }
+        ensures alone { IsLone self.old.member → self.new ≡ self.old }
     {
-        let slots = self.membership.domain().limits.slots as u32;
-        for slot in 0..slots {
-            self.ledger.codes();
-            if let Some(value) = self.membership.empty_slot(slot, collector) {
-                value.give_up(self);
-            }
+        self.membership.stands();
+        if let Some(value) = self.membership.empty_slot(slot, collector) {
+            value.give_up(self);
+        }
+    }
+
+    /// What waits with others for the collector that is closed is reclaimed, one item after another, and what each value held is retired then.
+    fn empty_others(&mut self, collector: u32)
+        requires settled { self.old.member.due ≡ [] }
+        requires closing { IsClosing collector self.old.member }
+        ensures closing { IsClosing collector self.new.member }
+        ensures own { KeepsMoreWaiting self.old.member.own self.new.member.own }
+        ensures known { KnowsOn (known_of self.old) (known_of self.new) }
+        ensures rest { rest_of self.new ≡ rest_of self.old }
+        ensures due { self.new.member.due ≡ [] }
+        ensures jobs { self.new.member.jobs ≡ self.old.member.jobs }
+        ensures alone { IsLone self.old.member → self.new ≡ self.old }
+    {
+        for slot in 0..self.membership.domain().limits.slots as u32 {
+            self.empty_other(slot, collector);
         }
     }
 
