@@ -97,8 +97,10 @@ module _ {T J : Type 0} (v : LocalModel T J) (c : ℕ) where
     world_taken first = let own : Participant = without (waits_for v.member c) v.member.own in
         let same : own ≡ without (is_for world c) v.member.own
         = ap (λ (ws : List Waiting). record v.member.own { bags = record v.member.own.bags { waiting = ws } }) (rest_alike v.member.own.bags.waiting) in
-        λ d. record (world_of (record v { member = takes_for c v.member })) { time = record world.time {
-          places = (ap (λ (n : ℕ). replicate (suc n) own) first
-              ∙ (ap (λ (p : Participant). replicate 1 p) same
-              ∙ sym (ap (λ (n : ℕ). map (without (is_for world c)) (replicate (suc n) v.member.own)) first))) d;
-        } }
+        λ d. record (world_of (record v { member = takes_for c v.member })) {
+          time = record world.time {
+            places = (ap (λ (n : ℕ). replicate (suc n) own) first
+                ∙ (ap (λ (p : Participant). replicate 1 p) same
+                ∙ sym (ap (λ (n : ℕ). map (without (is_for world c)) (replicate (suc n) v.member.own)) first))) d;
+          };
+        }

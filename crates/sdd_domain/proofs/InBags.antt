@@ -448,7 +448,7 @@ module _ (n : ℕ) (known : KnownWaiting) (waiting : List Waiting) (taken : List
     pub collector_out : (c : ℕ) → ((k : ℕ) (x : WaitingItem) → get_elem? known.plain k ≡ some x → chosen (what_of n x) ≡ false)
         → ((k : ℕ) (x : PrivateItem) → get_elem? known.private k ≡ some x → chosen (Item x.item.slot) ≡ (x.collector == c))
         → AreInBags n (record known { private = filter (λ (x : PrivateItem). not (x.collector == c)) known.private })
-            (rest_of chosen waiting) (filter (λ (w : LimboEntry). not (chosen w)) taken)
+        (rest_of chosen waiting) (filter (λ (w : LimboEntry). not (chosen w)) taken)
     collector_out c none those = subst (λ (z : KnownWaiting). AreInBags n z (rest_of chosen waiting) (filter (λ (w : LimboEntry). not (chosen w)) taken))
         (λ d. record {
           plain = (filter_alike stays (λ (x : WaitingItem). true) known.plain (λ k x at. ap not (none k x at)) ∙ filter_true known.plain) d;

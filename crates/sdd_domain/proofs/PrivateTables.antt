@@ -59,8 +59,13 @@ counts_for collector slot xs k x at here for = let h = total_has (private_for co
 
 pub found_in : (slot : ℕ) (xs : List PrivateItem) → 0 < total (private_in slot) xs
     → (k : ℕ) × (x : PrivateItem) × (get_elem? xs k ≡ some x) × (x.item.slot ≡ slot)
-found_in slot xs more = let one = total_some (private_in slot) xs more in (one.0, one.1, one.2, dite (ℕ_discrete one.1.item.slot slot) (λ e. e)
-    (λ ne. absurd (let z = is_other slot one.1.item.slot ne in let m = one.3 in omega arith)))
+found_in slot xs more = let one = total_some (private_in slot) xs more in (
+  one.0,
+  one.1,
+  one.2,
+  dite (ℕ_discrete one.1.item.slot slot) (λ e. e)
+      (λ ne. absurd (let z = is_other slot one.1.item.slot ne in let m = one.3 in omega arith)),
+)
 
 in_slot : (collector slot : ℕ) (xs : List PrivateItem) → 0 < total (private_for collector slot) xs → 0 < total (private_in slot) xs
 in_slot collector slot xs more = let one = found_for collector slot xs more in let h = total_has (private_in slot) xs one.0 one.1 one.2 in
@@ -97,11 +102,6 @@ gone_all slot (x ∷ xs) = let a = gone_by slot (x.item.slot == slot) x refl in 
 
 pub none_left : (slot : ℕ) (xs : List PrivateItem) → total (private_in slot) (without_private slot xs) ≡ 0
 none_left slot xs = total_filter (λ (x : PrivateItem). not (x.item.slot == slot)) (private_in slot) xs ∙ gone_all slot xs
-
-
-
-
-
 
 -- ---- the table
 pub told_nothing : (n : ℕ) (table : Entries ℕ) (xs : List PrivateItem) → table ≡ replicate n None → xs ≡ [] → TellsCollectors n table xs

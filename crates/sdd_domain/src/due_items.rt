@@ -61,12 +61,7 @@ impl DueItems {
     }
 
     /// What waits for a collector comes out of the bags, the oldest first.
-    pub fn take_for<S: StandingLookup>(
-        &mut self,
-        bags: &mut Bags,
-        collector: u32,
-        standings: &S,
-    )
+    pub fn take_for<S: StandingLookup>(&mut self, bags: &mut Bags, collector: u32, standings: &S)
         requires none { self.old.items ≡ [] }
         requires room { length bags.old.waiting ≤ self.old.room }
         ensures taken { self.new.items ≡ chosen_of (is_kept_for collector (S.standings standings.now)) bags.old.waiting }

@@ -32,12 +32,7 @@ use sdd_witness::Witness;
 impl<'d, T: Item<T>, J: Job> LocalCore<'d, T, J> {
     /// Lets an owner of this kind go, and answers whether it was the last. The last one's item waits for the collector until three changes were seen, or the
     /// collector is closed. No memory is taken.
-    pub(crate) fn collect(
-        &mut self,
-        collector: &RawRight,
-        right: Right,
-        kind: StandingKind,
-    ) -> bool
+    pub(crate) fn collect(&mut self, collector: &RawRight, right: Right, kind: StandingKind) -> bool
         requires collector { raw_home_of collector.now ≡ cells_home self.old.home }
         requires home { home_of right ≡ slots_home self.old }
         requires kind { kind_of right ≡ kind }
@@ -50,7 +45,13 @@ impl<'d, T: Item<T>, J: Job> LocalCore<'d, T, J> {
             return false;
         }
         let number = collector.number();
-        collect(&self.domain.board, &mut self.token, slot, number, collector.witness());
+        collect(
+            &self.domain.board,
+            &mut self.token,
+            slot,
+            number,
+            collector.witness(),
+        );
         self.privates.put(slot, number);
         true
     }
@@ -78,7 +79,10 @@ impl<'d, T: Item<T>, J: Job> LocalCore<'d, T, J> {
     /// be emptied. The right to its cell is kept for `end_close`.
     ///
     /// `GuardOpen` where one is: the right comes back, and nothing has changed.
-    pub(crate) fn begin_close(&mut self, collector: RawRight) -> Result<Witness, (RawRight, Refused)>
+    pub(crate) fn begin_close(
+        &mut self,
+        collector: RawRight,
+    ) -> Result<Witness, (RawRight, Refused)>
         requires home { raw_home_of collector ≡ cells_home self.old.home }
         requires settled { self.old.due ≡ [] }
         requires closes { self.old.slots.closes ≡ None }
@@ -98,7 +102,10 @@ impl<'d, T: Item<T>, J: Job> LocalCore<'d, T, J> {
         }
         end_close(board, &mut self.token, cell);
         let right = cut_right(board, &mut self.token);
-        Err((RawRight::of_cell(cell, MOST_CELLS, right), Refused::GuardOpen))
+        Err((
+            RawRight::of_cell(cell, MOST_CELLS, right),
+            Refused::GuardOpen,
+        ))
     }
 
     /// Moves the value out of the item that was taken out of the bags before all others, in this slot, which is given back. None where a close of another had
