@@ -115,3 +115,36 @@ module _ {T : Type 0} (c : ℕ) where
     freed_apart w none [] = refl
     freed_apart w none (x ∷ xs) = let one = one_apart w none x in
         freed_apart (reclaimed holds w p x) one.1 xs ∙ ap (λ (u : World T). all_reclaimed holds u p xs) one.0
+
+  -- ---- a cell that is there still is as it was
+  there_cell : (w : World T) (p d : ℕ) (x : CellContents) → entry_at (cell_closed w p d).cells c ≡ Some x → entry_at w.cells c ≡ Some x
+  there_cell w p d x there = let gone : Option CellContents = None in let at = ap (λ (cs : Entries CellContents). entry_at cs c)
+      (spilled_cells (without_cell w d) p (held_in (entry_at w.cells d))) in dite (ℕ_discrete d c)
+      (λ e. absurd (let none : entry_at (without_cell w d).cells c ≡ None = ap (λ (j : ℕ). entry_at (set w.cells j gone) c) e ∙ dite (dec_lt c (length w.cells))
+      (λ low. get_or-set_same w.cells c gone gone low) (λ far. get_or_past (set w.cells c gone) c gone (omega (arith, length-set w.cells c gone))) in
+      let no : None ≡ Some x = sym none ∙ (sym at ∙ there) in cc))
+      (λ ne. sym (get_or-set_other w.cells d c gone gone (λ e. ne (sym e))) ∙ (sym at ∙ there))
+
+  there_given : (w : World T) (p : ℕ) (h : OwnerOrCell) (x : CellContents) → entry_at (given w p h).cells c ≡ Some x → entry_at w.cells c ≡ Some x
+  there_given w p (owned k home) x there = sym (ap (λ (cs : Entries CellContents). entry_at cs c) (owner_cells w p k (standing_at w k))) ∙ there
+  there_given w p (shared k home) x there = sym (ap (λ (cs : Entries CellContents). entry_at cs c) (owner_cells w p k (standing_at w k))) ∙ there
+  there_given w p (atomic_owned d home) x there = there_cell w p d x there
+  there_given w p (atomic_shared d home) x there = there_cell w p d x there
+  there_given w p (atomic_raw d home) x there = there_cell w p d x there
+
+  there_all : (w : World T) (p : ℕ) (hs : List OwnerOrCell) (x : CellContents) → entry_at (given_all w p hs).cells c ≡ Some x → entry_at w.cells c ≡ Some x
+  there_all w p [] x there = there
+  there_all w p (h ∷ hs) x there = there_given w p h x (there_all (given w p h) p hs x there)
+
+  module _ (holds : T → List OwnerOrCell) (p : ℕ) where
+    there_taken : (w : World T) (k : ℕ) (v : Option T) (x : CellContents) → entry_at (taken_out holds w p k v).cells c ≡ Some x → entry_at w.cells c ≡ Some x
+    there_taken w k None x there = there
+    there_taken w k (Some value) x there = there_all (freed w k) p (holds value) x there
+
+    there_one : (w : World T) (e : LimboEntry) (x : CellContents) → entry_at (reclaimed holds w p e).cells c ≡ Some x → entry_at w.cells c ≡ Some x
+    there_one w (Item k) x there = there_taken w k (waiting_value w k (standing_at w k)) x there
+    there_one w (Job j) x there = there
+
+    pub was_there : (w : World T) (es : List LimboEntry) (x : CellContents) → entry_at (all_reclaimed holds w p es).cells c ≡ Some x → entry_at w.cells c ≡ Some x
+    was_there w [] x there = there
+    was_there w (e ∷ es) x there = there_one w e x (was_there (reclaimed holds w p e) es x there)

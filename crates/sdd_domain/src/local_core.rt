@@ -414,6 +414,7 @@ impl<'d, T: Item<T>, J: Job> LocalCore<'d, T, J> {
     #[inline]
     pub(crate) fn stands(&self)
         ensures inside { self.now.place < self.now.limits.participants }
+        ensures looked { self.now.slots.closes ≡ None → self.now.slots.looked ≡ 0 }
         ensures collectors { TellsCollectors self.now.limits.slots self.now.collectors self.now.slots.privates }
         ensures once { (slot : ℕ) (rest : List Entry) → self.now.due ≡ item slot ∷ rest → All (λ what. what ≢ item slot) rest }
         ensures none { (collector : ℕ) → self.now.slots.closes ≡ Some collector → self.now.due ≡ [] → (slot : ℕ) → entry_at self.now.collectors slot ≢ Some collector }

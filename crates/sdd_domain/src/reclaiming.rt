@@ -342,6 +342,7 @@ impl<T: Item<T>, J: Job> LocalGiver<'_, T, J> {
             × (world_of self.new ≡ collector_closed T.holds (world_of self.old) self.old.member.place (raw_number_of collector))) }
     {
         let number = collector.number();
+        self.membership.stands();
         let right = self.membership.begin_close(collector)?;
         self.empty_own(number);
         self.empty_others(number);
