@@ -1,15 +1,17 @@
 -- What an outermost opening leaves, before anything is reclaimed, with a change and without one
-use Rattle.std.proofs.Common.{◌≡◌, ◌≢◌, ℕ, ◌≤◌, ⊎_elim, if◌then◌else◌, true, false, List, [], ◌∷◌, map, sym, refl, ap, ◌∙◌, eq-eqb, ne_eqb, arith}
+use Rattle.std.proofs.Common.{◌≡◌, ◌≢◌, ℕ, ◌≤◌, ⊎_elim, if◌then◌else◌, true, false, List, [], ◌∷◌, map, sym, refl, ap, ◌∙◌, subst, eq-eqb, ne_eqb, arith}
 use mathlib.Core.Bool.{Bool}
 use mathlib.Core.Logic.{dite}
 use native.Mathlib.Decide.{ℕ_discrete}
 use Rattle.atomic_table.specs.declared.shared.Seat.{Seat}
 use Rattle.sdd_participants.specs.declared.participant.Participant.{Participant}
+use Rattle.sdd_participants.specs.declared.waiting.LimboEntry.{LimboEntry}
 use Rattle.sdd_participants.specs.Waiting.{Waiting, aged, due, left}
 use Rattle.sdd_participants.specs.EpochState.{nested, rotated, settled, due_next}
 use Rattle.sdd_shared_values.specs.declared.value_fraction.ValueFraction.{ValueFraction}
 use Rattle.sdd_views.specs.declared.EpochView.{EpochView}
 use Rattle.sdd_views.specs.declared.PrivateItem.{PrivateItem}
+use Rattle.sdd_views.specs.declared.SlotsView.{SlotsView}
 use Rattle.sdd_views.specs.declared.WaitingItem.{WaitingItem}
 use Rattle.sdd_views.specs.declared.View.{View}
 use Rattle.sdd_word_invariant.specs.Epoch.{IsLone}
@@ -19,11 +21,11 @@ use Rattle.sdd_word_invariant.specs.Slots.{waits_in}
 use Rattle.sdd_word_invariant.specs.SlotSteps.{older, older_private, aged as aged_slots, changed}
 use Rattle.sdd_word_invariant.proofs.Sums.{total_map}
 use Rattle.sdd_atomics.specs.declared.domain_table.DomainTable.{DomainTable}
-use Rattle.sdd_atomics.specs.DomainTable.{slots_of}
 use Rattle.sdd_atomics.specs.DomainSeat.{view, epoch, slots, Stepped, HasPublished}
-use Rattle.sdd_domain.specs.WaitingItems.{what_of, waiting_of, ripe, unripe, aged_at, aged_privates_at, due_at, arrived_at, Arrives, HasArrived}
+use Rattle.sdd_domain.specs.InBags.{AreInBags, KnownWaiting, known_waiting}
+use Rattle.sdd_domain.specs.WaitingItems.{aged_at, aged_privates_at, aged_slots_at, due_at, arrived_at, Arrives, HasArrived}
 use Rattle.sdd_domain.specs.BetweenCalls.{IsBetweenCalls}
-use Rattle.sdd_domain.proofs.Reclaims.{aged_alike, left_alike, due_alike, all_left}
+use Rattle.sdd_domain.proofs.InBags.{all_older}
 use Rattle.sdd_domain.proofs.Posing.{posed_arrived, has_place}
 
 -- where nothing waits a change only finds the count, and that nothing waits
@@ -91,13 +93,40 @@ module _ (count : ℕ) (own : Participant) where
       (λ (t : (own.found ≢ count) × (own.bags.waiting ≡ []) × (new ≡ settled (arrived_at count own))). ap (λ (p : Participant). p.bags.room) t.2 ∙ as_large)
       (h.over refl)
 
-  -- what has seen three changes is due
-  pub due_ripe : (n : ℕ) (xs : List WaitingItem) → own.bags.waiting ≡ map (waiting_of n) (unripe xs) → ripe xs ≡ []
-      → due_at count own ≡ map (what_of n) (ripe (aged_at count own xs))
-  due_ripe n xs bags settled = let all : unripe xs ≡ xs = all_left n xs (ap (map (what_of n)) settled) in dite (ℕ_discrete own.found count)
-      (λ e. due_stayed e ∙ sym (ap (λ (l : List WaitingItem). map (what_of n) (ripe l)) (aged_stayed xs e) ∙ ap (map (what_of n)) settled))
-      (λ ne. due_moved ne ∙ (ap (λ (ws : List Waiting). due (aged ws)) (bags ∙ ap (map (waiting_of n)) all)
-      ∙ (ap due (aged_alike n xs) ∙ (due_alike n (map older xs) ∙ sym (ap (λ (l : List WaitingItem). map (what_of n) (ripe l)) (aged_moved xs ne))))))
+  has_bags : (b : Bool) (new : Participant) → HasArrived count b own new → new.bags.waiting ≡ (arrived_at count own).bags.waiting
+  has_bags true new h = ap (λ (p : Participant). p.bags.waiting) (h.change refl).1
+  has_bags false new h = ⊎_elim (λ (t : (own.found ≡ count) × (new ≡ arrived_at count own)). ap (λ (p : Participant). p.bags.waiting) t.1)
+      (λ (t : (own.found ≢ count) × (own.bags.waiting ≡ []) × (new ≡ settled (arrived_at count own))). ap (λ (p : Participant). p.bags.waiting) t.2)
+      (h.over refl)
+
+  -- what has seen three changes is due, and the rest in the bags
+  pub bags_aged : (n : ℕ) (s : SlotsView) (taken : List LimboEntry) → AreInBags n (known_waiting s) own.bags.waiting taken → taken ≡ []
+      → AreInBags n (known_waiting (aged_slots_at count own s)) (arrived_at count own).bags.waiting (due_at count own)
+  bags_aged n s taken t none = dite (ℕ_discrete own.found count)
+      (λ e. subst (λ (z : KnownWaiting × List Waiting × List LimboEntry). AreInBags n z.0 z.1 z.2)
+      (λ d. (
+        record { plain = sym (aged_stayed s.waits e) d; private = sym (privates_stayed s.privates e) d },
+        (sym (stayed e) d).bags.waiting,
+        (none ∙ sym (due_stayed e)) d,
+      )) t)
+      (λ ne. subst (λ (z : KnownWaiting × List Waiting × List LimboEntry). AreInBags n z.0 z.1 z.2)
+      (λ d. (
+        record { plain = sym (aged_moved s.waits ne) d; private = sym (privates_moved s.privates ne) d },
+        (sym (moved ne) d).bags.waiting,
+        sym (due_moved ne) d,
+      )) (all_older n (known_waiting s) own.bags.waiting taken t none))
+
+  -- the same of what the participant keeps once the opening is over or not
+  pub bags_arrived : (n : ℕ) (b : Bool) (new : Participant) → HasArrived count b own new → (s : SlotsView) (taken : List LimboEntry)
+      → AreInBags n (known_waiting s) own.bags.waiting taken → taken ≡ []
+      → AreInBags n (known_waiting (aged_slots_at count own s)) new.bags.waiting (due_at count own)
+  bags_arrived n b new h s taken t none = subst (λ (ws : List Waiting). AreInBags n (known_waiting (aged_slots_at count own s)) ws (due_at count own))
+      (sym (has_bags b new h)) (bags_aged n s taken t none)
+
+  -- no item is collected by it
+  pub none_collected : (s : SlotsView) → s.privates ≡ [] → (aged_slots_at count own s).privates ≡ []
+  none_collected s none = dite (ℕ_discrete own.found count) (λ e. privates_stayed s.privates e ∙ none)
+      (λ ne. privates_moved s.privates ne ∙ ap (map older_private) none)
 
   -- as much of each slot waits as before
   pub same_aged : (i : ℕ) (xs : List WaitingItem) → total (waits_in i) (aged_at count own xs) ≡ total (waits_in i) xs
@@ -122,7 +151,7 @@ module _ (b : DomainTable) (p : ℕ) (own : Participant) (count : ℕ) where
       = λ one. pub_.4.3 (ap (λ (x : EpochView). x.all) read.1.0 ∙ one) ∙ ap (λ (x : EpochView). x.known) read.1.0 in (
         posed_arrived b p own own count g s.me.0.slots.waits s.me.0.slots.privates s u q (pub_.0.0 ∙ read.0.0.0) (pub_.0.2 ∙ read.0.0.2) (pub_.0.3 ∙ read.0.0.3)
             (λ i. record ((pub_.0.4 ∙ read.0.0.4) i) { counts = s.me.0.stakes.counts }) (pub_.0.5 ∙ read.0.0.5) (pub_.0.6 ∙ read.0.0.6) epochs low lone keeps
-            (λ i. omega arith) same shut q.bags refl q.pace q.idle,
+            (λ i. omega arith) same shut refl q.pace q.idle,
         record {
           table = pub_.0.0 ∙ read.0.0.0;
           number = pub_.0.1 ∙ read.0.0.1;
@@ -152,8 +181,8 @@ module _ (b : DomainTable) (p : ℕ) (own : Participant) (count : ℕ) where
         ∙ ap aged_slots (write.0.2 ∙ read.0.2))
 
     -- another count is found: what waits has seen one change more, and what is due comes out of the bags
-    pub arrived_moved : own.guards ≡ 0 → ripe s.me.0.slots.waits ≡ [] → IsBetweenCalls b p (nested (rotated count own)) w × Arrives count own s w
-    arrived_moved shut settled =
+    pub arrived_moved : own.guards ≡ 0 → IsBetweenCalls b p (nested (rotated count own)) w × Arrives count own s w
+    arrived_moved shut =
         let g : ℕ = pub_.4.0 in let e : EpochView = epoch s in let xs : List WaitingItem = s.me.0.slots.waits in
         let epochs : epoch w ≡ published (counted (knowing e count) count) g = pub_.4.1 ∙ ap (λ (x : EpochView). published x g) known_now in
         let low : count ≤ g = (let low = pub_.4.2 in let k = ap (λ (x : EpochView). x.known) known_now in omega arith) in
@@ -163,15 +192,11 @@ module _ (b : DomainTable) (p : ℕ) (own : Participant) (count : ℕ) where
         let others : w.me.1 ≡ s.me.1 = pub_.0.2 ∙ (write.0.0.2 ∙ read.0.0.2) in
         let sizes : w.me.0.sizes ≡ s.me.0.sizes = pub_.0.3 ∙ (write.0.0.3 ∙ read.0.0.3) in
         let stakes : w.me.0.stakes ≡ s.me.0.stakes = pub_.0.4 ∙ (write.0.0.4 ∙ read.0.0.4) in
-        let all : unripe xs ≡ xs = all_left (slots_of b) xs (ap (map (what_of (slots_of b))) settled) in
-        let bags : left (aged own.bags.waiting) ≡ map (waiting_of (slots_of b)) (unripe (map older xs))
-        = ap (λ (ws : List Waiting). left (aged ws)) (q.bags ∙ ap (map (waiting_of (slots_of b))) all)
-        ∙ (ap left (aged_alike (slots_of b) xs) ∙ left_alike (slots_of b) (map older xs)) in
         let idle : own.countdown ≡ 128 → left (aged own.bags.waiting) ≡ [] = λ full. ap (λ (ws : List Waiting). left (aged ws)) (q.idle full) in (
           posed_arrived b p own (rotated count own) count g (map older xs) (map older_private s.me.0.slots.privates) s w q table others sizes
               (λ i. record (stakes i) { counts = s.me.0.stakes.counts }) (pub_.0.5 ∙ (write.0.0.5 ∙ read.0.0.5)) (pub_.0.6 ∙ (write.0.0.6 ∙ read.0.0.6)) epochs low lone older_now
               (λ i. let m = same_items i xs in omega arith)
-              refl shut bags refl q.pace idle,
+              refl shut refl q.pace idle,
           record {
             table = table;
             number = pub_.0.1 ∙ (write.0.0.1 ∙ read.0.0.1);
@@ -214,7 +239,6 @@ posed_settled b p own token none q = let paced : (settled own).countdown ≡ 128
   pledges = q.pledges;
   rights = q.rights;
   waiting = q.waiting;
-  bags = q.bags;
   room = q.room;
   pace = omega arith;
   idle = λ _. none;

@@ -55,6 +55,7 @@ module _ {T J : Type 0} (v : LocalModel T J) (t : AreTied v.member v.entries) (k
     wide = length-set v.entries k (Some (x, g)) ∙ t.wide;
     plain = t.plain;
     waits = t.waits;
+    privates = t.privates;
     kept = λ i l filled. dite (ℕ_discrete i k)
         (λ e. subst (λ (j : ℕ). Agrees (newest j now.filled) (slice_index_or later.entries j None)) (sym e) agrees_now)
         (λ ne. subst (λ (z : Option ShownValue × Option (T × Gv)). Agrees z.0 z.1) (λ d. (sym (filled_then i ne) d, sym (entry_then i ne) d))
@@ -62,7 +63,6 @@ module _ {T J : Type 0} (v : LocalModel T J) (t : AreTied v.member v.entries) (k
     table = t.table;
     jobs = t.jobs;
     bags = t.bags;
-    due = t.due;
     now = t.now;
   }
 

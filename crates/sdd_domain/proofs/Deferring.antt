@@ -1,28 +1,27 @@
 -- A participant is posed after each step on a place of a job.
-use Rattle.std.proofs.Common.{◌≡◌, ℕ, ◌+◌, ◌<◌, List, [], ◌∷◌, ◌++◌, map, sym, refl, ap, ◌∙◌, subst, arith}
+use Rattle.std.proofs.Common.{◌≡◌, ℕ, ◌+◌, ◌<◌, List, ◌∷◌, sym, ap, ◌∙◌, subst, arith}
 use mathlib.Core.Logic.{dite}
 use native.Mathlib.Decide.{ℕ_discrete}
 use Rattle.atomic_table.specs.declared.shared.Seat.{Seat}
 use Rattle.sdd_participants.specs.declared.waiting.LimboEntry.{LimboEntry}
 use Rattle.sdd_participants.specs.declared.waiting.LimboEntry.TheVariants.{Job}
 use Rattle.sdd_participants.specs.declared.participant.Participant.{Participant}
-use Rattle.sdd_participants.specs.Waiting.{Waiting, fresh}
+use Rattle.sdd_participants.specs.Waiting.{Waiting}
 use Rattle.sdd_participants.specs.EpochState.{awaiting}
 use Rattle.sdd_shared_values.specs.declared.value_fraction.ValueFraction.{ValueFraction}
-use Rattle.sdd_views.specs.declared.WaitingItem.{WaitingItem}
 use Rattle.sdd_views.specs.declared.View.{View}
 use Rattle.sdd_word_invariant.specs.Sums.{total}
 use Rattle.sdd_word_invariant.specs.Slots.{waits_in}
 use Rattle.sdd_word_invariant.specs.SlotSteps.{retired_now, DefersAt, GivesBack}
-use Rattle.sdd_word_invariant.proofs.Sums.{is_same, is_other, total_has, total_snoc}
+use Rattle.sdd_word_invariant.proofs.Sums.{is_other, total_snoc}
 use Rattle.sdd_domain_invariant.specs.FractionsAtHome.{CarriedFractions}
 use Rattle.sdd_atomics.specs.declared.domain_table.DomainTable.{DomainTable}
-use Rattle.sdd_atomics.specs.DomainTable.{sizes_of, book_of, places_of, slots_of, most_waiting_of}
-use Rattle.sdd_atomics.specs.DomainSeat.{slots}
-use Rattle.sdd_domain.specs.WaitingItems.{what_of, waiting_of, ripe}
+use Rattle.sdd_atomics.specs.DomainTable.{book_of, places_of, slots_of, most_waiting_of}
+use Rattle.sdd_domain.specs.InBags.{AreInBags, KnownWaiting}
+use Rattle.sdd_domain.specs.WaitingItems.{what_of}
 use Rattle.sdd_domain.specs.BetweenCalls.{CarriesSeenOnly, IsBetweenCalls}
-use Rattle.sdd_domain.proofs.Reclaims.{first_is_due, first_goes, no_more, waiting_inside, what_job}
-use Rattle.sdd_domain.proofs.Ripe.{unripe_too}
+use Rattle.sdd_domain.proofs.InBags.{first_inside, first_once, job_plain, known_in}
+use Rattle.sdd_domain.proofs.Reclaims.{no_more, what_job}
 use Rattle.sdd_domain.proofs.Posing.{stirs, stirs_low}
 
 module _ (b : DomainTable) (p : ℕ) (own : Participant) (s t : Seat ValueFraction View) (q : IsBetweenCalls b p own s) (table : t.table_id ≡ s.table_id)
@@ -54,22 +53,29 @@ module _ (b : DomainTable) (p : ℕ) (own : Participant) (s t : Seat ValueFracti
     free = q.free;
     knows = q.knows;
     found = q.found;
-    quiet = record { owns = q.quiet.owns; drawn = q.quiet.drawn; holds = q.quiet.holds; looked = q.quiet.looked; over = q.quiet.over };
+    quiet = record {
+      owns = q.quiet.owns;
+      drawn = q.quiet.drawn;
+      holds = q.quiet.holds;
+      looked = q.quiet.looked;
+      over = q.quiet.over;
+      emptied = q.quiet.emptied;
+      closes = q.quiet.closes;
+      empties = q.quiet.empties;
+      left = q.quiet.left;
+    };
     pledges = q.pledges;
     rights = q.rights;
     waiting = λ i some_wait. dite (ℕ_discrete (n + job) i) (λ e. subst (λ (k : ℕ). k < most_waiting_of b) e inside)
         (λ ne. q.waiting i (let o = is_other i (n + job) ne in let t = total_snoc (waits_in i) s.me.0.slots.waits (retired_now (n + job) d.0) in omega arith));
-    bags = ap (λ (l : List Waiting). l ++ fresh (Job job) ∷ []) q.bags
-        ∙ sym (unripe_too (retired_now (n + job) d.0) refl n (Job job) (what_there d.0) s.me.0.slots.waits);
     room = q.room;
     pace = stirs_low own.countdown q.pace;
     idle = λ e. absurd (stirs own.countdown e);
   }
 
   -- the job that was due first is taken out, and its place given back
-  pub posed_takes : (rest : List LimboEntry) → map (what_of n) (ripe (slots s).waits) ≡ Job job ∷ rest → GivesBack (n + job) s.me.0 0 t.me.0
-      → IsBetweenCalls b p own t
-  posed_takes rest first e = let goes = first_goes n (Job job) rest s.me.0.slots.waits first e.1 in
+  pub posed_takes : GivesBack (n + job) s.me.0 0 t.me.0 → IsBetweenCalls b p own t
+  posed_takes e =
       subst (λ (v : View). IsBetweenCalls b p own (record t { me = (v, t.me.1) })) (sym e.0) record {
         home = table ∙ q.home;
         purse = subst (λ (xs : CarriedFractions). CarriesSeenOnly (book_of b) (places_of b) p s.me.0.stakes.sees xs) (sym others) q.purse;
@@ -87,22 +93,32 @@ module _ (b : DomainTable) (p : ℕ) (own : Participant) (s t : Seat ValueFracti
         free = q.free;
         knows = q.knows;
         found = q.found;
-        quiet = record { owns = q.quiet.owns; drawn = q.quiet.drawn; holds = q.quiet.holds; looked = q.quiet.looked; over = q.quiet.over };
+        quiet = record {
+          owns = q.quiet.owns;
+          drawn = q.quiet.drawn;
+          holds = q.quiet.holds;
+          looked = q.quiet.looked;
+          over = q.quiet.over;
+          emptied = q.quiet.emptied;
+          closes = q.quiet.closes;
+          empties = q.quiet.empties;
+          left = q.quiet.left;
+        };
         pledges = q.pledges;
         rights = q.rights;
         waiting = λ i some_wait. q.waiting i (let m = no_more (n + job) i s.me.0.slots.waits in omega arith);
-        bags = q.bags ∙ ap (map (waiting_of n)) (sym goes.1);
         room = q.room;
         pace = q.pace;
         idle = q.idle;
       }
 
--- where a job is due before all others, its place is one of the places of jobs
-pub place_low : (b : DomainTable) (job : ℕ) (rest : List LimboEntry) (xs : List WaitingItem) → map (what_of (slots_of b)) (ripe xs) ≡ Job job ∷ rest
-    → ((i : ℕ) → 0 < total (waits_in i) xs → i < most_waiting_of b) → job < (sizes_of b).jobs
-place_low b job rest xs first inside = let low = waiting_inside (slots_of b) (most_waiting_of b) (Job job) rest xs first inside in omega arith
+module _ (n : ℕ) (known : KnownWaiting) (waiting : List Waiting) (taken : List LimboEntry) (t : AreInBags n known waiting taken) (job : ℕ)
+    (rest : List LimboEntry) (first : taken ≡ Job job ∷ rest) where
+  -- where a job is due before all others, its place is one of the places of jobs
+  pub place_low : (jobs : ℕ) → ((i : ℕ) → 0 < total (waits_in i) known.plain → i < n + jobs) → job < jobs
+  place_low jobs inside = let low = first_inside n known waiting taken t (Job job) rest first (n + jobs) inside (omega arith) in omega arith
 
--- and it waits there
-pub waits_now : (n job : ℕ) (rest : List LimboEntry) (xs : List WaitingItem) → map (what_of n) (ripe xs) ≡ Job job ∷ rest → 0 < total (waits_in (n + job)) xs
-waits_now n job rest xs first = let one = first_is_due n (Job job) rest xs first in let here = total_has (waits_in (n + job)) xs one.0 one.1 one.2 in
-    let same = is_same (n + job) one.1.slot one.3 in omega arith
+  -- and it waits there
+  pub waits_now : total (waits_in (n + job)) known.plain ≡ 1
+  waits_now = let once = first_once n known waiting taken t (Job job) rest first in let both = known_in n known waiting taken t (n + job) in
+      let none = job_plain n known waiting taken t job in omega arith

@@ -9,7 +9,7 @@ use Rattle.sdd_participants.specs.Slab.{entry_at}
 use Rattle.sdd_participants.specs.Tally.{one_in_place}
 use Rattle.sdd_shared_values.specs.SharedValues.{showing}
 use Rattle.sdd_views.specs.declared.Sizes.{Sizes}
-use Rattle.sdd_word_invariant.specs.Codes.{waiting, full}
+use Rattle.sdd_word_invariant.specs.Codes.{waiting, waits_for, full}
 use Rattle.sdd_word_invariant.specs.SlotSteps.{behind}
 use Rattle.sdd_word_invariant.proofs.Codes.{free_is, sound}
 use Rattle.sdd_space.specs.OwnerOrCell.{OwnerOrCell}
@@ -21,7 +21,7 @@ use Rattle.sdd_domain.specs.WordsAndValues.{AreTied, MatchesPlace, is_plain_word
 use Rattle.sdd_domain.specs.Local.{LocalModel, listing, standing_by, value_by, standing_in, value_in, world_of}
 use Rattle.sdd_domain.proofs.Listings.{listing_set}
 use Rattle.sdd_domain.proofs.Owning.{entry, has_value}
-use Rattle.sdd_domain.proofs.Words.{word_same, word_other}
+use Rattle.sdd_domain.proofs.Words.{alive_public, free_public, public_alike, word_same, word_other}
 use Rattle.sdd_domain.proofs.Alone.{cells_kept, pointers_kept}
 
 -- an owner's item has the value that its owner tells
@@ -91,6 +91,11 @@ module _ {J : Type 0} (R : RattleType) (v : LocalModel R.Denot J) (t : AreTied v
           (λ e. let w = t.waits i l in let a = ap waiting (ap (word_of v.member) e) in let b = ap waiting (ap (word_of now) e ∙ same) in
           let f = (free_is 0 (omega arith)).1 in omega arith)
           (λ ne. t.waits i l ∙ ap waiting (sym (other i ne)));
+      privates = λ i l c. dite (ℕ_discrete i k)
+          (λ e. t.privates i l c ∙ (ap (waits_for c) (ap (word_of v.member) e)
+          ∙ (public_alike c (word_of v.member k) 0 (alive_public (word_of v.member k) knows.alive) free_public
+          ∙ ap (waits_for c) (sym (ap (word_of now) e ∙ same)))))
+          (λ ne. t.privates i l c ∙ ap (waits_for c) (sym (other i ne)));
       kept = λ i l filled. dite (ℕ_discrete i k)
           (λ e. absurd (let f = (free_is 0 (omega arith)).2 in let g = ap full (ap (word_of now) e ∙ same) in omega arith))
           (λ ne. t.kept i l (sym (ap full (other i ne)) ∙ filled));
@@ -98,7 +103,6 @@ module _ {J : Type 0} (R : RattleType) (v : LocalModel R.Denot J) (t : AreTied v
       jobs = λ j l. subst (λ (w : ℕ). MatchesPlace w (entry_at v.member.jobs j))
           (sym (other (place_number v.member j) (λ e. let s = is.inside in absurd (omega arith)))) (t.jobs j l);
       bags = t.bags;
-      due = t.due;
       now = t.now;
     }
 

@@ -63,9 +63,9 @@ module _ {T J : Type 0} (v : LocalModel T J) where
     jobs = t.jobs;
     plain = t.plain;
     waits = t.waits;
+    privates = t.privates;
     kept = t.kept;
     bags = t.bags;
-    due = t.due;
     now = λ _. t.now some_open;
   }
 
@@ -81,9 +81,9 @@ module _ {T J : Type 0} (v : LocalModel T J) where
     jobs = t.jobs;
     plain = t.plain;
     waits = t.waits;
+    privates = t.privates;
     kept = t.kept;
     bags = t.bags;
-    due = t.due;
     now = t.now;
   }
 

@@ -1,5 +1,5 @@
 -- What a lone participant reclaims, for its world
-use Rattle.std.proofs.Common.{◌≡◌, ◌≢◌, ℕ, ◌<◌, IsTrue, List, Some, None, map, set, slice_index_or, sym, refl, ap, ◌∙◌, subst, arith, length-set}
+use Rattle.std.proofs.Common.{◌≡◌, ◌≢◌, ℕ, ◌<◌, IsTrue, List, Some, None, set, slice_index_or, sym, refl, ap, ◌∙◌, subst, arith, length-set}
 use Rattle.std.specs.Prelude.{Option, Bool, option_map}
 use mathlib.Core.Logic.{dite}
 use native.Mathlib.Decide.{ℕ_discrete}
@@ -12,7 +12,7 @@ use Rattle.sdd_participants.specs.declared.standing.Standing.TheVariants.{Retire
 use Rattle.sdd_shared_values.specs.SharedValues.{showing}
 use Rattle.sdd_views.specs.declared.ShownValue.{ShownValue}
 use Rattle.sdd_views.specs.declared.Sizes.{Sizes}
-use Rattle.sdd_word_invariant.specs.Codes.{waiting, full}
+use Rattle.sdd_word_invariant.specs.Codes.{waiting, waits_for, full}
 use Rattle.sdd_word_invariant.specs.SlotSteps.{behind, without_item}
 use Rattle.sdd_word_invariant.specs.Sums.{total}
 use Rattle.sdd_word_invariant.specs.Slots.{waits_in}
@@ -25,13 +25,13 @@ use Rattle.sdd_space.specs.WorldChanges.{waiting_value, taken_out, given_all, re
 use Rattle.sdd_space.specs.WorldChanges as steps
 use Rattle.sdd_participants.specs.Slab.{entry_at}
 use Rattle.sdd_domain.specs.LocalState.{LocalState, place_number, IsLone, Reclaims, word_of}
-use Rattle.sdd_domain.specs.WaitingItems.{what_of, waiting_of, ripe, unripe}
+use Rattle.sdd_domain.specs.InBags.{known_waiting}
 use Rattle.sdd_domain.specs.Values.{one_showing}
 use Rattle.sdd_domain.specs.WordsAndValues.{MatchesPlace, Agrees, AreTied, is_plain_word}
 use Rattle.sdd_domain.specs.Local.{LocalModel, listing, standing_by, value_by, standing_in, value_in, world_of}
 use Rattle.sdd_domain.proofs.Listings.{listing_at, listing_set}
-use Rattle.sdd_domain.proofs.Reclaims.{first_goes}
-use Rattle.sdd_domain.proofs.Words.{word_same, word_other, stands_retired, value_there, waiting_taken}
+use Rattle.sdd_domain.proofs.InBags.{first_plain_out}
+use Rattle.sdd_domain.proofs.Words.{free_public, public_alike, waiting_public, word_same, word_other, stands_retired, value_there, waiting_taken}
 use Rattle.sdd_domain.proofs.Alone.{cells_kept, pointers_kept}
 
 value_or : Gv → Option ShownValue → Gv
@@ -118,10 +118,6 @@ module _ {J : Type 0} (R : RattleType) (p : LocalModel R.Denot J) (t : AreTied p
       ap (λ (s : Option Standing). taken_out holds w k slot (waiting_value w slot s)) stands_here
       ∙ (ap (taken_out holds w k slot) value_here ∙ ap (λ (v : World R.Denot). given_all v k (holds x)) (sym freed_is))
 
-  goes_first : (map (what_of p.member.limits.slots) (ripe (without_item slot p.member.slots.waits)) ≡ m.due)
-      × (unripe (without_item slot p.member.slots.waits) ≡ unripe p.member.slots.waits)
-  goes_first = first_goes p.member.limits.slots (Item slot) m.due p.member.slots.waits (sym t.due ∙ is.first) is.once
-
   tied_now : AreTied now p.entries
   tied_now = record {
     place = t.place;
@@ -136,14 +132,19 @@ module _ {J : Type 0} (R : RattleType) (p : LocalModel R.Denot J) (t : AreTied p
         (λ e. let g = item_gone slot p.member.slots.waits in let u = ap (λ (j : ℕ). total (waits_in j) (without_item slot p.member.slots.waits)) e in
         let a = ap waiting (ap (word_of now) e ∙ same) in let f = (free_is 0 (omega arith)).1 in omega arith)
         (λ ne. let k = item_kept slot i ne p.member.slots.waits in let w = t.waits i l in let s = ap waiting (other i ne) in omega arith);
+    privates = λ i l c. dite (ℕ_discrete i slot)
+        (λ e. let one = waits_here in t.privates i l c ∙ (ap (waits_for c) (ap (word_of p.member) e)
+        ∙ (public_alike c (word_of p.member slot) 0 (waiting_public (word_of p.member slot) (omega arith)) free_public
+        ∙ ap (waits_for c) (sym (ap (word_of now) e ∙ same)))))
+        (λ ne. t.privates i l c ∙ ap (waits_for c) (sym (other i ne)));
     kept = λ i l filled. dite (ℕ_discrete i slot)
         (λ e. absurd (let f = (free_is 0 (omega arith)).2 in let g = ap full (ap (word_of now) e ∙ same) in omega arith))
         (λ ne. t.kept i l (sym (ap full (other i ne)) ∙ filled));
     table = t.table;
     jobs = λ j l. subst (λ (w : ℕ). MatchesPlace w (entry_at p.member.jobs j))
         (sym (other (place_number p.member j) (λ e. let s = is.inside in omega arith))) (t.jobs j l);
-    bags = t.bags ∙ ap (map (waiting_of p.member.limits.slots)) (sym goes_first.1);
-    due = sym goes_first.0;
+    bags = first_plain_out p.member.limits.slots (known_waiting p.member.slots) p.member.own.bags.waiting p.member.due t.bags (Item slot) m.due is.first
+        is.once;
     now = t.now;
   }
 

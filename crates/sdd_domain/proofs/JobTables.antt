@@ -12,13 +12,14 @@ use Rattle.sdd_word_invariant.specs.Slots.{waits_in}
 use Rattle.sdd_word_invariant.specs.SlotSteps.{retired_now, without_item}
 use Rattle.sdd_word_invariant.proofs.Sums.{is_same, is_other, total_snoc}
 use Rattle.sdd_word_invariant.proofs.Owning.{item_gone, item_kept}
-use Rattle.std.proofs.Common.{Bool, true, false, not, cond, map, ◌≤◌, ⊎_elim}
+use Rattle.std.proofs.Common.{true, false, ◌≤◌, ⊎_elim}
 use Rattle.std.proofs.lemmas.Bool.{cases_lt}
 use Rattle.std.proofs.lemmas.List.{get_or_past}
 use Rattle.sdd_participants.specs.declared.participant.Participant.{Participant}
 use Rattle.sdd_participants.specs.Waiting.{Waiting}
-use Rattle.sdd_domain.specs.WaitingItems.{what_of, waiting_of, is_ripe, ripe, unripe}
+use Rattle.sdd_domain.specs.InBags.{AreInBags, KnownWaiting}
 use Rattle.sdd_domain.specs.DueItems.{Pending}
+use Rattle.sdd_domain.proofs.InBags.{nothing_waits}
 
 module _ {J : Type 0} where
   -- so many slots, and so many places of jobs
@@ -73,19 +74,6 @@ pub not-there : {A : Type 0} (o : Option A) → (IsSome o → ⊥) → o ≡ Non
 not-there None h = refl
 not-there (Some x) h = absurd (h refl)
 
-split-none : (b : Bool) (x : WaitingItem) (xs ys : List WaitingItem) → cond b (x ∷ xs) xs ≡ [] → cond (not b) (x ∷ ys) ys ≡ [] → ⊥
-split-none true x xs ys old young = cc
-split-none false x xs ys old young = cc
-
--- what has seen three changes, and what hasn't, are all that waits
-nothing-waits : (xs : List WaitingItem) → ripe xs ≡ [] → unripe xs ≡ [] → xs ≡ []
-nothing-waits [] old young = refl
-nothing-waits (x ∷ xs) old young = absurd (split-none (is_ripe x) x (ripe xs) (unripe xs) old young)
-
-unmapped : {A B : Type 0} (f : A → B) (xs : List A) → map f xs ≡ [] → xs ≡ []
-unmapped f [] is = refl
-unmapped f (x ∷ xs) is = absurd (cc)
-
 pub none-wait : (m : Participant) → elim (m.bags.waiting) [ [] ↦ false | x ∷ xs ↦ true ] ≡ false → m.bags.waiting ≡ []
 none-wait m is = none-of m.bags.waiting is
   where
@@ -94,14 +82,11 @@ none-wait m is = none-of m.bags.waiting is
     none-of (w ∷ ws) is = absurd (cc)
 
 -- so many slots, and so many places of jobs, of each of which there is a job exactly where one waits; nothing is due, and nothing waits in the bags
-pub none-there : {J : Type 0} (n jobs : ℕ) (table : List (Option J)) (xs : List WaitingItem) (items : List LimboEntry) (bags : List Waiting) →
-    length table ≡ jobs → ((j : ℕ) → j < jobs → IsSome (slice_index_or table j None) ↔ (0 < total (waits_in (n + j)) xs)) →
-    items ≡ map (what_of n) (ripe xs) → items ≡ [] → bags ≡ map (waiting_of n) (unripe xs) → bags ≡ [] → (j : ℕ) → slice_index_or table j None ≡ None
-none-there n jobs table xs items bags long there due none_due waiting none_wait j =
-    let none : xs ≡ [] = nothing-waits xs (unmapped (what_of n) (ripe xs) (sym due ∙ none_due))
-    (unmapped (waiting_of n) (unripe xs) (sym waiting ∙ none_wait)) in
-    ⊎_elim
+pub none-there : {J : Type 0} (n jobs : ℕ) (table : List (Option J)) (known : KnownWaiting) (items : List LimboEntry) (bags : List Waiting) →
+    length table ≡ jobs → ((j : ℕ) → j < jobs → IsSome (slice_index_or table j None) ↔ (0 < total (waits_in (n + j)) known.plain)) →
+    AreInBags n known bags items → items ≡ [] → bags ≡ [] → (j : ℕ) → slice_index_or table j None ≡ None
+none-there n jobs table known items bags long there tied none_due none_wait j = ⊎_elim
     (λ (low : j < jobs). not-there (slice_index_or table j None) (λ some. let w = (there j low).0 some in
-    let zero_now = ap (λ (ys : List WaitingItem). total (waits_in (n + j)) ys) none in absurd (omega arith)))
+    let zero_now = (nothing_waits n known bags items tied none_due none_wait (n + j)).0 in absurd (omega arith)))
     (λ (high : jobs ≤ j). get_or_past table j None (omega arith))
     (cases_lt j jobs)

@@ -8,9 +8,8 @@ use Rattle.sdd_participants.specs.declared.waiting.LimboEntry.TheVariants.{Job}
 use Rattle.sdd_participants.specs.declared.participant.Participant.{Participant}
 use Rattle.sdd_views.specs.declared.SlotsView.{SlotsView}
 use Rattle.sdd_participants.specs.Slab.{entry_at, with_entry, without_entry, IsEmptyAt, IsFull}
-use Rattle.sdd_participants.specs.Waiting.{Waiting, fresh}
 use Rattle.sdd_participants.specs.EpochState as time
-use Rattle.sdd_word_invariant.specs.Codes.{waiting, full}
+use Rattle.sdd_word_invariant.specs.Codes.{waiting, waits_for, full}
 use Rattle.sdd_word_invariant.specs.SlotSteps.{behind, retired_now, without_item}
 use Rattle.sdd_word_invariant.specs.Sums.{total}
 use Rattle.sdd_word_invariant.specs.Slots.{waits_in}
@@ -20,13 +19,14 @@ use Rattle.sdd_space.specs.World.{World}
 use Rattle.sdd_space.specs.WorldChanges.{deferred, ran}
 use Rattle.sdd_participants.proofs.Places.{empty-places, places-full, places-put, places-taken}
 use Rattle.sdd_domain.specs.LocalState.{LocalState, place_number, IsLone, DefersTo, TakesJob, AllPlacesTaken, word_of}
-use Rattle.sdd_domain.specs.WaitingItems.{what_of, waiting_of, ripe, unripe}
+use Rattle.sdd_domain.specs.InBags.{AreInBags, known_waiting, private_for}
+use Rattle.sdd_domain.specs.WaitingItems.{what_of}
 use Rattle.sdd_domain.specs.WordsAndValues.{AreTied, MatchesPlace, is_plain_word}
 use Rattle.sdd_domain.specs.Local.{LocalModel, listing, standing_by, value_by, standing_in, value_in, world_of}
 use Rattle.sdd_domain.proofs.Alone.{alone, steps_alone, cells_kept, pointers_kept}
 use Rattle.sdd_domain.proofs.Listings.{listing_same}
-use Rattle.sdd_domain.proofs.Reclaims.{first_goes, what_job}
-use Rattle.sdd_domain.proofs.Ripe.{ripe_snoc, unripe_too}
+use Rattle.sdd_domain.proofs.InBags.{first_plain_out, job_plain, one_more}
+use Rattle.sdd_domain.proofs.Reclaims.{what_job}
 use Rattle.sdd_domain.proofs.Words.{word_put, word_other}
 
 -- the word of a job's place becomes y, and slots stay as they were
@@ -52,9 +52,9 @@ module _ {T J : Type 0} (v : LocalModel T J) (t : AreTied v.member v.entries) (p
   -- a participant whose other words are so, with what waits and what it has of its own
   pub tied_by : (own : Participant) (known : ℕ) (slots : SlotsView) (due : List LimboEntry) (e : Option J)
       → ((i : ℕ) → i < n → total (waits_in i) slots.waits ≡ total (waits_in i) v.member.slots.waits) → MatchesPlace y e
-      → own.bags.waiting ≡ map (waiting_of n) (unripe slots.waits) → due ≡ map (what_of n) (ripe slots.waits) → (0 < own.guards → known ≡ own.found)
+      → slots.privates ≡ v.member.slots.privates → AreInBags n (known_waiting slots) own.bags.waiting due → (0 < own.guards → known ≡ own.found)
       → AreTied (record v.member { own = own; known = known; slots = slots; words = words_then; due = due; jobs = set v.member.jobs place e }) v.entries
-  tied_by own known slots due e same matches bags is_due knows = record {
+  tied_by own known slots due e same matches same_privates bags knows = record {
     place = t.place;
     slots = t.slots;
     places = t.places;
@@ -63,6 +63,7 @@ module _ {T J : Type 0} (v : LocalModel T J) (t : AreTied v.member v.entries) (p
     wide = t.wide;
     plain = λ i l. subst (λ (w : ℕ). IsTrue (is_plain_word w)) (sym (slot_then i l)) (t.plain i l);
     waits = λ i l. same i l ∙ (t.waits i l ∙ ap waiting (sym (slot_then i l)));
+    privates = λ i l c. ap (total (private_for c i)) same_privates ∙ (t.privates i l c ∙ ap (waits_for c) (sym (slot_then i l)));
     kept = λ i l filled. t.kept i l (sym (ap full (slot_then i l)) ∙ filled);
     table = length-set v.member.jobs place e ∙ t.table;
     jobs = λ j l. dite (ℕ_discrete j place)
@@ -75,7 +76,6 @@ module _ {T J : Type 0} (v : LocalModel T J) (t : AreTied v.member v.entries) (p
         (λ ne. subst (λ (z : ℕ × Option J). MatchesPlace z.0 z.1)
         (λ d. (sym (then (n + j) (λ eq. ne (let f = eq in omega arith))) d, sym (get_or-set_other v.member.jobs place j e None ne) d)) (t.jobs j l));
     bags = bags;
-    due = is_due;
     now = knows;
   }
 
@@ -137,11 +137,10 @@ module _ {T J : Type 0} (v : LocalModel T J) (t : AreTied v.member v.entries) wh
     tied_deferred = subst (λ (x : LocalState J). AreTied x v.entries) (sym is_later)
         (tied_by v t place 4 is.inside waits_too.own waits_too.known waits_too.slots waits_too.due (Some job)
         (λ i l. let s = total_snoc (waits_in i) v.member.slots.waits (retired_now (place_number v.member place) count) in
-        let o = is_other i (place_number v.member place) (λ e. omega arith) in omega arith) refl
-        (ap (λ (l : List Waiting). l ++ fresh (Job place) ∷ []) t.bags
-        ∙ sym (unripe_too (retired_now (place_number v.member place) count) refl v.member.limits.slots (Job place) what_there v.member.slots.waits))
-        (t.due ∙ ap (map (what_of v.member.limits.slots))
-        (sym (ripe_snoc (retired_now (place_number v.member place) count) refl v.member.slots.waits))) t.now)
+        let o = is_other i (place_number v.member place) (λ e. omega arith) in omega arith) refl refl
+        (one_more v.member.limits.slots (known_waiting v.member.slots) v.member.own.bags.waiting v.member.due t.bags
+        (retired_now (place_number v.member place) count) (Job place) refl what_there is.first
+        (job_plain v.member.limits.slots (known_waiting v.member.slots) v.member.own.bags.waiting v.member.due t.bags place)) t.now)
 
     world_waits : alone (record { member = waits_too; entries = v.entries }) ≡ deferred (alone v) 0 place
     world_waits = let q : LocalModel T J = record { member = waits_too; entries = v.entries } in
@@ -168,15 +167,12 @@ module _ {T J : Type 0} (v : LocalModel T J) (t : AreTied v.member v.entries) wh
       jobs = without_entry v.member.jobs place;
     }
 
-    goes_first : (map (what_of v.member.limits.slots) (ripe (without_item (place_number v.member place) v.member.slots.waits)) ≡ m.due)
-        × (unripe (without_item (place_number v.member place) v.member.slots.waits) ≡ unripe v.member.slots.waits)
-    goes_first = first_goes v.member.limits.slots (Job place) m.due v.member.slots.waits (sym t.due ∙ is.first) is.once
-
     pub tied_taken : AreTied m v.entries
     tied_taken = subst (λ (x : LocalState J). AreTied x v.entries) (sym is.member)
         (tied_by v t place 0 is.inside gone.own gone.known gone.slots m.due None
-        (λ i l. item_kept (place_number v.member place) i (λ e. omega arith) v.member.slots.waits) refl
-        (t.bags ∙ ap (map (waiting_of v.member.limits.slots)) (sym goes_first.1)) (sym goes_first.0) t.now)
+        (λ i l. item_kept (place_number v.member place) i (λ e. omega arith) v.member.slots.waits) refl refl
+        (first_plain_out v.member.limits.slots (known_waiting v.member.slots) v.member.own.bags.waiting v.member.due t.bags (Job place) m.due is.first is.once)
+        t.now)
 
     world_gone : alone (record { member = gone; entries = v.entries }) ≡ ran (alone v) place
     world_gone = let q : LocalModel T J = record { member = gone; entries = v.entries } in

@@ -18,7 +18,7 @@ use Rattle.sdd_rights.specs.StandingKind.{is_shared}
 use Rattle.sdd_rights.specs.Right.{number_of}
 use Rattle.sdd_standings.specs.Slots.{first_standing}
 use Rattle.sdd_views.specs.declared.ShownValue.{ShownValue}
-use Rattle.sdd_word_invariant.specs.Codes.{claimed_word, waiting, full}
+use Rattle.sdd_word_invariant.specs.Codes.{claimed_word, waiting, waits_for, full}
 use Rattle.sdd_word_invariant.specs.SlotSteps.{behind}
 use Rattle.sdd_word_invariant.proofs.Codes.{sound, free_is, claimed_is}
 use Rattle.sdd_domain_invariant.specs.FilledInvariant.{newest}
@@ -30,10 +30,10 @@ use Rattle.sdd_space.specs.WorldChanges.{made_as}
 use Rattle.sdd_domain.specs.LocalState.{LocalState, place_number, IsLone, IsUsedUp, MakesAt, word_of}
 use Rattle.sdd_domain.specs.Items.{HasValue, IsRightTo}
 use Rattle.sdd_domain.specs.WordsAndValues.{MatchesPlace, Entries, Agrees, AreTied, WordsMatchValues, is_plain_word}
-use Rattle.sdd_domain.specs.Local.{LocalModel, listing, standing_by, value_by, owner_standing, standing_in, value_in, world_of}
+use Rattle.sdd_domain.specs.Local.{LocalModel, listing, standing_by, value_by, item_standing, standing_in, value_in, world_of}
 use Rattle.sdd_domain.specs.Space.{ShowsBy, Shows, is_lone}
 use Rattle.sdd_domain.proofs.Listings.{listing_at, listing_long, listing_past, listing_set, listing_all}
-use Rattle.sdd_domain.proofs.Words.{word_same, word_other, plain_claimed, stands_claimed, stands_raw, stands_retired, value_there, alive_taken}
+use Rattle.sdd_domain.proofs.Words.{alive_public, free_public, public_alike, word_same, word_other, plain_claimed, stands_claimed, stands_raw, stands_retired, value_there, alive_taken}
 use Rattle.sdd_domain.proofs.Exact.{lone_is}
 use Rattle.sdd_domain.proofs.Alone.{cells_kept, pointers_kept}
 
@@ -49,9 +49,9 @@ some_standing : (word : ℕ) → word ≢ 0 → (s : Standing) × (standing_by w
 some_standing word taken = dite (ℕ_discrete (waiting word) 1) (λ e. (Retired, stands_retired word e))
     (λ ne. dite (ℕ_discrete word 2) (λ e. (Raw, ap standing_by e ∙ stands_raw))
     (λ other. (
-      owner_standing word,
+      item_standing word,
       λ d. if ne_eqb word 0 taken d then None
-          else (if ne_eqb (waiting word) 1 ne d then Some Retired else (if ne_eqb word 2 other d then Some Raw else Some (owner_standing word))),
+          else (if ne_eqb (waiting word) 1 ne d then Some Retired else (if ne_eqb word 2 other d then Some Raw else Some (item_standing word))),
     )))
 
 is_there : (s : Standing) → IsSome (Some s)
@@ -121,6 +121,10 @@ module _ {T J : Type 0} (v : LocalModel T J) (k : ℕ) (shared : Bool) (x : T) (
           let o = (sound.lives y (omega arith)).0 in
           let a = ap waiting (ap (word_of v.member) e ∙ free) in let b = ap waiting (ap (word_of made_member) e ∙ word_now) in omega arith)
           (λ ne. t.waits i l ∙ ap waiting (sym (word_then i ne)));
+      privates = λ i l c. dite (ℕ_discrete i k)
+          (λ e. let one = (claimed_is shared).0 in t.privates i l c ∙ (ap (waits_for c) (ap (word_of v.member) e ∙ free)
+          ∙ (public_alike c 0 y free_public (alive_public y (omega arith)) ∙ ap (waits_for c) (sym (ap (word_of made_member) e ∙ word_now)))))
+          (λ ne. t.privates i l c ∙ ap (waits_for c) (sym (word_then i ne)));
       kept = λ i l filled. dite (ℕ_discrete i k)
           (λ e. subst (λ (j : ℕ). Agrees (newest j made_member.filled) (slice_index_or made_partaker.entries j None)) (sym e) agrees_now)
           (λ ne. subst (λ (z : Option ShownValue × Option (T × Gv)). Agrees z.0 z.1) (λ d. (sym (filled_then i ne) d, sym (entry_then i ne) d))
@@ -129,7 +133,6 @@ module _ {T J : Type 0} (v : LocalModel T J) (k : ℕ) (shared : Bool) (x : T) (
       jobs = λ j l. subst (λ (w : ℕ). MatchesPlace w (entry_at v.member.jobs j))
           (sym (word_then (place_number v.member j) (λ e. let s = low in omega arith))) (t.jobs j l);
       bags = t.bags;
-      due = t.due;
       now = t.now;
     }
 

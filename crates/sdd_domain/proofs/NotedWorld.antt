@@ -3,7 +3,7 @@ use Rattle.std.proofs.Common.{◌≡◌, ℕ, Bool, true, false, IsTrue, List, N
 use Rattle.std.specs.Prelude.{Option}
 use base.Stored.{Gv}
 use Rattle.sdd_participants.specs.Slab.{entry_at}
-use Rattle.sdd_word_invariant.specs.Codes.{waiting, full}
+use Rattle.sdd_word_invariant.specs.Codes.{waiting, waits_for, full}
 use Rattle.sdd_word_invariant.specs.SlotSteps.{behind}
 use Rattle.sdd_space.specs.OwnerOrCell.{OwnerOrCell}
 use Rattle.sdd_space.specs.Ptr.{KeepsShown}
@@ -42,11 +42,11 @@ module _ {T J : Type 0} (v : LocalModel T J) (ws : List ℕ) (as_long : length w
     wide = t.wide;
     plain = λ i l. subst (λ (w : ℕ). IsTrue (is_plain_word w)) (sym (kept i)) (t.plain i l);
     waits = λ i l. t.waits i l ∙ ap waiting (sym (kept i));
+    privates = λ i l c. t.privates i l c ∙ ap (waits_for c) (sym (kept i));
     kept = λ i l filled. t.kept i l (sym (ap full (kept i)) ∙ filled);
     table = t.table;
     jobs = λ j l. subst (λ (w : ℕ). MatchesPlace w (entry_at v.member.jobs j)) (sym (kept (place_number v.member j))) (t.jobs j l);
     bags = t.bags;
-    due = t.due;
     now = t.now;
   }
 

@@ -3,37 +3,20 @@ use Rattle.std.proofs.Common.{◌≡◌, ◌≢◌, ℕ, ◌<◌, ◌==◌, fals
 use Rattle.std.specs.Prelude.{if◌then◌else◌}
 use mathlib.Core.Logic.{dite}
 use native.Mathlib.Decide.{ℕ_discrete}
-use Rattle.sdd_participants.specs.Waiting.{Waiting, aged, due, left}
 use Rattle.sdd_participants.specs.EpochState.{due_next}
 use Rattle.sdd_participants.specs.EpochState as time
-use Rattle.sdd_views.specs.declared.WaitingItem.{WaitingItem}
 use Rattle.sdd_word_invariant.specs.SlotSteps.{older, older_private, aged as aged_slots}
+use Rattle.sdd_word_invariant.proofs.Sums.{total_map}
 use Rattle.sdd_space.specs.WorldChanges.{nested, rotated}
 use Rattle.sdd_domain.specs.LocalState.{LocalState, IsLone, IsEntered}
-use Rattle.sdd_domain.specs.WaitingItems.{what_of, waiting_of, ripe, unripe}
+use Rattle.sdd_domain.specs.InBags.{AreInBags, known_waiting, private_for}
 use Rattle.sdd_domain.specs.WordsAndValues.{AreTied}
 use Rattle.sdd_domain.specs.Local.{LocalModel}
 use Rattle.sdd_domain.proofs.Arrivals.{same_items}
-use Rattle.sdd_domain.proofs.Reclaims.{aged_alike, left_alike, due_alike, all_left}
+use Rattle.sdd_domain.proofs.InBags.{all_older}
 use Rattle.sdd_domain.proofs.Alone.{alone}
 
 module _ {T J : Type 0} (p : LocalModel T J) (tied : AreTied p.member p.entries) (settled : p.member.due ≡ []) where
-  abbrev xs : List WaitingItem
-  xs = p.member.slots.waits
-
-  -- nothing has seen three changes
-  all_young : unripe p.member.slots.waits ≡ p.member.slots.waits
-  all_young = all_left p.member.limits.slots p.member.slots.waits (sym tied.due ∙ settled)
-
-  bags : p.member.own.bags.waiting ≡ map (waiting_of p.member.limits.slots) p.member.slots.waits
-  bags = tied.bags ∙ ap (map (waiting_of p.member.limits.slots)) all_young
-
-  due_are : due_next p.member.own ≡ map (what_of p.member.limits.slots) (ripe (map older p.member.slots.waits))
-  due_are = ap (λ (ws : List Waiting). due (aged ws)) bags ∙ (ap due (aged_alike p.member.limits.slots xs) ∙ due_alike p.member.limits.slots (map older xs))
-
-  left_are : left (aged p.member.own.bags.waiting) ≡ map (waiting_of p.member.limits.slots) (unripe (map older p.member.slots.waits))
-  left_are = ap (λ (ws : List Waiting). left (aged ws)) bags ∙ (ap left (aged_alike p.member.limits.slots xs) ∙ left_alike p.member.limits.slots (map older xs))
-
   module _ (count : ℕ) (m : LocalState J) (one : IsLone p.member) (is : IsEntered count p.member m) where
     found : count ≡ p.member.known
     found = (is.lone one).0
@@ -98,9 +81,9 @@ module _ {T J : Type 0} (p : LocalModel T J) (tied : AreTied p.member p.entries)
       jobs = tied.jobs;
       plain = tied.plain;
       waits = tied.waits;
+      privates = tied.privates;
       kept = tied.kept;
-      bags = tied.bags;
-      due = sym settled ∙ tied.due;
+      bags = subst (AreInBags p.member.limits.slots (known_waiting p.member.slots) p.member.own.bags.waiting) settled tied.bags;
       now = λ _. sym e;
     }
 
@@ -115,10 +98,10 @@ module _ {T J : Type 0} (p : LocalModel T J) (tied : AreTied p.member p.entries)
       table = tied.table;
       jobs = tied.jobs;
       plain = tied.plain;
-      waits = λ i l. same_items i xs ∙ tied.waits i l;
+      waits = λ i l. same_items i p.member.slots.waits ∙ tied.waits i l;
+      privates = λ i l c. total_map (private_for c i) older_private (λ x. refl) p.member.slots.privates ∙ tied.privates i l c;
       kept = tied.kept;
-      bags = left_are;
-      due = due_are;
+      bags = all_older p.member.limits.slots (known_waiting p.member.slots) p.member.own.bags.waiting p.member.due tied.bags settled;
       now = λ _. refl;
     }
 

@@ -1,5 +1,5 @@
 -- What a lone participant's looks at an owner's item, and its letting go, are for its world
-use Rattle.std.proofs.Common.{◌≡◌, ◌≢◌, ◌↔◌, ℕ, ◌+◌, ◌<◌, Bool, true, false, IsTrue, List, [], ◌∷◌, ◌++◌, Some, None, map, get_or, set, slice_index_or, sym, refl, ap, ◌∙◌, subst, arith, length-set, ◌-◌, ◌^◌, ◌≤◌}
+use Rattle.std.proofs.Common.{◌≡◌, ◌≢◌, ◌↔◌, ℕ, ◌+◌, ◌<◌, Bool, true, false, IsTrue, List, [], ◌∷◌, ◌++◌, Some, None, get_or, set, slice_index_or, sym, refl, ap, ◌∙◌, subst, arith, length-set, ◌-◌, ◌^◌, ◌≤◌}
 use Rattle.std.specs.Prelude.{Option, if◌then◌else◌, option_map, ◌==◌}
 use Rattle.std.proofs.lemmas.Bool.{true≢false, lt-ltb}
 use Rattle.std.proofs.lemmas.List.{set-get_or}
@@ -10,7 +10,6 @@ use denote.RattleType.{RattleType}
 use Rattle.sdd_participants.specs.declared.standing.Standing.TheVariants.{Owned, Shared, Retired}
 use Rattle.sdd_participants.specs.declared.standing.Standing.{Standing}
 use Rattle.sdd_participants.specs.declared.waiting.LimboEntry.TheVariants.{Item}
-use Rattle.sdd_participants.specs.Waiting.{Waiting, fresh}
 use Rattle.sdd_participants.specs.EpochState as time
 use Rattle.sdd_shared_values.specs.SharedValues.{showing}
 use Rattle.sdd_rights.specs.declared.right.StandingKind.{StandingKind}
@@ -21,7 +20,7 @@ use Rattle.sdd_rights.specs.Right.{number_of, kind_of}
 use Rattle.sdd_standings.specs.Slots.{IsOwnedBy, has_others}
 use Rattle.sdd_views.specs.declared.ShownValue.{ShownValue}
 use Rattle.sdd_views.specs.declared.SlotsView.{SlotsView}
-use Rattle.sdd_word_invariant.specs.Codes.{alive, waiting, full, claimed_word, counted, retired_word}
+use Rattle.sdd_word_invariant.specs.Codes.{alive, waiting, waits_for, full, claimed_word, counted, retired_word}
 use Rattle.sdd_word_invariant.specs.SlotSteps.{behind, retired_now}
 use Rattle.sdd_word_invariant.specs.Sums.{times}
 use Rattle.sdd_word_invariant.specs.Slots.{waits_in}
@@ -43,7 +42,7 @@ use Rattle.sdd_domain.specs.Items.{HasValue}
 use Rattle.sdd_domain.specs.SeenSlots.{IsOnce}
 use Rattle.sdd_domain.specs.Values.{one_showing, one_value}
 use Rattle.sdd_domain.specs.Laws.{same_value, shows_is_value}
-use Rattle.sdd_domain.specs.WaitingItems.{what_of}
+use Rattle.sdd_domain.specs.InBags.{known_waiting}
 use Rattle.sdd_domain.specs.WordsAndValues.{MatchesPlace, Agrees, AreTied, WordsMatchValues, is_plain_word}
 use Rattle.sdd_domain.specs.Local.{LocalModel, listing, standing_by, value_by, standing_in, value_in, world_of}
 use Rattle.sdd_domain.specs.Space.{ShowsBy, Shows, is_lone, seat_of, known_of}
@@ -53,12 +52,12 @@ use Rattle.sdd_space.specs.Releases.{left_waiting}
 use Rattle.sdd_domain.proofs.Giving.{grows_by, grows_not}
 use Rattle.sdd_domain.specs.Space as space
 use Rattle.sdd_domain.proofs.Listings.{listing_at, listing_set, listing_same}
-use Rattle.sdd_domain.proofs.Words.{place_dead, inside, word_same, word_other, alive_taken, waiting_taken, value_there, stands_owned, stands_retired, counts_of, plain_retired, plain_less}
+use Rattle.sdd_domain.proofs.Words.{alive_public, none_privately, public_alike, waiting_public, place_dead, inside, word_same, word_other, alive_taken, waiting_taken, value_there, stands_owned, stands_retired, counts_of, plain_retired, plain_less}
 use Rattle.sdd_domain.proofs.Members.{shown_now}
 use Rattle.sdd_domain.proofs.Alone.{alone, steps_alone, cells_kept, pointers_kept}
 use Rattle.sdd_domain.proofs.Exact.{lone_is}
 use Rattle.sdd_domain.proofs.Reclaims.{what_item}
-use Rattle.sdd_domain.proofs.Ripe.{ripe_snoc, unripe_too}
+use Rattle.sdd_domain.proofs.InBags.{one_more}
 
 -- where the word of an owner that is alone may count several it counts one, and tells one in either case
 pub one_owner : (x : ℕ) (several : Bool) → 0 < alive x → counted x ≡ one_where several → (several ≡ true → x ≡ claimed_word true) → alive x ≡ 1
@@ -312,15 +311,20 @@ module _ {T J : Type 0} (v : LocalModel T J) (m : LocalState J) (k : ℕ) (share
           (λ e. let o = is_same i k (sym e) in let a = ap waiting (ap (word_of v.member) e) in let c = was.0 in
           let b = ap waiting (ap (word_of waits_too) e ∙ word_now) in omega arith)
           (λ ne. let o = is_other i k (λ e. ne (sym e)) in let a = ap waiting (word_then i ne) in omega arith);
+      privates = λ i l c. dite (ℕ_discrete i k)
+          (λ e. t.privates i l c ∙ (ap (waits_for c) (ap (word_of v.member) e)
+          ∙ (public_alike c (word_of v.member k) y (alive_public (word_of v.member k) knows.alive) (waiting_public y (omega arith))
+          ∙ ap (waits_for c) (sym (ap (word_of waits_too) e ∙ word_now)))))
+          (λ ne. t.privates i l c ∙ ap (waits_for c) (sym (word_then i ne)));
       kept = λ i l filled. dite (ℕ_discrete i k)
           (λ e. t.kept i l (ap full (ap (word_of v.member) e) ∙ was.1))
           (λ ne. t.kept i l (sym (ap full (word_then i ne)) ∙ filled));
       table = t.table;
       jobs = λ j l. subst (λ (w : ℕ). MatchesPlace w (entry_at v.member.jobs j))
           (sym (word_then (place_number v.member j) (λ e. let s = low v t k shared g knows in omega arith))) (t.jobs j l);
-      bags = ap (λ (l : List Waiting). l ++ fresh (Item k) ∷ []) t.bags ∙ sym (unripe_too (retired_now k count) refl v.member.limits.slots (Item k)
-          (what_item v.member.limits.slots (retired_now k count) (low v t k shared g knows)) v.member.slots.waits);
-      due = t.due ∙ ap (map (what_of v.member.limits.slots)) (sym (ripe_snoc (retired_now k count) refl v.member.slots.waits));
+      bags = let near = low v t k shared g knows in one_more v.member.limits.slots (known_waiting v.member.slots) v.member.own.bags.waiting v.member.due
+          t.bags (retired_now k count) (Item k) refl (what_item v.member.limits.slots (retired_now k count) near) (t.waits k near ∙ was.0)
+          (none_privately k (word_of v.member k) v.member.slots.privates (t.privates k near) (alive_public (word_of v.member k) knows.alive));
       now = t.now;
     }
 
@@ -400,6 +404,11 @@ module _ {T J : Type 0} (v : LocalModel T J) (t : AreTied v.member v.entries) (k
         (λ e. t.waits i low ∙ (ap waiting (ap (word_of v.member) e) ∙ (was.0
         ∙ sym (ap waiting (ap (word_of (rewritten v k y)) e ∙ rewritten_now v k y t near) ∙ l.0))))
         (λ ne. t.waits i low ∙ ap waiting (sym (rewritten_then v k y t near i ne)));
+    privates = λ i low c. dite (ℕ_discrete i k)
+        (λ e. t.privates i low c ∙ (ap (waits_for c) (ap (word_of v.member) e)
+        ∙ (public_alike c (word_of v.member k) y (alive_public (word_of v.member k) knows.alive) (alive_public y lives)
+        ∙ ap (waits_for c) (sym (ap (word_of (rewritten v k y)) e ∙ rewritten_now v k y t near)))))
+        (λ ne. t.privates i low c ∙ ap (waits_for c) (sym (rewritten_then v k y t near i ne)));
     kept = λ i low filled. dite (ℕ_discrete i k)
         (λ e. t.kept i low (ap full (ap (word_of v.member) e) ∙ was.1))
         (λ ne. t.kept i low (sym (ap full (rewritten_then v k y t near i ne)) ∙ filled));
@@ -407,7 +416,6 @@ module _ {T J : Type 0} (v : LocalModel T J) (t : AreTied v.member v.entries) (k
     jobs = λ j near_job. subst (λ (w : ℕ). MatchesPlace w (entry_at v.member.jobs j))
         (sym (rewritten_then v k y t near (place_number v.member j) (λ e. let s = low v t k shared g knows in omega arith))) (t.jobs j near_job);
     bags = t.bags;
-    due = t.due;
     now = t.now;
   }
 

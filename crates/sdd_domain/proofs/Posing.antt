@@ -5,10 +5,8 @@ use base.Stored.{Gv}
 use mathlib.Core.Logic.{dite}
 use native.Mathlib.Decide.{ℕ_discrete, dec_lt}
 use Rattle.atomic_table.specs.declared.shared.Seat.{Seat}
-use Rattle.sdd_participants.specs.declared.waiting.LimboEntry.{LimboEntry}
 use Rattle.sdd_participants.specs.declared.waiting.LimboEntry.TheVariants.{Item}
 use Rattle.sdd_participants.specs.declared.participant.Participant.{Participant}
-use Rattle.sdd_participants.specs.Waiting.{Waiting, fresh}
 use Rattle.sdd_participants.specs.EpochState.{stirred, awaiting, nested}
 use Rattle.sdd_shared_values.specs.declared.value_fraction.ValueFraction.{ValueFraction}
 use Rattle.sdd_views.specs.declared.EpochView.{EpochView}
@@ -22,6 +20,7 @@ use Rattle.sdd_views.specs.declared.View.{View}
 use Rattle.sdd_word_invariant.specs.Epoch.{HasPlace, IsLone, IsOpen}
 use Rattle.sdd_word_invariant.specs.EpochSteps.{knowing, counted, published}
 use Rattle.sdd_word_invariant.specs.Sums.{total, times}
+use Rattle.sdd_word_invariant.specs.Collectors.{privates_at}
 use Rattle.sdd_word_invariant.specs.Slots.{items_at, waits_in}
 use Rattle.sdd_word_invariant.specs.SlotSteps.{retired_now, retired, one_less, noted, without}
 use Rattle.sdd_views.specs.Views.{owner_of}
@@ -38,12 +37,11 @@ use Rattle.sdd_atomics.specs.DomainTable.{book_of, places_of, slots_of, most_wai
 use Rattle.sdd_atomics.specs.DomainSeat.{view, epoch, slots, Taught, Moved, MovedAlone}
 use Rattle.sdd_atomics.specs.Owner.{disowned}
 use Rattle.sdd_domain.specs.SeenSlots.{IsOnce}
-use Rattle.sdd_domain.specs.WaitingItems.{what_of, waiting_of, ripe, unripe, GivesOneBack}
-use Rattle.sdd_domain.proofs.Reclaims.{first_goes, no_more, what_item}
+use Rattle.sdd_domain.specs.WaitingItems.{GivesOneBack}
+use Rattle.sdd_domain.proofs.Reclaims.{no_more}
 use Rattle.sdd_domain.specs.Claims.{Gains}
 use Rattle.sdd_domain.specs.Values.{with_filled, LetsWait, LeavesOthers}
 use Rattle.sdd_domain.specs.BetweenCalls.{CarriesSeenOnly, AreLentTo, IsBetweenCalls}
-use Rattle.sdd_domain.proofs.Ripe.{unripe_too}
 use Rattle.sdd_domain.proofs.Moving.{row_out, rest_out, now_seen, still_seen}
 
 pub stirs : (c : ℕ) → ¬ (stirred c ≡ 128)
@@ -95,7 +93,7 @@ module _ (b : DomainTable) (p : ℕ) where
   pub retires_to : (own : Participant) (y slot : ℕ) (shared : Bool) (value : Gv) (s t u : Seat ValueFraction View) → IsBetweenCalls b p own s
       → Taught (λ v _ w. w ≡ regained v (owner_of slot shared value)) s 0 t → Moved (LetsWait slot) t y u
       → (count : ℕ) × (u.me.0 ≡ waiting_too slot shared value y count (view s)) × ((epoch s).known ≤ count) × (IsLone (epoch s) → count ≡ (epoch s).known)
-      × (IsOpen (epoch s) → count ≤ (epoch s).since + 1)
+      × (IsOpen (epoch s) → count ≤ (epoch s).since + 1) × (items_at slot (view s) ≡ 0) × (privates_at slot (view s) ≡ 0)
   retires_to own y slot shared value s t u q took e = let r = e.2.1 in let v : View = view s in let v' : View = regained v (owner_of slot shared value) in
       let epochs : epoch t ≡ epoch s = ap (λ (w : View). w.epoch) took.3 in (
         r.0,
@@ -104,6 +102,8 @@ module _ (b : DomainTable) (p : ℕ) where
         subst (λ (x : EpochView). x.known ≤ r.0) epochs r.1,
         subst (λ (x : EpochView). IsLone x → r.0 ≡ x.known) epochs r.2,
         subst (λ (x : EpochView). IsOpen x → r.0 ≤ x.since + 1) epochs r.4,
+        subst (λ (w : View). items_at slot (undrawing w) ≡ 0) took.3 r.6,
+        subst (λ (w : View). privates_at slot (undrawing w) ≡ 0) took.3 r.7,
       )
 
   pub posed_retires : (own : Participant) (y slot : ℕ) (shared : Bool) (value : Gv) (s t u : Seat ValueFraction View) → IsBetweenCalls b p own s → slot <
@@ -129,13 +129,21 @@ module _ (b : DomainTable) (p : ℕ) where
         free = q.free;
         knows = q.knows;
         found = q.found;
-        quiet = record { owns = q.quiet.owns; drawn = q.quiet.drawn; holds = q.quiet.holds; looked = q.quiet.looked; over = q.quiet.over };
+        quiet = record {
+          owns = q.quiet.owns;
+          drawn = q.quiet.drawn;
+          holds = q.quiet.holds;
+          looked = q.quiet.looked;
+          over = q.quiet.over;
+          emptied = q.quiet.emptied;
+          closes = q.quiet.closes;
+          empties = q.quiet.empties;
+          left = q.quiet.left;
+        };
         pledges = q.pledges;
         rights = q.rights;
         waiting = λ i some_wait. dite (ℕ_discrete slot i) (λ e. subst (λ (k : ℕ). k < most_waiting_of b) e (let l = low in omega arith))
             (λ ne. q.waiting i (let o = is_other i slot ne in let t = total_snoc (waits_in i) s.me.0.slots.waits (retired_now slot r.0) in omega arith));
-        bags = ap (λ (l : List Waiting). l ++ fresh (Item slot) ∷ []) q.bags ∙ sym (unripe_too (retired_now slot r.0) refl (slots_of b) (Item slot)
-            (what_item (slots_of b) (retired_now slot r.0) low) s.me.0.slots.waits);
         room = q.room;
         pace = stirs_low own.countdown q.pace;
         idle = λ e. absurd (stirs own.countdown e);
@@ -171,46 +179,63 @@ module _ (b : DomainTable) (p : ℕ) where
         free = q.free;
         knows = q.knows;
         found = q.found;
-        quiet = record { owns = q.quiet.owns; drawn = q.quiet.drawn; holds = q.quiet.holds; looked = q.quiet.looked; over = q.quiet.over };
+        quiet = record {
+          owns = q.quiet.owns;
+          drawn = q.quiet.drawn;
+          holds = q.quiet.holds;
+          looked = q.quiet.looked;
+          over = q.quiet.over;
+          emptied = q.quiet.emptied;
+          closes = q.quiet.closes;
+          empties = q.quiet.empties;
+          left = q.quiet.left;
+        };
         pledges = q.pledges;
         rights = q.rights;
         waiting = q.waiting;
-        bags = q.bags;
         room = q.room;
         pace = q.pace;
         idle = q.idle;
       }
 
   -- the first that was due was moved out
-  pub posed_reclaims : (own : Participant) (slot : ℕ) (rest : List LimboEntry) (s t : Seat ValueFraction View) → IsBetweenCalls b p own s
-      → map (what_of (slots_of b)) (ripe (slots s).waits) ≡ Item slot ∷ rest → Taught (GivesOneBack slot) s 0 t → IsBetweenCalls b p own t
-  posed_reclaims own slot rest s t q first e = let goes = first_goes (slots_of b) (Item slot) rest s.me.0.slots.waits first e.3.1 in
-      subst (λ (v : View). IsBetweenCalls b p own (record t { me = (v, t.me.1) })) (sym e.3.0) record {
-        home = e.0 ∙ q.home;
-        purse = subst (λ (xs : CarriedFractions). CarriesSeenOnly (book_of b) (places_of b) p s.me.0.stakes.sees xs) (sym e.2) q.purse;
-        sight = record { owns = q.sight.owns; sees = q.sight.sees; once = q.sight.once };
-        unseen = q.unseen;
-        rests = q.rests;
-        all = q.all;
-        place = q.place;
-        inside = q.inside;
-        count = q.count;
-        closed = q.closed;
-        opened = q.opened;
-        near = q.near;
-        lone = q.lone;
-        free = q.free;
-        knows = q.knows;
-        found = q.found;
-        quiet = record { owns = q.quiet.owns; drawn = q.quiet.drawn; holds = q.quiet.holds; looked = q.quiet.looked; over = q.quiet.over };
-        pledges = q.pledges;
-        rights = q.rights;
-        waiting = λ i some_wait. q.waiting i (let m = no_more slot i s.me.0.slots.waits in omega arith);
-        bags = q.bags ∙ ap (map (waiting_of (slots_of b))) (sym goes.1);
-        room = q.room;
-        pace = q.pace;
-        idle = q.idle;
-      }
+  pub posed_reclaims : (own : Participant) (slot : ℕ) (s t : Seat ValueFraction View) → IsBetweenCalls b p own s
+      → Taught (GivesOneBack slot) s 0 t → IsBetweenCalls b p own t
+  posed_reclaims own slot s t q e = subst (λ (v : View). IsBetweenCalls b p own (record t { me = (v, t.me.1) })) (sym e.3.0) record {
+    home = e.0 ∙ q.home;
+    purse = subst (λ (xs : CarriedFractions). CarriesSeenOnly (book_of b) (places_of b) p s.me.0.stakes.sees xs) (sym e.2) q.purse;
+    sight = record { owns = q.sight.owns; sees = q.sight.sees; once = q.sight.once };
+    unseen = q.unseen;
+    rests = q.rests;
+    all = q.all;
+    place = q.place;
+    inside = q.inside;
+    count = q.count;
+    closed = q.closed;
+    opened = q.opened;
+    near = q.near;
+    lone = q.lone;
+    free = q.free;
+    knows = q.knows;
+    found = q.found;
+    quiet = record {
+      owns = q.quiet.owns;
+      drawn = q.quiet.drawn;
+      holds = q.quiet.holds;
+      looked = q.quiet.looked;
+      over = q.quiet.over;
+      emptied = q.quiet.emptied;
+      closes = q.quiet.closes;
+      empties = q.quiet.empties;
+      left = q.quiet.left;
+    };
+    pledges = q.pledges;
+    rights = q.rights;
+    waiting = λ i some_wait. q.waiting i (let m = no_more slot i s.me.0.slots.waits in omega arith);
+    room = q.room;
+    pace = q.pace;
+    idle = q.idle;
+  }
 
   pub posed_arrived : (own new : Participant) (c g : ℕ) (xs : List WaitingItem) (ys : List PrivateItem) (s t : Seat ValueFraction View)
       → IsBetweenCalls b p own s → t.table_id ≡ s.table_id
@@ -218,9 +243,9 @@ module _ (b : DomainTable) (p : ℕ) where
       → record t.me.0.stakes { counts = s.me.0.stakes.counts } ≡ s.me.0.stakes → t.me.0.pledges ≡ s.me.0.pledges → t.me.0.cells ≡ s.me.0.cells
       → epoch t ≡ published (counted (knowing (epoch s) c) c) g → c ≤ g → (IsLone (epoch s) → g ≡ c)
       → slots t ≡ record s.me.0.slots { waits = xs; privates = ys } → ((i : ℕ) → total (waits_in i) xs ≤ items_at i (view s))
-      → new.found ≡ c → new.guards ≡ 0 → new.bags.waiting ≡ map (waiting_of (slots_of b)) (unripe xs) → new.bags.room ≡ own.bags.room
+      → new.found ≡ c → new.guards ≡ 0 → new.bags.room ≡ own.bags.room
       → new.countdown ≤ 128 → (new.countdown ≡ 128 → new.bags.waiting ≡ []) → IsBetweenCalls b p (nested new) t
-  posed_arrived own new c g xs ys s t q table others sizes stakes pledged cells epochs low one_only keeps fewer found none bags room pace idle =
+  posed_arrived own new c g xs ys s t q table others sizes stakes pledged cells epochs low one_only keeps fewer found none room pace idle =
       let is : t.me.0 ≡ record t.me.0 { epoch = published (counted (knowing (epoch s) c) c) g; slots = record s.me.0.slots { waits = xs; privates = ys } }
       = λ i. record t.me.0 { epoch = epochs i; slots = keeps i } in
       subst (λ (v : View). IsBetweenCalls b p (nested new) (record t { me = (v, t.me.1) })) (sym is) record {
@@ -245,11 +270,20 @@ module _ (b : DomainTable) (p : ℕ) where
         free = q.free;
         knows = (sizes ∙ q.knows.0, ap (λ (k : FractionsView). k.book) stakes ∙ q.knows.1);
         found = sym found;
-        quiet = record { owns = q.quiet.owns; drawn = q.quiet.drawn; holds = q.quiet.holds; looked = q.quiet.looked; over = q.quiet.over };
+        quiet = record {
+          owns = q.quiet.owns;
+          drawn = q.quiet.drawn;
+          holds = q.quiet.holds;
+          looked = q.quiet.looked;
+          over = q.quiet.over;
+          emptied = q.quiet.emptied;
+          closes = q.quiet.closes;
+          empties = q.quiet.empties;
+          left = q.quiet.left;
+        };
         pledges = ap (λ (k : PledgesView). k.own) pledged ∙ q.pledges;
         rights = cells ∙ q.rights;
         waiting = λ i some_wait. q.waiting i (let f = fewer i in omega arith);
-        bags = bags;
         room = room ∙ q.room;
         pace = pace;
         idle = idle;
@@ -291,11 +325,20 @@ module _ (b : DomainTable) (p : ℕ) where
           free = q.free;
           knows = q.knows;
           found = q.found;
-          quiet = record { owns = q.quiet.owns; drawn = q.quiet.drawn; holds = q.quiet.holds; looked = q.quiet.looked; over = q.quiet.over };
+          quiet = record {
+            owns = q.quiet.owns;
+            drawn = q.quiet.drawn;
+            holds = q.quiet.holds;
+            looked = q.quiet.looked;
+            over = q.quiet.over;
+            emptied = q.quiet.emptied;
+            closes = q.quiet.closes;
+            empties = q.quiet.empties;
+            left = q.quiet.left;
+          };
           pledges = q.pledges;
           rights = q.rights;
           waiting = q.waiting;
-          bags = q.bags;
           room = q.room;
           pace = q.pace;
           idle = q.idle;
@@ -328,11 +371,20 @@ module _ (b : DomainTable) (p : ℕ) where
         free = q.free;
         knows = q.knows;
         found = q.found;
-        quiet = record { owns = q.quiet.owns; drawn = q.quiet.drawn; holds = q.quiet.holds; looked = q.quiet.looked; over = q.quiet.over };
+        quiet = record {
+          owns = q.quiet.owns;
+          drawn = q.quiet.drawn;
+          holds = q.quiet.holds;
+          looked = q.quiet.looked;
+          over = q.quiet.over;
+          emptied = q.quiet.emptied;
+          closes = q.quiet.closes;
+          empties = q.quiet.empties;
+          left = q.quiet.left;
+        };
         pledges = q.pledges;
         rights = q.rights;
         waiting = q.waiting;
-        bags = q.bags;
         room = q.room;
         pace = q.pace;
         idle = q.idle;
@@ -422,11 +474,20 @@ module _ (b : DomainTable) (p : ℕ) where
         free = q.free;
         knows = q.knows;
         found = q.found;
-        quiet = record { owns = q.quiet.owns; drawn = q.quiet.drawn; holds = q.quiet.holds; looked = q.quiet.looked; over = q.quiet.over };
+        quiet = record {
+          owns = q.quiet.owns;
+          drawn = q.quiet.drawn;
+          holds = q.quiet.holds;
+          looked = q.quiet.looked;
+          over = q.quiet.over;
+          emptied = q.quiet.emptied;
+          closes = q.quiet.closes;
+          empties = q.quiet.empties;
+          left = q.quiet.left;
+        };
         pledges = q.pledges;
         rights = q.rights;
         waiting = q.waiting;
-        bags = q.bags;
         room = q.room;
         pace = q.pace;
         idle = q.idle;

@@ -56,11 +56,20 @@ module _ (b : DomainTable) (p : ℕ) (own : Participant) (slot : ℕ) (value : G
     free = q.free;
     knows = q.knows;
     found = q.found;
-    quiet = record { owns = q.quiet.owns; drawn = q.quiet.drawn; holds = q.quiet.holds; looked = q.quiet.looked; over = q.quiet.over };
+    quiet = record {
+      owns = q.quiet.owns;
+      drawn = q.quiet.drawn;
+      holds = q.quiet.holds;
+      looked = q.quiet.looked;
+      over = q.quiet.over;
+      emptied = q.quiet.emptied;
+      closes = q.quiet.closes;
+      empties = q.quiet.empties;
+      left = q.quiet.left;
+    };
     pledges = q.pledges;
     rights = q.rights;
     waiting = q.waiting;
-    bags = q.bags;
     room = q.room;
     pace = q.pace;
     idle = q.idle;

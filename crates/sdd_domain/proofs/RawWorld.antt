@@ -6,11 +6,11 @@ use native.Mathlib.Decide.{ℕ_discrete, dec_lt}
 use base.Stored.{Gv}
 use denote.RattleType.{RattleType}
 use Rattle.sdd_participants.specs.declared.standing.Standing.{Standing}
-use Rattle.sdd_participants.specs.declared.standing.Standing.TheVariants.{Owned, Raw, Retired, Shared}
+use Rattle.sdd_participants.specs.declared.standing.Standing.TheVariants.{Owned, Private, Raw, Retired, Shared}
 use Rattle.sdd_shared_values.specs.SharedValues.{showing}
-use Rattle.sdd_word_invariant.specs.Codes.{alive, waiting, full, counted, shared_base}
+use Rattle.sdd_word_invariant.specs.Codes.{alive, waiting, waits_for, full, counted, private, shared_base}
 use Rattle.sdd_word_invariant.specs.SlotSteps.{behind}
-use Rattle.sdd_word_invariant.proofs.Codes.{none_left, owned_is, raw_is, some_left, sound, waiting_is}
+use Rattle.sdd_word_invariant.proofs.Codes.{none_left, owned_is, raw_is, raw_plain, some_left, sound, waiting_is}
 use Rattle.sdd_domain_invariant.specs.BankInvariant.{one_where}
 use Rattle.sdd_domain_invariant.specs.FilledInvariant.{newest}
 use Rattle.sdd_space.specs.OwnerOrCell.{OwnerOrCell, AreOf}
@@ -38,16 +38,16 @@ use Rattle.sdd_domain.specs.Items.{IsRightTo}
 use Rattle.sdd_domain.specs.Sound.{IsSound}
 use Rattle.sdd_domain.proofs.Sound.{sound_then, sound_step}
 use Rattle.sdd_domain.proofs.Listings.{listing_at, listing_past, listing_set, listing_same}
-use Rattle.sdd_domain.proofs.Words.{plain_by, word_same, word_other, stands_owned, stands_claimed, stands_raw, stands_retired}
+use Rattle.sdd_domain.proofs.Words.{alive_public, public_alike, plain_by, word_same, word_other, stands_owned, stands_claimed, stands_private, stands_raw, stands_retired}
 use Rattle.sdd_domain.proofs.Owning.{low, taken, stands, shown_entry, only_looks, shows_it, keeps_it}
 use Rattle.sdd_domain.proofs.Exact.{lone_is}
 use Rattle.sdd_domain.proofs.Refusals.{words_only, words_undisturbed}
 use Rattle.sdd_domain.proofs.Alone.{cells_kept, pointers_kept}
 
 -- ---- a word changes of an item that stays
--- an item that neither waits nor is free
+-- an item that neither waits, for no collector or for one, nor is free
 abbrev IsKeptBy : ℕ → Type 0
-IsKeptBy word = (waiting word ≡ 0) × (full word ≡ 1) × (word ≢ 0)
+IsKeptBy word = (waiting word ≡ 0) × (full word ≡ 1) × (word ≢ 0) × (private word ≡ 0)
 
 module _ {T J : Type 0} (v : LocalModel T J) (k y : ℕ) where
   abbrev changed : LocalModel T J
@@ -81,13 +81,16 @@ module _ {T J : Type 0} (v : LocalModel T J) (k y : ℕ) where
             (λ e. let w = t.waits i l in let a = ap waiting (ap (word_of v.member) e) in let b = was.0 in let c = now.0 in
             let d = ap waiting (ap (word_of (with_word k y v.member)) e ∙ word_now) in omega arith)
             (λ ne. t.waits i l ∙ ap waiting (sym (word_then i ne)));
+        privates = λ i l c. dite (ℕ_discrete i k)
+            (λ e. t.privates i l c ∙ (ap (waits_for c) (ap (word_of v.member) e) ∙ (public_alike c (word_of v.member k) y was.3 now.3
+            ∙ ap (waits_for c) (sym (ap (word_of (with_word k y v.member)) e ∙ word_now)))))
+            (λ ne. t.privates i l c ∙ ap (waits_for c) (sym (word_then i ne)));
         kept = λ i l filled. dite (ℕ_discrete i k) (λ e. t.kept i l (ap full (ap (word_of v.member) e) ∙ was.1))
             (λ ne. t.kept i l (sym (ap full (word_then i ne)) ∙ filled));
         table = t.table;
         jobs = λ j l. subst (λ (w : ℕ). MatchesPlace w (entry_at v.member.jobs j))
             (sym (word_then (place_number v.member j) (λ e. absurd (omega arith)))) (t.jobs j l);
         bags = t.bags;
-        due = t.due;
         now = t.now;
       }
 
@@ -122,10 +125,11 @@ module _ {T J : Type 0} (v : LocalModel T J) (k y : ℕ) where
 
 -- so it is where it has an owner, and where it is out as raw
 owned_kept : IsKeptBy 1
-owned_kept = let o = owned_is 0 (omega arith) in (o.1, (sound.lives 1 (let a = o.0 in omega arith)).1, λ e. absurd (omega arith))
+owned_kept = let o = owned_is 0 (omega arith) in
+    (o.1, (sound.lives 1 (let a = o.0 in omega arith)).1, (λ e. absurd (omega arith)), alive_public 1 (let a = o.0 in omega arith))
 
 raw_kept : IsKeptBy 2
-raw_kept = let r = raw_is 0 (omega arith) in (r.1, r.2, λ e. absurd (omega arith))
+raw_kept = let r = raw_is 0 (omega arith) in (r.1, r.2, (λ e. absurd (omega arith)), (raw_plain 0 (omega arith)).0)
 
 -- ---- it goes out
 module _ {T J : Type 0} (v : LocalModel T J) (k : ℕ) (tied : WordsMatchValues v.member v.entries)
@@ -135,7 +139,7 @@ module _ {T J : Type 0} (v : LocalModel T J) (k : ℕ) (tied : WordsMatchValues 
 
   kept_owned : (lone : IsLone v.member) → IsKeptBy (word_of v.member k)
   kept_owned lone = let r = knows lone in let lives = sound.lives (word_of v.member k) r.1.alive in
-      (lives.0, lives.1, taken v (tied lone) k false r.0 r.1)
+      (lives.0, lives.1, taken v (tied lone) k false r.0 r.1, alive_public (word_of v.member k) r.1.alive)
 
   -- the invariant, the world, how the slot stood, and what is shown
   pub out_tied : WordsMatchValues (put_out k v.member) v.entries
@@ -174,6 +178,7 @@ module _ {T J : Type 0} (v : LocalModel T J) (k : ℕ) (tied : WordsMatchValues 
       (λ b. dite (ℕ_discrete x shared_base) (λ e. absurd (let w = ap waiting e ∙ none_left.1 in
       let b : Some Retired ≡ Some Raw = sym (stands_retired x w) ∙ is in cc))
       (λ ne. absurd (let low = b.0 in let l = some_left x (omega arith) in not_raw_owner x true (let n = l.0 in omega arith) l.3 is)))
+      (λ j e low. absurd (let b : Some (Private j) ≡ Some Raw = sym (ap standing_by e ∙ stands_private j (omega arith)) ∙ is in cc))
 
   -- what isn't out doesn't stand as raw
   pub not_out : IsLone v.member → (k < v.member.limits.slots → ¬ (IsOut v.member k)) → standing_at (world_of v) k ≢ Some Raw

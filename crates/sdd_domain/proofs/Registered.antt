@@ -6,9 +6,10 @@ use Rattle.atomic_table.specs.Seated.{TableId}
 use Rattle.sdd_participants.specs.Slab.{entry_at}
 use Rattle.sdd_participants.specs.declared.participant.Participant.{Participant}
 use Rattle.sdd_participants.specs.declared.place_states.PlaceState.TheVariants.{Live}
+use Rattle.sdd_participants.specs.declared.waiting.LimboEntry.{LimboEntry}
 use Rattle.sdd_core.specs.declared.limits.Limits.{Limits}
 use Rattle.sdd_views.specs.declared.SlotsView.{SlotsView}
-use Rattle.sdd_word_invariant.specs.Codes.{waiting, full}
+use Rattle.sdd_word_invariant.specs.Codes.{waiting, waits_for, full}
 use Rattle.sdd_word_invariant.specs.Words.{words_behind}
 use Rattle.sdd_word_invariant.specs.SlotSteps.{behind}
 use Rattle.sdd_word_invariant.specs.CellSteps.{pointer_behind}
@@ -19,11 +20,13 @@ use Rattle.sdd_word_invariant.proofs.Codes.{free_is}
 use Rattle.sdd_participants.specs.Jobs.{places_of}
 use Rattle.sdd_participants.proofs.Places.{places-none}
 use Rattle.sdd_domain.specs.LocalState.{LocalState, IsLone, IsNew, word_of, cell_word_of, pointer_word_of, place_number}
-use Rattle.sdd_domain.specs.WaitingItems.{what_of, waiting_of, ripe, unripe}
+use Rattle.sdd_domain.specs.InBags.{AreInBags, known_waiting, private_for}
 use Rattle.sdd_domain.specs.WordsAndValues.{Entries, WordsMatchValues, MatchesPlace, is_plain_word}
 use Rattle.sdd_domain.specs.Local.{LocalModel, IsBlankAlone, listing, standing_by, value_by, contents_by, pointer_by, standing_in, value_in, contents_in, pointer_in, world_of}
 use Rattle.sdd_space.proofs.Accounts.{blank-at}
+use Rattle.sdd_domain.proofs.InBags.{nothing_known}
 use Rattle.sdd_domain.proofs.Listings.{listing_same}
+use Rattle.sdd_domain.proofs.Words.{free_public, no_private}
 
 zeros : (n i : ℕ) → ◌≡◌ {A = ℕ} (get_or (replicate n 0) i 0) 0
 zeros zero i = refl
@@ -70,12 +73,14 @@ module _ {T J : Type 0} (home : TableId) (book : ℕ) (most : Limits) (m : Local
     wide = ap length none ∙ (length-replicate most.slots None ∙ sym slots_are);
     plain = λ i l. subst (λ (y : ℕ). IsTrue (is_plain_word y)) (sym (word_free i)) refl;
     waits = λ i l. nothing_waits i ∙ (sym ((free_is 0 (omega arith)).1) ∙ ap waiting (sym (word_free i)));
+    privates = λ i l c. ap (λ (s : SlotsView). total (private_for c i) s.privates) is.slots
+        ∙ (sym (no_private c 0 free_public) ∙ ap (waits_for c) (sym (word_free i)));
     kept = λ i l filled. absurd (let f = (free_is 0 (omega arith)).2 in let g = ap full (word_free i) in omega arith);
     table = ap length is.jobs ∙ (length-replicate most.jobs None ∙ sym jobs_are);
     jobs = λ j l. subst (λ (z : ℕ × Option J). MatchesPlace z.0 z.1)
         (λ d. (sym (word_free (place_number m j)) d, sym (ap (λ ps. entry_at ps j) is.jobs ∙ blank-at most.jobs j) d)) refl;
-    bags = ap (λ (p : Participant). p.bags.waiting) is.own ∙ sym (ap (λ (s : SlotsView). map (waiting_of m.limits.slots) (unripe s.waits)) is.slots);
-    due = is.due ∙ sym (ap (λ (s : SlotsView). map (what_of m.limits.slots) (ripe s.waits)) is.slots);
+    bags = subst (λ (z : SlotsView × Participant × List LimboEntry). AreInBags m.limits.slots (known_waiting z.0) z.1.bags.waiting z.2)
+        (λ d. (sym is.slots d, sym is.own d, sym is.due d)) (nothing_known m.limits.slots);
     now = λ some_open. absurd (let g = ap (λ (p : Participant). p.guards) is.own in omega arith);
   }
 

@@ -1,5 +1,5 @@
 -- Steps that leave a participant sound and undisturbed: several in a row are one
-use Rattle.std.proofs.Common.{◌≡◌, ⊎_elim, ℕ, Bool, true, false, IsTrue, List, Some, map, set, refl, sym, ap, ◌∙◌, subst, arith}
+use Rattle.std.proofs.Common.{◌≡◌, ⊎_elim, ℕ, Bool, true, false, IsTrue, List, Some, set, refl, sym, ap, ◌∙◌, subst, arith}
 use base.Stored.{Gv}
 use denote.RattleType.{RattleType}
 use Rattle.sdd_shared_values.specs.SharedValues.{showing}
@@ -15,13 +15,13 @@ use Rattle.sdd_space.specs.Ptr.{KeepsShown}
 use Rattle.sdd_space.specs.Undisturbed.{Undisturbed}
 use Rattle.sdd_space.specs.World.{World, value_at}
 use Rattle.sdd_domain.specs.Cells.{SeesMore, WritesAt}
+use Rattle.sdd_domain.specs.InBags.{AreInBags, KnownWaiting, private_for}
 use Rattle.sdd_domain.specs.Local.{LocalModel, world_of}
 use Rattle.sdd_domain.specs.LocalState.{AddsAt, IsLone, KnowsOwner, LocalState, MakesAt}
 use Rattle.sdd_domain.specs.SeenSlots.{IsOnce}
 use Rattle.sdd_domain.specs.Sound.{IsSound}
 use Rattle.sdd_domain.specs.Space.{ShowsBy, Shows, is_lone, known_of, seat_in, seat_of}
 use Rattle.sdd_domain.specs.SpaceIds.{home_in}
-use Rattle.sdd_domain.specs.WaitingItems.{ripe, unripe, waiting_of, what_of}
 use Rattle.sdd_domain.specs.WordsAndValues.{AreTied, Entries, WordsMatchValues}
 use Rattle.sdd_domain.proofs.Added.{added_keeps, added_only, added_sound, added_tied}
 use Rattle.sdd_domain.proofs.CellWorld.{matched_written, sound_written, written_undisturbed}
@@ -55,11 +55,12 @@ module _ {T J : Type 0} (v : LocalModel T J) (m : LocalState J) (more : SeesMore
     wide = t.wide;
     plain = t.plain;
     waits = λ i l. ap (λ (ws : List WaitingItem). total (waits_in i) ws) more.waits ∙ t.waits i l;
+    privates = λ i l c. ap (total (private_for c i)) more.privates ∙ t.privates i l c;
     kept = t.kept;
     table = t.table;
     jobs = t.jobs;
-    bags = t.bags ∙ ap (λ (ws : List WaitingItem). map (waiting_of v.member.limits.slots) (unripe ws)) (sym more.waits);
-    due = t.due ∙ ap (λ (ws : List WaitingItem). map (what_of v.member.limits.slots) (ripe ws)) (sym more.waits);
+    bags = subst (λ (k : KnownWaiting). AreInBags v.member.limits.slots k v.member.own.bags.waiting v.member.due)
+        (λ d. record { plain = sym more.waits d; private = sym more.privates d }) t.bags;
     now = t.now;
   }
 

@@ -33,7 +33,7 @@ use Rattle.sdd_domain.proofs.Exact.{lone_is}
 use Rattle.sdd_domain.proofs.Listings.{listing_at, listing_past}
 use Rattle.sdd_domain.proofs.Owning.{entry, has_value}
 use Rattle.sdd_domain.proofs.Refusals.{back_keeps, back_same, back_sound, back_tied, back_world, words_undisturbed}
-use Rattle.sdd_domain.proofs.Words.{counts_of, plain_by, stands_owned, stands_raw, stands_retired}
+use Rattle.sdd_domain.proofs.Words.{counts_of, plain_by, stands_owned, stands_private, stands_raw, stands_retired}
 
 -- ---- how a slot stands by its word
 -- whose owners aren't counted, or that has none
@@ -47,6 +47,7 @@ no_owner x plain none = plain_by x plain
     (λ few. let s = shared x few.0 in let low = few.0 in let left = s.0 in let counts = s.3 in
     let base : x ≡ shared_base = ⊎_elim (λ (a : counted x ≡ 0). absurd (omega arith)) (λ (a : alive x ≡ 0). omega arith) none in
     ap owners_of (stands_retired x (ap waiting base ∙ none_left.1)))
+    (λ k e low. ap (λ (w : ℕ). owners_of (standing_by w)) e ∙ ap owners_of (stands_private k (omega arith)))
 
 -- that has as many as may be
 many_owners : (x : ℕ) → IsTrue (is_plain_word x) → counted x ≡ 1 → most_owners ≤ alive x → standing_by x ≡ Some (Shared (2 ^ 62))
@@ -56,7 +57,7 @@ many_owners x plain several many = let c = counts_of x plain several in let low 
 -- that is held
 never_held : (x : ℕ) → IsTrue (is_plain_word x) → x ≢ held_word
 never_held x plain held = plain_by x plain (λ e. absurd (omega arith)) (λ e. absurd (omega arith)) (λ e. absurd (omega arith)) (λ e. absurd (omega arith))
-    (λ few. let low = few.0 in absurd (omega arith))
+    (λ few. let low = few.0 in absurd (omega arith)) (λ k e low. absurd (omega arith))
 
 same_owner : (right : Right) → IsSameOwner right right
 same_owner right = record { slot = refl; home = refl; kind = refl; views = refl }

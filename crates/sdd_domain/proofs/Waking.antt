@@ -1,10 +1,9 @@
 -- A participant that took no part is posed as it was where it takes part in its domain again
-use Rattle.std.proofs.Common.{◌≡◌, ◌↔◌, ℕ, ◌+◌, ◌<◌, List, None, map, slice_index_or, ap, ◌∙◌, subst}
+use Rattle.std.proofs.Common.{◌≡◌, ◌↔◌, ℕ, ◌+◌, ◌<◌, List, None, slice_index_or, ap, ◌∙◌, subst}
 use Rattle.std.specs.Prelude.{Option, IsSome}
 use Rattle.atomic_table.specs.declared.shared.Seat.{Seat}
 use Rattle.sdd_participants.specs.declared.participant.Participant.{Participant}
 use Rattle.sdd_shared_values.specs.declared.value_fraction.ValueFraction.{ValueFraction}
-use Rattle.sdd_views.specs.declared.WaitingItem.{WaitingItem}
 use Rattle.sdd_views.specs.declared.View.{View}
 use Rattle.sdd_views.specs.declared.Sizes.{Sizes}
 use Rattle.sdd_word_invariant.specs.Words.{most_waiting}
@@ -13,7 +12,7 @@ use Rattle.sdd_word_invariant.specs.Slots.{waits_in}
 use Rattle.sdd_atomics.specs.declared.domain_table.DomainTable.{DomainTable}
 use Rattle.sdd_atomics.specs.DomainTable.{id_of, sizes_of, book_of}
 use Rattle.sdd_domain.specs.DueItems.{Pending}
-use Rattle.sdd_domain.specs.WaitingItems.{what_of, waiting_of, ripe, unripe}
+use Rattle.sdd_domain.specs.InBags.{AreInBags, KnownWaiting}
 use Rattle.sdd_domain.specs.BetweenCalls.{CarriesSeenOnly, IsBetweenCalls, IsReady}
 
 -- two boards of the same words, sizes and book
@@ -40,18 +39,18 @@ module _ (b d : DomainTable) (ids : id_of b ≡ id_of d) (sizes : sizes_of b ≡
     pledges = q.pledges;
     rights = q.rights;
     waiting = λ i some_wait. subst (λ (z : Sizes). i < most_waiting z) sizes (q.waiting i some_wait);
-    bags = subst (λ (z : Sizes). own.bags.waiting ≡ map (waiting_of z.slots) (unripe s.me.0.slots.waits)) sizes q.bags;
     room = q.room ∙ ap most_waiting sizes;
     pace = q.pace;
     idle = q.idle;
   }
 
-  pub ready_on : {J : Type 0} (own : Participant) (pending : Pending) (known : ℕ) (table : List (Option J)) (waits : List WaitingItem)
+  pub ready_on : {J : Type 0} (own : Participant) (pending : Pending) (known : ℕ) (table : List (Option J)) (waits : KnownWaiting)
       → IsReady b own pending known table waits → IsReady d own pending known table waits
   ready_on own pending known table waits r = record {
-    due = subst (λ (z : Sizes). pending.items ≡ map (what_of z.slots) (ripe waits)) sizes r.due;
+    bags = subst (λ (z : Sizes). AreInBags z.slots waits own.bags.waiting pending.items) sizes r.bags;
+    uncollected = r.uncollected;
     large = r.large;
     slots = r.slots ∙ ap (λ (z : Sizes). z.slots) sizes;
     places = r.places ∙ ap (λ (z : Sizes). z.jobs) sizes;
-    jobs = subst (λ (z : Sizes). (j : ℕ) → j < z.jobs → IsSome (slice_index_or table j None) ↔ (0 < total (waits_in (z.slots + j)) waits)) sizes r.jobs;
+    jobs = subst (λ (z : Sizes). (j : ℕ) → j < z.jobs → IsSome (slice_index_or table j None) ↔ (0 < total (waits_in (z.slots + j)) waits.plain)) sizes r.jobs;
   }

@@ -1,5 +1,5 @@
 -- What holds of a participant between two calls
-use Rattle.std.specs.Prelude.{◌≡◌, ◌↔◌, ℕ, ◌+◌, ◌^◌, ◌<◌, ◌≤◌, List, [], Option, None, IsSome, length, map, slice_index_or, if◌then◌else◌}
+use Rattle.std.specs.Prelude.{◌≡◌, ◌↔◌, ℕ, ◌+◌, ◌^◌, ◌<◌, ◌≤◌, List, [], Option, None, IsSome, length, map, slice_index_or, false, if◌then◌else◌}
 use Rattle.atomic_table.specs.declared.shared.Seat.{Seat}
 use Rattle.sdd_participants.specs.declared.participant.Participant.{Participant}
 use Rattle.sdd_participants.specs.EpochState.{is_open, no_garbage}
@@ -24,9 +24,8 @@ use Rattle.sdd_domain_invariant.specs.FractionSteps.{CarriesSeen}
 use Rattle.sdd_domain.specs.SeenSlots.{IsOnce}
 use Rattle.sdd_atomics.specs.declared.domain_table.DomainTable.{DomainTable}
 use Rattle.sdd_atomics.specs.DomainTable.{id_of, sizes_of, book_of, places_of, slots_of, most_waiting_of}
-use Rattle.sdd_views.specs.declared.WaitingItem.{WaitingItem}
 use Rattle.sdd_domain.specs.DueItems.{Pending}
-use Rattle.sdd_domain.specs.WaitingItems.{what_of, waiting_of, ripe, unripe}
+use Rattle.sdd_domain.specs.InBags.{AreInBags, KnownWaiting}
 use Rattle.sdd_atomics.specs.DomainSeat.{view, epoch, slots, Knows}
 
 -- it has published its count; what it knows is the count at that publish or the next
@@ -35,13 +34,18 @@ pub record IsNear (v : EpochView) : Type 0 where
   pub since : v.since ≤ v.known
   pub known : v.known ≤ v.since + 1
 
--- no slot is held, no count is raised past its bound, and no owner is with the participant itself: each is a token of its own
+-- no slot is held, no count is raised past its bound, and no owner is with the participant itself: each is a token of its own. It closes no collector, empties
+-- no slot, and found none emptied
 pub record IsQuiet (v : SlotsView) : Type 0 where
   pub owns : v.owns ≡ []
   pub drawn : v.drawn ≡ []
   pub holds : v.holds ≡ None
   pub looked : v.looked ≡ 0
   pub over : v.over ≡ None
+  pub emptied : v.emptied ≡ []
+  pub closes : v.closes ≡ None
+  pub empties : v.empties ≡ None
+  pub left : v.left ≡ false
 
 -- what is known of what slots show: of those that the guards see, one value for each
 pub record SeesOnce (stakes : FractionsView) (slots : SlotsView) : Type 0 where
@@ -80,7 +84,6 @@ module _ (b : DomainTable) (p : ℕ) (own : Participant) (token : Seat ValueFrac
     pub pledges : (view token).pledges.own ≡ []
     pub rights : (view token).cells ≡ no_rights
     pub waiting : (i : ℕ) → 0 < items_at i (view token) → i < most_waiting_of b
-    pub bags : own.bags.waiting ≡ map (waiting_of (slots_of b)) (unripe (slots token).waits)
     pub room : own.bags.room ≡ most_waiting_of b
     pub pace : own.countdown ≤ no_garbage
     pub idle : own.countdown ≡ no_garbage → own.bags.waiting ≡ []
@@ -90,12 +93,13 @@ pub record IsTenureOf (own : Participant) (part : Fraction SectionState) : Type 
   pub units : part.units + own.guards ≡ 2 ^ 63
   pub kind : part.kind ≡ (if is_open own then Open else Closed)
 
--- what was taken out of the bags is what has seen three changes; there is room for as much as waits, and it looks for slots of the board; and the
--- participant has a job exactly for each place where one waits with it
-pub record IsReady {J : Type 0} (b : DomainTable) (own : Participant) (pending : Pending) (known_slots : ℕ) (table : List (Option J)) (waits : List WaitingItem)
+-- what is in the bags, and what was taken out of them and is due, is what its view knows to wait; there is room for as much as waits, and it looks for slots
+-- of the board; and the participant has a job exactly for each place where one waits with it. No item is collected
+pub record IsReady {J : Type 0} (b : DomainTable) (own : Participant) (pending : Pending) (known_slots : ℕ) (table : List (Option J)) (known : KnownWaiting)
     : Type 0 where
-  pub due : pending.items ≡ map (what_of (slots_of b)) (ripe waits)
+  pub bags : AreInBags (slots_of b) known own.bags.waiting pending.items
+  pub uncollected : known.private ≡ []
   pub large : own.bags.room ≤ pending.room
   pub slots : known_slots ≡ slots_of b
   pub places : length table ≡ (sizes_of b).jobs
-  pub jobs : (j : ℕ) → j < (sizes_of b).jobs → IsSome (slice_index_or table j None) ↔ (0 < total (waits_in (slots_of b + j)) waits)
+  pub jobs : (j : ℕ) → j < (sizes_of b).jobs → IsSome (slice_index_or table j None) ↔ (0 < total (waits_in (slots_of b + j)) known.plain)

@@ -11,6 +11,7 @@ use Rattle.sdd_core.specs.declared.limits.Limits.{Limits}
 use Rattle.sdd_atomics.specs.declared.domain_table.DomainTable.{DomainTable}
 use Rattle.sdd_atomics.specs.DomainTable.{sizes_of}
 use Rattle.sdd_domain.specs.DueItems.{Pending}
+use Rattle.sdd_domain.specs.InBags.{known_waiting}
 use Rattle.sdd_domain.specs.BetweenCalls.{IsBetweenCalls, IsTenureOf, AreLentTo, IsReady}
 use Rattle.sdd_domain.specs.Receipt.{IsTallied}
 use Rattle.sdd_domain.specs.DomainValues.{sizes_in}
@@ -25,5 +26,5 @@ pub record IsDormant {J : Type 0} (limits : Limits) (place : ℕ) (own : Partici
   pub posed : IsBetweenCalls board place own token
   pub tenure_is : IsTenureOf own tenure
   pub lent : AreLentTo tenure.round token.me.1
-  pub ready : IsReady board own due known_slots table token.me.0.slots.waits
+  pub ready : IsReady board own due known_slots table (known_waiting token.me.0.slots)
   pub tallied : IsTallied 0 tally token.me.0.stakes.counts

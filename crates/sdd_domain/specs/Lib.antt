@@ -2,6 +2,7 @@ pub mod DomainValues
 pub mod DueItems
 pub mod SeenSlots
 pub mod WaitingItems
+pub mod InBags
 pub mod Claims
 pub mod Scan
 pub mod Domain

@@ -5,10 +5,10 @@ use Rattle.sdd_participants.specs.EpochState.{EpochState, newcomer}
 use Rattle.sdd_participants.specs.Jobs.{places_of}
 use Rattle.sdd_participants.specs.declared.place_states.PlaceState.TheVariants.{Live}
 use Rattle.sdd_participants.specs.declared.standing.Standing.{Standing}
-use Rattle.sdd_participants.specs.declared.standing.Standing.TheVariants.{Owned, Raw, Shared, Retired}
+use Rattle.sdd_participants.specs.declared.standing.Standing.TheVariants.{Owned, Raw, Shared, Retired, Private}
 use Rattle.sdd_participants.specs.declared.standing.CellContents.{CellContents}
 use Rattle.sdd_participants.specs.declared.standing.RawCellContents.{RawCellContents}
-use Rattle.sdd_word_invariant.specs.Codes.{free_word, raw_word, alive, waiting, counted, held_slots}
+use Rattle.sdd_word_invariant.specs.Codes.{free_word, raw_word, alive, waiting, waits_for, counted, held_slots}
 use Rattle.sdd_core.specs.declared.limits.Limits.{Limits}
 use Rattle.sdd_core.specs.declared.tag.Tag.{Tag}
 use Rattle.sdd_core.specs.declared.tag.Tag.TheVariants.{First, Second, Both, None as Untagged}
@@ -31,11 +31,15 @@ listing (suc n) f = f 0 ∷ listing n (λ i. f (suc i))
 abbrev pub owner_standing : ℕ → Standing
 owner_standing word = if counted word == 1 then Shared (alive word) else Owned
 
+-- one that isn't waits for the collector that its word names
+abbrev pub item_standing : ℕ → Standing
+item_standing word = if waits_for (word / 16) word == 1 then Private (word / 16) else owner_standing word
+
 -- how a slot stands by its word
 abbrev pub standing_by : ℕ → Option Standing
 standing_by word =
     if word == free_word 0 then None
-    else (if waiting word == 1 then Some Retired else (if word == raw_word 0 then Some Raw else Some (owner_standing word)))
+    else (if waiting word == 1 then Some Retired else (if word == raw_word 0 then Some Raw else Some (item_standing word)))
 
 abbrev pub value_by : {T : Type 0} → ℕ → Option (T × Gv) → Option T
 value_by word entry = if word == free_word 0 then None else option_map (λ e. e.0) entry

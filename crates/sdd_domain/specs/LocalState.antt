@@ -297,7 +297,7 @@ IsFreePlace m place = IsFree m (place_number m place)
 abbrev pub AllPlacesTaken : {J : Type 0} → LocalState J → Type 0
 AllPlacesTaken m = (place : ℕ) → place < m.limits.jobs → ¬ (IsFreePlace m place)
 
--- this job waits with it in a place from now on, deferred at the count of this moment
+-- this job waits with it in a place from now on, where none waited, deferred at the count of this moment
 pub record DefersTo {J : Type 0} (place count : ℕ) (job : J) (old new : LocalState J) : Type 0 where
   pub inside : place < old.limits.jobs
   pub member : new ≡ record old {
@@ -307,5 +307,6 @@ pub record DefersTo {J : Type 0} (place count : ℕ) (job : J) (old new : LocalS
     words = slice_set old.words (behind old.sizes (place_number old place)) (waiting_word 0);
     jobs = with_entry old.jobs place job;
   }
+  pub first : total (waits_in (place_number old place)) old.slots.waits ≡ 0
   pub knew : old.known ≤ count
   pub lone : IsLone old → (count ≡ old.known) × IsFreePlace old place

@@ -2,8 +2,7 @@
 ghost use Rattle.std.specs.Prelude.{◌≡◌, ◌≤◌, ℕ, [], true, false};
 ghost use Rattle.sdd_participants.specs.EpochState.{nested};
 ghost use Rattle.sdd_participants.specs.EpochState as time;
-ghost use Rattle.sdd_atomics.specs.DomainSeat.{slots};
-ghost use Rattle.sdd_domain.specs.WaitingItems.{ripe, due_at, Arrives, HasArrived};
+ghost use Rattle.sdd_domain.specs.WaitingItems.{due_at, Arrives, HasArrived};
 ghost use Rattle.sdd_domain.specs.BetweenCalls.{IsBetweenCalls};
 
 use crate::due_items::DueItems;
@@ -41,7 +40,6 @@ pub fn arrive(
 ) -> bool
     requires posed { IsBetweenCalls board.now place own.old token.old }
     requires closed { own.old.guards ≡ 0 }
-    requires settled { ripe (slots token.old).waits ≡ [] }
     requires none { due.old.items ≡ [] }
     requires room { own.old.bags.room ≤ due.old.room }
     ensures posed { IsBetweenCalls board.now place (nested own.new) token.new }

@@ -74,6 +74,7 @@ impl<'d, T: Item<T>, J: Job> Model for LocalCore<'d, T, J> {
     ghost use Rattle.sdd_domain.specs.Domain.{book_of};
     ghost use Rattle.sdd_domain.specs.LocalState.{LocalState};
     ghost use Rattle.sdd_domain.specs.BetweenCalls.{IsBetweenCalls, AreLentTo, IsTenureOf, IsReady};
+    ghost use Rattle.sdd_domain.specs.InBags.{known_waiting};
     ghost use Rattle.sdd_domain.specs.Receipt.{IsTallied};
 
     ghost Value = { LocalState J };
@@ -99,7 +100,7 @@ impl<'d, T: Item<T>, J: Job> Model for LocalCore<'d, T, J> {
 
     ghost invariant = { λ l. IsBetweenCalls l.domain.now.board l.place l.own l.token × (l.nesting ≡ l.domain.now.limits.nesting)
         × IsTenureOf l.own l.tenure × AreLentTo l.tenure.round l.token.me.1
-        × IsReady l.domain.now.board l.own l.due l.known.slots l.jobs l.token.me.0.slots.waits
+        × IsReady l.domain.now.board l.own l.due l.known.slots l.jobs (known_waiting l.token.me.0.slots)
         × IsTallied 0 l.tally l.token.me.0.stakes.counts };
 }
 

@@ -831,7 +831,7 @@ module _ (slots id : ℕ) (me : SeatState) (live : HasPlace me.0.epoch) where
                 (λ j u apart e. inl (λ o. let both = owners_in codes sound sizes s.words s.views h.kept.parts.slots j id slot u v apart e at in omega arith))
                 (λ c. inl (let z = dead in omega arith)) (λ c. absurd (in_no_cell_too s h at own one c))
                 (post s h at now refl refl refl refl (λ l. l));
-            tells = telling_it (now, me.1) (retired slot y c.0 v, (c.0, c.1, c.2, refl, c.4, c.5), refl, refl);
+            tells = telling_it (now, me.1) (retired slot y c.0 v, (c.0, c.1, c.2, refl, c.4, c.5, c.6, c.7), refl, refl);
           }
 
     -- retire the item of an only owner

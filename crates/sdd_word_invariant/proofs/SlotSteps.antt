@@ -18,7 +18,7 @@ use Rattle.sdd_word_invariant.specs.Codes.{codes, shared_base, free_word, waitin
 use Rattle.sdd_word_invariant.specs.Sums.{times}
 use Rattle.sdd_word_invariant.specs.Epoch.{HasPlace, IsOpen, EpochInvariant}
 use Rattle.sdd_word_invariant.specs.Slots.{slot_at, owners_at, items_at, Owns, Sees, Holds, SlotsInvariant}
-use Rattle.sdd_word_invariant.specs.Collectors.{CollectorsInvariant}
+use Rattle.sdd_word_invariant.specs.Collectors.{CollectorsInvariant, privates_at}
 use Rattle.sdd_word_invariant.specs.EpochSteps.{Steps}
 use Rattle.sdd_word_invariant.specs.SlotSteps.{noted, Knew, claimed, retired, deferred, given_back, seeing, Claims, Retires, Defers, GivesBack, AtSlot, held, release_hold, looked_past, discarded, TakesHold, LetsGo, Discards, LooksForGuard, LooksAtSlot, others, one_less, Releases, one_more, taken_back, Adds, TakesBack, held_by, shared_again, TriesHold, SharesAgain, LeavesBeside, AddsBeside}
 use Rattle.sdd_word_invariant.specs.WordInvariant.{epoch_of, Parts}
@@ -125,7 +125,9 @@ module _ (id : ℕ) (v : View) (live : HasPlace v.epoch) where
       → (w : View) × Parts sizes (set ws (slot_word sizes slot) y) (set vs id w) × AtSlot Retires (slot_word sizes slot) v y w
   retires slot y inside mine free none waits_now ws vs p at last =
       let count : ℕ = get_or ws global_word 0 in let w : View = retired slot y count v in
-      let f = p.epoch.each id v.epoch (at_epoch ws vs p at) in (
+      let f = p.epoch.each id v.epoch (at_epoch ws vs p at) in
+      let none_private : privates_at slot v ≡ 0 = (let most = private.privates_in codes sound sizes ws vs p.collectors id slot v at in
+      let plain = (plain_alive codes sound (slot_at sizes ws slot) (omega arith)).0 in omega arith) in (
         w,
         around ws vs p at slot y w live refl
             (inr (plain_alive codes sound (slot_at sizes ws slot) (omega arith), plain_waiting codes sound y (omega arith)))
@@ -139,6 +141,9 @@ module _ (id : ℕ) (v : View) (live : HasPlace v.epoch) where
           ap (λ (k : ℕ). retired k y count v) (same_slot slot other is),
           (λ open_now. (f.published open_now).once),
           waits.few_wait codes sound sizes ws vs p.slots id v at slot inside mine,
+          ap (λ (k : ℕ). items_at k v) (sym (same_slot slot other is)) ∙ waits.none_wait codes sound sizes ws vs p.slots id v at slot
+              (sound.lives (slot_at sizes ws slot) (omega arith)).0,
+          ap (λ (k : ℕ). privates_at k v) (sym (same_slot slot other is)) ∙ none_private,
         ),
       )
 

@@ -12,6 +12,7 @@ use Rattle.sdd_views.specs.declared.Sizes.{Sizes}
 use Rattle.sdd_word_invariant.specs.Words.{words_behind, most_waiting, state_word, slot_word}
 use Rattle.sdd_word_invariant.specs.Epoch.{HasPlace, IsOpen, IsLone}
 use Rattle.sdd_word_invariant.specs.Slots.{items_at, Sees}
+use Rattle.sdd_word_invariant.specs.Collectors.{privates_at}
 use Rattle.sdd_word_invariant.specs.Codes.{alive, counted, most_owners, held_word, shared_word}
 use Rattle.sdd_word_invariant.specs.EpochSteps.{knowing, closed, Publishes}
 
@@ -184,10 +185,10 @@ abbrev pub SeesRaw : ℕ → ℕ → View → ℕ → View → Type 0
 SeesRaw slot old v x w = (x ≡ old → ¬ (Sees v slot) → w ≡ seeing slot v) × ((x ≢ old) ⊎ Sees v slot → w ≡ v) × Knew slot v x
 
 -- the item of a slot whose last owner goes waits from the count of this moment on, which is known after it: under an open guard the one at the publish,
--- or one more. Less than may wait did so before
+-- or one more. Less than may wait did so before, and nothing of the slot, privately or not
 abbrev pub Retires : ℕ → View → ℕ → View → Type 0
 Retires slot v y w = (count : ℕ) × (v.epoch.known ≤ count) × (IsLone v.epoch → count ≡ v.epoch.known) × (w ≡ retired slot y count v)
-    × (IsOpen v.epoch → count ≤ v.epoch.since + 1) × (length v.slots.waits < most_waiting v.sizes)
+    × (IsOpen v.epoch → count ≤ v.epoch.since + 1) × (length v.slots.waits < most_waiting v.sizes) × (items_at slot v ≡ 0) × (privates_at slot v ≡ 0)
 
 -- a job waits in the place from the count of this moment on, which is known after it, as a retired item does. None waited there before, and less than
 -- may wait did so

@@ -12,7 +12,7 @@ returns-clause-posed c = let own : Participant = c.args.own.now in let count : �
     let Posed = λ (o : Participant). IsBetweenCalls c.args.board.now c.args.place (nested o) c.publish-2.new.token in
     let posed : Posed (rotated count own) = (arrived_moved c.args.board.now c.args.place own count c.args.token.now c.read-count.new.token c.write.new.token
     c.publish-2.new.token c.requires.posed c.read-count.ensures (λ e. c.if-count-own.false (sym e)) c.write.ensures c.publish-2.ensures
-    c.requires.closed c.requires.settled).0 in
+    c.requires.closed).0 in
     ⊎_elim (λ (t : c.change.result ≡ true). subst Posed (sym (c.change.ensures.own t)) posed)
     (λ (f : c.change.result ≡ false). let idle = c.change.ensures.idle f in
     subst Posed (sym idle.1) (posed_settled c.args.board.now c.args.place (nested (rotated count own)) c.publish-2.new.token
@@ -25,7 +25,7 @@ returns-clause-arrived c = let own : Participant = c.args.own.now in let count :
       count,
       (arrived_moved c.args.board.now c.args.place own count c.args.token.now c.read-count.new.token c.write.new.token
           c.publish-2.new.token c.requires.posed c.read-count.ensures apart c.write.ensures c.publish-2.ensures
-          c.requires.closed c.requires.settled).1,
+          c.requires.closed).1,
       record {
         change = λ t. (apart, c.change.ensures.own t ∙ sym (moved count own apart));
         over = λ f. let idle = c.change.ensures.idle f in inr (apart, idle.0, idle.1 ∙ ap settled (sym (moved count own apart)));

@@ -12,6 +12,7 @@ use Rattle.sdd_views.specs.declared.Sizes.{Sizes}
 use Rattle.sdd_views.specs.declared.View.{View}
 use Rattle.sdd_word_invariant.specs.SlotSteps.{behind, noted}
 use Rattle.sdd_domain.specs.BetweenCalls.{AreLentTo, IsBetweenCalls, IsReady}
+use Rattle.sdd_domain.specs.InBags.{known_waiting}
 use Rattle.sdd_domain.specs.Items.{slots_home}
 use Rattle.sdd_domain.specs.LocalState.{AddsAt, HasMost, IsLone, KnowsOwner, LocalState}
 use Rattle.sdd_domain.specs.Receipt.{IsTallied}
@@ -132,7 +133,7 @@ invariant_of-self g c =
       i.1,
       i.2,
       subst (AreLentTo l.tenure.round) (sym (full.2 ∙ ap (λ (x : Seat ValueFraction View). x.me.1) same)) i.3,
-      subst (IsReady b l.own l.due l.known.slots l.jobs) (sym (ap (λ (v : View). v.slots.waits) here)) i.4,
+      subst (IsReady b l.own l.due l.known.slots l.jobs) (sym (ap (λ (v : View). known_waiting v.slots) here)) i.4,
       subst (IsTallied 0 l.tally) (sym (ap (λ (v : View). v.stakes.counts) here)) i.5,
     )
 
@@ -455,7 +456,7 @@ invariant_of-self-2 g c =
       i.1,
       i.2,
       subst (AreLentTo l.tenure.round) (sym (left.1 ∙ ap (λ (x : Seat ValueFraction View). x.me.1) same)) i.3,
-      subst (IsReady b l.own l.due l.known.slots l.jobs) (sym (ap (λ (v : View). v.slots.waits) here)) i.4,
+      subst (IsReady b l.own l.due l.known.slots l.jobs) (sym (ap (λ (v : View). known_waiting v.slots) here)) i.4,
       subst (IsTallied 0 l.tally) (sym (ap (λ (v : View). v.stakes.counts) here)) i.5,
     )
 

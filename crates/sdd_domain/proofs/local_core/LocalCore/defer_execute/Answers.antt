@@ -1,5 +1,4 @@
-use Rattle.std.proofs.Common.{◌≡◌, ℕ, ◌+◌, ◌<◌, List, None, length, map, refl, sym, ap, ◌∙◌, subst, arith, slice_index_or, length-set}
-use Rattle.std.proofs.lemmas.List.{length-map}
+use Rattle.std.proofs.Common.{◌≡◌, ℕ, ◌+◌, ◌<◌, List, None, length, refl, sym, ap, ◌∙◌, subst, arith, slice_index_or, length-set}
 use Rattle.std.specs.Prelude.{◌↔◌, Option, IsSome}
 use Rattle.sdd_participants.specs.declared.waiting.LimboEntry.TheVariants.{Job}
 use Rattle.sdd_participants.specs.declared.participant.Participant.{Participant}
@@ -8,19 +7,19 @@ use Rattle.sdd_participants.specs.EpochState.{awaiting, with_garbage}
 use Rattle.sdd_views.specs.declared.WaitingItem.{WaitingItem}
 use Rattle.sdd_views.specs.declared.View.{View}
 use Rattle.sdd_views.specs.declared.Sizes.{Sizes}
-use Rattle.sdd_word_invariant.specs.Words.{most_waiting}
 use Rattle.sdd_word_invariant.specs.Sums.{total}
 use Rattle.sdd_word_invariant.specs.Slots.{waits_in}
 use Rattle.sdd_word_invariant.specs.SlotSteps.{retired_now, DefersAt}
-use Rattle.sdd_atomics.specs.DomainTable.{sizes_of, slots_of}
+use Rattle.sdd_atomics.specs.DomainTable.{most_waiting_of, sizes_of, slots_of}
 use Rattle.sdd_domain.specs.LocalState.{LocalState, DefersTo}
 use Rattle.sdd_domain.specs.BetweenCalls.{IsBetweenCalls, AreLentTo, IsTenureOf, IsReady}
+use Rattle.sdd_domain.specs.InBags.{AreInBags, KnownWaiting, known_waiting}
 use Rattle.sdd_domain.specs.Receipt.{IsTallied}
-use Rattle.sdd_domain.specs.WaitingItems.{what_of, waiting_of, ripe, unripe}
 use Rattle.sdd_domain.proofs.Deferring.{posed_defers}
 use Rattle.sdd_domain.proofs.JobTables.{job_put, not-there}
 use Rattle.sdd_domain.proofs.Members.{with_view}
-use Rattle.sdd_domain.proofs.Ripe.{ripe_snoc, fewer_unripe}
+use Rattle.sdd_domain.proofs.InBags.{job_plain, one_more, room_left}
+use Rattle.sdd_domain.proofs.Reclaims.{what_job}
 use Rattle.sdd_domain.proofs.local_core.LocalCore.defer_execute.Goals as goal
 
 pub put-requires-clause-free : goal.put-requires-clause-free
@@ -32,11 +31,14 @@ put-requires-clause-free g c = let l = c.self.inside in let b = l.domain.now.boa
     not-there (slice_index_or l.jobs place None) (λ some. let waits = (c.self.invariant.4.jobs place low).0 some in let none = d.6 in absurd (omega arith))
 
 pub push-requires : goal.push-requires
-push-requires g c = let l = c.self.inside in let q = c.self.invariant.0 in let d = c.in-Ok.ensures.tried.1.view in
-    let few = fewer_unripe l.token.me.0.slots.waits in
-    let many : length l.own.bags.waiting ≡ length (unripe l.token.me.0.slots.waits)
-    = ap length q.bags ∙ length-map (unripe l.token.me.0.slots.waits) (waiting_of (slots_of l.domain.now.board)) in
-    let known = ap most_waiting q.knows.0 in let most = q.room in let less = d.5 in record { room = omega arith }
+push-requires g c = let l = c.self.inside in let q = c.self.invariant.0 in let r = c.self.invariant.4 in let b = l.domain.now.board in let n : ℕ = slots_of b in
+    let place : ℕ = c.in-Ok.place in
+    let d = subst (λ (k : ℕ). DefersAt (k + place) 4 l.token.me.0 c.claim_place.new.token.me.0) (sym (ap (λ (z : Sizes). z.slots) l.domain.now.limited.1))
+    c.in-Ok.ensures.tried.1.view in
+    let low : place < (sizes_of b).jobs = subst (λ (z : Sizes). place < z.jobs) (sym l.domain.now.limited.1) c.in-Ok.ensures.tried.0 in
+    let left = room_left n (known_waiting l.token.me.0.slots) l.own.bags.waiting l.due.items r.bags (most_waiting_of b) (n + place) (omega arith) q.waiting
+    (omega arith) d.6 (job_plain n (known_waiting l.token.me.0.slots) l.own.bags.waiting l.due.items r.bags place) in
+    let most = q.room in record { room = omega arith }
 
 pub invariant_of-self : goal.invariant_of-self
 invariant_of-self g c = let l = c.self.inside in let b = l.domain.now.board in let i = c.self.invariant in let r = i.4 in let n : ℕ = slots_of b in
@@ -48,15 +50,19 @@ invariant_of-self g c = let l = c.self.inside in let b = l.domain.now.board in l
     let low : place < (sizes_of b).jobs = subst (λ (z : Sizes). place < z.jobs) (sym l.domain.now.limited.1) c.in-Ok.ensures.tried.0 in
     let inside : place < length l.jobs = (let long = r.places in omega arith) in
     subst (λ (o : Participant). IsBetweenCalls b l.place o token × l.nesting ≡ l.domain.now.limits.nesting × IsTenureOf o l.tenure
-    × AreLentTo l.tenure.round token.me.1 × IsReady {J = g.row.J.Denot} b o l.due l.known.slots c.put.new.self token.me.0.slots.waits
+    × AreLentTo l.tenure.round token.me.1 × IsReady {J = g.row.J.Denot} b o l.due l.known.slots c.put.new.self (known_waiting token.me.0.slots)
     × IsTallied 0 l.tally token.me.0.stakes.counts) (sym own_is) (
       posed_defers b l.place l.own l.token token i.0 did.table did.others place (omega arith) d,
       i.1,
       record { units = i.2.units; kind = i.2.kind },
       subst (AreLentTo l.tenure.round) (sym did.others) i.3,
       record {
-        due = r.due ∙ (ap (map (what_of n)) (sym (ripe_snoc (retired_now (n + place) d.0) refl waits))
-            ∙ ap (λ (v : View). map (what_of n) (ripe v.slots.waits)) (sym d.3));
+        bags = subst (λ (k : KnownWaiting). AreInBags n k (awaiting (Job place) l.own).bags.waiting l.due.items)
+            (sym (ap (λ (v : View). known_waiting v.slots) d.3))
+            (one_more n (known_waiting l.token.me.0.slots) l.own.bags.waiting l.due.items r.bags (retired_now (n + place) d.0) (Job place) refl
+            (what_job n (retired_now (n + place) d.0) (omega arith) ∙ ap (λ (k : ℕ). Job k) (omega arith)) d.6
+            (job_plain n (known_waiting l.token.me.0.slots) l.own.bags.waiting l.due.items r.bags place));
+        uncollected = ap (λ (v : View). v.slots.privates) d.3 ∙ r.uncollected;
         large = r.large;
         slots = r.slots;
         places = ap length c.put.ensures ∙ (length-set l.jobs place _ ∙ r.places);
@@ -82,6 +88,7 @@ returns-in-Ok g c = let l = c.self.inside in let i = c.self.invariant in let pla
               own = own_is k;
               jobs = c.put.ensures k;
             };
+            first = d.6;
             knew = d.1;
             lone = λ one. (d.2 (all ∙ one), did.free (all ∙ one));
           },

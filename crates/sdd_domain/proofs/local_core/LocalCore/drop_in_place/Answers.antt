@@ -13,12 +13,12 @@ use Rattle.sdd_shared_values.specs.declared.value_fraction.ValueFraction.{ValueF
 use Rattle.sdd_space.specs.OwnerOrCell.{AreOf}
 use Rattle.sdd_views.specs.declared.Sizes.{Sizes}
 use Rattle.sdd_views.specs.declared.View.{View}
-use Rattle.sdd_views.specs.declared.WaitingItem.{WaitingItem}
 use Rattle.sdd_word_invariant.specs.Epoch.{IsLone as IsLoneAt}
 use Rattle.sdd_word_invariant.specs.SlotSteps.{noted}
 use Rattle.sdd_atomics.specs.DomainTable.{id_of, book_of, slots_of}
 use Rattle.sdd_atomics.specs.DomainSeat.{epoch}
 use Rattle.sdd_domain.specs.BetweenCalls.{AreLentTo, IsBetweenCalls, IsReady}
+use Rattle.sdd_domain.specs.InBags.{KnownWaiting, known_waiting}
 use Rattle.sdd_domain.specs.Claims.{IsUnmoved}
 use Rattle.sdd_domain.specs.InPlace.{IsLetGoOf, with_dropped}
 use Rattle.sdd_domain.specs.GoesInPlace.{Goes}
@@ -101,8 +101,8 @@ invariant_of-self g c =
       i.1,
       i.2,
       subst (AreLentTo l.tenure.round) (sym (gone.others ∙ ap (λ (x : Seat ValueFraction View). x.me.1) same)) i.3,
-      subst (λ (z : ℕ × List WaitingItem). IsReady b l.own l.due z.0 l.jobs z.1)
-          (λ d. (sym c.remember.ensures.slots d, sym (ap (λ (v : View). v.slots.waits) here) d)) i.4,
+      subst (λ (z : ℕ × KnownWaiting). IsReady b l.own l.due z.0 l.jobs z.1)
+          (λ d. (sym c.remember.ensures.slots d, sym (ap (λ (v : View). known_waiting v.slots) here) d)) i.4,
       subst (λ (x : Tally). IsTallied 0 x u.me.0.stakes.counts) (sym c.count_in_place.ensures)
           (subst (IsTallied 0 (one_in_place l.tally)) (sym (ap (λ (v : View). v.stakes.counts) here))
           (tallied_in_place l.tally l.token.me.0.stakes.counts i.5)),
@@ -128,7 +128,7 @@ invariant_of-self-in-None g c =
       i.1,
       i.2,
       subst (AreLentTo l.tenure.round) (sym (gone.others ∙ ap (λ (x : Seat ValueFraction View). x.me.1) same)) i.3,
-      subst (IsReady b l.own l.due l.known.slots l.jobs) (sym (ap (λ (v : View). v.slots.waits) here)) i.4,
+      subst (IsReady b l.own l.due l.known.slots l.jobs) (sym (ap (λ (v : View). known_waiting v.slots) here)) i.4,
       subst (IsTallied 0 l.tally) (sym (ap (λ (v : View). v.stakes.counts) here)) i.5,
     )
 
@@ -184,7 +184,7 @@ invariant_of-self-in-Err g c =
       i.1,
       i.2,
       subst (AreLentTo l.tenure.round) (sym (e.2 ∙ ap (λ (x : Seat ValueFraction View). x.me.1) same)) i.3,
-      subst (IsReady b l.own l.due l.known.slots l.jobs) (sym (ap (λ (v : View). v.slots.waits) here)) i.4,
+      subst (IsReady b l.own l.due l.known.slots l.jobs) (sym (ap (λ (v : View). known_waiting v.slots) here)) i.4,
       subst (IsTallied 0 l.tally) (sym (ap (λ (v : View). v.stakes.counts) here)) i.5,
     )
 

@@ -3,6 +3,7 @@ use Rattle.sdd_participants.specs.declared.tally.Tally.{Tally}
 use Rattle.sdd_views.specs.declared.CountsView.{CountsView}
 use Rattle.sdd_views.specs.declared.View.{View}
 use Rattle.sdd_atomics.specs.DomainTable.{sizes_of, slots_of}
+use Rattle.sdd_domain.specs.InBags.{known_waiting}
 use Rattle.sdd_domain.specs.LocalState.{LocalState, waits}
 use Rattle.sdd_domain.specs.Receipt.{IsTallied}
 use Rattle.sdd_domain.proofs.Tallies.{tallied_ended}
@@ -16,7 +17,7 @@ new-requires g c = let l = c.self.inside in let counts : CountsView = l.token.me
 
 pub destroy-requires : goal.destroy-requires
 destroy-requires g c = let l = c.self.inside in let i = c.self.invariant in let r = i.4 in record {
-  free = none-there (slots_of l.domain.now.board) (sizes_of l.domain.now.board).jobs l.jobs l.token.me.0.slots.waits l.due.items l.own.bags.waiting
-      r.places r.jobs r.due (ap (λ (m : LocalState _). m.due) c.self.view_is ∙ c.requires.settled) i.0.bags
+  free = none-there (slots_of l.domain.now.board) (sizes_of l.domain.now.board).jobs l.jobs (known_waiting l.token.me.0.slots) l.due.items l.own.bags.waiting
+      r.places r.jobs r.bags (ap (λ (m : LocalState _). m.due) c.self.view_is ∙ c.requires.settled)
       (none-wait l.own (ap waits c.self.view_is ∙ c.requires.idle));
 }

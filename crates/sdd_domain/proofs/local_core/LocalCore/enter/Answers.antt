@@ -1,6 +1,7 @@
-use Rattle.std.proofs.Common.{◌≡◌, ◌≢◌, ℕ, ◌+◌, ◌≤◌, List, [], map, rules, refl, sym, ap, ◌∙◌, subst, inl, inr, ⊎_elim, arith}
+use Rattle.std.proofs.Common.{◌≡◌, ◌≢◌, ℕ, ◌+◌, ◌≤◌, List, [], rules, refl, sym, ap, ◌∙◌, subst, inl, inr, ⊎_elim, arith}
 use Rattle.sdd_participants.specs.EpochState.{nested, settled}
 use Rattle.sdd_participants.specs.declared.participant.Participant.{Participant}
+use Rattle.sdd_participants.specs.declared.waiting.LimboEntry.{LimboEntry}
 use Rattle.sdd_views.specs.declared.Sizes.{Sizes}
 use Rattle.sdd_word_invariant.specs.Sums.{total}
 use Rattle.sdd_word_invariant.specs.Slots.{waits_in}
@@ -8,7 +9,6 @@ use Rattle.sdd_atomics.specs.DomainTable.{sizes_of, slots_of}
 use Rattle.sdd_domain.proofs.JobTables.{still_jobs}
 use Rattle.sdd_views.specs.declared.SlotsView.{SlotsView}
 use Rattle.sdd_views.specs.declared.FractionsView.{FractionsView}
-use Rattle.sdd_views.specs.declared.WaitingItem.{WaitingItem}
 use Rattle.sdd_domain_invariant.specs.FractionsAtHome.{CarriedFractions}
 use Rattle.sdd_rights.specs.declared.fraction.Fraction.{Fraction}
 use Rattle.sdd_values.specs.declared.read_sections.SectionState.{SectionState}
@@ -16,23 +16,19 @@ use Rattle.sdd_values.specs.declared.read_sections.SectionState.TheVariants.{Clo
 use Rattle.sdd_domain.specs.LocalState.{LocalState, IsEntered, GoesOn}
 use Rattle.sdd_domain.specs.BetweenCalls.{IsBetweenCalls, AreLentTo}
 use Rattle.sdd_domain.specs.Receipt.{IsTallied}
-use Rattle.sdd_domain.specs.WaitingItems.{what_of, ripe, arrived_at, aged_slots_at, due_at}
-use Rattle.sdd_domain.proofs.Arrivals.{has_open, has_room, due_moved, quiet_due, due_ripe, same_aged}
+use Rattle.sdd_domain.specs.InBags.{AreInBags, known_waiting}
+use Rattle.sdd_domain.specs.WaitingItems.{arrived_at, aged_slots_at, due_at}
+use Rattle.sdd_domain.proofs.Arrivals.{bags_arrived, has_open, has_room, due_moved, none_collected, quiet_due, same_aged}
 use Rattle.sdd_domain.proofs.Members.{with_view}
-use Rattle.sdd_domain.proofs.Reclaims.{none_ripe}
 use Rattle.sdd_domain.proofs.local_core.LocalCore.enter.Goals as goal
 
 abbrev Tenure : Type 0
 Tenure = Fraction SectionState
 
-pub arrive-goes_on-requires-clause-settled : goal.arrive-goes_on-requires-clause-settled
-arrive-goes_on-requires-clause-settled g c = none_ripe (slots_of c.self.inside.domain.now.board) (ripe c.self.inside.token.me.0.slots.waits)
-    (sym c.self.invariant.4.due ∙ (ap (λ (m : LocalState _). m.due) c.self.view_is ∙ c.requires.settled))
-
 pub invariant_of-self : goal.invariant_of-self
 invariant_of-self g c = let l = c.self.inside in let i = c.self.invariant in let b = l.domain.now.board in
     let own : Participant = c.arrive-goes_on.new.own in let a = c.arrive-goes_on.ensures.arrived in let count : ℕ = a.0 in let arrives = a.1 in
-    let none = none_ripe (slots_of b) (ripe l.token.me.0.slots.waits) (sym i.4.due ∙ (ap (λ (m : LocalState _). m.due) c.self.view_is ∙ c.requires.settled)) in
+    let none = ap (λ (m : LocalState _). m.due) c.self.view_is ∙ c.requires.settled in
     let shut : l.own.guards ≡ 0 = search rules in
     let guards : own.guards ≡ 0 = has_open count l.own c.arrive-goes_on.result own a.2 ∙ shut in
     let one : own.guards + 1 ≡ 1 = omega arith in
@@ -51,8 +47,10 @@ invariant_of-self g c = let l = c.self.inside in let i = c.self.invariant in let
         sym arrives.others d,
       )) i.3,
       record {
-        due = a.3 ∙ (due_ripe count l.own (slots_of b) l.token.me.0.slots.waits i.0.bags none
-            ∙ ap (λ (xs : List WaitingItem). map (what_of (slots_of b)) (ripe xs)) (sym (ap (λ (s : SlotsView). s.waits) arrives.slots)));
+        bags = subst (λ (z : SlotsView × List LimboEntry). AreInBags (slots_of b) (known_waiting z.0) own.bags.waiting z.1)
+            (λ d. (sym arrives.slots d, sym a.3 d))
+            (bags_arrived count l.own (slots_of b) c.arrive-goes_on.result own a.2 l.token.me.0.slots l.due.items i.4.bags none);
+        uncollected = ap (λ (s : SlotsView). s.privates) arrives.slots ∙ none_collected count l.own l.token.me.0.slots i.4.uncollected;
         large = subst (λ (n : ℕ). n ≤ c.arrive-goes_on.new.due.room) (sym large) c.arrive-goes_on.ensures.room;
         slots = i.4.slots;
         places = i.4.places;

@@ -13,6 +13,7 @@ use Rattle.sdd_views.specs.declared.Sizes.{Sizes}
 use Rattle.sdd_views.specs.declared.View.{View}
 use Rattle.sdd_atomics.specs.DomainTable.{slots_of}
 use Rattle.sdd_domain.specs.BetweenCalls.{AreLentTo, IsBetweenCalls, IsReady}
+use Rattle.sdd_domain.specs.InBags.{known_waiting}
 use Rattle.sdd_domain.specs.Items.{HasValue, IsRightTo, slots_home}
 use Rattle.sdd_domain.specs.LocalState.{ChangesAt, HasOthers, IsLone, KnowsOwner, LocalState, SeesGuard, sole_words}
 use Rattle.sdd_domain.specs.Receipt.{IsTallied}
@@ -244,7 +245,7 @@ invariant_of-self g c =
       i.1,
       i.2,
       subst (AreLentTo l.tenure.round) (sym (others ∙ ap (λ (x : Seat ValueFraction View). x.me.1) same)) i.3,
-      subst (IsReady b l.own l.due l.known.slots l.jobs) (sym (ap (λ (v : View). v.slots.waits) here)) i.4,
+      subst (IsReady b l.own l.due l.known.slots l.jobs) (sym (ap (λ (v : View). known_waiting v.slots) here)) i.4,
       subst (IsTallied 0 l.tally) (sym (ap (λ (v : View). v.stakes.counts) here)) i.5,
     )
 
@@ -283,7 +284,7 @@ invariant_of-self-in-Err g c =
       i.1,
       i.2,
       subst (AreLentTo l.tenure.round) (sym (e.2 ∙ ap (λ (x : Seat ValueFraction View). x.me.1) same)) i.3,
-      subst (IsReady b l.own l.due l.known.slots l.jobs) (sym (ap (λ (v : View). v.slots.waits) here)) i.4,
+      subst (IsReady b l.own l.due l.known.slots l.jobs) (sym (ap (λ (v : View). known_waiting v.slots) here)) i.4,
       subst (IsTallied 0 l.tally) (sym (ap (λ (v : View). v.stakes.counts) here)) i.5,
     )
 

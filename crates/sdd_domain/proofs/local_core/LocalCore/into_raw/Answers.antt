@@ -17,6 +17,7 @@ use Rattle.sdd_domain_invariant.specs.FractionSteps.{regained}
 use Rattle.sdd_atomics.specs.DomainSeat.{Taught, Moved}
 use Rattle.sdd_domain.specs.RawItems.{PutsOut, put_out}
 use Rattle.sdd_domain.specs.BetweenCalls.{AreLentTo, IsReady}
+use Rattle.sdd_domain.specs.InBags.{known_waiting}
 use Rattle.sdd_domain.specs.Receipt.{IsTallied}
 use Rattle.sdd_domain.specs.LocalState.{LocalState, IsLone, KnowsOwner}
 use Rattle.sdd_domain.proofs.Members.{with_view, recalls_to, has_tables}
@@ -140,7 +141,7 @@ invariant_of-self g c = let l = c.self.inside in let board = l.domain.now.board 
       i.1,
       i.2,
       subst (AreLentTo l.tenure.round) (sym (put_others board l.place l.own slot shown l.token c.take_in.new.token c.put_out.new.token q took put)) i.3,
-      subst (IsReady board l.own l.due l.known.slots l.jobs) (sym (ap (λ (v : View). v.slots.waits) is)) i.4,
+      subst (IsReady board l.own l.due l.known.slots l.jobs) (sym (ap (λ (v : View). known_waiting v.slots) is)) i.4,
       subst (IsTallied 0 l.tally) (sym (ap (λ (v : View). v.stakes.counts) is)) i.5,
     )
 

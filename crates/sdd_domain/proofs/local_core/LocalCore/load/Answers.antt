@@ -20,6 +20,7 @@ use Rattle.sdd_domain.specs.SpaceIds.{home_in}
 use Rattle.sdd_domain.specs.SeenSlots.{IsOnce}
 use Rattle.sdd_domain.specs.Cells.{IsOwnedThere}
 use Rattle.sdd_domain.specs.BetweenCalls.{IsBetweenCalls, IsReady, AreLentTo}
+use Rattle.sdd_domain.specs.InBags.{known_waiting}
 use Rattle.sdd_domain.specs.Receipt.{IsTallied}
 use Rattle.sdd_domain.specs.LocalState.{LocalState, KnowsOwner, LooksAt, IsLone}
 use Rattle.sdd_domain.proofs.CellWords.{named, named_none}
@@ -45,7 +46,7 @@ invariant_of-self g c = let l = c.self.inside in let b = l.domain.now.board in l
       inv.1,
       inv.2,
       subst (λ (x : Seat ValueFraction View). AreLentTo l.tenure.round x.me.1) (sym still) inv.3,
-      subst (λ (x : Seat ValueFraction View). IsReady b l.own l.due l.known.slots l.jobs x.me.0.slots.waits) (sym still) inv.4,
+      subst (λ (x : Seat ValueFraction View). IsReady b l.own l.due l.known.slots l.jobs (known_waiting x.me.0.slots)) (sym still) inv.4,
       subst (λ (x : Seat ValueFraction View). IsTallied 0 l.tally x.me.0.stakes.counts) (sym still) inv.5,
     )
 
@@ -112,8 +113,8 @@ invariant_of-self-2 g c = let l = c.self.inside in let b = l.domain.now.board in
       inv.1,
       inv.2,
       subst (λ (t : ℕ). AreLentTo t c.show-value.new.seat.me.1) c.agree.ensures.round posed.1,
-      subst (IsReady b l.own l.due l.known.slots l.jobs) (sym (ap (λ (x : Seat ValueFraction View). x.me.0.slots.waits) c.show-value.ensures.seat
-          ∙ ap (λ (v : View). v.slots.waits) seen.view)) inv.4,
+      subst (IsReady b l.own l.due l.known.slots l.jobs) (sym (ap (λ (x : Seat ValueFraction View). known_waiting x.me.0.slots) c.show-value.ensures.seat
+          ∙ ap (λ (v : View). known_waiting v.slots) seen.view)) inv.4,
       subst (IsTallied 0 l.tally) (sym (ap (λ (x : Seat ValueFraction View). x.me.0.stakes.counts) c.show-value.ensures.seat
           ∙ ap (λ (v : View). v.stakes.counts) seen.view)) inv.5,
     )

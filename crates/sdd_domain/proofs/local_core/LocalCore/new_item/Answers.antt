@@ -10,6 +10,7 @@ use Rattle.sdd_participants.specs.Tally.{one_made}
 use Rattle.sdd_shared_values.specs.SharedValues.{showing}
 use Rattle.sdd_atomics.specs.DomainTable.{book_of, places_of}
 use Rattle.sdd_domain.specs.BetweenCalls.{AreLentTo, IsReady}
+use Rattle.sdd_domain.specs.InBags.{known_waiting}
 use Rattle.sdd_domain.specs.Receipt.{IsTallied}
 use Rattle.sdd_word_invariant.specs.Codes.{alive, counted}
 use Rattle.sdd_word_invariant.proofs.Codes.{claimed_is}
@@ -41,9 +42,16 @@ invariant_of-self g c = let l = c.self.inside in let b = l.domain.now.board in l
       inv.1,
       inv.2,
       subst (AreLentTo l.tenure.round) (sym posed.1) inv.3,
-      subst (IsReady b l.own l.due c.claim_free.new.known.slots l.jobs) (sym (ap (λ (v : View). v.slots.waits)
+      subst (IsReady b l.own l.due c.claim_free.new.known.slots l.jobs) (sym (ap (λ (v : View). known_waiting v.slots)
           (made_view b l.place l.own y slot shared made l.token claimed token inv.0 c.in-Ok.ensures.tried put.view)))
-          (record { due = inv.4.due; large = inv.4.large; slots = c.claim_free.ensures.slots ∙ inv.4.slots; places = inv.4.places; jobs = inv.4.jobs }),
+          (record {
+            bags = inv.4.bags;
+            uncollected = inv.4.uncollected;
+            large = inv.4.large;
+            slots = c.claim_free.ensures.slots ∙ inv.4.slots;
+            places = inv.4.places;
+            jobs = inv.4.jobs;
+          }),
       subst (λ (t : Tally). IsTallied 0 t token.me.0.stakes.counts) (sym c.count_made.ensures)
           (subst (IsTallied 0 (one_made l.tally)) (sym (ap (λ (v : View). v.stakes.counts)
           (made_view b l.place l.own y slot shared made l.token claimed token inv.0 c.in-Ok.ensures.tried put.view)))

@@ -12,6 +12,7 @@ use Rattle.sdd_domain.specs.Items.{IsRightTo, slots_home}
 use Rattle.sdd_domain.specs.LocalState.{LocalState, IsLone as IsAlone}
 use Rattle.sdd_domain.specs.SeenOwners.{KnowsStill, ShowsTo}
 use Rattle.sdd_domain.specs.BetweenCalls.{AreLentTo, IsReady}
+use Rattle.sdd_domain.specs.InBags.{known_waiting}
 use Rattle.sdd_domain.specs.Receipt.{IsTallied}
 use Rattle.sdd_domain.proofs.Housed.{on_board}
 use Rattle.sdd_domain.proofs.InPlace.{posed_noted}
@@ -25,7 +26,7 @@ invariant_of-self-2 g c = let l = c.self.inside in let b = l.domain.now.board in
       inv.1,
       inv.2,
       subst (AreLentTo l.tenure.round) (sym is.others) inv.3,
-      subst (IsReady b l.own l.due l.known.slots l.jobs) (sym (ap (λ (v : View). v.slots.waits) is.view)) inv.4,
+      subst (IsReady b l.own l.due l.known.slots l.jobs) (sym (ap (λ (v : View). known_waiting v.slots) is.view)) inv.4,
       subst (IsTallied 0 l.tally) (sym (ap (λ (v : View). v.stakes.counts) is.view)) inv.5,
     )
 

@@ -10,6 +10,7 @@ use Rattle.sdd_rights.specs.Right.{AreSlotsOfTable, home_of, number_of, kind_of}
 use Rattle.sdd_domain.specs.Items.{HasValue, slots_home}
 use Rattle.sdd_domain.specs.LocalState.{LocalState, IsLone, KnowsOwner}
 use Rattle.sdd_domain.specs.BetweenCalls.{IsBetweenCalls, AreLentTo, IsTenureOf, IsReady}
+use Rattle.sdd_domain.specs.InBags.{known_waiting}
 use Rattle.sdd_domain.specs.Receipt.{IsTallied}
 use Rattle.sdd_domain.proofs.Housed.{on_board}
 use Rattle.sdd_domain.proofs.InPlace.{owner_inside, owner_table}
@@ -41,7 +42,7 @@ invariant_of-self g c =
     let own = (c.witness.ensures.owner (has_tables c.args.self.now c.args.right.now c.requires)).1 in
     let same = same_recalled board l.place slot shared shown l.token c.recall.new.token (c.recall.ensures slot shared shown own.owner) in
     subst (λ (x : Seat ValueFraction View). IsBetweenCalls board l.place l.own x × l.nesting ≡ l.domain.now.limits.nesting × IsTenureOf l.own l.tenure
-    × AreLentTo l.tenure.round x.me.1 × IsReady board l.own l.due l.known.slots l.jobs x.me.0.slots.waits × IsTallied 0 l.tally x.me.0.stakes.counts)
+    × AreLentTo l.tenure.round x.me.1 × IsReady board l.own l.due l.known.slots l.jobs (known_waiting x.me.0.slots) × IsTallied 0 l.tally x.me.0.stakes.counts)
     (sym same) c.self.invariant
 
 pub returns-clause-same : goal.returns-clause-same

@@ -1,9 +1,10 @@
-use Rattle.std.proofs.Common.{◌≡◌, ℕ, ◌+◌, ◌<◌, ◌≤◌, ◌∷◌, map, refl, sym, ap, ◌∙◌, subst, arith}
+use Rattle.std.proofs.Common.{◌≡◌, ℕ, ◌+◌, ◌<◌, ◌≤◌, refl, sym, ap, ◌∙◌, subst, arith}
 use Rattle.sdd_shared_values.specs.SharedValues.{showing}
 use Rattle.sdd_participants.specs.declared.waiting.LimboEntry.TheVariants.{Item}
 use Rattle.sdd_participants.specs.declared.tally.Tally.{Tally}
 use Rattle.sdd_participants.specs.Tally.{one_reclaimed}
 use Rattle.sdd_views.specs.declared.Sizes.{Sizes}
+use Rattle.sdd_word_invariant.specs.Collectors.{private_in}
 use Rattle.sdd_word_invariant.specs.Sums.{total}
 use Rattle.sdd_word_invariant.specs.Slots.{waits_in}
 use Rattle.sdd_word_invariant.proofs.Owning.{item_kept}
@@ -14,45 +15,45 @@ use Rattle.sdd_domain.specs.SpaceIds.{home_in}
 use Rattle.sdd_domain.specs.LocalState.{LocalState, Reclaims}
 use Rattle.sdd_domain.specs.BetweenCalls.{AreLentTo}
 use Rattle.sdd_domain.specs.Receipt.{IsTallied}
-use Rattle.sdd_domain.specs.WaitingItems.{what_of, ripe}
+use Rattle.sdd_domain.specs.InBags.{AreInBags, KnownWaiting, known_waiting}
 use Rattle.sdd_domain.proofs.Housed.{on_board, from_board}
 use Rattle.sdd_domain.proofs.JobTables.{next_goes, still_jobs}
 use Rattle.sdd_domain.proofs.Members.{with_view}
 use Rattle.sdd_domain.proofs.Posing.{posed_reclaims}
-use Rattle.sdd_domain.proofs.Reclaims.{first_is_due, item_inside, first_goes}
+use Rattle.sdd_domain.proofs.InBags.{first_plain, first_plain_out, first_slot}
 use Rattle.sdd_domain.proofs.Tallies.{tallied_reclaimed}
 use Rattle.sdd_domain.proofs.local_core.LocalCore.reclaim.Goals as goal
 
 pub take_value-value-requires-clause-inside : goal.take_value-value-requires-clause-inside
 take_value-value-requires-clause-inside g c = let l = c.self.inside in let r = c.self.invariant.4 in
-    item_inside (slots_of l.domain.now.board) c.args.slot c.requires.first.0 (ripe l.token.me.0.slots.waits)
-    (sym r.due ∙ (ap (λ (m : LocalState _). m.due) c.self.view_is ∙ c.requires.first.1))
+    first_slot (slots_of l.domain.now.board) (known_waiting l.token.me.0.slots) l.own.bags.waiting l.due.items r.bags c.args.slot c.requires.first.0
+    (ap (λ (m : LocalState _). m.due) c.self.view_is ∙ c.requires.first.1)
 
 pub take_value-value-requires-clause-due : goal.take_value-value-requires-clause-due
 take_value-value-requires-clause-due g c = let l = c.self.inside in let r = c.self.invariant.4 in
-    first_is_due (slots_of l.domain.now.board) (Item c.args.slot) c.requires.first.0 l.token.me.0.slots.waits
-    (sym r.due ∙ (ap (λ (m : LocalState _). m.due) c.self.view_is ∙ c.requires.first.1))
+    first_plain (slots_of l.domain.now.board) (known_waiting l.token.me.0.slots) l.own.bags.waiting l.due.items r.bags (Item c.args.slot) c.requires.first.0
+    (ap (λ (m : LocalState _). m.due) c.self.view_is ∙ c.requires.first.1) (ap (total (private_in c.args.slot)) r.uncollected)
 
 pub remember-requires : goal.remember-requires
 remember-requires g c = let l = c.self.inside in let r = c.self.invariant.4 in
-    let low = item_inside (slots_of l.domain.now.board) c.args.slot c.requires.first.0 (ripe l.token.me.0.slots.waits)
-    (sym r.due ∙ (ap (λ (m : LocalState _). m.due) c.self.view_is ∙ c.requires.first.1)) in subst (λ (n : ℕ). c.args.slot < n) (sym r.slots) low
+    let low = first_slot (slots_of l.domain.now.board) (known_waiting l.token.me.0.slots) l.own.bags.waiting l.due.items r.bags c.args.slot c.requires.first.0
+    (ap (λ (m : LocalState _). m.due) c.self.view_is ∙ c.requires.first.1) in subst (λ (n : ℕ). c.args.slot < n) (sym r.slots) low
 
 pub invariant_of-self : goal.invariant_of-self
 invariant_of-self g c = let l = c.self.inside in let b = l.domain.now.board in let i = c.self.invariant in let r = i.4 in let n : ℕ = slots_of b in
     let slot : ℕ = c.args.slot in let token = c.take_value-value.new.token in
     let due = ap (λ (m : LocalState _). m.due) c.self.view_is ∙ c.requires.first.1 in
     let next = next_goes l.due c.next.new.self c.next.result (Item slot) c.requires.first.0 c.next.ensures.next due in
-    let first : map (what_of n) (ripe l.token.me.0.slots.waits) ≡ Item slot ∷ c.next.new.self.items = sym r.due ∙ next in
-    let low = item_inside n slot c.next.new.self.items (ripe l.token.me.0.slots.waits) first in
-    let gives = c.take_value-value.ensures.given_back in
-    let goes = first_goes n (Item slot) c.next.new.self.items l.token.me.0.slots.waits first gives.3.1 in (
-      posed_reclaims b l.place l.own slot c.next.new.self.items l.token token i.0 first gives,
+    let low = first_slot n (known_waiting l.token.me.0.slots) l.own.bags.waiting l.due.items r.bags slot c.next.new.self.items next in
+    let gives = c.take_value-value.ensures.given_back in (
+      posed_reclaims b l.place l.own slot l.token token i.0 gives,
       i.1,
       i.2,
       subst (AreLentTo l.tenure.round) (sym gives.2) i.3,
       record {
-        due = sym goes.0 ∙ ap (λ (v : View). map (what_of n) (ripe v.slots.waits)) (sym gives.3.0);
+        bags = subst (λ (k : KnownWaiting). AreInBags n k l.own.bags.waiting c.next.new.self.items) (sym (ap (λ (v : View). known_waiting v.slots) gives.3.0))
+            (first_plain_out n (known_waiting l.token.me.0.slots) l.own.bags.waiting l.due.items r.bags (Item slot) c.next.new.self.items next gives.3.1);
+        uncollected = ap (λ (v : View). v.slots.privates) gives.3.0 ∙ r.uncollected;
         large = subst (λ (n : ℕ). l.own.bags.room ≤ n) (sym c.next.ensures.room) r.large;
         slots = c.remember.ensures.slots ∙ r.slots;
         places = r.places;
@@ -76,11 +77,10 @@ returns-clause-reclaimed g c = let l = c.self.inside in let b = l.domain.now.boa
     let slot : ℕ = c.args.slot in let rest = c.next.new.self.items in let token = c.take_value-value.new.token in
     let due = ap (λ (m : LocalState _). m.due) c.self.view_is ∙ c.requires.first.1 in
     let next = next_goes l.due c.next.new.self c.next.result (Item slot) c.requires.first.0 c.next.ensures.next due in
-    let first : map (what_of (slots_of b)) (ripe l.token.me.0.slots.waits) ≡ Item slot ∷ c.next.new.self.items = sym r.due ∙ next in
     let gives = c.take_value-value.ensures.given_back in let old : LocalState _ = c.self.view_is 0 in
     let all : l.token.me.0.epoch.all ≡ l.domain.now.limits.participants = inv.0.all ∙ ap (λ (z : Sizes). z.participants) l.domain.now.limited.1 in
     let on = on_board l.domain.now.limits b l.token.table_id inv.0.home l.domain.now.limited.1 old refl refl refl in
-    let low = item_inside (slots_of b) slot rest (ripe l.token.me.0.slots.waits) first in
+    let low = first_slot (slots_of b) (known_waiting l.token.me.0.slots) l.own.bags.waiting l.due.items r.bags slot rest next in
     let now : LocalState _ = record (with_view old token.table_id token.me.0) { tally = c.count_reclaimed.new.self; due = rest } in
     subst (λ (m : LocalState _). Reclaims slot (showing g.row.T c.take_value-value.result) m now) c.self.view_is record {
       inside = subst (λ (n : ℕ). slot < n) (sym on.slots) low;

@@ -8,6 +8,7 @@ use Rattle.sdd_word_invariant.specs.Sums.{total}
 use Rattle.sdd_word_invariant.specs.Slots.{waits_in}
 use Rattle.sdd_space.proofs.Accounts.{blank-at}
 use Rattle.sdd_atomics.specs.DomainTable.{slots_of}
+use Rattle.sdd_domain.proofs.InBags.{nothing_there}
 use Rattle.sdd_domain.proofs.Moving.{no_purse, none_lent}
 use Rattle.sdd_domain.proofs.local_core.LocalCore.register.Given.{Over}
 use Rattle.sdd_domain.proofs.local_core.LocalCore.register.Goals as goal
@@ -16,49 +17,50 @@ blank_jobs : (g : Over) (c : goal.After-new-3 g) → c.begin_at-2.new.self ≡ r
 blank_jobs g c = c.begin_at-2.ensures ∙ c.in-Ok.ensures.jobs
 
 pub invariant_of-result : goal.invariant_of-result
-invariant_of-result g c = let jobs : ℕ = c.args.domain.now.limits.jobs in let none : c.write.new.token.me.0.slots.waits ≡ [] = search rules in (
-  record {
-    home = search rules;
-    purse = no_purse _ _ _ _ _ (search rules) (search rules);
-    sight = search rules;
-    unseen = search rules;
-    rests = search rules;
-    all = search rules;
-    place = search rules;
-    inside = search rules;
-    count = search rules;
-    closed = search rules;
-    opened = search rules;
-    near = search rules;
-    lone = search rules;
-    free = search rules;
-    knows = search rules;
-    found = search rules;
-    quiet = search rules;
-    pledges = search rules;
-    rights = search rules;
-    waiting = search rules;
-    bags = search rules;
-    room = search rules;
-    pace = search rules;
-    idle = search rules;
-  },
-  refl,
-  search rules,
-  none_lent _ _ (search rules),
-  record {
-    due = search rules;
-    large = search rules;
-    slots = search rules;
-    places = ap length (blank_jobs g c) ∙ (length-replicate jobs None ∙ sym (ap (λ (z : Sizes). z.jobs) c.args.domain.now.limited.1));
-    jobs = λ j low. (
-      (λ there. absurd (true≢false (sym (subst (λ (o : Option g.row.J.Denot). IsSome o)
-          (ap (λ (t : List (Option g.row.J.Denot)). slice_index_or t j None) (blank_jobs g c) ∙ blank-at jobs j) there)))),
-      (λ waits. absurd (let e = ap (λ (xs : List WaitingItem). total (waits_in (slots_of c.args.domain.now.board + j)) xs) none in omega arith)),
-    );
-  },
-  search rules,
-)
+invariant_of-result g c = let jobs : ℕ = c.args.domain.now.limits.jobs in let none : c.write.new.token.me.0.slots.waits ≡ [] = search rules in
+    let none_private : c.write.new.token.me.0.slots.privates ≡ [] = search rules in (
+      record {
+        home = search rules;
+        purse = no_purse _ _ _ _ _ (search rules) (search rules);
+        sight = search rules;
+        unseen = search rules;
+        rests = search rules;
+        all = search rules;
+        place = search rules;
+        inside = search rules;
+        count = search rules;
+        closed = search rules;
+        opened = search rules;
+        near = search rules;
+        lone = search rules;
+        free = search rules;
+        knows = search rules;
+        found = search rules;
+        quiet = search rules;
+        pledges = search rules;
+        rights = search rules;
+        waiting = search rules;
+        room = search rules;
+        pace = search rules;
+        idle = search rules;
+      },
+      refl,
+      search rules,
+      none_lent _ _ (search rules),
+      record {
+        bags = nothing_there _ _ _ _ none none_private (search rules) (search rules);
+        uncollected = none_private;
+        large = search rules;
+        slots = search rules;
+        places = ap length (blank_jobs g c) ∙ (length-replicate jobs None ∙ sym (ap (λ (z : Sizes). z.jobs) c.args.domain.now.limited.1));
+        jobs = λ j low. (
+          (λ there. absurd (true≢false (sym (subst (λ (o : Option g.row.J.Denot). IsSome o)
+              (ap (λ (t : List (Option g.row.J.Denot)). slice_index_or t j None) (blank_jobs g c) ∙ blank-at jobs j) there)))),
+          (λ waits. absurd (let e = ap (λ (xs : List WaitingItem). total (waits_in (slots_of c.args.domain.now.board + j)) xs) none in omega arith)),
+        );
+      },
+      search rules,
+    )
 
 pub returns-clause-registered : goal.returns-clause-registered
 returns-clause-registered g c = record {

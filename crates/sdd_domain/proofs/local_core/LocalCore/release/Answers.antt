@@ -2,24 +2,24 @@ use lib.ListN.{get_elem?}
 use mathlib.Core.Option.{some}
 use mathlib.Core.Logic.{dite}
 use native.Mathlib.Decide.{dec_lt}
-use Rattle.std.proofs.Common.{List, [], ◌∷◌, ◌≡◌, ℕ, ◌+◌, ◌<◌, map, length, rules, refl, sym, ap, ◌∙◌, subst, arith}
-use Rattle.std.proofs.lemmas.List.{length-map}
-use Rattle.sdd_word_invariant.specs.Words.{most_waiting}
+use Rattle.std.proofs.Common.{List, [], ◌∷◌, ◌≡◌, ℕ, ◌+◌, ◌<◌, rules, refl, sym, ap, ◌∙◌, subst, arith}
+use Rattle.sdd_word_invariant.specs.Collectors.{privates_at}
 use Rattle.sdd_word_invariant.specs.Sums.{total}
-use Rattle.sdd_word_invariant.specs.Slots.{waits_in}
+use Rattle.sdd_word_invariant.specs.Slots.{items_at, waits_in}
 use Rattle.sdd_word_invariant.specs.SlotSteps.{retired_now}
 use Rattle.sdd_word_invariant.proofs.Sums.{is_other, total_snoc}
 use Rattle.sdd_domain.proofs.JobTables.{still_jobs}
-use Rattle.sdd_domain.specs.WaitingItems.{what_of, waiting_of, ripe, unripe}
-use Rattle.sdd_domain.proofs.Ripe.{ripe_snoc, fewer_unripe}
 use Rattle.sdd_rights.specs.Owner.{witness_of_owner}
-use Rattle.sdd_atomics.specs.DomainTable.{id_of, sizes_of, slots_of}
+use Rattle.sdd_atomics.specs.DomainTable.{id_of, most_waiting_of, sizes_of, slots_of}
 use Rattle.sdd_rights.specs.Units.{GhostName}
 use Rattle.sdd_participants.specs.declared.waiting.LimboEntry.TheVariants.{Item}
 use Rattle.sdd_participants.specs.declared.participant.Participant.{Participant}
 use Rattle.sdd_participants.specs.Bags.{Bags}
 use Rattle.sdd_participants.specs.EpochState.{awaiting, with_garbage}
 use Rattle.sdd_domain.specs.BetweenCalls.{IsBetweenCalls, AreLentTo, IsTenureOf, IsReady}
+use Rattle.sdd_domain.specs.InBags.{AreInBags, KnownWaiting, known_waiting}
+use Rattle.sdd_domain.proofs.InBags.{one_more, room_left}
+use Rattle.sdd_domain.proofs.Reclaims.{what_item}
 use Rattle.sdd_domain.specs.Receipt.{IsTallied}
 use Rattle.sdd_views.specs.declared.View.{View}
 use Rattle.atomic_table.specs.declared.shared.Seat.{Seat}
@@ -60,15 +60,19 @@ invariant_of-self-2 g c =
     let board = l.domain.now.board in let i = c.self.invariant in let inside : slot < slots_of board = search rules in
     subst (λ (o : Participant). IsBetweenCalls board l.place o c.let_one_go.new.token
     × l.nesting ≡ l.domain.now.limits.nesting × IsTenureOf o l.tenure × AreLentTo l.tenure.round c.let_one_go.new.token.me.1
-    × IsReady board o l.due l.known.slots l.jobs c.let_one_go.new.token.me.0.slots.waits × IsTallied 0 l.tally c.let_one_go.new.token.me.0.stakes.counts)
+    × IsReady board o l.due l.known.slots l.jobs (known_waiting c.let_one_go.new.token.me.0.slots)
+    × IsTallied 0 l.tally c.let_one_go.new.token.me.0.stakes.counts)
     (sym own_is) (
       posed_retires board l.place l.own y slot shared shown l.token c.take_in.new.token c.let_one_go.new.token i.0 inside took waits,
       i.1,
       record { units = i.2.units; kind = i.2.kind },
       subst (AreLentTo l.tenure.round) (sym (waits.2.3 ∙ took.2)) i.3,
       record {
-        due = i.4.due ∙ (ap (map (what_of (slots_of board))) (sym (ripe_snoc (retired_now slot retired.0) refl l.token.me.0.slots.waits))
-            ∙ ap (λ (v : View). map (what_of (slots_of board)) (ripe v.slots.waits)) (sym retired.1));
+        bags = subst (λ (k : KnownWaiting). AreInBags (slots_of board) k (awaiting (Item slot) l.own).bags.waiting l.due.items)
+            (sym (ap (λ (v : View). known_waiting v.slots) retired.1))
+            (one_more (slots_of board) (known_waiting l.token.me.0.slots) l.own.bags.waiting l.due.items i.4.bags (retired_now slot retired.0) (Item slot) refl
+            (what_item (slots_of board) (retired_now slot retired.0) inside) retired.5 retired.6);
+        uncollected = ap (λ (v : View). v.slots.privates) retired.1 ∙ i.4.uncollected;
         large = i.4.large;
         slots = i.4.slots;
         places = i.4.places;
@@ -97,7 +101,7 @@ invariant_of-self g c =
       i.1,
       i.2,
       subst (AreLentTo l.tenure.round) (sym left.1) i.3,
-      subst (IsReady board l.own l.due l.known.slots l.jobs) (sym (ap (λ (v : View). v.slots.waits) left.0)) i.4,
+      subst (IsReady board l.own l.due l.known.slots l.jobs) (sym (ap (λ (v : View). known_waiting v.slots) left.0)) i.4,
       subst (IsTallied 0 l.tally) (sym (ap (λ (v : View). v.stakes.counts) left.0)) i.5,
     )
 
@@ -162,15 +166,13 @@ push-requires g c = let l = c.self.inside in let board = l.domain.now.board in l
     let took = c.take_in.ensures slot shared shown (by.owner ∙ ap (λ (k : ℕ). witness_of_owner k shared shown) (sym c.number-slot.ensures)) in
     let same = same_recalled board l.place slot shared shown l.token c.recall.new.token (c.recall.ensures slot shared shown
     (by.owner ∙ ap (λ (k : ℕ). witness_of_owner k shared shown) (sym c.number-slot.ensures))) in
-    let before : View = c.recall.new.token.me.0 in
-    let room = c.if-not-let_one_go.ensures.went.2.0.1.5 in
-    let waits = ap (λ (v : View). length v.slots.waits) took.3 in let sizes = ap (λ (v : View). most_waiting v.sizes) took.3 in
-    let w = ap (λ (t : Seat ValueFraction View). length t.me.0.slots.waits) same in
-    let z = ap (λ (t : Seat ValueFraction View). most_waiting t.me.0.sizes) same in
-    let few = fewer_unripe l.token.me.0.slots.waits in
-    let many : length l.own.bags.waiting ≡ length (unripe l.token.me.0.slots.waits)
-    = ap length q.bags ∙ length-map (unripe l.token.me.0.slots.waits) (waiting_of (slots_of board)) in
-    let known = ap most_waiting q.knows.0 in let most = q.room in omega arith
+    let retires = c.if-not-let_one_go.ensures.went.2.0.1 in let waits = ap (λ (v : View). items_at slot v) took.3 in
+    let privates = ap (λ (v : View). privates_at slot v) took.3 in let w = ap (λ (t : Seat ValueFraction View). items_at slot t.me.0) same in
+    let z = ap (λ (t : Seat ValueFraction View). privates_at slot t.me.0) same in let none_waits = retires.6 in let none_private = retires.7 in
+    let inside : number_of c.args.right < slots_of board = search rules in let number = c.number-slot.ensures in
+    let left = room_left (slots_of board) (known_waiting l.token.me.0.slots) l.own.bags.waiting l.due.items c.self.invariant.4.bags (most_waiting_of board) slot
+    (omega arith) q.waiting (omega arith) (omega arith) (omega arith) in
+    let most = q.room in omega arith
 
 -- what was known before the owner was recalled and taken in is known still
 pub take_in-requires-clause-home : goal.take_in-requires-clause-home

@@ -1,4 +1,4 @@
-use Rattle.std.proofs.Common.{◌≡◌, ℕ, ◌+◌, ◌<◌, ◌≤◌, ◌∷◌, List, Some, None, length, map, refl, sym, ap, ◌∙◌, subst, arith, slice_index_or, length-set}
+use Rattle.std.proofs.Common.{◌≡◌, ℕ, ◌+◌, ◌<◌, ◌≤◌, ◌∷◌, List, Some, None, length, refl, sym, ap, ◌∙◌, subst, arith, slice_index_or, length-set}
 use Rattle.std.proofs.lemmas.Bool.{true≢false}
 use Rattle.std.specs.Prelude.{◌↔◌, Option, IsSome}
 use Rattle.sdd_participants.specs.declared.waiting.LimboEntry.TheVariants.{Job}
@@ -14,68 +14,69 @@ use Rattle.sdd_atomics.specs.DomainTable.{sizes_of, slots_of}
 use Rattle.sdd_domain.specs.LocalState.{LocalState, TakesJob}
 use Rattle.sdd_domain.specs.BetweenCalls.{AreLentTo}
 use Rattle.sdd_domain.specs.Receipt.{IsTallied}
-use Rattle.sdd_domain.specs.WaitingItems.{what_of, ripe}
+use Rattle.sdd_domain.specs.InBags.{AreInBags, KnownWaiting, known_waiting}
 use Rattle.sdd_domain.proofs.Deferring.{posed_takes, place_low, waits_now}
 use Rattle.sdd_domain.proofs.JobTables.{next_goes, job_taken}
 use Rattle.sdd_domain.proofs.Members.{with_view}
-use Rattle.sdd_domain.proofs.Reclaims.{first_is_due, first_goes}
+use Rattle.sdd_domain.proofs.InBags.{first_plain, first_plain_out, job_plain}
 use Rattle.sdd_domain.proofs.local_core.LocalCore.take_job.Goals as goal
 
 pub take-job-requires : goal.take-job-requires
-take-job-requires g c = let first : map (what_of (slots_of c.self.inside.domain.now.board)) (ripe c.self.inside.token.me.0.slots.waits) ≡ Job c.args.place ∷
-    c.next.new.self.items
-    = sym c.self.invariant.4.due ∙ next_goes c.self.inside.due c.next.new.self c.next.result (Job c.args.place) c.requires.first.0 c.next.ensures.next
+take-job-requires g c = let first : c.self.inside.due.items ≡ Job c.args.place ∷ c.next.new.self.items
+    = next_goes c.self.inside.due c.next.new.self c.next.result (Job c.args.place) c.requires.first.0 c.next.ensures.next
     (ap (λ (m : LocalState _). m.due) c.self.view_is ∙ c.requires.first.1) in
-    let low = place_low c.self.inside.domain.now.board c.args.place c.next.new.self.items c.self.inside.token.me.0.slots.waits first
+    let low = place_low (slots_of c.self.inside.domain.now.board) (known_waiting c.self.inside.token.me.0.slots) c.self.inside.own.bags.waiting
+    c.self.inside.due.items c.self.invariant.4.bags c.args.place c.next.new.self.items first (sizes_of c.self.inside.domain.now.board).jobs
     c.self.invariant.0.waiting in let long = c.self.invariant.4.places in omega arith
 
 pub overflow_add-slots : goal.overflow_add-slots
-overflow_add-slots g c = let first : map (what_of (slots_of c.self.inside.domain.now.board))
-    (ripe c.self.inside.token.me.0.slots.waits) ≡ Job c.args.place ∷ c.next.new.self.items
-    = sym c.self.invariant.4.due ∙ next_goes c.self.inside.due c.next.new.self c.next.result (Job c.args.place) c.requires.first.0 c.next.ensures.next
+overflow_add-slots g c = let first : c.self.inside.due.items ≡ Job c.args.place ∷ c.next.new.self.items
+    = next_goes c.self.inside.due c.next.new.self c.next.result (Job c.args.place) c.requires.first.0 c.next.ensures.next
     (ap (λ (m : LocalState _). m.due) c.self.view_is ∙ c.requires.first.1) in
-    let low = place_low c.self.inside.domain.now.board c.args.place c.next.new.self.items c.self.inside.token.me.0.slots.waits first
+    let low = place_low (slots_of c.self.inside.domain.now.board) (known_waiting c.self.inside.token.me.0.slots) c.self.inside.own.bags.waiting
+    c.self.inside.due.items c.self.invariant.4.bags c.args.place c.next.new.self.items first (sizes_of c.self.inside.domain.now.board).jobs
     c.self.invariant.0.waiting in
     let slots = ap (λ (z : Sizes). z.slots) c.self.inside.domain.now.limited.1 in
     let jobs = ap (λ (z : Sizes). z.jobs) c.self.inside.domain.now.limited.1 in let few = c.self.inside.domain.now.limited.0 in
     let few_slots = few.slots in let few_jobs = few.jobs in omega arith
 
 pub give_place_back-requires-clause-inside : goal.give_place_back-requires-clause-inside
-give_place_back-requires-clause-inside g c = let first : map (what_of (slots_of c.self.inside.domain.now.board))
-    (ripe c.self.inside.token.me.0.slots.waits) ≡ Job c.args.place ∷ c.next.new.self.items
-    = sym c.self.invariant.4.due ∙ next_goes c.self.inside.due c.next.new.self c.next.result (Job c.args.place) c.requires.first.0 c.next.ensures.next
+give_place_back-requires-clause-inside g c = let first : c.self.inside.due.items ≡ Job c.args.place ∷ c.next.new.self.items
+    = next_goes c.self.inside.due c.next.new.self c.next.result (Job c.args.place) c.requires.first.0 c.next.ensures.next
     (ap (λ (m : LocalState _). m.due) c.self.view_is ∙ c.requires.first.1) in
-    let low = place_low c.self.inside.domain.now.board c.args.place c.next.new.self.items c.self.inside.token.me.0.slots.waits first
+    let low = place_low (slots_of c.self.inside.domain.now.board) (known_waiting c.self.inside.token.me.0.slots) c.self.inside.own.bags.waiting
+    c.self.inside.due.items c.self.invariant.4.bags c.args.place c.next.new.self.items first (sizes_of c.self.inside.domain.now.board).jobs
     c.self.invariant.0.waiting in
     let slots = ap (λ (z : Sizes). z.slots) c.self.inside.domain.now.limited.1 in (omega arith, omega arith)
 
 pub give_place_back-requires-clause-due : goal.give_place_back-requires-clause-due
-give_place_back-requires-clause-due g c = let first : map (what_of (slots_of c.self.inside.domain.now.board))
-    (ripe c.self.inside.token.me.0.slots.waits) ≡ Job c.args.place ∷ c.next.new.self.items
-    = sym c.self.invariant.4.due ∙ next_goes c.self.inside.due c.next.new.self c.next.result (Job c.args.place) c.requires.first.0 c.next.ensures.next
+give_place_back-requires-clause-due g c = let first : c.self.inside.due.items ≡ Job c.args.place ∷ c.next.new.self.items
+    = next_goes c.self.inside.due c.next.new.self c.next.result (Job c.args.place) c.requires.first.0 c.next.ensures.next
     (ap (λ (m : LocalState _). m.due) c.self.view_is ∙ c.requires.first.1) in let l = c.self.inside in let b = l.domain.now.board in
     subst (λ (k : ℕ). IsDue l.token.me.0 (k + c.args.place)) (ap (λ (z : Sizes). z.slots) l.domain.now.limited.1)
-    (first_is_due (slots_of b) (Job c.args.place) c.next.new.self.items l.token.me.0.slots.waits first)
+    (first_plain (slots_of b) (known_waiting l.token.me.0.slots) l.own.bags.waiting l.due.items c.self.invariant.4.bags (Job c.args.place)
+    c.next.new.self.items first (job_plain (slots_of b) (known_waiting l.token.me.0.slots) l.own.bags.waiting l.due.items c.self.invariant.4.bags c.args.place))
 
 pub invariant_of-self : goal.invariant_of-self
-invariant_of-self g c = let first : map (what_of (slots_of c.self.inside.domain.now.board)) (ripe c.self.inside.token.me.0.slots.waits) ≡ Job c.args.place
-    ∷ c.next.new.self.items
-    = sym c.self.invariant.4.due ∙ next_goes c.self.inside.due c.next.new.self c.next.result (Job c.args.place) c.requires.first.0 c.next.ensures.next
+invariant_of-self g c = let first : c.self.inside.due.items ≡ Job c.args.place ∷ c.next.new.self.items
+    = next_goes c.self.inside.due c.next.new.self c.next.result (Job c.args.place) c.requires.first.0 c.next.ensures.next
     (ap (λ (m : LocalState _). m.due) c.self.view_is ∙ c.requires.first.1) in
-    let low = place_low c.self.inside.domain.now.board c.args.place c.next.new.self.items c.self.inside.token.me.0.slots.waits first
+    let low = place_low (slots_of c.self.inside.domain.now.board) (known_waiting c.self.inside.token.me.0.slots) c.self.inside.own.bags.waiting
+    c.self.inside.due.items c.self.invariant.4.bags c.args.place c.next.new.self.items first (sizes_of c.self.inside.domain.now.board).jobs
     c.self.invariant.0.waiting in let l = c.self.inside in let b = l.domain.now.board in let i = c.self.invariant in let r = i.4 in
     let n : ℕ = slots_of b in
     let place : ℕ = c.args.place in let token = c.give_place_back.new.token in let waits : List WaitingItem = l.token.me.0.slots.waits in
     let gives = subst (λ (k : ℕ). Moved (GivesPlace (k + place)) l.token 0 token) (sym (ap (λ (z : Sizes). z.slots) l.domain.now.limited.1))
     c.give_place_back.ensures in
-    let goes = first_goes n (Job place) c.next.new.self.items waits first gives.2.1.1 in
     let inside : place < length l.jobs = (let long = r.places in omega arith) in (
-      posed_takes b l.place l.own l.token token i.0 gives.0 gives.2.0 place c.next.new.self.items first gives.2.1,
+      posed_takes b l.place l.own l.token token i.0 gives.0 gives.2.0 place gives.2.1,
       i.1,
       i.2,
       subst (AreLentTo l.tenure.round) (sym gives.2.0) i.3,
       record {
-        due = sym goes.0 ∙ ap (λ (v : View). map (what_of n) (ripe v.slots.waits)) (sym gives.2.1.0);
+        bags = subst (λ (k : KnownWaiting). AreInBags n k l.own.bags.waiting c.next.new.self.items) (sym (ap (λ (v : View). known_waiting v.slots) gives.2.1.0))
+            (first_plain_out n (known_waiting l.token.me.0.slots) l.own.bags.waiting l.due.items r.bags (Job place) c.next.new.self.items first gives.2.1.1);
+        uncollected = ap (λ (v : View). v.slots.privates) gives.2.1.0 ∙ r.uncollected;
         large = subst (λ (n : ℕ). l.own.bags.room ≤ n) (sym c.next.ensures.room) r.large;
         slots = r.slots;
         places = ap length c.take-job.ensures.free ∙ (length-set l.jobs place None ∙ r.places);
@@ -92,15 +93,16 @@ some_of (Some x) is = (x, refl)
 some_of None is = absurd (true≢false (sym is))
 
 pub returns : goal.returns
-returns g c = let first : map (what_of (slots_of c.self.inside.domain.now.board)) (ripe c.self.inside.token.me.0.slots.waits) ≡ Job c.args.place ∷
-    c.next.new.self.items
-    = sym c.self.invariant.4.due ∙ next_goes c.self.inside.due c.next.new.self c.next.result (Job c.args.place) c.requires.first.0 c.next.ensures.next
+returns g c = let first : c.self.inside.due.items ≡ Job c.args.place ∷ c.next.new.self.items
+    = next_goes c.self.inside.due c.next.new.self c.next.result (Job c.args.place) c.requires.first.0 c.next.ensures.next
     (ap (λ (m : LocalState _). m.due) c.self.view_is ∙ c.requires.first.1) in
-    let low = place_low c.self.inside.domain.now.board c.args.place c.next.new.self.items c.self.inside.token.me.0.slots.waits first
+    let low = place_low (slots_of c.self.inside.domain.now.board) (known_waiting c.self.inside.token.me.0.slots) c.self.inside.own.bags.waiting
+    c.self.inside.due.items c.self.invariant.4.bags c.args.place c.next.new.self.items first (sizes_of c.self.inside.domain.now.board).jobs
     c.self.invariant.0.waiting in
-    let wait = waits_now (slots_of c.self.inside.domain.now.board) c.args.place c.next.new.self.items c.self.inside.token.me.0.slots.waits first in
+    let wait = waits_now (slots_of c.self.inside.domain.now.board) (known_waiting c.self.inside.token.me.0.slots) c.self.inside.own.bags.waiting
+    c.self.inside.due.items c.self.invariant.4.bags c.args.place c.next.new.self.items first in
     let l = c.self.inside in let b = l.domain.now.board in let r = c.self.invariant.4 in let place : ℕ = c.args.place in
-    let there = some_of (slice_index_or l.jobs place None) ((r.jobs place low).1 wait) in
+    let there = some_of (slice_index_or l.jobs place None) ((r.jobs place low).1 (omega arith)) in
     let rest = c.next.new.self.items in let token = c.give_place_back.new.token in let old : LocalState _ = c.self.view_is 0 in
     let gives = c.give_place_back.ensures in
     let now : LocalState _ = record (with_view old token.table_id token.me.0) { due = rest; jobs = c.take-job.new.self } in (

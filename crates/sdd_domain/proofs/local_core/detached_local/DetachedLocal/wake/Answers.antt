@@ -1,5 +1,6 @@
 use Rattle.std.proofs.Common.{rules, ◌≡◌, refl, sym, ap, ◌∙◌}
 use Rattle.sdd_domain.specs.DomainValues.{sizes_in}
+use Rattle.sdd_domain.specs.InBags.{known_waiting}
 use Rattle.sdd_domain.specs.LocalState.{LocalState}
 use Rattle.sdd_domain.proofs.Waking.{posed_on, ready_on}
 use Rattle.sdd_domain.proofs.local_core.detached_local.DetachedLocal.wake.Goals as goal
@@ -14,7 +15,7 @@ invariant_of-result g c = let same : c.self.inside.limits ≡ c.args.domain.now.
       i.tenure_is,
       i.lent,
       ready_on i.board d.board ids sizes book c.self.inside.own c.self.inside.due c.self.inside.known.slots c.self.inside.jobs
-          c.self.inside.token.me.0.slots.waits i.ready,
+          (known_waiting c.self.inside.token.me.0.slots) i.ready,
       i.tallied,
     )
 
