@@ -74,12 +74,15 @@ pub struct DomainTable {
     /// Shares of the views of owners, beside which another owner comes.
     pub ledger: Ledger<ValueFraction, View, TableLayout, DomainRule, Pledges>,
     places: usize,
+    /// Where the cells' words begin.
+    first_cell: usize,
     /// Where the slots' words begin.
     first_slot: usize,
     ghost sized: { AreSmall table.shared.key.sizes × (table.shared.table_id.words ≡ all_words table.shared.key.sizes) },
     ghost banked: { (bank.table_id ≡ table.shared.table_id) × (bank.key ≡ table.shared.key) },
     ghost ledgered: { (ledger.table_id ≡ table.shared.table_id) × (ledger.key ≡ table.shared.key) },
-    ghost placed: { (places ≡ table.shared.key.sizes.participants) × (first_slot ≡ words.first_slot table.shared.key.sizes) },
+    ghost placed: { (places ≡ table.shared.key.sizes.participants) × (first_cell ≡ words.first_cell table.shared.key.sizes)
+        × (first_slot ≡ words.first_slot table.shared.key.sizes) },
 }
 
 impl DomainTable {
@@ -109,6 +112,7 @@ impl DomainTable {
                     bank,
                     ledger,
                     places: plan.sizes.participants as usize,
+                    first_cell: state_word(plan.sizes.participants as usize),
                     first_slot: first_slot(&plan.sizes) as usize,
                 })
             }
@@ -131,7 +135,7 @@ impl DomainTable {
         requires { cell < (sizes_of self.now).cells }
         ensures { result ≡ words.cell_word (sizes_of self.now) cell }
     {
-        state_word(self.places) + cell as usize
+        self.first_cell + cell as usize
     }
 
     /// Where the word of a cell's pointer is. There are as many of these as cells, and they lie between the cells and the slots.
@@ -140,7 +144,7 @@ impl DomainTable {
         requires { cell < (sizes_of self.now).cells }
         ensures { result ≡ words.pointer_word (sizes_of self.now) cell }
     {
-        (state_word(self.places) + self.first_slot) / 2 + cell as usize
+        (self.first_cell + self.first_slot) / 2 + cell as usize
     }
 
     /// How many places there are.
@@ -168,6 +172,7 @@ impl DomainTable {
             bank: _,
             ledger: _,
             places: _,
+            first_cell: _,
             first_slot: _,
         } = self;
         table.close_with(token)

@@ -152,8 +152,8 @@ module _ {J : Type 0} where
   }
 
 -- ---- it was in use
-module _ {T J : Type 0} (v : LocalModel T J) (cell found word : ℕ) (m : LocalState J) (is : ChangesCell cell found word v.member m) (t : AreTied v.member v.entries)
-    (lone : IsLone v.member) where
+module _ {T J : Type 0} (v : LocalModel T J) (cell found word : ℕ) (m : LocalState J) (is : ChangesCell cell found word v.member m)
+    (t : AreTied v.member v.entries) (lone : IsLone v.member) where
   -- what it held before
   pub full_before : entry_at (world_of v).cells cell ≡ Some (contents_of found)
   full_before = found_full v cell found word m is.writes t lone (is.full lone)

@@ -54,7 +54,8 @@ slots_are None = refl
 slots_are (Some o) = refl
 
 -- the slot of an owner's right is the owner's
-pub slot_bound : (b : DomainTable) (kind : StandingKind) (held : Option Right) (new : Option LooseOwner) → IsBoundTo b kind held new → slot_held held ≡ slot_of new
+pub slot_bound : (b : DomainTable) (kind : StandingKind) (held : Option Right) (new : Option LooseOwner) → IsBoundTo b kind held new
+    → slot_held held ≡ slot_of new
 slot_bound b kind held new is = sym (listed_first (slot_held held) (listed (slot_held held)) refl)
     ∙ (ap (λ (ys : List ℕ). slice_get ys 0) (is.slots ∙ slots_are new) ∙ listed_first (slot_of new) (listed (slot_of new)) refl)
 

@@ -41,7 +41,8 @@ on_board l b table same sizes m home book limits = record {
 module _ {J : Type 0} (b : DomainTable) (m : LocalState J) (on : IsOn b m) where
   -- what may be held in the domain of the board is of the participant's home
   pub to_board : (hs : List OwnerOrCell) → AreOf (home_in m) hs → AreOf (home_of_slots (id_of b) (book_of b) (slots_of b)) hs
-  to_board = re_homed (home_in m) (home_of_slots (id_of b) (book_of b) (slots_of b)) (λ d. home_of_table (on.home d) (on.book d) (on.slots d)) (λ d. cells_home (on.home d))
+  to_board = re_homed (home_in m) (home_of_slots (id_of b) (book_of b) (slots_of b))
+      (λ d. home_of_table (on.home d) (on.book d) (on.slots d)) (λ d. cells_home (on.home d))
 
   pub from_board : (hs : List OwnerOrCell) → AreOf (home_of_slots (id_of b) (book_of b) (slots_of b)) hs → AreOf (home_in m) hs
   from_board = re_homed (home_of_slots (id_of b) (book_of b) (slots_of b)) (home_in m)

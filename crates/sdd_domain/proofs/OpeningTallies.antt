@@ -15,13 +15,12 @@ use Rattle.sdd_domain.proofs.Guarding.{WasIdle, is_over}
 pub beside : {J : Type 0} (old new : LocalState J) → HasOpenGuard old → new.tally ≡ old.tally → CountsReclaimed old new
 beside old new some_open same = record { inner = λ _. same; outermost = λ shut. absurd (shut some_open) }
 
--- one guard more beside others, or none where as many are open as may nest
+-- so it is by one guard more beside others, and by none where as many are open as may nest
 pub nested_counts : {A : Type 0} (IsReader : A → Type 0) {J : Type 0} (old new : LocalState J) (r : Result A Refused)
     → MatchResult r (λ a. IsReader a × CanNest old × (new ≡ record old { own = time.nested old.own }))
-    (λ e. (e ≡ Refused.TooManyGuards) × ¬ (CanNest old) × (new ≡ old)) → HasOpenGuard old
-    → MatchResult r (λ _. CountsReclaimed old new) (λ _. new.tally ≡ old.tally)
+    (λ e. (e ≡ Refused.TooManyGuards) × ¬ (CanNest old) × (new ≡ old)) → HasOpenGuard old → CountsReclaimed old new
 nested_counts IsReader old new (Ok a) did some_open = beside old new some_open (ap (λ (y : LocalState _). y.tally) did.2)
-nested_counts IsReader old new (Err e) did some_open = ap (λ (y : LocalState _). y.tally) did.2
+nested_counts IsReader old new (Err e) did some_open = beside old new some_open (ap (λ (y : LocalState _). y.tally) did.2)
 
 -- the outermost opening has found this count, and counted as much as was due then
 pub counted_at : {J : Type 0} (count : ℕ) (old new : LocalState J) → old.own.guards ≡ 0 → new.own.found ≡ count

@@ -14,7 +14,8 @@ use Rattle.sdd_domain.specs.Items as items
 use Rattle.sdd_domain.specs.Local.{LocalModel, world_of}
 
 -- by these records the slot shows this value and no other; and what the value holds is of this home
-pub record RecordsShow {T : Type 0} (shown : T → Gv) (holds : T → List OwnerOrCell) (at : SpaceId) (records : List ShownValue) (slot : ℕ) (value : T) : Type 0 where
+pub record RecordsShow {T : Type 0} (shown : T → Gv) (holds : T → List OwnerOrCell) (at : SpaceId) (records : List ShownValue) (slot : ℕ) (value : T)
+    : Type 0 where
   pub known : IsIn records slot (shown value)
   pub only : (g : Gv) → IsIn records slot g → g ≡ shown value
   pub home : AreOf at (holds value)

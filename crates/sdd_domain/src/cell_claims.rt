@@ -22,8 +22,8 @@ use sdd_core::Refused;
 use sdd_views::CellKind;
 use sdd_witness::Witness;
 
-/// Claims a cell of this kind by this word, if it is free: the right to it is a token of its own, and the owner that the participant had is in the cell, if it had
-/// one.
+/// Claims a cell of this kind by this word, if it is free: the right to it is a token of its own, and the owner that the participant had is in the cell,
+/// if it had one.
 #[inline]
 pub fn claim(
     board: &DomainTable,

@@ -164,7 +164,8 @@ pub fn finds_free(board: &DomainTable, token: &mut DomainSeat, slots: u32) -> bo
     false
 }
 
-/// Claims a free slot by this word, of one owner: one that was given back, or else the first one of a walk over all slots, once round. All stakes in it are out then.
+/// Claims a free slot by this word, of one owner: one that was given back, or else the first one of a walk over all slots, once round.
+/// All stakes in it are out then.
 ///
 /// `NoSlot` where none was found free; `Contended` where so many exchanges were lost.
 #[inline]

@@ -135,7 +135,7 @@ impl<T: Item<T>, J: Job> Caller<T> for Local<'_, T, J> {
 }
 
 impl<T: Item<T>, J: Job> Guards<T> for Local<'_, T, J> {
-    ghost use Rattle.std.specs.Prelude.{◌≡◌, MatchResult, IfOk, IsTrue};
+    ghost use Rattle.std.specs.Prelude.{◌≡◌, Option, MatchResult, IfOk, IsTrue};
     ghost use Rattle.sdd_participants.specs.EpochState.{CanNest, is_open};
     ghost use Rattle.sdd_space.specs.CallerId.{IsSeated, IsExact, IsLone, MayNest};
     ghost use Rattle.sdd_space.specs.ParticipantChanges.{GuardOpened};
@@ -144,8 +144,14 @@ impl<T: Item<T>, J: Job> Guards<T> for Local<'_, T, J> {
     ghost use Rattle.sdd_space.specs.Ptr.{KeepsShown};
     ghost use Rattle.sdd_space.specs.WorldChanges.{opened};
     ghost use Rattle.sdd_domain.specs.Local.{world_of};
+    ghost use Rattle.sdd_domain.specs.declared.scan.ScanEnd.{ScanEnd};
     ghost use Rattle.sdd_domain.specs.OpeningTally.{CountsReclaimed};
+    ghost use Rattle.sdd_domain.specs.ScanAtClose.{TellsScan};
     ghost use Rattle.sdd_domain.specs.Space.{Shows, seat_of, known_of};
+
+    ghost says_at_opening = { λ p q. CountsReclaimed p.member q.member };
+
+    ghost says_at_close = { λ p q. (told : Option ScanEnd) × TellsScan told p.member q.member };
 
     // The compiler puts an opening into its caller as long as it is short: that is all but spent. Five instructions more here, and each guard takes 12 more.
     #[inline]
@@ -167,7 +173,7 @@ impl<T: Item<T>, J: Job> Guards<T> for Local<'_, T, J> {
             (world_of self.new ≡ world_of self.old)) }
         ensures keeps { IsTrue (is_open self.old.member.own) →
             KeepsShown (Shows (showing T.row) T.holds self.old) (Shows (showing T.row) T.holds self.new) }
-        ensures tally { MatchResult result (λ _. CountsReclaimed self.old.member self.new.member) (λ _. self.new.member.tally ≡ self.old.member.tally) }
+        ensures says { CountsReclaimed self.old.member self.new.member }
     {
         if self.partner.membership.is_guarded() {
             return self.partner.membership.nest();

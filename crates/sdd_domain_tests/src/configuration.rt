@@ -1,16 +1,16 @@
 //! A configuration of two threads: one makes it wider by exchanges, and one looks.
 ghost use Rattle.std.specs.Prelude.{◌≡◌};
 ghost use Rattle.sdd_space.specs.CallerId.{IsSeated};
-ghost use Rattle.sdd_space.specs.Shared as shared;
 ghost use Rattle.sdd_domain.specs.Domain.{cells_in, slots_in};
 ghost use Rattle.sdd_domain.specs.Space.{seat_of};
 ghost use Rattle.sdd_domain_tests.specs.Slots.{IsReceiptIn};
+ghost use Rattle.sdd_examples.specs.Config.{cells_home};
 
 use crate::steps::{ONE_SLOT, add, closed, ended, new_domain, registered};
 use sdd_core::Limits;
 use sdd_domain::{Domain, Local, Receipt};
-use sdd_examples::shared_config::{Bounds, looks_twice, publish, widen};
-use sdd_space::AtomicShared;
+use sdd_examples::config::Config;
+use sdd_examples::shared_config::{Bounds, looks_twice, widen};
 use std::process::Abort;
 use std::thread::{Threads, join};
 
@@ -27,9 +27,9 @@ const LIMITS: Limits = Limits {
 fn widens(
     rt: &impl Abort,
     domain: &Domain<Bounds>,
-    config: &AtomicShared<Bounds>,
+    config: &Config<Bounds>,
 ) -> (u64, Receipt<Bounds>)
-    requires { shared.cells_home config.now ≡ cells_in domain.now }
+    requires { cells_home config.now ≡ cells_in domain.now }
     ensures { IsReceiptIn (slots_in domain.now) result.1 }
 {
     let mut local = registered(rt, domain);
@@ -43,9 +43,9 @@ fn widens(
 }
 
 /// How wide the bounds are, which both looks show.
-fn width(rt: &impl Abort, local: &mut Local<'_, Bounds>, config: &AtomicShared<Bounds>) -> u64
+fn width(rt: &impl Abort, local: &mut Local<'_, Bounds>, config: &Config<Bounds>) -> u64
     requires seated { IsSeated (seat_of local.old) }
-    requires home { shared.cells_home config.now ≡ (seat_of local.old).home.cells }
+    requires home { cells_home config.now ≡ (seat_of local.old).home.cells }
     ensures { seat_of local.new ≡ seat_of local.old }
 {
     let (first, second) = looks_twice(config, local).expect(rt, "a guard may be opened");
@@ -56,8 +56,8 @@ fn width(rt: &impl Abort, local: &mut Local<'_, Bounds>, config: &AtomicShared<B
 }
 
 /// What a reader sees never gets narrower.
-fn looks(rt: &impl Abort, domain: &Domain<Bounds>, config: &AtomicShared<Bounds>) -> Receipt<Bounds>
-    requires { shared.cells_home config.now ≡ cells_in domain.now }
+fn looks(rt: &impl Abort, domain: &Domain<Bounds>, config: &Config<Bounds>) -> Receipt<Bounds>
+    requires { cells_home config.now ≡ cells_in domain.now }
     ensures { IsReceiptIn (slots_in domain.now) result }
 {
     let mut local = registered(rt, domain);
@@ -75,13 +75,13 @@ fn narrow(rt: &impl Abort) -> Bounds {
     Bounds::new(7, 7).expect(rt, "they are in order")
 }
 
-/// A cell that holds narrow bounds.
-fn new_config(rt: &impl Abort, local: &mut Local<'_, Bounds>) -> AtomicShared<Bounds>
+/// A configuration with narrow bounds.
+fn new_config(rt: &impl Abort, local: &mut Local<'_, Bounds>) -> Config<Bounds>
     requires seated { IsSeated (seat_of local.old) }
     ensures seat { seat_of local.new ≡ seat_of local.old }
-    ensures home { shared.cells_home result ≡ (seat_of local.old).home.cells }
+    ensures home { cells_home result ≡ (seat_of local.old).home.cells }
 {
-    match AtomicShared::new(narrow(rt), local) {
+    match Config::new(narrow(rt), local) {
         Ok(config) => config,
         Err((_bounds, refused)) => panic!(rt; "refused: {refused:?}"),
     }
@@ -91,9 +91,9 @@ fn new_config(rt: &impl Abort, local: &mut Local<'_, Bounds>) -> AtomicShared<Bo
 fn two_work(
     rt: &(impl Abort + Threads + Sync),
     domain: &Domain<Bounds>,
-    config: &AtomicShared<Bounds>,
+    config: &Config<Bounds>,
 ) -> (u64, (Receipt<Bounds>, Receipt<Bounds>))
-    requires { shared.cells_home config.now ≡ cells_in domain.now }
+    requires { cells_home config.now ≡ cells_in domain.now }
     ensures first { IsReceiptIn (slots_in domain.now) result.1.0 }
     ensures second { IsReceiptIn (slots_in domain.now) result.1.1 }
 {
@@ -114,7 +114,7 @@ fn the_bounds_are_as_wide_as_was_published(rt: HostRuntime) {
     let (times, (writer, reader)) = two_work(&rt, &domain, &config);
     assert!(rt; times > 0);
     assert_eq!(rt; width(&rt, &mut local, &config), times);
-    match publish(&config, narrow(&rt), &mut local) {
+    match config.replace(narrow(&rt), &mut local) {
         Ok(()) => assert_eq!(rt; width(&rt, &mut local, &config), 0),
         Err((_bounds, refused)) => panic!(rt; "refused: {refused:?}"),
     }

@@ -1,8 +1,9 @@
 -- What a configuration is set to, and what its replacement makes of a world
-use Rattle.std.specs.Prelude.{ℕ, ◌≡◌, Some}
+use Rattle.std.specs.Prelude.{ℕ, ◌≡◌, Option, Some, None, MatchOption}
 use Rattle.sdd_core.specs.declared.tag.Tag.TheVariants.{None as no_tag}
 use Rattle.sdd_rights.specs.Units.{GhostName}
 use Rattle.sdd_participants.specs.Slab.{entry_at}
+use Rattle.sdd_participants.specs.declared.standing.CellContents.{CellContents}
 use Rattle.sdd_participants.specs.declared.standing.Standing.TheVariants.{Shared}
 use Rattle.sdd_space.specs.World.{World, standing_at, value_at}
 use Rattle.sdd_space.specs.WorldChanges.{made_shared, owner_given, with_cell}
@@ -16,6 +17,11 @@ module _ {T : Type 0} where
 
   abbrev pub cells_home : Config T → GhostName
   cells_home c = shared.cells_home c.cell
+
+  -- what a look at the cell finds: what the slot shows whose owner it holds, and nothing where it holds none
+  abbrev pub IsFound : World T → ℕ → Option T → Type 0
+  IsFound w cell found =
+      (held : CellContents) × (entry_at w.cells cell ≡ Some held) × MatchOption held.held (found ≡ None) (λ slot. found ≡ value_at w slot)
 
   -- the cell holds one of so many owners of the item in a slot, which shows this value
   pub record IsSetTo (w : World T) (cell slot owners : ℕ) (value : T) : Type 0 where

@@ -1,18 +1,21 @@
 //! A configuration that many read and few replace.
-ghost use Rattle.std.specs.Prelude.{ℕ, ◌≡◌, IfOk, MatchResult, Some, option_copied};
+ghost use Rattle.std.specs.Prelude.{ℕ, ◌≡◌, IfErr, IfOk, MatchResult, Some, option_copied, true};
 ghost use Rattle.sdd_participants.specs.Slab.{IsEmptyAt, IsFull};
 ghost use Rattle.sdd_space.specs.Guard.{reader_of};
 ghost use Rattle.sdd_space.specs.OwnerOrCell.{AreOf};
-ghost use Rattle.sdd_space.specs.Ptr.{KeepsShown};
+ghost use Rattle.sdd_space.specs.Ptr.{KeepsShown, PtrIsShown, cell_seen, shown_by};
+ghost use Rattle.sdd_space.specs.Shared.{IsOfSlots};
+ghost use Rattle.sdd_space.specs.Undisturbed.{Undisturbed};
 ghost use Rattle.sdd_space.specs.CallerId.{IsExact, IsSeated, reader_at};
 ghost use Rattle.sdd_space.specs.WorldChanges.{cell_closed};
+ghost use Rattle.sdd_participants.specs.Slab.{entry_at};
 ghost use Rattle.sdd_space.specs.World.{World, IsPlaceOf};
 ghost use Rattle.sdd_world.specs.Place.{index_of};
-ghost use Rattle.sdd_examples.specs.Config.{IsSetTo, cell_of, cells_home, replaced};
+ghost use Rattle.sdd_examples.specs.Config.{IsFound, IsSetTo, cell_of, cells_home, replaced};
 
 use sdd_core::{Refused, Tag};
 use sdd_space::laws::shared_is_shown;
-use sdd_space::{AtomicShared, Cells, Guard, Item, Items, Look, Shared};
+use sdd_space::{AtomicShared, Cells, Guard, Item, Items, Look, Ptr, Shared};
 use sdd_world::{Place, World};
 
 /// A value that is read as a whole under a guard, and replaced as a whole.
@@ -39,6 +42,20 @@ impl<T: Item<T>> Config<T> {
         Ok(Config { cell })
     }
 
+    /// A pointer to the value as it is now, which shows it for as long as the guard is borrowed, whatever it is replaced by meanwhile.
+    pub fn load<'g, S: Cells<T>>(&self, guard: &'g Guard, s: &mut S) -> Ptr<'g, T>
+        requires seated { IsSeated (S.seat s.old) }
+        requires home { cells_home self.now ≡ (S.seat s.old).home.cells }
+        requires reader { reader_of guard.now ≡ (S.seat s.old).reader }
+        ensures undisturbed { Undisturbed S.seat S.own S.known S.shows s.old s.new }
+        ensures shown { PtrIsShown (S.shows s.new) result }
+        ensures held { IsExact (S.seat s.old) → entry_at (S.world s.old).cells (cell_of self.now) ≡ Some (cell_seen result) }
+        ensures found { IsExact (S.seat s.old) → IsFound (S.world s.new) (cell_of self.now) (shown_by result) }
+        ensures exact { IsExact (S.seat s.old) → S.world s.new ≡ S.world s.old }
+    {
+        self.cell.load(guard, s)
+    }
+
     /// The value as it is now, for as long as the guard is borrowed, whatever it is replaced by meanwhile.
     pub fn read<'g, S: Look<T> + Cells<T>>(&self, guard: &'g Guard, s: &mut S) -> Option<&'g T>
         requires seated { IsSeated (S.seat s.old) }
@@ -48,10 +65,11 @@ impl<T: Item<T>> Config<T> {
         ensures own { S.own s.new ≡ S.own s.old }
         ensures set { IsExact (S.seat s.old) → (slot owners : ℕ) (value : T) →
             IsSetTo (S.world s.old) (cell_of self.now) slot owners value → option_copied result ≡ Some value }
+        ensures found { IsExact (S.seat s.old) → IsFound (S.world s.new) (cell_of self.now) (option_copied result) }
         ensures exact { IsExact (S.seat s.old) → S.world s.new ≡ S.world s.old }
         ensures keeps { KeepsShown (S.shows s.old) (S.shows s.new) }
     {
-        self.cell.load(guard, s).as_ref(s)
+        self.load(guard, s).as_ref(s)
     }
 
     /// Replaces the value. The owner of the one before is released: it is reclaimed once nobody reads it.
@@ -62,6 +80,7 @@ impl<T: Item<T>> Config<T> {
         requires home { cells_home self.now ≡ (S.seat s.old).home.cells }
         requires value { AreOf (S.seat s.old).home (T.holds value) }
         ensures seat { S.seat s.new ≡ S.seat s.old }
+        ensures back { IfErr result (λ e. e.0 ≡ value) }
         ensures exact { IsExact (S.seat s.old) → (slot owners : ℕ) (old : T) → IsSetTo (S.world s.old) (cell_of self.now) slot owners old → MatchResult result
             (λ _. (next : ℕ) × IsEmptyAt (S.world s.old).standings next × IsSetTo (S.world s.new) (cell_of self.now) next 1 value ×
             (S.world s.new ≡ replaced (S.world s.old) (S.seat s.old).place (cell_of self.now) slot owners next value))
@@ -78,6 +97,43 @@ impl<T: Item<T>> Config<T> {
         Ok(())
     }
 
+    /// Replaces the value that the pointer shows, unless another one took its place meanwhile. Whether it did.
+    ///
+    /// `NoSlot` where no slot is free; `Contended`, in a domain alone, where as many exchanges were lost as its limits allow. The value comes back.
+    pub fn exchange<'g, S: Items<T> + Cells<T>>(
+        &self,
+        current: Ptr<'g, T>,
+        value: T,
+        guard: &'g Guard,
+        s: &mut S,
+    ) -> Result<bool, (T, Refused)>
+        requires seated { IsSeated (S.seat s.old) }
+        requires home { cells_home self.now ≡ (S.seat s.old).home.cells }
+        requires reader { reader_of guard.now ≡ (S.seat s.old).reader }
+        requires value { AreOf (S.seat s.old).home (T.holds value) }
+        ensures seat { S.seat s.new ≡ S.seat s.old }
+        ensures back { IfErr result (λ e. e.0 ≡ value) }
+        ensures exact { IsExact (S.seat s.old) → entry_at (S.world s.old).cells (cell_of self.now) ≡ Some (cell_seen current.entry) →
+            IfOk result (λ done. done ≡ true) }
+        ensures keeps { KeepsShown (S.shows s.old) (S.shows s.new) }
+    {
+        let next = Shared::new(value, s)?;
+        let tag = current.tag();
+        match self
+            .cell
+            .compare_exchange(current, (Some(next), tag), guard, s)
+        {
+            Ok((before, _now)) => {
+                let_go(before, s);
+                Ok(true)
+            }
+            Err((back, _now)) => {
+                let_go(back, s);
+                Ok(false)
+            }
+        }
+    }
+
     /// Ends the configuration.
     pub fn close<S: Items<T> + Cells<T>>(self, s: &mut S)
         requires seated { IsSeated (S.seat s.old) }
@@ -88,6 +144,18 @@ impl<T: Item<T>> Config<T> {
     {
         let Config { cell } = self;
         cell.close(s);
+    }
+}
+
+/// Lets go of what came out of a cell, or didn't go in: it is reclaimed once nobody looks at it, unless it has other owners.
+fn let_go<T: Item<T>, S: Items<T>>(owner: Option<Shared<T>>, s: &mut S)
+    requires seated { IsSeated (S.seat s.old) }
+    requires home { IsOfSlots (S.seat s.old).home.slots owner }
+    ensures seat { S.seat s.new ≡ S.seat s.old }
+    ensures keeps { KeepsShown (S.shows s.old) (S.shows s.new) }
+{
+    if let Some(owner) = owner {
+        let _ = owner.release(s);
     }
 }
 

@@ -1,13 +1,13 @@
 //! A configuration across threads: whoever has it publishes another one as a whole, and others look at it under guards, without a lock.
-ghost use Rattle.std.specs.Prelude.{◌≡◌, ◌≤◌, ◌+◌, ◌↔◌, [], IfErr, IfOk, IfSome, IsSome};
-ghost use Rattle.sdd_space.specs.CallerId.{IsSeated};
+ghost use Rattle.std.specs.Prelude.{◌≡◌, ◌≤◌, ◌+◌, ◌^◌, ◌↔◌, [], IfErr, IfOk, IfSome, IsSome, MatchOption};
+ghost use Rattle.sdd_space.specs.CallerId.{IsExact, IsSeated};
 ghost use Rattle.sdd_space.specs.Guard.{reader_of};
-ghost use Rattle.sdd_space.specs.Shared.{cells_home, right_of, slots_home, IsOfSlots};
+ghost use Rattle.sdd_space.specs.Shared.{right_of, slots_home};
+ghost use Rattle.sdd_examples.specs.Config.{IsFound, cell_of, cells_home};
 
-use sdd_core::{Refused, Tag};
-use sdd_space::{
-    AtomicShared, Cells, Giver, Guard, Guards, Item, Items, Look, LookThrough, Shared, SharedItems,
-};
+use crate::config::Config;
+use sdd_core::Refused;
+use sdd_space::{Cells, Giver, Guard, Guards, Item, Items, Look, LookThrough, Shared, SharedItems};
 
 /// The bounds that a service works within. They are replaced together, so that nobody finds the low one above the high one.
 #[derive(Clone, Copy)]
@@ -24,9 +24,10 @@ impl<I> Item<I> for Bounds {
 }
 
 impl Bounds {
-    /// None where the low one is above the high one.
+    /// These bounds. None where the low one is above the high one.
     pub fn new(low: u64, high: u64) -> Option<Bounds>
-        ensures { IsSome result ↔ (low ≤ high) }
+        ensures some { IsSome result ↔ (low ≤ high) }
+        ensures bounds { IfSome result (λ bounds. (bounds.low ≡ low) × (bounds.high ≡ high)) }
     {
         if low <= high {
             Some(Bounds { low, high })
@@ -43,22 +44,31 @@ impl Bounds {
     }
 
     /// The same, with the high one further up. None past the greatest number.
-    pub fn widened(&self, by: u64) -> Option<Bounds> {
-        Bounds::new(self.low, self.high.checked_add(by)?)
+    pub fn widened(&self, by: u64) -> Option<Bounds>
+        ensures { MatchOption result (2 ^ 64 ≤ self.now.high + by)
+            (λ bounds. (bounds.low ≡ self.now.low) × (bounds.high ≡ self.now.high + by)) }
+    {
+        let high = self.high.checked_add(by)?;
+        Some(Bounds {
+            low: self.low,
+            high,
+        })
     }
 }
 
-/// What one pointer shows at two looks, whatever others publish between them: the same. None where nothing is published.
+/// What one pointer shows at two looks, whatever others publish between them: the same. None where nothing is published. In a world, and for a lone
+/// participant, it is what is published still.
 ///
 /// `TooManyGuards` where no guard can be opened.
 pub fn looks_twice<S: Look<Bounds> + Guards<Bounds> + Cells<Bounds>>(
-    config: &AtomicShared<Bounds>,
+    config: &Config<Bounds>,
     s: &mut S,
 ) -> Result<(Option<Bounds>, Option<Bounds>), Refused>
     requires seated { IsSeated (S.seat s.old) }
     requires home { cells_home config.now ≡ (S.seat s.old).home.cells }
     ensures seat { S.seat s.new ≡ S.seat s.old }
     ensures same { IfOk result (λ looks. looks.1 ≡ looks.0) }
+    ensures found { IsExact (S.seat s.old) → IfOk result (λ looks. IsFound (S.world s.new) (cell_of config.now) looks.0) }
     ensures refused { IfErr result (λ e. e ≡ Refused.TooManyGuards) }
 {
     let guard = Guard::new(s)?;
@@ -70,41 +80,12 @@ pub fn looks_twice<S: Look<Bounds> + Guards<Bounds> + Cells<Bounds>>(
     Ok((first, second))
 }
 
-/// Lets go of what came out of a cell: it is reclaimed once nobody looks at it, unless it has other owners.
-fn let_go<S: Items<Bounds>>(owner: Option<Shared<Bounds>>, s: &mut S)
-    requires seated { IsSeated (S.seat s.old) }
-    requires home { IsOfSlots (S.seat s.old).home.slots owner }
-    ensures { S.seat s.new ≡ S.seat s.old }
-{
-    if let Some(owner) = owner {
-        let _ = owner.release(s);
-    }
-}
-
-/// Publishes other bounds, whatever was there.
-///
-/// `NoSlot` where no slot is free; `Contended`, in a domain alone, where as many exchanges were lost as its limits allow. The bounds come back.
-pub fn publish<S: Items<Bounds> + Cells<Bounds>>(
-    config: &AtomicShared<Bounds>,
-    bounds: Bounds,
-    s: &mut S,
-) -> Result<(), (Bounds, Refused)>
-    requires seated { IsSeated (S.seat s.old) }
-    requires home { cells_home config.now ≡ (S.seat s.old).home.cells }
-    ensures seat { S.seat s.new ≡ S.seat s.old }
-    ensures back { IfErr result (λ e. e.0 ≡ bounds) }
-{
-    let next = Shared::new(bounds, s)?;
-    let (before, _tag) = config.swap((Some(next), Tag::None), s);
-    let_go(before, s);
-    Ok(())
-}
-
 /// Publishes wider bounds, unless others publish meanwhile. Whether it did.
 ///
-/// `TooManyGuards` where no guard can be opened, `NoSlot` where no slot is free, and `Contended` as above.
+/// `TooManyGuards` where no guard can be opened, `NoSlot` where no slot is free; `Contended`, in a domain alone, where as many exchanges were lost as its
+/// limits allow.
 pub fn widen<S: Look<Bounds> + Guards<Bounds> + Items<Bounds> + Cells<Bounds>>(
-    config: &AtomicShared<Bounds>,
+    config: &Config<Bounds>,
     by: u64,
     s: &mut S,
 ) -> Result<bool, Refused>
@@ -120,7 +101,7 @@ pub fn widen<S: Look<Bounds> + Guards<Bounds> + Items<Bounds> + Cells<Bounds>>(
 
 /// The same under a guard.
 fn widen_under<S: Look<Bounds> + Items<Bounds> + Cells<Bounds>>(
-    config: &AtomicShared<Bounds>,
+    config: &Config<Bounds>,
     by: u64,
     guard: &Guard,
     s: &mut S,
@@ -137,19 +118,9 @@ fn widen_under<S: Look<Bounds> + Items<Bounds> + Cells<Bounds>>(
     let Some(wider) = bounds.widened(by) else {
         return Ok(false);
     };
-    let next = match Shared::new(wider, s) {
-        Ok(next) => next,
-        Err((_wider, refused)) => return Err(refused),
-    };
-    match config.compare_exchange(ptr, (Some(next), ptr.tag()), guard, s) {
-        Ok((before, _now)) => {
-            let_go(before, s);
-            Ok(true)
-        }
-        Err((back, _now)) => {
-            let_go(back, s);
-            Ok(false)
-        }
+    match config.exchange(ptr, wider, guard, s) {
+        Ok(done) => Ok(done),
+        Err((_wider, refused)) => Err(refused),
     }
 }
 
@@ -158,7 +129,7 @@ fn widen_under<S: Look<Bounds> + Items<Bounds> + Cells<Bounds>>(
 ///
 /// `TooManyOwners` where 2^62 own them, and `Contended` as above.
 pub fn keep_under<S: LookThrough<Bounds> + SharedItems<Bounds> + Cells<Bounds>>(
-    config: &AtomicShared<Bounds>,
+    config: &Config<Bounds>,
     guard: &Guard,
     s: &mut S,
 ) -> Result<Option<(Bounds, Shared<Bounds>)>, Refused>
@@ -183,13 +154,14 @@ pub fn keep_under<S: LookThrough<Bounds> + SharedItems<Bounds> + Cells<Bounds>>(
 ///
 /// `TooManyGuards` where no guard can be opened, and else as above.
 pub fn keep<S: LookThrough<Bounds> + Guards<Bounds> + SharedItems<Bounds> + Cells<Bounds>>(
-    config: &AtomicShared<Bounds>,
+    config: &Config<Bounds>,
     s: &mut S,
 ) -> Result<Option<(Bounds, Shared<Bounds>)>, Refused>
     requires seated { IsSeated (S.seat s.old) }
     requires home { cells_home config.now ≡ (S.seat s.old).home.cells }
     ensures seat { S.seat s.new ≡ S.seat s.old }
     ensures home { IfOk result (λ o. IfSome o (λ kept. slots_home kept.1 ≡ (S.seat s.old).home.slots)) }
+    ensures owned { IfOk result (λ o. IfSome o (λ kept. S.owns_value s.new (right_of kept.1) kept.0)) }
 {
     let guard = Guard::new(s)?;
     let kept = keep_under(config, &guard, s);

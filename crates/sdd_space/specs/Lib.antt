@@ -29,3 +29,4 @@ pub mod Composed
 pub mod Refusals
 pub mod Releases
 pub mod Undisturbed
+pub mod Asked

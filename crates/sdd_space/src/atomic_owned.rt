@@ -1,6 +1,7 @@
-ghost use Rattle.std.specs.Prelude.{ℕ, ◌≡◌, ◌≢◌, ◌+◌, ◌^◌, ◌<◌, ◌⊎◌, ◌↔◌, IfErr, IfOk, IfSome, IsOk, IsSome, IsTrue, MatchOption, MatchResult, None, Some, if◌then◌else◌, option_map};
+ghost use Rattle.std.specs.Prelude.{ℕ, ◌≡◌, ◌≢◌, ◌+◌, ◌^◌, ◌<◌, ◌⊎◌, ◌↔◌, IfErr, IfOk, IfSome, IsOk, IsSome, IsTrue, MatchOption, MatchResult, None, Some, if◌then◌else◌, option_map, true};
 ghost use Rattle.sdd_rights.specs.Right.{kind_of};
 ghost use Rattle.sdd_standings.specs.Slots.{IsSharedBy};
+ghost use Rattle.sdd_space.specs.Asked.{WasAsked};
 ghost use Rattle.sdd_space.specs.OwnerOrCell.{AreOf};
 ghost use Rattle.sdd_space.specs.World.{World, standing_at};
 ghost use Rattle.sdd_space.specs.CallerId.{IsSeated, IsExact};
@@ -159,6 +160,7 @@ impl<T: Item<T>> AtomicOwned<T> {
 
     /// A pointer to the item that the cell holds, with the cell's tag. It shows the item's value for as long as the guard is borrowed, whatever becomes of
     /// the cell and the item. The guard is one of the participant that calls.
+    #[inline]
     pub fn load<'g, S: Cells<T>>(&self, guard: &'g Guard, s: &mut S) -> Ptr<'g, T>
         requires seated { IsSeated (S.seat s.old) }
         requires home { cells_home self.now ≡ (S.seat s.old).home.cells }
@@ -173,6 +175,7 @@ impl<T: Item<T>> AtomicOwned<T> {
     }
 
     /// The cell holds this owner, or nothing, with this tag. Answers what it held, and the tag before.
+    #[inline]
     pub fn swap<S: Cells<T>>(
         &self,
         next: (Option<Owned<T>>, Tag),
@@ -210,6 +213,8 @@ impl<T: Item<T>> AtomicOwned<T> {
         requires callable { F.IsAlwaysCallable condition }
         ensures undisturbed { Undisturbed S.seat S.own S.known S.shows s.old s.new }
         ensures back { IfErr result (IsContended (S.seat s.old)) }
+        ensures asked { IfOk result (λ changed. (ptr : RawPtr T) ×
+            WasAsked (λ p x q. F.step p x true q) (λ p x r. F.post p x r) condition ptr changed) }
         ensures exact { IsExact (S.seat s.old) → IsOk result × IfOk result (λ changed. (ptr : RawPtr T) ×
             (entry_at (S.world s.old).cells (cell_of self.now) ≡ Some (raw.cell_seen ptr)) × F.post condition ptr changed ×
             (S.world s.new ≡ (if changed then with_cell (S.world s.old) (cell_of self.now) (record (raw.cell_seen ptr) { tag = tag }) else S.world s.old))) }
@@ -219,6 +224,7 @@ impl<T: Item<T>> AtomicOwned<T> {
 
     /// The cell holds this owner, or nothing, with this tag, if it held the item that the pointer names, or nothing where it is null, with the pointer's tag.
     /// Then what it held comes back, with a pointer to what it holds now; else the owner handed in, with a pointer to what it holds.
+    #[inline]
     pub fn compare_exchange<'g, S: Cells<T>>(
         &self,
         current: Ptr<'g, T>,

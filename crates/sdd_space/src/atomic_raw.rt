@@ -1,4 +1,5 @@
-ghost use Rattle.std.specs.Prelude.{◌≡◌, ◌≢◌, ◌↔◌, IfErr, IfOk, IsOk, IsTrue, MatchResult, None, Some, if◌then◌else◌};
+ghost use Rattle.std.specs.Prelude.{◌≡◌, ◌≢◌, ◌↔◌, IfErr, IfOk, IsOk, IsTrue, MatchResult, None, Some, if◌then◌else◌, true};
+ghost use Rattle.sdd_space.specs.Asked.{WasAsked};
 ghost use Rattle.sdd_space.specs.World.{World, pointer_at};
 ghost use Rattle.sdd_space.specs.CallerId.{IsSeated, IsExact};
 ghost use Rattle.sdd_space.specs.Refusals.{IsContended, IsRefusedBy};
@@ -152,6 +153,8 @@ impl<T: Item<T>> AtomicRaw<T> {
         requires callable { F.IsAlwaysCallable condition }
         ensures undisturbed { Undisturbed S.seat S.own S.known S.shows s.old s.new }
         ensures back { IfErr result (IsContended (S.seat s.old)) }
+        ensures asked { IfOk result (λ changed. (ptr : RawPtr T) ×
+            WasAsked (λ p x q. F.step p x true q) (λ p x r. F.post p x r) condition ptr changed) }
         ensures exact { IsExact (S.seat s.old) → IsOk result × IfOk result (λ changed. (ptr : RawPtr T) ×
             (pointer_at (S.world s.old) (cell_of self.now) ≡ Some (raw.pointer_of ptr)) × F.post condition ptr changed ×
             (S.world s.new ≡ (if changed
@@ -176,6 +179,9 @@ impl<T: Item<T>> AtomicRaw<T> {
         requires reader { reader_of guard.now ≡ (S.seat s.old).reader }
         ensures undisturbed { Undisturbed S.seat S.own S.known S.shows s.old s.new }
         ensures back { IfErr result (IsContended (S.seat s.old)) }
+        ensures asked { IfOk result (λ updated. MatchResult updated
+            (λ was. (next : RawPtr T) × WasAsked (λ p x q. (r : RawPtr T) × F.step p x (Some r) q) (λ p x r. F.post p x r) f was (Some next))
+            (λ now. WasAsked (λ p x q. (r : RawPtr T) × F.step p x (Some r) q) (λ p x r. F.post p x r) f now None)) }
         ensures exact { IsExact (S.seat s.old) → IsOk result × IfOk result (λ updated. MatchResult updated
             (λ was. (next : RawPtr T) × (pointer_at (S.world s.old) (cell_of self.now) ≡ Some (raw.pointer_of was)) × F.post f was (Some next) ×
             (S.world s.new ≡ with_pointer (S.world s.old) (cell_of self.now) (raw.pointer_of next)))

@@ -31,6 +31,7 @@ impl Guard {
     ghost use Rattle.sdd_space.specs.ParticipantChanges.{GuardOpened, GuardClosed};
     ghost use Rattle.sdd_space.specs.KnownEpochs.{KnowsOn, KnowsOpened, KnowsClosed, IsNear, IsRaisedBy};
     ghost use Rattle.sdd_space.specs.Undisturbed.{Undisturbed, Unmoved};
+    ghost use Rattle.sdd_rights.specs.declared.right.Right.{Right};
     ghost use Rattle.sdd_space.specs.Ptr.{KeepsShown};
     ghost use Rattle.sdd_space.specs.Guard.{reader_of};
     ghost use Rattle.sdd_space.specs.WorldChanges.{opened, closed, deferred, stirred, accelerated};
@@ -57,6 +58,7 @@ impl Guard {
             (λ _. CanNest (S.world s.old).time (S.seat s.old).place × (S.world s.new ≡ opened T.holds (S.world s.old) (S.seat s.old).place))
             (λ e. (e ≡ Refused.TooManyGuards) × ¬ (CanNest (S.world s.old).time (S.seat s.old).place) × (S.world s.new ≡ S.world s.old)) }
         ensures keeps { IsTrue (is_open (S.own s.old)) → KeepsShown (S.shows s.old) (S.shows s.new) }
+        ensures says { S.says_at_opening s.old s.new }
     {
         s.new_guard()
     }
@@ -82,7 +84,7 @@ impl Guard {
         &self.part
     }
 
-    /// Closes the guard. The outermost close at countdown 0, as `accelerate` sets it, first tries to raise the count.
+    /// Closes the guard. The outermost close at countdown 0, as `accelerate` sets it, first tries to raise the count. What owners own is as before.
     #[inline]
     pub fn close<T: Item<T>, S: Guards<T>>(self, s: &mut S)
         requires seated { IsSeated (S.seat s.old) }
@@ -93,6 +95,8 @@ impl Guard {
         ensures lone { IsLone (S.seat s.old) → IsRaisedBy (S.own s.old) (S.known s.old).told (S.known s.new).told }
         ensures exact { IsExact (S.seat s.old) → S.world s.new ≡ closed (S.world s.old) (S.seat s.old).place }
         ensures keeps { IsTrue (is_open (S.own s.new)) → KeepsShown (S.shows s.old) (S.shows s.new) }
+        ensures owned { (right : Right) (value : T) → S.owns_value s.old right value → S.owns_value s.new right value }
+        ensures says { S.says_at_close s.old s.new }
     {
         s.close_guard(self);
     }

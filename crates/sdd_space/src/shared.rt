@@ -137,6 +137,7 @@ impl<T: Item<T>> Shared<T> {
     /// Puts a value into a free slot, with one owner.
     ///
     /// `NoSlot` where none is free; `Contended`, in a domain alone, where as many exchanges were lost as its limits allow. The value comes back.
+    #[inline(always)]
     pub fn new<S: Items<T>>(value: T, s: &mut S) -> Result<Shared<T>, (T, Refused)>
         requires seated { IsSeated (S.seat s.old) }
         requires home { AreOf (S.seat s.old).home (T.holds value) }
@@ -231,6 +232,7 @@ impl<T: Item<T>> Shared<T> {
     }
 
     /// Gives this owner up, and answers whether it was the last, cells counted. The last one's item is retired: it waits with the calling participant.
+    #[inline]
     pub fn release<S: Items<T>>(self, s: &mut S) -> bool
         requires seated { IsSeated (S.seat s.old) }
         requires home { slots_home self ≡ (S.seat s.old).home.slots }

@@ -1,4 +1,4 @@
-ghost use Rattle.std.specs.Prelude.{◌≡◌, option_copied};
+ghost use Rattle.std.specs.Prelude.{◌≡◌, ⊤, option_copied};
 ghost use Rattle.sdd_space.specs.World.{World, IsPlaceOf};
 ghost use Rattle.sdd_world.specs.Place.{index_of};
 ghost use Rattle.sdd_world.specs.Shown.{one_value};
@@ -147,7 +147,12 @@ impl<T: Item<T>, J: Job> Caller<T> for Turn<'_, T, J> {
     ghost shows_is_value = { λ _ _ _ _. (λ h. h, λ h. h) };
 }
 
+/// What its change of the world says is all.
 impl<T: Item<T>, J: Job> Guards<T> for Turn<'_, T, J> {
+    ghost says_at_opening = { λ _ _. ⊤ };
+
+    ghost says_at_close = { λ _ _. ⊤ };
+
     fn new_guard(&mut self) -> Result<Guard, Refused> {
         if !self.world.time().can_nest(self.place) {
             return Err(Refused::TooManyGuards);

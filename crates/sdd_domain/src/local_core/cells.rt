@@ -1,11 +1,12 @@
 //! Cells: a participant claims and frees them, loads, swaps and exchanges what they hold, and changes their tags.
-ghost use Rattle.std.specs.Prelude.{◌≡◌, ◌≢◌, ◌⊎◌, ◌<◌, ◌≤◌, ◌∷◌, ℕ, Bool, [], IfErr, IfOk, IfSome, MatchBool, MatchOption, MatchResult, None, Some, slice_set};
+ghost use Rattle.std.specs.Prelude.{◌≡◌, ◌≢◌, ◌⊎◌, ◌<◌, ◌≤◌, ◌∷◌, ℕ, Bool, [], IfErr, IfOk, IfSome, MatchBool, MatchOption, MatchResult, None, Some, slice_set, true};
 ghost use base.Stored.{Gv};
 ghost use Rattle.sdd_core.specs.declared.tag.Tag.TheVariants.{None as no_tag};
 ghost use Rattle.sdd_rights.specs.StandingKind.{IsOwner, is_shared};
 ghost use Rattle.sdd_rights.specs.Right.{number_of, home_of, kind_of, raw_number_of, raw_home_of};
 ghost use Rattle.sdd_standings.specs.Cells.{MayHold, cell_with, slot_held};
 ghost use Rattle.sdd_shared_values.specs.SharedValues.{showing};
+ghost use Rattle.sdd_space.specs.Asked.{WasAsked};
 ghost use Rattle.sdd_space.specs.Guard.{reader_of};
 ghost use Rattle.sdd_space.specs.RawPtr as raw;
 ghost use Rattle.sdd_space.specs.OwnerOrCell.{AreOf};
@@ -132,7 +133,8 @@ impl<'d, T: Item<T>, J: Job> LocalCore<'d, T, J> {
         requires reader { reader_of guard.now ≡ self.old.reader }
         ensures found { (word : ℕ) × FindsAt (number_of cell.now) word self.old × MatchOption result.0
             (contents_of word ≡ record { held = None; tag = result.1 }) (λ found. contents_of word ≡ record { held = Some found.0; tag = result.1 }) }
-        ensures seen { MatchOption result.0 (self.new ≡ self.old) (λ found. ((shared : Bool) × LooksAt found.0 shared (showing T.row found.1.now) self.old self.new
+        ensures seen { MatchOption result.0 (self.new ≡ self.old) (λ found.
+            ((shared : Bool) × LooksAt found.0 shared (showing T.row found.1.now) self.old self.new
             × (IsLone self.old → KnowsOwner self.old found.0 shared (showing T.row found.1.now)))
             × (found.0 < self.old.limits.slots) × IsOnce self.new.shown × AreOf (home_in self.old) (T.holds found.1.now)) }
         ensures owned { IsLone self.old → IfSome result.0 (λ found. IsOwnedThere found.0 (is_shared (kind_of cell.now)) self.old) }
@@ -152,6 +154,7 @@ impl<'d, T: Item<T>, J: Job> LocalCore<'d, T, J> {
     }
 
     /// A cell holds another owner, or none, and has this tag. What it held comes back, with its tag.
+    #[inline]
     pub(crate) fn swap(
         &mut self,
         cell: &Right,
@@ -183,6 +186,7 @@ impl<'d, T: Item<T>, J: Job> LocalCore<'d, T, J> {
     }
 
     /// The same, if the cell holds what was expected; else the owner comes back, and nothing changes.
+    #[inline]
     pub(crate) fn exchange(
         &mut self,
         cell: &Right,
@@ -230,7 +234,8 @@ impl<'d, T: Item<T>, J: Job> LocalCore<'d, T, J> {
     fn retag(&mut self, cell: &Right, old: u64, tag: Tag) -> bool
         requires home { home_of cell.now ≡ cells_home self.old.home }
         ensures { MatchBool result
-            ((word : ℕ) × (0 < word) × (contents_of word ≡ record (contents_of old) { tag = tag }) × ChangesCell (number_of cell.now) old word self.old self.new)
+            ((word : ℕ) × (0 < word) × (contents_of word ≡ record (contents_of old) { tag = tag })
+            × ChangesCell (number_of cell.now) old word self.old self.new)
             ((self.new ≡ self.old) × (IsLone self.old → old ≢ cell_word_of self.old (number_of cell.now))) }
     {
         let board = &self.domain.board;
@@ -260,7 +265,9 @@ impl<'d, T: Item<T>, J: Job> LocalCore<'d, T, J> {
             ((now : ℕ) × (0 < now) × (contents_of now ≡ record (contents_of word) { tag = tag }) × ChangesCell (number_of cell.now) word now self.old self.new)
             ((self.new ≡ self.old) × FindsAt (number_of cell.now) word self.old))
             (λ e. (e ≡ Refused.Contended) × (self.new ≡ self.old) × ¬ (IsLone self.old)) }
-        ensures asked { IsLone self.old → IfOk result (λ changed. (ptr : RawPtr T)
+        ensures asked { IfOk result (λ changed. (ptr : RawPtr T)
+            × WasAsked (λ p x q. F.step p x true q) (λ p x r. F.post p x r) condition ptr changed) }
+        ensures once { IsLone self.old → IfOk result (λ changed. (ptr : RawPtr T)
             × (raw.cell_seen ptr ≡ contents_of (cell_word_of self.old (number_of cell.now))) × F.post condition ptr changed) }
     {
         for _attempt in 0..self.domain.limits.tries {

@@ -1,6 +1,7 @@
 //! Raw cells: a participant claims and frees them, and changes what they point to. They own nothing.
-ghost use Rattle.std.specs.Prelude.{◌≡◌, ◌≢◌, IfOk, MatchBool, MatchOption, MatchResult, None, Some};
+ghost use Rattle.std.specs.Prelude.{◌≡◌, ◌≢◌, IfOk, MatchBool, MatchOption, MatchResult, None, Some, true};
 ghost use Rattle.sdd_rights.specs.Right.{raw_number_of, raw_home_of};
+ghost use Rattle.sdd_space.specs.Asked.{WasAsked};
 ghost use Rattle.sdd_space.specs.RawPtr as raw;
 ghost use Rattle.sdd_domain.specs.Cells.{ClaimsNone, FindsPointer, MakesRaw, PointsAt};
 ghost use Rattle.sdd_domain.specs.Local.{pointer_by};
@@ -94,7 +95,9 @@ impl<'d, T: Item<T>, J: Job> LocalCore<'d, T, J> {
             (PointsAt (raw_number_of cell.now) found (record found { tag = tag }) self.old self.new)
             ((self.new ≡ self.old) × FindsPointer (raw_number_of cell.now) found self.old))
             (λ e. (e ≡ Refused.Contended) × (self.new ≡ self.old) × ¬ (IsLone self.old)) }
-        ensures asked { IsLone self.old → IfOk result (λ changed. (ptr : RawPtr T)
+        ensures asked { IfOk result (λ changed. (ptr : RawPtr T)
+            × WasAsked (λ p x q. F.step p x true q) (λ p x r. F.post p x r) condition ptr changed) }
+        ensures once { IsLone self.old → IfOk result (λ changed. (ptr : RawPtr T)
             × (raw.pointer_of ptr ≡ pointer_by (pointer_word_of self.old (raw_number_of cell.now))) × F.post condition ptr changed) }
     {
         for _attempt in 0..self.domain.limits.tries {
@@ -128,7 +131,10 @@ impl<'d, T: Item<T>, J: Job> LocalCore<'d, T, J> {
             (λ was. (next : RawCellContents) × PointsAt (raw_number_of cell.now) (raw.pointer_of was) next self.old self.new)
             (λ now. (self.new ≡ self.old) × FindsPointer (raw_number_of cell.now) (raw.pointer_of now) self.old))
             (λ e. (e ≡ Refused.Contended) × (self.new ≡ self.old) × ¬ (IsLone self.old)) }
-        ensures asked { IsLone self.old → IfOk result (λ updated. MatchResult updated
+        ensures asked { IfOk result (λ updated. MatchResult updated
+            (λ was. (next : RawPtr T) × WasAsked (λ p x q. (r : RawPtr T) × F.step p x (Some r) q) (λ p x r. F.post p x r) f was (Some next))
+            (λ now. WasAsked (λ p x q. (r : RawPtr T) × F.step p x (Some r) q) (λ p x r. F.post p x r) f now None)) }
+        ensures once { IsLone self.old → IfOk result (λ updated. MatchResult updated
             (λ was. (next : RawPtr T) × PointsAt (raw_number_of cell.now) (raw.pointer_of was) (raw.pointer_of next) self.old self.new
             × F.post f was (Some next))
             (λ now. F.post f now None)) }

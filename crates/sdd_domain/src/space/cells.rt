@@ -33,6 +33,7 @@ impl<T: Item<T>, J: Job> Cells<T> for Local<'_, T, J> {
         self.partner.membership.load_pointer(cell, guard)
     }
 
+    #[inline]
     fn swap(
         &mut self,
         cell: &Right,
@@ -43,6 +44,7 @@ impl<T: Item<T>, J: Job> Cells<T> for Local<'_, T, J> {
         self.partner.membership.swap(cell, new, tag, kind)
     }
 
+    #[inline]
     fn compare_exchange<'g>(
         &mut self,
         cell: &Right,

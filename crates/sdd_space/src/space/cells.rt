@@ -1,5 +1,6 @@
-ghost use Rattle.std.specs.Prelude.{◌≡◌, ◌≢◌, ◌+◌, ◌^◌, ◌<◌, ◌⊎◌, ℕ, IfErr, IfOk, IfSome, IsOk, IsSome, MatchOption, MatchResult, Some, if◌then◌else◌};
+ghost use Rattle.std.specs.Prelude.{◌≡◌, ◌≢◌, ◌+◌, ◌^◌, ◌<◌, ◌⊎◌, ℕ, IfErr, IfOk, IfSome, IsOk, IsSome, MatchOption, MatchResult, Some, if◌then◌else◌, true};
 ghost use Rattle.sdd_participants.specs.Slab.{IsEmptyAt, IsFull, entry_at};
+ghost use Rattle.sdd_space.specs.Asked.{WasAsked};
 ghost use Rattle.sdd_space.specs.OwnerOrCell.{AreOf};
 ghost use Rattle.sdd_space.specs.World.{standing_at};
 ghost use Rattle.sdd_core.specs.declared.tag.Tag.TheVariants.{None as no_tag};
@@ -154,6 +155,8 @@ pub trait Cells<T: Item<T>>: Caller<T> {
         requires callable { F.IsAlwaysCallable condition }
         ensures undisturbed { Undisturbed Self.seat Self.own Self.known Self.shows self.old self.new }
         ensures back { IfErr result (IsContended (Self.seat self.old)) }
+        ensures asked { IfOk result (λ changed. (ptr : RawPtr T) ×
+            WasAsked (λ p x q. F.step p x true q) (λ p x r. F.post p x r) condition ptr changed) }
         ensures exact { IsExact (Self.seat self.old) → IsOk result × IfOk result (λ changed. (ptr : RawPtr T) ×
             (entry_at (Self.world self.old).cells (number_of cell.now) ≡ Some (raw.cell_seen ptr)) × F.post condition ptr changed ×
             (Self.world self.new ≡ (if changed then with_cell (Self.world self.old) (number_of cell.now) (record (raw.cell_seen ptr) { tag = tag })

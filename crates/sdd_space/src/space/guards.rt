@@ -1,4 +1,5 @@
 ghost use Rattle.std.specs.Prelude.{◌≡◌, IfOk, IsTrue, MatchResult};
+ghost use Rattle.sdd_rights.specs.declared.right.Right.{Right};
 ghost use Rattle.sdd_participants.specs.EpochState.{CanNest, has_garbage, is_open, with_garbage};
 ghost use Rattle.sdd_participants.specs.EpochState as time;
 ghost use Rattle.sdd_space.specs.World.{place_at};
@@ -17,6 +18,11 @@ use sdd_core::Refused;
 
 /// The guards of one participant of a world or domain.
 pub trait Guards<T: Item<T>>: Caller<T> {
+    /// What an opening says besides, of the participant before and after.
+    ghost says_at_opening: { Self → Self → Type 0 };
+    /// What a close does.
+    ghost says_at_close: { Self → Self → Type 0 };
+
     /// Opens one more guard; an outermost one looks at the count.
     fn new_guard(&mut self) -> Result<Guard, Refused>
         requires seated { IsSeated (Self.seat self.old) }
@@ -35,7 +41,8 @@ pub trait Guards<T: Item<T>>: Caller<T> {
             (λ e. (e ≡ Refused.TooManyGuards) × ¬ (CanNest (Self.world self.old).time (Self.seat self.old).place) ×
             (Self.world self.new ≡ Self.world self.old)) }
         ensures keeps { IsTrue (is_open (Self.own self.old)) →
-            KeepsShown (Self.shows self.old) (Self.shows self.new) };
+            KeepsShown (Self.shows self.old) (Self.shows self.new) }
+        ensures says { Self.says_at_opening self.old self.new };
 
     /// Closes a guard; the last one publishes the end, after a scan at countdown 0.
     fn close_guard(&mut self, guard: Guard)
@@ -47,7 +54,9 @@ pub trait Guards<T: Item<T>>: Caller<T> {
         ensures lone { IsLone (Self.seat self.old) → IsRaisedBy (Self.own self.old) (Self.known self.old).told (Self.known self.new).told }
         ensures exact { IsExact (Self.seat self.old) → Self.world self.new ≡ closed (Self.world self.old) (Self.seat self.old).place }
         ensures keeps { IsTrue (is_open (Self.own self.new)) →
-            KeepsShown (Self.shows self.old) (Self.shows self.new) };
+            KeepsShown (Self.shows self.old) (Self.shows self.new) }
+        ensures owned { (right : Right) (value : T) → Self.owns_value self.old right value → Self.owns_value self.new right value }
+        ensures says { Self.says_at_close self.old self.new };
 
     /// The count of epochs, as the participant is told it now.
     fn count(&mut self) -> u64

@@ -31,8 +31,8 @@ put_down-requires-clause-place c = let q = c.requires.right.1 in let shared : Bo
     let hit = c.if-exchange_cell-old.true in
     let out = brought c.args.word c.args.cell c.args.old shared c.take_up.new.token.me c.exchange_cell.new.token.me
     (subst (λ (x : ℕ). BringsOut c.args.word shared c.args.cell c.take_up.new.token.me x c.exchange_cell.new.token.me) hit (step.2.0 hit)) in
-    subst (λ (e : _). HasPlace e) (sym (ap (λ (m : SeatState). m.0.epoch) out.1 ∙ (ap (λ (v : View). v.epoch) t.view ∙ ap (λ (m : SeatState). m.0.epoch) a.2.0)))
-    c.requires.place
+    subst (λ (e : _). HasPlace e)
+    (sym (ap (λ (m : SeatState). m.0.epoch) out.1 ∙ (ap (λ (v : View). v.epoch) t.view ∙ ap (λ (m : SeatState). m.0.epoch) a.2.0))) c.requires.place
 
 pub put_down-requires-clause-rests : goal.put_down-requires-clause-rests
 put_down-requires-clause-rests c = let q = c.requires.right.1 in let shared : Bool = q.0 in

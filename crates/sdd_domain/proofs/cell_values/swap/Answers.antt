@@ -26,8 +26,8 @@ pub put_down-requires-clause-place : goal.put_down-requires-clause-place
 put_down-requires-clause-place c = let q = c.requires.right.1 in let shared : Bool = q.0 in
     let a = c.recall_cell.ensures c.args.cell shared q.1 in let t = c.take_up.ensures shared q.2 in let step = c.swap_cell-found.ensures shared q.1 in
     let out = brought c.args.word c.args.cell c.swap_cell-found.result shared c.take_up.new.token.me c.swap_cell-found.new.token.me step.2.0 in
-    subst (λ (e : _). HasPlace e) (sym (ap (λ (m : SeatState). m.0.epoch) out.1 ∙ (ap (λ (v : View). v.epoch) t.view ∙ ap (λ (m : SeatState). m.0.epoch) a.2.0)))
-    c.requires.place
+    subst (λ (e : _). HasPlace e)
+    (sym (ap (λ (m : SeatState). m.0.epoch) out.1 ∙ (ap (λ (v : View). v.epoch) t.view ∙ ap (λ (m : SeatState). m.0.epoch) a.2.0))) c.requires.place
 
 pub put_down-requires-clause-rests : goal.put_down-requires-clause-rests
 put_down-requires-clause-rests c = let q = c.requires.right.1 in let shared : Bool = q.0 in

@@ -19,7 +19,8 @@ enter_unit-requires-clause-knows c = let o = rw c.in-Some.is at c.requires.owner
 
 pub enter_unit-requires-clause-place : goal.enter_unit-requires-clause-place
 enter_unit-requires-clause-place c = let o = rw c.in-Some.is at c.requires.owner in
-    let took = c.take_in.ensures c.in-Some.loose.slot o.0 c.in-Some.loose.grip.shown o.1.views in subst (λ (v : View). HasPlace v.epoch) (sym took.3) c.requires.place
+    let took = c.take_in.ensures c.in-Some.loose.slot o.0 c.in-Some.loose.grip.shown o.1.views in
+    subst (λ (v : View). HasPlace v.epoch) (sym took.3) c.requires.place
 
 pub enter_unit-requires-clause-own : goal.enter_unit-requires-clause-own
 enter_unit-requires-clause-own c = let o = rw c.in-Some.is at c.requires.owner in

@@ -19,7 +19,8 @@ pub returns-clause-exchanged : goal.returns-clause-exchanged
 returns-clause-exchanged g c = let new = c.loosen-new in let b = c.self.inside.domain.now.board in let found : ℕ = c.word_at-old.result in
     let out = c.bind-2 in let found_is : contents_of found ≡ c.args.current = search rules in (
       search rules,
-      sym (listed_first (slot_held out.result) (held_slots found) (out.ensures.slots ∙ c.in-Ok.ensures.exchanged.1)) ∙ ap (λ (k : CellContents). k.held) found_is,
+      sym (listed_first (slot_held out.result) (held_slots found) (out.ensures.slots ∙ c.in-Ok.ensures.exchanged.1))
+          ∙ ap (λ (k : CellContents). k.held) found_is,
       (
         found,
         c.word_for-word.result,

@@ -31,7 +31,8 @@ returns-clause-closed g c = record {
 -- a lone participant is the only one by its token too
 all : (g : Over) (c : goal.After-shut g) → IsLone c.args.self.now → c.self.inside.token.me.0.epoch.all ≡ 1
 all g c lone = let l = c.self.inside in
-    c.self.invariant.0.all ∙ (ap (λ (z : Sizes). z.participants) l.domain.now.limited.1 ∙ (ap (λ (m : LocalState _). m.limits.participants) c.self.view_is ∙ lone))
+    c.self.invariant.0.all
+    ∙ (ap (λ (z : Sizes). z.participants) l.domain.now.limited.1 ∙ (ap (λ (m : LocalState _). m.limits.participants) c.self.view_is ∙ lone))
 
 pub returns-clause-told : goal.returns-clause-told
 returns-clause-told g c = let l = c.self.inside in

@@ -32,7 +32,8 @@ use Rattle.sdd_domain.proofs.Members.{with_token, looks_at}
 use Rattle.sdd_domain.proofs.local_core.LocalCore.load.Goals as goal
 
 pub invariant_of-self : goal.invariant_of-self
-invariant_of-self g c = let l = c.self.inside in let b = l.domain.now.board in let t : ℕ = c.tenure_of-tenure.result.now.round in let inv = c.self.invariant in
+invariant_of-self g c =
+    let l = c.self.inside in let b = l.domain.now.board in let t : ℕ = c.tenure_of-tenure.result.now.round in let inv = c.self.invariant in
     let cell = c.args.cell.now in let word : ℕ = c.see_in-word.result in let f = c.see_in-word.new.token in
     let views = cell_views c.args.self.now.home cell (kind_of cell) c.witness.result.now (number_of cell) c.requires.home refl c.witness.ensures.cell refl in
     let known = c.recall_cell.ensures (number_of cell) (is_shared (kind_of cell)) views in
@@ -51,7 +52,8 @@ invariant_of-self g c = let l = c.self.inside in let b = l.domain.now.board in l
     )
 
 pub returns-in_default-clause-seen : goal.returns-in_default-clause-seen
-returns-in_default-clause-seen g c = let l = c.self.inside in let b = l.domain.now.board in let t : ℕ = c.tenure_of-tenure.result.now.round in let inv = c.self.invariant in
+returns-in_default-clause-seen g c =
+    let l = c.self.inside in let b = l.domain.now.board in let t : ℕ = c.tenure_of-tenure.result.now.round in let inv = c.self.invariant in
     let cell = c.args.cell.now in let word : ℕ = c.see_in-word.result in let f = c.see_in-word.new.token in
     let views = cell_views c.args.self.now.home cell (kind_of cell) c.witness.result.now (number_of cell) c.requires.home refl c.witness.ensures.cell refl in
     let known = c.recall_cell.ensures (number_of cell) (is_shared (kind_of cell)) views in
@@ -63,7 +65,8 @@ returns-in_default-clause-seen g c = let l = c.self.inside in let b = l.domain.n
     ap (with_token (c.self.view_is 0)) still ∙ c.self.view_is
 
 pub show-value-requires-clause-inside : goal.show-value-requires-clause-inside
-show-value-requires-clause-inside g c = let l = c.self.inside in let b = l.domain.now.board in let t : ℕ = c.tenure_of-tenure.result.now.round in let inv = c.self.invariant in
+show-value-requires-clause-inside g c =
+    let l = c.self.inside in let b = l.domain.now.board in let t : ℕ = c.tenure_of-tenure.result.now.round in let inv = c.self.invariant in
     let cell = c.args.cell.now in let word : ℕ = c.see_in-word.result in let f = c.see_in-word.new.token in
     let views = cell_views c.args.self.now.home cell (kind_of cell) c.witness.result.now (number_of cell) c.requires.home refl c.witness.ensures.cell refl in
     let known = c.recall_cell.ensures (number_of cell) (is_shared (kind_of cell)) views in
@@ -78,7 +81,8 @@ show-value-requires-clause-inside g c = let l = c.self.inside in let b = l.domai
     let low = subst (λ (z : Sizes). slot < z.slots) inv.0.knows.0 hit.2 in let size = l.domain.now.shelved.0.size in omega (arith, low, size)
 
 pub show-value-requires-clause-stake : goal.show-value-requires-clause-stake
-show-value-requires-clause-stake g c = let l = c.self.inside in let b = l.domain.now.board in let t : ℕ = c.tenure_of-tenure.result.now.round in let inv = c.self.invariant in
+show-value-requires-clause-stake g c =
+    let l = c.self.inside in let b = l.domain.now.board in let t : ℕ = c.tenure_of-tenure.result.now.round in let inv = c.self.invariant in
     let cell = c.args.cell.now in let word : ℕ = c.see_in-word.result in let f = c.see_in-word.new.token in
     let views = cell_views c.args.self.now.home cell (kind_of cell) c.witness.result.now (number_of cell) c.requires.home refl c.witness.ensures.cell refl in
     let known = c.recall_cell.ensures (number_of cell) (is_shared (kind_of cell)) views in
@@ -94,7 +98,8 @@ show-value-requires-clause-stake g c = let l = c.self.inside in let b = l.domain
     (can_show (book_of b) (places_of b) l.place t slot seen.records f.me.1 seen.purse seen.lent (in_times seen.records slot shown seen.there))
 
 pub invariant_of-self-2 : goal.invariant_of-self-2
-invariant_of-self-2 g c = let l = c.self.inside in let b = l.domain.now.board in let t : ℕ = c.tenure_of-tenure.result.now.round in let inv = c.self.invariant in
+invariant_of-self-2 g c =
+    let l = c.self.inside in let b = l.domain.now.board in let t : ℕ = c.tenure_of-tenure.result.now.round in let inv = c.self.invariant in
     let cell = c.args.cell.now in let word : ℕ = c.see_in-word.result in let f = c.see_in-word.new.token in
     let views = cell_views c.args.self.now.home cell (kind_of cell) c.witness.result.now (number_of cell) c.requires.home refl c.witness.ensures.cell refl in
     let known = c.recall_cell.ensures (number_of cell) (is_shared (kind_of cell)) views in
@@ -120,7 +125,8 @@ invariant_of-self-2 g c = let l = c.self.inside in let b = l.domain.now.board in
     )
 
 pub returns-clause-seen : goal.returns-clause-seen
-returns-clause-seen g c = let l = c.self.inside in let b = l.domain.now.board in let t : ℕ = c.tenure_of-tenure.result.now.round in let inv = c.self.invariant in
+returns-clause-seen g c =
+    let l = c.self.inside in let b = l.domain.now.board in let t : ℕ = c.tenure_of-tenure.result.now.round in let inv = c.self.invariant in
     let cell = c.args.cell.now in let word : ℕ = c.see_in-word.result in let f = c.see_in-word.new.token in
     let views = cell_views c.args.self.now.home cell (kind_of cell) c.witness.result.now (number_of cell) c.requires.home refl c.witness.ensures.cell refl in
     let known = c.recall_cell.ensures (number_of cell) (is_shared (kind_of cell)) views in
@@ -156,7 +162,8 @@ returns-clause-seen g c = let l = c.self.inside in let b = l.domain.now.board in
     )
 
 pub returns-clause-owned : goal.returns-clause-owned
-returns-clause-owned g c = let l = c.self.inside in let b = l.domain.now.board in let t : ℕ = c.tenure_of-tenure.result.now.round in let inv = c.self.invariant in
+returns-clause-owned g c =
+    let l = c.self.inside in let b = l.domain.now.board in let t : ℕ = c.tenure_of-tenure.result.now.round in let inv = c.self.invariant in
     let cell = c.args.cell.now in let word : ℕ = c.see_in-word.result in let f = c.see_in-word.new.token in
     let views = cell_views c.args.self.now.home cell (kind_of cell) c.witness.result.now (number_of cell) c.requires.home refl c.witness.ensures.cell refl in
     let known = c.recall_cell.ensures (number_of cell) (is_shared (kind_of cell)) views in

@@ -17,10 +17,12 @@ use Rattle.sdd_domain.proofs.reclaiming.LocalGiver.close_cell.Goals as goal
 
 pub returns-in_default-clause-exact : goal.returns-in_default-clause-exact
 returns-in_default-clause-exact g c = λ exact.
-    let v : LocalModel g.row.T.Denot g.row.J.Denot = c.self.view_is 0 in let cell : ℕ = number_of c.args.right in let found : ℕ = c.into_contents-held.result.1 in
+    let v : LocalModel g.row.T.Denot g.row.J.Denot = c.self.view_is 0 in
+    let cell : ℕ = number_of c.args.right in let found : ℕ = c.into_contents-held.result.1 in
     let new : LocalState _ = c.into_contents-held.new.self in let is = c.into_contents-held.ensures.freed in
     let none = rw c.in_default.is at c.into_contents-held.ensures.slots in
-    let lone : IsLone v.member = lone_is v.member (subst (λ (q : LocalModel g.row.T.Denot g.row.J.Denot). IsTrue (is_lone q.member)) (sym c.self.view_is) exact) in
+    let lone : IsLone v.member =
+    lone_is v.member (subst (λ (q : LocalModel g.row.T.Denot g.row.J.Denot). IsTrue (is_lone q.member)) (sym c.self.view_is) exact) in
     let t = c.self.invariant lone in let w : World g.row.T.Denot = world_of v in
     world_freed v cell found new is t
     ∙ (sym (ap (spilled (without_cell w cell) v.member.place) (held_before v cell found 0 new is t lone ∙ ap (λ (xs : List ℕ). slice_get xs 0) (sym none)))
@@ -28,7 +30,8 @@ returns-in_default-clause-exact g c = λ exact.
 
 pub invariant_of-self-2 : goal.invariant_of-self-2
 invariant_of-self-2 g c =
-    let v : LocalModel g.row.T.Denot g.row.J.Denot = c.self.view_is 0 in let cell : ℕ = number_of c.args.right in let found : ℕ = c.into_contents-held.result.1 in
+    let v : LocalModel g.row.T.Denot g.row.J.Denot = c.self.view_is 0 in
+    let cell : ℕ = number_of c.args.right in let found : ℕ = c.into_contents-held.result.1 in
     let new : LocalState _ = c.into_contents-held.new.self in let is = c.into_contents-held.ensures.freed in
     let freed : LocalModel g.row.T.Denot g.row.J.Denot = record { member = new; entries = c.self.inside.ledger.entries } in
     let tied : WordsMatchValues freed.member freed.entries
@@ -37,7 +40,8 @@ invariant_of-self-2 g c =
 
 pub returns-clause-own : goal.returns-clause-own
 returns-clause-own g c =
-    let v : LocalModel g.row.T.Denot g.row.J.Denot = c.self.view_is 0 in let cell : ℕ = number_of c.args.right in let found : ℕ = c.into_contents-held.result.1 in
+    let v : LocalModel g.row.T.Denot g.row.J.Denot = c.self.view_is 0 in
+    let cell : ℕ = number_of c.args.right in let found : ℕ = c.into_contents-held.result.1 in
     let new : LocalState _ = c.into_contents-held.new.self in let is = c.into_contents-held.ensures.freed in
     let freed : LocalModel g.row.T.Denot g.row.J.Denot = record { member = new; entries = c.self.inside.ledger.entries } in
     let tied : WordsMatchValues freed.member freed.entries
@@ -48,13 +52,15 @@ returns-clause-own g c =
 
 pub returns-clause-exact : goal.returns-clause-exact
 returns-clause-exact g c = λ exact.
-    let v : LocalModel g.row.T.Denot g.row.J.Denot = c.self.view_is 0 in let cell : ℕ = number_of c.args.right in let found : ℕ = c.into_contents-held.result.1 in
+    let v : LocalModel g.row.T.Denot g.row.J.Denot = c.self.view_is 0 in
+    let cell : ℕ = number_of c.args.right in let found : ℕ = c.into_contents-held.result.1 in
     let new : LocalState _ = c.into_contents-held.new.self in let is = c.into_contents-held.ensures.freed in
     let freed : LocalModel g.row.T.Denot g.row.J.Denot = record { member = new; entries = c.self.inside.ledger.entries } in
     let tied : WordsMatchValues freed.member freed.entries
     = λ one. tied_freed v cell found new is (c.self.invariant (sym (ap (λ (m : LocalState _). m.limits.participants) is.writes.member) ∙ one)) in
     let held = rw c.in-Some.is at c.into_contents-held.ensures.slots in
-    let lone : IsLone v.member = lone_is v.member (subst (λ (q : LocalModel g.row.T.Denot g.row.J.Denot). IsTrue (is_lone q.member)) (sym c.self.view_is) exact) in
+    let lone : IsLone v.member =
+    lone_is v.member (subst (λ (q : LocalModel g.row.T.Denot g.row.J.Denot). IsTrue (is_lone q.member)) (sym c.self.view_is) exact) in
     let t = c.self.invariant lone in let w : World g.row.T.Denot = world_of v in let k : ℕ = number_of c.in-Some.owner in
     let still : IsTrue (is_lone new) = lone_true new (ap (λ (m : LocalState _). m.limits.participants) is.writes.member ∙ lone) in
     let now : world_of freed ≡ without_cell w cell = world_freed v cell found new is t in

@@ -18,7 +18,8 @@ returns-clause-exact g c = λ exact.
     let found : ℕ = c.free_raw_cell.result in
     let new : LocalState _ = c.free_raw_cell.new.self in let is = c.free_raw_cell.ensures.freed in
     let none = c.free_raw_cell.ensures.bare in
-    let lone : IsLone v.member = lone_is v.member (subst (λ (q : LocalModel g.row.T.Denot g.row.J.Denot). IsTrue (is_lone q.member)) (sym c.self.view_is) exact) in
+    let lone : IsLone v.member =
+    lone_is v.member (subst (λ (q : LocalModel g.row.T.Denot g.row.J.Denot). IsTrue (is_lone q.member)) (sym c.self.view_is) exact) in
     let t = c.self.invariant lone in let w : World g.row.T.Denot = world_of v in
     world_freed v cell found new is t
     ∙ (sym (ap (spilled (without_cell w cell) v.member.place) (held_before v cell found 0 new is t lone ∙ ap (λ (xs : List ℕ). slice_get xs 0) none))

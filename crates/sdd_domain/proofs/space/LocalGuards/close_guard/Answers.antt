@@ -6,6 +6,7 @@ use Rattle.sdd_domain.specs.SpaceIds.{home_in}
 use Rattle.sdd_domain.specs.LocalState.{LocalState, IsLone}
 use Rattle.sdd_domain.specs.Local.{LocalModel, world_of}
 use Rattle.sdd_domain.specs.declared.local.Local.TheInside.{Inside}
+use Rattle.sdd_domain.specs.ScanAtClose.{TellsScan}
 use Rattle.sdd_domain.specs.Sound.{IsSound}
 use Rattle.sdd_domain.proofs.ClosedWorld.{world_closed}
 use Rattle.sdd_domain.proofs.Exact.{lone_is, keeps_closed, still_guarded}
@@ -33,3 +34,12 @@ returns-clause-keeps g c = λ opens. let v : LocalModel g.row.T.Denot g.row.J.De
     let e = c.close_guard-told.ensures.closed in let more = still_guarded v.member c.close_guard-told.new.self e opens in
     keeps_closed v c.close_guard-told.new.self (showing g.row.T) g.T.Item.holds c.args.self.now (inner ∙ c.self.view_is) _ _ e.member
     (e.seen more).0 (e.seen more).1
+
+pub returns-clause-says : goal.returns-clause-says
+returns-clause-says g c = let v : LocalModel g.row.T.Denot g.row.J.Denot = (c.self-inside.view_is 0).partner in
+    let inner : v ≡ c.self.inside.partner = ap (λ (i : Inside g.row.T.Denot g.row.J.Denot). i.partner) c.self-inside.view_is in
+    let told = c.close_guard-told.result in (
+      told,
+      subst (λ (q : LocalModel g.row.T.Denot g.row.J.Denot). TellsScan told q.member c.close_guard-told.new.self) (inner ∙ c.self.view_is)
+          c.close_guard-told.ensures.told,
+    )

@@ -1,4 +1,3 @@
-use Rattle.std.specs.Prelude.{MatchResult}
 use Rattle.std.proofs.Common.{◌≡◌, ◌<◌, ◌≤◌, rules, IsTrue, sym, ap, ◌∙◌, subst, ⊎_elim, arith}
 use Rattle.sdd_shared_values.specs.SharedValues.{showing}
 use Rattle.sdd_participants.specs.declared.participant.Participant.{Participant}
@@ -151,16 +150,15 @@ returns-clause-known g c = let v : LocalModel g.row.T.Denot g.row.J.Denot = (c.s
       ];
     }
 
-pub returns-then-is_guarded-clause-tally : goal.returns-then-is_guarded-clause-tally
-returns-then-is_guarded-clause-tally g c = let v : LocalModel g.row.T.Denot g.row.J.Denot = (c.self-inside.view_is 0).partner in
+pub returns-then-is_guarded-clause-says : goal.returns-then-is_guarded-clause-says
+returns-then-is_guarded-clause-says g c = let v : LocalModel g.row.T.Denot g.row.J.Denot = (c.self-inside.view_is 0).partner in
     let inner : v ≡ c.self.inside.partner = ap (λ (i : Inside g.row.T.Denot g.row.J.Denot). i.partner) c.self-inside.view_is in
     let some_open : HasOpenGuard v.member = search rules in
-    subst (λ (q : LocalModel g.row.T.Denot g.row.J.Denot). MatchResult c.nest.result (λ _. CountsReclaimed q.member c.nest.new.self)
-    (λ _. c.nest.new.self.tally ≡ q.member.tally)) (inner ∙ c.self.view_is)
+    subst (λ (q : LocalModel g.row.T.Denot g.row.J.Denot). CountsReclaimed q.member c.nest.new.self) (inner ∙ c.self.view_is)
     (nested_counts _ v.member c.nest.new.self c.nest.result c.nest.ensures some_open)
 
-pub returns-clause-tally : goal.returns-clause-tally
-returns-clause-tally g c = let v : LocalModel g.row.T.Denot g.row.J.Denot = (c.self-inside.view_is 0).partner in
+pub returns-clause-says : goal.returns-clause-says
+returns-clause-says g c = let v : LocalModel g.row.T.Denot g.row.J.Denot = (c.self-inside.view_is 0).partner in
     let inner : v ≡ c.self.inside.partner = ap (λ (i : Inside g.row.T.Denot g.row.J.Denot). i.partner) c.self-inside.view_is in
     let now = inner ∙ c.self.view_is in let n : LocalState _ = c.enter-guard.new.self in
     let e = c.enter-guard.ensures.entered in let shut : v.member.own.guards ≡ 0 = search rules in

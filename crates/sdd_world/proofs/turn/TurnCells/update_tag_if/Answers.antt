@@ -1,4 +1,4 @@
-use Rattle.std.proofs.Common.{refl, sym, ap, ◌∙◌, subst, Bool, Some, of_calls, ℕ}
+use Rattle.std.proofs.Common.{refl, sym, ap, ◌∙◌, subst, [], Bool, Some, of_calls, ℕ}
 use Rattle.sdd_rights.specs.Right.{number_of}
 use Rattle.sdd_space.specs.WorldChanges.{with_cell}
 use Rattle.sdd_participants.specs.declared.standing.CellContents.{CellContents}
@@ -32,3 +32,15 @@ returns-clause-exact g c = λ _.
             (ap (λ (x : WorldCore _ _). x.world) tagged ∙ ap (λ (x : CellContents). with_cell w n (record x { tag = c.args.tag })) (sym c.raw_ptr_to.ensures)),
       ),
     )
+
+pub returns-then-not-condition-clause-asked : goal.returns-then-not-condition-clause-asked
+returns-then-not-condition-clause-asked g c =
+    let met : g.F.FnMut.post c.args.condition (c.raw_ptr_to.result, tt) c.condition.result = search of_calls in
+    (c.raw_ptr_to.result, ([], c.args.condition, refl,
+    subst (λ (b : Bool). g.F.FnMut.post c.args.condition (c.raw_ptr_to.result, tt) b) c.if-not-condition.true met))
+
+pub returns-clause-asked : goal.returns-clause-asked
+returns-clause-asked g c =
+    let met : g.F.FnMut.post c.args.condition (c.raw_ptr_to.result, tt) c.condition.result = search of_calls in
+    (c.raw_ptr_to.result, ([], c.args.condition, refl,
+    subst (λ (b : Bool). g.F.FnMut.post c.args.condition (c.raw_ptr_to.result, tt) b) c.if-not-condition.false met))

@@ -1,4 +1,4 @@
-use Rattle.std.proofs.Common.{refl, sym, ap, ◌∙◌, subst, Option, Some, of_calls, ℕ}
+use Rattle.std.proofs.Common.{refl, sym, ap, ◌∙◌, subst, [], Option, Some, of_calls, ℕ}
 use Rattle.sdd_rights.specs.Right.{raw_number_of}
 use Rattle.sdd_participants.specs.declared.standing.RawCellContents.{RawCellContents}
 use Rattle.sdd_space.specs.declared.raw_ptr.RawPtr.{RawPtr}
@@ -21,3 +21,9 @@ returns-clause-exact g c = λ _.
             (ap (λ (x : WorldCore _ _). x.world) c.point.ensures.pointed ∙ ap (λ (p : RawCellContents). with_pointer w n p) c.pointer_of_raw.ensures),
       ),
     )
+
+pub returns-clause-asked : goal.returns-clause-asked
+returns-clause-asked g c =
+    let was = c.raw_ptr_of-was.result in
+    let met : g.F.FnMut.post c.args.f (was, tt) c.f.result = search of_calls in
+    (c.in-Some.next, ([], c.args.f, refl, subst (λ (o : Option (RawPtr _)). g.F.FnMut.post c.args.f (was, tt) o) c.in-Some.is met))

@@ -1,4 +1,4 @@
-use Rattle.std.proofs.Common.{◌≡◌, refl, sym, ap, ◌∙◌, subst, Bool, Some, of_calls, ℕ}
+use Rattle.std.proofs.Common.{◌≡◌, refl, sym, ap, ◌∙◌, subst, [], Bool, Some, of_calls, ℕ}
 use Rattle.sdd_rights.specs.Right.{raw_number_of}
 use Rattle.sdd_participants.specs.declared.standing.RawCellContents.{RawCellContents}
 use Rattle.sdd_space.specs.RawPtr.{pointer_of}
@@ -36,3 +36,15 @@ returns-clause-exact g c = λ _.
             ∙ ap (λ (p : RawCellContents). with_pointer w n p) (c.pointer_of_raw.ensures ∙ tagged)),
       ),
     )
+
+pub returns-then-not-condition-clause-asked : goal.returns-then-not-condition-clause-asked
+returns-then-not-condition-clause-asked g c =
+    let ptr = c.raw_ptr_of-ptr.result in
+    let met : g.F.FnMut.post c.args.condition (ptr, tt) c.condition.result = search of_calls in
+    (ptr, ([], c.args.condition, refl, subst (λ (b : Bool). g.F.FnMut.post c.args.condition (ptr, tt) b) c.if-not-condition.true met))
+
+pub returns-clause-asked : goal.returns-clause-asked
+returns-clause-asked g c =
+    let ptr = c.raw_ptr_of-ptr.result in
+    let met : g.F.FnMut.post c.args.condition (ptr, tt) c.condition.result = search of_calls in
+    (ptr, ([], c.args.condition, refl, subst (λ (b : Bool). g.F.FnMut.post c.args.condition (ptr, tt) b) c.if-not-condition.false met))

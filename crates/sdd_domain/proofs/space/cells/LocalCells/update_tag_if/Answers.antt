@@ -29,4 +29,4 @@ returns-clause-exact g c = λ exact. let v : LocalModel g.row.T.Denot g.row.J.De
     let did = c.update_tag_if in
     retags_exact v did.new.self (number_of c.args.cell.now) c.args.tag
     (λ (ptr : RawPtr g.row.T.Denot) (changed : Bool). g.F.FnMut.post c.args.condition (ptr, tt) changed)
-    did.result did.ensures.changed did.ensures.asked c.self-inside.invariant c.args.self.now (inner ∙ c.self.view_is) exact
+    did.result did.ensures.changed did.ensures.once c.self-inside.invariant c.args.self.now (inner ∙ c.self.view_is) exact

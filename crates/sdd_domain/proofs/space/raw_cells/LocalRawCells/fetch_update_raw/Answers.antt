@@ -33,5 +33,5 @@ returns-clause-exact g c = λ exact. let v : LocalModel g.row.T.Denot g.row.J.De
     let inner : v ≡ c.self.inside.partner = ap (λ (i : Inside g.row.T.Denot g.row.J.Denot). i.partner) c.self-inside.view_is in
     let cell = raw_number_of c.args.cell.now in
     updated_exact v c.fetch_update_raw.new.self cell (λ ptr next. g.F.FnMut.post c.args.f (ptr, tt) next) c.fetch_update_raw.result
-    c.fetch_update_raw.ensures.updated c.fetch_update_raw.ensures.asked
+    c.fetch_update_raw.ensures.updated c.fetch_update_raw.ensures.once
     c.self-inside.invariant c.args.self.now (inner ∙ c.self.view_is) exact

@@ -35,5 +35,5 @@ returns-clause-exact g c = λ exact. let v : LocalModel g.row.T.Denot g.row.J.De
     let inner : v ≡ c.self.inside.partner = ap (λ (i : Inside g.row.T.Denot g.row.J.Denot). i.partner) c.self-inside.view_is in
     let cell = raw_number_of c.args.cell.now in
     retagged_exact v c.update_raw_tag_if.new.self cell c.args.tag (λ ptr changed. g.F.FnMut.post c.args.condition (ptr, tt) changed)
-    c.update_raw_tag_if.result c.update_raw_tag_if.ensures.changed c.update_raw_tag_if.ensures.asked
+    c.update_raw_tag_if.result c.update_raw_tag_if.ensures.changed c.update_raw_tag_if.ensures.once
     c.self-inside.invariant c.args.self.now (inner ∙ c.self.view_is) exact
