@@ -31,8 +31,7 @@ use Rattle.sdd_space.proofs.Whole.{one_where}
 use Rattle.sdd_world.specs.Closing.{AllGo, cell_held, held_by}
 use Rattle.sdd_world.proofs.AllGo.{all-go}
 use Rattle.sdd_world.proofs.Sweeping.{all-uncounted}
-use Rattle.sdd_script_model.specs.declared.val.Val.{Val, out-Val}
-use Rattle.sdd_script_model.specs.Val.{body_of, owner_in, link_of, holdings_of}
+use Rattle.sdd_script_model.specs.Val.{Val, body_of, owner_in, link_of, link_holding, holdings_of}
 use Rattle.sdd_script_model.specs.ScriptState.{ScriptState, OpenSince, holding_at, opening_at, place_in, slot_at, slot_of, cell_of, collector_of, name_at, in_world, without_owner}
 use Rattle.sdd_script_model.specs.Sound.{IsSound, SlotsHaveNames, NamesAreAtHome, has_right, is_of, named, named_owners, owns}
 use Rattle.sdd_script_model.specs.Script.{Acts, HasOpen, Meets}
@@ -260,7 +259,7 @@ none-raw d s w was none k raw =
 -- the link of a value is the last thing that it holds
 link-held : (v : Val) → cell_held (slice_get (holdings_of v) (length (owner_in (body_of v)))) ≡ Some (link_of v)
 link-held v = by (owner_in (body_of v)) where
-  by : (hs : List OwnerOrCell) → cell_held (slice_get (hs ++ owned.cell_holding (out-Val v).link ∷ []) (length hs)) ≡ Some (link_of v)
+  by : (hs : List OwnerOrCell) → cell_held (slice_get (hs ++ link_holding v ∷ []) (length hs)) ≡ Some (link_of v)
   by [] = refl
   by (h ∷ hs) = by hs
 

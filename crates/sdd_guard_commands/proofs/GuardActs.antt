@@ -31,11 +31,10 @@ use Rattle.sdd_script_text.specs.declared.name.JobName.{JobName}
 use Rattle.sdd_script_text.specs.declared.call.Call.TheVariants.{Register, At}
 use Rattle.sdd_script_text.specs.declared.call.Action.TheVariants as call
 use Rattle.sdd_script_text.specs.declared.answer.Reply.TheVariants as reply
-use Rattle.sdd_script_model.specs.declared.val.Val.{Val}
 use Rattle.sdd_script_names.specs.declared.participants.NamedParticipant.{NamedParticipant}
 use Rattle.sdd_script_names.specs.declared.participants.NamedGuard.{NamedGuard}
 use Rattle.sdd_script_names.specs.declared.interpreter.Environment.{Environment}
-use Rattle.sdd_script_model.specs.Val.{holdings_of}
+use Rattle.sdd_script_model.specs.Val.{Val, holdings_of}
 use Rattle.sdd_script_model.specs.ScriptState.{ScriptState, OpenSince, BeginsLine, IsThere, WaitsAt, with_guard, opening_at, place_of, slot_at, in_world, with_newcomer, without_participant, without_guard}
 use Rattle.sdd_script_model.specs.Script.{Acts, Answers, HasOpen, IsParticipant}
 use Rattle.sdd_script_model.specs.Script.AreCalls.{none as no_call, one_more}

@@ -24,7 +24,7 @@ use Rattle.sdd_script_text.specs.declared.name.ItemName.{ItemName}
 use Rattle.sdd_script_text.specs.declared.call.Call.TheVariants.{At}
 use Rattle.sdd_script_text.specs.declared.call.Action.TheVariants as call
 use Rattle.sdd_script_text.specs.declared.answer.Reply.TheVariants as reply
-use Rattle.sdd_script_model.specs.declared.val.Val.{Val}
+use Rattle.sdd_script_model.specs.Val.{Val}
 use Rattle.sdd_script_model.specs.declared.owner_kind.OwnerKind.{OwnerKind}
 use Rattle.sdd_script_model.specs.declared.owner_kind.OwnerKind.TheVariants as ownership
 use Rattle.sdd_space_commands.specs.declared.holding.AnyOwner.{AnyOwner}
@@ -215,7 +215,7 @@ module _ (h : Environment) (t : IsTied h) where
       acts-tagged tag was cell true w holds decides world =
           let own = is-cell c.0 x cell mine holds in
           leads h t (At name (call.TagIf c tag was)) (reply.Truth true) refl (ap (in_world d) world)
-          (tagged-leaves d t.sound whole p c.0 k cell live own tag) ((here, known), (k, cell, own, decides, refl))
+          (tagged-leaves d t.sound whole p k cell live own.holds tag) ((here, known), (k, cell, own, decides, refl))
       acts-tagged tag was cell false w holds decides world =
           let own = is-cell c.0 x cell mine holds in
           does d (At name (call.TagIf c tag was)) (reply.Truth false) (goes (ap (in_world d) world) t.sound t.guards)

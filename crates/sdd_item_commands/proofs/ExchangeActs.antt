@@ -32,7 +32,7 @@ use Rattle.sdd_script_text.specs.declared.call.Call.TheVariants.{At}
 use Rattle.sdd_script_text.specs.declared.answer.Reply.{Reply}
 use Rattle.sdd_script_text.specs.declared.call.Action.TheVariants as call
 use Rattle.sdd_script_text.specs.declared.answer.Reply.TheVariants as reply
-use Rattle.sdd_script_model.specs.declared.val.Val.{Val}
+use Rattle.sdd_script_model.specs.Val.{Val}
 use Rattle.sdd_space_commands.specs.declared.holding.AnyOwner.{AnyOwner}
 use Rattle.sdd_space_commands.specs.declared.holding.AnyOwner.TheVariants.{Share}
 use Rattle.sdd_script_model.specs.declared.owner_kind.OwnerKind.{OwnerKind}

@@ -6,3 +6,4 @@ pub mod RawActs
 pub mod CollectorActs
 pub mod CellActs
 pub mod ExchangeActs
+pub mod LinkActs

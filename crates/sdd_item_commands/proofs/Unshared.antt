@@ -15,7 +15,7 @@ use Rattle.sdd_script_text.specs.declared.name.ItemName.{ItemName}
 use Rattle.sdd_script_text.specs.declared.call.Call.TheVariants.{At}
 use Rattle.sdd_script_text.specs.declared.call.Action.TheVariants as call
 use Rattle.sdd_script_text.specs.declared.answer.Reply.TheVariants as reply
-use Rattle.sdd_script_model.specs.declared.val.Val.{Val}
+use Rattle.sdd_script_model.specs.Val.{Val}
 use Rattle.sdd_space_commands.specs.declared.holding.AnyOwner.TheVariants.{Share}
 use Rattle.sdd_script_names.specs.declared.interpreter.Environment.{Environment}
 use Rattle.sdd_script_names.specs.declared.participants.NamedParticipant.{NamedParticipant}

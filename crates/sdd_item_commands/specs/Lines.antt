@@ -5,6 +5,9 @@ use Rattle.sdd_script_text.specs.declared.call.Value.{Value}
 use Rattle.sdd_script_text.specs.declared.call.Action.{Action}
 use Rattle.sdd_script_text.specs.declared.call.Action.TheVariants as call
 use Rattle.sdd_script_text.specs.declared.name.OwnerName.{OwnerName}
+use Rattle.sdd_script_text.specs.declared.name.ItemName.{ItemName}
+use Rattle.sdd_script_model.specs.declared.link_change.LinkChange.{LinkChange}
+use Rattle.sdd_script_model.specs.declared.link_change.LinkChange.TheVariants as change
 use Rattle.std.specs.Prelude.{Option}
 
 -- an action on an item or an owner
@@ -53,6 +56,20 @@ IsHeldAct (call.Into cell) = Unit {0}
 IsHeldAct (call.Copy cell guard) = Unit {0}
 IsHeldAct (call.Share cell guard) = Unit {0}
 IsHeldAct other = ⊥
+
+-- an action on the link of an entry
+abbrev pub IsLinkAct : Action → Type 0
+IsLinkAct (call.Mark item) = Unit {0}
+IsLinkAct (call.Unmark item) = Unit {0}
+IsLinkAct (call.Delete item) = Unit {0}
+IsLinkAct (call.LinkTag item) = Unit {0}
+IsLinkAct other = ⊥
+
+-- the line that changes a link so
+abbrev pub changing : LinkChange → ItemName → Action
+changing change.Mark item = call.Mark item
+changing change.Unmark item = call.Unmark item
+changing change.Delete item = call.Delete item
 
 -- the line that makes a cell that holds owners of this kind
 abbrev pub making_cell : OwnerKind → Option OwnerName → Action

@@ -1,5 +1,5 @@
 //! What participants of a script do with items and their owners, with items in their place and out as raw, with cells and
-//! the owners that they hold, and with collectors.
+//! the owners that they hold, with the links of entries, and with collectors.
 #![tactic(auto)]
 
 pub mod cells;
@@ -7,7 +7,8 @@ pub mod collectors;
 pub mod exchanges;
 pub mod items;
 mod line;
+pub mod links;
 pub mod owners;
 pub mod raw;
 
-pub use line::{act_on_cell, act_on_held, act_on_item, act_on_raw};
+pub use line::{act_on_cell, act_on_held, act_on_item, act_on_link, act_on_raw};

@@ -1,11 +1,11 @@
 //! The actions of this crate, and what each answers.
 ghost use Rattle.std.specs.Prelude.{◌≡◌, MatchOption, MatchResult};
 ghost use Rattle.sdd_script_model.specs.Script.{Acts};
-ghost use Rattle.sdd_item_commands.specs.Lines.{IsItemAct, IsRawAct, IsCellAct, IsHeldAct};
+ghost use Rattle.sdd_item_commands.specs.Lines.{IsItemAct, IsRawAct, IsCellAct, IsHeldAct, IsLinkAct};
 
-use crate::{cells, collectors, exchanges, items, owners, raw};
+use crate::{cells, collectors, exchanges, items, links, owners, raw};
 use sdd_core::Refused;
-use sdd_script_model::OwnerKind;
+use sdd_script_model::{LinkChange, OwnerKind};
 use sdd_script_names::Interpreter;
 use sdd_script_text::{Action, Call, PlaceName, Reply};
 
@@ -101,4 +101,18 @@ pub fn act_on_held(
         Action::Share(cell, guard) => exchanges::share(stage, name, cell, guard)?,
         _ => return Ok(None),
     }))
+}
+
+/// An action on the link of an entry. None where the action is another.
+pub fn act_on_link(stage: &mut Interpreter, name: PlaceName, action: Action) -> Option<Reply>
+    ensures acts { MatchOption result (¬ (IsLinkAct action) × (stage.new ≡ stage.old))
+        (λ reply. IsLinkAct action × Acts stage.old (Call.At name action) reply stage.new) }
+{
+    Some(match action {
+        Action::Mark(item) => links::change_link(stage, name, item, LinkChange::Mark),
+        Action::Unmark(item) => links::change_link(stage, name, item, LinkChange::Unmark),
+        Action::Delete(item) => links::change_link(stage, name, item, LinkChange::Delete),
+        Action::LinkTag(item) => links::link_tag(stage, name, item),
+        _ => return None,
+    })
 }

@@ -16,7 +16,7 @@ use std::{fs, io};
 use verdict::Verdict;
 
 /// The folders of examples.
-const GROUPS: [&str; 12] = [
+const GROUPS: [&str; 13] = [
     // items that several own
     "shared_owners",
     // cells, of either kind
@@ -31,6 +31,8 @@ const GROUPS: [&str; 12] = [
     "deferred_jobs",
     // collectors: what waits for one, and its close
     "private_collectors",
+    // the tags of entries' links
+    "links",
     // what a value held goes three changes after it, and is named then
     "nested_values",
     // participants end

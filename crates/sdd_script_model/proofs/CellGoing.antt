@@ -16,7 +16,7 @@ use Rattle.sdd_space.specs.WorldInvariant.{IsWhole}
 use Rattle.sdd_space.specs.World.{World, IsPlaceOf, standing_at}
 use Rattle.sdd_space.proofs.Standings.{out-some, out-waits-not}
 use Rattle.sdd_script_text.specs.declared.name.OwnerName.{OwnerName}
-use Rattle.sdd_script_model.specs.declared.val.Val.{Val}
+use Rattle.sdd_script_model.specs.Val.{Val}
 use Rattle.sdd_script_model.specs.ScriptState.{ScriptState, IsDated, holding_at, cell_of, slot_of, sole_slot, shared_slot, in_world}
 use Rattle.sdd_script_model.specs.Script.{FitsSole, FitsShared, FitsCell, MayShare, shared_once_more, slot_put, owners_put, owners_taken, cell_as, owner_as}
 use Rattle.sdd_script_model.specs.Shown.{IsCell}
@@ -156,6 +156,17 @@ module _ (d : ScriptState) (s : IsSound d) where
           (put-home d x s.home.owners, at_home-given d.world.home d.cells (cell_as like c d) (cell_as-home like c d) s.home.cells, s.home.collectors)
           (dated-same d after_celled refl refl) p live
 
+    -- ---- the tag of a cell changes alone: what it holds goes out, and in again
+    module _ (p c : ℕ) (cell : CellContents) (live : IsPlaceOf d.world p) (holds : entry_at d.world.cells c ≡ Some cell) (tag : Tag) where
+      abbrev pub after_tagged : ScriptState
+      after_tagged = in_world d (with_cell d.world c (record cell { tag = tag }))
+
+      pub tagged-leaves : LeavesSound d after_tagged
+      tagged-leaves =
+          finishes d after_tagged.world d.owners d.cells d.collectors d.dates s
+          (retags (starts d s whole) c cell (record cell { tag = tag }) holds refl)
+          (λ u. refl) (s.home.owners, s.home.cells, s.home.collectors) (dated-same d after_tagged refl refl) p live
+
     -- ---- a cell with a name
     module _ (p n c : ℕ) (cell : CellContents) (live : IsPlaceOf d.world p) (is : IsCell d n c cell) where
       -- what it stands for
@@ -191,17 +202,6 @@ module _ (d : ScriptState) (s : IsSound d) where
             (taken-given d d.cells d.collectors left (holding_at d.cells n) cell.held)
             (taken-home d left (holding_at d.cells n) cell.held (put-home d x s.home.owners), s.home.cells, s.home.collectors)
             (dated-same d after_swapped refl refl) p live
-
-      -- its tag changes alone: what it holds goes out, and in again
-      module _ (tag : Tag) where
-        abbrev pub after_tagged : ScriptState
-        after_tagged = in_world d (with_cell d.world c (record cell { tag = tag }))
-
-        pub tagged-leaves : LeavesSound d after_tagged
-        tagged-leaves =
-            finishes d after_tagged.world d.owners d.cells d.collectors d.dates s
-            (retags (starts d s whole) c cell (record cell { tag = tag }) is.holds refl)
-            (λ u. refl) (s.home.owners, s.home.cells, s.home.collectors) (dated-same d after_tagged refl refl) p live
 
       -- it is spent, and what it held has a name
       abbrev pub after_taken : ScriptState

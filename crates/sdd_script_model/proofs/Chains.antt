@@ -14,8 +14,7 @@ use Rattle.sdd_space.proofs.Accounts.{accounted-with_cell, accounted-with_value}
 use Rattle.sdd_space.proofs.Ledger.{ledger-laws}
 use Rattle.sdd_space.proofs.Rights.{held-cell_changed, held-with_value}
 use Rattle.sdd_space.proofs.Whole.{one_where}
-use Rattle.sdd_script_model.specs.declared.val.Val.{Val}
-use Rattle.sdd_script_model.specs.Val.{body_of, holdings_of, link_of, owner_in}
+use Rattle.sdd_script_model.specs.Val.{Val, body_of, holdings_of, link_of, owner_in}
 use Rattle.sdd_script_model.specs.ScriptState.{ScriptState, IsDated, holding_at}
 use Rattle.sdd_script_model.specs.Script.{AreCalls}
 use Rattle.sdd_script_model.specs.Sound.{IsSound, HoldsOnlyOlder, LinksAreBare, NamesAreAtHome, SlotsHaveNames, named, named_among}

@@ -19,7 +19,7 @@ use Rattle.sdd_space.specs.WorldChanges.{nulled, pointing, retired, with_standin
 use Rattle.sdd_space.specs.WorldInvariant.{IsWhole}
 use Rattle.sdd_space.specs.World.{World, IsPlaceOf, standing_at}
 use Rattle.sdd_space.proofs.Standings.{out-inside, out-waits-not}
-use Rattle.sdd_script_model.specs.declared.val.Val.{Val}
+use Rattle.sdd_script_model.specs.Val.{Val}
 use Rattle.sdd_script_model.specs.ScriptState.{ScriptState, IsDated, holding_at, shared_slot, slot_of, in_world, with_collector, without_owner}
 use Rattle.sdd_script_text.specs.declared.answer.Reply.{Reply}
 use Rattle.sdd_script_text.specs.declared.answer.Reply.TheVariants as reply

@@ -23,8 +23,7 @@ use Rattle.sdd_script_text.specs.declared.call.Action.TheVariants as call
 use Rattle.sdd_script_text.specs.declared.call.Call.TheVariants.{At}
 use Rattle.sdd_script_text.specs.declared.answer.Reply.TheVariants as reply
 use Rattle.sdd_script_model.specs.Held.{owners_in, slots_among, waits_among}
-use Rattle.sdd_script_model.specs.declared.val.Val.{Val}
-use Rattle.sdd_script_model.specs.Val.{holdings_of, link_of}
+use Rattle.sdd_script_model.specs.Val.{Val, holdings_of, link_of}
 use Rattle.sdd_script_model.specs.ScriptState.{ScriptState, OpenSince, IsDated, date_at, holding_at, collector_of, in_world, opening_at, slot_at, without_collector}
 use Rattle.sdd_script_model.specs.Script.{NamesWhatGoes, NamesWhatRuns}
 use Rattle.sdd_script_model.specs.Shown.{item_in}

@@ -29,10 +29,9 @@ use Rattle.sdd_space.proofs.Own.{Gives-collector_closed}
 use Rattle.sdd_space.proofs.Safe.{safe-call}
 use Rattle.sdd_space.proofs.Sheds.{sheds-owner_given, sheds-cell_closed, sheds-dropped, sheds-collector_closed}
 use Rattle.sdd_space.proofs.Standings.{out-some, alone-out}
-use Rattle.sdd_script_model.specs.declared.val.Val.{Val}
 use Rattle.sdd_script_model.specs.Script.{AreCalls}
 use Rattle.sdd_script_model.specs.Script.AreCalls.{none as no_call, one_more}
-use Rattle.sdd_script_model.specs.Val.{holdings_of, body_of, link_of, owner_in}
+use Rattle.sdd_script_model.specs.Val.{Val, holdings_of, body_of, link_of, owner_in}
 use Rattle.sdd_script_model.proofs.Attending.{KeepsGuards, keeps-time, keeps-place, keeps-gives, keeps-retired, keeps-owner_given, keeps-cell_closed, keeps-dropped, keeps-stirred, keeps-accelerated}
 use Rattle.sdd_script_model.proofs.Dates.{begins-out}
 use Rattle.sdd_script_model.proofs.Deferred.{jobs-given, jobs-closed, jobs-given_all}

@@ -32,10 +32,9 @@ use Rattle.sdd_script_text.specs.declared.name.ItemName.{ItemName}
 use Rattle.sdd_script_text.specs.declared.name.JobName.{JobName}
 use Rattle.sdd_script_text.specs.declared.call.Value.{Value}
 use Rattle.sdd_script_text.specs.declared.call.Value.TheVariants.{Number, Of}
-use Rattle.sdd_script_model.specs.declared.val.Val.{Val}
 use Rattle.sdd_script_model.specs.declared.owner_kind.OwnerKind.{OwnerKind}
 use Rattle.sdd_script_model.specs.declared.owner_kind.OwnerKind.TheVariants as ownership
-use Rattle.sdd_script_model.specs.Val.{holdings_of, body_of, link_of}
+use Rattle.sdd_script_model.specs.Val.{Val, holdings_of, body_of, link_of}
 use Rattle.sdd_script_model.specs.ScriptState.{ScriptState, OpenSince, BeginsLine, IsDated, IsStart, IsThere, WaitsAt, date_at, job_date_at, opening_at, holding_at, slot_at, slot_of, sole_slot, shared_slot, in_world, with_guard, with_newcomer, without_participant, without_guard, with_owner, without_owner, with_item, with_job, later}
 use Rattle.sdd_script_model.specs.Script.AreCalls.{none as no_call, one_more}
 use Rattle.sdd_script_model.specs.Made.{IsPutIn, owners_left, put_in}

@@ -15,8 +15,7 @@ use Rattle.sdd_space.specs.WorldInvariant.{IsWhole}
 use Rattle.sdd_space.specs.WorldStep.{WorldStep}
 use Rattle.sdd_space.specs.WorldStep.WorldStep.{defers}
 use Rattle.sdd_space.proofs.UnderJobs.{keeps-jobs-under-guards}
-use Rattle.sdd_script_model.specs.declared.val.Val.{Val}
-use Rattle.sdd_script_model.specs.Val.{holdings_of}
+use Rattle.sdd_script_model.specs.Val.{Val, holdings_of}
 use Rattle.sdd_script_model.specs.ScriptState as desk
 use Rattle.sdd_script_model.specs.ScriptState.{ScriptState, OpenSince, BeginsLine, IsDated, IsStart, job_date_at, later, opening_at}
 use Rattle.sdd_script_model.specs.Sound.{JobsHaveDates, KeepsRecentItems, ParticipantsMatch, WasDeferredUnder}

@@ -10,8 +10,7 @@ use Rattle.sdd_space.specs.World.{standing_at, value_at}
 use Rattle.sdd_space.specs.OwnerCounts.{times_held, is_owner_of}
 use Rattle.sdd_space.specs.WorldChanges.{made_as, nulled}
 use Rattle.sdd_space.proofs.Accounts.{outside-out, in_value-out}
-use Rattle.sdd_script_model.specs.declared.val.Val.{Val}
-use Rattle.sdd_script_model.specs.Val.{body_of, holdings_of}
+use Rattle.sdd_script_model.specs.Val.{Val, body_of, holdings_of}
 use Rattle.sdd_script_model.specs.ScriptState.{ScriptState, name_at}
 use Rattle.sdd_script_model.specs.Sound.{HoldsOnlyOlder, SlotsHaveNames, named_owners}
 use Rattle.sdd_script_model.proofs.Counting.{AreCounted, times_in, times-held, out-there}

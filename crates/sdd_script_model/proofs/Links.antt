@@ -12,7 +12,7 @@ use Rattle.sdd_participants.specs.declared.standing.Standing.{Standing}
 use Rattle.sdd_space.specs.Owned as owned
 use Rattle.sdd_space.specs.Shared as shared
 use Rattle.sdd_space.specs.Ledger.{Claim, owner_of, right_to, is_right_to, claims, one}
-use Rattle.sdd_space.specs.OwnerOrCell.{atomic_owned}
+use Rattle.sdd_space.specs.OwnerOrCell.{atomic_shared}
 use Rattle.sdd_space.specs.OwnerCounts.{is_owner_of}
 use Rattle.sdd_space.specs.World.{World, standing_at, value_at}
 use Rattle.sdd_space.specs.WorldChanges.{held_in, owner_given, cell_closed, spilled, given_all, waiting_value}
@@ -21,9 +21,8 @@ use Rattle.sdd_space.proofs.Rights.{given-same, once-where}
 use Rattle.sdd_space.proofs.Sheds.{Sheds}
 use Rattle.sdd_space.proofs.Whole.{one_where}
 use Rattle.sdd_script_model.specs.declared.val.Body.{Body}
+use Rattle.sdd_script_model.specs.Val.{Val, holdings_of, link_holding, body_of, link_of, owner_in}
 use Rattle.sdd_script_model.specs.declared.val.Body.TheVariants.{Number, Owned, Shared}
-use Rattle.sdd_script_model.specs.declared.val.Val.{Val, out-Val}
-use Rattle.sdd_script_model.specs.Val.{holdings_of, body_of, link_of, owner_in}
 use Rattle.sdd_script_model.specs.Sound.{LinksAreBare}
 use Rattle.sdd_script_model.proofs.Entry.{at-same, at-other, inside, set-either}
 
@@ -67,9 +66,9 @@ null = record { held = None; tag = no_tag }
 
 -- a value holds its owner, and the right to its link
 pub holds-so : (v : Val) (u : Claim) → claims (holdings_of v) u ≡ claims (owner_in (body_of v)) u + one (right_to (link_of v)) u
-holds-so v (owner_of k) = sum_by_push (λ h. one_where (is_owner_of k h)) (owner_in (body_of v)) (owned.cell_holding (out-Val v).link) ∙ omega arith
+holds-so v (owner_of k) = sum_by_push (λ h. one_where (is_owner_of k h)) (owner_in (body_of v)) (link_holding v) ∙ omega arith
 holds-so v (right_to c) =
-    sum_by_push (λ h. one_where (is_right_to c h)) (owner_in (body_of v)) (owned.cell_holding (out-Val v).link)
+    sum_by_push (λ h. one_where (is_right_to c h)) (owner_in (body_of v)) (link_holding v)
     ∙ omega (arith, once-where (link_of v == c))
 
 pub same-once : (c : ℕ) → once_if (c == c) ≡ 1
@@ -103,8 +102,8 @@ pub closed-bare : {T : Type 0} (w : World T) (p c : ℕ) → held_in (entry_at w
 closed-bare w p c none = ap (spilled (record w { cells = without_entry w.cells c }) p) none
 
 -- p is given the owner that a body is, if it is one, and then a cell that holds nothing
-pub body-given : (w : World Val) (p c : ℕ) (home : GhostName) (b : Body Val) → held_in (entry_at w.cells c) ≡ None →
-    (let u = given_all w p (owner_in b ++ atomic_owned c home ∷ []) in (u.values ≡ w.values) × (u.cells ≡ without_entry w.cells c))
+pub body-given : (w : World Val) (p c : ℕ) (home : GhostName) (b : Body) → held_in (entry_at w.cells c) ≡ None →
+    (let u = given_all w p (owner_in b ++ atomic_shared c home ∷ []) in (u.values ≡ w.values) × (u.cells ≡ without_entry w.cells c))
 body-given w p c home b none = by b where
   closes : (u : World Val) → u.values ≡ w.values → u.cells ≡ w.cells →
       ((cell_closed u p c).values ≡ w.values) × ((cell_closed u p c).cells ≡ without_entry w.cells c)
@@ -112,7 +111,7 @@ body-given w p c home b none = by b where
       let bare : held_in (entry_at u.cells c) ≡ None = rw cells none in
       rw (closed-bare u p c bare) (values, ap (λ cs. without_entry cs c) cells)
 
-  by : (b : Body Val) → (let u = given_all w p (owner_in b ++ atomic_owned c home ∷ []) in (u.values ≡ w.values) × (u.cells ≡ without_entry w.cells c))
+  by : (b : Body) → (let u = given_all w p (owner_in b ++ atomic_shared c home ∷ []) in (u.values ≡ w.values) × (u.cells ≡ without_entry w.cells c))
   by (Number n) = closes w refl refl
   by (Owned o) =
       let g = given-same w p (owned.slot_of o) (standing_at w (owned.slot_of o)) refl in

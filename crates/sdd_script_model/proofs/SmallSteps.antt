@@ -14,8 +14,7 @@ use Rattle.sdd_space.specs.World.{World, place_at, standing_at}
 use Rattle.sdd_space.specs.WorldChanges.{ran, retired, owner_given, with_standing, cell_closed, freed, given_all, taken_out, waiting_value, reclaimed, all_reclaimed, changed, caught_up, opened}
 use Rattle.sdd_space.specs.WorldChanges as steps
 use Rattle.sdd_space.proofs.Opening.{keeps-owner_given, keeps-cell_closed, keeps-given_all}
-use Rattle.sdd_script_model.specs.declared.val.Val.{Val}
-use Rattle.sdd_script_model.specs.Val.{holdings_of}
+use Rattle.sdd_script_model.specs.Val.{Val, holdings_of}
 
 -- What is kept by each of the small steps of which an opening consists is kept by the opening.
 module _ (P : World Val → Type 0)

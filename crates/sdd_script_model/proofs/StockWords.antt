@@ -16,5 +16,4 @@ pub use Rattle.sdd_space.specs.WorldChanges.{held_in, reclaims}
 pub use Rattle.sdd_space.specs.WorldInvariant.{IsWhole, is_of_slot, once_if}
 pub use Rattle.sdd_space.specs.World.{World, place_at, standing_at, value_at}
 pub use Rattle.sdd_space.proofs.Whole.{one_where, times_among, count-cons, some-waits, filled-there}
-pub use Rattle.sdd_script_model.specs.declared.val.Val.{Val}
-pub use Rattle.sdd_script_model.specs.Val.{holdings_of, body_of, link_of}
+pub use Rattle.sdd_script_model.specs.Val.{Val, holdings_of, body_of, link_of}

@@ -15,8 +15,7 @@ pub use Rattle.sdd_space.specs.World.{World, IsPlaceOf, place_at, standing_at}
 pub use Rattle.sdd_space.specs.WorldChanges.{retired, owner_given, cell_closed, opened, reclaims}
 pub use Rattle.sdd_space.specs.WorldInvariant.{IsWhole}
 pub use Rattle.sdd_space.specs.Out.{is_out}
-pub use Rattle.sdd_script_model.specs.declared.val.Val.{Val}
-pub use Rattle.sdd_script_model.specs.Val.{holdings_of}
+pub use Rattle.sdd_script_model.specs.Val.{Val, holdings_of}
 pub use Rattle.sdd_script_model.specs.ScriptState.{ScriptState, OpenSince, IsDated, opening_at, date_at, later}
 pub use Rattle.sdd_script_model.specs.Sound.{ParticipantsMatch, KeepsRecentItems, is_of}
 pub use Rattle.sdd_script_model.proofs.Entry.{at-same, at-other, at-pushed, at-end, at-default, as-each, inside}

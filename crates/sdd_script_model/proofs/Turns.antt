@@ -22,6 +22,9 @@ use Rattle.sdd_script_text.specs.declared.answer.Reply.TheVariants as reply
 use Rattle.sdd_script_model.specs.Collecting.{Collects}
 use Rattle.sdd_script_model.specs.Due.{caller, is_opening, is_close, is_end, is_waiting_in}
 use Rattle.sdd_script_model.specs.InPlace.{Drops}
+use Rattle.sdd_script_model.specs.declared.link_change.LinkChange.{LinkChange}
+use Rattle.sdd_script_model.specs.declared.link_change.LinkChange.TheVariants as change
+use Rattle.sdd_script_model.specs.Link.{Retags, tag_after}
 use Rattle.sdd_script_model.specs.Script.{AddsOwner, Does, GivesOwner, IsParticipant, IsValid, MakesCell, Meets, cell_as, shared_once_more}
 use Rattle.sdd_script_model.specs.ScriptState as desk
 use Rattle.sdd_script_model.specs.ScriptState.{place_of, place_in}
@@ -82,6 +85,10 @@ still-shared w (Some k) owners = refl
 still-if : (b : Bool) (w : World Val) (k : ℕ) (cell : CellContents) → (if b then steps.with_cell w k cell else w).time ≡ w.time
 still-if true w k cell = refl
 still-if false w k cell = refl
+
+still-retags : (d : ScriptState) (i : ℕ) (how : LinkChange) (b : Bool) (new : ScriptState) → Retags d i how b new → Still d new
+still-retags d i how b new (k, cell, is, may, leaves) =
+    (ap (λ (x : ScriptState). x.world.time) leaves ∙ still-if b d.world k (record cell { tag = tag_after how }), ap (λ (x : ScriptState). x.places) leaves)
 
 -- an invalid action is quiet
 quiet-invalid : (k : ℕ) (n : PlaceName) (action : Action) →
@@ -243,6 +250,10 @@ module _ (d new : ScriptState) (whole : IsWhole d.world) (after : IsWhole new.wo
   turn-does n (call.Copy c g) (reply.Refused TooManyOwners) valid (some, full, e) = still (λ k. (refl, refl, refl)) (same-desk d new e)
   turn-does n (call.Share c g) reply.Nothing valid (is, e) = still (λ k. (refl, refl, refl)) (same-desk d new e)
   turn-does n (call.Share c g) given valid does = still (λ k. (refl, refl, refl)) (still-adds d does.1 given new does.5)
+  turn-does n (call.Mark i) (reply.Truth b) valid does = still (λ k. (refl, refl, refl)) (still-retags d i.0 change.Mark b new does)
+  turn-does n (call.Unmark i) (reply.Truth b) valid does = still (λ k. (refl, refl, refl)) (still-retags d i.0 change.Unmark b new does)
+  turn-does n (call.Delete i) (reply.Truth b) valid does = still (λ k. (refl, refl, refl)) (still-retags d i.0 change.Delete b new does)
+  turn-does n (call.LinkTag i) (reply.Tag tag) valid (is, e) = still (λ k. (refl, refl, refl)) (same-desk d new e)
   turn-does n (call.CloseCell c) reply.Done valid (k, is, leaves) =
       gives (cell_closed d.world (place_of d n.0) k) (λ k. (refl, refl, refl)) valid.0 (places-left leaves) (world-left leaves)
       (Gives-cell_closed d.world (place_of d n.0) k (live n.0 valid.0).0)

@@ -8,7 +8,7 @@ use Rattle.sdd_space.specs.OwnerOrCell as holding
 use Rattle.sdd_space.specs.World.{World, standing_at}
 use Rattle.sdd_script_text.specs.declared.answer.Reply.{Reply}
 use Rattle.sdd_script_text.specs.declared.answer.Reply.TheVariants as reply
-use Rattle.sdd_script_model.specs.declared.val.Val.{Val}
+use Rattle.sdd_script_model.specs.Val.{Val}
 
 -- p gives this owner to the collector, and its item waits for that if it was the last. Of a shared one it is told which
 abbrev pub Collects : World Val → (p c : ℕ) → OwnerOrCell → Reply → World Val → Type 0

@@ -8,3 +8,4 @@ pub mod Due
 pub mod Script
 pub mod Sound
 pub mod Held
+pub mod Link

@@ -10,13 +10,12 @@ use Rattle.sdd_space.specs.WorldChanges.{made_as, nulled}
 use Rattle.sdd_script_text.specs.declared.call.Value.{Value}
 use Rattle.sdd_script_text.specs.declared.call.Value.TheVariants.{Number, Of}
 use Rattle.sdd_script_model.specs.declared.val.Body.{Body}
+use Rattle.sdd_script_model.specs.Val.{Val, body_of, owner_in, link_of, link_home}
 use Rattle.sdd_script_model.specs.declared.val.Body.TheVariants as body
-use Rattle.sdd_script_model.specs.declared.val.Val.{Val}
-use Rattle.sdd_script_model.specs.Val.{body_of, owner_in, link_of, link_home}
 use Rattle.sdd_script_model.specs.ScriptState.{ScriptState, holding_at}
 
 -- what the line puts into an item is this
-abbrev pub IsPutIn : ScriptState → Value → Body Val → Type 0
+abbrev pub IsPutIn : ScriptState → Value → Body → Type 0
 IsPutIn d (Number n) b = b ≡ body.Number n
 IsPutIn d (Of o) b = (h : OwnerOrCell) × (holding_at d.owners o.0 ≡ Some h) × (owner_in b ≡ h ∷ [])
 

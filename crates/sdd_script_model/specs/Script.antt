@@ -33,8 +33,9 @@ use Rattle.sdd_script_text.specs.declared.call.Value.TheVariants.{Number, Of}
 use Rattle.sdd_script_text.specs.declared.answer.Answer.{Answer}
 use Rattle.sdd_script_text.specs.declared.answer.Reply.{Reply}
 use Rattle.sdd_script_text.specs.declared.answer.Reply.TheVariants as reply
-use Rattle.sdd_script_model.specs.declared.val.Val.{Val}
-use Rattle.sdd_script_model.specs.Val.{holdings_of}
+use Rattle.sdd_script_model.specs.Val.{Val, holdings_of}
+use Rattle.sdd_script_model.specs.declared.link_change.LinkChange.TheVariants as change
+use Rattle.sdd_script_model.specs.Link.{IsLink, Retags}
 use Rattle.sdd_script_model.specs.Made.{Makes, RefusesItem, put_in}
 use Rattle.sdd_script_model.specs.Shown.{RepliesValue, IsCell, item_held, item_in}
 use Rattle.sdd_script_model.specs.Collecting.{Collects}
@@ -97,6 +98,10 @@ abbrev pub FitsShared : ScriptState → Option OwnerName → Type 0
 FitsShared d None = Unit {0}
 FitsShared d (Some o) = IsShared d o.0
 
+-- a guard of participant n is open
+abbrev pub IsUnderGuard : ScriptState → ℕ → Type 0
+IsUnderGuard d n = (g : ℕ) × HasOpen d n g
+
 -- a participant can point to an item: it is there, and did not begin to wait before the participant's last outermost opening
 abbrev pub CanPointTo : ScriptState → (n i : ℕ) → Type 0
 CanPointTo d n i = IsThere d i × (IsTrue (is_waiting (standing_at d.world (slot_at d i))) → since_of d n ≤ date_at d (slot_at d i))
@@ -144,6 +149,10 @@ IsValid d n (call.Exchange c g i was x tag) = HasOpen d n g.0 × CanCompare d n 
 IsValid d n (call.Into c) = IsParticipant d n × IsCellName d c.0
 IsValid d n (call.Copy c g) = HasOpen d n g.0 × IsSharedCell d c.0
 IsValid d n (call.Share c g) = HasOpen d n g.0 × IsSharedCell d c.0
+IsValid d n (call.Mark i) = IsUnderGuard d n × CanPointTo d n i.0
+IsValid d n (call.Unmark i) = IsUnderGuard d n × CanPointTo d n i.0
+IsValid d n (call.Delete i) = IsUnderGuard d n × CanPointTo d n i.0
+IsValid d n (call.LinkTag i) = IsUnderGuard d n × CanPointTo d n i.0
 IsValid d n (call.CloseCell c) = IsParticipant d n × IsCellName d c.0
 IsValid d n call.Collector = IsParticipant d n
 IsValid d n (call.Collect o g k) = HasOpen d n g.0 × IsOwnerName d o.0 × IsCollector d k.0
@@ -327,6 +336,10 @@ Does d n p (call.Copy c g) (reply.Refused TooManyOwners) new =
     ¬ (IsFull d.world.cells) × ((k : ℕ) × (cell : CellContents) × IsCell d c.0 k cell × IsShareFull d.world cell.held) × (new ≡ d)
 Does d n p (call.Share c g) reply.Nothing new = ((k : ℕ) × (cell : CellContents) × IsCell d c.0 k cell × (cell.held ≡ None)) × (new ≡ d)
 Does d n p (call.Share c g) given new = (k : ℕ) × (s : ℕ) × (cell : CellContents) × IsCell d c.0 k cell × (cell.held ≡ Some s) × AddsOwner d s given new
+Does d n p (call.Mark i) (reply.Truth b) new = Retags d i.0 change.Mark b new
+Does d n p (call.Unmark i) (reply.Truth b) new = Retags d i.0 change.Unmark b new
+Does d n p (call.Delete i) (reply.Truth b) new = Retags d i.0 change.Delete b new
+Does d n p (call.LinkTag i) (reply.Tag tag) new = ((k : ℕ) × (cell : CellContents) × IsLink d i.0 k cell × (tag ≡ cell.tag)) × (new ≡ d)
 Does d n p (call.CloseCell c) reply.Done new =
     (k : ℕ) × (desk.cell_of (holding_at d.cells c.0) ≡ Some k)
     × Leaves (record d { world = cell_closed d.world p k; cells = slice_set d.cells c.0 None }) new

@@ -10,8 +10,7 @@ use Rattle.sdd_space.specs.WorldInvariant.{IsWhole}
 use Rattle.sdd_space.specs.Ledger.{Claim, owner_of, right_to, is_right_to, IsLedger}
 use Rattle.sdd_space.specs.OwnerCounts.{is_owner_of, times_held}
 use Rattle.sdd_space.specs.UnderGuards.{CallsUnder, IsSafe}
-use Rattle.sdd_script_model.specs.declared.val.Val.{Val}
-use Rattle.sdd_script_model.specs.Val.{holdings_of, link_of}
+use Rattle.sdd_script_model.specs.Val.{Val, holdings_of, link_of}
 use Rattle.sdd_script_model.specs.ScriptState.{ScriptState, OpenSince, opening_at, holding_at, slot_at, name_at, date_at, job_date_at}
 
 -- which item is in which slot

@@ -3,8 +3,10 @@
 //! No world runs here. The crate `sdd_script` runs scripts, and shows that its answers are those that are meant.
 #![tactic(auto)]
 
+pub mod link_change;
 pub mod owner_kind;
 pub mod val;
 
+pub use link_change::LinkChange;
 pub use owner_kind::OwnerKind;
-pub use val::{Body, Val};
+pub use val::{Body, Nested, Val};

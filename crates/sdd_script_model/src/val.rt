@@ -1,62 +1,60 @@
-ghost use Rattle.std.specs.Prelude.{◌≡◌};
+use sdd_lists::LinkedEntry;
+use sdd_space::inner::{owner_of, right_of_owner, right_of_shared, shared_of};
+use sdd_space::{Giver, Item, Owned, Shared};
 
-use sdd_space::{AtomicOwned, Giver, Item, Owned, Shared};
+/// Stands for the value of the item whose owner a body is: its type has a body in it.
+pub struct Nested;
 
 /// What an item of a script holds beside its link: a number, or an owner of another item.
-pub enum Body<T> {
+pub enum Body {
     Number(u64),
-    Owned(Owned<T>),
-    Shared(Shared<T>),
+    Owned(Owned<Nested>),
+    Shared(Shared<Nested>),
 }
 
 /// The value of an item of a script: an entry with what it holds, and a cell for its link.
-pub struct Val {
-    body: Body<Val>,
-    link: AtomicOwned<Val>,
-}
+pub type Val = LinkedEntry<Body>;
 
-impl Item<Val> for Val {
-    ghost use Rattle.sdd_script_model.specs.Val.{holdings_of};
+impl Item<Val> for Body {
+    ghost use Rattle.sdd_script_model.specs.Val.{owner_in};
 
-    ghost holds = { holdings_of };
+    ghost holds = { owner_in };
 
     fn give_up<G: Giver<Val>>(self, giver: &mut G) {
-        let Val { body, link } = self;
-        match body {
+        match self {
             Body::Number(_) => {}
-            Body::Owned(owner) => giver.owned(owner),
-            Body::Shared(owner) => giver.shared(owner),
+            Body::Owned(owner) => giver.owned(owner_of(right_of_owner(owner))),
+            Body::Shared(owner) => giver.shared(shared_of(right_of_shared(owner))),
         }
-        giver.atomic_owned(link);
     }
 }
 
-impl Val {
-    ghost use Rattle.sdd_script_model.specs.Val.{body_of, link_of, link_home, Renumbers};
-    ghost use Rattle.sdd_space.specs.Owned.{cell_of, cells_home};
+impl Body {
+    ghost use Rattle.std.specs.Prelude.{◌≡◌, [], ◌∷◌};
+    ghost use Rattle.sdd_space.specs.Owned as owned;
+    ghost use Rattle.sdd_space.specs.Shared as shared;
+    ghost use Rattle.sdd_script_model.specs.Val.{owner_in, renumbered};
 
-    /// What it holds, with its cell.
-    pub fn new(body: Body<Val>, link: AtomicOwned<Val>) -> Val
-        ensures body { body_of result ≡ body }
-        ensures link { link_of result ≡ cell_of link }
-        ensures home { link_home result ≡ cells_home link }
+    /// An only owner, as what an item holds.
+    pub fn of_sole(owner: Owned<Val>) -> Body
+        ensures { owner_in result ≡ owned.holding_of owner ∷ [] }
     {
-        Val { body, link }
+        Body::Owned(owner_of(right_of_owner(owner)))
+    }
+
+    /// One of several owners, as what an item holds.
+    pub fn of_shared(owner: Shared<Val>) -> Body
+        ensures { owner_in result ≡ shared.holding_of owner ∷ [] }
+    {
+        Body::Shared(shared_of(right_of_shared(owner)))
     }
 
     /// Puts a number in the place of its number. An owner stays as it is, since it must be spent.
     pub fn put(&mut self, number: u64)
-        ensures { Renumbers self.old number self.new }
+        ensures { self.new ≡ renumbered self.old number }
     {
-        if let Body::Number(held) = &mut self.body {
+        if let Body::Number(held) = self {
             *held = number;
         }
-    }
-
-    /// What it holds.
-    pub fn body(&self) -> &Body<Val>
-        ensures { result.now ≡ body_of self.now }
-    {
-        &self.body
     }
 }

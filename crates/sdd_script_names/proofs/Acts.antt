@@ -22,7 +22,7 @@ use Rattle.sdd_world.specs.Place.{index_of}
 use Rattle.sdd_script_text.specs.declared.name.PlaceName.{PlaceName}
 use Rattle.sdd_script_text.specs.declared.call.Call.{Call}
 use Rattle.sdd_script_text.specs.declared.answer.Reply.{Reply}
-use Rattle.sdd_script_model.specs.declared.val.Val.{Val}
+use Rattle.sdd_script_model.specs.Val.{Val}
 use Rattle.sdd_space_commands.specs.declared.holding.AnyOwner.{AnyOwner}
 use Rattle.sdd_space_commands.specs.declared.holding.AnyOwner.TheVariants.{Share}
 use Rattle.sdd_script_names.specs.declared.name_table.NameTable.{NameTable}

@@ -6,7 +6,7 @@ use Rattle.std.proofs.Math.ListN.{get_or-map}
 use Rattle.std.proofs.lemmas.List.{map-set}
 use Rattle.sdd_space.specs.declared.private_collector.PrivateCollector.{PrivateCollector}
 use Rattle.sdd_space.specs.Collector as collector
-use Rattle.sdd_script_model.specs.declared.val.Val.{Val}
+use Rattle.sdd_script_model.specs.Val.{Val}
 use Rattle.sdd_script_model.specs.ScriptState.{ScriptState, collector_of, holding_at}
 use Rattle.sdd_space_commands.specs.Owners.{collector_holding}
 use Rattle.sdd_script_names.specs.declared.interpreter.Environment.{Environment}

@@ -4,12 +4,10 @@ ghost use Rattle.std.specs.List.Sorted.{IsPermutation, IsNonDecreasingBy};
 ghost use Rattle.std.specs.Option.{option_map};
 ghost use Rattle.sdd_space.specs.World.{World, standing_at, value_at};
 ghost use Rattle.sdd_standings.specs.Slots.{is_waiting};
-ghost use Rattle.sdd_script_model.specs.declared.val.Val.{Val};
-ghost use Rattle.sdd_script_model.specs.Val.{body_of};
+ghost use Rattle.sdd_script_model.specs.Val.{Val, body_of};
 ghost use Rattle.sdd_script_model.specs.Shown.{told_of, item_in};
 ghost use Rattle.sdd_script_names.specs.Environment.{SlotInside, CanPointAt, CanCompareAt, dated_if_waiting};
 ghost use Rattle.sdd_script_model.specs.Held.{owners_in, slots_among, slots_waiting_for, waits_among, slot_held};
-ghost use Rattle.sdd_script_model.specs.declared.val.Body.{Body};
 ghost use Rattle.sdd_script_model.specs.declared.val.Body.TheVariants.{Number};
 ghost use Rattle.sdd_script_text.specs.declared.name.ItemName.{ItemName as Named};
 ghost use Rattle.sdd_participants.specs.Collecting.{is_private_to};
@@ -29,7 +27,7 @@ pub fn told(value: &Val, names: &[u64]) -> Reply
     requires { SlotInside names.now (body_of value.now) }
     ensures { result ≡ told_of names.now (body_of value.now) }
 {
-    match value.body() {
+    match value.as_ref() {
         Body::Number(number) => Reply::Value(*number),
         Body::Owned(owner) => Reply::Holding(ItemName(names[slot_of_owner(owner) as usize])),
         Body::Shared(owner) => Reply::Holding(ItemName(names[slot_of_shared(owner) as usize])),
@@ -111,7 +109,7 @@ pub fn is_waiting(world: &World<Val>, slot: u32) -> bool
 pub fn is_number(value: &Val) -> bool
     ensures { IsTrue result ↔ ((number : ℕ) × (body_of value.now ≡ Number number)) }
 {
-    match value.body() {
+    match value.as_ref() {
         Body::Number(_) => true,
         _ => false,
     }
@@ -121,7 +119,7 @@ pub fn is_number(value: &Val) -> bool
 pub fn slot_given(value: &Val) -> Option<u32>
     ensures { result ≡ slot_held (body_of value.now) }
 {
-    match value.body() {
+    match value.as_ref() {
         Body::Number(_) => None,
         Body::Owned(owner) => Some(slot_of_owner(owner)),
         Body::Shared(owner) => Some(slot_of_shared(owner)),
@@ -209,7 +207,7 @@ fn owners_in(alloc: Global, world: &World<Val>, slots: &[u32]) -> Result<Vec<u32
 {
     let mut found = Vec::with_capacity(alloc, slots.len())?;
     for slot in slots {
-        match value_in(world, *slot).body() {
+        match value_in(world, *slot).as_ref() {
             Body::Number(_) => {}
             Body::Owned(owner) => found.push_reserved(slot_of_owner(owner)),
             Body::Shared(owner) => found.push_reserved(slot_of_shared(owner)),

@@ -80,6 +80,14 @@ pub enum Action {
     Collector,
     /// `collect O G K`: gives an owner to a collector.
     Collect(OwnerName, GuardName, CollectorName),
+    /// `mark I`: marks the entry that an item is, if it is clear.
+    Mark(ItemName),
+    /// `unmark I`: takes the mark of an entry away, if it is marked.
+    Unmark(ItemName),
+    /// `delete I`: deletes an entry, if it is clear or marked.
+    Delete(ItemName),
+    /// `linktag I`: the tag of an entry's link.
+    LinkTag(ItemName),
     /// `close G`: closes a guard.
     Close(GuardName),
     /// `close C`: closes a cell, and gives up what it holds.

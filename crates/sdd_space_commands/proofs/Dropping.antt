@@ -9,8 +9,7 @@ use Rattle.sdd_space.specs.World.{World, AnyGuardOpen, standing_at}
 use Rattle.sdd_space.specs.WorldChanges.{dropped, with_standing}
 use Rattle.sdd_rights.specs.Units as token
 use Rattle.sdd_script_text.specs.declared.answer.Reply.TheVariants as reply
-use Rattle.sdd_script_model.specs.declared.val.Val.{Val}
-use Rattle.sdd_script_model.specs.Val.{holdings_of}
+use Rattle.sdd_script_model.specs.Val.{Val, holdings_of}
 use Rattle.sdd_script_model.specs.InPlace.{Drops}
 
 pub drops-shared : (w new : World Val) (p k owners : ℕ) (home : token.GhostName) (last : Bool) → IsSharedBy owners (standing_at w k)

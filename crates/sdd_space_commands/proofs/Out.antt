@@ -9,7 +9,7 @@ use Rattle.sdd_space.specs.Owned as owned
 use Rattle.sdd_space.specs.Shared as shared
 use Rattle.sdd_script_model.specs.ScriptState.{slot_of}
 use Rattle.sdd_script_model.specs.declared.owner_kind.OwnerKind.TheVariants as ownership
-use Rattle.sdd_script_model.specs.declared.val.Val.{Val}
+use Rattle.sdd_script_model.specs.Val.{Val}
 use Rattle.sdd_space_commands.specs.Owners.{held_as}
 
 pub sole-out : (home : token.GhostName) (o : Option (Owned Val)) → owned.IsOfSlots home o →

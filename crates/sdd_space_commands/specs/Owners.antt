@@ -11,7 +11,7 @@ use Rattle.sdd_space_commands.specs.declared.holding.CellOwner.{CellOwner}
 use Rattle.sdd_rights.specs.Units as token
 use Rattle.sdd_space.specs.declared.private_collector.PrivateCollector.{PrivateCollector}
 use Rattle.sdd_space.specs.Collector.{collector_of, cells_home as collectors_home}
-use Rattle.sdd_script_model.specs.declared.val.Val.{Val}
+use Rattle.sdd_script_model.specs.Val.{Val}
 use Rattle.sdd_space.specs.OwnerOrCell as holding
 use Rattle.sdd_space.specs.Owned as owned
 use Rattle.sdd_space.specs.Shared as shared

@@ -7,7 +7,7 @@ ghost use Rattle.sdd_space.specs.Guard.{reader_of};
 ghost use Rattle.sdd_space.specs.RawPtr.{tag_of as tag_held};
 ghost use Rattle.sdd_space.specs.OwnerOrCell.{IsOf};
 ghost use Rattle.sdd_space.specs.WorldChanges.{cell_closed, held_in, with_cell};
-ghost use Rattle.sdd_script_model.specs.declared.val.Val.{Val};
+ghost use Rattle.sdd_script_model.specs.Val.{Val};
 ghost use Rattle.sdd_script_model.specs.ScriptState.{slot_of};
 ghost use Rattle.sdd_space_commands.specs.Owners.{cell_holding, cell_number, filling_holding, filling_kind, holding_around};
 

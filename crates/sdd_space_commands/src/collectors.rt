@@ -10,9 +10,8 @@ ghost use Rattle.sdd_space.specs.OwnerOrCell.{IsOf};
 ghost use Rattle.sdd_space.specs.Out.{IsNullCell};
 ghost use Rattle.sdd_space.specs.WorldChanges.{pointing};
 ghost use Rattle.sdd_space.specs.World.{AnyGuardOpen};
-ghost use Rattle.sdd_script_model.specs.declared.val.Val.{Val};
 ghost use Rattle.sdd_script_model.specs.Collecting.{Collects};
-ghost use Rattle.sdd_script_model.specs.Val.{holdings_of};
+ghost use Rattle.sdd_script_model.specs.Val.{Val, holdings_of};
 ghost use Rattle.sdd_space_commands.specs.Owners.{owner_holding};
 
 use crate::holding::AnyOwner;

@@ -9,7 +9,7 @@ ghost use Rattle.sdd_space.specs.Ptr.{cell_seen, slot_named};
 ghost use Rattle.sdd_space.specs.WorldChanges.{with_cell, with_standing, without_cell};
 ghost use Rattle.sdd_space.specs.World.{standing_at};
 ghost use Rattle.sdd_space.specs.Guard.{reader_of};
-ghost use Rattle.sdd_script_model.specs.declared.val.Val.{Val};
+ghost use Rattle.sdd_script_model.specs.Val.{Val};
 ghost use Rattle.sdd_script_model.specs.ScriptState.{slot_of};
 ghost use Rattle.sdd_space_commands.specs.Owners.{cell_holding, cell_kind, cell_number, filling_holding, filling_kind, held_as};
 ghost use Rattle.sdd_core.specs.declared.refused.Refused.TheVariants as refused;

@@ -7,7 +7,7 @@ ghost use Rattle.sdd_participants.specs.Slab.{IsEmptyAt, IsFull};
 ghost use Rattle.sdd_space.specs.Guard.{reader_of};
 ghost use Rattle.sdd_space.specs.World.{place_at};
 ghost use Rattle.sdd_space.specs.WorldChanges.{closed, deferred, stirred, accelerated};
-ghost use Rattle.sdd_script_model.specs.declared.val.Val.{Val};
+ghost use Rattle.sdd_script_model.specs.Val.{Val};
 
 use crate::step::SpaceCommand;
 use sdd_core::{Epoch, Refused};

@@ -3,19 +3,19 @@ ghost use Rattle.std.specs.Prelude.{◌≡◌, ◌<◌, ℕ};
 ghost use Rattle.sdd_participants.specs.Slab.{IsEmptyAt, IsFull};
 ghost use Rattle.sdd_space.specs.WorldChanges.{made_as, nulled};
 ghost use Rattle.sdd_space.specs.OwnerOrCell.{AreOf};
-ghost use Rattle.sdd_script_model.specs.declared.val.Val.{Val};
-ghost use Rattle.sdd_script_model.specs.Val.{body_of, owner_in, link_of, link_home};
+ghost use Rattle.sdd_script_model.specs.Val.{Val, body_of, owner_in, link_of, link_home};
 ghost use Rattle.sdd_space_commands.specs.Owners.{owner_holding};
 ghost use Rattle.sdd_script_model.specs.Held.{standing_first, holding_first};
 
 use crate::holding::AnyOwner;
 use crate::step::CellCommand;
+use sdd_lists::LinkedEntry;
 use sdd_script_model::{Body, OwnerKind, Val};
-use sdd_space::{AtomicOwned, Cells, Collectors, Items, Owned, RawCells, Shared, SharedItems};
+use sdd_space::{Cells, Collectors, Items, Owned, RawCells, Shared, SharedItems};
 
 /// A new item, which holds this, and a cell for its link.
 pub struct MakeItem {
-    pub body: Body<Val>,
+    pub body: Body,
     pub ownership: OwnerKind,
 }
 
@@ -34,10 +34,10 @@ impl CellCommand for MakeItem {
         s: &mut S,
     ) -> AnyOwner {
         let MakeItem { body, ownership } = self;
-        let Ok(link) = AtomicOwned::null(s) else {
-            unreachable!()
+        let value = match LinkedEntry::new(body, s) {
+            Ok(value) => value,
+            Err(_) => unreachable!(),
         };
-        let value = Val::new(body, link);
         match ownership {
             OwnerKind::Sole => match Owned::new(value, s) {
                 Ok(owner) => AnyOwner::Sole(owner),

@@ -7,6 +7,7 @@ pub mod exchanges;
 pub mod guards;
 pub mod holding;
 pub mod items;
+pub mod links;
 pub mod owners;
 pub mod raw;
 pub mod step;

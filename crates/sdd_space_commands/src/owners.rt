@@ -6,7 +6,7 @@ ghost use Rattle.sdd_space.specs.WorldChanges.{retired, owner_given, with_standi
 ghost use Rattle.sdd_space.specs.World.{standing_at};
 ghost use Rattle.sdd_space.specs.Owned.{slot_of, slots_home};
 ghost use Rattle.sdd_space.specs.Ptr.{slot_named};
-ghost use Rattle.sdd_script_model.specs.declared.val.Val.{Val};
+ghost use Rattle.sdd_script_model.specs.Val.{Val};
 ghost use Rattle.sdd_core.specs.declared.refused.Refused.TheVariants as refused;
 ghost use Rattle.sdd_space.specs.Shared as shared_owner;
 ghost use Rattle.sdd_participants.specs.declared.standing.Standing.TheVariants as standing;

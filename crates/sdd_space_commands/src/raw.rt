@@ -7,8 +7,7 @@ ghost use Rattle.sdd_space.specs.Owned.{slot_of, slots_home};
 ghost use Rattle.sdd_space.specs.WorldChanges.{with_standing};
 ghost use Rattle.sdd_space.specs.World.{standing_at, value_at};
 ghost use Rattle.sdd_script_model.specs.InPlace.{Puts, Drops, RefusesDrop};
-ghost use Rattle.sdd_script_model.specs.Val.{Renumbers};
-ghost use Rattle.sdd_script_model.specs.declared.val.Val.{Val};
+ghost use Rattle.sdd_script_model.specs.Val.{Val, Renumbers};
 ghost use Rattle.sdd_space_commands.specs.Owners.{owner_holding};
 ghost use Rattle.sdd_core.specs.declared.refused.Refused.TheVariants as refused;
 ghost use Rattle.sdd_participants.specs.declared.standing.Standing.TheVariants as standing;
@@ -53,7 +52,7 @@ impl SpaceCommand for PutNumber {
         let put = move |value: &mut Val|
             ensures { Renumbers value.old number value.new }
         {
-            value.put(number);
+            value.as_mut().put(number);
         };
         match owner {
             AnyOwner::Sole(mut held) => match held.get_mut(put, s) {

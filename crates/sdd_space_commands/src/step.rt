@@ -4,7 +4,7 @@ ghost use Rattle.sdd_space.specs.Guard.{ReaderId};
 ghost use Rattle.sdd_space.specs.OwnerOrCell.{SpaceId};
 ghost use Rattle.sdd_space.specs.CallerId.{IsSeated, IsExact};
 ghost use Rattle.sdd_space.specs.World.{World};
-ghost use Rattle.sdd_script_model.specs.declared.val.Val.{Val};
+ghost use Rattle.sdd_script_model.specs.Val.{Val};
 
 use sdd_participants::Idle;
 use sdd_script_model::Val;

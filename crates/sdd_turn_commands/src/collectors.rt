@@ -11,9 +11,8 @@ ghost use Rattle.sdd_space.specs.CallerId.{reader_at};
 ghost use Rattle.sdd_space.specs.WorldChanges.{pointing};
 ghost use Rattle.sdd_space.specs.World.{World, AnyGuardOpen, IsPlaceOf};
 ghost use Rattle.sdd_world.specs.Place.{index_of};
-ghost use Rattle.sdd_script_model.specs.declared.val.Val.{Val};
 ghost use Rattle.sdd_script_model.specs.Collecting.{Collects};
-ghost use Rattle.sdd_script_model.specs.Val.{holdings_of};
+ghost use Rattle.sdd_script_model.specs.Val.{Val, holdings_of};
 ghost use Rattle.sdd_space_commands.specs.Owners.{owner_holding};
 
 use crate::turn::cell_step_at;

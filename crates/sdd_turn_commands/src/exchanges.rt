@@ -12,7 +12,7 @@ ghost use Rattle.sdd_space.specs.World.{World, IsPlaceOf, standing_at};
 ghost use Rattle.sdd_space.specs.Guard.{reader_of};
 ghost use Rattle.sdd_space.specs.CallerId.{reader_at};
 ghost use Rattle.sdd_world.specs.Place.{index_of};
-ghost use Rattle.sdd_script_model.specs.declared.val.Val.{Val};
+ghost use Rattle.sdd_script_model.specs.Val.{Val};
 ghost use Rattle.sdd_script_model.specs.ScriptState.{slot_of};
 ghost use Rattle.sdd_space_commands.specs.Owners.{cell_holding, cell_kind, cell_number, filling_holding, filling_kind, held_as};
 ghost use Rattle.sdd_space.specs.Shared as shared;

@@ -8,8 +8,7 @@ ghost use Rattle.sdd_space.specs.CallerId.{reader_at};
 ghost use Rattle.sdd_space.specs.World.{World, IsPlaceOf, place_at};
 ghost use Rattle.sdd_space.specs.WorldChanges.{opened, closed, stirred, accelerated, deferred};
 ghost use Rattle.sdd_world.specs.Place.{index_of};
-ghost use Rattle.sdd_script_model.specs.declared.val.Val.{Val};
-ghost use Rattle.sdd_script_model.specs.Val.{holdings_of};
+ghost use Rattle.sdd_script_model.specs.Val.{Val, holdings_of};
 
 use crate::turn::step_at;
 use sdd_core::{Epoch, Refused};

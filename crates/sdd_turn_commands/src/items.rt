@@ -8,14 +8,13 @@ ghost use Rattle.sdd_space.specs.Guard.{reader_of};
 ghost use Rattle.sdd_space.specs.CallerId.{reader_at};
 ghost use Rattle.sdd_space.specs.UnderGuards.{CannotGo};
 ghost use Rattle.sdd_world.specs.Place.{index_of};
-ghost use Rattle.sdd_script_model.specs.declared.val.Val.{Val};
-ghost use Rattle.sdd_script_model.specs.Val.{body_of, owner_in, link_of, link_home};
+ghost use Rattle.sdd_script_model.specs.Val.{Val, body_of, owner_in, link_of, link_home};
 ghost use Rattle.sdd_space_commands.specs.Owners.{owner_holding};
 ghost use Rattle.sdd_script_model.specs.Held.{standing_first, holding_first};
 
 use crate::turn::cell_step_at;
 use sdd_script_model::{Body, OwnerKind, Val};
-use sdd_space::Guard;
+use sdd_space::{Guard, Shows};
 use sdd_space_commands::holding::AnyOwner;
 use sdd_space_commands::items::MakeItem;
 use sdd_world::inner::ptr_at;
@@ -25,7 +24,7 @@ use sdd_world::{Place, World};
 pub fn make_item(
     world: &mut World<Val>,
     place: &Place,
-    body: Body<Val>,
+    body: Body,
     ownership: OwnerKind,
 ) -> AnyOwner
     requires place { IsPlaceOf world.old (index_of place.now) }
@@ -51,11 +50,13 @@ pub fn value_shown<'g>(
     requires reader { reader_of guard.now ≡ reader_at world.old (index_of place.now) }
     requires stays { CannotGo world.old (index_of place.now) slot }
     ensures shown { value_at world.old slot ≡ Some result.now }
+    ensures home { link_home result.now ≡ world.old.home.cells }
     ensures world { world.new ≡ world.old }
 {
     let ptr = ptr_at(world, place, slot, guard);
     let Some(value) = ptr.as_ref(world) else {
         unreachable!()
     };
+    world.shown_is_of_home();
     value
 }

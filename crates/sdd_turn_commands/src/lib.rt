@@ -9,4 +9,4 @@ pub mod items;
 pub mod owners;
 mod turn;
 
-pub use turn::step_at;
+pub use turn::{cell_step_at, step_at};

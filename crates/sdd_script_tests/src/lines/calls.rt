@@ -101,6 +101,12 @@ p0 unraw i0 g0
 p0 see i0
 p0 see o0 g0
 p0 see null g0
+p0 mark
+p0 mark o0
+p0 mark null
+p0 unmark i0 g0
+p0 delete none
+p0 linktag c0
 p0 cell none
 p0 cell owned
 p0 load c0

@@ -172,6 +172,20 @@ fn with_cell(verb: &str, cell: CellName) -> Option<Action>
     }
 }
 
+/// The verbs with an item.
+fn with_item(verb: &str, item: ItemName) -> Option<Action>
+    ensures { result ≡ called verb.now (with_arguments (Argument.Item (Some item) ∷ [])) }
+{
+    match verb {
+        "unraw" => Some(Action::Unraw(item)),
+        "mark" => Some(Action::Mark(item)),
+        "unmark" => Some(Action::Unmark(item)),
+        "delete" => Some(Action::Delete(item)),
+        "linktag" => Some(Action::LinkTag(item)),
+        _ => None,
+    }
+}
+
 /// The verbs with one argument.
 fn with_one(verb: &str, argument: Argument) -> Option<Action>
     ensures { result ≡ called verb.now (with_arguments (argument ∷ [])) }
@@ -181,10 +195,7 @@ fn with_one(verb: &str, argument: Argument) -> Option<Action>
         Argument::Guard(guard) => with_guard(verb, guard),
         Argument::Owner(Some(owner)) => with_owner(verb, owner),
         Argument::Cell(cell) => with_cell(verb, cell),
-        Argument::Item(Some(item)) => match verb {
-            "unraw" => Some(Action::Unraw(item)),
-            _ => None,
-        },
+        Argument::Item(Some(item)) => with_item(verb, item),
         Argument::Collector(collector) => match verb {
             "close" => Some(Action::CloseCollector(collector)),
             _ => None,

@@ -1,7 +1,7 @@
 use Rattle.std.proofs.Common.{◌≡◌, Option, Some, sym, ◌∙◌}
 use Rattle.sdd_space.specs.Collector.{collector_of}
 use Rattle.sdd_space.specs.declared.private_collector.PrivateCollector.{PrivateCollector}
-use Rattle.sdd_script_model.specs.declared.val.Val.{Val}
+use Rattle.sdd_script_model.specs.Val.{Val}
 use Rattle.sdd_script_model.proofs.Counting.{accounts}
 use Rattle.sdd_script_model.proofs.Gone.{given-inside}
 use Rattle.sdd_script_model.proofs.WaitingFor.{found-filled, found-inside}
