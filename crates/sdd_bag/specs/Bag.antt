@@ -8,7 +8,7 @@ use Rattle.sdd_lists.specs.Lists.{Entry}
 use Rattle.sdd_lists.specs.Stack.{home_in}
 use Rattle.sdd_bag.specs.Storages.{StorageName}
 use Rattle.sdd_bag.specs.Primary.{PrimaryParts, held_by}
-use Rattle.sdd_bag.specs.Overflow.{LiesOn, OverflowParts, spilled_in}
+use Rattle.sdd_bag.specs.Overflow.{KeepsPlaces, LiesOn, OverflowParts, spilled_in}
 
 pub record BagParts (T B : Type 0) : Type 0 where
   pub primary : PrimaryParts T
@@ -22,6 +22,11 @@ module _ {T B : Type 0} where
   -- the values in its other storages
   abbrev pub overflow_of : BagParts T B → List T
   overflow_of bag = spilled_in bag.overflow
+
+  -- only what the places of its other storages have may be another
+  pub record KeepsStorages (old new : BagParts T B) : Type 0 where
+    pub primary : new.primary ≡ old.primary
+    pub overflow : KeepsPlaces old.overflow new.overflow
 
   -- its cells are of these
   pub record IsOfCells (home : GhostName) (bag : BagParts T B) : Type 0 where

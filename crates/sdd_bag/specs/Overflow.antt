@@ -1,10 +1,12 @@
 -- The values in the storages behind a bag's own, and how these lie in a world
-use Rattle.std.specs.Prelude.{ℕ, ◌≡◌, ◌≢◌, List, [], ◌∷◌, ◌++◌, Option, None, Some, length}
+use Rattle.std.specs.Prelude.{ℕ, ◌≡◌, ◌≢◌, ◌⊎◌, List, [], ◌∷◌, ◌++◌, Option, None, Some, length}
 use Rattle.sdd_keyed_places.specs.KeyedPlaces.{PlaceName}
 use Rattle.sdd_bag_storage.specs.Storage.{AreEmpty, KeptPlace, names_of, values_in}
 use Rattle.sdd_core.specs.declared.tag.Tag.TheVariants as tag
 use Rattle.sdd_participants.specs.declared.standing.Standing.TheVariants.{Shared as shared_by}
-use Rattle.sdd_participants.specs.Slab.{IsEmptyAt}
+use Rattle.sdd_participants.specs.Slab.{IsEmptyAt, IsFull}
+use Rattle.sdd_core.specs.declared.refused.Refused.{Refused}
+use Rattle.sdd_core.specs.declared.refused.Refused.TheVariants.{NoCell, NoSlot}
 use Rattle.sdd_space.specs.World.{World, standing_at}
 use Rattle.sdd_space.specs.WorldChanges.{nulled, owner_given}
 use Rattle.sdd_space.specs.Shared.{slot_of}
@@ -14,6 +16,7 @@ use Rattle.sdd_lists.specs.declared.stack.Stack.{Stack}
 use Rattle.sdd_lists.specs.Entries.{link_of, value_of}
 use Rattle.sdd_lists.specs.Filling.{AddsOnto}
 use Rattle.sdd_lists.specs.Lists.{Entry, IsTaken}
+use Rattle.sdd_lists.specs.Queue.{HasOneAtMost}
 use Rattle.sdd_lists.specs.Stack.{IsStack, cell_in}
 use Rattle.sdd_bag.specs.Storages.{StorageName}
 
@@ -30,6 +33,10 @@ module _ {T B : Type 0} where
   pub record KeepsPlaces (old new : OverflowParts T B) : Type 0 where
     pub stack : new.stack ≡ old.stack
     pub names : names_of new.places ≡ names_of old.places
+
+-- no storage more is made, since no slot is free, or no two cells are
+abbrev pub RefusesStorage : {I : Type 0} → World I → Refused → Type 0
+RefusesStorage w why = IsFull w.standings × (why ≡ NoSlot) ⊎ ¬ (IsFull w.standings) × HasOneAtMost w.cells × (why ≡ NoCell)
 
 module _ {B : Type 0} where
   -- a storage more is on a new entry in front of these, which has a cell that was free

@@ -1,0 +1,99 @@
+//! The bag.
+ghost use Rattle.std.specs.Prelude.{◌≡◌, ◌↔◌, ◌⊎◌, ◌<◌, ◌≤◌, ◌++◌, ℕ, IfErr, IfOk, IsTrue, List, MatchOption, MatchResult, None, Some, [], drop, length, map};
+ghost use Rattle.sdd_keyed_places.specs.KeyedPlaces.{PlaceName};
+ghost use Rattle.sdd_bag_storage.specs.Storage.{AreEmpty, AreFull, IsEmptyAt, IsFullWith, empty_place, with_value_at};
+ghost use Rattle.sdd_bag_storage.specs.Values.{HasOneMore};
+ghost use Rattle.sdd_space.specs.CallerId.{IsSeated, IsExact};
+ghost use Rattle.sdd_space.specs.Guard.{reader_of};
+ghost use Rattle.sdd_space.specs.ParticipantChanges.{KeepsMoreWaiting};
+ghost use Rattle.sdd_space.specs.Refusals.{IsRefusedBy};
+ghost use Rattle.sdd_space.specs.Undisturbed.{Undisturbed, Unmoved};
+ghost use Rattle.sdd_lists.specs.declared.linked_entry.LinkedEntry.{LinkedEntry as Linked};
+ghost use Rattle.sdd_lists.specs.declared.stack.Stack.{Stack as Storages};
+ghost use Rattle.sdd_lists.specs.Lists.{Entry};
+ghost use Rattle.sdd_lists.specs.Stack.{cell_in, home_in};
+ghost use Rattle.sdd_bag.specs.Overflow.{AddsStorage, KeepsPlaces, Lies, LiesOn, OverflowParts, RefusesStorage, RemovesStorage};
+ghost use Rattle.sdd_bag.specs.Bag.{BagParts, IsBag, IsOfCells, KeepsStorages, overflow_of, primary_of};
+
+use crate::front::first_shelf;
+use crate::primary::Primary;
+use crate::shelf::Shelf;
+use crate::storage::Storage;
+use sdd_bag_storage::StorageKeys;
+use sdd_core::Refused;
+use sdd_lists::{LinkedEntry, Stack};
+use sdd_space::inner::{right_of_shared_cell, shared_cell_with};
+use sdd_space::{AtomicShared, Cells, Guard, Items, LookThrough, Several, SharedItems};
+use std::marker::Model;
+
+/// Values, of which at most `ARRAY_LEN` lie in the bag itself, and the others in storages, each an item of a space, on the entries of a stack.
+///
+/// It has the keys of the places of all its storages. It must be spent: closed, or turned into what gives its values one after another.
+pub struct Bag<T, const ARRAY_LEN: usize, B> {
+    primary: Primary<T, ARRAY_LEN>,
+    stack: Stack<B>,
+    keys: StorageKeys<T, ARRAY_LEN>,
+}
+
+impl<T, const ARRAY_LEN: usize, B> Model for Bag<T, ARRAY_LEN, B> {
+    ghost use Rattle.sdd_bag.specs.Bag.{BagParts};
+
+    ghost Value = { BagParts T B };
+
+    ghost view = { λ b. record { primary = b.primary; overflow = record { stack = b.stack; places = b.keys } } };
+}
+
+impl<T, const ARRAY_LEN: usize, B: Shelf<T, ARRAY_LEN>> Bag<T, ARRAY_LEN, B> {
+    /// Puts a value into the first storage. If there is none, or it is full, the value comes back.
+    fn push_front<
+        S: Items<LinkedEntry<B>> + Cells<LinkedEntry<B>> + LookThrough<LinkedEntry<B>>,
+    >(&mut self, value: T, guard: &Guard, s: &mut S) -> Result<(), T>
+        requires seated { IsSeated (S.seat s.old) }
+        requires home { home_in self.old.overflow.stack ≡ (S.seat s.old).home.cells }
+        requires reader { reader_of guard.now ≡ (S.seat s.old).reader }
+        requires exact { IsExact (S.seat s.old) }
+        requires lies { Lies B.shown ARRAY_LEN (S.world s.old) self.old.overflow }
+        ensures undisturbed { Undisturbed S.seat S.own S.known S.shows s.old s.new }
+        ensures world { S.world s.new ≡ S.world s.old }
+        ensures keeps { KeepsStorages self.old self.new }
+        ensures pushed { MatchResult result
+            (λ _. ((at : ℕ) × (at < ARRAY_LEN) × IsEmptyAt at self.old.overflow.places × (self.new.overflow.places ≡ with_value_at self.old.overflow.places at (Some value))) ×
+            HasOneMore value (overflow_of self.old) (overflow_of self.new))
+            (λ back. (back ≡ value) × AreFull ARRAY_LEN self.old.overflow.places × (self.new ≡ self.old)) }
+    {
+        match first_shelf(&self.stack, guard, s) {
+            Some(shelf) => self.keys.push(shelf.storage().places(), value),
+            None => Err(value),
+        }
+    }
+
+    /// Takes a value out of the first storage, if there is one that has a value.
+    fn pop_front<
+        S: Items<LinkedEntry<B>> + Cells<LinkedEntry<B>> + LookThrough<LinkedEntry<B>>,
+    >(&mut self, guard: &Guard, s: &mut S) -> Option<T>
+        requires seated { IsSeated (S.seat s.old) }
+        requires home { home_in self.old.overflow.stack ≡ (S.seat s.old).home.cells }
+        requires reader { reader_of guard.now ≡ (S.seat s.old).reader }
+        requires exact { IsExact (S.seat s.old) }
+        requires lies { Lies B.shown ARRAY_LEN (S.world s.old) self.old.overflow }
+        ensures undisturbed { Undisturbed S.seat S.own S.known S.shows s.old s.new }
+        ensures world { S.world s.new ≡ S.world s.old }
+        ensures keeps { KeepsStorages self.old self.new }
+        ensures popped { MatchOption result
+            (AreEmpty ARRAY_LEN self.old.overflow.places × (self.new ≡ self.old))
+            (λ value. ((at : ℕ) × (at < ARRAY_LEN) × IsFullWith value at self.old.overflow.places × (self.new.overflow.places ≡ with_value_at self.old.overflow.places at None)) ×
+            HasOneMore value (overflow_of self.new) (overflow_of self.old)) }
+    {
+        match first_shelf(&self.stack, guard, s) {
+            Some(shelf) => self.keys.pop(shelf.storage().places()),
+            None => None,
+        }
+    }
+
+    /// No place of the first storage has a value, or there is no storage.
+    fn is_front_empty(&self) -> bool
+        ensures { IsTrue result ↔ AreEmpty ARRAY_LEN self.now.overflow.places }
+    {
+        self.keys.is_front_empty()
+    }
+}
