@@ -1,3 +1,4 @@
 pub mod Changes
 pub mod Fronts
 pub mod Lying
+pub mod Still

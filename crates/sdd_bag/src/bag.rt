@@ -1,5 +1,5 @@
 //! The bag.
-ghost use Rattle.std.specs.Prelude.{◌≡◌, ◌↔◌, ◌⊎◌, ◌<◌, ◌≤◌, ◌++◌, ℕ, IfErr, IfOk, IsTrue, List, MatchOption, MatchResult, None, Some, [], drop, length, map};
+ghost use Rattle.std.specs.Prelude.{◌≡◌, ◌≢◌, ◌↔◌, ◌⊎◌, ◌+◌, ◌<◌, ◌≤◌, ◌++◌, ℕ, IfErr, IfOk, IsTrue, List, MatchOption, MatchResult, None, Some, [], drop, length, map};
 ghost use Rattle.sdd_keyed_places.specs.KeyedPlaces.{PlaceName};
 ghost use Rattle.sdd_bag_storage.specs.Storage.{AreEmpty, AreFull, IsEmptyAt, IsFullWith, empty_place, with_value_at};
 ghost use Rattle.sdd_bag_storage.specs.Values.{HasOneMore};
@@ -13,6 +13,9 @@ ghost use Rattle.sdd_lists.specs.declared.stack.Stack.{Stack as Storages};
 ghost use Rattle.sdd_lists.specs.Lists.{Entry};
 ghost use Rattle.sdd_lists.specs.Stack.{cell_in, home_in};
 ghost use Rattle.sdd_bag.specs.Overflow.{AddsStorage, KeepsPlaces, Lies, LiesOn, OverflowParts, RefusesStorage, RemovesStorage};
+ghost use Rattle.sdd_participants.specs.Slab.{IsEmptyAt as IsEmptyCell};
+ghost use Rattle.sdd_lists.specs.Queue.{HasOneAtMost};
+ghost use Rattle.sdd_space.specs.WorldChanges.{nulled};
 ghost use Rattle.sdd_bag.specs.Bag.{BagParts, IsBag, IsOfCells, KeepsStorages, overflow_of, primary_of};
 
 use crate::front::first_shelf;
@@ -95,5 +98,68 @@ impl<T, const ARRAY_LEN: usize, B: Shelf<T, ARRAY_LEN>> Bag<T, ARRAY_LEN, B> {
         ensures { IsTrue result ↔ AreEmpty ARRAY_LEN self.now.overflow.places }
     {
         self.keys.is_front_empty()
+    }
+
+    /// An empty bag. It holds 1 to 32 values itself, and has two cells.
+    ///
+    /// `NoCell` where no two cells are free; `Contended`, in a domain alone, where as many exchanges were lost as its limits allow.
+    pub fn new<S: Items<LinkedEntry<B>> + Cells<LinkedEntry<B>>>(
+        s: &mut S,
+    ) -> Result<Bag<T, ARRAY_LEN, B>, Refused>
+        requires some { 0 < ARRAY_LEN }
+        requires fits { ARRAY_LEN ≤ 32 }
+        requires seated { IsSeated (S.seat s.old) }
+        ensures unmoved { Unmoved S.seat S.known S.shows s.old s.new }
+        ensures own { KeepsMoreWaiting (S.own s.old) (S.own s.new) }
+        ensures home { IfOk result (IsOfCells (S.seat s.old).home.cells) }
+        ensures back { IfErr result (IsRefusedBy (S.seat s.old) Refused.NoCell) }
+        ensures empty { IfOk result (λ bag. (primary_of bag ≡ []) × (overflow_of bag ≡ [])) }
+        ensures world { IsExact (S.seat s.old) → MatchResult result
+            (λ bag. IsEmptyCell (S.world s.old).cells bag.primary.storage.cell × IsEmptyCell (S.world s.old).cells (cell_in bag.overflow.stack) ×
+            (bag.primary.storage.cell ≢ cell_in bag.overflow.stack) ×
+            (S.world s.new ≡ nulled (nulled (S.world s.old) bag.primary.storage.cell) (cell_in bag.overflow.stack)))
+            (λ e. HasOneAtMost (S.world s.old).cells × (e ≡ Refused.NoCell) × (S.world s.new ≡ S.world s.old)) }
+        ensures bag { IsExact (S.seat s.old) → IfOk result (IsBag B.shown ARRAY_LEN (S.world s.new)) }
+    {
+        let cell = match AtomicShared::null(s) {
+            Ok(cell) => cell,
+            Err(refused) => return Err(refused),
+        };
+        match Stack::new(s) {
+            Ok(stack) => Ok(Bag {
+                primary: Primary::new(right_of_shared_cell(cell)),
+                stack,
+                keys: StorageKeys::new(),
+            }),
+            Err(refused) => {
+                cell.close(s);
+                Err(refused)
+            }
+        }
+    }
+
+    /// Puts a value among those in the bag itself. If it holds `ARRAY_LEN` already, the value comes back.
+    pub fn try_push(&mut self, value: T) -> Result<(), T>
+        ensures overflow { self.new.overflow ≡ self.old.overflow }
+        ensures storage { self.new.primary.storage ≡ self.old.primary.storage }
+        ensures pushed { MatchResult result
+            (λ _. (length (primary_of self.old) < ARRAY_LEN) × HasOneMore value (primary_of self.old) (primary_of self.new))
+            (λ back. (back ≡ value) × (length (primary_of self.old) ≡ ARRAY_LEN) × (self.new ≡ self.old)) }
+    {
+        self.primary.push(value)
+    }
+
+    /// How many values there are.
+    pub fn len(&self) -> u128
+        ensures { result ≡ length (primary_of self.now) + length (overflow_of self.now) }
+    {
+        self.primary.len() + self.keys.len()
+    }
+
+    /// There is no value.
+    pub fn is_empty(&self) -> bool
+        ensures { IsTrue result ↔ (primary_of self.now ≡ []) × (overflow_of self.now ≡ []) }
+    {
+        self.len() == 0
     }
 }

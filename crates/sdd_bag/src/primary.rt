@@ -1,5 +1,5 @@
 //! The values that lie in a bag itself.
-ghost use Rattle.std.specs.Prelude.{◌≡◌, ◌<◌, ◌≤◌, MatchOption, MatchResult, [], length};
+ghost use Rattle.std.specs.Prelude.{◌≡◌, ◌^◌, ◌<◌, ◌≤◌, MatchOption, MatchResult, [], length};
 ghost use Rattle.sdd_bag.specs.Primary.{PrimaryParts, held_by};
 ghost use Rattle.sdd_bag_storage.specs.Values.{HasOneMore};
 ghost use Rattle.sdd_rights.specs.Right.{number_of, home_of, kind_of};
@@ -65,7 +65,8 @@ impl<T, const ARRAY_LEN: usize> Primary<T, ARRAY_LEN> {
 
     /// How many values there are.
     pub(crate) fn len(&self) -> u128
-        ensures { result ≡ length (held_by self.now) }
+        ensures values { result ≡ length (held_by self.now) }
+        ensures few { result < 2 ^ 127 }
     {
         self.keys.len()
     }
