@@ -1,6 +1,7 @@
 -- What is in a bag, and how it lies in a world
-use Rattle.std.specs.Prelude.{ℕ, ◌≡◌, List, []}
-use Rattle.sdd_bag_storage.specs.Storage.{AreEmpty}
+use Rattle.std.specs.Prelude.{ℕ, ◌≡◌, ◌++◌, List, [], length, map}
+use Rattle.sdd_bag_storage.specs.Storage.{AreEmpty, empty_place}
+use Rattle.sdd_keyed_places.specs.KeyedPlaces.{PlaceName}
 use Rattle.sdd_rights.specs.Units.{GhostName}
 use Rattle.sdd_space.specs.World.{World}
 use Rattle.sdd_lists.specs.declared.linked_entry.LinkedEntry.{LinkedEntry}
@@ -27,6 +28,14 @@ module _ {T B : Type 0} where
   pub record KeepsStorages (old new : BagParts T B) : Type 0 where
     pub primary : new.primary ≡ old.primary
     pub overflow : KeepsPlaces old.overflow new.overflow
+
+  -- there are the places of a storage more, without values, in front of the others
+  pub record HasStorageMore (len : ℕ) (old new : BagParts T B) : Type 0 where
+    pub primary : new.primary ≡ old.primary
+    pub stack : new.overflow.stack ≡ old.overflow.stack
+    pub names : List PlaceName
+    pub long : length names ≡ len
+    pub places : new.overflow.places ≡ map empty_place names ++ old.overflow.places
 
   -- its cells are of these
   pub record IsOfCells (home : GhostName) (bag : BagParts T B) : Type 0 where

@@ -1,5 +1,5 @@
 //! The bag.
-ghost use Rattle.std.specs.Prelude.{◌≡◌, ◌≢◌, ◌↔◌, ◌⊎◌, ◌+◌, ◌<◌, ◌≤◌, ◌++◌, ℕ, IfErr, IfOk, IsTrue, List, MatchOption, MatchResult, None, Some, [], drop, length, map};
+ghost use Rattle.std.specs.Prelude.{◌≡◌, ◌≢◌, ◌↔◌, ◌⊎◌, ◌+◌, ◌^◌, ◌<◌, ◌≤◌, ◌++◌, ℕ, IfErr, IfOk, IsTrue, List, MatchOption, MatchResult, None, Some, [], drop, length, map};
 ghost use Rattle.sdd_keyed_places.specs.KeyedPlaces.{PlaceName};
 ghost use Rattle.sdd_bag_storage.specs.Storage.{AreEmpty, AreFull, IsEmptyAt, IsFullWith, empty_place, with_value_at};
 ghost use Rattle.sdd_bag_storage.specs.Values.{HasOneMore};
@@ -15,8 +15,10 @@ ghost use Rattle.sdd_lists.specs.Stack.{cell_in, home_in};
 ghost use Rattle.sdd_bag.specs.Overflow.{AddsStorage, KeepsPlaces, Lies, LiesOn, OverflowParts, RefusesStorage, RemovesStorage};
 ghost use Rattle.sdd_participants.specs.Slab.{IsEmptyAt as IsEmptyCell};
 ghost use Rattle.sdd_lists.specs.Queue.{HasOneAtMost};
+ghost use Rattle.sdd_space.specs.Shared.{cell_of, cells_home};
 ghost use Rattle.sdd_space.specs.WorldChanges.{nulled};
-ghost use Rattle.sdd_bag.specs.Bag.{BagParts, IsBag, IsOfCells, KeepsStorages, overflow_of, primary_of};
+ghost use Rattle.sdd_lists.specs.Filling.{AddsOnto, RefusesPush};
+ghost use Rattle.sdd_bag.specs.Bag.{BagParts, HasStorageMore, IsBag, IsOfCells, KeepsStorages, overflow_of, primary_of};
 
 use crate::front::first_shelf;
 use crate::primary::Primary;
@@ -39,11 +41,14 @@ pub struct Bag<T, const ARRAY_LEN: usize, B> {
 }
 
 impl<T, const ARRAY_LEN: usize, B> Model for Bag<T, ARRAY_LEN, B> {
+    ghost use Rattle.std.specs.Prelude.{◌<◌, ◌≤◌};
     ghost use Rattle.sdd_bag.specs.Bag.{BagParts};
 
     ghost Value = { BagParts T B };
 
     ghost view = { λ b. record { primary = b.primary; overflow = record { stack = b.stack; places = b.keys } } };
+
+    ghost invariant = { λ _. (0 < ARRAY_LEN) × (ARRAY_LEN ≤ 32) };
 }
 
 impl<T, const ARRAY_LEN: usize, B: Shelf<T, ARRAY_LEN>> Bag<T, ARRAY_LEN, B> {
@@ -98,6 +103,51 @@ impl<T, const ARRAY_LEN: usize, B: Shelf<T, ARRAY_LEN>> Bag<T, ARRAY_LEN, B> {
         ensures { IsTrue result ↔ AreEmpty ARRAY_LEN self.now.overflow.places }
     {
         self.keys.is_front_empty()
+    }
+
+    /// A storage without values, with this cell, on a new entry in front of the others. Where the entry finds no place the cell comes back.
+    fn push_storage<
+        S: Items<LinkedEntry<B>>
+            + Several<LinkedEntry<B>>
+            + Cells<LinkedEntry<B>>
+            + LookThrough<LinkedEntry<B>>,
+    >(
+        &mut self,
+        cell: AtomicShared<LinkedEntry<B>>,
+        guard: &Guard,
+        s: &mut S,
+    ) -> Result<(), (AtomicShared<LinkedEntry<B>>, Refused)>
+        requires seated { IsSeated (S.seat s.old) }
+        requires home { home_in self.old.overflow.stack ≡ (S.seat s.old).home.cells }
+        requires cell { cells_home cell ≡ (S.seat s.old).home.cells }
+        requires reader { reader_of guard.now ≡ (S.seat s.old).reader }
+        requires exact { IsExact (S.seat s.old) }
+        requires lies { Lies B.shown ARRAY_LEN (S.world s.old) self.old.overflow }
+        requires full { AreFull ARRAY_LEN self.old.overflow.places }
+        requires few { length self.old.overflow.places < 2 ^ 80 }
+        ensures unmoved { Unmoved S.seat S.known S.shows s.old s.new }
+        ensures own { KeepsMoreWaiting (S.own s.old) (S.own s.new) }
+        ensures same { IfErr result (λ _. self.new ≡ self.old) }
+        ensures back { IfErr result (λ e. (cell_of e.0 ≡ cell_of cell) × (cells_home e.0 ≡ cells_home cell)) }
+        ensures refused { IfErr result (λ e. (S.world s.new ≡ S.world s.old) × RefusesPush (S.world s.old) e.1) }
+        ensures pushed { IfOk result (λ _. HasStorageMore ARRAY_LEN self.old self.new) }
+        ensures list { (es : List (Entry (Linked B))) → LiesOn B.shown ARRAY_LEN (S.world s.old) es self.old.overflow → IfOk result (λ _.
+            (shelf : B) × (fs : List (Entry (Linked B))) ×
+            AddsOnto (S.world s.old) (S.seat s.old).place (cell_in self.old.overflow.stack) es shelf (S.world s.new) fs ×
+            LiesOn B.shown ARRAY_LEN (S.world s.new) fs self.new.overflow) }
+    {
+        let places = self.keys.add_places();
+        let storage = Storage::new(places, right_of_shared_cell(cell));
+        match self.stack.push(B::with_storage(storage), guard, s) {
+            Ok(owner) => {
+                let _ = owner.release(s);
+                Ok(())
+            }
+            Err((shelf, refused)) => {
+                self.keys.remove_places();
+                Err((shared_cell_with(shelf.into_storage().into_cell()), refused))
+            }
+        }
     }
 
     /// An empty bag. It holds 1 to 32 values itself, and has two cells.
