@@ -1,0 +1,11 @@
+use Rattle.std.proofs.Common.{◌-◌, ◌<◌, List, map, length, nat_lt, replicate, sym, subst}
+use Rattle.sdd_bag_storage.specs.Storage.{AreMarked, KeptPlace, kept_place}
+use Rattle.sdd_bag_storage.proofs.Marks.{front-removed}
+use Rattle.sdd_bag_storage.proofs.storage_keys.StorageKeys.remove_places.Goals as goal
+
+pub invariant_of-self : goal.invariant_of-self
+invariant_of-self g c =
+    let Places : Type 0 = List (KeptPlace g.row.T.Denot) in let n = c.self.inside.arrays in
+    let some = subst (λ (ps : Places). 0 < length ps) (sym c.self.view_is) c.requires.some in
+    subst (λ (ps : Places). AreMarked g.row.LEN (replicate g.row.LEN (nat_lt 0 (n - 1))) (n - 1) ps) (sym c.forget.ensures)
+    (front-removed g.row.LEN c.self.inside.full n (map kept_place c.self.inside.keys.kept) some c.self.invariant)

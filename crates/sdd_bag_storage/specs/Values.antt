@@ -1,0 +1,9 @@
+-- Values in no said order
+use Rattle.std.specs.Prelude.{◌≡◌, List, ◌∷◌, ◌++◌}
+
+-- the second has one value more than the first, somewhere among them, and is the same else
+pub record HasOneMore {T : Type 0} (value : T) (few many : List T) : Type 0 where
+  pub before : List T
+  pub behind : List T
+  pub fewer : few ≡ before ++ behind
+  pub more : many ≡ before ++ value ∷ behind

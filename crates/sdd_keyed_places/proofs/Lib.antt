@@ -1,0 +1,3 @@
+pub mod Loans
+pub mod Fields
+pub mod Keys

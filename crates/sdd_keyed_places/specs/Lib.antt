@@ -1,0 +1,2 @@
+pub mod KeyedPlaces
+pub mod KeptValues
