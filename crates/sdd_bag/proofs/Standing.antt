@@ -34,7 +34,7 @@ module _ {I : Type 0} where
   given-other w p k None j other = refl
   given-other w p k (Some Owned) j other = get_or-set_other w.standings k j (Some Retired) None other
   given-other w p k (Some Raw) j other = refl
-  given-other w p k (Some (Shared n)) j other = 
+  given-other w p k (Some (Shared n)) j other =
       given-as (nat_lt 1 n) (with_standing w k (Shared (n - 1))) (retired w p k) j (standing_at w j)
       (get_or-set_other w.standings k j (Some (Shared (n - 1))) None other) (get_or-set_other w.standings k j (Some Retired) None other)
   given-other w p k (Some Retired) j other = refl
@@ -94,8 +94,12 @@ module _ {B : Type 0} (shown : B → StorageName) (len : ℕ) where
     once =
         ap (λ (x : World (LinkedEntry B)). standing_at x (slot_of add.owner)) once-world
         ∙ get_or-set_same add.between.standings (slot_of add.owner) (Some (Shared 1)) None
-        (omega (arith, ap (λ (t : Entries Standing). length t) standings-between,
-        length-set w.standings (slot_of add.owner) (Some (Shared 2)), add.pushes.list.free.0))
+        (omega (
+          arith,
+          ap (λ (t : Entries Standing). length t) standings-between,
+          length-set w.standings (slot_of add.owner) (Some (Shared 2)),
+          add.pushes.list.free.0,
+        ))
 
     others : (j : ℕ) → j ≢ slot_of add.owner → standing_at new j ≡ standing_at w j
     others j other =
@@ -111,8 +115,8 @@ module _ {B : Type 0} (shown : B → StorageName) (len : ℕ) where
         let apart : AreElsewhere shown len (slot_of add.owner) es = elsewhere-free w (slot_of add.owner) es add.pushes.list.free lies.shelves in
         let rest : left es ≡ es = plain-left shown len w es lies.shelves in
         let whole : record { slot = slot_of add.owner; value = add.pushes.entry; tag = tag.None } ∷ es ≡ fs =
-            ap (λ (gs : List (Entry (LinkedEntry B))). record { slot = slot_of add.owner; value = add.pushes.entry; tag = tag.None } ∷ gs) (sym rest)
-            ∙ sym add.entries in
+        ap (λ (gs : List (Entry (LinkedEntry B))). record { slot = slot_of add.owner; value = add.pushes.entry; tag = tag.None } ∷ gs) (sym rest)
+        ∙ sym add.entries in
         record {
           stack = add.list;
           shelves = subst (λ (gs : List (Entry (LinkedEntry B))). AreShelves shown len new gs) whole (

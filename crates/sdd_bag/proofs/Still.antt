@@ -34,7 +34,7 @@ module _ {T : Type 0} (w : World T) (a b : ℕ) (first : IsEmptyAt w.cells a) (t
   pub apart : a ≢ b
   apart same =
       let there : entry_at (nulled w a).cells a ≡ Some (record { held = None; tag = tag.None }) =
-          get_or-set_same w.cells a (Some (record { held = None; tag = tag.None })) None first.0 in
+      get_or-set_same w.cells a (Some (record { held = None; tag = tag.None })) None first.0 in
       let none : entry_at (nulled w a).cells a ≡ None = ap (λ (k : ℕ). entry_at (nulled w a).cells k) same ∙ then.1 in
       let never : false ≡ true = ap is_some (sym none ∙ there) in
       absurd (cc)

@@ -16,12 +16,17 @@ pop-requires g c =
     let es = c.requires.lies.0 in
     let lies = subst (λ (o : Parts). LiesOn shown len w es o) (sym view) c.requires.lies.1 in
     let first = c.in-Some.ensures.list c.requires.exact es lies.stack in
-    let places = c.places.ensures ∙ ap (λ (s : StorageName). s.places) (c.storage.ensures ∙ ap shown first.3) in
-    (search rules, (search rules, (
-      places_on shown len first.1,
-      front-keys shown len w es (record { stack = c.self.inside.stack; places = c.self.inside.keys }) lies first.0 first.1 first.2
-          ∙ ap (λ (ns : List _). ns ++ places_on shown len first.1) (sym places),
-    )))
+    let places = c.places.ensures ∙ ap (λ (s : StorageName). s.places) (c.storage.ensures ∙ ap shown first.3) in (
+      search rules,
+      (
+        search rules,
+        (
+          places_on shown len first.1,
+          front-keys shown len w es (record { stack = c.self.inside.stack; places = c.self.inside.keys }) lies first.0 first.1 first.2
+              ∙ ap (λ (ns : List _). ns ++ places_on shown len first.1) (sym places),
+        ),
+      ),
+    )
 
 pub returns-in-Some-clause-world : goal.returns-in-Some-clause-world
 returns-in-Some-clause-world g c = c.in-Some.ensures.world c.requires.exact
