@@ -18,7 +18,7 @@ ghost use Rattle.sdd_lists.specs.Queue.{HasOneAtMost};
 ghost use Rattle.sdd_space.specs.Shared.{cell_of, cells_home};
 ghost use Rattle.sdd_space.specs.WorldChanges.{nulled};
 ghost use Rattle.sdd_lists.specs.Filling.{AddsOnto, RefusesPush};
-ghost use Rattle.sdd_bag.specs.Bag.{BagParts, HasStorageMore, IsBag, IsOfCells, KeepsStorages, overflow_of, primary_of};
+ghost use Rattle.sdd_bag.specs.Bag.{BagParts, HasSameCells, HasStorageMore, PushesBehind, PushesInside, IsBag, IsOfCells, KeepsStorages, overflow_of, primary_of};
 
 use crate::front::first_shelf;
 use crate::primary::Primary;
@@ -269,6 +269,43 @@ impl<T, const ARRAY_LEN: usize, B: Shelf<T, ARRAY_LEN>> Bag<T, ARRAY_LEN, B> {
                 cell.close(s);
                 Err(refused)
             }
+        }
+    }
+
+    /// Puts a value among those in the bag itself, if there are fewer than `ARRAY_LEN`, else into another storage: into the first, or into one more.
+    ///
+    /// `NoSlot` where a storage more is needed and no slot is free, else `NoCell` where no two cells are. The value comes back.
+    pub fn push<
+        S: Items<LinkedEntry<B>>
+            + Several<LinkedEntry<B>>
+            + Cells<LinkedEntry<B>>
+            + LookThrough<LinkedEntry<B>>,
+    >(&mut self, value: T, guard: &Guard, s: &mut S) -> Result<(), (T, Refused)>
+        requires seated { IsSeated (S.seat s.old) }
+        requires home { home_in self.old.overflow.stack ≡ (S.seat s.old).home.cells }
+        requires reader { reader_of guard.now ≡ (S.seat s.old).reader }
+        requires exact { IsExact (S.seat s.old) }
+        requires bag { IsBag B.shown ARRAY_LEN (S.world s.old) self.old }
+        ensures unmoved { Unmoved S.seat S.known S.shows s.old s.new }
+        ensures own { KeepsMoreWaiting (S.own s.old) (S.own s.new) }
+        ensures cells { HasSameCells self.old self.new }
+        ensures bag { IsBag B.shown ARRAY_LEN (S.world s.new) self.new }
+        ensures pushed { MatchResult result
+            (λ _. PushesInside ARRAY_LEN value self.old self.new × (S.world s.new ≡ S.world s.old) ⊎ PushesBehind ARRAY_LEN value self.old self.new)
+            (λ e. (length (primary_of self.old) ≡ ARRAY_LEN) × (e.0 ≡ value) × (self.new ≡ self.old) × (S.world s.new ≡ S.world s.old) ×
+            RefusesStorage (S.world s.old) e.1) }
+        ensures list { (es : List (Entry (Linked B))) → LiesOn B.shown ARRAY_LEN (S.world s.old) es self.old.overflow → IfOk result (λ _.
+            (fs : List (Entry (Linked B))) × LiesOn B.shown ARRAY_LEN (S.world s.new) fs self.new.overflow ×
+            ((S.world s.new ≡ S.world s.old) ⊎ AreFull ARRAY_LEN self.old.overflow.places ×
+            AddsStorage (S.world s.old) (S.seat s.old).place (cell_in self.old.overflow.stack) es (S.world s.new) fs)) }
+    {
+        let value = match self.primary.push(value) {
+            Ok(()) => return Ok(()),
+            Err(value) => value,
+        };
+        match self.push_behind(value, guard, s) {
+            Ok(()) => Ok(()),
+            Err(back) => Err(back),
         }
     }
 
