@@ -1,5 +1,5 @@
 -- What a push and a pop make of a bag's own storage
-use Rattle.std.proofs.Common.{◌≡◌, ℕ, ◌+◌, ◌<◌, ◌≤◌, List, [], ◌∷◌, ◌++◌, Option, Some, None, length, map, is_some, true, false, refl, sym, ap, ◌∙◌, subst, arith}
+use Rattle.std.proofs.Common.{◌≡◌, ℕ, ◌+◌, ◌<◌, List, [], ◌∷◌, ◌++◌, Option, Some, None, length, map, is_some, true, false, refl, sym, ap, ◌∙◌, arith}
 use Rattle.std.specs.Prelude.{IfOk, IfSome, MatchOption, MatchResult, Result, Ok, Err}
 use Rattle.sdd_keyed_places.specs.KeyedPlaces.{PlaceName}
 use Rattle.sdd_bag_storage.specs.Storage.{AreEmpty, AreFull, IsEmptyAt, IsFullWith, KeptPlace, empty_place, names_of, value_at, values_in, with_value_at}
@@ -7,7 +7,7 @@ use Rattle.sdd_bag_storage.specs.Values.{HasOneMore}
 use Rattle.sdd_bag_storage.proofs.Marks.{value-new, values-full, with-same}
 use Rattle.sdd_bag_storage.proofs.Values.{fewer-in, none-in}
 use Rattle.sdd_bag.specs.Storages.{StorageName}
-use Rattle.sdd_bag.specs.Primary.{HasItsKeys, PrimaryParts, held_by}
+use Rattle.sdd_bag.specs.Primary.{PrimaryParts}
 
 module _ {T : Type 0} where
   pub new-values : (names : List PlaceName) (ps : List (KeptPlace T)) → values_in (map empty_place names ++ ps) ≡ values_in ps

@@ -1,10 +1,10 @@
 -- How the entries of a bag's storages stand where one is put in front of them, and where the first is taken away
-use Rattle.std.proofs.Common.{◌≡◌, ◌≢◌, ℕ, ◌+◌, ◌-◌, ◌*◌, ◌^◌, ◌<◌, ◌≤◌, List, [], ◌∷◌, ◌++◌, Option, Some, None, length, map, true, false, refl, sym, ap, ◌∙◌, subst, arith}
+use Rattle.std.proofs.Common.{◌≡◌, ◌≢◌, ℕ, ◌-◌, ◌*◌, ◌^◌, ◌<◌, ◌≤◌, List, [], ◌∷◌, ◌++◌, Option, Some, None, length, map, true, false, refl, sym, ap, ◌∙◌, subst, arith}
 use Rattle.std.specs.Prelude.{is_some, nat_lt, slice_set, if◌then◌else◌}
 use Rattle.std.proofs.lemmas.List.{get_or-set_same, get_or-set_other, length-append, length-map, length-set}
 use mathlib.Core.Bool.{Bool}
 use Rattle.sdd_keyed_places.specs.KeyedPlaces.{PlaceName}
-use Rattle.sdd_bag_storage.specs.Storage.{KeptPlace, empty_place, names_of}
+use Rattle.sdd_bag_storage.specs.Storage.{KeptPlace, empty_place}
 use Rattle.sdd_core.specs.declared.tag.Tag.{Tag}
 use Rattle.sdd_core.specs.declared.tag.Tag.TheVariants as tag
 use Rattle.sdd_participants.specs.Slab.{Entries, IsEmptyAt, entry_at}
@@ -22,7 +22,7 @@ use Rattle.sdd_lists.specs.Lists.{Entry, is_deleting, left, trimmed}
 use Rattle.sdd_lists.specs.declared.stack.Stack.{Stack}
 use Rattle.sdd_lists.specs.Stack.{IsStack, cell_in}
 use Rattle.sdd_bag.specs.Storages.{StorageName}
-use Rattle.sdd_bag.specs.Overflow.{AreElsewhere, AreShelves, IsShelf, KeepsPlaces, LiesOn, OverflowParts, places_on, storage_on}
+use Rattle.sdd_bag.specs.Overflow.{AreElsewhere, AreShelves, KeepsPlaces, LiesOn, OverflowParts, places_on, storage_on}
 use Rattle.sdd_bag.proofs.Changes.{new-names}
 use Rattle.sdd_bag.proofs.Lying.{plain-left}
 
@@ -37,7 +37,7 @@ module _ {I : Type 0} where
   given-other w p k None j other = refl
   given-other w p k (Some Owned) j other = get_or-set_other w.standings k j (Some Retired) None other
   given-other w p k (Some Raw) j other = refl
-  given-other w p k (Some (Shared n)) j other = 
+  given-other w p k (Some (Shared n)) j other =
       given-as (nat_lt 1 n) (with_standing w k (Shared (n - 1))) (retired w p k) j (standing_at w j)
       (get_or-set_other w.standings k j (Some (Shared (n - 1))) None other) (get_or-set_other w.standings k j (Some Retired) None other)
   given-other w p k (Some Retired) j other = refl
@@ -97,8 +97,12 @@ module _ {B : Type 0} (shown : B → StorageName) (len : ℕ) where
     once =
         ap (λ (x : World (LinkedEntry B)). standing_at x (slot_of add.owner)) once-world
         ∙ get_or-set_same add.between.standings (slot_of add.owner) (Some (Shared 1)) None
-        (omega (arith, ap (λ (t : Entries Standing). length t) standings-between,
-        length-set w.standings (slot_of add.owner) (Some (Shared 2)), add.pushes.list.free.0))
+        (omega (
+          arith,
+          ap (λ (t : Entries Standing). length t) standings-between,
+          length-set w.standings (slot_of add.owner) (Some (Shared 2)),
+          add.pushes.list.free.0,
+        ))
 
     others : (j : ℕ) → j ≢ slot_of add.owner → standing_at new j ≡ standing_at w j
     others j other =
@@ -114,8 +118,8 @@ module _ {B : Type 0} (shown : B → StorageName) (len : ℕ) where
         let apart : AreElsewhere shown len (slot_of add.owner) es = elsewhere-free w (slot_of add.owner) es add.pushes.list.free lies.shelves in
         let rest : left es ≡ es = plain-left shown len w es lies.shelves in
         let whole : record { slot = slot_of add.owner; value = add.pushes.entry; tag = tag.None } ∷ es ≡ fs =
-            ap (λ (gs : List (Entry (LinkedEntry B))). record { slot = slot_of add.owner; value = add.pushes.entry; tag = tag.None } ∷ gs) (sym rest)
-            ∙ sym add.entries in
+        ap (λ (gs : List (Entry (LinkedEntry B))). record { slot = slot_of add.owner; value = add.pushes.entry; tag = tag.None } ∷ gs) (sym rest)
+        ∙ sym add.entries in
         record {
           stack = add.list;
           shelves = subst (λ (gs : List (Entry (LinkedEntry B))). AreShelves shown len new gs) whole (
@@ -148,8 +152,15 @@ module _ {B : Type 0} (shown : B → StorageName) (len : ℕ) where
       → length w.values ≡ slots → slots < 2 ^ 64 → LiesOn shown len w es o → length o.places < 2 ^ 80
   few-kept w es o slots most long few lies =
       let named = ap length lies.keys in
-      omega (arith, few-places w es most lies.shelves, no-longer link_of w es lies.stack.linked, long, few, named,
-      length-map o.places (λ (p : KeptPlace _). p.name))
+      omega (
+        arith,
+        few-places w es most lies.shelves,
+        no-longer link_of w es lies.stack.linked,
+        long,
+        few,
+        named,
+        length-map o.places (λ (p : KeptPlace _). p.name),
+      )
 
   pub lies-kept : {T : Type 0} (w new : World (LinkedEntry B)) (es : List (Entry (LinkedEntry B))) (o o' : OverflowParts T B) → new ≡ w → KeepsPlaces o o'
       → LiesOn shown len w es o → LiesOn shown len new es o'

@@ -53,9 +53,12 @@ impl<T, const ARRAY_LEN: usize, B> Model for Bag<T, ARRAY_LEN, B> {
 
 impl<T, const ARRAY_LEN: usize, B: Shelf<T, ARRAY_LEN>> Bag<T, ARRAY_LEN, B> {
     /// Puts a value into the first storage. If there is none, or it is full, the value comes back.
-    fn push_front<
-        S: Items<LinkedEntry<B>> + Cells<LinkedEntry<B>> + LookThrough<LinkedEntry<B>>,
-    >(&mut self, value: T, guard: &Guard, s: &mut S) -> Result<(), T>
+    fn push_front<S: Items<LinkedEntry<B>> + Cells<LinkedEntry<B>> + LookThrough<LinkedEntry<B>>>(
+        &mut self,
+        value: T,
+        guard: &Guard,
+        s: &mut S,
+    ) -> Result<(), T>
         requires seated { IsSeated (S.seat s.old) }
         requires home { home_in self.old.overflow.stack ≡ (S.seat s.old).home.cells }
         requires reader { reader_of guard.now ≡ (S.seat s.old).reader }
@@ -76,9 +79,11 @@ impl<T, const ARRAY_LEN: usize, B: Shelf<T, ARRAY_LEN>> Bag<T, ARRAY_LEN, B> {
     }
 
     /// Takes a value out of the first storage, if there is one that has a value.
-    fn pop_front<
-        S: Items<LinkedEntry<B>> + Cells<LinkedEntry<B>> + LookThrough<LinkedEntry<B>>,
-    >(&mut self, guard: &Guard, s: &mut S) -> Option<T>
+    fn pop_front<S: Items<LinkedEntry<B>> + Cells<LinkedEntry<B>> + LookThrough<LinkedEntry<B>>>(
+        &mut self,
+        guard: &Guard,
+        s: &mut S,
+    ) -> Option<T>
         requires seated { IsSeated (S.seat s.old) }
         requires home { home_in self.old.overflow.stack ≡ (S.seat s.old).home.cells }
         requires reader { reader_of guard.now ≡ (S.seat s.old).reader }

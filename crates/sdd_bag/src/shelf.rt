@@ -27,8 +27,7 @@ pub trait Shelf<T, const ARRAY_LEN: usize>: Item<LinkedEntry<Self>> {
 }
 
 impl<T: Item<LinkedEntry<Storage<T, ARRAY_LEN>>>, const ARRAY_LEN: usize> Shelf<T, ARRAY_LEN>
-    for Storage<T, ARRAY_LEN>
-{
+    for Storage<T, ARRAY_LEN> {
     ghost shown = { λ s. s };
 
     fn with_storage(storage: Storage<T, ARRAY_LEN>) -> Self

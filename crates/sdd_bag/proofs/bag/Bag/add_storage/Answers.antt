@@ -1,4 +1,4 @@
-use Rattle.std.proofs.Common.{rules, ◌≡◌, ◌⊎◌, inl, inr, ◌<◌, ◌^◌, ℕ, List, Option, Some, None, true, false, length, ap, ◌∙◌, sym, subst, refl, arith}
+use Rattle.std.proofs.Common.{rules, ◌≡◌, inl, inr, ◌<◌, ◌^◌, ℕ, Option, Some, None, true, false, length, ap, ◌∙◌, sym, subst, refl, arith}
 use Rattle.std.proofs.lemmas.List.{get_or-set_same}
 use Rattle.sdd_core.specs.declared.tag.Tag.TheVariants.{None as no_tag}
 use Rattle.sdd_participants.specs.Slab.{IsEmptyAt, IsFull}
@@ -29,28 +29,30 @@ push_storage-requires g c =
     let here = subst (λ (x : World _). LiesOn shown len x es o) (sym world1) (lies-beside shown len w l es o free c.requires.lies.1) in
     let many = c.values_fit_slots.ensures.many e ∙ sym (c.slots.ensures.exact e) in
     let few : length o.places < 2 ^ 80 =
-        few-kept shown len w es o c.slots.result c.self.invariant.1 many (omega (arith, c.slots.type_inv)) c.requires.lies.1 in
-    let cells = ap (λ (s : CallerId). s.home.cells) at1 in
-    (search rules, (
-      subst (λ (s : CallerId). IsSeated s) (sym at1) c.requires.seated,
+    few-kept shown len w es o c.slots.result c.self.invariant.1 many (omega (arith, c.slots.type_inv)) c.requires.lies.1 in
+    let cells = ap (λ (s : CallerId). s.home.cells) at1 in (
+      search rules,
       (
-        c.requires.home ∙ sym cells,
+        subst (λ (s : CallerId). IsSeated s) (sym at1) c.requires.seated,
         (
-          c.in-Ok.ensures.home ∙ ap (λ (s : CallerId). s.home.cells) (at0 ∙ sym at1),
+          c.requires.home ∙ sym cells,
           (
-            c.requires.reader ∙ ap (λ (s : CallerId). s.reader) (sym at1),
-            (subst (λ (s : CallerId). IsExact s) (sym at1) e, ((es, here), (c.requires.full, few))),
+            c.in-Ok.ensures.home ∙ ap (λ (s : CallerId). s.home.cells) (at0 ∙ sym at1),
+            (
+              c.requires.reader ∙ ap (λ (s : CallerId). s.reader) (sym at1),
+              (subst (λ (s : CallerId). IsExact s) (sym at1) e, ((es, here), (c.requires.full, few))),
+            ),
           ),
         ),
       ),
-    ))
+    )
 
 pub returns-then-not-free-clause-refused : goal.returns-then-not-free-clause-refused
 returns-then-not-free-clause-refused g c =
     let seen = c.has_slot-free.ensures.exact c.requires.exact in
     let no : c.has_slot-free.result ≡ false = c.if-not-free.true in
     let full : IsFull (g.S.Caller.world c.args.s.now).standings =
-        full-of _ (λ not. let yes : c.has_slot-free.result ≡ true = seen.0.1 not in let never : false ≡ true = sym no ∙ yes in absurd (cc)) in
+    full-of _ (λ not. let yes : c.has_slot-free.result ≡ true = seen.0.1 not in let never : false ≡ true = sym no ∙ yes in absurd (cc)) in
     (seen.1, inl (full, refl))
 
 pub returns-in-Err-clause-unmoved : goal.returns-in-Err-clause-unmoved
@@ -92,9 +94,8 @@ returns-in-Ok-push_storage-clause-list g c = λ es lies.
     let free : IsEmptyAt w.cells l = subst (λ (x : World _). IsEmptyAt x.cells l) same made.0 in
     let world1 : g.S.Caller.world c.null.new.s ≡ nulled w l = made.1 ∙ ap (λ (x : World _). nulled x l) same in
     let here = subst (λ (x : World _). LiesOn shown len x es c.args.self.now.overflow) (sym world1)
-        (lies-beside shown len w l es c.args.self.now.overflow free lies) in
-    let got = c.in-Ok-push_storage.ensures.list es here in
-    (
+    (lies-beside shown len w l es c.args.self.now.overflow free lies) in
+    let got = c.in-Ok-push_storage.ensures.list es here in (
       got.1,
       record {
         cell = l;
@@ -135,8 +136,7 @@ returns-in-Err-push_storage-clause-refused g c =
     let not = c.in-Err-push_storage.ensures.refused in
     let closed = c.close.ensures.exact (subst (λ (s : CallerId). IsExact s) (sym at2) e) in
     let place = (g.S.Caller.seat c.push_storage.new.s).place in
-    let nothing : CellContents = record { held = None; tag = no_tag } in
-    (
+    let nothing : CellContents = record { held = None; tag = no_tag } in (
       closed ∙ ap (λ (y : World _). cell_closed y place (cell_of c.in-Err-push_storage.cell)) (not.0 ∙ world1)
           ∙ ap (λ (k : ℕ). cell_closed (nulled w l) place k) c.in-Err-push_storage.ensures.back.0
           ∙ ap (λ (x : Option CellContents). spilled (without_cell (nulled w l) l) place (held_in x)) (get_or-set_same w.cells l (Some nothing) None free.0)

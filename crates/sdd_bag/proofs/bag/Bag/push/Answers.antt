@@ -21,11 +21,13 @@ pub push_behind-requires : goal.push_behind-requires
 push_behind-requires g c =
     let Parts : Type 0 = OverflowParts g.row.T.Denot g.row.B.Denot in let es = c.requires.bag.entries in
     let view = ap (λ (b : BagParts g.row.T.Denot g.row.B.Denot). b.overflow) c.self.view_is in
-    let lies = subst (λ (o : Parts). LiesOn g.B.Shelf.shown g.row.ARRAY_LEN (g.S.Caller.world c.args.s.now) es o) (sym view) c.requires.bag.lies in
-    (search rules, (
-      c.requires.seated,
-      (ap (λ (o : Parts). home_in o.stack) view ∙ c.requires.home, (c.requires.reader, (c.requires.exact, (es, lies)))),
-    ))
+    let lies = subst (λ (o : Parts). LiesOn g.B.Shelf.shown g.row.ARRAY_LEN (g.S.Caller.world c.args.s.now) es o) (sym view) c.requires.bag.lies in (
+      search rules,
+      (
+        c.requires.seated,
+        (ap (λ (o : Parts). home_in o.stack) view ∙ c.requires.home, (c.requires.reader, (c.requires.exact, (es, lies)))),
+      ),
+    )
 
 pub returns-in-Ok-push_behind-clause-bag : goal.returns-in-Ok-push_behind-clause-bag
 returns-in-Ok-push_behind-clause-bag g c =

@@ -1,11 +1,11 @@
-use Rattle.std.proofs.Common.{rules, ◌≡◌, ◌<◌, ◌++◌, ℕ, List, Option, Some, None, ap, ◌∙◌, sym, subst, refl}
-use Rattle.std.specs.Prelude.{MatchOption, MatchResult}
-use Rattle.sdd_bag_storage.specs.Storage.{AreEmpty, AreFull, IsEmptyAt, IsFullWith, with_value_at}
+use Rattle.std.proofs.Common.{rules, ◌≡◌, ◌<◌, ◌++◌, ℕ, List, Some, ap, ◌∙◌, sym, subst, refl}
+use Rattle.std.specs.Prelude.{MatchResult}
+use Rattle.sdd_bag_storage.specs.Storage.{AreFull, IsEmptyAt, with_value_at}
 use Rattle.sdd_bag_storage.specs.Values.{HasOneMore}
 use Rattle.sdd_bag.specs.Storages.{StorageName}
 use Rattle.sdd_bag.specs.Overflow.{LiesOn, OverflowParts, places_on}
 use Rattle.sdd_bag.specs.Bag.{BagParts, overflow_of}
-use Rattle.sdd_bag.proofs.Lying.{front-keys, no-places, none-full, none-there, none-used, storages-popped, storages-pushed}
+use Rattle.sdd_bag.proofs.Lying.{front-keys, none-full, none-there, storages-pushed}
 use Rattle.sdd_bag.proofs.bag.Bag.push_front.Goals as goal
 
 pub push-requires : goal.push-requires
@@ -16,12 +16,17 @@ push-requires g c =
     let es = c.requires.lies.0 in
     let lies = subst (λ (o : Parts). LiesOn shown len w es o) (sym view) c.requires.lies.1 in
     let first = c.in-Some.ensures.list c.requires.exact es lies.stack in
-    let places = c.places.ensures ∙ ap (λ (s : StorageName). s.places) (c.storage.ensures ∙ ap shown first.3) in
-    (search rules, (search rules, (
-      places_on shown len first.1,
-      front-keys shown len w es (record { stack = c.self.inside.stack; places = c.self.inside.keys }) lies first.0 first.1 first.2
-          ∙ ap (λ (ns : List _). ns ++ places_on shown len first.1) (sym places),
-    )))
+    let places = c.places.ensures ∙ ap (λ (s : StorageName). s.places) (c.storage.ensures ∙ ap shown first.3) in (
+      search rules,
+      (
+        search rules,
+        (
+          places_on shown len first.1,
+          front-keys shown len w es (record { stack = c.self.inside.stack; places = c.self.inside.keys }) lies first.0 first.1 first.2
+              ∙ ap (λ (ns : List _). ns ++ places_on shown len first.1) (sym places),
+        ),
+      ),
+    )
 
 pub returns-in-Some-clause-world : goal.returns-in-Some-clause-world
 returns-in-Some-clause-world g c = c.in-Some.ensures.world c.requires.exact

@@ -1,11 +1,11 @@
-use Rattle.std.proofs.Common.{rules, ◌≡◌, ◌<◌, ◌++◌, ◌^◌, ℕ, List, Option, Some, None, length, map, is_some, ap, ◌∙◌, sym, subst, refl, arith}
+use Rattle.std.proofs.Common.{rules, ◌≡◌, ◌<◌, ◌++◌, ◌^◌, List, length, map, is_some, ap, ◌∙◌, sym, subst, arith}
 use Rattle.sdd_keyed_places.specs.KeyedPlaces.{PlaceName}
 use Rattle.sdd_bag_storage.specs.Storage.{AreEmpty, AreFull, KeptPlace, empty_place}
 use Rattle.sdd_bag_storage.proofs.Marks.{value-new}
 use Rattle.sdd_rights.specs.Right.{home_of}
 use Rattle.sdd_rights.specs.declared.right.Right.{Right}
 use Rattle.sdd_space.specs.CallerId.{CallerId, IsExact}
-use Rattle.sdd_space.specs.OwnerOrCell.{AreOf, SpaceId}
+use Rattle.sdd_space.specs.OwnerOrCell.{SpaceId}
 use Rattle.sdd_space.specs.Shared.{slot_of}
 use Rattle.sdd_space.specs.World.{standing_at}
 use Rattle.sdd_space.specs.WorldChanges.{owner_given}
@@ -33,7 +33,7 @@ pub push-requires-clause-value : goal.push-requires-clause-value
 push-requires-clause-value g c =
     let home : SpaceId = (g.S.Caller.seat c.args.s.now).home in
     let of : c.new-storage.result.home ≡ home.cells =
-        ap (λ (s : StorageName). s.home) c.new-storage.ensures ∙ ap (λ (r : Right). home_of r) c.right_of_shared_cell.ensures.right ∙ c.requires.cell in
+    ap (λ (s : StorageName). s.home) c.new-storage.ensures ∙ ap (λ (r : Right). home_of r) c.right_of_shared_cell.ensures.right ∙ c.requires.cell in
     c.with_storage.ensures.held home (of, tt)
 
 pub remove_places-requires : goal.remove_places-requires
@@ -43,9 +43,9 @@ remove_places-requires g c =
     let are = c.add_places-places.ensures.places in
     let long = ap (λ (ps : Places). length ps) are in
     let some : 0 < length c.add_places-places.new.self =
-        omega (arith, long, new-long names c.self.inside.keys, c.add_places-places.ensures.long, c.self.invariant.0) in
+    omega (arith, long, new-long names c.self.inside.keys, c.add_places-places.ensures.long, c.self.invariant.0) in
     let empty : AreEmpty g.row.ARRAY_LEN (map empty_place names ++ c.self.inside.keys) =
-        λ k near. ap is_some (value-new names c.self.inside.keys k (omega (arith, near, c.add_places-places.ensures.long))) in
+    λ k near. ap is_some (value-new names c.self.inside.keys k (omega (arith, near, c.add_places-places.ensures.long))) in
     (search rules, (some, subst (λ (ps : Places). AreEmpty g.row.ARRAY_LEN ps) (sym are) empty))
 
 pub returns-in-Ok-clause-unmoved : goal.returns-in-Ok-clause-unmoved
@@ -69,11 +69,10 @@ returns-in-Ok-clause-list g c = λ es lies.
     let pushes = c.in-Ok.ensures.list e es here.stack in
     let released = (c.release.ensures.released (subst (λ (s : CallerId). IsExact s) (sym at) e)).world in
     let is : new ≡ owner_given between p (slot_of owner) (standing_at between (slot_of owner)) =
-        released ∙ ap (λ (s : CallerId). owner_given between s.place (slot_of owner) (standing_at between (slot_of owner))) at in
+    released ∙ ap (λ (s : CallerId). owner_given between s.place (slot_of owner) (standing_at between (slot_of owner))) at in
     let add = added w between new p (cell_in c.self.inside.stack) es shelf owner pushes is in
     let names : List PlaceName = c.add_places-places.result in
-    let on : (shown shelf).places ≡ names = ap (λ (s : StorageName). s.places) (c.with_storage.ensures.shown ∙ c.new-storage.ensures) in
-    (
+    let on : (shown shelf).places ≡ names = ap (λ (s : StorageName). s.places) (c.with_storage.ensures.shown ∙ c.new-storage.ensures) in (
       shelf,
       add.0,
       subst (λ (x : Parts). AddsOnto w p (cell_in x.stack) es shelf new add.0) view add.1,
