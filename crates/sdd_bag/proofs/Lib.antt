@@ -3,4 +3,3 @@ pub mod Fronts
 pub mod Lying
 pub mod Still
 pub mod Standing
-pub mod Removing

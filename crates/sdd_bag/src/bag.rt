@@ -239,39 +239,6 @@ impl<T, const ARRAY_LEN: usize, B: Shelf<T, ARRAY_LEN>> Bag<T, ARRAY_LEN, B> {
         }
     }
 
-    /// The first of the other storages, whose places have no values, is let go of, and its item retired.
-    fn remove_storage<
-        S: Items<LinkedEntry<B>>
-            + SharedItems<LinkedEntry<B>>
-            + Cells<LinkedEntry<B>>
-            + LookThrough<LinkedEntry<B>>,
-    >(&mut self, guard: &Guard, s: &mut S)
-        requires seated { IsSeated (S.seat s.old) }
-        requires home { home_in self.old.overflow.stack ≡ (S.seat s.old).home.cells }
-        requires reader { reader_of guard.now ≡ (S.seat s.old).reader }
-        requires exact { IsExact (S.seat s.old) }
-        requires lies { Lies B.shown ARRAY_LEN (S.world s.old) self.old.overflow }
-        requires some { 0 < length self.old.overflow.places }
-        requires empty { AreEmpty ARRAY_LEN self.old.overflow.places }
-        ensures unmoved { Unmoved S.seat S.known S.shows s.old s.new }
-        ensures own { KeepsMoreWaiting (S.own s.old) (S.own s.new) }
-        ensures cells { HasSameCells self.old self.new }
-        ensures primary { self.new.primary ≡ self.old.primary }
-        ensures places { self.new.overflow.places ≡ drop ARRAY_LEN self.old.overflow.places }
-        ensures list { (es : List (Entry (Linked B))) → LiesOn B.shown ARRAY_LEN (S.world s.old) es self.old.overflow → (fs : List (Entry (Linked B))) ×
-            RemovesStorage (S.world s.old) (S.seat s.old).place (cell_in self.old.overflow.stack) es (S.world s.new) fs ×
-            LiesOn B.shown ARRAY_LEN (S.world s.new) fs self.new.overflow }
-    {
-        match self.stack.pop(guard, s) {
-            Ok(Some(owner)) => {
-                let _ = owner.release(s);
-                self.keys.remove_places();
-            }
-            Ok(None) => unreachable!(),
-            Err(_) => unreachable!(),
-        }
-    }
-
     /// An empty bag. It holds 1 to 32 values itself, and has two cells.
     ///
     /// `NoCell` where no two cells are free; `Contended`, in a domain alone, where as many exchanges were lost as its limits allow.
