@@ -18,7 +18,8 @@ module _ {T : Type 0} where
   new-names [] ps = refl
   new-names (n ∷ names) ps = ap (λ (ns : List PlaceName). n ∷ ns) (new-names names ps)
 
-  pub new-long : (names : List PlaceName) (ps : List (KeptPlace T)) → length (map (λ (n : PlaceName). empty_place {T = T} n) names ++ ps) ≡ length names + length ps
+  pub new-long : (names : List PlaceName) (ps : List (KeptPlace T))
+      → length (map (λ (n : PlaceName). empty_place {T = T} n) names ++ ps) ≡ length names + length ps
   new-long [] ps = omega arith
   new-long (n ∷ names) ps = omega (arith, new-long names ps)
 

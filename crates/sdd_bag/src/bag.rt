@@ -68,7 +68,8 @@ impl<T, const ARRAY_LEN: usize, B: Shelf<T, ARRAY_LEN>> Bag<T, ARRAY_LEN, B> {
         ensures world { S.world s.new ≡ S.world s.old }
         ensures keeps { KeepsStorages self.old self.new }
         ensures pushed { MatchResult result
-            (λ _. ((at : ℕ) × (at < ARRAY_LEN) × IsEmptyAt at self.old.overflow.places × (self.new.overflow.places ≡ with_value_at self.old.overflow.places at (Some value))) ×
+            (λ _. ((at : ℕ) × (at < ARRAY_LEN) × IsEmptyAt at self.old.overflow.places ×
+            (self.new.overflow.places ≡ with_value_at self.old.overflow.places at (Some value))) ×
             HasOneMore value (overflow_of self.old) (overflow_of self.new))
             (λ back. (back ≡ value) × AreFull ARRAY_LEN self.old.overflow.places × (self.new ≡ self.old)) }
     {
@@ -94,7 +95,8 @@ impl<T, const ARRAY_LEN: usize, B: Shelf<T, ARRAY_LEN>> Bag<T, ARRAY_LEN, B> {
         ensures keeps { KeepsStorages self.old self.new }
         ensures popped { MatchOption result
             (AreEmpty ARRAY_LEN self.old.overflow.places × (self.new ≡ self.old))
-            (λ value. ((at : ℕ) × (at < ARRAY_LEN) × IsFullWith value at self.old.overflow.places × (self.new.overflow.places ≡ with_value_at self.old.overflow.places at None)) ×
+            (λ value. ((at : ℕ) × (at < ARRAY_LEN) × IsFullWith value at self.old.overflow.places ×
+            (self.new.overflow.places ≡ with_value_at self.old.overflow.places at None)) ×
             HasOneMore value (overflow_of self.new) (overflow_of self.old)) }
     {
         match first_shelf(&self.stack, guard, s) {
