@@ -1,25 +1,28 @@
 -- How the entries of a bag's storages stand where one is put in front of them, and where the first is taken away
-use Rattle.std.proofs.Common.{◌≡◌, ◌≢◌, ℕ, ◌+◌, ◌-◌, ◌*◌, ◌<◌, ◌≤◌, List, [], ◌∷◌, ◌++◌, Option, Some, None, length, map, true, false, refl, sym, ap, ◌∙◌, subst, arith}
+use Rattle.std.proofs.Common.{◌≡◌, ◌≢◌, ℕ, ◌-◌, ◌*◌, ◌^◌, ◌<◌, ◌≤◌, List, [], ◌∷◌, ◌++◌, Option, Some, None, length, map, true, false, refl, sym, ap, ◌∙◌, subst, arith}
 use Rattle.std.specs.Prelude.{is_some, nat_lt, slice_set, if◌then◌else◌}
-use Rattle.std.proofs.lemmas.List.{get_or-set_same, get_or-set_other, length-append, length-set}
+use Rattle.std.proofs.lemmas.List.{get_or-set_same, get_or-set_other, length-append, length-map, length-set}
 use mathlib.Core.Bool.{Bool}
 use Rattle.sdd_keyed_places.specs.KeyedPlaces.{PlaceName}
-use Rattle.sdd_bag_storage.specs.Storage.{KeptPlace, empty_place, names_of}
+use Rattle.sdd_bag_storage.specs.Storage.{KeptPlace, empty_place}
 use Rattle.sdd_core.specs.declared.tag.Tag.{Tag}
 use Rattle.sdd_core.specs.declared.tag.Tag.TheVariants as tag
 use Rattle.sdd_participants.specs.Slab.{Entries, IsEmptyAt, entry_at}
 use Rattle.sdd_participants.specs.declared.standing.Standing.{Standing}
 use Rattle.sdd_participants.specs.declared.standing.Standing.TheVariants.{Owned, Raw, Shared, Retired, Private}
 use Rattle.sdd_space.specs.World.{World, standing_at}
-use Rattle.sdd_space.specs.WorldChanges.{owner_given, retired, with_standing}
+use Rattle.sdd_space.specs.WorldChanges.{nulled, owner_given, retired, with_standing}
+use Rattle.sdd_lists.proofs.Few.{no-longer}
+use Rattle.sdd_lists.proofs.Fresh.{fresh-list}
 use Rattle.sdd_space.specs.Shared.{slot_of}
 use Rattle.sdd_lists.specs.declared.linked_entry.LinkedEntry.{LinkedEntry}
 use Rattle.sdd_lists.specs.Entries.{link_of, value_of}
 use Rattle.sdd_lists.specs.Filling.{AddsOnto}
 use Rattle.sdd_lists.specs.Lists.{Entry, is_deleting, left, trimmed}
-use Rattle.sdd_lists.specs.Stack.{cell_in}
+use Rattle.sdd_lists.specs.declared.stack.Stack.{Stack}
+use Rattle.sdd_lists.specs.Stack.{IsStack, cell_in}
 use Rattle.sdd_bag.specs.Storages.{StorageName}
-use Rattle.sdd_bag.specs.Overflow.{AreElsewhere, AreShelves, IsShelf, LiesOn, OverflowParts, places_on, storage_on}
+use Rattle.sdd_bag.specs.Overflow.{AreElsewhere, AreShelves, KeepsPlaces, LiesOn, OverflowParts, places_on, storage_on}
 use Rattle.sdd_bag.proofs.Changes.{new-names}
 use Rattle.sdd_bag.proofs.Lying.{plain-left}
 
@@ -129,3 +132,40 @@ module _ {B : Type 0} (shown : B → StorageName) (len : ℕ) where
               ∙ ap (λ (ns : List PlaceName). ns ++ places_on shown len es) (sym on)
               ∙ ap (λ (gs : List (Entry (LinkedEntry B))). places_on shown len gs) whole;
         }
+
+  pub same-shelves : (w new : World (LinkedEntry B)) (es : List (Entry (LinkedEntry B))) → ((j : ℕ) → standing_at new j ≡ standing_at w j)
+      → AreShelves shown len w es → AreShelves shown len new es
+  same-shelves w new [] same are = tt
+  same-shelves w new (e ∷ es) same are =
+      (record { plain = are.0.plain; sole = same e.slot ∙ are.0.sole; long = are.0.long }, are.1, same-shelves w new es same are.2)
+
+  -- a cell that is taken meanwhile is no link of theirs
+  pub lies-beside : {T : Type 0} (w : World (LinkedEntry B)) (l : ℕ) (es : List (Entry (LinkedEntry B))) (o : OverflowParts T B) → IsEmptyAt w.cells l
+      → LiesOn shown len w es o → LiesOn shown len (nulled w l) es o
+  lies-beside w l es o free lies = record {
+    stack = fresh-list link_of w l free (cell_in o.stack) tag.None es lies.stack;
+    shelves = same-shelves w (nulled w l) es (λ j. refl) lies.shelves;
+    keys = lies.keys;
+  }
+
+  pub few-kept : {T : Type 0} (w : World (LinkedEntry B)) (es : List (Entry (LinkedEntry B))) (o : OverflowParts T B) (slots : ℕ) → len ≤ 32
+      → length w.values ≡ slots → slots < 2 ^ 64 → LiesOn shown len w es o → length o.places < 2 ^ 80
+  few-kept w es o slots most long few lies =
+      let named = ap length lies.keys in
+      omega (
+        arith,
+        few-places w es most lies.shelves,
+        no-longer link_of w es lies.stack.linked,
+        long,
+        few,
+        named,
+        length-map o.places (λ (p : KeptPlace _). p.name),
+      )
+
+  pub lies-kept : {T : Type 0} (w new : World (LinkedEntry B)) (es : List (Entry (LinkedEntry B))) (o o' : OverflowParts T B) → new ≡ w → KeepsPlaces o o'
+      → LiesOn shown len w es o → LiesOn shown len new es o'
+  lies-kept w new es o o' world keeps lies = subst (λ (x : World (LinkedEntry B)). LiesOn shown len x es o') (sym world) (record {
+    stack = subst (λ (st : Stack B). IsStack w (cell_in st) es) (sym keeps.stack) lies.stack;
+    shelves = lies.shelves;
+    keys = keeps.names ∙ lies.keys;
+  })

@@ -1,12 +1,10 @@
 -- What several calls in a row leave alone, and cells that are taken one after another
-use Rattle.std.proofs.Common.{◌≡◌, ◌≢◌, ℕ, List, Option, None, Some, false, true, refl, sym, ap, ◌∙◌, subst, arith}
+use Rattle.std.proofs.Common.{◌≡◌, ◌≢◌, ℕ, None, Some, false, true, sym, ap, ◌∙◌, arith}
 use Rattle.std.specs.Prelude.{is_some}
 use Rattle.std.proofs.lemmas.List.{get_or-set_same, get_or-set_other, length-set}
 use Rattle.sdd_core.specs.declared.tag.Tag.TheVariants as tag
 use Rattle.sdd_participants.specs.Slab.{Entries, IsEmptyAt, IsFull, entry_at}
-use Rattle.sdd_participants.specs.declared.standing.CellContents.{CellContents}
 use Rattle.sdd_participants.specs.declared.participant.Participant.{Participant}
-use Rattle.sdd_participants.proofs.Adopting.{same-or-not}
 use Rattle.sdd_space.specs.CallerId.{CallerId}
 use Rattle.sdd_space.specs.KnownEpochs.{KnownEpochs}
 use Rattle.sdd_space.specs.Undisturbed.{Undisturbed, Unmoved}

@@ -1,6 +1,7 @@
 -- What is in a bag, and how it lies in a world
-use Rattle.std.specs.Prelude.{ℕ, ◌≡◌, ◌++◌, List, [], length, map}
+use Rattle.std.specs.Prelude.{ℕ, ◌≡◌, ◌<◌, ◌++◌, List, [], length, map}
 use Rattle.sdd_bag_storage.specs.Storage.{AreEmpty, empty_place}
+use Rattle.sdd_bag_storage.specs.Values.{HasOneMore}
 use Rattle.sdd_keyed_places.specs.KeyedPlaces.{PlaceName}
 use Rattle.sdd_rights.specs.Units.{GhostName}
 use Rattle.sdd_space.specs.World.{World}
@@ -36,6 +37,23 @@ module _ {T B : Type 0} where
     pub names : List PlaceName
     pub long : length names ≡ len
     pub places : new.overflow.places ≡ map empty_place names ++ old.overflow.places
+
+  -- its own storage and its stack are the same, whatever their places have
+  pub record HasSameCells (old new : BagParts T B) : Type 0 where
+    pub storage : new.primary.storage ≡ old.primary.storage
+    pub stack : new.overflow.stack ≡ old.overflow.stack
+
+  -- a value more lies in the bag itself, which had room
+  pub record PushesInside (len : ℕ) (value : T) (old new : BagParts T B) : Type 0 where
+    pub room : length (primary_of old) < len
+    pub more : HasOneMore value (primary_of old) (primary_of new)
+    pub others : new.overflow ≡ old.overflow
+
+  -- a value more lies in its other storages, since it had no room itself
+  pub record PushesBehind (len : ℕ) (value : T) (old new : BagParts T B) : Type 0 where
+    pub full : length (primary_of old) ≡ len
+    pub inside : new.primary ≡ old.primary
+    pub more : HasOneMore value (overflow_of old) (overflow_of new)
 
   -- its cells are of these
   pub record IsOfCells (home : GhostName) (bag : BagParts T B) : Type 0 where

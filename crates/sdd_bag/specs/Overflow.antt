@@ -1,7 +1,7 @@
 -- The values in the storages behind a bag's own, and how these lie in a world
-use Rattle.std.specs.Prelude.{ℕ, ◌≡◌, ◌≢◌, ◌⊎◌, List, [], ◌∷◌, ◌++◌, Option, None, Some, length}
+use Rattle.std.specs.Prelude.{ℕ, ◌≡◌, ◌≢◌, ◌⊎◌, List, [], ◌∷◌, ◌++◌, Some, length}
 use Rattle.sdd_keyed_places.specs.KeyedPlaces.{PlaceName}
-use Rattle.sdd_bag_storage.specs.Storage.{AreEmpty, KeptPlace, names_of, values_in}
+use Rattle.sdd_bag_storage.specs.Storage.{KeptPlace, names_of, values_in}
 use Rattle.sdd_core.specs.declared.tag.Tag.TheVariants as tag
 use Rattle.sdd_participants.specs.declared.standing.Standing.TheVariants.{Shared as shared_by}
 use Rattle.sdd_participants.specs.Slab.{IsEmptyAt, IsFull}
@@ -9,7 +9,6 @@ use Rattle.sdd_core.specs.declared.refused.Refused.{Refused}
 use Rattle.sdd_core.specs.declared.refused.Refused.TheVariants.{NoCell, NoSlot}
 use Rattle.sdd_space.specs.World.{World, standing_at}
 use Rattle.sdd_space.specs.WorldChanges.{nulled, owner_given}
-use Rattle.sdd_space.specs.Shared.{slot_of}
 use Rattle.sdd_space.specs.declared.shared.Shared.{Shared}
 use Rattle.sdd_lists.specs.declared.linked_entry.LinkedEntry.{LinkedEntry}
 use Rattle.sdd_lists.specs.declared.stack.Stack.{Stack}

@@ -18,7 +18,7 @@ ghost use Rattle.sdd_lists.specs.Queue.{HasOneAtMost};
 ghost use Rattle.sdd_space.specs.Shared.{cell_of, cells_home};
 ghost use Rattle.sdd_space.specs.WorldChanges.{nulled};
 ghost use Rattle.sdd_lists.specs.Filling.{AddsOnto, RefusesPush};
-ghost use Rattle.sdd_bag.specs.Bag.{BagParts, HasStorageMore, IsBag, IsOfCells, KeepsStorages, overflow_of, primary_of};
+ghost use Rattle.sdd_bag.specs.Bag.{BagParts, HasSameCells, HasStorageMore, PushesBehind, PushesInside, IsBag, IsOfCells, KeepsStorages, overflow_of, primary_of};
 
 use crate::front::first_shelf;
 use crate::primary::Primary;
@@ -68,7 +68,8 @@ impl<T, const ARRAY_LEN: usize, B: Shelf<T, ARRAY_LEN>> Bag<T, ARRAY_LEN, B> {
         ensures world { S.world s.new ≡ S.world s.old }
         ensures keeps { KeepsStorages self.old self.new }
         ensures pushed { MatchResult result
-            (λ _. ((at : ℕ) × (at < ARRAY_LEN) × IsEmptyAt at self.old.overflow.places × (self.new.overflow.places ≡ with_value_at self.old.overflow.places at (Some value))) ×
+            (λ _. ((at : ℕ) × (at < ARRAY_LEN) × IsEmptyAt at self.old.overflow.places ×
+            (self.new.overflow.places ≡ with_value_at self.old.overflow.places at (Some value))) ×
             HasOneMore value (overflow_of self.old) (overflow_of self.new))
             (λ back. (back ≡ value) × AreFull ARRAY_LEN self.old.overflow.places × (self.new ≡ self.old)) }
     {
@@ -94,7 +95,8 @@ impl<T, const ARRAY_LEN: usize, B: Shelf<T, ARRAY_LEN>> Bag<T, ARRAY_LEN, B> {
         ensures keeps { KeepsStorages self.old self.new }
         ensures popped { MatchOption result
             (AreEmpty ARRAY_LEN self.old.overflow.places × (self.new ≡ self.old))
-            (λ value. ((at : ℕ) × (at < ARRAY_LEN) × IsFullWith value at self.old.overflow.places × (self.new.overflow.places ≡ with_value_at self.old.overflow.places at None)) ×
+            (λ value. ((at : ℕ) × (at < ARRAY_LEN) × IsFullWith value at self.old.overflow.places ×
+            (self.new.overflow.places ≡ with_value_at self.old.overflow.places at None)) ×
             HasOneMore value (overflow_of self.new) (overflow_of self.old)) }
     {
         match first_shelf(&self.stack, guard, s) {
@@ -155,6 +157,90 @@ impl<T, const ARRAY_LEN: usize, B: Shelf<T, ARRAY_LEN>> Bag<T, ARRAY_LEN, B> {
         }
     }
 
+    /// A storage without values in front of the others.
+    ///
+    /// `NoSlot` where no slot is free, else `NoCell` where no two cells are.
+    fn add_storage<
+        S: Items<LinkedEntry<B>>
+            + Several<LinkedEntry<B>>
+            + Cells<LinkedEntry<B>>
+            + LookThrough<LinkedEntry<B>>,
+    >(&mut self, guard: &Guard, s: &mut S) -> Result<(), Refused>
+        requires seated { IsSeated (S.seat s.old) }
+        requires home { home_in self.old.overflow.stack ≡ (S.seat s.old).home.cells }
+        requires reader { reader_of guard.now ≡ (S.seat s.old).reader }
+        requires exact { IsExact (S.seat s.old) }
+        requires lies { Lies B.shown ARRAY_LEN (S.world s.old) self.old.overflow }
+        requires full { AreFull ARRAY_LEN self.old.overflow.places }
+        ensures unmoved { Unmoved S.seat S.known S.shows s.old s.new }
+        ensures own { KeepsMoreWaiting (S.own s.old) (S.own s.new) }
+        ensures same { IfErr result (λ _. self.new ≡ self.old) }
+        ensures refused { IfErr result (λ why. (S.world s.new ≡ S.world s.old) × RefusesStorage (S.world s.old) why) }
+        ensures added { IfOk result (λ _. HasStorageMore ARRAY_LEN self.old self.new) }
+        ensures list { (es : List (Entry (Linked B))) → LiesOn B.shown ARRAY_LEN (S.world s.old) es self.old.overflow → IfOk result (λ _.
+            (fs : List (Entry (Linked B))) ×
+            AddsStorage (S.world s.old) (S.seat s.old).place (cell_in self.old.overflow.stack) es (S.world s.new) fs ×
+            LiesOn B.shown ARRAY_LEN (S.world s.new) fs self.new.overflow) }
+    {
+        let _ = &self.primary;
+        s.values_fit_slots();
+        let _ = s.slots();
+        let free = s.has_slot();
+        if !free {
+            return Err(Refused::NoSlot);
+        }
+        let cell = match AtomicShared::null(s) {
+            Ok(cell) => cell,
+            Err(refused) => return Err(refused),
+        };
+        match self.push_storage(cell, guard, s) {
+            Ok(()) => Ok(()),
+            Err((cell, refused)) => {
+                cell.close(s);
+                Err(refused)
+            }
+        }
+    }
+
+    /// Puts a value into the first of the other storages that has room, or into one more.
+    fn push_behind<
+        S: Items<LinkedEntry<B>>
+            + Several<LinkedEntry<B>>
+            + Cells<LinkedEntry<B>>
+            + LookThrough<LinkedEntry<B>>,
+    >(&mut self, value: T, guard: &Guard, s: &mut S) -> Result<(), (T, Refused)>
+        requires seated { IsSeated (S.seat s.old) }
+        requires home { home_in self.old.overflow.stack ≡ (S.seat s.old).home.cells }
+        requires reader { reader_of guard.now ≡ (S.seat s.old).reader }
+        requires exact { IsExact (S.seat s.old) }
+        requires lies { Lies B.shown ARRAY_LEN (S.world s.old) self.old.overflow }
+        ensures unmoved { Unmoved S.seat S.known S.shows s.old s.new }
+        ensures own { KeepsMoreWaiting (S.own s.old) (S.own s.new) }
+        ensures primary { self.new.primary ≡ self.old.primary }
+        ensures stack { self.new.overflow.stack ≡ self.old.overflow.stack }
+        ensures pushed { MatchResult result
+            (λ _. HasOneMore value (overflow_of self.old) (overflow_of self.new) × ¬ (AreEmpty ARRAY_LEN self.new.overflow.places))
+            (λ e. (e.0 ≡ value) × (self.new ≡ self.old) × (S.world s.new ≡ S.world s.old) × RefusesStorage (S.world s.old) e.1) }
+        ensures list { (es : List (Entry (Linked B))) → LiesOn B.shown ARRAY_LEN (S.world s.old) es self.old.overflow → IfOk result (λ _.
+            (fs : List (Entry (Linked B))) × LiesOn B.shown ARRAY_LEN (S.world s.new) fs self.new.overflow ×
+            ((S.world s.new ≡ S.world s.old) ⊎ AreFull ARRAY_LEN self.old.overflow.places ×
+            AddsStorage (S.world s.old) (S.seat s.old).place (cell_in self.old.overflow.stack) es (S.world s.new) fs)) }
+    {
+        let _ = &self.primary;
+        let value = match self.push_front(value, guard, s) {
+            Ok(()) => return Ok(()),
+            Err(value) => value,
+        };
+        match self.add_storage(guard, s) {
+            Ok(()) => {}
+            Err(refused) => return Err((value, refused)),
+        }
+        match self.push_front(value, guard, s) {
+            Ok(()) => Ok(()),
+            Err(_) => unreachable!(),
+        }
+    }
+
     /// An empty bag. It holds 1 to 32 values itself, and has two cells.
     ///
     /// `NoCell` where no two cells are free; `Contended`, in a domain alone, where as many exchanges were lost as its limits allow.
@@ -190,6 +276,43 @@ impl<T, const ARRAY_LEN: usize, B: Shelf<T, ARRAY_LEN>> Bag<T, ARRAY_LEN, B> {
                 cell.close(s);
                 Err(refused)
             }
+        }
+    }
+
+    /// Puts a value among those in the bag itself, if there are fewer than `ARRAY_LEN`, else into another storage: into the first, or into one more.
+    ///
+    /// `NoSlot` where a storage more is needed and no slot is free, else `NoCell` where no two cells are. The value comes back.
+    pub fn push<
+        S: Items<LinkedEntry<B>>
+            + Several<LinkedEntry<B>>
+            + Cells<LinkedEntry<B>>
+            + LookThrough<LinkedEntry<B>>,
+    >(&mut self, value: T, guard: &Guard, s: &mut S) -> Result<(), (T, Refused)>
+        requires seated { IsSeated (S.seat s.old) }
+        requires home { home_in self.old.overflow.stack ≡ (S.seat s.old).home.cells }
+        requires reader { reader_of guard.now ≡ (S.seat s.old).reader }
+        requires exact { IsExact (S.seat s.old) }
+        requires bag { IsBag B.shown ARRAY_LEN (S.world s.old) self.old }
+        ensures unmoved { Unmoved S.seat S.known S.shows s.old s.new }
+        ensures own { KeepsMoreWaiting (S.own s.old) (S.own s.new) }
+        ensures cells { HasSameCells self.old self.new }
+        ensures bag { IsBag B.shown ARRAY_LEN (S.world s.new) self.new }
+        ensures pushed { MatchResult result
+            (λ _. PushesInside ARRAY_LEN value self.old self.new × (S.world s.new ≡ S.world s.old) ⊎ PushesBehind ARRAY_LEN value self.old self.new)
+            (λ e. (length (primary_of self.old) ≡ ARRAY_LEN) × (e.0 ≡ value) × (self.new ≡ self.old) × (S.world s.new ≡ S.world s.old) ×
+            RefusesStorage (S.world s.old) e.1) }
+        ensures list { (es : List (Entry (Linked B))) → LiesOn B.shown ARRAY_LEN (S.world s.old) es self.old.overflow → IfOk result (λ _.
+            (fs : List (Entry (Linked B))) × LiesOn B.shown ARRAY_LEN (S.world s.new) fs self.new.overflow ×
+            ((S.world s.new ≡ S.world s.old) ⊎ AreFull ARRAY_LEN self.old.overflow.places ×
+            AddsStorage (S.world s.old) (S.seat s.old).place (cell_in self.old.overflow.stack) es (S.world s.new) fs)) }
+    {
+        let value = match self.primary.push(value) {
+            Ok(()) => return Ok(()),
+            Err(value) => value,
+        };
+        match self.push_behind(value, guard, s) {
+            Ok(()) => Ok(()),
+            Err(back) => Err(back),
         }
     }
 

@@ -1,11 +1,11 @@
-use Rattle.std.proofs.Common.{rules, ◌≡◌, ◌<◌, ◌++◌, ℕ, List, Option, Some, None, ap, ◌∙◌, sym, subst, refl}
-use Rattle.std.specs.Prelude.{MatchOption, MatchResult}
-use Rattle.sdd_bag_storage.specs.Storage.{AreEmpty, AreFull, IsEmptyAt, IsFullWith, with_value_at}
+use Rattle.std.proofs.Common.{rules, ◌≡◌, ◌<◌, ◌++◌, ℕ, List, None, ap, ◌∙◌, sym, subst, refl}
+use Rattle.std.specs.Prelude.{MatchOption}
+use Rattle.sdd_bag_storage.specs.Storage.{AreEmpty, IsFullWith, with_value_at}
 use Rattle.sdd_bag_storage.specs.Values.{HasOneMore}
 use Rattle.sdd_bag.specs.Storages.{StorageName}
 use Rattle.sdd_bag.specs.Overflow.{LiesOn, OverflowParts, places_on}
 use Rattle.sdd_bag.specs.Bag.{BagParts, overflow_of}
-use Rattle.sdd_bag.proofs.Lying.{front-keys, no-places, none-full, none-there, none-used, storages-popped, storages-pushed}
+use Rattle.sdd_bag.proofs.Lying.{front-keys, none-there, none-used, storages-popped}
 use Rattle.sdd_bag.proofs.bag.Bag.pop_front.Goals as goal
 
 pub pop-requires : goal.pop-requires

@@ -1,11 +1,11 @@
-use Rattle.std.proofs.Common.{rules, ◌≡◌, ◌<◌, ◌++◌, ℕ, List, Option, Some, None, ap, ◌∙◌, sym, subst, refl}
-use Rattle.std.specs.Prelude.{MatchOption, MatchResult}
-use Rattle.sdd_bag_storage.specs.Storage.{AreEmpty, AreFull, IsEmptyAt, IsFullWith, with_value_at}
+use Rattle.std.proofs.Common.{rules, ◌≡◌, ◌<◌, ◌++◌, ℕ, List, Some, ap, ◌∙◌, sym, subst, refl}
+use Rattle.std.specs.Prelude.{MatchResult}
+use Rattle.sdd_bag_storage.specs.Storage.{AreFull, IsEmptyAt, with_value_at}
 use Rattle.sdd_bag_storage.specs.Values.{HasOneMore}
 use Rattle.sdd_bag.specs.Storages.{StorageName}
 use Rattle.sdd_bag.specs.Overflow.{LiesOn, OverflowParts, places_on}
 use Rattle.sdd_bag.specs.Bag.{BagParts, overflow_of}
-use Rattle.sdd_bag.proofs.Lying.{front-keys, no-places, none-full, none-there, none-used, storages-popped, storages-pushed}
+use Rattle.sdd_bag.proofs.Lying.{front-keys, none-full, none-there, storages-pushed}
 use Rattle.sdd_bag.proofs.bag.Bag.push_front.Goals as goal
 
 pub push-requires : goal.push-requires

@@ -1,11 +1,11 @@
-use Rattle.std.proofs.Common.{rules, ◌≡◌, ◌<◌, ◌++◌, ◌^◌, ℕ, List, Option, Some, None, length, map, is_some, ap, ◌∙◌, sym, subst, refl, arith}
+use Rattle.std.proofs.Common.{rules, ◌≡◌, ◌<◌, ◌++◌, ◌^◌, List, length, map, is_some, ap, ◌∙◌, sym, subst, arith}
 use Rattle.sdd_keyed_places.specs.KeyedPlaces.{PlaceName}
 use Rattle.sdd_bag_storage.specs.Storage.{AreEmpty, AreFull, KeptPlace, empty_place}
 use Rattle.sdd_bag_storage.proofs.Marks.{value-new}
 use Rattle.sdd_rights.specs.Right.{home_of}
 use Rattle.sdd_rights.specs.declared.right.Right.{Right}
 use Rattle.sdd_space.specs.CallerId.{CallerId, IsExact}
-use Rattle.sdd_space.specs.OwnerOrCell.{AreOf, SpaceId}
+use Rattle.sdd_space.specs.OwnerOrCell.{SpaceId}
 use Rattle.sdd_space.specs.Shared.{slot_of}
 use Rattle.sdd_space.specs.World.{standing_at}
 use Rattle.sdd_space.specs.WorldChanges.{owner_given}

@@ -1,4 +1,4 @@
-use Rattle.std.proofs.Common.{◌≡◌, List, [], ◌++◌, map, length, ap, ◌∙◌, sym, arith}
+use Rattle.std.proofs.Common.{List, [], ◌++◌, map, length, ap, ◌∙◌, sym, arith}
 use Rattle.std.proofs.lemmas.List.{append-nil}
 use Rattle.sdd_keyed_places.specs.KeyedPlaces.{PlaceName}
 use Rattle.sdd_bag_storage.specs.Storage.{KeptPlace, empty_place, names_of, values_in}
