@@ -9,7 +9,7 @@ use Rattle.sdd_space.specs.WorldInvariant.{IsWhole}
 use Rattle.sdd_script_text.specs.declared.call.Value.{Value}
 use Rattle.sdd_script_text.specs.declared.call.Value.TheVariants.{Number, Of}
 use Rattle.sdd_script_model.specs.declared.val.Body.{Body}
-use Rattle.sdd_script_model.specs.Val.{Val, owner_in}
+use Rattle.sdd_script_model.specs.Val.{owner_in}
 use Rattle.sdd_script_model.specs.declared.owner_kind.OwnerKind.{OwnerKind}
 use Rattle.sdd_script_model.specs.declared.owner_kind.OwnerKind.TheVariants as ownership
 use Rattle.sdd_space_commands.specs.declared.holding.AnyOwner.{AnyOwner}
