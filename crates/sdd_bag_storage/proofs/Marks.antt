@@ -1,6 +1,6 @@
 -- What marks say, and what is so of places with a value changed
 use Rattle.std.proofs.Common.{◌≡◌, ◌≢◌, ℕ, zero, suc, ◌+◌, ◌-◌, ◌^◌, nat_lt, replicate, ◌*◌, ◌<◌, ◌≤◌, List, [], ◌∷◌, ◌++◌, Option, Some, None, length, map, slice_set, slice_index_or, take, drop, is_some, refl, sym, ap, ◌∙◌, subst, arith, inl, inr}
-use mathlib.Core.Bool.{Bool, true, false, beq}
+use mathlib.Core.Bool.{Bool, true, false}
 use mathlib.Core.Logic.{dite}
 use native.Mathlib.Decide.{ℕ_discrete}
 use Rattle.std.proofs.lemmas.List.{get_or-set_same, get_or-set_other, get_or-replicate, length-drop, length-map, take-append-drop}
@@ -12,18 +12,6 @@ use Rattle.sdd_bag_storage.specs.Storage.{AreFull, AreMarked, KeptPlace, empty_p
 abbrev IsTrueHere : Bool → Type 0
 IsTrueHere true = Unit {0}
 IsTrueHere false = ⊥
-
-pub same_bool : (x y : Bool) → beq x y ≡ true → x ≡ y
-same_bool true true e = refl
-same_bool true false e = sym e
-same_bool false true e = e
-same_bool false false e = refl
-
-pub other_bool : (x y : Bool) → beq x y ≡ false → x ≢ y
-other_bool true true e s = subst IsTrueHere e tt
-other_bool true false e s = subst IsTrueHere s tt
-other_bool false true e s = subst IsTrueHere (sym s) tt
-other_bool false false e s = subst IsTrueHere e tt
 
 abbrev pub one_if : Bool → ℕ
 one_if true = 1
@@ -81,12 +69,6 @@ module _ {T : Type 0} where
         ap is_some (with-other ps at v k (λ e. absurd (omega (arith, far, inside, e))))
         ∙ m.behind k far (omega (arith, near, with-length ps at v));
   }
-
-  pub one-more : (ps : List (KeptPlace T)) (at : ℕ) (full : Bool) → ((k : ℕ) → k < at → is_some (value_at ps k) ≢ full) → is_some (value_at ps at) ≢ full
-      → (k : ℕ) → k < at + 1 → is_some (value_at ps k) ≢ full
-  one-more ps at full none other k near = dite (ℕ_discrete k at)
-      (λ same e. other (ap (λ (j : ℕ). is_some (value_at ps j)) (sym same) ∙ e))
-      (λ differs. none k (omega (arith, near, differs)))
 
   pub value-behind : (xs ys : List (KeptPlace T)) (m k : ℕ) → m ≡ length xs + k → value_at (xs ++ ys) m ≡ value_at ys k
   value-behind [] ys m k e = ap (λ (j : ℕ). value_at ys j) (omega (arith, e))
@@ -179,7 +161,8 @@ module _ {T : Type 0} where
       let rest = values-full ps (λ k near. full (suc k) (omega (arith, near))) in
       omega (arith, rest, followed-full p.value (values_in ps) (full 0 (omega arith)))
 
-  pub values-next : (ps : List (KeptPlace T)) (k n : ℕ) → n ≡ suc k → length (values_in (take n ps)) ≡ length (values_in (take k ps)) + one_if (is_some (value_at ps k))
+  pub values-next : (ps : List (KeptPlace T)) (k n : ℕ) → n ≡ suc k
+      → length (values_in (take n ps)) ≡ length (values_in (take k ps)) + one_if (is_some (value_at ps k))
   values-next ps k zero e = absurd (omega (arith, e))
   values-next [] zero (suc n) e = refl
   values-next [] (suc k) (suc n) e = refl

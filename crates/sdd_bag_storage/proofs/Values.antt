@@ -1,11 +1,10 @@
 -- What a value that goes in or out makes of the values in places
-use Rattle.std.proofs.Common.{◌≡◌, ℕ, zero, suc, ◌+◌, ◌<◌, ◌≤◌, List, [], ◌∷◌, ◌++◌, Option, Some, None, length, map, is_some, refl, sym, ap, ◌∙◌, subst, arith}
+use Rattle.std.proofs.Common.{◌≡◌, ℕ, zero, suc, ◌+◌, ◌<◌, ◌≤◌, List, [], ◌∷◌, Option, Some, None, length, is_some, refl, ap, subst, arith}
 use mathlib.Core.Bool.{Bool, true, false}
 use Rattle.sdd_keyed_places.specs.KeyedPlaces.{PlaceName}
-use Rattle.sdd_bag_storage.specs.Storage.{AreEmpty, AreFull, IsEmptyAt, IsFullWith, KeptPlace, followed, names_of, value_at, values_in, with_value_at}
+use Rattle.sdd_bag_storage.specs.Storage.{KeptPlace, followed, names_of, value_at, values_in, with_value_at}
 use Rattle.sdd_bag_storage.specs.Values.{HasOneMore}
-use Rattle.sdd_bag_storage.proofs.Kept.{not-there, same-there}
-use Rattle.sdd_bag_storage.proofs.Marks.{values-full}
+use Rattle.sdd_bag_storage.proofs.Kept.{not-there}
 
 abbrev IsFalseHere : Bool → Type 0
 IsFalseHere true = Unit {0}
@@ -26,7 +25,8 @@ module _ {T : Type 0} where
     more = ap (λ (vs : List T). x ∷ vs) one.more;
   }
 
-  pub one-in : (ps : List (KeptPlace T)) (at : ℕ) (v : T) → at < length ps → value_at ps at ≡ None → HasOneMore v (values_in ps) (values_in (with_value_at ps at (Some v)))
+  pub one-in : (ps : List (KeptPlace T)) (at : ℕ) (v : T) → at < length ps → value_at ps at ≡ None
+      → HasOneMore v (values_in ps) (values_in (with_value_at ps at (Some v)))
   one-in [] at v inside none = absurd (omega (arith, inside))
   one-in (p ∷ ps) zero v inside none = record {
     before = [];

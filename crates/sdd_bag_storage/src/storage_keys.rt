@@ -83,7 +83,8 @@ impl<T, const LEN: usize> StorageKeys<T, LEN> {
 
     /// How many places have a value.
     pub fn len(&self) -> u128
-        ensures { result ≡ length (values_in self.now) }
+        ensures values { result ≡ length (values_in self.now) }
+        ensures few { result < 2 ^ 127 }
     {
         if self.arrays == 0 {
             0

@@ -19,7 +19,6 @@ use Rattle.sdd_space.specs.OwnerOrCell.{OwnerOrCell, IsOf}
 use Rattle.sdd_space.specs.Out.{IsNullCell, is_out}
 use Rattle.sdd_space.specs.declared.private_collector.PrivateCollector.{PrivateCollector}
 use Rattle.sdd_space.specs.Collector as collector
-use Rattle.sdd_space.specs.Owned as owned
 use Rattle.sdd_space.specs.World.{World, AnyGuardOpen, place_at, standing_at}
 use Rattle.sdd_space.specs.WorldChanges.{retired, owner_given, with_standing, cell_closed, without_cell, held_in}
 use Rattle.sdd_space.specs.WorldInvariant.{IsWhole}

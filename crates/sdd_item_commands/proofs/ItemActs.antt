@@ -24,8 +24,9 @@ use Rattle.sdd_script_text.specs.declared.call.Action.{Action}
 use Rattle.sdd_script_text.specs.declared.call.Value.{Value}
 use Rattle.sdd_script_text.specs.declared.call.Value.TheVariants.{Number, Of}
 use Rattle.sdd_script_text.specs.declared.answer.Reply.TheVariants as reply
-use Rattle.sdd_script_model.specs.Val.{BodyCase, Val, body_of, link_of, link_home}
-use Rattle.sdd_script_model.specs.declared.val.Body.TheOpen as body
+use Rattle.sdd_script_model.specs.declared.val.Body.{Body}
+use Rattle.sdd_script_model.specs.Val.{Val, body_of, link_of, link_home}
+use Rattle.sdd_script_model.specs.declared.val.Body.TheVariants as body
 use Rattle.sdd_script_model.specs.declared.owner_kind.OwnerKind.{OwnerKind}
 use Rattle.sdd_script_model.specs.declared.owner_kind.OwnerKind.TheVariants as ownership
 use Rattle.sdd_space_commands.specs.declared.holding.AnyOwner.{AnyOwner}
@@ -67,20 +68,20 @@ module _ (h : Environment) (t : IsTied h) (whole : IsWhole h.world) where
     in_range = stage.in_range h t whole name a there
 
     -- what is told of a value is a reply
-    told-meets : (a : Action) (b : BodyCase) → IsValid d n a × script.Does d n (place_of d n) a (told_of h.names.items b) d →
+    told-meets : (a : Action) (b : Body) → IsValid d n a × script.Does d n (place_of d n) a (told_of h.names.items b) d →
         Meets d (At name a) (told_of h.names.items b) d
     told-meets a (body.Number m) meets = meets
     told-meets a (body.Owned x) meets = meets
     told-meets a (body.Shared x) meets = meets
 
-    read-does : (o : OwnerName) (b : BodyCase) → ((k : ℕ) × (slot_of (holding_at d.owners o.0) ≡ Some k) × RepliesValue d k (told_of h.names.items b))
+    read-does : (o : OwnerName) (b : Body) → ((k : ℕ) × (slot_of (holding_at d.owners o.0) ≡ Some k) × RepliesValue d k (told_of h.names.items b))
         × (d ≡ d) →
         script.Does d n (place_of d n) (call.Read o) (told_of h.names.items b) d
     read-does o (body.Number m) does = does
     read-does o (body.Owned x) does = does
     read-does o (body.Shared x) does = does
 
-    look-does : (i : ItemName) (g : GuardName) (b : BodyCase) → RepliesValue d (slot_at d i.0) (told_of h.names.items b) × (d ≡ d) →
+    look-does : (i : ItemName) (g : GuardName) (b : Body) → RepliesValue d (slot_at d i.0) (told_of h.names.items b) × (d ≡ d) →
         script.Does d n (place_of d n) (call.Look i g) (told_of h.names.items b) d
     look-does i g (body.Number m) does = does
     look-does i g (body.Owned x) does = does
@@ -104,7 +105,7 @@ module _ (h : Environment) (t : IsTied h) (whole : IsWhole h.world) where
     -- ---- items
 
     -- what becomes the body of an item is what the line puts in
-    put-is : (value : Value) (b : BodyCase) (between : List (Option AnyOwner)) → BecomesBody h.owners.entries.items value between b →
+    put-is : (value : Value) (b : Body) (between : List (Option AnyOwner)) → BecomesBody h.owners.entries.items value between b →
         IsPutIn d value b × IsThereToPut d value × (map (option_map owner_holding) between ≡ owners_left d.owners value)
     put-is (Number m) b between becomes = (becomes.0, tt, ap (map (option_map owner_holding)) becomes.1)
     put-is (Of o) b between (x, entry, is_body, taken) = (
@@ -153,7 +154,7 @@ module _ (h : Environment) (t : IsTied h) (whole : IsWhole h.world) where
         ),
       )
 
-      pub acts-made : (w : World Val) (between owners : Vec (Option AnyOwner)) (slots named : Vec ℕ) (x : AnyOwner) (b : BodyCase)
+      pub acts-made : (w : World Val) (between owners : Vec (Option AnyOwner)) (slots named : Vec ℕ) (x : AnyOwner) (b : Body)
           (o : OwnerName) (i : ItemName) → BecomesBody h.owners.entries.items value between.items b → body_of v ≡ b →
           IsEmptyAt h.world.cells c → IsEmptyAt h.world.standings k → link_of v ≡ c → link_home v ≡ h.world.home.cells →
           w ≡ made_as (nulled h.world c) k v (standing_first own) → owner_holding x ≡ holding_first own k h.world.home.slots →

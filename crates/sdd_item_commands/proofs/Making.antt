@@ -8,7 +8,8 @@ use Rattle.sdd_space.specs.OwnerOrCell.{AreOf}
 use Rattle.sdd_space.specs.WorldInvariant.{IsWhole}
 use Rattle.sdd_script_text.specs.declared.call.Value.{Value}
 use Rattle.sdd_script_text.specs.declared.call.Value.TheVariants.{Number, Of}
-use Rattle.sdd_script_model.specs.Val.{BodyCase, Val, owner_in}
+use Rattle.sdd_script_model.specs.declared.val.Body.{Body}
+use Rattle.sdd_script_model.specs.Val.{owner_in}
 use Rattle.sdd_script_model.specs.declared.owner_kind.OwnerKind.{OwnerKind}
 use Rattle.sdd_script_model.specs.declared.owner_kind.OwnerKind.TheVariants as ownership
 use Rattle.sdd_space_commands.specs.declared.holding.AnyOwner.{AnyOwner}
@@ -30,7 +31,7 @@ first-slot ownership.Sole k home s e = cc
 first-slot ownership.Shared k home s e = cc
 
 -- what goes in spends one name at most
-pub becomes-long : (owners new : List (Option AnyOwner)) (value : Value) (b : BodyCase) → BecomesBody owners value new b → length new ≡ length owners
+pub becomes-long : (owners new : List (Option AnyOwner)) (value : Value) (b : Body) → BecomesBody owners value new b → length new ≡ length owners
 becomes-long owners new (Number n) b becomes = ap length becomes.1
 becomes-long owners new (Of o) b becomes = ap length becomes.3 ∙ length-set owners o.0 None
 
@@ -58,7 +59,7 @@ module _ (h : Environment) where
     by (Some (Share x)) e = ap (λ s. is_some (slot_of s)) (entry (Some (Share x)) e)
 
   -- what goes in is of the world's home
-  pub body-home : IsTied h → IsWhole h.world → (value : Value) (new : List (Option AnyOwner)) (b : BodyCase) →
+  pub body-home : IsTied h → IsWhole h.world → (value : Value) (new : List (Option AnyOwner)) (b : Body) →
       BecomesBody h.owners.entries.items value new b → AreOf h.world.home (owner_in b)
   body-home t whole (Number n) new b becomes = rw becomes.0 tt
   body-home t whole (Of o) new b becomes = rw becomes.2 (owner-home h t whole o.0 becomes.0 becomes.1, tt)

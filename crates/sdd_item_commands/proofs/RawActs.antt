@@ -24,8 +24,9 @@ use Rattle.sdd_script_text.specs.declared.call.Call.TheVariants.{At}
 use Rattle.sdd_script_text.specs.declared.call.Action.TheVariants as call
 use Rattle.sdd_script_text.specs.declared.answer.Reply.{Reply}
 use Rattle.sdd_script_text.specs.declared.answer.Reply.TheVariants as reply
-use Rattle.sdd_script_model.specs.Val.{BodyCase, Val, body_of}
-use Rattle.sdd_script_model.specs.declared.val.Body.TheOpen as body
+use Rattle.sdd_script_model.specs.declared.val.Body.{Body}
+use Rattle.sdd_script_model.specs.Val.{Val, body_of}
+use Rattle.sdd_script_model.specs.declared.val.Body.TheVariants as body
 use Rattle.sdd_script_model.specs.ScriptState.{ScriptState, IsThere, opening_at, holding_at, slot_at, slot_of, sole_slot}
 use Rattle.sdd_script_model.specs.Held.{slot_held}
 use Rattle.sdd_script_model.specs.InPlace.{OwnsNumber, Puts, Drops, RefusesDrop, IsRaw}
@@ -144,7 +145,7 @@ module _ (h : Environment) (t : IsTied h) (whole : IsWhole h.world) (name : Plac
   pub acts-seen : (i : ItemName) (g : GuardName) (v : Val) → HasOpen d name.0 g.0 → IsThere d i.0 → IsRaw d i.0 →
       value_at h.world (slot_at d i.0) ≡ Some v → Acts d (At name (call.See i g)) (told_of h.names.items (body_of v)) d
   acts-seen i g v valid is_there raw shown = still d (At name (call.See i g)) (told_of h.names.items (body_of v)) (by (body_of v) refl) where
-    by : (b : BodyCase) → body_of v ≡ b → Meets d (At name (call.See i g)) (told_of h.names.items b) d
+    by : (b : Body) → body_of v ≡ b → Meets d (At name (call.See i g)) (told_of h.names.items b) d
     by (body.Number m) e = ((valid, is_there), (raw, (v, shown, ap (told_of h.names.items) (sym e)), refl))
     by (body.Owned x) e = ((valid, is_there), (raw, (v, shown, ap (told_of h.names.items) (sym e)), refl))
     by (body.Shared x) e = ((valid, is_there), (raw, (v, shown, ap (told_of h.names.items) (sym e)), refl))

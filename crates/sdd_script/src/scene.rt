@@ -17,12 +17,13 @@ pub struct Scene {
 
 impl Model for Scene {
     ghost use Rattle.std.specs.Coded.{codes};
-    ghost use Rattle.sdd_script_model.specs.contracts.val.Val as val;
+    ghost use Rattle.sdd_lists.specs.contracts.linked_entry.LinkedEntry as entry;
+    ghost use Rattle.sdd_script_model.specs.contracts.val.Body as body;
     ghost use Rattle.sdd_script_model.specs.ScriptState.{ScriptState};
 
     ghost Value = { ScriptState };
 
-    ghost coded = { Prim.hlevel (codes, val.the_row.coded) };
+    ghost coded = { Prim.hlevel (codes, (entry.the_row body.the_row).coded) };
 
     ghost view = { λ scene. scene.stage };
 }

@@ -22,8 +22,9 @@ use Rattle.sdd_space.proofs.Rights.{once-where}
 use Rattle.sdd_script_text.specs.declared.name.OwnerName.{OwnerName}
 use Rattle.sdd_script_text.specs.declared.call.Value.{Value}
 use Rattle.sdd_script_text.specs.declared.call.Value.TheVariants.{Number, Of}
-use Rattle.sdd_script_model.specs.Val.{BodyCase, Val, body_of, owner_in, holdings_of, link_of}
-use Rattle.sdd_script_model.specs.declared.val.Body.TheOpen as body
+use Rattle.sdd_script_model.specs.declared.val.Body.{Body}
+use Rattle.sdd_script_model.specs.Val.{Val, body_of, owner_in, holdings_of, link_of}
+use Rattle.sdd_script_model.specs.declared.val.Body.TheVariants as body
 use Rattle.sdd_script_model.specs.ScriptState.{ScriptState, holding_at, slot_of, cell_of, collector_of}
 use Rattle.sdd_script_model.proofs.Links.{holds-so}
 use Rattle.sdd_script_model.specs.Made.{IsPutIn, owners_left}
@@ -41,7 +42,7 @@ pub tells : (d : ScriptState) → IsSound d → Tells holdings_of (named d) d.wo
 tells d s = (ledger-laws holdings_of d.world).tells (named d) s.ledger
 
 -- so many owners of slot k's item are in the body of a value
-abbrev pub times_in : ℕ → BodyCase → ℕ
+abbrev pub times_in : ℕ → Body → ℕ
 times_in k b = count_by (is_owner_of k) (owner_in b)
 
 -- its link holds no owner
@@ -171,7 +172,7 @@ module _ (d : ScriptState) (cells collectors : List (Option OwnerOrCell)) where
   taken-given owners like (Some k) u = owner-given owners cells collectors (owner_as like k d) k (owner_as-slot like k d) u
 
 -- what goes into a value has no name any more
-body-rights : (b : BodyCase) (c : ℕ) → claims (owner_in b) (right_to c) ≡ 0
+body-rights : (b : Body) (c : ℕ) → claims (owner_in b) (right_to c) ≡ 0
 body-rights (body.Number n) c = refl
 body-rights (body.Owned o) c = omega (arith, count-cons (is_right_to c) (owned_of.holding_of o) [])
 body-rights (body.Shared o) c = omega (arith, count-cons (is_right_to c) (shared_of.holding_of o) [])

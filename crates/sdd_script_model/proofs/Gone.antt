@@ -26,8 +26,9 @@ use Rattle.sdd_space.proofs.Whole.{some-waits, times-aged}
 use Rattle.sdd_script_text.specs.declared.name.ItemName.{ItemName}
 use Rattle.sdd_script_model.proofs.Entry.{at-other, at-default}
 use Rattle.sdd_script_model.proofs.StockWords.{◌≡◌, ◌≢◌, ◌⊎◌, ℕ, suc, ◌+◌, ◌-◌, ◌<◌, ◌≤◌, ◌==◌, ◌&&◌, ◌↔◌, Bool, true, false, nat_lt, if◌then◌else◌, List, [], ◌∷◌, ◌++◌, Option, Some, None, IsSome, is_some, map, length, count_by, slice_index_or, slice_set, inl, inr, refl, sym, ap, ◌∙◌, eq-eqb, ne_eqb, lt-ltb, cases_lt, arith, nat_tests, All, Contains, cases_eq, length-map, entry_at, LimboEntry, Item, Job, Standing, is_waiting, is_out, held_in, reclaims, IsWhole, is_of_slot, once_if, World, place_at, standing_at, value_at, one_where, times_among, count-cons, some-waits, filled-there, Val, holdings_of, body_of, link_of, zero, subst}
-use Rattle.sdd_script_model.specs.Val.{BodyCase, owner_in, link_home}
-use Rattle.sdd_script_model.specs.declared.val.Body.TheOpen.{Number, Owned, Shared}
+use Rattle.sdd_script_model.specs.declared.val.Body.{Body}
+use Rattle.sdd_script_model.specs.Val.{owner_in, link_home}
+use Rattle.sdd_script_model.specs.declared.val.Body.TheVariants.{Number, Owned, Shared}
 use Rattle.sdd_script_model.specs.ScriptState.{ScriptState, IsThere, IsDated, slot_at, name_at, date_at}
 use Rattle.sdd_script_model.specs.Shown.{item_in}
 use Rattle.sdd_script_model.specs.Sound.{SlotsHaveNames, LinksAreBare, named_owners}
@@ -130,7 +131,7 @@ given-other w p k s t is ne =
     (λ n several more. at-other w.standings k s (Some (standing_shared (n - 1))) None ne)
 
 -- what begins to wait when p is given what a value held is the item whose owner the body was
-pub body-waits : (w : World Val) (p c s : ℕ) (home : GhostName) (b : BodyCase) → held_in (entry_at w.cells c) ≡ None → is_waiting (standing_at w s) ≡ false →
+pub body-waits : (w : World Val) (p c s : ℕ) (home : GhostName) (b : Body) → held_in (entry_at w.cells c) ≡ None → is_waiting (standing_at w s) ≡ false →
     is_waiting (standing_at (given_all w p (owner_in b ++ atomic_shared c home ∷ [])) s) ≡ true → 1 ≤ times_in s (slots_of (owner_in b))
 body-waits w p c s home b bare idle waits = by b waits where
   closes : (u : World Val) → u.cells ≡ w.cells → standing_at (cell_closed u p c) s ≡ standing_at u s
@@ -148,7 +149,7 @@ body-waits w p c s home b bare idle waits = by b waits where
             let never : false ≡ true = sym idle ∙ ap is_waiting (sym same) ∙ waits in absurd (cc))
       ]
 
-  by : (b : BodyCase) → is_waiting (standing_at (given_all w p (owner_in b ++ atomic_shared c home ∷ [])) s) ≡ true →
+  by : (b : Body) → is_waiting (standing_at (given_all w p (owner_in b ++ atomic_shared c home ∷ [])) s) ≡ true →
       1 ≤ times_in s (slots_of (owner_in b))
   by (Number n) waits = let never : false ≡ true = sym idle ∙ ap is_waiting (sym (closes w refl)) ∙ waits in absurd (cc)
   by (Owned o) waits = given (owned.slot_of o) waits
@@ -234,7 +235,7 @@ module _ (p : ℕ) (start : World Val) (s : ℕ) where
         omega (arith, both, more)
 
 -- the owners that a body holds are those that its value holds
-body-times : (s c : ℕ) (home : GhostName) (b : BodyCase) →
+body-times : (s c : ℕ) (home : GhostName) (b : Body) →
     times_in s (slots_of (owner_in b)) ≤ count_by (is_owner_of s) (owner_in b ++ atomic_shared c home ∷ [])
 body-times s c home (Number n) = omega arith
 body-times s c home (Owned o) =

@@ -20,8 +20,9 @@ use Rattle.sdd_space.proofs.Whole.{count-cons, one_where}
 use Rattle.sdd_space.proofs.Nesting.{one-if, none-if}
 use Rattle.sdd_script_text.specs.declared.answer.Reply.{Reply}
 use Rattle.sdd_script_text.specs.declared.answer.Reply.TheVariants as reply
-use Rattle.sdd_script_model.specs.Val.{BodyCase, Val, holdings_of, body_of, link_of, link_home, owner_in, renumbered}
-use Rattle.sdd_script_model.specs.declared.val.Body.TheOpen as body
+use Rattle.sdd_script_model.specs.declared.val.Body.{Body}
+use Rattle.sdd_script_model.specs.Val.{Val, holdings_of, body_of, link_of, link_home, owner_in, renumbered}
+use Rattle.sdd_script_model.specs.declared.val.Body.TheVariants as body
 use Rattle.sdd_script_model.specs.ScriptState.{ScriptState, IsDated, holding_at, slot_of, sole_slot, shared_slot, in_world, with_owner, without_owner}
 use Rattle.sdd_script_model.specs.Held.{slot_held, slots_of, slots_in}
 use Rattle.sdd_script_model.specs.InPlace.{Puts, Drops}
@@ -42,7 +43,7 @@ abbrev listed : Option ℕ → List ℕ
 listed None = []
 listed (Some k) = k ∷ []
 
-held-slots : (b : BodyCase) → slots_of (owner_in b) ≡ listed (slot_held b)
+held-slots : (b : Body) → slots_of (owner_in b) ≡ listed (slot_held b)
 held-slots (body.Number n) = refl
 held-slots (body.Owned o) = refl
 held-slots (body.Shared o) = refl

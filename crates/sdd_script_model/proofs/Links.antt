@@ -20,8 +20,9 @@ use Rattle.sdd_space.specs.WorldInvariant.{once_if}
 use Rattle.sdd_space.proofs.Rights.{given-same, once-where}
 use Rattle.sdd_space.proofs.Sheds.{Sheds}
 use Rattle.sdd_space.proofs.Whole.{one_where}
-use Rattle.sdd_script_model.specs.Val.{BodyCase, Val, holdings_of, link_holding, body_of, link_of, owner_in}
-use Rattle.sdd_script_model.specs.declared.val.Body.TheOpen.{Number, Owned, Shared}
+use Rattle.sdd_script_model.specs.declared.val.Body.{Body}
+use Rattle.sdd_script_model.specs.Val.{Val, holdings_of, link_holding, body_of, link_of, owner_in}
+use Rattle.sdd_script_model.specs.declared.val.Body.TheVariants.{Number, Owned, Shared}
 use Rattle.sdd_script_model.specs.Sound.{LinksAreBare}
 use Rattle.sdd_script_model.proofs.Entry.{at-same, at-other, inside, set-either}
 
@@ -101,7 +102,7 @@ pub closed-bare : {T : Type 0} (w : World T) (p c : ℕ) → held_in (entry_at w
 closed-bare w p c none = ap (spilled (record w { cells = without_entry w.cells c }) p) none
 
 -- p is given the owner that a body is, if it is one, and then a cell that holds nothing
-pub body-given : (w : World Val) (p c : ℕ) (home : GhostName) (b : BodyCase) → held_in (entry_at w.cells c) ≡ None →
+pub body-given : (w : World Val) (p c : ℕ) (home : GhostName) (b : Body) → held_in (entry_at w.cells c) ≡ None →
     (let u = given_all w p (owner_in b ++ atomic_shared c home ∷ []) in (u.values ≡ w.values) × (u.cells ≡ without_entry w.cells c))
 body-given w p c home b none = by b where
   closes : (u : World Val) → u.values ≡ w.values → u.cells ≡ w.cells →
@@ -110,7 +111,7 @@ body-given w p c home b none = by b where
       let bare : held_in (entry_at u.cells c) ≡ None = rw cells none in
       rw (closed-bare u p c bare) (values, ap (λ cs. without_entry cs c) cells)
 
-  by : (b : BodyCase) → (let u = given_all w p (owner_in b ++ atomic_shared c home ∷ []) in (u.values ≡ w.values) × (u.cells ≡ without_entry w.cells c))
+  by : (b : Body) → (let u = given_all w p (owner_in b ++ atomic_shared c home ∷ []) in (u.values ≡ w.values) × (u.cells ≡ without_entry w.cells c))
   by (Number n) = closes w refl refl
   by (Owned o) =
       let g = given-same w p (owned.slot_of o) (standing_at w (owned.slot_of o)) refl in

@@ -15,8 +15,9 @@ use Rattle.sdd_space.specs.Shared as shared
 use Rattle.sdd_space.specs.World.{World, standing_at, value_at}
 use Rattle.sdd_script_model.specs.declared.owner_kind.OwnerKind.{OwnerKind}
 use Rattle.sdd_script_model.specs.declared.owner_kind.OwnerKind.TheVariants as ownership
-use Rattle.sdd_script_model.specs.Val.{BodyCase, Val, body_of, owner_in}
-use Rattle.sdd_script_model.specs.declared.val.Body.TheOpen as body
+use Rattle.sdd_script_model.specs.declared.val.Body.{Body}
+use Rattle.sdd_script_model.specs.Val.{Val, body_of, owner_in}
+use Rattle.sdd_script_model.specs.declared.val.Body.TheVariants as body
 
 -- how a new item stands that is so owned, and its owner
 abbrev pub standing_first : OwnerKind → Standing
@@ -37,7 +38,7 @@ slots_of (holding.atomic_shared c home ∷ hs) = slots_of hs
 slots_of (holding.atomic_raw c home ∷ hs) = slots_of hs
 
 -- the slot whose owner a body is, if it is one
-abbrev pub slot_held : BodyCase → Option ℕ
+abbrev pub slot_held : Body → Option ℕ
 slot_held (body.Number n) = None
 slot_held (body.Owned o) = Some (owned.slot_of o)
 slot_held (body.Shared o) = Some (shared.slot_of o)

@@ -9,7 +9,7 @@ use Rattle.sdd_space.specs.World.{World, AnyGuardOpen, standing_at, value_at}
 use Rattle.sdd_space.specs.WorldChanges.{dropped, with_standing, with_value}
 use Rattle.sdd_script_text.specs.declared.answer.Reply.{Reply}
 use Rattle.sdd_script_text.specs.declared.answer.Reply.TheVariants as reply
-use Rattle.sdd_script_model.specs.declared.val.Body.TheOpen.{Number}
+use Rattle.sdd_script_model.specs.declared.val.Body.TheVariants.{Number}
 use Rattle.sdd_script_model.specs.Val.{Val, body_of, Renumbers, holdings_of}
 use Rattle.sdd_script_model.specs.ScriptState.{ScriptState, holding_at, slot_at, slot_of}
 

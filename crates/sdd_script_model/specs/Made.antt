@@ -9,12 +9,13 @@ use Rattle.sdd_space.specs.World.{World}
 use Rattle.sdd_space.specs.WorldChanges.{made_as, nulled}
 use Rattle.sdd_script_text.specs.declared.call.Value.{Value}
 use Rattle.sdd_script_text.specs.declared.call.Value.TheVariants.{Number, Of}
-use Rattle.sdd_script_model.specs.Val.{BodyCase, Val, body_of, owner_in, link_of, link_home}
-use Rattle.sdd_script_model.specs.declared.val.Body.TheOpen as body
+use Rattle.sdd_script_model.specs.declared.val.Body.{Body}
+use Rattle.sdd_script_model.specs.Val.{Val, body_of, owner_in, link_of, link_home}
+use Rattle.sdd_script_model.specs.declared.val.Body.TheVariants as body
 use Rattle.sdd_script_model.specs.ScriptState.{ScriptState, holding_at}
 
 -- what the line puts into an item is this
-abbrev pub IsPutIn : ScriptState → Value → BodyCase → Type 0
+abbrev pub IsPutIn : ScriptState → Value → Body → Type 0
 IsPutIn d (Number n) b = b ≡ body.Number n
 IsPutIn d (Of o) b = (h : OwnerOrCell) × (holding_at d.owners o.0 ≡ Some h) × (owner_in b ≡ h ∷ [])
 

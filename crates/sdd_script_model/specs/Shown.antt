@@ -9,8 +9,9 @@ use Rattle.sdd_script_text.specs.declared.name.ItemName.{ItemName}
 use Rattle.sdd_script_text.specs.declared.name.JobName.{JobName}
 use Rattle.sdd_script_text.specs.declared.answer.Reply.{Reply}
 use Rattle.sdd_script_text.specs.declared.answer.Reply.TheVariants as reply
-use Rattle.sdd_script_model.specs.Val.{BodyCase, Val, body_of}
-use Rattle.sdd_script_model.specs.declared.val.Body.TheOpen.{Number, Owned, Shared}
+use Rattle.sdd_script_model.specs.declared.val.Body.{Body}
+use Rattle.sdd_script_model.specs.Val.{Val, body_of}
+use Rattle.sdd_script_model.specs.declared.val.Body.TheVariants.{Number, Owned, Shared}
 use Rattle.sdd_script_model.specs.ScriptState.{ScriptState, cell_of, holding_at}
 
 -- the item that a slot had last
@@ -22,7 +23,7 @@ abbrev pub job_in : List ℕ → ℕ → JobName
 job_in deferred k = record { 0 = slice_index deferred k }
 
 -- a body as a reply: its number, or the item that it holds an owner of
-abbrev pub told_of : List ℕ → BodyCase → Reply
+abbrev pub told_of : List ℕ → Body → Reply
 told_of names (Number n) = reply.Value n
 told_of names (Owned o) = reply.Holding (item_in names (owned.slot_of o))
 told_of names (Shared o) = reply.Holding (item_in names (shared.slot_of o))

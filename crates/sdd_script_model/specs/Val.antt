@@ -6,18 +6,14 @@ use Rattle.sdd_space.specs.Shared as shared
 use Rattle.sdd_space.specs.OwnerOrCell.{OwnerOrCell}
 use Rattle.sdd_lists.specs.Entries as entries
 use Rattle.sdd_lists.specs.declared.linked_entry.LinkedEntry.{LinkedEntry, out-LinkedEntry}
-use Rattle.sdd_script_model.specs.declared.val.Body.{Body, out-Body}
-use Rattle.sdd_script_model.specs.declared.val.Body.TheOpen.{Body-F, Number, Owned, Shared}
+use Rattle.sdd_script_model.specs.declared.val.Body.{Body}
+use Rattle.sdd_script_model.specs.declared.val.Body.TheVariants.{Number, Owned, Shared}
 
 abbrev pub Val : Type 0
 Val = LinkedEntry Body
 
--- a body, by its cases
-abbrev pub BodyCase : Type 0
-BodyCase = Body-F Body
-
-abbrev pub body_of : Val → BodyCase
-body_of v = out-Body (entries.value_of v)
+abbrev pub body_of : Val → Body
+body_of v = entries.value_of v
 
 abbrev pub link_of : Val → ℕ
 link_of v = entries.link_of v
@@ -26,16 +22,13 @@ abbrev pub link_home : Val → token.GhostName
 link_home v = entries.link_home_of v
 
 -- the owner that a body is, if it is one
-abbrev pub owner_in : BodyCase → List OwnerOrCell
+abbrev pub owner_in : Body → List OwnerOrCell
 owner_in (Number n) = []
 owner_in (Owned o) = owned.holding_of o ∷ []
 owner_in (Shared o) = shared.holding_of o ∷ []
 
-abbrev pub owners_of : Body → List OwnerOrCell
-owners_of b = owner_in (out-Body b)
-
 -- with another number; an owner stays
-abbrev pub renumbered : BodyCase → ℕ → BodyCase
+abbrev pub renumbered : Body → ℕ → Body
 renumbered (Number m) n = Number n
 renumbered (Owned o) n = Owned o
 renumbered (Shared o) n = Shared o
@@ -51,4 +44,4 @@ link_holding v = shared.cell_holding (out-LinkedEntry Body v).next
 
 -- it holds an owner or none, and its link
 abbrev pub holdings_of : Val → List OwnerOrCell
-holdings_of v = owners_of (entries.value_of v) ++ link_holding v ∷ []
+holdings_of v = owner_in (body_of v) ++ link_holding v ∷ []

@@ -9,4 +9,4 @@ pub mod val;
 
 pub use link_change::LinkChange;
 pub use owner_kind::OwnerKind;
-pub use val::{Body, Val};
+pub use val::{Body, Nested, Val};

@@ -1,43 +1,60 @@
 use sdd_lists::LinkedEntry;
+use sdd_space::inner::{owner_of, right_of_owner, right_of_shared, shared_of};
 use sdd_space::{Giver, Item, Owned, Shared};
+
+/// Stands for the value of the item whose owner a body is: its type has a body in it.
+pub struct Nested;
 
 /// What an item of a script holds beside its link: a number, or an owner of another item.
 pub enum Body {
     Number(u64),
-    Owned(Owned<Val>),
-    Shared(Shared<Val>),
+    Owned(Owned<Nested>),
+    Shared(Shared<Nested>),
 }
 
 /// The value of an item of a script: an entry with what it holds, and a cell for its link.
 pub type Val = LinkedEntry<Body>;
 
 impl Item<Val> for Body {
-    ghost use Rattle.sdd_script_model.specs.Val.{owners_of};
+    ghost use Rattle.sdd_script_model.specs.Val.{owner_in};
 
-    ghost holds = { owners_of };
+    ghost holds = { owner_in };
 
     fn give_up<G: Giver<Val>>(self, giver: &mut G) {
         match self {
             Body::Number(_) => {}
-            Body::Owned(owner) => giver.owned(owner),
-            Body::Shared(owner) => giver.shared(owner),
+            Body::Owned(owner) => giver.owned(owner_of(right_of_owner(owner))),
+            Body::Shared(owner) => giver.shared(shared_of(right_of_shared(owner))),
         }
     }
 }
 
 impl Body {
-    ghost use Rattle.std.specs.Prelude.{◌≡◌};
-    ghost use Rattle.sdd_script_model.specs.declared.val.Body.{out-Body};
-    ghost use Rattle.sdd_script_model.specs.Val.{renumbered};
+    ghost use Rattle.std.specs.Prelude.{◌≡◌, [], ◌∷◌};
+    ghost use Rattle.sdd_space.specs.Owned as owned;
+    ghost use Rattle.sdd_space.specs.Shared as shared;
+    ghost use Rattle.sdd_script_model.specs.Val.{owner_in, renumbered};
+
+    /// An only owner, as what an item holds.
+    pub fn of_sole(owner: Owned<Val>) -> Body
+        ensures { owner_in result ≡ owned.holding_of owner ∷ [] }
+    {
+        Body::Owned(owner_of(right_of_owner(owner)))
+    }
+
+    /// One of several owners, as what an item holds.
+    pub fn of_shared(owner: Shared<Val>) -> Body
+        ensures { owner_in result ≡ shared.holding_of owner ∷ [] }
+    {
+        Body::Shared(shared_of(right_of_shared(owner)))
+    }
 
     /// Puts a number in the place of its number. An owner stays as it is, since it must be spent.
     pub fn put(&mut self, number: u64)
-        ensures { out-Body self.new ≡ renumbered (out-Body self.old) number }
+        ensures { self.new ≡ renumbered self.old number }
     {
-        match self {
-            Body::Number(held) => *held = number,
-            Body::Owned(_) => {}
-            Body::Shared(_) => {}
+        if let Body::Number(held) = self {
+            *held = number;
         }
     }
 }

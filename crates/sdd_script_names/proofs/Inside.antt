@@ -4,8 +4,9 @@ use Rattle.sdd_space.specs.Owned as owned
 use Rattle.sdd_space.specs.Shared as shared
 use Rattle.sdd_space.specs.OwnerOrCell.{OwnerOrCell}
 use Rattle.sdd_space.specs.World.{value_at}
-use Rattle.sdd_script_model.specs.Val.{BodyCase, Val, body_of, owner_in}
-use Rattle.sdd_script_model.specs.declared.val.Body.TheOpen as body
+use Rattle.sdd_script_model.specs.declared.val.Body.{Body}
+use Rattle.sdd_script_model.specs.Val.{Val, body_of, owner_in}
+use Rattle.sdd_script_model.specs.declared.val.Body.TheVariants as body
 use Rattle.sdd_script_model.specs.ScriptState.{slot_of}
 use Rattle.sdd_script_names.specs.declared.interpreter.Environment.{Environment}
 use Rattle.sdd_script_names.specs.Interpreter.{desk_of, IsTied}
@@ -22,7 +23,7 @@ module _ (h : Environment) (t : IsTied h) where
         (slot-inside (desk_of h) t.sound.stocked k
         (out-there h.world k (value-owner-out (desk_of h) (accounts (desk_of h) t.sound) j v x k here is slot))).0
 
-    by : (b : BodyCase) → body_of v ≡ b → SlotInside h.names.items b
+    by : (b : Body) → body_of v ≡ b → SlotInside h.names.items b
     by (body.Number n) e = tt
     by (body.Owned o) e = inside (owned.holding_of o) (owned.slot_of o) (ap owner_in e) refl
     by (body.Shared o) e = inside (shared.holding_of o) (shared.slot_of o) (ap owner_in e) refl

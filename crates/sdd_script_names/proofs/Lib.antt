@@ -5,3 +5,4 @@ pub mod Missing
 pub mod Inside
 pub mod Taken
 pub mod Collectors
+pub mod Guarded

@@ -10,7 +10,8 @@ use Rattle.sdd_script_text.specs.declared.call.Value.{Value}
 use Rattle.sdd_script_text.specs.declared.call.Value.TheVariants.{Number, Of}
 use Rattle.sdd_script_text.specs.declared.answer.Reply.{Reply}
 use Rattle.sdd_world.specs.Place.{index_of}
-use Rattle.sdd_script_model.specs.Val.{BodyCase, Val, owner_in}
+use Rattle.sdd_script_model.specs.declared.val.Body.{Body}
+use Rattle.sdd_script_model.specs.Val.{Val, owner_in}
 use Rattle.sdd_script_model.specs.ScriptState.{OpenSince, opening_at, holding_at, place_in, sole_slot, shared_slot}
 use Rattle.sdd_script_model.specs.Script.{IsOf, owners_put}
 use Rattle.sdd_script_model.specs.declared.owner_kind.OwnerKind.{OwnerKind}
@@ -22,7 +23,7 @@ use Rattle.sdd_space_commands.specs.Owners.{owner_holding, filling_holding, fill
 use Rattle.sdd_script_text.specs.declared.answer.Reply.TheVariants as reply
 use Rattle.sdd_space.specs.Owned as owned
 use Rattle.sdd_space.specs.Shared as shared
-use Rattle.sdd_script_model.specs.declared.val.Body.TheOpen as body
+use Rattle.sdd_script_model.specs.declared.val.Body.TheVariants as body
 use Rattle.sdd_script_model.specs.declared.owner_kind.OwnerKind.TheVariants as ownership
 
 abbrev pub attending : Option NamedParticipant → Option OpenSince
@@ -83,7 +84,7 @@ dated_if_waiting w None line dates = dates
 dated_if_waiting w (Some k) line dates = if is_waiting (standing_at w k) then slice_set dates k line else dates
 
 -- the slot of the owner that a body is has an item with a name
-abbrev pub SlotInside : List ℕ → BodyCase → Type 0
+abbrev pub SlotInside : List ℕ → Body → Type 0
 SlotInside names (body.Number n) = Unit {0}
 SlotInside names (body.Owned o) = owned.slot_of o < length names
 SlotInside names (body.Shared o) = shared.slot_of o < length names
@@ -94,7 +95,7 @@ IsMissing owners (Number n) = ⊥
 IsMissing owners (Of o) = slice_index_or owners o.0 None ≡ None
 
 -- it is this, and the name of an owner is spent by it
-abbrev pub BecomesBody : List (Option AnyOwner) → Value → List (Option AnyOwner) → BodyCase → Type 0
+abbrev pub BecomesBody : List (Option AnyOwner) → Value → List (Option AnyOwner) → Body → Type 0
 BecomesBody owners (Number n) new b = (b ≡ body.Number n) × (new ≡ owners)
 BecomesBody owners (Of o) new b =
     (owner : AnyOwner) × (slice_index_or owners o.0 None ≡ Some owner) × (owner_in b ≡ owner_holding owner ∷ []) × (new ≡ slice_set owners o.0 None)

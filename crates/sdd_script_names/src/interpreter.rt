@@ -44,13 +44,14 @@ pub struct Interpreter {
 
 impl Model for Interpreter {
     ghost use Rattle.std.specs.Coded.{codes};
-    ghost use Rattle.sdd_script_model.specs.contracts.val.Val as val;
+    ghost use Rattle.sdd_lists.specs.contracts.linked_entry.LinkedEntry as entry;
+    ghost use Rattle.sdd_script_model.specs.contracts.val.Body as body;
     ghost use Rattle.sdd_script_model.specs.ScriptState.{ScriptState};
     ghost use Rattle.sdd_script_names.specs.Interpreter.{desk_of, IsTied};
 
     ghost Value = { ScriptState };
 
-    ghost coded = { Prim.hlevel (codes, val.the_row.coded) };
+    ghost coded = { Prim.hlevel (codes, (entry.the_row body.the_row).coded) };
 
     ghost view = { λ stage. desk_of stage.hand };
 

@@ -8,7 +8,7 @@ ghost use Rattle.sdd_script_model.specs.Val.{Val, body_of};
 ghost use Rattle.sdd_script_model.specs.Shown.{told_of, item_in};
 ghost use Rattle.sdd_script_names.specs.Environment.{SlotInside, CanPointAt, CanCompareAt, dated_if_waiting};
 ghost use Rattle.sdd_script_model.specs.Held.{owners_in, slots_among, slots_waiting_for, waits_among, slot_held};
-ghost use Rattle.sdd_script_model.specs.declared.val.Body.TheOpen.{Number};
+ghost use Rattle.sdd_script_model.specs.declared.val.Body.TheVariants.{Number};
 ghost use Rattle.sdd_script_text.specs.declared.name.ItemName.{ItemName as Named};
 ghost use Rattle.sdd_participants.specs.Collecting.{is_private_to};
 ghost use Rattle.sdd_standings.specs.Slots as slots;

@@ -7,7 +7,6 @@ ghost use Rattle.sdd_space_commands.specs.Owners.{owner_holding, filling_holding
 ghost use Rattle.sdd_script_names.specs.Environment.{FitsIn, Fills, IsMissing, BecomesBody, IsGiven, given_back, CanPutBack, owners_back};
 ghost use Rattle.sdd_script_model.specs.ScriptState.{slot_of};
 ghost use Rattle.sdd_script_model.specs.Val.{Val};
-ghost use Rattle.sdd_script_model.specs.declared.val.Body.{out-Body};
 
 use crate::name_table::NameTable;
 use sdd_script_model::{Body, OwnerKind, Val};
@@ -125,13 +124,13 @@ pub fn is_missing(owners: &NameTable<AnyOwner>, value: Value) -> bool
 pub fn body_from(owners: &mut NameTable<AnyOwner>, value: Value) -> Option<Body>
     ensures room { vec_capacity owners.new.entries ≡ vec_capacity owners.old.entries }
     ensures becomes { MatchOption result (IsMissing owners.old.entries.items value × (owners.new.entries.items ≡ owners.old.entries.items))
-        (λ body. BecomesBody owners.old.entries.items value owners.new.entries.items (out-Body body)) }
+        (λ body. BecomesBody owners.old.entries.items value owners.new.entries.items body) }
 {
     match value {
         Value::Number(number) => Some(Body::Number(number)),
         Value::Of(owner) => match owners.take(owner.0)? {
-            AnyOwner::Sole(owner) => Some(Body::Owned(owner)),
-            AnyOwner::Share(owner) => Some(Body::Shared(owner)),
+            AnyOwner::Sole(owner) => Some(Body::of_sole(owner)),
+            AnyOwner::Share(owner) => Some(Body::of_shared(owner)),
         },
     }
 }

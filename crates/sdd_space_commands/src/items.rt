@@ -3,8 +3,7 @@ ghost use Rattle.std.specs.Prelude.{◌≡◌, ◌<◌, ℕ};
 ghost use Rattle.sdd_participants.specs.Slab.{IsEmptyAt, IsFull};
 ghost use Rattle.sdd_space.specs.WorldChanges.{made_as, nulled};
 ghost use Rattle.sdd_space.specs.OwnerOrCell.{AreOf};
-ghost use Rattle.sdd_script_model.specs.Val.{Val, body_of, owners_of, link_of, link_home};
-ghost use Rattle.sdd_script_model.specs.declared.val.Body.{out-Body};
+ghost use Rattle.sdd_script_model.specs.Val.{Val, body_of, owner_in, link_of, link_home};
 ghost use Rattle.sdd_space_commands.specs.Owners.{owner_holding};
 ghost use Rattle.sdd_script_model.specs.Held.{standing_first, holding_first};
 
@@ -23,11 +22,11 @@ pub struct MakeItem {
 impl CellCommand for MakeItem {
     type Out = AnyOwner;
 
-    ghost asks = { λ step home _ world. ¬ (IsFull world.cells) × ¬ (IsFull world.standings) × AreOf home (owners_of step.body) };
+    ghost asks = { λ step home _ world. ¬ (IsFull world.cells) × ¬ (IsFull world.standings) × AreOf home (owner_in step.body) };
 
     ghost does = { λ step home _ before made after. (k cell : ℕ) × (entry : Val) × (owner_holding made ≡ holding_first step.ownership k home.slots)
         × IsEmptyAt before.cells cell × IsEmptyAt before.standings k
-        × (body_of entry ≡ out-Body step.body) × (link_of entry ≡ cell) × (link_home entry ≡ home.cells)
+        × (body_of entry ≡ step.body) × (link_of entry ≡ cell) × (link_home entry ≡ home.cells)
         × (after ≡ made_as (nulled before cell) k entry (standing_first step.ownership)) };
 
     fn done<S: Items<Val> + SharedItems<Val> + Cells<Val> + RawCells<Val> + Collectors<Val>>(

@@ -8,8 +8,7 @@ ghost use Rattle.sdd_space.specs.Guard.{reader_of};
 ghost use Rattle.sdd_space.specs.CallerId.{reader_at};
 ghost use Rattle.sdd_space.specs.UnderGuards.{CannotGo};
 ghost use Rattle.sdd_world.specs.Place.{index_of};
-ghost use Rattle.sdd_script_model.specs.Val.{Val, body_of, owners_of, link_of, link_home};
-ghost use Rattle.sdd_script_model.specs.declared.val.Body.{out-Body};
+ghost use Rattle.sdd_script_model.specs.Val.{Val, body_of, owner_in, link_of, link_home};
 ghost use Rattle.sdd_space_commands.specs.Owners.{owner_holding};
 ghost use Rattle.sdd_script_model.specs.Held.{standing_first, holding_first};
 
@@ -31,10 +30,10 @@ pub fn make_item(
     requires place { IsPlaceOf world.old (index_of place.now) }
     requires cell { ¬ (IsFull world.old.cells) }
     requires slot { ¬ (IsFull world.old.standings) }
-    requires home { AreOf world.old.home (owners_of body) }
+    requires home { AreOf world.old.home (owner_in body) }
     ensures made { (k cell : ℕ) × (entry : Val) × (owner_holding result ≡ holding_first ownership k world.old.home.slots)
         × IsEmptyAt world.old.cells cell × IsEmptyAt world.old.standings k
-        × (body_of entry ≡ out-Body body) × (link_of entry ≡ cell) × (link_home entry ≡ world.old.home.cells)
+        × (body_of entry ≡ body) × (link_of entry ≡ cell) × (link_home entry ≡ world.old.home.cells)
         × (world.new ≡ made_as (nulled world.old cell) k entry (standing_first ownership)) }
 {
     cell_step_at(world, place, MakeItem { body, ownership })

@@ -102,7 +102,7 @@ pub enum CellKind {
     Shared,
     /// It holds a raw pointer.
     Raw,
-    /// It is a private collector's.
+    /// It is that of a private collector which is being closed. One that is open has a cell of raw pointers.
     Collector,
 }
 

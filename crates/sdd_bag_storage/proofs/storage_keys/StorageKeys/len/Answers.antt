@@ -3,8 +3,8 @@ use Rattle.sdd_bag_storage.specs.Storage.{KeptPlace, kept_place, values_in}
 use Rattle.sdd_bag_storage.proofs.Marks.{all-counted}
 use Rattle.sdd_bag_storage.proofs.storage_keys.StorageKeys.len.Goals as goal
 
-pub returns-else-self-eq0 : goal.returns-else-self-eq0
-returns-else-self-eq0 g c =
+pub returns-else-self-eq0-clause-values : goal.returns-else-self-eq0-clause-values
+returns-else-self-eq0-clause-values g c =
     let rest = (c.self.inside.arrays - 1) * g.row.LEN in
     ap (λ n. n + rest) c.front_len.ensures.value
     ∙ subst (λ (ps : List (KeptPlace g.row.T.Denot)). length (values_in (take g.row.LEN ps)) + rest ≡ length (values_in ps)) c.self.view_is

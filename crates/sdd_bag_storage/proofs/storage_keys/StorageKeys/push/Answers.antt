@@ -1,5 +1,5 @@
-use Rattle.std.proofs.Common.{◌≡◌, List, Some, sym, ap, ◌∙◌, subst}
-use Rattle.sdd_bag_storage.specs.Storage.{KeptPlace, names_of, values_in, with_value_at}
+use Rattle.std.proofs.Common.{List, Some, sym, ap, ◌∙◌, subst}
+use Rattle.sdd_bag_storage.specs.Storage.{KeptPlace, names_of, values_in}
 use Rattle.sdd_bag_storage.specs.Values.{HasOneMore}
 use Rattle.sdd_bag_storage.proofs.Values.{names-same, one-in}
 use Rattle.sdd_bag_storage.proofs.storage_keys.StorageKeys.push.Goals as goal

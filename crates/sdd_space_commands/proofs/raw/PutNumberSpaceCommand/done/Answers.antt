@@ -14,10 +14,17 @@ returns-in-Ok-clause-done g c =
     let held = c.get_mut.new.self in
     let same = ap (λ k. holding.owned k (owned.slots_home held)) c.in-Ok.ensures.slot
     ∙ ap (holding.owned (owned.slot_of c.in-Sole.held)) c.in-Ok.ensures.home in
-    rw c.in-Sole.is (same, (owned.slot_of c.in-Sole.held, refl, (
-      record { alone = inl (c.in-Ok.ensures.owned c.requires.exact); quiet = exact.0 },
-      record { was = exact.1.0; now = exact.1.1; there = exact.1.2; changed = rw (← post.shows, ← post.leaves) changed; put = exact.1.4 },
-    )))
+    rw c.in-Sole.is (
+      same,
+      (
+        owned.slot_of c.in-Sole.held,
+        refl,
+        (
+          record { alone = inl (c.in-Ok.ensures.owned c.requires.exact); quiet = exact.0 },
+          record { was = exact.1.0; now = exact.1.1; there = exact.1.2; changed = rw (← post.shows, ← post.leaves) changed; put = exact.1.4 },
+        ),
+      ),
+    )
 
 pub returns-in-Ok-get_mut-clause-done : goal.returns-in-Ok-get_mut-clause-done
 returns-in-Ok-get_mut-clause-done g c =
@@ -27,7 +34,14 @@ returns-in-Ok-get_mut-clause-done g c =
     let held = c.get_mut-in-Share.new.self in
     let same = ap (λ k. holding.shared k (shared.slots_home held)) c.in-Ok-get_mut.ensures.slot
     ∙ ap (holding.shared (shared.slot_of c.in-Share.held)) c.in-Ok-get_mut.ensures.home in
-    rw c.in-Share.is (same, (shared.slot_of c.in-Share.held, refl, (
-      record { alone = inr (exact.1.shared ∙ ap (λ (n : ℕ). Some (standing.Shared n)) exact.2.0); quiet = exact.2.1 },
-      record { was = exact.2.2.0; now = exact.2.2.1; there = exact.2.2.2; changed = rw (← post.shows, ← post.leaves) changed; put = exact.2.2.4 },
-    )))
+    rw c.in-Share.is (
+      same,
+      (
+        shared.slot_of c.in-Share.held,
+        refl,
+        (
+          record { alone = inr (exact.1.shared ∙ ap (λ (n : ℕ). Some (standing.Shared n)) exact.2.0); quiet = exact.2.1 },
+          record { was = exact.2.2.0; now = exact.2.2.1; there = exact.2.2.2; changed = rw (← post.shows, ← post.leaves) changed; put = exact.2.2.4 },
+        ),
+      ),
+    )

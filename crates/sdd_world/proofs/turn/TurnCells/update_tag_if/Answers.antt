@@ -35,12 +35,24 @@ returns-clause-exact g c = λ _.
 
 pub returns-then-not-condition-clause-asked : goal.returns-then-not-condition-clause-asked
 returns-then-not-condition-clause-asked g c =
-    let met : g.F.FnMut.post c.args.condition (c.raw_ptr_to.result, tt) c.condition.result = search of_calls in
-    (c.raw_ptr_to.result, ([], c.args.condition, refl,
-    subst (λ (b : Bool). g.F.FnMut.post c.args.condition (c.raw_ptr_to.result, tt) b) c.if-not-condition.true met))
+    let met : g.F.FnMut.post c.args.condition (c.raw_ptr_to.result, tt) c.condition.result = search of_calls in (
+      c.raw_ptr_to.result,
+      (
+        [],
+        c.args.condition,
+        refl,
+        subst (λ (b : Bool). g.F.FnMut.post c.args.condition (c.raw_ptr_to.result, tt) b) c.if-not-condition.true met,
+      ),
+    )
 
 pub returns-clause-asked : goal.returns-clause-asked
 returns-clause-asked g c =
-    let met : g.F.FnMut.post c.args.condition (c.raw_ptr_to.result, tt) c.condition.result = search of_calls in
-    (c.raw_ptr_to.result, ([], c.args.condition, refl,
-    subst (λ (b : Bool). g.F.FnMut.post c.args.condition (c.raw_ptr_to.result, tt) b) c.if-not-condition.false met))
+    let met : g.F.FnMut.post c.args.condition (c.raw_ptr_to.result, tt) c.condition.result = search of_calls in (
+      c.raw_ptr_to.result,
+      (
+        [],
+        c.args.condition,
+        refl,
+        subst (λ (b : Bool). g.F.FnMut.post c.args.condition (c.raw_ptr_to.result, tt) b) c.if-not-condition.false met,
+      ),
+    )

@@ -1,0 +1,5 @@
+pub mod Changes
+pub mod Fronts
+pub mod Lying
+pub mod Still
+pub mod Standing

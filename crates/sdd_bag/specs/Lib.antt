@@ -1,0 +1,4 @@
+pub mod Storages
+pub mod Primary
+pub mod Overflow
+pub mod Bag

@@ -1,0 +1,15 @@
+-- What clauses see of a storage
+use Rattle.std.specs.Prelude.{ℕ, List, [], ◌∷◌}
+use Rattle.sdd_keyed_places.specs.KeyedPlaces.{PlaceName}
+use Rattle.sdd_rights.specs.Units.{GhostName}
+use Rattle.sdd_space.specs.OwnerOrCell.{OwnerOrCell, atomic_shared}
+
+-- a storage: its places, in order, and the cell that is its own
+pub record StorageName : Type 0 where
+  pub places : List PlaceName
+  pub cell : ℕ
+  pub home : GhostName
+
+-- it holds its cell; the values in its places are with whoever has the keys
+abbrev pub holdings_of : StorageName → List OwnerOrCell
+holdings_of s = atomic_shared s.cell s.home ∷ []

@@ -1,0 +1,343 @@
+//! The bag.
+ghost use Rattle.std.specs.Prelude.{◌≡◌, ◌≢◌, ◌↔◌, ◌⊎◌, ◌+◌, ◌^◌, ◌<◌, ◌≤◌, ◌++◌, ℕ, IfErr, IfOk, IsTrue, List, MatchOption, MatchResult, None, Some, [], drop, length, map};
+ghost use Rattle.sdd_keyed_places.specs.KeyedPlaces.{PlaceName};
+ghost use Rattle.sdd_bag_storage.specs.Storage.{AreEmpty, AreFull, IsEmptyAt, IsFullWith, empty_place, with_value_at};
+ghost use Rattle.sdd_bag_storage.specs.Values.{HasOneMore};
+ghost use Rattle.sdd_space.specs.CallerId.{IsSeated, IsExact};
+ghost use Rattle.sdd_space.specs.Guard.{reader_of};
+ghost use Rattle.sdd_space.specs.ParticipantChanges.{KeepsMoreWaiting};
+ghost use Rattle.sdd_space.specs.Refusals.{IsRefusedBy};
+ghost use Rattle.sdd_space.specs.Undisturbed.{Undisturbed, Unmoved};
+ghost use Rattle.sdd_lists.specs.declared.linked_entry.LinkedEntry.{LinkedEntry as Linked};
+ghost use Rattle.sdd_lists.specs.declared.stack.Stack.{Stack as Storages};
+ghost use Rattle.sdd_lists.specs.Lists.{Entry};
+ghost use Rattle.sdd_lists.specs.Stack.{cell_in, home_in};
+ghost use Rattle.sdd_bag.specs.Overflow.{AddsStorage, KeepsPlaces, Lies, LiesOn, OverflowParts, RefusesStorage, RemovesStorage};
+ghost use Rattle.sdd_participants.specs.Slab.{IsEmptyAt as IsEmptyCell};
+ghost use Rattle.sdd_lists.specs.Queue.{HasOneAtMost};
+ghost use Rattle.sdd_space.specs.Shared.{cell_of, cells_home};
+ghost use Rattle.sdd_space.specs.WorldChanges.{nulled};
+ghost use Rattle.sdd_lists.specs.Filling.{AddsOnto, RefusesPush};
+ghost use Rattle.sdd_bag.specs.Bag.{BagParts, HasSameCells, HasStorageMore, PushesBehind, PushesInside, IsBag, IsOfCells, KeepsStorages, overflow_of, primary_of};
+
+use crate::front::first_shelf;
+use crate::primary::Primary;
+use crate::shelf::Shelf;
+use crate::storage::Storage;
+use sdd_bag_storage::StorageKeys;
+use sdd_core::Refused;
+use sdd_lists::{LinkedEntry, Stack};
+use sdd_space::inner::{right_of_shared_cell, shared_cell_with};
+use sdd_space::{AtomicShared, Cells, Guard, Items, LookThrough, Several, SharedItems};
+use std::marker::Model;
+
+/// Values, of which at most `ARRAY_LEN` lie in the bag itself, and the others in storages, each an item of a space, on the entries of a stack.
+///
+/// It has the keys of the places of all its storages. It must be spent: closed, or turned into what gives its values one after another.
+pub struct Bag<T, const ARRAY_LEN: usize, B> {
+    primary: Primary<T, ARRAY_LEN>,
+    stack: Stack<B>,
+    keys: StorageKeys<T, ARRAY_LEN>,
+}
+
+impl<T, const ARRAY_LEN: usize, B> Model for Bag<T, ARRAY_LEN, B> {
+    ghost use Rattle.std.specs.Prelude.{◌<◌, ◌≤◌};
+    ghost use Rattle.sdd_bag.specs.Bag.{BagParts};
+
+    ghost Value = { BagParts T B };
+
+    ghost view = { λ b. record { primary = b.primary; overflow = record { stack = b.stack; places = b.keys } } };
+
+    ghost invariant = { λ _. (0 < ARRAY_LEN) × (ARRAY_LEN ≤ 32) };
+}
+
+impl<T, const ARRAY_LEN: usize, B: Shelf<T, ARRAY_LEN>> Bag<T, ARRAY_LEN, B> {
+    /// Puts a value into the first storage. If there is none, or it is full, the value comes back.
+    fn push_front<S: Items<LinkedEntry<B>> + Cells<LinkedEntry<B>> + LookThrough<LinkedEntry<B>>>(
+        &mut self,
+        value: T,
+        guard: &Guard,
+        s: &mut S,
+    ) -> Result<(), T>
+        requires seated { IsSeated (S.seat s.old) }
+        requires home { home_in self.old.overflow.stack ≡ (S.seat s.old).home.cells }
+        requires reader { reader_of guard.now ≡ (S.seat s.old).reader }
+        requires exact { IsExact (S.seat s.old) }
+        requires lies { Lies B.shown ARRAY_LEN (S.world s.old) self.old.overflow }
+        ensures undisturbed { Undisturbed S.seat S.own S.known S.shows s.old s.new }
+        ensures world { S.world s.new ≡ S.world s.old }
+        ensures keeps { KeepsStorages self.old self.new }
+        ensures pushed { MatchResult result
+            (λ _. ((at : ℕ) × (at < ARRAY_LEN) × IsEmptyAt at self.old.overflow.places ×
+            (self.new.overflow.places ≡ with_value_at self.old.overflow.places at (Some value))) ×
+            HasOneMore value (overflow_of self.old) (overflow_of self.new))
+            (λ back. (back ≡ value) × AreFull ARRAY_LEN self.old.overflow.places × (self.new ≡ self.old)) }
+    {
+        match first_shelf(&self.stack, guard, s) {
+            Some(shelf) => self.keys.push(shelf.storage().places(), value),
+            None => Err(value),
+        }
+    }
+
+    /// Takes a value out of the first storage, if there is one that has a value.
+    fn pop_front<S: Items<LinkedEntry<B>> + Cells<LinkedEntry<B>> + LookThrough<LinkedEntry<B>>>(
+        &mut self,
+        guard: &Guard,
+        s: &mut S,
+    ) -> Option<T>
+        requires seated { IsSeated (S.seat s.old) }
+        requires home { home_in self.old.overflow.stack ≡ (S.seat s.old).home.cells }
+        requires reader { reader_of guard.now ≡ (S.seat s.old).reader }
+        requires exact { IsExact (S.seat s.old) }
+        requires lies { Lies B.shown ARRAY_LEN (S.world s.old) self.old.overflow }
+        ensures undisturbed { Undisturbed S.seat S.own S.known S.shows s.old s.new }
+        ensures world { S.world s.new ≡ S.world s.old }
+        ensures keeps { KeepsStorages self.old self.new }
+        ensures popped { MatchOption result
+            (AreEmpty ARRAY_LEN self.old.overflow.places × (self.new ≡ self.old))
+            (λ value. ((at : ℕ) × (at < ARRAY_LEN) × IsFullWith value at self.old.overflow.places ×
+            (self.new.overflow.places ≡ with_value_at self.old.overflow.places at None)) ×
+            HasOneMore value (overflow_of self.new) (overflow_of self.old)) }
+    {
+        match first_shelf(&self.stack, guard, s) {
+            Some(shelf) => self.keys.pop(shelf.storage().places()),
+            None => None,
+        }
+    }
+
+    /// No place of the first storage has a value, or there is no storage.
+    fn is_front_empty(&self) -> bool
+        ensures { IsTrue result ↔ AreEmpty ARRAY_LEN self.now.overflow.places }
+    {
+        self.keys.is_front_empty()
+    }
+
+    /// A storage without values, with this cell, on a new entry in front of the others. Where the entry finds no place the cell comes back.
+    fn push_storage<
+        S: Items<LinkedEntry<B>>
+            + Several<LinkedEntry<B>>
+            + Cells<LinkedEntry<B>>
+            + LookThrough<LinkedEntry<B>>,
+    >(
+        &mut self,
+        cell: AtomicShared<LinkedEntry<B>>,
+        guard: &Guard,
+        s: &mut S,
+    ) -> Result<(), (AtomicShared<LinkedEntry<B>>, Refused)>
+        requires seated { IsSeated (S.seat s.old) }
+        requires home { home_in self.old.overflow.stack ≡ (S.seat s.old).home.cells }
+        requires cell { cells_home cell ≡ (S.seat s.old).home.cells }
+        requires reader { reader_of guard.now ≡ (S.seat s.old).reader }
+        requires exact { IsExact (S.seat s.old) }
+        requires lies { Lies B.shown ARRAY_LEN (S.world s.old) self.old.overflow }
+        requires full { AreFull ARRAY_LEN self.old.overflow.places }
+        requires few { length self.old.overflow.places < 2 ^ 80 }
+        ensures unmoved { Unmoved S.seat S.known S.shows s.old s.new }
+        ensures own { KeepsMoreWaiting (S.own s.old) (S.own s.new) }
+        ensures same { IfErr result (λ _. self.new ≡ self.old) }
+        ensures back { IfErr result (λ e. (cell_of e.0 ≡ cell_of cell) × (cells_home e.0 ≡ cells_home cell)) }
+        ensures refused { IfErr result (λ e. (S.world s.new ≡ S.world s.old) × RefusesPush (S.world s.old) e.1) }
+        ensures pushed { IfOk result (λ _. HasStorageMore ARRAY_LEN self.old self.new) }
+        ensures list { (es : List (Entry (Linked B))) → LiesOn B.shown ARRAY_LEN (S.world s.old) es self.old.overflow → IfOk result (λ _.
+            (shelf : B) × (fs : List (Entry (Linked B))) ×
+            AddsOnto (S.world s.old) (S.seat s.old).place (cell_in self.old.overflow.stack) es shelf (S.world s.new) fs ×
+            LiesOn B.shown ARRAY_LEN (S.world s.new) fs self.new.overflow) }
+    {
+        let places = self.keys.add_places();
+        let storage = Storage::new(places, right_of_shared_cell(cell));
+        match self.stack.push(B::with_storage(storage), guard, s) {
+            Ok(owner) => {
+                let _ = owner.release(s);
+                Ok(())
+            }
+            Err((shelf, refused)) => {
+                self.keys.remove_places();
+                Err((shared_cell_with(shelf.into_storage().into_cell()), refused))
+            }
+        }
+    }
+
+    /// A storage without values in front of the others.
+    ///
+    /// `NoSlot` where no slot is free, else `NoCell` where no two cells are.
+    fn add_storage<
+        S: Items<LinkedEntry<B>>
+            + Several<LinkedEntry<B>>
+            + Cells<LinkedEntry<B>>
+            + LookThrough<LinkedEntry<B>>,
+    >(&mut self, guard: &Guard, s: &mut S) -> Result<(), Refused>
+        requires seated { IsSeated (S.seat s.old) }
+        requires home { home_in self.old.overflow.stack ≡ (S.seat s.old).home.cells }
+        requires reader { reader_of guard.now ≡ (S.seat s.old).reader }
+        requires exact { IsExact (S.seat s.old) }
+        requires lies { Lies B.shown ARRAY_LEN (S.world s.old) self.old.overflow }
+        requires full { AreFull ARRAY_LEN self.old.overflow.places }
+        ensures unmoved { Unmoved S.seat S.known S.shows s.old s.new }
+        ensures own { KeepsMoreWaiting (S.own s.old) (S.own s.new) }
+        ensures same { IfErr result (λ _. self.new ≡ self.old) }
+        ensures refused { IfErr result (λ why. (S.world s.new ≡ S.world s.old) × RefusesStorage (S.world s.old) why) }
+        ensures added { IfOk result (λ _. HasStorageMore ARRAY_LEN self.old self.new) }
+        ensures list { (es : List (Entry (Linked B))) → LiesOn B.shown ARRAY_LEN (S.world s.old) es self.old.overflow → IfOk result (λ _.
+            (fs : List (Entry (Linked B))) ×
+            AddsStorage (S.world s.old) (S.seat s.old).place (cell_in self.old.overflow.stack) es (S.world s.new) fs ×
+            LiesOn B.shown ARRAY_LEN (S.world s.new) fs self.new.overflow) }
+    {
+        let _ = &self.primary;
+        s.values_fit_slots();
+        let _ = s.slots();
+        let free = s.has_slot();
+        if !free {
+            return Err(Refused::NoSlot);
+        }
+        let cell = match AtomicShared::null(s) {
+            Ok(cell) => cell,
+            Err(refused) => return Err(refused),
+        };
+        match self.push_storage(cell, guard, s) {
+            Ok(()) => Ok(()),
+            Err((cell, refused)) => {
+                cell.close(s);
+                Err(refused)
+            }
+        }
+    }
+
+    /// Puts a value into the first of the other storages that has room, or into one more.
+    fn push_behind<
+        S: Items<LinkedEntry<B>>
+            + Several<LinkedEntry<B>>
+            + Cells<LinkedEntry<B>>
+            + LookThrough<LinkedEntry<B>>,
+    >(&mut self, value: T, guard: &Guard, s: &mut S) -> Result<(), (T, Refused)>
+        requires seated { IsSeated (S.seat s.old) }
+        requires home { home_in self.old.overflow.stack ≡ (S.seat s.old).home.cells }
+        requires reader { reader_of guard.now ≡ (S.seat s.old).reader }
+        requires exact { IsExact (S.seat s.old) }
+        requires lies { Lies B.shown ARRAY_LEN (S.world s.old) self.old.overflow }
+        ensures unmoved { Unmoved S.seat S.known S.shows s.old s.new }
+        ensures own { KeepsMoreWaiting (S.own s.old) (S.own s.new) }
+        ensures primary { self.new.primary ≡ self.old.primary }
+        ensures stack { self.new.overflow.stack ≡ self.old.overflow.stack }
+        ensures pushed { MatchResult result
+            (λ _. HasOneMore value (overflow_of self.old) (overflow_of self.new) × ¬ (AreEmpty ARRAY_LEN self.new.overflow.places))
+            (λ e. (e.0 ≡ value) × (self.new ≡ self.old) × (S.world s.new ≡ S.world s.old) × RefusesStorage (S.world s.old) e.1) }
+        ensures list { (es : List (Entry (Linked B))) → LiesOn B.shown ARRAY_LEN (S.world s.old) es self.old.overflow → IfOk result (λ _.
+            (fs : List (Entry (Linked B))) × LiesOn B.shown ARRAY_LEN (S.world s.new) fs self.new.overflow ×
+            ((S.world s.new ≡ S.world s.old) ⊎ AreFull ARRAY_LEN self.old.overflow.places ×
+            AddsStorage (S.world s.old) (S.seat s.old).place (cell_in self.old.overflow.stack) es (S.world s.new) fs)) }
+    {
+        let _ = &self.primary;
+        let value = match self.push_front(value, guard, s) {
+            Ok(()) => return Ok(()),
+            Err(value) => value,
+        };
+        match self.add_storage(guard, s) {
+            Ok(()) => {}
+            Err(refused) => return Err((value, refused)),
+        }
+        match self.push_front(value, guard, s) {
+            Ok(()) => Ok(()),
+            Err(_) => unreachable!(),
+        }
+    }
+
+    /// An empty bag. It holds 1 to 32 values itself, and has two cells.
+    ///
+    /// `NoCell` where no two cells are free; `Contended`, in a domain alone, where as many exchanges were lost as its limits allow.
+    pub fn new<S: Items<LinkedEntry<B>> + Cells<LinkedEntry<B>>>(
+        s: &mut S,
+    ) -> Result<Bag<T, ARRAY_LEN, B>, Refused>
+        requires some { 0 < ARRAY_LEN }
+        requires fits { ARRAY_LEN ≤ 32 }
+        requires seated { IsSeated (S.seat s.old) }
+        ensures unmoved { Unmoved S.seat S.known S.shows s.old s.new }
+        ensures own { KeepsMoreWaiting (S.own s.old) (S.own s.new) }
+        ensures home { IfOk result (IsOfCells (S.seat s.old).home.cells) }
+        ensures back { IfErr result (IsRefusedBy (S.seat s.old) Refused.NoCell) }
+        ensures empty { IfOk result (λ bag. (primary_of bag ≡ []) × (overflow_of bag ≡ [])) }
+        ensures world { IsExact (S.seat s.old) → MatchResult result
+            (λ bag. IsEmptyCell (S.world s.old).cells bag.primary.storage.cell × IsEmptyCell (S.world s.old).cells (cell_in bag.overflow.stack) ×
+            (bag.primary.storage.cell ≢ cell_in bag.overflow.stack) ×
+            (S.world s.new ≡ nulled (nulled (S.world s.old) bag.primary.storage.cell) (cell_in bag.overflow.stack)))
+            (λ e. HasOneAtMost (S.world s.old).cells × (e ≡ Refused.NoCell) × (S.world s.new ≡ S.world s.old)) }
+        ensures bag { IsExact (S.seat s.old) → IfOk result (IsBag B.shown ARRAY_LEN (S.world s.new)) }
+    {
+        let cell = match AtomicShared::null(s) {
+            Ok(cell) => cell,
+            Err(refused) => return Err(refused),
+        };
+        match Stack::new(s) {
+            Ok(stack) => Ok(Bag {
+                primary: Primary::new(right_of_shared_cell(cell)),
+                stack,
+                keys: StorageKeys::new(),
+            }),
+            Err(refused) => {
+                cell.close(s);
+                Err(refused)
+            }
+        }
+    }
+
+    /// Puts a value among those in the bag itself, if there are fewer than `ARRAY_LEN`, else into another storage: into the first, or into one more.
+    ///
+    /// `NoSlot` where a storage more is needed and no slot is free, else `NoCell` where no two cells are. The value comes back.
+    pub fn push<
+        S: Items<LinkedEntry<B>>
+            + Several<LinkedEntry<B>>
+            + Cells<LinkedEntry<B>>
+            + LookThrough<LinkedEntry<B>>,
+    >(&mut self, value: T, guard: &Guard, s: &mut S) -> Result<(), (T, Refused)>
+        requires seated { IsSeated (S.seat s.old) }
+        requires home { home_in self.old.overflow.stack ≡ (S.seat s.old).home.cells }
+        requires reader { reader_of guard.now ≡ (S.seat s.old).reader }
+        requires exact { IsExact (S.seat s.old) }
+        requires bag { IsBag B.shown ARRAY_LEN (S.world s.old) self.old }
+        ensures unmoved { Unmoved S.seat S.known S.shows s.old s.new }
+        ensures own { KeepsMoreWaiting (S.own s.old) (S.own s.new) }
+        ensures cells { HasSameCells self.old self.new }
+        ensures bag { IsBag B.shown ARRAY_LEN (S.world s.new) self.new }
+        ensures pushed { MatchResult result
+            (λ _. PushesInside ARRAY_LEN value self.old self.new × (S.world s.new ≡ S.world s.old) ⊎ PushesBehind ARRAY_LEN value self.old self.new)
+            (λ e. (length (primary_of self.old) ≡ ARRAY_LEN) × (e.0 ≡ value) × (self.new ≡ self.old) × (S.world s.new ≡ S.world s.old) ×
+            RefusesStorage (S.world s.old) e.1) }
+        ensures list { (es : List (Entry (Linked B))) → LiesOn B.shown ARRAY_LEN (S.world s.old) es self.old.overflow → IfOk result (λ _.
+            (fs : List (Entry (Linked B))) × LiesOn B.shown ARRAY_LEN (S.world s.new) fs self.new.overflow ×
+            ((S.world s.new ≡ S.world s.old) ⊎ AreFull ARRAY_LEN self.old.overflow.places ×
+            AddsStorage (S.world s.old) (S.seat s.old).place (cell_in self.old.overflow.stack) es (S.world s.new) fs)) }
+    {
+        let value = match self.primary.push(value) {
+            Ok(()) => return Ok(()),
+            Err(value) => value,
+        };
+        match self.push_behind(value, guard, s) {
+            Ok(()) => Ok(()),
+            Err(back) => Err(back),
+        }
+    }
+
+    /// Puts a value among those in the bag itself. If it holds `ARRAY_LEN` already, the value comes back.
+    pub fn try_push(&mut self, value: T) -> Result<(), T>
+        ensures overflow { self.new.overflow ≡ self.old.overflow }
+        ensures storage { self.new.primary.storage ≡ self.old.primary.storage }
+        ensures pushed { MatchResult result
+            (λ _. (length (primary_of self.old) < ARRAY_LEN) × HasOneMore value (primary_of self.old) (primary_of self.new))
+            (λ back. (back ≡ value) × (length (primary_of self.old) ≡ ARRAY_LEN) × (self.new ≡ self.old)) }
+    {
+        self.primary.push(value)
+    }
+
+    /// How many values there are.
+    pub fn len(&self) -> u128
+        ensures { result ≡ length (primary_of self.now) + length (overflow_of self.now) }
+    {
+        self.primary.len() + self.keys.len()
+    }
+
+    /// There is no value.
+    pub fn is_empty(&self) -> bool
+        ensures { IsTrue result ↔ (primary_of self.now ≡ []) × (overflow_of self.now ≡ []) }
+    {
+        self.len() == 0
+    }
+}

@@ -1,0 +1,83 @@
+//! The values that lie in a bag itself.
+ghost use Rattle.std.specs.Prelude.{◌≡◌, ◌^◌, ◌<◌, ◌≤◌, MatchOption, MatchResult, [], length};
+ghost use Rattle.sdd_bag.specs.Primary.{PrimaryParts, held_by};
+ghost use Rattle.sdd_bag_storage.specs.Values.{HasOneMore};
+ghost use Rattle.sdd_rights.specs.Right.{number_of, home_of, kind_of};
+
+use crate::storage::Storage;
+use sdd_bag_storage::StorageKeys;
+use sdd_rights::{Right, StandingKind};
+use std::marker::Model;
+
+/// A bag's own storage, with the keys of its places.
+pub(crate) struct Primary<T, const ARRAY_LEN: usize> {
+    storage: Storage<T, ARRAY_LEN>,
+    keys: StorageKeys<T, ARRAY_LEN>,
+}
+
+impl<T, const ARRAY_LEN: usize> Model for Primary<T, ARRAY_LEN> {
+    ghost use Rattle.sdd_bag.specs.Primary.{HasItsKeys, PrimaryParts};
+
+    ghost Value = { PrimaryParts T };
+
+    ghost view = { λ p. record { storage = p.storage; places = p.keys } };
+
+    ghost invariant = { λ p. HasItsKeys ARRAY_LEN (record { storage = p.storage; places = p.keys }) };
+}
+
+impl<T, const ARRAY_LEN: usize> Primary<T, ARRAY_LEN> {
+    /// A storage without values, with this cell. It has 1 to 32 places.
+    pub(crate) fn new(cell: Right) -> Primary<T, ARRAY_LEN>
+        requires some { 0 < ARRAY_LEN }
+        requires fits { ARRAY_LEN ≤ 32 }
+        requires kind { kind_of cell ≡ StandingKind.Shared }
+        ensures empty { held_by result ≡ [] }
+        ensures cell { result.storage.cell ≡ number_of cell }
+        ensures home { result.storage.home ≡ home_of cell }
+    {
+        let mut keys = StorageKeys::new();
+        let places = keys.add_places();
+        Primary {
+            storage: Storage::new(places, cell),
+            keys,
+        }
+    }
+
+    /// Puts a value into the storage. If it is full, the value comes back.
+    pub(crate) fn push(&mut self, value: T) -> Result<(), T>
+        ensures storage { self.new.storage ≡ self.old.storage }
+        ensures pushed { MatchResult result
+            (λ _. (length (held_by self.old) < ARRAY_LEN) × HasOneMore value (held_by self.old) (held_by self.new))
+            (λ back. (back ≡ value) × (length (held_by self.old) ≡ ARRAY_LEN) × (self.new ≡ self.old)) }
+    {
+        self.keys.push(self.storage.places(), value)
+    }
+
+    /// Takes a value out of the storage, if there is one.
+    pub(crate) fn pop(&mut self) -> Option<T>
+        ensures storage { self.new.storage ≡ self.old.storage }
+        ensures popped { MatchOption result
+            ((held_by self.old ≡ []) × (self.new ≡ self.old))
+            (λ value. HasOneMore value (held_by self.new) (held_by self.old)) }
+    {
+        self.keys.pop(self.storage.places())
+    }
+
+    /// How many values there are.
+    pub(crate) fn len(&self) -> u128
+        ensures values { result ≡ length (held_by self.now) }
+        ensures few { result < 2 ^ 127 }
+    {
+        self.keys.len()
+    }
+
+    /// The storage's cell. What values there are is forgotten.
+    pub(crate) fn into_cell(self) -> Right
+        ensures kind { kind_of result ≡ StandingKind.Shared }
+        ensures number { number_of result ≡ self.storage.cell }
+        ensures home { home_of result ≡ self.storage.home }
+    {
+        let Primary { storage, keys: _ } = self;
+        storage.into_cell()
+    }
+}
