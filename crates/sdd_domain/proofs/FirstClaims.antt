@@ -6,6 +6,7 @@ use mathlib.Core.Logic.{dite}
 use native.Mathlib.Decide.{ℕ_discrete}
 use mathlib.Core.Option.{some}
 use lib.ListN.{get_elem?}
+use base.Stored.{Gv}
 use Rattle.atomic_table.specs.declared.shared.Seat.{Seat}
 use Rattle.sdd_participants.specs.declared.participant.Participant.{Participant}
 use Rattle.sdd_participants.specs.declared.waiting.LimboEntry.{LimboEntry}
@@ -26,7 +27,7 @@ use Rattle.sdd_atomics.specs.declared.domain_table.DomainTable.{DomainTable}
 use Rattle.sdd_atomics.specs.DomainTable.{slots_of, most_waiting_of}
 use Rattle.sdd_domain.specs.BetweenCalls.{IsBetweenCalls}
 use Rattle.sdd_domain.specs.InBags.{AreInBags, KnownWaiting, is_closed, known_waiting}
-use Rattle.sdd_domain.specs.PrivateItems.{ClaimsBack, LetsGoOf}
+use Rattle.sdd_domain.specs.PrivateItems.{ClaimsBack, EmptiesOwn, LetsGoOf}
 use Rattle.sdd_domain.proofs.InBags.{first_private_out, known_once, turned_plain, without_last}
 use Rattle.sdd_domain.proofs.Posing.{posed_waits}
 
@@ -91,4 +92,17 @@ module _ (b : DomainTable) (p : ℕ) (own : Participant) (collector slot : ℕ) 
       → taken ≡ Item slot ∷ rest → 0 < total (private_in slot) s.me.0.slots.privates → AreInBags (slots_of b) (known_waiting u.me.0.slots) waiting rest
   lost_bags waiting taken rest t first there =
       subst (λ (k : KnownWaiting). AreInBags (slots_of b) k waiting rest) (sym (ap (λ (v : View). known_waiting v.slots) lets.seat.view))
+      (first_private_out (slots_of b) (known_waiting s.me.0.slots) waiting taken t (Item slot) rest first there)
+
+-- its value was moved out for a close of its own
+module _ (b : DomainTable) (p : ℕ) (own : Participant) (slot : ℕ) (value : Gv) (s u : Seat ValueFraction View) (empties : EmptiesOwn slot value s u) where
+  pub emptied_posed : IsBetweenCalls b p own s → IsBetweenCalls b p own u
+  emptied_posed q = posed_waits b p own s u s.me.0.slots.waits (without_private slot s.me.0.slots.privates) s.me.0.stakes.waits
+      (record s.me.0.stakes.counts { gone = s.me.0.stakes.counts.gone + 1 }) (noted slot (free_word 0) s.me.0) q
+      empties.seat.table empties.seat.others empties.seat.view q.waiting
+
+  pub emptied_bags : (waiting : List Waiting) (taken rest : List LimboEntry) → AreInBags (slots_of b) (known_waiting s.me.0.slots) waiting taken
+      → taken ≡ Item slot ∷ rest → 0 < total (private_in slot) s.me.0.slots.privates → AreInBags (slots_of b) (known_waiting u.me.0.slots) waiting rest
+  emptied_bags waiting taken rest t first there =
+      subst (λ (k : KnownWaiting). AreInBags (slots_of b) k waiting rest) (sym (ap (λ (v : View). known_waiting v.slots) empties.seat.view))
       (first_private_out (slots_of b) (known_waiting s.me.0.slots) waiting taken t (Item slot) rest first there)

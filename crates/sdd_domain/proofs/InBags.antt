@@ -53,7 +53,7 @@ none_private slot (x ∷ xs) e = let r = none_private slot xs (omega arith) in
     ap (λ (b : Bool). cond (not b) (x ∷ without_private slot xs) (without_private slot xs)) (ne_eqb x.item.slot slot ne)
     ∙ ap (λ (l : List PrivateItem). x ∷ l) r
 
-none_plain : (slot : ℕ) (xs : List WaitingItem) → total (waits_in slot) xs ≡ 0 → without_item slot xs ≡ xs
+pub none_plain : (slot : ℕ) (xs : List WaitingItem) → total (waits_in slot) xs ≡ 0 → without_item slot xs ≡ xs
 none_plain slot [] e = refl
 none_plain slot (x ∷ xs) e = let r = none_plain slot xs (omega arith) in
     let ne : x.slot ≢ slot = λ same. let i = is_same slot x.slot same in omega arith in
