@@ -1,5 +1,7 @@
 -- The first shelf that is left is what a pointer to it shows
-use Rattle.std.proofs.Common.{◌≡◌, ℕ, List, [], ◌∷◌, Some, None, refl, sym, ap, ◌∙◌}
+use Rattle.std.proofs.Common.{◌≡◌, ℕ, List, [], ◌∷◌, Option, Some, None, refl, sym, ap, ◌∙◌, Bor}
+use Rattle.std.specs.Prelude.{MatchOption, option_copied}
+use Rattle.sdd_bag.specs.Storages.{StorageName}
 use Rattle.sdd_space.specs.World.{World, value_at}
 use Rattle.sdd_space.specs.Ptr.{PtrIsShown, shown_by, slot_named}
 use Rattle.sdd_space.specs.declared.ptr.Ptr.{Ptr}
@@ -21,3 +23,20 @@ module _ {B : Type 0} (w : World (LinkedEntry B)) (shows : ℕ → LinkedEntry B
   pub no-shelf : (fs : List (Entry (LinkedEntry B))) → slot_named ptr ≡ first_slot fs → None ≡ shown_by ptr → fs ≡ []
   no-shelf [] slot shown = refl
   no-shelf (e ∷ rest) slot shown = let full = is.full e.slot slot in absurd (not-there full.0 (shown ∙ full.1))
+
+module _ {B : Type 0} (shown : B → Option StorageName) (fs : List (Entry (LinkedEntry B))) where
+  -- no first entry shows a storage
+  abbrev ShowsNone : Type 0
+  ShowsNone = (e : Entry (LinkedEntry B)) (rest : List (Entry (LinkedEntry B))) → fs ≡ e ∷ rest → shown (value_of e.value) ≡ None
+
+  -- the first of these entries shows this, or shows no storage
+  pub front-storage : (e : Entry (LinkedEntry B)) (rest : List (Entry (LinkedEntry B))) → fs ≡ e ∷ rest → (r : Option (Bor StorageName))
+      → option_copied r ≡ shown (value_of e.value) → MatchOption r ShowsNone
+      (λ s. (x : Entry (LinkedEntry B)) × (xs : List (Entry (LinkedEntry B))) × (fs ≡ x ∷ xs) × (Some s.now ≡ shown (value_of x.value)))
+  front-storage e rest is None none = λ x xs same.
+      let one : e ∷ rest ≡ x ∷ xs = sym is ∙ same in let first : e ≡ x = cc in
+      ap (λ (y : Entry (LinkedEntry B)). shown (value_of y.value)) (sym first) ∙ sym none
+  front-storage e rest is (Some s) some = (e, rest, is, some)
+
+  pub no-storage-shown : fs ≡ [] → ShowsNone
+  no-storage-shown none e rest same = let never : [] ≡ e ∷ rest = sym none ∙ same in absurd (cc)

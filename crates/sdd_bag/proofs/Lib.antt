@@ -3,3 +3,9 @@ pub mod Fronts
 pub mod Lying
 pub mod Still
 pub mod Standing
+pub mod Removing
+pub mod Taking
+pub mod Emptying
+pub mod Surrendering
+pub mod Filled
+pub mod Counting

@@ -8,25 +8,34 @@ use Rattle.sdd_space.specs.World.{World}
 use Rattle.sdd_lists.specs.declared.linked_entry.LinkedEntry.{LinkedEntry}
 use Rattle.sdd_lists.specs.declared.stack.Stack.{Stack}
 use Rattle.sdd_lists.specs.Lists.{Entry, is_deleting, left}
-use Rattle.sdd_bag.specs.Storages.{StorageName}
+use Rattle.sdd_bag.specs.Storages.{StorageName, places_shown}
+use Rattle.sdd_lists.specs.Entries.{value_of}
 use Rattle.sdd_bag.specs.Primary.{PrimaryParts}
-use Rattle.sdd_bag.specs.Overflow.{AreShelves, LiesOn, OverflowParts, places_on, storage_on}
+use Rattle.sdd_bag.specs.Overflow.{AreShelves, LiesOn, OverflowParts, places_in, places_on}
 use Rattle.sdd_bag.specs.Bag.{BagParts}
 
 pub no-places : {T : Type 0} (ps : List (KeptPlace T)) → names_of ps ≡ [] → ps ≡ []
 no-places [] e = refl
 no-places (p ∷ ps) e = let long : length (names_of (p ∷ ps)) ≡ 0 = ap length e in absurd (omega (arith, long))
 
-module _ {B : Type 0} (shown : B → StorageName) (len : ℕ) where
+module _ {B : Type 0} (shown : B → Option StorageName) (len : ℕ) where
   -- none is deleted
   pub plain-left : (w : World (LinkedEntry B)) (es : List (Entry (LinkedEntry B))) → AreShelves shown len w es → left es ≡ es
   plain-left w [] are = refl
   plain-left w (e ∷ es) are =
       subst (λ (t : Tag). (if is_deleting t then left es else e ∷ es) ≡ e ∷ es) (sym are.0.plain) refl
 
+  -- each shows a storage, so that there is none where the first one shows none
+  pub none-left : (w : World (LinkedEntry B)) (es : List (Entry (LinkedEntry B))) → 0 < len → AreShelves shown len w es
+      → ((e : Entry (LinkedEntry B)) (rest : List (Entry (LinkedEntry B))) → left es ≡ e ∷ rest → shown (value_of e.value) ≡ None) → left es ≡ []
+  none-left w [] some are none = refl
+  none-left w (e ∷ es) some are none =
+      let long = ap (λ (s : Option StorageName). length (places_shown s)) (none e es (plain-left w (e ∷ es) are)) in
+      absurd (omega (arith, long, some, are.0.long))
+
   module _ {T : Type 0} (w : World (LinkedEntry B)) (es : List (Entry (LinkedEntry B))) (o : OverflowParts T B) (lies : LiesOn shown len w es o) where
     pub front-keys : (e : Entry (LinkedEntry B)) (rest : List (Entry (LinkedEntry B))) → left es ≡ e ∷ rest
-        → names_of o.places ≡ (storage_on shown len e).places ++ places_on shown len rest
+        → names_of o.places ≡ places_in shown len e ++ places_on shown len rest
     front-keys e rest first = lies.keys ∙ ap (λ (fs : List (Entry (LinkedEntry B))). places_on shown len fs) (sym (plain-left w es lies.shelves) ∙ first)
 
     pub none-there : left es ≡ [] → o.places ≡ []

@@ -4,7 +4,8 @@ use Rattle.std.specs.Prelude.{is_some, nat_lt, slice_set, if◌then◌else◌}
 use Rattle.std.proofs.lemmas.List.{get_or-set_same, get_or-set_other, length-append, length-map, length-set}
 use mathlib.Core.Bool.{Bool}
 use Rattle.sdd_keyed_places.specs.KeyedPlaces.{PlaceName}
-use Rattle.sdd_bag_storage.specs.Storage.{KeptPlace, empty_place}
+use Rattle.sdd_bag_storage.specs.Storage.{AreFull, AreFullBehind, KeptPlace, empty_place, with_value_at}
+use Rattle.sdd_bag_storage.proofs.Marks.{behind-new, behind-with}
 use Rattle.sdd_core.specs.declared.tag.Tag.{Tag}
 use Rattle.sdd_core.specs.declared.tag.Tag.TheVariants as tag
 use Rattle.sdd_participants.specs.Slab.{Entries, IsEmptyAt, entry_at}
@@ -21,8 +22,8 @@ use Rattle.sdd_lists.specs.Filling.{AddsOnto}
 use Rattle.sdd_lists.specs.Lists.{Entry, is_deleting, left, trimmed}
 use Rattle.sdd_lists.specs.declared.stack.Stack.{Stack}
 use Rattle.sdd_lists.specs.Stack.{IsStack, cell_in}
-use Rattle.sdd_bag.specs.Storages.{StorageName}
-use Rattle.sdd_bag.specs.Overflow.{AreElsewhere, AreShelves, KeepsPlaces, LiesOn, OverflowParts, places_on, storage_on}
+use Rattle.sdd_bag.specs.Storages.{StorageName, places_shown}
+use Rattle.sdd_bag.specs.Overflow.{AreElsewhere, AreShelves, KeepsPlaces, LiesOn, OverflowParts, places_in, places_on}
 use Rattle.sdd_bag.proofs.Changes.{new-names}
 use Rattle.sdd_bag.proofs.Lying.{plain-left}
 
@@ -43,9 +44,9 @@ module _ {I : Type 0} where
   given-other w p k (Some Retired) j other = refl
   given-other w p k (Some (Private c)) j other = refl
 
-module _ {B : Type 0} (shown : B → StorageName) (len : ℕ) where
+module _ {B : Type 0} (shown : B → Option StorageName) (len : ℕ) where
   pub keeps-shelves : (w new : World (LinkedEntry B)) (k : ℕ) (es : List (Entry (LinkedEntry B)))
-      → ((j : ℕ) → j ≢ k → standing_at new j ≡ standing_at w j) → AreElsewhere shown len k es → AreShelves shown len w es → AreShelves shown len new es
+      → ((j : ℕ) → j ≢ k → standing_at new j ≡ standing_at w j) → AreElsewhere k es → AreShelves shown len w es → AreShelves shown len new es
   keeps-shelves w new k [] same apart are = tt
   keeps-shelves w new k (e ∷ es) same apart are = (
     record { plain = are.0.plain; sole = same e.slot apart.0 ∙ are.0.sole; long = are.0.long },
@@ -54,7 +55,7 @@ module _ {B : Type 0} (shown : B → StorageName) (len : ℕ) where
   )
 
   pub elsewhere-free : (w : World (LinkedEntry B)) (k : ℕ) (es : List (Entry (LinkedEntry B))) → IsEmptyAt w.standings k → AreShelves shown len w es
-      → AreElsewhere shown len k es
+      → AreElsewhere k es
   elsewhere-free w k [] free are = tt
   elsewhere-free w k (e ∷ es) free are = (
     (λ same.
@@ -75,11 +76,11 @@ module _ {B : Type 0} (shown : B → StorageName) (len : ℕ) where
       → length (places_on shown len es) ≤ 32 * length es
   few-places w [] most are = omega arith
   few-places w (e ∷ es) most are =
-      omega (arith, few-places w es most are.2, length-append (storage_on shown len e).places (places_on shown len es), are.0.long, most)
+      omega (arith, few-places w es most are.2, length-append (places_in shown len e) (places_on shown len es), are.0.long, most)
 
   module _ {T : Type 0} (w new : World (LinkedEntry B)) (p : ℕ) (es fs : List (Entry (LinkedEntry B))) (o : OverflowParts T B) (shelf : B)
       (names : List PlaceName) (lies : LiesOn shown len w es o) (add : AddsOnto w p (cell_in o.stack) es shelf new fs)
-      (places : (shown shelf).places ≡ names) (long : length names ≡ len) where
+      (places : places_shown (shown shelf) ≡ names) (long : length names ≡ len) (full : AreFull len o.places) where
     standings-between : add.between.standings ≡ slice_set w.standings (slot_of add.owner) (Some (Shared 2))
     standings-between =
         ap (λ (x : World (LinkedEntry B)). x.standings) add.pushes.list.world
@@ -114,8 +115,8 @@ module _ {B : Type 0} (shown : B → StorageName) (len : ℕ) where
     pub lies-added : LiesOn shown len new fs (record { stack = o.stack; places = map empty_place names ++ o.places })
     lies-added =
         let value : value_of add.pushes.entry ≡ shelf = add.pushes.value in
-        let on : (shown (value_of add.pushes.entry)).places ≡ names = ap (λ (b : B). (shown b).places) value ∙ places in
-        let apart : AreElsewhere shown len (slot_of add.owner) es = elsewhere-free w (slot_of add.owner) es add.pushes.list.free lies.shelves in
+        let on : places_shown (shown (value_of add.pushes.entry)) ≡ names = ap (λ (b : B). places_shown (shown b)) value ∙ places in
+        let apart : AreElsewhere (slot_of add.owner) es = elsewhere-free w (slot_of add.owner) es add.pushes.list.free lies.shelves in
         let rest : left es ≡ es = plain-left shown len w es lies.shelves in
         let whole : record { slot = slot_of add.owner; value = add.pushes.entry; tag = tag.None } ∷ es ≡ fs =
         ap (λ (gs : List (Entry (LinkedEntry B))). record { slot = slot_of add.owner; value = add.pushes.entry; tag = tag.None } ∷ gs) (sym rest)
@@ -131,6 +132,7 @@ module _ {B : Type 0} (shown : B → StorageName) (len : ℕ) where
               new-names names o.places ∙ ap (λ (ns : List PlaceName). names ++ ns) lies.keys
               ∙ ap (λ (ns : List PlaceName). ns ++ places_on shown len es) (sym on)
               ∙ ap (λ (gs : List (Entry (LinkedEntry B))). places_on shown len gs) whole;
+          full = behind-new len names o.places long full lies.full;
         }
 
   pub same-shelves : (w new : World (LinkedEntry B)) (es : List (Entry (LinkedEntry B))) → ((j : ℕ) → standing_at new j ≡ standing_at w j)
@@ -146,6 +148,7 @@ module _ {B : Type 0} (shown : B → StorageName) (len : ℕ) where
     stack = fresh-list link_of w l free (cell_in o.stack) tag.None es lies.stack;
     shelves = same-shelves w (nulled w l) es (λ j. refl) lies.shelves;
     keys = lies.keys;
+    full = lies.full;
   }
 
   pub few-kept : {T : Type 0} (w : World (LinkedEntry B)) (es : List (Entry (LinkedEntry B))) (o : OverflowParts T B) (slots : ℕ) → len ≤ 32
@@ -162,10 +165,12 @@ module _ {B : Type 0} (shown : B → StorageName) (len : ℕ) where
         length-map o.places (λ (p : KeptPlace _). p.name),
       )
 
+  -- one of the first storage's places has a value more or less
   pub lies-kept : {T : Type 0} (w new : World (LinkedEntry B)) (es : List (Entry (LinkedEntry B))) (o o' : OverflowParts T B) → new ≡ w → KeepsPlaces o o'
-      → LiesOn shown len w es o → LiesOn shown len new es o'
-  lies-kept w new es o o' world keeps lies = subst (λ (x : World (LinkedEntry B)). LiesOn shown len x es o') (sym world) (record {
+      → (at : ℕ) (v : Option T) → at < len → o'.places ≡ with_value_at o.places at v → LiesOn shown len w es o → LiesOn shown len new es o'
+  lies-kept {T = T} w new es o o' world keeps at v near is lies = subst (λ (x : World (LinkedEntry B)). LiesOn shown len x es o') (sym world) (record {
     stack = subst (λ (st : Stack B). IsStack w (cell_in st) es) (sym keeps.stack) lies.stack;
     shelves = lies.shelves;
     keys = keeps.names ∙ lies.keys;
+    full = subst (λ (ps : List (KeptPlace T)). AreFullBehind len ps) (sym is) (behind-with len o.places at v near lies.full);
   })

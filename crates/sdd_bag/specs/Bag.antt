@@ -1,5 +1,5 @@
 -- What is in a bag, and how it lies in a world
-use Rattle.std.specs.Prelude.{ℕ, ◌≡◌, ◌<◌, ◌++◌, List, [], length, map}
+use Rattle.std.specs.Prelude.{ℕ, ◌≡◌, ◌<◌, ◌∷◌, ◌++◌, List, [], Option, length, map}
 use Rattle.sdd_bag_storage.specs.Storage.{AreEmpty, empty_place}
 use Rattle.sdd_bag_storage.specs.Values.{HasOneMore}
 use Rattle.sdd_keyed_places.specs.KeyedPlaces.{PlaceName}
@@ -16,6 +16,11 @@ pub record BagParts (T B : Type 0) : Type 0 where
   pub primary : PrimaryParts T
   pub overflow : OverflowParts T B
 
+-- calls of f, one for each of these values in order, make the result of what is made so far
+abbrev pub Folds : {F R T : Type 0} → (F → R → T → R → F → Type 0) → F → R → List T → R → Type 0
+Folds step f made [] result = made ≡ result
+Folds {F} {R} step f made (v ∷ vs) result = (next : R) × (then : F) × step f made v next then × Folds step then next vs result
+
 module _ {T B : Type 0} where
   -- the values that lie in the bag itself
   abbrev pub primary_of : BagParts T B → List T
@@ -24,6 +29,10 @@ module _ {T B : Type 0} where
   -- the values in its other storages
   abbrev pub overflow_of : BagParts T B → List T
   overflow_of bag = spilled_in bag.overflow
+
+  -- all its values
+  abbrev pub values_of : BagParts T B → List T
+  values_of bag = primary_of bag ++ overflow_of bag
 
   -- only what the places of its other storages have may be another
   pub record KeepsStorages (old new : BagParts T B) : Type 0 where
@@ -55,13 +64,24 @@ module _ {T B : Type 0} where
     pub inside : new.primary ≡ old.primary
     pub more : HasOneMore value (overflow_of old) (overflow_of new)
 
+  -- a value less lies in its other storages
+  pub record PopsBehind (value : T) (old new : BagParts T B) : Type 0 where
+    pub inside : new.primary ≡ old.primary
+    pub less : HasOneMore value (overflow_of new) (overflow_of old)
+
+  -- a value less lies in the bag itself, since none lies in its other storages
+  pub record PopsInside (value : T) (old new : BagParts T B) : Type 0 where
+    pub none : overflow_of old ≡ []
+    pub less : HasOneMore value (primary_of new) (primary_of old)
+    pub others : new.overflow ≡ old.overflow
+
   -- its cells are of these
   pub record IsOfCells (home : GhostName) (bag : BagParts T B) : Type 0 where
     pub primary : bag.primary.storage.home ≡ home
     pub overflow : home_in bag.overflow.stack ≡ home
 
   -- the bag is in the world: its storages are on the entries of its stack, and none is without a value
-  pub record IsBag (shown : B → StorageName) (len : ℕ) (w : World (LinkedEntry B)) (bag : BagParts T B) : Type 0 where
+  pub record IsBag (shown : B → Option StorageName) (len : ℕ) (w : World (LinkedEntry B)) (bag : BagParts T B) : Type 0 where
     pub entries : List (Entry (LinkedEntry B))
     pub lies : LiesOn shown len w entries bag.overflow
     pub used : AreEmpty len bag.overflow.places → entries ≡ []

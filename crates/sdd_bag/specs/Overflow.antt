@@ -1,14 +1,14 @@
 -- The values in the storages behind a bag's own, and how these lie in a world
-use Rattle.std.specs.Prelude.{ℕ, ◌≡◌, ◌≢◌, ◌⊎◌, List, [], ◌∷◌, ◌++◌, Some, length}
+use Rattle.std.specs.Prelude.{ℕ, ◌≡◌, ◌≢◌, ◌⊎◌, List, [], ◌∷◌, ◌++◌, Option, Some, length}
 use Rattle.sdd_keyed_places.specs.KeyedPlaces.{PlaceName}
-use Rattle.sdd_bag_storage.specs.Storage.{KeptPlace, names_of, values_in}
+use Rattle.sdd_bag_storage.specs.Storage.{AreFullBehind, KeptPlace, names_of, values_in}
 use Rattle.sdd_core.specs.declared.tag.Tag.TheVariants as tag
 use Rattle.sdd_participants.specs.declared.standing.Standing.TheVariants.{Shared as shared_by}
 use Rattle.sdd_participants.specs.Slab.{IsEmptyAt, IsFull}
 use Rattle.sdd_core.specs.declared.refused.Refused.{Refused}
 use Rattle.sdd_core.specs.declared.refused.Refused.TheVariants.{NoCell, NoSlot}
 use Rattle.sdd_space.specs.World.{World, standing_at}
-use Rattle.sdd_space.specs.WorldChanges.{nulled, owner_given}
+use Rattle.sdd_space.specs.WorldChanges.{nulled, retired}
 use Rattle.sdd_space.specs.declared.shared.Shared.{Shared}
 use Rattle.sdd_lists.specs.declared.linked_entry.LinkedEntry.{LinkedEntry}
 use Rattle.sdd_lists.specs.declared.stack.Stack.{Stack}
@@ -17,7 +17,7 @@ use Rattle.sdd_lists.specs.Filling.{AddsOnto}
 use Rattle.sdd_lists.specs.Lists.{Entry, IsTaken}
 use Rattle.sdd_lists.specs.Queue.{HasOneAtMost}
 use Rattle.sdd_lists.specs.Stack.{IsStack, cell_in}
-use Rattle.sdd_bag.specs.Storages.{StorageName}
+use Rattle.sdd_bag.specs.Storages.{StorageName, places_shown}
 
 -- the stack of the storages, the newest in front, and what is known of their places
 pub record OverflowParts (T B : Type 0) : Type 0 where
@@ -46,30 +46,37 @@ module _ {B : Type 0} where
     pub shelf : B
     pub adds : AddsOnto (nulled w cell) p c es shelf new fs
 
-  -- the first of these entries is taken out, and its last owner given up at once
+  -- the first of these entries is taken out, and its item, which nobody else owns, is retired at once
   pub record RemovesStorage (w : World (LinkedEntry B)) (p c : ℕ) (es : List (Entry (LinkedEntry B))) (new : World (LinkedEntry B))
       (fs : List (Entry (LinkedEntry B))) : Type 0 where
     pub first : Entry (LinkedEntry B)
+    pub entries : es ≡ first ∷ fs
     pub owner : Shared (LinkedEntry B)
     pub between : World (LinkedEntry B)
     pub taken : IsTaken link_of w p c tag.None es first fs owner between
-    pub sole : standing_at between first.slot ≡ Some (shared_by 1)
-    pub world : new ≡ owner_given between p first.slot (standing_at between first.slot)
+    pub world : new ≡ retired between p first.slot
 
-  module _ (shown : B → StorageName) (len : ℕ) where
-    abbrev pub storage_on : Entry (LinkedEntry B) → StorageName
-    storage_on e = shown (value_of e.value)
+  -- each of these entries is taken out, one after another
+  abbrev pub RemovesStorages : World (LinkedEntry B) → (p c : ℕ) → List (Entry (LinkedEntry B)) → World (LinkedEntry B) → Type 0
+  RemovesStorages w p c [] new = new ≡ w
+  RemovesStorages w p c (e ∷ es) new =
+      (between : World (LinkedEntry B)) × RemovesStorage w p c (e ∷ es) between es × RemovesStorages between p c es new
+
+  -- no entry of these is in slot k
+  abbrev pub AreElsewhere : ℕ → List (Entry (LinkedEntry B)) → Type 0
+  AreElsewhere k [] = Unit {0}
+  AreElsewhere k (e ∷ es) = (e.slot ≢ k) × AreElsewhere k es
+
+  module _ (shown : B → Option StorageName) (len : ℕ) where
+    -- the places of the storage on this entry
+    abbrev pub places_in : Entry (LinkedEntry B) → List PlaceName
+    places_in e = places_shown (shown (value_of e.value))
 
     -- the entry isn't deleted, its stack alone owns it, and its storage has so many places
     pub record IsShelf (w : World (LinkedEntry B)) (e : Entry (LinkedEntry B)) : Type 0 where
       pub plain : e.tag ≡ tag.None
       pub sole : standing_at w e.slot ≡ Some (shared_by 1)
-      pub long : length (storage_on e).places ≡ len
-
-    -- no entry of these is in slot k
-    abbrev pub AreElsewhere : ℕ → List (Entry (LinkedEntry B)) → Type 0
-    AreElsewhere k [] = Unit {0}
-    AreElsewhere k (e ∷ es) = (e.slot ≢ k) × AreElsewhere k es
+      pub long : length (places_in e) ≡ len
 
     abbrev pub AreShelves : World (LinkedEntry B) → List (Entry (LinkedEntry B)) → Type 0
     AreShelves w [] = Unit {0}
@@ -78,13 +85,14 @@ module _ {B : Type 0} where
     -- the places of all their storages, in order
     abbrev pub places_on : List (Entry (LinkedEntry B)) → List PlaceName
     places_on [] = []
-    places_on (e ∷ es) = (storage_on e).places ++ places_on es
+    places_on (e ∷ es) = places_in e ++ places_on es
 
-    -- the storages are on these entries of the stack, and the keys are just those of their places
+    -- the storages are on these entries of the stack, the keys are just those of their places, and each place behind the first storage's has a value
     pub record LiesOn {T : Type 0} (w : World (LinkedEntry B)) (es : List (Entry (LinkedEntry B))) (o : OverflowParts T B) : Type 0 where
       pub stack : IsStack w (cell_in o.stack) es
       pub shelves : AreShelves w es
       pub keys : names_of o.places ≡ places_on es
+      pub full : AreFullBehind len o.places
 
     abbrev pub Lies : {T : Type 0} → World (LinkedEntry B) → OverflowParts T B → Type 0
     Lies w o = (es : List (Entry (LinkedEntry B))) × LiesOn w es o

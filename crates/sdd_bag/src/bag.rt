@@ -1,8 +1,8 @@
 //! The bag.
-ghost use Rattle.std.specs.Prelude.{◌≡◌, ◌≢◌, ◌↔◌, ◌⊎◌, ◌+◌, ◌^◌, ◌<◌, ◌≤◌, ◌++◌, ℕ, IfErr, IfOk, IsTrue, List, MatchOption, MatchResult, None, Some, [], drop, length, map};
+ghost use Rattle.std.specs.Prelude.{◌≡◌, ◌≢◌, ◌↔◌, ◌⊎◌, ◌+◌, ◌^◌, ◌<◌, ◌≤◌, ◌++◌, ℕ, All, IfErr, IfOk, IfSome, IsTrue, List, MatchOption, MatchResult, None, Some, [], drop, length, map};
 ghost use Rattle.sdd_keyed_places.specs.KeyedPlaces.{PlaceName};
 ghost use Rattle.sdd_bag_storage.specs.Storage.{AreEmpty, AreFull, IsEmptyAt, IsFullWith, empty_place, with_value_at};
-ghost use Rattle.sdd_bag_storage.specs.Values.{HasOneMore};
+ghost use Rattle.sdd_bag_storage.specs.Values.{AreInSomeOrder, HasOneMore};
 ghost use Rattle.sdd_space.specs.CallerId.{IsSeated, IsExact};
 ghost use Rattle.sdd_space.specs.Guard.{reader_of};
 ghost use Rattle.sdd_space.specs.ParticipantChanges.{KeepsMoreWaiting};
@@ -11,16 +11,21 @@ ghost use Rattle.sdd_space.specs.Undisturbed.{Undisturbed, Unmoved};
 ghost use Rattle.sdd_lists.specs.declared.linked_entry.LinkedEntry.{LinkedEntry as Linked};
 ghost use Rattle.sdd_lists.specs.declared.stack.Stack.{Stack as Storages};
 ghost use Rattle.sdd_lists.specs.Lists.{Entry};
-ghost use Rattle.sdd_lists.specs.Stack.{cell_in, home_in};
-ghost use Rattle.sdd_bag.specs.Overflow.{AddsStorage, KeepsPlaces, Lies, LiesOn, OverflowParts, RefusesStorage, RemovesStorage};
+ghost use Rattle.sdd_lists.specs.Stack.{IsStack, cell_in, home_in};
+ghost use Rattle.sdd_space.specs.OwnerOrCell.{AreOf};
+ghost use Rattle.sdd_bag.specs.Closing.{AreBeside, ClosesBag, EmptiesStorages};
+ghost use Rattle.sdd_bag.specs.Counting.{HasStoragesFor};
+ghost use Rattle.sdd_bag.specs.Overflow.{AddsStorage, KeepsPlaces, Lies, LiesOn, OverflowParts, RefusesStorage, RemovesStorage, RemovesStorages};
 ghost use Rattle.sdd_participants.specs.Slab.{IsEmptyAt as IsEmptyCell};
 ghost use Rattle.sdd_lists.specs.Queue.{HasOneAtMost};
 ghost use Rattle.sdd_space.specs.Shared.{cell_of, cells_home};
+ghost use Rattle.sdd_space.specs.World.{World};
 ghost use Rattle.sdd_space.specs.WorldChanges.{nulled};
 ghost use Rattle.sdd_lists.specs.Filling.{AddsOnto, RefusesPush};
-ghost use Rattle.sdd_bag.specs.Bag.{BagParts, HasSameCells, HasStorageMore, PushesBehind, PushesInside, IsBag, IsOfCells, KeepsStorages, overflow_of, primary_of};
+ghost use Rattle.sdd_bag.specs.Bag.{BagParts, Folds, HasSameCells, HasStorageMore, PopsBehind, PopsInside, PushesBehind, PushesInside, IsBag, IsOfCells, KeepsStorages, overflow_of, primary_of, values_of};
 
-use crate::front::first_shelf;
+use crate::front::first_storage;
+use crate::giving::give_up;
 use crate::primary::Primary;
 use crate::shelf::Shelf;
 use crate::storage::Storage;
@@ -28,12 +33,14 @@ use sdd_bag_storage::StorageKeys;
 use sdd_core::Refused;
 use sdd_lists::{LinkedEntry, Stack};
 use sdd_space::inner::{right_of_shared_cell, shared_cell_with};
-use sdd_space::{AtomicShared, Cells, Guard, Items, LookThrough, Several, SharedItems};
+use sdd_space::{
+    AtomicShared, Cells, Guard, Item, Items, LookThrough, RawCells, Several, SharedItems,
+};
 use std::marker::Model;
 
 /// Values, of which at most `ARRAY_LEN` lie in the bag itself, and the others in storages, each an item of a space, on the entries of a stack.
 ///
-/// It has the keys of the places of all its storages. It must be spent: closed, or turned into what gives its values one after another.
+/// It has the keys of the places of all its storages. It can't be dropped, since it has cells and items of the space: `close` ends it.
 pub struct Bag<T, const ARRAY_LEN: usize, B> {
     primary: Primary<T, ARRAY_LEN>,
     stack: Stack<B>,
@@ -73,8 +80,8 @@ impl<T, const ARRAY_LEN: usize, B: Shelf<T, ARRAY_LEN>> Bag<T, ARRAY_LEN, B> {
             HasOneMore value (overflow_of self.old) (overflow_of self.new))
             (λ back. (back ≡ value) × AreFull ARRAY_LEN self.old.overflow.places × (self.new ≡ self.old)) }
     {
-        match first_shelf(&self.stack, guard, s) {
-            Some(shelf) => self.keys.push(shelf.storage().places(), value),
+        match first_storage(&self.stack, guard, s) {
+            Some(storage) => self.keys.push(storage.places(), value),
             None => Err(value),
         }
     }
@@ -99,8 +106,8 @@ impl<T, const ARRAY_LEN: usize, B: Shelf<T, ARRAY_LEN>> Bag<T, ARRAY_LEN, B> {
             (self.new.overflow.places ≡ with_value_at self.old.overflow.places at None)) ×
             HasOneMore value (overflow_of self.new) (overflow_of self.old)) }
     {
-        match first_shelf(&self.stack, guard, s) {
-            Some(shelf) => self.keys.pop(shelf.storage().places()),
+        match first_storage(&self.stack, guard, s) {
+            Some(storage) => self.keys.pop(storage.places()),
             None => None,
         }
     }
@@ -152,7 +159,10 @@ impl<T, const ARRAY_LEN: usize, B: Shelf<T, ARRAY_LEN>> Bag<T, ARRAY_LEN, B> {
             }
             Err((shelf, refused)) => {
                 self.keys.remove_places();
-                Err((shared_cell_with(shelf.into_storage().into_cell()), refused))
+                match shelf.into_storage() {
+                    Ok(storage) => Err((shared_cell_with(storage.into_cell()), refused)),
+                    Err(_) => unreachable!(),
+                }
             }
         }
     }
@@ -182,6 +192,7 @@ impl<T, const ARRAY_LEN: usize, B: Shelf<T, ARRAY_LEN>> Bag<T, ARRAY_LEN, B> {
             AddsStorage (S.world s.old) (S.seat s.old).place (cell_in self.old.overflow.stack) es (S.world s.new) fs ×
             LiesOn B.shown ARRAY_LEN (S.world s.new) fs self.new.overflow) }
     {
+        // Once a field is looked at, what is always so of a bag is known: an array has 1 to 32 places.
         let _ = &self.primary;
         s.values_fit_slots();
         let _ = s.slots();
@@ -226,6 +237,7 @@ impl<T, const ARRAY_LEN: usize, B: Shelf<T, ARRAY_LEN>> Bag<T, ARRAY_LEN, B> {
             ((S.world s.new ≡ S.world s.old) ⊎ AreFull ARRAY_LEN self.old.overflow.places ×
             AddsStorage (S.world s.old) (S.seat s.old).place (cell_in self.old.overflow.stack) es (S.world s.new) fs)) }
     {
+        // Once a field is looked at, what is always so of a bag is known: an array has 1 to 32 places.
         let _ = &self.primary;
         let value = match self.push_front(value, guard, s) {
             Ok(()) => return Ok(()),
@@ -239,6 +251,75 @@ impl<T, const ARRAY_LEN: usize, B: Shelf<T, ARRAY_LEN>> Bag<T, ARRAY_LEN, B> {
             Ok(()) => Ok(()),
             Err(_) => unreachable!(),
         }
+    }
+
+    /// The first of the other storages, whose places have no values, is let go of, and its item retired.
+    fn remove_storage<
+        S: Items<LinkedEntry<B>>
+            + SharedItems<LinkedEntry<B>>
+            + Cells<LinkedEntry<B>>
+            + LookThrough<LinkedEntry<B>>,
+    >(&mut self, guard: &Guard, s: &mut S)
+        requires seated { IsSeated (S.seat s.old) }
+        requires home { home_in self.old.overflow.stack ≡ (S.seat s.old).home.cells }
+        requires reader { reader_of guard.now ≡ (S.seat s.old).reader }
+        requires exact { IsExact (S.seat s.old) }
+        requires lies { Lies B.shown ARRAY_LEN (S.world s.old) self.old.overflow }
+        requires some { 0 < length self.old.overflow.places }
+        requires empty { AreEmpty ARRAY_LEN self.old.overflow.places }
+        ensures unmoved { Unmoved S.seat S.known S.shows s.old s.new }
+        ensures own { KeepsMoreWaiting (S.own s.old) (S.own s.new) }
+        ensures cells { HasSameCells self.old self.new }
+        ensures primary { self.new.primary ≡ self.old.primary }
+        ensures places { self.new.overflow.places ≡ drop ARRAY_LEN self.old.overflow.places }
+        ensures full { AreFull ARRAY_LEN self.new.overflow.places }
+        ensures list { (es : List (Entry (Linked B))) → LiesOn B.shown ARRAY_LEN (S.world s.old) es self.old.overflow → (fs : List (Entry (Linked B))) ×
+            RemovesStorage (S.world s.old) (S.seat s.old).place (cell_in self.old.overflow.stack) es (S.world s.new) fs ×
+            LiesOn B.shown ARRAY_LEN (S.world s.new) fs self.new.overflow }
+    {
+        let owner = match self.stack.pop(guard, s) {
+            Ok(Some(owner)) => owner,
+            Ok(None) => unreachable!(),
+            Err(_) => unreachable!(),
+        };
+        let _ = owner.release(s);
+        self.keys.remove_places();
+    }
+
+    /// Takes a value out of the first of the other storages, if there is one. A storage whose last value it was is let go of.
+    fn pop_behind<
+        S: Items<LinkedEntry<B>>
+            + SharedItems<LinkedEntry<B>>
+            + Cells<LinkedEntry<B>>
+            + LookThrough<LinkedEntry<B>>,
+    >(&mut self, guard: &Guard, s: &mut S) -> Option<T>
+        requires seated { IsSeated (S.seat s.old) }
+        requires home { home_in self.old.overflow.stack ≡ (S.seat s.old).home.cells }
+        requires reader { reader_of guard.now ≡ (S.seat s.old).reader }
+        requires exact { IsExact (S.seat s.old) }
+        requires lies { Lies B.shown ARRAY_LEN (S.world s.old) self.old.overflow }
+        ensures unmoved { Unmoved S.seat S.known S.shows s.old s.new }
+        ensures own { KeepsMoreWaiting (S.own s.old) (S.own s.new) }
+        ensures cells { HasSameCells self.old self.new }
+        ensures popped { MatchOption result
+            (AreEmpty ARRAY_LEN self.old.overflow.places × (self.new ≡ self.old) × (S.world s.new ≡ S.world s.old))
+            (λ value. PopsBehind value self.old self.new) }
+        ensures list { (es : List (Entry (Linked B))) → LiesOn B.shown ARRAY_LEN (S.world s.old) es self.old.overflow → IfSome result (λ _.
+            (fs : List (Entry (Linked B))) × LiesOn B.shown ARRAY_LEN (S.world s.new) fs self.new.overflow ×
+            (AreEmpty ARRAY_LEN self.new.overflow.places → fs ≡ []) ×
+            ((S.world s.new ≡ S.world s.old) × (fs ≡ es) ⊎ (self.new.overflow.places ≡ drop ARRAY_LEN self.old.overflow.places) ×
+            RemovesStorage (S.world s.old) (S.seat s.old).place (cell_in self.old.overflow.stack) es (S.world s.new) fs)) }
+    {
+        let value = match self.pop_front(guard, s) {
+            Some(value) => value,
+            None => return None,
+        };
+        let empty = self.is_front_empty();
+        if !empty {
+            return Some(value);
+        }
+        self.remove_storage(guard, s);
+        Some(value)
     }
 
     /// An empty bag. It holds 1 to 32 values itself, and has two cells.
@@ -327,6 +408,72 @@ impl<T, const ARRAY_LEN: usize, B: Shelf<T, ARRAY_LEN>> Bag<T, ARRAY_LEN, B> {
         self.primary.push(value)
     }
 
+    /// Takes out some value: one of those in the other storages while there are any, else one of those in the bag itself. None exactly where the bag is
+    /// empty.
+    ///
+    /// A storage whose last value is taken is retired at once.
+    pub fn pop<
+        S: Items<LinkedEntry<B>>
+            + SharedItems<LinkedEntry<B>>
+            + Cells<LinkedEntry<B>>
+            + LookThrough<LinkedEntry<B>>,
+    >(&mut self, guard: &Guard, s: &mut S) -> Option<T>
+        requires seated { IsSeated (S.seat s.old) }
+        requires home { home_in self.old.overflow.stack ≡ (S.seat s.old).home.cells }
+        requires reader { reader_of guard.now ≡ (S.seat s.old).reader }
+        requires exact { IsExact (S.seat s.old) }
+        requires bag { IsBag B.shown ARRAY_LEN (S.world s.old) self.old }
+        ensures unmoved { Unmoved S.seat S.known S.shows s.old s.new }
+        ensures own { KeepsMoreWaiting (S.own s.old) (S.own s.new) }
+        ensures cells { HasSameCells self.old self.new }
+        ensures bag { IsBag B.shown ARRAY_LEN (S.world s.new) self.new }
+        ensures popped { MatchOption result
+            ((primary_of self.old ≡ []) × (overflow_of self.old ≡ []) × (self.new ≡ self.old) × (S.world s.new ≡ S.world s.old))
+            (λ value. PopsBehind value self.old self.new ⊎ PopsInside value self.old self.new × (S.world s.new ≡ S.world s.old)) }
+        ensures list { (es : List (Entry (Linked B))) → LiesOn B.shown ARRAY_LEN (S.world s.old) es self.old.overflow →
+            (fs : List (Entry (Linked B))) × LiesOn B.shown ARRAY_LEN (S.world s.new) fs self.new.overflow ×
+            ((S.world s.new ≡ S.world s.old) × (fs ≡ es) ⊎ (self.new.overflow.places ≡ drop ARRAY_LEN self.old.overflow.places) ×
+            RemovesStorage (S.world s.old) (S.seat s.old).place (cell_in self.old.overflow.stack) es (S.world s.new) fs) }
+    {
+        if let Some(value) = self.pop_behind(guard, s) {
+            return Some(value);
+        }
+        self.primary.pop()
+    }
+
+    /// Takes out all values, one after another, in no said order: `fold` makes of what is made so far, `init` at first, and of a value what is made next.
+    ///
+    /// A storage whose last value is taken is retired at once. The bag is empty then, and can be used on.
+    pub fn pop_all<
+        R,
+        F: FnMut(R, T) -> R,
+        S: Items<LinkedEntry<B>>
+            + SharedItems<LinkedEntry<B>>
+            + Cells<LinkedEntry<B>>
+            + LookThrough<LinkedEntry<B>>,
+    >(&mut self, init: R, mut fold: F, guard: &Guard, s: &mut S) -> R
+        requires seated { IsSeated (S.seat s.old) }
+        requires home { home_in self.old.overflow.stack ≡ (S.seat s.old).home.cells }
+        requires reader { reader_of guard.now ≡ (S.seat s.old).reader }
+        requires exact { IsExact (S.seat s.old) }
+        requires bag { IsBag B.shown ARRAY_LEN (S.world s.old) self.old }
+        requires callable { F.IsAlwaysCallable fold }
+        ensures unmoved { Unmoved S.seat S.known S.shows s.old s.new }
+        ensures own { KeepsMoreWaiting (S.own s.old) (S.own s.new) }
+        ensures cells { HasSameCells self.old self.new }
+        ensures bag { IsBag B.shown ARRAY_LEN (S.world s.new) self.new }
+        ensures empty { values_of self.new ≡ [] }
+        ensures folded { (vs : List T) × AreInSomeOrder vs (values_of self.old) × Folds F.step fold init vs result }
+        ensures list { (es : List (Entry (Linked B))) → LiesOn B.shown ARRAY_LEN (S.world s.old) es self.old.overflow →
+            RemovesStorages (S.world s.old) (S.seat s.old).place (cell_in self.old.overflow.stack) es (S.world s.new) }
+    {
+        let mut made = init;
+        while let Some(value) = self.pop(guard, s) {
+            made = fold(made, value);
+        }
+        made
+    }
+
     /// How many values there are.
     pub fn len(&self) -> u128
         ensures { result ≡ length (primary_of self.now) + length (overflow_of self.now) }
@@ -334,10 +481,88 @@ impl<T, const ARRAY_LEN: usize, B: Shelf<T, ARRAY_LEN>> Bag<T, ARRAY_LEN, B> {
         self.primary.len() + self.keys.len()
     }
 
+    /// A law, which does nothing when the program runs: in whatever world the bag is, it has as many other storages as the values in them divided by
+    /// `ARRAY_LEN`, rounded up.
+    pub fn storages_are_few(&self)
+        ensures { (w : World (Linked B)) → HasStoragesFor B.shown ARRAY_LEN w self.now }
+    {
+        // Once a field is looked at, what is always so of a bag is known: an array has 1 to 32 places.
+        let _ = &self.primary;
+    }
+
     /// There is no value.
     pub fn is_empty(&self) -> bool
         ensures { IsTrue result ↔ (primary_of self.now ≡ []) × (overflow_of self.now ≡ []) }
     {
         self.len() == 0
+    }
+
+    /// The values in the other storages give up what they hold, one after another. A storage whose last value it is is let go of before.
+    fn give_up_behind<
+        S: Items<LinkedEntry<B>>
+            + SharedItems<LinkedEntry<B>>
+            + Cells<LinkedEntry<B>>
+            + RawCells<LinkedEntry<B>>
+            + LookThrough<LinkedEntry<B>>,
+    >(&mut self, guard: &Guard, s: &mut S)
+    where
+        T: Item<LinkedEntry<B>>,
+        requires seated { IsSeated (S.seat s.old) }
+        requires home { home_in self.old.overflow.stack ≡ (S.seat s.old).home.cells }
+        requires reader { reader_of guard.now ≡ (S.seat s.old).reader }
+        requires exact { IsExact (S.seat s.old) }
+        requires bag { IsBag B.shown ARRAY_LEN (S.world s.old) self.old }
+        requires held { All (λ v. AreOf (S.seat s.old).home (T.holds v)) (overflow_of self.old) }
+        requires beside { (es : List (Entry (Linked B))) → LiesOn B.shown ARRAY_LEN (S.world s.old) es self.old.overflow →
+            All (λ v. AreBeside (S.world s.old) (cell_in self.old.overflow.stack) es (T.holds v)) (overflow_of self.old) }
+        ensures unmoved { Unmoved S.seat S.known S.shows s.old s.new }
+        ensures own { KeepsMoreWaiting (S.own s.old) (S.own s.new) }
+        ensures cells { HasSameCells self.old self.new }
+        ensures primary { self.new.primary ≡ self.old.primary }
+        ensures stack { IsStack (S.world s.new) (cell_in self.old.overflow.stack) [] }
+        ensures list { (es : List (Entry (Linked B))) → LiesOn B.shown ARRAY_LEN (S.world s.old) es self.old.overflow → (vs : List T) ×
+            AreInSomeOrder vs (overflow_of self.old) ×
+            EmptiesStorages T.holds ARRAY_LEN (S.world s.old) (S.seat s.old).place (cell_in self.old.overflow.stack) es vs (S.world s.new) }
+    {
+        while let Some(value) = self.pop_behind(guard, s) {
+            give_up(value, s);
+        }
+    }
+
+    /// Ends the bag: the values that are left give up what they hold, in no said order, each other storage is retired before its last value does, and the
+    /// bag's cells are free.
+    ///
+    /// It asks that nothing that the values in the other storages hold is of these storages themselves. What holds nothing is.
+    pub fn close<
+        S: Items<LinkedEntry<B>>
+            + SharedItems<LinkedEntry<B>>
+            + Cells<LinkedEntry<B>>
+            + RawCells<LinkedEntry<B>>
+            + LookThrough<LinkedEntry<B>>,
+    >(self, guard: &Guard, s: &mut S)
+    where
+        T: Item<LinkedEntry<B>>,
+        requires seated { IsSeated (S.seat s.old) }
+        requires home { IsOfCells (S.seat s.old).home.cells self }
+        requires reader { reader_of guard.now ≡ (S.seat s.old).reader }
+        requires exact { IsExact (S.seat s.old) }
+        requires bag { IsBag B.shown ARRAY_LEN (S.world s.old) self }
+        requires held { All (λ v. AreOf (S.seat s.old).home (T.holds v)) (values_of self) }
+        requires beside { (es : List (Entry (Linked B))) → LiesOn B.shown ARRAY_LEN (S.world s.old) es self.overflow →
+            All (λ v. AreBeside (S.world s.old) (cell_in self.overflow.stack) es (T.holds v)) (overflow_of self) }
+        ensures unmoved { Unmoved S.seat S.known S.shows s.old s.new }
+        ensures own { KeepsMoreWaiting (S.own s.old) (S.own s.new) }
+        ensures list { (es : List (Entry (Linked B))) → LiesOn B.shown ARRAY_LEN (S.world s.old) es self.overflow →
+            ClosesBag T.holds ARRAY_LEN (S.world s.old) (S.seat s.old).place self es (S.world s.new) }
+    {
+        let mut bag = self;
+        bag.give_up_behind(guard, s);
+        let Bag {
+            primary,
+            stack,
+            keys: _,
+        } = bag;
+        stack.close(guard, s);
+        primary.close(s);
     }
 }

@@ -2,11 +2,15 @@
 #![tactic(auto)]
 
 pub mod bag;
+mod filling;
 mod front;
+mod giving;
+pub mod into_iter;
 mod primary;
 pub mod shelf;
 pub mod storage;
 
 pub use bag::Bag;
+pub use into_iter::IntoIter;
 pub use shelf::Shelf;
 pub use storage::Storage;

@@ -1,12 +1,21 @@
 //! The values that lie in a bag itself.
-ghost use Rattle.std.specs.Prelude.{◌≡◌, ◌^◌, ◌<◌, ◌≤◌, MatchOption, MatchResult, [], length};
+ghost use Rattle.std.specs.Prelude.{◌≡◌, ◌^◌, ◌<◌, ◌≤◌, All, List, MatchOption, MatchResult, [], length};
+ghost use Rattle.sdd_bag.specs.Closing.{values_given};
 ghost use Rattle.sdd_bag.specs.Primary.{PrimaryParts, held_by};
-ghost use Rattle.sdd_bag_storage.specs.Values.{HasOneMore};
+ghost use Rattle.sdd_bag_storage.specs.Values.{AreInSomeOrder, HasOneMore};
 ghost use Rattle.sdd_rights.specs.Right.{number_of, home_of, kind_of};
+ghost use Rattle.sdd_space.specs.CallerId.{IsSeated, IsExact};
+ghost use Rattle.sdd_space.specs.OwnerOrCell.{AreOf};
+ghost use Rattle.sdd_space.specs.ParticipantChanges.{KeepsMoreWaiting};
+ghost use Rattle.sdd_space.specs.Undisturbed.{Unmoved};
+ghost use Rattle.sdd_space.specs.WorldChanges.{cell_closed};
 
+use crate::giving::give_up;
 use crate::storage::Storage;
 use sdd_bag_storage::StorageKeys;
 use sdd_rights::{Right, StandingKind};
+use sdd_space::inner::shared_cell_with;
+use sdd_space::{AtomicShared, Cells, Item, Items, RawCells};
 use std::marker::Model;
 
 /// A bag's own storage, with the keys of its places.
@@ -79,5 +88,26 @@ impl<T, const ARRAY_LEN: usize> Primary<T, ARRAY_LEN> {
     {
         let Primary { storage, keys: _ } = self;
         storage.into_cell()
+    }
+
+    /// The values give up what they hold, one after another, and the storage's cell is free.
+    pub(crate) fn close<I: Item<I>, S: Items<I> + Cells<I> + RawCells<I>>(self, s: &mut S)
+    where
+        T: Item<I>,
+        requires seated { IsSeated (S.seat s.old) }
+        requires home { self.storage.home ≡ (S.seat s.old).home.cells }
+        requires held { All (λ v. AreOf (S.seat s.old).home (T.holds v)) (held_by self) }
+        requires exact { IsExact (S.seat s.old) }
+        ensures unmoved { Unmoved S.seat S.known S.shows s.old s.new }
+        ensures own { KeepsMoreWaiting (S.own s.old) (S.own s.new) }
+        ensures world { (vs : List T) × AreInSomeOrder vs (held_by self) ×
+            (S.world s.new ≡ cell_closed (values_given T.holds (S.world s.old) (S.seat s.old).place vs) (S.seat s.old).place self.storage.cell) }
+    {
+        let mut primary = self;
+        while let Some(value) = primary.pop() {
+            give_up(value, s);
+        }
+        let cell: AtomicShared<I> = shared_cell_with(primary.into_cell());
+        cell.close(s);
     }
 }

@@ -7,7 +7,7 @@ use Rattle.std.proofs.lemmas.List.{get_or-set_same, get_or-set_other, get_or-rep
 use Rattle.std.proofs.lemmas.Bool.{cases_lt, lt-ltb}
 use Rattle.std.proofs.Math.Nat.{mul-suc, suc-mul}
 use Rattle.sdd_keyed_places.specs.KeyedPlaces.{PlaceName}
-use Rattle.sdd_bag_storage.specs.Storage.{AreFull, AreMarked, KeptPlace, empty_place, followed, value_at, values_in, with_value_at}
+use Rattle.sdd_bag_storage.specs.Storage.{AreFull, AreFullBehind, AreMarked, KeptPlace, empty_place, followed, value_at, values_in, with_value_at}
 
 abbrev IsTrueHere : Bool → Type 0
 IsTrueHere true = Unit {0}
@@ -45,6 +45,11 @@ module _ {T : Type 0} where
   with-other (p ∷ ps) (suc at) v zero other = refl
   with-other (p ∷ ps) (suc at) v (suc k) other = with-other ps at v k (λ e. other (ap suc e))
 
+  -- the places behind are the same, whatever one of the first has
+  pub behind-with : (len : ℕ) (ps : List (KeptPlace T)) (at : ℕ) (v : Option T) → at < len → AreFullBehind len ps → AreFullBehind len (with_value_at ps at v)
+  behind-with len ps at v inside behind k far near =
+      ap is_some (with-other ps at v k (λ e. absurd (omega (arith, far, inside, e)))) ∙ behind k far (omega (arith, near, with-length ps at v))
+
   pub value-inside : (ps : List (KeptPlace T)) (k : ℕ) → is_some (value_at ps k) ≡ true → k < length ps
   value-inside [] k e = absurd (subst IsTrueHere (sym e) tt)
   value-inside (p ∷ ps) zero e = omega arith
@@ -65,9 +70,7 @@ module _ {T : Type 0} where
         ∙ ap (λ (j : ℕ). is_some (value_at (with_value_at ps at v) j)) (sym same))
         (λ other.
         get_or-set_other marks at k (is_some v) false other ∙ m.marked k near ∙ ap is_some (sym (with-other ps at v k other)));
-    behind = λ k far near.
-        ap is_some (with-other ps at v k (λ e. absurd (omega (arith, far, inside, e))))
-        ∙ m.behind k far (omega (arith, near, with-length ps at v));
+    behind = behind-with len ps at v inside m.behind;
   }
 
   pub value-behind : (xs ys : List (KeptPlace T)) (m k : ℕ) → m ≡ length xs + k → value_at (xs ++ ys) m ≡ value_at ys k
@@ -99,20 +102,31 @@ module _ {T : Type 0} where
   new-long [] ps = omega arith
   new-long (n ∷ names) ps = omega (arith, new-long names ps)
 
+  -- where all places have values, and some without are put in front
+  pub behind-new : (len : ℕ) (names : List PlaceName) (ps : List (KeptPlace T)) → length names ≡ len → AreFull len ps → AreFullBehind len ps
+      → AreFullBehind len (map empty_place names ++ ps)
+  behind-new len names ps long full behind k far near =
+      let all : (j : ℕ) → j < length ps → is_some (value_at ps j) ≡ true =
+      λ j inside. elim (cases_lt j len) [ inl less ↦ full j less inside | inr more ↦ behind j more inside ] in
+      let shift = length-map names (λ (n : PlaceName). empty_place {T = T} n) in
+      ap is_some (value-behind (map empty_place names) ps k (k - len) (omega (arith, far, long, shift)))
+      ∙ all (k - len) (omega (arith, far, near, new-long names ps, long))
+
+  -- the first places are gone
+  pub behind-drop : (len : ℕ) (ps : List (KeptPlace T)) → AreFullBehind len ps → AreFullBehind len (drop len ps)
+  behind-drop len ps behind k far near =
+      ap is_some (value-drop len ps k (len + k) refl) ∙ behind (len + k) (omega arith) (omega (arith, near, length-drop len ps))
+
   pub newly-marked : (len : ℕ) (marks : List Bool) (arrays : ℕ) (names : List PlaceName) (ps : List (KeptPlace T)) → length names ≡ len → AreFull len ps
       → length ps < 2 ^ 80 → AreMarked len marks arrays ps → AreMarked len (replicate len false) (arrays + 1) (map empty_place names ++ ps)
   newly-marked len marks arrays names ps long full short m =
-      let all : List (KeptPlace T) = map empty_place names ++ ps in
-      let each : (k j : ℕ) → k ≡ len + j → j < length ps → is_some (value_at all k) ≡ true = λ k j e near.
-      ap is_some (value-behind (map empty_place names) ps k j (omega (arith, e, long, length-map names (λ (n : PlaceName). empty_place {T = T} n))))
-      ∙ all-full len marks arrays ps m full j near in
       record {
         some = m.some;
         fits = m.fits;
         few = omega (arith, few-arrays arrays len m.some, m.size, short);
         size = omega (arith, new-long names ps, m.size, long, next-times arrays len);
         marked = λ k near. get_or-replicate len k false false near ∙ ap is_some (sym (value-new names ps k (omega (arith, near, long))));
-        behind = λ k far near. each k (k - len) (omega (arith, far)) (omega (arith, far, near, new-long names ps, long));
+        behind = behind-new len names ps long full m.behind;
       }
 
   marked-rest : (len arrays : ℕ) (ps : List (KeptPlace T)) → length ps ≡ arrays * len → ((k : ℕ) → k < length ps → is_some (value_at ps k) ≡ true)
@@ -120,13 +134,18 @@ module _ {T : Type 0} where
   marked-rest len zero ps size each k near = ap is_some (sym (value-outside ps k (omega (arith, size, zero-times len))))
   marked-rest len (suc arrays) ps size each k near = lt-ltb 0 (suc arrays) (omega arith) ∙ sym (each k (omega (arith, near, size, suc-mul arrays len)))
 
+  -- the places of all arrays but the first have values
+  pub rest-full : (len : ℕ) (marks : List Bool) (arrays : ℕ) (ps : List (KeptPlace T)) → AreMarked len marks arrays ps
+      → (k : ℕ) → k < length (drop len ps) → is_some (value_at (drop len ps) k) ≡ true
+  rest-full len marks arrays ps m k near =
+      ap is_some (value-drop len ps k (len + k) refl) ∙ m.behind (len + k) (omega arith) (omega (arith, near, length-drop len ps))
+
   pub front-removed : (len : ℕ) (marks : List Bool) (arrays : ℕ) (ps : List (KeptPlace T)) → 0 < length ps → AreMarked len marks arrays ps
       → AreMarked len (replicate len (nat_lt 0 (arrays - 1))) (arrays - 1) (drop len ps)
   front-removed len marks zero ps some m = absurd (omega (arith, some, m.size, zero-times len))
   front-removed len marks (suc arrays) ps some m =
       let size : length (drop len ps) ≡ arrays * len = omega (arith, length-drop len ps, m.size, suc-mul arrays len) in
-      let each : (k : ℕ) → k < length (drop len ps) → is_some (value_at (drop len ps) k) ≡ true = λ k near.
-      ap is_some (value-drop len ps k (len + k) refl) ∙ m.behind (len + k) (omega arith) (omega (arith, near, length-drop len ps)) in
+      let each : (k : ℕ) → k < length (drop len ps) → is_some (value_at (drop len ps) k) ≡ true = rest-full len marks (suc arrays) ps m in
       let one-less : suc arrays - 1 ≡ arrays = omega arith in
       let at : ℕ → Type 0 = λ n. AreMarked len (replicate len (nat_lt 0 n)) n (drop len ps) in
       subst at (sym one-less) (record {
@@ -178,8 +197,7 @@ module _ {T : Type 0} where
   all-counted len marks (suc arrays) ps some m =
       let rest : List (KeptPlace T) = drop len ps in
       let size : length rest ≡ arrays * len = omega (arith, length-drop len ps, m.size, suc-mul arrays len) in
-      let each : (k : ℕ) → k < length rest → is_some (value_at rest k) ≡ true = λ k near.
-      ap is_some (value-drop len ps k (len + k) refl) ∙ m.behind (len + k) (omega arith) (omega (arith, near, length-drop len ps)) in
+      let each : (k : ℕ) → k < length rest → is_some (value_at rest k) ≡ true = rest-full len marks (suc arrays) ps m in
       let both : length (values_in (take len ps ++ rest)) ≡ length (values_in ps) =
       ap (λ (qs : List (KeptPlace T)). length (values_in qs)) (take-append-drop len ps) in
       let less : (suc arrays - 1) * len ≡ arrays * len = let e : suc arrays - 1 ≡ arrays = omega arith in ap (λ (n : ℕ). n * len) e in

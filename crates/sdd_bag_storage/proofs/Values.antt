@@ -1,8 +1,8 @@
 -- What a value that goes in or out makes of the values in places
-use Rattle.std.proofs.Common.{◌≡◌, ℕ, zero, suc, ◌+◌, ◌<◌, ◌≤◌, List, [], ◌∷◌, Option, Some, None, length, is_some, refl, ap, subst, arith}
+use Rattle.std.proofs.Common.{◌≡◌, ℕ, zero, suc, ◌+◌, ◌<◌, ◌≤◌, List, [], ◌∷◌, Option, Some, None, length, drop, is_some, refl, sym, ap, ◌∙◌, subst, arith}
 use mathlib.Core.Bool.{Bool, true, false}
 use Rattle.sdd_keyed_places.specs.KeyedPlaces.{PlaceName}
-use Rattle.sdd_bag_storage.specs.Storage.{KeptPlace, followed, names_of, value_at, values_in, with_value_at}
+use Rattle.sdd_bag_storage.specs.Storage.{AreEmpty, KeptPlace, followed, names_of, value_at, values_in, with_value_at}
 use Rattle.sdd_bag_storage.specs.Values.{HasOneMore}
 use Rattle.sdd_bag_storage.proofs.Kept.{not-there}
 
@@ -73,3 +73,35 @@ module _ {T : Type 0} where
       omega (arith, few-in ps, ap (λ (o : Option T). length (followed o (values_in ps))) none)
   fewer-in (p ∷ ps) (suc at) inside none =
       omega (arith, more-than p.value (values_in ps), fewer-in ps at (omega (arith, inside)) none)
+
+  -- the places behind the first so many are the same, whatever one of these has
+  pub drop-with : (len : ℕ) (ps : List (KeptPlace T)) (at : ℕ) (v : Option T) → at < len → drop len (with_value_at ps at v) ≡ drop len ps
+  drop-with zero ps at v near = absurd (omega (arith, near))
+  drop-with (suc len) [] at v near = refl
+  drop-with (suc len) (p ∷ ps) zero v near = refl
+  drop-with (suc len) (p ∷ ps) (suc at) v near = drop-with len ps at v (omega (arith, near))
+
+  not-followed : (o : Option T) (vs : List T) → is_some o ≡ false → followed o vs ≡ vs
+  not-followed None vs none = refl
+  not-followed (Some v) vs none = absurd (subst IsFalseHere none tt)
+
+  -- places without values are gone, and no value
+  pub values-left : (len : ℕ) (ps : List (KeptPlace T)) → AreEmpty len ps → values_in (drop len ps) ≡ values_in ps
+  values-left zero ps empty = refl
+  values-left (suc len) [] empty = refl
+  values-left (suc len) (p ∷ ps) empty =
+      values-left len ps (λ k near. empty (suc k) (omega (arith, near))) ∙ sym (not-followed p.value (values_in ps) (empty 0 (omega arith)))
+
+  first-none : (o : Option T) (vs : List T) → followed o vs ≡ [] → is_some o ≡ false
+  first-none None vs none = refl
+  first-none (Some v) vs none = absurd (cc)
+
+  rest-none : (o : Option T) (vs : List T) → followed o vs ≡ [] → vs ≡ []
+  rest-none None vs none = none
+  rest-none (Some v) vs none = absurd (cc)
+
+  -- where there are no values, no place has one
+  pub all-empty : (ps : List (KeptPlace T)) → values_in ps ≡ [] → (k : ℕ) → is_some (value_at ps k) ≡ false
+  all-empty [] none k = refl
+  all-empty (p ∷ ps) none zero = first-none p.value (values_in ps) none
+  all-empty (p ∷ ps) none (suc k) = all-empty ps (rest-none p.value (values_in ps) none) k

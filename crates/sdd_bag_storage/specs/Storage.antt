@@ -57,6 +57,10 @@ module _ {T : Type 0} where
   abbrev pub AreFull : ℕ → List (KeptPlace T) → Type 0
   AreFull len places = (k : ℕ) → k < len → k < length places → is_some (value_at places k) ≡ true
 
+  -- each place behind the first so many has a value
+  abbrev pub AreFullBehind : ℕ → List (KeptPlace T) → Type 0
+  AreFullBehind len places = (k : ℕ) → len ≤ k → k < length places → is_some (value_at places k) ≡ true
+
   -- none of the first so many places has a value
   abbrev pub AreEmpty : ℕ → List (KeptPlace T) → Type 0
   AreEmpty len places = (k : ℕ) → k < len → is_some (value_at places k) ≡ false
@@ -72,4 +76,4 @@ module _ {T : Type 0} where
     pub few : arrays < 2 ^ 96
     pub size : length places ≡ arrays * len
     pub marked : (k : ℕ) → k < len → slice_index_or marks k false ≡ is_some (value_at places k)
-    pub behind : (k : ℕ) → len ≤ k → k < length places → is_some (value_at places k) ≡ true
+    pub behind : AreFullBehind len places

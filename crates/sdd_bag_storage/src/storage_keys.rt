@@ -59,7 +59,8 @@ impl<T, const LEN: usize> StorageKeys<T, LEN> {
     pub fn remove_places(&mut self)
         requires some { 0 < length self.old }
         requires empty { AreEmpty LEN self.old }
-        ensures { self.new ≡ drop LEN self.old }
+        ensures places { self.new ≡ drop LEN self.old }
+        ensures full { AreFull LEN self.new }
     {
         forget(&mut self.keys, LEN);
         self.arrays -= 1;

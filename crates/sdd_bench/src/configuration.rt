@@ -61,7 +61,7 @@ fn found(local: &mut Local<'_, u64>, cell: &AtomicShared<u64>, guard: &Guard) ->
     }
 }
 
-#[inline(always)]
+#[inline(never)]
 fn loads(local: &mut Local<'_, u64>, cell: &AtomicShared<u64>, turns: u64) -> Result<u64, Refused>
     requires seated { IsSeated (seat_of local.old) }
     requires home { cells_home cell.now ≡ (seat_of local.old).home.cells }
@@ -99,7 +99,7 @@ fn read(local: &mut Local<'_, u64>, cell: &AtomicShared<u64>) -> Result<u64, Ref
     Ok(value)
 }
 
-#[inline(always)]
+#[inline(never)]
 fn reads(local: &mut Local<'_, u64>, cell: &AtomicShared<u64>, turns: u64) -> Result<u64, Refused>
     requires seated { IsSeated (seat_of local.old) }
     requires home { cells_home cell.now ≡ (seat_of local.old).home.cells }
@@ -153,7 +153,7 @@ fn publish(local: &mut Local<'_, u64>, cell: &AtomicShared<u64>, value: u64) -> 
     done
 }
 
-#[inline(always)]
+#[inline(never)]
 fn publishes(
     local: &mut Local<'_, u64>,
     cell: &AtomicShared<u64>,
@@ -194,7 +194,7 @@ fn exchange(
     Ok(())
 }
 
-#[inline(always)]
+#[inline(never)]
 fn exchanges(
     local: &mut Local<'_, u64>,
     cell: &AtomicShared<u64>,
@@ -213,7 +213,7 @@ fn exchanges(
     Ok(turns)
 }
 
-#[inline(always)]
+#[inline(never)]
 fn mostly_reads(
     local: &mut Local<'_, u64>,
     cell: &AtomicShared<u64>,

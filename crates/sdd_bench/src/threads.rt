@@ -19,11 +19,12 @@ use std::thread::{Threads, join};
 use std::time::{Clock, Instant};
 use std::{io, thread};
 
-/// While the thread of a participant rests under an open guard nothing is reclaimed: so many slots that the others find one in each turn of a round.
+/// While the thread of a participant rests under an open guard nothing is reclaimed: so many slots that the others find one in each turn of a round. And so many
+/// cells that the words of those which participants have for themselves lie in lines of their own.
 const LIMITS: Limits = Limits {
     participants: 4,
     slots: 1 << 18,
-    cells: 4,
+    cells: 1024,
     jobs: 0,
     nesting: 2,
     tries: 65535,

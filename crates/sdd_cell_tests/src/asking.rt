@@ -1,15 +1,16 @@
 //! A condition and a closure are asked once in a world, whatever they answer.
-use crate::example::{AMPLE, Example, in_a_world};
+use crate::example::{AMPLE, Example, in_each_space};
 use crate::steps::{owned, raw, shared};
 use sdd_core::Tag;
-use sdd_space::{RawPtr, Space};
+use sdd_participants::Idle;
+use sdd_space::{Deferrals, RawPtr, Space};
 use std::process::Abort;
 
 /// Those that change the tags of cells of owners of either kind.
 struct AskOfOwners;
 
 impl Example for AskOfOwners {
-    fn run<R: Abort, S: Space<u64>>(rt: &R, s: &mut S) {
+    fn run<R: Abort, S: Space<u64> + Deferrals<u64, Job = Idle>>(rt: &R, s: &mut S) {
         let cell = owned::cell(rt, s, 14);
         assert!(rt; owned::asked(rt, s, &cell, Tag::First, false).0 == 1);
         assert!(rt; cell.tag(s) == Tag::None);
@@ -29,7 +30,7 @@ impl Example for AskOfOwners {
 struct AskOfPointers;
 
 impl Example for AskOfPointers {
-    fn run<R: Abort, S: Space<u64>>(rt: &R, s: &mut S) {
+    fn run<R: Abort, S: Space<u64> + Deferrals<u64, Job = Idle>>(rt: &R, s: &mut S) {
         let null: RawPtr<u64> = RawPtr::null();
         let cell = raw::cell(rt, s, null);
         assert!(rt; raw::asked(rt, s, &cell, Tag::First, false) == 1);
@@ -46,10 +47,10 @@ impl Example for AskOfPointers {
 
 #[test]
 fn a_condition_on_owners_is_asked_once(rt: HostRuntime) {
-    in_a_world::<AskOfOwners, _>(&rt, AMPLE, &[], 0);
+    in_each_space::<AskOfOwners, _>(&rt, AMPLE, &[], 0);
 }
 
 #[test]
 fn a_condition_on_pointers_is_asked_once_and_a_closure_called_once(rt: HostRuntime) {
-    in_a_world::<AskOfPointers, _>(&rt, AMPLE, &[], 0);
+    in_each_space::<AskOfPointers, _>(&rt, AMPLE, &[], 0);
 }

@@ -1,29 +1,16 @@
 //! Cells of owners that are alone, in each space.
-use crate::example::{AMPLE, CommonExample, in_each_space};
+use crate::example::{AMPLE, Example, in_each_space};
 use crate::steps::{close, opened, owned, seen};
 use sdd_core::Tag;
 use sdd_participants::Idle;
-use sdd_space::{
-    Cells, Deferrals, Guards, InPlaceItems, Items, Look, RawCells, RawItems, SharedItems,
-};
+use sdd_space::{Cells, Deferrals, Space};
 use std::process::Abort;
 
 /// A swap answers what the cell held and its tag. It is left with nothing, which the weak exchange gives back.
 struct Swaps;
 
-impl CommonExample for Swaps {
-    fn run<
-        R: Abort,
-        S: Look<u64>
-            + Guards<u64>
-            + Items<u64>
-            + SharedItems<u64>
-            + InPlaceItems<u64>
-            + RawItems<u64>
-            + Cells<u64>
-            + RawCells<u64>
-            + Deferrals<u64, Job = Idle>,
-    >(rt: &R, s: &mut S) {
+impl Example for Swaps {
+    fn run<R: Abort, S: Space<u64> + Deferrals<u64, Job = Idle>>(rt: &R, s: &mut S) {
         let cell = owned::cell(rt, s, 14);
         assert!(rt; owned::swapped(rt, s, &cell, Some(15), Tag::Second) == (Some(14), Tag::None));
         assert!(rt; owned::read(rt, s, &cell) == (Some(15), Tag::Second));
@@ -39,19 +26,8 @@ impl CommonExample for Swaps {
 /// An exchange compares the item and the tag, and gives back what it was given where one of them differs.
 struct Exchanges;
 
-impl CommonExample for Exchanges {
-    fn run<
-        R: Abort,
-        S: Look<u64>
-            + Guards<u64>
-            + Items<u64>
-            + SharedItems<u64>
-            + InPlaceItems<u64>
-            + RawItems<u64>
-            + Cells<u64>
-            + RawCells<u64>
-            + Deferrals<u64, Job = Idle>,
-    >(rt: &R, s: &mut S) {
+impl Example for Exchanges {
+    fn run<R: Abort, S: Space<u64> + Deferrals<u64, Job = Idle>>(rt: &R, s: &mut S) {
         let cell = owned::cell(rt, s, 17);
         let guard = opened(rt, s);
         let mut ptr = owned::load(s, &cell, &guard);
@@ -79,19 +55,8 @@ impl CommonExample for Exchanges {
 /// A condition that doesn't hold is asked once, and leaves the tag.
 struct KeepsTag;
 
-impl CommonExample for KeepsTag {
-    fn run<
-        R: Abort,
-        S: Look<u64>
-            + Guards<u64>
-            + Items<u64>
-            + SharedItems<u64>
-            + InPlaceItems<u64>
-            + RawItems<u64>
-            + Cells<u64>
-            + RawCells<u64>
-            + Deferrals<u64, Job = Idle>,
-    >(rt: &R, s: &mut S) {
+impl Example for KeepsTag {
+    fn run<R: Abort, S: Space<u64> + Deferrals<u64, Job = Idle>>(rt: &R, s: &mut S) {
         let cell = owned::cell(rt, s, 7);
         let (times, shown) = owned::asked(rt, s, &cell, Tag::First, true);
         assert!(rt; (times, shown.is_null(), shown.tag()) == (1, false, Tag::None));
@@ -105,19 +70,8 @@ impl CommonExample for KeepsTag {
 /// What lies in a cell comes out of it as an owner, and goes into another one.
 struct ComesOut;
 
-impl CommonExample for ComesOut {
-    fn run<
-        R: Abort,
-        S: Look<u64>
-            + Guards<u64>
-            + Items<u64>
-            + SharedItems<u64>
-            + InPlaceItems<u64>
-            + RawItems<u64>
-            + Cells<u64>
-            + RawCells<u64>
-            + Deferrals<u64, Job = Idle>,
-    >(rt: &R, s: &mut S) {
+impl Example for ComesOut {
+    fn run<R: Abort, S: Space<u64> + Deferrals<u64, Job = Idle>>(rt: &R, s: &mut S) {
         let cell = owned::cell(rt, s, 7);
         let out = owned::into_owned(s, cell);
         let owner = out.expect(rt, "the cell held one");

@@ -8,10 +8,7 @@ use crate::steps::accelerated;
 use sdd_core::Limits;
 use sdd_domain::{Domain, Local, Receipt};
 use sdd_participants::{Idle, Tally};
-use sdd_space::{
-    Cells, Deferrals, Guards, InPlaceItems, Item, Items, Look, RawCells, RawItems, SharedItems,
-    Space,
-};
+use sdd_space::{Deferrals, Item, Space};
 use sdd_world::{Place, World};
 use std::marker::Model;
 use std::process::Abort;
@@ -31,25 +28,7 @@ pub type Shown = (u8, u128, bool);
 
 /// What one participant does in some space of numbers. It asserts what it is answered.
 pub trait Example {
-    fn run<R: Abort, S: Space<u64>>(rt: &R, s: &mut S)
-        requires seated { IsSeated (S.seat s.old) }
-        ensures seat { S.seat s.new ≡ S.seat s.old };
-}
-
-/// The same by calls that a participant of a domain has too.
-pub trait CommonExample {
-    fn run<
-        R: Abort,
-        S: Look<u64>
-            + Guards<u64>
-            + Items<u64>
-            + SharedItems<u64>
-            + InPlaceItems<u64>
-            + RawItems<u64>
-            + Cells<u64>
-            + RawCells<u64>
-            + Deferrals<u64, Job = Idle>,
-    >(rt: &R, s: &mut S)
+    fn run<R: Abort, S: Space<u64> + Deferrals<u64, Job = Idle>>(rt: &R, s: &mut S)
         requires seated { IsSeated (S.seat s.old) }
         ensures seat { S.seat s.new ≡ S.seat s.old };
 }
@@ -117,25 +96,6 @@ impl Setting<u64> {
     pub fn run<E: Example>(&mut self, rt: &impl Abort) {
         E::run(rt, &mut self.world.at(&self.place));
     }
-
-    /// The same with what a domain has too.
-    fn run_common<E: CommonExample>(&mut self, rt: &impl Abort) {
-        E::run(rt, &mut self.world.at(&self.place));
-    }
-}
-
-/// A participant of a world with these limits does this, and its guards show this afterwards. So many items were dropped in their place, and all others that
-/// were made are reclaimed at the end.
-pub fn in_a_world<E: Example, R: Abort + AllocGlobal>(
-    rt: &R,
-    limits: Limits,
-    table: &[Shown],
-    in_place: u128,
-) {
-    let mut setting: Setting<u64> = Setting::new(rt, limits);
-    setting.run::<E>(rt);
-    setting.shows(rt, table);
-    setting.closed(rt, in_place);
 }
 
 /// A new domain.
@@ -188,7 +148,7 @@ pub fn closed<T: Item<T>>(
 }
 
 /// A participant of a domain with these limits does this, and its guards show this afterwards.
-pub fn in_a_domain<E: CommonExample, R: Abort + AllocGlobal>(
+pub fn in_a_domain<E: Example, R: Abort + AllocGlobal>(
     rt: &R,
     limits: Limits,
     table: &[Shown],
@@ -203,14 +163,14 @@ pub fn in_a_domain<E: CommonExample, R: Abort + AllocGlobal>(
 }
 
 /// A participant of a world, the only one of a domain, and one of a domain that has a place more do this.
-pub fn in_each_space<E: CommonExample, R: Abort + AllocGlobal>(
+pub fn in_each_space<E: Example, R: Abort + AllocGlobal>(
     rt: &R,
     limits: Limits,
     table: &[Shown],
     in_place: u128,
 ) {
     let mut setting: Setting<u64> = Setting::new(rt, limits);
-    setting.run_common::<E>(rt);
+    setting.run::<E>(rt);
     setting.shows(rt, table);
     setting.closed(rt, in_place);
     for participants in 1..3u64 {

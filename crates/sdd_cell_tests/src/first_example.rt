@@ -8,15 +8,14 @@ ghost use Rattle.sdd_space.specs.Shared as common;
 
 use crate::Value;
 use crate::example::{
-    AMPLE, CommonExample, Setting, Shown, all_went, closed, ended, in_each_space, local_shows,
+    AMPLE, Example, Setting, Shown, all_went, closed, ended, in_each_space, local_shows,
     new_domain, registered,
 };
 use crate::steps::{close, opened, owned, raw, seen, shared};
 use sdd_core::{Limits, Tag};
 use sdd_participants::Idle;
 use sdd_space::{
-    AtomicOwned, AtomicShared, Cells, Deferrals, Guard, Guards, InPlaceItems, Items, Look, Ptr,
-    RawCells, RawItems, RawPtr, Shared, SharedItems,
+    AtomicOwned, AtomicShared, Cells, Deferrals, Guard, Items, Look, Ptr, RawPtr, Shared, Space,
 };
 use std::process::Abort;
 
@@ -78,19 +77,8 @@ fn defers<S: Deferrals<u64, Job = Idle>>(rt: &impl Abort, s: &mut S, guard: &Gua
 /// What a guard saw it shows for as long as it is open, whatever is given up meanwhile.
 struct Manages;
 
-impl CommonExample for Manages {
-    fn run<
-        R: Abort,
-        S: Look<u64>
-            + Guards<u64>
-            + Items<u64>
-            + SharedItems<u64>
-            + InPlaceItems<u64>
-            + RawItems<u64>
-            + Cells<u64>
-            + RawCells<u64>
-            + Deferrals<u64, Job = Idle>,
-    >(rt: &R, s: &mut S) {
+impl Example for Manages {
+    fn run<R: Abort, S: Space<u64> + Deferrals<u64, Job = Idle>>(rt: &R, s: &mut S) {
         let cell = owned::cell(rt, s, 19);
         let shared_cell = shared::cell(rt, s, 17);
         let guard = opened(rt, s);
@@ -122,19 +110,8 @@ fn a_guard_shows_what_its_owners_gave_up(rt: HostRuntime) {
 /// A raw cell names what is out, and whoever takes it back owns it.
 struct NamesWhatIsOut;
 
-impl CommonExample for NamesWhatIsOut {
-    fn run<
-        R: Abort,
-        S: Look<u64>
-            + Guards<u64>
-            + Items<u64>
-            + SharedItems<u64>
-            + InPlaceItems<u64>
-            + RawItems<u64>
-            + Cells<u64>
-            + RawCells<u64>
-            + Deferrals<u64, Job = Idle>,
-    >(rt: &R, s: &mut S) {
+impl Example for NamesWhatIsOut {
+    fn run<R: Abort, S: Space<u64> + Deferrals<u64, Job = Idle>>(rt: &R, s: &mut S) {
         let cell = raw::cell(rt, s, RawPtr::null());
         let tagged = RawPtr::null().with_tag(Tag::Both);
         assert!(rt; raw::exchanged(rt, s, &cell, RawPtr::null(), tagged) == Ok(RawPtr::null()));

@@ -2,13 +2,13 @@
 ghost use Rattle.std.specs.Prelude.{◌≡◌};
 ghost use Rattle.sdd_space.specs.CallerId.{IsSeated};
 
-use crate::example::{AMPLE, CommonExample, Example, in_a_world, in_each_space};
+use crate::example::{AMPLE, Example, in_each_space};
 use crate::steps::{close, opened, owned, shared};
 use sdd_core::{Limits, Refused};
 use sdd_participants::Idle;
 use sdd_space::{
-    AtomicOwned, AtomicRaw, AtomicShared, Cells, Deferrals, Guards, InPlaceItems, Items, Look,
-    PrivateCollector, RawCells, RawItems, SharedItems, Space,
+    AtomicOwned, AtomicRaw, AtomicShared, Cells, Deferrals, Items, Look, PrivateCollector,
+    RawCells, Space,
 };
 use std::process::Abort;
 
@@ -79,19 +79,8 @@ fn none_is_bare<S: RawCells<u64>>(rt: &impl Abort, s: &mut S)
 /// Once the cell is closed another one is made.
 struct OneCell;
 
-impl CommonExample for OneCell {
-    fn run<
-        R: Abort,
-        S: Look<u64>
-            + Guards<u64>
-            + Items<u64>
-            + SharedItems<u64>
-            + InPlaceItems<u64>
-            + RawItems<u64>
-            + Cells<u64>
-            + RawCells<u64>
-            + Deferrals<u64, Job = Idle>,
-    >(rt: &R, s: &mut S) {
+impl Example for OneCell {
+    fn run<R: Abort, S: Space<u64> + Deferrals<u64, Job = Idle>>(rt: &R, s: &mut S) {
         let cell = owned::cell(rt, s, 14);
         values_come_back(rt, s);
         owners_come_back(rt, s);
@@ -111,19 +100,8 @@ impl CommonExample for OneCell {
 /// The same of what owns nothing.
 struct OneRawCell;
 
-impl CommonExample for OneRawCell {
-    fn run<
-        R: Abort,
-        S: Look<u64>
-            + Guards<u64>
-            + Items<u64>
-            + SharedItems<u64>
-            + InPlaceItems<u64>
-            + RawItems<u64>
-            + Cells<u64>
-            + RawCells<u64>
-            + Deferrals<u64, Job = Idle>,
-    >(rt: &R, s: &mut S) {
+impl Example for OneRawCell {
+    fn run<R: Abort, S: Space<u64> + Deferrals<u64, Job = Idle>>(rt: &R, s: &mut S) {
         let cell = owned::cell(rt, s, 14);
         none_is_bare(rt, s);
         owned::close_cell(s, cell);
@@ -134,7 +112,7 @@ impl CommonExample for OneRawCell {
 struct NoCollector;
 
 impl Example for NoCollector {
-    fn run<R: Abort, S: Space<u64>>(rt: &R, s: &mut S) {
+    fn run<R: Abort, S: Space<u64> + Deferrals<u64, Job = Idle>>(rt: &R, s: &mut S) {
         let cell = owned::cell(rt, s, 14);
         match PrivateCollector::<u64>::new(s) {
             Ok(_collector) => panic!(rt; "no cell is free"),
@@ -173,7 +151,7 @@ fn what_owns_nothing_finds_no_cell(rt: HostRuntime) {
 
 #[test]
 fn a_collector_finds_no_cell(rt: HostRuntime) {
-    in_a_world::<NoCollector, _>(
+    in_each_space::<NoCollector, _>(
         &rt,
         FOUR_SLOTS_AND_ONE_CELL,
         &[(0, 0, true), (1, 0, true), (2, 0, true), (3, 1, false)],
@@ -184,19 +162,8 @@ fn a_collector_finds_no_cell(rt: HostRuntime) {
 /// No slot is free, and the value comes back whether a cell is or not.
 struct NoSlots;
 
-impl CommonExample for NoSlots {
-    fn run<
-        R: Abort,
-        S: Look<u64>
-            + Guards<u64>
-            + Items<u64>
-            + SharedItems<u64>
-            + InPlaceItems<u64>
-            + RawItems<u64>
-            + Cells<u64>
-            + RawCells<u64>
-            + Deferrals<u64, Job = Idle>,
-    >(rt: &R, s: &mut S) {
+impl Example for NoSlots {
+    fn run<R: Abort, S: Space<u64> + Deferrals<u64, Job = Idle>>(rt: &R, s: &mut S) {
         let owner = owned::made(rt, s, 14);
         match AtomicOwned::new(15, s) {
             Ok(_cell) => panic!(rt; "no slot is free"),

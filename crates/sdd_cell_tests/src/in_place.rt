@@ -1,15 +1,16 @@
 //! Items that are changed and dropped in their place.
-use crate::example::{AMPLE, Example, in_a_world};
+use crate::example::{AMPLE, Example, in_each_space};
 use crate::steps::{close, opened, shared};
 use sdd_core::Refused;
-use sdd_space::Space;
+use sdd_participants::Idle;
+use sdd_space::{Deferrals, Space};
 use std::process::Abort;
 
 /// An owner that may have others beside it.
 struct SharedInPlace;
 
 impl Example for SharedInPlace {
-    fn run<R: Abort, S: Space<u64>>(rt: &R, s: &mut S) {
+    fn run<R: Abort, S: Space<u64> + Deferrals<u64, Job = Idle>>(rt: &R, s: &mut S) {
         let mut owner = shared::made(rt, s, 38);
         assert!(rt; shared::put(s, &mut owner, 39) == Ok(38));
         let other = shared::copied(rt, s, &owner);
@@ -24,5 +25,5 @@ impl Example for SharedInPlace {
 
 #[test]
 fn a_shared_item_is_changed_and_dropped_in_its_place_by_an_owner_that_is_alone(rt: HostRuntime) {
-    in_a_world::<SharedInPlace, _>(&rt, AMPLE, &[(0, 0, false)], 1);
+    in_each_space::<SharedInPlace, _>(&rt, AMPLE, &[(0, 0, false)], 1);
 }

@@ -3,10 +3,11 @@ ghost use Rattle.std.specs.Prelude.{◌≡◌};
 ghost use Rattle.sdd_space.specs.RawCell.{cells_home};
 ghost use Rattle.sdd_space.specs.CallerId.{IsSeated};
 
-use crate::example::{AMPLE, Example, in_a_world};
+use crate::example::{AMPLE, Example, in_each_space};
 use crate::steps::{owned, raw};
 use sdd_core::Tag;
-use sdd_space::{AtomicRaw, Guards, RawCells, RawPtr, Space};
+use sdd_participants::Idle;
+use sdd_space::{AtomicRaw, Deferrals, Guards, RawCells, RawPtr, Space};
 use std::process::Abort;
 
 /// A cell that has this pointer compares tags and pointers. It is left with nothing.
@@ -60,7 +61,7 @@ fn has_none<S: RawCells<u64>>(rt: &impl Abort, s: &mut S)
 struct HasPointers;
 
 impl Example for HasPointers {
-    fn run<R: Abort, S: Space<u64>>(rt: &R, s: &mut S) {
+    fn run<R: Abort, S: Space<u64> + Deferrals<u64, Job = Idle>>(rt: &R, s: &mut S) {
         let owner = owned::made(rt, s, 17);
         let ptr = owned::raw(s, owner);
         let cell = raw::cell(rt, s, ptr);
@@ -75,5 +76,5 @@ impl Example for HasPointers {
 
 #[test]
 fn a_raw_cell_has_a_pointer_and_owns_nothing(rt: HostRuntime) {
-    in_a_world::<HasPointers, _>(&rt, AMPLE, &[], 0);
+    in_each_space::<HasPointers, _>(&rt, AMPLE, &[], 0);
 }

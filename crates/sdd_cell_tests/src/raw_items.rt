@@ -1,14 +1,15 @@
 //! Items that are out as raw, with nobody's right.
-use crate::example::{AMPLE, Example, in_a_world};
+use crate::example::{AMPLE, Example, in_each_space};
 use crate::steps::{close, opened, owned};
 use sdd_core::{Refused, Tag};
-use sdd_space::Space;
+use sdd_participants::Idle;
+use sdd_space::{Deferrals, Space};
 use std::process::Abort;
 
 struct GoesRaw;
 
 impl Example for GoesRaw {
-    fn run<R: Abort, S: Space<u64>>(rt: &R, s: &mut S) {
+    fn run<R: Abort, S: Space<u64> + Deferrals<u64, Job = Idle>>(rt: &R, s: &mut S) {
         let owner = owned::made(rt, s, 7);
         let raw = owned::raw(s, owner);
         assert!(rt; !raw.is_null());
@@ -37,5 +38,5 @@ impl Example for GoesRaw {
 
 #[test]
 fn an_item_goes_raw_and_comes_back(rt: HostRuntime) {
-    in_a_world::<GoesRaw, _>(&rt, AMPLE, &[], 1);
+    in_each_space::<GoesRaw, _>(&rt, AMPLE, &[], 1);
 }

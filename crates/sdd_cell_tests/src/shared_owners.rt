@@ -1,29 +1,16 @@
 //! Owners that may have others beside them, pointers to their items, and cells that hold such owners.
-use crate::example::{AMPLE, CommonExample, in_each_space};
+use crate::example::{AMPLE, Example, in_each_space};
 use crate::steps::{close, opened, seen, shared};
 use sdd_core::Tag;
 use sdd_participants::Idle;
-use sdd_space::{
-    Cells, Deferrals, Guards, InPlaceItems, Items, Look, RawCells, RawItems, SharedItems,
-};
+use sdd_space::{Deferrals, Space};
 use std::process::Abort;
 
 /// The last owner is told, and a guard sees the value still.
 struct LetsGo;
 
-impl CommonExample for LetsGo {
-    fn run<
-        R: Abort,
-        S: Look<u64>
-            + Guards<u64>
-            + Items<u64>
-            + SharedItems<u64>
-            + InPlaceItems<u64>
-            + RawItems<u64>
-            + Cells<u64>
-            + RawCells<u64>
-            + Deferrals<u64, Job = Idle>,
-    >(rt: &R, s: &mut S) {
+impl Example for LetsGo {
+    fn run<R: Abort, S: Space<u64> + Deferrals<u64, Job = Idle>>(rt: &R, s: &mut S) {
         let owner = shared::made_by_closure(rt, s, 47);
         let guard = opened(rt, s);
         let ptr = owner.get_guarded_ptr(&guard, s);
@@ -39,19 +26,8 @@ impl CommonExample for LetsGo {
 /// Of a pointer one owner more is had for as long as there is one.
 struct Upgrades;
 
-impl CommonExample for Upgrades {
-    fn run<
-        R: Abort,
-        S: Look<u64>
-            + Guards<u64>
-            + Items<u64>
-            + SharedItems<u64>
-            + InPlaceItems<u64>
-            + RawItems<u64>
-            + Cells<u64>
-            + RawCells<u64>
-            + Deferrals<u64, Job = Idle>,
-    >(rt: &R, s: &mut S) {
+impl Example for Upgrades {
+    fn run<R: Abort, S: Space<u64> + Deferrals<u64, Job = Idle>>(rt: &R, s: &mut S) {
         let owner = shared::made(rt, s, 47);
         let guard = opened(rt, s);
         let ptr = owner.get_guarded_ptr(&guard, s);
@@ -70,19 +46,8 @@ impl CommonExample for Upgrades {
 /// A copy of a cell has its tag, and holds an owner more of its item, or nothing as it does.
 struct Copies;
 
-impl CommonExample for Copies {
-    fn run<
-        R: Abort,
-        S: Look<u64>
-            + Guards<u64>
-            + Items<u64>
-            + SharedItems<u64>
-            + InPlaceItems<u64>
-            + RawItems<u64>
-            + Cells<u64>
-            + RawCells<u64>
-            + Deferrals<u64, Job = Idle>,
-    >(rt: &R, s: &mut S) {
+impl Example for Copies {
+    fn run<R: Abort, S: Space<u64> + Deferrals<u64, Job = Idle>>(rt: &R, s: &mut S) {
         let cell = shared::cell(rt, s, 7);
         assert!(rt; shared::swapped(rt, s, &cell, 8, Tag::Second) == (Some(7), Tag::None));
         assert!(rt; shared::had_of(rt, s, &cell) == Some(8));
@@ -104,19 +69,8 @@ impl CommonExample for Copies {
 /// An exchange with owners that may have others.
 struct Exchanges;
 
-impl CommonExample for Exchanges {
-    fn run<
-        R: Abort,
-        S: Look<u64>
-            + Guards<u64>
-            + Items<u64>
-            + SharedItems<u64>
-            + InPlaceItems<u64>
-            + RawItems<u64>
-            + Cells<u64>
-            + RawCells<u64>
-            + Deferrals<u64, Job = Idle>,
-    >(rt: &R, s: &mut S) {
+impl Example for Exchanges {
+    fn run<R: Abort, S: Space<u64> + Deferrals<u64, Job = Idle>>(rt: &R, s: &mut S) {
         let cell = shared::cell(rt, s, 17);
         let guard = opened(rt, s);
         let mut ptr = shared::load(s, &cell, &guard);

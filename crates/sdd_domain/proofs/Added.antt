@@ -89,7 +89,8 @@ module _ {T J : Type 0} (v : LocalModel T J) (m : LocalState J) (k : ℕ) (tied 
     added_tied one = added_tied_then (lone_then one)
 
     pub added_sound : (holds : T → List OwnerOrCell) → IsSound holds v → IsSound holds later
-    added_sound holds sound = sound_then holds v m sound (ap (λ (y : LocalState J). y.due) added_only ∙ sound.settled) (ap home_in added_only)
+    added_sound holds sound = sound_then holds v m sound (ap (λ (y : LocalState J). y.due) added_only ∙ sound.settled)
+        (ap (λ (y : LocalState J). y.slots.closes) added_only ∙ sound.closes) (ap home_in added_only)
         (λ one. let lone = lone_then one in subst (λ (w : World T). IsWhole w) (sym (added_world lone))
         (Whole-restands (world_of v) k (Shared (owners + 1)) (ap is_out (stands_before lone)) refl (sound.whole lone)))
 

@@ -216,6 +216,7 @@ module _ {J : Type 0} (R : RattleType) (holds : R.Denot → List OwnerOrCell) (v
   pub change_sound : AreOf (home_in v.member) (holds now) → IsSound holds v → IsSound holds after
   change_sound at sound = let home = ap home_in change_only in record {
     settled = ap (λ (z : LocalState J). z.due) change_only ∙ sound.settled;
+    closes = ap (λ (z : LocalState J). z.slots.closes) change_only ∙ sound.closes;
     home = entered_home R holds v m es (number_of right) now set_is (subst (λ h. AreOf h (holds now)) (sym home) at) home sound;
     whole = λ one. let lone = lone_then one in subst (λ (w : World R.Denot). IsWhole w) (sym (change_world lone))
         (Whole-with_value (world_of v) (number_of right) now
@@ -263,6 +264,7 @@ module _ {T J : Type 0} (shown : T → Gv) (holds : T → List OwnerOrCell) (p q
   sound_by : (IsLone p.member → IsWhole (world_of p) → IsWhole (world_of q)) → IsSound holds p → IsSound holds q
   sound_by whole sound = let home = ap (λ (x : LocalModel T J). home_in x.member) kept in record {
     settled = ap (λ (x : LocalModel T J). x.member.due) kept ∙ sound.settled;
+    closes = ap (λ (x : LocalModel T J). x.member.slots.closes) kept ∙ sound.closes;
     home = λ place value g there. subst (λ h. AreOf h (holds value)) (sym home)
         (sound.home place value g (ap (λ (x : LocalModel T J). slice_index_or x.entries place None) (sym kept) ∙ there));
     whole = λ one. let lone = lone_still one in whole lone (sound.whole lone);
@@ -307,6 +309,7 @@ module _ {T J : Type 0} (shown : T → Gv) (holds : T → List OwnerOrCell) (p q
   pub drop_sound : (IsLone p.member → is_out (standing_at (world_of p) k) ≡ true) → IsSound holds p → IsSound holds q
   drop_sound out sound = let home = ap (λ (x : LocalModel T J). home_in x.member) kept in record {
     settled = ap (λ (x : LocalModel T J). x.member.due) kept ∙ sound.settled;
+    closes = ap (λ (x : LocalModel T J). x.member.slots.closes) kept ∙ sound.closes;
     home = λ place value g there. subst (λ h. AreOf h (holds value)) (sym home)
         (sound.home place value g (ap (λ (x : LocalModel T J). slice_index_or x.entries place None) (sym kept) ∙ there));
     whole = λ one. let lone = lone_kept one in subst (λ (w : World T). IsWhole w) (sym (world lone))

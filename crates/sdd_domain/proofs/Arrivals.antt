@@ -22,10 +22,12 @@ use Rattle.sdd_word_invariant.specs.SlotSteps.{older, older_private, aged as age
 use Rattle.sdd_word_invariant.proofs.Sums.{total_map}
 use Rattle.sdd_atomics.specs.declared.domain_table.DomainTable.{DomainTable}
 use Rattle.sdd_atomics.specs.DomainSeat.{view, epoch, slots, Stepped, HasPublished}
-use Rattle.sdd_domain.specs.InBags.{AreInBags, KnownWaiting, known_waiting}
+use Rattle.sdd_domain.specs.InBags.{AreInBags, KnownWaiting, TellsCollectors, known_waiting}
 use Rattle.sdd_domain.specs.WaitingItems.{aged_at, aged_privates_at, aged_slots_at, due_at, arrived_at, Arrives, HasArrived}
 use Rattle.sdd_domain.specs.BetweenCalls.{IsBetweenCalls}
+use Rattle.sdd_participants.specs.Slab.{Entries}
 use Rattle.sdd_domain.proofs.InBags.{all_older}
+use Rattle.sdd_domain.proofs.PrivateTables.{told_older}
 use Rattle.sdd_domain.proofs.Posing.{posed_arrived, has_place}
 
 -- where nothing waits a change only finds the count, and that nothing waits
@@ -105,13 +107,13 @@ module _ (count : ℕ) (own : Participant) where
   bags_aged n s taken t none = dite (ℕ_discrete own.found count)
       (λ e. subst (λ (z : KnownWaiting × List Waiting × List LimboEntry). AreInBags n z.0 z.1 z.2)
       (λ d. (
-        record { plain = sym (aged_stayed s.waits e) d; private = sym (privates_stayed s.privates e) d },
+        record { plain = sym (aged_stayed s.waits e) d; private = sym (privates_stayed s.privates e) d; closes = s.closes },
         (sym (stayed e) d).bags.waiting,
         (none ∙ sym (due_stayed e)) d,
       )) t)
       (λ ne. subst (λ (z : KnownWaiting × List Waiting × List LimboEntry). AreInBags n z.0 z.1 z.2)
       (λ d. (
-        record { plain = sym (aged_moved s.waits ne) d; private = sym (privates_moved s.privates ne) d },
+        record { plain = sym (aged_moved s.waits ne) d; private = sym (privates_moved s.privates ne) d; closes = s.closes },
         (sym (moved ne) d).bags.waiting,
         sym (due_moved ne) d,
       )) (all_older n (known_waiting s) own.bags.waiting taken t none))
@@ -123,10 +125,10 @@ module _ (count : ℕ) (own : Participant) where
   bags_arrived n b new h s taken t none = subst (λ (ws : List Waiting). AreInBags n (known_waiting (aged_slots_at count own s)) ws (due_at count own))
       (sym (has_bags b new h)) (bags_aged n s taken t none)
 
-  -- no item is collected by it
-  pub none_collected : (s : SlotsView) → s.privates ≡ [] → (aged_slots_at count own s).privates ≡ []
-  none_collected s none = dite (ℕ_discrete own.found count) (λ e. privates_stayed s.privates e ∙ none)
-      (λ ne. privates_moved s.privates ne ∙ ap (map older_private) none)
+  -- each waits for the same collector
+  pub told_aged : (n : ℕ) (table : Entries ℕ) (s : SlotsView) → TellsCollectors n table s.privates → TellsCollectors n table (aged_slots_at count own s).privates
+  told_aged n table s t = dite (ℕ_discrete own.found count) (λ e. subst (TellsCollectors n table) (sym (privates_stayed s.privates e)) t)
+      (λ ne. subst (TellsCollectors n table) (sym (privates_moved s.privates ne)) (told_older n table s.privates t))
 
   -- as much of each slot waits as before
   pub same_aged : (i : ℕ) (xs : List WaitingItem) → total (waits_in i) (aged_at count own xs) ≡ total (waits_in i) xs

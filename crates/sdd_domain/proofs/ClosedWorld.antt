@@ -1,10 +1,13 @@
 -- What the close of a guard is for the world of a lone participant
 use Rattle.std.proofs.Common.{◌≡◌, ℕ, ◌+◌, ◌∷◌, [], Some, false, rules, ap, ◌∙◌}
+use mathlib.Core.Logic.{dite}
+use native.Mathlib.Decide.{ℕ_discrete}
 use Rattle.sdd_participants.specs.EpochState.{EpochState}
 use Rattle.sdd_participants.specs.EpochState as time
 use Rattle.sdd_participants.specs.declared.participant.Participant.{Participant}
 use Rattle.sdd_participants.specs.declared.place_states.PlaceState.TheVariants.{Live}
 use Rattle.sdd_core.specs.declared.limits.Limits.{Limits}
+use Rattle.sdd_views.specs.declared.SlotsView.{SlotsView}
 use Rattle.sdd_space.specs.ParticipantChanges.{closed_with}
 use Rattle.sdd_space.specs.WorldChanges.{closed}
 use Rattle.sdd_domain.specs.LocalState.{LocalState, IsLone, GuardCloses}
@@ -23,6 +26,11 @@ time_with l count own = record {
   nesting = l.nesting;
   room = l.slots + l.jobs;
 }
+
+-- it closes no collector that it didn't close before
+pub closes_on : {J : Type 0} (old new : LocalState J) → GuardCloses old new → new.slots.closes ≡ old.slots.closes
+closes_on old new is = dite (ℕ_discrete old.own.guards 1) (λ last. ap (λ (s : SlotsView). s.closes) (is.unseen last).0)
+    (λ others. ap (λ (s : SlotsView). s.closes) (is.seen others).0)
 
 module _ {T J : Type 0} (v : LocalModel T J) (m : LocalState J) (t : AreTied v.member v.entries) (one : IsLone v.member) (is : GuardCloses v.member m) where
   abbrev later : LocalModel T J

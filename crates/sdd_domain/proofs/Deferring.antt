@@ -60,7 +60,6 @@ module _ (b : DomainTable) (p : ℕ) (own : Participant) (s t : Seat ValueFracti
       looked = q.quiet.looked;
       over = q.quiet.over;
       emptied = q.quiet.emptied;
-      closes = q.quiet.closes;
       empties = q.quiet.empties;
       left = q.quiet.left;
     };
@@ -100,7 +99,6 @@ module _ (b : DomainTable) (p : ℕ) (own : Participant) (s t : Seat ValueFracti
           looked = q.quiet.looked;
           over = q.quiet.over;
           emptied = q.quiet.emptied;
-          closes = q.quiet.closes;
           empties = q.quiet.empties;
           left = q.quiet.left;
         };

@@ -1,37 +1,40 @@
 -- What a lone participant reclaims, for its world
-use Rattle.std.proofs.Common.{◌≡◌, ◌≢◌, ℕ, ◌<◌, IsTrue, List, Some, None, set, slice_index_or, sym, refl, ap, ◌∙◌, subst, arith, length-set}
+use Rattle.std.proofs.Common.{◌≡◌, ◌≢◌, ◌⊎◌, inl, inr, ⊎_elim, ℕ, ◌<◌, IsTrue, List, Some, None, set, slice_index_or, sym, refl, ap, ◌∙◌, subst, arith, length-set}
 use Rattle.std.specs.Prelude.{Option, Bool, option_map}
 use mathlib.Core.Logic.{dite}
-use native.Mathlib.Decide.{ℕ_discrete}
+use native.Mathlib.Decide.{ℕ_discrete, dec_lt}
 use base.Stored.{Gv}
 use denote.RattleType.{RattleType}
 use Rattle.sdd_participants.specs.declared.waiting.LimboEntry.TheVariants.{Item}
 use Rattle.sdd_participants.specs.Tally.{one_reclaimed}
 use Rattle.sdd_participants.specs.declared.standing.Standing.{Standing}
-use Rattle.sdd_participants.specs.declared.standing.Standing.TheVariants.{Retired}
 use Rattle.sdd_shared_values.specs.SharedValues.{showing}
 use Rattle.sdd_views.specs.declared.ShownValue.{ShownValue}
 use Rattle.sdd_views.specs.declared.Sizes.{Sizes}
-use Rattle.sdd_word_invariant.specs.Codes.{waiting, waits_for, full}
+use Rattle.sdd_word_invariant.specs.Codes.{waiting, waits_for, full, private_word, shared_base}
+use Rattle.sdd_word_invariant.specs.Collectors.{private_in}
+use Rattle.sdd_word_invariant.specs.CollectorSteps.{without_private}
 use Rattle.sdd_word_invariant.specs.SlotSteps.{behind, without_item}
 use Rattle.sdd_word_invariant.specs.Sums.{total}
 use Rattle.sdd_word_invariant.specs.Slots.{waits_in}
-use Rattle.sdd_word_invariant.proofs.Codes.{sound, free_is}
+use Rattle.sdd_word_invariant.proofs.Codes.{sound, free_is, private_is, waits_privately}
 use Rattle.sdd_word_invariant.proofs.Owning.{item_gone, item_kept}
 use Rattle.sdd_domain_invariant.specs.FilledInvariant.{newest}
 use Rattle.sdd_space.specs.OwnerOrCell.{OwnerOrCell}
 use Rattle.sdd_space.specs.World.{World, standing_at, value_at}
 use Rattle.sdd_space.specs.WorldChanges.{waiting_value, taken_out, given_all, reclaimed, slot_reclaimed}
 use Rattle.sdd_space.specs.WorldChanges as steps
-use Rattle.sdd_participants.specs.Slab.{entry_at}
+use Rattle.sdd_participants.specs.Slab.{entry_at, without_entry}
 use Rattle.sdd_domain.specs.LocalState.{LocalState, place_number, IsLone, Reclaims, word_of}
-use Rattle.sdd_domain.specs.InBags.{known_waiting}
+use Rattle.sdd_domain.specs.InBags.{TellsCollectors, known_waiting}
+use Rattle.sdd_domain.specs.Collectors.{LosesItem}
 use Rattle.sdd_domain.specs.Values.{one_showing}
 use Rattle.sdd_domain.specs.WordsAndValues.{MatchesPlace, Agrees, AreTied, is_plain_word}
 use Rattle.sdd_domain.specs.Local.{LocalModel, listing, standing_by, value_by, standing_in, value_in, world_of}
 use Rattle.sdd_domain.proofs.Listings.{listing_at, listing_set}
-use Rattle.sdd_domain.proofs.InBags.{first_plain_out}
-use Rattle.sdd_domain.proofs.Words.{free_public, public_alike, waiting_public, word_same, word_other, stands_retired, value_there, waiting_taken}
+use Rattle.sdd_domain.proofs.InBags.{first_out, first_slot}
+use Rattle.sdd_domain.proofs.PrivateTables.{counts_for, found_in, none_for, none_left, others_for}
+use Rattle.sdd_domain.proofs.Words.{free_public, no_private, word_same, word_other, stands_private, stands_retired, value_there}
 use Rattle.sdd_domain.proofs.Alone.{cells_kept, pointers_kept}
 
 value_or : Gv → Option ShownValue → Gv
@@ -61,9 +64,10 @@ module _ {J : Type 0} (R : RattleType) (p : LocalModel R.Denot J) (t : AreTied p
   abbrev now : LocalState J
   now = record p.member {
     tally = one_reclaimed p.member.tally;
-    slots = record p.member.slots { waits = without_item slot p.member.slots.waits };
+    slots = record p.member.slots { waits = without_item slot p.member.slots.waits; privates = without_private slot p.member.slots.privates };
     words = set p.member.words (behind p.member.sizes slot) 0;
     due = m.due;
+    collectors = without_entry p.member.collectors slot;
   }
 
   abbrev then : LocalModel R.Denot J
@@ -72,8 +76,23 @@ module _ {J : Type 0} (R : RattleType) (p : LocalModel R.Denot J) (t : AreTied p
   here : slot < p.member.sizes.slots
   here = let l = is.inside in let s = t.slots in omega arith
 
-  waits_here : waiting (word_of p.member slot) ≡ 1
-  waits_here = let w = t.waits slot is.inside in let o = is.once in omega arith
+  -- its word says that it waits, for no collector or for one
+  abbrev PrivateWord : Type 0
+  PrivateWord = (c : ℕ) × (word_of p.member slot ≡ private_word c) × (private_word c < shared_base)
+
+  word_here : (waiting (word_of p.member slot) ≡ 1) ⊎ PrivateWord
+  word_here = dite (dec_lt 0 (total (private_in slot) p.member.slots.privates))
+      (λ some_private. let one = found_in slot p.member.slots.privates some_private in let c : ℕ = one.1.collector in
+      let more = counts_for c slot p.member.slots.privates one.0 one.1 one.2 one.3 refl in let w = t.privates slot is.inside c in
+      let named = waits_privately c (word_of p.member slot) (omega arith) in inr (c, named.1, let l = named.0 in let e = named.1 in omega arith))
+      (λ none. inl (let w = t.waits slot is.inside in let o = is.once in omega arith))
+
+  full_here : full (word_of p.member slot) ≡ 1
+  full_here = ⊎_elim (λ (w : waiting (word_of p.member slot) ≡ 1). (sound.waits (word_of p.member slot) (omega arith)).1)
+      (λ (named : PrivateWord). ap full named.1 ∙ (private_is named.0 named.2).2) word_here
+
+  taken_here : word_of p.member slot ≢ 0
+  taken_here e = let f = (free_is 0 (omega arith)).2 in let a = ap full e in let b = full_here in omega arith
 
   same : word_of now slot ≡ 0
   same = word_same z ws t.long slot 0 here
@@ -83,18 +102,24 @@ module _ {J : Type 0} (R : RattleType) (p : LocalModel R.Denot J) (t : AreTied p
 
   entry : (e : R.Denot × Gv) × (slice_index_or p.entries slot None ≡ Some e) × (e.1 ≡ showing R x)
   entry = entry_of (showing R x) (newest slot p.member.filled) (slice_index_or p.entries slot None) slot (is.lone one).0 (is.lone one).1
-      (t.kept slot is.inside (sound.waits (word_of p.member slot)
-      (let w = t.waits slot is.inside in let o = is.once in omega arith)).1)
+      (t.kept slot is.inside full_here)
 
   same_value : entry.0.0 ≡ x
   same_value = one_showing R entry.0.0 x (sym (codes slot entry.0.0 entry.0.1 entry.1) ∙ entry.2)
 
-  stands_here : standing_at (world_of p) slot ≡ Some Retired
-  stands_here = listing_at n (standing_in p) slot None is.inside ∙ stands_retired (word_of p.member slot) waits_here
+  abbrev stands : Option Standing
+  stands = standing_at (world_of p) slot
+
+  at_word : standing_at (world_of p) slot ≡ standing_by (word_of p.member slot)
+  at_word = listing_at n (standing_in p) slot None is.inside
+
+  value_waits : waiting_value (world_of p) slot (standing_at (world_of p) slot) ≡ value_at (world_of p) slot
+  value_waits = ⊎_elim (λ (w : waiting (word_of p.member slot) ≡ 1). ap (waiting_value (world_of p) slot) (at_word ∙ stands_retired (word_of p.member slot) w))
+      (λ (named : PrivateWord). ap (waiting_value (world_of p) slot) (at_word ∙ (ap standing_by named.1 ∙ stands_private named.0 named.2))) word_here
 
   value_here : value_at (world_of p) slot ≡ Some x
-  value_here = let one = waits_here in listing_at n (value_in p) slot None is.inside
-      ∙ (value_there (word_of p.member slot) (slice_index_or p.entries slot None) (waiting_taken (word_of p.member slot) (omega arith))
+  value_here = listing_at n (value_in p) slot None is.inside
+      ∙ (value_there (word_of p.member slot) (slice_index_or p.entries slot None) taken_here
       ∙ (ap (option_map (λ (y : R.Denot × Gv). y.0)) entry.1 ∙ ap Some same_value))
 
   freed_is : world_of then ≡ steps.freed (world_of p) slot
@@ -115,7 +140,7 @@ module _ {J : Type 0} (R : RattleType) (p : LocalModel R.Denot J) (t : AreTied p
   goes_now : (holds : R.Denot → List OwnerOrCell) → slot_reclaimed holds (world_of p) p.member.place slot
       ≡ given_all (world_of then) p.member.place (holds x)
   goes_now holds = let w : World R.Denot = world_of p in let k : ℕ = p.member.place in
-      ap (λ (s : Option Standing). taken_out holds w k slot (waiting_value w slot s)) stands_here
+      ap (taken_out holds w k slot) value_waits
       ∙ (ap (taken_out holds w k slot) value_here ∙ ap (λ (v : World R.Denot). given_all v k (holds x)) (sym freed_is))
 
   tied_now : AreTied now p.entries
@@ -133,18 +158,17 @@ module _ {J : Type 0} (R : RattleType) (p : LocalModel R.Denot J) (t : AreTied p
         let a = ap waiting (ap (word_of now) e ∙ same) in let f = (free_is 0 (omega arith)).1 in omega arith)
         (λ ne. let k = item_kept slot i ne p.member.slots.waits in let w = t.waits i l in let s = ap waiting (other i ne) in omega arith);
     privates = λ i l c. dite (ℕ_discrete i slot)
-        (λ e. let one = waits_here in t.privates i l c ∙ (ap (waits_for c) (ap (word_of p.member) e)
-        ∙ (public_alike c (word_of p.member slot) 0 (waiting_public (word_of p.member slot) (omega arith)) free_public
-        ∙ ap (waits_for c) (sym (ap (word_of now) e ∙ same)))))
-        (λ ne. t.privates i l c ∙ ap (waits_for c) (sym (other i ne)));
+        (λ e. none_for c i (without_private slot p.member.slots.privates)
+        (ap (λ (j : ℕ). total (private_in j) (without_private slot p.member.slots.privates)) e ∙ none_left slot p.member.slots.privates)
+        ∙ sym (ap (waits_for c) (ap (word_of now) e ∙ same) ∙ no_private c 0 free_public))
+        (λ ne. others_for c slot i ne p.member.slots.privates ∙ (t.privates i l c ∙ ap (waits_for c) (sym (other i ne))));
     kept = λ i l filled. dite (ℕ_discrete i slot)
         (λ e. absurd (let f = (free_is 0 (omega arith)).2 in let g = ap full (ap (word_of now) e ∙ same) in omega arith))
         (λ ne. t.kept i l (sym (ap full (other i ne)) ∙ filled));
     table = t.table;
     jobs = λ j l. subst (λ (w : ℕ). MatchesPlace w (entry_at p.member.jobs j))
         (sym (other (place_number p.member j) (λ e. let s = is.inside in omega arith))) (t.jobs j l);
-    bags = first_plain_out p.member.limits.slots (known_waiting p.member.slots) p.member.own.bags.waiting p.member.due t.bags (Item slot) m.due is.first
-        is.once;
+    bags = first_out p.member.limits.slots (known_waiting p.member.slots) p.member.own.bags.waiting p.member.due t.bags (Item slot) m.due is.first;
     now = t.now;
   }
 
@@ -156,3 +180,10 @@ module _ {J : Type 0} (R : RattleType) (p : LocalModel R.Denot J) (t : AreTied p
       ≡ given_all (world_of (record { member = m; entries = p.entries })) p.member.place (holds x)
   reclaims_one holds = goes_now holds
       ∙ ap (λ (y : LocalState J). given_all (world_of (record { member = y; entries = p.entries })) p.member.place (holds x)) (sym is.member)
+
+-- what a lone participant has due no close of another has claimed
+pub loses_none : {T J : Type 0} (p : LocalModel T J) (t : AreTied p.member p.entries) (slot : ℕ) (m : LocalState J) → LosesItem slot p.member m
+    → TellsCollectors p.member.limits.slots p.member.collectors p.member.slots.privates → IsLone p.member → ⊥
+loses_none p t slot m is told one = let low = first_slot p.member.limits.slots (known_waiting p.member.slots) p.member.own.bags.waiting p.member.due t.bags slot
+    m.due is.first in let more = (told.waits slot is.collector).0 is.kept in let w = t.privates slot low is.collector in
+    is.claimed one (waits_privately is.collector (word_of p.member slot) (omega arith)).1

@@ -68,6 +68,7 @@ pub record Stands {J : Type 0} (count : ℕ) (old new : LocalState J) : Type 0 w
   pub known : new.known ≡ new.since
   pub knows : count ≤ new.since
   pub one : old.own.guards ≡ 0 → new.own.guards ≡ 1
+  pub tally : new.tally ≡ old.tally
 
 pub stands : {J : Type 0} (count : ℕ) (b : Bool) (old m new : LocalState J) → IsEntered count old m → GoesOn count b old m new → Stands count old new
 stands count b old m new is goes = let there : Stands count old m = record {
@@ -76,9 +77,10 @@ stands count b old m new is goes = let there : Stands count old m = record {
   known = ap (λ (y : LocalState _). y.known) is.member;
   knows = is.knows;
   one = λ shut. ap (λ (y : LocalState _). y.own.guards) is.member ∙ one_before count old.own shut;
+  tally = ap (λ (y : LocalState _). y.tally) is.member;
 } in
     let idle : Stands count old (record m { own = settled m.own }) =
-    record { limits = there.limits; found = there.found; known = there.known; knows = there.knows; one = there.one } in
+    record { limits = there.limits; found = there.found; known = there.known; knows = there.knows; one = there.one; tally = there.tally } in
     ⊎_elim (λ (t : b ≡ true). subst (Stands count old) (sym (goes.change t).1) there)
     (λ (f : b ≡ false). ⊎_elim (λ (g : (old.own.found ≡ count) × (new ≡ m)). subst (Stands count old) (sym g.1) there)
     (λ (g : (old.own.found ≢ count) × (m.due ≡ []) × (new ≡ record m { own = settled m.own })). subst (Stands count old) (sym g.2) idle) (goes.over f))
@@ -119,7 +121,8 @@ module _ {T J : Type 0} (v : LocalModel T J) (m : LocalState J) {A : Type 0} (Is
 
   pub nested_sound : (r : Result A Refused) → Did r → HasOpenGuard v.member → WordsMatchValues v.member v.entries → IsSound holds v → IsSound holds
       (record v { member = m })
-  nested_sound (Ok a) did some_open tied sound = sound_opened holds v m sound (ap (λ (y : LocalState J). y.due) did.2 ∙ sound.settled) (ap home_in did.2)
+  nested_sound (Ok a) did some_open tied sound = sound_opened holds v m sound (ap (λ (y : LocalState J). y.due) did.2 ∙ sound.settled)
+      (ap (λ (y : LocalState J). y.slots.closes) did.2 ∙ sound.closes) (ap home_in did.2)
       (world_nested did.2 some_open tied)
   nested_sound (Err e) did some_open tied sound = subst (λ (y : LocalState J). IsSound holds (record v { member = y })) (sym did.2) sound
 

@@ -1,6 +1,6 @@
 -- What is known while the slot of an owner that was taken in is held, once that was let go of, and once its value was moved
 use Rattle.std.proofs.Common.{◌≡◌, ℕ, not, List, [], ◌∷◌, eq-eqb, refl, sym, ap, ◌∙◌, subst, ⊎_elim}
-use Rattle.std.specs.Prelude.{Bool, true, false, slice_set}
+use Rattle.std.specs.Prelude.{Bool, true, false, None, slice_set}
 use Rattle.std.proofs.lemmas.List.{set-set}
 use mathlib.Core.Bool.{cond}
 use base.Stored.{Gv}
@@ -57,22 +57,24 @@ module _ (slot : ℕ) (shared : Bool) (value : Gv) (v : View) (bare : IsBare v) 
     stakes = record (at_rest 0) { owns = record { slot = slot; shared = shared; value = value } ∷ bare.untold d };
   }
 
+-- where no collector is being closed, so that it looks at no place
+module _ (slot : ℕ) (shared : Bool) (value : Gv) (v : View) (bare : IsBare v) (closes : v.slots.closes ≡ None) where
   -- the hold let go of, and the owner cut off, it is as it was, but for its note of the word
   pub back_again : (k : ℕ) → parting (let_go_of shared slot (holding slot shared value k v)) ≡ record v { words = sole_words shared slot v.sizes v.words }
   back_again k = λ d. record v {
-    slots = record v.slots { holds = sym bare.quiet.holds d; looked = sym bare.quiet.looked d };
+    slots = record v.slots { holds = sym bare.quiet.holds d; looked = sym (bare.quiet.looked closes) d };
     stakes = record v.stakes { owns = sym bare.untold d };
     words = words_back shared slot v.sizes v.words d;
   }
 
   pub owner_again : (k : ℕ) → departing (let_go_of shared slot (holding slot shared value k v)) ≡ owner_of slot shared value
-  owner_again k = owner_at_once
+  owner_again k = owner_at_once slot shared value v bare
 
   -- another value was moved in
   pub changed_view : (k : ℕ) (now : Gv) → changed_by slot shared now (holding slot shared value k v)
       ≡ record (with_filled slot shared now v) { words = sole_words shared slot v.sizes v.words }
   changed_view k now = λ d. record v {
-    slots = record v.slots { owns = sym bare.quiet.owns d; holds = sym bare.quiet.holds d; looked = sym bare.quiet.looked d };
+    slots = record v.slots { owns = sym bare.quiet.owns d; holds = sym bare.quiet.holds d; looked = sym (bare.quiet.looked closes) d };
     stakes = record v.stakes {
       moves = sym bare.rests d;
       owns = sym bare.untold d;
@@ -87,7 +89,7 @@ module _ (slot : ℕ) (shared : Bool) (value : Gv) (v : View) (bare : IsBare v) 
       let none : without slot (slot ∷ v.slots.owns) ≡ v.slots.owns = ap (λ (l : List ℕ). without slot (slot ∷ l)) bare.quiet.owns
       ∙ (ap (λ (c : Bool). cond (not c) (slot ∷ []) []) (eq-eqb slot slot refl) ∙ sym bare.quiet.owns) in
       λ d. record (with_dropped slot v) {
-        slots = record v.slots { owns = none d; holds = sym bare.quiet.holds d; looked = sym bare.quiet.looked d };
+        slots = record v.slots { owns = none d; holds = sym bare.quiet.holds d; looked = sym (bare.quiet.looked closes) d };
         stakes = record (with_dropped slot v).stakes { moves = sym bare.rests d; owns = sym bare.untold d };
         words = words_freed shared slot v.sizes v.words d;
       }
@@ -174,7 +176,7 @@ module _ (b : DomainTable) (slot : ℕ) (shared : Bool) (value : Gv) (s t h : Se
       sole = knew_sole;
     }
 
-    module _ (bare : IsBare (view s)) (back : Seat ValueFraction View) (lets_go : Taught (λ v _ w. w ≡ let_go_of shared slot v) u 0 back) where
+    module _ (bare : IsBare (view s)) (closes : (slots s).closes ≡ None) (back : Seat ValueFraction View) (lets_go : Taught (λ v _ w. w ≡ let_go_of shared slot v) u 0 back) where
       pub back_view : view back ≡ let_go_of shared slot (holding slot shared value around.looked.0 (view s))
       back_view = lets_go.3 ∙ ap (let_go_of shared slot) looked_view
 
@@ -183,14 +185,14 @@ module _ (b : DomainTable) (slot : ℕ) (shared : Bool) (value : Gv) (s t h : Se
         table = parts.0 ∙ (lets_go.0 ∙ (around.table ∙ (grasps.0 ∙ took.0)));
         number = parts.1 ∙ (lets_go.1 ∙ (around.number ∙ (grasps.1 ∙ took.1)));
         others = parts.2 ∙ (lets_go.2 ∙ (around.others ∙ (grasps.2 ∙ took.2)));
-        view = parts.3 ∙ (ap parting back_view ∙ back_again slot shared value (view s) bare around.looked.0);
+        view = parts.3 ∙ (ap parting back_view ∙ back_again slot shared value (view s) bare closes around.looked.0);
         guarded = is_open;
         sole = knew_sole;
       }
 
       pub same_owner : (views : List Gv) → IsCutOff (view back) views → views ≡ witness_of_owner slot shared value
       same_owner views cut = cut ∙ ap (λ (v : View). the_row.coded.code v ∷ [])
-          (ap departing back_view ∙ owner_again slot shared value (view s) bare around.looked.0)
+          (ap departing back_view ∙ owner_again slot shared value (view s) bare closes around.looked.0)
 
       pub owns_one : ((slots back).owns ≡ slot ∷ []) × ((slots back).drawn ≡ slot ∷ [])
       owns_one = (

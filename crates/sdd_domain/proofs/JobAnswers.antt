@@ -35,7 +35,8 @@ module _ {T J : Type 0} (v : LocalModel T J) (m : LocalState J) (tied : WordsMat
     did_tied one = let lone = lone_before one in tied_deferred v (tied lone) place count job m is lone
 
     did_sound : (holds : T → List OwnerOrCell) → IsSound holds v → IsSound holds after
-    did_sound holds sound = sound_then holds v m sound (ap (λ (y : LocalState J). y.due) is.member ∙ sound.settled) (ap home_in is.member)
+    did_sound holds sound = sound_then holds v m sound (ap (λ (y : LocalState J). y.due) is.member ∙ sound.settled)
+        (ap (λ (y : LocalState J). y.slots.closes) is.member ∙ sound.closes) (ap home_in is.member)
         (λ one. let lone = lone_before one in subst (λ (w : _). IsWhole w) (sym (world_deferred v (tied lone) place count job m is lone))
         (Whole-deferred (world_of v) v.member.place place (live-taken (world_of v).time v.member.place (lives v))
         (empty_before v (tied lone) place count job m is lone) (sound.whole lone)))

@@ -72,7 +72,8 @@ module _ {T J : Type 0} (v : LocalModel T J) (ws : List ℕ) (as_long : length w
 
   -- what is always true is true after it
   pub sound_noted : (holds : T → List OwnerOrCell) → IsSound holds v → IsSound holds (record { member = m; entries = v.entries })
-  sound_noted holds sound = sound_then holds v m sound (ap (λ (y : LocalState J). y.due) is ∙ sound.settled) (ap home_in is)
+  sound_noted holds sound = sound_then holds v m sound (ap (λ (y : LocalState J). y.due) is ∙ sound.settled)
+      (ap (λ (y : LocalState J). y.slots.closes) is ∙ sound.closes) (ap home_in is)
       (λ one. subst (λ (w : World T). IsWhole w) (sym world_noted)
       (Whole-pointers (record (world_of v) { cells = listing v.member.limits.cells (contents_in after) })
       (listing v.member.limits.cells (pointer_in after))

@@ -148,6 +148,10 @@ module _ {J : Type 0} (R : RattleType) (v : LocalModel R.Denot J) (m : LocalStat
     only_looks = dite (dec_lt 0 (times k v.member.slots.sees)) (λ sees. only_by v.member.slots v.member.shown (looks.seen sees).0)
         (λ blind. only_by _ _ (looks.unseen blind))
 
+    pub closes_looks : m.slots.closes ≡ v.member.slots.closes
+    closes_looks = dite (dec_lt 0 (times k v.member.slots.sees)) (λ sees. ap (λ (y : LocalState J). y.slots.closes) (looks.seen sees).0)
+        (λ blind. ap (λ (y : LocalState J). y.slots.closes) (looks.unseen blind))
+
     pub same_world : world_of after ≡ world_of v
     same_world = ap (λ (y : LocalState J). world_of (record { member = y; entries = v.entries })) only_looks
 
@@ -221,7 +225,7 @@ retires_by : {T : Type 0} (w : World T) (p k n : ℕ) (shared : Bool) → n ≡ 
 retires_by w p k n true one = ap (λ (m : ℕ). owner_given w p k (Some (Shared m))) one
 retires_by w p k n false one = refl
 
-none_other : (n : ℕ) (shared : Bool) → n ≡ 1 → has_others (Some (if shared then Shared n else Owned)) ≡ false
+pub none_other : (n : ℕ) (shared : Bool) → n ≡ 1 → has_others (Some (if shared then Shared n else Owned)) ≡ false
 none_other n true one = ap (λ (m : ℕ). has_others (Some (Shared m))) one
 none_other n false one = refl
 
@@ -508,6 +512,10 @@ module _ {T J : Type 0} (v : LocalModel T J) (m : LocalState J) (right : Right) 
   pub went_due : (last : Bool) → Went last → m.due ≡ v.member.due
   went_due true w = ap (λ (y : LocalState J). y.due) w.1.member
   went_due false w = ap (λ (y : LocalState J). y.due) w.1.member
+
+  pub went_closes : (last : Bool) → Went last → m.slots.closes ≡ v.member.slots.closes
+  went_closes true w = ap (λ (y : LocalState J). y.slots.closes) w.1.member
+  went_closes false w = ap (λ (y : LocalState J). y.slots.closes) w.1.member
 
   -- nothing less waits with it
   pub grows_when : (last : Bool) → Went last → KeepsMoreWaiting v.member.own m.own

@@ -136,7 +136,6 @@ module _ (b : DomainTable) (p : ℕ) where
           looked = q.quiet.looked;
           over = q.quiet.over;
           emptied = q.quiet.emptied;
-          closes = q.quiet.closes;
           empties = q.quiet.empties;
           left = q.quiet.left;
         };
@@ -186,7 +185,6 @@ module _ (b : DomainTable) (p : ℕ) where
           looked = q.quiet.looked;
           over = q.quiet.over;
           emptied = q.quiet.emptied;
-          closes = q.quiet.closes;
           empties = q.quiet.empties;
           left = q.quiet.left;
         };
@@ -225,7 +223,6 @@ module _ (b : DomainTable) (p : ℕ) where
       looked = q.quiet.looked;
       over = q.quiet.over;
       emptied = q.quiet.emptied;
-      closes = q.quiet.closes;
       empties = q.quiet.empties;
       left = q.quiet.left;
     };
@@ -277,7 +274,6 @@ module _ (b : DomainTable) (p : ℕ) where
           looked = q.quiet.looked;
           over = q.quiet.over;
           emptied = q.quiet.emptied;
-          closes = q.quiet.closes;
           empties = q.quiet.empties;
           left = q.quiet.left;
         };
@@ -332,7 +328,6 @@ module _ (b : DomainTable) (p : ℕ) where
             looked = q.quiet.looked;
             over = q.quiet.over;
             emptied = q.quiet.emptied;
-            closes = q.quiet.closes;
             empties = q.quiet.empties;
             left = q.quiet.left;
           };
@@ -378,7 +373,6 @@ module _ (b : DomainTable) (p : ℕ) where
           looked = q.quiet.looked;
           over = q.quiet.over;
           emptied = q.quiet.emptied;
-          closes = q.quiet.closes;
           empties = q.quiet.empties;
           left = q.quiet.left;
         };
@@ -481,13 +475,56 @@ module _ (b : DomainTable) (p : ℕ) where
           looked = q.quiet.looked;
           over = q.quiet.over;
           emptied = q.quiet.emptied;
-          closes = q.quiet.closes;
           empties = q.quiet.empties;
           left = q.quiet.left;
         };
         pledges = q.pledges;
         rights = q.rights;
         waiting = q.waiting;
+        room = q.room;
+        pace = q.pace;
+        idle = q.idle;
+      }
+
+  -- what waits with it, privately or not, and what it remembers of that, what it counts, and the words that it knows, are others
+  pub posed_waits : (own : Participant) (s u : Seat ValueFraction View) (ws : List WaitingItem) (ps : List PrivateItem) (rs : List ShownValue)
+      (counts : CountsView) (words : List ℕ) → IsBetweenCalls b p own s → u.table_id ≡ s.table_id → u.me.1 ≡ s.me.1
+      → view u ≡ record (view s) {
+        slots = record (view s).slots { waits = ws; privates = ps };
+        stakes = record (view s).stakes { waits = rs; counts = counts };
+        words = words;
+      } → ((i : ℕ) → 0 < total (waits_in i) ws → i < most_waiting_of b) → IsBetweenCalls b p own u
+  posed_waits own s u ws ps rs counts words q table others is low =
+      subst (λ (w : View). IsBetweenCalls b p own (record u { me = (w, u.me.1) })) (sym is) record {
+        home = table ∙ q.home;
+        purse = subst (λ (xs : CarriedFractions). CarriesSeenOnly (book_of b) (places_of b) p s.me.0.stakes.sees xs) (sym others) q.purse;
+        sight = record { owns = q.sight.owns; sees = q.sight.sees; once = q.sight.once };
+        unseen = q.unseen;
+        rests = q.rests;
+        all = q.all;
+        place = q.place;
+        inside = q.inside;
+        count = q.count;
+        closed = q.closed;
+        opened = q.opened;
+        near = q.near;
+        lone = q.lone;
+        free = q.free;
+        knows = q.knows;
+        found = q.found;
+        quiet = record {
+          owns = q.quiet.owns;
+          drawn = q.quiet.drawn;
+          holds = q.quiet.holds;
+          looked = q.quiet.looked;
+          over = q.quiet.over;
+          emptied = q.quiet.emptied;
+          empties = q.quiet.empties;
+          left = q.quiet.left;
+        };
+        pledges = q.pledges;
+        rights = q.rights;
+        waiting = low;
         room = q.room;
         pace = q.pace;
         idle = q.idle;

@@ -63,7 +63,6 @@ module _ (b : DomainTable) (p : ℕ) (own : Participant) (slot : ℕ) (value : G
       looked = q.quiet.looked;
       over = q.quiet.over;
       emptied = q.quiet.emptied;
-      closes = q.quiet.closes;
       empties = q.quiet.empties;
       left = q.quiet.left;
     };

@@ -39,7 +39,7 @@ use Rattle.sdd_domain.specs.Sound.{IsSound}
 use Rattle.sdd_domain.proofs.Sound.{sound_then, sound_step}
 use Rattle.sdd_domain.proofs.Listings.{listing_at, listing_past, listing_set, listing_same}
 use Rattle.sdd_domain.proofs.Words.{alive_public, public_alike, plain_by, word_same, word_other, stands_owned, stands_claimed, stands_private, stands_raw, stands_retired}
-use Rattle.sdd_domain.proofs.Owning.{low, taken, stands, shown_entry, only_looks, shows_it, keeps_it}
+use Rattle.sdd_domain.proofs.Owning.{low, taken, stands, shown_entry, closes_looks, only_looks, shows_it, keeps_it}
 use Rattle.sdd_domain.proofs.Exact.{lone_is}
 use Rattle.sdd_domain.proofs.Refusals.{words_only, words_undisturbed}
 use Rattle.sdd_domain.proofs.Alone.{cells_kept, pointers_kept}
@@ -234,7 +234,8 @@ module _ {T J : Type 0} (v : LocalModel T J) (m : LocalState J) (k : ℕ) (is : 
   puts_world_alone lone = ap (λ (y : LocalState J). world_of (record { member = y; entries = v.entries })) is ∙ out_world v k tied knows lone
 
   pub puts_sound : (holds : T → List OwnerOrCell) → IsSound holds v → IsSound holds (record { member = m; entries = v.entries })
-  puts_sound holds sound = sound_then holds v m sound (ap (λ (y : LocalState J). y.due) is ∙ sound.settled) (ap home_in is) (λ one.
+  puts_sound holds sound = sound_then holds v m sound (ap (λ (y : LocalState J). y.due) is ∙ sound.settled)
+      (ap (λ (y : LocalState J). y.slots.closes) is ∙ sound.closes) (ap home_in is) (λ one.
       let lone : IsLone v.member = sym (ap (λ (y : LocalState J). y.limits.participants) is) ∙ one in
       subst (λ (w : World T). IsWhole w) (sym (puts_world_alone lone))
       (Whole-restands (world_of v) k Raw (ap is_out (out_stood v k tied knows lone)) refl (sound.whole lone)))
@@ -284,7 +285,8 @@ module _ {T J : Type 0} (v : LocalModel T J) (m : LocalState J) (slot : ℕ) (ti
   pub takes_sound : (holds : T → List OwnerOrCell) → IsSound holds v → (r : Option Right) → TakesOrNot v m slot r
       → IsSound holds (record { member = m; entries = v.entries })
   takes_sound holds sound None a = subst (λ (y : LocalState J). IsSound holds (record { member = y; entries = v.entries })) (sym a.0) sound
-  takes_sound holds sound (Some right) a = sound_then holds v m sound (ap (λ (y : LocalState J). y.due) a.2 ∙ sound.settled) (ap home_in a.2) (λ one.
+  takes_sound holds sound (Some right) a = sound_then holds v m sound (ap (λ (y : LocalState J). y.due) a.2 ∙ sound.settled)
+      (ap (λ (y : LocalState J). y.slots.closes) a.2 ∙ sound.closes) (ap home_in a.2) (λ one.
       let lone : IsLone v.member = sym (ap (λ (y : LocalState J). y.limits.participants) a.2) ∙ one in
       let knows : IsLone v.member → (g : Gv) × KnowsRaw v.member slot g = λ lone. (a.3.0, a.3.2 lone) in
       subst (λ (w : World T). IsWhole w) (sym (ap (λ (y : LocalState J). world_of (record { member = y; entries = v.entries })) a.2
@@ -332,12 +334,17 @@ module _ {J : Type 0} (R : RattleType) (holds : R.Denot → List OwnerOrCell) (v
   looks_only None a = a.0 ∙ (λ d. record v.member { slots = (sym a.0 d).slots; shown = (sym a.0 d).shown })
   looks_only (Some x) a = only_looks R v m slot false x.now a.1
 
+  looks_closes : (r : Option (Bor R.Denot)) → LooksOrNot R holds v m slot r → m.slots.closes ≡ v.member.slots.closes
+  looks_closes None a = ap (λ (y : LocalState J). y.slots.closes) a.0
+  looks_closes (Some x) a = closes_looks R v m slot false x.now a.1
+
   looks_world : (r : Option (Bor R.Denot)) → LooksOrNot R holds v m slot r → world_of after ≡ world_of v
   looks_world r a = ap (λ (y : LocalState J). world_of (record { member = y; entries = v.entries })) (looks_only r a)
 
   -- the invariant, what is shown, what is left alone, and the world
   pub looks_sound : IsSound holds v → (r : Option (Bor R.Denot)) → LooksOrNot R holds v m slot r → IsSound holds after
   looks_sound whole r a = sound_step holds v m whole (λ w _. w) (λ w _ _ i. i) (ap (λ (y : LocalState J). y.due) (looks_only r a))
+      (looks_closes r a)
       (ap home_in (looks_only r a)) (λ _. looks_world r a)
 
   looks_keeps : (r : Option (Bor R.Denot)) → LooksOrNot R holds v m slot r → KeepsShown (Shows (showing R) holds v) (Shows (showing R) holds after)

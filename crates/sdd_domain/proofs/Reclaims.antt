@@ -1,7 +1,7 @@
 -- What is due comes first of all that has seen three changes, and the rest goes on waiting
-use Rattle.std.proofs.Common.{◌≡◌, ◌≢◌, ◌⊎◌, ℕ, suc, ◌+◌, ◌-◌, ◌<◌, ◌≤◌, ◌==◌, not, nat_lt, List, [], ◌∷◌, map, filter, sym, refl, ap, ◌∙◌, inl, inr, ⊎_elim, eq-eqb, ne_eqb, arith}
+use Rattle.std.proofs.Common.{◌≡◌, ◌≢◌, ◌⊎◌, ℕ, zero, suc, ◌+◌, ◌-◌, ◌<◌, ◌≤◌, ◌==◌, not, nat_lt, List, [], ◌∷◌, map, filter, sym, refl, ap, ◌∙◌, inl, inr, ⊎_elim, eq-eqb, ne_eqb, arith}
 use mathlib.Core.Bool.{Bool, true, false, cond}
-use mathlib.Core.Option.{some}
+use mathlib.Core.Option.{some, some-injective, some-ne-none}
 use mathlib.Core.Logic.{dite}
 use native.Mathlib.Decide.{dec_lt}
 use lib.ListN.{get_elem?}
@@ -13,7 +13,9 @@ use Rattle.sdd_word_invariant.specs.Sums.{total}
 use Rattle.sdd_word_invariant.specs.Slots.{waits_in}
 use Rattle.sdd_word_invariant.specs.SlotSteps.{older, without_item}
 use Rattle.sdd_word_invariant.proofs.Sums.{is_same, is_other, total_has}
+use Rattle.sdd_domain.specs.InBags.{Kept, item_of}
 use Rattle.sdd_domain.specs.WaitingItems.{what_of, number_in, waiting_of, is_ripe, ripe, unripe}
+use Rattle.sdd_domain.proofs.KeptLists.{filter_alike, filter_true, left_kept, total_of_map}
 
 pub either_way : (b : Bool) → (b ≡ true) ⊎ (b ≡ false)
 either_way true = inl refl
@@ -40,12 +42,21 @@ place_in : LimboEntry → ℕ
 place_in (Item slot) = 0
 place_in (Job place) = place
 
+-- all but those of a slot
+abbrev pub others_than : ℕ → List Kept → List Kept
+others_than slot = left_kept (λ (x : WaitingItem). not (x.slot == slot))
+
 -- where no item of a slot waits none is taken out
-none_out : (slot : ℕ) (xs : List WaitingItem) → total (waits_in slot) xs ≡ 0 → without_item slot xs ≡ xs
+none_out : (slot : ℕ) (xs : List Kept) → total (waits_in slot) (map item_of xs) ≡ 0 → others_than slot xs ≡ xs
 none_out slot [] e = refl
 none_out slot (x ∷ xs) e = let r = none_out slot xs (omega arith) in
-    let ne : x.slot ≢ slot = λ same. let i = is_same slot x.slot same in omega arith in
-    ap (λ (b : Bool). cond (not b) (x ∷ without_item slot xs) (without_item slot xs)) (ne_eqb x.slot slot ne) ∙ ap (λ (l : List WaitingItem). x ∷ l) r
+    let ne : (item_of x).slot ≢ slot = λ same. let i = is_same slot (item_of x).slot same in omega arith in
+    ap (λ (b : Bool). cond (not b) (x ∷ others_than slot xs) (others_than slot xs)) (ne_eqb (item_of x).slot slot ne) ∙ ap (λ (l : List Kept). x ∷ l) r
+
+-- one that waits is counted
+pub kept_has : (slot : ℕ) (xs : List Kept) (k : ℕ) (x : Kept) → get_elem? xs k ≡ some x → (item_of x).slot ≡ slot → 1 ≤ total (waits_in slot) (map item_of xs)
+kept_has slot xs k x at same = let t = total_of_map item_of (waits_in slot) xs in let h = total_has (λ (y : Kept). waits_in slot (item_of y)) xs k x at in
+    let i = is_same slot (item_of x).slot same in omega arith
 
 -- no more wait of any slot
 pub no_more : (slot i : ℕ) (xs : List WaitingItem) → total (waits_in i) (without_item slot xs) ≤ total (waits_in i) xs
@@ -87,59 +98,74 @@ module _ (n : ℕ) where
   due_alike (x ∷ xs) = map_cond (λ (w : Waiting). w.what) (is_ripe x) (waiting_of n x) (filter (λ (w : Waiting). nat_lt 2 w.seen) (map (waiting_of n) xs))
       ∙ (ap (λ (l : List LimboEntry). cond (is_ripe x) (what_of n x ∷ l) l) (due_alike xs) ∙ sym (map_cond (what_of n) (is_ripe x) x (ripe xs)))
 
-  -- the first that is due is one of those that wait
-  pub first_is_due : (w : LimboEntry) (rest : List LimboEntry) (xs : List WaitingItem) → map (what_of n) (ripe xs) ≡ w ∷ rest
-      → (k : ℕ) × (x : WaitingItem) × (get_elem? xs k ≡ some x) × (x.slot ≡ number_in n w) × (3 ≤ x.changes)
-  unfolding head_number
-  first_is_due w rest [] e = absurd cc
-  first_is_due w rest (x ∷ xs) e = ⊎_elim
-      (λ (t : is_ripe x ≡ true). let h : map (what_of n) (x ∷ ripe xs) ≡ w ∷ rest
-      = ap (λ (b : Bool). map (what_of n) (cond b (x ∷ ripe xs) (ripe xs))) (sym t) ∙ e in
-      (0, x, refl, sym (number_of x) ∙ ap (head_number n) h, grind arith))
-      (λ (t : is_ripe x ≡ false). let h : map (what_of n) (ripe xs) ≡ w ∷ rest
-      = ap (λ (b : Bool). map (what_of n) (cond b (x ∷ ripe xs) (ripe xs))) (sym t) ∙ e in
-      let r = first_is_due w rest xs h in (suc r.0, r.1, r.2, r.3, r.4))
-      (either_way (is_ripe x))
+  -- ---- what is due, by some test
+  module _ (p : Kept → Bool) where
+    by_place : (y : Kept) (xs : List Kept) → p y ≡ false → ((k : ℕ) (x : Kept) → get_elem? xs k ≡ some x → p x ≡ false) → (k : ℕ) (x : Kept)
+        → get_elem? (y ∷ xs) k ≡ some x → p x ≡ false
+    by_place y xs t rest zero x at = ap p (sym (some-injective y x at)) ∙ t
+    by_place y xs t rest (suc k) x at = rest k x at
 
-  -- the first that is due goes, and nothing else
-  pub first_goes : (w : LimboEntry) (rest : List LimboEntry) (xs : List WaitingItem) → map (what_of n) (ripe xs) ≡ w ∷ rest
-      → total (waits_in (number_in n w)) xs ≡ 1
-      → (map (what_of n) (ripe (without_item (number_in n w) xs)) ≡ rest) × (unripe (without_item (number_in n w) xs) ≡ unripe xs)
-  unfolding head_number tail_of
-  first_goes w rest [] e once = absurd cc
-  first_goes w rest (x ∷ xs) e once = let slot : ℕ = number_in n w in let gone : List WaitingItem = without_item slot xs in ⊎_elim
-      (λ (t : is_ripe x ≡ true). let h : map (what_of n) (x ∷ ripe xs) ≡ w ∷ rest
-      = ap (λ (b : Bool). map (what_of n) (cond b (x ∷ ripe xs) (ripe xs))) (sym t) ∙ e in
-      let same : x.slot ≡ slot = sym (number_of x) ∙ ap (head_number n) h in let i = is_same slot x.slot same in
-      let out : without_item slot (x ∷ xs) ≡ xs
-      = ap (λ (b : Bool). cond (not b) (x ∷ gone) gone) (eq-eqb x.slot slot same) ∙ none_out slot xs (omega arith) in (
-        ap (λ (l : List WaitingItem). map (what_of n) (ripe l)) out ∙ ap tail_of h,
-        ap unripe out ∙ ap (λ (b : Bool). cond (not b) (x ∷ unripe xs) (unripe xs)) (sym t),
-      ))
-      (λ (t : is_ripe x ≡ false). let h : map (what_of n) (ripe xs) ≡ w ∷ rest
-      = ap (λ (b : Bool). map (what_of n) (cond b (x ∷ ripe xs) (ripe xs))) (sym t) ∙ e in
-      let one = first_is_due w rest xs h in
-      let here = total_has (waits_in slot) xs one.0 one.1 one.2 in let i = is_same slot one.1.slot one.3 in
-      let ne : x.slot ≢ slot = λ same. let j = is_same slot x.slot same in omega arith in
-      let j = is_other slot x.slot ne in
-      let r = first_goes w rest xs h (omega arith) in
-      let stays : without_item slot (x ∷ xs) ≡ x ∷ gone = ap (λ (b : Bool). cond (not b) (x ∷ gone) gone) (ne_eqb x.slot slot ne) in (
-        ap (λ (l : List WaitingItem). map (what_of n) (ripe l)) stays
-            ∙ (ap (λ (b : Bool). map (what_of n) (cond b (x ∷ ripe gone) (ripe gone))) t ∙ r.0),
-        ap unripe stays ∙ ap (λ (l : List WaitingItem). cond (not (is_ripe x)) (x ∷ l) l) r.1,
-      ))
-      (either_way (is_ripe x))
+    abbrev pub due_by : List Kept → List LimboEntry
+    due_by xs = map (what_of n) (map item_of (filter p xs))
 
-  -- where nothing is due all goes on waiting
-  pub all_left : (xs : List WaitingItem) → map (what_of n) (ripe xs) ≡ [] → unripe xs ≡ xs
-  all_left [] e = refl
-  all_left (x ∷ xs) e = ⊎_elim
-      (λ (t : is_ripe x ≡ true). let h : map (what_of n) (x ∷ ripe xs) ≡ []
-      = ap (λ (b : Bool). map (what_of n) (cond b (x ∷ ripe xs) (ripe xs))) (sym t) ∙ e in absurd cc)
-      (λ (t : is_ripe x ≡ false). let h : map (what_of n) (ripe xs) ≡ []
-      = ap (λ (b : Bool). map (what_of n) (cond b (x ∷ ripe xs) (ripe xs))) (sym t) ∙ e in
-      ap (λ (b : Bool). cond (not b) (x ∷ unripe xs) (unripe xs)) t ∙ ap (λ (l : List WaitingItem). x ∷ l) (all_left xs h))
-      (either_way (is_ripe x))
+    abbrev pub others_by : List Kept → List Kept
+    others_by = filter (λ (x : Kept). not (p x))
+
+    -- the first that is due is one of those that wait
+    pub first_is_due : (w : LimboEntry) (rest : List LimboEntry) (xs : List Kept) → due_by xs ≡ w ∷ rest
+        → (k : ℕ) × (x : Kept) × (get_elem? xs k ≡ some x) × ((item_of x).slot ≡ number_in n w) × (p x ≡ true)
+    unfolding head_number
+    first_is_due w rest [] e = absurd cc
+    first_is_due w rest (x ∷ xs) e = ⊎_elim
+        (λ (t : p x ≡ true). let h : map (what_of n) (item_of x ∷ map item_of (filter p xs)) ≡ w ∷ rest
+        = ap (λ (b : Bool). map (what_of n) (map item_of (cond b (x ∷ filter p xs) (filter p xs)))) (sym t) ∙ e in
+        (0, x, refl, sym (number_of (item_of x)) ∙ ap (head_number n) h, t))
+        (λ (t : p x ≡ false). let h : due_by xs ≡ w ∷ rest
+        = ap (λ (b : Bool). map (what_of n) (map item_of (cond b (x ∷ filter p xs) (filter p xs)))) (sym t) ∙ e in
+        let r = first_is_due w rest xs h in (suc r.0, r.1, r.2, r.3, r.4))
+        (either_way (p x))
+
+    -- the first that is due goes, and nothing else
+    pub first_goes : (w : LimboEntry) (rest : List LimboEntry) (xs : List Kept) → due_by xs ≡ w ∷ rest → total (waits_in (number_in n w)) (map item_of xs) ≡ 1
+        → (due_by (others_than (number_in n w) xs) ≡ rest) × (others_by (others_than (number_in n w) xs) ≡ others_by xs)
+    unfolding head_number tail_of
+    first_goes w rest [] e once = absurd cc
+    first_goes w rest (x ∷ xs) e once = let slot : ℕ = number_in n w in let gone : List Kept = others_than slot xs in let at : ℕ = (item_of x).slot in ⊎_elim
+        (λ (t : p x ≡ true). let h : map (what_of n) (item_of x ∷ map item_of (filter p xs)) ≡ w ∷ rest
+        = ap (λ (b : Bool). map (what_of n) (map item_of (cond b (x ∷ filter p xs) (filter p xs)))) (sym t) ∙ e in
+        let same : at ≡ slot = sym (number_of (item_of x)) ∙ ap (head_number n) h in let i = is_same slot at same in
+        let out : others_than slot (x ∷ xs) ≡ xs
+        = ap (λ (b : Bool). cond (not b) (x ∷ gone) gone) (eq-eqb at slot same) ∙ none_out slot xs (omega arith) in (
+          ap due_by out ∙ ap tail_of h,
+          ap others_by out ∙ ap (λ (b : Bool). cond (not b) (x ∷ others_by xs) (others_by xs)) (sym t),
+        ))
+        (λ (t : p x ≡ false). let h : due_by xs ≡ w ∷ rest
+        = ap (λ (b : Bool). map (what_of n) (map item_of (cond b (x ∷ filter p xs) (filter p xs)))) (sym t) ∙ e in
+        let one = first_is_due w rest xs h in
+        let here = kept_has slot xs one.0 one.1 one.2 one.3 in
+        let ne : at ≢ slot = λ same. let j = is_same slot at same in omega arith in
+        let j = is_other slot at ne in
+        let r = first_goes w rest xs h (omega arith) in
+        let stays : others_than slot (x ∷ xs) ≡ x ∷ gone = ap (λ (b : Bool). cond (not b) (x ∷ gone) gone) (ne_eqb at slot ne) in (
+          ap due_by stays
+              ∙ (ap (λ (b : Bool). map (what_of n) (map item_of (cond b (x ∷ filter p gone) (filter p gone)))) t ∙ r.0),
+          ap others_by stays ∙ ap (λ (l : List Kept). cond (not (p x)) (x ∷ l) l) r.1,
+        ))
+        (either_way (p x))
+
+    -- where nothing is due, nothing passes the test, and all goes on waiting
+    pub none_passes : (xs : List Kept) → due_by xs ≡ [] → (k : ℕ) (x : Kept) → get_elem? xs k ≡ some x → p x ≡ false
+    none_passes [] e k x at = absurd (some-ne-none x (sym at))
+    none_passes (y ∷ xs) e k x at = ⊎_elim
+        (λ (t : p y ≡ true). let h : map (what_of n) (item_of y ∷ map item_of (filter p xs)) ≡ []
+        = ap (λ (b : Bool). map (what_of n) (map item_of (cond b (y ∷ filter p xs) (filter p xs)))) (sym t) ∙ e in absurd cc)
+        (λ (t : p y ≡ false). let h : due_by xs ≡ []
+        = ap (λ (b : Bool). map (what_of n) (map item_of (cond b (y ∷ filter p xs) (filter p xs)))) (sym t) ∙ e in
+        by_place y xs t (none_passes xs h) k x at)
+        (either_way (p y))
+
+    pub all_left : (xs : List Kept) → due_by xs ≡ [] → others_by xs ≡ xs
+    all_left xs e = filter_alike (λ (x : Kept). not (p x)) (λ (x : Kept). true) xs (λ k x at. ap not (none_passes xs e k x at)) ∙ filter_true xs
 
   -- the slot of the first one that is an item is one of the slots
   pub item_inside : (slot : ℕ) (rest : List LimboEntry) (xs : List WaitingItem) → map (what_of n) xs ≡ Item slot ∷ rest → slot < n
@@ -148,14 +174,3 @@ module _ (n : ℕ) where
   item_inside slot rest (x ∷ xs) e = let first : what_of n x ≡ Item slot = ap (head_of (what_of n x)) e in
       dite (dec_lt x.slot n) (λ low. let s = number_of x in let t = ap (number_in n) first in omega arith)
       (λ high. absurd (let other : Job (x.slot - n) ≡ Item slot = sym (what_job x (omega arith)) ∙ first in cc))
-
-  -- where the first one is a job its number is one of those behind the slots
-  pub waiting_inside : (most : ℕ) (w : LimboEntry) (rest : List LimboEntry) (xs : List WaitingItem) → map (what_of n) (ripe xs) ≡ w ∷ rest
-      → ((i : ℕ) → 0 < total (waits_in i) xs → i < most) → number_in n w < most
-  waiting_inside most w rest xs e inside = let one = first_is_due w rest xs e in
-      inside (number_in n w) (let here = total_has (waits_in (number_in n w)) xs one.0 one.1 one.2 in
-      let i = is_same (number_in n w) one.1.slot one.3 in omega arith)
-
-  pub none_ripe : (xs : List WaitingItem) → map (what_of n) xs ≡ [] → xs ≡ []
-  none_ripe [] e = refl
-  none_ripe (x ∷ xs) e = absurd cc

@@ -59,6 +59,7 @@ module _ {T J : Type 0} (v : LocalModel T J) (m : LocalState J) (es : Entries T)
   pub back_sound : (holds : T → List OwnerOrCell) → IsSound holds v → IsSound holds later
   back_sound holds sound = record {
     settled = ap (λ (y : LocalState J). y.due) is.only ∙ sound.settled;
+    closes = ap (λ (y : LocalState J). y.slots.closes) is.only ∙ sound.closes;
     home = λ place value g there. subst (λ h. AreOf h (holds value)) (sym (ap home_in is.only))
         (sound.home place value g (ap (λ (l : Entries T). slice_index_or l place None) (sym is.entries) ∙ there));
     whole = λ one. let lone = lone_before one in subst (λ (w : _). IsWhole w) (sym (back_world lone)) (sound.whole lone);

@@ -80,7 +80,7 @@ module _ {T J : Type 0} (home : TableId) (book : ℕ) (most : Limits) (m : Local
     jobs = λ j l. subst (λ (z : ℕ × Option J). MatchesPlace z.0 z.1)
         (λ d. (sym (word_free (place_number m j)) d, sym (ap (λ ps. entry_at ps j) is.jobs ∙ blank-at most.jobs j) d)) refl;
     bags = subst (λ (z : SlotsView × Participant × List LimboEntry). AreInBags m.limits.slots (known_waiting z.0) z.1.bags.waiting z.2)
-        (λ d. (sym is.slots d, sym is.own d, sym is.due d)) (nothing_known m.limits.slots);
+        (λ d. (sym is.slots d, sym is.own d, sym is.due d)) (nothing_known m.limits.slots None);
     now = λ some_open. absurd (let g = ap (λ (p : Participant). p.guards) is.own in omega arith);
   }
 

@@ -28,6 +28,7 @@ module _ {J : Type 0} where
     member = same ∙ (λ d. record a { slots = (sym same d).slots; shown = (sym same d).shown });
     waits = ap (λ (m : LocalState J). m.slots.waits) same;
     privates = ap (λ (m : LocalState J). m.slots.privates) same;
+    closes = ap (λ (m : LocalState J). m.slots.closes) same;
     keeps = λ slot value. subst (λ (m : LocalState J). IsIn m.shown slot value) (sym same);
     once = inl same;
   }
@@ -37,6 +38,7 @@ module _ {J : Type 0} where
     member = second.member ∙ ap (λ (m : LocalState J). record m { slots = c.slots; shown = c.shown }) first.member;
     waits = second.waits ∙ first.waits;
     privates = second.privates ∙ first.privates;
+    closes = second.closes ∙ first.closes;
     keeps = λ slot value is. second.keeps slot value (first.keeps slot value is);
     once = ⊎_elim (λ (same : c ≡ b). ⊎_elim (λ (still : b ≡ a). inl (same ∙ still)) (λ (one : IsOnce b.shown).
         inr (subst (λ (m : LocalState J). IsOnce m.shown) (sym same) one)) first.once) (λ (one : IsOnce c.shown). inr one) second.once;
@@ -52,6 +54,7 @@ module _ {J : Type 0} where
             member = is ∙ (λ d. record a { slots = (sym is d).slots; shown = (sym is d).shown });
             waits = ap (λ (m : LocalState J). m.slots.waits) is;
             privates = ap (λ (m : LocalState J). m.slots.privates) is;
+            closes = ap (λ (m : LocalState J). m.slots.closes) is;
             keeps = λ i g there. subst (λ (m : LocalState J). IsIn m.shown i g) (sym is) (in_tail r a.shown i g there);
             once = inr once;
           },

@@ -23,6 +23,7 @@ use Rattle.sdd_participants.specs.declared.place_states.PlaceState.TheVariants.{
 use Rattle.sdd_participants.specs.declared.standing.Standing.{Standing}
 use Rattle.sdd_participants.specs.declared.tally.Tally.{Tally}
 use Rattle.sdd_participants.specs.declared.participant.Participant.{Participant}
+use Rattle.sdd_views.specs.declared.SlotsView.{SlotsView}
 use Rattle.sdd_core.specs.declared.limits.Limits.{Limits}
 use Rattle.sdd_space.specs.OwnerOrCell.{SpaceId, OwnerOrCell, AreOf}
 use Rattle.sdd_space.specs.World.{World, AnyGuardOpen, standing_at}
@@ -41,7 +42,7 @@ use Rattle.sdd_domain.proofs.Listings.{listing_at, listing_past}
 use Rattle.sdd_domain.specs.Laws.{own_is_place}
 use Rattle.sdd_domain.specs.Sound.{IsSound}
 use Rattle.sdd_domain.proofs.Makes.{Answers, makes_world}
-use Rattle.sdd_domain.proofs.Owning.{went_due, went_home, went_limits, release_world}
+use Rattle.sdd_domain.proofs.Owning.{went_closes, went_due, went_home, went_limits, release_world}
 use Rattle.sdd_domain.proofs.Registered.{blank_new}
 
 no_guards : (own : Participant) → time.is_open own ≡ false → own.guards ≡ 0
@@ -164,31 +165,34 @@ module _ {T : Type 0} where
       → es ≡ replicate most.slots None → IsSound holds (record { member = m; entries = es })
   sound_new holds home book most m es is none = record {
     settled = is.due;
+    closes = ap (λ (s : SlotsView). s.closes) is.slots;
     home = λ place value g there. absurd (none-some (sym (ap (λ (l : Entries T). slice_index_or l place None) none ∙ blank-at most.slots place) ∙ there));
     whole = λ one. whole_blank most (world_of (record { member = m; entries = es })) (blank_new home book most m es is none one);
   }
 
   module _ {J : Type 0} (holds : T → List OwnerOrCell) (v : LocalModel T J) (m : LocalState J) (sound : IsSound holds v) where
     -- what becomes of a participant whose entries stay
-    pub sound_then : m.due ≡ [] → home_in m ≡ home_in v.member → (IsLone m → IsWhole (world_of (record v { member = m }))) → IsSound holds
+    pub sound_then : m.due ≡ [] → m.slots.closes ≡ None → home_in m ≡ home_in v.member → (IsLone m → IsWhole (world_of (record v { member = m }))) → IsSound holds
         (record v { member = m })
-    sound_then settled home whole = record {
+    sound_then settled closes home whole = record {
       settled = settled;
+      closes = closes;
       home = λ place value g there. subst (λ (h : SpaceId). AreOf h (holds value)) (sym home) (sound.home place value g there);
       whole = whole;
     }
 
     pub sound_step : (step : World T → ℕ → World T) → ((w : World T) (k : ℕ) → IsLive w.time k → IsWhole w → IsWhole (step w k))
-        → m.due ≡ v.member.due → home_in m ≡ home_in v.member
+        → m.due ≡ v.member.due → m.slots.closes ≡ v.member.slots.closes → home_in m ≡ home_in v.member
         → (IsLone v.member → world_of (record v { member = m }) ≡ step (world_of v) v.member.place) → IsSound holds (record v { member = m })
-    sound_step step keeps due home same = sound_then (due ∙ sound.settled) home
+    sound_step step keeps due closes home same = sound_then (due ∙ sound.settled) (closes ∙ sound.closes) home
         (λ one. let lone : IsLone v.member = ap (λ (h : SpaceId). h.readers.size) (sym home) ∙ one in
         whole_by v (record v { member = m }) step keeps (same lone) (sound.whole lone))
 
     pub sound_release : (right : Right) (tied : WordsMatchValues v.member v.entries)
         (knows : IsLone v.member → (g : Gv) × KnowsOwner v.member (number_of right) (is_shared (kind_of right)) g)
         (last : Bool) → OwnerGoes (number_of right) (is_shared (kind_of right)) last v.member m → IsSound holds (record v { member = m })
-    sound_release right tied knows last went = sound_then (went_due v m right tied knows last went ∙ sound.settled) (went_home v m right tied knows last went)
+    sound_release right tied knows last went = sound_then (went_due v m right tied knows last went ∙ sound.settled)
+        (went_closes v m right tied knows last went ∙ sound.closes) (went_home v m right tied knows last went)
         (λ one. let lone : IsLone v.member = sym (ap (λ (l : Limits). l.participants) (went_limits v m right tied knows last went)) ∙ one in
         let w : World T = world_of v in
         subst (λ (u : World T). IsWhole u) (sym (release_world v m right tied knows last went v refl (lone_true v.member lone)))
@@ -196,9 +200,9 @@ module _ {T : Type 0} where
         (sound.whole lone)))
 
     -- an opening
-    pub sound_opened : m.due ≡ [] → home_in m ≡ home_in v.member
+    pub sound_opened : m.due ≡ [] → m.slots.closes ≡ None → home_in m ≡ home_in v.member
         → (IsLone v.member → world_of (record v { member = m }) ≡ opened holds (world_of v) v.member.place) → IsSound holds (record v { member = m })
-    sound_opened due home same = sound_then due home
+    sound_opened due closes home same = sound_then due closes home
         (λ one. let lone : IsLone v.member = ap (λ (h : SpaceId). h.readers.size) (sym home) ∙ one in
         whole_by v (record v { member = m }) (opened holds) (Whole-opened holds) (same lone) (sound.whole lone))
 
@@ -246,6 +250,7 @@ module _ {J : Type 0} (R : RattleType) (holds : R.Denot → List OwnerOrCell) (v
       → AreOf (home_in v.member) (holds x) → WordsMatchValues v.member v.entries → IsSound holds v → IsSound holds (record { member = m; entries = es })
   sound_makes x k makes entered at tied sound = let home : home_in m ≡ home_in v.member = ap home_in makes.member in record {
     settled = ap (λ (z : LocalState J). z.due) makes.member ∙ sound.settled;
+    closes = ap (λ (z : LocalState J). z.slots.closes) makes.member ∙ sound.closes;
     home = entered_home R holds v m es k x entered (subst (λ (h : SpaceId). AreOf h (holds x)) (sym home) at) home sound;
     whole = λ one. let lone : IsLone v.member = sym (ap (λ (z : LocalState J). z.limits.participants) makes.member) ∙ one in
         let w = makes_world R v m es kind x k makes entered tied lone in

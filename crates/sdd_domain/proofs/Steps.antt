@@ -60,7 +60,7 @@ module _ {T J : Type 0} (v : LocalModel T J) (m : LocalState J) (more : SeesMore
     table = t.table;
     jobs = t.jobs;
     bags = subst (λ (k : KnownWaiting). AreInBags v.member.limits.slots k v.member.own.bags.waiting v.member.due)
-        (λ d. record { plain = sym more.waits d; private = sym more.privates d }) t.bags;
+        (λ d. record { plain = sym more.waits d; private = sym more.privates d; closes = sym more.closes d }) t.bags;
     now = t.now;
   }
 
@@ -139,7 +139,8 @@ module _ {T J : Type 0} (shown : T → Gv) (holds : T → List OwnerOrCell) wher
     pub sees_step : SeesMore v.member m → IsStep v now
     sees_step more = record {
       tied = sees_tied v m more;
-      sound = λ _ s. sound_step holds v m s (λ w _. w) (λ w _ _ whole. whole) (ap (λ (y : LocalState J). y.due) more.member) (ap home_in more.member)
+      sound = λ _ s. sound_step holds v m s (λ w _. w) (λ w _ _ whole. whole) (ap (λ (y : LocalState J). y.due) more.member)
+          more.closes (ap home_in more.member)
           (λ _. sees_world v m more);
       quiet = λ _. record {
         seat = ap seat_in more.member;

@@ -1,12 +1,12 @@
 -- Tallies of what a participant knows, and of all receipts together
-use Rattle.std.proofs.Common.{◌≡◌, ℕ, zero, suc, ◌+◌, List, [], ◌∷◌, ◌++◌, All, map, sum, refl, ap, ◌∙◌, arith}
+use Rattle.std.proofs.Common.{◌≡◌, ℕ, zero, suc, ◌+◌, ◌-◌, ◌≤◌, List, [], ◌∷◌, ◌++◌, All, map, sum, refl, ap, ◌∙◌, arith}
 use Rattle.std.proofs.lemmas.List.Sums.{sum_by-cons}
 use Rattle.sdd_participants.specs.declared.tally.Tally.{Tally}
 use Rattle.sdd_participants.specs.Tally.{one_more, one_made, one_reclaimed, one_in_place}
 use Rattle.sdd_views.specs.declared.CountsView.{CountsView}
 use Rattle.sdd_views.specs.Views.{no_counts}
 use Rattle.sdd_domain_invariant.specs.FractionSteps.{counts_added}
-use Rattle.sdd_domain.specs.Receipt.{Receipt, capped, sum_of, with_reclaimed, IsTallied, AddsUp, HasTaken, made_in, reclaimed_in, in_place_in}
+use Rattle.sdd_domain.specs.Receipt.{Receipt, capped, most_counted, sum_of, with_reclaimed, IsTallied, AddsUp, HasTaken, made_in, reclaimed_in, in_place_in}
 
 -- an item more
 pub tallied_made : (t : Tally) (c : CountsView) → IsTallied 0 t c → IsTallied 0 (one_made t) (record c { made = c.made + 1 })
@@ -38,6 +38,14 @@ many_more (suc m) zero k t both = ap (λ (j : ℕ). with_reclaimed j t) (let e :
 many_more (suc m) (suc n) k t both =
     (λ d. record t { reclaimed = (let e : capped (capped (t.reclaimed + suc m) + suc n) ≡ capped (t.reclaimed + suc (m + suc n)) = omega arith in e d) })
     ∙ ap (λ (j : ℕ). with_reclaimed j t) (let e : suc (m + suc n) ≡ k = omega arith in e)
+
+-- what a tally counts more after so many is how many were counted
+pub counted_more : (gone more : ℕ) (t : Tally) → t.reclaimed ≤ most_counted → more ≡ (with_reclaimed gone t).reclaimed - t.reclaimed
+    → with_reclaimed more t ≡ with_reclaimed gone t
+counted_more zero more t low is = ap (λ (k : ℕ). with_reclaimed k t) (let e : more ≡ 0 = omega arith in e)
+counted_more (suc n) zero t low is = λ d. record t { reclaimed = (let e : t.reclaimed ≡ capped (t.reclaimed + suc n) = omega arith in e d) }
+counted_more (suc n) (suc k) t low is =
+    λ d. record t { reclaimed = (let e : capped (t.reclaimed + suc k) ≡ capped (t.reclaimed + suc n) = omega arith in e d) }
 
 pub none_taken : HasTaken [] no_counts
 none_taken = record { over = refl; made = λ _. refl; few = omega arith; reclaimed = λ _. refl; in_place = λ _. refl }

@@ -12,7 +12,7 @@ use Rattle.sdd_word_invariant.specs.Slots.{waits_in}
 use Rattle.sdd_atomics.specs.declared.domain_table.DomainTable.{DomainTable}
 use Rattle.sdd_atomics.specs.DomainTable.{id_of, sizes_of, book_of}
 use Rattle.sdd_domain.specs.DueItems.{Pending}
-use Rattle.sdd_domain.specs.InBags.{AreInBags, KnownWaiting}
+use Rattle.sdd_domain.specs.InBags.{AreInBags, KnownWaiting, TellsCollectors}
 use Rattle.sdd_domain.specs.BetweenCalls.{CarriesSeenOnly, IsBetweenCalls, IsReady}
 
 -- two boards of the same words, sizes and book
@@ -44,11 +44,11 @@ module _ (b d : DomainTable) (ids : id_of b ≡ id_of d) (sizes : sizes_of b ≡
     idle = q.idle;
   }
 
-  pub ready_on : {J : Type 0} (own : Participant) (pending : Pending) (known : ℕ) (table : List (Option J)) (waits : KnownWaiting)
-      → IsReady b own pending known table waits → IsReady d own pending known table waits
-  ready_on own pending known table waits r = record {
+  pub ready_on : {J : Type 0} (own : Participant) (pending : Pending) (known : ℕ) (table : List (Option J)) (collectors : List (Option ℕ))
+      (waits : KnownWaiting) → IsReady b own pending known table collectors waits → IsReady d own pending known table collectors waits
+  ready_on own pending known table collectors waits r = record {
     bags = subst (λ (z : Sizes). AreInBags z.slots waits own.bags.waiting pending.items) sizes r.bags;
-    uncollected = r.uncollected;
+    told = subst (λ (z : Sizes). TellsCollectors z.slots collectors waits.private) sizes r.told;
     large = r.large;
     slots = r.slots ∙ ap (λ (z : Sizes). z.slots) sizes;
     places = r.places ∙ ap (λ (z : Sizes). z.jobs) sizes;

@@ -25,7 +25,7 @@ use Rattle.sdd_domain.specs.SeenSlots.{IsOnce}
 use Rattle.sdd_atomics.specs.declared.domain_table.DomainTable.{DomainTable}
 use Rattle.sdd_atomics.specs.DomainTable.{id_of, sizes_of, book_of, places_of, slots_of, most_waiting_of}
 use Rattle.sdd_domain.specs.DueItems.{Pending}
-use Rattle.sdd_domain.specs.InBags.{AreInBags, KnownWaiting}
+use Rattle.sdd_domain.specs.InBags.{AreInBags, KnownWaiting, TellsCollectors}
 use Rattle.sdd_atomics.specs.DomainSeat.{view, epoch, slots, Knows}
 
 -- it has published its count; what it knows is the count at that publish or the next
@@ -34,16 +34,15 @@ pub record IsNear (v : EpochView) : Type 0 where
   pub since : v.since ≤ v.known
   pub known : v.known ≤ v.since + 1
 
--- no slot is held, no count is raised past its bound, and no owner is with the participant itself: each is a token of its own. It closes no collector, empties
--- no slot, and found none emptied
+-- no slot is held, no count is raised past its bound, and no owner is with the participant itself: each is a token of its own. It looks at no place unless it
+-- closes a collector, empties no slot, and found none emptied
 pub record IsQuiet (v : SlotsView) : Type 0 where
   pub owns : v.owns ≡ []
   pub drawn : v.drawn ≡ []
   pub holds : v.holds ≡ None
-  pub looked : v.looked ≡ 0
+  pub looked : v.closes ≡ None → v.looked ≡ 0
   pub over : v.over ≡ None
   pub emptied : v.emptied ≡ []
-  pub closes : v.closes ≡ None
   pub empties : v.empties ≡ None
   pub left : v.left ≡ false
 
@@ -94,12 +93,13 @@ pub record IsTenureOf (own : Participant) (part : Fraction SectionState) : Type 
   pub kind : part.kind ≡ (if is_open own then Open else Closed)
 
 -- what is in the bags, and what was taken out of them and is due, is what its view knows to wait; there is room for as much as waits, and it looks for slots
--- of the board; and the participant has a job exactly for each place where one waits with it. No item is collected
-pub record IsReady {J : Type 0} (b : DomainTable) (own : Participant) (pending : Pending) (known_slots : ℕ) (table : List (Option J)) (known : KnownWaiting)
-    : Type 0 where
+-- of the board; and the participant has a job exactly for each place where one waits with it, and a
+-- collector exactly for each slot whose item waits for that one
+pub record IsReady {J : Type 0} (b : DomainTable) (own : Participant) (pending : Pending) (known_slots : ℕ) (table : List (Option J))
+    (collectors : List (Option ℕ)) (known : KnownWaiting) : Type 0 where
   pub bags : AreInBags (slots_of b) known own.bags.waiting pending.items
-  pub uncollected : known.private ≡ []
   pub large : own.bags.room ≤ pending.room
   pub slots : known_slots ≡ slots_of b
+  pub told : TellsCollectors (slots_of b) collectors known.private
   pub places : length table ≡ (sizes_of b).jobs
   pub jobs : (j : ℕ) → j < (sizes_of b).jobs → IsSome (slice_index_or table j None) ↔ (0 < total (waits_in (slots_of b + j)) known.plain)

@@ -112,6 +112,7 @@ module _ {J : Type 0} where
     pub member : new ≡ record old { slots = new.slots; shown = new.shown }
     pub waits : new.slots.waits ≡ old.slots.waits
     pub privates : new.slots.privates ≡ old.slots.privates
+    pub closes : new.slots.closes ≡ old.slots.closes
     pub keeps : (slot : ℕ) (value : Gv) → IsIn old.shown slot value → IsIn new.shown slot value
     pub once : (new ≡ old) ⊎ IsOnce new.shown
 

@@ -1,5 +1,5 @@
 -- A participant without its domain
-use Rattle.std.specs.Prelude.{◌≡◌, ℕ, List, [], Option}
+use Rattle.std.specs.Prelude.{None, ◌≡◌, ℕ, List, [], Option}
 use Rattle.atomic_table.specs.declared.shared.Seat.{Seat}
 use Rattle.sdd_participants.specs.declared.participant.Participant.{Participant}
 use Rattle.sdd_participants.specs.declared.tally.Tally.{Tally}
@@ -16,15 +16,16 @@ use Rattle.sdd_domain.specs.BetweenCalls.{IsBetweenCalls, IsTenureOf, AreLentTo,
 use Rattle.sdd_domain.specs.Receipt.{IsTallied}
 use Rattle.sdd_domain.specs.DomainValues.{sizes_in}
 
--- on the board of its domain it is as between two calls, with no guard open
+-- on the board of its domain it is as between two calls, with no guard open, and closes no collector
 pub record IsDormant {J : Type 0} (limits : Limits) (place : ℕ) (own : Participant) (due : Pending) (known_slots : ℕ) (table : List (Option J))
-    (tenure : Fraction SectionState) (token : Seat ValueFraction View) (tally : Tally) : Type 0 where
+    (collectors : List (Option ℕ)) (tenure : Fraction SectionState) (token : Seat ValueFraction View) (tally : Tally) : Type 0 where
   pub board : DomainTable
   pub sizes : sizes_of board ≡ sizes_in limits
   pub shut : own.guards ≡ 0
   pub settled : due.items ≡ []
+  pub closes : token.me.0.slots.closes ≡ None
   pub posed : IsBetweenCalls board place own token
   pub tenure_is : IsTenureOf own tenure
   pub lent : AreLentTo tenure.round token.me.1
-  pub ready : IsReady board own due known_slots table (known_waiting token.me.0.slots)
+  pub ready : IsReady board own due known_slots table collectors (known_waiting token.me.0.slots)
   pub tallied : IsTallied 0 tally token.me.0.stakes.counts

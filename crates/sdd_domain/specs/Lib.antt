@@ -13,7 +13,10 @@ pub mod Items
 pub mod Receipt
 pub mod Values
 pub mod RawItems
+pub mod PrivateTable
+pub mod Collectors
 pub mod Cells
+pub mod PrivateItems
 pub mod CellWords
 pub mod SeenOwners
 pub mod BetweenCalls

@@ -20,6 +20,8 @@ use Rattle.sdd_word_invariant.specs.Sums.{times, total}
 use Rattle.sdd_word_invariant.specs.Slots.{waits_in}
 use Rattle.sdd_views.specs.Views.{bare}
 use Rattle.sdd_word_invariant.specs.SlotSteps.{blank, behind, retired_now, without_item}
+use Rattle.sdd_word_invariant.specs.Collectors.{private_in}
+use Rattle.sdd_word_invariant.specs.CollectorSteps.{without_private}
 use Rattle.sdd_word_invariant.specs.CellSteps.{pointer_behind}
 use Rattle.sdd_domain_invariant.specs.Records.{IsIn}
 use Rattle.sdd_domain_invariant.specs.FilledInvariant.{newest}
@@ -29,7 +31,8 @@ use Rattle.sdd_domain.specs.WaitingItems.{aged_slots_at, due_at, arrived_at}
 -- the domain, the book of its values' places, its limits, the place, whose guards are the participant's, what it keeps of its own, the greatest count that
 -- it knows, the global count at its last publish (0 before the first), what it made and reclaimed, how many of each its domain has,
 -- what it knows of slots, what those show that its guards see, what it moved into slots, the newest first, the words that it knows if it is lone,
--- and what the opening of a guard has still to reclaim, and the jobs that it deferred and that wait, each at its place of the table of jobs
+-- what the opening of a guard has still to reclaim, the jobs that it deferred and that wait, each at its place of the table of jobs, and for which collector
+-- the item of each slot waits with it, where it does
 pub record LocalState (J : Type 0) : Type 0 where
   pub home : TableId
   pub book : ℕ
@@ -47,6 +50,7 @@ pub record LocalState (J : Type 0) : Type 0 where
   pub words : List ℕ
   pub due : List LimboEntry
   pub jobs : Entries J
+  pub collectors : Entries ℕ
 
 -- no other participant may be
 abbrev pub IsLone : {J : Type 0} → LocalState J → Type 0
@@ -82,6 +86,7 @@ pub record IsNew {J : Type 0} (domain : TableId) (book : ℕ) (most : Limits) (m
   pub words : m.words ≡ blank m.sizes
   pub due : m.due ≡ []
   pub jobs : m.jobs ≡ replicate most.jobs None
+  pub collectors : m.collectors ≡ replicate most.slots None
 
 -- an outermost opening finds a count, which is at least the greatest that was known; where the participant is lone it is that one.
 -- What has seen three changes then is due
@@ -111,11 +116,12 @@ pub record Reclaims {J : Type 0} (slot : ℕ) (value : Gv) (old new : LocalState
   pub first : old.due ≡ Item slot ∷ new.due
   pub member : new ≡ record old {
     tally = one_reclaimed old.tally;
-    slots = record old.slots { waits = without_item slot old.slots.waits };
+    slots = record old.slots { waits = without_item slot old.slots.waits; privates = without_private slot old.slots.privates };
     words = slice_set old.words (behind old.sizes slot) (free_word 0);
     due = new.due;
+    collectors = without_entry old.collectors slot;
   }
-  pub once : total (waits_in slot) old.slots.waits ≡ 1
+  pub once : total (waits_in slot) old.slots.waits + total (private_in slot) old.slots.privates ≡ 1
   pub lone : IsLone old → (shared : Bool) × (newest slot old.filled ≡ Some (record { slot = slot; shared = shared; value = value }))
 
 -- the number of a job's place, which comes after those of the slots

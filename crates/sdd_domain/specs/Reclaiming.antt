@@ -14,7 +14,15 @@ kept_of p = record p { member = kept_by p.member }
 
 -- what reclaiming leaves as it is
 abbrev pub rest_of : {T J : Type 0} → LocalModel T J → LocalModel T J
-rest_of p = record p { member = record (kept_by p.member) { tally = no_items; due = []; jobs = [] } }
+rest_of p = record p {
+  member = record (kept_by p.member) {
+    tally = no_items;
+    slots = record p.member.slots { waits = []; privates = [] };
+    due = [];
+    jobs = [];
+    collectors = [];
+  };
+}
 
 -- it counts one item more that was dropped in its place
 abbrev pub counted_in_place : {T J : Type 0} → LocalModel T J → LocalModel T J

@@ -180,7 +180,7 @@ pub fn free_bare(board: &DomainTable, token: &mut DomainSeat, cell: u32, right: 
 }
 
 /// Puts an owner, or none, into the cell of this right by this word, and answers the owner that it held, if it held one, and its word before.
-#[inline]
+#[inline(always)]
 pub fn swap(
     board: &DomainTable,
     token: &mut DomainSeat,
@@ -208,7 +208,7 @@ pub fn swap(
 }
 
 /// The same where the cell's word is still this one; else the owner comes back that was to go in.
-#[inline]
+#[inline(always)]
 pub fn exchange(
     board: &DomainTable,
     token: &mut DomainSeat,

@@ -14,6 +14,9 @@ const BELOW_GENERATION: u64 = 134_217_728;
 /// From here on it holds none.
 const UNOWNED: u64 = 134_217_712;
 
+/// From here on no slot has such a number.
+const UNNAMED: u32 = 33_554_427;
+
 /// The word of a cell that holds none and has no tag.
 pub const NULL_WORD: u64 = UNOWNED;
 
@@ -23,11 +26,8 @@ pub fn held_slot(word: u64) -> Option<u32>
     ensures held { result ≡ slice_get (held_slots word) 0 }
     ensures small { IfSome result (λ slot. slot < 2 ^ 25 - 5) }
 {
-    let named = word % BELOW_GENERATION;
-    if named >= UNOWNED || named < 4 {
-        return None;
-    }
-    Some((named / 4 - 1) as u32)
+    let slot = ((word % BELOW_GENERATION / 4) as u32).wrapping_sub(1);
+    if slot < UNNAMED { Some(slot) } else { None }
 }
 
 /// The tag of a cell that has this word.

@@ -168,7 +168,7 @@ pub fn finds_free(board: &DomainTable, token: &mut DomainSeat, slots: u32) -> bo
 /// All stakes in it are out then.
 ///
 /// `NoSlot` where none was found free; `Contended` where so many exchanges were lost.
-#[inline]
+#[inline(always)]
 pub fn claim_free(
     board: &DomainTable,
     token: &mut DomainSeat,

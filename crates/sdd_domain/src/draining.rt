@@ -1,5 +1,5 @@
 //! A participant reclaims what waits with it, where nobody else takes part any more.
-ghost use Rattle.std.specs.Prelude.{◌≡◌, ◌-◌, ◌≤◌, []};
+ghost use Rattle.std.specs.Prelude.{◌≡◌, ◌-◌, ◌≤◌, [], None};
 ghost use Rattle.sdd_participants.specs.EpochState.{due_next};
 ghost use Rattle.sdd_domain.specs.LocalState.{HasOpenGuard};
 ghost use Rattle.sdd_domain.specs.Receipt.{with_reclaimed};
@@ -15,17 +15,24 @@ impl<T: Item<T>, J: Job> LocalGiver<'_, T, J> {
     fn turn_over(&mut self) -> (usize, bool)
         requires shut { ¬ (HasOpenGuard self.old.member) }
         requires settled { self.old.member.due ≡ [] }
+        requires closes { self.old.member.slots.closes ≡ None }
         ensures shut { ¬ (HasOpenGuard self.new.member) }
         ensures settled { self.new.member.due ≡ [] }
+        ensures closes { self.new.member.slots.closes ≡ None }
         ensures home { slots_home self.new ≡ slots_home self.old }
         ensures few { result.0 ≤ items_in (due_next self.old.member.own) }
         ensures reclaimed { self.new.member.tally ≡ with_reclaimed result.0 self.old.member.tally }
     {
         let (guard, goes_on) = self.membership.enter();
-        let items = self.membership.now_due();
+        let due = self.membership.now_due();
+        let before = self.membership.tally().reclaimed;
         if goes_on {
             self.change();
         }
+        // Of what was due some may have been claimed by the close of its collector.
+        let items = self.membership.tally().reclaimed - before;
+        prove!(items <= due as u128);
+        let items = items as usize;
         self.membership.accelerate();
         self.membership.close_guard(guard);
         (items, goes_on)
@@ -38,8 +45,10 @@ impl<T: Item<T>, J: Job> LocalGiver<'_, T, J> {
     pub fn drain(&mut self, left: &mut usize)
         requires shut { ¬ (HasOpenGuard self.old.member) }
         requires settled { self.old.member.due ≡ [] }
+        requires closes { self.old.member.slots.closes ≡ None }
         ensures shut { ¬ (HasOpenGuard self.new.member) }
         ensures settled { self.new.member.due ≡ [] }
+        ensures closes { self.new.member.slots.closes ≡ None }
         ensures home { slots_home self.new ≡ slots_home self.old }
         ensures few { left.new ≤ left.old }
         ensures reclaimed { self.new.member.tally ≡ with_reclaimed (left.old - left.new) self.old.member.tally }

@@ -1,10 +1,11 @@
 //! What an opening took out of the bags.
-ghost use Rattle.std.specs.Prelude.{◌≡◌, ◌≤◌, List, [], ◌∷◌, MatchOption, IfOk};
+ghost use Rattle.std.specs.Prelude.{◌≡◌, ◌≤◌, List, [], ◌∷◌, length, MatchOption, IfOk};
 ghost use Rattle.sdd_participants.specs.declared.waiting.LimboEntry.{LimboEntry as Entry};
 ghost use Rattle.sdd_domain.specs.WaitingItems.{items_in};
 ghost use Rattle.sdd_participants.specs.Waiting.{aged, due, left};
+ghost use Rattle.sdd_participants.specs.Collecting.{is_kept_for, chosen_of, rest_of};
 
-use sdd_participants::{Bags, LimboEntry};
+use sdd_participants::{Bags, LimboEntry, StandingLookup};
 use std::alloc::{AllocError, Global};
 use std::marker::Model;
 
@@ -57,6 +58,19 @@ impl DueItems {
         self.bag.clear();
         self.taken = 0;
         bags.rotate(&mut self.bag);
+    }
+
+    /// What waits for a collector comes out of the bags, the oldest first.
+    pub fn take_for<S: StandingLookup>(&mut self, bags: &mut Bags, collector: u32, standings: &S)
+        requires none { self.old.items ≡ [] }
+        requires room { length bags.old.waiting ≤ self.old.room }
+        ensures taken { self.new.items ≡ chosen_of (is_kept_for collector (S.standings standings.now)) bags.old.waiting }
+        ensures kept { bags.new ≡ record bags.old { waiting = rest_of (is_kept_for collector (S.standings standings.now)) bags.old.waiting } }
+        ensures room { self.new.room ≡ self.old.room }
+    {
+        self.bag.clear();
+        self.taken = 0;
+        bags.take_for(collector, standings, &mut self.bag);
     }
 
     /// How many items of it there are.

@@ -57,8 +57,9 @@ impl Hindrance {
     }
 }
 
-/// Looks at each place, the own one too, while a slot is held: where no guard is open, none sees the slot, nor will as long as it is held.
-fn none_is_open(board: &DomainTable, token: &mut DomainSeat) -> bool
+/// Looks at each place, the own one too, while a slot is held, or a collector is closed: where no guard is open, none sees what is held or waits for the
+/// collector, nor will meanwhile.
+pub fn none_is_open(board: &DomainTable, token: &mut DomainSeat) -> bool
     requires home { token.old.table_id ≡ id_of board.now }
     requires knows { Knows board.now token.old }
     requires place { HasPlace (epoch token.old) × ((epoch token.old).place < places_of board.now) × ((epoch token.old).all ≡ places_of board.now) }
@@ -131,6 +132,7 @@ pub fn hold_alone(
     requires inside { slot < slots_of board.now }
     requires place { HasPlace (epoch token.old) × ((epoch token.old).place < places_of board.now) × ((epoch token.old).all ≡ places_of board.now) }
     requires bare { IsBare (view token.old) }
+    requires closes { (slots token.old).closes ≡ None }
     requires owner { (owner.table_id ≡ id_of board.now) × ((value : Gv) × (owner.views ≡ witness_of_owner slot shared value)) }
     ensures { MatchResult result
         (λ _. (value : Gv) → owner.views ≡ witness_of_owner slot shared value → IsHeldBy slot shared value (places_of board.now) token.old token.new)
@@ -266,6 +268,7 @@ fn try_to_go<T: Item<T>>(
     requires inside { slot < slots_of board.now }
     requires place { HasPlace (epoch token.old) × ((epoch token.old).place < places_of board.now) × ((epoch token.old).all ≡ places_of board.now) }
     requires bare { IsBare (view token.old) }
+    requires closes { (slots token.old).closes ≡ None }
     requires owner { (owner.table_id ≡ id_of board.now)
         × ((value : Gv) × (owner.views ≡ witness_of_owner slot shared value) × IsGripOf (book_of board.now) slot value grip) }
     ensures { MatchResult result
@@ -309,6 +312,7 @@ pub fn go_in_place<T: Item<T>>(
     requires inside { slot < slots_of board.now }
     requires place { HasPlace (epoch token.old) × ((epoch token.old).place < places_of board.now) × ((epoch token.old).all ≡ places_of board.now) }
     requires bare { IsBare (view token.old) }
+    requires closes { (slots token.old).closes ≡ None }
     requires owner { (owner.table_id ≡ id_of board.now)
         × ((value : Gv) × (owner.views ≡ witness_of_owner slot shared value) × IsGripOf (book_of board.now) slot value grip) }
     requires tries { 0 < tries }

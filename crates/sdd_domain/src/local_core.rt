@@ -1,6 +1,7 @@
 //! A participant's part in a domain: its guards, what waits with it, and the items that it makes and lets go.
-ghost use Rattle.std.specs.Prelude.{◌≡◌, ◌↔◌, ◌⊎◌, ◌+◌, ◌*◌, ◌/◌, ◌^◌, ◌<◌, ◌≤◌, ◌==◌, ℕ, List, [], ◌∷◌, false, IsTrue, not, IfSome, IfOk, IfErr, MatchOption, MatchResult};
+ghost use Rattle.std.specs.Prelude.{◌≡◌, ◌≢◌, ◌↔◌, ◌⊎◌, ◌+◌, ◌*◌, ◌/◌, ◌^◌, ◌<◌, ◌≤◌, ◌==◌, ℕ, List, [], ◌∷◌, false, All, IsTrue, not, IfSome, IfOk, IfErr, MatchOption, MatchResult, None, Some, option_map};
 ghost use Rattle.sdd_shared_values.specs.SharedValues.{showing};
+ghost use Rattle.sdd_participants.specs.Slab.{entry_at};
 ghost use Rattle.sdd_participants.specs.declared.waiting.LimboEntry.{LimboEntry as Entry};
 ghost use Rattle.sdd_participants.specs.declared.waiting.LimboEntry.TheVariants.{Item as item};
 ghost use Rattle.sdd_domain.specs.WaitingItems.{items_in};
@@ -13,7 +14,9 @@ ghost use Rattle.sdd_atomics.specs.DomainSeat.{epoch, words_known, IsSameBut};
 ghost use Rattle.sdd_domain.specs.Domain.{home_of, book_of, limits_of};
 ghost use Rattle.sdd_domain.specs.SpaceIds.{home_at, home_in};
 ghost use Rattle.sdd_domain.specs.Items.{slots_home};
-ghost use Rattle.sdd_domain.specs.LocalState.{waits, CanNest, HasOpenGuard, IsNew, IsEntered, GoesOn, LocalState, Reclaims, GuardCloses, IsTold};
+ghost use Rattle.sdd_domain.specs.LocalState.{waits, CanNest, HasOpenGuard, IsNew, IsEntered, GoesOn, LocalState, GuardCloses, IsTold};
+ghost use Rattle.sdd_domain.specs.Collectors.{GoesFirst};
+ghost use Rattle.sdd_domain.specs.InBags.{TellsCollectors};
 ghost use Rattle.sdd_domain.specs.ScanAtClose.{TellsScan};
 ghost use Rattle.sdd_space.specs.Guard.{reader_of};
 ghost use Rattle.sdd_space.specs.OwnerOrCell.{AreOf};
@@ -25,6 +28,7 @@ use crate::domain::Domain;
 use crate::due_items::{DueItems, count_items};
 use crate::ended_counts::EndedCounts;
 use crate::free_slot_hints::FreeSlotHints;
+use crate::private_table::PrivateTable;
 use crate::scan::{ScanEnd, scan};
 use crate::shut::shut;
 use crate::values::take_value;
@@ -40,6 +44,7 @@ use std::alloc::{AllocError, Global};
 use std::marker::Model;
 
 mod cells;
+mod collectors;
 pub mod detached_local;
 mod in_place;
 mod items;
@@ -62,6 +67,8 @@ pub struct LocalCore<'d, T: Item<T>, J: Job> {
     due: DueItems,
     known: FreeSlotHints,
     jobs: DeferredJobs<J>,
+    /// For which collectors its items wait.
+    privates: PrivateTable,
     /// Where it looks for a free cell first.
     next_cell: u32,
     /// What its open guards don't have of its tenure: each of them has one unit.
@@ -96,11 +103,12 @@ impl<'d, T: Item<T>, J: Job> Model for LocalCore<'d, T, J> {
       words = l.token.me.0.words;
       due = l.due.items;
       jobs = l.jobs;
+      collectors = l.privates;
     } };
 
     ghost invariant = { λ l. IsBetweenCalls l.domain.now.board l.place l.own l.token × (l.nesting ≡ l.domain.now.limits.nesting)
         × IsTenureOf l.own l.tenure × AreLentTo l.tenure.round l.token.me.1
-        × IsReady l.domain.now.board l.own l.due l.known.slots l.jobs (known_waiting l.token.me.0.slots)
+        × IsReady l.domain.now.board l.own l.due l.known.slots l.jobs l.privates (known_waiting l.token.me.0.slots)
         × IsTallied 0 l.tally l.token.me.0.stakes.counts };
 }
 
@@ -110,6 +118,7 @@ struct Room<J: Job> {
     due: DueItems,
     known: FreeSlotHints,
     jobs: DeferredJobs<J>,
+    privates: PrivateTable,
 }
 
 impl<J: Job> Room<J> {
@@ -122,17 +131,20 @@ impl<J: Job> Room<J> {
         ensures due { IfOk result (λ room. (room.due.items ≡ []) × (slots + jobs ≤ room.due.room)) }
         ensures known { IfOk result (λ room. room.known.slots ≡ slots) }
         ensures jobs { IfOk result (λ room. room.jobs ≡ replicate jobs None) }
+        ensures privates { IfOk result (λ room. room.privates ≡ replicate slots None) }
     {
         let most = (slots + jobs) as usize;
         let bags = Bags::with_room(alloc, most)?;
         let due = DueItems::with_room(alloc, most)?;
         let known = FreeSlotHints::new(alloc, slots)?;
+        let privates = PrivateTable::new(alloc, slots)?;
         let jobs = DeferredJobs::new(alloc, jobs)?;
         Ok(Room {
             bags,
             due,
             known,
             jobs,
+            privates,
         })
     }
 }
@@ -222,6 +234,7 @@ impl<'d, T: Item<T>, J: Job> LocalCore<'d, T, J> {
             due,
             mut known,
             mut jobs,
+            privates,
         } = room;
         let mut token = steps::sit(&domain.board);
         let Some(place) = take_place(&domain.board, &mut token) else {
@@ -240,6 +253,7 @@ impl<'d, T: Item<T>, J: Job> LocalCore<'d, T, J> {
             due,
             known,
             jobs,
+            privates,
             next_cell: share_of(place, domain.board.places(), domain.limits.cells as u32),
             tenure: own_tenure(),
             tally: RunningTally::new(),
@@ -262,6 +276,7 @@ impl<'d, T: Item<T>, J: Job> LocalCore<'d, T, J> {
             due: _,
             known: _,
             jobs,
+            privates: _,
             next_cell: _,
             tenure: _,
             tally,
@@ -326,7 +341,7 @@ impl<'d, T: Item<T>, J: Job> LocalCore<'d, T, J> {
     /// Opens one more guard beside others.
     ///
     /// `TooManyGuards` where as many are open as may nest.
-    #[inline]
+    #[inline(always)]
     pub(crate) fn nest(&mut self) -> Result<Guard, Refused>
         requires { HasOpenGuard self.old }
         ensures { MatchResult result
@@ -342,7 +357,7 @@ impl<'d, T: Item<T>, J: Job> LocalCore<'d, T, J> {
     }
 
     /// The outermost opening. Where it finds another count than the last one, and something waits, it is true: then what is due is to be reclaimed.
-    #[inline]
+    #[inline(always)]
     pub(crate) fn enter(&mut self) -> (Guard, bool)
         requires shut { ¬ (HasOpenGuard self.old) }
         requires settled { self.old.due ≡ [] }
@@ -362,13 +377,17 @@ impl<'d, T: Item<T>, J: Job> LocalCore<'d, T, J> {
         (guard_with(self.tenure.split(1)), goes_on)
     }
 
-    /// Moves the value out of the item that is due before all others, in this slot, which is given back.
+    /// Moves the value out of the item that is due before all others, in this slot, which is given back. None where the close of its collector came first.
     #[inline]
-    pub(crate) fn reclaim(&mut self, slot: u32) -> T
+    pub(crate) fn reclaim(&mut self, slot: u32) -> Option<T>
         requires first { (rest : List Entry) × (self.old.due ≡ item slot ∷ rest) }
-        ensures reclaimed { Reclaims slot (showing T.row result) self.old self.new }
-        ensures home { AreOf (home_in self.old) (T.holds result) }
+        requires closes { self.old.slots.closes ≡ None }
+        ensures gone { GoesFirst slot (option_map (λ (value : T). showing T.row value) result) self.old self.new }
+        ensures home { IfSome result (λ value. AreOf (home_in self.old) (T.holds value)) }
     {
+        if !self.claim_first(slot) {
+            return None;
+        }
         self.due.next();
         let value = take_value(
             &self.domain.board,
@@ -378,7 +397,7 @@ impl<'d, T: Item<T>, J: Job> LocalCore<'d, T, J> {
         );
         self.known.remember(slot);
         self.tally.count_reclaimed();
-        value
+        Some(value)
     }
 
     /// It is decided whether anything waits.
@@ -390,17 +409,22 @@ impl<'d, T: Item<T>, J: Job> LocalCore<'d, T, J> {
     }
 
     /// What is always true of a participant, as a call that does nothing when the program runs: it has a place, and while a guard is open the count
-    /// that it knows is the one at its publish or the next.
+    /// that it knows is the one at its publish or the next; its table tells for which collectors its items wait; what is due comes once;
+    /// and for a collector that it closes nothing waits with it but what is due.
     #[inline]
     pub(crate) fn stands(&self)
         ensures inside { self.now.place < self.now.limits.participants }
+        ensures looked { self.now.slots.closes ≡ None → self.now.slots.looked ≡ 0 }
+        ensures collectors { TellsCollectors self.now.limits.slots self.now.collectors self.now.slots.privates }
+        ensures once { (slot : ℕ) (rest : List Entry) → self.now.due ≡ item slot ∷ rest → All (λ what. what ≢ item slot) rest }
+        ensures none { (collector : ℕ) → self.now.slots.closes ≡ Some collector → self.now.due ≡ [] → (slot : ℕ) → entry_at self.now.collectors slot ≢ Some collector }
         ensures near { HasOpenGuard self.now → (self.now.since ≤ self.now.known) × (self.now.known ≤ self.now.since + 1) }
     {
         let _token = &self.token;
     }
 
     /// Closes a guard; the last one publishes the end, after a scan at countdown 0, and tells how that ended. Since the guard is here, one is open.
-    #[inline]
+    #[inline(always)]
     pub(crate) fn close_guard(&mut self, guard: Guard) -> Option<ScanEnd>
         requires { reader_of guard ≡ self.old.reader }
         ensures closed { GuardCloses self.old self.new }
@@ -418,7 +442,7 @@ impl<'d, T: Item<T>, J: Job> LocalCore<'d, T, J> {
     }
 
     /// The last close, which gives back the one part of the tenure that was out: the tenure ends.
-    #[inline]
+    #[inline(always)]
     fn leave(&mut self, part: ReadSection) -> Option<ScanEnd>
         requires last { self.old.own.guards ≡ 1 }
         requires reader { (part.home ≡ self.old.reader.home) × (part.number ≡ self.old.reader.number) }

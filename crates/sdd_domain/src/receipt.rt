@@ -1,4 +1,4 @@
-ghost use Rattle.std.specs.Prelude.{◌≡◌, ◌-◌, ◌≤◌, [], ◌∷◌, false};
+ghost use Rattle.std.specs.Prelude.{◌≡◌, ◌-◌, ◌≤◌, [], ◌∷◌, None, false};
 ghost use Rattle.sdd_atomics.specs.DomainTable.{id_of};
 ghost use Rattle.sdd_domain.specs.Domain.{slots_in};
 ghost use Rattle.sdd_domain.specs.LocalState.{HasOpenGuard, waits};
@@ -86,6 +86,7 @@ impl<T: Item<T>, J: Job> Receipt<T, J> {
     pub(crate) fn of(partner: LocalGiver<'_, T, J>) -> Receipt<T, J>
         requires shut { ¬ (HasOpenGuard partner.member) }
         requires settled { partner.member.due ≡ [] }
+        requires closes { partner.member.slots.closes ≡ None }
         ensures { result ≡ record { home = slots_home partner.entry; tally = partner.entry.member.tally; waits = waits partner.entry.member } }
     {
         let LocalGiver { membership, ledger } = partner;

@@ -1,12 +1,12 @@
 //! A change reclaims what is due, and a value that is reclaimed gives up what it holds.
-ghost use Rattle.std.specs.Prelude.{◌≡◌, ◌⊎◌, ◌+◌, ◌≤◌, ℕ, true, List, [], length, IfErr, IsSome, IsTrue, MatchBool, MatchResult, ◌∷◌};
-ghost use Rattle.sdd_rights.specs.Right.{number_of, home_of, kind_of};
+ghost use Rattle.std.specs.Prelude.{◌≡◌, ◌≢◌, ◌⊎◌, ◌+◌, ◌<◌, ◌≤◌, ℕ, true, List, [], length, IfErr, IfOk, IsSome, IsTrue, MatchBool, MatchResult, None, Some, ◌∷◌};
+ghost use Rattle.sdd_rights.specs.Right.{number_of, home_of, kind_of, raw_number_of, raw_home_of};
 ghost use Rattle.sdd_rights.specs.StandingKind.{is_shared};
 ghost use Rattle.sdd_standings.specs.Slots.{IsOwnedBy, has_others};
 ghost use Rattle.sdd_space.specs.InPlace.{IsAlone};
 ghost use Rattle.sdd_space.specs.World.{standing_at};
 ghost use Rattle.sdd_space.specs.KnownEpochs.{KnowsOn};
-ghost use Rattle.sdd_space.specs.ParticipantChanges.{KeepsMoreWaiting, all_awaiting};
+ghost use Rattle.sdd_space.specs.ParticipantChanges.{IsCollected, KeepsMoreWaiting, all_awaiting};
 ghost use Rattle.sdd_space.specs.Owned as owned;
 ghost use Rattle.sdd_space.specs.RawCell as raw_cell;
 ghost use Rattle.sdd_space.specs.CallerId.{IsSeated, IsExact};
@@ -18,7 +18,6 @@ ghost use Rattle.sdd_participants.specs.Slab.{entry_at, without_entry};
 ghost use Rattle.sdd_participants.specs.Jobs.{jobs_without, jobs_without_all};
 ghost use Rattle.sdd_participants.specs.declared.waiting.LimboEntry.{LimboEntry as Entry};
 ghost use Rattle.sdd_participants.specs.declared.waiting.LimboEntry.TheVariants.{Item as item, Job as job};
-ghost use Rattle.sdd_participants.specs.Tally.{one_reclaimed};
 ghost use Rattle.sdd_domain.specs.WaitingItems.{items_in};
 ghost use Rattle.sdd_domain.specs.SpaceIds.{home_in};
 ghost use Rattle.sdd_domain.specs.Local.{LocalModel};
@@ -26,12 +25,16 @@ ghost use Rattle.sdd_domain.specs.LocalState.{HasOpenGuard, IsLone};
 ghost use Rattle.sdd_domain.specs.Receipt.{with_reclaimed};
 ghost use Rattle.sdd_domain.specs.Local.{world_of};
 ghost use Rattle.sdd_domain.specs.Reclaiming.{counted_where, kept_of, rest_of};
+ghost use Rattle.sdd_domain.specs.OpeningTally.{CountsGone};
+ghost use Rattle.sdd_domain.specs.Collectors.{AllWaitFor, IsClosing};
+ghost use Rattle.sdd_space.specs.Collecting.{collector_closed};
+ghost use Rattle.sdd_space.specs.Out.{IsNullCell};
 ghost use Rattle.sdd_domain.specs.Space.{seat_of, known_of, slots_home};
 
 use crate::local_core::LocalCore;
 use sdd_core::Refused;
 use sdd_participants::{Job, LimboEntry};
-use sdd_rights::{Right, StandingKind};
+use sdd_rights::{RawRight, Right, StandingKind};
 use sdd_shared_values::GhostValues;
 use sdd_space::inner::{
     right_of_cell, right_of_owner, right_of_raw_cell, right_of_shared, right_of_shared_cell,
@@ -155,18 +158,20 @@ impl<T: Item<T>, J: Job> LocalGiver<'_, T, J> {
     /// The item that is due before all others, in this slot, is reclaimed, and what its value held is retired then.
     fn reclaim_item(&mut self, slot: u32)
         requires first { (rest : List Entry) × (self.old.member.due ≡ item slot ∷ rest) }
+        requires closes { self.old.member.slots.closes ≡ None }
         ensures first { self.old.member.due ≡ item slot ∷ self.new.member.due }
         ensures own { KeepsMoreWaiting self.old.member.own self.new.member.own }
         ensures known { KnowsOn (known_of self.old) (known_of self.new) }
         ensures rest { rest_of self.new ≡ rest_of self.old }
-        ensures tally { self.new.member.tally ≡ one_reclaimed self.old.member.tally }
+        ensures counted { CountsGone 1 self.old.member self.new.member }
         ensures jobs { self.new.member.jobs ≡ self.old.member.jobs }
         ensures exact { IsLone self.old.member → world_of self.new ≡ reclaimed T.holds (world_of self.old) self.old.member.place (item slot) }
     {
         self.ledger.codes();
         self.membership.stands();
-        let value = self.membership.reclaim(slot);
-        value.give_up(self);
+        if let Some(value) = self.membership.reclaim(slot) {
+            value.give_up(self);
+        }
     }
 
     /// The job that is due before all others, in this place, runs, once; the place is free before it does.
@@ -176,7 +181,7 @@ impl<T: Item<T>, J: Job> LocalGiver<'_, T, J> {
         ensures own { self.new.member.own ≡ self.old.member.own }
         ensures known { known_of self.new ≡ known_of self.old }
         ensures rest { rest_of self.new ≡ rest_of self.old }
-        ensures tally { self.new.member.tally ≡ self.old.member.tally }
+        ensures counted { CountsGone 0 self.old.member self.new.member }
         ensures there { IsSome (entry_at self.old.member.jobs place) }
         ensures jobs { self.new.member.jobs ≡ without_entry self.old.member.jobs place }
         ensures exact { IsLone self.old.member → world_of self.new ≡ ran (world_of self.old) place }
@@ -191,11 +196,12 @@ impl<T: Item<T>, J: Job> LocalGiver<'_, T, J> {
     #[inline]
     fn reclaim_first(&mut self, what: LimboEntry)
         requires first { (rest : List Entry) × (self.old.member.due ≡ what ∷ rest) }
+        requires closes { self.old.member.slots.closes ≡ None }
         ensures first { self.old.member.due ≡ what ∷ self.new.member.due }
         ensures own { KeepsMoreWaiting self.old.member.own self.new.member.own }
         ensures known { KnowsOn (known_of self.old) (known_of self.new) }
         ensures rest { rest_of self.new ≡ rest_of self.old }
-        ensures reclaimed { self.new.member.tally ≡ with_reclaimed (items_in (what ∷ [])) self.old.member.tally }
+        ensures counted { CountsGone (items_in (what ∷ [])) self.old.member self.new.member }
         ensures jobs { self.new.member.jobs ≡ jobs_without self.old.member.jobs what }
         ensures exact { IsLone self.old.member → world_of self.new ≡ reclaimed T.holds (world_of self.old) self.old.member.place what }
     {
@@ -207,12 +213,13 @@ impl<T: Item<T>, J: Job> LocalGiver<'_, T, J> {
 
     /// What is due is reclaimed, one after another, and what each value held is retired then.
     fn reclaim_due(&mut self)
+        requires closes { self.old.member.slots.closes ≡ None }
         ensures own { KeepsMoreWaiting self.old.member.own self.new.member.own }
         ensures none { self.old.member.due ≡ [] → self.new.member.own ≡ self.old.member.own }
         ensures known { KnowsOn (known_of self.old) (known_of self.new) }
         ensures rest { rest_of self.new ≡ rest_of self.old }
         ensures due { self.new.member.due ≡ [] }
-        ensures reclaimed { self.new.member.tally ≡ with_reclaimed (items_in self.old.member.due) self.old.member.tally }
+        ensures counted { CountsGone (items_in self.old.member.due) self.old.member self.new.member }
         ensures jobs { self.new.member.jobs ≡ jobs_without_all self.old.member.jobs self.old.member.due }
         ensures exact { IsLone self.old.member → world_of self.new
             ≡ all_reclaimed T.holds (world_of self.old) self.old.member.place self.old.member.due }
@@ -225,11 +232,12 @@ impl<T: Item<T>, J: Job> LocalGiver<'_, T, J> {
     /// The rest of a change: what is due is reclaimed, and what each value held is retired then; and then it is decided whether anything waits.
     #[inline(never)]
     pub fn change(&mut self)
+        requires closes { self.old.member.slots.closes ≡ None }
         ensures own { (given : List ℕ) × (self.new.member.own ≡ settled (all_awaiting given self.old.member.own)) × (self.old.member.due ≡ [] → given ≡ []) }
         ensures known { KnowsOn (known_of self.old) (known_of self.new) }
         ensures rest { rest_of self.new ≡ rest_of self.old }
         ensures due { self.new.member.due ≡ [] }
-        ensures reclaimed { self.new.member.tally ≡ with_reclaimed (items_in self.old.member.due) self.old.member.tally }
+        ensures counted { CountsGone (items_in self.old.member.due) self.old.member self.new.member }
         ensures jobs { self.new.member.jobs ≡ jobs_without_all self.old.member.jobs self.old.member.due }
         ensures near { HasOpenGuard self.new.member → self.new.member.known ≤ self.new.member.since + 1 }
         ensures exact { IsLone self.old.member → world_of self.new
@@ -238,6 +246,108 @@ impl<T: Item<T>, J: Job> LocalGiver<'_, T, J> {
         self.reclaim_due();
         self.membership.settle();
         self.membership.stands();
+    }
+
+    /// The item that was taken out of the bags before all others for the collector that is closed, in this slot, is reclaimed, and what its value held is
+    /// retired then.
+    fn empty_item(&mut self, slot: u32, collector: u32)
+        requires first { (rest : List Entry) × (self.old.member.due ≡ item slot ∷ rest) }
+        requires taken { AllWaitFor self.old.member collector self.old.member.due }
+        requires closing { IsClosing collector self.old.member }
+        ensures first { self.old.member.due ≡ item slot ∷ self.new.member.due }
+        ensures taken { AllWaitFor self.new.member collector self.new.member.due }
+        ensures closing { IsClosing collector self.new.member }
+        ensures own { KeepsMoreWaiting self.old.member.own self.new.member.own }
+        ensures known { KnowsOn (known_of self.old) (known_of self.new) }
+        ensures rest { rest_of self.new ≡ rest_of self.old }
+        ensures jobs { self.new.member.jobs ≡ self.old.member.jobs }
+        ensures exact { IsLone self.old.member → world_of self.new ≡ reclaimed T.holds (world_of self.old) self.old.member.place (item slot) }
+    {
+        self.ledger.codes();
+        self.membership.stands();
+        if let Some(value) = self.membership.empty_first(slot, collector) {
+            value.give_up(self);
+        }
+    }
+
+    /// What was taken out of the bags for the collector that is closed is reclaimed, one item after another, and what each value held is retired then.
+    fn empty_own(&mut self, collector: u32)
+        requires taken { AllWaitFor self.old.member collector self.old.member.due }
+        requires closing { IsClosing collector self.old.member }
+        ensures closing { IsClosing collector self.new.member }
+        ensures own { KeepsMoreWaiting self.old.member.own self.new.member.own }
+        ensures known { KnowsOn (known_of self.old) (known_of self.new) }
+        ensures rest { rest_of self.new ≡ rest_of self.old }
+        ensures due { self.new.member.due ≡ [] }
+        ensures jobs { self.new.member.jobs ≡ self.old.member.jobs }
+        ensures exact { IsLone self.old.member → world_of self.new
+            ≡ all_reclaimed T.holds (world_of self.old) self.old.member.place self.old.member.due }
+    {
+        while let Some(LimboEntry::Item(slot)) = self.membership.first_due() {
+            self.empty_item(slot, collector);
+        }
+    }
+
+    /// The item in this slot is reclaimed if it waits with another for the collector that is closed, and what its value held is retired then.
+    fn empty_other(&mut self, slot: u32, collector: u32)
+        requires inside { slot < self.old.member.limits.slots }
+        requires settled { self.old.member.due ≡ [] }
+        requires closing { IsClosing collector self.old.member }
+        ensures closing { IsClosing collector self.new.member }
+        ensures own { KeepsMoreWaiting self.old.member.own self.new.member.own }
+        ensures known { KnowsOn (known_of self.old) (known_of self.new) }
+        ensures rest { rest_of self.new ≡ rest_of self.old }
+        ensures due { self.new.member.due ≡ [] }
+        ensures jobs { self.new.member.jobs ≡ self.old.member.jobs }
+        ensures alone { IsLone self.old.member → self.new ≡ self.old }
+    {
+        self.membership.stands();
+        if let Some(value) = self.membership.empty_slot(slot, collector) {
+            value.give_up(self);
+        }
+    }
+
+    /// What waits with others for the collector that is closed is reclaimed, one item after another, and what each value held is retired then.
+    fn empty_others(&mut self, collector: u32)
+        requires settled { self.old.member.due ≡ [] }
+        requires closing { IsClosing collector self.old.member }
+        ensures closing { IsClosing collector self.new.member }
+        ensures own { KeepsMoreWaiting self.old.member.own self.new.member.own }
+        ensures known { KnowsOn (known_of self.old) (known_of self.new) }
+        ensures rest { rest_of self.new ≡ rest_of self.old }
+        ensures due { self.new.member.due ≡ [] }
+        ensures jobs { self.new.member.jobs ≡ self.old.member.jobs }
+        ensures alone { IsLone self.old.member → self.new ≡ self.old }
+    {
+        for slot in 0..self.membership.domain().limits.slots as u32 {
+            self.empty_other(slot, collector);
+        }
+    }
+
+    /// Gives a collector up. What waits for it, with whomever, is reclaimed at once, and what its values give up waits with the participant.
+    ///
+    /// `GuardOpen` where a guard is open: the collector comes back, and nothing has changed.
+    pub fn close_collector(&mut self, collector: RawRight) -> Result<(), (RawRight, Refused)>
+        requires home { raw_home_of collector ≡ (home_in self.old.member).cells }
+        requires settled { self.old.member.due ≡ [] }
+        requires closes { self.old.member.slots.closes ≡ None }
+        ensures own { MatchResult result (λ _. IsCollected self.old.member.own self.new.member.own) (λ _. self.new ≡ self.old) }
+        ensures known { KnowsOn (known_of self.old) (known_of self.new) }
+        ensures rest { rest_of self.new ≡ rest_of self.old }
+        ensures settled { (self.new.member.due ≡ []) × (self.new.member.slots.closes ≡ None) }
+        ensures jobs { self.new.member.jobs ≡ self.old.member.jobs }
+        ensures shut { IfOk result (λ _. ¬ (HasOpenGuard self.old.member)) }
+        ensures back { IfErr result (λ e. (e.0 ≡ collector) × (e.1 ≡ Refused.GuardOpen) × (IsLone self.old.member → HasOpenGuard self.old.member)) }
+        ensures exact { IsLone self.old.member → IfOk result (λ _. IsNullCell (world_of self.old) (raw_number_of collector)
+            × (world_of self.new ≡ collector_closed T.holds (world_of self.old) self.old.member.place (raw_number_of collector))) }
+    {
+        let number = collector.number();
+        self.membership.stands();
+        let right = self.membership.begin_close(collector)?;
+        self.empty_own(number);
+        self.empty_others(number);
+        self.membership.end_close(number, right);
+        Ok(())
     }
 
     /// Lets an owner go, and answers whether it was the last, whose item is dropped in its place: its value gives up at once what it holds.
@@ -250,6 +360,7 @@ impl<T: Item<T>, J: Job> LocalGiver<'_, T, J> {
     ) -> Result<bool, (Right, Refused)>
         requires home { home_of right ≡ slots_home self.old }
         requires kind { kind_of right ≡ kind }
+        requires closes { self.old.member.slots.closes ≡ None }
         ensures own { MatchResult result (λ _. KeepsMoreWaiting self.old.member.own self.new.member.own) (λ _. self.new.member.own ≡ self.old.member.own) }
         ensures known { KnowsOn (known_of self.old) (known_of self.new) }
         ensures kept { MatchResult result

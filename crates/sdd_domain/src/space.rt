@@ -2,6 +2,7 @@
 ghost use Rattle.sdd_shared_values.specs.SharedValues.{showing};
 
 mod cells;
+mod collectors;
 mod raw_cells;
 
 use crate::domain::Domain;
@@ -13,8 +14,19 @@ use sdd_rights::{Right, StandingKind};
 use sdd_space::inner::value_of_ptr;
 use sdd_space::{
     Caller, Deferrals, Guard, Guards, InPlaceItems, Item, Items, Look, LookThrough, Ptr, RawItems,
-    SharedItems, SharedOwners, Shows,
+    SharedItems, SharedOwners, Shows, Space,
 };
+
+/// Others may change the domain between two calls, unless there is one participant alone.
+impl<T: Item<T>, J: Job> Space<T> for Local<'_, T, J> {
+    ghost use Rattle.std.specs.Prelude.{false};
+
+    const ALONE: bool = false;
+
+    ghost is_alone = { false };
+
+    ghost alone_is_exact = { λ _ alone. absurd cc };
+}
 
 impl<T: Item<T>, J: Job> Shows<T> for Local<'_, T, J> {
     ghost use Rattle.sdd_domain.specs.SpaceIds.{home_in};
@@ -154,7 +166,7 @@ impl<T: Item<T>, J: Job> Guards<T> for Local<'_, T, J> {
     ghost says_at_close = { λ p q. (told : Option ScanEnd) × TellsScan told p.member q.member };
 
     // The compiler puts an opening into its caller as long as it is short: that is all but spent. Five instructions more here, and each guard takes 12 more.
-    #[inline]
+    #[inline(always)]
     fn new_guard(&mut self) -> Result<Guard, Refused>
         requires seated { IsSeated (seat_of self.old) }
         ensures seat { seat_of self.new ≡ seat_of self.old }
@@ -185,7 +197,7 @@ impl<T: Item<T>, J: Job> Guards<T> for Local<'_, T, J> {
         Ok(guard)
     }
 
-    #[inline]
+    #[inline(always)]
     fn close_guard(&mut self, guard: Guard) {
         let _told = self.partner.membership.close_guard(guard);
     }
@@ -240,7 +252,7 @@ impl<T: Item<T>, J: Job> Items<T> for Local<'_, T, J> {
         self.partner.membership.get_guarded(right, guard)
     }
 
-    #[inline]
+    #[inline(always)]
     fn release(&mut self, right: Right, kind: StandingKind) -> bool {
         self.partner.membership.release(right, kind)
     }

@@ -71,7 +71,7 @@ pub fn move_in<T: Item<T>>(
 
 /// Moves a value into the place of a slot that was claimed, whose owner is a token of its own then, which shows the value, with a unit of the place's
 /// number. The owner may be one of several, where the slot was claimed by a word that counts them.
-#[inline]
+#[inline(always)]
 pub fn put_value<T: Item<T>>(
     board: &DomainTable,
     shelf: &SharedValues<T, HoldsOwnDomain>,
@@ -102,7 +102,7 @@ pub fn put_value<T: Item<T>>(
 
 /// Lets an owner go that was taken in, which is one of several or not, and whose unit goes to the bank. The answer is whether it was the last: then the
 /// item waits with the participant from now on.
-#[inline]
+#[inline(always)]
 pub fn let_one_go(
     board: &DomainTable,
     token: &mut DomainSeat,

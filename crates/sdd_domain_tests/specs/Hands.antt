@@ -1,6 +1,7 @@
 -- What a participant has in its hand that makes calls as they come
 use Rattle.std.specs.Prelude.{◌≡◌, All, List}
 use Rattle.sdd_rights.specs.Units as token
+use Rattle.sdd_space.specs.Collector as collector
 use Rattle.sdd_space.specs.Guard.{ReaderId, reader_of}
 use Rattle.sdd_space.specs.Owned as owned
 use Rattle.sdd_space.specs.Shared as shared
@@ -8,6 +9,7 @@ use Rattle.sdd_space.specs.declared.atomic_owned.AtomicOwned.{AtomicOwned}
 use Rattle.sdd_space.specs.declared.atomic_shared.AtomicShared.{AtomicShared}
 use Rattle.sdd_space.specs.declared.guard.Guard.{Guard}
 use Rattle.sdd_space.specs.declared.owned.Owned.{Owned}
+use Rattle.sdd_space.specs.declared.private_collector.PrivateCollector.{PrivateCollector}
 use Rattle.sdd_space.specs.declared.shared.Shared.{Shared}
 
 module _ {T : Type 0} where
@@ -24,6 +26,9 @@ module _ {T : Type 0} where
 
   abbrev pub AreSharedCellsIn : token.GhostName → List (AtomicShared T) → Type 0
   AreSharedCellsIn home = All (λ c. shared.cells_home c ≡ home)
+
+  abbrev pub AreCollectorsIn : token.GhostName → List (PrivateCollector T) → Type 0
+  AreCollectorsIn home = All (λ c. collector.cells_home c ≡ home)
 
 -- the guards are this reader's
 abbrev pub AreGuardsOf : ReaderId → List Guard → Type 0

@@ -3,3 +3,4 @@ pub mod Held
 pub mod Hands
 pub mod Four
 pub mod FewCells
+pub mod FewCollectors

@@ -7,24 +7,20 @@ use crate::steps::new_domain;
 use crate::with_jobs::{Adds, Total, closed, ended, number, registered};
 use sdd_core::Limits;
 use sdd_participants::Tally;
-use sdd_space::{Cells, Deferrals, Guards, InPlaceItems, Items, Look, RawItems, SharedOwners};
+use sdd_space::{Deferrals, Space};
 use sdd_world::World;
 use std::process::Abort;
 use std::sync::atomic::Ordering;
 
 /// What one participant does in some space of numbers, and is answered.
 pub trait Plays {
-    fn play<
-        R: Abort + AllocGlobal,
-        S: Look<u64>
-            + Items<u64>
-            + SharedOwners<u64>
-            + InPlaceItems<u64>
-            + RawItems<u64>
-            + Cells<u64>
-            + Guards<u64>
-            + Deferrals<u64, Job = Adds>,
-    >(&self, rt: &R, s: &mut S, total: &Total, answers: &mut Vec<Answer>)
+    fn play<R: Abort + AllocGlobal, S: Space<u64> + Deferrals<u64, Job = Adds>>(
+        &self,
+        rt: &R,
+        s: &mut S,
+        total: &Total,
+        answers: &mut Vec<Answer>,
+    )
         requires seated { IsSeated (S.seat s.old) }
         ensures seat { S.seat s.new ≡ S.seat s.old };
 }

@@ -3,6 +3,7 @@ ghost use Rattle.std.specs.Prelude.{◌≡◌};
 ghost use Rattle.sdd_space.specs.CallerId.{IsSeated};
 ghost use Rattle.sdd_space.specs.Guard.{reader_of};
 ghost use Rattle.sdd_space.specs.Owned as owned;
+ghost use Rattle.sdd_space.specs.Ptr.{PtrIsShown};
 ghost use Rattle.sdd_space.specs.Shared as shared;
 ghost use Rattle.sdd_domain_tests.specs.FewCells.{AreFewOf};
 
@@ -14,6 +15,7 @@ use crate::generator::Generator;
 use sdd_core::Refused;
 use sdd_space::{
     AtomicOwned, AtomicShared, Cells, Guard, Guards, InPlaceItems, Items, Look, Owned, Ptr, Shared,
+    SharedItems,
 };
 use std::process::Abort;
 use std::sync::atomic::Ordering;
@@ -39,7 +41,7 @@ fn is_refused(rt: &impl Abort, refused: Refused, wanted: Refused) {
 }
 
 /// The owner of a new item, if a slot is free.
-fn new_owned<S: Items<Counted>>(
+pub fn new_owned<S: Items<Counted>>(
     rt: &impl Abort,
     s: &mut S,
     counts: &Counts,
@@ -60,7 +62,7 @@ fn new_owned<S: Items<Counted>>(
 }
 
 /// The same of an owner that may have others beside it.
-fn new_shared<S: Items<Counted>>(
+pub fn new_shared<S: Items<Counted>>(
     rt: &impl Abort,
     s: &mut S,
     counts: &Counts,
@@ -274,6 +276,68 @@ fn copies<
     }
 }
 
+/// One owner more of what a pointer names, if it is still owned.
+fn shared_of<S: SharedItems<Counted>>(
+    rt: &impl Abort,
+    s: &mut S,
+    ptr: Ptr<'_, Counted>,
+) -> Option<Shared<Counted>>
+    requires seated { IsSeated (S.seat s.old) }
+    requires shown { S.asks_sight s.old → PtrIsShown (S.shows s.old) ptr }
+    ensures seat { S.seat s.new ≡ S.seat s.old }
+    ensures home { shared.IsOfSlots (S.seat s.old).home.slots result }
+{
+    match ptr.get_shared(s) {
+        Ok(owner) => owner,
+        Err(refused) => {
+            assert_eq!(rt; refused, Refused::Contended);
+            None
+        }
+    }
+}
+
+/// What an owner has is what a pointer shows, by which it came.
+fn is_shown<S: Look<Counted> + Items<Counted>>(
+    rt: &impl Abort,
+    s: &S,
+    ptr: Ptr<'_, Counted>,
+    owner: &Option<Shared<Counted>>,
+)
+    requires seated { IsSeated (S.seat s.now) }
+    requires home { shared.IsOfSlots (S.seat s.now).home.slots owner.now }
+{
+    let Some(owner) = owner else {
+        return;
+    };
+    match ptr.as_ref(s) {
+        Some(seen) => assert_eq!(rt; owner.get(s).number, seen.number),
+        None => panic!(rt; "it was seen"),
+    }
+}
+
+/// An owner comes of what a cell holds, while others let go of it, and goes.
+fn shares<
+    S: Look<Counted>
+        + Guards<Counted>
+        + Items<Counted>
+        + InPlaceItems<Counted>
+        + SharedItems<Counted>
+        + Cells<Counted>,
+>(rt: &impl Abort, s: &mut S, cell: &AtomicShared<Counted>)
+    requires seated { IsSeated (S.seat s.old) }
+    requires home { shared.cells_home cell.now ≡ (S.seat s.old).home.cells }
+    ensures { S.seat s.new ≡ S.seat s.old }
+{
+    let guard = Guard::new(s).expect(rt, "a guard may be opened");
+    let ptr = cell.load(&guard, s);
+    let owner = shared_of(rt, s, ptr);
+    is_shown(rt, s, ptr, &owner);
+    shows_twice(rt, s, ptr);
+    guard.accelerate(s);
+    guard.close(s);
+    changes_and_releases(rt, s, owner);
+}
+
 /// Sets another tag where the condition holds.
 fn tags<S: Cells<Counted>>(rt: &impl Abort, s: &mut S, cells: &FewCells<Counted>, draw: u64)
     requires seated { IsSeated (S.seat s.old) }
@@ -318,13 +382,18 @@ fn makes_own<S: Items<Counted> + Cells<Counted>>(rt: &impl Abort, s: &mut S, cou
 
 /// One call, drawn.
 fn draw<
-    S: Look<Counted> + Guards<Counted> + Items<Counted> + InPlaceItems<Counted> + Cells<Counted>,
+    S: Look<Counted>
+        + Guards<Counted>
+        + Items<Counted>
+        + InPlaceItems<Counted>
+        + SharedItems<Counted>
+        + Cells<Counted>,
 >(rt: &impl Abort, s: &mut S, counts: &Counts, cells: &FewCells<Counted>, drawn: &mut Generator)
     requires seated { IsSeated (S.seat s.old) }
     requires cells { AreFewOf (S.seat s.old).home.cells cells.now }
     ensures { S.seat s.new ≡ S.seat s.old }
 {
-    let call = drawn.below(10);
+    let call = drawn.below(12);
     let draw = drawn.below(16);
     match call {
         0 => looks_shared(rt, s, &cells.first),
@@ -336,13 +405,20 @@ fn draw<
         6 => copies(rt, s, &cells.first, draw % 2 == 0),
         7 => copies(rt, s, &cells.second, draw % 2 == 0),
         8 => tags(rt, s, cells, draw),
+        9 => shares(rt, s, &cells.first),
+        10 => shares(rt, s, &cells.second),
         _ => makes_own(rt, s, counts),
     }
 }
 
 /// So many calls, drawn.
 pub fn draws<
-    S: Look<Counted> + Guards<Counted> + Items<Counted> + InPlaceItems<Counted> + Cells<Counted>,
+    S: Look<Counted>
+        + Guards<Counted>
+        + Items<Counted>
+        + InPlaceItems<Counted>
+        + SharedItems<Counted>
+        + Cells<Counted>,
 >(
     rt: &impl Abort,
     s: &mut S,

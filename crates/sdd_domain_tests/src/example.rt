@@ -16,7 +16,7 @@ use sdd_core::{Limits, Refused, Tag};
 use sdd_participants::Tally;
 use sdd_space::{
     AtomicShared, Cells, Deferrals, Guard, Guards, InPlaceItems, Items, Look, Owned, Ptr, RawItems,
-    RawPtr, SharedOwners,
+    RawPtr, SharedOwners, Space,
 };
 use std::process::Abort;
 use std::sync::atomic::Ordering;
@@ -265,17 +265,13 @@ const ANSWERS: [Answer; 36] = [
 struct Example;
 
 impl Plays for Example {
-    fn play<
-        R: Abort + AllocGlobal,
-        S: Look<u64>
-            + Items<u64>
-            + SharedOwners<u64>
-            + InPlaceItems<u64>
-            + RawItems<u64>
-            + Cells<u64>
-            + Guards<u64>
-            + Deferrals<u64, Job = Adds>,
-    >(&self, rt: &R, s: &mut S, total: &Total, answers: &mut Vec<Answer>) {
+    fn play<R: Abort + AllocGlobal, S: Space<u64> + Deferrals<u64, Job = Adds>>(
+        &self,
+        rt: &R,
+        s: &mut S,
+        total: &Total,
+        answers: &mut Vec<Answer>,
+    ) {
         holds(rt, s, answers);
         shares(rt, s, answers);
         goes_out(rt, s, answers);

@@ -1,12 +1,13 @@
-//! What a participant has that makes calls as they come: owners, cells, pointers to what it put out, and guards.
+//! What a participant has that makes calls as they come: owners, cells, collectors, pointers to what it put out, and guards.
 ghost use Rattle.std.specs.Prelude.{◌≡◌, IfSome};
 ghost use Rattle.sdd_rights.specs.Units as token;
+ghost use Rattle.sdd_space.specs.Collector.{cells_home};
 ghost use Rattle.sdd_space.specs.Guard.{ReaderId, reader_of};
 ghost use Rattle.sdd_space.specs.Owned as owned;
 ghost use Rattle.sdd_space.specs.Shared as shared;
-ghost use Rattle.sdd_domain_tests.specs.Hands.{AreOwnedIn, AreOwnedCellsIn, AreSharedIn, AreSharedCellsIn, AreGuardsOf};
+ghost use Rattle.sdd_domain_tests.specs.Hands.{AreOwnedIn, AreOwnedCellsIn, AreSharedIn, AreSharedCellsIn, AreCollectorsIn, AreGuardsOf};
 
-use sdd_space::{AtomicOwned, AtomicShared, Guard, Owned, RawPtr, Shared};
+use sdd_space::{AtomicOwned, AtomicShared, Guard, Owned, PrivateCollector, RawPtr, Shared};
 use std::alloc::Global;
 use std::process::Abort;
 
@@ -15,6 +16,7 @@ pub struct Hand {
     pub shared: Vec<Shared<u64>>,
     pub owned_cells: Vec<AtomicOwned<u64>>,
     pub shared_cells: Vec<AtomicShared<u64>>,
+    pub collectors: Vec<PrivateCollector<u64>>,
     /// What is out as raw, and nobody has.
     pub out: Vec<RawPtr<u64>>,
     pub guards: Vec<Guard>,
@@ -26,6 +28,7 @@ impl Hand {
         ensures shared { (home : token.GhostName) → AreSharedIn home result.shared.items }
         ensures owned_cells { (home : token.GhostName) → AreOwnedCellsIn home result.owned_cells.items }
         ensures shared_cells { (home : token.GhostName) → AreSharedCellsIn home result.shared_cells.items }
+        ensures collectors { (home : token.GhostName) → AreCollectorsIn home result.collectors.items }
         ensures guards { (reader : ReaderId) → AreGuardsOf reader result.guards.items }
     {
         Hand {
@@ -33,6 +36,7 @@ impl Hand {
             shared: Vec::new(alloc),
             owned_cells: Vec::new(alloc),
             shared_cells: Vec::new(alloc),
+            collectors: Vec::new(alloc),
             out: Vec::new(alloc),
             guards: Vec::new(alloc),
         }
@@ -123,6 +127,35 @@ pub fn keep_shared_cell(
     ensures { (home : token.GhostName) → AreSharedCellsIn home cells.old.items → shared.cells_home cell ≡ home → AreSharedCellsIn home cells.new.items }
 {
     match cells.push(cell) {
+        Ok(()) => {}
+        Err(_refused) => panic!(rt; "there is memory"),
+    }
+}
+
+/// Takes some collector.
+pub fn take_collector(
+    collectors: &mut Vec<PrivateCollector<u64>>,
+    pick: usize,
+) -> Option<PrivateCollector<u64>>
+    ensures { (home : token.GhostName) → AreCollectorsIn home collectors.old.items →
+        AreCollectorsIn home collectors.new.items × IfSome result (λ collector. cells_home collector ≡ home) }
+{
+    if collectors.is_empty() {
+        return None;
+    }
+    let place = pick % collectors.len();
+    Some(collectors.remove(place))
+}
+
+pub fn keep_collector(
+    rt: &impl Abort,
+    collectors: &mut Vec<PrivateCollector<u64>>,
+    collector: PrivateCollector<u64>,
+)
+    ensures { (home : token.GhostName) → AreCollectorsIn home collectors.old.items → cells_home collector ≡ home →
+        AreCollectorsIn home collectors.new.items }
+{
+    match collectors.push(collector) {
         Ok(()) => {}
         Err(_refused) => panic!(rt; "there is memory"),
     }

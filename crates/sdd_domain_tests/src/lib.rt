@@ -11,6 +11,12 @@ mod cell_crowd;
 #[cfg(test)]
 mod cell_crowd_calls;
 #[cfg(test)]
+mod collector_calls;
+#[cfg(test)]
+mod collector_crowd;
+#[cfg(test)]
+mod collector_crowd_calls;
+#[cfg(test)]
 mod configuration;
 #[cfg(test)]
 mod counted;
@@ -27,6 +33,7 @@ mod drops;
 #[cfg(test)]
 mod example;
 mod few_cells;
+mod few_collectors;
 mod four;
 #[cfg(test)]
 mod generator;
@@ -45,6 +52,8 @@ mod jobs;
 #[cfg(test)]
 mod last_owners;
 mod node;
+#[cfg(test)]
+mod others_items;
 #[cfg(test)]
 mod owned_calls;
 #[cfg(test)]

@@ -1,7 +1,7 @@
 //! Lists of calls as they come, which a turn at a world and the only participant of a domain answer alike.
 ghost use Rattle.std.specs.Prelude.{◌≡◌};
 ghost use Rattle.sdd_space.specs.CallerId.{IsSeated};
-ghost use Rattle.sdd_domain_tests.specs.Hands.{AreOwnedIn, AreOwnedCellsIn, AreSharedIn, AreSharedCellsIn, AreGuardsOf};
+ghost use Rattle.sdd_domain_tests.specs.Hands.{AreOwnedIn, AreOwnedCellsIn, AreSharedIn, AreSharedCellsIn, AreCollectorsIn, AreGuardsOf};
 
 use crate::answers::{Answer, note};
 use crate::both_spaces::{Plays, compared};
@@ -9,11 +9,13 @@ use crate::generator::Generator;
 use crate::hand::Hand;
 use crate::steps::ONE_SLOT;
 use crate::with_jobs::{Adds, Total};
-use crate::{guard_calls, owned_calls, owned_cell_calls, shared_calls, shared_cell_calls};
+use crate::{
+    collector_calls, guard_calls, owned_calls, owned_cell_calls, shared_calls, shared_cell_calls,
+};
 use sdd_core::{Limits, Refused};
 use sdd_space::{
-    AtomicOwned, AtomicShared, Cells, Deferrals, Guard, Guards, InPlaceItems, Items, Look, Owned,
-    RawItems, RawPtr, Shared, SharedOwners,
+    AtomicOwned, AtomicShared, Cells, Collectors, Deferrals, Guard, Guards, InPlaceItems, Items,
+    Look, Owned, PrivateCollector, RawCells, RawItems, RawPtr, Shared, SharedOwners, Space,
 };
 use std::process::Abort;
 use std::sync::atomic::Ordering;
@@ -311,31 +313,60 @@ fn shared_cell_call<S: Look<u64> + Items<u64> + Cells<u64>>(
     }
 }
 
+fn collector_call<S: RawCells<u64> + Collectors<u64>>(
+    rt: &impl Abort,
+    s: &mut S,
+    collectors: &mut Vec<PrivateCollector<u64>>,
+    owned: &mut Vec<Owned<u64>>,
+    shared: &mut Vec<Shared<u64>>,
+    guards: &mut Vec<Guard>,
+    drawn: &mut Generator,
+) -> Answer
+    requires seated { IsSeated (S.seat s.old) }
+    requires collectors { AreCollectorsIn (S.seat s.old).home.cells collectors.old.items }
+    requires owned { AreOwnedIn (S.seat s.old).home.slots owned.old.items }
+    requires shared { AreSharedIn (S.seat s.old).home.slots shared.old.items }
+    requires guards { AreGuardsOf (S.seat s.old).reader guards.old.items }
+    ensures seat { S.seat s.new ≡ S.seat s.old }
+    ensures collectors { AreCollectorsIn (S.seat s.old).home.cells collectors.new.items }
+    ensures owned { AreOwnedIn (S.seat s.old).home.slots owned.new.items }
+    ensures shared { AreSharedIn (S.seat s.old).home.slots shared.new.items }
+    ensures guards { AreGuardsOf (S.seat s.old).reader guards.new.items }
+{
+    let call = drawn.below(4);
+    let pick = drawn.below(1000) as usize;
+    match call {
+        0 => collector_calls::makes(rt, s, collectors),
+        1 => collector_calls::collects(rt, s, collectors, owned, guards, pick),
+        2 => collector_calls::collects_shared(rt, s, collectors, shared, guards, pick),
+        _ => collector_calls::closes(rt, s, collectors, pick),
+    }
+}
+
 /// The next call, with what there is.
-pub fn call<
-    S: Look<u64>
-        + Items<u64>
-        + SharedOwners<u64>
-        + InPlaceItems<u64>
-        + RawItems<u64>
-        + Cells<u64>
-        + Guards<u64>
-        + Deferrals<u64, Job = Adds>,
->(rt: &impl Abort, s: &mut S, hand: &mut Hand, total: &Total, drawn: &mut Generator) -> Answer
+pub fn call<S: Space<u64> + Deferrals<u64, Job = Adds>>(
+    rt: &impl Abort,
+    s: &mut S,
+    hand: &mut Hand,
+    total: &Total,
+    drawn: &mut Generator,
+) -> Answer
     requires seated { IsSeated (S.seat s.old) }
     requires owned { AreOwnedIn (S.seat s.old).home.slots hand.old.owned.items }
     requires shared { AreSharedIn (S.seat s.old).home.slots hand.old.shared.items }
     requires owned_cells { AreOwnedCellsIn (S.seat s.old).home.cells hand.old.owned_cells.items }
     requires shared_cells { AreSharedCellsIn (S.seat s.old).home.cells hand.old.shared_cells.items }
+    requires collectors { AreCollectorsIn (S.seat s.old).home.cells hand.old.collectors.items }
     requires guards { AreGuardsOf (S.seat s.old).reader hand.old.guards.items }
     ensures seat { S.seat s.new ≡ S.seat s.old }
     ensures owned { AreOwnedIn (S.seat s.old).home.slots hand.new.owned.items }
     ensures shared { AreSharedIn (S.seat s.old).home.slots hand.new.shared.items }
     ensures owned_cells { AreOwnedCellsIn (S.seat s.old).home.cells hand.new.owned_cells.items }
     ensures shared_cells { AreSharedCellsIn (S.seat s.old).home.cells hand.new.shared_cells.items }
+    ensures collectors { AreCollectorsIn (S.seat s.old).home.cells hand.new.collectors.items }
     ensures guards { AreGuardsOf (S.seat s.old).reader hand.new.guards.items }
 {
-    match drawn.below(8) {
+    match drawn.below(9) {
         0 => owned_call(rt, s, &mut hand.owned, &mut hand.guards, drawn),
         1 => shared_call(rt, s, &mut hand.shared, &mut hand.guards, drawn),
         2 => raw_call(
@@ -358,6 +389,15 @@ pub fn call<
             rt,
             s,
             &mut hand.shared_cells,
+            &mut hand.shared,
+            &mut hand.guards,
+            drawn,
+        ),
+        5 => collector_call(
+            rt,
+            s,
+            &mut hand.collectors,
+            &mut hand.owned,
             &mut hand.shared,
             &mut hand.guards,
             drawn,
@@ -439,17 +479,13 @@ struct Drawn {
 }
 
 impl Plays for Drawn {
-    fn play<
-        R: Abort + AllocGlobal,
-        S: Look<u64>
-            + Items<u64>
-            + SharedOwners<u64>
-            + InPlaceItems<u64>
-            + RawItems<u64>
-            + Cells<u64>
-            + Guards<u64>
-            + Deferrals<u64, Job = Adds>,
-    >(&self, rt: &R, s: &mut S, total: &Total, answers: &mut Vec<Answer>) {
+    fn play<R: Abort + AllocGlobal, S: Space<u64> + Deferrals<u64, Job = Adds>>(
+        &self,
+        rt: &R,
+        s: &mut S,
+        total: &Total,
+        answers: &mut Vec<Answer>,
+    ) {
         let mut drawn = Generator::new(self.seed);
         let mut hand = Hand::new(rt.alloc());
         for _ in 0..CALLS {
@@ -462,10 +498,12 @@ impl Plays for Drawn {
             shared,
             owned_cells,
             shared_cells,
+            collectors,
             out,
             guards,
         } = hand;
         close_all(s, guards);
+        collector_calls::close_all(rt, s, collectors);
         close_owned_cells(s, owned_cells);
         close_shared_cells(s, shared_cells);
         retire_all(s, owned);

@@ -6,7 +6,7 @@ use Rattle.sdd_participants.specs.Slab.{entry_at}
 use Rattle.sdd_participants.specs.declared.standing.CellContents.{CellContents}
 use Rattle.sdd_participants.specs.declared.standing.Standing.TheVariants.{Shared}
 use Rattle.sdd_space.specs.World.{World, standing_at, value_at}
-use Rattle.sdd_space.specs.WorldChanges.{made_shared, owner_given, with_cell}
+use Rattle.sdd_space.specs.WorldChanges.{made_shared, owner_given, spilled, with_cell}
 use Rattle.sdd_space.specs.Shared as shared
 use Rattle.sdd_examples.specs.declared.config.Config.{Config}
 
@@ -33,3 +33,11 @@ module _ {T : Type 0} where
   abbrev pub replaced : World T → (p cell slot owners next : ℕ) → T → World T
   replaced w p cell slot owners next value =
       owner_given (with_cell (made_shared w next value) cell (record { held = Some next; tag = no_tag })) p slot (Some (Shared owners))
+
+  -- the value is in a slot that was free, the cell holds its owner with the tag that it had, and p is given what the cell held before
+  abbrev pub exchanged : World T → (p cell : ℕ) → CellContents → (next : ℕ) → T → World T
+  exchanged w p cell before next value = spilled (with_cell (made_shared w next value) cell (record before { held = Some next })) p before.held
+
+  -- the value was in a slot that was free, and p is given its only owner at once
+  abbrev pub given_up : World T → (p next : ℕ) → T → World T
+  given_up w p next value = spilled (made_shared w next value) p (Some next)

@@ -1,17 +1,17 @@
 //! A configuration that many read and few replace.
-ghost use Rattle.std.specs.Prelude.{ℕ, ◌≡◌, IfErr, IfOk, MatchResult, Some, option_copied, true};
+ghost use Rattle.std.specs.Prelude.{ℕ, ◌≡◌, ◌≢◌, ◌⊎◌, IfErr, IfOk, MatchBool, MatchResult, Some, option_copied, option_map};
 ghost use Rattle.sdd_participants.specs.Slab.{IsEmptyAt, IsFull};
 ghost use Rattle.sdd_space.specs.Guard.{reader_of};
 ghost use Rattle.sdd_space.specs.OwnerOrCell.{AreOf};
 ghost use Rattle.sdd_space.specs.Ptr.{KeepsShown, PtrIsShown, cell_seen, shown_by};
-ghost use Rattle.sdd_space.specs.Shared.{IsOfSlots};
+ghost use Rattle.sdd_space.specs.Shared.{IsOfSlots, slot_of};
 ghost use Rattle.sdd_space.specs.Undisturbed.{Undisturbed};
 ghost use Rattle.sdd_space.specs.CallerId.{IsExact, IsSeated, reader_at};
-ghost use Rattle.sdd_space.specs.WorldChanges.{cell_closed};
+ghost use Rattle.sdd_space.specs.WorldChanges.{cell_closed, spilled};
 ghost use Rattle.sdd_participants.specs.Slab.{entry_at};
 ghost use Rattle.sdd_space.specs.World.{World, IsPlaceOf};
 ghost use Rattle.sdd_world.specs.Place.{index_of};
-ghost use Rattle.sdd_examples.specs.Config.{IsFound, IsSetTo, cell_of, cells_home, replaced};
+ghost use Rattle.sdd_examples.specs.Config.{IsFound, IsSetTo, cell_of, cells_home, exchanged, given_up, replaced};
 
 use sdd_core::{Refused, Tag};
 use sdd_space::laws::shared_is_shown;
@@ -74,7 +74,7 @@ impl<T: Item<T>> Config<T> {
 
     /// Replaces the value. The owner of the one before is released: it is reclaimed once nobody reads it.
     ///
-    /// `NoSlot` where no slot is free; the value comes back.
+    /// `NoSlot` where no slot is free; `Contended`, in a domain alone, where as many claims were lost to others as its limits allow. The value comes back.
     pub fn replace<S: Items<T> + Cells<T>>(&self, value: T, s: &mut S) -> Result<(), (T, Refused)>
         requires seated { IsSeated (S.seat s.old) }
         requires home { cells_home self.now ≡ (S.seat s.old).home.cells }
@@ -99,7 +99,7 @@ impl<T: Item<T>> Config<T> {
 
     /// Replaces the value that the pointer shows, unless another one took its place meanwhile. Whether it did.
     ///
-    /// `NoSlot` where no slot is free; `Contended`, in a domain alone, where as many exchanges were lost as its limits allow. The value comes back.
+    /// `NoSlot` where no slot is free; `Contended`, in a domain alone, where as many claims were lost to others as its limits allow. The value comes back.
     pub fn exchange<'g, S: Items<T> + Cells<T>>(
         &self,
         current: Ptr<'g, T>,
@@ -112,9 +112,14 @@ impl<T: Item<T>> Config<T> {
         requires reader { reader_of guard.now ≡ (S.seat s.old).reader }
         requires value { AreOf (S.seat s.old).home (T.holds value) }
         ensures seat { S.seat s.new ≡ S.seat s.old }
-        ensures back { IfErr result (λ e. e.0 ≡ value) }
-        ensures exact { IsExact (S.seat s.old) → entry_at (S.world s.old).cells (cell_of self.now) ≡ Some (cell_seen current.entry) →
-            IfOk result (λ done. done ≡ true) }
+        ensures back { IfErr result (λ e. (e.0 ≡ value) × ((e.1 ≡ Refused.NoSlot) ⊎ (e.1 ≡ Refused.Contended))) }
+        ensures exact { IsExact (S.seat s.old) → MatchResult result
+            (λ done. (next : ℕ) × IsEmptyAt (S.world s.old).standings next × MatchBool done
+            ((entry_at (S.world s.old).cells (cell_of self.now) ≡ Some (cell_seen current.entry)) × (S.world s.new
+            ≡ exchanged (S.world s.old) (S.seat s.old).place (cell_of self.now) (cell_seen current.entry) next value))
+            ((entry_at (S.world s.old).cells (cell_of self.now) ≢ Some (cell_seen current.entry)) × (S.world s.new
+            ≡ given_up (S.world s.old) (S.seat s.old).place next value)))
+            (λ e. IsFull (S.world s.old).standings × (e ≡ (value, Refused.NoSlot)) × (S.world s.new ≡ S.world s.old)) }
         ensures keeps { KeepsShown (S.shows s.old) (S.shows s.new) }
     {
         let next = Shared::new(value, s)?;
@@ -152,6 +157,7 @@ fn let_go<T: Item<T>, S: Items<T>>(owner: Option<Shared<T>>, s: &mut S)
     requires seated { IsSeated (S.seat s.old) }
     requires home { IsOfSlots (S.seat s.old).home.slots owner }
     ensures seat { S.seat s.new ≡ S.seat s.old }
+    ensures exact { IsExact (S.seat s.old) → S.world s.new ≡ spilled (S.world s.old) (S.seat s.old).place (option_map slot_of owner) }
     ensures keeps { KeepsShown (S.shows s.old) (S.shows s.new) }
 {
     if let Some(owner) = owner {

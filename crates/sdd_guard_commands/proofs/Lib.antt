@@ -1,2 +1,4 @@
 pub mod GuardActs
 pub mod Ending
+pub mod StackEnding
+pub mod StackLeaving

@@ -1,7 +1,15 @@
 -- How a script lets go of what it holds
-use Rattle.std.specs.Prelude.{ℕ, ◌≡◌, ◌≢◌, None, Some, slice_set}
+use Rattle.std.specs.Prelude.{ℕ, ◌≡◌, ◌≢◌, IsSome, List, None, Some, slice_set}
 use Rattle.sdd_participants.specs.declared.standing.Standing.TheVariants.{Raw}
-use Rattle.sdd_space.specs.World.{standing_at}
+use Rattle.sdd_space.specs.World.{World, IsPlaceOf, standing_at}
+use Rattle.sdd_participants.specs.EpochState.{phase_at}
+use Rattle.sdd_participants.specs.EpochState as time
+use Rattle.sdd_space.specs.WorldChanges.{closed, opened}
+use Rattle.sdd_space.specs.WorldInvariant.{IsWhole}
+use Rattle.sdd_lists.specs.Lists.{Entry}
+use Rattle.sdd_script_model.specs.Listed.{Begins}
+use Rattle.sdd_script_model.specs.Stacks.{stack_closed}
+use Rattle.sdd_script_model.specs.Val.{Val, holdings_of}
 use Rattle.sdd_script_model.specs.ScriptState.{ScriptState, in_world}
 
 -- the owner is spent: it is given up
@@ -26,6 +34,35 @@ pub record SpendsCollector (k : ℕ) (old new : ScriptState) : Type 0 where
   pub cells : new.cells ≡ old.cells
   pub guards : new.guards ≡ old.guards
   pub tally : new.world.tally ≡ old.world.tally
+
+-- the stack is spent: it is closed, and no item goes raw
+pub record SpendsStack (n : ℕ) (old new : ScriptState) : Type 0 where
+  pub stacks : new.stacks ≡ slice_set old.stacks n None
+  pub owners : new.owners ≡ old.owners
+  pub cells : new.cells ≡ old.cells
+  pub collectors : new.collectors ≡ old.collectors
+  pub guards : new.guards ≡ old.guards
+  pub others : (j : ℕ) → standing_at new.world j ≡ Some Raw → standing_at old.world j ≡ Some Raw
+  pub made : new.world.tally.made ≡ old.world.tally.made
+  pub in_place : new.world.tally.in_place ≡ old.world.tally.in_place
+
+-- place p is a participant's again, with what was left there
+abbrev pub revived : World Val → ℕ → World Val
+revived w p = record w { time = time.revived w.time p }
+
+-- where place p is live again and a guard is opened there, a list begins in cell c
+abbrev pub BeginsUnder : World Val → (p c : ℕ) → Type 0
+BeginsUnder w p c =
+    IsPlaceOf (revived w p) p → IsWhole (revived w p) → (es : List (Entry Val)) × Begins (opened holdings_of (revived w p) p) c es
+
+-- the stack in cell c is closed under a guard that is opened for it, at some place that is not free
+pub record LeavesStack (w : World Val) (c : ℕ) (new : World Val) : Type 0 where
+  pub place : ℕ
+  pub taken : IsSome (phase_at w.time place)
+  pub live : IsPlaceOf (revived w place) place
+  pub whole : IsWhole (revived w place)
+  pub closed : (es : List (Entry Val)) → Begins (opened holdings_of (revived w place) place) c es →
+      new ≡ closed (stack_closed (opened holdings_of (revived w place) place) place c es) place
 
 -- the guard is spent: it is closed
 pub record SpendsGuard (g : ℕ) (old new : ScriptState) : Type 0 where

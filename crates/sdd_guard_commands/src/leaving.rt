@@ -1,22 +1,28 @@
 //! The end of a script's world.
-ghost use Rattle.std.specs.Prelude.{◌≡◌, ◌≢◌, ◌↔◌, ◌+◌, ℕ, IsTrue, None, Some, slice_index_or};
+ghost use Rattle.std.specs.Prelude.{◌≡◌, ◌≢◌, ◌↔◌, ◌+◌, ◌<◌, ℕ, IsSome, IsTrue, None, Some, slice_index_or};
+ghost use Rattle.sdd_lists.specs.Stack.{cell_in, home_in};
+ghost use Rattle.sdd_participants.specs.EpochState.{phase_at};
+ghost use Rattle.sdd_world.specs.Place.{index_of};
 ghost use Rattle.sdd_participants.specs.declared.standing.Standing.TheVariants.{Raw};
-ghost use Rattle.sdd_space.specs.World.{standing_at};
-ghost use Rattle.sdd_guard_commands.specs.Leaving.{SpendsOwner, SpendsCell, SpendsCollector, SpendsGuard, LeavesRaw};
+ghost use Rattle.sdd_space.specs.World.{AnyGuardOpen, IsPlaceOf, standing_at};
+ghost use Rattle.sdd_guard_commands.specs.Leaving.{SpendsOwner, SpendsCell, SpendsCollector, SpendsGuard, SpendsStack, LeavesRaw, LeavesStack, BeginsUnder, revived};
 
 use crate::guards::close_guard;
+use sdd_lists::Stack;
 use sdd_participants::{Standing, Tally};
-use sdd_script_model::Val;
+use sdd_script_model::{Body, Val};
 use sdd_script_names::{Environment, Interpreter};
 use sdd_script_text::{GuardName, PlaceName};
 use sdd_space_commands::holding::{AnyCell, AnyOwner};
+use sdd_turn_commands::{guards, stacks};
 use sdd_world::World;
 use sdd_world::inner::{
-    leave, leave_cell, leave_collector, leave_raw, leave_shared, leave_shared_cell, standing_of,
+    leave, leave_cell, leave_collector, leave_raw, leave_shared, leave_shared_cell, some_place,
+    standing_of,
 };
 
-/// Every guard is closed, every owner, collector and cell spent, and every item given up that is out as raw; and then the world ends: all that
-/// waits is reclaimed.
+/// Every guard is closed, every owner, collector and cell spent, every item given up that is out as raw, and every stack closed; and then the world ends: all
+/// that waits is reclaimed.
 pub fn close(mut stage: Interpreter) -> Tally
     ensures made { result.made ≡ stage.world.tally.made }
     ensures in_place { result.in_place ≡ stage.world.tally.in_place }
@@ -27,6 +33,7 @@ pub fn close(mut stage: Interpreter) -> Tally
     spend_collectors(&mut stage);
     spend_cells(&mut stage);
     leave_raw_items(&mut stage);
+    spend_stacks(&mut stage);
     let Interpreter { hand } = stage;
     let Environment {
         world,
@@ -37,6 +44,7 @@ pub fn close(mut stage: Interpreter) -> Tally
         owners,
         cells,
         collectors,
+        stacks,
         slots: _,
         names: _,
         dates: _,
@@ -48,6 +56,7 @@ pub fn close(mut stage: Interpreter) -> Tally
     owners.destroy_spent();
     cells.destroy_spent();
     collectors.destroy_spent();
+    stacks.destroy_spent();
     world.is_whole();
     match world.close() {
         Ok(tally) => tally,
@@ -118,6 +127,50 @@ fn leave_raw_items(stage: &mut Interpreter)
         let slot = stage.hand.slots[item];
         leave_raw_item(stage, slot);
     }
+}
+
+/// Each stack that isn't spent is, where no guard is open and no item out as raw: it is closed, at whatever place is there.
+fn spend_stacks(stage: &mut Interpreter)
+    requires shut { (g : ℕ) → slice_index_or stage.old.guards g None ≡ None }
+    requires in_hand { (k : ℕ) → standing_at stage.old.world k ≢ Some Raw }
+    ensures spent { (s : ℕ) → slice_index_or stage.new.stacks s None ≡ None }
+    ensures guards { stage.new.guards ≡ stage.old.guards }
+    ensures owners { stage.new.owners ≡ stage.old.owners }
+    ensures cells { stage.new.cells ≡ stage.old.cells }
+    ensures collectors { stage.new.collectors ≡ stage.old.collectors }
+    ensures gone { (k : ℕ) → standing_at stage.new.world k ≢ Some Raw }
+    ensures made { stage.new.world.tally.made ≡ stage.old.world.tally.made }
+    ensures in_place { stage.new.world.tally.in_place ≡ stage.old.world.tally.in_place }
+{
+    for stack in 0..stage.hand.stacks.entries.len() {
+        spend_stack(stage, stack as u64);
+    }
+}
+
+fn spend_stack(stage: &mut Interpreter, stack: u64)
+    requires shut { (g : ℕ) → slice_index_or stage.old.guards g None ≡ None }
+    ensures { SpendsStack stack stage.old stage.new }
+{
+    if let Some(stack) = stage.hand.stacks.take(stack) {
+        leave_stack(&mut stage.hand.world, stack);
+    }
+}
+
+/// A stack is closed under a guard at the place of some participant, or at that of one that has ended, which is live again with what it left.
+fn leave_stack(world: &mut World<Val>, stack: Stack<Body>)
+    requires some { (p : ℕ) × IsSome (phase_at world.old.time p) }
+    requires shut { ¬ (AnyGuardOpen world.old) }
+    requires home { home_in stack ≡ world.old.home.cells }
+    requires list { (p : ℕ) → BeginsUnder world.old p (cell_in stack) }
+    ensures { LeavesStack world.old (cell_in stack) world.new }
+{
+    let place = some_place(world);
+    world.is_whole();
+    let Ok((guard, _)) = guards::open_at(world, &place) else {
+        unreachable!()
+    };
+    stacks::close_at(world, &place, stack, &guard);
+    guards::close_at(world, &place, guard);
 }
 
 fn leave_raw_item(stage: &mut Interpreter, slot: u32)

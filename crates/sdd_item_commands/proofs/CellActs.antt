@@ -215,7 +215,7 @@ module _ (h : Environment) (t : IsTied h) where
       acts-tagged tag was cell true w holds decides world =
           let own = is-cell c.0 x cell mine holds in
           leads h t (At name (call.TagIf c tag was)) (reply.Truth true) refl (ap (in_world d) world)
-          (tagged-leaves d t.sound whole p k cell live own.holds tag) ((here, known), (k, cell, own, decides, refl))
+          (tagged-leaves d t.sound whole p k cell live own.holds tag c.0 own.named) ((here, known), (k, cell, own, decides, refl))
       acts-tagged tag was cell false w holds decides world =
           let own = is-cell c.0 x cell mine holds in
           does d (At name (call.TagIf c tag was)) (reply.Truth false) (goes (ap (in_world d) world) t.sound t.guards)

@@ -1,14 +1,10 @@
 -- What the making of an item leaves in hand, and what an item shows: it is sound, and it is what the call means
 use Rattle.std.proofs.Common.{◌≡◌, ℕ, ◌+◌, ◌^◌, ◌<◌, List, [], ◌∷◌, ◌++◌, Option, Some, None, is_some, map, length, slice_index_or, slice_set, refl, sym, ap, ◌∙◌, subst}
-use Rattle.std.specs.Prelude.{◌-◌}
 use Rattle.std.specs.Option.{option_map}
 use Rattle.std.specs.Global.{Vec}
 use Rattle.std.proofs.lemmas.List.{length-map, length-set, map-set, map_push}
 use Rattle.sdd_core.specs.declared.refused.Refused.{Refused}
 use Rattle.sdd_participants.specs.Slab.{IsEmptyAt}
-use Rattle.sdd_participants.specs.declared.waiting.LimboEntry.TheVariants.{Item}
-use Rattle.sdd_space.specs.declared.owned.Owned.{Owned}
-use Rattle.sdd_space.specs.declared.shared.Shared.{Shared}
 use Rattle.sdd_space.specs.OwnerOrCell.{OwnerOrCell}
 use Rattle.sdd_space.specs.WorldChanges.{made_as, nulled}
 use Rattle.sdd_space.specs.WorldInvariant.{IsWhole}

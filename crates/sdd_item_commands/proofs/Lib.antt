@@ -7,3 +7,4 @@ pub mod CollectorActs
 pub mod CellActs
 pub mod ExchangeActs
 pub mod LinkActs
+pub mod StackActs

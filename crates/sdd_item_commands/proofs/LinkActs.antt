@@ -1,6 +1,7 @@
 -- What a change of a link leaves in hand: it is sound, and it is what the call means
-use Rattle.std.proofs.Common.{◌≡◌, ℕ, Bool, true, false, Some, refl, ap}
+use Rattle.std.proofs.Common.{◌≡◌, ◌≢◌, ℕ, Bool, true, false, Some, refl, ap}
 use Rattle.sdd_core.specs.declared.tag.Tag.{Tag}
+use Rattle.sdd_core.specs.declared.tag.Tag.TheVariants.{Both}
 use Rattle.sdd_participants.specs.Slab.{entry_at}
 use Rattle.sdd_participants.specs.declared.standing.CellContents.{CellContents}
 use Rattle.sdd_space.specs.World.{World, value_at}
@@ -17,13 +18,19 @@ use Rattle.sdd_script_model.specs.Val.{Val, link_of}
 use Rattle.sdd_script_model.specs.Link.{IsLink, may_change, retagged, tag_after}
 use Rattle.sdd_script_model.specs.ScriptState.{ScriptState, in_world, opening_at, slot_at}
 use Rattle.sdd_script_model.specs.Script.{Acts, CanPointTo, IsUnderGuard, IsValid, Meets}
-use Rattle.sdd_script_model.proofs.CellGoing.{tagged-leaves}
+use Rattle.sdd_script_model.proofs.CellGoing.{link-leaves}
 use Rattle.sdd_script_names.specs.declared.participants.NamedParticipant.{NamedParticipant}
 use Rattle.sdd_script_names.specs.declared.interpreter.Environment.{Environment}
 use Rattle.sdd_script_names.specs.Environment.{attending}
 use Rattle.sdd_script_names.specs.Interpreter.{desk_of, IsTied}
 use Rattle.sdd_script_names.proofs.Acts.{Does, does, goes, in_range, leads, still}
 use Rattle.sdd_item_commands.specs.Lines.{changing}
+
+-- no line gives both tags
+no-both : (how : LinkChange) → tag_after how ≢ Both
+no-both Mark same = absurd (cc)
+no-both Unmark same = absurd (cc)
+no-both Delete same = absurd (cc)
 
 -- who changes a link has a guard open, and can point to its item
 pub valid-changing : (d : ScriptState) (n : ℕ) (how : LinkChange) (i : ItemName) → IsValid d n (changing how i) → IsUnderGuard d n × CanPointTo d n i.0
@@ -54,7 +61,8 @@ module _ (h : Environment) (t : IsTied h) (i : ItemName) (name : PlaceName) (v :
       Does d (At name (changing how i)) (reply.Truth b) (record h { world = w })
   acts-changed whole a there how true w may world =
       leads h t (At name (changing how i)) (reply.Truth true) refl (ap (in_world d) world)
-      (tagged-leaves d t.sound whole (index_of a.place) (link_of v) cell (in_range h t whole name a there) holds (tag_after how)) (meets how true may)
+      (link-leaves d t.sound whole (index_of a.place) (link_of v) cell (in_range h t whole name a there) holds (tag_after how) (slot_at d i.0) v shown refl
+      (no-both how)) (meets how true may)
   acts-changed whole a there how false w may world =
       does d (At name (changing how i)) (reply.Truth false) (goes (ap (in_world d) world) t.sound t.guards)
       (still d (At name (changing how i)) (reply.Truth false) (meets how false may))

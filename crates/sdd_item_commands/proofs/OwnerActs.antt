@@ -1,6 +1,6 @@
 -- What each action of an owner leaves in hand: it is sound, and it is what the call means
 use Rattle.std.proofs.Common.{◌≡◌, ℕ, ◌+◌, ◌^◌, ◌<◌, Bool, if◌then◌else◌, [], ◌∷◌, ◌++◌, Option, Some, None, is_some, length, slice_index_or, slice_set, refl, sym, ap, ◌∙◌}
-use Rattle.std.specs.Prelude.{IsTrue, ◌↔◌, ◌-◌}
+use Rattle.std.specs.Prelude.{IsTrue, ◌↔◌}
 use Rattle.std.specs.Option.{option_map}
 use Rattle.std.specs.Global.{Vec}
 use Rattle.std.proofs.lemmas.List.{length-map}
@@ -26,7 +26,7 @@ use Rattle.sdd_space_commands.specs.declared.holding.AnyOwner.{AnyOwner}
 use Rattle.sdd_space_commands.specs.declared.holding.AnyOwner.TheVariants.{Sole, Share}
 use Rattle.sdd_script_names.specs.declared.participants.NamedParticipant.{NamedParticipant}
 use Rattle.sdd_script_names.specs.declared.interpreter.Environment.{Environment}
-use Rattle.sdd_script_model.specs.ScriptState.{ScriptState, opening_at, place_of, slot_at, slot_of, sole_slot, shared_slot}
+use Rattle.sdd_script_model.specs.ScriptState.{ScriptState, opening_at, place_of, slot_at, sole_slot, shared_slot}
 use Rattle.sdd_script_model.specs.Script.{HasOpen, IsParticipant, CanPointTo}
 use Rattle.sdd_script_names.specs.Environment.{attending}
 use Rattle.sdd_space_commands.specs.Owners.{owner_holding}

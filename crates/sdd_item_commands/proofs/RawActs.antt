@@ -178,7 +178,7 @@ module _ (h : Environment) (t : IsTied h) (whole : IsWhole h.world) (name : Plac
         let live = in_range h t whole name a there in
         let one : Some v ≡ Some puts.was = sym shown ∙ puts.there in
         let was : body_of puts.was ≡ body.Number m = (let value : v ≡ puts.was = cc in ap body_of (sym value) ∙ is_number) in
-        leads h t (At name (call.Put o number)) reply.Done refl (cc same) (put-leaves d t.sound whole p k live number m w may puts was)
+        leads h t (At name (call.Put o number)) reply.Done refl (cc same) (put-leaves d t.sound whole p k live o.0 (ap slot_of entry ∙ slot) number m w may puts was)
         ((is-there h t whole name a there, owns k v slot shown m is_number), (k, w, ap slot_of entry ∙ slot, may, puts, refl))
 
     pub put-refused : (number k m : ℕ) (v : Val) (e : Refused) → slot_of (Some (owner_holding x)) ≡ Some k → value_at h.world k ≡ Some v →

@@ -65,6 +65,14 @@ IsLinkAct (call.Delete item) = Unit {0}
 IsLinkAct (call.LinkTag item) = Unit {0}
 IsLinkAct other = ⊥
 
+-- an action on a stack
+abbrev pub IsStackAct : Action → Type 0
+IsStackAct call.Stack = Unit {0}
+IsStackAct (call.Push stack number guard) = Unit {0}
+IsStackAct (call.Pop stack guard) = Unit {0}
+IsStackAct (call.CloseStack stack) = Unit {0}
+IsStackAct other = ⊥
+
 -- the line that changes a link so
 abbrev pub changing : LinkChange → ItemName → Action
 changing change.Mark item = call.Mark item

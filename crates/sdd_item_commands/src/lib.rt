@@ -10,5 +10,6 @@ mod line;
 pub mod links;
 pub mod owners;
 pub mod raw;
+pub mod stacks;
 
-pub use line::{act_on_cell, act_on_held, act_on_item, act_on_link, act_on_raw};
+pub use line::{act_on_cell, act_on_held, act_on_item, act_on_link, act_on_raw, act_on_stack};

@@ -1,9 +1,9 @@
 //! The actions of this crate, and what each answers.
 ghost use Rattle.std.specs.Prelude.{◌≡◌, MatchOption, MatchResult};
 ghost use Rattle.sdd_script_model.specs.Script.{Acts};
-ghost use Rattle.sdd_item_commands.specs.Lines.{IsItemAct, IsRawAct, IsCellAct, IsHeldAct, IsLinkAct};
+ghost use Rattle.sdd_item_commands.specs.Lines.{IsItemAct, IsRawAct, IsCellAct, IsHeldAct, IsLinkAct, IsStackAct};
 
-use crate::{cells, collectors, exchanges, items, links, owners, raw};
+use crate::{cells, collectors, exchanges, items, links, owners, raw, stacks};
 use sdd_core::Refused;
 use sdd_script_model::{LinkChange, OwnerKind};
 use sdd_script_names::Interpreter;
@@ -115,4 +115,24 @@ pub fn act_on_link(stage: &mut Interpreter, name: PlaceName, action: Action) -> 
         Action::LinkTag(item) => links::link_tag(stage, name, item),
         _ => return None,
     })
+}
+
+/// An action on a stack. None where the action is another.
+pub fn act_on_stack(
+    stage: &mut Interpreter,
+    name: PlaceName,
+    action: Action,
+) -> Result<Option<Reply>, Refused>
+    ensures acts { MatchResult result
+        (λ o. MatchOption o (¬ (IsStackAct action) × (stage.new ≡ stage.old))
+        (λ reply. IsStackAct action × Acts stage.old (Call.At name action) reply stage.new))
+        (λ refused. (refused ≡ Refused.NoMemory) × (stage.new ≡ stage.old)) }
+{
+    Ok(Some(match action {
+        Action::Stack => stacks::make_stack(stage, name)?,
+        Action::Push(stack, number, guard) => stacks::push(stage, name, stack, number, guard)?,
+        Action::Pop(stack, guard) => stacks::pop(stage, name, stack, guard)?,
+        Action::CloseStack(stack) => stacks::close_stack(stage, name, stack)?,
+        _ => return Ok(None),
+    }))
 }

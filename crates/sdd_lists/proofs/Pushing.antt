@@ -1,7 +1,7 @@
 -- What a push makes of a list
 use Rattle.std.proofs.Common.{◌≡◌, ◌≢◌, ℕ, ◌<◌, List, [], ◌∷◌, length, Bool, true, false, Option, Some, None, refl, sym, ap, ◌∙◌, arith}
 use Rattle.std.specs.Prelude.{if◌then◌else◌}
-use Rattle.std.proofs.lemmas.List.{get_or-set_same, get_or-set_other, length-set}
+use Rattle.std.proofs.lemmas.List.{get_or-set_same, get_or-set_other, length-set, set_comm}
 use Rattle.sdd_core.specs.declared.tag.Tag.{Tag}
 use Rattle.sdd_core.specs.declared.tag.Tag.TheVariants as tag
 use Rattle.sdd_space.specs.World.{World, standing_at, value_at}
@@ -10,8 +10,7 @@ use Rattle.sdd_participants.specs.declared.standing.CellContents.{CellContents}
 use Rattle.sdd_participants.specs.declared.standing.Standing.{Standing}
 use Rattle.sdd_space.specs.WorldChanges.{held_in, made_as, with_cell}
 use Rattle.sdd_lists.specs.Lists.{Entry, is_deleted, first_slot, left, let_go_first, linked_in, Apart, AreLinked, IsList, trimmed}
-use Rattle.sdd_lists.proofs.Lists.{apart, bare, inside, linked-set, thrice}
-use Rattle.sdd_lists.proofs.Fronts.{tag_in}
+use Rattle.sdd_lists.proofs.Lists.{apart, bare, inside, linked-set}
 
 module _ {T : Type 0} (link : T → ℕ) where
   apart-left-by : (l : ℕ) (e : Entry T) (es : List (Entry T)) → Apart link l (e ∷ es) → Apart link l (left es) → (b : Bool) →
@@ -120,39 +119,19 @@ module _ {T : Type 0} (link : T → ℕ) where
 abbrev cell_of : Option ℕ → Tag → CellContents
 cell_of held t = record { held = held; tag = t }
 
--- three swaps put an entry between a cell and what it held: the first one empties the cell
-module _ {T : Type 0} (w u : World T) (c l : ℕ) (next : Option ℕ) (t1 : Tag) (far : c ≢ l)
-    (has1 : entry_at w.cells c ≡ Some (cell_of next t1)) (to1 : u ≡ with_cell w c (cell_of None tag.None)) where
-  pub empty-then : entry_at u.cells c ≡ Some (cell_of None tag.None)
-  empty-then =
-      ap (λ (a : World T). entry_at a.cells c) to1
-      ∙ get_or-set_same w.cells c (Some (cell_of None tag.None)) None (inside w.cells c (cell_of next t1) has1)
-
-  pub clear-still : entry_at w.cells l ≡ Some (cell_of None tag.None) → entry_at u.cells l ≡ Some (cell_of None tag.None)
-  clear-still clear =
-      ap (λ (a : World T). entry_at a.cells l) to1 ∙ get_or-set_other w.cells c l (Some (cell_of None tag.None)) None (λ e. far (sym e)) ∙ clear
-
-  pub put-then : (n : Option ℕ) (t to : Tag) (k : ℕ) → entry_at w.cells c ≡ Some (cell_of n t) → linked_in u c to l k next ≡ linked_in w c to l k n
-  put-then n t to k holds =
-      let nexts : next ≡ n = ap held_in (sym has1 ∙ holds) in
-      ap (λ (a : World T). linked_in a c to l k next) to1
-      ∙ ap (λ (cs : Entries CellContents). record w { cells = cs })
-      (thrice (λ (y : T). 0) w.cells c l (cell_of None tag.None) (cell_of next tag.None) (cell_of (Some k) to) far)
-      ∙ ap (λ (y : Option ℕ). linked_in w c to l k y) nexts
-
-  pub tag-then : (n : Option ℕ) (t : Tag) → entry_at w.cells c ≡ Some (cell_of n t) → t1 ≡ t
-  tag-then n t holds = ap tag_in (sym has1 ∙ holds)
-
--- and the other two write the link and the cell
-module _ {T : Type 0} (w u : World T) (c l : ℕ) (next rest gap : Option ℕ) (t2 t3 to : Tag) (k : ℕ) (far : c ≢ l)
-    (has2 : entry_at w.cells l ≡ Some (cell_of rest t2)) (to2 : u ≡ with_cell w l (cell_of next tag.None)) where
+-- two swaps put an entry between a cell and what it held
+module _ {T : Type 0} (w u v : World T) (c l : ℕ) (next rest : Option ℕ) (t1 t2 to : Tag) (k : ℕ) (far : c ≢ l)
+    (has1 : entry_at w.cells c ≡ Some (cell_of next t1)) (to1 : u ≡ with_cell w c (cell_of (Some k) to))
+    (has2 : entry_at u.cells l ≡ Some (cell_of rest t2)) (to2 : v ≡ with_cell u l (cell_of next tag.None)) where
   pub rest-none : entry_at w.cells l ≡ Some (cell_of None tag.None) → rest ≡ None
-  rest-none clear = ap held_in (sym has2 ∙ clear)
+  rest-none clear =
+      ap held_in (sym has2 ∙ ap (λ (a : World T). entry_at a.cells l) to1
+      ∙ get_or-set_other w.cells c l (Some (cell_of (Some k) to)) None (λ e. far (sym e)) ∙ clear)
 
-  pub gap-none : entry_at w.cells c ≡ Some (cell_of None tag.None) → entry_at u.cells c ≡ Some (cell_of gap t3) → gap ≡ None
-  gap-none empty has3 =
-      ap held_in (sym has3 ∙ ap (λ (a : World T). entry_at a.cells c) to2
-      ∙ get_or-set_other w.cells l c (Some (cell_of next tag.None)) None far ∙ empty)
-
-  pub put-last : (x : World T) → x ≡ with_cell u c (cell_of (Some k) to) → x ≡ linked_in w c to l k next
-  put-last x to3 = to3 ∙ ap (λ (a : World T). with_cell a c (cell_of (Some k) to)) to2
+  pub put-then : (n : Option ℕ) (t : Tag) → entry_at w.cells c ≡ Some (cell_of n t) → v ≡ linked_in w c to l k n
+  put-then n t holds =
+      let nexts : next ≡ n = ap held_in (sym has1 ∙ holds) in
+      to2 ∙ ap (λ (a : World T). with_cell a l (cell_of next tag.None)) to1
+      ∙ ap (λ (cs : Entries CellContents). record w { cells = cs })
+      (set_comm w.cells c l (Some (cell_of (Some k) to)) (Some (cell_of next tag.None)) far)
+      ∙ ap (λ (y : Option ℕ). linked_in w c to l k y) nexts

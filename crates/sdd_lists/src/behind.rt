@@ -18,35 +18,11 @@ ghost use Rattle.sdd_lists.specs.Lists.{Entry, IsCrowded, IsList, left, linked_i
 ghost use Rattle.sdd_lists.specs.Marks.{says_deleted};
 
 use crate::linked_list::LinkedList;
-use crate::moves::{put_between, trim};
+use crate::moves::{put_with_tag, trim};
 use crate::pops::keep_first;
 use crate::walks::{Front, find_first};
 use sdd_core::{Refused, Tag};
 use sdd_space::{AtomicShared, Cells, Guard, Items, LookThrough, Ptr, Shared, SharedItems};
-
-/// Puts an entry, whose link is clear, between a cell and what it holds, and gives the cell this tag.
-fn put_with_tag<T: LinkedList, S: Items<T> + Cells<T>>(
-    cell: &AtomicShared<T>,
-    owner: Shared<T>,
-    tag: Tag,
-    link: &AtomicShared<T>,
-    s: &mut S,
-)
-    requires seated { IsSeated (S.seat s.old) }
-    requires home { cells_home cell.now ≡ (S.seat s.old).home.cells }
-    requires owner { slots_home owner ≡ (S.seat s.old).home.slots }
-    requires link { cells_home link.now ≡ (S.seat s.old).home.cells }
-    ensures unmoved { Unmoved S.seat S.known S.shows s.old s.new }
-    ensures own { KeepsMoreWaiting (S.own s.old) (S.own s.new) }
-    ensures exact { IsExact (S.seat s.old) → (t : Tag) (next : Option ℕ) →
-        entry_at (S.world s.old).cells (cell_of cell.now) ≡ Some (record { held = next; tag = t }) →
-        entry_at (S.world s.old).cells (cell_of link.now) ≡ Some (record { held = None; tag = no_tag }) →
-        cell_of cell.now ≢ cell_of link.now →
-        S.world s.new ≡ linked_in (S.world s.old) (cell_of cell.now) tag (cell_of link.now) (slot_of owner) next }
-{
-    let (next, _) = cell.swap((None, Tag::None), s);
-    put_between(cell, next, owner, tag, link, s);
-}
 
 /// The tag of the link of an entry that is marked, or has no mark.
 fn tag_of_mark(mark: bool) -> Tag

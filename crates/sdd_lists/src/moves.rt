@@ -88,10 +88,9 @@ pub(crate) fn let_go_of_first<T: LinkedList, S: Items<T> + Cells<T>>(
         cell_of cell.now ≢ cell_of link.now →
         S.world s.new ≡ let_go_first (S.world s.old) (S.seat s.old).place (cell_of cell.now) t k (cell_of link.now) next }
 {
-    let (first, tag) = cell.swap((None, Tag::None), s);
+    let tag = cell.tag(s);
     let (next, _) = link.swap((None, Tag::Second), s);
-    let (rest, _) = cell.swap((next, tag), s);
-    give_up(rest, s);
+    let (first, _) = cell.swap((next, tag), s);
     give_up(first, s);
 }
 
@@ -180,10 +179,9 @@ pub(crate) fn delete<T: Item<T>, S: Cells<T>>(link: &AtomicShared<T>, s: &mut S)
     }
 }
 
-/// Puts an entry, whose link is clear, between a cell that was emptied and what that held, and gives the cell this tag.
-pub(crate) fn put_between<T: LinkedList, S: Items<T> + Cells<T>>(
+/// Puts an entry, whose link is clear, between a cell and what it holds, and gives the cell this tag.
+pub(crate) fn put_with_tag<T: LinkedList, S: Items<T> + Cells<T>>(
     cell: &AtomicShared<T>,
-    next: Option<Shared<T>>,
     owner: Shared<T>,
     tag: Tag,
     link: &AtomicShared<T>,
@@ -191,21 +189,19 @@ pub(crate) fn put_between<T: LinkedList, S: Items<T> + Cells<T>>(
 )
     requires seated { IsSeated (S.seat s.old) }
     requires home { cells_home cell.now ≡ (S.seat s.old).home.cells }
-    requires next { IsOfSlots (S.seat s.old).home.slots next }
     requires owner { slots_home owner ≡ (S.seat s.old).home.slots }
     requires link { cells_home link.now ≡ (S.seat s.old).home.cells }
     ensures unmoved { Unmoved S.seat S.known S.shows s.old s.new }
     ensures own { KeepsMoreWaiting (S.own s.old) (S.own s.new) }
-    ensures exact { IsExact (S.seat s.old) →
-        entry_at (S.world s.old).cells (cell_of cell.now) ≡ Some (record { held = None; tag = no_tag }) →
+    ensures exact { IsExact (S.seat s.old) → (t : Tag) (next : Option ℕ) →
+        entry_at (S.world s.old).cells (cell_of cell.now) ≡ Some (record { held = next; tag = t }) →
         entry_at (S.world s.old).cells (cell_of link.now) ≡ Some (record { held = None; tag = no_tag }) →
         cell_of cell.now ≢ cell_of link.now →
-        S.world s.new ≡ linked_in (S.world s.old) (cell_of cell.now) tag (cell_of link.now) (slot_of owner) (option_map slot_of next) }
+        S.world s.new ≡ linked_in (S.world s.old) (cell_of cell.now) tag (cell_of link.now) (slot_of owner) next }
 {
+    let (next, _) = cell.swap((Some(owner), tag), s);
     let (rest, _) = link.swap((next, Tag::None), s);
     give_up(rest, s);
-    let (gap, _) = cell.swap((Some(owner), tag), s);
-    give_up(gap, s);
 }
 
 /// Puts an entry, whose link is clear, between a cell and what it holds.
@@ -227,6 +223,6 @@ pub(crate) fn put_in_front<T: LinkedList, S: Items<T> + Cells<T>>(
         cell_of cell.now ≢ cell_of link.now →
         S.world s.new ≡ linked_in (S.world s.old) (cell_of cell.now) t (cell_of link.now) (slot_of owner) next }
 {
-    let (next, tag) = cell.swap((None, Tag::None), s);
-    put_between(cell, next, owner, tag, link, s);
+    let tag = cell.tag(s);
+    put_with_tag(cell, owner, tag, link, s);
 }

@@ -96,6 +96,10 @@ registered t p =
 abbrev pub ended : EpochState → ℕ → EpochState
 ended t p = record t { phases = with_entry t.phases p Ended; marked = true }
 
+-- the place is a participant's, with what waits there, also where one had ended
+abbrev pub revived : EpochState → ℕ → EpochState
+revived t p = record t { phases = with_entry t.phases p Live }
+
 -- one guard more is within the limit
 abbrev pub CanNest : EpochState → ℕ → Type 0
 CanNest t p = (place_at t p).guards < t.nesting

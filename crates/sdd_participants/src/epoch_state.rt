@@ -4,7 +4,7 @@ ghost use Rattle.sdd_participants.specs.Waiting.{due, aged};
 ghost use Rattle.sdd_participants.specs.PlaceStates.{is_ended};
 ghost use Rattle.sdd_participants.specs.Collecting.{is_kept_for, chosen_of, chosen_among, time_without, without};
 ghost use Rattle.std.specs.Prelude.{◌++◌};
-ghost use Rattle.sdd_participants.specs.EpochState.{EpochState, IsLive, KeepsPlaces, adopted, adopted_from, ended, newcomer, phase_at, rested, waiting_count, with_place, place_at, IsCrowded, IsVacant, CanNest, registered, with_garbage, has_garbage, accelerated, awaiting, nested, rotated, settled, pace_of, passes, raised, scanned, closed, stirred_at, accelerated_at, awaiting_at, nested_at, rotated_at, settled_at, paced_at, finds_another, is_open, due_next};
+ghost use Rattle.sdd_participants.specs.EpochState.{EpochState, IsLive, KeepsPlaces, adopted, adopted_from, ended, newcomer, phase_at, rested, revived, waiting_count, with_place, place_at, IsCrowded, IsVacant, CanNest, registered, with_garbage, has_garbage, accelerated, awaiting, nested, rotated, settled, pace_of, passes, raised, scanned, closed, stirred_at, accelerated_at, awaiting_at, nested_at, rotated_at, settled_at, paced_at, finds_another, is_open, due_next};
 
 use crate::bags::Bags;
 use crate::participant::{CountdownState, Participant};
@@ -108,6 +108,15 @@ impl EpochState {
     {
         self.phases.set(place, PlaceState::Ended);
         self.marked = true;
+    }
+
+    /// The place is a participant's from then on, with what waits there, also where one had ended.
+    pub fn revive(&mut self, place: usize)
+        requires { IsSome (phase_at self.old place) }
+        ensures revived { self.new ≡ revived self.old place }
+        ensures nests { 0 < self.new.nesting }
+    {
+        self.phases.set(place, PlaceState::Live);
     }
 
     /// The place has ended, and what it left was not adopted yet.

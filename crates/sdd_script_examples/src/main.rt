@@ -16,7 +16,7 @@ use std::{fs, io};
 use verdict::Verdict;
 
 /// The folders of examples.
-const GROUPS: [&str; 13] = [
+const GROUPS: [&str; 14] = [
     // items that several own
     "shared_owners",
     // cells, of either kind
@@ -33,6 +33,8 @@ const GROUPS: [&str; 13] = [
     "private_collectors",
     // the tags of entries' links
     "links",
+    // stacks: their order, what they let go of and when, and their close
+    "stacks",
     // what a value held goes three changes after it, and is named then
     "nested_values",
     // participants end

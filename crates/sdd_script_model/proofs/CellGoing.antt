@@ -1,7 +1,7 @@
 -- What is always true of a desk is true after each call of a cell
-use Rattle.std.proofs.Common.{◌≡◌, ℕ, ◌+◌, ◌<◌, ◌≤◌, true, if◌then◌else◌, List, [], ◌∷◌, ◌++◌, Option, Some, None, IsSome, length, slice_set, refl, sym, ap, ◌∙◌, arith}
+use Rattle.std.proofs.Common.{◌≡◌, ◌≢◌, subst, ℕ, ◌+◌, ◌<◌, ◌≤◌, true, if◌then◌else◌, List, [], ◌∷◌, ◌++◌, Option, Some, None, IsSome, length, slice_set, refl, sym, ap, ◌∙◌, arith}
 use Rattle.sdd_core.specs.declared.tag.Tag.{Tag}
-use Rattle.sdd_core.specs.declared.tag.Tag.TheVariants.{None as no_tag}
+use Rattle.sdd_core.specs.declared.tag.Tag.TheVariants.{None as no_tag, Both}
 use Rattle.sdd_participants.specs.Slab.{IsEmptyAt, entry_at}
 use Rattle.sdd_participants.specs.declared.standing.CellContents.{CellContents}
 use Rattle.sdd_participants.specs.declared.standing.Standing.TheVariants.{Shared}
@@ -13,10 +13,10 @@ use Rattle.sdd_space.specs.OwnerOrCell as holding
 use Rattle.sdd_space.specs.Out.{is_out}
 use Rattle.sdd_space.specs.WorldChanges.{held_in, with_cell, without_cell, cell_closed}
 use Rattle.sdd_space.specs.WorldInvariant.{IsWhole}
-use Rattle.sdd_space.specs.World.{World, IsPlaceOf, standing_at}
+use Rattle.sdd_space.specs.World.{World, IsPlaceOf, standing_at, value_at}
 use Rattle.sdd_space.proofs.Standings.{out-some, out-waits-not}
 use Rattle.sdd_script_text.specs.declared.name.OwnerName.{OwnerName}
-use Rattle.sdd_script_model.specs.Val.{Val}
+use Rattle.sdd_script_model.specs.Val.{Val, link_of}
 use Rattle.sdd_script_model.specs.ScriptState.{ScriptState, IsDated, holding_at, cell_of, slot_of, sole_slot, shared_slot, in_world}
 use Rattle.sdd_script_model.specs.Script.{FitsSole, FitsShared, FitsCell, MayShare, shared_once_more, slot_put, owners_put, owners_taken, cell_as, owner_as}
 use Rattle.sdd_script_model.specs.Shown.{IsCell}
@@ -25,7 +25,7 @@ use Rattle.sdd_script_model.proofs.Stocked.{slot-inside}
 use Rattle.sdd_script_model.proofs.Dates.{closed-other, dated-same, dated-stands, dated-either}
 use Rattle.sdd_script_model.proofs.Counting.{IsPut, accounts, cell-given, cell-out, cell-spent, put-spent, some-holding, taken-given, tells}
 use Rattle.sdd_script_model.proofs.Links.{closed-bare, same-once}
-use Rattle.sdd_script_model.proofs.Chains.{AtHome, IsMidway, LeavesSound, at_home-given, at_home-spent, finishes, midway-as, moves, retags, starts}
+use Rattle.sdd_script_model.proofs.Chains.{AtHome, IsMidway, LeavesSound, at_home-given, at_home-spent, finishes, midway-as, moves, retags, retags-link, starts}
 
 -- ---- what goes into a cell
 
@@ -161,11 +161,24 @@ module _ (d : ScriptState) (s : IsSound d) where
       abbrev pub after_tagged : ScriptState
       after_tagged = in_world d (with_cell d.world c (record cell { tag = tag }))
 
-      pub tagged-leaves : LeavesSound d after_tagged
-      tagged-leaves =
-          finishes d after_tagged.world d.owners d.cells d.collectors d.dates s
-          (retags (starts d s whole) c cell (record cell { tag = tag }) holds refl)
+      retagged-leaves : IsMidway d after_tagged.world (named d) → LeavesSound d after_tagged
+      retagged-leaves m =
+          finishes d after_tagged.world d.owners d.cells d.collectors d.dates s m
           (λ u. refl) (s.home.owners, s.home.cells, s.home.collectors) (dated-same d after_tagged refl refl) p live
+
+      -- of a cell with a name
+      pub tagged-leaves : (n : ℕ) → cell_of (holding_at d.cells n) ≡ Some c → LeavesSound d after_tagged
+      tagged-leaves n is =
+          let h = some-holding cell_of refl (holding_at d.cells n) c is in
+          retagged-leaves (retags (starts d s whole) c cell (record cell { tag = tag }) holds refl
+          (omega (arith, cell-spent d.owners d.cells d.collectors n c h.0 h.1 h.2 (right_to c), same-once c)))
+
+      -- or of the link of an item
+      pub link-leaves : (k : ℕ) (x : Val) → value_at d.world k ≡ Some x → link_of x ≡ c → tag ≢ Both → LeavesSound d after_tagged
+      link-leaves k x there is plain =
+          let linked = ap (λ (i : ℕ). entry_at d.world.cells i) is ∙ holds in
+          retagged-leaves (subst (λ (i : ℕ). IsMidway d (with_cell d.world i (record cell { tag = tag })) (named d)) is
+          (retags-link (starts d s whole) k x cell (record cell { tag = tag }) there linked refl plain))
 
     -- ---- a cell with a name
     module _ (p n c : ℕ) (cell : CellContents) (live : IsPlaceOf d.world p) (is : IsCell d n c cell) where

@@ -1,32 +1,38 @@
 -- A line as a chain of calls of its world, each with what it takes from outside and what it gives
-use Rattle.std.proofs.Common.{◌≡◌, ℕ, ◌+◌, ◌≤◌, List, [], ◌∷◌, ◌++◌, Option, Some, None, is_some, length, slice_set, inl, inr, refl, sym, ap, ◌∙◌, subst, arith}
+use Rattle.std.specs.Prelude.{max}
+use Rattle.std.proofs.Common.{◌≡◌, ◌≢◌, ℕ, ◌+◌, ◌≤◌, List, [], ◌∷◌, ◌++◌, Option, Some, None, is_some, length, slice_set, inl, inr, refl, sym, ap, ◌∙◌, subst, arith}
+use Rattle.sdd_core.specs.declared.tag.Tag.TheVariants.{Both}
 use Rattle.sdd_participants.specs.Slab.{entry_at}
+use Rattle.sdd_participants.specs.declared.standing.Standing.TheVariants.{Owned, Shared}
 use Rattle.sdd_participants.specs.declared.standing.CellContents.{CellContents}
-use Rattle.sdd_space.specs.Ledger.{Claim, owner_of, right_to, claims, inside, one, times_kept, owner_held, IsLedger, Keeps, Moves, Sets}
+use Rattle.sdd_space.specs.Ledger.{Claim, owner_of, right_to, claims, one, times_kept, HasOwners, IsLedger, Keeps, Moves, Sets}
 use Rattle.sdd_space.specs.Ledger.Moves.{changes_cell, edits}
 use Rattle.sdd_space.specs.OwnerCounts.{holds_slot, is_of, times_held}
 use Rattle.sdd_space.specs.OwnerOrCell.{OwnerOrCell, SpaceId, IsOf}
-use Rattle.sdd_space.specs.InPlace.{MayInPlace}
-use Rattle.sdd_space.specs.World.{World, IsPlaceOf, value_at}
-use Rattle.sdd_space.specs.WorldChanges.{held_in, with_cell, with_value}
+use Rattle.sdd_space.specs.InPlace.{IsAlone, MayInPlace}
+use Rattle.sdd_space.specs.World.{World, IsPlaceOf, standing_at, value_at}
+use Rattle.sdd_space.specs.WorldChanges.{with_cell, with_value}
 use Rattle.sdd_space.specs.WorldInvariant.{IsWhole}
 use Rattle.sdd_space.proofs.Accounts.{accounted-with_cell, accounted-with_value}
 use Rattle.sdd_space.proofs.Ledger.{ledger-laws}
 use Rattle.sdd_space.proofs.Rights.{held-cell_changed, held-with_value}
 use Rattle.sdd_space.proofs.Whole.{one_where}
 use Rattle.sdd_script_model.specs.Val.{Val, body_of, holdings_of, link_of, owner_in}
-use Rattle.sdd_script_model.specs.ScriptState.{ScriptState, IsDated, holding_at}
+use Rattle.sdd_script_model.specs.Listed.{HasLists, IsListed}
+use Rattle.sdd_script_model.specs.ScriptState.{ScriptState, IsDated, IsStackCell, holding_at, shared_cell}
 use Rattle.sdd_script_model.specs.Script.{AreCalls}
-use Rattle.sdd_script_model.specs.Sound.{IsSound, HoldsOnlyOlder, LinksAreBare, NamesAreAtHome, SlotsHaveNames, named, named_among}
+use Rattle.sdd_script_model.specs.Sound.{IsSound, HoldsOnlyOlder, NamesAreAtHome, SlotsHaveNames, named, named_among, stacked}
 use Rattle.sdd_script_model.proofs.Attending.{attended-acts, left-entry, pushed-entry}
 use Rattle.sdd_script_model.proofs.Dates.{early-dated}
-use Rattle.sdd_script_model.proofs.Entry.{as-each}
 use Rattle.sdd_script_model.proofs.Entry.{inside as inside-list}
 use Rattle.sdd_script_model.proofs.Frames.{Frames, IsQuiet, Passes, frames-on, frames-start, quiet-less}
 use Rattle.sdd_script_model.proofs.JobDates.{by-keeping}
 use Rattle.sdd_script_model.proofs.Kept.{kept-by, were-same}
 use Rattle.sdd_script_model.proofs.Layers.{layered-less}
-use Rattle.sdd_script_model.proofs.Links.{holds-so, link-claimed}
+use Rattle.sdd_script_model.proofs.Counting.{some-holding, stack-spent}
+use Rattle.sdd_script_model.proofs.Links.{holds-so, same-once}
+use Rattle.sdd_script_model.proofs.ListChanges.{has-beside, has-edited, has-retagged}
+use Rattle.sdd_script_model.proofs.Listed.{has-still, listed-inside}
 use Rattle.sdd_script_model.proofs.Stocked.{stocked-as}
 
 -- what has a name is at home
@@ -62,13 +68,14 @@ IsSameLine d new =
 
 -- what is always true is so after calls that pass, of which one is p's
 pub sound-after : (d new : ScriptState) → IsSound d → Passes d.world new.world → IsSameLine d new → IsDated d new → (p : ℕ) → IsPlaceOf d.world p →
-    SlotsHaveNames new → IsLedger holdings_of (named new) new.world → LinksAreBare new.world → HoldsOnlyOlder new → NamesAreAtHome new → new.world.tally.made ≡ length new.slots → IsSound new
-sound-after d new s passes (moment, places, guards, jobs, deferred, job_dates) dated p live stocked ledger bare layered home made =
+    SlotsHaveNames new → IsLedger holdings_of (λ u. named new u + stacked new.stacks u) new.world → HasLists (IsStackCell new) new.world →
+    HoldsOnlyOlder new → NamesAreAtHome new → new.world.tally.made ≡ length new.slots → IsSound new
+sound-after d new s passes (moment, places, guards, jobs, deferred, job_dates) dated p live stocked ledger lists layered home made =
     let were = were-same d new places passes.guards.guards in
     record {
       stocked = stocked;
       ledger = ledger;
-      bare = bare;
+      lists = lists;
       layered = layered;
       home = home;
       attended = attended-acts d new s.attended passes.guards places guards (omega (arith, moment)) p live;
@@ -82,77 +89,121 @@ sound-after d new s passes (moment, places, guards, jobs, deferred, job_dates) d
 
 -- ---- chains
 
--- the script began the line as d, and so much is outside its world by now
+-- the script began the line as d, and so much is outside its world by now, beside its stacks
 pub record IsMidway (d : ScriptState) (w : World Val) (outside : Claim → ℕ) : Type 0 where
-  pub ledger : IsLedger holdings_of outside w
-  pub bare : LinksAreBare w
+  pub ledger : IsLedger holdings_of (λ u. outside u + stacked d.stacks u) w
+  pub lists : HasLists (IsStackCell d) w
   pub whole : IsWhole w
   pub frames : Frames d.world w
 
+-- a stack is one right to its cell
+pub stack-right : (d : ScriptState) (c : ℕ) → IsStackCell d c → 1 ≤ stacked d.stacks (right_to c)
+stack-right d c (n, named) =
+    let h = some-holding shared_cell refl (holding_at d.stacks n) c named in
+    omega (arith, stack-spent d.stacks n c h.0 h.1 h.2 (right_to c), same-once c)
+
 pub starts : (d : ScriptState) → IsSound d → IsWhole d.world → IsMidway d d.world (named d)
-starts d s whole = record { ledger = s.ledger; bare = s.bare; whole = whole; frames = frames-start d.world }
+starts d s whole = record { ledger = s.ledger; lists = s.lists; whole = whole; frames = frames-start d.world }
 
 -- a quiet call takes some of it, and gives some. A cell that it sets is that of a right outside
 pub moves : {d : ScriptState} {v w : World Val} {outside ins outs : Claim → ℕ} → IsMidway d v outside → (move : Moves holdings_of v ins w outs) → IsQuiet move →
     (rest : Claim → ℕ) → ((u : Claim) → outside u ≡ rest u + ins u) → ((u : Claim) → Sets holdings_of move u → 1 ≤ rest u) →
     IsMidway d w (λ u. rest u + outs u)
 moves {d} {v} {w} {outside} {ins} {outs} m move quiet rest same own =
-    record { ledger = after; bare = bare; whole = kept.whole; frames = frames } where
+    record { ledger = after; lists = lists; whole = kept.whole; frames = frames-on m.frames m.whole move quiet } where
       kept : Keeps holdings_of move
       kept = (ledger-laws holdings_of v).kept m.whole ins outs w move
 
-      before : IsLedger holdings_of (λ u. rest u + ins u) v
+      all : Claim → ℕ
+      all u = rest u + stacked d.stacks u
+
+      before : IsLedger holdings_of (λ u. all u + ins u) v
       before u = omega (arith, m.ledger u, same u)
 
-      after : IsLedger holdings_of (λ u. rest u + outs u) w
-      after = kept.ledger rest before
+      after : IsLedger holdings_of (λ u. rest u + outs u + stacked d.stacks u) w
+      after u = omega (arith, kept.ledger all before u)
 
-      frames : Frames d.world w
-      frames = frames-on m.frames m.whole move quiet
+      spares : (c : ℕ) → IsStackCell d c → Sets holdings_of move (right_to c) → ⊥
+      spares c x sets =
+          let mine = stack-right d c x in
+          let other = own (right_to c) sets in
+          let one = ((ledger-laws holdings_of v).tells (λ u. all u + ins u) before).alone c (omega (arith, other)) in
+          omega (arith, one.1, mine, other)
 
-      bare : LinksAreBare w
-      bare s x e =
-          let was = quiet-less move quiet s x e in
-          let c = link_of x in
-          let earlier = (ledger-laws holdings_of v).tells (λ u. rest u + ins u) before in
-          let now = (ledger-laws holdings_of w).tells (λ u. rest u + outs u) after in
-          let inner : 1 ≤ inside holdings_of w (right_to c) = omega (arith, now.in_value s x e (right_to c), link-claimed x) in
-          let claimed : 1 ≤ claims (holdings_of was.0) (right_to c) =
-          subst (λ k. 1 ≤ claims (holdings_of was.0) (right_to k)) (sym was.2) (link-claimed was.0) in
-          let inner_before : 1 ≤ inside holdings_of v (right_to c) = omega (arith, earlier.in_value s was.0 was.1 (right_to c), claimed) in
-          let not_set : Sets holdings_of move (right_to c) → ⊥ =
-          λ sets. (let alone = earlier.alone c (omega (arith, own (right_to c) sets)) in omega (arith, alone.2, inner_before)) in
-          ap held_in (kept.cells rest before c (omega (arith, inner)) not_set)
-          ∙ ap (λ k. held_in (entry_at v.cells k)) was.2 ∙ m.bare s was.0 was.1
+      lists : HasLists (IsStackCell d) w
+      lists =
+          has-still move m.whole all before (λ u sets. omega (arith, own u sets)) (IsStackCell d) (λ c x. omega (arith, stack-right d c x)) spares m.lists
+          (quiet-less move quiet)
 
--- a cell changes that holds the same
-pub retags : {d : ScriptState} {w : World Val} {outside : Claim → ℕ} → IsMidway d w outside → (c : ℕ) (cell now : CellContents) → entry_at w.cells c ≡ Some cell →
-    now.held ≡ cell.held → IsMidway d (with_cell w c now) outside
-retags {d} {w} {outside} m c cell now is same =
-    record { ledger = ledger; bare = bare; whole = kept.whole; frames = frames-on m.frames m.whole move tt } where
-      move : Moves holdings_of w (owner_held now.held) (with_cell w c now) (owner_held cell.held)
-      move = changes_cell w c cell now is
+-- what is outside is no stack's
+pub stack-apart : {d : ScriptState} {w : World Val} {outside : Claim → ℕ} → IsMidway d w outside → (c : ℕ) → 1 ≤ outside (right_to c) → (b : ℕ) →
+    IsStackCell d b → b ≢ c
+stack-apart {d} {w} {outside} m c mine b x same =
+    let other = stack-right d c (subst (λ i. IsStackCell d i) same x) in
+    let one = ((ledger-laws holdings_of w).tells (λ u. outside u + stacked d.stacks u) m.ledger).alone c (omega (arith, mine)) in
+    omega (arith, one.1, mine, other)
 
-      kept : Keeps holdings_of move
-      kept = (ledger-laws holdings_of w).kept m.whole _ _ (with_cell w c now) move
+-- an item of which somebody outside has the one owner is in no stack
+pub alone-unlisted : {d : ScriptState} {w : World Val} {outside : Claim → ℕ} → IsMidway d w outside → (k : ℕ) → IsAlone (standing_at w k) →
+    1 ≤ outside (owner_of k) → IsListed (IsStackCell d) w k → ⊥
+alone-unlisted {d} {w} {outside} m k alone mine at =
+    let inner = listed-inside w (λ u. outside u + stacked d.stacks u) m.ledger (IsStackCell d) k at in
+    let stands = ((ledger-laws holdings_of w).tells (λ u. outside u + stacked d.stacks u) m.ledger).stands k (omega (arith, mine)) in
+    by alone stands (omega (arith, mine, inner)) where
+      by : {n : ℕ} → IsAlone (standing_at w k) → HasOwners n (standing_at w k) → 2 ≤ n → ⊥
+      by (inl owned) (inl one) two = omega (arith, one.1, two)
+      by (inl owned) (inr several) two = (let never : Some Owned ≡ Some (Shared several.0) = sym owned ∙ several.1 in cc)
+      by (inr shared) (inl one) two = (let never : Some (Shared 1) ≡ Some Owned = sym shared ∙ one.0 in cc)
+      by (inr shared) (inr several) two =
+          let both : Some (Shared 1) ≡ Some (Shared several.0) = sym shared ∙ several.1 in
+          let once : several.0 ≡ 1 = cc in
+          omega (arith, several.2, ap (max 1) once, two)
 
-      held : held_in (Some now) ≡ held_in (entry_at w.cells c)
-      held = same ∙ sym (ap held_in is)
+-- a cell changes that holds the same: what it holds is counted as before
+tagged-ledger : (outside : Claim → ℕ) (w : World Val) (c : ℕ) (cell now : CellContents) → entry_at w.cells c ≡ Some cell → now.held ≡ cell.held →
+    IsLedger holdings_of outside w → IsLedger holdings_of outside (with_cell w c now)
+tagged-ledger outside w c cell now is same ledger (owner_of k) =
+    accounted-with_cell holdings_of w c now (λ j. outside (owner_of j)) (λ j. outside (owner_of j)) (inside-list w.cells c (ap is_some is))
+    (λ j. omega (arith, ap (λ h. one_where (is_of j h)) same, ap (λ e. one_where (holds_slot j e)) is)) (λ j. ledger (owner_of j)) k
+tagged-ledger outside w c cell now is same ledger (right_to b) =
+    held-cell_changed holdings_of w c now (λ j. outside (right_to j)) (ap is_some is) (λ j. ledger (right_to j)) b
 
-      ledger : IsLedger holdings_of outside (with_cell w c now)
-      ledger (owner_of k) =
-          accounted-with_cell holdings_of w c now (λ j. outside (owner_of j)) (λ j. outside (owner_of j)) (inside-list w.cells c (ap is_some is))
-          (λ j. omega (arith, ap (λ h. one_where (is_of j h)) same, ap (λ e. one_where (holds_slot j e)) is)) (λ j. m.ledger (owner_of j)) k
-      ledger (right_to b) = held-cell_changed holdings_of w c now (λ j. outside (right_to j)) (ap is_some is) (λ j. m.ledger (right_to j)) b
+module _ {d : ScriptState} {w : World Val} {outside : Claim → ℕ} (m : IsMidway d w outside) (c : ℕ) (cell now : CellContents)
+    (is : entry_at w.cells c ≡ Some cell) (same : now.held ≡ cell.held) where
+  pub tagged : HasLists (IsStackCell d) (with_cell w c now) → IsMidway d (with_cell w c now) outside
+  tagged lists =
+      let move = changes_cell w c cell now is in
+      record {
+        ledger = tagged-ledger (λ u. outside u + stacked d.stacks u) w c cell now is same m.ledger;
+        lists = lists;
+        whole = ((ledger-laws holdings_of w).kept m.whole _ _ (with_cell w c now) move).whole;
+        frames = frames-on m.frames m.whole move tt;
+      }
 
-      bare : LinksAreBare (with_cell w c now)
-      bare s x e = as-each held_in w.cells c (Some now) None held (link_of x) ∙ m.bare s x e
+  -- such a cell is somebody's outside
+  pub retags : 1 ≤ outside (right_to c) → IsMidway d (with_cell w c now) outside
+  retags mine =
+      tagged (has-beside (IsStackCell d) w (λ u. outside u + stacked d.stacks u) m.ledger m.lists c (omega (arith, mine)) (stack-apart m c mine) now)
 
--- a value is another in its place, with the same link and the same owner
+-- or it is the link of an item
+pub retags-link : {d : ScriptState} {w : World Val} {outside : Claim → ℕ} → IsMidway d w outside → (k : ℕ) (x : Val) (cell now : CellContents) →
+    value_at w k ≡ Some x → entry_at w.cells (link_of x) ≡ Some cell → now.held ≡ cell.held → now.tag ≢ Both → IsMidway d (with_cell w (link_of x) now) outside
+retags-link {d} {w} {outside} m k x cell now there is same plain =
+    tagged m (link_of x) cell now is same
+    (has-retagged (IsStackCell d) w (λ u. outside u + stacked d.stacks u) m.ledger (λ c y. omega (arith, stack-right d c y)) m.lists k x there cell now is same
+    plain)
+
+-- a value is another in its place, with the same link and the same owner, and somebody outside has its one owner
 pub edited : {d : ScriptState} {w : World Val} {outside : Claim → ℕ} → IsMidway d w outside → (k : ℕ) (was now : Val) → (may : MayInPlace w k) →
-    (there : value_at w k ≡ Some was) → link_of now ≡ link_of was → owner_in (body_of now) ≡ owner_in (body_of was) → IsMidway d (with_value w k now) outside
-edited {d} {w} {outside} m k was now may there link body =
-    record { ledger = ledger; bare = bare; whole = kept.whole; frames = frames-on m.frames m.whole move (link, body) } where
+    (there : value_at w k ≡ Some was) → link_of now ≡ link_of was → owner_in (body_of now) ≡ owner_in (body_of was) → 1 ≤ outside (owner_of k) →
+    IsMidway d (with_value w k now) outside
+edited {d} {w} {outside} m k was now may there link body mine =
+    record {
+      ledger = ledger;
+      lists = has-edited (IsStackCell d) w m.lists k was now there link (alone-unlisted m k may.alone mine);
+      whole = kept.whole;
+      frames = frames-on m.frames m.whole move (link, body);
+    } where
       move : Moves holdings_of w (λ u. one (owner_of k) u + claims (holdings_of now) u) (with_value w k now) (λ u. one (owner_of k) u + claims (holdings_of was) u)
       move = edits w k was now may there
 
@@ -162,21 +213,20 @@ edited {d} {w} {outside} m k was now may there link body =
       held : (u : Claim) → claims (holdings_of now) u ≡ claims (holdings_of was) u
       held u = omega (arith, holds-so now u, holds-so was u, ap (λ c. one (right_to c) u) link, ap (λ hs. claims hs u) body)
 
-      ledger : IsLedger holdings_of outside (with_value w k now)
+      all : Claim → ℕ
+      all u = outside u + stacked d.stacks u
+
+      ledger : IsLedger holdings_of (λ u. outside u + stacked d.stacks u) (with_value w k now)
       ledger (owner_of j) =
-          accounted-with_value holdings_of w k now (λ i. outside (owner_of i)) (λ i. outside (owner_of i)) (inside-list w.values k (ap is_some there))
+          accounted-with_value holdings_of w k now (λ i. all (owner_of i)) (λ i. all (owner_of i)) (inside-list w.values k (ap is_some there))
           (λ i. omega (arith, held (owner_of i), ap (times_held holdings_of i) there)) (λ i. m.ledger (owner_of i)) j
       ledger (right_to c) =
-          held-with_value holdings_of w k now (λ i. outside (right_to i)) (λ i. outside (right_to i)) (inside-list w.values k (ap is_some there))
+          held-with_value holdings_of w k now (λ i. all (right_to i)) (λ i. all (right_to i)) (inside-list w.values k (ap is_some there))
           (λ i. omega (arith, held (right_to i), ap (times_kept holdings_of i) there)) (λ i. m.ledger (right_to i)) c
-
-      bare : LinksAreBare (with_value w k now)
-      bare s x e =
-          let before = quiet-less move (link, body) s x e in ap (λ c. held_in (entry_at w.cells c)) before.2 ∙ m.bare s before.0 before.1
 
 -- as much is outside, counted otherwise
 pub midway-as : {d : ScriptState} {w : World Val} {outside now : Claim → ℕ} → IsMidway d w outside → ((u : Claim) → now u ≡ outside u) → IsMidway d w now
-midway-as m same = record { ledger = λ u. omega (arith, m.ledger u, same u); bare = m.bare; whole = m.whole; frames = m.frames }
+midway-as m same = record { ledger = λ u. omega (arith, m.ledger u, same u); lists = m.lists; whole = m.whole; frames = m.frames }
 
 -- the line ends, with these names and dates: all that is outside has a name
 module _ (d : ScriptState) (w : World Val) (owners cells collectors : List (Option OwnerOrCell)) (dates : List ℕ) where
@@ -192,9 +242,9 @@ module _ (d : ScriptState) (w : World Val) (owners cells collectors : List (Opti
         line = refl;
         places = refl;
         sound = sound-after d left s f.passes (refl, refl, refl, refl, refl, refl) dated p live
-            (stocked-as d left s.stocked refl refl dated.long f.slots) (λ u. omega (arith, m.ledger u, same u)) m.bare
+            (stocked-as d left s.stocked refl refl dated.long f.slots) (λ u. omega (arith, m.ledger u, same u)) m.lists
             (layered-less d left s.layered f.values refl)
-            (rw f.slots.home (record { owners = home.0; cells = home.1; collectors = home.2 }))
+            (rw f.slots.home (record { owners = home.0; cells = home.1; collectors = home.2; stacks = s.home.stacks }))
             (f.slots.made ∙ s.made);
         dated = dated;
         calls = f.passes.calls;

@@ -31,10 +31,11 @@ use Rattle.sdd_script_model.specs.Sound.{IsSound, named_among}
 use Rattle.sdd_script_model.proofs.Chains.{LeavesSound, at_home-spent, finishes, moves, starts}
 use Rattle.sdd_script_model.proofs.Counting.{accounts, collector-spent, some-holding, tells}
 use Rattle.sdd_script_model.proofs.Dates.{dated-among}
-use Rattle.sdd_script_model.proofs.Going.{open-guard}
-use Rattle.sdd_script_model.proofs.Gone.{all-give, given-out, times_in}
+use Rattle.sdd_space.proofs.Whole.{times_among}
+use Rattle.sdd_script_model.proofs.Going.{open-guard, waiting-bare}
+use Rattle.sdd_script_model.proofs.Gone.{Waiting, all-give, among-slots, counted-contains, given-out, slots-contain, times_in}
 use Rattle.sdd_script_model.proofs.Links.{freed-bare, same-once}
-use Rattle.sdd_script_model.proofs.WaitingFor.{names-waiting, owners-found, slots_for}
+use Rattle.sdd_script_model.proofs.WaitingFor.{names-waiting, owners-found, private-waits, slots_for, stands-for}
 
 -- ---- a collector is closed
 
@@ -50,12 +51,18 @@ module _ (d : ScriptState) (s : IsSound d) (whole : IsWhole d.world) (p c n : �
   abbrev gone : List LimboEntry
   gone = waiting_for d.world c
 
+  -- these items wait
+  waits-for : (k : ℕ) → 1 ≤ times_among k gone → Waiting d.world k
+  waits-for k some =
+      private-waits c (standing_at d.world k)
+      (stands-for d.world c k (slots-contain gone k (counted-contains k (slots_among gone) (omega (arith, some, among-slots k gone)))))
+
   -- what begins to wait was given up by the values of these items
   begins-given : (k : ℕ) → is_waiting (standing_at after_uncollected.world k) ≡ true → is_waiting (standing_at d.world k) ≡ false →
       1 ≤ times_in k (owners_in d.world (slots_among gone))
   begins-given k now idle =
-      all-give p d.world k gone start (record {
-        bare = λ j v e. freed-bare d.world.cells c (link_of v) (s.bare j v e);
+      all-give p d.world k gone start (λ j some. waits-for j some) (record {
+        bare = λ j v e waits. freed-bare d.world.cells c (link_of v) (waiting-bare d s j v e waits);
         values = λ j v h. h;
         idle = idle;
       }) now
@@ -71,7 +78,7 @@ module _ (d : ScriptState) (s : IsSound d) (whole : IsWhole d.world) (p c n : �
   dated-uncollected long dates =
       dated-among d after_uncollected (owners_in d.world slots) dates long
       (λ k now idle. owners-found d s.stocked whole c k (begins-given k now idle))
-      (λ k some. out-waits-not (standing_at d.world k) (given-out d p live.0 s.stocked s.bare whole (accounts d s) slots k (omega (arith, some))))
+      (λ k some. out-waits-not (standing_at d.world k) (given-out d p live.0 s.stocked (waiting-bare d s) whole (accounts d s) slots k (omega (arith, some))))
 
   -- its cell holds nothing
   null-cell : IsNullCell d.world c

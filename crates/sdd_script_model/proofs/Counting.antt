@@ -25,21 +25,21 @@ use Rattle.sdd_script_text.specs.declared.call.Value.TheVariants.{Number, Of}
 use Rattle.sdd_script_model.specs.declared.val.Body.{Body}
 use Rattle.sdd_script_model.specs.Val.{Val, body_of, owner_in, holdings_of, link_of}
 use Rattle.sdd_script_model.specs.declared.val.Body.TheVariants as body
-use Rattle.sdd_script_model.specs.ScriptState.{ScriptState, holding_at, slot_of, cell_of, collector_of}
+use Rattle.sdd_script_model.specs.ScriptState.{ScriptState, holding_at, slot_of, cell_of, shared_cell, collector_of}
 use Rattle.sdd_script_model.proofs.Links.{holds-so}
 use Rattle.sdd_script_model.specs.Made.{IsPutIn, owners_left}
 use Rattle.sdd_script_model.specs.Script.{IsOwnerName, owner_as, owners_put, owners_taken, slot_put}
-use Rattle.sdd_script_model.specs.Sound.{IsSound, owns, has_right, named, named_among, named_owners}
+use Rattle.sdd_script_model.specs.Sound.{IsSound, owns, has_right, named, named_among, named_owners, stacked}
 
 -- the owners of a desk are accounted for, where these have names and the world is this
 abbrev pub AreCounted : ScriptState → World Val → Type 0
 AreCounted d w = IsAccounted holdings_of (named_owners d) w
 
 pub accounts : (d : ScriptState) → IsSound d → AreCounted d d.world
-accounts d s k = s.ledger (owner_of k)
+accounts d s k = omega (arith, s.ledger (owner_of k))
 
-pub tells : (d : ScriptState) → IsSound d → Tells holdings_of (named d) d.world
-tells d s = (ledger-laws holdings_of d.world).tells (named d) s.ledger
+pub tells : (d : ScriptState) → IsSound d → Tells holdings_of (λ u. named d u + stacked d.stacks u) d.world
+tells d s = (ledger-laws holdings_of d.world).tells (λ u. named d u + stacked d.stacks u) s.ledger
 
 -- so many owners of slot k's item are in the body of a value
 abbrev pub times_in : ℕ → Body → ℕ
@@ -73,6 +73,13 @@ collector-where (shared s home) c e j = absurd (cc)
 collector-where (atomic_owned d home) c e j = absurd (cc)
 collector-where (atomic_shared d home) c e j = absurd (cc)
 collector-where (atomic_raw d home) c e j = let same : d ≡ c = cc in rw same refl
+
+pub stack-where : (h : OwnerOrCell) (c : ℕ) → shared_cell (Some h) ≡ Some c → (j : ℕ) → one_where (is_right_to j h) ≡ one_where (c == j)
+stack-where (owned s home) c e j = absurd (cc)
+stack-where (shared s home) c e j = absurd (cc)
+stack-where (atomic_owned d home) c e j = absurd (cc)
+stack-where (atomic_shared d home) c e j = let same : d ≡ c = cc in rw same refl
+stack-where (atomic_raw d home) c e j = absurd (cc)
 
 one-itself : (k : ℕ) → one_where (k == k) ≡ 1
 one-itself k = let same : (k == k) ≡ true = grind (arith, nat_tests) in rw same refl
@@ -125,6 +132,19 @@ module _ (owners cells collectors : List (Option OwnerOrCell)) where
       named_among owners cells (collectors ++ Some h ∷ []) u ≡ named_among owners cells collectors u + one (right_to c) u
   collector-given h c is (owner_of j) = omega arith
   collector-given h c is (right_to j) = omega (arith, rights-more collectors h j, collector-where h c is j, once-where (c == j))
+
+-- ---- stacks
+
+module _ (stacks : List (Option OwnerOrCell)) where
+  pub stack-spent : (n c : ℕ) (h : OwnerOrCell) → holding_at stacks n ≡ Some h → shared_cell (Some h) ≡ Some c → (u : Claim) →
+      stacked stacks u ≡ stacked (slice_set stacks n None) u + one (right_to c) u
+  stack-spent n c h there is (owner_of j) = omega arith
+  stack-spent n c h there is (right_to j) = omega (arith, rights-less stacks n h there j, stack-where h c is j, once-where (c == j))
+
+  pub stack-given : (h : OwnerOrCell) (c : ℕ) → shared_cell (Some h) ≡ Some c → (u : Claim) →
+      stacked (stacks ++ Some h ∷ []) u ≡ stacked stacks u + one (right_to c) u
+  stack-given h c is (owner_of j) = omega arith
+  stack-given h c is (right_to j) = omega (arith, rights-more stacks h j, stack-where h c is j, once-where (c == j))
 
 -- ---- by the words of calls
 
@@ -220,7 +240,7 @@ some-kept f none (Some x ∷ xs) some = elim (cases_lt 0 (f (Some x))) [
 ]
 
 -- a cell that is taken, to which no name is the right, is a value's link
-pub linked : (d : ScriptState) → IsSound d → (c : ℕ) → named d (right_to c) ≡ 0 → IsSome (entry_at d.world.cells c) →
+pub linked : (d : ScriptState) → IsSound d → (c : ℕ) → named d (right_to c) + stacked d.stacks (right_to c) ≡ 0 → IsSome (entry_at d.world.cells c) →
     (j : ℕ) × (v : Val) × (value_at d.world j ≡ Some v) × (link_of v ≡ c)
 linked d s c none taken =
     let needs : once_if (is_some (entry_at d.world.cells c)) ≡ 1 = ap once_if taken in

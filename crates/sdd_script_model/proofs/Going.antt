@@ -1,10 +1,9 @@
 -- What is always true of a desk is true after each call
-use Rattle.std.proofs.Common.{◌≡◌, ℕ, zero, suc, ◌+◌, ◌^◌, ◌<◌, ◌≤◌, Bool, true, false, nat_lt, if◌then◌else◌, List, Option, Some, None, IsSome, map, length, count_by, slice_index, slice_index_or, slice_set, inl, inr, refl, sym, ap, ◌∙◌, arith}
+use Rattle.std.proofs.Common.{◌≡◌, ℕ, zero, suc, ◌+◌, ◌^◌, ◌<◌, ◌≤◌, Bool, true, false, nat_lt, if◌then◌else◌, List, Option, Some, None, IsSome, is_some, map, length, count_by, slice_index, slice_index_or, slice_set, inl, inr, refl, sym, ap, ◌∙◌, arith}
 use Rattle.std.specs.Prelude.{All, Contains, IsTrue, replicate, ◌↔◌}
 use Rattle.std.specs.List.Sorted.{IsPermutation, IsNonDecreasingBy, IsStrictlyIncreasing}
 use Rattle.std.proofs.lemmas.List.{length_push, length-replicate}
 use Rattle.std.proofs.lemmas.Bool.Decides.{nat_tests}
-use Rattle.std.proofs.lemmas.Bool.{cases_eq}
 use Rattle.sdd_participants.specs.EpochState.{EpochState}
 use Rattle.sdd_participants.specs.Slab.{IsEmptyAt, entry_at}
 use Rattle.sdd_participants.specs.EpochState.{IsVacant, is_open}
@@ -35,24 +34,29 @@ use Rattle.sdd_script_text.specs.declared.call.Value.TheVariants.{Number, Of}
 use Rattle.sdd_script_model.specs.declared.owner_kind.OwnerKind.{OwnerKind}
 use Rattle.sdd_script_model.specs.declared.owner_kind.OwnerKind.TheVariants as ownership
 use Rattle.sdd_script_model.specs.Val.{Val, holdings_of, body_of, link_of}
-use Rattle.sdd_script_model.specs.ScriptState.{ScriptState, OpenSince, BeginsLine, IsDated, IsStart, IsThere, WaitsAt, date_at, job_date_at, opening_at, holding_at, slot_at, slot_of, sole_slot, shared_slot, in_world, with_guard, with_newcomer, without_participant, without_guard, with_owner, without_owner, with_item, with_job, later}
+use Rattle.sdd_script_model.specs.ScriptState.{ScriptState, OpenSince, BeginsLine, IsDated, IsStackCell, IsStart, IsThere, WaitsAt, shared_cell, date_at, job_date_at, opening_at, holding_at, slot_at, slot_of, sole_slot, shared_slot, in_world, with_guard, with_newcomer, without_participant, without_guard, with_owner, without_owner, with_item, with_job, later}
 use Rattle.sdd_script_model.specs.Script.AreCalls.{none as no_call, one_more}
+use Rattle.sdd_script_model.specs.Listed.{HasLists}
 use Rattle.sdd_script_model.specs.Made.{IsPutIn, owners_left, put_in}
 use Rattle.sdd_script_model.specs.Shown.{item_in, job_in}
-use Rattle.sdd_script_model.specs.Sound.{IsSound, LinksAreBare, ParticipantsMatch, has_right, named, named_among, owns}
+use Rattle.sdd_script_model.specs.Sound.{IsSound, ParticipantsMatch, stacked, has_right, named, named_among, owns}
 use Rattle.sdd_script_model.specs.Held.{owners_in, slots_among, places_among, standing_first, holding_first, waits_among}
-use Rattle.sdd_script_model.proofs.Entry.{at-other, at-same, not-free}
+use Rattle.sdd_script_model.proofs.Entry.{at-same, not-free}
 use Rattle.sdd_script_model.proofs.Stocked.{stocked-as, stocked-made, slots-same, slots-opened}
-use Rattle.sdd_script_model.proofs.Links.{bare-shed, holds-so, less-shed, null}
+use Rattle.sdd_script_model.proofs.Links.{holds-so, less-shed, null}
+use Rattle.sdd_script_model.proofs.ListChanges.{has-made, has-same}
+use Rattle.sdd_script_model.proofs.Listed.{has-still, listed-inside}
 use Rattle.sdd_script_model.proofs.Frames.{Passes, passes-on}
-use Rattle.sdd_script_model.proofs.Chains.{AtHome, IsMidway, LeavesSound, at_home-given, at_home-spent, finishes, moves, sound-after, starts}
+use Rattle.sdd_script_model.proofs.Chains.{AtHome, IsMidway, LeavesSound, at_home-given, at_home-spent, finishes, moves, sound-after, stack-right, starts}
 use Rattle.sdd_script_model.proofs.Attending.{keeps-time, keeps-deferred, attended-acts, attended-later, attended-start, attended-registered, attended-ended, attended-closed, attended-opened}
 use Rattle.sdd_script_model.proofs.Attending as attending
 use Rattle.sdd_script_model.proofs.Kept as kept
 use Rattle.sdd_script_model.proofs.Kept.{WereOpen, kept-call, kept-later, kept-start, kept-opened, were-same, were-registered, were-ended, were-closed, unguarded}
 use Rattle.sdd_script_model.proofs.Dates.{first-waits-not, dated-same, dated-stands, early-dated, early-later, early-start, begins-line}
 use Rattle.sdd_script_model.proofs.Dates as dates
-use Rattle.sdd_script_model.proofs.Counting.{accounts, owner-given, owner-spent, value-spent}
+use Rattle.sdd_space.proofs.Standings.{out-waits-not}
+use Rattle.sdd_space.proofs.Whole.{filled-there}
+use Rattle.sdd_script_model.proofs.Counting.{accounts, tells, owner-given, owner-spent, value-spent}
 use Rattle.sdd_script_model.proofs.Layers.{filled-long, layered-less, layered-made}
 use Rattle.sdd_script_model.proofs.Gone as gone
 use Rattle.sdd_script_model.proofs.Deferred.{deferred-more, deferred-opened}
@@ -85,6 +89,22 @@ last-or-not false count x y some last = by (nat_lt 1 count) refl where
   by : (c : Bool) → nat_lt 1 count ≡ c → y ≡ (if c then y else x)
   by true e = refl
   by false e = absurd (let one : count ≡ 1 = grind (arith, nat_tests, e, some) in let never : false ≡ true = last.1 one in cc)
+
+none-there : {X : Type 0} (x : Option X) → is_some x ≡ false → x ≡ None
+none-there None none = refl
+none-there (Some x) none = absurd (cc)
+
+-- the link of an item that waits holds nothing: what is in a stack has an owner there
+pub waiting-bare : (d : ScriptState) → IsSound d → (k : ℕ) (v : Val) → value_at d.world k ≡ Some v → is_waiting (standing_at d.world k) ≡ true →
+    held_in (entry_at d.world.cells (link_of v)) ≡ None
+waiting-bare d s k v there waits = elim (s.lists.linked k v there) [
+  | inl none ↦ none
+  | inr at ↦
+      (let inner = listed-inside d.world (λ u. named d u + stacked d.stacks u) s.ledger (IsStackCell d) k at in
+      let stands = (tells d s).stands k (omega (arith, inner)) in
+      let out : is_out (standing_at d.world k) ≡ true = elim stands [ inl owned ↦ ap is_out owned.0 | inr shared ↦ ap is_out shared.1 ] in
+      absurd (let never : false ≡ true = sym (out-waits-not (standing_at d.world k) out) ∙ waits in cc))
+]
 
 module _ (d : ScriptState) (s : IsSound d) where
   -- an open guard's participant is open
@@ -124,9 +144,9 @@ module _ (d : ScriptState) (s : IsSound d) where
           record {
             stocked = stocked-as d met s.stocked refl refl refl (slots-same d.world met.world refl refl refl);
             ledger = s.ledger;
-            bare = s.bare;
+            lists = has-same (IsStackCell d) d.world met.world refl refl s.lists;
             layered = s.layered;
-            home = record { owners = s.home.owners; cells = s.home.cells; collectors = s.home.collectors };
+            home = record { owners = s.home.owners; cells = s.home.cells; collectors = s.home.collectors; stacks = s.home.stacks };
             attended = attended;
             kept = kept-call d met s.kept dated whole call were;
             early = early-dated d met dated (omega arith) s.early;
@@ -172,9 +192,9 @@ module _ (d : ScriptState) (s : IsSound d) where
           record {
             stocked = stocked-as d after_deferred s.stocked refl refl refl (slots-same d.world after_deferred.world refl refl refl);
             ledger = s.ledger;
-            bare = s.bare;
+            lists = has-same (IsStackCell d) d.world after_deferred.world refl refl s.lists;
             layered = s.layered;
-            home = record { owners = s.home.owners; cells = s.home.cells; collectors = s.home.collectors };
+            home = record { owners = s.home.owners; cells = s.home.cells; collectors = s.home.collectors; stacks = s.home.stacks };
             attended = attended-acts d after_deferred s.attended keeps refl refl (omega arith) p live;
             kept = kept-call d after_deferred s.kept dated-deferred whole (defers d.world p k live free) were;
             early = early-dated d after_deferred dated-deferred (omega arith) s.early;
@@ -287,16 +307,15 @@ module _ (d : ScriptState) (s : IsSound d) where
           passes-on celled.frames.slots celled.frames.passes celled.whole (makes_item (nulled d.world c) k v (standing_first own) (first own) slot)
           (keeps-time (nulled d.world c) after_made.world refl) refl
 
-      bare-made : LinksAreBare after_made.world
-      bare-made j x e = elim (cases_eq j k) [
-        | inl same ↦
-            let long : k < length d.world.values = omega (arith, slot.0, filled-long d.world.values d.world.standings whole.filled) in
-            let here : slice_index_or (slice_set d.world.values k (Some v)) k None ≡ Some v = at-same d.world.values k (Some v) None long in
-            let both : Some v ≡ Some x = sym here ∙ ap (λ i. slice_index_or (slice_set d.world.values k (Some v)) i None) (sym same) ∙ e in
-            let is : v ≡ x = cc in
-            ap (λ i. held_in (entry_at after_made.world.cells i)) (ap link_of (sym is) ∙ link) ∙ ap held_in (at-same d.world.cells c (Some null) None cell.0)
-        | inr apart ↦ celled.bare j x (sym (at-other d.world.values k j (Some v) None apart) ∙ e)
-      ]
+      lists-made : HasLists (IsStackCell d) after_made.world
+      lists-made =
+          let free = none-there (value_at d.world k) (filled-there d.world k whole.filled ∙ ap is_some slot.1) in
+          has-made (IsStackCell d) (nulled d.world c) after_made.world k v celled.lists refl refl free
+          (ap (λ i. held_in (entry_at (nulled d.world c).cells i)) link ∙ ap held_in (at-same d.world.cells c (Some null) None cell.0))
+          (omega (arith, slot.0, filled-long d.world.values d.world.standings whole.filled))
+
+      pub made-whole : IsWhole after_made.world
+      made-whole = item.whole
 
       pub made-leaves : LeavesSound d after_made
       made-leaves = record {
@@ -306,16 +325,17 @@ module _ (d : ScriptState) (s : IsSound d) where
             (stocked-made d k s.stocked slot after_made (standing_first own) refl refl refl refl)
             (λ u. omega (
               arith,
-              item.ledger rest (λ x. omega (arith, celled.ledger x, put-inside x)) u,
+              item.ledger (λ x. rest x + stacked d.stacks x) (λ x. omega (arith, celled.ledger x, put-inside x)) u,
               owner-given (owners_left d.owners value) d.cells d.collectors (holding_first own k d.world.home.slots) k (its-slot own) u,
             ))
-            bare-made
+            lists-made
             (layered-made d s.layered (accounts d s) s.stocked whole.filled (put_in d value) c k v (standing_first own) slot
             (λ j. value-spent d value v put (owner_of j)) after_made refl refl)
             (record {
               owners = at_home-given d.world.home (owners_left d.owners value) (holding_first own k d.world.home.slots) (its-home own) (at_home-left value);
               cells = s.home.cells;
               collectors = s.home.collectors;
+              stacks = s.home.stacks;
             })
             (omega (arith, s.made, few, length_push d.slots k));
         dated = dated-made;
@@ -337,7 +357,7 @@ module _ (d : ScriptState) (s : IsSound d) where
 
       pub dated-opened : IsDated d after_opening
       dated-opened =
-          gone.dated-opened d x.place (s.attended.inside n x there).0 s.stocked s.bare whole (accounts d s) slots are after_opening refl long now
+          gone.dated-opened d x.place (s.attended.inside n x there).0 s.stocked (waiting-bare d s) whole (accounts d s) slots are after_opening refl long now
 
       pub sound-opened : BeginsLine d → IsSound after_opening
       sound-opened line =
@@ -347,13 +367,15 @@ module _ (d : ScriptState) (s : IsSound d) where
           let kept = (ledger-laws holdings_of d.world).kept whole nothing nothing _ (opens d.world x.place live) in
           record {
             stocked = stocked-as d after_opening s.stocked refl refl long slots;
-            ledger = λ u. omega (arith, kept.ledger (named d) (λ y. omega (arith, s.ledger y)) u);
-            bare = bare-shed shed s.bare;
+            ledger = λ u. omega (arith, kept.ledger (λ y. named d y + stacked d.stacks y) (λ y. omega (arith, s.ledger y)) u);
+            lists = has-still (opens d.world x.place live) whole (λ y. named d y + stacked d.stacks y) (λ y. omega (arith, s.ledger y)) (λ u never. absurd never)
+                (IsStackCell d) (λ c at. omega (arith, stack-right d c at)) (λ c at never. never) s.lists (less-shed shed);
             layered = layered-less d after_opening s.layered (less-shed shed) refl;
             home = record {
               owners = rw slots.home s.home.owners;
               cells = rw slots.home s.home.cells;
               collectors = rw slots.home s.home.collectors;
+              stacks = rw slots.home s.home.stacks;
             };
             attended = attended-opened d s.attended n x there after_opening refl refl refl (omega arith);
             kept = kept-opened d after_opening s.attended s.kept whole dated-opened line n x there refl refl;
@@ -408,8 +430,12 @@ sound-start l d start names ranges = record {
     dates = ap length start.dates ∙ length-replicate l.slots 0 ∙ sym long;
     few = omega (arith, names, ranges.slots);
   };
-  ledger = λ u. omega (arith, none-named u, (ledger-laws holdings_of d.world).blank _ l.slots l.cells l.jobs start.world u);
-  bare = λ k v e. absurd (let never : None ≡ Some v = sym (values k) ∙ e in cc);
+  ledger = λ u. omega (arith, none-named u, none-stacked u, (ledger-laws holdings_of d.world).blank _ l.slots l.cells l.jobs start.world u);
+  lists = record {
+    lists = λ c at. absurd (no-stack c at);
+    apart = λ b c k es fs x y one two at also. absurd (no-stack b x);
+    linked = λ k v e. absurd (let never : None ≡ Some v = sym (values k) ∙ e in cc);
+  };
   layered = λ j k some. absurd (let none : times_held holdings_of k (value_at d.world j) ≡ 0 = ap (times_held holdings_of k) (values j) in omega (
     arith,
     none,
@@ -419,6 +445,7 @@ sound-start l d start names ranges = record {
     owners = λ n h e. absurd (let never : None ≡ Some h = sym (ap (λ hs. holding_at hs n) start.owners) ∙ e in cc);
     cells = λ n h e. absurd (let never : None ≡ Some h = sym (ap (λ hs. holding_at hs n) start.cells) ∙ e in cc);
     collectors = λ n h e. absurd (let never : None ≡ Some h = sym (ap (λ hs. holding_at hs n) start.collectors) ∙ e in cc);
+    stacks = λ n h e. absurd (let never : None ≡ Some h = sym (ap (λ hs. holding_at hs n) start.stacks) ∙ e in cc);
   };
   attended = attended-start d start;
   kept = kept-start d start;
@@ -444,6 +471,13 @@ sound-start l d start names ranges = record {
   long : length d.world.standings ≡ l.slots
   long = ap length start.world.standings ∙ length-replicate l.slots None
 
+  no-stack : (c : ℕ) → IsStackCell d c → ⊥
+  no-stack c (n, is) = let never : None ≡ Some c = sym (ap (λ hs. shared_cell (holding_at hs n)) start.stacks) ∙ is in cc
+
+  none-stacked : (u : Claim) → stacked d.stacks u ≡ 0
+  none-stacked (owner_of k) = refl
+  none-stacked (right_to c) = ap (count_by (has_right c)) start.stacks
+
   none-named : (u : Claim) → named d u ≡ 0
   none-named (owner_of k) = ap (count_by (owns k)) start.owners
   none-named (right_to c) = omega (arith, ap (count_by (has_right c)) start.cells, ap (count_by (has_right c)) start.collectors)
@@ -453,9 +487,9 @@ pub sound-later : (d : ScriptState) → IsSound d → IsSound (later d)
 sound-later d s = record {
   stocked = record { named = s.stocked.named; names = s.stocked.names; dates = s.stocked.dates; few = s.stocked.few };
   ledger = s.ledger;
-  bare = s.bare;
+  lists = s.lists;
   layered = s.layered;
-  home = record { owners = s.home.owners; cells = s.home.cells; collectors = s.home.collectors };
+  home = record { owners = s.home.owners; cells = s.home.cells; collectors = s.home.collectors; stacks = s.home.stacks };
   attended = attended-later d s.attended;
   kept = kept-later d s.kept;
   early = early-later d s.early;

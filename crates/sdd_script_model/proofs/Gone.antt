@@ -31,7 +31,7 @@ use Rattle.sdd_script_model.specs.Val.{owner_in, link_home}
 use Rattle.sdd_script_model.specs.declared.val.Body.TheVariants.{Number, Owned, Shared}
 use Rattle.sdd_script_model.specs.ScriptState.{ScriptState, IsThere, IsDated, slot_at, name_at, date_at}
 use Rattle.sdd_script_model.specs.Shown.{item_in}
-use Rattle.sdd_script_model.specs.Sound.{SlotsHaveNames, LinksAreBare, named_owners}
+use Rattle.sdd_script_model.specs.Sound.{SlotsHaveNames, named_owners}
 use Rattle.sdd_script_model.specs.Held.{slots_of, slots_in, owners_in, slots_among, waits_among}
 use Rattle.sdd_script_model.proofs.Stocked.{item-there, slot-inside}
 use Rattle.sdd_script_model.proofs.Links.{body-given, closed-bare, freed-bare, waiting-there}
@@ -122,13 +122,24 @@ module _ (w : World Val) (p : ℕ) (whole : IsWhole w) where
       (is_waiting (standing_at w s) ≡ true) × IsSome (standing_at w s) × IsSome (value_at w s)
   reclaimed-waits s c = counted-waits s (reclaimed-counts w p s c)
 
+-- the links of these items hold nothing
+abbrev pub AreBare : World Val → (ℕ → Type 0) → Type 0
+AreBare w which = (k : ℕ) (v : Val) → value_at w k ≡ Some v → which k → held_in (entry_at w.cells (link_of v)) ≡ None
+
+-- the item waits
+abbrev pub Waiting : World Val → ℕ → Type 0
+Waiting w k = is_waiting (standing_at w k) ≡ true
+
 -- ---- what begins to wait was given up
 
 -- an owner that is given changes no other slot
-given-other : (w : World Val) (p k s : ℕ) (t : Option Standing) → standing_at w k ≡ t → s ≢ k → standing_at (owner_given w p k t) s ≡ standing_at w s
+pub given-other : (w : World Val) (p k s : ℕ) (t : Option Standing) → standing_at w k ≡ t → s ≢ k → standing_at (owner_given w p k t) s ≡ standing_at w s
 given-other w p k s t is ne =
     owner-given (λ u. standing_at u s ≡ standing_at w s) w p k t is refl (λ out. at-other w.standings k s (Some Retired) None ne)
     (λ n several more. at-other w.standings k s (Some (standing_shared (n - 1))) None ne)
+
+itself : (k : ℕ) → one_where (is_of_slot k (Item k)) ≡ 1
+itself k = grind (arith, nat_tests)
 
 -- what begins to wait when p is given what a value held is the item whose owner the body was
 pub body-waits : (w : World Val) (p c s : ℕ) (home : GhostName) (b : Body) → held_in (entry_at w.cells c) ≡ None → is_waiting (standing_at w s) ≡ false →
@@ -158,7 +169,7 @@ body-waits w p c s home b bare idle waits = by b waits where
 module _ (p : ℕ) (start : World Val) (s : ℕ) where
   -- the item of slot s doesn't wait yet; the values that are still there are those of the start
   pub record IsBefore (w : World Val) : Type 0 where
-    pub bare : LinksAreBare w
+    pub bare : AreBare w (Waiting start)
     pub values : (k : ℕ) (v : Val) → value_at w k ≡ Some v → value_at start k ≡ Some v
     pub idle : is_waiting (standing_at w s) ≡ false
 
@@ -170,21 +181,21 @@ module _ (p : ℕ) (start : World Val) (s : ℕ) where
       ]
 
   -- a value is taken out: who waits then was its owner's
-  out-gives : (w : World Val) (k : ℕ) (v : Option Val) → ((u : Val) → v ≡ Some u → value_at w k ≡ Some u) → IsBefore w →
+  out-gives : (w : World Val) (k : ℕ) (v : Option Val) → ((u : Val) → v ≡ Some u → value_at w k ≡ Some u) → Waiting start k → IsBefore w →
       is_waiting (standing_at (taken_out holdings_of w p k v) s) ≡ true → 1 ≤ times_in s (slots_in (value_at start k))
-  out-gives w k None is i waits = let never : false ≡ true = sym i.idle ∙ waits in absurd (cc)
-  out-gives w k (Some v) is i waits =
+  out-gives w k None is was i waits = let never : false ≡ true = sym i.idle ∙ waits in absurd (cc)
+  out-gives w k (Some v) is was i waits =
       let there = is v refl in
-      let bare = i.bare k v there in
+      let bare = i.bare k v there was in
       rw (i.values k v there) (body-waits (freed w k) p (link_of v) s (link_home v) (body_of v) bare (freed-idle w k i.idle) waits)
 
   -- and each value that is there then was there before
-  out-values : (w : World Val) (k : ℕ) (v : Option Val) → ((u : Val) → v ≡ Some u → value_at w k ≡ Some u) → LinksAreBare w →
+  out-values : (w : World Val) (k : ℕ) (v : Option Val) → ((u : Val) → v ≡ Some u → value_at w k ≡ Some u) → Waiting start k → AreBare w (Waiting start) →
       (j : ℕ) (u : Val) → value_at (taken_out holdings_of w p k v) j ≡ Some u → value_at w j ≡ Some u
-  out-values w k None is i j u h = h
-  out-values w k (Some v) is i j u h =
+  out-values w k None is was i j u h = h
+  out-values w k (Some v) is was i j u h =
       let there = is v refl in
-      let g = body-given (freed w k) p (link_of v) (link_home v) (body_of v) (i k v there) in
+      let g = body-given (freed w k) p (link_of v) (link_home v) (body_of v) (i k v there was) in
       let left : slice_index_or (slice_set w.values k None) j None ≡ Some u = sym (ap (λ vs. slice_index_or vs j None) g.0) ∙ h in
       elim (cases_eq j k) [
         | inl e ↦ absurd (let none : None ≡ Some u = sym (at-default w.values k None) ∙ ap (λ n. slice_index_or (slice_set w.values k None) n None) (sym e)
@@ -193,46 +204,50 @@ module _ (p : ℕ) (start : World Val) (s : ℕ) where
       ]
 
   -- links stay bare
-  out-bare : (w : World Val) (k : ℕ) (v : Option Val) → ((u : Val) → v ≡ Some u → value_at w k ≡ Some u) → LinksAreBare w →
-      LinksAreBare (taken_out holdings_of w p k v)
-  out-bare w k None is i s x e = i s x e
-  out-bare w k (Some v) is i s x e =
-      let g = body-given (freed w k) p (link_of v) (link_home v) (body_of v) (i k v (is v refl)) in
+  out-bare : (w : World Val) (k : ℕ) (v : Option Val) → ((u : Val) → v ≡ Some u → value_at w k ≡ Some u) → Waiting start k →
+      AreBare w (Waiting start) → AreBare (taken_out holdings_of w p k v) (Waiting start)
+  out-bare w k None is was i s x e waits = i s x e waits
+  out-bare w k (Some v) is was i s x e waits =
+      let g = body-given (freed w k) p (link_of v) (link_home v) (body_of v) (i k v (is v refl) was) in
       ap (λ cs. held_in (entry_at cs (link_of x))) g.1
-      ∙ freed-bare w.cells (link_of v) (link_of x) (i s x (out-values w k (Some v) is i s x e))
+      ∙ freed-bare w.cells (link_of v) (link_of x) (i s x (out-values w k (Some v) is was i s x e) waits)
 
   -- all that begins to wait was its owner's whose value was among these
-  pub all-give : (xs : List LimboEntry) (w : World Val) → IsBefore w → is_waiting (standing_at (all_reclaimed holdings_of w p xs) s) ≡ true →
+  pub all-give : (xs : List LimboEntry) (w : World Val) → ((k : ℕ) → 1 ≤ times_among k xs → Waiting start k) → IsBefore w → is_waiting (standing_at (all_reclaimed holdings_of w p xs) s) ≡ true →
       1 ≤ times_in s (owners_in start (slots_among xs))
-  all-give (Job j ∷ xs) w i waits =
-      all-give xs (reclaimed holdings_of w p (Job j)) (record { bare = i.bare; values = i.values; idle = i.idle }) waits
-  all-give [] w i waits = let never : false ≡ true = sym i.idle ∙ waits in absurd (cc)
-  all-give (Item k ∷ xs) w i waits = by (is_waiting (standing_at u s)) refl (λ now. all-give xs u now waits) where
-    ks : List ℕ
-    ks = slots_among xs
+  all-give (Job j ∷ xs) w were i waits =
+      all-give xs (reclaimed holdings_of w p (Job j)) (λ k some. were k (omega (arith, some, count-cons (is_of_slot k) (Job j) xs))) (record { bare = i.bare; values = i.values; idle = i.idle }) waits
+  all-give [] w were i waits = let never : false ≡ true = sym i.idle ∙ waits in absurd (cc)
+  all-give (Item k ∷ xs) w were i waits =
+      by (is_waiting (standing_at u s)) refl (λ now. all-give xs u (λ j some. were j (omega (arith, some, count-cons (is_of_slot j) (Item k) xs))) now waits) where
+        ks : List ℕ
+        ks = slots_among xs
 
-    u : World Val
-    u = reclaimed holdings_of w p (Item k)
+        u : World Val
+        u = reclaimed holdings_of w p (Item k)
 
-    here : List ℕ
-    here = slots_in (value_at start k)
+        here : List ℕ
+        here = slots_in (value_at start k)
 
-    both : times_in s (here ++ owners_in start ks) ≡ times_in s here + times_in s (owners_in start ks)
-    both = sum_by-append (λ j. one_where (j == s)) here (owners_in start ks)
+        both : times_in s (here ++ owners_in start ks) ≡ times_in s here + times_in s (owners_in start ks)
+        both = sum_by-append (λ j. one_where (j == s)) here (owners_in start ks)
 
-    is : (v : Val) → waiting_value w k (standing_at w k) ≡ Some v → value_at w k ≡ Some v
-    is = waiting-there w k (standing_at w k)
+        is : (v : Val) → waiting_value w k (standing_at w k) ≡ Some v → value_at w k ≡ Some v
+        is = waiting-there w k (standing_at w k)
 
-    by : (b : Bool) → is_waiting (standing_at u s) ≡ b → (IsBefore u → 1 ≤ times_in s (owners_in start ks)) →
-        1 ≤ times_in s (here ++ owners_in start ks)
-    by true now rest = omega (arith, both, out-gives w k (waiting_value w k (standing_at w k)) is i now)
-    by false idle rest =
-        let more = rest (record {
-          bare = out-bare w k (waiting_value w k (standing_at w k)) is i.bare;
-          values = λ j v h. i.values j v (out-values w k (waiting_value w k (standing_at w k)) is i.bare j v h);
-          idle = idle;
-        }) in
-        omega (arith, both, more)
+        mine : Waiting start k
+        mine = were k (omega (arith, count-cons (is_of_slot k) (Item k) xs, itself k))
+
+        by : (b : Bool) → is_waiting (standing_at u s) ≡ b → (IsBefore u → 1 ≤ times_in s (owners_in start ks)) →
+            1 ≤ times_in s (here ++ owners_in start ks)
+        by true now rest = omega (arith, both, out-gives w k (waiting_value w k (standing_at w k)) is mine i now)
+        by false idle rest =
+            let more = rest (record {
+              bare = out-bare w k (waiting_value w k (standing_at w k)) is mine i.bare;
+              values = λ j v h. i.values j v (out-values w k (waiting_value w k (standing_at w k)) is mine i.bare j v h);
+              idle = idle;
+            }) in
+            omega (arith, both, more)
 
 -- the owners that a body holds are those that its value holds
 body-times : (s c : ℕ) (home : GhostName) (b : Body) →
@@ -266,7 +281,7 @@ held-by-one w s (j ∷ js) some =
 
 -- ---- an opening of p, whose desk is sound
 
-module _ (d : ScriptState) (p : ℕ) (l : p < length d.world.time.places) (stocked : SlotsHaveNames d) (bare : LinksAreBare d.world) (whole : IsWhole d.world)
+module _ (d : ScriptState) (p : ℕ) (l : p < length d.world.time.places) (stocked : SlotsHaveNames d) (bare : AreBare d.world (Waiting d.world)) (whole : IsWhole d.world)
     (accounts : IsAccounted holdings_of (named_owners d) d.world) where
   abbrev after : World Val
   after = steps.opened holdings_of d.world p
@@ -296,7 +311,8 @@ module _ (d : ScriptState) (p : ℕ) (l : p < length d.world.time.places) (stock
         let now : is_waiting (standing_at (all_reclaimed holdings_of first p (reclaims d.world p)) s) ≡ true =
         ap (λ xs. is_waiting (standing_at (all_reclaimed holdings_of first p xs) s)) (sym due)
         ∙ ap (λ (u : World Val). is_waiting (standing_at u s)) (sym c.change) ∙ waits in
-        subst (λ ks. 1 ≤ times_in s (owners_in d.world ks)) (sym are) (all-give p d.world s (reclaims d.world p) first (record {
+        subst (λ ks. 1 ≤ times_in s (owners_in d.world ks)) (sym are)
+        (all-give p d.world s (reclaims d.world p) first (λ k some. reclaims-wait d.world p k whole some) (record {
           bare = bare;
           values = λ k v h. h;
           idle = idle;

@@ -4,6 +4,9 @@ use Rattle.std.specs.Prelude.{◌==◌, IsTrue, ◌↔◌}
 use Rattle.std.proofs.lemmas.Bool.{false≢true, cases_eq}
 use Rattle.sdd_participants.specs.declared.standing.Standing.TheVariants.{Owned, Raw, Shared}
 use Rattle.sdd_standings.specs.Slots.{IsSharedBy, is_waiting}
+use Rattle.sdd_space.specs.Ledger.{owner_of}
+use Rattle.sdd_space.specs.WorldChanges.{held_in}
+use Rattle.sdd_participants.specs.Slab.{entry_at}
 use Rattle.sdd_space.specs.Ledger.Moves.{puts_out_raw, takes_back_raw, drops}
 use Rattle.sdd_space.specs.OwnerCounts.{times_held}
 use Rattle.sdd_space.specs.OwnerOrCell.{OwnerOrCell}
@@ -23,15 +26,17 @@ use Rattle.sdd_script_text.specs.declared.answer.Reply.TheVariants as reply
 use Rattle.sdd_script_model.specs.declared.val.Body.{Body}
 use Rattle.sdd_script_model.specs.Val.{Val, holdings_of, body_of, link_of, link_home, owner_in, renumbered}
 use Rattle.sdd_script_model.specs.declared.val.Body.TheVariants as body
-use Rattle.sdd_script_model.specs.ScriptState.{ScriptState, IsDated, holding_at, slot_of, sole_slot, shared_slot, in_world, with_owner, without_owner}
+use Rattle.sdd_script_model.specs.ScriptState.{ScriptState, IsDated, IsStackCell, holding_at, slot_of, sole_slot, shared_slot, in_world, with_owner, without_owner}
 use Rattle.sdd_script_model.specs.Held.{slot_held, slots_of, slots_in}
 use Rattle.sdd_script_model.specs.InPlace.{Puts, Drops}
 use Rattle.sdd_script_model.specs.Sound.{IsSound, named, named_among, named_owners}
 use Rattle.sdd_script_model.proofs.Entry.{at-other, at-default, set-either}
 use Rattle.sdd_script_model.proofs.Stocked.{slot-inside}
 use Rattle.sdd_script_model.proofs.Dates.{dated-same, dated-stands, dated-kept, dated-either}
-use Rattle.sdd_script_model.proofs.Counting.{accounts, owner-given, owner-spent}
-use Rattle.sdd_script_model.proofs.Chains.{LeavesSound, at_home-given, at_home-spent, edited, finishes, moves, starts}
+use Rattle.sdd_script_model.specs.Listed.{IsListed}
+use Rattle.sdd_script_model.proofs.Links.{same-once}
+use Rattle.sdd_script_model.proofs.Counting.{accounts, owner-given, owner-spent, some-holding}
+use Rattle.sdd_script_model.proofs.Chains.{LeavesSound, alone-unlisted, at_home-given, at_home-spent, edited, finishes, moves, starts}
 use Rattle.sdd_script_model.proofs.Gone.{times_in, body-waits, value-times}
 use Rattle.sdd_script_model.proofs.Going.{sole-is, released-leaves}
 use Rattle.sdd_script_model.proofs.CellGoing.{dates_spilled}
@@ -61,7 +66,18 @@ value-held-out d s k v there m is =
     let held : 1 ≤ times_held holdings_of m (Some v) = omega (arith, among, value-times m (Some v), one-if m m refl) in
     in_value-out holdings_of d.world k m (named_owners d) (accounts d s) (omega (arith, held, ap (times_held holdings_of m) there))
 
+-- an owner with a name is outside
+owner-outside : (d : ScriptState) (o k : ℕ) → slot_of (holding_at d.owners o) ≡ Some k → 1 ≤ named d (owner_of k)
+owner-outside d o k slot =
+    let h = some-holding slot_of refl (holding_at d.owners o) k slot in
+    omega (arith, owner-spent d.owners d.cells d.collectors o k h.0 h.1 h.2 (owner_of k), same-once k)
+
 module _ (d : ScriptState) (s : IsSound d) (whole : IsWhole d.world) (p k : ℕ) (live : IsPlaceOf d.world p) where
+  -- the link of an item that is in no stack holds nothing
+  unlisted-bare : (j : ℕ) (v : Val) → value_at d.world j ≡ Some v → (IsListed (IsStackCell d) d.world j → ⊥) →
+      held_in (entry_at d.world.cells (link_of v)) ≡ None
+  unlisted-bare j v there not = elim (s.lists.linked j v there) [ inl none ↦ none | inr at ↦ absurd (not at) ]
+
   -- ---- an item goes raw
   module _ (o : ℕ) (owner : sole_slot (holding_at d.owners o) ≡ Some k) (stands : standing_at d.world k ≡ Some Owned) where
     abbrev pub after_raw : ScriptState
@@ -92,7 +108,8 @@ module _ (d : ScriptState) (s : IsSound d) (whole : IsWhole d.world) (p k : ℕ)
         (dated-stands d after_back k Owned refl refl refl) p live
 
   -- ---- a number is changed in its place
-  module _ (number m : ℕ) (w : World Val) (may : MayInPlace d.world k) (puts : Puts d.world k number w) (is : body_of puts.was ≡ body.Number m) where
+  module _ (o : ℕ) (slot : slot_of (holding_at d.owners o) ≡ Some k) (number m : ℕ) (w : World Val)
+      (may : MayInPlace d.world k) (puts : Puts d.world k number w) (is : body_of puts.was ≡ body.Number m) where
     abbrev pub after_put : ScriptState
     after_put = in_world d w
 
@@ -110,7 +127,8 @@ module _ (d : ScriptState) (s : IsSound d) (whole : IsWhole d.world) (p k : ℕ)
     put-leaves =
         subst (λ u. LeavesSound d (in_world d u)) (sym puts.put) (
         finishes d put_in_place.world d.owners d.cells d.collectors d.dates s
-        (edited (starts d s whole) k puts.was puts.now may puts.there puts.changed.link (now-number ∙ sym was-number))
+        (edited (starts d s whole) k puts.was puts.now may puts.there puts.changed.link (now-number ∙ sym was-number)
+        (owner-outside d o k slot))
         (λ u. refl) (s.home.owners, s.home.cells, s.home.collectors) (dated-same d put_in_place refl refl) p live)
 
   -- ---- an item is dropped in its place, with the name of its owner
@@ -132,7 +150,7 @@ module _ (d : ScriptState) (s : IsSound d) (whole : IsWhole d.world) (p k : ℕ)
     gave : (j : ℕ) → is_waiting (standing_at after_dropped.world j) ≡ true → is_waiting (standing_at d.world j) ≡ false →
         1 ≤ times_in j (listed (slot_held (body_of v)))
     gave j now idle =
-        let bare = s.bare k v there in
+        let bare = unlisted-bare k v there (alone-unlisted (starts d s whole) k may.alone (owner-outside d o k (ap slot_of named ∙ slot))) in
         let waits = ap (λ (x : Option Val). is_waiting (standing_at (dropped_out holdings_of d.world p k x) j)) (sym there) ∙ now in
         subst (λ ks. 1 ≤ times_in j ks) (held-slots (body_of v))
         (body-waits (vacated d.world k) p (link_of v) j (link_home v) (body_of v) bare (vacated-idle j idle) waits)

@@ -4,6 +4,8 @@ pub mod Entry
 pub mod SmallSteps
 pub mod Stocked
 pub mod Links
+pub mod Listed
+pub mod ListChanges
 pub mod Attending
 pub mod Dates
 pub mod Kept
@@ -14,7 +16,10 @@ pub mod Deferred
 pub mod JobDates
 pub mod Frames
 pub mod Chains
+pub mod StackChains
 pub mod Going
+pub mod StackGoing
+pub mod StackPushing
 pub mod WaitingFor
 pub mod Collected
 pub mod CollectorGoing
@@ -23,6 +28,7 @@ pub mod InPlaceGoing
 pub mod Runs
 pub mod Awaiting
 pub mod Calm
+pub mod StackTurns
 pub mod Turns
 pub mod History
 pub mod Telling

@@ -23,7 +23,6 @@ use Rattle.sdd_space.proofs.Whole.{one_where}
 use Rattle.sdd_script_model.specs.declared.val.Body.{Body}
 use Rattle.sdd_script_model.specs.Val.{Val, holdings_of, link_holding, body_of, link_of, owner_in}
 use Rattle.sdd_script_model.specs.declared.val.Body.TheVariants.{Number, Owned, Shared}
-use Rattle.sdd_script_model.specs.Sound.{LinksAreBare}
 use Rattle.sdd_script_model.proofs.Entry.{at-same, at-other, inside, set-either}
 
 -- each value that is there was there, but for a number
@@ -83,16 +82,6 @@ freed-bare cells c d bare = elim (set-either cells c d None None) [
   | inl gone ↦ ap held_in gone
   | inr same ↦ ap held_in same ∙ bare
 ]
-
--- what gives something up leaves links bare
-pub bare-shed : {old new : World Val} → Sheds old new → LinksAreBare old → LinksAreBare new
-bare-shed {old} {new} shed bare s x e =
-    let was = less-shed shed s x e in
-    let before : held_in (entry_at old.cells (link_of x)) ≡ None = ap (λ c. held_in (entry_at old.cells c)) was.2 ∙ bare s was.0 was.1 in
-    elim (shed.cells (link_of x)) [
-      | inl same ↦ ap held_in same ∙ before
-      | inr gone ↦ ap held_in gone
-    ]
 
 -- ---- what is given up
 

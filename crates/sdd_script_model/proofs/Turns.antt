@@ -19,6 +19,9 @@ use Rattle.sdd_script_text.specs.declared.call.Action.{Action}
 use Rattle.sdd_script_text.specs.declared.call.Action.TheVariants as call
 use Rattle.sdd_script_text.specs.declared.answer.Reply.{Reply}
 use Rattle.sdd_script_text.specs.declared.answer.Reply.TheVariants as reply
+use Rattle.sdd_core.specs.declared.tag.Tag.TheVariants.{None as no_tag}
+use Rattle.sdd_script_model.specs.Stacks.{stack_closed}
+use Rattle.sdd_script_model.proofs.StackTurns.{gives-closed, gives-pushed, gives-taken, gives-trimmed}
 use Rattle.sdd_script_model.specs.Collecting.{Collects}
 use Rattle.sdd_script_model.specs.Due.{caller, is_opening, is_close, is_end, is_waiting_in}
 use Rattle.sdd_script_model.specs.InPlace.{Drops}
@@ -254,6 +257,23 @@ module _ (d new : ScriptState) (whole : IsWhole d.world) (after : IsWhole new.wo
   turn-does n (call.Unmark i) (reply.Truth b) valid does = still (λ k. (refl, refl, refl)) (still-retags d i.0 change.Unmark b new does)
   turn-does n (call.Delete i) (reply.Truth b) valid does = still (λ k. (refl, refl, refl)) (still-retags d i.0 change.Delete b new does)
   turn-does n (call.LinkTag i) (reply.Tag tag) valid (is, e) = still (λ k. (refl, refl, refl)) (same-desk d new e)
+  turn-does n call.Stack (reply.Stack s) valid (name, (c, free, leaves)) = still (λ k. (refl, refl, refl)) (time-left leaves, places-left leaves)
+  turn-does n call.Stack (reply.Refused NoCell) valid (full, e) = still (λ k. (refl, refl, refl)) (same-desk d new e)
+  turn-does n (call.Push s number g) (reply.Item o i) valid (name, (c, es, k, w, is, pushes, given)) =
+      gives w (λ k. (refl, refl, refl)) valid.0.0 (places-left given.1) (world-left given.1)
+      (gives-pushed (place_of d n.0) d.world c es number k w (live n.0 valid.0.0).0 pushes)
+  turn-does n (call.Push s number g) (reply.Refused r) valid (is, e) = still (λ k. (refl, refl, refl)) (same-desk d new e)
+  turn-does n (call.Pop s g) (reply.Popped o number) valid (c, es, e, w, is, told, takes, given) =
+      gives w (λ k. (refl, refl, refl)) valid.0.0 (places-left given.1) (world-left given.1)
+      (gives-taken (place_of d n.0) d.world c es e w (live n.0 valid.0.0).0 takes)
+  turn-does n (call.Pop s g) reply.Nothing valid (c, es, w, is, drains, leaves) =
+      gives w (λ k. (refl, refl, refl)) valid.0.0 (places-left leaves) (world-left leaves)
+      (subst (λ (u : World Val). Gives (place_of d n.0) d.world u) (sym drains.world)
+      (gives-trimmed (place_of d n.0) d.world c no_tag es (live n.0 valid.0.0).0))
+  turn-does n (call.Pop s g) (reply.Refused TooManyOwners) valid (is, e) = still (λ k. (refl, refl, refl)) (same-desk d new e)
+  turn-does n (call.CloseStack s) reply.Done valid (c, es, is, leaves) =
+      gives (stack_closed d.world (place_of d n.0) c es) (λ k. (refl, refl, refl)) valid.0.1.0 (places-left leaves) (world-left leaves)
+      (gives-closed (place_of d n.0) d.world c es (live n.0 valid.0.1.0).0)
   turn-does n (call.CloseCell c) reply.Done valid (k, is, leaves) =
       gives (cell_closed d.world (place_of d n.0) k) (λ k. (refl, refl, refl)) valid.0 (places-left leaves) (world-left leaves)
       (Gives-cell_closed d.world (place_of d n.0) k (live n.0 valid.0).0)

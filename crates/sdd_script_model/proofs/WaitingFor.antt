@@ -93,7 +93,7 @@ module _ (w : World Val) (k : ℕ) where
 
 -- ---- what waits for the collector stands so
 
-private-waits : (c : ℕ) (x : Option Standing) → is_private_to c x ≡ true → is_waiting x ≡ true
+pub private-waits : (c : ℕ) (x : Option Standing) → is_private_to c x ≡ true → is_waiting x ≡ true
 private-waits c None e = absurd (false≢true e)
 private-waits c (Some Owned) e = absurd (false≢true e)
 private-waits c (Some Raw) e = absurd (false≢true e)

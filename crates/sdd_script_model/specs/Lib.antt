@@ -9,3 +9,5 @@ pub mod Script
 pub mod Sound
 pub mod Held
 pub mod Link
+pub mod Listed
+pub mod Stacks

@@ -17,7 +17,7 @@ use Rattle.sdd_space.specs.World.{World, AnyGuardOpen, place_at, standing_at}
 use Rattle.sdd_space.specs.Collecting.{collector_closed, waiting_for}
 use Rattle.sdd_standings.specs.Cells.{null_pointer}
 use Rattle.sdd_space.specs.InPlace.{MayInPlace, RefusedInPlace}
-use Rattle.sdd_space.specs.WorldChanges.{registered, ended, retired, opened, closed, stirred, accelerated, deferred, reclaims, owner_given, with_standing, without_cell, cell_closed, pointing}
+use Rattle.sdd_space.specs.WorldChanges.{registered, ended, retired, opened, closed, stirred, accelerated, deferred, reclaims, owner_given, with_standing, without_cell, cell_closed, nulled, pointing}
 use Rattle.sdd_space.specs.WorldChanges as steps
 use Rattle.sdd_space.specs.WorldStep.{WorldStep}
 use Rattle.sdd_space.specs.ReclaimBound.{GoesInTime}
@@ -33,14 +33,17 @@ use Rattle.sdd_script_text.specs.declared.call.Value.TheVariants.{Number, Of}
 use Rattle.sdd_script_text.specs.declared.answer.Answer.{Answer}
 use Rattle.sdd_script_text.specs.declared.answer.Reply.{Reply}
 use Rattle.sdd_script_text.specs.declared.answer.Reply.TheVariants as reply
-use Rattle.sdd_script_model.specs.Val.{Val, holdings_of}
+use Rattle.sdd_script_model.specs.declared.val.Body.TheVariants as body
+use Rattle.sdd_script_model.specs.Val.{Val, body_of, holdings_of}
 use Rattle.sdd_script_model.specs.declared.link_change.LinkChange.TheVariants as change
+use Rattle.sdd_lists.specs.Lists.{Entry}
 use Rattle.sdd_script_model.specs.Link.{IsLink, Retags}
+use Rattle.sdd_script_model.specs.Stacks.{Drains, IsOwnedEnough, IsStack, Pushes, RefusesEntry, Takes, stack_closed}
 use Rattle.sdd_script_model.specs.Made.{Makes, RefusesItem, put_in}
 use Rattle.sdd_script_model.specs.Shown.{RepliesValue, IsCell, item_held, item_in}
 use Rattle.sdd_script_model.specs.Collecting.{Collects}
 use Rattle.sdd_script_model.specs.InPlace.{OwnsNumber, Puts, Drops, RefusesDrop, IsRaw}
-use Rattle.sdd_script_model.specs.ScriptState.{ScriptState, OpenSince, IsStart, IsDated, IsThere, WaitsAt, Leaves, opening_at, holding_at, slot_at, date_at, job_date_at, place_of, since_of, slot_of, sole_slot, shared_slot, shared_cell, collector_of, in_world, with_owner, without_owner, with_collector, without_collector, with_item, with_job, with_newcomer, without_participant, with_guard, without_guard, later}
+use Rattle.sdd_script_model.specs.ScriptState.{ScriptState, OpenSince, IsStart, IsDated, IsThere, WaitsAt, Leaves, opening_at, holding_at, slot_at, date_at, job_date_at, place_of, since_of, slot_of, sole_slot, shared_slot, shared_cell, collector_of, in_world, with_owner, without_owner, with_collector, without_collector, with_item, with_job, with_stack, without_stack, with_newcomer, without_participant, with_guard, without_guard, later}
 use Rattle.sdd_script_model.specs.ScriptState as desk
 use Rattle.sdd_script_model.specs.Due.{Line, NamesWhatIsDue}
 
@@ -78,6 +81,10 @@ IsSharedCell d c = IsSome (shared_cell (holding_at d.cells c))
 -- the name is that of a collector
 abbrev pub IsCollector : ScriptState → ℕ → Type 0
 IsCollector d k = IsSome (collector_of (holding_at d.collectors k))
+
+-- the name is that of a stack
+abbrev pub IsStackName : ScriptState → ℕ → Type 0
+IsStackName d s = IsSome (shared_cell (holding_at d.stacks s))
 
 -- what goes into a cell of this kind is none, or there and of its kind
 abbrev pub FitsCell : ScriptState → Option OwnerOrCell → Option OwnerName → Type 0
@@ -153,6 +160,10 @@ IsValid d n (call.Mark i) = IsUnderGuard d n × CanPointTo d n i.0
 IsValid d n (call.Unmark i) = IsUnderGuard d n × CanPointTo d n i.0
 IsValid d n (call.Delete i) = IsUnderGuard d n × CanPointTo d n i.0
 IsValid d n (call.LinkTag i) = IsUnderGuard d n × CanPointTo d n i.0
+IsValid d n call.Stack = IsParticipant d n
+IsValid d n (call.Push s number g) = HasOpen d n g.0 × IsStackName d s.0
+IsValid d n (call.Pop s g) = HasOpen d n g.0 × IsStackName d s.0
+IsValid d n (call.CloseStack s) = IsUnderGuard d n × IsStackName d s.0
 IsValid d n (call.CloseCell c) = IsParticipant d n × IsCellName d c.0
 IsValid d n call.Collector = IsParticipant d n
 IsValid d n (call.Collect o g k) = HasOpen d n g.0 × IsOwnerName d o.0 × IsCollector d k.0
@@ -340,6 +351,24 @@ Does d n p (call.Mark i) (reply.Truth b) new = Retags d i.0 change.Mark b new
 Does d n p (call.Unmark i) (reply.Truth b) new = Retags d i.0 change.Unmark b new
 Does d n p (call.Delete i) (reply.Truth b) new = Retags d i.0 change.Delete b new
 Does d n p (call.LinkTag i) (reply.Tag tag) new = ((k : ℕ) × (cell : CellContents) × IsLink d i.0 k cell × (tag ≡ cell.tag)) × (new ≡ d)
+-- a free cell is taken, whichever
+Does d n p call.Stack (reply.Stack s) new =
+    (s.0 ≡ length d.stacks) × ((c : ℕ) × IsEmptyAt d.world.cells c × Leaves (in_world (with_stack d c) (nulled d.world c)) new)
+Does d n p call.Stack (reply.Refused NoCell) new = IsFull d.world.cells × (new ≡ d)
+-- a free cell and a free slot are taken, whichever
+Does d n p (call.Push s number g) (reply.Item o i) new =
+    (i.0 ≡ length d.slots) × ((c : ℕ) × (es : List (Entry Val)) × (k : ℕ) × (w : World Val) × IsStack d s.0 c es × Pushes d.world p c es number k w
+    × GivesOwner (with_item d k) w (shared k d.world.home.slots) o new)
+Does d n p (call.Push s number g) (reply.Refused refused) new = RefusesEntry d.world refused × (new ≡ d)
+Does d n p (call.Pop s g) (reply.Popped o number) new =
+    (c : ℕ) × (es : List (Entry Val)) × (e : Entry Val) × (w : World Val) × IsStack d s.0 c es × (body_of e.value ≡ body.Number number)
+    × Takes d.world p c es e w × GivesOwner d w (shared e.slot d.world.home.slots) o new
+Does d n p (call.Pop s g) reply.Nothing new =
+    (c : ℕ) × (es : List (Entry Val)) × (w : World Val) × IsStack d s.0 c es × Drains d.world p c es w × Leaves (in_world d w) new
+Does d n p (call.Pop s g) (reply.Refused TooManyOwners) new =
+    ((c : ℕ) × (es : List (Entry Val)) × IsStack d s.0 c es × IsOwnedEnough d.world es) × (new ≡ d)
+Does d n p (call.CloseStack s) reply.Done new =
+    (c : ℕ) × (es : List (Entry Val)) × IsStack d s.0 c es × Leaves (in_world (without_stack d s.0) (stack_closed d.world p c es)) new
 Does d n p (call.CloseCell c) reply.Done new =
     (k : ℕ) × (desk.cell_of (holding_at d.cells c.0) ≡ Some k)
     × Leaves (record d { world = cell_closed d.world p k; cells = slice_set d.cells c.0 None }) new

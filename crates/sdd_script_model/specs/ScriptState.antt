@@ -27,6 +27,8 @@ pub record ScriptState : Type 0 where
   pub cells : List (Option OwnerOrCell)
   -- each collector, by its cell, until it is spent
   pub collectors : List (Option OwnerOrCell)
+  -- each stack, by its cell, until it is spent
+  pub stacks : List (Option OwnerOrCell)
   -- of each item its slot
   pub slots : List ℕ
   -- of each slot the item that it had last
@@ -142,6 +144,10 @@ shared_cell (Some (atomic_owned c home)) = None
 shared_cell (Some (atomic_shared c home)) = Some c
 shared_cell (Some (atomic_raw c home)) = None
 
+-- a stack begins in this cell
+abbrev pub IsStackCell : ScriptState → ℕ → Type 0
+IsStackCell d c = (n : ℕ) × (shared_cell (holding_at d.stacks n) ≡ Some c)
+
 -- the number of a collector's cell
 abbrev pub collector_of : Option OwnerOrCell → Option ℕ
 collector_of None = None
@@ -194,6 +200,13 @@ with_collector d c = record d { collectors = d.collectors ++ Some (atomic_raw c 
 abbrev pub without_collector : ScriptState → ℕ → ScriptState
 without_collector d k = record d { collectors = slice_set d.collectors k None }
 
+-- the next stack has cell c
+abbrev pub with_stack : ScriptState → ℕ → ScriptState
+with_stack d c = record d { stacks = d.stacks ++ Some (atomic_shared c d.world.home.cells) ∷ [] }
+
+abbrev pub without_stack : ScriptState → ℕ → ScriptState
+without_stack d s = record d { stacks = slice_set d.stacks s None }
+
 abbrev pub without_guard : ScriptState → ℕ → ScriptState
 without_guard d g = record d { guards = slice_set d.guards g None }
 
@@ -226,6 +239,7 @@ pub record IsStart (limits : Limits) (d : ScriptState) : Type 0 where
   pub owners : d.owners ≡ []
   pub cells : d.cells ≡ []
   pub collectors : d.collectors ≡ []
+  pub stacks : d.stacks ≡ []
   pub slots : d.slots ≡ []
   pub dates : d.dates ≡ replicate limits.slots 0
   pub jobs : d.jobs ≡ 0

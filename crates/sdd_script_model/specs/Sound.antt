@@ -5,13 +5,14 @@ use Rattle.sdd_participants.specs.Slab.{Entries, IsEmptyAt, entry_at}
 use Rattle.sdd_standings.specs.Slots.{is_waiting}
 use Rattle.sdd_space.specs.OwnerOrCell.{OwnerOrCell, IsOf}
 use Rattle.sdd_space.specs.World.{World, IsPlaceOf, place_at, standing_at, value_at}
-use Rattle.sdd_space.specs.WorldChanges.{deferred, held_in}
+use Rattle.sdd_space.specs.WorldChanges.{deferred}
 use Rattle.sdd_space.specs.WorldInvariant.{IsWhole}
 use Rattle.sdd_space.specs.Ledger.{Claim, owner_of, right_to, is_right_to, IsLedger}
 use Rattle.sdd_space.specs.OwnerCounts.{is_owner_of, times_held}
 use Rattle.sdd_space.specs.UnderGuards.{CallsUnder, IsSafe}
-use Rattle.sdd_script_model.specs.Val.{Val, holdings_of, link_of}
-use Rattle.sdd_script_model.specs.ScriptState.{ScriptState, OpenSince, opening_at, holding_at, slot_at, name_at, date_at, job_date_at}
+use Rattle.sdd_script_model.specs.Listed.{HasLists}
+use Rattle.sdd_script_model.specs.Val.{Val, holdings_of}
+use Rattle.sdd_script_model.specs.ScriptState.{ScriptState, OpenSince, IsStackCell, opening_at, holding_at, slot_at, name_at, date_at, job_date_at}
 
 -- which item is in which slot
 pub record SlotsHaveNames (d : ScriptState) : Type 0 where
@@ -46,13 +47,14 @@ abbrev pub named_among : (owners cells collectors : List (Option OwnerOrCell)) �
 named_among owners cells collectors (owner_of k) = count_by (owns k) owners
 named_among owners cells collectors (right_to c) = count_by (has_right c) cells + count_by (has_right c) collectors
 
--- so many of each a script has outside its world
+-- so many of each a script has outside its world, beside its stacks
 abbrev pub named : ScriptState → Claim → ℕ
 named d = named_among d.owners d.cells d.collectors
 
--- links hold nothing
-abbrev pub LinksAreBare : World Val → Type 0
-LinksAreBare w = (s : ℕ) (v : Val) → value_at w s ≡ Some v → held_in (entry_at w.cells (link_of v)) ≡ None
+-- so many rights to cells its stacks are
+abbrev pub stacked : List (Option OwnerOrCell) → Claim → ℕ
+stacked stacks (owner_of k) = 0
+stacked stacks (right_to c) = count_by (has_right c) stacks
 
 -- what has a name is of the world's home
 abbrev pub AreAtHome : ScriptState → List (Option OwnerOrCell) → Type 0
@@ -62,6 +64,7 @@ pub record NamesAreAtHome (d : ScriptState) : Type 0 where
   pub owners : AreAtHome d d.owners
   pub cells : AreAtHome d d.cells
   pub collectors : AreAtHome d d.collectors
+  pub stacks : AreAtHome d d.stacks
 
 -- who is there, and which guards are open
 pub record ParticipantsMatch (d : ScriptState) : Type 0 where
@@ -73,8 +76,8 @@ pub record ParticipantsMatch (d : ScriptState) : Type 0 where
       (n : ℕ) × (x : OpenSince) × (opening_at d.places n ≡ Some x) × (x.place ≡ y.place) × (x.since ≤ y.since)
   -- in a line so far
   pub early : (n : ℕ) (x : OpenSince) → opening_at d.places n ≡ Some x → x.since ≤ d.moment
-  -- an item or a cell was made by some participant, and its place, or another, is not free
-  pub placed : 0 < length d.slots + length d.cells → (p : ℕ) × IsSome (phase_at d.world.time p)
+  -- an item, a cell or a stack was made by some participant, and its place, or another, is not free
+  pub placed : 0 < length d.slots + length d.cells + length d.stacks → (p : ℕ) × IsSome (phase_at d.world.time p)
 
 -- what began to wait since a participant's last outermost opening can't go as long as a guard of it is open
 abbrev pub KeepsRecentItems : ScriptState → Type 0
@@ -117,8 +120,9 @@ pub record AreDeferred (jobs : ℕ) (deferred : List ℕ) (table : Entries (Unit
 pub record IsSound (d : ScriptState) : Type 0 where
   pub stocked : SlotsHaveNames d
   -- of each owner and each right to a cell there are as many as the world needs: those inside it, and those with names
-  pub ledger : IsLedger holdings_of (named d) d.world
-  pub bare : LinksAreBare d.world
+  pub ledger : IsLedger holdings_of (λ u. named d u + stacked d.stacks u) d.world
+  -- each stack is there, and a link that holds something is that of an entry of one
+  pub lists : HasLists (IsStackCell d) d.world
   pub layered : HoldsOnlyOlder d
   pub home : NamesAreAtHome d
   pub attended : ParticipantsMatch d

@@ -5,4 +5,5 @@ pub mod Missing
 pub mod Inside
 pub mod Taken
 pub mod Collectors
+pub mod Stacks
 pub mod Guarded

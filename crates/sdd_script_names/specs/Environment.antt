@@ -1,5 +1,5 @@
 -- What the names of a script stand for
-use Rattle.std.specs.Prelude.{ℕ, ◌≡◌, ◌<◌, ◌≤◌, IsSome, IsTrue, List, [], ◌∷◌, ◌++◌, Option, Some, None, length, slice_index, slice_index_or, slice_set, if◌then◌else◌}
+use Rattle.std.specs.Prelude.{ℕ, ◌≡◌, ◌<◌, ◌≤◌, Bool, false, IsSome, IsTrue, List, [], ◌∷◌, ◌++◌, Option, Some, None, length, slice_index, slice_index_or, slice_set, if◌then◌else◌}
 use Rattle.std.specs.Option.{option_map}
 use Rattle.sdd_standings.specs.Slots.{is_waiting}
 use Rattle.sdd_space.specs.OwnerOrCell.{OwnerOrCell}
@@ -82,6 +82,11 @@ owners_back owners (Some o) h = slice_set owners o.0 h
 abbrev pub dated_if_waiting : World Val → Option ℕ → (line : ℕ) → List ℕ → List ℕ
 dated_if_waiting w None line dates = dates
 dated_if_waiting w (Some k) line dates = if is_waiting (standing_at w k) then slice_set dates k line else dates
+
+-- the line in which the item of slot s began to wait, where these waited before
+abbrev pub date_now : World Val → (waited : List Bool) → (line : ℕ) → List ℕ → ℕ → ℕ
+date_now w waited line dates s =
+    if is_waiting (standing_at w s) then (if slice_index_or waited s false then slice_index dates s else line) else slice_index dates s
 
 -- the slot of the owner that a body is has an item with a name
 abbrev pub SlotInside : List ℕ → Body → Type 0

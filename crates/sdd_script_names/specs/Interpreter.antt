@@ -6,7 +6,7 @@ use Rattle.sdd_script_model.specs.ScriptState.{ScriptState, OpenSince, opening_a
 use Rattle.sdd_script_model.specs.Sound.{IsSound}
 use Rattle.sdd_script_names.specs.declared.participants.NamedGuard.{NamedGuard}
 use Rattle.sdd_script_names.specs.declared.interpreter.Environment.{Environment}
-use Rattle.sdd_space_commands.specs.Owners.{owner_holding, cell_holding, collector_holding}
+use Rattle.sdd_space_commands.specs.Owners.{owner_holding, cell_holding, collector_holding, stack_holding}
 use Rattle.sdd_script_names.specs.Environment.{attending, guarding}
 use Rattle.sdd_rights.specs.Units as token
 
@@ -20,6 +20,7 @@ desk_of s =
       owners = map (option_map owner_holding) s.owners.entries.items;
       cells = map (option_map cell_holding) s.cells.entries.items;
       collectors = map (option_map collector_holding) s.collectors.entries.items;
+      stacks = map (option_map stack_holding) s.stacks.entries.items;
       slots = s.slots.items;
       names = s.names.items;
       dates = s.dates.items;

@@ -4,7 +4,8 @@ ghost use Rattle.std.specs.Prelude.{◌≡◌, ◌<◌, ◌⊎◌, [], IfOk, Mat
 use crate::name_table::NameTable;
 use crate::participants::{NamedGuard, NamedParticipant};
 use sdd_core::{Limits, Refused};
-use sdd_script_model::Val;
+use sdd_lists::Stack;
+use sdd_script_model::{Body, Val};
 use sdd_script_text::{Answer, Names, Reply};
 use sdd_space::PrivateCollector;
 use sdd_space_commands::holding::{AnyCell, AnyOwner};
@@ -23,6 +24,7 @@ pub struct Environment {
     pub owners: NameTable<AnyOwner>,
     pub cells: NameTable<AnyCell>,
     pub collectors: NameTable<PrivateCollector<Val>>,
+    pub stacks: NameTable<Stack<Body>>,
     /// Of each item its slot.
     pub slots: Vec<u32>,
     /// Of each slot the name of the item that it had last.
@@ -86,6 +88,7 @@ impl Interpreter {
                 owners: NameTable::new(alloc),
                 cells: NameTable::new(alloc),
                 collectors: NameTable::new(alloc),
+                stacks: NameTable::new(alloc),
                 slots: Vec::new(alloc),
                 names,
                 dates,

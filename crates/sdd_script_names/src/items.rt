@@ -1,17 +1,19 @@
 //! Names of items: the slots that they have, and since when an item waits.
-ghost use Rattle.std.specs.Prelude.{◌≡◌, ◌↔◌, ◌<◌, ◌≤◌, ◌^◌, ℕ, All, IsSome, IsTrue, None, Some, MatchOption, length, slice_index, slice_index_or, IfOk, IfSome, map, if◌then◌else◌};
+ghost use Rattle.std.specs.Prelude.{◌≡◌, ◌↔◌, ◌<◌, ◌≤◌, ◌^◌, ℕ, false, All, IsSome, IsTrue, None, Some, MatchOption, length, slice_index, slice_index_or, IfOk, IfSome, map, if◌then◌else◌};
 ghost use Rattle.std.specs.List.Sorted.{IsPermutation, IsNonDecreasingBy};
 ghost use Rattle.std.specs.Option.{option_map};
 ghost use Rattle.sdd_space.specs.World.{World, standing_at, value_at};
 ghost use Rattle.sdd_standings.specs.Slots.{is_waiting};
 ghost use Rattle.sdd_script_model.specs.Val.{Val, body_of};
 ghost use Rattle.sdd_script_model.specs.Shown.{told_of, item_in};
-ghost use Rattle.sdd_script_names.specs.Environment.{SlotInside, CanPointAt, CanCompareAt, dated_if_waiting};
+ghost use Rattle.sdd_script_model.specs.Listed.{IsNumber};
+ghost use Rattle.sdd_script_names.specs.Environment.{date_now, SlotInside, CanPointAt, CanCompareAt, dated_if_waiting};
 ghost use Rattle.sdd_script_model.specs.Held.{owners_in, slots_among, slots_waiting_for, waits_among, slot_held};
 ghost use Rattle.sdd_script_model.specs.declared.val.Body.TheVariants.{Number};
 ghost use Rattle.sdd_script_text.specs.declared.name.ItemName.{ItemName as Named};
 ghost use Rattle.sdd_participants.specs.Collecting.{is_private_to};
 ghost use Rattle.sdd_standings.specs.Slots as slots;
+ghost use Rattle.sdd_standings.specs.Slots.{is_waiting as waits};
 
 use sdd_participants::{LimboEntry, Standing};
 use sdd_script_model::{Body, Val};
@@ -112,6 +114,16 @@ pub fn is_number(value: &Val) -> bool
     match value.as_ref() {
         Body::Number(_) => true,
         _ => false,
+    }
+}
+
+/// The number that a value is, if it is one.
+pub fn number_of(value: &Val) -> Option<u64>
+    ensures { MatchOption result (¬ (IsNumber (body_of value.now))) (λ number. body_of value.now ≡ Number number) }
+{
+    match value.as_ref() {
+        Body::Number(number) => Some(*number),
+        _ => None,
     }
 }
 
@@ -238,6 +250,37 @@ pub fn date_if_waiting(dates: &mut Vec<u64>, world: &World<Val>, slot: Option<u3
     if let Some(slot) = slot {
         if is_waiting(world, slot) {
             dates[slot as usize] = line;
+        }
+    }
+}
+
+/// Of each of so many slots whether its item waits.
+pub fn waiting_by_slot(
+    alloc: Global,
+    world: &World<Val>,
+    slots: usize,
+) -> Result<Vec<bool>, AllocError>
+    requires small { slots ≤ 2 ^ 32 }
+    ensures long { IfOk result (λ found. length found.items ≡ slots) }
+    ensures each { IfOk result (λ found. (s : ℕ) → s < slots → slice_index_or found.items s false ≡ waits (standing_at world.now s)) }
+{
+    let mut found = Vec::with_capacity(alloc, slots)?;
+    for slot in 0..slots {
+        found.push_reserved(is_waiting(world, slot as u32));
+    }
+    Ok(found)
+}
+
+/// What waits now and did not before began to do so in this line.
+pub fn date_new(dates: &mut Vec<u64>, world: &World<Val>, waited: &[bool], line: u64)
+    requires small { length dates.old.items ≤ 2 ^ 32 }
+    requires long { length waited.now ≡ length dates.old.items }
+    ensures dated { (s : ℕ) → s < length dates.old.items → slice_index dates.new.items s ≡ date_now world.now waited.now line dates.old.items s }
+    ensures long { length dates.new.items ≡ length dates.old.items }
+{
+    for slot in 0..dates.len() {
+        if is_waiting(world, slot as u32) && !waited[slot] {
+            dates[slot] = line;
         }
     }
 }

@@ -26,7 +26,7 @@ use Rattle.sdd_script_text.specs.declared.call.Action.{Action}
 use Rattle.sdd_script_text.specs.declared.call.Action.TheVariants as action
 use Rattle.sdd_script_text.specs.declared.call.Value.TheVariants as value
 use Rattle.sdd_script_text.specs.declared.call.Argument.{Argument}
-use Rattle.sdd_script_text.specs.declared.call.Argument.TheVariants.{Number, Guard, Owner, Item, Cell, Collector, Tag, Word}
+use Rattle.sdd_script_text.specs.declared.call.Argument.TheVariants.{Number, Guard, Owner, Item, Cell, Collector, Stack, Tag, Word}
 use Rattle.sdd_script_text.specs.declared.call.Word.{Word as FixedWord}
 use Rattle.sdd_script_text.specs.declared.call.Word.TheVariants.{Owned, Shared, Of, If, Was, Now}
 use Rattle.sdd_script_text.specs.Call.{IsNumber, IsWordOf, joined, words, fixed, word_of, spoken, words_of, line_of, HasNumber, HasNumbers, IsTextOf, IsCallText}
@@ -145,6 +145,7 @@ argument_said (Item None) h = refl
 argument_said (Item (Some i)) h = name_said 105 i.0 h ∙ rw (number_at-decimal i.0 h) refl
 argument_said (Cell c) h = name_said 99 c.0 h ∙ rw (number_at-decimal c.0 h) refl
 argument_said (Collector k) h = name_said 107 k.0 h ∙ rw (number_at-decimal k.0 h) refl
+argument_said (Stack s) h = name_said 115 s.0 h ∙ rw (number_at-decimal s.0 h) refl
 argument_said (Tag t) h = tag_said t
 argument_said (Word w) h = fixed_said w
 
@@ -282,6 +283,9 @@ with_said (Owner (Some o) ∷ []) = search rules
 with_said (Item (Some i) ∷ []) = search rules
 with_said (Cell c ∷ []) = search rules
 with_said (Collector k ∷ []) = search rules
+with_said (Stack s ∷ []) = search rules
+with_said (Stack s ∷ Guard g ∷ []) = search rules
+with_said (Stack s ∷ Number n ∷ Guard g ∷ []) = search rules
 with_said (Item (Some i) ∷ Guard g ∷ []) = search rules
 with_said (Owner (Some o) ∷ Number n ∷ []) = search rules
 with_said (Cell c ∷ Guard g ∷ []) = search rules

@@ -2,12 +2,12 @@
 use Rattle.std.specs.Prelude.{◌≡◌, ℕ, ◌^◌, ◌<◌, ◌==◌, List, [], ◌∷◌, Some, None, codes, map}
 use Rattle.std.specs.List.{join_with_byte, slice_split, AllByRecursion}
 use Rattle.std.specs.Fmt.{decimal}
-use Rattle.sdd_script_text.specs.Name.{place, guard, owner, item, cell, collector, tag}
+use Rattle.sdd_script_text.specs.Name.{place, guard, owner, item, cell, collector, stack, tag}
 use Rattle.sdd_script_text.specs.declared.call.Action.{Action}
 use Rattle.sdd_script_text.specs.declared.call.Action.TheVariants as action
 use Rattle.sdd_script_text.specs.declared.call.Value.TheVariants as value
 use Rattle.sdd_script_text.specs.declared.call.Argument.{Argument}
-use Rattle.sdd_script_text.specs.declared.call.Argument.TheVariants.{Number, Guard, Owner, Item, Cell, Collector, Tag, Word}
+use Rattle.sdd_script_text.specs.declared.call.Argument.TheVariants.{Number, Guard, Owner, Item, Cell, Collector, Stack, Tag, Word}
 use Rattle.sdd_script_text.specs.declared.call.Word.{Word as FixedWord}
 use Rattle.sdd_script_text.specs.declared.call.Word.TheVariants.{Owned, Shared, Of, If, Was, Now}
 use Rattle.sdd_script_text.specs.declared.call.Call.{Call}
@@ -40,6 +40,7 @@ word_of (Item None) = codes "null"
 word_of (Item (Some i)) = item i
 word_of (Cell c) = cell c
 word_of (Collector k) = collector k
+word_of (Stack s) = stack s
 word_of (Tag t) = tag t
 word_of (Word w) = fixed w
 
@@ -83,9 +84,13 @@ spoken (action.Mark i) = (codes "mark", Item (Some i) ∷ [])
 spoken (action.Unmark i) = (codes "unmark", Item (Some i) ∷ [])
 spoken (action.Delete i) = (codes "delete", Item (Some i) ∷ [])
 spoken (action.LinkTag i) = (codes "linktag", Item (Some i) ∷ [])
+spoken action.Stack = (codes "stack", [])
+spoken (action.Push s n g) = (codes "push", Stack s ∷ Number n ∷ Guard g ∷ [])
+spoken (action.Pop s g) = (codes "pop", Stack s ∷ Guard g ∷ [])
 spoken (action.Close g) = (codes "close", Guard g ∷ [])
 spoken (action.CloseCell c) = (codes "close", Cell c ∷ [])
 spoken (action.CloseCollector k) = (codes "close", Collector k ∷ [])
+spoken (action.CloseStack s) = (codes "close", Stack s ∷ [])
 spoken action.End = (codes "end", [])
 
 -- a place, a verb and its arguments
@@ -114,6 +119,7 @@ HasNumber (Owner (Some o)) = IsNumber o.0
 HasNumber (Item (Some i)) = IsNumber i.0
 HasNumber (Cell c) = IsNumber c.0
 HasNumber (Collector k) = IsNumber k.0
+HasNumber (Stack s) = IsNumber s.0
 HasNumber argument = Unit {0}
 
 -- the numbers of a call have 64 bits each

@@ -5,7 +5,7 @@ ghost use Rattle.sdd_script_text.specs.Name.{tag as word_of_tag};
 ghost use Rattle.sdd_script_text.specs.Answer.{refusal, ending, text_of, text_of_all, text_of_fault};
 
 use crate::name::{
-    CellName, CollectorName, GuardName, ItemName, JobName, Names, OwnerName, PlaceName,
+    CellName, CollectorName, GuardName, ItemName, JobName, Names, OwnerName, PlaceName, StackName,
 };
 use sdd_core::inner::number_of_refusal;
 use sdd_core::{Epoch, Refused, Tag};
@@ -32,6 +32,10 @@ pub enum Reply {
     Job(JobName),
     /// `k0`: a new collector.
     Collector(CollectorName),
+    /// `s0`: a new stack.
+    Stack(StackName),
+    /// `o0 7`: the owner of an entry that was taken out, and its number.
+    Popped(OwnerName, u64),
     /// `o0 i0`: a new owner of a new item.
     Item(OwnerName, ItemName),
     /// `o0`: an owner of an item that was there.
@@ -84,6 +88,8 @@ impl fmt::Display for Reply {
             Reply::Done => write!(f, "ok"),
             Reply::Job(job) => write!(f, "{job}"),
             Reply::Collector(collector) => write!(f, "{collector}"),
+            Reply::Stack(stack) => write!(f, "{stack}"),
+            Reply::Popped(owner, number) => write!(f, "{owner} {number}"),
             Reply::Item(owner, item) => write!(f, "{owner} {item}"),
             Reply::Owner(owner) => write!(f, "{owner}"),
             Reply::Nothing => write!(f, "none"),

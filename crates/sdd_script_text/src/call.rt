@@ -3,7 +3,7 @@
 mod arguments;
 pub(crate) mod reading;
 
-use crate::name::{CellName, CollectorName, GuardName, ItemName, OwnerName, PlaceName};
+use crate::name::{CellName, CollectorName, GuardName, ItemName, OwnerName, PlaceName, StackName};
 use sdd_core::Tag;
 use std::str;
 
@@ -88,12 +88,20 @@ pub enum Action {
     Delete(ItemName),
     /// `linktag I`: the tag of an entry's link.
     LinkTag(ItemName),
+    /// `stack`: an empty stack of numbers.
+    Stack,
+    /// `push S n G`: puts a number in front of a stack's entries.
+    Push(StackName, u64, GuardName),
+    /// `pop S G`: takes the first number out that isn't deleted.
+    Pop(StackName, GuardName),
     /// `close G`: closes a guard.
     Close(GuardName),
     /// `close C`: closes a cell, and gives up what it holds.
     CloseCell(CellName),
     /// `close K`: closes a collector, and reclaims what waits for it.
     CloseCollector(CollectorName),
+    /// `close S`: closes a stack, and lets go of its entries.
+    CloseStack(StackName),
     /// `end`: the participant takes part no more.
     End,
 }
@@ -118,6 +126,7 @@ pub(crate) enum Argument {
     Item(Option<ItemName>),
     Cell(CellName),
     Collector(CollectorName),
+    Stack(StackName),
     Tag(Tag),
     Word(Word),
 }

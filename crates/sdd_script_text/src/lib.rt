@@ -21,7 +21,7 @@ pub use call::{Action, Call, Value};
 pub use device::{Fault, ReadEnd, Reader, Sink, Source, Writer, read_to_end, write_all};
 pub use ended::Ended;
 pub use name::{
-    CellName, CollectorName, GuardName, ItemName, JobName, Names, OwnerName, PlaceName,
+    CellName, CollectorName, GuardName, ItemName, JobName, Names, OwnerName, PlaceName, StackName,
 };
 pub use outcome::{Outcome, after_printing, failure, line, status, without_arguments};
 pub use script::{MOST_CALLS, Script, parse_all};

@@ -30,6 +30,10 @@ pub struct CellName(pub u64);
 #[derive(Clone, Copy, Debug, PartialEq, Eq, PartialOrd, Ord)]
 pub struct CollectorName(pub u64);
 
+/// The name of a stack, as `s0`.
+#[derive(Clone, Copy, Debug, PartialEq, Eq, PartialOrd, Ord)]
+pub struct StackName(pub u64);
+
 /// The name of a job, as `j0`. No line takes one.
 #[derive(Clone, Copy, Debug, PartialEq, Eq, PartialOrd, Ord)]
 pub struct JobName(pub u64);
@@ -97,6 +101,17 @@ impl fmt::Display for CollectorName {
 
     fn fmt<W: fmt::Write>(&self, f: &mut fmt::Formatter<W>) -> fmt::Result {
         write!(f, "k{}", self.0)
+    }
+}
+
+impl fmt::Display for StackName {
+    ghost use Rattle.std.specs.Prelude.{Some};
+    ghost use Rattle.sdd_script_text.specs.Name.{stack};
+
+    ghost output = { λ name. Some (stack name) };
+
+    fn fmt<W: fmt::Write>(&self, f: &mut fmt::Formatter<W>) -> fmt::Result {
+        write!(f, "s{}", self.0)
     }
 }
 

@@ -160,7 +160,7 @@ impl<T: Item<T>> AtomicOwned<T> {
 
     /// A pointer to the item that the cell holds, with the cell's tag. It shows the item's value for as long as the guard is borrowed, whatever becomes of
     /// the cell and the item. The guard is one of the participant that calls.
-    #[inline]
+    #[inline(always)]
     pub fn load<'g, S: Cells<T>>(&self, guard: &'g Guard, s: &mut S) -> Ptr<'g, T>
         requires seated { IsSeated (S.seat s.old) }
         requires home { cells_home self.now ≡ (S.seat s.old).home.cells }
@@ -175,7 +175,7 @@ impl<T: Item<T>> AtomicOwned<T> {
     }
 
     /// The cell holds this owner, or nothing, with this tag. Answers what it held, and the tag before.
-    #[inline]
+    #[inline(always)]
     pub fn swap<S: Cells<T>>(
         &self,
         next: (Option<Owned<T>>, Tag),
@@ -224,7 +224,7 @@ impl<T: Item<T>> AtomicOwned<T> {
 
     /// The cell holds this owner, or nothing, with this tag, if it held the item that the pointer names, or nothing where it is null, with the pointer's tag.
     /// Then what it held comes back, with a pointer to what it holds now; else the owner handed in, with a pointer to what it holds.
-    #[inline]
+    #[inline(always)]
     pub fn compare_exchange<'g, S: Cells<T>>(
         &self,
         current: Ptr<'g, T>,

@@ -42,7 +42,7 @@ impl Guard {
     /// waits with it has seen one change more, and what has seen three is reclaimed.
     ///
     /// `TooManyGuards` where as many are open as may nest.
-    #[inline]
+    #[inline(always)]
     pub fn new<T: Item<T>, S: Guards<T>>(s: &mut S) -> Result<Guard, Refused>
         requires seated { IsSeated (S.seat s.old) }
         ensures seat { S.seat s.new ≡ S.seat s.old }
@@ -85,7 +85,7 @@ impl Guard {
     }
 
     /// Closes the guard. The outermost close at countdown 0, as `accelerate` sets it, first tries to raise the count. What owners own is as before.
-    #[inline]
+    #[inline(always)]
     pub fn close<T: Item<T>, S: Guards<T>>(self, s: &mut S)
         requires seated { IsSeated (S.seat s.old) }
         requires reader { reader_of self ≡ (S.seat s.old).reader }

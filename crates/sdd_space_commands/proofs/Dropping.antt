@@ -1,7 +1,6 @@
 -- A shared owner's item that is dropped in its place, or its owner that goes
 use Rattle.std.proofs.Common.{◌≡◌, ℕ, ◌-◌, ◌<◌, Some, Bool, true, false, ap, ◌∙◌}
-use Rattle.std.specs.Prelude.{MatchBool, Option}
-use Rattle.sdd_participants.specs.declared.standing.Standing.{Standing}
+use Rattle.std.specs.Prelude.{MatchBool}
 use Rattle.sdd_participants.specs.declared.standing.Standing.TheVariants.{Shared}
 use Rattle.sdd_standings.specs.Slots.{IsSharedBy}
 use Rattle.sdd_space.specs.OwnerOrCell as holding

@@ -1,6 +1,9 @@
 -- What owners and cells of a script are
 use Rattle.std.specs.Prelude.{ℕ, Option}
 use Rattle.std.specs.Option.{option_map}
+use Rattle.sdd_lists.specs.Stack as stacks
+use Rattle.sdd_lists.specs.declared.stack.Stack.{Stack}
+use Rattle.sdd_script_model.specs.declared.val.Body.{Body}
 use Rattle.sdd_space.specs.OwnerOrCell.{OwnerOrCell}
 use Rattle.sdd_script_model.specs.Held.{holding_first}
 use Rattle.sdd_script_model.specs.declared.owner_kind.OwnerKind.{OwnerKind}
@@ -57,3 +60,7 @@ filling_kind (filling.Share o) = ownership.Shared
 -- what comes out of a cell for such owners that held this
 abbrev pub held_as : OwnerKind → Option ℕ → token.GhostName → Option OwnerOrCell
 held_as kind held home = option_map (λ k. holding_first kind k home) held
+
+-- a stack, by its cell
+abbrev pub stack_holding : Stack Body → OwnerOrCell
+stack_holding stack = holding.atomic_shared (stacks.cell_in stack) (stacks.home_in stack)

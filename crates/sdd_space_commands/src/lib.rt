@@ -10,6 +10,7 @@ pub mod items;
 pub mod links;
 pub mod owners;
 pub mod raw;
+pub mod stacks;
 pub mod step;
 
 pub use holding::{AnyCell, AnyOwner, CellOwner};

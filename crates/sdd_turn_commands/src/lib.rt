@@ -7,6 +7,7 @@ pub mod exchanges;
 pub mod guards;
 pub mod items;
 pub mod owners;
+pub mod stacks;
 mod turn;
 
-pub use turn::{cell_step_at, step_at};
+pub use turn::{cell_step_at, list_step_at, step_at};

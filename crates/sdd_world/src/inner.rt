@@ -1,6 +1,6 @@
 //! What a script, or a test, needs of a world beyond the public surface.
 ghost use Rattle.std.specs.Prelude.{◌≡◌, ◌↔◌, ◌+◌, ◌^◌, ◌<◌, ◌≤◌, ℕ, IfOk, IsSome, IsTrue, MatchResult, Some, map};
-ghost use Rattle.sdd_participants.specs.EpochState.{is_open, phase_at};
+ghost use Rattle.sdd_participants.specs.EpochState.{is_open, phase_at, revived};
 ghost use Rattle.sdd_space.specs.World.{IsPlaceOf, place_at, standing_at, value_at};
 ghost use Rattle.sdd_space.specs.Guard.{reader_of};
 ghost use Rattle.sdd_space.specs.CallerId.{reader_at};
@@ -139,6 +139,17 @@ pub fn leave_shared_cell<T: Item<T>, J: Job>(world: &mut World<T, J>, cell: Atom
     ensures { (p : ℕ) × IsSome (phase_at world.old.time p) × (world.new ≡ cell_closed world.old p (shared.cell_of cell)) }
 {
     world.leave_cell(right_of_shared_cell(cell), StandingKind::Shared);
+}
+
+/// The place of a participant, or of one that has ended: there is one again then, with what waits there.
+pub fn some_place<T: Item<T>, J: Job>(world: &mut World<T, J>) -> Place
+    requires some { (p : ℕ) × IsSome (phase_at world.old.time p) }
+    ensures taken { IsSome (phase_at world.old.time (index_of result)) }
+    ensures revived { world.new ≡ record world.old { time = revived world.old.time (index_of result) } }
+    ensures place { IsPlaceOf world.new (index_of result) }
+    ensures nests { 0 < world.new.time.nesting }
+{
+    world.some_place()
 }
 
 /// A collector's cell is free. What waits for the collector waits on, and goes with the world at latest.

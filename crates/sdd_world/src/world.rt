@@ -1,7 +1,7 @@
 ghost use Rattle.std.specs.Prelude.{◌≡◌, ◌≢◌, ℕ, ◌+◌, ◌<◌, ◌≤◌, ◌⊎◌, [], false, map, length, Some, None, Option, IfOk, IfSome, MatchOption, MatchResult, IsSome, IsTrue, ◌↔◌};
 ghost use Rattle.sdd_rights.specs.Right.{number_of, home_of, kind_of, raw_number_of, raw_home_of};
 ghost use Rattle.sdd_standings.specs.Slots.{IsOwnedBy};
-ghost use Rattle.sdd_participants.specs.EpochState.{CanNest, phase_at, IsVacant, IsCrowded, is_open, due_next};
+ghost use Rattle.sdd_participants.specs.EpochState.{CanNest, phase_at, revived, IsVacant, IsCrowded, is_open, due_next};
 ghost use Rattle.sdd_participants.specs.Slab.{IsEmptyAt, IsFull};
 ghost use Rattle.sdd_space.specs.OwnerOrCell.{AreOf};
 ghost use Rattle.sdd_space.specs.World.{World, AnyGuardOpen, IsPlaceOf, IsNew, place_at, standing_at, value_at};
@@ -122,6 +122,18 @@ impl<T: Item<T>, J: Job> World<T, J> {
     {
         let index = self.core.register()?;
         Ok(Place { index })
+    }
+
+    /// The place of a participant, or of one that has ended: there is one again then, with what waits there.
+    pub(crate) fn some_place(&mut self) -> Place
+        requires some { (p : ℕ) × IsSome (phase_at self.old.time p) }
+        ensures taken { IsSome (phase_at self.old.time (index_of result)) }
+        ensures revived { self.new ≡ record self.old { time = revived self.old.time (index_of result) } }
+        ensures place { IsPlaceOf self.new (index_of result) }
+        ensures nests { 0 < self.new.time.nesting }
+    {
+        let index = self.core.some_place();
+        Place { index }
     }
 
     /// Ends a participant: what waits with it is left until another participant adopts it, as if it were retired then. Until then its place is taken.

@@ -313,6 +313,18 @@ module _ {T : Type 0} where
       let readers : HasReaders (ended w p) = record { places = i.readers.places; nesting = i.readers.nesting } in
       lent-keeps w (ended w p) l readers (λ q. refl) (λ q k safe o. safe-call q k holds (ends w p live shut) whole safe o) i
 
+  -- whose place it is, and whether one had ended there, is none of its business
+  safe-revived : (w : World T) (r p k : ℕ) → IsSafe w p k → IsSafe (record w { time = time.revived w.time r }) p k
+  safe-revived w r p k i = record { guarded = i.guarded; stays = by i.stays } where
+    by : CannotGo w p k → CannotGo (record w { time = time.revived w.time r }) p k
+    by (inl out) = inl out
+    by (inr u) = inr (record { guarded = u.guarded; waiting = u.waiting; holder = u.holder; seen = u.seen; waits = u.waits; safe = u.safe })
+
+  pub lent-revived : (w : World T) (l : Loans) (r : ℕ) → AreLentOf w l → AreLentOf (record w { time = time.revived w.time r }) l
+  lent-revived w l r i =
+      let readers : HasReaders (record w { time = time.revived w.time r }) = record { places = i.readers.places; nesting = i.readers.nesting } in
+      lent-keeps w (record w { time = time.revived w.time r }) l readers (λ q. refl) (λ p k safe o. safe-revived w r p k safe) i
+
   -- what an opening reclaims is lent to nobody
   pub due-home : (holds : T → List OwnerOrCell) (w : World T) (l : Loans) (r : ℕ) → r < length w.time.places → IsWhole w → AreLentOf w l →
       (k : ℕ) → Contains (reclaims w r) (Item k) → IsUnlent l.stakes k

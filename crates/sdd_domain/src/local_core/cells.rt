@@ -34,7 +34,7 @@ use sdd_space::inner::{raw_ptr_to, tenure_of};
 use sdd_space::{Guard, Item, RawPtr};
 
 /// So many cells a domain's table has at most, and their rights are numbered below.
-const MOST_CELLS: usize = 16_777_216;
+pub(super) const MOST_CELLS: usize = 16_777_216;
 
 impl<'d, T: Item<T>, J: Job> LocalCore<'d, T, J> {
     /// Where the walk for a free cell begins.
@@ -105,7 +105,7 @@ impl<'d, T: Item<T>, J: Job> LocalCore<'d, T, J> {
     }
 
     /// The word of a cell at this moment.
-    #[inline]
+    #[inline(always)]
     fn word_at(&mut self, cell: &Right) -> u64
         requires home { home_of cell.now ≡ cells_home self.old.home }
         ensures same { self.new ≡ self.old }
@@ -127,7 +127,7 @@ impl<'d, T: Item<T>, J: Job> LocalCore<'d, T, J> {
     }
 
     /// The value of the item whose owner a cell holds, with its slot, for as long as the guard is borrowed; and the cell's tag.
-    #[inline]
+    #[inline(always)]
     pub(crate) fn load<'g>(&mut self, cell: &Right, guard: &'g Guard) -> (Option<(u32, &'g T)>, Tag)
         requires home { home_of cell.now ≡ cells_home self.old.home }
         requires reader { reader_of guard.now ≡ self.old.reader }
@@ -142,19 +142,19 @@ impl<'d, T: Item<T>, J: Job> LocalCore<'d, T, J> {
         let tenure = tenure_of(guard);
         self.tenure.agree(tenure);
         let board = &self.domain.board;
+        let shelf = &self.domain.shelf;
         recall_cell(board, &mut self.token, cell.witness());
         let word = see_in(board, &mut self.token, cell.number());
         let tag = tag_in(word);
         let Some(slot) = held_slot(word) else {
             return (None, tag);
         };
-        let shelf = &self.domain.shelf;
         let value = shelf.show(slot as usize, &mut self.token, &board.table.shared, tenure);
         (Some((slot, value)), tag)
     }
 
     /// A cell holds another owner, or none, and has this tag. What it held comes back, with its tag.
-    #[inline]
+    #[inline(always)]
     pub(crate) fn swap(
         &mut self,
         cell: &Right,
@@ -186,7 +186,7 @@ impl<'d, T: Item<T>, J: Job> LocalCore<'d, T, J> {
     }
 
     /// The same, if the cell holds what was expected; else the owner comes back, and nothing changes.
-    #[inline]
+    #[inline(always)]
     pub(crate) fn exchange(
         &mut self,
         cell: &Right,

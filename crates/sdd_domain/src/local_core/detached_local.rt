@@ -1,5 +1,5 @@
 //! A participant without its domain, between its end and the close of the domain.
-ghost use Rattle.std.specs.Prelude.{◌≡◌, [], MatchResult};
+ghost use Rattle.std.specs.Prelude.{◌≡◌, [], None, MatchResult};
 ghost use Rattle.sdd_domain.specs.Domain.{home_of, book_of};
 ghost use Rattle.sdd_domain.specs.LocalState.{HasOpenGuard};
 
@@ -8,6 +8,7 @@ use crate::domain::Domain;
 use crate::due_items::DueItems;
 use crate::free_slot_hints::FreeSlotHints;
 use crate::local_core::LocalCore;
+use crate::private_table::PrivateTable;
 use sdd_atomics::DomainSeat;
 use sdd_core::Limits;
 use sdd_participants::{Job, Participant, RunningTally, Tally};
@@ -25,6 +26,7 @@ pub struct DetachedLocal<J: Job> {
     due: DueItems,
     known: FreeSlotHints,
     jobs: DeferredJobs<J>,
+    privates: PrivateTable,
     next_cell: u32,
     tenure: ReadSection,
     tally: RunningTally,
@@ -53,9 +55,10 @@ impl<J: Job> Model for DetachedLocal<J> {
       words = d.token.me.0.words;
       due = d.due.items;
       jobs = d.jobs;
+      collectors = d.privates;
     } };
 
-    ghost invariant = { λ d. IsDormant d.limits d.place d.own d.due d.known.slots d.jobs d.tenure d.token d.tally };
+    ghost invariant = { λ d. IsDormant d.limits d.place d.own d.due d.known.slots d.jobs d.privates d.tenure d.token d.tally };
 }
 
 impl<T: Item<T>, J: Job> LocalCore<'_, T, J> {
@@ -63,6 +66,7 @@ impl<T: Item<T>, J: Job> LocalCore<'_, T, J> {
     pub fn rest(self) -> DetachedLocal<J>
         requires shut { ¬ (HasOpenGuard self) }
         requires settled { self.due ≡ [] }
+        requires closes { self.slots.closes ≡ None }
         ensures { result ≡ self.entry }
     {
         let LocalCore {
@@ -74,6 +78,7 @@ impl<T: Item<T>, J: Job> LocalCore<'_, T, J> {
             due,
             known,
             jobs,
+            privates,
             next_cell,
             tenure,
             tally,
@@ -86,6 +91,7 @@ impl<T: Item<T>, J: Job> LocalCore<'_, T, J> {
             due,
             known,
             jobs,
+            privates,
             next_cell,
             tenure,
             tally,
@@ -109,6 +115,7 @@ impl<J: Job> DetachedLocal<J> {
         requires home { (self.home ≡ home_of domain.now) × (self.book ≡ book_of domain.now) }
         ensures shut { ¬ (HasOpenGuard self) }
         ensures settled { self.due ≡ [] }
+        ensures closes { self.slots.closes ≡ None }
         ensures same { MatchResult result (λ membership. membership ≡ self) (λ dormant. dormant ≡ self) }
     {
         if self.limits != domain.limits {
@@ -122,6 +129,7 @@ impl<J: Job> DetachedLocal<J> {
             due,
             known,
             jobs,
+            privates,
             next_cell,
             tenure,
             tally,
@@ -135,6 +143,7 @@ impl<J: Job> DetachedLocal<J> {
             due,
             known,
             jobs,
+            privates,
             next_cell,
             tenure,
             tally,

@@ -1,5 +1,5 @@
 //! Items in their place: the value of an owner that is alone is changed, or dropped at once.
-ghost use Rattle.std.specs.Prelude.{◌≡◌, ◌⊎◌, true, MatchOption, MatchResult, Some, slice_set};
+ghost use Rattle.std.specs.Prelude.{◌≡◌, ◌⊎◌, true, MatchOption, MatchResult, None, Some, slice_set};
 ghost use Rattle.std.specs.Fn.{FnOnceReturnsAtMut};
 ghost use base.Stored.{Gv};
 ghost use Rattle.sdd_rights.specs.StandingKind.{is_shared};
@@ -33,6 +33,7 @@ impl<'d, T: Item<T>, J: Job> LocalCore<'d, T, J> {
     ) -> Result<R, (F, Refused)>
         requires home { home_of right.old ≡ slots_home self.old }
         requires kind { kind_of right.old ≡ kind }
+        requires closes { self.old.slots.closes ≡ None }
         requires callable { F.IsAlwaysCallable f }
         requires held { (was now : T) (r : R) → FnOnceReturnsAtMut F.FnOnce f was r now →
             AreOf (home_in self.old) (T.holds was) → AreOf (home_in self.old) (T.holds now) }
@@ -87,6 +88,7 @@ impl<'d, T: Item<T>, J: Job> LocalCore<'d, T, J> {
     ) -> Result<Option<T>, (Right, Refused)>
         requires home { home_of right ≡ slots_home self.old }
         requires kind { kind_of right ≡ kind }
+        requires closes { self.old.slots.closes ≡ None }
         ensures gone { MatchResult result
             (λ gone. MatchOption gone
             (GoesBeside (number_of right) (is_shared kind) self.old self.new)

@@ -53,7 +53,7 @@ impl<'d, T: Item<T>, J: Job> LocalCore<'d, T, J> {
     ///
     /// The value comes back where it is refused: `NoSlot` where a walk over all slots found none free; `Contended` where as many exchanges
     /// were lost as the limits allow.
-    #[inline]
+    #[inline(always)]
     pub(crate) fn new_item(
         &mut self,
         value: T,
@@ -245,7 +245,7 @@ impl<'d, T: Item<T>, J: Job> LocalCore<'d, T, J> {
     }
 
     /// Lets an owner of this kind go, and answers whether it was the last. The last one's item waits until three changes were seen. No memory is taken.
-    #[inline]
+    #[inline(always)]
     pub(crate) fn release(&mut self, right: Right, kind: StandingKind) -> bool
         requires home { home_of right ≡ slots_home self.old }
         requires kind { kind_of right ≡ kind }

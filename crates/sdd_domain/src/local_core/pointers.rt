@@ -21,7 +21,7 @@ use sdd_space::{Guard, Item, Ptr};
 
 impl<'d, T: Item<T>, J: Job> LocalCore<'d, T, J> {
     /// A pointer to what a cell holds, with the cell's tag.
-    #[inline]
+    #[inline(always)]
     pub(crate) fn load_pointer<'g>(&mut self, cell: &Right, guard: &'g Guard) -> Ptr<'g, T>
         requires home { home_of cell.now ≡ cells_home self.old.home }
         requires reader { reader_of guard.now ≡ self.old.reader }
@@ -37,7 +37,7 @@ impl<'d, T: Item<T>, J: Job> LocalCore<'d, T, J> {
     }
 
     /// A pointer with this tag to the item of an owner, if there is one.
-    #[inline]
+    #[inline(always)]
     pub(crate) fn point_to<'g>(
         &mut self,
         owner: &Option<Right>,

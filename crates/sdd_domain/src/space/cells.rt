@@ -27,13 +27,13 @@ impl<T: Item<T>, J: Job> Cells<T> for Local<'_, T, J> {
         self.partner.membership.cell(cell)
     }
 
-    #[inline]
+    #[inline(always)]
     fn load<'g>(&mut self, cell: &Right, guard: &'g Guard) -> Ptr<'g, T> {
         self.partner.ledger.codes();
         self.partner.membership.load_pointer(cell, guard)
     }
 
-    #[inline]
+    #[inline(always)]
     fn swap(
         &mut self,
         cell: &Right,
@@ -44,7 +44,7 @@ impl<T: Item<T>, J: Job> Cells<T> for Local<'_, T, J> {
         self.partner.membership.swap(cell, new, tag, kind)
     }
 
-    #[inline]
+    #[inline(always)]
     fn compare_exchange<'g>(
         &mut self,
         cell: &Right,

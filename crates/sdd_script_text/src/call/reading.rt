@@ -9,7 +9,7 @@ ghost use Rattle.sdd_script_text.specs.Reading.{IsNumberOf, numbered_at, argumen
 use super::arguments::Arguments;
 use super::{Action, Argument, Call, Value, Word};
 use crate::first::split_word;
-use crate::name::{CellName, CollectorName, GuardName, ItemName, OwnerName, PlaceName};
+use crate::name::{CellName, CollectorName, GuardName, ItemName, OwnerName, PlaceName, StackName};
 use sdd_core::Tag;
 
 /// The number that a word is in its one form: without a sign and without a leading zero.
@@ -67,6 +67,7 @@ fn numbered_argument(word: &str) -> Option<Argument>
         [b'i', ..] => Some(Argument::Item(Some(ItemName(numbered('i', word)?)))),
         [b'c', ..] => Some(Argument::Cell(CellName(numbered('c', word)?))),
         [b'k', ..] => Some(Argument::Collector(CollectorName(numbered('k', word)?))),
+        [b's', ..] => Some(Argument::Stack(StackName(numbered('s', word)?))),
         _ => Some(Argument::Number(number(word)?)),
     }
 }
@@ -95,6 +96,7 @@ fn spoken(verb: &str, arguments: &[Argument]) -> Option<Action>
         [] => match verb {
             "open" => Some(Action::Open),
             "collector" => Some(Action::Collector),
+            "stack" => Some(Action::Stack),
             "end" => Some(Action::End),
             _ => None,
         },
@@ -196,6 +198,10 @@ fn with_one(verb: &str, argument: Argument) -> Option<Action>
         Argument::Owner(Some(owner)) => with_owner(verb, owner),
         Argument::Cell(cell) => with_cell(verb, cell),
         Argument::Item(Some(item)) => with_item(verb, item),
+        Argument::Stack(stack) => match verb {
+            "close" => Some(Action::CloseStack(stack)),
+            _ => None,
+        },
         Argument::Collector(collector) => match verb {
             "close" => Some(Action::CloseCollector(collector)),
             _ => None,
@@ -213,6 +219,10 @@ fn with_two(verb: &str, first: Argument, second: Argument) -> Option<Action>
             "look" => Some(Action::Look(item, guard)),
             "upgrade" => Some(Action::Upgrade(item, guard)),
             "see" => Some(Action::See(item, guard)),
+            _ => None,
+        },
+        (Argument::Stack(stack), Argument::Guard(guard)) => match verb {
+            "pop" => Some(Action::Pop(stack, guard)),
             _ => None,
         },
         (Argument::Owner(Some(owner)), Argument::Number(number)) => match verb {
@@ -249,6 +259,10 @@ fn with_three(verb: &str, first: Argument, second: Argument, third: Argument) ->
     match (first, second, third) {
         (Argument::Cell(cell), Argument::Owner(held), Argument::Tag(tag)) => match verb {
             "swap" => Some(Action::Swap(cell, held, tag)),
+            _ => None,
+        },
+        (Argument::Stack(stack), Argument::Number(number), Argument::Guard(guard)) => match verb {
+            "push" => Some(Action::Push(stack, number, guard)),
             _ => None,
         },
         (Argument::Owner(Some(owner)), Argument::Guard(guard), Argument::Collector(collector)) =>

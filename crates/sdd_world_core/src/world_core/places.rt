@@ -1,5 +1,5 @@
 //! Participants come and end.
-ghost use Rattle.std.specs.Prelude.{◌≡◌, length, MatchResult, IsTrue, ◌⊎◌};
+ghost use Rattle.std.specs.Prelude.{◌≡◌, ◌<◌, ℕ, length, IsSome, MatchResult, IsTrue, ◌⊎◌};
 ghost use Rattle.sdd_participants.specs.EpochState as time;
 ghost use Rattle.sdd_space.specs.World.{place_at, IsPlaceOf};
 ghost use Rattle.sdd_space.specs.WorldChanges.{registered, ended};
@@ -38,5 +38,21 @@ impl<T: Item<T>, J: Job> WorldCore<T, J> {
         ensures lent { ¬ (IsTrue (time.is_open (place_at self.old.world place))) → IsWhole self.old.world → AreLent self.old → AreLent self.new }
     {
         self.time.end(place);
+    }
+
+    /// Some place that isn't free, which is a participant's from then on, with what waits there, also where one had ended.
+    pub fn some_place(&mut self) -> usize
+        requires some { (p : ℕ) × IsSome (time.phase_at self.old.world.time p) }
+        ensures taken { (result < length self.old.world.time.places) × IsSome (time.phase_at self.old.world.time result) }
+        ensures revived { self.new ≡ record self.old { world = record self.old.world { time = time.revived self.old.world.time result } } }
+        ensures nests { 0 < self.new.world.time.nesting }
+        ensures whole { IsWhole self.old.world → IsWhole self.new.world }
+        ensures lent { AreLent self.old → AreLent self.new }
+    {
+        let Some(place) = self.time.some_taken() else {
+            unreachable!()
+        };
+        self.time.revive(place);
+        place
     }
 }

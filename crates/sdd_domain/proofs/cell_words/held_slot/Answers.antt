@@ -1,18 +1,16 @@
-use Rattle.std.proofs.Common.{ℕ, List, inl, inr, sym, ap, arith}
+use Rattle.std.proofs.Common.{◌≡◌, ◌+◌, ◌-◌, ◌/◌, ◌%◌, ◌^◌, ◌<◌, ◌≤◌, ℕ, List, Some, inl, inr, sym, ap, ◌∙◌, arith}
+use mathlib.Core.Logic.{dite}
+use native.Mathlib.Decide.{ℕ_discrete}
 use Rattle.std.specs.Prelude.{slice_get}
 use Rattle.sdd_word_invariant.proofs.Codes.{holds_none}
 use Rattle.sdd_domain.proofs.CellWords.{holds_at}
-use Rattle.sdd_domain.proofs.cell_words.held_slot.Goals.{then-named-ge-UNOWNED-via-then-named-ge-UNOWNED, then-named-ge-UNOWNED-via-else-named-ge-UNOWNED+then-named-lt4}
 use Rattle.sdd_domain.proofs.cell_words.held_slot.Goals as goal
 
-pub returns-then-named-ge-UNOWNED-clause-held : goal.returns-then-named-ge-UNOWNED-clause-held
-returns-then-named-ge-UNOWNED-clause-held c = elim c.then-named-ge-UNOWNED.branch [
-  | then-named-ge-UNOWNED-via-then-named-ge-UNOWNED w ↦ let t = w.if-named-ge-UNOWNED.true in
-      sym (ap (λ (ys : List ℕ). slice_get ys 0) (holds_none c.args.word (inr (omega arith))))
-  | then-named-ge-UNOWNED-via-else-named-ge-UNOWNED+then-named-lt4 w ↦ let t = w.if-named-lt4.true in
-      sym (ap (λ (ys : List ℕ). slice_get ys 0) (holds_none c.args.word (inl (omega arith))))
-]
+pub returns-then-slot-lt-UNNAMED-clause-held : goal.returns-then-slot-lt-UNNAMED-clause-held
+returns-then-slot-lt-UNNAMED-clause-held c = let named : ℕ = c.args.word % 2 ^ 27 in let t = c.if-slot-lt-UNNAMED.true in
+    let less : (named / 4 + 4294967295) % 4294967296 ≡ named / 4 - 1 = omega arith in
+    ap (λ (slot : ℕ). Some slot) less ∙ sym (ap (λ (ys : List ℕ). slice_get ys 0) (holds_at c.args.word (omega arith) (omega arith)))
 
-pub returns-clause-held : goal.returns-clause-held
-returns-clause-held c = let low = c.if-named-ge-UNOWNED.false in let some = c.if-named-lt4.false in
-    sym (ap (λ (ys : List ℕ). slice_get ys 0) (holds_at c.args.word (omega arith) (omega arith)))
+pub returns-else-slot-lt-UNNAMED-clause-held : goal.returns-else-slot-lt-UNNAMED-clause-held
+returns-else-slot-lt-UNNAMED-clause-held c = let named : ℕ = c.args.word % 2 ^ 27 in let f = c.if-slot-lt-UNNAMED.false in
+    sym (ap (λ (ys : List ℕ). slice_get ys 0) (holds_none c.args.word (dite (ℕ_discrete (named / 4) 0) (λ e. inl (omega arith)) (λ ne. inr (omega arith)))))

@@ -161,28 +161,28 @@ pub cut-requires-2-clause-knows : goal.cut-requires-2-clause-knows
 cut-requires-2-clause-knows c = let b = c.args.board.now in let r = c.requires in let value : Gv = r.owner.1.0 in let s = c.args.token.now in
     let took = c.take_in.ensures c.args.slot c.args.shared value r.owner.1.1 in
     let is = back_view b c.args.slot c.args.shared value s c.take_in.new.token c.grasp.new.token took c.in_default.ensures.0 c.in_default.ensures.1
-    (places_of b) c.none_is_open.result c.none_is_open.new.token c.none_is_open.ensures r.bare c.let_go.new.token c.let_go.ensures in
+    (places_of b) c.none_is_open.result c.none_is_open.new.token c.none_is_open.ensures r.bare r.closes c.let_go.new.token c.let_go.ensures in
     (ap (λ (v : View). v.sizes) is ∙ r.knows.0, ap (λ (v : View). v.stakes.book) is ∙ r.knows.1)
 
 pub cut-requires-2-clause-place : goal.cut-requires-2-clause-place
 cut-requires-2-clause-place c = let b = c.args.board.now in let r = c.requires in let value : Gv = r.owner.1.0 in let s = c.args.token.now in
     let took = c.take_in.ensures c.args.slot c.args.shared value r.owner.1.1 in
     let is = back_view b c.args.slot c.args.shared value s c.take_in.new.token c.grasp.new.token took c.in_default.ensures.0 c.in_default.ensures.1
-    (places_of b) c.none_is_open.result c.none_is_open.new.token c.none_is_open.ensures r.bare c.let_go.new.token c.let_go.ensures in
+    (places_of b) c.none_is_open.result c.none_is_open.new.token c.none_is_open.ensures r.bare r.closes c.let_go.new.token c.let_go.ensures in
     subst (λ (k : ℕ). 0 < k) (sym (ap (λ (v : View). v.epoch.state) is)) r.place.0
 
 pub cut-requires-2-clause-one : goal.cut-requires-2-clause-one
 cut-requires-2-clause-one c = let b = c.args.board.now in let r = c.requires in let value : Gv = r.owner.1.0 in let s = c.args.token.now in
     let took = c.take_in.ensures c.args.slot c.args.shared value r.owner.1.1 in
     let one = owns_one b c.args.slot c.args.shared value s c.take_in.new.token c.grasp.new.token took c.in_default.ensures.0 c.in_default.ensures.1
-    (places_of b) c.none_is_open.result c.none_is_open.new.token c.none_is_open.ensures r.bare c.let_go.new.token c.let_go.ensures in
+    (places_of b) c.none_is_open.result c.none_is_open.new.token c.none_is_open.ensures r.bare r.closes c.let_go.new.token c.let_go.ensures in
     (c.args.slot, one.0, one.1)
 
 pub cut-requires-2-clause-rests : goal.cut-requires-2-clause-rests
 cut-requires-2-clause-rests c = let b = c.args.board.now in let r = c.requires in let value : Gv = r.owner.1.0 in let s = c.args.token.now in
     let took = c.take_in.ensures c.args.slot c.args.shared value r.owner.1.1 in
     let is = back_view b c.args.slot c.args.shared value s c.take_in.new.token c.grasp.new.token took c.in_default.ensures.0 c.in_default.ensures.1
-    (places_of b) c.none_is_open.result c.none_is_open.new.token c.none_is_open.ensures r.bare c.let_go.new.token c.let_go.ensures in
+    (places_of b) c.none_is_open.result c.none_is_open.new.token c.none_is_open.ensures r.bare r.closes c.let_go.new.token c.let_go.ensures in
     ap (λ (v : View). v.stakes.moves) is ∙ r.bare.rests
 
 pub returns-then-none_is_open : goal.returns-then-none_is_open
@@ -195,12 +195,12 @@ returns c = let b = c.args.board.now in let r = c.requires in let value : Gv = r
     let took = c.take_in.ensures c.args.slot c.args.shared value r.owner.1.1 in
     let is = held_view b c.args.slot c.args.shared value s c.take_in.new.token c.grasp.new.token took c.in_default.ensures.0 c.in_default.ensures.1 in (
       let_go b c.args.slot c.args.shared value s c.take_in.new.token c.grasp.new.token took c.in_default.ensures.0 c.in_default.ensures.1 (places_of b)
-          c.none_is_open.result c.none_is_open.new.token c.none_is_open.ensures r.bare c.let_go.new.token c.let_go.ensures c.cut-2.new.token
+          c.none_is_open.result c.none_is_open.new.token c.none_is_open.ensures r.bare r.closes c.let_go.new.token c.let_go.ensures c.cut-2.new.token
           c.cut-2.ensures.participant
           (λ lone. sym (ap (λ (v : View). v.epoch.state) is)
           ∙ c.none_is_open.ensures.met c.if-none_is_open.false (ap (λ (v : View). v.epoch.all) is ∙ lone)),
       c.cut-2.ensures.owner.0,
       same_owner b c.args.slot c.args.shared value s c.take_in.new.token c.grasp.new.token took c.in_default.ensures.0 c.in_default.ensures.1 (places_of b)
-          c.none_is_open.result c.none_is_open.new.token c.none_is_open.ensures r.bare c.let_go.new.token c.let_go.ensures c.cut-2.result.views
+          c.none_is_open.result c.none_is_open.new.token c.none_is_open.ensures r.bare r.closes c.let_go.new.token c.let_go.ensures c.cut-2.result.views
           c.cut-2.ensures.owner.1 ∙ sym r.owner.1.1,
     )

@@ -66,7 +66,7 @@ returns-in-Ok g c = let b = c.args.board.now in let r = c.requires in let value 
         number = did.home.1 ∙ held.number;
         others = did.home.2 ∙ held.others;
         view = did.view ∙ (ap (λ (v : View). dropping (discarded c.args.slot 0 (moving c.args.slot (untold (undrawing v))))) held.view
-            ∙ dropped_view c.args.slot c.args.shared value s.me.0 r.bare (places_of b));
+            ∙ dropped_view c.args.slot c.args.shared value s.me.0 r.bare r.closes (places_of b));
         quiet = held.quiet;
         sole = held.sole;
         told = r.owner.1.1 ∙ ap (witness_of_owner c.args.slot c.args.shared) (tells_only c.args.slot c.args.shared value

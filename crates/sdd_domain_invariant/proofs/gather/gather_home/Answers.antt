@@ -20,7 +20,9 @@ loop-place-init g c = let γ : ℕ = c.args.title.now.book in let z = c.args.siz
     let e = next_slot n i (i + 1) (n - 0) refl (omega arith) in let left : t.new.left ≡ stake_at n i (n - 0) = omega arith in
     let words = t.ensures.same.0 in
     let Is : ℕ → Gv → Type 0 = λ j. MatchesSlotWord (full_at z (slots_items c.args.closed.now.words) j) in
-    let own : ℕ → ℕ = λ j. away n (full_at z (slots_items c.args.closed.now.words) j) in let free = sound.empty (slot_at z (slots_items c.args.closed.now.words) i) c.requires.free in let none : own i ≡ 0 = ap (away n) free in
+    let own : ℕ → ℕ = λ j. away n (full_at z (slots_items c.args.closed.now.words) j) in
+    let free = sound.empty (slot_at z (slots_items c.args.closed.now.words) i) c.requires.free in
+    let none : own i ≡ 0 = ap (away n) free in
     let has = found γ n own Is i (n - 0) (homes_for n z.slots) t.new.left (slots_items c.args.closed.now.slots) t.result (omega arith)
     (inside n z.slots i (n - 0) c.requires.inside (omega arith)) left t.ensures.stake c.requires.home.laid in record {
       home = t.ensures.home;

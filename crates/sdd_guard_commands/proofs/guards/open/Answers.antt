@@ -4,6 +4,7 @@ use Rattle.sdd_script_text.specs.declared.call.Call.TheVariants.{At}
 use Rattle.sdd_script_names.specs.Interpreter.{desk_of}
 use Rattle.sdd_script_model.specs.Held.{slots_among}
 use Rattle.sdd_script_model.proofs.Going.{places-inside}
+use Rattle.sdd_script_model.proofs.Going.{waiting-bare}
 use Rattle.sdd_script_model.proofs.Counting.{accounts}
 use Rattle.sdd_script_model.proofs.Gone.{slots-inside, slots-filled, given-inside}
 use Rattle.sdd_script_names.proofs.Acts.{got, in_range, answers-plain}
@@ -52,7 +53,7 @@ date_waiting-requires c =
     let s = c.stage.invariant.sound in
     record {
       inside = rw (c.as_slice.ensures.value, c.in_ok-due.ensures.owners) (given-inside (desk_of c.stage.inside.hand) _
-          (inside c.stage.inside.hand c.args.name.0 _ c.stage.invariant c.in-Some.ensures) s.stocked s.bare c.is_whole.ensures (accounts _ s) _);
+          (inside c.stage.inside.hand c.args.name.0 _ c.stage.invariant c.in-Some.ensures) s.stocked (waiting-bare _ s) c.is_whole.ensures (accounts _ s) _);
     }
 
 pub invariant_of-stage-2 : goal.invariant_of-stage-2

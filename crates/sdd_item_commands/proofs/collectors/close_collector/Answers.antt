@@ -2,6 +2,7 @@ use Rattle.std.proofs.Common.{◌≡◌, Option, Some, sym, ◌∙◌}
 use Rattle.sdd_space.specs.Collector.{collector_of}
 use Rattle.sdd_space.specs.declared.private_collector.PrivateCollector.{PrivateCollector}
 use Rattle.sdd_script_model.specs.Val.{Val}
+use Rattle.sdd_script_model.proofs.Going.{waiting-bare}
 use Rattle.sdd_script_model.proofs.Counting.{accounts}
 use Rattle.sdd_script_model.proofs.Gone.{given-inside}
 use Rattle.sdd_script_model.proofs.WaitingFor.{found-filled, found-inside}
@@ -78,7 +79,7 @@ date_waiting-requires c =
     let s = c.stage.invariant.sound in
     record {
       inside = rw (c.as_slice.ensures.value, c.in_ok-gone.ensures.owners) (given-inside (desk_of c.stage.inside.hand) _
-          (inside c.stage.inside.hand c.args.name.0 _ c.stage.invariant c.in-Some.ensures) s.stocked s.bare c.is_whole.ensures (accounts _ s) _);
+          (inside c.stage.inside.hand c.args.name.0 _ c.stage.invariant c.in-Some.ensures) s.stocked (waiting-bare _ s) c.is_whole.ensures (accounts _ s) _);
     }
 
 pub invariant_of-stage-2 : goal.invariant_of-stage-2

@@ -1,23 +1,22 @@
 use Rattle.std.proofs.Common.{ap, sym, ◌∙◌, subst}
-use Rattle.std.specs.Prelude.{option_map}
 use Rattle.sdd_core.specs.declared.tag.Tag.{Tag}
+use Rattle.sdd_participants.specs.Slab.{entry_at}
 use Rattle.sdd_space.specs.CallerId.{IsExact, CallerId}
+use Rattle.sdd_space.specs.World.{World}
 use Rattle.sdd_space.specs.Shared.{cell_of, slot_of}
 use Rattle.sdd_lists.specs.Lists.{linked_in}
-use Rattle.sdd_lists.proofs.Pushing.{clear-still, empty-then, put-then, tag-then}
+use Rattle.sdd_lists.proofs.Fronts.{tag_in}
 use Rattle.sdd_lists.proofs.moves.put_in_front.Goals as goal
 
 pub returns-clause-exact : goal.returns-clause-exact
 returns-clause-exact g c = λ e t n holds clear far.
     let w = g.S.Caller.world c.args.s.now in
-    let u = g.S.Caller.world c.swap-next.new.s in
-    let cell = cell_of c.args.cell.now in
+    let d = cell_of c.args.cell.now in
     let l = cell_of c.args.link.now in
     let k = slot_of c.args.owner in
-    let next = option_map slot_of c.swap-next.result.0 in
-    let was = c.swap-next.result.1 in
-    let one = c.swap-next.ensures.exact e in
-    let ex = subst (λ (s : CallerId). IsExact s) (sym c.swap-next.ensures.undisturbed.seat) e in
-    c.put_between.ensures.exact ex (empty-then w u cell l next was far one.0 one.1) (clear-still w u cell l next was far one.0 one.1 clear) far
-    ∙ put-then w u cell l next was far one.0 one.1 n t was k holds
-    ∙ ap (λ (to : Tag). linked_in w cell to l k n) (tag-then w u cell l next was far one.0 one.1 n t holds)
+    let one = c.tag-tag.ensures.exact e in
+    let ex = subst (λ (s : CallerId). IsExact s) (sym c.tag-tag.ensures.undisturbed.seat) e in
+    let tags = one.1.2 ∙ ap tag_in (sym one.1.1 ∙ holds) in
+    c.put_with_tag.ensures.exact ex t n (ap (λ (a : World _). entry_at a.cells d) one.0 ∙ holds) (ap (λ (a : World _). entry_at a.cells l) one.0 ∙ clear) far
+    ∙ ap (λ (a : World _). linked_in a d c.tag-tag.result l k n) one.0
+    ∙ ap (λ (to : Tag). linked_in w d to l k n) tags

@@ -1,6 +1,6 @@
-use Rattle.std.proofs.Common.{◌≡◌, ℕ, List, [], ◌∙◌, ap, refl, sym, Option, Some, None, subst}
+use Rattle.std.proofs.Common.{◌≡◌, ℕ, List, [], ◌∙◌, ap, refl, sym, Option, Some, None, subst, arith}
 use Rattle.std.proofs.lemmas.List.{get_or-set_same}
-use Rattle.sdd_bag_storage.specs.Storage.{names_of}
+use Rattle.sdd_bag_storage.specs.Storage.{AreFullBehind, names_of}
 use Rattle.sdd_core.specs.declared.refused.Refused.TheVariants.{NoCell}
 use Rattle.sdd_rights.specs.Right.{number_of}
 use Rattle.sdd_rights.specs.declared.right.Right.{Right}
@@ -53,6 +53,7 @@ returns-in-Ok-new-clause-bag g c = λ e.
         stack = c.in-Ok-new.ensures.list ex1;
         shelves = tt;
         keys = ap (λ (ps : List _). names_of ps) c.new-in-Ok-new-2.ensures;
+        full = subst (λ (ps : List _). AreFullBehind g.row.ARRAY_LEN ps) (sym c.new-in-Ok-new-2.ensures) (λ k far near. absurd (omega (arith, near)));
       };
       used = λ none. refl;
     }

@@ -1,4 +1,4 @@
-use Rattle.std.proofs.Common.{rules, ◌≡◌, inr, List, ap, ◌∙◌, sym, subst}
+use Rattle.std.proofs.Common.{rules, ◌≡◌, inl, inr, List, Some, ap, ◌∙◌, sym, subst}
 use Rattle.sdd_bag_storage.specs.Storage.{AreFull, KeptPlace, values_in}
 use Rattle.sdd_bag_storage.specs.Values.{HasOneMore}
 use Rattle.sdd_space.specs.CallerId.{CallerId, IsExact, IsSeated}
@@ -18,6 +18,15 @@ returns-in-Ok-clause-pushed g c =
       in-it.1,
       not-empty g.row.ARRAY_LEN c.args.self.now.overflow.places c.push_front.new.self.overflow.places in-it.0.0 c.args.value in-it.0.1 in-it.0.2.inside
           in-it.0.3,
+    )
+
+pub returns-in-Ok-clause-list : goal.returns-in-Ok-clause-list
+returns-in-Ok-clause-list g c = λ es lies.
+    let in-it = c.in-Ok.ensures.pushed.0 in (
+      es,
+      lies-kept g.B.Shelf.shown g.row.ARRAY_LEN (g.S.Caller.world c.args.s.now) (g.S.Caller.world c.push_front.new.s) es c.args.self.now.overflow
+          c.push_front.new.self.overflow c.in-Ok.ensures.world c.in-Ok.ensures.keeps.overflow in-it.0 (Some c.args.value) in-it.1 in-it.3 lies,
+      inl c.in-Ok.ensures.world,
     )
 
 pub add_storage-requires : goal.add_storage-requires
@@ -129,13 +138,13 @@ returns-clause-list g c = λ es lies.
     let here = subst (λ (x : World _). LiesOn shown len x es c.args.self.now.overflow) (sym c.in-Err.ensures.world) lies in
     let got = c.in-Ok-add_storage.ensures.list es
     (subst (λ (b : Bag). LiesOn shown len (g.S.Caller.world c.push_front.new.s) es b.overflow) (sym same) here) in
-    let fs = got.0 in
+    let fs = got.0 in let in-it = c.in-Ok-push_front.ensures.pushed.0 in
     let adds = subst (λ (b : Bag). AddsStorage (g.S.Caller.world c.push_front.new.s) (g.S.Caller.seat c.push_front.new.s).place
     (cell_in b.overflow.stack) es w2 fs) same got.1 in
     let stack = cell_in c.args.self.now.overflow.stack in (
       fs,
       lies-kept shown len w2 w3 fs c.add_storage.new.self.overflow c.push_front-2.new.self.overflow c.in-Ok-push_front.ensures.world
-          c.in-Ok-push_front.ensures.keeps.overflow got.2,
+          c.in-Ok-push_front.ensures.keeps.overflow in-it.0 (Some c.in-Err.value) in-it.1 in-it.3 got.2,
       inr (
         c.in-Err.ensures.pushed.1,
         subst (λ (x : World _). AddsStorage w (g.S.Caller.seat c.args.s.now).place stack es x fs) (sym c.in-Ok-push_front.ensures.world)

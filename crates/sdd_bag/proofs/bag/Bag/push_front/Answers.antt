@@ -2,10 +2,10 @@ use Rattle.std.proofs.Common.{rules, ◌≡◌, ◌<◌, ◌++◌, ℕ, List, So
 use Rattle.std.specs.Prelude.{MatchResult}
 use Rattle.sdd_bag_storage.specs.Storage.{AreFull, IsEmptyAt, with_value_at}
 use Rattle.sdd_bag_storage.specs.Values.{HasOneMore}
-use Rattle.sdd_bag.specs.Storages.{StorageName}
+use Rattle.sdd_bag.specs.Storages.{places_shown}
 use Rattle.sdd_bag.specs.Overflow.{LiesOn, OverflowParts, places_on}
 use Rattle.sdd_bag.specs.Bag.{BagParts, overflow_of}
-use Rattle.sdd_bag.proofs.Lying.{front-keys, none-full, none-there, storages-pushed}
+use Rattle.sdd_bag.proofs.Lying.{front-keys, none-full, none-left, none-there, storages-pushed}
 use Rattle.sdd_bag.proofs.bag.Bag.push_front.Goals as goal
 
 pub push-requires : goal.push-requires
@@ -16,7 +16,7 @@ push-requires g c =
     let es = c.requires.lies.0 in
     let lies = subst (λ (o : Parts). LiesOn shown len w es o) (sym view) c.requires.lies.1 in
     let first = c.in-Some.ensures.list c.requires.exact es lies.stack in
-    let places = c.places.ensures ∙ ap (λ (s : StorageName). s.places) (c.storage.ensures ∙ ap shown first.3) in (
+    let places = c.places.ensures ∙ ap places_shown first.3 in (
       search rules,
       (
         search rules,
@@ -41,7 +41,7 @@ returns-in-None-clause-pushed g c =
     let w = g.S.Caller.world c.args.s.now in let shown = g.B.Shelf.shown in let len = g.row.ARRAY_LEN in
     let es = c.requires.lies.0 in
     let lies = subst (λ (o : Parts). LiesOn shown len w es o) (sym view) c.requires.lies.1 in
-    let none = c.in-None.ensures.list c.requires.exact es lies.stack in
+    let none = none-left shown len w es c.self.invariant.0 c.requires.lies.1.shelves (c.in-None.ensures.list c.requires.exact es lies.stack) in
     (refl, none-full len c.args.self.now.overflow.places (none-there shown len w es c.args.self.now.overflow c.requires.lies.1 none), refl)
 
 pub returns-in-Some-clause-pushed : goal.returns-in-Some-clause-pushed

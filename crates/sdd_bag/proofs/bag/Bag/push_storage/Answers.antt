@@ -13,7 +13,7 @@ use Rattle.sdd_lists.specs.Filling.{AddsOnto}
 use Rattle.sdd_lists.specs.Stack.{cell_in}
 use Rattle.sdd_lists.proofs.Filling.{added}
 use Rattle.sdd_lists.proofs.Grows.{grows-if}
-use Rattle.sdd_bag.specs.Storages.{StorageName}
+use Rattle.sdd_bag.specs.Storages.{StorageName, places_shown}
 use Rattle.sdd_bag.specs.Overflow.{LiesOn, OverflowParts}
 use Rattle.sdd_bag.specs.Bag.{BagParts}
 use Rattle.sdd_bag.proofs.Changes.{new-long}
@@ -72,13 +72,14 @@ returns-in-Ok-clause-list g c = λ es lies.
     released ∙ ap (λ (s : CallerId). owner_given between s.place (slot_of owner) (standing_at between (slot_of owner))) at in
     let add = added w between new p (cell_in c.self.inside.stack) es shelf owner pushes is in
     let names : List PlaceName = c.add_places-places.result in
-    let on : (shown shelf).places ≡ names = ap (λ (s : StorageName). s.places) (c.with_storage.ensures.shown ∙ c.new-storage.ensures) in (
+    let on : places_shown (shown shelf) ≡ names = ap places_shown c.with_storage.ensures.shown ∙ ap (λ (s : StorageName). s.places) c.new-storage.ensures in (
       shelf,
       add.0,
       subst (λ (x : Parts). AddsOnto w p (cell_in x.stack) es shelf new add.0) view add.1,
       subst (λ (ps : Places). LiesOn shown len new add.0 (record { stack = c.self.inside.stack; places = ps })) (sym c.add_places-places.ensures.places)
-          (lies-added shown len w new p es add.0 o shelf names here add.1 on c.add_places-places.ensures.long),
+          (lies-added shown len w new p es add.0 o shelf names here add.1 on c.add_places-places.ensures.long
+          (subst (λ (x : Parts). AreFull len x.places) (sym view) c.requires.full)),
     )
 
-pub returns-in-Err-clause-refused : goal.returns-in-Err-clause-refused
-returns-in-Err-clause-refused g c = c.in-Err.ensures.refused c.requires.exact
+pub returns-in-Ok-into_storage-clause-refused : goal.returns-in-Ok-into_storage-clause-refused
+returns-in-Ok-into_storage-clause-refused g c = c.in-Err.ensures.refused c.requires.exact

@@ -13,7 +13,7 @@ use Rattle.sdd_word_invariant.specs.SlotSteps.{retired_now, DefersAt}
 use Rattle.sdd_atomics.specs.DomainTable.{most_waiting_of, sizes_of, slots_of}
 use Rattle.sdd_domain.specs.LocalState.{LocalState, DefersTo}
 use Rattle.sdd_domain.specs.BetweenCalls.{IsBetweenCalls, AreLentTo, IsTenureOf, IsReady}
-use Rattle.sdd_domain.specs.InBags.{AreInBags, KnownWaiting, known_waiting}
+use Rattle.sdd_domain.specs.InBags.{AreInBags, KnownWaiting, TellsCollectors, known_waiting}
 use Rattle.sdd_domain.specs.Receipt.{IsTallied}
 use Rattle.sdd_domain.proofs.Deferring.{posed_defers}
 use Rattle.sdd_domain.proofs.JobTables.{job_put, not-there}
@@ -50,7 +50,7 @@ invariant_of-self g c = let l = c.self.inside in let b = l.domain.now.board in l
     let low : place < (sizes_of b).jobs = subst (λ (z : Sizes). place < z.jobs) (sym l.domain.now.limited.1) c.in-Ok.ensures.tried.0 in
     let inside : place < length l.jobs = (let long = r.places in omega arith) in
     subst (λ (o : Participant). IsBetweenCalls b l.place o token × l.nesting ≡ l.domain.now.limits.nesting × IsTenureOf o l.tenure
-    × AreLentTo l.tenure.round token.me.1 × IsReady {J = g.row.J.Denot} b o l.due l.known.slots c.put.new.self (known_waiting token.me.0.slots)
+    × AreLentTo l.tenure.round token.me.1 × IsReady {J = g.row.J.Denot} b o l.due l.known.slots c.put.new.self l.privates (known_waiting token.me.0.slots)
     × IsTallied 0 l.tally token.me.0.stakes.counts) (sym own_is) (
       posed_defers b l.place l.own l.token token i.0 did.table did.others place (omega arith) d,
       i.1,
@@ -62,7 +62,7 @@ invariant_of-self g c = let l = c.self.inside in let b = l.domain.now.board in l
             (one_more n (known_waiting l.token.me.0.slots) l.own.bags.waiting l.due.items r.bags (retired_now (n + place) d.0) (Job place) refl
             (what_job n (retired_now (n + place) d.0) (omega arith) ∙ ap (λ (k : ℕ). Job k) (omega arith)) d.6
             (job_plain n (known_waiting l.token.me.0.slots) l.own.bags.waiting l.due.items r.bags place));
-        uncollected = ap (λ (v : View). v.slots.privates) d.3 ∙ r.uncollected;
+        told = subst (TellsCollectors n l.privates) (sym (ap (λ (v : View). v.slots.privates) d.3)) r.told;
         large = r.large;
         slots = r.slots;
         places = ap length c.put.ensures ∙ (length-set l.jobs place _ ∙ r.places);

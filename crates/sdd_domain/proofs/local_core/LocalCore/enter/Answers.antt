@@ -16,9 +16,9 @@ use Rattle.sdd_values.specs.declared.read_sections.SectionState.TheVariants.{Clo
 use Rattle.sdd_domain.specs.LocalState.{LocalState, IsEntered, GoesOn}
 use Rattle.sdd_domain.specs.BetweenCalls.{IsBetweenCalls, AreLentTo}
 use Rattle.sdd_domain.specs.Receipt.{IsTallied}
-use Rattle.sdd_domain.specs.InBags.{AreInBags, known_waiting}
+use Rattle.sdd_domain.specs.InBags.{AreInBags, TellsCollectors, known_waiting}
 use Rattle.sdd_domain.specs.WaitingItems.{arrived_at, aged_slots_at, due_at}
-use Rattle.sdd_domain.proofs.Arrivals.{bags_arrived, has_open, has_room, due_moved, none_collected, quiet_due, same_aged}
+use Rattle.sdd_domain.proofs.Arrivals.{bags_arrived, has_open, has_room, due_moved, told_aged, quiet_due, same_aged}
 use Rattle.sdd_domain.proofs.Members.{with_view}
 use Rattle.sdd_domain.proofs.local_core.LocalCore.enter.Goals as goal
 
@@ -50,7 +50,8 @@ invariant_of-self g c = let l = c.self.inside in let i = c.self.invariant in let
         bags = subst (λ (z : SlotsView × List LimboEntry). AreInBags (slots_of b) (known_waiting z.0) own.bags.waiting z.1)
             (λ d. (sym arrives.slots d, sym a.3 d))
             (bags_arrived count l.own (slots_of b) c.arrive-goes_on.result own a.2 l.token.me.0.slots l.due.items i.4.bags none);
-        uncollected = ap (λ (s : SlotsView). s.privates) arrives.slots ∙ none_collected count l.own l.token.me.0.slots i.4.uncollected;
+        told = subst (TellsCollectors (slots_of b) l.privates) (sym (ap (λ (s : SlotsView). s.privates) arrives.slots))
+            (told_aged count l.own (slots_of b) l.privates l.token.me.0.slots i.4.told);
         large = subst (λ (n : ℕ). n ≤ c.arrive-goes_on.new.due.room) (sym large) c.arrive-goes_on.ensures.room;
         slots = i.4.slots;
         places = i.4.places;

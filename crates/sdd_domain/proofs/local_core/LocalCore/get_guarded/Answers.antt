@@ -61,7 +61,7 @@ invariant_of-self g c = let l = c.self.inside in let b = l.domain.now.board in l
       inv.1,
       inv.2,
       subst (λ (t : ℕ). AreLentTo t c.show.new.seat.me.1) c.agree.ensures.round posed.1,
-      subst (IsReady b l.own l.due l.known.slots l.jobs) (sym (ap (λ (x : Seat ValueFraction View). known_waiting x.me.0.slots) c.show.ensures.seat
+      subst (IsReady b l.own l.due l.known.slots l.jobs l.privates) (sym (ap (λ (x : Seat ValueFraction View). known_waiting x.me.0.slots) c.show.ensures.seat
           ∙ ap (λ (v : View). known_waiting v.slots) seen.view)) inv.4,
       subst (IsTallied 0 l.tally) (sym (ap (λ (x : Seat ValueFraction View). x.me.0.stakes.counts) c.show.ensures.seat
           ∙ ap (λ (v : View). v.stakes.counts) seen.view)) inv.5,

@@ -84,6 +84,20 @@ hold_alone-requires-clause-bare g c =
     let q = subst (λ (x : Seat ValueFraction View). IsBetweenCalls b l.place l.own x) (sym same) c.self.invariant.0 in
     bare b l.place l.own t q
 
+pub hold_alone-requires-clause-closes : goal.hold_alone-requires-clause-closes
+hold_alone-requires-clause-closes g c =
+    let l = c.self.inside in let b = l.domain.now.board in let m : LocalState _ = c.self.view_is 0 in let right = c.args.right.now in let kind = c.args.kind in
+    let on = on_board l.domain.now.limits b l.token.table_id c.self.invariant.0.home l.domain.now.limited.1 m refl refl refl in
+    let home = c.requires.home ∙ sym (ap slots_home c.self.view_is) in
+    let w = c.into_owner-owner.result.0 in let grip = c.into_owner-owner.result.1 in
+    let by = subst (λ (r : Right). AreSlotsOfTable (home_of r) → IsOwnerBy (home_of r) (number_of r) (is_shared (kind_of r)) w grip) c.take.ensures
+    c.into_owner-owner.ensures.owner in let seen = c.into_owner-owner.ensures.views ∙ ap views_of c.take.ensures in
+    let slot : ℕ = c.number-slot.result in let is = c.number-slot.ensures in let t = c.recall.new.token in
+    let known = owner_views b m on right kind home c.requires.kind w grip by slot is in
+    let same = same_recalled b l.place slot (is_shared kind) grip.shown l.token t (c.recall.ensures slot (is_shared kind) grip.shown known) in
+    let q = subst (λ (x : Seat ValueFraction View). IsBetweenCalls b l.place l.own x) (sym same) c.self.invariant.0 in
+    ap (λ (x : Seat ValueFraction View). x.me.0.slots.closes) same ∙ (ap (λ (m : LocalState _). m.slots.closes) c.self.view_is ∙ c.requires.closes)
+
 pub hold_alone-requires-clause-owner : goal.hold_alone-requires-clause-owner
 hold_alone-requires-clause-owner g c =
     let l = c.self.inside in let b = l.domain.now.board in let m : LocalState _ = c.self.view_is 0 in let right = c.args.right.now in let kind = c.args.kind in
@@ -235,7 +249,9 @@ invariant_of-self g c =
     let views = known ∙ ap (λ (s : Bool). witness_of_owner slot s grip.shown) (sym sorted) in
     let h = c.hold_alone.new.token in let held = c.in-Ok.ensures grip.shown views in
     let u = c.change_alone-owner.new.token in let did = c.change_alone-owner.ensures.changed in let moved = c.change_alone-owner.ensures.home in
-    let now : Gv = showing g.row.T did.1 in let view = changed_to b l.place l.own t q slot shared grip.shown h held u now did.4 in
+    let now : Gv = showing g.row.T did.1 in let view = changed_to b l.place l.own t q slot shared grip.shown h held u
+    (ap (λ (x : Seat ValueFraction View). x.me.0.slots.closes) same ∙ (ap (λ (m : LocalState _). m.slots.closes) c.self.view_is ∙ c.requires.closes))
+    now did.4 in
     let table = moved.0 ∙ held.table in let others = moved.2 ∙ held.others in
     let here = view ∙ ap (λ (x : Seat ValueFraction View). record (with_filled slot shared now x.me.0) {
       words = sole_words shared slot x.me.0.sizes x.me.0.words;
@@ -245,7 +261,7 @@ invariant_of-self g c =
       i.1,
       i.2,
       subst (AreLentTo l.tenure.round) (sym (others ∙ ap (λ (x : Seat ValueFraction View). x.me.1) same)) i.3,
-      subst (IsReady b l.own l.due l.known.slots l.jobs) (sym (ap (λ (v : View). known_waiting v.slots) here)) i.4,
+      subst (IsReady b l.own l.due l.known.slots l.jobs l.privates) (sym (ap (λ (v : View). known_waiting v.slots) here)) i.4,
       subst (IsTallied 0 l.tally) (sym (ap (λ (v : View). v.stakes.counts) here)) i.5,
     )
 
@@ -284,7 +300,7 @@ invariant_of-self-in-Err g c =
       i.1,
       i.2,
       subst (AreLentTo l.tenure.round) (sym (e.2 ∙ ap (λ (x : Seat ValueFraction View). x.me.1) same)) i.3,
-      subst (IsReady b l.own l.due l.known.slots l.jobs) (sym (ap (λ (v : View). known_waiting v.slots) here)) i.4,
+      subst (IsReady b l.own l.due l.known.slots l.jobs l.privates) (sym (ap (λ (v : View). known_waiting v.slots) here)) i.4,
       subst (IsTallied 0 l.tally) (sym (ap (λ (v : View). v.stakes.counts) here)) i.5,
     )
 
@@ -304,7 +320,9 @@ returns-in-Ok-clause-changed g c =
     let views = known ∙ ap (λ (s : Bool). witness_of_owner slot s grip.shown) (sym sorted) in
     let h = c.hold_alone.new.token in let held = c.in-Ok.ensures grip.shown views in
     let u = c.change_alone-owner.new.token in let did = c.change_alone-owner.ensures.changed in let moved = c.change_alone-owner.ensures.home in
-    let now : Gv = showing g.row.T did.1 in let view = changed_to b l.place l.own t q slot shared grip.shown h held u now did.4 in
+    let now : Gv = showing g.row.T did.1 in let view = changed_to b l.place l.own t q slot shared grip.shown h held u
+    (ap (λ (x : Seat ValueFraction View). x.me.0.slots.closes) same ∙ (ap (λ (m : LocalState _). m.slots.closes) c.self.view_is ∙ c.requires.closes))
+    now did.4 in
     let table = moved.0 ∙ held.table in let others = moved.2 ∙ held.others in
     let here = view ∙ ap (λ (x : Seat ValueFraction View). record (with_filled slot shared now x.me.0) {
       words = sole_words shared slot x.me.0.sizes x.me.0.words;

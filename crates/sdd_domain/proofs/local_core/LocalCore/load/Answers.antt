@@ -47,7 +47,7 @@ invariant_of-self g c =
       inv.1,
       inv.2,
       subst (λ (x : Seat ValueFraction View). AreLentTo l.tenure.round x.me.1) (sym still) inv.3,
-      subst (λ (x : Seat ValueFraction View). IsReady b l.own l.due l.known.slots l.jobs (known_waiting x.me.0.slots)) (sym still) inv.4,
+      subst (λ (x : Seat ValueFraction View). IsReady b l.own l.due l.known.slots l.jobs l.privates (known_waiting x.me.0.slots)) (sym still) inv.4,
       subst (λ (x : Seat ValueFraction View). IsTallied 0 l.tally x.me.0.stakes.counts) (sym still) inv.5,
     )
 
@@ -118,7 +118,7 @@ invariant_of-self-2 g c =
       inv.1,
       inv.2,
       subst (λ (t : ℕ). AreLentTo t c.show-value.new.seat.me.1) c.agree.ensures.round posed.1,
-      subst (IsReady b l.own l.due l.known.slots l.jobs) (sym (ap (λ (x : Seat ValueFraction View). known_waiting x.me.0.slots) c.show-value.ensures.seat
+      subst (IsReady b l.own l.due l.known.slots l.jobs l.privates) (sym (ap (λ (x : Seat ValueFraction View). known_waiting x.me.0.slots) c.show-value.ensures.seat
           ∙ ap (λ (v : View). known_waiting v.slots) seen.view)) inv.4,
       subst (IsTallied 0 l.tally) (sym (ap (λ (x : Seat ValueFraction View). x.me.0.stakes.counts) c.show-value.ensures.seat
           ∙ ap (λ (v : View). v.stakes.counts) seen.view)) inv.5,

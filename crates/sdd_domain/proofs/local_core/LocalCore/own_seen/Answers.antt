@@ -26,7 +26,7 @@ invariant_of-self-2 g c = let l = c.self.inside in let b = l.domain.now.board in
       inv.1,
       inv.2,
       subst (AreLentTo l.tenure.round) (sym is.others) inv.3,
-      subst (IsReady b l.own l.due l.known.slots l.jobs) (sym (ap (λ (v : View). known_waiting v.slots) is.view)) inv.4,
+      subst (IsReady b l.own l.due l.known.slots l.jobs l.privates) (sym (ap (λ (v : View). known_waiting v.slots) is.view)) inv.4,
       subst (IsTallied 0 l.tally) (sym (ap (λ (v : View). v.stakes.counts) is.view)) inv.5,
     )
 

@@ -10,6 +10,7 @@ use Rattle.sdd_space.proofs.Accounts.{blank-at}
 use Rattle.sdd_atomics.specs.DomainTable.{slots_of}
 use Rattle.sdd_domain.proofs.InBags.{nothing_there}
 use Rattle.sdd_domain.proofs.Moving.{no_purse, none_lent}
+use Rattle.sdd_domain.proofs.PrivateTables.{told_nothing}
 use Rattle.sdd_domain.proofs.local_core.LocalCore.register.Given.{Over}
 use Rattle.sdd_domain.proofs.local_core.LocalCore.register.Goals as goal
 
@@ -49,7 +50,8 @@ invariant_of-result g c = let jobs : ℕ = c.args.domain.now.limits.jobs in let 
       none_lent _ _ (search rules),
       record {
         bags = nothing_there _ _ _ _ none none_private (search rules) (search rules);
-        uncollected = none_private;
+        told = told_nothing _ _ _ (c.in-Ok.ensures.privates ∙ ap (λ (k : ℕ). replicate k None) (sym (ap (λ (z : Sizes). z.slots) c.args.domain.now.limited.1)))
+            none_private;
         large = search rules;
         slots = search rules;
         places = ap length (blank_jobs g c) ∙ (length-replicate jobs None ∙ sym (ap (λ (z : Sizes). z.jobs) c.args.domain.now.limited.1));
@@ -80,4 +82,5 @@ returns-clause-registered g c = record {
   words = search rules;
   due = search rules;
   jobs = blank_jobs g c;
+  collectors = c.in-Ok.ensures.privates;
 }

@@ -8,6 +8,7 @@ invariant_of-result g c = let l = c.self.inside in let i = c.self.invariant in r
   sizes = l.domain.now.limited.1;
   shut = search rules;
   settled = ap (λ (m : LocalState _). m.due) c.self.view_is ∙ c.requires.settled;
+  closes = ap (λ (m : LocalState _). m.slots.closes) c.self.view_is ∙ c.requires.closes;
   posed = i.0;
   tenure_is = i.2;
   lent = i.3;

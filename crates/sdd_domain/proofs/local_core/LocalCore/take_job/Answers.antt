@@ -14,7 +14,7 @@ use Rattle.sdd_atomics.specs.DomainTable.{sizes_of, slots_of}
 use Rattle.sdd_domain.specs.LocalState.{LocalState, TakesJob}
 use Rattle.sdd_domain.specs.BetweenCalls.{AreLentTo}
 use Rattle.sdd_domain.specs.Receipt.{IsTallied}
-use Rattle.sdd_domain.specs.InBags.{AreInBags, KnownWaiting, known_waiting}
+use Rattle.sdd_domain.specs.InBags.{AreInBags, KnownWaiting, TellsCollectors, known_waiting}
 use Rattle.sdd_domain.proofs.Deferring.{posed_takes, place_low, waits_now}
 use Rattle.sdd_domain.proofs.JobTables.{next_goes, job_taken}
 use Rattle.sdd_domain.proofs.Members.{with_view}
@@ -76,7 +76,7 @@ invariant_of-self g c = let first : c.self.inside.due.items ≡ Job c.args.place
       record {
         bags = subst (λ (k : KnownWaiting). AreInBags n k l.own.bags.waiting c.next.new.self.items) (sym (ap (λ (v : View). known_waiting v.slots) gives.2.1.0))
             (first_plain_out n (known_waiting l.token.me.0.slots) l.own.bags.waiting l.due.items r.bags (Job place) c.next.new.self.items first gives.2.1.1);
-        uncollected = ap (λ (v : View). v.slots.privates) gives.2.1.0 ∙ r.uncollected;
+        told = subst (TellsCollectors n l.privates) (sym (ap (λ (v : View). v.slots.privates) gives.2.1.0)) r.told;
         large = subst (λ (n : ℕ). l.own.bags.room ≤ n) (sym c.next.ensures.room) r.large;
         slots = r.slots;
         places = ap length c.take-job.ensures.free ∙ (length-set l.jobs place None ∙ r.places);

@@ -6,6 +6,8 @@ use Rattle.sdd_space.specs.World.{World}
 use Rattle.sdd_domain.specs.Local.{LocalModel, world_of}
 use Rattle.sdd_domain.specs.LocalState.{LocalState, IsLone}
 use Rattle.sdd_domain.specs.Reclaiming.{rest_of}
+use Rattle.sdd_domain.specs.WaitingItems.{items_in}
+use Rattle.sdd_domain.proofs.CountedGone.{counts_after}
 use Rattle.sdd_domain.proofs.Alone.{steps_alone}
 use Rattle.sdd_domain.proofs.Giving.{given_of}
 use Rattle.sdd_domain.proofs.reclaiming.LocalGiver.change.Goals as goal
@@ -29,3 +31,11 @@ returns-clause-exact g c = λ lone. let v : LocalModel g.row.T.Denot g.row.J.Den
     ∙ (steps_alone (λ (w : World g.row.T.Denot) (k : ℕ). steps.settled w k) v (record v { member = record v.member { own = settled v.member.own } }) first
     first refl
     ∙ (λ d. steps.settled ((ap world_of c.self.view_is ∙ e.exact lone) d) (place d)))
+
+pub returns-clause-counted : goal.returns-clause-counted
+returns-clause-counted g c = let m : LocalState _ = c.settle.new.self in let v : LocalModel g.row.T.Denot g.row.J.Denot = c.self.view_is 0 in
+    let mid : LocalModel g.row.T.Denot g.row.J.Denot = c.reclaim_due.new.self in
+    counts_after (items_in c.args.self.now.member.due) c.args.self.now.member mid.member m c.reclaim_due.ensures.counted
+    (ap (λ (y : LocalState _). y.tally) c.settle.ensures ∙ ap (λ (z : LocalModel g.row.T.Denot g.row.J.Denot). z.member.tally) c.self.view_is)
+    (ap (λ (y : LocalState _). y.slots.privates) c.settle.ensures
+    ∙ ap (λ (z : LocalModel g.row.T.Denot g.row.J.Denot). z.member.slots.privates) c.self.view_is)

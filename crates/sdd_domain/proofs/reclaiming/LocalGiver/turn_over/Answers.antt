@@ -1,10 +1,13 @@
-use Rattle.std.proofs.Common.{◌≡◌, sym, ap, ◌∙◌, arith}
+use Rattle.std.proofs.Common.{◌≡◌, ℕ, ◌-◌, ◌≤◌, sym, ap, ◌∙◌, arith}
 use Rattle.sdd_participants.specs.declared.participant.Participant.{Participant}
+use Rattle.sdd_participants.specs.declared.tally.Tally.{Tally}
 use Rattle.sdd_core.specs.declared.limits.Limits.{Limits}
 use Rattle.sdd_domain.specs.Local.{LocalModel}
 use Rattle.sdd_domain.specs.LocalState.{LocalState, IsLone}
+use Rattle.sdd_domain.specs.Receipt.{most_counted, with_reclaimed}
 use Rattle.sdd_domain.proofs.Exact.{closed_none}
 use Rattle.sdd_domain.proofs.Guarding.{all_guards, stands, tied_stands}
+use Rattle.sdd_domain.proofs.Tallies.{counted_more}
 use Rattle.sdd_domain.proofs.reclaiming.LocalGiver.turn_over.Goals.{then-goes_on, else-goes_on}
 use Rattle.sdd_domain.proofs.reclaiming.LocalGiver.turn_over.Goals as goal
 
@@ -35,3 +38,20 @@ returns-clause-shut g c = let v : LocalModel g.row.T.Denot g.row.J.Denot = c.sel
     closed_none c.accelerate.new.self c.close_guard.new.self c.close_guard.ensures.closed
     (ap (λ (y : LocalState _). y.own.guards) c.accelerate.ensures
     ∙ (ap (λ (z : LocalModel g.row.T.Denot g.row.J.Denot). z.member.own.guards) c.self-2.view_is ∙ one))
+
+pub returns-clause-reclaimed : goal.returns-clause-reclaimed
+returns-clause-reclaimed g c = let v : LocalModel g.row.T.Denot g.row.J.Denot = c.self.view_is 0 in let e = c.enter-guard.ensures.entered in
+    let tally_of : LocalModel g.row.T.Denot g.row.J.Denot → Tally = (λ z. z.member.tally) in let entered : Tally = c.enter-guard.new.self.tally in
+    let before : Tally = c.tally-before.result in let more : ℕ = c.tally.result.reclaimed - before.reclaimed in
+    let counted : (gone : ℕ) × (c.if-goes_on.self.member.tally ≡ with_reclaimed gone entered) = elim c.if-goes_on.branch [
+      | then-goes_on w ↦ (w.change.ensures.counted.gone, ap tally_of w.self-is ∙ w.change.ensures.counted.tally)
+      | else-goes_on w ↦ (0, ap tally_of w.self-is)
+    ] in
+    let then : c.self-2.inside.membership.tally ≡ with_reclaimed counted.0 before
+    = ap tally_of c.self-2.view_is ∙ (counted.1 ∙ (λ d. with_reclaimed counted.0 (sym c.tally-before.ensures d))) in
+    let low : before.reclaimed ≤ most_counted = omega arith in
+    let counts = counted_more counted.0 more before low
+    (λ d. ap (λ (t : Tally). t.reclaimed) (c.tally.ensures ∙ then) d - before.reclaimed) in
+    ap (λ (y : LocalState _). y.tally) c.close_guard.ensures.closed.member ∙ (ap (λ (y : LocalState _). y.tally) c.accelerate.ensures ∙ (then
+    ∙ (sym counts ∙ (λ d. with_reclaimed more ((c.tally-before.ensures
+    ∙ ((stands e.0 c.enter-guard.result.1 v.member e.1 c.enter-guard.new.self e.2 e.3).tally ∙ ap tally_of c.self.view_is)) d)))))

@@ -8,7 +8,7 @@ use Rattle.sdd_domain.specs.Local.{LocalModel, world_of}
 use Rattle.sdd_domain.specs.declared.local.Local.TheInside.{Inside}
 use Rattle.sdd_domain.specs.ScanAtClose.{TellsScan}
 use Rattle.sdd_domain.specs.Sound.{IsSound}
-use Rattle.sdd_domain.proofs.ClosedWorld.{world_closed}
+use Rattle.sdd_domain.proofs.ClosedWorld.{closes_on, world_closed}
 use Rattle.sdd_domain.proofs.Exact.{lone_is, keeps_closed, still_guarded}
 use Rattle.sdd_domain.proofs.Sound.{sound_step}
 use Rattle.sdd_domain.proofs.space.LocalGuards.close_guard.Goals as goal
@@ -18,7 +18,8 @@ invariant_of-self g c = let v : LocalModel g.row.T.Denot g.row.J.Denot = (c.self
     let inner : v ≡ c.self.inside.partner = ap (λ (i : Inside g.row.T.Denot g.row.J.Denot). i.partner) c.self-inside.view_is in
     let m : LocalState _ = c.close_guard-told.new.self in let did = c.close_guard-told.ensures.closed in
     sound_step g.T.Item.holds v m (subst (IsSound g.T.Item.holds) (sym inner) c.self.invariant) closed Whole-closed
-    (ap (λ (y : LocalState _). y.due) did.member) (ap home_in did.member) (λ one. world_closed v m (c.self-inside.invariant one) one did)
+    (ap (λ (y : LocalState _). y.due) did.member) (closes_on v.member m did) (ap home_in did.member)
+    (λ one. world_closed v m (c.self-inside.invariant one) one did)
 
 pub returns-clause-exact : goal.returns-clause-exact
 returns-clause-exact g c = λ exact. let v : LocalModel g.row.T.Denot g.row.J.Denot = (c.self-inside.view_is 0).partner in

@@ -15,7 +15,7 @@ invariant_of-self g c = let v : LocalModel g.row.T.Denot g.row.J.Denot = (c.self
     let inner : v ≡ c.self.inside.partner = ap (λ (i : Inside g.row.T.Denot g.row.J.Denot). i.partner) c.self-inside.view_is in
     let told = c.count.ensures in
     sound_step g.T.Item.holds v c.count.new.self (subst (IsSound g.T.Item.holds) (sym inner) c.self.invariant) (λ w _. w) (λ w _ _ whole. whole)
-    (ap (λ (m : LocalState _). m.due) told.member) (ap home_in told.member)
+    (ap (λ (m : LocalState _). m.due) told.member) (ap (λ (m : LocalState _). m.slots.closes) told.member) (ap home_in told.member)
     (λ one. ap (λ (m : LocalState _). world_of (record v { member = m })) (told.member ∙ (λ d. record v.member { known = told.lone one d })))
 
 pub returns-clause-undisturbed : goal.returns-clause-undisturbed

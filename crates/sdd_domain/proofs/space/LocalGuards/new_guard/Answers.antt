@@ -69,10 +69,22 @@ invariant_of-self-then-goes_on g c = let v : LocalModel g.row.T.Denot g.row.J.De
     ∙ ap home_in went.1.member in
     let same : q.entries ≡ v.entries = ap (λ (z : LocalModel g.row.T.Denot g.row.J.Denot). z.entries) c.change.ensures.rest in
     let as_is : record v { member = q.member } ≡ q = λ d. record q { entries = sym same d } in
-    subst (IsSound holds) as_is (sound_opened holds v q.member (subst (IsSound holds) (sym inner) c.self.invariant) c.change.ensures.due home
+    subst (IsSound holds) as_is (sound_opened holds v q.member (subst (IsSound holds) (sym inner) c.self.invariant) c.change.ensures.due
+    (ap (λ (z : LocalModel g.row.T.Denot g.row.J.Denot). z.member.slots.closes) c.change.ensures.rest ∙ (ap (λ (y : LocalState _). y.slots.closes) went.1.member
+    ∙ (ap (λ (z : LocalModel g.row.T.Denot g.row.J.Denot). z.member.slots.closes) inner ∙ c.self.invariant.closes))) home
     (λ lone. let there : IsLone c.enter-guard.new.self = ap (λ (y : LocalState _). y.limits.participants) went.1.member ∙ lone in
     ap world_of as_is ∙ opened_changed v holds (c.self-inside.invariant lone) settled e.0 c.enter-guard.new.self lone shut went.1
     (λ f. went.0 (f ∙ sym (went.1.lone lone).0)) (world_of q) (c.change.ensures.exact there)))
+
+pub change-requires : goal.change-requires
+change-requires g c = let v : LocalModel g.row.T.Denot g.row.J.Denot = (c.self-inside.view_is 0).partner in
+    let inner : v ≡ c.self.inside.partner = ap (λ (i : Inside g.row.T.Denot g.row.J.Denot). i.partner) c.self-inside.view_is in
+    let e = c.enter-guard.ensures.entered in
+    let went = goes_on e.0 c.enter-guard.result.1 v.member e.1 c.enter-guard.new.self e.2 e.3 c.if-goes_on.true in
+    record {
+      closes = ap (λ (y : LocalState _). y.slots.closes) went.1.member
+          ∙ (ap (λ (z : LocalModel g.row.T.Denot g.row.J.Denot). z.member.slots.closes) inner ∙ c.self.invariant.closes);
+    }
 
 pub invariant_of-self-else-goes_on : goal.invariant_of-self-else-goes_on
 invariant_of-self-else-goes_on g c = let v : LocalModel g.row.T.Denot g.row.J.Denot = (c.self-inside.view_is 0).partner in
@@ -81,10 +93,12 @@ invariant_of-self-else-goes_on g c = let v : LocalModel g.row.T.Denot g.row.J.De
     let e = c.enter-guard.ensures.entered in let settled = ap (λ (z : LocalModel g.row.T.Denot g.row.J.Denot). z.member.due) inner ∙ c.self.invariant.settled in
     let shut : v.member.own.guards ≡ 0 = search rules in let sound = subst (IsSound holds) (sym inner) c.self.invariant in
     ⊎_elim (λ (o : (v.member.own.found ≡ e.0) × IsEntered e.0 v.member n).
-    sound_opened holds v n sound (ap (λ (y : LocalState _). y.due) o.1.member ∙ due_stayed e.0 v.member.own o.0) (ap home_in o.1.member)
+    sound_opened holds v n sound (ap (λ (y : LocalState _). y.due) o.1.member ∙ due_stayed e.0 v.member.own o.0)
+    (ap (λ (y : LocalState _). y.slots.closes) o.1.member ∙ sound.closes) (ap home_in o.1.member)
     (λ lone. opened_same v holds (c.self-inside.invariant lone) settled e.0 n lone shut o.1 (o.0 ∙ (o.1.lone lone).0)))
     (λ (o : WasIdle e.0 c.enter-guard.result.1 v.member e.1 n e.2 e.3).
-    sound_opened holds v n sound (ap (λ (y : LocalState _). y.due) o.2 ∙ o.1) (ap home_in o.2 ∙ ap home_in e.2.member)
+    sound_opened holds v n sound (ap (λ (y : LocalState _). y.due) o.2 ∙ o.1)
+    (ap (λ (y : LocalState _). y.slots.closes) o.2 ∙ (ap (λ (y : LocalState _). y.slots.closes) e.2.member ∙ sound.closes)) (ap home_in o.2 ∙ ap home_in e.2.member)
     (λ lone. opened_idle v holds (c.self-inside.invariant lone) settled e.0 e.1 lone shut e.2 (λ f. o.0 (f ∙ sym (e.2.lone lone).0)) o.1 n o.2))
     (is_over e.0 c.enter-guard.result.1 v.member e.1 n e.2 e.3 c.if-goes_on.false)
 
@@ -170,7 +184,7 @@ returns-clause-says g c = let v : LocalModel g.row.T.Denot g.row.J.Denot = (c.se
           = given.1 ∙ ap (λ (o : Participant). time.settled (all_awaiting given.0 o)) own in
           let found : q.member.own.found ≡ e.0 = ap (λ (o : Participant). o.found) own_then ∙ found_after given.0 e.0 v.member.own in
           subst (λ (z : LocalModel g.row.T.Denot g.row.J.Denot). CountsReclaimed v.member z.member) (sym w.self-is)
-          (counted_at e.0 v.member q.member shut found (counted_due e.0 v.member n q.member went.1 w.change.ensures.reclaimed))
+          (counted_at e.0 v.member q.member shut found (counted_due e.0 v.member n q.member went.1 w.change.ensures.counted))
       | else-goes_on w ↦ let so = stands e.0 c.enter-guard.result.1 v.member e.1 n e.2 e.3 in
           subst (λ (z : LocalModel g.row.T.Denot g.row.J.Denot). CountsReclaimed v.member z.member) (sym w.self-is)
           (counted_at e.0 v.member n shut so.found (counted_over e.0 c.enter-guard.result.1 v.member e.1 n e.2 e.3 w.if-goes_on.false))

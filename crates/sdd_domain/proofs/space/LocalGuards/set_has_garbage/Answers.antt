@@ -18,7 +18,7 @@ invariant_of-self g c = let v : LocalModel g.row.T.Denot g.row.J.Denot = (c.self
     let inner : v ≡ c.self.inside.partner = ap (λ (i : Inside g.row.T.Denot g.row.J.Denot). i.partner) c.self-inside.view_is in
     let did = c.set_has_garbage.ensures in
     sound_step g.T.Item.holds v c.set_has_garbage.new.self (subst (IsSound g.T.Item.holds) (sym inner) c.self.invariant) stirred Whole-stirred
-    (ap (λ (m : LocalState _). m.due) did) (ap home_in did)
+    (ap (λ (m : LocalState _). m.due) did) (ap (λ (m : LocalState _). m.slots.closes) did) (ap home_in did)
     (λ one. let first = (c.self-inside.invariant one).place in ap (λ (m : LocalState _). world_of (record v { member = m })) did
     ∙ steps_alone stirred v (record v { member = record v.member { own = time.with_garbage v.member.own } }) first first refl)
 

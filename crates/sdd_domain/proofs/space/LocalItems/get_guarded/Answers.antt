@@ -6,7 +6,7 @@ use Rattle.sdd_domain.specs.LocalState.{LocalState}
 use Rattle.sdd_domain.specs.Local.{LocalModel, world_of}
 use Rattle.sdd_domain.specs.declared.local.Local.TheInside.{Inside}
 use Rattle.sdd_domain.specs.Sound.{IsSound}
-use Rattle.sdd_domain.proofs.Owning.{owned_value, only_looks, same_world, shows_it, keeps_it}
+use Rattle.sdd_domain.proofs.Owning.{closes_looks, owned_value, only_looks, same_world, shows_it, keeps_it}
 use Rattle.sdd_domain.proofs.Sound.{sound_step}
 use Rattle.sdd_domain.proofs.space.LocalItems.get_guarded.Goals as goal
 
@@ -16,7 +16,8 @@ invariant_of-self g c = let v : LocalModel g.row.T.Denot g.row.J.Denot = (c.self
     let looks = c.get_guarded.ensures.looks in let m : LocalState _ = c.get_guarded.new.self in
     let only = only_looks g.row.T v m (number_of c.args.right.now) (is_shared (kind_of c.args.right.now)) c.get_guarded.result.now looks in
     sound_step g.T.Item.holds v m (subst (IsSound g.T.Item.holds) (sym inner) c.self.invariant) (λ w _. w) (λ w _ _ whole. whole)
-    (ap (λ (y : LocalState _). y.due) only) (ap home_in only) (λ _. same_world g.row.T v m (number_of c.args.right.now)
+    (ap (λ (y : LocalState _). y.due) only) (closes_looks g.row.T v m (number_of c.args.right.now) (is_shared (kind_of c.args.right.now)) c.get_guarded.result.now looks) (ap home_in only)
+    (λ _. same_world g.row.T v m (number_of c.args.right.now)
     (is_shared (kind_of c.args.right.now)) c.get_guarded.result.now looks)
 
 pub returns-clause-shown : goal.returns-clause-shown

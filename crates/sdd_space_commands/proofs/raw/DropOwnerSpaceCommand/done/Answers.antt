@@ -1,4 +1,3 @@
-use Rattle.std.proofs.Common.{subst}
 use Rattle.sdd_space.specs.Shared as shared
 use Rattle.sdd_space_commands.proofs.Dropping.{drops-shared}
 use Rattle.sdd_space_commands.proofs.raw.DropOwnerSpaceCommand.done.Goals as goal

@@ -14,7 +14,7 @@ invariant_of-result g c = let same : c.self.inside.limits ≡ c.args.domain.now.
       refl,
       i.tenure_is,
       i.lent,
-      ready_on i.board d.board ids sizes book c.self.inside.own c.self.inside.due c.self.inside.known.slots c.self.inside.jobs
+      ready_on i.board d.board ids sizes book c.self.inside.own c.self.inside.due c.self.inside.known.slots c.self.inside.jobs c.self.inside.privates
           (known_waiting c.self.inside.token.me.0.slots) i.ready,
       i.tallied,
     )

@@ -1,0 +1,38 @@
+use Rattle.std.proofs.Common.{◌≡◌, None, refl, sym, ap, ◌∙◌, subst}
+use Rattle.sdd_atomics.specs.DomainTable.{slots_of}
+use Rattle.sdd_domain_invariant.specs.CellSteps.{rightless}
+use Rattle.sdd_domain_invariant.specs.FractionSteps.{SeatState}
+use Rattle.sdd_views.specs.declared.CellKind.TheVariants.{Collector as of_closed}
+use Rattle.sdd_views.specs.declared.View.{View}
+use Rattle.sdd_word_invariant.specs.CollectorSteps.{closed_none}
+use Rattle.sdd_domain.specs.BetweenCalls.{AreLentTo, IsReady}
+use Rattle.sdd_domain.specs.InBags.{known_waiting}
+use Rattle.sdd_domain.specs.LocalState.{LocalState}
+use Rattle.sdd_domain.specs.Receipt.{IsTallied}
+use Rattle.sdd_domain.proofs.ClosePosed.{posed_closing}
+use Rattle.sdd_domain.proofs.InBags.{ends_close}
+use Rattle.sdd_domain.proofs.local_core.LocalCore.end_close.Goals as goal
+
+pub invariant_of-self : goal.invariant_of-self
+invariant_of-self g c = let l = c.self.inside in let b = l.domain.now.board in let i = c.self.invariant in let r = i.4 in let v : View = l.token.me.0 in
+    let u = c.cut_right-right.new.token in let taken = c.take_in_right.ensures c.args.collector of_closed c.requires.right.1 in
+    let ended = c.end_close.ensures in let cut = c.cut_right-right.ensures.participant in
+    let others : u.me.1 ≡ l.token.me.1 = cut.2 ∙ (ap (λ (m : SeatState). m.1) ended.2 ∙ taken.2) in
+    let is : u.me.0 ≡ record v { slots = record v.slots { closes = None; looked = 0 } } = cut.3 ∙ (ap (λ (m : SeatState). rightless m.0) ended.2
+    ∙ (ap (λ (w : View). rightless (closed_none w)) taken.3
+    ∙ (λ d. record v { slots = record v.slots { closes = None; looked = 0 }; cells = sym i.0.rights d }))) in (
+      posed_closing b l.place l.own l.token u None 0 i.0 (cut.0 ∙ (ended.0 ∙ taken.0)) others is (λ _. refl),
+      i.1,
+      i.2,
+      subst (AreLentTo l.tenure.round) (sym others) i.3,
+      subst (λ (w : View). IsReady b l.own l.due l.known.slots l.jobs l.privates (known_waiting w.slots)) (sym is) record {
+        bags = ends_close (slots_of b) (known_waiting v.slots) l.own.bags.waiting l.due.items r.bags
+            (ap (λ (m : LocalState _). m.due) c.self.view_is ∙ c.requires.settled);
+        large = r.large;
+        slots = r.slots;
+        told = r.told;
+        places = r.places;
+        jobs = r.jobs;
+      },
+      subst (λ (w : View). IsTallied 0 l.tally w.stakes.counts) (sym is) i.5,
+    )

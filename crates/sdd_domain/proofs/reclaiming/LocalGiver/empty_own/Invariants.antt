@@ -1,0 +1,26 @@
+use Rattle.std.proofs.Common.{◌≡◌, length}
+use Rattle.sdd_space.specs.KnownEpochs.{KnowsOn}
+use Rattle.sdd_space.specs.ParticipantChanges.{KeepsMoreWaiting}
+use Rattle.sdd_space.specs.WorldChanges.{all_reclaimed}
+use Rattle.sdd_domain.specs.Collectors.{AllWaitFor, IsClosing}
+use Rattle.sdd_domain.specs.Local.{world_of}
+use Rattle.sdd_domain.specs.LocalState.{IsLone}
+use Rattle.sdd_domain.specs.Reclaiming.{rest_of}
+use Rattle.sdd_domain.specs.Space.{known_of}
+use Rattle.sdd_domain.proofs.reclaiming.LocalGiver.empty_own.Given as goal
+
+-- to reclaim what is left is to reclaim all
+abbrev pub invariant-loop-slot : goal.invariant-loop-slot
+invariant-loop-slot g l = record {
+  taken : AllWaitFor l.self.member l.fn.collector l.self.member.due;
+  closing : IsClosing l.fn.collector l.self.member;
+  own : KeepsMoreWaiting l.fn.self.member.own l.self.member.own;
+  known : KnowsOn (known_of l.fn.self) (known_of l.self);
+  rest : rest_of l.self ≡ rest_of l.fn.self;
+  jobs : l.self.member.jobs ≡ l.fn.self.member.jobs;
+  exact : IsLone l.fn.self.member → all_reclaimed g.T.Item.holds (world_of l.self) l.self.member.place l.self.member.due
+      ≡ all_reclaimed g.T.Item.holds (world_of l.fn.self) l.fn.self.member.place l.fn.self.member.due;
+}
+
+abbrev pub decreases-loop-slot : goal.decreases-loop-slot
+decreases-loop-slot g l = length l.self.member.due

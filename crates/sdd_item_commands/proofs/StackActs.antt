@@ -1,0 +1,302 @@
+-- What each action on a stack leaves in hand: it is sound, and it is what the call means
+use Rattle.std.proofs.Common.{◌≡◌, ◌+◌, ◌^◌, ◌<◌, ℕ, Bool, false, List, [], ◌∷◌, ◌++◌, Option, Some, None, is_some, map, length, slice_index, slice_index_or, slice_set, if◌then◌else◌, refl, sym, ap, ◌∙◌, subst, arith}
+use Rattle.std.specs.Prelude.{Ok, Err}
+use Rattle.std.specs.Option.{option_map}
+use Rattle.std.specs.Global.{Vec}
+use Rattle.std.proofs.lemmas.List.{length-map}
+use Rattle.sdd_core.specs.declared.refused.Refused.{Refused}
+use Rattle.sdd_core.specs.declared.refused.Refused.TheVariants.{NoCell, TooManyOwners}
+use Rattle.sdd_participants.specs.Slab.{IsEmptyAt, IsFull}
+use Rattle.sdd_standings.specs.Slots.{is_waiting}
+use Rattle.sdd_space.specs.OwnerOrCell.{OwnerOrCell}
+use Rattle.sdd_space.specs.OwnerOrCell as holding
+use Rattle.sdd_space.specs.Shared.{slot_of, slots_home}
+use Rattle.sdd_space.specs.World.{World, IsPlaceOf, standing_at, value_at}
+use Rattle.sdd_space.specs.WorldChanges.{nulled}
+use Rattle.sdd_space.specs.WorldInvariant.{IsWhole}
+use Rattle.sdd_space.specs.declared.shared.Shared.{Shared}
+use Rattle.sdd_lists.specs.Lists.{Entry}
+use Rattle.sdd_lists.specs.Stack.{cell_in, home_in}
+use Rattle.sdd_lists.specs.declared.stack.Stack.{Stack}
+use Rattle.sdd_world.specs.Place.{index_of}
+use Rattle.sdd_script_text.specs.declared.name.PlaceName.{PlaceName}
+use Rattle.sdd_script_text.specs.declared.name.GuardName.{GuardName}
+use Rattle.sdd_script_text.specs.declared.name.OwnerName.{OwnerName}
+use Rattle.sdd_script_text.specs.declared.name.ItemName.{ItemName}
+use Rattle.sdd_script_text.specs.declared.name.StackName.{StackName}
+use Rattle.sdd_script_text.specs.declared.call.Call.TheVariants.{At}
+use Rattle.sdd_script_text.specs.declared.call.Action.TheVariants as call
+use Rattle.sdd_script_text.specs.declared.answer.Reply.TheVariants as reply
+use Rattle.sdd_script_model.specs.declared.val.Body.{Body}
+use Rattle.sdd_script_model.specs.declared.val.Body.TheVariants.{Number}
+use Rattle.sdd_script_model.specs.Listed.{Begins, IsNumber}
+use Rattle.sdd_script_model.specs.ScriptState.{ScriptState, in_world, opening_at, place_of, without_stack}
+use Rattle.sdd_script_model.specs.Script.{Acts, HasOpen, IsParticipant, IsStackName, IsUnderGuard}
+use Rattle.sdd_script_model.specs.Stacks.{Drains, IsStack, Pushes, Takes, stack_closed}
+use Rattle.sdd_script_model.specs.Val.{Val, body_of}
+use Rattle.sdd_script_model.proofs.StackGoing.{begun-leaves, drained-leaves, popped-home, popped-number, popped-value, popped-leaves, stack_closed-leaves}
+use Rattle.sdd_script_model.proofs.StackPushing.{pushed-leaves}
+use Rattle.sdd_space_commands.specs.declared.holding.AnyOwner.{AnyOwner}
+use Rattle.sdd_space_commands.specs.declared.holding.AnyOwner.TheVariants.{Share}
+use Rattle.sdd_space_commands.specs.Owners.{owner_holding, stack_holding}
+use Rattle.sdd_space_commands.specs.Stacks.{PopsOff, PushesNumber}
+use Rattle.sdd_script_names.specs.declared.participants.NamedParticipant.{NamedParticipant}
+use Rattle.sdd_script_names.specs.Environment.{attending, date_now}
+use Rattle.sdd_script_names.specs.declared.interpreter.Environment.{Environment}
+use Rattle.sdd_script_names.specs.Interpreter.{IsTied, desk_of}
+use Rattle.sdd_script_names.proofs.Acts as acts
+use Rattle.sdd_script_names.proofs.Acts.{Does, does, goes, in_range, is-there, leads, owner-more, still}
+use Rattle.sdd_script_names.proofs.Stacks.{stack-cell, stacks-more, stacks-spent}
+
+-- the entries of the stack of this name
+pub stack-entries : (h : Environment) → IsTied h → (s : ℕ) (x : Stack Body) → Some x ≡ slice_index_or h.stacks.entries.items s None →
+    (es : List (Entry Val)) × IsStack (desk_of h) s (cell_in x) es
+stack-entries h t s x mine =
+    let named = stack-cell h s x mine in
+    let first = t.sound.lists.lists (cell_in x) (s, named) in
+    (first.0, record { named = named; list = first.1 })
+
+pub is-stack : (h : Environment) (s : ℕ) (x : Stack Body) → Some x ≡ slice_index_or h.stacks.entries.items s None → IsStackName (desk_of h) s
+is-stack h s x mine = ap is_some (stack-cell h s x mine)
+
+-- of each slot it was told whether its item waited
+abbrev pub AreTold : Environment → List Bool → Type 0
+AreTold h waited = (s : ℕ) → s < length h.names.items → slice_index_or waited s false ≡ is_waiting (standing_at h.world s)
+
+-- and by that the dates are of this line where an item began to wait
+abbrev pub AreDatedNow : Environment → World Val → List Bool → Vec ℕ → Type 0
+AreDatedNow h w waited dates =
+    ((s : ℕ) → s < length h.dates.items → slice_index dates.items s ≡ date_now w waited h.moment h.dates.items s) × (length dates.items ≡ length h.dates.items)
+
+-- where an item began to wait is of this line, the others keep theirs
+abbrev pub AreDatedSo : Environment → World Val → Vec ℕ → Type 0
+AreDatedSo h w dates =
+    ((s : ℕ) → s < length h.dates.items → slice_index dates.items s
+    ≡ (if is_waiting (standing_at w s) then (if is_waiting (standing_at h.world s) then slice_index h.dates.items s else h.moment)
+    else slice_index h.dates.items s))
+    × (length dates.items ≡ length h.dates.items)
+
+pub dated-within : (h : Environment) → IsTied h → (waited : List Bool) → AreTold h waited → (w : World Val) (dates : Vec ℕ) → AreDatedNow h w waited dates →
+    AreDatedSo h w dates
+dated-within h t waited told w dates now = (
+  (λ s lt.
+      now.0 s lt
+      ∙ ap (λ (b : Bool). if is_waiting (standing_at w s) then (if b then slice_index h.dates.items s else h.moment) else slice_index h.dates.items s)
+      (told s (omega (arith, lt, t.sound.stocked.dates, t.sound.stocked.names)))),
+  now.1,
+)
+
+module _ (h : Environment) (t : IsTied h) (whole : IsWhole h.world) (name : PlaceName) (a : NamedParticipant)
+    (there : attending (Some a) ≡ opening_at (desk_of h).places name.0) where
+  abbrev d : ScriptState
+  d = desk_of h
+
+  abbrev n : ℕ
+  n = name.0
+
+  abbrev p : ℕ
+  p = index_of a.place
+
+  here : IsParticipant (desk_of h) n
+  here = is-there h t whole name a there
+
+  live : IsPlaceOf h.world p
+  live = in_range h t whole name a there
+
+  place-is : place_of (desk_of h) n ≡ p
+  place-is = acts.is h t whole name a there
+
+  named-next : (o : OwnerName) → o.0 ≡ length h.owners.entries.items → o.0 ≡ length (desk_of h).owners
+  named-next o is = is ∙ sym (length-map h.owners.entries.items (option_map owner_holding))
+
+  -- ---- a stack is made
+
+  pub acts-no_cell : IsFull h.world.cells → Acts (desk_of h) (At name call.Stack) (reply.Refused NoCell) (desk_of h)
+  acts-no_cell full = still (desk_of h) (At name call.Stack) (reply.Refused NoCell) (here, (full, refl))
+
+  pub acts-begun : (w : World Val) (stacks : Vec (Option (Stack Body))) (x : Stack Body) (r : StackName) → IsEmptyAt h.world.cells (cell_in x) →
+      w ≡ nulled h.world (cell_in x) → home_in x ≡ h.world.home.cells → stacks.items ≡ h.stacks.entries.items ++ Some x ∷ [] →
+      r.0 ≡ length h.stacks.entries.items →
+      Does (desk_of h) (At name call.Stack) (reply.Stack r) (record h { world = w; stacks = record { entries = stacks } })
+  acts-begun w stacks x r free world home pushed named =
+      let c = cell_in x in
+      let more : map (option_map stack_holding) stacks.items ≡ (desk_of h).stacks ++ Some (holding.atomic_shared c h.world.home.cells) ∷ [] =
+      stacks-more h stacks x pushed ∙ ap (λ z. (desk_of h).stacks ++ Some (holding.atomic_shared c z) ∷ []) home in
+      leads h t (At name call.Stack) (reply.Stack r) refl (cc (world, more)) (begun-leaves (desk_of h) t.sound whole p c live free)
+      (here, (named ∙ sym (length-map h.stacks.entries.items (option_map stack_holding)), (c, free, refl)))
+
+  -- ---- a stack with entries
+
+  module _ (s : StackName) (x : Stack Body) (mine : Some x ≡ slice_index_or h.stacks.entries.items s.0 None) where
+    abbrev es : List (Entry Val)
+    es = (stack-entries h t s.0 x mine).0
+
+    abbrev is : IsStack (desk_of h) s.0 (cell_in x) es
+    is = (stack-entries h t s.0 x mine).1
+
+    -- the slot of a number that is pushed was free
+    pub slot-free : (number : ℕ) (owner : Shared Val) (w : World Val) →
+        ((fs : List (Entry Val)) → Begins h.world (cell_in x) fs → PushesNumber h.world.home.slots h.world p (cell_in x) fs number (Ok owner) w) →
+        slot_of owner < length h.names.items
+    slot-free number owner w did =
+        let made = (did es is.list).1 in
+        omega (arith, made.pushed.free.0, t.sound.stocked.names)
+
+    module _ (waited : List Bool) (told : AreTold h waited) where
+      -- a number is pushed
+      module _ (g : GuardName) (valid : HasOpen (desk_of h) n g.0) (number : ℕ) where
+        pub acts-push_refused : (refused : Refused) (w : World Val) →
+            ((fs : List (Entry Val)) → Begins h.world (cell_in x) fs → PushesNumber h.world.home.slots h.world p (cell_in x) fs number (Err refused) w) →
+            Acts (desk_of h) (At name (call.Push s number g)) (reply.Refused refused) (desk_of h) × (w ≡ h.world)
+        acts-push_refused refused w did =
+            let here = did es is.list in (
+              still (desk_of h) (At name (call.Push s number g)) (reply.Refused refused) ((valid, is-stack h s.0 x mine), (here.0, refl)),
+              here.1,
+            )
+
+        pub acts-pushed : (owner : Shared Val) (w : World Val) (owners : Vec (Option AnyOwner)) (slots names dates : Vec ℕ) (o : OwnerName) (i : ItemName) →
+            ((fs : List (Entry Val)) → Begins h.world (cell_in x) fs → PushesNumber h.world.home.slots h.world p (cell_in x) fs number (Ok owner) w) →
+            owners.items ≡ h.owners.entries.items ++ Some (Share owner) ∷ [] → slots.items ≡ h.slots.items ++ slot_of owner ∷ [] →
+            names.items ≡ slice_set h.names.items (slot_of owner) (length h.slots.items) → AreDatedNow h w waited dates →
+            length h.slots.items + 1 < 2 ^ 128 → o.0 ≡ length h.owners.entries.items → i.0 ≡ length h.slots.items →
+            Does (desk_of h) (At name (call.Push s number g)) (reply.Item o i)
+            (record h { world = w; owners = record { entries = owners }; slots = slots; names = names; dates = dates })
+        acts-pushed owner w owners slots names dates o i did pushed longer written now few owner_name item_name =
+            let made = did es is.list in
+            let k = slot_of owner in
+            let more : map (option_map owner_holding) owners.items ≡ (desk_of h).owners ++ Some (holding.shared k h.world.home.slots) ∷ [] =
+            owner-more h t whole owners (Share owner) pushed ∙ ap (λ z. (desk_of h).owners ++ Some (holding.shared k z) ∷ []) made.0 in
+            leads h t (At name (call.Push s number g)) (reply.Item o i) refl (cc (more, longer, written))
+            (pushed-leaves (desk_of h) t.sound whole p (cell_in x) live s.0 es is number k w made.1 few dates.items
+            (dated-within h t waited told w dates now)) (
+              (valid, is-stack h s.0 x mine),
+              (
+                item_name,
+                (
+                  cell_in x,
+                  es,
+                  k,
+                  w,
+                  is,
+                  subst (λ (q : ℕ). Pushes h.world q (cell_in x) es number k w) (sym place-is) made.1,
+                  (named-next o owner_name, refl),
+                ),
+              ),
+            )
+
+      -- one is popped
+      module _ (g : GuardName) (valid : HasOpen (desk_of h) n g.0) where
+        pub acts-pop_refused : (refused : Refused) (w : World Val) →
+            ((fs : List (Entry Val)) → Begins h.world (cell_in x) fs → PopsOff h.world.home.slots h.world p (cell_in x) fs (Err refused) w) →
+            Acts (desk_of h) (At name (call.Pop s g)) (reply.Refused refused) (desk_of h) × (w ≡ h.world)
+        acts-pop_refused refused w did =
+            let here = did es is.list in (
+              subst (λ e. Acts (desk_of h) (At name (call.Pop s g)) (reply.Refused e) (desk_of h)) (sym here.1)
+                  (still (desk_of h) (At name (call.Pop s g)) (reply.Refused TooManyOwners)
+                  ((valid, is-stack h s.0 x mine), ((cell_in x, es, is, here.0), refl))),
+              here.2,
+            )
+
+        pub acts-drained : (w : World Val) (dates : Vec ℕ) →
+            ((fs : List (Entry Val)) → Begins h.world (cell_in x) fs → PopsOff h.world.home.slots h.world p (cell_in x) fs (Ok None) w) →
+            AreDatedNow h w waited dates → Does (desk_of h) (At name (call.Pop s g)) reply.Nothing (record h { world = w; dates = dates })
+        acts-drained w dates did now =
+            let drains = did es is.list in
+            leads h t (At name (call.Pop s g)) reply.Nothing refl refl
+            (drained-leaves (desk_of h) t.sound whole p (cell_in x) live s.0 es is w drains dates.items (dated-within h t waited told w dates now)) (
+              (valid, is-stack h s.0 x mine),
+              (
+                cell_in x,
+                es,
+                w,
+                is,
+                subst (λ (q : ℕ). Drains h.world q (cell_in x) es w) (sym place-is) drains,
+                refl,
+              ),
+            )
+
+        -- the same where room was made for a name
+        pub drained-as : (w : World Val) (owners : Vec (Option AnyOwner)) (dates : Vec ℕ) →
+            ((fs : List (Entry Val)) → Begins h.world (cell_in x) fs → PopsOff h.world.home.slots h.world p (cell_in x) fs (Ok None) w) →
+            owners.items ≡ h.owners.entries.items → AreDatedNow h w waited dates →
+            Does (desk_of h) (At name (call.Pop s g)) reply.Nothing (record h { world = w; owners = record { entries = owners }; dates = dates })
+        drained-as w owners dates did kept now =
+            let both = acts-drained w dates did now in
+            let same : map (option_map owner_holding) owners.items ≡ (desk_of h).owners = ap (map (option_map owner_holding)) kept in
+            let desk : desk_of (record h { world = w; owners = record { entries = owners }; dates = dates }) ≡ desk_of (record h { world = w; dates = dates }) =
+            cc (same) in
+            does (desk_of h) (At name (call.Pop s g)) reply.Nothing (goes desk both.0.sound both.0.guards) both.1
+
+        module _ (owner : Shared Val) (w : World Val)
+            (did : (fs : List (Entry Val)) → Begins h.world (cell_in x) fs → PopsOff h.world.home.slots h.world p (cell_in x) fs (Ok (Some owner)) w) where
+          abbrev e : Entry Val
+          e = (did es is.list).1.0
+
+          abbrev slot-is : slot_of owner ≡ e.slot
+          slot-is = (did es is.list).1.1
+
+          abbrev takes : Takes h.world p (cell_in x) es e w
+          takes = (did es is.list).1.2
+
+          pub popped-at_home : w.home ≡ h.world.home
+          popped-at_home = popped-home (desk_of h) t.sound whole p (cell_in x) live s.0 es is e w takes
+
+          pub popped-home_slots : slots_home owner ≡ h.world.home.slots
+          popped-home_slots = (did es is.list).0
+
+          -- what it has is a number
+          popped-is : (v : Val) → value_at w (slot_of owner) ≡ Some v → v ≡ e.value
+          popped-is v at =
+              let there = popped-value (desk_of h) t.sound whole p (cell_in x) live s.0 es is e w takes in
+              let both : Some v ≡ Some e.value = sym at ∙ ap (λ (i : ℕ). value_at w i) slot-is ∙ there in
+              cc
+
+          pub popped-counts : (v : Val) → value_at w (slot_of owner) ≡ Some v → IsNumber (body_of v)
+          popped-counts v at =
+              subst (λ (y : Val). IsNumber (body_of y)) (sym (popped-is v at))
+              (popped-number (desk_of h) t.sound whole p (cell_in x) live s.0 es is e w takes)
+
+          pub acts-popped : (v : Val) (number : ℕ) (owners : Vec (Option AnyOwner)) (dates : Vec ℕ) (o : OwnerName) →
+              value_at w (slot_of owner) ≡ Some v → body_of v ≡ Number number → owners.items ≡ h.owners.entries.items ++ Some (Share owner) ∷ [] →
+              AreDatedNow h w waited dates → o.0 ≡ length h.owners.entries.items →
+              Does (desk_of h) (At name (call.Pop s g)) (reply.Popped o number)
+              (record h { world = w; owners = record { entries = owners }; dates = dates })
+          acts-popped v number owners dates o at told_number pushed now owner_name =
+              let more : map (option_map owner_holding) owners.items ≡ (desk_of h).owners ++ Some (holding.shared e.slot h.world.home.slots) ∷ [] =
+              owner-more h t whole owners (Share owner) pushed ∙ ap (λ z. (desk_of h).owners ++ Some (holding.shared (slot_of owner) z) ∷ []) popped-home_slots
+              ∙ ap (λ (i : ℕ). (desk_of h).owners ++ Some (holding.shared i h.world.home.slots) ∷ []) slot-is in
+              leads h t (At name (call.Pop s g)) (reply.Popped o number) refl (cc (more))
+              (popped-leaves (desk_of h) t.sound whole p (cell_in x) live s.0 es is e w takes dates.items (dated-within h t waited told w dates now)) (
+                (valid, is-stack h s.0 x mine),
+                (
+                  cell_in x,
+                  es,
+                  e,
+                  w,
+                  is,
+                  ap body_of (sym (popped-is v at)) ∙ told_number,
+                  subst (λ (q : ℕ). Takes h.world q (cell_in x) es e w) (sym place-is) takes,
+                  (named-next o owner_name, refl),
+                ),
+              )
+
+      -- it is closed
+      pub acts-closed : (w : World Val) (stacks : Vec (Option (Stack Body))) (dates : Vec ℕ) → IsUnderGuard (desk_of h) n →
+          ((fs : List (Entry Val)) → Begins h.world (cell_in x) fs → w ≡ stack_closed h.world p (cell_in x) fs) →
+          stacks.items ≡ slice_set h.stacks.entries.items s.0 None → AreDatedNow h w waited dates →
+          Does (desk_of h) (At name (call.CloseStack s)) reply.Done (record h { world = w; stacks = record { entries = stacks }; dates = dates })
+      acts-closed w stacks dates valid did spent now =
+          let world = did es is.list in
+          let left = stacks-spent h stacks s.0 spent in
+          leads h t (At name (call.CloseStack s)) reply.Done refl (cc (world, left))
+          (stack_closed-leaves (desk_of h) t.sound whole p (cell_in x) live s.0 es is dates.items
+          (dated-within h t waited told (stack_closed h.world p (cell_in x) es) dates
+          (subst (λ (u : World Val). AreDatedNow h u waited dates) world now))) (
+            (valid, is-stack h s.0 x mine),
+            (
+              cell_in x,
+              es,
+              is,
+              ap (λ (q : ℕ). record (in_world (without_stack (desk_of h) s.0) (stack_closed h.world q (cell_in x) es)) { dates = dates.items }) (sym place-is),
+            ),
+          )

@@ -1,0 +1,26 @@
+use Rattle.std.proofs.Common.{sym, ◌∙◌, subst}
+use Rattle.std.specs.Prelude.{option_map}
+use Rattle.sdd_space.specs.CallerId.{IsExact, CallerId}
+use Rattle.sdd_space.specs.Shared.{cell_of, slot_of}
+use Rattle.sdd_lists.proofs.Moving.{given-none}
+use Rattle.sdd_lists.proofs.Pushing.{put-then, rest-none}
+use Rattle.sdd_lists.proofs.moves.put_with_tag.Goals as goal
+
+pub returns-clause-exact : goal.returns-clause-exact
+returns-clause-exact g c = λ e t n holds clear far.
+    let w = g.S.Caller.world c.args.s.now in
+    let u = g.S.Caller.world c.swap-next.new.s in
+    let v = g.S.Caller.world c.swap-rest.new.s in
+    let d = cell_of c.args.cell.now in
+    let l = cell_of c.args.link.now in
+    let k = slot_of c.args.owner in
+    let next = option_map slot_of c.swap-next.result.0 in
+    let rest = option_map slot_of c.swap-rest.result.0 in
+    let at1 = c.swap-next.ensures.undisturbed.seat in
+    let at2 = c.swap-rest.ensures.undisturbed.seat ∙ at1 in
+    let one = c.swap-next.ensures.exact e in
+    let two = c.swap-rest.ensures.exact (subst (λ (s : CallerId). IsExact s) (sym at1) e) in
+    let last = c.give_up.ensures.exact (subst (λ (s : CallerId). IsExact s) (sym at2) e) in
+    let none = rest-none w u v d l next rest c.swap-next.result.1 c.swap-rest.result.1 c.args.tag k far one.0 one.1 two.0 two.1 clear in
+    given-none v (g.S.Caller.world c.give_up.new.s) (g.S.Caller.seat c.swap-rest.new.s).place c.swap-rest.result.0 none last
+    ∙ put-then w u v d l next rest c.swap-next.result.1 c.swap-rest.result.1 c.args.tag k far one.0 one.1 two.0 two.1 n t holds

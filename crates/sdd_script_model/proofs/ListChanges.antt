@@ -1,0 +1,473 @@
+-- What lets go of a list's first entry, puts one in front, changes a tag, and begins and ends a list, leaves all lists there
+use Rattle.std.proofs.Common.{◌≡◌, ◌≢◌, ◌⊎◌, ◌+◌, ◌≤◌, ◌<◌, inl, inr, length, ℕ, List, [], ◌∷◌, Bool, true, false, Option, Some, None, is_some, slice_index_or, slice_set, refl, sym, ap, ◌∙◌, subst, arith}
+use Rattle.std.specs.Prelude.{◌==◌, if◌then◌else◌}
+use Rattle.std.proofs.lemmas.Bool.{cases_eq}
+use Rattle.sdd_core.specs.declared.tag.Tag.{Tag}
+use Rattle.sdd_core.specs.declared.tag.Tag.TheVariants.{None as no_tag, Second, Both}
+use Rattle.sdd_participants.specs.Slab.{Entries, IsEmptyAt, entry_at}
+use Rattle.sdd_participants.specs.declared.standing.CellContents.{CellContents}
+use Rattle.sdd_space.specs.Ledger.{Claim, right_to, IsLedger}
+use Rattle.sdd_space.specs.Ledger.{inside as inner}
+use Rattle.sdd_space.specs.World.{World, standing_at, value_at}
+use Rattle.sdd_space.specs.WorldChanges.{held_in, nulled, with_cell, with_value, without_cell}
+use Rattle.sdd_lists.specs.Ends.{IsAmong}
+use Rattle.sdd_lists.specs.Lists.{Apart, AreLinked, Entry, first_slot, let_go_first, linked_in}
+use Rattle.sdd_lists.specs.Marks.{retagged}
+use Rattle.sdd_lists.proofs.Ending.{linked-ends}
+use Rattle.sdd_lists.proofs.Leaving.{list-apart, list-without}
+use Rattle.sdd_lists.proofs.Lists.{bare, behind, list-same}
+use Rattle.sdd_lists.proofs.Marking.{retagged-list}
+use Rattle.sdd_lists.proofs.Pushing.{pushed}
+use Rattle.sdd_script_model.specs.Listed.{AreNumbers, Begins, HasLists, IsListed, IsNumber}
+use Rattle.sdd_script_model.specs.Val.{Val, body_of, holdings_of, link_of}
+use Rattle.sdd_script_model.proofs.Entry.{at-other, at-same, inside, set-either}
+use Rattle.sdd_script_model.proofs.Links.{null}
+use Rattle.sdd_space.proofs.Entries.{once-waits}
+use Rattle.sdd_script_model.proofs.Listed.{link-inside, IsAsBefore, among-link, apart-item, apart-own, as-before, has-changed, has-kept, link-apart, links-apart, same-list}
+
+-- two cells are written, and nothing else changes in cells and values: what list stays, and what a third cell holds
+module _ (v w : World Val) (l c : ℕ) (x y : CellContents) (cells : w.cells ≡ slice_set (slice_set v.cells l (Some x)) c (Some y))
+    (values : w.values ≡ v.values) where
+  pub list-beside : (b : ℕ) (es : List (Entry Val)) → b ≢ l → b ≢ c → Apart link_of l es → Apart link_of c es → Begins v b es → Begins w b es
+  list-beside b es far off all also list =
+      list-apart link_of (with_cell v l x) w b no_tag es c y cells values off also
+      (list-apart link_of v (with_cell v l x) b no_tag es l x refl refl far all list)
+
+  pub third : (i : ℕ) → i ≢ l → i ≢ c → entry_at w.cells i ≡ entry_at v.cells i
+  third i far off =
+      ap (λ (cs : Entries CellContents). entry_at cs i) cells ∙ at-other (slice_set v.cells l (Some x)) c i (Some y) None off
+      ∙ at-other v.cells l i (Some x) None far
+
+  -- what held nothing holds nothing, unless one of the two is written
+  pub none-still : (i : ℕ) → i ≢ c → x.held ≡ None → held_in (entry_at v.cells i) ≡ None → held_in (entry_at w.cells i) ≡ None
+  none-still i off nothing none =
+      ap (λ (cs : Entries CellContents). held_in (entry_at cs i)) cells ∙ ap held_in (at-other (slice_set v.cells l (Some x)) c i (Some y) None off)
+      ∙ elim (set-either v.cells l i (Some x) None) [ inl is ↦ ap held_in is ∙ nothing | inr is ↦ ap held_in is ∙ none ]
+
+  pub value-was : (s : ℕ) (z : Val) → value_at w s ≡ Some z → value_at v s ≡ Some z
+  value-was s z e = ap (λ vs. slice_index_or vs s None) (sym values) ∙ e
+
+-- ---- the first entry is let go of
+
+module _ (begins : ℕ → Type 0) (v : World Val) (outside : Claim → ℕ) (ledger : IsLedger holdings_of outside v)
+    (mine : (b : ℕ) → begins b → 1 ≤ outside (right_to b)) (had : HasLists begins v) (c : ℕ) (its : begins c) where
+  module _ (p : ℕ) (e : Entry Val) (es : List (Entry Val)) (old : Begins v c (e ∷ es)) (numbers : AreNumbers (e ∷ es)) where
+    abbrev gone : CellContents
+    gone = record { held = None; tag = Second }
+
+    abbrev next : CellContents
+    next = record { held = first_slot es; tag = no_tag }
+
+    abbrev w : World Val
+    w = let_go_first v p c no_tag e.slot (link_of e.value) (first_slot es)
+
+    cells : w.cells ≡ slice_set (slice_set v.cells (link_of e.value) (Some gone)) c (Some next)
+    cells = (bare (with_cell (with_cell v (link_of e.value) gone) c next) p e.slot (standing_at v e.slot)).cells
+
+    values : w.values ≡ v.values
+    values = (bare (with_cell (with_cell v (link_of e.value) gone) c next) p e.slot (standing_at v e.slot)).values
+
+    there : value_at v e.slot ≡ Some e.value
+    there = old.linked.0.there
+
+    new : Begins w c es
+    new = behind link_of v p c no_tag e es old
+
+    forward : (b : ℕ) → begins b → b ≢ c → (gs : List (Entry Val)) → Begins v b gs → Begins w b gs
+    forward b x far gs list =
+        list-beside v w (link_of e.value) c gone next cells values b gs (link-apart v outside ledger b e.slot e.value (mine b x) there) far
+        (apart-item v outside ledger e.slot e.value there gs list.linked (λ among. far (had.apart b c e.slot gs (e ∷ es) x its list old among (inl refl))))
+        (apart-own v outside ledger c (mine c its) gs list.linked) list
+
+    links : (s : ℕ) (z : Val) → value_at w s ≡ Some z → (held_in (entry_at w.cells (link_of z)) ≡ None) ⊎ (IsAmong s es
+        ⊎ ((at : IsListed begins v s) × (at.cell ≢ c)))
+    links s z e_now =
+        let was = value-was v w (link_of e.value) c gone next cells values s z e_now in
+        let off : link_of z ≢ c = λ same. link-apart v outside ledger c s z (mine c its) was (sym same) in
+        elim (had.linked s z was) [
+          | inl none ↦ inl (none-still v w (link_of e.value) c gone next cells values (link_of z) off refl none)
+          | inr at ↦ elim (cases_eq at.cell c) [
+            | inl same ↦
+                elim (subst (λ fs. IsAmong s fs) (same-list v c at.entries (e ∷ es) (subst (λ i. Begins v i at.entries) same at.list) old) at.among) [
+                  | inl here ↦
+                      (let both : Some e.value ≡ Some z = sym there ∙ ap (λ (k : ℕ). value_at v k) here ∙ was in
+                      let is : e.value ≡ z = cc in
+                      let link : link_of e.value ≡ link_of z = ap link_of is in
+                      inl (ap (λ (cs : Entries CellContents). held_in (entry_at cs (link_of z))) cells
+                      ∙ ap held_in (at-other (slice_set v.cells (link_of e.value) (Some gone)) c (link_of z) (Some next) None off)
+                      ∙ ap (λ (i : ℕ). held_in (entry_at (slice_set v.cells (link_of e.value) (Some gone)) i)) (sym link)
+                      ∙ ap held_in (at-same v.cells (link_of e.value) (Some gone) None (inside v.cells (link_of e.value) (ap is_some old.linked.0.linked)))))
+                  | inr more ↦ inr (inl more)
+                ]
+            | inr far ↦ inr (inr (at, far))
+          ]
+        ]
+
+    pub has-let_go : HasLists begins w
+    has-let_go = has-changed begins v w had c its (e ∷ es) es old new numbers.1 forward (λ s among. inl (inr among)) links
+
+  -- ---- an item is put in front, whose link holds nothing
+
+  module _ (k : ℕ) (x : Val) (es : List (Entry Val)) (old : Begins v c es) (numbers : AreNumbers es) (there : value_at v k ≡ Some x)
+      (clear : entry_at v.cells (link_of x) ≡ Some null) (number : IsNumber (body_of x)) (alone : IsListed begins v k → ⊥) where
+    abbrev behind_it : CellContents
+    behind_it = record { held = first_slot es; tag = no_tag }
+
+    abbrev in_front : CellContents
+    in_front = record { held = Some k; tag = no_tag }
+
+    abbrev entry : Entry Val
+    entry = record { slot = k; value = x; tag = no_tag }
+
+    abbrev wider : World Val
+    wider = linked_in v c no_tag (link_of x) k (first_slot es)
+
+    far-link : c ≢ link_of x
+    far-link = link-apart v outside ledger c k x (mine c its) there
+
+    not-in : (b : ℕ) → begins b → (gs : List (Entry Val)) → Begins v b gs → IsAmong k gs → ⊥
+    not-in b y gs list among = alone (record { cell = b; entries = gs; begun = y; list = list; among = among })
+
+    longer : Begins wider c (entry ∷ es)
+    longer = pushed link_of v c no_tag es k x old there clear far-link (apart-item v outside ledger k x there es old.linked (not-in c its es old))
+
+    kept-others : (b : ℕ) → begins b → b ≢ c → (gs : List (Entry Val)) → Begins v b gs → Begins wider b gs
+    kept-others b y far gs list =
+        list-beside v wider (link_of x) c behind_it in_front refl refl b gs (link-apart v outside ledger b k x (mine b y) there) far
+        (apart-item v outside ledger k x there gs list.linked (not-in b y gs list)) (apart-own v outside ledger c (mine c its) gs list.linked) list
+
+    fresh-or : (s : ℕ) → IsAmong s (entry ∷ es) → IsAmong s es ⊎ (IsListed begins v s → ⊥)
+    fresh-or s (inl here) = inr (λ at. alone (subst (λ i. IsListed begins v i) (sym here) at))
+    fresh-or s (inr there) = inl there
+
+    linked-or : (s : ℕ) (z : Val) → value_at wider s ≡ Some z → (held_in (entry_at wider.cells (link_of z)) ≡ None) ⊎ (IsAmong s (entry ∷ es)
+        ⊎ ((at : IsListed begins v s) × (at.cell ≢ c)))
+    linked-or s z was = elim (cases_eq (link_of z) (link_of x)) [
+      | inl same ↦ inr (inl (inl (sym (links-apart v outside ledger s k z x was there same))))
+      | inr far ↦ elim (had.linked s z was) [
+        | inl none ↦
+            inl (ap held_in (third v wider (link_of x) c behind_it in_front refl refl (link_of z) far
+            (λ same. link-apart v outside ledger c s z (mine c its) was (sym same))) ∙ none)
+        | inr at ↦ elim (cases_eq at.cell c) [
+          | inl same ↦
+              inr (inl (inr (subst (λ fs. IsAmong s fs)
+              (same-list v c at.entries es (subst (λ i. Begins v i at.entries) same at.list) old) at.among)))
+          | inr off ↦ inr (inr (at, off))
+        ]
+      ]
+    ]
+
+    pub has-put_in : HasLists begins wider
+    has-put_in = has-changed begins v wider had c its es (entry ∷ es) old longer (number, numbers) kept-others fresh-or linked-or
+
+    pub put_in-list : Begins wider c (entry ∷ es)
+    put_in-list = longer
+
+-- ---- a link changes its tag, and holds what it held
+
+numbers-by : (e : Entry Val) (t : Tag) (es fs : List (Entry Val)) → AreNumbers (e ∷ es) → AreNumbers fs → (b : Bool) →
+    AreNumbers (if b then record e { tag = t } ∷ es else e ∷ fs)
+numbers-by e t es fs all more true = all
+numbers-by e t es fs all more false = (all.0, more)
+
+retagged-numbers : (k : ℕ) (t : Tag) (es : List (Entry Val)) → AreNumbers es → AreNumbers (retagged k t es)
+retagged-numbers k t [] all = tt
+retagged-numbers k t (e ∷ es) all = numbers-by e t es (retagged k t es) all (retagged-numbers k t es all.1) (e.slot == k)
+
+was-by : (s : ℕ) (e : Entry Val) (t : Tag) (es fs : List (Entry Val)) → (IsAmong s fs → IsAmong s es) → (b : Bool) →
+    IsAmong s (if b then record e { tag = t } ∷ es else e ∷ fs) → IsAmong s (e ∷ es)
+was-by s e t es fs more true among = among
+was-by s e t es fs more false (inl here) = inl here
+was-by s e t es fs more false (inr there) = inr (more there)
+
+retagged-was : (k : ℕ) (t : Tag) (s : ℕ) (es : List (Entry Val)) → IsAmong s (retagged k t es) → IsAmong s es
+retagged-was k t s [] among = among
+retagged-was k t s (e ∷ es) among = was-by s e t es (retagged k t es) (retagged-was k t s es) (e.slot == k) among
+
+still-by : (s : ℕ) (e : Entry Val) (t : Tag) (es fs : List (Entry Val)) → (IsAmong s es → IsAmong s fs) → IsAmong s (e ∷ es) → (b : Bool) →
+    IsAmong s (if b then record e { tag = t } ∷ es else e ∷ fs)
+still-by s e t es fs more among true = among
+still-by s e t es fs more (inl here) false = inl here
+still-by s e t es fs more (inr there) false = inr (more there)
+
+retagged-still : (k : ℕ) (t : Tag) (s : ℕ) (es : List (Entry Val)) → IsAmong s es → IsAmong s (retagged k t es)
+retagged-still k t s [] among = among
+retagged-still k t s (e ∷ es) among = still-by s e t es (retagged k t es) (retagged-still k t s es) among (e.slot == k)
+
+-- an item is an entry of a list, or it is not
+among-or : (s : ℕ) (es : List (Entry Val)) → IsAmong s es ⊎ (IsAmong s es → ⊥)
+among-or s [] = inr (λ never. never)
+among-or s (e ∷ es) = elim (cases_eq e.slot s) [
+  | inl here ↦ inl (inl here)
+  | inr far ↦ elim (among-or s es) [
+    | inl there ↦ inl (inr there)
+    | inr not ↦ inr (λ either. elim either [ inl here ↦ far here | inr there ↦ not there ])
+  ]
+]
+
+module _ (begins : ℕ → Type 0) (v : World Val) (outside : Claim → ℕ) (ledger : IsLedger holdings_of outside v)
+    (mine : (b : ℕ) → begins b → 1 ≤ outside (right_to b)) (had : HasLists begins v) (k : ℕ) (x : Val) (there : value_at v k ≡ Some x)
+    (cell now : CellContents) (holds : entry_at v.cells (link_of x) ≡ Some cell) (same : now.held ≡ cell.held) (plain : now.tag ≢ Both) where
+  abbrev tagged : World Val
+  tagged = with_cell v (link_of x) now
+
+  retag-list : (b : ℕ) → begins b → (es : List (Entry Val)) → Begins v b es → IsAsBefore begins v tagged had b es
+  retag-list b y es list = elim (among-or k es) [
+    | inl among ↦
+        (let at = among-link v k x es list.linked among there in
+        let here = linked-ends link_of v es at.0 at.1 at.2 list.linked in
+        let link : link_of at.0.value ≡ link_of x = ap link_of at.4 in
+        let cells : Some (record { held = first_slot at.1; tag = at.0.tag }) ≡ Some cell =
+        sym here.0.linked ∙ ap (λ (i : ℕ). entry_at v.cells i) link ∙ holds in
+        let held : now.held ≡ first_slot at.1 = same ∙ sym (ap held_in cells) in
+        let is : record { held = first_slot at.1; tag = now.tag } ≡ now = ap (λ (h : Option ℕ). record now { held = h }) (sym held) in
+        let made = retagged-list link_of v at.0 at.1 now.tag plain b no_tag es list at.2 in
+        record {
+          now = retagged at.0.slot now.tag es;
+          list = subst (λ (i : ℕ). Begins (with_cell v i now) b (retagged at.0.slot now.tag es)) link
+              (subst (λ (y : CellContents). Begins (with_cell v (link_of at.0.value) y) b (retagged at.0.slot now.tag es)) is made);
+          numbers = retagged-numbers at.0.slot now.tag es;
+          was = λ s also. retagged-was at.0.slot now.tag s es also;
+          still = λ s also. retagged-still at.0.slot now.tag s es also;
+        })
+    | inr not ↦
+        as-before (list-apart link_of v tagged b no_tag es (link_of x) now refl refl (link-apart v outside ledger b k x (mine b y) there)
+        (apart-item v outside ledger k x there es list.linked not) list)
+  ]
+
+  pub has-retagged : HasLists begins tagged
+  has-retagged =
+      has-kept begins v tagged had retag-list
+      (λ s z e. elim (had.linked s z e) [
+        | inl none ↦ elim (cases_eq (link_of z) (link_of x)) [
+          | inl is ↦
+              (let holds_now : entry_at tagged.cells (link_of x) ≡ Some now =
+              at-same v.cells (link_of x) (Some now) None (inside v.cells (link_of x) (ap is_some holds)) in
+              inl (ap (λ (i : ℕ). held_in (entry_at tagged.cells i)) is ∙ ap held_in holds_now ∙ same ∙ sym (ap held_in holds)
+              ∙ ap (λ (i : ℕ). held_in (entry_at v.cells i)) (sym is) ∙ none))
+          | inr far ↦ inl (ap held_in (at-other v.cells (link_of x) (link_of z) (Some now) None far) ∙ none)
+        ]
+        | inr at ↦ inr at
+      ])
+
+-- ---- a list begins in a cell that was free
+
+module _ (begins more : ℕ → Type 0) (v : World Val) (had : HasLists begins v) (c : ℕ) (free : IsEmptyAt v.cells c)
+    (new : (b : ℕ) → more b → begins b ⊎ (b ≡ c)) (old : (b : ℕ) → begins b → more b) where
+  abbrev begun : World Val
+  begun = nulled v c
+
+  pub off : (b : ℕ) (y : CellContents) → entry_at v.cells b ≡ Some y → b ≢ c
+  off b y holds same = absurd (let never : None ≡ Some y = sym free.1 ∙ ap (λ (i : ℕ). entry_at v.cells i) (sym same) ∙ holds in cc)
+
+  pub apart-free : (es : List (Entry Val)) → AreLinked link_of v es → Apart link_of c es
+  apart-free [] linked = tt
+  apart-free (e ∷ es) linked = (off (link_of e.value) _ linked.0.linked, apart-free es linked.1)
+
+  pub stays-begun : (b : ℕ) (es : List (Entry Val)) → Begins v b es → Begins begun b es
+  stays-begun b es list = list-apart link_of v begun b no_tag es c null refl refl (off b _ list.begins) (apart-free es list.linked) list
+
+  none-here : Begins begun c []
+  none-here = record { begins = at-same v.cells c (Some null) None free.0; linked = tt }
+
+  lists-begun : (b : ℕ) → begins b ⊎ (b ≡ c) → (es : List (Entry Val)) × Begins begun b es × AreNumbers es
+  lists-begun b (inl x) = let was = had.lists b x in (was.0, stays-begun b was.0 was.1, was.2)
+  lists-begun b (inr same) = ([], subst (λ (i : ℕ). Begins begun i []) (sym same) none-here, tt)
+
+  -- who has an entry had it
+  had-entry : (b s : ℕ) (es : List (Entry Val)) → begins b ⊎ (b ≡ c) → Begins begun b es → IsAmong s es → begins b × Begins v b es
+  had-entry b s es (inl x) list among =
+      let was = had.lists b x in
+      (x, subst (λ (fs : List (Entry Val)). Begins v b fs) (same-list begun b was.0 es (stays-begun b was.0 was.1) list) was.1)
+  had-entry b s es (inr same) list among =
+      absurd (subst (λ (fs : List (Entry Val)). IsAmong s fs) (same-list begun c es [] (subst (λ (i : ℕ). Begins begun i es) same list) none-here) among)
+
+  pub has-begun : HasLists more begun
+  has-begun = record {
+    lists = λ b x. lists-begun b (new b x);
+    apart = λ a b s es fs x y one two at also.
+        (let first = had-entry a s es (new a x) one at in
+        let second = had-entry b s fs (new b y) two also in
+        had.apart a b s es fs first.0 second.0 first.1 second.1 at also);
+    linked = λ s z e. elim (had.linked s z e) [
+      | inl none ↦ inl (elim (set-either v.cells c (link_of z) (Some null) None) [ inl set ↦ ap held_in set | inr kept ↦ ap held_in kept ∙ none ])
+      | inr at ↦
+          inr (record {
+            cell = at.cell;
+            entries = at.entries;
+            begun = old at.cell at.begun;
+            list = stays-begun at.cell at.entries at.list;
+            among = at.among;
+          })
+    ];
+  }
+
+-- ---- a list ends that has no entries
+
+module _ (begins fewer : ℕ → Type 0) (v : World Val) (outside : Claim → ℕ) (ledger : IsLedger holdings_of outside v) (had : HasLists begins v) (c : ℕ)
+    (mine : 1 ≤ outside (right_to c)) (empty : Begins v c []) (was : (b : ℕ) → fewer b → begins b × (b ≢ c))
+    (kept : (b : ℕ) → begins b → b ≢ c → fewer b) where
+  abbrev ended : World Val
+  ended = without_cell v c
+
+  stays-ended : (b : ℕ) → b ≢ c → (es : List (Entry Val)) → Begins v b es → Begins ended b es
+  stays-ended b far es list =
+      list-without link_of v ended b no_tag es c refl refl far (apart-own v outside ledger c mine es list.linked) list
+
+  was-there : (b : ℕ) (x : fewer b) (es : List (Entry Val)) → Begins ended b es → Begins v b es
+  was-there b x es list =
+      let had_it = was b x in
+      let first = had.lists b had_it.0 in
+      subst (λ (fs : List (Entry Val)). Begins v b fs) (same-list ended b first.0 es (stays-ended b had_it.1 first.0 first.1) list) first.1
+
+  pub has-ended : HasLists fewer ended
+  has-ended = record {
+    lists = λ b x. (let had_it = was b x in let first = had.lists b had_it.0 in (first.0, stays-ended b had_it.1 first.0 first.1, first.2));
+    apart = λ a b s es fs x y one two at also. had.apart a b s es fs (was a x).0 (was b y).0 (was-there a x es one) (was-there b y fs two) at also;
+    linked = λ s z e. elim (had.linked s z e) [
+      | inl none ↦ inl (elim (set-either v.cells c (link_of z) None None) [ inl set ↦ ap held_in set | inr same ↦ ap held_in same ∙ none ])
+      | inr at ↦ elim (cases_eq at.cell c) [
+        | inl same ↦
+            absurd (subst (λ (fs : List (Entry Val)). IsAmong s fs)
+            (same-list v c at.entries [] (subst (λ (i : ℕ). Begins v i at.entries) same at.list) empty) at.among)
+        | inr far ↦
+            inr (record {
+              cell = at.cell;
+              entries = at.entries;
+              begun = kept at.cell at.begun far;
+              list = stays-ended at.cell far at.entries at.list;
+              among = at.among;
+            })
+      ]
+    ];
+  }
+
+-- ---- a cell changes that begins no list, and that somebody has the right to
+
+module _ (begins : ℕ → Type 0) (v : World Val) (outside : Claim → ℕ) (ledger : IsLedger holdings_of outside v) (had : HasLists begins v) (c : ℕ)
+    (mine : 1 ≤ outside (right_to c)) (off : (b : ℕ) → begins b → b ≢ c) (now : CellContents) where
+  pub has-beside : HasLists begins (with_cell v c now)
+  has-beside =
+      has-kept begins v (with_cell v c now) had
+      (λ b x es list. as-before (list-apart link_of v (with_cell v c now) b no_tag es c now refl refl (off b x)
+      (apart-own v outside ledger c mine es list.linked) list))
+      (λ s z e. elim (had.linked s z e) [
+        | inl none ↦ inl (ap held_in (at-other v.cells c (link_of z) (Some now) None (λ same. link-apart v outside ledger c s z mine e (sym same))) ∙ none)
+        | inr at ↦ inr at
+      ])
+
+-- ---- a value changes in its place, of an item that is in no list
+
+module _ (begins : ℕ → Type 0) (v : World Val) (had : HasLists begins v) (k : ℕ) (was now : Val) (there : value_at v k ≡ Some was)
+    (same : link_of now ≡ link_of was) (alone : IsListed begins v k → ⊥) where
+  values-kept : (es : List (Entry Val)) → (IsAmong k es → ⊥) → AreLinked link_of v es → AreLinked link_of (with_value v k now) es
+  values-kept [] not linked = tt
+  values-kept (e ∷ es) not linked = (
+    record {
+      there = at-other v.values k e.slot (Some now) None (λ is. not (inl is)) ∙ linked.0.there;
+      linked = linked.0.linked;
+      plain = linked.0.plain;
+    },
+    values-kept es (λ more. not (inr more)) linked.1,
+  )
+
+  pub has-edited : HasLists begins (with_value v k now)
+  has-edited =
+      has-kept begins v (with_value v k now) had
+      (λ b x es list. as-before (record {
+        begins = list.begins;
+        linked = values-kept es (λ among. alone (record { cell = b; entries = es; begun = x; list = list; among = among })) list.linked;
+      }))
+      (λ s z e. elim (cases_eq s k) [
+        | inl is ↦
+            (let here : value_at (with_value v k now) k ≡ Some now = at-same v.values k (Some now) None (inside v.values k (ap is_some there)) in
+            let both : Some now ≡ Some z = sym here ∙ ap (λ (i : ℕ). value_at (with_value v k now) i) (sym is) ∙ e in
+            let z_is : now ≡ z = cc in
+            let link : link_of z ≡ link_of was = ap link_of (sym z_is) ∙ same in
+            elim (had.linked k was there) [
+              | inl none ↦ inl (ap (λ (i : ℕ). held_in (entry_at v.cells i)) link ∙ none)
+              | inr at ↦ absurd (alone at)
+            ])
+        | inr far ↦ had.linked s z (sym (at-other v.values k s (Some now) None far) ∙ e)
+      ])
+
+-- ---- cells and values are as they were
+
+pub has-same : (begins : ℕ → Type 0) (v w : World Val) → w.cells ≡ v.cells → w.values ≡ v.values → HasLists begins v → HasLists begins w
+has-same begins v w cells values had =
+    has-kept begins v w had (λ b x es list. as-before (list-same link_of v w b no_tag es cells values list))
+    (λ s z e. elim (had.linked s z (ap (λ (vs : List (Option Val)). slice_index_or vs s None) (sym values) ∙ e)) [
+      | inl none ↦ inl (ap (λ (cs : Entries CellContents). held_in (entry_at cs (link_of z))) cells ∙ none)
+      | inr at ↦ inr at
+    ])
+
+-- ---- an item is made: its value is in no list yet, and its link holds nothing
+
+module _ (begins : ℕ → Type 0) (v w : World Val) (k : ℕ) (x : Val) (had : HasLists begins v) (cells : w.cells ≡ v.cells)
+    (values : w.values ≡ slice_set v.values k (Some x)) (free : value_at v k ≡ None) (bare_link : held_in (entry_at v.cells (link_of x)) ≡ None) where
+  stays-made : (es : List (Entry Val)) → AreLinked link_of v es → AreLinked link_of w es
+  stays-made [] linked = tt
+  stays-made (e ∷ es) linked =
+      let far : e.slot ≢ k = λ same.
+      absurd (let never : None ≡ Some e.value = sym free ∙ ap (λ (i : ℕ). value_at v i) (sym same) ∙ linked.0.there in cc) in (
+        record {
+          there = ap (λ (vs : List (Option Val)). slice_index_or vs e.slot None) values ∙ at-other v.values k e.slot (Some x) None far ∙ linked.0.there;
+          linked = ap (λ (cs : Entries CellContents). entry_at cs (link_of e.value)) cells ∙ linked.0.linked;
+          plain = linked.0.plain;
+        },
+        stays-made es linked.1,
+      )
+
+  pub has-made : k < length v.values → HasLists begins w
+  has-made long =
+      has-kept begins v w had
+      (λ b y es list. as-before (record {
+        begins = ap (λ (cs : Entries CellContents). entry_at cs b) cells ∙ list.begins;
+        linked = stays-made es list.linked;
+      }))
+      (λ s z e. elim (cases_eq s k) [
+        | inl is ↦
+            (let here : value_at w k ≡ Some x =
+            ap (λ (vs : List (Option Val)). slice_index_or vs k None) values ∙ at-same v.values k (Some x) None long in
+            let both : Some x ≡ Some z = sym here ∙ ap (λ (i : ℕ). value_at w i) (sym is) ∙ e in
+            let z_is : x ≡ z = cc in
+            inl (ap (λ (cs : Entries CellContents). held_in (entry_at cs (link_of z))) cells
+            ∙ ap (λ (i : ℕ). held_in (entry_at v.cells i)) (ap link_of (sym z_is)) ∙ bare_link))
+        | inr far ↦
+            (let was = sym (at-other v.values k s (Some x) None far) ∙ ap (λ (vs : List (Option Val)). slice_index_or vs s None) (sym values) ∙ e in
+            elim (had.linked s z was) [
+              | inl none ↦ inl (ap (λ (cs : Entries CellContents). held_in (entry_at cs (link_of z))) cells ∙ none)
+              | inr at ↦ inr at
+            ])
+      ])
+
+-- ---- cells are freed, but none of a list: each is somebody's, or a value's
+
+module _ (begins : ℕ → Type 0) (v w : World Val) (outside : Claim → ℕ) (ledger : IsLedger holdings_of outside w)
+    (mine : (c : ℕ) → begins c → 1 ≤ outside (right_to c)) (had : HasLists begins v) (values : w.values ≡ v.values)
+    (cells : (i : ℕ) → (entry_at w.cells i ≡ entry_at v.cells i) ⊎ (entry_at w.cells i ≡ None)) where
+  still-taken : (i : ℕ) → 1 ≤ outside (right_to i) + inner holdings_of w (right_to i) → entry_at w.cells i ≡ entry_at v.cells i
+  still-taken i some = elim (cells i) [
+    | inl same ↦ same
+    | inr gone ↦
+        (let taken : is_some (entry_at w.cells i) ≡ true = once-waits (is_some (entry_at w.cells i)) (omega (arith, ledger (right_to i), some)) in
+        absurd (let never : false ≡ true = sym (ap is_some gone) ∙ taken in cc))
+  ]
+
+  linked-freed : (es : List (Entry Val)) → AreLinked link_of v es → AreLinked link_of w es
+  linked-freed [] linked = tt
+  linked-freed (e ∷ es) linked =
+      let there : value_at w e.slot ≡ Some e.value = ap (λ (vs : List (Option Val)). slice_index_or vs e.slot None) values ∙ linked.0.there in
+      let inner = link-inside w outside ledger e.slot e.value there in (
+        record { there = there; linked = still-taken (link_of e.value) (omega (arith, inner)) ∙ linked.0.linked; plain = linked.0.plain },
+        linked-freed es linked.1,
+      )
+
+  pub has-freed : HasLists begins w
+  has-freed =
+      has-kept begins v w had
+      (λ c x es list. as-before (record { begins = still-taken c (omega (arith, mine c x)) ∙ list.begins; linked = linked-freed es list.linked }))
+      (λ s z e. elim (had.linked s z (ap (λ (vs : List (Option Val)). slice_index_or vs s None) (sym values) ∙ e)) [
+        | inl none ↦ inl (elim (cells (link_of z)) [ inl same ↦ ap held_in same ∙ none | inr gone ↦ ap held_in gone ])
+        | inr at ↦ inr at
+      ])

@@ -1,0 +1,225 @@
+-- What is always true of a desk is true after a push onto a stack: an item is made, and then put in front
+use Rattle.std.proofs.Common.{◌≡◌, ◌+◌, ◌^◌, ◌<◌, inl, inr, ℕ, List, [], ◌∷◌, Bool, true, false, Option, Some, None, is_some, length, slice_index_or, refl, sym, ap, ◌∙◌, subst, arith}
+use Rattle.std.specs.Prelude.{max, if◌then◌else◌}
+use Rattle.std.proofs.lemmas.Bool.{cases_eq}
+use Rattle.std.proofs.lemmas.List.{length-set, set-set}
+use Rattle.sdd_core.specs.declared.tag.Tag.TheVariants.{None as no_tag, Second}
+use Rattle.sdd_participants.specs.Slab.{Entries, IsEmptyAt, entry_at}
+use Rattle.sdd_participants.specs.declared.standing.Standing.{Standing}
+use Rattle.sdd_participants.specs.declared.standing.Standing.TheVariants.{Owned, Shared}
+use Rattle.sdd_standings.specs.Slots.{IsSharedBy, is_waiting}
+use Rattle.sdd_space.specs.OwnerOrCell.{OwnerOrCell}
+use Rattle.sdd_space.specs.OwnerOrCell as holding
+use Rattle.sdd_space.specs.Ledger.{Claim, owner_of, one}
+use Rattle.sdd_space.specs.Ledger.Moves.{shares}
+use Rattle.sdd_space.specs.World.{World, IsPlaceOf, standing_at, value_at}
+use Rattle.sdd_space.specs.WorldChanges.{made_as, nulled, with_cell, with_standing}
+use Rattle.sdd_space.specs.WorldInvariant.{IsWhole}
+use Rattle.sdd_space.proofs.Ledger.{ledger-laws}
+use Rattle.sdd_space.proofs.Whole.{filled-there}
+use Rattle.sdd_lists.specs.Ends.{IsAmong}
+use Rattle.sdd_lists.specs.Lists.{AreLinked, Entry, first_slot, is_deleted, left, let_go_first, linked_in, trimmed}
+use Rattle.sdd_lists.proofs.Lists.{list-same}
+use Rattle.sdd_lists.proofs.Pushing.{list-made, trim-other, trim-values}
+use Rattle.sdd_script_text.specs.declared.call.Value.TheVariants.{Number}
+use Rattle.sdd_script_model.specs.declared.owner_kind.OwnerKind.TheVariants as ownership
+use Rattle.sdd_script_model.specs.Listed.{Begins, IsListed, IsNumber}
+use Rattle.sdd_script_model.specs.Script.{AreCalls}
+use Rattle.sdd_script_model.specs.Script.AreCalls.{none as no_call, one_more}
+use Rattle.sdd_script_model.specs.ScriptState.{ScriptState, IsDated, IsStackCell, in_world, with_item, with_owner}
+use Rattle.sdd_script_model.specs.Sound.{IsSound, named, stacked}
+use Rattle.sdd_script_model.specs.Stacks.{IsStack, Pushes}
+use Rattle.sdd_script_model.specs.Val.{Val, body_of, holdings_of, link_of}
+use Rattle.sdd_script_model.proofs.Chains.{IsMidway, LeavesSound, finishes, moves, starts}
+use Rattle.sdd_script_model.proofs.Counting.{owner-given}
+use Rattle.sdd_script_model.proofs.Entry.{at-other, at-same}
+use Rattle.sdd_script_model.proofs.Entry.{inside as inside-list}
+use Rattle.sdd_script_model.proofs.Going.{made-leaves, made-whole}
+use Rattle.sdd_script_model.proofs.Gone.{given-other}
+use Rattle.sdd_script_model.proofs.Layers.{filled-long}
+use Rattle.sdd_script_model.proofs.Links.{null, same-once}
+use Rattle.sdd_script_model.proofs.Listed.{listed-inside}
+use Rattle.sdd_script_model.proofs.ListChanges.{apart-free, off, stays-begun}
+use Rattle.sdd_script_model.proofs.StackChains.{IsWith, puts-in, trims}
+use Rattle.sdd_script_model.proofs.StackGoing.{IsDatedWithin, dated-all, numbers}
+
+-- ---- one after another
+
+calls-then : {u v w : World Val} → AreCalls u v → AreCalls v w → AreCalls u w
+calls-then a (no_call w) = a
+calls-then {u} a (one_more t v w calls step) = one_more u v w (calls-then a calls) step
+
+-- what is sound after one act and then another, is so after both
+pub leaves-then : {d mid new : ScriptState} → LeavesSound d mid → LeavesSound mid new → IsDated d new → LeavesSound d new
+leaves-then a b dated = record {
+  line = b.line ∙ a.line;
+  places = b.places ∙ a.places;
+  sound = b.sound;
+  dated = dated;
+  calls = calls-then a.calls b.calls;
+  home = b.home ∙ a.home;
+}
+
+-- ---- a slot that is free is that of no entry, and letting go of entries leaves other slots
+
+free-unlisted : (w : World Val) (k : ℕ) (es : List (Entry Val)) → value_at w k ≡ None → AreLinked link_of w es → IsAmong k es → ⊥
+free-unlisted w k [] free linked among = among
+free-unlisted w k (e ∷ es) free linked (inl here) =
+    let never : None ≡ Some e.value = sym free ∙ ap (λ (i : ℕ). value_at w i) (sym here) ∙ linked.0.there in cc
+free-unlisted w k (e ∷ es) free linked (inr there) = free-unlisted w k es free linked.1 there
+
+stands-if : (w u : World Val) (k : ℕ) → standing_at u k ≡ standing_at w k → (b : Bool) → standing_at (if b then u else w) k ≡ standing_at w k
+stands-if w u k same true = same
+stands-if w u k same false = refl
+
+stands-still : (w : World Val) (p c k : ℕ) (es : List (Entry Val)) → (IsAmong k es → ⊥) → standing_at (trimmed link_of w p c no_tag es) k ≡ standing_at w k
+stands-still w p c k [] not = refl
+stands-still w p c k (e ∷ es) not =
+    let u : World Val = let_go_first w p c no_tag e.slot (link_of e.value) (first_slot es) in
+    let v : World Val = with_cell (with_cell w (link_of e.value) (record { held = None; tag = Second })) c (record { held = first_slot es; tag = no_tag }) in
+    let first : standing_at u k ≡ standing_at w k = given-other v p e.slot k (standing_at w e.slot) refl (λ same. not (inl (sym same))) in
+    stands-if w (trimmed link_of u p c no_tag es) k (stands-still u p c k es (λ more. not (inr more)) ∙ first) (is_deleted e)
+
+-- ---- a push
+
+module _ (d : ScriptState) (s : IsSound d) (whole : IsWhole d.world) (p c : ℕ) (live : IsPlaceOf d.world p) (n : ℕ) (es : List (Entry Val)) (is : IsStack d n c es)
+    (number k : ℕ) (w : World Val) (pushes : Pushes d.world p c es number k w) (few : length d.slots + 1 < 2 ^ 128) (dates : List ℕ) where
+  abbrev x : Val
+  x = pushes.entry
+
+  abbrev l : ℕ
+  l = link_of pushes.entry
+
+  abbrev owner : OwnerOrCell
+  owner = holding.shared k d.world.home.slots
+
+  -- an item is made, with one owner, which has a name
+  abbrev mid : ScriptState
+  mid = with_owner (in_world (with_item d k) (made_as (nulled d.world (link_of pushes.entry)) k pushes.entry (Shared 1))) owner
+
+  abbrev pub after_pushed : ScriptState
+  after_pushed = record (with_owner (in_world (with_item d k) w) owner) { dates = dates }
+
+  slot : IsEmptyAt d.world.standings k
+  slot = pushes.pushed.free
+
+  made : LeavesSound d mid
+  made = made-leaves d s whole ownership.Shared (Number number) p k l x live pushes.free slot pushes.body refl few
+
+  mid-whole : IsWhole mid.world
+  mid-whole = made-whole d s whole ownership.Shared (Number number) p k l x live pushes.free slot pushes.body refl few
+
+  free-value : value_at d.world k ≡ None
+  free-value = none-of (value_at d.world k) (filled-there d.world k whole.filled ∙ ap is_some slot.1) where
+    none-of : (v : Option Val) → is_some v ≡ false → v ≡ None
+    none-of None none = refl
+    none-of (Some v) none = absurd (cc)
+
+  not-among : IsAmong k es → ⊥
+  not-among among = free-unlisted d.world k es free-value is.list.linked among
+
+  -- the list stays over it
+  list-celled : Begins (nulled d.world (link_of pushes.entry)) c es
+  list-celled = stays-begun (IsStackCell d) (IsStackCell d) d.world s.lists l pushes.free (λ b y. inl y) (λ b y. y) c es is.list
+
+  -- it has one owner more, which is in hand
+  abbrev outside : Claim → ℕ
+  outside u = named mid u + one (owner_of k) u
+
+  abbrev twice : World Val
+  twice = with_standing mid.world k (Shared 2)
+
+  stands-once : standing_at mid.world k ≡ Some (Shared 1)
+  stands-once = at-same d.world.standings k (Some (Shared 1)) None slot.0
+
+  once : IsSharedBy 1 (standing_at mid.world k)
+  once = record { shared = stands-once; some = omega arith; most = omega arith }
+
+  in-hand : IsMidway mid twice outside
+  in-hand = moves (starts mid made.sound mid-whole) (shares mid.world k 1 once) tt (named mid) (λ u. omega arith) (λ u never. absurd never)
+
+  its : IsStackCell mid c
+  its = (n, is.named)
+
+  list-twice : Begins twice c es
+  list-twice =
+      list-same link_of mid.world twice c no_tag es refl refl
+      (list-made link_of (nulled d.world (link_of pushes.entry)) c no_tag k x (Shared 1) es free-value list-celled)
+
+  with-it : IsWith mid outside p c its live twice es
+  with-it = record { midway = in-hand; list = list-twice; numbers = numbers d s whole p c live n es is }
+
+  -- the deleted ones in front are let go of
+  abbrev freed_front : World Val
+  freed_front = trimmed link_of twice p c no_tag es
+
+  trimmed-so : IsWith mid outside p c its live freed_front (left es)
+  trimmed-so = trims mid outside p c its live twice es with-it
+
+  there : value_at freed_front k ≡ Some x
+  there =
+      ap (λ (vs : List (Option Val)). slice_index_or vs k None) (trim-values link_of twice p c no_tag es)
+      ∙ at-same d.world.values k (Some x) None (omega (arith, slot.0, filled-long d.world.values d.world.standings whole.filled))
+
+  clear : entry_at freed_front.cells l ≡ Some null
+  clear =
+      trim-other link_of twice p c no_tag es l
+      (λ same. off (IsStackCell d) (IsStackCell d) d.world s.lists l pushes.free (λ b y. inl y) (λ b y. y) c _ is.list.begins (sym same))
+      (apart-free (IsStackCell d) (IsStackCell d) d.world s.lists l pushes.free (λ b y. inl y) (λ b y. y) es is.list.linked)
+      ∙ at-same d.world.cells l (Some null) None pushes.free.0
+
+  stands-twice : standing_at freed_front k ≡ Some (Shared 2)
+  stands-twice =
+      stands-still twice p c k es not-among
+      ∙ at-same mid.world.standings k (Some (Shared 2)) None (inside-list mid.world.standings k (ap is_some stands-once))
+
+  -- both its owners are outside, so it is in no list
+  unlisted : IsListed (IsStackCell mid) freed_front k → ⊥
+  unlisted at =
+      let m = trimmed-so.midway in
+      let inner = listed-inside freed_front (λ u. outside u + stacked mid.stacks u) m.ledger (IsStackCell mid) k at in
+      let mine = owner-given d.owners d.cells d.collectors owner k refl (owner_of k) in
+      let stands = ((ledger-laws holdings_of freed_front).tells _ m.ledger).stands k (omega (arith, inner)) in
+      elim stands [
+        | inl sole ↦ (let never : Some (Shared 2) ≡ Some Owned = sym stands-twice ∙ sole.0 in absurd (cc))
+        | inr several ↦
+            (let both : Some (Shared 2) ≡ Some (Shared several.0) = sym stands-twice ∙ several.1 in
+            let two : several.0 ≡ 2 = cc in
+            absurd (omega (arith, several.2, ap (max 1) two, inner, mine, same-once k)))
+      ]
+
+  number-in : IsNumber (body_of x)
+  number-in = subst (λ b. IsNumber b) (sym pushes.body) tt
+
+  put : IsMidway mid (linked_in freed_front c no_tag (link_of pushes.entry) k (first_slot (left es))) (named mid)
+  put = puts-in trimmed-so.midway p c its k x (left es) trimmed-so.list trimmed-so.numbers there clear number-in unlisted (named mid) (λ u. refl)
+
+  -- two owners at once, or one after the other
+  made-twice : twice ≡ made_as (nulled d.world (link_of pushes.entry)) k pushes.entry (Shared 2)
+  made-twice = ap (λ (ss : Entries Standing). record mid.world { standings = ss }) (set-set d.world.standings k (Some (Shared 1)) (Some (Shared 2)))
+
+  world-is : linked_in freed_front c no_tag (link_of pushes.entry) k (first_slot (left es)) ≡ w
+  world-is =
+      ap (λ (u : World Val). linked_in (trimmed link_of u p c no_tag es) c no_tag (link_of pushes.entry) k (first_slot (left es))) made-twice
+      ∙ sym pushes.pushed.world
+
+  -- what waits didn't begin to by the making
+  waits-as : (j : ℕ) → is_waiting (standing_at mid.world j) ≡ is_waiting (standing_at d.world j)
+  waits-as j = elim (cases_eq j k) [
+    | inl same ↦
+        ap (λ (i : ℕ). is_waiting (standing_at mid.world i)) same ∙ ap is_waiting stands-once ∙ sym (ap is_waiting slot.1)
+        ∙ ap (λ (i : ℕ). is_waiting (standing_at d.world i)) (sym same)
+    | inr far ↦ ap is_waiting (at-other d.world.standings k j (Some (Shared 1)) None far)
+  ]
+
+  done : IsMidway mid w (named mid)
+  done = subst (λ (u : World Val). IsMidway mid u (named mid)) world-is put
+
+  pub pushed-leaves : IsDatedWithin d after_pushed → LeavesSound d after_pushed
+  pushed-leaves within =
+      let long = done.frames.slots.slots ∙ length-set d.world.standings k (Some (Shared 1)) in
+      let dated = dated-all d after_pushed s.stocked long within in
+      let later : IsDated mid after_pushed = record { dated = λ j. rw (waits-as j) (dated.dated j); long = dated.long } in
+      leaves-then made
+      (finishes mid w mid.owners mid.cells mid.collectors dates made.sound done
+      (λ u. refl) (made.sound.home.owners, made.sound.home.cells, made.sound.home.collectors) later p live) dated

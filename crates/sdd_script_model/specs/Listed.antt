@@ -1,0 +1,43 @@
+-- Lists of numbers that begin in known cells
+use Rattle.std.specs.Prelude.{ℕ, ◌≡◌, ◌⊎◌, List, [], ◌∷◌, None, Some}
+use Rattle.sdd_core.specs.declared.tag.Tag.TheVariants.{None as no_tag}
+use Rattle.sdd_participants.specs.Slab.{entry_at}
+use Rattle.sdd_space.specs.World.{World, value_at}
+use Rattle.sdd_space.specs.WorldChanges.{held_in}
+use Rattle.sdd_lists.specs.Ends.{IsAmong}
+use Rattle.sdd_lists.specs.Lists.{Entry, IsList}
+use Rattle.sdd_script_model.specs.declared.val.Body.{Body}
+use Rattle.sdd_script_model.specs.declared.val.Body.TheVariants.{Number, Owned, Shared}
+use Rattle.sdd_script_model.specs.Val.{Val, body_of, link_of}
+
+-- it is a number, and no owner
+abbrev pub IsNumber : Body → Type 0
+IsNumber (Number n) = Unit {0}
+IsNumber (Owned o) = ⊥
+IsNumber (Shared o) = ⊥
+
+-- each entry has a number
+abbrev pub AreNumbers : List (Entry Val) → Type 0
+AreNumbers [] = Unit {0}
+AreNumbers (e ∷ es) = IsNumber (body_of e.value) × AreNumbers es
+
+-- the list that begins in cell c has these entries
+abbrev pub Begins : World Val → (c : ℕ) → List (Entry Val) → Type 0
+Begins w c es = IsList link_of w c no_tag es
+
+-- a list begins in each of these cells
+module _ (begins : ℕ → Type 0) where
+  -- the item in slot s is an entry of one of the lists
+  pub record IsListed (w : World Val) (s : ℕ) : Type 0 where
+    pub cell : ℕ
+    pub entries : List (Entry Val)
+    pub begun : begins cell
+    pub list : Begins w cell entries
+    pub among : IsAmong s entries
+
+  pub record HasLists (w : World Val) : Type 0 where
+    pub lists : (c : ℕ) → begins c → (es : List (Entry Val)) × Begins w c es × AreNumbers es
+    -- no entry is in two
+    pub apart : (b c s : ℕ) (es fs : List (Entry Val)) → begins b → begins c → Begins w b es → Begins w c fs → IsAmong s es → IsAmong s fs → b ≡ c
+    -- a link holds nothing, or is that of an entry of one
+    pub linked : (s : ℕ) (v : Val) → value_at w s ≡ Some v → (held_in (entry_at w.cells (link_of v)) ≡ None) ⊎ IsListed w s
