@@ -90,7 +90,7 @@ impl Crowd {
 
     /// How the item stands.
     fn standing(&self) -> Option<Standing> {
-        standing_of(&self.world, inner::slot_of_shared(&self.owner))
+        standing_of(&self.world, inner::slot_of_shared(&self.owner).number())
     }
 
     /// What one owner more is refused with, and beside it yet another. Who is had is given up again.

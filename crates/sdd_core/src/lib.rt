@@ -5,9 +5,11 @@ pub mod epoch;
 pub mod inner;
 pub mod limits;
 pub mod refused;
+pub mod slot_name;
 pub mod tag;
 
 pub use epoch::Epoch;
 pub use limits::Limits;
 pub use refused::Refused;
+pub use slot_name::SlotName;
 pub use tag::Tag;

@@ -3,6 +3,7 @@ ghost use Rattle.std.specs.Prelude.{◌≡◌, ◌<◌, IfOk, None, length, repl
 ghost use Rattle.sdd_participants.specs.Slab.{entry_at, with_entry, without_entry};
 ghost use Rattle.sdd_domain.specs.PrivateTable.{standings_of};
 
+use sdd_core::SlotName;
 use sdd_participants::{Standing, StandingLookup};
 use std::alloc::{AllocError, Global};
 use std::marker::Model;
@@ -29,8 +30,8 @@ impl Model for PrivateTable {
 impl StandingLookup for PrivateTable {
     ghost standings = { λ t. standings_of t };
 
-    fn stands(&self, slot: u32) -> Option<Standing> {
-        match self.collector(slot) {
+    fn stands(&self, slot: SlotName) -> Option<Standing> {
+        match self.collector(slot.number()) {
             Some(collector) => Some(Standing::Private(collector)),
             None => None,
         }

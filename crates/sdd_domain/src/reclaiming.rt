@@ -206,7 +206,7 @@ impl<T: Item<T>, J: Job> LocalGiver<'_, T, J> {
         ensures exact { IsLone self.old.member → world_of self.new ≡ reclaimed T.holds (world_of self.old) self.old.member.place what }
     {
         match what {
-            LimboEntry::Item(slot) => self.reclaim_item(slot),
+            LimboEntry::Item(slot) => self.reclaim_item(slot.number()),
             LimboEntry::Job(place) => self.run_job(place),
         }
     }
@@ -284,7 +284,7 @@ impl<T: Item<T>, J: Job> LocalGiver<'_, T, J> {
             ≡ all_reclaimed T.holds (world_of self.old) self.old.member.place self.old.member.due }
     {
         while let Some(LimboEntry::Item(slot)) = self.membership.first_due() {
-            self.empty_item(slot, collector);
+            self.empty_item(slot.number(), collector);
         }
     }
 

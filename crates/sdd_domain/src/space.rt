@@ -8,7 +8,7 @@ mod raw_cells;
 use crate::domain::Domain;
 use crate::local::Local;
 use crate::reclaiming::LocalGiver;
-use sdd_core::Refused;
+use sdd_core::{Refused, SlotName};
 use sdd_participants::Job;
 use sdd_rights::{Right, StandingKind};
 use sdd_space::inner::value_of_ptr;
@@ -288,7 +288,7 @@ impl<T: Item<T>, J: Job> SharedItems<T> for Local<'_, T, J> {
 
     ghost asks_sight = { λ p. ¬ (IsLone p.member) };
 
-    fn get_shared(&mut self, slot: u32) -> Result<Option<Right>, Refused> {
+    fn get_shared(&mut self, slot: SlotName) -> Result<Option<Right>, Refused> {
         self.partner.ledger.codes();
         self.partner.membership.own_seen(slot)
     }
@@ -319,17 +319,17 @@ impl<T: Item<T>, J: Job> InPlaceItems<T> for Local<'_, T, J> {
 
 impl<T: Item<T>, J: Job> RawItems<T> for Local<'_, T, J> {
     #[inline]
-    fn into_raw(&mut self, right: Right) -> u32 {
+    fn into_raw(&mut self, right: Right) -> SlotName {
         self.partner.membership.into_raw(right)
     }
 
     #[inline]
-    fn from_raw(&mut self, slot: u32) -> Option<Right> {
+    fn from_raw(&mut self, slot: SlotName) -> Option<Right> {
         self.partner.membership.from_raw(slot)
     }
 
     #[inline]
-    fn get_guarded_raw<'g>(&mut self, slot: u32, guard: &'g Guard) -> Option<&'g T> {
+    fn get_guarded_raw<'g>(&mut self, slot: SlotName, guard: &'g Guard) -> Option<&'g T> {
         self.partner.ledger.codes();
         self.partner.membership.get_guarded_raw(slot, guard)
     }

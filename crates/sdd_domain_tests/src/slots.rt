@@ -38,7 +38,7 @@ fn uses_slot(rt: &impl Abort, local: &mut Local<'_, u64>, slot: u32)
     ensures { seat_of local.new ≡ seat_of local.old }
 {
     let owner = made(rt, local, u64::from(slot));
-    assert_eq!(rt; slot_of_owner(&owner), slot);
+    assert_eq!(rt; slot_of_owner(&owner).number(), slot);
     retire(owner, local);
 }
 
@@ -52,7 +52,7 @@ fn fills(rt: &impl Abort, local: &mut Local<'_, u64>, slot: u32, items: u32)
         return;
     }
     let owner = made(rt, local, u64::from(slot));
-    assert_eq!(rt; slot_of_owner(&owner), slot);
+    assert_eq!(rt; slot_of_owner(&owner).number(), slot);
     fills(rt, local, slot.wrapping_add(1) % 12, items - 1);
     retire(owner, local);
 }
@@ -142,7 +142,7 @@ fn closes_without_owner_in(rt: &(impl Abort + AllocGlobal), slot: u32) {
     let mut local = registered(rt, &domain);
     uses_slots(rt, &mut local, 0, slot);
     let owner = made(rt, &mut local, 7);
-    assert_eq!(rt; slot_of_owner(&owner), slot);
+    assert_eq!(rt; slot_of_owner(&owner).number(), slot);
     uses_slots(rt, &mut local, slot.saturating_add(1), 5000);
     has_no_slot(rt, &mut local, 8);
     let receipts = vec![in rt.alloc(); ended(rt, local)].expect(rt, "there is memory");

@@ -58,7 +58,7 @@ pub fn load(stage: &mut Interpreter, name: PlaceName, cell: CellName, guard: Gua
     stage.hand.world.is_whole();
     let loaded = cell_loaded(&mut stage.hand.world, &attending.place, cell, &held.guard);
     let item = match loaded.held {
-        Some(slot) => Some(ItemName(stage.hand.names[slot as usize])),
+        Some(slot) => Some(ItemName(stage.hand.names[slot.number() as usize])),
         None => None,
     };
     Reply::Pointer(item, loaded.tag)

@@ -28,7 +28,7 @@ pub fn retire(stage: &mut Interpreter, name: PlaceName, owner: OwnerName) -> Rep
     stage.hand.world.is_whole();
     let slot = slot_of_owner(&owner);
     retire_item(&mut stage.hand.world, &attending.place, owner);
-    stage.hand.dates[slot as usize] = stage.hand.moment;
+    stage.hand.dates[slot.number() as usize] = stage.hand.moment;
     Reply::Done
 }
 
@@ -46,7 +46,7 @@ pub fn release(stage: &mut Interpreter, name: PlaceName, owner: OwnerName) -> Re
     let slot = slot_of_shared(&owner);
     let was_last = release_owner(&mut stage.hand.world, &attending.place, owner);
     if was_last {
-        stage.hand.dates[slot as usize] = stage.hand.moment;
+        stage.hand.dates[slot.number() as usize] = stage.hand.moment;
     }
     Reply::Truth(was_last)
 }

@@ -86,7 +86,7 @@ pub fn put_out_raw(stage: &mut Interpreter, name: PlaceName, owner: OwnerName) -
     stage.hand.world.is_whole();
     let slot = slot_of_owner(&owner);
     step_at(&mut stage.hand.world, &attending.place, GoRaw { owner });
-    Reply::Raw(ItemName(stage.hand.names[slot as usize]))
+    Reply::Raw(ItemName(stage.hand.names[slot.number() as usize]))
 }
 
 /// `P unraw I`: the owner of an item that is out as raw, or none. Refused where memory for its name is, and then nothing has changed.

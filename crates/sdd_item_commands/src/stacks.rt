@@ -60,7 +60,7 @@ pub fn push(
         Ok(owner) => owner,
         Err(refused) => return Ok(Reply::Refused(refused)),
     };
-    let slot = slot_of_shared(&owner);
+    let slot = slot_of_shared(&owner).number();
     let item = stage.hand.slots.len() as u64;
     stage.hand.names[slot as usize] = item;
     stage.hand.slots.push_reserved(slot);

@@ -16,7 +16,7 @@ ghost use Rattle.sdd_lists.specs.Lists.{AreLinked, Entry, IsList, content, first
 ghost use Rattle.sdd_lists.specs.Queue.{IsNoneOrAmong, IsQueue, is_at, lets_go_of};
 
 use crate::linked_list::LinkedList;
-use sdd_core::{Refused, Tag};
+use sdd_core::{Refused, SlotName, Tag};
 use sdd_space::inner::slot_of_ptr;
 use sdd_space::laws::values_fit_slots;
 use sdd_space::{AtomicShared, Cells, Guard, Item, Items, LookThrough, Ptr};
@@ -226,7 +226,7 @@ pub(crate) fn slot_in<T: Item<T>, S: Cells<T>>(
     cell: &AtomicShared<T>,
     guard: &Guard,
     s: &mut S,
-) -> Option<u32>
+) -> Option<SlotName>
     requires seated { IsSeated (S.seat s.old) }
     requires home { cells_home cell.now ≡ (S.seat s.old).home.cells }
     requires reader { reader_of guard.now ≡ (S.seat s.old).reader }
@@ -238,7 +238,7 @@ pub(crate) fn slot_in<T: Item<T>, S: Cells<T>>(
 }
 
 /// The pointer names the slot.
-fn is_named<T>(ptr: &Ptr<'_, T>, watched: Option<u32>) -> bool
+fn is_named<T>(ptr: &Ptr<'_, T>, watched: Option<SlotName>) -> bool
     ensures { (e : Entry T) → slot_named ptr.now ≡ Some e.slot → result ≡ is_at watched e }
 {
     match (slot_of_ptr(ptr), watched) {
@@ -250,7 +250,7 @@ fn is_named<T>(ptr: &Ptr<'_, T>, watched: Option<u32>) -> bool
 /// The watched slot is that of the first entry that isn't deleted, or of one before it.
 pub(crate) fn is_let_go_of<T: LinkedList, S: Items<T> + Cells<T> + LookThrough<T>>(
     cell: &AtomicShared<T>,
-    watched: Option<u32>,
+    watched: Option<SlotName>,
     guard: &Guard,
     s: &mut S,
 ) -> bool

@@ -2,7 +2,7 @@ ghost use Rattle.std.specs.Prelude.{◌≡◌};
 ghost use Rattle.sdd_participants.specs.Slab.{Entries, entry_at};
 ghost use Rattle.sdd_participants.specs.declared.standing.Standing.{Standing};
 
-use sdd_core::Tag;
+use sdd_core::{SlotName, Tag};
 
 /// How an item stands. A slot without an item is free.
 #[derive(Clone, Copy, Debug, PartialEq, Eq)]
@@ -22,14 +22,14 @@ pub enum Standing {
 /// What a cell holds: an owned or shared item by its slot, or nothing, and a tag.
 #[derive(Clone, Copy, Debug, PartialEq, Eq)]
 pub struct CellContents {
-    pub held: Option<u32>,
+    pub held: Option<SlotName>,
     pub tag: Tag,
 }
 
 /// What a raw pointer names: the item in a slot, or nothing; and its tag.
 #[derive(Clone, Copy, Debug, PartialEq, Eq)]
 pub struct RawCellContents {
-    pub named: Option<u32>,
+    pub named: Option<SlotName>,
     pub tag: Tag,
 }
 
@@ -38,6 +38,6 @@ pub trait StandingLookup {
     ghost standings: { Self → Entries Standing };
 
     /// How the item in a slot stands; nothing where the slot is free.
-    fn stands(&self, slot: u32) -> Option<Standing>
+    fn stands(&self, slot: SlotName) -> Option<Standing>
         ensures { result ≡ entry_at (standings self.now) slot };
 }

@@ -5,7 +5,7 @@ use Rattle.sdd_rights.specs.declared.right.SharedRights.{SharedRights}
 
 -- the number that they are to
 abbrev pub number_of : SharedRights → ℕ
-number_of shares = shares.number
+number_of shares = shares.name
 
 -- the home whose number it is
 abbrev pub home_of : SharedRights → GhostName

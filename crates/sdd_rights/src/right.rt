@@ -6,6 +6,7 @@ ghost use Rattle.sdd_rights.specs.Owner.{witness_of_owner, witness_of_cell, is_c
 
 use crate::fraction::{Fraction, GhostKeys, WHOLE};
 use crate::read_fraction::ReadFraction;
+use sdd_core::SlotName;
 use sdd_witness::Witness;
 use std::marker::Model;
 use std::mem::replace;
@@ -46,18 +47,18 @@ impl StandingKind {
 ///
 /// It can be neither copied nor let go of by chance: it is redeemed where it was granted.
 pub struct Right {
-    pub(crate) number: u32,
+    pub(crate) name: SlotName,
     pub(crate) part: Fraction<StandingKind>,
     pub(crate) witness: Witness,
     pub(crate) grip: ReadFraction,
-    pub ghost named: { witness.views ≡ [] → part.number ≡ number },
-    pub ghost inside: { number < part.home.size },
+    pub ghost named: { witness.views ≡ [] → part.number ≡ name },
+    pub ghost inside: { name < part.home.size },
     pub ghost owner: { IsOwner part.kind },
     pub ghost due: { witness.views ≡ [] → part.units ≡ right_units part.kind },
     pub ghost books: { part.home.tables ≡ [] },
-    pub ghost placed: { witness.views ≢ [] → is_cell part.number ≡ false → grip.number ≡ number },
-    pub ghost owns: { witness.views ≢ [] × (is_cell part.number ≡ false) → witness.views ≡ witness_of_owner number (is_shared part.kind) grip.shown } by { codes-prop },
-    pub ghost reaches: { witness.views ≢ [] × (is_cell part.number ≡ true) → witness.views ≡ witness_of_cell number (cell_kind (is_shared part.kind)) } by { codes-prop },
+    pub ghost placed: { witness.views ≢ [] → is_cell part.number ≡ false → grip.number ≡ name },
+    pub ghost owns: { witness.views ≢ [] × (is_cell part.number ≡ false) → witness.views ≡ witness_of_owner name (is_shared part.kind) grip.shown } by { codes-prop },
+    pub ghost reaches: { witness.views ≢ [] × (is_cell part.number ≡ true) → witness.views ≡ witness_of_cell name (cell_kind (is_shared part.kind)) } by { codes-prop },
 }
 
 const _: () = prove!(size_of::<Right>() == 4);
@@ -71,7 +72,7 @@ impl Model for Right {
     ghost coded = { right_coded };
 
     ghost view = { λ r. record {
-      number = r.number;
+      number = r.name;
       home = home_by r.witness.views r.witness.table_id r.grip.book (is_cell r.part.number) r.part.home;
       kind = r.part.kind;
       views = r.witness.views;
@@ -82,26 +83,34 @@ impl Model for Right {
 impl Right {
     ghost use Rattle.sdd_rights.specs.Right.{number_of, home_of, kind_of, views_of, home_of_table, cells_of_table, AreSlotsOfTable, AreCellsOfTable, IsOwnerBy, IsCellBy};
 
-    /// The number that the right is to.
+    /// The name of the slot that the right is to.
+    #[inline(always)]
+    pub fn name(&self) -> SlotName
+        ensures { result ≡ number_of self.now }
+    {
+        self.name
+    }
+
+    /// The number of the slot or cell that the right is to.
     pub fn number(&self) -> u32
         ensures { result ≡ number_of self.now }
     {
-        self.number
+        self.name.number()
     }
 
     /// The right to a slot of a domain, by the token of its owner and a unit of the number of the slot's place. The domain has so many slots.
     pub fn of_witness(
-        number: u32,
+        name: SlotName,
         size: usize,
         kind: StandingKind,
         witness: Witness,
         grip: ReadFraction,
     ) -> Right
-        requires owner { witness.views ≡ witness_of_owner number (is_shared kind) grip.shown }
-        requires place { grip.number ≡ number }
-        requires inside { number < size }
+        requires owner { witness.views ≡ witness_of_owner name (is_shared kind) grip.shown }
+        requires place { grip.number ≡ name }
+        requires inside { name < size }
         requires kind { IsOwner kind }
-        ensures number { number_of result ≡ number }
+        ensures number { number_of result ≡ name }
         ensures home { home_of result ≡ home_of_table witness.table_id grip.book size }
         ensures kind { kind_of result ≡ kind }
         ensures views { views_of result ≡ witness.views }
@@ -109,7 +118,7 @@ impl Right {
         let mut book = GhostKeys::new(size);
         let part = book.issue(&kind);
         Right {
-            number,
+            name,
             part,
             witness,
             grip,
@@ -130,7 +139,7 @@ impl Right {
         let _ = book.issue(&kind);
         let part = book.issue(&kind);
         Right {
-            number,
+            name: SlotName::of(number),
             part,
             witness,
             grip: ReadFraction::blank(),
@@ -138,18 +147,18 @@ impl Right {
     }
 
     /// The right that has this unit of a number of a book, which several may own.
-    fn of_part(number: u32, part: Fraction<StandingKind>) -> Right
-        requires named { part.number ≡ number }
-        requires inside { number < part.home.size }
+    fn of_part(name: SlotName, part: Fraction<StandingKind>) -> Right
+        requires named { part.number ≡ name }
+        requires inside { name < part.home.size }
         requires kind { part.kind ≡ StandingKind.Shared }
         requires single { part.units ≡ 1 }
         requires books { part.home.tables ≡ [] }
-        ensures number { number_of result ≡ number }
+        ensures number { number_of result ≡ name }
         ensures home { home_of result ≡ part.home }
         ensures kind { kind_of result ≡ StandingKind.Shared }
     {
         Right {
-            number,
+            name,
             part,
             witness: Witness::blank(),
             grip: ReadFraction::blank(),
@@ -160,7 +169,7 @@ impl Right {
     fn to_nothing() -> Right {
         let mut book = GhostKeys::new(1);
         let mut whole = book.issue(&StandingKind::Shared);
-        Right::of_part(0, whole.split(1))
+        Right::of_part(SlotName::of(0), whole.split(1))
     }
 
     /// Takes the right out of where it is. One to nothing stands there, until it is put back.
@@ -192,7 +201,7 @@ impl Right {
         ensures cell { AreCellsOfTable (home_of self) → IsCellBy (home_of self) (number_of self) (cell_kind (is_shared (kind_of self))) result.0 }
     {
         let Right {
-            number: _,
+            name: _,
             part: _,
             witness,
             grip,
@@ -294,11 +303,11 @@ impl SharedRight {
 ///
 /// It can't be copied, but be redeemed where it was granted, or let go of for ever.
 pub struct SharedRights {
-    pub(crate) number: u32,
+    pub(crate) name: SlotName,
     pub(crate) count: u64,
     pub(crate) part: Fraction<StandingKind>,
-    pub ghost named: { part.number ≡ number },
-    pub ghost inside: { number < part.home.size },
+    pub ghost named: { part.number ≡ name },
+    pub ghost inside: { name < part.home.size },
     pub ghost kind: { part.kind ≡ StandingKind.Shared },
     pub ghost some: { 1 ≤ count },
     pub ghost due: { part.units ≡ count },
@@ -319,27 +328,27 @@ impl SharedRights {
         ensures count { MatchOption result.1 (count_of self ≡ 1) (λ rest. count_of rest + 1 ≡ count_of self) }
     {
         let SharedRights {
-            number,
+            name,
             count,
             mut part,
         } = self;
         if count == 1 {
-            return (Right::of_part(number, part), None);
+            return (Right::of_part(name, part), None);
         }
         let one = part.split(1);
         let rest = SharedRights {
-            number,
+            name,
             count: count - 1,
             part,
         };
-        (Right::of_part(number, one), Some(rest))
+        (Right::of_part(name, one), Some(rest))
     }
 
     /// The number that the rights are to.
     pub fn number(&self) -> u32
         ensures { result ≡ number_of self.now }
     {
-        self.number
+        self.name.number()
     }
 
     /// How many owners' rights there are.

@@ -8,6 +8,7 @@ ghost use Rattle.sdd_rights.specs.SharedRights as shares;
 use crate::fraction::{Fraction, GhostKeys, WHOLE};
 use crate::read_fraction::ReadFraction;
 use crate::right::{NameWitness, RawRight, Right, SharedRights, StandingKind};
+use sdd_core::SlotName;
 use sdd_witness::Witness;
 use std::alloc::{AllocError, Global};
 use std::marker::Model;
@@ -127,7 +128,7 @@ impl RightsAuthority {
         kept.set(&kind, &());
         let part = kept.split(kind.units());
         Right {
-            number,
+            name: SlotName::of(number),
             part,
             witness: Witness::blank(),
             grip: ReadFraction::blank(),
@@ -147,7 +148,7 @@ impl RightsAuthority {
     {
         let part = self.parts[number as usize].split(1);
         Right {
-            number,
+            name: SlotName::of(number),
             part,
             witness: Witness::blank(),
             grip: ReadFraction::blank(),
@@ -168,11 +169,12 @@ impl RightsAuthority {
             (record (kept_at self.old result) { units = (kept_at self.old result).units + right_units (kind_of right) }) }
     {
         let Right {
-            number,
+            name,
             mut part,
             witness: _,
             grip,
         } = right;
+        let number = name.number();
         grip.discard();
         let kept = &mut self.parts[number as usize];
         kept.apart(&mut part);
@@ -195,7 +197,7 @@ impl RightsAuthority {
     {
         let part = self.parts[number as usize].split(count);
         SharedRights {
-            number,
+            name: SlotName::of(number),
             count,
             part,
         }
@@ -214,10 +216,11 @@ impl RightsAuthority {
             (record (kept_at self.old result) { units = (kept_at self.old result).units + shares.count_of several }) }
     {
         let SharedRights {
-            number,
+            name,
             count: _,
             mut part,
         } = several;
+        let number = name.number();
         let kept = &mut self.parts[number as usize];
         kept.apart(&mut part);
         kept.join(part);
@@ -231,7 +234,7 @@ impl RightsAuthority {
         ensures kind { (kept_at self.now (number_of right.now)).kind ≡ kind_of right.now }
         ensures owner { IsOwner (kind_of right.now) }
     {
-        self.parts[right.number as usize].agree(&right.part);
+        self.parts[right.name.number() as usize].agree(&right.part);
     }
 
     /// Grants a right to a number that is kept whole, which is out as raw from then on.

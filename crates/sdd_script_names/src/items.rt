@@ -15,6 +15,7 @@ ghost use Rattle.sdd_participants.specs.Collecting.{is_private_to};
 ghost use Rattle.sdd_standings.specs.Slots as slots;
 ghost use Rattle.sdd_standings.specs.Slots.{is_waiting as waits};
 
+use sdd_core::SlotName;
 use sdd_participants::{LimboEntry, Standing};
 use sdd_script_model::{Body, Val};
 use sdd_script_text::{ItemName, Reply, Value};
@@ -31,8 +32,8 @@ pub fn told(value: &Val, names: &[u64]) -> Reply
 {
     match value.as_ref() {
         Body::Number(number) => Reply::Value(*number),
-        Body::Owned(owner) => Reply::Holding(ItemName(names[slot_of_owner(owner) as usize])),
-        Body::Shared(owner) => Reply::Holding(ItemName(names[slot_of_shared(owner) as usize])),
+        Body::Owned(owner) => Reply::Holding(ItemName(names[slot_of_owner(owner).number() as usize])),
+        Body::Shared(owner) => Reply::Holding(ItemName(names[slot_of_shared(owner).number() as usize])),
     }
 }
 
@@ -71,7 +72,7 @@ pub fn slot_compared(
     dates: &[u64],
     item: Option<ItemName>,
     since: u64,
-) -> Option<Option<u32>>
+) -> Option<Option<SlotName>>
     requires names { length names.now ≡ length world.now.standings }
     requires dates { length dates.now ≡ length world.now.standings }
     requires inside { (s : ℕ) → IsSome (standing_at world.now s) → slice_index names.now s < length slots.now }
@@ -84,17 +85,17 @@ pub fn slot_compared(
         return Some(None);
     };
     match slot_since(world, slots, names, dates, item, since) {
-        Some(slot) => Some(Some(slot)),
+        Some(slot) => Some(Some(SlotName::of(slot))),
         None => None,
     }
 }
 
 /// The item that a slot had last, if it is that of one.
-pub fn item_seen(names: &[u64], slot: Option<u32>) -> Option<ItemName>
+pub fn item_seen(names: &[u64], slot: Option<SlotName>) -> Option<ItemName>
     requires inside { IfSome slot (λ s. s < length names.now) }
     ensures { result ≡ option_map (item_in names.now) slot }
 {
-    let slot = slot?;
+    let slot = slot?.number();
     Some(ItemName(names[slot as usize]))
 }
 
@@ -128,7 +129,7 @@ pub fn number_of(value: &Val) -> Option<u64>
 }
 
 /// The slot of the item whose owner a value holds, if it holds one.
-pub fn slot_given(value: &Val) -> Option<u32>
+pub fn slot_given(value: &Val) -> Option<SlotName>
     ensures { result ≡ slot_held (body_of value.now) }
 {
     match value.as_ref() {
@@ -145,7 +146,7 @@ pub fn slots_among(alloc: Global, waiting: &[LimboEntry]) -> Result<Vec<u32>, Al
     let mut found = Vec::with_capacity(alloc, waiting.len())?;
     for what in waiting {
         match what {
-            LimboEntry::Item(slot) => found.push_reserved(*slot),
+            LimboEntry::Item(slot) => found.push_reserved(slot.number()),
             LimboEntry::Job(_) => {}
         }
     }
@@ -221,8 +222,8 @@ fn owners_in(alloc: Global, world: &World<Val>, slots: &[u32]) -> Result<Vec<u32
     for slot in slots {
         match value_in(world, *slot).as_ref() {
             Body::Number(_) => {}
-            Body::Owned(owner) => found.push_reserved(slot_of_owner(owner)),
-            Body::Shared(owner) => found.push_reserved(slot_of_shared(owner)),
+            Body::Owned(owner) => found.push_reserved(slot_of_owner(owner).number()),
+            Body::Shared(owner) => found.push_reserved(slot_of_shared(owner).number()),
         }
     }
     Ok(found)
@@ -243,13 +244,14 @@ pub fn date_waiting(dates: &mut Vec<u64>, world: &World<Val>, slots: &[u32], lin
 }
 
 /// The item in this slot, if it waits now, began to do so in this line.
-pub fn date_if_waiting(dates: &mut Vec<u64>, world: &World<Val>, slot: Option<u32>, line: u64)
+pub fn date_if_waiting(dates: &mut Vec<u64>, world: &World<Val>, slot: Option<SlotName>, line: u64)
     requires { IfSome slot (λ slot. slot < length dates.old.items) }
     ensures { dates.new.items ≡ dated_if_waiting world.now slot line dates.old.items }
 {
     if let Some(slot) = slot {
-        if is_waiting(world, slot) {
-            dates[slot as usize] = line;
+        let number = slot.number();
+        if is_waiting(world, number) {
+            dates[number as usize] = line;
         }
     }
 }

@@ -27,7 +27,7 @@ use crate::ptr::Ptr;
 use crate::raw_ptr::RawPtr;
 use crate::shared::Shared;
 use crate::space::Several;
-use sdd_core::{Refused, Tag};
+use sdd_core::{Refused, SlotName, Tag};
 use sdd_participants::{CellContents, RawCellContents, Standing};
 use sdd_rights::{RawRight, Right, StandingKind};
 use sdd_values::{ReadSection, SectionState};
@@ -105,7 +105,7 @@ pub fn right_of_shared_cell<T>(cell: AtomicShared<T>) -> Right
 }
 
 /// The slot that a pointer names, if it isn't null.
-pub fn slot_of_ptr<T>(ptr: &Ptr<'_, T>) -> Option<u32>
+pub fn slot_of_ptr<T>(ptr: &Ptr<'_, T>) -> Option<SlotName>
     ensures { result ≡ slot_named ptr.now }
 {
     ptr.slot()
@@ -119,14 +119,14 @@ pub fn value_of_ptr<'g, T>(ptr: Ptr<'g, T>) -> Option<&'g T>
 }
 
 /// The slot of an owner's item.
-pub fn slot_of_owner<T>(owner: &Owned<T>) -> u32
+pub fn slot_of_owner<T>(owner: &Owned<T>) -> SlotName
     ensures { result ≡ slot_of owner.now }
 {
     owner.slot()
 }
 
 /// The slot of a shared owner's item.
-pub fn slot_of_shared<T>(owner: &Shared<T>) -> u32
+pub fn slot_of_shared<T>(owner: &Shared<T>) -> SlotName
     ensures { result ≡ shared.slot_of owner.now }
 {
     owner.slot()
@@ -149,7 +149,7 @@ pub fn raw_ptr_to<T>(cell: CellContents) -> RawPtr<T>
 }
 
 /// A pointer to the item in a slot that shows this value.
-pub fn ptr_to<'g, T>(slot: u32, value: &'g T) -> Ptr<'g, T>
+pub fn ptr_to<'g, T>(slot: SlotName, value: &'g T) -> Ptr<'g, T>
     ensures slot { slot_named result ≡ Some slot }
     ensures shown { shown_by result ≡ Some value.now }
     ensures tag { tag_of result ≡ no_tag }

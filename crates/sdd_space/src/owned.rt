@@ -23,7 +23,7 @@ use crate::look::Look;
 use crate::ptr::Ptr;
 use crate::raw_ptr::RawPtr;
 use crate::space::{InPlaceItems, Items, RawItems};
-use sdd_core::{Refused, Tag};
+use sdd_core::{Refused, SlotName, Tag};
 use sdd_participants::Standing;
 use sdd_rights::{Right, StandingKind, UniqueRight};
 use std::marker::PhantomData;
@@ -85,10 +85,10 @@ impl<T> Owned<T> {
         }
     }
 
-    pub(crate) fn slot(&self) -> u32
+    pub(crate) fn slot(&self) -> SlotName
         ensures { result ≡ slot_of self.now }
     {
-        self.right().number()
+        self.right().name()
     }
 }
 

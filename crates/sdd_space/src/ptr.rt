@@ -4,7 +4,7 @@ use crate::item::Item;
 use crate::look::LookThrough;
 use crate::shared::Shared;
 use crate::space::SharedItems;
-use sdd_core::{Refused, Tag};
+use sdd_core::{Refused, SlotName, Tag};
 use sdd_values::Nullable;
 use std::alloc::AllocError;
 use std::fmt::{self, Debug, Formatter};
@@ -16,7 +16,7 @@ pub struct Ptr<'g, T> {
     /// Of the value that it was made with; of nothing where it is null.
     sight: &'g Nullable<T>,
     /// 0 where it is null, so that equal pointers have equal fields.
-    slot: u32,
+    slot: SlotName,
     tag: Tag,
     /// It isn't null.
     named: bool,
@@ -83,13 +83,13 @@ impl<'g, T> Ptr<'g, T> {
         let sight = Nullable::none();
         Ptr {
             sight,
-            slot: 0,
+            slot: SlotName::of(0),
             tag: Tag::None,
             named: false,
         }
     }
 
-    pub(crate) fn to(slot: u32, value: &'g T) -> Ptr<'g, T>
+    pub(crate) fn to(slot: SlotName, value: &'g T) -> Ptr<'g, T>
         ensures slot { slot_named result ≡ Some slot }
         ensures shown { shown_by result ≡ Some value.now }
         ensures tag { tag_of result ≡ no_tag }
@@ -113,7 +113,7 @@ impl<'g, T> Ptr<'g, T> {
         }
     }
 
-    pub(crate) fn slot(&self) -> Option<u32>
+    pub(crate) fn slot(&self) -> Option<SlotName>
         ensures { result ≡ slot_named self.now }
     {
         if self.named { Some(self.slot) } else { None }

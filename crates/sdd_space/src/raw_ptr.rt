@@ -4,7 +4,7 @@ use crate::guard::Guard;
 use crate::item::Item;
 use crate::ptr::Ptr;
 use crate::space::RawItems;
-use sdd_core::Tag;
+use sdd_core::{SlotName, Tag};
 use sdd_participants::RawCellContents;
 use std::alloc::AllocError;
 use std::fmt::{self, Debug, Formatter};
@@ -15,7 +15,7 @@ use std::marker::PhantomData;
 /// Two pointers are equal exactly if they name the same slot, or none, and have the same tag.
 pub struct RawPtr<T> {
     /// 0 where it is null, so that equal pointers have equal fields.
-    slot: u32,
+    slot: SlotName,
     tag: Tag,
     /// It isn't null.
     named: bool,
@@ -82,19 +82,19 @@ impl<T> RawPtr<T> {
         RawPtr::of(None, Tag::None)
     }
 
-    pub(crate) fn of(named: Option<u32>, tag: Tag) -> RawPtr<T>
+    pub(crate) fn of(named: Option<SlotName>, tag: Tag) -> RawPtr<T>
         ensures slot { slot_named result ≡ named }
         ensures tag { tag_of result ≡ tag }
     {
         RawPtr {
-            slot: named.unwrap_or(0),
+            slot: named.unwrap_or(SlotName::of(0)),
             tag,
             named: named.is_some(),
             of: PhantomData,
         }
     }
 
-    pub(crate) fn slot(&self) -> Option<u32>
+    pub(crate) fn slot(&self) -> Option<SlotName>
         ensures { result ≡ slot_named self.now }
     {
         if self.named { Some(self.slot) } else { None }

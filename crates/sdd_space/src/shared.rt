@@ -22,7 +22,7 @@ use crate::item::Item;
 use crate::look::Look;
 use crate::ptr::Ptr;
 use crate::space::{InPlaceItems, Items, SharedItems, SharedOwners};
-use sdd_core::Refused;
+use sdd_core::{Refused, SlotName};
 use sdd_participants::Standing;
 use sdd_rights::{Right, SharedRight, StandingKind};
 use std::marker::PhantomData;
@@ -84,10 +84,10 @@ impl<T> Shared<T> {
         }
     }
 
-    pub(crate) fn slot(&self) -> u32
+    pub(crate) fn slot(&self) -> SlotName
         ensures { result ≡ slot_of self.now }
     {
-        self.right().number()
+        self.right().name()
     }
 }
 

@@ -13,7 +13,7 @@ ghost use Rattle.sdd_space_commands.specs.Owners.{cell_holding, cell_number, fil
 
 use crate::holding::{AnyCell, CellOwner};
 use crate::step::CellCommand;
-use sdd_core::Tag;
+use sdd_core::{SlotName, Tag};
 use sdd_participants::CellContents;
 use sdd_script_model::Val;
 use sdd_space::inner::{slot_of_owner, slot_of_ptr, slot_of_shared};
@@ -158,7 +158,7 @@ pub struct PeekCell<'a> {
 }
 
 impl CellCommand for PeekCell<'_> {
-    type Out = Option<u32>;
+    type Out = Option<SlotName>;
 
     ghost asks = { λ step home _ _. IsOf home (cell_holding step.cell.now) };
 
@@ -167,7 +167,7 @@ impl CellCommand for PeekCell<'_> {
     fn done<S: Items<Val> + SharedItems<Val> + Cells<Val> + RawCells<Val> + Collectors<Val>>(
         self,
         s: &mut S,
-    ) -> Option<u32> {
+    ) -> Option<SlotName> {
         let PeekCell { cell } = self;
         match cell {
             AnyCell::Sole(cell) => {

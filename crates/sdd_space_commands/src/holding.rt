@@ -43,8 +43,8 @@ impl AnyOwner {
         ensures { slot_of (Some (owner_holding self.now)) ≡ Some result }
     {
         match self {
-            AnyOwner::Sole(owner) => slot_of_owner(owner),
-            AnyOwner::Share(owner) => slot_of_shared(owner),
+            AnyOwner::Sole(owner) => slot_of_owner(owner).number(),
+            AnyOwner::Share(owner) => slot_of_shared(owner).number(),
         }
     }
 }

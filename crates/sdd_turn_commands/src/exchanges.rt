@@ -18,7 +18,7 @@ ghost use Rattle.sdd_space_commands.specs.Owners.{cell_holding, cell_kind, cell_
 ghost use Rattle.sdd_space.specs.Shared as shared;
 
 use crate::turn::cell_step_at;
-use sdd_core::{Refused, Tag};
+use sdd_core::{Refused, SlotName, Tag};
 use sdd_participants::CellContents;
 use sdd_script_model::Val;
 use sdd_space::inner::null_with;
@@ -33,7 +33,7 @@ fn ptr_compared<'g>(
     world: &mut World<Val>,
     place: &Place,
     guard: &'g Guard,
-    slot: Option<u32>,
+    slot: Option<SlotName>,
     tag: Tag,
 ) -> Ptr<'g, Val>
     requires place { IsPlaceOf world.old (index_of place.now) }

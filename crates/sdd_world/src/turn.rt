@@ -6,7 +6,7 @@ ghost use Rattle.sdd_rights.specs.Right.{number_of};
 ghost use Rattle.sdd_space.specs.Ptr.{shown_by};
 
 use crate::world::{Place, World};
-use sdd_core::{Refused, Tag};
+use sdd_core::{Refused, SlotName, Tag};
 use sdd_participants::{CellContents, Idle, Job, RawCellContents};
 use sdd_rights::{RawRight, Right, SharedRights, StandingKind};
 use sdd_space::{
@@ -305,24 +305,24 @@ impl<T: Item<T>, J: Job> SharedItems<T> for Turn<'_, T, J> {
 
     ghost exact_asks_nothing = { λ _ _ asks. asks };
 
-    fn get_shared(&mut self, slot: u32) -> Result<Option<Right>, Refused> {
+    fn get_shared(&mut self, slot: SlotName) -> Result<Option<Right>, Refused> {
         let world = &mut *self.world;
         world.core.get_shared(slot)
     }
 }
 
 impl<T: Item<T>, J: Job> RawItems<T> for Turn<'_, T, J> {
-    fn into_raw(&mut self, right: Right) -> u32 {
+    fn into_raw(&mut self, right: Right) -> SlotName {
         let world = &mut *self.world;
         world.core.into_raw(right)
     }
 
-    fn from_raw(&mut self, slot: u32) -> Option<Right> {
+    fn from_raw(&mut self, slot: SlotName) -> Option<Right> {
         let world = &mut *self.world;
         world.core.from_raw(slot)
     }
 
-    fn get_guarded_raw<'g>(&mut self, slot: u32, guard: &'g Guard) -> Option<&'g T> {
+    fn get_guarded_raw<'g>(&mut self, slot: SlotName, guard: &'g Guard) -> Option<&'g T> {
         let world = &mut *self.world;
         world
             .core

@@ -4,7 +4,7 @@ ghost use Rattle.sdd_rights.specs.Right.{number_of, home_of, kind_of, raw_number
 ghost use Rattle.sdd_standings.specs.Cells.{slot_held, null_cell, null_pointer};
 ghost use Rattle.sdd_participants.specs.Slab.{IsEmptyAt, IsFull, entry_at};
 
-use sdd_core::Tag;
+use sdd_core::{SlotName, Tag};
 use sdd_participants::{CellContents, RawCellContents, Slab};
 use sdd_rights::{NameWitness, RawRight, Right, RightsAuthority, StandingKind};
 use std::alloc::{AllocError, Global};
@@ -271,11 +271,11 @@ fn nothing_held(
 }
 
 /// The slot of an owner, if there is one.
-fn slot_of(owner: &Option<Right>) -> Option<u32>
+fn slot_of(owner: &Option<Right>) -> Option<SlotName>
     ensures { result ≡ slot_held owner.now }
 {
     match owner {
-        Some(right) => Some(right.number()),
+        Some(right) => Some(right.name()),
         None => None,
     }
 }

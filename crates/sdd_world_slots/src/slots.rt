@@ -7,6 +7,7 @@ ghost use Rattle.sdd_rights.specs.SharedRights as shares;
 ghost use Rattle.sdd_participants.specs.Slab.{IsEmptyAt, IsFull};
 ghost use Rattle.sdd_standings.specs.Slots.{standing_at, value_at, with_made, with_standing, with_value, without_slot, first_standing, released_standing, released_to, has_others, owners_of, IsOwnedBy, IsSharedBy, IsWaiting};
 
+use sdd_core::SlotName;
 use sdd_participants::{Slab, Standing, StandingLookup};
 use sdd_rights::{NameWitness, Right, RightsAuthority, SharedRights, StandingKind};
 use sdd_values::{EndedSection, LentValues, ReadSection};
@@ -418,8 +419,8 @@ impl<T> StandingLookup for WorldSlots<T> {
 
     ghost standings = { λ s. s.standings };
 
-    fn stands(&self, slot: u32) -> Option<Standing> {
-        self.standing(slot)
+    fn stands(&self, slot: SlotName) -> Option<Standing> {
+        self.standing(slot.number())
     }
 }
 

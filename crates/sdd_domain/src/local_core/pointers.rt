@@ -53,6 +53,6 @@ impl<'d, T: Item<T>, J: Job> LocalCore<'d, T, J> {
             return null_with(tag);
         };
         let value = self.get_guarded(right, guard);
-        ptr_to(right.number(), value).with_tag(tag)
+        ptr_to(right.name(), value).with_tag(tag)
     }
 }

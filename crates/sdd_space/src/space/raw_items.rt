@@ -9,13 +9,14 @@ ghost use Rattle.sdd_space.specs.WorldChanges.{with_standing};
 use crate::guard::Guard;
 use crate::item::Item;
 use crate::space::caller::Caller;
+use sdd_core::SlotName;
 use sdd_participants::Standing;
 use sdd_rights::{Right, StandingKind};
 
 /// Items that are out as raw, and that nobody owns.
 pub trait RawItems<T: Item<T>>: Caller<T> {
     /// The item of the one owner is out as raw, and nobody owns it.
-    fn into_raw(&mut self, right: Right) -> u32
+    fn into_raw(&mut self, right: Right) -> SlotName
         requires seated { IsSeated (Self.seat self.old) }
         requires home { home_of right ≡ (Self.seat self.old).home.slots }
         requires kind { kind_of right ≡ StandingKind.Owned }
@@ -25,7 +26,7 @@ pub trait RawItems<T: Item<T>>: Caller<T> {
         ensures exact { IsExact (Self.seat self.old) → Self.world self.new ≡ with_standing (Self.world self.old) (number_of right) Standing.Raw };
 
     /// The owner of an item that is out as raw; of any other slot none.
-    fn from_raw(&mut self, slot: u32) -> Option<Right>
+    fn from_raw(&mut self, slot: SlotName) -> Option<Right>
         requires seated { IsSeated (Self.seat self.old) }
         ensures undisturbed { Undisturbed Self.seat Self.own Self.known Self.shows self.old self.new }
         ensures home { IfSome result (λ right. home_of right ≡ (Self.seat self.old).home.slots) }
@@ -37,7 +38,7 @@ pub trait RawItems<T: Item<T>>: Caller<T> {
             (Self.world self.new ≡ with_standing (Self.world self.old) slot Standing.Owned)) };
 
     /// The value of an item that is out as raw, for as long as the guard is borrowed, whatever becomes of the item; of any other slot none.
-    fn get_guarded_raw<'g>(&mut self, slot: u32, guard: &'g Guard) -> Option<&'g T>
+    fn get_guarded_raw<'g>(&mut self, slot: SlotName, guard: &'g Guard) -> Option<&'g T>
         requires seated { IsSeated (Self.seat self.old) }
         requires reader { reader_of guard.now ≡ (Self.seat self.old).reader }
         ensures undisturbed { Undisturbed Self.seat Self.own Self.known Self.shows self.old self.new }

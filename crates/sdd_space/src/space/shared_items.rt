@@ -9,7 +9,7 @@ ghost use Rattle.sdd_space.specs.WorldChanges.{with_standing};
 
 use crate::item::Item;
 use crate::space::shared_owners::SharedOwners;
-use sdd_core::Refused;
+use sdd_core::{Refused, SlotName};
 use sdd_participants::Standing;
 use sdd_rights::{Right, StandingKind};
 
@@ -21,7 +21,7 @@ pub trait SharedItems<T: Item<T>>: SharedOwners<T> {
     /// One owner more of the item in a slot, if it is shared. What the slot shows is its value.
     ///
     /// `TooManyOwners` where as many share the item as may; `Contended`, in a domain alone, where others changed how many do too often meanwhile.
-    fn get_shared(&mut self, slot: u32) -> Result<Option<Right>, Refused>
+    fn get_shared(&mut self, slot: SlotName) -> Result<Option<Right>, Refused>
         requires seated { IsSeated (Self.seat self.old) }
         requires seen { Self.asks_sight self.old → (value : T) × Self.shows self.old slot value }
         ensures undisturbed { Undisturbed Self.seat Self.own Self.known Self.shows self.old self.new }

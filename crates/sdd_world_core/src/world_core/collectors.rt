@@ -39,7 +39,7 @@ impl<T: Item<T>, J: Job> WorldCore<T, J> {
         ensures whole { IsWhole self.old.world → IsWhole self.new.world }
         ensures lent { IsWhole self.old.world → AreLent self.old → AreLent self.new }
     {
-        let slot = right.number();
+        let slot = right.name();
         let is_last = self.slots.collect(right, kind, collector);
         if is_last {
             self.time.wait(place, LimboEntry::Item(slot));

@@ -11,7 +11,7 @@ ghost use Rattle.sdd_space.specs.WorldInvariant.{IsWhole};
 ghost use Rattle.sdd_world_core.specs.Lending.{AreLent};
 
 use super::WorldCore;
-use sdd_core::Refused;
+use sdd_core::{Refused, SlotName};
 use sdd_participants::{Job, LimboEntry, Standing};
 use sdd_rights::{Right, SharedRights, StandingKind};
 use sdd_space::Item;
@@ -21,7 +21,7 @@ impl<T: Item<T>, J: Job> WorldCore<T, J> {
     /// One owner more of the item in a slot, if it is shared.
     ///
     /// `TooManyOwners` where as many share it as may.
-    pub fn get_shared(&mut self, slot: u32) -> Result<Option<Right>, Refused>
+    pub fn get_shared(&mut self, slot: SlotName) -> Result<Option<Right>, Refused>
         ensures right { IfOk result (λ o. IfSome o
             (λ right. (home_of right ≡ self.old.world.home.slots) × (number_of right ≡ slot) × (kind_of right ≡ StandingKind.Shared))) }
         ensures upgraded { MatchResult result
@@ -34,8 +34,10 @@ impl<T: Item<T>, J: Job> WorldCore<T, J> {
         ensures whole { IsWhole self.old.world → IsWhole self.new.world }
         ensures lent { IsWhole self.old.world → AreLent self.old → AreLent self.new }
     {
-        match self.slots.owners(slot) {
-            Some(owners) if owners < MOST_OWNERS => Ok(Some(self.slots.clone_owner(slot, owners))),
+        let number = slot.number();
+        match self.slots.owners(number) {
+            Some(owners) if owners < MOST_OWNERS =>
+                Ok(Some(self.slots.clone_owner(number, owners))),
             Some(_) => Err(Refused::TooManyOwners),
             None => Ok(None),
         }
@@ -120,7 +122,7 @@ impl<T: Item<T>, J: Job> WorldCore<T, J> {
         ensures whole { IsSome (time.phase_at self.old.world.time place) → IsWhole self.old.world → IsWhole self.new.world }
         ensures lent { AreLent self.old → AreLent self.new }
     {
-        let slot = right.number();
+        let slot = right.name();
         let is_last = self.slots.release(right, kind);
         if is_last {
             self.time.wait(place, LimboEntry::Item(slot));
@@ -149,7 +151,7 @@ impl<T: Item<T>, J: Job> WorldCore<T, J> {
     }
 
     /// The item of the one owner is out as raw.
-    pub fn into_raw(&mut self, right: Right) -> u32
+    pub fn into_raw(&mut self, right: Right) -> SlotName
         requires home { home_of right ≡ self.old.world.home.slots }
         requires kind { kind_of right ≡ StandingKind.Owned }
         ensures slot { result ≡ number_of right }
@@ -159,11 +161,11 @@ impl<T: Item<T>, J: Job> WorldCore<T, J> {
         ensures whole { IsWhole self.old.world → IsWhole self.new.world }
         ensures lent { IsWhole self.old.world → AreLent self.old → AreLent self.new }
     {
-        self.slots.into_raw(right)
+        SlotName::of(self.slots.into_raw(right))
     }
 
     /// The owner of an item that is out as raw; of any other slot none.
-    pub fn from_raw(&mut self, slot: u32) -> Option<Right>
+    pub fn from_raw(&mut self, slot: SlotName) -> Option<Right>
         ensures right { IfSome result (λ right. (home_of right ≡ self.old.world.home.slots) × (number_of right ≡ slot) × (kind_of right ≡ StandingKind.Owned)) }
         ensures back { MatchOption result
             ((standing_at self.old.world slot ≢ Some Standing.Raw) × (self.new ≡ self.old))
@@ -173,11 +175,11 @@ impl<T: Item<T>, J: Job> WorldCore<T, J> {
         ensures whole { IsWhole self.old.world → IsWhole self.new.world }
         ensures lent { IsWhole self.old.world → AreLent self.old → AreLent self.new }
     {
-        self.slots.from_raw(slot)
+        self.slots.from_raw(slot.number())
     }
 
     /// The item in a slot that is out as raw waits at some place that isn't free.
-    pub fn leave_raw(&mut self, slot: u32)
+    pub fn leave_raw(&mut self, slot: SlotName)
         requires some { (p : ℕ) × IsSome (time.phase_at self.old.world.time p) }
         requires raw { standing_at self.old.world slot ≡ Some Standing.Raw }
         ensures left { (p : ℕ) × IsSome (time.phase_at self.old.world.time p)

@@ -74,7 +74,7 @@ impl<T: Item<T>, J: Job> WorldCore<T, J> {
         } }
     {
         match what {
-            LimboEntry::Item(slot) => self.reclaim_item(place, slot),
+            LimboEntry::Item(slot) => self.reclaim_item(place, slot.number()),
             LimboEntry::Job(number) => self.run_job(number),
         }
     }

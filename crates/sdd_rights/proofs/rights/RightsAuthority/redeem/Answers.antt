@@ -17,6 +17,6 @@ returns-clause-kept c =
     let home : right.part.home.size ≡ c.args.self.now.home.size = (λ i. (book i).size) in
     let blank : right.witness.views ≡ [] =
     blank-in-book right.witness.views right.witness.table_id right.grip.book _ right.part.home c.args.self.now.home home-is tables in
-    let inside : right.number < length c.self.inside.parts.items = omega (arith, size, sizes, right.inside, home) in
+    let inside : c.number-number.result < length c.self.inside.parts.items = omega (arith, size, sizes, c.number-number.ensures, right.inside, home) in
     rw (← c.self.view_is) (kept-changed _ _ _ _ _ inside c.index_mut-kept.ensures.value (λ e.
     rw (c.join.ensures.joined) rw (c.apart.ensures.kept.0, c.apart.ensures.kept.1, e, right.due blank, ← kind-is) refl))

@@ -7,6 +7,6 @@ returns-clause-kept c =
     let size = c.self.invariant.size in
     let sizes : c.self.inside.book.home.size ≡ c.args.self.now.home.size = (λ i. (c.self.view_is i).home.size) in
     let home : c.args.several.part.home.size ≡ c.args.self.now.home.size = (λ i. (c.requires i).size) in
-    let inside : c.args.several.number < length c.self.inside.parts.items = omega (arith, size, sizes, c.args.several.inside, home) in
+    let inside : c.number-number.result < length c.self.inside.parts.items = omega (arith, size, sizes, c.number-number.ensures, c.args.several.inside, home) in
     rw (← c.self.view_is) (kept-changed _ _ _ _ _ inside c.index_mut-kept.ensures.value (λ e.
     rw (c.join.ensures.joined) rw (c.apart.ensures.kept.0, c.apart.ensures.kept.1, e, c.args.several.due) refl))
