@@ -15,8 +15,8 @@ use std::fmt::{self, Debug, Formatter};
 pub struct Ptr<'g, T> {
     /// Of the value that it was made with; of nothing where it is null.
     sight: &'g Nullable<T>,
-    /// 0 where it is null, so that equal pointers have equal fields.
-    slot: SlotName,
+    /// The number of the slot's name: 0 where it is null, so that equal pointers have equal fields.
+    slot: u32,
     tag: Tag,
     /// It isn't null.
     named: bool,
@@ -83,7 +83,7 @@ impl<'g, T> Ptr<'g, T> {
         let sight = Nullable::none();
         Ptr {
             sight,
-            slot: SlotName::of(0),
+            slot: 0,
             tag: Tag::None,
             named: false,
         }
@@ -97,7 +97,7 @@ impl<'g, T> Ptr<'g, T> {
         let sight = Nullable::of(value);
         Ptr {
             sight,
-            slot,
+            slot: slot.number(),
             tag: Tag::None,
             named: true,
         }
@@ -116,7 +116,11 @@ impl<'g, T> Ptr<'g, T> {
     pub(crate) fn slot(&self) -> Option<SlotName>
         ensures { result ≡ slot_named self.now }
     {
-        if self.named { Some(self.slot) } else { None }
+        if self.named {
+            Some(SlotName::of(self.slot))
+        } else {
+            None
+        }
     }
 
     /// Null, whatever the tag is.

@@ -14,8 +14,8 @@ use std::marker::PhantomData;
 ///
 /// Two pointers are equal exactly if they name the same slot, or none, and have the same tag.
 pub struct RawPtr<T> {
-    /// 0 where it is null, so that equal pointers have equal fields.
-    slot: SlotName,
+    /// The number of the slot's name: 0 where it is null, so that equal pointers have equal fields.
+    slot: u32,
     tag: Tag,
     /// It isn't null.
     named: bool,
@@ -87,7 +87,10 @@ impl<T> RawPtr<T> {
         ensures tag { tag_of result ≡ tag }
     {
         RawPtr {
-            slot: named.unwrap_or(SlotName::of(0)),
+            slot: match named {
+                Some(slot) => slot.number(),
+                None => 0,
+            },
             tag,
             named: named.is_some(),
             of: PhantomData,
@@ -97,7 +100,11 @@ impl<T> RawPtr<T> {
     pub(crate) fn slot(&self) -> Option<SlotName>
         ensures { result ≡ slot_named self.now }
     {
-        if self.named { Some(self.slot) } else { None }
+        if self.named {
+            Some(SlotName::of(self.slot))
+        } else {
+            None
+        }
     }
 
     /// The pointer that a raw cell has.
