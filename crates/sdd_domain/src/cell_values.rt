@@ -25,13 +25,13 @@ use sdd_atomics::steps::cells::{
 };
 use sdd_atomics::steps::slots::{cut, draw_unit, enter_unit, take_in};
 use sdd_atomics::{DomainSeat, DomainTable};
-use sdd_core::{SlotName, Tag};
+use sdd_core::Tag;
 use sdd_rights::{ReadFraction, Right, StandingKind};
 use sdd_witness::Witness;
 
 /// An owner of an item as a token of its own, with the item's slot, and a unit of the place's number.
 pub struct LooseOwner {
-    pub slot: SlotName,
+    pub slot: u32,
     pub owner: Witness,
     pub grip: ReadFraction,
 }
@@ -44,7 +44,7 @@ pub fn loosen(board: &DomainTable, held: Option<Right>, kind: StandingKind) -> O
     ensures loose { AreLoose board.now (is_shared kind) result }
 {
     let right = held?;
-    let slot = right.name();
+    let slot = right.number();
     let (owner, grip) = right.into_owner();
     Some(LooseOwner { slot, owner, grip })
 }
@@ -95,13 +95,13 @@ pub fn take_up(board: &DomainTable, token: &mut DomainSeat, new: Option<LooseOwn
     };
     let LooseOwner { slot, owner, grip } = loose;
     take_in(board, token, owner);
-    let unit = unit_of(board, slot.number(), grip);
-    enter_unit(board, token, slot.number(), unit);
+    let unit = unit_of(board, slot, grip);
+    enter_unit(board, token, slot, unit);
 }
 
 /// The owner of a slot that the participant has is a token of its own again. Its unit comes from the bank.
 #[inline]
-pub fn part_with(board: &DomainTable, token: &mut DomainSeat, slot: SlotName) -> LooseOwner
+pub fn part_with(board: &DomainTable, token: &mut DomainSeat, slot: u32) -> LooseOwner
     requires home { token.old.table_id ≡ id_of board.now }
     requires knows { Knows board.now token.old }
     requires inside { slot < slots_of board.now }
@@ -115,7 +115,7 @@ pub fn part_with(board: &DomainTable, token: &mut DomainSeat, slot: SlotName) ->
     ensures owner { (shared : Bool) (value : Gv) → (view token.old).stakes.owns ≡ record { slot = slot; shared = shared; value = value } ∷ []
         → IsLoose board.now shared result × (result.grip.shown ≡ value) }
 {
-    let grip = draw_unit(board, token, slot.number()).into_grip();
+    let grip = draw_unit(board, token, slot).into_grip();
     let owner = cut(board, token);
     LooseOwner { slot, owner, grip }
 }

@@ -22,16 +22,12 @@ pub const NULL_WORD: u64 = UNOWNED;
 
 /// The slot whose owner a cell holds that has this word, if it holds one.
 #[inline]
-pub fn held_slot(word: u64) -> Option<SlotName>
+pub fn held_slot(word: u64) -> Option<u32>
     ensures held { result ≡ slice_get (held_slots word) 0 }
     ensures small { IfSome result (λ slot. slot < 2 ^ 25 - 5) }
 {
     let slot = ((word % BELOW_GENERATION / 4) as u32).wrapping_sub(1);
-    if slot < UNNAMED {
-        Some(SlotName::of(slot))
-    } else {
-        None
-    }
+    if slot < UNNAMED { Some(slot) } else { None }
 }
 
 /// The tag of a cell that has this word.
@@ -54,14 +50,17 @@ pub fn contents_in(word: u64) -> CellContents
     ensures small { IfSome result.held (λ slot. slot < 2 ^ 25 - 5) }
 {
     CellContents {
-        held: held_slot(word),
+        held: match held_slot(word) {
+            Some(slot) => Some(SlotName::of(slot)),
+            None => None,
+        },
         tag: tag_in(word),
     }
 }
 
 /// The word of a cell that holds the owner of a slot, or none, with a tag.
 #[inline]
-pub fn word_with(held: Option<SlotName>, tag: Tag) -> u64
+pub fn word_with(held: Option<u32>, tag: Tag) -> u64
     requires { IfSome held (λ slot. slot < 2 ^ 25 - 5) }
     ensures taken { 0 < result }
     ensures held { held_slots result ≡ listed held }
@@ -69,7 +68,7 @@ pub fn word_with(held: Option<SlotName>, tag: Tag) -> u64
 {
     let number = u8::from(tag) as u64;
     match held {
-        Some(slot) => 4 * (slot.number() as u64 + 1) + number,
+        Some(slot) => 4 * (slot as u64 + 1) + number,
         None => UNOWNED + number,
     }
 }

@@ -4,7 +4,6 @@ ghost use Rattle.sdd_word_invariant.specs.Codes.{pointers_end};
 ghost use Rattle.sdd_domain.specs.Local.{pointer_by};
 
 use crate::cell_words::tag_in;
-use sdd_core::SlotName;
 use sdd_participants::RawCellContents;
 
 /// The word by which a raw cell points to this; no other word tells the same.
@@ -16,7 +15,7 @@ pub fn word_to(pointer: RawCellContents) -> u64
 {
     let number = u8::from(pointer.tag) as u64;
     match pointer.named {
-        Some(slot) => 4 * (slot.number() as u64 + 1) + number,
+        Some(slot) => 4 * (slot as u64 + 1) + number,
         None => number,
     }
 }
@@ -31,7 +30,7 @@ pub fn pointer_in(word: u64) -> RawCellContents
     let named = if slot == 0 {
         None
     } else {
-        Some(SlotName::of((slot - 1) as u32))
+        Some((slot - 1) as u32)
     };
     RawCellContents {
         named,

@@ -10,7 +10,7 @@ ghost use Rattle.sdd_domain.specs.SeenOwners.{Ends, Tries};
 use crate::cell_values::{LooseOwner, part_with};
 use sdd_atomics::steps::slots::{HELD, MOST_SHARED, add_seen, look};
 use sdd_atomics::{DomainSeat, DomainTable};
-use sdd_core::{Refused, SlotName};
+use sdd_core::Refused;
 
 /// So much does the word of a slot have whose item several may own, and none does any more.
 const NO_OWNER: u64 = 1 << 63;
@@ -50,7 +50,7 @@ pub fn try_seen(board: &DomainTable, token: &mut DomainSeat, slot: u32) -> Tried
     if add_seen(board, token, slot, word) != word {
         return Tried::Lost;
     }
-    Tried::Came(part_with(board, token, SlotName::of(slot)))
+    Tried::Came(part_with(board, token, slot))
 }
 
 /// The same, tried so often. None where the item has no owner that counts any more.

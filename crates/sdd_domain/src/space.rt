@@ -290,7 +290,7 @@ impl<T: Item<T>, J: Job> SharedItems<T> for Local<'_, T, J> {
 
     fn get_shared(&mut self, slot: SlotName) -> Result<Option<Right>, Refused> {
         self.partner.ledger.codes();
-        self.partner.membership.own_seen(slot)
+        self.partner.membership.own_seen(slot.number())
     }
 
     ghost exact_asks_nothing = { λ p exact. lone_asks_nothing p.member exact };
@@ -320,18 +320,18 @@ impl<T: Item<T>, J: Job> InPlaceItems<T> for Local<'_, T, J> {
 impl<T: Item<T>, J: Job> RawItems<T> for Local<'_, T, J> {
     #[inline]
     fn into_raw(&mut self, right: Right) -> SlotName {
-        self.partner.membership.into_raw(right)
+        SlotName::of(self.partner.membership.into_raw(right))
     }
 
     #[inline]
     fn from_raw(&mut self, slot: SlotName) -> Option<Right> {
-        self.partner.membership.from_raw(slot)
+        self.partner.membership.from_raw(slot.number())
     }
 
     #[inline]
     fn get_guarded_raw<'g>(&mut self, slot: SlotName, guard: &'g Guard) -> Option<&'g T> {
         self.partner.ledger.codes();
-        self.partner.membership.get_guarded_raw(slot, guard)
+        self.partner.membership.get_guarded_raw(slot.number(), guard)
     }
 }
 

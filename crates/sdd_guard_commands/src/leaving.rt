@@ -8,7 +8,6 @@ ghost use Rattle.sdd_space.specs.World.{AnyGuardOpen, IsPlaceOf, standing_at};
 ghost use Rattle.sdd_guard_commands.specs.Leaving.{SpendsOwner, SpendsCell, SpendsCollector, SpendsGuard, SpendsStack, LeavesRaw, LeavesStack, BeginsUnder, revived};
 
 use crate::guards::close_guard;
-use sdd_core::SlotName;
 use sdd_lists::Stack;
 use sdd_participants::{Standing, Tally};
 use sdd_script_model::{Body, Val};
@@ -179,7 +178,7 @@ fn leave_raw_item(stage: &mut Interpreter, slot: u32)
     ensures { LeavesRaw slot stage.old stage.new }
 {
     if is_raw(&stage.hand.world, slot) {
-        leave_raw(&mut stage.hand.world, SlotName::of(slot));
+        leave_raw(&mut stage.hand.world, slot);
     }
 }
 

@@ -26,10 +26,10 @@ pub struct CellContents {
     pub tag: Tag,
 }
 
-/// What a raw pointer names: the item in a slot, or nothing; and its tag.
+/// What a raw pointer names: the item in a slot, by the number of the slot's name, or nothing; and its tag.
 #[derive(Clone, Copy, Debug, PartialEq, Eq)]
 pub struct RawCellContents {
-    pub named: Option<SlotName>,
+    pub named: Option<u32>,
     pub tag: Tag,
 }
 

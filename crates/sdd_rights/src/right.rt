@@ -100,17 +100,17 @@ impl Right {
 
     /// The right to a slot of a domain, by the token of its owner and a unit of the number of the slot's place. The domain has so many slots.
     pub fn of_witness(
-        name: SlotName,
+        number: u32,
         size: usize,
         kind: StandingKind,
         witness: Witness,
         grip: ReadFraction,
     ) -> Right
-        requires owner { witness.views ≡ witness_of_owner name (is_shared kind) grip.shown }
-        requires place { grip.number ≡ name }
-        requires inside { name < size }
+        requires owner { witness.views ≡ witness_of_owner number (is_shared kind) grip.shown }
+        requires place { grip.number ≡ number }
+        requires inside { number < size }
         requires kind { IsOwner kind }
-        ensures number { number_of result ≡ name }
+        ensures number { number_of result ≡ number }
         ensures home { home_of result ≡ home_of_table witness.table_id grip.book size }
         ensures kind { kind_of result ≡ kind }
         ensures views { views_of result ≡ witness.views }
@@ -118,7 +118,7 @@ impl Right {
         let mut book = GhostKeys::new(size);
         let part = book.issue(&kind);
         Right {
-            name,
+            name: SlotName::of(number),
             part,
             witness,
             grip,

@@ -111,7 +111,11 @@ impl<T> RawPtr<T> {
     pub(crate) fn of_pointer(pointer: RawCellContents) -> RawPtr<T>
         ensures { pointer_of result ≡ pointer }
     {
-        RawPtr::of(pointer.named, pointer.tag)
+        let named = match pointer.named {
+            Some(slot) => Some(SlotName::of(slot)),
+            None => None,
+        };
+        RawPtr::of(named, pointer.tag)
     }
 
     /// What a raw cell has that points to the same.
@@ -119,7 +123,7 @@ impl<T> RawPtr<T> {
         ensures { result ≡ pointer_of self.now }
     {
         RawCellContents {
-            named: self.slot(),
+            named: if self.named { Some(self.slot) } else { None },
             tag: self.tag,
         }
     }

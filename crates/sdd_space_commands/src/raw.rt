@@ -15,7 +15,7 @@ ghost use Rattle.sdd_script_model.specs.ScriptState as desk;
 
 use crate::holding::AnyOwner;
 use crate::step::SpaceCommand;
-use sdd_core::{Refused, SlotName, Tag};
+use sdd_core::{Refused, Tag};
 use sdd_participants::{Idle, RawCellContents};
 use sdd_script_model::Val;
 use sdd_script_text::Reply;
@@ -157,7 +157,7 @@ impl SpaceCommand for ComeBack {
     >(self, s: &mut S) -> Option<Owned<Val>> {
         let ComeBack { slot } = self;
         let ptr = raw_ptr_of(RawCellContents {
-            named: Some(SlotName::of(slot)),
+            named: Some(slot),
             tag: Tag::None,
         });
         Owned::from_raw(ptr, s)
@@ -189,7 +189,7 @@ impl<'g> SpaceCommand for SeeRaw<'g> {
     >(self, s: &mut S) -> Option<&'g Val> {
         let SeeRaw { slot, guard } = self;
         let ptr = raw_ptr_of(RawCellContents {
-            named: Some(SlotName::of(slot)),
+            named: Some(slot),
             tag: Tag::None,
         });
         ptr.into_ptr(s, guard)?.as_ref(s)

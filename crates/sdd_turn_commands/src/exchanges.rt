@@ -45,7 +45,7 @@ fn ptr_compared<'g>(
     let Some(slot) = slot else {
         return null_with(tag);
     };
-    ptr_at(world, place, slot, guard).with_tag(tag)
+    ptr_at(world, place, slot.number(), guard).with_tag(tag)
 }
 
 /// The cell holds this from now on, with this tag. Answers what it held, and the tag before.

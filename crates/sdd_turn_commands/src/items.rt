@@ -13,7 +13,6 @@ ghost use Rattle.sdd_space_commands.specs.Owners.{owner_holding};
 ghost use Rattle.sdd_script_model.specs.Held.{standing_first, holding_first};
 
 use crate::turn::cell_step_at;
-use sdd_core::SlotName;
 use sdd_script_model::{Body, OwnerKind, Val};
 use sdd_space::{Guard, Shows};
 use sdd_space_commands::holding::AnyOwner;
@@ -54,7 +53,7 @@ pub fn value_shown<'g>(
     ensures home { link_home result.now ≡ world.old.home.cells }
     ensures world { world.new ≡ world.old }
 {
-    let ptr = ptr_at(world, place, SlotName::of(slot), guard);
+    let ptr = ptr_at(world, place, slot, guard);
     let Some(value) = ptr.as_ref(world) else {
         unreachable!()
     };

@@ -14,7 +14,7 @@ ghost use Rattle.sdd_space.specs.Shared as shared_owner;
 ghost use Rattle.sdd_participants.specs.declared.standing.Standing.TheVariants as standing;
 
 use crate::turn::step_at;
-use sdd_core::{Refused, SlotName};
+use sdd_core::Refused;
 use sdd_script_model::Val;
 use sdd_space::{Guard, Owned, Shared};
 use sdd_space_commands::owners::{CloneOwner, ReleaseOwner, RetireItem, ShareItem};
@@ -76,6 +76,6 @@ pub fn share_item(
         × (world.new ≡ with_standing world.old slot (shared_by (owners + 1)))))
         (λ e. (e ≡ Refused.TooManyOwners) × IsSharedBy (2 ^ 62) (standing_at world.old slot) × (world.new ≡ world.old)) }
 {
-    let ptr = ptr_at(world, place, SlotName::of(slot), guard);
+    let ptr = ptr_at(world, place, slot, guard);
     step_at(world, place, ShareItem { ptr })
 }

@@ -65,7 +65,7 @@ pub fn is_open<T: Item<T>, J: Job>(world: &World<T, J>, place: &Place) -> bool
 pub fn ptr_at<'g, T: Item<T>, J: Job>(
     world: &mut World<T, J>,
     place: &Place,
-    slot: SlotName,
+    slot: u32,
     guard: &'g Guard,
 ) -> Ptr<'g, T>
     requires place { IsPlaceOf world.old (index_of place.now) }
@@ -76,7 +76,7 @@ pub fn ptr_at<'g, T: Item<T>, J: Job>(
     ensures full { IsSome (shown_by result) }
     ensures world { world.new ≡ world.old }
 {
-    ptr_to(slot, world.lend(place, slot.number(), guard))
+    ptr_to(SlotName::of(slot), world.lend(place, slot, guard))
 }
 
 /// No slot is free.
@@ -115,7 +115,7 @@ pub fn leave_shared<T: Item<T>, J: Job>(world: &mut World<T, J>, owner: Shared<T
 }
 
 /// The item in a slot that is out as raw waits at some place that isn't free.
-pub fn leave_raw<T: Item<T>, J: Job>(world: &mut World<T, J>, slot: SlotName)
+pub fn leave_raw<T: Item<T>, J: Job>(world: &mut World<T, J>, slot: u32)
     requires some { (p : ℕ) × IsSome (phase_at world.old.time p) }
     requires raw { standing_at world.old slot ≡ Some standing.Raw }
     ensures left { (p : ℕ) × IsSome (phase_at world.old.time p) × (world.new ≡ retired world.old p slot) }

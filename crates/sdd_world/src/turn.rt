@@ -307,26 +307,26 @@ impl<T: Item<T>, J: Job> SharedItems<T> for Turn<'_, T, J> {
 
     fn get_shared(&mut self, slot: SlotName) -> Result<Option<Right>, Refused> {
         let world = &mut *self.world;
-        world.core.get_shared(slot)
+        world.core.get_shared(slot.number())
     }
 }
 
 impl<T: Item<T>, J: Job> RawItems<T> for Turn<'_, T, J> {
     fn into_raw(&mut self, right: Right) -> SlotName {
         let world = &mut *self.world;
-        world.core.into_raw(right)
+        SlotName::of(world.core.into_raw(right))
     }
 
     fn from_raw(&mut self, slot: SlotName) -> Option<Right> {
         let world = &mut *self.world;
-        world.core.from_raw(slot)
+        world.core.from_raw(slot.number())
     }
 
     fn get_guarded_raw<'g>(&mut self, slot: SlotName, guard: &'g Guard) -> Option<&'g T> {
         let world = &mut *self.world;
         world
             .core
-            .lend_raw(self.place, slot, inner::tenure_of(guard))
+            .lend_raw(self.place, slot.number(), inner::tenure_of(guard))
     }
 }
 

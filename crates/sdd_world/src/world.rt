@@ -15,7 +15,7 @@ ghost use Rattle.sdd_space.specs.WorldChanges.{made, retired, owner_given, nulle
 mod closing;
 mod laws;
 
-use sdd_core::{Limits, Refused, SlotName};
+use sdd_core::{Limits, Refused};
 use sdd_participants::{EpochState, Idle, Job, LimboEntry, Standing, Tally};
 use sdd_rights::{RawRight, Right, StandingKind};
 use sdd_space::{Guard, Item, inner};
@@ -174,7 +174,7 @@ impl<T: Item<T>, J: Job> World<T, J> {
     }
 
     /// The item in a slot that is out as raw waits at some place that isn't free.
-    pub(crate) fn leave_raw(&mut self, slot: SlotName)
+    pub(crate) fn leave_raw(&mut self, slot: u32)
         requires some { (p : ℕ) × IsSome (phase_at self.old.time p) }
         requires raw { standing_at self.old slot ≡ Some Standing.Raw }
         ensures left { (p : ℕ) × IsSome (phase_at self.old.time p) × (self.new ≡ retired self.old p slot) }

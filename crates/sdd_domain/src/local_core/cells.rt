@@ -26,7 +26,7 @@ use crate::cell_words::{contents_in, held_slot, holds, tag_in};
 use crate::local_core::LocalCore;
 use crate::local_core::items::is_one_of_several;
 use sdd_atomics::steps::cells::{look_in, recall_cell, see_in};
-use sdd_core::{Refused, SlotName, Tag};
+use sdd_core::{Refused, Tag};
 use sdd_participants::{CellContents, Job};
 use sdd_rights::{RawRight, Right, StandingKind};
 use sdd_shared_values::GhostValues;
@@ -128,7 +128,7 @@ impl<'d, T: Item<T>, J: Job> LocalCore<'d, T, J> {
 
     /// The value of the item whose owner a cell holds, with its slot, for as long as the guard is borrowed; and the cell's tag.
     #[inline(always)]
-    pub(crate) fn load<'g>(&mut self, cell: &Right, guard: &'g Guard) -> (Option<(SlotName, &'g T)>, Tag)
+    pub(crate) fn load<'g>(&mut self, cell: &Right, guard: &'g Guard) -> (Option<(u32, &'g T)>, Tag)
         requires home { home_of cell.now ≡ cells_home self.old.home }
         requires reader { reader_of guard.now ≡ self.old.reader }
         ensures found { (word : ℕ) × FindsAt (number_of cell.now) word self.old × MatchOption result.0
@@ -149,7 +149,7 @@ impl<'d, T: Item<T>, J: Job> LocalCore<'d, T, J> {
         let Some(slot) = held_slot(word) else {
             return (None, tag);
         };
-        let value = shelf.show(slot.number() as usize, &mut self.token, &board.table.shared, tenure);
+        let value = shelf.show(slot as usize, &mut self.token, &board.table.shared, tenure);
         (Some((slot, value)), tag)
     }
 

@@ -14,7 +14,7 @@ use crate::holding::{change_alone, go_in_place, hold_alone};
 use crate::local_core::LocalCore;
 use crate::local_core::items::is_one_of_several;
 use sdd_atomics::steps::slots::recall;
-use sdd_core::{Refused, SlotName};
+use sdd_core::Refused;
 use sdd_participants::Job;
 use sdd_rights::{Right, StandingKind};
 use sdd_shared_values::GhostValues;
@@ -67,11 +67,11 @@ impl<'d, T: Item<T>, J: Job> LocalCore<'d, T, J> {
                     grip,
                     f,
                 );
-                right.put(Right::of_witness(SlotName::of(slot), slots, kind, owner, grip));
+                right.put(Right::of_witness(slot, slots, kind, owner, grip));
                 Ok(answer)
             }
             Err((owner, hindrance)) => {
-                right.put(Right::of_witness(SlotName::of(slot), slots, kind, owner, grip));
+                right.put(Right::of_witness(slot, slots, kind, owner, grip));
                 Err((f, hindrance.refused()))
             }
         }
@@ -124,7 +124,7 @@ impl<'d, T: Item<T>, J: Job> LocalCore<'d, T, J> {
                 None => Ok(None),
             },
             Err((owner, grip, refused)) => {
-                Err((Right::of_witness(SlotName::of(slot), slots, kind, owner, grip), refused))
+                Err((Right::of_witness(slot, slots, kind, owner, grip), refused))
             }
         }
     }

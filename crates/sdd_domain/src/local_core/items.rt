@@ -94,7 +94,7 @@ impl<'d, T: Item<T>, J: Job> LocalCore<'d, T, J> {
                     value,
                 );
                 self.tally.count_made();
-                Ok(Right::of_witness(SlotName::of(slot), slots as usize, kind, owner, grip))
+                Ok(Right::of_witness(slot, slots as usize, kind, owner, grip))
             }
             Err(refused) => Err((value, refused)),
         }
@@ -143,7 +143,7 @@ impl<'d, T: Item<T>, J: Job> LocalCore<'d, T, J> {
                     value,
                 );
                 self.tally.count_made();
-                Ok(Right::of_witness(SlotName::of(slot), slots as usize, kind, owner, grip))
+                Ok(Right::of_witness(slot, slots as usize, kind, owner, grip))
             }
             Err(refused) => Err((make, refused)),
         }
@@ -216,14 +216,14 @@ impl<'d, T: Item<T>, J: Job> LocalCore<'d, T, J> {
         }
         let grip = draw_unit(board, &mut self.token, slot).into_grip();
         let other = cut(board, &mut self.token);
-        Ok(Right::of_witness(SlotName::of(slot), slots, StandingKind::Shared, other, grip))
+        Ok(Right::of_witness(slot, slots, StandingKind::Shared, other, grip))
     }
 
     /// One owner more of an item whose value nobody moves, as its guards see it or nobody else takes part, if it may have several and has one still. No
     /// memory is taken.
     ///
     /// `TooManyOwners` where as many own it as may; `Contended` where others came or went meanwhile as often as the limits allow.
-    pub(crate) fn own_seen(&mut self, slot: SlotName) -> Result<Option<Right>, Refused>
+    pub(crate) fn own_seen(&mut self, slot: u32) -> Result<Option<Right>, Refused>
         requires still { KnowsStill self.old slot }
         ensures came { MatchResult result
             (λ o. MatchOption o ((self.new ≡ self.old) × HasNoOwner self.old slot)
@@ -232,13 +232,12 @@ impl<'d, T: Item<T>, J: Job> LocalCore<'d, T, J> {
         ensures right { IfOk result (λ o. IfSome o (λ right. (value : Gv) × IsRightTo self.old StandingKind.Shared value right × ShowsTo self.old slot value)) }
     {
         let slots = self.domain.limits.slots;
-        let number = slot.number();
-        if number as u64 >= slots {
+        if slot as u64 >= slots {
             return Ok(None);
         }
         let tries = self.domain.limits.tries;
         let board = &self.domain.board;
-        let loose = match own_seen(board, &mut self.token, number, tries) {
+        let loose = match own_seen(board, &mut self.token, slot, tries) {
             Ok(loose) => loose,
             Err(refused) => return Err(refused),
         };

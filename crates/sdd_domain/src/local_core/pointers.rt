@@ -13,7 +13,7 @@ ghost use Rattle.sdd_domain.specs.LocalState.{IsLone};
 ghost use Rattle.sdd_domain.specs.SpaceIds.{cells_home};
 
 use crate::local_core::LocalCore;
-use sdd_core::Tag;
+use sdd_core::{SlotName, Tag};
 use sdd_participants::Job;
 use sdd_rights::{Right, StandingKind};
 use sdd_space::inner::{null_with, ptr_to};
@@ -33,7 +33,7 @@ impl<'d, T: Item<T>, J: Job> LocalCore<'d, T, J> {
         let Some((slot, value)) = held else {
             return null_with(tag);
         };
-        ptr_to(slot, value).with_tag(tag)
+        ptr_to(SlotName::of(slot), value).with_tag(tag)
     }
 
     /// A pointer with this tag to the item of an owner, if there is one.

@@ -12,7 +12,7 @@ ghost use Rattle.sdd_space.specs.WorldInvariant.{IsWhole};
 ghost use Rattle.sdd_world_core.specs.Lending.{AreLent};
 
 use super::WorldCore;
-use sdd_core::{Refused, SlotName, Tag};
+use sdd_core::{Refused, Tag};
 use sdd_participants::{CellContents, Job, Standing};
 use sdd_rights::{Right, StandingKind};
 use sdd_space::Item;
@@ -73,14 +73,14 @@ impl<T: Item<T>, J: Job> WorldCore<T, J> {
     }
 
     /// The slot whose item a cell holds, as its owner finds it.
-    pub(super) fn slot_held(&self, cell: &Right) -> Option<SlotName>
+    pub(super) fn slot_held(&self, cell: &Right) -> Option<u32>
         requires { home_of cell.now ≡ self.now.world.home.cells }
         ensures taken { IsSome (entry_at self.now.world.cells (number_of cell.now)) }
         ensures held { IfSome (entry_at self.now.world.cells (number_of cell.now)) (λ old. old.held ≡ result) }
         ensures owned { IfSome result (λ slot. IsOwnedBy (kind_of cell.now) (standing_at self.now.world slot)) }
     {
         let right = self.cells.owner(cell)?;
-        Some(SlotName::of(self.slots.slot_of(right)))
+        Some(self.slots.slot_of(right))
     }
 
     /// One owner more of what a cell of shared owners holds, if it holds anything.

@@ -48,7 +48,7 @@ impl<T: Item<T>, J: Job> WorldCore<T, J> {
         let Some(slot) = self.slot_held(cell) else {
             return inner::null_with(tag);
         };
-        inner::ptr_to(slot, self.lend_from(place, slot.number(), part)).with_tag(tag)
+        inner::ptr_to(SlotName::of(slot), self.lend_from(place, slot, part)).with_tag(tag)
     }
 
     /// The value in a slot whose item stays there while a guard of the place is open.
@@ -67,7 +67,7 @@ impl<T: Item<T>, J: Job> WorldCore<T, J> {
     }
 
     /// The value of an item that is out as raw, for as long as a part of the place's tenure is borrowed; of any other slot none.
-    pub fn lend_raw<'g>(&mut self, place: usize, slot: SlotName, part: &'g ReadSection) -> Option<&'g T>
+    pub fn lend_raw<'g>(&mut self, place: usize, slot: u32, part: &'g ReadSection) -> Option<&'g T>
         requires place { HasPlace self.old.world place }
         requires lent { AreLent self.old }
         requires part { IsPartAt self.old.world.home.readers place part.now }
@@ -77,10 +77,9 @@ impl<T: Item<T>, J: Job> WorldCore<T, J> {
         ensures jobs { self.new.deferred ≡ self.old.deferred }
         ensures lent { AreLent self.new }
     {
-        let number = slot.number();
-        let Some(Standing::Raw) = self.slots.standing(number) else {
+        let Some(Standing::Raw) = self.slots.standing(slot) else {
             return None;
         };
-        Some(self.lend_from(place, number, part))
+        Some(self.lend_from(place, slot, part))
     }
 }

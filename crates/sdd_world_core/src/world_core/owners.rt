@@ -11,7 +11,7 @@ ghost use Rattle.sdd_space.specs.WorldInvariant.{IsWhole};
 ghost use Rattle.sdd_world_core.specs.Lending.{AreLent};
 
 use super::WorldCore;
-use sdd_core::{Refused, SlotName};
+use sdd_core::Refused;
 use sdd_participants::{Job, LimboEntry, Standing};
 use sdd_rights::{Right, SharedRights, StandingKind};
 use sdd_space::Item;
@@ -21,7 +21,7 @@ impl<T: Item<T>, J: Job> WorldCore<T, J> {
     /// One owner more of the item in a slot, if it is shared.
     ///
     /// `TooManyOwners` where as many share it as may.
-    pub fn get_shared(&mut self, slot: SlotName) -> Result<Option<Right>, Refused>
+    pub fn get_shared(&mut self, slot: u32) -> Result<Option<Right>, Refused>
         ensures right { IfOk result (λ o. IfSome o
             (λ right. (home_of right ≡ self.old.world.home.slots) × (number_of right ≡ slot) × (kind_of right ≡ StandingKind.Shared))) }
         ensures upgraded { MatchResult result
@@ -34,10 +34,8 @@ impl<T: Item<T>, J: Job> WorldCore<T, J> {
         ensures whole { IsWhole self.old.world → IsWhole self.new.world }
         ensures lent { IsWhole self.old.world → AreLent self.old → AreLent self.new }
     {
-        let number = slot.number();
-        match self.slots.owners(number) {
-            Some(owners) if owners < MOST_OWNERS =>
-                Ok(Some(self.slots.clone_owner(number, owners))),
+        match self.slots.owners(slot) {
+            Some(owners) if owners < MOST_OWNERS => Ok(Some(self.slots.clone_owner(slot, owners))),
             Some(_) => Err(Refused::TooManyOwners),
             None => Ok(None),
         }
@@ -151,7 +149,7 @@ impl<T: Item<T>, J: Job> WorldCore<T, J> {
     }
 
     /// The item of the one owner is out as raw.
-    pub fn into_raw(&mut self, right: Right) -> SlotName
+    pub fn into_raw(&mut self, right: Right) -> u32
         requires home { home_of right ≡ self.old.world.home.slots }
         requires kind { kind_of right ≡ StandingKind.Owned }
         ensures slot { result ≡ number_of right }
@@ -161,11 +159,11 @@ impl<T: Item<T>, J: Job> WorldCore<T, J> {
         ensures whole { IsWhole self.old.world → IsWhole self.new.world }
         ensures lent { IsWhole self.old.world → AreLent self.old → AreLent self.new }
     {
-        SlotName::of(self.slots.into_raw(right))
+        self.slots.into_raw(right)
     }
 
     /// The owner of an item that is out as raw; of any other slot none.
-    pub fn from_raw(&mut self, slot: SlotName) -> Option<Right>
+    pub fn from_raw(&mut self, slot: u32) -> Option<Right>
         ensures right { IfSome result (λ right. (home_of right ≡ self.old.world.home.slots) × (number_of right ≡ slot) × (kind_of right ≡ StandingKind.Owned)) }
         ensures back { MatchOption result
             ((standing_at self.old.world slot ≢ Some Standing.Raw) × (self.new ≡ self.old))
@@ -175,11 +173,11 @@ impl<T: Item<T>, J: Job> WorldCore<T, J> {
         ensures whole { IsWhole self.old.world → IsWhole self.new.world }
         ensures lent { IsWhole self.old.world → AreLent self.old → AreLent self.new }
     {
-        self.slots.from_raw(slot.number())
+        self.slots.from_raw(slot)
     }
 
     /// The item in a slot that is out as raw waits at some place that isn't free.
-    pub fn leave_raw(&mut self, slot: SlotName)
+    pub fn leave_raw(&mut self, slot: u32)
         requires some { (p : ℕ) × IsSome (time.phase_at self.old.world.time p) }
         requires raw { standing_at self.old.world slot ≡ Some Standing.Raw }
         ensures left { (p : ℕ) × IsSome (time.phase_at self.old.world.time p)

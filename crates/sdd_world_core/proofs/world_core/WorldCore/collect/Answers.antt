@@ -11,7 +11,7 @@ returns-then-is_last-clause-whole g c =
     let slot : ℕ = number_of c.args.right in
     let there = rw (← c.self.view_is) at c.requires.place in
     let e = c.collect-is_last.ensures in
-    rw (← c.self.view_is, e.gone, c.wait.ensures, c.number-slot.ensures)
+    rw (← c.self.view_is, e.gone, c.wait.ensures, c.name-slot.ensures)
     (λ i. whole-collected _ c.args.place c.args.collector slot there _ refl (found _ _ c.args.right.owner e.owned) (none-else _ _ e.last c.if-is_last.true) i)
 
 pub returns-then-is_last-clause-lent : goal.returns-then-is_last-clause-lent
@@ -19,7 +19,7 @@ returns-then-is_last-clause-lent g c =
     let slot : ℕ = number_of c.args.right in
     let there = rw (← c.self.view_is) at c.requires.place in
     let e = c.collect-is_last.ensures in
-    rw (← c.self.view_is, e.gone, c.wait.ensures, c.number-slot.ensures)
+    rw (← c.self.view_is, e.gone, c.wait.ensures, c.name-slot.ensures)
     (λ _ l. lent-collected _ c.args.place c.args.collector slot there _ refl (found _ _ c.args.right.owner e.owned) g.T.Item.holds _ l
     (none-else _ _ e.last c.if-is_last.true))
 
@@ -56,6 +56,6 @@ invariant_of-self g c =
     let e = c.collect-is_last.ensures in
     let i = c.self.inside in
     let by = found _ _ c.args.right.owner e.owned in
-    rw (e.gone, c.wait.ensures, c.number-slot.ensures)
+    rw (e.gone, c.wait.ensures, c.name-slot.ensures)
     (sound-item g.T.Item.holds i.time i.slots i.cells (places_of i.jobs) i.tenures c.args.place there.0 c.self.invariant slot (found-out _ by) _
     (last-waits (Private c.args.collector) refl _ by (none-else _ _ e.last c.if-is_last.true)))

@@ -11,7 +11,7 @@ returns-then-is_last-clause-whole g c =
     let slot : ℕ = number_of c.args.right in
     let there = rw (← c.self.view_is) at c.requires.place in
     let e = c.release-is_last.ensures in
-    rw (← c.self.view_is, e.gone, c.wait.ensures, c.number-slot.ensures)
+    rw (← c.self.view_is, e.gone, c.wait.ensures, c.name-slot.ensures)
     (λ some i. whole-last _ c.args.place slot _ refl there some i (found _ _ c.args.right.owner e.owned) (none-else _ _ e.last c.if-is_last.true))
 
 pub returns-then-is_last-clause-lent : goal.returns-then-is_last-clause-lent
@@ -19,7 +19,7 @@ returns-then-is_last-clause-lent g c =
     let slot : ℕ = number_of c.args.right in
     let there = rw (← c.self.view_is) at c.requires.place in
     let e = c.release-is_last.ensures in
-    rw (← c.self.view_is, e.gone, c.wait.ensures, c.number-slot.ensures)
+    rw (← c.self.view_is, e.gone, c.wait.ensures, c.name-slot.ensures)
     (λ l. lent-last _ c.args.place slot g.T.Item.holds _ _ refl there l (found _ _ c.args.right.owner e.owned) (none-else _ _ e.last c.if-is_last.true))
 
 pub returns-else-is_last-clause-whole : goal.returns-else-is_last-clause-whole
@@ -54,6 +54,6 @@ invariant_of-self g c =
     let e = c.release-is_last.ensures in
     let i = c.self.inside in
     let by = found _ _ c.args.right.owner e.owned in
-    rw (e.gone, c.wait.ensures, c.number-slot.ensures)
+    rw (e.gone, c.wait.ensures, c.name-slot.ensures)
     (sound-item g.T.Item.holds i.time i.slots i.cells (places_of i.jobs) i.tenures c.args.place there c.self.invariant slot (found-out _ by) _
     (last-waits Retired refl _ by (none-else _ _ e.last c.if-is_last.true)))
