@@ -2,7 +2,7 @@
 use Rattle.std.specs.Prelude.{ℕ, ◌≡◌, ◌<◌, ◌∷◌, ◌++◌, List, [], Option, length, map}
 use Rattle.sdd_bag_storage.specs.Storage.{AreEmpty, empty_place}
 use Rattle.sdd_bag_storage.specs.Values.{HasOneMore}
-use Rattle.sdd_keyed_places.specs.KeyedPlaces.{PlaceName}
+use Rattle.sdd_bag_storage.specs.KeyedPlaces.{PlaceName}
 use Rattle.sdd_rights.specs.Units.{GhostName}
 use Rattle.sdd_space.specs.World.{World}
 use Rattle.sdd_lists.specs.declared.linked_entry.LinkedEntry.{LinkedEntry}

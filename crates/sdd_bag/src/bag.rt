@@ -1,6 +1,6 @@
 //! The bag.
 ghost use Rattle.std.specs.Prelude.{◌≡◌, ◌≢◌, ◌↔◌, ◌⊎◌, ◌+◌, ◌^◌, ◌<◌, ◌≤◌, ◌++◌, ℕ, All, IfErr, IfOk, IfSome, IsTrue, List, MatchOption, MatchResult, None, Some, [], drop, length, map};
-ghost use Rattle.sdd_keyed_places.specs.KeyedPlaces.{PlaceName};
+ghost use Rattle.sdd_bag_storage.specs.KeyedPlaces.{PlaceName};
 ghost use Rattle.sdd_bag_storage.specs.Storage.{AreEmpty, AreFull, IsEmptyAt, IsFullWith, empty_place, with_value_at};
 ghost use Rattle.sdd_bag_storage.specs.Values.{AreInSomeOrder, HasOneMore};
 ghost use Rattle.sdd_space.specs.CallerId.{IsSeated, IsExact};

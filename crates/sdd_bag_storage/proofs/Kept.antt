@@ -2,8 +2,8 @@
 use Rattle.std.proofs.Common.{◌≡◌, ℕ, zero, suc, ◌<◌, List, [], ◌∷◌, ◌++◌, Option, Some, None, length, map, slice_get, slice_set, take, drop, refl, sym, ap, ◌∙◌, subst, arith}
 use Rattle.core.specs.Mem.{manually_drop_value}
 use Rattle.core.specs.declared.mem.ManuallyDrop.{ManuallyDrop}
-use Rattle.sdd_keyed_places.specs.KeyedPlaces.{PlaceName}
-use Rattle.sdd_keyed_places.specs.KeptValues.{KeptValue, kept_as, inserted, without_at}
+use Rattle.sdd_bag_storage.specs.KeyedPlaces.{PlaceName}
+use Rattle.sdd_bag_storage.specs.KeptValues.{KeptValue, kept_as, inserted, without_at}
 use Rattle.sdd_bag_storage.specs.Storage.{KeptPlace, kept_place, names_of, value_at, with_value_at}
 
 abbrev got : {A : Type 0} → A → Option A → A

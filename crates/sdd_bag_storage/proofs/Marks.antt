@@ -6,7 +6,7 @@ use native.Mathlib.Decide.{ℕ_discrete}
 use Rattle.std.proofs.lemmas.List.{get_or-set_same, get_or-set_other, get_or-replicate, length-drop, length-map, take-append-drop}
 use Rattle.std.proofs.lemmas.Bool.{cases_lt, lt-ltb}
 use Rattle.std.proofs.Math.Nat.{mul-suc, suc-mul}
-use Rattle.sdd_keyed_places.specs.KeyedPlaces.{PlaceName}
+use Rattle.sdd_bag_storage.specs.KeyedPlaces.{PlaceName}
 use Rattle.sdd_bag_storage.specs.Storage.{AreFull, AreFullBehind, AreMarked, KeptPlace, empty_place, followed, value_at, values_in, with_value_at}
 
 abbrev IsTrueHere : Bool → Type 0

@@ -1,7 +1,7 @@
 -- What a value that goes in or out makes of the values in places
 use Rattle.std.proofs.Common.{◌≡◌, ℕ, zero, suc, ◌+◌, ◌<◌, ◌≤◌, List, [], ◌∷◌, Option, Some, None, length, drop, is_some, refl, sym, ap, ◌∙◌, subst, arith}
 use mathlib.Core.Bool.{Bool, true, false}
-use Rattle.sdd_keyed_places.specs.KeyedPlaces.{PlaceName}
+use Rattle.sdd_bag_storage.specs.KeyedPlaces.{PlaceName}
 use Rattle.sdd_bag_storage.specs.Storage.{AreEmpty, KeptPlace, followed, names_of, value_at, values_in, with_value_at}
 use Rattle.sdd_bag_storage.specs.Values.{HasOneMore}
 use Rattle.sdd_bag_storage.proofs.Kept.{not-there}

@@ -1,2 +1,4 @@
 pub mod Storage
 pub mod Values
+pub mod KeyedPlaces
+pub mod KeptValues

@@ -2,8 +2,8 @@
 use Rattle.std.specs.Prelude.{◌≡◌, ℕ, zero, suc, ◌*◌, ◌^◌, ◌<◌, ◌≤◌, Bool, true, false, List, [], ◌∷◌, ◌++◌, map, length, Option, None, Some, is_some, slice_index_or}
 use Rattle.core.specs.Mem.{manually_drop_value}
 use Rattle.core.specs.declared.mem.ManuallyDrop.{ManuallyDrop}
-use Rattle.sdd_keyed_places.specs.KeyedPlaces.{PlaceName}
-use Rattle.sdd_keyed_places.specs.KeptValues.{KeptValue}
+use Rattle.sdd_bag_storage.specs.KeyedPlaces.{PlaceName}
+use Rattle.sdd_bag_storage.specs.KeptValues.{KeptValue}
 
 -- a place, and its value if it has one
 pub record KeptPlace (T : Type 0) : Type 0 where

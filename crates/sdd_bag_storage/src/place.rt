@@ -1,9 +1,9 @@
 //! One place, which has a value or none.
 ghost use Rattle.std.specs.Prelude.{◌≡◌, ◌<◌, ◌≤◌, Some, drop, slice_get, length, map};
-ghost use Rattle.sdd_keyed_places.specs.KeptValues.{inserted};
+ghost use Rattle.sdd_bag_storage.specs.KeptValues.{inserted};
 ghost use Rattle.sdd_bag_storage.specs.Storage.{empty_place, kept_place, names_of, value_at, with_value_at};
 
-use sdd_keyed_places::{KeyedPlace, PlaceKeys};
+use crate::keyed_place::{KeyedPlace, PlaceKeys};
 use std::mem::ManuallyDrop;
 
 /// A place for a value, or none.

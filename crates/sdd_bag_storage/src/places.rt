@@ -1,7 +1,7 @@
 //! Places side by side.
 ghost use Rattle.std.specs.Prelude.{◌≡◌, ◌<◌, ◌++◌, List, IsSome, length, map, option_copied, slice_get};
 ghost use Rattle.sdd_bag_storage.specs.Storage.{empty_place, kept_place};
-ghost use Rattle.sdd_keyed_places.specs.KeyedPlaces.{PlaceName};
+ghost use Rattle.sdd_bag_storage.specs.KeyedPlaces.{PlaceName};
 
 use crate::place::{Keys, Place, new_place};
 use std::array;

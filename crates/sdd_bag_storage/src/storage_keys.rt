@@ -1,6 +1,6 @@
 //! The keys of a bag's storages.
 ghost use Rattle.std.specs.Prelude.{◌≡◌, ◌≢◌, ◌↔◌, ◌^◌, ◌<◌, ◌≤◌, ◌++◌, ℕ, IfOk, IfSome, IsTrue, List, [], MatchOption, MatchResult, None, Some, drop, is_some, length, map, take};
-ghost use Rattle.sdd_keyed_places.specs.KeyedPlaces.{PlaceName};
+ghost use Rattle.sdd_bag_storage.specs.KeyedPlaces.{PlaceName};
 ghost use Rattle.sdd_bag_storage.specs.Storage.{KeptPlace, empty_place, value_at, with_value_at, IsEmptyAt, IsFullWith, AreFull, AreEmpty, StandInFront, names_of, values_in};
 ghost use Rattle.sdd_bag_storage.specs.Values.{HasOneMore};
 

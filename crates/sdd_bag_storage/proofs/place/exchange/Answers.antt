@@ -1,6 +1,6 @@
 use Rattle.std.proofs.Common.{map, ap, ◌∙◌, sym, Option}
 use Rattle.core.specs.Mem.{manually_drop_value}
-use Rattle.sdd_keyed_places.specs.KeptValues.{kept_as, inserted, without_at}
+use Rattle.sdd_bag_storage.specs.KeptValues.{kept_as, inserted, without_at}
 use Rattle.sdd_bag_storage.specs.Storage.{kept_place, with_value_at}
 use Rattle.sdd_bag_storage.proofs.Kept.{name-there, value-there, put-back, same-there}
 use Rattle.sdd_bag_storage.proofs.place.exchange.Goals as goal

@@ -1,5 +1,5 @@
 use Rattle.std.proofs.Common.{◌+◌, List, map, drop, ap, ◌∙◌, arith, zero}
-use Rattle.sdd_keyed_places.specs.KeptValues.{without_at}
+use Rattle.sdd_bag_storage.specs.KeptValues.{without_at}
 use Rattle.sdd_bag_storage.specs.Storage.{kept_place}
 use Rattle.sdd_bag_storage.proofs.Kept.{Key, drop-next, map-drop}
 use Rattle.sdd_bag_storage.proofs.place.forget.Goals as goal

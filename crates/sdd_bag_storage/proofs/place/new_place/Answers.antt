@@ -1,6 +1,6 @@
 use Rattle.std.proofs.Common.{◌≡◌, map, ap, ◌∙◌}
 use Rattle.core.specs.Mem.{manually_drop_value}
-use Rattle.sdd_keyed_places.specs.KeptValues.{kept_as, inserted}
+use Rattle.sdd_bag_storage.specs.KeptValues.{kept_as, inserted}
 use Rattle.sdd_bag_storage.specs.Storage.{KeptPlace, kept_place}
 use Rattle.sdd_bag_storage.proofs.Kept.{map-inserted}
 use Rattle.sdd_bag_storage.proofs.place.new_place.Goals as goal

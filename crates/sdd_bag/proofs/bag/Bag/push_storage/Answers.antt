@@ -1,5 +1,5 @@
 use Rattle.std.proofs.Common.{rules, ◌≡◌, ◌<◌, ◌++◌, ◌^◌, List, length, map, is_some, ap, ◌∙◌, sym, subst, arith}
-use Rattle.sdd_keyed_places.specs.KeyedPlaces.{PlaceName}
+use Rattle.sdd_bag_storage.specs.KeyedPlaces.{PlaceName}
 use Rattle.sdd_bag_storage.specs.Storage.{AreEmpty, AreFull, KeptPlace, empty_place}
 use Rattle.sdd_bag_storage.proofs.Marks.{value-new}
 use Rattle.sdd_rights.specs.Right.{home_of}

@@ -1,7 +1,7 @@
 use Rattle.std.proofs.Common.{◌++◌, ◌+◌, List, map, ap, ◌∙◌, arith}
 use Rattle.std.proofs.lemmas.List.{length-set, take_all}
-use Rattle.sdd_keyed_places.specs.KeptValues.{inserted}
-use Rattle.sdd_keyed_places.specs.KeyedPlaces.{PlaceName}
+use Rattle.sdd_bag_storage.specs.KeptValues.{inserted}
+use Rattle.sdd_bag_storage.specs.KeyedPlaces.{PlaceName}
 use Rattle.sdd_bag_storage.specs.Storage.{KeptPlace, empty_place, kept_place}
 use Rattle.sdd_bag_storage.proofs.Kept.{new-behind}
 use Rattle.sdd_bag_storage.proofs.places.Places.new.Goals as goal

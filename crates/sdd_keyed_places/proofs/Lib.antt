@@ -1,3 +1,0 @@
-pub mod Loans
-pub mod Fields
-pub mod Keys

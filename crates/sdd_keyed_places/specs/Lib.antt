@@ -1,2 +1,0 @@
-pub mod KeyedPlaces
-pub mod KeptValues
