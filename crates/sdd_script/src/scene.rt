@@ -1,7 +1,7 @@
 //! What a script leaves behind.
 ghost use Rattle.std.specs.Prelude.{◌≡◌, ◌+◌};
 
-use sdd_guard_commands::leaving::close;
+use sdd_script_commands::leaving::close;
 use sdd_participants::Tally;
 use sdd_script_model::Val;
 use sdd_script_names::Interpreter;

@@ -1,4 +1,0 @@
-pub mod GuardActs
-pub mod Ending
-pub mod StackEnding
-pub mod StackLeaving

@@ -1,0 +1,14 @@
+pub mod OwnerActs
+pub mod ItemActs
+pub mod Making
+pub mod Unshared
+pub mod RawActs
+pub mod CollectorActs
+pub mod CellActs
+pub mod ExchangeActs
+pub mod LinkActs
+pub mod StackActs
+pub mod GuardActs
+pub mod Ending
+pub mod StackEnding
+pub mod StackLeaving

@@ -1,0 +1,47 @@
+-- A stack is closed under a guard that is opened for it: who is there meanwhile, and whose handles are known
+use Rattle.std.proofs.Common.{◌≡◌, ◌<◌, ℕ, zero, suc, List, refl, sym, ap, ◌∙◌, arith, lt-ltb, subst, slice_index_or}
+use Rattle.std.specs.Prelude.{IsTrue}
+use Rattle.std.proofs.lemmas.List.{get_or_default}
+use Rattle.sdd_participants.specs.EpochState.{CanNest, is_open, nobody}
+use Rattle.sdd_space.specs.World.{World, AnyGuardOpen, IsPlaceOf, place_at}
+use Rattle.sdd_space.specs.WorldChanges.{opened}
+use Rattle.sdd_lists.specs.Lists.{Entry}
+use Rattle.sdd_core.specs.declared.tag.Tag.TheVariants.{None as no_tag}
+use Rattle.sdd_script_model.specs.Stacks.{stack_closed}
+use Rattle.sdd_script_model.specs.Val.{Val, holdings_of}
+use Rattle.sdd_script_model.proofs.Attending.{live-by, opens-one}
+use Rattle.sdd_script_model.proofs.Stocked.{slots-opened}
+use Rattle.sdd_script_commands.specs.Leaving.{revived}
+use Rattle.sdd_script_commands.proofs.StackEnding.{lets-emptied}
+
+if-none : (n : ℕ) → (0 < n → ⊥) → (m : ℕ) → 0 < m → n < m
+if-none zero never m some = some
+if-none (suc n) never m some = absurd (never (omega arith))
+
+module _ (w : World Val) (p : ℕ) (live : IsPlaceOf (revived w p) p) where
+  abbrev back : World Val
+  back = revived w p
+
+  abbrev open_world : World Val
+  open_world = opened holdings_of back p
+
+  -- a guard may be opened there, where none is
+  pub can-nest : (AnyGuardOpen w → ⊥) → 0 < w.time.nesting → CanNest back.time p
+  can-nest shut nests =
+      if-none (place_at w p).guards
+      (λ some. shut (p, place_at w p, live.0, sym (get_or_default w.time.places p nobody (place_at w p) live.0), lt-ltb _ _ some)) w.time.nesting nests
+
+  pub open-live : IsPlaceOf open_world p
+  open-live = live-by back.time open_world.time (opens-one back p live.0).phases (opens-one back p live.0).places p live
+
+  pub open-home : open_world.home ≡ w.home
+  open-home = (slots-opened back p).home
+
+  module _ (c : ℕ) (es : List (Entry Val)) where
+    pub closed-live : IsPlaceOf (stack_closed open_world p c es) p
+    closed-live =
+        let lets = lets-emptied p c es open_world in
+        live-by open_world.time (stack_closed open_world p c es).time lets.phases lets.places p open-live
+
+    pub closed-home : (stack_closed open_world p c es).home ≡ w.home
+    closed-home = (lets-emptied p c es open_world).home ∙ open-home

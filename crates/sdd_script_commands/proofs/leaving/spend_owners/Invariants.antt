@@ -1,0 +1,10 @@
+use Rattle.std.proofs.Common.{◌≡◌, length}
+use Rattle.sdd_script_model.proofs.Entry.{IsSpentTo}
+use Rattle.sdd_script_commands.proofs.leaving.spend_owners.Given as goal
+
+abbrev pub invariant-loop-owner : goal.invariant-loop-owner
+invariant-loop-owner l = record {
+  spent : IsSpentTo l.owner (length l.initial.stage.owners) l.stage.owners;
+  guards : l.stage.guards ≡ l.initial.stage.guards;
+  tally : l.stage.world.tally ≡ l.initial.stage.world.tally;
+}

@@ -1,0 +1,3 @@
+pub mod ItemLines
+pub mod GuardLines
+pub mod Leaving

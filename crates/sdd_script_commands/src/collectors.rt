@@ -1,0 +1,133 @@
+//! What participants do with collectors.
+#![tactic(auto, using(sdd_script_names::proofs::Taken::in_hand))]
+
+ghost use Rattle.std.specs.Prelude.{◌≡◌, ◌<◌, ◌≤◌, ◌^◌, All, IsSome, IfOk, MatchResult, length, map};
+ghost use Rattle.std.specs.List.Sorted.{IsPermutation, IsNonDecreasingBy};
+ghost use Rattle.sdd_space.specs.World.{value_at};
+ghost use Rattle.sdd_script_text.specs.declared.name.ItemName.{ItemName as Named};
+ghost use Rattle.sdd_script_model.specs.Held.{owners_in, slots_waiting_for};
+ghost use Rattle.sdd_script_model.specs.Shown.{item_in};
+ghost use Rattle.sdd_script_model.specs.Script.{Acts, Answers};
+
+use sdd_core::{Refused, SlotName};
+use sdd_script_model::Val;
+use sdd_script_names::Interpreter;
+use sdd_script_names::items::{date_if_waiting, date_waiting, items_in, slots_for};
+use sdd_script_names::participants::under;
+use sdd_script_text::{
+    Action, Answer, Call, CollectorName, GuardName, ItemName, Names, OwnerName, PlaceName, Reply,
+};
+use sdd_space::inner::number_of_collector;
+use sdd_space_commands::turns::collectors::{close_at, collector_at, give_to};
+use sdd_world::World;
+use std::alloc::{AllocError, Global};
+
+/// `P collector`: a collector, named. `NoCell` is a reply. Refused where memory for the name is, and then nothing has changed.
+pub fn make_collector(stage: &mut Interpreter, name: PlaceName) -> Result<Reply, AllocError>
+    ensures acts { MatchResult result (λ reply. Acts stage.old (Call.At name Action.Collector) reply stage.new) (λ _. stage.new ≡ stage.old) }
+{
+    let Some(attending) = stage.hand.places.get(name.0) else {
+        return Ok(Reply::Invalid);
+    };
+    stage.hand.collectors.make_room()?;
+    stage.hand.world.is_whole();
+    match collector_at(&mut stage.hand.world, &attending.place) {
+        Ok(collector) => {
+            let name = stage.hand.collectors.give(collector);
+            Ok(Reply::Collector(CollectorName(name)))
+        }
+        Err(refused) => Ok(Reply::Refused(refused)),
+    }
+}
+
+/// `P collect O G K`: an owner is given to a collector, and its name spent; the item of the last one waits for the collector.
+pub fn collect(
+    stage: &mut Interpreter,
+    name: PlaceName,
+    owner: OwnerName,
+    guard: GuardName,
+    collector: CollectorName,
+) -> Reply
+    ensures acts { Acts stage.old (Call.At name (Action.Collect owner guard collector)) result stage.new }
+{
+    let Some((attending, held)) = under(&stage.hand.places, &stage.hand.guards, name, guard) else {
+        return Reply::Invalid;
+    };
+    let Some(collector) = stage.hand.collectors.get(collector.0) else {
+        return Reply::Invalid;
+    };
+    let Some(owner) = stage.hand.owners.take(owner.0) else {
+        return Reply::Invalid;
+    };
+    stage.hand.world.is_whole();
+    let slot = owner.slot();
+    let reply = give_to(
+        &mut stage.hand.world,
+        &attending.place,
+        collector,
+        owner,
+        &held.guard,
+    );
+    let line = stage.hand.moment;
+    date_if_waiting(&mut stage.hand.dates, &stage.hand.world, Some(SlotName::of(slot)), line);
+    reply
+}
+
+/// What waits for the collector is named.
+pub fn close_collector(
+    stage: &mut Interpreter,
+    name: PlaceName,
+    collector: CollectorName,
+) -> Result<Answer, AllocError>
+    ensures answers { MatchResult result (λ answer. Answers stage.old (Call.At name (Action.CloseCollector collector)) answer stage.new)
+        (λ _. stage.new ≡ stage.old) }
+{
+    let Some(attending) = stage.hand.places.get(name.0) else {
+        return Ok(stage.answer(Reply::Invalid));
+    };
+    let Some(held) = stage.hand.collectors.get(collector.0) else {
+        return Ok(stage.answer(Reply::Invalid));
+    };
+    stage.hand.world.is_whole();
+    let names = stage.hand.names.as_slice();
+    let collected = number_of_collector(held);
+    let (gone, given) = found_for(stage.hand.alloc, &stage.hand.world, names, collected)?;
+    let Some(held) = stage.hand.collectors.take(collector.0) else {
+        unreachable!()
+    };
+    if let Err((held, refused)) = close_at(&mut stage.hand.world, &attending.place, held) {
+        stage.hand.collectors.put_back(collector.0, held);
+        return Ok(stage.answer(Reply::Refused(refused)));
+    }
+    let line = stage.hand.moment;
+    date_waiting(
+        &mut stage.hand.dates,
+        &stage.hand.world,
+        given.as_slice(),
+        line,
+    );
+    Ok(Answer {
+        reply: Reply::Done,
+        reclaimed: Names::of(gone),
+        ran: Names::new(stage.hand.alloc),
+    })
+}
+
+/// The items that wait for a collector, in ascending order, and the slots whose owners they hold.
+fn found_for(
+    alloc: Global,
+    world: &World<Val>,
+    names: &[u64],
+    collector: u32,
+) -> Result<(Vec<ItemName>, Vec<u32>), AllocError>
+    requires small { length names.now ≤ 2 ^ 32 }
+    requires named { All (λ slot. slot < length names.now) (slots_waiting_for world.now collector (length names.now)) }
+    requires taken { All (λ slot. IsSome (value_at world.now slot)) (slots_waiting_for world.now collector (length names.now)) }
+    ensures items { IfOk result (λ found.
+        IsPermutation (map (item_in names.now) (slots_waiting_for world.now collector (length names.now))) found.0.items) }
+    ensures ascending { IfOk result (λ found. IsNonDecreasingBy (λ (i : Named). i.0) found.0.items) }
+    ensures owners { IfOk result (λ found. found.1.items ≡ owners_in world.now (slots_waiting_for world.now collector (length names.now))) }
+{
+    let slots = slots_for(alloc, world, collector, names.len())?;
+    items_in(alloc, world, slots.as_slice(), names)
+}

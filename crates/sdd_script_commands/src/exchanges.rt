@@ -1,0 +1,194 @@
+//! What participants do with the owners that cells hold.
+#![tactic(auto, using(sdd_script_names::proofs::Taken::in_hand))]
+
+ghost use Rattle.std.specs.Prelude.{◌≡◌, ◌<◌, None, Some, MatchResult};
+ghost use Rattle.sdd_participants.specs.declared.standing.CellContents.{CellContents};
+ghost use Rattle.sdd_script_model.specs.Script.{Acts};
+
+use sdd_core::{Refused, Tag};
+use sdd_participants::CellContents;
+use sdd_script_names::Interpreter;
+use sdd_script_names::items::{item_seen, slot_compared};
+use sdd_script_names::owners::{
+    fits, give_filling, put_back, shared_cell_of, take_filling, told_back,
+};
+use sdd_script_names::participants::under;
+use sdd_script_text::{Action, Call, CellName, GuardName, ItemName, OwnerName, PlaceName, Reply};
+use sdd_space_commands::holding::{AnyCell, AnyOwner};
+use sdd_space_commands::turns::exchanges::{copy_held, exchange_at, share_held, swap_in, take_out};
+use std::alloc::AllocError;
+
+/// `P swap C X T`: an owner, or none, goes into a cell with a tag, and what was there comes out. Refused where memory for a name is, and then nothing has
+/// changed.
+pub fn swap(
+    stage: &mut Interpreter,
+    name: PlaceName,
+    cell: CellName,
+    owner: Option<OwnerName>,
+    tag: Tag,
+) -> Result<Reply, AllocError>
+    ensures acts { MatchResult result (λ reply. Acts stage.old (Call.At name (Action.Swap cell owner tag)) reply stage.new) (λ _. stage.new ≡ stage.old) }
+{
+    let Some(attending) = stage.hand.places.get(name.0) else {
+        return Ok(Reply::Invalid);
+    };
+    let Some(holder) = stage.hand.cells.get(cell.0) else {
+        return Ok(Reply::Invalid);
+    };
+    if !fits(&stage.hand.owners, holder.ownership(), owner) {
+        return Ok(Reply::Invalid);
+    }
+    stage.hand.owners.make_room()?;
+    stage.hand.world.is_whole();
+    let next = take_filling(&mut stage.hand.owners, holder.ownership(), owner);
+    let (old, was) = swap_in(&mut stage.hand.world, &attending.place, holder, next, tag);
+    let name = give_filling(&mut stage.hand.owners, old);
+    Ok(Reply::Swapped(name, was))
+}
+
+/// `P cas C G was Y T now X T`: a swap, where the cell points to that, its tag counted; else what it points to is told. Refused where memory for a name
+/// is, and then nothing has changed.
+pub fn exchange(
+    stage: &mut Interpreter,
+    name: PlaceName,
+    cell: CellName,
+    guard: GuardName,
+    item: Option<ItemName>,
+    was: Tag,
+    owner: Option<OwnerName>,
+    tag: Tag,
+) -> Result<Reply, AllocError>
+    ensures acts { MatchResult result (λ reply. Acts stage.old (Call.At name (Action.Exchange cell guard item was owner tag)) reply stage.new)
+        (λ _. stage.new ≡ stage.old) }
+{
+    let Some((attending, held)) = under(&stage.hand.places, &stage.hand.guards, name, guard) else {
+        return Ok(Reply::Invalid);
+    };
+    let Some(holder) = stage.hand.cells.get(cell.0) else {
+        return Ok(Reply::Invalid);
+    };
+    if !fits(&stage.hand.owners, holder.ownership(), owner) {
+        return Ok(Reply::Invalid);
+    }
+    let slots = stage.hand.slots.as_slice();
+    let names = stage.hand.names.as_slice();
+    let dates = stage.hand.dates.as_slice();
+    let Some(slot) = slot_compared(
+        &stage.hand.world,
+        slots,
+        names,
+        dates,
+        item,
+        attending.since,
+    ) else {
+        return Ok(Reply::Invalid);
+    };
+    stage.hand.owners.make_room()?;
+    stage.hand.world.is_whole();
+    let next = take_filling(&mut stage.hand.owners, holder.ownership(), owner);
+    let place = &attending.place;
+    let compared = CellContents {
+        held: slot,
+        tag: was,
+    };
+    match exchange_at(
+        &mut stage.hand.world,
+        place,
+        &held.guard,
+        holder,
+        compared,
+        next,
+        tag,
+    ) {
+        Ok(old) => {
+            let name = give_filling(&mut stage.hand.owners, old);
+            Ok(Reply::Exchanged(name))
+        }
+        Err((back, seen)) => {
+            put_back(&mut stage.hand.owners, owner, back);
+            Ok(Reply::Differs(item_seen(names, seen.held), seen.tag))
+        }
+    }
+}
+
+/// `P into C`: the cell is spent, and the owner in it, if there is one, comes out. Refused where memory for its name is, and then nothing has changed.
+pub fn into_owner(
+    stage: &mut Interpreter,
+    name: PlaceName,
+    cell: CellName,
+) -> Result<Reply, AllocError>
+    ensures acts { MatchResult result (λ reply. Acts stage.old (Call.At name (Action.Into cell)) reply stage.new) (λ _. stage.new ≡ stage.old) }
+{
+    let Some(attending) = stage.hand.places.get(name.0) else {
+        return Ok(Reply::Invalid);
+    };
+    if stage.hand.cells.get(cell.0).is_none() {
+        return Ok(Reply::Invalid);
+    }
+    stage.hand.owners.make_room()?;
+    stage.hand.world.is_whole();
+    let Some(holder) = stage.hand.cells.take(cell.0) else {
+        unreachable!()
+    };
+    let held = take_out(&mut stage.hand.world, &attending.place, holder);
+    let name = give_filling(&mut stage.hand.owners, held);
+    Ok(told_back(name))
+}
+
+/// `P copy C G`: a cell with one owner more of what a cell of counted owners holds. `NoCell` and `TooManyOwners` are replies. Refused where memory for
+/// the name is, and then nothing has changed.
+pub fn copy(
+    stage: &mut Interpreter,
+    name: PlaceName,
+    cell: CellName,
+    guard: GuardName,
+) -> Result<Reply, AllocError>
+    ensures acts { MatchResult result (λ reply. Acts stage.old (Call.At name (Action.Copy cell guard)) reply stage.new) (λ _. stage.new ≡ stage.old) }
+{
+    let Some((attending, held)) = under(&stage.hand.places, &stage.hand.guards, name, guard) else {
+        return Ok(Reply::Invalid);
+    };
+    if shared_cell_of(&stage.hand.cells, cell.0).is_none() {
+        return Ok(Reply::Invalid);
+    }
+    stage.hand.cells.make_room()?;
+    stage.hand.world.is_whole();
+    let Some(holder) = shared_cell_of(&stage.hand.cells, cell.0) else {
+        unreachable!()
+    };
+    match copy_held(&mut stage.hand.world, &attending.place, &held.guard, holder) {
+        Ok(other) => {
+            let name = stage.hand.cells.give(AnyCell::Share(other));
+            Ok(Reply::Cell(CellName(name)))
+        }
+        Err(refused) => Ok(Reply::Refused(refused)),
+    }
+}
+
+/// `P share C G`: one owner more of what a cell of counted owners holds, or none. `TooManyOwners` is a reply. Refused where memory for the name is, and
+/// then nothing has changed.
+pub fn share(
+    stage: &mut Interpreter,
+    name: PlaceName,
+    cell: CellName,
+    guard: GuardName,
+) -> Result<Reply, AllocError>
+    ensures acts { MatchResult result (λ reply. Acts stage.old (Call.At name (Action.Share cell guard)) reply stage.new) (λ _. stage.new ≡ stage.old) }
+{
+    let Some((attending, held)) = under(&stage.hand.places, &stage.hand.guards, name, guard) else {
+        return Ok(Reply::Invalid);
+    };
+    let Some(holder) = shared_cell_of(&stage.hand.cells, cell.0) else {
+        return Ok(Reply::Invalid);
+    };
+    stage.hand.owners.make_room()?;
+    stage.hand.world.is_whole();
+    match share_held(&mut stage.hand.world, &attending.place, &held.guard, holder) {
+        Ok(Some(owner)) => {
+            let name = stage.hand.owners.give(AnyOwner::Share(owner));
+            Ok(Reply::Owner(OwnerName(name)))
+        }
+        Ok(None) => Ok(Reply::Nothing),
+        Err(refused) => Ok(Reply::Refused(refused)),
+    }
+}

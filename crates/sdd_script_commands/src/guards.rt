@@ -1,0 +1,178 @@
+//! What participants do with guards.
+#![tactic(auto, using(sdd_script_names::proofs::Taken::in_hand))]
+
+ghost use Rattle.std.specs.Prelude.{◌≡◌, ◌<◌, All, IsSome, IfOk, MatchResult, length, map};
+ghost use Rattle.std.specs.List.Sorted.{IsPermutation, IsNonDecreasingBy};
+ghost use Rattle.sdd_space.specs.World.{value_at};
+ghost use Rattle.sdd_script_text.specs.declared.name.ItemName.{ItemName as Named};
+ghost use Rattle.sdd_script_model.specs.Held.{owners_in, slots_among};
+ghost use Rattle.sdd_script_model.specs.Shown.{item_in};
+ghost use Rattle.sdd_script_model.specs.ScriptState.{BeginsLine};
+ghost use Rattle.sdd_script_model.specs.Script.{Acts, Answers};
+
+use sdd_participants::LimboEntry;
+use sdd_script_model::Val;
+use sdd_script_names::Interpreter;
+use sdd_script_names::items::{date_waiting, items_in, slots_among};
+use sdd_script_names::jobs::jobs_among;
+use sdd_script_names::participants::{NamedGuard, note_opening, under};
+use sdd_script_text::{
+    Action, Answer, Call, GuardName, ItemName, JobName, Names, PlaceName, Reply,
+};
+use sdd_space_commands::turns::guards::{
+    accelerate_at, close_at, defer_at, epoch_at, garbage_at, open_at, stir_at,
+};
+use sdd_world::World;
+use sdd_world::inner::{is_open, reclaims_next};
+use std::alloc::{AllocError, Global};
+
+/// `P open`: a guard of the participant, named with its epoch, and what went or ran by its opening, each in ascending order. `TooManyGuards` is a reply.
+/// Refused where memory for names is, and then nothing has changed.
+pub fn open(stage: &mut Interpreter, name: PlaceName) -> Result<Answer, AllocError>
+    requires line { BeginsLine stage.old }
+    ensures answers { MatchResult result (λ answer. Answers stage.old (Call.At name Action.Open) answer stage.new) (λ _. stage.new ≡ stage.old) }
+{
+    let Some(attending) = stage.hand.places.get(name.0) else {
+        return Ok(stage.answer(Reply::Invalid));
+    };
+    stage.hand.guards.make_room()?;
+    stage.hand.world.is_whole();
+    let waiting = reclaims_next(&stage.hand.world, &attending.place);
+    let names = stage.hand.names.as_slice();
+    let deferred = stage.hand.deferred.as_slice();
+    let ran = jobs_among(stage.hand.alloc, waiting, deferred)?;
+    let (due, given) = items_among(stage.hand.alloc, &stage.hand.world, waiting, names)?;
+    let is_nested = is_open(&stage.hand.world, &attending.place);
+    let (guard, epoch) = match open_at(&mut stage.hand.world, &attending.place) {
+        Ok(opened) => opened,
+        Err(refused) => return Ok(stage.answer(Reply::Refused(refused))),
+    };
+    let place = attending.place.index();
+    let since = stage.hand.moment;
+    date_waiting(
+        &mut stage.hand.dates,
+        &stage.hand.world,
+        given.as_slice(),
+        since,
+    );
+    note_opening(&mut stage.hand.places, name.0, since, is_nested);
+    let participant = name.0;
+    let name = stage.hand.guards.give(NamedGuard {
+        guard,
+        place,
+        participant,
+        since,
+    });
+    Ok(Answer {
+        reply: Reply::Guard(GuardName(name), epoch),
+        reclaimed: Names::of(due),
+        ran: Names::of(ran),
+    })
+}
+
+/// `P epoch G`: the epoch that a guard of the participant shows.
+pub fn epoch(stage: &mut Interpreter, name: PlaceName, guard: GuardName) -> Reply
+    ensures acts { Acts stage.old (Call.At name (Action.Epoch guard)) result stage.new }
+{
+    let Some((attending, held)) = under(&stage.hand.places, &stage.hand.guards, name, guard) else {
+        return Reply::Invalid;
+    };
+    stage.hand.world.is_whole();
+    Reply::Epoch(epoch_at(&mut stage.hand.world, &attending.place, &held.guard))
+}
+
+/// `P garbage G`: whether something may wait with the participant.
+pub fn garbage(stage: &mut Interpreter, name: PlaceName, guard: GuardName) -> Reply
+    ensures acts { Acts stage.old (Call.At name (Action.Garbage guard)) result stage.new }
+{
+    let Some((attending, held)) = under(&stage.hand.places, &stage.hand.guards, name, guard) else {
+        return Reply::Invalid;
+    };
+    stage.hand.world.is_whole();
+    Reply::Truth(garbage_at(&mut stage.hand.world, &attending.place, &held.guard))
+}
+
+/// `P set G`: the participant has garbage from now on.
+pub fn set(stage: &mut Interpreter, name: PlaceName, guard: GuardName) -> Reply
+    ensures acts { Acts stage.old (Call.At name (Action.Set guard)) result stage.new }
+{
+    let Some((attending, held)) = under(&stage.hand.places, &stage.hand.guards, name, guard) else {
+        return Reply::Invalid;
+    };
+    stage.hand.world.is_whole();
+    stir_at(&mut stage.hand.world, &attending.place, &held.guard);
+    Reply::Done
+}
+
+/// `P accelerate G`: the participant's next outermost close scans.
+pub fn accelerate(stage: &mut Interpreter, name: PlaceName, guard: GuardName) -> Reply
+    ensures acts { Acts stage.old (Call.At name (Action.Accelerate guard)) result stage.new }
+{
+    let Some((attending, held)) = under(&stage.hand.places, &stage.hand.guards, name, guard) else {
+        return Reply::Invalid;
+    };
+    stage.hand.world.is_whole();
+    accelerate_at(&mut stage.hand.world, &attending.place, &held.guard);
+    Reply::Done
+}
+
+/// `P defer G`: a job that does nothing waits, and is named. `NoJob` is a reply.
+pub fn defer(stage: &mut Interpreter, name: PlaceName, guard: GuardName) -> Reply
+    requires line { BeginsLine stage.old }
+    ensures acts { Acts stage.old (Call.At name (Action.Defer guard)) result stage.new }
+{
+    let Some((attending, _)) = under(&stage.hand.places, &stage.hand.guards, name, guard) else {
+        return Reply::Invalid;
+    };
+    stage.hand.world.is_whole();
+    let place = match defer_at(&mut stage.hand.world, &attending.place) {
+        Ok(place) => place,
+        Err(refused) => return Reply::Refused(refused),
+    };
+    let job = stage.hand.jobs;
+    prove!(job < stage.hand.moment);
+    stage.hand.deferred[place as usize] = job;
+    stage.hand.job_dates[place as usize] = stage.hand.moment;
+    stage.hand.jobs += 1;
+    Reply::Job(JobName(job))
+}
+
+/// `P close G`: the guard is closed, and its name spent.
+pub fn close_guard(stage: &mut Interpreter, name: PlaceName, guard: GuardName) -> Reply
+    ensures acts { Acts stage.old (Call.At name (Action.Close guard)) result stage.new }
+{
+    let Some((attending, _)) = under(&stage.hand.places, &stage.hand.guards, name, guard) else {
+        return Reply::Invalid;
+    };
+    let Some(
+        NamedGuard {
+            guard,
+            place: _,
+            participant: _,
+            since: _,
+        },
+    ) = stage.hand.guards.take(guard.0)
+    else {
+        return Reply::Invalid;
+    };
+    stage.hand.world.is_whole();
+    close_at(&mut stage.hand.world, &attending.place, guard);
+    Reply::Done
+}
+
+/// The items among what waits, in ascending order, and the slots whose owners they hold.
+fn items_among(
+    alloc: Global,
+    world: &World<Val>,
+    waiting: &[LimboEntry],
+    names: &[u64],
+) -> Result<(Vec<ItemName>, Vec<u32>), AllocError>
+    requires named { All (λ slot. slot < length names.now) (slots_among waiting.now) }
+    requires taken { All (λ slot. IsSome (value_at world.now slot)) (slots_among waiting.now) }
+    ensures items { IfOk result (λ found. IsPermutation (map (item_in names.now) (slots_among waiting.now)) found.0.items) }
+    ensures ascending { IfOk result (λ found. IsNonDecreasingBy (λ (i : Named). i.0) found.0.items) }
+    ensures owners { IfOk result (λ found. found.1.items ≡ owners_in world.now (slots_among waiting.now)) }
+{
+    let slots = slots_among(alloc, waiting)?;
+    items_in(alloc, world, slots.as_slice(), names)
+}

@@ -1,0 +1,230 @@
+//! The end of a script's world.
+ghost use Rattle.std.specs.Prelude.{◌≡◌, ◌≢◌, ◌↔◌, ◌+◌, ◌<◌, ℕ, IsSome, IsTrue, None, Some, slice_index_or};
+ghost use Rattle.sdd_lists.specs.Stack.{cell_in, home_in};
+ghost use Rattle.sdd_participants.specs.EpochState.{phase_at};
+ghost use Rattle.sdd_world.specs.Place.{index_of};
+ghost use Rattle.sdd_participants.specs.declared.standing.Standing.TheVariants.{Raw};
+ghost use Rattle.sdd_space.specs.World.{AnyGuardOpen, IsPlaceOf, standing_at};
+ghost use Rattle.sdd_script_commands.specs.Leaving.{SpendsOwner, SpendsCell, SpendsCollector, SpendsGuard, SpendsStack, LeavesRaw, LeavesStack, BeginsUnder, revived};
+
+use crate::guards::close_guard;
+use sdd_lists::Stack;
+use sdd_participants::{Standing, Tally};
+use sdd_script_model::{Body, Val};
+use sdd_script_names::{Environment, Interpreter};
+use sdd_script_text::{GuardName, PlaceName};
+use sdd_space_commands::holding::{AnyCell, AnyOwner};
+use sdd_space_commands::turns::{guards, stacks};
+use sdd_world::World;
+use sdd_world::inner::{
+    leave, leave_cell, leave_collector, leave_raw, leave_shared, leave_shared_cell, some_place,
+    standing_of,
+};
+
+/// Every guard is closed, every owner, collector and cell spent, every item given up that is out as raw, and every stack closed; and then the world ends: all
+/// that waits is reclaimed.
+pub fn close(mut stage: Interpreter) -> Tally
+    ensures made { result.made ≡ stage.world.tally.made }
+    ensures in_place { result.in_place ≡ stage.world.tally.in_place }
+    ensures balance { result.reclaimed + result.in_place ≡ result.made }
+{
+    spend_guards(&mut stage);
+    spend_owners(&mut stage);
+    spend_collectors(&mut stage);
+    spend_cells(&mut stage);
+    leave_raw_items(&mut stage);
+    spend_stacks(&mut stage);
+    let Interpreter { hand } = stage;
+    let Environment {
+        world,
+        alloc: _,
+        moment: _,
+        places: _,
+        guards,
+        owners,
+        cells,
+        collectors,
+        stacks,
+        slots: _,
+        names: _,
+        dates: _,
+        jobs: _,
+        deferred: _,
+        job_dates: _,
+    } = hand;
+    guards.destroy_spent();
+    owners.destroy_spent();
+    cells.destroy_spent();
+    collectors.destroy_spent();
+    stacks.destroy_spent();
+    world.is_whole();
+    match world.close() {
+        Ok(tally) => tally,
+        Err(_) => unreachable!(),
+    }
+}
+
+/// Each guard that is open is closed.
+fn spend_guards(stage: &mut Interpreter)
+    ensures spent { (g : ℕ) → slice_index_or stage.new.guards g None ≡ None }
+    ensures tally { stage.new.world.tally ≡ stage.old.world.tally }
+{
+    for guard in 0..stage.hand.guards.entries.len() {
+        spend_guard(stage, guard as u64);
+    }
+}
+
+/// Each owner that isn't spent is, where no guard is open: it is given up, at whatever place is there.
+fn spend_owners(stage: &mut Interpreter)
+    requires shut { (g : ℕ) → slice_index_or stage.old.guards g None ≡ None }
+    ensures spent { (o : ℕ) → slice_index_or stage.new.owners o None ≡ None }
+    ensures guards { stage.new.guards ≡ stage.old.guards }
+    ensures tally { stage.new.world.tally ≡ stage.old.world.tally }
+{
+    for owner in 0..stage.hand.owners.entries.len() {
+        spend_owner(stage, owner as u64);
+    }
+}
+
+/// Each cell that isn't spent is, where no guard is open: it is closed, at whatever place is there.
+fn spend_cells(stage: &mut Interpreter)
+    requires shut { (g : ℕ) → slice_index_or stage.old.guards g None ≡ None }
+    ensures spent { (c : ℕ) → slice_index_or stage.new.cells c None ≡ None }
+    ensures guards { stage.new.guards ≡ stage.old.guards }
+    ensures owners { stage.new.owners ≡ stage.old.owners }
+    ensures collectors { stage.new.collectors ≡ stage.old.collectors }
+    ensures tally { stage.new.world.tally ≡ stage.old.world.tally }
+{
+    for cell in 0..stage.hand.cells.entries.len() {
+        spend_cell(stage, cell as u64);
+    }
+}
+
+/// Each collector that isn't spent is, where no guard is open: its cell is free, and what waits for it goes with the world.
+fn spend_collectors(stage: &mut Interpreter)
+    requires shut { (g : ℕ) → slice_index_or stage.old.guards g None ≡ None }
+    ensures spent { (k : ℕ) → slice_index_or stage.new.collectors k None ≡ None }
+    ensures guards { stage.new.guards ≡ stage.old.guards }
+    ensures owners { stage.new.owners ≡ stage.old.owners }
+    ensures tally { stage.new.world.tally ≡ stage.old.world.tally }
+{
+    for collector in 0..stage.hand.collectors.entries.len() {
+        spend_collector(stage, collector as u64);
+    }
+}
+
+/// Each item that is out as raw is given up, where no guard is open: it waits at whatever place is there.
+fn leave_raw_items(stage: &mut Interpreter)
+    requires shut { (g : ℕ) → slice_index_or stage.old.guards g None ≡ None }
+    ensures gone { (k : ℕ) → standing_at stage.new.world k ≢ Some Raw }
+    ensures guards { stage.new.guards ≡ stage.old.guards }
+    ensures owners { stage.new.owners ≡ stage.old.owners }
+    ensures cells { stage.new.cells ≡ stage.old.cells }
+    ensures collectors { stage.new.collectors ≡ stage.old.collectors }
+    ensures tally { stage.new.world.tally ≡ stage.old.world.tally }
+{
+    for item in 0..stage.hand.slots.len() {
+        let slot = stage.hand.slots[item];
+        leave_raw_item(stage, slot);
+    }
+}
+
+/// Each stack that isn't spent is, where no guard is open and no item out as raw: it is closed, at whatever place is there.
+fn spend_stacks(stage: &mut Interpreter)
+    requires shut { (g : ℕ) → slice_index_or stage.old.guards g None ≡ None }
+    requires in_hand { (k : ℕ) → standing_at stage.old.world k ≢ Some Raw }
+    ensures spent { (s : ℕ) → slice_index_or stage.new.stacks s None ≡ None }
+    ensures guards { stage.new.guards ≡ stage.old.guards }
+    ensures owners { stage.new.owners ≡ stage.old.owners }
+    ensures cells { stage.new.cells ≡ stage.old.cells }
+    ensures collectors { stage.new.collectors ≡ stage.old.collectors }
+    ensures gone { (k : ℕ) → standing_at stage.new.world k ≢ Some Raw }
+    ensures made { stage.new.world.tally.made ≡ stage.old.world.tally.made }
+    ensures in_place { stage.new.world.tally.in_place ≡ stage.old.world.tally.in_place }
+{
+    for stack in 0..stage.hand.stacks.entries.len() {
+        spend_stack(stage, stack as u64);
+    }
+}
+
+fn spend_stack(stage: &mut Interpreter, stack: u64)
+    requires shut { (g : ℕ) → slice_index_or stage.old.guards g None ≡ None }
+    ensures { SpendsStack stack stage.old stage.new }
+{
+    if let Some(stack) = stage.hand.stacks.take(stack) {
+        leave_stack(&mut stage.hand.world, stack);
+    }
+}
+
+/// A stack is closed under a guard at the place of some participant, or at that of one that has ended, which is live again with what it left.
+fn leave_stack(world: &mut World<Val>, stack: Stack<Body>)
+    requires some { (p : ℕ) × IsSome (phase_at world.old.time p) }
+    requires shut { ¬ (AnyGuardOpen world.old) }
+    requires home { home_in stack ≡ world.old.home.cells }
+    requires list { (p : ℕ) → BeginsUnder world.old p (cell_in stack) }
+    ensures { LeavesStack world.old (cell_in stack) world.new }
+{
+    let place = some_place(world);
+    world.is_whole();
+    let Ok((guard, _)) = guards::open_at(world, &place) else {
+        unreachable!()
+    };
+    stacks::close_at(world, &place, stack, &guard);
+    guards::close_at(world, &place, guard);
+}
+
+fn leave_raw_item(stage: &mut Interpreter, slot: u32)
+    requires shut { (g : ℕ) → slice_index_or stage.old.guards g None ≡ None }
+    ensures { LeavesRaw slot stage.old stage.new }
+{
+    if is_raw(&stage.hand.world, slot) {
+        leave_raw(&mut stage.hand.world, slot);
+    }
+}
+
+fn spend_cell(stage: &mut Interpreter, cell: u64)
+    requires shut { (g : ℕ) → slice_index_or stage.old.guards g None ≡ None }
+    ensures { SpendsCell cell stage.old stage.new }
+{
+    match stage.hand.cells.take(cell) {
+        None => {}
+        Some(AnyCell::Sole(cell)) => leave_cell(&mut stage.hand.world, cell),
+        Some(AnyCell::Share(cell)) => leave_shared_cell(&mut stage.hand.world, cell),
+    }
+}
+
+fn spend_collector(stage: &mut Interpreter, collector: u64)
+    requires shut { (g : ℕ) → slice_index_or stage.old.guards g None ≡ None }
+    ensures { SpendsCollector collector stage.old stage.new }
+{
+    if let Some(collector) = stage.hand.collectors.take(collector) {
+        leave_collector(&mut stage.hand.world, collector);
+    }
+}
+
+fn spend_owner(stage: &mut Interpreter, owner: u64)
+    requires shut { (g : ℕ) → slice_index_or stage.old.guards g None ≡ None }
+    ensures { SpendsOwner owner stage.old stage.new }
+{
+    match stage.hand.owners.take(owner) {
+        None => {}
+        Some(AnyOwner::Sole(owner)) => leave(&mut stage.hand.world, owner),
+        Some(AnyOwner::Share(owner)) => leave_shared(&mut stage.hand.world, owner),
+    }
+}
+
+fn spend_guard(stage: &mut Interpreter, guard: u64)
+    ensures { SpendsGuard guard stage.old stage.new }
+{
+    if let Some(held) = stage.hand.guards.get(guard) {
+        let name = held.participant;
+        close_guard(stage, PlaceName(name), GuardName(guard));
+    }
+}
+
+/// The item in a slot is out as raw.
+fn is_raw(world: &World<Val>, slot: u32) -> bool
+    ensures { IsTrue result ↔ (standing_at world.now slot ≡ Some Raw) }
+{
+    matches!(standing_of(world, slot), Some(Standing::Raw))
+}

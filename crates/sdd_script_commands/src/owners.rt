@@ -1,0 +1,115 @@
+//! What participants do with the owners of items.
+#![tactic(auto, using(sdd_script_names::proofs::Taken::in_hand))]
+
+ghost use Rattle.std.specs.Prelude.{◌≡◌, ◌<◌, None, Some, MatchResult};
+ghost use Rattle.sdd_script_model.specs.Script.{Acts};
+
+use sdd_core::Refused;
+use sdd_script_names::Interpreter;
+use sdd_script_names::items::slot_since;
+use sdd_script_names::owners::{shared_of, take_shared, take_sole};
+use sdd_script_names::participants::under;
+use sdd_script_text::{Action, Call, GuardName, ItemName, OwnerName, PlaceName, Reply};
+use sdd_space::inner::{slot_of_owner, slot_of_shared};
+use sdd_space_commands::holding::AnyOwner;
+use sdd_space_commands::turns::owners::{clone_held, release_owner, retire_item, share_item};
+use std::alloc::AllocError;
+
+/// `P retire O`: the item of its one owner waits, and the owner's name is spent.
+pub fn retire(stage: &mut Interpreter, name: PlaceName, owner: OwnerName) -> Reply
+    ensures acts { Acts stage.old (Call.At name (Action.Retire owner)) result stage.new }
+{
+    let Some(attending) = stage.hand.places.get(name.0) else {
+        return Reply::Invalid;
+    };
+    let Some(owner) = take_sole(&mut stage.hand.owners, owner.0) else {
+        return Reply::Invalid;
+    };
+    stage.hand.world.is_whole();
+    let slot = slot_of_owner(&owner);
+    retire_item(&mut stage.hand.world, &attending.place, owner);
+    stage.hand.dates[slot.number() as usize] = stage.hand.moment;
+    Reply::Done
+}
+
+/// `P release O`: one of the counted owners goes, and tells whether it was the last, whose item waits.
+pub fn release(stage: &mut Interpreter, name: PlaceName, owner: OwnerName) -> Reply
+    ensures acts { Acts stage.old (Call.At name (Action.Release owner)) result stage.new }
+{
+    let Some(attending) = stage.hand.places.get(name.0) else {
+        return Reply::Invalid;
+    };
+    let Some(owner) = take_shared(&mut stage.hand.owners, owner.0) else {
+        return Reply::Invalid;
+    };
+    stage.hand.world.is_whole();
+    let slot = slot_of_shared(&owner);
+    let was_last = release_owner(&mut stage.hand.world, &attending.place, owner);
+    if was_last {
+        stage.hand.dates[slot.number() as usize] = stage.hand.moment;
+    }
+    Reply::Truth(was_last)
+}
+
+/// `P clone O`: an owner more beside a counted one. `TooManyOwners` is a reply. Refused where memory for the name is, and then nothing has changed.
+pub fn clone_owner(
+    stage: &mut Interpreter,
+    name: PlaceName,
+    owner: OwnerName,
+) -> Result<Reply, AllocError>
+    ensures acts { MatchResult result (λ reply. Acts stage.old (Call.At name (Action.Clone owner)) reply stage.new) (λ _. stage.new ≡ stage.old) }
+{
+    let Some(attending) = stage.hand.places.get(name.0) else {
+        return Ok(Reply::Invalid);
+    };
+    stage.hand.owners.make_room()?;
+    let Some(held) = shared_of(&stage.hand.owners, owner.0) else {
+        return Ok(Reply::Invalid);
+    };
+    stage.hand.world.is_whole();
+    match clone_held(&mut stage.hand.world, &attending.place, held) {
+        Ok(owner) => {
+            let name = stage.hand.owners.give(AnyOwner::Share(owner));
+            Ok(Reply::Owner(OwnerName(name)))
+        }
+        Err(refused) => Ok(Reply::Refused(refused)),
+    }
+}
+
+/// `P upgrade I G`: an owner more of an item that a pointer names, or none where its last owner went. `TooManyOwners` is a reply. Refused where memory
+/// for the name is, and then nothing has changed.
+pub fn upgrade(
+    stage: &mut Interpreter,
+    name: PlaceName,
+    item: ItemName,
+    guard: GuardName,
+) -> Result<Reply, AllocError>
+    ensures acts { MatchResult result (λ reply. Acts stage.old (Call.At name (Action.Upgrade item guard)) reply stage.new) (λ _. stage.new ≡ stage.old) }
+{
+    let Some((attending, held)) = under(&stage.hand.places, &stage.hand.guards, name, guard) else {
+        return Ok(Reply::Invalid);
+    };
+    stage.hand.owners.make_room()?;
+    stage.hand.world.is_whole();
+    let slots = stage.hand.slots.as_slice();
+    let names = stage.hand.names.as_slice();
+    let dates = stage.hand.dates.as_slice();
+    let Some(slot) = slot_since(
+        &stage.hand.world,
+        slots,
+        names,
+        dates,
+        item,
+        attending.since,
+    ) else {
+        return Ok(Reply::Invalid);
+    };
+    match share_item(&mut stage.hand.world, &attending.place, &held.guard, slot) {
+        Ok(Some(owner)) => {
+            let name = stage.hand.owners.give(AnyOwner::Share(owner));
+            Ok(Reply::Owner(OwnerName(name)))
+        }
+        Ok(None) => Ok(Reply::Nothing),
+        Err(refused) => Ok(Reply::Refused(refused)),
+    }
+}

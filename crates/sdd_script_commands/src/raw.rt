@@ -1,0 +1,140 @@
+//! What participants do with items in their place, and with those that are out as raw.
+#![tactic(auto, using(sdd_script_names::proofs::Taken::in_hand))]
+
+ghost use Rattle.std.specs.Prelude.{◌≡◌, Some, MatchResult};
+ghost use Rattle.sdd_script_model.specs.Script.{Acts};
+
+use sdd_core::Refused;
+use sdd_script_names::Interpreter;
+use sdd_script_names::items::{date_if_waiting, is_number, slot_given, slot_since, told};
+use sdd_script_names::owners::{take_sole, value_of};
+use sdd_script_names::participants::under;
+use sdd_script_text::{Action, Call, GuardName, ItemName, OwnerName, PlaceName, Reply};
+use sdd_space::inner::slot_of_owner;
+use sdd_space_commands::holding::AnyOwner;
+use sdd_space_commands::raw::{ComeBack, DropOwner, GoRaw, PutNumber, SeeRaw};
+use sdd_space_commands::turns::step_at;
+use std::alloc::AllocError;
+
+/// `P put O n`: the number that an owner's item holds becomes this one, in its place. `NotAlone` and `GuardOpen` are replies.
+pub fn put(stage: &mut Interpreter, name: PlaceName, owner: OwnerName, number: u64) -> Reply
+    ensures acts { Acts stage.old (Call.At name (Action.Put owner number)) result stage.new }
+{
+    let Some(attending) = stage.hand.places.get(name.0) else {
+        return Reply::Invalid;
+    };
+    let Some(held) = stage.hand.owners.get(owner.0) else {
+        return Reply::Invalid;
+    };
+    stage.hand.world.is_whole();
+    if !is_number(value_of(held, &stage.hand.world)) {
+        return Reply::Invalid;
+    }
+    let Some(held) = stage.hand.owners.take(owner.0) else {
+        unreachable!()
+    };
+    let (held, put) = step_at(
+        &mut stage.hand.world,
+        &attending.place,
+        PutNumber {
+            owner: held,
+            number,
+        },
+    );
+    stage.hand.owners.put_back(owner.0, held);
+    if let Err(refused) = put {
+        return Reply::Refused(refused);
+    }
+    Reply::Done
+}
+
+/// `P drop O`: an owner is given up, and the item of one that is alone dropped in its place. `GuardOpen` is a reply, and then the owner keeps its name.
+pub fn drop_owner(stage: &mut Interpreter, name: PlaceName, owner: OwnerName) -> Reply
+    ensures acts { Acts stage.old (Call.At name (Action.Drop owner)) result stage.new }
+{
+    let Some(attending) = stage.hand.places.get(name.0) else {
+        return Reply::Invalid;
+    };
+    let Some(held) = stage.hand.owners.take(owner.0) else {
+        return Reply::Invalid;
+    };
+    stage.hand.world.is_whole();
+    let given = slot_given(value_of(&held, &stage.hand.world));
+    let place = &attending.place;
+    let reply = match step_at(&mut stage.hand.world, place, DropOwner { owner: held }) {
+        Ok(reply) => reply,
+        Err((held, refused)) => {
+            stage.hand.owners.put_back(owner.0, held);
+            return Reply::Refused(refused);
+        }
+    };
+    let line = stage.hand.moment;
+    date_if_waiting(&mut stage.hand.dates, &stage.hand.world, given, line);
+    reply
+}
+
+/// `P raw O`: the item of its one owner is out as raw, and the owner's name spent.
+pub fn put_out_raw(stage: &mut Interpreter, name: PlaceName, owner: OwnerName) -> Reply
+    ensures acts { Acts stage.old (Call.At name (Action.Raw owner)) result stage.new }
+{
+    let Some(attending) = stage.hand.places.get(name.0) else {
+        return Reply::Invalid;
+    };
+    let Some(owner) = take_sole(&mut stage.hand.owners, owner.0) else {
+        return Reply::Invalid;
+    };
+    stage.hand.world.is_whole();
+    let slot = slot_of_owner(&owner);
+    step_at(&mut stage.hand.world, &attending.place, GoRaw { owner });
+    Reply::Raw(ItemName(stage.hand.names[slot.number() as usize]))
+}
+
+/// `P unraw I`: the owner of an item that is out as raw, or none. Refused where memory for its name is, and then nothing has changed.
+pub fn take_back_raw(
+    stage: &mut Interpreter,
+    name: PlaceName,
+    item: ItemName,
+) -> Result<Reply, AllocError>
+    ensures acts { MatchResult result (λ reply. Acts stage.old (Call.At name (Action.Unraw item)) reply stage.new) (λ _. stage.new ≡ stage.old) }
+{
+    let Some(attending) = stage.hand.places.get(name.0) else {
+        return Ok(Reply::Invalid);
+    };
+    stage.hand.owners.make_room()?;
+    stage.hand.world.is_whole();
+    let slots = stage.hand.slots.as_slice();
+    let names = stage.hand.names.as_slice();
+    let dates = stage.hand.dates.as_slice();
+    let Some(slot) = slot_since(&stage.hand.world, slots, names, dates, item, 0) else {
+        return Ok(Reply::Invalid);
+    };
+    match step_at(&mut stage.hand.world, &attending.place, ComeBack { slot }) {
+        Some(owner) => {
+            let name = stage.hand.owners.give(AnyOwner::Sole(owner));
+            Ok(Reply::Owner(OwnerName(name)))
+        }
+        None => Ok(Reply::Nothing),
+    }
+}
+
+/// `P see I G`: the value of an item that is out as raw, or none.
+pub fn see(stage: &mut Interpreter, name: PlaceName, item: ItemName, guard: GuardName) -> Reply
+    ensures acts { Acts stage.old (Call.At name (Action.See item guard)) result stage.new }
+{
+    let Some((attending, held)) = under(&stage.hand.places, &stage.hand.guards, name, guard) else {
+        return Reply::Invalid;
+    };
+    stage.hand.world.is_whole();
+    let slots = stage.hand.slots.as_slice();
+    let names = stage.hand.names.as_slice();
+    let dates = stage.hand.dates.as_slice();
+    let Some(slot) = slot_since(&stage.hand.world, slots, names, dates, item, 0) else {
+        return Reply::Invalid;
+    };
+    let guard = &held.guard;
+    let place = &attending.place;
+    let Some(value) = step_at(&mut stage.hand.world, place, SeeRaw { slot, guard }) else {
+        return Reply::Nothing;
+    };
+    told(value, names)
+}
