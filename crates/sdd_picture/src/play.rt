@@ -4,8 +4,8 @@ use crate::{schedule, script};
 use sdd_core::{Limits, Refused};
 use sdd_drawing::draw;
 use sdd_machine::{Did, Step};
-use sdd_schedules::{Schedule, take_all};
 use sdd_script::run;
+use sdd_script::schedules::{Schedule, take_all};
 use sdd_script_text::{
     Answer, Call, Ended, ReadEnd, Script, Sink, Source, parse_all, print_all, print_fault,
     read_to_end, write_all,
@@ -72,14 +72,14 @@ fn drawn_script(alloc: Global, limits: Limits, text: &[u8]) -> Result<(Vec<u8>, 
 
 /// What is to be written for the text of a schedule, and how that ends.
 fn drawn_schedule(alloc: Global, text: &[u8]) -> Result<(Vec<u8>, Ended), Refused> {
-    match sdd_schedules::parse_all(alloc, text)? {
+    match sdd_script::schedules::parse_all(alloc, text)? {
         Schedule::Steps(steps) => {
             let answers = take_all(alloc, steps.as_slice())?;
             let drawn = drawn_steps(alloc, text, steps.as_slice(), answers.as_slice())?;
             Ok((drawn, Ended::Played))
         }
         Schedule::Fault(line) => {
-            let fault = sdd_schedules::print_fault(alloc, line)?;
+            let fault = sdd_script::schedules::print_fault(alloc, line)?;
             Ok((fault, Ended::NotAStep(line)))
         }
     }
@@ -104,7 +104,7 @@ fn drawn_steps(
     answers: &[Did],
 ) -> Result<Vec<u8>, Refused> {
     let picture = schedule::picture_of(alloc, steps, answers)?;
-    let printed = sdd_schedules::print_all(alloc, answers)?;
+    let printed = sdd_script::schedules::print_all(alloc, answers)?;
     let titles = titles(alloc, as_text(text), as_text(printed.as_slice()))?;
     Ok(draw(alloc, &picture, titles.as_slice())?)
 }

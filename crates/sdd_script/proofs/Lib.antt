@@ -1,0 +1,3 @@
+pub mod ScheduleLines
+pub mod Schedules
+pub mod ScheduleTaken

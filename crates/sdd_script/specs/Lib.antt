@@ -1,1 +1,6 @@
 pub mod Play
+pub mod ScheduleAnswer
+pub mod ScheduleLine
+pub mod SchedulePlay
+pub mod ScheduleReading
+pub mod Schedule

@@ -5,11 +5,12 @@ mod line;
 pub mod player;
 pub mod runner;
 pub mod scene;
+pub mod schedules;
 
 pub use player::play;
 pub use runner::run;
 pub use scene::Scene;
-pub use sdd_schedules::play_steps;
+pub use schedules::play_steps;
 pub use sdd_script_model::Val;
 pub use sdd_script_text::{
     Action, Answer, Call, CellName, CollectorName, Ended, Fault, GuardName, ItemName, JobName,

@@ -1,6 +1,6 @@
 //! Worked examples of the machine, played as schedules: each step beside its answer.
 
-use sdd_schedules::play_steps;
+use sdd_script::schedules::play_steps;
 use sdd_script_text::{Ended, Reader, Writer};
 use std::alloc::{AllocError, Global};
 use std::process::Abort;

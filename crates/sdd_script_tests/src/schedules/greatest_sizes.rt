@@ -1,6 +1,6 @@
 //! Ample memory at the greatest sizes. A body that refuses with `NoMemory` beyond some size meets every contract.
 
-use sdd_schedules::play_steps;
+use sdd_script::schedules::play_steps;
 use sdd_script_text::{Ended, Reader, Writer};
 use std::alloc::{AllocError, Global};
 use std::test::Fail;

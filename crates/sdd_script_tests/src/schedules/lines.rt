@@ -1,7 +1,7 @@
 //! Lines that are steps, and lines that are none.
 
 use sdd_machine::Step;
-use sdd_schedules::{Schedule, parse, parse_all, play_steps};
+use sdd_script::schedules::{Schedule, parse, parse_all, play_steps};
 use sdd_script_text::{Ended, Reader, Writer};
 use std::alloc::Global;
 use std::test::Fail;

@@ -1,7 +1,7 @@
 //! Devices that fail, and memory that is refused.
 
 use crate::devices::{Page, Trickle};
-use sdd_schedules::play_steps;
+use sdd_script::schedules::play_steps;
 use sdd_script_text::{Ended, Reader, Writer};
 use std::alloc::{AllocError, Global};
 

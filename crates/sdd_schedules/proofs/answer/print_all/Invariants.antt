@@ -1,6 +1,0 @@
-use Rattle.std.proofs.Common.{◌≡◌, string_bytes, take}
-use Rattle.sdd_schedules.specs.Answer.{text_of_all}
-use Rattle.sdd_schedules.proofs.answer.print_all.Given as goal
-
-abbrev pub invariant-loop-answer : goal.invariant-loop-answer
-invariant-loop-answer l = string_bytes l.text ≡ text_of_all (take l.answer-index l.answers)

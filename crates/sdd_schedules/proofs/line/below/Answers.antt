@@ -1,7 +1,0 @@
-use Rattle.std.proofs.Common.{arith}
-use Rattle.sdd_schedules.proofs.Lines.{too_great}
-use Rattle.sdd_schedules.proofs.line.below.Goals as goal
-
-pub returns-else-number-from : goal.returns-else-number-from
-returns-else-number-from c =
-    too_great c.args.limit c.in_ok-number.number c.args.word.now (omega arith) c.in_ok-number.ensures (omega (arith, c.from.ensures))
