@@ -1,11 +1,11 @@
 -- What a push and a pop make of a bag's own storage
 use Rattle.std.proofs.Common.{◌≡◌, ℕ, ◌+◌, ◌<◌, List, [], ◌∷◌, ◌++◌, Option, Some, None, length, map, is_some, true, false, refl, sym, ap, ◌∙◌, arith}
 use Rattle.std.specs.Prelude.{IfOk, IfSome, MatchOption, MatchResult, Result, Ok, Err}
-use Rattle.sdd_bag_storage.specs.KeyedPlaces.{PlaceName}
-use Rattle.sdd_bag_storage.specs.Storage.{AreEmpty, AreFull, IsEmptyAt, IsFullWith, KeptPlace, empty_place, names_of, value_at, values_in, with_value_at}
-use Rattle.sdd_bag_storage.specs.Values.{HasOneMore}
-use Rattle.sdd_bag_storage.proofs.Marks.{value-new, values-full, with-same}
-use Rattle.sdd_bag_storage.proofs.Values.{fewer-in, none-in}
+use Rattle.sdd_bag.specs.KeyedPlaces.{PlaceName}
+use Rattle.sdd_bag.specs.Storage.{AreEmpty, AreFull, IsEmptyAt, IsFullWith, KeptPlace, empty_place, names_of, value_at, values_in, with_value_at}
+use Rattle.sdd_bag.specs.Values.{HasOneMore}
+use Rattle.sdd_bag.proofs.Marks.{value-new, values-full, with-same}
+use Rattle.sdd_bag.proofs.Values.{fewer-in, none-in}
 use Rattle.sdd_bag.specs.Storages.{StorageName}
 use Rattle.sdd_bag.specs.Primary.{PrimaryParts}
 

@@ -5,15 +5,15 @@ use Rattle.std.specs.Int.{div_ceil}
 use Rattle.std.proofs.Math.Nat.{div-add-mod, mod-lt, mul-le-mul_right, mul-zero, mul_comm, suc-mul}
 use Rattle.std.proofs.lemmas.Grind.{div_ceil_times}
 use Rattle.std.proofs.lemmas.List.{length-append, length-drop, length-map, length-take, take-append-drop}
-use Rattle.sdd_bag_storage.specs.Storage.{AreEmpty, AreFullBehind, KeptPlace, names_of, value_at, values_in}
-use Rattle.sdd_bag_storage.proofs.Marks.{value-drop, values-front, values-full}
-use Rattle.sdd_bag_storage.proofs.Values.{all-empty, few-in}
+use Rattle.sdd_bag.specs.Storage.{AreEmpty, AreFullBehind, KeptPlace, names_of, value_at, values_in}
+use Rattle.sdd_bag.proofs.Marks.{value-drop, values-front, values-full}
+use Rattle.sdd_bag.proofs.Values.{all-empty, few-in}
 use Rattle.sdd_space.specs.World.{World}
 use Rattle.sdd_lists.specs.declared.linked_entry.LinkedEntry.{LinkedEntry}
 use Rattle.sdd_lists.specs.Lists.{Entry}
 use Rattle.sdd_bag.specs.Storages.{StorageName}
-use Rattle.sdd_bag_storage.specs.Values.{AreInSomeOrder, HasOneMore}
-use Rattle.sdd_bag_storage.proofs.Orders.{one-longer}
+use Rattle.sdd_bag.specs.Values.{AreInSomeOrder, HasOneMore}
+use Rattle.sdd_bag.proofs.Orders.{one-longer}
 use Rattle.sdd_bag.specs.Closing.{RemovesIfLast}
 use Rattle.sdd_bag.specs.Overflow.{AreShelves, LiesOn, RemovesStorage, places_in, places_on}
 use Rattle.sdd_bag.specs.Bag.{BagParts, IsBag, overflow_of}

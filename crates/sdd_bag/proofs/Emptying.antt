@@ -1,9 +1,9 @@
 -- A bag whose values are taken out one after another
 use Rattle.std.proofs.Common.{◌≡◌, ◌⊎◌, inl, inr, ℕ, List, [], ◌∷◌, ◌++◌, Option, None, refl, sym, ap, ◌∙◌, subst}
-use Rattle.sdd_bag_storage.specs.Storage.{AreEmpty}
-use Rattle.sdd_bag_storage.specs.Values.{HasOneMore}
-use Rattle.sdd_bag_storage.proofs.Orders.{more-before, more-behind}
-use Rattle.sdd_bag_storage.proofs.Values.{all-empty}
+use Rattle.sdd_bag.specs.Storage.{AreEmpty}
+use Rattle.sdd_bag.specs.Values.{HasOneMore}
+use Rattle.sdd_bag.proofs.Orders.{more-before, more-behind}
+use Rattle.sdd_bag.proofs.Values.{all-empty}
 use Rattle.sdd_space.specs.World.{World}
 use Rattle.sdd_lists.specs.declared.linked_entry.LinkedEntry.{LinkedEntry}
 use Rattle.sdd_space.specs.WorldChanges.{held_in}

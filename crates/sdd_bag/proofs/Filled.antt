@@ -2,9 +2,9 @@
 use Rattle.std.proofs.Common.{◌≡◌, ◌⊎◌, inl, inr, List, [], ◌∷◌, ◌++◌, refl, sym, ap, ◌∙◌, subst}
 use Rattle.std.specs.Prelude.{ℕ, ◌≢◌, Option}
 use Rattle.std.specs.Iterator.{YieldsThen}
-use Rattle.sdd_bag_storage.specs.Values.{AreInSomeOrder, HasOneMore}
-use Rattle.sdd_bag_storage.proofs.Orders.{more-before, more-behind}
-use Rattle.sdd_bag_storage.proofs.Kept.{not-there, same-there}
+use Rattle.sdd_bag.specs.Values.{AreInSomeOrder, HasOneMore}
+use Rattle.sdd_bag.proofs.Orders.{more-before, more-behind}
+use Rattle.sdd_bag.proofs.Kept.{not-there, same-there}
 use Rattle.sdd_participants.specs.Slab.{IsEmptyAt, entry_at}
 use Rattle.sdd_participants.specs.declared.standing.CellContents.{CellContents}
 use Rattle.sdd_space.specs.World.{World, value_at}

@@ -8,7 +8,7 @@ use Rattle.sdd_space.specs.declared.ptr.Ptr.{Ptr}
 use Rattle.sdd_lists.specs.declared.linked_entry.LinkedEntry.{LinkedEntry}
 use Rattle.sdd_lists.specs.Entries.{link_of, value_of}
 use Rattle.sdd_lists.specs.Lists.{AreLinked, Entry, first_slot}
-use Rattle.sdd_bag_storage.proofs.Kept.{not-there, same-there}
+use Rattle.sdd_bag.proofs.Kept.{not-there, same-there}
 
 module _ {B : Type 0} (w : World (LinkedEntry B)) (shows : ℕ → LinkedEntry B → Type 0)
     (are : (k : ℕ) (v : LinkedEntry B) → shows k v → value_at w k ≡ Some v) (ptr : Ptr (LinkedEntry B)) (is : PtrIsShown shows ptr) where

@@ -9,3 +9,10 @@ pub mod Emptying
 pub mod Surrendering
 pub mod Filled
 pub mod Counting
+pub mod Kept
+pub mod Marks
+pub mod Values
+pub mod Orders
+pub mod Loans
+pub mod Fields
+pub mod Keys

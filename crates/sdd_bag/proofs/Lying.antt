@@ -1,8 +1,8 @@
 -- Storages on the entries of a stack, and the keys of their places
 use Rattle.std.proofs.Common.{◌≡◌, ℕ, ◌<◌, List, [], ◌∷◌, ◌++◌, Option, Some, None, length, is_some, refl, sym, ap, ◌∙◌, subst, arith}
 use Rattle.std.specs.Prelude.{IfOk, IfSome, MatchOption, MatchResult, Result, Ok, Err, if◌then◌else◌}
-use Rattle.sdd_bag_storage.specs.Storage.{AreEmpty, AreFull, IsEmptyAt, IsFullWith, KeptPlace, names_of, value_at, values_in, with_value_at}
-use Rattle.sdd_bag_storage.specs.Values.{HasOneMore}
+use Rattle.sdd_bag.specs.Storage.{AreEmpty, AreFull, IsEmptyAt, IsFullWith, KeptPlace, names_of, value_at, values_in, with_value_at}
+use Rattle.sdd_bag.specs.Values.{HasOneMore}
 use Rattle.sdd_core.specs.declared.tag.Tag.{Tag}
 use Rattle.sdd_space.specs.World.{World}
 use Rattle.sdd_lists.specs.declared.linked_entry.LinkedEntry.{LinkedEntry}

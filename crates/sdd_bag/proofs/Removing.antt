@@ -1,10 +1,10 @@
 -- The first of a bag's storages is taken away
 use Rattle.std.proofs.Common.{◌≡◌, ◌≢◌, ℕ, ◌+◌, ◌^◌, ◌<◌, List, ◌∷◌, Option, Some, None, length, drop, sym, ap, ◌∙◌, subst, arith}
 use Rattle.std.proofs.lemmas.List.{get_or-set_same, get_or-set_other, length-set, drop_at}
-use Rattle.sdd_bag_storage.specs.KeyedPlaces.{PlaceName}
-use Rattle.sdd_bag_storage.specs.Storage.{KeptPlace}
-use Rattle.sdd_bag_storage.proofs.Kept.{map-drop, same-there}
-use Rattle.sdd_bag_storage.proofs.Marks.{behind-drop}
+use Rattle.sdd_bag.specs.KeyedPlaces.{PlaceName}
+use Rattle.sdd_bag.specs.Storage.{KeptPlace}
+use Rattle.sdd_bag.proofs.Kept.{map-drop, same-there}
+use Rattle.sdd_bag.proofs.Marks.{behind-drop}
 use Rattle.sdd_core.specs.declared.refused.Refused.{Refused}
 use Rattle.sdd_core.specs.declared.tag.Tag.TheVariants as tag
 use Rattle.sdd_participants.specs.declared.standing.Standing.{Standing}

@@ -3,9 +3,9 @@ use Rattle.std.proofs.Common.{◌≡◌, ◌≢◌, ℕ, ◌-◌, ◌*◌, ◌^�
 use Rattle.std.specs.Prelude.{is_some, nat_lt, slice_set, if◌then◌else◌}
 use Rattle.std.proofs.lemmas.List.{get_or-set_same, get_or-set_other, length-append, length-map, length-set}
 use mathlib.Core.Bool.{Bool}
-use Rattle.sdd_bag_storage.specs.KeyedPlaces.{PlaceName}
-use Rattle.sdd_bag_storage.specs.Storage.{AreFull, AreFullBehind, KeptPlace, empty_place, with_value_at}
-use Rattle.sdd_bag_storage.proofs.Marks.{behind-new, behind-with}
+use Rattle.sdd_bag.specs.KeyedPlaces.{PlaceName}
+use Rattle.sdd_bag.specs.Storage.{AreFull, AreFullBehind, KeptPlace, empty_place, with_value_at}
+use Rattle.sdd_bag.proofs.Marks.{behind-new, behind-with}
 use Rattle.sdd_core.specs.declared.tag.Tag.{Tag}
 use Rattle.sdd_core.specs.declared.tag.Tag.TheVariants as tag
 use Rattle.sdd_participants.specs.Slab.{Entries, IsEmptyAt, entry_at}

@@ -2,9 +2,9 @@
 use Rattle.std.proofs.Common.{◌≡◌, ◌⊎◌, inr, ℕ, ◌<◌, List, [], ◌∷◌, ◌++◌, Option, Some, None, length, true, false, refl, sym, ap, ◌∙◌, arith}
 use Rattle.std.specs.Prelude.{MatchOption}
 use Rattle.std.proofs.lemmas.List.{length-append, length-map}
-use Rattle.sdd_bag_storage.specs.KeyedPlaces.{PlaceName}
-use Rattle.sdd_bag_storage.specs.Storage.{AreEmpty, AreFull, KeptPlace, names_of, values_in}
-use Rattle.sdd_bag_storage.specs.Values.{HasOneMore}
+use Rattle.sdd_bag.specs.KeyedPlaces.{PlaceName}
+use Rattle.sdd_bag.specs.Storage.{AreEmpty, AreFull, KeptPlace, names_of, values_in}
+use Rattle.sdd_bag.specs.Values.{HasOneMore}
 use Rattle.sdd_space.specs.World.{World}
 use Rattle.sdd_lists.specs.declared.linked_entry.LinkedEntry.{LinkedEntry}
 use Rattle.sdd_lists.specs.Lists.{Entry}

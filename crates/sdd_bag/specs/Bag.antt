@@ -1,8 +1,8 @@
 -- What is in a bag, and how it lies in a world
 use Rattle.std.specs.Prelude.{ℕ, ◌≡◌, ◌<◌, ◌∷◌, ◌++◌, List, [], Option, length, map}
-use Rattle.sdd_bag_storage.specs.Storage.{AreEmpty, empty_place}
-use Rattle.sdd_bag_storage.specs.Values.{HasOneMore}
-use Rattle.sdd_bag_storage.specs.KeyedPlaces.{PlaceName}
+use Rattle.sdd_bag.specs.Storage.{AreEmpty, empty_place}
+use Rattle.sdd_bag.specs.Values.{HasOneMore}
+use Rattle.sdd_bag.specs.KeyedPlaces.{PlaceName}
 use Rattle.sdd_rights.specs.Units.{GhostName}
 use Rattle.sdd_space.specs.World.{World}
 use Rattle.sdd_lists.specs.declared.linked_entry.LinkedEntry.{LinkedEntry}

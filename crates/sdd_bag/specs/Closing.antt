@@ -1,6 +1,6 @@
 -- What becomes of a bag that is closed: what its values give up, and that nothing of this is the bag's own
 use Rattle.std.specs.Prelude.{ℕ, ◌%◌, ◌≡◌, ◌≢◌, List, [], ◌∷◌, IfSome, length}
-use Rattle.sdd_bag_storage.specs.Values.{AreInSomeOrder}
+use Rattle.sdd_bag.specs.Values.{AreInSomeOrder}
 use Rattle.sdd_participants.specs.Slab.{entry_at}
 use Rattle.sdd_space.specs.OwnerOrCell.{OwnerOrCell, owned, shared, atomic_owned, atomic_shared, atomic_raw}
 use Rattle.sdd_space.specs.World.{World}

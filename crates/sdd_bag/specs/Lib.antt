@@ -6,3 +6,7 @@ pub mod Closing
 pub mod Filling
 pub mod IntoIter
 pub mod Counting
+pub mod Storage
+pub mod Values
+pub mod KeyedPlaces
+pub mod KeptValues

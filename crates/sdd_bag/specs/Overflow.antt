@@ -1,7 +1,7 @@
 -- The values in the storages behind a bag's own, and how these lie in a world
 use Rattle.std.specs.Prelude.{ℕ, ◌≡◌, ◌≢◌, ◌⊎◌, List, [], ◌∷◌, ◌++◌, Option, Some, length}
-use Rattle.sdd_bag_storage.specs.KeyedPlaces.{PlaceName}
-use Rattle.sdd_bag_storage.specs.Storage.{AreFullBehind, KeptPlace, names_of, values_in}
+use Rattle.sdd_bag.specs.KeyedPlaces.{PlaceName}
+use Rattle.sdd_bag.specs.Storage.{AreFullBehind, KeptPlace, names_of, values_in}
 use Rattle.sdd_core.specs.declared.tag.Tag.TheVariants as tag
 use Rattle.sdd_participants.specs.declared.standing.Standing.TheVariants.{Shared as shared_by}
 use Rattle.sdd_participants.specs.Slab.{IsEmptyAt, IsFull}

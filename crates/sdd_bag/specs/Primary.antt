@@ -1,6 +1,6 @@
 -- The values that lie in a bag itself
 use Rattle.std.specs.Prelude.{ℕ, ◌≡◌, List, length}
-use Rattle.sdd_bag_storage.specs.Storage.{KeptPlace, names_of, values_in}
+use Rattle.sdd_bag.specs.Storage.{KeptPlace, names_of, values_in}
 use Rattle.sdd_bag.specs.Storages.{StorageName}
 
 -- a bag's own storage, and what is known of its places

@@ -1,6 +1,6 @@
 -- What clauses see of a storage
 use Rattle.std.specs.Prelude.{ℕ, List, [], ◌∷◌, Option, None, Some}
-use Rattle.sdd_bag_storage.specs.KeyedPlaces.{PlaceName}
+use Rattle.sdd_bag.specs.KeyedPlaces.{PlaceName}
 use Rattle.sdd_rights.specs.Units.{GhostName}
 use Rattle.sdd_space.specs.OwnerOrCell.{OwnerOrCell, atomic_shared}
 

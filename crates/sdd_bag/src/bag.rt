@@ -1,8 +1,8 @@
 //! The bag.
 ghost use Rattle.std.specs.Prelude.{◌≡◌, ◌≢◌, ◌↔◌, ◌⊎◌, ◌+◌, ◌^◌, ◌<◌, ◌≤◌, ◌++◌, ℕ, All, IfErr, IfOk, IfSome, IsTrue, List, MatchOption, MatchResult, None, Some, [], drop, length, map};
-ghost use Rattle.sdd_bag_storage.specs.KeyedPlaces.{PlaceName};
-ghost use Rattle.sdd_bag_storage.specs.Storage.{AreEmpty, AreFull, IsEmptyAt, IsFullWith, empty_place, with_value_at};
-ghost use Rattle.sdd_bag_storage.specs.Values.{AreInSomeOrder, HasOneMore};
+ghost use Rattle.sdd_bag.specs.KeyedPlaces.{PlaceName};
+ghost use Rattle.sdd_bag.specs.Storage.{AreEmpty, AreFull, IsEmptyAt, IsFullWith, empty_place, with_value_at};
+ghost use Rattle.sdd_bag.specs.Values.{AreInSomeOrder, HasOneMore};
 ghost use Rattle.sdd_space.specs.CallerId.{IsSeated, IsExact};
 ghost use Rattle.sdd_space.specs.Guard.{reader_of};
 ghost use Rattle.sdd_space.specs.ParticipantChanges.{KeepsMoreWaiting};
@@ -29,7 +29,7 @@ use crate::giving::give_up;
 use crate::primary::Primary;
 use crate::shelf::Shelf;
 use crate::storage::Storage;
-use sdd_bag_storage::StorageKeys;
+use crate::storage_keys::StorageKeys;
 use sdd_core::Refused;
 use sdd_lists::{LinkedEntry, Stack};
 use sdd_space::inner::{right_of_shared_cell, shared_cell_with};

@@ -1,7 +1,7 @@
 //! Bags of what an iterator gives.
 ghost use Rattle.std.specs.Prelude.{◌≡◌, ◌<◌, ◌≤◌, ◌++◌, IfErr, IfSome, List, MatchResult, None, Some, length};
 ghost use Rattle.std.specs.Iterator.{IsFinite, YieldsThen};
-ghost use Rattle.sdd_bag_storage.specs.Values.{AreInSomeOrder};
+ghost use Rattle.sdd_bag.specs.Values.{AreInSomeOrder};
 ghost use Rattle.sdd_space.specs.CallerId.{IsSeated, IsExact};
 ghost use Rattle.sdd_space.specs.Guard.{reader_of};
 ghost use Rattle.sdd_space.specs.ParticipantChanges.{KeepsMoreWaiting};

@@ -2,7 +2,7 @@
 ghost use Rattle.std.specs.Prelude.{◌≡◌, ◌^◌, ◌<◌, ◌≤◌, All, List, MatchOption, MatchResult, [], length};
 ghost use Rattle.sdd_bag.specs.Closing.{values_given};
 ghost use Rattle.sdd_bag.specs.Primary.{PrimaryParts, held_by};
-ghost use Rattle.sdd_bag_storage.specs.Values.{AreInSomeOrder, HasOneMore};
+ghost use Rattle.sdd_bag.specs.Values.{AreInSomeOrder, HasOneMore};
 ghost use Rattle.sdd_rights.specs.Right.{number_of, home_of, kind_of};
 ghost use Rattle.sdd_space.specs.CallerId.{IsSeated, IsExact};
 ghost use Rattle.sdd_space.specs.OwnerOrCell.{AreOf};
@@ -12,7 +12,7 @@ ghost use Rattle.sdd_space.specs.WorldChanges.{cell_closed};
 
 use crate::giving::give_up;
 use crate::storage::Storage;
-use sdd_bag_storage::StorageKeys;
+use crate::storage_keys::StorageKeys;
 use sdd_rights::{Right, StandingKind};
 use sdd_space::inner::shared_cell_with;
 use sdd_space::{AtomicShared, Cells, Item, Items, RawCells};

@@ -3,7 +3,7 @@ ghost use Rattle.std.specs.Prelude.{◌≡◌, length};
 ghost use Rattle.sdd_bag.specs.Storages.{StorageName, holdings_of};
 ghost use Rattle.sdd_rights.specs.Right.{number_of, home_of, kind_of};
 
-use sdd_bag_storage::Places;
+use crate::places::Places;
 use sdd_rights::{Right, StandingKind};
 use sdd_space::inner::shared_cell_with;
 use sdd_space::{Giver, Item};

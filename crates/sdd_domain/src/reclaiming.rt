@@ -283,7 +283,10 @@ impl<T: Item<T>, J: Job> LocalGiver<'_, T, J> {
         ensures exact { IsLone self.old.member → world_of self.new
             ≡ all_reclaimed T.holds (world_of self.old) self.old.member.place self.old.member.due }
     {
-        while let Some(LimboEntry::Item(slot)) = self.membership.first_due() {
+        while let Some(what) = self.membership.first_due() {
+            let LimboEntry::Item(slot) = what else {
+                unreachable!()
+            };
             self.empty_item(slot.number(), collector);
         }
     }

@@ -16,7 +16,7 @@ ghost use Rattle.sdd_lists.specs.Lists.{AreLinked, Entry, IsList, content, first
 ghost use Rattle.sdd_lists.specs.Queue.{IsNoneOrAmong, IsQueue, is_at, lets_go_of};
 
 use crate::linked_list::LinkedList;
-use sdd_core::{Refused, SlotName, Tag};
+use sdd_core::{Refused, Tag};
 use sdd_space::inner::slot_of_ptr;
 use sdd_space::laws::values_fit_slots;
 use sdd_space::{AtomicShared, Cells, Guard, Item, Items, LookThrough, Ptr};
@@ -226,7 +226,7 @@ pub(crate) fn slot_in<T: Item<T>, S: Cells<T>>(
     cell: &AtomicShared<T>,
     guard: &Guard,
     s: &mut S,
-) -> Option<SlotName>
+) -> Option<u32>
     requires seated { IsSeated (S.seat s.old) }
     requires home { cells_home cell.now ≡ (S.seat s.old).home.cells }
     requires reader { reader_of guard.now ≡ (S.seat s.old).reader }
@@ -234,14 +234,24 @@ pub(crate) fn slot_in<T: Item<T>, S: Cells<T>>(
     ensures exact { IsExact (S.seat s.old) → (S.world s.new ≡ S.world s.old) × ((t : Tag) ×
         (entry_at (S.world s.old).cells (cell_of cell.now) ≡ Some (record { held = result; tag = t }))) }
 {
-    slot_of_ptr(&cell.load(guard, s))
+    number_of(&cell.load(guard, s))
+}
+
+/// The number of the slot that the pointer names, if it isn't null.
+fn number_of<T>(ptr: &Ptr<'_, T>) -> Option<u32>
+    ensures { result ≡ slot_named ptr.now }
+{
+    match slot_of_ptr(ptr) {
+        Some(slot) => Some(slot.number()),
+        None => None,
+    }
 }
 
 /// The pointer names the slot.
-fn is_named<T>(ptr: &Ptr<'_, T>, watched: Option<SlotName>) -> bool
+fn is_named<T>(ptr: &Ptr<'_, T>, watched: Option<u32>) -> bool
     ensures { (e : Entry T) → slot_named ptr.now ≡ Some e.slot → result ≡ is_at watched e }
 {
-    match (slot_of_ptr(ptr), watched) {
+    match (number_of(ptr), watched) {
         (Some(slot), Some(other)) => slot == other,
         _ => false,
     }
@@ -250,7 +260,7 @@ fn is_named<T>(ptr: &Ptr<'_, T>, watched: Option<SlotName>) -> bool
 /// The watched slot is that of the first entry that isn't deleted, or of one before it.
 pub(crate) fn is_let_go_of<T: LinkedList, S: Items<T> + Cells<T> + LookThrough<T>>(
     cell: &AtomicShared<T>,
-    watched: Option<SlotName>,
+    watched: Option<u32>,
     guard: &Guard,
     s: &mut S,
 ) -> bool

@@ -1,7 +1,7 @@
 use Rattle.std.proofs.Common.{rules, ◌≡◌, ◌⊎◌, ℕ, ◌∷◌, ◌++◌, [], List, Some, length, refl, ap, ◌∙◌, sym, subst, append_assoc}
 use Rattle.std.proofs.lemmas.List.{append-nil}
-use Rattle.sdd_bag_storage.specs.Storage.{AreFull}
-use Rattle.sdd_bag_storage.specs.Values.{AreInSomeOrder}
+use Rattle.sdd_bag.specs.Storage.{AreFull}
+use Rattle.sdd_bag.specs.Values.{AreInSomeOrder}
 use Rattle.sdd_space.specs.CallerId.{CallerId, IsExact, IsSeated}
 use Rattle.sdd_space.specs.World.{World}
 use Rattle.sdd_lists.specs.declared.stack.Stack.{Stack}

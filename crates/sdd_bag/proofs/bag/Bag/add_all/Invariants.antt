@@ -1,6 +1,6 @@
 use Rattle.std.proofs.Common.{List, ◌++◌}
 use Rattle.std.specs.Iterator.{Yields}
-use Rattle.sdd_bag_storage.specs.Values.{AreInSomeOrder}
+use Rattle.sdd_bag.specs.Values.{AreInSomeOrder}
 use Rattle.sdd_space.specs.ParticipantChanges.{KeepsMoreWaiting}
 use Rattle.sdd_space.specs.Undisturbed.{Unmoved}
 use Rattle.sdd_lists.specs.Lists.{Entry}

@@ -1,5 +1,5 @@
 use Rattle.std.proofs.Common.{rules, ◌≡◌, ◌⊎◌, ◌∷◌, [], List, drop, refl, ap, ◌∙◌, sym, subst, arith}
-use Rattle.sdd_bag_storage.proofs.Orders.{one-longer}
+use Rattle.sdd_bag.proofs.Orders.{one-longer}
 use Rattle.sdd_space.specs.CallerId.{CallerId, IsExact, IsSeated}
 use Rattle.sdd_space.specs.OwnerOrCell.{AreOf}
 use Rattle.sdd_space.specs.World.{World}

@@ -1,6 +1,6 @@
 use Rattle.std.proofs.Common.{subst}
 use Rattle.std.specs.Prelude.{IsTrue, ◌↔◌}
-use Rattle.sdd_bag_storage.specs.Storage.{AreEmpty}
+use Rattle.sdd_bag.specs.Storage.{AreEmpty}
 use Rattle.sdd_bag.specs.Bag.{BagParts}
 use Rattle.sdd_bag.proofs.bag.Bag.is_front_empty.Goals as goal
 

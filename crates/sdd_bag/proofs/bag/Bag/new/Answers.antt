@@ -1,6 +1,6 @@
 use Rattle.std.proofs.Common.{◌≡◌, ℕ, List, [], ◌∙◌, ap, refl, sym, Option, Some, None, subst, arith}
 use Rattle.std.proofs.lemmas.List.{get_or-set_same}
-use Rattle.sdd_bag_storage.specs.Storage.{AreFullBehind, names_of}
+use Rattle.sdd_bag.specs.Storage.{AreFullBehind, names_of}
 use Rattle.sdd_core.specs.declared.refused.Refused.TheVariants.{NoCell}
 use Rattle.sdd_rights.specs.Right.{number_of}
 use Rattle.sdd_rights.specs.declared.right.Right.{Right}

@@ -1,5 +1,5 @@
 use Rattle.std.proofs.Common.{of_calls, ◌≡◌, ◌⊎◌, ◌∷◌, ◌++◌, [], List, drop, refl, ap, ◌∙◌, sym, subst, arith}
-use Rattle.sdd_bag_storage.proofs.Orders.{one-longer}
+use Rattle.sdd_bag.proofs.Orders.{one-longer}
 use Rattle.sdd_space.specs.CallerId.{CallerId}
 use Rattle.sdd_lists.specs.declared.stack.Stack.{Stack}
 use Rattle.sdd_lists.specs.Lists.{Entry}

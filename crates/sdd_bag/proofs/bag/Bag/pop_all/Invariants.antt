@@ -1,5 +1,5 @@
 use Rattle.std.proofs.Common.{List, length}
-use Rattle.sdd_bag_storage.specs.Values.{AreInSomeOrder}
+use Rattle.sdd_bag.specs.Values.{AreInSomeOrder}
 use Rattle.sdd_space.specs.ParticipantChanges.{KeepsMoreWaiting}
 use Rattle.sdd_space.specs.Undisturbed.{Unmoved}
 use Rattle.sdd_space.specs.World.{World}

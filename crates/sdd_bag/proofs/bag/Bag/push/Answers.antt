@@ -1,5 +1,5 @@
 use Rattle.std.proofs.Common.{rules, ◌≡◌, ◌⊎◌, List, ap, ◌∙◌, sym, subst}
-use Rattle.sdd_bag_storage.specs.Storage.{AreEmpty, AreFull}
+use Rattle.sdd_bag.specs.Storage.{AreEmpty, AreFull}
 use Rattle.sdd_lists.specs.declared.linked_entry.LinkedEntry.{LinkedEntry}
 use Rattle.sdd_lists.specs.Lists.{Entry}
 use Rattle.sdd_lists.specs.Stack.{cell_in, home_in}

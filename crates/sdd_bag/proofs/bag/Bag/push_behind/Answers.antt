@@ -1,6 +1,6 @@
 use Rattle.std.proofs.Common.{rules, ◌≡◌, inl, inr, List, Some, ap, ◌∙◌, sym, subst}
-use Rattle.sdd_bag_storage.specs.Storage.{AreFull, KeptPlace, values_in}
-use Rattle.sdd_bag_storage.specs.Values.{HasOneMore}
+use Rattle.sdd_bag.specs.Storage.{AreFull, KeptPlace, values_in}
+use Rattle.sdd_bag.specs.Values.{HasOneMore}
 use Rattle.sdd_space.specs.CallerId.{CallerId, IsExact, IsSeated}
 use Rattle.sdd_space.specs.World.{World}
 use Rattle.sdd_lists.specs.Stack.{cell_in, home_in}

@@ -1,7 +1,7 @@
 use Rattle.std.proofs.Common.{rules, ◌≡◌, ◌<◌, ◌++◌, ℕ, List, Some, ap, ◌∙◌, sym, subst, refl}
 use Rattle.std.specs.Prelude.{MatchResult}
-use Rattle.sdd_bag_storage.specs.Storage.{AreFull, IsEmptyAt, with_value_at}
-use Rattle.sdd_bag_storage.specs.Values.{HasOneMore}
+use Rattle.sdd_bag.specs.Storage.{AreFull, IsEmptyAt, with_value_at}
+use Rattle.sdd_bag.specs.Values.{HasOneMore}
 use Rattle.sdd_bag.specs.Storages.{places_shown}
 use Rattle.sdd_bag.specs.Overflow.{LiesOn, OverflowParts, places_on}
 use Rattle.sdd_bag.specs.Bag.{BagParts, overflow_of}

@@ -1,5 +1,5 @@
 use Rattle.std.proofs.Common.{rules, ◌≡◌, ◌<◌, List, length, ap, ◌∙◌, sym, subst, arith}
-use Rattle.sdd_bag_storage.specs.Storage.{AreEmpty, KeptPlace}
+use Rattle.sdd_bag.specs.Storage.{AreEmpty, KeptPlace}
 use Rattle.sdd_space.specs.CallerId.{CallerId, IsExact}
 use Rattle.sdd_space.specs.Shared.{slot_of}
 use Rattle.sdd_space.specs.World.{standing_at}

@@ -1,6 +1,6 @@
 use Rattle.std.proofs.Common.{◌≡◌, List, length}
 use Rattle.std.specs.Prelude.{All}
-use Rattle.sdd_bag_storage.specs.Values.{AreInSomeOrder}
+use Rattle.sdd_bag.specs.Values.{AreInSomeOrder}
 use Rattle.sdd_space.specs.OwnerOrCell.{AreOf}
 use Rattle.sdd_space.specs.ParticipantChanges.{KeepsMoreWaiting}
 use Rattle.sdd_space.specs.Undisturbed.{Unmoved}

@@ -56,7 +56,7 @@ invariant_of-self-2 g c =
     let retired = retires_to l.domain.now.board l.place l.own y slot shared shown l.token c.take_in.new.token c.let_one_go.new.token q took waits in
     let own_is : c.set_has_garbage.new.self ≡ awaiting (Item slot) l.own
     = c.set_has_garbage.ensures ∙ (ap (λ (bags : Bags). with_garbage (record l.own { bags = bags })) c.push.ensures ∙ ap (λ (k : ℕ). awaiting
-    (Item k) l.own) c.number-slot.ensures) in
+    (Item k) l.own) (c.of.ensures ∙ c.number-slot.ensures)) in
     let board = l.domain.now.board in let i = c.self.invariant in let inside : slot < slots_of board = search rules in
     subst (λ (o : Participant). IsBetweenCalls board l.place o c.let_one_go.new.token
     × l.nesting ≡ l.domain.now.limits.nesting × IsTenureOf o l.tenure × AreLentTo l.tenure.round c.let_one_go.new.token.me.1
@@ -255,7 +255,7 @@ returns-clause-went g c =
     let retired = retires_to l.domain.now.board l.place l.own y slot shared shown l.token c.take_in.new.token c.let_one_go.new.token q took waits in
     let own_is : c.set_has_garbage.new.self ≡ awaiting (Item slot) l.own
     = c.set_has_garbage.ensures ∙ (ap (λ (bags : Bags). with_garbage (record l.own { bags = bags })) c.push.ensures ∙ ap (λ (k : ℕ). awaiting
-    (Item k) l.own) c.number-slot.ensures) in
+    (Item k) l.own) (c.of.ensures ∙ c.number-slot.ensures)) in
     let old : LocalState _ = c.self.view_is 0 in
     let home : c.let_one_go.new.token.table_id ≡ l.token.table_id = waits.0 ∙ took.0 in
     let alone : IsLone old → l.token.me.0.epoch.all ≡ 1 = λ one. (q.all ∙ ap (λ (z : Sizes). z.participants) l.domain.now.limited.1) ∙ one in (

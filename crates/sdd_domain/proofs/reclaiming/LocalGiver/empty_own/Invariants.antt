@@ -10,8 +10,8 @@ use Rattle.sdd_domain.specs.Space.{known_of}
 use Rattle.sdd_domain.proofs.reclaiming.LocalGiver.empty_own.Given as goal
 
 -- to reclaim what is left is to reclaim all
-abbrev pub invariant-loop-slot : goal.invariant-loop-slot
-invariant-loop-slot g l = record {
+abbrev pub invariant-loop-what : goal.invariant-loop-what
+invariant-loop-what g l = record {
   taken : AllWaitFor l.self.member l.fn.collector l.self.member.due;
   closing : IsClosing l.fn.collector l.self.member;
   own : KeepsMoreWaiting l.fn.self.member.own l.self.member.own;
@@ -22,5 +22,5 @@ invariant-loop-slot g l = record {
       ≡ all_reclaimed g.T.Item.holds (world_of l.fn.self) l.fn.self.member.place l.fn.self.member.due;
 }
 
-abbrev pub decreases-loop-slot : goal.decreases-loop-slot
-decreases-loop-slot g l = length l.self.member.due
+abbrev pub decreases-loop-what : goal.decreases-loop-what
+decreases-loop-what g l = length l.self.member.due

@@ -1,0 +1,6 @@
+use denote.RattleType.{RattleType}
+use denote.Param.Send.{IsSend}
+use Rattle.sdd_bag.specs.contracts.keyed_place.PlaceKey.{the_row}
+
+pub send : (T : RattleType) → IsSend (the_row T)
+send T = record { owned = λ k vs. ((λ vss. (tt, ((λ uss. (tt, tt)), tt))), (tt, (tt, tt))); leaving = λ k f vs. tt }

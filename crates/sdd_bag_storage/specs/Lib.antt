@@ -1,4 +1,0 @@
-pub mod Storage
-pub mod Values
-pub mod KeyedPlaces
-pub mod KeptValues
