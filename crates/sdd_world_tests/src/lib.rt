@@ -2,6 +2,7 @@
 //! sizes of worlds, and the same calls over a turn and over a domain's only participant.
 #![tactic(auto)]
 
+pub mod cells;
 #[cfg(test)]
 mod ending;
 #[cfg(test)]
@@ -22,3 +23,5 @@ mod slots_and_owners;
 mod steps;
 #[cfg(test)]
 mod world_sizes;
+
+pub use cells::Value;

@@ -1,2 +1,0 @@
-pub mod There
-pub mod Cargo

@@ -1,0 +1,2 @@
+mod Registered
+pub mod Nothing

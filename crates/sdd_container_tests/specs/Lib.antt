@@ -1,0 +1,4 @@
+pub mod Station
+pub mod LeavesTime
+pub mod There
+pub mod Cargo

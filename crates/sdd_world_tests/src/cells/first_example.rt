@@ -1,0 +1,207 @@
+//! The first example in the original crate's README, call by call, in each space: cells of both kinds of owners, what goes into them and comes out, and
+//! what a guard shows meanwhile.
+ghost use Rattle.std.specs.Prelude.{◌≡◌};
+ghost use Rattle.sdd_space.specs.CallerId.{IsSeated};
+ghost use Rattle.sdd_space.specs.Guard.{reader_of};
+ghost use Rattle.sdd_space.specs.Owned as alone;
+ghost use Rattle.sdd_space.specs.Shared as common;
+
+use crate::cells::Value;
+use crate::cells::example::{
+    AMPLE, Example, Setting, Shown, all_went, closed, ended, in_each_space, local_shows,
+    new_domain, registered,
+};
+use crate::cells::steps::{close, opened, owned, raw, seen, shared};
+use sdd_core::{Limits, Tag};
+use sdd_participants::Idle;
+use sdd_space::{
+    AtomicOwned, AtomicShared, Cells, Deferrals, Guard, Items, Look, Ptr, RawPtr, Shared, Space,
+};
+use std::process::Abort;
+
+/// A pointer to what the cell holds. Both cells have a tag from now on, and an exchange that expects none is refused.
+fn tags<'g, S: Look<u64> + Items<u64> + Cells<u64>>(
+    rt: &impl Abort,
+    s: &mut S,
+    cell: &AtomicOwned<u64>,
+    shared_cell: &AtomicShared<u64>,
+    guard: &'g Guard,
+) -> Ptr<'g, u64>
+    requires seated { IsSeated (S.seat s.old) }
+    requires cell { alone.cells_home cell.now ≡ (S.seat s.old).home.cells }
+    requires shared_cell { common.cells_home shared_cell.now ≡ (S.seat s.old).home.cells }
+    requires reader { reader_of guard.now ≡ (S.seat s.old).reader }
+    ensures seat { S.seat s.new ≡ S.seat s.old }
+{
+    let mut ptr = owned::load(s, cell, guard);
+    assert!(rt; seen(s, ptr) == Some(19));
+    assert!(rt; owned::tagged(rt, s, cell, Tag::First));
+    assert!(rt; shared::tagged(rt, s, shared_cell, Tag::Second));
+    assert!(rt;
+        owned::exchanged(rt, s, cell, ptr, 18, Tag::First, guard)
+            == Err((Some(18), Some(19), Tag::First))
+    );
+    assert!(rt; ptr.set_tag(Tag::First) == Tag::None);
+    ptr
+}
+
+/// Another owner takes the place of the one in the cell, and comes out of it.
+fn replaced<S: Look<u64> + Items<u64> + Cells<u64>>(
+    rt: &impl Abort,
+    s: &mut S,
+    cell: AtomicShared<u64>,
+) -> Shared<u64>
+    requires seated { IsSeated (S.seat s.old) }
+    requires home { common.cells_home cell ≡ (S.seat s.old).home.cells }
+    ensures seat { S.seat s.new ≡ S.seat s.old }
+    ensures home { common.slots_home result ≡ (S.seat s.new).home.slots }
+{
+    assert!(rt; shared::swapped(rt, s, &cell, 19, Tag::None) == (Some(17), Tag::Second));
+    let owner = shared::into_shared(s, cell).expect(rt, "the cell holds an owner");
+    assert!(rt; *owner.get(s) == 19);
+    owner
+}
+
+/// A job waits until no guard of now is open.
+fn defers<S: Deferrals<u64, Job = Idle>>(rt: &impl Abort, s: &mut S, guard: &Guard)
+    requires seated { IsSeated (S.seat s.old) }
+    requires reader { reader_of guard.now ≡ (S.seat s.old).reader }
+    ensures seat { S.seat s.new ≡ S.seat s.old }
+{
+    match guard.defer_execute(Idle, s) {
+        Ok(()) => {}
+        Err((_job, refused)) => panic!(rt; "{refused:?}"),
+    }
+}
+
+/// What a guard saw it shows for as long as it is open, whatever is given up meanwhile.
+struct Manages;
+
+impl Example for Manages {
+    fn run<R: Abort, S: Space<u64> + Deferrals<u64, Job = Idle>>(rt: &R, s: &mut S) {
+        let cell = owned::cell(rt, s, 19);
+        let shared_cell = shared::cell(rt, s, 17);
+        let guard = opened(rt, s);
+        let ptr = tags(rt, s, &cell, &shared_cell, &guard);
+        let owner = replaced(rt, s, shared_cell);
+        let seven = owned::made(rt, s, 7);
+        let out = owned::raw(s, seven);
+        assert!(rt; shared::release(s, owner));
+        owned::close_cell(s, cell);
+        assert!(rt; (seen(s, ptr), ptr.tag()) == (Some(19), Tag::First));
+        assert!(rt; owned::see(s, out, &guard) == Some(7));
+        let back = owned::unraw(s, out);
+        assert!(rt; owned::spent(s, back) == Some(7));
+        defers(rt, s, &guard);
+        close(s, guard);
+    }
+}
+
+#[test]
+fn a_guard_shows_what_its_owners_gave_up(rt: HostRuntime) {
+    in_each_space::<Manages, _>(
+        &rt,
+        AMPLE,
+        &[(0, 0, true), (1, 0, true), (2, 0, true), (3, 5, false)],
+        0,
+    );
+}
+
+/// A raw cell names what is out, and whoever takes it back owns it.
+struct NamesWhatIsOut;
+
+impl Example for NamesWhatIsOut {
+    fn run<R: Abort, S: Space<u64> + Deferrals<u64, Job = Idle>>(rt: &R, s: &mut S) {
+        let cell = raw::cell(rt, s, RawPtr::null());
+        let tagged = RawPtr::null().with_tag(Tag::Both);
+        assert!(rt; raw::exchanged(rt, s, &cell, RawPtr::null(), tagged) == Ok(RawPtr::null()));
+        let seven = owned::made(rt, s, 7);
+        let out = owned::raw(s, seven);
+        cell.store(out, s);
+        let named = raw::held(rt, s, &cell);
+        let guard = opened(rt, s);
+        assert!(rt; owned::see(s, named, &guard) == Some(7));
+        close(s, guard);
+        let back = owned::unraw(s, named);
+        assert!(rt; owned::spent(s, back) == Some(7));
+        cell.close(s);
+    }
+}
+
+#[test]
+fn a_raw_cell_names_what_is_out(rt: HostRuntime) {
+    in_each_space::<NamesWhatIsOut, _>(&rt, AMPLE, &[], 0);
+}
+
+/// An owner of a value that holds the owner of one that holds an owner of a number.
+fn nested<S: Items<Value>>(rt: &impl Abort, s: &mut S) -> Shared<Value>
+    requires seated { IsSeated (S.seat s.old) }
+    ensures seat { S.seat s.new ≡ S.seat s.old }
+    ensures home { common.slots_home result ≡ (S.seat s.new).home.slots }
+{
+    let inner = shared::made(rt, s, Value::Number(20));
+    let middle = owned::made(rt, s, Value::Beside(inner));
+    shared::made(rt, s, Value::Of(middle))
+}
+
+/// The number of the innermost value, by owners alone.
+fn innermost<S: Look<Value>>(s: &S, owner: &Shared<Value>) -> Option<u64>
+    requires { common.slots_home owner.now ≡ (S.home s.now).slots }
+{
+    let Value::Of(middle) = owner.get(s) else {
+        return None;
+    };
+    let Value::Beside(inner) = middle.get(s) else {
+        return None;
+    };
+    match inner.get(s) {
+        Value::Number(number) => Some(*number),
+        _ => None,
+    }
+}
+
+/// The next owner is given up where the value that holds it is reclaimed.
+fn nests<S: Look<Value> + Items<Value>>(rt: &impl Abort, s: &mut S)
+    requires seated { IsSeated (S.seat s.old) }
+    ensures seat { S.seat s.new ≡ S.seat s.old }
+{
+    let owner = nested(rt, s);
+    assert!(rt; innermost(s, &owner) == Some(20));
+    assert!(rt; owner.release(s));
+}
+
+/// What a value held goes three changes after it.
+const GOES_IN_TURN: [Shown; 10] = [
+    (0, 0, true),
+    (1, 0, true),
+    (2, 0, true),
+    (3, 1, true),
+    (4, 1, true),
+    (5, 1, true),
+    (6, 2, true),
+    (7, 2, true),
+    (8, 2, true),
+    (9, 3, false),
+];
+
+#[test]
+fn owners_are_nested(rt: HostRuntime) {
+    let mut setting: Setting<Value> = Setting::new(&rt, AMPLE);
+    nests(&rt, &mut setting.world.at(&setting.place));
+    setting.shows(&rt, GOES_IN_TURN.as_slice());
+    setting.closed(&rt, 0);
+    for participants in 1..3u64 {
+        let domain = new_domain::<Value>(
+            &rt,
+            Limits {
+                participants,
+                ..AMPLE
+            },
+        );
+        let mut local = registered(&rt, &domain);
+        nests(&rt, &mut local);
+        local_shows(&rt, &mut local, GOES_IN_TURN.as_slice());
+        let receipt = ended(&rt, local);
+        all_went(&rt, closed(&rt, domain, receipt), 0);
+    }
+}

@@ -1,0 +1,416 @@
+//! Owners that may have others beside them, and cells of them.
+ghost use Rattle.std.specs.Prelude.{◌≡◌};
+ghost use Rattle.sdd_space.specs.Guard.{reader_of};
+ghost use Rattle.sdd_space.specs.OwnerOrCell.{AreOf};
+ghost use Rattle.sdd_space.specs.Shared.{slot_of, slots_home, cells_home, IsOfSlots};
+ghost use Rattle.sdd_space.specs.CallerId.{IsSeated};
+ghost use Rattle.sdd_space.specs.Ptr.{KeepsShown, PtrIsShown};
+
+use crate::cells::steps::{Read, close, opened, seen};
+use sdd_core::{Refused, Tag};
+use sdd_space::{
+    AtomicShared, Cells, Guard, Guards, InPlaceItems, Item, Items, Look, Ptr, RawPtr, Shared,
+    SharedItems, SharedOwners, Space,
+};
+use std::process::Abort;
+
+/// The owner of a new item.
+pub fn made<T: Item<T>, S: Items<T>>(rt: &impl Abort, s: &mut S, value: T) -> Shared<T>
+    requires seated { IsSeated (S.seat s.old) }
+    requires home { AreOf (S.seat s.old).home (T.holds value) }
+    ensures seat { S.seat s.new ≡ S.seat s.old }
+    ensures home { slots_home result ≡ (S.seat s.new).home.slots }
+{
+    match Shared::new(value, s) {
+        Ok(owner) => owner,
+        Err((_value, refused)) => panic!(rt; "{refused:?}"),
+    }
+}
+
+/// The owner of an item that a closure makes.
+pub fn made_by_closure<S: Items<u64>>(rt: &impl Abort, s: &mut S, value: u64) -> Shared<u64>
+    requires seated { IsSeated (S.seat s.old) }
+    ensures seat { S.seat s.new ≡ S.seat s.old }
+    ensures home { slots_home result ≡ (S.seat s.new).home.slots }
+{
+    match Shared::new_with(|| value, s) {
+        Ok(owner) => owner,
+        Err((_make, refused)) => panic!(rt; "{refused:?}"),
+    }
+}
+
+/// Gives the owner up, and tells whether it was the last.
+pub fn release<S: Items<u64>>(s: &mut S, owner: Shared<u64>) -> bool
+    requires seated { IsSeated (S.seat s.old) }
+    requires home { slots_home owner ≡ (S.seat s.old).home.slots }
+    ensures seat { S.seat s.new ≡ S.seat s.old }
+    ensures shown { KeepsShown (S.shows s.old) (S.shows s.new) }
+{
+    owner.release(s)
+}
+
+/// One owner more.
+pub fn copied<S: SharedOwners<u64>>(rt: &impl Abort, s: &mut S, owner: &Shared<u64>) -> Shared<u64>
+    requires seated { IsSeated (S.seat s.old) }
+    requires home { slots_home owner.now ≡ (S.seat s.old).home.slots }
+    ensures seat { S.seat s.new ≡ S.seat s.old }
+    ensures shown { KeepsShown (S.shows s.old) (S.shows s.new) }
+    ensures home { slots_home result ≡ (S.seat s.new).home.slots }
+{
+    owner.clone(s).expect(rt, "another owner may be had")
+}
+
+/// Whether one owner more can be had of the pointer's item; if so it is given up again, and tells whether it was the last.
+#[tactic(auto, using(sdd_space::proofs::Shown::shown_still))]
+pub fn upgraded<S: Items<u64> + SharedItems<u64>>(
+    rt: &impl Abort,
+    s: &mut S,
+    ptr: Ptr<'_, u64>,
+) -> Option<bool>
+    requires seated { IsSeated (S.seat s.old) }
+    requires shown { PtrIsShown (S.shows s.old) ptr }
+    ensures seat { S.seat s.new ≡ S.seat s.old }
+    ensures still { PtrIsShown (S.shows s.new) ptr.entry }
+{
+    let owner = ptr.get_shared(s).expect(rt, "another owner may be had")?;
+    Some(owner.release(s))
+}
+
+/// What is seen by an owner that is had of what a cell holds; it is given up again.
+pub fn had_of<S: Look<u64> + Guards<u64> + Items<u64> + SharedItems<u64> + Cells<u64>>(
+    rt: &impl Abort,
+    s: &mut S,
+    cell: &AtomicShared<u64>,
+) -> Option<u64>
+    requires seated { IsSeated (S.seat s.old) }
+    requires home { cells_home cell.now ≡ (S.seat s.old).home.cells }
+    ensures seat { S.seat s.new ≡ S.seat s.old }
+{
+    let guard = opened(rt, s);
+    let had = cell
+        .get_shared(&guard, s)
+        .expect(rt, "another owner may be had");
+    close(s, guard);
+    let owner = had?;
+    let value = *owner.get(s);
+    let _ = owner.release(s);
+    Some(value)
+}
+
+/// The same by a call that gives the pointer back where there is none.
+#[tactic(auto, using(sdd_space::proofs::Shown::shown_still))]
+pub fn converted<S: Items<u64> + SharedItems<u64>>(
+    rt: &impl Abort,
+    s: &mut S,
+    ptr: Ptr<'_, u64>,
+) -> Option<bool>
+    requires seated { IsSeated (S.seat s.old) }
+    requires shown { PtrIsShown (S.shows s.old) ptr }
+    ensures seat { S.seat s.new ≡ S.seat s.old }
+    ensures still { PtrIsShown (S.shows s.new) ptr.entry }
+{
+    match Shared::try_from_ptr(ptr, s) {
+        Ok(owner) => Some(owner.release(s)),
+        Err((back, refused)) => {
+            assert!(rt; back == ptr && refused.is_none());
+            None
+        }
+    }
+}
+
+/// What another owner is refused with. If it is had, it is given up again.
+pub fn refused_copy<S: Items<u64> + SharedItems<u64>>(
+    s: &mut S,
+    owner: &Shared<u64>,
+) -> Option<Refused>
+    requires seated { IsSeated (S.seat s.old) }
+    requires home { slots_home owner.now ≡ (S.seat s.old).home.slots }
+    ensures seat { S.seat s.new ≡ S.seat s.old }
+    ensures shown { KeepsShown (S.shows s.old) (S.shows s.new) }
+{
+    match owner.clone(s) {
+        Ok(other) => {
+            let _ = other.release(s);
+            None
+        }
+        Err(refused) => Some(refused),
+    }
+}
+
+/// The same of an owner of the pointer's item.
+pub fn refused_upgrade<S: Look<u64> + Items<u64> + SharedItems<u64>>(
+    s: &mut S,
+    ptr: Ptr<'_, u64>,
+) -> Option<Refused>
+    requires seated { IsSeated (S.seat s.old) }
+    requires shown { PtrIsShown (S.shows s.old) ptr }
+    ensures seat { S.seat s.new ≡ S.seat s.old }
+{
+    match ptr.get_shared(s) {
+        Ok(owner) => {
+            let _ = spent(s, owner);
+            None
+        }
+        Err(refused) => Some(refused),
+    }
+}
+
+/// The same of an owner of what the cell holds.
+pub fn refused_owner<S: Space<u64>>(
+    s: &mut S,
+    cell: &AtomicShared<u64>,
+    guard: &Guard,
+) -> Option<Refused>
+    requires seated { IsSeated (S.seat s.old) }
+    requires home { cells_home cell.now ≡ (S.seat s.old).home.cells }
+    requires reader { reader_of guard.now ≡ (S.seat s.old).reader }
+    ensures seat { S.seat s.new ≡ S.seat s.old }
+{
+    match cell.get_shared(guard, s) {
+        Ok(owner) => {
+            let _ = spent(s, owner);
+            None
+        }
+        Err(refused) => Some(refused),
+    }
+}
+
+/// The same of another cell that holds one.
+pub fn refused_cell<S: Items<u64> + Cells<u64>>(
+    s: &mut S,
+    cell: &AtomicShared<u64>,
+    guard: &Guard,
+) -> Option<Refused>
+    requires seated { IsSeated (S.seat s.old) }
+    requires home { cells_home cell.now ≡ (S.seat s.old).home.cells }
+    requires reader { reader_of guard.now ≡ (S.seat s.old).reader }
+    ensures seat { S.seat s.new ≡ S.seat s.old }
+{
+    match cell.clone(guard, s) {
+        Ok(copy) => {
+            copy.close(s);
+            None
+        }
+        Err(refused) => Some(refused),
+    }
+}
+
+/// The number of the owner's item. The owner is given up.
+pub fn spent<S: Look<u64> + Items<u64>>(s: &mut S, owner: Option<Shared<u64>>) -> Option<u64>
+    requires seated { IsSeated (S.seat s.old) }
+    requires home { IsOfSlots (S.seat s.old).home.slots owner }
+    ensures seat { S.seat s.new ≡ S.seat s.old }
+{
+    let owner = owner?;
+    let value = *owner.get(s);
+    let _ = owner.release(s);
+    Some(value)
+}
+
+/// A cell that holds the owner of a new item.
+pub fn cell<T: Item<T>, S: Cells<T>>(rt: &impl Abort, s: &mut S, value: T) -> AtomicShared<T>
+    requires seated { IsSeated (S.seat s.old) }
+    requires home { AreOf (S.seat s.old).home (T.holds value) }
+    ensures seat { S.seat s.new ≡ S.seat s.old }
+    ensures home { cells_home result ≡ (S.seat s.new).home.cells }
+{
+    match AtomicShared::new(value, s) {
+        Ok(cell) => cell,
+        Err((_value, refused)) => panic!(rt; "{refused:?}"),
+    }
+}
+
+/// A pointer to what the cell holds.
+pub fn load<'g, S: Cells<u64>>(
+    s: &mut S,
+    cell: &AtomicShared<u64>,
+    guard: &'g Guard,
+) -> Ptr<'g, u64>
+    requires seated { IsSeated (S.seat s.old) }
+    requires home { cells_home cell.now ≡ (S.seat s.old).home.cells }
+    requires reader { reader_of guard.now ≡ (S.seat s.old).reader }
+    ensures seat { S.seat s.new ≡ S.seat s.old }
+{
+    cell.load(guard, s)
+}
+
+/// Sets the tag where the cell has none, and tells whether it did.
+pub fn tagged<S: Cells<u64>>(rt: &impl Abort, s: &mut S, cell: &AtomicShared<u64>, tag: Tag) -> bool
+    requires seated { IsSeated (S.seat s.old) }
+    requires home { cells_home cell.now ≡ (S.seat s.old).home.cells }
+    ensures seat { S.seat s.new ≡ S.seat s.old }
+{
+    let condition = |ptr: RawPtr<u64>| ptr.tag() == Tag::None;
+    cell.update_tag_if(tag, condition, s)
+        .expect(rt, "nobody comes between")
+}
+
+/// The cell is free again, and what it held comes back.
+pub fn into_shared<S: Cells<u64>>(s: &mut S, cell: AtomicShared<u64>) -> Option<Shared<u64>>
+    requires seated { IsSeated (S.seat s.old) }
+    requires home { cells_home cell ≡ (S.seat s.old).home.cells }
+    ensures seat { S.seat s.new ≡ S.seat s.old }
+    ensures home { IsOfSlots (S.seat s.new).home.slots result }
+{
+    cell.into_shared(s)
+}
+
+/// The cell is free again, and what it held is given up.
+pub fn close_cell<S: Items<u64> + Cells<u64>>(s: &mut S, cell: AtomicShared<u64>)
+    requires seated { IsSeated (S.seat s.old) }
+    requires home { cells_home cell ≡ (S.seat s.old).home.cells }
+    ensures seat { S.seat s.new ≡ S.seat s.old }
+{
+    cell.close(s);
+}
+
+/// The cell holds the owner of a new item with this tag, and what it held is given up. The number that it held, and the tag before.
+pub fn swapped<S: Look<u64> + Items<u64> + Cells<u64>>(
+    rt: &impl Abort,
+    s: &mut S,
+    cell: &AtomicShared<u64>,
+    next: u64,
+    tag: Tag,
+) -> (Option<u64>, Tag)
+    requires seated { IsSeated (S.seat s.old) }
+    requires home { cells_home cell.now ≡ (S.seat s.old).home.cells }
+    ensures seat { S.seat s.new ≡ S.seat s.old }
+{
+    let owner = made(rt, s, next);
+    let (old, old_tag) = cell.swap((Some(owner), tag), s);
+    (spent(s, old), old_tag)
+}
+
+/// The cell holds the owner of a new item with this tag, if it held what the pointer names.
+pub fn exchanged<'g, S: Look<u64> + Items<u64> + Cells<u64>>(
+    rt: &impl Abort,
+    s: &mut S,
+    cell: &AtomicShared<u64>,
+    current: Ptr<'g, u64>,
+    next: u64,
+    tag: Tag,
+    guard: &'g Guard,
+) -> Result<Read, Read>
+    requires seated { IsSeated (S.seat s.old) }
+    requires home { cells_home cell.now ≡ (S.seat s.old).home.cells }
+    requires reader { reader_of guard.now ≡ (S.seat s.old).reader }
+    ensures seat { S.seat s.new ≡ S.seat s.old }
+{
+    let owner = made(rt, s, next);
+    match cell.compare_exchange(current, (Some(owner), tag), guard, s) {
+        Ok((old, now)) => Ok((spent(s, old), seen(s, now), now.tag())),
+        Err((back, now)) => Err((spent(s, back), seen(s, now), now.tag())),
+    }
+}
+
+/// What the cell holds, and its tag, under a guard of its own.
+pub fn read<S: Look<u64> + Guards<u64> + Cells<u64>>(
+    rt: &impl Abort,
+    s: &mut S,
+    cell: &AtomicShared<u64>,
+) -> (Option<u64>, Tag)
+    requires seated { IsSeated (S.seat s.old) }
+    requires home { cells_home cell.now ≡ (S.seat s.old).home.cells }
+    ensures seat { S.seat s.new ≡ S.seat s.old }
+{
+    let guard = opened(rt, s);
+    let ptr = cell.load(&guard, s);
+    let found = (seen(s, ptr), ptr.tag());
+    close(s, guard);
+    found
+}
+
+/// The cell holds nothing, with this tag. The number that it held, whose owner is given up.
+pub fn emptied_weakly<S: Look<u64> + Guards<u64> + Items<u64> + Cells<u64>>(
+    rt: &impl Abort,
+    s: &mut S,
+    cell: &AtomicShared<u64>,
+    tag: Tag,
+) -> Option<u64>
+    requires seated { IsSeated (S.seat s.old) }
+    requires home { cells_home cell.now ≡ (S.seat s.old).home.cells }
+    ensures seat { S.seat s.new ≡ S.seat s.old }
+{
+    let guard = opened(rt, s);
+    let ptr = cell.load(&guard, s);
+    let old = match cell.compare_exchange_weak(ptr, (None, tag), &guard, s) {
+        Ok((old, _now)) => old,
+        Err((_back, _now)) => panic!(rt; "nobody comes between"),
+    };
+    close(s, guard);
+    spent(s, old)
+}
+
+/// Another cell that holds one owner more of the same item, or nothing.
+pub fn copied_cell<S: Guards<u64> + Cells<u64>>(
+    rt: &impl Abort,
+    s: &mut S,
+    cell: &AtomicShared<u64>,
+) -> AtomicShared<u64>
+    requires seated { IsSeated (S.seat s.old) }
+    requires home { cells_home cell.now ≡ (S.seat s.old).home.cells }
+    ensures seat { S.seat s.new ≡ S.seat s.old }
+    ensures home { cells_home result ≡ (S.seat s.new).home.cells }
+{
+    let guard = opened(rt, s);
+    let copy = cell.clone(&guard, s).expect(rt, "a cell is free");
+    close(s, guard);
+    copy
+}
+
+/// The item has another number from now on. The one before.
+pub fn put<S: InPlaceItems<u64>>(
+    s: &mut S,
+    owner: &mut Shared<u64>,
+    value: u64,
+) -> Result<u64, Refused>
+    requires seated { IsSeated (S.seat s.old) }
+    requires home { slots_home owner.old ≡ (S.seat s.old).home.slots }
+    ensures seat { S.seat s.new ≡ S.seat s.old }
+    ensures home { slots_home owner.new ≡ slots_home owner.old }
+    ensures slot { slot_of owner.new ≡ slot_of owner.old }
+    ensures same { S.keeps_right → owner.new ≡ owner.old }
+{
+    match owner.get_mut(|number| std::mem::replace(number, value), s) {
+        Ok(was) => Ok(was),
+        Err((_put, refused)) => Err(refused),
+    }
+}
+
+/// The owner goes in place, and tells whether it was the last.
+pub fn dropped_in_place<S: InPlaceItems<u64>>(
+    rt: &impl Abort,
+    s: &mut S,
+    owner: Shared<u64>,
+) -> bool
+    requires seated { IsSeated (S.seat s.old) }
+    requires home { slots_home owner ≡ (S.seat s.old).home.slots }
+    ensures seat { S.seat s.new ≡ S.seat s.old }
+{
+    match owner.drop_in_place(s) {
+        Ok(last) => last,
+        Err((_owner, refused)) => panic!(rt; "{refused:?}"),
+    }
+}
+
+/// Sets the tag by a condition that holds, or doesn't. How often that was asked.
+pub fn asked<S: Cells<u64>>(
+    rt: &impl Abort,
+    s: &mut S,
+    cell: &AtomicShared<u64>,
+    tag: Tag,
+    holds: bool,
+) -> u8
+    requires seated { IsSeated (S.seat s.old) }
+    requires home { cells_home cell.now ≡ (S.seat s.old).home.cells }
+    ensures seat { S.seat s.new ≡ S.seat s.old }
+{
+    let mut times = 0u8;
+    let condition = |_ptr: RawPtr<u64>| {
+        times = times.wrapping_add(1);
+        holds
+    };
+    let was_set = cell.update_tag_if(tag, condition, s);
+    assert!(rt; was_set == Ok(holds));
+    times
+}
