@@ -1,4 +1,4 @@
--- Reading a verb. Only private functions cite this: what a line is, `Line` says by the steps' own texts.
+-- Reading a verb. Only private functions cite this: what a line is, `ScheduleLine` says by the steps' own texts.
 use Rattle.std.specs.Prelude.{ℕ, List, [], ◌∷◌, Option, Some, None, if◌then◌else◌}
 use Rattle.std.specs.Str.{bytes_eq}
 use Rattle.sdd_machine.specs.declared.machine.steps.Step.{Step}

@@ -1,4 +1,4 @@
-//! The actions of this crate, and what each answers.
+//! What participants do with guards, and their ends: the actions, and what each answers.
 ghost use Rattle.std.specs.Prelude.{◌≡◌, MatchOption};
 ghost use Rattle.sdd_script_model.specs.ScriptState.{BeginsLine};
 ghost use Rattle.sdd_script_model.specs.Script.{Acts};

@@ -1,4 +1,4 @@
-//! The actions of this crate, and what each answers.
+//! What participants do with items, owners, cells, links and stacks: the actions, and what each answers.
 ghost use Rattle.std.specs.Prelude.{◌≡◌, MatchOption, MatchResult};
 ghost use Rattle.sdd_script_model.specs.Script.{Acts};
 ghost use Rattle.sdd_script_commands.specs.ItemLines.{IsItemAct, IsRawAct, IsCellAct, IsHeldAct, IsLinkAct, IsStackAct};

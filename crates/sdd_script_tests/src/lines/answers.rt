@@ -30,7 +30,7 @@ fn answer(
     })
 }
 
-/// The texts of all other replies stand beside their lines in the examples of `sdd_script_examples`.
+/// The texts of all other replies stand beside their lines in the examples of `data/`.
 #[test]
 fn replies_that_no_script_gets_have_texts(rt: HostRuntime) -> Result<(), Fail> {
     let alloc = rt.alloc();

@@ -8,7 +8,7 @@ use sdd_script_text::{
 use std::alloc::Global;
 use std::test::Fail;
 
-/// The other forms of lines are played, each with its answer, by `sdd_script_examples`.
+/// The other forms of lines are played, each with its answer, by the program.
 #[test]
 fn lines_are_calls(rt: HostRuntime) {
     let place = PlaceName(0);
