@@ -3,7 +3,6 @@
 
 mod cells;
 mod configuration;
-mod lists;
 mod local;
 mod operation;
 mod places;
@@ -16,7 +15,8 @@ mod world;
 use operation::{Operation, named};
 use sdd_core::{Limits, Refused};
 use sdd_participants::Tally;
-use std::process::{Abort, ExitCode};
+use std::alloc::Global;
+use std::process::ExitCode;
 use std::rt::Env;
 use std::sync::Wait;
 use std::thread::Threads;
@@ -49,16 +49,6 @@ const FOR_TWO: Limits = Limits {
     slots: 1024,
     cells: 2,
     jobs: 1024,
-    nesting: 2,
-    tries: 1,
-};
-
-/// Each entry has a cell of its own, and a queue has two.
-const FOR_LISTS: Limits = Limits {
-    participants: 1,
-    slots: 1024,
-    cells: 1026,
-    jobs: 0,
     nesting: 2,
     tries: 1,
 };
@@ -101,12 +91,12 @@ fn asked(words: &[String]) -> Option<Wanted> {
 }
 
 /// Does an operation that often, and prints what it left.
-fn do_operation<R: Print + AllocGlobal + Abort>(
+fn do_operation<R: Print + AllocGlobal>(
     rt: &R,
     operation: Operation,
     turns: u64,
 ) -> io::Result<ExitCode> {
-    match done(rt, operation, turns) {
+    match done(rt.alloc(), operation, turns) {
         Ok((tally, sum)) => {
             println!(rt;
                 "{turns} turns, {} made, {} reclaimed, sum {sum}",
@@ -135,12 +125,7 @@ fn time_threads<R: Threads + Wait + Clock + Print + AllocGlobal + Sync>(
     }
 }
 
-fn done<R: AllocGlobal + Abort>(
-    rt: &R,
-    operation: Operation,
-    turns: u64,
-) -> Result<(Tally, u64), Refused> {
-    let alloc = rt.alloc();
+fn done(alloc: Global, operation: Operation, turns: u64) -> Result<(Tally, u64), Refused> {
     match operation {
         Operation::World(guarding) => world::run(alloc, LIMITS, Work::Guards(guarding), turns),
         Operation::Item => world::run(alloc, LIMITS, Work::Items, turns),
@@ -153,7 +138,6 @@ fn done<R: AllocGlobal + Abort>(
         Operation::Swap => world::run(alloc, LIMITS, Work::Swaps, turns),
         Operation::Local(task) => local::run(alloc, LIMITS, false, task, turns),
         Operation::Beside(task) => local::run(alloc, FOR_TWO, true, task, turns),
-        Operation::List(work) => lists::run(rt, alloc, FOR_LISTS, work, turns),
         Operation::Places => places::run(alloc, CROWD, turns),
     }
 }

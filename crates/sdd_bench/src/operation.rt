@@ -58,17 +58,6 @@ pub enum Task {
     OfCell(CellWork),
 }
 
-/// What is done in each turn with a list, in a world.
-#[derive(Clone, Copy, Debug, PartialEq, Eq)]
-pub enum ListWork {
-    /// Under a guard, a number is pushed onto a queue, and one popped; what is due is reclaimed.
-    Queue,
-    /// The same with a stack.
-    Stack,
-    /// A walk along 256 entries of a queue, under a guard that stays open.
-    Walk,
-}
-
 /// What is done in each turn, and where.
 #[derive(Clone, Copy, Debug, PartialEq, Eq)]
 pub enum Operation {
@@ -96,8 +85,6 @@ pub enum Operation {
     Raw,
     /// In a world, under a guard, an item is made and put into a cell, and what the cell held is retired; what is due is reclaimed.
     Swap,
-    /// In a world, with a list.
-    List(ListWork),
 }
 
 /// The operation of that name.
@@ -155,9 +142,6 @@ pub fn named(word: &str) -> Option<Operation>
         "beside-publish" => Some(Operation::Beside(Task::OfCell(CellWork::Publishes))),
         "beside-config" => Some(Operation::Beside(Task::OfCell(CellWork::MostlyReads))),
         "domain-places" => Some(Operation::Places),
-        "world-queue" => Some(Operation::List(ListWork::Queue)),
-        "world-stack" => Some(Operation::List(ListWork::Stack)),
-        "world-walk" => Some(Operation::List(ListWork::Walk)),
         _ => None,
     }
 }

@@ -50,10 +50,7 @@ pub fn contents_in(word: u64) -> CellContents
     ensures small { IfSome result.held (λ slot. slot < 2 ^ 25 - 5) }
 {
     CellContents {
-        held: match held_slot(word) {
-            Some(slot) => Some(SlotName::of(slot)),
-            None => None,
-        },
+        held: held_slot(word).map(SlotName::of),
         tag: tag_in(word),
     }
 }

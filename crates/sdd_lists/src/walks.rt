@@ -16,7 +16,7 @@ ghost use Rattle.sdd_lists.specs.Lists.{AreLinked, Entry, IsList, content, first
 ghost use Rattle.sdd_lists.specs.Queue.{IsNoneOrAmong, IsQueue, is_at, lets_go_of};
 
 use crate::linked_list::LinkedList;
-use sdd_core::{Refused, Tag};
+use sdd_core::{Refused, SlotName, Tag};
 use sdd_space::inner::slot_of_ptr;
 use sdd_space::laws::values_fit_slots;
 use sdd_space::{AtomicShared, Cells, Guard, Item, Items, LookThrough, Ptr};
@@ -241,10 +241,7 @@ pub(crate) fn slot_in<T: Item<T>, S: Cells<T>>(
 fn number_of<T>(ptr: &Ptr<'_, T>) -> Option<u32>
     ensures { result ≡ slot_named ptr.now }
 {
-    match slot_of_ptr(ptr) {
-        Some(slot) => Some(slot.number()),
-        None => None,
-    }
+    slot_of_ptr(ptr).map(SlotName::number)
 }
 
 /// The pointer names the slot.

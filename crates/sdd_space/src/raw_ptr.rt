@@ -87,10 +87,7 @@ impl<T> RawPtr<T> {
         ensures tag { tag_of result ≡ tag }
     {
         RawPtr {
-            slot: match named {
-                Some(slot) => slot.number(),
-                None => 0,
-            },
+            slot: named.map_or(0, SlotName::number),
             tag,
             named: named.is_some(),
             of: PhantomData,
@@ -111,11 +108,7 @@ impl<T> RawPtr<T> {
     pub(crate) fn of_pointer(pointer: RawCellContents) -> RawPtr<T>
         ensures { pointer_of result ≡ pointer }
     {
-        let named = match pointer.named {
-            Some(slot) => Some(SlotName::of(slot)),
-            None => None,
-        };
-        RawPtr::of(named, pointer.tag)
+        RawPtr::of(pointer.named.map(SlotName::of), pointer.tag)
     }
 
     /// What a raw cell has that points to the same.
