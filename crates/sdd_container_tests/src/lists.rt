@@ -11,6 +11,8 @@ mod marks;
 #[cfg(test)]
 mod queues;
 #[cfg(test)]
+mod rounds;
+#[cfg(test)]
 mod stacks;
 pub mod station;
 #[cfg(test)]
