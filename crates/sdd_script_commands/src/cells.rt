@@ -14,7 +14,9 @@ use sdd_script_names::items::date_if_waiting;
 use sdd_script_names::owners::{fits, take_filling};
 use sdd_script_names::participants::under;
 use sdd_script_text::{Action, Call, CellName, GuardName, ItemName, OwnerName, PlaceName, Reply};
-use sdd_space_commands::turns::cells::{cell_around, cell_loaded, close_at, slot_in, tag_if, tag_of};
+use sdd_space_commands::turns::cells::{
+    cell_around, cell_loaded, close_at, slot_in, tag_if, tag_of,
+};
 use sdd_world::inner::has_no_cell;
 use std::alloc::AllocError;
 

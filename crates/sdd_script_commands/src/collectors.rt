@@ -9,7 +9,7 @@ ghost use Rattle.sdd_script_model.specs.Held.{owners_in, slots_waiting_for};
 ghost use Rattle.sdd_script_model.specs.Shown.{item_in};
 ghost use Rattle.sdd_script_model.specs.Script.{Acts, Answers};
 
-use sdd_core::{Refused, SlotName};
+use sdd_core::Refused;
 use sdd_script_model::Val;
 use sdd_script_names::Interpreter;
 use sdd_script_names::items::{date_if_waiting, date_waiting, items_in, slots_for};
@@ -69,7 +69,7 @@ pub fn collect(
         &held.guard,
     );
     let line = stage.hand.moment;
-    date_if_waiting(&mut stage.hand.dates, &stage.hand.world, Some(SlotName::of(slot)), line);
+    date_if_waiting(&mut stage.hand.dates, &stage.hand.world, Some(slot), line);
     reply
 }
 

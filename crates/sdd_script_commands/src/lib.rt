@@ -17,6 +17,4 @@ pub mod raw;
 pub mod stacks;
 
 pub use guard_line::act_on_guard;
-pub use item_line::{
-    act_on_cell, act_on_held, act_on_item, act_on_link, act_on_raw, act_on_stack,
-};
+pub use item_line::{act_on_cell, act_on_held, act_on_item, act_on_link, act_on_raw, act_on_stack};

@@ -10,8 +10,7 @@ use sdd_script_names::items::slot_since;
 use sdd_script_names::owners::{shared_of, take_shared, take_sole};
 use sdd_script_names::participants::under;
 use sdd_script_text::{Action, Call, GuardName, ItemName, OwnerName, PlaceName, Reply};
-use sdd_space::inner::{slot_of_owner, slot_of_shared};
-use sdd_space_commands::holding::AnyOwner;
+use sdd_space_commands::holding::{AnyOwner, slot_of_share, slot_of_sole};
 use sdd_space_commands::turns::owners::{clone_held, release_owner, retire_item, share_item};
 use std::alloc::AllocError;
 
@@ -26,9 +25,9 @@ pub fn retire(stage: &mut Interpreter, name: PlaceName, owner: OwnerName) -> Rep
         return Reply::Invalid;
     };
     stage.hand.world.is_whole();
-    let slot = slot_of_owner(&owner);
+    let slot = slot_of_sole(&owner);
     retire_item(&mut stage.hand.world, &attending.place, owner);
-    stage.hand.dates[slot.number() as usize] = stage.hand.moment;
+    stage.hand.dates[slot as usize] = stage.hand.moment;
     Reply::Done
 }
 
@@ -43,10 +42,10 @@ pub fn release(stage: &mut Interpreter, name: PlaceName, owner: OwnerName) -> Re
         return Reply::Invalid;
     };
     stage.hand.world.is_whole();
-    let slot = slot_of_shared(&owner);
+    let slot = slot_of_share(&owner);
     let was_last = release_owner(&mut stage.hand.world, &attending.place, owner);
     if was_last {
-        stage.hand.dates[slot.number() as usize] = stage.hand.moment;
+        stage.hand.dates[slot as usize] = stage.hand.moment;
     }
     Reply::Truth(was_last)
 }

@@ -10,8 +10,7 @@ use sdd_script_names::items::{date_if_waiting, is_number, slot_given, slot_since
 use sdd_script_names::owners::{take_sole, value_of};
 use sdd_script_names::participants::under;
 use sdd_script_text::{Action, Call, GuardName, ItemName, OwnerName, PlaceName, Reply};
-use sdd_space::inner::slot_of_owner;
-use sdd_space_commands::holding::AnyOwner;
+use sdd_space_commands::holding::{AnyOwner, slot_of_sole};
 use sdd_space_commands::raw::{ComeBack, DropOwner, GoRaw, PutNumber, SeeRaw};
 use sdd_space_commands::turns::step_at;
 use std::alloc::AllocError;
@@ -84,9 +83,9 @@ pub fn put_out_raw(stage: &mut Interpreter, name: PlaceName, owner: OwnerName) -
         return Reply::Invalid;
     };
     stage.hand.world.is_whole();
-    let slot = slot_of_owner(&owner);
+    let slot = slot_of_sole(&owner);
     step_at(&mut stage.hand.world, &attending.place, GoRaw { owner });
-    Reply::Raw(ItemName(stage.hand.names[slot.number() as usize]))
+    Reply::Raw(ItemName(stage.hand.names[slot as usize]))
 }
 
 /// `P unraw I`: the owner of an item that is out as raw, or none. Refused where memory for its name is, and then nothing has changed.

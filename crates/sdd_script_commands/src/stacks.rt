@@ -9,8 +9,7 @@ use sdd_script_names::items::{date_new, number_of, waiting_by_slot};
 use sdd_script_names::owners::value_of;
 use sdd_script_names::participants::{under, under_any};
 use sdd_script_text::{Action, Call, GuardName, ItemName, OwnerName, PlaceName, Reply, StackName};
-use sdd_space::inner::slot_of_shared;
-use sdd_space_commands::holding::AnyOwner;
+use sdd_space_commands::holding::{AnyOwner, slot_of_share};
 use sdd_space_commands::turns::stacks::{close_at, pop_at, push_at, stack_at};
 use std::alloc::AllocError;
 
@@ -60,7 +59,7 @@ pub fn push(
         Ok(owner) => owner,
         Err(refused) => return Ok(Reply::Refused(refused)),
     };
-    let slot = slot_of_shared(&owner).number();
+    let slot = slot_of_share(&owner);
     let item = stage.hand.slots.len() as u64;
     stage.hand.names[slot as usize] = item;
     stage.hand.slots.push_reserved(slot);

@@ -19,8 +19,8 @@ use sdd_core::SlotName;
 use sdd_participants::{LimboEntry, Standing};
 use sdd_script_model::{Body, Val};
 use sdd_script_text::{ItemName, Reply, Value};
-use sdd_space::inner::{slot_of_owner, slot_of_shared};
 use sdd_space::{Owned, Shared};
+use sdd_space_commands::holding::{slot_of_share, slot_of_sole};
 use sdd_world::World;
 use sdd_world::inner::{standing_of, value_in};
 use std::alloc::{AllocError, Global};
@@ -32,8 +32,8 @@ pub fn told(value: &Val, names: &[u64]) -> Reply
 {
     match value.as_ref() {
         Body::Number(number) => Reply::Value(*number),
-        Body::Owned(owner) => Reply::Holding(ItemName(names[slot_of_owner(owner).number() as usize])),
-        Body::Shared(owner) => Reply::Holding(ItemName(names[slot_of_shared(owner).number() as usize])),
+        Body::Owned(owner) => Reply::Holding(ItemName(names[slot_of_sole(owner) as usize])),
+        Body::Shared(owner) => Reply::Holding(ItemName(names[slot_of_share(owner) as usize])),
     }
 }
 
@@ -129,13 +129,13 @@ pub fn number_of(value: &Val) -> Option<u64>
 }
 
 /// The slot of the item whose owner a value holds, if it holds one.
-pub fn slot_given(value: &Val) -> Option<SlotName>
+pub fn slot_given(value: &Val) -> Option<u32>
     ensures { result ≡ slot_held (body_of value.now) }
 {
     match value.as_ref() {
         Body::Number(_) => None,
-        Body::Owned(owner) => Some(slot_of_owner(owner)),
-        Body::Shared(owner) => Some(slot_of_shared(owner)),
+        Body::Owned(owner) => Some(slot_of_sole(owner)),
+        Body::Shared(owner) => Some(slot_of_share(owner)),
     }
 }
 
@@ -222,8 +222,8 @@ fn owners_in(alloc: Global, world: &World<Val>, slots: &[u32]) -> Result<Vec<u32
     for slot in slots {
         match value_in(world, *slot).as_ref() {
             Body::Number(_) => {}
-            Body::Owned(owner) => found.push_reserved(slot_of_owner(owner).number()),
-            Body::Shared(owner) => found.push_reserved(slot_of_shared(owner).number()),
+            Body::Owned(owner) => found.push_reserved(slot_of_sole(owner)),
+            Body::Shared(owner) => found.push_reserved(slot_of_share(owner)),
         }
     }
     Ok(found)
@@ -244,14 +244,13 @@ pub fn date_waiting(dates: &mut Vec<u64>, world: &World<Val>, slots: &[u32], lin
 }
 
 /// The item in this slot, if it waits now, began to do so in this line.
-pub fn date_if_waiting(dates: &mut Vec<u64>, world: &World<Val>, slot: Option<SlotName>, line: u64)
+pub fn date_if_waiting(dates: &mut Vec<u64>, world: &World<Val>, slot: Option<u32>, line: u64)
     requires { IfSome slot (λ slot. slot < length dates.old.items) }
     ensures { dates.new.items ≡ dated_if_waiting world.now slot line dates.old.items }
 {
     if let Some(slot) = slot {
-        let number = slot.number();
-        if is_waiting(world, number) {
-            dates[number as usize] = line;
+        if is_waiting(world, slot) {
+            dates[slot as usize] = line;
         }
     }
 }

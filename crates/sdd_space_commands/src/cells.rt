@@ -11,12 +11,12 @@ ghost use Rattle.sdd_script_model.specs.Val.{Val};
 ghost use Rattle.sdd_script_model.specs.ScriptState.{slot_of};
 ghost use Rattle.sdd_space_commands.specs.Owners.{cell_holding, cell_number, filling_holding, filling_kind, holding_around};
 
-use crate::holding::{AnyCell, CellOwner};
+use crate::holding::{AnyCell, CellOwner, slot_of_share, slot_of_sole};
 use crate::step::CellCommand;
-use sdd_core::{SlotName, Tag};
+use sdd_core::Tag;
 use sdd_participants::CellContents;
 use sdd_script_model::Val;
-use sdd_space::inner::{slot_of_owner, slot_of_ptr, slot_of_shared};
+use sdd_space::inner::slot_of_ptr;
 use sdd_space::{
     AtomicOwned, AtomicShared, Cells, Collectors, Guard, Items, RawCells, RawPtr, SharedItems,
 };
@@ -158,7 +158,7 @@ pub struct PeekCell<'a> {
 }
 
 impl CellCommand for PeekCell<'_> {
-    type Out = Option<SlotName>;
+    type Out = Option<u32>;
 
     ghost asks = { λ step home _ _. IsOf home (cell_holding step.cell.now) };
 
@@ -167,12 +167,12 @@ impl CellCommand for PeekCell<'_> {
     fn done<S: Items<Val> + SharedItems<Val> + Cells<Val> + RawCells<Val> + Collectors<Val>>(
         self,
         s: &mut S,
-    ) -> Option<SlotName> {
+    ) -> Option<u32> {
         let PeekCell { cell } = self;
         match cell {
             AnyCell::Sole(cell) => {
                 let (owner, tag) = cell.swap((None, Tag::None), s);
-                let slot = owner.as_ref().map(slot_of_owner);
+                let slot = owner.as_ref().map(slot_of_sole);
                 let (rest, _) = cell.swap((owner, tag), s);
                 match rest {
                     None => slot,
@@ -181,7 +181,7 @@ impl CellCommand for PeekCell<'_> {
             }
             AnyCell::Share(cell) => {
                 let (owner, tag) = cell.swap((None, Tag::None), s);
-                let slot = owner.as_ref().map(slot_of_shared);
+                let slot = owner.as_ref().map(slot_of_share);
                 let (rest, _) = cell.swap((owner, tag), s);
                 match rest {
                     None => slot,

@@ -2,6 +2,8 @@
 ghost use Rattle.std.specs.Prelude.{◌≡◌, Some};
 ghost use Rattle.sdd_space_commands.specs.Owners.{owner_holding, cell_kind};
 ghost use Rattle.sdd_script_model.specs.ScriptState.{slot_of};
+ghost use Rattle.sdd_space.specs.Owned as owned;
+ghost use Rattle.sdd_space.specs.Shared as shared;
 
 use sdd_script_model::{OwnerKind, Val};
 use sdd_space::inner::{slot_of_owner, slot_of_shared};
@@ -25,6 +27,20 @@ pub enum CellOwner {
     Share(Option<Shared<Val>>),
 }
 
+/// The number of the slot of an only owner's item.
+pub fn slot_of_sole<T>(owner: &Owned<T>) -> u32
+    ensures { result ≡ owned.slot_of owner.now }
+{
+    slot_of_owner(owner).number()
+}
+
+/// The number of the slot of a shared owner's item.
+pub fn slot_of_share<T>(owner: &Shared<T>) -> u32
+    ensures { result ≡ shared.slot_of owner.now }
+{
+    slot_of_shared(owner).number()
+}
+
 impl AnyCell {
     /// Which owners it is for.
     pub fn ownership(&self) -> OwnerKind
@@ -43,8 +59,8 @@ impl AnyOwner {
         ensures { slot_of (Some (owner_holding self.now)) ≡ Some result }
     {
         match self {
-            AnyOwner::Sole(owner) => slot_of_owner(owner).number(),
-            AnyOwner::Share(owner) => slot_of_shared(owner).number(),
+            AnyOwner::Sole(owner) => slot_of_sole(owner),
+            AnyOwner::Share(owner) => slot_of_share(owner),
         }
     }
 }

@@ -13,13 +13,13 @@ ghost use Rattle.sdd_script_model.specs.Val.{Val};
 ghost use Rattle.sdd_script_model.specs.ScriptState.{slot_of};
 ghost use Rattle.sdd_space_commands.specs.Owners.{cell_holding, cell_number, filling_holding, filling_kind, holding_around};
 
+use crate::cells::{CloseCell, LoadCell, MakeCell, PeekCell, ReadTag, TagIf};
+use crate::holding::{AnyCell, CellOwner};
 use crate::turns::turn::cell_step_at;
-use sdd_core::{SlotName, Tag};
+use sdd_core::Tag;
 use sdd_participants::CellContents;
 use sdd_script_model::Val;
 use sdd_space::Guard;
-use crate::cells::{CloseCell, LoadCell, MakeCell, PeekCell, ReadTag, TagIf};
-use crate::holding::{AnyCell, CellOwner};
 use sdd_world::{Place, World};
 
 /// A new cell, filled with this.
@@ -70,7 +70,7 @@ pub fn tag_if(world: &mut World<Val>, place: &Place, cell: &AnyCell, tag: Tag, w
 }
 
 /// The slot whose item a cell holds, which no guard is needed for: it is taken out and put back.
-pub fn slot_in(world: &mut World<Val>, place: &Place, cell: &AnyCell) -> Option<SlotName>
+pub fn slot_in(world: &mut World<Val>, place: &Place, cell: &AnyCell) -> Option<u32>
     requires place { IsPlaceOf world.old (index_of place.now) }
     requires home { IsOf world.old.home (cell_holding cell.now) }
     ensures slot { result ≡ held_in (entry_at world.old.cells (cell_number cell.now)) }

@@ -15,13 +15,13 @@ ghost use Rattle.sdd_script_model.specs.Collecting.{Collects};
 ghost use Rattle.sdd_script_model.specs.Val.{Val, holdings_of};
 ghost use Rattle.sdd_space_commands.specs.Owners.{owner_holding};
 
+use crate::collectors::{CloseCollector, GiveToCollector, MakeCollector};
+use crate::holding::AnyOwner;
 use crate::turns::turn::cell_step_at;
 use sdd_core::Refused;
 use sdd_script_model::Val;
 use sdd_script_text::Reply;
 use sdd_space::{Guard, PrivateCollector};
-use crate::collectors::{CloseCollector, GiveToCollector, MakeCollector};
-use crate::holding::AnyOwner;
 use sdd_world::{Place, World};
 
 /// A new collector.

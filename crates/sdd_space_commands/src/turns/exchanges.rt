@@ -17,14 +17,14 @@ ghost use Rattle.sdd_script_model.specs.ScriptState.{slot_of};
 ghost use Rattle.sdd_space_commands.specs.Owners.{cell_holding, cell_kind, cell_number, filling_holding, filling_kind, held_as};
 ghost use Rattle.sdd_space.specs.Shared as shared;
 
+use crate::exchanges::{CopyCell, ExchangeIn, ShareHeld, SwapIn, TakeOut};
+use crate::holding::{AnyCell, CellOwner};
 use crate::turns::turn::cell_step_at;
 use sdd_core::{Refused, SlotName, Tag};
 use sdd_participants::CellContents;
 use sdd_script_model::Val;
 use sdd_space::inner::null_with;
 use sdd_space::{AtomicShared, Guard, Ptr, Shared};
-use crate::exchanges::{CopyCell, ExchangeIn, ShareHeld, SwapIn, TakeOut};
-use crate::holding::{AnyCell, CellOwner};
 use sdd_world::inner::ptr_at;
 use sdd_world::{Place, World};
 

@@ -10,13 +10,11 @@ ghost use Rattle.sdd_space.specs.WorldChanges.{opened, closed, stirred, accelera
 ghost use Rattle.sdd_world.specs.Place.{index_of};
 ghost use Rattle.sdd_script_model.specs.Val.{Val, holdings_of};
 
+use crate::guards::{Accelerate, CloseGuard, DeferJob, SetGarbage, ShowEpoch, ShowGarbage};
 use crate::turns::turn::step_at;
 use sdd_core::{Epoch, Refused};
 use sdd_script_model::Val;
 use sdd_space::Guard;
-use crate::guards::{
-    Accelerate, CloseGuard, DeferJob, SetGarbage, ShowEpoch, ShowGarbage,
-};
 use sdd_world::{Place, World};
 
 /// A new guard of the participant, and the epoch then.

@@ -12,11 +12,11 @@ ghost use Rattle.sdd_script_model.specs.Val.{Val, body_of, owner_in, link_of, li
 ghost use Rattle.sdd_space_commands.specs.Owners.{owner_holding};
 ghost use Rattle.sdd_script_model.specs.Held.{standing_first, holding_first};
 
+use crate::holding::AnyOwner;
+use crate::items::MakeItem;
 use crate::turns::turn::cell_step_at;
 use sdd_script_model::{Body, OwnerKind, Val};
 use sdd_space::{Guard, Shows};
-use crate::holding::AnyOwner;
-use crate::items::MakeItem;
 use sdd_world::inner::ptr_at;
 use sdd_world::{Place, World};
 

@@ -13,11 +13,11 @@ ghost use Rattle.sdd_script_model.specs.Val.{Val};
 ghost use Rattle.sdd_space.specs.Shared as shared_owner;
 ghost use Rattle.sdd_participants.specs.declared.standing.Standing.TheVariants as standing;
 
+use crate::owners::{CloneOwner, ReleaseOwner, RetireItem, ShareItem};
 use crate::turns::turn::step_at;
 use sdd_core::Refused;
 use sdd_script_model::Val;
 use sdd_space::{Guard, Owned, Shared};
-use crate::owners::{CloneOwner, ReleaseOwner, RetireItem, ShareItem};
 use sdd_world::inner::ptr_at;
 use sdd_world::{Place, World};
 

@@ -13,12 +13,12 @@ ghost use Rattle.sdd_script_model.specs.Stacks.{stack_closed};
 ghost use Rattle.sdd_script_model.specs.Val.{Val};
 ghost use Rattle.sdd_space_commands.specs.Stacks.{PopsOff, PushesNumber};
 
+use crate::stacks::{CloseStack, MakeStack, PopFirst, PushNumber};
 use crate::turns::turn::list_step_at;
 use sdd_core::Refused;
 use sdd_lists::Stack;
 use sdd_script_model::{Body, Val};
 use sdd_space::{Guard, Shared};
-use crate::stacks::{CloseStack, MakeStack, PopFirst, PushNumber};
 use sdd_world::{Place, World};
 
 /// A new stack, without entries.

@@ -4,8 +4,8 @@ ghost use Rattle.sdd_space.specs.World.{World, IsPlaceOf};
 ghost use Rattle.sdd_world.specs.Place.{index_of};
 ghost use Rattle.sdd_script_model.specs.Val.{Val};
 
-use sdd_script_model::Val;
 use crate::step::{CellCommand, ListCommand, SpaceCommand};
+use sdd_script_model::Val;
 use sdd_world::{Place, World};
 
 /// The participant does this, with guards, owners or pointers.

@@ -34,7 +34,7 @@ told c =
       | in-Some-held w ↦
           let inside = slot-inside _ c.stage.invariant c.is_whole.ensures c.args.name _ c.in-Some.ensures.found.0 c.args.cell _ c.in-Some-get.ensures cell _
           c.cell_loaded-loaded.ensures.loaded w.in-Some-held.is in
-          told-item names cell w.in-Some-held.slot _ _ w.in-Some-held.is (get_or_read names _ _ inside.0 w.index.ensures 0) w.item-is
+          told-item names cell w.in-Some-held.slot _ _ w.in-Some-held.is (get_or_read names _ _ inside.0 (rw (w.number.ensures) at w.index.ensures) 0) w.item-is
       | in-None w ↦ told-none names cell _ w.in-None.is w.item-is
     ]
 

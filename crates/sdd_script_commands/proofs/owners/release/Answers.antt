@@ -25,9 +25,9 @@ invariant_of-stage-then-was_last c =
     let released = c.release_owner-was_last.ensures.released in
     let there = got c.stage.inside.hand.places c.args.name.0 _ c.in-Some.ensures in
     (acts-released c.stage.inside.hand c.stage.invariant c.is_whole.ensures c.args.name _ there c.args.owner _
-    c.take_shared.new.owners.entries (with_item c.stage.inside.hand.dates c.slot_of_shared-slot.result now) _ c.release_owner-was_last.result _
+    c.take_shared.new.owners.entries (with_item c.stage.inside.hand.dates c.slot_of_share-slot.result now) _ c.release_owner-was_last.result _
     c.in-Some-take_shared.ensures.0 c.in-Some-take_shared.ensures.1
-    (rw c.if-was_last.true (ap (λ k. slice_set c.stage.inside.hand.dates.items k now) c.slot_of_shared-slot.ensures)) released.1 released.2 released.3).0
+    (rw c.if-was_last.true (ap (λ k. slice_set c.stage.inside.hand.dates.items k now) c.slot_of_share-slot.ensures)) released.1 released.2 released.3).0
 
 pub invariant_of-stage-else-was_last : goal.invariant_of-stage-else-was_last
 invariant_of-stage-else-was_last c =
@@ -45,9 +45,9 @@ returns c =
       acts = elim c.if-was_last.branch [
         | then-was_last w ↦ rw (← c.stage.view_is, w.stage-is) (acts-released c.stage.inside.hand c.stage.invariant c.is_whole.ensures c.args.name _
             (got c.stage.inside.hand.places c.args.name.0 _ c.in-Some.ensures) c.args.owner _ c.take_shared.new.owners.entries
-            (with_item c.stage.inside.hand.dates c.slot_of_shared-slot.result now) _ c.release_owner-was_last.result _
+            (with_item c.stage.inside.hand.dates c.slot_of_share-slot.result now) _ c.release_owner-was_last.result _
             c.in-Some-take_shared.ensures.0 c.in-Some-take_shared.ensures.1
-            (rw w.if-was_last.true (ap (λ k. slice_set c.stage.inside.hand.dates.items k now) c.slot_of_shared-slot.ensures))
+            (rw w.if-was_last.true (ap (λ k. slice_set c.stage.inside.hand.dates.items k now) c.slot_of_share-slot.ensures))
             released.1 released.2 released.3).1
         | else-was_last w ↦ rw (← c.stage.view_is, w.stage-is) (acts-released c.stage.inside.hand c.stage.invariant c.is_whole.ensures c.args.name _
             (got c.stage.inside.hand.places c.args.name.0 _ c.in-Some.ensures) c.args.owner _ c.take_shared.new.owners.entries

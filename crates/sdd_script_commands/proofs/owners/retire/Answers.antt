@@ -20,19 +20,19 @@ retire_item-requires-clause-home c = owner-home c.stage.inside.hand c.stage.inva
 pub invariant_of-stage-2 : goal.invariant_of-stage-2
 invariant_of-stage-2 c =
     let now = c.stage.inside.hand.moment in
-    let dated = ap (λ k. slice_set c.stage.inside.hand.dates.items k now) c.slot_of_owner-slot.ensures in
+    let dated = ap (λ k. slice_set c.stage.inside.hand.dates.items k now) c.slot_of_sole-slot.ensures in
     let there = got c.stage.inside.hand.places c.args.name.0 _ c.in-Some.ensures in
     (acts-retired c.stage.inside.hand c.stage.invariant c.is_whole.ensures c.args.name _ there c.args.owner _
-    c.take_sole.new.owners.entries (with_item c.stage.inside.hand.dates c.slot_of_owner-slot.result now) _ c.in-Some-take_sole.ensures.0
+    c.take_sole.new.owners.entries (with_item c.stage.inside.hand.dates c.slot_of_sole-slot.result now) _ c.in-Some-take_sole.ensures.0
     c.in-Some-take_sole.ensures.1 dated c.retire_item.ensures.owned c.retire_item.ensures.retired).0
 
 pub returns : goal.returns
 returns c =
     let now = c.stage.inside.hand.moment in
-    let dated = ap (λ k. slice_set c.stage.inside.hand.dates.items k now) c.slot_of_owner-slot.ensures in
+    let dated = ap (λ k. slice_set c.stage.inside.hand.dates.items k now) c.slot_of_sole-slot.ensures in
     record {
       acts = rw (← c.stage.view_is) (acts-retired c.stage.inside.hand c.stage.invariant c.is_whole.ensures c.args.name _
           (got c.stage.inside.hand.places c.args.name.0 _ c.in-Some.ensures) c.args.owner _ c.take_sole.new.owners.entries
-          (with_item c.stage.inside.hand.dates c.slot_of_owner-slot.result now) _ c.in-Some-take_sole.ensures.0 c.in-Some-take_sole.ensures.1 dated
+          (with_item c.stage.inside.hand.dates c.slot_of_sole-slot.result now) _ c.in-Some-take_sole.ensures.0 c.in-Some-take_sole.ensures.1 dated
           c.retire_item.ensures.owned c.retire_item.ensures.retired).1;
     }

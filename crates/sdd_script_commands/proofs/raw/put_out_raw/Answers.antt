@@ -35,7 +35,7 @@ went : (c : goal.After-row_known-1) → Does (desk_of c.stage.inside.hand) (At c
     (reply.Raw (record { 0 = c.index.result.now })) (record c.stage.inside.hand { world = c.step_at.new.world; owners = c.take_sole.new.owners })
 went c =
     let h = c.stage.inside.hand in
-    let slot = c.slot_of_owner-slot.ensures in
+    let slot = c.slot_of_sole-slot.ensures in
     let name =
     get_or_read h.names.items _ _ (named h c.stage.invariant _ _ slot c.step_at.ensures.done.0) c.index.ensures 0 ∙ ap (slice_index h.names.items) slot in
     acts-raw h c.stage.invariant c.is_whole.ensures c.args.name _ (got h.places c.args.name.0 _ c.in-Some.ensures) c.args.owner _ _ _ _

@@ -51,14 +51,14 @@ pub index_mut-requires : goal.index_mut-requires
 index_mut-requires c =
     let free = slot-free c.stage.inside.hand c.stage.invariant c.is_whole.ensures c.args.name _ c.in-Some.ensures.found.0 c.args.stack _ c.in-Some-get.ensures
     c.args.number c.in-Ok.owner c.push_at.new.world c.in-Ok.ensures.pushed in
-    omega (arith, free, c.slot_of_shared-slot.ensures, c.stage.inside.hand.names.ok.0)
+    omega (arith, free, c.slot_of_share-slot.ensures, c.stage.inside.hand.names.ok.0)
 
 abbrev left : goal.After-drop-waited-2 → Environment
 left c = record c.stage.inside.hand {
   world = c.push_at.new.world;
   owners = c.give-name.new.self;
   slots = c.push_reserved.new.self;
-  names = with_item c.stage.inside.hand.names c.slot_of_shared-slot.result c.len-item.result;
+  names = with_item c.stage.inside.hand.names c.slot_of_share-slot.result c.len-item.result;
   dates = c.date_new.new.dates;
 }
 
@@ -67,15 +67,15 @@ pushed : (c : goal.After-drop-waited-2) → Does (desk_of c.stage.inside.hand) (
 pushed c =
     let h = c.stage.inside.hand in
     let next : c.len-item.result ≡ length c.stage.inside.hand.slots.items = search rules in
-    let slot : c.slot_of_shared-slot.result ≡ slot_of c.in-Ok.owner = c.slot_of_shared-slot.ensures in
+    let slot : c.slot_of_share-slot.result ≡ slot_of c.in-Ok.owner = c.slot_of_share-slot.ensures in
     let long : c.len-slots.result ≡ length c.stage.inside.hand.names.items = search rules in
     let told_so : AreTold c.stage.inside.hand c.in_ok-waited.waited.items = λ s lt. c.in_ok-waited.ensures.each s (omega (arith, lt, long)) in
     acts-pushed h c.stage.invariant c.is_whole.ensures c.args.name _ c.in-Some.ensures.found.0 c.args.stack _ c.in-Some-get.ensures
     c.in_ok-waited.waited.items told_so c.args.guard c.in-Some.ensures.valid c.args.number c.in-Ok.owner c.push_at.new.world c.give-name.new.self.entries
-    c.push_reserved.new.self (with_item c.stage.inside.hand.names c.slot_of_shared-slot.result c.len-item.result) c.date_new.new.dates
+    c.push_reserved.new.self (with_item c.stage.inside.hand.names c.slot_of_share-slot.result c.len-item.result) c.date_new.new.dates
     (record { 0 = c.give-name.result }) (record { 0 = c.len-item.result }) c.in-Ok.ensures.pushed
     (rw c.make_room.ensures.kept at c.give-name.ensures.given) (rw (c.reserve.ensures.items, slot) at c.push_reserved.ensures.items)
-    (ap (slice_set c.stage.inside.hand.names.items c.slot_of_shared-slot.result) next
+    (ap (slice_set c.stage.inside.hand.names.items c.slot_of_share-slot.result) next
     ∙ ap (λ k. slice_set c.stage.inside.hand.names.items k (length c.stage.inside.hand.slots.items)) slot)
     (rw c.as_slice.ensures.value at c.date_new.ensures.dated, c.date_new.ensures.long)
     (omega (arith, next, c.len-item.type_inv)) (c.give-name.ensures.name ∙ ap length c.make_room.ensures.kept) next
