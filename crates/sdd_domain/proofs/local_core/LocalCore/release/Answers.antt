@@ -127,37 +127,48 @@ returns-then-not-let_one_go-clause-recalled g c = let l = c.self.inside in let b
           (i.0.all ∙ ap (λ (z : Sizes). z.participants) l.domain.now.limited.1) lone,
     ))
 
-pub let_one_go-requires-clause-told : goal.let_one_go-requires-clause-told
-let_one_go-requires-clause-told g c =
+pub let_one_go-requires : goal.let_one_go-requires
+let_one_go-requires g c =
     let q = c.self.invariant.0 in let l = c.self.inside in let slot : ℕ = number_of c.args.right in let shared : Bool = is_shared (kind_of c.args.right) in
     let by = c.into_owner-owner.ensures.owner (has_tables c.args.self.now c.args.right c.requires.home) in let shown : Gv = c.into_owner-owner.result.1.shown in
     let same = same_recalled l.domain.now.board l.place slot shared shown l.token c.recall.new.token (c.recall.ensures slot shared shown by.owner) in
     let took = subst (λ (x : Seat ValueFraction View). Taught (λ v _ w. w ≡ regained v (owner_of slot shared shown)) x 0 c.take_in.new.token) same
     (c.take_in.ensures slot shared shown by.owner) in
-    let kind : c.is_one_of_several-shared.result ≡ shared = c.is_one_of_several-shared.ensures ∙ ap is_shared (sym c.requires.kind) in (
-      shown,
-      (
-        0,
-        ap (λ (v : View). get_elem? v.stakes.owns 0) took.3
-            ∙ (λ d. some (record { slot = sym c.number-slot.ensures d; shared = sym kind d; value = shown })),
-      ),
-    )
-
-pub let_one_go-requires-clause-shows : goal.let_one_go-requires-clause-shows
-let_one_go-requires-clause-shows g c =
-    let q = c.self.invariant.0 in let l = c.self.inside in let slot : ℕ = number_of c.args.right in let shared : Bool = is_shared (kind_of c.args.right) in
-    let by = c.into_owner-owner.ensures.owner (has_tables c.args.self.now c.args.right c.requires.home) in let shown : Gv = c.into_owner-owner.result.1.shown in
-    let same = same_recalled l.domain.now.board l.place slot shared shown l.token c.recall.new.token (c.recall.ensures slot shared shown by.owner) in
-    let took = subst (λ (x : Seat ValueFraction View). Taught (λ v _ w. w ≡ regained v (owner_of slot shared shown)) x 0 c.take_in.new.token) same
-    (c.take_in.ensures slot shared shown by.owner) in
-    let kind : c.is_one_of_several-shared.result ≡ shared = c.is_one_of_several-shared.ensures ∙ ap is_shared (sym c.requires.kind) in (
-      0,
-      record { slot = c.number-slot.result; shared = c.is_one_of_several-shared.result; value = shown },
-      ap (λ (v : View). get_elem? v.stakes.owns 0) took.3
-          ∙ (λ d. some (record { slot = sym c.number-slot.ensures d; shared = sym kind d; value = shown })),
-      refl,
-      refl,
-    )
+    let kind : c.is_one_of_several-shared.result ≡ shared = c.is_one_of_several-shared.ensures ∙ ap is_shared (sym c.requires.kind) in
+    record {
+      home = took.0 ∙ q.home;
+      knows = (ap (λ (v : View). v.sizes) took.3 ∙ q.knows.0, ap (λ (v : View). v.stakes.book) took.3 ∙ q.knows.1);
+      inside = search rules;
+      place =
+        let state = ap (λ (v : View). v.epoch.state) took.3 in
+        dite (dec_lt 0 l.own.guards) (λ some. subst (λ (k : ℕ). 0 < k) (sym (state ∙ q.opened some)) (omega arith))
+        (λ none. subst (λ (k : ℕ). 0 < k) (sym (state ∙ q.closed (omega arith))) (omega arith));
+      own =
+        let none = ap (λ (v : View). v.slots.holds) took.3 ∙ q.quiet.holds in
+        (
+          ap (λ (v : View). v.slots.owns) took.3 ∙ (ap (λ (is : List ℕ). slot ∷ is) q.quiet.owns ∙ ap (λ (k : ℕ). k ∷ []) (sym c.number-slot.ensures)),
+          (λ held. cc),
+          ap (λ (v : View). v.slots.drawn) took.3 ∙ (ap (λ (is : List ℕ). slot ∷ is) q.quiet.drawn ∙ ap (λ (k : ℕ). k ∷ []) (sym c.number-slot.ensures)),
+        );
+      told = (
+          shown,
+          (
+            0,
+            ap (λ (v : View). get_elem? v.stakes.owns 0) took.3
+                ∙ (λ d. some (record { slot = sym c.number-slot.ensures d; shared = sym kind d; value = shown })),
+          ),
+        );
+      unit = search rules;
+      shows = (
+          0,
+          record { slot = c.number-slot.result; shared = c.is_one_of_several-shared.result; value = shown },
+          ap (λ (v : View). get_elem? v.stakes.owns 0) took.3
+              ∙ (λ d. some (record { slot = sym c.number-slot.ensures d; shared = sym kind d; value = shown })),
+          refl,
+          refl,
+        );
+      rests = ap (λ (v : View). v.stakes.moves) took.3 ∙ q.rests;
+    }
 
 pub push-requires : goal.push-requires
 push-requires g c = let l = c.self.inside in let board = l.domain.now.board in let q = c.self.invariant.0 in
@@ -175,70 +186,19 @@ push-requires g c = let l = c.self.inside in let board = l.domain.now.board in l
     let most = q.room in omega arith
 
 -- what was known before the owner was recalled and taken in is known still
-pub take_in-requires-clause-home : goal.take_in-requires-clause-home
-take_in-requires-clause-home g c =
+pub take_in-requires : goal.take_in-requires
+take_in-requires g c =
     let q = c.self.invariant.0 in let l = c.self.inside in let slot : ℕ = number_of c.args.right in let shared : Bool = is_shared (kind_of c.args.right) in
     let by = c.into_owner-owner.ensures.owner (has_tables c.args.self.now c.args.right c.requires.home) in let shown : Gv = c.into_owner-owner.result.1.shown in
     let same = same_recalled l.domain.now.board l.place slot shared shown l.token c.recall.new.token (c.recall.ensures slot shared shown by.owner) in
-    ap (λ (x : Seat ValueFraction View). x.table_id) same ∙ q.home
-
-pub take_in-requires-clause-rests : goal.take_in-requires-clause-rests
-take_in-requires-clause-rests g c =
-    let q = c.self.invariant.0 in let l = c.self.inside in let slot : ℕ = number_of c.args.right in let shared : Bool = is_shared (kind_of c.args.right) in
-    let by = c.into_owner-owner.ensures.owner (has_tables c.args.self.now c.args.right c.requires.home) in let shown : Gv = c.into_owner-owner.result.1.shown in
-    let same = same_recalled l.domain.now.board l.place slot shared shown l.token c.recall.new.token (c.recall.ensures slot shared shown by.owner) in
-    ap (λ (x : Seat ValueFraction View). x.me.0.stakes.moves) same ∙ q.rests
-
-pub let_one_go-requires-clause-home : goal.let_one_go-requires-clause-home
-let_one_go-requires-clause-home g c =
-    let q = c.self.invariant.0 in let l = c.self.inside in let slot : ℕ = number_of c.args.right in let shared : Bool = is_shared (kind_of c.args.right) in
-    let by = c.into_owner-owner.ensures.owner (has_tables c.args.self.now c.args.right c.requires.home) in let shown : Gv = c.into_owner-owner.result.1.shown in
-    let same = same_recalled l.domain.now.board l.place slot shared shown l.token c.recall.new.token (c.recall.ensures slot shared shown by.owner) in
-    let took = subst (λ (x : Seat ValueFraction View). Taught (λ v _ w. w ≡ regained v (owner_of slot shared shown)) x 0 c.take_in.new.token) same
-    (c.take_in.ensures slot shared shown by.owner) in
-    took.0 ∙ q.home
-
-pub let_one_go-requires-clause-knows : goal.let_one_go-requires-clause-knows
-let_one_go-requires-clause-knows g c =
-    let q = c.self.invariant.0 in let l = c.self.inside in let slot : ℕ = number_of c.args.right in let shared : Bool = is_shared (kind_of c.args.right) in
-    let by = c.into_owner-owner.ensures.owner (has_tables c.args.self.now c.args.right c.requires.home) in let shown : Gv = c.into_owner-owner.result.1.shown in
-    let same = same_recalled l.domain.now.board l.place slot shared shown l.token c.recall.new.token (c.recall.ensures slot shared shown by.owner) in
-    let took = subst (λ (x : Seat ValueFraction View). Taught (λ v _ w. w ≡ regained v (owner_of slot shared shown)) x 0 c.take_in.new.token) same
-    (c.take_in.ensures slot shared shown by.owner) in
-    (ap (λ (v : View). v.sizes) took.3 ∙ q.knows.0, ap (λ (v : View). v.stakes.book) took.3 ∙ q.knows.1)
-
-pub let_one_go-requires-clause-place : goal.let_one_go-requires-clause-place
-let_one_go-requires-clause-place g c =
-    let q = c.self.invariant.0 in let l = c.self.inside in let slot : ℕ = number_of c.args.right in let shared : Bool = is_shared (kind_of c.args.right) in
-    let by = c.into_owner-owner.ensures.owner (has_tables c.args.self.now c.args.right c.requires.home) in let shown : Gv = c.into_owner-owner.result.1.shown in
-    let same = same_recalled l.domain.now.board l.place slot shared shown l.token c.recall.new.token (c.recall.ensures slot shared shown by.owner) in
-    let took = subst (λ (x : Seat ValueFraction View). Taught (λ v _ w. w ≡ regained v (owner_of slot shared shown)) x 0 c.take_in.new.token) same
-    (c.take_in.ensures slot shared shown by.owner) in
-    let state = ap (λ (v : View). v.epoch.state) took.3 in
-    dite (dec_lt 0 l.own.guards) (λ some. subst (λ (k : ℕ). 0 < k) (sym (state ∙ q.opened some)) (omega arith))
-    (λ none. subst (λ (k : ℕ). 0 < k) (sym (state ∙ q.closed (omega arith))) (omega arith))
-
-pub let_one_go-requires-clause-own : goal.let_one_go-requires-clause-own
-let_one_go-requires-clause-own g c =
-    let q = c.self.invariant.0 in let l = c.self.inside in let slot : ℕ = number_of c.args.right in let shared : Bool = is_shared (kind_of c.args.right) in
-    let by = c.into_owner-owner.ensures.owner (has_tables c.args.self.now c.args.right c.requires.home) in let shown : Gv = c.into_owner-owner.result.1.shown in
-    let same = same_recalled l.domain.now.board l.place slot shared shown l.token c.recall.new.token (c.recall.ensures slot shared shown by.owner) in
-    let took = subst (λ (x : Seat ValueFraction View). Taught (λ v _ w. w ≡ regained v (owner_of slot shared shown)) x 0 c.take_in.new.token) same
-    (c.take_in.ensures slot shared shown by.owner) in
-    let none = ap (λ (v : View). v.slots.holds) took.3 ∙ q.quiet.holds in (
-      ap (λ (v : View). v.slots.owns) took.3 ∙ (ap (λ (is : List ℕ). slot ∷ is) q.quiet.owns ∙ ap (λ (k : ℕ). k ∷ []) (sym c.number-slot.ensures)),
-      (λ held. cc),
-      ap (λ (v : View). v.slots.drawn) took.3 ∙ (ap (λ (is : List ℕ). slot ∷ is) q.quiet.drawn ∙ ap (λ (k : ℕ). k ∷ []) (sym c.number-slot.ensures)),
-    )
-
-pub let_one_go-requires-clause-rests : goal.let_one_go-requires-clause-rests
-let_one_go-requires-clause-rests g c =
-    let q = c.self.invariant.0 in let l = c.self.inside in let slot : ℕ = number_of c.args.right in let shared : Bool = is_shared (kind_of c.args.right) in
-    let by = c.into_owner-owner.ensures.owner (has_tables c.args.self.now c.args.right c.requires.home) in let shown : Gv = c.into_owner-owner.result.1.shown in
-    let same = same_recalled l.domain.now.board l.place slot shared shown l.token c.recall.new.token (c.recall.ensures slot shared shown by.owner) in
-    let took = subst (λ (x : Seat ValueFraction View). Taught (λ v _ w. w ≡ regained v (owner_of slot shared shown)) x 0 c.take_in.new.token) same
-    (c.take_in.ensures slot shared shown by.owner) in
-    ap (λ (v : View). v.stakes.moves) took.3 ∙ q.rests
+    record {
+      home = ap (λ (x : Seat ValueFraction View). x.table_id) same ∙ q.home;
+      rests = ap (λ (x : Seat ValueFraction View). x.me.0.stakes.moves) same ∙ q.rests;
+      owner =
+        let b = c.self.inside.domain.now.board in let tables = by.table in let mine = ap (λ (h : GhostName). h.tables) c.requires.home in
+        let there = ap (λ (m : LocalState _). m.home) c.self.view_is in let board = q.home in let table : c.into_owner-owner.result.0.table_id ≡ id_of b = cc in
+        (table, (number_of c.args.right, is_shared (kind_of c.args.right), c.into_owner-owner.result.1.shown, by.owner));
+    }
 
 pub returns-clause-went : goal.returns-clause-went
 returns-clause-went g c =
@@ -292,11 +252,3 @@ returns-then-not-let_one_go-clause-went g c =
             lone = λ one. sym (subst (λ (v : View). Knew slot v went.2.word) took.3 went.2.knew (alone one));
           },
     )
-
-pub take_in-requires-clause-owner : goal.take_in-requires-clause-owner
-take_in-requires-clause-owner g c = let q = c.self.invariant.0 in let b = c.self.inside.domain.now.board in
-    let by = c.into_owner-owner.ensures.owner (has_tables c.args.self.now c.args.right c.requires.home) in
-    let tables = by.table in let mine = ap (λ (h : GhostName). h.tables) c.requires.home in let there = ap (λ (m : LocalState _). m.home) c.self.view_is in
-    let board = q.home in
-    let table : c.into_owner-owner.result.0.table_id ≡ id_of b = cc in
-    (table, (number_of c.args.right, is_shared (kind_of c.args.right), c.into_owner-owner.result.1.shown, by.owner))
