@@ -29,20 +29,25 @@ use Rattle.sdd_domain.proofs.Housed.{on_board, from_shelf}
 use Rattle.sdd_domain.proofs.Moving.{can_show, shows_known}
 use Rattle.sdd_domain.proofs.Posing.{watched, posed_shows}
 use Rattle.sdd_domain.proofs.Members.{with_token, looks_at}
+use Rattle.sdd_domain.proofs.local_core.LocalCore.load.Given.{Over}
+use Rattle.sdd_domain.proofs.local_core.LocalCore.load.Goals.{After-see_in-word}
 use Rattle.sdd_domain.proofs.local_core.LocalCore.load.Goals as goal
+
+-- the cell was recalled, which changed nothing, and its word was seen
+looked : (g : Over) (c : After-see_in-word g) → Moved (SeesInCell c.number.result) c.self.inside.token c.see_in-word.result c.see_in-word.new.token
+looked g c = let cell = c.args.cell.now in
+    let views = cell_views c.args.self.now.home cell (kind_of cell) c.witness.result.now (number_of cell) c.requires.home refl c.witness.ensures.cell refl in
+    let known = c.recall_cell.ensures (number_of cell) (is_shared (kind_of cell)) views in
+    let same : c.recall_cell.new.token ≡ c.self.inside.token
+    = λ d. record c.recall_cell.new.token { table_id = known.0 d; id = known.1 d; me = known.2.0 d } in
+    subst (λ (x : Seat ValueFraction View). Moved (SeesInCell c.number.result) x c.see_in-word.result c.see_in-word.new.token) same c.see_in-word.ensures
 
 pub invariant_of-self : goal.invariant_of-self
 invariant_of-self g c =
-    let l = c.self.inside in let b = l.domain.now.board in let t : ℕ = c.tenure_of-tenure.result.now.round in let inv = c.self.invariant in
-    let cell = c.args.cell.now in let word : ℕ = c.see_in-word.result in let f = c.see_in-word.new.token in
-    let views = cell_views c.args.self.now.home cell (kind_of cell) c.witness.result.now (number_of cell) c.requires.home refl c.witness.ensures.cell refl in
-    let known = c.recall_cell.ensures (number_of cell) (is_shared (kind_of cell)) views in
-    let same : c.recall_cell.new.token ≡ l.token
-    = λ d. record c.recall_cell.new.token { table_id = known.0 d; id = known.1 d; me = known.2.0 d } in
-    let look = subst (λ (x : Seat ValueFraction View). Moved (SeesInCell c.number.result) x word f) same c.see_in-word.ensures in
+    let l = c.self.inside in let b = l.domain.now.board in let inv = c.self.invariant in let word : ℕ = c.see_in-word.result in
+    let f = c.see_in-word.new.token in let look = looked g (goal.at.invariant_of-self g c).After-see_in-word in
     let none = named_none word (sym c.in_default.ensures.held) in
-    let still : f ≡ l.token = λ d. record f { table_id = look.0 d; id = look.1 d; me = look.2.0 none d } in
-    let lent = subst (λ (t : ℕ). AreLentTo t l.token.me.1) (sym c.agree.ensures.round) inv.3 in (
+    let still : f ≡ l.token = λ d. record f { table_id = look.0 d; id = look.1 d; me = look.2.0 none d } in (
       subst (λ (x : Seat ValueFraction View). IsBetweenCalls b l.place l.own x) (sym still) inv.0,
       inv.1,
       inv.2,
@@ -53,14 +58,8 @@ invariant_of-self g c =
 
 pub returns-in_default-clause-seen : goal.returns-in_default-clause-seen
 returns-in_default-clause-seen g c =
-    let l = c.self.inside in let b = l.domain.now.board in let t : ℕ = c.tenure_of-tenure.result.now.round in let inv = c.self.invariant in
-    let cell = c.args.cell.now in let word : ℕ = c.see_in-word.result in let f = c.see_in-word.new.token in
-    let views = cell_views c.args.self.now.home cell (kind_of cell) c.witness.result.now (number_of cell) c.requires.home refl c.witness.ensures.cell refl in
-    let known = c.recall_cell.ensures (number_of cell) (is_shared (kind_of cell)) views in
-    let same : c.recall_cell.new.token ≡ l.token
-    = λ d. record c.recall_cell.new.token { table_id = known.0 d; id = known.1 d; me = known.2.0 d } in
-    let look = subst (λ (x : Seat ValueFraction View). Moved (SeesInCell c.number.result) x word f) same c.see_in-word.ensures in
-    let none = named_none word (sym c.in_default.ensures.held) in
+    let l = c.self.inside in let word : ℕ = c.see_in-word.result in let f = c.see_in-word.new.token in
+    let look = looked g (goal.at.returns-in_default-clause-seen g c).After-see_in-word in let none = named_none word (sym c.in_default.ensures.held) in
     let still : f ≡ l.token = λ d. record f { table_id = look.0 d; id = look.1 d; me = look.2.0 none d } in
     ap (with_token (c.self.view_is 0)) still ∙ c.self.view_is
 
@@ -68,16 +67,11 @@ pub show-value-requires : goal.show-value-requires
 show-value-requires g c =
     let l = c.self.inside in let b = l.domain.now.board in let t : ℕ = c.tenure_of-tenure.result.now.round in let inv = c.self.invariant in
     let cell = c.args.cell.now in let word : ℕ = c.see_in-word.result in let f = c.see_in-word.new.token in
-    let views = cell_views c.args.self.now.home cell (kind_of cell) c.witness.result.now (number_of cell) c.requires.home refl c.witness.ensures.cell refl in
-    let known = c.recall_cell.ensures (number_of cell) (is_shared (kind_of cell)) views in
-    let same : c.recall_cell.new.token ≡ l.token
-    = λ d. record c.recall_cell.new.token { table_id = known.0 d; id = known.1 d; me = known.2.0 d } in
-    let look = subst (λ (x : Seat ValueFraction View). Moved (SeesInCell c.number.result) x word f) same c.see_in-word.ensures in
-    let slot : ℕ = c.in-Some.slot in let one = named word slot (sym c.held_slot.ensures.held ∙ c.in-Some.is) in let hit = look.2.1 slot one in
-    let shared : Bool = hit.0 in let shown : Gv = hit.1 in let watch : MovedAlone (SeesOwned slot shared shown) l.token f = (look.0, look.1, hit.3) in
+    let look = looked g (goal.at.show-value-requires g c).After-see_in-word in let slot : ℕ = c.in-Some.slot in
+    let one = named word slot (sym c.held_slot.ensures.held ∙ c.in-Some.is) in let hit = look.2.1 slot one in let shared : Bool = hit.0 in
+    let shown : Gv = hit.1 in let watch : MovedAlone (SeesOwned slot shared shown) l.token f = (look.0, look.1, hit.3) in
     let seen = watched b l.place l.own t slot shared shown l.token f inv.0
-    (subst (λ (t : ℕ). AreLentTo t l.token.me.1) (sym c.agree.ensures.round) inv.3) watch in
-    record {
+    (subst (λ (t : ℕ). AreLentTo t l.token.me.1) (sym c.agree.ensures.round) inv.3) watch in record {
       table = search rules;
       inside = let low = subst (λ (z : Sizes). slot < z.slots) inv.0.knows.0 hit.2 in let size = l.domain.now.shelved.0.size in omega (arith, low, size);
       stake = subst (λ (k : ℕ). CanShow k slot t (lots f.me.1)) (sym l.domain.now.shelved.0.book)
@@ -88,14 +82,9 @@ pub invariant_of-self-2 : goal.invariant_of-self-2
 invariant_of-self-2 g c =
     let l = c.self.inside in let b = l.domain.now.board in let t : ℕ = c.tenure_of-tenure.result.now.round in let inv = c.self.invariant in
     let cell = c.args.cell.now in let word : ℕ = c.see_in-word.result in let f = c.see_in-word.new.token in
-    let views = cell_views c.args.self.now.home cell (kind_of cell) c.witness.result.now (number_of cell) c.requires.home refl c.witness.ensures.cell refl in
-    let known = c.recall_cell.ensures (number_of cell) (is_shared (kind_of cell)) views in
-    let same : c.recall_cell.new.token ≡ l.token
-    = λ d. record c.recall_cell.new.token { table_id = known.0 d; id = known.1 d; me = known.2.0 d } in
-    let look = subst (λ (x : Seat ValueFraction View). Moved (SeesInCell c.number.result) x word f) same c.see_in-word.ensures in
-    let slot : ℕ = c.in-Some.slot in let one = named word slot (sym c.held_slot.ensures.held ∙ c.in-Some.is) in let hit = look.2.1 slot one in
-    let shared : Bool = hit.0 in let shown : Gv = hit.1 in
-    let watch : MovedAlone (SeesOwned slot shared shown) l.token f = (look.0, look.1, hit.3) in
+    let look = looked g (goal.at.invariant_of-self-2 g c).After-see_in-word in let slot : ℕ = c.in-Some.slot in
+    let one = named word slot (sym c.held_slot.ensures.held ∙ c.in-Some.is) in let hit = look.2.1 slot one in let shared : Bool = hit.0 in
+    let shown : Gv = hit.1 in let watch : MovedAlone (SeesOwned slot shared shown) l.token f = (look.0, look.1, hit.3) in
     let seen = watched b l.place l.own t slot shared shown l.token f inv.0
     (subst (λ (t : ℕ). AreLentTo t l.token.me.1) (sym c.agree.ensures.round) inv.3) watch in
     let some_open : 0 < l.own.guards = search rules in
@@ -117,16 +106,12 @@ returns g c =
     let l = c.self.inside in let b = l.domain.now.board in let t : ℕ = c.tenure_of-tenure.result.now.round in let inv = c.self.invariant in
     let cell = c.args.cell.now in let word : ℕ = c.see_in-word.result in let f = c.see_in-word.new.token in
     let views = cell_views c.args.self.now.home cell (kind_of cell) c.witness.result.now (number_of cell) c.requires.home refl c.witness.ensures.cell refl in
-    let known = c.recall_cell.ensures (number_of cell) (is_shared (kind_of cell)) views in
-    let same : c.recall_cell.new.token ≡ l.token
-    = λ d. record c.recall_cell.new.token { table_id = known.0 d; id = known.1 d; me = known.2.0 d } in
-    let look = subst (λ (x : Seat ValueFraction View). Moved (SeesInCell c.number.result) x word f) same c.see_in-word.ensures in
+    let known = c.recall_cell.ensures (number_of cell) (is_shared (kind_of cell)) views in let look = looked g (goal.at.returns g c).After-see_in-word in
     let slot : ℕ = c.in-Some.slot in let one = named word slot (sym c.held_slot.ensures.held ∙ c.in-Some.is) in let hit = look.2.1 slot one in
     let shared : Bool = hit.0 in let shown : Gv = hit.1 in let watch : MovedAlone (SeesOwned slot shared shown) l.token f = (look.0, look.1, hit.3) in
     let seen = watched b l.place l.own t slot shared shown l.token f inv.0
     (subst (λ (t : ℕ). AreLentTo t l.token.me.1) (sym c.agree.ensures.round) inv.3) watch in
-    let all = inv.0.all ∙ ap (λ (z : Sizes). z.participants) l.domain.now.limited.1 in
-    record {
+    let all = inv.0.all ∙ ap (λ (z : Sizes). z.participants) l.domain.now.limited.1 in record {
       found = search rules;
       seen =
         let out : Gv = showing g.row.T c.show-value.result.now in let old : LocalState g.row.J.Denot = c.self.view_is 0 in
