@@ -37,7 +37,7 @@ use Rattle.std.specs.Prelude.{Bool, true}
 use base.Stored.{Gv}
 use Rattle.sdd_domain.specs.LocalState.{LocalState, IsLone, KnowsOwner, RetiresAt, LeavesAt}
 use Rattle.sdd_domain.proofs.Members.{with_view, recalls_to, has_tables}
-use Rattle.sdd_domain.proofs.Posing.{posed_retires, retires_to, posed_leaves, leaves_to, same_recalled}
+use Rattle.sdd_domain.proofs.Posing.{has_place, posed_retires, retires_to, posed_leaves, leaves_to, same_recalled}
 use Rattle.sdd_domain.proofs.local_core.LocalCore.release.Given.{Over}
 use Rattle.sdd_domain.proofs.local_core.LocalCore.release.Goals.{After-take_in}
 use Rattle.sdd_domain.proofs.local_core.LocalCore.release.Goals as goal
@@ -135,10 +135,7 @@ let_one_go-requires g c =
       home = took.0 ∙ q.home;
       knows = (ap (λ (v : View). v.sizes) took.3 ∙ q.knows.0, ap (λ (v : View). v.stakes.book) took.3 ∙ q.knows.1);
       inside = search rules;
-      place =
-        let state = ap (λ (v : View). v.epoch.state) took.3 in
-        dite (dec_lt 0 l.own.guards) (λ some. subst (λ (k : ℕ). 0 < k) (sym (state ∙ q.opened some)) (omega arith))
-        (λ none. subst (λ (k : ℕ). 0 < k) (sym (state ∙ q.closed (omega arith))) (omega arith));
+      place = subst (λ (k : ℕ). 0 < k) (sym (ap (λ (v : View). v.epoch.state) took.3)) (has_place l.domain.now.board l.place l.own l.token q);
       own =
         let none = ap (λ (v : View). v.slots.holds) took.3 ∙ q.quiet.holds in (
           ap (λ (v : View). v.slots.owns) took.3 ∙ (ap (λ (is : List ℕ). slot ∷ is) q.quiet.owns ∙ ap (λ (k : ℕ). k ∷ []) (sym c.number-slot.ensures)),
