@@ -10,23 +10,16 @@ use Rattle.sdd_domain_invariant.specs.FractionSteps.{departing}
 use Rattle.sdd_atomics.specs.DomainTable.{book_of}
 use Rattle.sdd_domain.proofs.cell_values.part_with.Goals as goal
 
-pub into_grip-grip-requires-clause-full : goal.into_grip-grip-requires-clause-full
-into_grip-grip-requires-clause-full c = let told = c.requires.told in let slot : ℕ = c.args.slot in let value : Gv = told.1 in
+pub into_grip-grip-requires : goal.into_grip-grip-requires
+into_grip-grip-requires c =
+    let told = c.requires.told in let slot : ℕ = c.args.slot in let value : Gv = told.1 in
     let here : IsIn c.args.token.now.me.0.stakes.owns slot value = subst (λ (l : List ShownValue). IsIn l slot value) (sym told.3)
     (0, record { slot = slot; shared = told.0; value = value }, refl, refl, refl) in
-    let unit = c.draw_unit.ensures.2.2 value here in subst IsValueCode (sym (ap (λ (k : FractionContent). k.shown) unit)) told.2
-
-pub into_grip-grip-requires-clause-one : goal.into_grip-grip-requires-clause-one
-into_grip-grip-requires-clause-one c = let told = c.requires.told in let slot : ℕ = c.args.slot in let value : Gv = told.1 in
-    let here : IsIn c.args.token.now.me.0.stakes.owns slot value = subst (λ (l : List ShownValue). IsIn l slot value) (sym told.3)
-    (0, record { slot = slot; shared = told.0; value = value }, refl, refl, refl) in
-    ap (λ (k : FractionContent). k.units) (c.draw_unit.ensures.2.2 value here)
-
-pub into_grip-grip-requires-clause-free : goal.into_grip-grip-requires-clause-free
-into_grip-grip-requires-clause-free c = let told = c.requires.told in let slot : ℕ = c.args.slot in let value : Gv = told.1 in
-    let here : IsIn c.args.token.now.me.0.stakes.owns slot value = subst (λ (l : List ShownValue). IsIn l slot value) (sym told.3)
-    (0, record { slot = slot; shared = told.0; value = value }, refl, refl, refl) in
-    ap (λ (k : FractionContent). k.lent) (c.draw_unit.ensures.2.2 value here)
+    record {
+      full = let unit = c.draw_unit.ensures.2.2 value here in subst IsValueCode (sym (ap (λ (k : FractionContent). k.shown) unit)) told.2;
+      one = ap (λ (k : FractionContent). k.units) (c.draw_unit.ensures.2.2 value here);
+      free = ap (λ (k : FractionContent). k.lent) (c.draw_unit.ensures.2.2 value here);
+    }
 
 pub cut-owner-requires-clause-one : goal.cut-owner-requires-clause-one
 cut-owner-requires-clause-one c = let is = c.draw_unit.ensures.2.0 in (

@@ -1,4 +1,4 @@
-use Rattle.std.proofs.Common.{◌≡◌, ℕ, ◌<◌, List, ◌∷◌, refl, sym, ap, ◌∙◌, subst, arith}
+use Rattle.std.proofs.Common.{◌≡◌, ℕ, ◌<◌, List, ◌∷◌, refl, sym, ap, ◌∙◌, subst, arith, rules}
 use Rattle.std.specs.Prelude.{Bool}
 use base.Stored.{Gv}
 use lib.ListN.{get_elem?}
@@ -20,43 +20,26 @@ use Rattle.sdd_domain.proofs.Held.{dropped_view, only, tells_only}
 use Rattle.sdd_domain.proofs.InPlace.{unmoved_same}
 use Rattle.sdd_domain.proofs.holding.try_to_go.Goals as goal
 
-pub drop_alone-requires-clause-home : goal.drop_alone-requires-clause-home
-drop_alone-requires-clause-home g c = let b = c.args.board.now in let r = c.requires in let value : Gv = r.owner.1.0 in let s = c.args.token.now in
-    let held = c.in-Ok.ensures value r.owner.1.1 in held.table ∙ r.home
-
-pub drop_alone-requires-clause-knows : goal.drop_alone-requires-clause-knows
-drop_alone-requires-clause-knows g c = let b = c.args.board.now in let r = c.requires in let value : Gv = r.owner.1.0 in let s = c.args.token.now in
-    let held = c.in-Ok.ensures value r.owner.1.1 in (ap (λ (v : View). v.sizes) held.view ∙ r.knows.0, ap (λ (v : View). v.stakes.book) held.view ∙ r.knows.1)
-
-pub drop_alone-requires-clause-place : goal.drop_alone-requires-clause-place
-drop_alone-requires-clause-place g c = let b = c.args.board.now in let r = c.requires in let value : Gv = r.owner.1.0 in let s = c.args.token.now in
-    let held = c.in-Ok.ensures value r.owner.1.1 in subst (λ (k : ℕ). 0 < k) (sym (ap (λ (v : View). v.epoch.state) held.view)) r.place.0
-
-pub drop_alone-requires-clause-rests : goal.drop_alone-requires-clause-rests
-drop_alone-requires-clause-rests g c = let b = c.args.board.now in let r = c.requires in let value : Gv = r.owner.1.0 in let s = c.args.token.now in
-    let held = c.in-Ok.ensures value r.owner.1.1 in ap (λ (v : View). v.stakes.moves) held.view ∙ r.bare.rests
-
-pub drop_alone-requires-clause-held : goal.drop_alone-requires-clause-held
-drop_alone-requires-clause-held g c = let b = c.args.board.now in let r = c.requires in let value : Gv = r.owner.1.0 in let s = c.args.token.now in
-    let held = c.in-Ok.ensures value r.owner.1.1 in (
-      ap (λ (v : View). v.slots.holds) held.view,
-      ap (λ (v : View). v.slots.owns) held.view ∙ ap (λ (l : List ℕ). c.args.slot ∷ l) r.bare.quiet.owns,
-      ap (λ (v : View). v.slots.drawn) held.view ∙ ap (λ (l : List ℕ). c.args.slot ∷ l) r.bare.quiet.drawn,
-    )
-
-pub drop_alone-requires-clause-looked : goal.drop_alone-requires-clause-looked
-drop_alone-requires-clause-looked g c = let b = c.args.board.now in let r = c.requires in let value : Gv = r.owner.1.0 in let s = c.args.token.now in
-    let held = c.in-Ok.ensures value r.owner.1.1 in let e = ap (λ (v : View). v.slots.looked) held.view in omega (arith, e)
-
-pub drop_alone-requires-clause-shows : goal.drop_alone-requires-clause-shows
-drop_alone-requires-clause-shows g c = let b = c.args.board.now in let r = c.requires in let value : Gv = r.owner.1.0 in let s = c.args.token.now in
-    let held = c.in-Ok.ensures value r.owner.1.1 in (
-      0,
-      only c.args.slot c.args.shared value,
-      ap (λ (v : View). get_elem? v.stakes.owns 0) held.view,
-      refl,
-      sym r.owner.1.2.shows,
-    )
+pub drop_alone-requires : goal.drop_alone-requires
+drop_alone-requires g c =
+    let b = c.args.board.now in let r = c.requires in let value : Gv = r.owner.1.0 in let s = c.args.token.now in
+    let held = c.in-Ok.ensures value r.owner.1.1 in
+    record {
+      home = held.table ∙ r.home;
+      shelf = search rules;
+      knows = (ap (λ (v : View). v.sizes) held.view ∙ r.knows.0, ap (λ (v : View). v.stakes.book) held.view ∙ r.knows.1);
+      inside = search rules;
+      place = subst (λ (k : ℕ). 0 < k) (sym (ap (λ (v : View). v.epoch.state) held.view)) r.place.0;
+      rests = ap (λ (v : View). v.stakes.moves) held.view ∙ r.bare.rests;
+      held = (
+          ap (λ (v : View). v.slots.holds) held.view,
+          ap (λ (v : View). v.slots.owns) held.view ∙ ap (λ (l : List ℕ). c.args.slot ∷ l) r.bare.quiet.owns,
+          ap (λ (v : View). v.slots.drawn) held.view ∙ ap (λ (l : List ℕ). c.args.slot ∷ l) r.bare.quiet.drawn,
+        );
+      looked = let e = ap (λ (v : View). v.slots.looked) held.view in omega (arith, e);
+      unit = search rules;
+      shows = ( 0, only c.args.slot c.args.shared value, ap (λ (v : View). get_elem? v.stakes.owns 0) held.view, refl, sym r.owner.1.2.shows, );
+    }
 
 pub returns-in-Ok : goal.returns-in-Ok
 returns-in-Ok g c = let b = c.args.board.now in let r = c.requires in let value : Gv = r.owner.1.0 in let s = c.args.token.now in

@@ -1,4 +1,4 @@
-use Rattle.std.proofs.Common.{◌≡◌, ℕ, ◌∷◌, [], List, ◌⊎◌, ◌+◌, true, sym, ap, ◌∙◌, subst, arith}
+use Rattle.std.proofs.Common.{◌≡◌, ℕ, ◌∷◌, [], List, ◌⊎◌, ◌+◌, true, sym, ap, ◌∙◌, subst, arith, rules}
 use base.Stored.{Gv}
 use Rattle.sdd_views.specs.declared.View.{View}
 use Rattle.sdd_views.specs.declared.EpochView.{EpochView}
@@ -51,59 +51,32 @@ returns-then-add_seen-word c = let s = c.args.token.now in let k = c.look-word.e
           ∙ (ap (λ (v : View). slice_index v.words (behind v.sizes slot)) k.3.0 ∙ sym (k.3.1 lone)))),
     )
 
-pub part_with-requires-clause-home : goal.part_with-requires-clause-home
-part_with-requires-clause-home c = let s = c.args.token.now in let k = c.look-word.ensures in let word : ℕ = c.look-word.result in let slot : ℕ = c.args.slot in
-    let e = c.add_seen.ensures in let hit = e.2.0 c.if-add_seen-word.false in let value : Gv = hit.0 in
+pub part_with-requires : goal.part_with-requires
+part_with-requires c =
+    let s = c.args.token.now in let k = c.look-word.ensures in let word : ℕ = c.look-word.result in let slot : ℕ = c.args.slot in let e = c.add_seen.ensures in
+    let hit = e.2.0 c.if-add_seen-word.false in let value : Gv = hit.0 in
     let is : c.add_seen.new.token.me.0 ≡ owning_more slot value (one_more slot (word + 1) None s.me.0)
     = ap (λ (m : SeatState). m.0) hit.2 ∙ ap (λ (v : View). owning_more slot value (one_more slot (word + 1) None v)) k.3.0 in
-    e.0 ∙ (k.0 ∙ c.requires.home)
-
-pub part_with-requires-clause-knows : goal.part_with-requires-clause-knows
-part_with-requires-clause-knows c = let s = c.args.token.now in let k = c.look-word.ensures in let word : ℕ = c.look-word.result in
-    let slot : ℕ = c.args.slot in
-    let e = c.add_seen.ensures in let hit = e.2.0 c.if-add_seen-word.false in let value : Gv = hit.0 in
-    let is : c.add_seen.new.token.me.0 ≡ owning_more slot value (one_more slot (word + 1) None s.me.0)
-    = ap (λ (m : SeatState). m.0) hit.2 ∙ ap (λ (v : View). owning_more slot value (one_more slot (word + 1) None v)) k.3.0 in
-    (ap (λ (v : View). v.sizes) is ∙ c.requires.knows.0, ap (λ (v : View). v.stakes.book) is ∙ c.requires.knows.1)
-
-pub part_with-requires-clause-place : goal.part_with-requires-clause-place
-part_with-requires-clause-place c = let s = c.args.token.now in let k = c.look-word.ensures in let word : ℕ = c.look-word.result in
-    let slot : ℕ = c.args.slot in
-    let e = c.add_seen.ensures in let hit = e.2.0 c.if-add_seen-word.false in let value : Gv = hit.0 in
-    let is : c.add_seen.new.token.me.0 ≡ owning_more slot value (one_more slot (word + 1) None s.me.0)
-    = ap (λ (m : SeatState). m.0) hit.2 ∙ ap (λ (v : View). owning_more slot value (one_more slot (word + 1) None v)) k.3.0 in
-    subst (λ (x : EpochView). HasPlace x) (sym (ap (λ (v : View). v.epoch) is)) c.requires.place
-
-pub part_with-requires-clause-rests : goal.part_with-requires-clause-rests
-part_with-requires-clause-rests c = let s = c.args.token.now in let k = c.look-word.ensures in let word : ℕ = c.look-word.result in
-    let slot : ℕ = c.args.slot in
-    let e = c.add_seen.ensures in let hit = e.2.0 c.if-add_seen-word.false in let value : Gv = hit.0 in
-    let is : c.add_seen.new.token.me.0 ≡ owning_more slot value (one_more slot (word + 1) None s.me.0)
-    = ap (λ (m : SeatState). m.0) hit.2 ∙ ap (λ (v : View). owning_more slot value (one_more slot (word + 1) None v)) k.3.0 in
-    ap (λ (v : View). v.stakes.moves) is ∙ c.requires.bare.rests
-
-pub part_with-requires-clause-quiet : goal.part_with-requires-clause-quiet
-part_with-requires-clause-quiet c = let s = c.args.token.now in let k = c.look-word.ensures in let word : ℕ = c.look-word.result in
-    let slot : ℕ = c.args.slot in
-    let e = c.add_seen.ensures in let hit = e.2.0 c.if-add_seen-word.false in let value : Gv = hit.0 in
-    let is : c.add_seen.new.token.me.0 ≡ owning_more slot value (one_more slot (word + 1) None s.me.0)
-    = ap (λ (m : SeatState). m.0) hit.2 ∙ ap (λ (v : View). owning_more slot value (one_more slot (word + 1) None v)) k.3.0 in
-    let q = c.requires.bare.quiet in (
-      ap (λ (v : View). v.slots.owns) is ∙ ap (λ (l : List ℕ). slot ∷ l) q.owns,
-      ap (λ (v : View). v.slots.drawn) is ∙ q.drawn,
-      ap (λ (v : View). v.slots.holds) is ∙ q.holds,
-    )
-
-pub part_with-requires-clause-told : goal.part_with-requires-clause-told
-part_with-requires-clause-told c = let s = c.args.token.now in let k = c.look-word.ensures in let word : ℕ = c.look-word.result in let slot : ℕ = c.args.slot in
-    let e = c.add_seen.ensures in let hit = e.2.0 c.if-add_seen-word.false in let value : Gv = hit.0 in
-    let is : c.add_seen.new.token.me.0 ≡ owning_more slot value (one_more slot (word + 1) None s.me.0)
-    = ap (λ (m : SeatState). m.0) hit.2 ∙ ap (λ (v : View). owning_more slot value (one_more slot (word + 1) None v)) k.3.0 in (
-      true,
-      value,
-      hit.1.code,
-      ap (λ (v : View). v.stakes.owns) is ∙ ap (λ (l : List ShownValue). record { slot = slot; shared = true; value = value } ∷ l) c.requires.bare.untold,
-    )
+    record {
+      home = e.0 ∙ (k.0 ∙ c.requires.home);
+      knows = (ap (λ (v : View). v.sizes) is ∙ c.requires.knows.0, ap (λ (v : View). v.stakes.book) is ∙ c.requires.knows.1);
+      inside = search rules;
+      place = subst (λ (x : EpochView). HasPlace x) (sym (ap (λ (v : View). v.epoch) is)) c.requires.place;
+      rests = ap (λ (v : View). v.stakes.moves) is ∙ c.requires.bare.rests;
+      quiet =
+        let q = c.requires.bare.quiet in
+        (
+          ap (λ (v : View). v.slots.owns) is ∙ ap (λ (l : List ℕ). slot ∷ l) q.owns,
+          ap (λ (v : View). v.slots.drawn) is ∙ q.drawn,
+          ap (λ (v : View). v.slots.holds) is ∙ q.holds,
+        );
+      told = (
+          true,
+          value,
+          hit.1.code,
+          ap (λ (v : View). v.stakes.owns) is ∙ ap (λ (l : List ShownValue). record { slot = slot; shared = true; value = value } ∷ l) c.requires.bare.untold,
+        );
+    }
 
 pub returns : goal.returns
 returns c = let s = c.args.token.now in let k = c.look-word.ensures in let word : ℕ = c.look-word.result in let slot : ℕ = c.args.slot in

@@ -52,39 +52,21 @@ house-requires-clause-row g c = let b = c.args.board.now in let r = c.requires i
       cut.ensures.rest ∙ ap (λ (g : Gv). lot (book_of b) slot cut.result.1.lot.round g (spare (places_of b) - 1)) (cut.ensures.row value r.row.0 row).2,
     )
 
-pub returns-clause-home : goal.returns-clause-home
-returns-clause-home g c = let b = c.args.board.now in let r = c.requires in let put = c.put.ensures.seat in
+pub returns : goal.returns
+returns g c =
+    let b = c.args.board.now in let r = c.requires in let put = c.put.ensures.seat in
     let f = furnished b c.args.slot (c.places-count.result + 1) c.args.shared (showing g.row.T c.args.value) c.args.token.now c.put.new.seat
     c.cut_rest-grip.new.token c.house.new.token r.knows (ap (λ (k : ℕ). k + 1) c.places-count.ensures) r.own.0 r.row.0 r.row.1 put.0 tt put.1
     c.cut_rest-grip.ensures.token (c.cut_rest-grip.ensures.row (showing g.row.T c.args.value) r.row.0
     (row_put b c.args.slot (c.places-count.result + 1) c.args.shared
     (showing g.row.T c.args.value) c.args.token.now c.put.new.seat c.put.new.seat c.put.new.seat
     r.knows (ap (λ (k : ℕ). k + 1) c.places-count.ensures) r.own.0 r.row.0 r.row.1 put.0 tt put.1)).0 c.house.ensures in
-    (f.table, f.number)
-
-pub returns-clause-view : goal.returns-clause-view
-returns-clause-view g c = let b = c.args.board.now in let r = c.requires in let put = c.put.ensures.seat in
-    let f = furnished b c.args.slot (c.places-count.result + 1) c.args.shared (showing g.row.T c.args.value) c.args.token.now c.put.new.seat
-    c.cut_rest-grip.new.token c.house.new.token r.knows (ap (λ (k : ℕ). k + 1) c.places-count.ensures) r.own.0 r.row.0 r.row.1 put.0 tt put.1
-    c.cut_rest-grip.ensures.token (c.cut_rest-grip.ensures.row (showing g.row.T c.args.value) r.row.0
-    (row_put b c.args.slot (c.places-count.result + 1) c.args.shared
-    (showing g.row.T c.args.value) c.args.token.now c.put.new.seat c.put.new.seat c.put.new.seat
-    r.knows (ap (λ (k : ℕ). k + 1) c.places-count.ensures) r.own.0 r.row.0 r.row.1 put.0 tt put.1)).0 c.house.ensures in
-    f.view
-
-pub returns-clause-given : goal.returns-clause-given
-returns-clause-given g c = let b = c.args.board.now in let r = c.requires in let put = c.put.ensures.seat in
-    let f = furnished b c.args.slot (c.places-count.result + 1) c.args.shared (showing g.row.T c.args.value) c.args.token.now c.put.new.seat
-    c.cut_rest-grip.new.token c.house.new.token r.knows (ap (λ (k : ℕ). k + 1) c.places-count.ensures) r.own.0 r.row.0 r.row.1 put.0 tt put.1
-    c.cut_rest-grip.ensures.token (c.cut_rest-grip.ensures.row (showing g.row.T c.args.value) r.row.0
-    (row_put b c.args.slot (c.places-count.result + 1) c.args.shared
-    (showing g.row.T c.args.value) c.args.token.now c.put.new.seat c.put.new.seat c.put.new.seat
-    r.knows (ap (λ (k : ℕ). k + 1) c.places-count.ensures) r.own.0 r.row.0 r.row.1 put.0 tt put.1)).0 c.house.ensures in
-    f.given
-
-pub returns-clause-grip : goal.returns-clause-grip
-returns-clause-grip g c = let b = c.args.board.now in let r = c.requires in let put = c.put.ensures.seat in
-    (c.cut_rest-grip.ensures.row (showing g.row.T c.args.value) r.row.0
-    (row_put b c.args.slot (c.places-count.result + 1) c.args.shared
-    (showing g.row.T c.args.value) c.args.token.now c.put.new.seat c.put.new.seat c.put.new.seat
-    r.knows (ap (λ (k : ℕ). k + 1) c.places-count.ensures) r.own.0 r.row.0 r.row.1 put.0 tt put.1)).1
+    record {
+      home = (f.table, f.number);
+      view = f.view;
+      given = f.given;
+      grip = (c.cut_rest-grip.ensures.row (showing g.row.T c.args.value) r.row.0
+        (row_put b c.args.slot (c.places-count.result + 1) c.args.shared
+        (showing g.row.T c.args.value) c.args.token.now c.put.new.seat c.put.new.seat c.put.new.seat
+        r.knows (ap (λ (k : ℕ). k + 1) c.places-count.ensures) r.own.0 r.row.0 r.row.1 put.0 tt put.1)).1;
+    }

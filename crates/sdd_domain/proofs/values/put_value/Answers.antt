@@ -12,28 +12,21 @@ pub move_in-grip-requires-clause-own : goal.move_in-grip-requires-clause-own
 move_in-grip-requires-clause-own g c = let r = c.requires in
     (r.own.0, (let e = ap (times c.args.slot) r.own.1 in let one = is_same c.args.slot c.args.slot refl in omega arith))
 
-pub cut-requires-clause-home : goal.cut-requires-clause-home
-cut-requires-clause-home g c = c.move_in-grip.ensures.home.0 ∙ c.requires.home
-
-pub cut-requires-clause-knows : goal.cut-requires-clause-knows
-cut-requires-clause-knows g c = let f = c.move_in-grip.ensures in let r = c.requires in
-    (ap (λ (v : View). v.sizes) f.view ∙ r.knows.0, ap (λ (v : View). v.stakes.book) f.view ∙ r.knows.1)
-
-pub cut-requires-clause-place : goal.cut-requires-clause-place
-cut-requires-clause-place g c = subst (λ (k : ℕ). 0 < k) (sym (ap (λ (v : View). v.epoch.state) c.move_in-grip.ensures.view)) c.requires.place
-
-pub cut-requires-clause-one : goal.cut-requires-clause-one
-cut-requires-clause-one g c = let f = c.move_in-grip.ensures in let r = c.requires in (
-  c.args.slot,
-  ap (λ (v : View). v.slots.owns) f.view ∙ r.own.1,
-  ap (λ (v : View). v.slots.drawn) f.view ∙ ap (λ (l : List ℕ). c.args.slot ∷ l) r.free.1,
-)
-
-pub cut-requires-clause-free : goal.cut-requires-clause-free
-cut-requires-clause-free g c = ap (λ (v : View). v.slots.holds) c.move_in-grip.ensures.view ∙ c.requires.free.0
-
-pub cut-requires-clause-rests : goal.cut-requires-clause-rests
-cut-requires-clause-rests g c = ap (λ (v : View). v.stakes.moves) c.move_in-grip.ensures.view
+pub cut-requires : goal.cut-requires
+cut-requires g c =
+    let f = c.move_in-grip.ensures in let r = c.requires in
+    record {
+      home = c.move_in-grip.ensures.home.0 ∙ c.requires.home;
+      knows = (ap (λ (v : View). v.sizes) f.view ∙ r.knows.0, ap (λ (v : View). v.stakes.book) f.view ∙ r.knows.1);
+      place = subst (λ (k : ℕ). 0 < k) (sym (ap (λ (v : View). v.epoch.state) c.move_in-grip.ensures.view)) c.requires.place;
+      one = (
+          c.args.slot,
+          ap (λ (v : View). v.slots.owns) f.view ∙ r.own.1,
+          ap (λ (v : View). v.slots.drawn) f.view ∙ ap (λ (l : List ℕ). c.args.slot ∷ l) r.free.1,
+        );
+      free = ap (λ (v : View). v.slots.holds) c.move_in-grip.ensures.view ∙ c.requires.free.0;
+      rests = ap (λ (v : View). v.stakes.moves) c.move_in-grip.ensures.view;
+    }
 
 pub returns : goal.returns
 returns g c = let f = c.move_in-grip.ensures in let r = c.requires in let part = c.cut.ensures.participant in

@@ -1,134 +1,64 @@
-use Rattle.std.proofs.Common.{◌≡◌, ℕ, ◌+◌, ◌<◌, List, refl, sym, ap, ◌∙◌, subst, arith}
+use Rattle.std.proofs.Common.{ℕ, ◌+◌, ◌<◌, List, refl, sym, ap, ◌∙◌, subst, arith, rules}
 use Rattle.std.specs.Prelude.{true, slice_set}
 use base.Stored.{Gv}
 use Rattle.atomic_table.specs.declared.shared.Seat.{Seat}
 use Rattle.sdd_rights.specs.declared.right.StandingKind.TheVariants as StandingKind
 use Rattle.sdd_rights.specs.Owner.{witness_of_owner}
-use Rattle.sdd_rights.specs.Right.{AreSlotsOfTable, home_of, number_of}
+use Rattle.sdd_rights.specs.Right.{number_of}
+use Rattle.sdd_rights.specs.declared.read_fraction.ReadFraction.{ReadFraction}
 use Rattle.sdd_shared_values.specs.SharedValues.{IsValueCode}
 use Rattle.sdd_shared_values.specs.ValueFractions.{FractionContent}
 use Rattle.sdd_shared_values.specs.declared.value_fraction.ValueFraction.{ValueFraction}
-use Rattle.sdd_views.specs.declared.Sizes.{Sizes}
 use Rattle.sdd_views.specs.declared.View.{View}
 use Rattle.sdd_word_invariant.specs.SlotSteps.{behind, noted}
-use Rattle.sdd_domain.specs.BetweenCalls.{AreLentTo, IsBetweenCalls, IsReady}
+use Rattle.sdd_domain.specs.BetweenCalls.{AreLentTo, IsReady}
 use Rattle.sdd_domain.specs.InBags.{known_waiting}
 use Rattle.sdd_domain.specs.Items.{slots_home}
 use Rattle.sdd_domain.specs.LocalState.{AddsAt, HasMost, IsLone, KnowsOwner, LocalState}
 use Rattle.sdd_domain.specs.Receipt.{IsTallied}
 use Rattle.sdd_domain.proofs.Cloned.{counts_most, counts_fewer, full_view, full_same, came_knows, came_place, came_rests, came_told, came_free, unit_is, drawn_view, drawn_home, drawn_owns, drawn_rests, left_view, other_shows, other_grip}
-use Rattle.sdd_domain.proofs.Housed.{on_board}
-use Rattle.sdd_domain.proofs.InPlace.{bare, knew_word, noted_at, owner_table, owner_views, placed, posed_noted, right_anew}
-use Rattle.sdd_domain.proofs.Members.{has_tables, recalls_to, with_token}
-use Rattle.sdd_domain.proofs.Posing.{same_recalled}
+use Rattle.sdd_domain.proofs.InPlace.{bare, knew_word, noted_at, owner_table, placed, posed_noted, right_anew}
+use Rattle.sdd_domain.proofs.Members.{has_tables, with_token}
+use Rattle.sdd_domain.proofs.Recalled.{IsRecalled, is_recalled}
+use Rattle.sdd_domain.proofs.local_core.LocalCore.clone_owner.Given.{Over}
+use Rattle.sdd_domain.proofs.local_core.LocalCore.clone_owner.Goals.{After-recall}
 use Rattle.sdd_domain.proofs.local_core.LocalCore.clone_owner.Goals as goal
 
-pub add_owner-requires-clause-home : goal.add_owner-requires-clause-home
-add_owner-requires-clause-home g c =
-    let l = c.self.inside in let b = l.domain.now.board in let m : LocalState _ = c.self.view_is 0 in let right = c.args.right.now in
-    let k : ℕ = number_of right in
-    let on = on_board l.domain.now.limits b l.token.table_id c.self.invariant.0.home l.domain.now.limited.1 m refl refl refl in
-    let home = c.requires.home ∙ sym (ap slots_home c.self.view_is) in let found = c.witness-owner.ensures.owner (has_tables m right home) in
-    let by = λ (_ : AreSlotsOfTable (home_of right)). found.1 in let w = c.witness-owner.result.now in let grip = found.0 in let value : Gv = grip.shown in
-    let slot : ℕ = c.number-slot.result in let is = c.number-slot.ensures in let t = c.recall.new.token in let kind = c.requires.kind in
-    let known : w.views ≡ witness_of_owner slot true value = owner_views b m on right StandingKind.Shared home kind w grip by slot is in
-    let same = same_recalled b l.place slot true value l.token t (c.recall.ensures slot true value known) in
-    let q = subst (λ (x : Seat ValueFraction View). IsBetweenCalls b l.place l.own x) (sym same) c.self.invariant.0 in
-    q.home
+-- the owner was recalled
+recalled : (g : Over) (c : After-recall g) → (grip : ReadFraction) × IsRecalled c.self.inside.domain.now.board c.self.inside.place c.self.inside.own
+    (c.self.view_is 0) c.args.right.now StandingKind.Shared c.witness-owner.result.now grip c.number-slot.result c.self.inside.token c.recall.new.token
+recalled g c = let l = c.self.inside in let m : LocalState _ = c.self.view_is 0 in let right = c.args.right.now in
+    let home = c.requires.home ∙ sym (ap slots_home c.self.view_is) in let found = c.witness-owner.ensures.owner (has_tables m right home) in (
+      found.0,
+      is_recalled l.domain.now.limits l.domain.now.board l.place l.own m right StandingKind.Shared c.witness-owner.result.now found.0 c.number-slot.result
+          l.token c.recall.new.token l.domain.now.limited.1 refl refl refl home c.requires.kind (λ _. found.1) c.number-slot.ensures c.recall.ensures
+          c.self.invariant.0,
+    )
 
-pub add_owner-requires-clause-knows : goal.add_owner-requires-clause-knows
-add_owner-requires-clause-knows g c =
+pub add_owner-requires : goal.add_owner-requires
+add_owner-requires g c =
     let l = c.self.inside in let b = l.domain.now.board in let m : LocalState _ = c.self.view_is 0 in let right = c.args.right.now in
-    let k : ℕ = number_of right in
-    let on = on_board l.domain.now.limits b l.token.table_id c.self.invariant.0.home l.domain.now.limited.1 m refl refl refl in
-    let home = c.requires.home ∙ sym (ap slots_home c.self.view_is) in let found = c.witness-owner.ensures.owner (has_tables m right home) in
-    let by = λ (_ : AreSlotsOfTable (home_of right)). found.1 in let w = c.witness-owner.result.now in let grip = found.0 in let value : Gv = grip.shown in
-    let slot : ℕ = c.number-slot.result in let is = c.number-slot.ensures in let t = c.recall.new.token in let kind = c.requires.kind in
-    let known : w.views ≡ witness_of_owner slot true value = owner_views b m on right StandingKind.Shared home kind w grip by slot is in
-    let same = same_recalled b l.place slot true value l.token t (c.recall.ensures slot true value known) in
-    let q = subst (λ (x : Seat ValueFraction View). IsBetweenCalls b l.place l.own x) (sym same) c.self.invariant.0 in
-    q.knows
-
-pub add_owner-requires-clause-place : goal.add_owner-requires-clause-place
-add_owner-requires-clause-place g c =
-    let l = c.self.inside in let b = l.domain.now.board in let m : LocalState _ = c.self.view_is 0 in let right = c.args.right.now in
-    let k : ℕ = number_of right in
-    let on = on_board l.domain.now.limits b l.token.table_id c.self.invariant.0.home l.domain.now.limited.1 m refl refl refl in
-    let home = c.requires.home ∙ sym (ap slots_home c.self.view_is) in let found = c.witness-owner.ensures.owner (has_tables m right home) in
-    let by = λ (_ : AreSlotsOfTable (home_of right)). found.1 in let w = c.witness-owner.result.now in let grip = found.0 in let value : Gv = grip.shown in
-    let slot : ℕ = c.number-slot.result in let is = c.number-slot.ensures in let t = c.recall.new.token in let kind = c.requires.kind in
-    let known : w.views ≡ witness_of_owner slot true value = owner_views b m on right StandingKind.Shared home kind w grip by slot is in
-    let same = same_recalled b l.place slot true value l.token t (c.recall.ensures slot true value known) in
-    let q = subst (λ (x : Seat ValueFraction View). IsBetweenCalls b l.place l.own x) (sym same) c.self.invariant.0 in
-    (placed b l.place l.own t q).0
-
-pub add_owner-requires-clause-rests : goal.add_owner-requires-clause-rests
-add_owner-requires-clause-rests g c =
-    let l = c.self.inside in let b = l.domain.now.board in let m : LocalState _ = c.self.view_is 0 in let right = c.args.right.now in
-    let k : ℕ = number_of right in
-    let on = on_board l.domain.now.limits b l.token.table_id c.self.invariant.0.home l.domain.now.limited.1 m refl refl refl in
-    let home = c.requires.home ∙ sym (ap slots_home c.self.view_is) in let found = c.witness-owner.ensures.owner (has_tables m right home) in
-    let by = λ (_ : AreSlotsOfTable (home_of right)). found.1 in let w = c.witness-owner.result.now in let grip = found.0 in let value : Gv = grip.shown in
-    let slot : ℕ = c.number-slot.result in let is = c.number-slot.ensures in let t = c.recall.new.token in let kind = c.requires.kind in
-    let known : w.views ≡ witness_of_owner slot true value = owner_views b m on right StandingKind.Shared home kind w grip by slot is in
-    let same = same_recalled b l.place slot true value l.token t (c.recall.ensures slot true value known) in
-    let q = subst (λ (x : Seat ValueFraction View). IsBetweenCalls b l.place l.own x) (sym same) c.self.invariant.0 in
-    q.rests
-
-pub add_owner-requires-clause-none : goal.add_owner-requires-clause-none
-add_owner-requires-clause-none g c =
-    let l = c.self.inside in let b = l.domain.now.board in let m : LocalState _ = c.self.view_is 0 in let right = c.args.right.now in
-    let k : ℕ = number_of right in
-    let on = on_board l.domain.now.limits b l.token.table_id c.self.invariant.0.home l.domain.now.limited.1 m refl refl refl in
-    let home = c.requires.home ∙ sym (ap slots_home c.self.view_is) in let found = c.witness-owner.ensures.owner (has_tables m right home) in
-    let by = λ (_ : AreSlotsOfTable (home_of right)). found.1 in let w = c.witness-owner.result.now in let grip = found.0 in let value : Gv = grip.shown in
-    let slot : ℕ = c.number-slot.result in let is = c.number-slot.ensures in let t = c.recall.new.token in let kind = c.requires.kind in
-    let known : w.views ≡ witness_of_owner slot true value = owner_views b m on right StandingKind.Shared home kind w grip by slot is in
-    let same = same_recalled b l.place slot true value l.token t (c.recall.ensures slot true value known) in
-    let q = subst (λ (x : Seat ValueFraction View). IsBetweenCalls b l.place l.own x) (sym same) c.self.invariant.0 in
-    (q.quiet.owns, q.quiet.drawn, q.sight.owns)
-
-pub add_owner-requires-clause-free : goal.add_owner-requires-clause-free
-add_owner-requires-clause-free g c =
-    let l = c.self.inside in let b = l.domain.now.board in let m : LocalState _ = c.self.view_is 0 in let right = c.args.right.now in
-    let k : ℕ = number_of right in
-    let on = on_board l.domain.now.limits b l.token.table_id c.self.invariant.0.home l.domain.now.limited.1 m refl refl refl in
-    let home = c.requires.home ∙ sym (ap slots_home c.self.view_is) in let found = c.witness-owner.ensures.owner (has_tables m right home) in
-    let by = λ (_ : AreSlotsOfTable (home_of right)). found.1 in let w = c.witness-owner.result.now in let grip = found.0 in let value : Gv = grip.shown in
-    let slot : ℕ = c.number-slot.result in let is = c.number-slot.ensures in let t = c.recall.new.token in let kind = c.requires.kind in
-    let known : w.views ≡ witness_of_owner slot true value = owner_views b m on right StandingKind.Shared home kind w grip by slot is in
-    let same = same_recalled b l.place slot true value l.token t (c.recall.ensures slot true value known) in
-    let q = subst (λ (x : Seat ValueFraction View). IsBetweenCalls b l.place l.own x) (sym same) c.self.invariant.0 in
-    (q.quiet.over, q.pledges)
-
-pub add_owner-requires-clause-owner : goal.add_owner-requires-clause-owner
-add_owner-requires-clause-owner g c =
-    let l = c.self.inside in let b = l.domain.now.board in let m : LocalState _ = c.self.view_is 0 in let right = c.args.right.now in
-    let k : ℕ = number_of right in
-    let on = on_board l.domain.now.limits b l.token.table_id c.self.invariant.0.home l.domain.now.limited.1 m refl refl refl in
-    let home = c.requires.home ∙ sym (ap slots_home c.self.view_is) in let found = c.witness-owner.ensures.owner (has_tables m right home) in
-    let by = λ (_ : AreSlotsOfTable (home_of right)). found.1 in let w = c.witness-owner.result.now in let grip = found.0 in let value : Gv = grip.shown in
-    let slot : ℕ = c.number-slot.result in let is = c.number-slot.ensures in let t = c.recall.new.token in let kind = c.requires.kind in
-    let known : w.views ≡ witness_of_owner slot true value = owner_views b m on right StandingKind.Shared home kind w grip by slot is in
-    let same = same_recalled b l.place slot true value l.token t (c.recall.ensures slot true value known) in
-    let q = subst (λ (x : Seat ValueFraction View). IsBetweenCalls b l.place l.own x) (sym same) c.self.invariant.0 in
-    (owner_table b m on right StandingKind.Shared home kind w grip by slot is, (value, known))
+    let e = recalled g (goal.at.add_owner-requires g c).After-recall in let grip = e.0 in let known = e.1 in let q = known.between in
+    let w = c.witness-owner.result.now in let value : Gv = grip.shown in let slot : ℕ = c.number-slot.result in let is = c.number-slot.ensures in
+    let t = c.recall.new.token in let kind = c.requires.kind in record {
+      home = q.home;
+      knows = q.knows;
+      inside = search rules;
+      place = (placed b l.place l.own t q).0;
+      rests = q.rests;
+      none = (q.quiet.owns, q.quiet.drawn, q.sight.owns);
+      free = (q.quiet.over, q.pledges);
+      owner = (owner_table b m known.on right StandingKind.Shared known.home kind w grip (λ _. known.owner) slot is, (value, known.views));
+    }
 
 pub invariant_of-self : goal.invariant_of-self
 invariant_of-self g c =
-    let l = c.self.inside in let b = l.domain.now.board in let m : LocalState _ = c.self.view_is 0 in let right = c.args.right.now in
-    let k : ℕ = number_of right in
-    let on = on_board l.domain.now.limits b l.token.table_id c.self.invariant.0.home l.domain.now.limited.1 m refl refl refl in
-    let home = c.requires.home ∙ sym (ap slots_home c.self.view_is) in let found = c.witness-owner.ensures.owner (has_tables m right home) in
-    let by = λ (_ : AreSlotsOfTable (home_of right)). found.1 in let w = c.witness-owner.result.now in let grip = found.0 in let value : Gv = grip.shown in
-    let slot : ℕ = c.number-slot.result in let is = c.number-slot.ensures in let t = c.recall.new.token in let kind = c.requires.kind in
-    let known : w.views ≡ witness_of_owner slot true value = owner_views b m on right StandingKind.Shared home kind w grip by slot is in
-    let same = same_recalled b l.place slot true value l.token t (c.recall.ensures slot true value known) in
-    let q = subst (λ (x : Seat ValueFraction View). IsBetweenCalls b l.place l.own x) (sym same) c.self.invariant.0 in
-    let a = c.add_owner.new.token in let n : ℕ = c.add_owner.result in let adds = c.add_owner.ensures value known in
-    let many = counts_most n adds.2.several c.if-add_owner-ge-MOST_SHARED.true in
-    let u = a in let full = full_view b slot value t a n adds many in let words : List ℕ = noted slot full.0 t.me.0 in
-    let here = full.1 ∙ ap (λ (x : Seat ValueFraction View). record x.me.0 { words = words }) same in let i = c.self.invariant in (
+    let l = c.self.inside in let b = l.domain.now.board in let e = recalled g (goal.at.invariant_of-self g c).After-recall in let grip = e.0 in let known = e.1 in
+    let same = known.same in let q = known.between in let value : Gv = grip.shown in let slot : ℕ = c.number-slot.result in let t = c.recall.new.token in
+    let a = c.add_owner.new.token in let n : ℕ = c.add_owner.result in let adds = c.add_owner.ensures value known.views in
+    let many = counts_most n adds.2.several c.if-add_owner-ge-MOST_SHARED.true in let u = a in let full = full_view b slot value t a n adds many in
+    let words : List ℕ = noted slot full.0 t.me.0 in let here = full.1 ∙ ap (λ (x : Seat ValueFraction View). record x.me.0 { words = words }) same in
+    let i = c.self.invariant in (
       posed_noted b l.place l.own t q u (words) adds.0 full.2 full.1,
       i.1,
       i.2,
@@ -137,321 +67,109 @@ invariant_of-self g c =
       subst (IsTallied 0 l.tally) (sym (ap (λ (v : View). v.stakes.counts) here)) i.5,
     )
 
-pub returns-then-add_owner-ge-MOST_SHARED-clause-came : goal.returns-then-add_owner-ge-MOST_SHARED-clause-came
-returns-then-add_owner-ge-MOST_SHARED-clause-came g c =
+pub returns-then-add_owner-ge-MOST_SHARED : goal.returns-then-add_owner-ge-MOST_SHARED
+returns-then-add_owner-ge-MOST_SHARED g c =
     let l = c.self.inside in let b = l.domain.now.board in let m : LocalState _ = c.self.view_is 0 in let right = c.args.right.now in
-    let k : ℕ = number_of right in
-    let on = on_board l.domain.now.limits b l.token.table_id c.self.invariant.0.home l.domain.now.limited.1 m refl refl refl in
-    let home = c.requires.home ∙ sym (ap slots_home c.self.view_is) in let found = c.witness-owner.ensures.owner (has_tables m right home) in
-    let by = λ (_ : AreSlotsOfTable (home_of right)). found.1 in let w = c.witness-owner.result.now in let grip = found.0 in let value : Gv = grip.shown in
-    let slot : ℕ = c.number-slot.result in let is = c.number-slot.ensures in let t = c.recall.new.token in let kind = c.requires.kind in
-    let known : w.views ≡ witness_of_owner slot true value = owner_views b m on right StandingKind.Shared home kind w grip by slot is in
-    let same = same_recalled b l.place slot true value l.token t (c.recall.ensures slot true value known) in
-    let q = subst (λ (x : Seat ValueFraction View). IsBetweenCalls b l.place l.own x) (sym same) c.self.invariant.0 in
-    let a = c.add_owner.new.token in let n : ℕ = c.add_owner.result in let adds = c.add_owner.ensures value known in
-    let many = counts_most n adds.2.several c.if-add_owner-ge-MOST_SHARED.true in
-    let alone : IsLone m → l.token.me.0.epoch.all ≡ 1
-    = λ lone. c.self.invariant.0.all ∙ (ap (λ (z : Sizes). z.participants) l.domain.now.limited.1 ∙ lone) in
-    let full = full_view b slot value t a n adds many in (
-      n,
-      (
-        refl,
-        subst (λ (x : LocalState _). HasMost k n x (with_token m a)) c.self.view_is record {
-          member = (full.0, noted_at m slot k is true true refl l.token t a same refl alone (λ i z ws. slice_set ws (behind z i) full.0) adds.0 full.1);
-          counted = adds.2.several;
-          many = many;
-          lone = λ lone. (
-            knew_word m slot k is true true refl l.token t a same refl alone n adds.2.knew lone,
-            ap (with_token m) (full_same b slot value t a n adds many (ap (λ (y : Seat ValueFraction View). y.me.0.epoch.all) same ∙ alone lone) ∙ same),
-          );
-        },
-      ),
-    )
+    let e = recalled g (goal.at.returns-then-add_owner-ge-MOST_SHARED g c).After-recall in let grip = e.0 in let known = e.1 in let same = known.same in
+    let k : ℕ = number_of right in let value : Gv = grip.shown in let slot : ℕ = c.number-slot.result in let is = c.number-slot.ensures in
+    let t = c.recall.new.token in record {
+      came =
+        let a = c.add_owner.new.token in let n : ℕ = c.add_owner.result in let adds = c.add_owner.ensures value known.views in
+        let many = counts_most n adds.2.several c.if-add_owner-ge-MOST_SHARED.true in
+        let full = full_view b slot value t a n adds many in (
+          n,
+          (
+            refl,
+            subst (λ (x : LocalState _). HasMost k n x (with_token m a)) c.self.view_is record {
+              member = (full.0, noted_at m slot k is true true refl l.token t a same refl known.all (λ i z ws. slice_set ws (behind z i) full.0) adds.0 full.1);
+              counted = adds.2.several;
+              many = many;
+              lone = λ lone. (
+                knew_word m slot k is true true refl l.token t a same refl known.all n adds.2.knew lone,
+                ap (with_token m) (full_same b slot value t a n adds many (ap (λ (y : Seat ValueFraction View). y.me.0.epoch.all) same ∙ known.all lone)
+                    ∙ same),
+              );
+            },
+          ),
+        );
+      recalled = subst (λ (x : LocalState _). IsLone x → (value : Gv) × KnowsOwner x (number_of right) true value) c.self.view_is
+        (λ lone. (value, known.tells lone));
+    }
 
-pub returns-then-add_owner-ge-MOST_SHARED-clause-recalled : goal.returns-then-add_owner-ge-MOST_SHARED-clause-recalled
-returns-then-add_owner-ge-MOST_SHARED-clause-recalled g c =
-    let l = c.self.inside in let b = l.domain.now.board in let m : LocalState _ = c.self.view_is 0 in let right = c.args.right.now in
-    let k : ℕ = number_of right in
-    let on = on_board l.domain.now.limits b l.token.table_id c.self.invariant.0.home l.domain.now.limited.1 m refl refl refl in
-    let home = c.requires.home ∙ sym (ap slots_home c.self.view_is) in let found = c.witness-owner.ensures.owner (has_tables m right home) in
-    let by = λ (_ : AreSlotsOfTable (home_of right)). found.1 in let w = c.witness-owner.result.now in let grip = found.0 in let value : Gv = grip.shown in
-    let slot : ℕ = c.number-slot.result in let is = c.number-slot.ensures in let t = c.recall.new.token in let kind = c.requires.kind in
-    let known : w.views ≡ witness_of_owner slot true value = owner_views b m on right StandingKind.Shared home kind w grip by slot is in
-    let same = same_recalled b l.place slot true value l.token t (c.recall.ensures slot true value known) in
-    let q = subst (λ (x : Seat ValueFraction View). IsBetweenCalls b l.place l.own x) (sym same) c.self.invariant.0 in
-    let told = owner_views b m on right StandingKind.Shared home kind w grip by k refl in
-    subst (λ (x : LocalState _). IsLone x → (value : Gv) × KnowsOwner x k true value) c.self.view_is (λ lone. (
-      value,
-      recalls_to m k true value l.token t (c.recall.ensures k true value told)
-          (c.self.invariant.0.all ∙ ap (λ (z : Sizes). z.participants) l.domain.now.limited.1) lone,
-    ))
+pub draw_unit-requires : goal.draw_unit-requires
+draw_unit-requires g c =
+    let l = c.self.inside in let b = l.domain.now.board in let e = recalled g (goal.at.draw_unit-requires g c).After-recall in let grip = e.0 in
+    let known = e.1 in let q = known.between in let value : Gv = grip.shown in let slot : ℕ = c.number-slot.result in let t = c.recall.new.token in
+    let a = c.add_owner.new.token in let n : ℕ = c.add_owner.result in let adds = c.add_owner.ensures value known.views in
+    let few = counts_fewer n adds.2.several (let small = c.if-add_owner-ge-MOST_SHARED.false in omega arith) in let none = bare b l.place l.own t q in record {
+      home = adds.0 ∙ q.home;
+      knows = came_knows b slot value t a n adds few none q.knows;
+      inside = search rules;
+      place = came_place b slot value t a n adds few none (placed b l.place l.own t q).0;
+      own = let free = came_free b slot value t a n adds few none in ((true, value, came_told b slot value t a n adds few none), free.0, free.1);
+      rests = came_rests b slot value t a n adds few none;
+    }
 
-pub draw_unit-requires-clause-home : goal.draw_unit-requires-clause-home
-draw_unit-requires-clause-home g c =
-    let l = c.self.inside in let b = l.domain.now.board in let m : LocalState _ = c.self.view_is 0 in let right = c.args.right.now in
-    let k : ℕ = number_of right in
-    let on = on_board l.domain.now.limits b l.token.table_id c.self.invariant.0.home l.domain.now.limited.1 m refl refl refl in
-    let home = c.requires.home ∙ sym (ap slots_home c.self.view_is) in let found = c.witness-owner.ensures.owner (has_tables m right home) in
-    let by = λ (_ : AreSlotsOfTable (home_of right)). found.1 in let w = c.witness-owner.result.now in let grip = found.0 in let value : Gv = grip.shown in
-    let slot : ℕ = c.number-slot.result in let is = c.number-slot.ensures in let t = c.recall.new.token in let kind = c.requires.kind in
-    let known : w.views ≡ witness_of_owner slot true value = owner_views b m on right StandingKind.Shared home kind w grip by slot is in
-    let same = same_recalled b l.place slot true value l.token t (c.recall.ensures slot true value known) in
-    let q = subst (λ (x : Seat ValueFraction View). IsBetweenCalls b l.place l.own x) (sym same) c.self.invariant.0 in
-    let a = c.add_owner.new.token in let n : ℕ = c.add_owner.result in let adds = c.add_owner.ensures value known in
+pub into_grip-grip-requires : goal.into_grip-grip-requires
+into_grip-grip-requires g c =
+    let l = c.self.inside in let b = l.domain.now.board in let e = recalled g (goal.at.into_grip-grip-requires g c).After-recall in let grip = e.0 in
+    let known = e.1 in let q = known.between in let value : Gv = grip.shown in let slot : ℕ = c.number-slot.result in let t = c.recall.new.token in
+    let a = c.add_owner.new.token in let n : ℕ = c.add_owner.result in let adds = c.add_owner.ensures value known.views in
+    let few = counts_fewer n adds.2.several (let small = c.if-add_owner-ge-MOST_SHARED.false in omega arith) in let none = bare b l.place l.own t q in record {
+      full = subst IsValueCode (sym (ap (λ (x : FractionContent). x.shown)
+        (unit_is b slot value t a n adds few none c.draw_unit.result.lot c.draw_unit.new.token c.draw_unit.ensures q.knows))) grip.full;
+      one = ap (λ (x : FractionContent). x.units) (unit_is b slot value t a n adds few none c.draw_unit.result.lot c.draw_unit.new.token c.draw_unit.ensures
+          q.knows);
+      free = ap (λ (x : FractionContent). x.lent) (unit_is b slot value t a n adds few none c.draw_unit.result.lot c.draw_unit.new.token c.draw_unit.ensures
+          q.knows);
+    }
+
+pub cut-other-requires : goal.cut-other-requires
+cut-other-requires g c =
+    let l = c.self.inside in let b = l.domain.now.board in let e = recalled g (goal.at.cut-other-requires g c).After-recall in let grip = e.0 in
+    let known = e.1 in let q = known.between in let value : Gv = grip.shown in let slot : ℕ = c.number-slot.result in let t = c.recall.new.token in
+    let a = c.add_owner.new.token in let n : ℕ = c.add_owner.result in let adds = c.add_owner.ensures value known.views in
     let few = counts_fewer n adds.2.several (let small = c.if-add_owner-ge-MOST_SHARED.false in omega arith) in let none = bare b l.place l.own t q in
-    adds.0 ∙ q.home
+    let v = drawn_view b slot value t a n adds few none c.draw_unit.result.lot c.draw_unit.new.token c.draw_unit.ensures q.knows in record {
+      home = drawn_home b slot value t a n adds few none c.draw_unit.result.lot c.draw_unit.new.token c.draw_unit.ensures q.knows ∙ q.home;
+      knows = (ap (λ (x : View). x.sizes) v ∙ q.knows.0, ap (λ (x : View). x.stakes.book) v ∙ q.knows.1);
+      place = subst (λ (j : ℕ). 0 < j) (sym (ap (λ (x : View). x.epoch.state) v)) (placed b l.place l.own t q).0;
+      one =
+        let one = drawn_owns b slot value t a n adds few none c.draw_unit.result.lot c.draw_unit.new.token c.draw_unit.ensures q.knows in
+        (slot, one.0, one.1);
+      free = ap (λ (x : View). x.slots.holds) v ∙ q.quiet.holds;
+      rests = drawn_rests b slot value t a n adds few none c.draw_unit.result.lot c.draw_unit.new.token c.draw_unit.ensures q.knows;
+    }
 
-pub draw_unit-requires-clause-knows : goal.draw_unit-requires-clause-knows
-draw_unit-requires-clause-knows g c =
-    let l = c.self.inside in let b = l.domain.now.board in let m : LocalState _ = c.self.view_is 0 in let right = c.args.right.now in
-    let k : ℕ = number_of right in
-    let on = on_board l.domain.now.limits b l.token.table_id c.self.invariant.0.home l.domain.now.limited.1 m refl refl refl in
-    let home = c.requires.home ∙ sym (ap slots_home c.self.view_is) in let found = c.witness-owner.ensures.owner (has_tables m right home) in
-    let by = λ (_ : AreSlotsOfTable (home_of right)). found.1 in let w = c.witness-owner.result.now in let grip = found.0 in let value : Gv = grip.shown in
-    let slot : ℕ = c.number-slot.result in let is = c.number-slot.ensures in let t = c.recall.new.token in let kind = c.requires.kind in
-    let known : w.views ≡ witness_of_owner slot true value = owner_views b m on right StandingKind.Shared home kind w grip by slot is in
-    let same = same_recalled b l.place slot true value l.token t (c.recall.ensures slot true value known) in
-    let q = subst (λ (x : Seat ValueFraction View). IsBetweenCalls b l.place l.own x) (sym same) c.self.invariant.0 in
-    let a = c.add_owner.new.token in let n : ℕ = c.add_owner.result in let adds = c.add_owner.ensures value known in
-    let few = counts_fewer n adds.2.several (let small = c.if-add_owner-ge-MOST_SHARED.false in omega arith) in let none = bare b l.place l.own t q in
-    came_knows b slot value t a n adds few none q.knows
-
-pub draw_unit-requires-clause-place : goal.draw_unit-requires-clause-place
-draw_unit-requires-clause-place g c =
-    let l = c.self.inside in let b = l.domain.now.board in let m : LocalState _ = c.self.view_is 0 in let right = c.args.right.now in
-    let k : ℕ = number_of right in
-    let on = on_board l.domain.now.limits b l.token.table_id c.self.invariant.0.home l.domain.now.limited.1 m refl refl refl in
-    let home = c.requires.home ∙ sym (ap slots_home c.self.view_is) in let found = c.witness-owner.ensures.owner (has_tables m right home) in
-    let by = λ (_ : AreSlotsOfTable (home_of right)). found.1 in let w = c.witness-owner.result.now in let grip = found.0 in let value : Gv = grip.shown in
-    let slot : ℕ = c.number-slot.result in let is = c.number-slot.ensures in let t = c.recall.new.token in let kind = c.requires.kind in
-    let known : w.views ≡ witness_of_owner slot true value = owner_views b m on right StandingKind.Shared home kind w grip by slot is in
-    let same = same_recalled b l.place slot true value l.token t (c.recall.ensures slot true value known) in
-    let q = subst (λ (x : Seat ValueFraction View). IsBetweenCalls b l.place l.own x) (sym same) c.self.invariant.0 in
-    let a = c.add_owner.new.token in let n : ℕ = c.add_owner.result in let adds = c.add_owner.ensures value known in
-    let few = counts_fewer n adds.2.several (let small = c.if-add_owner-ge-MOST_SHARED.false in omega arith) in let none = bare b l.place l.own t q in
-    came_place b slot value t a n adds few none (placed b l.place l.own t q).0
-
-pub draw_unit-requires-clause-own : goal.draw_unit-requires-clause-own
-draw_unit-requires-clause-own g c =
-    let l = c.self.inside in let b = l.domain.now.board in let m : LocalState _ = c.self.view_is 0 in let right = c.args.right.now in
-    let k : ℕ = number_of right in
-    let on = on_board l.domain.now.limits b l.token.table_id c.self.invariant.0.home l.domain.now.limited.1 m refl refl refl in
-    let home = c.requires.home ∙ sym (ap slots_home c.self.view_is) in let found = c.witness-owner.ensures.owner (has_tables m right home) in
-    let by = λ (_ : AreSlotsOfTable (home_of right)). found.1 in let w = c.witness-owner.result.now in let grip = found.0 in let value : Gv = grip.shown in
-    let slot : ℕ = c.number-slot.result in let is = c.number-slot.ensures in let t = c.recall.new.token in let kind = c.requires.kind in
-    let known : w.views ≡ witness_of_owner slot true value = owner_views b m on right StandingKind.Shared home kind w grip by slot is in
-    let same = same_recalled b l.place slot true value l.token t (c.recall.ensures slot true value known) in
-    let q = subst (λ (x : Seat ValueFraction View). IsBetweenCalls b l.place l.own x) (sym same) c.self.invariant.0 in
-    let a = c.add_owner.new.token in let n : ℕ = c.add_owner.result in let adds = c.add_owner.ensures value known in
-    let few = counts_fewer n adds.2.several (let small = c.if-add_owner-ge-MOST_SHARED.false in omega arith) in let none = bare b l.place l.own t q in
-    let free = came_free b slot value t a n adds few none in ((true, value, came_told b slot value t a n adds few none), free.0, free.1)
-
-pub draw_unit-requires-clause-rests : goal.draw_unit-requires-clause-rests
-draw_unit-requires-clause-rests g c =
-    let l = c.self.inside in let b = l.domain.now.board in let m : LocalState _ = c.self.view_is 0 in let right = c.args.right.now in
-    let k : ℕ = number_of right in
-    let on = on_board l.domain.now.limits b l.token.table_id c.self.invariant.0.home l.domain.now.limited.1 m refl refl refl in
-    let home = c.requires.home ∙ sym (ap slots_home c.self.view_is) in let found = c.witness-owner.ensures.owner (has_tables m right home) in
-    let by = λ (_ : AreSlotsOfTable (home_of right)). found.1 in let w = c.witness-owner.result.now in let grip = found.0 in let value : Gv = grip.shown in
-    let slot : ℕ = c.number-slot.result in let is = c.number-slot.ensures in let t = c.recall.new.token in let kind = c.requires.kind in
-    let known : w.views ≡ witness_of_owner slot true value = owner_views b m on right StandingKind.Shared home kind w grip by slot is in
-    let same = same_recalled b l.place slot true value l.token t (c.recall.ensures slot true value known) in
-    let q = subst (λ (x : Seat ValueFraction View). IsBetweenCalls b l.place l.own x) (sym same) c.self.invariant.0 in
-    let a = c.add_owner.new.token in let n : ℕ = c.add_owner.result in let adds = c.add_owner.ensures value known in
-    let few = counts_fewer n adds.2.several (let small = c.if-add_owner-ge-MOST_SHARED.false in omega arith) in let none = bare b l.place l.own t q in
-    came_rests b slot value t a n adds few none
-
-pub into_grip-grip-requires-clause-full : goal.into_grip-grip-requires-clause-full
-into_grip-grip-requires-clause-full g c =
-    let l = c.self.inside in let b = l.domain.now.board in let m : LocalState _ = c.self.view_is 0 in let right = c.args.right.now in
-    let k : ℕ = number_of right in
-    let on = on_board l.domain.now.limits b l.token.table_id c.self.invariant.0.home l.domain.now.limited.1 m refl refl refl in
-    let home = c.requires.home ∙ sym (ap slots_home c.self.view_is) in let found = c.witness-owner.ensures.owner (has_tables m right home) in
-    let by = λ (_ : AreSlotsOfTable (home_of right)). found.1 in let w = c.witness-owner.result.now in let grip = found.0 in let value : Gv = grip.shown in
-    let slot : ℕ = c.number-slot.result in let is = c.number-slot.ensures in let t = c.recall.new.token in let kind = c.requires.kind in
-    let known : w.views ≡ witness_of_owner slot true value = owner_views b m on right StandingKind.Shared home kind w grip by slot is in
-    let same = same_recalled b l.place slot true value l.token t (c.recall.ensures slot true value known) in
-    let q = subst (λ (x : Seat ValueFraction View). IsBetweenCalls b l.place l.own x) (sym same) c.self.invariant.0 in
-    let a = c.add_owner.new.token in let n : ℕ = c.add_owner.result in let adds = c.add_owner.ensures value known in
-    let few = counts_fewer n adds.2.several (let small = c.if-add_owner-ge-MOST_SHARED.false in omega arith) in let none = bare b l.place l.own t q in
-    subst IsValueCode (sym (ap (λ (x : FractionContent). x.shown)
-    (unit_is b slot value t a n adds few none c.draw_unit.result.lot c.draw_unit.new.token c.draw_unit.ensures q.knows))) grip.full
-
-pub into_grip-grip-requires-clause-one : goal.into_grip-grip-requires-clause-one
-into_grip-grip-requires-clause-one g c =
-    let l = c.self.inside in let b = l.domain.now.board in let m : LocalState _ = c.self.view_is 0 in let right = c.args.right.now in
-    let k : ℕ = number_of right in
-    let on = on_board l.domain.now.limits b l.token.table_id c.self.invariant.0.home l.domain.now.limited.1 m refl refl refl in
-    let home = c.requires.home ∙ sym (ap slots_home c.self.view_is) in let found = c.witness-owner.ensures.owner (has_tables m right home) in
-    let by = λ (_ : AreSlotsOfTable (home_of right)). found.1 in let w = c.witness-owner.result.now in let grip = found.0 in let value : Gv = grip.shown in
-    let slot : ℕ = c.number-slot.result in let is = c.number-slot.ensures in let t = c.recall.new.token in let kind = c.requires.kind in
-    let known : w.views ≡ witness_of_owner slot true value = owner_views b m on right StandingKind.Shared home kind w grip by slot is in
-    let same = same_recalled b l.place slot true value l.token t (c.recall.ensures slot true value known) in
-    let q = subst (λ (x : Seat ValueFraction View). IsBetweenCalls b l.place l.own x) (sym same) c.self.invariant.0 in
-    let a = c.add_owner.new.token in let n : ℕ = c.add_owner.result in let adds = c.add_owner.ensures value known in
-    let few = counts_fewer n adds.2.several (let small = c.if-add_owner-ge-MOST_SHARED.false in omega arith) in let none = bare b l.place l.own t q in
-    ap (λ (x : FractionContent). x.units) (unit_is b slot value t a n adds few none c.draw_unit.result.lot c.draw_unit.new.token c.draw_unit.ensures q.knows)
-
-pub into_grip-grip-requires-clause-free : goal.into_grip-grip-requires-clause-free
-into_grip-grip-requires-clause-free g c =
-    let l = c.self.inside in let b = l.domain.now.board in let m : LocalState _ = c.self.view_is 0 in let right = c.args.right.now in
-    let k : ℕ = number_of right in
-    let on = on_board l.domain.now.limits b l.token.table_id c.self.invariant.0.home l.domain.now.limited.1 m refl refl refl in
-    let home = c.requires.home ∙ sym (ap slots_home c.self.view_is) in let found = c.witness-owner.ensures.owner (has_tables m right home) in
-    let by = λ (_ : AreSlotsOfTable (home_of right)). found.1 in let w = c.witness-owner.result.now in let grip = found.0 in let value : Gv = grip.shown in
-    let slot : ℕ = c.number-slot.result in let is = c.number-slot.ensures in let t = c.recall.new.token in let kind = c.requires.kind in
-    let known : w.views ≡ witness_of_owner slot true value = owner_views b m on right StandingKind.Shared home kind w grip by slot is in
-    let same = same_recalled b l.place slot true value l.token t (c.recall.ensures slot true value known) in
-    let q = subst (λ (x : Seat ValueFraction View). IsBetweenCalls b l.place l.own x) (sym same) c.self.invariant.0 in
-    let a = c.add_owner.new.token in let n : ℕ = c.add_owner.result in let adds = c.add_owner.ensures value known in
-    let few = counts_fewer n adds.2.several (let small = c.if-add_owner-ge-MOST_SHARED.false in omega arith) in let none = bare b l.place l.own t q in
-    ap (λ (x : FractionContent). x.lent) (unit_is b slot value t a n adds few none c.draw_unit.result.lot c.draw_unit.new.token c.draw_unit.ensures q.knows)
-
-pub cut-other-requires-clause-home : goal.cut-other-requires-clause-home
-cut-other-requires-clause-home g c =
-    let l = c.self.inside in let b = l.domain.now.board in let m : LocalState _ = c.self.view_is 0 in let right = c.args.right.now in
-    let k : ℕ = number_of right in
-    let on = on_board l.domain.now.limits b l.token.table_id c.self.invariant.0.home l.domain.now.limited.1 m refl refl refl in
-    let home = c.requires.home ∙ sym (ap slots_home c.self.view_is) in let found = c.witness-owner.ensures.owner (has_tables m right home) in
-    let by = λ (_ : AreSlotsOfTable (home_of right)). found.1 in let w = c.witness-owner.result.now in let grip = found.0 in let value : Gv = grip.shown in
-    let slot : ℕ = c.number-slot.result in let is = c.number-slot.ensures in let t = c.recall.new.token in let kind = c.requires.kind in
-    let known : w.views ≡ witness_of_owner slot true value = owner_views b m on right StandingKind.Shared home kind w grip by slot is in
-    let same = same_recalled b l.place slot true value l.token t (c.recall.ensures slot true value known) in
-    let q = subst (λ (x : Seat ValueFraction View). IsBetweenCalls b l.place l.own x) (sym same) c.self.invariant.0 in
-    let a = c.add_owner.new.token in let n : ℕ = c.add_owner.result in let adds = c.add_owner.ensures value known in
-    let few = counts_fewer n adds.2.several (let small = c.if-add_owner-ge-MOST_SHARED.false in omega arith) in let none = bare b l.place l.own t q in
-    drawn_home b slot value t a n adds few none c.draw_unit.result.lot c.draw_unit.new.token c.draw_unit.ensures q.knows ∙ q.home
-
-pub cut-other-requires-clause-knows : goal.cut-other-requires-clause-knows
-cut-other-requires-clause-knows g c =
-    let l = c.self.inside in let b = l.domain.now.board in let m : LocalState _ = c.self.view_is 0 in let right = c.args.right.now in
-    let k : ℕ = number_of right in
-    let on = on_board l.domain.now.limits b l.token.table_id c.self.invariant.0.home l.domain.now.limited.1 m refl refl refl in
-    let home = c.requires.home ∙ sym (ap slots_home c.self.view_is) in let found = c.witness-owner.ensures.owner (has_tables m right home) in
-    let by = λ (_ : AreSlotsOfTable (home_of right)). found.1 in let w = c.witness-owner.result.now in let grip = found.0 in let value : Gv = grip.shown in
-    let slot : ℕ = c.number-slot.result in let is = c.number-slot.ensures in let t = c.recall.new.token in let kind = c.requires.kind in
-    let known : w.views ≡ witness_of_owner slot true value = owner_views b m on right StandingKind.Shared home kind w grip by slot is in
-    let same = same_recalled b l.place slot true value l.token t (c.recall.ensures slot true value known) in
-    let q = subst (λ (x : Seat ValueFraction View). IsBetweenCalls b l.place l.own x) (sym same) c.self.invariant.0 in
-    let a = c.add_owner.new.token in let n : ℕ = c.add_owner.result in let adds = c.add_owner.ensures value known in
-    let few = counts_fewer n adds.2.several (let small = c.if-add_owner-ge-MOST_SHARED.false in omega arith) in let none = bare b l.place l.own t q in
-    let v = drawn_view b slot value t a n adds few none c.draw_unit.result.lot c.draw_unit.new.token c.draw_unit.ensures q.knows in
-    (ap (λ (x : View). x.sizes) v ∙ q.knows.0, ap (λ (x : View). x.stakes.book) v ∙ q.knows.1)
-
-pub cut-other-requires-clause-place : goal.cut-other-requires-clause-place
-cut-other-requires-clause-place g c =
-    let l = c.self.inside in let b = l.domain.now.board in let m : LocalState _ = c.self.view_is 0 in let right = c.args.right.now in
-    let k : ℕ = number_of right in
-    let on = on_board l.domain.now.limits b l.token.table_id c.self.invariant.0.home l.domain.now.limited.1 m refl refl refl in
-    let home = c.requires.home ∙ sym (ap slots_home c.self.view_is) in let found = c.witness-owner.ensures.owner (has_tables m right home) in
-    let by = λ (_ : AreSlotsOfTable (home_of right)). found.1 in let w = c.witness-owner.result.now in let grip = found.0 in let value : Gv = grip.shown in
-    let slot : ℕ = c.number-slot.result in let is = c.number-slot.ensures in let t = c.recall.new.token in let kind = c.requires.kind in
-    let known : w.views ≡ witness_of_owner slot true value = owner_views b m on right StandingKind.Shared home kind w grip by slot is in
-    let same = same_recalled b l.place slot true value l.token t (c.recall.ensures slot true value known) in
-    let q = subst (λ (x : Seat ValueFraction View). IsBetweenCalls b l.place l.own x) (sym same) c.self.invariant.0 in
-    let a = c.add_owner.new.token in let n : ℕ = c.add_owner.result in let adds = c.add_owner.ensures value known in
-    let few = counts_fewer n adds.2.several (let small = c.if-add_owner-ge-MOST_SHARED.false in omega arith) in let none = bare b l.place l.own t q in
-    let v = drawn_view b slot value t a n adds few none c.draw_unit.result.lot c.draw_unit.new.token c.draw_unit.ensures q.knows in
-    subst (λ (j : ℕ). 0 < j) (sym (ap (λ (x : View). x.epoch.state) v)) (placed b l.place l.own t q).0
-
-pub cut-other-requires-clause-one : goal.cut-other-requires-clause-one
-cut-other-requires-clause-one g c =
-    let l = c.self.inside in let b = l.domain.now.board in let m : LocalState _ = c.self.view_is 0 in let right = c.args.right.now in
-    let k : ℕ = number_of right in
-    let on = on_board l.domain.now.limits b l.token.table_id c.self.invariant.0.home l.domain.now.limited.1 m refl refl refl in
-    let home = c.requires.home ∙ sym (ap slots_home c.self.view_is) in let found = c.witness-owner.ensures.owner (has_tables m right home) in
-    let by = λ (_ : AreSlotsOfTable (home_of right)). found.1 in let w = c.witness-owner.result.now in let grip = found.0 in let value : Gv = grip.shown in
-    let slot : ℕ = c.number-slot.result in let is = c.number-slot.ensures in let t = c.recall.new.token in let kind = c.requires.kind in
-    let known : w.views ≡ witness_of_owner slot true value = owner_views b m on right StandingKind.Shared home kind w grip by slot is in
-    let same = same_recalled b l.place slot true value l.token t (c.recall.ensures slot true value known) in
-    let q = subst (λ (x : Seat ValueFraction View). IsBetweenCalls b l.place l.own x) (sym same) c.self.invariant.0 in
-    let a = c.add_owner.new.token in let n : ℕ = c.add_owner.result in let adds = c.add_owner.ensures value known in
-    let few = counts_fewer n adds.2.several (let small = c.if-add_owner-ge-MOST_SHARED.false in omega arith) in let none = bare b l.place l.own t q in
-    let one = drawn_owns b slot value t a n adds few none c.draw_unit.result.lot c.draw_unit.new.token c.draw_unit.ensures q.knows in (slot, one.0, one.1)
-
-pub cut-other-requires-clause-free : goal.cut-other-requires-clause-free
-cut-other-requires-clause-free g c =
-    let l = c.self.inside in let b = l.domain.now.board in let m : LocalState _ = c.self.view_is 0 in let right = c.args.right.now in
-    let k : ℕ = number_of right in
-    let on = on_board l.domain.now.limits b l.token.table_id c.self.invariant.0.home l.domain.now.limited.1 m refl refl refl in
-    let home = c.requires.home ∙ sym (ap slots_home c.self.view_is) in let found = c.witness-owner.ensures.owner (has_tables m right home) in
-    let by = λ (_ : AreSlotsOfTable (home_of right)). found.1 in let w = c.witness-owner.result.now in let grip = found.0 in let value : Gv = grip.shown in
-    let slot : ℕ = c.number-slot.result in let is = c.number-slot.ensures in let t = c.recall.new.token in let kind = c.requires.kind in
-    let known : w.views ≡ witness_of_owner slot true value = owner_views b m on right StandingKind.Shared home kind w grip by slot is in
-    let same = same_recalled b l.place slot true value l.token t (c.recall.ensures slot true value known) in
-    let q = subst (λ (x : Seat ValueFraction View). IsBetweenCalls b l.place l.own x) (sym same) c.self.invariant.0 in
-    let a = c.add_owner.new.token in let n : ℕ = c.add_owner.result in let adds = c.add_owner.ensures value known in
-    let few = counts_fewer n adds.2.several (let small = c.if-add_owner-ge-MOST_SHARED.false in omega arith) in let none = bare b l.place l.own t q in
-    let v = drawn_view b slot value t a n adds few none c.draw_unit.result.lot c.draw_unit.new.token c.draw_unit.ensures q.knows in ap
-    (λ (x : View). x.slots.holds) v ∙ q.quiet.holds
-
-pub cut-other-requires-clause-rests : goal.cut-other-requires-clause-rests
-cut-other-requires-clause-rests g c =
-    let l = c.self.inside in let b = l.domain.now.board in let m : LocalState _ = c.self.view_is 0 in let right = c.args.right.now in
-    let k : ℕ = number_of right in
-    let on = on_board l.domain.now.limits b l.token.table_id c.self.invariant.0.home l.domain.now.limited.1 m refl refl refl in
-    let home = c.requires.home ∙ sym (ap slots_home c.self.view_is) in let found = c.witness-owner.ensures.owner (has_tables m right home) in
-    let by = λ (_ : AreSlotsOfTable (home_of right)). found.1 in let w = c.witness-owner.result.now in let grip = found.0 in let value : Gv = grip.shown in
-    let slot : ℕ = c.number-slot.result in let is = c.number-slot.ensures in let t = c.recall.new.token in let kind = c.requires.kind in
-    let known : w.views ≡ witness_of_owner slot true value = owner_views b m on right StandingKind.Shared home kind w grip by slot is in
-    let same = same_recalled b l.place slot true value l.token t (c.recall.ensures slot true value known) in
-    let q = subst (λ (x : Seat ValueFraction View). IsBetweenCalls b l.place l.own x) (sym same) c.self.invariant.0 in
-    let a = c.add_owner.new.token in let n : ℕ = c.add_owner.result in let adds = c.add_owner.ensures value known in
-    let few = counts_fewer n adds.2.several (let small = c.if-add_owner-ge-MOST_SHARED.false in omega arith) in let none = bare b l.place l.own t q in
-    drawn_rests b slot value t a n adds few none c.draw_unit.result.lot c.draw_unit.new.token c.draw_unit.ensures q.knows
-
-pub of_witness-requires-clause-owner : goal.of_witness-requires-clause-owner
-of_witness-requires-clause-owner g c =
-    let l = c.self.inside in let b = l.domain.now.board in let m : LocalState _ = c.self.view_is 0 in let right = c.args.right.now in
-    let k : ℕ = number_of right in
-    let on = on_board l.domain.now.limits b l.token.table_id c.self.invariant.0.home l.domain.now.limited.1 m refl refl refl in
-    let home = c.requires.home ∙ sym (ap slots_home c.self.view_is) in let found = c.witness-owner.ensures.owner (has_tables m right home) in
-    let by = λ (_ : AreSlotsOfTable (home_of right)). found.1 in let w = c.witness-owner.result.now in let grip = found.0 in let value : Gv = grip.shown in
-    let slot : ℕ = c.number-slot.result in let is = c.number-slot.ensures in let t = c.recall.new.token in let kind = c.requires.kind in
-    let known : w.views ≡ witness_of_owner slot true value = owner_views b m on right StandingKind.Shared home kind w grip by slot is in
-    let same = same_recalled b l.place slot true value l.token t (c.recall.ensures slot true value known) in
-    let q = subst (λ (x : Seat ValueFraction View). IsBetweenCalls b l.place l.own x) (sym same) c.self.invariant.0 in
-    let a = c.add_owner.new.token in let n : ℕ = c.add_owner.result in let adds = c.add_owner.ensures value known in
-    let few = counts_fewer n adds.2.several (let small = c.if-add_owner-ge-MOST_SHARED.false in omega arith) in let none = bare b l.place l.own t q in
-    let shows = (other_grip b slot value t a n adds few none c.draw_unit.result.lot c.draw_unit.new.token c.draw_unit.ensures q.knows c.into_grip-grip.result
-    c.into_grip-grip.ensures).shows in
-    other_shows b slot value t a n adds few none c.draw_unit.result.lot c.draw_unit.new.token c.draw_unit.ensures q.knows c.cut-other.result.views
-    c.cut-other.ensures.owner.1 ∙ ap (witness_of_owner slot true) (sym shows)
-
-pub of_witness-requires-clause-place : goal.of_witness-requires-clause-place
-of_witness-requires-clause-place g c =
-    let l = c.self.inside in let b = l.domain.now.board in let m : LocalState _ = c.self.view_is 0 in let right = c.args.right.now in
-    let k : ℕ = number_of right in
-    let on = on_board l.domain.now.limits b l.token.table_id c.self.invariant.0.home l.domain.now.limited.1 m refl refl refl in
-    let home = c.requires.home ∙ sym (ap slots_home c.self.view_is) in let found = c.witness-owner.ensures.owner (has_tables m right home) in
-    let by = λ (_ : AreSlotsOfTable (home_of right)). found.1 in let w = c.witness-owner.result.now in let grip = found.0 in let value : Gv = grip.shown in
-    let slot : ℕ = c.number-slot.result in let is = c.number-slot.ensures in let t = c.recall.new.token in let kind = c.requires.kind in
-    let known : w.views ≡ witness_of_owner slot true value = owner_views b m on right StandingKind.Shared home kind w grip by slot is in
-    let same = same_recalled b l.place slot true value l.token t (c.recall.ensures slot true value known) in
-    let q = subst (λ (x : Seat ValueFraction View). IsBetweenCalls b l.place l.own x) (sym same) c.self.invariant.0 in
-    let a = c.add_owner.new.token in let n : ℕ = c.add_owner.result in let adds = c.add_owner.ensures value known in
-    let few = counts_fewer n adds.2.several (let small = c.if-add_owner-ge-MOST_SHARED.false in omega arith) in let none = bare b l.place l.own t q in
-    (other_grip b slot value t a n adds few none c.draw_unit.result.lot c.draw_unit.new.token c.draw_unit.ensures q.knows c.into_grip-grip.result
-    c.into_grip-grip.ensures).unit.number_is
+pub of_witness-requires : goal.of_witness-requires
+of_witness-requires g c =
+    let l = c.self.inside in let b = l.domain.now.board in let e = recalled g (goal.at.of_witness-requires g c).After-recall in let grip = e.0 in
+    let known = e.1 in let q = known.between in let value : Gv = grip.shown in let slot : ℕ = c.number-slot.result in let t = c.recall.new.token in
+    let kind = c.requires.kind in let a = c.add_owner.new.token in let n : ℕ = c.add_owner.result in let adds = c.add_owner.ensures value known.views in
+    let few = counts_fewer n adds.2.several (let small = c.if-add_owner-ge-MOST_SHARED.false in omega arith) in let none = bare b l.place l.own t q in record {
+      owner =
+        let shows = (other_grip b slot value t a n adds few none c.draw_unit.result.lot c.draw_unit.new.token c.draw_unit.ensures q.knows
+            c.into_grip-grip.result
+        c.into_grip-grip.ensures).shows in
+        other_shows b slot value t a n adds few none c.draw_unit.result.lot c.draw_unit.new.token c.draw_unit.ensures q.knows c.cut-other.result.views
+        c.cut-other.ensures.owner.1 ∙ ap (witness_of_owner slot true) (sym shows);
+      place = (other_grip b slot value t a n adds few none c.draw_unit.result.lot c.draw_unit.new.token c.draw_unit.ensures q.knows c.into_grip-grip.result
+        c.into_grip-grip.ensures).unit.number_is;
+      inside = search rules;
+      kind = search rules;
+    }
 
 pub invariant_of-self-2 : goal.invariant_of-self-2
 invariant_of-self-2 g c =
-    let l = c.self.inside in let b = l.domain.now.board in let m : LocalState _ = c.self.view_is 0 in let right = c.args.right.now in
-    let k : ℕ = number_of right in
-    let on = on_board l.domain.now.limits b l.token.table_id c.self.invariant.0.home l.domain.now.limited.1 m refl refl refl in
-    let home = c.requires.home ∙ sym (ap slots_home c.self.view_is) in let found = c.witness-owner.ensures.owner (has_tables m right home) in
-    let by = λ (_ : AreSlotsOfTable (home_of right)). found.1 in let w = c.witness-owner.result.now in let grip = found.0 in let value : Gv = grip.shown in
-    let slot : ℕ = c.number-slot.result in let is = c.number-slot.ensures in let t = c.recall.new.token in let kind = c.requires.kind in
-    let known : w.views ≡ witness_of_owner slot true value = owner_views b m on right StandingKind.Shared home kind w grip by slot is in
-    let same = same_recalled b l.place slot true value l.token t (c.recall.ensures slot true value known) in
-    let q = subst (λ (x : Seat ValueFraction View). IsBetweenCalls b l.place l.own x) (sym same) c.self.invariant.0 in
-    let a = c.add_owner.new.token in let n : ℕ = c.add_owner.result in let adds = c.add_owner.ensures value known in
+    let l = c.self.inside in let b = l.domain.now.board in let e = recalled g (goal.at.invariant_of-self-2 g c).After-recall in let grip = e.0 in
+    let known = e.1 in let same = known.same in let q = known.between in let value : Gv = grip.shown in let slot : ℕ = c.number-slot.result in
+    let t = c.recall.new.token in let a = c.add_owner.new.token in let n : ℕ = c.add_owner.result in let adds = c.add_owner.ensures value known.views in
     let few = counts_fewer n adds.2.several (let small = c.if-add_owner-ge-MOST_SHARED.false in omega arith) in let none = bare b l.place l.own t q in
     let u = c.cut-other.new.token in
     let left = left_view b slot value t a n adds few none c.draw_unit.result.lot c.draw_unit.new.token c.draw_unit.ensures q.knows u
     c.cut-other.ensures.participant in
-    let words : List ℕ = noted slot (n + 1) t.me.0 in
-    let here = left.2 ∙ ap (λ (x : Seat ValueFraction View). record x.me.0 { words = words }) same in let i = c.self.invariant in (
+    let words : List ℕ = noted slot (n + 1) t.me.0 in let here = left.2 ∙ ap (λ (x : Seat ValueFraction View). record x.me.0 { words = words }) same in
+    let i = c.self.invariant in (
       posed_noted b l.place l.own t q u (words) left.0 left.1 left.2,
       i.1,
       i.2,
@@ -460,62 +178,42 @@ invariant_of-self-2 g c =
       subst (IsTallied 0 l.tally) (sym (ap (λ (v : View). v.stakes.counts) here)) i.5,
     )
 
-pub returns-clause-came : goal.returns-clause-came
-returns-clause-came g c =
+pub returns : goal.returns
+returns g c =
     let l = c.self.inside in let b = l.domain.now.board in let m : LocalState _ = c.self.view_is 0 in let right = c.args.right.now in
-    let k : ℕ = number_of right in
-    let on = on_board l.domain.now.limits b l.token.table_id c.self.invariant.0.home l.domain.now.limited.1 m refl refl refl in
-    let home = c.requires.home ∙ sym (ap slots_home c.self.view_is) in let found = c.witness-owner.ensures.owner (has_tables m right home) in
-    let by = λ (_ : AreSlotsOfTable (home_of right)). found.1 in let w = c.witness-owner.result.now in let grip = found.0 in let value : Gv = grip.shown in
-    let slot : ℕ = c.number-slot.result in let is = c.number-slot.ensures in let t = c.recall.new.token in let kind = c.requires.kind in
-    let known : w.views ≡ witness_of_owner slot true value = owner_views b m on right StandingKind.Shared home kind w grip by slot is in
-    let same = same_recalled b l.place slot true value l.token t (c.recall.ensures slot true value known) in
-    let q = subst (λ (x : Seat ValueFraction View). IsBetweenCalls b l.place l.own x) (sym same) c.self.invariant.0 in
-    let a = c.add_owner.new.token in let n : ℕ = c.add_owner.result in let adds = c.add_owner.ensures value known in
-    let few = counts_fewer n adds.2.several (let small = c.if-add_owner-ge-MOST_SHARED.false in omega arith) in let none = bare b l.place l.own t q in
-    let alone : IsLone m → l.token.me.0.epoch.all ≡ 1
-    = λ lone. c.self.invariant.0.all ∙ (ap (λ (z : Sizes). z.participants) l.domain.now.limited.1 ∙ lone) in
-    let u = c.cut-other.new.token in
-    let left = left_view b slot value t a n adds few none c.draw_unit.result.lot c.draw_unit.new.token c.draw_unit.ensures q.knows u
-    c.cut-other.ensures.participant in
-    let made = c.of_witness.ensures in
-    let unit = other_grip b slot value t a n adds few none c.draw_unit.result.lot c.draw_unit.new.token c.draw_unit.ensures q.knows c.into_grip-grip.result
-    c.into_grip-grip.ensures in (
-      n,
-      (
-        subst (λ (x : LocalState _). AddsAt k n x (with_token m u)) c.self.view_is record {
-          member = noted_at m slot k is true true refl l.token t u same refl alone (λ i z ws. slice_set ws (behind z i) (n + 1)) left.0 left.2;
-          counted = adds.2.several;
-          left = adds.2.left;
-          few = few;
-          lone = λ lone. knew_word m slot k is true true refl l.token t u same refl alone n adds.2.knew lone;
-        },
-        record {
-          slot = made.number ∙ is;
-          home = right_anew b m on right StandingKind.Shared home kind w grip by slot is c.cut-other.result c.into_grip-grip.result
-              l.domain.now.limits.slots c.of_witness.result c.cut-other.ensures.owner.0 unit.unit.book_is refl made.home ∙ sym home;
-          kind = made.kind ∙ sym kind;
-          views = made.views ∙ (other_shows b slot value t a n adds few none c.draw_unit.result.lot c.draw_unit.new.token c.draw_unit.ensures q.knows
-              c.cut-other.result.views c.cut-other.ensures.owner.1
-              ∙ (sym known ∙ c.witness-owner.ensures.views));
-        },
-      ),
-    )
-
-pub returns-clause-recalled : goal.returns-clause-recalled
-returns-clause-recalled g c =
-    let l = c.self.inside in let b = l.domain.now.board in let m : LocalState _ = c.self.view_is 0 in let right = c.args.right.now in
-    let k : ℕ = number_of right in
-    let on = on_board l.domain.now.limits b l.token.table_id c.self.invariant.0.home l.domain.now.limited.1 m refl refl refl in
-    let home = c.requires.home ∙ sym (ap slots_home c.self.view_is) in let found = c.witness-owner.ensures.owner (has_tables m right home) in
-    let by = λ (_ : AreSlotsOfTable (home_of right)). found.1 in let w = c.witness-owner.result.now in let grip = found.0 in let value : Gv = grip.shown in
-    let slot : ℕ = c.number-slot.result in let is = c.number-slot.ensures in let t = c.recall.new.token in let kind = c.requires.kind in
-    let known : w.views ≡ witness_of_owner slot true value = owner_views b m on right StandingKind.Shared home kind w grip by slot is in
-    let same = same_recalled b l.place slot true value l.token t (c.recall.ensures slot true value known) in
-    let q = subst (λ (x : Seat ValueFraction View). IsBetweenCalls b l.place l.own x) (sym same) c.self.invariant.0 in
-    let told = owner_views b m on right StandingKind.Shared home kind w grip by k refl in
-    subst (λ (x : LocalState _). IsLone x → (value : Gv) × KnowsOwner x k true value) c.self.view_is (λ lone. (
-      value,
-      recalls_to m k true value l.token t (c.recall.ensures k true value told)
-          (c.self.invariant.0.all ∙ ap (λ (z : Sizes). z.participants) l.domain.now.limited.1) lone,
-    ))
+    let e = recalled g (goal.at.returns g c).After-recall in let grip = e.0 in let known = e.1 in let same = known.same in let q = known.between in
+    let k : ℕ = number_of right in let w = c.witness-owner.result.now in let value : Gv = grip.shown in let slot : ℕ = c.number-slot.result in
+    let is = c.number-slot.ensures in let t = c.recall.new.token in let kind = c.requires.kind in record {
+      came =
+        let a = c.add_owner.new.token in let n : ℕ = c.add_owner.result in let adds = c.add_owner.ensures value known.views in
+        let few = counts_fewer n adds.2.several (let small = c.if-add_owner-ge-MOST_SHARED.false in omega arith) in let none = bare b l.place l.own t q in
+        let u = c.cut-other.new.token in
+        let left = left_view b slot value t a n adds few none c.draw_unit.result.lot c.draw_unit.new.token c.draw_unit.ensures q.knows u
+        c.cut-other.ensures.participant in
+        let made = c.of_witness.ensures in
+        let unit = other_grip b slot value t a n adds few none c.draw_unit.result.lot c.draw_unit.new.token c.draw_unit.ensures q.knows c.into_grip-grip.result
+        c.into_grip-grip.ensures in (
+          n,
+          (
+            subst (λ (x : LocalState _). AddsAt k n x (with_token m u)) c.self.view_is record {
+              member = noted_at m slot k is true true refl l.token t u same refl known.all (λ i z ws. slice_set ws (behind z i) (n + 1)) left.0 left.2;
+              counted = adds.2.several;
+              left = adds.2.left;
+              few = few;
+              lone = λ lone. knew_word m slot k is true true refl l.token t u same refl known.all n adds.2.knew lone;
+            },
+            record {
+              slot = made.number ∙ is;
+              home = right_anew b m known.on right StandingKind.Shared known.home kind w grip (λ _. known.owner) slot is c.cut-other.result
+                  c.into_grip-grip.result
+                  l.domain.now.limits.slots c.of_witness.result c.cut-other.ensures.owner.0 unit.unit.book_is refl made.home ∙ sym known.home;
+              kind = made.kind ∙ sym kind;
+              views = made.views ∙ (other_shows b slot value t a n adds few none c.draw_unit.result.lot c.draw_unit.new.token c.draw_unit.ensures q.knows
+                  c.cut-other.result.views c.cut-other.ensures.owner.1
+                  ∙ (sym known.views ∙ c.witness-owner.ensures.views));
+            },
+          ),
+        );
+      recalled = subst (λ (x : LocalState _). IsLone x → (value : Gv) × KnowsOwner x (number_of right) true value) c.self.view_is
+        (λ lone. (value, known.tells lone));
+    }

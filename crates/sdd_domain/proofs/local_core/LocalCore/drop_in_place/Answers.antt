@@ -1,4 +1,4 @@
-use Rattle.std.proofs.Common.{◌≡◌, inl, inr, ℕ, ◌-◌, ◌<◌, List, refl, sym, ap, ◌∙◌, subst, ⊎_elim}
+use Rattle.std.proofs.Common.{◌≡◌, inl, inr, ℕ, ◌-◌, ◌<◌, List, refl, sym, ap, ◌∙◌, subst, ⊎_elim, rules}
 use Rattle.std.specs.Prelude.{Bool, true, Option, IfSome}
 use base.Stored.{Gv}
 use Rattle.atomic_table.specs.declared.shared.Seat.{Seat}
@@ -11,13 +11,12 @@ use Rattle.sdd_rights.specs.Right.{number_of}
 use Rattle.sdd_shared_values.specs.SharedValues.{showing}
 use Rattle.sdd_shared_values.specs.declared.value_fraction.ValueFraction.{ValueFraction}
 use Rattle.sdd_space.specs.OwnerOrCell.{AreOf}
-use Rattle.sdd_views.specs.declared.Sizes.{Sizes}
 use Rattle.sdd_views.specs.declared.View.{View}
 use Rattle.sdd_word_invariant.specs.Epoch.{IsLone as IsLoneAt}
 use Rattle.sdd_word_invariant.specs.SlotSteps.{noted}
 use Rattle.sdd_atomics.specs.DomainTable.{id_of, book_of, slots_of}
 use Rattle.sdd_atomics.specs.DomainSeat.{epoch}
-use Rattle.sdd_domain.specs.BetweenCalls.{AreLentTo, IsBetweenCalls, IsReady}
+use Rattle.sdd_domain.specs.BetweenCalls.{AreLentTo, IsReady}
 use Rattle.sdd_domain.specs.InBags.{KnownWaiting, known_waiting}
 use Rattle.sdd_domain.specs.Claims.{IsUnmoved}
 use Rattle.sdd_domain.specs.InPlace.{IsLetGoOf, with_dropped}
@@ -26,86 +25,46 @@ use Rattle.sdd_domain.specs.Items.{HasValue, slots_home}
 use Rattle.sdd_domain.specs.LocalState.{DropsAt, GoesBeside, IsLone, KnowsOwner, LocalState, SeesGuard}
 use Rattle.sdd_domain.specs.Receipt.{IsTallied}
 use Rattle.sdd_domain.specs.SpaceIds.{home_in, home_of_slots}
-use Rattle.sdd_domain.proofs.Housed.{from_board, on_board}
-use Rattle.sdd_domain.proofs.InPlace.{back_view, bare, gone_beside, guard_of, guarded_at, knew_sole, owner_has, owner_inside, owner_views, placed, posed_noted, right_back, unmoved_at}
-use Rattle.sdd_domain.proofs.Members.{recalls_to, with_token, with_view}
-use Rattle.sdd_domain.proofs.Posing.{posed_with, same_recalled}
+use Rattle.sdd_domain.proofs.Housed.{from_board}
+use Rattle.sdd_domain.proofs.InPlace.{back_view, bare, gone_beside, guard_of, guarded_at, knew_sole, owner_inside, placed, posed_noted, right_back, unmoved_at}
+use Rattle.sdd_domain.proofs.Members.{with_token, with_view}
+use Rattle.sdd_domain.proofs.Posing.{posed_with}
 use Rattle.sdd_domain.proofs.Tallies.{tallied_in_place}
+use Rattle.sdd_domain.proofs.Recalled.{IsRecalled, is_recalled}
+use Rattle.sdd_domain.proofs.local_core.LocalCore.drop_in_place.Given.{Over}
+use Rattle.sdd_domain.proofs.local_core.LocalCore.drop_in_place.Goals.{After-recall}
 use Rattle.sdd_domain.proofs.local_core.LocalCore.drop_in_place.Goals as goal
 
-pub go_in_place-requires-clause-home : goal.go_in_place-requires-clause-home
-go_in_place-requires-clause-home g c =
-    let l = c.self.inside in let b = l.domain.now.board in let m : LocalState _ = c.self.view_is 0 in let right = c.args.right in let kind = c.args.kind in
-    let on = on_board l.domain.now.limits b l.token.table_id c.self.invariant.0.home l.domain.now.limited.1 m refl refl refl in
-    let home = c.requires.home ∙ sym (ap slots_home c.self.view_is) in
-    let w = c.into_owner-owner.result.0 in let grip = c.into_owner-owner.result.1 in let by = c.into_owner-owner.ensures.owner in
-    let slot : ℕ = c.number-slot.result in let is = c.number-slot.ensures in let t = c.recall.new.token in
-    let known = owner_views b m on right kind home c.requires.kind w grip by slot is in
-    let same = same_recalled b l.place slot (is_shared kind) grip.shown l.token t (c.recall.ensures slot (is_shared kind) grip.shown known) in
-    let q = subst (λ (x : Seat ValueFraction View). IsBetweenCalls b l.place l.own x) (sym same) c.self.invariant.0 in
-    q.home
+-- the owner was recalled
+recalled : (g : Over) (c : After-recall g) → IsRecalled c.self.inside.domain.now.board c.self.inside.place c.self.inside.own (c.self.view_is 0)
+    c.args.right c.args.kind c.into_owner-owner.result.0 c.into_owner-owner.result.1 c.number-slot.result c.self.inside.token c.recall.new.token
+recalled g c = let l = c.self.inside in
+    is_recalled l.domain.now.limits l.domain.now.board l.place l.own (c.self.view_is 0) c.args.right c.args.kind c.into_owner-owner.result.0
+    c.into_owner-owner.result.1 c.number-slot.result l.token c.recall.new.token l.domain.now.limited.1 refl refl refl
+    (c.requires.home ∙ sym (ap slots_home c.self.view_is)) c.requires.kind c.into_owner-owner.ensures.owner c.number-slot.ensures c.recall.ensures
+    c.self.invariant.0
 
-pub go_in_place-requires-clause-knows : goal.go_in_place-requires-clause-knows
-go_in_place-requires-clause-knows g c =
-    let l = c.self.inside in let b = l.domain.now.board in let m : LocalState _ = c.self.view_is 0 in let right = c.args.right in let kind = c.args.kind in
-    let on = on_board l.domain.now.limits b l.token.table_id c.self.invariant.0.home l.domain.now.limited.1 m refl refl refl in
-    let home = c.requires.home ∙ sym (ap slots_home c.self.view_is) in
-    let w = c.into_owner-owner.result.0 in let grip = c.into_owner-owner.result.1 in let by = c.into_owner-owner.ensures.owner in
-    let slot : ℕ = c.number-slot.result in let is = c.number-slot.ensures in let t = c.recall.new.token in
-    let known = owner_views b m on right kind home c.requires.kind w grip by slot is in
-    let same = same_recalled b l.place slot (is_shared kind) grip.shown l.token t (c.recall.ensures slot (is_shared kind) grip.shown known) in
-    let q = subst (λ (x : Seat ValueFraction View). IsBetweenCalls b l.place l.own x) (sym same) c.self.invariant.0 in
-    q.knows
-
-pub go_in_place-requires-clause-place : goal.go_in_place-requires-clause-place
-go_in_place-requires-clause-place g c =
-    let l = c.self.inside in let b = l.domain.now.board in let m : LocalState _ = c.self.view_is 0 in let right = c.args.right in let kind = c.args.kind in
-    let on = on_board l.domain.now.limits b l.token.table_id c.self.invariant.0.home l.domain.now.limited.1 m refl refl refl in
-    let home = c.requires.home ∙ sym (ap slots_home c.self.view_is) in
-    let w = c.into_owner-owner.result.0 in let grip = c.into_owner-owner.result.1 in let by = c.into_owner-owner.ensures.owner in
-    let slot : ℕ = c.number-slot.result in let is = c.number-slot.ensures in let t = c.recall.new.token in
-    let known = owner_views b m on right kind home c.requires.kind w grip by slot is in
-    let same = same_recalled b l.place slot (is_shared kind) grip.shown l.token t (c.recall.ensures slot (is_shared kind) grip.shown known) in
-    let q = subst (λ (x : Seat ValueFraction View). IsBetweenCalls b l.place l.own x) (sym same) c.self.invariant.0 in
-    placed b l.place l.own t q
-
-pub go_in_place-requires-clause-bare : goal.go_in_place-requires-clause-bare
-go_in_place-requires-clause-bare g c =
-    let l = c.self.inside in let b = l.domain.now.board in let m : LocalState _ = c.self.view_is 0 in let right = c.args.right in let kind = c.args.kind in
-    let on = on_board l.domain.now.limits b l.token.table_id c.self.invariant.0.home l.domain.now.limited.1 m refl refl refl in
-    let home = c.requires.home ∙ sym (ap slots_home c.self.view_is) in
-    let w = c.into_owner-owner.result.0 in let grip = c.into_owner-owner.result.1 in let by = c.into_owner-owner.ensures.owner in
-    let slot : ℕ = c.number-slot.result in let is = c.number-slot.ensures in let t = c.recall.new.token in
-    let known = owner_views b m on right kind home c.requires.kind w grip by slot is in
-    let same = same_recalled b l.place slot (is_shared kind) grip.shown l.token t (c.recall.ensures slot (is_shared kind) grip.shown known) in
-    let q = subst (λ (x : Seat ValueFraction View). IsBetweenCalls b l.place l.own x) (sym same) c.self.invariant.0 in
-    bare b l.place l.own t q
-
-pub go_in_place-requires-clause-closes : goal.go_in_place-requires-clause-closes
-go_in_place-requires-clause-closes g c =
-    let l = c.self.inside in let b = l.domain.now.board in let m : LocalState _ = c.self.view_is 0 in let right = c.args.right in let kind = c.args.kind in
-    let on = on_board l.domain.now.limits b l.token.table_id c.self.invariant.0.home l.domain.now.limited.1 m refl refl refl in
-    let home = c.requires.home ∙ sym (ap slots_home c.self.view_is) in
-    let w = c.into_owner-owner.result.0 in let grip = c.into_owner-owner.result.1 in let by = c.into_owner-owner.ensures.owner in
-    let slot : ℕ = c.number-slot.result in let is = c.number-slot.ensures in let t = c.recall.new.token in
-    let known = owner_views b m on right kind home c.requires.kind w grip by slot is in
-    let same = same_recalled b l.place slot (is_shared kind) grip.shown l.token t (c.recall.ensures slot (is_shared kind) grip.shown known) in
-    let q = subst (λ (x : Seat ValueFraction View). IsBetweenCalls b l.place l.own x) (sym same) c.self.invariant.0 in
-    ap (λ (x : Seat ValueFraction View). x.me.0.slots.closes) same ∙ (ap (λ (m : LocalState _). m.slots.closes) c.self.view_is ∙ c.requires.closes)
+pub go_in_place-requires : goal.go_in_place-requires
+go_in_place-requires g c =
+    let l = c.self.inside in let b = l.domain.now.board in let m : LocalState _ = c.self.view_is 0 in
+    let known = recalled g (goal.at.go_in_place-requires g c).After-recall in let same = known.same in let q = known.between in let t = c.recall.new.token in
+    record {
+      home = q.home;
+      shelf = search rules;
+      knows = q.knows;
+      inside = search rules;
+      place = placed b l.place l.own t q;
+      bare = bare b l.place l.own t q;
+      closes = ap (λ (x : Seat ValueFraction View). x.me.0.slots.closes) same ∙ (ap (λ (m : LocalState _). m.slots.closes) c.self.view_is ∙ c.requires.closes);
+      owner = search rules;
+      tries = search rules;
+    }
 
 pub invariant_of-self : goal.invariant_of-self
 invariant_of-self g c =
-    let l = c.self.inside in let b = l.domain.now.board in let m : LocalState _ = c.self.view_is 0 in let right = c.args.right in let kind = c.args.kind in
-    let on = on_board l.domain.now.limits b l.token.table_id c.self.invariant.0.home l.domain.now.limited.1 m refl refl refl in
-    let home = c.requires.home ∙ sym (ap slots_home c.self.view_is) in
-    let w = c.into_owner-owner.result.0 in let grip = c.into_owner-owner.result.1 in let by = c.into_owner-owner.ensures.owner in
-    let slot : ℕ = c.number-slot.result in let is = c.number-slot.ensures in let t = c.recall.new.token in
-    let known = owner_views b m on right kind home c.requires.kind w grip by slot is in
-    let same = same_recalled b l.place slot (is_shared kind) grip.shown l.token t (c.recall.ensures slot (is_shared kind) grip.shown known) in
-    let q = subst (λ (x : Seat ValueFraction View). IsBetweenCalls b l.place l.own x) (sym same) c.self.invariant.0 in
-    let shared : Bool = c.is_one_of_several-shared.result in let sorted = c.is_one_of_several-shared.ensures in let k : ℕ = number_of right in
-    let u = c.go_in_place.new.token in let alone : IsLone m → l.token.me.0.epoch.all ≡ 1
-    = λ lone. c.self.invariant.0.all ∙ (ap (λ (z : Sizes). z.participants) l.domain.now.limited.1 ∙ lone) in
+    let l = c.self.inside in let b = l.domain.now.board in let known = recalled g (goal.at.invariant_of-self g c).After-recall in let same = known.same in
+    let q = known.between in let w = c.into_owner-owner.result.0 in let slot : ℕ = c.number-slot.result in let is = c.number-slot.ensures in
+    let t = c.recall.new.token in let u = c.go_in_place.new.token in
     let gone = subst (λ (o : Option g.row.T.Denot). Goes g.row.T slot c.is_one_of_several-shared.result w.views o t u) c.in-Some.is c.in-Ok.ensures.0 in
     let here = gone.view ∙ ap (λ (x : Seat ValueFraction View). with_dropped slot x.me.0) same in let i = c.self.invariant in (
       posed_with b l.place l.own t u t.me.0.stakes.filled (with_dropped slot t.me.0).stakes.counts (with_dropped slot t.me.0).words q
@@ -122,17 +81,9 @@ invariant_of-self g c =
 
 pub invariant_of-self-in-None : goal.invariant_of-self-in-None
 invariant_of-self-in-None g c =
-    let l = c.self.inside in let b = l.domain.now.board in let m : LocalState _ = c.self.view_is 0 in let right = c.args.right in let kind = c.args.kind in
-    let on = on_board l.domain.now.limits b l.token.table_id c.self.invariant.0.home l.domain.now.limited.1 m refl refl refl in
-    let home = c.requires.home ∙ sym (ap slots_home c.self.view_is) in
-    let w = c.into_owner-owner.result.0 in let grip = c.into_owner-owner.result.1 in let by = c.into_owner-owner.ensures.owner in
-    let slot : ℕ = c.number-slot.result in let is = c.number-slot.ensures in let t = c.recall.new.token in
-    let known = owner_views b m on right kind home c.requires.kind w grip by slot is in
-    let same = same_recalled b l.place slot (is_shared kind) grip.shown l.token t (c.recall.ensures slot (is_shared kind) grip.shown known) in
-    let q = subst (λ (x : Seat ValueFraction View). IsBetweenCalls b l.place l.own x) (sym same) c.self.invariant.0 in
-    let shared : Bool = c.is_one_of_several-shared.result in let sorted = c.is_one_of_several-shared.ensures in let k : ℕ = number_of right in
-    let u = c.go_in_place.new.token in let alone : IsLone m → l.token.me.0.epoch.all ≡ 1
-    = λ lone. c.self.invariant.0.all ∙ (ap (λ (z : Sizes). z.participants) l.domain.now.limited.1 ∙ lone) in
+    let l = c.self.inside in let b = l.domain.now.board in let known = recalled g (goal.at.invariant_of-self-in-None g c).After-recall in let same = known.same in
+    let q = known.between in let w = c.into_owner-owner.result.0 in let slot : ℕ = c.number-slot.result in let is = c.number-slot.ensures in
+    let t = c.recall.new.token in let u = c.go_in_place.new.token in
     let beside = subst (λ (o : Option g.row.T.Denot). Goes g.row.T slot c.is_one_of_several-shared.result w.views o t u) c.in-None.is c.in-Ok.ensures.0 in
     let gone = beside.gone in let words : List ℕ = noted slot (beside.word - 1) t.me.0 in
     let here = gone.view ∙ ap (λ (x : Seat ValueFraction View). record x.me.0 { words = words }) same in let i = c.self.invariant in (
@@ -144,53 +95,24 @@ invariant_of-self-in-None g c =
       subst (IsTallied 0 l.tally) (sym (ap (λ (v : View). v.stakes.counts) here)) i.5,
     )
 
-pub of_witness-requires-clause-owner : goal.of_witness-requires-clause-owner
-of_witness-requires-clause-owner g c =
-    let l = c.self.inside in let b = l.domain.now.board in let m : LocalState _ = c.self.view_is 0 in let right = c.args.right in let kind = c.args.kind in
-    let on = on_board l.domain.now.limits b l.token.table_id c.self.invariant.0.home l.domain.now.limited.1 m refl refl refl in
-    let home = c.requires.home ∙ sym (ap slots_home c.self.view_is) in
-    let w = c.into_owner-owner.result.0 in let grip = c.into_owner-owner.result.1 in let by = c.into_owner-owner.ensures.owner in
-    let slot : ℕ = c.number-slot.result in let is = c.number-slot.ensures in let t = c.recall.new.token in
-    let known = owner_views b m on right kind home c.requires.kind w grip by slot is in
-    let same = same_recalled b l.place slot (is_shared kind) grip.shown l.token t (c.recall.ensures slot (is_shared kind) grip.shown known) in
-    let q = subst (λ (x : Seat ValueFraction View). IsBetweenCalls b l.place l.own x) (sym same) c.self.invariant.0 in
-    let shared : Bool = c.is_one_of_several-shared.result in let sorted = c.is_one_of_several-shared.ensures in let k : ℕ = number_of right in
-    let u = c.go_in_place.new.token in let alone : IsLone m → l.token.me.0.epoch.all ≡ 1
-    = λ lone. c.self.invariant.0.all ∙ (ap (λ (z : Sizes). z.participants) l.domain.now.limited.1 ∙ lone) in
-    let views = known ∙ ap (λ (s : Bool). witness_of_owner slot s grip.shown) (sym sorted) in let back = c.in-Err.ensures in
-    let shows = back.2 grip.shown views in
-    back.1 ∙ (known ∙ ap (witness_of_owner slot (is_shared kind)) (sym shows.shows))
-
-pub of_witness-requires-clause-place : goal.of_witness-requires-clause-place
-of_witness-requires-clause-place g c =
-    let l = c.self.inside in let b = l.domain.now.board in let m : LocalState _ = c.self.view_is 0 in let right = c.args.right in let kind = c.args.kind in
-    let on = on_board l.domain.now.limits b l.token.table_id c.self.invariant.0.home l.domain.now.limited.1 m refl refl refl in
-    let home = c.requires.home ∙ sym (ap slots_home c.self.view_is) in
-    let w = c.into_owner-owner.result.0 in let grip = c.into_owner-owner.result.1 in let by = c.into_owner-owner.ensures.owner in
-    let slot : ℕ = c.number-slot.result in let is = c.number-slot.ensures in let t = c.recall.new.token in
-    let known = owner_views b m on right kind home c.requires.kind w grip by slot is in
-    let same = same_recalled b l.place slot (is_shared kind) grip.shown l.token t (c.recall.ensures slot (is_shared kind) grip.shown known) in
-    let q = subst (λ (x : Seat ValueFraction View). IsBetweenCalls b l.place l.own x) (sym same) c.self.invariant.0 in
-    let shared : Bool = c.is_one_of_several-shared.result in let sorted = c.is_one_of_several-shared.ensures in let k : ℕ = number_of right in
-    let u = c.go_in_place.new.token in let alone : IsLone m → l.token.me.0.epoch.all ≡ 1
-    = λ lone. c.self.invariant.0.all ∙ (ap (λ (z : Sizes). z.participants) l.domain.now.limited.1 ∙ lone) in
-    let views = known ∙ ap (λ (s : Bool). witness_of_owner slot s grip.shown) (sym sorted) in
-    (c.in-Err.ensures.2 grip.shown views).unit.number_is
+pub of_witness-requires : goal.of_witness-requires
+of_witness-requires g c =
+    let kind = c.args.kind in let known = recalled g (goal.at.of_witness-requires g c).After-recall in let grip = c.into_owner-owner.result.1 in
+    let slot : ℕ = c.number-slot.result in let sorted = c.is_one_of_several-shared.ensures in
+    let views = known.views ∙ ap (λ (s : Bool). witness_of_owner slot s grip.shown) (sym sorted) in record {
+      owner =
+        let back = c.in-Err.ensures in let shows = back.2 grip.shown views in
+        back.1 ∙ (known.views ∙ ap (witness_of_owner slot (is_shared kind)) (sym shows.shows));
+      place = (c.in-Err.ensures.2 grip.shown views).unit.number_is;
+      inside = search rules;
+      kind = search rules;
+    }
 
 pub invariant_of-self-in-Err : goal.invariant_of-self-in-Err
 invariant_of-self-in-Err g c =
-    let l = c.self.inside in let b = l.domain.now.board in let m : LocalState _ = c.self.view_is 0 in let right = c.args.right in let kind = c.args.kind in
-    let on = on_board l.domain.now.limits b l.token.table_id c.self.invariant.0.home l.domain.now.limited.1 m refl refl refl in
-    let home = c.requires.home ∙ sym (ap slots_home c.self.view_is) in
-    let w = c.into_owner-owner.result.0 in let grip = c.into_owner-owner.result.1 in let by = c.into_owner-owner.ensures.owner in
-    let slot : ℕ = c.number-slot.result in let is = c.number-slot.ensures in let t = c.recall.new.token in
-    let known = owner_views b m on right kind home c.requires.kind w grip by slot is in
-    let same = same_recalled b l.place slot (is_shared kind) grip.shown l.token t (c.recall.ensures slot (is_shared kind) grip.shown known) in
-    let q = subst (λ (x : Seat ValueFraction View). IsBetweenCalls b l.place l.own x) (sym same) c.self.invariant.0 in
-    let shared : Bool = c.is_one_of_several-shared.result in let sorted = c.is_one_of_several-shared.ensures in let k : ℕ = number_of right in
-    let u = c.go_in_place.new.token in let alone : IsLone m → l.token.me.0.epoch.all ≡ 1
-    = λ lone. c.self.invariant.0.all ∙ (ap (λ (z : Sizes). z.participants) l.domain.now.limited.1 ∙ lone) in
-    let e = back_view slot shared c.in-Err.refused t u c.in-Err.ensures.3 in
+    let l = c.self.inside in let b = l.domain.now.board in let known = recalled g (goal.at.invariant_of-self-in-Err g c).After-recall in let same = known.same in
+    let q = known.between in let slot : ℕ = c.number-slot.result in let t = c.recall.new.token in let shared : Bool = c.is_one_of_several-shared.result in
+    let u = c.go_in_place.new.token in let e = back_view slot shared c.in-Err.refused t u c.in-Err.ensures.3 in
     let here = e.3 ∙ ap (λ (x : Seat ValueFraction View). record x.me.0 { words = e.0 }) same in let i = c.self.invariant in (
       posed_noted b l.place l.own t q u (e.0) e.1 e.2 e.3,
       i.1,
@@ -200,138 +122,80 @@ invariant_of-self-in-Err g c =
       subst (IsTallied 0 l.tally) (sym (ap (λ (v : View). v.stakes.counts) here)) i.5,
     )
 
-pub returns-in-Some-clause-gone : goal.returns-in-Some-clause-gone
-returns-in-Some-clause-gone g c =
+pub returns-in-Some : goal.returns-in-Some
+returns-in-Some g c =
     let l = c.self.inside in let b = l.domain.now.board in let m : LocalState _ = c.self.view_is 0 in let right = c.args.right in let kind = c.args.kind in
-    let on = on_board l.domain.now.limits b l.token.table_id c.self.invariant.0.home l.domain.now.limited.1 m refl refl refl in
-    let home = c.requires.home ∙ sym (ap slots_home c.self.view_is) in
-    let w = c.into_owner-owner.result.0 in let grip = c.into_owner-owner.result.1 in let by = c.into_owner-owner.ensures.owner in
-    let slot : ℕ = c.number-slot.result in let is = c.number-slot.ensures in let t = c.recall.new.token in
-    let known = owner_views b m on right kind home c.requires.kind w grip by slot is in
-    let same = same_recalled b l.place slot (is_shared kind) grip.shown l.token t (c.recall.ensures slot (is_shared kind) grip.shown known) in
-    let q = subst (λ (x : Seat ValueFraction View). IsBetweenCalls b l.place l.own x) (sym same) c.self.invariant.0 in
-    let shared : Bool = c.is_one_of_several-shared.result in let sorted = c.is_one_of_several-shared.ensures in let k : ℕ = number_of right in
-    let u = c.go_in_place.new.token in let alone : IsLone m → l.token.me.0.epoch.all ≡ 1
-    = λ lone. c.self.invariant.0.all ∙ (ap (λ (z : Sizes). z.participants) l.domain.now.limited.1 ∙ lone) in
-    let gone = subst (λ (o : Option g.row.T.Denot). Goes g.row.T slot c.is_one_of_several-shared.result w.views o t u) c.in-Some.is c.in-Ok.ensures.0 in
-    let value : Gv = showing g.row.T c.in-Some.value in
-    let here = gone.view ∙ ap (λ (x : Seat ValueFraction View). with_dropped slot x.me.0) same in
-    let at = here ∙ ap (λ (j : ℕ). with_dropped j l.token.me.0) is in
-    let moved = gone.table ∙ ap (λ (x : Seat ValueFraction View). x.table_id) same in
-    let fits = subst (λ (o : Option g.row.T.Denot). IfSome o (λ v. AreOf (home_of_slots (id_of b) (book_of b) (slots_of b)) (g.T.Item.holds v)))
-    c.in-Some.is c.in-Ok.ensures.1 in
-    let low = owner_inside b m on right kind home c.requires.kind w grip by slot is c.into_owner-owner.ensures.inside in
-    let now : LocalState _ = record (with_view m u.table_id u.me.0) { tally = c.count_in_place.new.self } in (
-      sym c.into_owner-owner.ensures.views ∙ (gone.told ∙ (λ d. witness_of_owner (is d) ((sorted ∙ ap is_shared (sym c.requires.kind)) d) value)),
-      subst (λ (x : LocalState _). DropsAt k (is_shared kind) x now) c.self.view_is record {
-        inside = subst (λ (n : ℕ). k < n) (sym on.slots) (subst (λ (j : ℕ). j < slots_of b) is low);
-        member = λ d. record (with_view m (moved d) (at d)) { tally = c.count_in_place.ensures d };
-        sole = knew_sole m slot k is shared (is_shared kind) sorted l.token t u same refl alone gone.sole;
-        quiet = λ some_open. gone.quiet (q.opened some_open);
-      },
-      subst (λ (x : LocalState _). AreOf (home_in x) (g.T.Item.holds c.in-Some.value)) c.self.view_is
-          (from_board b m on (g.T.Item.holds c.in-Some.value) fits),
-    )
+    let known = recalled g (goal.at.returns-in-Some g c).After-recall in let same = known.same in let q = known.between in let w = c.into_owner-owner.result.0 in
+    let grip = c.into_owner-owner.result.1 in let slot : ℕ = c.number-slot.result in let is = c.number-slot.ensures in let t = c.recall.new.token in record {
+      gone =
+        let shared : Bool = c.is_one_of_several-shared.result in let sorted = c.is_one_of_several-shared.ensures in let k : ℕ = number_of right in
+        let u = c.go_in_place.new.token in
+        let gone = subst (λ (o : Option g.row.T.Denot). Goes g.row.T slot c.is_one_of_several-shared.result w.views o t u) c.in-Some.is c.in-Ok.ensures.0 in
+        let value : Gv = showing g.row.T c.in-Some.value in let here = gone.view ∙ ap (λ (x : Seat ValueFraction View). with_dropped slot x.me.0) same in
+        let at = here ∙ ap (λ (j : ℕ). with_dropped j l.token.me.0) is in let moved = gone.table ∙ ap (λ (x : Seat ValueFraction View). x.table_id) same in
+        let fits = subst (λ (o : Option g.row.T.Denot). IfSome o (λ v. AreOf (home_of_slots (id_of b) (book_of b) (slots_of b)) (g.T.Item.holds v)))
+        c.in-Some.is c.in-Ok.ensures.1 in
+        let low = owner_inside b m known.on right kind known.home c.requires.kind w grip (λ _. known.owner) slot is c.into_owner-owner.ensures.inside in
+        let now : LocalState _ = record (with_view m u.table_id u.me.0) { tally = c.count_in_place.new.self } in (
+          sym c.into_owner-owner.ensures.views ∙ (gone.told ∙ (λ d. witness_of_owner (is d) ((sorted ∙ ap is_shared (sym c.requires.kind)) d) value)),
+          subst (λ (x : LocalState _). DropsAt k (is_shared kind) x now) c.self.view_is record {
+            inside = subst (λ (n : ℕ). k < n) (sym known.on.slots) (subst (λ (j : ℕ). j < slots_of b) is low);
+            member = λ d. record (with_view m (moved d) (at d)) { tally = c.count_in_place.ensures d };
+            sole = knew_sole m slot k is shared (is_shared kind) sorted l.token t u same refl known.all gone.sole;
+            quiet = λ some_open. gone.quiet (q.opened some_open);
+          },
+          subst (λ (x : LocalState _). AreOf (home_in x) (g.T.Item.holds c.in-Some.value)) c.self.view_is
+              (from_board b m known.on (g.T.Item.holds c.in-Some.value) fits),
+        );
+      recalled = subst (λ (x : LocalState _). IsLone x → (value : Gv) × HasValue value right × KnowsOwner x (number_of right) (is_shared kind) value)
+          c.self.view_is
+        (λ lone. (grip.shown, known.has c.into_owner-owner.ensures.views, known.tells lone));
+    }
 
-pub returns-in-Some-clause-recalled : goal.returns-in-Some-clause-recalled
-returns-in-Some-clause-recalled g c =
+pub returns-in-None : goal.returns-in-None
+returns-in-None g c =
     let l = c.self.inside in let b = l.domain.now.board in let m : LocalState _ = c.self.view_is 0 in let right = c.args.right in let kind = c.args.kind in
-    let on = on_board l.domain.now.limits b l.token.table_id c.self.invariant.0.home l.domain.now.limited.1 m refl refl refl in
-    let home = c.requires.home ∙ sym (ap slots_home c.self.view_is) in
-    let w = c.into_owner-owner.result.0 in let grip = c.into_owner-owner.result.1 in let by = c.into_owner-owner.ensures.owner in
-    let slot : ℕ = c.number-slot.result in let is = c.number-slot.ensures in let t = c.recall.new.token in
-    let known = owner_views b m on right kind home c.requires.kind w grip by slot is in
-    let same = same_recalled b l.place slot (is_shared kind) grip.shown l.token t (c.recall.ensures slot (is_shared kind) grip.shown known) in
-    let q = subst (λ (x : Seat ValueFraction View). IsBetweenCalls b l.place l.own x) (sym same) c.self.invariant.0 in
-    let j : ℕ = number_of right in let told = owner_views b m on right kind home c.requires.kind w grip by j refl in
-    subst (λ (x : LocalState _). IsLone x → (value : Gv) × HasValue value right × KnowsOwner x j (is_shared kind) value) c.self.view_is (λ lone. (
-      grip.shown,
-      owner_has b m on right kind home c.requires.kind w grip by slot is c.into_owner-owner.ensures.views,
-      recalls_to m j (is_shared kind) grip.shown l.token t (c.recall.ensures j (is_shared kind) grip.shown told)
-          (c.self.invariant.0.all ∙ ap (λ (z : Sizes). z.participants) l.domain.now.limited.1) lone,
-    ))
+    let known = recalled g (goal.at.returns-in-None g c).After-recall in let same = known.same in let w = c.into_owner-owner.result.0 in
+    let grip = c.into_owner-owner.result.1 in let slot : ℕ = c.number-slot.result in let is = c.number-slot.ensures in let t = c.recall.new.token in record {
+      gone =
+        let shared : Bool = c.is_one_of_several-shared.result in let sorted = c.is_one_of_several-shared.ensures in let k : ℕ = number_of right in
+        let u = c.go_in_place.new.token in
+        let beside = subst (λ (o : Option g.row.T.Denot). Goes g.row.T slot shared w.views o t u) c.in-None.is c.in-Ok.ensures.0 in
+        subst (λ (x : LocalState _). GoesBeside k (is_shared kind) x (with_token m u)) c.self.view_is
+        (gone_beside m slot k is shared (is_shared kind) sorted l.token t u same refl known.all beside);
+      recalled = subst (λ (x : LocalState _). IsLone x → (value : Gv) × HasValue value right × KnowsOwner x (number_of right) (is_shared kind) value)
+          c.self.view_is
+        (λ lone. (grip.shown, known.has c.into_owner-owner.ensures.views, known.tells lone));
+    }
 
-pub returns-in-None-clause-gone : goal.returns-in-None-clause-gone
-returns-in-None-clause-gone g c =
+pub returns-in-Err : goal.returns-in-Err
+returns-in-Err g c =
     let l = c.self.inside in let b = l.domain.now.board in let m : LocalState _ = c.self.view_is 0 in let right = c.args.right in let kind = c.args.kind in
-    let on = on_board l.domain.now.limits b l.token.table_id c.self.invariant.0.home l.domain.now.limited.1 m refl refl refl in
-    let home = c.requires.home ∙ sym (ap slots_home c.self.view_is) in
-    let w = c.into_owner-owner.result.0 in let grip = c.into_owner-owner.result.1 in let by = c.into_owner-owner.ensures.owner in
-    let slot : ℕ = c.number-slot.result in let is = c.number-slot.ensures in let t = c.recall.new.token in
-    let known = owner_views b m on right kind home c.requires.kind w grip by slot is in
-    let same = same_recalled b l.place slot (is_shared kind) grip.shown l.token t (c.recall.ensures slot (is_shared kind) grip.shown known) in
-    let q = subst (λ (x : Seat ValueFraction View). IsBetweenCalls b l.place l.own x) (sym same) c.self.invariant.0 in
-    let shared : Bool = c.is_one_of_several-shared.result in let sorted = c.is_one_of_several-shared.ensures in let k : ℕ = number_of right in
-    let u = c.go_in_place.new.token in let alone : IsLone m → l.token.me.0.epoch.all ≡ 1
-    = λ lone. c.self.invariant.0.all ∙ (ap (λ (z : Sizes). z.participants) l.domain.now.limited.1 ∙ lone) in
-    let beside = subst (λ (o : Option g.row.T.Denot). Goes g.row.T slot shared w.views o t u) c.in-None.is c.in-Ok.ensures.0 in
-    subst (λ (x : LocalState _). GoesBeside k (is_shared kind) x (with_token m u)) c.self.view_is
-    (gone_beside m slot k is shared (is_shared kind) sorted l.token t u same refl alone beside)
-
-pub returns-in-None-clause-recalled : goal.returns-in-None-clause-recalled
-returns-in-None-clause-recalled g c =
-    let l = c.self.inside in let b = l.domain.now.board in let m : LocalState _ = c.self.view_is 0 in let right = c.args.right in let kind = c.args.kind in
-    let on = on_board l.domain.now.limits b l.token.table_id c.self.invariant.0.home l.domain.now.limited.1 m refl refl refl in
-    let home = c.requires.home ∙ sym (ap slots_home c.self.view_is) in
-    let w = c.into_owner-owner.result.0 in let grip = c.into_owner-owner.result.1 in let by = c.into_owner-owner.ensures.owner in
-    let slot : ℕ = c.number-slot.result in let is = c.number-slot.ensures in let t = c.recall.new.token in
-    let known = owner_views b m on right kind home c.requires.kind w grip by slot is in
-    let same = same_recalled b l.place slot (is_shared kind) grip.shown l.token t (c.recall.ensures slot (is_shared kind) grip.shown known) in
-    let q = subst (λ (x : Seat ValueFraction View). IsBetweenCalls b l.place l.own x) (sym same) c.self.invariant.0 in
-    let j : ℕ = number_of right in let told = owner_views b m on right kind home c.requires.kind w grip by j refl in
-    subst (λ (x : LocalState _). IsLone x → (value : Gv) × HasValue value right × KnowsOwner x j (is_shared kind) value) c.self.view_is (λ lone. (
-      grip.shown,
-      owner_has b m on right kind home c.requires.kind w grip by slot is c.into_owner-owner.ensures.views,
-      recalls_to m j (is_shared kind) grip.shown l.token t (c.recall.ensures j (is_shared kind) grip.shown told)
-          (c.self.invariant.0.all ∙ ap (λ (z : Sizes). z.participants) l.domain.now.limited.1) lone,
-    ))
-
-pub returns-in-Err-clause-gone : goal.returns-in-Err-clause-gone
-returns-in-Err-clause-gone g c =
-    let l = c.self.inside in let b = l.domain.now.board in let m : LocalState _ = c.self.view_is 0 in let right = c.args.right in let kind = c.args.kind in
-    let on = on_board l.domain.now.limits b l.token.table_id c.self.invariant.0.home l.domain.now.limited.1 m refl refl refl in
-    let home = c.requires.home ∙ sym (ap slots_home c.self.view_is) in
-    let w = c.into_owner-owner.result.0 in let grip = c.into_owner-owner.result.1 in let by = c.into_owner-owner.ensures.owner in
-    let slot : ℕ = c.number-slot.result in let is = c.number-slot.ensures in let t = c.recall.new.token in
-    let known = owner_views b m on right kind home c.requires.kind w grip by slot is in
-    let same = same_recalled b l.place slot (is_shared kind) grip.shown l.token t (c.recall.ensures slot (is_shared kind) grip.shown known) in
-    let q = subst (λ (x : Seat ValueFraction View). IsBetweenCalls b l.place l.own x) (sym same) c.self.invariant.0 in
-    let shared : Bool = c.is_one_of_several-shared.result in let sorted = c.is_one_of_several-shared.ensures in let k : ℕ = number_of right in
-    let u = c.go_in_place.new.token in let alone : IsLone m → l.token.me.0.epoch.all ≡ 1
-    = λ lone. c.self.invariant.0.all ∙ (ap (λ (z : Sizes). z.participants) l.domain.now.limited.1 ∙ lone) in
-    let back = c.in-Err.ensures in let made = c.of_witness.ensures in let views = known ∙ ap (λ (s : Bool). witness_of_owner slot s grip.shown) (sym sorted) in
-    let unit = back.2 grip.shown views in (
-      right_back b m on right kind home c.requires.kind w grip by slot is c.in-Err.owner c.in-Err.grip l.domain.now.limits.slots c.of_witness.result
-          back.0 (unit.unit.book_is) back.1 c.into_owner-owner.ensures.views refl made.number made.home made.kind made.views,
-      ⊎_elim
-          (λ (x : (c.in-Err.refused ≡ Refused.GuardOpen) × IsLetGoOf slot shared t u). inl (
-            x.0,
-            subst (λ (z : LocalState _). SeesGuard k (is_shared kind) z (with_token m u)) c.self.view_is
-                (guarded_at m slot k is shared (is_shared kind) sorted l.token t u same refl alone (guard_of b l.place l.own t q) x.1),
-          ))
-          (λ (x : (c.in-Err.refused ≡ Refused.Contended) × IsUnmoved t u × (shared ≡ true) × ¬ (IsLoneAt (epoch t))). inr (
-            x.0,
-            unmoved_at m slot k is shared (is_shared kind) sorted l.token t u same refl alone x.1 ∙ c.self.view_is,
-            sym sorted ∙ x.2,
-            (λ lone. x.3 (ap (λ (y : Seat ValueFraction View). y.me.0.epoch.all) same
-                ∙ alone (subst (λ (z : LocalState _). IsLone z) (sym c.self.view_is) lone))),
-          )) back.3,
-    )
-
-pub returns-in-Err-clause-recalled : goal.returns-in-Err-clause-recalled
-returns-in-Err-clause-recalled g c =
-    let l = c.self.inside in let b = l.domain.now.board in let m : LocalState _ = c.self.view_is 0 in let right = c.args.right in let kind = c.args.kind in
-    let on = on_board l.domain.now.limits b l.token.table_id c.self.invariant.0.home l.domain.now.limited.1 m refl refl refl in
-    let home = c.requires.home ∙ sym (ap slots_home c.self.view_is) in
-    let w = c.into_owner-owner.result.0 in let grip = c.into_owner-owner.result.1 in let by = c.into_owner-owner.ensures.owner in
-    let slot : ℕ = c.number-slot.result in let is = c.number-slot.ensures in let t = c.recall.new.token in
-    let known = owner_views b m on right kind home c.requires.kind w grip by slot is in
-    let same = same_recalled b l.place slot (is_shared kind) grip.shown l.token t (c.recall.ensures slot (is_shared kind) grip.shown known) in
-    let q = subst (λ (x : Seat ValueFraction View). IsBetweenCalls b l.place l.own x) (sym same) c.self.invariant.0 in
-    let j : ℕ = number_of right in let told = owner_views b m on right kind home c.requires.kind w grip by j refl in
-    subst (λ (x : LocalState _). IsLone x → (value : Gv) × HasValue value right × KnowsOwner x j (is_shared kind) value) c.self.view_is (λ lone. (
-      grip.shown,
-      owner_has b m on right kind home c.requires.kind w grip by slot is c.into_owner-owner.ensures.views,
-      recalls_to m j (is_shared kind) grip.shown l.token t (c.recall.ensures j (is_shared kind) grip.shown told)
-          (c.self.invariant.0.all ∙ ap (λ (z : Sizes). z.participants) l.domain.now.limited.1) lone,
-    ))
+    let known = recalled g (goal.at.returns-in-Err g c).After-recall in let same = known.same in let q = known.between in let w = c.into_owner-owner.result.0 in
+    let grip = c.into_owner-owner.result.1 in let slot : ℕ = c.number-slot.result in let is = c.number-slot.ensures in let t = c.recall.new.token in record {
+      gone =
+        let shared : Bool = c.is_one_of_several-shared.result in let sorted = c.is_one_of_several-shared.ensures in let k : ℕ = number_of right in
+        let u = c.go_in_place.new.token in
+        let back = c.in-Err.ensures in let made = c.of_witness.ensures in
+        let views = known.views ∙ ap (λ (s : Bool). witness_of_owner slot s grip.shown) (sym sorted) in let unit = back.2 grip.shown views in (
+          right_back b m known.on right kind known.home c.requires.kind w grip (λ _. known.owner) slot is c.in-Err.owner c.in-Err.grip l.domain.now.limits.slots
+              c.of_witness.result
+              back.0 (unit.unit.book_is) back.1 c.into_owner-owner.ensures.views refl made.number made.home made.kind made.views,
+          ⊎_elim
+              (λ (x : (c.in-Err.refused ≡ Refused.GuardOpen) × IsLetGoOf slot shared t u). inl (
+                x.0,
+                subst (λ (z : LocalState _). SeesGuard k (is_shared kind) z (with_token m u)) c.self.view_is
+                    (guarded_at m slot k is shared (is_shared kind) sorted l.token t u same refl known.all (guard_of b l.place l.own t q) x.1),
+              ))
+              (λ (x : (c.in-Err.refused ≡ Refused.Contended) × IsUnmoved t u × (shared ≡ true) × ¬ (IsLoneAt (epoch t))). inr (
+                x.0,
+                unmoved_at m slot k is shared (is_shared kind) sorted l.token t u same refl known.all x.1 ∙ c.self.view_is,
+                sym sorted ∙ x.2,
+                (λ lone. x.3 (ap (λ (y : Seat ValueFraction View). y.me.0.epoch.all) same
+                    ∙ known.all (subst (λ (z : LocalState _). IsLone z) (sym c.self.view_is) lone))),
+              )) back.3,
+        );
+      recalled = subst (λ (x : LocalState _). IsLone x → (value : Gv) × HasValue value right × KnowsOwner x (number_of right) (is_shared kind) value)
+          c.self.view_is
+        (λ lone. (grip.shown, known.has c.into_owner-owner.ensures.views, known.tells lone));
+    }

@@ -1,4 +1,4 @@
-use Rattle.std.proofs.Common.{◌≡◌, ◌⊎◌, ℕ, ◌<◌, slice_set, Some, refl, sym, ap, ◌∙◌, subst}
+use Rattle.std.proofs.Common.{◌≡◌, ◌⊎◌, ℕ, ◌<◌, slice_set, Some, refl, sym, ap, ◌∙◌, subst, rules}
 use Rattle.std.specs.Prelude.{Bool}
 use base.Stored.{Gv}
 use Rattle.atomic_table.specs.declared.shared.Seat.{Seat}
@@ -9,247 +9,87 @@ use Rattle.sdd_rights.specs.Right.{AreSlotsOfTable, IsOwnerBy, home_of, kind_of,
 use Rattle.sdd_shared_values.specs.SharedValues.{showing}
 use Rattle.sdd_shared_values.specs.declared.value_fraction.ValueFraction.{ValueFraction}
 use Rattle.sdd_space.specs.OwnerOrCell.{AreOf}
-use Rattle.sdd_views.specs.declared.Sizes.{Sizes}
 use Rattle.sdd_views.specs.declared.View.{View}
 use Rattle.sdd_atomics.specs.DomainTable.{slots_of}
-use Rattle.sdd_domain.specs.BetweenCalls.{AreLentTo, IsBetweenCalls, IsReady}
+use Rattle.sdd_domain.specs.BetweenCalls.{AreLentTo, IsReady}
 use Rattle.sdd_domain.specs.InBags.{known_waiting}
 use Rattle.sdd_domain.specs.Items.{HasValue, IsRightTo, slots_home}
 use Rattle.sdd_domain.specs.LocalState.{ChangesAt, HasOthers, IsLone, KnowsOwner, LocalState, SeesGuard, sole_words}
 use Rattle.sdd_domain.specs.Receipt.{IsTallied}
 use Rattle.sdd_domain.specs.SpaceIds.{home_in}
 use Rattle.sdd_domain.specs.Values.{with_filled}
-use Rattle.sdd_domain.proofs.Housed.{from_board, on_board, to_board}
+use Rattle.sdd_domain.proofs.Housed.{from_board, to_board}
 use lib.ListN.{get_elem?}
 use Rattle.sdd_core.specs.declared.refused.Refused.TheVariants as Refused
 use Rattle.sdd_domain.proofs.Held.{only}
-use Rattle.sdd_domain.proofs.InPlace.{bare, changed_to, guard_of, hindered_at, hindered_view, knew_sole, posed_noted, held_home, held_knows, held_looked, held_owns, held_place, held_rests, held_shut, held_tells, owner_has, owner_inside, owner_table, owner_views, placed, posed_changed, right_again, right_anew}
-use Rattle.sdd_domain.proofs.Members.{recalls_to, with_token, with_view}
-use Rattle.sdd_domain.proofs.Posing.{same_recalled}
+use Rattle.sdd_domain.proofs.InPlace.{bare, changed_to, guard_of, hindered_at, hindered_view, knew_sole, posed_noted, held_home, held_knows, held_looked, held_owns, held_place, held_rests, held_shut, held_tells, owner_inside, owner_table, placed, posed_changed, right_again, right_anew}
+use Rattle.sdd_domain.proofs.Members.{with_token, with_view}
+use Rattle.sdd_domain.proofs.Recalled.{IsRecalled, is_recalled}
+use Rattle.sdd_domain.proofs.local_core.LocalCore.get_mut.Given.{Over}
+use Rattle.sdd_domain.proofs.local_core.LocalCore.get_mut.Goals.{After-recall}
 use Rattle.sdd_domain.proofs.local_core.LocalCore.get_mut.Goals as goal
 
-pub hold_alone-requires-clause-home : goal.hold_alone-requires-clause-home
-hold_alone-requires-clause-home g c =
-    let l = c.self.inside in let b = l.domain.now.board in let m : LocalState _ = c.self.view_is 0 in let right = c.args.right.now in let kind = c.args.kind in
-    let on = on_board l.domain.now.limits b l.token.table_id c.self.invariant.0.home l.domain.now.limited.1 m refl refl refl in
-    let home = c.requires.home ∙ sym (ap slots_home c.self.view_is) in
-    let w = c.into_owner-owner.result.0 in let grip = c.into_owner-owner.result.1 in
-    let by = subst (λ (r : Right). AreSlotsOfTable (home_of r) → IsOwnerBy (home_of r) (number_of r) (is_shared (kind_of r)) w grip) c.take.ensures
-    c.into_owner-owner.ensures.owner in let seen = c.into_owner-owner.ensures.views ∙ ap views_of c.take.ensures in
-    let slot : ℕ = c.number-slot.result in let is = c.number-slot.ensures in let t = c.recall.new.token in
-    let known = owner_views b m on right kind home c.requires.kind w grip by slot is in
-    let same = same_recalled b l.place slot (is_shared kind) grip.shown l.token t (c.recall.ensures slot (is_shared kind) grip.shown known) in
-    let q = subst (λ (x : Seat ValueFraction View). IsBetweenCalls b l.place l.own x) (sym same) c.self.invariant.0 in
-    q.home
+-- the owner was recalled
+recalled : (g : Over) (c : After-recall g) → IsRecalled c.self.inside.domain.now.board c.self.inside.place c.self.inside.own (c.self.view_is 0)
+    c.args.right.now c.args.kind c.into_owner-owner.result.0 c.into_owner-owner.result.1 c.number-slot.result c.self.inside.token c.recall.new.token
+recalled g c = let l = c.self.inside in let w = c.into_owner-owner.result.0 in let grip = c.into_owner-owner.result.1 in
+    is_recalled l.domain.now.limits l.domain.now.board l.place l.own (c.self.view_is 0) c.args.right.now c.args.kind w grip c.number-slot.result l.token
+    c.recall.new.token l.domain.now.limited.1 refl refl refl (c.requires.home ∙ sym (ap slots_home c.self.view_is)) c.requires.kind
+    (subst (λ (r : Right). AreSlotsOfTable (home_of r) → IsOwnerBy (home_of r) (number_of r) (is_shared (kind_of r)) w grip) c.take.ensures
+    c.into_owner-owner.ensures.owner) c.number-slot.ensures c.recall.ensures c.self.invariant.0
 
-pub hold_alone-requires-clause-knows : goal.hold_alone-requires-clause-knows
-hold_alone-requires-clause-knows g c =
+pub hold_alone-requires : goal.hold_alone-requires
+hold_alone-requires g c =
     let l = c.self.inside in let b = l.domain.now.board in let m : LocalState _ = c.self.view_is 0 in let right = c.args.right.now in let kind = c.args.kind in
-    let on = on_board l.domain.now.limits b l.token.table_id c.self.invariant.0.home l.domain.now.limited.1 m refl refl refl in
-    let home = c.requires.home ∙ sym (ap slots_home c.self.view_is) in
-    let w = c.into_owner-owner.result.0 in let grip = c.into_owner-owner.result.1 in
-    let by = subst (λ (r : Right). AreSlotsOfTable (home_of r) → IsOwnerBy (home_of r) (number_of r) (is_shared (kind_of r)) w grip) c.take.ensures
-    c.into_owner-owner.ensures.owner in let seen = c.into_owner-owner.ensures.views ∙ ap views_of c.take.ensures in
-    let slot : ℕ = c.number-slot.result in let is = c.number-slot.ensures in let t = c.recall.new.token in
-    let known = owner_views b m on right kind home c.requires.kind w grip by slot is in
-    let same = same_recalled b l.place slot (is_shared kind) grip.shown l.token t (c.recall.ensures slot (is_shared kind) grip.shown known) in
-    let q = subst (λ (x : Seat ValueFraction View). IsBetweenCalls b l.place l.own x) (sym same) c.self.invariant.0 in
-    q.knows
+    let known = recalled g (goal.at.hold_alone-requires g c).After-recall in let same = known.same in let q = known.between in
+    let w = c.into_owner-owner.result.0 in let grip = c.into_owner-owner.result.1 in let slot : ℕ = c.number-slot.result in let is = c.number-slot.ensures in
+    let t = c.recall.new.token in record {
+      home = q.home;
+      knows = q.knows;
+      inside = search rules;
+      place = placed b l.place l.own t q;
+      bare = bare b l.place l.own t q;
+      closes = ap (λ (x : Seat ValueFraction View). x.me.0.slots.closes) same ∙ (ap (λ (m : LocalState _). m.slots.closes) c.self.view_is ∙ c.requires.closes);
+      owner =
+        let sorted = c.is_one_of_several-shared.ensures in (
+          owner_table b m known.on right kind known.home c.requires.kind w grip (λ _. known.owner) slot is,
+          (grip.shown, known.views ∙ ap (λ (s : Bool). witness_of_owner slot s grip.shown) (sym sorted)),
+        );
+    }
 
-pub hold_alone-requires-clause-place : goal.hold_alone-requires-clause-place
-hold_alone-requires-clause-place g c =
-    let l = c.self.inside in let b = l.domain.now.board in let m : LocalState _ = c.self.view_is 0 in let right = c.args.right.now in let kind = c.args.kind in
-    let on = on_board l.domain.now.limits b l.token.table_id c.self.invariant.0.home l.domain.now.limited.1 m refl refl refl in
-    let home = c.requires.home ∙ sym (ap slots_home c.self.view_is) in
-    let w = c.into_owner-owner.result.0 in let grip = c.into_owner-owner.result.1 in
-    let by = subst (λ (r : Right). AreSlotsOfTable (home_of r) → IsOwnerBy (home_of r) (number_of r) (is_shared (kind_of r)) w grip) c.take.ensures
-    c.into_owner-owner.ensures.owner in let seen = c.into_owner-owner.ensures.views ∙ ap views_of c.take.ensures in
-    let slot : ℕ = c.number-slot.result in let is = c.number-slot.ensures in let t = c.recall.new.token in
-    let known = owner_views b m on right kind home c.requires.kind w grip by slot is in
-    let same = same_recalled b l.place slot (is_shared kind) grip.shown l.token t (c.recall.ensures slot (is_shared kind) grip.shown known) in
-    let q = subst (λ (x : Seat ValueFraction View). IsBetweenCalls b l.place l.own x) (sym same) c.self.invariant.0 in
-    placed b l.place l.own t q
-
-pub hold_alone-requires-clause-bare : goal.hold_alone-requires-clause-bare
-hold_alone-requires-clause-bare g c =
-    let l = c.self.inside in let b = l.domain.now.board in let m : LocalState _ = c.self.view_is 0 in let right = c.args.right.now in let kind = c.args.kind in
-    let on = on_board l.domain.now.limits b l.token.table_id c.self.invariant.0.home l.domain.now.limited.1 m refl refl refl in
-    let home = c.requires.home ∙ sym (ap slots_home c.self.view_is) in
-    let w = c.into_owner-owner.result.0 in let grip = c.into_owner-owner.result.1 in
-    let by = subst (λ (r : Right). AreSlotsOfTable (home_of r) → IsOwnerBy (home_of r) (number_of r) (is_shared (kind_of r)) w grip) c.take.ensures
-    c.into_owner-owner.ensures.owner in let seen = c.into_owner-owner.ensures.views ∙ ap views_of c.take.ensures in
-    let slot : ℕ = c.number-slot.result in let is = c.number-slot.ensures in let t = c.recall.new.token in
-    let known = owner_views b m on right kind home c.requires.kind w grip by slot is in
-    let same = same_recalled b l.place slot (is_shared kind) grip.shown l.token t (c.recall.ensures slot (is_shared kind) grip.shown known) in
-    let q = subst (λ (x : Seat ValueFraction View). IsBetweenCalls b l.place l.own x) (sym same) c.self.invariant.0 in
-    bare b l.place l.own t q
-
-pub hold_alone-requires-clause-closes : goal.hold_alone-requires-clause-closes
-hold_alone-requires-clause-closes g c =
-    let l = c.self.inside in let b = l.domain.now.board in let m : LocalState _ = c.self.view_is 0 in let right = c.args.right.now in let kind = c.args.kind in
-    let on = on_board l.domain.now.limits b l.token.table_id c.self.invariant.0.home l.domain.now.limited.1 m refl refl refl in
-    let home = c.requires.home ∙ sym (ap slots_home c.self.view_is) in
-    let w = c.into_owner-owner.result.0 in let grip = c.into_owner-owner.result.1 in
-    let by = subst (λ (r : Right). AreSlotsOfTable (home_of r) → IsOwnerBy (home_of r) (number_of r) (is_shared (kind_of r)) w grip) c.take.ensures
-    c.into_owner-owner.ensures.owner in let seen = c.into_owner-owner.ensures.views ∙ ap views_of c.take.ensures in
-    let slot : ℕ = c.number-slot.result in let is = c.number-slot.ensures in let t = c.recall.new.token in
-    let known = owner_views b m on right kind home c.requires.kind w grip by slot is in
-    let same = same_recalled b l.place slot (is_shared kind) grip.shown l.token t (c.recall.ensures slot (is_shared kind) grip.shown known) in
-    let q = subst (λ (x : Seat ValueFraction View). IsBetweenCalls b l.place l.own x) (sym same) c.self.invariant.0 in
-    ap (λ (x : Seat ValueFraction View). x.me.0.slots.closes) same ∙ (ap (λ (m : LocalState _). m.slots.closes) c.self.view_is ∙ c.requires.closes)
-
-pub hold_alone-requires-clause-owner : goal.hold_alone-requires-clause-owner
-hold_alone-requires-clause-owner g c =
-    let l = c.self.inside in let b = l.domain.now.board in let m : LocalState _ = c.self.view_is 0 in let right = c.args.right.now in let kind = c.args.kind in
-    let on = on_board l.domain.now.limits b l.token.table_id c.self.invariant.0.home l.domain.now.limited.1 m refl refl refl in
-    let home = c.requires.home ∙ sym (ap slots_home c.self.view_is) in
-    let w = c.into_owner-owner.result.0 in let grip = c.into_owner-owner.result.1 in
-    let by = subst (λ (r : Right). AreSlotsOfTable (home_of r) → IsOwnerBy (home_of r) (number_of r) (is_shared (kind_of r)) w grip) c.take.ensures
-    c.into_owner-owner.ensures.owner in let seen = c.into_owner-owner.ensures.views ∙ ap views_of c.take.ensures in
-    let slot : ℕ = c.number-slot.result in let is = c.number-slot.ensures in let t = c.recall.new.token in
-    let known = owner_views b m on right kind home c.requires.kind w grip by slot is in
-    let same = same_recalled b l.place slot (is_shared kind) grip.shown l.token t (c.recall.ensures slot (is_shared kind) grip.shown known) in
-    let q = subst (λ (x : Seat ValueFraction View). IsBetweenCalls b l.place l.own x) (sym same) c.self.invariant.0 in
-    let sorted = c.is_one_of_several-shared.ensures in (
-      owner_table b m on right kind home c.requires.kind w grip by slot is,
-      (grip.shown, known ∙ ap (λ (s : Bool). witness_of_owner slot s grip.shown) (sym sorted)),
-    )
-
-pub change_alone-owner-requires-clause-home : goal.change_alone-owner-requires-clause-home
-change_alone-owner-requires-clause-home g c =
-    let l = c.self.inside in let b = l.domain.now.board in let m : LocalState _ = c.self.view_is 0 in let right = c.args.right.now in let kind = c.args.kind in
-    let on = on_board l.domain.now.limits b l.token.table_id c.self.invariant.0.home l.domain.now.limited.1 m refl refl refl in
-    let home = c.requires.home ∙ sym (ap slots_home c.self.view_is) in
-    let w = c.into_owner-owner.result.0 in let grip = c.into_owner-owner.result.1 in
-    let by = subst (λ (r : Right). AreSlotsOfTable (home_of r) → IsOwnerBy (home_of r) (number_of r) (is_shared (kind_of r)) w grip) c.take.ensures
-    c.into_owner-owner.ensures.owner in let seen = c.into_owner-owner.ensures.views ∙ ap views_of c.take.ensures in
-    let slot : ℕ = c.number-slot.result in let is = c.number-slot.ensures in let t = c.recall.new.token in
-    let known = owner_views b m on right kind home c.requires.kind w grip by slot is in
-    let same = same_recalled b l.place slot (is_shared kind) grip.shown l.token t (c.recall.ensures slot (is_shared kind) grip.shown known) in
-    let q = subst (λ (x : Seat ValueFraction View). IsBetweenCalls b l.place l.own x) (sym same) c.self.invariant.0 in
-    let shared : Bool = c.is_one_of_several-shared.result in let sorted = c.is_one_of_several-shared.ensures in
-    let views = known ∙ ap (λ (s : Bool). witness_of_owner slot s grip.shown) (sym sorted) in
-    let h = c.hold_alone.new.token in let held = c.in-Ok.ensures grip.shown views in
-    held_home b l.place l.own t q slot shared grip.shown h held
-
-pub change_alone-owner-requires-clause-knows : goal.change_alone-owner-requires-clause-knows
-change_alone-owner-requires-clause-knows g c =
-    let l = c.self.inside in let b = l.domain.now.board in let m : LocalState _ = c.self.view_is 0 in let right = c.args.right.now in let kind = c.args.kind in
-    let on = on_board l.domain.now.limits b l.token.table_id c.self.invariant.0.home l.domain.now.limited.1 m refl refl refl in
-    let home = c.requires.home ∙ sym (ap slots_home c.self.view_is) in
-    let w = c.into_owner-owner.result.0 in let grip = c.into_owner-owner.result.1 in
-    let by = subst (λ (r : Right). AreSlotsOfTable (home_of r) → IsOwnerBy (home_of r) (number_of r) (is_shared (kind_of r)) w grip) c.take.ensures
-    c.into_owner-owner.ensures.owner in let seen = c.into_owner-owner.ensures.views ∙ ap views_of c.take.ensures in
-    let slot : ℕ = c.number-slot.result in let is = c.number-slot.ensures in let t = c.recall.new.token in
-    let known = owner_views b m on right kind home c.requires.kind w grip by slot is in
-    let same = same_recalled b l.place slot (is_shared kind) grip.shown l.token t (c.recall.ensures slot (is_shared kind) grip.shown known) in
-    let q = subst (λ (x : Seat ValueFraction View). IsBetweenCalls b l.place l.own x) (sym same) c.self.invariant.0 in
-    let shared : Bool = c.is_one_of_several-shared.result in let sorted = c.is_one_of_several-shared.ensures in
-    let views = known ∙ ap (λ (s : Bool). witness_of_owner slot s grip.shown) (sym sorted) in
-    let h = c.hold_alone.new.token in let held = c.in-Ok.ensures grip.shown views in
-    held_knows b l.place l.own t q slot shared grip.shown h held
-
-pub change_alone-owner-requires-clause-place : goal.change_alone-owner-requires-clause-place
-change_alone-owner-requires-clause-place g c =
-    let l = c.self.inside in let b = l.domain.now.board in let m : LocalState _ = c.self.view_is 0 in let right = c.args.right.now in let kind = c.args.kind in
-    let on = on_board l.domain.now.limits b l.token.table_id c.self.invariant.0.home l.domain.now.limited.1 m refl refl refl in
-    let home = c.requires.home ∙ sym (ap slots_home c.self.view_is) in
-    let w = c.into_owner-owner.result.0 in let grip = c.into_owner-owner.result.1 in
-    let by = subst (λ (r : Right). AreSlotsOfTable (home_of r) → IsOwnerBy (home_of r) (number_of r) (is_shared (kind_of r)) w grip) c.take.ensures
-    c.into_owner-owner.ensures.owner in let seen = c.into_owner-owner.ensures.views ∙ ap views_of c.take.ensures in
-    let slot : ℕ = c.number-slot.result in let is = c.number-slot.ensures in let t = c.recall.new.token in
-    let known = owner_views b m on right kind home c.requires.kind w grip by slot is in
-    let same = same_recalled b l.place slot (is_shared kind) grip.shown l.token t (c.recall.ensures slot (is_shared kind) grip.shown known) in
-    let q = subst (λ (x : Seat ValueFraction View). IsBetweenCalls b l.place l.own x) (sym same) c.self.invariant.0 in
-    let shared : Bool = c.is_one_of_several-shared.result in let sorted = c.is_one_of_several-shared.ensures in
-    let views = known ∙ ap (λ (s : Bool). witness_of_owner slot s grip.shown) (sym sorted) in
-    let h = c.hold_alone.new.token in let held = c.in-Ok.ensures grip.shown views in
-    held_place b l.place l.own t q slot shared grip.shown h held
-
-pub change_alone-owner-requires-clause-rests : goal.change_alone-owner-requires-clause-rests
-change_alone-owner-requires-clause-rests g c =
-    let l = c.self.inside in let b = l.domain.now.board in let m : LocalState _ = c.self.view_is 0 in let right = c.args.right.now in let kind = c.args.kind in
-    let on = on_board l.domain.now.limits b l.token.table_id c.self.invariant.0.home l.domain.now.limited.1 m refl refl refl in
-    let home = c.requires.home ∙ sym (ap slots_home c.self.view_is) in
-    let w = c.into_owner-owner.result.0 in let grip = c.into_owner-owner.result.1 in
-    let by = subst (λ (r : Right). AreSlotsOfTable (home_of r) → IsOwnerBy (home_of r) (number_of r) (is_shared (kind_of r)) w grip) c.take.ensures
-    c.into_owner-owner.ensures.owner in let seen = c.into_owner-owner.ensures.views ∙ ap views_of c.take.ensures in
-    let slot : ℕ = c.number-slot.result in let is = c.number-slot.ensures in let t = c.recall.new.token in
-    let known = owner_views b m on right kind home c.requires.kind w grip by slot is in
-    let same = same_recalled b l.place slot (is_shared kind) grip.shown l.token t (c.recall.ensures slot (is_shared kind) grip.shown known) in
-    let q = subst (λ (x : Seat ValueFraction View). IsBetweenCalls b l.place l.own x) (sym same) c.self.invariant.0 in
-    let shared : Bool = c.is_one_of_several-shared.result in let sorted = c.is_one_of_several-shared.ensures in
-    let views = known ∙ ap (λ (s : Bool). witness_of_owner slot s grip.shown) (sym sorted) in
-    let h = c.hold_alone.new.token in let held = c.in-Ok.ensures grip.shown views in
-    held_rests b l.place l.own t q slot shared grip.shown h held
-
-pub change_alone-owner-requires-clause-held : goal.change_alone-owner-requires-clause-held
-change_alone-owner-requires-clause-held g c =
-    let l = c.self.inside in let b = l.domain.now.board in let m : LocalState _ = c.self.view_is 0 in let right = c.args.right.now in let kind = c.args.kind in
-    let on = on_board l.domain.now.limits b l.token.table_id c.self.invariant.0.home l.domain.now.limited.1 m refl refl refl in
-    let home = c.requires.home ∙ sym (ap slots_home c.self.view_is) in
-    let w = c.into_owner-owner.result.0 in let grip = c.into_owner-owner.result.1 in
-    let by = subst (λ (r : Right). AreSlotsOfTable (home_of r) → IsOwnerBy (home_of r) (number_of r) (is_shared (kind_of r)) w grip) c.take.ensures
-    c.into_owner-owner.ensures.owner in let seen = c.into_owner-owner.ensures.views ∙ ap views_of c.take.ensures in
-    let slot : ℕ = c.number-slot.result in let is = c.number-slot.ensures in let t = c.recall.new.token in
-    let known = owner_views b m on right kind home c.requires.kind w grip by slot is in
-    let same = same_recalled b l.place slot (is_shared kind) grip.shown l.token t (c.recall.ensures slot (is_shared kind) grip.shown known) in
-    let q = subst (λ (x : Seat ValueFraction View). IsBetweenCalls b l.place l.own x) (sym same) c.self.invariant.0 in
-    let shared : Bool = c.is_one_of_several-shared.result in let sorted = c.is_one_of_several-shared.ensures in
-    let views = known ∙ ap (λ (s : Bool). witness_of_owner slot s grip.shown) (sym sorted) in
-    let h = c.hold_alone.new.token in let held = c.in-Ok.ensures grip.shown views in
-    held_owns b l.place l.own t q slot shared grip.shown h held
-
-pub change_alone-owner-requires-clause-looked : goal.change_alone-owner-requires-clause-looked
-change_alone-owner-requires-clause-looked g c =
-    let l = c.self.inside in let b = l.domain.now.board in let m : LocalState _ = c.self.view_is 0 in let right = c.args.right.now in let kind = c.args.kind in
-    let on = on_board l.domain.now.limits b l.token.table_id c.self.invariant.0.home l.domain.now.limited.1 m refl refl refl in
-    let home = c.requires.home ∙ sym (ap slots_home c.self.view_is) in
-    let w = c.into_owner-owner.result.0 in let grip = c.into_owner-owner.result.1 in
-    let by = subst (λ (r : Right). AreSlotsOfTable (home_of r) → IsOwnerBy (home_of r) (number_of r) (is_shared (kind_of r)) w grip) c.take.ensures
-    c.into_owner-owner.ensures.owner in let seen = c.into_owner-owner.ensures.views ∙ ap views_of c.take.ensures in
-    let slot : ℕ = c.number-slot.result in let is = c.number-slot.ensures in let t = c.recall.new.token in
-    let known = owner_views b m on right kind home c.requires.kind w grip by slot is in
-    let same = same_recalled b l.place slot (is_shared kind) grip.shown l.token t (c.recall.ensures slot (is_shared kind) grip.shown known) in
-    let q = subst (λ (x : Seat ValueFraction View). IsBetweenCalls b l.place l.own x) (sym same) c.self.invariant.0 in
-    let shared : Bool = c.is_one_of_several-shared.result in let sorted = c.is_one_of_several-shared.ensures in
-    let views = known ∙ ap (λ (s : Bool). witness_of_owner slot s grip.shown) (sym sorted) in
-    let h = c.hold_alone.new.token in let held = c.in-Ok.ensures grip.shown views in
-    held_looked b l.place l.own t q slot shared grip.shown h held
-
-pub change_alone-owner-requires-clause-held_on : goal.change_alone-owner-requires-clause-held_on
-change_alone-owner-requires-clause-held_on g c =
-    let l = c.self.inside in let b = l.domain.now.board in let m : LocalState _ = c.self.view_is 0 in let right = c.args.right.now in let kind = c.args.kind in
-    let on = on_board l.domain.now.limits b l.token.table_id c.self.invariant.0.home l.domain.now.limited.1 m refl refl refl in
-    let home = c.requires.home ∙ sym (ap slots_home c.self.view_is) in
-    let w = c.into_owner-owner.result.0 in let grip = c.into_owner-owner.result.1 in
-    let by = subst (λ (r : Right). AreSlotsOfTable (home_of r) → IsOwnerBy (home_of r) (number_of r) (is_shared (kind_of r)) w grip) c.take.ensures
-    c.into_owner-owner.ensures.owner in let seen = c.into_owner-owner.ensures.views ∙ ap views_of c.take.ensures in
-    let slot : ℕ = c.number-slot.result in let is = c.number-slot.ensures in let t = c.recall.new.token in
-    let known = owner_views b m on right kind home c.requires.kind w grip by slot is in
-    let same = same_recalled b l.place slot (is_shared kind) grip.shown l.token t (c.recall.ensures slot (is_shared kind) grip.shown known) in
-    let q = subst (λ (x : Seat ValueFraction View). IsBetweenCalls b l.place l.own x) (sym same) c.self.invariant.0 in
-    λ was now r then of_was. to_board b m on (g.T.Item.holds now)
-    (subst (λ (x : LocalState _). AreOf (home_in x) (g.T.Item.holds now)) (sym c.self.view_is) (c.requires.held was now r then
-    (subst (λ (x : LocalState _). AreOf (home_in x) (g.T.Item.holds was)) c.self.view_is (from_board b m on (g.T.Item.holds was) of_was))))
+pub change_alone-owner-requires : goal.change_alone-owner-requires
+change_alone-owner-requires g c =
+    let l = c.self.inside in let b = l.domain.now.board in let m : LocalState _ = c.self.view_is 0 in
+    let known = recalled g (goal.at.change_alone-owner-requires g c).After-recall in let q = known.between in let grip = c.into_owner-owner.result.1 in
+    let slot : ℕ = c.number-slot.result in let t = c.recall.new.token in let shared : Bool = c.is_one_of_several-shared.result in
+    let sorted = c.is_one_of_several-shared.ensures in let views = known.views ∙ ap (λ (s : Bool). witness_of_owner slot s grip.shown) (sym sorted) in
+    let h = c.hold_alone.new.token in let held = c.in-Ok.ensures grip.shown views in record {
+      home = held_home b l.place l.own t q slot shared grip.shown h held;
+      shelf = search rules;
+      knows = held_knows b l.place l.own t q slot shared grip.shown h held;
+      inside = search rules;
+      place = held_place b l.place l.own t q slot shared grip.shown h held;
+      rests = held_rests b l.place l.own t q slot shared grip.shown h held;
+      held = held_owns b l.place l.own t q slot shared grip.shown h held;
+      looked = held_looked b l.place l.own t q slot shared grip.shown h held;
+      unit = search rules;
+      shows = (0, only slot shared grip.shown, ap (λ (v : View). get_elem? v.stakes.owns 0) held.view, refl, refl);
+      callable = search rules;
+      held_on = λ was now r then of_was. to_board b m known.on (g.T.Item.holds now)
+        (subst (λ (x : LocalState _). AreOf (home_in x) (g.T.Item.holds now)) (sym c.self.view_is) (c.requires.held was now r then
+        (subst (λ (x : LocalState _). AreOf (home_in x) (g.T.Item.holds was)) c.self.view_is (from_board b m known.on (g.T.Item.holds was) of_was))));
+    }
 
 pub invariant_of-self : goal.invariant_of-self
 invariant_of-self g c =
-    let l = c.self.inside in let b = l.domain.now.board in let m : LocalState _ = c.self.view_is 0 in let right = c.args.right.now in let kind = c.args.kind in
-    let on = on_board l.domain.now.limits b l.token.table_id c.self.invariant.0.home l.domain.now.limited.1 m refl refl refl in
-    let home = c.requires.home ∙ sym (ap slots_home c.self.view_is) in
-    let w = c.into_owner-owner.result.0 in let grip = c.into_owner-owner.result.1 in
-    let by = subst (λ (r : Right). AreSlotsOfTable (home_of r) → IsOwnerBy (home_of r) (number_of r) (is_shared (kind_of r)) w grip) c.take.ensures
-    c.into_owner-owner.ensures.owner in let seen = c.into_owner-owner.ensures.views ∙ ap views_of c.take.ensures in
-    let slot : ℕ = c.number-slot.result in let is = c.number-slot.ensures in let t = c.recall.new.token in
-    let known = owner_views b m on right kind home c.requires.kind w grip by slot is in
-    let same = same_recalled b l.place slot (is_shared kind) grip.shown l.token t (c.recall.ensures slot (is_shared kind) grip.shown known) in
-    let q = subst (λ (x : Seat ValueFraction View). IsBetweenCalls b l.place l.own x) (sym same) c.self.invariant.0 in
+    let l = c.self.inside in let b = l.domain.now.board in let m : LocalState _ = c.self.view_is 0 in
+    let known = recalled g (goal.at.invariant_of-self g c).After-recall in let same = known.same in let q = known.between in
+    let grip = c.into_owner-owner.result.1 in let slot : ℕ = c.number-slot.result in let t = c.recall.new.token in
     let shared : Bool = c.is_one_of_several-shared.result in let sorted = c.is_one_of_several-shared.ensures in
-    let views = known ∙ ap (λ (s : Bool). witness_of_owner slot s grip.shown) (sym sorted) in
-    let h = c.hold_alone.new.token in let held = c.in-Ok.ensures grip.shown views in
-    let u = c.change_alone-owner.new.token in let did = c.change_alone-owner.ensures.changed in let moved = c.change_alone-owner.ensures.home in
-    let now : Gv = showing g.row.T did.1 in let view = changed_to b l.place l.own t q slot shared grip.shown h held u
+    let views = known.views ∙ ap (λ (s : Bool). witness_of_owner slot s grip.shown) (sym sorted) in let h = c.hold_alone.new.token in
+    let held = c.in-Ok.ensures grip.shown views in let u = c.change_alone-owner.new.token in let did = c.change_alone-owner.ensures.changed in
+    let moved = c.change_alone-owner.ensures.home in let now : Gv = showing g.row.T did.1 in
+    let view = changed_to b l.place l.own t q slot shared grip.shown h held u
     (ap (λ (x : Seat ValueFraction View). x.me.0.slots.closes) same ∙ (ap (λ (m : LocalState _). m.slots.closes) c.self.view_is ∙ c.requires.closes))
     now did.4 in
     let table = moved.0 ∙ held.table in let others = moved.2 ∙ held.others in
@@ -265,36 +105,11 @@ invariant_of-self g c =
       subst (IsTallied 0 l.tally) (sym (ap (λ (v : View). v.stakes.counts) here)) i.5,
     )
 
-pub change_alone-owner-requires-clause-shows : goal.change_alone-owner-requires-clause-shows
-change_alone-owner-requires-clause-shows g c =
-    let l = c.self.inside in let b = l.domain.now.board in let m : LocalState _ = c.self.view_is 0 in let right = c.args.right.now in let kind = c.args.kind in
-    let on = on_board l.domain.now.limits b l.token.table_id c.self.invariant.0.home l.domain.now.limited.1 m refl refl refl in
-    let home = c.requires.home ∙ sym (ap slots_home c.self.view_is) in
-    let w = c.into_owner-owner.result.0 in let grip = c.into_owner-owner.result.1 in
-    let by = subst (λ (r : Right). AreSlotsOfTable (home_of r) → IsOwnerBy (home_of r) (number_of r) (is_shared (kind_of r)) w grip) c.take.ensures
-    c.into_owner-owner.ensures.owner in let seen = c.into_owner-owner.ensures.views ∙ ap views_of c.take.ensures in
-    let slot : ℕ = c.number-slot.result in let is = c.number-slot.ensures in let t = c.recall.new.token in
-    let known = owner_views b m on right kind home c.requires.kind w grip by slot is in
-    let same = same_recalled b l.place slot (is_shared kind) grip.shown l.token t (c.recall.ensures slot (is_shared kind) grip.shown known) in
-    let q = subst (λ (x : Seat ValueFraction View). IsBetweenCalls b l.place l.own x) (sym same) c.self.invariant.0 in
-    let shared : Bool = c.is_one_of_several-shared.result in let sorted = c.is_one_of_several-shared.ensures in
-    let views = known ∙ ap (λ (s : Bool). witness_of_owner slot s grip.shown) (sym sorted) in
-    let h = c.hold_alone.new.token in let held = c.in-Ok.ensures grip.shown views in
-    (0, only slot shared grip.shown, ap (λ (v : View). get_elem? v.stakes.owns 0) held.view, refl, refl)
-
 pub invariant_of-self-in-Err : goal.invariant_of-self-in-Err
 invariant_of-self-in-Err g c =
-    let l = c.self.inside in let b = l.domain.now.board in let m : LocalState _ = c.self.view_is 0 in let right = c.args.right.now in let kind = c.args.kind in
-    let on = on_board l.domain.now.limits b l.token.table_id c.self.invariant.0.home l.domain.now.limited.1 m refl refl refl in
-    let home = c.requires.home ∙ sym (ap slots_home c.self.view_is) in
-    let w = c.into_owner-owner.result.0 in let grip = c.into_owner-owner.result.1 in
-    let by = subst (λ (r : Right). AreSlotsOfTable (home_of r) → IsOwnerBy (home_of r) (number_of r) (is_shared (kind_of r)) w grip) c.take.ensures
-    c.into_owner-owner.ensures.owner in let seen = c.into_owner-owner.ensures.views ∙ ap views_of c.take.ensures in
-    let slot : ℕ = c.number-slot.result in let is = c.number-slot.ensures in let t = c.recall.new.token in
-    let known = owner_views b m on right kind home c.requires.kind w grip by slot is in
-    let same = same_recalled b l.place slot (is_shared kind) grip.shown l.token t (c.recall.ensures slot (is_shared kind) grip.shown known) in
-    let q = subst (λ (x : Seat ValueFraction View). IsBetweenCalls b l.place l.own x) (sym same) c.self.invariant.0 in
-    let h = c.hold_alone.new.token in let e = hindered_view slot c.is_one_of_several-shared.result c.in-Err.hindrance t h c.in-Err.ensures.0 in
+    let l = c.self.inside in let b = l.domain.now.board in let known = recalled g (goal.at.invariant_of-self-in-Err g c).After-recall in let same = known.same in
+    let q = known.between in let slot : ℕ = c.number-slot.result in let t = c.recall.new.token in let h = c.hold_alone.new.token in
+    let e = hindered_view slot c.is_one_of_several-shared.result c.in-Err.hindrance t h c.in-Err.ensures.0 in
     let here = e.3 ∙ ap (λ (x : Seat ValueFraction View). record x.me.0 { words = e.0 }) same in let i = c.self.invariant in (
       posed_noted b l.place l.own t q h e.0 e.1 e.2 e.3,
       i.1,
@@ -304,123 +119,82 @@ invariant_of-self-in-Err g c =
       subst (IsTallied 0 l.tally) (sym (ap (λ (v : View). v.stakes.counts) here)) i.5,
     )
 
-pub returns-in-Ok-clause-changed : goal.returns-in-Ok-clause-changed
-returns-in-Ok-clause-changed g c =
+pub returns-in-Ok : goal.returns-in-Ok
+returns-in-Ok g c =
     let l = c.self.inside in let b = l.domain.now.board in let m : LocalState _ = c.self.view_is 0 in let right = c.args.right.now in let kind = c.args.kind in
-    let on = on_board l.domain.now.limits b l.token.table_id c.self.invariant.0.home l.domain.now.limited.1 m refl refl refl in
-    let home = c.requires.home ∙ sym (ap slots_home c.self.view_is) in
-    let w = c.into_owner-owner.result.0 in let grip = c.into_owner-owner.result.1 in
-    let by = subst (λ (r : Right). AreSlotsOfTable (home_of r) → IsOwnerBy (home_of r) (number_of r) (is_shared (kind_of r)) w grip) c.take.ensures
-    c.into_owner-owner.ensures.owner in let seen = c.into_owner-owner.ensures.views ∙ ap views_of c.take.ensures in
-    let slot : ℕ = c.number-slot.result in let is = c.number-slot.ensures in let t = c.recall.new.token in
-    let known = owner_views b m on right kind home c.requires.kind w grip by slot is in
-    let same = same_recalled b l.place slot (is_shared kind) grip.shown l.token t (c.recall.ensures slot (is_shared kind) grip.shown known) in
-    let q = subst (λ (x : Seat ValueFraction View). IsBetweenCalls b l.place l.own x) (sym same) c.self.invariant.0 in
-    let shared : Bool = c.is_one_of_several-shared.result in let sorted = c.is_one_of_several-shared.ensures in
-    let views = known ∙ ap (λ (s : Bool). witness_of_owner slot s grip.shown) (sym sorted) in
-    let h = c.hold_alone.new.token in let held = c.in-Ok.ensures grip.shown views in
-    let u = c.change_alone-owner.new.token in let did = c.change_alone-owner.ensures.changed in let moved = c.change_alone-owner.ensures.home in
-    let now : Gv = showing g.row.T did.1 in let view = changed_to b l.place l.own t q slot shared grip.shown h held u
-    (ap (λ (x : Seat ValueFraction View). x.me.0.slots.closes) same ∙ (ap (λ (m : LocalState _). m.slots.closes) c.self.view_is ∙ c.requires.closes))
-    now did.4 in
-    let table = moved.0 ∙ held.table in let others = moved.2 ∙ held.others in
-    let here = view ∙ ap (λ (x : Seat ValueFraction View). record (with_filled slot shared now x.me.0) {
-      words = sole_words shared slot x.me.0.sizes x.me.0.words;
-    }) same in
-    let told = held_tells b l.place l.own t q slot shared grip.shown h held (showing g.row.T did.0) did.2 in
-    let k : ℕ = number_of right in let at = here ∙ (λ d. record (with_filled (is d) (sorted d) now l.token.me.0) {
-      words = sole_words (sorted d) (is d) l.token.me.0.sizes l.token.me.0.words;
-    }) in
-    let from = table ∙ ap (λ (x : Seat ValueFraction View). x.table_id) same in
-    let inside = subst (λ (r : Right). number_of r < (home_of r).size) c.take.ensures c.into_owner-owner.ensures.inside in
-    let low = owner_inside b m on right kind home c.requires.kind w grip by slot is inside in
-    let new : LocalState _ = with_view m u.table_id u.me.0 in let made = c.of_witness.ensures in
-    let alone : IsLone m → l.token.me.0.epoch.all ≡ 1
-    = λ lone. c.self.invariant.0.all ∙ (ap (λ (z : Sizes). z.participants) l.domain.now.limited.1 ∙ lone) in
-    let owner : IsRightTo m kind now c.of_witness.result = record {
-      home = right_anew b m on right kind home c.requires.kind w grip by slot is c.change_alone-owner.result.0 c.change_alone-owner.result.1
-          l.domain.now.limits.slots c.of_witness.result did.5 did.7.unit.book_is refl made.home;
-      kind = made.kind;
-      value = made.views ∙ (did.6 ∙ (λ d. witness_of_owner (sym made.number d) ((sorted ∙ ap is_shared (sym made.kind)) d) now));
-    } in (
-      did.0,
-      did.1,
-      subst (λ (x : Gv). HasValue x right) told (owner_has b m on right kind home c.requires.kind w grip by slot is seen),
-      did.3,
-      subst (λ (x : LocalState _). ChangesAt k (is_shared kind) now x new) c.self.view_is record {
-        inside = subst (λ (n : ℕ). k < n) (sym on.slots) (subst (λ (j : ℕ). j < slots_of b) is low);
-        member = λ d. with_view m (from d) (at d);
-        sole = knew_sole m slot k is shared (is_shared kind) sorted l.token t u same refl alone held.sole;
-        quiet = held_shut b l.place l.own t q slot shared grip.shown h held;
-      },
-      subst (λ (r : Right). IsRightTo c.args.self.now kind now r) (sym c.put.ensures)
-          (subst (λ (x : LocalState _). IsRightTo x kind now c.of_witness.result) c.self.view_is owner),
-      subst (λ (x : LocalState _). AreOf (home_in x) (g.T.Item.holds did.1)) c.self.view_is (from_board b m on (g.T.Item.holds did.1) did.8),
-      did.9 ∙ ap (λ (j : ℕ). slice_set c.args.ledger.now.entries j (Some (did.1, now))) is,
-    )
+    let known = recalled g (goal.at.returns-in-Ok g c).After-recall in let same = known.same in let q = known.between in let w = c.into_owner-owner.result.0 in
+    let grip = c.into_owner-owner.result.1 in let seen = c.into_owner-owner.ensures.views ∙ ap views_of c.take.ensures in let slot : ℕ = c.number-slot.result in
+    let is = c.number-slot.ensures in let t = c.recall.new.token in let k : ℕ = number_of right in record {
+      changed =
+        let shared : Bool = c.is_one_of_several-shared.result in let sorted = c.is_one_of_several-shared.ensures in
+        let views = known.views ∙ ap (λ (s : Bool). witness_of_owner slot s grip.shown) (sym sorted) in let h = c.hold_alone.new.token in
+        let held = c.in-Ok.ensures grip.shown views in let u = c.change_alone-owner.new.token in let did = c.change_alone-owner.ensures.changed in
+        let moved = c.change_alone-owner.ensures.home in let now : Gv = showing g.row.T did.1 in
+        let view = changed_to b l.place l.own t q slot shared grip.shown h held u
+        (ap (λ (x : Seat ValueFraction View). x.me.0.slots.closes) same ∙ (ap (λ (m : LocalState _). m.slots.closes) c.self.view_is ∙ c.requires.closes))
+        now did.4 in
+        let table = moved.0 ∙ held.table in let others = moved.2 ∙ held.others in
+        let here = view ∙ ap (λ (x : Seat ValueFraction View). record (with_filled slot shared now x.me.0) {
+          words = sole_words shared slot x.me.0.sizes x.me.0.words;
+        }) same in
+        let told = held_tells b l.place l.own t q slot shared grip.shown h held (showing g.row.T did.0) did.2 in
+        let at = here ∙ (λ d. record (with_filled (is d) (sorted d) now l.token.me.0) {
+          words = sole_words (sorted d) (is d) l.token.me.0.sizes l.token.me.0.words;
+        }) in
+        let from = table ∙ ap (λ (x : Seat ValueFraction View). x.table_id) same in
+        let inside = subst (λ (r : Right). number_of r < (home_of r).size) c.take.ensures c.into_owner-owner.ensures.inside in
+        let low = owner_inside b m known.on right kind known.home c.requires.kind w grip (λ _. known.owner) slot is inside in let new : LocalState _ = with_view
+            m u.table_id u.me.0 in
+        let made = c.of_witness.ensures in
+        let owner : IsRightTo m kind now c.of_witness.result = record {
+          home = right_anew b m known.on right kind known.home c.requires.kind w grip (λ _. known.owner) slot is c.change_alone-owner.result.0
+              c.change_alone-owner.result.1
+              l.domain.now.limits.slots c.of_witness.result did.5 did.7.unit.book_is refl made.home;
+          kind = made.kind;
+          value = made.views ∙ (did.6 ∙ (λ d. witness_of_owner (sym made.number d) ((sorted ∙ ap is_shared (sym made.kind)) d) now));
+        } in (
+          did.0,
+          did.1,
+          subst (λ (x : Gv). HasValue x right) told (known.has seen),
+          did.3,
+          subst (λ (x : LocalState _). ChangesAt k (is_shared kind) now x new) c.self.view_is record {
+            inside = subst (λ (n : ℕ). k < n) (sym known.on.slots) (subst (λ (j : ℕ). j < slots_of b) is low);
+            member = λ d. with_view m (from d) (at d);
+            sole = knew_sole m slot k is shared (is_shared kind) sorted l.token t u same refl known.all held.sole;
+            quiet = held_shut b l.place l.own t q slot shared grip.shown h held;
+          },
+          subst (λ (r : Right). IsRightTo c.args.self.now kind now r) (sym c.put.ensures)
+              (subst (λ (x : LocalState _). IsRightTo x kind now c.of_witness.result) c.self.view_is owner),
+          subst (λ (x : LocalState _). AreOf (home_in x) (g.T.Item.holds did.1)) c.self.view_is (from_board b m known.on (g.T.Item.holds did.1) did.8),
+          did.9 ∙ ap (λ (j : ℕ). slice_set c.args.ledger.now.entries j (Some (did.1, now))) is,
+        );
+      slot = search rules;
+      recalled = subst (λ (x : LocalState _). IsLone x → (value : Gv) × HasValue value right × KnowsOwner x (number_of right) (is_shared kind) value)
+          c.self.view_is
+        (λ lone. (grip.shown, known.has seen, known.tells lone));
+    }
 
-pub returns-in-Ok-clause-recalled : goal.returns-in-Ok-clause-recalled
-returns-in-Ok-clause-recalled g c =
+pub returns-in-Err : goal.returns-in-Err
+returns-in-Err g c =
     let l = c.self.inside in let b = l.domain.now.board in let m : LocalState _ = c.self.view_is 0 in let right = c.args.right.now in let kind = c.args.kind in
-    let on = on_board l.domain.now.limits b l.token.table_id c.self.invariant.0.home l.domain.now.limited.1 m refl refl refl in
-    let home = c.requires.home ∙ sym (ap slots_home c.self.view_is) in
-    let w = c.into_owner-owner.result.0 in let grip = c.into_owner-owner.result.1 in
-    let by = subst (λ (r : Right). AreSlotsOfTable (home_of r) → IsOwnerBy (home_of r) (number_of r) (is_shared (kind_of r)) w grip) c.take.ensures
-    c.into_owner-owner.ensures.owner in let seen = c.into_owner-owner.ensures.views ∙ ap views_of c.take.ensures in
-    let slot : ℕ = c.number-slot.result in let is = c.number-slot.ensures in let t = c.recall.new.token in
-    let known = owner_views b m on right kind home c.requires.kind w grip by slot is in
-    let same = same_recalled b l.place slot (is_shared kind) grip.shown l.token t (c.recall.ensures slot (is_shared kind) grip.shown known) in
-    let q = subst (λ (x : Seat ValueFraction View). IsBetweenCalls b l.place l.own x) (sym same) c.self.invariant.0 in
-    let k : ℕ = number_of right in let told = owner_views b m on right kind home c.requires.kind w grip by k refl in
-    subst (λ (x : LocalState _). IsLone x → (value : Gv) × HasValue value right × KnowsOwner x k (is_shared kind) value) c.self.view_is (λ lone. (
-      grip.shown,
-      owner_has b m on right kind home c.requires.kind w grip by slot is seen,
-      recalls_to m k (is_shared kind) grip.shown l.token t (c.recall.ensures k (is_shared kind) grip.shown told)
-          (c.self.invariant.0.all ∙ ap (λ (z : Sizes). z.participants) l.domain.now.limited.1) lone,
-    ))
-
-pub returns-in-Err-clause-changed : goal.returns-in-Err-clause-changed
-returns-in-Err-clause-changed g c =
-    let l = c.self.inside in let b = l.domain.now.board in let m : LocalState _ = c.self.view_is 0 in let right = c.args.right.now in let kind = c.args.kind in
-    let on = on_board l.domain.now.limits b l.token.table_id c.self.invariant.0.home l.domain.now.limited.1 m refl refl refl in
-    let home = c.requires.home ∙ sym (ap slots_home c.self.view_is) in
-    let w = c.into_owner-owner.result.0 in let grip = c.into_owner-owner.result.1 in
-    let by = subst (λ (r : Right). AreSlotsOfTable (home_of r) → IsOwnerBy (home_of r) (number_of r) (is_shared (kind_of r)) w grip) c.take.ensures
-    c.into_owner-owner.ensures.owner in let seen = c.into_owner-owner.ensures.views ∙ ap views_of c.take.ensures in
-    let slot : ℕ = c.number-slot.result in let is = c.number-slot.ensures in let t = c.recall.new.token in
-    let known = owner_views b m on right kind home c.requires.kind w grip by slot is in
-    let same = same_recalled b l.place slot (is_shared kind) grip.shown l.token t (c.recall.ensures slot (is_shared kind) grip.shown known) in
-    let q = subst (λ (x : Seat ValueFraction View). IsBetweenCalls b l.place l.own x) (sym same) c.self.invariant.0 in
-    let back = c.in-Err.ensures in let made = c.of_witness-in-Err.ensures in let h = c.hold_alone.new.token in let k : ℕ = number_of right in
-    let shared : Bool = c.is_one_of_several-shared.result in let sorted = c.is_one_of_several-shared.ensures in
-    let alone : IsLone m → l.token.me.0.epoch.all ≡ 1
-    = λ lone. c.self.invariant.0.all ∙ (ap (λ (z : Sizes). z.participants) l.domain.now.limited.1 ∙ lone) in (
-      refl,
-      c.put-in-Err.ensures ∙ right_again b m on right kind home c.requires.kind w grip by slot is c.in-Err.owner l.domain.now.limits.slots
-          c.of_witness-in-Err.result back.1 back.2 seen refl made.number made.home made.kind made.views,
-      refl,
-      subst (λ (x : LocalState _). ((c.refused.result ≡ Refused.NotAlone) × HasOthers k (is_shared kind) x (with_token m h))
-          ⊎ ((c.refused.result ≡ Refused.GuardOpen) × SeesGuard k (is_shared kind) x (with_token m h))) c.self.view_is
-          (hindered_at m slot k is shared (is_shared kind) sorted l.token t h same refl alone (guard_of b l.place l.own t q)
-          c.in-Err.hindrance c.refused.result c.refused.ensures back.0),
-    )
-
-pub returns-in-Err-clause-recalled : goal.returns-in-Err-clause-recalled
-returns-in-Err-clause-recalled g c =
-    let l = c.self.inside in let b = l.domain.now.board in let m : LocalState _ = c.self.view_is 0 in let right = c.args.right.now in let kind = c.args.kind in
-    let on = on_board l.domain.now.limits b l.token.table_id c.self.invariant.0.home l.domain.now.limited.1 m refl refl refl in
-    let home = c.requires.home ∙ sym (ap slots_home c.self.view_is) in
-    let w = c.into_owner-owner.result.0 in let grip = c.into_owner-owner.result.1 in
-    let by = subst (λ (r : Right). AreSlotsOfTable (home_of r) → IsOwnerBy (home_of r) (number_of r) (is_shared (kind_of r)) w grip) c.take.ensures
-    c.into_owner-owner.ensures.owner in let seen = c.into_owner-owner.ensures.views ∙ ap views_of c.take.ensures in
-    let slot : ℕ = c.number-slot.result in let is = c.number-slot.ensures in let t = c.recall.new.token in
-    let known = owner_views b m on right kind home c.requires.kind w grip by slot is in
-    let same = same_recalled b l.place slot (is_shared kind) grip.shown l.token t (c.recall.ensures slot (is_shared kind) grip.shown known) in
-    let q = subst (λ (x : Seat ValueFraction View). IsBetweenCalls b l.place l.own x) (sym same) c.self.invariant.0 in
-    let k : ℕ = number_of right in let told = owner_views b m on right kind home c.requires.kind w grip by k refl in
-    subst (λ (x : LocalState _). IsLone x → (value : Gv) × HasValue value right × KnowsOwner x k (is_shared kind) value) c.self.view_is (λ lone. (
-      grip.shown,
-      owner_has b m on right kind home c.requires.kind w grip by slot is seen,
-      recalls_to m k (is_shared kind) grip.shown l.token t (c.recall.ensures k (is_shared kind) grip.shown told)
-          (c.self.invariant.0.all ∙ ap (λ (z : Sizes). z.participants) l.domain.now.limited.1) lone,
-    ))
+    let known = recalled g (goal.at.returns-in-Err g c).After-recall in let same = known.same in let q = known.between in let w = c.into_owner-owner.result.0 in
+    let grip = c.into_owner-owner.result.1 in let seen = c.into_owner-owner.ensures.views ∙ ap views_of c.take.ensures in let slot : ℕ = c.number-slot.result in
+    let is = c.number-slot.ensures in let t = c.recall.new.token in let k : ℕ = number_of right in record {
+      changed =
+        let back = c.in-Err.ensures in let made = c.of_witness-in-Err.ensures in let h = c.hold_alone.new.token in
+        let shared : Bool = c.is_one_of_several-shared.result in let sorted = c.is_one_of_several-shared.ensures in (
+          refl,
+          c.put-in-Err.ensures ∙ right_again b m known.on right kind known.home c.requires.kind w grip (λ _. known.owner) slot is c.in-Err.owner
+              l.domain.now.limits.slots
+              c.of_witness-in-Err.result back.1 back.2 seen refl made.number made.home made.kind made.views,
+          refl,
+          subst (λ (x : LocalState _). ((c.refused.result ≡ Refused.NotAlone) × HasOthers k (is_shared kind) x (with_token m h))
+              ⊎ ((c.refused.result ≡ Refused.GuardOpen) × SeesGuard k (is_shared kind) x (with_token m h))) c.self.view_is
+              (hindered_at m slot k is shared (is_shared kind) sorted l.token t h same refl known.all (guard_of b l.place l.own t q)
+              c.in-Err.hindrance c.refused.result c.refused.ensures back.0),
+        );
+      slot = search rules;
+      recalled = subst (λ (x : LocalState _). IsLone x → (value : Gv) × HasValue value right × KnowsOwner x (number_of right) (is_shared kind) value)
+          c.self.view_is
+        (λ lone. (grip.shown, known.has seen, known.tells lone));
+    }

@@ -1,7 +1,7 @@
 use mathlib.Core.Logic.{dite}
 use native.Mathlib.Decide.{dec_lt}
 use lib.ListN.{get_elem?}
-use Rattle.std.proofs.Common.{◌≡◌, ℕ, ◌<◌, List, [], ◌∷◌, refl, sym, ap, ◌∙◌, subst, arith}
+use Rattle.std.proofs.Common.{◌≡◌, ℕ, ◌<◌, List, [], ◌∷◌, refl, sym, ap, ◌∙◌, subst, arith, rules}
 use Rattle.std.specs.Prelude.{Bool, false}
 use base.Stored.{Gv}
 use Rattle.atomic_table.specs.declared.shared.Seat.{Seat}
@@ -25,107 +25,47 @@ use Rattle.sdd_domain.proofs.Posing.{same_recalled}
 use Rattle.sdd_domain.proofs.RawCore.{put_home, put_view, put_others, posed_out}
 use Rattle.sdd_domain.proofs.local_core.LocalCore.into_raw.Goals as goal
 
-pub take_in-requires-clause-home : goal.take_in-requires-clause-home
-take_in-requires-clause-home g c = let l = c.self.inside in let board = l.domain.now.board in let q = c.self.invariant.0 in
-    let slot : ℕ = number_of c.args.right in
+pub take_in-requires : goal.take_in-requires
+take_in-requires g c =
+    let l = c.self.inside in let board = l.domain.now.board in let q = c.self.invariant.0 in let slot : ℕ = number_of c.args.right in
     let by = c.into_owner-owner.ensures.owner (has_tables c.args.self.now c.args.right c.requires.home) in let shown : Gv = c.into_owner-owner.result.1.shown in
     let views = by.owner ∙ ap (λ (b : Bool). witness_of_owner slot b shown) (ap is_shared c.requires.kind) in
-    let recalled = c.recall.ensures slot false shown views in
-    let same = same_recalled board l.place slot false shown l.token c.recall.new.token recalled in
-    ap (λ (x : Seat ValueFraction View). x.table_id) same ∙ q.home
+    let recalled = c.recall.ensures slot false shown views in let same = same_recalled board l.place slot false shown l.token c.recall.new.token recalled in
+    record {
+      home = ap (λ (x : Seat ValueFraction View). x.table_id) same ∙ q.home;
+      rests = ap (λ (x : Seat ValueFraction View). x.me.0.stakes.moves) same ∙ q.rests;
+      owner = search rules;
+    }
 
-pub take_in-requires-clause-rests : goal.take_in-requires-clause-rests
-take_in-requires-clause-rests g c = let l = c.self.inside in let board = l.domain.now.board in let q = c.self.invariant.0 in
-    let slot : ℕ = number_of c.args.right in
+pub put_out-requires : goal.put_out-requires
+put_out-requires g c =
+    let l = c.self.inside in let board = l.domain.now.board in let q = c.self.invariant.0 in let slot : ℕ = number_of c.args.right in
     let by = c.into_owner-owner.ensures.owner (has_tables c.args.self.now c.args.right c.requires.home) in let shown : Gv = c.into_owner-owner.result.1.shown in
     let views = by.owner ∙ ap (λ (b : Bool). witness_of_owner slot b shown) (ap is_shared c.requires.kind) in
-    let recalled = c.recall.ensures slot false shown views in
-    let same = same_recalled board l.place slot false shown l.token c.recall.new.token recalled in
-    ap (λ (x : Seat ValueFraction View). x.me.0.stakes.moves) same ∙ q.rests
-
-pub put_out-requires-clause-home : goal.put_out-requires-clause-home
-put_out-requires-clause-home g c = let l = c.self.inside in let board = l.domain.now.board in let q = c.self.invariant.0 in
-    let slot : ℕ = number_of c.args.right in
-    let by = c.into_owner-owner.ensures.owner (has_tables c.args.self.now c.args.right c.requires.home) in let shown : Gv = c.into_owner-owner.result.1.shown in
-    let views = by.owner ∙ ap (λ (b : Bool). witness_of_owner slot b shown) (ap is_shared c.requires.kind) in
-    let recalled = c.recall.ensures slot false shown views in
-    let same = same_recalled board l.place slot false shown l.token c.recall.new.token recalled in
+    let recalled = c.recall.ensures slot false shown views in let same = same_recalled board l.place slot false shown l.token c.recall.new.token recalled in
     let took = subst (λ (x : Seat ValueFraction View). Taught (λ v _ w. w ≡ regained v (owner_of slot false shown)) x 0 c.take_in.new.token) same
     (c.take_in.ensures slot false shown views) in
-    took.0 ∙ q.home
-
-pub put_out-requires-clause-knows : goal.put_out-requires-clause-knows
-put_out-requires-clause-knows g c = let l = c.self.inside in let board = l.domain.now.board in let q = c.self.invariant.0 in
-    let slot : ℕ = number_of c.args.right in
-    let by = c.into_owner-owner.ensures.owner (has_tables c.args.self.now c.args.right c.requires.home) in let shown : Gv = c.into_owner-owner.result.1.shown in
-    let views = by.owner ∙ ap (λ (b : Bool). witness_of_owner slot b shown) (ap is_shared c.requires.kind) in
-    let recalled = c.recall.ensures slot false shown views in
-    let same = same_recalled board l.place slot false shown l.token c.recall.new.token recalled in
-    let took = subst (λ (x : Seat ValueFraction View). Taught (λ v _ w. w ≡ regained v (owner_of slot false shown)) x 0 c.take_in.new.token) same
-    (c.take_in.ensures slot false shown views) in
-    (ap (λ (v : View). v.sizes) took.3 ∙ q.knows.0, ap (λ (v : View). v.stakes.book) took.3 ∙ q.knows.1)
-
-pub put_out-requires-clause-place : goal.put_out-requires-clause-place
-put_out-requires-clause-place g c = let l = c.self.inside in let board = l.domain.now.board in let q = c.self.invariant.0 in
-    let slot : ℕ = number_of c.args.right in
-    let by = c.into_owner-owner.ensures.owner (has_tables c.args.self.now c.args.right c.requires.home) in let shown : Gv = c.into_owner-owner.result.1.shown in
-    let views = by.owner ∙ ap (λ (b : Bool). witness_of_owner slot b shown) (ap is_shared c.requires.kind) in
-    let recalled = c.recall.ensures slot false shown views in
-    let same = same_recalled board l.place slot false shown l.token c.recall.new.token recalled in
-    let took = subst (λ (x : Seat ValueFraction View). Taught (λ v _ w. w ≡ regained v (owner_of slot false shown)) x 0 c.take_in.new.token) same
-    (c.take_in.ensures slot false shown views) in
-    let state = ap (λ (v : View). v.epoch.state) took.3 in
-    dite (dec_lt 0 l.own.guards) (λ some. subst (λ (k : ℕ). 0 < k) (sym (state ∙ q.opened some)) (omega arith))
-    (λ none. subst (λ (k : ℕ). 0 < k) (sym (state ∙ q.closed (omega arith))) (omega arith))
-
-pub put_out-requires-clause-own : goal.put_out-requires-clause-own
-put_out-requires-clause-own g c = let l = c.self.inside in let board = l.domain.now.board in let q = c.self.invariant.0 in
-    let slot : ℕ = number_of c.args.right in
-    let by = c.into_owner-owner.ensures.owner (has_tables c.args.self.now c.args.right c.requires.home) in let shown : Gv = c.into_owner-owner.result.1.shown in
-    let views = by.owner ∙ ap (λ (b : Bool). witness_of_owner slot b shown) (ap is_shared c.requires.kind) in
-    let recalled = c.recall.ensures slot false shown views in
-    let same = same_recalled board l.place slot false shown l.token c.recall.new.token recalled in
-    let took = subst (λ (x : Seat ValueFraction View). Taught (λ v _ w. w ≡ regained v (owner_of slot false shown)) x 0 c.take_in.new.token) same
-    (c.take_in.ensures slot false shown views) in
-    let none = ap (λ (v : View). v.slots.holds) took.3 ∙ q.quiet.holds in (
-      ap (λ (v : View). v.slots.owns) took.3 ∙ (ap (λ (is : List ℕ). slot ∷ is) q.quiet.owns ∙ ap (λ (k : ℕ). k ∷ []) (sym c.number-slot.ensures)),
-      (λ held. cc),
-      ap (λ (v : View). v.slots.drawn) took.3 ∙ (ap (λ (is : List ℕ). slot ∷ is) q.quiet.drawn ∙ ap (λ (k : ℕ). k ∷ []) (sym c.number-slot.ensures)),
-    )
-
-pub put_out-requires-clause-told : goal.put_out-requires-clause-told
-put_out-requires-clause-told g c = let l = c.self.inside in let board = l.domain.now.board in let q = c.self.invariant.0 in
-    let slot : ℕ = number_of c.args.right in
-    let by = c.into_owner-owner.ensures.owner (has_tables c.args.self.now c.args.right c.requires.home) in let shown : Gv = c.into_owner-owner.result.1.shown in
-    let views = by.owner ∙ ap (λ (b : Bool). witness_of_owner slot b shown) (ap is_shared c.requires.kind) in
-    let recalled = c.recall.ensures slot false shown views in
-    let same = same_recalled board l.place slot false shown l.token c.recall.new.token recalled in
-    let took = subst (λ (x : Seat ValueFraction View). Taught (λ v _ w. w ≡ regained v (owner_of slot false shown)) x 0 c.take_in.new.token) same
-    (c.take_in.ensures slot false shown views) in
-    subst (λ (k : ℕ). (value : Gv) × HasRecord c.take_in.new.token.me.0.stakes.owns (record { slot = k; shared = false; value = value }))
-    (sym c.number-slot.ensures) (shown, (0, ap (λ (v : View). get_elem? v.stakes.owns 0) took.3))
-
-pub put_out-requires-clause-shows : goal.put_out-requires-clause-shows
-put_out-requires-clause-shows g c = let l = c.self.inside in let board = l.domain.now.board in let q = c.self.invariant.0 in
-    let slot : ℕ = number_of c.args.right in
-    let by = c.into_owner-owner.ensures.owner (has_tables c.args.self.now c.args.right c.requires.home) in let shown : Gv = c.into_owner-owner.result.1.shown in
-    let views = by.owner ∙ ap (λ (b : Bool). witness_of_owner slot b shown) (ap is_shared c.requires.kind) in
-    let recalled = c.recall.ensures slot false shown views in
-    let same = same_recalled board l.place slot false shown l.token c.recall.new.token recalled in
-    let took = subst (λ (x : Seat ValueFraction View). Taught (λ v _ w. w ≡ regained v (owner_of slot false shown)) x 0 c.take_in.new.token) same
-    (c.take_in.ensures slot false shown views) in
-    (0, record { slot = slot; shared = false; value = shown }, ap (λ (v : View). get_elem? v.stakes.owns 0) took.3, sym c.number-slot.ensures, refl)
-
-pub put_out-requires-clause-rests : goal.put_out-requires-clause-rests
-put_out-requires-clause-rests g c = let l = c.self.inside in let board = l.domain.now.board in let q = c.self.invariant.0 in
-    let slot : ℕ = number_of c.args.right in
-    let by = c.into_owner-owner.ensures.owner (has_tables c.args.self.now c.args.right c.requires.home) in let shown : Gv = c.into_owner-owner.result.1.shown in
-    let views = by.owner ∙ ap (λ (b : Bool). witness_of_owner slot b shown) (ap is_shared c.requires.kind) in
-    let recalled = c.recall.ensures slot false shown views in
-    let same = same_recalled board l.place slot false shown l.token c.recall.new.token recalled in
-    let took = subst (λ (x : Seat ValueFraction View). Taught (λ v _ w. w ≡ regained v (owner_of slot false shown)) x 0 c.take_in.new.token) same
-    (c.take_in.ensures slot false shown views) in
-    ap (λ (v : View). v.stakes.moves) took.3 ∙ q.rests
+    record {
+      home = took.0 ∙ q.home;
+      knows = (ap (λ (v : View). v.sizes) took.3 ∙ q.knows.0, ap (λ (v : View). v.stakes.book) took.3 ∙ q.knows.1);
+      inside = search rules;
+      place =
+        let state = ap (λ (v : View). v.epoch.state) took.3 in
+        dite (dec_lt 0 l.own.guards) (λ some. subst (λ (k : ℕ). 0 < k) (sym (state ∙ q.opened some)) (omega arith))
+        (λ none. subst (λ (k : ℕ). 0 < k) (sym (state ∙ q.closed (omega arith))) (omega arith));
+      own =
+        let none = ap (λ (v : View). v.slots.holds) took.3 ∙ q.quiet.holds in
+        (
+          ap (λ (v : View). v.slots.owns) took.3 ∙ (ap (λ (is : List ℕ). slot ∷ is) q.quiet.owns ∙ ap (λ (k : ℕ). k ∷ []) (sym c.number-slot.ensures)),
+          (λ held. cc),
+          ap (λ (v : View). v.slots.drawn) took.3 ∙ (ap (λ (is : List ℕ). slot ∷ is) q.quiet.drawn ∙ ap (λ (k : ℕ). k ∷ []) (sym c.number-slot.ensures)),
+        );
+      told = subst (λ (k : ℕ). (value : Gv) × HasRecord c.take_in.new.token.me.0.stakes.owns (record { slot = k; shared = false; value = value }))
+        (sym c.number-slot.ensures) (shown, (0, ap (λ (v : View). get_elem? v.stakes.owns 0) took.3));
+      unit = search rules;
+      shows = (0, record { slot = slot; shared = false; value = shown }, ap (λ (v : View). get_elem? v.stakes.owns 0) took.3, sym c.number-slot.ensures, refl);
+      rests = ap (λ (v : View). v.stakes.moves) took.3 ∙ q.rests;
+    }
 
 pub invariant_of-self : goal.invariant_of-self
 invariant_of-self g c = let l = c.self.inside in let board = l.domain.now.board in let q = c.self.invariant.0 in let slot : ℕ = number_of c.args.right in
@@ -145,28 +85,25 @@ invariant_of-self g c = let l = c.self.inside in let board = l.domain.now.board 
       subst (IsTallied 0 l.tally) (sym (ap (λ (v : View). v.stakes.counts) is)) i.5,
     )
 
-pub returns-clause-out : goal.returns-clause-out
-returns-clause-out g c = let l = c.self.inside in let board = l.domain.now.board in let q = c.self.invariant.0 in let slot : ℕ = number_of c.args.right in
+pub returns : goal.returns
+returns g c =
+    let l = c.self.inside in let board = l.domain.now.board in let q = c.self.invariant.0 in let slot : ℕ = number_of c.args.right in
     let by = c.into_owner-owner.ensures.owner (has_tables c.args.self.now c.args.right c.requires.home) in let shown : Gv = c.into_owner-owner.result.1.shown in
     let views = by.owner ∙ ap (λ (b : Bool). witness_of_owner slot b shown) (ap is_shared c.requires.kind) in
-    let recalled = c.recall.ensures slot false shown views in
-    let same = same_recalled board l.place slot false shown l.token c.recall.new.token recalled in
-    let took = subst (λ (x : Seat ValueFraction View). Taught (λ v _ w. w ≡ regained v (owner_of slot false shown)) x 0 c.take_in.new.token) same
-    (c.take_in.ensures slot false shown views) in
-    let put = subst (λ (k : ℕ). Moved (PutsOut k) c.take_in.new.token 2 c.put_out.new.token) c.number-slot.ensures c.put_out.ensures in
-    let old : LocalState _ = c.self.view_is 0 in
-    let home = put_home board l.place l.own slot shown l.token c.take_in.new.token c.put_out.new.token q took put in
-    let is = put_view board l.place l.own slot shown l.token c.take_in.new.token c.put_out.new.token q took put in
-    (λ d. with_view old (home d) (is d)) ∙ ap (put_out slot) c.self.view_is
-
-pub returns-clause-recalled : goal.returns-clause-recalled
-returns-clause-recalled g c = let l = c.self.inside in let board = l.domain.now.board in let q = c.self.invariant.0 in let slot : ℕ = number_of c.args.right in
-    let by = c.into_owner-owner.ensures.owner (has_tables c.args.self.now c.args.right c.requires.home) in let shown : Gv = c.into_owner-owner.result.1.shown in
-    let views = by.owner ∙ ap (λ (b : Bool). witness_of_owner slot b shown) (ap is_shared c.requires.kind) in
-    let recalled = c.recall.ensures slot false shown views in
-    let same = same_recalled board l.place slot false shown l.token c.recall.new.token recalled in
-    subst (λ (m : LocalState _). IsLone m → (value : Gv) × KnowsOwner m slot false value) c.self.view_is (λ lone. (
-      shown,
-      recalls_to (c.self.view_is 0) slot false shown l.token c.recall.new.token recalled
-          (q.all ∙ ap (λ (z : Sizes). z.participants) l.domain.now.limited.1) lone,
-    ))
+    let recalled = c.recall.ensures slot false shown views in let same = same_recalled board l.place slot false shown l.token c.recall.new.token recalled in
+    record {
+      slot = search rules;
+      out =
+        let took = subst (λ (x : Seat ValueFraction View). Taught (λ v _ w. w ≡ regained v (owner_of slot false shown)) x 0 c.take_in.new.token) same
+        (c.take_in.ensures slot false shown views) in
+        let put = subst (λ (k : ℕ). Moved (PutsOut k) c.take_in.new.token 2 c.put_out.new.token) c.number-slot.ensures c.put_out.ensures in
+        let old : LocalState _ = c.self.view_is 0 in
+        let home = put_home board l.place l.own slot shown l.token c.take_in.new.token c.put_out.new.token q took put in
+        let is = put_view board l.place l.own slot shown l.token c.take_in.new.token c.put_out.new.token q took put in
+        (λ d. with_view old (home d) (is d)) ∙ ap (put_out slot) c.self.view_is;
+      recalled = subst (λ (m : LocalState _). IsLone m → (value : Gv) × KnowsOwner m slot false value) c.self.view_is (λ lone. (
+          shown,
+          recalls_to (c.self.view_is 0) slot false shown l.token c.recall.new.token recalled
+              (q.all ∙ ap (λ (z : Sizes). z.participants) l.domain.now.limited.1) lone,
+        ));
+    }

@@ -29,20 +29,25 @@ use Rattle.sdd_domain.proofs.Housed.{on_board, from_shelf}
 use Rattle.sdd_domain.proofs.Moving.{can_show, shows_known}
 use Rattle.sdd_domain.proofs.Posing.{watched, posed_shows}
 use Rattle.sdd_domain.proofs.Members.{with_token, looks_at}
+use Rattle.sdd_domain.proofs.local_core.LocalCore.load.Given.{Over}
+use Rattle.sdd_domain.proofs.local_core.LocalCore.load.Goals.{After-see_in-word}
 use Rattle.sdd_domain.proofs.local_core.LocalCore.load.Goals as goal
+
+-- the cell was recalled, which changed nothing, and its word was seen
+looked : (g : Over) (c : After-see_in-word g) → Moved (SeesInCell c.number.result) c.self.inside.token c.see_in-word.result c.see_in-word.new.token
+looked g c = let cell = c.args.cell.now in
+    let views = cell_views c.args.self.now.home cell (kind_of cell) c.witness.result.now (number_of cell) c.requires.home refl c.witness.ensures.cell refl in
+    let known = c.recall_cell.ensures (number_of cell) (is_shared (kind_of cell)) views in
+    let same : c.recall_cell.new.token ≡ c.self.inside.token
+    = λ d. record c.recall_cell.new.token { table_id = known.0 d; id = known.1 d; me = known.2.0 d } in
+    subst (λ (x : Seat ValueFraction View). Moved (SeesInCell c.number.result) x c.see_in-word.result c.see_in-word.new.token) same c.see_in-word.ensures
 
 pub invariant_of-self : goal.invariant_of-self
 invariant_of-self g c =
-    let l = c.self.inside in let b = l.domain.now.board in let t : ℕ = c.tenure_of-tenure.result.now.round in let inv = c.self.invariant in
-    let cell = c.args.cell.now in let word : ℕ = c.see_in-word.result in let f = c.see_in-word.new.token in
-    let views = cell_views c.args.self.now.home cell (kind_of cell) c.witness.result.now (number_of cell) c.requires.home refl c.witness.ensures.cell refl in
-    let known = c.recall_cell.ensures (number_of cell) (is_shared (kind_of cell)) views in
-    let same : c.recall_cell.new.token ≡ l.token
-    = λ d. record c.recall_cell.new.token { table_id = known.0 d; id = known.1 d; me = known.2.0 d } in
-    let look = subst (λ (x : Seat ValueFraction View). Moved (SeesInCell c.number.result) x word f) same c.see_in-word.ensures in
+    let l = c.self.inside in let b = l.domain.now.board in let inv = c.self.invariant in let word : ℕ = c.see_in-word.result in
+    let f = c.see_in-word.new.token in let look = looked g (goal.at.invariant_of-self g c).After-see_in-word in
     let none = named_none word (sym c.in_default.ensures.held) in
-    let still : f ≡ l.token = λ d. record f { table_id = look.0 d; id = look.1 d; me = look.2.0 none d } in
-    let lent = subst (λ (t : ℕ). AreLentTo t l.token.me.1) (sym c.agree.ensures.round) inv.3 in (
+    let still : f ≡ l.token = λ d. record f { table_id = look.0 d; id = look.1 d; me = look.2.0 none d } in (
       subst (λ (x : Seat ValueFraction View). IsBetweenCalls b l.place l.own x) (sym still) inv.0,
       inv.1,
       inv.2,
@@ -53,62 +58,33 @@ invariant_of-self g c =
 
 pub returns-in_default-clause-seen : goal.returns-in_default-clause-seen
 returns-in_default-clause-seen g c =
-    let l = c.self.inside in let b = l.domain.now.board in let t : ℕ = c.tenure_of-tenure.result.now.round in let inv = c.self.invariant in
-    let cell = c.args.cell.now in let word : ℕ = c.see_in-word.result in let f = c.see_in-word.new.token in
-    let views = cell_views c.args.self.now.home cell (kind_of cell) c.witness.result.now (number_of cell) c.requires.home refl c.witness.ensures.cell refl in
-    let known = c.recall_cell.ensures (number_of cell) (is_shared (kind_of cell)) views in
-    let same : c.recall_cell.new.token ≡ l.token
-    = λ d. record c.recall_cell.new.token { table_id = known.0 d; id = known.1 d; me = known.2.0 d } in
-    let look = subst (λ (x : Seat ValueFraction View). Moved (SeesInCell c.number.result) x word f) same c.see_in-word.ensures in
-    let none = named_none word (sym c.in_default.ensures.held) in
+    let l = c.self.inside in let word : ℕ = c.see_in-word.result in let f = c.see_in-word.new.token in
+    let look = looked g (goal.at.returns-in_default-clause-seen g c).After-see_in-word in let none = named_none word (sym c.in_default.ensures.held) in
     let still : f ≡ l.token = λ d. record f { table_id = look.0 d; id = look.1 d; me = look.2.0 none d } in
     ap (with_token (c.self.view_is 0)) still ∙ c.self.view_is
 
-pub show-value-requires-clause-inside : goal.show-value-requires-clause-inside
-show-value-requires-clause-inside g c =
+pub show-value-requires : goal.show-value-requires
+show-value-requires g c =
     let l = c.self.inside in let b = l.domain.now.board in let t : ℕ = c.tenure_of-tenure.result.now.round in let inv = c.self.invariant in
     let cell = c.args.cell.now in let word : ℕ = c.see_in-word.result in let f = c.see_in-word.new.token in
-    let views = cell_views c.args.self.now.home cell (kind_of cell) c.witness.result.now (number_of cell) c.requires.home refl c.witness.ensures.cell refl in
-    let known = c.recall_cell.ensures (number_of cell) (is_shared (kind_of cell)) views in
-    let same : c.recall_cell.new.token ≡ l.token
-    = λ d. record c.recall_cell.new.token { table_id = known.0 d; id = known.1 d; me = known.2.0 d } in
-    let look = subst (λ (x : Seat ValueFraction View). Moved (SeesInCell c.number.result) x word f) same c.see_in-word.ensures in
-    let slot : ℕ = c.in-Some.slot in let one = named word slot (sym c.held_slot.ensures.held ∙ c.in-Some.is) in let hit = look.2.1 slot one in
-    let shared : Bool = hit.0 in let shown : Gv = hit.1 in
-    let watch : MovedAlone (SeesOwned slot shared shown) l.token f = (look.0, look.1, hit.3) in
+    let look = looked g (goal.at.show-value-requires g c).After-see_in-word in let slot : ℕ = c.in-Some.slot in
+    let one = named word slot (sym c.held_slot.ensures.held ∙ c.in-Some.is) in let hit = look.2.1 slot one in let shared : Bool = hit.0 in
+    let shown : Gv = hit.1 in let watch : MovedAlone (SeesOwned slot shared shown) l.token f = (look.0, look.1, hit.3) in
     let seen = watched b l.place l.own t slot shared shown l.token f inv.0
-    (subst (λ (t : ℕ). AreLentTo t l.token.me.1) (sym c.agree.ensures.round) inv.3) watch in
-    let low = subst (λ (z : Sizes). slot < z.slots) inv.0.knows.0 hit.2 in let size = l.domain.now.shelved.0.size in omega (arith, low, size)
-
-pub show-value-requires-clause-stake : goal.show-value-requires-clause-stake
-show-value-requires-clause-stake g c =
-    let l = c.self.inside in let b = l.domain.now.board in let t : ℕ = c.tenure_of-tenure.result.now.round in let inv = c.self.invariant in
-    let cell = c.args.cell.now in let word : ℕ = c.see_in-word.result in let f = c.see_in-word.new.token in
-    let views = cell_views c.args.self.now.home cell (kind_of cell) c.witness.result.now (number_of cell) c.requires.home refl c.witness.ensures.cell refl in
-    let known = c.recall_cell.ensures (number_of cell) (is_shared (kind_of cell)) views in
-    let same : c.recall_cell.new.token ≡ l.token
-    = λ d. record c.recall_cell.new.token { table_id = known.0 d; id = known.1 d; me = known.2.0 d } in
-    let look = subst (λ (x : Seat ValueFraction View). Moved (SeesInCell c.number.result) x word f) same c.see_in-word.ensures in
-    let slot : ℕ = c.in-Some.slot in let one = named word slot (sym c.held_slot.ensures.held ∙ c.in-Some.is) in let hit = look.2.1 slot one in
-    let shared : Bool = hit.0 in let shown : Gv = hit.1 in
-    let watch : MovedAlone (SeesOwned slot shared shown) l.token f = (look.0, look.1, hit.3) in
-    let seen = watched b l.place l.own t slot shared shown l.token f inv.0
-    (subst (λ (t : ℕ). AreLentTo t l.token.me.1) (sym c.agree.ensures.round) inv.3) watch in
-    subst (λ (k : ℕ). CanShow k slot t (lots f.me.1)) (sym l.domain.now.shelved.0.book)
-    (can_show (book_of b) (places_of b) l.place t slot seen.records f.me.1 seen.purse seen.lent (in_times seen.records slot shown seen.there))
+    (subst (λ (t : ℕ). AreLentTo t l.token.me.1) (sym c.agree.ensures.round) inv.3) watch in record {
+      table = search rules;
+      inside = let low = subst (λ (z : Sizes). slot < z.slots) inv.0.knows.0 hit.2 in let size = l.domain.now.shelved.0.size in omega (arith, low, size);
+      stake = subst (λ (k : ℕ). CanShow k slot t (lots f.me.1)) (sym l.domain.now.shelved.0.book)
+        (can_show (book_of b) (places_of b) l.place t slot seen.records f.me.1 seen.purse seen.lent (in_times seen.records slot shown seen.there));
+    }
 
 pub invariant_of-self-2 : goal.invariant_of-self-2
 invariant_of-self-2 g c =
     let l = c.self.inside in let b = l.domain.now.board in let t : ℕ = c.tenure_of-tenure.result.now.round in let inv = c.self.invariant in
     let cell = c.args.cell.now in let word : ℕ = c.see_in-word.result in let f = c.see_in-word.new.token in
-    let views = cell_views c.args.self.now.home cell (kind_of cell) c.witness.result.now (number_of cell) c.requires.home refl c.witness.ensures.cell refl in
-    let known = c.recall_cell.ensures (number_of cell) (is_shared (kind_of cell)) views in
-    let same : c.recall_cell.new.token ≡ l.token
-    = λ d. record c.recall_cell.new.token { table_id = known.0 d; id = known.1 d; me = known.2.0 d } in
-    let look = subst (λ (x : Seat ValueFraction View). Moved (SeesInCell c.number.result) x word f) same c.see_in-word.ensures in
-    let slot : ℕ = c.in-Some.slot in let one = named word slot (sym c.held_slot.ensures.held ∙ c.in-Some.is) in let hit = look.2.1 slot one in
-    let shared : Bool = hit.0 in let shown : Gv = hit.1 in
-    let watch : MovedAlone (SeesOwned slot shared shown) l.token f = (look.0, look.1, hit.3) in
+    let look = looked g (goal.at.invariant_of-self-2 g c).After-see_in-word in let slot : ℕ = c.in-Some.slot in
+    let one = named word slot (sym c.held_slot.ensures.held ∙ c.in-Some.is) in let hit = look.2.1 slot one in let shared : Bool = hit.0 in
+    let shown : Gv = hit.1 in let watch : MovedAlone (SeesOwned slot shared shown) l.token f = (look.0, look.1, hit.3) in
     let seen = watched b l.place l.own t slot shared shown l.token f inv.0
     (subst (λ (t : ℕ). AreLentTo t l.token.me.1) (sym c.agree.ensures.round) inv.3) watch in
     let some_open : 0 < l.own.guards = search rules in
@@ -118,64 +94,50 @@ invariant_of-self-2 g c =
       inv.1,
       inv.2,
       subst (λ (t : ℕ). AreLentTo t c.show-value.new.seat.me.1) c.agree.ensures.round posed.1,
-      subst (IsReady b l.own l.due l.known.slots l.jobs l.privates) (sym (ap (λ (x : Seat ValueFraction View). known_waiting x.me.0.slots) c.show-value.ensures.seat
+      subst (IsReady b l.own l.due l.known.slots l.jobs l.privates) (sym
+          (ap (λ (x : Seat ValueFraction View). known_waiting x.me.0.slots) c.show-value.ensures.seat
           ∙ ap (λ (v : View). known_waiting v.slots) seen.view)) inv.4,
       subst (IsTallied 0 l.tally) (sym (ap (λ (x : Seat ValueFraction View). x.me.0.stakes.counts) c.show-value.ensures.seat
           ∙ ap (λ (v : View). v.stakes.counts) seen.view)) inv.5,
     )
 
-pub returns-clause-seen : goal.returns-clause-seen
-returns-clause-seen g c =
+pub returns : goal.returns
+returns g c =
     let l = c.self.inside in let b = l.domain.now.board in let t : ℕ = c.tenure_of-tenure.result.now.round in let inv = c.self.invariant in
     let cell = c.args.cell.now in let word : ℕ = c.see_in-word.result in let f = c.see_in-word.new.token in
     let views = cell_views c.args.self.now.home cell (kind_of cell) c.witness.result.now (number_of cell) c.requires.home refl c.witness.ensures.cell refl in
-    let known = c.recall_cell.ensures (number_of cell) (is_shared (kind_of cell)) views in
-    let same : c.recall_cell.new.token ≡ l.token
-    = λ d. record c.recall_cell.new.token { table_id = known.0 d; id = known.1 d; me = known.2.0 d } in
-    let look = subst (λ (x : Seat ValueFraction View). Moved (SeesInCell c.number.result) x word f) same c.see_in-word.ensures in
+    let known = c.recall_cell.ensures (number_of cell) (is_shared (kind_of cell)) views in let look = looked g (goal.at.returns g c).After-see_in-word in
     let slot : ℕ = c.in-Some.slot in let one = named word slot (sym c.held_slot.ensures.held ∙ c.in-Some.is) in let hit = look.2.1 slot one in
-    let shared : Bool = hit.0 in let shown : Gv = hit.1 in
-    let watch : MovedAlone (SeesOwned slot shared shown) l.token f = (look.0, look.1, hit.3) in
+    let shared : Bool = hit.0 in let shown : Gv = hit.1 in let watch : MovedAlone (SeesOwned slot shared shown) l.token f = (look.0, look.1, hit.3) in
     let seen = watched b l.place l.own t slot shared shown l.token f inv.0
     (subst (λ (t : ℕ). AreLentTo t l.token.me.1) (sym c.agree.ensures.round) inv.3) watch in
-    let out : Gv = showing g.row.T c.show-value.result.now in let old : LocalState g.row.J.Denot = c.self.view_is 0 in
-    let is = seen.once slot shown out seen.there (shows_known (book_of b) (places_of b) l.place slot l.domain.now.shelf.book out seen.records
-    f.me.1 seen.purse c.show-value.ensures.value) in
-    let sees : c.show-value.new.seat.me.0.stakes.sees ≡ seen.records = ap (λ (x : Seat ValueFraction View). x.me.0.stakes.sees) c.show-value.ensures.seat
-    ∙ ap (λ (v : View). v.stakes.sees) seen.view in
-    let all = inv.0.all ∙ ap (λ (z : Sizes). z.participants) l.domain.now.limited.1 in
-    let low = subst (λ (z : Sizes). slot < z.slots) (inv.0.knows.0 ∙ l.domain.now.limited.1) hit.2 in
-    subst (λ (m : LocalState g.row.J.Denot). ((flag : Bool) × LooksAt slot flag out m (with_token old c.show-value.new.seat)
-    × (IsLone m → KnowsOwner m slot flag out)) × (slot < m.limits.slots) × IsOnce c.show-value.new.seat.me.0.stakes.sees
-    × AreOf (home_in m) (g.T.Item.holds c.show-value.result.now)) c.self.view_is (
-      (
-        shared,
-        subst (λ (v : Gv). LooksAt slot shared v old (with_token old c.show-value.new.seat)) is
-            (looks_at old slot shared shown l.token f c.show-value.new.seat watch c.show-value.ensures.seat),
-        λ lone. let knows = hit.4 (all ∙ lone) in subst (λ (v : Gv). KnowsOwner old slot shared v) is
-            record { newest = knows.newest; alive = knows.alive; kind = knows.kind },
-      ),
-      low,
-      subst IsOnce (sym sees) seen.once,
-      from_shelf b old (on_board l.domain.now.limits b l.token.table_id inv.0.home l.domain.now.limited.1 old refl refl refl)
-          l.domain.now.shelf l.domain.now.shelved.0 (g.T.Item.holds c.show-value.result.now) c.show-value.ensures.fits,
-    )
-
-pub returns-clause-owned : goal.returns-clause-owned
-returns-clause-owned g c =
-    let l = c.self.inside in let b = l.domain.now.board in let t : ℕ = c.tenure_of-tenure.result.now.round in let inv = c.self.invariant in
-    let cell = c.args.cell.now in let word : ℕ = c.see_in-word.result in let f = c.see_in-word.new.token in
-    let views = cell_views c.args.self.now.home cell (kind_of cell) c.witness.result.now (number_of cell) c.requires.home refl c.witness.ensures.cell refl in
-    let known = c.recall_cell.ensures (number_of cell) (is_shared (kind_of cell)) views in
-    let same : c.recall_cell.new.token ≡ l.token
-    = λ d. record c.recall_cell.new.token { table_id = known.0 d; id = known.1 d; me = known.2.0 d } in
-    let look = subst (λ (x : Seat ValueFraction View). Moved (SeesInCell c.number.result) x word f) same c.see_in-word.ensures in
-    let slot : ℕ = c.in-Some.slot in let one = named word slot (sym c.held_slot.ensures.held ∙ c.in-Some.is) in let hit = look.2.1 slot one in
-    let shared : Bool = hit.0 in let shown : Gv = hit.1 in
-    let watch : MovedAlone (SeesOwned slot shared shown) l.token f = (look.0, look.1, hit.3) in
-    let seen = watched b l.place l.own t slot shared shown l.token f inv.0
-    (subst (λ (t : ℕ). AreLentTo t l.token.me.1) (sym c.agree.ensures.round) inv.3) watch in
-    let all = inv.0.all ∙ ap (λ (z : Sizes). z.participants) l.domain.now.limited.1 in let flag : Bool = is_shared (kind_of cell) in
-    subst (λ (m : LocalState g.row.J.Denot). IsLone m → IsOwnedThere slot flag m) c.self.view_is (λ lone.
-    let knew = look.2.2 (all ∙ lone) ∙ ap (λ (k : ℕ). slice_index l.token.me.0.words k) c.number.ensures in
-    let owned = (known.2.2 (all ∙ lone)).held slot (ap held_slots (sym knew) ∙ one) in record { alive = owned.1; kind = owned.2 })
+    let all = inv.0.all ∙ ap (λ (z : Sizes). z.participants) l.domain.now.limited.1 in record {
+      found = search rules;
+      seen =
+        let out : Gv = showing g.row.T c.show-value.result.now in let old : LocalState g.row.J.Denot = c.self.view_is 0 in
+        let is = seen.once slot shown out seen.there (shows_known (book_of b) (places_of b) l.place slot l.domain.now.shelf.book out seen.records
+        f.me.1 seen.purse c.show-value.ensures.value) in
+        let sees : c.show-value.new.seat.me.0.stakes.sees ≡ seen.records = ap (λ (x : Seat ValueFraction View). x.me.0.stakes.sees) c.show-value.ensures.seat
+        ∙ ap (λ (v : View). v.stakes.sees) seen.view in
+        let low = subst (λ (z : Sizes). slot < z.slots) (inv.0.knows.0 ∙ l.domain.now.limited.1) hit.2 in
+        subst (λ (m : LocalState g.row.J.Denot). ((flag : Bool) × LooksAt slot flag out m (with_token old c.show-value.new.seat)
+        × (IsLone m → KnowsOwner m slot flag out)) × (slot < m.limits.slots) × IsOnce c.show-value.new.seat.me.0.stakes.sees
+        × AreOf (home_in m) (g.T.Item.holds c.show-value.result.now)) c.self.view_is (
+          (
+            shared,
+            subst (λ (v : Gv). LooksAt slot shared v old (with_token old c.show-value.new.seat)) is
+                (looks_at old slot shared shown l.token f c.show-value.new.seat watch c.show-value.ensures.seat),
+            λ lone. let knows = hit.4 (all ∙ lone) in subst (λ (v : Gv). KnowsOwner old slot shared v) is
+                record { newest = knows.newest; alive = knows.alive; kind = knows.kind },
+          ),
+          low,
+          subst IsOnce (sym sees) seen.once,
+          from_shelf b old (on_board l.domain.now.limits b l.token.table_id inv.0.home l.domain.now.limited.1 old refl refl refl)
+              l.domain.now.shelf l.domain.now.shelved.0 (g.T.Item.holds c.show-value.result.now) c.show-value.ensures.fits,
+        );
+      owned =
+        let flag : Bool = is_shared (kind_of cell) in
+        subst (λ (m : LocalState g.row.J.Denot). IsLone m → IsOwnedThere slot flag m) c.self.view_is (λ lone.
+        let knew = look.2.2 (all ∙ lone) ∙ ap (λ (k : ℕ). slice_index l.token.me.0.words k) c.number.ensures in
+        let owned = (known.2.2 (all ∙ lone)).held slot (ap held_slots (sym knew) ∙ one) in record { alive = owned.1; kind = owned.2 });
+    }

@@ -37,22 +37,42 @@ use Rattle.std.specs.Prelude.{Bool, true}
 use base.Stored.{Gv}
 use Rattle.sdd_domain.specs.LocalState.{LocalState, IsLone, KnowsOwner, RetiresAt, LeavesAt}
 use Rattle.sdd_domain.proofs.Members.{with_view, recalls_to, has_tables}
-use Rattle.sdd_domain.proofs.Posing.{posed_retires, retires_to, posed_leaves, leaves_to, same_recalled}
+use Rattle.sdd_domain.proofs.Posing.{has_place, posed_retires, retires_to, posed_leaves, leaves_to, same_recalled}
+use Rattle.sdd_domain.proofs.local_core.LocalCore.release.Given.{Over}
+use Rattle.sdd_domain.proofs.local_core.LocalCore.release.Goals.{After-take_in}
 use Rattle.sdd_domain.proofs.local_core.LocalCore.release.Goals as goal
+
+-- the owner was recalled, which changed nothing, and taken in
+taken : (g : Over) (c : After-take_in g) → Taught (λ v _ w. w ≡ regained v (owner_of (number_of c.args.right) (is_shared (kind_of c.args.right))
+    c.into_owner-owner.result.1.shown)) c.self.inside.token 0 c.take_in.new.token
+taken g c =
+    let l = c.self.inside in let slot : ℕ = number_of c.args.right in let shared : Bool = is_shared (kind_of c.args.right) in
+    let by = c.into_owner-owner.ensures.owner (has_tables c.args.self.now c.args.right c.requires.home) in let shown : Gv = c.into_owner-owner.result.1.shown in
+    let same = same_recalled l.domain.now.board l.place slot shared shown l.token c.recall.new.token (c.recall.ensures slot shared shown by.owner) in
+    subst (λ (x : Seat ValueFraction View). Taught (λ v _ w. w ≡ regained v (owner_of slot shared shown)) x 0 c.take_in.new.token) same
+    (c.take_in.ensures slot shared shown by.owner)
+
+-- what a lone participant knows then
+told : (g : Over) (c : After-take_in g) → IsLone c.args.self.now
+    → (value : Gv) × KnowsOwner c.args.self.now (number_of c.args.right) (is_shared (kind_of c.args.right)) value
+told g c =
+    let l = c.self.inside in let slot : ℕ = number_of c.args.right in let shared : Bool = is_shared (kind_of c.args.right) in
+    let by = c.into_owner-owner.ensures.owner (has_tables c.args.self.now c.args.right c.requires.home) in let shown : Gv = c.into_owner-owner.result.1.shown in
+    subst (λ (m : LocalState _). IsLone m → (value : Gv) × KnowsOwner m slot shared value) c.self.view_is (λ lone. (
+      shown,
+      recalls_to (c.self.view_is 0) slot shared shown l.token c.recall.new.token (c.recall.ensures slot shared shown by.owner)
+          (c.self.invariant.0.all ∙ ap (λ (z : Sizes). z.participants) l.domain.now.limited.1) lone,
+    ))
 
 -- it was the last
 pub invariant_of-self-2 : goal.invariant_of-self-2
 invariant_of-self-2 g c =
     let q = c.self.invariant.0 in let l = c.self.inside in let slot : ℕ = number_of c.args.right in let shared : Bool = is_shared (kind_of c.args.right) in
-    let by = c.into_owner-owner.ensures.owner (has_tables c.args.self.now c.args.right c.requires.home) in let shown : Gv = c.into_owner-owner.result.1.shown in
-    let same = same_recalled l.domain.now.board l.place slot shared shown l.token c.recall.new.token (c.recall.ensures slot shared shown by.owner) in
-    let took = subst (λ (x : Seat ValueFraction View). Taught (λ v _ w. w ≡ regained v (owner_of slot shared shown)) x 0 c.take_in.new.token) same
-    (c.take_in.ensures slot shared shown by.owner) in
+    let shown : Gv = c.into_owner-owner.result.1.shown in let took = taken g (goal.at.invariant_of-self-2 g c).After-take_in in
     let kind : c.is_one_of_several-shared.result ≡ shared = c.is_one_of_several-shared.ensures ∙ ap is_shared (sym c.requires.kind) in
     let went = subst (λ (z : ℕ × Bool). MovedAlone (LetsOneGo z.0 z.1 true) c.take_in.new.token c.let_one_go.new.token)
     (λ d. (c.number-slot.ensures d, kind d)) c.if-not-let_one_go.ensures.went in
-    let y : ℕ = retired_word shared in
-    let waits : Moved (LetsWait slot) c.take_in.new.token y c.let_one_go.new.token = (went.0, went.1, went.2.0) in
+    let y : ℕ = retired_word shared in let waits : Moved (LetsWait slot) c.take_in.new.token y c.let_one_go.new.token = (went.0, went.1, went.2.0) in
     let retired = retires_to l.domain.now.board l.place l.own y slot shared shown l.token c.take_in.new.token c.let_one_go.new.token q took waits in
     let own_is : c.set_has_garbage.new.self ≡ awaiting (Item slot) l.own
     = c.set_has_garbage.ensures ∙ (ap (λ (bags : Bags). with_garbage (record l.own { bags = bags })) c.push.ensures ∙ ap (λ (k : ℕ). awaiting
@@ -88,11 +108,7 @@ invariant_of-self-2 g c =
 pub invariant_of-self : goal.invariant_of-self
 invariant_of-self g c =
     let q = c.self.invariant.0 in let l = c.self.inside in let slot : ℕ = number_of c.args.right in let shared : Bool = is_shared (kind_of c.args.right) in
-    let by = c.into_owner-owner.ensures.owner (has_tables c.args.self.now c.args.right c.requires.home) in let shown : Gv = c.into_owner-owner.result.1.shown in
-    let same = same_recalled l.domain.now.board l.place slot shared shown l.token c.recall.new.token (c.recall.ensures slot shared shown by.owner) in
-    let took = subst (λ (x : Seat ValueFraction View). Taught (λ v _ w. w ≡ regained v (owner_of slot shared shown)) x 0 c.take_in.new.token) same
-    (c.take_in.ensures slot shared shown by.owner) in
-    let kind : c.is_one_of_several-shared.result ≡ shared = c.is_one_of_several-shared.ensures ∙ ap is_shared (sym c.requires.kind) in
+    let shown : Gv = c.into_owner-owner.result.1.shown in let took = taken g (goal.at.invariant_of-self g c).After-take_in in
     let went = subst (λ (k : ℕ). MovedAlone (LeavesOthers k) c.take_in.new.token c.let_one_go.new.token) c.number-slot.ensures
     c.if-not-let_one_go.ensures.went in
     let left = leaves_to l.domain.now.board l.place l.own slot shared shown l.token c.take_in.new.token c.let_one_go.new.token q took went in
@@ -106,58 +122,45 @@ invariant_of-self g c =
     )
 
 pub returns-clause-recalled : goal.returns-clause-recalled
-returns-clause-recalled g c = let l = c.self.inside in let board = l.domain.now.board in let i = c.self.invariant in
-    let slot : ℕ = number_of c.args.right in let shared : Bool = is_shared (kind_of c.args.right) in
-    let by = c.into_owner-owner.ensures.owner (has_tables c.args.self.now c.args.right c.requires.home) in let shown : Gv = c.into_owner-owner.result.1.shown in
-    let recalled = c.recall.ensures slot shared shown by.owner in
-    subst (λ (m : LocalState _). IsLone m → (value : Gv) × KnowsOwner m slot shared value) c.self.view_is (λ lone. (
-      shown,
-      recalls_to (c.self.view_is 0) slot shared shown l.token c.recall.new.token recalled
-          (i.0.all ∙ ap (λ (z : Sizes). z.participants) l.domain.now.limited.1) lone,
-    ))
+returns-clause-recalled g c = told g (goal.at.returns-clause-recalled g c).After-take_in
 
 pub returns-then-not-let_one_go-clause-recalled : goal.returns-then-not-let_one_go-clause-recalled
-returns-then-not-let_one_go-clause-recalled g c = let l = c.self.inside in let board = l.domain.now.board in let i = c.self.invariant in
-    let slot : ℕ = number_of c.args.right in let shared : Bool = is_shared (kind_of c.args.right) in
-    let by = c.into_owner-owner.ensures.owner (has_tables c.args.self.now c.args.right c.requires.home) in let shown : Gv = c.into_owner-owner.result.1.shown in
-    let recalled = c.recall.ensures slot shared shown by.owner in
-    subst (λ (m : LocalState _). IsLone m → (value : Gv) × KnowsOwner m slot shared value) c.self.view_is (λ lone. (
-      shown,
-      recalls_to (c.self.view_is 0) slot shared shown l.token c.recall.new.token recalled
-          (i.0.all ∙ ap (λ (z : Sizes). z.participants) l.domain.now.limited.1) lone,
-    ))
+returns-then-not-let_one_go-clause-recalled g c = told g (goal.at.returns-then-not-let_one_go-clause-recalled g c).After-take_in
 
-pub let_one_go-requires-clause-told : goal.let_one_go-requires-clause-told
-let_one_go-requires-clause-told g c =
+pub let_one_go-requires : goal.let_one_go-requires
+let_one_go-requires g c =
     let q = c.self.invariant.0 in let l = c.self.inside in let slot : ℕ = number_of c.args.right in let shared : Bool = is_shared (kind_of c.args.right) in
-    let by = c.into_owner-owner.ensures.owner (has_tables c.args.self.now c.args.right c.requires.home) in let shown : Gv = c.into_owner-owner.result.1.shown in
-    let same = same_recalled l.domain.now.board l.place slot shared shown l.token c.recall.new.token (c.recall.ensures slot shared shown by.owner) in
-    let took = subst (λ (x : Seat ValueFraction View). Taught (λ v _ w. w ≡ regained v (owner_of slot shared shown)) x 0 c.take_in.new.token) same
-    (c.take_in.ensures slot shared shown by.owner) in
-    let kind : c.is_one_of_several-shared.result ≡ shared = c.is_one_of_several-shared.ensures ∙ ap is_shared (sym c.requires.kind) in (
-      shown,
-      (
+    let shown : Gv = c.into_owner-owner.result.1.shown in let took = taken g (goal.at.let_one_go-requires g c).After-take_in in
+    let kind : c.is_one_of_several-shared.result ≡ shared = c.is_one_of_several-shared.ensures ∙ ap is_shared (sym c.requires.kind) in record {
+      home = took.0 ∙ q.home;
+      knows = (ap (λ (v : View). v.sizes) took.3 ∙ q.knows.0, ap (λ (v : View). v.stakes.book) took.3 ∙ q.knows.1);
+      inside = search rules;
+      place = subst (λ (k : ℕ). 0 < k) (sym (ap (λ (v : View). v.epoch.state) took.3)) (has_place l.domain.now.board l.place l.own l.token q);
+      own =
+        let none = ap (λ (v : View). v.slots.holds) took.3 ∙ q.quiet.holds in (
+          ap (λ (v : View). v.slots.owns) took.3 ∙ (ap (λ (is : List ℕ). slot ∷ is) q.quiet.owns ∙ ap (λ (k : ℕ). k ∷ []) (sym c.number-slot.ensures)),
+          (λ held. cc),
+          ap (λ (v : View). v.slots.drawn) took.3 ∙ (ap (λ (is : List ℕ). slot ∷ is) q.quiet.drawn ∙ ap (λ (k : ℕ). k ∷ []) (sym c.number-slot.ensures)),
+        );
+      told = (
+        shown,
+        (
+          0,
+          ap (λ (v : View). get_elem? v.stakes.owns 0) took.3
+              ∙ (λ d. some (record { slot = sym c.number-slot.ensures d; shared = sym kind d; value = shown })),
+        ),
+      );
+      unit = search rules;
+      shows = (
         0,
+        record { slot = c.number-slot.result; shared = c.is_one_of_several-shared.result; value = shown },
         ap (λ (v : View). get_elem? v.stakes.owns 0) took.3
             ∙ (λ d. some (record { slot = sym c.number-slot.ensures d; shared = sym kind d; value = shown })),
-      ),
-    )
-
-pub let_one_go-requires-clause-shows : goal.let_one_go-requires-clause-shows
-let_one_go-requires-clause-shows g c =
-    let q = c.self.invariant.0 in let l = c.self.inside in let slot : ℕ = number_of c.args.right in let shared : Bool = is_shared (kind_of c.args.right) in
-    let by = c.into_owner-owner.ensures.owner (has_tables c.args.self.now c.args.right c.requires.home) in let shown : Gv = c.into_owner-owner.result.1.shown in
-    let same = same_recalled l.domain.now.board l.place slot shared shown l.token c.recall.new.token (c.recall.ensures slot shared shown by.owner) in
-    let took = subst (λ (x : Seat ValueFraction View). Taught (λ v _ w. w ≡ regained v (owner_of slot shared shown)) x 0 c.take_in.new.token) same
-    (c.take_in.ensures slot shared shown by.owner) in
-    let kind : c.is_one_of_several-shared.result ≡ shared = c.is_one_of_several-shared.ensures ∙ ap is_shared (sym c.requires.kind) in (
-      0,
-      record { slot = c.number-slot.result; shared = c.is_one_of_several-shared.result; value = shown },
-      ap (λ (v : View). get_elem? v.stakes.owns 0) took.3
-          ∙ (λ d. some (record { slot = sym c.number-slot.ensures d; shared = sym kind d; value = shown })),
-      refl,
-      refl,
-    )
+        refl,
+        refl,
+      );
+      rests = ap (λ (v : View). v.stakes.moves) took.3 ∙ q.rests;
+    }
 
 pub push-requires : goal.push-requires
 push-requires g c = let l = c.self.inside in let board = l.domain.now.board in let q = c.self.invariant.0 in
@@ -175,89 +178,32 @@ push-requires g c = let l = c.self.inside in let board = l.domain.now.board in l
     let most = q.room in omega arith
 
 -- what was known before the owner was recalled and taken in is known still
-pub take_in-requires-clause-home : goal.take_in-requires-clause-home
-take_in-requires-clause-home g c =
+pub take_in-requires : goal.take_in-requires
+take_in-requires g c =
     let q = c.self.invariant.0 in let l = c.self.inside in let slot : ℕ = number_of c.args.right in let shared : Bool = is_shared (kind_of c.args.right) in
     let by = c.into_owner-owner.ensures.owner (has_tables c.args.self.now c.args.right c.requires.home) in let shown : Gv = c.into_owner-owner.result.1.shown in
-    let same = same_recalled l.domain.now.board l.place slot shared shown l.token c.recall.new.token (c.recall.ensures slot shared shown by.owner) in
-    ap (λ (x : Seat ValueFraction View). x.table_id) same ∙ q.home
-
-pub take_in-requires-clause-rests : goal.take_in-requires-clause-rests
-take_in-requires-clause-rests g c =
-    let q = c.self.invariant.0 in let l = c.self.inside in let slot : ℕ = number_of c.args.right in let shared : Bool = is_shared (kind_of c.args.right) in
-    let by = c.into_owner-owner.ensures.owner (has_tables c.args.self.now c.args.right c.requires.home) in let shown : Gv = c.into_owner-owner.result.1.shown in
-    let same = same_recalled l.domain.now.board l.place slot shared shown l.token c.recall.new.token (c.recall.ensures slot shared shown by.owner) in
-    ap (λ (x : Seat ValueFraction View). x.me.0.stakes.moves) same ∙ q.rests
-
-pub let_one_go-requires-clause-home : goal.let_one_go-requires-clause-home
-let_one_go-requires-clause-home g c =
-    let q = c.self.invariant.0 in let l = c.self.inside in let slot : ℕ = number_of c.args.right in let shared : Bool = is_shared (kind_of c.args.right) in
-    let by = c.into_owner-owner.ensures.owner (has_tables c.args.self.now c.args.right c.requires.home) in let shown : Gv = c.into_owner-owner.result.1.shown in
-    let same = same_recalled l.domain.now.board l.place slot shared shown l.token c.recall.new.token (c.recall.ensures slot shared shown by.owner) in
-    let took = subst (λ (x : Seat ValueFraction View). Taught (λ v _ w. w ≡ regained v (owner_of slot shared shown)) x 0 c.take_in.new.token) same
-    (c.take_in.ensures slot shared shown by.owner) in
-    took.0 ∙ q.home
-
-pub let_one_go-requires-clause-knows : goal.let_one_go-requires-clause-knows
-let_one_go-requires-clause-knows g c =
-    let q = c.self.invariant.0 in let l = c.self.inside in let slot : ℕ = number_of c.args.right in let shared : Bool = is_shared (kind_of c.args.right) in
-    let by = c.into_owner-owner.ensures.owner (has_tables c.args.self.now c.args.right c.requires.home) in let shown : Gv = c.into_owner-owner.result.1.shown in
-    let same = same_recalled l.domain.now.board l.place slot shared shown l.token c.recall.new.token (c.recall.ensures slot shared shown by.owner) in
-    let took = subst (λ (x : Seat ValueFraction View). Taught (λ v _ w. w ≡ regained v (owner_of slot shared shown)) x 0 c.take_in.new.token) same
-    (c.take_in.ensures slot shared shown by.owner) in
-    (ap (λ (v : View). v.sizes) took.3 ∙ q.knows.0, ap (λ (v : View). v.stakes.book) took.3 ∙ q.knows.1)
-
-pub let_one_go-requires-clause-place : goal.let_one_go-requires-clause-place
-let_one_go-requires-clause-place g c =
-    let q = c.self.invariant.0 in let l = c.self.inside in let slot : ℕ = number_of c.args.right in let shared : Bool = is_shared (kind_of c.args.right) in
-    let by = c.into_owner-owner.ensures.owner (has_tables c.args.self.now c.args.right c.requires.home) in let shown : Gv = c.into_owner-owner.result.1.shown in
-    let same = same_recalled l.domain.now.board l.place slot shared shown l.token c.recall.new.token (c.recall.ensures slot shared shown by.owner) in
-    let took = subst (λ (x : Seat ValueFraction View). Taught (λ v _ w. w ≡ regained v (owner_of slot shared shown)) x 0 c.take_in.new.token) same
-    (c.take_in.ensures slot shared shown by.owner) in
-    let state = ap (λ (v : View). v.epoch.state) took.3 in
-    dite (dec_lt 0 l.own.guards) (λ some. subst (λ (k : ℕ). 0 < k) (sym (state ∙ q.opened some)) (omega arith))
-    (λ none. subst (λ (k : ℕ). 0 < k) (sym (state ∙ q.closed (omega arith))) (omega arith))
-
-pub let_one_go-requires-clause-own : goal.let_one_go-requires-clause-own
-let_one_go-requires-clause-own g c =
-    let q = c.self.invariant.0 in let l = c.self.inside in let slot : ℕ = number_of c.args.right in let shared : Bool = is_shared (kind_of c.args.right) in
-    let by = c.into_owner-owner.ensures.owner (has_tables c.args.self.now c.args.right c.requires.home) in let shown : Gv = c.into_owner-owner.result.1.shown in
-    let same = same_recalled l.domain.now.board l.place slot shared shown l.token c.recall.new.token (c.recall.ensures slot shared shown by.owner) in
-    let took = subst (λ (x : Seat ValueFraction View). Taught (λ v _ w. w ≡ regained v (owner_of slot shared shown)) x 0 c.take_in.new.token) same
-    (c.take_in.ensures slot shared shown by.owner) in
-    let none = ap (λ (v : View). v.slots.holds) took.3 ∙ q.quiet.holds in (
-      ap (λ (v : View). v.slots.owns) took.3 ∙ (ap (λ (is : List ℕ). slot ∷ is) q.quiet.owns ∙ ap (λ (k : ℕ). k ∷ []) (sym c.number-slot.ensures)),
-      (λ held. cc),
-      ap (λ (v : View). v.slots.drawn) took.3 ∙ (ap (λ (is : List ℕ). slot ∷ is) q.quiet.drawn ∙ ap (λ (k : ℕ). k ∷ []) (sym c.number-slot.ensures)),
-    )
-
-pub let_one_go-requires-clause-rests : goal.let_one_go-requires-clause-rests
-let_one_go-requires-clause-rests g c =
-    let q = c.self.invariant.0 in let l = c.self.inside in let slot : ℕ = number_of c.args.right in let shared : Bool = is_shared (kind_of c.args.right) in
-    let by = c.into_owner-owner.ensures.owner (has_tables c.args.self.now c.args.right c.requires.home) in let shown : Gv = c.into_owner-owner.result.1.shown in
-    let same = same_recalled l.domain.now.board l.place slot shared shown l.token c.recall.new.token (c.recall.ensures slot shared shown by.owner) in
-    let took = subst (λ (x : Seat ValueFraction View). Taught (λ v _ w. w ≡ regained v (owner_of slot shared shown)) x 0 c.take_in.new.token) same
-    (c.take_in.ensures slot shared shown by.owner) in
-    ap (λ (v : View). v.stakes.moves) took.3 ∙ q.rests
+    let same = same_recalled l.domain.now.board l.place slot shared shown l.token c.recall.new.token (c.recall.ensures slot shared shown by.owner) in record {
+      home = ap (λ (x : Seat ValueFraction View). x.table_id) same ∙ q.home;
+      rests = ap (λ (x : Seat ValueFraction View). x.me.0.stakes.moves) same ∙ q.rests;
+      owner =
+        let b = c.self.inside.domain.now.board in let tables = by.table in let mine = ap (λ (h : GhostName). h.tables) c.requires.home in
+        let there = ap (λ (m : LocalState _). m.home) c.self.view_is in let board = q.home in let table : c.into_owner-owner.result.0.table_id ≡ id_of b = cc in
+        (table, (number_of c.args.right, is_shared (kind_of c.args.right), c.into_owner-owner.result.1.shown, by.owner));
+    }
 
 pub returns-clause-went : goal.returns-clause-went
 returns-clause-went g c =
     let q = c.self.invariant.0 in let l = c.self.inside in let slot : ℕ = number_of c.args.right in let shared : Bool = is_shared (kind_of c.args.right) in
-    let by = c.into_owner-owner.ensures.owner (has_tables c.args.self.now c.args.right c.requires.home) in let shown : Gv = c.into_owner-owner.result.1.shown in
-    let same = same_recalled l.domain.now.board l.place slot shared shown l.token c.recall.new.token (c.recall.ensures slot shared shown by.owner) in
-    let took = subst (λ (x : Seat ValueFraction View). Taught (λ v _ w. w ≡ regained v (owner_of slot shared shown)) x 0 c.take_in.new.token) same
-    (c.take_in.ensures slot shared shown by.owner) in
+    let shown : Gv = c.into_owner-owner.result.1.shown in let took = taken g (goal.at.returns-clause-went g c).After-take_in in
     let kind : c.is_one_of_several-shared.result ≡ shared = c.is_one_of_several-shared.ensures ∙ ap is_shared (sym c.requires.kind) in
     let went = subst (λ (z : ℕ × Bool). MovedAlone (LetsOneGo z.0 z.1 true) c.take_in.new.token c.let_one_go.new.token)
     (λ d. (c.number-slot.ensures d, kind d)) c.if-not-let_one_go.ensures.went in
-    let y : ℕ = retired_word shared in
-    let waits : Moved (LetsWait slot) c.take_in.new.token y c.let_one_go.new.token = (went.0, went.1, went.2.0) in
+    let y : ℕ = retired_word shared in let waits : Moved (LetsWait slot) c.take_in.new.token y c.let_one_go.new.token = (went.0, went.1, went.2.0) in
     let retired = retires_to l.domain.now.board l.place l.own y slot shared shown l.token c.take_in.new.token c.let_one_go.new.token q took waits in
     let own_is : c.set_has_garbage.new.self ≡ awaiting (Item slot) l.own
     = c.set_has_garbage.ensures ∙ (ap (λ (bags : Bags). with_garbage (record l.own { bags = bags })) c.push.ensures ∙ ap (λ (k : ℕ). awaiting
     (Item k) l.own) (c.of.ensures ∙ c.number-slot.ensures)) in
-    let old : LocalState _ = c.self.view_is 0 in
-    let home : c.let_one_go.new.token.table_id ≡ l.token.table_id = waits.0 ∙ took.0 in
+    let old : LocalState _ = c.self.view_is 0 in let home : c.let_one_go.new.token.table_id ≡ l.token.table_id = waits.0 ∙ took.0 in
     let alone : IsLone old → l.token.me.0.epoch.all ≡ 1 = λ one. (q.all ∙ ap (λ (z : Sizes). z.participants) l.domain.now.limited.1) ∙ one in (
       retired.0,
       subst (λ (m : LocalState _). RetiresAt slot shared retired.0 m
@@ -272,16 +218,11 @@ returns-clause-went g c =
 pub returns-then-not-let_one_go-clause-went : goal.returns-then-not-let_one_go-clause-went
 returns-then-not-let_one_go-clause-went g c =
     let q = c.self.invariant.0 in let l = c.self.inside in let slot : ℕ = number_of c.args.right in let shared : Bool = is_shared (kind_of c.args.right) in
-    let by = c.into_owner-owner.ensures.owner (has_tables c.args.self.now c.args.right c.requires.home) in let shown : Gv = c.into_owner-owner.result.1.shown in
-    let same = same_recalled l.domain.now.board l.place slot shared shown l.token c.recall.new.token (c.recall.ensures slot shared shown by.owner) in
-    let took = subst (λ (x : Seat ValueFraction View). Taught (λ v _ w. w ≡ regained v (owner_of slot shared shown)) x 0 c.take_in.new.token) same
-    (c.take_in.ensures slot shared shown by.owner) in
-    let kind : c.is_one_of_several-shared.result ≡ shared = c.is_one_of_several-shared.ensures ∙ ap is_shared (sym c.requires.kind) in
+    let shown : Gv = c.into_owner-owner.result.1.shown in let took = taken g (goal.at.returns-then-not-let_one_go-clause-went g c).After-take_in in
     let went = subst (λ (k : ℕ). MovedAlone (LeavesOthers k) c.take_in.new.token c.let_one_go.new.token) c.number-slot.ensures
     c.if-not-let_one_go.ensures.went in
     let left = leaves_to l.domain.now.board l.place l.own slot shared shown l.token c.take_in.new.token c.let_one_go.new.token q took went in
-    let old : LocalState _ = c.self.view_is 0 in
-    let home : c.let_one_go.new.token.table_id ≡ l.token.table_id = went.0 ∙ took.0 in
+    let old : LocalState _ = c.self.view_is 0 in let home : c.let_one_go.new.token.table_id ≡ l.token.table_id = went.0 ∙ took.0 in
     let alone : IsLone old → l.token.me.0.epoch.all ≡ 1 = λ one. (q.all ∙ ap (λ (z : Sizes). z.participants) l.domain.now.limited.1) ∙ one in (
       went.2.word,
       subst (λ (m : LocalState _). LeavesAt slot went.2.word m
@@ -292,11 +233,3 @@ returns-then-not-let_one_go-clause-went g c =
             lone = λ one. sym (subst (λ (v : View). Knew slot v went.2.word) took.3 went.2.knew (alone one));
           },
     )
-
-pub take_in-requires-clause-owner : goal.take_in-requires-clause-owner
-take_in-requires-clause-owner g c = let q = c.self.invariant.0 in let b = c.self.inside.domain.now.board in
-    let by = c.into_owner-owner.ensures.owner (has_tables c.args.self.now c.args.right c.requires.home) in
-    let tables = by.table in let mine = ap (λ (h : GhostName). h.tables) c.requires.home in let there = ap (λ (m : LocalState _). m.home) c.self.view_is in
-    let board = q.home in
-    let table : c.into_owner-owner.result.0.table_id ≡ id_of b = cc in
-    (table, (number_of c.args.right, is_shared (kind_of c.args.right), c.into_owner-owner.result.1.shown, by.owner))

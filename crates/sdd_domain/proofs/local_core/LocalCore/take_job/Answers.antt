@@ -19,52 +19,43 @@ use Rattle.sdd_domain.proofs.Deferring.{posed_takes, place_low, waits_now}
 use Rattle.sdd_domain.proofs.JobTables.{next_goes, job_taken}
 use Rattle.sdd_domain.proofs.Members.{with_view}
 use Rattle.sdd_domain.proofs.InBags.{first_plain, first_plain_out, job_plain}
+use Rattle.sdd_domain.proofs.local_core.LocalCore.take_job.Given.{Over}
+use Rattle.sdd_domain.proofs.local_core.LocalCore.take_job.Goals.{After-next}
 use Rattle.sdd_domain.proofs.local_core.LocalCore.take_job.Goals as goal
 
+-- the job's place was the first that was due
+first_due : (g : Over) (c : After-next g) → c.self.inside.due.items ≡ Job c.args.place ∷ c.next.new.self.items
+first_due g c = next_goes c.self.inside.due c.next.new.self c.next.result (Job c.args.place) c.requires.first.0 c.next.ensures.next
+    (ap (λ (m : LocalState _). m.due) c.self.view_is ∙ c.requires.first.1)
+
+is_low : (g : Over) (c : After-next g) → c.args.place < (sizes_of c.self.inside.domain.now.board).jobs
+is_low g c = let l = c.self.inside in place_low (slots_of l.domain.now.board) (known_waiting l.token.me.0.slots) l.own.bags.waiting l.due.items
+    c.self.invariant.4.bags c.args.place c.next.new.self.items (first_due g c) (sizes_of l.domain.now.board).jobs c.self.invariant.0.waiting
+
 pub take-job-requires : goal.take-job-requires
-take-job-requires g c = let first : c.self.inside.due.items ≡ Job c.args.place ∷ c.next.new.self.items
-    = next_goes c.self.inside.due c.next.new.self c.next.result (Job c.args.place) c.requires.first.0 c.next.ensures.next
-    (ap (λ (m : LocalState _). m.due) c.self.view_is ∙ c.requires.first.1) in
-    let low = place_low (slots_of c.self.inside.domain.now.board) (known_waiting c.self.inside.token.me.0.slots) c.self.inside.own.bags.waiting
-    c.self.inside.due.items c.self.invariant.4.bags c.args.place c.next.new.self.items first (sizes_of c.self.inside.domain.now.board).jobs
-    c.self.invariant.0.waiting in let long = c.self.invariant.4.places in omega arith
+take-job-requires g c = let low = is_low g (goal.at.take-job-requires g c).After-next in let long = c.self.invariant.4.places in omega arith
 
 pub overflow_add-slots : goal.overflow_add-slots
-overflow_add-slots g c = let first : c.self.inside.due.items ≡ Job c.args.place ∷ c.next.new.self.items
-    = next_goes c.self.inside.due c.next.new.self c.next.result (Job c.args.place) c.requires.first.0 c.next.ensures.next
-    (ap (λ (m : LocalState _). m.due) c.self.view_is ∙ c.requires.first.1) in
-    let low = place_low (slots_of c.self.inside.domain.now.board) (known_waiting c.self.inside.token.me.0.slots) c.self.inside.own.bags.waiting
-    c.self.inside.due.items c.self.invariant.4.bags c.args.place c.next.new.self.items first (sizes_of c.self.inside.domain.now.board).jobs
-    c.self.invariant.0.waiting in
+overflow_add-slots g c = let low = is_low g (goal.at.overflow_add-slots g c).After-next in
     let slots = ap (λ (z : Sizes). z.slots) c.self.inside.domain.now.limited.1 in
     let jobs = ap (λ (z : Sizes). z.jobs) c.self.inside.domain.now.limited.1 in let few = c.self.inside.domain.now.limited.0 in
     let few_slots = few.slots in let few_jobs = few.jobs in omega arith
 
 pub give_place_back-requires-clause-inside : goal.give_place_back-requires-clause-inside
-give_place_back-requires-clause-inside g c = let first : c.self.inside.due.items ≡ Job c.args.place ∷ c.next.new.self.items
-    = next_goes c.self.inside.due c.next.new.self c.next.result (Job c.args.place) c.requires.first.0 c.next.ensures.next
-    (ap (λ (m : LocalState _). m.due) c.self.view_is ∙ c.requires.first.1) in
-    let low = place_low (slots_of c.self.inside.domain.now.board) (known_waiting c.self.inside.token.me.0.slots) c.self.inside.own.bags.waiting
-    c.self.inside.due.items c.self.invariant.4.bags c.args.place c.next.new.self.items first (sizes_of c.self.inside.domain.now.board).jobs
-    c.self.invariant.0.waiting in
+give_place_back-requires-clause-inside g c = let low = is_low g (goal.at.give_place_back-requires-clause-inside g c).After-next in
     let slots = ap (λ (z : Sizes). z.slots) c.self.inside.domain.now.limited.1 in (omega arith, omega arith)
 
 pub give_place_back-requires-clause-due : goal.give_place_back-requires-clause-due
-give_place_back-requires-clause-due g c = let first : c.self.inside.due.items ≡ Job c.args.place ∷ c.next.new.self.items
-    = next_goes c.self.inside.due c.next.new.self c.next.result (Job c.args.place) c.requires.first.0 c.next.ensures.next
-    (ap (λ (m : LocalState _). m.due) c.self.view_is ∙ c.requires.first.1) in let l = c.self.inside in let b = l.domain.now.board in
+give_place_back-requires-clause-due g c = let first = first_due g (goal.at.give_place_back-requires-clause-due g c).After-next in let l = c.self.inside in
+    let b = l.domain.now.board in
     subst (λ (k : ℕ). IsDue l.token.me.0 (k + c.args.place)) (ap (λ (z : Sizes). z.slots) l.domain.now.limited.1)
     (first_plain (slots_of b) (known_waiting l.token.me.0.slots) l.own.bags.waiting l.due.items c.self.invariant.4.bags (Job c.args.place)
     c.next.new.self.items first (job_plain (slots_of b) (known_waiting l.token.me.0.slots) l.own.bags.waiting l.due.items c.self.invariant.4.bags c.args.place))
 
 pub invariant_of-self : goal.invariant_of-self
-invariant_of-self g c = let first : c.self.inside.due.items ≡ Job c.args.place ∷ c.next.new.self.items
-    = next_goes c.self.inside.due c.next.new.self c.next.result (Job c.args.place) c.requires.first.0 c.next.ensures.next
-    (ap (λ (m : LocalState _). m.due) c.self.view_is ∙ c.requires.first.1) in
-    let low = place_low (slots_of c.self.inside.domain.now.board) (known_waiting c.self.inside.token.me.0.slots) c.self.inside.own.bags.waiting
-    c.self.inside.due.items c.self.invariant.4.bags c.args.place c.next.new.self.items first (sizes_of c.self.inside.domain.now.board).jobs
-    c.self.invariant.0.waiting in let l = c.self.inside in let b = l.domain.now.board in let i = c.self.invariant in let r = i.4 in
-    let n : ℕ = slots_of b in
+invariant_of-self g c = let first = first_due g (goal.at.invariant_of-self g c).After-next in
+    let low = is_low g (goal.at.invariant_of-self g c).After-next in let l = c.self.inside in let b = l.domain.now.board in let i = c.self.invariant in
+    let r = i.4 in let n : ℕ = slots_of b in
     let place : ℕ = c.args.place in let token = c.give_place_back.new.token in let waits : List WaitingItem = l.token.me.0.slots.waits in
     let gives = subst (λ (k : ℕ). Moved (GivesPlace (k + place)) l.token 0 token) (sym (ap (λ (z : Sizes). z.slots) l.domain.now.limited.1))
     c.give_place_back.ensures in
@@ -93,25 +84,19 @@ some_of (Some x) is = (x, refl)
 some_of None is = absurd (true≢false (sym is))
 
 pub returns : goal.returns
-returns g c = let first : c.self.inside.due.items ≡ Job c.args.place ∷ c.next.new.self.items
-    = next_goes c.self.inside.due c.next.new.self c.next.result (Job c.args.place) c.requires.first.0 c.next.ensures.next
-    (ap (λ (m : LocalState _). m.due) c.self.view_is ∙ c.requires.first.1) in
-    let low = place_low (slots_of c.self.inside.domain.now.board) (known_waiting c.self.inside.token.me.0.slots) c.self.inside.own.bags.waiting
-    c.self.inside.due.items c.self.invariant.4.bags c.args.place c.next.new.self.items first (sizes_of c.self.inside.domain.now.board).jobs
-    c.self.invariant.0.waiting in
+returns g c =
+    let first = first_due g (goal.at.returns g c).After-next in let low = is_low g (goal.at.returns g c).After-next in
     let wait = waits_now (slots_of c.self.inside.domain.now.board) (known_waiting c.self.inside.token.me.0.slots) c.self.inside.own.bags.waiting
     c.self.inside.due.items c.self.invariant.4.bags c.args.place c.next.new.self.items first in
     let l = c.self.inside in let b = l.domain.now.board in let r = c.self.invariant.4 in let place : ℕ = c.args.place in
-    let there = some_of (slice_index_or l.jobs place None) ((r.jobs place low).1 (omega arith)) in
-    let rest = c.next.new.self.items in let token = c.give_place_back.new.token in let old : LocalState _ = c.self.view_is 0 in
-    let gives = c.give_place_back.ensures in
+    let there = some_of (slice_index_or l.jobs place None) ((r.jobs place low).1 (omega arith)) in let rest = c.next.new.self.items in
+    let token = c.give_place_back.new.token in let old : LocalState _ = c.self.view_is 0 in let gives = c.give_place_back.ensures in
     let now : LocalState _ = record (with_view old token.table_id token.me.0) { due = rest; jobs = c.take-job.new.self } in (
       there.0,
       c.take-job.ensures.job ∙ there.1,
       subst (λ (m : LocalState _). TakesJob place there.0 m now) c.self.view_is record {
         inside = subst (λ (z : Sizes). place < z.jobs) l.domain.now.limited.1 low;
-        first = next_goes l.due c.next.new.self c.next.result (Job place) c.requires.first.0 c.next.ensures.next
-            (ap (λ (m : LocalState _). m.due) c.self.view_is ∙ c.requires.first.1);
+        first = first;
         there = there.1;
         member = λ d. record (with_view old (gives.0 d) (gives.2.1.0 d)) {
           due = rest;

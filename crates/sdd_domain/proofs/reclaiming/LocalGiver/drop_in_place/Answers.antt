@@ -1,4 +1,4 @@
-use Rattle.std.proofs.Common.{ℕ, sym, ap, ◌∙◌, subst}
+use Rattle.std.proofs.Common.{ℕ, sym, ap, ◌∙◌, subst, rules}
 use Rattle.std.specs.Prelude.{MatchOption, Option}
 use base.Stored.{Gv}
 use Rattle.sdd_rights.specs.Owner.{one-shown}
@@ -28,23 +28,22 @@ invariant_of-self g c = let v : LocalModel g.row.T.Denot g.row.J.Denot = c.self.
     = λ one. (let told = c.drop_in_place.ensures.recalled one in (told.0, told.2)) in
     stays_tied v p c.self.view_is c.self.invariant k kind recalled m c.in_err-value.field-0.0.1 c.in_err-value.ensures.gone.1
 
-pub returns-in_err-value-clause-owned : goal.returns-in_err-value-clause-owned
-returns-in_err-value-clause-owned g c lone = let v : LocalModel g.row.T.Denot g.row.J.Denot = c.self.view_is 0 in
-    let m : LocalState _ = c.drop_in_place.new.self in
-    let right = c.args.right in let kind = c.args.kind in let k : ℕ = number_of right in let p : LocalModel g.row.T.Denot g.row.J.Denot = c.args.self.now in
+pub returns-in_err-value : goal.returns-in_err-value
+returns-in_err-value g c =
+    let v : LocalModel g.row.T.Denot g.row.J.Denot = c.self.view_is 0 in let m : LocalState _ = c.drop_in_place.new.self in let right = c.args.right in
+    let kind = c.args.kind in let k : ℕ = number_of right in let p : LocalModel g.row.T.Denot g.row.J.Denot = c.args.self.now in
     let recalled : IsLone v.member → (x : Gv) × KnowsOwner v.member k (is_shared kind) x
     = λ one. (let told = c.drop_in_place.ensures.recalled one in (told.0, told.2)) in
-    subst (λ (x : StandingKind). IsOwnedBy x (standing_at (world_of p) k)) (sym c.requires.kind)
-    (owned_there v p c.self.view_is c.self.invariant k kind recalled (lone_true p.member lone))
-
-pub returns-in_err-value-clause-exact : goal.returns-in_err-value-clause-exact
-returns-in_err-value-clause-exact g c lone = let v : LocalModel g.row.T.Denot g.row.J.Denot = c.self.view_is 0 in
-    let m : LocalState _ = c.drop_in_place.new.self in
-    let right = c.args.right in let kind = c.args.kind in let k : ℕ = number_of right in let p : LocalModel g.row.T.Denot g.row.J.Denot = c.args.self.now in
-    let recalled : IsLone v.member → (x : Gv) × KnowsOwner v.member k (is_shared kind) x
-    = λ one. (let told = c.drop_in_place.ensures.recalled one in (told.0, told.2)) in
-    handed_on _ _ c.from_residual.result c.in_err-value.field-0.0 c.from_residual.ensures.1
-    (stays_there v p c.self.view_is c.self.invariant k kind recalled m c.in_err-value.field-0.0.1 c.in_err-value.ensures.gone.1 (lone_true p.member lone))
+    record {
+      own = search rules;
+      known = search rules;
+      kept = search rules;
+      back = search rules;
+      owned = λ lone. subst (λ (x : StandingKind). IsOwnedBy x (standing_at (world_of p) k)) (sym c.requires.kind)
+        (owned_there v p c.self.view_is c.self.invariant k kind recalled (lone_true p.member lone));
+      exact = λ lone. handed_on _ _ c.from_residual.result c.in_err-value.field-0.0 c.from_residual.ensures.1
+        (stays_there v p c.self.view_is c.self.invariant k kind recalled m c.in_err-value.field-0.0.1 c.in_err-value.ensures.gone.1 (lone_true p.member lone));
+    }
 
 -- it was the last
 pub invariant_of-self-in-Some : goal.invariant_of-self-in-Some

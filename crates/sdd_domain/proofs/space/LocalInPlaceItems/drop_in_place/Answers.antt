@@ -1,4 +1,4 @@
-use Rattle.std.proofs.Common.{subst}
+use Rattle.std.proofs.Common.{subst, rules}
 use Rattle.sdd_rights.specs.Right.{kind_of, number_of}
 use Rattle.sdd_shared_values.specs.SharedValues.{showing}
 use Rattle.sdd_standings.specs.Slots.{IsOwnedBy}
@@ -13,23 +13,22 @@ pub invariant_of-self : goal.invariant_of-self
 invariant_of-self g c = let v : LocalModel g.row.T.Denot g.row.J.Denot = c.self.inside.partner in let e = c.drop_in_place.ensures in
     gone_sound (showing g.row.T) g.T.Item.holds v c.drop_in_place.new.self (number_of c.args.right) c.drop_in_place.result e.kept e.exact c.self.invariant
 
-pub returns-clause-owned : goal.returns-clause-owned
-returns-clause-owned g c exact = let v : LocalModel g.row.T.Denot g.row.J.Denot = c.self.inside.partner in let e = c.drop_in_place.ensures in
-    subst (λ (q : LocalModel g.row.T.Denot g.row.J.Denot). IsLone q.member
-    → IsOwnedBy (kind_of c.args.right) (standing_at (world_of q) (number_of c.args.right)))
-    c.self.view_is e.owned (lone_is c.args.self.now.member exact)
-
-pub returns-clause-exact : goal.returns-clause-exact
-returns-clause-exact g c = let v : LocalModel g.row.T.Denot g.row.J.Denot = c.self.inside.partner in let e = c.drop_in_place.ensures in
-    gone_worlds (showing g.row.T) g.T.Item.holds v c.drop_in_place.new.self (number_of c.args.right) c.args.self.now c.self.view_is
-    c.drop_in_place.result e.kept e.exact
-
-pub returns-clause-others : goal.returns-clause-others
-returns-clause-others g c = let v : LocalModel g.row.T.Denot g.row.J.Denot = c.self.inside.partner in let e = c.drop_in_place.ensures in
-    gone_others (showing g.row.T) g.T.Item.holds v c.drop_in_place.new.self (number_of c.args.right) c.args.self.now c.self.view_is
-    c.drop_in_place.result e.kept e.exact
-
-pub returns-clause-keeps : goal.returns-clause-keeps
-returns-clause-keeps g c = let v : LocalModel g.row.T.Denot g.row.J.Denot = c.self.inside.partner in let e = c.drop_in_place.ensures in
-    gone_keeps (showing g.row.T) g.T.Item.holds v c.drop_in_place.new.self (number_of c.args.right) c.args.self.now c.self.view_is
-    c.drop_in_place.result e.kept e.exact
+pub returns : goal.returns
+returns g c =
+    let v : LocalModel g.row.T.Denot g.row.J.Denot = c.self.inside.partner in let e = c.drop_in_place.ensures in
+    record {
+      seat = search rules;
+      own = search rules;
+      known = search rules;
+      back = search rules;
+      sole = search rules;
+      owned = λ exact. subst (λ (q : LocalModel g.row.T.Denot g.row.J.Denot). IsLone q.member
+        → IsOwnedBy (kind_of c.args.right) (standing_at (world_of q) (number_of c.args.right)))
+        c.self.view_is e.owned (lone_is c.args.self.now.member exact);
+      exact = gone_worlds (showing g.row.T) g.T.Item.holds v c.drop_in_place.new.self (number_of c.args.right) c.args.self.now c.self.view_is
+        c.drop_in_place.result e.kept e.exact;
+      others = gone_others (showing g.row.T) g.T.Item.holds v c.drop_in_place.new.self (number_of c.args.right) c.args.self.now c.self.view_is
+        c.drop_in_place.result e.kept e.exact;
+      keeps = gone_keeps (showing g.row.T) g.T.Item.holds v c.drop_in_place.new.self (number_of c.args.right) c.args.self.now c.self.view_is
+        c.drop_in_place.result e.kept e.exact;
+    }

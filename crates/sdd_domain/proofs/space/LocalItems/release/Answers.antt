@@ -1,4 +1,4 @@
-use Rattle.std.proofs.Common.{◌≡◌, sym, ap, ◌∙◌, subst}
+use Rattle.std.proofs.Common.{◌≡◌, sym, ap, ◌∙◌, subst, rules}
 use Rattle.sdd_shared_values.specs.SharedValues.{showing}
 use Rattle.sdd_domain.specs.Local.{LocalModel}
 use Rattle.sdd_domain.specs.declared.local.Local.TheInside.{Inside}
@@ -24,30 +24,26 @@ invariant_of-self-inside g c = let v : LocalModel g.row.T.Denot g.row.J.Denot = 
     let tied = c.self-inside.invariant in let knows = c.release.ensures.recalled in let went = c.release.ensures.went in
     release_tied v c.release.new.self c.args.right tied knows c.release.result went
 
-pub returns-clause-released : goal.returns-clause-released
-returns-clause-released g c = let v : LocalModel g.row.T.Denot g.row.J.Denot = (c.self-inside.view_is 0).partner in
-    let inner : v ≡ c.self.inside.partner = ap (λ (i : Inside g.row.T.Denot g.row.J.Denot). i.partner) c.self-inside.view_is in
-    let tied = c.self-inside.invariant in let knows = c.release.ensures.recalled in let went = c.release.ensures.went in λ exact. record {
-      owned = release_owned v c.release.new.self c.args.right tied knows c.release.result went c.args.self.now (inner ∙ c.self.view_is) exact;
-      last = release_last v c.release.new.self c.args.right tied knows c.release.result went c.args.self.now (inner ∙ c.self.view_is) exact;
-      world = release_world v c.release.new.self c.args.right tied knows c.release.result went c.args.self.now (inner ∙ c.self.view_is) exact;
-    }
-
-pub returns-clause-own : goal.returns-clause-own
-returns-clause-own g c = let v : LocalModel g.row.T.Denot g.row.J.Denot = (c.self-inside.view_is 0).partner in
+pub returns : goal.returns
+returns g c =
+    let v : LocalModel g.row.T.Denot g.row.J.Denot = (c.self-inside.view_is 0).partner in
     let inner : v ≡ c.self.inside.partner = ap (λ (i : Inside g.row.T.Denot g.row.J.Denot). i.partner) c.self-inside.view_is in
     let tied = c.self-inside.invariant in let knows = c.release.ensures.recalled in let went = c.release.ensures.went in
-    went_own v c.release.new.self c.args.right tied knows c.release.result went
-    ∙ ap (λ (p : LocalModel g.row.T.Denot g.row.J.Denot). left_waiting c.release.result (number_of c.args.right) p.member.own) (inner ∙ c.self.view_is)
-
-pub returns-clause-unmoved : goal.returns-clause-unmoved
-returns-clause-unmoved g c = let v : LocalModel g.row.T.Denot g.row.J.Denot = (c.self-inside.view_is 0).partner in
-    let inner : v ≡ c.self.inside.partner = ap (λ (i : Inside g.row.T.Denot g.row.J.Denot). i.partner) c.self-inside.view_is in
-    let tied = c.self-inside.invariant in let knows = c.release.ensures.recalled in let went = c.release.ensures.went in record {
-      seat = went_seat v c.release.new.self c.args.right tied knows c.release.result went ∙ ap seat_of (inner ∙ c.self.view_is);
-      known = subst (λ (p : LocalModel g.row.T.Denot g.row.J.Denot). KnowsOn (known_of p)
-          (known_of (record { member = c.release.new.self; entries = v.entries })))
-          (inner ∙ c.self.view_is) (went_knows v c.release.new.self c.args.right tied knows c.release.result went);
-      shown = release_keeps v c.release.new.self c.args.right tied knows c.release.result went c.args.self.now (inner ∙ c.self.view_is)
-          (showing g.row.T) g.T.Item.holds;
+    record {
+      unmoved = record {
+          seat = went_seat v c.release.new.self c.args.right tied knows c.release.result went ∙ ap seat_of (inner ∙ c.self.view_is);
+          known = subst (λ (p : LocalModel g.row.T.Denot g.row.J.Denot). KnowsOn (known_of p)
+              (known_of (record { member = c.release.new.self; entries = v.entries })))
+              (inner ∙ c.self.view_is) (went_knows v c.release.new.self c.args.right tied knows c.release.result went);
+          shown = release_keeps v c.release.new.self c.args.right tied knows c.release.result went c.args.self.now (inner ∙ c.self.view_is)
+              (showing g.row.T) g.T.Item.holds;
+        };
+      own = went_own v c.release.new.self c.args.right tied knows c.release.result went
+        ∙ ap (λ (p : LocalModel g.row.T.Denot g.row.J.Denot). left_waiting c.release.result (number_of c.args.right) p.member.own) (inner ∙ c.self.view_is);
+      sole = search rules;
+      released = λ exact. record {
+          owned = release_owned v c.release.new.self c.args.right tied knows c.release.result went c.args.self.now (inner ∙ c.self.view_is) exact;
+          last = release_last v c.release.new.self c.args.right tied knows c.release.result went c.args.self.now (inner ∙ c.self.view_is) exact;
+          world = release_world v c.release.new.self c.args.right tied knows c.release.result went c.args.self.now (inner ∙ c.self.view_is) exact;
+        };
     }

@@ -1,4 +1,4 @@
-use Rattle.std.proofs.Common.{◌≡◌, sym, ap, ◌∙◌, subst}
+use Rattle.std.proofs.Common.{◌≡◌, sym, ap, ◌∙◌, subst, rules}
 use Rattle.sdd_shared_values.specs.SharedValues.{showing}
 use Rattle.sdd_rights.specs.Right.{number_of}
 use Rattle.sdd_domain.specs.Local.{LocalModel}
@@ -17,20 +17,14 @@ pub invariant_of-self-inside : goal.invariant_of-self-inside
 invariant_of-self-inside g c = let v : LocalModel g.row.T.Denot g.row.J.Denot = (c.self-inside.view_is 0).partner in
     let e = c.into_raw.ensures in puts_tied v c.into_raw.new.self (number_of c.args.right) e.out c.self-inside.invariant e.recalled
 
-pub returns-clause-owned : goal.returns-clause-owned
-returns-clause-owned g c = let v : LocalModel g.row.T.Denot g.row.J.Denot = (c.self-inside.view_is 0).partner in
-    let inner : v ≡ c.self.inside.partner = ap (λ (i : Inside g.row.T.Denot g.row.J.Denot). i.partner) c.self-inside.view_is in
-    let e = c.into_raw.ensures in puts_stood v c.into_raw.new.self (number_of c.args.right) e.out c.self-inside.invariant e.recalled c.args.self.now
-    (inner ∙ c.self.view_is)
-
-pub returns-clause-exact : goal.returns-clause-exact
-returns-clause-exact g c = let v : LocalModel g.row.T.Denot g.row.J.Denot = (c.self-inside.view_is 0).partner in
-    let inner : v ≡ c.self.inside.partner = ap (λ (i : Inside g.row.T.Denot g.row.J.Denot). i.partner) c.self-inside.view_is in
-    let e = c.into_raw.ensures in puts_world v c.into_raw.new.self (number_of c.args.right) e.out c.self-inside.invariant e.recalled c.args.self.now
-    (inner ∙ c.self.view_is)
-
-pub returns-clause-undisturbed : goal.returns-clause-undisturbed
-returns-clause-undisturbed g c = let v : LocalModel g.row.T.Denot g.row.J.Denot = (c.self-inside.view_is 0).partner in
-    let inner : v ≡ c.self.inside.partner = ap (λ (i : Inside g.row.T.Denot g.row.J.Denot). i.partner) c.self-inside.view_is in
-    let e = c.into_raw.ensures in puts_undisturbed v c.into_raw.new.self (number_of c.args.right) e.out c.self-inside.invariant e.recalled c.args.self.now
-    (inner ∙ c.self.view_is) (showing g.row.T) g.T.Item.holds
+pub returns : goal.returns
+returns g c =
+    let v : LocalModel g.row.T.Denot g.row.J.Denot = (c.self-inside.view_is 0).partner in
+    let inner : v ≡ c.self.inside.partner = ap (λ (i : Inside g.row.T.Denot g.row.J.Denot). i.partner) c.self-inside.view_is in let e = c.into_raw.ensures in
+    record {
+      undisturbed = puts_undisturbed v c.into_raw.new.self (number_of c.args.right) e.out c.self-inside.invariant e.recalled c.args.self.now
+        (inner ∙ c.self.view_is) (showing g.row.T) g.T.Item.holds;
+      slot = search rules;
+      owned = puts_stood v c.into_raw.new.self (number_of c.args.right) e.out c.self-inside.invariant e.recalled c.args.self.now (inner ∙ c.self.view_is);
+      exact = puts_world v c.into_raw.new.self (number_of c.args.right) e.out c.self-inside.invariant e.recalled c.args.self.now (inner ∙ c.self.view_is);
+    }

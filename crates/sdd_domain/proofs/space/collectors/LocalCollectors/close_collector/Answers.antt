@@ -1,4 +1,4 @@
-use Rattle.std.proofs.Common.{ap, ◌∙◌}
+use Rattle.std.proofs.Common.{ap, ◌∙◌, rules}
 use Rattle.sdd_rights.specs.Right.{raw_number_of}
 use Rattle.sdd_shared_values.specs.SharedValues.{showing}
 use Rattle.sdd_domain.specs.Local.{LocalModel}
@@ -12,32 +12,24 @@ invariant_of-self g c = let v : LocalModel g.row.T.Denot g.row.J.Denot = c.self.
     sound_after holds v q cell e.rest c.args.collector c.close_collector.result
     (answers holds v q cell c.args.collector c.close_collector.result e.own e.shut e.back e.exact) c.self.invariant e.settled
 
-pub returns-clause-seat : goal.returns-clause-seat
-returns-clause-seat g c = let v : LocalModel g.row.T.Denot g.row.J.Denot = c.self.inside.partner in
-    given_seat g.T.Item.holds v c.close_collector.new.self (raw_number_of c.args.collector) c.close_collector.ensures.rest ∙ ap seat_of c.self.view_is
-
-pub returns-clause-own : goal.returns-clause-own
-returns-clause-own g c = let v : LocalModel g.row.T.Denot g.row.J.Denot = c.self.inside.partner in let e = c.close_collector.ensures in
+pub returns : goal.returns
+returns g c =
+    let v : LocalModel g.row.T.Denot g.row.J.Denot = c.self.inside.partner in let e = c.close_collector.ensures in
     let q : LocalModel g.row.T.Denot g.row.J.Denot = c.close_collector.new.self in let cell = raw_number_of c.args.collector in let holds = g.T.Item.holds in
-    given_own holds v q cell e.rest c.args.collector c.close_collector.result
-    (answers holds v q cell c.args.collector c.close_collector.result e.own e.shut e.back e.exact) c.self.invariant e.settled c.args.self.now c.self.view_is
-
-pub returns-clause-exact : goal.returns-clause-exact
-returns-clause-exact g c = let v : LocalModel g.row.T.Denot g.row.J.Denot = c.self.inside.partner in let e = c.close_collector.ensures in
-    let q : LocalModel g.row.T.Denot g.row.J.Denot = c.close_collector.new.self in let cell = raw_number_of c.args.collector in let holds = g.T.Item.holds in
-    given_exact holds v q cell e.rest c.args.collector c.close_collector.result
-    (answers holds v q cell c.args.collector c.close_collector.result e.own e.shut e.back e.exact) c.self.invariant e.settled c.args.self.now c.self.view_is
-
-pub returns-clause-others : goal.returns-clause-others
-returns-clause-others g c = let v : LocalModel g.row.T.Denot g.row.J.Denot = c.self.inside.partner in let e = c.close_collector.ensures in
-    let q : LocalModel g.row.T.Denot g.row.J.Denot = c.close_collector.new.self in let cell = raw_number_of c.args.collector in let holds = g.T.Item.holds in
-    given_others holds v q cell e.rest c.args.collector c.close_collector.result
-    (answers holds v q cell c.args.collector c.close_collector.result e.own e.shut e.back e.exact) c.self.invariant e.settled c.args.self.now c.self.view_is
-    (showing g.row.T)
-
-pub returns-clause-keeps : goal.returns-clause-keeps
-returns-clause-keeps g c = let v : LocalModel g.row.T.Denot g.row.J.Denot = c.self.inside.partner in let e = c.close_collector.ensures in
-    let q : LocalModel g.row.T.Denot g.row.J.Denot = c.close_collector.new.self in let cell = raw_number_of c.args.collector in let holds = g.T.Item.holds in
-    given_keeps holds v q cell e.rest c.args.collector c.close_collector.result
-    (answers holds v q cell c.args.collector c.close_collector.result e.own e.shut e.back e.exact) c.self.invariant e.settled c.args.self.now c.self.view_is
-    (showing g.row.T)
+    record {
+      seat = given_seat g.T.Item.holds v c.close_collector.new.self (raw_number_of c.args.collector) c.close_collector.ensures.rest ∙ ap seat_of c.self.view_is;
+      own = given_own holds v q cell e.rest c.args.collector c.close_collector.result
+        (answers holds v q cell c.args.collector c.close_collector.result e.own e.shut e.back e.exact) c.self.invariant e.settled c.args.self.now
+            c.self.view_is;
+      known = search rules;
+      back = search rules;
+      exact = given_exact holds v q cell e.rest c.args.collector c.close_collector.result
+        (answers holds v q cell c.args.collector c.close_collector.result e.own e.shut e.back e.exact) c.self.invariant e.settled c.args.self.now
+            c.self.view_is;
+      others = given_others holds v q cell e.rest c.args.collector c.close_collector.result
+        (answers holds v q cell c.args.collector c.close_collector.result e.own e.shut e.back e.exact) c.self.invariant e.settled c.args.self.now c.self.view_is
+        (showing g.row.T);
+      keeps = given_keeps holds v q cell e.rest c.args.collector c.close_collector.result
+        (answers holds v q cell c.args.collector c.close_collector.result e.own e.shut e.back e.exact) c.self.invariant e.settled c.args.self.now c.self.view_is
+        (showing g.row.T);
+    }

@@ -1,4 +1,4 @@
-use Rattle.std.proofs.Common.{◌≡◌, sym, ap, ◌∙◌, subst}
+use Rattle.std.proofs.Common.{◌≡◌, sym, ap, ◌∙◌, subst, rules}
 use Rattle.sdd_rights.specs.Right.{raw_number_of}
 use Rattle.sdd_shared_values.specs.SharedValues.{showing}
 use Rattle.sdd_space.specs.KnownEpochs.{KnowsOn}
@@ -23,39 +23,28 @@ invariant_of-self-inside g c = let v : LocalModel g.row.T.Denot g.row.J.Denot = 
     let sound = subst (IsSound g.T.Item.holds) (sym inner) c.self.invariant in
     gave_tied v c.collect.new.self (raw_number_of c.args.collector.now) c.args.right tied sound.closes knows c.collect.result went
 
-pub returns-clause-unmoved : goal.returns-clause-unmoved
-returns-clause-unmoved g c = let v : LocalModel g.row.T.Denot g.row.J.Denot = (c.self-inside.view_is 0).partner in
+pub returns : goal.returns
+returns g c =
+    let v : LocalModel g.row.T.Denot g.row.J.Denot = (c.self-inside.view_is 0).partner in
     let inner : v ≡ c.self.inside.partner = ap (λ (i : Inside g.row.T.Denot g.row.J.Denot). i.partner) c.self-inside.view_is in
     let tied = c.self-inside.invariant in let knows = c.collect.ensures.recalled in let went = c.collect.ensures.went in
-    let closes = (subst (IsSound g.T.Item.holds) (sym inner) c.self.invariant).closes in let m = c.collect.new.self in
-    let cell = raw_number_of c.args.collector.now in record {
-      seat = gave_seat v m cell c.args.right tied closes knows c.collect.result went ∙ ap seat_of (inner ∙ c.self.view_is);
-      known = subst (λ (p : LocalModel g.row.T.Denot g.row.J.Denot). KnowsOn (known_of p) (known_of (record { member = m; entries = v.entries })))
-          (inner ∙ c.self.view_is) (gave_knows v m cell c.args.right tied closes knows c.collect.result went);
-      shown = collect_keeps v m cell c.args.right tied closes knows c.collect.result went c.args.self.now (inner ∙ c.self.view_is)
-          (showing g.row.T) g.T.Item.holds;
+    let closes = (subst (IsSound g.T.Item.holds) (sym inner) c.self.invariant).closes in
+    record {
+      unmoved =
+        let m = c.collect.new.self in let cell = raw_number_of c.args.collector.now in
+        record {
+          seat = gave_seat v m cell c.args.right tied closes knows c.collect.result went ∙ ap seat_of (inner ∙ c.self.view_is);
+          known = subst (λ (p : LocalModel g.row.T.Denot g.row.J.Denot). KnowsOn (known_of p) (known_of (record { member = m; entries = v.entries })))
+              (inner ∙ c.self.view_is) (gave_knows v m cell c.args.right tied closes knows c.collect.result went);
+          shown = collect_keeps v m cell c.args.right tied closes knows c.collect.result went c.args.self.now (inner ∙ c.self.view_is)
+              (showing g.row.T) g.T.Item.holds;
+        };
+      own = search rules;
+      sole = search rules;
+      owned = collect_owned v c.collect.new.self (raw_number_of c.args.collector.now) c.args.right tied closes knows c.collect.result went
+        c.args.self.now (inner ∙ c.self.view_is);
+      last = collect_last v c.collect.new.self (raw_number_of c.args.collector.now) c.args.right tied closes knows c.collect.result went
+        c.args.self.now (inner ∙ c.self.view_is);
+      exact = collect_world v c.collect.new.self (raw_number_of c.args.collector.now) c.args.right tied closes knows c.collect.result went
+        c.args.self.now (inner ∙ c.self.view_is);
     }
-
-pub returns-clause-owned : goal.returns-clause-owned
-returns-clause-owned g c = let v : LocalModel g.row.T.Denot g.row.J.Denot = (c.self-inside.view_is 0).partner in
-    let inner : v ≡ c.self.inside.partner = ap (λ (i : Inside g.row.T.Denot g.row.J.Denot). i.partner) c.self-inside.view_is in
-    let tied = c.self-inside.invariant in let knows = c.collect.ensures.recalled in let went = c.collect.ensures.went in
-    let closes = (subst (IsSound g.T.Item.holds) (sym inner) c.self.invariant).closes in
-    collect_owned v c.collect.new.self (raw_number_of c.args.collector.now) c.args.right tied closes knows c.collect.result went
-    c.args.self.now (inner ∙ c.self.view_is)
-
-pub returns-clause-last : goal.returns-clause-last
-returns-clause-last g c = let v : LocalModel g.row.T.Denot g.row.J.Denot = (c.self-inside.view_is 0).partner in
-    let inner : v ≡ c.self.inside.partner = ap (λ (i : Inside g.row.T.Denot g.row.J.Denot). i.partner) c.self-inside.view_is in
-    let tied = c.self-inside.invariant in let knows = c.collect.ensures.recalled in let went = c.collect.ensures.went in
-    let closes = (subst (IsSound g.T.Item.holds) (sym inner) c.self.invariant).closes in
-    collect_last v c.collect.new.self (raw_number_of c.args.collector.now) c.args.right tied closes knows c.collect.result went
-    c.args.self.now (inner ∙ c.self.view_is)
-
-pub returns-clause-exact : goal.returns-clause-exact
-returns-clause-exact g c = let v : LocalModel g.row.T.Denot g.row.J.Denot = (c.self-inside.view_is 0).partner in
-    let inner : v ≡ c.self.inside.partner = ap (λ (i : Inside g.row.T.Denot g.row.J.Denot). i.partner) c.self-inside.view_is in
-    let tied = c.self-inside.invariant in let knows = c.collect.ensures.recalled in let went = c.collect.ensures.went in
-    let closes = (subst (IsSound g.T.Item.holds) (sym inner) c.self.invariant).closes in
-    collect_world v c.collect.new.self (raw_number_of c.args.collector.now) c.args.right tied closes knows c.collect.result went
-    c.args.self.now (inner ∙ c.self.view_is)
