@@ -1,3 +1,3 @@
 pub mod ScheduleLines
-pub mod Schedules
+pub mod ScheduleTexts
 pub mod ScheduleTaken

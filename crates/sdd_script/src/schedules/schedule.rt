@@ -26,7 +26,7 @@ pub enum Schedule {
 /// At most as many lines are steps as lines of a script are calls.
 ///
 /// Refused with `NoMemory` alone.
-#[tactic(auto, using(crate::proofs::Schedules::one_schedule))]
+#[tactic(auto, using(crate::proofs::ScheduleTexts::one_schedule))]
 pub fn parse_all(alloc: Global, text: &[u8]) -> Result<Schedule, Refused>
     ensures schedule { IfOk result (λ schedule. IsSchedule text.now schedule) }
 
