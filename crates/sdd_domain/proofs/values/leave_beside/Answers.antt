@@ -14,8 +14,7 @@ use Rattle.sdd_domain.proofs.values.leave_beside.Goals as goal
 
 pub enter_unit-requires : goal.enter_unit-requires
 enter_unit-requires c =
-    let b = c.args.board.now in let r = c.requires in let o = r.owner in let value : Gv = o.1.0 in let s = c.args.token.now in
-    let took = c.take_in.ensures c.args.slot true value o.1.1 in
+    let r = c.requires in let o = r.owner in let value : Gv = o.1.0 in let s = c.args.token.now in let took = c.take_in.ensures c.args.slot true value o.1.1 in
     record {
       home = took.0 ∙ r.home;
       knows = (ap (λ (v : View). v.sizes) took.3 ∙ r.knows.0, ap (λ (v : View). v.stakes.book) took.3 ∙ r.knows.1);
@@ -33,8 +32,7 @@ pub leave-requires : goal.leave-requires
 leave-requires c =
     let b = c.args.board.now in let r = c.requires in let o = r.owner in let value : Gv = o.1.0 in let s = c.args.token.now in
     let took = c.take_in.ensures c.args.slot true value o.1.1 in
-    let is = entered_view b c.args.slot value s c.take_in.new.token c.enter_unit.new.token r.bare took c.enter_unit.ensures in
-    record {
+    let is = entered_view b c.args.slot value s c.take_in.new.token c.enter_unit.new.token r.bare took c.enter_unit.ensures in record {
       home = entered_home b c.args.slot value s c.take_in.new.token c.enter_unit.new.token r.bare took c.enter_unit.ensures ∙ r.home;
       knows = (ap (λ (v : View). v.sizes) is ∙ r.knows.0, ap (λ (v : View). v.stakes.book) is ∙ r.knows.1);
       inside = search rules;
@@ -53,8 +51,7 @@ returns-then-leave-word c = let b = c.args.board.now in let r = c.requires in le
 pub draw_unit-requires : goal.draw_unit-requires
 draw_unit-requires c =
     let b = c.args.board.now in let r = c.requires in let o = r.owner in let value : Gv = o.1.0 in let s = c.args.token.now in
-    let took = c.take_in.ensures c.args.slot true value o.1.1 in
-    record {
+    let took = c.take_in.ensures c.args.slot true value o.1.1 in record {
       home = still_home b c.args.slot value s c.take_in.new.token c.enter_unit.new.token r.bare took
         c.enter_unit.ensures c.args.word c.leave.result c.leave.new.token c.leave.ensures c.if-leave-word.false ∙ r.home;
       knows = still_knows b c.args.slot value s c.take_in.new.token c.enter_unit.new.token r.bare took
@@ -64,8 +61,7 @@ draw_unit-requires c =
         c.enter_unit.ensures c.args.word c.leave.result c.leave.new.token c.leave.ensures c.if-leave-word.false r.place;
       own =
         let free = still_owns b c.args.slot value s c.take_in.new.token c.enter_unit.new.token r.bare took c.enter_unit.ensures c.args.word c.leave.result
-        c.leave.new.token c.leave.ensures c.if-leave-word.false in
-        (
+        c.leave.new.token c.leave.ensures c.if-leave-word.false in (
           (
             true,
             value,
@@ -82,8 +78,7 @@ draw_unit-requires c =
 pub into_grip-grip-requires : goal.into_grip-grip-requires
 into_grip-grip-requires c =
     let b = c.args.board.now in let r = c.requires in let o = r.owner in let value : Gv = o.1.0 in let s = c.args.token.now in
-    let took = c.take_in.ensures c.args.slot true value o.1.1 in
-    record {
+    let took = c.take_in.ensures c.args.slot true value o.1.1 in record {
       full = subst IsValueCode
         (o.1.2.shows ∙ sym (ap (λ (k : FractionContent). k.shown)
         (unit_is b c.args.slot value s c.take_in.new.token c.enter_unit.new.token r.bare took c.enter_unit.ensures c.args.word c.leave.result
@@ -100,8 +95,7 @@ into_grip-grip-requires c =
 pub cut-requires : goal.cut-requires
 cut-requires c =
     let b = c.args.board.now in let r = c.requires in let o = r.owner in let value : Gv = o.1.0 in let s = c.args.token.now in
-    let took = c.take_in.ensures c.args.slot true value o.1.1 in
-    record {
+    let took = c.take_in.ensures c.args.slot true value o.1.1 in record {
       home = drawn_home b c.args.slot value s c.take_in.new.token c.enter_unit.new.token r.bare took
         c.enter_unit.ensures c.args.word c.leave.result c.leave.new.token c.leave.ensures c.if-leave-word.false c.draw_unit.result.lot c.draw_unit.new.token
         c.draw_unit.ensures r.knows ∙ r.home;
