@@ -8,9 +8,8 @@ use Rattle.sdd_domain.proofs.CellCloned.{answered_exact, answered_step, answered
 use Rattle.sdd_domain.proofs.space.cells.LocalCells.clone_cell.Goals as goal
 
 pub invariant_of-self-inside : goal.invariant_of-self-inside
-invariant_of-self-inside g c = let v : LocalModel g.row.T.Denot g.row.J.Denot = (c.self-inside.view_is 0).partner in
-    let inner : v ≡ c.self.inside.partner = ap (λ (i : Inside g.row.T.Denot g.row.J.Denot). i.partner) c.self-inside.view_is in
-    let did = c.clone_cell in
+invariant_of-self-inside g c =
+    let v : LocalModel g.row.T.Denot g.row.J.Denot = (c.self-inside.view_is 0).partner in let did = c.clone_cell in
     (answered_step v did.new.self (number_of c.args.cell.now) (showing g.row.T) g.T.Item.holds did.result did.ensures.cloned).tied c.self-inside.invariant
 
 pub invariant_of-self : goal.invariant_of-self
