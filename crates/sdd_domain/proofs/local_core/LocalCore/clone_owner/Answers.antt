@@ -11,15 +11,13 @@ use Rattle.sdd_shared_values.specs.ValueFractions.{FractionContent}
 use Rattle.sdd_shared_values.specs.declared.value_fraction.ValueFraction.{ValueFraction}
 use Rattle.sdd_views.specs.declared.View.{View}
 use Rattle.sdd_word_invariant.specs.SlotSteps.{behind, noted}
-use Rattle.sdd_domain.specs.BetweenCalls.{AreLentTo, IsReady}
-use Rattle.sdd_domain.specs.InBags.{known_waiting}
 use Rattle.sdd_domain.specs.Items.{slots_home}
 use Rattle.sdd_domain.specs.LocalState.{AddsAt, HasMost, IsLone, KnowsOwner, LocalState}
-use Rattle.sdd_domain.specs.Receipt.{IsTallied}
 use Rattle.sdd_domain.proofs.Cloned.{counts_most, counts_fewer, full_view, full_same, came_knows, came_place, came_rests, came_told, came_free, unit_is, drawn_view, drawn_home, drawn_owns, drawn_rests, left_view, other_shows, other_grip}
-use Rattle.sdd_domain.proofs.InPlace.{bare, knew_word, noted_at, owner_table, placed, posed_noted, right_anew}
+use Rattle.sdd_domain.proofs.InPlace.{bare, knew_word, noted_at, owner_table, placed, right_anew}
 use Rattle.sdd_domain.proofs.Members.{has_tables, with_token}
 use Rattle.sdd_domain.proofs.Recalled.{IsRecalled, is_recalled}
+use Rattle.sdd_domain.proofs.Still.{noted_on}
 use Rattle.sdd_domain.proofs.local_core.LocalCore.clone_owner.Given.{Over}
 use Rattle.sdd_domain.proofs.local_core.LocalCore.clone_owner.Goals.{After-recall}
 use Rattle.sdd_domain.proofs.local_core.LocalCore.clone_owner.Goals as goal
@@ -53,19 +51,12 @@ add_owner-requires g c =
 
 pub invariant_of-self : goal.invariant_of-self
 invariant_of-self g c =
-    let l = c.self.inside in let b = l.domain.now.board in let e = recalled g (goal.at.invariant_of-self g c).After-recall in let grip = e.0 in let known = e.1 in
-    let same = known.same in let q = known.between in let value : Gv = grip.shown in let slot : ℕ = c.number-slot.result in let t = c.recall.new.token in
+    let l = c.self.inside in let b = l.domain.now.board in let e = recalled g (goal.at.invariant_of-self g c).After-recall in let grip = e.0 in
+    let known = e.1 in let same = known.same in let value : Gv = grip.shown in let slot : ℕ = c.number-slot.result in let t = c.recall.new.token in
     let a = c.add_owner.new.token in let n : ℕ = c.add_owner.result in let adds = c.add_owner.ensures value known.views in
     let many = counts_most n adds.2.several c.if-add_owner-ge-MOST_SHARED.true in let u = a in let full = full_view b slot value t a n adds many in
-    let words : List ℕ = noted slot full.0 t.me.0 in let here = full.1 ∙ ap (λ (x : Seat ValueFraction View). record x.me.0 { words = words }) same in
-    let i = c.self.invariant in (
-      posed_noted b l.place l.own t q u (words) adds.0 full.2 full.1,
-      i.1,
-      i.2,
-      subst (AreLentTo l.tenure.round) (sym (full.2 ∙ ap (λ (x : Seat ValueFraction View). x.me.1) same)) i.3,
-      subst (IsReady b l.own l.due l.known.slots l.jobs l.privates) (sym (ap (λ (v : View). known_waiting v.slots) here)) i.4,
-      subst (IsTallied 0 l.tally) (sym (ap (λ (v : View). v.stakes.counts) here)) i.5,
-    )
+    let words : List ℕ = noted slot full.0 t.me.0 in
+    noted_on b l.place l.own l.tenure.round l.due l.known.slots l.jobs l.privates l.tally l.token c.self.invariant t known.same u words adds.0 full.2 full.1
 
 pub returns-then-add_owner-ge-MOST_SHARED : goal.returns-then-add_owner-ge-MOST_SHARED
 returns-then-add_owner-ge-MOST_SHARED g c =
@@ -168,15 +159,8 @@ invariant_of-self-2 g c =
     let u = c.cut-other.new.token in
     let left = left_view b slot value t a n adds few none c.draw_unit.result.lot c.draw_unit.new.token c.draw_unit.ensures q.knows u
     c.cut-other.ensures.participant in
-    let words : List ℕ = noted slot (n + 1) t.me.0 in let here = left.2 ∙ ap (λ (x : Seat ValueFraction View). record x.me.0 { words = words }) same in
-    let i = c.self.invariant in (
-      posed_noted b l.place l.own t q u (words) left.0 left.1 left.2,
-      i.1,
-      i.2,
-      subst (AreLentTo l.tenure.round) (sym (left.1 ∙ ap (λ (x : Seat ValueFraction View). x.me.1) same)) i.3,
-      subst (IsReady b l.own l.due l.known.slots l.jobs l.privates) (sym (ap (λ (v : View). known_waiting v.slots) here)) i.4,
-      subst (IsTallied 0 l.tally) (sym (ap (λ (v : View). v.stakes.counts) here)) i.5,
-    )
+    let words : List ℕ = noted slot (n + 1) t.me.0 in
+    noted_on b l.place l.own l.tenure.round l.due l.known.slots l.jobs l.privates l.tally l.token c.self.invariant t known.same u words left.0 left.1 left.2
 
 pub returns : goal.returns
 returns g c =
