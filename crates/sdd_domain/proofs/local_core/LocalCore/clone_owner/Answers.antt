@@ -106,13 +106,11 @@ into_grip-grip-requires g c =
     let l = c.self.inside in let b = l.domain.now.board in let e = recalled g (goal.at.into_grip-grip-requires g c).After-recall in let grip = e.0 in
     let known = e.1 in let q = known.between in let value : Gv = grip.shown in let slot : ℕ = c.number-slot.result in let t = c.recall.new.token in
     let a = c.add_owner.new.token in let n : ℕ = c.add_owner.result in let adds = c.add_owner.ensures value known.views in
-    let few = counts_fewer n adds.2.several (let small = c.if-add_owner-ge-MOST_SHARED.false in omega arith) in let none = bare b l.place l.own t q in record {
-      full = subst IsValueCode (sym (ap (λ (x : FractionContent). x.shown)
-        (unit_is b slot value t a n adds few none c.draw_unit.result.lot c.draw_unit.new.token c.draw_unit.ensures q.knows))) grip.full;
-      one = ap (λ (x : FractionContent). x.units) (unit_is b slot value t a n adds few none c.draw_unit.result.lot c.draw_unit.new.token c.draw_unit.ensures
-          q.knows);
-      free = ap (λ (x : FractionContent). x.lent) (unit_is b slot value t a n adds few none c.draw_unit.result.lot c.draw_unit.new.token c.draw_unit.ensures
-          q.knows);
+    let few = counts_fewer n adds.2.several (let small = c.if-add_owner-ge-MOST_SHARED.false in omega arith) in let none = bare b l.place l.own t q in
+    let is = unit_is b slot value t a n adds few none c.draw_unit.result.lot c.draw_unit.new.token c.draw_unit.ensures q.knows in record {
+      full = subst IsValueCode (sym (ap (λ (x : FractionContent). x.shown) is)) grip.full;
+      one = ap (λ (x : FractionContent). x.units) is;
+      free = ap (λ (x : FractionContent). x.lent) is;
     }
 
 pub cut-other-requires : goal.cut-other-requires
@@ -136,16 +134,13 @@ pub of_witness-requires : goal.of_witness-requires
 of_witness-requires g c =
     let l = c.self.inside in let b = l.domain.now.board in let e = recalled g (goal.at.of_witness-requires g c).After-recall in let grip = e.0 in
     let known = e.1 in let q = known.between in let value : Gv = grip.shown in let slot : ℕ = c.number-slot.result in let t = c.recall.new.token in
-    let kind = c.requires.kind in let a = c.add_owner.new.token in let n : ℕ = c.add_owner.result in let adds = c.add_owner.ensures value known.views in
-    let few = counts_fewer n adds.2.several (let small = c.if-add_owner-ge-MOST_SHARED.false in omega arith) in let none = bare b l.place l.own t q in record {
-      owner =
-        let shows = (other_grip b slot value t a n adds few none c.draw_unit.result.lot c.draw_unit.new.token c.draw_unit.ensures q.knows
-            c.into_grip-grip.result
-        c.into_grip-grip.ensures).shows in
-        other_shows b slot value t a n adds few none c.draw_unit.result.lot c.draw_unit.new.token c.draw_unit.ensures q.knows c.cut-other.result.views
-        c.cut-other.ensures.owner.1 ∙ ap (witness_of_owner slot true) (sym shows);
-      place = (other_grip b slot value t a n adds few none c.draw_unit.result.lot c.draw_unit.new.token c.draw_unit.ensures q.knows c.into_grip-grip.result
-        c.into_grip-grip.ensures).unit.number_is;
+    let a = c.add_owner.new.token in let n : ℕ = c.add_owner.result in let adds = c.add_owner.ensures value known.views in
+    let few = counts_fewer n adds.2.several (let small = c.if-add_owner-ge-MOST_SHARED.false in omega arith) in let none = bare b l.place l.own t q in
+    let made = other_grip b slot value t a n adds few none c.draw_unit.result.lot c.draw_unit.new.token c.draw_unit.ensures q.knows c.into_grip-grip.result
+    c.into_grip-grip.ensures in record {
+      owner = other_shows b slot value t a n adds few none c.draw_unit.result.lot c.draw_unit.new.token c.draw_unit.ensures q.knows
+          c.cut-other.result.views c.cut-other.ensures.owner.1 ∙ ap (witness_of_owner slot true) (sym made.shows);
+      place = made.unit.number_is;
       inside = search rules;
       kind = search rules;
     }
