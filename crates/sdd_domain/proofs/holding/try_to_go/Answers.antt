@@ -37,7 +37,7 @@ drop_alone-requires g c =
       );
       looked = let e = ap (λ (v : View). v.slots.looked) held.view in omega (arith, e);
       unit = search rules;
-      shows = ( 0, only c.args.slot c.args.shared value, ap (λ (v : View). get_elem? v.stakes.owns 0) held.view, refl, sym r.owner.1.2.shows, );
+      shows = (0, only c.args.slot c.args.shared value, ap (λ (v : View). get_elem? v.stakes.owns 0) held.view, refl, sym r.owner.1.2.shows);
     }
 
 pub returns-in-Ok : goal.returns-in-Ok

@@ -90,14 +90,14 @@ returns c = let s = c.args.token.now in let k = c.look-word.ensures in let word 
       left = several.1;
       few = several.2;
       after = record {
-      table = put.table ∙ (e.0 ∙ k.0);
-      number = put.number ∙ (e.1 ∙ k.1);
-      others = put.others ∙ (ap (λ (m : SeatState). m.1) hit.2 ∙ k.2);
-      view = put.view ∙ (ap (holding [] []) is ∙ (λ d. record v {
-        slots = record v.slots { owns = sym bare.quiet.owns d; over = sym bare.quiet.over d };
-        stakes = record v.stakes { owns = sym bare.untold d };
-        words = noted slot (word + 1) v;
-      }));
+        table = put.table ∙ (e.0 ∙ k.0);
+        number = put.number ∙ (e.1 ∙ k.1);
+        others = put.others ∙ (ap (λ (m : SeatState). m.1) hit.2 ∙ k.2);
+        view = put.view ∙ (ap (holding [] []) is ∙ (λ d. record v {
+          slots = record v.slots { owns = sym bare.quiet.owns d; over = sym bare.quiet.over d };
+          stakes = record v.stakes { owns = sym bare.untold d };
+          words = noted slot (word + 1) v;
+        }));
       };
       knew = k.3.1;
       loose = own.0;
