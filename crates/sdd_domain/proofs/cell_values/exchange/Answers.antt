@@ -19,12 +19,10 @@ put_down-requires c =
     let q = c.requires.right.1 in let shared : Bool = q.0 in let a = c.recall_cell.ensures c.args.cell shared q.1 in let t = c.take_up.ensures shared q.2 in
     let step = c.exchange_cell.ensures shared q.1 in let hit = c.if-exchange_cell-old.true in
     let out = brought c.args.word c.args.cell c.args.old shared c.take_up.new.token.me c.exchange_cell.new.token.me
-    (subst (λ (x : ℕ). BringsOut c.args.word shared c.args.cell c.take_up.new.token.me x c.exchange_cell.new.token.me) hit (step.2.0 hit)) in
-    record {
+    (subst (λ (x : ℕ). BringsOut c.args.word shared c.args.cell c.take_up.new.token.me x c.exchange_cell.new.token.me) hit (step.2.0 hit)) in record {
       home = search rules;
       knows =
-        let s = c.args.token.now in
-        (
+        let s = c.args.token.now in (
           ap (λ (m : SeatState). m.0.sizes) out.1 ∙ (ap (λ (v : View). v.sizes) t.view ∙ (ap (λ (m : SeatState). m.0.sizes) a.2.0 ∙ c.requires.knows.0)),
           ap (λ (m : SeatState). m.0.stakes.book) out.1
               ∙ (ap (λ (v : View). v.stakes.book) t.view ∙ (ap (λ (m : SeatState). m.0.stakes.book) a.2.0 ∙ c.requires.knows.1)),
@@ -34,10 +32,10 @@ put_down-requires c =
       rests = ap (λ (m : SeatState). m.0.stakes.moves) out.1
         ∙ (ap (λ (v : View). v.stakes.moves) t.view ∙ (ap (λ (m : SeatState). m.0.stakes.moves) a.2.0 ∙ c.requires.bare.rests));
       quiet = (
-          ap (λ (m : SeatState). m.0.slots.drawn) out.1
-              ∙ (ap (λ (v : View). v.slots.drawn) t.view ∙ (ap (λ (m : SeatState). m.0.slots.drawn) a.2.0 ∙ c.requires.bare.quiet.drawn)),
-          ap (λ (m : SeatState). m.0.slots.holds) out.1
-              ∙ (ap (λ (v : View). v.slots.holds) t.view ∙ (ap (λ (m : SeatState). m.0.slots.holds) a.2.0 ∙ c.requires.bare.quiet.holds)),
-        );
+        ap (λ (m : SeatState). m.0.slots.drawn) out.1
+            ∙ (ap (λ (v : View). v.slots.drawn) t.view ∙ (ap (λ (m : SeatState). m.0.slots.drawn) a.2.0 ∙ c.requires.bare.quiet.drawn)),
+        ap (λ (m : SeatState). m.0.slots.holds) out.1
+            ∙ (ap (λ (v : View). v.slots.holds) t.view ∙ (ap (λ (m : SeatState). m.0.slots.holds) a.2.0 ∙ c.requires.bare.quiet.holds)),
+      );
       held = (shared, out.2);
     }

@@ -14,8 +14,7 @@ pub into_grip-grip-requires : goal.into_grip-grip-requires
 into_grip-grip-requires c =
     let told = c.requires.told in let slot : ℕ = c.args.slot in let value : Gv = told.1 in
     let here : IsIn c.args.token.now.me.0.stakes.owns slot value = subst (λ (l : List ShownValue). IsIn l slot value) (sym told.3)
-    (0, record { slot = slot; shared = told.0; value = value }, refl, refl, refl) in
-    record {
+    (0, record { slot = slot; shared = told.0; value = value }, refl, refl, refl) in record {
       full = let unit = c.draw_unit.ensures.2.2 value here in subst IsValueCode (sym (ap (λ (k : FractionContent). k.shown) unit)) told.2;
       one = ap (λ (k : FractionContent). k.units) (c.draw_unit.ensures.2.2 value here);
       free = ap (λ (k : FractionContent). k.lent) (c.draw_unit.ensures.2.2 value here);

@@ -10,9 +10,8 @@ loop-index-init g c = record { few = omega arith; held = refl; going = begins _ 
 
 pub settle-requires : goal.settle-requires
 settle-requires g c =
-    let long : vec_len c.pop.new.self ≡ length c.pop.new.self.items = c.pop.new.self.ok.0 in
-    let end = c.len-index-end.ensures in let test = c.loop-index-test.true in
-    let is_home : Receipt → Type 0 = λ r. r.home ≡ slots_in c.args.domain.now in
+    let long : vec_len c.pop.new.self ≡ length c.pop.new.self.items = c.pop.new.self.ok.0 in let end = c.len-index-end.ensures in
+    let test = c.loop-index-test.true in let is_home : Receipt → Type 0 = λ r. r.home ≡ slots_in c.args.domain.now in
     still_home _ _ c.pop.new.self.items c.loop-index.receipts.items c.loop-index.invariant.going (omega arith)
     is_home c.replace-receipt.result c.index_mut.result.now (c.replace-receipt.ensures.value ∙ c.index_mut.ensures.value)
     (front_of is_home c.pop.new.self.items (c.in-Some.held ∷ []) (subst (All is_home) c.in-Some.ensures.items c.requires.homes))
@@ -20,9 +19,8 @@ settle-requires g c =
 pub loop-index-preserved : goal.loop-index-preserved
 loop-index-preserved g c =
     let was = c.loop-index.invariant in let few = was.few in let own = c.settle.ensures.few in
-    let long : vec_len c.pop.new.self ≡ length c.pop.new.self.items = c.pop.new.self.ok.0 in
-    let end = c.len-index-end.ensures in let test = c.loop-index-test.true in
-    let still = still_long _ _ c.pop.new.self.items c.loop-index.receipts.items was.going in record {
+    let long : vec_len c.pop.new.self ≡ length c.pop.new.self.items = c.pop.new.self.ok.0 in let end = c.len-index-end.ensures in
+    let test = c.loop-index-test.true in let still = still_long _ _ c.pop.new.self.items c.loop-index.receipts.items was.going in record {
       few = omega arith;
       held = c.replace-held.ensures.value ∙ (c.index_mut-in-loop-index.ensures.value
           ∙ (get_or-set_same c.loop-index.receipts.items c.loop-index.index c.replace-receipt.new.dest c.index_mut-in-loop-index.result.now (omega arith)
@@ -38,15 +36,13 @@ loop-index-preserved g c =
 pub returns-clause-settled : goal.returns-clause-settled
 returns-clause-settled g c =
     let was = c.loop-index.invariant in let few = was.few in let own = c.settle-2.ensures.few in
-    let long : vec_len c.pop.new.self ≡ length c.pop.new.self.items = c.pop.new.self.ok.0 in
-    let end = c.len-index-end.ensures in let test = c.loop-index-test.false in
-    let all = ends _ _ c.pop.new.self.items c.loop-index.receipts.items was.going (omega arith) in
+    let long : vec_len c.pop.new.self ≡ length c.pop.new.self.items = c.pop.new.self.ok.0 in let end = c.len-index-end.ensures in
+    let test = c.loop-index-test.false in let all = ends _ _ c.pop.new.self.items c.loop-index.receipts.items was.going (omega arith) in
     let one = subst (λ (r : Receipt). IsSettled (c.loop-index.left - c.settle-2.new.left) r c.settle-2.result) was.held c.settle-2.ensures.settled in
     let both = one_settled _ (c.loop-index.left - c.settle-2.new.left) c.pop.new.self.items c.loop-index.receipts.items c.in-Some.held c.settle-2.result all
     one in
     let left : ℕ = c.args.left.now - c.settle-2.new.left in
     let sum : c.args.left.now - c.loop-index.left + (c.loop-index.left - c.settle-2.new.left) ≡ left = omega arith in
     let settled = subst (λ (n : ℕ). AreSettled n (c.pop.new.self.items ++ c.in-Some.held ∷ []) (c.loop-index.receipts.items ++ c.settle-2.result ∷ [])) sum
-    both in
-    subst (λ (xs : List Receipt). AreSettled left xs c.push_reserved.new.self.items) (sym c.in-Some.ensures.items)
+    both in subst (λ (xs : List Receipt). AreSettled left xs c.push_reserved.new.self.items) (sym c.in-Some.ensures.items)
     (subst (λ (ys : List Receipt). AreSettled left (c.pop.new.self.items ++ c.in-Some.held ∷ []) ys) (sym c.push_reserved.ensures.items) settled)

@@ -11,9 +11,7 @@ use Rattle.sdd_domain.proofs.holding.hold_alone.Goals as goal
 
 pub grasp-requires : goal.grasp-requires
 grasp-requires c =
-    let b = c.args.board.now in let r = c.requires in let value : Gv = r.owner.1.0 in let s = c.args.token.now in
-    let took = c.take_in.ensures c.args.slot c.args.shared value r.owner.1.1 in
-    record {
+    let r = c.requires in let value : Gv = r.owner.1.0 in let took = c.take_in.ensures c.args.slot c.args.shared value r.owner.1.1 in record {
       home = took.0 ∙ r.home;
       knows = (ap (λ (v : View). v.sizes) took.3 ∙ r.knows.0, ap (λ (v : View). v.stakes.book) took.3 ∙ r.knows.1);
       inside = search rules;
@@ -27,8 +25,7 @@ pub cut-requires : goal.cut-requires
 cut-requires c =
     let b = c.args.board.now in let r = c.requires in let value : Gv = r.owner.1.0 in let s = c.args.token.now in
     let took = c.take_in.ensures c.args.slot c.args.shared value r.owner.1.1 in
-    let is = taken_view b c.args.slot c.args.shared value s c.take_in.new.token c.grasp.new.token c.grasp.new.token took c.in-Some.ensures.0 r.bare in
-    record {
+    let is = taken_view b c.args.slot c.args.shared value s c.take_in.new.token c.grasp.new.token c.grasp.new.token took c.in-Some.ensures.0 r.bare in record {
       home = c.in-Some.ensures.0.0 ∙ (took.0 ∙ r.home);
       knows = (ap (λ (v : View). v.sizes) is ∙ r.knows.0, ap (λ (v : View). v.stakes.book) is ∙ r.knows.1);
       place = subst (λ (k : ℕ). 0 < k) (sym (ap (λ (v : View). v.epoch.state) is)) r.place.0;
@@ -61,15 +58,14 @@ pub none_is_open-requires : goal.none_is_open-requires
 none_is_open-requires c =
     let b = c.args.board.now in let r = c.requires in let value : Gv = r.owner.1.0 in let s = c.args.token.now in
     let took = c.take_in.ensures c.args.slot c.args.shared value r.owner.1.1 in
-    let is = held_view b c.args.slot c.args.shared value s c.take_in.new.token c.grasp.new.token took c.in_default.ensures.0 c.in_default.ensures.1 in
-    record {
+    let is = held_view b c.args.slot c.args.shared value s c.take_in.new.token c.grasp.new.token took c.in_default.ensures.0 c.in_default.ensures.1 in record {
       home = c.in_default.ensures.0.0 ∙ (took.0 ∙ r.home);
       knows = (ap (λ (v : View). v.sizes) is ∙ r.knows.0, ap (λ (v : View). v.stakes.book) is ∙ r.knows.1);
       place = (
-          subst (λ (k : ℕ). 0 < k) (sym (ap (λ (v : View). v.epoch.state) is)) r.place.0,
-          subst (λ (k : ℕ). k < places_of b) (sym (ap (λ (v : View). v.epoch.place) is)) r.place.1,
-          ap (λ (v : View). v.epoch.all) is ∙ r.place.2,
-        );
+        subst (λ (k : ℕ). 0 < k) (sym (ap (λ (v : View). v.epoch.state) is)) r.place.0,
+        subst (λ (k : ℕ). k < places_of b) (sym (ap (λ (v : View). v.epoch.place) is)) r.place.1,
+        ap (λ (v : View). v.epoch.all) is ∙ r.place.2,
+      );
       first = ap (λ (v : View). v.slots.looked) is;
     }
 
@@ -78,8 +74,7 @@ let_go-requires c =
     let b = c.args.board.now in let r = c.requires in let value : Gv = r.owner.1.0 in let s = c.args.token.now in
     let took = c.take_in.ensures c.args.slot c.args.shared value r.owner.1.1 in
     let is = looked_view b c.args.slot c.args.shared value s c.take_in.new.token c.grasp.new.token took c.in_default.ensures.0 c.in_default.ensures.1
-    (places_of b) c.none_is_open.result c.none_is_open.new.token c.none_is_open.ensures in
-    record {
+    (places_of b) c.none_is_open.result c.none_is_open.new.token c.none_is_open.ensures in record {
       home = c.none_is_open.ensures.table ∙ (c.in_default.ensures.0.0 ∙ (took.0 ∙ r.home));
       knows = (ap (λ (v : View). v.sizes) is ∙ r.knows.0, ap (λ (v : View). v.stakes.book) is ∙ r.knows.1);
       inside = search rules;
@@ -96,8 +91,7 @@ cut-requires-2 c =
     let b = c.args.board.now in let r = c.requires in let value : Gv = r.owner.1.0 in let s = c.args.token.now in
     let took = c.take_in.ensures c.args.slot c.args.shared value r.owner.1.1 in
     let is = back_view b c.args.slot c.args.shared value s c.take_in.new.token c.grasp.new.token took c.in_default.ensures.0 c.in_default.ensures.1
-    (places_of b) c.none_is_open.result c.none_is_open.new.token c.none_is_open.ensures r.bare r.closes c.let_go.new.token c.let_go.ensures in
-    record {
+    (places_of b) c.none_is_open.result c.none_is_open.new.token c.none_is_open.ensures r.bare r.closes c.let_go.new.token c.let_go.ensures in record {
       home = c.let_go.ensures.0 ∙ (c.none_is_open.ensures.table ∙ (c.in_default.ensures.0.0 ∙ (took.0 ∙ r.home)));
       knows = (ap (λ (v : View). v.sizes) is ∙ r.knows.0, ap (λ (v : View). v.stakes.book) is ∙ r.knows.1);
       place = subst (λ (k : ℕ). 0 < k) (sym (ap (λ (v : View). v.epoch.state) is)) r.place.0;

@@ -23,8 +23,7 @@ use Rattle.sdd_domain.proofs.holding.try_to_go.Goals as goal
 pub drop_alone-requires : goal.drop_alone-requires
 drop_alone-requires g c =
     let b = c.args.board.now in let r = c.requires in let value : Gv = r.owner.1.0 in let s = c.args.token.now in
-    let held = c.in-Ok.ensures value r.owner.1.1 in
-    record {
+    let held = c.in-Ok.ensures value r.owner.1.1 in record {
       home = held.table ∙ r.home;
       shelf = search rules;
       knows = (ap (λ (v : View). v.sizes) held.view ∙ r.knows.0, ap (λ (v : View). v.stakes.book) held.view ∙ r.knows.1);
@@ -32,13 +31,13 @@ drop_alone-requires g c =
       place = subst (λ (k : ℕ). 0 < k) (sym (ap (λ (v : View). v.epoch.state) held.view)) r.place.0;
       rests = ap (λ (v : View). v.stakes.moves) held.view ∙ r.bare.rests;
       held = (
-          ap (λ (v : View). v.slots.holds) held.view,
-          ap (λ (v : View). v.slots.owns) held.view ∙ ap (λ (l : List ℕ). c.args.slot ∷ l) r.bare.quiet.owns,
-          ap (λ (v : View). v.slots.drawn) held.view ∙ ap (λ (l : List ℕ). c.args.slot ∷ l) r.bare.quiet.drawn,
-        );
+        ap (λ (v : View). v.slots.holds) held.view,
+        ap (λ (v : View). v.slots.owns) held.view ∙ ap (λ (l : List ℕ). c.args.slot ∷ l) r.bare.quiet.owns,
+        ap (λ (v : View). v.slots.drawn) held.view ∙ ap (λ (l : List ℕ). c.args.slot ∷ l) r.bare.quiet.drawn,
+      );
       looked = let e = ap (λ (v : View). v.slots.looked) held.view in omega (arith, e);
       unit = search rules;
-      shows = ( 0, only c.args.slot c.args.shared value, ap (λ (v : View). get_elem? v.stakes.owns 0) held.view, refl, sym r.owner.1.2.shows, );
+      shows = (0, only c.args.slot c.args.shared value, ap (λ (v : View). get_elem? v.stakes.owns 0) held.view, refl, sym r.owner.1.2.shows);
     }
 
 pub returns-in-Ok : goal.returns-in-Ok

@@ -39,8 +39,8 @@ add_seen-requires-clause-several c =
     some_count c.look-word.result (let l = c.if-word-le-NO_OWNER.false in omega arith) (let l = c.if-word-ge-MOST_SHARED.false in omega arith)
 
 pub returns-then-add_seen-word : goal.returns-then-add_seen-word
-returns-then-add_seen-word c = let s = c.args.token.now in let k = c.look-word.ensures in let slot : ℕ = c.args.slot in
-    let e = c.add_seen.ensures in let miss = e.2.1 c.if-add_seen-word.true in (
+returns-then-add_seen-word c =
+    let k = c.look-word.ensures in let slot : ℕ = c.args.slot in let e = c.add_seen.ensures in let miss = e.2.1 c.if-add_seen-word.true in (
       record {
         table = e.0 ∙ k.0;
         number = e.1 ∙ k.1;
@@ -56,26 +56,24 @@ part_with-requires c =
     let s = c.args.token.now in let k = c.look-word.ensures in let word : ℕ = c.look-word.result in let slot : ℕ = c.args.slot in let e = c.add_seen.ensures in
     let hit = e.2.0 c.if-add_seen-word.false in let value : Gv = hit.0 in
     let is : c.add_seen.new.token.me.0 ≡ owning_more slot value (one_more slot (word + 1) None s.me.0)
-    = ap (λ (m : SeatState). m.0) hit.2 ∙ ap (λ (v : View). owning_more slot value (one_more slot (word + 1) None v)) k.3.0 in
-    record {
+    = ap (λ (m : SeatState). m.0) hit.2 ∙ ap (λ (v : View). owning_more slot value (one_more slot (word + 1) None v)) k.3.0 in record {
       home = e.0 ∙ (k.0 ∙ c.requires.home);
       knows = (ap (λ (v : View). v.sizes) is ∙ c.requires.knows.0, ap (λ (v : View). v.stakes.book) is ∙ c.requires.knows.1);
       inside = search rules;
       place = subst (λ (x : EpochView). HasPlace x) (sym (ap (λ (v : View). v.epoch) is)) c.requires.place;
       rests = ap (λ (v : View). v.stakes.moves) is ∙ c.requires.bare.rests;
       quiet =
-        let q = c.requires.bare.quiet in
-        (
+        let q = c.requires.bare.quiet in (
           ap (λ (v : View). v.slots.owns) is ∙ ap (λ (l : List ℕ). slot ∷ l) q.owns,
           ap (λ (v : View). v.slots.drawn) is ∙ q.drawn,
           ap (λ (v : View). v.slots.holds) is ∙ q.holds,
         );
       told = (
-          true,
-          value,
-          hit.1.code,
-          ap (λ (v : View). v.stakes.owns) is ∙ ap (λ (l : List ShownValue). record { slot = slot; shared = true; value = value } ∷ l) c.requires.bare.untold,
-        );
+        true,
+        value,
+        hit.1.code,
+        ap (λ (v : View). v.stakes.owns) is ∙ ap (λ (l : List ShownValue). record { slot = slot; shared = true; value = value } ∷ l) c.requires.bare.untold,
+      );
     }
 
 pub returns : goal.returns

@@ -14,8 +14,7 @@ use Rattle.sdd_domain.proofs.values.leave_beside.Goals as goal
 
 pub enter_unit-requires : goal.enter_unit-requires
 enter_unit-requires c =
-    let b = c.args.board.now in let r = c.requires in let o = r.owner in let value : Gv = o.1.0 in let s = c.args.token.now in
-    let took = c.take_in.ensures c.args.slot true value o.1.1 in
+    let r = c.requires in let o = r.owner in let value : Gv = o.1.0 in let s = c.args.token.now in let took = c.take_in.ensures c.args.slot true value o.1.1 in
     record {
       home = took.0 ∙ r.home;
       knows = (ap (λ (v : View). v.sizes) took.3 ∙ r.knows.0, ap (λ (v : View). v.stakes.book) took.3 ∙ r.knows.1);
@@ -31,111 +30,77 @@ enter_unit-requires c =
 
 pub leave-requires : goal.leave-requires
 leave-requires c =
-    let b = c.args.board.now in let r = c.requires in let o = r.owner in let value : Gv = o.1.0 in let s = c.args.token.now in
-    let took = c.take_in.ensures c.args.slot true value o.1.1 in
-    let is = entered_view b c.args.slot value s c.take_in.new.token c.enter_unit.new.token r.bare took c.enter_unit.ensures in
-    record {
-      home = entered_home b c.args.slot value s c.take_in.new.token c.enter_unit.new.token r.bare took c.enter_unit.ensures ∙ r.home;
+    let b = c.args.board.now in let r = c.requires in let o = r.owner in let value : Gv = o.1.0 in let s = c.args.token.now in let k : ℕ = c.args.slot in
+    let took = c.take_in.ensures k true value o.1.1 in let t = c.take_in.new.token in let e = c.enter_unit.new.token in let in_it = c.enter_unit.ensures in
+    let is = entered_view b k value s t e r.bare took in_it in record {
+      home = entered_home b k value s t e r.bare took in_it ∙ r.home;
       knows = (ap (λ (v : View). v.sizes) is ∙ r.knows.0, ap (λ (v : View). v.stakes.book) is ∙ r.knows.1);
       inside = search rules;
       place = subst (λ (k : ℕ). 0 < k) (sym (ap (λ (v : View). v.epoch.state) is)) r.place;
-      own = entered_owns b c.args.slot value s c.take_in.new.token c.enter_unit.new.token r.bare took c.enter_unit.ensures;
+      own = entered_owns b k value s t e r.bare took in_it;
       rests = ap (λ (v : View). v.stakes.moves) is ∙ r.bare.rests;
-      told = (value, entered_told b c.args.slot value s c.take_in.new.token c.enter_unit.new.token r.bare took c.enter_unit.ensures);
+      told = (value, entered_told b k value s t e r.bare took in_it);
       several = search rules;
     }
 
 pub returns-then-leave-word : goal.returns-then-leave-word
-returns-then-leave-word c = let b = c.args.board.now in let r = c.requires in let o = r.owner in let value : Gv = o.1.0 in let s = c.args.token.now in
-    let took = c.take_in.ensures c.args.slot true value o.1.1 in gone b c.args.slot value s c.take_in.new.token c.enter_unit.new.token r.bare took
-    c.enter_unit.ensures c.args.word c.leave.result c.leave.new.token c.leave.ensures c.if-leave-word.true
+returns-then-leave-word c =
+    let b = c.args.board.now in let r = c.requires in let o = r.owner in let value : Gv = o.1.0 in let s = c.args.token.now in let k : ℕ = c.args.slot in
+    let took = c.take_in.ensures k true value o.1.1 in let t = c.take_in.new.token in let e = c.enter_unit.new.token in let in_it = c.enter_unit.ensures in
+    gone b k value s t e r.bare took in_it c.args.word c.leave.result c.leave.new.token c.leave.ensures c.if-leave-word.true
 
 pub draw_unit-requires : goal.draw_unit-requires
 draw_unit-requires c =
-    let b = c.args.board.now in let r = c.requires in let o = r.owner in let value : Gv = o.1.0 in let s = c.args.token.now in
-    let took = c.take_in.ensures c.args.slot true value o.1.1 in
-    record {
-      home = still_home b c.args.slot value s c.take_in.new.token c.enter_unit.new.token r.bare took
-        c.enter_unit.ensures c.args.word c.leave.result c.leave.new.token c.leave.ensures c.if-leave-word.false ∙ r.home;
-      knows = still_knows b c.args.slot value s c.take_in.new.token c.enter_unit.new.token r.bare took
-        c.enter_unit.ensures c.args.word c.leave.result c.leave.new.token c.leave.ensures c.if-leave-word.false r.knows;
+    let b = c.args.board.now in let r = c.requires in let o = r.owner in let value : Gv = o.1.0 in let s = c.args.token.now in let k : ℕ = c.args.slot in
+    let took = c.take_in.ensures k true value o.1.1 in let t = c.take_in.new.token in let e = c.enter_unit.new.token in let in_it = c.enter_unit.ensures in
+    let word : ℕ = c.args.word in let found = c.leave.result in let f = c.leave.new.token in let left = c.leave.ensures in let no = c.if-leave-word.false in
+    let free = still_owns b k value s t e r.bare took in_it word found f left no in record {
+      home = still_home b k value s t e r.bare took in_it word found f left no ∙ r.home;
+      knows = still_knows b k value s t e r.bare took in_it word found f left no r.knows;
       inside = search rules;
-      place = still_place b c.args.slot value s c.take_in.new.token c.enter_unit.new.token r.bare took
-        c.enter_unit.ensures c.args.word c.leave.result c.leave.new.token c.leave.ensures c.if-leave-word.false r.place;
-      own =
-        let free = still_owns b c.args.slot value s c.take_in.new.token c.enter_unit.new.token r.bare took c.enter_unit.ensures c.args.word c.leave.result
-        c.leave.new.token c.leave.ensures c.if-leave-word.false in
-        (
-          (
-            true,
-            value,
-            still_told b c.args.slot value s c.take_in.new.token c.enter_unit.new.token r.bare took c.enter_unit.ensures c.args.word c.leave.result
-                c.leave.new.token c.leave.ensures c.if-leave-word.false,
-          ),
-          free.0,
-          free.1,
-        );
-      rests = still_rests b c.args.slot value s c.take_in.new.token c.enter_unit.new.token r.bare took
-        c.enter_unit.ensures c.args.word c.leave.result c.leave.new.token c.leave.ensures c.if-leave-word.false;
+      place = still_place b k value s t e r.bare took in_it word found f left no r.place;
+      own = ((true, value, still_told b k value s t e r.bare took in_it word found f left no), free.0, free.1);
+      rests = still_rests b k value s t e r.bare took in_it word found f left no;
     }
 
 pub into_grip-grip-requires : goal.into_grip-grip-requires
 into_grip-grip-requires c =
-    let b = c.args.board.now in let r = c.requires in let o = r.owner in let value : Gv = o.1.0 in let s = c.args.token.now in
-    let took = c.take_in.ensures c.args.slot true value o.1.1 in
-    record {
-      full = subst IsValueCode
-        (o.1.2.shows ∙ sym (ap (λ (k : FractionContent). k.shown)
-        (unit_is b c.args.slot value s c.take_in.new.token c.enter_unit.new.token r.bare took c.enter_unit.ensures c.args.word c.leave.result
-        c.leave.new.token c.leave.ensures c.if-leave-word.false c.draw_unit.result.lot c.draw_unit.new.token c.draw_unit.ensures r.knows)))
-        c.args.grip.full;
-      one = ap (λ (k : FractionContent). k.units)
-        (unit_is b c.args.slot value s c.take_in.new.token c.enter_unit.new.token r.bare took c.enter_unit.ensures c.args.word c.leave.result c.leave.new.token
-        c.leave.ensures c.if-leave-word.false c.draw_unit.result.lot c.draw_unit.new.token c.draw_unit.ensures r.knows);
-      free = ap (λ (k : FractionContent). k.lent)
-        (unit_is b c.args.slot value s c.take_in.new.token c.enter_unit.new.token r.bare took c.enter_unit.ensures c.args.word c.leave.result c.leave.new.token
-        c.leave.ensures c.if-leave-word.false c.draw_unit.result.lot c.draw_unit.new.token c.draw_unit.ensures r.knows);
+    let b = c.args.board.now in let r = c.requires in let o = r.owner in let value : Gv = o.1.0 in let s = c.args.token.now in let k : ℕ = c.args.slot in
+    let took = c.take_in.ensures k true value o.1.1 in let t = c.take_in.new.token in let e = c.enter_unit.new.token in let in_it = c.enter_unit.ensures in
+    let word : ℕ = c.args.word in let found = c.leave.result in let f = c.leave.new.token in let left = c.leave.ensures in let no = c.if-leave-word.false in
+    let lot = c.draw_unit.result.lot in let d = c.draw_unit.new.token in let drew = c.draw_unit.ensures in
+    let is = unit_is b k value s t e r.bare took in_it word found f left no lot d drew r.knows in record {
+      full = subst IsValueCode (o.1.2.shows ∙ sym (ap (λ (x : FractionContent). x.shown) is)) c.args.grip.full;
+      one = ap (λ (x : FractionContent). x.units) is;
+      free = ap (λ (x : FractionContent). x.lent) is;
     }
 
 pub cut-requires : goal.cut-requires
 cut-requires c =
-    let b = c.args.board.now in let r = c.requires in let o = r.owner in let value : Gv = o.1.0 in let s = c.args.token.now in
-    let took = c.take_in.ensures c.args.slot true value o.1.1 in
-    record {
-      home = drawn_home b c.args.slot value s c.take_in.new.token c.enter_unit.new.token r.bare took
-        c.enter_unit.ensures c.args.word c.leave.result c.leave.new.token c.leave.ensures c.if-leave-word.false c.draw_unit.result.lot c.draw_unit.new.token
-        c.draw_unit.ensures r.knows ∙ r.home;
-      knows = drawn_knows b c.args.slot value s c.take_in.new.token c.enter_unit.new.token r.bare took
-        c.enter_unit.ensures c.args.word c.leave.result c.leave.new.token c.leave.ensures c.if-leave-word.false c.draw_unit.result.lot c.draw_unit.new.token
-        c.draw_unit.ensures r.knows;
-      place = drawn_place b c.args.slot value s c.take_in.new.token c.enter_unit.new.token r.bare took
-        c.enter_unit.ensures c.args.word c.leave.result c.leave.new.token c.leave.ensures c.if-leave-word.false c.draw_unit.result.lot c.draw_unit.new.token
-        c.draw_unit.ensures r.knows r.place;
-      one =
-        let one = drawn_owns b c.args.slot value s c.take_in.new.token c.enter_unit.new.token r.bare took c.enter_unit.ensures c.args.word c.leave.result
-        c.leave.new.token c.leave.ensures c.if-leave-word.false c.draw_unit.result.lot c.draw_unit.new.token c.draw_unit.ensures r.knows in
-        (c.args.slot, one.0, one.1);
-      free = (drawn_free b c.args.slot value s c.take_in.new.token c.enter_unit.new.token r.bare took c.enter_unit.ensures c.args.word c.leave.result
-        c.leave.new.token c.leave.ensures c.if-leave-word.false c.draw_unit.result.lot c.draw_unit.new.token c.draw_unit.ensures r.knows).0;
-      rests = (drawn_free b c.args.slot value s c.take_in.new.token c.enter_unit.new.token r.bare took c.enter_unit.ensures c.args.word c.leave.result
-        c.leave.new.token c.leave.ensures c.if-leave-word.false c.draw_unit.result.lot c.draw_unit.new.token c.draw_unit.ensures r.knows).1;
+    let b = c.args.board.now in let r = c.requires in let o = r.owner in let value : Gv = o.1.0 in let s = c.args.token.now in let k : ℕ = c.args.slot in
+    let took = c.take_in.ensures k true value o.1.1 in let t = c.take_in.new.token in let e = c.enter_unit.new.token in let in_it = c.enter_unit.ensures in
+    let word : ℕ = c.args.word in let found = c.leave.result in let f = c.leave.new.token in let left = c.leave.ensures in let no = c.if-leave-word.false in
+    let lot = c.draw_unit.result.lot in let d = c.draw_unit.new.token in let drew = c.draw_unit.ensures in
+    let one = drawn_owns b k value s t e r.bare took in_it word found f left no lot d drew r.knows in
+    let free = drawn_free b k value s t e r.bare took in_it word found f left no lot d drew r.knows in record {
+      home = drawn_home b k value s t e r.bare took in_it word found f left no lot d drew r.knows ∙ r.home;
+      knows = drawn_knows b k value s t e r.bare took in_it word found f left no lot d drew r.knows;
+      place = drawn_place b k value s t e r.bare took in_it word found f left no lot d drew r.knows r.place;
+      one = (k, one.0, one.1);
+      free = free.0;
+      rests = free.1;
     }
 
 pub returns : goal.returns
-returns c = let b = c.args.board.now in let r = c.requires in let o = r.owner in let value : Gv = o.1.0 in let s = c.args.token.now in
-    let took = c.take_in.ensures c.args.slot true value o.1.1 in (
-      back_unmoved b c.args.slot value s c.take_in.new.token c.enter_unit.new.token r.bare took c.enter_unit.ensures c.args.word c.leave.result
-          c.leave.new.token c.leave.ensures c.if-leave-word.false c.draw_unit.result.lot c.draw_unit.new.token c.draw_unit.ensures r.knows c.cut.new.token
-          c.cut.ensures.participant,
+returns c =
+    let b = c.args.board.now in let r = c.requires in let o = r.owner in let value : Gv = o.1.0 in let s = c.args.token.now in let k : ℕ = c.args.slot in
+    let took = c.take_in.ensures k true value o.1.1 in let t = c.take_in.new.token in let e = c.enter_unit.new.token in let in_it = c.enter_unit.ensures in
+    let word : ℕ = c.args.word in let found = c.leave.result in let f = c.leave.new.token in let left = c.leave.ensures in let no = c.if-leave-word.false in
+    let lot = c.draw_unit.result.lot in let d = c.draw_unit.new.token in let drew = c.draw_unit.ensures in (
+      back_unmoved b k value s t e r.bare took in_it word found f left no lot d drew r.knows c.cut.new.token c.cut.ensures.participant,
       c.cut.ensures.owner.0,
-      back_shows b c.args.slot value s c.take_in.new.token c.enter_unit.new.token r.bare took c.enter_unit.ensures c.args.word c.leave.result c.leave.new.token
-          c.leave.ensures c.if-leave-word.false c.draw_unit.result.lot c.draw_unit.new.token c.draw_unit.ensures r.knows c.cut.result.views
-          c.cut.ensures.owner.1 ∙ sym o.1.1,
-      (λ other is. subst (λ (g : Gv). IsGripOf (book_of b) c.args.slot g c.into_grip-grip.result)
-          (one-shown c.args.slot true value other (sym o.1.1 ∙ is))
-          (back_grip b c.args.slot value s c.take_in.new.token c.enter_unit.new.token r.bare took c.enter_unit.ensures c.args.word c.leave.result
-          c.leave.new.token c.leave.ensures c.if-leave-word.false c.draw_unit.result.lot c.draw_unit.new.token c.draw_unit.ensures r.knows
-          c.into_grip-grip.result c.into_grip-grip.ensures)),
-      never_lone b c.args.slot value s c.take_in.new.token c.enter_unit.new.token r.bare took c.enter_unit.ensures c.args.word c.leave.result c.leave.new.token
-          c.leave.ensures c.if-leave-word.false,
+      back_shows b k value s t e r.bare took in_it word found f left no lot d drew r.knows c.cut.result.views c.cut.ensures.owner.1 ∙ sym o.1.1,
+      (λ other is. subst (λ (g : Gv). IsGripOf (book_of b) k g c.into_grip-grip.result) (one-shown k true value other (sym o.1.1 ∙ is))
+          (back_grip b k value s t e r.bare took in_it word found f left no lot d drew r.knows c.into_grip-grip.result c.into_grip-grip.ensures)),
+      never_lone b k value s t e r.bare took in_it word found f left no,
     )

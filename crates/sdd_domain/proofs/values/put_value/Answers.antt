@@ -14,16 +14,15 @@ move_in-grip-requires-clause-own g c = let r = c.requires in
 
 pub cut-requires : goal.cut-requires
 cut-requires g c =
-    let f = c.move_in-grip.ensures in let r = c.requires in
-    record {
+    let f = c.move_in-grip.ensures in let r = c.requires in record {
       home = c.move_in-grip.ensures.home.0 ∙ c.requires.home;
       knows = (ap (λ (v : View). v.sizes) f.view ∙ r.knows.0, ap (λ (v : View). v.stakes.book) f.view ∙ r.knows.1);
       place = subst (λ (k : ℕ). 0 < k) (sym (ap (λ (v : View). v.epoch.state) c.move_in-grip.ensures.view)) c.requires.place;
       one = (
-          c.args.slot,
-          ap (λ (v : View). v.slots.owns) f.view ∙ r.own.1,
-          ap (λ (v : View). v.slots.drawn) f.view ∙ ap (λ (l : List ℕ). c.args.slot ∷ l) r.free.1,
-        );
+        c.args.slot,
+        ap (λ (v : View). v.slots.owns) f.view ∙ r.own.1,
+        ap (λ (v : View). v.slots.drawn) f.view ∙ ap (λ (l : List ℕ). c.args.slot ∷ l) r.free.1,
+      );
       free = ap (λ (v : View). v.slots.holds) c.move_in-grip.ensures.view ∙ c.requires.free.0;
       rests = ap (λ (v : View). v.stakes.moves) c.move_in-grip.ensures.view;
     }

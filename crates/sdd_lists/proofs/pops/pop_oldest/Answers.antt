@@ -42,7 +42,6 @@ returns-in-Ok-clause-exact g c = λ e es second queue.
 pub returns-in-Err-take_oldest-clause-exact : goal.returns-in-Err-take_oldest-clause-exact
 returns-in-Err-take_oldest-clause-exact g c = λ e es second queue.
     let link = g.T.LinkedList.link in
-    let w = g.S.Caller.world c.args.s.now in
     let q : QueueCells = record { oldest = cell_of c.args.oldest.now; newest = cell_of c.args.newest.now } in
     let held : CellContents = record { held = first_slot es; tag = no_tag } in
     let at_find = c.in-Ok-Some.ensures.undisturbed.seat in

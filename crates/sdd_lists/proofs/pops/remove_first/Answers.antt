@@ -40,7 +40,6 @@ returns-then-not-deleted-clause-exact g c = λ e t es list x rest first cell_is.
 pub returns-clause-exact : goal.returns-clause-exact
 returns-clause-exact g c = λ e t es list x rest first cell_is.
     let link = g.T.LinkedList.link in
-    let w = g.S.Caller.world c.args.s.now in
     let place = (g.S.Caller.seat c.args.s.now).place in
     let cell : ℕ = cell_of c.args.cell.now in
     let at_trim = c.trim.ensures.unmoved.seat in

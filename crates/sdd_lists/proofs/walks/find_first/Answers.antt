@@ -122,7 +122,6 @@ returns-in_default-tag-clause-exact g c = λ e es linked held there first.
     let at_loop = c.loop-step.invariant.seat in
     let cell_is : cell_of c.loop-step.at.link.now ≡ link inv.0.value = c.loop-step.invariant.link ∙ ap link inv.5 in
     let tagged = c.tag.ensures.exact (subst (λ (s : CallerId). IsExact s) (sym at_loop) e) in
-    let same : g.S.Caller.world c.tag.new.s ≡ w = tagged.0 ∙ c.loop-step.invariant.world e in
     let here : entry_at w.cells (link inv.0.value) ≡ Some (record { held = tagged.1.0.held; tag = c.tag.result }) =
     ap (λ (x : ℕ). entry_at w.cells x) (sym cell_is)
     ∙ ap (λ (x : World _). entry_at x.cells (cell_of c.loop-step.at.link.now)) (sym (c.loop-step.invariant.world e)) ∙ tagged.1.1

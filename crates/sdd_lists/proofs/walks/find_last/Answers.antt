@@ -13,8 +13,6 @@ use Rattle.sdd_lists.proofs.walks.find_last.Goals as goal
 pub returns-in-Ok-clause-exact : goal.returns-in-Ok-clause-exact
 returns-in-Ok-clause-exact g c = λ e es second queue.
     let link = g.T.LinkedList.link in
-    let w = g.S.Caller.world c.args.s.now in
-    let oldest : ℕ = cell_of c.args.oldest.now in
     let second_held : CellContents = record { held = second; tag = no_tag } in
     let at1 = c.in-Some.ensures.undisturbed.seat in
     let kept = c.in-Some.ensures.exact e es queue.list.linked second_held queue.newest queue.among in
@@ -27,8 +25,6 @@ returns-in-Ok-clause-exact g c = λ e es second queue.
 pub returns-in-Err-clause-exact : goal.returns-in-Err-clause-exact
 returns-in-Err-clause-exact g c = λ e es second queue.
     let link = g.T.LinkedList.link in
-    let w = g.S.Caller.world c.args.s.now in
-    let oldest : ℕ = cell_of c.args.oldest.now in
     let second_held : CellContents = record { held = second; tag = no_tag } in
     let at1 = c.in-Some.ensures.undisturbed.seat in
     let kept = c.in-Some.ensures.exact e es queue.list.linked second_held queue.newest queue.among in
@@ -40,9 +36,7 @@ returns-in-Err-clause-exact g c = λ e es second queue.
 pub returns-in-Ok-last_from-clause-exact : goal.returns-in-Ok-last_from-clause-exact
 returns-in-Ok-last_from-clause-exact g c = λ e es second queue.
     let link = g.T.LinkedList.link in
-    let w = g.S.Caller.world c.args.s.now in
     let oldest : ℕ = cell_of c.args.oldest.now in
-    let second_held : CellContents = record { held = second; tag = no_tag } in
     let first_held : CellContents = record { held = first_slot es; tag = no_tag } in
     let at1 = c.kept_in.ensures.undisturbed.seat in
     let same1 = c.kept_in.ensures.world e in
@@ -62,9 +56,7 @@ returns-in-Ok-last_from-clause-exact g c = λ e es second queue.
 pub returns-in-Err-last_from-clause-exact : goal.returns-in-Err-last_from-clause-exact
 returns-in-Err-last_from-clause-exact g c = λ e es second queue.
     let link = g.T.LinkedList.link in
-    let w = g.S.Caller.world c.args.s.now in
     let oldest : ℕ = cell_of c.args.oldest.now in
-    let second_held : CellContents = record { held = second; tag = no_tag } in
     let first_held : CellContents = record { held = first_slot es; tag = no_tag } in
     let at1 = c.kept_in.ensures.undisturbed.seat in
     let same1 = c.kept_in.ensures.world e in
@@ -83,9 +75,7 @@ returns-in-Err-last_from-clause-exact g c = λ e es second queue.
 pub returns-in-Ok-None-clause-exact : goal.returns-in-Ok-None-clause-exact
 returns-in-Ok-None-clause-exact g c = λ e es second queue.
     let link = g.T.LinkedList.link in
-    let w = g.S.Caller.world c.args.s.now in
     let oldest : ℕ = cell_of c.args.oldest.now in
-    let second_held : CellContents = record { held = second; tag = no_tag } in
     let first_held : CellContents = record { held = first_slot es; tag = no_tag } in
     let at1 = c.kept_in.ensures.undisturbed.seat in
     let same1 = c.kept_in.ensures.world e in

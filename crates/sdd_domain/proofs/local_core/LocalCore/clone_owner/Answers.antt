@@ -11,15 +11,13 @@ use Rattle.sdd_shared_values.specs.ValueFractions.{FractionContent}
 use Rattle.sdd_shared_values.specs.declared.value_fraction.ValueFraction.{ValueFraction}
 use Rattle.sdd_views.specs.declared.View.{View}
 use Rattle.sdd_word_invariant.specs.SlotSteps.{behind, noted}
-use Rattle.sdd_domain.specs.BetweenCalls.{AreLentTo, IsReady}
-use Rattle.sdd_domain.specs.InBags.{known_waiting}
 use Rattle.sdd_domain.specs.Items.{slots_home}
 use Rattle.sdd_domain.specs.LocalState.{AddsAt, HasMost, IsLone, KnowsOwner, LocalState}
-use Rattle.sdd_domain.specs.Receipt.{IsTallied}
 use Rattle.sdd_domain.proofs.Cloned.{counts_most, counts_fewer, full_view, full_same, came_knows, came_place, came_rests, came_told, came_free, unit_is, drawn_view, drawn_home, drawn_owns, drawn_rests, left_view, other_shows, other_grip}
-use Rattle.sdd_domain.proofs.InPlace.{bare, knew_word, noted_at, owner_table, placed, posed_noted, right_anew}
+use Rattle.sdd_domain.proofs.InPlace.{bare, knew_word, noted_at, owner_table, placed, right_anew}
 use Rattle.sdd_domain.proofs.Members.{has_tables, with_token}
 use Rattle.sdd_domain.proofs.Recalled.{IsRecalled, is_recalled}
+use Rattle.sdd_domain.proofs.Still.{noted_on}
 use Rattle.sdd_domain.proofs.local_core.LocalCore.clone_owner.Given.{Over}
 use Rattle.sdd_domain.proofs.local_core.LocalCore.clone_owner.Goals.{After-recall}
 use Rattle.sdd_domain.proofs.local_core.LocalCore.clone_owner.Goals as goal
@@ -53,19 +51,12 @@ add_owner-requires g c =
 
 pub invariant_of-self : goal.invariant_of-self
 invariant_of-self g c =
-    let l = c.self.inside in let b = l.domain.now.board in let e = recalled g (goal.at.invariant_of-self g c).After-recall in let grip = e.0 in let known = e.1 in
-    let same = known.same in let q = known.between in let value : Gv = grip.shown in let slot : ℕ = c.number-slot.result in let t = c.recall.new.token in
+    let l = c.self.inside in let b = l.domain.now.board in let e = recalled g (goal.at.invariant_of-self g c).After-recall in let grip = e.0 in
+    let known = e.1 in let same = known.same in let value : Gv = grip.shown in let slot : ℕ = c.number-slot.result in let t = c.recall.new.token in
     let a = c.add_owner.new.token in let n : ℕ = c.add_owner.result in let adds = c.add_owner.ensures value known.views in
     let many = counts_most n adds.2.several c.if-add_owner-ge-MOST_SHARED.true in let u = a in let full = full_view b slot value t a n adds many in
-    let words : List ℕ = noted slot full.0 t.me.0 in let here = full.1 ∙ ap (λ (x : Seat ValueFraction View). record x.me.0 { words = words }) same in
-    let i = c.self.invariant in (
-      posed_noted b l.place l.own t q u (words) adds.0 full.2 full.1,
-      i.1,
-      i.2,
-      subst (AreLentTo l.tenure.round) (sym (full.2 ∙ ap (λ (x : Seat ValueFraction View). x.me.1) same)) i.3,
-      subst (IsReady b l.own l.due l.known.slots l.jobs l.privates) (sym (ap (λ (v : View). known_waiting v.slots) here)) i.4,
-      subst (IsTallied 0 l.tally) (sym (ap (λ (v : View). v.stakes.counts) here)) i.5,
-    )
+    let words : List ℕ = noted slot full.0 t.me.0 in
+    noted_on b l.place l.own l.tenure.round l.due l.known.slots l.jobs l.privates l.tally l.token c.self.invariant t known.same u words adds.0 full.2 full.1
 
 pub returns-then-add_owner-ge-MOST_SHARED : goal.returns-then-add_owner-ge-MOST_SHARED
 returns-then-add_owner-ge-MOST_SHARED g c =
@@ -115,13 +106,11 @@ into_grip-grip-requires g c =
     let l = c.self.inside in let b = l.domain.now.board in let e = recalled g (goal.at.into_grip-grip-requires g c).After-recall in let grip = e.0 in
     let known = e.1 in let q = known.between in let value : Gv = grip.shown in let slot : ℕ = c.number-slot.result in let t = c.recall.new.token in
     let a = c.add_owner.new.token in let n : ℕ = c.add_owner.result in let adds = c.add_owner.ensures value known.views in
-    let few = counts_fewer n adds.2.several (let small = c.if-add_owner-ge-MOST_SHARED.false in omega arith) in let none = bare b l.place l.own t q in record {
-      full = subst IsValueCode (sym (ap (λ (x : FractionContent). x.shown)
-        (unit_is b slot value t a n adds few none c.draw_unit.result.lot c.draw_unit.new.token c.draw_unit.ensures q.knows))) grip.full;
-      one = ap (λ (x : FractionContent). x.units) (unit_is b slot value t a n adds few none c.draw_unit.result.lot c.draw_unit.new.token c.draw_unit.ensures
-          q.knows);
-      free = ap (λ (x : FractionContent). x.lent) (unit_is b slot value t a n adds few none c.draw_unit.result.lot c.draw_unit.new.token c.draw_unit.ensures
-          q.knows);
+    let few = counts_fewer n adds.2.several (let small = c.if-add_owner-ge-MOST_SHARED.false in omega arith) in let none = bare b l.place l.own t q in
+    let is = unit_is b slot value t a n adds few none c.draw_unit.result.lot c.draw_unit.new.token c.draw_unit.ensures q.knows in record {
+      full = subst IsValueCode (sym (ap (λ (x : FractionContent). x.shown) is)) grip.full;
+      one = ap (λ (x : FractionContent). x.units) is;
+      free = ap (λ (x : FractionContent). x.lent) is;
     }
 
 pub cut-other-requires : goal.cut-other-requires
@@ -145,16 +134,13 @@ pub of_witness-requires : goal.of_witness-requires
 of_witness-requires g c =
     let l = c.self.inside in let b = l.domain.now.board in let e = recalled g (goal.at.of_witness-requires g c).After-recall in let grip = e.0 in
     let known = e.1 in let q = known.between in let value : Gv = grip.shown in let slot : ℕ = c.number-slot.result in let t = c.recall.new.token in
-    let kind = c.requires.kind in let a = c.add_owner.new.token in let n : ℕ = c.add_owner.result in let adds = c.add_owner.ensures value known.views in
-    let few = counts_fewer n adds.2.several (let small = c.if-add_owner-ge-MOST_SHARED.false in omega arith) in let none = bare b l.place l.own t q in record {
-      owner =
-        let shows = (other_grip b slot value t a n adds few none c.draw_unit.result.lot c.draw_unit.new.token c.draw_unit.ensures q.knows
-            c.into_grip-grip.result
-        c.into_grip-grip.ensures).shows in
-        other_shows b slot value t a n adds few none c.draw_unit.result.lot c.draw_unit.new.token c.draw_unit.ensures q.knows c.cut-other.result.views
-        c.cut-other.ensures.owner.1 ∙ ap (witness_of_owner slot true) (sym shows);
-      place = (other_grip b slot value t a n adds few none c.draw_unit.result.lot c.draw_unit.new.token c.draw_unit.ensures q.knows c.into_grip-grip.result
-        c.into_grip-grip.ensures).unit.number_is;
+    let a = c.add_owner.new.token in let n : ℕ = c.add_owner.result in let adds = c.add_owner.ensures value known.views in
+    let few = counts_fewer n adds.2.several (let small = c.if-add_owner-ge-MOST_SHARED.false in omega arith) in let none = bare b l.place l.own t q in
+    let made = other_grip b slot value t a n adds few none c.draw_unit.result.lot c.draw_unit.new.token c.draw_unit.ensures q.knows c.into_grip-grip.result
+    c.into_grip-grip.ensures in record {
+      owner = other_shows b slot value t a n adds few none c.draw_unit.result.lot c.draw_unit.new.token c.draw_unit.ensures q.knows
+          c.cut-other.result.views c.cut-other.ensures.owner.1 ∙ ap (witness_of_owner slot true) (sym made.shows);
+      place = made.unit.number_is;
       inside = search rules;
       kind = search rules;
     }
@@ -168,15 +154,8 @@ invariant_of-self-2 g c =
     let u = c.cut-other.new.token in
     let left = left_view b slot value t a n adds few none c.draw_unit.result.lot c.draw_unit.new.token c.draw_unit.ensures q.knows u
     c.cut-other.ensures.participant in
-    let words : List ℕ = noted slot (n + 1) t.me.0 in let here = left.2 ∙ ap (λ (x : Seat ValueFraction View). record x.me.0 { words = words }) same in
-    let i = c.self.invariant in (
-      posed_noted b l.place l.own t q u (words) left.0 left.1 left.2,
-      i.1,
-      i.2,
-      subst (AreLentTo l.tenure.round) (sym (left.1 ∙ ap (λ (x : Seat ValueFraction View). x.me.1) same)) i.3,
-      subst (IsReady b l.own l.due l.known.slots l.jobs l.privates) (sym (ap (λ (v : View). known_waiting v.slots) here)) i.4,
-      subst (IsTallied 0 l.tally) (sym (ap (λ (v : View). v.stakes.counts) here)) i.5,
-    )
+    let words : List ℕ = noted slot (n + 1) t.me.0 in
+    noted_on b l.place l.own l.tenure.round l.due l.known.slots l.jobs l.privates l.tally l.token c.self.invariant t known.same u words left.0 left.1 left.2
 
 pub returns : goal.returns
 returns g c =

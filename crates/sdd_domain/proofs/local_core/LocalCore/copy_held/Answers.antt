@@ -11,12 +11,10 @@ use Rattle.sdd_domain.proofs.SeesMore.{copies_none, finds_before, knows_more, lo
 use Rattle.sdd_domain.proofs.local_core.LocalCore.copy_held.Goals as goal
 
 pub own_seen-requires : goal.own_seen-requires
-own_seen-requires g c = let a : LocalState g.row.J.Denot = c.args.self.now in let b : LocalState g.row.J.Denot = c.loop-attempt.self in
-    let m : LocalState g.row.J.Denot = c.load-tag.new.self in let slot : ℕ = c.in-Some.slot in let cell : ℕ = number_of c.args.cell.now in
-    let seen = rw c.in-Some.is at c.load-tag.ensures.seen in let found = rw c.in-Some.is at c.load-tag.ensures.found in
-    let owned = rw c.in-Some.is at c.load-tag.ensures.owned in let value : Gv = showing g.row.T c.in-Some._value.now in
-    let more = looks_more b m slot seen.0.0 value seen.0.1 seen.2 in
-    record { still = inl (value, more.1) }
+own_seen-requires g c =
+    let b : LocalState g.row.J.Denot = c.loop-attempt.self in let m : LocalState g.row.J.Denot = c.load-tag.new.self in let slot : ℕ = c.in-Some.slot in
+    let seen = rw c.in-Some.is at c.load-tag.ensures.seen in let value : Gv = showing g.row.T c.in-Some._value.now in
+    let more = looks_more b m slot seen.0.0 value seen.0.1 seen.2 in record { still = inl (value, more.1) }
 
 pub returns-in-Ok-Some-clause-copied : goal.returns-in-Ok-Some-clause-copied
 returns-in-Ok-Some-clause-copied g c = let a : LocalState g.row.J.Denot = c.args.self.now in let b : LocalState g.row.J.Denot = c.loop-attempt.self in

@@ -26,11 +26,12 @@ use Rattle.sdd_domain.specs.LocalState.{DropsAt, GoesBeside, IsLone, KnowsOwner,
 use Rattle.sdd_domain.specs.Receipt.{IsTallied}
 use Rattle.sdd_domain.specs.SpaceIds.{home_in, home_of_slots}
 use Rattle.sdd_domain.proofs.Housed.{from_board}
-use Rattle.sdd_domain.proofs.InPlace.{back_view, bare, gone_beside, guard_of, guarded_at, knew_sole, owner_inside, placed, posed_noted, right_back, unmoved_at}
+use Rattle.sdd_domain.proofs.InPlace.{back_view, bare, gone_beside, guard_of, guarded_at, knew_sole, owner_inside, placed, right_back, unmoved_at}
 use Rattle.sdd_domain.proofs.Members.{with_token, with_view}
 use Rattle.sdd_domain.proofs.Posing.{posed_with}
 use Rattle.sdd_domain.proofs.Tallies.{tallied_in_place}
 use Rattle.sdd_domain.proofs.Recalled.{IsRecalled, is_recalled}
+use Rattle.sdd_domain.proofs.Still.{noted_on}
 use Rattle.sdd_domain.proofs.local_core.LocalCore.drop_in_place.Given.{Over}
 use Rattle.sdd_domain.proofs.local_core.LocalCore.drop_in_place.Goals.{After-recall}
 use Rattle.sdd_domain.proofs.local_core.LocalCore.drop_in_place.Goals as goal
@@ -81,19 +82,13 @@ invariant_of-self g c =
 
 pub invariant_of-self-in-None : goal.invariant_of-self-in-None
 invariant_of-self-in-None g c =
-    let l = c.self.inside in let b = l.domain.now.board in let known = recalled g (goal.at.invariant_of-self-in-None g c).After-recall in let same = known.same in
-    let q = known.between in let w = c.into_owner-owner.result.0 in let slot : ℕ = c.number-slot.result in let is = c.number-slot.ensures in
+    let l = c.self.inside in let b = l.domain.now.board in let known = recalled g (goal.at.invariant_of-self-in-None g c).After-recall in
+    let same = known.same in let w = c.into_owner-owner.result.0 in let slot : ℕ = c.number-slot.result in let is = c.number-slot.ensures in
     let t = c.recall.new.token in let u = c.go_in_place.new.token in
     let beside = subst (λ (o : Option g.row.T.Denot). Goes g.row.T slot c.is_one_of_several-shared.result w.views o t u) c.in-None.is c.in-Ok.ensures.0 in
     let gone = beside.gone in let words : List ℕ = noted slot (beside.word - 1) t.me.0 in
-    let here = gone.view ∙ ap (λ (x : Seat ValueFraction View). record x.me.0 { words = words }) same in let i = c.self.invariant in (
-      posed_noted b l.place l.own t q u (words) gone.table gone.others gone.view,
-      i.1,
-      i.2,
-      subst (AreLentTo l.tenure.round) (sym (gone.others ∙ ap (λ (x : Seat ValueFraction View). x.me.1) same)) i.3,
-      subst (IsReady b l.own l.due l.known.slots l.jobs l.privates) (sym (ap (λ (v : View). known_waiting v.slots) here)) i.4,
-      subst (IsTallied 0 l.tally) (sym (ap (λ (v : View). v.stakes.counts) here)) i.5,
-    )
+    noted_on b l.place l.own l.tenure.round l.due l.known.slots l.jobs l.privates l.tally l.token c.self.invariant t known.same u words gone.table gone.others
+        gone.view
 
 pub of_witness-requires : goal.of_witness-requires
 of_witness-requires g c =
@@ -110,22 +105,16 @@ of_witness-requires g c =
 
 pub invariant_of-self-in-Err : goal.invariant_of-self-in-Err
 invariant_of-self-in-Err g c =
-    let l = c.self.inside in let b = l.domain.now.board in let known = recalled g (goal.at.invariant_of-self-in-Err g c).After-recall in let same = known.same in
-    let q = known.between in let slot : ℕ = c.number-slot.result in let t = c.recall.new.token in let shared : Bool = c.is_one_of_several-shared.result in
+    let l = c.self.inside in let b = l.domain.now.board in let known = recalled g (goal.at.invariant_of-self-in-Err g c).After-recall in
+    let same = known.same in let slot : ℕ = c.number-slot.result in let t = c.recall.new.token in let shared : Bool = c.is_one_of_several-shared.result in
     let u = c.go_in_place.new.token in let e = back_view slot shared c.in-Err.refused t u c.in-Err.ensures.3 in
-    let here = e.3 ∙ ap (λ (x : Seat ValueFraction View). record x.me.0 { words = e.0 }) same in let i = c.self.invariant in (
-      posed_noted b l.place l.own t q u (e.0) e.1 e.2 e.3,
-      i.1,
-      i.2,
-      subst (AreLentTo l.tenure.round) (sym (e.2 ∙ ap (λ (x : Seat ValueFraction View). x.me.1) same)) i.3,
-      subst (IsReady b l.own l.due l.known.slots l.jobs l.privates) (sym (ap (λ (v : View). known_waiting v.slots) here)) i.4,
-      subst (IsTallied 0 l.tally) (sym (ap (λ (v : View). v.stakes.counts) here)) i.5,
-    )
+    noted_on b l.place l.own l.tenure.round l.due l.known.slots l.jobs l.privates l.tally l.token c.self.invariant t known.same u e.0 e.1 e.2 e.3
 
 pub returns-in-Some : goal.returns-in-Some
 returns-in-Some g c =
     let l = c.self.inside in let b = l.domain.now.board in let m : LocalState _ = c.self.view_is 0 in let right = c.args.right in let kind = c.args.kind in
-    let known = recalled g (goal.at.returns-in-Some g c).After-recall in let same = known.same in let q = known.between in let w = c.into_owner-owner.result.0 in
+    let known = recalled g (goal.at.returns-in-Some g c).After-recall in let same = known.same in let q = known.between in
+        let w = c.into_owner-owner.result.0 in
     let grip = c.into_owner-owner.result.1 in let slot : ℕ = c.number-slot.result in let is = c.number-slot.ensures in let t = c.recall.new.token in record {
       gone =
         let shared : Bool = c.is_one_of_several-shared.result in let sorted = c.is_one_of_several-shared.ensures in let k : ℕ = number_of right in
@@ -154,7 +143,7 @@ returns-in-Some g c =
 
 pub returns-in-None : goal.returns-in-None
 returns-in-None g c =
-    let l = c.self.inside in let b = l.domain.now.board in let m : LocalState _ = c.self.view_is 0 in let right = c.args.right in let kind = c.args.kind in
+    let l = c.self.inside in let m : LocalState _ = c.self.view_is 0 in let right = c.args.right in let kind = c.args.kind in
     let known = recalled g (goal.at.returns-in-None g c).After-recall in let same = known.same in let w = c.into_owner-owner.result.0 in
     let grip = c.into_owner-owner.result.1 in let slot : ℕ = c.number-slot.result in let is = c.number-slot.ensures in let t = c.recall.new.token in record {
       gone =

@@ -26,12 +26,11 @@ abbrev Tenure : Type 0
 Tenure = Fraction SectionState
 
 pub invariant_of-self : goal.invariant_of-self
-invariant_of-self g c = let l = c.self.inside in let i = c.self.invariant in let b = l.domain.now.board in
-    let own : Participant = c.arrive-goes_on.new.own in let a = c.arrive-goes_on.ensures.arrived in let count : ℕ = a.0 in let arrives = a.1 in
-    let none = ap (λ (m : LocalState _). m.due) c.self.view_is ∙ c.requires.settled in
-    let shut : l.own.guards ≡ 0 = search rules in
-    let guards : own.guards ≡ 0 = has_open count l.own c.arrive-goes_on.result own a.2 ∙ shut in
-    let one : own.guards + 1 ≡ 1 = omega arith in
+invariant_of-self g c =
+    let l = c.self.inside in let i = c.self.invariant in let b = l.domain.now.board in let own : Participant = c.arrive-goes_on.new.own in
+    let a = c.arrive-goes_on.ensures.arrived in let count : ℕ = a.0 in let arrives = a.1 in
+    let none = ap (λ (m : LocalState _). m.due) c.self.view_is ∙ c.requires.settled in let shut : l.own.guards ≡ 0 = search rules in
+    let guards : own.guards ≡ 0 = has_open count l.own c.arrive-goes_on.result own a.2 ∙ shut in let one : own.guards + 1 ≡ 1 = omega arith in
     let opened : nested own ≡ record own { guards = 1 } = λ d. record own { guards = one d } in
     let large : own.bags.room ≡ l.own.bags.room = has_room count l.own c.arrive-goes_on.result own a.2 in (
       subst (λ (o : Participant). IsBetweenCalls b l.place o c.arrive-goes_on.new.token) opened c.arrive-goes_on.ensures.posed,

@@ -13,18 +13,16 @@ returns-then-is_ok-clause-once g c = λ lone. let i = c.loop-attempt.invariant i
     (c.in-Some.next, search rules, search rules)
 
 pub returns-then-is_ok-clause-asked : goal.returns-then-is_ok-clause-asked
-returns-then-is_ok-clause-asked g c = let i = c.loop-attempt.invariant in
-    let was = c.raw_ptr_of-was.result in
-    let met : g.F.FnMut.post c.loop-attempt.f (was, tt) c.f.result = search of_calls in
+returns-then-is_ok-clause-asked g c =
+    let i = c.loop-attempt.invariant in let was = c.raw_ptr_of-was.result in let met : g.F.FnMut.post c.loop-attempt.f (was, tt) c.f.result = search of_calls in
     let answered = subst (λ (o : Option (RawPtr _)). g.F.FnMut.post c.loop-attempt.f (was, tt) o) c.in-Some.is met in
     (c.in-Some.next, (i.went_on.0, c.loop-attempt.f, i.went_on.1, answered))
 
 pub loop-attempt-preserved : goal.loop-attempt-preserved
-loop-attempt-preserved g c = let i = c.loop-attempt.invariant in
-    let was = c.raw_ptr_of-was.result in
+loop-attempt-preserved g c =
+    let i = c.loop-attempt.invariant in let was = c.raw_ptr_of-was.result in
     let met : Called g.F.FnMut c.loop-attempt.f (was, tt) c.f.result c.f.new.self = search of_calls in
-    let step = subst (λ (o : Option (RawPtr _)). Called g.F.FnMut c.loop-attempt.f (was, tt) o c.f.new.self) c.in-Some.is met in
-    record {
+    let step = subst (λ (o : Option (RawPtr _)). Called g.F.FnMut c.loop-attempt.f (was, tt) o c.f.new.self) c.in-Some.is met in record {
       same = search rules;
       callable = search of_calls;
       first = λ none. absurd (omega arith);

@@ -19,11 +19,10 @@ use Rattle.sdd_domain.specs.SeenSlots.{IsOnce}
 use Rattle.sdd_space.specs.OwnerOrCell.{AreOf}
 use Rattle.sdd_domain.specs.SpaceIds.{home_in}
 use Rattle.sdd_domain.proofs.Housed.{on_board, from_shelf}
-use Rattle.sdd_domain.specs.BetweenCalls.{IsReady, AreLentTo}
-use Rattle.sdd_domain.specs.InBags.{known_waiting}
-use Rattle.sdd_domain.specs.Receipt.{IsTallied}
+use Rattle.sdd_domain.specs.BetweenCalls.{AreLentTo}
 use Rattle.sdd_domain.proofs.Moving.{can_show, shows_known}
-use Rattle.sdd_domain.proofs.Posing.{watched, posed_shows, same_recalled}
+use Rattle.sdd_domain.proofs.Posing.{watched, same_recalled}
+use Rattle.sdd_domain.proofs.Still.{shown_on}
 use Rattle.sdd_domain.proofs.Members.{with_token, looks_at, recalls_to, has_tables}
 use Rattle.sdd_domain.specs.LocalState.{LocalState, LooksAt, IsLone, KnowsOwner}
 use Rattle.sdd_domain.proofs.local_core.LocalCore.get_guarded.Goals as goal
@@ -31,10 +30,8 @@ use Rattle.sdd_domain.proofs.local_core.LocalCore.get_guarded.Goals as goal
 pub show-requires : goal.show-requires
 show-requires g c =
     let l = c.self.inside in let b = l.domain.now.board in let slot : ℕ = number_of c.args.right.now in
-    let own = (c.witness-owner.ensures.owner (has_tables c.args.self.now c.args.right.now c.requires.home)).1 in
-    let shared : Bool = is_shared (kind_of c.args.right.now) in
-    let shown : Gv = (c.witness-owner.ensures.owner (has_tables c.args.self.now c.args.right.now c.requires.home)).0.shown in
-    record {
+    let found = c.witness-owner.ensures.owner (has_tables c.args.self.now c.args.right.now c.requires.home) in let own = found.1 in
+    let shared : Bool = is_shared (kind_of c.args.right.now) in let shown : Gv = found.0.shown in record {
       table =
         let q = c.self.invariant.0 in
         let same = same_recalled b l.place slot shared shown l.token c.recall.new.token (c.recall.ensures slot shared shown own.owner) in
@@ -52,35 +49,24 @@ show-requires g c =
     }
 
 pub invariant_of-self : goal.invariant_of-self
-invariant_of-self g c = let l = c.self.inside in let b = l.domain.now.board in let t : ℕ = c.tenure_of-tenure.result.now.round in
-    let inv = c.self.invariant in let slot : ℕ = number_of c.args.right.now in
-    let own = (c.witness-owner.ensures.owner (has_tables c.args.self.now c.args.right.now c.requires.home)).1 in
-    let shared : Bool = is_shared (kind_of c.args.right.now) in
-    let shown : Gv = (c.witness-owner.ensures.owner (has_tables c.args.self.now c.args.right.now c.requires.home)).0.shown in
+invariant_of-self g c =
+    let l = c.self.inside in let b = l.domain.now.board in let t : ℕ = c.tenure_of-tenure.result.now.round in let inv = c.self.invariant in
+    let slot : ℕ = number_of c.args.right.now in let found = c.witness-owner.ensures.owner (has_tables c.args.self.now c.args.right.now c.requires.home) in
+    let own = found.1 in let shared : Bool = is_shared (kind_of c.args.right.now) in let shown : Gv = found.0.shown in
     let recalled = c.recall.ensures slot shared shown own.owner in
     let watch = subst (λ (x : Seat ValueFraction View). MovedAlone (SeesOwned slot shared shown) x c.watch.new.token)
     (same_recalled b l.place slot shared shown l.token c.recall.new.token recalled) (c.watch.ensures slot shared shown own.owner) in
     let some_open : 0 < l.own.guards = search rules in
     let seen = watched b l.place l.own t slot shared shown l.token c.watch.new.token inv.0
     (subst (λ (t : ℕ). AreLentTo t l.token.me.1) (sym c.agree.ensures.round) inv.3) watch in
-    let posed = posed_shows b l.place l.own t slot shown l.token c.watch.new.token c.show.new.seat inv.0 some_open
-    watch.0 seen c.show.ensures.seat c.show.ensures.lent in (
-      posed.0,
-      inv.1,
-      inv.2,
-      subst (λ (t : ℕ). AreLentTo t c.show.new.seat.me.1) c.agree.ensures.round posed.1,
-      subst (IsReady b l.own l.due l.known.slots l.jobs l.privates) (sym (ap (λ (x : Seat ValueFraction View). known_waiting x.me.0.slots) c.show.ensures.seat
-          ∙ ap (λ (v : View). known_waiting v.slots) seen.view)) inv.4,
-      subst (IsTallied 0 l.tally) (sym (ap (λ (x : Seat ValueFraction View). x.me.0.stakes.counts) c.show.ensures.seat
-          ∙ ap (λ (v : View). v.stakes.counts) seen.view)) inv.5,
-    )
+    shown_on b l.place l.own l.tenure.round l.due l.known.slots l.jobs l.privates l.tally l.token inv t c.agree.ensures.round slot shown
+    c.watch.new.token c.show.new.seat some_open watch.0 seen c.show.ensures.seat c.show.ensures.lent
 
 pub returns : goal.returns
 returns g c =
     let l = c.self.inside in let b = l.domain.now.board in let t : ℕ = c.tenure_of-tenure.result.now.round in let inv = c.self.invariant in
-    let slot : ℕ = number_of c.args.right.now in let own = (c.witness-owner.ensures.owner (has_tables c.args.self.now c.args.right.now c.requires.home)).1 in
-    let shared : Bool = is_shared (kind_of c.args.right.now) in
-    let shown : Gv = (c.witness-owner.ensures.owner (has_tables c.args.self.now c.args.right.now c.requires.home)).0.shown in
+    let slot : ℕ = number_of c.args.right.now in let found = c.witness-owner.ensures.owner (has_tables c.args.self.now c.args.right.now c.requires.home) in
+    let own = found.1 in let shared : Bool = is_shared (kind_of c.args.right.now) in let shown : Gv = found.0.shown in
     let recalled = c.recall.ensures slot shared shown own.owner in
     let watch = subst (λ (x : Seat ValueFraction View). MovedAlone (SeesOwned slot shared shown) x c.watch.new.token)
     (same_recalled b l.place slot shared shown l.token c.recall.new.token recalled) (c.watch.ensures slot shared shown own.owner) in
@@ -89,28 +75,19 @@ returns g c =
     let shows = subst (λ (k : ℕ). HasFractionShowing l.domain.now.shelf.book k (showing g.row.T c.show.result.now) (lots c.watch.new.token.me.1))
     c.number.ensures
     c.show.ensures.value in
-    record {
-      value =
-        let is = seen.once slot shown (showing g.row.T c.show.result.now) seen.there
-        (shows_known (book_of b) (places_of b) l.place slot l.domain.now.shelf.book (showing g.row.T c.show.result.now) seen.records
-        c.watch.new.token.me.1 seen.purse shows) in
-        sym c.witness-owner.ensures.views ∙ (own.owner ∙ ap (witness_of_owner slot shared) is);
-      looks =
-        let is = seen.once slot shown (showing g.row.T c.show.result.now) seen.there
-        (shows_known (book_of b) (places_of b) l.place slot l.domain.now.shelf.book (showing g.row.T c.show.result.now) seen.records
-        c.watch.new.token.me.1 seen.purse shows) in
-        subst (λ (m : LocalState _). LooksAt slot shared (showing g.row.T c.show.result.now) m (with_token (c.self.view_is 0) c.show.new.seat)) c.self.view_is
+    let is = seen.once slot shown (showing g.row.T c.show.result.now) seen.there
+    (shows_known (book_of b) (places_of b) l.place slot l.domain.now.shelf.book (showing g.row.T c.show.result.now) seen.records
+    c.watch.new.token.me.1 seen.purse shows) in record {
+      value = sym c.witness-owner.ensures.views ∙ (own.owner ∙ ap (witness_of_owner slot shared) is);
+      looks = subst (λ (m : LocalState _). LooksAt slot shared (showing g.row.T c.show.result.now) m (with_token (c.self.view_is 0) c.show.new.seat))
+          c.self.view_is
         (subst (λ (v : Gv). LooksAt slot shared v (c.self.view_is 0) (with_token (c.self.view_is 0) c.show.new.seat)) is
         (looks_at (c.self.view_is 0) slot shared shown l.token c.watch.new.token c.show.new.seat watch c.show.ensures.seat));
       once =
-        let is : c.show.new.seat.me.0.stakes.sees ≡ seen.records = ap (λ (x : Seat ValueFraction View). x.me.0.stakes.sees) c.show.ensures.seat
+        let sees : c.show.new.seat.me.0.stakes.sees ≡ seen.records = ap (λ (x : Seat ValueFraction View). x.me.0.stakes.sees) c.show.ensures.seat
         ∙ ap (λ (v : View). v.stakes.sees) seen.view in
-        subst IsOnce (sym is) seen.once;
-      recalled =
-        let is = seen.once slot shown (showing g.row.T c.show.result.now) seen.there
-        (shows_known (book_of b) (places_of b) l.place slot l.domain.now.shelf.book (showing g.row.T c.show.result.now) seen.records
-        c.watch.new.token.me.1 seen.purse shows) in
-        subst (λ (m : LocalState _). IsLone m → KnowsOwner m slot shared (showing g.row.T c.show.result.now)) c.self.view_is
+        subst IsOnce (sym sees) seen.once;
+      recalled = subst (λ (m : LocalState _). IsLone m → KnowsOwner m slot shared (showing g.row.T c.show.result.now)) c.self.view_is
         (subst (λ (v : Gv). IsLone (c.self.view_is 0) → KnowsOwner (c.self.view_is 0) slot shared v) is
         (recalls_to (c.self.view_is 0) slot shared shown l.token c.recall.new.token recalled
         (inv.0.all ∙ ap (λ (z : Sizes). z.participants) l.domain.now.limited.1)));
@@ -123,11 +100,9 @@ returns g c =
 pub watch-requires : goal.watch-requires
 watch-requires g c =
     let q = c.self.invariant.0 in let l = c.self.inside in let b = l.domain.now.board in let slot : ℕ = number_of c.args.right.now in
-    let own = (c.witness-owner.ensures.owner (has_tables c.args.self.now c.args.right.now c.requires.home)).1 in
-    let shared : Bool = is_shared (kind_of c.args.right.now) in
-    let shown : Gv = (c.witness-owner.ensures.owner (has_tables c.args.self.now c.args.right.now c.requires.home)).0.shown in
-    let same = same_recalled b l.place slot shared shown l.token c.recall.new.token (c.recall.ensures slot shared shown own.owner) in
-    record {
+    let found = c.witness-owner.ensures.owner (has_tables c.args.self.now c.args.right.now c.requires.home) in let own = found.1 in
+    let shared : Bool = is_shared (kind_of c.args.right.now) in let shown : Gv = found.0.shown in
+    let same = same_recalled b l.place slot shared shown l.token c.recall.new.token (c.recall.ensures slot shared shown own.owner) in record {
       home = ap (λ (x : Seat ValueFraction View). x.table_id) same ∙ q.home;
       knows = (ap (λ (x : Seat ValueFraction View). x.me.0.sizes) same ∙ q.knows.0, ap (λ (x : Seat ValueFraction View). x.me.0.stakes.book) same ∙ q.knows.1);
       «open» = let some_open : 0 < l.own.guards = search rules in ap (λ (x : Seat ValueFraction View). x.me.0.epoch.state) same ∙ q.opened some_open;
@@ -142,11 +117,8 @@ watch-requires g c =
 pub recall-requires-clause-owner : goal.recall-requires-clause-owner
 recall-requires-clause-owner g c =
     let q = c.self.invariant.0 in let l = c.self.inside in let b = l.domain.now.board in let slot : ℕ = number_of c.args.right.now in
-    let own = (c.witness-owner.ensures.owner (has_tables c.args.self.now c.args.right.now c.requires.home)).1 in
-    let shared : Bool = is_shared (kind_of c.args.right.now) in
-    let shown : Gv = (c.witness-owner.ensures.owner (has_tables c.args.self.now c.args.right.now c.requires.home)).0.shown in
-    let tables = own.table in let mine = ap (λ (h : GhostName). h.tables) c.requires.home in let there = ap (λ (m : LocalState _). m.home) c.self.view_is in
-    let board = q.home in
-    let table : c.witness-owner.result.now.table_id ≡ id_of b = cc in
-    let inside : slot < slots_of b = search rules in
+    let found = c.witness-owner.ensures.owner (has_tables c.args.self.now c.args.right.now c.requires.home) in let own = found.1 in
+    let shared : Bool = is_shared (kind_of c.args.right.now) in let shown : Gv = found.0.shown in let tables = own.table in
+    let mine = ap (λ (h : GhostName). h.tables) c.requires.home in let there = ap (λ (m : LocalState _). m.home) c.self.view_is in let board = q.home in
+    let table : c.witness-owner.result.now.table_id ≡ id_of b = cc in let inside : slot < slots_of b = search rules in
     (table, (slot, shared, shown, inside, own.owner))

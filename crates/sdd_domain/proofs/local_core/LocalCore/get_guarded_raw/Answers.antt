@@ -14,14 +14,13 @@ use Rattle.sdd_atomics.specs.DomainSeat.{MovedAlone}
 use Rattle.sdd_space.specs.OwnerOrCell.{AreOf}
 use Rattle.sdd_domain.specs.SpaceIds.{home_in}
 use Rattle.sdd_domain.specs.SeenSlots.{IsOnce}
-use Rattle.sdd_domain.specs.BetweenCalls.{IsReady, AreLentTo}
-use Rattle.sdd_domain.specs.InBags.{known_waiting}
-use Rattle.sdd_domain.specs.Receipt.{IsTallied}
+use Rattle.sdd_domain.specs.BetweenCalls.{AreLentTo}
 use Rattle.sdd_domain.specs.LocalState.{LocalState, LooksAt, IsLone}
 use Rattle.sdd_domain.specs.RawItems.{KnowsRaw}
 use Rattle.sdd_domain.proofs.Housed.{on_board, from_shelf}
 use Rattle.sdd_domain.proofs.Moving.{can_show, shows_known}
-use Rattle.sdd_domain.proofs.Posing.{watched, posed_shows}
+use Rattle.sdd_domain.proofs.Posing.{watched}
+use Rattle.sdd_domain.proofs.Still.{shown_on}
 use Rattle.sdd_domain.proofs.Members.{with_token, looks_at}
 use Rattle.sdd_domain.proofs.local_core.LocalCore.get_guarded_raw.Goals as goal
 
@@ -44,17 +43,8 @@ invariant_of-self-2 g c = let l = c.self.inside in let b = l.domain.now.board in
     let seen = watched b l.place l.own t slot false shown l.token c.look_for_raw.new.token inv.0
     (subst (λ (t : ℕ). AreLentTo t l.token.me.1) (sym c.agree.ensures.round) inv.3) watch in
     let some_open : 0 < l.own.guards = search rules in
-    let posed = posed_shows b l.place l.own t slot shown l.token c.look_for_raw.new.token c.show.new.seat inv.0 some_open
-    watch.0 seen c.show.ensures.seat c.show.ensures.lent in (
-      posed.0,
-      inv.1,
-      inv.2,
-      subst (λ (t : ℕ). AreLentTo t c.show.new.seat.me.1) c.agree.ensures.round posed.1,
-      subst (IsReady b l.own l.due l.known.slots l.jobs l.privates) (sym (ap (λ (x : Seat ValueFraction View). known_waiting x.me.0.slots) c.show.ensures.seat
-          ∙ ap (λ (v : View). known_waiting v.slots) seen.view)) inv.4,
-      subst (IsTallied 0 l.tally) (sym (ap (λ (x : Seat ValueFraction View). x.me.0.stakes.counts) c.show.ensures.seat
-          ∙ ap (λ (v : View). v.stakes.counts) seen.view)) inv.5,
-    )
+    shown_on b l.place l.own l.tenure.round l.due l.known.slots l.jobs l.privates l.tally l.token inv t c.agree.ensures.round slot shown
+    c.look_for_raw.new.token c.show.new.seat some_open watch.0 seen c.show.ensures.seat c.show.ensures.lent
 
 pub returns : goal.returns
 returns g c = let l = c.self.inside in let b = l.domain.now.board in let t : ℕ = c.tenure_of-tenure.result.now.round in

@@ -22,9 +22,10 @@ use Rattle.sdd_domain.proofs.Housed.{from_board, to_board}
 use lib.ListN.{get_elem?}
 use Rattle.sdd_core.specs.declared.refused.Refused.TheVariants as Refused
 use Rattle.sdd_domain.proofs.Held.{only}
-use Rattle.sdd_domain.proofs.InPlace.{bare, changed_to, guard_of, hindered_at, hindered_view, knew_sole, posed_noted, held_home, held_knows, held_looked, held_owns, held_place, held_rests, held_shut, held_tells, owner_inside, owner_table, placed, posed_changed, right_again, right_anew}
+use Rattle.sdd_domain.proofs.InPlace.{bare, changed_to, guard_of, hindered_at, hindered_view, knew_sole, held_home, held_knows, held_looked, held_owns, held_place, held_rests, held_shut, held_tells, owner_inside, owner_table, placed, posed_changed, right_again, right_anew}
 use Rattle.sdd_domain.proofs.Members.{with_token, with_view}
 use Rattle.sdd_domain.proofs.Recalled.{IsRecalled, is_recalled}
+use Rattle.sdd_domain.proofs.Still.{noted_on}
 use Rattle.sdd_domain.proofs.local_core.LocalCore.get_mut.Given.{Over}
 use Rattle.sdd_domain.proofs.local_core.LocalCore.get_mut.Goals.{After-recall}
 use Rattle.sdd_domain.proofs.local_core.LocalCore.get_mut.Goals as goal
@@ -107,17 +108,10 @@ invariant_of-self g c =
 
 pub invariant_of-self-in-Err : goal.invariant_of-self-in-Err
 invariant_of-self-in-Err g c =
-    let l = c.self.inside in let b = l.domain.now.board in let known = recalled g (goal.at.invariant_of-self-in-Err g c).After-recall in let same = known.same in
-    let q = known.between in let slot : ℕ = c.number-slot.result in let t = c.recall.new.token in let h = c.hold_alone.new.token in
+    let l = c.self.inside in let b = l.domain.now.board in let known = recalled g (goal.at.invariant_of-self-in-Err g c).After-recall in
+    let same = known.same in let slot : ℕ = c.number-slot.result in let t = c.recall.new.token in let h = c.hold_alone.new.token in
     let e = hindered_view slot c.is_one_of_several-shared.result c.in-Err.hindrance t h c.in-Err.ensures.0 in
-    let here = e.3 ∙ ap (λ (x : Seat ValueFraction View). record x.me.0 { words = e.0 }) same in let i = c.self.invariant in (
-      posed_noted b l.place l.own t q h e.0 e.1 e.2 e.3,
-      i.1,
-      i.2,
-      subst (AreLentTo l.tenure.round) (sym (e.2 ∙ ap (λ (x : Seat ValueFraction View). x.me.1) same)) i.3,
-      subst (IsReady b l.own l.due l.known.slots l.jobs l.privates) (sym (ap (λ (v : View). known_waiting v.slots) here)) i.4,
-      subst (IsTallied 0 l.tally) (sym (ap (λ (v : View). v.stakes.counts) here)) i.5,
-    )
+    noted_on b l.place l.own l.tenure.round l.due l.known.slots l.jobs l.privates l.tally l.token c.self.invariant t known.same h e.0 e.1 e.2 e.3
 
 pub returns-in-Ok : goal.returns-in-Ok
 returns-in-Ok g c =

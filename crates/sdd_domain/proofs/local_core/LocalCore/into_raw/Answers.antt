@@ -1,7 +1,5 @@
-use mathlib.Core.Logic.{dite}
-use native.Mathlib.Decide.{dec_lt}
 use lib.ListN.{get_elem?}
-use Rattle.std.proofs.Common.{◌≡◌, ℕ, ◌<◌, List, [], ◌∷◌, refl, sym, ap, ◌∙◌, subst, arith, rules}
+use Rattle.std.proofs.Common.{◌≡◌, ℕ, ◌<◌, List, [], ◌∷◌, refl, sym, ap, ◌∙◌, subst, rules}
 use Rattle.std.specs.Prelude.{Bool, false}
 use base.Stored.{Gv}
 use Rattle.atomic_table.specs.declared.shared.Seat.{Seat}
@@ -21,7 +19,7 @@ use Rattle.sdd_domain.specs.InBags.{known_waiting}
 use Rattle.sdd_domain.specs.Receipt.{IsTallied}
 use Rattle.sdd_domain.specs.LocalState.{LocalState, IsLone, KnowsOwner}
 use Rattle.sdd_domain.proofs.Members.{with_view, recalls_to, has_tables}
-use Rattle.sdd_domain.proofs.Posing.{same_recalled}
+use Rattle.sdd_domain.proofs.Posing.{has_place, same_recalled}
 use Rattle.sdd_domain.proofs.RawCore.{put_home, put_view, put_others, posed_out}
 use Rattle.sdd_domain.proofs.local_core.LocalCore.into_raw.Goals as goal
 
@@ -44,18 +42,13 @@ put_out-requires g c =
     let views = by.owner ∙ ap (λ (b : Bool). witness_of_owner slot b shown) (ap is_shared c.requires.kind) in
     let recalled = c.recall.ensures slot false shown views in let same = same_recalled board l.place slot false shown l.token c.recall.new.token recalled in
     let took = subst (λ (x : Seat ValueFraction View). Taught (λ v _ w. w ≡ regained v (owner_of slot false shown)) x 0 c.take_in.new.token) same
-    (c.take_in.ensures slot false shown views) in
-    record {
+    (c.take_in.ensures slot false shown views) in record {
       home = took.0 ∙ q.home;
       knows = (ap (λ (v : View). v.sizes) took.3 ∙ q.knows.0, ap (λ (v : View). v.stakes.book) took.3 ∙ q.knows.1);
       inside = search rules;
-      place =
-        let state = ap (λ (v : View). v.epoch.state) took.3 in
-        dite (dec_lt 0 l.own.guards) (λ some. subst (λ (k : ℕ). 0 < k) (sym (state ∙ q.opened some)) (omega arith))
-        (λ none. subst (λ (k : ℕ). 0 < k) (sym (state ∙ q.closed (omega arith))) (omega arith));
+      place = subst (λ (k : ℕ). 0 < k) (sym (ap (λ (v : View). v.epoch.state) took.3)) (has_place board l.place l.own l.token q);
       own =
-        let none = ap (λ (v : View). v.slots.holds) took.3 ∙ q.quiet.holds in
-        (
+        let none = ap (λ (v : View). v.slots.holds) took.3 ∙ q.quiet.holds in (
           ap (λ (v : View). v.slots.owns) took.3 ∙ (ap (λ (is : List ℕ). slot ∷ is) q.quiet.owns ∙ ap (λ (k : ℕ). k ∷ []) (sym c.number-slot.ensures)),
           (λ held. cc),
           ap (λ (v : View). v.slots.drawn) took.3 ∙ (ap (λ (is : List ℕ). slot ∷ is) q.quiet.drawn ∙ ap (λ (k : ℕ). k ∷ []) (sym c.number-slot.ensures)),
@@ -102,8 +95,8 @@ returns g c =
         let is = put_view board l.place l.own slot shown l.token c.take_in.new.token c.put_out.new.token q took put in
         (λ d. with_view old (home d) (is d)) ∙ ap (put_out slot) c.self.view_is;
       recalled = subst (λ (m : LocalState _). IsLone m → (value : Gv) × KnowsOwner m slot false value) c.self.view_is (λ lone. (
-          shown,
-          recalls_to (c.self.view_is 0) slot false shown l.token c.recall.new.token recalled
-              (q.all ∙ ap (λ (z : Sizes). z.participants) l.domain.now.limited.1) lone,
-        ));
+        shown,
+        recalls_to (c.self.view_is 0) slot false shown l.token c.recall.new.token recalled
+            (q.all ∙ ap (λ (z : Sizes). z.participants) l.domain.now.limited.1) lone,
+      ));
     }

@@ -27,7 +27,8 @@ use Rattle.sdd_domain.proofs.CellWords.{named, named_none}
 use Rattle.sdd_domain.proofs.HeldOwners.{cell_views}
 use Rattle.sdd_domain.proofs.Housed.{on_board, from_shelf}
 use Rattle.sdd_domain.proofs.Moving.{can_show, shows_known}
-use Rattle.sdd_domain.proofs.Posing.{watched, posed_shows}
+use Rattle.sdd_domain.proofs.Posing.{watched}
+use Rattle.sdd_domain.proofs.Still.{shown_on}
 use Rattle.sdd_domain.proofs.Members.{with_token, looks_at}
 use Rattle.sdd_domain.proofs.local_core.LocalCore.load.Given.{Over}
 use Rattle.sdd_domain.proofs.local_core.LocalCore.load.Goals.{After-see_in-word}
@@ -88,18 +89,8 @@ invariant_of-self-2 g c =
     let seen = watched b l.place l.own t slot shared shown l.token f inv.0
     (subst (λ (t : ℕ). AreLentTo t l.token.me.1) (sym c.agree.ensures.round) inv.3) watch in
     let some_open : 0 < l.own.guards = search rules in
-    let posed = posed_shows b l.place l.own t slot shown l.token f c.show-value.new.seat inv.0 some_open
-    watch.0 seen c.show-value.ensures.seat c.show-value.ensures.lent in (
-      posed.0,
-      inv.1,
-      inv.2,
-      subst (λ (t : ℕ). AreLentTo t c.show-value.new.seat.me.1) c.agree.ensures.round posed.1,
-      subst (IsReady b l.own l.due l.known.slots l.jobs l.privates) (sym
-          (ap (λ (x : Seat ValueFraction View). known_waiting x.me.0.slots) c.show-value.ensures.seat
-          ∙ ap (λ (v : View). known_waiting v.slots) seen.view)) inv.4,
-      subst (IsTallied 0 l.tally) (sym (ap (λ (x : Seat ValueFraction View). x.me.0.stakes.counts) c.show-value.ensures.seat
-          ∙ ap (λ (v : View). v.stakes.counts) seen.view)) inv.5,
-    )
+    shown_on b l.place l.own l.tenure.round l.due l.known.slots l.jobs l.privates l.tally l.token inv t c.agree.ensures.round slot shown
+    f c.show-value.new.seat some_open watch.0 seen c.show-value.ensures.seat c.show-value.ensures.lent
 
 pub returns : goal.returns
 returns g c =

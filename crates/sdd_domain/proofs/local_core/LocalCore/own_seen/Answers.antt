@@ -1,7 +1,6 @@
 use Rattle.std.proofs.Common.{◌≡◌, ℕ, inl, inr, ⊎_elim, refl, ap, sym, ◌∙◌, subst}
 use Rattle.std.specs.Prelude.{IfSome}
 use base.Stored.{Gv}
-use Rattle.sdd_views.specs.declared.View.{View}
 use Rattle.sdd_views.specs.declared.Sizes.{Sizes}
 use Rattle.sdd_rights.specs.Right.{home_of_table}
 use Rattle.sdd_rights.specs.declared.right.StandingKind.TheVariants as kinds
@@ -11,24 +10,15 @@ use Rattle.sdd_domain.specs.Cells.{board_home}
 use Rattle.sdd_domain.specs.Items.{IsRightTo, slots_home}
 use Rattle.sdd_domain.specs.LocalState.{LocalState, IsLone as IsAlone}
 use Rattle.sdd_domain.specs.SeenOwners.{KnowsStill, ShowsTo}
-use Rattle.sdd_domain.specs.BetweenCalls.{AreLentTo, IsReady}
-use Rattle.sdd_domain.specs.InBags.{known_waiting}
-use Rattle.sdd_domain.specs.Receipt.{IsTallied}
 use Rattle.sdd_domain.proofs.Housed.{on_board}
-use Rattle.sdd_domain.proofs.InPlace.{posed_noted}
 use Rattle.sdd_domain.proofs.SeenOwners.{came_right, ends_with}
+use Rattle.sdd_domain.proofs.Still.{noted_on}
 use Rattle.sdd_domain.proofs.local_core.LocalCore.own_seen.Goals as goal
 
 pub invariant_of-self-2 : goal.invariant_of-self-2
 invariant_of-self-2 g c = let l = c.self.inside in let b = l.domain.now.board in let inv = c.self.invariant in let u = c.own_seen.new.token in
-    let e = ends_with b c.args.slot c.in-Ok.loose l.token u c.in-Ok.ensures in let is = e.1 in (
-      posed_noted b l.place l.own l.token inv.0 u e.0 is.table is.others is.view,
-      inv.1,
-      inv.2,
-      subst (AreLentTo l.tenure.round) (sym is.others) inv.3,
-      subst (IsReady b l.own l.due l.known.slots l.jobs l.privates) (sym (ap (λ (v : View). known_waiting v.slots) is.view)) inv.4,
-      subst (IsTallied 0 l.tally) (sym (ap (λ (v : View). v.stakes.counts) is.view)) inv.5,
-    )
+    let e = ends_with b c.args.slot c.in-Ok.loose l.token u c.in-Ok.ensures in let is = e.1 in
+    noted_on b l.place l.own l.tenure.round l.due l.known.slots l.jobs l.privates l.tally l.token c.self.invariant l.token refl u e.0 is.table is.others is.view
 
 pub own_seen-requires-clause-still : goal.own_seen-requires-clause-still
 own_seen-requires-clause-still g c = let l = c.self.inside in let slot : ℕ = c.args.slot in

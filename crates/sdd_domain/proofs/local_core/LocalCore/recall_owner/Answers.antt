@@ -42,13 +42,13 @@ invariant_of-self g c =
     let own = (c.witness.ensures.owner (has_tables c.args.self.now c.args.right.now c.requires)).1 in
     let same = same_recalled board l.place slot shared shown l.token c.recall.new.token (c.recall.ensures slot shared shown own.owner) in
     subst (λ (x : Seat ValueFraction View). IsBetweenCalls board l.place l.own x × l.nesting ≡ l.domain.now.limits.nesting × IsTenureOf l.own l.tenure
-    × AreLentTo l.tenure.round x.me.1 × IsReady board l.own l.due l.known.slots l.jobs l.privates (known_waiting x.me.0.slots) × IsTallied 0 l.tally x.me.0.stakes.counts)
+    × AreLentTo l.tenure.round x.me.1 × IsReady board l.own l.due l.known.slots l.jobs l.privates (known_waiting x.me.0.slots) × IsTallied 0 l.tally
+        x.me.0.stakes.counts)
     (sym same) c.self.invariant
 
 pub returns-clause-same : goal.returns-clause-same
 returns-clause-same g c =
-    let l = c.self.inside in let slot : ℕ = number_of c.args.right.now in
-    let shared : Bool = is_shared (kind_of c.args.right.now) in
+    let l = c.self.inside in let slot : ℕ = number_of c.args.right.now in let shared : Bool = is_shared (kind_of c.args.right.now) in
     let shown : Gv = (c.witness.ensures.owner (has_tables c.args.self.now c.args.right.now c.requires)).0.shown in
     let own = (c.witness.ensures.owner (has_tables c.args.self.now c.args.right.now c.requires)).1 in
     let same = same_recalled l.domain.now.board l.place slot shared shown l.token c.recall.new.token (c.recall.ensures slot shared shown own.owner) in
@@ -56,8 +56,7 @@ returns-clause-same g c =
 
 pub returns-clause-recalled : goal.returns-clause-recalled
 returns-clause-recalled g c =
-    let l = c.self.inside in let slot : ℕ = number_of c.args.right.now in
-    let shared : Bool = is_shared (kind_of c.args.right.now) in
+    let l = c.self.inside in let slot : ℕ = number_of c.args.right.now in let shared : Bool = is_shared (kind_of c.args.right.now) in
     let shown : Gv = (c.witness.ensures.owner (has_tables c.args.self.now c.args.right.now c.requires)).0.shown in
     let own = (c.witness.ensures.owner (has_tables c.args.self.now c.args.right.now c.requires)).1 in
     let has : HasValue shown c.args.right.now = sym c.witness.ensures.views ∙ own.owner in

@@ -1,7 +1,5 @@
 use lib.ListN.{get_elem?}
 use mathlib.Core.Option.{some}
-use mathlib.Core.Logic.{dite}
-use native.Mathlib.Decide.{dec_lt}
 use Rattle.std.proofs.Common.{List, [], ◌∷◌, ◌≡◌, ℕ, ◌+◌, ◌<◌, rules, refl, sym, ap, ◌∙◌, subst, arith}
 use Rattle.sdd_word_invariant.specs.Collectors.{privates_at}
 use Rattle.sdd_word_invariant.specs.Sums.{total}

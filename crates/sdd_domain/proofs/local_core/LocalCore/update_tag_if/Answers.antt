@@ -45,11 +45,10 @@ returns-then-retag-clause-asked g c = let i = c.loop-attempt.invariant in
     (ptr, (i.went_on.0, c.loop-attempt.condition, i.went_on.1, answered))
 
 pub loop-attempt-preserved : goal.loop-attempt-preserved
-loop-attempt-preserved g c = let i = c.loop-attempt.invariant in
-    let ptr = c.raw_ptr_to.result in
+loop-attempt-preserved g c =
+    let i = c.loop-attempt.invariant in let ptr = c.raw_ptr_to.result in
     let met : Called g.F.FnMut c.loop-attempt.condition (ptr, tt) c.condition.result c.condition.new.self = search of_calls in
-    let step = subst (λ (b : Bool). Called g.F.FnMut c.loop-attempt.condition (ptr, tt) b c.condition.new.self) c.if-not-condition.false met in
-    record {
+    let step = subst (λ (b : Bool). Called g.F.FnMut c.loop-attempt.condition (ptr, tt) b c.condition.new.self) c.if-not-condition.false met in record {
       same = search rules;
       callable = search of_calls;
       first = λ none. absurd (omega arith);

@@ -30,9 +30,8 @@ returns-in_default-clause-exact g c = λ exact.
 
 pub invariant_of-self-2 : goal.invariant_of-self-2
 invariant_of-self-2 g c =
-    let v : LocalModel g.row.T.Denot g.row.J.Denot = c.self.view_is 0 in
-    let cell : ℕ = number_of c.args.right in let found : ℕ = c.into_contents-held.result.1 in
-    let new : LocalState _ = c.into_contents-held.new.self in let is = c.into_contents-held.ensures.freed in
+    let v : LocalModel g.row.T.Denot g.row.J.Denot = c.self.view_is 0 in let cell : ℕ = number_of c.args.right in
+    let found : ℕ = c.into_contents-held.result.1 in let new : LocalState _ = c.into_contents-held.new.self in let is = c.into_contents-held.ensures.freed in
     let freed : LocalModel g.row.T.Denot g.row.J.Denot = record { member = new; entries = c.self.inside.ledger.entries } in
     let tied : WordsMatchValues freed.member freed.entries
     = λ one. tied_freed v cell found new is (c.self.invariant (sym (ap (λ (m : LocalState _). m.limits.participants) is.writes.member) ∙ one)) in
@@ -40,9 +39,8 @@ invariant_of-self-2 g c =
 
 pub returns-clause-own : goal.returns-clause-own
 returns-clause-own g c =
-    let v : LocalModel g.row.T.Denot g.row.J.Denot = c.self.view_is 0 in
-    let cell : ℕ = number_of c.args.right in let found : ℕ = c.into_contents-held.result.1 in
-    let new : LocalState _ = c.into_contents-held.new.self in let is = c.into_contents-held.ensures.freed in
+    let v : LocalModel g.row.T.Denot g.row.J.Denot = c.self.view_is 0 in let cell : ℕ = number_of c.args.right in
+    let found : ℕ = c.into_contents-held.result.1 in let new : LocalState _ = c.into_contents-held.new.self in let is = c.into_contents-held.ensures.freed in
     let freed : LocalModel g.row.T.Denot g.row.J.Denot = record { member = new; entries = c.self.inside.ledger.entries } in
     let tied : WordsMatchValues freed.member freed.entries
     = λ one. tied_freed v cell found new is (c.self.invariant (sym (ap (λ (m : LocalState _). m.limits.participants) is.writes.member) ∙ one)) in

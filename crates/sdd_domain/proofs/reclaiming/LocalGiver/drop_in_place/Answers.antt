@@ -17,41 +17,48 @@ use Rattle.sdd_domain.specs.SpaceIds.{home_in}
 use Rattle.sdd_domain.proofs.Altered.{alone_there, beside_others, beside_tied, beside_world, handed_on, owned_there, stays_there, stays_tied}
 use Rattle.sdd_domain.proofs.Dropped.{drops_now, tied_dropped}
 use Rattle.sdd_domain.proofs.Sound.{lone_true}
+use Rattle.sdd_domain.proofs.reclaiming.LocalGiver.drop_in_place.Given.{Over}
+use Rattle.sdd_domain.proofs.reclaiming.LocalGiver.drop_in_place.Goals.{After-drop_in_place}
 use Rattle.sdd_domain.proofs.reclaiming.LocalGiver.drop_in_place.Goals as goal
+
+-- a lone participant knows the owner
+recalled : (g : Over) (c : After-drop_in_place g) → IsLone (c.self.view_is 0).member
+    → (x : Gv) × KnowsOwner (c.self.view_is 0).member (number_of c.args.right) (is_shared c.args.kind) x
+recalled g c lone = let told = c.drop_in_place.ensures.recalled lone in (told.0, told.2)
+
+owned : (g : Over) (c : After-drop_in_place g) → IsLone c.args.self.now.member
+    → IsOwnedBy (kind_of c.args.right) (standing_at (world_of c.args.self.now) (number_of c.args.right))
+owned g c lone = let p : LocalModel g.row.T.Denot g.row.J.Denot = c.args.self.now in let k : ℕ = number_of c.args.right in
+    subst (λ (x : StandingKind). IsOwnedBy x (standing_at (world_of p) k)) (sym c.requires.kind)
+    (owned_there (c.self.view_is 0) p c.self.view_is c.self.invariant k c.args.kind (recalled g c) (lone_true p.member lone))
 
 -- the owner stays
 pub invariant_of-self : goal.invariant_of-self
 invariant_of-self g c = let v : LocalModel g.row.T.Denot g.row.J.Denot = c.self.view_is 0 in
     let m : LocalState _ = c.drop_in_place.new.self in
     let right = c.args.right in let kind = c.args.kind in let k : ℕ = number_of right in let p : LocalModel g.row.T.Denot g.row.J.Denot = c.args.self.now in
-    let recalled : IsLone v.member → (x : Gv) × KnowsOwner v.member k (is_shared kind) x
-    = λ one. (let told = c.drop_in_place.ensures.recalled one in (told.0, told.2)) in
+    let recalled = recalled g (goal.at.invariant_of-self g c).After-drop_in_place in
     stays_tied v p c.self.view_is c.self.invariant k kind recalled m c.in_err-value.field-0.0.1 c.in_err-value.ensures.gone.1
 
 pub returns-in_err-value : goal.returns-in_err-value
 returns-in_err-value g c =
     let v : LocalModel g.row.T.Denot g.row.J.Denot = c.self.view_is 0 in let m : LocalState _ = c.drop_in_place.new.self in let right = c.args.right in
     let kind = c.args.kind in let k : ℕ = number_of right in let p : LocalModel g.row.T.Denot g.row.J.Denot = c.args.self.now in
-    let recalled : IsLone v.member → (x : Gv) × KnowsOwner v.member k (is_shared kind) x
-    = λ one. (let told = c.drop_in_place.ensures.recalled one in (told.0, told.2)) in
-    record {
+    let recalled = recalled g (goal.at.returns-in_err-value g c).After-drop_in_place in record {
       own = search rules;
       known = search rules;
       kept = search rules;
       back = search rules;
-      owned = λ lone. subst (λ (x : StandingKind). IsOwnedBy x (standing_at (world_of p) k)) (sym c.requires.kind)
-        (owned_there v p c.self.view_is c.self.invariant k kind recalled (lone_true p.member lone));
+      owned = owned g (goal.at.returns-in_err-value g c).After-drop_in_place;
       exact = λ lone. handed_on _ _ c.from_residual.result c.in_err-value.field-0.0 c.from_residual.ensures.1
         (stays_there v p c.self.view_is c.self.invariant k kind recalled m c.in_err-value.field-0.0.1 c.in_err-value.ensures.gone.1 (lone_true p.member lone));
     }
 
 -- it was the last
 pub invariant_of-self-in-Some : goal.invariant_of-self-in-Some
-invariant_of-self-in-Some g c one = let v : LocalModel g.row.T.Denot g.row.J.Denot = c.self.view_is 0 in
-    let m : LocalState _ = c.drop_in_place.new.self in
-    let right = c.args.right in let kind = c.args.kind in let k : ℕ = number_of right in let p : LocalModel g.row.T.Denot g.row.J.Denot = c.args.self.now in
-    let recalled : IsLone v.member → (x : Gv) × KnowsOwner v.member k (is_shared kind) x
-    = λ one. (let told = c.drop_in_place.ensures.recalled one in (told.0, told.2)) in
+invariant_of-self-in-Some g c one =
+    let v : LocalModel g.row.T.Denot g.row.J.Denot = c.self.view_is 0 in let m : LocalState _ = c.drop_in_place.new.self in let right = c.args.right in
+    let kind = c.args.kind in let k : ℕ = number_of right in let recalled = recalled g (goal.at.invariant_of-self-in-Some g c).After-drop_in_place in
     let did = subst (λ (o : Option g.row.T.Denot). MatchOption o (GoesBeside k (is_shared kind) v.member m)
     (λ value. HasValue (showing g.row.T value) right × DropsAt k (is_shared kind) v.member m × AreOf (home_in v.member) (g.T.Item.holds value)))
     c.in-Some.is c.in_ok-value.ensures.gone in
@@ -62,20 +69,13 @@ invariant_of-self-in-Some g c one = let v : LocalModel g.row.T.Denot g.row.J.Den
     tied_dropped g.row.T v (c.self.invariant lone) c.codes.ensures k (is_shared kind) c.in-Some.value (knows lone) m did.1
 
 pub returns-in-Some-clause-owned : goal.returns-in-Some-clause-owned
-returns-in-Some-clause-owned g c lone = let v : LocalModel g.row.T.Denot g.row.J.Denot = c.self.view_is 0 in
-    let m : LocalState _ = c.drop_in_place.new.self in
-    let right = c.args.right in let kind = c.args.kind in let k : ℕ = number_of right in let p : LocalModel g.row.T.Denot g.row.J.Denot = c.args.self.now in
-    let recalled : IsLone v.member → (x : Gv) × KnowsOwner v.member k (is_shared kind) x
-    = λ one. (let told = c.drop_in_place.ensures.recalled one in (told.0, told.2)) in
-    subst (λ (x : StandingKind). IsOwnedBy x (standing_at (world_of p) k)) (sym c.requires.kind)
-    (owned_there v p c.self.view_is c.self.invariant k kind recalled (lone_true p.member lone))
+returns-in-Some-clause-owned g c = owned g (goal.at.returns-in-Some-clause-owned g c).After-drop_in_place
 
 pub returns-in-Some-clause-exact : goal.returns-in-Some-clause-exact
 returns-in-Some-clause-exact g c exact = let v : LocalModel g.row.T.Denot g.row.J.Denot = c.self.view_is 0 in
     let m : LocalState _ = c.drop_in_place.new.self in
     let right = c.args.right in let kind = c.args.kind in let k : ℕ = number_of right in let p : LocalModel g.row.T.Denot g.row.J.Denot = c.args.self.now in
-    let recalled : IsLone v.member → (x : Gv) × KnowsOwner v.member k (is_shared kind) x
-    = λ one. (let told = c.drop_in_place.ensures.recalled one in (told.0, told.2)) in
+    let recalled = recalled g (goal.at.returns-in-Some-clause-exact g c).After-drop_in_place in
     let did = subst (λ (o : Option g.row.T.Denot). MatchOption o (GoesBeside k (is_shared kind) v.member m)
     (λ value. HasValue (showing g.row.T value) right × DropsAt k (is_shared kind) v.member m × AreOf (home_in v.member) (g.T.Item.holds value)))
     c.in-Some.is c.in_ok-value.ensures.gone in
@@ -93,31 +93,22 @@ returns-in-Some-clause-exact g c exact = let v : LocalModel g.row.T.Denot g.row.
 
 -- it went beside others
 pub invariant_of-self-in-None : goal.invariant_of-self-in-None
-invariant_of-self-in-None g c = let v : LocalModel g.row.T.Denot g.row.J.Denot = c.self.view_is 0 in
-    let m : LocalState _ = c.drop_in_place.new.self in
-    let right = c.args.right in let kind = c.args.kind in let k : ℕ = number_of right in let p : LocalModel g.row.T.Denot g.row.J.Denot = c.args.self.now in
-    let recalled : IsLone v.member → (x : Gv) × KnowsOwner v.member k (is_shared kind) x
-    = λ one. (let told = c.drop_in_place.ensures.recalled one in (told.0, told.2)) in
+invariant_of-self-in-None g c =
+    let v : LocalModel g.row.T.Denot g.row.J.Denot = c.self.view_is 0 in let m : LocalState _ = c.drop_in_place.new.self in let right = c.args.right in
+    let kind = c.args.kind in let k : ℕ = number_of right in let p : LocalModel g.row.T.Denot g.row.J.Denot = c.args.self.now in
+    let recalled = recalled g (goal.at.invariant_of-self-in-None g c).After-drop_in_place in
     let beside = subst (λ (o : Option g.row.T.Denot). MatchOption o (GoesBeside k (is_shared kind) v.member m)
     (λ value. HasValue (showing g.row.T value) right × DropsAt k (is_shared kind) v.member m × AreOf (home_in v.member) (g.T.Item.holds value)))
-    c.in-None.is c.in_ok-value.ensures.gone in
-    beside_tied v p c.self.view_is c.self.invariant k kind recalled m beside
+    c.in-None.is c.in_ok-value.ensures.gone in beside_tied v p c.self.view_is c.self.invariant k kind recalled m beside
 
 pub returns-in-None-clause-owned : goal.returns-in-None-clause-owned
-returns-in-None-clause-owned g c lone = let v : LocalModel g.row.T.Denot g.row.J.Denot = c.self.view_is 0 in
-    let m : LocalState _ = c.drop_in_place.new.self in
-    let right = c.args.right in let kind = c.args.kind in let k : ℕ = number_of right in let p : LocalModel g.row.T.Denot g.row.J.Denot = c.args.self.now in
-    let recalled : IsLone v.member → (x : Gv) × KnowsOwner v.member k (is_shared kind) x
-    = λ one. (let told = c.drop_in_place.ensures.recalled one in (told.0, told.2)) in
-    subst (λ (x : StandingKind). IsOwnedBy x (standing_at (world_of p) k)) (sym c.requires.kind)
-    (owned_there v p c.self.view_is c.self.invariant k kind recalled (lone_true p.member lone))
+returns-in-None-clause-owned g c = owned g (goal.at.returns-in-None-clause-owned g c).After-drop_in_place
 
 pub returns-in-None-clause-exact : goal.returns-in-None-clause-exact
 returns-in-None-clause-exact g c lone = let v : LocalModel g.row.T.Denot g.row.J.Denot = c.self.view_is 0 in
     let m : LocalState _ = c.drop_in_place.new.self in
     let right = c.args.right in let kind = c.args.kind in let k : ℕ = number_of right in let p : LocalModel g.row.T.Denot g.row.J.Denot = c.args.self.now in
-    let recalled : IsLone v.member → (x : Gv) × KnowsOwner v.member k (is_shared kind) x
-    = λ one. (let told = c.drop_in_place.ensures.recalled one in (told.0, told.2)) in
+    let recalled = recalled g (goal.at.returns-in-None-clause-exact g c).After-drop_in_place in
     let beside = subst (λ (o : Option g.row.T.Denot). MatchOption o (GoesBeside k (is_shared kind) v.member m)
     (λ value. HasValue (showing g.row.T value) right × DropsAt k (is_shared kind) v.member m × AreOf (home_in v.member) (g.T.Item.holds value)))
     c.in-None.is c.in_ok-value.ensures.gone in (

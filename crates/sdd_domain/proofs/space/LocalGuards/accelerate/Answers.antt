@@ -1,4 +1,4 @@
-use Rattle.std.proofs.Common.{rules, ◌≡◌, sym, refl, ap, ◌∙◌, subst}
+use Rattle.std.proofs.Common.{rules, sym, refl, ap, ◌∙◌, subst}
 use Rattle.sdd_shared_values.specs.SharedValues.{showing}
 use Rattle.sdd_participants.specs.EpochState as time
 use Rattle.sdd_space.specs.WorldChanges.{accelerated}
@@ -6,16 +6,15 @@ use Rattle.sdd_space.proofs.Housed.{Whole-accelerated}
 use Rattle.sdd_domain.specs.SpaceIds.{home_in}
 use Rattle.sdd_domain.specs.LocalState.{LocalState}
 use Rattle.sdd_domain.specs.Local.{LocalModel, world_of}
-use Rattle.sdd_domain.specs.declared.local.Local.TheInside.{Inside}
 use Rattle.sdd_domain.specs.Sound.{IsSound}
+use Rattle.sdd_domain.proofs.Partners.{same_partner}
 use Rattle.sdd_domain.proofs.Alone.{steps_alone}
 use Rattle.sdd_domain.proofs.Kept.{keeps_own}
 use Rattle.sdd_domain.proofs.Sound.{sound_step}
 use Rattle.sdd_domain.proofs.space.LocalGuards.accelerate.Goals as goal
 
 pub invariant_of-self : goal.invariant_of-self
-invariant_of-self g c = let v : LocalModel g.row.T.Denot g.row.J.Denot = (c.self-inside.view_is 0).partner in
-    let inner : v ≡ c.self.inside.partner = ap (λ (i : Inside g.row.T.Denot g.row.J.Denot). i.partner) c.self-inside.view_is in
+invariant_of-self g c = let v : LocalModel _ _ = (c.self-inside.view_is 0).partner in let inner = same_partner c.self-inside.view_is in
     let did = c.accelerate.ensures in
     sound_step g.T.Item.holds v c.accelerate.new.self (subst (IsSound g.T.Item.holds) (sym inner) c.self.invariant) accelerated Whole-accelerated
     (ap (λ (m : LocalState _). m.due) did) (ap (λ (m : LocalState _). m.slots.closes) did) (ap home_in did)
@@ -23,8 +22,7 @@ invariant_of-self g c = let v : LocalModel g.row.T.Denot g.row.J.Denot = (c.self
     ∙ steps_alone accelerated v (record v { member = record v.member { own = time.accelerated v.member.own } }) first first refl)
 
 pub returns-clause-unmoved : goal.returns-clause-unmoved
-returns-clause-unmoved g c = let v : LocalModel g.row.T.Denot g.row.J.Denot = (c.self-inside.view_is 0).partner in
-    let inner : v ≡ c.self.inside.partner = ap (λ (i : Inside g.row.T.Denot g.row.J.Denot). i.partner) c.self-inside.view_is in
+returns-clause-unmoved g c = let v : LocalModel _ _ = (c.self-inside.view_is 0).partner in let inner = same_partner c.self-inside.view_is in
     record {
       seat = search rules;
       known = search rules;

@@ -3,24 +3,22 @@ use Rattle.sdd_shared_values.specs.SharedValues.{showing}
 use Rattle.sdd_domain.specs.SpaceIds.{home_in}
 use Rattle.sdd_domain.specs.LocalState.{LocalState, IsLone}
 use Rattle.sdd_domain.specs.Local.{LocalModel, world_of}
-use Rattle.sdd_domain.specs.declared.local.Local.TheInside.{Inside}
 use Rattle.sdd_domain.specs.Sound.{IsSound}
+use Rattle.sdd_domain.proofs.Partners.{same_partner}
 use Rattle.sdd_domain.proofs.Exact.{lone_is}
 use Rattle.sdd_domain.proofs.Kept.{keeps_own}
 use Rattle.sdd_domain.proofs.Sound.{sound_step}
 use Rattle.sdd_domain.proofs.space.LocalGuards.count.Goals as goal
 
 pub invariant_of-self : goal.invariant_of-self
-invariant_of-self g c = let v : LocalModel g.row.T.Denot g.row.J.Denot = (c.self-inside.view_is 0).partner in
-    let inner : v ≡ c.self.inside.partner = ap (λ (i : Inside g.row.T.Denot g.row.J.Denot). i.partner) c.self-inside.view_is in
+invariant_of-self g c = let v : LocalModel _ _ = (c.self-inside.view_is 0).partner in let inner = same_partner c.self-inside.view_is in
     let told = c.count.ensures in
     sound_step g.T.Item.holds v c.count.new.self (subst (IsSound g.T.Item.holds) (sym inner) c.self.invariant) (λ w _. w) (λ w _ _ whole. whole)
     (ap (λ (m : LocalState _). m.due) told.member) (ap (λ (m : LocalState _). m.slots.closes) told.member) (ap home_in told.member)
     (λ one. ap (λ (m : LocalState _). world_of (record v { member = m })) (told.member ∙ (λ d. record v.member { known = told.lone one d })))
 
 pub returns-clause-undisturbed : goal.returns-clause-undisturbed
-returns-clause-undisturbed g c = let v : LocalModel g.row.T.Denot g.row.J.Denot = (c.self-inside.view_is 0).partner in
-    let inner : v ≡ c.self.inside.partner = ap (λ (i : Inside g.row.T.Denot g.row.J.Denot). i.partner) c.self-inside.view_is in
+returns-clause-undisturbed g c = let v : LocalModel _ _ = (c.self-inside.view_is 0).partner in let inner = same_partner c.self-inside.view_is in
     record {
       seat = search rules;
       own = search rules;
@@ -30,8 +28,7 @@ returns-clause-undisturbed g c = let v : LocalModel g.row.T.Denot g.row.J.Denot 
     }
 
 pub returns-clause-exact : goal.returns-clause-exact
-returns-clause-exact g c = λ exact. let v : LocalModel g.row.T.Denot g.row.J.Denot = (c.self-inside.view_is 0).partner in
-    let inner : v ≡ c.self.inside.partner = ap (λ (i : Inside g.row.T.Denot g.row.J.Denot). i.partner) c.self-inside.view_is in
+returns-clause-exact g c = λ exact. let v : LocalModel _ _ = (c.self-inside.view_is 0).partner in let inner = same_partner c.self-inside.view_is in
     let same : v ≡ c.args.self.now = inner ∙ c.self.view_is in let told = c.count.ensures in
     let one : IsLone v.member = subst (λ (q : LocalModel g.row.T.Denot g.row.J.Denot). IsLone q.member) (sym same) (lone_is c.args.self.now.member exact) in (
       told.lone one ∙ ap (λ (q : LocalModel g.row.T.Denot g.row.J.Denot). q.member.known) same,

@@ -15,8 +15,7 @@ invariant_of-self g c = let v : LocalModel g.row.T.Denot g.row.J.Denot = c.self.
 
 pub returns : goal.returns
 returns g c =
-    let v : LocalModel g.row.T.Denot g.row.J.Denot = c.self.inside.partner in let e = c.drop_in_place.ensures in
-    record {
+    let v : LocalModel g.row.T.Denot g.row.J.Denot = c.self.inside.partner in let e = c.drop_in_place.ensures in record {
       seat = search rules;
       own = search rules;
       known = search rules;

@@ -17,32 +17,29 @@ use Rattle.sdd_domain.proofs.Refusals.{back_keeps, back_sound, back_tied, back_w
 use Rattle.sdd_domain.proofs.space.LocalInPlaceItems.get_mut.Goals as goal
 
 pub get_mut-requires-clause-held : goal.get_mut-requires-clause-held
-get_mut-requires-clause-held g c = let v : LocalModel g.row.T.Denot g.row.J.Denot = c.self-2.view_is 0 in let same = c.self-2.view_is ∙ c.self.view_is in
-    let right = c.args.right.now in
-    let kind = c.args.kind in let holds = g.T.Item.holds in λ was now r then of_was.
+get_mut-requires-clause-held g c =
+    let same = c.self-2.view_is ∙ c.self.view_is in let holds = g.T.Item.holds in λ was now r then of_was.
     subst (λ (q : LocalModel g.row.T.Denot g.row.J.Denot). AreOf (home_in q.member) (holds now)) (sym same) (c.requires.held was now r then
     (subst (λ (q : LocalModel g.row.T.Denot g.row.J.Denot). AreOf (home_in q.member) (holds was)) same of_was))
 
 pub invariant_of-self : goal.invariant_of-self
-invariant_of-self g c = let v : LocalModel g.row.T.Denot g.row.J.Denot = c.self-2.view_is 0 in let same = c.self-2.view_is ∙ c.self.view_is in
-    let right = c.args.right.now in let kind = c.args.kind in let holds = g.T.Item.holds in let m : LocalState _ = c.get_mut.new.self in
-    let es = c.get_mut.new.ledger.entries in
+invariant_of-self g c =
+    let v : LocalModel g.row.T.Denot g.row.J.Denot = c.self-2.view_is 0 in let same = c.self-2.view_is ∙ c.self.view_is in let right = c.args.right.now in
+    let kind = c.args.kind in let holds = g.T.Item.holds in let m : LocalState _ = c.get_mut.new.self in let es = c.get_mut.new.ledger.entries in
     let recalled : IsLone v.member → (x : Gv) × KnowsOwner v.member (number_of right) (is_shared kind) x =
-    λ lone. (let told = c.get_mut.ensures.recalled lone in (told.0, told.2)) in
-    by_result _ _ c.get_mut.result c.get_mut.ensures.changed
+    λ lone. (let told = c.get_mut.ensures.recalled lone in (told.0, told.2)) in by_result _ _ c.get_mut.result c.get_mut.ensures.changed
     (λ _ did. change_tied g.row.T holds v c.args.self.now same c.self-2.invariant c.codes.ensures right kind c.get_mut.ensures.recalled did.0 did.1 did.2
     m es did.4 did.7)
     (λ e back. back_tied v m es (hindered_back v c.args.self.now same c.self-2.invariant (number_of right) kind recalled m es back.2 e.1 back.3)
     c.self-2.invariant)
 
 pub invariant_of-self-2 : goal.invariant_of-self-2
-invariant_of-self-2 g c = let v : LocalModel g.row.T.Denot g.row.J.Denot = c.self-2.view_is 0 in let same = c.self-2.view_is ∙ c.self.view_is in
-    let right = c.args.right.now in let kind = c.args.kind in let holds = g.T.Item.holds in let m : LocalState _ = c.get_mut.new.self in
-    let es = c.get_mut.new.ledger.entries in
+invariant_of-self-2 g c =
+    let v : LocalModel g.row.T.Denot g.row.J.Denot = c.self-2.view_is 0 in let same = c.self-2.view_is ∙ c.self.view_is in let right = c.args.right.now in
+    let kind = c.args.kind in let holds = g.T.Item.holds in let m : LocalState _ = c.get_mut.new.self in let es = c.get_mut.new.ledger.entries in
     let recalled : IsLone v.member → (x : Gv) × KnowsOwner v.member (number_of right) (is_shared kind) x =
     λ lone. (let told = c.get_mut.ensures.recalled lone in (told.0, told.2)) in
-    let sound = subst (IsSound holds) (sym c.self-2.view_is) c.self.invariant in
-    by_result _ _ c.get_mut.result c.get_mut.ensures.changed
+    let sound = subst (IsSound holds) (sym c.self-2.view_is) c.self.invariant in by_result _ _ c.get_mut.result c.get_mut.ensures.changed
     (λ _ did. change_sound g.row.T holds v c.args.self.now same c.self-2.invariant c.codes.ensures right kind
     c.get_mut.ensures.recalled did.0 did.1 did.2 m es did.4 did.7 did.6 sound)
     (λ e back. back_sound v m es (hindered_back v c.args.self.now same c.self-2.invariant (number_of right) kind recalled m es back.2 e.1 back.3)
@@ -57,13 +54,12 @@ returns-clause-owned g c exact = let v : LocalModel g.row.T.Denot g.row.J.Denot 
     (owned_there v p same c.self-2.invariant (number_of right) kind recalled exact)
 
 pub returns-clause-exact : goal.returns-clause-exact
-returns-clause-exact g c exact = let v : LocalModel g.row.T.Denot g.row.J.Denot = c.self-2.view_is 0 in let same = c.self-2.view_is ∙ c.self.view_is in
-    let right = c.args.right.now in let kind = c.args.kind in let holds = g.T.Item.holds in let m : LocalState _ = c.get_mut.new.self in
-    let es = c.get_mut.new.ledger.entries in
+returns-clause-exact g c exact =
+    let v : LocalModel g.row.T.Denot g.row.J.Denot = c.self-2.view_is 0 in let same = c.self-2.view_is ∙ c.self.view_is in let right = c.args.right.now in
+    let kind = c.args.kind in let holds = g.T.Item.holds in let m : LocalState _ = c.get_mut.new.self in let es = c.get_mut.new.ledger.entries in
     let p : LocalModel g.row.T.Denot g.row.J.Denot = c.args.self.now in
     let recalled : IsLone v.member → (x : Gv) × KnowsOwner v.member (number_of right) (is_shared kind) x =
-    λ lone. (let told = c.get_mut.ensures.recalled lone in (told.0, told.2)) in
-    by_either _ _ _ _ c.get_mut.result c.get_mut.ensures.changed
+    λ lone. (let told = c.get_mut.ensures.recalled lone in (told.0, told.2)) in by_either _ _ _ _ c.get_mut.result c.get_mut.ensures.changed
     (λ _ did. (
       record {
         alone = alone_there v p same c.self-2.invariant (number_of right) kind recalled did.4.sole exact;
@@ -87,12 +83,11 @@ returns-clause-exact g c exact = let v : LocalModel g.row.T.Denot g.row.J.Denot 
     ))
 
 pub returns-clause-keeps : goal.returns-clause-keeps
-returns-clause-keeps g c = let v : LocalModel g.row.T.Denot g.row.J.Denot = c.self-2.view_is 0 in let same = c.self-2.view_is ∙ c.self.view_is in
-    let right = c.args.right.now in let kind = c.args.kind in let holds = g.T.Item.holds in let m : LocalState _ = c.get_mut.new.self in
-    let es = c.get_mut.new.ledger.entries in
+returns-clause-keeps g c =
+    let v : LocalModel g.row.T.Denot g.row.J.Denot = c.self-2.view_is 0 in let same = c.self-2.view_is ∙ c.self.view_is in let right = c.args.right.now in
+    let kind = c.args.kind in let holds = g.T.Item.holds in let m : LocalState _ = c.get_mut.new.self in let es = c.get_mut.new.ledger.entries in
     let recalled : IsLone v.member → (x : Gv) × KnowsOwner v.member (number_of right) (is_shared kind) x =
-    λ lone. (let told = c.get_mut.ensures.recalled lone in (told.0, told.2)) in
-    by_either _ _ _ _ c.get_mut.result c.get_mut.ensures.changed
+    λ lone. (let told = c.get_mut.ensures.recalled lone in (told.0, told.2)) in by_either _ _ _ _ c.get_mut.result c.get_mut.ensures.changed
     (λ _ did. change_keeps g.row.T holds v c.args.self.now same c.self-2.invariant c.codes.ensures
     right kind c.get_mut.ensures.recalled did.0 did.1 did.2 m es did.4 did.7)
     (λ e back i u h. back_keeps v m es

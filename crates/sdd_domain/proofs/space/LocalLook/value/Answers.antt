@@ -1,14 +1,13 @@
-use Rattle.std.proofs.Common.{◌≡◌, subst, ◌∙◌, ap}
+use Rattle.std.proofs.Common.{subst, ◌∙◌}
 use Rattle.sdd_space.specs.OwnerOrCell.{SpaceId, AreOf}
 use Rattle.sdd_domain.specs.SpaceIds.{home_in}
 use Rattle.sdd_domain.specs.Local.{LocalModel}
-use Rattle.sdd_domain.specs.declared.local.Local.TheInside.{Inside}
+use Rattle.sdd_domain.proofs.Partners.{same_partner}
 use Rattle.sdd_domain.proofs.Housed.{of_domain}
 use Rattle.sdd_domain.proofs.space.LocalLook.value.Goals as goal
 
 pub returns-clause-held : goal.returns-clause-held
-returns-clause-held g c = let v : LocalModel g.row.T.Denot g.row.J.Denot = (c.self-inside.view_is 0).partner in
-    let inner : v ≡ c.self.inside.partner = ap (λ (i : Inside g.row.T.Denot g.row.J.Denot). i.partner) c.self-inside.view_is in
+returns-clause-held g c = let v : LocalModel _ _ = (c.self-inside.view_is 0).partner in let inner = same_partner c.self-inside.view_is in
     let d = c.domain.result.now in let hs = g.T.Item.holds c.view.result.now in
     let here = subst (λ (h : SpaceId). AreOf h hs) c.domain.ensures.home (of_domain d.limits d.board d.shelf d.limited.1 d.shelved.0 hs c.view.ensures.fits) in
     subst (λ (p : LocalModel g.row.T.Denot g.row.J.Denot). AreOf (home_in p.member) hs) (inner ∙ c.self.view_is) here

@@ -1,15 +1,14 @@
-use Rattle.std.proofs.Common.{◌≡◌, sym, ap, ◌∙◌, subst, rules}
+use Rattle.std.proofs.Common.{sym, ◌∙◌, subst, rules}
 use Rattle.sdd_shared_values.specs.SharedValues.{showing}
 use Rattle.sdd_rights.specs.Right.{number_of}
 use Rattle.sdd_domain.specs.Local.{LocalModel}
-use Rattle.sdd_domain.specs.declared.local.Local.TheInside.{Inside}
 use Rattle.sdd_domain.specs.Sound.{IsSound}
+use Rattle.sdd_domain.proofs.Partners.{same_partner}
 use Rattle.sdd_domain.proofs.RawWorld.{puts_tied, puts_sound, puts_stood, puts_world, puts_undisturbed}
 use Rattle.sdd_domain.proofs.space.LocalRawItems.into_raw.Goals as goal
 
 pub invariant_of-self : goal.invariant_of-self
-invariant_of-self g c = let v : LocalModel g.row.T.Denot g.row.J.Denot = (c.self-inside.view_is 0).partner in
-    let inner : v ≡ c.self.inside.partner = ap (λ (i : Inside g.row.T.Denot g.row.J.Denot). i.partner) c.self-inside.view_is in
+invariant_of-self g c = let v : LocalModel _ _ = (c.self-inside.view_is 0).partner in let inner = same_partner c.self-inside.view_is in
     let e = c.into_raw.ensures in puts_sound v c.into_raw.new.self (number_of c.args.right) e.out c.self-inside.invariant e.recalled g.T.Item.holds
     (subst (IsSound g.T.Item.holds) (sym inner) c.self.invariant)
 
@@ -19,8 +18,7 @@ invariant_of-self-inside g c = let v : LocalModel g.row.T.Denot g.row.J.Denot = 
 
 pub returns : goal.returns
 returns g c =
-    let v : LocalModel g.row.T.Denot g.row.J.Denot = (c.self-inside.view_is 0).partner in
-    let inner : v ≡ c.self.inside.partner = ap (λ (i : Inside g.row.T.Denot g.row.J.Denot). i.partner) c.self-inside.view_is in let e = c.into_raw.ensures in
+    let v : LocalModel _ _ = (c.self-inside.view_is 0).partner in let inner = same_partner c.self-inside.view_is in let e = c.into_raw.ensures in
     record {
       undisturbed = puts_undisturbed v c.into_raw.new.self (number_of c.args.right) e.out c.self-inside.invariant e.recalled c.args.self.now
         (inner ∙ c.self.view_is) (showing g.row.T) g.T.Item.holds;

@@ -21,19 +21,14 @@ loop-value-init g c = record {
       ([], es, second, refl, none-behind place (cells_in c.args.self.now) (g.S.Caller.world c.args.s.now) es second queue);
 }
 
-pub add-requires-clause-seated : goal.add-requires-clause-seated
-add-requires-clause-seated g c = subst (λ (s : CallerId). IsSeated s) (sym c.loop-value.invariant.seat) c.requires.seated
-
-pub add-requires-clause-home : goal.add-requires-clause-home
-add-requires-clause-home g c = subst (λ (s : CallerId). AreOfCells s.home.cells c.args.self.now) (sym c.loop-value.invariant.seat) c.requires.home
-
-pub add-requires-clause-value : goal.add-requires-clause-value
-add-requires-clause-value g c =
-    subst (λ (s : CallerId). AreOf s.home (g.T.Item.holds c.in-Some.value)) (sym c.loop-value.invariant.seat)
-    (c.requires.values c.loop-value.items c.next.new.self c.in-Some.value c.in-Some.ensures.steps)
-
-pub add-requires-clause-reader : goal.add-requires-clause-reader
-add-requires-clause-reader g c = c.requires.reader ∙ ap (λ (s : CallerId). s.reader) (sym c.loop-value.invariant.seat)
+pub add-requires : goal.add-requires
+add-requires g c = record {
+  seated = subst (λ (s : CallerId). IsSeated s) (sym c.loop-value.invariant.seat) c.requires.seated;
+  home = subst (λ (s : CallerId). AreOfCells s.home.cells c.args.self.now) (sym c.loop-value.invariant.seat) c.requires.home;
+  value = subst (λ (s : CallerId). AreOf s.home (g.T.Item.holds c.in-Some.value)) (sym c.loop-value.invariant.seat)
+    (c.requires.values c.loop-value.items c.next.new.self c.in-Some.value c.in-Some.ensures.steps);
+  reader = c.requires.reader ∙ ap (λ (s : CallerId). s.reader) (sym c.loop-value.invariant.seat);
+}
 
 pub loop-value-preserved : goal.loop-value-preserved
 loop-value-preserved g c = record {

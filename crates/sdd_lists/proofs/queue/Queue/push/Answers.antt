@@ -12,7 +12,6 @@ use Rattle.sdd_lists.proofs.queue.Queue.push.Goals as goal
 
 pub returns-in-Ok-clause-list : goal.returns-in-Ok-clause-list
 returns-in-Ok-clause-list g c = λ e es second queue.
-    let w = g.S.Caller.world c.args.s.now in
     let q : QueueCells = cells_in c.args.self.now in
     let new = g.S.Caller.world c.push_behind.new.s in
     let at1 = c.in-Ok.ensures.undisturbed.seat in

@@ -37,8 +37,7 @@ returns-in-Ok-push_last-clause-list g c = λ e es second queue last.
     let new = g.S.Caller.world c.push_last.new.s in
     let slot = slot_of c.in-Ok-push_last.owner in
     let pushed = c.in-Ok-push_last.ensures.exact ex1 es second here last clear (fresh-far link_of w l free q.oldest no_tag es queue.list)
-    (fresh-newest link_of w l free q es second queue) (fresh-apart link_of w l free es queue.list.linked) in
-    record {
+    (fresh-newest link_of w l free q es second queue) (fresh-apart link_of w l free es queue.list.linked) in record {
       entry = entry;
       value = c.in-Ok.ensures.value;
       link = free;
@@ -56,7 +55,6 @@ returns-then-not-free-clause-refused g c = λ e.
 
 pub returns-in-Err-clause-refused : goal.returns-in-Err-clause-refused
 returns-in-Err-clause-refused g c = λ e.
-    let w = g.S.Caller.world c.args.s.now in
     let seen = c.has_slot-free.ensures.exact e in
     let ex0 : IsExact (g.S.Caller.seat c.has_slot-free.new.self) = subst (λ (s : CallerId). IsExact s) (sym c.has_slot-free.ensures.undisturbed.seat) e in
     let yes : c.has_slot-free.result ≡ true = c.if-not-free.false in

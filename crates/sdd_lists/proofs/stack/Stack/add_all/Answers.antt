@@ -1,4 +1,4 @@
-use Rattle.std.proofs.Common.{◌≡◌, ◌⊎◌, ◌∷◌, ◌++◌, Some, [], ◌∙◌, ap, refl, sym, subst}
+use Rattle.std.proofs.Common.{◌≡◌, ◌⊎◌, ◌∷◌, ◌++◌, Some, [], ◌∙◌, ap, refl, sym, subst, rules}
 use Rattle.sdd_core.specs.declared.refused.Refused.TheVariants.{NoCell, NoSlot}
 use Rattle.sdd_space.specs.CallerId.{CallerId, IsExact, IsSeated}
 use Rattle.sdd_space.specs.OwnerOrCell.{AreOf}
@@ -20,19 +20,14 @@ loop-value-init g c = record {
       ([], es, refl, none-added (g.S.Caller.seat c.args.s.now).place (cell_in c.args.self.now) (g.S.Caller.world c.args.s.now) es list);
 }
 
-pub add-requires-clause-seated : goal.add-requires-clause-seated
-add-requires-clause-seated g c = subst (λ (s : CallerId). IsSeated s) (sym c.loop-value.invariant.seat) c.requires.seated
-
-pub add-requires-clause-home : goal.add-requires-clause-home
-add-requires-clause-home g c = c.requires.home ∙ ap (λ (s : CallerId). s.home.cells) (sym c.loop-value.invariant.seat)
-
-pub add-requires-clause-value : goal.add-requires-clause-value
-add-requires-clause-value g c =
-    subst (λ (s : CallerId). AreOf s.home (g.T.Item.holds c.in-Some.value)) (sym c.loop-value.invariant.seat)
-    (c.requires.values c.loop-value.items c.next.new.self c.in-Some.value c.in-Some.ensures.steps)
-
-pub add-requires-clause-reader : goal.add-requires-clause-reader
-add-requires-clause-reader g c = c.requires.reader ∙ ap (λ (s : CallerId). s.reader) (sym c.loop-value.invariant.seat)
+pub add-requires : goal.add-requires
+add-requires g c = record {
+  seated = subst (λ (s : CallerId). IsSeated s) (sym c.loop-value.invariant.seat) c.requires.seated;
+  home = c.requires.home ∙ ap (λ (s : CallerId). s.home.cells) (sym c.loop-value.invariant.seat);
+  value = subst (λ (s : CallerId). AreOf s.home (g.T.Item.holds c.in-Some.value)) (sym c.loop-value.invariant.seat)
+    (c.requires.values c.loop-value.items c.next.new.self c.in-Some.value c.in-Some.ensures.steps);
+  reader = c.requires.reader ∙ ap (λ (s : CallerId). s.reader) (sym c.loop-value.invariant.seat);
+}
 
 pub loop-value-preserved : goal.loop-value-preserved
 loop-value-preserved g c = record {
@@ -58,22 +53,16 @@ loop-value-preserved g c = record {
       );
 }
 
-pub returns-in-Err-clause-unmoved : goal.returns-in-Err-clause-unmoved
-returns-in-Err-clause-unmoved g c = record {
-  seat = c.add.ensures.unmoved.seat ∙ c.loop-value.invariant.seat;
-  known = knows-on c.loop-value.invariant.known c.add.ensures.unmoved.known;
-  shown = λ k v was. c.add.ensures.unmoved.shown k v (c.loop-value.invariant.keeps k v was);
-}
-
-pub returns-in-Err-clause-own : goal.returns-in-Err-clause-own
-returns-in-Err-clause-own g c = λ start grown. c.add.ensures.own start (c.loop-value.invariant.own start grown)
-
-pub returns-in-Err-clause-back : goal.returns-in-Err-clause-back
-returns-in-Err-clause-back g c =
-    subst (λ (s : CallerId). (c.in-Err.back.1 ≡ NoSlot) ⊎ IsRefusedBy s NoCell c.in-Err.back.1) c.loop-value.invariant.seat c.in-Err.ensures.back.1
-
-pub returns-in-Err-clause-list : goal.returns-in-Err-clause-list
-returns-in-Err-clause-list g c = λ e es list.
+pub returns-in-Err : goal.returns-in-Err
+returns-in-Err g c = record {
+  unmoved = record {
+    seat = c.add.ensures.unmoved.seat ∙ c.loop-value.invariant.seat;
+    known = knows-on c.loop-value.invariant.known c.add.ensures.unmoved.known;
+    shown = λ k v was. c.add.ensures.unmoved.shown k v (c.loop-value.invariant.keeps k v was);
+  };
+  own = λ start grown. c.add.ensures.own start (c.loop-value.invariant.own start grown);
+  back = subst (λ (s : CallerId). (c.in-Err.back.1 ≡ NoSlot) ⊎ IsRefusedBy s NoCell c.in-Err.back.1) c.loop-value.invariant.seat c.in-Err.ensures.back.1;
+  list = λ e es list.
     let w = g.S.Caller.world c.args.s.now in
     let place = (g.S.Caller.seat c.args.s.now).place in
     let inv = c.loop-value.invariant.list e es list in
@@ -89,18 +78,17 @@ returns-in-Err-clause-list g c = λ e es list.
         ),
         subst (λ (y : World _). RefusesPush y c.in-Err.back.1) (sym why.0) why.1,
       ),
-    )
-
-pub returns-clause-unmoved : goal.returns-clause-unmoved
-returns-clause-unmoved g c = record {
-  seat = c.loop-value.invariant.seat;
-  known = c.loop-value.invariant.known;
-  shown = c.loop-value.invariant.keeps;
+    );
 }
 
-pub returns-clause-own : goal.returns-clause-own
-returns-clause-own g c = c.loop-value.invariant.own
-
-pub returns-clause-list : goal.returns-clause-list
-returns-clause-list g c = λ e es list.
-    let inv = c.loop-value.invariant.list e es list in (inv.0, inv.1, inv.3, (c.loop-value.items, inv.2, c.in_default.ensures.steps))
+pub returns : goal.returns
+returns g c = record {
+  unmoved = record {
+    seat = c.loop-value.invariant.seat;
+    known = c.loop-value.invariant.known;
+    shown = c.loop-value.invariant.keeps;
+  };
+  own = c.loop-value.invariant.own;
+  back = search rules;
+  list = λ e es list. let inv = c.loop-value.invariant.list e es list in (inv.0, inv.1, inv.3, (c.loop-value.items, inv.2, c.in_default.ensures.steps));
+}

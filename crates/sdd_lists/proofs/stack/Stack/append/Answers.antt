@@ -65,7 +65,6 @@ returns-then-not-free-clause-refused g c = λ e.
 
 pub returns-in-Err-clause-refused : goal.returns-in-Err-clause-refused
 returns-in-Err-clause-refused g c = λ e.
-    let w = g.S.Caller.world c.args.s.now in
     let seen = c.has_slot-free.ensures.exact e in
     let ex0 : IsExact (g.S.Caller.seat c.has_slot-free.new.self) = subst (λ (s : CallerId). IsExact s) (sym c.has_slot-free.ensures.undisturbed.seat) e in
     let yes : c.has_slot-free.result ≡ true = c.if-not-free.false in

@@ -37,8 +37,7 @@ returns-in-Ok-push_first-clause-list g c = λ e es list.
     let clear : entry_at (g.S.Caller.world c.new.new.s).cells l ≡ Some (record { held = None; tag = no_tag }) =
     ap (λ (x : World _). entry_at x.cells l) world_u ∙ fresh-clear link_of w l free in
     let pushed = c.in-Ok-push_first.ensures.exact ex1 no_tag es here clear
-    (fresh-far link_of w l free cell no_tag es list) (fresh-apart link_of w l free es list.linked) in
-    record {
+    (fresh-far link_of w l free cell no_tag es list) (fresh-apart link_of w l free es list.linked) in record {
       entry = entry;
       value = c.in-Ok.ensures.value;
       link = free;
@@ -58,7 +57,6 @@ returns-then-not-free-clause-refused g c = λ e.
 
 pub returns-in-Err-clause-refused : goal.returns-in-Err-clause-refused
 returns-in-Err-clause-refused g c = λ e.
-    let w = g.S.Caller.world c.args.s.now in
     let seen = c.has_slot-free.ensures.exact e in
     let ex0 : IsExact (g.S.Caller.seat c.has_slot-free.new.self) = subst (λ (s : CallerId). IsExact s) (sym c.has_slot-free.ensures.undisturbed.seat) e in
     let yes : c.has_slot-free.result ≡ true = c.if-not-free.false in

@@ -1,15 +1,13 @@
 use Rattle.std.proofs.Common.{◌≡◌, ℕ, Some, ap, ◌∙◌, subst}
 use Rattle.sdd_rights.specs.Right.{number_of}
 use Rattle.sdd_domain.specs.Local.{LocalModel, world_of}
-use Rattle.sdd_domain.specs.LocalState.{IsLone}
-use Rattle.sdd_domain.specs.declared.local.Local.TheInside.{Inside}
+use Rattle.sdd_domain.proofs.Partners.{same_partner}
 use Rattle.sdd_domain.proofs.CellWorld.{full_cell}
 use Rattle.sdd_domain.proofs.Steps.{lone_begun}
 use Rattle.sdd_domain.proofs.space.cells.LocalCells.cell.Goals as goal
 
 pub returns-clause-exact : goal.returns-clause-exact
-returns-clause-exact g c = λ exact. let v : LocalModel g.row.T.Denot g.row.J.Denot = (c.self-inside.view_is 0).partner in
-    let inner : v ≡ c.self.inside.partner = ap (λ (i : Inside g.row.T.Denot g.row.J.Denot). i.partner) c.self-inside.view_is in
+returns-clause-exact g c = λ exact. let v : LocalModel _ _ = (c.self-inside.view_is 0).partner in let inner = same_partner c.self-inside.view_is in
     let lone = lone_begun v c.args.self.now (inner ∙ c.self.view_is) exact in
     let f = c.cell.ensures.found in let cell : ℕ = number_of c.args.cell.now in (
       subst (λ (q : LocalModel g.row.T.Denot g.row.J.Denot). Rattle.sdd_participants.specs.Slab.entry_at (world_of q).cells cell ≡ Some c.cell.result)
