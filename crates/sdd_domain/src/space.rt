@@ -331,7 +331,9 @@ impl<T: Item<T>, J: Job> RawItems<T> for Local<'_, T, J> {
     #[inline]
     fn get_guarded_raw<'g>(&mut self, slot: SlotName, guard: &'g Guard) -> Option<&'g T> {
         self.partner.ledger.codes();
-        self.partner.membership.get_guarded_raw(slot.number(), guard)
+        self.partner
+            .membership
+            .get_guarded_raw(slot.number(), guard)
     }
 }
 

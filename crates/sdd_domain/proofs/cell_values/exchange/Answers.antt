@@ -22,15 +22,15 @@ put_down-requires c =
     (subst (λ (x : ℕ). BringsOut c.args.word shared c.args.cell c.take_up.new.token.me x c.exchange_cell.new.token.me) hit (step.2.0 hit)) in record {
       home = search rules;
       knows =
-        let s = c.args.token.now in (
-          ap (λ (m : SeatState). m.0.sizes) out.1 ∙ (ap (λ (v : View). v.sizes) t.view ∙ (ap (λ (m : SeatState). m.0.sizes) a.2.0 ∙ c.requires.knows.0)),
-          ap (λ (m : SeatState). m.0.stakes.book) out.1
-              ∙ (ap (λ (v : View). v.stakes.book) t.view ∙ (ap (λ (m : SeatState). m.0.stakes.book) a.2.0 ∙ c.requires.knows.1)),
-        );
+          let s = c.args.token.now in (
+            ap (λ (m : SeatState). m.0.sizes) out.1 ∙ (ap (λ (v : View). v.sizes) t.view ∙ (ap (λ (m : SeatState). m.0.sizes) a.2.0 ∙ c.requires.knows.0)),
+            ap (λ (m : SeatState). m.0.stakes.book) out.1
+                ∙ (ap (λ (v : View). v.stakes.book) t.view ∙ (ap (λ (m : SeatState). m.0.stakes.book) a.2.0 ∙ c.requires.knows.1)),
+          );
       place = subst (λ (e : _). HasPlace e)
-        (sym (ap (λ (m : SeatState). m.0.epoch) out.1 ∙ (ap (λ (v : View). v.epoch) t.view ∙ ap (λ (m : SeatState). m.0.epoch) a.2.0))) c.requires.place;
+          (sym (ap (λ (m : SeatState). m.0.epoch) out.1 ∙ (ap (λ (v : View). v.epoch) t.view ∙ ap (λ (m : SeatState). m.0.epoch) a.2.0))) c.requires.place;
       rests = ap (λ (m : SeatState). m.0.stakes.moves) out.1
-        ∙ (ap (λ (v : View). v.stakes.moves) t.view ∙ (ap (λ (m : SeatState). m.0.stakes.moves) a.2.0 ∙ c.requires.bare.rests));
+          ∙ (ap (λ (v : View). v.stakes.moves) t.view ∙ (ap (λ (m : SeatState). m.0.stakes.moves) a.2.0 ∙ c.requires.bare.rests));
       quiet = (
         ap (λ (m : SeatState). m.0.slots.drawn) out.1
             ∙ (ap (λ (v : View). v.slots.drawn) t.view ∙ (ap (λ (m : SeatState). m.0.slots.drawn) a.2.0 ∙ c.requires.bare.quiet.drawn)),

@@ -23,9 +23,9 @@ put_down-requires c =
             ∙ (ap (λ (v : View). v.stakes.book) took.3 ∙ ap (λ (m : SeatState). m.0.stakes.book) a.2.0)) ∙ c.requires.knows.1,
       );
       place = subst (λ (e : EpochView). HasPlace e) (sym (ap (λ (m : SeatState). m.0.epoch) freed.2.0.2 ∙ (ap (λ (m : SeatState). m.0.epoch) out.1
-        ∙ (ap (λ (v : View). v.epoch) took.3 ∙ ap (λ (m : SeatState). m.0.epoch) a.2.0)))) c.requires.place;
+          ∙ (ap (λ (v : View). v.epoch) took.3 ∙ ap (λ (m : SeatState). m.0.epoch) a.2.0)))) c.requires.place;
       rests = ap (λ (m : SeatState). m.0.stakes.moves) freed.2.0.2 ∙ (ap (λ (m : SeatState). m.0.stakes.moves) out.1
-        ∙ (ap (λ (v : View). v.stakes.moves) took.3 ∙ ap (λ (m : SeatState). m.0.stakes.moves) a.2.0)) ∙ c.requires.bare.rests;
+          ∙ (ap (λ (v : View). v.stakes.moves) took.3 ∙ ap (λ (m : SeatState). m.0.stakes.moves) a.2.0)) ∙ c.requires.bare.rests;
       quiet = (
         ap (λ (m : SeatState). m.0.slots.drawn) freed.2.0.2 ∙ (ap (λ (m : SeatState). m.0.slots.drawn) out.1
             ∙ (ap (λ (v : View). v.slots.drawn) took.3 ∙ ap (λ (m : SeatState). m.0.slots.drawn) a.2.0)) ∙ c.requires.bare.quiet.drawn,

@@ -30,8 +30,8 @@ cut-requires c =
       knows = (ap (λ (v : View). v.sizes) is ∙ r.knows.0, ap (λ (v : View). v.stakes.book) is ∙ r.knows.1);
       place = subst (λ (k : ℕ). 0 < k) (sym (ap (λ (v : View). v.epoch.state) is)) r.place.0;
       one =
-        let one = owns_at_once b c.args.slot c.args.shared value s c.take_in.new.token c.grasp.new.token c.grasp.new.token took c.in-Some.ensures.0 r.bare in
-        (c.args.slot, one.0, one.1);
+          let one = owns_at_once b c.args.slot c.args.shared value s c.take_in.new.token c.grasp.new.token c.grasp.new.token took c.in-Some.ensures.0 r.bare in
+          (c.args.slot, one.0, one.1);
       free = ap (λ (v : View). v.slots.holds) is ∙ r.bare.quiet.holds;
       rests = ap (λ (v : View). v.stakes.moves) is ∙ r.bare.rests;
     }
@@ -82,8 +82,8 @@ let_go-requires c =
       held = ap (λ (v : View). v.slots.holds) is;
       rests = ap (λ (v : View). v.stakes.moves) is ∙ r.bare.rests;
       told = λ q told _. only_record c.args.slot c.args.shared value q
-        (subst (λ (l : List ShownValue). HasRecord l q)
-        (ap (λ (v : View). v.stakes.owns) is ∙ ap (λ (l : List ShownValue). only c.args.slot c.args.shared value ∷ l) r.bare.untold) told);
+          (subst (λ (l : List ShownValue). HasRecord l q)
+          (ap (λ (v : View). v.stakes.owns) is ∙ ap (λ (l : List ShownValue). only c.args.slot c.args.shared value ∷ l) r.bare.untold) told);
     }
 
 pub cut-requires-2 : goal.cut-requires-2
@@ -96,9 +96,9 @@ cut-requires-2 c =
       knows = (ap (λ (v : View). v.sizes) is ∙ r.knows.0, ap (λ (v : View). v.stakes.book) is ∙ r.knows.1);
       place = subst (λ (k : ℕ). 0 < k) (sym (ap (λ (v : View). v.epoch.state) is)) r.place.0;
       one =
-        let one = owns_one b c.args.slot c.args.shared value s c.take_in.new.token c.grasp.new.token took c.in_default.ensures.0 c.in_default.ensures.1
-        (places_of b) c.none_is_open.result c.none_is_open.new.token c.none_is_open.ensures r.bare r.closes c.let_go.new.token c.let_go.ensures in
-        (c.args.slot, one.0, one.1);
+          let one = owns_one b c.args.slot c.args.shared value s c.take_in.new.token c.grasp.new.token took c.in_default.ensures.0 c.in_default.ensures.1
+          (places_of b) c.none_is_open.result c.none_is_open.new.token c.none_is_open.ensures r.bare r.closes c.let_go.new.token c.let_go.ensures in
+          (c.args.slot, one.0, one.1);
       free = search rules;
       rests = ap (λ (v : View). v.stakes.moves) is ∙ r.bare.rests;
     }

@@ -63,11 +63,11 @@ part_with-requires c =
       place = subst (λ (x : EpochView). HasPlace x) (sym (ap (λ (v : View). v.epoch) is)) c.requires.place;
       rests = ap (λ (v : View). v.stakes.moves) is ∙ c.requires.bare.rests;
       quiet =
-        let q = c.requires.bare.quiet in (
-          ap (λ (v : View). v.slots.owns) is ∙ ap (λ (l : List ℕ). slot ∷ l) q.owns,
-          ap (λ (v : View). v.slots.drawn) is ∙ q.drawn,
-          ap (λ (v : View). v.slots.holds) is ∙ q.holds,
-        );
+          let q = c.requires.bare.quiet in (
+            ap (λ (v : View). v.slots.owns) is ∙ ap (λ (l : List ℕ). slot ∷ l) q.owns,
+            ap (λ (v : View). v.slots.drawn) is ∙ q.drawn,
+            ap (λ (v : View). v.slots.holds) is ∙ q.holds,
+          );
       told = (
         true,
         value,

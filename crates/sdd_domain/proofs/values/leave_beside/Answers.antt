@@ -23,9 +23,9 @@ enter_unit-requires c =
       own = (s.me.0.slots.drawn, ap (λ (v : View). v.slots.drawn) took.3);
       unit = search rules;
       told =
-        let there : IsIn c.take_in.new.token.me.0.stakes.owns c.args.slot value =
-        (0, record { slot = c.args.slot; shared = true; value = value }, ap (λ (v : View). get_elem? v.stakes.owns 0) took.3, refl, refl) in
-        subst (IsIn c.take_in.new.token.me.0.stakes.owns c.args.slot) (sym (c.unit_of.ensures.shown ∙ o.1.2.shows)) there;
+          let there : IsIn c.take_in.new.token.me.0.stakes.owns c.args.slot value =
+          (0, record { slot = c.args.slot; shared = true; value = value }, ap (λ (v : View). get_elem? v.stakes.owns 0) took.3, refl, refl) in
+          subst (IsIn c.take_in.new.token.me.0.stakes.owns c.args.slot) (sym (c.unit_of.ensures.shown ∙ o.1.2.shows)) there;
     }
 
 pub leave-requires : goal.leave-requires

@@ -65,7 +65,7 @@ returns g c =
       view = f.view;
       given = f.given;
       grip = (c.cut_rest-grip.ensures.row (showing g.row.T c.args.value) r.row.0
-        (row_put b c.args.slot (c.places-count.result + 1) c.args.shared
-        (showing g.row.T c.args.value) c.args.token.now c.put.new.seat c.put.new.seat c.put.new.seat
-        r.knows (ap (λ (k : ℕ). k + 1) c.places-count.ensures) r.own.0 r.row.0 r.row.1 put.0 tt put.1)).1;
+          (row_put b c.args.slot (c.places-count.result + 1) c.args.shared
+          (showing g.row.T c.args.value) c.args.token.now c.put.new.seat c.put.new.seat c.put.new.seat
+          r.knows (ap (λ (k : ℕ). k + 1) c.places-count.ensures) r.own.0 r.row.0 r.row.1 put.0 tt put.1)).1;
     }

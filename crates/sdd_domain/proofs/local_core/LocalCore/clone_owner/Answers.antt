@@ -65,26 +65,26 @@ returns-then-add_owner-ge-MOST_SHARED g c =
     let k : ℕ = number_of right in let value : Gv = grip.shown in let slot : ℕ = c.number-slot.result in let is = c.number-slot.ensures in
     let t = c.recall.new.token in record {
       came =
-        let a = c.add_owner.new.token in let n : ℕ = c.add_owner.result in let adds = c.add_owner.ensures value known.views in
-        let many = counts_most n adds.2.several c.if-add_owner-ge-MOST_SHARED.true in
-        let full = full_view b slot value t a n adds many in (
-          n,
-          (
-            refl,
-            subst (λ (x : LocalState _). HasMost k n x (with_token m a)) c.self.view_is record {
-              member = (full.0, noted_at m slot k is true true refl l.token t a same refl known.all (λ i z ws. slice_set ws (behind z i) full.0) adds.0 full.1);
-              counted = adds.2.several;
-              many = many;
-              lone = λ lone. (
-                knew_word m slot k is true true refl l.token t a same refl known.all n adds.2.knew lone,
-                ap (with_token m) (full_same b slot value t a n adds many (ap (λ (y : Seat ValueFraction View). y.me.0.epoch.all) same ∙ known.all lone)
-                    ∙ same),
-              );
-            },
-          ),
-        );
+          let a = c.add_owner.new.token in let n : ℕ = c.add_owner.result in let adds = c.add_owner.ensures value known.views in
+          let many = counts_most n adds.2.several c.if-add_owner-ge-MOST_SHARED.true in
+          let full = full_view b slot value t a n adds many in (
+            n,
+            (
+              refl,
+              subst (λ (x : LocalState _). HasMost k n x (with_token m a)) c.self.view_is record {
+                member = (full.0, noted_at m slot k is true true refl l.token t a same refl known.all (λ i z ws. slice_set ws (behind z i) full.0) adds.0 full.1);
+                counted = adds.2.several;
+                many = many;
+                lone = λ lone. (
+                  knew_word m slot k is true true refl l.token t a same refl known.all n adds.2.knew lone,
+                  ap (with_token m) (full_same b slot value t a n adds many (ap (λ (y : Seat ValueFraction View). y.me.0.epoch.all) same ∙ known.all lone)
+                      ∙ same),
+                );
+              },
+            ),
+          );
       recalled = subst (λ (x : LocalState _). IsLone x → (value : Gv) × KnowsOwner x (number_of right) true value) c.self.view_is
-        (λ lone. (value, known.tells lone));
+          (λ lone. (value, known.tells lone));
     }
 
 pub draw_unit-requires : goal.draw_unit-requires
@@ -124,8 +124,8 @@ cut-other-requires g c =
       knows = (ap (λ (x : View). x.sizes) v ∙ q.knows.0, ap (λ (x : View). x.stakes.book) v ∙ q.knows.1);
       place = subst (λ (j : ℕ). 0 < j) (sym (ap (λ (x : View). x.epoch.state) v)) (placed b l.place l.own t q).0;
       one =
-        let one = drawn_owns b slot value t a n adds few none c.draw_unit.result.lot c.draw_unit.new.token c.draw_unit.ensures q.knows in
-        (slot, one.0, one.1);
+          let one = drawn_owns b slot value t a n adds few none c.draw_unit.result.lot c.draw_unit.new.token c.draw_unit.ensures q.knows in
+          (slot, one.0, one.1);
       free = ap (λ (x : View). x.slots.holds) v ∙ q.quiet.holds;
       rests = drawn_rests b slot value t a n adds few none c.draw_unit.result.lot c.draw_unit.new.token c.draw_unit.ensures q.knows;
     }
@@ -164,35 +164,35 @@ returns g c =
     let k : ℕ = number_of right in let w = c.witness-owner.result.now in let value : Gv = grip.shown in let slot : ℕ = c.number-slot.result in
     let is = c.number-slot.ensures in let t = c.recall.new.token in let kind = c.requires.kind in record {
       came =
-        let a = c.add_owner.new.token in let n : ℕ = c.add_owner.result in let adds = c.add_owner.ensures value known.views in
-        let few = counts_fewer n adds.2.several (let small = c.if-add_owner-ge-MOST_SHARED.false in omega arith) in let none = bare b l.place l.own t q in
-        let u = c.cut-other.new.token in
-        let left = left_view b slot value t a n adds few none c.draw_unit.result.lot c.draw_unit.new.token c.draw_unit.ensures q.knows u
-        c.cut-other.ensures.participant in
-        let made = c.of_witness.ensures in
-        let unit = other_grip b slot value t a n adds few none c.draw_unit.result.lot c.draw_unit.new.token c.draw_unit.ensures q.knows c.into_grip-grip.result
-        c.into_grip-grip.ensures in (
-          n,
-          (
-            subst (λ (x : LocalState _). AddsAt k n x (with_token m u)) c.self.view_is record {
-              member = noted_at m slot k is true true refl l.token t u same refl known.all (λ i z ws. slice_set ws (behind z i) (n + 1)) left.0 left.2;
-              counted = adds.2.several;
-              left = adds.2.left;
-              few = few;
-              lone = λ lone. knew_word m slot k is true true refl l.token t u same refl known.all n adds.2.knew lone;
-            },
-            record {
-              slot = made.number ∙ is;
-              home = right_anew b m known.on right StandingKind.Shared known.home kind w grip (λ _. known.owner) slot is c.cut-other.result
-                  c.into_grip-grip.result
-                  l.domain.now.limits.slots c.of_witness.result c.cut-other.ensures.owner.0 unit.unit.book_is refl made.home ∙ sym known.home;
-              kind = made.kind ∙ sym kind;
-              views = made.views ∙ (other_shows b slot value t a n adds few none c.draw_unit.result.lot c.draw_unit.new.token c.draw_unit.ensures q.knows
-                  c.cut-other.result.views c.cut-other.ensures.owner.1
-                  ∙ (sym known.views ∙ c.witness-owner.ensures.views));
-            },
-          ),
-        );
+          let a = c.add_owner.new.token in let n : ℕ = c.add_owner.result in let adds = c.add_owner.ensures value known.views in
+          let few = counts_fewer n adds.2.several (let small = c.if-add_owner-ge-MOST_SHARED.false in omega arith) in let none = bare b l.place l.own t q in
+          let u = c.cut-other.new.token in
+          let left = left_view b slot value t a n adds few none c.draw_unit.result.lot c.draw_unit.new.token c.draw_unit.ensures q.knows u
+          c.cut-other.ensures.participant in
+          let made = c.of_witness.ensures in
+          let unit = other_grip b slot value t a n adds few none c.draw_unit.result.lot c.draw_unit.new.token c.draw_unit.ensures q.knows c.into_grip-grip.result
+          c.into_grip-grip.ensures in (
+            n,
+            (
+              subst (λ (x : LocalState _). AddsAt k n x (with_token m u)) c.self.view_is record {
+                member = noted_at m slot k is true true refl l.token t u same refl known.all (λ i z ws. slice_set ws (behind z i) (n + 1)) left.0 left.2;
+                counted = adds.2.several;
+                left = adds.2.left;
+                few = few;
+                lone = λ lone. knew_word m slot k is true true refl l.token t u same refl known.all n adds.2.knew lone;
+              },
+              record {
+                slot = made.number ∙ is;
+                home = right_anew b m known.on right StandingKind.Shared known.home kind w grip (λ _. known.owner) slot is c.cut-other.result
+                    c.into_grip-grip.result
+                    l.domain.now.limits.slots c.of_witness.result c.cut-other.ensures.owner.0 unit.unit.book_is refl made.home ∙ sym known.home;
+                kind = made.kind ∙ sym kind;
+                views = made.views ∙ (other_shows b slot value t a n adds few none c.draw_unit.result.lot c.draw_unit.new.token c.draw_unit.ensures q.knows
+                    c.cut-other.result.views c.cut-other.ensures.owner.1
+                    ∙ (sym known.views ∙ c.witness-owner.ensures.views));
+              },
+            ),
+          );
       recalled = subst (λ (x : LocalState _). IsLone x → (value : Gv) × KnowsOwner x (number_of right) true value) c.self.view_is
-        (λ lone. (value, known.tells lone));
+          (λ lone. (value, known.tells lone));
     }

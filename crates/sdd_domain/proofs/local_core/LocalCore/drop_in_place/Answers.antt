@@ -88,7 +88,7 @@ invariant_of-self-in-None g c =
     let beside = subst (λ (o : Option g.row.T.Denot). Goes g.row.T slot c.is_one_of_several-shared.result w.views o t u) c.in-None.is c.in-Ok.ensures.0 in
     let gone = beside.gone in let words : List ℕ = noted slot (beside.word - 1) t.me.0 in
     noted_on b l.place l.own l.tenure.round l.due l.known.slots l.jobs l.privates l.tally l.token c.self.invariant t known.same u words gone.table gone.others
-        gone.view
+    gone.view
 
 pub of_witness-requires : goal.of_witness-requires
 of_witness-requires g c =
@@ -96,8 +96,8 @@ of_witness-requires g c =
     let slot : ℕ = c.number-slot.result in let sorted = c.is_one_of_several-shared.ensures in
     let views = known.views ∙ ap (λ (s : Bool). witness_of_owner slot s grip.shown) (sym sorted) in record {
       owner =
-        let back = c.in-Err.ensures in let shows = back.2 grip.shown views in
-        back.1 ∙ (known.views ∙ ap (witness_of_owner slot (is_shared kind)) (sym shows.shows));
+          let back = c.in-Err.ensures in let shows = back.2 grip.shown views in
+          back.1 ∙ (known.views ∙ ap (witness_of_owner slot (is_shared kind)) (sym shows.shows));
       place = (c.in-Err.ensures.2 grip.shown views).unit.number_is;
       inside = search rules;
       kind = search rules;
@@ -114,31 +114,31 @@ pub returns-in-Some : goal.returns-in-Some
 returns-in-Some g c =
     let l = c.self.inside in let b = l.domain.now.board in let m : LocalState _ = c.self.view_is 0 in let right = c.args.right in let kind = c.args.kind in
     let known = recalled g (goal.at.returns-in-Some g c).After-recall in let same = known.same in let q = known.between in
-        let w = c.into_owner-owner.result.0 in
+    let w = c.into_owner-owner.result.0 in
     let grip = c.into_owner-owner.result.1 in let slot : ℕ = c.number-slot.result in let is = c.number-slot.ensures in let t = c.recall.new.token in record {
       gone =
-        let shared : Bool = c.is_one_of_several-shared.result in let sorted = c.is_one_of_several-shared.ensures in let k : ℕ = number_of right in
-        let u = c.go_in_place.new.token in
-        let gone = subst (λ (o : Option g.row.T.Denot). Goes g.row.T slot c.is_one_of_several-shared.result w.views o t u) c.in-Some.is c.in-Ok.ensures.0 in
-        let value : Gv = showing g.row.T c.in-Some.value in let here = gone.view ∙ ap (λ (x : Seat ValueFraction View). with_dropped slot x.me.0) same in
-        let at = here ∙ ap (λ (j : ℕ). with_dropped j l.token.me.0) is in let moved = gone.table ∙ ap (λ (x : Seat ValueFraction View). x.table_id) same in
-        let fits = subst (λ (o : Option g.row.T.Denot). IfSome o (λ v. AreOf (home_of_slots (id_of b) (book_of b) (slots_of b)) (g.T.Item.holds v)))
-        c.in-Some.is c.in-Ok.ensures.1 in
-        let low = owner_inside b m known.on right kind known.home c.requires.kind w grip (λ _. known.owner) slot is c.into_owner-owner.ensures.inside in
-        let now : LocalState _ = record (with_view m u.table_id u.me.0) { tally = c.count_in_place.new.self } in (
-          sym c.into_owner-owner.ensures.views ∙ (gone.told ∙ (λ d. witness_of_owner (is d) ((sorted ∙ ap is_shared (sym c.requires.kind)) d) value)),
-          subst (λ (x : LocalState _). DropsAt k (is_shared kind) x now) c.self.view_is record {
-            inside = subst (λ (n : ℕ). k < n) (sym known.on.slots) (subst (λ (j : ℕ). j < slots_of b) is low);
-            member = λ d. record (with_view m (moved d) (at d)) { tally = c.count_in_place.ensures d };
-            sole = knew_sole m slot k is shared (is_shared kind) sorted l.token t u same refl known.all gone.sole;
-            quiet = λ some_open. gone.quiet (q.opened some_open);
-          },
-          subst (λ (x : LocalState _). AreOf (home_in x) (g.T.Item.holds c.in-Some.value)) c.self.view_is
-              (from_board b m known.on (g.T.Item.holds c.in-Some.value) fits),
-        );
+          let shared : Bool = c.is_one_of_several-shared.result in let sorted = c.is_one_of_several-shared.ensures in let k : ℕ = number_of right in
+          let u = c.go_in_place.new.token in
+          let gone = subst (λ (o : Option g.row.T.Denot). Goes g.row.T slot c.is_one_of_several-shared.result w.views o t u) c.in-Some.is c.in-Ok.ensures.0 in
+          let value : Gv = showing g.row.T c.in-Some.value in let here = gone.view ∙ ap (λ (x : Seat ValueFraction View). with_dropped slot x.me.0) same in
+          let at = here ∙ ap (λ (j : ℕ). with_dropped j l.token.me.0) is in let moved = gone.table ∙ ap (λ (x : Seat ValueFraction View). x.table_id) same in
+          let fits = subst (λ (o : Option g.row.T.Denot). IfSome o (λ v. AreOf (home_of_slots (id_of b) (book_of b) (slots_of b)) (g.T.Item.holds v)))
+          c.in-Some.is c.in-Ok.ensures.1 in
+          let low = owner_inside b m known.on right kind known.home c.requires.kind w grip (λ _. known.owner) slot is c.into_owner-owner.ensures.inside in
+          let now : LocalState _ = record (with_view m u.table_id u.me.0) { tally = c.count_in_place.new.self } in (
+            sym c.into_owner-owner.ensures.views ∙ (gone.told ∙ (λ d. witness_of_owner (is d) ((sorted ∙ ap is_shared (sym c.requires.kind)) d) value)),
+            subst (λ (x : LocalState _). DropsAt k (is_shared kind) x now) c.self.view_is record {
+              inside = subst (λ (n : ℕ). k < n) (sym known.on.slots) (subst (λ (j : ℕ). j < slots_of b) is low);
+              member = λ d. record (with_view m (moved d) (at d)) { tally = c.count_in_place.ensures d };
+              sole = knew_sole m slot k is shared (is_shared kind) sorted l.token t u same refl known.all gone.sole;
+              quiet = λ some_open. gone.quiet (q.opened some_open);
+            },
+            subst (λ (x : LocalState _). AreOf (home_in x) (g.T.Item.holds c.in-Some.value)) c.self.view_is
+                (from_board b m known.on (g.T.Item.holds c.in-Some.value) fits),
+          );
       recalled = subst (λ (x : LocalState _). IsLone x → (value : Gv) × HasValue value right × KnowsOwner x (number_of right) (is_shared kind) value)
           c.self.view_is
-        (λ lone. (grip.shown, known.has c.into_owner-owner.ensures.views, known.tells lone));
+          (λ lone. (grip.shown, known.has c.into_owner-owner.ensures.views, known.tells lone));
     }
 
 pub returns-in-None : goal.returns-in-None
@@ -147,14 +147,14 @@ returns-in-None g c =
     let known = recalled g (goal.at.returns-in-None g c).After-recall in let same = known.same in let w = c.into_owner-owner.result.0 in
     let grip = c.into_owner-owner.result.1 in let slot : ℕ = c.number-slot.result in let is = c.number-slot.ensures in let t = c.recall.new.token in record {
       gone =
-        let shared : Bool = c.is_one_of_several-shared.result in let sorted = c.is_one_of_several-shared.ensures in let k : ℕ = number_of right in
-        let u = c.go_in_place.new.token in
-        let beside = subst (λ (o : Option g.row.T.Denot). Goes g.row.T slot shared w.views o t u) c.in-None.is c.in-Ok.ensures.0 in
-        subst (λ (x : LocalState _). GoesBeside k (is_shared kind) x (with_token m u)) c.self.view_is
-        (gone_beside m slot k is shared (is_shared kind) sorted l.token t u same refl known.all beside);
+          let shared : Bool = c.is_one_of_several-shared.result in let sorted = c.is_one_of_several-shared.ensures in let k : ℕ = number_of right in
+          let u = c.go_in_place.new.token in
+          let beside = subst (λ (o : Option g.row.T.Denot). Goes g.row.T slot shared w.views o t u) c.in-None.is c.in-Ok.ensures.0 in
+          subst (λ (x : LocalState _). GoesBeside k (is_shared kind) x (with_token m u)) c.self.view_is
+          (gone_beside m slot k is shared (is_shared kind) sorted l.token t u same refl known.all beside);
       recalled = subst (λ (x : LocalState _). IsLone x → (value : Gv) × HasValue value right × KnowsOwner x (number_of right) (is_shared kind) value)
           c.self.view_is
-        (λ lone. (grip.shown, known.has c.into_owner-owner.ensures.views, known.tells lone));
+          (λ lone. (grip.shown, known.has c.into_owner-owner.ensures.views, known.tells lone));
     }
 
 pub returns-in-Err : goal.returns-in-Err
@@ -163,28 +163,28 @@ returns-in-Err g c =
     let known = recalled g (goal.at.returns-in-Err g c).After-recall in let same = known.same in let q = known.between in let w = c.into_owner-owner.result.0 in
     let grip = c.into_owner-owner.result.1 in let slot : ℕ = c.number-slot.result in let is = c.number-slot.ensures in let t = c.recall.new.token in record {
       gone =
-        let shared : Bool = c.is_one_of_several-shared.result in let sorted = c.is_one_of_several-shared.ensures in let k : ℕ = number_of right in
-        let u = c.go_in_place.new.token in
-        let back = c.in-Err.ensures in let made = c.of_witness.ensures in
-        let views = known.views ∙ ap (λ (s : Bool). witness_of_owner slot s grip.shown) (sym sorted) in let unit = back.2 grip.shown views in (
-          right_back b m known.on right kind known.home c.requires.kind w grip (λ _. known.owner) slot is c.in-Err.owner c.in-Err.grip l.domain.now.limits.slots
-              c.of_witness.result
-              back.0 (unit.unit.book_is) back.1 c.into_owner-owner.ensures.views refl made.number made.home made.kind made.views,
-          ⊎_elim
-              (λ (x : (c.in-Err.refused ≡ Refused.GuardOpen) × IsLetGoOf slot shared t u). inl (
-                x.0,
-                subst (λ (z : LocalState _). SeesGuard k (is_shared kind) z (with_token m u)) c.self.view_is
-                    (guarded_at m slot k is shared (is_shared kind) sorted l.token t u same refl known.all (guard_of b l.place l.own t q) x.1),
-              ))
-              (λ (x : (c.in-Err.refused ≡ Refused.Contended) × IsUnmoved t u × (shared ≡ true) × ¬ (IsLoneAt (epoch t))). inr (
-                x.0,
-                unmoved_at m slot k is shared (is_shared kind) sorted l.token t u same refl known.all x.1 ∙ c.self.view_is,
-                sym sorted ∙ x.2,
-                (λ lone. x.3 (ap (λ (y : Seat ValueFraction View). y.me.0.epoch.all) same
-                    ∙ known.all (subst (λ (z : LocalState _). IsLone z) (sym c.self.view_is) lone))),
-              )) back.3,
-        );
+          let shared : Bool = c.is_one_of_several-shared.result in let sorted = c.is_one_of_several-shared.ensures in let k : ℕ = number_of right in
+          let u = c.go_in_place.new.token in
+          let back = c.in-Err.ensures in let made = c.of_witness.ensures in
+          let views = known.views ∙ ap (λ (s : Bool). witness_of_owner slot s grip.shown) (sym sorted) in let unit = back.2 grip.shown views in (
+            right_back b m known.on right kind known.home c.requires.kind w grip (λ _. known.owner) slot is c.in-Err.owner c.in-Err.grip l.domain.now.limits.slots
+                c.of_witness.result
+                back.0 (unit.unit.book_is) back.1 c.into_owner-owner.ensures.views refl made.number made.home made.kind made.views,
+            ⊎_elim
+                (λ (x : (c.in-Err.refused ≡ Refused.GuardOpen) × IsLetGoOf slot shared t u). inl (
+                  x.0,
+                  subst (λ (z : LocalState _). SeesGuard k (is_shared kind) z (with_token m u)) c.self.view_is
+                      (guarded_at m slot k is shared (is_shared kind) sorted l.token t u same refl known.all (guard_of b l.place l.own t q) x.1),
+                ))
+                (λ (x : (c.in-Err.refused ≡ Refused.Contended) × IsUnmoved t u × (shared ≡ true) × ¬ (IsLoneAt (epoch t))). inr (
+                  x.0,
+                  unmoved_at m slot k is shared (is_shared kind) sorted l.token t u same refl known.all x.1 ∙ c.self.view_is,
+                  sym sorted ∙ x.2,
+                  (λ lone. x.3 (ap (λ (y : Seat ValueFraction View). y.me.0.epoch.all) same
+                      ∙ known.all (subst (λ (z : LocalState _). IsLone z) (sym c.self.view_is) lone))),
+                )) back.3,
+          );
       recalled = subst (λ (x : LocalState _). IsLone x → (value : Gv) × HasValue value right × KnowsOwner x (number_of right) (is_shared kind) value)
           c.self.view_is
-        (λ lone. (grip.shown, known.has c.into_owner-owner.ensures.views, known.tells lone));
+          (λ lone. (grip.shown, known.has c.into_owner-owner.ensures.views, known.tells lone));
     }

@@ -33,19 +33,19 @@ show-requires g c =
     let found = c.witness-owner.ensures.owner (has_tables c.args.self.now c.args.right.now c.requires.home) in let own = found.1 in
     let shared : Bool = is_shared (kind_of c.args.right.now) in let shown : Gv = found.0.shown in record {
       table =
-        let q = c.self.invariant.0 in
-        let same = same_recalled b l.place slot shared shown l.token c.recall.new.token (c.recall.ensures slot shared shown own.owner) in
-        (c.watch.ensures slot shared shown own.owner).0 ∙ (ap (λ (x : Seat ValueFraction View). x.table_id) same ∙ q.home);
+          let q = c.self.invariant.0 in
+          let same = same_recalled b l.place slot shared shown l.token c.recall.new.token (c.recall.ensures slot shared shown own.owner) in
+          (c.watch.ensures slot shared shown own.owner).0 ∙ (ap (λ (x : Seat ValueFraction View). x.table_id) same ∙ q.home);
       inside = search rules;
       stake =
-        let t : ℕ = c.tenure_of-tenure.result.now.round in let inv = c.self.invariant in let recalled = c.recall.ensures slot shared shown own.owner in
-        let watch = subst (λ (x : Seat ValueFraction View). MovedAlone (SeesOwned slot shared shown) x c.watch.new.token)
-        (same_recalled b l.place slot shared shown l.token c.recall.new.token recalled) (c.watch.ensures slot shared shown own.owner) in
-        let seen = watched b l.place l.own t slot shared shown l.token c.watch.new.token inv.0
-        (subst (λ (t : ℕ). AreLentTo t l.token.me.1) (sym c.agree.ensures.round) inv.3) watch in
-        subst (λ (k : ℕ × ℕ). CanShow k.0 k.1 t (lots c.watch.new.token.me.1)) (λ d. (sym l.domain.now.shelved.0.book d, sym c.number.ensures d))
-        (can_show (book_of b) (places_of b) l.place t slot seen.records c.watch.new.token.me.1 seen.purse seen.lent
-        (in_times seen.records slot shown seen.there));
+          let t : ℕ = c.tenure_of-tenure.result.now.round in let inv = c.self.invariant in let recalled = c.recall.ensures slot shared shown own.owner in
+          let watch = subst (λ (x : Seat ValueFraction View). MovedAlone (SeesOwned slot shared shown) x c.watch.new.token)
+          (same_recalled b l.place slot shared shown l.token c.recall.new.token recalled) (c.watch.ensures slot shared shown own.owner) in
+          let seen = watched b l.place l.own t slot shared shown l.token c.watch.new.token inv.0
+          (subst (λ (t : ℕ). AreLentTo t l.token.me.1) (sym c.agree.ensures.round) inv.3) watch in
+          subst (λ (k : ℕ × ℕ). CanShow k.0 k.1 t (lots c.watch.new.token.me.1)) (λ d. (sym l.domain.now.shelved.0.book d, sym c.number.ensures d))
+          (can_show (book_of b) (places_of b) l.place t slot seen.records c.watch.new.token.me.1 seen.purse seen.lent
+          (in_times seen.records slot shown seen.there));
     }
 
 pub invariant_of-self : goal.invariant_of-self
@@ -81,19 +81,19 @@ returns g c =
       value = sym c.witness-owner.ensures.views ∙ (own.owner ∙ ap (witness_of_owner slot shared) is);
       looks = subst (λ (m : LocalState _). LooksAt slot shared (showing g.row.T c.show.result.now) m (with_token (c.self.view_is 0) c.show.new.seat))
           c.self.view_is
-        (subst (λ (v : Gv). LooksAt slot shared v (c.self.view_is 0) (with_token (c.self.view_is 0) c.show.new.seat)) is
-        (looks_at (c.self.view_is 0) slot shared shown l.token c.watch.new.token c.show.new.seat watch c.show.ensures.seat));
+          (subst (λ (v : Gv). LooksAt slot shared v (c.self.view_is 0) (with_token (c.self.view_is 0) c.show.new.seat)) is
+          (looks_at (c.self.view_is 0) slot shared shown l.token c.watch.new.token c.show.new.seat watch c.show.ensures.seat));
       once =
-        let sees : c.show.new.seat.me.0.stakes.sees ≡ seen.records = ap (λ (x : Seat ValueFraction View). x.me.0.stakes.sees) c.show.ensures.seat
-        ∙ ap (λ (v : View). v.stakes.sees) seen.view in
-        subst IsOnce (sym sees) seen.once;
+          let sees : c.show.new.seat.me.0.stakes.sees ≡ seen.records = ap (λ (x : Seat ValueFraction View). x.me.0.stakes.sees) c.show.ensures.seat
+          ∙ ap (λ (v : View). v.stakes.sees) seen.view in
+          subst IsOnce (sym sees) seen.once;
       recalled = subst (λ (m : LocalState _). IsLone m → KnowsOwner m slot shared (showing g.row.T c.show.result.now)) c.self.view_is
-        (subst (λ (v : Gv). IsLone (c.self.view_is 0) → KnowsOwner (c.self.view_is 0) slot shared v) is
-        (recalls_to (c.self.view_is 0) slot shared shown l.token c.recall.new.token recalled
-        (inv.0.all ∙ ap (λ (z : Sizes). z.participants) l.domain.now.limited.1)));
+          (subst (λ (v : Gv). IsLone (c.self.view_is 0) → KnowsOwner (c.self.view_is 0) slot shared v) is
+          (recalls_to (c.self.view_is 0) slot shared shown l.token c.recall.new.token recalled
+          (inv.0.all ∙ ap (λ (z : Sizes). z.participants) l.domain.now.limited.1)));
       home = subst (λ (m : LocalState _). AreOf (home_in m) (g.T.Item.holds c.show.result.now)) c.self.view_is
-        (from_shelf b (c.self.view_is 0) (on_board l.domain.now.limits b l.token.table_id inv.0.home l.domain.now.limited.1 (c.self.view_is 0) refl refl refl)
-        l.domain.now.shelf l.domain.now.shelved.0 (g.T.Item.holds c.show.result.now) c.show.ensures.fits);
+          (from_shelf b (c.self.view_is 0) (on_board l.domain.now.limits b l.token.table_id inv.0.home l.domain.now.limited.1 (c.self.view_is 0) refl refl refl)
+          l.domain.now.shelf l.domain.now.shelved.0 (g.T.Item.holds c.show.result.now) c.show.ensures.fits);
     }
 
 -- what was known before the owner was recalled is known still
@@ -109,9 +109,9 @@ watch-requires g c =
       near = let place = ap (λ (x : Seat ValueFraction View). x.me.0.epoch.place) same in let at = q.place in let inside = q.inside in omega arith;
       rests = ap (λ (x : Seat ValueFraction View). x.me.0.stakes.moves) same ∙ q.rests;
       owner =
-        let tables = own.table in let mine = ap (λ (h : GhostName). h.tables) c.requires.home in let there = ap (λ (m : LocalState _). m.home) c.self.view_is in
-        let board = q.home in let table : c.witness-owner.result.now.table_id ≡ id_of b = cc in let inside : slot < slots_of b = search rules in
-        (table, (slot, shared, shown, inside, own.owner));
+          let tables = own.table in let mine = ap (λ (h : GhostName). h.tables) c.requires.home in let there = ap (λ (m : LocalState _). m.home) c.self.view_is in
+          let board = q.home in let table : c.witness-owner.result.now.table_id ≡ id_of b = cc in let inside : slot < slots_of b = search rules in
+          (table, (slot, shared, shown, inside, own.owner));
     }
 
 pub recall-requires-clause-owner : goal.recall-requires-clause-owner

@@ -52,10 +52,10 @@ hold_alone-requires g c =
       bare = bare b l.place l.own t q;
       closes = ap (λ (x : Seat ValueFraction View). x.me.0.slots.closes) same ∙ (ap (λ (m : LocalState _). m.slots.closes) c.self.view_is ∙ c.requires.closes);
       owner =
-        let sorted = c.is_one_of_several-shared.ensures in (
-          owner_table b m known.on right kind known.home c.requires.kind w grip (λ _. known.owner) slot is,
-          (grip.shown, known.views ∙ ap (λ (s : Bool). witness_of_owner slot s grip.shown) (sym sorted)),
-        );
+          let sorted = c.is_one_of_several-shared.ensures in (
+            owner_table b m known.on right kind known.home c.requires.kind w grip (λ _. known.owner) slot is,
+            (grip.shown, known.views ∙ ap (λ (s : Bool). witness_of_owner slot s grip.shown) (sym sorted)),
+          );
     }
 
 pub change_alone-owner-requires : goal.change_alone-owner-requires
@@ -77,8 +77,8 @@ change_alone-owner-requires g c =
       shows = (0, only slot shared grip.shown, ap (λ (v : View). get_elem? v.stakes.owns 0) held.view, refl, refl);
       callable = search rules;
       held_on = λ was now r then of_was. to_board b m known.on (g.T.Item.holds now)
-        (subst (λ (x : LocalState _). AreOf (home_in x) (g.T.Item.holds now)) (sym c.self.view_is) (c.requires.held was now r then
-        (subst (λ (x : LocalState _). AreOf (home_in x) (g.T.Item.holds was)) c.self.view_is (from_board b m known.on (g.T.Item.holds was) of_was))));
+          (subst (λ (x : LocalState _). AreOf (home_in x) (g.T.Item.holds now)) (sym c.self.view_is) (c.requires.held was now r then
+          (subst (λ (x : LocalState _). AreOf (home_in x) (g.T.Item.holds was)) c.self.view_is (from_board b m known.on (g.T.Item.holds was) of_was))));
     }
 
 pub invariant_of-self : goal.invariant_of-self
@@ -120,52 +120,52 @@ returns-in-Ok g c =
     let grip = c.into_owner-owner.result.1 in let seen = c.into_owner-owner.ensures.views ∙ ap views_of c.take.ensures in let slot : ℕ = c.number-slot.result in
     let is = c.number-slot.ensures in let t = c.recall.new.token in let k : ℕ = number_of right in record {
       changed =
-        let shared : Bool = c.is_one_of_several-shared.result in let sorted = c.is_one_of_several-shared.ensures in
-        let views = known.views ∙ ap (λ (s : Bool). witness_of_owner slot s grip.shown) (sym sorted) in let h = c.hold_alone.new.token in
-        let held = c.in-Ok.ensures grip.shown views in let u = c.change_alone-owner.new.token in let did = c.change_alone-owner.ensures.changed in
-        let moved = c.change_alone-owner.ensures.home in let now : Gv = showing g.row.T did.1 in
-        let view = changed_to b l.place l.own t q slot shared grip.shown h held u
-        (ap (λ (x : Seat ValueFraction View). x.me.0.slots.closes) same ∙ (ap (λ (m : LocalState _). m.slots.closes) c.self.view_is ∙ c.requires.closes))
-        now did.4 in
-        let table = moved.0 ∙ held.table in let others = moved.2 ∙ held.others in
-        let here = view ∙ ap (λ (x : Seat ValueFraction View). record (with_filled slot shared now x.me.0) {
-          words = sole_words shared slot x.me.0.sizes x.me.0.words;
-        }) same in
-        let told = held_tells b l.place l.own t q slot shared grip.shown h held (showing g.row.T did.0) did.2 in
-        let at = here ∙ (λ d. record (with_filled (is d) (sorted d) now l.token.me.0) {
-          words = sole_words (sorted d) (is d) l.token.me.0.sizes l.token.me.0.words;
-        }) in
-        let from = table ∙ ap (λ (x : Seat ValueFraction View). x.table_id) same in
-        let inside = subst (λ (r : Right). number_of r < (home_of r).size) c.take.ensures c.into_owner-owner.ensures.inside in
-        let low = owner_inside b m known.on right kind known.home c.requires.kind w grip (λ _. known.owner) slot is inside in let new : LocalState _ = with_view
-            m u.table_id u.me.0 in
-        let made = c.of_witness.ensures in
-        let owner : IsRightTo m kind now c.of_witness.result = record {
-          home = right_anew b m known.on right kind known.home c.requires.kind w grip (λ _. known.owner) slot is c.change_alone-owner.result.0
-              c.change_alone-owner.result.1
-              l.domain.now.limits.slots c.of_witness.result did.5 did.7.unit.book_is refl made.home;
-          kind = made.kind;
-          value = made.views ∙ (did.6 ∙ (λ d. witness_of_owner (sym made.number d) ((sorted ∙ ap is_shared (sym made.kind)) d) now));
-        } in (
-          did.0,
-          did.1,
-          subst (λ (x : Gv). HasValue x right) told (known.has seen),
-          did.3,
-          subst (λ (x : LocalState _). ChangesAt k (is_shared kind) now x new) c.self.view_is record {
-            inside = subst (λ (n : ℕ). k < n) (sym known.on.slots) (subst (λ (j : ℕ). j < slots_of b) is low);
-            member = λ d. with_view m (from d) (at d);
-            sole = knew_sole m slot k is shared (is_shared kind) sorted l.token t u same refl known.all held.sole;
-            quiet = held_shut b l.place l.own t q slot shared grip.shown h held;
-          },
-          subst (λ (r : Right). IsRightTo c.args.self.now kind now r) (sym c.put.ensures)
-              (subst (λ (x : LocalState _). IsRightTo x kind now c.of_witness.result) c.self.view_is owner),
-          subst (λ (x : LocalState _). AreOf (home_in x) (g.T.Item.holds did.1)) c.self.view_is (from_board b m known.on (g.T.Item.holds did.1) did.8),
-          did.9 ∙ ap (λ (j : ℕ). slice_set c.args.ledger.now.entries j (Some (did.1, now))) is,
-        );
+          let shared : Bool = c.is_one_of_several-shared.result in let sorted = c.is_one_of_several-shared.ensures in
+          let views = known.views ∙ ap (λ (s : Bool). witness_of_owner slot s grip.shown) (sym sorted) in let h = c.hold_alone.new.token in
+          let held = c.in-Ok.ensures grip.shown views in let u = c.change_alone-owner.new.token in let did = c.change_alone-owner.ensures.changed in
+          let moved = c.change_alone-owner.ensures.home in let now : Gv = showing g.row.T did.1 in
+          let view = changed_to b l.place l.own t q slot shared grip.shown h held u
+          (ap (λ (x : Seat ValueFraction View). x.me.0.slots.closes) same ∙ (ap (λ (m : LocalState _). m.slots.closes) c.self.view_is ∙ c.requires.closes))
+          now did.4 in
+          let table = moved.0 ∙ held.table in let others = moved.2 ∙ held.others in
+          let here = view ∙ ap (λ (x : Seat ValueFraction View). record (with_filled slot shared now x.me.0) {
+            words = sole_words shared slot x.me.0.sizes x.me.0.words;
+          }) same in
+          let told = held_tells b l.place l.own t q slot shared grip.shown h held (showing g.row.T did.0) did.2 in
+          let at = here ∙ (λ d. record (with_filled (is d) (sorted d) now l.token.me.0) {
+            words = sole_words (sorted d) (is d) l.token.me.0.sizes l.token.me.0.words;
+          }) in
+          let from = table ∙ ap (λ (x : Seat ValueFraction View). x.table_id) same in
+          let inside = subst (λ (r : Right). number_of r < (home_of r).size) c.take.ensures c.into_owner-owner.ensures.inside in
+          let low = owner_inside b m known.on right kind known.home c.requires.kind w grip (λ _. known.owner) slot is inside in let new : LocalState _ = with_view
+          m u.table_id u.me.0 in
+          let made = c.of_witness.ensures in
+          let owner : IsRightTo m kind now c.of_witness.result = record {
+            home = right_anew b m known.on right kind known.home c.requires.kind w grip (λ _. known.owner) slot is c.change_alone-owner.result.0
+                c.change_alone-owner.result.1
+                l.domain.now.limits.slots c.of_witness.result did.5 did.7.unit.book_is refl made.home;
+            kind = made.kind;
+            value = made.views ∙ (did.6 ∙ (λ d. witness_of_owner (sym made.number d) ((sorted ∙ ap is_shared (sym made.kind)) d) now));
+          } in (
+            did.0,
+            did.1,
+            subst (λ (x : Gv). HasValue x right) told (known.has seen),
+            did.3,
+            subst (λ (x : LocalState _). ChangesAt k (is_shared kind) now x new) c.self.view_is record {
+              inside = subst (λ (n : ℕ). k < n) (sym known.on.slots) (subst (λ (j : ℕ). j < slots_of b) is low);
+              member = λ d. with_view m (from d) (at d);
+              sole = knew_sole m slot k is shared (is_shared kind) sorted l.token t u same refl known.all held.sole;
+              quiet = held_shut b l.place l.own t q slot shared grip.shown h held;
+            },
+            subst (λ (r : Right). IsRightTo c.args.self.now kind now r) (sym c.put.ensures)
+                (subst (λ (x : LocalState _). IsRightTo x kind now c.of_witness.result) c.self.view_is owner),
+            subst (λ (x : LocalState _). AreOf (home_in x) (g.T.Item.holds did.1)) c.self.view_is (from_board b m known.on (g.T.Item.holds did.1) did.8),
+            did.9 ∙ ap (λ (j : ℕ). slice_set c.args.ledger.now.entries j (Some (did.1, now))) is,
+          );
       slot = search rules;
       recalled = subst (λ (x : LocalState _). IsLone x → (value : Gv) × HasValue value right × KnowsOwner x (number_of right) (is_shared kind) value)
           c.self.view_is
-        (λ lone. (grip.shown, known.has seen, known.tells lone));
+          (λ lone. (grip.shown, known.has seen, known.tells lone));
     }
 
 pub returns-in-Err : goal.returns-in-Err
@@ -175,20 +175,20 @@ returns-in-Err g c =
     let grip = c.into_owner-owner.result.1 in let seen = c.into_owner-owner.ensures.views ∙ ap views_of c.take.ensures in let slot : ℕ = c.number-slot.result in
     let is = c.number-slot.ensures in let t = c.recall.new.token in let k : ℕ = number_of right in record {
       changed =
-        let back = c.in-Err.ensures in let made = c.of_witness-in-Err.ensures in let h = c.hold_alone.new.token in
-        let shared : Bool = c.is_one_of_several-shared.result in let sorted = c.is_one_of_several-shared.ensures in (
-          refl,
-          c.put-in-Err.ensures ∙ right_again b m known.on right kind known.home c.requires.kind w grip (λ _. known.owner) slot is c.in-Err.owner
-              l.domain.now.limits.slots
-              c.of_witness-in-Err.result back.1 back.2 seen refl made.number made.home made.kind made.views,
-          refl,
-          subst (λ (x : LocalState _). ((c.refused.result ≡ Refused.NotAlone) × HasOthers k (is_shared kind) x (with_token m h))
-              ⊎ ((c.refused.result ≡ Refused.GuardOpen) × SeesGuard k (is_shared kind) x (with_token m h))) c.self.view_is
-              (hindered_at m slot k is shared (is_shared kind) sorted l.token t h same refl known.all (guard_of b l.place l.own t q)
-              c.in-Err.hindrance c.refused.result c.refused.ensures back.0),
-        );
+          let back = c.in-Err.ensures in let made = c.of_witness-in-Err.ensures in let h = c.hold_alone.new.token in
+          let shared : Bool = c.is_one_of_several-shared.result in let sorted = c.is_one_of_several-shared.ensures in (
+            refl,
+            c.put-in-Err.ensures ∙ right_again b m known.on right kind known.home c.requires.kind w grip (λ _. known.owner) slot is c.in-Err.owner
+                l.domain.now.limits.slots
+                c.of_witness-in-Err.result back.1 back.2 seen refl made.number made.home made.kind made.views,
+            refl,
+            subst (λ (x : LocalState _). ((c.refused.result ≡ Refused.NotAlone) × HasOthers k (is_shared kind) x (with_token m h))
+                ⊎ ((c.refused.result ≡ Refused.GuardOpen) × SeesGuard k (is_shared kind) x (with_token m h))) c.self.view_is
+                (hindered_at m slot k is shared (is_shared kind) sorted l.token t h same refl known.all (guard_of b l.place l.own t q)
+                c.in-Err.hindrance c.refused.result c.refused.ensures back.0),
+          );
       slot = search rules;
       recalled = subst (λ (x : LocalState _). IsLone x → (value : Gv) × HasValue value right × KnowsOwner x (number_of right) (is_shared kind) value)
           c.self.view_is
-        (λ lone. (grip.shown, known.has seen, known.tells lone));
+          (λ lone. (grip.shown, known.has seen, known.tells lone));
     }

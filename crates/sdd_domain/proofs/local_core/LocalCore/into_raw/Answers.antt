@@ -48,13 +48,13 @@ put_out-requires g c =
       inside = search rules;
       place = subst (λ (k : ℕ). 0 < k) (sym (ap (λ (v : View). v.epoch.state) took.3)) (has_place board l.place l.own l.token q);
       own =
-        let none = ap (λ (v : View). v.slots.holds) took.3 ∙ q.quiet.holds in (
-          ap (λ (v : View). v.slots.owns) took.3 ∙ (ap (λ (is : List ℕ). slot ∷ is) q.quiet.owns ∙ ap (λ (k : ℕ). k ∷ []) (sym c.number-slot.ensures)),
-          (λ held. cc),
-          ap (λ (v : View). v.slots.drawn) took.3 ∙ (ap (λ (is : List ℕ). slot ∷ is) q.quiet.drawn ∙ ap (λ (k : ℕ). k ∷ []) (sym c.number-slot.ensures)),
-        );
+          let none = ap (λ (v : View). v.slots.holds) took.3 ∙ q.quiet.holds in (
+            ap (λ (v : View). v.slots.owns) took.3 ∙ (ap (λ (is : List ℕ). slot ∷ is) q.quiet.owns ∙ ap (λ (k : ℕ). k ∷ []) (sym c.number-slot.ensures)),
+            (λ held. cc),
+            ap (λ (v : View). v.slots.drawn) took.3 ∙ (ap (λ (is : List ℕ). slot ∷ is) q.quiet.drawn ∙ ap (λ (k : ℕ). k ∷ []) (sym c.number-slot.ensures)),
+          );
       told = subst (λ (k : ℕ). (value : Gv) × HasRecord c.take_in.new.token.me.0.stakes.owns (record { slot = k; shared = false; value = value }))
-        (sym c.number-slot.ensures) (shown, (0, ap (λ (v : View). get_elem? v.stakes.owns 0) took.3));
+          (sym c.number-slot.ensures) (shown, (0, ap (λ (v : View). get_elem? v.stakes.owns 0) took.3));
       unit = search rules;
       shows = (0, record { slot = slot; shared = false; value = shown }, ap (λ (v : View). get_elem? v.stakes.owns 0) took.3, sym c.number-slot.ensures, refl);
       rests = ap (λ (v : View). v.stakes.moves) took.3 ∙ q.rests;
@@ -87,13 +87,13 @@ returns g c =
     record {
       slot = search rules;
       out =
-        let took = subst (λ (x : Seat ValueFraction View). Taught (λ v _ w. w ≡ regained v (owner_of slot false shown)) x 0 c.take_in.new.token) same
-        (c.take_in.ensures slot false shown views) in
-        let put = subst (λ (k : ℕ). Moved (PutsOut k) c.take_in.new.token 2 c.put_out.new.token) c.number-slot.ensures c.put_out.ensures in
-        let old : LocalState _ = c.self.view_is 0 in
-        let home = put_home board l.place l.own slot shown l.token c.take_in.new.token c.put_out.new.token q took put in
-        let is = put_view board l.place l.own slot shown l.token c.take_in.new.token c.put_out.new.token q took put in
-        (λ d. with_view old (home d) (is d)) ∙ ap (put_out slot) c.self.view_is;
+          let took = subst (λ (x : Seat ValueFraction View). Taught (λ v _ w. w ≡ regained v (owner_of slot false shown)) x 0 c.take_in.new.token) same
+          (c.take_in.ensures slot false shown views) in
+          let put = subst (λ (k : ℕ). Moved (PutsOut k) c.take_in.new.token 2 c.put_out.new.token) c.number-slot.ensures c.put_out.ensures in
+          let old : LocalState _ = c.self.view_is 0 in
+          let home = put_home board l.place l.own slot shown l.token c.take_in.new.token c.put_out.new.token q took put in
+          let is = put_view board l.place l.own slot shown l.token c.take_in.new.token c.put_out.new.token q took put in
+          (λ d. with_view old (home d) (is d)) ∙ ap (put_out slot) c.self.view_is;
       recalled = subst (λ (m : LocalState _). IsLone m → (value : Gv) × KnowsOwner m slot false value) c.self.view_is (λ lone. (
         shown,
         recalls_to (c.self.view_is 0) slot false shown l.token c.recall.new.token recalled

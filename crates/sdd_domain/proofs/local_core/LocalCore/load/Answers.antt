@@ -76,7 +76,7 @@ show-value-requires g c =
       table = search rules;
       inside = let low = subst (λ (z : Sizes). slot < z.slots) inv.0.knows.0 hit.2 in let size = l.domain.now.shelved.0.size in omega (arith, low, size);
       stake = subst (λ (k : ℕ). CanShow k slot t (lots f.me.1)) (sym l.domain.now.shelved.0.book)
-        (can_show (book_of b) (places_of b) l.place t slot seen.records f.me.1 seen.purse seen.lent (in_times seen.records slot shown seen.there));
+          (can_show (book_of b) (places_of b) l.place t slot seen.records f.me.1 seen.purse seen.lent (in_times seen.records slot shown seen.there));
     }
 
 pub invariant_of-self-2 : goal.invariant_of-self-2
@@ -105,30 +105,30 @@ returns g c =
     let all = inv.0.all ∙ ap (λ (z : Sizes). z.participants) l.domain.now.limited.1 in record {
       found = search rules;
       seen =
-        let out : Gv = showing g.row.T c.show-value.result.now in let old : LocalState g.row.J.Denot = c.self.view_is 0 in
-        let is = seen.once slot shown out seen.there (shows_known (book_of b) (places_of b) l.place slot l.domain.now.shelf.book out seen.records
-        f.me.1 seen.purse c.show-value.ensures.value) in
-        let sees : c.show-value.new.seat.me.0.stakes.sees ≡ seen.records = ap (λ (x : Seat ValueFraction View). x.me.0.stakes.sees) c.show-value.ensures.seat
-        ∙ ap (λ (v : View). v.stakes.sees) seen.view in
-        let low = subst (λ (z : Sizes). slot < z.slots) (inv.0.knows.0 ∙ l.domain.now.limited.1) hit.2 in
-        subst (λ (m : LocalState g.row.J.Denot). ((flag : Bool) × LooksAt slot flag out m (with_token old c.show-value.new.seat)
-        × (IsLone m → KnowsOwner m slot flag out)) × (slot < m.limits.slots) × IsOnce c.show-value.new.seat.me.0.stakes.sees
-        × AreOf (home_in m) (g.T.Item.holds c.show-value.result.now)) c.self.view_is (
-          (
-            shared,
-            subst (λ (v : Gv). LooksAt slot shared v old (with_token old c.show-value.new.seat)) is
-                (looks_at old slot shared shown l.token f c.show-value.new.seat watch c.show-value.ensures.seat),
-            λ lone. let knows = hit.4 (all ∙ lone) in subst (λ (v : Gv). KnowsOwner old slot shared v) is
-                record { newest = knows.newest; alive = knows.alive; kind = knows.kind },
-          ),
-          low,
-          subst IsOnce (sym sees) seen.once,
-          from_shelf b old (on_board l.domain.now.limits b l.token.table_id inv.0.home l.domain.now.limited.1 old refl refl refl)
-              l.domain.now.shelf l.domain.now.shelved.0 (g.T.Item.holds c.show-value.result.now) c.show-value.ensures.fits,
-        );
+          let out : Gv = showing g.row.T c.show-value.result.now in let old : LocalState g.row.J.Denot = c.self.view_is 0 in
+          let is = seen.once slot shown out seen.there (shows_known (book_of b) (places_of b) l.place slot l.domain.now.shelf.book out seen.records
+          f.me.1 seen.purse c.show-value.ensures.value) in
+          let sees : c.show-value.new.seat.me.0.stakes.sees ≡ seen.records = ap (λ (x : Seat ValueFraction View). x.me.0.stakes.sees) c.show-value.ensures.seat
+          ∙ ap (λ (v : View). v.stakes.sees) seen.view in
+          let low = subst (λ (z : Sizes). slot < z.slots) (inv.0.knows.0 ∙ l.domain.now.limited.1) hit.2 in
+          subst (λ (m : LocalState g.row.J.Denot). ((flag : Bool) × LooksAt slot flag out m (with_token old c.show-value.new.seat)
+          × (IsLone m → KnowsOwner m slot flag out)) × (slot < m.limits.slots) × IsOnce c.show-value.new.seat.me.0.stakes.sees
+          × AreOf (home_in m) (g.T.Item.holds c.show-value.result.now)) c.self.view_is (
+            (
+              shared,
+              subst (λ (v : Gv). LooksAt slot shared v old (with_token old c.show-value.new.seat)) is
+                  (looks_at old slot shared shown l.token f c.show-value.new.seat watch c.show-value.ensures.seat),
+              λ lone. let knows = hit.4 (all ∙ lone) in subst (λ (v : Gv). KnowsOwner old slot shared v) is
+                  record { newest = knows.newest; alive = knows.alive; kind = knows.kind },
+            ),
+            low,
+            subst IsOnce (sym sees) seen.once,
+            from_shelf b old (on_board l.domain.now.limits b l.token.table_id inv.0.home l.domain.now.limited.1 old refl refl refl)
+                l.domain.now.shelf l.domain.now.shelved.0 (g.T.Item.holds c.show-value.result.now) c.show-value.ensures.fits,
+          );
       owned =
-        let flag : Bool = is_shared (kind_of cell) in
-        subst (λ (m : LocalState g.row.J.Denot). IsLone m → IsOwnedThere slot flag m) c.self.view_is (λ lone.
-        let knew = look.2.2 (all ∙ lone) ∙ ap (λ (k : ℕ). slice_index l.token.me.0.words k) c.number.ensures in
-        let owned = (known.2.2 (all ∙ lone)).held slot (ap held_slots (sym knew) ∙ one) in record { alive = owned.1; kind = owned.2 });
+          let flag : Bool = is_shared (kind_of cell) in
+          subst (λ (m : LocalState g.row.J.Denot). IsLone m → IsOwnedThere slot flag m) c.self.view_is (λ lone.
+          let knew = look.2.2 (all ∙ lone) ∙ ap (λ (k : ℕ). slice_index l.token.me.0.words k) c.number.ensures in
+          let owned = (known.2.2 (all ∙ lone)).held slot (ap held_slots (sym knew) ∙ one) in record { alive = owned.1; kind = owned.2 });
     }

@@ -43,7 +43,7 @@ invariant_of-self g c =
     let same = same_recalled board l.place slot shared shown l.token c.recall.new.token (c.recall.ensures slot shared shown own.owner) in
     subst (λ (x : Seat ValueFraction View). IsBetweenCalls board l.place l.own x × l.nesting ≡ l.domain.now.limits.nesting × IsTenureOf l.own l.tenure
     × AreLentTo l.tenure.round x.me.1 × IsReady board l.own l.due l.known.slots l.jobs l.privates (known_waiting x.me.0.slots) × IsTallied 0 l.tally
-        x.me.0.stakes.counts)
+    x.me.0.stakes.counts)
     (sym same) c.self.invariant
 
 pub returns-clause-same : goal.returns-clause-same

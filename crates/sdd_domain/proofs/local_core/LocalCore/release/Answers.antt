@@ -135,11 +135,11 @@ let_one_go-requires g c =
       inside = search rules;
       place = subst (λ (k : ℕ). 0 < k) (sym (ap (λ (v : View). v.epoch.state) took.3)) (has_place l.domain.now.board l.place l.own l.token q);
       own =
-        let none = ap (λ (v : View). v.slots.holds) took.3 ∙ q.quiet.holds in (
-          ap (λ (v : View). v.slots.owns) took.3 ∙ (ap (λ (is : List ℕ). slot ∷ is) q.quiet.owns ∙ ap (λ (k : ℕ). k ∷ []) (sym c.number-slot.ensures)),
-          (λ held. cc),
-          ap (λ (v : View). v.slots.drawn) took.3 ∙ (ap (λ (is : List ℕ). slot ∷ is) q.quiet.drawn ∙ ap (λ (k : ℕ). k ∷ []) (sym c.number-slot.ensures)),
-        );
+          let none = ap (λ (v : View). v.slots.holds) took.3 ∙ q.quiet.holds in (
+            ap (λ (v : View). v.slots.owns) took.3 ∙ (ap (λ (is : List ℕ). slot ∷ is) q.quiet.owns ∙ ap (λ (k : ℕ). k ∷ []) (sym c.number-slot.ensures)),
+            (λ held. cc),
+            ap (λ (v : View). v.slots.drawn) took.3 ∙ (ap (λ (is : List ℕ). slot ∷ is) q.quiet.drawn ∙ ap (λ (k : ℕ). k ∷ []) (sym c.number-slot.ensures)),
+          );
       told = (
         shown,
         (
@@ -184,9 +184,9 @@ take_in-requires g c =
       home = ap (λ (x : Seat ValueFraction View). x.table_id) same ∙ q.home;
       rests = ap (λ (x : Seat ValueFraction View). x.me.0.stakes.moves) same ∙ q.rests;
       owner =
-        let b = c.self.inside.domain.now.board in let tables = by.table in let mine = ap (λ (h : GhostName). h.tables) c.requires.home in
-        let there = ap (λ (m : LocalState _). m.home) c.self.view_is in let board = q.home in let table : c.into_owner-owner.result.0.table_id ≡ id_of b = cc in
-        (table, (number_of c.args.right, is_shared (kind_of c.args.right), c.into_owner-owner.result.1.shown, by.owner));
+          let b = c.self.inside.domain.now.board in let tables = by.table in let mine = ap (λ (h : GhostName). h.tables) c.requires.home in
+          let there = ap (λ (m : LocalState _). m.home) c.self.view_is in let board = q.home in let table : c.into_owner-owner.result.0.table_id ≡ id_of b = cc in
+          (table, (number_of c.args.right, is_shared (kind_of c.args.right), c.into_owner-owner.result.1.shown, by.owner));
     }
 
 pub returns-clause-went : goal.returns-clause-went

@@ -51,7 +51,7 @@ returns-in_err-value g c =
       back = search rules;
       owned = owned g (goal.at.returns-in_err-value g c).After-drop_in_place;
       exact = λ lone. handed_on _ _ c.from_residual.result c.in_err-value.field-0.0 c.from_residual.ensures.1
-        (stays_there v p c.self.view_is c.self.invariant k kind recalled m c.in_err-value.field-0.0.1 c.in_err-value.ensures.gone.1 (lone_true p.member lone));
+          (stays_there v p c.self.view_is c.self.invariant k kind recalled m c.in_err-value.field-0.0.1 c.in_err-value.ensures.gone.1 (lone_true p.member lone));
     }
 
 -- it was the last

@@ -92,7 +92,7 @@ invariant_of-self-else-goes_on g c = let v : LocalModel _ _ = (c.self-inside.vie
     (λ (o : WasIdle e.0 c.enter-guard.result.1 v.member e.1 n e.2 e.3).
     sound_opened holds v n sound (ap (λ (y : LocalState _). y.due) o.2 ∙ o.1)
     (ap (λ (y : LocalState _). y.slots.closes) o.2 ∙ (ap (λ (y : LocalState _). y.slots.closes) e.2.member ∙ sound.closes))
-        (ap home_in o.2 ∙ ap home_in e.2.member)
+    (ap home_in o.2 ∙ ap home_in e.2.member)
     (λ lone. opened_idle v holds (c.self-inside.invariant lone) settled e.0 e.1 lone shut e.2 (λ f. o.0 (f ∙ sym (e.2.lone lone).0)) o.1 n o.2))
     (is_over e.0 c.enter-guard.result.1 v.member e.1 n e.2 e.3 c.if-goes_on.false)
 

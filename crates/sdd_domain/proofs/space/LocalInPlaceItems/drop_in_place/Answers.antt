@@ -22,12 +22,12 @@ returns g c =
       back = search rules;
       sole = search rules;
       owned = λ exact. subst (λ (q : LocalModel g.row.T.Denot g.row.J.Denot). IsLone q.member
-        → IsOwnedBy (kind_of c.args.right) (standing_at (world_of q) (number_of c.args.right)))
-        c.self.view_is e.owned (lone_is c.args.self.now.member exact);
+          → IsOwnedBy (kind_of c.args.right) (standing_at (world_of q) (number_of c.args.right)))
+          c.self.view_is e.owned (lone_is c.args.self.now.member exact);
       exact = gone_worlds (showing g.row.T) g.T.Item.holds v c.drop_in_place.new.self (number_of c.args.right) c.args.self.now c.self.view_is
-        c.drop_in_place.result e.kept e.exact;
+          c.drop_in_place.result e.kept e.exact;
       others = gone_others (showing g.row.T) g.T.Item.holds v c.drop_in_place.new.self (number_of c.args.right) c.args.self.now c.self.view_is
-        c.drop_in_place.result e.kept e.exact;
+          c.drop_in_place.result e.kept e.exact;
       keeps = gone_keeps (showing g.row.T) g.T.Item.holds v c.drop_in_place.new.self (number_of c.args.right) c.args.self.now c.self.view_is
-        c.drop_in_place.result e.kept e.exact;
+          c.drop_in_place.result e.kept e.exact;
     }

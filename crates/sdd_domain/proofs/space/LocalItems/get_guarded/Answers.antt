@@ -16,7 +16,7 @@ invariant_of-self g c = let v : LocalModel _ _ = (c.self-inside.view_is 0).partn
     let only = only_looks g.row.T v m (number_of c.args.right.now) (is_shared (kind_of c.args.right.now)) c.get_guarded.result.now looks in
     sound_step g.T.Item.holds v m (subst (IsSound g.T.Item.holds) (sym inner) c.self.invariant) (λ w _. w) (λ w _ _ whole. whole)
     (ap (λ (y : LocalState _). y.due) only) (closes_looks g.row.T v m (number_of c.args.right.now) (is_shared (kind_of c.args.right.now))
-        c.get_guarded.result.now looks) (ap home_in only)
+    c.get_guarded.result.now looks) (ap home_in only)
     (λ _. same_world g.row.T v m (number_of c.args.right.now)
     (is_shared (kind_of c.args.right.now)) c.get_guarded.result.now looks)
 

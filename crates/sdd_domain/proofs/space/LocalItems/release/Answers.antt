@@ -35,7 +35,7 @@ returns g c =
             (showing g.row.T) g.T.Item.holds;
       };
       own = went_own v c.release.new.self c.args.right tied knows c.release.result went
-        ∙ ap (λ (p : LocalModel g.row.T.Denot g.row.J.Denot). left_waiting c.release.result (number_of c.args.right) p.member.own) (inner ∙ c.self.view_is);
+          ∙ ap (λ (p : LocalModel g.row.T.Denot g.row.J.Denot). left_waiting c.release.result (number_of c.args.right) p.member.own) (inner ∙ c.self.view_is);
       sole = search rules;
       released = λ exact. record {
         owned = release_owned v c.release.new.self c.args.right tied knows c.release.result went c.args.self.now (inner ∙ c.self.view_is) exact;

@@ -18,7 +18,7 @@ invariant_of-self-inside g c = let v : LocalModel g.row.T.Denot g.row.J.Denot = 
 pub returns-clause-exact : goal.returns-clause-exact
 returns-clause-exact g c = let v : LocalModel _ _ = (c.self-inside.view_is 0).partner in let inner = same_partner c.self-inside.view_is in
     rw (← c.number.ensures) (takes_exact v c.from_raw.new.self c.number.result c.self-inside.invariant c.args.self.now (inner ∙ c.self.view_is)
-        c.from_raw.result c.from_raw.ensures)
+    c.from_raw.result c.from_raw.ensures)
 
 pub returns-clause-undisturbed : goal.returns-clause-undisturbed
 returns-clause-undisturbed g c = let v : LocalModel _ _ = (c.self-inside.view_is 0).partner in let inner = same_partner c.self-inside.view_is in

@@ -13,13 +13,13 @@ invariant_of-self g c = let v : LocalModel _ _ = (c.self-inside.view_is 0).partn
 pub returns-clause-shown : goal.returns-clause-shown
 returns-clause-shown g c = let v : LocalModel g.row.T.Denot g.row.J.Denot = (c.self-inside.view_is 0).partner in
     rw (← c.number.ensures) (looks_shown g.row.T g.T.Item.holds v c.get_guarded_raw.new.self c.number.result c.self-inside.invariant c.codes.ensures
-        c.get_guarded_raw.result
+    c.get_guarded_raw.result
     c.get_guarded_raw.ensures)
 
 pub returns-clause-exact : goal.returns-clause-exact
 returns-clause-exact g c = let v : LocalModel _ _ = (c.self-inside.view_is 0).partner in let inner = same_partner c.self-inside.view_is in
     rw (← c.number.ensures) (looks_exact g.row.T g.T.Item.holds v c.get_guarded_raw.new.self c.number.result c.self-inside.invariant c.codes.ensures
-        c.args.self.now
+    c.args.self.now
     (inner ∙ c.self.view_is) c.get_guarded_raw.result c.get_guarded_raw.ensures)
 
 pub returns-clause-undisturbed : goal.returns-clause-undisturbed

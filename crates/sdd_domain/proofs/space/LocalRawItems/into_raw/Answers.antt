@@ -21,7 +21,7 @@ returns g c =
     let v : LocalModel _ _ = (c.self-inside.view_is 0).partner in let inner = same_partner c.self-inside.view_is in let e = c.into_raw.ensures in
     record {
       undisturbed = puts_undisturbed v c.into_raw.new.self (number_of c.args.right) e.out c.self-inside.invariant e.recalled c.args.self.now
-        (inner ∙ c.self.view_is) (showing g.row.T) g.T.Item.holds;
+          (inner ∙ c.self.view_is) (showing g.row.T) g.T.Item.holds;
       slot = search rules;
       owned = puts_stood v c.into_raw.new.self (number_of c.args.right) e.out c.self-inside.invariant e.recalled c.args.self.now (inner ∙ c.self.view_is);
       exact = puts_world v c.into_raw.new.self (number_of c.args.right) e.out c.self-inside.invariant e.recalled c.args.self.now (inner ∙ c.self.view_is);

@@ -30,7 +30,7 @@ returns-clause-undisturbed g c = let v : LocalModel _ _ = (c.self-inside.view_is
 pub returns-clause-exact : goal.returns-clause-exact
 returns-clause-exact g c = let v : LocalModel _ _ = (c.self-inside.view_is 0).partner in let inner = same_partner c.self-inside.view_is in
     let e = c.own_seen.ensures in rw (← c.number.ensures) (upgraded_exact v c.own_seen.new.self c.number.result c.self-inside.invariant c.args.self.now
-        (inner ∙ c.self.view_is)
+    (inner ∙ c.self.view_is)
     c.own_seen.result e.came e.right)
 
 pub returns-clause-back : goal.returns-clause-back
@@ -41,5 +41,5 @@ returns-clause-back g c = let v : LocalModel _ _ = (c.self-inside.view_is 0).par
 pub returns-clause-value : goal.returns-clause-value
 returns-clause-value g c = let v : LocalModel _ _ = (c.self-inside.view_is 0).partner in let inner = same_partner c.self-inside.view_is in
     let e = c.own_seen.ensures in rw (← c.number.ensures) (upgraded_value g.row.T v c.own_seen.new.self c.number.result c.self-inside.invariant g.T.Item.holds
-        c.args.self.now
+    c.args.self.now
     (inner ∙ c.self.view_is) c.codes.ensures c.own_seen.result e.came e.right)

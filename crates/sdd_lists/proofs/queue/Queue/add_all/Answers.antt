@@ -26,7 +26,7 @@ add-requires g c = record {
   seated = subst (λ (s : CallerId). IsSeated s) (sym c.loop-value.invariant.seat) c.requires.seated;
   home = subst (λ (s : CallerId). AreOfCells s.home.cells c.args.self.now) (sym c.loop-value.invariant.seat) c.requires.home;
   value = subst (λ (s : CallerId). AreOf s.home (g.T.Item.holds c.in-Some.value)) (sym c.loop-value.invariant.seat)
-    (c.requires.values c.loop-value.items c.next.new.self c.in-Some.value c.in-Some.ensures.steps);
+      (c.requires.values c.loop-value.items c.next.new.self c.in-Some.value c.in-Some.ensures.steps);
   reader = c.requires.reader ∙ ap (λ (s : CallerId). s.reader) (sym c.loop-value.invariant.seat);
 }
 

@@ -25,7 +25,7 @@ add-requires g c = record {
   seated = subst (λ (s : CallerId). IsSeated s) (sym c.loop-value.invariant.seat) c.requires.seated;
   home = c.requires.home ∙ ap (λ (s : CallerId). s.home.cells) (sym c.loop-value.invariant.seat);
   value = subst (λ (s : CallerId). AreOf s.home (g.T.Item.holds c.in-Some.value)) (sym c.loop-value.invariant.seat)
-    (c.requires.values c.loop-value.items c.next.new.self c.in-Some.value c.in-Some.ensures.steps);
+      (c.requires.values c.loop-value.items c.next.new.self c.in-Some.value c.in-Some.ensures.steps);
   reader = c.requires.reader ∙ ap (λ (s : CallerId). s.reader) (sym c.loop-value.invariant.seat);
 }
 
@@ -63,22 +63,22 @@ returns-in-Err g c = record {
   own = λ start grown. c.add.ensures.own start (c.loop-value.invariant.own start grown);
   back = subst (λ (s : CallerId). (c.in-Err.back.1 ≡ NoSlot) ⊎ IsRefusedBy s NoCell c.in-Err.back.1) c.loop-value.invariant.seat c.in-Err.ensures.back.1;
   list = λ e es list.
-    let w = g.S.Caller.world c.args.s.now in
-    let place = (g.S.Caller.seat c.args.s.now).place in
-    let inv = c.loop-value.invariant.list e es list in
-    let why = c.in-Err.ensures.refused (subst (λ (s : CallerId). IsExact s) (sym c.loop-value.invariant.seat) e) in (
-      inv.0,
-      inv.1,
-      subst (λ (y : World _). FillsStack place (cell_in c.args.self.now) w es inv.0 y inv.1) (sym why.0) inv.3,
-      (
+      let w = g.S.Caller.world c.args.s.now in
+      let place = (g.S.Caller.seat c.args.s.now).place in
+      let inv = c.loop-value.invariant.list e es list in
+      let why = c.in-Err.ensures.refused (subst (λ (s : CallerId). IsExact s) (sym c.loop-value.invariant.seat) e) in (
+        inv.0,
+        inv.1,
+        subst (λ (y : World _). FillsStack place (cell_in c.args.self.now) w es inv.0 y inv.1) (sym why.0) inv.3,
         (
-          c.loop-value.items,
-          inv.2,
-          subst (λ (x : _). g.I.Iterator.next_gives c.loop-value.items (Some x) c.next.new.self) (sym c.in-Err.ensures.back.0) c.in-Some.ensures.steps,
+          (
+            c.loop-value.items,
+            inv.2,
+            subst (λ (x : _). g.I.Iterator.next_gives c.loop-value.items (Some x) c.next.new.self) (sym c.in-Err.ensures.back.0) c.in-Some.ensures.steps,
+          ),
+          subst (λ (y : World _). RefusesPush y c.in-Err.back.1) (sym why.0) why.1,
         ),
-        subst (λ (y : World _). RefusesPush y c.in-Err.back.1) (sym why.0) why.1,
-      ),
-    );
+      );
 }
 
 pub returns : goal.returns

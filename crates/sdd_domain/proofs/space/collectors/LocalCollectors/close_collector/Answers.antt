@@ -19,17 +19,17 @@ returns g c =
     record {
       seat = given_seat g.T.Item.holds v c.close_collector.new.self (raw_number_of c.args.collector) c.close_collector.ensures.rest ∙ ap seat_of c.self.view_is;
       own = given_own holds v q cell e.rest c.args.collector c.close_collector.result
-        (answers holds v q cell c.args.collector c.close_collector.result e.own e.shut e.back e.exact) c.self.invariant e.settled c.args.self.now
-            c.self.view_is;
+          (answers holds v q cell c.args.collector c.close_collector.result e.own e.shut e.back e.exact) c.self.invariant e.settled c.args.self.now
+          c.self.view_is;
       known = search rules;
       back = search rules;
       exact = given_exact holds v q cell e.rest c.args.collector c.close_collector.result
-        (answers holds v q cell c.args.collector c.close_collector.result e.own e.shut e.back e.exact) c.self.invariant e.settled c.args.self.now
-            c.self.view_is;
+          (answers holds v q cell c.args.collector c.close_collector.result e.own e.shut e.back e.exact) c.self.invariant e.settled c.args.self.now
+          c.self.view_is;
       others = given_others holds v q cell e.rest c.args.collector c.close_collector.result
-        (answers holds v q cell c.args.collector c.close_collector.result e.own e.shut e.back e.exact) c.self.invariant e.settled c.args.self.now c.self.view_is
-        (showing g.row.T);
+          (answers holds v q cell c.args.collector c.close_collector.result e.own e.shut e.back e.exact) c.self.invariant e.settled c.args.self.now c.self.view_is
+          (showing g.row.T);
       keeps = given_keeps holds v q cell e.rest c.args.collector c.close_collector.result
-        (answers holds v q cell c.args.collector c.close_collector.result e.own e.shut e.back e.exact) c.self.invariant e.settled c.args.self.now c.self.view_is
-        (showing g.row.T);
+          (answers holds v q cell c.args.collector c.close_collector.result e.own e.shut e.back e.exact) c.self.invariant e.settled c.args.self.now c.self.view_is
+          (showing g.row.T);
     }

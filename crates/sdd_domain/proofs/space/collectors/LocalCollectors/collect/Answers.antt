@@ -27,19 +27,19 @@ returns g c =
     let tied = c.self-inside.invariant in let knows = c.collect.ensures.recalled in let went = c.collect.ensures.went in
     let closes = (subst (IsSound g.T.Item.holds) (sym inner) c.self.invariant).closes in record {
       unmoved =
-        let m = c.collect.new.self in let cell = raw_number_of c.args.collector.now in record {
-          seat = gave_seat v m cell c.args.right tied closes knows c.collect.result went ∙ ap seat_of (inner ∙ c.self.view_is);
-          known = subst (λ (p : LocalModel g.row.T.Denot g.row.J.Denot). KnowsOn (known_of p) (known_of (record { member = m; entries = v.entries })))
-              (inner ∙ c.self.view_is) (gave_knows v m cell c.args.right tied closes knows c.collect.result went);
-          shown = collect_keeps v m cell c.args.right tied closes knows c.collect.result went c.args.self.now (inner ∙ c.self.view_is)
-              (showing g.row.T) g.T.Item.holds;
-        };
+          let m = c.collect.new.self in let cell = raw_number_of c.args.collector.now in record {
+            seat = gave_seat v m cell c.args.right tied closes knows c.collect.result went ∙ ap seat_of (inner ∙ c.self.view_is);
+            known = subst (λ (p : LocalModel g.row.T.Denot g.row.J.Denot). KnowsOn (known_of p) (known_of (record { member = m; entries = v.entries })))
+                (inner ∙ c.self.view_is) (gave_knows v m cell c.args.right tied closes knows c.collect.result went);
+            shown = collect_keeps v m cell c.args.right tied closes knows c.collect.result went c.args.self.now (inner ∙ c.self.view_is)
+                (showing g.row.T) g.T.Item.holds;
+          };
       own = search rules;
       sole = search rules;
       owned = collect_owned v c.collect.new.self (raw_number_of c.args.collector.now) c.args.right tied closes knows c.collect.result went
-        c.args.self.now (inner ∙ c.self.view_is);
+          c.args.self.now (inner ∙ c.self.view_is);
       last = collect_last v c.collect.new.self (raw_number_of c.args.collector.now) c.args.right tied closes knows c.collect.result went
-        c.args.self.now (inner ∙ c.self.view_is);
+          c.args.self.now (inner ∙ c.self.view_is);
       exact = collect_world v c.collect.new.self (raw_number_of c.args.collector.now) c.args.right tied closes knows c.collect.result went
-        c.args.self.now (inner ∙ c.self.view_is);
+          c.args.self.now (inner ∙ c.self.view_is);
     }

@@ -8,7 +8,7 @@ use Rattle.sdd_domain.proofs.space.raw_cells.LocalRawCells.pointer.Goals as goal
 
 pub returns-clause-exact : goal.returns-clause-exact
 returns-clause-exact g c = λ exact. let v : LocalModel _ _ = (c.self-inside.view_is 0).partner in let inner = same_partner c.self-inside.view_is in (
-      found_exact v (raw_number_of c.args.cell.now) c.pointer.result c.pointer.ensures.found c.self-inside.invariant c.args.self.now (inner ∙
-          c.self.view_is) exact,
-      same_exact v c.pointer.new.self c.args.self.now (inner ∙ c.self.view_is) exact c.pointer.ensures.same,
-    )
+  found_exact v (raw_number_of c.args.cell.now) c.pointer.result c.pointer.ensures.found c.self-inside.invariant c.args.self.now (inner ∙
+      c.self.view_is) exact,
+  same_exact v c.pointer.new.self c.args.self.now (inner ∙ c.self.view_is) exact c.pointer.ensures.same,
+)
