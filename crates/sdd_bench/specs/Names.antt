@@ -5,8 +5,9 @@ use Rattle.sdd_bench.specs.declared.threads.Timed.TheVariants.{Guard, Nested as 
 use Rattle.sdd_bench.specs.declared.operation.Guarding.TheVariants.{Outermost, Nested, Accelerated}
 use Rattle.sdd_bench.specs.declared.operation.CellWork.TheVariants.{Loads as CellLoads, Exchanges, Reads as ConfigReads, Publishes, MostlyReads}
 use Rattle.sdd_bench.specs.declared.operation.Task.TheVariants.{Guards, Items, HalfFull, Looks, Reads, Gets, Jobs, Raws, Changes, Shares, Loads, Swaps, OfCell}
+use Rattle.sdd_bench.specs.declared.operation.Listing.TheVariants.{Queue, Stack, Walk}
 use Rattle.sdd_bench.specs.declared.operation.Operation.{Operation}
-use Rattle.sdd_bench.specs.declared.operation.Operation.TheVariants.{World, Local, Beside, Places, Item, Job, Read, Look, Load, Share, Raw, Swap}
+use Rattle.sdd_bench.specs.declared.operation.Operation.TheVariants.{World, Local, Beside, Places, Item, Job, Read, Look, Load, Share, Raw, Swap, Listed}
 
 abbrev pub name_of : Operation → List ℕ
 name_of (World Outermost) = codes "world-outermost"
@@ -59,6 +60,9 @@ name_of Load = codes "world-load"
 name_of Share = codes "world-share"
 name_of Raw = codes "world-raw"
 name_of Swap = codes "world-swap"
+name_of (Listed Queue) = codes "world-queue"
+name_of (Listed Stack) = codes "world-stack"
+name_of (Listed Walk) = codes "world-walk"
 
 -- The names of what is timed
 abbrev pub name_of_timed : Timed → List ℕ

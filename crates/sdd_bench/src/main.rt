@@ -3,6 +3,8 @@
 
 mod cells;
 mod configuration;
+mod containers;
+mod lists;
 mod local;
 mod operation;
 mod places;
@@ -40,6 +42,16 @@ const LIMITS: Limits = Limits {
     slots: 1024,
     cells: 2,
     jobs: 1024,
+    nesting: 2,
+    tries: 1,
+};
+
+/// A thousand entries are there or wait at most: each has a cell, and a queue has two.
+const FOR_LISTS: Limits = Limits {
+    participants: 1,
+    slots: 1024,
+    cells: 1026,
+    jobs: 0,
     nesting: 2,
     tries: 1,
 };
@@ -136,6 +148,7 @@ fn done(alloc: Global, operation: Operation, turns: u64) -> Result<(Tally, u64),
         Operation::Share => world::run(alloc, LIMITS, Work::Shares, turns),
         Operation::Raw => world::run(alloc, LIMITS, Work::Raws, turns),
         Operation::Swap => world::run(alloc, LIMITS, Work::Swaps, turns),
+        Operation::Listed(listing) => containers::lists(alloc, FOR_LISTS, listing, turns),
         Operation::Local(task) => local::run(alloc, LIMITS, false, task, turns),
         Operation::Beside(task) => local::run(alloc, FOR_TWO, true, task, turns),
         Operation::Places => places::run(alloc, CROWD, turns),

@@ -58,6 +58,17 @@ pub enum Task {
     OfCell(CellWork),
 }
 
+/// What is done in each turn with a list of numbers, in a world.
+#[derive(Clone, Copy, Debug, PartialEq, Eq)]
+pub enum Listing {
+    /// Under a guard, a number is pushed onto a queue, and one popped; what is due is reclaimed.
+    Queue,
+    /// The same with a stack.
+    Stack,
+    /// A walk along the entries of a queue, under a guard that stays open.
+    Walk,
+}
+
 /// What is done in each turn, and where.
 #[derive(Clone, Copy, Debug, PartialEq, Eq)]
 pub enum Operation {
@@ -85,6 +96,8 @@ pub enum Operation {
     Raw,
     /// In a world, under a guard, an item is made and put into a cell, and what the cell held is retired; what is due is reclaimed.
     Swap,
+    /// With a list, in a world.
+    Listed(Listing),
 }
 
 /// The operation of that name.
@@ -142,6 +155,9 @@ pub fn named(word: &str) -> Option<Operation>
         "beside-publish" => Some(Operation::Beside(Task::OfCell(CellWork::Publishes))),
         "beside-config" => Some(Operation::Beside(Task::OfCell(CellWork::MostlyReads))),
         "domain-places" => Some(Operation::Places),
+        "world-queue" => Some(Operation::Listed(Listing::Queue)),
+        "world-stack" => Some(Operation::Listed(Listing::Stack)),
+        "world-walk" => Some(Operation::Listed(Listing::Walk)),
         _ => None,
     }
 }

@@ -16,8 +16,7 @@ use Rattle.sdd_standings.specs.Slots.{IsSharedBy}
 use Rattle.sdd_views.specs.declared.Sizes.{Sizes}
 use Rattle.sdd_word_invariant.specs.Codes.{alive, counted, most_owners}
 use Rattle.sdd_space.specs.OwnerOrCell.{OwnerOrCell}
-use Rattle.sdd_space.specs.ParticipantChanges.{HasContentsGivenUp}
-use Rattle.sdd_space.specs.Undisturbed.{Unmoved}
+use Rattle.sdd_space.specs.Undisturbed.{Undisturbed}
 use Rattle.sdd_space.specs.World.{World, standing_at}
 use Rattle.sdd_space.specs.WorldChanges.{with_cell, with_standing}
 use Rattle.sdd_domain.specs.Cells.{AllCellsTaken, ClaimsNone, ClonesNone, ClonesTo, SeesMore, WritesAt}
@@ -265,12 +264,9 @@ module _ {T J : Type 0} (v : LocalModel T J) (m : LocalState J) (cell : ℕ) whe
       (λ (b : ClonesNone cell e v.member m). missed_step v m cell e b shown holds) a
 
   module _ (shown : T → Gv) (holds : T → List OwnerOrCell) (p : LocalModel T J) (same : v ≡ p) (tied : WordsMatchValues v.member v.entries) where
-    pub answered_unmoved : (r : Result Right Refused) → Cloned r → Unmoved seat_of known_of (λ (q : LocalModel T J). Shows shown holds q) p now
-    answered_unmoved r a = let l = step_leaves shown holds v now p same (answered_step shown holds r a) tied in
-        record { seat = l.seat; known = l.known; shown = l.shown }
-
-    pub answered_own : (r : Result Right Refused) → Cloned r → HasContentsGivenUp p.member.own m.own
-    answered_own r a = (None, (step_leaves shown holds v now p same (answered_step shown holds r a) tied).own)
+    pub answered_undisturbed : (r : Result Right Refused) → Cloned r
+        → Undisturbed seat_of (λ (q : LocalModel T J). q.member.own) known_of (λ (q : LocalModel T J). Shows shown holds q) p now
+    answered_undisturbed r a = step_leaves shown holds v now p same (answered_step shown holds r a) tied
 
     module _ (inside : cell < v.member.sizes.cells) (full : IsLone v.member → 0 < cell_word_of v.member cell) where
       abbrev Exactly : LocalModel T J → Result Right Refused → Type 0

@@ -1,5 +1,5 @@
 //! The words of cells that hold owners.
-ghost use Rattle.std.specs.Prelude.{◌≡◌, ◌-◌, ◌%◌, ◌^◌, ◌<◌, [], ◌∷◌, ◌↔◌, IfSome, IsTrue, None, Some, slice_get};
+ghost use Rattle.std.specs.Prelude.{◌≡◌, ◌-◌, ◌%◌, ◌^◌, ◌<◌, ◌≤◌, [], ◌∷◌, ◌↔◌, IfSome, IsTrue, MatchOption, None, Some, slice_get};
 ghost use Rattle.sdd_core.specs.Tag.{number_of};
 ghost use Rattle.sdd_word_invariant.specs.Codes.{held_slots};
 ghost use Rattle.sdd_domain.specs.CellWords.{listed};
@@ -67,6 +67,17 @@ pub fn word_with(held: Option<u32>, tag: Tag) -> u64
     match held {
         Some(slot) => 4 * (slot as u64 + 1) + number,
         None => UNOWNED + number,
+    }
+}
+
+/// The word that calls write into a cell that is to hold this. None where the slot's number is greater than any cell's word can tell.
+#[inline]
+pub fn expected_word(contents: &CellContents) -> Option<u64>
+    ensures { MatchOption result (IfSome contents.now.held (λ slot. 2 ^ 25 - 5 ≤ slot)) (λ word. (0 < word) × (contents_of word ≡ contents.now)) }
+{
+    match contents.held {
+        Some(slot) if slot.number() >= UNNAMED => None,
+        held => Some(word_with(held.map(SlotName::number), contents.tag)),
     }
 }
 

@@ -2,6 +2,7 @@
 use Rattle.std.specs.Prelude.{◌≡◌}
 use Rattle.sdd_rights.specs.Units as token
 use Rattle.sdd_space.specs.Owned as owned
+use Rattle.sdd_space.specs.RawCell as raw_cell
 use Rattle.sdd_space.specs.Shared as shared
 use Rattle.sdd_domain_tests.specs.declared.few_cells.FewCells.{FewCells}
 
@@ -11,3 +12,4 @@ pub record AreFewOf {T : Type 0} (home : token.GhostName) (cells : FewCells T) :
   pub second : shared.cells_home cells.second ≡ home
   pub third : owned.cells_home cells.third ≡ home
   pub fourth : owned.cells_home cells.fourth ≡ home
+  pub fifth : raw_cell.cells_home cells.fifth ≡ home

@@ -4,8 +4,10 @@ use Rattle.sdd_rights.specs.Units as token
 use Rattle.sdd_space.specs.Collector as collector
 use Rattle.sdd_space.specs.Guard.{ReaderId, reader_of}
 use Rattle.sdd_space.specs.Owned as owned
+use Rattle.sdd_space.specs.RawCell as raw_cell
 use Rattle.sdd_space.specs.Shared as shared
 use Rattle.sdd_space.specs.declared.atomic_owned.AtomicOwned.{AtomicOwned}
+use Rattle.sdd_space.specs.declared.atomic_raw.AtomicRaw.{AtomicRaw}
 use Rattle.sdd_space.specs.declared.atomic_shared.AtomicShared.{AtomicShared}
 use Rattle.sdd_space.specs.declared.guard.Guard.{Guard}
 use Rattle.sdd_space.specs.declared.owned.Owned.{Owned}
@@ -26,6 +28,9 @@ module _ {T : Type 0} where
 
   abbrev pub AreSharedCellsIn : token.GhostName → List (AtomicShared T) → Type 0
   AreSharedCellsIn home = All (λ c. shared.cells_home c ≡ home)
+
+  abbrev pub AreRawCellsIn : token.GhostName → List (AtomicRaw T) → Type 0
+  AreRawCellsIn home = All (λ c. raw_cell.cells_home c ≡ home)
 
   abbrev pub AreCollectorsIn : token.GhostName → List (PrivateCollector T) → Type 0
   AreCollectorsIn home = All (λ c. collector.cells_home c ≡ home)

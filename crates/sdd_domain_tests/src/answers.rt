@@ -12,6 +12,8 @@ pub enum Answer {
     Number(u64),
     /// What a cell holds, and its tag.
     Held(Option<u64>, Tag),
+    /// Whether a cell of a pointer was given another one, or a tag, whether the one that it had before names something, and its tag.
+    Pointed(bool, bool, Tag),
     /// Whether a cell was exchanged, what came out of it, or back, what it holds now, and its tag.
     Exchanged(bool, Option<u64>, Option<u64>, Tag),
     Refused(Refused),

@@ -1,4 +1,5 @@
-//! The same calls of a participant by a turn at a world and by the only participant of a domain. One function makes them, and both answer the same.
+//! The same calls of a participant by a turn at a world, by the only participant that a domain may have, and by the only one of a domain with a place more.
+//! One function makes them, and all answer the same.
 ghost use Rattle.std.specs.Prelude.{◌≡◌};
 ghost use Rattle.sdd_space.specs.CallerId.{IsSeated};
 
@@ -56,7 +57,7 @@ fn by_a_turn<P: Plays, R: Abort + AllocGlobal>(rt: &R, plays: &P, limits: Limits
     }
 }
 
-fn by_a_lone_participant<P: Plays, R: Abort + AllocGlobal>(
+fn by_a_participant<P: Plays, R: Abort + AllocGlobal>(
     rt: &R,
     plays: &P,
     limits: Limits,
@@ -77,13 +78,19 @@ fn by_a_lone_participant<P: Plays, R: Abort + AllocGlobal>(
     }
 }
 
-/// What both answered, and counted.
+/// What all answered, and counted.
 pub fn compared<P: Plays, R: Abort + AllocGlobal>(rt: &R, plays: &P, limits: Limits) -> Outcome {
     let one = by_a_turn(rt, plays, limits);
-    let other = by_a_lone_participant(rt, plays, limits);
-    assert_eq!(rt; one.answers, other.answers);
-    assert_eq!(rt; one.before, other.before);
-    assert_eq!(rt; one.after, other.after);
-    assert_eq!(rt; one.total, other.total);
+    for participants in 1..3u64 {
+        let limits = Limits {
+            participants,
+            ..limits
+        };
+        let other = by_a_participant(rt, plays, limits);
+        assert_eq!(rt; one.answers, other.answers);
+        assert_eq!(rt; one.before, other.before);
+        assert_eq!(rt; one.after, other.after);
+        assert_eq!(rt; one.total, other.total);
+    }
     one
 }

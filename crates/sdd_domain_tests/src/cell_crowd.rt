@@ -1,13 +1,15 @@
-//! Eight threads share few cells: they look, swap, exchange, copy and tag.
+//! Eight threads share few cells: they look, swap, exchange, copy, share and tag.
 ghost use Rattle.std.specs.Prelude.{◌≡◌};
 ghost use Rattle.sdd_space.specs.CallerId.{IsSeated};
 ghost use Rattle.sdd_space.specs.Owned as owned;
+ghost use Rattle.sdd_space.specs.RawCell as raw_cell;
 ghost use Rattle.sdd_space.specs.Shared as shared;
 ghost use Rattle.sdd_domain.specs.Domain.{cells_in, slots_in};
 ghost use Rattle.sdd_domain.specs.Space.{seat_of};
 ghost use Rattle.sdd_domain_tests.specs.FewCells.{AreFewOf};
 ghost use Rattle.sdd_domain_tests.specs.Slots.{IsReceiptIn, AreReceiptsIn};
 
+use crate::answers::tag_of;
 use crate::cell_crowd_calls::draws;
 use crate::counted::Counted;
 use crate::crowd_calls::Counts;
@@ -17,7 +19,7 @@ use crate::steps::{ONE_SLOT, add, add_all, closed, ended, new_domain, registered
 use sdd_core::Limits;
 use sdd_domain::{Domain, Local, Receipt};
 use sdd_participants::Tally;
-use sdd_space::{AtomicOwned, AtomicShared};
+use sdd_space::{AtomicOwned, AtomicRaw, AtomicShared};
 use std::process::Abort;
 use std::sync::atomic::Ordering;
 use std::thread::{Threads, join};
@@ -28,11 +30,11 @@ const ROUNDS: u64 = 40;
 /// The calls of a thread in one round.
 const CALLS: u64 = 100;
 
-/// Nine participants share eight slots and six cells.
+/// Nine participants share eight slots and seven cells.
 const FEW: Limits = Limits {
     participants: 9,
     slots: 8,
-    cells: 6,
+    cells: 7,
     tries: 3,
     ..ONE_SLOT
 };
@@ -140,8 +142,41 @@ fn owned_cell(rt: &impl Abort, local: &mut Local<'_, Counted>) -> AtomicOwned<Co
     AtomicOwned::null(local).expect(rt, "a cell is free")
 }
 
+/// A cell without a pointer.
+fn pointer_cell(rt: &impl Abort, local: &mut Local<'_, Counted>) -> AtomicRaw<Counted>
+    requires seated { IsSeated (seat_of local.old) }
+    ensures seat { seat_of local.new ≡ seat_of local.old }
+    ensures home { raw_cell.cells_home result ≡ (seat_of local.old).home.cells }
+{
+    AtomicRaw::null(local).expect(rt, "a cell is free")
+}
+
+/// What the threads share.
+pub fn new_cells(
+    rt: &impl Abort,
+    local: &mut Local<'_, Counted>,
+    counts: &Counts,
+) -> FewCells<Counted>
+    requires seated { IsSeated (seat_of local.old) }
+    ensures seat { seat_of local.new ≡ seat_of local.old }
+    ensures cells { AreFewOf (seat_of local.old).home.cells result }
+{
+    let first = shared_cell(rt, local, counts);
+    let second = shared_cell(rt, local, counts);
+    let third = owned_cell(rt, local);
+    let fourth = owned_cell(rt, local);
+    let fifth = pointer_cell(rt, local);
+    FewCells {
+        first,
+        second,
+        third,
+        fourth,
+        fifth,
+    }
+}
+
 /// Each cell is free again.
-fn close_all(local: &mut Local<'_, Counted>, cells: FewCells<Counted>)
+pub fn close_all(local: &mut Local<'_, Counted>, cells: FewCells<Counted>)
     requires seated { IsSeated (seat_of local.old) }
     requires cells { AreFewOf (seat_of local.old).home.cells cells }
     ensures { seat_of local.new ≡ seat_of local.old }
@@ -151,15 +186,17 @@ fn close_all(local: &mut Local<'_, Counted>, cells: FewCells<Counted>)
         second,
         third,
         fourth,
+        fifth,
     } = cells;
     first.close(local);
     second.close(local);
     third.close(local);
     fourth.close(local);
+    fifth.close(local);
 }
 
 /// Each value was dropped once, and all that was made is gone.
-fn adds_up(rt: &impl Abort, tally: Tally, counts: &Counts) {
+pub fn adds_up(rt: &impl Abort, tally: Tally, counts: &Counts) {
     let refused = u128::from(counts.refused.load(Ordering::SeqCst));
     let drops = u128::from(counts.drops.load(Ordering::SeqCst));
     assert_eq!(rt; (tally.reclaimed, tally.in_place), (tally.made, 0));
@@ -170,13 +207,10 @@ fn plays_a_round(rt: &(impl Abort + AllocGlobal + Threads + Sync), seed: u64) {
     let counts = Counts::new(rt, seed);
     let domain = new_domain::<Counted>(rt, FEW);
     let mut local = registered(rt, &domain);
-    let cells = FewCells {
-        first: shared_cell(rt, &mut local, &counts),
-        second: shared_cell(rt, &mut local, &counts),
-        third: owned_cell(rt, &mut local),
-        fourth: owned_cell(rt, &mut local),
-    };
+    let cells = new_cells(rt, &mut local, &counts);
     let mut receipts = eight(rt, &domain, &counts, &cells);
+    let turned = counts.turned.load(Ordering::SeqCst);
+    assert_eq!(rt; cells.fifth.tag(&mut local), tag_of(turned));
     close_all(&mut local, cells);
     add(rt, &domain, &mut receipts, ended(rt, local));
     adds_up(rt, closed(rt, domain, receipts), &counts);

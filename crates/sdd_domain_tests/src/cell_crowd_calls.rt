@@ -4,6 +4,7 @@ ghost use Rattle.sdd_space.specs.CallerId.{IsSeated};
 ghost use Rattle.sdd_space.specs.Guard.{reader_of};
 ghost use Rattle.sdd_space.specs.Owned as owned;
 ghost use Rattle.sdd_space.specs.Ptr.{PtrIsShown};
+ghost use Rattle.sdd_space.specs.RawCell as raw_cell;
 ghost use Rattle.sdd_space.specs.Shared as shared;
 ghost use Rattle.sdd_domain_tests.specs.FewCells.{AreFewOf};
 
@@ -12,16 +13,16 @@ use crate::counted::Counted;
 use crate::crowd_calls::Counts;
 use crate::few_cells::FewCells;
 use crate::generator::Generator;
-use sdd_core::Refused;
+use sdd_core::{Refused, Tag};
 use sdd_space::{
-    AtomicOwned, AtomicShared, Cells, Guard, Guards, InPlaceItems, Items, Look, Owned, Ptr, Shared,
-    SharedItems,
+    AtomicOwned, AtomicRaw, AtomicShared, Cells, Guard, Guards, InPlaceItems, Items, Look, Owned,
+    Ptr, RawCells, RawPtr, Shared, SharedItems,
 };
 use std::process::Abort;
 use std::sync::atomic::Ordering;
 
 /// What a guard shows stays the same, whatever becomes of the cell.
-fn shows_twice<S: Look<Counted>>(rt: &impl Abort, s: &S, ptr: Ptr<'_, Counted>) {
+pub fn shows_twice<S: Look<Counted>>(rt: &impl Abort, s: &S, ptr: Ptr<'_, Counted>) {
     let Some(seen) = ptr.as_ref(s) else {
         return;
     };
@@ -33,7 +34,7 @@ fn shows_twice<S: Look<Counted>>(rt: &impl Abort, s: &S, ptr: Ptr<'_, Counted>) 
 }
 
 /// Something found no place.
-fn is_refused(rt: &impl Abort, refused: Refused, wanted: Refused) {
+pub fn is_refused(rt: &impl Abort, refused: Refused, wanted: Refused) {
     assert!(rt;
         refused == wanted || refused == Refused::Contended,
         "refused: {refused:?}"
@@ -125,7 +126,7 @@ fn changes_and_releases<S: Items<Counted> + InPlaceItems<Counted>>(
 }
 
 /// Looks twice at what a cell holds.
-fn looks_alone<S: Look<Counted> + Guards<Counted> + Cells<Counted>>(
+pub fn looks_alone<S: Look<Counted> + Guards<Counted> + Cells<Counted>>(
     rt: &impl Abort,
     s: &mut S,
     cell: &AtomicOwned<Counted>,
@@ -145,7 +146,7 @@ fn looks_alone<S: Look<Counted> + Guards<Counted> + Cells<Counted>>(
 }
 
 /// The same of a cell of owners that may have others.
-fn looks_shared<S: Look<Counted> + Guards<Counted> + Cells<Counted>>(
+pub fn looks_shared<S: Look<Counted> + Guards<Counted> + Cells<Counted>>(
     rt: &impl Abort,
     s: &mut S,
     cell: &AtomicShared<Counted>,
@@ -165,7 +166,7 @@ fn looks_shared<S: Look<Counted> + Guards<Counted> + Cells<Counted>>(
 }
 
 /// A new item, or nothing where no slot is free, takes the place of what a cell held, which goes.
-fn swaps_alone<S: Items<Counted> + InPlaceItems<Counted> + Cells<Counted>>(
+pub fn swaps_alone<S: Items<Counted> + InPlaceItems<Counted> + Cells<Counted>>(
     rt: &impl Abort,
     s: &mut S,
     counts: &Counts,
@@ -181,7 +182,7 @@ fn swaps_alone<S: Items<Counted> + InPlaceItems<Counted> + Cells<Counted>>(
     changes_and_retires(rt, s, old);
 }
 
-fn swaps_shared<S: Items<Counted> + InPlaceItems<Counted> + Cells<Counted>>(
+pub fn swaps_shared<S: Items<Counted> + InPlaceItems<Counted> + Cells<Counted>>(
     rt: &impl Abort,
     s: &mut S,
     counts: &Counts,
@@ -277,7 +278,7 @@ fn copies<
 }
 
 /// One owner more of what a pointer names, if it is still owned.
-fn shared_of<S: SharedItems<Counted>>(
+pub fn shared_of<S: SharedItems<Counted>>(
     rt: &impl Abort,
     s: &mut S,
     ptr: Ptr<'_, Counted>,
@@ -338,6 +339,121 @@ fn shares<
     changes_and_releases(rt, s, owner);
 }
 
+/// The same by a call of the cell.
+fn shares_held<
+    S: Guards<Counted>
+        + Items<Counted>
+        + InPlaceItems<Counted>
+        + SharedItems<Counted>
+        + Cells<Counted>,
+>(rt: &impl Abort, s: &mut S, cell: &AtomicShared<Counted>)
+    requires seated { IsSeated (S.seat s.old) }
+    requires home { shared.cells_home cell.now ≡ (S.seat s.old).home.cells }
+    ensures { S.seat s.new ≡ S.seat s.old }
+{
+    let guard = Guard::new(s).expect(rt, "a guard may be opened");
+    let had = cell.get_shared(&guard, s);
+    guard.accelerate(s);
+    guard.close(s);
+    match had {
+        Ok(owner) => changes_and_releases(rt, s, owner),
+        Err(refused) => assert_eq!(rt; refused, Refused::Contended),
+    }
+}
+
+/// The owner of a pointer's item, by a call that gives the pointer back where there is none.
+fn converted<S: SharedItems<Counted>>(
+    rt: &impl Abort,
+    s: &mut S,
+    ptr: Ptr<'_, Counted>,
+) -> Option<Shared<Counted>>
+    requires seated { IsSeated (S.seat s.old) }
+    requires shown { S.asks_sight s.old → PtrIsShown (S.shows s.old) ptr }
+    ensures seat { S.seat s.new ≡ S.seat s.old }
+    ensures home { shared.IsOfSlots (S.seat s.old).home.slots result }
+{
+    match Shared::try_from_ptr(ptr, s) {
+        Ok(owner) => Some(owner),
+        Err((back, refused)) => {
+            assert!(rt; back == ptr);
+            assert!(rt; refused.is_none() || refused == Some(Refused::Contended));
+            None
+        }
+    }
+}
+
+/// The same by that call.
+fn converts<
+    S: Look<Counted>
+        + Guards<Counted>
+        + Items<Counted>
+        + InPlaceItems<Counted>
+        + SharedItems<Counted>
+        + Cells<Counted>,
+>(rt: &impl Abort, s: &mut S, cell: &AtomicShared<Counted>)
+    requires seated { IsSeated (S.seat s.old) }
+    requires home { shared.cells_home cell.now ≡ (S.seat s.old).home.cells }
+    ensures { S.seat s.new ≡ S.seat s.old }
+{
+    let guard = Guard::new(s).expect(rt, "a guard may be opened");
+    let ptr = cell.load(&guard, s);
+    let owner = converted(rt, s, ptr);
+    is_shown(rt, s, ptr, &owner);
+    shows_twice(rt, s, ptr);
+    guard.accelerate(s);
+    guard.close(s);
+    changes_and_releases(rt, s, owner);
+}
+
+/// What has an only owner can't be shared, whoever swaps it meanwhile.
+fn shares_none<S: Look<Counted> + Guards<Counted> + SharedItems<Counted> + Cells<Counted>>(
+    rt: &impl Abort,
+    s: &mut S,
+    cell: &AtomicOwned<Counted>,
+)
+    requires seated { IsSeated (S.seat s.old) }
+    requires home { owned.cells_home cell.now ≡ (S.seat s.old).home.cells }
+    ensures { S.seat s.new ≡ S.seat s.old }
+{
+    let guard = Guard::new(s).expect(rt, "a guard may be opened");
+    let ptr = cell.load(&guard, s);
+    match ptr.get_shared(s) {
+        Ok(None) => shows_twice(rt, s, ptr),
+        Ok(Some(_owner)) => panic!(rt; "it has an only owner"),
+        Err(refused) => panic!(rt; "refused: {refused:?}"),
+    }
+    guard.accelerate(s);
+    guard.close(s);
+}
+
+/// The tag after this one, and the first one after the last.
+fn tag_after(tag: Tag) -> Tag {
+    tag_of(u64::from(u8::from(tag)).wrapping_add(1))
+}
+
+/// The tag of a cell goes on by one, which is counted.
+fn turns_tag<S: Guards<Counted> + RawCells<Counted>>(
+    rt: &impl Abort,
+    s: &mut S,
+    counts: &Counts,
+    cell: &AtomicRaw<Counted>,
+)
+    requires seated { IsSeated (S.seat s.old) }
+    requires home { raw_cell.cells_home cell.now ≡ (S.seat s.old).home.cells }
+    ensures { S.seat s.new ≡ S.seat s.old }
+{
+    let guard = Guard::new(s).expect(rt, "a guard may be opened");
+    let turn = |ptr: RawPtr<Counted>| Some(ptr.with_tag(tag_after(ptr.tag())));
+    match cell.fetch_update(turn, &guard, s) {
+        Ok(Ok(_before)) => {
+            counts.turned.fetch_add(1, Ordering::SeqCst);
+        }
+        Ok(Err(_now)) => panic!(rt; "the closure makes one"),
+        Err(refused) => assert_eq!(rt; refused, Refused::Contended),
+    }
+    guard.close(s);
+}
+
 /// Sets another tag where the condition holds.
 fn tags<S: Cells<Counted>>(rt: &impl Abort, s: &mut S, cells: &FewCells<Counted>, draw: u64)
     requires seated { IsSeated (S.seat s.old) }
@@ -387,13 +503,14 @@ fn draw<
         + Items<Counted>
         + InPlaceItems<Counted>
         + SharedItems<Counted>
-        + Cells<Counted>,
+        + Cells<Counted>
+        + RawCells<Counted>,
 >(rt: &impl Abort, s: &mut S, counts: &Counts, cells: &FewCells<Counted>, drawn: &mut Generator)
     requires seated { IsSeated (S.seat s.old) }
     requires cells { AreFewOf (S.seat s.old).home.cells cells.now }
     ensures { S.seat s.new ≡ S.seat s.old }
 {
-    let call = drawn.below(12);
+    let call = drawn.below(16);
     let draw = drawn.below(16);
     match call {
         0 => looks_shared(rt, s, &cells.first),
@@ -407,6 +524,10 @@ fn draw<
         8 => tags(rt, s, cells, draw),
         9 => shares(rt, s, &cells.first),
         10 => shares(rt, s, &cells.second),
+        11 => shares_held(rt, s, &cells.first),
+        12 => converts(rt, s, &cells.second),
+        13 => shares_none(rt, s, &cells.third),
+        14 => turns_tag(rt, s, counts, &cells.fifth),
         _ => makes_own(rt, s, counts),
     }
 }
@@ -418,7 +539,8 @@ pub fn draws<
         + Items<Counted>
         + InPlaceItems<Counted>
         + SharedItems<Counted>
-        + Cells<Counted>,
+        + Cells<Counted>
+        + RawCells<Counted>,
 >(
     rt: &impl Abort,
     s: &mut S,

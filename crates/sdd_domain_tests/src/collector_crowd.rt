@@ -1,21 +1,23 @@
-//! Eight threads collect for four collectors, and close them while what they were given waits with others that go on.
+//! Eight threads collect for each other's collectors what comes out of cells, and close some, while others look at it.
 ghost use Rattle.std.specs.Prelude.{◌≡◌, IfSome};
 ghost use Rattle.sdd_space.specs.CallerId.{IsSeated};
 ghost use Rattle.sdd_space.specs.Collector.{cells_home};
 ghost use Rattle.sdd_domain.specs.Domain.{cells_in, slots_in};
 ghost use Rattle.sdd_domain.specs.Space.{seat_of};
+ghost use Rattle.sdd_domain_tests.specs.FewCells.{AreFewOf};
 ghost use Rattle.sdd_domain_tests.specs.FewCollectors.{AreCollectorsOf, IsOneOf, AreBothOf, AreFourOf, IsGivenOf, IsLeftOf};
 ghost use Rattle.sdd_domain_tests.specs.Slots.{AreReceiptsIn};
 
-use crate::collector_crowd_calls::{closes, collects, turns};
+use crate::cell_crowd::{adds_up, close_all, new_cells};
+use crate::collector_crowd_calls::{closes, collects, looks};
 use crate::counted::Counted;
 use crate::crowd_calls::Counts;
+use crate::few_cells::FewCells;
 use crate::few_collectors::FewCollectors;
 use crate::generator::Generator;
 use crate::steps::{ONE_SLOT, add, closed, ended, new_domain, registered};
 use sdd_core::Limits;
 use sdd_domain::{Domain, Local, Receipt};
-use sdd_participants::Tally;
 use sdd_space::PrivateCollector;
 use std::process::Abort;
 use std::sync::atomic::Ordering;
@@ -27,14 +29,14 @@ const ROUNDS: u64 = 40;
 /// The calls of a thread in one round, before the collectors are closed.
 const CALLS: u64 = 60;
 
-/// How often one tries to close a collector, and how many guards one opens meanwhile.
+/// How often one tries to close a collector, and how often one looks meanwhile.
 const TRIES: u64 = 40;
 
-/// Nine participants share sixteen slots and four cells.
+/// Nine participants share sixteen slots and nine cells.
 const FEW: Limits = Limits {
     participants: 9,
     slots: 16,
-    cells: 4,
+    cells: 9,
     tries: 3,
     ..ONE_SLOT
 };
@@ -53,14 +55,16 @@ fn collecting<'d>(
     rt: &impl Abort,
     domain: &'d Domain<Counted>,
     counts: &Counts,
+    cells: &FewCells<Counted>,
     collectors: &FewCollectors<Counted>,
 ) -> One<'d>
-    requires { AreCollectorsOf (cells_in domain.now) collectors.now }
+    requires cells { AreFewOf (cells_in domain.now) cells.now }
+    requires collectors { AreCollectorsOf (cells_in domain.now) collectors.now }
     ensures { IsOneOf domain.now result }
 {
     let mut drawn = Generator::new(counts.seeds.fetch_add(1, Ordering::SeqCst));
     let mut local = registered(rt, domain);
-    collects(rt, &mut local, counts, collectors, &mut drawn, CALLS);
+    collects(rt, &mut local, counts, cells, collectors, &mut drawn, CALLS);
     local
 }
 
@@ -69,15 +73,17 @@ fn two_collecting<'d>(
     rt: &(impl Abort + Threads + Sync),
     domain: &'d Domain<Counted>,
     counts: &Counts,
+    cells: &FewCells<Counted>,
     collectors: &FewCollectors<Counted>,
 ) -> (One<'d>, One<'d>)
-    requires { AreCollectorsOf (cells_in domain.now) collectors.now }
+    requires cells { AreFewOf (cells_in domain.now) cells.now }
+    requires collectors { AreCollectorsOf (cells_in domain.now) collectors.now }
     ensures { AreBothOf domain.now result }
 {
     join(
         rt,
-        || collecting(rt, domain, counts, collectors),
-        || collecting(rt, domain, counts, collectors),
+        || collecting(rt, domain, counts, cells, collectors),
+        || collecting(rt, domain, counts, cells, collectors),
     )
 }
 
@@ -86,19 +92,21 @@ fn four_collecting<'d>(
     rt: &(impl Abort + Threads + Sync),
     domain: &'d Domain<Counted>,
     counts: &Counts,
+    cells: &FewCells<Counted>,
     collectors: &FewCollectors<Counted>,
 ) -> ((One<'d>, One<'d>), (One<'d>, One<'d>))
-    requires { AreCollectorsOf (cells_in domain.now) collectors.now }
+    requires cells { AreFewOf (cells_in domain.now) cells.now }
+    requires collectors { AreCollectorsOf (cells_in domain.now) collectors.now }
     ensures { AreFourOf domain.now result }
 {
     join(
         rt,
         ||
-            requires { AreCollectorsOf (cells_in domain.now) collectors.now }
-        { two_collecting(rt, domain, counts, collectors) },
+            requires { AreFewOf (cells_in domain.now) cells.now × AreCollectorsOf (cells_in domain.now) collectors.now }
+        { two_collecting(rt, domain, counts, cells, collectors) },
         ||
-            requires { AreCollectorsOf (cells_in domain.now) collectors.now }
-        { two_collecting(rt, domain, counts, collectors) },
+            requires { AreFewOf (cells_in domain.now) cells.now × AreCollectorsOf (cells_in domain.now) collectors.now }
+        { two_collecting(rt, domain, counts, cells, collectors) },
     )
 }
 
@@ -109,18 +117,24 @@ fn is_taken<X>(rt: &impl Abort, given: Option<X>) {
     }
 }
 
-/// What a thread does then that closes nothing: it opens guards, so that what waits with it for others' collectors is due.
-fn turning<'d>(rt: &impl Abort, domain: &Domain<Counted>, given: &mut Option<One<'d>>) -> One<'d>
-    requires { IfSome given.old (IsOneOf domain.now) }
+/// What a thread does then that closes nothing: it looks at the cells, out of which others collect what they hold.
+fn looking<'d>(
+    rt: &impl Abort,
+    domain: &Domain<Counted>,
+    counts: &Counts,
+    cells: &FewCells<Counted>,
+    given: &mut Option<One<'d>>,
+) -> One<'d>
+    requires cells { AreFewOf (cells_in domain.now) cells.now }
+    requires given { IfSome given.old (IsOneOf domain.now) }
     ensures { IsOneOf domain.now result }
 {
     let _ = domain;
     let Some(mut local) = given.take() else {
         panic!(rt; "a participant was given")
     };
-    for _ in 0..TRIES {
-        turns(rt, &mut local);
-    }
+    let mut drawn = Generator::new(counts.seeds.fetch_add(1, Ordering::SeqCst));
+    looks(rt, &mut local, counts, cells, &mut drawn, TRIES);
     local
 }
 
@@ -128,9 +142,12 @@ fn turning<'d>(rt: &impl Abort, domain: &Domain<Counted>, given: &mut Option<One
 fn closing<'d>(
     rt: &impl Abort,
     domain: &Domain<Counted>,
+    counts: &Counts,
+    cells: &FewCells<Counted>,
     given: &mut Option<(One<'d>, PrivateCollector<Counted>)>,
 ) -> (One<'d>, Option<PrivateCollector<Counted>>)
-    requires { IfSome given.old (λ g. IsOneOf domain.now g.0 × (cells_home g.1 ≡ cells_in domain.now)) }
+    requires cells { AreFewOf (cells_in domain.now) cells.now }
+    requires given { IfSome given.old (λ g. IsOneOf domain.now g.0 × (cells_home g.1 ≡ cells_in domain.now)) }
     ensures local { IsOneOf domain.now result.0 }
     ensures left { IfSome result.1 (λ collector. cells_home collector ≡ cells_in domain.now) }
 {
@@ -138,7 +155,8 @@ fn closing<'d>(
     let Some((mut local, collector)) = given.take() else {
         panic!(rt; "a collector was given")
     };
-    let left = closes(rt, &mut local, collector, TRIES);
+    let mut drawn = Generator::new(counts.seeds.fetch_add(1, Ordering::SeqCst));
+    let left = closes(rt, &mut local, counts, cells, collector, &mut drawn, TRIES);
     (local, left)
 }
 
@@ -146,23 +164,26 @@ fn closing<'d>(
 fn two_closing<'d>(
     rt: &(impl Abort + Threads + Sync),
     domain: &Domain<Counted>,
+    counts: &Counts,
+    cells: &FewCells<Counted>,
     given: &mut Option<Given<'d>>,
 ) -> Left<'d>
-    requires { IfSome given.old (IsGivenOf domain.now) }
+    requires cells { AreFewOf (cells_in domain.now) cells.now }
+    requires given { IfSome given.old (IsGivenOf domain.now) }
     ensures { IsLeftOf domain.now result }
 {
     let Some(((first, second), collector)) = given.take() else {
         panic!(rt; "participants were given")
     };
     let mut to_close = Some((first, collector));
-    let mut to_turn = Some(second);
+    let mut to_look = Some(second);
     let ((first, left), second) = join(
         rt,
-        || closing(rt, domain, &mut to_close),
-        || turning(rt, domain, &mut to_turn),
+        || closing(rt, domain, counts, cells, &mut to_close),
+        || looking(rt, domain, counts, cells, &mut to_look),
     );
     is_taken(rt, to_close);
-    is_taken(rt, to_turn);
+    is_taken(rt, to_look);
     ((first, second), left)
 }
 
@@ -170,9 +191,12 @@ fn two_closing<'d>(
 fn two_pairs_closing<'d>(
     rt: &(impl Abort + Threads + Sync),
     domain: &Domain<Counted>,
+    counts: &Counts,
+    cells: &FewCells<Counted>,
     these: Given<'d>,
     those: Given<'d>,
 ) -> (Left<'d>, Left<'d>)
+    requires cells { AreFewOf (cells_in domain.now) cells.now }
     requires these { IsGivenOf domain.now these }
     requires those { IsGivenOf domain.now those }
     ensures { IsLeftOf domain.now result.0 × IsLeftOf domain.now result.1 }
@@ -182,11 +206,11 @@ fn two_pairs_closing<'d>(
     let left = join(
         rt,
         ||
-            requires { IfSome these (IsGivenOf domain.now) }
-        { two_closing(rt, domain, &mut these) },
+            requires { AreFewOf (cells_in domain.now) cells.now × IfSome these (IsGivenOf domain.now) }
+        { two_closing(rt, domain, counts, cells, &mut these) },
         ||
-            requires { IfSome those (IsGivenOf domain.now) }
-        { two_closing(rt, domain, &mut those) },
+            requires { AreFewOf (cells_in domain.now) cells.now × IfSome those (IsGivenOf domain.now) }
+        { two_closing(rt, domain, counts, cells, &mut those) },
     );
     is_taken(rt, these);
     is_taken(rt, those);
@@ -197,24 +221,30 @@ fn two_pairs_closing<'d>(
 fn four_closing<'d>(
     rt: &(impl Abort + Threads + Sync),
     domain: &Domain<Counted>,
+    counts: &Counts,
+    cells: &FewCells<Counted>,
     given: &mut Option<(Given<'d>, Given<'d>)>,
 ) -> (Left<'d>, Left<'d>)
-    requires { IfSome given.old (λ g. IsGivenOf domain.now g.0 × IsGivenOf domain.now g.1) }
+    requires cells { AreFewOf (cells_in domain.now) cells.now }
+    requires given { IfSome given.old (λ g. IsGivenOf domain.now g.0 × IsGivenOf domain.now g.1) }
     ensures { IsLeftOf domain.now result.0 × IsLeftOf domain.now result.1 }
 {
     let Some((these, those)) = given.take() else {
         panic!(rt; "participants were given")
     };
-    two_pairs_closing(rt, domain, these, those)
+    two_pairs_closing(rt, domain, counts, cells, these, those)
 }
 
 /// Four of eight threads close one each.
 fn eight_closing<'d>(
     rt: &(impl Abort + Threads + Sync),
     domain: &Domain<Counted>,
+    counts: &Counts,
+    cells: &FewCells<Counted>,
     these: (Given<'d>, Given<'d>),
     those: (Given<'d>, Given<'d>),
 ) -> ((Left<'d>, Left<'d>), (Left<'d>, Left<'d>))
+    requires cells { AreFewOf (cells_in domain.now) cells.now }
     requires these { IsGivenOf domain.now these.0 × IsGivenOf domain.now these.1 }
     requires those { IsGivenOf domain.now those.0 × IsGivenOf domain.now those.1 }
     ensures these { IsLeftOf domain.now result.0.0 × IsLeftOf domain.now result.0.1 }
@@ -225,11 +255,11 @@ fn eight_closing<'d>(
     let left = join(
         rt,
         ||
-            requires { IfSome these (λ g. IsGivenOf domain.now g.0 × IsGivenOf domain.now g.1) }
-        { four_closing(rt, domain, &mut these) },
+            requires { AreFewOf (cells_in domain.now) cells.now × IfSome these (λ g. IsGivenOf domain.now g.0 × IsGivenOf domain.now g.1) }
+        { four_closing(rt, domain, counts, cells, &mut these) },
         ||
-            requires { IfSome those (λ g. IsGivenOf domain.now g.0 × IsGivenOf domain.now g.1) }
-        { four_closing(rt, domain, &mut those) },
+            requires { AreFewOf (cells_in domain.now) cells.now × IfSome those (λ g. IsGivenOf domain.now g.0 × IsGivenOf domain.now g.1) }
+        { four_closing(rt, domain, counts, cells, &mut those) },
     );
     is_taken(rt, these);
     is_taken(rt, those);
@@ -283,30 +313,21 @@ fn new_collectors(rt: &impl Abort, local: &mut One<'_>) -> FewCollectors<Counted
     }
 }
 
-/// Each value was dropped once, and all that was made is gone.
-fn adds_up(rt: &impl Abort, tally: Tally, counts: &Counts) {
-    let refused = u128::from(counts.refused.load(Ordering::SeqCst));
-    let drops = u128::from(counts.drops.load(Ordering::SeqCst));
-    assert_eq!(rt; (tally.reclaimed, tally.in_place), (tally.made, 0));
-    assert_eq!(rt; drops, tally.made.saturating_add(refused));
-}
-
-/// Eight threads collect for four collectors; then four of them close one each, while the others go on.
+/// Eight threads collect for four collectors; then four of them close one each, and another one in its place, while the others look on.
 fn plays_a_round(rt: &(impl Abort + AllocGlobal + Threads + Sync), seed: u64) {
     let counts = Counts::new(rt, seed);
     let domain = new_domain::<Counted>(rt, FEW);
     let mut local = registered(rt, &domain);
+    let cells = new_cells(rt, &mut local, &counts);
     let collectors = new_collectors(rt, &mut local);
-    let mut receipts = Vec::new(rt.alloc());
-    add(rt, &domain, &mut receipts, ended(rt, local));
     let (these, those) = join(
         rt,
         ||
-            requires { AreCollectorsOf (cells_in domain) collectors }
-        { four_collecting(rt, &domain, &counts, &collectors) },
+            requires { AreFewOf (cells_in domain) cells × AreCollectorsOf (cells_in domain) collectors }
+        { four_collecting(rt, &domain, &counts, &cells, &collectors) },
         ||
-            requires { AreCollectorsOf (cells_in domain) collectors }
-        { four_collecting(rt, &domain, &counts, &collectors) },
+            requires { AreFewOf (cells_in domain) cells × AreCollectorsOf (cells_in domain) collectors }
+        { four_collecting(rt, &domain, &counts, &cells, &collectors) },
     );
     let FewCollectors {
         first,
@@ -317,13 +338,18 @@ fn plays_a_round(rt: &(impl Abort + AllocGlobal + Threads + Sync), seed: u64) {
     let (these, those) = eight_closing(
         rt,
         &domain,
+        &counts,
+        &cells,
         ((these.0, first), (these.1, second)),
         ((those.0, third), (those.1, fourth)),
     );
+    let mut receipts = Vec::new(rt.alloc());
     finishes(rt, &domain, &mut receipts, these.0);
     finishes(rt, &domain, &mut receipts, these.1);
     finishes(rt, &domain, &mut receipts, those.0);
     finishes(rt, &domain, &mut receipts, those.1);
+    close_all(&mut local, cells);
+    add(rt, &domain, &mut receipts, ended(rt, local));
     adds_up(rt, closed(rt, domain, receipts), &counts);
 }
 

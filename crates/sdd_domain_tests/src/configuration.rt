@@ -1,4 +1,4 @@
-//! A configuration of two threads: one makes it wider by exchanges, and one looks.
+//! A configuration of two threads: one makes it wider by exchanges, and one looks, and keeps what it saw beyond its guard.
 ghost use Rattle.std.specs.Prelude.{◌≡◌};
 ghost use Rattle.sdd_space.specs.CallerId.{IsSeated};
 ghost use Rattle.sdd_domain.specs.Domain.{cells_in, slots_in};
@@ -7,10 +7,10 @@ ghost use Rattle.sdd_domain_tests.specs.Slots.{IsReceiptIn};
 ghost use Rattle.sdd_examples.specs.Config.{cells_home};
 
 use crate::steps::{ONE_SLOT, add, closed, ended, new_domain, registered};
-use sdd_core::Limits;
+use sdd_core::{Limits, Refused};
 use sdd_domain::{Domain, Local, Receipt};
 use sdd_examples::config::Config;
-use sdd_examples::shared_config::{Bounds, looks_twice, widen};
+use sdd_examples::shared_config::{Bounds, keep, looks_twice, widen};
 use std::process::Abort;
 use std::thread::{Threads, join};
 
@@ -55,7 +55,32 @@ fn width(rt: &impl Abort, local: &mut Local<'_, Bounds>, config: &Config<Bounds>
     bounds.width()
 }
 
-/// What a reader sees never gets narrower.
+/// How wide the bounds are that an owner has whose guard was closed: as wide as was seen under it. None where what was seen has no owner any more.
+fn kept_width(
+    rt: &impl Abort,
+    local: &mut Local<'_, Bounds>,
+    config: &Config<Bounds>,
+) -> Option<u64>
+    requires seated { IsSeated (seat_of local.old) }
+    requires home { cells_home config.now ≡ (seat_of local.old).home.cells }
+    ensures { seat_of local.new ≡ seat_of local.old }
+{
+    match keep(config, local) {
+        Ok(Some((bounds, owner))) => {
+            let width = owner.get(local).width();
+            assert_eq!(rt; width, bounds.width());
+            let _ = owner.release(local);
+            Some(width)
+        }
+        Ok(None) => None,
+        Err(refused) => {
+            assert_eq!(rt; refused, Refused::Contended);
+            None
+        }
+    }
+}
+
+/// What a reader sees, or keeps, never gets narrower.
 fn looks(rt: &impl Abort, domain: &Domain<Bounds>, config: &Config<Bounds>) -> Receipt<Bounds>
     requires { cells_home config.now ≡ cells_in domain.now }
     ensures { IsReceiptIn (slots_in domain.now) result }
@@ -65,7 +90,8 @@ fn looks(rt: &impl Abort, domain: &Domain<Bounds>, config: &Config<Bounds>) -> R
     for _ in 0..500 {
         let seen = width(rt, &mut local, config);
         assert!(rt; last <= seen);
-        last = seen;
+        last = kept_width(rt, &mut local, config).unwrap_or(seen);
+        assert!(rt; seen <= last);
     }
     ended(rt, local)
 }
@@ -114,6 +140,7 @@ fn the_bounds_are_as_wide_as_was_published(rt: HostRuntime) {
     let (times, (writer, reader)) = two_work(&rt, &domain, &config);
     assert!(rt; times > 0);
     assert_eq!(rt; width(&rt, &mut local, &config), times);
+    assert_eq!(rt; kept_width(&rt, &mut local, &config), Some(times));
     match config.replace(narrow(&rt), &mut local) {
         Ok(()) => assert_eq!(rt; width(&rt, &mut local, &config), 0),
         Err((_bounds, refused)) => panic!(rt; "refused: {refused:?}"),

@@ -29,6 +29,8 @@ pub struct Counts {
     pub deferred: Total,
     /// The jobs that ran.
     pub runs: Total,
+    /// How often the tag of a cell went on by one.
+    pub turned: Total,
 }
 
 impl Counts {
@@ -40,6 +42,7 @@ impl Counts {
             last: number(rt),
             deferred: number(rt),
             runs: number(rt),
+            turned: number(rt),
         };
         counts.seeds.store(seed, Ordering::SeqCst);
         counts

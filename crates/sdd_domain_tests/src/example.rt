@@ -1,4 +1,5 @@
-//! One example of each call that a turn at a world and the only participant of a domain both have, with what both answer.
+//! One example of each call that a turn at a world and the only participant of a domain both have, with what both answer, also where the domain has a place
+//! more.
 ghost use Rattle.std.specs.Prelude.{◌≡◌};
 ghost use Rattle.sdd_space.specs.CallerId.{IsSeated};
 ghost use Rattle.sdd_space.specs.Guard.{reader_of};

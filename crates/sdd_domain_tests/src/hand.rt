@@ -1,13 +1,16 @@
-//! What a participant has that makes calls as they come: owners, cells, collectors, pointers to what it put out, and guards.
+//! What a participant has that makes calls as they come: owners, cells of owners and of pointers, collectors, pointers to what it put out, and guards.
 ghost use Rattle.std.specs.Prelude.{◌≡◌, IfSome};
 ghost use Rattle.sdd_rights.specs.Units as token;
 ghost use Rattle.sdd_space.specs.Collector.{cells_home};
 ghost use Rattle.sdd_space.specs.Guard.{ReaderId, reader_of};
 ghost use Rattle.sdd_space.specs.Owned as owned;
+ghost use Rattle.sdd_space.specs.RawCell as raw_cell;
 ghost use Rattle.sdd_space.specs.Shared as shared;
-ghost use Rattle.sdd_domain_tests.specs.Hands.{AreOwnedIn, AreOwnedCellsIn, AreSharedIn, AreSharedCellsIn, AreCollectorsIn, AreGuardsOf};
+ghost use Rattle.sdd_domain_tests.specs.Hands.{AreOwnedIn, AreOwnedCellsIn, AreSharedIn, AreSharedCellsIn, AreRawCellsIn, AreCollectorsIn, AreGuardsOf};
 
-use sdd_space::{AtomicOwned, AtomicShared, Guard, Owned, PrivateCollector, RawPtr, Shared};
+use sdd_space::{
+    AtomicOwned, AtomicRaw, AtomicShared, Guard, Owned, PrivateCollector, RawPtr, Shared,
+};
 use std::alloc::Global;
 use std::process::Abort;
 
@@ -16,6 +19,7 @@ pub struct Hand {
     pub shared: Vec<Shared<u64>>,
     pub owned_cells: Vec<AtomicOwned<u64>>,
     pub shared_cells: Vec<AtomicShared<u64>>,
+    pub raw_cells: Vec<AtomicRaw<u64>>,
     pub collectors: Vec<PrivateCollector<u64>>,
     /// What is out as raw, and nobody has.
     pub out: Vec<RawPtr<u64>>,
@@ -28,6 +32,7 @@ impl Hand {
         ensures shared { (home : token.GhostName) → AreSharedIn home result.shared.items }
         ensures owned_cells { (home : token.GhostName) → AreOwnedCellsIn home result.owned_cells.items }
         ensures shared_cells { (home : token.GhostName) → AreSharedCellsIn home result.shared_cells.items }
+        ensures raw_cells { (home : token.GhostName) → AreRawCellsIn home result.raw_cells.items }
         ensures collectors { (home : token.GhostName) → AreCollectorsIn home result.collectors.items }
         ensures guards { (reader : ReaderId) → AreGuardsOf reader result.guards.items }
     {
@@ -36,6 +41,7 @@ impl Hand {
             shared: Vec::new(alloc),
             owned_cells: Vec::new(alloc),
             shared_cells: Vec::new(alloc),
+            raw_cells: Vec::new(alloc),
             collectors: Vec::new(alloc),
             out: Vec::new(alloc),
             guards: Vec::new(alloc),
@@ -125,6 +131,27 @@ pub fn keep_shared_cell(
     cell: AtomicShared<u64>,
 )
     ensures { (home : token.GhostName) → AreSharedCellsIn home cells.old.items → shared.cells_home cell ≡ home → AreSharedCellsIn home cells.new.items }
+{
+    match cells.push(cell) {
+        Ok(()) => {}
+        Err(_refused) => panic!(rt; "there is memory"),
+    }
+}
+
+/// Takes some cell of a pointer.
+pub fn take_raw_cell(cells: &mut Vec<AtomicRaw<u64>>, pick: usize) -> Option<AtomicRaw<u64>>
+    ensures { (home : token.GhostName) → AreRawCellsIn home cells.old.items →
+        AreRawCellsIn home cells.new.items × IfSome result (λ cell. raw_cell.cells_home cell ≡ home) }
+{
+    if cells.is_empty() {
+        return None;
+    }
+    let place = pick % cells.len();
+    Some(cells.remove(place))
+}
+
+pub fn keep_raw_cell(rt: &impl Abort, cells: &mut Vec<AtomicRaw<u64>>, cell: AtomicRaw<u64>)
+    ensures { (home : token.GhostName) → AreRawCellsIn home cells.old.items → raw_cell.cells_home cell ≡ home → AreRawCellsIn home cells.new.items }
 {
     match cells.push(cell) {
         Ok(()) => {}

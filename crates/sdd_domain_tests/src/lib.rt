@@ -71,6 +71,8 @@ mod random_calls;
 #[cfg(test)]
 mod raw;
 #[cfg(test)]
+mod raw_cell_calls;
+#[cfg(test)]
 mod raw_cells;
 #[cfg(test)]
 mod reclaims;
@@ -94,5 +96,7 @@ mod threads;
 mod two_places;
 #[cfg(test)]
 mod two_workers;
+#[cfg(test)]
+mod upgraded_calls;
 #[cfg(test)]
 mod with_jobs;

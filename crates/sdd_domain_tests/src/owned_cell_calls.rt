@@ -10,7 +10,7 @@ use crate::hand::{
     keep_guard, keep_owned, keep_owned_cell, take_guard, take_owned, take_owned_cell,
 };
 use sdd_core::Tag;
-use sdd_space::{AtomicOwned, Cells, Guard, Items, Look, Owned, Ptr, RawPtr};
+use sdd_space::{AtomicOwned, Cells, Guard, Items, Look, Owned, Ptr, RawPtr, SharedItems};
 use std::process::Abort;
 
 pub fn makes<S: Cells<u64>>(
@@ -385,4 +385,50 @@ pub fn closes<S: Items<u64> + Cells<u64>>(
     };
     cell.close(s);
     Answer::Done
+}
+
+/// What an only owner has can't be shared.
+fn is_not_shared<S: SharedItems<u64> + Cells<u64>>(
+    rt: &impl Abort,
+    s: &mut S,
+    cell: &AtomicOwned<u64>,
+    guard: &Guard,
+) -> Answer
+    requires seated { IsSeated (S.seat s.old) }
+    requires home { owned.cells_home cell.now ≡ (S.seat s.old).home.cells }
+    requires reader { reader_of guard.now ≡ (S.seat s.old).reader }
+    ensures seat { S.seat s.new ≡ S.seat s.old }
+{
+    let ptr = cell.load(guard, s);
+    match ptr.get_shared(s) {
+        Ok(None) => Answer::Told(ptr.is_null()),
+        Ok(Some(_owner)) => panic!(rt; "it has an only owner"),
+        Err(refused) => Answer::Refused(refused),
+    }
+}
+
+pub fn shares<S: SharedItems<u64> + Cells<u64>>(
+    rt: &impl Abort,
+    s: &mut S,
+    cells: &mut Vec<AtomicOwned<u64>>,
+    guards: &mut Vec<Guard>,
+    pick: usize,
+) -> Answer
+    requires seated { IsSeated (S.seat s.old) }
+    requires cells { AreOwnedCellsIn (S.seat s.old).home.cells cells.old.items }
+    requires guards { AreGuardsOf (S.seat s.old).reader guards.old.items }
+    ensures seat { S.seat s.new ≡ S.seat s.old }
+    ensures cells { AreOwnedCellsIn (S.seat s.old).home.cells cells.new.items }
+    ensures guards { AreGuardsOf (S.seat s.old).reader guards.new.items }
+{
+    let Some(guard) = take_guard(guards) else {
+        return Answer::Nothing;
+    };
+    let mut answer = Answer::Nothing;
+    if let Some(cell) = take_owned_cell(cells, pick) {
+        answer = is_not_shared(rt, s, &cell, &guard);
+        keep_owned_cell(rt, cells, cell);
+    }
+    keep_guard(rt, guards, guard);
+    answer
 }

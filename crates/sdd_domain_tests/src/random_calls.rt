@@ -1,7 +1,7 @@
-//! Lists of calls as they come, which a turn at a world and the only participant of a domain answer alike.
+//! Lists of calls as they come, which a turn at a world and the only participant of a domain answer alike, also where the domain has a place more.
 ghost use Rattle.std.specs.Prelude.{◌≡◌};
 ghost use Rattle.sdd_space.specs.CallerId.{IsSeated};
-ghost use Rattle.sdd_domain_tests.specs.Hands.{AreOwnedIn, AreOwnedCellsIn, AreSharedIn, AreSharedCellsIn, AreCollectorsIn, AreGuardsOf};
+ghost use Rattle.sdd_domain_tests.specs.Hands.{AreOwnedIn, AreOwnedCellsIn, AreSharedIn, AreSharedCellsIn, AreRawCellsIn, AreCollectorsIn, AreGuardsOf};
 
 use crate::answers::{Answer, note};
 use crate::both_spaces::{Plays, compared};
@@ -10,12 +10,14 @@ use crate::hand::Hand;
 use crate::steps::ONE_SLOT;
 use crate::with_jobs::{Adds, Total};
 use crate::{
-    collector_calls, guard_calls, owned_calls, owned_cell_calls, shared_calls, shared_cell_calls,
+    collector_calls, guard_calls, owned_calls, owned_cell_calls, raw_cell_calls, shared_calls,
+    shared_cell_calls, upgraded_calls,
 };
 use sdd_core::{Limits, Refused};
 use sdd_space::{
-    AtomicOwned, AtomicShared, Cells, Collectors, Deferrals, Guard, Guards, InPlaceItems, Items,
-    Look, Owned, PrivateCollector, RawCells, RawItems, RawPtr, Shared, SharedOwners, Space,
+    AtomicOwned, AtomicRaw, AtomicShared, Cells, Collectors, Deferrals, Guard, Guards,
+    InPlaceItems, Items, Look, Owned, PrivateCollector, RawCells, RawItems, RawPtr, Shared,
+    SharedItems, Space,
 };
 use std::process::Abort;
 use std::sync::atomic::Ordering;
@@ -64,17 +66,19 @@ enum SharedCall {
     Look,
     LookUnder,
     Clone,
+    Upgrade,
     Release,
     Change,
     Drop,
 }
 
-const SHARED_CALLS: [SharedCall; 8] = [
+const SHARED_CALLS: [SharedCall; 9] = [
     SharedCall::Make,
     SharedCall::MakeByClosure,
     SharedCall::Look,
     SharedCall::LookUnder,
     SharedCall::Clone,
+    SharedCall::Upgrade,
     SharedCall::Release,
     SharedCall::Change,
     SharedCall::Drop,
@@ -90,11 +94,12 @@ enum CellCall {
     Exchange,
     Tag,
     Clone,
+    Share,
     ComeOut,
     Close,
 }
 
-const CELL_CALLS: [CellCall; 10] = [
+const CELL_CALLS: [CellCall; 11] = [
     CellCall::Make,
     CellCall::MakeNull,
     CellCall::TakeIn,
@@ -103,6 +108,7 @@ const CELL_CALLS: [CellCall; 10] = [
     CellCall::Exchange,
     CellCall::Tag,
     CellCall::Clone,
+    CellCall::Share,
     CellCall::ComeOut,
     CellCall::Close,
 ];
@@ -163,7 +169,7 @@ fn owned_call<S: Look<u64> + Items<u64> + InPlaceItems<u64> + RawItems<u64>>(
     }
 }
 
-fn shared_call<S: Look<u64> + Items<u64> + SharedOwners<u64> + InPlaceItems<u64>>(
+fn shared_call<S: Look<u64> + Items<u64> + SharedItems<u64> + InPlaceItems<u64>>(
     rt: &impl Abort,
     s: &mut S,
     owners: &mut Vec<Shared<u64>>,
@@ -177,7 +183,7 @@ fn shared_call<S: Look<u64> + Items<u64> + SharedOwners<u64> + InPlaceItems<u64>
     ensures owners { AreSharedIn (S.seat s.old).home.slots owners.new.items }
     ensures guards { AreGuardsOf (S.seat s.old).reader guards.new.items }
 {
-    let call = SHARED_CALLS[drawn.below(8) as usize];
+    let call = SHARED_CALLS[drawn.below(9) as usize];
     let value = drawn.below(1000);
     let pick = value as usize;
     match call {
@@ -186,6 +192,9 @@ fn shared_call<S: Look<u64> + Items<u64> + SharedOwners<u64> + InPlaceItems<u64>
         SharedCall::Look => shared_calls::looks(rt, s, owners, pick),
         SharedCall::LookUnder => shared_calls::looks_under(rt, s, owners, guards, pick),
         SharedCall::Clone => shared_calls::clones(rt, s, owners, pick),
+        SharedCall::Upgrade => {
+            upgraded_calls::upgrades(rt, s, owners, guards, pick, value % 2 == 0)
+        }
         SharedCall::Release => shared_calls::releases(s, owners, pick),
         SharedCall::Change => shared_calls::changes(rt, s, owners, value, pick),
         SharedCall::Drop => shared_calls::drops(rt, s, owners, pick),
@@ -241,7 +250,7 @@ fn raw_call<S: Look<u64> + RawItems<u64>>(
     }
 }
 
-fn owned_cell_call<S: Look<u64> + Items<u64> + Cells<u64>>(
+fn owned_cell_call<S: Look<u64> + Items<u64> + SharedItems<u64> + Cells<u64>>(
     rt: &impl Abort,
     s: &mut S,
     cells: &mut Vec<AtomicOwned<u64>>,
@@ -258,7 +267,7 @@ fn owned_cell_call<S: Look<u64> + Items<u64> + Cells<u64>>(
     ensures owners { AreOwnedIn (S.seat s.old).home.slots owners.new.items }
     ensures guards { AreGuardsOf (S.seat s.old).reader guards.new.items }
 {
-    let call = CELL_CALLS[drawn.below(10) as usize];
+    let call = CELL_CALLS[drawn.below(11) as usize];
     let value = drawn.below(1000);
     let pick = value as usize;
     let draw = drawn.below(16);
@@ -271,12 +280,13 @@ fn owned_cell_call<S: Look<u64> + Items<u64> + Cells<u64>>(
         CellCall::Exchange => owned_cell_calls::exchanges(rt, s, cells, owners, guards, pick, draw),
         CellCall::Tag => owned_cell_calls::tags(rt, s, cells, pick, draw),
         CellCall::Clone => Answer::Nothing,
+        CellCall::Share => owned_cell_calls::shares(rt, s, cells, guards, pick),
         CellCall::ComeOut => owned_cell_calls::comes_out(rt, s, cells, owners, pick),
         CellCall::Close => owned_cell_calls::closes(s, cells, pick),
     }
 }
 
-fn shared_cell_call<S: Look<u64> + Items<u64> + Cells<u64>>(
+fn shared_cell_call<S: Look<u64> + Items<u64> + SharedItems<u64> + Cells<u64>>(
     rt: &impl Abort,
     s: &mut S,
     cells: &mut Vec<AtomicShared<u64>>,
@@ -293,7 +303,7 @@ fn shared_cell_call<S: Look<u64> + Items<u64> + Cells<u64>>(
     ensures owners { AreSharedIn (S.seat s.old).home.slots owners.new.items }
     ensures guards { AreGuardsOf (S.seat s.old).reader guards.new.items }
 {
-    let call = CELL_CALLS[drawn.below(10) as usize];
+    let call = CELL_CALLS[drawn.below(11) as usize];
     let value = drawn.below(1000);
     let pick = value as usize;
     let draw = drawn.below(16);
@@ -308,8 +318,35 @@ fn shared_cell_call<S: Look<u64> + Items<u64> + Cells<u64>>(
         ),
         CellCall::Tag => shared_cell_calls::tags(rt, s, cells, pick, draw),
         CellCall::Clone => shared_cell_calls::clones(rt, s, cells, guards, pick),
+        CellCall::Share => shared_cell_calls::shares(rt, s, cells, owners, guards, pick),
         CellCall::ComeOut => shared_cell_calls::comes_out(rt, s, cells, owners, pick),
         CellCall::Close => shared_cell_calls::closes(s, cells, pick),
+    }
+}
+
+fn raw_cell_call<S: RawCells<u64>>(
+    rt: &impl Abort,
+    s: &mut S,
+    cells: &mut Vec<AtomicRaw<u64>>,
+    out: &Vec<RawPtr<u64>>,
+    guards: &mut Vec<Guard>,
+    drawn: &mut Generator,
+) -> Answer
+    requires seated { IsSeated (S.seat s.old) }
+    requires cells { AreRawCellsIn (S.seat s.old).home.cells cells.old.items }
+    requires guards { AreGuardsOf (S.seat s.old).reader guards.old.items }
+    ensures seat { S.seat s.new ≡ S.seat s.old }
+    ensures cells { AreRawCellsIn (S.seat s.old).home.cells cells.new.items }
+    ensures guards { AreGuardsOf (S.seat s.old).reader guards.new.items }
+{
+    let call = drawn.below(5);
+    let pick = drawn.below(1000) as usize;
+    let draw = drawn.below(96);
+    let ptr = raw_cell_calls::pointer(out, pick, draw);
+    match call {
+        0 => raw_cell_calls::makes(rt, s, cells, ptr),
+        1 => raw_cell_calls::closes(s, cells, pick),
+        _ => raw_cell_calls::calls(rt, s, cells, guards, ptr, pick, draw),
     }
 }
 
@@ -356,6 +393,7 @@ pub fn call<S: Space<u64> + Deferrals<u64, Job = Adds>>(
     requires shared { AreSharedIn (S.seat s.old).home.slots hand.old.shared.items }
     requires owned_cells { AreOwnedCellsIn (S.seat s.old).home.cells hand.old.owned_cells.items }
     requires shared_cells { AreSharedCellsIn (S.seat s.old).home.cells hand.old.shared_cells.items }
+    requires raw_cells { AreRawCellsIn (S.seat s.old).home.cells hand.old.raw_cells.items }
     requires collectors { AreCollectorsIn (S.seat s.old).home.cells hand.old.collectors.items }
     requires guards { AreGuardsOf (S.seat s.old).reader hand.old.guards.items }
     ensures seat { S.seat s.new ≡ S.seat s.old }
@@ -363,10 +401,11 @@ pub fn call<S: Space<u64> + Deferrals<u64, Job = Adds>>(
     ensures shared { AreSharedIn (S.seat s.old).home.slots hand.new.shared.items }
     ensures owned_cells { AreOwnedCellsIn (S.seat s.old).home.cells hand.new.owned_cells.items }
     ensures shared_cells { AreSharedCellsIn (S.seat s.old).home.cells hand.new.shared_cells.items }
+    ensures raw_cells { AreRawCellsIn (S.seat s.old).home.cells hand.new.raw_cells.items }
     ensures collectors { AreCollectorsIn (S.seat s.old).home.cells hand.new.collectors.items }
     ensures guards { AreGuardsOf (S.seat s.old).reader hand.new.guards.items }
 {
-    match drawn.below(9) {
+    match drawn.below(10) {
         0 => owned_call(rt, s, &mut hand.owned, &mut hand.guards, drawn),
         1 => shared_call(rt, s, &mut hand.shared, &mut hand.guards, drawn),
         2 => raw_call(
@@ -399,6 +438,14 @@ pub fn call<S: Space<u64> + Deferrals<u64, Job = Adds>>(
             &mut hand.collectors,
             &mut hand.owned,
             &mut hand.shared,
+            &mut hand.guards,
+            drawn,
+        ),
+        6 => raw_cell_call(
+            rt,
+            s,
+            &mut hand.raw_cells,
+            &hand.out,
             &mut hand.guards,
             drawn,
         ),
@@ -498,6 +545,7 @@ impl Plays for Drawn {
             shared,
             owned_cells,
             shared_cells,
+            raw_cells,
             collectors,
             out,
             guards,
@@ -506,6 +554,7 @@ impl Plays for Drawn {
         collector_calls::close_all(rt, s, collectors);
         close_owned_cells(s, owned_cells);
         close_shared_cells(s, shared_cells);
+        raw_cell_calls::close_all(s, raw_cells);
         retire_all(s, owned);
         release_all(s, shared);
         take_all_back(s, out);

@@ -10,7 +10,7 @@ use crate::hand::{
     keep_guard, keep_shared, keep_shared_cell, take_guard, take_shared, take_shared_cell,
 };
 use sdd_core::Tag;
-use sdd_space::{AtomicShared, Cells, Guard, Items, Look, Ptr, RawPtr, Shared};
+use sdd_space::{AtomicShared, Cells, Guard, Items, Look, Ptr, RawPtr, Shared, SharedItems};
 use std::process::Abort;
 
 pub fn makes<S: Cells<u64>>(
@@ -132,7 +132,7 @@ pub fn looks<S: Look<u64> + Cells<u64>>(
 }
 
 /// Keeps an owner that came out, if one did, and tells its number.
-fn kept<S: Look<u64> + Items<u64>>(
+pub fn kept<S: Look<u64> + Items<u64>>(
     rt: &impl Abort,
     s: &mut S,
     owners: &mut Vec<Shared<u64>>,
@@ -431,6 +431,56 @@ pub fn clones<S: Cells<u64>>(
     let mut answer = Answer::Nothing;
     if let Some(cell) = take_shared_cell(cells, pick) {
         answer = cloned(rt, s, cells, &cell, &guard);
+        keep_shared_cell(rt, cells, cell);
+    }
+    keep_guard(rt, guards, guard);
+    answer
+}
+
+/// One owner more of what a cell holds is kept, if it holds anything.
+fn owned_beside<S: Look<u64> + Items<u64> + SharedItems<u64> + Cells<u64>>(
+    rt: &impl Abort,
+    s: &mut S,
+    cell: &AtomicShared<u64>,
+    owners: &mut Vec<Shared<u64>>,
+    guard: &Guard,
+) -> Answer
+    requires seated { IsSeated (S.seat s.old) }
+    requires home { shared.cells_home cell.now ≡ (S.seat s.old).home.cells }
+    requires reader { reader_of guard.now ≡ (S.seat s.old).reader }
+    requires owners { AreSharedIn (S.seat s.old).home.slots owners.old.items }
+    ensures seat { S.seat s.new ≡ S.seat s.old }
+    ensures owners { AreSharedIn (S.seat s.old).home.slots owners.new.items }
+{
+    match cell.get_shared(guard, s) {
+        Ok(owner) => Answer::of_look(kept(rt, s, owners, owner)),
+        Err(refused) => Answer::Refused(refused),
+    }
+}
+
+pub fn shares<S: Look<u64> + Items<u64> + SharedItems<u64> + Cells<u64>>(
+    rt: &impl Abort,
+    s: &mut S,
+    cells: &mut Vec<AtomicShared<u64>>,
+    owners: &mut Vec<Shared<u64>>,
+    guards: &mut Vec<Guard>,
+    pick: usize,
+) -> Answer
+    requires seated { IsSeated (S.seat s.old) }
+    requires cells { AreSharedCellsIn (S.seat s.old).home.cells cells.old.items }
+    requires owners { AreSharedIn (S.seat s.old).home.slots owners.old.items }
+    requires guards { AreGuardsOf (S.seat s.old).reader guards.old.items }
+    ensures seat { S.seat s.new ≡ S.seat s.old }
+    ensures cells { AreSharedCellsIn (S.seat s.old).home.cells cells.new.items }
+    ensures owners { AreSharedIn (S.seat s.old).home.slots owners.new.items }
+    ensures guards { AreGuardsOf (S.seat s.old).reader guards.new.items }
+{
+    let Some(guard) = take_guard(guards) else {
+        return Answer::Nothing;
+    };
+    let mut answer = Answer::Nothing;
+    if let Some(cell) = take_shared_cell(cells, pick) {
+        answer = owned_beside(rt, s, &cell, owners, &guard);
         keep_shared_cell(rt, cells, cell);
     }
     keep_guard(rt, guards, guard);

@@ -10,6 +10,7 @@ use Rattle.sdd_space.specs.Ptr.{PtrIsShown, slot_named, shown_by}
 use Rattle.sdd_participants.specs.Slab.{entry_at}
 use Rattle.sdd_space.specs.WorldChanges.{held_in}
 use Rattle.sdd_lists.specs.Lists.{Entry, content, is_deleting, is_deleted, first_slot, left, let_go_first, AreLinked, IsList, trimmed}
+use Rattle.sdd_lists.specs.Queue.{is_at, lets_go_of}
 use Rattle.sdd_lists.proofs.Lists.{apart, behind}
 
 abbrev pub tag_in : Option CellContents → Tag
@@ -175,3 +176,25 @@ module _ {T : Type 0} where
   -- an entry counts for one where it isn't deleted
   pub counted : (e : Entry T) (es : List (Entry T)) → length (content (e ∷ es)) ≡ one_for (is_deleted e) + length (content es)
   counted e es = counted-by e es (is_deleted e) refl
+
+-- of a list whose first entry has a tag that doesn't delete
+module _ {T : Type 0} (link : T → ℕ) (w u : World T) (c : ℕ) (t : Tag) (e : Entry T) (rest : List (Entry T)) (list : IsList link w c t (e ∷ rest)) where
+  pub head-stays : (l : ℕ) → l ≡ link e.value → u ≡ w → (cell : CellContents) → entry_at u.cells l ≡ Some cell → (s : Tag) → s ≡ cell.tag →
+      s ≢ tag.Second → is_deleted e ≡ false
+  head-stays l cell_is same cell there s seen other =
+      let tags : e.tag ≡ s =
+      ap tag_in (sym list.linked.0.linked ∙ ap (λ (k : ℕ). entry_at w.cells k) (sym cell_is) ∙ ap (λ (y : World T). entry_at y.cells l) (sym same) ∙ there)
+      ∙ sym seen in
+      ap is_deleting tags ∙ undeleting s other
+
+goes-by : (b d more : Bool) → d ≡ false → b ≡ (if b then true else (if d then more else false))
+goes-by true d more stays = refl
+goes-by false d more stays = sym (ap (λ (x : Bool). if x then more else false) stays)
+
+-- what is left of a list whose first entry isn't deleted, and whether a pop lets go of what a cell holds
+module _ {T : Type 0} where
+  pub left-head : (es : List (Entry T)) (e : Entry T) (rest : List (Entry T)) → es ≡ e ∷ rest → is_deleted e ≡ false → left es ≡ e ∷ rest
+  left-head es e rest is stays = ap left is ∙ ap (λ (b : Bool). if b then left rest else e ∷ rest) stays
+
+  pub goes-head : (held : Option ℕ) (e : Entry T) (rest : List (Entry T)) → is_deleted e ≡ false → is_at held e ≡ lets_go_of held (e ∷ rest)
+  goes-head held e rest stays = goes-by (is_at held e) (is_deleted e) (lets_go_of held rest) stays

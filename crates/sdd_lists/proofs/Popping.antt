@@ -8,7 +8,7 @@ use Rattle.sdd_space.specs.World.{World}
 use Rattle.sdd_participants.specs.declared.standing.CellContents.{CellContents}
 use Rattle.sdd_participants.specs.Slab.{entry_at}
 use Rattle.sdd_space.specs.WorldChanges.{with_cell}
-use Rattle.sdd_lists.specs.Lists.{Entry, is_deleting, is_deleted, first_slot, left, let_go_first, IsList, may_delete}
+use Rattle.sdd_lists.specs.Lists.{Entry, is_deleting, is_deleted, first_slot, left, let_go_first, removed, trimmed, IsList, may_delete}
 use Rattle.sdd_lists.proofs.Lists.{apart, behind, inside, linked-set}
 
 module _ {T : Type 0} where
@@ -64,3 +64,13 @@ module _ {T : Type 0} (link : T → ℕ) (w : World T) (p c : ℕ) (t : Tag) (e 
 
   pub rest-list : IsList link (let_go_first deleted p c t e.slot (link e.value) (first_slot rest)) c t rest
   rest-list = behind link deleted p c t (record e { tag = tag.Second }) rest as-deleted
+
+-- what is removed first of all has no deleted entries before it
+pub removed-head : {T : Type 0} (link : T → ℕ) (w : World T) (p c : ℕ) (t : Tag) (e : Entry T) (rest : List (Entry T)) → is_deleted e ≡ false →
+    removed link w p c t [] e rest ≡ removed link w p c t (e ∷ rest) e rest
+removed-head link w p c t e rest stays =
+    let gone : World _ = let_go_first w p c t e.slot (link e.value) (first_slot rest) in
+    let freed : w ≡ trimmed link w p c t (e ∷ rest) =
+    ap (λ (b : Bool). if b then trimmed link gone p c t rest else w) (sym stays) in
+    let dead : World _ → World _ = λ v. with_cell v (link e.value) (record { held = first_slot rest; tag = tag.Second }) in
+    ap (λ (v : World _). let_go_first (dead v) p c t e.slot (link e.value) (first_slot rest)) freed

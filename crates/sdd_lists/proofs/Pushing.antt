@@ -1,7 +1,7 @@
 -- What a push makes of a list
 use Rattle.std.proofs.Common.{◌≡◌, ◌≢◌, ℕ, ◌<◌, List, [], ◌∷◌, length, Bool, true, false, Option, Some, None, refl, sym, ap, ◌∙◌, arith}
-use Rattle.std.specs.Prelude.{if◌then◌else◌}
-use Rattle.std.proofs.lemmas.List.{get_or-set_same, get_or-set_other, length-set, set_comm}
+use Rattle.std.specs.Prelude.{if◌then◌else◌, slice_set}
+use Rattle.std.proofs.lemmas.List.{get_or-set_same, get_or-set_other, length-set, set_comm, set-get_or}
 use Rattle.sdd_core.specs.declared.tag.Tag.{Tag}
 use Rattle.sdd_core.specs.declared.tag.Tag.TheVariants as tag
 use Rattle.sdd_space.specs.World.{World, standing_at, value_at}
@@ -135,3 +135,14 @@ module _ {T : Type 0} (w u v : World T) (c l : ℕ) (next rest : Option ℕ) (t1
       ∙ ap (λ (cs : Entries CellContents). record w { cells = cs })
       (set_comm w.cells c l (Some (cell_of (Some k) to)) (Some (cell_of next tag.None)) far)
       ∙ ap (λ (y : Option ℕ). linked_in w c to l k y) nexts
+
+-- and one swap alone, where the cell held nothing and the entry's link is clear
+pub put-alone : {T : Type 0} (w : World T) (c l : ℕ) (t to : Tag) (k : ℕ) (n : Option ℕ) → entry_at w.cells c ≡ Some (cell_of None t) →
+    entry_at w.cells c ≡ Some (cell_of n t) → entry_at w.cells l ≡ Some (cell_of None tag.None) →
+    with_cell w c (cell_of (Some k) to) ≡ linked_in w c to l k n
+put-alone w c l t to k n has holds clear =
+    let nexts : None ≡ n = ap held_in (sym has ∙ holds) in
+    let still : slice_set w.cells l (Some (cell_of None tag.None)) ≡ w.cells =
+    ap (λ (x : Option CellContents). slice_set w.cells l x) (sym clear) ∙ set-get_or w.cells l None in
+    ap (λ (cs : Entries CellContents). with_cell (record w { cells = cs }) c (cell_of (Some k) to)) (sym still)
+    ∙ ap (λ (y : Option ℕ). linked_in w c to l k y) nexts

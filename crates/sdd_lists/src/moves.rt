@@ -23,6 +23,7 @@ use sdd_core::{Refused, Tag};
 use sdd_space::{AtomicShared, Cells, Guard, Item, Items, LookThrough, Ptr, Shared};
 
 /// Gives an owner up, if there is one.
+#[inline]
 pub(crate) fn give_up<T: Item<T>, S: Items<T>>(owner: Option<Shared<T>>, s: &mut S)
     requires seated { IsSeated (S.seat s.old) }
     requires home { IsOfSlots (S.seat s.old).home.slots owner }
@@ -72,6 +73,7 @@ pub(crate) fn empty_cell_if<T: Item<T>, S: Items<T> + Cells<T>>(
 
 /// The first of two cells holds an entry, whose link is the second. The entry is deleted, if it isn't, and let go of: the first cell holds what the link
 /// held instead.
+#[inline(always)]
 pub(crate) fn let_go_of_first<T: LinkedList, S: Items<T> + Cells<T>>(
     cell: &AtomicShared<T>,
     link: &AtomicShared<T>,
@@ -97,7 +99,42 @@ pub(crate) fn let_go_of_first<T: LinkedList, S: Items<T> + Cells<T>>(
 /// Lets go of the deleted entries that a cell holds in front, and points to the first that isn't deleted.
 ///
 /// `Contended` where there are as many deleted ones as slots and one more, as where links run in a ring.
+#[inline]
 pub(crate) fn trim<'g, T: LinkedList, S: Items<T> + Cells<T> + LookThrough<T>>(
+    cell: &AtomicShared<T>,
+    guard: &'g Guard,
+    s: &mut S,
+) -> Result<Ptr<'g, T>, Refused>
+    requires seated { IsSeated (S.seat s.old) }
+    requires home { cells_home cell.now ≡ (S.seat s.old).home.cells }
+    requires reader { reader_of guard.now ≡ (S.seat s.old).reader }
+    ensures unmoved { Unmoved S.seat S.known S.shows s.old s.new }
+    ensures own { KeepsMoreWaiting (S.own s.old) (S.own s.new) }
+    ensures shown { IfOk result (PtrIsShown (S.shows s.new)) }
+    ensures tag { IfOk result (λ ptr. tag_of ptr ≡ no_tag) }
+    ensures back { IfErr result (λ e. e ≡ Refused.Contended) }
+    ensures exact { IsExact (S.seat s.old) → (t : Tag) (es : List (Entry T)) → IsList T.link (S.world s.old) (cell_of cell.now) t es →
+        IsOk result × IfOk result (λ ptr. slot_named ptr ≡ first_slot (left es)) ×
+        IsList T.link (S.world s.new) (cell_of cell.now) t (left es) ×
+        (S.world s.new ≡ trimmed T.link (S.world s.old) (S.seat s.old).place (cell_of cell.now) t es) }
+{
+    let first = cell.load(guard, s);
+    let Some(entry) = first.as_ref(&*s) else {
+        return Ok(first.without_tag());
+    };
+    s.shown_is_of_home();
+    match entry.link_ref().tag(s) {
+        Tag::Second => trim_deleted(cell, guard, s),
+        _ => Ok(first.without_tag()),
+    }
+}
+
+/// The same where the entry in the cell is deleted, or isn't.
+///
+/// `Contended` where there are as many deleted ones as slots and one more, as where links run in a ring.
+#[cold]
+#[inline(never)]
+fn trim_deleted<'g, T: LinkedList, S: Items<T> + Cells<T> + LookThrough<T>>(
     cell: &AtomicShared<T>,
     guard: &'g Guard,
     s: &mut S,
@@ -200,8 +237,13 @@ pub(crate) fn put_with_tag<T: LinkedList, S: Items<T> + Cells<T>>(
         S.world s.new ≡ linked_in (S.world s.old) (cell_of cell.now) tag (cell_of link.now) (slot_of owner) next }
 {
     let (next, _) = cell.swap((Some(owner), tag), s);
-    let (rest, _) = link.swap((next, Tag::None), s);
-    give_up(rest, s);
+    match next {
+        Some(next) => {
+            let (rest, _) = link.swap((Some(next), Tag::None), s);
+            give_up(rest, s);
+        }
+        None => {}
+    }
 }
 
 /// Puts an entry, whose link is clear, between a cell and what it holds.

@@ -98,6 +98,7 @@ fn make_three<T: Item<T>, S: Several<T>>(
 }
 
 /// Puts an entry, whose link is clear, between a cell and what that holds. The deleted entries in front of that are let go of.
+#[inline(always)]
 fn put_behind<T: LinkedList, S: Items<T> + Cells<T> + LookThrough<T>>(
     cell: &AtomicShared<T>,
     owner: &Shared<T>,
@@ -160,6 +161,7 @@ fn put_last<T: LinkedList, S: Items<T> + Cells<T> + LookThrough<T>>(
 /// second cell gives up what it holds first, and owns the new entry then.
 ///
 /// `NoSlot` where no slot is free: the value comes back, and nothing has changed.
+#[inline(always)]
 pub(crate) fn push_last<T: LinkedList, S: Items<T> + Several<T> + Cells<T> + LookThrough<T>>(
     oldest: &AtomicShared<T>,
     newest: &AtomicShared<T>,

@@ -86,6 +86,7 @@ impl<T: Item<LinkedEntry<T>>> Queue<T> {
     ///
     /// `NoSlot` where no slot is free, else `NoCell` where no cell is; `Contended`, in a domain alone, where as many exchanges were lost as its limits allow.
     /// The value comes back.
+    #[inline(always)]
     pub fn push<
         S: Items<LinkedEntry<T>>
             + Several<LinkedEntry<T>>
@@ -118,6 +119,7 @@ impl<T: Item<LinkedEntry<T>>> Queue<T> {
     }
 
     /// Pushes a value behind the last entry that isn't deleted, and was found.
+    #[inline(always)]
     fn push_behind<
         S: Items<LinkedEntry<T>>
             + Several<LinkedEntry<T>>

@@ -72,7 +72,70 @@ pub(crate) fn first_in<'g, T: LinkedList, S: Cells<T> + LookThrough<T>>(
 /// The first entry of the list in a cell that isn't deleted.
 ///
 /// `Contended` where there are as many deleted ones as slots and one more, as where links run in a ring.
+#[inline]
 pub(crate) fn find_first<'g, T: LinkedList, S: Items<T> + Cells<T> + LookThrough<T>>(
+    cell: &AtomicShared<T>,
+    guard: &'g Guard,
+    s: &mut S,
+) -> Result<Option<Front<'g, T>>, Refused>
+    requires seated { IsSeated (S.seat s.old) }
+    requires home { cells_home cell.now ≡ (S.seat s.old).home.cells }
+    requires reader { reader_of guard.now ≡ (S.seat s.old).reader }
+    ensures undisturbed { Undisturbed S.seat S.own S.known S.shows s.old s.new }
+    ensures home { IfOk result (λ o. IfSome o (λ f. cells_home f.link.now ≡ (S.seat s.old).home.cells)) }
+    ensures link { IfOk result (λ o. IfSome o (λ f. cell_of f.link.now ≡ T.link f.entry.now)) }
+    ensures shown { IfOk result (λ o. IfSome o (λ f. PtrIsShown (S.shows s.new) f.ptr)) }
+    ensures value { IfOk result (λ o. IfSome o (λ f. shown_by f.ptr ≡ Some f.entry.now)) }
+    ensures back { IfErr result (λ e. e ≡ Refused.Contended) }
+    ensures world { IsExact (S.seat s.old) → S.world s.new ≡ S.world s.old }
+    ensures exact { IsExact (S.seat s.old) → (es : List (Entry T)) → AreLinked T.link (S.world s.old) es →
+        (held : CellContents) → entry_at (S.world s.old).cells (cell_of cell.now) ≡ Some held → held.held ≡ first_slot es →
+        MatchResult result (λ o. MatchOption o (left es ≡ []) (λ f. (e : Entry T) × (rest : List (Entry T)) × (left es ≡ e ∷ rest) ×
+        (slot_named f.ptr ≡ Some e.slot) × (f.entry.now ≡ e.value) × ((n : ℕ) × IsSharedBy n (standing_at (S.world s.old) e.slot))))
+        (λ _. ⊥) }
+{
+    let Some(front) = first_in(cell, guard, s) else {
+        return Ok(None);
+    };
+    match front.link.tag(s) {
+        Tag::Second => find_past_deleted(cell, guard, s),
+        _ => Ok(Some(front)),
+    }
+}
+
+/// The same where the entry in the cell is deleted, or isn't.
+///
+/// `Contended` where there are as many deleted ones as slots and one more, as where links run in a ring.
+#[cold]
+#[inline(never)]
+fn find_past_deleted<'g, T: LinkedList, S: Items<T> + Cells<T> + LookThrough<T>>(
+    cell: &AtomicShared<T>,
+    guard: &'g Guard,
+    s: &mut S,
+) -> Result<Option<Front<'g, T>>, Refused>
+    requires seated { IsSeated (S.seat s.old) }
+    requires home { cells_home cell.now ≡ (S.seat s.old).home.cells }
+    requires reader { reader_of guard.now ≡ (S.seat s.old).reader }
+    ensures undisturbed { Undisturbed S.seat S.own S.known S.shows s.old s.new }
+    ensures home { IfOk result (λ o. IfSome o (λ f. cells_home f.link.now ≡ (S.seat s.old).home.cells)) }
+    ensures link { IfOk result (λ o. IfSome o (λ f. cell_of f.link.now ≡ T.link f.entry.now)) }
+    ensures shown { IfOk result (λ o. IfSome o (λ f. PtrIsShown (S.shows s.new) f.ptr)) }
+    ensures value { IfOk result (λ o. IfSome o (λ f. shown_by f.ptr ≡ Some f.entry.now)) }
+    ensures back { IfErr result (λ e. e ≡ Refused.Contended) }
+    ensures world { IsExact (S.seat s.old) → S.world s.new ≡ S.world s.old }
+    ensures exact { IsExact (S.seat s.old) → (es : List (Entry T)) → AreLinked T.link (S.world s.old) es →
+        (held : CellContents) → entry_at (S.world s.old).cells (cell_of cell.now) ≡ Some held → held.held ≡ first_slot es →
+        MatchResult result (λ o. MatchOption o (left es ≡ []) (λ f. (e : Entry T) × (rest : List (Entry T)) × (left es ≡ e ∷ rest) ×
+        (slot_named f.ptr ≡ Some e.slot) × (f.entry.now ≡ e.value) × ((n : ℕ) × IsSharedBy n (standing_at (S.world s.old) e.slot))))
+        (λ _. ⊥) }
+{
+    find_by_walking(cell, guard, s)
+}
+
+/// The same, by a walk from the entry in the cell on.
+///
+/// `Contended` where there are as many deleted ones as slots and one more, as where links run in a ring.
+fn find_by_walking<'g, T: LinkedList, S: Items<T> + Cells<T> + LookThrough<T>>(
     cell: &AtomicShared<T>,
     guard: &'g Guard,
     s: &mut S,
@@ -127,7 +190,7 @@ pub(crate) fn front_in<'g, T: LinkedList, S: Items<T> + Cells<T> + LookThrough<T
         MatchOption result (left es ≡ []) (λ f. (e : Entry T) × (rest : List (Entry T)) × (left es ≡ e ∷ rest) × (slot_named f.ptr ≡ Some e.slot) ×
         (f.entry.now ≡ e.value) × ((n : ℕ) × IsSharedBy n (standing_at (S.world s.old) e.slot))) }
 {
-    match find_first(cell, guard, s) {
+    match find_by_walking(cell, guard, s) {
         Ok(front) => front,
         Err(_) => None,
     }
@@ -245,7 +308,7 @@ fn number_of<T>(ptr: &Ptr<'_, T>) -> Option<u32>
 }
 
 /// The pointer names the slot.
-fn is_named<T>(ptr: &Ptr<'_, T>, watched: Option<u32>) -> bool
+pub(crate) fn is_named<T>(ptr: &Ptr<'_, T>, watched: Option<u32>) -> bool
     ensures { (e : Entry T) → slot_named ptr.now ≡ Some e.slot → result ≡ is_at watched e }
 {
     match (number_of(ptr), watched) {
@@ -358,6 +421,7 @@ fn last_from<'g, T: LinkedList, S: Items<T> + Cells<T> + LookThrough<T>>(
 /// before it isn't looked at.
 ///
 /// `Contended` where `find_first` or the walk from there is refused so.
+#[inline(always)]
 pub(crate) fn find_last<'g, T: LinkedList, S: Items<T> + Cells<T> + LookThrough<T>>(
     oldest: &AtomicShared<T>,
     newest: &AtomicShared<T>,

@@ -204,6 +204,7 @@ impl<T: Item<T>> AtomicRaw<T> {
         requires reader { reader_of guard.now ≡ (S.seat s.old).reader }
         ensures undisturbed { Undisturbed S.seat S.own S.known S.shows s.old s.new }
         ensures old { IfOk result (λ ptr. ptr ≡ current) }
+        ensures differs { IfErr result (λ ptr. raw.pointer_of ptr ≢ raw.pointer_of current) }
         ensures exact { IsExact (S.seat s.old) → MatchResult result
             (λ _. (pointer_at (S.world s.old) (cell_of self.now) ≡ Some (raw.pointer_of current)) ×
             (S.world s.new ≡ with_pointer (S.world s.old) (cell_of self.now) (raw.pointer_of new)))

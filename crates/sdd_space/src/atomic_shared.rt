@@ -21,7 +21,7 @@ use crate::item::Item;
 use crate::ptr::Ptr;
 use crate::raw_ptr::RawPtr;
 use crate::shared::Shared;
-use crate::space::{Cells, Items, SharedItems};
+use crate::space::{Cells, Items};
 use sdd_core::{Refused, Tag};
 use sdd_participants::{CellContents, Standing};
 use sdd_rights::{Right, SharedRight, StandingKind};
@@ -321,8 +321,9 @@ impl<T: Item<T>> AtomicShared<T> {
 
     /// One owner more of the item that the cell holds; None where it holds nothing.
     ///
-    /// `TooManyOwners` where 2^62 own it, cells counted; `Contended`, in a domain alone, where as many exchanges were lost as its limits allow.
-    pub fn get_shared<S: SharedItems<T> + Cells<T>>(
+    /// `TooManyOwners` where 2^62 own it, cells counted; `Contended`, in a domain alone, where others changed the cell or the item's owners meanwhile as often
+    /// as its limits allow.
+    pub fn get_shared<S: Cells<T>>(
         &self,
         guard: &Guard,
         s: &mut S,
@@ -340,7 +341,10 @@ impl<T: Item<T>> AtomicShared<T> {
             (λ e. (e ≡ Refused.TooManyOwners) × IfSome cell.held (λ slot. IsSharedBy (2 ^ 62) (standing_at (S.world s.old) slot)) × IsSome cell.held ×
             (S.world s.new ≡ S.world s.old)) }
     {
-        s.load(self.right(), guard).get_shared(s)
+        match s.share_held(self.right(), guard) {
+            Ok(held) => Ok(Shared::of_held(held)),
+            Err(refused) => Err(refused),
+        }
     }
 
     /// Another cell that holds one owner more of the same item, or nothing, with the same tag.
@@ -351,8 +355,7 @@ impl<T: Item<T>> AtomicShared<T> {
         requires seated { IsSeated (S.seat s.old) }
         requires home { cells_home self.now ≡ (S.seat s.old).home.cells }
         requires reader { reader_of guard.now ≡ (S.seat s.old).reader }
-        ensures unmoved { Unmoved S.seat S.known S.shows s.old s.new }
-        ensures own { HasContentsGivenUp (S.own s.old) (S.own s.new) }
+        ensures undisturbed { Undisturbed S.seat S.own S.known S.shows s.old s.new }
         ensures home { IfOk result (λ other. cells_home other ≡ (S.seat s.old).home.cells) }
         ensures back { IfErr result (λ e. (e ≡ Refused.NoCell) ⊎ IsRefusedBy (S.seat s.old) Refused.TooManyOwners e) }
         ensures exact { IsExact (S.seat s.old) → (cell : CellContents) × (entry_at (S.world s.old).cells (cell_of self.now) ≡ Some cell) × MatchResult result

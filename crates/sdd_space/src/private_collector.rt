@@ -134,6 +134,7 @@ impl<T: Item<T>> PrivateCollector<T> {
         ensures seat { S.seat s.new ≡ S.seat s.old }
         ensures own { MatchResult result (λ _. IsCollected (S.own s.old) (S.own s.new)) (λ _. S.own s.new ≡ S.own s.old) }
         ensures known { KnowsOn (S.known s.old) (S.known s.new) }
+        ensures shut { IfOk result (λ _. (S.own s.old).guards ≡ 0) }
         ensures back { IfErr result (λ e. (e.0 ≡ self) × (e.1 ≡ Refused.GuardOpen)) }
         ensures exact { IsExact (S.seat s.old) → MatchResult result
             (λ _. ¬ (AnyGuardOpen (S.world s.old)) × IsNullCell (S.world s.old) (collector_of self) ×

@@ -411,6 +411,12 @@ impl<T: Item<T>, J: Job> Cells<T> for Turn<'_, T, J> {
         Ok(true)
     }
 
+    fn share_held(&mut self, cell: &Right, guard: &Guard) -> Result<Option<Right>, Refused> {
+        let _ = guard;
+        let world = &mut *self.world;
+        world.core.owner_held(cell)
+    }
+
     fn clone_cell(&mut self, cell: &Right, guard: &Guard) -> Result<Right, Refused> {
         let _ = guard;
         let world = &mut *self.world;

@@ -25,7 +25,7 @@ use std::marker::Model;
 
 /// All that the participants of one thread share: items, cells, and the epoch.
 ///
-/// A world must be spent by `close`.
+/// A world must be spent by `close` or `leak`.
 pub struct World<T: Item<T>, J: Job = Idle> {
     pub(crate) core: WorldCore<T, J>,
     pub(crate) spare: Vec<LimboEntry>,

@@ -68,3 +68,21 @@ fn a_world_does_not_end_while_an_owner_is_out(rt: HostRuntime) {
         }
     }
 }
+
+/// Its memory stays taken, and the value in it.
+#[test]
+fn a_world_in_which_an_item_is_out_as_raw_is_let_go_of(rt: HostRuntime) {
+    let mut world: World<u64> = new_world(&rt, ALONE, 0);
+    let place = joined(&rt, &mut world);
+    let first = made(&rt, &mut world, &place, 1);
+    let second = made(&rt, &mut world, &place, 2);
+    retire(&mut world, &place, first);
+    second.into_raw(&mut world.at(&place));
+    match world.close() {
+        Ok(_tally) => panic!(rt; "an item is out as raw"),
+        Err((world, refused)) => {
+            assert_eq!(rt; (refused, world.tally().reclaimed), (Refused::OwnerOut, 1));
+            world.leak();
+        }
+    }
+}

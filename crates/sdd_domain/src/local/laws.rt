@@ -1,5 +1,6 @@
 //! What is always true of a participant, and of a lone one's world, as calls that give it out. They do nothing when the program runs.
 ghost use Rattle.std.specs.Prelude.{◌≡◌, ◌↔◌};
+ghost use Rattle.sdd_space.specs.Collecting.{CollectedEnds};
 ghost use Rattle.sdd_space.specs.WorldInvariant.{IsWhole};
 ghost use Rattle.sdd_space.specs.Out.{OutLaws};
 ghost use Rattle.sdd_space.specs.Jobs.{RunsJobsOnce};
@@ -7,7 +8,7 @@ ghost use Rattle.sdd_space.specs.ReclaimBound.{FourGuardsReclaim, GoesAtLatest, 
 ghost use Rattle.sdd_space.specs.Ledger.{LedgerLaws};
 ghost use Rattle.sdd_space.specs.AcceleratedGuards.{GuardsPass, ItemsPass};
 ghost use Rattle.sdd_space.specs.WorkingGuards.{BusyGuardsCount, WorkingGuardsPass, WorkingGuardsReclaim};
-ghost use Rattle.sdd_space.specs.UnderGuards.{KeepsFreshJobsUnderGuards, KeepsFreshUnderGuards, KeepsJobsUnderGuards, KeepsUnderGuards};
+ghost use Rattle.sdd_space.specs.UnderGuards.{KeepsCollectedUnderGuards, KeepsFreshJobsUnderGuards, KeepsFreshUnderGuards, KeepsJobsUnderGuards, KeepsUnderGuards};
 ghost use Rattle.sdd_space.specs.World.{World, AnyGuardOpen, IsPlaceOf};
 ghost use Rattle.sdd_domain.specs.Local.{world_of};
 ghost use Rattle.sdd_domain.specs.LocalState.{IsLone};
@@ -77,9 +78,17 @@ impl<T: Item<T>, J: Job> Local<'_, T, J> {
         self.is_whole();
     }
 
+    /// The close of a collector reclaims all that waits for it, and nothing else.
+    pub fn ends_with_collectors(&self)
+        ensures { IsLone self.now.member → CollectedEnds T.holds (world_of self.now) }
+    {
+        self.is_whole();
+    }
+
     /// No item is reclaimed and no job runs while a guard that was open when it began to wait is open.
     pub fn keeps_under_guards(&self)
         ensures retired { IsLone self.now.member → KeepsUnderGuards T.holds (world_of self.now) }
+        ensures collected { IsLone self.now.member → KeepsCollectedUnderGuards T.holds (world_of self.now) }
         ensures fresh { IsLone self.now.member → KeepsFreshUnderGuards T.holds (world_of self.now) }
         ensures deferred { IsLone self.now.member → KeepsJobsUnderGuards T.holds (world_of self.now) }
         ensures fresh_jobs { IsLone self.now.member → KeepsFreshJobsUnderGuards T.holds (world_of self.now) }

@@ -22,7 +22,7 @@ ghost use Rattle.sdd_domain.specs.SpaceIds.{cells_home, home_in};
 
 use crate::cell_claims::{claim_with, fill, reserve};
 use crate::cell_values::{bind, exchange, free, free_bare, loosen, retag, swap, word_for};
-use crate::cell_words::{contents_in, held_slot, holds, tag_in};
+use crate::cell_words::{contents_in, expected_word, held_slot, holds, tag_in};
 use crate::local_core::LocalCore;
 use crate::local_core::items::is_one_of_several;
 use sdd_atomics::steps::cells::{look_in, recall_cell, see_in};
@@ -185,9 +185,51 @@ impl<'d, T: Item<T>, J: Job> LocalCore<'d, T, J> {
         (bind(board, slots, out, kind), tag_in(found))
     }
 
-    /// The same, if the cell holds what was expected; else the owner comes back, and nothing changes.
+    /// The same, if the cell's word is this one; else the owner comes back, and nothing changes.
     #[inline(always)]
-    pub(crate) fn exchange(
+    fn exchange_from(
+        &mut self,
+        cell: &Right,
+        old: u64,
+        held: Option<Right>,
+        tag: Tag,
+        kind: StandingKind,
+    ) -> Result<Option<Right>, Option<Right>>
+        requires home { home_of cell.now ≡ cells_home self.old.home }
+        requires kind { kind_of cell.now ≡ kind }
+        requires owner { IsOwner kind }
+        requires held { MayHold (slots_home self.old) kind held }
+        requires full { IsLone self.old → 0 < old }
+        ensures exchanged { MatchResult result
+            (λ out. MayHold (slots_home self.old) kind out × (slot_held out ≡ (contents_of old).held)
+            × ((word : ℕ) × (0 < word) × (contents_of word ≡ cell_with held tag) × ChangesCell (number_of cell.now) old word self.old self.new))
+            (λ _. (self.new ≡ self.old) × (IsLone self.old → old ≢ cell_word_of self.old (number_of cell.now))) }
+        ensures back { IfErr result (λ back. back ≡ held) }
+    {
+        let slots = self.domain.limits.slots;
+        let board = &self.domain.board;
+        let new = loosen(board, held, kind);
+        let word = word_for(&new, tag);
+        let tried = exchange(
+            board,
+            &mut self.token,
+            cell.number(),
+            cell.witness(),
+            old,
+            new,
+            word,
+        );
+        let out = match tried {
+            Ok(out) => out,
+            Err(back) => return Err(bind(board, slots, back, kind)),
+        };
+        Ok(bind(board, slots, out, kind))
+    }
+
+    /// The same, if the cell holds what was expected, by the word that is found in it.
+    #[cold]
+    #[inline(never)]
+    fn exchange_found(
         &mut self,
         cell: &Right,
         current: CellContents,
@@ -210,24 +252,40 @@ impl<'d, T: Item<T>, J: Job> LocalCore<'d, T, J> {
         if !holds(old, current) {
             return Err(held);
         }
-        let slots = self.domain.limits.slots;
-        let board = &self.domain.board;
-        let new = loosen(board, held, kind);
-        let word = word_for(&new, tag);
-        let tried = exchange(
-            board,
-            &mut self.token,
-            cell.number(),
-            cell.witness(),
-            old,
-            new,
-            word,
-        );
-        let out = match tried {
-            Ok(out) => out,
-            Err(back) => return Err(bind(board, slots, back, kind)),
+        self.exchange_from(cell, old, held, tag, kind)
+    }
+
+    /// The same, if the cell holds what was expected; else the owner comes back, and nothing changes.
+    ///
+    /// It tries by the word that calls write for what is expected. Only where the cell has another one is the cell looked at.
+    #[inline(always)]
+    pub(crate) fn exchange(
+        &mut self,
+        cell: &Right,
+        current: CellContents,
+        held: Option<Right>,
+        tag: Tag,
+        kind: StandingKind,
+    ) -> Result<Option<Right>, Option<Right>>
+        requires home { home_of cell.now ≡ cells_home self.old.home }
+        requires kind { kind_of cell.now ≡ kind }
+        requires owner { IsOwner kind }
+        requires held { MayHold (slots_home self.old) kind held }
+        ensures exchanged { MatchResult result
+            (λ out. MayHold (slots_home self.old) kind out × (slot_held out ≡ current.held)
+            × ((found : ℕ) × (word : ℕ) × (0 < word) × (contents_of word ≡ cell_with held tag) × (contents_of found ≡ current)
+            × ChangesCell (number_of cell.now) found word self.old self.new))
+            (λ _. (self.new ≡ self.old) × (IsLone self.old → (contents_of (cell_word_of self.old (number_of cell.now)) ≢ current))) }
+        ensures back { IfErr result (λ back. back ≡ held) }
+    {
+        let old = match expected_word(&current) {
+            Some(old) => old,
+            None => return self.exchange_found(cell, current, held, tag, kind),
         };
-        Ok(bind(board, slots, out, kind))
+        match self.exchange_from(cell, old, held, tag, kind) {
+            Ok(out) => Ok(out),
+            Err(back) => self.exchange_found(cell, current, back, tag, kind),
+        }
     }
 
     /// A cell has another tag, if it still has this word; else nothing changes.
@@ -388,6 +446,31 @@ impl<'d, T: Item<T>, J: Job> LocalCore<'d, T, J> {
             }
         }
         Err(Refused::Contended)
+    }
+
+    /// One owner more of what a cell of shared owners holds, if it holds anything. None where it was found to hold nothing.
+    ///
+    /// `TooManyOwners` where as many own it as may; `Contended` where others changed the cell or its item's owners meanwhile as often as the limits allow.
+    pub(crate) fn share_held(
+        &mut self,
+        cell: &Right,
+        guard: &Guard,
+    ) -> Result<Option<Right>, Refused>
+        requires home { home_of cell.now ≡ cells_home self.old.home }
+        requires kind { kind_of cell.now ≡ StandingKind.Shared }
+        requires reader { reader_of guard.now ≡ self.old.reader }
+        ensures right { IfOk result (MayHold (slots_home self.old) StandingKind.Shared) }
+        ensures inside { number_of cell.now < self.old.sizes.cells }
+        ensures full { IsLone self.old → 0 < cell_word_of self.old (number_of cell.now) }
+        ensures copied { MatchResult result
+            (λ copy. (tag : Tag) × Copies (number_of cell.now) copy tag self.old self.new)
+            (λ e. CopiesNone (number_of cell.now) e self.old self.new) }
+    {
+        self.recall_full(cell);
+        match self.copy_held(cell, guard) {
+            Ok((copy, _tag)) => Ok(copy),
+            Err(refused) => Err(refused),
+        }
     }
 
     /// Another cell holds one owner more of what a cell of shared owners holds, if it holds anything, with its tag. No memory is taken.

@@ -72,6 +72,10 @@ impl<T: Item<T>, J: Job> Cells<T> for Local<'_, T, J> {
         self.partner.membership.update_tag_if(cell, tag, condition)
     }
 
+    fn share_held(&mut self, cell: &Right, guard: &Guard) -> Result<Option<Right>, Refused> {
+        self.partner.membership.share_held(cell, guard)
+    }
+
     fn clone_cell(&mut self, cell: &Right, guard: &Guard) -> Result<Right, Refused> {
         self.partner.membership.clone_cell(cell, guard)
     }

@@ -6,8 +6,7 @@ ghost use Rattle.sdd_space.specs.World.{standing_at};
 ghost use Rattle.sdd_core.specs.declared.tag.Tag.TheVariants.{None as no_tag};
 ghost use Rattle.sdd_space.specs.CallerId.{IsSeated, IsExact};
 ghost use Rattle.sdd_space.specs.Refusals.{IsContended, IsRefusedBy};
-ghost use Rattle.sdd_space.specs.ParticipantChanges.{HasContentsGivenUp};
-ghost use Rattle.sdd_space.specs.Undisturbed.{Undisturbed, Unmoved};
+ghost use Rattle.sdd_space.specs.Undisturbed.{Undisturbed};
 ghost use Rattle.sdd_rights.specs.StandingKind.{IsOwner};
 ghost use Rattle.sdd_rights.specs.Right.{number_of, home_of, kind_of};
 ghost use Rattle.sdd_standings.specs.Slots.{IsOwnedBy, IsSharedBy, first_standing};
@@ -162,6 +161,26 @@ pub trait Cells<T: Item<T>>: Caller<T> {
             (Self.world self.new ≡ (if changed then with_cell (Self.world self.old) (number_of cell.now) (record (raw.cell_seen ptr) { tag = tag })
             else Self.world self.old))) };
 
+    /// One owner more of what a cell of shared owners holds, if it holds anything.
+    ///
+    /// `TooManyOwners` where as many share the item as may; `Contended`, in a domain alone, where others changed the cell or its item's owners meanwhile
+    /// as often as its limits allow.
+    fn share_held(&mut self, cell: &Right, guard: &Guard) -> Result<Option<Right>, Refused>
+        requires seated { IsSeated (Self.seat self.old) }
+        requires home { home_of cell.now ≡ (Self.seat self.old).home.cells }
+        requires kind { kind_of cell.now ≡ StandingKind.Shared }
+        requires reader { reader_of guard.now ≡ (Self.seat self.old).reader }
+        ensures undisturbed { Undisturbed Self.seat Self.own Self.known Self.shows self.old self.new }
+        ensures owner { IfOk result (MayHold (Self.seat self.old).home.slots StandingKind.Shared) }
+        ensures back { IfErr result (IsRefusedBy (Self.seat self.old) Refused.TooManyOwners) }
+        ensures exact { IsExact (Self.seat self.old) → (old : CellContents) × (entry_at (Self.world self.old).cells (number_of cell.now) ≡ Some old) ×
+            MatchResult result
+            (λ owner. (slot_held owner ≡ old.held) × MatchOption (slot_held owner) (Self.world self.new ≡ Self.world self.old)
+            (λ slot. (owners : ℕ) × IsSharedBy owners (standing_at (Self.world self.old) slot) × (owners < 2 ^ 62) ×
+            (Self.world self.new ≡ with_standing (Self.world self.old) slot (Standing.Shared (owners + 1)))))
+            (λ e. (e ≡ Refused.TooManyOwners) × IfSome old.held (λ slot. IsSharedBy (2 ^ 62) (standing_at (Self.world self.old) slot)) ×
+            IsSome old.held × (Self.world self.new ≡ Self.world self.old)) };
+
     /// Another cell that holds one owner more of what a cell holds, if it holds anything, with its tag.
     ///
     /// `NoCell` where no cell is free, else `TooManyOwners` where as many share the item as may; `Contended`, in a domain alone, where as many exchanges
@@ -171,8 +190,7 @@ pub trait Cells<T: Item<T>>: Caller<T> {
         requires home { home_of cell.now ≡ (Self.seat self.old).home.cells }
         requires kind { kind_of cell.now ≡ StandingKind.Shared }
         requires reader { reader_of guard.now ≡ (Self.seat self.old).reader }
-        ensures unmoved { Unmoved Self.seat Self.known Self.shows self.old self.new }
-        ensures own { HasContentsGivenUp (Self.own self.old) (Self.own self.new) }
+        ensures undisturbed { Undisturbed Self.seat Self.own Self.known Self.shows self.old self.new }
         ensures home { IfOk result (λ other. home_of other ≡ (Self.seat self.old).home.cells) }
         ensures kind { IfOk result (λ other. kind_of other ≡ StandingKind.Shared) }
         ensures back { IfErr result (λ e. (e ≡ Refused.NoCell) ⊎ IsRefusedBy (Self.seat self.old) Refused.TooManyOwners e) }

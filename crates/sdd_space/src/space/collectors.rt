@@ -1,4 +1,4 @@
-ghost use Rattle.std.specs.Prelude.{◌≡◌, ◌≢◌, ◌↔◌, ℕ, IfErr, IsTrue, MatchResult, Some, if◌then◌else◌};
+ghost use Rattle.std.specs.Prelude.{◌≡◌, ◌≢◌, ◌↔◌, ℕ, IfErr, IfOk, IsTrue, MatchResult, Some, if◌then◌else◌};
 ghost use Rattle.sdd_participants.specs.declared.waiting.LimboEntry.TheVariants.{Item};
 ghost use Rattle.sdd_participants.specs.EpochState as time;
 ghost use Rattle.sdd_space.specs.World.{AnyGuardOpen, standing_at};
@@ -45,6 +45,7 @@ pub trait Collectors<T: Item<T>>: Caller<T> {
         ensures seat { Self.seat self.new ≡ Self.seat self.old }
         ensures own { MatchResult result (λ _. IsCollected (Self.own self.old) (Self.own self.new)) (λ _. Self.own self.new ≡ Self.own self.old) }
         ensures known { KnowsOn (Self.known self.old) (Self.known self.new) }
+        ensures shut { IfOk result (λ _. (Self.own self.old).guards ≡ 0) }
         ensures back { IfErr result (λ e. (e.0 ≡ collector) × (e.1 ≡ Refused.GuardOpen)) }
         ensures exact { IsExact (Self.seat self.old) → MatchResult result
             (λ _. ¬ (AnyGuardOpen (Self.world self.old)) × IsNullCell (Self.world self.old) (raw_number_of collector) ×

@@ -59,6 +59,7 @@ pub trait RawCells<T: Item<T>>: Caller<T> {
         requires seated { IsSeated (Self.seat self.old) }
         requires home { raw_home_of cell.now ≡ (Self.seat self.old).home.cells }
         ensures undisturbed { Undisturbed Self.seat Self.own Self.known Self.shows self.old self.new }
+        ensures differs { IfErr result (λ now. now ≢ current) }
         ensures exact { IsExact (Self.seat self.old) → MatchResult result
             (λ _. (pointer_at (Self.world self.old) (raw_number_of cell.now) ≡ Some current) ×
             (Self.world self.new ≡ with_pointer (Self.world self.old) (raw_number_of cell.now) new))

@@ -10,6 +10,7 @@ use super::World;
 use sdd_core::Refused;
 use sdd_participants::{Job, Tally};
 use sdd_space::Item;
+use std::mem::ManuallyDrop;
 
 impl<T: Item<T>, J: Job> World<T, J> {
     /// Ends the world: reclaims what waits, with what it gives up in turn, and answers the tally. Participants need not have ended.
@@ -43,6 +44,12 @@ impl<T: Item<T>, J: Job> World<T, J> {
             alloc: _,
         } = self;
         Ok(core.destroy())
+    }
+
+    /// Lets go of a world in which something is out for ever, or a guard open. Its memory, and the values in it, stay where they are, and no job that waits
+    /// runs.
+    pub fn leak(self) {
+        let _leaked = unsafe { ManuallyDrop::new_unchecked(self) };
     }
 
     /// Reclaims what waits. No guard is open, so nothing is lent.

@@ -86,7 +86,7 @@ impl<T: Item<T>, J: Job> WorldCore<T, J> {
     /// One owner more of what a cell of shared owners holds, if it holds anything.
     ///
     /// `TooManyOwners` where as many share it as may.
-    fn owner_held(&mut self, cell: &Right) -> Result<Option<Right>, Refused>
+    pub fn owner_held(&mut self, cell: &Right) -> Result<Option<Right>, Refused>
         requires home { home_of cell.now ≡ self.old.world.home.cells }
         requires kind { kind_of cell.now ≡ StandingKind.Shared }
         ensures held { (old : CellContents) × (entry_at self.old.world.cells (number_of cell.now) ≡ Some old) × MatchResult result

@@ -1,9 +1,10 @@
-//! The first example in the original crate's README, call by call, in each space: cells of both kinds of owners, what goes into them and comes out, and
-//! what a guard shows meanwhile.
+//! The first example in the original crate's README, call by call, in each space: cells of both kinds of owners and of pointers, what goes into them and
+//! comes out, what a guard shows meanwhile, a job, and a private collector. The owners that are nested are of another type, and so of another space.
 ghost use Rattle.std.specs.Prelude.{◌≡◌};
 ghost use Rattle.sdd_space.specs.CallerId.{IsSeated};
 ghost use Rattle.sdd_space.specs.Guard.{reader_of};
 ghost use Rattle.sdd_space.specs.Owned as alone;
+ghost use Rattle.sdd_space.specs.RawCell.{cells_home as raw_cells_home};
 ghost use Rattle.sdd_space.specs.Shared as common;
 
 use crate::cells::Value;
@@ -11,32 +12,55 @@ use crate::cells::example::{
     AMPLE, Example, Setting, Shown, all_went, closed, ended, in_each_space, local_shows,
     new_domain, registered,
 };
-use crate::cells::steps::{close, opened, owned, raw, seen, shared};
+use crate::cells::steps::{close, collectors, opened, owned, raw, seen, shared};
 use sdd_core::{Limits, Tag};
 use sdd_participants::Idle;
 use sdd_space::{
-    AtomicOwned, AtomicShared, Cells, Deferrals, Guard, Items, Look, Ptr, RawPtr, Shared, Space,
+    AtomicOwned, AtomicRaw, AtomicShared, Cells, Collectors, Deferrals, Guard, Guards, Items, Look,
+    Ptr, RawCells, RawItems, RawPtr, Shared, Space,
 };
 use std::process::Abort;
 
-/// A pointer to what the cell holds. Both cells have a tag from now on, and an exchange that expects none is refused.
-fn tags<'g, S: Look<u64> + Items<u64> + Cells<u64>>(
+/// A pointer to what the first cell holds. Each cell has a tag from then on.
+fn tags<'g, S: Look<u64> + Cells<u64> + RawCells<u64>>(
     rt: &impl Abort,
     s: &mut S,
     cell: &AtomicOwned<u64>,
     shared_cell: &AtomicShared<u64>,
+    raw_cell: &AtomicRaw<u64>,
     guard: &'g Guard,
 ) -> Ptr<'g, u64>
     requires seated { IsSeated (S.seat s.old) }
     requires cell { alone.cells_home cell.now ≡ (S.seat s.old).home.cells }
     requires shared_cell { common.cells_home shared_cell.now ≡ (S.seat s.old).home.cells }
+    requires raw_cell { raw_cells_home raw_cell.now ≡ (S.seat s.old).home.cells }
     requires reader { reader_of guard.now ≡ (S.seat s.old).reader }
     ensures seat { S.seat s.new ≡ S.seat s.old }
 {
-    let mut ptr = owned::load(s, cell, guard);
+    let ptr = owned::load(s, cell, guard);
     assert!(rt; seen(s, ptr) == Some(19));
     assert!(rt; owned::tagged(rt, s, cell, Tag::First));
     assert!(rt; shared::tagged(rt, s, shared_cell, Tag::Second));
+    let null = RawPtr::null();
+    let tagged = null.with_tag(Tag::Both);
+    assert!(rt; raw_cell.compare_exchange(null, tagged, guard, s) == Ok(null));
+    ptr
+}
+
+/// An exchange is refused that expects no tag, and the pointer is given the cell's.
+fn expects_no_tag<'g, S: Look<u64> + Items<u64> + Cells<u64>>(
+    rt: &impl Abort,
+    s: &mut S,
+    cell: &AtomicOwned<u64>,
+    ptr: Ptr<'g, u64>,
+    guard: &'g Guard,
+) -> Ptr<'g, u64>
+    requires seated { IsSeated (S.seat s.old) }
+    requires home { alone.cells_home cell.now ≡ (S.seat s.old).home.cells }
+    requires reader { reader_of guard.now ≡ (S.seat s.old).reader }
+    ensures seat { S.seat s.new ≡ S.seat s.old }
+{
+    let mut ptr = ptr;
     assert!(rt;
         owned::exchanged(rt, s, cell, ptr, 18, Tag::First, guard)
             == Err((Some(18), Some(19), Tag::First))
@@ -62,6 +86,39 @@ fn replaced<S: Look<u64> + Items<u64> + Cells<u64>>(
     owner
 }
 
+/// An item goes out, and a cell names it.
+fn puts_out<S: Items<u64> + RawItems<u64> + RawCells<u64>>(
+    rt: &impl Abort,
+    s: &mut S,
+    cell: &AtomicRaw<u64>,
+    value: u64,
+)
+    requires seated { IsSeated (S.seat s.old) }
+    requires home { raw_cells_home cell.now ≡ (S.seat s.old).home.cells }
+    ensures seat { S.seat s.new ≡ S.seat s.old }
+{
+    let owner = owned::made(rt, s, value);
+    let out = owned::raw(s, owner);
+    cell.store(out, s);
+}
+
+/// Whoever takes back what the cell names owns it. The number that the guard showed before, and that the owner gave up.
+fn takes_back<S: Look<u64> + Items<u64> + RawItems<u64> + RawCells<u64>>(
+    s: &mut S,
+    cell: &AtomicRaw<u64>,
+    guard: &Guard,
+) -> (Option<u64>, Option<u64>)
+    requires seated { IsSeated (S.seat s.old) }
+    requires home { raw_cells_home cell.now ≡ (S.seat s.old).home.cells }
+    requires reader { reader_of guard.now ≡ (S.seat s.old).reader }
+    ensures seat { S.seat s.new ≡ S.seat s.old }
+{
+    let named = cell.load(guard, s);
+    let shown = owned::see(s, named, guard);
+    let back = owned::unraw(s, named);
+    (shown, owned::spent(s, back))
+}
+
 /// A job waits until no guard of now is open.
 fn defers<S: Deferrals<u64, Job = Idle>>(rt: &impl Abort, s: &mut S, guard: &Guard)
     requires seated { IsSeated (S.seat s.old) }
@@ -74,6 +131,21 @@ fn defers<S: Deferrals<u64, Job = Idle>>(rt: &impl Abort, s: &mut S, guard: &Gua
     }
 }
 
+/// An owner of each kind is collected, each under a guard of its own, and the close reclaims both at once.
+fn collects<S: Guards<u64> + Items<u64> + RawCells<u64> + Collectors<u64>>(
+    rt: &impl Abort,
+    s: &mut S,
+)
+    requires seated { IsSeated (S.seat s.old) }
+    ensures seat { S.seat s.new ≡ S.seat s.old }
+{
+    let collector = collectors::made(rt, s);
+    collectors::collect(rt, s, &collector, 37);
+    let owner = shared::made(rt, s, 43);
+    assert!(rt; collectors::collect_shared(rt, s, &collector, owner));
+    collectors::closed(rt, s, collector);
+}
+
 /// What a guard saw it shows for as long as it is open, whatever is given up meanwhile.
 struct Manages;
 
@@ -81,56 +153,32 @@ impl Example for Manages {
     fn run<R: Abort, S: Space<u64> + Deferrals<u64, Job = Idle>>(rt: &R, s: &mut S) {
         let cell = owned::cell(rt, s, 19);
         let shared_cell = shared::cell(rt, s, 17);
+        let raw_cell = raw::cell(rt, s, RawPtr::null());
         let guard = opened(rt, s);
-        let ptr = tags(rt, s, &cell, &shared_cell, &guard);
+        let ptr = tags(rt, s, &cell, &shared_cell, &raw_cell, &guard);
+        let ptr = expects_no_tag(rt, s, &cell, ptr, &guard);
         let owner = replaced(rt, s, shared_cell);
-        let seven = owned::made(rt, s, 7);
-        let out = owned::raw(s, seven);
+        puts_out(rt, s, &raw_cell, 7);
         assert!(rt; shared::release(s, owner));
         owned::close_cell(s, cell);
         assert!(rt; (seen(s, ptr), ptr.tag()) == (Some(19), Tag::First));
-        assert!(rt; owned::see(s, out, &guard) == Some(7));
-        let back = owned::unraw(s, out);
-        assert!(rt; owned::spent(s, back) == Some(7));
+        assert!(rt; takes_back(s, &raw_cell, &guard) == (Some(7), Some(7)));
         defers(rt, s, &guard);
         close(s, guard);
+        raw_cell.close(s);
+        collects(rt, s);
     }
 }
 
+/// The two that were collected have gone already when the first guard is opened, and the others go at their third change.
 #[test]
 fn a_guard_shows_what_its_owners_gave_up(rt: HostRuntime) {
     in_each_space::<Manages, _>(
         &rt,
         AMPLE,
-        &[(0, 0, true), (1, 0, true), (2, 0, true), (3, 5, false)],
+        &[(0, 2, true), (1, 2, true), (2, 2, true), (3, 7, false)],
         0,
     );
-}
-
-/// A raw cell names what is out, and whoever takes it back owns it.
-struct NamesWhatIsOut;
-
-impl Example for NamesWhatIsOut {
-    fn run<R: Abort, S: Space<u64> + Deferrals<u64, Job = Idle>>(rt: &R, s: &mut S) {
-        let cell = raw::cell(rt, s, RawPtr::null());
-        let tagged = RawPtr::null().with_tag(Tag::Both);
-        assert!(rt; raw::exchanged(rt, s, &cell, RawPtr::null(), tagged) == Ok(RawPtr::null()));
-        let seven = owned::made(rt, s, 7);
-        let out = owned::raw(s, seven);
-        cell.store(out, s);
-        let named = raw::held(rt, s, &cell);
-        let guard = opened(rt, s);
-        assert!(rt; owned::see(s, named, &guard) == Some(7));
-        close(s, guard);
-        let back = owned::unraw(s, named);
-        assert!(rt; owned::spent(s, back) == Some(7));
-        cell.close(s);
-    }
-}
-
-#[test]
-fn a_raw_cell_names_what_is_out(rt: HostRuntime) {
-    in_each_space::<NamesWhatIsOut, _>(&rt, AMPLE, &[], 0);
 }
 
 /// An owner of a value that holds the owner of one that holds an owner of a number.

@@ -1,17 +1,13 @@
-use Rattle.std.proofs.Common.{◌≡◌, ℕ, ◌∙◌, ap, sym, refl, List, true, false, subst}
+use Rattle.std.proofs.Common.{◌≡◌, ℕ, ◌∙◌, sym, ap, refl, List, ◌∷◌, subst}
 use Rattle.sdd_space.specs.World.{World, standing_at}
 use Rattle.sdd_space.specs.CallerId.{IsExact, CallerId}
 use Rattle.sdd_space.specs.Shared.{cell_of}
 use Rattle.sdd_participants.specs.declared.standing.CellContents.{CellContents}
 use Rattle.sdd_standings.specs.Slots.{IsSharedBy}
-use Rattle.sdd_lists.specs.Lists.{Entry, IsCrowded, IsList, IsTaken, first_slot, trimmed}
+use Rattle.sdd_lists.specs.Lists.{Entry, IsCrowded, IsList, IsTaken, first_slot}
+use Rattle.sdd_lists.proofs.Fronts.{head-stays, left-head}
 use Rattle.sdd_lists.proofs.Grows.{grows-not}
-use Rattle.sdd_lists.proofs.Lists.{list-same}
 use Rattle.sdd_lists.proofs.pops.pop_first.Goals as goal
-
-pub returns-in-Ok-clause-own : goal.returns-in-Ok-clause-own
-returns-in-Ok-clause-own g c = λ start grown.
-    c.in-Ok.ensures.own start (grows-not (g.S.Caller.own c.args.s.now) _ c.in-Ok-Some.ensures.undisturbed.own start grown)
 
 pub returns-in-Ok-clause-exact : goal.returns-in-Ok-clause-exact
 returns-in-Ok-clause-exact g c = λ e t es list.
@@ -19,82 +15,61 @@ returns-in-Ok-clause-exact g c = λ e t es list.
     let w = g.S.Caller.world c.args.s.now in
     let cell : ℕ = cell_of c.args.cell.now in
     let held : CellContents = record { held = first_slot es; tag = t } in
-    let at_find = c.in-Ok-Some.ensures.undisturbed.seat in
-    let same = c.in-Ok-Some.ensures.world e in
-    let found = rw c.in-Ok-Some.field-0-is at (c.in-Ok-Some.ensures.exact e es list.linked held list.begins refl) in
+    let found = c.in-Some.ensures.exact e es list.linked held list.begins refl in
     let x : Entry _ = found.0 in
     let rest : List (Entry _) = found.1 in
-    let linked = rw c.in-Ok-Some.field-0-is at c.in-Ok-Some.ensures.link in
-    let cell_is : cell_of c.in-Ok-Some.front.link.now ≡ link x.value = linked ∙ ap link found.4 in
-    let ex : IsExact (g.S.Caller.seat c.find_first.new.s) = subst (λ (s : CallerId). IsExact s) (sym at_find) e in
-    let here = list-same link w (g.S.Caller.world c.find_first.new.s) cell t es (ap (λ (y : World _). y.cells) same)
-    (ap (λ (y : World _). y.values) same) list in
+    let at1 = c.in-Some.ensures.undisturbed.seat in
+    let at2 = c.tag.ensures.undisturbed.seat ∙ at1 in
+    let tagged = c.tag.ensures.exact (subst (λ (s : CallerId). IsExact s) (sym at1) e) in
+    let same : g.S.Caller.world c.tag.new.s ≡ w = tagged.0 ∙ c.in-Some.ensures.world e in
+    let list_x : IsList link w cell t (x ∷ rest) = subst (λ (xs : List (Entry _)). IsList link w cell t xs) found.2 list in
+    let cell_is : cell_of c.in-Some.front.link.now ≡ link x.value = c.in-Some.ensures.link ∙ ap link found.4 in
+    let stays = head-stays link w (g.S.Caller.world c.first_in.new.s) cell t x rest list_x (cell_of c.in-Some.front.link.now) cell_is
+    (c.in-Some.ensures.world e) tagged.1.0 tagged.1.1 c.tag.result tagged.1.2 c.in_default-tag.not-Second in
+    let here = subst (λ (y : World _). IsList link y cell t (x ∷ rest)) (sym same) list_x in
     let shared = subst (λ (y : World _). (n : ℕ) × IsSharedBy n (standing_at y x.slot)) (sym same) found.5 in
-    let taken = c.in-Ok.ensures.exact ex t es here x rest found.2 found.3 cell_is shared in (
+    let new = g.S.Caller.world c.take_head.new.s in
+    let taken = c.in-Ok.ensures.exact (subst (λ (s : CallerId). IsExact s) (sym at2) e) t x rest here stays found.3 cell_is shared in (
       x,
       rest,
-      found.2,
-      subst (λ (s : CallerId). IsTaken link w s.place cell t es x rest c.in-Ok.owner (g.S.Caller.world c.take_first.new.s)) at_find
-          (subst (λ (y : World _). IsTaken link y (g.S.Caller.seat c.find_first.new.s).place cell t es x rest c.in-Ok.owner
-          (g.S.Caller.world c.take_first.new.s)) same taken),
+      left-head es x rest found.2 stays,
+      subst (λ (xs : List (Entry _)). IsTaken link w (g.S.Caller.seat c.args.s.now).place cell t xs x rest c.in-Ok.owner new) (sym found.2)
+          (subst (λ (s : CallerId). IsTaken link w s.place cell t (x ∷ rest) x rest c.in-Ok.owner new) at2
+          (subst (λ (y : World _). IsTaken link y (g.S.Caller.seat c.tag.new.s).place cell t (x ∷ rest) x rest c.in-Ok.owner new) same taken)),
     )
 
-pub returns-in-Err-take_first-clause-exact : goal.returns-in-Err-take_first-clause-exact
-returns-in-Err-take_first-clause-exact g c = λ e t es list.
+pub returns-in-Err-clause-exact : goal.returns-in-Err-clause-exact
+returns-in-Err-clause-exact g c = λ e t es list.
     let link = g.T.LinkedList.link in
     let w = g.S.Caller.world c.args.s.now in
     let cell : ℕ = cell_of c.args.cell.now in
     let held : CellContents = record { held = first_slot es; tag = t } in
-    let at_find = c.in-Ok-Some.ensures.undisturbed.seat in
-    let same = c.in-Ok-Some.ensures.world e in
-    let found = rw c.in-Ok-Some.field-0-is at (c.in-Ok-Some.ensures.exact e es list.linked held list.begins refl) in
+    let found = c.in-Some.ensures.exact e es list.linked held list.begins refl in
     let x : Entry _ = found.0 in
     let rest : List (Entry _) = found.1 in
-    let linked = rw c.in-Ok-Some.field-0-is at c.in-Ok-Some.ensures.link in
-    let cell_is : cell_of c.in-Ok-Some.front.link.now ≡ link x.value = linked ∙ ap link found.4 in
-    let ex : IsExact (g.S.Caller.seat c.find_first.new.s) = subst (λ (s : CallerId). IsExact s) (sym at_find) e in
-    let here = list-same link w (g.S.Caller.world c.find_first.new.s) cell t es (ap (λ (y : World _). y.cells) same)
-    (ap (λ (y : World _). y.values) same) list in
+    let at1 = c.in-Some.ensures.undisturbed.seat in
+    let at2 = c.tag.ensures.undisturbed.seat ∙ at1 in
+    let tagged = c.tag.ensures.exact (subst (λ (s : CallerId). IsExact s) (sym at1) e) in
+    let same : g.S.Caller.world c.tag.new.s ≡ w = tagged.0 ∙ c.in-Some.ensures.world e in
+    let list_x : IsList link w cell t (x ∷ rest) = subst (λ (xs : List (Entry _)). IsList link w cell t xs) found.2 list in
+    let cell_is : cell_of c.in-Some.front.link.now ≡ link x.value = c.in-Some.ensures.link ∙ ap link found.4 in
+    let stays = head-stays link w (g.S.Caller.world c.first_in.new.s) cell t x rest list_x (cell_of c.in-Some.front.link.now) cell_is
+    (c.in-Some.ensures.world e) tagged.1.0 tagged.1.1 c.tag.result tagged.1.2 c.in_default-tag.not-Second in
+    let here = subst (λ (y : World _). IsList link y cell t (x ∷ rest)) (sym same) list_x in
     let shared = subst (λ (y : World _). (n : ℕ) × IsSharedBy n (standing_at y x.slot)) (sym same) found.5 in
-    let crowded = c.in-Err-take_first.ensures.exact ex t es here x rest found.2 found.3 cell_is shared in (
+    let crowded = c.in-Err.ensures.exact (subst (λ (s : CallerId). IsExact s) (sym at2) e) t x rest here stays found.3 cell_is shared in (
       x,
       rest,
-      found.2,
-      subst (λ (y : World _). IsCrowded y x c.in-Err-take_first.refused (g.S.Caller.world c.take_first.new.s)) same crowded,
+      left-head es x rest found.2 stays,
+      subst (λ (y : World _). IsCrowded y x c.in-Err.refused (g.S.Caller.world c.take_head.new.s)) same crowded,
     )
 
-pub returns-in-Ok-trim-clause-exact : goal.returns-in-Ok-trim-clause-exact
-returns-in-Ok-trim-clause-exact g c = λ e t es list.
-    let link = g.T.LinkedList.link in
-    let w = g.S.Caller.world c.args.s.now in
-    let cell : ℕ = cell_of c.args.cell.now in
-    let held : CellContents = record { held = first_slot es; tag = t } in
-    let at_find = c.in-Ok-None.ensures.undisturbed.seat in
-    let same = c.in-Ok-None.ensures.world e in
-    let none = rw c.in-Ok-None.field-0-is at (c.in-Ok-None.ensures.exact e es list.linked held list.begins refl) in
-    let ex : IsExact (g.S.Caller.seat c.find_first.new.s) = subst (λ (s : CallerId). IsExact s) (sym at_find) e in
-    let here = list-same link w (g.S.Caller.world c.find_first.new.s) cell t es (ap (λ (y : World _). y.cells) same)
-    (ap (λ (y : World _). y.values) same) list in
-    let cut = c.in-Ok-trim.ensures.exact ex t es here in
-    record {
-      none = none;
-      world = cut.3 ∙ ap (λ (y : World _). trimmed link y (g.S.Caller.seat c.find_first.new.s).place cell t es) same
-          ∙ ap (λ (s : CallerId). trimmed link w s.place cell t es) at_find;
-      list = subst (λ (xs : List (Entry _)). IsList link (g.S.Caller.world c.trim.new.s) cell t xs) none cut.2;
-    }
+pub returns-in-Ok-clause-own : goal.returns-in-Ok-clause-own
+returns-in-Ok-clause-own g c = λ start grown.
+    c.in-Ok.ensures.own start
+    (grows-not (g.S.Caller.own c.args.s.now) _ (c.tag.ensures.undisturbed.own ∙ c.in-Some.ensures.undisturbed.own) start grown)
 
-pub returns-in-Err-trim-clause-exact : goal.returns-in-Err-trim-clause-exact
-returns-in-Err-trim-clause-exact g c = λ e t es list.
-    let link = g.T.LinkedList.link in
-    let w = g.S.Caller.world c.args.s.now in
-    let cell : ℕ = cell_of c.args.cell.now in
-    let held : CellContents = record { held = first_slot es; tag = t } in
-    let at_find = c.in-Ok-None.ensures.undisturbed.seat in
-    let same = c.in-Ok-None.ensures.world e in
-    let none = rw c.in-Ok-None.field-0-is at (c.in-Ok-None.ensures.exact e es list.linked held list.begins refl) in
-    let ex : IsExact (g.S.Caller.seat c.find_first.new.s) = subst (λ (s : CallerId). IsExact s) (sym at_find) e in
-    let here = list-same link w (g.S.Caller.world c.find_first.new.s) cell t es (ap (λ (y : World _). y.cells) same)
-    (ap (λ (y : World _). y.values) same) list in
-    let cut = c.in-Err-trim.ensures.exact ex t es here in
-    let never : false ≡ true = cut.0 in
-    absurd (cc)
+pub returns-in-Err-clause-own : goal.returns-in-Err-clause-own
+returns-in-Err-clause-own g c = λ start grown.
+    c.in-Err.ensures.own start
+    (grows-not (g.S.Caller.own c.args.s.now) _ (c.tag.ensures.undisturbed.own ∙ c.in-Some.ensures.undisturbed.own) start grown)

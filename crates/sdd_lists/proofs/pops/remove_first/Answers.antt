@@ -1,40 +1,15 @@
-use Rattle.std.proofs.Common.{◌≡◌, ℕ, ◌∙◌, ap, sym, refl, List, ◌∷◌, Bool, true, false, Option, subst}
-use Rattle.std.specs.Prelude.{if◌then◌else◌}
+use Rattle.std.proofs.Common.{◌≡◌, ℕ, ◌∙◌, ap, sym, List, [], ◌∷◌, true, false, subst}
 use Rattle.sdd_space.specs.World.{World}
 use Rattle.sdd_space.specs.CallerId.{IsExact, CallerId}
 use Rattle.sdd_space.specs.Shared.{cell_of}
-use Rattle.sdd_space.specs.WorldChanges.{held_in, with_cell}
-use Rattle.sdd_core.specs.declared.tag.Tag.{Tag}
-use Rattle.sdd_core.specs.declared.tag.Tag.TheVariants.{Second}
-use Rattle.sdd_participants.specs.Slab.{entry_at}
-use Rattle.sdd_lists.specs.Lists.{Entry, IsList, first_slot, let_go_first, may_delete}
-use Rattle.sdd_lists.proofs.Fronts.{tag_in}
-use Rattle.sdd_lists.proofs.Grows.{grows-not}
-use Rattle.sdd_lists.proofs.Popping.{stays-of, deletes, apart-first, deleted, begins-still, is-deleted, rest-list}
+use Rattle.sdd_lists.specs.Lists.{Entry, IsList, removed}
+use Rattle.sdd_lists.proofs.Popping.{stays-of}
 use Rattle.sdd_lists.proofs.pops.remove_first.Goals as goal
 
 pub returns-in-Err-clause-exact : goal.returns-in-Err-clause-exact
 returns-in-Err-clause-exact g c = λ e t es list x rest first cell_is.
     let cut = c.in-Err.ensures.exact e t es list in
     let never : false ≡ true = cut.0 in
-    absurd (cc)
-
-pub returns-then-not-deleted-clause-exact : goal.returns-then-not-deleted-clause-exact
-returns-then-not-deleted-clause-exact g c = λ e t es list x rest first cell_is.
-    let link = g.T.LinkedList.link in
-    let place = (g.S.Caller.seat c.args.s.now).place in
-    let cell : ℕ = cell_of c.args.cell.now in
-    let at_trim = c.trim.ensures.unmoved.seat in
-    let cut = c.trim.ensures.exact e t es list in
-    let v = g.S.Caller.world c.trim.new.s in
-    let in_v : IsList link v cell t (x ∷ rest) = subst (λ (xs : List (Entry _)). IsList link v cell t xs) first cut.2 in
-    let del = c.delete-deleted.ensures.exact (subst (λ (s : CallerId). IsExact s) (sym at_trim) e) in
-    let there = sym del.1 ∙ ap (λ (k : ℕ). entry_at v.cells k) cell_is ∙ in_v.linked.0.linked in
-    let tags : del.0.tag ≡ x.tag = ap tag_in there in
-    let yes : c.delete-deleted.result ≡ true =
-    del.2 ∙ ap (λ (y : Tag). may_delete y) tags ∙ deletes link v place cell t x rest in_v (stays-of es x rest first) in
-    let no = c.if-not-deleted.true in
-    let never : false ≡ true = sym no ∙ yes in
     absurd (cc)
 
 pub returns-clause-exact : goal.returns-clause-exact
@@ -46,40 +21,12 @@ returns-clause-exact g c = λ e t es list x rest first cell_is.
     let cut = c.trim.ensures.exact e t es list in
     let v = g.S.Caller.world c.trim.new.s in
     let in_v : IsList link v cell t (x ∷ rest) = subst (λ (xs : List (Entry _)). IsList link v cell t xs) first cut.2 in
-    let del = c.delete-deleted.ensures.exact (subst (λ (s : CallerId). IsExact s) (sym at_trim) e) in
-    let there = sym del.1 ∙ ap (λ (k : ℕ). entry_at v.cells k) cell_is ∙ in_v.linked.0.linked in
-    let tags : del.0.tag ≡ x.tag = ap tag_in there in
-    let helds : del.0.held ≡ first_slot rest = ap held_in there in
-    let yes : c.delete-deleted.result ≡ true =
-    del.2 ∙ ap (λ (y : Tag). may_delete y) tags ∙ deletes link v place cell t x rest in_v (stays-of es x rest first) in
-    let z : World _ = deleted link v place cell t x rest in_v in
-    let world_z : g.S.Caller.world c.delete-deleted.new.s ≡ z =
-    subst (λ (b : Bool). g.S.Caller.world c.delete-deleted.new.s ≡
-    (if b then with_cell v (cell_of c.args.link.now) (record { held = del.0.held; tag = Second }) else v)) yes del.3
-    ∙ ap (λ (k : ℕ). with_cell v k (record { held = del.0.held; tag = Second })) cell_is
-    ∙ ap (λ (h : Option ℕ). with_cell v (link x.value) (record { held = h; tag = Second })) helds in
-    let at_del = c.delete-deleted.ensures.undisturbed.seat ∙ at_trim in
-    let gone = c.let_go_of_first.ensures.exact (subst (λ (s : CallerId). IsExact s) (sym at_del) e) x.slot t Second (first_slot rest)
-    (ap (λ (y : World _). entry_at y.cells cell) world_z ∙ begins-still link v place cell t x rest in_v)
-    (ap (λ (y : World _). entry_at y.cells (cell_of c.args.link.now)) world_z ∙ ap (λ (k : ℕ). entry_at z.cells k) cell_is
-    ∙ is-deleted link v place cell t x rest in_v)
-    (λ meet. apart-first link v place cell t x rest in_v (meet ∙ cell_is)) in
-    let world_x : g.S.Caller.world c.let_go_of_first.new.s ≡ let_go_first z place cell t x.slot (link x.value) (first_slot rest) =
-    gone ∙ ap (λ (y : World _). let_go_first y (g.S.Caller.seat c.delete-deleted.new.s).place cell t x.slot (cell_of c.args.link.now)
-    (first_slot rest)) world_z
-    ∙ ap (λ (s : CallerId). let_go_first z s.place cell t x.slot (cell_of c.args.link.now) (first_slot rest)) at_del
-    ∙ ap (λ (k : ℕ). let_go_first z place cell t x.slot k (first_slot rest)) cell_is in (
-      refl,
-      world_x ∙ ap (λ (y : World _). let_go_first (with_cell y (link x.value) (record { held = first_slot rest; tag = Second })) place cell t x.slot
-          (link x.value) (first_slot rest)) cut.3,
-      subst (λ (y : World _). IsList link y cell t rest) (sym world_x) (rest-list link v place cell t x rest in_v),
+    let gone = c.remove_head.ensures.exact (subst (λ (s : CallerId). IsExact s) (sym at_trim) e) t x rest in_v (stays-of es x rest first) cell_is in (
+      gone.0,
+      gone.1 ∙ ap (λ (s : CallerId). removed link v s.place cell t [] x rest) at_trim
+          ∙ ap (λ (y : World _). removed link y place cell t [] x rest) cut.3,
+      gone.2,
     )
 
-pub returns-then-not-deleted-clause-own : goal.returns-then-not-deleted-clause-own
-returns-then-not-deleted-clause-own g c = λ start grown.
-    grows-not (g.S.Caller.own c.trim.new.s) _ c.delete-deleted.ensures.undisturbed.own start (c.trim.ensures.own start grown)
-
 pub returns-clause-own : goal.returns-clause-own
-returns-clause-own g c = λ start grown.
-    c.let_go_of_first.ensures.own start
-    (grows-not (g.S.Caller.own c.trim.new.s) _ c.delete-deleted.ensures.undisturbed.own start (c.trim.ensures.own start grown))
+returns-clause-own g c = λ start grown. c.remove_head.ensures.own start (c.trim.ensures.own start grown)

@@ -9,6 +9,7 @@ loop-init g c = let new = c.new-hand.ensures in let seat = g.S.Caller.seat c.arg
   shared = new.shared seat.home.slots;
   owned_cells = new.owned_cells seat.home.cells;
   shared_cells = new.shared_cells seat.home.cells;
+  raw_cells = new.raw_cells seat.home.cells;
   collectors = new.collectors seat.home.cells;
   guards = new.guards seat.reader;
 }

@@ -1,12 +1,14 @@
-use Rattle.sdd_space.specs.Ptr.{cell_seen}
 use Rattle.sdd_space.proofs.Sharing.{shares}
 use Rattle.sdd_space.proofs.atomic_shared.AtomicShared.get_shared.Goals as goal
 
-pub returns-clause-exact : goal.returns-clause-exact
-returns-clause-exact g c = λ is_exact.
-    let loaded = c.load.ensures.exact is_exact in
-    let up = c.get_shared.ensures.exact (rw (c.load.ensures.undisturbed.seat) is_exact) in (
-      cell_seen c.load.result,
-      rw (← c.right.ensures.right) loaded.0,
-      shares _ _ c.load.result _ c.get_shared.result c.right.ensures.kind (c.load.ensures.owned is_exact) c.get_shared.ensures.slot (rw (loaded.1) at up),
+pub returns-in-Ok-clause-exact : goal.returns-in-Ok-clause-exact
+returns-in-Ok-clause-exact g c = λ is_exact.
+    let did = c.in-Ok.ensures.exact is_exact in (
+      did.0,
+      rw (← c.right.ensures.right) did.1,
+      shares _ _ c.of_held.result c.in-Ok.held did.0.held c.of_held.ensures did.2.0 did.2.1,
     )
+
+pub returns-in-Err-clause-exact : goal.returns-in-Err-clause-exact
+returns-in-Err-clause-exact g c = λ is_exact.
+    let did = c.in-Err.ensures.exact is_exact in (did.0, rw (← c.right.ensures.right) did.1, did.2)

@@ -1,5 +1,8 @@
 use Rattle.std.proofs.Common.{ℕ, ◌≡◌, ◌∙◌, arith, false, true, refl, sym}
 use Rattle.sdd_rights.specs.Right.{raw_number_of}
+use Rattle.std.proofs.lemmas.Bool.Decides.{nat_tests}
+use Rattle.sdd_space.specs.World.{place_at}
+use Rattle.sdd_space.proofs.Four.{all-closed}
 use Rattle.sdd_space.proofs.Own.{collector-own}
 use Rattle.sdd_space.proofs.Collecting.{collected-ends}
 use Rattle.sdd_world_core.proofs.Collecting.{count-closed}
@@ -11,6 +14,13 @@ returns-clause-own g c =
     let p : ℕ = c.args.self.now.place in
     let number : ℕ = raw_number_of c.args.collector in
     rw (c.close_collector.ensures.closed, c.world.view_is) (collector-own g.T.Item.holds w p number c.requires.seated.0)
+
+pub returns-clause-shut : goal.returns-clause-shut
+returns-clause-shut g c =
+    let w = c.args.self.now.world.now in
+    let p : ℕ = c.args.self.now.place in
+    let shut = all-closed w (λ guarded. let never : false ≡ true = sym c.if-is_guarded.false ∙ c.is_guarded.ensures.1 guarded in absurd (cc)) p in
+    let none : (place_at w p).guards ≡ 0 = grind (arith, nat_tests, shut) in none
 
 pub returns-clause-known : goal.returns-clause-known
 returns-clause-known g c =

@@ -4,7 +4,7 @@ use Rattle.sdd_rights.specs.Right.{number_of}
 use Rattle.sdd_domain.specs.Local.{LocalModel}
 use Rattle.sdd_domain.specs.Sound.{IsSound}
 use Rattle.sdd_domain.proofs.Partners.{same_partner}
-use Rattle.sdd_domain.proofs.CellCloned.{answered_exact, answered_step, answered_unmoved}
+use Rattle.sdd_domain.proofs.CellCloned.{answered_exact, answered_step, answered_undisturbed}
 use Rattle.sdd_domain.proofs.space.cells.LocalCells.clone_cell.Goals as goal
 
 pub invariant_of-self-inside : goal.invariant_of-self-inside
@@ -18,10 +18,10 @@ invariant_of-self g c = let v : LocalModel _ _ = (c.self-inside.view_is 0).partn
     (answered_step v did.new.self (number_of c.args.cell.now) (showing g.row.T) g.T.Item.holds did.result did.ensures.cloned).sound
     c.self-inside.invariant (subst (IsSound g.T.Item.holds) (sym inner) c.self.invariant)
 
-pub returns-clause-unmoved : goal.returns-clause-unmoved
-returns-clause-unmoved g c = let v : LocalModel _ _ = (c.self-inside.view_is 0).partner in let inner = same_partner c.self-inside.view_is in
+pub returns-clause-undisturbed : goal.returns-clause-undisturbed
+returns-clause-undisturbed g c = let v : LocalModel _ _ = (c.self-inside.view_is 0).partner in let inner = same_partner c.self-inside.view_is in
     let did = c.clone_cell in
-    answered_unmoved v did.new.self (number_of c.args.cell.now) (showing g.row.T) g.T.Item.holds c.args.self.now (inner ∙ c.self.view_is)
+    answered_undisturbed v did.new.self (number_of c.args.cell.now) (showing g.row.T) g.T.Item.holds c.args.self.now (inner ∙ c.self.view_is)
     c.self-inside.invariant did.result did.ensures.cloned
 
 pub returns-clause-exact : goal.returns-clause-exact

@@ -22,6 +22,7 @@ returns g c =
           (answers holds v q cell c.args.collector c.close_collector.result e.own e.shut e.back e.exact) c.self.invariant e.settled c.args.self.now
           c.self.view_is;
       known = search rules;
+      shut = search rules;
       back = search rules;
       exact = given_exact holds v q cell e.rest c.args.collector c.close_collector.result
           (answers holds v q cell c.args.collector c.close_collector.result e.own e.shut e.back e.exact) c.self.invariant e.settled c.args.self.now

@@ -8,7 +8,7 @@ use Rattle.sdd_space.specs.Shared.{cell_of, cells_home}
 use Rattle.sdd_participants.specs.Slab.{entry_at}
 use Rattle.sdd_space.specs.World.{standing_at}
 use Rattle.sdd_lists.specs.Lists.{AreLinked, Entry, first_slot, left}
-use Rattle.sdd_lists.proofs.walks.find_first.Given as goal
+use Rattle.sdd_lists.proofs.walks.find_by_walking.Given as goal
 
 -- the entry that is looked at comes behind deleted ones alone
 abbrev pub invariant-loop-step : goal.invariant-loop-step

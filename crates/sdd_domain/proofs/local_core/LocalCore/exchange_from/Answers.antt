@@ -1,11 +1,9 @@
-use Rattle.std.proofs.Common.{rules, ◌≡◌, ℕ, Bool, sym, ap, ◌∙◌}
-use Rattle.sdd_participants.specs.declared.standing.CellContents.{CellContents}
+use Rattle.std.proofs.Common.{rules, ◌≡◌, ℕ, Bool, sym, ◌∙◌}
 use Rattle.sdd_rights.specs.StandingKind.{is_shared}
 use Rattle.sdd_word_invariant.specs.Codes.{held_slots}
 use Rattle.sdd_standings.specs.Cells.{slot_held}
-use Rattle.sdd_domain.specs.Local.{contents_of}
 use Rattle.sdd_domain.proofs.HeldOwners.{cell_views, same_bound, word_bound, listed_first}
-use Rattle.sdd_domain.proofs.local_core.LocalCore.exchange.Goals as goal
+use Rattle.sdd_domain.proofs.local_core.LocalCore.exchange_from.Goals as goal
 
 pub returns-in-Err-clause-back : goal.returns-in-Err-clause-back
 returns-in-Err-clause-back g c = let new = c.loosen-new in let b = c.self.inside.domain.now.board in let shared : Bool = is_shared c.args.kind in
@@ -16,17 +14,14 @@ returns-in-Err-clause-back g c = let new = c.loosen-new in let b = c.self.inside
     c.in-Err.ensures.exchanged.1 tells.1
 
 pub returns-clause-exchanged : goal.returns-clause-exchanged
-returns-clause-exchanged g c = let new = c.loosen-new in let b = c.self.inside.domain.now.board in let found : ℕ = c.word_at-old.result in
-    let out = c.bind-2 in let found_is : contents_of found ≡ c.args.current = search rules in (
+returns-clause-exchanged g c = let new = c.loosen-new in let b = c.self.inside.domain.now.board in
+    let out = c.bind-2 in (
       search rules,
-      sym (listed_first (slot_held out.result) (held_slots found) (out.ensures.slots ∙ c.in-Ok.ensures.exchanged.1))
-          ∙ ap (λ (k : CellContents). k.held) found_is,
+      sym (listed_first (slot_held out.result) (held_slots c.args.old) (out.ensures.slots ∙ c.in-Ok.ensures.exchanged.1)),
       (
-        found,
         c.word_for-word.result,
         c.word_for-word.ensures.taken,
         word_bound b c.args.kind c.args.held new.result c.args.tag c.word_for-word.result new.ensures.bound c.word_for-word.ensures.contents,
-        found_is,
         record { writes = record { member = search rules; inside = search rules; lone = search rules }; full = search rules },
       ),
     )

@@ -6,7 +6,7 @@ use Rattle.sdd_space.specs.Ptr.{KeepsShown}
 use Rattle.sdd_space.specs.Shared.{cell_of}
 use Rattle.sdd_core.specs.declared.tag.Tag.{Tag}
 use Rattle.sdd_lists.specs.Lists.{Entry, IsList, left, trimmed}
-use Rattle.sdd_lists.proofs.moves.trim.Given as goal
+use Rattle.sdd_lists.proofs.moves.trim_deleted.Given as goal
 
 -- what is left of a list is a list, and letting go of its deleted front comes to the same
 abbrev pub invariant-loop-step : goal.invariant-loop-step

@@ -1,0 +1,8 @@
+use Rattle.sdd_space.specs.Shared.{slot_of}
+use Rattle.sdd_bench.proofs.Waiting.{let-go-guards}
+use Rattle.sdd_bench.proofs.lists.number.Goals as goal
+
+pub returns-in-Ok-Some-clause-guards : goal.returns-in-Ok-Some-clause-guards
+returns-in-Ok-Some-clause-guards g c =
+    let own = g.S.Caller.own in
+    let-go-guards c.release.result (slot_of c.in-Ok-Some.owner) (own c.args.space.now) (own c.release.new.s) c.release.ensures.own

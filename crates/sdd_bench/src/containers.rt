@@ -1,0 +1,45 @@
+//! The operations on containers, in a world of one participant.
+ghost use Rattle.std.specs.Prelude.{◌≡◌, ◌<◌, [], Err};
+ghost use Rattle.sdd_core.specs.Limits.{AreInRange};
+
+use crate::lists::{Entry, queues, stacks, walks};
+use crate::operation::Listing;
+use sdd_core::{Limits, Refused};
+use sdd_participants::Tally;
+use sdd_world::World;
+use std::alloc::Global;
+
+/// Does that with a list that often, and answers the tally with which the world is closed, and the sum of the numbers that were popped or seen.
+///
+/// No clause says how many entries those are, or when one is refused. Where the world can't be closed, it is let go of, and that is answered.
+pub fn lists(
+    alloc: Global,
+    limits: Limits,
+    listing: Listing,
+    turns: u64,
+) -> Result<(Tally, u64), Refused>
+    ensures limits { ¬ (AreInRange limits) → result ≡ Err Refused.BadLimits }
+{
+    let mut world: World<Entry> = World::new(alloc, limits)?;
+    let done = in_world(&mut world, listing, turns);
+    match world.close() {
+        Ok(tally) => Ok((tally, done?)),
+        Err((world, refused)) => {
+            world.leak();
+            Err(refused)
+        }
+    }
+}
+
+fn in_world(world: &mut World<Entry>, listing: Listing, turns: u64) -> Result<u64, Refused>
+    requires new { world.old.time.places ≡ [] }
+    requires nests { 0 < world.old.time.nesting }
+{
+    let place = world.register()?;
+    let mut turn = world.at(&place);
+    match listing {
+        Listing::Queue => queues(&mut turn, turns),
+        Listing::Stack => stacks(&mut turn, turns),
+        Listing::Walk => walks(&mut turn, turns),
+    }
+}
