@@ -17,14 +17,14 @@ use Rattle.sdd_space.specs.World.{World, standing_at, value_at}
 use Rattle.sdd_space.specs.WorldChanges.{with_standing}
 use Rattle.sdd_space.specs.WorldInvariant.{IsWhole}
 use Rattle.sdd_space.proofs.Housed.{Whole-restands}
-use Rattle.sdd_domain.specs.Items.{IsSameOwner}
-use Rattle.sdd_domain.specs.Local.{LocalModel, world_of}
-use Rattle.sdd_domain.specs.LocalState.{AddsAt, HasMost, IsLone, KnowsOwner, LocalState, word_of}
+use Rattle.sdd_domain_slots.specs.Items.{IsSameOwner}
+use Rattle.sdd_domain_slots.specs.Local.{LocalModel, world_of}
+use Rattle.sdd_domain_slots.specs.LocalState.{AddsAt, HasMost, IsLone, KnowsOwner, LocalState, word_of}
 use Rattle.sdd_domain.specs.Sound.{IsSound}
 use Rattle.sdd_domain.specs.Space.{ShowsBy, Shows, is_lone, seat_of, known_of}
 use Rattle.sdd_domain.specs.Space as space
-use Rattle.sdd_domain.specs.SpaceIds.{home_in}
-use Rattle.sdd_domain.specs.WordsAndValues.{AreTied, WordsMatchValues, is_plain_word}
+use Rattle.sdd_domain_slots.specs.SpaceIds.{home_in}
+use Rattle.sdd_domain_slots.specs.WordsAndValues.{AreTied, WordsMatchValues, is_plain_word}
 use Rattle.sdd_domain.proofs.Exact.{lone_is}
 use Rattle.sdd_domain.proofs.Owning.{few_owners, low, rewritten, stands, tied_recounted, value_recounted, world_recounted}
 use Rattle.sdd_domain.proofs.Refusals.{IsBack, back_keeps, back_sound, back_tied, back_world, words_only, words_undisturbed}

@@ -12,9 +12,9 @@ use Rattle.sdd_word_invariant.specs.SlotSteps.{behind}
 use Rattle.sdd_word_invariant.specs.CellSteps.{pointer_behind}
 use Rattle.sdd_participants.specs.Jobs.{places_of}
 use Rattle.sdd_space.specs.World.{World}
-use Rattle.sdd_domain.specs.SpaceIds.{home_in}
+use Rattle.sdd_domain_slots.specs.SpaceIds.{home_in}
 use Rattle.sdd_domain.proofs.Listings.{listing_same}
-use Rattle.sdd_domain.specs.Local.{LocalModel, listing, standing_by, value_by, contents_by, pointer_by, world_of}
+use Rattle.sdd_domain_slots.specs.Local.{LocalModel, listing, standing_by, value_by, contents_by, pointer_by, world_of}
 
 -- ---- a world of one participant
 -- what a cell holds by these words

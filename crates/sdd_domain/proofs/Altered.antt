@@ -27,15 +27,15 @@ use Rattle.sdd_space.specs.WorldChanges.{dropped, owner_given, retired, with_sta
 use Rattle.sdd_space.specs.WorldInvariant.{IsWhole}
 use Rattle.sdd_space.proofs.Housed.{Whole-dropped, Whole-owner_given, Whole-with_value, live-taken}
 use Rattle.sdd_space.proofs.InPlace.{dropped-others}
-use Rattle.sdd_domain.specs.Items.{HasValue}
-use Rattle.sdd_domain.specs.Local.{LocalModel, world_of}
-use Rattle.sdd_domain.specs.LocalState.{ChangesAt, GoesBeside, HasOpenGuard, HasOthers, IsLone, KnowsOwner, KnowsSole, LocalState, SeesGuard, with_sole, word_of}
+use Rattle.sdd_domain_slots.specs.Items.{HasValue}
+use Rattle.sdd_domain_slots.specs.Local.{LocalModel, world_of}
+use Rattle.sdd_domain_slots.specs.LocalState.{ChangesAt, GoesBeside, HasOpenGuard, HasOthers, IsLone, KnowsOwner, KnowsSole, LocalState, SeesGuard, with_sole, word_of}
 use Rattle.sdd_domain.specs.Reclaiming.{counted_in_place, counted_where, kept_of}
 use Rattle.sdd_domain.specs.Sound.{IsSound}
 use Rattle.sdd_domain.specs.Space.{ShowsBy, Shows, is_lone}
 use Rattle.sdd_domain.specs.Space as space
-use Rattle.sdd_domain.specs.SpaceIds.{home_in}
-use Rattle.sdd_domain.specs.WordsAndValues.{Entries, WordsMatchValues}
+use Rattle.sdd_domain_slots.specs.SpaceIds.{home_in}
+use Rattle.sdd_domain_slots.specs.WordsAndValues.{Entries, WordsMatchValues}
 use Rattle.sdd_domain.proofs.Changed.{tied_changed, world_changed}
 use Rattle.sdd_domain.proofs.Dropped.{told_value}
 use Rattle.sdd_domain.proofs.Exact.{lone_is}

@@ -19,11 +19,11 @@ use Rattle.sdd_space.specs.OwnerOrCell.{OwnerOrCell}
 use Rattle.sdd_space.specs.Undisturbed.{Undisturbed}
 use Rattle.sdd_space.specs.World.{World, standing_at}
 use Rattle.sdd_space.specs.WorldChanges.{with_cell, with_standing}
-use Rattle.sdd_domain.specs.Cells.{AllCellsTaken, ClaimsNone, ClonesNone, ClonesTo, SeesMore, WritesAt}
-use Rattle.sdd_domain.specs.Local.{LocalModel, contents_by, contents_of, world_of}
-use Rattle.sdd_domain.specs.LocalState.{AddsAt, IsLone, KnowsOwner, LocalState, cell_word_of, word_of}
+use Rattle.sdd_domain_slots.specs.Cells.{AllCellsTaken, ClaimsNone, ClonesNone, ClonesTo, SeesMore, WritesAt}
+use Rattle.sdd_domain_slots.specs.Local.{LocalModel, contents_by, contents_of, world_of}
+use Rattle.sdd_domain_slots.specs.LocalState.{AddsAt, IsLone, KnowsOwner, LocalState, cell_word_of, word_of}
 use Rattle.sdd_domain.specs.Space.{Shows, is_lone, known_of, seat_of}
-use Rattle.sdd_domain.specs.WordsAndValues.{WordsMatchValues}
+use Rattle.sdd_domain_slots.specs.WordsAndValues.{WordsMatchValues}
 use Rattle.sdd_domain.proofs.Added.{added_world, few_before, shared_before}
 use Rattle.sdd_domain.proofs.CellWorld.{cells_used_up, found_empty, full_cell, matched_written, world_by, world_written}
 use Rattle.sdd_domain.proofs.Owning.{few_alive, stands_alive}

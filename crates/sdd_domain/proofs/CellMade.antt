@@ -20,13 +20,13 @@ use Rattle.sdd_space.specs.KnownEpochs.{KnowsOn}
 use Rattle.sdd_space.specs.Refusals.{IsRefusedBy}
 use Rattle.sdd_space.specs.World.{World, value_at}
 use Rattle.sdd_space.specs.WorldChanges.{made_as, with_cell}
-use Rattle.sdd_domain.specs.Cells.{AllCellsTaken, MakesInCell, MakesNone, WritesAt}
+use Rattle.sdd_domain_slots.specs.Cells.{AllCellsTaken, MakesInCell, MakesNone, WritesAt}
 use Rattle.sdd_domain.specs.Laws.{shows_is_value}
-use Rattle.sdd_domain.specs.Local.{LocalModel, contents_by, world_of}
-use Rattle.sdd_domain.specs.LocalState.{IsLone, IsUsedUp, LocalState, cell_word_of}
+use Rattle.sdd_domain_slots.specs.Local.{LocalModel, contents_by, world_of}
+use Rattle.sdd_domain_slots.specs.LocalState.{IsLone, IsUsedUp, LocalState, cell_word_of}
 use Rattle.sdd_domain.specs.Space.{Shows, is_lone, known_of, seat_in, seat_of}
-use Rattle.sdd_domain.specs.SpaceIds.{home_in}
-use Rattle.sdd_domain.specs.WordsAndValues.{Entries, WordsMatchValues}
+use Rattle.sdd_domain_slots.specs.SpaceIds.{home_in}
+use Rattle.sdd_domain_slots.specs.WordsAndValues.{Entries, WordsMatchValues}
 use Rattle.sdd_domain.proofs.CellWorld.{cells_used_up, found_empty, matched_written, world_by, world_written}
 use Rattle.sdd_domain.proofs.Filled.{as_many, not_full}
 use Rattle.sdd_domain.proofs.Makes.{makes_tied, makes_world, used_up}

@@ -16,11 +16,11 @@ use Rattle.sdd_space.specs.OwnerOrCell.{OwnerOrCell}
 use Rattle.sdd_space.specs.Undisturbed.{Undisturbed}
 use Rattle.sdd_space.specs.World.{standing_at}
 use Rattle.sdd_space.specs.WorldChanges.{with_standing}
-use Rattle.sdd_domain.specs.Cells.{Copies, CopiesNone}
-use Rattle.sdd_domain.specs.Local.{LocalModel, contents_of, world_of}
-use Rattle.sdd_domain.specs.LocalState.{IsLone, LocalState, cell_word_of, word_of}
+use Rattle.sdd_domain_slots.specs.Cells.{Copies, CopiesNone}
+use Rattle.sdd_domain_slots.specs.Local.{LocalModel, contents_of, world_of}
+use Rattle.sdd_domain_slots.specs.LocalState.{IsLone, LocalState, cell_word_of, word_of}
 use Rattle.sdd_domain.specs.Space.{Shows, is_lone, known_of, seat_of}
-use Rattle.sdd_domain.specs.WordsAndValues.{WordsMatchValues}
+use Rattle.sdd_domain_slots.specs.WordsAndValues.{WordsMatchValues}
 use Rattle.sdd_domain.proofs.CellCloned.{came_step, came_world}
 use Rattle.sdd_domain.proofs.CellWorld.{full_cell}
 use Rattle.sdd_domain.proofs.Owning.{few_alive, stands_alive}

@@ -14,10 +14,10 @@ use Rattle.sdd_space.specs.OwnerOrCell.{OwnerOrCell}
 use Rattle.sdd_space.specs.Ptr.{KeepsShown}
 use Rattle.sdd_space.specs.Undisturbed.{Undisturbed}
 use Rattle.sdd_space.specs.WorldChanges.{with_cell, without_cell, held_in}
-use Rattle.sdd_domain.specs.Cells.{WritesAt, ChangesCell, FreesAt, AllCellsTaken}
-use Rattle.sdd_domain.specs.LocalState.{LocalState, IsLone, word_of, cell_word_of}
-use Rattle.sdd_domain.specs.WordsAndValues.{AreTied, WordsMatchValues}
-use Rattle.sdd_domain.specs.Local.{LocalModel, listing, contents_by, contents_of, contents_in, pointer_by, pointer_in, world_of}
+use Rattle.sdd_domain_slots.specs.Cells.{WritesAt, ChangesCell, FreesAt, AllCellsTaken}
+use Rattle.sdd_domain_slots.specs.LocalState.{LocalState, IsLone, word_of, cell_word_of}
+use Rattle.sdd_domain_slots.specs.WordsAndValues.{AreTied, WordsMatchValues}
+use Rattle.sdd_domain_slots.specs.Local.{LocalModel, listing, contents_by, contents_of, contents_in, pointer_by, pointer_in, world_of}
 use Rattle.sdd_domain.specs.Sound.{IsSound}
 use Rattle.sdd_domain.specs.Space.{Shows, is_lone, seat_of, known_of}
 use Rattle.sdd_domain.proofs.Exact.{lone_is}

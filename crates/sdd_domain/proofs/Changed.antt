@@ -8,9 +8,9 @@ use Rattle.sdd_views.specs.declared.ShownValue.{ShownValue}
 use Rattle.sdd_domain_invariant.specs.FilledInvariant.{newest}
 use Rattle.sdd_domain_invariant.proofs.Fillings.{newest_now, newest_before}
 use Rattle.sdd_space.specs.WorldChanges.{with_value}
-use Rattle.sdd_domain.specs.LocalState.{ChangesAt, IsLone, KnowsOwner, LocalState, word_of}
-use Rattle.sdd_domain.specs.WordsAndValues.{Agrees, AreTied}
-use Rattle.sdd_domain.specs.Local.{LocalModel, listing, value_by, value_in, world_of}
+use Rattle.sdd_domain_slots.specs.LocalState.{ChangesAt, IsLone, KnowsOwner, LocalState, word_of}
+use Rattle.sdd_domain_slots.specs.WordsAndValues.{Agrees, AreTied}
+use Rattle.sdd_domain_slots.specs.Local.{LocalModel, listing, value_by, value_in, world_of}
 use Rattle.sdd_domain.proofs.Listings.{listing_set}
 use Rattle.sdd_domain.proofs.Owning.{sole_still, taken}
 use Rattle.sdd_domain.proofs.Words.{value_there}

@@ -27,7 +27,7 @@ use Rattle.sdd_atomics.specs.Clones.{ClonesOne}
 use Rattle.sdd_atomics.specs.DomainSeat.{Knows, Moved, MovedAlone, Taught, epoch, slots, view}
 use Rattle.sdd_atomics.specs.Grips.{IsGripOf}
 use Rattle.sdd_atomics.specs.Owner.{IsCutOff}
-use Rattle.sdd_domain.specs.InPlace.{IsBare}
+use Rattle.sdd_domain_slots.specs.InPlace.{IsBare}
 
 -- a word that counts as many owners as may be is so great
 pub counts_most : (x : ℕ) → counted x ≡ 1 → shared_base + most_owners ≤ x → most_owners ≤ alive x

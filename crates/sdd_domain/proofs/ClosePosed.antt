@@ -9,7 +9,7 @@ use Rattle.sdd_atomics.specs.declared.domain_table.DomainTable.{DomainTable}
 use Rattle.sdd_atomics.specs.DomainTable.{book_of, places_of}
 use Rattle.sdd_atomics.specs.DomainSeat.{view}
 use Rattle.sdd_domain_invariant.specs.FractionsAtHome.{CarriedFractions}
-use Rattle.sdd_domain.specs.BetweenCalls.{CarriesSeenOnly, IsBetweenCalls}
+use Rattle.sdd_domain_slots.specs.BetweenCalls.{CarriesSeenOnly, IsBetweenCalls}
 
 -- which collector it closes is another one, and at how many places it has looked for that
 pub posed_closing : (b : DomainTable) (p : ℕ) (own : Participant) (s u : Seat ValueFraction View) (closes : Option ℕ) (looked : ℕ) → IsBetweenCalls b p own s

@@ -10,9 +10,9 @@ use Rattle.sdd_core.specs.declared.limits.Limits.{Limits}
 use Rattle.sdd_views.specs.declared.SlotsView.{SlotsView}
 use Rattle.sdd_space.specs.ParticipantChanges.{closed_with}
 use Rattle.sdd_space.specs.WorldChanges.{closed}
-use Rattle.sdd_domain.specs.LocalState.{LocalState, IsLone, GuardCloses}
-use Rattle.sdd_domain.specs.WordsAndValues.{AreTied}
-use Rattle.sdd_domain.specs.Local.{LocalModel, world_of}
+use Rattle.sdd_domain_slots.specs.LocalState.{LocalState, IsLone, GuardCloses}
+use Rattle.sdd_domain_slots.specs.WordsAndValues.{AreTied}
+use Rattle.sdd_domain_slots.specs.Local.{LocalModel, world_of}
 use Rattle.sdd_domain.proofs.Alone.{alone, steps_alone}
 
 -- time of one participant at this count

@@ -16,10 +16,10 @@ use Rattle.sdd_word_invariant.proofs.Codes.{waits_privately}
 use Rattle.sdd_space.specs.World.{World, standing_at}
 use Rattle.sdd_space.specs.Collecting.{is_for, waiting_for}
 use Rattle.sdd_domain.specs.Collectors.{takes_for, waits_for}
-use Rattle.sdd_domain.specs.Local.{LocalModel, owner_standing, standing_by, standing_in, world_of}
-use Rattle.sdd_domain.specs.LocalState.{word_of}
-use Rattle.sdd_domain.specs.PrivateTable.{standings_of}
-use Rattle.sdd_domain.proofs.KeptLists.{filter_alike}
+use Rattle.sdd_domain_slots.specs.Local.{LocalModel, owner_standing, standing_by, standing_in, world_of}
+use Rattle.sdd_domain_slots.specs.LocalState.{word_of}
+use Rattle.sdd_domain_slots.specs.PrivateTable.{standings_of}
+use Rattle.sdd_domain_slots.proofs.KeptLists.{filter_alike}
 use Rattle.sdd_domain.proofs.Listings.{listing_at, listing_past}
 use Rattle.sdd_domain.proofs.Words.{stands_private}
 

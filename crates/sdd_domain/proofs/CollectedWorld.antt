@@ -38,21 +38,21 @@ use Rattle.sdd_space.specs.WorldChanges.{owner_given, retired, with_standing}
 use Rattle.sdd_space.specs.WorldInvariant.{IsWhole}
 use Rattle.sdd_space.proofs.Housed.{Whole-waits, live-taken}
 use Rattle.sdd_domain.specs.Collectors.{CollectsAt, OwnerCollected}
-use Rattle.sdd_domain.specs.InBags.{AreInBags, KnownWaiting, known_waiting, is_closed, private_for}
-use Rattle.sdd_domain.specs.Local.{LocalModel, listing, standing_by, standing_in, value_in, world_of}
-use Rattle.sdd_domain.specs.LocalState.{LocalState, place_number, IsLone, KnowsOwner, word_of}
+use Rattle.sdd_domain_slots.specs.InBags.{AreInBags, KnownWaiting, known_waiting, is_closed, private_for}
+use Rattle.sdd_domain_slots.specs.Local.{LocalModel, listing, standing_by, standing_in, value_in, world_of}
+use Rattle.sdd_domain_slots.specs.LocalState.{LocalState, place_number, IsLone, KnowsOwner, word_of}
 use Rattle.sdd_domain.specs.Sound.{IsSound}
-use Rattle.sdd_domain.specs.SpaceIds.{home_in}
+use Rattle.sdd_domain_slots.specs.SpaceIds.{home_in}
 use Rattle.sdd_domain.specs.Space.{ShowsBy, Shows, is_lone, seat_of, known_of}
 use Rattle.sdd_domain.specs.Space as space
-use Rattle.sdd_domain.specs.WordsAndValues.{MatchesPlace, AreTied, WordsMatchValues, is_plain_word}
+use Rattle.sdd_domain_slots.specs.WordsAndValues.{MatchesPlace, AreTied, WordsMatchValues, is_plain_word}
 use Rattle.sdd_domain.proofs.Alone.{alone, steps_alone, cells_kept, pointers_kept}
 use Rattle.sdd_domain.proofs.Exact.{lone_is}
-use Rattle.sdd_domain.proofs.InBags.{none_plain, one_more, turned_private, without_last}
+use Rattle.sdd_domain_slots.proofs.InBags.{none_plain, one_more, turned_private, without_last}
 use Rattle.sdd_domain.proofs.Listings.{listing_same, listing_set}
 use Rattle.sdd_domain.proofs.Owning.{few_owners, low, none_other, one_owner, owned_by, release_keeps, release_last, release_tied, release_world, rewritten_now, rewritten_then, standing_then, stands, taken, value_still, went_knows, went_own, went_seat}
-use Rattle.sdd_domain.proofs.PrivateTables.{for_one, for_other, for_other_slot}
-use Rattle.sdd_domain.proofs.Reclaims.{what_item}
+use Rattle.sdd_domain_slots.proofs.PrivateTables.{for_one, for_other, for_other_slot}
+use Rattle.sdd_domain_slots.proofs.Reclaims.{what_item}
 use Rattle.sdd_domain.proofs.Sound.{lives, lone_true, sound_release, sound_then}
 use Rattle.sdd_domain.proofs.Words.{alive_public, no_private, none_privately, plain_private, stands_private}
 

@@ -18,14 +18,14 @@ use Rattle.sdd_space.specs.Collecting.{is_for, waiting_for}
 use Rattle.sdd_space.specs.OwnerOrCell.{OwnerOrCell}
 use Rattle.sdd_space.specs.WorldChanges.{all_reclaimed}
 use Rattle.sdd_domain.specs.Collectors.{AllWaitFor, BeginsClose, takes_for, waits_for, ends_close as no_more}
-use Rattle.sdd_domain.specs.InBags.{KnownWaiting, TellsCollectors, known_waiting}
-use Rattle.sdd_domain.specs.Local.{LocalModel, world_of}
-use Rattle.sdd_domain.specs.LocalState.{LocalState, word_of}
-use Rattle.sdd_domain.specs.WaitingItems.{what_of}
-use Rattle.sdd_domain.specs.WordsAndValues.{AreTied}
+use Rattle.sdd_domain_slots.specs.InBags.{KnownWaiting, TellsCollectors, known_waiting}
+use Rattle.sdd_domain_slots.specs.Local.{LocalModel, world_of}
+use Rattle.sdd_domain_slots.specs.LocalState.{LocalState, word_of}
+use Rattle.sdd_domain_slots.specs.WaitingItems.{what_of}
+use Rattle.sdd_domain_slots.specs.WordsAndValues.{AreTied}
 use Rattle.sdd_domain.proofs.Closes.{IsTabled, taken_alike, world_taken}
-use Rattle.sdd_domain.proofs.InBags.{begins_close, ends_close, known_once}
-use Rattle.sdd_domain.proofs.PrivateTables.{choice_plain, choice_private}
+use Rattle.sdd_domain_slots.proofs.InBags.{begins_close, ends_close, known_once}
+use Rattle.sdd_domain_slots.proofs.PrivateTables.{choice_plain, choice_private}
 
 module _ {T J : Type 0} (v : LocalModel T J) (c : ℕ) (t : AreTied v.member v.entries)
     (told : TellsCollectors v.member.limits.slots v.member.collectors v.member.slots.privates) where

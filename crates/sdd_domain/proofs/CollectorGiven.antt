@@ -14,13 +14,13 @@ use Rattle.sdd_space.specs.World.{World, AnyGuardOpen, standing_at, value_at}
 use Rattle.sdd_space.specs.WorldInvariant.{IsWhole}
 use Rattle.sdd_space.proofs.Collecting.{collected-ends}
 use Rattle.sdd_space.proofs.Housed.{Whole-collector_closed, live-taken}
-use Rattle.sdd_domain.specs.Local.{LocalModel, world_of}
-use Rattle.sdd_domain.specs.LocalState.{HasOpenGuard, IsLone}
+use Rattle.sdd_domain_slots.specs.Local.{LocalModel, world_of}
+use Rattle.sdd_domain_slots.specs.LocalState.{HasOpenGuard, IsLone}
 use Rattle.sdd_domain.specs.Reclaiming.{rest_of}
 use Rattle.sdd_domain.specs.Sound.{IsSound}
 use Rattle.sdd_domain.specs.Space.{ShowsBy, Shows, is_lone, seat_of}
 use Rattle.sdd_domain.specs.Space as space
-use Rattle.sdd_domain.specs.SpaceIds.{home_in}
+use Rattle.sdd_domain_slots.specs.SpaceIds.{home_in}
 use Rattle.sdd_domain.proofs.Altered.{by_either, opened_there, quiet_there}
 use Rattle.sdd_domain.proofs.Exact.{lone_is}
 use Rattle.sdd_domain.proofs.Sound.{lives}

@@ -2,10 +2,10 @@
 use Rattle.std.proofs.Common.{◌≡◌, ◌⊎◌, ℕ, ◌+◌, ◌≤◌, List, [], ◌∷◌, inl, inr, ⊎_elim, refl, ap, ◌∙◌, arith}
 use Rattle.sdd_participants.specs.declared.waiting.LimboEntry.{LimboEntry}
 use Rattle.sdd_space.proofs.Listed.{count-cons}
-use Rattle.sdd_domain.specs.LocalState.{LocalState, IsLone}
+use Rattle.sdd_domain_slots.specs.LocalState.{LocalState, IsLone}
 use Rattle.sdd_domain.specs.OpeningTally.{CountsGone}
-use Rattle.sdd_domain.specs.Receipt.{with_reclaimed}
-use Rattle.sdd_domain.specs.WaitingItems.{is_item, items_in}
+use Rattle.sdd_domain_slots.specs.Receipt.{with_reclaimed}
+use Rattle.sdd_domain_slots.specs.WaitingItems.{is_item, items_in}
 use Rattle.sdd_domain.proofs.Tallies.{many_more}
 
 -- of so many items that were due, so many still are; of the others some were reclaimed, and are counted

@@ -17,12 +17,12 @@ use Rattle.sdd_word_invariant.proofs.Sums.{is_other, total_snoc}
 use Rattle.sdd_domain_invariant.specs.FractionsAtHome.{CarriedFractions}
 use Rattle.sdd_atomics.specs.declared.domain_table.DomainTable.{DomainTable}
 use Rattle.sdd_atomics.specs.DomainTable.{book_of, places_of, slots_of, most_waiting_of}
-use Rattle.sdd_domain.specs.InBags.{AreInBags, KnownWaiting}
-use Rattle.sdd_domain.specs.WaitingItems.{what_of}
-use Rattle.sdd_domain.specs.BetweenCalls.{CarriesSeenOnly, IsBetweenCalls}
-use Rattle.sdd_domain.proofs.InBags.{first_inside, first_once, job_plain, known_in}
-use Rattle.sdd_domain.proofs.Reclaims.{no_more, what_job}
-use Rattle.sdd_domain.proofs.Posing.{stirs, stirs_low}
+use Rattle.sdd_domain_slots.specs.InBags.{AreInBags, KnownWaiting}
+use Rattle.sdd_domain_slots.specs.WaitingItems.{what_of}
+use Rattle.sdd_domain_slots.specs.BetweenCalls.{CarriesSeenOnly, IsBetweenCalls}
+use Rattle.sdd_domain_slots.proofs.InBags.{first_inside, first_once, job_plain, known_in}
+use Rattle.sdd_domain_slots.proofs.Reclaims.{no_more, what_job}
+use Rattle.sdd_domain_slots.proofs.Posing.{stirs, stirs_low}
 
 module _ (b : DomainTable) (p : ℕ) (own : Participant) (s t : Seat ValueFraction View) (q : IsBetweenCalls b p own s) (table : t.table_id ≡ s.table_id)
     (others : t.me.1 ≡ s.me.1) (job : ℕ) where

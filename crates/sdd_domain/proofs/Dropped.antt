@@ -15,10 +15,10 @@ use Rattle.sdd_word_invariant.proofs.Codes.{free_is, sound}
 use Rattle.sdd_space.specs.OwnerOrCell.{OwnerOrCell}
 use Rattle.sdd_space.specs.World.{World, value_at}
 use Rattle.sdd_space.specs.WorldChanges.{dropped, dropped_out, given_all, vacated}
-use Rattle.sdd_domain.specs.LocalState.{DropsAt, KnowsOwner, LocalState, place_number, word_of}
-use Rattle.sdd_domain.specs.Values.{one_showing}
-use Rattle.sdd_domain.specs.WordsAndValues.{AreTied, MatchesPlace, is_plain_word}
-use Rattle.sdd_domain.specs.Local.{LocalModel, listing, standing_by, value_by, standing_in, value_in, world_of}
+use Rattle.sdd_domain_slots.specs.LocalState.{DropsAt, KnowsOwner, LocalState, place_number, word_of}
+use Rattle.sdd_domain_slots.specs.Values.{one_showing}
+use Rattle.sdd_domain_slots.specs.WordsAndValues.{AreTied, MatchesPlace, is_plain_word}
+use Rattle.sdd_domain_slots.specs.Local.{LocalModel, listing, standing_by, value_by, standing_in, value_in, world_of}
 use Rattle.sdd_domain.proofs.Listings.{listing_set}
 use Rattle.sdd_domain.proofs.Owning.{entry, has_value}
 use Rattle.sdd_domain.proofs.Words.{alive_public, free_public, public_alike, word_same, word_other}

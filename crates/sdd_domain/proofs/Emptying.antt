@@ -24,16 +24,16 @@ use Rattle.sdd_word_invariant.proofs.Codes.{private_is}
 use Rattle.sdd_word_invariant.proofs.Sums.{is_same}
 use Rattle.sdd_space.specs.ParticipantChanges.{KeepsMoreWaiting}
 use Rattle.sdd_domain.specs.Collectors.{AllWaitFor, EmptiesAt, IsClosing, waits_for}
-use Rattle.sdd_domain.specs.InBags.{AreInBags, Kept, KnownWaiting, Plainly, Privately, TellsCollectors, is_closed, is_out, item_of, out_of, private_for, private_of}
-use Rattle.sdd_domain.specs.Local.{LocalModel}
-use Rattle.sdd_domain.specs.LocalState.{LocalState, IsLone}
-use Rattle.sdd_domain.specs.PrivateTable.{standings_of}
-use Rattle.sdd_domain.specs.WordsAndValues.{AreTied}
-use Rattle.sdd_domain.specs.WaitingItems.{what_of, number_in, is_ripe}
+use Rattle.sdd_domain_slots.specs.InBags.{AreInBags, Kept, KnownWaiting, Plainly, Privately, TellsCollectors, is_closed, is_out, item_of, out_of, private_for, private_of}
+use Rattle.sdd_domain_slots.specs.Local.{LocalModel}
+use Rattle.sdd_domain_slots.specs.LocalState.{LocalState, IsLone}
+use Rattle.sdd_domain_slots.specs.PrivateTable.{standings_of}
+use Rattle.sdd_domain_slots.specs.WordsAndValues.{AreTied}
+use Rattle.sdd_domain_slots.specs.WaitingItems.{what_of, number_in, is_ripe}
 use Rattle.sdd_domain.proofs.Guarding.{all_guards}
-use Rattle.sdd_domain.proofs.KeptLists.{total_fewer, total_of_map}
-use Rattle.sdd_domain.proofs.PrivateTables.{found_for, mapped_at}
-use Rattle.sdd_domain.proofs.Reclaims.{none_passes, number_of}
+use Rattle.sdd_domain_slots.proofs.KeptLists.{total_fewer, total_of_map}
+use Rattle.sdd_domain_slots.proofs.PrivateTables.{found_for, mapped_at}
+use Rattle.sdd_domain_slots.proofs.Reclaims.{none_passes, number_of}
 
 head_of : LimboEntry → List LimboEntry → LimboEntry
 head_of w [] = w

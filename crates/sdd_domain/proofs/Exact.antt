@@ -12,9 +12,9 @@ use Rattle.sdd_space.specs.Ptr.{KeepsShown}
 use Rattle.sdd_space.specs.World.{World}
 use Rattle.sdd_space.specs.WorldChanges.{opened, nested, caught_up, changed, all_reclaimed}
 use Rattle.sdd_space.specs.WorldChanges as steps
-use Rattle.sdd_domain.specs.LocalState.{LocalState, IsLone, HasOpenGuard, IsEntered, GuardCloses}
-use Rattle.sdd_domain.specs.WordsAndValues.{AreTied}
-use Rattle.sdd_domain.specs.Local.{LocalModel, world_of}
+use Rattle.sdd_domain_slots.specs.LocalState.{LocalState, IsLone, HasOpenGuard, IsEntered, GuardCloses}
+use Rattle.sdd_domain_slots.specs.WordsAndValues.{AreTied}
+use Rattle.sdd_domain_slots.specs.Local.{LocalModel, world_of}
 use Rattle.sdd_domain.specs.Space.{Shows, is_lone}
 use Rattle.sdd_domain.specs.Laws.{own_is_place}
 use Rattle.sdd_domain.proofs.Kept.{keeps_own}

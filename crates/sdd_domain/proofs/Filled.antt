@@ -8,8 +8,8 @@ use Rattle.sdd_participants.specs.declared.standing.Standing.TheVariants.{Raw, R
 use Rattle.sdd_participants.specs.Slab.{IsFull}
 use Rattle.sdd_word_invariant.specs.Codes.{free_word, raw_word, waiting}
 use Rattle.sdd_space.specs.World.{standing_at, value_at}
-use Rattle.sdd_domain.specs.LocalState.{IsFree, IsLone, IsUsedUp, word_of}
-use Rattle.sdd_domain.specs.Local.{LocalModel, world_of, standing_in, value_in}
+use Rattle.sdd_domain_slots.specs.LocalState.{IsFree, IsLone, IsUsedUp, word_of}
+use Rattle.sdd_domain_slots.specs.Local.{LocalModel, world_of, standing_in, value_in}
 use Rattle.sdd_domain.proofs.Listings.{listing_long, listing_at, listing_past, all_listed}
 use Rattle.sdd_domain.proofs.Makes.{used_up}
 

@@ -21,11 +21,11 @@ use Rattle.sdd_word_invariant.specs.Slots.{waits_in}
 use Rattle.sdd_word_invariant.proofs.Sums.{is_same, is_other, total_has, total_snoc}
 use Rattle.sdd_atomics.specs.declared.domain_table.DomainTable.{DomainTable}
 use Rattle.sdd_atomics.specs.DomainTable.{slots_of}
-use Rattle.sdd_domain.specs.BetweenCalls.{IsBetweenCalls}
-use Rattle.sdd_domain.specs.InBags.{AreInBags, KnownWaiting, is_closed, known_waiting}
-use Rattle.sdd_domain.specs.PrivateItems.{ClaimsBack, EmptiesOwn, LetsGoOf}
-use Rattle.sdd_domain.proofs.InBags.{first_private_out, turned_plain, without_last}
-use Rattle.sdd_domain.proofs.Posing.{posed_waits}
+use Rattle.sdd_domain_slots.specs.BetweenCalls.{IsBetweenCalls}
+use Rattle.sdd_domain_slots.specs.InBags.{AreInBags, KnownWaiting, is_closed, known_waiting}
+use Rattle.sdd_domain_slots.specs.PrivateItems.{ClaimsBack, EmptiesOwn, LetsGoOf}
+use Rattle.sdd_domain_slots.proofs.InBags.{first_private_out, turned_plain, without_last}
+use Rattle.sdd_domain_slots.proofs.Posing.{posed_waits}
 
 -- it was claimed for its bag
 module _ (b : DomainTable) (p : ℕ) (own : Participant) (slot : ℕ) (s u : Seat ValueFraction View) (claims : ClaimsBack slot s u) where

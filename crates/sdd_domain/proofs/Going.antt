@@ -25,15 +25,15 @@ use Rattle.sdd_space.specs.World.{World, standing_at, value_at}
 use Rattle.sdd_space.specs.WorldChanges.{waiting_value, taken_out, given_all, reclaimed, slot_reclaimed}
 use Rattle.sdd_space.specs.WorldChanges as steps
 use Rattle.sdd_participants.specs.Slab.{entry_at, without_entry}
-use Rattle.sdd_domain.specs.LocalState.{LocalState, place_number, IsLone, Reclaims, word_of}
-use Rattle.sdd_domain.specs.InBags.{TellsCollectors, known_waiting}
+use Rattle.sdd_domain_slots.specs.LocalState.{LocalState, place_number, IsLone, Reclaims, word_of}
+use Rattle.sdd_domain_slots.specs.InBags.{TellsCollectors, known_waiting}
 use Rattle.sdd_domain.specs.Collectors.{LosesItem}
-use Rattle.sdd_domain.specs.Values.{one_showing}
-use Rattle.sdd_domain.specs.WordsAndValues.{MatchesPlace, Agrees, AreTied, is_plain_word}
-use Rattle.sdd_domain.specs.Local.{LocalModel, listing, standing_by, value_by, standing_in, value_in, world_of}
+use Rattle.sdd_domain_slots.specs.Values.{one_showing}
+use Rattle.sdd_domain_slots.specs.WordsAndValues.{MatchesPlace, Agrees, AreTied, is_plain_word}
+use Rattle.sdd_domain_slots.specs.Local.{LocalModel, listing, standing_by, value_by, standing_in, value_in, world_of}
 use Rattle.sdd_domain.proofs.Listings.{listing_at, listing_set}
-use Rattle.sdd_domain.proofs.InBags.{first_out, first_slot}
-use Rattle.sdd_domain.proofs.PrivateTables.{counts_for, found_in, none_for, none_left, others_for}
+use Rattle.sdd_domain_slots.proofs.InBags.{first_out, first_slot}
+use Rattle.sdd_domain_slots.proofs.PrivateTables.{counts_for, found_in, none_for, none_left, others_for}
 use Rattle.sdd_domain.proofs.Words.{free_public, no_private, word_same, word_other, stands_private, stands_retired, value_there}
 use Rattle.sdd_domain.proofs.Alone.{cells_kept, pointers_kept}
 

@@ -14,20 +14,20 @@ use Rattle.sdd_space.specs.Ptr.{KeepsShown}
 use Rattle.sdd_space.specs.WorldChanges.{opened, nested}
 use Rattle.sdd_space.specs.World.{World, place_at}
 use Rattle.sdd_space.proofs.Own.{all_awaiting-found, opens}
-use Rattle.sdd_domain.specs.SpaceIds.{home_in}
-use Rattle.sdd_domain.specs.LocalState.{LocalState, IsLone, HasOpenGuard, CanNest, IsEntered, GoesOn}
-use Rattle.sdd_domain.specs.WordsAndValues.{AreTied, WordsMatchValues}
-use Rattle.sdd_domain.specs.Local.{LocalModel, world_of}
+use Rattle.sdd_domain_slots.specs.SpaceIds.{home_in}
+use Rattle.sdd_domain_slots.specs.LocalState.{LocalState, IsLone, HasOpenGuard, CanNest, IsEntered, GoesOn}
+use Rattle.sdd_domain_slots.specs.WordsAndValues.{AreTied, WordsMatchValues}
+use Rattle.sdd_domain_slots.specs.Local.{LocalModel, world_of}
 use Rattle.sdd_domain.specs.Space.{Shows, is_lone}
 use Rattle.sdd_domain.specs.Sound.{IsSound}
-use Rattle.sdd_domain.specs.WaitingItems.{arrived_at}
+use Rattle.sdd_domain_slots.specs.WaitingItems.{arrived_at}
 use Rattle.sdd_domain.specs.Laws.{own_is_place}
 use Rattle.sdd_domain.proofs.Alone.{steps_alone}
-use Rattle.sdd_domain.proofs.Arrivals.{stayed, moved, as_open}
+use Rattle.sdd_domain_slots.proofs.Arrivals.{stayed, moved, as_open}
 use Rattle.sdd_domain.proofs.Exact.{lone_is, nests, tied_settled}
 use Rattle.sdd_domain.proofs.Kept.{keeps_own}
 use Rattle.sdd_domain.proofs.Openings.{tied_enters}
-use Rattle.sdd_domain.proofs.Reclaims.{either_way}
+use Rattle.sdd_domain_slots.proofs.Reclaims.{either_way}
 use Rattle.sdd_domain.proofs.Sound.{lives, sound_opened}
 
 -- an opening that goes on has entered, and one that is over, unless nothing waited

@@ -27,14 +27,14 @@ use Rattle.sdd_domain_invariant.specs.FractionSteps.{forgetting, without_record}
 use Rattle.sdd_atomics.specs.declared.domain_table.DomainTable.{DomainTable}
 use Rattle.sdd_atomics.specs.DomainTable.{slots_of}
 use Rattle.sdd_atomics.specs.DomainSeat.{Moved}
-use Rattle.sdd_domain.specs.BetweenCalls.{IsBetweenCalls}
+use Rattle.sdd_domain_slots.specs.BetweenCalls.{IsBetweenCalls}
 use Rattle.sdd_domain.specs.Collectors.{CollectsAt}
-use Rattle.sdd_domain.specs.LocalState.{LocalState, RetiresAt}
-use Rattle.sdd_domain.specs.InBags.{AreInBags, KnownWaiting, TellsCollectors, is_closed, known_waiting}
-use Rattle.sdd_domain.proofs.InBags.{known_once, none_plain, turned_private, without_last}
-use Rattle.sdd_domain.proofs.Posing.{posed_waits}
-use Rattle.sdd_domain.proofs.PrivateTables.{told_collected}
-use Rattle.sdd_domain.proofs.Reclaims.{no_more}
+use Rattle.sdd_domain_slots.specs.LocalState.{LocalState, RetiresAt}
+use Rattle.sdd_domain_slots.specs.InBags.{AreInBags, KnownWaiting, TellsCollectors, is_closed, known_waiting}
+use Rattle.sdd_domain_slots.proofs.InBags.{known_once, none_plain, turned_private, without_last}
+use Rattle.sdd_domain_slots.proofs.Posing.{posed_waits}
+use Rattle.sdd_domain_slots.proofs.PrivateTables.{told_collected}
+use Rattle.sdd_domain_slots.proofs.Reclaims.{no_more}
 
 -- the newest of what waits is of its slot
 pub newest_waits : (slot count : ℕ) (v : View) (xs : List WaitingItem) → v.slots.waits ≡ xs ++ retired_now slot count ∷ []

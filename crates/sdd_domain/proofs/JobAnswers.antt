@@ -11,10 +11,10 @@ use Rattle.sdd_space.specs.World.{value_at}
 use Rattle.sdd_space.specs.WorldChanges.{deferred}
 use Rattle.sdd_space.specs.WorldInvariant.{IsWhole}
 use Rattle.sdd_space.proofs.Housed.{Whole-deferred, live-taken}
-use Rattle.sdd_domain.specs.SpaceIds.{home_in}
-use Rattle.sdd_domain.specs.LocalState.{LocalState, IsLone, DefersTo, AllPlacesTaken}
-use Rattle.sdd_domain.specs.WordsAndValues.{WordsMatchValues}
-use Rattle.sdd_domain.specs.Local.{LocalModel, world_of}
+use Rattle.sdd_domain_slots.specs.SpaceIds.{home_in}
+use Rattle.sdd_domain_slots.specs.LocalState.{LocalState, IsLone, DefersTo, AllPlacesTaken}
+use Rattle.sdd_domain_slots.specs.WordsAndValues.{WordsMatchValues}
+use Rattle.sdd_domain_slots.specs.Local.{LocalModel, world_of}
 use Rattle.sdd_domain.specs.Space.{ShowsBy, Shows, is_lone, known_of}
 use Rattle.sdd_domain.specs.Space as space
 use Rattle.sdd_domain.specs.Sound.{IsSound}

@@ -17,9 +17,9 @@ use Rattle.std.proofs.lemmas.Bool.{cases_lt}
 use Rattle.std.proofs.lemmas.List.{get_or_past}
 use Rattle.sdd_participants.specs.declared.participant.Participant.{Participant}
 use Rattle.sdd_participants.specs.Waiting.{Waiting}
-use Rattle.sdd_domain.specs.InBags.{AreInBags, KnownWaiting}
-use Rattle.sdd_domain.specs.DueItems.{Pending}
-use Rattle.sdd_domain.proofs.InBags.{nothing_waits}
+use Rattle.sdd_domain_slots.specs.InBags.{AreInBags, KnownWaiting}
+use Rattle.sdd_domain_slots.specs.DueItems.{Pending}
+use Rattle.sdd_domain_slots.proofs.InBags.{nothing_waits}
 
 module _ {J : Type 0} where
   -- so many slots, and so many places of jobs

@@ -18,15 +18,15 @@ use Rattle.sdd_word_invariant.proofs.Owning.{item_kept}
 use Rattle.sdd_space.specs.World.{World}
 use Rattle.sdd_space.specs.WorldChanges.{deferred, ran}
 use Rattle.sdd_participants.proofs.Places.{empty-places, places-full, places-put, places-taken}
-use Rattle.sdd_domain.specs.LocalState.{LocalState, place_number, IsLone, DefersTo, TakesJob, AllPlacesTaken, word_of}
-use Rattle.sdd_domain.specs.InBags.{AreInBags, known_waiting, private_for}
-use Rattle.sdd_domain.specs.WaitingItems.{what_of}
-use Rattle.sdd_domain.specs.WordsAndValues.{AreTied, MatchesPlace, is_plain_word}
-use Rattle.sdd_domain.specs.Local.{LocalModel, listing, standing_by, value_by, standing_in, value_in, world_of}
+use Rattle.sdd_domain_slots.specs.LocalState.{LocalState, place_number, IsLone, DefersTo, TakesJob, AllPlacesTaken, word_of}
+use Rattle.sdd_domain_slots.specs.InBags.{AreInBags, known_waiting, private_for}
+use Rattle.sdd_domain_slots.specs.WaitingItems.{what_of}
+use Rattle.sdd_domain_slots.specs.WordsAndValues.{AreTied, MatchesPlace, is_plain_word}
+use Rattle.sdd_domain_slots.specs.Local.{LocalModel, listing, standing_by, value_by, standing_in, value_in, world_of}
 use Rattle.sdd_domain.proofs.Alone.{alone, steps_alone, cells_kept, pointers_kept}
 use Rattle.sdd_domain.proofs.Listings.{listing_same}
-use Rattle.sdd_domain.proofs.InBags.{first_plain_out, job_plain, one_more}
-use Rattle.sdd_domain.proofs.Reclaims.{what_job}
+use Rattle.sdd_domain_slots.proofs.InBags.{first_plain_out, job_plain, one_more}
+use Rattle.sdd_domain_slots.proofs.Reclaims.{what_job}
 use Rattle.sdd_domain.proofs.Words.{word_put, word_other}
 
 -- the word of a job's place becomes y, and slots stay as they were

@@ -4,8 +4,8 @@ use base.Stored.{Gv}
 use Rattle.sdd_participants.specs.declared.participant.Participant.{Participant}
 use Rattle.sdd_space.specs.OwnerOrCell.{OwnerOrCell}
 use Rattle.sdd_space.specs.Ptr.{KeepsShown}
-use Rattle.sdd_domain.specs.LocalState.{LocalState}
-use Rattle.sdd_domain.specs.Local.{LocalModel}
+use Rattle.sdd_domain_slots.specs.LocalState.{LocalState}
+use Rattle.sdd_domain_slots.specs.Local.{LocalModel}
 use Rattle.sdd_domain.specs.Space.{ShowsBy, Shows, is_lone}
 
 -- what it keeps of its own, and what it knows of the count, are so

@@ -1,7 +1,7 @@
 -- Lists of things by their numbers
 use Rattle.std.proofs.Common.{◌≡◌, ◌≢◌, ℕ, zero, suc, ◌<◌, ◌≤◌, ◌∷◌, length, get_or, set, sym, refl, ap, subst, arith, All}
 use Rattle.std.specs.Prelude.{Some, slice_get}
-use Rattle.sdd_domain.specs.Local.{listing}
+use Rattle.sdd_domain_slots.specs.Local.{listing}
 
 module _ {A : Type 0} where
   pub listing_long : (n : ℕ) (f : ℕ → A) → length (listing n f) ≡ n

@@ -27,10 +27,10 @@ use Rattle.sdd_space.specs.OwnerOrCell.{OwnerOrCell}
 use Rattle.sdd_space.specs.Ptr.{KeepsShown}
 use Rattle.sdd_space.specs.World.{value_at}
 use Rattle.sdd_space.specs.WorldChanges.{made_as}
-use Rattle.sdd_domain.specs.LocalState.{LocalState, place_number, IsLone, IsUsedUp, MakesAt, word_of}
-use Rattle.sdd_domain.specs.Items.{HasValue, IsRightTo}
-use Rattle.sdd_domain.specs.WordsAndValues.{MatchesPlace, Entries, Agrees, AreTied, WordsMatchValues, is_plain_word}
-use Rattle.sdd_domain.specs.Local.{LocalModel, listing, standing_by, value_by, item_standing, standing_in, value_in, world_of}
+use Rattle.sdd_domain_slots.specs.LocalState.{LocalState, place_number, IsLone, IsUsedUp, MakesAt, word_of}
+use Rattle.sdd_domain_slots.specs.Items.{HasValue, IsRightTo}
+use Rattle.sdd_domain_slots.specs.WordsAndValues.{MatchesPlace, Entries, Agrees, AreTied, WordsMatchValues, is_plain_word}
+use Rattle.sdd_domain_slots.specs.Local.{LocalModel, listing, standing_by, value_by, item_standing, standing_in, value_in, world_of}
 use Rattle.sdd_domain.specs.Space.{ShowsBy, Shows, is_lone}
 use Rattle.sdd_domain.proofs.Listings.{listing_at, listing_long, listing_past, listing_set, listing_all}
 use Rattle.sdd_domain.proofs.Words.{alive_public, free_public, public_alike, word_same, word_other, plain_claimed, stands_claimed, stands_raw, stands_retired, value_there, alive_taken}

@@ -11,12 +11,12 @@ use Rattle.sdd_space.specs.Undisturbed.{Undisturbed}
 use Rattle.sdd_space.specs.World.{World}
 use Rattle.sdd_space.specs.WorldInvariant.{IsWhole}
 use Rattle.sdd_space.proofs.Housed.{Whole-cells, Whole-pointers}
-use Rattle.sdd_domain.specs.LocalState.{LocalState, place_number, IsLone, word_of}
-use Rattle.sdd_domain.specs.WordsAndValues.{AreTied, MatchesPlace, WordsMatchValues, is_plain_word}
-use Rattle.sdd_domain.specs.Local.{LocalModel, listing, standing_by, value_by, standing_in, value_in, contents_in, pointer_in, world_of}
+use Rattle.sdd_domain_slots.specs.LocalState.{LocalState, place_number, IsLone, word_of}
+use Rattle.sdd_domain_slots.specs.WordsAndValues.{AreTied, MatchesPlace, WordsMatchValues, is_plain_word}
+use Rattle.sdd_domain_slots.specs.Local.{LocalModel, listing, standing_by, value_by, standing_in, value_in, contents_in, pointer_in, world_of}
 use Rattle.sdd_domain.specs.Sound.{IsSound}
 use Rattle.sdd_domain.specs.Space.{ShowsBy, Shows, is_lone, seat_of, known_of}
-use Rattle.sdd_domain.specs.SpaceIds.{home_in}
+use Rattle.sdd_domain_slots.specs.SpaceIds.{home_in}
 use Rattle.sdd_domain.proofs.Listings.{listing_same}
 use Rattle.sdd_domain.proofs.Refusals.{words_only, words_undisturbed}
 use Rattle.sdd_domain.proofs.Sound.{sound_then}

@@ -4,11 +4,11 @@ use Rattle.std.specs.Prelude.{Result, Ok, Err, MatchResult, if◌then◌else◌}
 use Rattle.sdd_core.specs.declared.refused.Refused.{Refused}
 use Rattle.sdd_participants.specs.EpochState as time
 use Rattle.sdd_word_invariant.specs.SlotSteps.{older_private}
-use Rattle.sdd_domain.specs.LocalState.{LocalState, CanNest, HasOpenGuard, IsEntered, IsLone, GoesOn}
+use Rattle.sdd_domain_slots.specs.LocalState.{LocalState, CanNest, HasOpenGuard, IsEntered, IsLone, GoesOn}
 use Rattle.sdd_domain.specs.OpeningTally.{CountsGone, CountsReclaimed}
-use Rattle.sdd_domain.specs.Receipt.{with_reclaimed}
-use Rattle.sdd_domain.specs.WaitingItems.{aged_privates_at, items_in, due_at}
-use Rattle.sdd_domain.proofs.Arrivals.{due_stayed}
+use Rattle.sdd_domain_slots.specs.Receipt.{with_reclaimed}
+use Rattle.sdd_domain_slots.specs.WaitingItems.{aged_privates_at, items_in, due_at}
+use Rattle.sdd_domain_slots.proofs.Arrivals.{due_stayed}
 use Rattle.sdd_domain.proofs.Guarding.{WasIdle, is_over}
 
 -- beside an open guard nothing is

@@ -8,12 +8,12 @@ use Rattle.sdd_participants.specs.EpochState as time
 use Rattle.sdd_word_invariant.specs.SlotSteps.{older, older_private, aged as aged_slots}
 use Rattle.sdd_word_invariant.proofs.Sums.{total_map}
 use Rattle.sdd_space.specs.WorldChanges.{nested, rotated}
-use Rattle.sdd_domain.specs.LocalState.{LocalState, IsLone, IsEntered}
-use Rattle.sdd_domain.specs.InBags.{AreInBags, known_waiting, private_for}
-use Rattle.sdd_domain.specs.WordsAndValues.{AreTied}
-use Rattle.sdd_domain.specs.Local.{LocalModel}
-use Rattle.sdd_domain.proofs.Arrivals.{same_items}
-use Rattle.sdd_domain.proofs.InBags.{all_older}
+use Rattle.sdd_domain_slots.specs.LocalState.{LocalState, IsLone, IsEntered}
+use Rattle.sdd_domain_slots.specs.InBags.{AreInBags, known_waiting, private_for}
+use Rattle.sdd_domain_slots.specs.WordsAndValues.{AreTied}
+use Rattle.sdd_domain_slots.specs.Local.{LocalModel}
+use Rattle.sdd_domain_slots.proofs.Arrivals.{same_items}
+use Rattle.sdd_domain_slots.proofs.InBags.{all_older}
 use Rattle.sdd_domain.proofs.Alone.{alone}
 
 module _ {T J : Type 0} (p : LocalModel T J) (tied : AreTied p.member p.entries) (settled : p.member.due ≡ []) where

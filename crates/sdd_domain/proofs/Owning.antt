@@ -36,15 +36,15 @@ use Rattle.sdd_space.specs.Ptr.{KeepsShown}
 use Rattle.sdd_space.specs.World.{World, value_at, standing_at}
 use Rattle.sdd_space.specs.WorldChanges.{owner_given, retired, with_standing}
 use Rattle.sdd_participants.specs.Slab.{entry_at}
-use Rattle.sdd_domain.specs.LocalState.{LocalState, place_number, IsLone, KnowsOwner, LooksAt, RetiresAt, word_of, with_sole, LeavesAt, OwnerGoes}
-use Rattle.sdd_domain.specs.SpaceIds.{home_in}
-use Rattle.sdd_domain.specs.Items.{HasValue}
-use Rattle.sdd_domain.specs.SeenSlots.{IsOnce}
-use Rattle.sdd_domain.specs.Values.{one_showing, one_value}
+use Rattle.sdd_domain_slots.specs.LocalState.{LocalState, place_number, IsLone, KnowsOwner, LooksAt, RetiresAt, word_of, with_sole, LeavesAt, OwnerGoes}
+use Rattle.sdd_domain_slots.specs.SpaceIds.{home_in}
+use Rattle.sdd_domain_slots.specs.Items.{HasValue}
+use Rattle.sdd_domain_slots.specs.SeenSlots.{IsOnce}
+use Rattle.sdd_domain_slots.specs.Values.{one_showing, one_value}
 use Rattle.sdd_domain.specs.Laws.{same_value, shows_is_value}
-use Rattle.sdd_domain.specs.InBags.{known_waiting}
-use Rattle.sdd_domain.specs.WordsAndValues.{MatchesPlace, Agrees, AreTied, WordsMatchValues, is_plain_word}
-use Rattle.sdd_domain.specs.Local.{LocalModel, listing, standing_by, value_by, standing_in, value_in, world_of}
+use Rattle.sdd_domain_slots.specs.InBags.{known_waiting}
+use Rattle.sdd_domain_slots.specs.WordsAndValues.{MatchesPlace, Agrees, AreTied, WordsMatchValues, is_plain_word}
+use Rattle.sdd_domain_slots.specs.Local.{LocalModel, listing, standing_by, value_by, standing_in, value_in, world_of}
 use Rattle.sdd_domain.specs.Space.{ShowsBy, Shows, is_lone, seat_of, known_of}
 use Rattle.sdd_space.specs.KnownEpochs.{KnowsOn}
 use Rattle.sdd_space.specs.ParticipantChanges.{KeepsMoreWaiting}
@@ -53,11 +53,11 @@ use Rattle.sdd_domain.proofs.Giving.{grows_by, grows_not}
 use Rattle.sdd_domain.specs.Space as space
 use Rattle.sdd_domain.proofs.Listings.{listing_at, listing_set, listing_same}
 use Rattle.sdd_domain.proofs.Words.{alive_public, none_privately, public_alike, waiting_public, place_dead, inside, word_same, word_other, alive_taken, waiting_taken, value_there, stands_owned, stands_retired, counts_of, plain_retired, plain_less}
-use Rattle.sdd_domain.proofs.Members.{shown_now}
+use Rattle.sdd_domain_slots.proofs.Members.{shown_now}
 use Rattle.sdd_domain.proofs.Alone.{alone, steps_alone, cells_kept, pointers_kept}
 use Rattle.sdd_domain.proofs.Exact.{lone_is}
-use Rattle.sdd_domain.proofs.Reclaims.{what_item}
-use Rattle.sdd_domain.proofs.InBags.{one_more}
+use Rattle.sdd_domain_slots.proofs.Reclaims.{what_item}
+use Rattle.sdd_domain_slots.proofs.InBags.{one_more}
 
 -- where the word of an owner that is alone may count several it counts one, and tells one in either case
 pub one_owner : (x : ℕ) (several : Bool) → 0 < alive x → counted x ≡ one_where several → (several ≡ true → x ≡ claimed_word true) → alive x ≡ 1

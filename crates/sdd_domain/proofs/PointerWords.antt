@@ -6,8 +6,8 @@ use native.Mathlib.Decide.{ℕ_discrete}
 use Rattle.sdd_core.specs.declared.tag.Tag.{Tag}
 use Rattle.sdd_core.specs.Tag.{number_of}
 use Rattle.sdd_participants.specs.declared.standing.RawCellContents.{RawCellContents}
-use Rattle.sdd_domain.specs.Local.{pointer_by, tag_by}
-use Rattle.sdd_domain.proofs.CellWords.{tag_small, tagged}
+use Rattle.sdd_domain_slots.specs.Local.{pointer_by, tag_by}
+use Rattle.sdd_domain_slots.proofs.CellWords.{tag_small, tagged}
 
 -- what is named by a number: the slot before it, or nothing
 abbrev named_by : ℕ → Option ℕ

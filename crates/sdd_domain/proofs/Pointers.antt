@@ -14,12 +14,12 @@ use Rattle.sdd_space.specs.OwnerOrCell.{OwnerOrCell}
 use Rattle.sdd_space.specs.Ptr.{KeepsShown, PtrIsShown, shown_by, slot_named}
 use Rattle.sdd_space.specs.declared.ptr.Ptr.{Ptr}
 use Rattle.sdd_space.specs.World.{standing_at}
-use Rattle.sdd_domain.specs.Cells.{FindsAt, IsOwnedThere, LooksThrough, SeesItem, SeesMore}
+use Rattle.sdd_domain_slots.specs.Cells.{FindsAt, IsOwnedThere, LooksThrough, SeesItem, SeesMore}
 use Rattle.sdd_domain.specs.Laws.{same_value}
-use Rattle.sdd_domain.specs.Local.{LocalModel, contents_of, world_of}
-use Rattle.sdd_domain.specs.LocalState.{IsLone, LocalState, word_of}
+use Rattle.sdd_domain_slots.specs.Local.{LocalModel, contents_of, world_of}
+use Rattle.sdd_domain_slots.specs.LocalState.{IsLone, LocalState, word_of}
 use Rattle.sdd_domain.specs.Space.{Shows, is_lone}
-use Rattle.sdd_domain.specs.WordsAndValues.{WordsMatchValues}
+use Rattle.sdd_domain_slots.specs.WordsAndValues.{WordsMatchValues}
 use Rattle.sdd_domain.proofs.CellWorld.{full_cell}
 use Rattle.sdd_domain.proofs.Owning.{few_alive, owned_by, owned_value, shows_it, stands_alive}
 use Rattle.sdd_domain.proofs.SeesMore.{looks_more, same_sees}

@@ -12,10 +12,10 @@ use Rattle.sdd_word_invariant.specs.Sums.{is}
 use Rattle.sdd_word_invariant.proofs.Codes.{private_is, waits_privately}
 use Rattle.sdd_word_invariant.proofs.Sums.{is_other, is_same, total_has, total_some}
 use Rattle.sdd_space.specs.World.{standing_at}
-use Rattle.sdd_domain.specs.InBags.{private_for}
-use Rattle.sdd_domain.specs.Local.{LocalModel, standing_by, standing_in, world_of}
-use Rattle.sdd_domain.specs.LocalState.{word_of}
-use Rattle.sdd_domain.specs.WordsAndValues.{AreTied}
+use Rattle.sdd_domain_slots.specs.InBags.{private_for}
+use Rattle.sdd_domain_slots.specs.Local.{LocalModel, standing_by, standing_in, world_of}
+use Rattle.sdd_domain_slots.specs.LocalState.{word_of}
+use Rattle.sdd_domain_slots.specs.WordsAndValues.{AreTied}
 use Rattle.sdd_domain.proofs.Listings.{listing_at}
 use Rattle.sdd_domain.proofs.Words.{stands_private}
 

@@ -18,12 +18,12 @@ use Rattle.sdd_space.specs.Refusals.{IsContended}
 use Rattle.sdd_space.specs.Undisturbed.{Undisturbed}
 use Rattle.sdd_space.specs.World.{pointer_at}
 use Rattle.sdd_space.specs.WorldChanges.{pointing, with_pointer, without_cell}
-use Rattle.sdd_domain.specs.Cells.{ClaimsNone, FindsPointer, FreesAt, MakesRaw, PointsAt}
-use Rattle.sdd_domain.specs.LocalState.{LocalState, IsLone, pointer_word_of}
-use Rattle.sdd_domain.specs.Local.{LocalModel, contents_of, pointer_by, world_of}
+use Rattle.sdd_domain_slots.specs.Cells.{ClaimsNone, FindsPointer, FreesAt, MakesRaw, PointsAt}
+use Rattle.sdd_domain_slots.specs.LocalState.{LocalState, IsLone, pointer_word_of}
+use Rattle.sdd_domain_slots.specs.Local.{LocalModel, contents_of, pointer_by, world_of}
 use Rattle.sdd_domain.specs.Sound.{IsSound}
 use Rattle.sdd_domain.specs.Space.{Shows, is_lone, known_of, seat_of}
-use Rattle.sdd_domain.specs.WordsAndValues.{WordsMatchValues}
+use Rattle.sdd_domain_slots.specs.WordsAndValues.{WordsMatchValues}
 use Rattle.sdd_domain.proofs.CellWorld.{cells_used_up, freed_exact, full_exact}
 use Rattle.sdd_domain.proofs.Exact.{lone_is}
 use Rattle.sdd_domain.proofs.RawCellWorld.{finds_before, found_exact, made_empty, made_exact, made_undisturbed, matched_made, matched_pointed, pointed_exact, pointed_undisturbed, sound_made, sound_pointed}
@@ -110,7 +110,7 @@ module _ {T J : Type 0} (v : LocalModel T J) (m : LocalState J) where
       made_empty v (raw_number_of cell) pointer m a tied p is exact,
       made_exact v (raw_number_of cell) pointer m a tied p is exact,
     )
-    made_answer (Err e) a tied p is exact = ⊎_elim (λ (none : (e ≡ NoCell) × (IsLone v.member → Rattle.sdd_domain.specs.Cells.AllCellsTaken v.member)). (
+    made_answer (Err e) a tied p is exact = ⊎_elim (λ (none : (e ≡ NoCell) × (IsLone v.member → Rattle.sdd_domain_slots.specs.Cells.AllCellsTaken v.member)). (
       subst (λ (q : LocalModel T J). IsFull (world_of q).cells) is (cells_used_up v (none.1 (lone_here p is exact))),
       none.0,
       same_exact p is exact a.0,

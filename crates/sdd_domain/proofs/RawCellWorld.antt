@@ -11,13 +11,13 @@ use Rattle.sdd_space.specs.OwnerOrCell.{OwnerOrCell}
 use Rattle.sdd_space.specs.Undisturbed.{Undisturbed}
 use Rattle.sdd_space.specs.World.{World, pointer_at}
 use Rattle.sdd_space.specs.WorldChanges.{with_cell, with_pointer, pointing}
-use Rattle.sdd_domain.specs.Cells.{FindsPointer, MakesRaw, PointsAt}
-use Rattle.sdd_domain.specs.LocalState.{LocalState, IsLone, word_of}
-use Rattle.sdd_domain.specs.WordsAndValues.{AreTied, WordsMatchValues}
-use Rattle.sdd_domain.specs.Local.{LocalModel, listing, contents_by, pointer_by, contents_in, pointer_in, world_of}
+use Rattle.sdd_domain_slots.specs.Cells.{FindsPointer, MakesRaw, PointsAt}
+use Rattle.sdd_domain_slots.specs.LocalState.{LocalState, IsLone, word_of}
+use Rattle.sdd_domain_slots.specs.WordsAndValues.{AreTied, WordsMatchValues}
+use Rattle.sdd_domain_slots.specs.Local.{LocalModel, listing, contents_by, pointer_by, contents_in, pointer_in, world_of}
 use Rattle.sdd_domain.specs.Sound.{IsSound}
 use Rattle.sdd_domain.specs.Space.{Shows, is_lone, seat_of, known_of}
-use Rattle.sdd_domain.proofs.CellWords.{none_contents}
+use Rattle.sdd_domain_slots.proofs.CellWords.{none_contents}
 use Rattle.sdd_domain.proofs.CellWorld.{empty_exact, matched_written, sound_written, tied_written, world_written, written_undisturbed}
 use Rattle.sdd_domain.proofs.Exact.{lone_is}
 use Rattle.sdd_domain.proofs.Listings.{listing_get, listing_same, listing_set}

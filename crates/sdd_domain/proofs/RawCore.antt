@@ -14,8 +14,8 @@ use Rattle.sdd_domain_invariant.specs.FractionSteps.{regained, undrawing, untold
 use Rattle.sdd_atomics.specs.declared.domain_table.DomainTable.{DomainTable}
 use Rattle.sdd_atomics.specs.DomainTable.{book_of, places_of}
 use Rattle.sdd_atomics.specs.DomainSeat.{view, Taught, Moved}
-use Rattle.sdd_domain.specs.BetweenCalls.{CarriesSeenOnly, IsBetweenCalls}
-use Rattle.sdd_domain.specs.RawItems.{PutsOut}
+use Rattle.sdd_domain_slots.specs.BetweenCalls.{CarriesSeenOnly, IsBetweenCalls}
+use Rattle.sdd_domain_slots.specs.RawItems.{PutsOut}
 
 -- what is known once the item of an owner that was taken in is out as raw
 out_view : (slot : ℕ) (value : Gv) (v : View) → v.slots.owns ≡ [] → v.stakes.owns ≡ []

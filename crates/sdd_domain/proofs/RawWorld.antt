@@ -25,16 +25,16 @@ use Rattle.sdd_rights.specs.declared.right.Right.{Right}
 use Rattle.sdd_rights.specs.declared.right.StandingKind.TheVariants as kinds
 use Rattle.sdd_rights.specs.Right.{number_of}
 use Rattle.sdd_space.specs.WorldChanges.{with_standing}
-use Rattle.sdd_domain.specs.LocalState.{LocalState, IsLone, KnowsOwner, LooksAt, place_number, word_of}
-use Rattle.sdd_domain.specs.SeenSlots.{IsOnce}
-use Rattle.sdd_domain.specs.RawItems.{with_word, put_out, taken_back, IsOut, KnowsRaw}
-use Rattle.sdd_domain.specs.Values.{one_showing}
+use Rattle.sdd_domain_slots.specs.LocalState.{LocalState, IsLone, KnowsOwner, LooksAt, place_number, word_of}
+use Rattle.sdd_domain_slots.specs.SeenSlots.{IsOnce}
+use Rattle.sdd_domain_slots.specs.RawItems.{with_word, put_out, taken_back, IsOut, KnowsRaw}
+use Rattle.sdd_domain_slots.specs.Values.{one_showing}
 use Rattle.sdd_participants.specs.Slab.{entry_at}
-use Rattle.sdd_domain.specs.WordsAndValues.{AreTied, MatchesPlace, WordsMatchValues, is_plain_word}
-use Rattle.sdd_domain.specs.Local.{LocalModel, listing, standing_by, value_by, standing_in, value_in, world_of}
+use Rattle.sdd_domain_slots.specs.WordsAndValues.{AreTied, MatchesPlace, WordsMatchValues, is_plain_word}
+use Rattle.sdd_domain_slots.specs.Local.{LocalModel, listing, standing_by, value_by, standing_in, value_in, world_of}
 use Rattle.sdd_domain.specs.Space.{ShowsBy, Shows, is_lone, seat_in, seat_of, known_of}
-use Rattle.sdd_domain.specs.SpaceIds.{home_in}
-use Rattle.sdd_domain.specs.Items.{IsRightTo}
+use Rattle.sdd_domain_slots.specs.SpaceIds.{home_in}
+use Rattle.sdd_domain_slots.specs.Items.{IsRightTo}
 use Rattle.sdd_domain.specs.Sound.{IsSound}
 use Rattle.sdd_domain.proofs.Sound.{sound_then, sound_step}
 use Rattle.sdd_domain.proofs.Listings.{listing_at, listing_past, listing_set, listing_same}

@@ -19,14 +19,14 @@ use Rattle.sdd_domain_invariant.specs.FractionSteps.{LearnsOwned}
 use Rattle.sdd_atomics.specs.declared.domain_table.DomainTable.{DomainTable}
 use Rattle.sdd_atomics.specs.DomainTable.{book_of, sizes_of}
 use Rattle.sdd_atomics.specs.DomainSeat.{MovedAlone}
-use Rattle.sdd_domain.specs.BetweenCalls.{IsBetweenCalls}
-use Rattle.sdd_domain.specs.DomainValues.{sizes_in}
-use Rattle.sdd_domain.specs.Items.{HasValue, slots_home}
-use Rattle.sdd_domain.specs.LocalState.{LocalState, IsLone, KnowsOwner}
-use Rattle.sdd_domain.proofs.Housed.{IsOn, on_board}
-use Rattle.sdd_domain.proofs.InPlace.{owner_by, owner_has, owner_views}
-use Rattle.sdd_domain.proofs.Members.{recalls_to, with_token}
-use Rattle.sdd_domain.proofs.Posing.{same_recalled}
+use Rattle.sdd_domain_slots.specs.BetweenCalls.{IsBetweenCalls}
+use Rattle.sdd_domain_slots.specs.DomainValues.{sizes_in}
+use Rattle.sdd_domain_slots.specs.Items.{HasValue, slots_home}
+use Rattle.sdd_domain_slots.specs.LocalState.{LocalState, IsLone, KnowsOwner}
+use Rattle.sdd_domain_slots.proofs.Housed.{IsOn, on_board}
+use Rattle.sdd_domain_slots.proofs.InPlace.{owner_by, owner_has, owner_views}
+use Rattle.sdd_domain_slots.proofs.Members.{recalls_to, with_token}
+use Rattle.sdd_domain_slots.proofs.Posing.{same_recalled}
 
 pub record IsRecalled {J : Type 0} (b : DomainTable) (p : ℕ) (own : Participant) (m : LocalState J) (right : Right) (kind : StandingKind) (w : Witness)
     (grip : ReadFraction) (slot : ℕ) (l t : Seat ValueFraction View) : Type 0 where

@@ -19,12 +19,12 @@ use Rattle.sdd_word_invariant.specs.Slots.{waits_in}
 use Rattle.sdd_word_invariant.proofs.Codes.{free_is}
 use Rattle.sdd_participants.specs.Jobs.{places_of}
 use Rattle.sdd_participants.proofs.Places.{places-none}
-use Rattle.sdd_domain.specs.LocalState.{LocalState, IsLone, IsNew, word_of, cell_word_of, pointer_word_of, place_number}
-use Rattle.sdd_domain.specs.InBags.{AreInBags, known_waiting, private_for}
-use Rattle.sdd_domain.specs.WordsAndValues.{Entries, WordsMatchValues, MatchesPlace, is_plain_word}
-use Rattle.sdd_domain.specs.Local.{LocalModel, IsBlankAlone, listing, standing_by, value_by, contents_by, pointer_by, standing_in, value_in, contents_in, pointer_in, world_of}
+use Rattle.sdd_domain_slots.specs.LocalState.{LocalState, IsLone, IsNew, word_of, cell_word_of, pointer_word_of, place_number}
+use Rattle.sdd_domain_slots.specs.InBags.{AreInBags, known_waiting, private_for}
+use Rattle.sdd_domain_slots.specs.WordsAndValues.{Entries, WordsMatchValues, MatchesPlace, is_plain_word}
+use Rattle.sdd_domain_slots.specs.Local.{LocalModel, IsBlankAlone, listing, standing_by, value_by, contents_by, pointer_by, standing_in, value_in, contents_in, pointer_in, world_of}
 use Rattle.sdd_space.proofs.Accounts.{blank-at}
-use Rattle.sdd_domain.proofs.InBags.{nothing_known}
+use Rattle.sdd_domain_slots.proofs.InBags.{nothing_known}
 use Rattle.sdd_domain.proofs.Listings.{listing_same}
 use Rattle.sdd_domain.proofs.Words.{free_public, no_private}
 

@@ -13,10 +13,10 @@ use Rattle.sdd_word_invariant.proofs.Codes.{only_held}
 use Rattle.sdd_domain_invariant.specs.BankInvariant.{one_where}
 use Rattle.sdd_domain_invariant.specs.Records.{IsIn}
 use Rattle.sdd_domain_invariant.proofs.Records.{in_head, in_tail}
-use Rattle.sdd_domain.specs.SeenSlots.{IsOnce}
-use Rattle.sdd_domain.specs.LocalState.{LocalState, IsLone, KnowsOwner, LooksAt, cell_word_of, word_of}
-use Rattle.sdd_domain.specs.Local.{contents_of}
-use Rattle.sdd_domain.specs.Cells.{CopiesNone, FindsAt, IsOwnedThere, SeesMore}
+use Rattle.sdd_domain_slots.specs.SeenSlots.{IsOnce}
+use Rattle.sdd_domain_slots.specs.LocalState.{LocalState, IsLone, KnowsOwner, LooksAt, cell_word_of, word_of}
+use Rattle.sdd_domain_slots.specs.Local.{contents_of}
+use Rattle.sdd_domain_slots.specs.Cells.{CopiesNone, FindsAt, IsOwnedThere, SeesMore}
 
 of_several : (b : Bool) → one_where b ≡ 1 → b ≡ true
 of_several true e = refl

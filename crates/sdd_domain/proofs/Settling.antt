@@ -5,7 +5,7 @@ use Rattle.std.proofs.lemmas.List.{get_or_append_left}
 use Rattle.std.proofs.lemmas.List.Sums.{sum_by-cons}
 use Rattle.sdd_rights.specs.Units as token
 use Rattle.sdd_participants.specs.declared.tally.Tally.{Tally}
-use Rattle.sdd_domain.specs.Receipt.{Receipt, capped, sum_of, with_reclaimed, made_in, reclaimed_in, in_place_in, IsSettled, AreSettled}
+use Rattle.sdd_domain_slots.specs.Receipt.{Receipt, capped, sum_of, with_reclaimed, made_in, reclaimed_in, in_place_in, IsSettled, AreSettled}
 
 -- one receipt more
 pub one_settled : (items own : ℕ) (xs ys : List Receipt) (x y : Receipt) → AreSettled items xs ys → IsSettled own x y → AreSettled (items + own) (xs ++ x ∷ [])

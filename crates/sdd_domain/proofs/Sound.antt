@@ -33,10 +33,10 @@ use Rattle.sdd_space.specs.WorldInvariant.{IsWhole, KeepsUp, PlacesMatchStates, 
 use Rattle.sdd_space.proofs.Accounts.{blank-at}
 use Rattle.sdd_space.proofs.Four.{AllClosed, all-closed, not-guarded}
 use Rattle.sdd_space.proofs.Housed.{Whole-opened, Whole-made_as, Whole-owner_given, live-taken}
-use Rattle.sdd_domain.specs.SpaceIds.{home_in}
-use Rattle.sdd_domain.specs.LocalState.{LocalState, word_of, IsLone, IsNew, MakesAt, OwnerGoes, KnowsOwner}
-use Rattle.sdd_domain.specs.WordsAndValues.{Entries, WordsMatchValues}
-use Rattle.sdd_domain.specs.Local.{LocalModel, IsBlankAlone, value_in, world_of}
+use Rattle.sdd_domain_slots.specs.SpaceIds.{home_in}
+use Rattle.sdd_domain_slots.specs.LocalState.{LocalState, word_of, IsLone, IsNew, MakesAt, OwnerGoes, KnowsOwner}
+use Rattle.sdd_domain_slots.specs.WordsAndValues.{Entries, WordsMatchValues}
+use Rattle.sdd_domain_slots.specs.Local.{LocalModel, IsBlankAlone, value_in, world_of}
 use Rattle.sdd_domain.specs.Space.{ShowsBy, Shows, is_lone}
 use Rattle.sdd_domain.proofs.Listings.{listing_at, listing_past}
 use Rattle.sdd_domain.specs.Laws.{own_is_place}

@@ -14,15 +14,15 @@ use Rattle.sdd_space.specs.KnownEpochs.{KnowsOn}
 use Rattle.sdd_space.specs.Ptr.{KeepsShown}
 use Rattle.sdd_space.specs.Undisturbed.{Undisturbed}
 use Rattle.sdd_space.specs.World.{World, value_at}
-use Rattle.sdd_domain.specs.Cells.{SeesMore, WritesAt}
-use Rattle.sdd_domain.specs.InBags.{AreInBags, KnownWaiting, private_for}
-use Rattle.sdd_domain.specs.Local.{LocalModel, world_of}
-use Rattle.sdd_domain.specs.LocalState.{AddsAt, IsLone, KnowsOwner, LocalState, MakesAt}
-use Rattle.sdd_domain.specs.SeenSlots.{IsOnce}
+use Rattle.sdd_domain_slots.specs.Cells.{SeesMore, WritesAt}
+use Rattle.sdd_domain_slots.specs.InBags.{AreInBags, KnownWaiting, private_for}
+use Rattle.sdd_domain_slots.specs.Local.{LocalModel, world_of}
+use Rattle.sdd_domain_slots.specs.LocalState.{AddsAt, IsLone, KnowsOwner, LocalState, MakesAt}
+use Rattle.sdd_domain_slots.specs.SeenSlots.{IsOnce}
 use Rattle.sdd_domain.specs.Sound.{IsSound}
 use Rattle.sdd_domain.specs.Space.{ShowsBy, Shows, is_lone, known_of, seat_in, seat_of}
-use Rattle.sdd_domain.specs.SpaceIds.{home_in}
-use Rattle.sdd_domain.specs.WordsAndValues.{AreTied, Entries, WordsMatchValues}
+use Rattle.sdd_domain_slots.specs.SpaceIds.{home_in}
+use Rattle.sdd_domain_slots.specs.WordsAndValues.{AreTied, Entries, WordsMatchValues}
 use Rattle.sdd_domain.proofs.Added.{added_keeps, added_only, added_sound, added_tied}
 use Rattle.sdd_domain.proofs.CellWorld.{matched_written, sound_written, written_undisturbed}
 use Rattle.sdd_domain.proofs.Exact.{lone_is}

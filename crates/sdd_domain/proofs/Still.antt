@@ -9,12 +9,12 @@ use Rattle.sdd_shared_values.specs.declared.value_fraction.ValueFraction.{ValueF
 use Rattle.sdd_views.specs.declared.View.{View}
 use Rattle.sdd_shared_values.specs.CarriedFractions.{OnlyLends}
 use Rattle.sdd_atomics.specs.declared.domain_table.DomainTable.{DomainTable}
-use Rattle.sdd_domain.specs.BetweenCalls.{AreLentTo, IsBetweenCalls, IsReady}
-use Rattle.sdd_domain.specs.DueItems.{Pending}
-use Rattle.sdd_domain.specs.InBags.{known_waiting}
-use Rattle.sdd_domain.specs.Receipt.{IsTallied}
-use Rattle.sdd_domain.proofs.InPlace.{posed_noted}
-use Rattle.sdd_domain.proofs.Posing.{HasSeen, posed_shows}
+use Rattle.sdd_domain_slots.specs.BetweenCalls.{AreLentTo, IsBetweenCalls, IsReady}
+use Rattle.sdd_domain_slots.specs.DueItems.{Pending}
+use Rattle.sdd_domain_slots.specs.InBags.{known_waiting}
+use Rattle.sdd_domain_slots.specs.Receipt.{IsTallied}
+use Rattle.sdd_domain_slots.proofs.InPlace.{posed_noted}
+use Rattle.sdd_domain_slots.proofs.Posing.{HasSeen, posed_shows}
 
 module _ {J A B : Type 0} (b : DomainTable) (p : ℕ) (own : Participant) (round : ℕ) (due : Pending) (free : ℕ) (jobs : List (Option J))
     (privates : List (Option ℕ)) (tally : Tally) (l : Seat ValueFraction View)

@@ -6,7 +6,7 @@ use Rattle.sdd_participants.specs.Tally.{one_more, one_made, one_reclaimed, one_
 use Rattle.sdd_views.specs.declared.CountsView.{CountsView}
 use Rattle.sdd_views.specs.Views.{no_counts}
 use Rattle.sdd_domain_invariant.specs.FractionSteps.{counts_added}
-use Rattle.sdd_domain.specs.Receipt.{Receipt, capped, most_counted, sum_of, with_reclaimed, IsTallied, AddsUp, HasTaken, made_in, reclaimed_in, in_place_in}
+use Rattle.sdd_domain_slots.specs.Receipt.{Receipt, capped, most_counted, sum_of, with_reclaimed, IsTallied, AddsUp, HasTaken, made_in, reclaimed_in, in_place_in}
 
 -- an item more
 pub tallied_made : (t : Tally) (c : CountsView) → IsTallied 0 t c → IsTallied 0 (one_made t) (record c { made = c.made + 1 })

@@ -20,14 +20,14 @@ use Rattle.sdd_space.specs.Refusals.{IsRefusedBy}
 use Rattle.sdd_space.specs.Undisturbed.{Undisturbed}
 use Rattle.sdd_space.specs.World.{standing_at}
 use Rattle.sdd_space.specs.WorldChanges.{with_standing}
-use Rattle.sdd_domain.specs.Items.{HasValue, IsRightTo, IsSameOwner}
+use Rattle.sdd_domain_slots.specs.Items.{HasValue, IsRightTo, IsSameOwner}
 use Rattle.sdd_domain.specs.Laws.{same_value}
-use Rattle.sdd_domain.specs.Local.{LocalModel, standing_by, standing_in, world_of}
-use Rattle.sdd_domain.specs.LocalState.{AddsAt, IsLone, KnowsOwner, LocalState, word_of}
-use Rattle.sdd_domain.specs.SeenOwners.{HasNoOwner, KnowsStill, OwnsNoMore, ShowsTo}
+use Rattle.sdd_domain_slots.specs.Local.{LocalModel, standing_by, standing_in, world_of}
+use Rattle.sdd_domain_slots.specs.LocalState.{AddsAt, IsLone, KnowsOwner, LocalState, word_of}
+use Rattle.sdd_domain_slots.specs.SeenOwners.{HasNoOwner, KnowsStill, OwnsNoMore, ShowsTo}
 use Rattle.sdd_domain.specs.Sound.{IsSound}
 use Rattle.sdd_domain.specs.Space.{ShowsBy, Shows, is_lone, known_of, seat_of}
-use Rattle.sdd_domain.specs.WordsAndValues.{WordsMatchValues, is_plain_word}
+use Rattle.sdd_domain_slots.specs.WordsAndValues.{WordsMatchValues, is_plain_word}
 use Rattle.sdd_domain.proofs.Added.{answered_exact, answered_sound, answered_tied, answered_undisturbed}
 use Rattle.sdd_domain.proofs.Exact.{lone_is}
 use Rattle.sdd_domain.proofs.Listings.{listing_at, listing_past}

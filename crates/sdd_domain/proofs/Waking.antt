@@ -11,9 +11,9 @@ use Rattle.sdd_word_invariant.specs.Sums.{total}
 use Rattle.sdd_word_invariant.specs.Slots.{waits_in}
 use Rattle.sdd_atomics.specs.declared.domain_table.DomainTable.{DomainTable}
 use Rattle.sdd_atomics.specs.DomainTable.{id_of, sizes_of, book_of}
-use Rattle.sdd_domain.specs.DueItems.{Pending}
-use Rattle.sdd_domain.specs.InBags.{AreInBags, KnownWaiting, TellsCollectors}
-use Rattle.sdd_domain.specs.BetweenCalls.{CarriesSeenOnly, IsBetweenCalls, IsReady}
+use Rattle.sdd_domain_slots.specs.DueItems.{Pending}
+use Rattle.sdd_domain_slots.specs.InBags.{AreInBags, KnownWaiting, TellsCollectors}
+use Rattle.sdd_domain_slots.specs.BetweenCalls.{CarriesSeenOnly, IsBetweenCalls, IsReady}
 
 -- two boards of the same words, sizes and book
 module _ (b d : DomainTable) (ids : id_of b ≡ id_of d) (sizes : sizes_of b ≡ sizes_of d) (book : book_of b ≡ book_of d) where

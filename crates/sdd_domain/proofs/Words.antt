@@ -19,10 +19,10 @@ use Rattle.sdd_word_invariant.proofs.Codes.{sound, shared, counted_is, claimed_i
 use Rattle.sdd_word_invariant.proofs.Collectors.{plain_alive, plain_free, plain_waiting}
 use Rattle.sdd_word_invariant.proofs.Sums.{is_other, is_same, total_has, total_some}
 use Rattle.sdd_domain_invariant.specs.BankInvariant.{one_where}
-use Rattle.sdd_domain.specs.InBags.{private_for}
-use Rattle.sdd_domain.specs.WordsAndValues.{is_plain_word, MatchesPlace}
-use Rattle.sdd_domain.specs.Local.{standing_by, value_by, item_standing, owner_standing}
-use Rattle.sdd_domain.proofs.Reclaims.{either_way}
+use Rattle.sdd_domain_slots.specs.InBags.{private_for}
+use Rattle.sdd_domain_slots.specs.WordsAndValues.{is_plain_word, MatchesPlace}
+use Rattle.sdd_domain_slots.specs.Local.{standing_by, value_by, item_standing, owner_standing}
+use Rattle.sdd_domain_slots.proofs.Reclaims.{either_way}
 
 -- most owners that a word counts
 abbrev pub most_word : ℕ

@@ -13,8 +13,8 @@ use Rattle.sdd_word_invariant.specs.Slots.{waits_in}
 use Rattle.sdd_word_invariant.specs.Sums.{total}
 use Rattle.sdd_word_invariant.specs.Collectors.{private_in}
 use Rattle.sdd_word_invariant.specs.CollectorSteps.{for_collector, without_private}
-use Rattle.sdd_domain.specs.PrivateTable.{standings_of}
-use Rattle.sdd_domain.specs.LocalState.{LocalState, IsLone, HasOpenGuard, LeavesAt, Reclaims, word_of}
+use Rattle.sdd_domain_slots.specs.PrivateTable.{standings_of}
+use Rattle.sdd_domain_slots.specs.LocalState.{LocalState, IsLone, HasOpenGuard, LeavesAt, Reclaims, word_of}
 
 module _ {J : Type 0} where
   -- the item of a slot waits with it for a collector from now on, retired at the count of this moment, as its last owner has gone, which was one of several or

@@ -10,11 +10,11 @@ use Rattle.sdd_shared_values.specs.declared.value_fraction.ValueFraction.{ValueF
 use Rattle.sdd_core.specs.declared.limits.Limits.{Limits}
 use Rattle.sdd_atomics.specs.declared.domain_table.DomainTable.{DomainTable}
 use Rattle.sdd_atomics.specs.DomainTable.{sizes_of}
-use Rattle.sdd_domain.specs.DueItems.{Pending}
-use Rattle.sdd_domain.specs.InBags.{known_waiting}
-use Rattle.sdd_domain.specs.BetweenCalls.{IsBetweenCalls, IsTenureOf, AreLentTo, IsReady}
-use Rattle.sdd_domain.specs.Receipt.{IsTallied}
-use Rattle.sdd_domain.specs.DomainValues.{sizes_in}
+use Rattle.sdd_domain_slots.specs.DueItems.{Pending}
+use Rattle.sdd_domain_slots.specs.InBags.{known_waiting}
+use Rattle.sdd_domain_slots.specs.BetweenCalls.{IsBetweenCalls, IsTenureOf, AreLentTo, IsReady}
+use Rattle.sdd_domain_slots.specs.Receipt.{IsTallied}
+use Rattle.sdd_domain_slots.specs.DomainValues.{sizes_in}
 
 -- on the board of its domain it is as between two calls, with no guard open, and closes no collector
 pub record IsDormant {J : Type 0} (limits : Limits) (place : ℕ) (own : Participant) (due : Pending) (known_slots : ℕ) (table : List (Option J))

@@ -8,9 +8,9 @@ use Rattle.sdd_shared_values.specs.SharedValues.{showing}
 use Rattle.sdd_participants.specs.EpochState.{nobody}
 use Rattle.sdd_space.specs.OwnerOrCell.{OwnerOrCell}
 use Rattle.sdd_space.specs.World.{place_at, value_at}
-use Rattle.sdd_domain.specs.Values.{one_showing}
-use Rattle.sdd_domain.specs.LocalState.{LocalState, IsLone}
-use Rattle.sdd_domain.specs.Local.{LocalModel, world_of}
+use Rattle.sdd_domain_slots.specs.Values.{one_showing}
+use Rattle.sdd_domain_slots.specs.LocalState.{LocalState, IsLone}
+use Rattle.sdd_domain_slots.specs.Local.{LocalModel, world_of}
 use Rattle.sdd_domain.specs.Space.{ShowsBy, is_lone}
 
 replicate_at : {A : Type 0} (n : ℕ) (x d : A) → slice_index_or (replicate (suc n) x) n d ≡ x

@@ -1,8 +1,8 @@
 -- What an opening changes of a participant's tally
 use Rattle.std.specs.Prelude.{◌≡◌, ◌⊎◌, ℕ, ◌≤◌, []}
-use Rattle.sdd_domain.specs.LocalState.{LocalState, HasOpenGuard, IsLone}
-use Rattle.sdd_domain.specs.Receipt.{with_reclaimed}
-use Rattle.sdd_domain.specs.WaitingItems.{items_in, due_at}
+use Rattle.sdd_domain_slots.specs.LocalState.{LocalState, HasOpenGuard, IsLone}
+use Rattle.sdd_domain_slots.specs.Receipt.{with_reclaimed}
+use Rattle.sdd_domain_slots.specs.WaitingItems.{items_in, due_at}
 
 -- of so many items that were due some were reclaimed, and are counted: all, but for private ones that the close of another had claimed
 pub record CountsGone {J : Type 0} (items : ℕ) (old new : LocalState J) : Type 0 where

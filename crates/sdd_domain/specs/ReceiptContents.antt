@@ -2,7 +2,7 @@
 use Rattle.std.specs.Prelude.{false, true}
 use Rattle.sdd_domain.specs.declared.receipt.ReceiptContents.{ReceiptContents}
 use Rattle.sdd_domain.specs.declared.receipt.ReceiptContents.TheVariants.{Nothing, Items}
-use Rattle.sdd_domain.specs.Receipt.{Receipt}
+use Rattle.sdd_domain_slots.specs.Receipt.{Receipt}
 use Rattle.sdd_domain.specs.Space.{slots_home}
 
 -- its counts, or itself with what waits

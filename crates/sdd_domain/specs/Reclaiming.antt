@@ -2,8 +2,8 @@
 use Rattle.std.specs.Prelude.{[], Bool, true, false}
 use Rattle.sdd_participants.specs.EpochState.{nobody}
 use Rattle.sdd_participants.specs.Tally.{no_items, one_in_place}
-use Rattle.sdd_domain.specs.LocalState.{LocalState}
-use Rattle.sdd_domain.specs.Local.{LocalModel}
+use Rattle.sdd_domain_slots.specs.LocalState.{LocalState}
+use Rattle.sdd_domain_slots.specs.Local.{LocalModel}
 
 -- what a retirement leaves as it is
 abbrev pub kept_by : {J : Type 0} → LocalState J → LocalState J

@@ -1,8 +1,8 @@
 -- What the close of a guard tells of its scan
 use Rattle.std.specs.Prelude.{◌≡◌, ◌≢◌, ◌⊎◌, Option, Some, None}
-use Rattle.sdd_domain.specs.declared.scan.ScanEnd.{ScanEnd}
-use Rattle.sdd_domain.specs.LocalState.{LocalState, IsLone}
-use Rattle.sdd_domain.specs.Scan.{Tells}
+use Rattle.sdd_domain_slots.specs.declared.scan.ScanEnd.{ScanEnd}
+use Rattle.sdd_domain_slots.specs.LocalState.{LocalState, IsLone}
+use Rattle.sdd_domain_slots.specs.Scan.{Tells}
 
 -- the last close at countdown 0 tries a scan, and tells how that ended; no other close tries one
 pub record TellsScan {J : Type 0} (told : Option ScanEnd) (old new : LocalState J) : Type 0 where

@@ -3,9 +3,9 @@ use Rattle.std.specs.Prelude.{ℕ, ◌≡◌, List, [], Some, None, slice_index_
 use base.Stored.{Gv}
 use Rattle.sdd_space.specs.OwnerOrCell.{OwnerOrCell, AreOf}
 use Rattle.sdd_space.specs.WorldInvariant.{IsWhole}
-use Rattle.sdd_domain.specs.LocalState.{IsLone}
-use Rattle.sdd_domain.specs.SpaceIds.{home_in}
-use Rattle.sdd_domain.specs.Local.{LocalModel, world_of}
+use Rattle.sdd_domain_slots.specs.LocalState.{IsLone}
+use Rattle.sdd_domain_slots.specs.SpaceIds.{home_in}
+use Rattle.sdd_domain_slots.specs.Local.{LocalModel, world_of}
 
 -- nothing is left to reclaim, and no collector is being closed; what its values hold is of its domain; where it is lone its world is whole
 pub record IsSound {T J : Type 0} (holds : T → List OwnerOrCell) (p : LocalModel T J) : Type 0 where

@@ -8,10 +8,10 @@ use Rattle.sdd_space.specs.CallerId.{CallerId}
 use Rattle.sdd_space.specs.World.{value_at}
 use Rattle.sdd_views.specs.declared.ShownValue.{ShownValue}
 use Rattle.sdd_domain_invariant.specs.Records.{IsIn}
-use Rattle.sdd_domain.specs.LocalState.{LocalState}
-use Rattle.sdd_domain.specs.SpaceIds.{SpaceId, home_in}
-use Rattle.sdd_domain.specs.Items as items
-use Rattle.sdd_domain.specs.Local.{LocalModel, world_of}
+use Rattle.sdd_domain_slots.specs.LocalState.{LocalState}
+use Rattle.sdd_domain_slots.specs.SpaceIds.{SpaceId, home_in}
+use Rattle.sdd_domain_slots.specs.Items as items
+use Rattle.sdd_domain_slots.specs.Local.{LocalModel, world_of}
 
 -- by these records the slot shows this value and no other; and what the value holds is of this home
 pub record RecordsShow {T : Type 0} (shown : T → Gv) (holds : T → List OwnerOrCell) (at : SpaceId) (records : List ShownValue) (slot : ℕ) (value : T)

@@ -11,7 +11,7 @@ ghost use Rattle.sdd_atomics.specs.DomainTable.{id_of, places_of, most_waiting_o
 ghost use Rattle.sdd_atomics.specs.Sizes.{AreSmall};
 ghost use Rattle.sdd_atomics.specs.DomainSeat.{view};
 ghost use Rattle.sdd_domain.specs.Domain.{slots_in};
-ghost use Rattle.sdd_domain.specs.Receipt.{Receipt as EndedCounts, AreSettled, HasTaken};
+ghost use Rattle.sdd_domain_slots.specs.Receipt.{Receipt as EndedCounts, AreSettled, HasTaken};
 
 use crate::domain::Domain;
 use crate::receipt::Receipt;

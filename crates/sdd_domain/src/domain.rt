@@ -4,11 +4,11 @@ ghost use Rattle.sdd_shared_values.specs.Memory.{IsHoldOf, IsHoldOfShelf};
 ghost use Rattle.sdd_shared_values.specs.SharedValues.{AreVacant};
 ghost use Rattle.sdd_domain_invariant.specs.FractionsAtHome.{homes_for};
 ghost use Rattle.sdd_atomics.specs.DomainTable.{sizes_of};
-ghost use Rattle.sdd_domain.specs.DomainValues.{sizes_in, IsShelfOf};
-ghost use Rattle.sdd_domain.specs.Receipt.{Receipt as EndedCounts, AddsUp, AreSettled, capped, sum_of, with_reclaimed};
+ghost use Rattle.sdd_domain_slots.specs.DomainValues.{sizes_in, IsShelfOf};
+ghost use Rattle.sdd_domain_slots.specs.Receipt.{Receipt as EndedCounts, AddsUp, AreSettled, capped, sum_of, with_reclaimed};
 
 use crate::closing::{are_over, gather_all_stakes, settle_all, settled, take_all_counts};
-use crate::holds_own_domain::HoldsOwnDomain;
+use sdd_domain_slots::holds_own_domain::HoldsOwnDomain;
 use crate::receipt::Receipt;
 use sdd_atomics::{DomainTable, TableLayout};
 use sdd_core::{Limits, Refused};

@@ -1,10 +1,10 @@
 //! A participant reclaims what waits with it, where nobody else takes part any more.
 ghost use Rattle.std.specs.Prelude.{◌≡◌, ◌-◌, ◌≤◌, [], None};
 ghost use Rattle.sdd_participants.specs.EpochState.{due_next};
-ghost use Rattle.sdd_domain.specs.LocalState.{HasOpenGuard};
-ghost use Rattle.sdd_domain.specs.Receipt.{with_reclaimed};
+ghost use Rattle.sdd_domain_slots.specs.LocalState.{HasOpenGuard};
+ghost use Rattle.sdd_domain_slots.specs.Receipt.{with_reclaimed};
 ghost use Rattle.sdd_domain.specs.Space.{slots_home};
-ghost use Rattle.sdd_domain.specs.WaitingItems.{items_in};
+ghost use Rattle.sdd_domain_slots.specs.WaitingItems.{items_in};
 
 use crate::reclaiming::LocalGiver;
 use sdd_participants::Job;

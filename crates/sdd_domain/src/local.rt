@@ -1,8 +1,8 @@
 //! A participant of a domain. Where it is lone, it shows the world that its domain is then.
 ghost use Rattle.std.specs.Prelude.{◌≡◌, ◌⊎◌, IfErr, IfOk, MatchResult};
 ghost use Rattle.sdd_domain.specs.Domain.{home_of, book_of, limits_of};
-ghost use Rattle.sdd_domain.specs.SpaceIds.{home_at, home_in};
-ghost use Rattle.sdd_domain.specs.LocalState.{HasOpenGuard, IsLone, IsNew, waits};
+ghost use Rattle.sdd_domain_slots.specs.SpaceIds.{home_at, home_in};
+ghost use Rattle.sdd_domain_slots.specs.LocalState.{HasOpenGuard, IsLone, IsNew, waits};
 ghost use Rattle.sdd_domain.specs.Space.{slots_home};
 
 use crate::domain::Domain;
@@ -28,7 +28,7 @@ pub struct Local<'d, T: Item<T>, J: Job = Idle> {
 }
 
 impl<'d, T: Item<T>, J: Job> Model for Local<'d, T, J> {
-    ghost use Rattle.sdd_domain.specs.Local.{LocalModel};
+    ghost use Rattle.sdd_domain_slots.specs.Local.{LocalModel};
     ghost use Rattle.sdd_domain.specs.Sound.{IsSound};
 
     ghost Value = { LocalModel T J };
@@ -39,7 +39,7 @@ impl<'d, T: Item<T>, J: Job> Model for Local<'d, T, J> {
 }
 
 impl<'d, T: Item<T>> Local<'d, T> {
-    ghost use Rattle.sdd_domain.specs.Local.{world_of, IsBlankAlone};
+    ghost use Rattle.sdd_domain_slots.specs.Local.{world_of, IsBlankAlone};
 
     /// Registers a participant that defers no jobs.
     ///
@@ -55,7 +55,7 @@ impl<'d, T: Item<T>> Local<'d, T> {
 }
 
 impl<'d, T: Item<T>, J: Job> Local<'d, T, J> {
-    ghost use Rattle.sdd_domain.specs.Local.{world_of, IsBlankAlone};
+    ghost use Rattle.sdd_domain_slots.specs.Local.{world_of, IsBlankAlone};
 
     /// Registers a participant that defers jobs of this type.
     ///

@@ -1,12 +1,12 @@
 ghost use Rattle.std.specs.Prelude.{◌≡◌, ◌-◌, ◌≤◌, [], ◌∷◌, None, false};
 ghost use Rattle.sdd_atomics.specs.DomainTable.{id_of};
 ghost use Rattle.sdd_domain.specs.Domain.{slots_in};
-ghost use Rattle.sdd_domain.specs.LocalState.{HasOpenGuard, waits};
-ghost use Rattle.sdd_domain.specs.Receipt.{HasLeft, IsSettled, with_reclaimed};
+ghost use Rattle.sdd_domain_slots.specs.LocalState.{HasOpenGuard, waits};
+ghost use Rattle.sdd_domain_slots.specs.Receipt.{HasLeft, IsSettled, with_reclaimed};
 ghost use Rattle.sdd_domain.specs.Space.{slots_home};
 
 use crate::domain::Domain;
-use crate::ended_counts::EndedCounts;
+use sdd_domain_slots::ended_counts::EndedCounts;
 use crate::local_core::detached_local::DetachedLocal;
 use crate::reclaiming::LocalGiver;
 use sdd_atomics::DomainTable;
@@ -24,8 +24,8 @@ pub struct EndedLocal<T: Item<T>, J: Job> {
 }
 
 impl<T: Item<T>, J: Job> Model for EndedLocal<T, J> {
-    ghost use Rattle.sdd_domain.specs.Local.{LocalModel};
-    ghost use Rattle.sdd_domain.specs.WordsAndValues.{WordsMatchValues};
+    ghost use Rattle.sdd_domain_slots.specs.Local.{LocalModel};
+    ghost use Rattle.sdd_domain_slots.specs.WordsAndValues.{WordsMatchValues};
 
     ghost Value = { LocalModel T J };
 
@@ -73,7 +73,7 @@ pub struct Receipt<T: Item<T>, J: Job = Idle> {
 }
 
 impl<T: Item<T>, J: Job> Model for Receipt<T, J> {
-    ghost use Rattle.sdd_domain.specs.Receipt.{Receipt};
+    ghost use Rattle.sdd_domain_slots.specs.Receipt.{Receipt};
     ghost use Rattle.sdd_domain.specs.ReceiptContents.{receipt_of};
 
     ghost Value = { Receipt };

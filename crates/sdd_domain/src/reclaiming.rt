@@ -18,12 +18,12 @@ ghost use Rattle.sdd_participants.specs.Slab.{entry_at, without_entry};
 ghost use Rattle.sdd_participants.specs.Jobs.{jobs_without, jobs_without_all};
 ghost use Rattle.sdd_participants.specs.declared.waiting.LimboEntry.{LimboEntry as Entry};
 ghost use Rattle.sdd_participants.specs.declared.waiting.LimboEntry.TheVariants.{Item as item, Job as job};
-ghost use Rattle.sdd_domain.specs.WaitingItems.{items_in};
-ghost use Rattle.sdd_domain.specs.SpaceIds.{home_in};
-ghost use Rattle.sdd_domain.specs.Local.{LocalModel};
-ghost use Rattle.sdd_domain.specs.LocalState.{HasOpenGuard, IsLone};
-ghost use Rattle.sdd_domain.specs.Receipt.{with_reclaimed};
-ghost use Rattle.sdd_domain.specs.Local.{world_of};
+ghost use Rattle.sdd_domain_slots.specs.WaitingItems.{items_in};
+ghost use Rattle.sdd_domain_slots.specs.SpaceIds.{home_in};
+ghost use Rattle.sdd_domain_slots.specs.Local.{LocalModel};
+ghost use Rattle.sdd_domain_slots.specs.LocalState.{HasOpenGuard, IsLone};
+ghost use Rattle.sdd_domain_slots.specs.Receipt.{with_reclaimed};
+ghost use Rattle.sdd_domain_slots.specs.Local.{world_of};
 ghost use Rattle.sdd_domain.specs.Reclaiming.{counted_where, kept_of, rest_of};
 ghost use Rattle.sdd_domain.specs.OpeningTally.{CountsGone};
 ghost use Rattle.sdd_domain.specs.Collectors.{AllWaitFor, IsClosing};
@@ -49,8 +49,8 @@ pub struct LocalGiver<'d, T: Item<T>, J: Job> {
 }
 
 impl<'d, T: Item<T>, J: Job> Model for LocalGiver<'d, T, J> {
-    ghost use Rattle.sdd_domain.specs.Local.{LocalModel};
-    ghost use Rattle.sdd_domain.specs.WordsAndValues.{WordsMatchValues};
+    ghost use Rattle.sdd_domain_slots.specs.Local.{LocalModel};
+    ghost use Rattle.sdd_domain_slots.specs.WordsAndValues.{WordsMatchValues};
 
     ghost Value = { LocalModel T J };
 

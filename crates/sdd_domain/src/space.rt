@@ -29,10 +29,10 @@ impl<T: Item<T>, J: Job> Space<T> for Local<'_, T, J> {
 }
 
 impl<T: Item<T>, J: Job> Shows<T> for Local<'_, T, J> {
-    ghost use Rattle.sdd_domain.specs.SpaceIds.{home_in};
-    ghost use Rattle.sdd_domain.specs.Items.{HasValue};
+    ghost use Rattle.sdd_domain_slots.specs.SpaceIds.{home_in};
+    ghost use Rattle.sdd_domain_slots.specs.Items.{HasValue};
     ghost use Rattle.sdd_domain.specs.Space.{Shows};
-    ghost use Rattle.sdd_domain.specs.Values.{one_value};
+    ghost use Rattle.sdd_domain_slots.specs.Values.{one_value};
 
     ghost home = { λ p. home_in p.member };
 
@@ -81,9 +81,9 @@ impl<T: Item<T>, J: Job> LookThrough<T> for Local<'_, T, J> {
 
 impl<T: Item<T>> Shows<T> for Domain<T> {
     ghost use Rattle.sdd_domain.specs.Domain.{home_of, book_of, limits_of};
-    ghost use Rattle.sdd_domain.specs.Items.{HasValue};
-    ghost use Rattle.sdd_domain.specs.SpaceIds.{home_at};
-    ghost use Rattle.sdd_domain.specs.Values.{one_value};
+    ghost use Rattle.sdd_domain_slots.specs.Items.{HasValue};
+    ghost use Rattle.sdd_domain_slots.specs.SpaceIds.{home_at};
+    ghost use Rattle.sdd_domain_slots.specs.Values.{one_value};
 
     ghost home = { λ d. home_at (home_of d) (book_of d) (limits_of d) };
 
@@ -125,7 +125,7 @@ impl<T: Item<T>> LookThrough<T> for Domain<T> {
 
 impl<T: Item<T>, J: Job> Caller<T> for Local<'_, T, J> {
     ghost use Rattle.std.specs.Prelude.{refl};
-    ghost use Rattle.sdd_domain.specs.Local.{world_of};
+    ghost use Rattle.sdd_domain_slots.specs.Local.{world_of};
     ghost use Rattle.sdd_domain.specs.Space.{seat_of, known_of, is_lone};
     ghost use Rattle.sdd_domain.specs.Laws.{own_is_place, shows_is_value};
 
@@ -155,8 +155,8 @@ impl<T: Item<T>, J: Job> Guards<T> for Local<'_, T, J> {
     ghost use Rattle.sdd_space.specs.Guard.{reader_of};
     ghost use Rattle.sdd_space.specs.Ptr.{KeepsShown};
     ghost use Rattle.sdd_space.specs.WorldChanges.{opened};
-    ghost use Rattle.sdd_domain.specs.Local.{world_of};
-    ghost use Rattle.sdd_domain.specs.declared.scan.ScanEnd.{ScanEnd};
+    ghost use Rattle.sdd_domain_slots.specs.Local.{world_of};
+    ghost use Rattle.sdd_domain_slots.specs.declared.scan.ScanEnd.{ScanEnd};
     ghost use Rattle.sdd_domain.specs.OpeningTally.{CountsReclaimed};
     ghost use Rattle.sdd_domain.specs.ScanAtClose.{TellsScan};
     ghost use Rattle.sdd_domain.specs.Space.{Shows, seat_of, known_of};
@@ -225,7 +225,7 @@ impl<T: Item<T>, J: Job> Guards<T> for Local<'_, T, J> {
 
 impl<T: Item<T>, J: Job> Items<T> for Local<'_, T, J> {
     ghost use Rattle.sdd_participants.specs.Slab.{IsFull};
-    ghost use Rattle.sdd_domain.specs.Local.{world_of};
+    ghost use Rattle.sdd_domain_slots.specs.Local.{world_of};
 
     ghost is_used_up = { λ p. IsFull (world_of p).standings };
 
@@ -283,7 +283,7 @@ impl<T: Item<T>, J: Job> SharedOwners<T> for Local<'_, T, J> {
 /// Where others take part, what a slot's word tells isn't enough: while an item is being made its word counts an owner already. Who sees the item by a guard
 /// of its own knows that it is there.
 impl<T: Item<T>, J: Job> SharedItems<T> for Local<'_, T, J> {
-    ghost use Rattle.sdd_domain.specs.LocalState.{IsLone};
+    ghost use Rattle.sdd_domain_slots.specs.LocalState.{IsLone};
     ghost use Rattle.sdd_domain.specs.Laws.{lone_asks_nothing};
 
     ghost asks_sight = { λ p. ¬ (IsLone p.member) };

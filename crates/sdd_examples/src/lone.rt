@@ -15,8 +15,7 @@ ghost use Rattle.sdd_space.specs.World.{World, IsPlaceOf, value_at};
 ghost use Rattle.sdd_space.specs.WorldInvariant.{taken, times_deferred};
 ghost use Rattle.sdd_world.specs.Place.{index_of};
 ghost use Rattle.sdd_domain.specs.Domain.{limits_of};
-ghost use Rattle.sdd_domain.specs.Local.{world_of};
-ghost use Rattle.sdd_domain.specs.LocalState.{IsLone};
+ghost use Rattle.sdd_domain.specs.Local.{world_of, IsLone};
 ghost use Rattle.sdd_domain.specs.Space.{seat_of};
 
 use crate::guards::accelerated;

@@ -6,6 +6,7 @@
 
 mod belongings;
 mod epochs;
+mod picture;
 mod play;
 mod schedule;
 mod script;

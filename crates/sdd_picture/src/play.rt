@@ -1,8 +1,8 @@
 //! Reading a script or a schedule, running it, and writing its picture.
 
+use crate::picture::draw;
 use crate::{schedule, script};
 use sdd_core::{Limits, Refused};
-use sdd_drawing::draw;
 use sdd_machine::{Did, Step};
 use sdd_script::run;
 use sdd_script::schedules::{Schedule, take_all};

@@ -3,7 +3,7 @@
 //! A publish tells how many items it reclaims. Which ones these are comes from the rule that an item goes at its holder's
 //! third change.
 
-use sdd_drawing::{Event, Fate, GuardPhase, Picture};
+use crate::picture::{Event, Fate, GuardPhase, Picture};
 use sdd_machine::{Did, Step};
 use std::alloc::{AllocError, Global};
 

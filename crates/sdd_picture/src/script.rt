@@ -5,8 +5,8 @@
 
 use crate::belongings::{Belongings, index_of};
 use crate::epochs::{Epochs, Scan};
+use crate::picture::{Event, Fate, GuardPhase, Picture};
 use sdd_core::Epoch;
-use sdd_drawing::{Event, Fate, GuardPhase, Picture};
 use sdd_script_text::{Action, Answer, Call, GuardName, JobName, OwnerName, Reply, Value};
 use std::alloc::{AllocError, Global};
 

@@ -10,8 +10,8 @@ ghost use Rattle.sdd_space.specs.AcceleratedGuards.{GuardsPass, ItemsPass};
 ghost use Rattle.sdd_space.specs.WorkingGuards.{BusyGuardsCount, WorkingGuardsPass, WorkingGuardsReclaim};
 ghost use Rattle.sdd_space.specs.UnderGuards.{KeepsCollectedUnderGuards, KeepsFreshJobsUnderGuards, KeepsFreshUnderGuards, KeepsJobsUnderGuards, KeepsUnderGuards};
 ghost use Rattle.sdd_space.specs.World.{World, AnyGuardOpen, IsPlaceOf};
-ghost use Rattle.sdd_domain.specs.Local.{world_of};
-ghost use Rattle.sdd_domain.specs.LocalState.{IsLone};
+ghost use Rattle.sdd_domain_slots.specs.Local.{world_of};
+ghost use Rattle.sdd_domain_slots.specs.LocalState.{IsLone};
 
 use super::Local;
 use sdd_participants::Job;

@@ -1,14 +1,14 @@
 //! A participant without its domain, between its end and the close of the domain.
 ghost use Rattle.std.specs.Prelude.{◌≡◌, [], None, MatchResult};
 ghost use Rattle.sdd_domain.specs.Domain.{home_of, book_of};
-ghost use Rattle.sdd_domain.specs.LocalState.{HasOpenGuard};
+ghost use Rattle.sdd_domain_slots.specs.LocalState.{HasOpenGuard};
 
-use crate::deferred_jobs::DeferredJobs;
+use sdd_domain_slots::deferred_jobs::DeferredJobs;
 use crate::domain::Domain;
-use crate::due_items::DueItems;
-use crate::free_slot_hints::FreeSlotHints;
+use sdd_domain_slots::due_items::DueItems;
+use sdd_domain_slots::free_slot_hints::FreeSlotHints;
 use crate::local_core::LocalCore;
-use crate::private_table::PrivateTable;
+use sdd_domain_slots::private_table::PrivateTable;
 use sdd_atomics::DomainSeat;
 use sdd_core::Limits;
 use sdd_participants::{Job, Participant, RunningTally, Tally};
@@ -33,7 +33,7 @@ pub struct DetachedLocal<J: Job> {
 }
 
 impl<J: Job> Model for DetachedLocal<J> {
-    ghost use Rattle.sdd_domain.specs.LocalState.{LocalState};
+    ghost use Rattle.sdd_domain_slots.specs.LocalState.{LocalState};
     ghost use Rattle.sdd_domain.specs.DetachedLocal.{IsDormant};
 
     ghost Value = { LocalState J };

@@ -6,11 +6,11 @@ ghost use Rattle.sdd_rights.specs.StandingKind.{is_shared};
 ghost use Rattle.sdd_rights.specs.Right.{number_of, home_of, kind_of};
 ghost use Rattle.sdd_space.specs.OwnerOrCell.{AreOf};
 ghost use Rattle.sdd_shared_values.specs.SharedValues.{showing};
-ghost use Rattle.sdd_domain.specs.SpaceIds.{home_in};
-ghost use Rattle.sdd_domain.specs.LocalState.{IsLone, KnowsOwner, ChangesAt, DropsAt, GoesBeside, HasOthers, SeesGuard};
-ghost use Rattle.sdd_domain.specs.Items.{slots_home, HasValue, IsRightTo};
+ghost use Rattle.sdd_domain_slots.specs.SpaceIds.{home_in};
+ghost use Rattle.sdd_domain_slots.specs.LocalState.{IsLone, KnowsOwner, ChangesAt, DropsAt, GoesBeside, HasOthers, SeesGuard};
+ghost use Rattle.sdd_domain_slots.specs.Items.{slots_home, HasValue, IsRightTo};
 
-use crate::holding::{change_alone, go_in_place, hold_alone};
+use sdd_domain_slots::holding::{change_alone, go_in_place, hold_alone};
 use crate::local_core::LocalCore;
 use crate::local_core::items::is_one_of_several;
 use sdd_atomics::steps::slots::recall;

@@ -5,19 +5,19 @@ ghost use Rattle.sdd_rights.specs.StandingKind.{IsOwner, is_shared};
 ghost use Rattle.sdd_rights.specs.Right.{number_of, home_of, kind_of};
 ghost use Rattle.sdd_space.specs.Guard.{reader_of};
 ghost use Rattle.sdd_space.specs.OwnerOrCell.{AreOf};
-ghost use Rattle.sdd_domain.specs.SpaceIds.{home_in};
+ghost use Rattle.sdd_domain_slots.specs.SpaceIds.{home_in};
 ghost use Rattle.sdd_shared_values.specs.SharedValues.{showing};
 ghost use Rattle.sdd_word_invariant.specs.Codes.{claimed_word};
-ghost use Rattle.sdd_domain.specs.LocalState.{IsFree, IsLone, IsUsedUp, KnowsOwner, MakesAt, LooksAt, OwnerGoes, AddsAt, HasMost};
-ghost use Rattle.sdd_domain.specs.Items.{slots_home, HasValue, IsRightTo, IsSameOwner};
-ghost use Rattle.sdd_domain.specs.SeenOwners.{HasNoOwner, KnowsStill, OwnsNoMore, ShowsTo};
-ghost use Rattle.sdd_domain.specs.SeenSlots.{IsOnce};
+ghost use Rattle.sdd_domain_slots.specs.LocalState.{IsFree, IsLone, IsUsedUp, KnowsOwner, MakesAt, LooksAt, OwnerGoes, AddsAt, HasMost};
+ghost use Rattle.sdd_domain_slots.specs.Items.{slots_home, HasValue, IsRightTo, IsSameOwner};
+ghost use Rattle.sdd_domain_slots.specs.SeenOwners.{HasNoOwner, KnowsStill, OwnsNoMore, ShowsTo};
+ghost use Rattle.sdd_domain_slots.specs.SeenSlots.{IsOnce};
 
-use crate::cell_values::bind;
-use crate::claims::{claim_free, finds_free};
+use sdd_domain_slots::cell_values::bind;
+use sdd_domain_slots::claims::{claim_free, finds_free};
 use crate::local_core::LocalCore;
-use crate::seen_owners::own_seen;
-use crate::values::{let_one_go, put_value};
+use sdd_domain_slots::seen_owners::own_seen;
+use sdd_domain_slots::values::{let_one_go, put_value};
 use sdd_atomics::steps::slots::{
     MOST_SHARED, OWNED, SHARED_BY_ONE, add_owner, cut, draw_unit, recall, take_in, watch,
 };

@@ -2,9 +2,9 @@
 ghost use Rattle.std.specs.Prelude.{◌≡◌, ◌⊎◌, ℕ, List, ◌∷◌, Some, MatchResult};
 ghost use Rattle.sdd_participants.specs.declared.waiting.LimboEntry.{LimboEntry as Entry};
 ghost use Rattle.sdd_participants.specs.declared.waiting.LimboEntry.TheVariants.{Job as waiting_job};
-ghost use Rattle.sdd_domain.specs.LocalState.{AllPlacesTaken, DefersTo, IsLone, TakesJob};
+ghost use Rattle.sdd_domain_slots.specs.LocalState.{AllPlacesTaken, DefersTo, IsLone, TakesJob};
 
-use crate::job_claims::claim_place;
+use sdd_domain_slots::job_claims::claim_place;
 use crate::local_core::LocalCore;
 use sdd_atomics::steps::jobs::give_place_back;
 use sdd_core::Refused;

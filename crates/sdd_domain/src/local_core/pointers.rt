@@ -6,11 +6,11 @@ ghost use Rattle.sdd_standings.specs.Cells.{MayHold, cell_with};
 ghost use Rattle.sdd_shared_values.specs.SharedValues.{showing};
 ghost use Rattle.sdd_space.specs.Guard.{reader_of};
 ghost use Rattle.sdd_space.specs.Ptr.{cell_seen, slot_named};
-ghost use Rattle.sdd_domain.specs.Cells.{FindsAt, IsOwnedThere, LooksThrough};
-ghost use Rattle.sdd_domain.specs.Items.{slots_home};
-ghost use Rattle.sdd_domain.specs.Local.{contents_of};
-ghost use Rattle.sdd_domain.specs.LocalState.{IsLone};
-ghost use Rattle.sdd_domain.specs.SpaceIds.{cells_home};
+ghost use Rattle.sdd_domain_slots.specs.Cells.{FindsAt, IsOwnedThere, LooksThrough};
+ghost use Rattle.sdd_domain_slots.specs.Items.{slots_home};
+ghost use Rattle.sdd_domain_slots.specs.Local.{contents_of};
+ghost use Rattle.sdd_domain_slots.specs.LocalState.{IsLone};
+ghost use Rattle.sdd_domain_slots.specs.SpaceIds.{cells_home};
 
 use crate::local_core::LocalCore;
 use sdd_core::{SlotName, Tag};

@@ -3,13 +3,13 @@ ghost use Rattle.std.specs.Prelude.{◌≡◌, ◌≢◌, IfOk, MatchBool, Match
 ghost use Rattle.sdd_rights.specs.Right.{raw_number_of, raw_home_of};
 ghost use Rattle.sdd_space.specs.Asked.{WasAsked};
 ghost use Rattle.sdd_space.specs.RawPtr as raw;
-ghost use Rattle.sdd_domain.specs.Cells.{ClaimsNone, FindsPointer, MakesRaw, PointsAt};
-ghost use Rattle.sdd_domain.specs.Local.{pointer_by};
-ghost use Rattle.sdd_domain.specs.LocalState.{IsLone, pointer_word_of};
-ghost use Rattle.sdd_domain.specs.SpaceIds.{cells_home};
+ghost use Rattle.sdd_domain_slots.specs.Cells.{ClaimsNone, FindsPointer, MakesRaw, PointsAt};
+ghost use Rattle.sdd_domain_slots.specs.Local.{pointer_by};
+ghost use Rattle.sdd_domain_slots.specs.LocalState.{IsLone, pointer_word_of};
+ghost use Rattle.sdd_domain_slots.specs.SpaceIds.{cells_home};
 
 use crate::local_core::LocalCore;
-use crate::pointer_words::{pointer_in, word_to};
+use sdd_domain_slots::pointer_words::{pointer_in, word_to};
 use sdd_atomics::steps::cells::find_cell;
 use sdd_atomics::steps::pointers::{exchange_pointer, look_at_pointer, swap_pointer};
 use sdd_core::{Refused, Tag};

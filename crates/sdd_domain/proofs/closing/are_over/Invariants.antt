@@ -1,5 +1,5 @@
 use Rattle.std.proofs.Common.{◌≡◌, false, All, take}
-use Rattle.sdd_domain.specs.Receipt.{Receipt}
+use Rattle.sdd_domain_slots.specs.Receipt.{Receipt}
 use Rattle.sdd_domain.proofs.closing.are_over.Given as goal
 
 abbrev pub invariant-loop-receipt : goal.invariant-loop-receipt

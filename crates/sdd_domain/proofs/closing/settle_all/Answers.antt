@@ -1,7 +1,7 @@
 use Rattle.std.proofs.Common.{ℕ, ◌≡◌, ◌+◌, ◌-◌, ◌++◌, ◌∷◌, [], All, List, length, vec_len, refl, sym, ◌∙◌, subst, arith, get_or-set_same}
 use Rattle.std.proofs.lemmas.List.{set-set}
 use Rattle.sdd_domain.specs.Domain.{slots_in}
-use Rattle.sdd_domain.specs.Receipt.{Receipt, IsSettled, AreSettled}
+use Rattle.sdd_domain_slots.specs.Receipt.{Receipt, IsSettled, AreSettled}
 use Rattle.sdd_domain.proofs.Settling.{Going, begins, still_long, still_home, goes_on, ends, front_of, one_settled}
 use Rattle.sdd_domain.proofs.closing.settle_all.Goals as goal
 

@@ -1,6 +1,6 @@
 use Rattle.std.proofs.Common.{◌≡◌, false, List, [], ◌∷◌, ◌++◌, All}
 use Rattle.sdd_atomics.specs.DomainTable.{id_of}
-use Rattle.sdd_domain.specs.Receipt.{Receipt, HasTaken}
+use Rattle.sdd_domain_slots.specs.Receipt.{Receipt, HasTaken}
 use Rattle.sdd_domain.proofs.closing.take_all_counts.Given as goal
 
 -- the receipts that are left, and those that were taken

@@ -1,5 +1,5 @@
 use Rattle.std.proofs.Common.{◌≡◌, take}
-use Rattle.sdd_domain.specs.Receipt.{sum_of}
+use Rattle.sdd_domain_slots.specs.Receipt.{sum_of}
 use Rattle.sdd_domain.proofs.domain.tally_of.Given as goal
 
 abbrev pub invariant-loop-receipt : goal.invariant-loop-receipt

@@ -2,9 +2,8 @@ use Rattle.std.proofs.Common.{rules, ap, ◌∙◌}
 use denote.Builtin.{u64}
 use Rattle.sdd_space.specs.Owned.{right_of}
 use Rattle.sdd_space.specs.CallerId.{IsExact}
-use Rattle.sdd_domain.specs.LocalState.{IsLone}
+use Rattle.sdd_domain.specs.Local.{IsLone, one_value}
 use Rattle.sdd_domain.specs.Space.{seat_of}
-use Rattle.sdd_domain.specs.Values.{one_value}
 use Rattle.sdd_participants.specs.declared.participant.Participant.{Participant}
 use Rattle.sdd_examples.proofs.Opened.{guards-shut}
 use Rattle.sdd_examples.proofs.Emptiness.{full_is_not_blank}

@@ -6,7 +6,7 @@ use Rattle.sdd_views.specs.declared.Sizes.{Sizes}
 use Rattle.sdd_domain_invariant.specs.Counts.{full_slots}
 use Rattle.sdd_atomics.specs.DomainTable.{sizes_of}
 use Rattle.sdd_domain.specs.Domain.{slots_in}
-use Rattle.sdd_domain.specs.Receipt.{Receipt, AddsUp}
+use Rattle.sdd_domain_slots.specs.Receipt.{Receipt, AddsUp}
 use Rattle.sdd_domain.proofs.Ending.{none_full}
 use Rattle.sdd_domain.proofs.Settling.{as_many, home_again, settled_sum}
 use Rattle.sdd_domain.proofs.Tallies.{adds_up}

@@ -12,15 +12,15 @@ use Rattle.sdd_views.specs.declared.Sizes.{Sizes}
 use Rattle.sdd_views.specs.declared.View.{View}
 use Rattle.sdd_word_invariant.specs.Slots.{waits_in}
 use Rattle.sdd_word_invariant.proofs.Sums.{is_same, total_has}
-use Rattle.sdd_domain.specs.BetweenCalls.{AreLentTo, IsBetweenCalls, IsReady}
+use Rattle.sdd_domain_slots.specs.BetweenCalls.{AreLentTo, IsBetweenCalls, IsReady}
 use Rattle.sdd_domain.specs.Collectors.{BeginsClose}
-use Rattle.sdd_domain.specs.InBags.{AreInBags, known_waiting}
-use Rattle.sdd_domain.specs.LocalState.{LocalState}
-use Rattle.sdd_domain.specs.PrivateTable.{standings_of}
-use Rattle.sdd_domain.specs.Receipt.{IsTallied}
+use Rattle.sdd_domain_slots.specs.InBags.{AreInBags, known_waiting}
+use Rattle.sdd_domain_slots.specs.LocalState.{LocalState}
+use Rattle.sdd_domain_slots.specs.PrivateTable.{standings_of}
+use Rattle.sdd_domain_slots.specs.Receipt.{IsTallied}
 use Rattle.sdd_domain.proofs.ClosePosed.{posed_closing, posed_lighter}
-use Rattle.sdd_domain.proofs.InBags.{begins_close, known_once, room_enough}
-use Rattle.sdd_domain.proofs.PrivateTables.{choice_plain, choice_private}
+use Rattle.sdd_domain_slots.proofs.InBags.{begins_close, known_once, room_enough}
+use Rattle.sdd_domain_slots.proofs.PrivateTables.{choice_plain, choice_private}
 use Rattle.sdd_domain.proofs.local_core.LocalCore.begin_close.Goals as goal
 
 pub take_for-requires-clause-room : goal.take_for-requires-clause-room

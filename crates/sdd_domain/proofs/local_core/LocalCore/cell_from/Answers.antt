@@ -1,9 +1,9 @@
 use Rattle.std.proofs.Common.{rules, Bool, refl, sym, ap, ◌∙◌, subst}
 use Rattle.sdd_views.specs.declared.View.{View}
 use Rattle.sdd_views.specs.declared.Sizes.{Sizes}
-use Rattle.sdd_domain.specs.LocalState.{LocalState}
-use Rattle.sdd_domain.specs.Cells.{AreLoose, ClaimsNone}
-use Rattle.sdd_domain.proofs.HeldOwners.{none_claimed, same_bound}
+use Rattle.sdd_domain_slots.specs.LocalState.{LocalState}
+use Rattle.sdd_domain_slots.specs.Cells.{AreLoose, ClaimsNone}
+use Rattle.sdd_domain_slots.proofs.HeldOwners.{none_claimed, same_bound}
 use Rattle.sdd_domain.proofs.local_core.LocalCore.cell_from.Goals as goal
 
 pub returns-in-Err-clause-back : goal.returns-in-Err-clause-back

@@ -7,16 +7,16 @@ use Rattle.sdd_word_invariant.specs.Collectors.{private_in}
 use Rattle.sdd_word_invariant.specs.Sums.{total}
 use Rattle.sdd_word_invariant.specs.Slots.{waits_in}
 use Rattle.sdd_atomics.specs.DomainTable.{sizes_of, slots_of}
-use Rattle.sdd_domain.specs.LocalState.{LocalState}
-use Rattle.sdd_domain.specs.BetweenCalls.{AreLentTo}
+use Rattle.sdd_domain_slots.specs.LocalState.{LocalState}
+use Rattle.sdd_domain_slots.specs.BetweenCalls.{AreLentTo}
 use Rattle.sdd_domain.specs.Collectors.{ClaimsFirst, LosesItem}
-use Rattle.sdd_domain.specs.InBags.{TellsCollectors, known_waiting}
-use Rattle.sdd_domain.specs.Receipt.{IsTallied}
+use Rattle.sdd_domain_slots.specs.InBags.{TellsCollectors, known_waiting}
+use Rattle.sdd_domain_slots.specs.Receipt.{IsTallied}
 use Rattle.sdd_domain.proofs.FirstClaims.{claimed_bags, claimed_goes, claimed_once, claimed_others, claimed_posed, claimed_privates, claimed_there, claimed_words, lost_bags, lost_posed}
-use Rattle.sdd_domain.proofs.InBags.{first_once, first_slot, known_in, none_private}
+use Rattle.sdd_domain_slots.proofs.InBags.{first_once, first_slot, known_in, none_private}
 use Rattle.sdd_domain.proofs.JobTables.{next_goes, still_jobs}
-use Rattle.sdd_domain.proofs.Members.{with_view}
-use Rattle.sdd_domain.proofs.PrivateTables.{told_in, told_none, told_out, told_some}
+use Rattle.sdd_domain_slots.proofs.Members.{with_view}
+use Rattle.sdd_domain_slots.proofs.PrivateTables.{told_in, told_none, told_out, told_some}
 use Rattle.sdd_domain.proofs.local_core.LocalCore.claim_first.Goals as goal
 
 pub take-requires : goal.take-requires

@@ -11,11 +11,11 @@ use Rattle.sdd_shared_values.specs.ValueFractions.{FractionContent}
 use Rattle.sdd_shared_values.specs.declared.value_fraction.ValueFraction.{ValueFraction}
 use Rattle.sdd_views.specs.declared.View.{View}
 use Rattle.sdd_word_invariant.specs.SlotSteps.{behind, noted}
-use Rattle.sdd_domain.specs.Items.{slots_home}
-use Rattle.sdd_domain.specs.LocalState.{AddsAt, HasMost, IsLone, KnowsOwner, LocalState}
+use Rattle.sdd_domain_slots.specs.Items.{slots_home}
+use Rattle.sdd_domain_slots.specs.LocalState.{AddsAt, HasMost, IsLone, KnowsOwner, LocalState}
 use Rattle.sdd_domain.proofs.Cloned.{counts_most, counts_fewer, full_view, full_same, came_knows, came_place, came_rests, came_told, came_free, unit_is, drawn_view, drawn_home, drawn_owns, drawn_rests, left_view, other_shows, other_grip}
-use Rattle.sdd_domain.proofs.InPlace.{bare, knew_word, noted_at, owner_table, placed, right_anew}
-use Rattle.sdd_domain.proofs.Members.{has_tables, with_token}
+use Rattle.sdd_domain_slots.proofs.InPlace.{bare, knew_word, noted_at, owner_table, placed, right_anew}
+use Rattle.sdd_domain_slots.proofs.Members.{has_tables, with_token}
 use Rattle.sdd_domain.proofs.Recalled.{IsRecalled, is_recalled}
 use Rattle.sdd_domain.proofs.Still.{noted_on}
 use Rattle.sdd_domain.proofs.local_core.LocalCore.clone_owner.Given.{Over}

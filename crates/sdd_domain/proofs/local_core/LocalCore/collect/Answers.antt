@@ -7,14 +7,14 @@ use Rattle.sdd_views.specs.declared.WaitingItem.{WaitingItem}
 use Rattle.sdd_word_invariant.specs.CollectorSteps.{HasWaiting}
 use Rattle.sdd_word_invariant.specs.SlotSteps.{retired_now}
 use Rattle.sdd_atomics.specs.DomainTable.{sizes_of, slots_of}
-use Rattle.sdd_domain.specs.BetweenCalls.{AreLentTo}
+use Rattle.sdd_domain_slots.specs.BetweenCalls.{AreLentTo}
 use Rattle.sdd_domain.specs.Collectors.{CollectsAt}
-use Rattle.sdd_domain.specs.InBags.{TellsCollectors}
-use Rattle.sdd_domain.specs.LocalState.{LocalState, RetiresAt}
-use Rattle.sdd_domain.specs.Receipt.{IsTallied}
+use Rattle.sdd_domain_slots.specs.InBags.{TellsCollectors}
+use Rattle.sdd_domain_slots.specs.LocalState.{LocalState, RetiresAt}
+use Rattle.sdd_domain_slots.specs.Receipt.{IsTallied}
 use Rattle.sdd_domain.proofs.ItemCollected.{collected_bags, collected_others, collected_posed, collected_told, collects_to, newest_collected, newest_waits, others_collected, view_collected}
 use Rattle.sdd_domain.proofs.JobTables.{still_jobs}
-use Rattle.sdd_domain.proofs.Members.{with_view}
+use Rattle.sdd_domain_slots.proofs.Members.{with_view}
 use Rattle.sdd_domain.proofs.local_core.LocalCore.collect.Goals as goal
 
 pub collect-requires-clause-waits : goal.collect-requires-clause-waits

@@ -5,8 +5,8 @@ use Rattle.sdd_rights.specs.Right.{number_of}
 use Rattle.sdd_shared_values.specs.SharedValues.{showing}
 use Rattle.sdd_rights.specs.declared.right.StandingKind.{StandingKind}
 use Rattle.sdd_rights.specs.StandingKind.{is_shared}
-use Rattle.sdd_domain.specs.Cells.{IsOwnedThere}
-use Rattle.sdd_domain.specs.LocalState.{AddsAt, IsLone, KnowsOwner, LocalState}
+use Rattle.sdd_domain_slots.specs.Cells.{IsOwnedThere}
+use Rattle.sdd_domain_slots.specs.LocalState.{AddsAt, IsLone, KnowsOwner, LocalState}
 use Rattle.sdd_domain.proofs.SeesMore.{copies_none, finds_before, knows_more, looks_more, not_gone, same_sees, sees_then}
 use Rattle.sdd_domain.proofs.local_core.LocalCore.copy_held.Goals as goal
 

@@ -1,6 +1,6 @@
 use Rattle.std.proofs.Common.{◌<◌}
-use Rattle.sdd_domain.specs.Cells.{SeesMore}
-use Rattle.sdd_domain.specs.LocalState.{IsLone}
+use Rattle.sdd_domain_slots.specs.Cells.{SeesMore}
+use Rattle.sdd_domain_slots.specs.LocalState.{IsLone}
 use Rattle.sdd_domain.proofs.local_core.LocalCore.copy_held.Given as goal
 
 -- a lone participant needs the first try alone

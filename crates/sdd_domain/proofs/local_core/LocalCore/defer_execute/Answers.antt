@@ -11,15 +11,15 @@ use Rattle.sdd_word_invariant.specs.Sums.{total}
 use Rattle.sdd_word_invariant.specs.Slots.{waits_in}
 use Rattle.sdd_word_invariant.specs.SlotSteps.{retired_now, DefersAt}
 use Rattle.sdd_atomics.specs.DomainTable.{most_waiting_of, sizes_of, slots_of}
-use Rattle.sdd_domain.specs.LocalState.{LocalState, DefersTo}
-use Rattle.sdd_domain.specs.BetweenCalls.{IsBetweenCalls, AreLentTo, IsTenureOf, IsReady}
-use Rattle.sdd_domain.specs.InBags.{AreInBags, KnownWaiting, TellsCollectors, known_waiting}
-use Rattle.sdd_domain.specs.Receipt.{IsTallied}
+use Rattle.sdd_domain_slots.specs.LocalState.{LocalState, DefersTo}
+use Rattle.sdd_domain_slots.specs.BetweenCalls.{IsBetweenCalls, AreLentTo, IsTenureOf, IsReady}
+use Rattle.sdd_domain_slots.specs.InBags.{AreInBags, KnownWaiting, TellsCollectors, known_waiting}
+use Rattle.sdd_domain_slots.specs.Receipt.{IsTallied}
 use Rattle.sdd_domain.proofs.Deferring.{posed_defers}
 use Rattle.sdd_domain.proofs.JobTables.{job_put, not-there}
-use Rattle.sdd_domain.proofs.Members.{with_view}
-use Rattle.sdd_domain.proofs.InBags.{job_plain, one_more, room_left}
-use Rattle.sdd_domain.proofs.Reclaims.{what_job}
+use Rattle.sdd_domain_slots.proofs.Members.{with_view}
+use Rattle.sdd_domain_slots.proofs.InBags.{job_plain, one_more, room_left}
+use Rattle.sdd_domain_slots.proofs.Reclaims.{what_job}
 use Rattle.sdd_domain.proofs.local_core.LocalCore.defer_execute.Goals as goal
 
 pub put-requires-clause-free : goal.put-requires-clause-free

@@ -16,19 +16,19 @@ use Rattle.sdd_word_invariant.specs.Epoch.{IsLone as IsLoneAt}
 use Rattle.sdd_word_invariant.specs.SlotSteps.{noted}
 use Rattle.sdd_atomics.specs.DomainTable.{id_of, book_of, slots_of}
 use Rattle.sdd_atomics.specs.DomainSeat.{epoch}
-use Rattle.sdd_domain.specs.BetweenCalls.{AreLentTo, IsReady}
-use Rattle.sdd_domain.specs.InBags.{KnownWaiting, known_waiting}
-use Rattle.sdd_domain.specs.Claims.{IsUnmoved}
-use Rattle.sdd_domain.specs.InPlace.{IsLetGoOf, with_dropped}
-use Rattle.sdd_domain.specs.GoesInPlace.{Goes}
-use Rattle.sdd_domain.specs.Items.{HasValue, slots_home}
-use Rattle.sdd_domain.specs.LocalState.{DropsAt, GoesBeside, IsLone, KnowsOwner, LocalState, SeesGuard}
-use Rattle.sdd_domain.specs.Receipt.{IsTallied}
-use Rattle.sdd_domain.specs.SpaceIds.{home_in, home_of_slots}
-use Rattle.sdd_domain.proofs.Housed.{from_board}
-use Rattle.sdd_domain.proofs.InPlace.{back_view, bare, gone_beside, guard_of, guarded_at, knew_sole, owner_inside, placed, right_back, unmoved_at}
-use Rattle.sdd_domain.proofs.Members.{with_token, with_view}
-use Rattle.sdd_domain.proofs.Posing.{posed_with}
+use Rattle.sdd_domain_slots.specs.BetweenCalls.{AreLentTo, IsReady}
+use Rattle.sdd_domain_slots.specs.InBags.{KnownWaiting, known_waiting}
+use Rattle.sdd_domain_slots.specs.Claims.{IsUnmoved}
+use Rattle.sdd_domain_slots.specs.InPlace.{IsLetGoOf, with_dropped}
+use Rattle.sdd_domain_slots.specs.GoesInPlace.{Goes}
+use Rattle.sdd_domain_slots.specs.Items.{HasValue, slots_home}
+use Rattle.sdd_domain_slots.specs.LocalState.{DropsAt, GoesBeside, IsLone, KnowsOwner, LocalState, SeesGuard}
+use Rattle.sdd_domain_slots.specs.Receipt.{IsTallied}
+use Rattle.sdd_domain_slots.specs.SpaceIds.{home_in, home_of_slots}
+use Rattle.sdd_domain_slots.proofs.Housed.{from_board}
+use Rattle.sdd_domain_slots.proofs.InPlace.{back_view, bare, gone_beside, guard_of, guarded_at, knew_sole, owner_inside, placed, right_back, unmoved_at}
+use Rattle.sdd_domain_slots.proofs.Members.{with_token, with_view}
+use Rattle.sdd_domain_slots.proofs.Posing.{posed_with}
 use Rattle.sdd_domain.proofs.Tallies.{tallied_in_place}
 use Rattle.sdd_domain.proofs.Recalled.{IsRecalled, is_recalled}
 use Rattle.sdd_domain.proofs.Still.{noted_on}

@@ -11,17 +11,17 @@ use Rattle.sdd_word_invariant.specs.Sums.{total}
 use Rattle.sdd_word_invariant.specs.Slots.{waits_in}
 use Rattle.sdd_atomics.specs.DomainTable.{sizes_of, slots_of}
 use Rattle.sdd_space.specs.OwnerOrCell.{AreOf}
-use Rattle.sdd_domain.specs.BetweenCalls.{AreLentTo}
-use Rattle.sdd_domain.specs.InBags.{TellsCollectors, known_waiting}
-use Rattle.sdd_domain.specs.LocalState.{LocalState, Reclaims}
-use Rattle.sdd_domain.specs.Receipt.{IsTallied}
-use Rattle.sdd_domain.specs.SpaceIds.{home_in}
+use Rattle.sdd_domain_slots.specs.BetweenCalls.{AreLentTo}
+use Rattle.sdd_domain_slots.specs.InBags.{TellsCollectors, known_waiting}
+use Rattle.sdd_domain_slots.specs.LocalState.{LocalState, Reclaims}
+use Rattle.sdd_domain_slots.specs.Receipt.{IsTallied}
+use Rattle.sdd_domain_slots.specs.SpaceIds.{home_in}
 use Rattle.sdd_domain.proofs.FirstClaims.{lost_bags, lost_posed, emptied_bags, emptied_posed}
-use Rattle.sdd_domain.proofs.Housed.{on_board, from_board}
-use Rattle.sdd_domain.proofs.InBags.{first_once, first_slot, known_in, known_once, none_plain}
+use Rattle.sdd_domain_slots.proofs.Housed.{on_board, from_board}
+use Rattle.sdd_domain_slots.proofs.InBags.{first_once, first_slot, known_in, known_once, none_plain}
 use Rattle.sdd_domain.proofs.JobTables.{next_goes, still_jobs}
-use Rattle.sdd_domain.proofs.Members.{with_view}
-use Rattle.sdd_domain.proofs.PrivateTables.{told_in, told_out, told_some}
+use Rattle.sdd_domain_slots.proofs.Members.{with_view}
+use Rattle.sdd_domain_slots.proofs.PrivateTables.{told_in, told_out, told_some}
 use Rattle.sdd_domain.proofs.Tallies.{tallied_reclaimed}
 use Rattle.sdd_domain.proofs.local_core.LocalCore.empty_first.Goals as goal
 

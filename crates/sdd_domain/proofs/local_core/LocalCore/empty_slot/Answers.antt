@@ -1,8 +1,8 @@
 use Rattle.std.proofs.Common.{refl, subst}
 use Rattle.sdd_space.specs.OwnerOrCell.{AreOf}
-use Rattle.sdd_domain.specs.LocalState.{LocalState}
-use Rattle.sdd_domain.specs.SpaceIds.{home_in}
-use Rattle.sdd_domain.proofs.Housed.{on_board, from_board}
+use Rattle.sdd_domain_slots.specs.LocalState.{LocalState}
+use Rattle.sdd_domain_slots.specs.SpaceIds.{home_in}
+use Rattle.sdd_domain_slots.proofs.Housed.{on_board, from_board}
 use Rattle.sdd_domain.proofs.local_core.LocalCore.empty_slot.Goals as goal
 
 pub returns-clause-home : goal.returns-clause-home

@@ -3,9 +3,9 @@ use Rattle.sdd_participants.specs.declared.tally.Tally.{Tally}
 use Rattle.sdd_views.specs.declared.CountsView.{CountsView}
 use Rattle.sdd_views.specs.declared.View.{View}
 use Rattle.sdd_atomics.specs.DomainTable.{sizes_of, slots_of}
-use Rattle.sdd_domain.specs.InBags.{known_waiting}
-use Rattle.sdd_domain.specs.LocalState.{LocalState, waits}
-use Rattle.sdd_domain.specs.Receipt.{IsTallied}
+use Rattle.sdd_domain_slots.specs.InBags.{known_waiting}
+use Rattle.sdd_domain_slots.specs.LocalState.{LocalState, waits}
+use Rattle.sdd_domain_slots.specs.Receipt.{IsTallied}
 use Rattle.sdd_domain.proofs.Tallies.{tallied_ended}
 use Rattle.sdd_domain.proofs.JobTables.{none-there, none-wait}
 use Rattle.sdd_domain.proofs.local_core.LocalCore.end.Goals as goal

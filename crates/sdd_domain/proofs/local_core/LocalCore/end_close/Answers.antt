@@ -5,12 +5,12 @@ use Rattle.sdd_domain_invariant.specs.FractionSteps.{SeatState}
 use Rattle.sdd_views.specs.declared.CellKind.TheVariants.{Collector as of_closed}
 use Rattle.sdd_views.specs.declared.View.{View}
 use Rattle.sdd_word_invariant.specs.CollectorSteps.{closed_none}
-use Rattle.sdd_domain.specs.BetweenCalls.{AreLentTo, IsReady}
-use Rattle.sdd_domain.specs.InBags.{known_waiting}
-use Rattle.sdd_domain.specs.LocalState.{LocalState}
-use Rattle.sdd_domain.specs.Receipt.{IsTallied}
+use Rattle.sdd_domain_slots.specs.BetweenCalls.{AreLentTo, IsReady}
+use Rattle.sdd_domain_slots.specs.InBags.{known_waiting}
+use Rattle.sdd_domain_slots.specs.LocalState.{LocalState}
+use Rattle.sdd_domain_slots.specs.Receipt.{IsTallied}
 use Rattle.sdd_domain.proofs.ClosePosed.{posed_closing}
-use Rattle.sdd_domain.proofs.InBags.{ends_close}
+use Rattle.sdd_domain_slots.proofs.InBags.{ends_close}
 use Rattle.sdd_domain.proofs.local_core.LocalCore.end_close.Goals as goal
 
 pub invariant_of-self : goal.invariant_of-self

@@ -13,13 +13,13 @@ use Rattle.sdd_domain_invariant.specs.FractionsAtHome.{CarriedFractions}
 use Rattle.sdd_rights.specs.declared.fraction.Fraction.{Fraction}
 use Rattle.sdd_values.specs.declared.read_sections.SectionState.{SectionState}
 use Rattle.sdd_values.specs.declared.read_sections.SectionState.TheVariants.{Closed}
-use Rattle.sdd_domain.specs.LocalState.{LocalState, IsEntered, GoesOn}
-use Rattle.sdd_domain.specs.BetweenCalls.{IsBetweenCalls, AreLentTo}
-use Rattle.sdd_domain.specs.Receipt.{IsTallied}
-use Rattle.sdd_domain.specs.InBags.{AreInBags, TellsCollectors, known_waiting}
-use Rattle.sdd_domain.specs.WaitingItems.{arrived_at, aged_slots_at, due_at}
-use Rattle.sdd_domain.proofs.Arrivals.{bags_arrived, has_open, has_room, due_moved, told_aged, quiet_due, same_aged}
-use Rattle.sdd_domain.proofs.Members.{with_view}
+use Rattle.sdd_domain_slots.specs.LocalState.{LocalState, IsEntered, GoesOn}
+use Rattle.sdd_domain_slots.specs.BetweenCalls.{IsBetweenCalls, AreLentTo}
+use Rattle.sdd_domain_slots.specs.Receipt.{IsTallied}
+use Rattle.sdd_domain_slots.specs.InBags.{AreInBags, TellsCollectors, known_waiting}
+use Rattle.sdd_domain_slots.specs.WaitingItems.{arrived_at, aged_slots_at, due_at}
+use Rattle.sdd_domain_slots.proofs.Arrivals.{bags_arrived, has_open, has_room, due_moved, told_aged, quiet_due, same_aged}
+use Rattle.sdd_domain_slots.proofs.Members.{with_view}
 use Rattle.sdd_domain.proofs.local_core.LocalCore.enter.Goals as goal
 
 abbrev Tenure : Type 0

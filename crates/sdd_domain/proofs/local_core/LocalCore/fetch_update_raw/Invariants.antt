@@ -1,6 +1,6 @@
 use Rattle.std.proofs.Common.{◌≡◌, ◌<◌, Some}
 use Rattle.std.specs.List.{FoldsTo}
-use Rattle.sdd_domain.specs.LocalState.{IsLone}
+use Rattle.sdd_domain_slots.specs.LocalState.{IsLone}
 use Rattle.sdd_domain.proofs.local_core.LocalCore.fetch_update_raw.Given as goal
 
 -- a lone participant needs the first try alone

@@ -15,16 +15,16 @@ use Rattle.atomic_table.specs.declared.shared.Seat.{Seat}
 use Rattle.sdd_shared_values.specs.declared.value_fraction.ValueFraction.{ValueFraction}
 use Rattle.sdd_views.specs.declared.View.{View}
 use Rattle.sdd_views.specs.declared.Sizes.{Sizes}
-use Rattle.sdd_domain.specs.SeenSlots.{IsOnce}
+use Rattle.sdd_domain_slots.specs.SeenSlots.{IsOnce}
 use Rattle.sdd_space.specs.OwnerOrCell.{AreOf}
-use Rattle.sdd_domain.specs.SpaceIds.{home_in}
-use Rattle.sdd_domain.proofs.Housed.{on_board, from_shelf}
-use Rattle.sdd_domain.specs.BetweenCalls.{AreLentTo}
-use Rattle.sdd_domain.proofs.Moving.{can_show, shows_known}
-use Rattle.sdd_domain.proofs.Posing.{watched, same_recalled}
+use Rattle.sdd_domain_slots.specs.SpaceIds.{home_in}
+use Rattle.sdd_domain_slots.proofs.Housed.{on_board, from_shelf}
+use Rattle.sdd_domain_slots.specs.BetweenCalls.{AreLentTo}
+use Rattle.sdd_domain_slots.proofs.Moving.{can_show, shows_known}
+use Rattle.sdd_domain_slots.proofs.Posing.{watched, same_recalled}
 use Rattle.sdd_domain.proofs.Still.{shown_on}
-use Rattle.sdd_domain.proofs.Members.{with_token, looks_at, recalls_to, has_tables}
-use Rattle.sdd_domain.specs.LocalState.{LocalState, LooksAt, IsLone, KnowsOwner}
+use Rattle.sdd_domain_slots.proofs.Members.{with_token, looks_at, recalls_to, has_tables}
+use Rattle.sdd_domain_slots.specs.LocalState.{LocalState, LooksAt, IsLone, KnowsOwner}
 use Rattle.sdd_domain.proofs.local_core.LocalCore.get_guarded.Goals as goal
 
 pub show-requires : goal.show-requires

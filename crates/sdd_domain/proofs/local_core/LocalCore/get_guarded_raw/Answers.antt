@@ -12,16 +12,16 @@ use Rattle.sdd_domain_invariant.proofs.Records.{in_times}
 use Rattle.sdd_atomics.specs.DomainTable.{book_of, places_of}
 use Rattle.sdd_atomics.specs.DomainSeat.{MovedAlone}
 use Rattle.sdd_space.specs.OwnerOrCell.{AreOf}
-use Rattle.sdd_domain.specs.SpaceIds.{home_in}
-use Rattle.sdd_domain.specs.SeenSlots.{IsOnce}
-use Rattle.sdd_domain.specs.BetweenCalls.{AreLentTo}
-use Rattle.sdd_domain.specs.LocalState.{LocalState, LooksAt, IsLone}
-use Rattle.sdd_domain.specs.RawItems.{KnowsRaw}
-use Rattle.sdd_domain.proofs.Housed.{on_board, from_shelf}
-use Rattle.sdd_domain.proofs.Moving.{can_show, shows_known}
-use Rattle.sdd_domain.proofs.Posing.{watched}
+use Rattle.sdd_domain_slots.specs.SpaceIds.{home_in}
+use Rattle.sdd_domain_slots.specs.SeenSlots.{IsOnce}
+use Rattle.sdd_domain_slots.specs.BetweenCalls.{AreLentTo}
+use Rattle.sdd_domain_slots.specs.LocalState.{LocalState, LooksAt, IsLone}
+use Rattle.sdd_domain_slots.specs.RawItems.{KnowsRaw}
+use Rattle.sdd_domain_slots.proofs.Housed.{on_board, from_shelf}
+use Rattle.sdd_domain_slots.proofs.Moving.{can_show, shows_known}
+use Rattle.sdd_domain_slots.proofs.Posing.{watched}
 use Rattle.sdd_domain.proofs.Still.{shown_on}
-use Rattle.sdd_domain.proofs.Members.{with_token, looks_at}
+use Rattle.sdd_domain_slots.proofs.Members.{with_token, looks_at}
 use Rattle.sdd_domain.proofs.local_core.LocalCore.get_guarded_raw.Goals as goal
 
 pub show-requires-clause-stake : goal.show-requires-clause-stake

@@ -11,19 +11,19 @@ use Rattle.sdd_shared_values.specs.declared.value_fraction.ValueFraction.{ValueF
 use Rattle.sdd_space.specs.OwnerOrCell.{AreOf}
 use Rattle.sdd_views.specs.declared.View.{View}
 use Rattle.sdd_atomics.specs.DomainTable.{slots_of}
-use Rattle.sdd_domain.specs.BetweenCalls.{AreLentTo, IsReady}
-use Rattle.sdd_domain.specs.InBags.{known_waiting}
-use Rattle.sdd_domain.specs.Items.{HasValue, IsRightTo, slots_home}
-use Rattle.sdd_domain.specs.LocalState.{ChangesAt, HasOthers, IsLone, KnowsOwner, LocalState, SeesGuard, sole_words}
-use Rattle.sdd_domain.specs.Receipt.{IsTallied}
-use Rattle.sdd_domain.specs.SpaceIds.{home_in}
-use Rattle.sdd_domain.specs.Values.{with_filled}
-use Rattle.sdd_domain.proofs.Housed.{from_board, to_board}
+use Rattle.sdd_domain_slots.specs.BetweenCalls.{AreLentTo, IsReady}
+use Rattle.sdd_domain_slots.specs.InBags.{known_waiting}
+use Rattle.sdd_domain_slots.specs.Items.{HasValue, IsRightTo, slots_home}
+use Rattle.sdd_domain_slots.specs.LocalState.{ChangesAt, HasOthers, IsLone, KnowsOwner, LocalState, SeesGuard, sole_words}
+use Rattle.sdd_domain_slots.specs.Receipt.{IsTallied}
+use Rattle.sdd_domain_slots.specs.SpaceIds.{home_in}
+use Rattle.sdd_domain_slots.specs.Values.{with_filled}
+use Rattle.sdd_domain_slots.proofs.Housed.{from_board, to_board}
 use lib.ListN.{get_elem?}
 use Rattle.sdd_core.specs.declared.refused.Refused.TheVariants as Refused
-use Rattle.sdd_domain.proofs.Held.{only}
-use Rattle.sdd_domain.proofs.InPlace.{bare, changed_to, guard_of, hindered_at, hindered_view, knew_sole, held_home, held_knows, held_looked, held_owns, held_place, held_rests, held_shut, held_tells, owner_inside, owner_table, placed, posed_changed, right_again, right_anew}
-use Rattle.sdd_domain.proofs.Members.{with_token, with_view}
+use Rattle.sdd_domain_slots.proofs.Held.{only}
+use Rattle.sdd_domain_slots.proofs.InPlace.{bare, changed_to, guard_of, hindered_at, hindered_view, knew_sole, held_home, held_knows, held_looked, held_owns, held_place, held_rests, held_shut, held_tells, owner_inside, owner_table, placed, posed_changed, right_again, right_anew}
+use Rattle.sdd_domain_slots.proofs.Members.{with_token, with_view}
 use Rattle.sdd_domain.proofs.Recalled.{IsRecalled, is_recalled}
 use Rattle.sdd_domain.proofs.Still.{noted_on}
 use Rattle.sdd_domain.proofs.local_core.LocalCore.get_mut.Given.{Over}

@@ -13,13 +13,13 @@ use Rattle.sdd_shared_values.specs.declared.value_fraction.ValueFraction.{ValueF
 use Rattle.sdd_domain_invariant.specs.FilledInvariant.{HasRecord}
 use Rattle.sdd_domain_invariant.specs.FractionSteps.{regained}
 use Rattle.sdd_atomics.specs.DomainSeat.{Taught, Moved}
-use Rattle.sdd_domain.specs.RawItems.{PutsOut, put_out}
-use Rattle.sdd_domain.specs.BetweenCalls.{AreLentTo, IsReady}
-use Rattle.sdd_domain.specs.InBags.{known_waiting}
-use Rattle.sdd_domain.specs.Receipt.{IsTallied}
-use Rattle.sdd_domain.specs.LocalState.{LocalState, IsLone, KnowsOwner}
-use Rattle.sdd_domain.proofs.Members.{with_view, recalls_to, has_tables}
-use Rattle.sdd_domain.proofs.Posing.{has_place, same_recalled}
+use Rattle.sdd_domain_slots.specs.RawItems.{PutsOut, put_out}
+use Rattle.sdd_domain_slots.specs.BetweenCalls.{AreLentTo, IsReady}
+use Rattle.sdd_domain_slots.specs.InBags.{known_waiting}
+use Rattle.sdd_domain_slots.specs.Receipt.{IsTallied}
+use Rattle.sdd_domain_slots.specs.LocalState.{LocalState, IsLone, KnowsOwner}
+use Rattle.sdd_domain_slots.proofs.Members.{with_view, recalls_to, has_tables}
+use Rattle.sdd_domain_slots.proofs.Posing.{has_place, same_recalled}
 use Rattle.sdd_domain.proofs.RawCore.{put_home, put_view, put_others, posed_out}
 use Rattle.sdd_domain.proofs.local_core.LocalCore.into_raw.Goals as goal
 

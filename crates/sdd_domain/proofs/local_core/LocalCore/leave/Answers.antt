@@ -1,9 +1,9 @@
 use Rattle.std.proofs.Common.{rules, arith, ◌≡◌, ◌≢◌, ◌<◌, ◌^◌, sym, subst, ap, ◌∙◌, ⊎_elim}
 use Rattle.sdd_participants.specs.declared.participant.Participant.{Participant}
 use Rattle.sdd_views.specs.declared.Sizes.{Sizes}
-use Rattle.sdd_domain.specs.LocalState.{LocalState, IsLone}
-use Rattle.sdd_domain.proofs.Posing.{known_fits}
-use Rattle.sdd_domain.proofs.Scans.{tells_as}
+use Rattle.sdd_domain_slots.specs.LocalState.{LocalState, IsLone}
+use Rattle.sdd_domain_slots.proofs.Posing.{known_fits}
+use Rattle.sdd_domain_slots.proofs.Scans.{tells_as}
 use Rattle.sdd_domain.proofs.local_core.LocalCore.leave.Given.{Over}
 use Rattle.sdd_domain.proofs.local_core.LocalCore.leave.Goals.{then-scans, else-scans}
 use Rattle.sdd_domain.proofs.local_core.LocalCore.leave.Goals as goal

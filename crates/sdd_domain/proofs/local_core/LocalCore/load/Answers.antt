@@ -16,20 +16,20 @@ use Rattle.sdd_domain_invariant.proofs.Records.{in_times}
 use Rattle.sdd_atomics.specs.DomainTable.{book_of, places_of}
 use Rattle.sdd_atomics.specs.DomainSeat.{Moved, MovedAlone}
 use Rattle.sdd_space.specs.OwnerOrCell.{AreOf}
-use Rattle.sdd_domain.specs.SpaceIds.{home_in}
-use Rattle.sdd_domain.specs.SeenSlots.{IsOnce}
-use Rattle.sdd_domain.specs.Cells.{IsOwnedThere}
-use Rattle.sdd_domain.specs.BetweenCalls.{IsBetweenCalls, IsReady, AreLentTo}
-use Rattle.sdd_domain.specs.InBags.{known_waiting}
-use Rattle.sdd_domain.specs.Receipt.{IsTallied}
-use Rattle.sdd_domain.specs.LocalState.{LocalState, KnowsOwner, LooksAt, IsLone}
-use Rattle.sdd_domain.proofs.CellWords.{named, named_none}
-use Rattle.sdd_domain.proofs.HeldOwners.{cell_views}
-use Rattle.sdd_domain.proofs.Housed.{on_board, from_shelf}
-use Rattle.sdd_domain.proofs.Moving.{can_show, shows_known}
-use Rattle.sdd_domain.proofs.Posing.{watched}
+use Rattle.sdd_domain_slots.specs.SpaceIds.{home_in}
+use Rattle.sdd_domain_slots.specs.SeenSlots.{IsOnce}
+use Rattle.sdd_domain_slots.specs.Cells.{IsOwnedThere}
+use Rattle.sdd_domain_slots.specs.BetweenCalls.{IsBetweenCalls, IsReady, AreLentTo}
+use Rattle.sdd_domain_slots.specs.InBags.{known_waiting}
+use Rattle.sdd_domain_slots.specs.Receipt.{IsTallied}
+use Rattle.sdd_domain_slots.specs.LocalState.{LocalState, KnowsOwner, LooksAt, IsLone}
+use Rattle.sdd_domain_slots.proofs.CellWords.{named, named_none}
+use Rattle.sdd_domain_slots.proofs.HeldOwners.{cell_views}
+use Rattle.sdd_domain_slots.proofs.Housed.{on_board, from_shelf}
+use Rattle.sdd_domain_slots.proofs.Moving.{can_show, shows_known}
+use Rattle.sdd_domain_slots.proofs.Posing.{watched}
 use Rattle.sdd_domain.proofs.Still.{shown_on}
-use Rattle.sdd_domain.proofs.Members.{with_token, looks_at}
+use Rattle.sdd_domain_slots.proofs.Members.{with_token, looks_at}
 use Rattle.sdd_domain.proofs.local_core.LocalCore.load.Given.{Over}
 use Rattle.sdd_domain.proofs.local_core.LocalCore.load.Goals.{After-see_in-word}
 use Rattle.sdd_domain.proofs.local_core.LocalCore.load.Goals as goal

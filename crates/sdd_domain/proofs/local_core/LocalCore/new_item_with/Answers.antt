@@ -1,22 +1,22 @@
 use Rattle.std.proofs.Common.{ap, sym, refl, ◌∙◌, subst}
 use Rattle.sdd_space.specs.OwnerOrCell.{AreOf}
-use Rattle.sdd_domain.specs.SpaceIds.{home_in}
-use Rattle.sdd_domain.specs.LocalState.{LocalState}
-use Rattle.sdd_domain.proofs.Housed.{to_board, on_board}
+use Rattle.sdd_domain_slots.specs.SpaceIds.{home_in}
+use Rattle.sdd_domain_slots.specs.LocalState.{LocalState}
+use Rattle.sdd_domain_slots.proofs.Housed.{to_board, on_board}
 use Rattle.sdd_views.specs.declared.Sizes.{Sizes}
 use Rattle.sdd_views.specs.declared.View.{View}
 use Rattle.sdd_participants.specs.declared.tally.Tally.{Tally}
 use Rattle.sdd_participants.specs.Tally.{one_made}
 use Rattle.sdd_shared_values.specs.SharedValues.{showing}
 use Rattle.sdd_atomics.specs.DomainTable.{book_of, places_of}
-use Rattle.sdd_domain.specs.BetweenCalls.{AreLentTo, IsReady}
-use Rattle.sdd_domain.specs.InBags.{known_waiting}
-use Rattle.sdd_domain.specs.Receipt.{IsTallied}
+use Rattle.sdd_domain_slots.specs.BetweenCalls.{AreLentTo, IsReady}
+use Rattle.sdd_domain_slots.specs.InBags.{known_waiting}
+use Rattle.sdd_domain_slots.specs.Receipt.{IsTallied}
 use Rattle.sdd_word_invariant.specs.Codes.{alive, counted}
 use Rattle.sdd_word_invariant.proofs.Codes.{claimed_is}
 use Rattle.sdd_domain.proofs.Words.{claimed_kind}
-use Rattle.sdd_domain.proofs.Moving.{row_out}
-use Rattle.sdd_domain.proofs.Posing.{posed_makes, made_view}
+use Rattle.sdd_domain_slots.proofs.Moving.{row_out}
+use Rattle.sdd_domain_slots.proofs.Posing.{posed_makes, made_view}
 use Rattle.sdd_domain.proofs.Tallies.{tallied_made}
 use Rattle.sdd_domain.proofs.local_core.LocalCore.new_item_with.Goals as goal
 

@@ -6,12 +6,12 @@ use Rattle.sdd_rights.specs.Right.{home_of_table}
 use Rattle.sdd_rights.specs.declared.right.StandingKind.TheVariants as kinds
 use Rattle.sdd_word_invariant.specs.Epoch.{IsLone}
 use Rattle.sdd_domain_invariant.specs.Records.{IsIn}
-use Rattle.sdd_domain.specs.Cells.{board_home}
-use Rattle.sdd_domain.specs.Items.{IsRightTo, slots_home}
-use Rattle.sdd_domain.specs.LocalState.{LocalState, IsLone as IsAlone}
-use Rattle.sdd_domain.specs.SeenOwners.{KnowsStill, ShowsTo}
-use Rattle.sdd_domain.proofs.Housed.{on_board}
-use Rattle.sdd_domain.proofs.SeenOwners.{came_right, ends_with}
+use Rattle.sdd_domain_slots.specs.Cells.{board_home}
+use Rattle.sdd_domain_slots.specs.Items.{IsRightTo, slots_home}
+use Rattle.sdd_domain_slots.specs.LocalState.{LocalState, IsLone as IsAlone}
+use Rattle.sdd_domain_slots.specs.SeenOwners.{KnowsStill, ShowsTo}
+use Rattle.sdd_domain_slots.proofs.Housed.{on_board}
+use Rattle.sdd_domain_slots.proofs.SeenOwners.{came_right, ends_with}
 use Rattle.sdd_domain.proofs.Still.{noted_on}
 use Rattle.sdd_domain.proofs.local_core.LocalCore.own_seen.Goals as goal
 

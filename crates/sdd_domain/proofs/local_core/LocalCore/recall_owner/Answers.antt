@@ -7,15 +7,15 @@ use Rattle.sdd_views.specs.declared.View.{View}
 use Rattle.sdd_shared_values.specs.declared.value_fraction.ValueFraction.{ValueFraction}
 use Rattle.sdd_rights.specs.StandingKind.{is_shared}
 use Rattle.sdd_rights.specs.Right.{AreSlotsOfTable, home_of, number_of, kind_of}
-use Rattle.sdd_domain.specs.Items.{HasValue, slots_home}
-use Rattle.sdd_domain.specs.LocalState.{LocalState, IsLone, KnowsOwner}
-use Rattle.sdd_domain.specs.BetweenCalls.{IsBetweenCalls, AreLentTo, IsTenureOf, IsReady}
-use Rattle.sdd_domain.specs.InBags.{known_waiting}
-use Rattle.sdd_domain.specs.Receipt.{IsTallied}
-use Rattle.sdd_domain.proofs.Housed.{on_board}
-use Rattle.sdd_domain.proofs.InPlace.{owner_inside, owner_table}
-use Rattle.sdd_domain.proofs.Members.{with_token, recalls_to, has_tables}
-use Rattle.sdd_domain.proofs.Posing.{same_recalled}
+use Rattle.sdd_domain_slots.specs.Items.{HasValue, slots_home}
+use Rattle.sdd_domain_slots.specs.LocalState.{LocalState, IsLone, KnowsOwner}
+use Rattle.sdd_domain_slots.specs.BetweenCalls.{IsBetweenCalls, AreLentTo, IsTenureOf, IsReady}
+use Rattle.sdd_domain_slots.specs.InBags.{known_waiting}
+use Rattle.sdd_domain_slots.specs.Receipt.{IsTallied}
+use Rattle.sdd_domain_slots.proofs.Housed.{on_board}
+use Rattle.sdd_domain_slots.proofs.InPlace.{owner_inside, owner_table}
+use Rattle.sdd_domain_slots.proofs.Members.{with_token, recalls_to, has_tables}
+use Rattle.sdd_domain_slots.proofs.Posing.{same_recalled}
 use Rattle.sdd_domain.proofs.local_core.LocalCore.recall_owner.Goals as goal
 
 pub recall-requires-clause-owner : goal.recall-requires-clause-owner

@@ -10,8 +10,8 @@ use Rattle.sdd_word_invariant.proofs.Owning.{item_kept}
 use Rattle.sdd_atomics.specs.DomainTable.{sizes_of, slots_of}
 use Rattle.sdd_views.specs.declared.View.{View}
 use Rattle.sdd_space.specs.OwnerOrCell.{AreOf}
-use Rattle.sdd_domain.specs.SpaceIds.{home_in}
-use Rattle.sdd_domain.specs.LocalState.{LocalState}
+use Rattle.sdd_domain_slots.specs.SpaceIds.{home_in}
+use Rattle.sdd_domain_slots.specs.LocalState.{LocalState}
 use Rattle.sdd_word_invariant.specs.Codes.{free_word}
 use Rattle.sdd_word_invariant.specs.CollectorSteps.{without_private}
 use Rattle.sdd_word_invariant.specs.SlotSteps.{behind, without_item}
@@ -19,14 +19,14 @@ use Rattle.sdd_domain_invariant.specs.FilledInvariant.{newest}
 use Rattle.sdd_participants.specs.Slab.{without_entry}
 use Rattle.sdd_participants.specs.declared.waiting.LimboEntry.{LimboEntry}
 use Rattle.std.specs.Prelude.{Bool, List, Some, slice_set}
-use Rattle.sdd_domain.specs.BetweenCalls.{AreLentTo}
-use Rattle.sdd_domain.specs.Receipt.{IsTallied}
-use Rattle.sdd_domain.specs.InBags.{AreInBags, KnownWaiting, TellsCollectors, known_waiting}
-use Rattle.sdd_domain.proofs.Housed.{on_board, from_board}
+use Rattle.sdd_domain_slots.specs.BetweenCalls.{AreLentTo}
+use Rattle.sdd_domain_slots.specs.Receipt.{IsTallied}
+use Rattle.sdd_domain_slots.specs.InBags.{AreInBags, KnownWaiting, TellsCollectors, known_waiting}
+use Rattle.sdd_domain_slots.proofs.Housed.{on_board, from_board}
 use Rattle.sdd_domain.proofs.JobTables.{next_goes, still_jobs}
-use Rattle.sdd_domain.proofs.Members.{with_view}
-use Rattle.sdd_domain.proofs.Posing.{posed_reclaims}
-use Rattle.sdd_domain.proofs.InBags.{first_plain, first_plain_out, first_slot, known_once}
+use Rattle.sdd_domain_slots.proofs.Members.{with_view}
+use Rattle.sdd_domain_slots.proofs.Posing.{posed_reclaims}
+use Rattle.sdd_domain_slots.proofs.InBags.{first_plain, first_plain_out, first_slot, known_once}
 use Rattle.sdd_domain.proofs.Tallies.{tallied_reclaimed}
 use Rattle.sdd_domain.proofs.local_core.LocalCore.reclaim.Goals as goal
 

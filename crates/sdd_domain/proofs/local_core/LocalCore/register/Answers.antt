@@ -8,9 +8,9 @@ use Rattle.sdd_word_invariant.specs.Sums.{total}
 use Rattle.sdd_word_invariant.specs.Slots.{waits_in}
 use Rattle.sdd_space.proofs.Accounts.{blank-at}
 use Rattle.sdd_atomics.specs.DomainTable.{slots_of}
-use Rattle.sdd_domain.proofs.InBags.{nothing_there}
-use Rattle.sdd_domain.proofs.Moving.{no_purse, none_lent}
-use Rattle.sdd_domain.proofs.PrivateTables.{told_nothing}
+use Rattle.sdd_domain_slots.proofs.InBags.{nothing_there}
+use Rattle.sdd_domain_slots.proofs.Moving.{no_purse, none_lent}
+use Rattle.sdd_domain_slots.proofs.PrivateTables.{told_nothing}
 use Rattle.sdd_domain.proofs.local_core.LocalCore.register.Given.{Over}
 use Rattle.sdd_domain.proofs.local_core.LocalCore.register.Goals as goal
 

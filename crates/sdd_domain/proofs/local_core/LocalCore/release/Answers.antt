@@ -14,11 +14,11 @@ use Rattle.sdd_participants.specs.declared.waiting.LimboEntry.TheVariants.{Item}
 use Rattle.sdd_participants.specs.declared.participant.Participant.{Participant}
 use Rattle.sdd_participants.specs.Bags.{Bags}
 use Rattle.sdd_participants.specs.EpochState.{awaiting, with_garbage}
-use Rattle.sdd_domain.specs.BetweenCalls.{IsBetweenCalls, AreLentTo, IsTenureOf, IsReady}
-use Rattle.sdd_domain.specs.InBags.{AreInBags, KnownWaiting, TellsCollectors, known_waiting}
-use Rattle.sdd_domain.proofs.InBags.{one_more, room_left}
-use Rattle.sdd_domain.proofs.Reclaims.{what_item}
-use Rattle.sdd_domain.specs.Receipt.{IsTallied}
+use Rattle.sdd_domain_slots.specs.BetweenCalls.{IsBetweenCalls, AreLentTo, IsTenureOf, IsReady}
+use Rattle.sdd_domain_slots.specs.InBags.{AreInBags, KnownWaiting, TellsCollectors, known_waiting}
+use Rattle.sdd_domain_slots.proofs.InBags.{one_more, room_left}
+use Rattle.sdd_domain_slots.proofs.Reclaims.{what_item}
+use Rattle.sdd_domain_slots.specs.Receipt.{IsTallied}
 use Rattle.sdd_views.specs.declared.View.{View}
 use Rattle.atomic_table.specs.declared.shared.Seat.{Seat}
 use Rattle.sdd_views.specs.declared.Sizes.{Sizes}
@@ -30,12 +30,12 @@ use Rattle.sdd_rights.specs.Right.{number_of, kind_of}
 use Rattle.sdd_word_invariant.specs.Codes.{claimed_word, retired_word}
 use Rattle.sdd_word_invariant.specs.SlotSteps.{Knew}
 use Rattle.sdd_atomics.specs.DomainSeat.{Taught, Moved, MovedAlone}
-use Rattle.sdd_domain.specs.Values.{LetsWait, LeavesOthers, LetsOneGo}
+use Rattle.sdd_domain_slots.specs.Values.{LetsWait, LeavesOthers, LetsOneGo}
 use Rattle.std.specs.Prelude.{Bool, true}
 use base.Stored.{Gv}
-use Rattle.sdd_domain.specs.LocalState.{LocalState, IsLone, KnowsOwner, RetiresAt, LeavesAt}
-use Rattle.sdd_domain.proofs.Members.{with_view, recalls_to, has_tables}
-use Rattle.sdd_domain.proofs.Posing.{has_place, posed_retires, retires_to, posed_leaves, leaves_to, same_recalled}
+use Rattle.sdd_domain_slots.specs.LocalState.{LocalState, IsLone, KnowsOwner, RetiresAt, LeavesAt}
+use Rattle.sdd_domain_slots.proofs.Members.{with_view, recalls_to, has_tables}
+use Rattle.sdd_domain_slots.proofs.Posing.{has_place, posed_retires, retires_to, posed_leaves, leaves_to, same_recalled}
 use Rattle.sdd_domain.proofs.local_core.LocalCore.release.Given.{Over}
 use Rattle.sdd_domain.proofs.local_core.LocalCore.release.Goals.{After-take_in}
 use Rattle.sdd_domain.proofs.local_core.LocalCore.release.Goals as goal

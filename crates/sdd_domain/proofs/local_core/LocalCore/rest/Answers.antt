@@ -1,5 +1,5 @@
 use Rattle.std.proofs.Common.{rules, ap, ◌∙◌}
-use Rattle.sdd_domain.specs.LocalState.{LocalState}
+use Rattle.sdd_domain_slots.specs.LocalState.{LocalState}
 use Rattle.sdd_domain.proofs.local_core.LocalCore.rest.Goals as goal
 
 pub invariant_of-result : goal.invariant_of-result

@@ -2,8 +2,8 @@ use Rattle.std.proofs.Common.{◌≢◌, Some, ap, ◌∙◌, subst}
 use Rattle.sdd_atomics.specs.DomainSeat.{view}
 use Rattle.sdd_atomics.specs.DomainTable.{slots_of}
 use Rattle.sdd_participants.specs.Slab.{entry_at}
-use Rattle.sdd_domain.specs.InBags.{known_waiting}
-use Rattle.sdd_domain.specs.LocalState.{LocalState}
+use Rattle.sdd_domain_slots.specs.InBags.{known_waiting}
+use Rattle.sdd_domain_slots.specs.LocalState.{LocalState}
 use Rattle.sdd_domain.proofs.Emptying.{due_apart, none_for_closed}
 use Rattle.sdd_domain.proofs.local_core.LocalCore.stands.Goals as goal
 

@@ -1,5 +1,5 @@
 use Rattle.std.proofs.Common.{rules, ℕ}
-use Rattle.sdd_domain.proofs.HeldOwners.{found_bound, word_bound}
+use Rattle.sdd_domain_slots.proofs.HeldOwners.{found_bound, word_bound}
 use Rattle.sdd_domain.proofs.local_core.LocalCore.swap.Goals as goal
 
 pub returns-clause-swapped : goal.returns-clause-swapped

@@ -11,14 +11,14 @@ use Rattle.sdd_word_invariant.specs.SlotSteps.{IsDue}
 use Rattle.sdd_domain_invariant.specs.FractionSteps.{GivesPlace}
 use Rattle.sdd_atomics.specs.DomainSeat.{Moved}
 use Rattle.sdd_atomics.specs.DomainTable.{sizes_of, slots_of}
-use Rattle.sdd_domain.specs.LocalState.{LocalState, TakesJob}
-use Rattle.sdd_domain.specs.BetweenCalls.{AreLentTo}
-use Rattle.sdd_domain.specs.Receipt.{IsTallied}
-use Rattle.sdd_domain.specs.InBags.{AreInBags, KnownWaiting, TellsCollectors, known_waiting}
+use Rattle.sdd_domain_slots.specs.LocalState.{LocalState, TakesJob}
+use Rattle.sdd_domain_slots.specs.BetweenCalls.{AreLentTo}
+use Rattle.sdd_domain_slots.specs.Receipt.{IsTallied}
+use Rattle.sdd_domain_slots.specs.InBags.{AreInBags, KnownWaiting, TellsCollectors, known_waiting}
 use Rattle.sdd_domain.proofs.Deferring.{posed_takes, place_low, waits_now}
 use Rattle.sdd_domain.proofs.JobTables.{next_goes, job_taken}
-use Rattle.sdd_domain.proofs.Members.{with_view}
-use Rattle.sdd_domain.proofs.InBags.{first_plain, first_plain_out, job_plain}
+use Rattle.sdd_domain_slots.proofs.Members.{with_view}
+use Rattle.sdd_domain_slots.proofs.InBags.{first_plain, first_plain_out, job_plain}
 use Rattle.sdd_domain.proofs.local_core.LocalCore.take_job.Given.{Over}
 use Rattle.sdd_domain.proofs.local_core.LocalCore.take_job.Goals.{After-next}
 use Rattle.sdd_domain.proofs.local_core.LocalCore.take_job.Goals as goal

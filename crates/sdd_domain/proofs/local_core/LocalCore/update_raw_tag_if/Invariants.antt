@@ -1,6 +1,6 @@
 use Rattle.std.proofs.Common.{◌≡◌, ◌<◌, true}
 use Rattle.std.specs.List.{FoldsTo}
-use Rattle.sdd_domain.specs.LocalState.{IsLone}
+use Rattle.sdd_domain_slots.specs.LocalState.{IsLone}
 use Rattle.sdd_domain.proofs.local_core.LocalCore.update_raw_tag_if.Given as goal
 
 -- a lone participant needs the first try alone

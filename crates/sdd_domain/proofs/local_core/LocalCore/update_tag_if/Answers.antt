@@ -4,8 +4,8 @@ use Rattle.std.proofs.lemmas.Fn.{FoldsTo-push}
 use mathlib.Core.Logic.{dite}
 use native.Mathlib.Decide.{dec_lt}
 use Rattle.sdd_rights.specs.Right.{number_of}
-use Rattle.sdd_domain.specs.Local.{contents_of}
-use Rattle.sdd_domain.specs.LocalState.{LocalState, IsLone, cell_word_of}
+use Rattle.sdd_domain_slots.specs.Local.{contents_of}
+use Rattle.sdd_domain_slots.specs.LocalState.{LocalState, IsLone, cell_word_of}
 use Rattle.sdd_domain.proofs.local_core.LocalCore.update_tag_if.Goals as goal
 
 pub returns-then-not-condition-clause-once : goal.returns-then-not-condition-clause-once

@@ -3,10 +3,10 @@ use Rattle.sdd_participants.specs.EpochState.{settled}
 use Rattle.sdd_space.specs.WorldChanges as steps
 use Rattle.sdd_space.specs.WorldChanges.{all_reclaimed}
 use Rattle.sdd_space.specs.World.{World}
-use Rattle.sdd_domain.specs.Local.{LocalModel, world_of}
-use Rattle.sdd_domain.specs.LocalState.{LocalState, IsLone}
+use Rattle.sdd_domain_slots.specs.Local.{LocalModel, world_of}
+use Rattle.sdd_domain_slots.specs.LocalState.{LocalState, IsLone}
 use Rattle.sdd_domain.specs.Reclaiming.{rest_of}
-use Rattle.sdd_domain.specs.WaitingItems.{items_in}
+use Rattle.sdd_domain_slots.specs.WaitingItems.{items_in}
 use Rattle.sdd_domain.proofs.CountedGone.{counts_after}
 use Rattle.sdd_domain.proofs.Alone.{steps_alone}
 use Rattle.sdd_domain.proofs.Giving.{given_of}

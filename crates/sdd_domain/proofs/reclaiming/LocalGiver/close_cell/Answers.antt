@@ -5,10 +5,10 @@ use Rattle.sdd_participants.specs.declared.participant.Participant.{Participant}
 use Rattle.sdd_space.specs.ParticipantChanges.{KeepsMoreWaiting}
 use Rattle.sdd_space.specs.World.{World, standing_at}
 use Rattle.sdd_space.specs.WorldChanges.{cell_closed, owner_given, spilled, without_cell}
-use Rattle.sdd_domain.specs.Local.{LocalModel, world_of}
-use Rattle.sdd_domain.specs.LocalState.{LocalState, IsLone}
+use Rattle.sdd_domain_slots.specs.Local.{LocalModel, world_of}
+use Rattle.sdd_domain_slots.specs.LocalState.{LocalState, IsLone}
 use Rattle.sdd_domain.specs.Space.{is_lone}
-use Rattle.sdd_domain.specs.WordsAndValues.{WordsMatchValues}
+use Rattle.sdd_domain_slots.specs.WordsAndValues.{WordsMatchValues}
 use Rattle.sdd_domain.proofs.CellWorld.{tied_freed, world_freed, held_before}
 use Rattle.sdd_domain.proofs.Exact.{lone_is}
 use Rattle.sdd_domain.proofs.Sound.{lone_true}

@@ -10,10 +10,10 @@ use Rattle.sdd_space.specs.Out.{IsNullCell}
 use Rattle.sdd_space.specs.ParticipantChanges.{all_awaiting}
 use Rattle.sdd_space.specs.World.{World}
 use Rattle.sdd_space.specs.WorldChanges.{all_reclaimed, held_in, without_cell}
-use Rattle.sdd_domain.specs.Cells.{FreesAt}
+use Rattle.sdd_domain_slots.specs.Cells.{FreesAt}
 use Rattle.sdd_domain.specs.Collectors.{AllWaitFor, ends_close, waits_for}
-use Rattle.sdd_domain.specs.Local.{LocalModel, contents_of, world_of}
-use Rattle.sdd_domain.specs.LocalState.{LocalState, IsLone}
+use Rattle.sdd_domain_slots.specs.Local.{LocalModel, contents_of, world_of}
+use Rattle.sdd_domain_slots.specs.LocalState.{LocalState, IsLone}
 use Rattle.sdd_domain.proofs.CellWorld.{full_before, tied_freed, world_freed}
 use Rattle.sdd_domain.proofs.CollectorClosed.{all_taken, tied_closing, tied_ended, world_closing}
 use Rattle.sdd_domain.proofs.CollectorFreed.{freed_apart, was_there}

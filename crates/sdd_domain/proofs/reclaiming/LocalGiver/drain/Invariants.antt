@@ -1,6 +1,6 @@
 use Rattle.std.proofs.Common.{◌≡◌, ◌-◌, ◌≤◌, [], None}
-use Rattle.sdd_domain.specs.LocalState.{HasOpenGuard}
-use Rattle.sdd_domain.specs.Receipt.{with_reclaimed}
+use Rattle.sdd_domain_slots.specs.LocalState.{HasOpenGuard}
+use Rattle.sdd_domain_slots.specs.Receipt.{with_reclaimed}
 use Rattle.sdd_domain.specs.Space.{slots_home}
 use Rattle.sdd_domain.proofs.reclaiming.LocalGiver.drain.Given as goal
 

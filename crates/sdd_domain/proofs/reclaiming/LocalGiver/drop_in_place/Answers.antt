@@ -10,10 +10,10 @@ use Rattle.sdd_standings.specs.Slots.{IsOwnedBy}
 use Rattle.sdd_space.specs.OwnerOrCell.{AreOf}
 use Rattle.sdd_space.specs.World.{standing_at}
 use Rattle.sdd_space.specs.WorldChanges.{dropped}
-use Rattle.sdd_domain.specs.Items.{HasValue}
-use Rattle.sdd_domain.specs.Local.{LocalModel, world_of}
-use Rattle.sdd_domain.specs.LocalState.{DropsAt, GoesBeside, HasOpenGuard, IsLone, KnowsOwner, LocalState}
-use Rattle.sdd_domain.specs.SpaceIds.{home_in}
+use Rattle.sdd_domain_slots.specs.Items.{HasValue}
+use Rattle.sdd_domain_slots.specs.Local.{LocalModel, world_of}
+use Rattle.sdd_domain_slots.specs.LocalState.{DropsAt, GoesBeside, HasOpenGuard, IsLone, KnowsOwner, LocalState}
+use Rattle.sdd_domain_slots.specs.SpaceIds.{home_in}
 use Rattle.sdd_domain.proofs.Altered.{alone_there, beside_others, beside_tied, beside_world, handed_on, owned_there, stays_there, stays_tied}
 use Rattle.sdd_domain.proofs.Dropped.{drops_now, tied_dropped}
 use Rattle.sdd_domain.proofs.Sound.{lone_true}

@@ -2,8 +2,8 @@ use Rattle.std.proofs.Common.{◌≡◌, sym, refl, ap, ◌∙◌, subst}
 use Rattle.sdd_participants.specs.declared.waiting.LimboEntry.TheVariants.{Item}
 use Rattle.sdd_space.specs.WorldChanges.{given_all, reclaimed}
 use Rattle.sdd_domain.specs.Collectors.{AllWaitFor, IsClosing}
-use Rattle.sdd_domain.specs.Local.{LocalModel, world_of}
-use Rattle.sdd_domain.specs.LocalState.{LocalState, IsLone}
+use Rattle.sdd_domain_slots.specs.Local.{LocalModel, world_of}
+use Rattle.sdd_domain_slots.specs.LocalState.{LocalState, IsLone}
 use Rattle.sdd_domain.proofs.Emptying.{kept_first, rest_waits, goes_on_closing, more_guards}
 use Rattle.sdd_domain.proofs.Going.{loses_none, tied_then, reclaims_one}
 use Rattle.sdd_domain.proofs.Sound.{lone_true}

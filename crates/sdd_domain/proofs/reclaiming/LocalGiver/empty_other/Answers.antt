@@ -1,7 +1,7 @@
 use Rattle.std.proofs.Common.{sym, ap, ◌∙◌, subst, arith}
 use Rattle.sdd_domain.specs.Collectors.{IsClosing}
-use Rattle.sdd_domain.specs.Local.{LocalModel}
-use Rattle.sdd_domain.specs.LocalState.{LocalState, IsLone}
+use Rattle.sdd_domain_slots.specs.Local.{LocalModel}
+use Rattle.sdd_domain_slots.specs.LocalState.{LocalState, IsLone}
 use Rattle.sdd_domain.proofs.Emptying.{empties_none, goes_on_closing, more_guards}
 use Rattle.sdd_domain.proofs.reclaiming.LocalGiver.empty_other.Goals as goal
 

@@ -2,7 +2,7 @@ use Rattle.std.proofs.Common.{◌≡◌, []}
 use Rattle.sdd_space.specs.KnownEpochs.{KnowsOn}
 use Rattle.sdd_space.specs.ParticipantChanges.{KeepsMoreWaiting}
 use Rattle.sdd_domain.specs.Collectors.{IsClosing}
-use Rattle.sdd_domain.specs.LocalState.{IsLone}
+use Rattle.sdd_domain_slots.specs.LocalState.{IsLone}
 use Rattle.sdd_domain.specs.Reclaiming.{rest_of}
 use Rattle.sdd_domain.specs.Space.{known_of}
 use Rattle.sdd_domain.proofs.reclaiming.LocalGiver.empty_others.Given as goal

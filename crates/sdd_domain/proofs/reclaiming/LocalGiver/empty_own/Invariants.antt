@@ -3,8 +3,8 @@ use Rattle.sdd_space.specs.KnownEpochs.{KnowsOn}
 use Rattle.sdd_space.specs.ParticipantChanges.{KeepsMoreWaiting}
 use Rattle.sdd_space.specs.WorldChanges.{all_reclaimed}
 use Rattle.sdd_domain.specs.Collectors.{AllWaitFor, IsClosing}
-use Rattle.sdd_domain.specs.Local.{world_of}
-use Rattle.sdd_domain.specs.LocalState.{IsLone}
+use Rattle.sdd_domain_slots.specs.Local.{world_of}
+use Rattle.sdd_domain_slots.specs.LocalState.{IsLone}
 use Rattle.sdd_domain.specs.Reclaiming.{rest_of}
 use Rattle.sdd_domain.specs.Space.{known_of}
 use Rattle.sdd_domain.proofs.reclaiming.LocalGiver.empty_own.Given as goal

@@ -1,8 +1,8 @@
 use Rattle.std.proofs.Common.{◌∷◌, [], rules, ap, ◌∙◌}
 use Rattle.sdd_participants.specs.declared.waiting.LimboEntry.{LimboEntry}
-use Rattle.sdd_domain.specs.Local.{LocalModel}
-use Rattle.sdd_domain.specs.LocalState.{LocalState}
-use Rattle.sdd_domain.specs.WaitingItems.{items_in}
+use Rattle.sdd_domain_slots.specs.Local.{LocalModel}
+use Rattle.sdd_domain_slots.specs.LocalState.{LocalState}
+use Rattle.sdd_domain_slots.specs.WaitingItems.{items_in}
 use Rattle.sdd_domain.proofs.CountedGone.{counts_more, items_first}
 use Rattle.sdd_domain.proofs.reclaiming.LocalGiver.reclaim_due.Goals as goal
 

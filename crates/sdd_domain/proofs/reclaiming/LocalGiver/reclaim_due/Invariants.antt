@@ -3,11 +3,11 @@ use Rattle.sdd_space.specs.KnownEpochs.{KnowsOn}
 use Rattle.sdd_space.specs.ParticipantChanges.{KeepsMoreWaiting}
 use Rattle.sdd_space.specs.WorldChanges.{all_reclaimed}
 use Rattle.sdd_participants.specs.Jobs.{jobs_without_all}
-use Rattle.sdd_domain.specs.Local.{world_of}
-use Rattle.sdd_domain.specs.LocalState.{IsLone}
+use Rattle.sdd_domain_slots.specs.Local.{world_of}
+use Rattle.sdd_domain_slots.specs.LocalState.{IsLone}
 use Rattle.sdd_domain.specs.Reclaiming.{rest_of}
 use Rattle.sdd_domain.specs.Space.{known_of}
-use Rattle.sdd_domain.specs.WaitingItems.{items_in}
+use Rattle.sdd_domain_slots.specs.WaitingItems.{items_in}
 use Rattle.sdd_domain.proofs.CountedGone.{CountsSome}
 use Rattle.sdd_domain.proofs.reclaiming.LocalGiver.reclaim_due.Given as goal
 

@@ -4,11 +4,11 @@ use Rattle.sdd_space.specs.WorldChanges.{given_all, reclaimed}
 use Rattle.sdd_word_invariant.specs.Collectors.{private_in}
 use Rattle.sdd_word_invariant.specs.CollectorSteps.{without_private}
 use Rattle.sdd_word_invariant.specs.Sums.{total}
-use Rattle.sdd_domain.specs.Receipt.{with_reclaimed}
-use Rattle.sdd_domain.specs.Local.{LocalModel, world_of}
-use Rattle.sdd_domain.specs.LocalState.{LocalState, IsLone}
+use Rattle.sdd_domain_slots.specs.Receipt.{with_reclaimed}
+use Rattle.sdd_domain_slots.specs.Local.{LocalModel, world_of}
+use Rattle.sdd_domain_slots.specs.LocalState.{LocalState, IsLone}
 use Rattle.sdd_domain.proofs.Going.{loses_none, tied_then, reclaims_one}
-use Rattle.sdd_domain.proofs.PrivateTables.{told_in}
+use Rattle.sdd_domain_slots.proofs.PrivateTables.{told_in}
 use Rattle.sdd_domain.proofs.Sound.{lone_true}
 use Rattle.sdd_domain.proofs.reclaiming.LocalGiver.reclaim_item.Goals as goal
 

@@ -2,9 +2,9 @@ use Rattle.std.proofs.Common.{◌≡◌, ℕ, ◌-◌, ◌≤◌, sym, ap, ◌�
 use Rattle.sdd_participants.specs.declared.participant.Participant.{Participant}
 use Rattle.sdd_participants.specs.declared.tally.Tally.{Tally}
 use Rattle.sdd_core.specs.declared.limits.Limits.{Limits}
-use Rattle.sdd_domain.specs.Local.{LocalModel}
-use Rattle.sdd_domain.specs.LocalState.{LocalState, IsLone}
-use Rattle.sdd_domain.specs.Receipt.{most_counted, with_reclaimed}
+use Rattle.sdd_domain_slots.specs.Local.{LocalModel}
+use Rattle.sdd_domain_slots.specs.LocalState.{LocalState, IsLone}
+use Rattle.sdd_domain_slots.specs.Receipt.{most_counted, with_reclaimed}
 use Rattle.sdd_domain.proofs.Exact.{closed_none}
 use Rattle.sdd_domain.proofs.Guarding.{all_guards, stands, tied_stands}
 use Rattle.sdd_domain.proofs.Tallies.{counted_more}

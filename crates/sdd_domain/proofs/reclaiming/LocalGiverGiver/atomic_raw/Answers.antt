@@ -4,8 +4,8 @@ use Rattle.sdd_rights.specs.declared.right.RawRight.{RawRight}
 use Rattle.sdd_rights.specs.Right.{raw_number_of}
 use Rattle.sdd_space.specs.World.{World}
 use Rattle.sdd_space.specs.WorldChanges.{cell_closed, spilled, without_cell}
-use Rattle.sdd_domain.specs.Local.{LocalModel, world_of}
-use Rattle.sdd_domain.specs.LocalState.{LocalState, IsLone}
+use Rattle.sdd_domain_slots.specs.Local.{LocalModel, world_of}
+use Rattle.sdd_domain_slots.specs.LocalState.{LocalState, IsLone}
 use Rattle.sdd_domain.specs.Space.{is_lone}
 use Rattle.sdd_domain.proofs.CellWorld.{world_freed, held_before}
 use Rattle.sdd_domain.proofs.Exact.{lone_is}

@@ -4,8 +4,8 @@ use Rattle.sdd_rights.specs.Right.{number_of}
 use Rattle.sdd_space.specs.ParticipantChanges.{KeepsMoreWaiting}
 use Rattle.sdd_space.specs.WorldChanges.{owner_given}
 use Rattle.sdd_space.specs.World.{standing_at}
-use Rattle.sdd_domain.specs.Local.{LocalModel, world_of}
-use Rattle.sdd_domain.specs.LocalState.{LocalState}
+use Rattle.sdd_domain_slots.specs.Local.{LocalModel, world_of}
+use Rattle.sdd_domain_slots.specs.LocalState.{LocalState}
 use Rattle.sdd_domain.proofs.Owning.{release_tied, release_world, grows_when, Went}
 use Rattle.sdd_participants.specs.declared.waiting.LimboEntry.TheVariants.{Item}
 use Rattle.sdd_participants.specs.EpochState.{awaiting}

@@ -1,4 +1,4 @@
-use Rattle.sdd_domain.proofs.Housed.{of_domain}
+use Rattle.sdd_domain_slots.proofs.Housed.{of_domain}
 use Rattle.sdd_domain.proofs.space.DomainLook.value.Goals as goal
 
 pub returns-clause-held : goal.returns-clause-held

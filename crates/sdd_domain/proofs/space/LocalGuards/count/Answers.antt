@@ -1,8 +1,8 @@
 use Rattle.std.proofs.Common.{rules, ◌≡◌, sym, ap, ◌∙◌, subst}
 use Rattle.sdd_shared_values.specs.SharedValues.{showing}
-use Rattle.sdd_domain.specs.SpaceIds.{home_in}
-use Rattle.sdd_domain.specs.LocalState.{LocalState, IsLone}
-use Rattle.sdd_domain.specs.Local.{LocalModel, world_of}
+use Rattle.sdd_domain_slots.specs.SpaceIds.{home_in}
+use Rattle.sdd_domain_slots.specs.LocalState.{LocalState, IsLone}
+use Rattle.sdd_domain_slots.specs.Local.{LocalModel, world_of}
 use Rattle.sdd_domain.specs.Sound.{IsSound}
 use Rattle.sdd_domain.proofs.Partners.{same_partner}
 use Rattle.sdd_domain.proofs.Exact.{lone_is}

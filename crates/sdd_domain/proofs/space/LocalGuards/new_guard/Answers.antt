@@ -4,13 +4,13 @@ use Rattle.sdd_participants.specs.declared.participant.Participant.{Participant}
 use Rattle.sdd_participants.specs.EpochState as time
 use Rattle.sdd_core.specs.declared.limits.Limits.{Limits}
 use Rattle.sdd_space.specs.WorldChanges.{opened}
-use Rattle.sdd_domain.specs.SpaceIds.{home_in}
-use Rattle.sdd_domain.specs.LocalState.{LocalState, IsLone, HasOpenGuard, IsEntered}
-use Rattle.sdd_domain.specs.Local.{LocalModel, world_of}
+use Rattle.sdd_domain_slots.specs.SpaceIds.{home_in}
+use Rattle.sdd_domain_slots.specs.LocalState.{LocalState, IsLone, HasOpenGuard, IsEntered}
+use Rattle.sdd_domain_slots.specs.Local.{LocalModel, world_of}
 use Rattle.sdd_domain.specs.Sound.{IsSound}
 use Rattle.sdd_domain.specs.Space.{is_lone}
 use Rattle.sdd_domain.proofs.Partners.{same_partner}
-use Rattle.sdd_domain.proofs.Arrivals.{due_stayed}
+use Rattle.sdd_domain_slots.proofs.Arrivals.{due_stayed}
 use Rattle.sdd_domain.proofs.Exact.{lone_is, guarded_is, opened_same, opened_changed, opened_idle}
 use Rattle.sdd_domain.proofs.Guarding.{goes_on, WasIdle, is_over, stands, tied_stands, found_after, open_after, same_count, nested_sound, nested_exact, nested_keeps, can_nest}
 use Rattle.sdd_domain.proofs.Sound.{sound_opened}
@@ -19,7 +19,7 @@ use Rattle.sdd_domain.proofs.OpeningTallies.{nested_counts, counted_at, counted_
 use Rattle.sdd_space.specs.KnownEpochs.{KnowsFound}
 use Rattle.sdd_space.specs.ParticipantChanges.{all_awaiting}
 use Rattle.sdd_domain.specs.Space.{known_of}
-use Rattle.sdd_domain.specs.WaitingItems.{arrived_at}
+use Rattle.sdd_domain_slots.specs.WaitingItems.{arrived_at}
 use Rattle.sdd_domain.proofs.space.LocalGuards.new_guard.Given.{Over}
 use Rattle.sdd_domain.proofs.space.LocalGuards.new_guard.Goals.{then-goes_on, else-goes_on}
 use Rattle.sdd_domain.proofs.space.LocalGuards.new_guard.Goals as goal

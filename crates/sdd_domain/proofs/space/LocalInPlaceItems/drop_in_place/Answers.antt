@@ -3,8 +3,8 @@ use Rattle.sdd_rights.specs.Right.{kind_of, number_of}
 use Rattle.sdd_shared_values.specs.SharedValues.{showing}
 use Rattle.sdd_standings.specs.Slots.{IsOwnedBy}
 use Rattle.sdd_space.specs.World.{standing_at}
-use Rattle.sdd_domain.specs.Local.{LocalModel, world_of}
-use Rattle.sdd_domain.specs.LocalState.{IsLone}
+use Rattle.sdd_domain_slots.specs.Local.{LocalModel, world_of}
+use Rattle.sdd_domain_slots.specs.LocalState.{IsLone}
 use Rattle.sdd_domain.proofs.Altered.{gone_keeps, gone_others, gone_sound, gone_worlds}
 use Rattle.sdd_domain.proofs.Exact.{lone_is}
 use Rattle.sdd_domain.proofs.space.LocalInPlaceItems.drop_in_place.Goals as goal

@@ -7,11 +7,11 @@ use Rattle.sdd_shared_values.specs.SharedValues.{showing}
 use Rattle.sdd_standings.specs.Slots.{IsOwnedBy}
 use Rattle.sdd_space.specs.OwnerOrCell.{AreOf}
 use Rattle.sdd_space.specs.World.{standing_at}
-use Rattle.sdd_domain.specs.Local.{LocalModel, world_of}
-use Rattle.sdd_domain.specs.LocalState.{HasOpenGuard, IsLone, KnowsOwner, LocalState}
+use Rattle.sdd_domain_slots.specs.Local.{LocalModel, world_of}
+use Rattle.sdd_domain_slots.specs.LocalState.{HasOpenGuard, IsLone, KnowsOwner, LocalState}
 use Rattle.sdd_domain.specs.Sound.{IsSound}
 use Rattle.sdd_domain.specs.Space.{Shows}
-use Rattle.sdd_domain.specs.SpaceIds.{home_in}
+use Rattle.sdd_domain_slots.specs.SpaceIds.{home_in}
 use Rattle.sdd_domain.proofs.Altered.{alone_there, by_either, by_result, change_keeps, change_sound, change_tied, changed_there, hindered_back, hindered_there, lone_before, owned_there, quiet_there, was_there}
 use Rattle.sdd_domain.proofs.Refusals.{back_keeps, back_sound, back_tied, back_world}
 use Rattle.sdd_domain.proofs.space.LocalInPlaceItems.get_mut.Goals as goal

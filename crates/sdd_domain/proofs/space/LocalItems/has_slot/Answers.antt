@@ -1,7 +1,7 @@
 use Rattle.std.proofs.Common.{◌≡◌, IsTrue, sym, ap, ◌∙◌, subst}
 use Rattle.std.specs.Prelude.{◌↔◌}
 use Rattle.sdd_participants.specs.Slab.{IsFull}
-use Rattle.sdd_domain.specs.Local.{LocalModel, world_of}
+use Rattle.sdd_domain_slots.specs.Local.{LocalModel, world_of}
 use Rattle.sdd_domain.specs.Space.{is_lone}
 use Rattle.sdd_domain.proofs.Partners.{same_partner}
 use Rattle.sdd_domain.proofs.Exact.{lone_is}

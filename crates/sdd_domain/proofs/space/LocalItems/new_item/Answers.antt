@@ -2,8 +2,8 @@ use Rattle.std.proofs.Common.{rules, ◌≡◌, ◌⊎◌, sym, ◌∙◌, subst
 use Rattle.sdd_core.specs.declared.refused.Refused.{Refused}
 use Rattle.sdd_domain.proofs.Sound.{sound_made}
 use Rattle.sdd_space.specs.OwnerOrCell.{AreOf}
-use Rattle.sdd_domain.specs.SpaceIds.{home_in}
-use Rattle.sdd_domain.specs.Local.{LocalModel}
+use Rattle.sdd_domain_slots.specs.SpaceIds.{home_in}
+use Rattle.sdd_domain_slots.specs.Local.{LocalModel}
 use Rattle.sdd_domain.specs.Sound.{IsSound}
 use Rattle.sdd_domain.proofs.Makes.{answered_tied, answered_owns, answered_lone, answered_keeps, answered_exact, as_answered, value_owns, value_exact}
 use Rattle.sdd_domain.proofs.space.LocalItems.new_item.Goals as goal

@@ -1,5 +1,5 @@
 use Rattle.std.proofs.Common.{◌≡◌, rules, sym, ◌∙◌}
-use Rattle.sdd_domain.specs.Local.{standing_in}
+use Rattle.sdd_domain_slots.specs.Local.{standing_in}
 use Rattle.sdd_domain.proofs.Listings.{listing_long}
 use Rattle.sdd_domain.proofs.space.LocalItems.slots.Goals as goal
 

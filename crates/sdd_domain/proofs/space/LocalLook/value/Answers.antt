@@ -1,9 +1,9 @@
 use Rattle.std.proofs.Common.{subst, ◌∙◌}
 use Rattle.sdd_space.specs.OwnerOrCell.{SpaceId, AreOf}
-use Rattle.sdd_domain.specs.SpaceIds.{home_in}
-use Rattle.sdd_domain.specs.Local.{LocalModel}
+use Rattle.sdd_domain_slots.specs.SpaceIds.{home_in}
+use Rattle.sdd_domain_slots.specs.Local.{LocalModel}
 use Rattle.sdd_domain.proofs.Partners.{same_partner}
-use Rattle.sdd_domain.proofs.Housed.{of_domain}
+use Rattle.sdd_domain_slots.proofs.Housed.{of_domain}
 use Rattle.sdd_domain.proofs.space.LocalLook.value.Goals as goal
 
 pub returns-clause-held : goal.returns-clause-held

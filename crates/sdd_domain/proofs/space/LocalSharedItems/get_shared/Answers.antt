@@ -1,6 +1,6 @@
 use Rattle.std.proofs.Common.{◌∙◌, subst, sym}
 use Rattle.sdd_shared_values.specs.SharedValues.{showing}
-use Rattle.sdd_domain.specs.Local.{LocalModel}
+use Rattle.sdd_domain_slots.specs.Local.{LocalModel}
 use Rattle.sdd_domain.specs.Sound.{IsSound}
 use Rattle.sdd_domain.proofs.Partners.{same_partner}
 use Rattle.sdd_domain.proofs.Upgraded.{still_known, upgraded_back, upgraded_exact, upgraded_sound, upgraded_tied, upgraded_undisturbed, upgraded_value}

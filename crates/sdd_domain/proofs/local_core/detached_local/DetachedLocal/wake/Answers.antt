@@ -1,7 +1,7 @@
 use Rattle.std.proofs.Common.{rules, ◌≡◌, refl, sym, ap, ◌∙◌}
-use Rattle.sdd_domain.specs.DomainValues.{sizes_in}
-use Rattle.sdd_domain.specs.InBags.{known_waiting}
-use Rattle.sdd_domain.specs.LocalState.{LocalState}
+use Rattle.sdd_domain_slots.specs.DomainValues.{sizes_in}
+use Rattle.sdd_domain_slots.specs.InBags.{known_waiting}
+use Rattle.sdd_domain_slots.specs.LocalState.{LocalState}
 use Rattle.sdd_domain.proofs.Waking.{posed_on, ready_on}
 use Rattle.sdd_domain.proofs.local_core.detached_local.DetachedLocal.wake.Goals as goal
 

@@ -1,6 +1,6 @@
 use Rattle.std.proofs.Common.{◌≡◌, ℕ, Some, ap, ◌∙◌, subst}
 use Rattle.sdd_rights.specs.Right.{number_of}
-use Rattle.sdd_domain.specs.Local.{LocalModel, world_of}
+use Rattle.sdd_domain_slots.specs.Local.{LocalModel, world_of}
 use Rattle.sdd_domain.proofs.Partners.{same_partner}
 use Rattle.sdd_domain.proofs.CellWorld.{full_cell}
 use Rattle.sdd_domain.proofs.Steps.{lone_begun}
@@ -13,6 +13,6 @@ returns-clause-exact g c = λ exact. let v : LocalModel _ _ = (c.self-inside.vie
       subst (λ (q : LocalModel g.row.T.Denot g.row.J.Denot). Rattle.sdd_participants.specs.Slab.entry_at (world_of q).cells cell ≡ Some c.cell.result)
           (inner ∙ c.self.view_is)
           (full_cell v (c.self-inside.invariant lone) cell f.0 f.2.inside (f.2.found lone) (f.2.full lone) ∙ ap Some f.1),
-      ap (λ (y : Rattle.sdd_domain.specs.LocalState.LocalState g.row.J.Denot). world_of {T = g.row.T.Denot} (record { member = y; entries = v.entries }))
+      ap (λ (y : Rattle.sdd_domain_slots.specs.LocalState.LocalState g.row.J.Denot). world_of {T = g.row.T.Denot} (record { member = y; entries = v.entries }))
           c.cell.ensures.same ∙ ap world_of (inner ∙ c.self.view_is),
     )

@@ -5,12 +5,12 @@ use Rattle.sdd_rights.specs.Right.{number_of}
 use Rattle.sdd_standings.specs.Cells.{slot_held}
 use Rattle.sdd_shared_values.specs.SharedValues.{showing}
 use Rattle.sdd_word_invariant.specs.Codes.{held_slots}
-use Rattle.sdd_domain.specs.Local.{LocalModel, contents_of}
+use Rattle.sdd_domain_slots.specs.Local.{LocalModel, contents_of}
 use Rattle.sdd_domain.specs.Sound.{IsSound}
 use Rattle.sdd_domain.proofs.Partners.{same_partner}
 use Rattle.sdd_domain.proofs.CellWorld.{freed_exact, full_exact, sound_written, written_undisturbed}
 use Rattle.sdd_domain.proofs.Steps.{lone_begun}
-use Rattle.sdd_domain.proofs.HeldOwners.{listed_first}
+use Rattle.sdd_domain_slots.proofs.HeldOwners.{listed_first}
 use Rattle.sdd_domain.proofs.space.cells.LocalCells.into_contents.Goals as goal
 
 pub invariant_of-self : goal.invariant_of-self

@@ -1,10 +1,10 @@
 use Rattle.std.proofs.Common.{sym, ap, ◌∙◌, subst, IsTrue}
 use Rattle.sdd_shared_values.specs.SharedValues.{showing}
 use Rattle.sdd_space.specs.OwnerOrCell.{AreOf}
-use Rattle.sdd_domain.specs.Local.{LocalModel}
+use Rattle.sdd_domain_slots.specs.Local.{LocalModel}
 use Rattle.sdd_domain.specs.Sound.{IsSound}
 use Rattle.sdd_domain.specs.Space.{is_lone}
-use Rattle.sdd_domain.specs.SpaceIds.{home_in}
+use Rattle.sdd_domain_slots.specs.SpaceIds.{home_in}
 use Rattle.sdd_domain.proofs.CellMade.{answered_exact, answered_shown, answered_step}
 use Rattle.sdd_domain.proofs.Steps.{step_leaves}
 use Rattle.sdd_domain.proofs.space.cells.LocalCells.new_in_cell.Goals as goal

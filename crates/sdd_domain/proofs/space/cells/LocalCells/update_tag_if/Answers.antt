@@ -2,7 +2,7 @@ use Rattle.std.proofs.Common.{Bool, sym, ◌∙◌, subst}
 use Rattle.sdd_shared_values.specs.SharedValues.{showing}
 use Rattle.sdd_rights.specs.Right.{number_of}
 use Rattle.sdd_space.specs.declared.raw_ptr.RawPtr.{RawPtr}
-use Rattle.sdd_domain.specs.Local.{LocalModel}
+use Rattle.sdd_domain_slots.specs.Local.{LocalModel}
 use Rattle.sdd_domain.specs.Sound.{IsSound}
 use Rattle.sdd_domain.proofs.Partners.{same_partner}
 use Rattle.sdd_domain.proofs.CellAnswers.{retags_exact, retags_step}

@@ -1,7 +1,7 @@
 use Rattle.std.proofs.Common.{ap, ◌∙◌, rules}
 use Rattle.sdd_rights.specs.Right.{raw_number_of}
 use Rattle.sdd_shared_values.specs.SharedValues.{showing}
-use Rattle.sdd_domain.specs.Local.{LocalModel}
+use Rattle.sdd_domain_slots.specs.Local.{LocalModel}
 use Rattle.sdd_domain.specs.Space.{seat_of}
 use Rattle.sdd_domain.proofs.CollectorGiven.{answers, given_exact, given_keeps, given_others, given_own, given_seat, sound_after}
 use Rattle.sdd_domain.proofs.space.collectors.LocalCollectors.close_collector.Goals as goal

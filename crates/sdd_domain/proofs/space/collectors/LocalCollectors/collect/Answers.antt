@@ -2,7 +2,7 @@ use Rattle.std.proofs.Common.{sym, ap, ◌∙◌, subst, rules}
 use Rattle.sdd_rights.specs.Right.{raw_number_of}
 use Rattle.sdd_shared_values.specs.SharedValues.{showing}
 use Rattle.sdd_space.specs.KnownEpochs.{KnowsOn}
-use Rattle.sdd_domain.specs.Local.{LocalModel}
+use Rattle.sdd_domain_slots.specs.Local.{LocalModel}
 use Rattle.sdd_domain.specs.Sound.{IsSound}
 use Rattle.sdd_domain.specs.Space.{known_of, seat_of}
 use Rattle.sdd_domain.proofs.Partners.{same_partner}

@@ -1,7 +1,7 @@
 use Rattle.std.proofs.Common.{sym, ◌∙◌, subst}
 use Rattle.sdd_rights.specs.Right.{raw_number_of}
 use Rattle.sdd_shared_values.specs.SharedValues.{showing}
-use Rattle.sdd_domain.specs.Local.{LocalModel}
+use Rattle.sdd_domain_slots.specs.Local.{LocalModel}
 use Rattle.sdd_domain.specs.Sound.{IsSound}
 use Rattle.sdd_domain.proofs.Partners.{same_partner}
 use Rattle.sdd_domain.proofs.RawCellAnswers.{may_sound, may_undisturbed, updated_may, updated_exact, updated_back}

@@ -1,6 +1,6 @@
 use Rattle.std.proofs.Common.{◌∙◌}
 use Rattle.sdd_rights.specs.Right.{raw_number_of}
-use Rattle.sdd_domain.specs.Local.{LocalModel}
+use Rattle.sdd_domain_slots.specs.Local.{LocalModel}
 use Rattle.sdd_domain.proofs.Partners.{same_partner}
 use Rattle.sdd_domain.proofs.RawCellAnswers.{same_exact}
 use Rattle.sdd_domain.proofs.RawCellWorld.{found_exact}

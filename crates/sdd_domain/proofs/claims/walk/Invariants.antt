@@ -1,9 +1,0 @@
-use Rattle.std.proofs.Common.{ℕ, ◌<◌, ◌≤◌}
-use Rattle.sdd_domain.specs.Claims.{Misses}
-use Rattle.sdd_domain.proofs.claims.walk.Given as goal
-
-abbrev pub invariant-loop-slot : goal.invariant-loop-slot
-invariant-loop-slot l = record {
-  misses : Misses (λ (k : ℕ). (l.from ≤ k) × (k < l.slot)) l.fn.token l.token;
-  left : 0 < l.left;
-}

@@ -1,9 +1,0 @@
-use Rattle.std.proofs.Common.{ℕ, ◌<◌, ◌≤◌}
-use Rattle.sdd_domain.specs.Claims.{Misses}
-use Rattle.sdd_domain.proofs.job_claims.walk.Given as goal
-
-abbrev pub invariant-loop-place : goal.invariant-loop-place
-invariant-loop-place l = record {
-  misses : Misses (λ (k : ℕ). (l.from ≤ k) × (k < l.place)) l.fn.token l.token;
-  left : 0 < l.left;
-}

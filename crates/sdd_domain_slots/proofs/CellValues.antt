@@ -1,0 +1,94 @@
+-- An owner goes into a cell and another one comes out: what is known between the steps, and after them
+use Rattle.std.proofs.Common.{◌≡◌, ℕ, ◌<◌, Bool, [], ◌∷◌, List, None, Some, Option, sym, refl, ap, ◌∙◌, subst, ⊎_elim}
+use base.Stored.{Gv}
+use Rattle.atomic_table.specs.declared.shared.Seat.{Seat}
+use Rattle.sdd_shared_values.specs.SharedValues.{IsValueCode}
+use Rattle.sdd_shared_values.specs.declared.value_fraction.ValueFraction.{ValueFraction}
+use Rattle.sdd_views.specs.declared.ShownValue.{ShownValue}
+use Rattle.sdd_views.specs.declared.View.{View}
+use Rattle.sdd_views.specs.declared.Sizes.{Sizes}
+use Rattle.sdd_views.specs.declared.CellsView.{CellsView}
+use Rattle.sdd_views.specs.Views.{right_to, no_rights}
+use Rattle.sdd_rights.specs.Owner.{cell_kind}
+use Rattle.sdd_word_invariant.specs.Codes.{held_slots}
+use Rattle.sdd_word_invariant.specs.CellSteps.{noting}
+use Rattle.sdd_word_invariant.proofs.Codes.{held_which}
+use Rattle.sdd_domain_invariant.specs.FractionSteps.{SeatState}
+use Rattle.sdd_domain_invariant.specs.FilledInvariant.{HasRecord}
+use Rattle.sdd_domain_invariant.specs.CellSteps.{BringsOut, righted}
+use Rattle.sdd_domain_invariant.proofs.Fillings.{has_none}
+use Rattle.sdd_domain_invariant.proofs.KindSteps.{has_first}
+use Rattle.sdd_atomics.specs.declared.domain_table.DomainTable.{DomainTable}
+use Rattle.sdd_atomics.specs.DomainTable.{sizes_of}
+use Rattle.sdd_domain_slots.specs.declared.cell_values.LooseOwner.{LooseOwner}
+use Rattle.sdd_domain_slots.specs.Cells.{AreLoose, HasHeld, holding, slots_in, told_of}
+use Rattle.sdd_domain_slots.specs.InPlace.{IsBare}
+
+-- the first slot and the first record of a list
+abbrev first_slot : ℕ → List ℕ → ℕ
+first_slot k [] = k
+first_slot k (m ∷ ms) = m
+
+-- what came out of a cell whose word was found is in hand
+module _ (y cell found : ℕ) (shared : Bool) (me me' : SeatState) (brings : BringsOut y shared cell me found me') where
+  pub brought : (told : List ShownValue) × (me' ≡ (holding (held_slots found) told (noting cell y me.0), me.1)) × HasHeld found shared me'.0
+  brought = ⊎_elim
+      (λ (c : (slot : ℕ) × (held_slots found ≡ slot ∷ [])). let slot : ℕ = c.0 in let one = c.1 in let b = brings.1 slot one in let value : Gv = b.0 in
+      let r : ShownValue = record { slot = slot; shared = shared; value = value } in (
+        r ∷ [],
+        b.3 ∙ (λ d. (holding (sym one d) (r ∷ []) (noting cell y me.0), me.1)),
+        record {
+          owns = ap (λ (m : SeatState). m.0.slots.owns) b.3 ∙ sym one;
+          none = λ none. absurd (let no : ◌≡◌ {A = List ℕ} (slot ∷ []) [] = sym one ∙ none in cc);
+          one = λ other is. let same : slot ≡ other = ap (first_slot slot) (sym one ∙ is) in
+              subst (λ (k : ℕ). (v : Gv) × (k < me'.0.sizes.slots) × IsValueCode v
+              × (me'.0.stakes.owns ≡ record { slot = k; shared = shared; value = v } ∷ [])) same (
+                value,
+                subst (λ (m : SeatState). slot < m.0.sizes.slots) (sym b.3) b.1,
+                b.2,
+                ap (λ (m : SeatState). m.0.stakes.owns) b.3,
+              );
+        },
+      ))
+      (λ (none : held_slots found ≡ []). let is = brings.0 none in (
+        [],
+        is ∙ (λ d. (holding (sym none d) [] (noting cell y me.0), me.1)),
+        record {
+          owns = ap (λ (m : SeatState). m.0.slots.owns) is ∙ sym none;
+          none = λ _. ap (λ (m : SeatState). m.0.stakes.owns) is;
+          one = λ slot one. absurd (let no : ◌≡◌ {A = List ℕ} (slot ∷ []) [] = sym one ∙ none in cc);
+        },
+      )) (held_which found)
+
+-- the right that was taken in is the only one that it has
+pub rights_now : (cell : ℕ) (shared : Bool) (s a r : Seat ValueFraction View) → s.me.0.cells ≡ no_rights → a.me ≡ s.me
+    → r.me.0 ≡ righted a.me.0 (right_to cell (cell_kind shared)) → r.me.0.cells.rights ≡ record { cell = cell; kind = cell_kind shared } ∷ []
+rights_now cell shared s a r rights same took = ap (λ (v : View). v.cells.rights) took
+    ∙ ap (λ (c : CellsView). record { cell = cell; kind = cell_kind shared } ∷ c.rights) (ap (λ (m : SeatState). m.0.cells) same ∙ rights)
+
+-- of one that has no owner nothing is put down
+pub held_none : (v : View) → IsBare v → holding [] [] v ≡ v
+held_none v bare = λ d. record v { slots = record v.slots { owns = sym bare.quiet.owns d }; stakes = record v.stakes { owns = sym bare.untold d } }
+
+-- the owner that was taken up, of a domain whose board is this
+module _ (b : DomainTable) (v : View) (knows : v.sizes ≡ sizes_of b) (shared : Bool) where
+  pub has_new : (new : Option LooseOwner) (word : ℕ) → AreLoose b shared new → held_slots word ≡ slots_in new
+      → HasHeld word shared (holding (slots_in new) (told_of shared new) v)
+  has_new None word loose holds = record {
+    owns = sym holds;
+    none = λ _. refl;
+    one = λ slot one. absurd (let no : ◌≡◌ {A = List ℕ} (slot ∷ []) [] = sym one ∙ holds in cc);
+  }
+  has_new (Some o) word loose holds = record {
+    owns = sym holds;
+    none = λ none. absurd (let no : ◌≡◌ {A = List ℕ} (o.slot ∷ []) [] = sym holds ∙ none in cc);
+    one = λ slot one. let same : o.slot ≡ slot = ap (first_slot o.slot) (sym holds ∙ one) in
+        subst (λ (k : ℕ). (g : Gv) × (k < v.sizes.slots) × IsValueCode g
+        × (told_of shared (Some o) ≡ record { slot = k; shared = shared; value = g } ∷ [])) same
+        (o.grip.shown, subst (λ (z : Sizes). o.slot < z.slots) (sym knows) loose.inside, o.grip.full, refl);
+  }
+
+  pub new_kind : (new : Option LooseOwner) (r : ShownValue) → HasRecord (told_of shared new) r → r.shared ≡ shared
+  new_kind None r has = absurd (has_none r [] refl has)
+  new_kind (Some o) r has = let first : ShownValue = record { slot = o.slot; shared = shared; value = o.grip.shown } in
+      ⊎_elim (λ (e : first ≡ r). ap (λ (x : ShownValue). x.shared) (sym e)) (λ (no : HasRecord [] r). absurd (has_none r [] refl no)) (has_first first [] r has)
