@@ -218,48 +218,32 @@ impl<T> WorldSlots<T> {
         self.rights.grant_another(slot)
     }
 
-    /// Lets an owner of this kind go, and tells whether it was the last: then the item waits to be reclaimed.
-    pub fn release(&mut self, right: Right, kind: StandingKind) -> bool
+    /// Lets an owner of this kind go that has others beside it.
+    pub fn release(&mut self, right: Right, kind: StandingKind)
         requires home { home_of right ≡ self.old.home }
         requires kind { kind_of right ≡ kind }
+        requires others { IsTrue (has_others (standing_at self.old (number_of right))) }
         ensures owned { IsOwnedBy (kind_of right) (standing_at self.old (number_of right)) }
-        ensures last { IsTrue result ↔ ¬ (IsTrue (has_others (standing_at self.old (number_of right)))) }
         ensures gone { self.new ≡ with_standing self.old (number_of right) (released_standing (standing_at self.old (number_of right))) }
-    {
-        self.release_to(right, kind, Standing::Retired)
-    }
-
-    /// Lets an owner of this kind go, and tells whether it was the last: then the item waits for the collector of that number.
-    pub fn collect(&mut self, right: Right, kind: StandingKind, collector: u32) -> bool
-        requires home { home_of right ≡ self.old.home }
-        requires kind { kind_of right ≡ kind }
-        ensures owned { IsOwnedBy (kind_of right) (standing_at self.old (number_of right)) }
-        ensures last { IsTrue result ↔ ¬ (IsTrue (has_others (standing_at self.old (number_of right)))) }
-        ensures gone { self.new ≡ with_standing self.old (number_of right)
-            (released_to (Standing.Private collector) (standing_at self.old (number_of right))) }
-    {
-        self.release_to(right, kind, Standing::Private(collector))
-    }
-
-    /// Lets an owner of this kind go, and tells whether it was the last: then the item waits, and stands so.
-    fn release_to(&mut self, right: Right, kind: StandingKind, last: Standing) -> bool
-        requires home { home_of right ≡ self.old.home }
-        requires kind { kind_of right ≡ kind }
-        requires waits { IsWaiting (Some last) }
-        ensures owned { IsOwnedBy (kind_of right) (standing_at self.old (number_of right)) }
-        ensures last { IsTrue result ↔ ¬ (IsTrue (has_others (standing_at self.old (number_of right)))) }
-        ensures gone { self.new ≡ with_standing self.old (number_of right) (released_to last (standing_at self.old (number_of right))) }
     {
         let slot = self.slot_of(&right);
         let owners = self.owners_beside(&right, kind);
         self.rights.redeem(right);
-        if owners > 1 {
-            self.standings.replace(slot, Standing::Shared(owners - 1));
-            return false;
-        }
+        self.standings.replace(slot, Standing::Shared(owners - 1));
+    }
+
+    /// Lets the last owner go: the item waits, and stands so.
+    pub fn retire(&mut self, right: Right, last: Standing)
+        requires home { home_of right ≡ self.old.home }
+        requires alone { ¬ (IsTrue (has_others (standing_at self.old (number_of right)))) }
+        requires waits { IsWaiting (Some last) }
+        ensures owned { IsOwnedBy (kind_of right) (standing_at self.old (number_of right)) }
+        ensures gone { self.new ≡ with_standing self.old (number_of right) (released_to last (standing_at self.old (number_of right))) }
+    {
+        let slot = self.slot_of(&right);
+        self.rights.redeem(right);
         self.standings.replace(slot, last);
         self.rights.set(slot as usize, StandingKind::Retired);
-        true
     }
 
     /// The item of the one owner is out as raw, with nobody's right.
