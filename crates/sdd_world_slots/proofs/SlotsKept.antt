@@ -175,6 +175,11 @@ more-kept s n more is few =
     let sum : 2 ^ 63 - (n + more) ≡ (kept_of s).units - more = omega (arith, units, few) in
     record-kept (sym (ap (λ (x : Kept). x.kind) kept)) sum
 
+-- so many owners at once: the units of all are out
+pub several-kept : (owners : ℕ) → 2 ≤ owners → owners ≤ 2 ^ 62 →
+    kept_of (Some (Shared owners)) ≡ record (granted kind.Shared) { units = (granted kind.Shared).units - (owners - 1) }
+several-kept owners some few = record-kept refl (omega (arith, some, few))
+
 -- so many owners go but one: their units are kept but one
 pub but-one-kept : (s : Option Standing) (n count : ℕ) → s ≡ Some (Shared n) → n ≤ 2 ^ 62 → 1 ≤ count → count ≤ n →
     kept_of (Some (Shared (n - count + 1))) ≡ record (kept_of s) { units = (kept_of s).units + count - 1 }

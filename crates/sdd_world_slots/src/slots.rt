@@ -110,6 +110,30 @@ impl<T> WorldSlots<T> {
         Ok(self.rights.grant(slot, kind))
     }
 
+    /// Puts a value into some free slot for so many owners at once, who share it: the right of one, and those of the others in one piece. Where none is free
+    /// the value comes back.
+    pub fn new_shared(&mut self, value: T, owners: u64) -> Result<(Right, SharedRights), T>
+        requires several { 2 ≤ owners }
+        requires most { owners ≤ 2 ^ 62 }
+        ensures home { IfOk result (λ made. home_of made.0 ≡ self.old.home) }
+        ensures kind { IfOk result (λ made. kind_of made.0 ≡ StandingKind.Shared) }
+        ensures free { IfOk result (λ made. IsEmptyAt self.old.standings (number_of made.0)) }
+        ensures made { MatchResult result
+            (λ made. self.new ≡ with_made self.old (number_of made.0) value (Standing.Shared owners))
+            (λ _. self.new ≡ self.old) }
+        ensures others { IfOk result (λ made. (shares.home_of made.1 ≡ self.old.home) × (shares.number_of made.1 ≡ number_of made.0) ×
+            (shares.count_of made.1 + 1 ≡ owners)) }
+        ensures full { OnErr result (IsFull self.old.standings) }
+        ensures back { IfErr result (λ back. back ≡ value) }
+    {
+        let Ok(slot) = self.standings.claim(Standing::Shared(owners)) else {
+            return Err(value);
+        };
+        self.places.put(slot as usize, value);
+        let right = self.rights.grant(slot, StandingKind::Shared);
+        Ok((right, self.rights.grant_several(slot, owners - 1)))
+    }
+
     /// The slot of an owner, in which its value is.
     pub fn slot_of(&self, right: &Right) -> u32
         requires { home_of right.now ≡ self.now.home }
