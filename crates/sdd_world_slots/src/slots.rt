@@ -405,9 +405,9 @@ impl<T> WorldSlots<T> {
     fn is_waiting(&self, slot: u32) -> bool
         ensures { IsTrue result ↔ IsWaiting (standing_at self.now slot) }
     {
-        matches!(
+        !matches!(
             self.standing(slot),
-            Some(Standing::Retired | Standing::Private(_))
+            None | Some(Standing::Owned | Standing::Raw | Standing::Shared(_))
         )
     }
 
