@@ -22,9 +22,12 @@ ghost use Rattle.sdd_space.specs.Guard.{reader_of};
 ghost use Rattle.sdd_space.specs.OwnerOrCell.{AreOf};
 ghost use Rattle.sdd_values.specs.declared.read_sections.SectionState.TheVariants.{Closed as is_closed};
 
+use crate::domain::Domain;
+use sdd_atomics::words::state_word;
+use sdd_atomics::{DomainSeat, DomainTable, steps};
+use sdd_core::Refused;
 use sdd_domain_slots::changes::arrive;
 use sdd_domain_slots::deferred_jobs::DeferredJobs;
-use crate::domain::Domain;
 use sdd_domain_slots::due_items::{DueItems, count_items};
 use sdd_domain_slots::ended_counts::EndedCounts;
 use sdd_domain_slots::free_slot_hints::FreeSlotHints;
@@ -32,9 +35,6 @@ use sdd_domain_slots::private_table::PrivateTable;
 use sdd_domain_slots::scan::{ScanEnd, scan};
 use sdd_domain_slots::shut::shut;
 use sdd_domain_slots::values::take_value;
-use sdd_atomics::words::state_word;
-use sdd_atomics::{DomainSeat, DomainTable, steps};
-use sdd_core::Refused;
 use sdd_participants::{Bags, Job, LimboEntry, Participant, RunningTally, Tally};
 use sdd_rights::{GhostKeys, WHOLE};
 use sdd_space::inner::{guard_with, part_of_guard};
@@ -450,18 +450,23 @@ impl<'d, T: Item<T>, J: Job> LocalCore<'d, T, J> {
         ensures closed { GuardCloses self.old self.new }
         ensures told { TellsScan result self.old self.new }
     {
-        let board = &self.domain.board;
-        let place = self.place;
         let scans = self.own.countdown == 0;
         is_a_count(self.own.found);
         // No place is marked as ended yet.
         self.own.leave(false);
         let told = if scans {
-            Some(scan(board, &mut self.token, place, self.own.found))
+            let found = self.own.found;
+            Some(scan(&self.domain.board, &mut self.token, self.place, found))
         } else {
             None
         };
-        shut(board, &mut self.token, place, &mut self.tenure, part);
+        shut(
+            &self.domain.board,
+            &mut self.token,
+            self.place,
+            &mut self.tenure,
+            part,
+        );
         told
     }
 

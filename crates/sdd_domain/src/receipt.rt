@@ -6,10 +6,10 @@ ghost use Rattle.sdd_domain_slots.specs.Receipt.{HasLeft, IsSettled, with_reclai
 ghost use Rattle.sdd_domain.specs.Space.{slots_home};
 
 use crate::domain::Domain;
-use sdd_domain_slots::ended_counts::EndedCounts;
 use crate::local_core::detached_local::DetachedLocal;
 use crate::reclaiming::LocalGiver;
 use sdd_atomics::DomainTable;
+use sdd_domain_slots::ended_counts::EndedCounts;
 use sdd_participants::{Idle, Job, Tally};
 use sdd_shared_values::GhostValues;
 use sdd_space::Item;

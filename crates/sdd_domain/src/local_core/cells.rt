@@ -20,13 +20,15 @@ ghost use Rattle.sdd_domain_slots.specs.LocalState.{AddsAt, IsLone, KnowsOwner, 
 ghost use Rattle.sdd_domain_slots.specs.SeenSlots.{IsOnce};
 ghost use Rattle.sdd_domain_slots.specs.SpaceIds.{cells_home, home_in};
 
-use sdd_domain_slots::cell_claims::{claim_with, fill, reserve};
-use sdd_domain_slots::cell_values::{bind, exchange, free, free_bare, loosen, retag, swap, word_for};
-use sdd_domain_slots::cell_words::{contents_in, expected_word, held_slot, holds, tag_in};
 use crate::local_core::LocalCore;
 use crate::local_core::items::is_one_of_several;
 use sdd_atomics::steps::cells::{look_in, recall_cell, see_in};
 use sdd_core::{Refused, Tag};
+use sdd_domain_slots::cell_claims::{claim_with, fill, reserve};
+use sdd_domain_slots::cell_values::{
+    bind, exchange, free, free_bare, loosen, retag, swap, word_for,
+};
+use sdd_domain_slots::cell_words::{contents_in, expected_word, held_slot, holds, tag_in};
 use sdd_participants::{CellContents, Job};
 use sdd_rights::{RawRight, Right, StandingKind};
 use sdd_shared_values::GhostValues;

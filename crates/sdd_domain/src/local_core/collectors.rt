@@ -17,13 +17,13 @@ ghost use Rattle.sdd_domain_slots.specs.Cells.{FreesAt};
 ghost use Rattle.sdd_domain_slots.specs.LocalState.{HasOpenGuard, IsLone, KnowsOwner, LocalState};
 ghost use Rattle.sdd_domain.specs.Collectors.{BeginsClose, ClaimsFirst, EmptiesAt, LosesItem, GoesFirst, IsClosing, OwnerCollected, ends_close};
 
-use sdd_domain_slots::closing_collectors::begin_where_shut;
 use crate::local_core::LocalCore;
 use crate::local_core::cells::MOST_CELLS;
-use sdd_domain_slots::private_items::{claim_back, empty_anothers, empty_own};
 use sdd_atomics::steps::cells::{cut_right, take_in_right};
 use sdd_atomics::steps::collectors::{collect, end_close};
 use sdd_core::Refused;
+use sdd_domain_slots::closing_collectors::begin_where_shut;
+use sdd_domain_slots::private_items::{claim_back, empty_anothers, empty_own};
 use sdd_participants::Job;
 use sdd_rights::{RawRight, Right, StandingKind};
 use sdd_space::Item;

@@ -3,14 +3,14 @@ ghost use Rattle.std.specs.Prelude.{◌≡◌, [], None, MatchResult};
 ghost use Rattle.sdd_domain.specs.Domain.{home_of, book_of};
 ghost use Rattle.sdd_domain_slots.specs.LocalState.{HasOpenGuard};
 
-use sdd_domain_slots::deferred_jobs::DeferredJobs;
 use crate::domain::Domain;
-use sdd_domain_slots::due_items::DueItems;
-use sdd_domain_slots::free_slot_hints::FreeSlotHints;
 use crate::local_core::LocalCore;
-use sdd_domain_slots::private_table::PrivateTable;
 use sdd_atomics::DomainSeat;
 use sdd_core::Limits;
+use sdd_domain_slots::deferred_jobs::DeferredJobs;
+use sdd_domain_slots::due_items::DueItems;
+use sdd_domain_slots::free_slot_hints::FreeSlotHints;
+use sdd_domain_slots::private_table::PrivateTable;
 use sdd_participants::{Job, Participant, RunningTally, Tally};
 use sdd_space::Item;
 use sdd_values::ReadSection;

@@ -10,11 +10,11 @@ ghost use Rattle.sdd_domain_slots.specs.SpaceIds.{home_in};
 ghost use Rattle.sdd_domain_slots.specs.LocalState.{IsLone, KnowsOwner, ChangesAt, DropsAt, GoesBeside, HasOthers, SeesGuard};
 ghost use Rattle.sdd_domain_slots.specs.Items.{slots_home, HasValue, IsRightTo};
 
-use sdd_domain_slots::holding::{change_alone, go_in_place, hold_alone};
 use crate::local_core::LocalCore;
 use crate::local_core::items::is_one_of_several;
 use sdd_atomics::steps::slots::recall;
 use sdd_core::Refused;
+use sdd_domain_slots::holding::{change_alone, go_in_place, hold_alone};
 use sdd_participants::Job;
 use sdd_rights::{Right, StandingKind};
 use sdd_shared_values::GhostValues;

@@ -13,15 +13,15 @@ ghost use Rattle.sdd_domain_slots.specs.Items.{slots_home, HasValue, IsRightTo, 
 ghost use Rattle.sdd_domain_slots.specs.SeenOwners.{HasNoOwner, KnowsStill, OwnsNoMore, ShowsTo};
 ghost use Rattle.sdd_domain_slots.specs.SeenSlots.{IsOnce};
 
-use sdd_domain_slots::cell_values::bind;
-use sdd_domain_slots::claims::{claim_free, finds_free};
 use crate::local_core::LocalCore;
-use sdd_domain_slots::seen_owners::own_seen;
-use sdd_domain_slots::values::{let_one_go, put_value};
 use sdd_atomics::steps::slots::{
     MOST_SHARED, OWNED, SHARED_BY_ONE, add_owner, cut, draw_unit, recall, take_in, watch,
 };
 use sdd_core::{Refused, SlotName};
+use sdd_domain_slots::cell_values::bind;
+use sdd_domain_slots::claims::{claim_free, finds_free};
+use sdd_domain_slots::seen_owners::own_seen;
+use sdd_domain_slots::values::{let_one_go, put_value};
 use sdd_participants::{Job, LimboEntry};
 use sdd_rights::{Right, StandingKind};
 use sdd_shared_values::GhostValues;

@@ -4,10 +4,10 @@ ghost use Rattle.sdd_participants.specs.declared.waiting.LimboEntry.{LimboEntry 
 ghost use Rattle.sdd_participants.specs.declared.waiting.LimboEntry.TheVariants.{Job as waiting_job};
 ghost use Rattle.sdd_domain_slots.specs.LocalState.{AllPlacesTaken, DefersTo, IsLone, TakesJob};
 
-use sdd_domain_slots::job_claims::claim_place;
 use crate::local_core::LocalCore;
 use sdd_atomics::steps::jobs::give_place_back;
 use sdd_core::Refused;
+use sdd_domain_slots::job_claims::claim_place;
 use sdd_participants::{Job, LimboEntry};
 use sdd_space::Item;
 

@@ -12,9 +12,9 @@ ghost use Rattle.sdd_domain_slots.specs.SeenSlots.{IsOnce};
 ghost use Rattle.sdd_domain_slots.specs.RawItems.{put_out as after_put_out, taken_back, IsOut, KnowsRaw};
 
 use crate::local_core::LocalCore;
-use sdd_domain_slots::raw_values::{put_out, take_back};
 use sdd_atomics::steps::raw::{RAW, look_for_raw};
 use sdd_atomics::steps::slots::{recall, take_in};
+use sdd_domain_slots::raw_values::{put_out, take_back};
 use sdd_participants::Job;
 use sdd_rights::{Right, StandingKind};
 use sdd_space::inner::tenure_of;

@@ -9,10 +9,10 @@ ghost use Rattle.sdd_domain_slots.specs.LocalState.{IsLone, pointer_word_of};
 ghost use Rattle.sdd_domain_slots.specs.SpaceIds.{cells_home};
 
 use crate::local_core::LocalCore;
-use sdd_domain_slots::pointer_words::{pointer_in, word_to};
 use sdd_atomics::steps::cells::find_cell;
 use sdd_atomics::steps::pointers::{exchange_pointer, look_at_pointer, swap_pointer};
 use sdd_core::{Refused, Tag};
+use sdd_domain_slots::pointer_words::{pointer_in, word_to};
 use sdd_participants::{Job, RawCellContents};
 use sdd_rights::RawRight;
 use sdd_space::inner::{pointer_of_raw, raw_ptr_of};
