@@ -1,6 +1,8 @@
 -- A value comes into the place of a slot, and leaves it; and what the guards see is shown.
-use Rattle.std.proofs.Common.{◌≡◌, ℕ, zero, suc, ◌+◌, ◌<◌, List, [], ◌∷◌, map, drop, sym, refl, ap, ◌∙◌, subst, inl, arith}
-use Rattle.std.specs.Prelude.{Bool, None}
+use Rattle.std.proofs.Common.{◌≡◌, ℕ, zero, suc, ◌+◌, ◌<◌, List, [], ◌∷◌, map, drop, sym, refl, ap, ◌∙◌, subst, inl, inr, arith}
+use Rattle.std.specs.Prelude.{Bool, MatchBool, None, true, false, ◌≢◌, ◌⊎◌}
+use Rattle.std.proofs.Math.Dec.{eqb}
+use Rattle.std.proofs.lemmas.Bool.Decides.{eqb_tells}
 use mathlib.Core.Option.{some, some-injective, some-ne-none}
 use mathlib.Core.Logic.{dite}
 use lib.ListN.{get_elem?}
@@ -24,7 +26,7 @@ use Rattle.sdd_domain_invariant.specs.FractionSteps.{SeatState, CarriesFirst, Ca
 use Rattle.sdd_domain_invariant.proofs.Tops.{whole, all_after, rest_is}
 use Rattle.atomic_table.specs.declared.shared.Seat.{Seat}
 use Rattle.sdd_atomics.specs.DomainSeat.{Taught, Moved}
-use Rattle.sdd_domain_slots.specs.Claims.{AllOut, Gains}
+use Rattle.sdd_domain_slots.specs.Claims.{AllOut, Gains, IsKnownFree, Misses}
 use Rattle.sdd_domain_slots.specs.BetweenCalls.{CarriesSeenOnly, AreLentTo}
 
 module _ (γ i n k : ℕ) (count : k ≡ n + 1) where
@@ -164,6 +166,28 @@ pub row_out : (γ n slot : ℕ) (me : SeatState) (xs : CarriedFractions) → me.
     → CarriesAll γ slot n 0 IsNoValueCode me.1 xs
 unfolding AllOut
 row_out γ n slot me xs e e' row = subst (λ (t : ℕ × ℕ). CarriesAll t.0 slot t.1 0 IsNoValueCode me.1 xs) (λ d. (e d, e' d)) row
+
+-- a try at a slot without a look before
+pub tried_at_once : (word slot : ℕ) (s u : Seat ValueFraction View) (r : ℕ) → Moved (ClaimsAll slot (free_word 0) word) s r u → slot < s.me.0.sizes.slots →
+    MatchBool (eqb r (free_word 0)) (Gains word slot s u) (Misses (λ k. k ≡ slot) s u)
+unfolding AllOut
+tried_at_once word slot s u r claim inside = by (eqb_tells r (free_word 0)) where
+  P : Bool → Type 0
+  P b = MatchBool b (Gains word slot s u) (Misses (λ k. k ≡ slot) s u)
+  by : ((eqb r (free_word 0) ≡ true) × (r ≡ free_word 0)) ⊎ ((eqb r (free_word 0) ≡ false) × (r ≢ free_word 0)) → P (eqb r (free_word 0))
+  by (inl hit) = let out = claim.2.0 hit.1 in subst P (sym hit.0) (record {
+    table = claim.0;
+    number = claim.1;
+    row = out.1;
+    view = out.0;
+    noted = out.2;
+    inside = inside;
+    free = λ one. sym (claim.2.2 one) ∙ hit.1;
+  })
+  by (inr miss) = let still = claim.2.1 miss.1 in subst P (sym miss.0) (record {
+    same = record { table = claim.0; number = claim.1; others = ap (λ (m : SeatState). m.1) still; view = ap (λ (m : SeatState). m.0) still };
+    taken = λ one k here free. miss.1 (claim.2.2 one ∙ subst (λ j. IsKnownFree s j) here free);
+  })
 
 pub gains : (word slot : ℕ) (s t u : Seat ValueFraction View) (r r' : ℕ) → Taught (LooksAtSlot slot) s r t → Moved (ClaimsAll slot (free_word 0) word) t r' u
     → r' ≡ free_word 0 → slot < s.me.0.sizes.slots → Gains word slot s u

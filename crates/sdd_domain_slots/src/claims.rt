@@ -1,5 +1,5 @@
 //! The search for a free slot.
-ghost use Rattle.std.specs.Prelude.{◌≡◌, ◌⊎◌, ◌<◌, ◌≤◌, ℕ, true, false, None, IfOk, IsTrue, MatchOption, MatchResult};
+ghost use Rattle.std.specs.Prelude.{◌≡◌, ◌⊎◌, ◌<◌, ◌≤◌, ℕ, true, false, None, IfOk, IsTrue, MatchBool, MatchOption, MatchResult};
 ghost use Rattle.sdd_word_invariant.specs.Codes.{alive};
 ghost use Rattle.sdd_word_invariant.specs.Epoch.{HasPlace, IsLone};
 ghost use Rattle.sdd_atomics.specs.DomainTable.{id_of, slots_of};
@@ -10,6 +10,20 @@ use crate::free_slot_hints::FreeSlotHints;
 use sdd_atomics::steps::slots::{FREE, claim, look};
 use sdd_atomics::{DomainSeat, DomainTable};
 use sdd_core::Refused;
+
+/// One try at a slot that was given back, by an exchange at once: it is claimed by this word, of one owner, if it is free.
+#[inline(always)]
+fn claim_at_once(board: &DomainTable, token: &mut DomainSeat, slot: u32, word: u64) -> bool
+    requires home { token.old.table_id ≡ id_of board.now }
+    requires knows { Knows board.now token.old }
+    requires rests { (view token.old).stakes.moves ≡ None }
+    requires inside { slot < slots_of board.now }
+    requires place { HasPlace (epoch token.old) }
+    requires one { alive word ≡ 1 }
+    ensures { MatchBool result (Gains word slot token.old token.new) (Misses (λ k. k ≡ slot) token.old token.new) }
+{
+    claim(board, token, slot, word) == FREE
+}
 
 /// One try at a slot, which is claimed by this word, of one owner, if it is found free. So many exchanges more may be lost.
 fn attempt(
@@ -108,6 +122,7 @@ fn walk(
 }
 
 /// Tries the slots that were given back, and then all slots in a walk, once round. So many exchanges may be lost.
+#[cold]
 #[inline(never)]
 fn search(
     board: &DomainTable,
@@ -190,11 +205,10 @@ pub fn claim_free(
         ⊎ ((e ≡ Refused.Contended) × Loses token.old token.new)) }
     ensures slots { known.new.slots ≡ known.old.slots }
 {
-    let mut left = tries;
     if let Some(slot) = known.pop()
-        && attempt(board, token, slot, word, &mut left)?
+        && claim_at_once(board, token, slot, word)
     {
         return Ok(slot);
     }
-    search(board, token, known, slots, word, left)
+    search(board, token, known, slots, word, tries)
 }

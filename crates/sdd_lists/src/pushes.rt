@@ -127,6 +127,7 @@ fn put_behind<T: LinkedList, S: Items<T> + Cells<T> + LookThrough<T>>(
 
 /// Puts an entry behind the last one that isn't deleted, and was found, or in front of the list where there is none. The deleted entries behind that are
 /// let go of.
+#[inline(always)]
 fn put_last<T: LinkedList, S: Items<T> + Cells<T> + LookThrough<T>>(
     cell: &AtomicShared<T>,
     last: Option<Front<'_, T>>,

@@ -29,7 +29,9 @@ use crate::pushes::{has_room, push_last};
 use crate::unfinished::Unfinished;
 use crate::unpopped::Unpopped;
 use crate::walk::{Walk, walk_in};
-use crate::walks::{Front, count, find_first, find_last, first_ptr_in, shown_in, value_at_front};
+use crate::walks::{
+    Front, count, find_first, find_last, first_in, first_ptr_in, shown_in, value_at_front,
+};
 use sdd_core::Refused;
 use sdd_space::laws::values_fit_slots;
 use sdd_space::{
@@ -88,6 +90,42 @@ impl<T: Item<LinkedEntry<T>>> Queue<T> {
     /// The value comes back.
     #[inline(always)]
     pub fn push<
+        S: Items<LinkedEntry<T>>
+            + Several<LinkedEntry<T>>
+            + Cells<LinkedEntry<T>>
+            + LookThrough<LinkedEntry<T>>,
+    >(&self, value: T, guard: &Guard, s: &mut S) -> Result<Shared<LinkedEntry<T>>, (T, Refused)>
+        requires seated { IsSeated (S.seat s.old) }
+        requires home { AreOfCells (S.seat s.old).home.cells self.now }
+        requires value { AreOf (S.seat s.old).home (T.holds value) }
+        requires reader { reader_of guard.now ≡ (S.seat s.old).reader }
+        ensures unmoved { Unmoved S.seat S.known S.shows s.old s.new }
+        ensures own { KeepsMoreWaiting (S.own s.old) (S.own s.new) }
+        ensures owner { IfOk result (λ owner. slots_home owner ≡ (S.seat s.old).home.slots) }
+        ensures back { IfErr result (λ e. (e.0 ≡ value) × ((e.1 ≡ Refused.NoSlot) ⊎ (e.1 ≡ Refused.NoCell) ⊎ (e.1 ≡ Refused.Contended))) }
+        ensures refused { IsExact (S.seat s.old) → (es : List (Entry (LinkedEntry T))) (second : Option ℕ) →
+            IsQueue link_of (S.world s.old) (cells_in self.now) es second → IfErr result (λ e. (S.world s.new ≡ S.world s.old) ×
+            (IsFull (S.world s.old).standings × (e.1 ≡ Refused.NoSlot) ⊎
+            ¬ (IsFull (S.world s.old).standings) × IsFull (S.world s.old).cells × (e.1 ≡ Refused.NoCell))) }
+        ensures list { IsExact (S.seat s.old) → (es : List (Entry (LinkedEntry T))) (second : Option ℕ) →
+            IsQueue link_of (S.world s.old) (cells_in self.now) es second →
+            IfOk result (λ owner. PushesBehind (S.world s.old) (S.seat s.old).place (cells_in self.now) es second value owner (S.world s.new)) }
+        ensures values { IsExact (S.seat s.old) → (vs : List T) → QueueHas (S.world s.old) self.now vs → MatchResult result
+            (λ _. QueueHas (S.world s.new) self.now (vs ++ value ∷ []))
+            (λ _. S.world s.new ≡ S.world s.old) }
+    {
+        let first = first_in(&self.oldest, guard, s);
+        if first.is_some() {
+            return self.push_behind_last(value, guard, s);
+        }
+        self.push_behind(first, value, guard, s)
+    }
+
+    /// The same by a search for the last entry that isn't deleted.
+    ///
+    /// Refused as `push` is.
+    #[inline(never)]
+    fn push_behind_last<
         S: Items<LinkedEntry<T>>
             + Several<LinkedEntry<T>>
             + Cells<LinkedEntry<T>>

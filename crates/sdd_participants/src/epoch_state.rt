@@ -410,12 +410,12 @@ impl EpochState {
         requires open { (place_at self.old place).guards ≡ 1 }
         ensures { self.new ≡ closed self.old place }
     {
-        let marked = self.marked;
         if self.places[place].countdown == 0 {
+            let marked = self.marked;
             self.scan(place);
             self.rest(place, marked);
         } else {
-            self.rest(place, marked);
+            self.rest(place, self.marked);
         }
     }
 

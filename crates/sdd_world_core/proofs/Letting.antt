@@ -43,14 +43,13 @@ found-out (Some (privately d)) f = elim f [ ]
 found-out (Some Owned) f = refl
 found-out (Some (Shared n)) f = refl
 
--- what a test that answered tells of others
-pub none-else : (r b : Bool) → (IsTrue r ↔ ¬ (IsTrue b)) → IsTrue r → b ≡ false
-none-else r true e h = absurd (e.0 h refl)
-none-else r false e h = refl
+-- what a test for others that answered tells of them
+pub some-else : (r b : Bool) → (IsTrue r ↔ IsTrue b) → IsTrue r → b ≡ true
+some-else r b e h = e.0 h
 
-pub some-else : (r b : Bool) → (IsTrue r ↔ ¬ (IsTrue b)) → r ≡ false → b ≡ true
-some-else r true e h = refl
-some-else r false e h = let never : false ≡ true = sym h ∙ e.1 (λ x. let z : false ≡ true = x in absurd (cc)) in absurd (cc)
+pub none-else : (r b : Bool) → (IsTrue r ↔ IsTrue b) → r ≡ false → b ≡ false
+none-else r true e h = let never : false ≡ true = sym h ∙ e.1 refl in absurd (cc)
+none-else r false e h = refl
 
 -- a place that isn't free
 pub taken-place : (t : EpochState) (p : ℕ) → p < length t.places → IsSome (phase_at t p) → IsTaken t p
@@ -69,13 +68,22 @@ module _ {T : Type 0} (w : World T) (p c k : ℕ) where
   collect-last (Some (Shared n)) (several _) last = rw last refl
 
   -- another one goes
-  collect-other : (s : Option Standing) → Found s → has_others s ≡ true → with_standing w k (released_to (privately c) s) ≡ owner_collected w p c k s
+  collect-other : (s : Option Standing) → Found s → has_others s ≡ true → with_standing w k (released_standing s) ≡ owner_collected w p c k s
   collect-other None f h = elim f [ ]
   collect-other (Some Raw) f h = elim f [ ]
   collect-other (Some Retired) f h = elim f [ ]
   collect-other (Some (privately d)) f h = elim f [ ]
   collect-other (Some Owned) sole others = absurd (cc)
   collect-other (Some (Shared n)) (several _) others = rw others refl
+
+  -- for whomever the last one is collected
+  fewer-collected : (s : Option Standing) → Found s → has_others s ≡ true → with_standing w k (released_to (privately c) s) ≡ with_standing w k (released_standing s)
+  fewer-collected None f h = elim f [ ]
+  fewer-collected (Some Raw) f h = elim f [ ]
+  fewer-collected (Some Retired) f h = elim f [ ]
+  fewer-collected (Some (privately d)) f h = elim f [ ]
+  fewer-collected (Some Owned) sole others = absurd (cc)
+  fewer-collected (Some (Shared n)) (several _) others = rw others refl
 
   last-collected : (s : Option Standing) → Found s → has_others s ≡ false → owner_collected w p c k s ≡ collected w p c k
   last-collected None f h = elim f [ ]
@@ -98,13 +106,20 @@ module _ {T : Type 0} (w : World T) (p c k : ℕ) where
     out : is_out (standing_at w k) ≡ true
     out = ap is_out is ∙ found-out s f
 
+    -- what is made of the world is the same
+    pub gone-fewer : {X : Type 0} (made : World T → X) → has_others s ≡ true → made (with_standing w k (released_standing s)) ≡ made (owner_collected w p c k s)
+    gone-fewer made others = ap made (collect-other s f others)
+
+    pub waits-fewer : has_others s ≡ true → with_standing w k (released_to (privately c) s) ≡ with_standing w k (released_standing s)
+    waits-fewer others = fewer-collected s f others
+
     pub whole-collected : has_others s ≡ false → IsWhole w →
         IsWhole (record w { time = time.awaiting_at w.time p (Item k); standings = with_entry w.standings k (released_to (privately c) s) })
     whole-collected last i =
         subst (λ (u : World T). IsWhole u) (sym (collect-last s f last ∙ last-collected s f last))
         (Whole-waits w p k (privately c) refl (live-taken w.time p there) out i)
 
-    pub whole-fewer : has_others s ≡ true → IsWhole w → IsWhole (with_standing w k (released_to (privately c) s))
+    pub whole-fewer : has_others s ≡ true → IsWhole w → IsWhole (with_standing w k (released_standing s))
     whole-fewer others i =
         subst (λ (u : World T). IsWhole u) (sym (collect-other s f others ∙ other-given s f others))
         (Whole-owner_given w p k (live-taken w.time p there) s is i)
@@ -116,7 +131,7 @@ module _ {T : Type 0} (w : World T) (p c k : ℕ) where
           subst (λ (u : World T). AreLentOf u l) (sym (collect-last s f last ∙ last-collected s f last))
           (lent-waiting holds w l p k (privately c) refl there.0 out i)
 
-      pub lent-fewer : has_others s ≡ true → AreLentOf (with_standing w k (released_to (privately c) s)) l
+      pub lent-fewer : has_others s ≡ true → AreLentOf (with_standing w k (released_standing s)) l
       lent-fewer others =
           subst (λ (u : World T). AreLentOf u l) (sym (collect-other s f others ∙ other-given s f others))
           (lent-owner_given holds w l p k there.0 s is i)

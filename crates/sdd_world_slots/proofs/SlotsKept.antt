@@ -4,6 +4,7 @@ use Rattle.std.specs.Prelude.{map, is_some, IsSome, IsNone, IsTrue, All, unwrap_
 use Rattle.std.proofs.Math.ListN.{get_or-map, length-set, replicate}
 use Rattle.std.proofs.Math.Seq.{map-set_same}
 use Rattle.std.proofs.lemmas.List.{map-set, get_or_read, length-map, length-replicate}
+use Rattle.std.proofs.lemmas.Bool.{ltb-true}
 use Rattle.sdd_rights.specs.Units.{GhostName}
 use Rattle.sdd_rights.specs.StandingKind.{IsOwner, right_units}
 use Rattle.sdd_rights.specs.RightsAuthority.{Kept, whole, granted}
@@ -12,7 +13,7 @@ use Rattle.sdd_rights.specs.declared.right.StandingKind.TheVariants as kind
 use Rattle.sdd_participants.specs.Slab.{Entries}
 use Rattle.sdd_participants.specs.declared.standing.Standing.{Standing}
 use Rattle.sdd_participants.specs.declared.standing.Standing.TheVariants.{Owned, Raw, Shared, Retired, Private}
-use Rattle.sdd_standings.specs.Slots.{SlotsMatch, IsWaiting, is_waiting, IsBounded, IsSharedBy, IsOwnedBy, kept_of, first_standing, owners_of}
+use Rattle.sdd_standings.specs.Slots.{SlotsMatch, IsWaiting, is_waiting, IsBounded, IsSharedBy, IsOwnedBy, kept_of, first_standing, has_others, owners_of}
 
 -- each of the same, mapped
 pub map-replicate : {X Y : Type 0} (f : X → Y) (n : ℕ) (x : X) → map f (replicate n x) ≡ replicate n (f x)
@@ -121,6 +122,15 @@ more-owners (Some (Shared n)) h = refl
 more-owners (Some Retired) h = absurd (omega (arith, h))
 more-owners (Some (Private n)) h = absurd (omega (arith, h))
 
+-- where others own it too there are two owners at least
+pub others-more : (s : Option Standing) → IsTrue (has_others s) → 1 < owners-or-one s
+others-more None h = absurd (cc)
+others-more (Some Owned) h = absurd (cc)
+others-more (Some Raw) h = absurd (cc)
+others-more (Some (Shared n)) h = ltb-true 1 n h
+others-more (Some Retired) h = absurd (cc)
+others-more (Some (Private n)) h = absurd (cc)
+
 -- the owner of an item that others own too is one of several
 units-of-one : (of : StandingKind) → kind.Shared ≡ of → right_units of ≡ 1
 units-of-one of e = ap right_units (sym e)
@@ -164,6 +174,11 @@ more-kept s n more is few =
     let units : (kept_of s).units ≡ 2 ^ 63 - n = ap (λ (x : Kept). x.units) kept in
     let sum : 2 ^ 63 - (n + more) ≡ (kept_of s).units - more = omega (arith, units, few) in
     record-kept (sym (ap (λ (x : Kept). x.kind) kept)) sum
+
+-- so many owners at once: the units of all are out
+pub several-kept : (owners : ℕ) → 2 ≤ owners → owners ≤ 2 ^ 62 →
+    kept_of (Some (Shared owners)) ≡ record (granted kind.Shared) { units = (granted kind.Shared).units - (owners - 1) }
+several-kept owners some few = record-kept refl (omega (arith, some, few))
 
 -- so many owners go but one: their units are kept but one
 pub but-one-kept : (s : Option Standing) (n count : ℕ) → s ≡ Some (Shared n) → n ≤ 2 ^ 62 → 1 ≤ count → count ≤ n →

@@ -110,6 +110,30 @@ impl<T> WorldSlots<T> {
         Ok(self.rights.grant(slot, kind))
     }
 
+    /// Puts a value into some free slot for so many owners at once, who share it: the right of one, and those of the others in one piece. Where none is free
+    /// the value comes back.
+    pub fn new_shared(&mut self, value: T, owners: u64) -> Result<(Right, SharedRights), T>
+        requires several { 2 ≤ owners }
+        requires most { owners ≤ 2 ^ 62 }
+        ensures home { IfOk result (λ made. home_of made.0 ≡ self.old.home) }
+        ensures kind { IfOk result (λ made. kind_of made.0 ≡ StandingKind.Shared) }
+        ensures free { IfOk result (λ made. IsEmptyAt self.old.standings (number_of made.0)) }
+        ensures made { MatchResult result
+            (λ made. self.new ≡ with_made self.old (number_of made.0) value (Standing.Shared owners))
+            (λ _. self.new ≡ self.old) }
+        ensures others { IfOk result (λ made. (shares.home_of made.1 ≡ self.old.home) × (shares.number_of made.1 ≡ number_of made.0) ×
+            (shares.count_of made.1 + 1 ≡ owners)) }
+        ensures full { OnErr result (IsFull self.old.standings) }
+        ensures back { IfErr result (λ back. back ≡ value) }
+    {
+        let Ok(slot) = self.standings.claim(Standing::Shared(owners)) else {
+            return Err(value);
+        };
+        self.places.put(slot as usize, value);
+        let right = self.rights.grant(slot, StandingKind::Shared);
+        Ok((right, self.rights.grant_several(slot, owners - 1)))
+    }
+
     /// The slot of an owner, in which its value is.
     pub fn slot_of(&self, right: &Right) -> u32
         requires { home_of right.now ≡ self.now.home }
@@ -218,48 +242,32 @@ impl<T> WorldSlots<T> {
         self.rights.grant_another(slot)
     }
 
-    /// Lets an owner of this kind go, and tells whether it was the last: then the item waits to be reclaimed.
-    pub fn release(&mut self, right: Right, kind: StandingKind) -> bool
+    /// Lets an owner of this kind go that has others beside it.
+    pub fn release(&mut self, right: Right, kind: StandingKind)
         requires home { home_of right ≡ self.old.home }
         requires kind { kind_of right ≡ kind }
+        requires others { IsTrue (has_others (standing_at self.old (number_of right))) }
         ensures owned { IsOwnedBy (kind_of right) (standing_at self.old (number_of right)) }
-        ensures last { IsTrue result ↔ ¬ (IsTrue (has_others (standing_at self.old (number_of right)))) }
         ensures gone { self.new ≡ with_standing self.old (number_of right) (released_standing (standing_at self.old (number_of right))) }
-    {
-        self.release_to(right, kind, Standing::Retired)
-    }
-
-    /// Lets an owner of this kind go, and tells whether it was the last: then the item waits for the collector of that number.
-    pub fn collect(&mut self, right: Right, kind: StandingKind, collector: u32) -> bool
-        requires home { home_of right ≡ self.old.home }
-        requires kind { kind_of right ≡ kind }
-        ensures owned { IsOwnedBy (kind_of right) (standing_at self.old (number_of right)) }
-        ensures last { IsTrue result ↔ ¬ (IsTrue (has_others (standing_at self.old (number_of right)))) }
-        ensures gone { self.new ≡ with_standing self.old (number_of right)
-            (released_to (Standing.Private collector) (standing_at self.old (number_of right))) }
-    {
-        self.release_to(right, kind, Standing::Private(collector))
-    }
-
-    /// Lets an owner of this kind go, and tells whether it was the last: then the item waits, and stands so.
-    fn release_to(&mut self, right: Right, kind: StandingKind, last: Standing) -> bool
-        requires home { home_of right ≡ self.old.home }
-        requires kind { kind_of right ≡ kind }
-        requires waits { IsWaiting (Some last) }
-        ensures owned { IsOwnedBy (kind_of right) (standing_at self.old (number_of right)) }
-        ensures last { IsTrue result ↔ ¬ (IsTrue (has_others (standing_at self.old (number_of right)))) }
-        ensures gone { self.new ≡ with_standing self.old (number_of right) (released_to last (standing_at self.old (number_of right))) }
     {
         let slot = self.slot_of(&right);
         let owners = self.owners_beside(&right, kind);
         self.rights.redeem(right);
-        if owners > 1 {
-            self.standings.replace(slot, Standing::Shared(owners - 1));
-            return false;
-        }
+        self.standings.replace(slot, Standing::Shared(owners - 1));
+    }
+
+    /// Lets the last owner go: the item waits, and stands so.
+    pub fn retire(&mut self, right: Right, last: Standing)
+        requires home { home_of right ≡ self.old.home }
+        requires alone { ¬ (IsTrue (has_others (standing_at self.old (number_of right)))) }
+        requires waits { IsWaiting (Some last) }
+        ensures owned { IsOwnedBy (kind_of right) (standing_at self.old (number_of right)) }
+        ensures gone { self.new ≡ with_standing self.old (number_of right) (released_to last (standing_at self.old (number_of right))) }
+    {
+        let slot = self.slot_of(&right);
+        self.rights.redeem(right);
         self.standings.replace(slot, last);
         self.rights.set(slot as usize, StandingKind::Retired);
-        true
     }
 
     /// The item of the one owner is out as raw, with nobody's right.

@@ -39,12 +39,14 @@ impl<T: Item<T>, J: Job> WorldCore<T, J> {
         ensures whole { IsWhole self.old.world → IsWhole self.new.world }
         ensures lent { IsWhole self.old.world → AreLent self.old → AreLent self.new }
     {
-        let slot = right.name();
-        let is_last = self.slots.collect(right, kind, collector);
-        if is_last {
-            self.time.wait(place, LimboEntry::Item(slot));
+        if self.slots.has_others(&right, kind) {
+            self.slots.release(right, kind);
+            return false;
         }
-        is_last
+        let slot = right.name();
+        self.slots.retire(right, Standing::Private(collector));
+        self.time.wait(place, LimboEntry::Item(slot));
+        true
     }
 
     /// A collector's cell is free, and what waits for the collector is reclaimed, where no guard is open. An empty bag is lent.

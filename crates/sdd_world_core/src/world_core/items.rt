@@ -88,11 +88,9 @@ impl<T: Item<T>, J: Job> WorldCore<T, J> {
         ensures lent { IsWhole self.old.world → AreLent self.old → AreLent self.new }
         ensures keeps { IsWhole self.old.world → (k : ℕ) (v : T) → value_at self.old.world k ≡ Some v → value_at self.new.world k ≡ Some v }
     {
-        let right = self.new_item(value, StandingKind::Shared)?;
-        match self.add_owners(&right, owners - 1) {
-            Ok(others) => Ok((right, others)),
-            Err(_) => unreachable!(),
-        }
+        let made = self.slots.new_shared(value, owners)?;
+        self.tally.count_made();
+        Ok(made)
     }
 
     /// The value of an owner's item.

@@ -120,12 +120,14 @@ impl<T: Item<T>, J: Job> WorldCore<T, J> {
         ensures whole { IsSome (time.phase_at self.old.world.time place) → IsWhole self.old.world → IsWhole self.new.world }
         ensures lent { AreLent self.old → AreLent self.new }
     {
-        let slot = right.name();
-        let is_last = self.slots.release(right, kind);
-        if is_last {
-            self.time.wait(place, LimboEntry::Item(slot));
+        if self.slots.has_others(&right, kind) {
+            self.slots.release(right, kind);
+            return false;
         }
-        is_last
+        let slot = right.name();
+        self.slots.retire(right, Standing::Retired);
+        self.time.wait(place, LimboEntry::Item(slot));
+        true
     }
 
     /// The item of an owner of this kind waits at some place that isn't free, if it was the last.
