@@ -219,7 +219,7 @@ impl<'d, T: Item<T>, J: Job> LocalCore<'d, T, J> {
     ///
     /// All memory is taken here, and none later: for what may wait with it, for the slots that it gave back, as many as there are slots, and for the
     /// jobs that it defers, as many as the table of jobs has places. `NoPlace` where all places were found taken; `NoMemory` where this memory was refused.
-    #[tactic(auto, using(crate::proofs::Moving::no_purse, crate::proofs::Moving::none_lent))]
+    #[tactic(auto, using(sdd_domain_slots::proofs::Moving::no_purse, sdd_domain_slots::proofs::Moving::none_lent))]
     pub fn register(domain: &'d Domain<T>) -> Result<LocalCore<'d, T, J>, Refused>
         ensures registered { IfOk result (IsNew (home_of domain.now) (book_of domain.now) (limits_of domain.now)) }
         ensures refused { IfErr result (λ e. (e ≡ Refused.NoPlace) ⊎ (e ≡ Refused.NoMemory)) }
