@@ -34,6 +34,26 @@ pub trait Bags: LookThrough<Entry>
 
 impl Bags for Turn<'_, Entry> {}
 
+/// Pushes a number into a bag.
+#[inline(always)]
+fn push_into<S: Bags>(
+    space: &mut S,
+    bag: &mut Numbers,
+    guard: &Guard,
+    value: u64,
+) -> Result<(), Refused>
+    requires may { MayCall (S.seat space.old) }
+    requires there { IsThere (λ b. Some b) 32 (S.seat space.old) (S.world space.old) bag.old }
+    requires reader { reader_of guard.now ≡ (S.seat space.old).reader }
+    ensures seat { S.seat space.new ≡ S.seat space.old }
+    ensures there { IsThere (λ b. Some b) 32 (S.seat space.new) (S.world space.new) bag.new }
+{
+    match bag.push(value, guard, space) {
+        Ok(()) => Ok(()),
+        Err((_value, refused)) => Err(refused),
+    }
+}
+
 /// Pushes a number into a bag, and pops one.
 #[inline(always)]
 fn through_bag<S: Bags>(
@@ -97,9 +117,9 @@ fn fill<S: Bags>(
     ensures there { IsThere (λ b. Some b) 32 (S.seat space.new) (S.world space.new) bag.new }
 {
     for number in 0..numbers {
-        match bag.push(number, guard, space) {
+        match push_into(space, bag, guard, number) {
             Ok(()) => {}
-            Err((_value, refused)) => return Err(refused),
+            Err(refused) => return Err(refused),
         }
     }
     Ok(())
