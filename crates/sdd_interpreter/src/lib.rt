@@ -1,0 +1,17 @@
+//! A script in the middle of a run: what it has in hand by its names, participants, guards, owners, cells and items, and the world that it plays on; and what
+//! a participant of it does at its place of that world, when it is its [turn](turns).
+#![tactic(auto)]
+
+pub mod holding;
+pub mod interpreter;
+pub mod items;
+pub mod jobs;
+pub mod name_table;
+pub mod owners;
+pub mod participants;
+pub mod turns;
+
+pub use holding::{AnyCell, AnyOwner, CellOwner};
+pub use interpreter::{Environment, Interpreter};
+pub use name_table::NameTable;
+pub use participants::{NamedGuard, NamedParticipant};
