@@ -35,8 +35,7 @@ fn numbered(letter: char, word: &str) -> Option<u64>
 
 #[tactic(auto, using(crate::proofs::Lines::one_argument))]
 fn argument(word: &str) -> Option<Argument>
-    ensures is { result ≡ argument_at word.now }
-    ensures sound { IfSome result (λ argument. HasNumber argument × (word_of argument ≡ word.now)) }
+    ensures { result ≡ argument_at word.now }
 {
     match word {
         "none" => Some(Argument::Owner(None)),
@@ -58,8 +57,7 @@ fn argument(word: &str) -> Option<Argument>
 /// A number by itself, or behind a letter that says what it names.
 #[tactic(auto, using(crate::proofs::Lines::one_argument))]
 fn numbered_argument(word: &str) -> Option<Argument>
-    ensures is { result ≡ numbered_argument_at word.now }
-    ensures sound { IfSome result (λ argument. HasNumber argument × (word_of argument ≡ word.now)) }
+    ensures { result ≡ numbered_argument_at word.now }
 {
     match word.as_bytes() {
         [b'g', ..] => Some(Argument::Guard(GuardName(numbered('g', word)?))),
