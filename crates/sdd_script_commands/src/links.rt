@@ -1,16 +1,17 @@
 //! What participants do with the links of entries.
-#![tactic(auto, using(sdd_interpreter::proofs::Taken::in_hand))]
+#![tactic(auto, using(sdd_script_names::proofs::Taken::in_hand))]
 
 ghost use Rattle.sdd_script_commands.specs.ItemLines.{changing};
 ghost use Rattle.sdd_script_model.specs.Script.{Acts};
 
-use sdd_interpreter::Interpreter;
-use sdd_interpreter::items::slot_since;
-use sdd_interpreter::participants::under_any;
-use sdd_interpreter::turns::items::value_shown;
-use sdd_interpreter::turns::links::{link_changed, link_tag_of};
 use sdd_script_model::LinkChange;
+use sdd_script_names::Interpreter;
+use sdd_script_names::items::slot_since;
+use sdd_script_names::participants::under_any;
 use sdd_script_text::{Action, Call, ItemName, PlaceName, Reply};
+use sdd_space_commands::links::{ChangeLink, ReadLinkTag};
+use sdd_space_commands::turns::cell_step_at;
+use sdd_space_commands::turns::items::value_shown;
 
 /// `P mark I`, `P unmark I`, `P delete I`: an entry's link changes its tag, if it may, and whether it did is told.
 pub fn change_link(
@@ -40,7 +41,7 @@ pub fn change_link(
     };
     let place = &attending.place;
     let entry = value_shown(&mut stage.hand.world, place, &held.guard, slot);
-    Reply::Truth(link_changed(&mut stage.hand.world, place, entry, change))
+    Reply::Truth(cell_step_at(&mut stage.hand.world, place, ChangeLink { entry, change }))
 }
 
 /// `P linktag I`: the tag of an entry's link.
@@ -66,5 +67,5 @@ pub fn link_tag(stage: &mut Interpreter, name: PlaceName, item: ItemName) -> Rep
     };
     let place = &attending.place;
     let entry = value_shown(&mut stage.hand.world, place, &held.guard, slot);
-    Reply::Tag(link_tag_of(&mut stage.hand.world, place, entry))
+    Reply::Tag(cell_step_at(&mut stage.hand.world, place, ReadLinkTag { entry }))
 }

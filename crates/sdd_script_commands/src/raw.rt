@@ -1,17 +1,18 @@
 //! What participants do with items in their place, and with those that are out as raw.
-#![tactic(auto, using(sdd_interpreter::proofs::Taken::in_hand))]
+#![tactic(auto, using(sdd_script_names::proofs::Taken::in_hand))]
 
 ghost use Rattle.std.specs.Prelude.{◌≡◌, Some, MatchResult};
 ghost use Rattle.sdd_script_model.specs.Script.{Acts};
 
 use sdd_core::Refused;
-use sdd_interpreter::Interpreter;
-use sdd_interpreter::holding::{AnyOwner, slot_of_sole};
-use sdd_interpreter::items::{date_if_waiting, is_number, slot_given, slot_since, told};
-use sdd_interpreter::owners::{take_sole, value_of};
-use sdd_interpreter::participants::under;
-use sdd_interpreter::turns::raw::{come_back, drop_at, go_raw, put_number, raw_seen};
+use sdd_script_names::Interpreter;
+use sdd_script_names::items::{date_if_waiting, is_number, slot_given, slot_since, told};
+use sdd_script_names::owners::{take_sole, value_of};
+use sdd_script_names::participants::under;
 use sdd_script_text::{Action, Call, GuardName, ItemName, OwnerName, PlaceName, Reply};
+use sdd_space_commands::holding::{AnyOwner, slot_of_sole};
+use sdd_space_commands::raw::{ComeBack, DropOwner, GoRaw, PutNumber, SeeRaw};
+use sdd_space_commands::turns::step_at;
 use std::alloc::AllocError;
 
 /// `P put O n`: the number that an owner's item holds becomes this one, in its place. `NotAlone` and `GuardOpen` are replies.
@@ -31,7 +32,14 @@ pub fn put(stage: &mut Interpreter, name: PlaceName, owner: OwnerName, number: u
     let Some(held) = stage.hand.owners.take(owner.0) else {
         unreachable!()
     };
-    let (held, put) = put_number(&mut stage.hand.world, &attending.place, held, number);
+    let (held, put) = step_at(
+        &mut stage.hand.world,
+        &attending.place,
+        PutNumber {
+            owner: held,
+            number,
+        },
+    );
     stage.hand.owners.put_back(owner.0, held);
     if let Err(refused) = put {
         return Reply::Refused(refused);
@@ -52,7 +60,7 @@ pub fn drop_owner(stage: &mut Interpreter, name: PlaceName, owner: OwnerName) ->
     stage.hand.world.is_whole();
     let given = slot_given(value_of(&held, &stage.hand.world));
     let place = &attending.place;
-    let reply = match drop_at(&mut stage.hand.world, place, held) {
+    let reply = match step_at(&mut stage.hand.world, place, DropOwner { owner: held }) {
         Ok(reply) => reply,
         Err((held, refused)) => {
             stage.hand.owners.put_back(owner.0, held);
@@ -76,7 +84,7 @@ pub fn put_out_raw(stage: &mut Interpreter, name: PlaceName, owner: OwnerName) -
     };
     stage.hand.world.is_whole();
     let slot = slot_of_sole(&owner);
-    go_raw(&mut stage.hand.world, &attending.place, owner);
+    step_at(&mut stage.hand.world, &attending.place, GoRaw { owner });
     Reply::Raw(ItemName(stage.hand.names[slot as usize]))
 }
 
@@ -99,7 +107,7 @@ pub fn take_back_raw(
     let Some(slot) = slot_since(&stage.hand.world, slots, names, dates, item, 0) else {
         return Ok(Reply::Invalid);
     };
-    match come_back(&mut stage.hand.world, &attending.place, slot) {
+    match step_at(&mut stage.hand.world, &attending.place, ComeBack { slot }) {
         Some(owner) => {
             let name = stage.hand.owners.give(AnyOwner::Sole(owner));
             Ok(Reply::Owner(OwnerName(name)))
@@ -124,7 +132,7 @@ pub fn see(stage: &mut Interpreter, name: PlaceName, item: ItemName, guard: Guar
     };
     let guard = &held.guard;
     let place = &attending.place;
-    let Some(value) = raw_seen(&mut stage.hand.world, place, slot, guard) else {
+    let Some(value) = step_at(&mut stage.hand.world, place, SeeRaw { slot, guard }) else {
         return Reply::Nothing;
     };
     told(value, names)

@@ -1,9 +1,9 @@
 use Rattle.std.proofs.Common.{slice_index_or, ap, ◌∙◌}
 use Rattle.sdd_script_text.specs.declared.call.Call.TheVariants.{At}
 use Rattle.sdd_script_text.specs.declared.answer.Reply.TheVariants as reply
-use Rattle.sdd_interpreter.specs.Interpreter.{desk_of}
-use Rattle.sdd_interpreter.proofs.Acts.{Does, stays-here}
-use Rattle.sdd_interpreter.proofs.Missing.{invalid, points, points-not}
+use Rattle.sdd_script_names.specs.Interpreter.{desk_of}
+use Rattle.sdd_script_names.proofs.Acts.{Does, stays-here}
+use Rattle.sdd_script_names.proofs.Missing.{invalid, points, points-not}
 use Rattle.sdd_script_commands.specs.ItemLines.{changing}
 use Rattle.sdd_script_commands.proofs.LinkActs.{acts-changed, valid-changing}
 use Rattle.sdd_script_commands.proofs.links.change_link.Goals as goal
@@ -35,17 +35,17 @@ value_shown-entry-requires-clause-stays c =
     rw slot (stays-here _ c.stage.invariant c.is_whole.ensures c.args.name _ found.0 found.2.0 c.args.item.0 _ found.2.1 found.1
     (points c.stage.inside.hand c.args.name.0 _ found.0 c.args.item.0 can))
 
-changed : (c : goal.After-link_changed) → Does (desk_of c.stage.inside.hand) (At c.args.name (changing c.args.change c.args.item))
-    (reply.Truth c.link_changed.result) (record c.stage.inside.hand { world = c.link_changed.new.world })
+changed : (c : goal.After-cell_step_at) → Does (desk_of c.stage.inside.hand) (At c.args.name (changing c.args.change c.args.item))
+    (reply.Truth c.cell_step_at.result) (record c.stage.inside.hand { world = c.cell_step_at.new.world })
 changed c =
     let found = c.in-Some.ensures in
     let can = rw (c.as_slice-slots.ensures.value, c.as_slice-names.ensures.value, c.as_slice-dates.ensures.value) at c.in-Some-slot_since.ensures.0 in
     let slot = c.in-Some-slot_since.ensures.1 ∙ ap (λ slots. slice_index_or slots c.args.item.0 0) c.as_slice-slots.ensures.value in
     let shown = rw slot at c.value_shown-entry.ensures.shown in
-    let done = rw c.value_shown-entry.ensures.world at c.link_changed.ensures.done in
+    let done = rw c.value_shown-entry.ensures.world at c.cell_step_at.ensures.done in
     acts-changed c.stage.inside.hand c.stage.invariant c.args.item c.args.name c.value_shown-entry.result.now done.0
     ((found.2.0, found.2.2), points c.stage.inside.hand c.args.name.0 _ found.0 c.args.item.0 can) shown done.1
-    c.is_whole.ensures _ found.0 c.args.change c.link_changed.result c.link_changed.new.world done.2 done.3
+    c.is_whole.ensures _ found.0 c.args.change c.cell_step_at.result c.cell_step_at.new.world done.2 done.3
 
 pub invariant_of-stage : goal.invariant_of-stage
 invariant_of-stage c = (changed c).0

@@ -1,6 +1,6 @@
 use Rattle.std.proofs.Common.{slice_index_or, ap, ◌∙◌}
-use Rattle.sdd_interpreter.proofs.Acts.{stays-here}
-use Rattle.sdd_interpreter.proofs.Missing.{invalid, points, points-not}
+use Rattle.sdd_script_names.proofs.Acts.{stays-here}
+use Rattle.sdd_script_names.proofs.Missing.{invalid, points, points-not}
 use Rattle.sdd_script_commands.proofs.LinkActs.{acts-link_told}
 use Rattle.sdd_script_commands.proofs.links.link_tag.Goals as goal
 
@@ -35,9 +35,8 @@ returns c =
     let can = rw (c.as_slice-slots.ensures.value, c.as_slice-names.ensures.value, c.as_slice-dates.ensures.value) at c.in-Some-slot_since.ensures.0 in
     let slot = c.in-Some-slot_since.ensures.1 ∙ ap (λ slots. slice_index_or slots c.args.item.0 0) c.as_slice-slots.ensures.value in
     let shown = rw slot at c.value_shown-entry.ensures.shown in
-    let done = rw c.value_shown-entry.ensures.world at c.link_tag_of.ensures.tag in
-    let world = rw c.value_shown-entry.ensures.world at c.link_tag_of.ensures.world in
+    let done = rw c.value_shown-entry.ensures.world at c.cell_step_at.ensures.done in
     record {
-      acts = rw (← c.stage.view_is, world) (acts-link_told c.stage.inside.hand c.stage.invariant c.args.item c.args.name c.value_shown-entry.result.now done.0
-          ((found.2.0, found.2.2), points c.stage.inside.hand c.args.name.0 _ found.0 c.args.item.0 can) shown done.1 c.link_tag_of.result done.2);
+      acts = rw (← c.stage.view_is, done.3) (acts-link_told c.stage.inside.hand c.stage.invariant c.args.item c.args.name c.value_shown-entry.result.now done.0
+          ((found.2.0, found.2.2), points c.stage.inside.hand c.args.name.0 _ found.0 c.args.item.0 can) shown done.1 c.cell_step_at.result done.2);
     }

@@ -1,15 +1,15 @@
 use Rattle.sdd_participants.specs.declared.standing.Standing.TheVariants.{Owned}
 use Rattle.sdd_space.specs.World.{standing_at}
-use Rattle.sdd_interpreter.specs.declared.interpreter.Environment.{Environment}
+use Rattle.sdd_script_names.specs.declared.interpreter.Environment.{Environment}
 use Rattle.std.proofs.Common.{◌≡◌, ℕ, Some, ◌<◌, length, is_some, slice_index, ap, ◌∙◌}
 use Rattle.std.proofs.lemmas.List.{get_or_read}
 use Rattle.sdd_script_model.proofs.Stocked.{slot-inside}
 use Rattle.sdd_script_text.specs.declared.call.Action.TheVariants as call
 use Rattle.sdd_script_text.specs.declared.call.Call.TheVariants.{At}
 use Rattle.sdd_script_text.specs.declared.answer.Reply.TheVariants as reply
-use Rattle.sdd_interpreter.specs.Interpreter.{desk_of, IsTied}
-use Rattle.sdd_interpreter.proofs.Acts.{Does, got, owner-home}
-use Rattle.sdd_interpreter.proofs.Missing.{invalid, nobody, no-sole}
+use Rattle.sdd_script_names.specs.Interpreter.{desk_of, IsTied}
+use Rattle.sdd_script_names.proofs.Acts.{Does, got, owner-home}
+use Rattle.sdd_script_names.proofs.Missing.{invalid, nobody, no-sole}
 use Rattle.sdd_script_commands.proofs.RawActs.{acts-raw}
 use Rattle.sdd_script_commands.proofs.raw.put_out_raw.Goals as goal
 
@@ -24,22 +24,22 @@ returns-in_default-take_sole c =
           (λ valid. no-sole h c.args.owner.0 c.in_default-take_sole.ensures.0 valid.1));
     }
 
-pub go_raw-requires-clause-home : goal.go_raw-requires-clause-home
-go_raw-requires-clause-home c = owner-home c.stage.inside.hand c.stage.invariant c.is_whole.ensures c.args.owner.0 _ c.in-Some-take_sole.ensures.0
+pub step_at-requires-clause-asked : goal.step_at-requires-clause-asked
+step_at-requires-clause-asked c = owner-home c.stage.inside.hand c.stage.invariant c.is_whole.ensures c.args.owner.0 _ c.in-Some-take_sole.ensures.0
 
 -- the item has a name
 named : (h : Environment) → IsTied h → (k s : ℕ) → s ≡ k → standing_at h.world k ≡ Some Owned → s < length h.names.items
 named h t k s is stands = rw is (slot-inside (desk_of h) t.sound.stocked k (ap is_some stands)).0
 
 went : (c : goal.After-row_known-1) → Does (desk_of c.stage.inside.hand) (At c.args.name (call.Raw c.args.owner))
-    (reply.Raw (record { 0 = c.index.result.now })) (record c.stage.inside.hand { world = c.go_raw.new.world; owners = c.take_sole.new.owners })
+    (reply.Raw (record { 0 = c.index.result.now })) (record c.stage.inside.hand { world = c.step_at.new.world; owners = c.take_sole.new.owners })
 went c =
     let h = c.stage.inside.hand in
     let slot = c.slot_of_sole-slot.ensures in
     let name =
-    get_or_read h.names.items _ _ (named h c.stage.invariant _ _ slot c.go_raw.ensures.owned) c.index.ensures 0 ∙ ap (slice_index h.names.items) slot in
+    get_or_read h.names.items _ _ (named h c.stage.invariant _ _ slot c.step_at.ensures.done.0) c.index.ensures 0 ∙ ap (slice_index h.names.items) slot in
     acts-raw h c.stage.invariant c.is_whole.ensures c.args.name _ (got h.places c.args.name.0 _ c.in-Some.ensures) c.args.owner _ _ _ _
-    c.in-Some-take_sole.ensures.0 c.in-Some-take_sole.ensures.1 c.go_raw.ensures.owned c.go_raw.ensures.raw name
+    c.in-Some-take_sole.ensures.0 c.in-Some-take_sole.ensures.1 c.step_at.ensures.done.0 c.step_at.ensures.done.1 name
 
 pub invariant_of-stage-2 : goal.invariant_of-stage-2
 invariant_of-stage-2 c = (went c).0

@@ -1,4 +1,0 @@
-pub mod Environment
-pub mod Interpreter
-pub mod Owners
-pub mod Stacks

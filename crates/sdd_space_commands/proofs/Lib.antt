@@ -1,0 +1,4 @@
+pub mod Out
+pub mod Peeked
+pub mod Dropping
+pub mod Popped

@@ -1,0 +1,12 @@
+//! What a participant of a script does at its place of a world, when it is its turn.
+
+pub mod cells;
+pub mod collectors;
+pub mod exchanges;
+pub mod guards;
+pub mod items;
+pub mod owners;
+pub mod stacks;
+mod turn;
+
+pub use turn::{cell_step_at, list_step_at, step_at};
