@@ -174,6 +174,7 @@ unfolding AllOut
 tried_at_once word slot s u r claim inside = by (eqb_tells r (free_word 0)) where
   P : Bool → Type 0
   P b = MatchBool b (Gains word slot s u) (Misses (λ k. k ≡ slot) s u)
+
   by : ((eqb r (free_word 0) ≡ true) × (r ≡ free_word 0)) ⊎ ((eqb r (free_word 0) ≡ false) × (r ≢ free_word 0)) → P (eqb r (free_word 0))
   by (inl hit) = let out = claim.2.0 hit.1 in subst P (sym hit.0) (record {
     table = claim.0;

@@ -18,7 +18,8 @@ use std::mem::replace;
 /// cost depends on how many cells there are.
 pub struct WorldCells {
     rights: RightsAuthority,
-    cells: Slab<CellContents>,
+    /// The tag of each cell that is taken.
+    tags: Slab<Tag>,
     /// The right of the owner that a cell holds.
     held: Vec<Option<Right>>,
     /// Whose slots the owners are of.
@@ -31,12 +32,13 @@ impl Model for WorldCells {
     ghost use Rattle.std.specs.Prelude.{◌≡◌, length};
     ghost use Rattle.sdd_rights.specs.Right.{badge_home};
     ghost use Rattle.sdd_standings.specs.Cells.{Cells, CellsMatch};
+    ghost use Rattle.sdd_world_slots.specs.Contents.{contents_of};
 
     ghost Value = { Cells };
 
-    ghost view = { λ c. record { home = c.rights.home; cells = c.cells; slots = badge_home c.slots; pointers = c.pointers.items } };
+    ghost view = { λ c. record { home = c.rights.home; cells = contents_of c.tags c.held.items; slots = badge_home c.slots; pointers = c.pointers.items } };
 
-    ghost invariant = { λ c. CellsMatch c.rights.home (badge_home c.slots) c.rights.kept c.cells c.held.items × (length c.pointers.items ≡ c.rights.home.size) };
+    ghost invariant = { λ c. CellsMatch c.rights.home (badge_home c.slots) c.rights.kept (contents_of c.tags c.held.items) c.held.items × (length c.pointers.items ≡ c.rights.home.size) };
 }
 
 impl WorldCells {
@@ -50,15 +52,11 @@ impl WorldCells {
         ensures pointers { IfOk result (λ cells. cells.pointers ≡ replicate size null_pointer) }
     {
         let rights = RightsAuthority::new(alloc, size as usize, StandingKind::Free)?;
-        let nothing = CellContents {
-            held: None,
-            tag: Tag::None,
-        };
-        let cells = Slab::new(alloc, size, nothing)?;
+        let tags = Slab::new(alloc, size, Tag::None)?;
         let (held, pointers) = nothing_held(alloc, size)?;
         Ok(WorldCells {
             rights,
-            cells,
+            tags,
             held,
             slots,
             pointers,
@@ -69,14 +67,14 @@ impl WorldCells {
     pub fn is_unused(&self) -> bool
         ensures { IsTrue result ↔ All (λ cell. IsNone cell) self.now.cells }
     {
-        self.cells.is_empty()
+        self.tags.is_empty()
     }
 
     /// No cell is free.
     pub fn is_full(&self) -> bool
         ensures { IsTrue result ↔ IsFull self.now.cells }
     {
-        self.cells.is_full()
+        self.tags.is_full()
     }
 
     /// Takes some free cell for owners of this kind, which holds this one, if there is one, with this tag; where no cell is free it
@@ -98,11 +96,7 @@ impl WorldCells {
         ensures full { OnErr result (IsFull self.old.cells) }
         ensures back { IfErr result (λ back. back ≡ held) }
     {
-        let entry = CellContents {
-            held: slot_of(&held),
-            tag,
-        };
-        let Ok(cell) = self.cells.claim(entry) else {
+        let Ok(cell) = self.tags.claim(tag) else {
             return Err(held);
         };
         match replace(&mut self.held[cell as usize], held) {
@@ -117,7 +111,11 @@ impl WorldCells {
         ensures { entry_at self.now.cells (number_of right.now) ≡ Some result }
     {
         self.rights.agrees(right);
-        self.cells.at(right.number())
+        let cell = right.number();
+        CellContents {
+            held: slot_of(&self.held[cell as usize]),
+            tag: self.tags.at(cell),
+        }
     }
 
     /// The right of the owner that a cell holds.
@@ -142,8 +140,7 @@ impl WorldCells {
     {
         self.rights.agrees(right);
         let cell = right.number();
-        let held = slot_of(&new);
-        self.cells.replace(cell, CellContents { held, tag });
+        self.tags.replace(cell, tag);
         replace(&mut self.held[cell as usize], new)
     }
 
@@ -154,14 +151,8 @@ impl WorldCells {
         ensures tagged { IfSome (entry_at self.old.cells (number_of right.now))
             (λ cell. self.new ≡ with_cell self.old (number_of right.now) (record cell { tag = tag })) }
     {
-        let old = self.get(right);
-        self.cells.replace(
-            right.number(),
-            CellContents {
-                held: old.held,
-                tag,
-            },
-        );
+        self.rights.agrees(right);
+        self.tags.replace(right.number(), tag);
     }
 
     /// Gives a cell up. The owner that it held comes back.
@@ -174,7 +165,7 @@ impl WorldCells {
     {
         let cell = self.rights.redeem(right);
         self.rights.set(cell as usize, StandingKind::Free);
-        self.cells.release(cell);
+        self.tags.release(cell);
         self.held[cell as usize].take()
     }
 
@@ -186,11 +177,7 @@ impl WorldCells {
         ensures full { IfNone result (IsFull self.old.cells) }
         ensures same { IfNone result (self.new ≡ self.old) }
     {
-        let nothing = CellContents {
-            held: None,
-            tag: Tag::None,
-        };
-        let Ok(cell) = self.cells.claim(nothing) else {
+        let Ok(cell) = self.tags.claim(Tag::None) else {
             return None;
         };
         self.pointers[cell as usize] = pointer;
@@ -226,7 +213,7 @@ impl WorldCells {
     {
         let number = self.rights.redeem_raw(cell);
         self.rights.set(number as usize, StandingKind::Free);
-        self.cells.release(number);
+        self.tags.release(number);
     }
 
     /// Lets go of cells that are all free.
@@ -235,7 +222,7 @@ impl WorldCells {
     {
         let WorldCells {
             mut rights,
-            cells: _,
+            tags: _,
             mut held,
             slots: _,
             pointers: _,

@@ -1,4 +1,4 @@
-use Rattle.std.proofs.Common.{◌≡◌, ◌+◌, ◌-◌, ◌<◌, ap, ◌∙◌, sym, refl, arith, length, slice_index_or, slice_set, Some, List}
+use Rattle.std.proofs.Common.{◌-◌, ◌<◌, ap, ◌∙◌, refl, arith, length, Some, List}
 use Rattle.std.specs.Prelude.{is_some}
 use Rattle.std.proofs.lemmas.List.{set-set, get_or-set_same, length-map}
 use Rattle.sdd_participants.specs.declared.standing.Standing.TheVariants.{Shared}
