@@ -4,7 +4,7 @@ use Rattle.std.specs.Prelude.{IfOk, IfSome, MatchOption, MatchResult, Result, Ok
 use Rattle.sdd_bag.specs.KeyedPlaces.{PlaceName}
 use Rattle.sdd_bag.specs.Storage.{AreEmpty, AreFull, IsEmptyAt, IsFullWith, KeptPlace, empty_place, names_of, value_at, values_in, with_value_at}
 use Rattle.sdd_bag.specs.Values.{HasOneMore}
-use Rattle.sdd_bag.proofs.Marks.{value-new, values-full, with-same}
+use Rattle.sdd_bag.proofs.Prefixes.{value-new, values-full, with-same}
 use Rattle.sdd_bag.proofs.Values.{fewer-in, none-in}
 use Rattle.sdd_bag.specs.Storages.{StorageName}
 use Rattle.sdd_bag.specs.Primary.{PrimaryParts}

@@ -6,7 +6,7 @@ use Rattle.std.proofs.Math.Nat.{div-add-mod, mod-lt, mul-le-mul_right, mul-zero,
 use Rattle.std.proofs.lemmas.Grind.{div_ceil_times}
 use Rattle.std.proofs.lemmas.List.{length-append, length-drop, length-map, length-take, take-append-drop}
 use Rattle.sdd_bag.specs.Storage.{AreEmpty, AreFullBehind, KeptPlace, names_of, value_at, values_in}
-use Rattle.sdd_bag.proofs.Marks.{value-drop, values-front, values-full}
+use Rattle.sdd_bag.proofs.Prefixes.{value-drop, values-front, values-full}
 use Rattle.sdd_bag.proofs.Values.{all-empty, few-in}
 use Rattle.sdd_space.specs.World.{World}
 use Rattle.sdd_lists.specs.declared.linked_entry.LinkedEntry.{LinkedEntry}

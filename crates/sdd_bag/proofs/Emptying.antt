@@ -1,26 +1,14 @@
 -- A bag whose values are taken out one after another
-use Rattle.std.proofs.Common.{◌≡◌, ◌⊎◌, inl, inr, ℕ, List, [], ◌∷◌, ◌++◌, Option, None, refl, sym, ap, ◌∙◌, subst}
+use Rattle.std.proofs.Common.{◌≡◌, ℕ, List, [], ◌∷◌, Option, None, refl, sym, ap, ◌∙◌, subst}
 use Rattle.sdd_bag.specs.Storage.{AreEmpty}
-use Rattle.sdd_bag.specs.Values.{HasOneMore}
-use Rattle.sdd_bag.proofs.Orders.{more-before, more-behind}
 use Rattle.sdd_bag.proofs.Values.{all-empty}
 use Rattle.sdd_space.specs.World.{World}
 use Rattle.sdd_lists.specs.declared.linked_entry.LinkedEntry.{LinkedEntry}
 use Rattle.sdd_space.specs.WorldChanges.{held_in}
 use Rattle.sdd_lists.specs.Lists.{Entry, first_slot}
 use Rattle.sdd_bag.specs.Storages.{StorageName}
-use Rattle.sdd_bag.specs.Primary.{PrimaryParts, held_by}
-use Rattle.sdd_bag.specs.Overflow.{LiesOn, OverflowParts, RemovesStorage, RemovesStorages, spilled_in}
-use Rattle.sdd_bag.specs.Bag.{BagParts, IsBag, PopsBehind, PopsInside, overflow_of, primary_of, values_of}
-
-module _ {T B : Type 0} (v : T) (old new : BagParts T B) (Same : Type 0) where
-  pub one-less : PopsBehind v old new ⊎ PopsInside v old new × Same → HasOneMore v (values_of new) (values_of old)
-  one-less (inl behind) =
-      subst (λ (p : PrimaryParts T). HasOneMore v (held_by p ++ overflow_of new) (values_of old)) (sym behind.inside)
-      (more-behind v (overflow_of new) (overflow_of old) behind.less (primary_of old))
-  one-less (inr inside) =
-      subst (λ (o : OverflowParts T B). HasOneMore v (primary_of new ++ spilled_in o) (values_of old)) (sym inside.0.others)
-      (more-before v (primary_of new) (primary_of old) inside.0.less (overflow_of old))
+use Rattle.sdd_bag.specs.Overflow.{LiesOn, RemovesStorage, RemovesStorages}
+use Rattle.sdd_bag.specs.Bag.{BagParts, IsBag, overflow_of}
 
 module _ {B : Type 0} (w u new : World (LinkedEntry B)) (p c : ℕ) where
   abbrev behind : List (Entry (LinkedEntry B)) → List (Entry (LinkedEntry B))
@@ -28,7 +16,7 @@ module _ {B : Type 0} (w u new : World (LinkedEntry B)) (p c : ℕ) where
   behind (e ∷ es) = es
 
   -- the first storage is removed, and then the others
-  removes-more : (es fs : List (Entry (LinkedEntry B))) → RemovesStorage w p c es u fs → RemovesStorages u p c fs new → RemovesStorages w p c es new
+  pub removes-more : (es fs : List (Entry (LinkedEntry B))) → RemovesStorage w p c es u fs → RemovesStorages u p c fs new → RemovesStorages w p c es new
   removes-more [] fs one rest = let none = one.entries in absurd (cc)
   removes-more (e ∷ es) fs one rest =
       let same : fs ≡ es = ap behind (sym one.entries) in (
@@ -36,14 +24,6 @@ module _ {B : Type 0} (w u new : World (LinkedEntry B)) (p c : ℕ) where
         subst (λ (gs : List (Entry (LinkedEntry B))). RemovesStorage w p c (e ∷ es) u gs) same one,
         subst (λ (gs : List (Entry (LinkedEntry B))). RemovesStorages u p c gs new) same rest,
       )
-
-  -- a storage is removed before the others, or none is
-  pub removes-next : (Places : Type 0) (es fs : List (Entry (LinkedEntry B))) → (u ≡ w) × (fs ≡ es) ⊎ Places × RemovesStorage w p c es u fs
-      → RemovesStorages u p c fs new → RemovesStorages w p c es new
-  removes-next Places es fs (inl same) rest =
-      subst (λ (x : World (LinkedEntry B)). RemovesStorages x p c es new) same.0
-      (subst (λ (gs : List (Entry (LinkedEntry B))). RemovesStorages u p c gs new) same.1 rest)
-  removes-next Places es fs (inr one) rest = removes-more es fs one.1 rest
 
 no-first : {B : Type 0} (es : List (Entry (LinkedEntry B))) → first_slot es ≡ None → es ≡ []
 no-first [] none = refl

@@ -7,8 +7,8 @@ use base.Shift.{Keyless}
 use types.Logic.{Logic, sem}
 use types.Kit.{‵, ◌⊛◌, ◌$◌, ◌∵◌, !, qed, move, split, join, use1, use2, fsplit, fjoin, done}
 use denote.RattleType.{RattleType}
-use Rattle.sdd_bag.specs.KeyedPlaces.{PlaceName, key_owns}
-use Rattle.sdd_bag.specs.KeptValues.{KeptValue, kept_as, keys_own, inserted, without_at}
+use Rattle.sdd_bag.specs.KeyedPlaces.{key_owns}
+use Rattle.sdd_bag.specs.KeptValues.{KeptValue, keys_own, inserted, without_at}
 
 pub keys_keyless : (R : RattleType) (ks : List (KeptValue R.Denot)) → Keyless (keys_own R ks)
 keys_keyless R [] = tt

@@ -10,9 +10,10 @@ pub mod Surrendering
 pub mod Filled
 pub mod Counting
 pub mod Kept
-pub mod Marks
+pub mod Prefixes
 pub mod Values
 pub mod Orders
 pub mod Loans
 pub mod Fields
 pub mod Keys
+pub mod Nothing

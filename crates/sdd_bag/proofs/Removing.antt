@@ -4,7 +4,7 @@ use Rattle.std.proofs.lemmas.List.{get_or-set_same, get_or-set_other, length-set
 use Rattle.sdd_bag.specs.KeyedPlaces.{PlaceName}
 use Rattle.sdd_bag.specs.Storage.{KeptPlace}
 use Rattle.sdd_bag.proofs.Kept.{map-drop, same-there}
-use Rattle.sdd_bag.proofs.Marks.{behind-drop}
+use Rattle.sdd_bag.proofs.Prefixes.{behind-drop}
 use Rattle.sdd_core.specs.declared.refused.Refused.{Refused}
 use Rattle.sdd_core.specs.declared.tag.Tag.TheVariants as tag
 use Rattle.sdd_participants.specs.declared.standing.Standing.{Standing}

@@ -4,8 +4,8 @@ use Rattle.std.specs.Prelude.{is_some, nat_lt, slice_set, if◌then◌else◌}
 use Rattle.std.proofs.lemmas.List.{get_or-set_same, get_or-set_other, length-append, length-map, length-set}
 use mathlib.Core.Bool.{Bool}
 use Rattle.sdd_bag.specs.KeyedPlaces.{PlaceName}
-use Rattle.sdd_bag.specs.Storage.{AreFull, AreFullBehind, KeptPlace, empty_place, with_value_at}
-use Rattle.sdd_bag.proofs.Marks.{behind-new, behind-with}
+use Rattle.sdd_bag.specs.Storage.{AreFull, AreFullBehind, KeptPlace, empty_place, value_at, with_value_at}
+use Rattle.sdd_bag.proofs.Prefixes.{as-long, behind-new, behind-with}
 use Rattle.sdd_core.specs.declared.tag.Tag.{Tag}
 use Rattle.sdd_core.specs.declared.tag.Tag.TheVariants as tag
 use Rattle.sdd_participants.specs.Slab.{Entries, IsEmptyAt, entry_at}
@@ -173,4 +173,14 @@ module _ {B : Type 0} (shown : B → Option StorageName) (len : ℕ) where
     shelves = lies.shelves;
     keys = keeps.names ∙ lies.keys;
     full = subst (λ (ps : List (KeptPlace T)). AreFullBehind len ps) (sym is) (behind-with len o.places at v near lies.full);
+  })
+
+  -- the first storage's places may have other values, or none
+  pub lies-emptied : {T : Type 0} (w new : World (LinkedEntry B)) (es : List (Entry (LinkedEntry B))) (o o' : OverflowParts T B) → new ≡ w → KeepsPlaces o o'
+      → ((k : ℕ) → len ≤ k → value_at o'.places k ≡ value_at o.places k) → LiesOn shown len w es o → LiesOn shown len new es o'
+  lies-emptied {T = T} w new es o o' world keeps others lies = subst (λ (x : World (LinkedEntry B)). LiesOn shown len x es o') (sym world) (record {
+    stack = subst (λ (st : Stack B). IsStack w (cell_in st) es) (sym keeps.stack) lies.stack;
+    shelves = lies.shelves;
+    keys = keeps.names ∙ lies.keys;
+    full = λ k far near. ap is_some (others k far) ∙ lies.full k far (omega (arith, near, as-long o.places o'.places keeps.names));
   })

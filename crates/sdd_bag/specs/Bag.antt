@@ -1,5 +1,5 @@
 -- What is in a bag, and how it lies in a world
-use Rattle.std.specs.Prelude.{ℕ, ◌≡◌, ◌<◌, ◌∷◌, ◌++◌, List, [], Option, length, map}
+use Rattle.std.specs.Prelude.{ℕ, ◌≡◌, ◌<◌, ◌++◌, List, [], Option, length, map}
 use Rattle.sdd_bag.specs.Storage.{AreEmpty, empty_place}
 use Rattle.sdd_bag.specs.Values.{HasOneMore}
 use Rattle.sdd_bag.specs.KeyedPlaces.{PlaceName}
@@ -15,11 +15,6 @@ use Rattle.sdd_bag.specs.Overflow.{KeepsPlaces, LiesOn, OverflowParts, spilled_i
 pub record BagParts (T B : Type 0) : Type 0 where
   pub primary : PrimaryParts T
   pub overflow : OverflowParts T B
-
--- calls of f, one for each of these values in order, make the result of what is made so far
-abbrev pub Folds : {F R T : Type 0} → (F → R → T → R → F → Type 0) → F → R → List T → R → Type 0
-Folds step f made [] result = made ≡ result
-Folds {F} {R} step f made (v ∷ vs) result = (next : R) × (then : F) × step f made v next then × Folds step then next vs result
 
 module _ {T B : Type 0} where
   -- the values that lie in the bag itself

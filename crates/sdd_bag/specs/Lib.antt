@@ -2,8 +2,10 @@ pub mod Storages
 pub mod Primary
 pub mod Overflow
 pub mod Bag
+pub mod There
 pub mod Closing
 pub mod Filling
+pub mod Folding
 pub mod IntoIter
 pub mod Counting
 pub mod Storage

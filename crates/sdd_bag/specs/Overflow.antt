@@ -1,12 +1,14 @@
 -- The values in the storages behind a bag's own, and how these lie in a world
 use Rattle.std.specs.Prelude.{ℕ, ◌≡◌, ◌≢◌, ◌⊎◌, List, [], ◌∷◌, ◌++◌, Option, Some, length}
 use Rattle.sdd_bag.specs.KeyedPlaces.{PlaceName}
-use Rattle.sdd_bag.specs.Storage.{AreFullBehind, KeptPlace, names_of, values_in}
+use Rattle.sdd_bag.specs.Storage.{AreEmpty, AreFullBehind, KeptPlace, names_of, values_in}
 use Rattle.sdd_core.specs.declared.tag.Tag.TheVariants as tag
 use Rattle.sdd_participants.specs.declared.standing.Standing.TheVariants.{Shared as shared_by}
 use Rattle.sdd_participants.specs.Slab.{IsEmptyAt, IsFull}
 use Rattle.sdd_core.specs.declared.refused.Refused.{Refused}
 use Rattle.sdd_core.specs.declared.refused.Refused.TheVariants.{NoCell, NoSlot}
+use Rattle.sdd_space.specs.CallerId.{CallerId, IsExact, IsSeated}
+use Rattle.sdd_space.specs.Guard.{ReaderId}
 use Rattle.sdd_space.specs.World.{World, standing_at}
 use Rattle.sdd_space.specs.WorldChanges.{nulled, retired}
 use Rattle.sdd_space.specs.declared.shared.Shared.{Shared}
@@ -16,7 +18,7 @@ use Rattle.sdd_lists.specs.Entries.{link_of, value_of}
 use Rattle.sdd_lists.specs.Filling.{AddsOnto}
 use Rattle.sdd_lists.specs.Lists.{Entry, IsTaken}
 use Rattle.sdd_lists.specs.Queue.{HasOneAtMost}
-use Rattle.sdd_lists.specs.Stack.{IsStack, cell_in}
+use Rattle.sdd_lists.specs.Stack.{IsStack, cell_in, home_in}
 use Rattle.sdd_bag.specs.Storages.{StorageName, places_shown}
 
 -- the stack of the storages, the newest in front, and what is known of their places
@@ -96,3 +98,12 @@ module _ {B : Type 0} where
 
     abbrev pub Lies : {T : Type 0} → World (LinkedEntry B) → OverflowParts T B → Type 0
     Lies w o = (es : List (Entry (LinkedEntry B))) × LiesOn w es o
+
+    -- who calls may take all values out of the first of the storages, which has one: they lie in its world, and the reader is its own
+    pub record MayEmpty {T : Type 0} (seat : CallerId) (w : World (LinkedEntry B)) (reader : ReaderId) (o : OverflowParts T B) : Type 0 where
+      pub seated : IsSeated seat
+      pub exact : IsExact seat
+      pub reads : reader ≡ seat.reader
+      pub home : home_in o.stack ≡ seat.home.cells
+      pub lies : Lies w o
+      pub some : ¬ (AreEmpty len o.places)

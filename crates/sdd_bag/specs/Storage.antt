@@ -1,5 +1,5 @@
 -- What the keys of a bag's storages know of their places
-use Rattle.std.specs.Prelude.{◌≡◌, ℕ, zero, suc, ◌*◌, ◌^◌, ◌<◌, ◌≤◌, Bool, true, false, List, [], ◌∷◌, ◌++◌, map, length, Option, None, Some, is_some, slice_index_or}
+use Rattle.std.specs.Prelude.{◌≡◌, ℕ, zero, suc, ◌*◌, ◌^◌, ◌<◌, ◌≤◌, true, false, List, [], ◌∷◌, ◌++◌, map, length, Option, None, Some, is_some, nat_lt}
 use Rattle.core.specs.Mem.{manually_drop_value}
 use Rattle.core.specs.declared.mem.ManuallyDrop.{ManuallyDrop}
 use Rattle.sdd_bag.specs.KeyedPlaces.{PlaceName}
@@ -69,11 +69,13 @@ module _ {T : Type 0} where
   abbrev pub StandInFront : List PlaceName → List (KeptPlace T) → Type 0
   StandInFront names places = (rest : List PlaceName) × (names_of places ≡ names ++ rest)
 
-  -- the marks tell which of the first places have a value, where the places are those of so many arrays, and those of all arrays but the first are full
-  pub record AreMarked (len : ℕ) (marks : List Bool) (arrays : ℕ) (places : List (KeptPlace T)) : Type 0 where
+  -- so many of the first places have a value, and none of the others of the first array, where the places are those of so many arrays, and those of all
+  -- arrays but the first are full
+  pub record AreCounted (len count arrays : ℕ) (places : List (KeptPlace T)) : Type 0 where
     pub some : 0 < len
     pub fits : len ≤ 32
     pub few : arrays < 2 ^ 96
     pub size : length places ≡ arrays * len
-    pub marked : (k : ℕ) → k < len → slice_index_or marks k false ≡ is_some (value_at places k)
+    pub most : count ≤ len
+    pub counted : (k : ℕ) → k < len → nat_lt k count ≡ is_some (value_at places k)
     pub behind : AreFullBehind len places

@@ -1,7 +1,7 @@
 //! The bag.
 ghost use Rattle.std.specs.Prelude.{◌≡◌, ◌≢◌, ◌↔◌, ◌⊎◌, ◌+◌, ◌^◌, ◌<◌, ◌≤◌, ◌++◌, ℕ, All, IfErr, IfOk, IfSome, IsTrue, List, MatchOption, MatchResult, None, Some, [], drop, length, map};
 ghost use Rattle.sdd_bag.specs.KeyedPlaces.{PlaceName};
-ghost use Rattle.sdd_bag.specs.Storage.{AreEmpty, AreFull, IsEmptyAt, IsFullWith, empty_place, with_value_at};
+ghost use Rattle.sdd_bag.specs.Storage.{AreEmpty, AreFull, IsEmptyAt, IsFullWith, empty_place, value_at, with_value_at};
 ghost use Rattle.sdd_bag.specs.Values.{AreInSomeOrder, HasOneMore};
 ghost use Rattle.sdd_space.specs.CallerId.{IsSeated, IsExact};
 ghost use Rattle.sdd_space.specs.Guard.{reader_of};
@@ -15,14 +15,15 @@ ghost use Rattle.sdd_lists.specs.Stack.{IsStack, cell_in, home_in};
 ghost use Rattle.sdd_space.specs.OwnerOrCell.{AreOf};
 ghost use Rattle.sdd_bag.specs.Closing.{AreBeside, ClosesBag, EmptiesStorages};
 ghost use Rattle.sdd_bag.specs.Counting.{HasStoragesFor};
-ghost use Rattle.sdd_bag.specs.Overflow.{AddsStorage, KeepsPlaces, Lies, LiesOn, OverflowParts, RefusesStorage, RemovesStorage, RemovesStorages};
+ghost use Rattle.sdd_bag.specs.Folding.{Folds, FoldsOn};
+ghost use Rattle.sdd_bag.specs.Overflow.{AddsStorage, KeepsPlaces, Lies, LiesOn, MayEmpty, OverflowParts, RefusesStorage, RemovesStorage, RemovesStorages};
 ghost use Rattle.sdd_participants.specs.Slab.{IsEmptyAt as IsEmptyCell};
 ghost use Rattle.sdd_lists.specs.Queue.{HasOneAtMost};
 ghost use Rattle.sdd_space.specs.Shared.{cell_of, cells_home};
 ghost use Rattle.sdd_space.specs.World.{World};
 ghost use Rattle.sdd_space.specs.WorldChanges.{nulled};
 ghost use Rattle.sdd_lists.specs.Filling.{AddsOnto, RefusesPush};
-ghost use Rattle.sdd_bag.specs.Bag.{BagParts, Folds, HasSameCells, HasStorageMore, PopsBehind, PopsInside, PushesBehind, PushesInside, IsBag, IsOfCells, KeepsStorages, overflow_of, primary_of, values_of};
+ghost use Rattle.sdd_bag.specs.Bag.{BagParts, HasSameCells, HasStorageMore, PopsBehind, PopsInside, PushesBehind, PushesInside, IsBag, IsOfCells, KeepsStorages, overflow_of, primary_of, values_of};
 
 use crate::front::first_storage;
 use crate::giving::give_up;
@@ -106,6 +107,9 @@ impl<T, const ARRAY_LEN: usize, B: Shelf<T, ARRAY_LEN>> Bag<T, ARRAY_LEN, B> {
             (self.new.overflow.places ≡ with_value_at self.old.overflow.places at None)) ×
             HasOneMore value (overflow_of self.new) (overflow_of self.old)) }
     {
+        if self.is_front_empty() {
+            return None;
+        }
         match first_storage(&self.stack, guard, s) {
             Some(storage) => self.keys.pop(storage.places()),
             None => None,
@@ -322,6 +326,72 @@ impl<T, const ARRAY_LEN: usize, B: Shelf<T, ARRAY_LEN>> Bag<T, ARRAY_LEN, B> {
         Some(value)
     }
 
+    /// Takes all values out of the first storage, if there is one, and folds them. What is made comes back, with `fold` as it is then.
+    fn fold_front<
+        R,
+        F: FnMut(R, T) -> R,
+        S: Items<LinkedEntry<B>> + Cells<LinkedEntry<B>> + LookThrough<LinkedEntry<B>>,
+    >(&mut self, init: R, fold: F, guard: &Guard, s: &mut S) -> (R, F)
+        requires seated { IsSeated (S.seat s.old) }
+        requires home { home_in self.old.overflow.stack ≡ (S.seat s.old).home.cells }
+        requires reader { reader_of guard.now ≡ (S.seat s.old).reader }
+        requires exact { IsExact (S.seat s.old) }
+        requires lies { Lies B.shown ARRAY_LEN (S.world s.old) self.old.overflow }
+        requires callable { F.IsAlwaysCallable fold }
+        ensures undisturbed { Undisturbed S.seat S.own S.known S.shows s.old s.new }
+        ensures world { S.world s.new ≡ S.world s.old }
+        ensures callable { F.IsAlwaysCallable result.1 }
+        ensures keeps { KeepsStorages self.old self.new }
+        ensures empty { AreEmpty ARRAY_LEN self.new.overflow.places }
+        ensures behind { (k : ℕ) → ARRAY_LEN ≤ k → value_at self.new.overflow.places k ≡ value_at self.old.overflow.places k }
+        ensures folded { FoldsOn F.step fold init (overflow_of self.old) result.1 result.0 (overflow_of self.new) }
+    {
+        match first_storage(&self.stack, guard, s) {
+            Some(storage) => self.keys.fold_front(storage.places(), init, fold),
+            None => (init, fold),
+        }
+    }
+
+    /// Takes out all values that lie in the bag itself, and folds them. What is made comes back, with `fold` as it is then.
+    fn fold_inside<R, F: FnMut(R, T) -> R>(&mut self, init: R, fold: F) -> (R, F)
+        requires callable { F.IsAlwaysCallable fold }
+        ensures callable { F.IsAlwaysCallable result.1 }
+        ensures overflow { self.new.overflow ≡ self.old.overflow }
+        ensures storage { self.new.primary.storage ≡ self.old.primary.storage }
+        ensures empty { primary_of self.new ≡ [] }
+        ensures folded { FoldsOn F.step fold init (primary_of self.old) result.1 result.0 [] }
+    {
+        self.primary.fold_all(init, fold)
+    }
+
+    /// Takes all values out of the first storage, which has one, folds them, and lets go of the storage. What is made comes back, with `fold` as it is then.
+    fn fold_storage<
+        R,
+        F: FnMut(R, T) -> R,
+        S: Items<LinkedEntry<B>>
+            + SharedItems<LinkedEntry<B>>
+            + Cells<LinkedEntry<B>>
+            + LookThrough<LinkedEntry<B>>,
+    >(&mut self, init: R, fold: F, guard: &Guard, s: &mut S) -> (R, F)
+        requires may { MayEmpty B.shown ARRAY_LEN (S.seat s.old) (S.world s.old) (reader_of guard.now) self.old.overflow }
+        requires callable { F.IsAlwaysCallable fold }
+        ensures unmoved { Unmoved S.seat S.known S.shows s.old s.new }
+        ensures own { KeepsMoreWaiting (S.own s.old) (S.own s.new) }
+        ensures callable { F.IsAlwaysCallable result.1 }
+        ensures cells { HasSameCells self.old self.new }
+        ensures primary { self.new.primary ≡ self.old.primary }
+        ensures full { AreFull ARRAY_LEN self.new.overflow.places }
+        ensures fewer { length self.new.overflow.places < length self.old.overflow.places }
+        ensures folded { FoldsOn F.step fold init (overflow_of self.old) result.1 result.0 (overflow_of self.new) }
+        ensures list { (es : List (Entry (Linked B))) → LiesOn B.shown ARRAY_LEN (S.world s.old) es self.old.overflow → (fs : List (Entry (Linked B))) ×
+            RemovesStorage (S.world s.old) (S.seat s.old).place (cell_in self.old.overflow.stack) es (S.world s.new) fs ×
+            LiesOn B.shown ARRAY_LEN (S.world s.new) fs self.new.overflow }
+    {
+        let done = self.fold_front(init, fold, guard, s);
+        self.remove_storage(guard, s);
+        done
+    }
+
     /// An empty bag. It holds 1 to 32 values itself, and has two cells.
     ///
     /// `NoCell` where no two cells are free; `Contended`, in a domain alone, where as many exchanges were lost as its limits allow.
@@ -451,7 +521,7 @@ impl<T, const ARRAY_LEN: usize, B: Shelf<T, ARRAY_LEN>> Bag<T, ARRAY_LEN, B> {
             + SharedItems<LinkedEntry<B>>
             + Cells<LinkedEntry<B>>
             + LookThrough<LinkedEntry<B>>,
-    >(&mut self, init: R, mut fold: F, guard: &Guard, s: &mut S) -> R
+    >(&mut self, init: R, fold: F, guard: &Guard, s: &mut S) -> R
         requires seated { IsSeated (S.seat s.old) }
         requires home { home_in self.old.overflow.stack ≡ (S.seat s.old).home.cells }
         requires reader { reader_of guard.now ≡ (S.seat s.old).reader }
@@ -468,9 +538,13 @@ impl<T, const ARRAY_LEN: usize, B: Shelf<T, ARRAY_LEN>> Bag<T, ARRAY_LEN, B> {
             RemovesStorages (S.world s.old) (S.seat s.old).place (cell_in self.old.overflow.stack) es (S.world s.new) }
     {
         let mut made = init;
-        while let Some(value) = self.pop(guard, s) {
-            made = fold(made, value);
+        let mut fold = fold;
+        while !self.is_front_empty() {
+            let (next, then) = self.fold_storage(made, fold, guard, s);
+            made = next;
+            fold = then;
         }
+        let (made, _) = self.fold_inside(made, fold);
         made
     }
 

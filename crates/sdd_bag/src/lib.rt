@@ -3,7 +3,7 @@
 //! - A [`Bag`] has places for values of its own, and behind them a stack of [`Storage`]s.
 //! - `Places` are places in line, in an array. A `&` to them shows nothing of their values, and is enough to move values in and out, by the keys: so a storage
 //!   can lie in a slot that guards look at.
-//! - `StorageKeys` have the keys of all places of any number of such arrays, and know which places of the first one have a value; those of all others do.
+//! - `StorageKeys` have the keys of all places of any number of such arrays, and know how many places of the first one have a value; those of all others do.
 //! - A `KeyedPlace` is one such place, and its `PlaceKey` the whole right to the value: it says which value there is, moves one in and out behind a `&`, and
 //!   there is one key of each place. A key takes no bytes. This is proved by hand, and nothing else is.
 #![tactic(auto)]

@@ -1,9 +1,10 @@
 //! Places side by side.
-ghost use Rattle.std.specs.Prelude.{◌≡◌, ◌<◌, ◌++◌, List, IsSome, length, map, option_copied, slice_get};
-ghost use Rattle.sdd_bag.specs.Storage.{empty_place, kept_place};
+ghost use Rattle.std.specs.Prelude.{◌≡◌, ◌<◌, ◌≤◌, ◌++◌, ℕ, List, IsSome, None, is_some, length, map, option_copied, slice_get, true};
+ghost use Rattle.sdd_bag.specs.Storage.{StandInFront, empty_place, kept_place, names_of, value_at, values_in, with_value_at};
+ghost use Rattle.sdd_bag.specs.Folding.{FoldsOn};
 ghost use Rattle.sdd_bag.specs.KeyedPlaces.{PlaceName};
 
-use crate::place::{Keys, Place, new_place};
+use crate::place::{Keys, Place, exchange, new_place};
 use std::array;
 use std::marker::Model;
 
@@ -38,5 +39,52 @@ impl<T, const LEN: usize> Places<T, LEN> {
         ensures inside { at < LEN → IsSome result }
     {
         self.places.get(at)
+    }
+
+    /// Moves a value into the place of that number, or none, and the one that was there out, if there was one. The keys of these places are the first ones.
+    pub(crate) fn exchange(&self, keys: &mut Keys<T>, at: usize, value: Option<T>) -> Option<T>
+        requires inside { at < LEN }
+        requires keys { StandInFront self.now (map kept_place keys.old.kept) }
+        ensures there { at < length (map kept_place keys.old.kept) }
+        ensures was { result ≡ value_at (map kept_place keys.old.kept) at }
+        ensures now { map kept_place keys.new.kept ≡ with_value_at (map kept_place keys.old.kept) at value }
+    {
+        let Some(place) = self.at(at) else {
+            unreachable!()
+        };
+        exchange(keys, at, place, value)
+    }
+
+    /// Moves the values of the first so many places out, each of which has one, and folds them, the last one first. What is made comes back, with `fold` as
+    /// it is then.
+    pub(crate) fn fold_out<R, F: FnMut(R, T) -> R>(
+        &self,
+        keys: &mut Keys<T>,
+        count: usize,
+        init: R,
+        fold: F,
+    ) -> (R, F)
+        requires inside { count ≤ LEN }
+        requires keys { StandInFront self.now (map kept_place keys.old.kept) }
+        requires full { (k : ℕ) → k < count → is_some (value_at (map kept_place keys.old.kept) k) ≡ true }
+        requires callable { F.IsAlwaysCallable fold }
+        ensures callable { F.IsAlwaysCallable result.1 }
+        ensures names { names_of (map kept_place keys.new.kept) ≡ names_of (map kept_place keys.old.kept) }
+        ensures empty { (k : ℕ) → k < count → value_at (map kept_place keys.new.kept) k ≡ None }
+        ensures others { (k : ℕ) → count ≤ k → value_at (map kept_place keys.new.kept) k ≡ value_at (map kept_place keys.old.kept) k }
+        ensures folded { FoldsOn F.step fold init (values_in (map kept_place keys.old.kept)) result.1 result.0
+            (values_in (map kept_place keys.new.kept)) }
+    {
+        let mut made = init;
+        let mut fold = fold;
+        let mut left = count;
+        while left > 0 {
+            left -= 1;
+            let Some(value) = self.exchange(keys, left, None) else {
+                unreachable!()
+            };
+            made = fold(made, value);
+        }
+        (made, fold)
     }
 }

@@ -9,6 +9,7 @@ ghost use Rattle.sdd_space.specs.OwnerOrCell.{AreOf};
 ghost use Rattle.sdd_space.specs.ParticipantChanges.{KeepsMoreWaiting};
 ghost use Rattle.sdd_space.specs.Undisturbed.{Unmoved};
 ghost use Rattle.sdd_space.specs.WorldChanges.{cell_closed};
+ghost use Rattle.sdd_bag.specs.Folding.{FoldsOn};
 
 use crate::giving::give_up;
 use crate::storage::Storage;
@@ -70,6 +71,17 @@ impl<T, const ARRAY_LEN: usize> Primary<T, ARRAY_LEN> {
             (λ value. HasOneMore value (held_by self.new) (held_by self.old)) }
     {
         self.keys.pop(self.storage.places())
+    }
+
+    /// Takes all values out of the storage, and folds them. What is made comes back, with `fold` as it is then.
+    pub(crate) fn fold_all<R, F: FnMut(R, T) -> R>(&mut self, init: R, fold: F) -> (R, F)
+        requires callable { F.IsAlwaysCallable fold }
+        ensures callable { F.IsAlwaysCallable result.1 }
+        ensures storage { self.new.storage ≡ self.old.storage }
+        ensures empty { held_by self.new ≡ [] }
+        ensures folded { FoldsOn F.step fold init (held_by self.old) result.1 result.0 [] }
+    {
+        self.keys.fold_front(self.storage.places(), init, fold)
     }
 
     /// How many values there are.

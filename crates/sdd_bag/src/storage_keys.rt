@@ -3,28 +3,29 @@ ghost use Rattle.std.specs.Prelude.{◌≡◌, ◌≢◌, ◌↔◌, ◌^◌, �
 ghost use Rattle.sdd_bag.specs.KeyedPlaces.{PlaceName};
 ghost use Rattle.sdd_bag.specs.Storage.{KeptPlace, empty_place, value_at, with_value_at, IsEmptyAt, IsFullWith, AreFull, AreEmpty, StandInFront, names_of, values_in};
 ghost use Rattle.sdd_bag.specs.Values.{HasOneMore};
+ghost use Rattle.sdd_bag.specs.Folding.{FoldsOn};
 
-use crate::place::{Keys, exchange, forget};
+use crate::place::{Keys, forget};
 use crate::places::Places;
 use std::marker::Model;
 
-/// The keys of all places of any number of arrays, the newest array first. Each place of an array behind the first one has a value.
+/// The keys of all places of any number of arrays, the newest array first. In it the first `count` places have a value, and in each other array all have.
 #[derive(Drop)]
 pub struct StorageKeys<T, const LEN: usize> {
-    full: [bool; LEN],
+    count: usize,
     arrays: u128,
     keys: Keys<T>,
 }
 
 impl<T, const LEN: usize> Model for StorageKeys<T, LEN> {
     ghost use Rattle.std.specs.Prelude.{List, map};
-    ghost use Rattle.sdd_bag.specs.Storage.{AreMarked, KeptPlace, kept_place};
+    ghost use Rattle.sdd_bag.specs.Storage.{AreCounted, KeptPlace, kept_place};
 
     ghost Value = { List (KeptPlace T) };
 
     ghost view = { λ k. map kept_place k.keys.kept };
 
-    ghost invariant = { λ k. AreMarked LEN k.full k.arrays (map kept_place k.keys.kept) };
+    ghost invariant = { λ k. AreCounted LEN k.count k.arrays (map kept_place k.keys.kept) };
 }
 
 impl<T, const LEN: usize> StorageKeys<T, LEN> {
@@ -35,7 +36,7 @@ impl<T, const LEN: usize> StorageKeys<T, LEN> {
         ensures { result ≡ [] }
     {
         StorageKeys {
-            full: [false; LEN],
+            count: 0,
             arrays: 0,
             keys: Keys::new(),
         }
@@ -50,8 +51,7 @@ impl<T, const LEN: usize> StorageKeys<T, LEN> {
     {
         let places = Places::new(&mut self.keys);
         self.arrays += 1;
-        let empty = [false; LEN];
-        self.full = empty;
+        self.count = 0;
         places
     }
 
@@ -64,22 +64,7 @@ impl<T, const LEN: usize> StorageKeys<T, LEN> {
     {
         forget(&mut self.keys, LEN);
         self.arrays -= 1;
-        let full = [self.arrays > 0; LEN];
-        self.full = full;
-    }
-
-    /// How many places of the first array have a value.
-    fn front_len(&self) -> u128
-        ensures value { result ≡ length (values_in (take LEN self.now)) }
-        ensures few { result ≤ LEN }
-    {
-        let mut count = 0;
-        for at in 0..LEN {
-            if self.full[at] {
-                count += 1;
-            }
-        }
-        count
+        self.count = if self.arrays > 0 { LEN } else { 0 };
     }
 
     /// How many places have a value.
@@ -90,7 +75,7 @@ impl<T, const LEN: usize> StorageKeys<T, LEN> {
         if self.arrays == 0 {
             0
         } else {
-            self.front_len() + (self.arrays - 1) * LEN as u128
+            self.count as u128 + (self.arrays - 1) * LEN as u128
         }
     }
 
@@ -98,36 +83,7 @@ impl<T, const LEN: usize> StorageKeys<T, LEN> {
     pub fn is_front_empty(&self) -> bool
         ensures { IsTrue result ↔ AreEmpty LEN self.now }
     {
-        self.first(true).is_none()
-    }
-
-    /// The first place of the first array that has a value, or that has none.
-    fn first(&self, full: bool) -> Option<usize>
-        ensures { MatchOption result
-            ((k : ℕ) → k < LEN → is_some (value_at self.now k) ≢ full)
-            (λ at. (at < LEN) × (is_some (value_at self.now at) ≡ full)) }
-    {
-        for at in 0..LEN {
-            if self.full[at] == full {
-                return Some(at);
-            }
-        }
-        None
-    }
-
-    /// Moves a value into a place of the first array, or none, and the one that was there out, if there was one.
-    pub fn exchange_at(&mut self, places: &Places<T, LEN>, at: usize, value: Option<T>) -> Option<T>
-        requires inside { at < LEN }
-        requires keys { StandInFront places.now self.old }
-        ensures there { at < length self.old }
-        ensures was { result ≡ value_at self.old at }
-        ensures now { self.new ≡ with_value_at self.old at value }
-    {
-        let Some(place) = places.at(at) else {
-            unreachable!()
-        };
-        self.full[at] = value.is_some();
-        exchange(&mut self.keys, at, place, value)
+        self.count == 0
     }
 
     /// Moves a value into the first empty place of the first array. If there is none, the value comes back.
@@ -139,17 +95,18 @@ impl<T, const LEN: usize> StorageKeys<T, LEN> {
         ensures names { names_of self.new ≡ names_of self.old }
         ensures values { IfOk result (λ _. HasOneMore value (values_in self.old) (values_in self.new)) }
     {
-        let Some(at) = self.first(false) else {
+        if self.count == LEN {
             return Err(value);
-        };
-        match self.exchange_at(places, at, Some(value)) {
+        }
+        match places.exchange(&mut self.keys, self.count, Some(value)) {
             None => {}
             Some(_) => unreachable!(),
         }
+        self.count += 1;
         Ok(())
     }
 
-    /// Moves the value of the first full place of the first array out, if any is full.
+    /// Moves the value of the last full place of the first array out, if any is full.
     pub fn pop(&mut self, places: &Places<T, LEN>) -> Option<T>
         requires keys { StandInFront places.now self.old }
         ensures place { MatchOption result
@@ -158,12 +115,33 @@ impl<T, const LEN: usize> StorageKeys<T, LEN> {
         ensures names { names_of self.new ≡ names_of self.old }
         ensures values { IfSome result (λ value. HasOneMore value (values_in self.new) (values_in self.old)) }
     {
-        let Some(at) = self.first(true) else {
+        if self.count == 0 {
             return None;
-        };
-        let Some(value) = self.exchange_at(places, at, None) else {
+        }
+        self.count -= 1;
+        let Some(value) = places.exchange(&mut self.keys, self.count, None) else {
             unreachable!()
         };
         Some(value)
+    }
+
+    /// Moves all values of the first array out, and folds them. What is made comes back, with `fold` as it is then.
+    pub fn fold_front<R, F: FnMut(R, T) -> R>(
+        &mut self,
+        places: &Places<T, LEN>,
+        init: R,
+        fold: F,
+    ) -> (R, F)
+        requires keys { StandInFront places.now self.old }
+        requires callable { F.IsAlwaysCallable fold }
+        ensures callable { F.IsAlwaysCallable result.1 }
+        ensures names { names_of self.new ≡ names_of self.old }
+        ensures empty { AreEmpty LEN self.new }
+        ensures behind { (k : ℕ) → LEN ≤ k → value_at self.new k ≡ value_at self.old k }
+        ensures folded { FoldsOn F.step fold init (values_in self.old) result.1 result.0 (values_in self.new) }
+    {
+        let done = places.fold_out(&mut self.keys, self.count, init, fold);
+        self.count = 0;
+        done
     }
 }

@@ -6,8 +6,9 @@ use Rattle.sdd_bench.specs.declared.operation.Guarding.TheVariants.{Outermost, N
 use Rattle.sdd_bench.specs.declared.operation.CellWork.TheVariants.{Loads as CellLoads, Exchanges, Reads as ConfigReads, Publishes, MostlyReads}
 use Rattle.sdd_bench.specs.declared.operation.Task.TheVariants.{Guards, Items, HalfFull, Looks, Reads, Gets, Jobs, Raws, Changes, Shares, Loads, Swaps, OfCell}
 use Rattle.sdd_bench.specs.declared.operation.Listing.TheVariants.{Queue, Stack, Walk}
+use Rattle.sdd_bench.specs.declared.operation.Bagging.TheVariants.{Inside, Behind, All as AllOfBag}
 use Rattle.sdd_bench.specs.declared.operation.Operation.{Operation}
-use Rattle.sdd_bench.specs.declared.operation.Operation.TheVariants.{World, Local, Beside, Places, Item, Job, Read, Look, Load, Share, Raw, Swap, Listed}
+use Rattle.sdd_bench.specs.declared.operation.Operation.TheVariants.{World, Local, Beside, Places, Item, Job, Read, Look, Load, Share, Raw, Swap, Listed, Bagged}
 
 abbrev pub name_of : Operation → List ℕ
 name_of (World Outermost) = codes "world-outermost"
@@ -63,6 +64,9 @@ name_of Swap = codes "world-swap"
 name_of (Listed Queue) = codes "world-queue"
 name_of (Listed Stack) = codes "world-stack"
 name_of (Listed Walk) = codes "world-walk"
+name_of (Bagged Inside) = codes "world-bag"
+name_of (Bagged Behind) = codes "world-bag-behind"
+name_of (Bagged AllOfBag) = codes "world-bag-all"
 
 -- The names of what is timed
 abbrev pub name_of_timed : Timed → List ℕ

@@ -1,6 +1,7 @@
 //! The program `sdd-bench`: does an operation so often, for whoever counts its instructions; and times what participants in several threads do at once.
 #![tactic(auto)]
 
+mod bags;
 mod cells;
 mod configuration;
 mod containers;
@@ -51,6 +52,16 @@ const FOR_LISTS: Limits = Limits {
     participants: 1,
     slots: 1024,
     cells: 1026,
+    jobs: 0,
+    nesting: 2,
+    tries: 1,
+};
+
+/// Of the storages of a bag in 512 turns, seven are there or wait: each has a slot and two cells.
+const FOR_BAGS: Limits = Limits {
+    participants: 1,
+    slots: 4096,
+    cells: 8194,
     jobs: 0,
     nesting: 2,
     tries: 1,
@@ -149,6 +160,7 @@ fn done(alloc: Global, operation: Operation, turns: u64) -> Result<(Tally, u64),
         Operation::Raw => world::run(alloc, LIMITS, Work::Raws, turns),
         Operation::Swap => world::run(alloc, LIMITS, Work::Swaps, turns),
         Operation::Listed(listing) => containers::lists(alloc, FOR_LISTS, listing, turns),
+        Operation::Bagged(bagging) => containers::bags(alloc, FOR_BAGS, bagging, turns),
         Operation::Local(task) => local::run(alloc, LIMITS, false, task, turns),
         Operation::Beside(task) => local::run(alloc, FOR_TWO, true, task, turns),
         Operation::Places => places::run(alloc, CROWD, turns),

@@ -69,6 +69,17 @@ pub enum Listing {
     Walk,
 }
 
+/// What is done in each turn with a bag of numbers, in a world.
+#[derive(Clone, Copy, Debug, PartialEq, Eq)]
+pub enum Bagging {
+    /// Under a guard that stays open, a number is pushed into the bag itself, and popped.
+    Inside,
+    /// The same where the bag itself is full, so that the number goes into a storage.
+    Behind,
+    /// Under a guard, a bag of 256 numbers is made, its numbers are folded, and it is closed; what is due is reclaimed.
+    All,
+}
+
 /// What is done in each turn, and where.
 #[derive(Clone, Copy, Debug, PartialEq, Eq)]
 pub enum Operation {
@@ -98,6 +109,8 @@ pub enum Operation {
     Swap,
     /// With a list, in a world.
     Listed(Listing),
+    /// With a bag, in a world.
+    Bagged(Bagging),
 }
 
 /// The operation of that name.
@@ -158,6 +171,9 @@ pub fn named(word: &str) -> Option<Operation>
         "world-queue" => Some(Operation::Listed(Listing::Queue)),
         "world-stack" => Some(Operation::Listed(Listing::Stack)),
         "world-walk" => Some(Operation::Listed(Listing::Walk)),
+        "world-bag" => Some(Operation::Bagged(Bagging::Inside)),
+        "world-bag-behind" => Some(Operation::Bagged(Bagging::Behind)),
+        "world-bag-all" => Some(Operation::Bagged(Bagging::All)),
         _ => None,
     }
 }

@@ -1,2 +1,1 @@
 mod Registered
-pub mod Nothing

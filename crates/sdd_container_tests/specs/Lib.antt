@@ -1,4 +1,3 @@
 pub mod Station
 pub mod LeavesTime
-pub mod There
 pub mod Cargo

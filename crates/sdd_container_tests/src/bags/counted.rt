@@ -1,7 +1,7 @@
 //! Values that count how many of them there are.
 ghost use Rattle.std.specs.Prelude.{◌≡◌, Some};
 ghost use Rattle.sdd_space.specs.Guard.{reader_of};
-ghost use Rattle.sdd_container_tests.specs.There.{IsThere, MayCall};
+ghost use Rattle.sdd_bag.specs.There.{IsThere, MayCall};
 
 use crate::bags::example::{AMPLE, Bags, Entry, Example, StorageBag, in_a_world};
 use crate::bags::steps::{closed, made, opened, popped, pushed, shut};

@@ -1,6 +1,6 @@
 //! Examples over the parts of a space that bags are used in, and the world that they are run in.
 ghost use Rattle.std.specs.Prelude.{◌≡◌};
-ghost use Rattle.sdd_container_tests.specs.There.{MayCall};
+ghost use Rattle.sdd_bag.specs.There.{MayCall};
 
 use sdd_bag::{Bag, Storage};
 use sdd_core::Limits;

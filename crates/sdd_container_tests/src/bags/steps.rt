@@ -4,7 +4,7 @@ ghost use Rattle.std.specs.Iterator.{IsFinite};
 ghost use Rattle.sdd_space.specs.CallerId.{IsSeated};
 ghost use Rattle.sdd_space.specs.Guard.{reader_of};
 ghost use Rattle.sdd_space.specs.Out.{HoldsNothing};
-ghost use Rattle.sdd_container_tests.specs.There.{IsThere, MayCall};
+ghost use Rattle.sdd_bag.specs.There.{IsThere, MayCall};
 
 use crate::bags::example::Bags;
 use sdd_bag::{Bag, Shelf};

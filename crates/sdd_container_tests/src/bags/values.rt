@@ -1,6 +1,6 @@
 //! Bags of numbers.
 ghost use Rattle.std.specs.Prelude.{◌≡◌, ◌<◌, ◌≤◌};
-ghost use Rattle.sdd_container_tests.specs.There.{MayCall};
+ghost use Rattle.sdd_bag.specs.There.{MayCall};
 
 use crate::bags::example::{AMPLE, Bags, Entry, Example, StorageBag, in_a_world};
 use crate::bags::steps::{

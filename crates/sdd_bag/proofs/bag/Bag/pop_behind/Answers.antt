@@ -1,7 +1,7 @@
 use Rattle.std.proofs.Common.{rules, ◌≡◌, ◌<◌, inl, inr, List, None, true, false, length, drop, refl, ap, ◌∙◌, sym, subst, arith}
 use Rattle.sdd_bag.specs.Storage.{AreEmpty, KeptPlace, values_in}
 use Rattle.sdd_bag.specs.Values.{HasOneMore}
-use Rattle.sdd_bag.proofs.Marks.{with-length}
+use Rattle.sdd_bag.proofs.Prefixes.{with-length}
 use Rattle.sdd_bag.proofs.Values.{drop-with, values-left}
 use Rattle.sdd_space.specs.CallerId.{CallerId, IsExact, IsSeated}
 use Rattle.sdd_space.specs.World.{World}

@@ -1,7 +1,7 @@
 use Rattle.std.proofs.Common.{rules, ◌≡◌, ◌<◌, ◌++◌, ◌^◌, List, length, map, is_some, ap, ◌∙◌, sym, subst, arith}
 use Rattle.sdd_bag.specs.KeyedPlaces.{PlaceName}
 use Rattle.sdd_bag.specs.Storage.{AreEmpty, AreFull, KeptPlace, empty_place}
-use Rattle.sdd_bag.proofs.Marks.{value-new}
+use Rattle.sdd_bag.proofs.Prefixes.{value-new}
 use Rattle.sdd_rights.specs.Right.{home_of}
 use Rattle.sdd_rights.specs.declared.right.Right.{Right}
 use Rattle.sdd_space.specs.CallerId.{CallerId, IsExact}

@@ -1,7 +1,7 @@
 -- `take` parts the rights.
 use Rattle.atomic_table.proofs.Names.{◌≡◌, ℕ, ◌<◌, List, [], ◌∷◌, length, refl, a_type, named, Val, vptr, inst_fn, SProp, emp, ‵, raw, ◌⊛◌, ◌$◌, ◌∵◌, !, qed, by, keep, split, fjoin, use0, use1, move, fsplit, fsplit3, fjoin3, join, feq_i, no_more, and_then, returns, enter, alloc_all, pass_all, free_all, look_at, get, sets, agg, tables, RattleType, owns, types_at, plain, nothing, opens, closes, heard, param, layouts, Stays, stay_dropped, stay_ref, walk_of, Goes-dropped, Goes-ref, fact, fact_i, ftrue, Fml, fsep, flft, Lft, yes, mut_vals, mut_Tells, usize, uint_vals, uint_Tells, w64}
 use mir.Val.{vint}
-use Rattle.std.proofs.Common.{Option, Some, slice_get}
+use Rattle.std.proofs.Common.{Some, slice_get}
 use Rattle.atomic_table.proofs.Walks.{proved, leaves}
 use Rattle.atomic_table.proofs.Fields.{token_val}
 use Rattle.sdd_bag.specs.KeyedPlaces.{key_owns}

@@ -1,7 +1,7 @@
 use Rattle.std.proofs.Common.{rules}
 use Rattle.sdd_lists.specs.Stack.{cell_in}
 use Rattle.sdd_bag.specs.Bag.{overflow_of, values_of}
-use Rattle.sdd_container_tests.proofs.Nothing.{nothing-beside, nothing-of}
+use Rattle.sdd_bag.proofs.Nothing.{nothing-beside, nothing-of}
 use Rattle.sdd_container_tests.proofs.bags.steps.closed.Goals as goal
 
 pub close-requires : goal.close-requires

@@ -1,6 +1,6 @@
 use Rattle.std.proofs.Common.{rules, ap, ◌∙◌, sym, subst}
 use Rattle.sdd_space.specs.CallerId.{CallerId}
-use Rattle.sdd_container_tests.specs.There.{MayCall}
+use Rattle.sdd_bag.specs.There.{MayCall}
 use Rattle.sdd_container_tests.proofs.bags.counted.Factory.fill.Goals as goal
 
 pub pushed-requires : goal.pushed-requires

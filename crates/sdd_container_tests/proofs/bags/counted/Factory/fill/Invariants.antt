@@ -1,5 +1,5 @@
 use Rattle.std.proofs.Common.{◌≡◌, Some}
-use Rattle.sdd_container_tests.specs.There.{IsThere}
+use Rattle.sdd_bag.specs.There.{IsThere}
 use Rattle.sdd_container_tests.proofs.bags.counted.Factory.fill.Given as goal
 
 abbrev pub invariant-loop : goal.invariant-loop

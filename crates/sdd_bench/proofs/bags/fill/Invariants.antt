@@ -1,0 +1,9 @@
+use Rattle.std.proofs.Common.{◌≡◌, Some}
+use Rattle.sdd_bag.specs.There.{IsThere}
+use Rattle.sdd_bench.proofs.bags.fill.Given as goal
+
+abbrev pub invariant-loop-number : goal.invariant-loop-number
+invariant-loop-number g l = record {
+  seat : g.S.Caller.seat l.space ≡ g.S.Caller.seat l.fn.space;
+  there : IsThere (λ b. Some b) 32 (g.S.Caller.seat l.space) (g.S.Caller.world l.space) l.bag;
+}
