@@ -1,5 +1,5 @@
 -- The words of a line, the numbers that they are, and the calls: each call is read of its line
-use Rattle.std.proofs.Common.{◌≡◌, ℕ, ◌+◌, ◌<◌, ◌≤◌, ◌≢◌, Bool, true, false, eqb, leb, ◌&&◌, List, [], ◌∷◌, ◌++◌, length, length-append, get_or, take, drop, take-append-drop, map, Option, Some, None, IfSome, OnSome, MatchOption, Result, Ok, Err, refl, sym, ap, subst, ◌∙◌, lit<, arith, rules}
+use Rattle.std.proofs.Common.{◌≡◌, ℕ, ◌+◌, ◌<◌, ◌≤◌, ◌≢◌, Bool, true, false, eqb, leb, ◌&&◌, ◌^◌, List, [], ◌∷◌, ◌++◌, length, length-append, get_or, take, drop, take-append-drop, map, Option, Some, None, IfSome, OnSome, MatchOption, Result, Ok, Err, refl, sym, ap, subst, ◌∙◌, lit<, arith, rules}
 use Rattle.std.specs.Result.{result_ok}
 use Rattle.std.specs.Int.{IsInRange}
 use Rattle.std.specs.List.{All, AllByRecursion}
@@ -7,7 +7,7 @@ use Rattle.std.specs.Fmt.{decimal}
 use Rattle.std.specs.Str.{IsAscii, IsUtf8, bytes_eq}
 use Rattle.std.specs.Str.Parse.{AllDigits, digits_value, ParsesUnsigned}
 use Rattle.std.specs.Str.Pattern.{FindsCharPrefix, HasCharAt}
-use Rattle.std.proofs.lemmas.Bool.{ne_eqb, eq-eqb, cond-false, leb-true}
+use Rattle.std.proofs.lemmas.Bool.{ne_eqb, eq-eqb, cond-false, leb-true, ltb-true}
 use Rattle.std.proofs.lemmas.List.{length-map, drop_more, get_or-take, length-take-le}
 use Rattle.std.proofs.lemmas.List.Elements.{All-from_get_or, All-cons, All-weaker, All-from_recursion}
 use Rattle.std.proofs.lemmas.List.Splits.{slice_split_none, slice_split_at, join_with_byte-slice_split}
@@ -31,9 +31,9 @@ use Rattle.sdd_script_text.specs.declared.call.Word.{Word as FixedWord}
 use Rattle.sdd_script_text.specs.declared.call.Word.TheVariants.{Owned, Shared, Of, If, Was, Now}
 use Rattle.sdd_script_text.specs.Call.{IsNumber, IsWordOf, joined, words, fixed, word_of, spoken, words_of, line_of, HasNumber, HasNumbers, IsTextOf, IsCallText}
 use Rattle.sdd_script_text.specs.Reading.{IsNumberOf, number_at, numbered_at, numbered_argument_at, plain_arguments, argument_among, argument_at, place_call_at, call_at, most_arguments, arguments_at, few_arguments_at, with_arguments, called, ◌>>=◌}
-use Rattle.std.proofs.lemmas.Bool.Decides.{nat_tests}
+use Rattle.std.proofs.lemmas.Bool.Decides.{nat_tests, Decides-eqb}
 use Rattle.std.proofs.lemmas.Grind.{common_steps}
-use Rattle.std.specs.Prelude.{codes, if◌then◌else◌}
+use Rattle.std.specs.Prelude.{codes, ◌==◌, if◌then◌else◌}
 
 -- ---- words
 
@@ -149,6 +149,59 @@ argument_said (Stack s) h = name_said 115 s.0 h ∙ rw (number_at-decimal s.0 h)
 argument_said (Tag t) h = tag_said t
 argument_said (Word w) h = fixed_said w
 
+-- and what a word is read as has that word
+abbrev IsReadAs : List ℕ → Option Argument → Type 0
+IsReadAs word o = IfSome o (λ a. HasNumber a × (word_of a ≡ word))
+
+number_read : (word : List ℕ) → IfSome (number_at word) (λ n. IsNumber n × (decimal n ≡ word))
+unfolding number_at
+number_read word = by _ _ (bytes_eq-Decides (decimal (digits_value 10 word)) word).0 (ltb-true (digits_value 10 word) (2 ^ 64))
+  where
+    by : (same few : Bool) → (same ≡ true → decimal (digits_value 10 word) ≡ word) → (few ≡ true → digits_value 10 word < 2 ^ 64) →
+        IfSome (if same && few then Some (digits_value 10 word) else None) (λ n. IsNumber n × (decimal n ≡ word))
+    by true true same few = (few refl, same refl)
+    by true false same few = tt
+    by false few same _ = tt
+
+lettered_read : (letter byte : ℕ) (bytes : List ℕ) (make : ℕ → Argument) (rest : Option Argument) → ((n : ℕ) → IsNumber n → HasNumber (make n)) →
+    ((n : ℕ) → word_of (make n) ≡ letter ∷ decimal n) → IsReadAs (byte ∷ bytes) rest →
+    IsReadAs (byte ∷ bytes) (if byte == letter then (number_at bytes >>= λ n. Some (make n)) else rest)
+lettered_read letter byte bytes make rest has says others = by (eqb byte letter) (number_at bytes) ((Decides-eqb byte letter).0) (number_read bytes)
+  where
+    by : (same : Bool) (o : Option ℕ) → (same ≡ true → byte ≡ letter) → IfSome o (λ n. IsNumber n × (decimal n ≡ bytes)) →
+        IsReadAs (byte ∷ bytes) (if same then (o >>= λ n. Some (make n)) else rest)
+    by true None is read = tt
+    by true (Some n) is read = (has n read.0, says n ∙ ap (λ ds. letter ∷ ds) read.1 ∙ ap (λ b. b ∷ bytes) (sym (is refl)))
+    by false o is read = others
+
+numbered_read : (word : List ℕ) → IsReadAs word (numbered_argument_at word)
+numbered_read [] = tt
+numbered_read (byte ∷ bytes) =
+    lettered_read 103 byte bytes (λ n. Guard (record { 0 = n })) _ (λ n h. h) (λ n. refl)
+    (lettered_read 111 byte bytes (λ n. Owner (Some (record { 0 = n }))) _ (λ n h. h) (λ n. refl)
+    (lettered_read 105 byte bytes (λ n. Item (Some (record { 0 = n }))) _ (λ n h. h) (λ n. refl)
+    (lettered_read 99 byte bytes (λ n. Cell (record { 0 = n })) _ (λ n h. h) (λ n. refl)
+    (lettered_read 107 byte bytes (λ n. Collector (record { 0 = n })) _ (λ n h. h) (λ n. refl)
+    (lettered_read 115 byte bytes (λ n. Stack (record { 0 = n })) _ (λ n h. h) (λ n. refl)
+    (by (number_at (byte ∷ bytes)) (number_read (byte ∷ bytes))))))))
+  where
+    by : (o : Option ℕ) → IfSome o (λ n. IsNumber n × (decimal n ≡ byte ∷ bytes)) → IsReadAs (byte ∷ bytes) (o >>= λ n. Some (Number n))
+    by None read = tt
+    by (Some n) read = read
+
+among_read : (xs : List Argument) (word : List ℕ) → AllByRecursion HasNumber xs → IsReadAs word (argument_among xs word)
+among_read [] word h = numbered_read word
+among_read (a ∷ xs) word h = by (bytes_eq word (word_of a)) (bytes_eq-Decides word (word_of a)).0 (among_read xs word h.1)
+  where
+    by : (same : Bool) → (same ≡ true → word ≡ word_of a) → IsReadAs word (argument_among xs word) →
+        IsReadAs word (if same then Some a else argument_among xs word)
+    by true is others = (h.0, sym (is refl))
+    by false is others = others
+
+-- so an argument that a word is has the word's text
+pub argument_read : (word : List ℕ) (a : Argument) → Some a ≡ argument_at word → HasNumber a × (word_of a ≡ word)
+argument_read word a e = rw (← e) at (among_read plain_arguments word (search rules))
+
 -- arguments are what their words are
 arguments_said : (xs : List Argument) → AllByRecursion HasNumber xs → arguments_at (map word_of xs) ≡ Some xs
 arguments_said [] h = refl
@@ -158,8 +211,9 @@ few_said : (xs : List Argument) → AllByRecursion HasNumber xs → length xs �
 few_said xs h l = grind (arith, nat_tests, length-map xs word_of, arguments_said xs h)
 
 pub all_read : (xs ys : List Argument) (x : Argument) (word : List ℕ) (all : List (List ℕ)) → map word_of xs ++ word ∷ [] ≡ all →
-    AllByRecursion HasNumber xs → HasNumber x → word_of x ≡ word → length xs < most_arguments → ys ≡ xs ++ x ∷ [] → Some ys ≡ few_arguments_at all
-all_read xs ys x word all e h k w l r =
+    AllByRecursion HasNumber xs → Some x ≡ argument_at word → length xs < most_arguments → ys ≡ xs ++ x ∷ [] → Some ys ≡ few_arguments_at all
+all_read xs ys x word all e h read l r =
+    let (k, w) : HasNumber x × (word_of x ≡ word) = argument_read word x read in
     let told : map word_of (xs ++ x ∷ []) ≡ all = grind (arith, common_steps) in
     ap Some r ∙ sym (few_said (xs ++ x ∷ []) (grind (arith, common_steps)) (omega (arith, length-append xs (x ∷ [])))) ∙ ap few_arguments_at told
 

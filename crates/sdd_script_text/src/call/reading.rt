@@ -35,8 +35,7 @@ fn numbered(letter: char, word: &str) -> Option<u64>
 
 #[tactic(auto, using(crate::proofs::Lines::one_argument))]
 fn argument(word: &str) -> Option<Argument>
-    ensures is { result ≡ argument_at word.now }
-    ensures sound { IfSome result (λ argument. HasNumber argument × (word_of argument ≡ word.now)) }
+    ensures { result ≡ argument_at word.now }
 {
     match word {
         "none" => Some(Argument::Owner(None)),
@@ -58,8 +57,7 @@ fn argument(word: &str) -> Option<Argument>
 /// A number by itself, or behind a letter that says what it names.
 #[tactic(auto, using(crate::proofs::Lines::one_argument))]
 fn numbered_argument(word: &str) -> Option<Argument>
-    ensures is { result ≡ numbered_argument_at word.now }
-    ensures sound { IfSome result (λ argument. HasNumber argument × (word_of argument ≡ word.now)) }
+    ensures { result ≡ numbered_argument_at word.now }
 {
     match word.as_bytes() {
         [b'g', ..] => Some(Argument::Guard(GuardName(numbered('g', word)?))),
@@ -210,42 +208,71 @@ fn with_one(verb: &str, argument: Argument) -> Option<Action>
     }
 }
 
-/// The verbs with two arguments.
-fn with_two(verb: &str, first: Argument, second: Argument) -> Option<Action>
-    ensures { result ≡ called verb.now (with_arguments (first ∷ second ∷ [])) }
+/// The verbs with a guard behind another argument.
+fn with_guard_behind(verb: &str, first: Argument, guard: GuardName) -> Option<Action>
+    ensures { result ≡ called verb.now (with_arguments (first ∷ Argument.Guard guard ∷ [])) }
 {
-    match (first, second) {
-        (Argument::Item(Some(item)), Argument::Guard(guard)) => match verb {
+    match first {
+        Argument::Item(Some(item)) => match verb {
             "look" => Some(Action::Look(item, guard)),
             "upgrade" => Some(Action::Upgrade(item, guard)),
             "see" => Some(Action::See(item, guard)),
             _ => None,
         },
-        (Argument::Stack(stack), Argument::Guard(guard)) => match verb {
+        Argument::Stack(stack) => match verb {
             "pop" => Some(Action::Pop(stack, guard)),
             _ => None,
         },
-        (Argument::Owner(Some(owner)), Argument::Number(number)) => match verb {
-            "put" => Some(Action::Put(owner, number)),
-            _ => None,
-        },
-        (Argument::Cell(cell), Argument::Guard(guard)) => match verb {
+        Argument::Cell(cell) => match verb {
             "load" => Some(Action::Load(cell, guard)),
             "copy" => Some(Action::Copy(cell, guard)),
             "share" => Some(Action::Share(cell, guard)),
             _ => None,
         },
-        (Argument::Word(Word::Of), Argument::Owner(Some(owner))) => match verb {
-            "owned" => Some(Action::Owned(Value::Of(owner))),
-            "shared" => Some(Action::Shared(Value::Of(owner))),
-            _ => None,
-        },
-        (Argument::Word(Word::Owned), Argument::Owner(held)) => match verb {
+        _ => None,
+    }
+}
+
+/// The verbs with a word behind which an owner, or `none`, stands.
+fn with_owner_behind(verb: &str, word: Word, held: Option<OwnerName>) -> Option<Action>
+    ensures { result ≡ called verb.now (with_arguments (Argument.Word word ∷ Argument.Owner held ∷ [])) }
+{
+    match word {
+        Word::Of => {
+            let owner = held?;
+            match verb {
+                "owned" => Some(Action::Owned(Value::Of(owner))),
+                "shared" => Some(Action::Shared(Value::Of(owner))),
+                _ => None,
+            }
+        }
+        Word::Owned => match verb {
             "cell" => Some(Action::CellOwned(held)),
             _ => None,
         },
-        (Argument::Word(Word::Shared), Argument::Owner(held)) => match verb {
+        Word::Shared => match verb {
             "cell" => Some(Action::CellShared(held)),
+            _ => None,
+        },
+        _ => None,
+    }
+}
+
+/// The verbs with two arguments.
+fn with_two(verb: &str, first: Argument, second: Argument) -> Option<Action>
+    ensures { result ≡ called verb.now (with_arguments (first ∷ second ∷ [])) }
+{
+    match second {
+        Argument::Guard(guard) => with_guard_behind(verb, first, guard),
+        Argument::Owner(held) => match first {
+            Argument::Word(word) => with_owner_behind(verb, word, held),
+            _ => None,
+        },
+        Argument::Number(number) => match first {
+            Argument::Owner(Some(owner)) => match verb {
+                "put" => Some(Action::Put(owner, number)),
+                _ => None,
+            },
             _ => None,
         },
         _ => None,
