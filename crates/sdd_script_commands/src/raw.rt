@@ -12,7 +12,7 @@ use sdd_script_names::participants::under;
 use sdd_script_text::{Action, Call, GuardName, ItemName, OwnerName, PlaceName, Reply};
 use sdd_space_commands::holding::{AnyOwner, slot_of_sole};
 use sdd_space_commands::raw::{ComeBack, DropOwner, GoRaw, PutNumber, SeeRaw};
-use sdd_space_commands::turns::step_at;
+use sdd_space_commands::turns::{in_place_step_at, raw_step_at};
 use std::alloc::AllocError;
 
 /// `P put O n`: the number that an owner's item holds becomes this one, in its place. `NotAlone` and `GuardOpen` are replies.
@@ -32,7 +32,7 @@ pub fn put(stage: &mut Interpreter, name: PlaceName, owner: OwnerName, number: u
     let Some(held) = stage.hand.owners.take(owner.0) else {
         unreachable!()
     };
-    let (held, put) = step_at(
+    let (held, put) = in_place_step_at(
         &mut stage.hand.world,
         &attending.place,
         PutNumber {
@@ -60,7 +60,7 @@ pub fn drop_owner(stage: &mut Interpreter, name: PlaceName, owner: OwnerName) ->
     stage.hand.world.is_whole();
     let given = slot_given(value_of(&held, &stage.hand.world));
     let place = &attending.place;
-    let reply = match step_at(&mut stage.hand.world, place, DropOwner { owner: held }) {
+    let reply = match in_place_step_at(&mut stage.hand.world, place, DropOwner { owner: held }) {
         Ok(reply) => reply,
         Err((held, refused)) => {
             stage.hand.owners.put_back(owner.0, held);
@@ -84,7 +84,7 @@ pub fn put_out_raw(stage: &mut Interpreter, name: PlaceName, owner: OwnerName) -
     };
     stage.hand.world.is_whole();
     let slot = slot_of_sole(&owner);
-    step_at(&mut stage.hand.world, &attending.place, GoRaw { owner });
+    raw_step_at(&mut stage.hand.world, &attending.place, GoRaw { owner });
     Reply::Raw(ItemName(stage.hand.names[slot as usize]))
 }
 
@@ -107,7 +107,7 @@ pub fn take_back_raw(
     let Some(slot) = slot_since(&stage.hand.world, slots, names, dates, item, 0) else {
         return Ok(Reply::Invalid);
     };
-    match step_at(&mut stage.hand.world, &attending.place, ComeBack { slot }) {
+    match raw_step_at(&mut stage.hand.world, &attending.place, ComeBack { slot }) {
         Some(owner) => {
             let name = stage.hand.owners.give(AnyOwner::Sole(owner));
             Ok(Reply::Owner(OwnerName(name)))
@@ -132,7 +132,7 @@ pub fn see(stage: &mut Interpreter, name: PlaceName, item: ItemName, guard: Guar
     };
     let guard = &held.guard;
     let place = &attending.place;
-    let Some(value) = step_at(&mut stage.hand.world, place, SeeRaw { slot, guard }) else {
+    let Some(value) = raw_step_at(&mut stage.hand.world, place, SeeRaw { slot, guard }) else {
         return Reply::Nothing;
     };
     told(value, names)

@@ -12,14 +12,12 @@ ghost use Rattle.sdd_script_model.specs.ScriptState.{slot_of};
 ghost use Rattle.sdd_space_commands.specs.Owners.{cell_holding, cell_number, filling_holding, filling_kind, holding_around};
 
 use crate::holding::{AnyCell, CellOwner, slot_of_share, slot_of_sole};
-use crate::step::CellCommand;
+use crate::step::{CellCommand, ItemCommand};
 use sdd_core::Tag;
 use sdd_participants::CellContents;
 use sdd_script_model::Val;
 use sdd_space::inner::slot_of_ptr;
-use sdd_space::{
-    AtomicOwned, AtomicShared, Cells, Collectors, Guard, Items, RawCells, RawPtr, SharedItems,
-};
+use sdd_space::{AtomicOwned, AtomicShared, Cells, Guard, Items, RawPtr, SharedItems};
 
 /// A new cell, filled with this.
 pub struct MakeCell {
@@ -35,10 +33,7 @@ impl CellCommand for MakeCell {
         IsEmptyAt before.cells k
         × (after ≡ with_cell before k (record { held = slot_of (filling_holding step.filling); tag = no_tag })) };
 
-    fn done<S: Items<Val> + SharedItems<Val> + Cells<Val> + RawCells<Val> + Collectors<Val>>(
-        self,
-        s: &mut S,
-    ) -> AnyCell {
+    fn done<S: Cells<Val>>(self, s: &mut S) -> AnyCell {
         let MakeCell { filling } = self;
         match filling {
             CellOwner::Sole(None) => match AtomicOwned::null(s) {
@@ -74,10 +69,7 @@ impl CellCommand for LoadCell<'_> {
 
     ghost does = { λ step _ _ before loaded after. (entry_at before.cells (cell_number step.cell.now) ≡ Some loaded) × (after ≡ before) };
 
-    fn done<S: Items<Val> + SharedItems<Val> + Cells<Val> + RawCells<Val> + Collectors<Val>>(
-        self,
-        s: &mut S,
-    ) -> CellContents {
+    fn done<S: Cells<Val>>(self, s: &mut S) -> CellContents {
         let LoadCell { cell, guard } = self;
         let ptr = match cell {
             AnyCell::Sole(cell) => cell.load(guard, s),
@@ -103,10 +95,7 @@ impl CellCommand for ReadTag<'_> {
     ghost does = { λ step _ _ before tag after. (held : CellContents) × (entry_at before.cells (cell_number step.cell.now) ≡ Some held) × (tag ≡ held.tag) ×
         (after ≡ before) };
 
-    fn done<S: Items<Val> + SharedItems<Val> + Cells<Val> + RawCells<Val> + Collectors<Val>>(
-        self,
-        s: &mut S,
-    ) -> Tag {
+    fn done<S: Cells<Val>>(self, s: &mut S) -> Tag {
         let ReadTag { cell } = self;
         match cell {
             AnyCell::Sole(cell) => cell.tag(s),
@@ -131,10 +120,7 @@ impl CellCommand for TagIf<'_> {
         × (IsTrue had ↔ (held.tag ≡ step.was))
         × (after ≡ (if had then with_cell before (cell_number step.cell.now) (record held { tag = step.tag }) else before)) };
 
-    fn done<S: Items<Val> + SharedItems<Val> + Cells<Val> + RawCells<Val> + Collectors<Val>>(
-        self,
-        s: &mut S,
-    ) -> bool {
+    fn done<S: Cells<Val>>(self, s: &mut S) -> bool {
         let TagIf { cell, tag, was } = self;
         let has_tag = move |ptr: RawPtr<Val>| -> bool
             ensures { IsTrue result ↔ (tag_held ptr ≡ was) }
@@ -164,10 +150,7 @@ impl CellCommand for PeekCell<'_> {
 
     ghost does = { λ step _ _ before slot after. (slot ≡ held_in (entry_at before.cells (cell_number step.cell.now))) × (after ≡ before) };
 
-    fn done<S: Items<Val> + SharedItems<Val> + Cells<Val> + RawCells<Val> + Collectors<Val>>(
-        self,
-        s: &mut S,
-    ) -> Option<u32> {
+    fn done<S: Cells<Val>>(self, s: &mut S) -> Option<u32> {
         let PeekCell { cell } = self;
         match cell {
             AnyCell::Sole(cell) => {
@@ -197,17 +180,14 @@ pub struct CloseCell {
     pub cell: AnyCell,
 }
 
-impl CellCommand for CloseCell {
+impl ItemCommand for CloseCell {
     type Out = ();
 
     ghost asks = { λ step home _ _. IsOf home (cell_holding step.cell) };
 
     ghost does = { λ step _ place before _ after. after ≡ cell_closed before place (cell_number step.cell) };
 
-    fn done<S: Items<Val> + SharedItems<Val> + Cells<Val> + RawCells<Val> + Collectors<Val>>(
-        self,
-        s: &mut S,
-    ) {
+    fn done<S: Items<Val> + SharedItems<Val> + Cells<Val>>(self, s: &mut S) {
         let CloseCell { cell } = self;
         match cell {
             AnyCell::Sole(cell) => cell.close(s),

@@ -15,16 +15,16 @@ ghost use Rattle.sdd_script_model.specs.Val.{Val, holdings_of};
 ghost use Rattle.sdd_space_commands.specs.Owners.{owner_holding};
 
 use crate::holding::AnyOwner;
-use crate::step::CellCommand;
+use crate::step::CollectorCommand;
 use sdd_core::Refused;
 use sdd_script_model::Val;
 use sdd_script_text::Reply;
-use sdd_space::{Cells, Collectors, Guard, Items, PrivateCollector, RawCells, SharedItems};
+use sdd_space::{Collectors, Guard, PrivateCollector, RawCells};
 
 /// A new collector, for which nothing waits.
 pub struct MakeCollector;
 
-impl CellCommand for MakeCollector {
+impl CollectorCommand for MakeCollector {
     type Out = Result<PrivateCollector<Val>, Refused>;
 
     ghost asks = { λ _ _ _ _. Unit {0} };
@@ -34,7 +34,7 @@ impl CellCommand for MakeCollector {
         (λ collector. IsEmptyAt before.cells (collector_of collector) × (after ≡ pointing before (collector_of collector) null_pointer))
         (λ e. IsFull before.cells × (e ≡ refused.NoCell) × (after ≡ before)) };
 
-    fn done<S: Items<Val> + SharedItems<Val> + Cells<Val> + RawCells<Val> + Collectors<Val>>(
+    fn done<S: RawCells<Val> + Collectors<Val>>(
         self,
         s: &mut S,
     ) -> Result<PrivateCollector<Val>, Refused> {
@@ -51,7 +51,7 @@ pub struct GiveToCollector<'a> {
     pub guard: &'a Guard,
 }
 
-impl CellCommand for GiveToCollector<'_> {
+impl CollectorCommand for GiveToCollector<'_> {
     type Out = Reply;
 
     ghost asks = { λ step home reader _. (cells_home step.collector.now ≡ home.cells) × IsOf home (owner_holding step.owner)
@@ -59,10 +59,7 @@ impl CellCommand for GiveToCollector<'_> {
 
     ghost does = { λ step _ place before reply after. Collects before place (collector_of step.collector.now) (owner_holding step.owner) reply after };
 
-    fn done<S: Items<Val> + SharedItems<Val> + Cells<Val> + RawCells<Val> + Collectors<Val>>(
-        self,
-        s: &mut S,
-    ) -> Reply {
+    fn done<S: RawCells<Val> + Collectors<Val>>(self, s: &mut S) -> Reply {
         let GiveToCollector {
             collector,
             owner,
@@ -84,7 +81,7 @@ pub struct CloseCollector {
     pub collector: PrivateCollector<Val>,
 }
 
-impl CellCommand for CloseCollector {
+impl CollectorCommand for CloseCollector {
     type Out = Result<(), (PrivateCollector<Val>, Refused)>;
 
     ghost asks = { λ step home _ _. cells_home step.collector ≡ home.cells };
@@ -95,7 +92,7 @@ impl CellCommand for CloseCollector {
         × (after ≡ collector_closed holdings_of before place (collector_of step.collector)))
         (λ e. AnyGuardOpen before × (e.1 ≡ refused.GuardOpen) × (after ≡ before)) };
 
-    fn done<S: Items<Val> + SharedItems<Val> + Cells<Val> + RawCells<Val> + Collectors<Val>>(
+    fn done<S: RawCells<Val> + Collectors<Val>>(
         self,
         s: &mut S,
     ) -> Result<(), (PrivateCollector<Val>, Refused)> {

@@ -21,9 +21,7 @@ use sdd_core::{Refused, Tag};
 use sdd_participants::CellContents;
 use sdd_script_model::Val;
 use sdd_space::inner::slot_of_ptr;
-use sdd_space::{
-    AtomicShared, Cells, Collectors, Guard, Items, Ptr, RawCells, Shared, SharedItems,
-};
+use sdd_space::{AtomicShared, Cells, Guard, Ptr, Shared};
 
 /// The cell holds this from now on, with this tag. Out come what it held, and the tag before.
 pub struct SwapIn<'a> {
@@ -42,10 +40,7 @@ impl CellCommand for SwapIn<'_> {
         × (filling_holding out.0 ≡ held_as (cell_kind step.cell.now) held.held home.slots)
         × (after ≡ with_cell before (cell_number step.cell.now) (record { held = slot_of (filling_holding step.next); tag = step.tag })) };
 
-    fn done<S: Items<Val> + SharedItems<Val> + Cells<Val> + RawCells<Val> + Collectors<Val>>(
-        self,
-        s: &mut S,
-    ) -> (CellOwner, Tag) {
+    fn done<S: Cells<Val>>(self, s: &mut S) -> (CellOwner, Tag) {
         let SwapIn { cell, next, tag } = self;
         match (cell, next) {
             (AnyCell::Sole(cell), CellOwner::Sole(next)) => {
@@ -83,10 +78,7 @@ impl CellCommand for ExchangeIn<'_> {
         (λ e. (filling_holding e.0 ≡ filling_holding step.next) × (entry_at before.cells (cell_number step.cell.now) ≡ Some e.1)
         × (e.1 ≢ cell_seen step.current) × (after ≡ before)) };
 
-    fn done<S: Items<Val> + SharedItems<Val> + Cells<Val> + RawCells<Val> + Collectors<Val>>(
-        self,
-        s: &mut S,
-    ) -> Result<CellOwner, (CellOwner, CellContents)> {
+    fn done<S: Cells<Val>>(self, s: &mut S) -> Result<CellOwner, (CellOwner, CellContents)> {
         let ExchangeIn {
             cell,
             guard,
@@ -136,10 +128,7 @@ impl CellCommand for TakeOut {
         × (filling_holding filling ≡ held_as (cell_kind step.cell) held.held home.slots)
         × (after ≡ without_cell before (cell_number step.cell)) };
 
-    fn done<S: Items<Val> + SharedItems<Val> + Cells<Val> + RawCells<Val> + Collectors<Val>>(
-        self,
-        s: &mut S,
-    ) -> CellOwner {
+    fn done<S: Cells<Val>>(self, s: &mut S) -> CellOwner {
         let TakeOut { cell } = self;
         match cell {
             AnyCell::Sole(cell) => CellOwner::Sole(cell.into_owned(s)),
@@ -167,10 +156,7 @@ impl CellCommand for ShareHeld<'_> {
         (λ e. (e ≡ refused.TooManyOwners) × IfSome held.held (λ slot. IsSharedBy (2 ^ 62) (standing_at before slot)) × IsSome held.held
         × (after ≡ before))) };
 
-    fn done<S: Items<Val> + SharedItems<Val> + Cells<Val> + RawCells<Val> + Collectors<Val>>(
-        self,
-        s: &mut S,
-    ) -> Result<Option<Shared<Val>>, Refused> {
+    fn done<S: Cells<Val>>(self, s: &mut S) -> Result<Option<Shared<Val>>, Refused> {
         let ShareHeld { guard, cell } = self;
         cell.get_shared(guard, s)
     }
@@ -197,10 +183,7 @@ impl CellCommand for CopyCell<'_> {
         ¬ (IsFull before.cells) × (e ≡ refused.TooManyOwners) × IsSome held.held
         × IfSome held.held (λ slot. IsSharedBy (2 ^ 62) (standing_at before slot))))) };
 
-    fn done<S: Items<Val> + SharedItems<Val> + Cells<Val> + RawCells<Val> + Collectors<Val>>(
-        self,
-        s: &mut S,
-    ) -> Result<AtomicShared<Val>, Refused> {
+    fn done<S: Cells<Val>>(self, s: &mut S) -> Result<AtomicShared<Val>, Refused> {
         let CopyCell { guard, cell } = self;
         cell.clone(guard, s)
     }

@@ -8,10 +8,10 @@ ghost use Rattle.sdd_space_commands.specs.Owners.{owner_holding};
 ghost use Rattle.sdd_script_model.specs.Held.{standing_first, holding_first};
 
 use crate::holding::AnyOwner;
-use crate::step::CellCommand;
+use crate::step::ItemCommand;
 use sdd_lists::LinkedEntry;
 use sdd_script_model::{Body, OwnerKind, Val};
-use sdd_space::{Cells, Collectors, Items, Owned, RawCells, Shared, SharedItems};
+use sdd_space::{Cells, Items, Owned, Shared, SharedItems};
 
 /// A new item, which holds this, and a cell for its link.
 pub struct MakeItem {
@@ -19,7 +19,7 @@ pub struct MakeItem {
     pub ownership: OwnerKind,
 }
 
-impl CellCommand for MakeItem {
+impl ItemCommand for MakeItem {
     type Out = AnyOwner;
 
     ghost asks = { λ step home _ world. ¬ (IsFull world.cells) × ¬ (IsFull world.standings) × AreOf home (owner_in step.body) };
@@ -29,10 +29,7 @@ impl CellCommand for MakeItem {
         × (body_of entry ≡ step.body) × (link_of entry ≡ cell) × (link_home entry ≡ home.cells)
         × (after ≡ made_as (nulled before cell) k entry (standing_first step.ownership)) };
 
-    fn done<S: Items<Val> + SharedItems<Val> + Cells<Val> + RawCells<Val> + Collectors<Val>>(
-        self,
-        s: &mut S,
-    ) -> AnyOwner {
+    fn done<S: Items<Val> + SharedItems<Val> + Cells<Val>>(self, s: &mut S) -> AnyOwner {
         let MakeItem { body, ownership } = self;
         let value = match LinkedEntry::new(body, s) {
             Ok(value) => value,

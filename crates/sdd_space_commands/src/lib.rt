@@ -16,4 +16,7 @@ pub mod step;
 pub mod turns;
 
 pub use holding::{AnyCell, AnyOwner, CellOwner};
-pub use step::{CellCommand, SpaceCommand};
+pub use step::{
+    CellCommand, CollectorCommand, GuardCommand, InPlaceCommand, ItemCommand, ListCommand,
+    RawCommand,
+};

@@ -9,7 +9,7 @@ use crate::step::CellCommand;
 use sdd_core::Tag;
 use sdd_lists::LinkedList;
 use sdd_script_model::{LinkChange, Val};
-use sdd_space::{Cells, Collectors, Items, RawCells, SharedItems};
+use sdd_space::Cells;
 
 /// Changes the tag of an entry's link, if it may, and tells whether it did.
 pub struct ChangeLink<'a> {
@@ -25,10 +25,7 @@ impl CellCommand for ChangeLink<'_> {
     ghost does = { λ step _ _ before changed after. (cell : CellContents) × (entry_at before.cells (link_of step.entry.now) ≡ Some cell)
         × (changed ≡ may_change step.change cell.tag) × (after ≡ retagged before (link_of step.entry.now) cell step.change changed) };
 
-    fn done<S: Items<Val> + SharedItems<Val> + Cells<Val> + RawCells<Val> + Collectors<Val>>(
-        self,
-        s: &mut S,
-    ) -> bool {
+    fn done<S: Cells<Val>>(self, s: &mut S) -> bool {
         let ChangeLink { entry, change } = self;
         match change {
             LinkChange::Mark => match entry.mark(s) {
@@ -60,10 +57,7 @@ impl CellCommand for ReadLinkTag<'_> {
     ghost does = { λ step _ _ before tag after. (cell : CellContents) × (entry_at before.cells (link_of step.entry.now) ≡ Some cell) × (tag ≡ cell.tag)
         × (after ≡ before) };
 
-    fn done<S: Items<Val> + SharedItems<Val> + Cells<Val> + RawCells<Val> + Collectors<Val>>(
-        self,
-        s: &mut S,
-    ) -> Tag {
+    fn done<S: Cells<Val>>(self, s: &mut S) -> Tag {
         let ReadLinkTag { entry } = self;
         entry.link_ref().tag(s)
     }

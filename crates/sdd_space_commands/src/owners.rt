@@ -11,20 +11,17 @@ ghost use Rattle.sdd_core.specs.declared.refused.Refused.TheVariants as refused;
 ghost use Rattle.sdd_space.specs.Shared as shared_owner;
 ghost use Rattle.sdd_participants.specs.declared.standing.Standing.TheVariants as standing;
 
-use crate::step::SpaceCommand;
+use crate::step::ItemCommand;
 use sdd_core::Refused;
-use sdd_participants::Idle;
 use sdd_script_model::Val;
-use sdd_space::{
-    Deferrals, Guards, InPlaceItems, Items, Look, Owned, Ptr, RawItems, Shared, SharedItems,
-};
+use sdd_space::{Cells, Items, Owned, Ptr, Shared, SharedItems};
 
 /// The only owner retires its item, which waits with the participant.
 pub struct RetireItem {
     pub owner: Owned<Val>,
 }
 
-impl SpaceCommand for RetireItem {
+impl ItemCommand for RetireItem {
     type Out = ();
 
     ghost asks = { λ step home _ _. slots_home step.owner ≡ home.slots };
@@ -32,15 +29,7 @@ impl SpaceCommand for RetireItem {
     ghost does = { λ step _ place before _ after. (after ≡ retired before place (slot_of step.owner)) ×
         (standing_at before (slot_of step.owner) ≡ Some standing.Owned) };
 
-    fn done<
-        S: Look<Val>
-            + Guards<Val>
-            + Items<Val>
-            + InPlaceItems<Val>
-            + SharedItems<Val>
-            + RawItems<Val>
-            + Deferrals<Val, Job = Idle>,
-    >(self, s: &mut S) {
+    fn done<S: Items<Val> + SharedItems<Val> + Cells<Val>>(self, s: &mut S) {
         let RetireItem { owner } = self;
         owner.retire(s);
     }
@@ -51,7 +40,7 @@ pub struct ReleaseOwner {
     pub owner: Shared<Val>,
 }
 
-impl SpaceCommand for ReleaseOwner {
+impl ItemCommand for ReleaseOwner {
     type Out = bool;
 
     ghost asks = { λ step home _ _. shared_owner.slots_home step.owner ≡ home.slots };
@@ -60,15 +49,7 @@ impl SpaceCommand for ReleaseOwner {
         (IsTrue was_last ↔ (owners ≡ 1))
         × (after ≡ owner_given before place (shared_owner.slot_of step.owner) (Some (shared_by owners))) };
 
-    fn done<
-        S: Look<Val>
-            + Guards<Val>
-            + Items<Val>
-            + InPlaceItems<Val>
-            + SharedItems<Val>
-            + RawItems<Val>
-            + Deferrals<Val, Job = Idle>,
-    >(self, s: &mut S) -> bool {
+    fn done<S: Items<Val> + SharedItems<Val> + Cells<Val>>(self, s: &mut S) -> bool {
         let ReleaseOwner { owner } = self;
         owner.release(s)
     }
@@ -79,7 +60,7 @@ pub struct CloneOwner<'a> {
     pub owner: &'a Shared<Val>,
 }
 
-impl SpaceCommand for CloneOwner<'_> {
+impl ItemCommand for CloneOwner<'_> {
     type Out = Result<Shared<Val>, Refused>;
 
     ghost asks = { λ step home _ _. shared_owner.slots_home step.owner.now ≡ home.slots };
@@ -90,15 +71,10 @@ impl SpaceCommand for CloneOwner<'_> {
         (λ _. (owners < 2 ^ 62) × (after ≡ with_standing before (shared_owner.slot_of step.owner.now) (shared_by (owners + 1))))
         (λ e. (owners ≡ 2 ^ 62) × (e ≡ refused.TooManyOwners) × (after ≡ before))) };
 
-    fn done<
-        S: Look<Val>
-            + Guards<Val>
-            + Items<Val>
-            + InPlaceItems<Val>
-            + SharedItems<Val>
-            + RawItems<Val>
-            + Deferrals<Val, Job = Idle>,
-    >(self, s: &mut S) -> Result<Shared<Val>, Refused> {
+    fn done<S: Items<Val> + SharedItems<Val> + Cells<Val>>(
+        self,
+        s: &mut S,
+    ) -> Result<Shared<Val>, Refused> {
         let CloneOwner { owner } = self;
         owner.clone(s)
     }
@@ -109,7 +85,7 @@ pub struct ShareItem<'a> {
     pub ptr: Ptr<'a, Val>,
 }
 
-impl SpaceCommand for ShareItem<'_> {
+impl ItemCommand for ShareItem<'_> {
     type Out = Result<Option<Shared<Val>>, Refused>;
 
     ghost asks = { λ _ _ _ _. Unit {0} };
@@ -122,15 +98,10 @@ impl SpaceCommand for ShareItem<'_> {
         × (after ≡ with_standing before slot (shared_by (owners + 1)))))
         (λ e. (e ≡ refused.TooManyOwners) × IsSharedBy (2 ^ 62) (standing_at before slot) × (after ≡ before)) };
 
-    fn done<
-        S: Look<Val>
-            + Guards<Val>
-            + Items<Val>
-            + InPlaceItems<Val>
-            + SharedItems<Val>
-            + RawItems<Val>
-            + Deferrals<Val, Job = Idle>,
-    >(self, s: &mut S) -> Result<Option<Shared<Val>>, Refused> {
+    fn done<S: Items<Val> + SharedItems<Val> + Cells<Val>>(
+        self,
+        s: &mut S,
+    ) -> Result<Option<Shared<Val>>, Refused> {
         let ShareItem { ptr } = self;
         ptr.get_shared(s)
     }

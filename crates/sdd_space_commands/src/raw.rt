@@ -14,15 +14,13 @@ ghost use Rattle.sdd_participants.specs.declared.standing.Standing.TheVariants a
 ghost use Rattle.sdd_script_model.specs.ScriptState as desk;
 
 use crate::holding::AnyOwner;
-use crate::step::SpaceCommand;
+use crate::step::{InPlaceCommand, RawCommand};
 use sdd_core::{Refused, Tag};
-use sdd_participants::{Idle, RawCellContents};
+use sdd_participants::RawCellContents;
 use sdd_script_model::Val;
 use sdd_script_text::Reply;
 use sdd_space::inner::raw_ptr_of;
-use sdd_space::{
-    Deferrals, Guard, Guards, InPlaceItems, Items, Look, Owned, RawItems, SharedItems,
-};
+use sdd_space::{Guard, InPlaceItems, LookThrough, Owned, RawItems};
 
 /// The number of an owner's item is changed in its place; an owner of the same item comes back.
 pub struct PutNumber {
@@ -30,7 +28,7 @@ pub struct PutNumber {
     pub number: u64,
 }
 
-impl SpaceCommand for PutNumber {
+impl InPlaceCommand for PutNumber {
     type Out = (AnyOwner, Result<(), Refused>);
 
     ghost asks = { λ step home _ _. IsOf home (owner_holding step.owner) };
@@ -39,15 +37,7 @@ impl SpaceCommand for PutNumber {
         × ((k : ℕ) × (desk.slot_of (Some (owner_holding step.owner)) ≡ Some k)
         × MatchResult out.1 (λ _. MayInPlace before k × Puts before k step.number after) (λ e. RefusedInPlace before k e × (after ≡ before))) };
 
-    fn done<
-        S: Look<Val>
-            + Guards<Val>
-            + Items<Val>
-            + InPlaceItems<Val>
-            + SharedItems<Val>
-            + RawItems<Val>
-            + Deferrals<Val, Job = Idle>,
-    >(self, s: &mut S) -> (AnyOwner, Result<(), Refused>) {
+    fn done<S: InPlaceItems<Val>>(self, s: &mut S) -> (AnyOwner, Result<(), Refused>) {
         let PutNumber { owner, number } = self;
         let put = move |value: &mut Val|
             ensures { Renumbers value.old number value.new }
@@ -72,7 +62,7 @@ pub struct DropOwner {
     pub owner: AnyOwner,
 }
 
-impl SpaceCommand for DropOwner {
+impl InPlaceCommand for DropOwner {
     type Out = Result<Reply, (AnyOwner, Refused)>;
 
     ghost asks = { λ step home _ _. IsOf home (owner_holding step.owner) };
@@ -82,15 +72,7 @@ impl SpaceCommand for DropOwner {
         (λ e. (owner_holding e.0 ≡ owner_holding step.owner) × (e.1 ≡ refused.GuardOpen) × RefusesDrop before (owner_holding step.owner)
         × (after ≡ before)) };
 
-    fn done<
-        S: Look<Val>
-            + Guards<Val>
-            + Items<Val>
-            + InPlaceItems<Val>
-            + SharedItems<Val>
-            + RawItems<Val>
-            + Deferrals<Val, Job = Idle>,
-    >(self, s: &mut S) -> Result<Reply, (AnyOwner, Refused)> {
+    fn done<S: InPlaceItems<Val>>(self, s: &mut S) -> Result<Reply, (AnyOwner, Refused)> {
         let DropOwner { owner } = self;
         match owner {
             AnyOwner::Sole(held) => match held.drop_in_place(s) {
@@ -110,7 +92,7 @@ pub struct GoRaw {
     pub owner: Owned<Val>,
 }
 
-impl SpaceCommand for GoRaw {
+impl RawCommand for GoRaw {
     type Out = ();
 
     ghost asks = { λ step home _ _. slots_home step.owner ≡ home.slots };
@@ -118,15 +100,7 @@ impl SpaceCommand for GoRaw {
     ghost does = { λ step _ _ before _ after. (standing_at before (slot_of step.owner) ≡ Some standing.Owned)
         × (after ≡ with_standing before (slot_of step.owner) standing.Raw) };
 
-    fn done<
-        S: Look<Val>
-            + Guards<Val>
-            + Items<Val>
-            + InPlaceItems<Val>
-            + SharedItems<Val>
-            + RawItems<Val>
-            + Deferrals<Val, Job = Idle>,
-    >(self, s: &mut S) {
+    fn done<S: RawItems<Val> + LookThrough<Val>>(self, s: &mut S) {
         let GoRaw { owner } = self;
         let _ = owner.into_raw(s);
     }
@@ -137,7 +111,7 @@ pub struct ComeBack {
     pub slot: u32,
 }
 
-impl SpaceCommand for ComeBack {
+impl RawCommand for ComeBack {
     type Out = Option<Owned<Val>>;
 
     ghost asks = { λ _ _ _ _. Unit {0} };
@@ -146,15 +120,7 @@ impl SpaceCommand for ComeBack {
         × MatchOption out ((standing_at before step.slot ≢ Some standing.Raw) × (after ≡ before))
         (λ _. (standing_at before step.slot ≡ Some standing.Raw) × (after ≡ with_standing before step.slot standing.Owned)) };
 
-    fn done<
-        S: Look<Val>
-            + Guards<Val>
-            + Items<Val>
-            + InPlaceItems<Val>
-            + SharedItems<Val>
-            + RawItems<Val>
-            + Deferrals<Val, Job = Idle>,
-    >(self, s: &mut S) -> Option<Owned<Val>> {
+    fn done<S: RawItems<Val> + LookThrough<Val>>(self, s: &mut S) -> Option<Owned<Val>> {
         let ComeBack { slot } = self;
         let ptr = raw_ptr_of(RawCellContents {
             named: Some(slot),
@@ -170,7 +136,7 @@ pub struct SeeRaw<'g> {
     pub guard: &'g Guard,
 }
 
-impl<'g> SpaceCommand for SeeRaw<'g> {
+impl<'g> RawCommand for SeeRaw<'g> {
     type Out = Option<&'g Val>;
 
     ghost asks = { λ step _ reader _. reader_of step.guard.now ≡ reader };
@@ -178,15 +144,7 @@ impl<'g> SpaceCommand for SeeRaw<'g> {
     ghost does = { λ step _ _ before out after. MatchOption out (standing_at before step.slot ≢ Some standing.Raw)
         (λ value. (standing_at before step.slot ≡ Some standing.Raw) × (value_at before step.slot ≡ Some value.now)) × (after ≡ before) };
 
-    fn done<
-        S: Look<Val>
-            + Guards<Val>
-            + Items<Val>
-            + InPlaceItems<Val>
-            + SharedItems<Val>
-            + RawItems<Val>
-            + Deferrals<Val, Job = Idle>,
-    >(self, s: &mut S) -> Option<&'g Val> {
+    fn done<S: RawItems<Val> + LookThrough<Val>>(self, s: &mut S) -> Option<&'g Val> {
         let SeeRaw { slot, guard } = self;
         let ptr = raw_ptr_of(RawCellContents {
             named: Some(slot),

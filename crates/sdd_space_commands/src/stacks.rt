@@ -11,7 +11,7 @@ ghost use Rattle.sdd_script_model.specs.Stacks.{stack_closed};
 ghost use Rattle.sdd_script_model.specs.Val.{Val};
 ghost use Rattle.sdd_space_commands.specs.Stacks.{PopsOff, PushesNumber};
 
-use crate::step::ListCommand;
+use crate::step::{CellCommand, ListCommand};
 use sdd_core::Refused;
 use sdd_lists::Stack;
 use sdd_script_model::{Body, Val};
@@ -20,7 +20,7 @@ use sdd_space::{Cells, Guard, Items, LookThrough, Several, Shared, SharedItems};
 /// A new stack, without entries.
 pub struct MakeStack;
 
-impl ListCommand for MakeStack {
+impl CellCommand for MakeStack {
     type Out = Result<Stack<Body>, Refused>;
 
     ghost asks = { λ _ _ _ _. Unit {0} };
@@ -30,10 +30,7 @@ impl ListCommand for MakeStack {
         (λ stack. IsEmptyAt before.cells (cell_in stack) × (after ≡ nulled before (cell_in stack)))
         (λ e. IsFull before.cells × (e ≡ refused.NoCell) × (after ≡ before)) };
 
-    fn done<S: Items<Val> + Several<Val> + SharedItems<Val> + Cells<Val> + LookThrough<Val>>(
-        self,
-        s: &mut S,
-    ) -> Result<Stack<Body>, Refused> {
+    fn done<S: Cells<Val>>(self, s: &mut S) -> Result<Stack<Body>, Refused> {
         let MakeStack = self;
         Stack::new(s)
     }

@@ -9,4 +9,4 @@ pub mod owners;
 pub mod stacks;
 mod turn;
 
-pub use turn::{cell_step_at, list_step_at, step_at};
+pub use turn::{cell_step_at, in_place_step_at, raw_step_at};

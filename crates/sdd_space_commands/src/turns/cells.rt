@@ -15,7 +15,7 @@ ghost use Rattle.sdd_space_commands.specs.Owners.{cell_holding, cell_number, fil
 
 use crate::cells::{CloseCell, LoadCell, MakeCell, PeekCell, ReadTag, TagIf};
 use crate::holding::{AnyCell, CellOwner};
-use crate::turns::turn::cell_step_at;
+use crate::turns::turn::{cell_step_at, item_step_at};
 use sdd_core::Tag;
 use sdd_participants::CellContents;
 use sdd_script_model::Val;
@@ -85,5 +85,5 @@ pub fn close_at(world: &mut World<Val>, place: &Place, cell: AnyCell)
     requires home { IsOf world.old.home (cell_holding cell) }
     ensures { world.new ≡ cell_closed world.old (index_of place.now) (cell_number cell) }
 {
-    cell_step_at(world, place, CloseCell { cell });
+    item_step_at(world, place, CloseCell { cell });
 }

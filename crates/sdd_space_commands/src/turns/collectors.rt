@@ -17,7 +17,7 @@ ghost use Rattle.sdd_space_commands.specs.Owners.{owner_holding};
 
 use crate::collectors::{CloseCollector, GiveToCollector, MakeCollector};
 use crate::holding::AnyOwner;
-use crate::turns::turn::cell_step_at;
+use crate::turns::turn::collector_step_at;
 use sdd_core::Refused;
 use sdd_script_model::Val;
 use sdd_script_text::Reply;
@@ -32,7 +32,7 @@ pub fn collector_at(world: &mut World<Val>, place: &Place) -> Result<PrivateColl
         (λ collector. IsEmptyAt world.old.cells (collector_of collector) × (world.new ≡ pointing world.old (collector_of collector) null_pointer))
         (λ e. IsFull world.old.cells × (e ≡ Refused.NoCell) × (world.new ≡ world.old)) }
 {
-    cell_step_at(world, place, MakeCollector)
+    collector_step_at(world, place, MakeCollector)
 }
 
 /// An owner is given to a collector, under a guard of the participant.
@@ -49,7 +49,7 @@ pub fn give_to(
     requires reader { reader_of guard.now ≡ reader_at world.old (index_of place.now) }
     ensures collects { Collects world.old (index_of place.now) (collector_of collector.now) (owner_holding owner) result world.new }
 {
-    cell_step_at(
+    collector_step_at(
         world,
         place,
         GiveToCollector {
@@ -74,5 +74,5 @@ pub fn close_at(
         × (world.new ≡ collector_closed holdings_of world.old (index_of place.now) (collector_of collector)))
         (λ e. AnyGuardOpen world.old × (e.1 ≡ Refused.GuardOpen) × (world.new ≡ world.old)) }
 {
-    cell_step_at(world, place, CloseCollector { collector })
+    collector_step_at(world, place, CloseCollector { collector })
 }

@@ -10,11 +10,12 @@ ghost use Rattle.sdd_space.specs.WorldChanges.{opened, closed, stirred, accelera
 ghost use Rattle.sdd_world.specs.Place.{index_of};
 ghost use Rattle.sdd_script_model.specs.Val.{Val, holdings_of};
 
-use crate::guards::{Accelerate, CloseGuard, DeferJob, SetGarbage, ShowEpoch, ShowGarbage};
-use crate::turns::turn::step_at;
+use crate::guards::{Accelerate, CloseGuard, OpenGuard, SetGarbage, ShowEpoch, ShowGarbage};
+use crate::turns::turn::guard_step_at;
 use sdd_core::{Epoch, Refused};
+use sdd_participants::Idle;
 use sdd_script_model::Val;
-use sdd_space::Guard;
+use sdd_space::{Deferrals, Guard};
 use sdd_world::{Place, World};
 
 /// A new guard of the participant, and the epoch then.
@@ -26,10 +27,7 @@ pub fn open_at(world: &mut World<Val>, place: &Place) -> Result<(Guard, Epoch), 
         × (world.new ≡ opened holdings_of world.old (index_of place.now)) × (given.1 ≡ epoch_of world.new.time.count))
         (λ refused. (refused ≡ Refused.TooManyGuards) × ¬ (CanNest world.old.time (index_of place.now)) × (world.new ≡ world.old)) }
 {
-    let mut turn = world.at(place);
-    let guard = Guard::new(&mut turn)?;
-    let epoch = guard.epoch(&mut turn);
-    Ok((guard, epoch))
+    guard_step_at(world, place, OpenGuard)
 }
 
 /// The epoch that the guard shows.
@@ -38,7 +36,7 @@ pub fn epoch_at(world: &mut World<Val>, place: &Place, guard: &Guard) -> Epoch
     ensures epoch { result ≡ epoch_of world.old.time.count }
     ensures world { world.new ≡ world.old }
 {
-    step_at(world, place, ShowEpoch { guard })
+    guard_step_at(world, place, ShowEpoch { guard })
 }
 
 /// Something may wait with the participant.
@@ -47,7 +45,7 @@ pub fn garbage_at(world: &mut World<Val>, place: &Place, guard: &Guard) -> bool
     ensures garbage { result ≡ has_garbage (place_at world.old (index_of place.now)) }
     ensures world { world.new ≡ world.old }
 {
-    step_at(world, place, ShowGarbage { guard })
+    guard_step_at(world, place, ShowGarbage { guard })
 }
 
 /// The participant has garbage from now on.
@@ -55,7 +53,7 @@ pub fn stir_at(world: &mut World<Val>, place: &Place, guard: &Guard)
     requires { IsPlaceOf world.old (index_of place.now) }
     ensures { world.new ≡ stirred world.old (index_of place.now) }
 {
-    step_at(world, place, SetGarbage { guard });
+    guard_step_at(world, place, SetGarbage { guard });
 }
 
 /// The participant's next outermost close scans.
@@ -63,7 +61,7 @@ pub fn accelerate_at(world: &mut World<Val>, place: &Place, guard: &Guard)
     requires { IsPlaceOf world.old (index_of place.now) }
     ensures { world.new ≡ accelerated world.old (index_of place.now) }
 {
-    step_at(world, place, Accelerate { guard });
+    guard_step_at(world, place, Accelerate { guard });
 }
 
 /// A job that does nothing waits with the participant, in the place of the table of jobs that is told.
@@ -73,7 +71,11 @@ pub fn defer_at(world: &mut World<Val>, place: &Place) -> Result<u32, Refused>
         (λ number. IsEmptyAt world.old.jobs number × (world.new ≡ deferred world.old (index_of place.now) number))
         (λ e. IsFull world.old.jobs × (e ≡ Refused.NoJob) × (world.new ≡ world.old)) }
 {
-    step_at(world, place, DeferJob)
+    let mut turn = world.at(place);
+    match turn.defer_execute(Idle) {
+        Ok(number) => Ok(number),
+        Err((_job, refused)) => Err(refused),
+    }
 }
 
 /// The guard, which is the participant's, is closed.
@@ -82,5 +84,5 @@ pub fn close_at(world: &mut World<Val>, place: &Place, guard: Guard)
     requires reader { reader_of guard ≡ reader_at world.old (index_of place.now) }
     ensures { world.new ≡ closed world.old (index_of place.now) }
 {
-    step_at(world, place, CloseGuard { guard });
+    guard_step_at(world, place, CloseGuard { guard });
 }

@@ -14,7 +14,7 @@ ghost use Rattle.sdd_script_model.specs.Held.{standing_first, holding_first};
 
 use crate::holding::AnyOwner;
 use crate::items::MakeItem;
-use crate::turns::turn::cell_step_at;
+use crate::turns::turn::item_step_at;
 use sdd_script_model::{Body, OwnerKind, Val};
 use sdd_space::{Guard, Shows};
 use sdd_world::inner::ptr_at;
@@ -36,7 +36,7 @@ pub fn make_item(
         × (body_of entry ≡ body) × (link_of entry ≡ cell) × (link_home entry ≡ world.old.home.cells)
         × (world.new ≡ made_as (nulled world.old cell) k entry (standing_first ownership)) }
 {
-    cell_step_at(world, place, MakeItem { body, ownership })
+    item_step_at(world, place, MakeItem { body, ownership })
 }
 
 /// The value in a slot, as a pointer to its item shows it under a guard of the participant.

@@ -14,7 +14,7 @@ ghost use Rattle.sdd_space.specs.Shared as shared_owner;
 ghost use Rattle.sdd_participants.specs.declared.standing.Standing.TheVariants as standing;
 
 use crate::owners::{CloneOwner, ReleaseOwner, RetireItem, ShareItem};
-use crate::turns::turn::step_at;
+use crate::turns::turn::item_step_at;
 use sdd_core::Refused;
 use sdd_script_model::Val;
 use sdd_space::{Guard, Owned, Shared};
@@ -28,7 +28,7 @@ pub fn retire_item(world: &mut World<Val>, place: &Place, owner: Owned<Val>)
     ensures retired { world.new ≡ retired world.old (index_of place.now) (slot_of owner) }
     ensures owned { standing_at world.old (slot_of owner) ≡ Some standing.Owned }
 {
-    step_at(world, place, RetireItem { owner });
+    item_step_at(world, place, RetireItem { owner });
 }
 
 /// A shared owner is given up; the last one's item waits with the participant.
@@ -38,7 +38,7 @@ pub fn release_owner(world: &mut World<Val>, place: &Place, owner: Shared<Val>) 
     ensures released { (owners : ℕ) × IsSharedBy owners (standing_at world.old (shared_owner.slot_of owner)) × (IsTrue result ↔ (owners ≡ 1))
         × (world.new ≡ owner_given world.old (index_of place.now) (shared_owner.slot_of owner) (Some (shared_by owners))) }
 {
-    step_at(world, place, ReleaseOwner { owner })
+    item_step_at(world, place, ReleaseOwner { owner })
 }
 
 /// One owner more beside a shared one.
@@ -55,7 +55,7 @@ pub fn clone_held(
         (λ _. (owners < 2 ^ 62) × (world.new ≡ with_standing world.old (shared_owner.slot_of owner.now) (shared_by (owners + 1))))
         (λ e. (owners ≡ 2 ^ 62) × (e ≡ Refused.TooManyOwners) × (world.new ≡ world.old)) }
 {
-    step_at(world, place, CloneOwner { owner })
+    item_step_at(world, place, CloneOwner { owner })
 }
 
 /// One owner more of the item in a slot, through a pointer to it under a guard of the participant.
@@ -77,5 +77,5 @@ pub fn share_item(
         (λ e. (e ≡ Refused.TooManyOwners) × IsSharedBy (2 ^ 62) (standing_at world.old slot) × (world.new ≡ world.old)) }
 {
     let ptr = ptr_at(world, place, slot, guard);
-    step_at(world, place, ShareItem { ptr })
+    item_step_at(world, place, ShareItem { ptr })
 }

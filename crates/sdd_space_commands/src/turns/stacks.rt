@@ -14,7 +14,7 @@ ghost use Rattle.sdd_script_model.specs.Val.{Val};
 ghost use Rattle.sdd_space_commands.specs.Stacks.{PopsOff, PushesNumber};
 
 use crate::stacks::{CloseStack, MakeStack, PopFirst, PushNumber};
-use crate::turns::turn::list_step_at;
+use crate::turns::turn::{cell_step_at, list_step_at};
 use sdd_core::Refused;
 use sdd_lists::Stack;
 use sdd_script_model::{Body, Val};
@@ -29,7 +29,7 @@ pub fn stack_at(world: &mut World<Val>, place: &Place) -> Result<Stack<Body>, Re
         (λ stack. IsEmptyAt world.old.cells (cell_in stack) × (world.new ≡ nulled world.old (cell_in stack)))
         (λ e. IsFull world.old.cells × (e ≡ Refused.NoCell) × (world.new ≡ world.old)) }
 {
-    list_step_at(world, place, MakeStack)
+    cell_step_at(world, place, MakeStack)
 }
 
 /// A number is put in front of a stack's entries, under a guard of the participant.

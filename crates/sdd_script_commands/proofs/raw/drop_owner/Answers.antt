@@ -25,15 +25,15 @@ value_of-requires c = record {
   home = owner-home c.stage.inside.hand c.stage.invariant c.is_whole.ensures c.args.owner.0 _ (sym c.in-Some-take.ensures.taken);
 }
 
-pub step_at-requires-clause-asked : goal.step_at-requires-clause-asked
-step_at-requires-clause-asked c =
+pub in_place_step_at-requires-clause-asked : goal.in_place_step_at-requires-clause-asked
+in_place_step_at-requires-clause-asked c =
     owner-home c.stage.inside.hand c.stage.invariant c.is_whole.ensures c.args.owner.0 _ (sym c.in-Some-take.ensures.taken)
 
 pub date_if_waiting-requires : goal.date_if_waiting-requires
 date_if_waiting-requires c = rw c.slot_given-given.ensures (held-dated c.stage.inside.hand c.stage.invariant _ _ c.value_of.ensures.2 _ refl)
 
 went : (c : goal.After-date_if_waiting) → Does (desk_of c.stage.inside.hand) (At c.args.name (call.Drop c.args.owner)) c.in-Ok.reply
-    (record c.stage.inside.hand { world = c.step_at.new.world; owners = c.take.new.self; dates = c.date_if_waiting.new.dates })
+    (record c.stage.inside.hand { world = c.in_place_step_at.new.world; owners = c.take.new.self; dates = c.date_if_waiting.new.dates })
 went c =
     let h = c.stage.inside.hand in
     let there = got h.places c.args.name.0 _ c.in-Some.ensures in
@@ -49,11 +49,11 @@ pub returns : goal.returns
 returns c = record { acts = rw (← c.stage.view_is) (went c).1 }
 
 -- where it is refused, the desk is as it was
-back : (c : goal.After-put_back) → desk_of (record c.stage.inside.hand { world = c.step_at.new.world; owners = c.put_back.new.self })
+back : (c : goal.After-put_back) → desk_of (record c.stage.inside.hand { world = c.in_place_step_at.new.world; owners = c.put_back.new.self })
     ≡ desk_of c.stage.inside.hand
 back c =
     let h = c.stage.inside.hand in
-    same-desk h c.step_at.new.world c.put_back.new.self.entries c.in-Err.ensures.done.3
+    same-desk h c.in_place_step_at.new.world c.put_back.new.self.entries c.in-Err.ensures.done.3
     (put-back h c.take.new.self.entries c.put_back.new.self.entries c.args.owner.0 _ _ (sym c.in-Some-take.ensures.taken)
     c.in-Some-take.ensures.spent c.put_back.ensures.back c.in-Err.ensures.done.0)
 
@@ -65,7 +65,7 @@ returns-in-Err c =
     let h = c.stage.inside.hand in
     let there = got h.places c.args.name.0 _ c.in-Some.ensures in
     record {
-      acts = rw (← c.stage.view_is, c.in-Err.ensures.done.1) (still-as h (record h { world = c.step_at.new.world; owners = c.put_back.new.self }) _ _ (back c)
+      acts = rw (← c.stage.view_is, c.in-Err.ensures.done.1) (still-as h (record h { world = c.in_place_step_at.new.world; owners = c.put_back.new.self }) _ _ (back c)
           (drop-refused h c.stage.invariant c.is_whole.ensures c.args.name _ there c.args.owner _ (sym c.in-Some-take.ensures.taken)
           c.in-Err.ensures.done.2));
     }

@@ -24,22 +24,22 @@ returns-in_default-take_sole c =
           (λ valid. no-sole h c.args.owner.0 c.in_default-take_sole.ensures.0 valid.1));
     }
 
-pub step_at-requires-clause-asked : goal.step_at-requires-clause-asked
-step_at-requires-clause-asked c = owner-home c.stage.inside.hand c.stage.invariant c.is_whole.ensures c.args.owner.0 _ c.in-Some-take_sole.ensures.0
+pub raw_step_at-requires-clause-asked : goal.raw_step_at-requires-clause-asked
+raw_step_at-requires-clause-asked c = owner-home c.stage.inside.hand c.stage.invariant c.is_whole.ensures c.args.owner.0 _ c.in-Some-take_sole.ensures.0
 
 -- the item has a name
 named : (h : Environment) → IsTied h → (k s : ℕ) → s ≡ k → standing_at h.world k ≡ Some Owned → s < length h.names.items
 named h t k s is stands = rw is (slot-inside (desk_of h) t.sound.stocked k (ap is_some stands)).0
 
 went : (c : goal.After-row_known-1) → Does (desk_of c.stage.inside.hand) (At c.args.name (call.Raw c.args.owner))
-    (reply.Raw (record { 0 = c.index.result.now })) (record c.stage.inside.hand { world = c.step_at.new.world; owners = c.take_sole.new.owners })
+    (reply.Raw (record { 0 = c.index.result.now })) (record c.stage.inside.hand { world = c.raw_step_at.new.world; owners = c.take_sole.new.owners })
 went c =
     let h = c.stage.inside.hand in
     let slot = c.slot_of_sole-slot.ensures in
     let name =
-    get_or_read h.names.items _ _ (named h c.stage.invariant _ _ slot c.step_at.ensures.done.0) c.index.ensures 0 ∙ ap (slice_index h.names.items) slot in
+    get_or_read h.names.items _ _ (named h c.stage.invariant _ _ slot c.raw_step_at.ensures.done.0) c.index.ensures 0 ∙ ap (slice_index h.names.items) slot in
     acts-raw h c.stage.invariant c.is_whole.ensures c.args.name _ (got h.places c.args.name.0 _ c.in-Some.ensures) c.args.owner _ _ _ _
-    c.in-Some-take_sole.ensures.0 c.in-Some-take_sole.ensures.1 c.step_at.ensures.done.0 c.step_at.ensures.done.1 name
+    c.in-Some-take_sole.ensures.0 c.in-Some-take_sole.ensures.1 c.raw_step_at.ensures.done.0 c.raw_step_at.ensures.done.1 name
 
 pub invariant_of-stage-2 : goal.invariant_of-stage-2
 invariant_of-stage-2 c = (went c).0

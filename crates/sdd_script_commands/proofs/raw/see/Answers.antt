@@ -28,27 +28,27 @@ returns-in_default-slot_since c =
           (λ valid. there-not h c.args.item.0 none valid.1));
     }
 
-pub returns-in_default-step_at : goal.returns-in_default-step_at
-returns-in_default-step_at c =
+pub returns-in_default-raw_step_at : goal.returns-in_default-raw_step_at
+returns-in_default-raw_step_at c =
     let h = c.stage.inside.hand in
     let can = rw (c.as_slice-slots.ensures.value, c.as_slice-names.ensures.value, c.as_slice-dates.ensures.value) at c.in-Some-slot_since.ensures.0 in
     let slot = c.in-Some-slot_since.ensures.1 ∙ ap (λ slots. slice_index_or slots c.args.item.0 0) c.as_slice-slots.ensures.value in
-    let done = c.in_default-step_at.ensures.done in
+    let done = c.in_default-raw_step_at.ensures.done in
     record {
       acts = rw (← c.stage.view_is, done.1) (acts-unseen h c.stage.invariant c.is_whole.ensures c.args.name _ c.in-Some.ensures.found.0
           c.args.item c.args.guard c.in-Some.ensures.valid (there-from h c.args.item.0 can) (rw slot at done.0));
     }
 
 pub told-requires : goal.told-requires
-told-requires c = rw c.as_slice-names.ensures.value (value-inside c.stage.inside.hand c.stage.invariant _ _ c.in-Some-step_at.ensures.done.0.1)
+told-requires c = rw c.as_slice-names.ensures.value (value-inside c.stage.inside.hand c.stage.invariant _ _ c.in-Some-raw_step_at.ensures.done.0.1)
 
 pub returns : goal.returns
 returns c =
     let h = c.stage.inside.hand in
     let can = rw (c.as_slice-slots.ensures.value, c.as_slice-names.ensures.value, c.as_slice-dates.ensures.value) at c.in-Some-slot_since.ensures.0 in
     let slot = c.in-Some-slot_since.ensures.1 ∙ ap (λ slots. slice_index_or slots c.args.item.0 0) c.as_slice-slots.ensures.value in
-    let done = c.in-Some-step_at.ensures.done in
-    let told : c.told.result ≡ told_of h.names.items (body_of c.in-Some-step_at.value.now) = rw c.as_slice-names.ensures.value at c.told.ensures in
+    let done = c.in-Some-raw_step_at.ensures.done in
+    let told : c.told.result ≡ told_of h.names.items (body_of c.in-Some-raw_step_at.value.now) = rw c.as_slice-names.ensures.value at c.told.ensures in
     record {
       acts = rw (← c.stage.view_is, done.1, told) (acts-seen h c.stage.invariant c.is_whole.ensures c.args.name _ c.in-Some.ensures.found.0
           c.args.item c.args.guard _ c.in-Some.ensures.valid (there-from h c.args.item.0 can) (rw slot at done.0.0) (rw slot at done.0.1));

@@ -1,6 +1,6 @@
 use Rattle.sdd_space.specs.Shared as shared
 use Rattle.sdd_space_commands.proofs.Dropping.{drops-shared}
-use Rattle.sdd_space_commands.proofs.raw.DropOwnerSpaceCommand.done.Goals as goal
+use Rattle.sdd_space_commands.proofs.raw.DropOwnerInPlaceCommand.done.Goals as goal
 
 pub returns-in-Ok-drop_in_place-clause-done : goal.returns-in-Ok-drop_in_place-clause-done
 returns-in-Ok-drop_in_place-clause-done g c =

@@ -4,7 +4,7 @@ use Rattle.sdd_space.specs.OwnerOrCell as holding
 use Rattle.sdd_space.specs.Owned as owned
 use Rattle.sdd_space.specs.Shared as shared
 use Rattle.sdd_script_model.specs.Val.{link_of}
-use Rattle.sdd_space_commands.proofs.items.MakeItemCellCommand.done.Goals as goal
+use Rattle.sdd_space_commands.proofs.items.MakeItemItemCommand.done.Goals as goal
 
 pub returns-in-Ok-new-clause-done : goal.returns-in-Ok-new-clause-done
 returns-in-Ok-new-clause-done g c =

@@ -4,7 +4,7 @@ use Rattle.sdd_space.specs.Owned as owned
 use Rattle.sdd_space.specs.OwnerOrCell as holding
 use Rattle.sdd_space.specs.Shared as shared
 use Rattle.sdd_script_model.specs.Val.{Renumbers}
-use Rattle.sdd_space_commands.proofs.raw.PutNumberSpaceCommand.done.Goals as goal
+use Rattle.sdd_space_commands.proofs.raw.PutNumberInPlaceCommand.done.Goals as goal
 
 pub returns-in-Ok-clause-done : goal.returns-in-Ok-clause-done
 returns-in-Ok-clause-done g c =
