@@ -6,8 +6,8 @@ ghost use Rattle.sdd_script_model.specs.ScriptState.{BeginsLine, later};
 ghost use Rattle.sdd_script_model.specs.Script.{Acts, Answers, LineStep};
 
 use sdd_core::Refused;
+use sdd_interpreter::Interpreter;
 use sdd_script_commands::{collectors, guards, participants};
-use sdd_script_names::Interpreter;
 use sdd_script_text::{Action, Answer, Call, CollectorName, PlaceName, Reply};
 
 /// One line. `NoMemory` alone refuses it.

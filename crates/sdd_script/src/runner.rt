@@ -6,8 +6,8 @@ ghost use Rattle.sdd_script_model.specs.Script.{IsRun};
 use crate::line::step;
 use crate::scene::Scene;
 use sdd_core::{Limits, Refused};
+use sdd_interpreter::Interpreter;
 use sdd_script_commands::leaving::close;
-use sdd_script_names::Interpreter;
 use sdd_script_text::{Answer, Call};
 use std::alloc::Global;
 

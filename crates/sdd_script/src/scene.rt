@@ -1,10 +1,10 @@
 //! What a script leaves behind.
 ghost use Rattle.std.specs.Prelude.{◌≡◌, ◌+◌};
 
+use sdd_interpreter::Interpreter;
 use sdd_participants::Tally;
 use sdd_script_commands::leaving::close;
 use sdd_script_model::Val;
-use sdd_script_names::Interpreter;
 use sdd_world::World;
 use std::marker::Model;
 

@@ -27,20 +27,20 @@ use Rattle.sdd_script_text.specs.declared.answer.Reply.TheVariants as reply
 use Rattle.sdd_script_model.specs.Val.{Val}
 use Rattle.sdd_script_model.specs.declared.owner_kind.OwnerKind.{OwnerKind}
 use Rattle.sdd_script_model.specs.declared.owner_kind.OwnerKind.TheVariants as ownership
-use Rattle.sdd_space_commands.specs.declared.holding.AnyOwner.{AnyOwner}
-use Rattle.sdd_space_commands.specs.declared.holding.AnyCell.{AnyCell}
-use Rattle.sdd_space_commands.specs.declared.holding.AnyCell.TheVariants.{Sole, Share}
-use Rattle.sdd_space_commands.specs.declared.holding.CellOwner.{CellOwner}
-use Rattle.sdd_script_names.specs.declared.participants.NamedParticipant.{NamedParticipant}
-use Rattle.sdd_script_names.specs.declared.interpreter.Environment.{Environment}
+use Rattle.sdd_interpreter.specs.declared.holding.AnyOwner.{AnyOwner}
+use Rattle.sdd_interpreter.specs.declared.holding.AnyCell.{AnyCell}
+use Rattle.sdd_interpreter.specs.declared.holding.AnyCell.TheVariants.{Sole, Share}
+use Rattle.sdd_interpreter.specs.declared.holding.CellOwner.{CellOwner}
+use Rattle.sdd_interpreter.specs.declared.participants.NamedParticipant.{NamedParticipant}
+use Rattle.sdd_interpreter.specs.declared.interpreter.Environment.{Environment}
 use Rattle.sdd_script_model.specs.ScriptState.{ScriptState, opening_at, holding_at, cell_of, in_world, slot_of}
 use Rattle.sdd_script_model.specs.Script.{Acts, Meets, HasOpen, IsParticipant, IsCellName, IsValid, slot_put, cell_as}
 use Rattle.sdd_script_model.specs.Shown.{IsCell, item_held, item_in}
-use Rattle.sdd_script_names.specs.Environment.{attending, FitsIn, Fills, named_owner, dated_if_waiting}
-use Rattle.sdd_space_commands.specs.Owners.{owner_holding, cell_holding, cell_number, holding_around, filling_holding, filling_kind}
-use Rattle.sdd_script_names.specs.Interpreter.{desk_of, IsTied}
+use Rattle.sdd_interpreter.specs.Environment.{attending, FitsIn, Fills, named_owner, dated_if_waiting}
+use Rattle.sdd_interpreter.specs.Owners.{owner_holding, cell_holding, cell_number, holding_around, filling_holding, filling_kind}
+use Rattle.sdd_interpreter.specs.Interpreter.{desk_of, IsTied}
 use Rattle.sdd_script_commands.specs.ItemLines.{making_cell}
-use Rattle.sdd_script_names.proofs.Acts.{Does, does, goes, leads, still, is, is-there, in_range}
+use Rattle.sdd_interpreter.proofs.Acts.{Does, does, goes, leads, still, is, is-there, in_range}
 use Rattle.sdd_script_model.proofs.Counting.{IsPut}
 use Rattle.sdd_script_model.proofs.CellGoing.{after_celled, put-sole, put-shared, cell-there, held-inside, dates_spilled, celled-leaves, tagged-leaves, cell_closed-leaves}
 

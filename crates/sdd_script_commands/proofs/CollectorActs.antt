@@ -33,18 +33,18 @@ use Rattle.sdd_script_model.specs.ScriptState.{ScriptState, IsDated, collector_o
 use Rattle.sdd_script_model.specs.Held.{owners_in, slots_waiting_for, waits_among}
 use Rattle.sdd_script_model.specs.Script.{Acts, Answers, HasOpen, IsCollector, IsOwnerName, IsParticipant, Meets}
 use Rattle.sdd_script_model.specs.Shown.{item_in}
-use Rattle.sdd_space_commands.specs.declared.holding.AnyOwner.{AnyOwner}
-use Rattle.sdd_space_commands.specs.declared.holding.AnyOwner.TheVariants.{Sole, Share}
-use Rattle.sdd_space_commands.specs.Owners.{collector_holding, owner_holding}
-use Rattle.sdd_script_names.specs.declared.participants.NamedParticipant.{NamedParticipant}
-use Rattle.sdd_script_names.specs.Environment.{attending, dated_if_waiting}
-use Rattle.sdd_script_names.specs.declared.interpreter.Environment.{Environment}
-use Rattle.sdd_script_names.specs.Interpreter.{IsTied, desk_of}
+use Rattle.sdd_interpreter.specs.declared.holding.AnyOwner.{AnyOwner}
+use Rattle.sdd_interpreter.specs.declared.holding.AnyOwner.TheVariants.{Sole, Share}
+use Rattle.sdd_interpreter.specs.Owners.{collector_holding, owner_holding}
+use Rattle.sdd_interpreter.specs.declared.participants.NamedParticipant.{NamedParticipant}
+use Rattle.sdd_interpreter.specs.Environment.{attending, dated_if_waiting}
+use Rattle.sdd_interpreter.specs.declared.interpreter.Environment.{Environment}
+use Rattle.sdd_interpreter.specs.Interpreter.{IsTied, desk_of}
 use Rattle.sdd_script_model.proofs.Collected.{after_given, collecting-leaves, owner-inside, sound-given}
 use Rattle.sdd_script_model.proofs.Chains.{LeavesSound}
 use Rattle.sdd_script_model.proofs.CollectorGoing.{dated-uncollected, goes-uncollected, runs-uncollected, uncollected-leaves}
-use Rattle.sdd_script_names.proofs.Collectors.{number-is, collectors-spent}
-use Rattle.sdd_script_names.proofs.Acts.{Does, Goes, goes, leads, in_range, is, is-there, named-owner, owner-spent, still}
+use Rattle.sdd_interpreter.proofs.Collectors.{number-is, collectors-spent}
+use Rattle.sdd_interpreter.proofs.Acts.{Does, Goes, goes, leads, in_range, is, is-there, named-owner, owner-spent, still}
 
 -- what a collector names, of its own home, and what a name of one stands for
 module _ (h : Environment) (t : IsTied h) where

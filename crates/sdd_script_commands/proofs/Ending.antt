@@ -35,13 +35,13 @@ use Rattle.sdd_script_model.specs.ScriptState.{ScriptState, OpenSince, IsStackCe
 use Rattle.sdd_script_model.specs.Sound.{IsSound, SlotsHaveNames, NamesAreAtHome, has_right, is_of, named, named_owners, owns, stacked}
 use Rattle.sdd_script_model.specs.Script.{Acts, HasOpen, Meets}
 use Rattle.sdd_script_commands.specs.Leaving.{SpendsOwner, SpendsCell, SpendsCollector, SpendsGuard, LeavesRaw}
-use Rattle.sdd_script_names.specs.Environment.{guarding}
-use Rattle.sdd_space_commands.specs.Owners.{owner_holding, cell_holding, collector_holding}
-use Rattle.sdd_script_names.specs.Interpreter.{desk_of, IsTied}
-use Rattle.sdd_space_commands.specs.declared.holding.AnyOwner.{AnyOwner}
-use Rattle.sdd_space_commands.specs.declared.holding.AnyCell.{AnyCell}
-use Rattle.sdd_script_names.specs.declared.participants.NamedGuard.{NamedGuard}
-use Rattle.sdd_script_names.specs.declared.interpreter.Environment.{Environment}
+use Rattle.sdd_interpreter.specs.Environment.{guarding}
+use Rattle.sdd_interpreter.specs.Owners.{owner_holding, cell_holding, collector_holding}
+use Rattle.sdd_interpreter.specs.Interpreter.{desk_of, IsTied}
+use Rattle.sdd_interpreter.specs.declared.holding.AnyOwner.{AnyOwner}
+use Rattle.sdd_interpreter.specs.declared.holding.AnyCell.{AnyCell}
+use Rattle.sdd_interpreter.specs.declared.participants.NamedGuard.{NamedGuard}
+use Rattle.sdd_interpreter.specs.declared.interpreter.Environment.{Environment}
 use Rattle.sdd_script_text.specs.declared.name.PlaceName.{PlaceName}
 use Rattle.sdd_script_text.specs.declared.name.GuardName.{GuardName}
 use Rattle.sdd_script_text.specs.declared.call.Call.TheVariants.{At}
@@ -55,7 +55,7 @@ use Rattle.sdd_script_model.proofs.Attending.{KeepsGuards, attended-same, placed
 use Rattle.sdd_script_model.proofs.Chains.{at_home-spent}
 use Rattle.sdd_script_model.proofs.JobDates.{job_dates-shut}
 use Rattle.sdd_script_model.proofs.Counting.{accounts, cell-spent, collector-spent, linked, out-there, owned-out, owner-spent, some-holding}
-use Rattle.sdd_script_names.proofs.Collectors.{collectors-spent, number-is}
+use Rattle.sdd_interpreter.proofs.Collectors.{collectors-spent, number-is}
 use Rattle.sdd_script_model.proofs.Layers.{layered-less}
 use Rattle.sdd_script_model.proofs.Chains.{stack-right}
 use Rattle.sdd_script_model.proofs.Links.{less-shed}

@@ -33,28 +33,28 @@ use Rattle.sdd_script_text.specs.declared.answer.Reply.{Reply}
 use Rattle.sdd_script_text.specs.declared.call.Action.TheVariants as call
 use Rattle.sdd_script_text.specs.declared.answer.Reply.TheVariants as reply
 use Rattle.sdd_script_model.specs.Val.{Val}
-use Rattle.sdd_space_commands.specs.declared.holding.AnyOwner.{AnyOwner}
-use Rattle.sdd_space_commands.specs.declared.holding.AnyOwner.TheVariants.{Share}
+use Rattle.sdd_interpreter.specs.declared.holding.AnyOwner.{AnyOwner}
+use Rattle.sdd_interpreter.specs.declared.holding.AnyOwner.TheVariants.{Share}
 use Rattle.sdd_script_model.specs.declared.owner_kind.OwnerKind.{OwnerKind}
 use Rattle.sdd_script_model.specs.declared.owner_kind.OwnerKind.TheVariants as ownership
-use Rattle.sdd_space_commands.specs.declared.holding.AnyCell.{AnyCell}
-use Rattle.sdd_space_commands.specs.declared.holding.AnyCell.TheVariants as cell
-use Rattle.sdd_space_commands.specs.declared.holding.CellOwner.{CellOwner}
-use Rattle.sdd_script_names.specs.declared.participants.NamedParticipant.{NamedParticipant}
-use Rattle.sdd_script_names.specs.declared.participants.NamedGuard.{NamedGuard}
-use Rattle.sdd_script_names.specs.declared.interpreter.Environment.{Environment}
+use Rattle.sdd_interpreter.specs.declared.holding.AnyCell.{AnyCell}
+use Rattle.sdd_interpreter.specs.declared.holding.AnyCell.TheVariants as cell
+use Rattle.sdd_interpreter.specs.declared.holding.CellOwner.{CellOwner}
+use Rattle.sdd_interpreter.specs.declared.participants.NamedParticipant.{NamedParticipant}
+use Rattle.sdd_interpreter.specs.declared.participants.NamedGuard.{NamedGuard}
+use Rattle.sdd_interpreter.specs.declared.interpreter.Environment.{Environment}
 use Rattle.sdd_script_model.specs.ScriptState.{ScriptState, holding_at, cell_of, slot_of, sole_slot, shared_slot, shared_cell, opening_at}
 use Rattle.sdd_script_model.specs.Script.{Meets, HasOpen, IsCellName, IsSharedCell, CanCompare, FitsCell, IsNameOf, IsGivenBack, IsShareFull, MayShare, shared_once_more, slot_compared, slot_put, owner_as, owners_put, owners_taken}
 use Rattle.sdd_script_model.specs.Shown.{IsCell, item_held}
-use Rattle.sdd_script_names.specs.Environment.{attending, named_owner, Fills, FitsIn, IsGiven, given_back, CanPutBack, owners_back, CanCompareAt}
-use Rattle.sdd_space_commands.specs.Owners.{owner_holding, cell_holding, cell_kind, cell_number, filling_holding, held_as}
-use Rattle.sdd_script_names.specs.Interpreter.{desk_of, IsTied}
+use Rattle.sdd_interpreter.specs.Environment.{attending, named_owner, Fills, FitsIn, IsGiven, given_back, CanPutBack, owners_back, CanCompareAt}
+use Rattle.sdd_interpreter.specs.Owners.{owner_holding, cell_holding, cell_kind, cell_number, filling_holding, held_as}
+use Rattle.sdd_interpreter.specs.Interpreter.{desk_of, IsTied}
 use Rattle.sdd_script_model.specs.Held.{holding_first}
 use Rattle.sdd_script_model.proofs.CellGoing.{put-fits, held-inside, swapped-leaves, taken-leaves, copied-leaves}
 use Rattle.sdd_script_model.proofs.Entry.{at-default, inside}
-use Rattle.sdd_script_names.proofs.Missing.{points, points-not}
+use Rattle.sdd_interpreter.proofs.Missing.{points, points-not}
 use Rattle.sdd_script_commands.proofs.CellActs.{numbered, slot-of-put}
-use Rattle.sdd_script_names.proofs.Acts.{Does, adds-owner, leads, is-there, in_range, stays-here}
+use Rattle.sdd_interpreter.proofs.Acts.{Does, adds-owner, leads, is-there, in_range, stays-here}
 
 -- what a name of a cell stands for
 pub named-cell : (h : Environment) (c : ℕ) (x : AnyCell) → slice_index_or h.cells.entries.items c None ≡ Some x →

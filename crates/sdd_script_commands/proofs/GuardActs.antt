@@ -31,22 +31,22 @@ use Rattle.sdd_script_text.specs.declared.name.JobName.{JobName}
 use Rattle.sdd_script_text.specs.declared.call.Call.TheVariants.{Register, At}
 use Rattle.sdd_script_text.specs.declared.call.Action.TheVariants as call
 use Rattle.sdd_script_text.specs.declared.answer.Reply.TheVariants as reply
-use Rattle.sdd_script_names.specs.declared.participants.NamedParticipant.{NamedParticipant}
-use Rattle.sdd_script_names.specs.declared.participants.NamedGuard.{NamedGuard}
-use Rattle.sdd_script_names.specs.declared.interpreter.Environment.{Environment}
+use Rattle.sdd_interpreter.specs.declared.participants.NamedParticipant.{NamedParticipant}
+use Rattle.sdd_interpreter.specs.declared.participants.NamedGuard.{NamedGuard}
+use Rattle.sdd_interpreter.specs.declared.interpreter.Environment.{Environment}
 use Rattle.sdd_script_model.specs.Val.{Val, holdings_of}
 use Rattle.sdd_script_model.specs.ScriptState.{ScriptState, OpenSince, BeginsLine, IsThere, WaitsAt, with_guard, opening_at, place_of, slot_at, in_world, with_newcomer, without_participant, without_guard}
 use Rattle.sdd_script_model.specs.Script.{Acts, Answers, HasOpen, IsParticipant}
 use Rattle.sdd_script_model.specs.Script.AreCalls.{none as no_call, one_more}
 use Rattle.sdd_script_model.specs.Shown.{item_in, job_in}
-use Rattle.sdd_script_names.specs.Environment.{attending, guarding, opened_since}
-use Rattle.sdd_script_names.specs.Interpreter.{desk_of, IsTied, GuardsIn}
+use Rattle.sdd_interpreter.specs.Environment.{attending, guarding, opened_since}
+use Rattle.sdd_interpreter.specs.Interpreter.{desk_of, IsTied, GuardsIn}
 use Rattle.sdd_script_model.specs.Held.{owners_in, slots_among, places_among, waits_among}
 use Rattle.sdd_script_model.proofs.Entry.{as-each, at-other, at-pushed, at-end, at-default}
 use Rattle.sdd_script_model.proofs.Dates.{dated-same}
 use Rattle.sdd_script_model.proofs.Going.{sound-opened, dated-opened, home-opened, names-go, names-run, not-under, not-run-under, deferred-leaves, stirred-leaves, accelerated-leaves, sound-registered, sound-ended, sound-closed}
-use Rattle.sdd_script_names.proofs.Acts as stage
-use Rattle.sdd_script_names.proofs.Acts.{Goes, Does, does, goes, leads, still, place}
+use Rattle.sdd_interpreter.proofs.Acts as stage
+use Rattle.sdd_interpreter.proofs.Acts.{Goes, Does, does, goes, leads, still, place}
 
 -- of what is spent nothing is in hand
 spent : {X : Type 0} (P : Option X → Type 0) → P None → (xs : List (Option X)) (k : ℕ) → ((j : ℕ) → P (slice_index_or xs j None)) → (j : ℕ) →

@@ -25,23 +25,23 @@ use Rattle.sdd_script_model.specs.Val.{Val, body_of, link_of, link_home}
 use Rattle.sdd_script_model.specs.declared.val.Body.TheVariants as body
 use Rattle.sdd_script_model.specs.declared.owner_kind.OwnerKind.{OwnerKind}
 use Rattle.sdd_script_model.specs.declared.owner_kind.OwnerKind.TheVariants as ownership
-use Rattle.sdd_space_commands.specs.declared.holding.AnyOwner.{AnyOwner}
-use Rattle.sdd_space_commands.specs.declared.holding.AnyOwner.TheVariants.{Sole, Share}
-use Rattle.sdd_script_names.specs.declared.participants.NamedParticipant.{NamedParticipant}
-use Rattle.sdd_script_names.specs.declared.interpreter.Environment.{Environment}
+use Rattle.sdd_interpreter.specs.declared.holding.AnyOwner.{AnyOwner}
+use Rattle.sdd_interpreter.specs.declared.holding.AnyOwner.TheVariants.{Sole, Share}
+use Rattle.sdd_interpreter.specs.declared.participants.NamedParticipant.{NamedParticipant}
+use Rattle.sdd_interpreter.specs.declared.interpreter.Environment.{Environment}
 use Rattle.sdd_script_model.specs.ScriptState.{ScriptState, opening_at, holding_at, place_of, slot_at, slot_of, in_world, with_owner, with_item}
 use Rattle.sdd_script_model.specs.Script.{Acts, Meets, HasOpen, IsParticipant, IsThereToPut, IsValid, CanPointTo}
 use Rattle.sdd_script_model.specs.Made.{IsPutIn, RefusesItem, owners_left, put_in}
 use Rattle.sdd_script_model.specs.Script as script
 use Rattle.sdd_script_model.specs.Shown.{RepliesValue, told_of}
-use Rattle.sdd_script_names.specs.Environment.{attending, BecomesBody}
-use Rattle.sdd_space_commands.specs.Owners.{owner_holding}
-use Rattle.sdd_script_names.specs.Interpreter.{desk_of, IsTied}
+use Rattle.sdd_interpreter.specs.Environment.{attending, BecomesBody}
+use Rattle.sdd_interpreter.specs.Owners.{owner_holding}
+use Rattle.sdd_interpreter.specs.Interpreter.{desk_of, IsTied}
 use Rattle.sdd_script_commands.specs.ItemLines.{making}
 use Rattle.sdd_script_model.specs.Held.{standing_first, holding_first}
 use Rattle.sdd_script_model.proofs.Going.{made-leaves}
-use Rattle.sdd_script_names.proofs.Acts as stage
-use Rattle.sdd_script_names.proofs.Acts.{Does, leads, still, place}
+use Rattle.sdd_interpreter.proofs.Acts as stage
+use Rattle.sdd_interpreter.proofs.Acts.{Does, leads, still, place}
 
 module _ (h : Environment) (t : IsTied h) (whole : IsWhole h.world) where
   abbrev d : ScriptState

@@ -19,11 +19,11 @@ use Rattle.sdd_script_model.specs.Link.{IsLink, may_change, retagged, tag_after}
 use Rattle.sdd_script_model.specs.ScriptState.{ScriptState, in_world, opening_at, slot_at}
 use Rattle.sdd_script_model.specs.Script.{Acts, CanPointTo, IsUnderGuard, IsValid, Meets}
 use Rattle.sdd_script_model.proofs.CellGoing.{link-leaves}
-use Rattle.sdd_script_names.specs.declared.participants.NamedParticipant.{NamedParticipant}
-use Rattle.sdd_script_names.specs.declared.interpreter.Environment.{Environment}
-use Rattle.sdd_script_names.specs.Environment.{attending}
-use Rattle.sdd_script_names.specs.Interpreter.{desk_of, IsTied}
-use Rattle.sdd_script_names.proofs.Acts.{Does, does, goes, in_range, leads, still}
+use Rattle.sdd_interpreter.specs.declared.participants.NamedParticipant.{NamedParticipant}
+use Rattle.sdd_interpreter.specs.declared.interpreter.Environment.{Environment}
+use Rattle.sdd_interpreter.specs.Environment.{attending}
+use Rattle.sdd_interpreter.specs.Interpreter.{desk_of, IsTied}
+use Rattle.sdd_interpreter.proofs.Acts.{Does, does, goes, in_range, leads, still}
 use Rattle.sdd_script_commands.specs.ItemLines.{changing}
 
 -- no line gives both tags

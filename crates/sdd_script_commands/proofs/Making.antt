@@ -12,18 +12,18 @@ use Rattle.sdd_script_model.specs.declared.val.Body.{Body}
 use Rattle.sdd_script_model.specs.Val.{owner_in}
 use Rattle.sdd_script_model.specs.declared.owner_kind.OwnerKind.{OwnerKind}
 use Rattle.sdd_script_model.specs.declared.owner_kind.OwnerKind.TheVariants as ownership
-use Rattle.sdd_space_commands.specs.declared.holding.AnyOwner.{AnyOwner}
-use Rattle.sdd_space_commands.specs.declared.holding.AnyOwner.TheVariants.{Sole, Share}
-use Rattle.sdd_script_names.specs.declared.interpreter.Environment.{Environment}
+use Rattle.sdd_interpreter.specs.declared.holding.AnyOwner.{AnyOwner}
+use Rattle.sdd_interpreter.specs.declared.holding.AnyOwner.TheVariants.{Sole, Share}
+use Rattle.sdd_interpreter.specs.declared.interpreter.Environment.{Environment}
 use Rattle.sdd_script_model.specs.ScriptState.{ScriptState, holding_at, slot_of}
 use Rattle.sdd_script_model.specs.Script.{IsOwnerName, IsParticipant, IsThereToPut, IsValid}
-use Rattle.sdd_space_commands.specs.Owners.{owner_holding}
-use Rattle.sdd_script_names.specs.Interpreter.{desk_of, IsTied}
-use Rattle.sdd_script_names.specs.Environment.{BecomesBody, IsMissing}
+use Rattle.sdd_interpreter.specs.Owners.{owner_holding}
+use Rattle.sdd_interpreter.specs.Interpreter.{desk_of, IsTied}
+use Rattle.sdd_interpreter.specs.Environment.{BecomesBody, IsMissing}
 use Rattle.sdd_script_model.specs.Held.{holding_first}
 use Rattle.sdd_script_commands.specs.ItemLines.{making}
-use Rattle.sdd_script_names.proofs.Acts.{owner-home}
-use Rattle.sdd_script_names.proofs.Missing.{no-owner}
+use Rattle.sdd_interpreter.proofs.Acts.{owner-home}
+use Rattle.sdd_interpreter.proofs.Missing.{no-owner}
 
 -- the slot of the first owner of an item
 pub first-slot : (own : OwnerKind) (k : ℕ) (home : GhostName) (s : ℕ) → slot_of (Some (holding_first own k home)) ≡ Some s → k ≡ s

@@ -32,20 +32,20 @@ use Rattle.sdd_script_model.specs.Held.{slot_held}
 use Rattle.sdd_script_model.specs.InPlace.{OwnsNumber, Puts, Drops, RefusesDrop, IsRaw}
 use Rattle.sdd_script_model.specs.Script.{Acts, Meets, HasOpen, IsOwnerName}
 use Rattle.sdd_script_model.specs.Shown.{told_of}
-use Rattle.sdd_space_commands.specs.declared.holding.AnyOwner.{AnyOwner}
-use Rattle.sdd_space_commands.specs.declared.holding.AnyOwner.TheVariants.{Sole, Share}
-use Rattle.sdd_script_names.specs.declared.participants.NamedParticipant.{NamedParticipant}
-use Rattle.sdd_script_names.specs.declared.interpreter.Environment.{Environment}
-use Rattle.sdd_script_names.specs.Environment.{attending, dated_if_waiting, CanPointAt}
-use Rattle.sdd_space_commands.specs.Owners.{owner_holding}
-use Rattle.sdd_script_names.specs.Interpreter.{desk_of, IsTied}
+use Rattle.sdd_interpreter.specs.declared.holding.AnyOwner.{AnyOwner}
+use Rattle.sdd_interpreter.specs.declared.holding.AnyOwner.TheVariants.{Sole, Share}
+use Rattle.sdd_interpreter.specs.declared.participants.NamedParticipant.{NamedParticipant}
+use Rattle.sdd_interpreter.specs.declared.interpreter.Environment.{Environment}
+use Rattle.sdd_interpreter.specs.Environment.{attending, dated_if_waiting, CanPointAt}
+use Rattle.sdd_interpreter.specs.Owners.{owner_holding}
+use Rattle.sdd_interpreter.specs.Interpreter.{desk_of, IsTied}
 use Rattle.sdd_script_model.proofs.CellGoing.{dates_spilled}
 use Rattle.sdd_script_model.proofs.InPlaceGoing.{raw-leaves, back-leaves, put-leaves, after_drop, drop-leaves, value-held-out}
 use Rattle.sdd_script_model.proofs.Stocked.{slot-inside}
 use Rattle.sdd_script_model.proofs.Counting.{out-there}
 use Rattle.std.specs.Prelude.{IfSome, ◌<◌}
-use Rattle.sdd_script_names.proofs.Acts.{Does, leads, still, is, is-there, in_range, named-owner, owner-spent, owner-more}
-use Rattle.sdd_script_names.proofs.Missing.{invalid}
+use Rattle.sdd_interpreter.proofs.Acts.{Does, leads, still, is, is-there, in_range, named-owner, owner-spent, owner-more}
+use Rattle.sdd_interpreter.proofs.Missing.{invalid}
 
 -- what is told of a slot's dates is the same
 dated-spilled : (d : ScriptState) (w : World Val) (held : Option ℕ) → dated_if_waiting w held d.moment d.dates ≡ dates_spilled d w held

@@ -36,17 +36,17 @@ use Rattle.sdd_script_model.specs.Stacks.{Drains, IsStack, Pushes, Takes, stack_
 use Rattle.sdd_script_model.specs.Val.{Val, body_of}
 use Rattle.sdd_script_model.proofs.StackGoing.{begun-leaves, drained-leaves, popped-home, popped-number, popped-value, popped-leaves, stack_closed-leaves}
 use Rattle.sdd_script_model.proofs.StackPushing.{pushed-leaves}
-use Rattle.sdd_space_commands.specs.declared.holding.AnyOwner.{AnyOwner}
-use Rattle.sdd_space_commands.specs.declared.holding.AnyOwner.TheVariants.{Share}
-use Rattle.sdd_space_commands.specs.Owners.{owner_holding, stack_holding}
-use Rattle.sdd_space_commands.specs.Stacks.{PopsOff, PushesNumber}
-use Rattle.sdd_script_names.specs.declared.participants.NamedParticipant.{NamedParticipant}
-use Rattle.sdd_script_names.specs.Environment.{attending, date_now}
-use Rattle.sdd_script_names.specs.declared.interpreter.Environment.{Environment}
-use Rattle.sdd_script_names.specs.Interpreter.{IsTied, desk_of}
-use Rattle.sdd_script_names.proofs.Acts as acts
-use Rattle.sdd_script_names.proofs.Acts.{Does, does, goes, in_range, is-there, leads, owner-more, still}
-use Rattle.sdd_script_names.proofs.Stacks.{stack-cell, stacks-more, stacks-spent}
+use Rattle.sdd_interpreter.specs.declared.holding.AnyOwner.{AnyOwner}
+use Rattle.sdd_interpreter.specs.declared.holding.AnyOwner.TheVariants.{Share}
+use Rattle.sdd_interpreter.specs.Owners.{owner_holding, stack_holding}
+use Rattle.sdd_interpreter.specs.Stacks.{PopsOff, PushesNumber}
+use Rattle.sdd_interpreter.specs.declared.participants.NamedParticipant.{NamedParticipant}
+use Rattle.sdd_interpreter.specs.Environment.{attending, date_now}
+use Rattle.sdd_interpreter.specs.declared.interpreter.Environment.{Environment}
+use Rattle.sdd_interpreter.specs.Interpreter.{IsTied, desk_of}
+use Rattle.sdd_interpreter.proofs.Acts as acts
+use Rattle.sdd_interpreter.proofs.Acts.{Does, does, goes, in_range, is-there, leads, owner-more, still}
+use Rattle.sdd_interpreter.proofs.Stacks.{stack-cell, stacks-more, stacks-spent}
 
 -- the entries of the stack of this name
 pub stack-entries : (h : Environment) → IsTied h → (s : ℕ) (x : Stack Body) → Some x ≡ slice_index_or h.stacks.entries.items s None →

@@ -55,10 +55,10 @@ use Rattle.sdd_script_model.proofs.Listed.{has-still, link-apart}
 use Rattle.sdd_script_model.proofs.ListChanges.{has-ended, has-let_go, has-same}
 use Rattle.sdd_script_model.proofs.Stocked.{KeepsSlots, slots-given, slots-opened, slots-same, slots-then, stocked-as}
 use Rattle.sdd_script_model.proofs.StackGoing.{kept-other, one-less, was-other}
-use Rattle.sdd_script_names.specs.Environment.{guarding}
-use Rattle.sdd_script_names.specs.Interpreter.{IsTied, desk_of}
-use Rattle.sdd_script_names.specs.declared.interpreter.Environment.{Environment}
-use Rattle.sdd_script_names.proofs.Stacks.{named-stack, stack-cell, stacks-spent}
+use Rattle.sdd_interpreter.specs.Environment.{guarding}
+use Rattle.sdd_interpreter.specs.Interpreter.{IsTied, desk_of}
+use Rattle.sdd_interpreter.specs.declared.interpreter.Environment.{Environment}
+use Rattle.sdd_interpreter.proofs.Stacks.{named-stack, stack-cell, stacks-spent}
 use Rattle.sdd_script_commands.specs.Leaving.{BeginsUnder, LeavesStack, SpendsStack, revived}
 use Rattle.sdd_script_commands.proofs.Ending.{LetsGo, lets-given, no-guards, none-in}
 

@@ -16,14 +16,14 @@ use Rattle.sdd_script_text.specs.declared.call.Call.TheVariants.{At}
 use Rattle.sdd_script_text.specs.declared.call.Action.TheVariants as call
 use Rattle.sdd_script_text.specs.declared.answer.Reply.TheVariants as reply
 use Rattle.sdd_script_model.specs.Val.{Val}
-use Rattle.sdd_space_commands.specs.declared.holding.AnyOwner.TheVariants.{Share}
-use Rattle.sdd_script_names.specs.declared.interpreter.Environment.{Environment}
-use Rattle.sdd_script_names.specs.declared.participants.NamedParticipant.{NamedParticipant}
+use Rattle.sdd_interpreter.specs.declared.holding.AnyOwner.TheVariants.{Share}
+use Rattle.sdd_interpreter.specs.declared.interpreter.Environment.{Environment}
+use Rattle.sdd_interpreter.specs.declared.participants.NamedParticipant.{NamedParticipant}
 use Rattle.sdd_script_model.specs.ScriptState.{ScriptState, opening_at, shared_slot, slot_at}
 use Rattle.sdd_script_model.specs.Script.{Acts, HasOpen, CanPointTo}
-use Rattle.sdd_script_names.specs.Environment.{attending}
-use Rattle.sdd_script_names.specs.Interpreter.{desk_of, IsTied}
-use Rattle.sdd_script_names.proofs.Acts.{is-there, named-owner, still}
+use Rattle.sdd_interpreter.specs.Environment.{attending}
+use Rattle.sdd_interpreter.specs.Interpreter.{desk_of, IsTied}
+use Rattle.sdd_interpreter.proofs.Acts.{is-there, named-owner, still}
 
 module _ (h : Environment) (t : IsTied h) (whole : IsWhole h.world) (name : PlaceName) where
   abbrev d : ScriptState

@@ -1,5 +1,5 @@
 //! What participants do with cells.
-#![tactic(auto, using(sdd_script_names::proofs::Taken::in_hand))]
+#![tactic(auto, using(sdd_interpreter::proofs::Taken::in_hand))]
 
 ghost use Rattle.std.specs.Prelude.{◌≡◌, ◌<◌, MatchResult, Some};
 ghost use Rattle.sdd_participants.specs.declared.standing.CellContents.{CellContents};
@@ -7,16 +7,14 @@ ghost use Rattle.sdd_script_commands.specs.ItemLines.{making_cell};
 ghost use Rattle.sdd_script_model.specs.Script.{Acts};
 
 use sdd_core::{Refused, Tag};
+use sdd_interpreter::Interpreter;
+use sdd_interpreter::items::date_if_waiting;
+use sdd_interpreter::owners::{fits, take_filling};
+use sdd_interpreter::participants::under;
+use sdd_interpreter::turns::cells::{cell_around, cell_loaded, close_at, slot_in, tag_if, tag_of};
 use sdd_participants::CellContents;
 use sdd_script_model::OwnerKind;
-use sdd_script_names::Interpreter;
-use sdd_script_names::items::date_if_waiting;
-use sdd_script_names::owners::{fits, take_filling};
-use sdd_script_names::participants::under;
 use sdd_script_text::{Action, Call, CellName, GuardName, ItemName, OwnerName, PlaceName, Reply};
-use sdd_space_commands::turns::cells::{
-    cell_around, cell_loaded, close_at, slot_in, tag_if, tag_of,
-};
 use sdd_world::inner::has_no_cell;
 use std::alloc::AllocError;
 

@@ -1,5 +1,5 @@
 //! What participants do with collectors.
-#![tactic(auto, using(sdd_script_names::proofs::Taken::in_hand))]
+#![tactic(auto, using(sdd_interpreter::proofs::Taken::in_hand))]
 
 ghost use Rattle.std.specs.Prelude.{◌≡◌, ◌<◌, ◌≤◌, ◌^◌, All, IsSome, IfOk, MatchResult, length, map};
 ghost use Rattle.std.specs.List.Sorted.{IsPermutation, IsNonDecreasingBy};
@@ -10,15 +10,15 @@ ghost use Rattle.sdd_script_model.specs.Shown.{item_in};
 ghost use Rattle.sdd_script_model.specs.Script.{Acts, Answers};
 
 use sdd_core::Refused;
+use sdd_interpreter::Interpreter;
+use sdd_interpreter::items::{date_if_waiting, date_waiting, items_in, slots_for};
+use sdd_interpreter::participants::under;
+use sdd_interpreter::turns::collectors::{close_at, collector_at, give_to};
 use sdd_script_model::Val;
-use sdd_script_names::Interpreter;
-use sdd_script_names::items::{date_if_waiting, date_waiting, items_in, slots_for};
-use sdd_script_names::participants::under;
 use sdd_script_text::{
     Action, Answer, Call, CollectorName, GuardName, ItemName, Names, OwnerName, PlaceName, Reply,
 };
 use sdd_space::inner::number_of_collector;
-use sdd_space_commands::turns::collectors::{close_at, collector_at, give_to};
 use sdd_world::World;
 use std::alloc::{AllocError, Global};
 

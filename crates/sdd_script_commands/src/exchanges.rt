@@ -1,21 +1,21 @@
 //! What participants do with the owners that cells hold.
-#![tactic(auto, using(sdd_script_names::proofs::Taken::in_hand))]
+#![tactic(auto, using(sdd_interpreter::proofs::Taken::in_hand))]
 
 ghost use Rattle.std.specs.Prelude.{◌≡◌, ◌<◌, None, Some, MatchResult};
 ghost use Rattle.sdd_participants.specs.declared.standing.CellContents.{CellContents};
 ghost use Rattle.sdd_script_model.specs.Script.{Acts};
 
 use sdd_core::{Refused, Tag};
-use sdd_participants::CellContents;
-use sdd_script_names::Interpreter;
-use sdd_script_names::items::{item_seen, slot_compared};
-use sdd_script_names::owners::{
+use sdd_interpreter::Interpreter;
+use sdd_interpreter::holding::{AnyCell, AnyOwner};
+use sdd_interpreter::items::{item_seen, slot_compared};
+use sdd_interpreter::owners::{
     fits, give_filling, put_back, shared_cell_of, take_filling, told_back,
 };
-use sdd_script_names::participants::under;
+use sdd_interpreter::participants::under;
+use sdd_interpreter::turns::exchanges::{copy_held, exchange_at, share_held, swap_in, take_out};
+use sdd_participants::CellContents;
 use sdd_script_text::{Action, Call, CellName, GuardName, ItemName, OwnerName, PlaceName, Reply};
-use sdd_space_commands::holding::{AnyCell, AnyOwner};
-use sdd_space_commands::turns::exchanges::{copy_held, exchange_at, share_held, swap_in, take_out};
 use std::alloc::AllocError;
 
 /// `P swap C X T`: an owner, or none, goes into a cell with a tag, and what was there comes out. Refused where memory for a name is, and then nothing has

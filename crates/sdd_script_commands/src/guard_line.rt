@@ -5,7 +5,7 @@ ghost use Rattle.sdd_script_model.specs.Script.{Acts};
 ghost use Rattle.sdd_script_commands.specs.GuardLines.{IsGuardAct};
 
 use crate::{guards, participants};
-use sdd_script_names::Interpreter;
+use sdd_interpreter::Interpreter;
 use sdd_script_text::{Action, Call, PlaceName, Reply};
 
 /// A participant's end, or an action on a guard but its opening. None where the action is another.

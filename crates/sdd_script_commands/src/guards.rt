@@ -1,5 +1,5 @@
 //! What participants do with guards.
-#![tactic(auto, using(sdd_script_names::proofs::Taken::in_hand))]
+#![tactic(auto, using(sdd_interpreter::proofs::Taken::in_hand))]
 
 ghost use Rattle.std.specs.Prelude.{◌≡◌, ◌<◌, All, IsSome, IfOk, MatchResult, length, map};
 ghost use Rattle.std.specs.List.Sorted.{IsPermutation, IsNonDecreasingBy};
@@ -10,17 +10,17 @@ ghost use Rattle.sdd_script_model.specs.Shown.{item_in};
 ghost use Rattle.sdd_script_model.specs.ScriptState.{BeginsLine};
 ghost use Rattle.sdd_script_model.specs.Script.{Acts, Answers};
 
+use sdd_interpreter::Interpreter;
+use sdd_interpreter::items::{date_waiting, items_in, slots_among};
+use sdd_interpreter::jobs::jobs_among;
+use sdd_interpreter::participants::{NamedGuard, note_opening, under};
+use sdd_interpreter::turns::guards::{
+    accelerate_at, close_at, defer_at, epoch_at, garbage_at, open_at, stir_at,
+};
 use sdd_participants::LimboEntry;
 use sdd_script_model::Val;
-use sdd_script_names::Interpreter;
-use sdd_script_names::items::{date_waiting, items_in, slots_among};
-use sdd_script_names::jobs::jobs_among;
-use sdd_script_names::participants::{NamedGuard, note_opening, under};
 use sdd_script_text::{
     Action, Answer, Call, GuardName, ItemName, JobName, Names, PlaceName, Reply,
-};
-use sdd_space_commands::turns::guards::{
-    accelerate_at, close_at, defer_at, epoch_at, garbage_at, open_at, stir_at,
 };
 use sdd_world::World;
 use sdd_world::inner::{is_open, reclaims_next};

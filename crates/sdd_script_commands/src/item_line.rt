@@ -5,8 +5,8 @@ ghost use Rattle.sdd_script_commands.specs.ItemLines.{IsItemAct, IsRawAct, IsCel
 
 use crate::{cells, collectors, exchanges, items, links, owners, raw, stacks};
 use sdd_core::Refused;
+use sdd_interpreter::Interpreter;
 use sdd_script_model::{LinkChange, OwnerKind};
-use sdd_script_names::Interpreter;
 use sdd_script_text::{Action, Call, PlaceName, Reply};
 
 /// An action on an item or an owner. None where the action is another.

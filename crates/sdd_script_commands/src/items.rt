@@ -1,5 +1,5 @@
 //! How items of a script are made, and how they are seen.
-#![tactic(auto, using(sdd_script_names::proofs::Taken::in_hand))]
+#![tactic(auto, using(sdd_interpreter::proofs::Taken::in_hand))]
 
 ghost use Rattle.std.specs.Prelude.{◌≡◌, MatchOption, MatchResult};
 ghost use Rattle.sdd_participants.specs.Slab.{IsFull};
@@ -8,13 +8,13 @@ ghost use Rattle.sdd_script_commands.specs.ItemLines.{making};
 ghost use Rattle.sdd_script_model.specs.Script.{Acts};
 
 use sdd_core::Refused;
+use sdd_interpreter::Interpreter;
+use sdd_interpreter::items::{slot_since, told};
+use sdd_interpreter::owners::{body_from, is_missing, value_of};
+use sdd_interpreter::participants::under;
+use sdd_interpreter::turns::items::{make_item, value_shown};
 use sdd_script_model::{OwnerKind, Val};
-use sdd_script_names::Interpreter;
-use sdd_script_names::items::{slot_since, told};
-use sdd_script_names::owners::{body_from, is_missing, value_of};
-use sdd_script_names::participants::under;
 use sdd_script_text::{Action, Call, GuardName, ItemName, OwnerName, PlaceName, Reply, Value};
-use sdd_space_commands::turns::items::{make_item, value_shown};
 use sdd_world::World;
 use sdd_world::inner::{has_no_cell, has_no_slot};
 use std::alloc::AllocError;

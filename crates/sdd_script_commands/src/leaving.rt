@@ -8,13 +8,13 @@ ghost use Rattle.sdd_space.specs.World.{AnyGuardOpen, IsPlaceOf, standing_at};
 ghost use Rattle.sdd_script_commands.specs.Leaving.{SpendsOwner, SpendsCell, SpendsCollector, SpendsGuard, SpendsStack, LeavesRaw, LeavesStack, BeginsUnder, revived};
 
 use crate::guards::close_guard;
+use sdd_interpreter::holding::{AnyCell, AnyOwner};
+use sdd_interpreter::turns::{guards, stacks};
+use sdd_interpreter::{Environment, Interpreter};
 use sdd_lists::Stack;
 use sdd_participants::{Standing, Tally};
 use sdd_script_model::{Body, Val};
-use sdd_script_names::{Environment, Interpreter};
 use sdd_script_text::{GuardName, PlaceName};
-use sdd_space_commands::holding::{AnyCell, AnyOwner};
-use sdd_space_commands::turns::{guards, stacks};
 use sdd_world::World;
 use sdd_world::inner::{
     leave, leave_cell, leave_collector, leave_raw, leave_shared, leave_shared_cell, some_place,

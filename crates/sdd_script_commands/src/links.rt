@@ -1,17 +1,17 @@
 //! What participants do with the links of entries.
-#![tactic(auto, using(sdd_script_names::proofs::Taken::in_hand))]
+#![tactic(auto, using(sdd_interpreter::proofs::Taken::in_hand))]
 
 ghost use Rattle.sdd_script_commands.specs.ItemLines.{changing};
 ghost use Rattle.sdd_script_model.specs.Script.{Acts};
 
+use sdd_interpreter::Interpreter;
+use sdd_interpreter::commands::links::{ChangeLink, ReadLinkTag};
+use sdd_interpreter::items::slot_since;
+use sdd_interpreter::participants::under_any;
+use sdd_interpreter::turns::cell_step_at;
+use sdd_interpreter::turns::items::value_shown;
 use sdd_script_model::LinkChange;
-use sdd_script_names::Interpreter;
-use sdd_script_names::items::slot_since;
-use sdd_script_names::participants::under_any;
 use sdd_script_text::{Action, Call, ItemName, PlaceName, Reply};
-use sdd_space_commands::links::{ChangeLink, ReadLinkTag};
-use sdd_space_commands::turns::cell_step_at;
-use sdd_space_commands::turns::items::value_shown;
 
 /// `P mark I`, `P unmark I`, `P delete I`: an entry's link changes its tag, if it may, and whether it did is told.
 pub fn change_link(

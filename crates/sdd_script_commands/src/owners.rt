@@ -1,17 +1,17 @@
 //! What participants do with the owners of items.
-#![tactic(auto, using(sdd_script_names::proofs::Taken::in_hand))]
+#![tactic(auto, using(sdd_interpreter::proofs::Taken::in_hand))]
 
 ghost use Rattle.std.specs.Prelude.{◌≡◌, ◌<◌, None, Some, MatchResult};
 ghost use Rattle.sdd_script_model.specs.Script.{Acts};
 
 use sdd_core::Refused;
-use sdd_script_names::Interpreter;
-use sdd_script_names::items::slot_since;
-use sdd_script_names::owners::{shared_of, take_shared, take_sole};
-use sdd_script_names::participants::under;
+use sdd_interpreter::Interpreter;
+use sdd_interpreter::holding::{AnyOwner, slot_of_share, slot_of_sole};
+use sdd_interpreter::items::slot_since;
+use sdd_interpreter::owners::{shared_of, take_shared, take_sole};
+use sdd_interpreter::participants::under;
+use sdd_interpreter::turns::owners::{clone_held, release_owner, retire_item, share_item};
 use sdd_script_text::{Action, Call, GuardName, ItemName, OwnerName, PlaceName, Reply};
-use sdd_space_commands::holding::{AnyOwner, slot_of_share, slot_of_sole};
-use sdd_space_commands::turns::owners::{clone_held, release_owner, retire_item, share_item};
 use std::alloc::AllocError;
 
 /// `P retire O`: the item of its one owner waits, and the owner's name is spent.

@@ -1,12 +1,12 @@
 //! How participants come and go.
-#![tactic(auto, using(sdd_script_names::proofs::Taken::in_hand))]
+#![tactic(auto, using(sdd_interpreter::proofs::Taken::in_hand))]
 
 ghost use Rattle.std.specs.Prelude.{◌≡◌, MatchResult};
 ghost use Rattle.sdd_script_model.specs.Script.{Acts};
 
 use sdd_core::Refused;
-use sdd_script_names::Interpreter;
-use sdd_script_names::participants::NamedParticipant;
+use sdd_interpreter::Interpreter;
+use sdd_interpreter::participants::NamedParticipant;
 use sdd_script_text::{Action, Call, PlaceName, Reply};
 use sdd_world::inner::is_open;
 

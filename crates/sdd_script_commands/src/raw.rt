@@ -1,18 +1,18 @@
 //! What participants do with items in their place, and with those that are out as raw.
-#![tactic(auto, using(sdd_script_names::proofs::Taken::in_hand))]
+#![tactic(auto, using(sdd_interpreter::proofs::Taken::in_hand))]
 
 ghost use Rattle.std.specs.Prelude.{◌≡◌, Some, MatchResult};
 ghost use Rattle.sdd_script_model.specs.Script.{Acts};
 
 use sdd_core::Refused;
-use sdd_script_names::Interpreter;
-use sdd_script_names::items::{date_if_waiting, is_number, slot_given, slot_since, told};
-use sdd_script_names::owners::{take_sole, value_of};
-use sdd_script_names::participants::under;
+use sdd_interpreter::Interpreter;
+use sdd_interpreter::commands::raw::{ComeBack, DropOwner, GoRaw, PutNumber, SeeRaw};
+use sdd_interpreter::holding::{AnyOwner, slot_of_sole};
+use sdd_interpreter::items::{date_if_waiting, is_number, slot_given, slot_since, told};
+use sdd_interpreter::owners::{take_sole, value_of};
+use sdd_interpreter::participants::under;
+use sdd_interpreter::turns::{in_place_step_at, raw_step_at};
 use sdd_script_text::{Action, Call, GuardName, ItemName, OwnerName, PlaceName, Reply};
-use sdd_space_commands::holding::{AnyOwner, slot_of_sole};
-use sdd_space_commands::raw::{ComeBack, DropOwner, GoRaw, PutNumber, SeeRaw};
-use sdd_space_commands::turns::{in_place_step_at, raw_step_at};
 use std::alloc::AllocError;
 
 /// `P put O n`: the number that an owner's item holds becomes this one, in its place. `NotAlone` and `GuardOpen` are replies.

@@ -1,16 +1,16 @@
 //! What participants do with stacks.
-#![tactic(auto, using(sdd_script_names::proofs::Taken::in_hand))]
+#![tactic(auto, using(sdd_interpreter::proofs::Taken::in_hand))]
 
 ghost use Rattle.std.specs.Prelude.{◌≡◌, MatchResult};
 ghost use Rattle.sdd_script_model.specs.Script.{Acts};
 
-use sdd_script_names::Interpreter;
-use sdd_script_names::items::{date_new, number_of, waiting_by_slot};
-use sdd_script_names::owners::value_of;
-use sdd_script_names::participants::{under, under_any};
+use sdd_interpreter::Interpreter;
+use sdd_interpreter::holding::{AnyOwner, slot_of_share};
+use sdd_interpreter::items::{date_new, number_of, waiting_by_slot};
+use sdd_interpreter::owners::value_of;
+use sdd_interpreter::participants::{under, under_any};
+use sdd_interpreter::turns::stacks::{close_at, pop_at, push_at, stack_at};
 use sdd_script_text::{Action, Call, GuardName, ItemName, OwnerName, PlaceName, Reply, StackName};
-use sdd_space_commands::holding::{AnyOwner, slot_of_share};
-use sdd_space_commands::turns::stacks::{close_at, pop_at, push_at, stack_at};
 use std::alloc::AllocError;
 
 /// `P stack`: an empty stack, named. `NoCell` is a reply. Refused where memory for the name is, and then nothing has changed.

@@ -1,8 +1,8 @@
 use Rattle.std.proofs.Common.{◌≡◌, arith}
 use Rattle.std.proofs.lemmas.List.{get_or_read}
 use Rattle.sdd_script_model.specs.Shown.{item_held}
-use Rattle.sdd_script_names.specs.Interpreter.{desk_of}
-use Rattle.sdd_script_names.proofs.Missing.{invalid, no-cell}
+use Rattle.sdd_interpreter.specs.Interpreter.{desk_of}
+use Rattle.sdd_interpreter.proofs.Missing.{invalid, no-cell}
 use Rattle.sdd_script_commands.proofs.CellActs.{acts-loaded, cell-home, slot-inside, told-item, told-none}
 use Rattle.sdd_script_commands.proofs.cells.load.Goals as goal
 use Rattle.sdd_script_commands.proofs.cells.load.Goals.{in-Some-held, in-None}

@@ -1,5 +1,5 @@
-use Rattle.sdd_script_names.proofs.Acts.{got}
-use Rattle.sdd_script_names.proofs.Missing.{invalid, no-cell, nobody}
+use Rattle.sdd_interpreter.proofs.Acts.{got}
+use Rattle.sdd_interpreter.proofs.Missing.{invalid, no-cell, nobody}
 use Rattle.sdd_script_commands.proofs.CellActs.{acts-tagged, cell-home}
 use Rattle.sdd_script_commands.proofs.cells.set_tag_if.Goals as goal
 

@@ -8,13 +8,13 @@ use Rattle.sdd_script_model.proofs.Gone.{given-inside}
 use Rattle.sdd_script_model.proofs.WaitingFor.{found-filled, found-inside}
 use Rattle.sdd_script_text.specs.declared.call.Action.TheVariants as call
 use Rattle.sdd_script_text.specs.declared.call.Call.TheVariants.{At}
-use Rattle.sdd_script_names.specs.Interpreter.{desk_of}
-use Rattle.sdd_script_names.proofs.Acts.{answers-plain, goes, got}
+use Rattle.sdd_interpreter.specs.Interpreter.{desk_of}
+use Rattle.sdd_interpreter.proofs.Acts.{answers-plain, goes, got}
 use Rattle.sdd_script_commands.proofs.CollectorActs.{answers-closed, back-again, close-refused, no-collector, tied-closed}
-use Rattle.sdd_script_names.proofs.Collectors.{collector-home}
-use Rattle.sdd_script_names.proofs.Acts.{still-as}
-use Rattle.sdd_script_names.proofs.Missing.{invalid, nobody}
-use Rattle.sdd_script_names.proofs.Taken.{inside}
+use Rattle.sdd_interpreter.proofs.Collectors.{collector-home}
+use Rattle.sdd_interpreter.proofs.Acts.{still-as}
+use Rattle.sdd_interpreter.proofs.Missing.{invalid, nobody}
+use Rattle.sdd_interpreter.proofs.Taken.{inside}
 use Rattle.sdd_script_commands.proofs.collectors.close_collector.Goals as goal
 
 pub returns-in_default : goal.returns-in_default

@@ -1,11 +1,11 @@
 use Rattle.std.proofs.Common.{sym, ◌∙◌}
 use Rattle.sdd_script_model.proofs.Entry.{spent_twice}
 use Rattle.sdd_script_text.specs.declared.call.Action.TheVariants as call
-use Rattle.sdd_script_names.specs.Interpreter.{desk_of}
-use Rattle.sdd_script_names.proofs.Acts.{owner-home}
+use Rattle.sdd_interpreter.specs.Interpreter.{desk_of}
+use Rattle.sdd_interpreter.proofs.Acts.{owner-home}
 use Rattle.sdd_script_commands.proofs.CollectorActs.{acts-collected, no-collector, owner-dated}
-use Rattle.sdd_script_names.proofs.Collectors.{collector-home}
-use Rattle.sdd_script_names.proofs.Missing.{invalid, no-owner}
+use Rattle.sdd_interpreter.proofs.Collectors.{collector-home}
+use Rattle.sdd_interpreter.proofs.Missing.{invalid, no-owner}
 use Rattle.sdd_script_commands.proofs.collectors.collect.Goals as goal
 
 pub returns-in_default : goal.returns-in_default

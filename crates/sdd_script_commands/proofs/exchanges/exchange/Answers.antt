@@ -4,12 +4,12 @@ use Rattle.std.proofs.lemmas.Bool.{false≢true}
 use Rattle.sdd_script_text.specs.declared.call.Call.TheVariants.{At}
 use Rattle.sdd_script_text.specs.declared.call.Action.TheVariants as call
 use Rattle.sdd_script_text.specs.declared.answer.Reply.TheVariants as reply
-use Rattle.sdd_space_commands.specs.Owners.{cell_kind}
-use Rattle.sdd_script_names.specs.Interpreter.{desk_of}
-use Rattle.sdd_script_names.proofs.Acts.{Does, goes}
-use Rattle.sdd_script_names.proofs.Missing.{invalid}
+use Rattle.sdd_interpreter.specs.Owners.{cell_kind}
+use Rattle.sdd_interpreter.specs.Interpreter.{desk_of}
+use Rattle.sdd_interpreter.proofs.Acts.{Does, goes}
+use Rattle.sdd_interpreter.proofs.Missing.{invalid}
 use Rattle.sdd_script_commands.proofs.ExchangeActs.{cell-home, no-fit, fits-not, put-home, room-kept, can-put-back, same-back, compares, compares-not, slot-compared, compared-stays, seen-as, seen-inside, acts-exchanged, differs}
-use Rattle.sdd_script_names.proofs.Acts.{still-as}
+use Rattle.sdd_interpreter.proofs.Acts.{still-as}
 use Rattle.sdd_script_commands.proofs.exchanges.exchange.Goals as goal
 
 pub returns-in_default : goal.returns-in_default

@@ -1,7 +1,7 @@
 use Rattle.sdd_script_commands.proofs.GuardActs.{acts-accelerated}
 use Rattle.sdd_script_text.specs.declared.call.Action.TheVariants as call
-use Rattle.sdd_script_names.specs.Interpreter.{desk_of}
-use Rattle.sdd_script_names.proofs.Missing.{invalid}
+use Rattle.sdd_interpreter.specs.Interpreter.{desk_of}
+use Rattle.sdd_interpreter.proofs.Missing.{invalid}
 use Rattle.sdd_script_commands.proofs.guards.accelerate.Goals as goal
 
 pub invariant_of-stage : goal.invariant_of-stage

@@ -1,6 +1,6 @@
 use Rattle.std.proofs.Common.{refl, sym}
 use Rattle.sdd_script_commands.proofs.GuardActs.{acts-closed}
-use Rattle.sdd_script_names.proofs.Acts.{still}
+use Rattle.sdd_interpreter.proofs.Acts.{still}
 use Rattle.sdd_script_commands.proofs.guards.close_guard.Goals as goal
 
 pub returns-in_default : goal.returns-in_default

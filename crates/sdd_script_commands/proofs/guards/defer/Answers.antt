@@ -1,9 +1,9 @@
 use Rattle.std.specs.Vec.{with_item}
 use Rattle.std.proofs.Common.{refl, arith}
 use Rattle.sdd_script_text.specs.declared.call.Action.TheVariants as call
-use Rattle.sdd_script_names.specs.Interpreter.{desk_of}
+use Rattle.sdd_interpreter.specs.Interpreter.{desk_of}
 use Rattle.sdd_script_commands.proofs.GuardActs.{acts-deferred, deferral-refused}
-use Rattle.sdd_script_names.proofs.Missing.{invalid}
+use Rattle.sdd_interpreter.proofs.Missing.{invalid}
 use Rattle.sdd_script_commands.proofs.guards.defer.Goals as goal
 
 pub returns-in_default : goal.returns-in_default

@@ -1,7 +1,7 @@
 use Rattle.sdd_script_text.specs.declared.call.Action.TheVariants as call
-use Rattle.sdd_script_names.specs.Interpreter.{desk_of}
+use Rattle.sdd_interpreter.specs.Interpreter.{desk_of}
 use Rattle.sdd_script_commands.proofs.GuardActs.{garbage-shown}
-use Rattle.sdd_script_names.proofs.Missing.{invalid}
+use Rattle.sdd_interpreter.proofs.Missing.{invalid}
 use Rattle.sdd_script_commands.proofs.guards.garbage.Goals as goal
 
 pub returns-in_default : goal.returns-in_default

@@ -1,16 +1,16 @@
 use Rattle.std.proofs.Common.{length, refl, ap, ◌∙◌}
 use Rattle.sdd_script_text.specs.declared.call.Action.TheVariants as call
 use Rattle.sdd_script_text.specs.declared.call.Call.TheVariants.{At}
-use Rattle.sdd_script_names.specs.Interpreter.{desk_of}
+use Rattle.sdd_interpreter.specs.Interpreter.{desk_of}
 use Rattle.sdd_script_model.specs.Held.{slots_among}
 use Rattle.sdd_script_model.proofs.Going.{places-inside}
 use Rattle.sdd_script_model.proofs.Going.{waiting-bare}
 use Rattle.sdd_script_model.proofs.Counting.{accounts}
 use Rattle.sdd_script_model.proofs.Gone.{slots-inside, slots-filled, given-inside}
-use Rattle.sdd_script_names.proofs.Acts.{got, in_range, answers-plain}
+use Rattle.sdd_interpreter.proofs.Acts.{got, in_range, answers-plain}
 use Rattle.sdd_script_commands.proofs.GuardActs.{noted-is, opening-refused, answers-opened, tied-opened}
-use Rattle.sdd_script_names.proofs.Missing.{nobody}
-use Rattle.sdd_script_names.proofs.Taken.{inside}
+use Rattle.sdd_interpreter.proofs.Missing.{nobody}
+use Rattle.sdd_interpreter.proofs.Taken.{inside}
 use Rattle.sdd_script_commands.proofs.guards.open.Goals as goal
 
 pub returns-in_default : goal.returns-in_default

@@ -2,9 +2,9 @@ use Rattle.std.proofs.Common.{◌≡◌, ap, ◌∙◌, slice_index_or}
 use Rattle.sdd_script_model.specs.Shown.{told_of}
 use Rattle.sdd_script_model.specs.Val.{body_of}
 use Rattle.sdd_script_commands.proofs.ItemActs.{acts-looked}
-use Rattle.sdd_script_names.proofs.Acts.{stays-here}
-use Rattle.sdd_script_names.proofs.Missing.{invalid, points, points-not}
-use Rattle.sdd_script_names.proofs.Inside.{value-inside}
+use Rattle.sdd_interpreter.proofs.Acts.{stays-here}
+use Rattle.sdd_interpreter.proofs.Missing.{invalid, points, points-not}
+use Rattle.sdd_interpreter.proofs.Inside.{value-inside}
 use Rattle.sdd_script_commands.proofs.items.look.Goals as goal
 
 pub returns-in_default : goal.returns-in_default

@@ -4,13 +4,13 @@ use Rattle.std.proofs.lemmas.Bool.{false≢true}
 use Rattle.sdd_script_model.specs.ScriptState.{slot_of}
 use Rattle.sdd_script_text.specs.declared.call.Call.TheVariants.{At}
 use Rattle.sdd_script_text.specs.declared.answer.Reply.TheVariants as reply
-use Rattle.sdd_script_names.specs.declared.interpreter.Environment.{Environment}
+use Rattle.sdd_interpreter.specs.declared.interpreter.Environment.{Environment}
 use Rattle.sdd_script_model.specs.Script.{Acts, IsThereToPut}
-use Rattle.sdd_script_names.specs.Interpreter.{desk_of, IsTied}
+use Rattle.sdd_interpreter.specs.Interpreter.{desk_of, IsTied}
 use Rattle.sdd_script_commands.specs.ItemLines.{making}
-use Rattle.sdd_script_names.proofs.Acts.{got}
+use Rattle.sdd_interpreter.proofs.Acts.{got}
 use Rattle.sdd_script_commands.proofs.ItemActs.{acts-refused, acts-made}
-use Rattle.sdd_script_names.proofs.Missing.{invalid, nobody}
+use Rattle.sdd_interpreter.proofs.Missing.{invalid, nobody}
 use Rattle.sdd_script_commands.proofs.Making.{first-slot, becomes-long, none-to-put, valid-making, there-to-put, body-home}
 use Rattle.sdd_script_commands.proofs.items.make.Goals as goal
 

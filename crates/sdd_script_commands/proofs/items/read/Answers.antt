@@ -1,7 +1,7 @@
-use Rattle.sdd_script_names.proofs.Acts.{got, owner-home}
+use Rattle.sdd_interpreter.proofs.Acts.{got, owner-home}
 use Rattle.sdd_script_commands.proofs.ItemActs.{acts-read}
-use Rattle.sdd_script_names.proofs.Missing.{invalid, no-owner, nobody}
-use Rattle.sdd_script_names.proofs.Inside.{value-inside}
+use Rattle.sdd_interpreter.proofs.Missing.{invalid, no-owner, nobody}
+use Rattle.sdd_interpreter.proofs.Inside.{value-inside}
 use Rattle.std.proofs.Common.{◌≡◌, sym}
 use Rattle.sdd_script_model.specs.Shown.{told_of}
 use Rattle.sdd_script_model.specs.Val.{body_of}

@@ -1,7 +1,7 @@
 use Rattle.std.specs.Option.{option_map}
-use Rattle.sdd_script_names.specs.Environment.{guarding}
-use Rattle.sdd_space_commands.specs.Owners.{owner_holding, cell_holding, collector_holding, stack_holding}
-use Rattle.sdd_script_names.specs.Interpreter.{desk_of}
+use Rattle.sdd_interpreter.specs.Environment.{guarding}
+use Rattle.sdd_interpreter.specs.Owners.{owner_holding, cell_holding, collector_holding, stack_holding}
+use Rattle.sdd_interpreter.specs.Interpreter.{desk_of}
 use Rattle.sdd_script_commands.proofs.Ending.{unguarded, goes-all, none-in}
 use Rattle.sdd_script_commands.proofs.leaving.close.Goals as goal
 

@@ -1,5 +1,5 @@
 use Rattle.std.proofs.Common.{◌≤◌, length, arith}
-use Rattle.sdd_script_names.specs.Interpreter.{desk_of}
+use Rattle.sdd_interpreter.specs.Interpreter.{desk_of}
 use Rattle.sdd_script_commands.proofs.Ending.{none-raw}
 use Rattle.sdd_script_commands.proofs.leaving.leave_raw_items.Goals as goal
 

@@ -1,5 +1,5 @@
 use Rattle.std.proofs.Common.{refl, sym}
-use Rattle.sdd_space_commands.specs.declared.holding.AnyCell.TheVariants.{Sole, Share}
+use Rattle.sdd_interpreter.specs.declared.holding.AnyCell.TheVariants.{Sole, Share}
 use Rattle.sdd_script_commands.proofs.Ending.{cell-placed, cell-home, cells-spent, tied-spent_cell, spends-cell}
 use Rattle.sdd_script_commands.proofs.leaving.spend_cell.Goals as goal
 

@@ -1,5 +1,5 @@
 use Rattle.std.proofs.Common.{refl}
-use Rattle.sdd_script_names.proofs.Collectors.{collector-home, collectors-spent}
+use Rattle.sdd_interpreter.proofs.Collectors.{collector-home, collectors-spent}
 use Rattle.sdd_script_commands.proofs.Ending.{spends-collector, tied-spent_collector}
 use Rattle.sdd_script_commands.proofs.leaving.spend_collector.Goals as goal
 

@@ -1,6 +1,6 @@
 use Rattle.std.proofs.Common.{Some, refl, sym}
 use Rattle.sdd_participants.specs.declared.standing.Standing.TheVariants.{Owned}
-use Rattle.sdd_space_commands.specs.declared.holding.AnyOwner.TheVariants.{Sole, Share}
+use Rattle.sdd_interpreter.specs.declared.holding.AnyOwner.TheVariants.{Sole, Share}
 use Rattle.sdd_script_commands.proofs.Ending.{owner-placed, owner-home, owners-spent, tied-spent_owner, spends-owner}
 use Rattle.sdd_script_commands.proofs.leaving.spend_owner.Goals as goal
 

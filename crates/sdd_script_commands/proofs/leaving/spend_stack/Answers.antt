@@ -1,6 +1,6 @@
 use Rattle.std.proofs.Common.{refl}
-use Rattle.sdd_script_names.proofs.Stacks.{stack-home, stacks-spent}
-use Rattle.sdd_script_names.specs.Interpreter.{desk_of}
+use Rattle.sdd_interpreter.proofs.Stacks.{stack-home, stacks-spent}
+use Rattle.sdd_interpreter.specs.Interpreter.{desk_of}
 use Rattle.sdd_script_commands.proofs.Ending.{unguarded}
 use Rattle.sdd_script_commands.proofs.StackEnding.{begins-under, spends-stack, stack-placed, tied-spent_stack}
 use Rattle.sdd_script_commands.proofs.leaving.spend_stack.Goals as goal

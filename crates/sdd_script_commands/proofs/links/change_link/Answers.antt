@@ -1,9 +1,9 @@
 use Rattle.std.proofs.Common.{slice_index_or, ap, ◌∙◌}
 use Rattle.sdd_script_text.specs.declared.call.Call.TheVariants.{At}
 use Rattle.sdd_script_text.specs.declared.answer.Reply.TheVariants as reply
-use Rattle.sdd_script_names.specs.Interpreter.{desk_of}
-use Rattle.sdd_script_names.proofs.Acts.{Does, stays-here}
-use Rattle.sdd_script_names.proofs.Missing.{invalid, points, points-not}
+use Rattle.sdd_interpreter.specs.Interpreter.{desk_of}
+use Rattle.sdd_interpreter.proofs.Acts.{Does, stays-here}
+use Rattle.sdd_interpreter.proofs.Missing.{invalid, points, points-not}
 use Rattle.sdd_script_commands.specs.ItemLines.{changing}
 use Rattle.sdd_script_commands.proofs.LinkActs.{acts-changed, valid-changing}
 use Rattle.sdd_script_commands.proofs.links.change_link.Goals as goal

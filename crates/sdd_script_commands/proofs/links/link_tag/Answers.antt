@@ -1,6 +1,6 @@
 use Rattle.std.proofs.Common.{slice_index_or, ap, ◌∙◌}
-use Rattle.sdd_script_names.proofs.Acts.{stays-here}
-use Rattle.sdd_script_names.proofs.Missing.{invalid, points, points-not}
+use Rattle.sdd_interpreter.proofs.Acts.{stays-here}
+use Rattle.sdd_interpreter.proofs.Missing.{invalid, points, points-not}
 use Rattle.sdd_script_commands.proofs.LinkActs.{acts-link_told}
 use Rattle.sdd_script_commands.proofs.links.link_tag.Goals as goal
 

@@ -1,7 +1,7 @@
 use Rattle.std.proofs.Common.{length, sym, ap, ◌∙◌}
-use Rattle.sdd_script_names.proofs.Acts.{got, owner-home}
+use Rattle.sdd_interpreter.proofs.Acts.{got, owner-home}
 use Rattle.sdd_script_commands.proofs.OwnerActs.{acts-cloned}
-use Rattle.sdd_script_names.proofs.Missing.{invalid, no-shared, nobody}
+use Rattle.sdd_interpreter.proofs.Missing.{invalid, no-shared, nobody}
 use Rattle.sdd_script_commands.proofs.Unshared.{full-cloned}
 use Rattle.sdd_script_commands.proofs.owners.clone_owner.Goals as goal
 

@@ -1,8 +1,8 @@
 use Rattle.std.proofs.Common.{slice_set, refl, ap}
 use Rattle.std.specs.Vec.{with_item}
-use Rattle.sdd_script_names.proofs.Acts.{got, owner-home}
+use Rattle.sdd_interpreter.proofs.Acts.{got, owner-home}
 use Rattle.sdd_script_commands.proofs.OwnerActs.{acts-released}
-use Rattle.sdd_script_names.proofs.Missing.{invalid, no-shared, nobody}
+use Rattle.sdd_interpreter.proofs.Missing.{invalid, no-shared, nobody}
 use Rattle.sdd_script_commands.proofs.owners.release.Goals.{then-was_last, else-was_last}
 use Rattle.sdd_script_commands.proofs.owners.release.Goals as goal
 

@@ -1,8 +1,8 @@
 use Rattle.sdd_script_text.specs.declared.call.Action.TheVariants as call
 use Rattle.std.proofs.Common.{sym, ◌∙◌}
-use Rattle.sdd_script_names.proofs.Acts.{got}
+use Rattle.sdd_interpreter.proofs.Acts.{got}
 use Rattle.sdd_script_commands.proofs.GuardActs.{acts-ended, end-refused}
-use Rattle.sdd_script_names.proofs.Missing.{nobody}
+use Rattle.sdd_interpreter.proofs.Missing.{nobody}
 use Rattle.sdd_script_commands.proofs.participants.end.Goals as goal
 
 pub invariant_of-stage-2 : goal.invariant_of-stage-2

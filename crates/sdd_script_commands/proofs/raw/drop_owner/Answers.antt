@@ -2,9 +2,9 @@ use Rattle.std.proofs.Common.{◌≡◌, refl, sym, ◌∙◌}
 use Rattle.sdd_script_text.specs.declared.call.Action.TheVariants as call
 use Rattle.sdd_script_text.specs.declared.call.Call.TheVariants.{At}
 use Rattle.sdd_script_model.proofs.Entry.{spent_twice}
-use Rattle.sdd_script_names.specs.Interpreter.{desk_of}
-use Rattle.sdd_script_names.proofs.Acts.{Does, got, goes, owner-home, still-as}
-use Rattle.sdd_script_names.proofs.Missing.{invalid, nobody, no-owner}
+use Rattle.sdd_interpreter.specs.Interpreter.{desk_of}
+use Rattle.sdd_interpreter.proofs.Acts.{Does, got, goes, owner-home, still-as}
+use Rattle.sdd_interpreter.proofs.Missing.{invalid, nobody, no-owner}
 use Rattle.sdd_script_commands.proofs.RawActs.{acts-dropped, drop-refused, held-dated, put-back, same-desk}
 use Rattle.sdd_script_commands.proofs.raw.drop_owner.Goals as goal
 

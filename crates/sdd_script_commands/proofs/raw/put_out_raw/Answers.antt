@@ -1,15 +1,15 @@
 use Rattle.sdd_participants.specs.declared.standing.Standing.TheVariants.{Owned}
 use Rattle.sdd_space.specs.World.{standing_at}
-use Rattle.sdd_script_names.specs.declared.interpreter.Environment.{Environment}
+use Rattle.sdd_interpreter.specs.declared.interpreter.Environment.{Environment}
 use Rattle.std.proofs.Common.{◌≡◌, ℕ, Some, ◌<◌, length, is_some, slice_index, ap, ◌∙◌}
 use Rattle.std.proofs.lemmas.List.{get_or_read}
 use Rattle.sdd_script_model.proofs.Stocked.{slot-inside}
 use Rattle.sdd_script_text.specs.declared.call.Action.TheVariants as call
 use Rattle.sdd_script_text.specs.declared.call.Call.TheVariants.{At}
 use Rattle.sdd_script_text.specs.declared.answer.Reply.TheVariants as reply
-use Rattle.sdd_script_names.specs.Interpreter.{desk_of, IsTied}
-use Rattle.sdd_script_names.proofs.Acts.{Does, got, owner-home}
-use Rattle.sdd_script_names.proofs.Missing.{invalid, nobody, no-sole}
+use Rattle.sdd_interpreter.specs.Interpreter.{desk_of, IsTied}
+use Rattle.sdd_interpreter.proofs.Acts.{Does, got, owner-home}
+use Rattle.sdd_interpreter.proofs.Missing.{invalid, nobody, no-sole}
 use Rattle.sdd_script_commands.proofs.RawActs.{acts-raw}
 use Rattle.sdd_script_commands.proofs.raw.put_out_raw.Goals as goal
 

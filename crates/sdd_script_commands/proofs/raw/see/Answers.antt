@@ -2,9 +2,9 @@ use Rattle.std.proofs.Common.{◌≡◌, ap, ◌∙◌, slice_index_or}
 use Rattle.sdd_script_text.specs.declared.call.Action.TheVariants as call
 use Rattle.sdd_script_model.specs.Shown.{told_of}
 use Rattle.sdd_script_model.specs.Val.{body_of}
-use Rattle.sdd_script_names.specs.Interpreter.{desk_of}
-use Rattle.sdd_script_names.proofs.Inside.{value-inside}
-use Rattle.sdd_script_names.proofs.Missing.{invalid}
+use Rattle.sdd_interpreter.specs.Interpreter.{desk_of}
+use Rattle.sdd_interpreter.proofs.Inside.{value-inside}
+use Rattle.sdd_interpreter.proofs.Missing.{invalid}
 use Rattle.sdd_script_commands.proofs.RawActs.{acts-seen, acts-unseen, there-from, there-not}
 use Rattle.sdd_script_commands.proofs.raw.see.Goals as goal
 

@@ -2,10 +2,10 @@ use Rattle.std.proofs.Common.{length, slice_index_or, ap, ◌∙◌}
 use Rattle.sdd_script_text.specs.declared.call.Action.TheVariants as call
 use Rattle.sdd_script_text.specs.declared.call.Call.TheVariants.{At}
 use Rattle.sdd_script_text.specs.declared.answer.Reply.TheVariants as reply
-use Rattle.sdd_script_names.specs.Interpreter.{desk_of}
-use Rattle.sdd_script_names.proofs.Acts.{Does, got}
-use Rattle.sdd_script_names.proofs.Missing.{invalid, nobody}
-use Rattle.sdd_script_names.proofs.Acts.{same-owners, still-as}
+use Rattle.sdd_interpreter.specs.Interpreter.{desk_of}
+use Rattle.sdd_interpreter.proofs.Acts.{Does, got}
+use Rattle.sdd_interpreter.proofs.Missing.{invalid, nobody}
+use Rattle.sdd_interpreter.proofs.Acts.{same-owners, still-as}
 use Rattle.sdd_script_commands.proofs.RawActs.{acts-back, none-back, there-from, there-not}
 use Rattle.sdd_script_commands.proofs.raw.take_back_raw.Goals as goal
 

@@ -2,10 +2,10 @@ use Rattle.std.proofs.Common.{◌≡◌, length, sym, ◌∙◌, arith, rules}
 use Rattle.sdd_script_text.specs.declared.call.Call.TheVariants.{At}
 use Rattle.sdd_script_text.specs.declared.call.Action.TheVariants as call
 use Rattle.sdd_script_text.specs.declared.answer.Reply.TheVariants as reply
-use Rattle.sdd_script_names.specs.Interpreter.{desk_of}
-use Rattle.sdd_script_names.proofs.Acts.{Does}
-use Rattle.sdd_script_names.proofs.Missing.{invalid}
-use Rattle.sdd_script_names.proofs.Stacks.{no-stack, stack-home}
+use Rattle.sdd_interpreter.specs.Interpreter.{desk_of}
+use Rattle.sdd_interpreter.proofs.Acts.{Does}
+use Rattle.sdd_interpreter.proofs.Missing.{invalid}
+use Rattle.sdd_interpreter.proofs.Stacks.{no-stack, stack-home}
 use Rattle.sdd_script_commands.proofs.StackActs.{AreTold, acts-closed}
 use Rattle.sdd_script_commands.proofs.stacks.close_stack.Goals as goal
 

@@ -1,7 +1,7 @@
 use Rattle.std.proofs.Common.{length, ap, ◌∙◌}
 use Rattle.sdd_script_text.specs.declared.call.Action.TheVariants as call
-use Rattle.sdd_script_names.proofs.Acts.{got}
-use Rattle.sdd_script_names.proofs.Missing.{nobody}
+use Rattle.sdd_interpreter.proofs.Acts.{got}
+use Rattle.sdd_interpreter.proofs.Missing.{nobody}
 use Rattle.sdd_script_commands.proofs.StackActs.{acts-begun, acts-no_cell}
 use Rattle.sdd_script_commands.proofs.stacks.make_stack.Goals as goal
 

@@ -5,11 +5,11 @@ use Rattle.sdd_space.specs.World.{value_at}
 use Rattle.sdd_script_text.specs.declared.call.Call.TheVariants.{At}
 use Rattle.sdd_script_text.specs.declared.call.Action.TheVariants as call
 use Rattle.sdd_script_text.specs.declared.answer.Reply.TheVariants as reply
-use Rattle.sdd_space_commands.specs.Owners.{owner_holding}
-use Rattle.sdd_script_names.specs.Interpreter.{desk_of}
-use Rattle.sdd_script_names.proofs.Acts.{Does, does, goes}
-use Rattle.sdd_script_names.proofs.Missing.{invalid}
-use Rattle.sdd_script_names.proofs.Stacks.{no-stack, stack-home}
+use Rattle.sdd_interpreter.specs.Owners.{owner_holding}
+use Rattle.sdd_interpreter.specs.Interpreter.{desk_of}
+use Rattle.sdd_interpreter.proofs.Acts.{Does, does, goes}
+use Rattle.sdd_interpreter.proofs.Missing.{invalid}
+use Rattle.sdd_interpreter.proofs.Stacks.{no-stack, stack-home}
 use Rattle.sdd_script_commands.proofs.StackActs.{AreTold, acts-pop_refused, acts-popped, drained-as, popped-at_home, popped-counts, popped-home_slots}
 use Rattle.sdd_script_commands.proofs.stacks.pop.Goals as goal
 

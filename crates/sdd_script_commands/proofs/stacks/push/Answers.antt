@@ -5,12 +5,12 @@ use Rattle.sdd_space.specs.Shared.{slot_of}
 use Rattle.sdd_script_text.specs.declared.call.Call.TheVariants.{At}
 use Rattle.sdd_script_text.specs.declared.call.Action.TheVariants as call
 use Rattle.sdd_script_text.specs.declared.answer.Reply.TheVariants as reply
-use Rattle.sdd_space_commands.specs.Owners.{owner_holding}
-use Rattle.sdd_script_names.specs.Interpreter.{desk_of}
-use Rattle.sdd_script_names.specs.declared.interpreter.Environment.{Environment}
-use Rattle.sdd_script_names.proofs.Acts.{Does, does, goes}
-use Rattle.sdd_script_names.proofs.Missing.{invalid}
-use Rattle.sdd_script_names.proofs.Stacks.{no-stack, stack-home}
+use Rattle.sdd_interpreter.specs.Owners.{owner_holding}
+use Rattle.sdd_interpreter.specs.Interpreter.{desk_of}
+use Rattle.sdd_interpreter.specs.declared.interpreter.Environment.{Environment}
+use Rattle.sdd_interpreter.proofs.Acts.{Does, does, goes}
+use Rattle.sdd_interpreter.proofs.Missing.{invalid}
+use Rattle.sdd_interpreter.proofs.Stacks.{no-stack, stack-home}
 use Rattle.sdd_script_commands.proofs.StackActs.{AreTold, acts-push_refused, acts-pushed, slot-free}
 use Rattle.sdd_script_commands.proofs.stacks.push.Goals as goal
 

@@ -1,0 +1,210 @@
+-- What the acts of a script share: what is left in hand is sound, and is what a call means
+use Rattle.std.proofs.Common.{◌≡◌, ℕ, ◌+◌, [], ◌∷◌, ◌++◌, Option, Some, None, IsSome, map, length, slice_index_or, slice_set, refl, sym, ap, ◌∙◌, subst, lt-ltb, arith}
+use Rattle.std.specs.Prelude.{IsTrue, replicate}
+use Rattle.std.specs.Option.{option_map}
+use Rattle.std.specs.Global.{Vec}
+use Rattle.std.proofs.Math.ListN.{get_or-map}
+use Rattle.std.proofs.lemmas.List.{map-set, map_push}
+use Rattle.sdd_participants.specs.EpochState as time
+use Rattle.sdd_participants.specs.EpochState.{is_open}
+use Rattle.sdd_participants.specs.declared.standing.Standing.TheVariants as standing
+use Rattle.sdd_standings.specs.Slots.{IsSharedBy}
+use Rattle.sdd_space.specs.declared.shared.Shared.{Shared}
+use Rattle.sdd_space.specs.OwnerOrCell as holding
+use Rattle.sdd_space.specs.WorldChanges.{deferred, with_standing}
+use Rattle.sdd_space.specs.UnderGuards.{CannotGo}
+use Rattle.sdd_space.specs.WorldInvariant.{IsWhole}
+use Rattle.sdd_core.specs.declared.limits.Limits.{Limits}
+use Rattle.sdd_core.specs.Limits.{AreInRange}
+use Rattle.sdd_space.specs.World.{World, IsNew, IsPlaceOf, standing_at}
+use Rattle.sdd_space.specs.Shared as shared
+use Rattle.sdd_world.specs.Place.{index_of}
+use Rattle.sdd_script_text.specs.declared.name.PlaceName.{PlaceName}
+use Rattle.sdd_script_text.specs.declared.call.Call.{Call}
+use Rattle.sdd_script_text.specs.declared.answer.Reply.{Reply}
+use Rattle.sdd_script_model.specs.Val.{Val}
+use Rattle.sdd_interpreter.specs.declared.holding.AnyOwner.{AnyOwner}
+use Rattle.sdd_interpreter.specs.declared.holding.AnyOwner.TheVariants.{Share}
+use Rattle.sdd_interpreter.specs.declared.name_table.NameTable.{NameTable}
+use Rattle.sdd_interpreter.specs.declared.participants.NamedParticipant.{NamedParticipant}
+use Rattle.sdd_interpreter.specs.declared.participants.NamedGuard.{NamedGuard}
+use Rattle.sdd_interpreter.specs.declared.interpreter.Environment.{Environment}
+use Rattle.sdd_script_model.specs.ScriptState.{ScriptState, OpenSince, opening_at, holding_at, place_in, since_in, place_of, since_of, slot_at, in_world, with_owner}
+use Rattle.sdd_script_model.specs.Script.{Acts, Answers, IsReclaimed, IsRunBy, Meets, HasOpen, IsParticipant, CanPointTo}
+use Rattle.sdd_script_model.specs.Script as script
+use Rattle.sdd_script_model.specs.Script.AreCalls.{none as no_call}
+use Rattle.sdd_script_model.specs.Sound.{IsSound}
+use Rattle.sdd_interpreter.specs.Environment.{attending, guarding}
+use Rattle.sdd_interpreter.specs.Owners.{owner_holding, cell_holding, collector_holding, stack_holding}
+use Rattle.sdd_interpreter.specs.Interpreter.{desk_of, IsTied, GuardsIn}
+use Rattle.sdd_script_model.proofs.Dates.{dated-same}
+use Rattle.sdd_script_model.proofs.Chains.{LeavesSound}
+use Rattle.sdd_script_model.proofs.Going.{open-guard, can-point, shared-leaves, sound-start}
+
+-- what is left in hand is sound, and is this desk
+pub record Goes (new : Environment) (e : ScriptState) : Type 0 where
+  pub tied : IsTied new
+  pub desk : desk_of new ≡ e
+
+-- what is left in hand is sound, and is what the call means
+abbrev pub Does : ScriptState → Call → Reply → Environment → Type 0
+Does old call given new = IsTied new × Acts old call given (desk_of new)
+
+pub does : {new : Environment} {e : ScriptState} (old : ScriptState) (call : Call) (given : Reply) → Goes new e → Acts old call given e
+    → Does old call given new
+does old call given goes acts = (goes.tied, subst (Acts old call given) (sym goes.desk) acts)
+
+pub goes : {new : Environment} {e : ScriptState} → desk_of new ≡ e → IsSound e →
+    ((g : ℕ) → GuardsIn e.world.home.readers e.places (slice_index_or new.guards.entries.items g None)) → Goes new e
+goes {new} same sound guards = record {
+  tied = record {
+    sound = subst IsSound (sym same) sound;
+    guards = λ g. subst (λ (d : ScriptState). GuardsIn d.world.home.readers d.places (slice_index_or new.guards.entries.items g None)) (sym same) (guards g);
+  };
+  desk = same;
+}
+
+-- a call of a participant that leaves this, with the same guards in hand
+pub leads : {new : Environment} {e : ScriptState} (h : Environment) → IsTied h → (call : Call) (given : Reply) →
+    new.guards.entries.items ≡ h.guards.entries.items → desk_of new ≡ e → LeavesSound (desk_of h) e → Meets (desk_of h) call given e →
+    Does (desk_of h) call given new
+leads {new} {e} h t call given same desk left meets =
+    does (desk_of h) call given
+    (goes desk left.sound (λ g. rw (left.home, left.places, same) (t.guards g)))
+    (record { meets = meets; dated = left.dated; line = left.line; calls = left.calls })
+
+-- a call that changes nothing
+pub still : (d : ScriptState) (call : Call) (given : Reply) → Meets d call given d → Acts d call given d
+still d call given meets = record { meets = meets; dated = dated-same d d refl refl; line = refl; calls = no_call d.world }
+
+-- a call that changes nothing in hand
+pub still-as : (h new : Environment) (call : Call) (given : Reply) → desk_of new ≡ desk_of h → Meets (desk_of h) call given (desk_of h) →
+    Acts (desk_of h) call given (desk_of new)
+still-as h new call given same meets = subst (Acts (desk_of h) call given) (sym same) (still (desk_of h) call given meets)
+
+abbrev pub place : OpenSince → ℕ
+place x = x.place
+
+module _ (h : Environment) (t : IsTied h) (whole : IsWhole h.world) where
+  abbrev pub d : ScriptState
+  d = desk_of h
+
+  -- what a name of an owner stands for
+  pub named-owner : (o : ℕ) (x : AnyOwner) → slice_index_or h.owners.entries.items o None ≡ Some x → holding_at d.owners o ≡ Some (owner_holding x)
+  named-owner o x e = get_or-map (option_map owner_holding) h.owners.entries.items o None ∙ ap (option_map owner_holding) e
+
+  pub owner-home : (o : ℕ) (x : AnyOwner) → slice_index_or h.owners.entries.items o None ≡ Some x → holding.IsOf h.world.home (owner_holding x)
+  owner-home o x e = t.sound.home.owners o (owner_holding x) (named-owner o x e)
+
+  pub owner-spent : (owners : Vec (Option AnyOwner)) (o : ℕ) → owners.items ≡ slice_set h.owners.entries.items o None →
+      map (option_map owner_holding) owners.items ≡ slice_set d.owners o None
+  owner-spent owners o taken = ap (map (option_map owner_holding)) taken ∙ map-set (option_map owner_holding) h.owners.entries.items o None
+
+  pub owner-more : (owners : Vec (Option AnyOwner)) (x : AnyOwner) → owners.items ≡ h.owners.entries.items ++ Some x ∷ [] →
+      map (option_map owner_holding) owners.items ≡ d.owners ++ Some (owner_holding x) ∷ []
+  owner-more owners x pushed =
+      ap (map (option_map owner_holding)) pushed ∙ map_push (option_map owner_holding) h.owners.entries.items (Some x)
+
+  -- ---- what a participant does
+  module _ (name : PlaceName) (a : NamedParticipant) (there : attending (Some a) ≡ opening_at d.places name.0) where
+    abbrev pub n : ℕ
+    n = name.0
+
+    abbrev pub p : ℕ
+    p = index_of a.place
+
+    pub is : place_of d n ≡ p
+    is = ap place_in (sym there)
+
+    pub is-there : IsParticipant d n
+    is-there = subst (λ x. IsSome x) there refl
+
+    pub in_range : IsPlaceOf h.world p
+    in_range = t.sound.attended.inside n (record { place = p; since = a.since }) (sym there)
+
+    -- the guard of that name is the participant's
+    pub guard-is : (g : ℕ) (held : NamedGuard) → HasOpen d n g → slice_index_or h.guards.entries.items g None ≡ Some held → held.place ≡ p
+    guard-is g held valid here =
+        subst (script.IsOf (place_of d n)) (get_or-map guarding h.guards.entries.items g None ∙ ap guarding here) valid.1 ∙ is
+
+    -- a guard of p is open
+    pub open-here : (g : ℕ) (held : NamedGuard) → slice_index_or h.guards.entries.items g None ≡ Some held → held.place ≡ p →
+        IsTrue (is_open (time.place_at h.world.time p))
+    open-here g held here own =
+        lt-ltb 0 (time.place_at h.world.time p).guards (rw (sym own) (open-guard d t.sound g
+        (record { place = held.place; since = held.since }) (get_or-map guarding h.guards.entries.items g None ∙ ap guarding here)))
+
+    -- one owner more of the item in slot k
+    module _ (w : World Val) (owners : Vec (Option AnyOwner)) (x : Shared Val) (count : ℕ)
+        (pushed : owners.items ≡ h.owners.entries.items ++ Some (Share x) ∷ []) (home : shared.slots_home x ≡ h.world.home.slots)
+        (stands : IsSharedBy count (standing_at h.world (shared.slot_of x)))
+        (world : w ≡ with_standing h.world (shared.slot_of x) (standing.Shared (count + 1))) where
+      abbrev k : ℕ
+      k = shared.slot_of x
+
+      abbrev more : ScriptState
+      more = with_owner (in_world d (with_standing h.world k (standing.Shared (count + 1)))) (holding.shared k h.world.home.slots)
+
+      pub adds-owner : (call : Call) (given : Reply) → Meets d call given more → Does d call given (record h { world = w; owners = record { entries = owners } })
+      adds-owner call given meets =
+          let told = owner-more owners (Share x) pushed ∙ ap (λ home. d.owners ++ Some (holding.shared k home) ∷ []) home in
+          leads h t call given refl (cc (world, told)) (shared-leaves d t.sound whole p k count in_range stands) meets
+
+    -- an item that this participant can point to can't go while its guard is open
+    pub stays-here : (g i : ℕ) (held : NamedGuard) → slice_index_or h.guards.entries.items g None ≡ Some held → held.place ≡ p →
+        CanPointTo d n i → CannotGo h.world p (slot_at d i)
+    stays-here g i held here own can =
+        let since : since_of d n ≡ a.since = ap since_in (sym there) in
+        can-point d t.sound n (slot_at d i) (record { place = p; since = a.since }) (sym there) (open-here g held here own) can.0.taken
+        (λ waits. rw (← since) (can.1 waits))
+
+-- what a name stands for, as the desk has it
+pub got : (places : NameTable NamedParticipant) (n : ℕ) (a : NamedParticipant) → Some a ≡ slice_index_or places.entries.items n None →
+    attending (Some a) ≡ slice_index_or (map attending places.entries.items) n None
+got places n a e = ap attending e ∙ sym (get_or-map attending places.entries.items n None)
+
+-- where the world and the names are as before, so is the desk
+pub same-owners : (h : Environment) (w : World Val) (owners : Vec (Option AnyOwner)) → w ≡ h.world → owners.items ≡ h.owners.entries.items →
+    desk_of (record h { world = w; owners = record { entries = owners } }) ≡ desk_of h
+same-owners h w owners world same = let named = ap (map (option_map owner_holding)) same in cc
+
+-- nothing is in hand at the start
+pub tied-start : (h : Environment) (l : Limits) → IsNew l 0 h.world → h.moment ≡ 0 → h.places.entries.items ≡ [] → h.guards.entries.items ≡ [] →
+    h.owners.entries.items ≡ [] → h.cells.entries.items ≡ [] → h.collectors.entries.items ≡ [] → h.stacks.entries.items ≡ [] → h.slots.items ≡ [] → length h.names.items ≡ l.slots →
+    h.dates.items ≡ replicate l.slots 0 → h.jobs ≡ 0 → h.deferred.items ≡ replicate l.jobs 0 → h.job_dates.items ≡ replicate l.jobs 0 →
+    AreInRange l → IsTied h
+tied-start h l new start places guards owners cells collectors stacks slots names dates jobs deferred job_dates ranges = record {
+  sound = sound-start l (desk_of h) (record {
+    world = new;
+    moment = start;
+    places = ap (map attending) places;
+    guards = ap (map guarding) guards;
+    owners = ap (map (option_map owner_holding)) owners;
+    cells = ap (map (option_map cell_holding)) cells;
+    collectors = ap (map (option_map collector_holding)) collectors;
+    stacks = ap (map (option_map stack_holding)) stacks;
+    slots = slots;
+    dates = dates;
+    jobs = jobs;
+    deferred = deferred;
+    job_dates = job_dates;
+  }) names ranges;
+  guards = λ g. subst (λ gs. GuardsIn h.world.home.readers (map attending h.places.entries.items) (slice_index_or gs g None)) (sym guards) tt;
+}
+
+-- an answer that names nothing as reclaimed or run
+pub answers-plain : {old new : ScriptState} (call : Call) (given : Reply) → Acts old call given new → ((s : ℕ) → IsReclaimed old call given s → ⊥) →
+    ((k : ℕ) → IsRunBy old call given k → ⊥) → Answers old call (record { reply = given; reclaimed = []; ran = [] }) new
+answers-plain call given acts none never = record {
+  acts = acts;
+  goes = record {
+    ascending = λ k lt. absurd (omega (arith, lt));
+    exactly = λ i. ((λ c. absurd (omega (arith, c.1))), (λ h. absurd (none _ h.1)));
+    unguarded = λ i c. absurd (omega (arith, c.1));
+  };
+  runs = record {
+    ascending = λ k lt. absurd (omega (arith, lt));
+    exactly = λ j. ((λ c. absurd (omega (arith, c.1))), (λ h. absurd (never h.0 h.2)));
+    unguarded = λ j c. absurd (omega (arith, c.1));
+  };
+}

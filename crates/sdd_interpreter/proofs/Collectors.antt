@@ -1,0 +1,35 @@
+-- What a name of a collector stands for
+use Rattle.std.proofs.Common.{◌≡◌, ℕ, Option, Some, None, map, slice_index_or, slice_set, sym, ap, ◌∙◌}
+use Rattle.std.specs.Option.{option_map}
+use Rattle.std.specs.Global.{Vec}
+use Rattle.std.proofs.Math.ListN.{get_or-map}
+use Rattle.std.proofs.lemmas.List.{map-set}
+use Rattle.sdd_space.specs.declared.private_collector.PrivateCollector.{PrivateCollector}
+use Rattle.sdd_space.specs.Collector as collector
+use Rattle.sdd_script_model.specs.Val.{Val}
+use Rattle.sdd_script_model.specs.ScriptState.{ScriptState, collector_of, holding_at}
+use Rattle.sdd_interpreter.specs.Owners.{collector_holding}
+use Rattle.sdd_interpreter.specs.declared.interpreter.Environment.{Environment}
+use Rattle.sdd_interpreter.specs.Interpreter.{IsTied, desk_of}
+
+module _ (h : Environment) (t : IsTied h) where
+  abbrev d : ScriptState
+  d = desk_of h
+
+  pub named-collector : (k : ℕ) (x : PrivateCollector Val) → Some x ≡ slice_index_or h.collectors.entries.items k None →
+      holding_at d.collectors k ≡ Some (collector_holding x)
+  named-collector k x there =
+      get_or-map (option_map collector_holding) h.collectors.entries.items k None ∙ ap (option_map collector_holding) (sym there)
+
+  pub collector-home : (k : ℕ) (x : PrivateCollector Val) → Some x ≡ slice_index_or h.collectors.entries.items k None →
+      collector.cells_home x ≡ h.world.home.cells
+  collector-home k x there = t.sound.home.collectors k (collector_holding x) (named-collector k x there)
+
+  pub number-is : (k : ℕ) (x : PrivateCollector Val) → Some x ≡ slice_index_or h.collectors.entries.items k None →
+      collector_of (holding_at d.collectors k) ≡ Some (collector.collector_of x)
+  number-is k x there = ap collector_of (named-collector k x there)
+
+  pub collectors-spent : (collectors : Vec (Option (PrivateCollector Val))) (k : ℕ) → collectors.items ≡ slice_set h.collectors.entries.items k None →
+      map (option_map collector_holding) collectors.items ≡ slice_set d.collectors k None
+  collectors-spent collectors k taken =
+      ap (map (option_map collector_holding)) taken ∙ map-set (option_map collector_holding) h.collectors.entries.items k None

@@ -1,0 +1,24 @@
+-- That no guard of a participant has a name
+use Rattle.std.proofs.Common.{◌≡◌, ◌≢◌, ℕ, List, Option, Some, None, map, slice_index_or, refl, sym, ap, ◌∙◌, subst}
+use Rattle.std.proofs.Math.ListN.{get_or-map}
+use Rattle.sdd_world.specs.Place.{index_of}
+use Rattle.sdd_script_model.specs.ScriptState.{opening_at, place_in}
+use Rattle.sdd_script_model.specs.Script.{IsOf}
+use Rattle.sdd_interpreter.specs.declared.participants.NamedParticipant.{NamedParticipant}
+use Rattle.sdd_interpreter.specs.declared.participants.NamedGuard.{NamedGuard}
+use Rattle.sdd_interpreter.specs.Environment.{AreOpen, attending, guarding}
+
+pub none-open : (places : List (Option NamedParticipant)) (guards : List (Option NamedGuard)) (n : ℕ) (a : NamedParticipant) →
+    Some a ≡ slice_index_or places n None →
+    ((g : ℕ) (held : NamedGuard) → slice_index_or guards g None ≡ Some held → held.place ≢ index_of a.place) →
+    (g : ℕ) → ¬ (AreOpen (map attending places) (map guarding guards) n g)
+none-open places guards n a there none g is = by (slice_index_or guards g None) refl where
+  home : ℕ
+  home = place_in (opening_at (map attending places) n)
+
+  here : home ≡ index_of a.place
+  here = ap place_in (get_or-map attending places n None ∙ ap attending (sym there))
+
+  by : (x : Option NamedGuard) → slice_index_or guards g None ≡ x → ⊥
+  by None e = subst (IsOf home) (get_or-map guarding guards g None ∙ ap guarding e) is.1
+  by (Some held) e = none g held e (subst (IsOf home) (get_or-map guarding guards g None ∙ ap guarding e) is.1 ∙ here)

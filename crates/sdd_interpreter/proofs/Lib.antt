@@ -1,0 +1,13 @@
+pub mod Out
+pub mod Peeked
+pub mod Dropping
+pub mod Popped
+pub mod Filled
+pub mod Noted
+pub mod Acts
+pub mod Missing
+pub mod Inside
+pub mod Taken
+pub mod Collectors
+pub mod Stacks
+pub mod Guarded

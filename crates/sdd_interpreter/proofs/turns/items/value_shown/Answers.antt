@@ -1,0 +1,13 @@
+use Rattle.std.proofs.Common.{[], ◌∷◌, sym, ap, ◌∙◌}
+use Rattle.sdd_lists.specs.Entries.{value_of}
+use Rattle.sdd_space.proofs.Composed.{rest-of}
+use Rattle.sdd_space.specs.World.{World}
+use Rattle.sdd_script_model.specs.Val.{Val, link_holding, owner_in}
+use Rattle.sdd_interpreter.proofs.turns.items.value_shown.Goals as goal
+
+pub returns-clause-home : goal.returns-clause-home
+returns-clause-home c =
+    let v = c.in-Some.value.now in
+    let same = c.ptr_at-ptr.ensures.world in
+    let held = c.shown_is_of_home.ensures c.args.slot v (rw same (sym c.ptr_at-ptr.ensures.shown ∙ sym c.in-Some.ensures.shown)) in
+    (rest-of c.ptr_at-ptr.new.world.home (owner_in (value_of v)) (link_holding v ∷ []) held).0 ∙ ap (λ (w : World Val). w.home.cells) same

@@ -1,0 +1,44 @@
+-- What a script has in hand, as its desk, and how the two are tied
+use Rattle.std.specs.Prelude.{ℕ, ◌≡◌, List, Option, Some, None, map, slice_index_or}
+use Rattle.std.specs.Option.{option_map}
+use Rattle.sdd_space.specs.Guard.{reader_of}
+use Rattle.sdd_script_model.specs.ScriptState.{ScriptState, OpenSince, opening_at}
+use Rattle.sdd_script_model.specs.Sound.{IsSound}
+use Rattle.sdd_interpreter.specs.declared.participants.NamedGuard.{NamedGuard}
+use Rattle.sdd_interpreter.specs.declared.interpreter.Environment.{Environment}
+use Rattle.sdd_interpreter.specs.Owners.{owner_holding, cell_holding, collector_holding, stack_holding}
+use Rattle.sdd_interpreter.specs.Environment.{attending, guarding}
+use Rattle.sdd_rights.specs.Units as token
+
+abbrev pub desk_of : Environment → ScriptState
+desk_of s =
+    record {
+      moment = s.moment;
+      world = s.world;
+      places = map attending s.places.entries.items;
+      guards = map guarding s.guards.entries.items;
+      owners = map (option_map owner_holding) s.owners.entries.items;
+      cells = map (option_map cell_holding) s.cells.entries.items;
+      collectors = map (option_map collector_holding) s.collectors.entries.items;
+      stacks = map (option_map stack_holding) s.stacks.entries.items;
+      slots = s.slots.items;
+      names = s.names.items;
+      dates = s.dates.items;
+      jobs = s.jobs;
+      deferred = s.deferred.items;
+      job_dates = s.job_dates.items;
+    }
+
+-- a guard is that of the participant under whose name it was opened
+pub record IsGuardIn (home : token.GhostName) (places : List (Option OpenSince)) (held : NamedGuard) : Type 0 where
+  pub own : option_map (λ (x : OpenSince). x.place) (opening_at places held.participant) ≡ Some held.place
+  pub reader : reader_of held.guard ≡ record { home = home; number = held.place }
+
+abbrev pub GuardsIn : token.GhostName → List (Option OpenSince) → Option NamedGuard → Type 0
+GuardsIn home places None = Unit {0}
+GuardsIn home places (Some held) = IsGuardIn home places held
+
+-- what is in hand is what the desk says
+pub record IsTied (s : Environment) : Type 0 where
+  pub sound : IsSound (desk_of s)
+  pub guards : (g : ℕ) → GuardsIn s.world.home.readers (map attending s.places.entries.items) (slice_index_or s.guards.entries.items g None)

@@ -1,0 +1,4 @@
+pub mod Environment
+pub mod Interpreter
+pub mod Owners
+pub mod Stacks

@@ -1,0 +1,17 @@
+//! What each line of a script does in a space, as a value: over any space, of which it says what must be so and what is so then.
+
+pub mod cells;
+pub mod collectors;
+pub mod exchanges;
+pub mod guards;
+pub mod items;
+pub mod links;
+pub mod owners;
+pub mod raw;
+pub mod stacks;
+pub mod step;
+
+pub use step::{
+    CellCommand, CollectorCommand, GuardCommand, InPlaceCommand, ItemCommand, ListCommand,
+    RawCommand,
+};

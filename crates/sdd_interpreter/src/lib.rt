@@ -1,0 +1,19 @@
+//! A script in the middle of a run: what it has in hand by its names, participants, guards, owners, cells and items, and the world that it plays on. Beside
+//! that what each line does in a space, as a value: a [command](commands) over any space, of which it says what must be so and what is so then; and what a
+//! participant does with it at its place of a world, when it is its [turn](turns).
+#![tactic(auto)]
+
+pub mod commands;
+pub mod holding;
+pub mod interpreter;
+pub mod items;
+pub mod jobs;
+pub mod name_table;
+pub mod owners;
+pub mod participants;
+pub mod turns;
+
+pub use holding::{AnyCell, AnyOwner, CellOwner};
+pub use interpreter::{Environment, Interpreter};
+pub use name_table::NameTable;
+pub use participants::{NamedGuard, NamedParticipant};

@@ -1,6 +1,0 @@
-use Rattle.std.proofs.Common.{◌≡◌, ◌≤◌, map, length, take, vec_capacity}
-use Rattle.sdd_script_model.specs.Shown.{job_in}
-use Rattle.sdd_script_names.proofs.jobs.jobs_of.Given as goal
-
-abbrev pub invariant-loop-place : goal.invariant-loop-place
-invariant-loop-place l = (l.found.items ≡ map (job_in l.deferred) (take l.place-index l.places)) × (length l.places ≤ vec_capacity l.found)

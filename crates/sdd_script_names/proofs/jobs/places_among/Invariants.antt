@@ -1,7 +1,0 @@
-use Rattle.std.proofs.Common.{◌≡◌, ◌≤◌, length, take, vec_capacity}
-use Rattle.sdd_script_model.specs.Held.{places_among}
-use Rattle.sdd_script_names.proofs.jobs.places_among.Given as goal
-
-abbrev pub invariant-loop-what : goal.invariant-loop-what
-invariant-loop-what l =
-    (l.found.items ≡ places_among (take l.what-index l.waiting)) × (length l.found.items ≤ l.what-index) × (length l.waiting ≤ vec_capacity l.found)

@@ -1,4 +1,0 @@
-pub mod Out
-pub mod Peeked
-pub mod Dropping
-pub mod Popped
