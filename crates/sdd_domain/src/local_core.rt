@@ -417,7 +417,8 @@ impl<'d, T: Item<T>, J: Job> LocalCore<'d, T, J> {
         ensures looked { self.now.slots.closes ≡ None → self.now.slots.looked ≡ 0 }
         ensures collectors { TellsCollectors self.now.limits.slots self.now.collectors self.now.slots.privates }
         ensures once { (slot : ℕ) (rest : List Entry) → self.now.due ≡ item slot ∷ rest → All (λ what. what ≢ item slot) rest }
-        ensures none { (collector : ℕ) → self.now.slots.closes ≡ Some collector → self.now.due ≡ [] → (slot : ℕ) → entry_at self.now.collectors slot ≢ Some collector }
+        ensures none { (collector : ℕ) → self.now.slots.closes ≡ Some collector → self.now.due ≡ [] →
+            (slot : ℕ) → entry_at self.now.collectors slot ≢ Some collector }
         ensures near { HasOpenGuard self.now → (self.now.since ≤ self.now.known) × (self.now.known ≤ self.now.since + 1) }
     {
         let _token = &self.token;

@@ -38,7 +38,8 @@ impl Model for WorldCells {
 
     ghost view = { λ c. record { home = c.rights.home; cells = contents_of c.tags c.held.items; slots = badge_home c.slots; pointers = c.pointers.items } };
 
-    ghost invariant = { λ c. CellsMatch c.rights.home (badge_home c.slots) c.rights.kept (contents_of c.tags c.held.items) c.held.items × (length c.pointers.items ≡ c.rights.home.size) };
+    ghost invariant = { λ c. CellsMatch c.rights.home (badge_home c.slots) c.rights.kept (contents_of c.tags c.held.items) c.held.items
+        × (length c.pointers.items ≡ c.rights.home.size) };
 }
 
 impl WorldCells {

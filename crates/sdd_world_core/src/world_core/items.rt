@@ -78,7 +78,8 @@ impl<T: Item<T>, J: Job> WorldCore<T, J> {
         requires several { 2 ≤ owners }
         requires most { owners ≤ 2 ^ 62 }
         ensures made { MatchResult result
-            (λ made. (home_of made.0 ≡ self.old.world.home.slots) × (kind_of made.0 ≡ StandingKind.Shared) × IsEmptyAt self.old.world.standings (number_of made.0) ×
+            (λ made. (home_of made.0 ≡ self.old.world.home.slots) × (kind_of made.0 ≡ StandingKind.Shared) ×
+            IsEmptyAt self.old.world.standings (number_of made.0) ×
             (self.new ≡ record self.old { world = made_as self.old.world (number_of made.0) value (Standing.Shared owners) }))
             (λ back. IsFull self.old.world.standings × (back ≡ value) × (self.new ≡ self.old)) }
         ensures others { IfOk result (λ made. (shares.home_of made.1 ≡ self.old.world.home.slots) × (shares.number_of made.1 ≡ number_of made.0) ×
