@@ -7,7 +7,9 @@ pub use sdd_bag::{Bag, IntoIter, Shelf, Storage};
 pub use sdd_core::{Epoch, Limits, Refused, Tag};
 pub use sdd_domain::{Domain, Local, Receipt};
 pub use sdd_lists::laws::{first_in_first_out, last_in_first_out, releases_keep_values};
-pub use sdd_lists::{Link, LinkedEntry, LinkedList, Queue, Stack, Unfinished, Unpopped, Walk};
+pub use sdd_lists::{
+    Iter, Link, LinkedEntry, LinkedList, Queue, Stack, Unfinished, Unpopped, Walk,
+};
 pub use sdd_machine::machine::{Did, Machine, Step, safety};
 pub use sdd_participants::{BoxedJob, Deferred, Idle, Job, Tally};
 pub use sdd_space::laws::{
@@ -16,8 +18,8 @@ pub use sdd_space::laws::{
 };
 pub use sdd_space::{
     AtomicOwned, AtomicRaw, AtomicShared, Caller, Cells, Collectors, Deferrals, Giver, Guard,
-    Guards, InPlaceItems, Item, Items, Look, LookThrough, Owned, OwnedPtrPair, PrivateCollector,
-    Ptr, RawCells, RawItems, RawPtr, Several, Shared, SharedItems, SharedOwners, SharedPtrPair,
-    Shows, Space,
+    Guards, HeldItems, InPlaceItems, Item, Items, Look, LookThrough, Owned, OwnedPtrPair,
+    PrivateCollector, Ptr, RawCells, RawItems, RawPtr, Several, Shared, SharedItems, SharedOwners,
+    SharedPtrPair, Shows, Space,
 };
 pub use sdd_world::{Place, Turn, World};

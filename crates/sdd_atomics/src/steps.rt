@@ -25,7 +25,7 @@ use crate::plays::{
     Advance, Bar, Close, End, Lock, LookAtCount, LookAtLock, LookAtState, NewSeat, Publish, Read,
     Register, Unlock, Write,
 };
-use crate::words::{GLOBAL, LOCK, count_word, state_word};
+use crate::words::{GLOBAL, LOCK, OwnPlace, count_word, state_word};
 
 /// Nobody's place.
 pub const FREE: u64 = 0;
@@ -69,7 +69,7 @@ pub fn read(board: &DomainTable, token: &mut DomainSeat) -> u64
 
 /// Writes the own count word, while no guard is open.
 #[inline]
-pub fn write(board: &DomainTable, token: &mut DomainSeat, place: usize, count: u64)
+pub fn write(board: &DomainTable, token: &mut DomainSeat, place: OwnPlace, count: u64)
     requires home { token.old.table_id ≡ id_of board.now }
     requires own { (place ≡ (epoch token.old).place) × (place < places_of board.now) }
     requires closed { IsClosed (epoch token.old) }
@@ -78,12 +78,12 @@ pub fn write(board: &DomainTable, token: &mut DomainSeat, place: usize, count: u
     board
         .table
         .shared
-        .store::<Write>(token, count_word(place), count);
+        .store::<Write>(token, place.count_word(), count);
 }
 
 /// Publishes the count that stands in the own count word. Another one than before is a change for each item that waits.
 #[inline]
-pub fn publish(board: &DomainTable, token: &mut DomainSeat, place: usize)
+pub fn publish(board: &DomainTable, token: &mut DomainSeat, place: OwnPlace)
     requires home { token.old.table_id ≡ id_of board.now }
     requires own { (place ≡ (epoch token.old).place) × (place < places_of board.now) }
     requires closed { IsClosed (epoch token.old) }
@@ -93,12 +93,12 @@ pub fn publish(board: &DomainTable, token: &mut DomainSeat, place: usize)
     board
         .table
         .shared
-        .store::<Publish>(token, state_word(place), OPEN);
+        .store::<Publish>(token, place.state_word(), OPEN);
 }
 
 /// Publishes that no guard is open, so that none sees anything: all stakes go home.
 #[inline]
-pub fn close(board: &DomainTable, token: &mut DomainSeat, place: usize)
+pub fn close(board: &DomainTable, token: &mut DomainSeat, place: OwnPlace)
     requires home { token.old.table_id ≡ id_of board.now }
     requires knows { Knows board.now token.old }
     requires rests { (view token.old).stakes.moves ≡ None }
@@ -110,11 +110,11 @@ pub fn close(board: &DomainTable, token: &mut DomainSeat, place: usize)
     board
         .table
         .shared
-        .store::<Close>(token, state_word(place), CLOSED);
+        .store::<Close>(token, place.state_word(), CLOSED);
 }
 
 /// Ends the own place, which the token counts from then on.
-pub fn end(board: &DomainTable, token: &mut DomainSeat, place: usize)
+pub fn end(board: &DomainTable, token: &mut DomainSeat, place: OwnPlace)
     requires home { token.old.table_id ≡ id_of board.now }
     requires rests { (view token.old).stakes.moves ≡ None }
     requires own { (place ≡ (epoch token.old).place) × (place < places_of board.now) }
@@ -125,7 +125,7 @@ pub fn end(board: &DomainTable, token: &mut DomainSeat, place: usize)
     board
         .table
         .shared
-        .store::<End>(token, state_word(place), ENDED);
+        .store::<End>(token, place.state_word(), ENDED);
 }
 
 /// Bars a place that is nobody's as long as it is in this state, by a token without a place. Answers its state before: it is barred then where this is

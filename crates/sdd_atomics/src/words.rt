@@ -3,6 +3,7 @@ ghost use Rattle.std.specs.Prelude.{◌≡◌, ◌^◌, ◌<◌, ◌≤◌};
 ghost use Rattle.sdd_word_invariant.specs.Words as words;
 
 use sdd_views::Sizes;
+use std::marker::Model;
 
 /// How far apart words stand that different participants write: two lines of the cache, as processors fetch them by pairs.
 const LINE: usize = 16;
@@ -30,6 +31,66 @@ pub fn count_word(place: usize) -> usize
     ensures { result ≡ words.count_word place }
 {
     LINE * place + FIRST_PLACE + 1
+}
+
+/// A participant's own place, with where its words are: each guard writes there.
+#[derive(Clone, Copy)]
+pub struct OwnPlace {
+    number: usize,
+    state: usize,
+}
+
+impl Model for OwnPlace {
+    ghost use Rattle.std.specs.Prelude.{◌≡◌, ◌^◌, ◌<◌, ℕ};
+    ghost use Rattle.std.proofs.Common.{sym};
+    ghost use Rattle.sdd_word_invariant.specs.Words as words;
+
+    ghost Value = { ℕ };
+
+    ghost view = { λ p. p.number };
+
+    ghost invariant = { λ p. (p.number < 2 ^ 32) × (p.state ≡ words.state_word p.number) };
+
+    ghost inverse = { λ number. record { number = number; state = words.state_word number } };
+
+    ghost inverse_ok = { λ p h d. record { number = p.number; state = sym h.1 d } };
+}
+
+impl OwnPlace {
+    /// The place of this number.
+    pub fn of(number: usize) -> OwnPlace
+        requires { number < 2 ^ 32 }
+        ensures { result ≡ number }
+    {
+        OwnPlace {
+            number,
+            state: state_word(number),
+        }
+    }
+
+    /// Its number.
+    #[inline]
+    pub fn number(self) -> usize
+        ensures { result ≡ self }
+    {
+        self.number
+    }
+
+    /// Its state.
+    #[inline]
+    pub fn state_word(self) -> usize
+        ensures { result ≡ words.state_word self }
+    {
+        self.state
+    }
+
+    /// Its count, which nobody but its participant writes either.
+    #[inline]
+    pub fn count_word(self) -> usize
+        ensures { result ≡ words.count_word self }
+    {
+        self.state + 1
+    }
 }
 
 /// Where the slots' words begin.

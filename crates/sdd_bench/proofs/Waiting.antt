@@ -39,13 +39,3 @@ pub registered-guards : (t : EpochState) (p : ℕ) → t.places ≡ [] → (plac
 registered-guards t p none =
     let new : nat_lt p (length t.places) ≡ false = ap (λ (ps : List Participant). nat_lt p (length ps)) none ∙ le-ltb p 0 (omega arith) in
     fresh t p (nat_lt p (length t.places)) new none
-
--- and as many may be as before
-same-nesting : (t : EpochState) (p : ℕ) (again : Bool) →
-    (if again then record t { places = slice_set t.places p (newcomer t.room); phases = with_entry t.phases p Live }
-    else record t { places = t.places ++ newcomer t.room ∷ []; phases = t.phases ++ Some Live ∷ [] }).nesting ≡ t.nesting
-same-nesting t p true = refl
-same-nesting t p false = refl
-
-pub registered-nesting : (t : EpochState) (p : ℕ) → (registered t p).nesting ≡ t.nesting
-registered-nesting t p = same-nesting t p (nat_lt p (length t.places))

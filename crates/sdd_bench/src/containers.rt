@@ -3,7 +3,7 @@ ghost use Rattle.std.specs.Prelude.{◌≡◌, ◌<◌, [], Err};
 ghost use Rattle.sdd_core.specs.Limits.{AreInRange};
 
 use crate::bags;
-use crate::lists::{Entry, queues, stacks, walks};
+use crate::lists::{Along, Entry, queues, stacks, walks};
 use crate::operation::{Bagging, Listing};
 use sdd_core::{Limits, Refused};
 use sdd_participants::Tally;
@@ -41,7 +41,8 @@ fn in_world(world: &mut World<Entry>, listing: Listing, turns: u64) -> Result<u6
     match listing {
         Listing::Queue => queues(&mut turn, turns),
         Listing::Stack => stacks(&mut turn, turns),
-        Listing::Walk => walks(&mut turn, turns),
+        Listing::Walk => walks(&mut turn, turns, Along::Walk),
+        Listing::Iter => walks(&mut turn, turns, Along::Iter),
     }
 }
 

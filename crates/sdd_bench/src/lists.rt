@@ -8,7 +8,7 @@ ghost use Rattle.sdd_lists.specs.Stack.{home_in};
 
 use sdd_core::Refused;
 use sdd_lists::{LinkedEntry, Queue, Stack};
-use sdd_space::{Cells, Guard, Guards, Items, Look, Several, Shared, SharedItems};
+use sdd_space::{Cells, Guard, Guards, HeldItems, Items, Look, Several, Shared, SharedItems};
 use sdd_world::Turn;
 
 /// What is in a slot: an entry of a list of numbers.
@@ -17,13 +17,21 @@ pub type Entry = LinkedEntry<u64>;
 /// So many entries are walked along in each turn.
 pub const WALKED: u64 = 256;
 
+/// By what one goes along the entries of a queue.
+#[derive(Clone, Copy, Debug, PartialEq, Eq)]
+pub enum Along {
+    Walk,
+    Iter,
+}
+
 /// The parts of a space that lists of numbers are used in.
 pub trait Lists: Look<Entry>
     + Guards<Entry>
     + Items<Entry>
     + Several<Entry>
     + SharedItems<Entry>
-    + Cells<Entry> {}
+    + Cells<Entry>
+    + HeldItems<Entry> {}
 
 impl Lists for Turn<'_, Entry> {}
 
@@ -240,12 +248,25 @@ fn sum_walked<S: Lists>(space: &mut S, queue: &Queue<u64>, guard: &Guard) -> u64
     sum
 }
 
-/// Fills a queue, and walks along it that often.
+/// The sum of what an iterator over a queue gives.
+#[inline(always)]
+fn sum_given<S: Lists>(space: &S, queue: &Queue<u64>, guard: &Guard) -> u64
+    requires { AreOfCells (S.seat space.now).home.cells queue.now }
+{
+    let mut sum = 0u64;
+    for value in queue.iter(guard, space) {
+        sum = sum.wrapping_add(*value);
+    }
+    sum
+}
+
+/// Fills a queue, and goes along it that often.
 fn walk_turns<S: Lists>(
     space: &mut S,
     queue: &Queue<u64>,
     guard: &Guard,
     turns: u64,
+    along: Along,
 ) -> Result<u64, Refused>
     requires seated { IsSeated (S.seat space.old) }
     requires home { AreOfCells (S.seat space.old).home.cells queue.now }
@@ -256,31 +277,40 @@ fn walk_turns<S: Lists>(
     fill(space, queue, guard, WALKED)?;
     let mut sum = 0u64;
     for _turn in 0..turns {
-        sum = sum.wrapping_add(sum_walked(space, queue, guard));
+        let seen = match along {
+            Along::Walk => sum_walked(space, queue, guard),
+            Along::Iter => sum_given(space, queue, guard),
+        };
+        sum = sum.wrapping_add(seen);
     }
     Ok(sum)
 }
 
-/// Under a guard that stays open, the entries of a queue are walked along that often.
-pub fn walks<S: Lists>(space: &mut S, turns: u64) -> Result<u64, Refused>
+/// Under a guard that stays open, one goes along the entries of a queue that often.
+pub fn walks<S: Lists>(space: &mut S, turns: u64, along: Along) -> Result<u64, Refused>
     requires seated { IsSeated (S.seat space.old) }
     ensures seat { S.seat space.new ≡ S.seat space.old }
     ensures guards { (S.own space.new).guards ≡ (S.own space.old).guards }
 {
     let guard = Guard::new(space)?;
-    let sum = walks_under(space, &guard, turns);
+    let sum = walks_under(space, &guard, turns, along);
     guard.close(space);
     sum
 }
 
-fn walks_under<S: Lists>(space: &mut S, guard: &Guard, turns: u64) -> Result<u64, Refused>
+fn walks_under<S: Lists>(
+    space: &mut S,
+    guard: &Guard,
+    turns: u64,
+    along: Along,
+) -> Result<u64, Refused>
     requires seated { IsSeated (S.seat space.old) }
     requires reader { reader_of guard.now ≡ (S.seat space.old).reader }
     ensures seat { S.seat space.new ≡ S.seat space.old }
     ensures guards { (S.own space.new).guards ≡ (S.own space.old).guards }
 {
     let queue = Queue::new(space)?;
-    let sum = walk_turns(space, &queue, guard, turns);
+    let sum = walk_turns(space, &queue, guard, turns, along);
     queue.close(guard, space);
     sum
 }

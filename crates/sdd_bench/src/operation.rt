@@ -67,6 +67,8 @@ pub enum Listing {
     Stack,
     /// A walk along the entries of a queue, under a guard that stays open.
     Walk,
+    /// The same by an iterator, which borrows the space.
+    Iter,
 }
 
 /// What is done in each turn with a bag of numbers, in a world.
@@ -171,6 +173,7 @@ pub fn named(word: &str) -> Option<Operation>
         "world-queue" => Some(Operation::Listed(Listing::Queue)),
         "world-stack" => Some(Operation::Listed(Listing::Stack)),
         "world-walk" => Some(Operation::Listed(Listing::Walk)),
+        "world-iter" => Some(Operation::Listed(Listing::Iter)),
         "world-bag" => Some(Operation::Bagged(Bagging::Inside)),
         "world-bag-behind" => Some(Operation::Bagged(Bagging::Behind)),
         "world-bag-all" => Some(Operation::Bagged(Bagging::All)),

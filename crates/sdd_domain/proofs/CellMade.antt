@@ -143,16 +143,6 @@ module _ {J : Type 0} (R : RattleType) (holds : R.Denot → List OwnerOrCell) (v
       (λ (b : (why ≡ NoCell) × ¬ (IsUsedUp v.member) × AllCellsTaken v.member).
       inr ((λ full. b.1 (λ slot low free. not_full v slot low free full)), cells_used_up v b.2, b.0)) (none.lone lone)
 
-  pub none_why : (p : LocalModel R.Denot J) → v ≡ p → (why ≡ NoSlot) ⊎ IsRefusedBy (seat_of p) NoCell why
-  none_why p same = ⊎_elim (λ (a : why ≡ NoSlot). inl a) (λ (b : (why ≡ NoCell) ⊎ (why ≡ Contended)).
-      ⊎_elim (λ (c : why ≡ NoCell). inr (inl c)) (λ (d : why ≡ Contended). inr (inr (
-        d,
-        (λ exact.
-            let lone = lone_begun v p same exact in
-            ⊎_elim (λ (a : (why ≡ NoSlot) × IsUsedUp v.member). let e = a.0 in absurd (cc))
-            (λ (b : (why ≡ NoCell) × ¬ (IsUsedUp v.member) × AllCellsTaken v.member). let e = b.0 in absurd (cc)) (none.lone lone)),
-      ))) b) none.cause
-
 -- ---- for an answer
 module _ {J : Type 0} (R : RattleType) (holds : R.Denot → List OwnerOrCell) (v : LocalModel R.Denot J) (m : LocalState J) (es : Entries R.Denot)
     (kind : StandingKind) (x : R.Denot) where

@@ -114,11 +114,6 @@ module _ {T J : Type 0} (v : LocalModel T J) (cell found word : ℕ) (m : LocalS
   pub sound_written : (holds : T → List OwnerOrCell) → IsSound holds v → IsSound holds (record { member = m; entries = v.entries })
   sound_written = sound_noted v (set v.member.words cell word) as_long word_kept m is.member
 
-  -- what is shown is shown still, and nothing else is disturbed
-  pub written_keeps : (shown : T → Gv) (holds : T → List OwnerOrCell)
-      → KeepsShown (Shows shown holds v) (Shows shown holds (record { member = m; entries = v.entries }))
-  written_keeps = noted_keeps v (set v.member.words cell word) as_long word_kept m is.member
-
   pub written_undisturbed : (p : LocalModel T J) → v ≡ p → (shown : T → Gv) (holds : T → List OwnerOrCell)
       → Undisturbed seat_of (λ (q : LocalModel T J). q.member.own) known_of (λ (q : LocalModel T J). Shows shown holds q) p
       (record { member = m; entries = v.entries })
@@ -139,17 +134,6 @@ module _ {T J : Type 0} (v : LocalModel T J) (cell found word : ℕ) (m : LocalS
 
     pub empty_exact : found ≡ 0 → IsEmptyAt (world_of p).cells cell
     empty_exact none = subst (λ (q : LocalModel T J). IsEmptyAt (world_of q).cells cell) same (found_empty (tied lone_here) lone_here none)
-
--- where it was written twice in a row it was written once
-module _ {J : Type 0} where
-  pub written_twice : (cell found word other last : ℕ) (old mid new : LocalState J) → WritesAt cell found word old mid → WritesAt cell other last mid new
-      → WritesAt cell found last old new
-  written_twice cell found word other last old mid new first second = record {
-    member = second.member ∙ (ap (λ (y : LocalState J). record y { words = set y.words cell last }) first.member
-        ∙ ap (λ (words : List ℕ). record old { words = words }) (set-set old.words cell word last));
-    inside = first.inside;
-    lone = first.lone;
-  }
 
 -- ---- it was in use
 module _ {T J : Type 0} (v : LocalModel T J) (cell found word : ℕ) (m : LocalState J) (is : ChangesCell cell found word v.member m)

@@ -264,11 +264,6 @@ module _ {T J : Type 0} (v : LocalModel T J) (m : LocalState J) (c : ℕ) (right
   gave_closes true w = ap (λ (z : LocalState J). z.slots.closes) w.1.member
   gave_closes false w = ap (λ (z : LocalState J). z.slots.closes) w.1.member
 
-  -- what it keeps of its own
-  pub gave_own : (last : Bool) → Gave last → m.own ≡ left_waiting last (number_of right) v.member.own
-  gave_own true w = ap (λ (z : LocalState J). z.own) w.1.member
-  gave_own false w = went_own v m right tied knows false w
-
   -- what it knows of the count rises
   pub gave_knows : (last : Bool) → Gave last → KnowsOn (known_of v) (known_of after)
   gave_knows true w = let knew = w.1.knew in let told = ap (λ (z : LocalState J). z.known) w.1.member in record {

@@ -17,9 +17,6 @@ pub record CountsSome {J : Type 0} (items left : ℕ) (old new : LocalState J) :
   pub privates : old.slots.privates ≡ [] → new.slots.privates ≡ []
 
 module _ {J : Type 0} where
-  pub counts_start : (items : ℕ) (m : LocalState J) → CountsSome items items m m
-  counts_start items m = record { gone = 0; few = omega arith; tally = refl; all = λ _. omega arith; privates = λ none. none }
-
   pub counts_more : (items left k rest : ℕ) (old mid new : LocalState J) → CountsSome items left old mid → CountsGone k mid new
       → (IsLone old → IsLone mid) → left ≡ k + rest → CountsSome items rest old new
   counts_more items left k rest old mid new before now lone both = record {
@@ -29,15 +26,6 @@ module _ {J : Type 0} where
     all = λ h. let a = before.all h in
         let b = now.all (⊎_elim (λ (one : IsLone old). inl (lone one)) (λ (none : old.slots.privates ≡ []). inr (before.privates none)) h) in omega arith;
     privates = λ none. now.privates (before.privates none);
-  }
-
-  pub counts_all : (items left : ℕ) (old new : LocalState J) → left ≡ 0 → CountsSome items left old new → CountsGone items old new
-  counts_all items left old new done before = record {
-    gone = before.gone;
-    few = let a = before.few in omega arith;
-    tally = before.tally;
-    all = λ h. let a = before.all h in omega arith;
-    privates = before.privates;
   }
 
   -- the same before and after steps that change none of it

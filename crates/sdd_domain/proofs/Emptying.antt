@@ -91,10 +91,6 @@ module _ {J : Type 0} (m : LocalState J) (c : ℕ) where
   told_first : (slot : ℕ) → waits_for m c (Item slot) ≡ true → entry_at m.collectors slot ≡ Some c
   told_first slot is = told_by c (entry_at m.collectors slot) (sym (ap (is_private_to c) (mapped_at m.collectors slot)) ∙ is)
 
-  -- no job does
-  pub no_job : (place : ℕ) → waits_for m c (Job place) ≡ true → ⊥
-  no_job place is = absurd (true≢false (sym is))
-
   stays : (slot : ℕ) (u : LocalState J) → u.collectors ≡ without_entry m.collectors slot
       → (w : LimboEntry) → w ≢ Item slot → waits_for m c w ≡ true → waits_for u c w ≡ true
   stays slot u now (Item k) other is = let ne : k ≢ slot = (λ e. other (ap Item e)) in

@@ -51,24 +51,6 @@ guarded_is v p is opens = subst (λ (q : LocalModel _ _). HasOpenGuard q.member)
 
 -- ---- an opening
 module _ {T J : Type 0} (v : LocalModel T J) where
-  pub tied_nested : AreTied v.member v.entries → HasOpenGuard v.member → AreTied (record v.member { own = time.nested v.member.own }) v.entries
-  tied_nested t some_open = record {
-    place = t.place;
-    slots = t.slots;
-    long = t.long;
-    places = t.places;
-    all_cells = t.all_cells;
-    wide = t.wide;
-    table = t.table;
-    jobs = t.jobs;
-    plain = t.plain;
-    waits = t.waits;
-    privates = t.privates;
-    kept = t.kept;
-    bags = t.bags;
-    now = λ _. t.now some_open;
-  }
-
   pub tied_settled : (m : LocalState J) → AreTied m v.entries → AreTied (record m { own = time.settled m.own }) v.entries
   tied_settled m t = record {
     place = t.place;

@@ -26,18 +26,6 @@ use Rattle.sdd_domain.proofs.SeesMore.{looks_more, same_sees}
 use Rattle.sdd_domain.proofs.Steps.{IsStep, lone_begun, sees_step, sees_world}
 
 -- ---- a pointer that was made
-module _ {T J : Type 0} (shown : T → Gv) (holds : T → List OwnerOrCell) (ptr : Ptr T) (old new : LocalState J) where
-  -- to an item
-  pub looks_full : (slot : ℕ) (value : T) → slot_named ptr ≡ Some slot → shown_by ptr ≡ Some value → SeesItem shown holds slot value old new
-      → LooksThrough shown holds ptr old new
-  looks_full slot value named shows sees = subst (λ (o : Option ℕ). MatchOption o ((shown_by ptr ≡ None) × (new ≡ old))
-      (λ slot. (value : T) × (shown_by ptr ≡ Some value) × SeesItem shown holds slot value old new)) (sym named) (value, shows, sees)
-
-  -- to none
-  pub looks_null : slot_named ptr ≡ None → shown_by ptr ≡ None → new ≡ old → LooksThrough shown holds ptr old new
-  looks_null named shows same = subst (λ (o : Option ℕ). MatchOption o ((shown_by ptr ≡ None) × (new ≡ old))
-      (λ slot. (value : T) × (shown_by ptr ≡ Some value) × SeesItem shown holds slot value old new)) (sym named) (shows, same)
-
 -- it shows still what it showed, where slots do
 pub keeps_pointer : {T : Type 0} (shows shows_after : ℕ → T → Type 0) (ptr : Ptr T) → PtrIsShown shows ptr → KeepsShown shows shows_after
     → PtrIsShown shows_after ptr

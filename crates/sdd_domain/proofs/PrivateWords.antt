@@ -44,11 +44,3 @@ module _ {T J : Type 0} (v : LocalModel T J) (t : AreTied v.member v.entries) (s
   waits w = let x : PrivateItem = w.1 in let here = total_has (private_for k slot) v.member.slots.privates w.0 x w.2 in
       let one : private_for k slot x ≡ 1 = (λ d. is_same slot x.item.slot w.3 d * is_same k x.collector w.4 d) in
       let p = t.privates slot low k in (waits_privately k (word_of v.member slot) (omega arith)).1
-
-  -- one does exactly where the word names the collector
-  pub waits_exactly : (word_of v.member slot ≡ private_word k) ↔ WaitsFor
-  waits_exactly = (named, waits)
-
-  -- and so it stands in its world
-  pub stands_privately : WaitsFor → standing_at (world_of v) slot ≡ Some (Private k)
-  stands_privately w = listing_at v.member.limits.slots (standing_in v) slot None low ∙ (ap standing_by (waits w) ∙ stands_private k fits)

@@ -44,9 +44,6 @@ module _ {T J : Type 0} (v : LocalModel T J) (m : LocalState J) where
     same_sound : (holds : T → List OwnerOrCell) → IsSound holds v → IsSound holds after
     same_sound holds = subst (λ (y : LocalState J). IsSound holds (record { member = y; entries = v.entries })) (sym same)
 
-    same_tied : WordsMatchValues v.member v.entries → WordsMatchValues m v.entries
-    same_tied = subst (λ (y : LocalState J). WordsMatchValues y v.entries) (sym same)
-
     same_undisturbed : (p : LocalModel T J) → v ≡ p → (shown : T → Gv) (holds : T → List OwnerOrCell) → Leaves shown holds p
     same_undisturbed p is shown holds = subst (λ (q : LocalModel T J). Leaves shown holds q) is
         (subst (λ (y : LocalState J). Undisturbed seat_of (λ (x : LocalModel T J). x.member.own) known_of (λ (x : LocalModel T J). Shows shown holds x) v
@@ -62,10 +59,6 @@ module _ {T J : Type 0} (v : LocalModel T J) (m : LocalState J) where
       pub may_sound : (holds : T → List OwnerOrCell) → IsSound holds v → IsSound holds after
       may_sound holds sound = ⊎_elim (λ (same : m ≡ v.member). same_sound same holds sound)
           (λ (p : (found : RawCellContents) × (now : RawCellContents) × PointsAt cell found now v.member m). sound_pointed v cell p.0 p.1 m p.2 holds sound) may
-
-      pub may_tied : WordsMatchValues v.member v.entries → WordsMatchValues m v.entries
-      may_tied tied = ⊎_elim (λ (same : m ≡ v.member). same_tied same tied)
-          (λ (p : (found : RawCellContents) × (now : RawCellContents) × PointsAt cell found now v.member m). matched_pointed v cell p.0 p.1 m p.2 tied) may
 
       pub may_undisturbed : (q : LocalModel T J) → v ≡ q → (shown : T → Gv) (holds : T → List OwnerOrCell) → Leaves shown holds q
       may_undisturbed q is shown holds = ⊎_elim (λ (same : m ≡ v.member). same_undisturbed same q is shown holds)
@@ -92,10 +85,6 @@ module _ {T J : Type 0} (v : LocalModel T J) (m : LocalState J) where
     pub made_sound : (r : Result RawRight Refused) → Made pointer r → (holds : T → List OwnerOrCell) → IsSound holds v → IsSound holds after
     made_sound (Ok cell) a holds sound = sound_made v (raw_number_of cell) pointer m a holds sound
     made_sound (Err e) a holds sound = same_sound a.0 holds sound
-
-    pub made_tied : (r : Result RawRight Refused) → Made pointer r → WordsMatchValues v.member v.entries → WordsMatchValues m v.entries
-    made_tied (Ok cell) a tied = matched_made v (raw_number_of cell) pointer m a tied
-    made_tied (Err e) a tied = same_tied a.0 tied
 
     pub made_leaves : (r : Result RawRight Refused) → Made pointer r → (q : LocalModel T J) → v ≡ q → (shown : T → Gv) (holds : T → List OwnerOrCell)
         → Leaves shown holds q

@@ -52,9 +52,6 @@ module _ {T J : Type 0} (v : LocalModel T J) (cell : ℕ) (found now : RawCellCo
   pub finds_before : FindsPointer cell found v.member
   finds_before = record { inside = is.inside; lone = is.lone }
 
-  pub tied_pointed : AreTied v.member v.entries → AreTied m v.entries
-  tied_pointed = tied_noted v words as_long word_kept m is.member
-
   pub matched_pointed : WordsMatchValues v.member v.entries → WordsMatchValues m v.entries
   matched_pointed = matched_noted v words as_long word_kept m is.member
 

@@ -81,12 +81,6 @@ module _ {J : Type 0} where
     pub lone_after : IsLone a → IsLone b
     lone_after lone = subst IsLone (sym more.member) lone
 
-    pub owned_before : (slot : ℕ) (shared : Bool) → IsOwnedThere slot shared b → IsOwnedThere slot shared a
-    owned_before slot shared o = record {
-      alive = subst (λ (w : ℕ). 0 < alive w) (word_before slot) o.alive;
-      kind = ap counted (sym (word_before slot)) ∙ o.kind;
-    }
-
   -- no owner came of what a cell of shared owners was found to hold
   module _ (a b c d : LocalState J) (cell word slot : ℕ) (first : SeesMore a b) (second : SeesMore b c) (same : d ≡ c) (finds : FindsAt cell word b)
       (held : (contents_of word).held ≡ Some slot) (owned : IsLone b → IsOwnedThere slot true b) where

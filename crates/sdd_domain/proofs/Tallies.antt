@@ -26,11 +26,6 @@ tallied_in_place t c i = let r = i.reclaimed in let p = i.in_place in let few = 
 pub tallied_ended : (t : Tally) (c : CountsView) → IsTallied 0 t c → IsTallied 1 t (record c { over = c.over + 1 })
 tallied_ended t c i = let o = i.over in record { over = omega arith; made = i.made; few = i.few; reclaimed = i.reclaimed; in_place = i.in_place }
 
--- one that was reclaimed, and so many others
-pub one_first : (n : ℕ) (t : Tally) → with_reclaimed n (one_reclaimed t) ≡ with_reclaimed (suc n) t
-one_first zero t = refl
-one_first (suc n) t = λ d. record t { reclaimed = (let e : capped (one_more t.reclaimed + suc n) ≡ capped (t.reclaimed + suc (suc n)) = omega arith in e d) }
-
 -- so many, and so many others
 pub many_more : (m n k : ℕ) (t : Tally) → k ≡ m + n → with_reclaimed n (with_reclaimed m t) ≡ with_reclaimed k t
 many_more zero n k t both = ap (λ (j : ℕ). with_reclaimed j t) (let e : n ≡ k = omega arith in e)

@@ -108,16 +108,6 @@ pub plain_more : (x : ℕ) → IsTrue (is_plain_word x) → counted x ≡ 1 → 
 plain_more x plain several few = let c = counts_of x plain several in let low = c.0 in let high = c.1 in let n = c.2 in
     counting_plain (x + 1) (omega arith) (omega arith)
 
-pub few_waiting : (x : ℕ) → waiting x ≤ 1
-few_waiting x = dite (dec_lt 0 (waiting x)) (λ some_wait. let one = (sound.waits x some_wait).0 in omega arith) (λ none. omega arith)
-
--- one that isn't that of a free slot says that there is an item
-pub taken_full : (x : ℕ) → IsTrue (is_plain_word x) → x ≢ 0 → full x ≡ 1
-taken_full x plain ne = plain_by x plain (λ e. absurd (ne e))
-    (λ e. let z = (owned_is 0 (omega arith)).0 in let a = ap alive e in (sound.lives x (omega arith)).1)
-    (λ e. let z = (waiting_is 0 (omega arith)).1 in let a = ap waiting e in (sound.waits x (omega arith)).1)
-    (λ e. ap full e ∙ (raw_is 0 (omega arith)).2) (λ b. (shared x b.0).2) (λ k e low. ap full e ∙ (private_is k (omega arith)).2)
-
 -- by its word nobody owns what is in a job's place
 pub place_dead : {J : Type 0} (x : ℕ) (o : Option J) → MatchesPlace x o → alive x ≡ 0
 place_dead x None is = ap alive is ∙ (free_is 0 (omega arith)).0

@@ -1,5 +1,5 @@
 //! The close of a domain: what waits is reclaimed, and once nobody takes part any more and all slots are free, all stakes are gathered.
-ghost use Rattle.std.specs.Prelude.{◌≡◌, ◌-◌, ◌≤◌, ◌<◌, ℕ, [], ◌∷◌, true, false, All, IfSome, slice_index_or};
+ghost use Rattle.std.specs.Prelude.{◌≡◌, ◌-◌, ◌≤◌, ◌<◌, ◌↔◌, ℕ, [], ◌∷◌, true, false, All, IfSome, IsTrue, slice_index_or};
 ghost use Rattle.core.specs.Mem.Slots.{slots_items, slots_filled, slots_len};
 ghost use Rattle.sdd_shared_values.specs.SharedValues.{AreVacant};
 ghost use Rattle.sdd_word_invariant.specs.Barred.{past};
@@ -143,7 +143,7 @@ pub fn settle_all<T: Item<T>, J: Job>(
 
 /// With none of the participants anything waits.
 pub fn are_over<T: Item<T>, J: Job>(receipts: &Vec<Receipt<T, J>>) -> bool
-    ensures { result ≡ true → All (λ (r : EndedCounts). r.waits ≡ false) receipts.now.items }
+    ensures { IsTrue result ↔ All (λ (r : EndedCounts). r.waits ≡ false) receipts.now.items }
 {
     for receipt in receipts {
         if receipt.waits() {

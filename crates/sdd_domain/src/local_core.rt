@@ -23,7 +23,7 @@ ghost use Rattle.sdd_space.specs.OwnerOrCell.{AreOf};
 ghost use Rattle.sdd_values.specs.declared.read_sections.SectionState.TheVariants.{Closed as is_closed};
 
 use crate::domain::Domain;
-use sdd_atomics::words::state_word;
+use sdd_atomics::words::{OwnPlace, state_word};
 use sdd_atomics::{DomainSeat, DomainTable, steps};
 use sdd_core::Refused;
 use sdd_domain_slots::changes::arrive;
@@ -59,7 +59,7 @@ mod raw_cells;
 pub struct LocalCore<'d, T: Item<T>, J: Job> {
     domain: &'d Domain<T>,
     token: DomainSeat,
-    place: usize,
+    place: OwnPlace,
     /// How many of its guards may be open at once, as the domain's limits say.
     nesting: u32,
     own: Participant,
@@ -241,13 +241,14 @@ impl<'d, T: Item<T>, J: Job> LocalCore<'d, T, J> {
             jobs.destroy();
             return Err(Refused::NoPlace);
         };
-        steps::write(&domain.board, &mut token, place, 0);
+        let own = OwnPlace::of(place);
+        steps::write(&domain.board, &mut token, own, 0);
         known.begin_at(share_of(place, domain.board.places(), slots));
         jobs.begin_at(share_of(place, domain.board.places(), domain.limits.jobs as u32));
         Ok(LocalCore {
             domain,
             token,
-            place,
+            place: own,
             nesting: domain.limits.nesting as u32,
             own: Participant::new(bags),
             due,
@@ -457,7 +458,12 @@ impl<'d, T: Item<T>, J: Job> LocalCore<'d, T, J> {
         self.own.leave(false);
         let told = if scans {
             let found = self.own.found;
-            Some(scan(&self.domain.board, &mut self.token, self.place, found))
+            Some(scan(
+                &self.domain.board,
+                &mut self.token,
+                self.place.number(),
+                found,
+            ))
         } else {
             None
         };

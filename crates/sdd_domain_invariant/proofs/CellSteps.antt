@@ -657,7 +657,7 @@ module _ (slots id : ℕ) (me : SeatState) (live : HasPlace me.0.epoch) (rests :
           (λ e. ap (λ (u : View). u.places) (c.0 e)) (λ ne. ap (λ (u : View). u.places) (c.1 ne))))
           (words.exchanges id v live cell 0 y rights inside owns loose)
           (λ s w h at t. let x : ℕ = get_or s.words i 0 in let c = t cell refl in exchanged x 0 y (λ z. Follows γ sizes id i me told s z w)
-          (λ hit. let none = ap held_slots hit ∙ holds_none 0 (inl (omega arith)) in
+          (λ hit. let none = ap held_slots hit ∙ holds_none 0 (omega arith) in
           let free = cell_is_free sizes s.words s.views h.kinds.cells cell hit in let now : View = record (put_in cell y v) { cells = rights } in
           subst (Follows γ sizes id i me told s y) (sym (c.0 hit))
           (follows_none s h at y owns loose undrawn shared given told rights none
@@ -726,7 +726,7 @@ module _ (slots id : ℕ) (me : SeatState) (live : HasPlace me.0.epoch) (rests :
         → v.cells.rights ≡ record { cell = cell; kind = cell_kind shared } ∷ [] → May i (λ _. 0) (OfCell (FreesCell shared) i me)
     frees owns loose undrawn shared none mine = let told : ℕ → SeatState → Type 0 = OfCell (FreesCell shared) i me in
         let right : CellRight = record { cell = cell; kind = cell_kind shared } in
-        let owns_is : v.slots.owns ≡ held_slots 0 = owns ∙ sym (holds_none 0 (inl (omega arith))) in
+        let owns_is : v.slots.owns ≡ held_slots 0 = owns ∙ sym (holds_none 0 (omega arith)) in
         let given : (r : ShownValue) → HasRecord v.stakes.owns r → r.shared ≡ shared = λ r has. absurd (none r has) in
         lift_homes γ sizes slots id me i (λ _. 0) (AtCell (SwapsCell 0 no_rights) i v) told
         (spares (λ _. 0) (AtCell (SwapsCell 0 no_rights) i v) (λ r w t. ap (λ (u : View). u.places) (t cell refl).0))
@@ -753,7 +753,7 @@ module _ (slots id : ℕ) (me : SeatState) (live : HasPlace me.0.epoch) (rests :
         → ((r : ShownValue) → ¬ (HasRecord v.stakes.owns r)) → v.cells.rights ≡ record { cell = cell; kind = kind } ∷ [] → May i (λ _. 0) (OfCell FreesBare i me)
     frees_bare owns loose undrawn kind bare none mine = let told : ℕ → SeatState → Type 0 = OfCell FreesBare i me in
         let right : CellRight = record { cell = cell; kind = kind } in
-        let owns_is : v.slots.owns ≡ held_slots 0 = owns ∙ sym (holds_none 0 (inl (omega arith))) in
+        let owns_is : v.slots.owns ≡ held_slots 0 = owns ∙ sym (holds_none 0 (omega arith)) in
         let given : (r : ShownValue) → HasRecord v.stakes.owns r → r.shared ≡ false = λ r has. absurd (none r has) in
         lift_homes γ sizes slots id me i (λ _. 0) (AtCell (SwapsCell 0 no_rights) i v) told
         (spares (λ _. 0) (AtCell (SwapsCell 0 no_rights) i v) (λ r w t. ap (λ (u : View). u.places) (t cell refl).0))

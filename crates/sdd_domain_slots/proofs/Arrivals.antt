@@ -30,13 +30,6 @@ use Rattle.sdd_domain_slots.proofs.InBags.{all_older}
 use Rattle.sdd_domain_slots.proofs.PrivateTables.{told_older}
 use Rattle.sdd_domain_slots.proofs.Posing.{posed_arrived, has_place}
 
--- where nothing waits a change only finds the count, and that nothing waits
-pub quiet_change : (count : ℕ) (p : Participant) → p.bags.waiting ≡ [] → record p { found = count; countdown = 128 } ≡ settled (rotated count p)
-quiet_change count p none = let waits : p.bags.waiting ≡ left (aged p.bags.waiting)
-    = none ∙ sym (ap (λ (ws : List Waiting). left (aged ws)) none) in
-    let paced : 128 ≡ (settled (rotated count p)).countdown = sym (ap (λ (ws : List Waiting). elim (left (aged ws)) [ [] ↦ 128 | x ∷ xs ↦ 127 ]) none) in
-    λ i. record p { found = count; countdown = paced i; bags = record p.bags { waiting = waits i } }
-
 -- and nothing is due
 pub quiet_due : (p : Participant) → p.bags.waiting ≡ [] → due_next p ≡ []
 quiet_due p none = ap (λ (ws : List Waiting). due (aged ws)) none

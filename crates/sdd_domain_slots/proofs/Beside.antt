@@ -40,12 +40,6 @@ module _ (b : DomainTable) (slot : ℕ) (value : Gv) (s t e : Seat ValueFraction
   pub entered_view : view e ≡ within (view s)
   entered_view = entered.2.0 ∙ ap undrawing took.3
 
-  pub taken_tells : IsIn (view t).stakes.owns slot value
-  taken_tells = (0, owner_record, ap (λ (v : View). get_elem? v.stakes.owns 0) took.3, refl, refl)
-
-  pub taken_drawn : (rest : List ℕ) × ((slots t).drawn ≡ slot ∷ rest)
-  taken_drawn = ((view s).slots.drawn, ap (λ (v : View). v.slots.drawn) took.3)
-
   pub entered_home : e.table_id ≡ s.table_id
   entered_home = entered.0 ∙ took.0
 

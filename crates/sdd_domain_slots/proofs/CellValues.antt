@@ -66,28 +66,8 @@ pub rights_now : (cell : ℕ) (shared : Bool) (s a r : Seat ValueFraction View) 
 rights_now cell shared s a r rights same took = ap (λ (v : View). v.cells.rights) took
     ∙ ap (λ (c : CellsView). record { cell = cell; kind = cell_kind shared } ∷ c.rights) (ap (λ (m : SeatState). m.0.cells) same ∙ rights)
 
--- of one that has no owner nothing is put down
-pub held_none : (v : View) → IsBare v → holding [] [] v ≡ v
-held_none v bare = λ d. record v { slots = record v.slots { owns = sym bare.quiet.owns d }; stakes = record v.stakes { owns = sym bare.untold d } }
-
 -- the owner that was taken up, of a domain whose board is this
 module _ (b : DomainTable) (v : View) (knows : v.sizes ≡ sizes_of b) (shared : Bool) where
-  pub has_new : (new : Option LooseOwner) (word : ℕ) → AreLoose b shared new → held_slots word ≡ slots_in new
-      → HasHeld word shared (holding (slots_in new) (told_of shared new) v)
-  has_new None word loose holds = record {
-    owns = sym holds;
-    none = λ _. refl;
-    one = λ slot one. absurd (let no : ◌≡◌ {A = List ℕ} (slot ∷ []) [] = sym one ∙ holds in cc);
-  }
-  has_new (Some o) word loose holds = record {
-    owns = sym holds;
-    none = λ none. absurd (let no : ◌≡◌ {A = List ℕ} (o.slot ∷ []) [] = sym holds ∙ none in cc);
-    one = λ slot one. let same : o.slot ≡ slot = ap (first_slot o.slot) (sym holds ∙ one) in
-        subst (λ (k : ℕ). (g : Gv) × (k < v.sizes.slots) × IsValueCode g
-        × (told_of shared (Some o) ≡ record { slot = k; shared = shared; value = g } ∷ [])) same
-        (o.grip.shown, subst (λ (z : Sizes). o.slot < z.slots) (sym knows) loose.inside, o.grip.full, refl);
-  }
-
   pub new_kind : (new : Option LooseOwner) (r : ShownValue) → HasRecord (told_of shared new) r → r.shared ≡ shared
   new_kind None r has = absurd (has_none r [] refl has)
   new_kind (Some o) r has = let first : ShownValue = record { slot = o.slot; shared = shared; value = o.grip.shown } in

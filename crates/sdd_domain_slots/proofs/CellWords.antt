@@ -1,21 +1,12 @@
 -- The word of a cell that holds an owner, or none
-use Rattle.std.proofs.Common.{◌≡◌, ℕ, ◌+◌, ◌*◌, ◌<◌, ◌≤◌, ◌-◌, ◌/◌, ◌%◌, ◌^◌, Bool, true, false, [], ◌∷◌, List, sym, refl, ap, ◌∙◌, arith, leb, ⊎_elim, ne_eqb, inr}
-use Rattle.std.specs.Prelude.{◌⊎◌, None, Some, Option, slice_get, if◌then◌else◌}
-use Rattle.std.proofs.lemmas.Bool.Decides.{leb_tells}
+use Rattle.std.proofs.Common.{◌≡◌, ℕ, ◌+◌, ◌*◌, ◌<◌, ◌-◌, ◌%◌, ◌^◌, [], ◌∷◌, List, sym, refl, ap, ◌∙◌, arith, ⊎_elim}
+use Rattle.std.specs.Prelude.{None, Some, Option, slice_get}
 use Rattle.sdd_core.specs.declared.tag.Tag.{Tag}
 use Rattle.sdd_core.specs.declared.tag.Tag.TheVariants as tags
 use Rattle.sdd_core.specs.Tag.{number_of}
-use Rattle.sdd_word_invariant.specs.Codes.{held_slots, unowned}
-use Rattle.sdd_word_invariant.proofs.Codes.{held_which, holds_none}
+use Rattle.sdd_word_invariant.specs.Codes.{held_slots}
+use Rattle.sdd_word_invariant.proofs.Codes.{held_which, holds_none, holds_one}
 use Rattle.sdd_domain_slots.specs.Local.{contents_of, tag_by}
-
-pub holds_at : (x : ℕ) → 4 ≤ x % 2 ^ 27 → x % 2 ^ 27 < unowned → held_slots x ≡ (x % 2 ^ 27 / 4 - 1) ∷ []
-unfolding held_slots
-holds_at x some low = let y : ℕ = x % 2 ^ 27 in ⊎_elim
-    (λ (t : (leb unowned y ≡ true) × (unowned ≤ y)). absurd (omega arith))
-    (λ (t : (leb unowned y ≡ false) × (y < unowned)).
-    ap (λ (b : Bool). if b then [] else (if Rattle.std.specs.Prelude.◌==◌ (y / 4) 0 then [] else (y / 4 - 1) ∷ [])) t.0
-    ∙ ap (λ (b : Bool). if b then [] else (y / 4 - 1) ∷ []) (ne_eqb (y / 4) 0 (λ c. omega arith))) (leb_tells unowned y)
 
 -- what it names is one slot or none
 pub named : (x slot : ℕ) → slice_get (held_slots x) 0 ≡ Some slot → held_slots x ≡ slot ∷ []
@@ -52,22 +43,20 @@ module _ (t : Tag) (n : ℕ) (is : n ≡ number_of t) where
   small : n < 4
   small = let s = tag_small t in omega arith
 
-  pub slot_held_by : (slot : ℕ) → slot < 2 ^ 25 - 5 → held_slots (4 * (slot + 1) + n) ≡ slot ∷ []
-  slot_held_by slot low = let s = small in let x : ℕ = 4 * (slot + 1) + n in let y : ℕ = x % 2 ^ 27 in
-      let same : y ≡ x = omega arith in let e : y / 4 - 1 ≡ slot = omega arith in
-      holds_at x (omega arith) (omega arith) ∙ ap (λ (k : ℕ). k ∷ []) e
+  pub slot_held_by : (slot : ℕ) → slot < 2 ^ 25 - 1 → held_slots (4 * (slot + 1) + n) ≡ slot ∷ []
+  slot_held_by slot low = let s = small in holds_one (4 * (slot + 1) + n) slot (omega arith)
 
-  pub none_held_by : held_slots (unowned + n) ≡ []
-  none_held_by = let s = small in holds_none (unowned + n) (inr (omega arith))
+  pub none_held_by : held_slots (2 ^ 27 + n) ≡ []
+  none_held_by = let s = small in holds_none (2 ^ 27 + n) (omega arith)
 
   pub tagged : (x : ℕ) → x % 4 ≡ n → tag_by (x % 4) ≡ t
   tagged x e = ap tag_by (e ∙ is) ∙ tag_back t
 
-  pub slot_contents : (slot : ℕ) → slot < 2 ^ 25 - 5 → contents_of (4 * (slot + 1) + n) ≡ record { held = Some slot; tag = t }
+  pub slot_contents : (slot : ℕ) → slot < 2 ^ 25 - 1 → contents_of (4 * (slot + 1) + n) ≡ record { held = Some slot; tag = t }
   slot_contents slot low = let s = small in λ d. record {
     held = slice_get (slot_held_by slot low d) 0;
     tag = tagged (4 * (slot + 1) + n) (omega arith) d;
   }
 
-  pub none_contents : contents_of (unowned + n) ≡ record { held = None; tag = t }
-  none_contents = let s = small in λ d. record { held = slice_get (none_held_by d) 0; tag = tagged (unowned + n) (omega arith) d }
+  pub none_contents : contents_of (2 ^ 27 + n) ≡ record { held = None; tag = t }
+  none_contents = let s = small in λ d. record { held = slice_get (none_held_by d) 0; tag = tagged (2 ^ 27 + n) (omega arith) d }

@@ -23,7 +23,3 @@ lets_one_go slot x me mid me' entered e = let is : mid ≡ (undrawing me.0, me.1
     (λ miss. let more : alive x ≢ 1 = (λ one. miss (omega arith)) in
     let left : LeavesOthers slot me me' = record { word = x; counted = r.0; several = omega arith; seat = r.3 more; knew = r.4 } in
     subst (λ (b : Bool). LetsOneGo slot true b me me') (sym (ne_eqb x one_left miss)) left)
-
-pub lets_only_go : (slot : ℕ) (me mid me' : SeatState) → EntersUnit me mid → RetiresOne slot mid (retired_word false) me' → LetsOneGo slot false true me me'
-lets_only_go slot me mid me' entered e = let is : mid ≡ (undrawing me.0, me.1) = λ d. (entered.0 d, entered.1 d) in
-    (subst (λ (m : SeatState). RetiresOne slot m (retired_word false) me') is e, (λ no. absurd cc))

@@ -72,10 +72,6 @@ or_false : (a b : Bool) → (a || b) ≡ false → (a ≡ false) × (b ≡ false
 or_false false b e = (refl, e)
 or_false true b e = absurd (true≢false e)
 
-or_true : (a b : Bool) → (a || b) ≡ true → (a ≡ true) ⊎ (b ≡ true)
-or_true true b e = inl refl
-or_true false b e = inr e
-
 or_none : (a b : Bool) → b ≡ false → (a || b) ≡ a
 or_none true b e = refl
 or_none false b e = e
@@ -151,13 +147,6 @@ same_slot i x more = dite (ℕ_discrete x.slot i) (λ e. e) (λ ne. absurd (let 
 
 ripe_of : (i : ℕ) (x : WaitingItem) → 0 < ripe_in i x → (x.slot ≡ i) × (3 ≤ x.changes)
 ripe_of i x more = let b = both_parts (is_ripe x) (waits_in i x) more in (same_slot i x b.1, old_enough x b.0)
-
-out_private : (closes : Option ℕ) (i : ℕ) (x : PrivateItem) → 0 < out_in closes i x → (x.item.slot ≡ i) × ((closes ≡ Some x.collector) ⊎ (3 ≤ x.item.changes))
-out_private closes i x more = let b = both_parts (is_closed closes x.collector || is_ripe x.item) (private_in i x) more in (
-  same_slot i x.item b.1,
-  ⊎_elim (λ (t : is_closed closes x.collector ≡ true). inl (closed_is closes x.collector t)) (λ (t : is_ripe x.item ≡ true). inr (old_enough x.item t))
-      (or_true (is_closed closes x.collector) (is_ripe x.item) b.0),
-)
 
 one_out : (closes : Option ℕ) (i : ℕ) (x : Kept) → is_out closes x ≡ true → (item_of x).slot ≡ i → of_kept (ripe_in i) (out_in closes i) x ≡ 1
 one_out closes i (Plainly x) is same = ap (λ (b : Bool). cond b (waits_in i x) 0) is ∙ is_same i x.slot same
@@ -315,14 +304,6 @@ module _ (n : ℕ) (known : KnownWaiting) (waiting : List Waiting) (taken : List
         (λ x. some_part (is_closed known.closes x.collector || is_ripe x.item) (private_in number x)) known.private in
         let one = total_some (ripe_in number) known.plain (omega arith) in let is = ripe_of number one.1 one.3 in (one.0, one.1, one.2, is.0, is.1)
 
-    -- where it is, it waits as that for the collector that is being closed, or has seen them
-    pub first_private : 0 < total (private_in (number_in n w)) known.private → (k : ℕ) × (x : PrivateItem) × (get_elem? known.private k ≡ some x)
-        × (x.item.slot ≡ number_in n w) × ((known.closes ≡ Some x.collector) ⊎ (3 ≤ x.item.changes))
-    first_private some_private = let r = first_due in let o = known_once number in
-        let more = total_le (ripe_in number) (waits_in number) (λ x. some_part (is_ripe x) (waits_in number x)) known.plain in
-        let one = total_some (out_in known.closes number) known.private (omega arith) in let is = out_private known.closes number one.1 one.3 in
-        (one.0, one.1, one.2, is.0, is.1)
-
     -- and is one that is known, with its place
     pub first_inside : (most : ℕ) → ((i : ℕ) → 0 < total (waits_in i) known.plain → i < most) → n ≤ most → number_in n w < most
     first_inside most inside low = let o = first_once in let k = known_in number in dite (dec_lt 0 (total (waits_in number) known.plain))
@@ -423,39 +404,6 @@ module _ (n : ℕ) (known : KnownWaiting) (waiting : List Waiting) (taken : List
   module _ (chosen : LimboEntry → Bool) where
     abbrev stays : WaitingItem → Bool
     stays x = not (chosen (what_of n x))
-
-    abbrev is_left : LimboEntry → Bool
-    is_left w = not (chosen w)
-
-    pub chosen_out : AreInBags n (record known {
-      plain = filter (λ (x : WaitingItem). not (chosen (what_of n x))) known.plain;
-      private = filter (λ (x : PrivateItem). not (chosen (what_of n x.item))) known.private;
-    }) (rest_of chosen waiting) (filter (λ (w : LimboEntry). not (chosen w)) taken)
-    chosen_out = record {
-      all = left_kept stays t.all;
-      plain = λ f. same_filter stays known.plain (plain_of t.all) t.plain f ∙ ap (total f) (sym (plain_left stays t.all));
-      private = λ f. same_filter (λ (x : PrivateItem). stays x.item) known.private (private_of t.all) t.private f ∙ ap (total f) (sym (private_left stays t.all));
-      bags = ap (rest_of chosen) t.bags ∙ (filter_mapped (waiting_of n) (λ (w : Waiting). not (chosen w.what)) (kept_in known.closes t.all)
-          ∙ ap (map (waiting_of n)) (sym (items_left stays (filter is_kept t.all))
-          ∙ ap (map item_of) (filter_both (λ (x : Kept). stays (item_of x)) is_kept t.all)));
-      due = ap (filter is_left) t.due ∙ (filter_mapped (what_of n) is_left (out_of known.closes t.all)
-          ∙ ap (map (what_of n)) (sym (items_left stays (filter is_due t.all)) ∙ ap (map item_of) (filter_both (λ (x : Kept). stays (item_of x)) is_due t.all)));
-      items = λ i high. let m = total_fewer (λ (x : PrivateItem). stays x.item) (private_in i) known.private in let z = t.items i high in omega arith;
-      once = λ i. let s = ap (total (waits_in i)) (items_left stays t.all) in let m = total_fewer stays (waits_in i) items in let o = t.once i in omega arith;
-    }
-
-    -- the private items of one collector, where it is these that are chosen
-    pub collector_out : (c : ℕ) → ((k : ℕ) (x : WaitingItem) → get_elem? known.plain k ≡ some x → chosen (what_of n x) ≡ false)
-        → ((k : ℕ) (x : PrivateItem) → get_elem? known.private k ≡ some x → chosen (Item x.item.slot) ≡ (x.collector == c))
-        → AreInBags n (record known { private = filter (λ (x : PrivateItem). not (x.collector == c)) known.private })
-        (rest_of chosen waiting) (filter (λ (w : LimboEntry). not (chosen w)) taken)
-    collector_out c none those = subst (λ (z : KnownWaiting). AreInBags n z (rest_of chosen waiting) (filter (λ (w : LimboEntry). not (chosen w)) taken))
-        (λ d. record {
-          plain = (filter_alike stays (λ (x : WaitingItem). true) known.plain (λ k x at. ap not (none k x at)) ∙ filter_true known.plain) d;
-          private = filter_alike (λ (x : PrivateItem). stays x.item) (λ (x : PrivateItem). not (x.collector == c)) known.private
-              (λ k x at. ap not (ap chosen (what_item n x.item (private_low k x at)) ∙ those k x at)) d;
-          closes = known.closes;
-        }) chosen_out
 
     -- ---- a collector is being closed from now on: the private items for it are due, where nothing was due, if it is these that are chosen
     module _ (c : ℕ) (none : taken ≡ []) (plainly : (k : ℕ) (x : WaitingItem) → get_elem? known.plain k ≡ some x → chosen (what_of n x) ≡ false)

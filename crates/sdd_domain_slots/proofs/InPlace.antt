@@ -139,19 +139,11 @@ module _ (b : DomainTable) (p : ℕ) (own : Participant) (t : Seat ValueFraction
           → view u ≡ record (with_filled slot shared now (view t)) { words = sole_words shared slot t.me.0.sizes t.me.0.words }
       changed_to now e = e ∙ (ap (changed_by slot shared now) held.view ∙ changed_view slot shared value (view t) bare closes (places_of b) now)
 
-      pub dropped_to : view u ≡ dropping (discarded slot 0 (moving slot (untold (undrawing (view h))))) → view u ≡ with_dropped slot (view t)
-      dropped_to e = e ∙ (ap (λ (v : View). dropping (discarded slot 0 (moving slot (untold (undrawing v))))) held.view
-          ∙ dropped_view slot shared value (view t) bare closes (places_of b))
-
     module _ (u : Seat ValueFraction View) where
       pub posed_changed : (now : Gv) → u.table_id ≡ t.table_id → u.me.1 ≡ t.me.1
           → view u ≡ record (with_filled slot shared now (view t)) { words = sole_words shared slot t.me.0.sizes t.me.0.words } → IsBetweenCalls b p own u
       posed_changed now table others is = posed_with b p own t u (record { slot = slot; shared = shared; value = now } ∷ t.me.0.stakes.filled)
           t.me.0.stakes.counts (sole_words shared slot t.me.0.sizes t.me.0.words) q table others is
-
-      pub posed_dropped : u.table_id ≡ t.table_id → u.me.1 ≡ t.me.1 → view u ≡ with_dropped slot (view t) → IsBetweenCalls b p own u
-      posed_dropped table others is = posed_with b p own t u t.me.0.stakes.filled (with_dropped slot t.me.0).stakes.counts (with_dropped slot t.me.0).words q
-          table others is
 
   -- its note of words alone is new
   pub posed_noted : (u : Seat ValueFraction View) (words : List ℕ) → u.table_id ≡ t.table_id → u.me.1 ≡ t.me.1 → view u ≡ record (view t) { words = words }

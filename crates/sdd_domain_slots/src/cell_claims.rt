@@ -13,7 +13,7 @@ ghost use Rattle.sdd_domain_slots.specs.InPlace.{IsBare as HasNothing};
 ghost use Rattle.sdd_domain_slots.specs.Claims.{Loses};
 
 use crate::cell_values::{LooseOwner, put_down, take_up};
-use crate::cell_words::NULL_WORD;
+use crate::cell_words::{NULL_WORD, held_slot};
 use sdd_atomics::steps::cells::{
     FREE_CELL, claim_cell, cut_right, fill_bare_cell, find_cell, look_in, take_in_right,
 };
@@ -195,7 +195,7 @@ pub fn claim_with(
     take_up(board, token, new);
     match claim_free(board, token, next, cells, word, kind_for(shared), tries) {
         Ok(won) => Ok(won),
-        Err(refused) => Err((put_down(board, token, word), refused)),
+        Err(refused) => Err((put_down(board, token, word, held_slot(word)), refused)),
     }
 }
 

@@ -1,5 +1,5 @@
 //! An owner goes into a cell, and what the cell held is a token of its own again.
-ghost use Rattle.std.specs.Prelude.{◌≡◌, ◌≢◌, ◌<◌, ◌∷◌, ◌-◌, ◌^◌, [], None, Bool, IfSome, MatchBool, MatchResult, ℕ, option_map, slice_index};
+ghost use Rattle.std.specs.Prelude.{◌≡◌, ◌≢◌, ◌<◌, ◌∷◌, ◌-◌, ◌^◌, [], None, Bool, IfSome, MatchBool, MatchResult, ℕ, option_map, slice_get, slice_index};
 ghost use base.Stored.{Gv};
 ghost use Rattle.sdd_shared_values.specs.SharedValues.{IsValueCode};
 ghost use Rattle.sdd_views.specs.declared.CellKind.{CellKind};
@@ -69,7 +69,7 @@ pub fn bind(
 /// The word of a cell that holds this owner, or none, with a tag.
 #[inline]
 pub fn word_for(loose: &Option<LooseOwner>, tag: Tag) -> u64
-    requires { IfSome loose.now (λ o. o.slot < 2 ^ 25 - 5) }
+    requires { IfSome loose.now (λ o. o.slot < 2 ^ 25 - 1) }
     ensures taken { 0 < result }
     ensures held { held_slots result ≡ slots_in loose.now }
     ensures contents { contents_of result ≡ record { held = option_map (λ (o : LooseOwner). o.slot) loose.now; tag = tag } }
@@ -120,9 +120,15 @@ pub fn part_with(board: &DomainTable, token: &mut DomainSeat, slot: u32) -> Loos
     LooseOwner { slot, owner, grip }
 }
 
-/// The owner that the participant has, and that a cell with this word would hold, is a token of its own again, if there is one.
+/// The owner that the participant has, and that a cell with this word would hold, is a token of its own again, if there is one. The word names this slot.
 #[inline]
-pub fn put_down(board: &DomainTable, token: &mut DomainSeat, word: u64) -> Option<LooseOwner>
+pub fn put_down(
+    board: &DomainTable,
+    token: &mut DomainSeat,
+    word: u64,
+    held: Option<u32>,
+) -> Option<LooseOwner>
+    requires named { held ≡ slice_get (held_slots word) 0 }
     requires home { token.old.table_id ≡ id_of board.now }
     requires knows { Knows board.now token.old }
     requires place { HasPlace (epoch token.old) }
@@ -134,7 +140,8 @@ pub fn put_down(board: &DomainTable, token: &mut DomainSeat, word: u64) -> Optio
     ensures owner { (shared : Bool) → HasHeld word shared (view token.old)
         → AreLoose board.now shared result × (told_of shared result ≡ (view token.old).stakes.owns) }
 {
-    let slot = held_slot(word)?;
+    let _ = word;
+    let slot = held?;
     Some(part_with(board, token, slot))
 }
 
@@ -159,7 +166,7 @@ pub fn free(
     recall_cell(board, token, &right);
     take_in_right(board, token, right);
     let word = free_cell(board, token, cell);
-    (put_down(board, token, word), word)
+    (put_down(board, token, word, held_slot(word)), word)
 }
 
 /// Frees the cell of this right, which holds no owners, and answers its word before.
@@ -204,10 +211,10 @@ pub fn swap(
     recall_cell(board, token, right);
     take_up(board, token, new);
     let found = swap_cell(board, token, cell, word, right);
-    (put_down(board, token, found), found)
+    (put_down(board, token, found, held_slot(found)), found)
 }
 
-/// The same where the cell's word is still this one; else the owner comes back that was to go in.
+/// The same where the cell's word is still this one, which names this slot; else the owner comes back that was to go in.
 #[inline(always)]
 pub fn exchange(
     board: &DomainTable,
@@ -215,9 +222,11 @@ pub fn exchange(
     cell: u32,
     right: &Witness,
     old: u64,
+    held: Option<u32>,
     new: Option<LooseOwner>,
     word: u64,
 ) -> Result<Option<LooseOwner>, Option<LooseOwner>>
+    requires named { held ≡ slice_get (held_slots old) 0 }
     requires home { token.old.table_id ≡ id_of board.now }
     requires knows { Knows board.now token.old }
     requires place { HasPlace (epoch token.old) }
@@ -237,9 +246,9 @@ pub fn exchange(
     recall_cell(board, token, right);
     take_up(board, token, new);
     if exchange_cell(board, token, cell, old, word, right) == old {
-        Ok(put_down(board, token, old))
+        Ok(put_down(board, token, old, held))
     } else {
-        Err(put_down(board, token, word))
+        Err(put_down(board, token, word, held_slot(word)))
     }
 }
 

@@ -11,20 +11,27 @@ use sdd_participants::CellContents;
 /// So much of a cell's word says which slot it holds an owner of, and has its tag.
 const BELOW_GENERATION: u64 = 134_217_728;
 
-/// From here on it holds none.
-const UNOWNED: u64 = 134_217_712;
+/// No slot has such a number, nor a greater one.
+const UNNAMED: u32 = 33_554_431;
 
-/// From here on no slot has such a number.
-const UNNAMED: u32 = 33_554_427;
+/// The word of a cell that holds none and has no tag: none is held below the generation.
+pub const NULL_WORD: u64 = BELOW_GENERATION;
 
-/// The word of a cell that holds none and has no tag.
-pub const NULL_WORD: u64 = UNOWNED;
+/// Where the value of the item lies whose owner a cell holds that has this word, if it holds one.
+#[inline]
+pub fn value_held(word: u64) -> Option<usize>
+    ensures held { result ≡ slice_get (held_slots word) 0 }
+    ensures small { IfSome result (λ slot. slot < 2 ^ 25 - 1) }
+{
+    let named = (word % BELOW_GENERATION / 4) as usize;
+    if named == 0 { None } else { Some(named - 1) }
+}
 
 /// The slot whose owner a cell holds that has this word, if it holds one.
 #[inline]
 pub fn held_slot(word: u64) -> Option<u32>
     ensures held { result ≡ slice_get (held_slots word) 0 }
-    ensures small { IfSome result (λ slot. slot < 2 ^ 25 - 5) }
+    ensures small { IfSome result (λ slot. slot < 2 ^ 25 - 1) }
 {
     let slot = ((word % BELOW_GENERATION / 4) as u32).wrapping_sub(1);
     if slot < UNNAMED { Some(slot) } else { None }
@@ -47,7 +54,7 @@ pub fn tag_in(word: u64) -> Tag
 #[inline]
 pub fn contents_in(word: u64) -> CellContents
     ensures contents { result ≡ contents_of word }
-    ensures small { IfSome result.held (λ slot. slot < 2 ^ 25 - 5) }
+    ensures small { IfSome result.held (λ slot. slot < 2 ^ 25 - 1) }
 {
     CellContents {
         held: held_slot(word).map(SlotName::of),
@@ -58,7 +65,7 @@ pub fn contents_in(word: u64) -> CellContents
 /// The word of a cell that holds the owner of a slot, or none, with a tag.
 #[inline]
 pub fn word_with(held: Option<u32>, tag: Tag) -> u64
-    requires { IfSome held (λ slot. slot < 2 ^ 25 - 5) }
+    requires { IfSome held (λ slot. slot < 2 ^ 25 - 1) }
     ensures taken { 0 < result }
     ensures held { held_slots result ≡ listed held }
     ensures contents { contents_of result ≡ record { held = held; tag = tag } }
@@ -66,18 +73,26 @@ pub fn word_with(held: Option<u32>, tag: Tag) -> u64
     let number = u8::from(tag) as u64;
     match held {
         Some(slot) => 4 * (slot as u64 + 1) + number,
-        None => UNOWNED + number,
+        None => NULL_WORD + number,
     }
+}
+
+/// The slot whose owner a cell holds that holds this, if it holds one.
+#[inline]
+pub fn slot_in(contents: &CellContents) -> Option<u32>
+    ensures { result ≡ contents.now.held }
+{
+    contents.held.map(SlotName::number)
 }
 
 /// The word that calls write into a cell that is to hold this. None where the slot's number is greater than any cell's word can tell.
 #[inline]
 pub fn expected_word(contents: &CellContents) -> Option<u64>
-    ensures { MatchOption result (IfSome contents.now.held (λ slot. 2 ^ 25 - 5 ≤ slot)) (λ word. (0 < word) × (contents_of word ≡ contents.now)) }
+    ensures { MatchOption result (IfSome contents.now.held (λ slot. 2 ^ 25 - 1 ≤ slot)) (λ word. (0 < word) × (contents_of word ≡ contents.now)) }
 {
     match contents.held {
         Some(slot) if slot.number() >= UNNAMED => None,
-        held => Some(word_with(held.map(SlotName::number), contents.tag)),
+        _ => Some(word_with(slot_in(contents), contents.tag)),
     }
 }
 

@@ -6,6 +6,7 @@ ghost use Rattle.sdd_domain_slots.specs.WaitingItems.{due_at, Arrives, HasArrive
 ghost use Rattle.sdd_domain_slots.specs.BetweenCalls.{IsBetweenCalls};
 
 use crate::due_items::DueItems;
+use sdd_atomics::words::OwnPlace;
 use sdd_atomics::{DomainSeat, DomainTable, steps};
 use sdd_participants::{NO_GARBAGE, Participant};
 
@@ -34,7 +35,7 @@ fn change(own: &mut Participant, due: &mut DueItems, count: u64) -> bool
 pub fn arrive(
     board: &DomainTable,
     token: &mut DomainSeat,
-    place: usize,
+    place: OwnPlace,
     own: &mut Participant,
     due: &mut DueItems,
 ) -> bool

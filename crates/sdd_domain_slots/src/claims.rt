@@ -9,7 +9,7 @@ ghost use Rattle.sdd_domain_slots.specs.Claims.{IsKnownFree, IsUnmoved, Gains, M
 use crate::free_slot_hints::FreeSlotHints;
 use sdd_atomics::steps::slots::{FREE, claim, look};
 use sdd_atomics::{DomainSeat, DomainTable};
-use sdd_core::Refused;
+use sdd_core::{Limits, Refused};
 
 /// One try at a slot that was given back, by an exchange at once: it is claimed by this word, of one owner, if it is free.
 #[inline(always)]
@@ -121,36 +121,35 @@ fn walk(
     Ok(None)
 }
 
-/// Tries the slots that were given back, and then all slots in a walk, once round. So many exchanges may be lost.
+/// Tries the slots that were given back, and then all slots in a walk, once round. As many exchanges may be lost as the limits allow.
 #[cold]
 #[inline(never)]
 fn search(
     board: &DomainTable,
     token: &mut DomainSeat,
     known: &mut FreeSlotHints,
-    slots: u32,
+    limits: &Limits,
     word: u64,
-    tries: u64,
 ) -> Result<u32, Refused>
     requires home { token.old.table_id ≡ id_of board.now }
     requires knows { Knows board.now token.old }
     requires rests { (view token.old).stakes.moves ≡ None }
-    requires slots { (known.old.slots ≡ slots_of board.now) × (slots ≡ slots_of board.now) }
+    requires slots { (known.old.slots ≡ slots_of board.now) × (limits.now.slots ≡ slots_of board.now) }
     requires place { HasPlace (epoch token.old) }
     requires one { alive word ≡ 1 }
-    requires tries { 0 < tries }
+    requires tries { 0 < limits.now.tries }
     ensures tried { MatchResult result
         (λ slot. Gains word slot token.old token.new)
         (λ e. ((e ≡ Refused.NoSlot) × Misses (λ k. k < slots_of board.now) token.old token.new)
         ⊎ ((e ≡ Refused.Contended) × Loses token.old token.new)) }
     ensures slots { known.new.slots ≡ known.old.slots }
 {
-    let mut left = tries;
+    let mut left = limits.tries;
     if let Some(slot) = try_known(board, token, known, word, &mut left)? {
         return Ok(slot);
     }
     let next = known.next();
-    if let Some(slot) = walk(board, token, next, slots, word, &mut left)? {
+    if let Some(slot) = walk(board, token, next, limits.slots as u32, word, &mut left)? {
         known.find(slot);
         return Ok(slot);
     }
@@ -182,23 +181,23 @@ pub fn finds_free(board: &DomainTable, token: &mut DomainSeat, slots: u32) -> bo
 /// Claims a free slot by this word, of one owner: one that was given back, or else the first one of a walk over all slots, once round.
 /// All stakes in it are out then.
 ///
-/// `NoSlot` where none was found free; `Contended` where so many exchanges were lost.
+/// `NoSlot` where none was found free; `Contended` where as many exchanges were lost as the limits allow. An exchange at once at the slot that was given back
+/// last isn't counted: others may have that slot for long.
 #[inline(always)]
 pub fn claim_free(
     board: &DomainTable,
     token: &mut DomainSeat,
     known: &mut FreeSlotHints,
-    slots: u32,
+    limits: &Limits,
     word: u64,
-    tries: u64,
 ) -> Result<u32, Refused>
     requires home { token.old.table_id ≡ id_of board.now }
     requires knows { Knows board.now token.old }
     requires rests { (view token.old).stakes.moves ≡ None }
-    requires slots { (known.old.slots ≡ slots_of board.now) × (slots ≡ slots_of board.now) }
+    requires slots { (known.old.slots ≡ slots_of board.now) × (limits.now.slots ≡ slots_of board.now) }
     requires place { HasPlace (epoch token.old) }
     requires one { alive word ≡ 1 }
-    requires tries { 0 < tries }
+    requires tries { 0 < limits.now.tries }
     ensures tried { MatchResult result
         (λ slot. Gains word slot token.old token.new)
         (λ e. ((e ≡ Refused.NoSlot) × Misses (λ k. k < slots_of board.now) token.old token.new)
@@ -210,5 +209,5 @@ pub fn claim_free(
     {
         return Ok(slot);
     }
-    search(board, token, known, slots, word, tries)
+    search(board, token, known, limits, word)
 }

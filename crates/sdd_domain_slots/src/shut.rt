@@ -9,6 +9,7 @@ ghost use Rattle.sdd_domain_invariant.specs.FractionSteps.{unsighted};
 ghost use Rattle.sdd_atomics.specs.DomainSeat.{view, epoch, Knows};
 ghost use Rattle.sdd_domain_slots.specs.BetweenCalls.{CarriesSeenOnly, AreLentTo};
 
+use sdd_atomics::words::OwnPlace;
 use sdd_atomics::{DomainSeat, DomainTable, steps};
 use sdd_rights::WHOLE;
 use sdd_shared_values::settle;
@@ -18,7 +19,7 @@ use sdd_values::{ReadSection, SectionState, end_round};
 pub fn shut(
     board: &DomainTable,
     token: &mut DomainSeat,
-    place: usize,
+    place: OwnPlace,
     tenure: &mut ReadSection,
     part: ReadSection,
 )

@@ -91,9 +91,6 @@ Sane x = (x.owner ≡ 1) × (0 < x.owned)
 
 -- ---- two views with other pledges
 module _ (vs : List View) (id : ℕ) (v w : View) (bd : ℕ) (b b' : View) (at : get_elem? vs id ≡ some v) (at_b : get_elem? vs bd ≡ some b) (two : id ≢ bd) where
-  vs₁ : List View
-  vs₁ = set vs id w
-
   at₁ : get_elem? (set vs id w) bd ≡ some b
   at₁ = set_else vs id bd w (λ e. two (sym e)) ∙ at_b
 
@@ -379,28 +376,5 @@ begins = record {
     none zero v p e m = not_none p (ap (λ (x : View). x.mine) (some-injective _ _ e) ∙ m)
     none (suc i) v p e m = absurd (some-ne-none v (sym e))
 
--- ---- with no pledge the addition is not allowed: there may be somebody who was told that there is no owner
-abbrev told_last : View
-told_last = record blank { last = 1 }
-
 abbrev pub with_room : View
 with_room = record blank { room = 1 }
-
-pub needs_a_pledge : (then : ℕ → Me (Unit {0}) View → Type 0) → Allows Kept 0 0 (with_room, []) 0 (λ n. (n + 1) % 2 ^ 64) then → ⊥
-needs_a_pledge then allows = let s : State (Unit {0}) View = record { words = 0 ∷ []; homes = []; views = with_room ∷ told_last ∷ [] } in
-    let K : Kept s = record {
-      long = refl;
-      counted = refl;
-      bounded = omega arith;
-      single = omega arith;
-      ended = λ _ _ _ _. refl;
-      backed = λ i v p e m. absurd
-          (none i v p e m);
-    } in
-    let r = allows s K refl refl (omega arith) in let K' = r.3 in let none_left = K'.ended 1 told_last refl refl in
-    let one_counted = K'.counted in absurd (omega arith)
-  where
-    none : (i : ℕ) (v : View) (p : Pledge) → get_elem? (with_room ∷ told_last ∷ []) i ≡ some v → v.mine ≡ p ∷ [] → ⊥
-    none zero v p e m = not_none p (ap (λ (x : View). x.mine) (some-injective _ _ e) ∙ m)
-    none (suc zero) v p e m = not_none p (ap (λ (x : View). x.mine) (some-injective _ _ e) ∙ m)
-    none (suc (suc i)) v p e m = absurd (some-ne-none v (sym e))

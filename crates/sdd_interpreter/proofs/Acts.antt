@@ -35,7 +35,7 @@ use Rattle.sdd_script_model.specs.Script as script
 use Rattle.sdd_script_model.specs.Script.AreCalls.{none as no_call}
 use Rattle.sdd_script_model.specs.Sound.{IsSound}
 use Rattle.sdd_interpreter.specs.Environment.{attending, guarding}
-use Rattle.sdd_interpreter.specs.Owners.{owner_holding, cell_holding, collector_holding, stack_holding}
+use Rattle.sdd_interpreter.specs.Owners.{owner_holding, cell_holding, collector_holding, newest_holding, oldest_holding, stack_holding}
 use Rattle.sdd_interpreter.specs.Interpreter.{desk_of, IsTied, GuardsIn}
 use Rattle.sdd_script_model.proofs.Dates.{dated-same}
 use Rattle.sdd_script_model.proofs.Chains.{LeavesSound}
@@ -170,10 +170,11 @@ same-owners h w owners world same = let named = ap (map (option_map owner_holdin
 
 -- nothing is in hand at the start
 pub tied-start : (h : Environment) (l : Limits) → IsNew l 0 h.world → h.moment ≡ 0 → h.places.entries.items ≡ [] → h.guards.entries.items ≡ [] →
-    h.owners.entries.items ≡ [] → h.cells.entries.items ≡ [] → h.collectors.entries.items ≡ [] → h.stacks.entries.items ≡ [] → h.slots.items ≡ [] → length h.names.items ≡ l.slots →
+    h.owners.entries.items ≡ [] → h.cells.entries.items ≡ [] → h.collectors.entries.items ≡ [] → h.queues.entries.items ≡ [] → h.stacks.entries.items ≡ [] →
+    h.slots.items ≡ [] → length h.names.items ≡ l.slots →
     h.dates.items ≡ replicate l.slots 0 → h.jobs ≡ 0 → h.deferred.items ≡ replicate l.jobs 0 → h.job_dates.items ≡ replicate l.jobs 0 →
     AreInRange l → IsTied h
-tied-start h l new start places guards owners cells collectors stacks slots names dates jobs deferred job_dates ranges = record {
+tied-start h l new start places guards owners cells collectors queues stacks slots names dates jobs deferred job_dates ranges = record {
   sound = sound-start l (desk_of h) (record {
     world = new;
     moment = start;
@@ -182,6 +183,8 @@ tied-start h l new start places guards owners cells collectors stacks slots name
     owners = ap (map (option_map owner_holding)) owners;
     cells = ap (map (option_map cell_holding)) cells;
     collectors = ap (map (option_map collector_holding)) collectors;
+    queues = ap (map (option_map oldest_holding)) queues;
+    newest = ap (map (option_map newest_holding)) queues;
     stacks = ap (map (option_map stack_holding)) stacks;
     slots = slots;
     dates = dates;

@@ -9,5 +9,8 @@ pub mod Missing
 pub mod Inside
 pub mod Taken
 pub mod Collectors
+pub mod Queues
 pub mod Stacks
 pub mod Guarded
+pub mod Shown
+pub mod Asked

@@ -6,7 +6,7 @@ use Rattle.sdd_script_model.specs.ScriptState.{ScriptState, OpenSince, opening_a
 use Rattle.sdd_script_model.specs.Sound.{IsSound}
 use Rattle.sdd_interpreter.specs.declared.participants.NamedGuard.{NamedGuard}
 use Rattle.sdd_interpreter.specs.declared.interpreter.Environment.{Environment}
-use Rattle.sdd_interpreter.specs.Owners.{owner_holding, cell_holding, collector_holding, stack_holding}
+use Rattle.sdd_interpreter.specs.Owners.{owner_holding, cell_holding, collector_holding, newest_holding, oldest_holding, stack_holding}
 use Rattle.sdd_interpreter.specs.Environment.{attending, guarding}
 use Rattle.sdd_rights.specs.Units as token
 
@@ -20,6 +20,8 @@ desk_of s =
       owners = map (option_map owner_holding) s.owners.entries.items;
       cells = map (option_map cell_holding) s.cells.entries.items;
       collectors = map (option_map collector_holding) s.collectors.entries.items;
+      queues = map (option_map oldest_holding) s.queues.entries.items;
+      newest = map (option_map newest_holding) s.queues.entries.items;
       stacks = map (option_map stack_holding) s.stacks.entries.items;
       slots = s.slots.items;
       names = s.names.items;

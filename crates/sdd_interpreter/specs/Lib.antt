@@ -1,4 +1,6 @@
 pub mod Environment
 pub mod Interpreter
 pub mod Owners
+pub mod Queues
 pub mod Stacks
+pub mod Containers

@@ -2,6 +2,7 @@
 use Rattle.std.specs.Prelude.{ℕ, Option}
 use Rattle.std.specs.Option.{option_map}
 use Rattle.sdd_lists.specs.Stack as stacks
+use Rattle.sdd_lists.specs.declared.queue.Queue.{Queue}
 use Rattle.sdd_lists.specs.declared.stack.Stack.{Stack}
 use Rattle.sdd_script_model.specs.declared.val.Body.{Body}
 use Rattle.sdd_space.specs.OwnerOrCell.{OwnerOrCell}
@@ -60,6 +61,14 @@ filling_kind (filling.Share o) = ownership.Shared
 -- what comes out of a cell for such owners that held this
 abbrev pub held_as : OwnerKind → Option ℕ → token.GhostName → Option OwnerOrCell
 held_as kind held home = option_map (λ k. holding_first kind k home) held
+
+-- a queue, by the cell in which its list begins
+abbrev pub oldest_holding : Queue Body → OwnerOrCell
+oldest_holding queue = shared.cell_holding queue.oldest
+
+-- and by its second cell
+abbrev pub newest_holding : Queue Body → OwnerOrCell
+newest_holding queue = shared.cell_holding queue.newest
 
 -- a stack, by its cell
 abbrev pub stack_holding : Stack Body → OwnerOrCell

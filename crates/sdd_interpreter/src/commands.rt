@@ -2,11 +2,13 @@
 
 pub mod cells;
 pub mod collectors;
+pub mod containers;
 pub mod exchanges;
 pub mod guards;
 pub mod items;
 pub mod links;
 pub mod owners;
+pub mod queues;
 pub mod raw;
 pub mod stacks;
 pub mod step;

@@ -5,7 +5,8 @@ ghost use Rattle.sdd_script_model.specs.ScriptState.{slot_of};
 ghost use Rattle.sdd_space.specs.Owned as owned;
 ghost use Rattle.sdd_space.specs.Shared as shared;
 
-use sdd_script_model::{OwnerKind, Val};
+use sdd_lists::Stack;
+use sdd_script_model::{Body, OwnerKind, Val};
 use sdd_space::inner::{slot_of_owner, slot_of_shared};
 use sdd_space::{AtomicOwned, AtomicShared, Owned, Shared};
 
@@ -25,6 +26,12 @@ pub enum AnyCell {
 pub enum CellOwner {
     Sole(Option<Owned<Val>>),
     Share(Option<Shared<Val>>),
+}
+
+/// A container of entries of a script.
+#[derive(Clone, Copy)]
+pub enum AnyList<'a> {
+    Stack(&'a Stack<Body>),
 }
 
 /// The number of the slot of an only owner's item.

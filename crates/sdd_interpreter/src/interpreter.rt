@@ -5,7 +5,7 @@ use crate::holding::{AnyCell, AnyOwner};
 use crate::name_table::NameTable;
 use crate::participants::{NamedGuard, NamedParticipant};
 use sdd_core::{Limits, Refused};
-use sdd_lists::Stack;
+use sdd_lists::{Queue, Stack};
 use sdd_script_model::{Body, Val};
 use sdd_script_text::{Answer, Names, Reply};
 use sdd_space::PrivateCollector;
@@ -24,6 +24,7 @@ pub struct Environment {
     pub owners: NameTable<AnyOwner>,
     pub cells: NameTable<AnyCell>,
     pub collectors: NameTable<PrivateCollector<Val>>,
+    pub queues: NameTable<Queue<Body>>,
     pub stacks: NameTable<Stack<Body>>,
     /// Of each item its slot.
     pub slots: Vec<u32>,
@@ -88,6 +89,7 @@ impl Interpreter {
                 owners: NameTable::new(alloc),
                 cells: NameTable::new(alloc),
                 collectors: NameTable::new(alloc),
+                queues: NameTable::new(alloc),
                 stacks: NameTable::new(alloc),
                 slots: Vec::new(alloc),
                 names,

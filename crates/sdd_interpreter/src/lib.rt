@@ -4,6 +4,7 @@
 #![tactic(auto)]
 
 pub mod commands;
+pub mod containers;
 pub mod holding;
 pub mod interpreter;
 pub mod items;
@@ -13,7 +14,7 @@ pub mod owners;
 pub mod participants;
 pub mod turns;
 
-pub use holding::{AnyCell, AnyOwner, CellOwner};
+pub use holding::{AnyCell, AnyList, AnyOwner, CellOwner};
 pub use interpreter::{Environment, Interpreter};
 pub use name_table::NameTable;
 pub use participants::{NamedGuard, NamedParticipant};

@@ -6,7 +6,8 @@ pub mod exchanges;
 pub mod guards;
 pub mod items;
 pub mod owners;
+pub mod queues;
 pub mod stacks;
 mod turn;
 
-pub use turn::{cell_step_at, in_place_step_at, raw_step_at};
+pub use turn::{cell_step_at, in_place_step_at, list_step_at, raw_step_at};

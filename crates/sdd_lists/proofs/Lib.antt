@@ -17,6 +17,7 @@ pub mod Order
 pub mod Spliced
 pub mod Linking
 pub mod Walking
+mod Iterating
 pub mod Filling
 pub mod QueueFilling
 pub mod Beside

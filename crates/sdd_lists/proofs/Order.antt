@@ -36,7 +36,7 @@ module _ {T : Type 0} where
   not-none xs x same = let long : length (xs ++ x ∷ []) ≡ 0 = ap length same in absurd (omega (arith, long, length-append xs (x ∷ [])))
 
 module _ {T : Type 0} where
-  values-gone : (e : Entry T) (es : List (Entry T)) → is_deleted e ≡ true → values_of (e ∷ es) ≡ values_of es
+  pub values-gone : (e : Entry T) (es : List (Entry T)) → is_deleted e ≡ true → values_of (e ∷ es) ≡ values_of es
   values-gone e es is = rw is refl
 
   pub values-kept : (e : Entry T) (es : List (Entry T)) → is_deleted e ≡ false → values_of (e ∷ es) ≡ e.value ∷ values_of es

@@ -87,10 +87,6 @@ module _ {T : Type 0} (w : World (LinkedEntry T)) (walk : Walk T) where
       let value : value_of e.value ≡ v = cc in
       shown-first e rest stood.front ∙ ap (λ (x : T). x ∷ shown_of (left rest)) value
 
-  pub shown-end : (es : List (Entry (LinkedEntry T))) → None ≡ first_shown es → es ≡ []
-  shown-end [] is = refl
-  shown-end (e ∷ es) is = absurd (cc)
-
 -- one step on
 abbrev pub after : {T : Type 0} → Walk T → Option (Front (LinkedEntry T)) → Walk T
 after walk o = record { next = o; most = walk.most - 1 }

@@ -3,6 +3,7 @@
 
 mod asking;
 mod behind;
+pub mod iter;
 pub mod laws;
 pub mod link;
 pub mod linked_entry;
@@ -18,6 +19,7 @@ pub mod unpopped;
 pub mod walk;
 mod walks;
 
+pub use iter::Iter;
 pub use link::Link;
 pub use linked_entry::LinkedEntry;
 pub use linked_list::LinkedList;

@@ -19,9 +19,13 @@ ghost use Rattle.sdd_standings.specs.Slots.{IsSharedBy};
 ghost use Rattle.sdd_lists.specs.Asking.{kept_by, was_held};
 ghost use Rattle.sdd_lists.specs.Ends.{IsLastOf, is_spent, last_value};
 ghost use Rattle.sdd_lists.specs.Entries.{link_of, value_of};
+ghost use Rattle.std.specs.Iterator.{AlwaysYields};
+ghost use Rattle.std.specs.Iterator.Runs.{EachRunFrom, ItemsMapTo};
+ghost use Rattle.sdd_lists.specs.Iter.{GivesInOrder, GoesInOrder, IsIterOf, space_of};
 ghost use Rattle.sdd_lists.specs.Lists.{Entry, content, first_slot, first_value, left};
 
 use crate::asking::{asks, asks_of_any};
+use crate::iter::{Iter, iter_in};
 use crate::linked_entry::LinkedEntry;
 use crate::moves::{give_up, let_go_of_all};
 use crate::pops::{clear, keep_first, pop_oldest, take_oldest};
@@ -35,7 +39,8 @@ use crate::walks::{
 use sdd_core::Refused;
 use sdd_space::laws::values_fit_slots;
 use sdd_space::{
-    AtomicShared, Cells, Guard, Item, Items, LookThrough, Ptr, Several, Shared, SharedItems,
+    AtomicShared, Cells, Guard, HeldItems, Item, Items, LookThrough, Ptr, Several, Shared,
+    SharedItems,
 };
 
 /// Entries, of which the oldest is popped first. Its newest entry has two owners: the list, and a cell of the queue's own.
@@ -618,6 +623,24 @@ impl<T: Item<LinkedEntry<T>>> Queue<T> {
     {
         let shown = shown_in(&self.oldest, guard, s);
         reader(shown)
+    }
+
+    /// The values of the entries that aren't deleted, the oldest first, while the space is borrowed for that, so that nobody changes the queue meanwhile.
+    pub fn iter<'a, S: Items<LinkedEntry<T>> + HeldItems<LinkedEntry<T>>>(
+        &self,
+        _guard: &'a Guard,
+        s: &'a S,
+    ) -> Iter<'a, T, S>
+        requires home { AreOfCells (S.seat s.now).home.cells self.now }
+        ensures space { space_of result ≡ s.now }
+        ensures home { IsIterOf (S.seat s.now).home.cells result }
+        ensures list { IsExact (S.seat s.now) → (vs : List T) → QueueHas (S.world s.now) self.now vs → GivesInOrder (S.world s.now) result vs }
+        ensures items { IsExact (S.seat s.now) → (vs : List T) → QueueHas (S.world s.now) self.now vs →
+            AlwaysYields (GoesInOrder S.seat S.world) (λ v. v.now) result vs }
+        ensures runs { IsExact (S.seat s.now) → (vs : List T) → QueueHas (S.world s.now) self.now vs →
+            EachRunFrom (GoesInOrder S.seat S.world) result (λ p. ItemsMapTo p (λ v. v.now) vs) }
+    {
+        iter_in(&self.oldest, s)
     }
 
     /// A walk along the entries that aren't deleted, the oldest first.

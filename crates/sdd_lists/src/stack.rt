@@ -18,9 +18,13 @@ ghost use Rattle.sdd_participants.specs.Slab.{IsEmptyAt, IsFull};
 ghost use Rattle.sdd_standings.specs.Slots.{IsSharedBy};
 ghost use Rattle.sdd_lists.specs.Asking.{kept_by, was_held};
 ghost use Rattle.sdd_lists.specs.Entries.{link_of, value_of};
+ghost use Rattle.std.specs.Iterator.{AlwaysYields};
+ghost use Rattle.std.specs.Iterator.Runs.{EachRunFrom, ItemsMapTo};
+ghost use Rattle.sdd_lists.specs.Iter.{GivesInOrder, GoesInOrder, IsIterOf, space_of};
 ghost use Rattle.sdd_lists.specs.Lists.{Entry, Pops, content, emptied, first_slot, first_value, left};
 
 use crate::asking::{asks, asks_of_any};
+use crate::iter::{Iter, iter_in};
 use crate::linked_entry::LinkedEntry;
 use crate::moves::{give_up, let_go_of_all, trim};
 use crate::pops::{keep_first, pop_first, take_first};
@@ -32,7 +36,8 @@ use crate::walks::{Front, count, find_first, first_ptr_in, first_value_in, shown
 use sdd_core::{Refused, Tag};
 use sdd_space::laws::values_fit_slots;
 use sdd_space::{
-    AtomicShared, Cells, Guard, Item, Items, LookThrough, Ptr, Several, Shared, SharedItems,
+    AtomicShared, Cells, Guard, HeldItems, Item, Items, LookThrough, Ptr, Several, Shared,
+    SharedItems,
 };
 
 /// Entries, of which the newest is popped first.
@@ -405,6 +410,24 @@ impl<T: Item<LinkedEntry<T>>> Stack<T> {
             slot_named result ≡ first_slot (left es) }
     {
         first_ptr_in(&self.newest, guard, s)
+    }
+
+    /// The values of the entries that aren't deleted, the newest first, while the space is borrowed for that, so that nobody changes the stack meanwhile.
+    pub fn iter<'a, S: Items<LinkedEntry<T>> + HeldItems<LinkedEntry<T>>>(
+        &self,
+        _guard: &'a Guard,
+        s: &'a S,
+    ) -> Iter<'a, T, S>
+        requires home { home_in self.now ≡ (S.seat s.now).home.cells }
+        ensures space { space_of result ≡ s.now }
+        ensures home { IsIterOf (S.seat s.now).home.cells result }
+        ensures list { IsExact (S.seat s.now) → (vs : List T) → StackHas (S.world s.now) self.now vs → GivesInOrder (S.world s.now) result vs }
+        ensures items { IsExact (S.seat s.now) → (vs : List T) → StackHas (S.world s.now) self.now vs →
+            AlwaysYields (GoesInOrder S.seat S.world) (λ v. v.now) result vs }
+        ensures runs { IsExact (S.seat s.now) → (vs : List T) → StackHas (S.world s.now) self.now vs →
+            EachRunFrom (GoesInOrder S.seat S.world) result (λ p. ItemsMapTo p (λ v. v.now) vs) }
+    {
+        iter_in(&self.newest, s)
     }
 
     /// A walk along the entries that aren't deleted, the newest first.

@@ -44,22 +44,6 @@ module _ {X : Type 0} where
         ∙ ap (λ (b : Bool). slice_set (map is_some numbers) k b) same ∙ sym (map-set is_some numbers k n);
   }
 
-  -- where a place is taken, a job is there
-  pub beside-there : (numbers : Entries (Unit {0})) (jobs : List (Option X)) (k : ℕ) → AreBeside numbers jobs → IsSome (entry_at numbers k) →
-      IsSome (slice_index_or jobs k None)
-  beside-there numbers jobs k h some =
-      sym (get_or-map is_some jobs k None) ∙ ap (λ (bs : List Bool). slice_index_or bs k false) h.filled ∙ get_or-map is_some numbers k None ∙ some
-
-  pub beside-bound : (numbers : Entries (Unit {0})) (jobs : List (Option X)) (k : ℕ) → AreBeside numbers jobs → IsSome (entry_at numbers k) → k < length jobs
-  beside-bound numbers jobs k h some =
-      omega (arith, entry-lt-length numbers k some, ap length h.filled, length-map numbers is_some, length-map jobs is_some)
-
-  -- what was found there isn't nothing
-  pub not-nothing : (numbers : Entries (Unit {0})) (jobs : List (Option X)) (k : ℕ) (found : Option X) → AreBeside numbers jobs →
-      IsSome (entry_at numbers k) → found ≡ slice_index_or jobs k found → IsSome found
-  not-nothing numbers jobs k found h some is =
-      ap is_some (is ∙ get_or_default jobs k found None (beside-bound numbers jobs k h some)) ∙ beside-there numbers jobs k h some
-
   -- a job was found exactly where a place is taken
   pub found-there : (numbers : Entries (Unit {0})) (jobs : List (Option X)) (k : ℕ) (found : Option X) → AreBeside numbers jobs → k < length jobs →
       found ≡ slice_index_or jobs k found → is_some found ≡ is_some (entry_at numbers k)

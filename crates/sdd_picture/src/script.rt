@@ -69,9 +69,9 @@ impl Follower {
             Call::Tally => Ok(()),
             Call::At(place, action) => {
                 let participant = place.0 as usize;
-                self.acts(participant, action, answer.reply)?;
-                self.acts_on_items(participant, action, answer.reply)?;
-                self.acts_on_cells(participant, action, answer.reply)?;
+                self.acts(participant, action, &answer.reply)?;
+                self.acts_on_items(participant, action, &answer.reply)?;
+                self.acts_on_cells(participant, action, &answer.reply)?;
                 self.reclaims(participant, answer)
             }
         }
@@ -83,9 +83,14 @@ impl Follower {
     }
 
     /// What a participant does with guards and jobs, and its end, where it was not refused.
-    fn acts(&mut self, participant: usize, action: Action, reply: Reply) -> Result<(), AllocError> {
+    fn acts(
+        &mut self,
+        participant: usize,
+        action: Action,
+        reply: &Reply,
+    ) -> Result<(), AllocError> {
         match (action, reply) {
-            (Action::Open, Reply::Guard(guard, epoch)) => self.opens(participant, guard, epoch),
+            (Action::Open, Reply::Guard(guard, epoch)) => self.opens(participant, *guard, *epoch),
             (Action::Close(guard), Reply::Done) => self.closes(participant, guard),
             (Action::End, Reply::Done) => self.ends(participant),
             (Action::Defer(_), Reply::Job(_)) => self.defers(participant),
@@ -178,7 +183,7 @@ impl Follower {
         &mut self,
         participant: usize,
         action: Action,
-        reply: Reply,
+        reply: &Reply,
     ) -> Result<(), AllocError> {
         match (action, reply) {
             (Action::Owned(value), Reply::Item(_, item)) => self.makes(item.0, value),
@@ -263,7 +268,7 @@ impl Follower {
         &mut self,
         participant: usize,
         action: Action,
-        reply: Reply,
+        reply: &Reply,
     ) -> Result<(), AllocError> {
         match (action, reply) {
             (Action::CellOwned(owner) | Action::CellShared(owner), Reply::Cell(_)) => {

@@ -14,5 +14,5 @@ pub use schedules::play_steps;
 pub use sdd_script_model::Val;
 pub use sdd_script_text::{
     Action, Answer, Call, CellName, CollectorName, Ended, Fault, GuardName, ItemName, JobName,
-    Names, OwnerName, PlaceName, Reader, Reply, Sink, Source, Value, Writer,
+    ListName, Names, Numbers, OwnerName, PlaceName, Reader, Reply, Sink, Source, Value, Writer,
 };

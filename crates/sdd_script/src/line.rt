@@ -78,7 +78,13 @@ fn act(stage: &mut Interpreter, name: PlaceName, action: Action) -> Result<Reply
     if let Some(reply) = sdd_script_commands::act_on_link(stage, name, action) {
         return Ok(reply);
     }
+    if let Some(reply) = sdd_script_commands::act_on_queue(stage, name, action)? {
+        return Ok(reply);
+    }
     if let Some(reply) = sdd_script_commands::act_on_stack(stage, name, action)? {
+        return Ok(reply);
+    }
+    if let Some(reply) = sdd_script_commands::act_on_list(stage, name, action)? {
         return Ok(reply);
     }
     let Some(reply) = sdd_script_commands::act_on_held(stage, name, action)? else {

@@ -13,7 +13,7 @@ use Rattle.sdd_participants.specs.declared.standing.Standing.TheVariants.{Raw, R
 use Rattle.sdd_participants.specs.declared.standing.CellContents.{CellContents}
 use Rattle.sdd_participants.specs.declared.participant.Participant.{Participant}
 use Rattle.sdd_participants.specs.declared.waiting.LimboEntry.TheVariants.{Item}
-use Rattle.sdd_space.specs.Ledger.{owner_of, right_to, IsLedger}
+use Rattle.sdd_space.specs.Ledger.{Claim, owner_of, right_to, IsLedger}
 use Rattle.sdd_participants.specs.declared.tally.Tally.{Tally}
 use Rattle.sdd_space.specs.OwnerOrCell.{OwnerOrCell, IsOf}
 use Rattle.sdd_space.specs.Out.{IsNullCell, is_out}
@@ -31,8 +31,8 @@ use Rattle.sdd_world.specs.Closing.{AllGo, cell_held, held_by}
 use Rattle.sdd_world.proofs.AllGo.{all-go}
 use Rattle.sdd_world.proofs.Sweeping.{all-uncounted}
 use Rattle.sdd_script_model.specs.Val.{Val, body_of, owner_in, link_of, link_holding, holdings_of}
-use Rattle.sdd_script_model.specs.ScriptState.{ScriptState, OpenSince, IsStackCell, holding_at, shared_cell, opening_at, place_in, slot_at, slot_of, cell_of, collector_of, name_at, in_world, without_owner}
-use Rattle.sdd_script_model.specs.Sound.{IsSound, SlotsHaveNames, NamesAreAtHome, has_right, is_of, named, named_owners, owns, stacked}
+use Rattle.sdd_script_model.specs.ScriptState.{ScriptState, OpenSince, IsListCell, IsSecondCell, holding_at, shared_cell, opening_at, place_in, slot_at, slot_of, cell_of, collector_of, name_at, in_world, without_owner}
+use Rattle.sdd_script_model.specs.Sound.{IsSound, SlotsHaveNames, NamesAreAtHome, has_right, is_of, named, named_owners, owns, contained}
 use Rattle.sdd_script_model.specs.Script.{Acts, HasOpen, Meets}
 use Rattle.sdd_script_commands.specs.Leaving.{SpendsOwner, SpendsCell, SpendsCollector, SpendsGuard, LeavesRaw}
 use Rattle.sdd_interpreter.specs.Environment.{guarding}
@@ -52,12 +52,11 @@ use Rattle.sdd_script_model.proofs.Entry.{at-same, as-each, inside, set-either, 
 use Rattle.sdd_script_model.proofs.Stocked.{stocked-as, slots-cell_closed, slots-given, slots-same, slots-set}
 use Rattle.sdd_script_model.proofs.SmallSteps.{keeps-closed, keeps-given}
 use Rattle.sdd_script_model.proofs.Attending.{KeepsGuards, attended-same, placed-still}
-use Rattle.sdd_script_model.proofs.Chains.{at_home-spent}
+use Rattle.sdd_script_model.proofs.Chains.{are-own, at_home-spent}
 use Rattle.sdd_script_model.proofs.JobDates.{job_dates-shut}
 use Rattle.sdd_script_model.proofs.Counting.{accounts, cell-spent, collector-spent, linked, out-there, owned-out, owner-spent, some-holding}
 use Rattle.sdd_interpreter.proofs.Collectors.{collectors-spent, number-is}
 use Rattle.sdd_script_model.proofs.Layers.{layered-less}
-use Rattle.sdd_script_model.proofs.Chains.{stack-right}
 use Rattle.sdd_script_model.proofs.Links.{less-shed}
 use Rattle.sdd_script_model.proofs.ListChanges.{has-freed}
 use Rattle.sdd_script_model.specs.Listed.{HasLists}
@@ -117,32 +116,29 @@ module _ (d : ScriptState) (s : IsSound d) (shut : (g : ℕ) → opening_at d.gu
 
   -- what lets go of something is sound after it, where these parts are
   module _ (new : ScriptState) (l : LetsGo d.world new.world) (moment : new.moment ≡ d.moment) (places : new.places ≡ d.places) (guards : new.guards ≡ d.guards)
-      (slots : new.slots ≡ d.slots) (dates : new.dates ≡ d.dates) (cells : length new.cells ≡ length d.cells) (stacks : new.stacks ≡ d.stacks)
-      (deferred : new.deferred ≡ d.deferred) (jobs : new.jobs ≡ d.jobs) (job_dates : new.job_dates ≡ d.job_dates) where
+      (slots : new.slots ≡ d.slots) (dates : new.dates ≡ d.dates) (cells : length new.cells ≡ length d.cells)
+      (queues : length new.queues ≡ length d.queues) (stacks : length new.stacks ≡ length d.stacks) (deferred : new.deferred ≡ d.deferred)
+      (jobs : new.jobs ≡ d.jobs) (job_dates : new.job_dates ≡ d.job_dates) where
     still-shut : (p : ℕ) → IsTrue (is_open (place_at new.world p)) → ⊥
     still-shut p o = omega (arith, ltb-true 0 (place_at new.world p).guards o, l.guards p, no-guards p)
 
     still-guards : KeepsGuards d.world new.world
     still-guards = record { phases = l.phases; places = l.places; guards = l.guards }
 
-    -- a stack is one that was there
-    was-stack : (c : ℕ) → IsStackCell new c → IsStackCell d c
-    was-stack c (n, is) = (n, ap (λ (hs : List (Option OwnerOrCell)). shared_cell (holding_at hs n)) (sym stacks) ∙ is)
+    abbrev left : Claim → ℕ
+    left u = named new u + contained new u
 
-    pub sound-let : SlotsHaveNames new → IsLedger holdings_of (λ u. named new u + stacked new.stacks u) new.world → Sheds d.world new.world →
-        new.world.values ≡ d.world.values → NamesAreAtHome new → new.names ≡ d.names → IsSound new
-    sound-let stocked ledger shed values home names = record {
+    pub sound-let : HasLists (IsListCell new) (IsSecondCell new) d.world → SlotsHaveNames new → IsLedger holdings_of left new.world →
+        Sheds d.world new.world → new.world.values ≡ d.world.values → NamesAreAtHome new → new.names ≡ d.names → IsSound new
+    sound-let lists stocked ledger shed values home names = record {
       stocked = stocked;
       ledger = ledger;
-      lists = has-freed (IsStackCell new) d.world new.world (λ u. named new u + stacked new.stacks u) ledger
-          (λ c x. omega (arith, stack-right new c x))
-          (subst (λ (hs : List (Option OwnerOrCell)). HasLists (λ c. (n : ℕ) × (shared_cell (holding_at hs n) ≡ Some c)) d.world) (sym stacks) s.lists) values
-          (λ i. shed.cells i);
+      lists = has-freed (IsListCell new) (IsSecondCell new) d.world new.world left ledger
+          (are-own new new.world left left ledger (λ u. omega arith) (λ u. omega arith)) lists values (λ i. shed.cells i);
       layered = layered-less d new s.layered (less-shed shed) names;
       home = home;
       attended = attended-same d new s.attended still-guards places guards (omega (arith, moment))
-          (placed-still d new s.attended still-guards (ap (λ (xs : List ℕ). length xs) slots) cells
-          (ap (λ (hs : List (Option OwnerOrCell)). length hs) stacks));
+          (placed-still d new s.attended still-guards (ap (λ (xs : List ℕ). length xs) slots) cells queues stacks);
       kept = λ n k x e o waits since. absurd (still-shut x.place o);
       early = rw (dates, moment) s.early;
       made = ap (λ (t : Tally). t.made) l.tally ∙ s.made ∙ ap (λ (xs : List ℕ). length xs) (sym slots);
@@ -157,7 +153,7 @@ module _ (d : ScriptState) (s : IsSound d) (shut : (g : ℕ) → opening_at d.gu
     abbrev pub without : ScriptState
     without = in_world (without_owner d o) (owner_given d.world p k stands)
 
-    ledger-spent_owner : IsLedger holdings_of (λ u. named without u + stacked without.stacks u) without.world
+    ledger-spent_owner : IsLedger holdings_of (λ u. named without u + contained without u) without.world
     ledger-spent_owner (owner_of j) =
         omega (
           arith,
@@ -165,18 +161,20 @@ module _ (d : ScriptState) (s : IsSound d) (shut : (g : ℕ) → opening_at d.gu
               (λ i. omega (arith, owner-spent d.owners d.cells d.collectors o k h there slot (owner_of i), once-where (k == i))) (accounts d s) stands is j,
         )
     ledger-spent_owner (right_to c) =
-        held-owner_given holdings_of d.world p k stands (λ i. named d (right_to i) + stacked d.stacks (right_to i)) is (λ i. s.ledger (right_to i)) c
+        held-owner_given holdings_of d.world p k stands (λ i. named d (right_to i) + contained d (right_to i)) is (λ i. s.ledger (right_to i)) c
 
     pub sound-spent_owner : IsSound without
     sound-spent_owner =
         let l = lets-given d.world p k stands is in
-        sound-let without l refl refl refl refl refl refl refl refl refl refl
+        sound-let without l refl refl refl refl refl refl refl refl refl refl refl s.lists
         (stocked-as d without s.stocked refl refl refl (slots-given d.world p k stands is)) ledger-spent_owner (sheds-owner_given d.world p k stands is)
         (given-same d.world p k stands is).0
         (record {
           owners = rw l.home (at_home-spent d.world.home d.owners o s.home.owners);
           cells = rw l.home s.home.cells;
           collectors = rw l.home s.home.collectors;
+          queues = rw l.home s.home.queues;
+          newest = rw l.home s.home.newest;
           stacks = rw l.home s.home.stacks;
         }) refl
 
@@ -185,25 +183,27 @@ module _ (d : ScriptState) (s : IsSound d) (shut : (g : ℕ) → opening_at d.gu
     abbrev pub without_the_cell : ScriptState
     without_the_cell = record d { world = cell_closed d.world p c; cells = slice_set d.cells n None }
 
-    ledger-spent_cell : IsLedger holdings_of (λ u. named without_the_cell u + stacked d.stacks u) without_the_cell.world
+    ledger-spent_cell : IsLedger holdings_of (λ u. named without_the_cell u + contained d u) without_the_cell.world
     ledger-spent_cell (owner_of j) = omega (arith, accounted-cell_closed holdings_of d.world p c (named_owners d) (accounts d s) j)
     ledger-spent_cell (right_to j) =
         let h = some-holding cell_of refl (holding_at d.cells n) c named_cell in
-        held-cell_closed holdings_of d.world p c (λ i. named d (right_to i) + stacked d.stacks (right_to i))
-        (λ i. named without_the_cell (right_to i) + stacked d.stacks (right_to i))
+        held-cell_closed holdings_of d.world p c (λ i. named d (right_to i) + contained d (right_to i))
+        (λ i. named without_the_cell (right_to i) + contained d (right_to i))
         (λ i. omega (arith, cell-spent d.owners d.cells d.collectors n c h.0 h.1 h.2 (right_to i))) (λ i. s.ledger (right_to i)) j
 
     pub sound-spent_cell : IsSound without_the_cell
     sound-spent_cell =
         let l = lets-closed d.world p c in
         let e = without_the_cell in
-        sound-let e l refl refl refl refl refl (length-set d.cells n None) refl refl refl refl
+        sound-let e l refl refl refl refl refl (length-set d.cells n None) refl refl refl refl refl s.lists
         (stocked-as d e s.stocked refl refl refl (slots-cell_closed d.world p c)) ledger-spent_cell (sheds-cell_closed d.world p c)
         (spilled-same (record d.world { cells = without_entry d.world.cells c }) p (held_in (entry_at d.world.cells c))).0
         (record {
           owners = rw l.home s.home.owners;
           cells = rw l.home (at_home-spent d.world.home d.cells n s.home.cells);
           collectors = rw l.home s.home.collectors;
+          queues = rw l.home s.home.queues;
+          newest = rw l.home s.home.newest;
           stacks = rw l.home s.home.stacks;
         }) refl
 
@@ -212,7 +212,7 @@ module _ (d : ScriptState) (s : IsSound d) (shut : (g : ℕ) → opening_at d.gu
     abbrev pub without_the_collector : ScriptState
     without_the_collector = record d { world = without_cell d.world c; collectors = slice_set d.collectors n None }
 
-    ledger-spent_collector : IsLedger holdings_of (λ u. named without_the_collector u + stacked d.stacks u) without_the_collector.world
+    ledger-spent_collector : IsLedger holdings_of (λ u. named without_the_collector u + contained d u) without_the_collector.world
     ledger-spent_collector (owner_of j) =
         omega (
           arith,
@@ -221,16 +221,23 @@ module _ (d : ScriptState) (s : IsSound d) (shut : (g : ℕ) → opening_at d.gu
         )
     ledger-spent_collector (right_to j) =
         let h = some-holding collector_of refl (holding_at d.collectors n) c named_collector in
-        held-cell_spent holdings_of d.world c (λ i. named d (right_to i) + stacked d.stacks (right_to i))
-        (λ i. named without_the_collector (right_to i) + stacked d.stacks (right_to i))
+        held-cell_spent holdings_of d.world c (λ i. named d (right_to i) + contained d (right_to i))
+        (λ i. named without_the_collector (right_to i) + contained d (right_to i))
         (λ i. omega (arith, collector-spent d.owners d.cells d.collectors n c h.0 h.1 h.2 (right_to i))) (λ i. s.ledger (right_to i)) j
 
     pub sound-spent_collector : IsSound without_the_collector
     sound-spent_collector =
         let e = without_the_collector in
-        sound-let e (lets-cell d.world d.world c (lets-start d.world)) refl refl refl refl refl refl refl refl refl refl
+        sound-let e (lets-cell d.world d.world c (lets-start d.world)) refl refl refl refl refl refl refl refl refl refl refl s.lists
         (stocked-as d e s.stocked refl refl refl (slots-same d.world e.world refl refl refl)) ledger-spent_collector (sheds-cell d.world c) refl
-        (record { owners = s.home.owners; cells = s.home.cells; collectors = at_home-spent d.world.home d.collectors n s.home.collectors; stacks = s.home.stacks }) refl
+        (record {
+          owners = s.home.owners;
+          cells = s.home.cells;
+          collectors = at_home-spent d.world.home d.collectors n s.home.collectors;
+          queues = s.home.queues;
+          newest = s.home.newest;
+          stacks = s.home.stacks;
+        }) refl
 
   -- the item in this slot, which is out as raw, waits at p
   module _ (p k : ℕ) (raw : standing_at d.world k ≡ Some Raw) where
@@ -238,7 +245,7 @@ module _ (d : ScriptState) (s : IsSound d) (shut : (g : ℕ) → opening_at d.gu
     with_it_left = in_world d (retired d.world p k)
 
     -- it had no owner, and has none
-    ledger-left : IsLedger holdings_of (λ u. named d u + stacked d.stacks u) with_it_left.world
+    ledger-left : IsLedger holdings_of (λ u. named d u + contained d u) with_it_left.world
     ledger-left (owner_of j) = as-each owner_count d.world.standings k (Some Retired) None (sym (ap owner_count raw)) j ∙ s.ledger (owner_of j)
     ledger-left (right_to c) = s.ledger (right_to c)
 
@@ -248,10 +255,17 @@ module _ (d : ScriptState) (s : IsSound d) (shut : (g : ℕ) → opening_at d.gu
     pub sound-left : IsSound with_it_left
     sound-left =
         let e = with_it_left in
-        sound-let e lets-left refl refl refl refl refl refl refl refl refl refl
+        sound-let e lets-left refl refl refl refl refl refl refl refl refl refl refl s.lists
         (stocked-as d e s.stocked refl refl refl (slots-set d.world e.world k Retired (ap is_some raw) refl refl refl)) ledger-left
         (sheds-same d.world e.world refl refl) refl
-        (record { owners = s.home.owners; cells = s.home.cells; collectors = s.home.collectors; stacks = s.home.stacks }) refl
+        (record {
+          owners = s.home.owners;
+          cells = s.home.cells;
+          collectors = s.home.collectors;
+          queues = s.home.queues;
+          newest = s.home.newest;
+          stacks = s.home.stacks;
+        }) refl
 
 -- it isn't out as raw then, and no other is that wasn't
 module _ (w : World Val) (p k : ℕ) where
@@ -289,28 +303,30 @@ link-held v = by (owner_in (body_of v)) where
 
 module _ (d : ScriptState) (s : IsSound d) (whole : IsWhole d.world) (owners : (o : ℕ) → holding_at d.owners o ≡ None)
     (cells : (c : ℕ) → holding_at d.cells c ≡ None) (collectors : (k : ℕ) → holding_at d.collectors k ≡ None)
+    (queues : (n : ℕ) → holding_at d.queues n ≡ None) (newest : (n : ℕ) → holding_at d.newest n ≡ None)
     (stacks : (n : ℕ) → holding_at d.stacks n ≡ None) where
   no-owners : IsAccounted holdings_of (λ _. 0) d.world
   no-owners = accounted-as holdings_of (named_owners d) (λ _. 0) d.world
       (λ k. sym (all-uncounted (owns k) d.owners (λ o. ap (owns k) (owners o)))) (accounts d s)
 
-  no-rights : (c : ℕ) → named d (right_to c) + stacked d.stacks (right_to c) ≡ 0
+  no-rights : (c : ℕ) → named d (right_to c) + contained d (right_to c) ≡ 0
   no-rights c =
       omega (
         arith,
         all-uncounted (has_right c) d.cells (λ n. ap (has_right c) (cells n)),
         all-uncounted (has_right c) d.collectors (λ n. ap (has_right c) (collectors n)),
+        all-uncounted (has_right c) d.queues (λ n. ap (has_right c) (queues n)),
+        all-uncounted (has_right c) d.newest (λ n. ap (has_right c) (newest n)),
         all-uncounted (has_right c) d.stacks (λ n. ap (has_right c) (stacks n)),
       )
 
   -- there is no list any more
+  no-list : (c : ℕ) → IsListCell d c → ⊥
+  no-list c (inl (n, is)) = let never : None ≡ Some c = sym (ap shared_cell (queues n)) ∙ is in cc
+  no-list c (inr (n, is)) = let never : None ≡ Some c = sym (ap shared_cell (stacks n)) ∙ is in cc
+
   bare : (k : ℕ) (v : Val) → value_at d.world k ≡ Some v → held_in (entry_at d.world.cells (link_of v)) ≡ None
-  bare k v there = elim (s.lists.linked k v there) [
-    | inl none ↦ none
-    | inr at ↦
-        (let named : shared_cell (holding_at d.stacks at.begun.0) ≡ Some at.cell = at.begun.1 in
-        absurd (let never : None ≡ Some at.cell = sym (ap shared_cell (stacks at.begun.0)) ∙ named in cc))
-  ]
+  bare k v there = elim (s.lists.linked k v there) [ inl none ↦ none | inr at ↦ absurd (no-list at.cell at.begun) ]
 
   idle : (c : ℕ) → held_in (entry_at d.world.cells c) ≡ None
   idle c = by (entry_at d.world.cells c) refl where

@@ -8,7 +8,12 @@ pub mod CellActs
 pub mod ExchangeActs
 pub mod LinkActs
 pub mod StackActs
+pub mod QueueActs
 pub mod GuardActs
 pub mod Ending
+pub mod ListEnding
 pub mod StackEnding
+pub mod QueueEnding
 pub mod StackLeaving
+pub mod ContainerActs
+pub mod ConditionActs

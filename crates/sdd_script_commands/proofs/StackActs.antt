@@ -1,5 +1,5 @@
 -- What each action on a stack leaves in hand: it is sound, and it is what the call means
-use Rattle.std.proofs.Common.{◌≡◌, ◌+◌, ◌^◌, ◌<◌, ℕ, Bool, false, List, [], ◌∷◌, ◌++◌, Option, Some, None, is_some, map, length, slice_index, slice_index_or, slice_set, if◌then◌else◌, refl, sym, ap, ◌∙◌, subst, arith}
+use Rattle.std.proofs.Common.{◌≡◌, ◌+◌, ◌^◌, ◌<◌, inr, ℕ, Bool, false, List, [], ◌∷◌, ◌++◌, Option, Some, None, is_some, map, length, slice_index, slice_index_or, slice_set, if◌then◌else◌, refl, sym, ap, ◌∙◌, subst, arith}
 use Rattle.std.specs.Prelude.{Ok, Err}
 use Rattle.std.specs.Option.{option_map}
 use Rattle.std.specs.Global.{Vec}
@@ -53,7 +53,7 @@ pub stack-entries : (h : Environment) → IsTied h → (s : ℕ) (x : Stack Body
     (es : List (Entry Val)) × IsStack (desk_of h) s (cell_in x) es
 stack-entries h t s x mine =
     let named = stack-cell h s x mine in
-    let first = t.sound.lists.lists (cell_in x) (s, named) in
+    let first = t.sound.lists.lists (cell_in x) (inr (s, named)) in
     (first.0, record { named = named; list = first.1 })
 
 pub is-stack : (h : Environment) (s : ℕ) (x : Stack Body) → Some x ≡ slice_index_or h.stacks.entries.items s None → IsStackName (desk_of h) s

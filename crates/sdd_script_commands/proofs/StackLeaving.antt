@@ -1,18 +1,18 @@
--- A stack is closed under a guard that is opened for it: who is there meanwhile, and whose handles are known
-use Rattle.std.proofs.Common.{◌≡◌, ◌<◌, ℕ, zero, suc, List, refl, sym, ap, ◌∙◌, arith, lt-ltb, subst, slice_index_or}
-use Rattle.std.specs.Prelude.{IsTrue}
+-- A queue or a stack is closed under a guard that is opened for it: who is there meanwhile, and whose handles are known
+use Rattle.std.proofs.Common.{◌≡◌, ◌<◌, ℕ, zero, suc, List, sym, ◌∙◌, arith, lt-ltb, Option}
 use Rattle.std.proofs.lemmas.List.{get_or_default}
-use Rattle.sdd_participants.specs.EpochState.{CanNest, is_open, nobody}
+use Rattle.sdd_participants.specs.EpochState.{CanNest, nobody}
 use Rattle.sdd_space.specs.World.{World, AnyGuardOpen, IsPlaceOf, place_at}
-use Rattle.sdd_space.specs.WorldChanges.{opened}
+use Rattle.sdd_space.specs.WorldChanges.{opened, spilled, without_cell}
 use Rattle.sdd_lists.specs.Lists.{Entry}
-use Rattle.sdd_core.specs.declared.tag.Tag.TheVariants.{None as no_tag}
+use Rattle.sdd_lists.specs.Queue.{QueueCells, queue_closed}
 use Rattle.sdd_script_model.specs.Stacks.{stack_closed}
-use Rattle.sdd_script_model.specs.Val.{Val, holdings_of}
+use Rattle.sdd_script_model.specs.Val.{Val, holdings_of, link_of}
 use Rattle.sdd_script_model.proofs.Attending.{live-by, opens-one}
 use Rattle.sdd_script_model.proofs.Stocked.{slots-opened}
 use Rattle.sdd_script_commands.specs.Leaving.{revived}
-use Rattle.sdd_script_commands.proofs.StackEnding.{lets-emptied}
+use Rattle.sdd_script_commands.proofs.Ending.{LetsGo}
+use Rattle.sdd_script_commands.proofs.ListEnding.{lets-emptied, lets-spilled, lets-then}
 
 if-none : (n : ℕ) → (0 < n → ⊥) → (m : ℕ) → 0 < m → n < m
 if-none zero never m some = some
@@ -45,3 +45,18 @@ module _ (w : World Val) (p : ℕ) (live : IsPlaceOf (revived w p) p) where
 
     pub closed-home : (stack_closed open_world p c es).home ≡ w.home
     closed-home = (lets-emptied p c es open_world).home ∙ open-home
+
+  module _ (q : QueueCells) (es : List (Entry Val)) (second : Option ℕ) where
+    abbrev freed : World Val
+    freed = spilled (without_cell open_world q.newest) p second
+
+    lets : LetsGo (without_cell open_world q.newest) (queue_closed link_of open_world p q es second)
+    lets =
+        let more = lets-then (lets-spilled (without_cell open_world q.newest) p second) (lets-emptied p q.oldest es freed) in
+        record { home = more.home; tally = more.tally; phases = more.phases; places = more.places; guards = more.guards; jobs = more.jobs }
+
+    pub queue_closed-live : IsPlaceOf (queue_closed link_of open_world p q es second) p
+    queue_closed-live = live-by open_world.time (queue_closed link_of open_world p q es second).time lets.phases lets.places p open-live
+
+    pub queue_closed-home : (queue_closed link_of open_world p q es second).home ≡ w.home
+    queue_closed-home = lets.home ∙ open-home

@@ -4,6 +4,7 @@ use Rattle.sdd_script_model.specs.declared.owner_kind.OwnerKind.{OwnerKind}
 use Rattle.sdd_script_text.specs.declared.call.Value.{Value}
 use Rattle.sdd_script_text.specs.declared.call.Action.{Action}
 use Rattle.sdd_script_text.specs.declared.call.Action.TheVariants as call
+use Rattle.sdd_script_text.specs.declared.name.ListName.TheVariants as list
 use Rattle.sdd_script_text.specs.declared.name.OwnerName.{OwnerName}
 use Rattle.sdd_script_text.specs.declared.name.ItemName.{ItemName}
 use Rattle.sdd_script_model.specs.declared.link_change.LinkChange.{LinkChange}
@@ -65,13 +66,30 @@ IsLinkAct (call.Delete item) = Unit {0}
 IsLinkAct (call.LinkTag item) = Unit {0}
 IsLinkAct other = ⊥
 
+-- an action on a queue
+abbrev pub IsQueueAct : Action → Type 0
+IsQueueAct call.Queue = Unit {0}
+IsQueueAct (call.Enqueue queue number guard) = Unit {0}
+IsQueueAct (call.Dequeue queue guard) = Unit {0}
+IsQueueAct (call.CloseQueue queue) = Unit {0}
+IsQueueAct other = ⊥
+
 -- an action on a stack
 abbrev pub IsStackAct : Action → Type 0
 IsStackAct call.Stack = Unit {0}
 IsStackAct (call.Push stack number guard) = Unit {0}
+IsStackAct (call.PushIf (list.Stack stack) number newest guard) = Unit {0}
 IsStackAct (call.Pop stack guard) = Unit {0}
+IsStackAct (call.PopIf (list.Stack stack) first guard) = Unit {0}
 IsStackAct (call.CloseStack stack) = Unit {0}
 IsStackAct other = ⊥
+
+-- an action that is told of a container's entries
+abbrev pub IsListAct : Action → Type 0
+IsListAct (call.Peek container guard) = Unit {0}
+IsListAct (call.Len container guard) = Unit {0}
+IsListAct (call.List container guard) = Unit {0}
+IsListAct other = ⊥
 
 -- the line that changes a link so
 abbrev pub changing : LinkChange → ItemName → Action

@@ -1,17 +1,18 @@
 //! The end of a script's world.
 ghost use Rattle.std.specs.Prelude.{◌≡◌, ◌≢◌, ◌↔◌, ◌+◌, ◌<◌, ℕ, IsSome, IsTrue, None, Some, slice_index_or};
+ghost use Rattle.sdd_lists.specs.Queue.{AreOfCells, cells_in};
 ghost use Rattle.sdd_lists.specs.Stack.{cell_in, home_in};
 ghost use Rattle.sdd_participants.specs.EpochState.{phase_at};
 ghost use Rattle.sdd_world.specs.Place.{index_of};
 ghost use Rattle.sdd_participants.specs.declared.standing.Standing.TheVariants.{Raw};
 ghost use Rattle.sdd_space.specs.World.{AnyGuardOpen, IsPlaceOf, standing_at};
-ghost use Rattle.sdd_script_commands.specs.Leaving.{SpendsOwner, SpendsCell, SpendsCollector, SpendsGuard, SpendsStack, LeavesRaw, LeavesStack, BeginsUnder, revived};
+ghost use Rattle.sdd_script_commands.specs.Leaving.{SpendsOwner, SpendsCell, SpendsCollector, SpendsGuard, SpendsQueue, SpendsStack, LeavesRaw, LeavesQueue, LeavesStack, BeginsUnder, IsQueueUnder, revived};
 
 use crate::guards::close_guard;
 use sdd_interpreter::holding::{AnyCell, AnyOwner};
-use sdd_interpreter::turns::{guards, stacks};
+use sdd_interpreter::turns::{guards, queues, stacks};
 use sdd_interpreter::{Environment, Interpreter};
-use sdd_lists::Stack;
+use sdd_lists::{Queue, Stack};
 use sdd_participants::{Standing, Tally};
 use sdd_script_model::{Body, Val};
 use sdd_script_text::{GuardName, PlaceName};
@@ -21,8 +22,8 @@ use sdd_world::inner::{
     standing_of,
 };
 
-/// Every guard is closed, every owner, collector and cell spent, every item given up that is out as raw, and every stack closed; and then the world ends: all
-/// that waits is reclaimed.
+/// Every guard is closed, every owner, collector and cell spent, every item given up that is out as raw, and every queue and stack closed; and then the world
+/// ends: all that waits is reclaimed.
 pub fn close(mut stage: Interpreter) -> Tally
     ensures made { result.made ≡ stage.world.tally.made }
     ensures in_place { result.in_place ≡ stage.world.tally.in_place }
@@ -33,6 +34,7 @@ pub fn close(mut stage: Interpreter) -> Tally
     spend_collectors(&mut stage);
     spend_cells(&mut stage);
     leave_raw_items(&mut stage);
+    spend_queues(&mut stage);
     spend_stacks(&mut stage);
     let Interpreter { hand } = stage;
     let Environment {
@@ -44,6 +46,7 @@ pub fn close(mut stage: Interpreter) -> Tally
         owners,
         cells,
         collectors,
+        queues,
         stacks,
         slots: _,
         names: _,
@@ -56,6 +59,7 @@ pub fn close(mut stage: Interpreter) -> Tally
     owners.destroy_spent();
     cells.destroy_spent();
     collectors.destroy_spent();
+    queues.destroy_spent();
     stacks.destroy_spent();
     world.is_whole();
     match world.close() {
@@ -129,6 +133,51 @@ fn leave_raw_items(stage: &mut Interpreter)
     }
 }
 
+/// Each queue that isn't spent is, where no guard is open and no item out as raw: it is closed, at whatever place is there.
+fn spend_queues(stage: &mut Interpreter)
+    requires shut { (g : ℕ) → slice_index_or stage.old.guards g None ≡ None }
+    requires in_hand { (k : ℕ) → standing_at stage.old.world k ≢ Some Raw }
+    ensures spent { (q : ℕ) → slice_index_or stage.new.queues q None ≡ None }
+    ensures newest { (q : ℕ) → slice_index_or stage.new.newest q None ≡ None }
+    ensures guards { stage.new.guards ≡ stage.old.guards }
+    ensures owners { stage.new.owners ≡ stage.old.owners }
+    ensures cells { stage.new.cells ≡ stage.old.cells }
+    ensures collectors { stage.new.collectors ≡ stage.old.collectors }
+    ensures gone { (k : ℕ) → standing_at stage.new.world k ≢ Some Raw }
+    ensures made { stage.new.world.tally.made ≡ stage.old.world.tally.made }
+    ensures in_place { stage.new.world.tally.in_place ≡ stage.old.world.tally.in_place }
+{
+    for queue in 0..stage.hand.queues.entries.len() {
+        spend_queue(stage, queue as u64);
+    }
+}
+
+fn spend_queue(stage: &mut Interpreter, queue: u64)
+    requires shut { (g : ℕ) → slice_index_or stage.old.guards g None ≡ None }
+    ensures { SpendsQueue queue stage.old stage.new }
+{
+    if let Some(queue) = stage.hand.queues.take(queue) {
+        leave_queue(&mut stage.hand.world, queue);
+    }
+}
+
+/// A queue is closed under a guard at the place of some participant, or at that of one that has ended, which is live again with what it left.
+fn leave_queue(world: &mut World<Val>, queue: Queue<Body>)
+    requires some { (p : ℕ) × IsSome (phase_at world.old.time p) }
+    requires shut { ¬ (AnyGuardOpen world.old) }
+    requires home { AreOfCells world.old.home.cells queue }
+    requires list { (p : ℕ) → IsQueueUnder world.old p (cells_in queue) }
+    ensures { LeavesQueue world.old (cells_in queue) world.new }
+{
+    let place = some_place(world);
+    world.is_whole();
+    let Ok((guard, _)) = guards::open_at(world, &place) else {
+        unreachable!()
+    };
+    queues::close_at(world, &place, queue, &guard);
+    guards::close_at(world, &place, guard);
+}
+
 /// Each stack that isn't spent is, where no guard is open and no item out as raw: it is closed, at whatever place is there.
 fn spend_stacks(stage: &mut Interpreter)
     requires shut { (g : ℕ) → slice_index_or stage.old.guards g None ≡ None }
@@ -138,6 +187,8 @@ fn spend_stacks(stage: &mut Interpreter)
     ensures owners { stage.new.owners ≡ stage.old.owners }
     ensures cells { stage.new.cells ≡ stage.old.cells }
     ensures collectors { stage.new.collectors ≡ stage.old.collectors }
+    ensures queues { stage.new.queues ≡ stage.old.queues }
+    ensures newest { stage.new.newest ≡ stage.old.newest }
     ensures gone { (k : ℕ) → standing_at stage.new.world k ≢ Some Raw }
     ensures made { stage.new.world.tally.made ≡ stage.old.world.tally.made }
     ensures in_place { stage.new.world.tally.in_place ≡ stage.old.world.tally.in_place }

@@ -1,9 +1,12 @@
 //! What participants of a script do: how they come and go, what they do with guards, with items and their owners, with items in their place and out as raw,
-//! with cells and the owners that they hold, with the links of entries, with stacks and with collectors; and the end of a script's world.
+//! with cells and the owners that they hold, with the links of entries, with queues and stacks, what they are told of the entries of containers, and with
+//! collectors; and the end of a script's world.
 #![tactic(auto)]
 
 pub mod cells;
 pub mod collectors;
+pub mod conditions;
+pub mod containers;
 pub mod exchanges;
 mod guard_line;
 pub mod guards;
@@ -13,8 +16,12 @@ pub mod leaving;
 pub mod links;
 pub mod owners;
 pub mod participants;
+pub mod queues;
 pub mod raw;
 pub mod stacks;
 
 pub use guard_line::act_on_guard;
-pub use item_line::{act_on_cell, act_on_held, act_on_item, act_on_link, act_on_raw, act_on_stack};
+pub use item_line::{
+    act_on_cell, act_on_held, act_on_item, act_on_link, act_on_list, act_on_queue, act_on_raw,
+    act_on_stack,
+};

@@ -19,12 +19,12 @@ use Rattle.sdd_space.proofs.Rights.{held-cell_changed, held-with_value}
 use Rattle.sdd_space.proofs.Whole.{one_where}
 use Rattle.sdd_script_model.specs.Val.{Val, body_of, holdings_of, link_of, owner_in}
 use Rattle.sdd_script_model.specs.Listed.{HasLists, IsListed}
-use Rattle.sdd_script_model.specs.ScriptState.{ScriptState, IsDated, IsStackCell, holding_at, shared_cell}
+use Rattle.sdd_script_model.specs.ScriptState.{ScriptState, IsDated, IsListCell, IsSecondCell, holding_at, shared_cell}
 use Rattle.sdd_script_model.specs.Script.{AreCalls}
-use Rattle.sdd_script_model.specs.Sound.{IsSound, HoldsOnlyOlder, NamesAreAtHome, SlotsHaveNames, named, named_among, stacked}
+use Rattle.sdd_script_model.specs.Sound.{IsSound, HoldsOnlyOlder, NamesAreAtHome, SlotsHaveNames, named, named_among, contained, stacked}
 use Rattle.sdd_script_model.proofs.Attending.{attended-acts, left-entry, pushed-entry}
 use Rattle.sdd_script_model.proofs.Dates.{early-dated}
-use Rattle.sdd_script_model.proofs.Entry.{inside as inside-list}
+use Rattle.sdd_script_model.proofs.Entry.{at-other, inside as inside-list}
 use Rattle.sdd_script_model.proofs.Frames.{Frames, IsQuiet, Passes, frames-on, frames-start, quiet-less}
 use Rattle.sdd_script_model.proofs.JobDates.{by-keeping}
 use Rattle.sdd_script_model.proofs.Kept.{kept-by, were-same}
@@ -32,7 +32,7 @@ use Rattle.sdd_script_model.proofs.Layers.{layered-less}
 use Rattle.sdd_script_model.proofs.Counting.{some-holding, stack-spent}
 use Rattle.sdd_script_model.proofs.Links.{holds-so, same-once}
 use Rattle.sdd_script_model.proofs.ListChanges.{has-beside, has-edited, has-retagged}
-use Rattle.sdd_script_model.proofs.Listed.{has-still, listed-inside}
+use Rattle.sdd_script_model.proofs.Listed.{AreOwn, has-still, listed-inside}
 use Rattle.sdd_script_model.proofs.Stocked.{stocked-as}
 
 -- what has a name is at home
@@ -68,7 +68,7 @@ IsSameLine d new =
 
 -- what is always true is so after calls that pass, of which one is p's
 pub sound-after : (d new : ScriptState) → IsSound d → Passes d.world new.world → IsSameLine d new → IsDated d new → (p : ℕ) → IsPlaceOf d.world p →
-    SlotsHaveNames new → IsLedger holdings_of (λ u. named new u + stacked new.stacks u) new.world → HasLists (IsStackCell new) new.world →
+    SlotsHaveNames new → IsLedger holdings_of (λ u. named new u + contained new u) new.world → HasLists (IsListCell new) (IsSecondCell new) new.world →
     HoldsOnlyOlder new → NamesAreAtHome new → new.world.tally.made ≡ length new.slots → IsSound new
 sound-after d new s passes (moment, places, guards, jobs, deferred, job_dates) dated p live stocked ledger lists layered home made =
     let were = were-same d new places passes.guards.guards in
@@ -89,18 +89,57 @@ sound-after d new s passes (moment, places, guards, jobs, deferred, job_dates) d
 
 -- ---- chains
 
--- the script began the line as d, and so much is outside its world by now, beside its stacks
+-- the script began the line as d, and so much is outside its world by now, beside its queues and stacks
 pub record IsMidway (d : ScriptState) (w : World Val) (outside : Claim → ℕ) : Type 0 where
-  pub ledger : IsLedger holdings_of (λ u. outside u + stacked d.stacks u) w
-  pub lists : HasLists (IsStackCell d) w
+  pub ledger : IsLedger holdings_of (λ u. outside u + contained d u) w
+  pub lists : HasLists (IsListCell d) (IsSecondCell d) w
   pub whole : IsWhole w
   pub frames : Frames d.world w
 
--- a stack is one right to its cell
-pub stack-right : (d : ScriptState) (c : ℕ) → IsStackCell d c → 1 ≤ stacked d.stacks (right_to c)
-stack-right d c (n, named) =
-    let h = some-holding shared_cell refl (holding_at d.stacks n) c named in
-    omega (arith, stack-spent d.stacks n c h.0 h.1 h.2 (right_to c), same-once c)
+-- each name of these is one right to its cell
+pub stacked-right : (hs : List (Option OwnerOrCell)) (n c : ℕ) → shared_cell (holding_at hs n) ≡ Some c → 1 ≤ stacked hs (right_to c)
+stacked-right hs n c named =
+    let h = some-holding shared_cell refl (holding_at hs n) c named in
+    omega (arith, stack-spent hs n c h.0 h.1 h.2 (right_to c), same-once c)
+
+-- two names of the same cell are two rights to it
+pub stacked-twice : (hs : List (Option OwnerOrCell)) (n m c : ℕ) → n ≢ m → shared_cell (holding_at hs n) ≡ Some c → shared_cell (holding_at hs m) ≡ Some c →
+    2 ≤ stacked hs (right_to c)
+stacked-twice hs n m c apart one two =
+    let h = some-holding shared_cell refl (holding_at hs n) c one in
+    let more = stacked-right (slice_set hs n None) m c (ap shared_cell (at-other hs n m None None (λ same. apart (sym same))) ∙ two) in
+    omega (arith, stack-spent hs n c h.0 h.1 h.2 (right_to c), same-once c, more)
+
+-- a list is a queue's right to its cell or a stack's
+list-part : (d : ScriptState) (c : ℕ) → IsListCell d c → 1 ≤ stacked d.queues (right_to c) + stacked d.stacks (right_to c)
+list-part d c (inl (n, named)) = omega (arith, stacked-right d.queues n c named)
+list-part d c (inr (n, named)) = omega (arith, stacked-right d.stacks n c named)
+
+pub list-right : (d : ScriptState) (c : ℕ) → IsListCell d c → 1 ≤ contained d (right_to c)
+list-right d c x = omega (arith, list-part d c x)
+
+pub second-right : (d : ScriptState) (c b : ℕ) → IsSecondCell d c b → 1 ≤ contained d (right_to b)
+second-right d c b (n, oldest, newest) = omega (arith, stacked-right d.newest n b newest)
+
+-- so whatever else is outside, the cells are the script's own
+pub are-own : (d : ScriptState) (w : World Val) (all total : Claim → ℕ) → IsLedger holdings_of total w → ((u : Claim) → contained d u ≤ all u) →
+    ((u : Claim) → all u ≤ total u) → AreOwn (IsListCell d) (IsSecondCell d) all
+are-own d w all total ledger more whole = record {
+  first = λ c x. omega (arith, list-right d c x, more (right_to c));
+  second = λ c b y. omega (arith, second-right d c b y, more (right_to b));
+  two = λ a c b x (n, oldest, newest) same.
+      (let part = list-part d a x in
+      let other : 1 ≤ stacked d.newest (right_to a) = stacked-right d.newest n a (newest ∙ ap (λ (i : ℕ). Some i) (sym same)) in
+      let both : 2 ≤ total (right_to a) = omega (arith, part, other, more (right_to a), whole (right_to a)) in
+      let one = ((ledger-laws holdings_of w).tells total ledger).alone a (omega (arith, both)) in
+      omega (arith, one.1, both));
+}
+
+-- in the middle of a line
+pub own-midway : {d : ScriptState} {w : World Val} {outside : Claim → ℕ} → IsMidway d w outside →
+    AreOwn (IsListCell d) (IsSecondCell d) (λ u. outside u + contained d u)
+own-midway {d} {w} {outside} m =
+    are-own d w (λ u. outside u + contained d u) (λ u. outside u + contained d u) m.ledger (λ u. omega arith) (λ u. omega arith)
 
 pub starts : (d : ScriptState) → IsSound d → IsWhole d.world → IsMidway d d.world (named d)
 starts d s whole = record { ledger = s.ledger; lists = s.lists; whole = whole; frames = frames-start d.world }
@@ -115,40 +154,40 @@ moves {d} {v} {w} {outside} {ins} {outs} m move quiet rest same own =
       kept = (ledger-laws holdings_of v).kept m.whole ins outs w move
 
       all : Claim → ℕ
-      all u = rest u + stacked d.stacks u
+      all u = rest u + contained d u
 
       before : IsLedger holdings_of (λ u. all u + ins u) v
       before u = omega (arith, m.ledger u, same u)
 
-      after : IsLedger holdings_of (λ u. rest u + outs u + stacked d.stacks u) w
+      after : IsLedger holdings_of (λ u. rest u + outs u + contained d u) w
       after u = omega (arith, kept.ledger all before u)
 
-      spares : (c : ℕ) → IsStackCell d c → Sets holdings_of move (right_to c) → ⊥
-      spares c x sets =
-          let mine = stack-right d c x in
+      spares : (c : ℕ) → 1 ≤ contained d (right_to c) → Sets holdings_of move (right_to c) → ⊥
+      spares c mine sets =
           let other = own (right_to c) sets in
           let one = ((ledger-laws holdings_of v).tells (λ u. all u + ins u) before).alone c (omega (arith, other)) in
           omega (arith, one.1, mine, other)
 
-      lists : HasLists (IsStackCell d) w
+      lists : HasLists (IsListCell d) (IsSecondCell d) w
       lists =
-          has-still move m.whole all before (λ u sets. omega (arith, own u sets)) (IsStackCell d) (λ c x. omega (arith, stack-right d c x)) spares m.lists
-          (quiet-less move quiet)
+          has-still move m.whole all before (λ u sets. omega (arith, own u sets)) (IsListCell d) (IsSecondCell d)
+          (are-own d v all (λ u. all u + ins u) before (λ u. omega arith) (λ u. omega arith)) (λ c x. spares c (list-right d c x))
+          (λ c b y. spares b (second-right d c b y)) m.lists (quiet-less move quiet)
 
--- what is outside is no stack's
-pub stack-apart : {d : ScriptState} {w : World Val} {outside : Claim → ℕ} → IsMidway d w outside → (c : ℕ) → 1 ≤ outside (right_to c) → (b : ℕ) →
-    IsStackCell d b → b ≢ c
-stack-apart {d} {w} {outside} m c mine b x same =
-    let other = stack-right d c (subst (λ i. IsStackCell d i) same x) in
-    let one = ((ledger-laws holdings_of w).tells (λ u. outside u + stacked d.stacks u) m.ledger).alone c (omega (arith, mine)) in
+-- what is outside is no queue's or stack's
+pub cell-apart : {d : ScriptState} {w : World Val} {outside : Claim → ℕ} → IsMidway d w outside → (c : ℕ) → 1 ≤ outside (right_to c) → (b : ℕ) →
+    1 ≤ contained d (right_to b) → b ≢ c
+cell-apart {d} {w} {outside} m c mine b x same =
+    let other : 1 ≤ contained d (right_to c) = subst (λ (i : ℕ). 1 ≤ contained d (right_to i)) same x in
+    let one = ((ledger-laws holdings_of w).tells (λ u. outside u + contained d u) m.ledger).alone c (omega (arith, mine)) in
     omega (arith, one.1, mine, other)
 
--- an item of which somebody outside has the one owner is in no stack
+-- an item of which somebody outside has the one owner is in no list
 pub alone-unlisted : {d : ScriptState} {w : World Val} {outside : Claim → ℕ} → IsMidway d w outside → (k : ℕ) → IsAlone (standing_at w k) →
-    1 ≤ outside (owner_of k) → IsListed (IsStackCell d) w k → ⊥
+    1 ≤ outside (owner_of k) → IsListed (IsListCell d) w k → ⊥
 alone-unlisted {d} {w} {outside} m k alone mine at =
-    let inner = listed-inside w (λ u. outside u + stacked d.stacks u) m.ledger (IsStackCell d) k at in
-    let stands = ((ledger-laws holdings_of w).tells (λ u. outside u + stacked d.stacks u) m.ledger).stands k (omega (arith, mine)) in
+    let inner = listed-inside w (λ u. outside u + contained d u) m.ledger (IsListCell d) k at in
+    let stands = ((ledger-laws holdings_of w).tells (λ u. outside u + contained d u) m.ledger).stands k (omega (arith, mine)) in
     by alone stands (omega (arith, mine, inner)) where
       by : {n : ℕ} → IsAlone (standing_at w k) → HasOwners n (standing_at w k) → 2 ≤ n → ⊥
       by (inl owned) (inl one) two = omega (arith, one.1, two)
@@ -170,11 +209,11 @@ tagged-ledger outside w c cell now is same ledger (right_to b) =
 
 module _ {d : ScriptState} {w : World Val} {outside : Claim → ℕ} (m : IsMidway d w outside) (c : ℕ) (cell now : CellContents)
     (is : entry_at w.cells c ≡ Some cell) (same : now.held ≡ cell.held) where
-  pub tagged : HasLists (IsStackCell d) (with_cell w c now) → IsMidway d (with_cell w c now) outside
+  pub tagged : HasLists (IsListCell d) (IsSecondCell d) (with_cell w c now) → IsMidway d (with_cell w c now) outside
   tagged lists =
       let move = changes_cell w c cell now is in
       record {
-        ledger = tagged-ledger (λ u. outside u + stacked d.stacks u) w c cell now is same m.ledger;
+        ledger = tagged-ledger (λ u. outside u + contained d u) w c cell now is same m.ledger;
         lists = lists;
         whole = ((ledger-laws holdings_of w).kept m.whole _ _ (with_cell w c now) move).whole;
         frames = frames-on m.frames m.whole move tt;
@@ -183,15 +222,15 @@ module _ {d : ScriptState} {w : World Val} {outside : Claim → ℕ} (m : IsMidw
   -- such a cell is somebody's outside
   pub retags : 1 ≤ outside (right_to c) → IsMidway d (with_cell w c now) outside
   retags mine =
-      tagged (has-beside (IsStackCell d) w (λ u. outside u + stacked d.stacks u) m.ledger m.lists c (omega (arith, mine)) (stack-apart m c mine) now)
+      tagged (has-beside (IsListCell d) (IsSecondCell d) w (λ u. outside u + contained d u) m.ledger m.lists c (omega (arith, mine))
+      (λ b x. cell-apart m c mine b (list-right d b x)) (λ a b y. cell-apart m c mine b (second-right d a b y)) now)
 
 -- or it is the link of an item
 pub retags-link : {d : ScriptState} {w : World Val} {outside : Claim → ℕ} → IsMidway d w outside → (k : ℕ) (x : Val) (cell now : CellContents) →
     value_at w k ≡ Some x → entry_at w.cells (link_of x) ≡ Some cell → now.held ≡ cell.held → now.tag ≢ Both → IsMidway d (with_cell w (link_of x) now) outside
 retags-link {d} {w} {outside} m k x cell now there is same plain =
     tagged m (link_of x) cell now is same
-    (has-retagged (IsStackCell d) w (λ u. outside u + stacked d.stacks u) m.ledger (λ c y. omega (arith, stack-right d c y)) m.lists k x there cell now is same
-    plain)
+    (has-retagged (IsListCell d) (IsSecondCell d) w (λ u. outside u + contained d u) m.ledger (own-midway m) m.lists k x there cell now is same plain)
 
 -- a value is another in its place, with the same link and the same owner, and somebody outside has its one owner
 pub edited : {d : ScriptState} {w : World Val} {outside : Claim → ℕ} → IsMidway d w outside → (k : ℕ) (was now : Val) → (may : MayInPlace w k) →
@@ -200,7 +239,7 @@ pub edited : {d : ScriptState} {w : World Val} {outside : Claim → ℕ} → IsM
 edited {d} {w} {outside} m k was now may there link body mine =
     record {
       ledger = ledger;
-      lists = has-edited (IsStackCell d) w m.lists k was now there link (alone-unlisted m k may.alone mine);
+      lists = has-edited (IsListCell d) (IsSecondCell d) w m.lists k was now there link (alone-unlisted m k may.alone mine);
       whole = kept.whole;
       frames = frames-on m.frames m.whole move (link, body);
     } where
@@ -214,9 +253,9 @@ edited {d} {w} {outside} m k was now may there link body mine =
       held u = omega (arith, holds-so now u, holds-so was u, ap (λ c. one (right_to c) u) link, ap (λ hs. claims hs u) body)
 
       all : Claim → ℕ
-      all u = outside u + stacked d.stacks u
+      all u = outside u + contained d u
 
-      ledger : IsLedger holdings_of (λ u. outside u + stacked d.stacks u) (with_value w k now)
+      ledger : IsLedger holdings_of (λ u. outside u + contained d u) (with_value w k now)
       ledger (owner_of j) =
           accounted-with_value holdings_of w k now (λ i. all (owner_of i)) (λ i. all (owner_of i)) (inside-list w.values k (ap is_some there))
           (λ i. omega (arith, held (owner_of i), ap (times_held holdings_of i) there)) (λ i. m.ledger (owner_of i)) j
@@ -244,7 +283,14 @@ module _ (d : ScriptState) (w : World Val) (owners cells collectors : List (Opti
         sound = sound-after d left s f.passes (refl, refl, refl, refl, refl, refl) dated p live
             (stocked-as d left s.stocked refl refl dated.long f.slots) (λ u. omega (arith, m.ledger u, same u)) m.lists
             (layered-less d left s.layered f.values refl)
-            (rw f.slots.home (record { owners = home.0; cells = home.1; collectors = home.2; stacks = s.home.stacks }))
+            (rw f.slots.home (record {
+              owners = home.0;
+              cells = home.1;
+              collectors = home.2;
+              queues = s.home.queues;
+              newest = s.home.newest;
+              stacks = s.home.stacks;
+            }))
             (f.slots.made ∙ s.made);
         dated = dated;
         calls = f.passes.calls;

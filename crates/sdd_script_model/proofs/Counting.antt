@@ -29,7 +29,7 @@ use Rattle.sdd_script_model.specs.ScriptState.{ScriptState, holding_at, slot_of,
 use Rattle.sdd_script_model.proofs.Links.{holds-so}
 use Rattle.sdd_script_model.specs.Made.{IsPutIn, owners_left}
 use Rattle.sdd_script_model.specs.Script.{IsOwnerName, owner_as, owners_put, owners_taken, slot_put}
-use Rattle.sdd_script_model.specs.Sound.{IsSound, owns, has_right, named, named_among, named_owners, stacked}
+use Rattle.sdd_script_model.specs.Sound.{IsSound, owns, has_right, named, named_among, named_owners, contained, stacked}
 
 -- the owners of a desk are accounted for, where these have names and the world is this
 abbrev pub AreCounted : ScriptState → World Val → Type 0
@@ -38,8 +38,8 @@ AreCounted d w = IsAccounted holdings_of (named_owners d) w
 pub accounts : (d : ScriptState) → IsSound d → AreCounted d d.world
 accounts d s k = omega (arith, s.ledger (owner_of k))
 
-pub tells : (d : ScriptState) → IsSound d → Tells holdings_of (λ u. named d u + stacked d.stacks u) d.world
-tells d s = (ledger-laws holdings_of d.world).tells (λ u. named d u + stacked d.stacks u) s.ledger
+pub tells : (d : ScriptState) → IsSound d → Tells holdings_of (λ u. named d u + contained d u) d.world
+tells d s = (ledger-laws holdings_of d.world).tells (λ u. named d u + contained d u) s.ledger
 
 -- so many owners of slot k's item are in the body of a value
 abbrev pub times_in : ℕ → Body → ℕ
@@ -133,7 +133,7 @@ module _ (owners cells collectors : List (Option OwnerOrCell)) where
   collector-given h c is (owner_of j) = omega arith
   collector-given h c is (right_to j) = omega (arith, rights-more collectors h j, collector-where h c is j, once-where (c == j))
 
--- ---- stacks
+-- ---- queues and stacks
 
 module _ (stacks : List (Option OwnerOrCell)) where
   pub stack-spent : (n c : ℕ) (h : OwnerOrCell) → holding_at stacks n ≡ Some h → shared_cell (Some h) ≡ Some c → (u : Claim) →
@@ -240,7 +240,7 @@ some-kept f none (Some x ∷ xs) some = elim (cases_lt 0 (f (Some x))) [
 ]
 
 -- a cell that is taken, to which no name is the right, is a value's link
-pub linked : (d : ScriptState) → IsSound d → (c : ℕ) → named d (right_to c) + stacked d.stacks (right_to c) ≡ 0 → IsSome (entry_at d.world.cells c) →
+pub linked : (d : ScriptState) → IsSound d → (c : ℕ) → named d (right_to c) + contained d (right_to c) ≡ 0 → IsSome (entry_at d.world.cells c) →
     (j : ℕ) × (v : Val) × (value_at d.world j ≡ Some v) × (link_of v ≡ c)
 linked d s c none taken =
     let needs : once_if (is_some (entry_at d.world.cells c)) ≡ 1 = ap once_if taken in

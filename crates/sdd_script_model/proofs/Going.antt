@@ -34,12 +34,12 @@ use Rattle.sdd_script_text.specs.declared.call.Value.TheVariants.{Number, Of}
 use Rattle.sdd_script_model.specs.declared.owner_kind.OwnerKind.{OwnerKind}
 use Rattle.sdd_script_model.specs.declared.owner_kind.OwnerKind.TheVariants as ownership
 use Rattle.sdd_script_model.specs.Val.{Val, holdings_of, body_of, link_of}
-use Rattle.sdd_script_model.specs.ScriptState.{ScriptState, OpenSince, BeginsLine, IsDated, IsStackCell, IsStart, IsThere, WaitsAt, shared_cell, date_at, job_date_at, opening_at, holding_at, slot_at, slot_of, sole_slot, shared_slot, in_world, with_guard, with_newcomer, without_participant, without_guard, with_owner, without_owner, with_item, with_job, later}
+use Rattle.sdd_script_model.specs.ScriptState.{ScriptState, OpenSince, BeginsLine, IsDated, IsListCell, IsSecondCell, IsStart, IsThere, WaitsAt, shared_cell, date_at, job_date_at, opening_at, holding_at, slot_at, slot_of, sole_slot, shared_slot, in_world, with_guard, with_newcomer, without_participant, without_guard, with_owner, without_owner, with_item, with_job, later}
 use Rattle.sdd_script_model.specs.Script.AreCalls.{none as no_call, one_more}
 use Rattle.sdd_script_model.specs.Listed.{HasLists}
 use Rattle.sdd_script_model.specs.Made.{IsPutIn, owners_left, put_in}
 use Rattle.sdd_script_model.specs.Shown.{item_in, job_in}
-use Rattle.sdd_script_model.specs.Sound.{IsSound, ParticipantsMatch, stacked, has_right, named, named_among, owns}
+use Rattle.sdd_script_model.specs.Sound.{IsSound, ParticipantsMatch, contained, has_right, named, named_among, owns}
 use Rattle.sdd_script_model.specs.Held.{owners_in, slots_among, places_among, standing_first, holding_first, waits_among}
 use Rattle.sdd_script_model.proofs.Entry.{at-same, not-free}
 use Rattle.sdd_script_model.proofs.Stocked.{stocked-as, stocked-made, slots-same, slots-opened}
@@ -47,7 +47,7 @@ use Rattle.sdd_script_model.proofs.Links.{holds-so, less-shed, null}
 use Rattle.sdd_script_model.proofs.ListChanges.{has-made, has-same}
 use Rattle.sdd_script_model.proofs.Listed.{has-still, listed-inside}
 use Rattle.sdd_script_model.proofs.Frames.{Passes, passes-on}
-use Rattle.sdd_script_model.proofs.Chains.{AtHome, IsMidway, LeavesSound, at_home-given, at_home-spent, finishes, moves, sound-after, stack-right, starts}
+use Rattle.sdd_script_model.proofs.Chains.{AtHome, IsMidway, LeavesSound, at_home-given, at_home-spent, finishes, moves, sound-after, are-own, starts}
 use Rattle.sdd_script_model.proofs.Attending.{keeps-time, keeps-deferred, attended-acts, attended-later, attended-start, attended-registered, attended-ended, attended-closed, attended-opened}
 use Rattle.sdd_script_model.proofs.Attending as attending
 use Rattle.sdd_script_model.proofs.Kept as kept
@@ -94,13 +94,13 @@ none-there : {X : Type 0} (x : Option X) → is_some x ≡ false → x ≡ None
 none-there None none = refl
 none-there (Some x) none = absurd (cc)
 
--- the link of an item that waits holds nothing: what is in a stack has an owner there
+-- the link of an item that waits holds nothing: what is in a list has an owner there
 pub waiting-bare : (d : ScriptState) → IsSound d → (k : ℕ) (v : Val) → value_at d.world k ≡ Some v → is_waiting (standing_at d.world k) ≡ true →
     held_in (entry_at d.world.cells (link_of v)) ≡ None
 waiting-bare d s k v there waits = elim (s.lists.linked k v there) [
   | inl none ↦ none
   | inr at ↦
-      (let inner = listed-inside d.world (λ u. named d u + stacked d.stacks u) s.ledger (IsStackCell d) k at in
+      (let inner = listed-inside d.world (λ u. named d u + contained d u) s.ledger (IsListCell d) k at in
       let stands = (tells d s).stands k (omega (arith, inner)) in
       let out : is_out (standing_at d.world k) ≡ true = elim stands [ inl owned ↦ ap is_out owned.0 | inr shared ↦ ap is_out shared.1 ] in
       absurd (let never : false ≡ true = sym (out-waits-not (standing_at d.world k) out) ∙ waits in cc))
@@ -144,9 +144,16 @@ module _ (d : ScriptState) (s : IsSound d) where
           record {
             stocked = stocked-as d met s.stocked refl refl refl (slots-same d.world met.world refl refl refl);
             ledger = s.ledger;
-            lists = has-same (IsStackCell d) d.world met.world refl refl s.lists;
+            lists = has-same (IsListCell d) (IsSecondCell d) d.world met.world refl refl s.lists;
             layered = s.layered;
-            home = record { owners = s.home.owners; cells = s.home.cells; collectors = s.home.collectors; stacks = s.home.stacks };
+            home = record {
+              owners = s.home.owners;
+              cells = s.home.cells;
+              collectors = s.home.collectors;
+              queues = s.home.queues;
+              newest = s.home.newest;
+              stacks = s.home.stacks;
+            };
             attended = attended;
             kept = kept-call d met s.kept dated whole call were;
             early = early-dated d met dated (omega arith) s.early;
@@ -192,9 +199,16 @@ module _ (d : ScriptState) (s : IsSound d) where
           record {
             stocked = stocked-as d after_deferred s.stocked refl refl refl (slots-same d.world after_deferred.world refl refl refl);
             ledger = s.ledger;
-            lists = has-same (IsStackCell d) d.world after_deferred.world refl refl s.lists;
+            lists = has-same (IsListCell d) (IsSecondCell d) d.world after_deferred.world refl refl s.lists;
             layered = s.layered;
-            home = record { owners = s.home.owners; cells = s.home.cells; collectors = s.home.collectors; stacks = s.home.stacks };
+            home = record {
+              owners = s.home.owners;
+              cells = s.home.cells;
+              collectors = s.home.collectors;
+              queues = s.home.queues;
+              newest = s.home.newest;
+              stacks = s.home.stacks;
+            };
             attended = attended-acts d after_deferred s.attended keeps refl refl (omega arith) p live;
             kept = kept-call d after_deferred s.kept dated-deferred whole (defers d.world p k live free) were;
             early = early-dated d after_deferred dated-deferred (omega arith) s.early;
@@ -307,10 +321,10 @@ module _ (d : ScriptState) (s : IsSound d) where
           passes-on celled.frames.slots celled.frames.passes celled.whole (makes_item (nulled d.world c) k v (standing_first own) (first own) slot)
           (keeps-time (nulled d.world c) after_made.world refl) refl
 
-      lists-made : HasLists (IsStackCell d) after_made.world
+      lists-made : HasLists (IsListCell d) (IsSecondCell d) after_made.world
       lists-made =
           let free = none-there (value_at d.world k) (filled-there d.world k whole.filled ∙ ap is_some slot.1) in
-          has-made (IsStackCell d) (nulled d.world c) after_made.world k v celled.lists refl refl free
+          has-made (IsListCell d) (IsSecondCell d) (nulled d.world c) after_made.world k v celled.lists refl refl free
           (ap (λ i. held_in (entry_at (nulled d.world c).cells i)) link ∙ ap held_in (at-same d.world.cells c (Some null) None cell.0))
           (omega (arith, slot.0, filled-long d.world.values d.world.standings whole.filled))
 
@@ -325,7 +339,7 @@ module _ (d : ScriptState) (s : IsSound d) where
             (stocked-made d k s.stocked slot after_made (standing_first own) refl refl refl refl)
             (λ u. omega (
               arith,
-              item.ledger (λ x. rest x + stacked d.stacks x) (λ x. omega (arith, celled.ledger x, put-inside x)) u,
+              item.ledger (λ x. rest x + contained d x) (λ x. omega (arith, celled.ledger x, put-inside x)) u,
               owner-given (owners_left d.owners value) d.cells d.collectors (holding_first own k d.world.home.slots) k (its-slot own) u,
             ))
             lists-made
@@ -335,6 +349,8 @@ module _ (d : ScriptState) (s : IsSound d) where
               owners = at_home-given d.world.home (owners_left d.owners value) (holding_first own k d.world.home.slots) (its-home own) (at_home-left value);
               cells = s.home.cells;
               collectors = s.home.collectors;
+              queues = s.home.queues;
+              newest = s.home.newest;
               stacks = s.home.stacks;
             })
             (omega (arith, s.made, few, length_push d.slots k));
@@ -367,14 +383,18 @@ module _ (d : ScriptState) (s : IsSound d) where
           let kept = (ledger-laws holdings_of d.world).kept whole nothing nothing _ (opens d.world x.place live) in
           record {
             stocked = stocked-as d after_opening s.stocked refl refl long slots;
-            ledger = λ u. omega (arith, kept.ledger (λ y. named d y + stacked d.stacks y) (λ y. omega (arith, s.ledger y)) u);
-            lists = has-still (opens d.world x.place live) whole (λ y. named d y + stacked d.stacks y) (λ y. omega (arith, s.ledger y)) (λ u never. absurd never)
-                (IsStackCell d) (λ c at. omega (arith, stack-right d c at)) (λ c at never. never) s.lists (less-shed shed);
+            ledger = λ u. omega (arith, kept.ledger (λ y. named d y + contained d y) (λ y. omega (arith, s.ledger y)) u);
+            lists = has-still (opens d.world x.place live) whole (λ y. named d y + contained d y) (λ y. omega (arith, s.ledger y)) (λ u never. absurd never)
+                (IsListCell d) (IsSecondCell d)
+                (are-own d d.world (λ y. named d y + contained d y) (λ y. named d y + contained d y) s.ledger (λ y. omega arith) (λ y. omega arith))
+                (λ c at never. never) (λ c b y never. never) s.lists (less-shed shed);
             layered = layered-less d after_opening s.layered (less-shed shed) refl;
             home = record {
               owners = rw slots.home s.home.owners;
               cells = rw slots.home s.home.cells;
               collectors = rw slots.home s.home.collectors;
+              queues = rw slots.home s.home.queues;
+              newest = rw slots.home s.home.newest;
               stacks = rw slots.home s.home.stacks;
             };
             attended = attended-opened d s.attended n x there after_opening refl refl refl (omega arith);
@@ -430,11 +450,12 @@ sound-start l d start names ranges = record {
     dates = ap length start.dates ∙ length-replicate l.slots 0 ∙ sym long;
     few = omega (arith, names, ranges.slots);
   };
-  ledger = λ u. omega (arith, none-named u, none-stacked u, (ledger-laws holdings_of d.world).blank _ l.slots l.cells l.jobs start.world u);
+  ledger = λ u. omega (arith, none-named u, none-contained u, (ledger-laws holdings_of d.world).blank _ l.slots l.cells l.jobs start.world u);
   lists = record {
-    lists = λ c at. absurd (no-stack c at);
-    apart = λ b c k es fs x y one two at also. absurd (no-stack b x);
+    lists = λ c at. absurd (no-list c at);
+    apart = λ b c k es fs x y one two at also. absurd (no-list b x);
     linked = λ k v e. absurd (let never : None ≡ Some v = sym (values k) ∙ e in cc);
+    second = λ c b (n, oldest, newest). absurd (no-list c (inl (n, oldest)));
   };
   layered = λ j k some. absurd (let none : times_held holdings_of k (value_at d.world j) ≡ 0 = ap (times_held holdings_of k) (values j) in omega (
     arith,
@@ -445,6 +466,8 @@ sound-start l d start names ranges = record {
     owners = λ n h e. absurd (let never : None ≡ Some h = sym (ap (λ hs. holding_at hs n) start.owners) ∙ e in cc);
     cells = λ n h e. absurd (let never : None ≡ Some h = sym (ap (λ hs. holding_at hs n) start.cells) ∙ e in cc);
     collectors = λ n h e. absurd (let never : None ≡ Some h = sym (ap (λ hs. holding_at hs n) start.collectors) ∙ e in cc);
+    queues = λ n h e. absurd (let never : None ≡ Some h = sym (ap (λ hs. holding_at hs n) start.queues) ∙ e in cc);
+    newest = λ n h e. absurd (let never : None ≡ Some h = sym (ap (λ hs. holding_at hs n) start.newest) ∙ e in cc);
     stacks = λ n h e. absurd (let never : None ≡ Some h = sym (ap (λ hs. holding_at hs n) start.stacks) ∙ e in cc);
   };
   attended = attended-start d start;
@@ -471,12 +494,14 @@ sound-start l d start names ranges = record {
   long : length d.world.standings ≡ l.slots
   long = ap length start.world.standings ∙ length-replicate l.slots None
 
-  no-stack : (c : ℕ) → IsStackCell d c → ⊥
-  no-stack c (n, is) = let never : None ≡ Some c = sym (ap (λ hs. shared_cell (holding_at hs n)) start.stacks) ∙ is in cc
+  no-list : (c : ℕ) → IsListCell d c → ⊥
+  no-list c (inl (n, is)) = let never : None ≡ Some c = sym (ap (λ hs. shared_cell (holding_at hs n)) start.queues) ∙ is in cc
+  no-list c (inr (n, is)) = let never : None ≡ Some c = sym (ap (λ hs. shared_cell (holding_at hs n)) start.stacks) ∙ is in cc
 
-  none-stacked : (u : Claim) → stacked d.stacks u ≡ 0
-  none-stacked (owner_of k) = refl
-  none-stacked (right_to c) = ap (count_by (has_right c)) start.stacks
+  none-contained : (u : Claim) → contained d u ≡ 0
+  none-contained (owner_of k) = refl
+  none-contained (right_to c) =
+      omega (arith, ap (count_by (has_right c)) start.queues, ap (count_by (has_right c)) start.newest, ap (count_by (has_right c)) start.stacks)
 
   none-named : (u : Claim) → named d u ≡ 0
   none-named (owner_of k) = ap (count_by (owns k)) start.owners
@@ -489,7 +514,14 @@ sound-later d s = record {
   ledger = s.ledger;
   lists = s.lists;
   layered = s.layered;
-  home = record { owners = s.home.owners; cells = s.home.cells; collectors = s.home.collectors; stacks = s.home.stacks };
+  home = record {
+    owners = s.home.owners;
+    cells = s.home.cells;
+    collectors = s.home.collectors;
+    queues = s.home.queues;
+    newest = s.home.newest;
+    stacks = s.home.stacks;
+  };
   attended = attended-later d s.attended;
   kept = kept-later d s.kept;
   early = early-later d s.early;

@@ -26,7 +26,7 @@ use Rattle.sdd_script_text.specs.declared.answer.Reply.TheVariants as reply
 use Rattle.sdd_script_model.specs.declared.val.Body.{Body}
 use Rattle.sdd_script_model.specs.Val.{Val, holdings_of, body_of, link_of, link_home, owner_in, renumbered}
 use Rattle.sdd_script_model.specs.declared.val.Body.TheVariants as body
-use Rattle.sdd_script_model.specs.ScriptState.{ScriptState, IsDated, IsStackCell, holding_at, slot_of, sole_slot, shared_slot, in_world, with_owner, without_owner}
+use Rattle.sdd_script_model.specs.ScriptState.{ScriptState, IsDated, IsListCell, holding_at, slot_of, sole_slot, shared_slot, in_world, with_owner, without_owner}
 use Rattle.sdd_script_model.specs.Held.{slot_held, slots_of, slots_in}
 use Rattle.sdd_script_model.specs.InPlace.{Puts, Drops}
 use Rattle.sdd_script_model.specs.Sound.{IsSound, named, named_among, named_owners}
@@ -73,8 +73,8 @@ owner-outside d o k slot =
     omega (arith, owner-spent d.owners d.cells d.collectors o k h.0 h.1 h.2 (owner_of k), same-once k)
 
 module _ (d : ScriptState) (s : IsSound d) (whole : IsWhole d.world) (p k : ℕ) (live : IsPlaceOf d.world p) where
-  -- the link of an item that is in no stack holds nothing
-  unlisted-bare : (j : ℕ) (v : Val) → value_at d.world j ≡ Some v → (IsListed (IsStackCell d) d.world j → ⊥) →
+  -- the link of an item that is in no list holds nothing
+  unlisted-bare : (j : ℕ) (v : Val) → value_at d.world j ≡ Some v → (IsListed (IsListCell d) d.world j → ⊥) →
       held_in (entry_at d.world.cells (link_of v)) ≡ None
   unlisted-bare j v there not = elim (s.lists.linked j v there) [ inl none ↦ none | inr at ↦ absurd (not at) ]
 

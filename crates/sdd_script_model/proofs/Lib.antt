@@ -20,6 +20,10 @@ pub mod StackChains
 pub mod Going
 pub mod StackGoing
 pub mod StackPushing
+pub mod QueueGoing
+pub mod QueueEnds
+pub mod QueuePushing
+pub mod QueueTurns
 pub mod WaitingFor
 pub mod Collected
 pub mod CollectorGoing

@@ -18,12 +18,13 @@ use Rattle.sdd_lists.proofs.Leaving.{list-apart, list-without}
 use Rattle.sdd_lists.proofs.Lists.{bare, behind, list-same}
 use Rattle.sdd_lists.proofs.Marking.{retagged-list}
 use Rattle.sdd_lists.proofs.Pushing.{pushed}
-use Rattle.sdd_script_model.specs.Listed.{AreNumbers, Begins, HasLists, IsListed, IsNumber}
+use Rattle.sdd_lists.specs.Queue.{IsNoneOrAmong}
+use Rattle.sdd_script_model.specs.Listed.{AreNumbers, Begins, HasLists, HoldsEntry, IsListed, IsNumber}
 use Rattle.sdd_script_model.specs.Val.{Val, body_of, holdings_of, link_of}
 use Rattle.sdd_script_model.proofs.Entry.{at-other, at-same, inside, set-either}
 use Rattle.sdd_script_model.proofs.Links.{null}
 use Rattle.sdd_space.proofs.Entries.{once-waits}
-use Rattle.sdd_script_model.proofs.Listed.{link-inside, IsAsBefore, among-link, apart-item, apart-own, as-before, has-changed, has-kept, link-apart, links-apart, same-list}
+use Rattle.sdd_script_model.proofs.Listed.{AreOwn, link-inside, IsAsBefore, among-link, apart-item, apart-own, as-before, has-changed, has-kept, link-apart, links-apart, same-list}
 
 -- two cells are written, and nothing else changes in cells and values: what list stays, and what a third cell holds
 module _ (v w : World Val) (l c : ℕ) (x y : CellContents) (cells : w.cells ≡ slice_set (slice_set v.cells l (Some x)) c (Some y))
@@ -49,8 +50,13 @@ module _ (v w : World Val) (l c : ℕ) (x y : CellContents) (cells : w.cells ≡
 
 -- ---- the first entry is let go of
 
-module _ (begins : ℕ → Type 0) (v : World Val) (outside : Claim → ℕ) (ledger : IsLedger holdings_of outside v)
-    (mine : (b : ℕ) → begins b → 1 ≤ outside (right_to b)) (had : HasLists begins v) (c : ℕ) (its : begins c) where
+module _ (begins : ℕ → Type 0) (seconds : (c b : ℕ) → Type 0) (v : World Val) (outside : Claim → ℕ) (ledger : IsLedger holdings_of outside v)
+    (own : AreOwn begins seconds outside) (had : HasLists begins seconds v) (c : ℕ) (its : begins c)
+    (single : (b : ℕ) → seconds c b → ⊥) where
+  -- a second cell is not a value's link, nor the first cell of a list
+  second-apart : (a b s : ℕ) (x : Val) → seconds a b → value_at v s ≡ Some x → (b ≢ link_of x) × (b ≢ c)
+  second-apart a b s x y at = (link-apart v outside ledger b s x (own.second a b y) at, (λ same. own.two c a b its y (sym same)))
+
   module _ (p : ℕ) (e : Entry Val) (es : List (Entry Val)) (old : Begins v c (e ∷ es)) (numbers : AreNumbers (e ∷ es)) where
     abbrev gone : CellContents
     gone = record { held = None; tag = Second }
@@ -75,15 +81,15 @@ module _ (begins : ℕ → Type 0) (v : World Val) (outside : Claim → ℕ) (le
 
     forward : (b : ℕ) → begins b → b ≢ c → (gs : List (Entry Val)) → Begins v b gs → Begins w b gs
     forward b x far gs list =
-        list-beside v w (link_of e.value) c gone next cells values b gs (link-apart v outside ledger b e.slot e.value (mine b x) there) far
+        list-beside v w (link_of e.value) c gone next cells values b gs (link-apart v outside ledger b e.slot e.value (own.first b x) there) far
         (apart-item v outside ledger e.slot e.value there gs list.linked (λ among. far (had.apart b c e.slot gs (e ∷ es) x its list old among (inl refl))))
-        (apart-own v outside ledger c (mine c its) gs list.linked) list
+        (apart-own v outside ledger c (own.first c its) gs list.linked) list
 
     links : (s : ℕ) (z : Val) → value_at w s ≡ Some z → (held_in (entry_at w.cells (link_of z)) ≡ None) ⊎ (IsAmong s es
         ⊎ ((at : IsListed begins v s) × (at.cell ≢ c)))
     links s z e_now =
         let was = value-was v w (link_of e.value) c gone next cells values s z e_now in
-        let off : link_of z ≢ c = λ same. link-apart v outside ledger c s z (mine c its) was (sym same) in
+        let off : link_of z ≢ c = λ same. link-apart v outside ledger c s z (own.first c its) was (sym same) in
         elim (had.linked s z was) [
           | inl none ↦ inl (none-still v w (link_of e.value) c gone next cells values (link_of z) off refl none)
           | inr at ↦ elim (cases_eq at.cell c) [
@@ -103,8 +109,12 @@ module _ (begins : ℕ → Type 0) (v : World Val) (outside : Claim → ℕ) (le
           ]
         ]
 
-    pub has-let_go : HasLists begins w
-    has-let_go = has-changed begins v w had c its (e ∷ es) es old new numbers.1 forward (λ s among. inl (inr among)) links
+    stays : (a b : ℕ) → seconds a b → entry_at w.cells b ≡ entry_at v.cells b
+    stays a b y =
+        let far = second-apart a b e.slot e.value y there in third v w (link_of e.value) c gone next cells values b far.0 far.1
+
+    pub has-let_go : HasLists begins seconds w
+    has-let_go = has-changed begins seconds v w had c its single stays (e ∷ es) es old new numbers.1 forward (λ s among. inl (inr among)) links
 
   -- ---- an item is put in front, whose link holds nothing
 
@@ -123,7 +133,7 @@ module _ (begins : ℕ → Type 0) (v : World Val) (outside : Claim → ℕ) (le
     wider = linked_in v c no_tag (link_of x) k (first_slot es)
 
     far-link : c ≢ link_of x
-    far-link = link-apart v outside ledger c k x (mine c its) there
+    far-link = link-apart v outside ledger c k x (own.first c its) there
 
     not-in : (b : ℕ) → begins b → (gs : List (Entry Val)) → Begins v b gs → IsAmong k gs → ⊥
     not-in b y gs list among = alone (record { cell = b; entries = gs; begun = y; list = list; among = among })
@@ -133,8 +143,8 @@ module _ (begins : ℕ → Type 0) (v : World Val) (outside : Claim → ℕ) (le
 
     kept-others : (b : ℕ) → begins b → b ≢ c → (gs : List (Entry Val)) → Begins v b gs → Begins wider b gs
     kept-others b y far gs list =
-        list-beside v wider (link_of x) c behind_it in_front refl refl b gs (link-apart v outside ledger b k x (mine b y) there) far
-        (apart-item v outside ledger k x there gs list.linked (not-in b y gs list)) (apart-own v outside ledger c (mine c its) gs list.linked) list
+        list-beside v wider (link_of x) c behind_it in_front refl refl b gs (link-apart v outside ledger b k x (own.first b y) there) far
+        (apart-item v outside ledger k x there gs list.linked (not-in b y gs list)) (apart-own v outside ledger c (own.first c its) gs list.linked) list
 
     fresh-or : (s : ℕ) → IsAmong s (entry ∷ es) → IsAmong s es ⊎ (IsListed begins v s → ⊥)
     fresh-or s (inl here) = inr (λ at. alone (subst (λ i. IsListed begins v i) (sym here) at))
@@ -147,7 +157,7 @@ module _ (begins : ℕ → Type 0) (v : World Val) (outside : Claim → ℕ) (le
       | inr far ↦ elim (had.linked s z was) [
         | inl none ↦
             inl (ap held_in (third v wider (link_of x) c behind_it in_front refl refl (link_of z) far
-            (λ same. link-apart v outside ledger c s z (mine c its) was (sym same))) ∙ none)
+            (λ same. link-apart v outside ledger c s z (own.first c its) was (sym same))) ∙ none)
         | inr at ↦ elim (cases_eq at.cell c) [
           | inl same ↦
               inr (inl (inr (subst (λ fs. IsAmong s fs)
@@ -157,8 +167,13 @@ module _ (begins : ℕ → Type 0) (v : World Val) (outside : Claim → ℕ) (le
       ]
     ]
 
-    pub has-put_in : HasLists begins wider
-    has-put_in = has-changed begins v wider had c its es (entry ∷ es) old longer (number, numbers) kept-others fresh-or linked-or
+    seconds-stay : (a b : ℕ) → seconds a b → entry_at wider.cells b ≡ entry_at v.cells b
+    seconds-stay a b y =
+        let far = second-apart a b k x y there in third v wider (link_of x) c behind_it in_front refl refl b far.0 far.1
+
+    pub has-put_in : HasLists begins seconds wider
+    has-put_in =
+        has-changed begins seconds v wider had c its single seconds-stay es (entry ∷ es) old longer (number, numbers) kept-others fresh-or linked-or
 
     pub put_in-list : Begins wider c (entry ∷ es)
     put_in-list = longer
@@ -195,7 +210,7 @@ retagged-still k t s [] among = among
 retagged-still k t s (e ∷ es) among = still-by s e t es (retagged k t es) (retagged-still k t s es) among (e.slot == k)
 
 -- an item is an entry of a list, or it is not
-among-or : (s : ℕ) (es : List (Entry Val)) → IsAmong s es ⊎ (IsAmong s es → ⊥)
+pub among-or : (s : ℕ) (es : List (Entry Val)) → IsAmong s es ⊎ (IsAmong s es → ⊥)
 among-or s [] = inr (λ never. never)
 among-or s (e ∷ es) = elim (cases_eq e.slot s) [
   | inl here ↦ inl (inl here)
@@ -205,13 +220,13 @@ among-or s (e ∷ es) = elim (cases_eq e.slot s) [
   ]
 ]
 
-module _ (begins : ℕ → Type 0) (v : World Val) (outside : Claim → ℕ) (ledger : IsLedger holdings_of outside v)
-    (mine : (b : ℕ) → begins b → 1 ≤ outside (right_to b)) (had : HasLists begins v) (k : ℕ) (x : Val) (there : value_at v k ≡ Some x)
+module _ (begins : ℕ → Type 0) (seconds : (c b : ℕ) → Type 0) (v : World Val) (outside : Claim → ℕ) (ledger : IsLedger holdings_of outside v)
+    (own : AreOwn begins seconds outside) (had : HasLists begins seconds v) (k : ℕ) (x : Val) (there : value_at v k ≡ Some x)
     (cell now : CellContents) (holds : entry_at v.cells (link_of x) ≡ Some cell) (same : now.held ≡ cell.held) (plain : now.tag ≢ Both) where
   abbrev tagged : World Val
   tagged = with_cell v (link_of x) now
 
-  retag-list : (b : ℕ) → begins b → (es : List (Entry Val)) → Begins v b es → IsAsBefore begins v tagged had b es
+  retag-list : (b : ℕ) → begins b → (es : List (Entry Val)) → Begins v b es → IsAsBefore begins seconds v tagged had b es
   retag-list b y es list = elim (among-or k es) [
     | inl among ↦
         (let at = among-link v k x es list.linked among there in
@@ -231,13 +246,13 @@ module _ (begins : ℕ → Type 0) (v : World Val) (outside : Claim → ℕ) (le
           still = λ s also. retagged-still at.0.slot now.tag s es also;
         })
     | inr not ↦
-        as-before (list-apart link_of v tagged b no_tag es (link_of x) now refl refl (link-apart v outside ledger b k x (mine b y) there)
+        as-before (list-apart link_of v tagged b no_tag es (link_of x) now refl refl (link-apart v outside ledger b k x (own.first b y) there)
         (apart-item v outside ledger k x there es list.linked not) list)
   ]
 
-  pub has-retagged : HasLists begins tagged
+  pub has-retagged : HasLists begins seconds tagged
   has-retagged =
-      has-kept begins v tagged had retag-list
+      has-kept begins seconds v tagged had retag-list
       (λ s z e. elim (had.linked s z e) [
         | inl none ↦ elim (cases_eq (link_of z) (link_of x)) [
           | inl is ↦
@@ -249,10 +264,11 @@ module _ (begins : ℕ → Type 0) (v : World Val) (outside : Claim → ℕ) (le
         ]
         | inr at ↦ inr at
       ])
+      (λ c b y. at-other v.cells (link_of x) b (Some now) None (link-apart v outside ledger b k x (own.second c b y) there))
 
 -- ---- a list begins in a cell that was free
 
-module _ (begins more : ℕ → Type 0) (v : World Val) (had : HasLists begins v) (c : ℕ) (free : IsEmptyAt v.cells c)
+module _ (begins more : ℕ → Type 0) (seconds : (c b : ℕ) → Type 0) (v : World Val) (had : HasLists begins seconds v) (c : ℕ) (free : IsEmptyAt v.cells c)
     (new : (b : ℕ) → more b → begins b ⊎ (b ≡ c)) (old : (b : ℕ) → begins b → more b) where
   abbrev begun : World Val
   begun = nulled v c
@@ -282,7 +298,7 @@ module _ (begins more : ℕ → Type 0) (v : World Val) (had : HasLists begins v
   had-entry b s es (inr same) list among =
       absurd (subst (λ (fs : List (Entry Val)). IsAmong s fs) (same-list begun c es [] (subst (λ (i : ℕ). Begins begun i es) same list) none-here) among)
 
-  pub has-begun : HasLists more begun
+  pub has-begun : HasLists more seconds begun
   has-begun = record {
     lists = λ b x. lists-begun b (new b x);
     apart = λ a b s es fs x y one two at also.
@@ -300,19 +316,33 @@ module _ (begins more : ℕ → Type 0) (v : World Val) (had : HasLists begins v
             among = at.among;
           })
     ];
+    second = λ a b y.
+        (let its = had.second a b y in (
+          old a its.0,
+          (λ es list.
+              let was = had.lists a its.0 in
+              let held = its.1 was.0 was.1 in
+              record {
+                second = held.second;
+                holds = at-other v.cells c b (Some null) None (off b _ held.holds) ∙ held.holds;
+                among = subst (λ (fs : List (Entry Val)). IsNoneOrAmong held.second fs) (same-list begun a was.0 es (stays-begun a was.0 was.1) list)
+                    held.among;
+              }),
+        ));
   }
 
 -- ---- a list ends that has no entries
 
-module _ (begins fewer : ℕ → Type 0) (v : World Val) (outside : Claim → ℕ) (ledger : IsLedger holdings_of outside v) (had : HasLists begins v) (c : ℕ)
-    (mine : 1 ≤ outside (right_to c)) (empty : Begins v c []) (was : (b : ℕ) → fewer b → begins b × (b ≢ c))
+module _ (begins fewer : ℕ → Type 0) (seconds : (c b : ℕ) → Type 0) (v : World Val) (outside : Claim → ℕ) (ledger : IsLedger holdings_of outside v)
+    (own : AreOwn begins seconds outside) (had : HasLists begins seconds v) (c : ℕ) (its : begins c) (single : (b : ℕ) → seconds c b → ⊥)
+    (empty : Begins v c []) (was : (b : ℕ) → fewer b → begins b × (b ≢ c))
     (kept : (b : ℕ) → begins b → b ≢ c → fewer b) where
   abbrev ended : World Val
   ended = without_cell v c
 
   stays-ended : (b : ℕ) → b ≢ c → (es : List (Entry Val)) → Begins v b es → Begins ended b es
   stays-ended b far es list =
-      list-without link_of v ended b no_tag es c refl refl far (apart-own v outside ledger c mine es list.linked) list
+      list-without link_of v ended b no_tag es c refl refl far (apart-own v outside ledger c (own.first c its) es list.linked) list
 
   was-there : (b : ℕ) (x : fewer b) (es : List (Entry Val)) → Begins ended b es → Begins v b es
   was-there b x es list =
@@ -320,7 +350,7 @@ module _ (begins fewer : ℕ → Type 0) (v : World Val) (outside : Claim → �
       let first = had.lists b had_it.0 in
       subst (λ (fs : List (Entry Val)). Begins v b fs) (same-list ended b first.0 es (stays-ended b had_it.1 first.0 first.1) list) first.1
 
-  pub has-ended : HasLists fewer ended
+  pub has-ended : HasLists fewer seconds ended
   has-ended = record {
     lists = λ b x. (let had_it = was b x in let first = had.lists b had_it.0 in (first.0, stays-ended b had_it.1 first.0 first.1, first.2));
     apart = λ a b s es fs x y one two at also. had.apart a b s es fs (was a x).0 (was b y).0 (was-there a x es one) (was-there b y fs two) at also;
@@ -340,25 +370,42 @@ module _ (begins fewer : ℕ → Type 0) (v : World Val) (outside : Claim → �
             })
       ]
     ];
+    second = λ a b y.
+        (let at = had.second a b y in
+        let far : a ≢ c = λ same. single b (subst (λ (i : ℕ). seconds i b) same y) in (
+          kept a at.0 far,
+          (λ es list.
+              let was = had.lists a at.0 in
+              let held = at.1 was.0 was.1 in
+              record {
+                second = held.second;
+                holds = at-other v.cells c b None None (λ same. own.two c a b its y (sym same)) ∙ held.holds;
+                among = subst (λ (fs : List (Entry Val)). IsNoneOrAmong held.second fs) (same-list ended a was.0 es (stays-ended a far was.0 was.1) list)
+                    held.among;
+              }),
+        ));
   }
 
 -- ---- a cell changes that begins no list, and that somebody has the right to
 
-module _ (begins : ℕ → Type 0) (v : World Val) (outside : Claim → ℕ) (ledger : IsLedger holdings_of outside v) (had : HasLists begins v) (c : ℕ)
-    (mine : 1 ≤ outside (right_to c)) (off : (b : ℕ) → begins b → b ≢ c) (now : CellContents) where
-  pub has-beside : HasLists begins (with_cell v c now)
+module _ (begins : ℕ → Type 0) (seconds : (c b : ℕ) → Type 0) (v : World Val) (outside : Claim → ℕ) (ledger : IsLedger holdings_of outside v)
+    (had : HasLists begins seconds v) (c : ℕ) (mine : 1 ≤ outside (right_to c)) (off : (b : ℕ) → begins b → b ≢ c)
+    (beside : (a b : ℕ) → seconds a b → b ≢ c) (now : CellContents) where
+  pub has-beside : HasLists begins seconds (with_cell v c now)
   has-beside =
-      has-kept begins v (with_cell v c now) had
+      has-kept begins seconds v (with_cell v c now) had
       (λ b x es list. as-before (list-apart link_of v (with_cell v c now) b no_tag es c now refl refl (off b x)
       (apart-own v outside ledger c mine es list.linked) list))
       (λ s z e. elim (had.linked s z e) [
         | inl none ↦ inl (ap held_in (at-other v.cells c (link_of z) (Some now) None (λ same. link-apart v outside ledger c s z mine e (sym same))) ∙ none)
         | inr at ↦ inr at
       ])
+      (λ a b y. at-other v.cells c b (Some now) None (beside a b y))
 
 -- ---- a value changes in its place, of an item that is in no list
 
-module _ (begins : ℕ → Type 0) (v : World Val) (had : HasLists begins v) (k : ℕ) (was now : Val) (there : value_at v k ≡ Some was)
+module _ (begins : ℕ → Type 0) (seconds : (c b : ℕ) → Type 0) (v : World Val) (had : HasLists begins seconds v) (k : ℕ) (was now : Val)
+    (there : value_at v k ≡ Some was)
     (same : link_of now ≡ link_of was) (alone : IsListed begins v k → ⊥) where
   values-kept : (es : List (Entry Val)) → (IsAmong k es → ⊥) → AreLinked link_of v es → AreLinked link_of (with_value v k now) es
   values-kept [] not linked = tt
@@ -371,9 +418,9 @@ module _ (begins : ℕ → Type 0) (v : World Val) (had : HasLists begins v) (k 
     values-kept es (λ more. not (inr more)) linked.1,
   )
 
-  pub has-edited : HasLists begins (with_value v k now)
+  pub has-edited : HasLists begins seconds (with_value v k now)
   has-edited =
-      has-kept begins v (with_value v k now) had
+      has-kept begins seconds v (with_value v k now) had
       (λ b x es list. as-before (record {
         begins = list.begins;
         linked = values-kept es (λ among. alone (record { cell = b; entries = es; begun = x; list = list; among = among })) list.linked;
@@ -390,20 +437,23 @@ module _ (begins : ℕ → Type 0) (v : World Val) (had : HasLists begins v) (k 
             ])
         | inr far ↦ had.linked s z (sym (at-other v.values k s (Some now) None far) ∙ e)
       ])
+      (λ a b y. refl)
 
 -- ---- cells and values are as they were
 
-pub has-same : (begins : ℕ → Type 0) (v w : World Val) → w.cells ≡ v.cells → w.values ≡ v.values → HasLists begins v → HasLists begins w
-has-same begins v w cells values had =
-    has-kept begins v w had (λ b x es list. as-before (list-same link_of v w b no_tag es cells values list))
+pub has-same : (begins : ℕ → Type 0) (seconds : (c b : ℕ) → Type 0) (v w : World Val) → w.cells ≡ v.cells → w.values ≡ v.values →
+    HasLists begins seconds v → HasLists begins seconds w
+has-same begins seconds v w cells values had =
+    has-kept begins seconds v w had (λ b x es list. as-before (list-same link_of v w b no_tag es cells values list))
     (λ s z e. elim (had.linked s z (ap (λ (vs : List (Option Val)). slice_index_or vs s None) (sym values) ∙ e)) [
       | inl none ↦ inl (ap (λ (cs : Entries CellContents). held_in (entry_at cs (link_of z))) cells ∙ none)
       | inr at ↦ inr at
     ])
+    (λ a b y. ap (λ (cs : Entries CellContents). entry_at cs b) cells)
 
 -- ---- an item is made: its value is in no list yet, and its link holds nothing
 
-module _ (begins : ℕ → Type 0) (v w : World Val) (k : ℕ) (x : Val) (had : HasLists begins v) (cells : w.cells ≡ v.cells)
+module _ (begins : ℕ → Type 0) (seconds : (c b : ℕ) → Type 0) (v w : World Val) (k : ℕ) (x : Val) (had : HasLists begins seconds v) (cells : w.cells ≡ v.cells)
     (values : w.values ≡ slice_set v.values k (Some x)) (free : value_at v k ≡ None) (bare_link : held_in (entry_at v.cells (link_of x)) ≡ None) where
   stays-made : (es : List (Entry Val)) → AreLinked link_of v es → AreLinked link_of w es
   stays-made [] linked = tt
@@ -418,9 +468,9 @@ module _ (begins : ℕ → Type 0) (v w : World Val) (k : ℕ) (x : Val) (had : 
         stays-made es linked.1,
       )
 
-  pub has-made : k < length v.values → HasLists begins w
+  pub has-made : k < length v.values → HasLists begins seconds w
   has-made long =
-      has-kept begins v w had
+      has-kept begins seconds v w had
       (λ b y es list. as-before (record {
         begins = ap (λ (cs : Entries CellContents). entry_at cs b) cells ∙ list.begins;
         linked = stays-made es list.linked;
@@ -440,11 +490,12 @@ module _ (begins : ℕ → Type 0) (v w : World Val) (k : ℕ) (x : Val) (had : 
               | inr at ↦ inr at
             ])
       ])
+      (λ a b y. ap (λ (cs : Entries CellContents). entry_at cs b) cells)
 
 -- ---- cells are freed, but none of a list: each is somebody's, or a value's
 
-module _ (begins : ℕ → Type 0) (v w : World Val) (outside : Claim → ℕ) (ledger : IsLedger holdings_of outside w)
-    (mine : (c : ℕ) → begins c → 1 ≤ outside (right_to c)) (had : HasLists begins v) (values : w.values ≡ v.values)
+module _ (begins : ℕ → Type 0) (seconds : (c b : ℕ) → Type 0) (v w : World Val) (outside : Claim → ℕ) (ledger : IsLedger holdings_of outside w)
+    (own : AreOwn begins seconds outside) (had : HasLists begins seconds v) (values : w.values ≡ v.values)
     (cells : (i : ℕ) → (entry_at w.cells i ≡ entry_at v.cells i) ⊎ (entry_at w.cells i ≡ None)) where
   still-taken : (i : ℕ) → 1 ≤ outside (right_to i) + inner holdings_of w (right_to i) → entry_at w.cells i ≡ entry_at v.cells i
   still-taken i some = elim (cells i) [
@@ -463,11 +514,23 @@ module _ (begins : ℕ → Type 0) (v w : World Val) (outside : Claim → ℕ) (
         linked-freed es linked.1,
       )
 
-  pub has-freed : HasLists begins w
+  pub has-freed : HasLists begins seconds w
   has-freed =
-      has-kept begins v w had
-      (λ c x es list. as-before (record { begins = still-taken c (omega (arith, mine c x)) ∙ list.begins; linked = linked-freed es list.linked }))
+      has-kept begins seconds v w had
+      (λ c x es list. as-before (record { begins = still-taken c (omega (arith, own.first c x)) ∙ list.begins; linked = linked-freed es list.linked }))
       (λ s z e. elim (had.linked s z (ap (λ (vs : List (Option Val)). slice_index_or vs s None) (sym values) ∙ e)) [
         | inl none ↦ inl (elim (cells (link_of z)) [ inl same ↦ ap held_in same ∙ none | inr gone ↦ ap held_in gone ])
         | inr at ↦ inr at
       ])
+      (λ a b y. still-taken b (omega (arith, own.second a b y)))
+
+-- ---- second cells are others, and nothing changes
+
+pub has-seconds : (begins : ℕ → Type 0) (seconds others : (c b : ℕ) → Type 0) (w : World Val) → HasLists begins seconds w →
+    ((c b : ℕ) → others c b → seconds c b ⊎ (begins c × ((es : List (Entry Val)) → Begins w c es → HoldsEntry w b es))) → HasLists begins others w
+has-seconds begins seconds others w had new = record {
+  lists = had.lists;
+  apart = had.apart;
+  linked = had.linked;
+  second = λ c b y. elim (new c b y) [ inl was ↦ had.second c b was | inr own ↦ own ];
+}

@@ -13,6 +13,7 @@ use Rattle.sdd_space.proofs.Entries.{once-bound}
 use Rattle.sdd_space.proofs.Ledger.{ledger-laws}
 use Rattle.sdd_lists.specs.Ends.{EndsWith, IsAmong}
 use Rattle.sdd_lists.specs.Lists.{Apart, AreLinked, Entry, first_slot}
+use Rattle.sdd_lists.specs.Queue.{IsNoneOrAmong}
 use Rattle.sdd_lists.proofs.Ending.{among-ends, linked-ends}
 use Rattle.sdd_lists.proofs.Fronts.{tag_in}
 use Rattle.sdd_script_model.specs.Listed.{AreNumbers, Begins, HasLists, IsListed}
@@ -119,7 +120,18 @@ among-link w s x es linked among at =
 
 -- ---- each list has the entries that it had, or the same with other tags
 
-module _ (begins : ℕ → Type 0) (v w : World Val) (had : HasLists begins v) where
+-- what a second cell holds is among these too
+pub still-among : (second : Option ℕ) (es fs : List (Entry Val)) → ((s : ℕ) → IsAmong s es → IsAmong s fs) → IsNoneOrAmong second es → IsNoneOrAmong second fs
+still-among None es fs still among = tt
+still-among (Some k) es fs still among = still k among
+
+-- somebody has the right to each of these cells, and no cell is both a list's first and a second one
+pub record AreOwn (begins : ℕ → Type 0) (seconds : (c b : ℕ) → Type 0) (outside : Claim → ℕ) : Type 0 where
+  pub first : (c : ℕ) → begins c → 1 ≤ outside (right_to c)
+  pub second : (c b : ℕ) → seconds c b → 1 ≤ outside (right_to b)
+  pub two : (a c b : ℕ) → begins a → seconds c b → a ≢ b
+
+module _ (begins : ℕ → Type 0) (seconds : (c b : ℕ) → Type 0) (v w : World Val) (had : HasLists begins seconds v) where
   -- a list has the same items as before
   pub record IsAsBefore (c : ℕ) (es : List (Entry Val)) : Type 0 where
     pub now : List (Entry Val)
@@ -129,8 +141,9 @@ module _ (begins : ℕ → Type 0) (v w : World Val) (had : HasLists begins v) w
     pub still : (s : ℕ) → IsAmong s es → IsAmong s now
 
   pub has-kept : ((c : ℕ) → begins c → (es : List (Entry Val)) → Begins v c es → IsAsBefore c es) →
-      ((s : ℕ) (x : Val) → value_at w s ≡ Some x → (held_in (entry_at w.cells (link_of x)) ≡ None) ⊎ IsListed begins v s) → HasLists begins w
-  has-kept forward links = record {
+      ((s : ℕ) (x : Val) → value_at w s ≡ Some x → (held_in (entry_at w.cells (link_of x)) ≡ None) ⊎ IsListed begins v s) →
+      ((c b : ℕ) → seconds c b → entry_at w.cells b ≡ entry_at v.cells b) → HasLists begins seconds w
+  has-kept forward links stays = record {
     lists = λ c x. (let old = had.lists c x in let new = forward c x old.0 old.1 in (new.now, new.list, new.numbers old.2));
     apart = λ b c s es fs x y one two at also.
         (let first = had.lists b x in
@@ -142,6 +155,20 @@ module _ (begins : ℕ → Type 0) (v w : World Val) (had : HasLists begins v) w
           (let new = forward at.cell at.begun at.entries at.list in
           inr (record { cell = at.cell; entries = new.now; begun = at.begun; list = new.list; among = new.still s at.among }))
     ];
+    second = λ c b y.
+        (let own = had.second c b y in (
+          own.0,
+          (λ es list.
+              let old = had.lists c own.0 in
+              let new = forward c own.0 old.0 old.1 in
+              let held = own.1 old.0 old.1 in
+              record {
+                second = held.second;
+                holds = stays c b y ∙ held.holds;
+                among = subst (λ fs. IsNoneOrAmong held.second fs) (same-list w c new.now es new.list list)
+                    (still-among held.second old.0 new.now new.still held.among);
+              }),
+        ));
   } where
     back : (c : ℕ) (x : begins c) (es : List (Entry Val)) → Begins w c es → (s : ℕ) → IsAmong s es → IsAmong s (had.lists c x).0
     back c x es list s at =
@@ -150,8 +177,8 @@ module _ (begins : ℕ → Type 0) (v w : World Val) (had : HasLists begins v) w
         new.was s (subst (λ fs. IsAmong s fs) (same-list w c es new.now list new.list) at)
 
 -- where a list is as it was
-pub as-before : {begins : ℕ → Type 0} {v w : World Val} {had : HasLists begins v} {c : ℕ} {es : List (Entry Val)} → Begins w c es →
-    IsAsBefore begins v w had c es
+pub as-before : {begins : ℕ → Type 0} {seconds : (c b : ℕ) → Type 0} {v w : World Val} {had : HasLists begins seconds v} {c : ℕ} {es : List (Entry Val)} →
+    Begins w c es → IsAsBefore begins seconds v w had c es
 as-before {es = es} list = record { now = es; list = list; numbers = λ all. all; was = λ s at. at; still = λ s at. at }
 
 -- ---- a call of the world, which sets no cell but one of those that somebody outside has the right to
@@ -189,25 +216,30 @@ module _ {v w : World Val} {ins outs : Claim → ℕ} (move : Moves holdings_of 
         linked-still (link_of e.value) es (ap held_in linked.0.linked) link linked.1,
       )
 
-  module _ (begins : ℕ → Type 0) (mine : (c : ℕ) → begins c → 1 ≤ rest (right_to c)) (spares : (c : ℕ) → begins c → Sets holdings_of move (right_to c) → ⊥) where
+  module _ (begins : ℕ → Type 0) (seconds : (c b : ℕ) → Type 0) (held : AreOwn begins seconds rest)
+      (spares : (c : ℕ) → begins c → Sets holdings_of move (right_to c) → ⊥)
+      (leaves : (c b : ℕ) → seconds c b → Sets holdings_of move (right_to b) → ⊥) where
     pub list-still : (c : ℕ) → begins c → (es : List (Entry Val)) → Begins v c es → Begins w c es
     list-still c x es list =
-        let first = kept.cells rest before c (omega (arith, mine c x)) (spares c x) in
+        let first = kept.cells rest before c (omega (arith, held.first c x)) (spares c x) in
         record { begins = first ∙ list.begins; linked = linked-still c es (ap held_in list.begins) first list.linked }
 
-    pub has-still : HasLists begins v → HoldsLess v w → HasLists begins w
+    pub has-still : HasLists begins seconds v → HoldsLess v w → HasLists begins seconds w
     has-still had less =
-        has-kept begins v w had (λ c x es list. as-before (list-still c x es list))
+        has-kept begins seconds v w had (λ c x es list. as-before (list-still c x es list))
         (λ s x e.
         let was = less s x e in elim (had.linked s was.0 was.1) [
           | inl none ↦ inl (ap held_in (link-still s s x was.0 was.1 e was.2) ∙ ap (λ k. held_in (entry_at v.cells k)) was.2 ∙ none)
           | inr at ↦ inr at
         ])
+        (λ c b y. kept.cells rest before b (omega (arith, held.second c b y)) (leaves c b y))
 
 -- ---- one list changes
 
-module _ (begins : ℕ → Type 0) (v w : World Val) (had : HasLists begins v) (c : ℕ) (its : begins c) (es now : List (Entry Val)) (old : Begins v c es)
-    (new : Begins w c now) (numbers : AreNumbers now) (forward : (b : ℕ) → begins b → b ≢ c → (gs : List (Entry Val)) → Begins v b gs → Begins w b gs)
+module _ (begins : ℕ → Type 0) (seconds : (c b : ℕ) → Type 0) (v w : World Val) (had : HasLists begins seconds v) (c : ℕ) (its : begins c)
+    (single : (b : ℕ) → seconds c b → ⊥) (stays : (a b : ℕ) → seconds a b → entry_at w.cells b ≡ entry_at v.cells b)
+    (es now : List (Entry Val)) (old : Begins v c es) (new : Begins w c now) (numbers : AreNumbers now)
+    (forward : (b : ℕ) → begins b → b ≢ c → (gs : List (Entry Val)) → Begins v b gs → Begins w b gs)
     (from : (s : ℕ) → IsAmong s now → IsAmong s es ⊎ (IsListed begins v s → ⊥)) where
   back : (b : ℕ) → begins b → b ≢ c → (gs : List (Entry Val)) → Begins w b gs → Begins v b gs
   back b x far gs list =
@@ -238,7 +270,7 @@ module _ (begins : ℕ → Type 0) (v w : World Val) (had : HasLists begins v) (
 
   -- a link holds nothing, or is that of an entry of the list, or is that of one of another
   pub has-changed : ((s : ℕ) (x : Val) → value_at w s ≡ Some x → (held_in (entry_at w.cells (link_of x)) ≡ None) ⊎ (IsAmong s now
-      ⊎ ((at : IsListed begins v s) × (at.cell ≢ c)))) → HasLists begins w
+      ⊎ ((at : IsListed begins v s) × (at.cell ≢ c)))) → HasLists begins seconds w
   has-changed links = record {
     lists = λ b x. lists-by b x (cases_eq b c);
     apart = λ a b s fs gs x y one two at also. apart-by a b s fs gs x y one two at also (cases_eq a c) (cases_eq b c);
@@ -254,4 +286,11 @@ module _ (begins : ℕ → Type 0) (v w : World Val) (had : HasLists begins v) (
             among = other.0.among;
           })
     ];
+    second = λ a b y.
+        (let own = had.second a b y in (
+          own.0,
+          (λ gs list.
+              let held = own.1 gs (back a own.0 (λ same. single b (subst (λ i. seconds i b) same y)) gs list) in
+              record { second = held.second; holds = stays a b y ∙ held.holds; among = held.among }),
+        ));
   }

@@ -1,41 +1,50 @@
--- What is kept where a stack's entries come and go in the middle of a line
-use Rattle.std.proofs.Common.{◌≡◌, ◌≢◌, ◌+◌, ◌≤◌, inl, inr, ℕ, List, [], ◌∷◌, Bool, true, false, Option, Some, None, refl, sym, ◌∙◌, subst, arith}
-use Rattle.std.specs.Prelude.{if◌then◌else◌}
+-- What is kept where a list's entries come and go in the middle of a line
+use Rattle.std.proofs.Common.{◌≡◌, ◌≢◌, ◌+◌, inl, inr, ℕ, List, [], ◌∷◌, Bool, true, false, Option, Some, None, eq-eqb, slice_index_or, refl, sym, ap, ◌∙◌, subst, arith}
+use Rattle.std.specs.Prelude.{◌==◌, if◌then◌else◌}
 use Rattle.std.proofs.lemmas.List.{set_comm}
+use Rattle.sdd_core.specs.declared.tag.Tag.{Tag}
 use Rattle.sdd_core.specs.declared.tag.Tag.TheVariants.{None as no_tag, Second}
 use Rattle.sdd_participants.specs.Slab.{Entries, entry_at}
 use Rattle.sdd_participants.specs.declared.standing.CellContents.{CellContents}
 use Rattle.sdd_participants.specs.declared.standing.Standing.{Standing}
-use Rattle.sdd_space.specs.Ledger.{Claim, owner_of, right_to, one, owner_held, IsLedger, Moves}
+use Rattle.sdd_space.specs.Ledger.{Claim, owner_of, one, owner_held, IsLedger, Moves}
 use Rattle.sdd_space.specs.Ledger.Moves.{changes_cell, retires, releases}
 use Rattle.sdd_space.specs.World.{World, IsPlaceOf, standing_at, value_at}
-use Rattle.sdd_space.specs.WorldChanges.{owner_given, with_cell}
+use Rattle.sdd_space.specs.WorldChanges.{owner_given, spilled, with_cell}
 use Rattle.sdd_space.specs.WorldInvariant.{IsWhole}
 use Rattle.sdd_space.proofs.Ledger.{ledger-laws}
-use Rattle.sdd_lists.specs.Lists.{Entry, emptied, first_slot, is_deleted, left, let_go_first, linked_in, trimmed}
-use Rattle.sdd_lists.proofs.Lists.{behind}
+use Rattle.sdd_lists.specs.Lists.{Entry, IsList, emptied, first_slot, is_deleted, left, let_go_first, linked_in, removed, trimmed}
+use Rattle.sdd_lists.specs.Marks.{retagged}
+use Rattle.sdd_lists.proofs.Lists.{bare, behind}
+use Rattle.sdd_lists.proofs.Marking.{retagged-list}
+use Rattle.sdd_lists.proofs.Popping.{apart-first}
 use Rattle.sdd_script_model.specs.Listed.{AreNumbers, Begins, HasLists, IsListed, IsNumber}
-use Rattle.sdd_script_model.specs.ScriptState.{ScriptState, IsStackCell}
-use Rattle.sdd_script_model.specs.Sound.{stacked}
+use Rattle.sdd_script_model.specs.ScriptState.{ScriptState, IsListCell, IsSecondCell}
+use Rattle.sdd_script_model.specs.Sound.{contained}
 use Rattle.sdd_script_model.specs.Val.{Val, body_of, holdings_of, link_of}
 use Rattle.sdd_script_model.proofs.Attending.{keeps-live}
-use Rattle.sdd_script_model.proofs.Chains.{IsMidway, stack-right}
+use Rattle.sdd_script_model.proofs.Chains.{IsMidway, list-right, own-midway, retags-link}
 use Rattle.sdd_script_model.proofs.Entry.{at-other}
 use Rattle.sdd_script_model.proofs.Frames.{Frames, IsQuiet, frames-on}
 use Rattle.sdd_script_model.proofs.Links.{null, same-once}
 use Rattle.sdd_script_model.proofs.Listed.{link-apart}
 use Rattle.sdd_script_model.proofs.ListChanges.{has-let_go, has-put_in}
 
+-- a list begins in the cell, and has no second cell
+pub record IsSingle (d : ScriptState) (c : ℕ) : Type 0 where
+  pub begins : IsListCell d c
+  pub single : (b : ℕ) → IsSecondCell d c b → ⊥
+
 -- the same without a word on lists
 pub record IsBetween (d : ScriptState) (w : World Val) (outside : Claim → ℕ) : Type 0 where
-  pub ledger : IsLedger holdings_of (λ u. outside u + stacked d.stacks u) w
+  pub ledger : IsLedger holdings_of (λ u. outside u + contained d u) w
   pub whole : IsWhole w
   pub frames : Frames d.world w
 
 pub between : {d : ScriptState} {w : World Val} {outside : Claim → ℕ} → IsMidway d w outside → IsBetween d w outside
 between m = record { ledger = m.ledger; whole = m.whole; frames = m.frames }
 
-pub midway : {d : ScriptState} {w : World Val} {outside : Claim → ℕ} → IsBetween d w outside → HasLists (IsStackCell d) w → IsMidway d w outside
+pub midway : {d : ScriptState} {w : World Val} {outside : Claim → ℕ} → IsBetween d w outside → HasLists (IsListCell d) (IsSecondCell d) w → IsMidway d w outside
 midway b lists = record { ledger = b.ledger; lists = lists; whole = b.whole; frames = b.frames }
 
 pub between-as : {d : ScriptState} {w : World Val} {outside now : Claim → ℕ} → IsBetween d w outside → ((u : Claim) → now u ≡ outside u) → IsBetween d w now
@@ -47,72 +56,90 @@ pub goes-on : {d : ScriptState} {v w : World Val} {outside ins outs : Claim → 
 goes-on {d} {v} {w} {outside} {ins} {outs} b move quiet rest same =
     let kept = (ledger-laws holdings_of v).kept b.whole ins outs w move in
     record {
-      ledger = λ u. omega (arith, kept.ledger (λ x. rest x + stacked d.stacks x) (λ x. omega (arith, b.ledger x, same x)) u);
+      ledger = λ u. omega (arith, kept.ledger (λ x. rest x + contained d x) (λ x. omega (arith, b.ledger x, same x)) u);
       whole = kept.whole;
       frames = frames-on b.frames b.whole move quiet;
     }
 
-module _ {d : ScriptState} {w : World Val} {outside : Claim → ℕ} (m : IsMidway d w outside) (p c : ℕ) (its : IsStackCell d c) where
-  all : Claim → ℕ
-  all u = outside u + stacked d.stacks u
+-- an owner that is in hand is given up
+pub gives-up : {d : ScriptState} {w : World Val} {outside : Claim → ℕ} (p : ℕ) → IsPlaceOf d.world p → (k : ℕ) →
+    IsBetween d w (λ u. outside u + one (owner_of k) u) → (s : Option Standing) → standing_at w k ≡ s → IsBetween d (owner_given w p k s) outside
+gives-up {d} {w} {outside} p live k b s is =
+    let live_there = keeps-live b.frames.passes.guards p live in
+    let stands = ((ledger-laws holdings_of w).tells _ b.ledger).stands k (omega (arith, same-once k)) in
+    elim stands [
+      | inl owned ↦
+          subst (λ x. IsBetween d (owner_given w p k x) outside) (sym owned.0 ∙ is)
+          (between-as (goes-on b (retires w p k live_there owned.0) tt outside (λ u. refl)) (λ u. omega arith))
+      | inr shared ↦
+          subst (λ x. IsBetween d (owner_given w p k x) outside) (sym shared.1 ∙ is)
+          (between-as (goes-on b (releases w p k shared.0 live_there shared.1) tt outside (λ u. refl)) (λ u. omega arith))
+    ]
 
-  mine : (b : ℕ) → IsStackCell d b → 1 ≤ outside (right_to b) + stacked d.stacks (right_to b)
-  mine b x = omega (arith, stack-right d b x)
+-- and so is what a cell held
+pub spills-between : {d : ScriptState} {w : World Val} {outside : Claim → ℕ} (p : ℕ) → IsPlaceOf d.world p → (held : Option ℕ) →
+    IsBetween d w (λ u. outside u + owner_held held u) → IsBetween d (spilled w p held) outside
+spills-between p live None b = between-as b (λ u. omega arith)
+spills-between {d} {w} p live (Some k) b = gives-up p live k b (standing_at w k) refl
 
+-- the first entry of a list that begins in a cell, or in a link, is let go of
+module _ {d : ScriptState} {w : World Val} {outside : Claim → ℕ} (b : IsBetween d w outside) (p c : ℕ) (t : Tag) (live : IsPlaceOf d.world p) (e : Entry Val)
+    (es : List (Entry Val)) (list : IsList link_of w c t (e ∷ es)) where
+  abbrev gone : CellContents
+  gone = record { held = None; tag = Second }
+
+  abbrev next : CellContents
+  next = record { held = first_slot es; tag = t }
+
+  abbrev first : World Val
+  first = with_cell w (link_of e.value) gone
+
+  -- what the link held is in hand
+  taken-out : IsBetween d first (λ u. outside u + owner_held (first_slot es) u)
+  taken-out =
+      goes-on b (changes_cell w (link_of e.value) (record { held = first_slot es; tag = e.tag }) gone list.linked.0.linked) tt outside (λ u. omega arith)
+
+  -- the cell holds it, and the first entry's owner is in hand
+  moved-up : IsBetween d (with_cell first c next) (λ u. outside u + one (owner_of e.slot) u)
+  moved-up =
+      goes-on taken-out
+      (changes_cell first c (record { held = Some e.slot; tag = t }) next
+      (at-other w.cells (link_of e.value) c (Some gone) None (apart-first link_of w p c t e es list) ∙ list.begins))
+      tt outside (λ u. refl)
+
+  -- it is given up
+  pub first-goes : IsBetween d (let_go_first w p c t e.slot (link_of e.value) (first_slot es)) outside
+  first-goes = gives-up p live e.slot moved-up (standing_at w e.slot) refl
+
+goes-if : {d : ScriptState} {outside : Claim → ℕ} (w u : World Val) → IsBetween d w outside → IsBetween d u outside → (b : Bool) →
+    IsBetween d (if b then u else w) outside
+goes-if w u here there true = there
+goes-if w u here there false = here
+
+-- and so are the deleted ones in front
+pub front-goes : {d : ScriptState} {outside : Claim → ℕ} (w : World Val) → IsBetween d w outside → (p c : ℕ) (t : Tag) → IsPlaceOf d.world p →
+    (es : List (Entry Val)) → IsList link_of w c t es → IsBetween d (trimmed link_of w p c t es) outside
+front-goes w b p c t live [] list = b
+front-goes w b p c t live (e ∷ es) list =
+    let u : World Val = let_go_first w p c t e.slot (link_of e.value) (first_slot es) in
+    goes-if w (trimmed link_of u p c t es) b
+    (front-goes u (first-goes b p c t live e es list) p c t live es (behind link_of w p c t e es list)) (is_deleted e)
+
+module _ {d : ScriptState} {w : World Val} {outside : Claim → ℕ} (m : IsMidway d w outside) (p c : ℕ) (its : IsSingle d c) where
   apart-of : (k : ℕ) (x : Val) → value_at w k ≡ Some x → c ≢ link_of x
-  apart-of k x there = link-apart w (λ u. outside u + stacked d.stacks u) m.ledger c k x (mine c its) there
+  apart-of k x there = link-apart w (λ u. outside u + contained d u) m.ledger c k x (omega (arith, list-right d c its.begins)) there
 
   -- ---- the first entry is let go of
-  module _ (live : IsPlaceOf d.world p) (e : Entry Val) (es : List (Entry Val)) (list : Begins w c (e ∷ es)) (numbers : AreNumbers (e ∷ es)) where
-    abbrev gone : CellContents
-    gone = record { held = None; tag = Second }
-
-    abbrev next : CellContents
-    next = record { held = first_slot es; tag = no_tag }
-
-    abbrev first : World Val
-    first = with_cell w (link_of e.value) gone
-
-    abbrev second : World Val
-    second = with_cell first c next
-
-    -- what the link held is in hand
-    taken-out : IsBetween d first (λ u. outside u + owner_held (first_slot es) u)
-    taken-out =
-        goes-on (between m) (changes_cell w (link_of e.value) (record { held = first_slot es; tag = e.tag }) gone list.linked.0.linked) tt outside (λ u. omega arith)
-
-    -- the cell holds it, and the first entry's owner is in hand
-    moved-up : IsBetween d second (λ u. outside u + one (owner_of e.slot) u)
-    moved-up =
-        goes-on taken-out
-        (changes_cell first c (record { held = Some e.slot; tag = no_tag }) next
-        (at-other w.cells (link_of e.value) c (Some gone) None (apart-of e.slot e.value list.linked.0.there) ∙ list.begins))
-        tt outside (λ u. refl)
-
-    -- it is given up
-    given-up : (s : Option Standing) → standing_at w e.slot ≡ s → IsBetween d (owner_given second p e.slot s) outside
-    given-up s is =
-        let live_there = keeps-live moved-up.frames.passes.guards p live in
-        let stands = ((ledger-laws holdings_of second).tells _ moved-up.ledger).stands e.slot (omega (arith, itself e.slot)) in
-        elim stands [
-          | inl owned ↦
-              subst (λ x. IsBetween d (owner_given second p e.slot x) outside) (sym owned.0 ∙ is)
-              (between-as (goes-on moved-up (retires second p e.slot live_there owned.0) tt outside (λ u. refl)) (λ u. omega arith))
-          | inr shared ↦
-              subst (λ x. IsBetween d (owner_given second p e.slot x) outside) (sym shared.1 ∙ is)
-              (between-as (goes-on moved-up (releases second p e.slot shared.0 live_there shared.1) tt outside (λ u. refl)) (λ u. omega arith))
-        ] where
-          itself : (k : ℕ) → one (owner_of k) (owner_of k) ≡ 1
-          itself k = same-once k
-
-    pub lets-go : IsMidway d (let_go_first w p c no_tag e.slot (link_of e.value) (first_slot es)) outside
-    lets-go =
-        midway (given-up (standing_at w e.slot) refl)
-        (has-let_go (IsStackCell d) w (λ u. outside u + stacked d.stacks u) m.ledger mine m.lists c its p e es list numbers)
+  pub lets-go : (live : IsPlaceOf d.world p) (e : Entry Val) (es : List (Entry Val)) (list : Begins w c (e ∷ es)) (numbers : AreNumbers (e ∷ es)) →
+      IsMidway d (let_go_first w p c no_tag e.slot (link_of e.value) (first_slot es)) outside
+  lets-go live e es list numbers =
+      midway (first-goes (between m) p c no_tag live e es list)
+      (has-let_go (IsListCell d) (IsSecondCell d) w (λ u. outside u + contained d u) m.ledger (own-midway m) m.lists c its.begins its.single p e es list
+      numbers)
 
   -- ---- an item is put in front, of which one owner is in hand
   module _ (k : ℕ) (x : Val) (es : List (Entry Val)) (list : Begins w c es) (numbers : AreNumbers es) (there : value_at w k ≡ Some x)
-      (clear : entry_at w.cells (link_of x) ≡ Some null) (number : IsNumber (body_of x)) (alone : IsListed (IsStackCell d) w k → ⊥)
+      (clear : entry_at w.cells (link_of x) ≡ Some null) (number : IsNumber (body_of x)) (alone : IsListed (IsListCell d) w k → ⊥)
       (rest : Claim → ℕ) (in_hand : (u : Claim) → outside u ≡ rest u + one (owner_of k) u) where
     abbrev in_front : CellContents
     in_front = record { held = Some k; tag = no_tag }
@@ -134,11 +161,12 @@ module _ {d : ScriptState} {w : World Val} {outside : Claim → ℕ} (m : IsMidw
     puts-in =
         midway (subst (λ (cs : Entries CellContents). IsBetween d (record w { cells = cs }) rest)
         (set_comm w.cells c (link_of x) (Some in_front) (Some behind_it) (apart-of k x there)) linked-it)
-        (has-put_in (IsStackCell d) w (λ u. outside u + stacked d.stacks u) m.ledger mine m.lists c its k x es list numbers there clear number alone)
+        (has-put_in (IsListCell d) (IsSecondCell d) w (λ u. outside u + contained d u) m.ledger (own-midway m) m.lists c its.begins its.single k x es list
+        numbers there clear number alone)
 
 -- ---- one entry after another
 
-module _ (d : ScriptState) (outside : Claim → ℕ) (p c : ℕ) (its : IsStackCell d c) (live : IsPlaceOf d.world p) where
+module _ (d : ScriptState) (outside : Claim → ℕ) (p c : ℕ) (its : IsSingle d c) (live : IsPlaceOf d.world p) where
   -- the list has these entries
   pub record IsWith (w : World Val) (es : List (Entry Val)) : Type 0 where
     pub midway : IsMidway d w outside
@@ -170,3 +198,40 @@ module _ (d : ScriptState) (outside : Claim → ℕ) (p c : ℕ) (its : IsStackC
   empties w [] m = m
   empties w (e ∷ es) m =
       empties (let_go_first w p c no_tag e.slot (link_of e.value) (first_slot es)) es (with-rest w e es m)
+
+  -- the first that isn't deleted is deleted, and let go of with those before it
+  module _ (w : World Val) (es : List (Entry Val)) (e : Entry Val) (rest : List (Entry Val)) (first_left : left es ≡ e ∷ rest) (with_it : IsWith w es) where
+    abbrev freed_front : World Val
+    freed_front = trimmed link_of w p c no_tag es
+
+    pub in-front : IsWith freed_front (e ∷ rest)
+    in-front = subst (λ (fs : List (Entry Val)). IsWith freed_front fs) first_left (trims w es with_it)
+
+    abbrev marked : CellContents
+    marked = record { held = first_slot rest; tag = Second }
+
+    abbrev gone_first : World Val
+    gone_first = with_cell freed_front (link_of e.value) marked
+
+    deleted-midway : IsMidway d gone_first outside
+    deleted-midway =
+        retags-link in-front.midway e.slot e.value (record { held = first_slot rest; tag = e.tag }) marked
+        in-front.list.linked.0.there in-front.list.linked.0.linked refl (λ same. absurd (cc))
+
+    deleted-list : Begins gone_first c (record e { tag = Second } ∷ rest)
+    deleted-list =
+        let same : (e.slot == e.slot) ≡ true = eq-eqb e.slot e.slot refl in
+        subst (λ (fs : List (Entry Val)). Begins gone_first c fs)
+        (ap (λ (b : Bool). if b then record e { tag = Second } ∷ rest else e ∷ retagged e.slot Second rest) same)
+        (retagged-list link_of freed_front e rest Second (λ same. absurd (cc)) c no_tag (e ∷ rest) in-front.list (inl refl))
+
+    pub removes : IsMidway d (removed link_of w p c no_tag es e rest) outside
+    removes = lets-go deleted-midway p c its live (record e { tag = Second }) rest deleted-list in-front.numbers
+
+    -- its value is there still
+    pub removed-value : value_at (removed link_of w p c no_tag es e rest) e.slot ≡ Some e.value
+    removed-value =
+        ap (λ (vs : List (Option Val)). slice_index_or vs e.slot None)
+        (bare (with_cell (with_cell gone_first (link_of e.value) (record { held = None; tag = Second })) c (record { held = first_slot rest; tag = no_tag }))
+        p e.slot (standing_at gone_first e.slot)).values
+        ∙ in-front.list.linked.0.there

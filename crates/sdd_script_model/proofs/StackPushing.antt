@@ -1,5 +1,5 @@
--- What is always true of a desk is true after a push onto a stack: an item is made, and then put in front
-use Rattle.std.proofs.Common.{◌≡◌, ◌+◌, ◌^◌, ◌<◌, inl, inr, ℕ, List, [], ◌∷◌, Bool, true, false, Option, Some, None, is_some, length, slice_index_or, refl, sym, ap, ◌∙◌, subst, arith}
+-- What is always true of a desk is true after a push: an item is made, and then put into a list; here into a stack
+use Rattle.std.proofs.Common.{◌≡◌, ◌≢◌, ◌+◌, ◌^◌, ◌<◌, inl, inr, ℕ, List, [], ◌∷◌, Bool, true, false, Option, Some, None, is_some, length, slice_index_or, refl, sym, ap, ◌∙◌, subst, arith}
 use Rattle.std.specs.Prelude.{max, if◌then◌else◌}
 use Rattle.std.proofs.lemmas.Bool.{cases_eq}
 use Rattle.std.proofs.lemmas.List.{length-set, set-set}
@@ -18,16 +18,18 @@ use Rattle.sdd_space.specs.WorldInvariant.{IsWhole}
 use Rattle.sdd_space.proofs.Ledger.{ledger-laws}
 use Rattle.sdd_space.proofs.Whole.{filled-there}
 use Rattle.sdd_lists.specs.Ends.{IsAmong}
-use Rattle.sdd_lists.specs.Lists.{AreLinked, Entry, first_slot, is_deleted, left, let_go_first, linked_in, trimmed}
+use Rattle.sdd_participants.specs.declared.standing.CellContents.{CellContents}
+use Rattle.sdd_lists.specs.Lists.{Apart, AreLinked, Entry, first_slot, is_deleted, left, let_go_first, linked_in, trimmed}
 use Rattle.sdd_lists.proofs.Lists.{list-same}
 use Rattle.sdd_lists.proofs.Pushing.{list-made, trim-other, trim-values}
-use Rattle.sdd_script_text.specs.declared.call.Value.TheVariants.{Number}
+use Rattle.sdd_script_text.specs.declared.call.Value.TheVariants as value
+use Rattle.sdd_script_model.specs.declared.val.Body.TheVariants.{Number}
 use Rattle.sdd_script_model.specs.declared.owner_kind.OwnerKind.TheVariants as ownership
 use Rattle.sdd_script_model.specs.Listed.{Begins, IsListed, IsNumber}
 use Rattle.sdd_script_model.specs.Script.{AreCalls}
 use Rattle.sdd_script_model.specs.Script.AreCalls.{none as no_call, one_more}
-use Rattle.sdd_script_model.specs.ScriptState.{ScriptState, IsDated, IsStackCell, in_world, with_item, with_owner}
-use Rattle.sdd_script_model.specs.Sound.{IsSound, named, stacked}
+use Rattle.sdd_script_model.specs.ScriptState.{ScriptState, IsDated, IsListCell, IsSecondCell, in_world, with_item, with_owner}
+use Rattle.sdd_script_model.specs.Sound.{IsSound, contained, named}
 use Rattle.sdd_script_model.specs.Stacks.{IsStack, Pushes}
 use Rattle.sdd_script_model.specs.Val.{Val, body_of, holdings_of, link_of}
 use Rattle.sdd_script_model.proofs.Chains.{IsMidway, LeavesSound, finishes, moves, starts}
@@ -40,8 +42,8 @@ use Rattle.sdd_script_model.proofs.Layers.{filled-long}
 use Rattle.sdd_script_model.proofs.Links.{null, same-once}
 use Rattle.sdd_script_model.proofs.Listed.{listed-inside}
 use Rattle.sdd_script_model.proofs.ListChanges.{apart-free, off, stays-begun}
-use Rattle.sdd_script_model.proofs.StackChains.{IsWith, puts-in, trims}
-use Rattle.sdd_script_model.proofs.StackGoing.{IsDatedWithin, dated-all, numbers}
+use Rattle.sdd_script_model.proofs.StackChains.{IsSingle, IsWith, puts-in, trims}
+use Rattle.sdd_script_model.proofs.StackGoing.{IsDatedWithin, dated-all, is-single, numbers}
 
 -- ---- one after another
 
@@ -80,34 +82,23 @@ stands-still w p c k (e ∷ es) not =
     let first : standing_at u k ≡ standing_at w k = given-other v p e.slot k (standing_at w e.slot) refl (λ same. not (inl (sym same))) in
     stands-if w (trimmed link_of u p c no_tag es) k (stands-still u p c k es (λ more. not (inr more)) ∙ first) (is_deleted e)
 
--- ---- a push
+-- ---- an item is made that has a number, and then put into a list
 
-module _ (d : ScriptState) (s : IsSound d) (whole : IsWhole d.world) (p c : ℕ) (live : IsPlaceOf d.world p) (n : ℕ) (es : List (Entry Val)) (is : IsStack d n c es)
-    (number k : ℕ) (w : World Val) (pushes : Pushes d.world p c es number k w) (few : length d.slots + 1 < 2 ^ 128) (dates : List ℕ) where
-  abbrev x : Val
-  x = pushes.entry
-
-  abbrev l : ℕ
-  l = link_of pushes.entry
-
+module _ (d : ScriptState) (s : IsSound d) (whole : IsWhole d.world) (p : ℕ) (live : IsPlaceOf d.world p) (number k : ℕ) (x : Val)
+    (free : IsEmptyAt d.world.cells (link_of x)) (slot : IsEmptyAt d.world.standings k) (body : body_of x ≡ Number number)
+    (few : length d.slots + 1 < 2 ^ 128) where
   abbrev owner : OwnerOrCell
   owner = holding.shared k d.world.home.slots
 
-  -- an item is made, with one owner, which has a name
-  abbrev mid : ScriptState
-  mid = with_owner (in_world (with_item d k) (made_as (nulled d.world (link_of pushes.entry)) k pushes.entry (Shared 1))) owner
+  -- it has one owner, which has a name
+  abbrev pub mid : ScriptState
+  mid = with_owner (in_world (with_item d k) (made_as (nulled d.world (link_of x)) k x (Shared 1))) owner
 
-  abbrev pub after_pushed : ScriptState
-  after_pushed = record (with_owner (in_world (with_item d k) w) owner) { dates = dates }
+  pub made : LeavesSound d mid
+  made = made-leaves d s whole ownership.Shared (value.Number number) p k (link_of x) x live free slot body refl few
 
-  slot : IsEmptyAt d.world.standings k
-  slot = pushes.pushed.free
-
-  made : LeavesSound d mid
-  made = made-leaves d s whole ownership.Shared (Number number) p k l x live pushes.free slot pushes.body refl few
-
-  mid-whole : IsWhole mid.world
-  mid-whole = made-whole d s whole ownership.Shared (Number number) p k l x live pushes.free slot pushes.body refl few
+  pub mid-whole : IsWhole mid.world
+  mid-whole = made-whole d s whole ownership.Shared (value.Number number) p k (link_of x) x live free slot body refl few
 
   free-value : value_at d.world k ≡ None
   free-value = none-of (value_at d.world k) (filled-there d.world k whole.filled ∙ ap is_some slot.1) where
@@ -115,93 +106,33 @@ module _ (d : ScriptState) (s : IsSound d) (whole : IsWhole d.world) (p c : ℕ)
     none-of None none = refl
     none-of (Some v) none = absurd (cc)
 
-  not-among : IsAmong k es → ⊥
-  not-among among = free-unlisted d.world k es free-value is.list.linked among
+  -- a list that was there is there, and the slot is that of none of its entries
+  pub not-among : (c : ℕ) (es : List (Entry Val)) → Begins d.world c es → IsAmong k es → ⊥
+  not-among c es list among = free-unlisted d.world k es free-value list.linked among
 
-  -- the list stays over it
-  list-celled : Begins (nulled d.world (link_of pushes.entry)) c es
-  list-celled = stays-begun (IsStackCell d) (IsStackCell d) d.world s.lists l pushes.free (λ b y. inl y) (λ b y. y) c es is.list
+  pub list-mid : (c : ℕ) (es : List (Entry Val)) → Begins d.world c es → Begins mid.world c es
+  list-mid c es list =
+      list-made link_of (nulled d.world (link_of x)) c no_tag k x (Shared 1) es free-value
+      (stays-begun (IsListCell d) (IsListCell d) (IsSecondCell d) d.world s.lists (link_of x) free (λ b y. inl y) (λ b y. y) c es list)
 
-  -- it has one owner more, which is in hand
-  abbrev outside : Claim → ℕ
-  outside u = named mid u + one (owner_of k) u
+  -- a cell that was there is another than its link
+  pub link-off : (b : ℕ) (y : CellContents) → entry_at d.world.cells b ≡ Some y → b ≢ link_of x
+  link-off b y holds = off (IsListCell d) (IsListCell d) (IsSecondCell d) d.world s.lists (link_of x) free (λ c z. inl z) (λ c z. z) b y holds
 
-  abbrev twice : World Val
-  twice = with_standing mid.world k (Shared 2)
+  pub link-off_all : (es : List (Entry Val)) → AreLinked link_of d.world es → Apart link_of (link_of x) es
+  link-off_all es linked = apart-free (IsListCell d) (IsListCell d) (IsSecondCell d) d.world s.lists (link_of x) free (λ c z. inl z) (λ c z. z) es linked
 
-  stands-once : standing_at mid.world k ≡ Some (Shared 1)
+  pub there-mid : value_at mid.world k ≡ Some x
+  there-mid = at-same d.world.values k (Some x) None (omega (arith, slot.0, filled-long d.world.values d.world.standings whole.filled))
+
+  pub clear-mid : entry_at mid.world.cells (link_of x) ≡ Some null
+  clear-mid = at-same d.world.cells (link_of x) (Some null) None free.0
+
+  pub stands-once : standing_at mid.world k ≡ Some (Shared 1)
   stands-once = at-same d.world.standings k (Some (Shared 1)) None slot.0
 
-  once : IsSharedBy 1 (standing_at mid.world k)
-  once = record { shared = stands-once; some = omega arith; most = omega arith }
-
-  in-hand : IsMidway mid twice outside
-  in-hand = moves (starts mid made.sound mid-whole) (shares mid.world k 1 once) tt (named mid) (λ u. omega arith) (λ u never. absurd never)
-
-  its : IsStackCell mid c
-  its = (n, is.named)
-
-  list-twice : Begins twice c es
-  list-twice =
-      list-same link_of mid.world twice c no_tag es refl refl
-      (list-made link_of (nulled d.world (link_of pushes.entry)) c no_tag k x (Shared 1) es free-value list-celled)
-
-  with-it : IsWith mid outside p c its live twice es
-  with-it = record { midway = in-hand; list = list-twice; numbers = numbers d s whole p c live n es is }
-
-  -- the deleted ones in front are let go of
-  abbrev freed_front : World Val
-  freed_front = trimmed link_of twice p c no_tag es
-
-  trimmed-so : IsWith mid outside p c its live freed_front (left es)
-  trimmed-so = trims mid outside p c its live twice es with-it
-
-  there : value_at freed_front k ≡ Some x
-  there =
-      ap (λ (vs : List (Option Val)). slice_index_or vs k None) (trim-values link_of twice p c no_tag es)
-      ∙ at-same d.world.values k (Some x) None (omega (arith, slot.0, filled-long d.world.values d.world.standings whole.filled))
-
-  clear : entry_at freed_front.cells l ≡ Some null
-  clear =
-      trim-other link_of twice p c no_tag es l
-      (λ same. off (IsStackCell d) (IsStackCell d) d.world s.lists l pushes.free (λ b y. inl y) (λ b y. y) c _ is.list.begins (sym same))
-      (apart-free (IsStackCell d) (IsStackCell d) d.world s.lists l pushes.free (λ b y. inl y) (λ b y. y) es is.list.linked)
-      ∙ at-same d.world.cells l (Some null) None pushes.free.0
-
-  stands-twice : standing_at freed_front k ≡ Some (Shared 2)
-  stands-twice =
-      stands-still twice p c k es not-among
-      ∙ at-same mid.world.standings k (Some (Shared 2)) None (inside-list mid.world.standings k (ap is_some stands-once))
-
-  -- both its owners are outside, so it is in no list
-  unlisted : IsListed (IsStackCell mid) freed_front k → ⊥
-  unlisted at =
-      let m = trimmed-so.midway in
-      let inner = listed-inside freed_front (λ u. outside u + stacked mid.stacks u) m.ledger (IsStackCell mid) k at in
-      let mine = owner-given d.owners d.cells d.collectors owner k refl (owner_of k) in
-      let stands = ((ledger-laws holdings_of freed_front).tells _ m.ledger).stands k (omega (arith, inner)) in
-      elim stands [
-        | inl sole ↦ (let never : Some (Shared 2) ≡ Some Owned = sym stands-twice ∙ sole.0 in absurd (cc))
-        | inr several ↦
-            (let both : Some (Shared 2) ≡ Some (Shared several.0) = sym stands-twice ∙ several.1 in
-            let two : several.0 ≡ 2 = cc in
-            absurd (omega (arith, several.2, ap (max 1) two, inner, mine, same-once k)))
-      ]
-
-  number-in : IsNumber (body_of x)
-  number-in = subst (λ b. IsNumber b) (sym pushes.body) tt
-
-  put : IsMidway mid (linked_in freed_front c no_tag (link_of pushes.entry) k (first_slot (left es))) (named mid)
-  put = puts-in trimmed-so.midway p c its k x (left es) trimmed-so.list trimmed-so.numbers there clear number-in unlisted (named mid) (λ u. refl)
-
-  -- two owners at once, or one after the other
-  made-twice : twice ≡ made_as (nulled d.world (link_of pushes.entry)) k pushes.entry (Shared 2)
-  made-twice = ap (λ (ss : Entries Standing). record mid.world { standings = ss }) (set-set d.world.standings k (Some (Shared 1)) (Some (Shared 2)))
-
-  world-is : linked_in freed_front c no_tag (link_of pushes.entry) k (first_slot (left es)) ≡ w
-  world-is =
-      ap (λ (u : World Val). linked_in (trimmed link_of u p c no_tag es) c no_tag (link_of pushes.entry) k (first_slot (left es))) made-twice
-      ∙ sym pushes.pushed.world
+  pub number-in : IsNumber (body_of x)
+  number-in = subst (λ b. IsNumber b) (sym body) tt
 
   -- what waits didn't begin to by the making
   waits-as : (j : ℕ) → is_waiting (standing_at mid.world j) ≡ is_waiting (standing_at d.world j)
@@ -212,14 +143,123 @@ module _ (d : ScriptState) (s : IsSound d) (whole : IsWhole d.world) (p c : ℕ)
     | inr far ↦ ap is_waiting (at-other d.world.standings k j (Some (Shared 1)) None far)
   ]
 
-  done : IsMidway mid w (named mid)
-  done = subst (λ (u : World Val). IsMidway mid u (named mid)) world-is put
+  module _ (w : World Val) (dates : List ℕ) where
+    abbrev pub after_entered : ScriptState
+    after_entered = record (with_owner (in_world (with_item d k) w) owner) { dates = dates }
+
+    pub entered-leaves : IsMidway mid w (named mid) → IsDatedWithin d after_entered → LeavesSound d after_entered
+    entered-leaves done within =
+        let long = done.frames.slots.slots ∙ length-set d.world.standings k (Some (Shared 1)) in
+        let dated = dated-all d after_entered s.stocked long within in
+        let later : IsDated mid after_entered = record { dated = λ j. rw (waits-as j) (dated.dated j); long = dated.long } in
+        leaves-then made
+        (finishes mid w mid.owners mid.cells mid.collectors dates made.sound done
+        (λ u. refl) (made.sound.home.owners, made.sound.home.cells, made.sound.home.collectors) later p live) dated
+
+-- ---- a push
+
+module _ (d : ScriptState) (s : IsSound d) (whole : IsWhole d.world) (p c : ℕ) (live : IsPlaceOf d.world p) (n : ℕ) (es : List (Entry Val)) (is : IsStack d n c es)
+    (number k : ℕ) (w : World Val) (pushes : Pushes d.world p c es number k w) (few : length d.slots + 1 < 2 ^ 128) (dates : List ℕ) where
+  abbrev x : Val
+  x = pushes.entry
+
+  abbrev l : ℕ
+  l = link_of pushes.entry
+
+  abbrev entered : ScriptState
+  entered = mid d s whole p live number k x pushes.free pushes.pushed.free pushes.body few
+
+  abbrev pub after_pushed : ScriptState
+  after_pushed = after_entered d s whole p live number k x pushes.free pushes.pushed.free pushes.body few w dates
+
+  sound-in : LeavesSound d entered
+  sound-in = made d s whole p live number k x pushes.free pushes.pushed.free pushes.body few
+
+  once : IsSharedBy 1 (standing_at entered.world k)
+  once = record {
+    shared = stands-once d s whole p live number k x pushes.free pushes.pushed.free pushes.body few;
+    some = omega arith;
+    most = omega arith;
+  }
+
+  -- it has one owner more, which is in hand
+  abbrev outside : Claim → ℕ
+  outside u = named entered u + one (owner_of k) u
+
+  abbrev twice : World Val
+  twice = with_standing entered.world k (Shared 2)
+
+  in-hand : IsMidway entered twice outside
+  in-hand =
+      moves (starts entered sound-in.sound (mid-whole d s whole p live number k x pushes.free pushes.pushed.free pushes.body few))
+      (shares entered.world k 1 once) tt (named entered) (λ u. omega arith) (λ u never. absurd never)
+
+  its : IsSingle entered c
+  its = is-single entered sound-in.sound n c is.named
+
+  list-twice : Begins twice c es
+  list-twice =
+      list-same link_of entered.world twice c no_tag es refl refl
+      (list-mid d s whole p live number k x pushes.free pushes.pushed.free pushes.body few c es is.list)
+
+  with-it : IsWith entered outside p c its live twice es
+  with-it = record { midway = in-hand; list = list-twice; numbers = numbers d s whole p c live n es is }
+
+  -- the deleted ones in front are let go of
+  abbrev freed_front : World Val
+  freed_front = trimmed link_of twice p c no_tag es
+
+  trimmed-so : IsWith entered outside p c its live freed_front (left es)
+  trimmed-so = trims entered outside p c its live twice es with-it
+
+  there : value_at freed_front k ≡ Some x
+  there =
+      ap (λ (vs : List (Option Val)). slice_index_or vs k None) (trim-values link_of twice p c no_tag es)
+      ∙ there-mid d s whole p live number k x pushes.free pushes.pushed.free pushes.body few
+
+  clear : entry_at freed_front.cells l ≡ Some null
+  clear =
+      trim-other link_of twice p c no_tag es l
+      (λ same. link-off d s whole p live number k x pushes.free pushes.pushed.free pushes.body few c _ is.list.begins (sym same))
+      (link-off_all d s whole p live number k x pushes.free pushes.pushed.free pushes.body few es is.list.linked)
+      ∙ clear-mid d s whole p live number k x pushes.free pushes.pushed.free pushes.body few
+
+  stands-twice : standing_at freed_front k ≡ Some (Shared 2)
+  stands-twice =
+      stands-still twice p c k es (not-among d s whole p live number k x pushes.free pushes.pushed.free pushes.body few c es is.list)
+      ∙ at-same entered.world.standings k (Some (Shared 2)) None (inside-list entered.world.standings k (ap is_some once.shared))
+
+  -- both its owners are outside, so it is in no list
+  unlisted : IsListed (IsListCell entered) freed_front k → ⊥
+  unlisted at =
+      let m = trimmed-so.midway in
+      let inner = listed-inside freed_front (λ u. outside u + contained entered u) m.ledger (IsListCell entered) k at in
+      let mine = owner-given d.owners d.cells d.collectors (holding.shared k d.world.home.slots) k refl (owner_of k) in
+      let stands = ((ledger-laws holdings_of freed_front).tells _ m.ledger).stands k (omega (arith, inner)) in
+      elim stands [
+        | inl sole ↦ (let never : Some (Shared 2) ≡ Some Owned = sym stands-twice ∙ sole.0 in absurd (cc))
+        | inr several ↦
+            (let both : Some (Shared 2) ≡ Some (Shared several.0) = sym stands-twice ∙ several.1 in
+            let two : several.0 ≡ 2 = cc in
+            absurd (omega (arith, several.2, ap (max 1) two, inner, mine, same-once k)))
+      ]
+
+  put : IsMidway entered (linked_in freed_front c no_tag (link_of pushes.entry) k (first_slot (left es))) (named entered)
+  put =
+      puts-in trimmed-so.midway p c its k x (left es) trimmed-so.list trimmed-so.numbers there clear
+      (number-in d s whole p live number k x pushes.free pushes.pushed.free pushes.body few) unlisted (named entered) (λ u. refl)
+
+  -- two owners at once, or one after the other
+  made-twice : twice ≡ made_as (nulled d.world (link_of pushes.entry)) k pushes.entry (Shared 2)
+  made-twice =
+      ap (λ (ss : Entries Standing). record entered.world { standings = ss }) (set-set d.world.standings k (Some (Shared 1)) (Some (Shared 2)))
+
+  world-is : linked_in freed_front c no_tag (link_of pushes.entry) k (first_slot (left es)) ≡ w
+  world-is =
+      ap (λ (u : World Val). linked_in (trimmed link_of u p c no_tag es) c no_tag (link_of pushes.entry) k (first_slot (left es))) made-twice
+      ∙ sym pushes.pushed.world
 
   pub pushed-leaves : IsDatedWithin d after_pushed → LeavesSound d after_pushed
   pushed-leaves within =
-      let long = done.frames.slots.slots ∙ length-set d.world.standings k (Some (Shared 1)) in
-      let dated = dated-all d after_pushed s.stocked long within in
-      let later : IsDated mid after_pushed = record { dated = λ j. rw (waits-as j) (dated.dated j); long = dated.long } in
-      leaves-then made
-      (finishes mid w mid.owners mid.cells mid.collectors dates made.sound done
-      (λ u. refl) (made.sound.home.owners, made.sound.home.cells, made.sound.home.collectors) later p live) dated
+      entered-leaves d s whole p live number k x pushes.free pushes.pushed.free pushes.body few w dates
+      (subst (λ (u : World Val). IsMidway entered u (named entered)) world-is put) within

@@ -13,7 +13,7 @@ use Rattle.sdd_space.specs.ParticipantChanges.{all_awaiting}
 use Rattle.sdd_space.specs.World.{World, place_at, standing_at}
 use Rattle.sdd_space.specs.WorldChanges.{made_as, nulled, with_cell, with_standing}
 use Rattle.sdd_space.proofs.Own.{Gives, Gives-owner_given, Gives-range}
-use Rattle.sdd_lists.specs.Lists.{Entry, emptied, first_slot, is_deleted, let_go_first, trimmed}
+use Rattle.sdd_lists.specs.Lists.{Entry, emptied, first_slot, is_deleted, let_go_first, removed, trimmed}
 use Rattle.sdd_script_model.specs.Stacks.{Pushes, Takes, stack_closed}
 use Rattle.sdd_script_model.specs.Val.{Val, link_of}
 
@@ -77,16 +77,20 @@ module _ (p : ℕ) where
       let g = gives-trimmed made c no_tag es l in
       subst (λ (u : World Val). Gives p w u) (sym pushes.pushed.world) (record { slots = g.slots; time = g.time })
 
+  -- the first that isn't deleted, with those before it
+  pub gives-removed : (w : World Val) (c : ℕ) (es : List (Entry Val)) (e : Entry Val) (rest : List (Entry Val)) → p < length w.time.places →
+      Gives p w (removed link_of w p c no_tag es e rest)
+  gives-removed w c es e rest l =
+      let freed = gives-trimmed w c no_tag es l in
+      let deleted : World Val = with_cell (trimmed link_of w p c no_tag es) (link_of e.value) (record { held = first_slot rest; tag = Second }) in
+      let last = gives-let_go deleted c no_tag e.slot (link_of e.value) (first_slot rest) in
+      gives-then {u = w} {v = deleted} l (record { slots = freed.slots; time = freed.time }) (record { slots = last.slots; time = last.time })
+
   pub gives-taken : (w : World Val) (c : ℕ) (es : List (Entry Val)) (e : Entry Val) (new : World Val) → p < length w.time.places →
       Takes w p c es e new → Gives p w new
   gives-taken w c es e new l takes =
-      let shared : World Val = with_standing w e.slot (Shared (takes.owners + 1)) in
-      let freed = gives-trimmed shared c no_tag es l in
-      let u : World Val = trimmed link_of shared p c no_tag es in
-      let deleted : World Val = with_cell u (link_of e.value) (record { held = first_slot takes.rest; tag = Second }) in
-      let last = gives-let_go deleted c no_tag e.slot (link_of e.value) (first_slot takes.rest) in
-      subst (λ (v : World Val). Gives p w v) (sym takes.world)
-      (gives-then {u = w} {v = deleted} l (record { slots = freed.slots; time = freed.time }) (record { slots = last.slots; time = last.time }))
+      let g = gives-removed (with_standing w e.slot (Shared (takes.owners + 1))) c es e takes.rest l in
+      subst (λ (v : World Val). Gives p w v) (sym takes.world) (record { slots = g.slots; time = g.time })
 
   pub gives-closed : (w : World Val) (c : ℕ) (es : List (Entry Val)) → p < length w.time.places → Gives p w (stack_closed w p c es)
   gives-closed w c es l = let g = gives-emptied w c no_tag es l in record { slots = g.slots; time = g.time }

@@ -16,11 +16,15 @@ use Rattle.sdd_space.proofs.Own.{Gives, Gives-retired, Gives-owner_given, Gives-
 use Rattle.sdd_script_text.specs.declared.call.Call.{Call}
 use Rattle.sdd_script_text.specs.declared.call.Call.TheVariants.{Register, Tally, At}
 use Rattle.sdd_script_text.specs.declared.call.Action.{Action}
+use Rattle.sdd_script_text.specs.declared.name.ListName.TheVariants as list
 use Rattle.sdd_script_text.specs.declared.call.Action.TheVariants as call
 use Rattle.sdd_script_text.specs.declared.answer.Reply.{Reply}
 use Rattle.sdd_script_text.specs.declared.answer.Reply.TheVariants as reply
 use Rattle.sdd_core.specs.declared.tag.Tag.TheVariants.{None as no_tag}
+use Rattle.sdd_lists.specs.Queue.{queue_closed}
 use Rattle.sdd_script_model.specs.Stacks.{stack_closed}
+use Rattle.sdd_script_model.specs.Val.{link_of}
+use Rattle.sdd_script_model.proofs.QueueTurns.{gives-dequeued, gives-enqueued, gives-queue_closed, gives-queue_drained}
 use Rattle.sdd_script_model.proofs.StackTurns.{gives-closed, gives-pushed, gives-taken, gives-trimmed}
 use Rattle.sdd_script_model.specs.Collecting.{Collects}
 use Rattle.sdd_script_model.specs.Due.{caller, is_opening, is_close, is_end, is_waiting_in}
@@ -257,12 +261,34 @@ module _ (d new : ScriptState) (whole : IsWhole d.world) (after : IsWhole new.wo
   turn-does n (call.Unmark i) (reply.Truth b) valid does = still (λ k. (refl, refl, refl)) (still-retags d i.0 change.Unmark b new does)
   turn-does n (call.Delete i) (reply.Truth b) valid does = still (λ k. (refl, refl, refl)) (still-retags d i.0 change.Delete b new does)
   turn-does n (call.LinkTag i) (reply.Tag tag) valid (is, e) = still (λ k. (refl, refl, refl)) (same-desk d new e)
+  turn-does n call.Queue (reply.Queue q) valid (name, (cells, free, other, apart, leaves)) =
+      still (λ k. (refl, refl, refl)) (time-left leaves, places-left leaves)
+  turn-does n call.Queue (reply.Refused NoCell) valid (full, e) = still (λ k. (refl, refl, refl)) (same-desk d new e)
+  turn-does n (call.Enqueue q number g) (reply.Item o i) valid (name, (cells, es, second, k, w, is, puts, given)) =
+      gives w (λ k. (refl, refl, refl)) valid.0.0 (places-left given.1) (world-left given.1)
+      (gives-enqueued (place_of d n.0) d.world cells es second number k w (live n.0 valid.0.0).0 puts)
+  turn-does n (call.Enqueue q number g) (reply.Refused r) valid (is, e) = still (λ k. (refl, refl, refl)) (same-desk d new e)
+  turn-does n (call.Dequeue q g) (reply.Popped o number) valid (cells, es, second, e, w, is, told, takes, given) =
+      gives w (λ k. (refl, refl, refl)) valid.0.0 (places-left given.1) (world-left given.1)
+      (gives-dequeued (place_of d n.0) d.world cells es second e w (live n.0 valid.0.0).0 takes)
+  turn-does n (call.Dequeue q g) reply.Nothing valid (cells, es, second, w, is, drains, leaves) =
+      gives w (λ k. (refl, refl, refl)) valid.0.0 (places-left leaves) (world-left leaves)
+      (gives-queue_drained (place_of d n.0) d.world cells es second w (live n.0 valid.0.0).0 drains)
+  turn-does n (call.Dequeue q g) (reply.Refused TooManyOwners) valid (is, e) = still (λ k. (refl, refl, refl)) (same-desk d new e)
+  turn-does n (call.CloseQueue q) reply.Done valid (cells, es, second, is, leaves) =
+      gives (queue_closed link_of d.world (place_of d n.0) cells es second) (λ k. (refl, refl, refl)) valid.0.1.0 (places-left leaves) (world-left leaves)
+      (gives-queue_closed (place_of d n.0) d.world cells es second (live n.0 valid.0.1.0).0)
   turn-does n call.Stack (reply.Stack s) valid (name, (c, free, leaves)) = still (λ k. (refl, refl, refl)) (time-left leaves, places-left leaves)
   turn-does n call.Stack (reply.Refused NoCell) valid (full, e) = still (λ k. (refl, refl, refl)) (same-desk d new e)
   turn-does n (call.Push s number g) (reply.Item o i) valid (name, (c, es, k, w, is, pushes, given)) =
       gives w (λ k. (refl, refl, refl)) valid.0.0 (places-left given.1) (world-left given.1)
       (gives-pushed (place_of d n.0) d.world c es number k w (live n.0 valid.0.0).0 pushes)
   turn-does n (call.Push s number g) (reply.Refused r) valid (is, e) = still (λ k. (refl, refl, refl)) (same-desk d new e)
+  turn-does n (call.PushIf (list.Stack s) number m g) (reply.Item o i) valid (newest, (name, (c, es, k, w, is, pushes, given))) =
+      gives w (λ k. (refl, refl, refl)) valid.0.0 (places-left given.1) (world-left given.1)
+      (gives-pushed (place_of d n.0) d.world c es number k w (live n.0 valid.0.0).0 pushes)
+  turn-does n (call.PushIf l number m g) (reply.Kept back) valid (same, other, e) = still (λ k. (refl, refl, refl)) (same-desk d new e)
+  turn-does n (call.PushIf l number m g) (reply.Refused r) valid (newest, is, e) = still (λ k. (refl, refl, refl)) (same-desk d new e)
   turn-does n (call.Pop s g) (reply.Popped o number) valid (c, es, e, w, is, told, takes, given) =
       gives w (λ k. (refl, refl, refl)) valid.0.0 (places-left given.1) (world-left given.1)
       (gives-taken (place_of d n.0) d.world c es e w (live n.0 valid.0.0).0 takes)
@@ -271,6 +297,19 @@ module _ (d new : ScriptState) (whole : IsWhole d.world) (after : IsWhole new.wo
       (subst (λ (u : World Val). Gives (place_of d n.0) d.world u) (sym drains.world)
       (gives-trimmed (place_of d n.0) d.world c no_tag es (live n.0 valid.0.0).0))
   turn-does n (call.Pop s g) (reply.Refused TooManyOwners) valid (is, e) = still (λ k. (refl, refl, refl)) (same-desk d new e)
+  turn-does n (call.PopIf (list.Stack s) m g) (reply.Popped o number) valid (same, (c, es, e, w, is, told, takes, given)) =
+      gives w (λ k. (refl, refl, refl)) valid.0.0 (places-left given.1) (world-left given.1)
+      (gives-taken (place_of d n.0) d.world c es e w (live n.0 valid.0.0).0 takes)
+  turn-does n (call.PopIf (list.Stack s) m g) reply.Nothing valid (c, es, w, is, drains, leaves) =
+      gives w (λ k. (refl, refl, refl)) valid.0.0 (places-left leaves) (world-left leaves)
+      (subst (λ (u : World Val). Gives (place_of d n.0) d.world u) (sym drains.world)
+      (gives-trimmed (place_of d n.0) d.world c no_tag es (live n.0 valid.0.0).0))
+  turn-does n (call.PopIf l m g) (reply.KeptEntry o number) valid (other, (c, es, e, rest, is, first, told, adds)) =
+      still (λ k. (refl, refl, refl)) (still-adds d e.slot (reply.Owner o) new adds)
+  turn-does n (call.PopIf l m g) (reply.Refused TooManyOwners) valid (is, e) = still (λ k. (refl, refl, refl)) (same-desk d new e)
+  turn-does n (call.Peek l g) given valid (is, e) = still (λ k. (refl, refl, refl)) (same-desk d new e)
+  turn-does n (call.Len l g) (reply.Value m) valid (is, e) = still (λ k. (refl, refl, refl)) (same-desk d new e)
+  turn-does n (call.List l g) (reply.Numbers ns) valid (is, e) = still (λ k. (refl, refl, refl)) (same-desk d new e)
   turn-does n (call.CloseStack s) reply.Done valid (c, es, is, leaves) =
       gives (stack_closed d.world (place_of d n.0) c es) (λ k. (refl, refl, refl)) valid.0.1.0 (places-left leaves) (world-left leaves)
       (gives-closed (place_of d n.0) d.world c es (live n.0 valid.0.1.0).0)

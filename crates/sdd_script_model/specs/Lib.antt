@@ -11,3 +11,5 @@ pub mod Held
 pub mod Link
 pub mod Listed
 pub mod Stacks
+pub mod Containers
+pub mod Queues

@@ -1,11 +1,12 @@
 -- Lists of numbers that begin in known cells
-use Rattle.std.specs.Prelude.{ℕ, ◌≡◌, ◌⊎◌, List, [], ◌∷◌, None, Some}
+use Rattle.std.specs.Prelude.{ℕ, ◌≡◌, ◌⊎◌, List, [], ◌∷◌, Option, None, Some}
 use Rattle.sdd_core.specs.declared.tag.Tag.TheVariants.{None as no_tag}
 use Rattle.sdd_participants.specs.Slab.{entry_at}
 use Rattle.sdd_space.specs.World.{World, value_at}
 use Rattle.sdd_space.specs.WorldChanges.{held_in}
 use Rattle.sdd_lists.specs.Ends.{IsAmong}
 use Rattle.sdd_lists.specs.Lists.{Entry, IsList}
+use Rattle.sdd_lists.specs.Queue.{IsNoneOrAmong}
 use Rattle.sdd_script_model.specs.declared.val.Body.{Body}
 use Rattle.sdd_script_model.specs.declared.val.Body.TheVariants.{Number, Owned, Shared}
 use Rattle.sdd_script_model.specs.Val.{Val, body_of, link_of}
@@ -25,6 +26,12 @@ AreNumbers (e ∷ es) = IsNumber (body_of e.value) × AreNumbers es
 abbrev pub Begins : World Val → (c : ℕ) → List (Entry Val) → Type 0
 Begins w c es = IsList link_of w c no_tag es
 
+-- cell b holds nothing, or an entry of these
+pub record HoldsEntry (w : World Val) (b : ℕ) (es : List (Entry Val)) : Type 0 where
+  pub second : Option ℕ
+  pub holds : entry_at w.cells b ≡ Some (record { held = second; tag = no_tag })
+  pub among : IsNoneOrAmong second es
+
 -- a list begins in each of these cells
 module _ (begins : ℕ → Type 0) where
   -- the item in slot s is an entry of one of the lists
@@ -35,9 +42,12 @@ module _ (begins : ℕ → Type 0) where
     pub list : Begins w cell entries
     pub among : IsAmong s entries
 
-  pub record HasLists (w : World Val) : Type 0 where
+  -- and of some a second cell holds an entry of the list
+  pub record HasLists (seconds : (c b : ℕ) → Type 0) (w : World Val) : Type 0 where
     pub lists : (c : ℕ) → begins c → (es : List (Entry Val)) × Begins w c es × AreNumbers es
     -- no entry is in two
     pub apart : (b c s : ℕ) (es fs : List (Entry Val)) → begins b → begins c → Begins w b es → Begins w c fs → IsAmong s es → IsAmong s fs → b ≡ c
     -- a link holds nothing, or is that of an entry of one
     pub linked : (s : ℕ) (v : Val) → value_at w s ≡ Some v → (held_in (entry_at w.cells (link_of v)) ≡ None) ⊎ IsListed w s
+    -- a second cell is that of a list, and holds one of its entries or nothing
+    pub second : (c b : ℕ) → seconds c b → begins c × ((es : List (Entry Val)) → Begins w c es → HoldsEntry w b es)

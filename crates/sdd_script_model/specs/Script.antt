@@ -24,6 +24,8 @@ use Rattle.sdd_space.specs.ReclaimBound.{GoesInTime}
 use Rattle.sdd_script_text.specs.declared.name.ItemName.{ItemName}
 use Rattle.sdd_script_text.specs.declared.name.JobName.{JobName}
 use Rattle.sdd_script_text.specs.declared.name.OwnerName.{OwnerName}
+use Rattle.sdd_script_text.specs.declared.name.ListName.{ListName}
+use Rattle.sdd_script_text.specs.declared.name.ListName.TheVariants as list
 use Rattle.sdd_script_text.specs.declared.call.Call.{Call}
 use Rattle.sdd_script_text.specs.declared.call.Call.TheVariants.{Register, Tally, At}
 use Rattle.sdd_script_text.specs.declared.call.Action.{Action}
@@ -34,16 +36,20 @@ use Rattle.sdd_script_text.specs.declared.answer.Answer.{Answer}
 use Rattle.sdd_script_text.specs.declared.answer.Reply.{Reply}
 use Rattle.sdd_script_text.specs.declared.answer.Reply.TheVariants as reply
 use Rattle.sdd_script_model.specs.declared.val.Body.TheVariants as body
-use Rattle.sdd_script_model.specs.Val.{Val, body_of, holdings_of}
+use Rattle.sdd_script_model.specs.Val.{Val, body_of, holdings_of, link_of}
 use Rattle.sdd_script_model.specs.declared.link_change.LinkChange.TheVariants as change
-use Rattle.sdd_lists.specs.Lists.{Entry}
+use Rattle.sdd_lists.specs.Lists.{Entry, content, first_value, left}
+use Rattle.sdd_lists.specs.Walk.{shown_of}
 use Rattle.sdd_script_model.specs.Link.{IsLink, Retags}
 use Rattle.sdd_script_model.specs.Stacks.{Drains, IsOwnedEnough, IsStack, Pushes, RefusesEntry, Takes, stack_closed}
+use Rattle.sdd_script_model.specs.Containers.{HasNewest, IsContainer, TellsNumber}
+use Rattle.sdd_lists.specs.Queue.{HasOneAtMost, QueueCells, queue_closed}
+use Rattle.sdd_script_model.specs.Queues.{DrainsQueue, Enqueues, IsNamedQueue, TakesOldest}
 use Rattle.sdd_script_model.specs.Made.{Makes, RefusesItem, put_in}
 use Rattle.sdd_script_model.specs.Shown.{RepliesValue, IsCell, item_held, item_in}
 use Rattle.sdd_script_model.specs.Collecting.{Collects}
 use Rattle.sdd_script_model.specs.InPlace.{OwnsNumber, Puts, Drops, RefusesDrop, IsRaw}
-use Rattle.sdd_script_model.specs.ScriptState.{ScriptState, OpenSince, IsStart, IsDated, IsThere, WaitsAt, Leaves, opening_at, holding_at, slot_at, date_at, job_date_at, place_of, since_of, slot_of, sole_slot, shared_slot, shared_cell, collector_of, in_world, with_owner, without_owner, with_collector, without_collector, with_item, with_job, with_stack, without_stack, with_newcomer, without_participant, with_guard, without_guard, later}
+use Rattle.sdd_script_model.specs.ScriptState.{ScriptState, OpenSince, IsStart, IsDated, IsThere, WaitsAt, Leaves, opening_at, holding_at, slot_at, date_at, job_date_at, place_of, since_of, slot_of, sole_slot, shared_slot, shared_cell, collector_of, in_world, with_owner, without_owner, with_collector, without_collector, with_item, with_job, with_queue, without_queue, with_stack, without_stack, with_newcomer, without_participant, with_guard, without_guard, later}
 use Rattle.sdd_script_model.specs.ScriptState as desk
 use Rattle.sdd_script_model.specs.Due.{Line, NamesWhatIsDue}
 
@@ -85,6 +91,14 @@ IsCollector d k = IsSome (collector_of (holding_at d.collectors k))
 -- the name is that of a stack
 abbrev pub IsStackName : ScriptState → ℕ → Type 0
 IsStackName d s = IsSome (shared_cell (holding_at d.stacks s))
+
+-- the name is that of a queue
+abbrev pub IsQueueName : ScriptState → ℕ → Type 0
+IsQueueName d q = IsSome (shared_cell (holding_at d.queues q))
+
+-- the name is that of a container of entries
+abbrev pub IsListName : ScriptState → ListName → Type 0
+IsListName d (list.Stack s) = IsStackName d s.0
 
 -- what goes into a cell of this kind is none, or there and of its kind
 abbrev pub FitsCell : ScriptState → Option OwnerOrCell → Option OwnerName → Type 0
@@ -160,9 +174,18 @@ IsValid d n (call.Mark i) = IsUnderGuard d n × CanPointTo d n i.0
 IsValid d n (call.Unmark i) = IsUnderGuard d n × CanPointTo d n i.0
 IsValid d n (call.Delete i) = IsUnderGuard d n × CanPointTo d n i.0
 IsValid d n (call.LinkTag i) = IsUnderGuard d n × CanPointTo d n i.0
+IsValid d n call.Queue = IsParticipant d n
+IsValid d n (call.Enqueue q number g) = HasOpen d n g.0 × IsQueueName d q.0
+IsValid d n (call.Dequeue q g) = HasOpen d n g.0 × IsQueueName d q.0
 IsValid d n call.Stack = IsParticipant d n
 IsValid d n (call.Push s number g) = HasOpen d n g.0 × IsStackName d s.0
+IsValid d n (call.PushIf l number m g) = HasOpen d n g.0 × IsListName d l
 IsValid d n (call.Pop s g) = HasOpen d n g.0 × IsStackName d s.0
+IsValid d n (call.PopIf l m g) = HasOpen d n g.0 × IsListName d l
+IsValid d n (call.Peek l g) = HasOpen d n g.0 × IsListName d l
+IsValid d n (call.Len l g) = HasOpen d n g.0 × IsListName d l
+IsValid d n (call.List l g) = HasOpen d n g.0 × IsListName d l
+IsValid d n (call.CloseQueue q) = IsUnderGuard d n × IsQueueName d q.0
 IsValid d n (call.CloseStack s) = IsUnderGuard d n × IsStackName d s.0
 IsValid d n (call.CloseCell c) = IsParticipant d n × IsCellName d c.0
 IsValid d n call.Collector = IsParticipant d n
@@ -260,6 +283,29 @@ abbrev pub IsShareFull : World Val → Option ℕ → Type 0
 IsShareFull w None = ⊥
 IsShareFull w (Some k) = IsSharedBy (2 ^ 62) (standing_at w k)
 
+-- ---- containers of entries
+
+-- p puts the number among the entries of the container of this name: its item and an owner of that are named
+abbrev pub PutsIn : ScriptState → (p : ℕ) → ListName → ℕ → OwnerName → ItemName → ScriptState → Type 0
+PutsIn d p (list.Stack s) number o i new =
+    (i.0 ≡ length d.slots) × ((c : ℕ) × (es : List (Entry Val)) × (k : ℕ) × (w : World Val) × IsStack d s.0 c es × Pushes d.world p c es number k w
+    × GivesOwner (with_item d k) w (shared k d.world.home.slots) o new)
+
+-- p takes out the first entry that isn't deleted, which has the number, and is given an owner of it
+abbrev pub TakesOut : ScriptState → (p : ℕ) → ListName → ℕ → OwnerName → ScriptState → Type 0
+TakesOut d p (list.Stack s) number o new =
+    (c : ℕ) × (es : List (Entry Val)) × (e : Entry Val) × (w : World Val) × IsStack d s.0 c es × (body_of e.value ≡ body.Number number)
+    × Takes d.world p c es e w × GivesOwner d w (shared e.slot d.world.home.slots) o new
+
+-- each entry is deleted, and p lets go of all
+abbrev pub IsDrainedOf : ScriptState → (p : ℕ) → ListName → ScriptState → Type 0
+IsDrainedOf d p (list.Stack s) new =
+    (c : ℕ) × (es : List (Entry Val)) × (w : World Val) × IsStack d s.0 c es × Drains d.world p c es w × Leaves (in_world d w) new
+
+-- the first entry that isn't deleted has as many owners as there may be
+abbrev pub HasCrowdedFirst : ScriptState → ListName → Type 0
+HasCrowdedFirst d l = (c : ℕ) × (es : List (Entry Val)) × IsContainer d l c es × IsOwnedEnough d.world es
+
 -- an action of participant n, at p, may be replied to so, and leave the desk new
 abbrev pub Does : ScriptState → (n p : ℕ) → Action → Reply → ScriptState → Type 0
 Does d n p call.Open (reply.Guard g epoch) new =
@@ -351,22 +397,52 @@ Does d n p (call.Mark i) (reply.Truth b) new = Retags d i.0 change.Mark b new
 Does d n p (call.Unmark i) (reply.Truth b) new = Retags d i.0 change.Unmark b new
 Does d n p (call.Delete i) (reply.Truth b) new = Retags d i.0 change.Delete b new
 Does d n p (call.LinkTag i) (reply.Tag tag) new = ((k : ℕ) × (cell : CellContents) × IsLink d i.0 k cell × (tag ≡ cell.tag)) × (new ≡ d)
+-- two free cells are taken, whichever
+Does d n p call.Queue (reply.Queue q) new =
+    (q.0 ≡ length d.queues) × ((cells : QueueCells) × IsEmptyAt d.world.cells cells.oldest × IsEmptyAt d.world.cells cells.newest
+    × (cells.oldest ≢ cells.newest)
+    × Leaves (in_world (with_queue d cells.oldest cells.newest) (nulled (nulled d.world cells.oldest) cells.newest)) new)
+Does d n p call.Queue (reply.Refused NoCell) new = HasOneAtMost d.world.cells × (new ≡ d)
+-- a free cell and a free slot are taken, whichever
+Does d n p (call.Enqueue q number g) (reply.Item o i) new =
+    (i.0 ≡ length d.slots) × ((cells : QueueCells) × (es : List (Entry Val)) × (second : Option ℕ) × (k : ℕ) × (w : World Val)
+    × IsNamedQueue d q.0 cells es second × Enqueues d.world p cells es second number k w
+    × GivesOwner (with_item d k) w (shared k d.world.home.slots) o new)
+Does d n p (call.Enqueue q number g) (reply.Refused refused) new = RefusesEntry d.world refused × (new ≡ d)
+Does d n p (call.Dequeue q g) (reply.Popped o number) new =
+    (cells : QueueCells) × (es : List (Entry Val)) × (second : Option ℕ) × (e : Entry Val) × (w : World Val) × IsNamedQueue d q.0 cells es second
+    × (body_of e.value ≡ body.Number number) × TakesOldest d.world p cells es second e w × GivesOwner d w (shared e.slot d.world.home.slots) o new
+Does d n p (call.Dequeue q g) reply.Nothing new =
+    (cells : QueueCells) × (es : List (Entry Val)) × (second : Option ℕ) × (w : World Val) × IsNamedQueue d q.0 cells es second
+    × DrainsQueue d.world p cells es second w × Leaves (in_world d w) new
+Does d n p (call.Dequeue q g) (reply.Refused TooManyOwners) new =
+    ((cells : QueueCells) × (es : List (Entry Val)) × (second : Option ℕ) × IsNamedQueue d q.0 cells es second × IsOwnedEnough d.world es) × (new ≡ d)
 -- a free cell is taken, whichever
 Does d n p call.Stack (reply.Stack s) new =
     (s.0 ≡ length d.stacks) × ((c : ℕ) × IsEmptyAt d.world.cells c × Leaves (in_world (with_stack d c) (nulled d.world c)) new)
 Does d n p call.Stack (reply.Refused NoCell) new = IsFull d.world.cells × (new ≡ d)
 -- a free cell and a free slot are taken, whichever
-Does d n p (call.Push s number g) (reply.Item o i) new =
-    (i.0 ≡ length d.slots) × ((c : ℕ) × (es : List (Entry Val)) × (k : ℕ) × (w : World Val) × IsStack d s.0 c es × Pushes d.world p c es number k w
-    × GivesOwner (with_item d k) w (shared k d.world.home.slots) o new)
+Does d n p (call.Push s number g) (reply.Item o i) new = PutsIn d p (list.Stack s) number o i new
 Does d n p (call.Push s number g) (reply.Refused refused) new = RefusesEntry d.world refused × (new ≡ d)
-Does d n p (call.Pop s g) (reply.Popped o number) new =
-    (c : ℕ) × (es : List (Entry Val)) × (e : Entry Val) × (w : World Val) × IsStack d s.0 c es × (body_of e.value ≡ body.Number number)
-    × Takes d.world p c es e w × GivesOwner d w (shared e.slot d.world.home.slots) o new
-Does d n p (call.Pop s g) reply.Nothing new =
-    (c : ℕ) × (es : List (Entry Val)) × (w : World Val) × IsStack d s.0 c es × Drains d.world p c es w × Leaves (in_world d w) new
-Does d n p (call.Pop s g) (reply.Refused TooManyOwners) new =
-    ((c : ℕ) × (es : List (Entry Val)) × IsStack d s.0 c es × IsOwnedEnough d.world es) × (new ≡ d)
+Does d n p (call.PushIf l number m g) (reply.Item o i) new = HasNewest d l m × PutsIn d p l number o i new
+Does d n p (call.PushIf l number m g) (reply.Kept back) new = (back ≡ number) × ¬ (HasNewest d l m) × (new ≡ d)
+Does d n p (call.PushIf l number m g) (reply.Refused refused) new = HasNewest d l m × RefusesEntry d.world refused × (new ≡ d)
+Does d n p (call.Pop s g) (reply.Popped o number) new = TakesOut d p (list.Stack s) number o new
+Does d n p (call.Pop s g) reply.Nothing new = IsDrainedOf d p (list.Stack s) new
+Does d n p (call.Pop s g) (reply.Refused TooManyOwners) new = HasCrowdedFirst d (list.Stack s) × (new ≡ d)
+Does d n p (call.PopIf l m g) (reply.Popped o number) new = (number ≡ m) × TakesOut d p l number o new
+Does d n p (call.PopIf l m g) reply.Nothing new = IsDrainedOf d p l new
+Does d n p (call.PopIf l m g) (reply.KeptEntry o number) new =
+    (number ≢ m) × ((c : ℕ) × (es : List (Entry Val)) × (e : Entry Val) × (rest : List (Entry Val)) × IsContainer d l c es × (left es ≡ e ∷ rest)
+    × (body_of e.value ≡ body.Number number) × AddsOwner d e.slot (reply.Owner o) new)
+Does d n p (call.PopIf l m g) (reply.Refused TooManyOwners) new = HasCrowdedFirst d l × (new ≡ d)
+Does d n p (call.Peek l g) given new = ((c : ℕ) × (es : List (Entry Val)) × IsContainer d l c es × TellsNumber given (first_value (left es))) × (new ≡ d)
+Does d n p (call.Len l g) (reply.Value m) new = ((c : ℕ) × (es : List (Entry Val)) × IsContainer d l c es × (m ≡ length (content es))) × (new ≡ d)
+Does d n p (call.List l g) (reply.Numbers ns) new =
+    ((c : ℕ) × (es : List (Entry Val)) × IsContainer d l c es × (shown_of es ≡ map body.Number ns)) × (new ≡ d)
+Does d n p (call.CloseQueue q) reply.Done new =
+    (cells : QueueCells) × (es : List (Entry Val)) × (second : Option ℕ) × IsNamedQueue d q.0 cells es second
+    × Leaves (in_world (without_queue d q.0) (queue_closed link_of d.world p cells es second)) new
 Does d n p (call.CloseStack s) reply.Done new =
     (c : ℕ) × (es : List (Entry Val)) × IsStack d s.0 c es × Leaves (in_world (without_stack d s.0) (stack_closed d.world p c es)) new
 Does d n p (call.CloseCell c) reply.Done new =

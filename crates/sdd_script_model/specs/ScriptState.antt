@@ -1,5 +1,5 @@
 -- A script's world, and what its names stand for
-use Rattle.std.specs.Prelude.{ℕ, ◌+◌, ◌<◌, ◌≡◌, List, [], ◌∷◌, ◌++◌, Option, None, Some, IsSome, length, replicate, slice_index, slice_index_or, slice_set, if◌then◌else◌}
+use Rattle.std.specs.Prelude.{ℕ, ◌+◌, ◌<◌, ◌≡◌, ◌⊎◌, List, [], ◌∷◌, ◌++◌, Option, None, Some, IsSome, length, replicate, slice_index, slice_index_or, slice_set, if◌then◌else◌}
 use Rattle.sdd_participants.specs.EpochState.{is_open}
 use Rattle.sdd_participants.specs.Slab.{entry_at}
 use Rattle.sdd_standings.specs.Slots.{is_waiting}
@@ -27,6 +27,10 @@ pub record ScriptState : Type 0 where
   pub cells : List (Option OwnerOrCell)
   -- each collector, by its cell, until it is spent
   pub collectors : List (Option OwnerOrCell)
+  -- each queue, by the cell in which its list begins, until it is spent
+  pub queues : List (Option OwnerOrCell)
+  -- of each queue the cell that owns its newest entry once more, until it is spent
+  pub newest : List (Option OwnerOrCell)
   -- each stack, by its cell, until it is spent
   pub stacks : List (Option OwnerOrCell)
   -- of each item its slot
@@ -144,9 +148,21 @@ shared_cell (Some (atomic_owned c home)) = None
 shared_cell (Some (atomic_shared c home)) = Some c
 shared_cell (Some (atomic_raw c home)) = None
 
+-- a queue begins in this cell
+abbrev pub IsQueueCell : ScriptState → ℕ → Type 0
+IsQueueCell d c = (n : ℕ) × (shared_cell (holding_at d.queues n) ≡ Some c)
+
 -- a stack begins in this cell
 abbrev pub IsStackCell : ScriptState → ℕ → Type 0
 IsStackCell d c = (n : ℕ) × (shared_cell (holding_at d.stacks n) ≡ Some c)
+
+-- a queue or a stack begins in this cell
+abbrev pub IsListCell : ScriptState → ℕ → Type 0
+IsListCell d c = IsQueueCell d c ⊎ IsStackCell d c
+
+-- of the queue that begins in cell c this is the second cell
+abbrev pub IsSecondCell : ScriptState → (c b : ℕ) → Type 0
+IsSecondCell d c b = (n : ℕ) × (shared_cell (holding_at d.queues n) ≡ Some c) × (shared_cell (holding_at d.newest n) ≡ Some b)
 
 -- the number of a collector's cell
 abbrev pub collector_of : Option OwnerOrCell → Option ℕ
@@ -200,6 +216,16 @@ with_collector d c = record d { collectors = d.collectors ++ Some (atomic_raw c 
 abbrev pub without_collector : ScriptState → ℕ → ScriptState
 without_collector d k = record d { collectors = slice_set d.collectors k None }
 
+-- the next queue has these cells
+abbrev pub with_queue : ScriptState → (oldest newest : ℕ) → ScriptState
+with_queue d oldest newest = record d {
+  queues = d.queues ++ Some (atomic_shared oldest d.world.home.cells) ∷ [];
+  newest = d.newest ++ Some (atomic_shared newest d.world.home.cells) ∷ [];
+}
+
+abbrev pub without_queue : ScriptState → ℕ → ScriptState
+without_queue d q = record d { queues = slice_set d.queues q None; newest = slice_set d.newest q None }
+
 -- the next stack has cell c
 abbrev pub with_stack : ScriptState → ℕ → ScriptState
 with_stack d c = record d { stacks = d.stacks ++ Some (atomic_shared c d.world.home.cells) ∷ [] }
@@ -239,6 +265,8 @@ pub record IsStart (limits : Limits) (d : ScriptState) : Type 0 where
   pub owners : d.owners ≡ []
   pub cells : d.cells ≡ []
   pub collectors : d.collectors ≡ []
+  pub queues : d.queues ≡ []
+  pub newest : d.newest ≡ []
   pub stacks : d.stacks ≡ []
   pub slots : d.slots ≡ []
   pub dates : d.dates ≡ replicate limits.slots 0

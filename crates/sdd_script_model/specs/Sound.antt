@@ -12,7 +12,7 @@ use Rattle.sdd_space.specs.OwnerCounts.{is_owner_of, times_held}
 use Rattle.sdd_space.specs.UnderGuards.{CallsUnder, IsSafe}
 use Rattle.sdd_script_model.specs.Listed.{HasLists}
 use Rattle.sdd_script_model.specs.Val.{Val, holdings_of}
-use Rattle.sdd_script_model.specs.ScriptState.{ScriptState, OpenSince, IsStackCell, opening_at, holding_at, slot_at, name_at, date_at, job_date_at}
+use Rattle.sdd_script_model.specs.ScriptState.{ScriptState, OpenSince, IsListCell, IsSecondCell, opening_at, holding_at, slot_at, name_at, date_at, job_date_at}
 
 -- which item is in which slot
 pub record SlotsHaveNames (d : ScriptState) : Type 0 where
@@ -47,14 +47,18 @@ abbrev pub named_among : (owners cells collectors : List (Option OwnerOrCell)) �
 named_among owners cells collectors (owner_of k) = count_by (owns k) owners
 named_among owners cells collectors (right_to c) = count_by (has_right c) cells + count_by (has_right c) collectors
 
--- so many of each a script has outside its world, beside its stacks
+-- so many of each a script has outside its world, beside its queues and stacks
 abbrev pub named : ScriptState → Claim → ℕ
 named d = named_among d.owners d.cells d.collectors
 
--- so many rights to cells its stacks are
+-- so many rights to cells these queues or stacks are
 abbrev pub stacked : List (Option OwnerOrCell) → Claim → ℕ
 stacked stacks (owner_of k) = 0
 stacked stacks (right_to c) = count_by (has_right c) stacks
+
+-- so many its queues and stacks are together, of a queue both cells counted
+abbrev pub contained : ScriptState → Claim → ℕ
+contained d u = stacked d.queues u + stacked d.newest u + stacked d.stacks u
 
 -- what has a name is of the world's home
 abbrev pub AreAtHome : ScriptState → List (Option OwnerOrCell) → Type 0
@@ -64,6 +68,8 @@ pub record NamesAreAtHome (d : ScriptState) : Type 0 where
   pub owners : AreAtHome d d.owners
   pub cells : AreAtHome d d.cells
   pub collectors : AreAtHome d d.collectors
+  pub queues : AreAtHome d d.queues
+  pub newest : AreAtHome d d.newest
   pub stacks : AreAtHome d d.stacks
 
 -- who is there, and which guards are open
@@ -76,8 +82,8 @@ pub record ParticipantsMatch (d : ScriptState) : Type 0 where
       (n : ℕ) × (x : OpenSince) × (opening_at d.places n ≡ Some x) × (x.place ≡ y.place) × (x.since ≤ y.since)
   -- in a line so far
   pub early : (n : ℕ) (x : OpenSince) → opening_at d.places n ≡ Some x → x.since ≤ d.moment
-  -- an item, a cell or a stack was made by some participant, and its place, or another, is not free
-  pub placed : 0 < length d.slots + length d.cells + length d.stacks → (p : ℕ) × IsSome (phase_at d.world.time p)
+  -- an item, a cell, a queue or a stack was made by some participant, and its place, or another, is not free
+  pub placed : 0 < length d.slots + length d.cells + length d.queues + length d.stacks → (p : ℕ) × IsSome (phase_at d.world.time p)
 
 -- what began to wait since a participant's last outermost opening can't go as long as a guard of it is open
 abbrev pub KeepsRecentItems : ScriptState → Type 0
@@ -120,9 +126,9 @@ pub record AreDeferred (jobs : ℕ) (deferred : List ℕ) (table : Entries (Unit
 pub record IsSound (d : ScriptState) : Type 0 where
   pub stocked : SlotsHaveNames d
   -- of each owner and each right to a cell there are as many as the world needs: those inside it, and those with names
-  pub ledger : IsLedger holdings_of (λ u. named d u + stacked d.stacks u) d.world
-  -- each stack is there, and a link that holds something is that of an entry of one
-  pub lists : HasLists (IsStackCell d) d.world
+  pub ledger : IsLedger holdings_of (λ u. named d u + contained d u) d.world
+  -- each queue and each stack is there, and a link that holds something is that of an entry of one
+  pub lists : HasLists (IsListCell d) (IsSecondCell d) d.world
   pub layered : HoldsOnlyOlder d
   pub home : NamesAreAtHome d
   pub attended : ParticipantsMatch d

@@ -27,7 +27,7 @@ use std::{fs, io};
 use verdict::Verdict;
 
 /// The folders of examples.
-const GROUPS: [&str; 14] = [
+const GROUPS: [&str; 15] = [
     // items that several own
     "shared_owners",
     // cells, of either kind
@@ -44,6 +44,8 @@ const GROUPS: [&str; 14] = [
     "private_collectors",
     // the tags of entries' links
     "links",
+    // queues: their order, what they let go of and when, and their close
+    "queues",
     // stacks: their order, what they let go of and when, and their close
     "stacks",
     // what a value held goes three changes after it, and is named then

@@ -1,4 +1,5 @@
 pub mod Devices
 pub mod Lines
+pub mod NumberTexts
 pub mod Plays
 pub mod Scripts

@@ -22,11 +22,12 @@ use Rattle.sdd_core.specs.declared.tag.Tag.TheVariants as tags
 use Rattle.sdd_script_text.specs.Name.{place, tag}
 use Rattle.sdd_script_text.specs.declared.call.Call.{Call}
 use Rattle.sdd_script_text.specs.declared.call.Call.TheVariants.{Register, Tally, At}
+use Rattle.sdd_script_text.specs.declared.name.ListName.TheVariants as list
 use Rattle.sdd_script_text.specs.declared.call.Action.{Action}
 use Rattle.sdd_script_text.specs.declared.call.Action.TheVariants as action
 use Rattle.sdd_script_text.specs.declared.call.Value.TheVariants as value
 use Rattle.sdd_script_text.specs.declared.call.Argument.{Argument}
-use Rattle.sdd_script_text.specs.declared.call.Argument.TheVariants.{Number, Guard, Owner, Item, Cell, Collector, Stack, Tag, Word}
+use Rattle.sdd_script_text.specs.declared.call.Argument.TheVariants.{Number, Guard, Owner, Item, Cell, Collector, Queue, Stack, Tag, Word}
 use Rattle.sdd_script_text.specs.declared.call.Word.{Word as FixedWord}
 use Rattle.sdd_script_text.specs.declared.call.Word.TheVariants.{Owned, Shared, Of, If, Was, Now}
 use Rattle.sdd_script_text.specs.Call.{IsNumber, IsWordOf, joined, words, fixed, word_of, spoken, words_of, line_of, HasNumber, HasNumbers, IsTextOf, IsCallText}
@@ -145,6 +146,7 @@ argument_said (Item None) h = refl
 argument_said (Item (Some i)) h = name_said 105 i.0 h ∙ rw (number_at-decimal i.0 h) refl
 argument_said (Cell c) h = name_said 99 c.0 h ∙ rw (number_at-decimal c.0 h) refl
 argument_said (Collector k) h = name_said 107 k.0 h ∙ rw (number_at-decimal k.0 h) refl
+argument_said (Queue q) h = name_said 113 q.0 h ∙ rw (number_at-decimal q.0 h) refl
 argument_said (Stack s) h = name_said 115 s.0 h ∙ rw (number_at-decimal s.0 h) refl
 argument_said (Tag t) h = tag_said t
 argument_said (Word w) h = fixed_said w
@@ -182,8 +184,9 @@ numbered_read (byte ∷ bytes) =
     (lettered_read 105 byte bytes (λ n. Item (Some (record { 0 = n }))) _ (λ n h. h) (λ n. refl)
     (lettered_read 99 byte bytes (λ n. Cell (record { 0 = n })) _ (λ n h. h) (λ n. refl)
     (lettered_read 107 byte bytes (λ n. Collector (record { 0 = n })) _ (λ n h. h) (λ n. refl)
+    (lettered_read 113 byte bytes (λ n. Queue (record { 0 = n })) _ (λ n h. h) (λ n. refl)
     (lettered_read 115 byte bytes (λ n. Stack (record { 0 = n })) _ (λ n h. h) (λ n. refl)
-    (by (number_at (byte ∷ bytes)) (number_read (byte ∷ bytes))))))))
+    (by (number_at (byte ∷ bytes)) (number_read (byte ∷ bytes)))))))))
   where
     by : (o : Option ℕ) → IfSome o (λ n. IsNumber n × (decimal n ≡ byte ∷ bytes)) → IsReadAs (byte ∷ bytes) (o >>= λ n. Some (Number n))
     by None read = tt
@@ -337,9 +340,13 @@ with_said (Owner (Some o) ∷ []) = search rules
 with_said (Item (Some i) ∷ []) = search rules
 with_said (Cell c ∷ []) = search rules
 with_said (Collector k ∷ []) = search rules
+with_said (Queue q ∷ []) = search rules
+with_said (Queue q ∷ Guard g ∷ []) = search rules
+with_said (Queue q ∷ Number n ∷ Guard g ∷ []) = search rules
 with_said (Stack s ∷ []) = search rules
 with_said (Stack s ∷ Guard g ∷ []) = search rules
 with_said (Stack s ∷ Number n ∷ Guard g ∷ []) = search rules
+with_said (Stack s ∷ Number n ∷ Number m ∷ Guard g ∷ []) = search rules
 with_said (Item (Some i) ∷ Guard g ∷ []) = search rules
 with_said (Owner (Some o) ∷ Number n ∷ []) = search rules
 with_said (Cell c ∷ Guard g ∷ []) = search rules
@@ -380,6 +387,11 @@ said : (action : Action) → IsSaid action
 said action.Open = (search as_words, omega arith, omega arith, refl)
 said (action.Owned (value.Number n)) = (search as_words, omega arith, omega arith, refl)
 said (action.Shared (value.Number n)) = (search as_words, omega arith, omega arith, refl)
+said (action.PushIf (list.Stack s) n m g) = (written_word 10 _ refl refl, omega arith, omega arith, refl)
+said (action.PopIf (list.Stack s) m g) = (written_word 10 _ refl refl, omega arith, omega arith, refl)
+said (action.Peek (list.Stack s) g) = (written_word 10 _ refl refl, omega arith, omega arith, refl)
+said (action.Len (list.Stack s) g) = (written_word 10 _ refl refl, omega arith, omega arith, refl)
+said (action.List (list.Stack s) g) = (written_word 10 _ refl refl, omega arith, omega arith, refl)
 said action = (written_word 10 _ refl refl, omega arith, omega arith, refl)
 
 -- ---- both

@@ -6,12 +6,12 @@ use Rattle.sdd_core.specs.Refused.{number_of}
 use Rattle.sdd_core.specs.declared.refused.Refused.{Refused as Refusal}
 use Rattle.sdd_core.specs.declared.refused.Refused.TheVariants.{NoSlot, NoCell, NoJob, NoPlace, NoMemory, TooManyGuards, GuardOpen, NotAlone, OwnerOut, Contended, TooManyOwners, BadLimits}
 use Rattle.sdd_script_text.specs.Call.{joined}
-use Rattle.sdd_script_text.specs.Name.{place, guard, owner, item, cell, collector, stack, job, tag}
+use Rattle.sdd_script_text.specs.Name.{place, guard, owner, item, cell, collector, queue, stack, job, tag}
 use Rattle.sdd_script_text.specs.declared.name.OwnerName.{OwnerName}
 use Rattle.sdd_script_text.specs.declared.name.ItemName.{ItemName}
 use Rattle.sdd_script_text.specs.declared.answer.Answer.{Answer}
 use Rattle.sdd_script_text.specs.declared.answer.Reply.{Reply}
-use Rattle.sdd_script_text.specs.declared.answer.Reply.TheVariants.{Place, Tally, Guard, Epoch, Truth, Done, Job, Collector, Stack, Popped, Item, Owner, Nothing, Raw, Value, Holding, Cell, Pointer, Tag, Swapped, Exchanged, Differs, Refused, Invalid}
+use Rattle.sdd_script_text.specs.declared.answer.Reply.TheVariants.{Place, Tally, Guard, Epoch, Truth, Done, Job, Collector, Queue, Stack, Popped, Kept, KeptEntry, Numbers, Item, Owner, Nothing, Raw, Value, Holding, Cell, Pointer, Tag, Swapped, Exchanged, Differs, Refused, Invalid}
 
 -- the name of a refusal
 abbrev pub refusal : Refusal → List ℕ
@@ -38,6 +38,11 @@ abbrev pub target : Option ItemName → List ℕ
 target None = codes "null"
 target (Some i) = item i
 
+-- numbers, or that there are none
+abbrev pub words_of_numbers : List ℕ → List (List ℕ)
+words_of_numbers [] = codes "none" ∷ []
+words_of_numbers (n ∷ ns) = decimal n ∷ map decimal ns
+
 abbrev pub words_of_reply : Reply → List (List ℕ)
 words_of_reply (Place p) = place p ∷ []
 words_of_reply (Tally t) = codes "made" ∷ decimal t.made ∷ codes "reclaimed" ∷ decimal t.reclaimed ∷ codes "in" ∷ codes "place" ∷ decimal t.in_place ∷ []
@@ -48,8 +53,12 @@ words_of_reply (Truth false) = codes "false" ∷ []
 words_of_reply Done = codes "ok" ∷ []
 words_of_reply (Job j) = job j ∷ []
 words_of_reply (Collector k) = collector k ∷ []
+words_of_reply (Queue q) = queue q ∷ []
 words_of_reply (Stack s) = stack s ∷ []
 words_of_reply (Popped o n) = owner o ∷ decimal n ∷ []
+words_of_reply (Kept n) = codes "kept" ∷ decimal n ∷ []
+words_of_reply (KeptEntry o n) = codes "kept" ∷ owner o ∷ decimal n ∷ []
+words_of_reply (Numbers ns) = words_of_numbers ns
 words_of_reply (Item o i) = owner o ∷ item i ∷ []
 words_of_reply (Owner o) = owner o ∷ []
 words_of_reply Nothing = codes "none" ∷ []

@@ -2,12 +2,14 @@
 use Rattle.std.specs.Prelude.{◌≡◌, ℕ, ◌^◌, ◌<◌, ◌==◌, List, [], ◌∷◌, Some, None, codes, map}
 use Rattle.std.specs.List.{join_with_byte, slice_split, AllByRecursion}
 use Rattle.std.specs.Fmt.{decimal}
-use Rattle.sdd_script_text.specs.Name.{place, guard, owner, item, cell, collector, stack, tag}
+use Rattle.sdd_script_text.specs.Name.{place, guard, owner, item, cell, collector, queue, stack, tag}
+use Rattle.sdd_script_text.specs.declared.name.ListName.{ListName}
+use Rattle.sdd_script_text.specs.declared.name.ListName.TheVariants as list
 use Rattle.sdd_script_text.specs.declared.call.Action.{Action}
 use Rattle.sdd_script_text.specs.declared.call.Action.TheVariants as action
 use Rattle.sdd_script_text.specs.declared.call.Value.TheVariants as value
 use Rattle.sdd_script_text.specs.declared.call.Argument.{Argument}
-use Rattle.sdd_script_text.specs.declared.call.Argument.TheVariants.{Number, Guard, Owner, Item, Cell, Collector, Stack, Tag, Word}
+use Rattle.sdd_script_text.specs.declared.call.Argument.TheVariants.{Number, Guard, Owner, Item, Cell, Collector, Queue, Stack, Tag, Word}
 use Rattle.sdd_script_text.specs.declared.call.Word.{Word as FixedWord}
 use Rattle.sdd_script_text.specs.declared.call.Word.TheVariants.{Owned, Shared, Of, If, Was, Now}
 use Rattle.sdd_script_text.specs.declared.call.Call.{Call}
@@ -40,9 +42,14 @@ word_of (Item None) = codes "null"
 word_of (Item (Some i)) = item i
 word_of (Cell c) = cell c
 word_of (Collector k) = collector k
+word_of (Queue q) = queue q
 word_of (Stack s) = stack s
 word_of (Tag t) = tag t
 word_of (Word w) = fixed w
+
+-- the name of a container as an argument
+abbrev pub named : ListName → Argument
+named (list.Stack s) = Stack s
 
 -- the verb of an action, and its arguments
 abbrev pub spoken : Action → List ℕ × List Argument
@@ -84,12 +91,21 @@ spoken (action.Mark i) = (codes "mark", Item (Some i) ∷ [])
 spoken (action.Unmark i) = (codes "unmark", Item (Some i) ∷ [])
 spoken (action.Delete i) = (codes "delete", Item (Some i) ∷ [])
 spoken (action.LinkTag i) = (codes "linktag", Item (Some i) ∷ [])
+spoken action.Queue = (codes "queue", [])
+spoken (action.Enqueue q n g) = (codes "push", Queue q ∷ Number n ∷ Guard g ∷ [])
+spoken (action.Dequeue q g) = (codes "pop", Queue q ∷ Guard g ∷ [])
 spoken action.Stack = (codes "stack", [])
 spoken (action.Push s n g) = (codes "push", Stack s ∷ Number n ∷ Guard g ∷ [])
+spoken (action.PushIf l n m g) = (codes "pushif", named l ∷ Number n ∷ Number m ∷ Guard g ∷ [])
 spoken (action.Pop s g) = (codes "pop", Stack s ∷ Guard g ∷ [])
+spoken (action.PopIf l m g) = (codes "popif", named l ∷ Number m ∷ Guard g ∷ [])
+spoken (action.Peek l g) = (codes "peek", named l ∷ Guard g ∷ [])
+spoken (action.Len l g) = (codes "len", named l ∷ Guard g ∷ [])
+spoken (action.List l g) = (codes "list", named l ∷ Guard g ∷ [])
 spoken (action.Close g) = (codes "close", Guard g ∷ [])
 spoken (action.CloseCell c) = (codes "close", Cell c ∷ [])
 spoken (action.CloseCollector k) = (codes "close", Collector k ∷ [])
+spoken (action.CloseQueue q) = (codes "close", Queue q ∷ [])
 spoken (action.CloseStack s) = (codes "close", Stack s ∷ [])
 spoken action.End = (codes "end", [])
 
@@ -119,6 +135,7 @@ HasNumber (Owner (Some o)) = IsNumber o.0
 HasNumber (Item (Some i)) = IsNumber i.0
 HasNumber (Cell c) = IsNumber c.0
 HasNumber (Collector k) = IsNumber k.0
+HasNumber (Queue q) = IsNumber q.0
 HasNumber (Stack s) = IsNumber s.0
 HasNumber argument = Unit {0}
 

@@ -9,6 +9,7 @@ use Rattle.sdd_script_text.specs.declared.name.OwnerName.{OwnerName}
 use Rattle.sdd_script_text.specs.declared.name.ItemName.{ItemName}
 use Rattle.sdd_script_text.specs.declared.name.CellName.{CellName}
 use Rattle.sdd_script_text.specs.declared.name.CollectorName.{CollectorName}
+use Rattle.sdd_script_text.specs.declared.name.QueueName.{QueueName}
 use Rattle.sdd_script_text.specs.declared.name.StackName.{StackName}
 use Rattle.sdd_script_text.specs.declared.name.JobName.{JobName}
 
@@ -29,6 +30,9 @@ cell name = codes "c" ++ decimal name.0
 
 abbrev pub collector : CollectorName → List ℕ
 collector name = codes "k" ++ decimal name.0
+
+abbrev pub queue : QueueName → List ℕ
+queue name = codes "q" ++ decimal name.0
 
 abbrev pub stack : StackName → List ℕ
 stack name = codes "s" ++ decimal name.0

@@ -6,11 +6,12 @@ use Rattle.std.specs.Str.{bytes_eq}
 use Rattle.std.specs.Str.Parse.{digits_value}
 use Rattle.sdd_core.specs.declared.tag.Tag.TheVariants as tag
 use Rattle.sdd_script_text.specs.Call.{words, spoken, word_of, IsWordOf}
+use Rattle.sdd_script_text.specs.declared.name.ListName.TheVariants as list
 use Rattle.sdd_script_text.specs.declared.call.Action.{Action}
 use Rattle.sdd_script_text.specs.declared.call.Action.TheVariants as action
 use Rattle.sdd_script_text.specs.declared.call.Value.TheVariants as value
 use Rattle.sdd_script_text.specs.declared.call.Argument.{Argument}
-use Rattle.sdd_script_text.specs.declared.call.Argument.TheVariants.{Number, Guard, Owner, Item, Cell, Collector, Stack, Tag, Word}
+use Rattle.sdd_script_text.specs.declared.call.Argument.TheVariants.{Number, Guard, Owner, Item, Cell, Collector, Queue, Stack, Tag, Word}
 use Rattle.sdd_script_text.specs.declared.call.Word.TheVariants.{Owned, Shared, Of, If, Was, Now}
 use Rattle.sdd_script_text.specs.declared.call.Call.{Call}
 use Rattle.sdd_script_text.specs.declared.call.Call.TheVariants.{Register, Tally, At}
@@ -42,6 +43,7 @@ numbered_argument_at (byte ∷ bytes) =
     else if byte == 105 then (number_at bytes >>= λ n. Some (Item (Some (record { 0 = n }))))
     else if byte == 99 then (number_at bytes >>= λ n. Some (Cell (record { 0 = n })))
     else if byte == 107 then (number_at bytes >>= λ n. Some (Collector (record { 0 = n })))
+    else if byte == 113 then (number_at bytes >>= λ n. Some (Queue (record { 0 = n })))
     else if byte == 115 then (number_at bytes >>= λ n. Some (Stack (record { 0 = n })))
     else (number_at (byte ∷ bytes) >>= λ n. Some (Number n))
 
@@ -76,16 +78,20 @@ few_arguments_at words = if nat_lt most_arguments (length words) then None else 
 
 -- the actions with these arguments
 abbrev pub with_arguments : List Argument → List Action
-with_arguments [] = action.Open ∷ action.Collector ∷ action.Stack ∷ action.End ∷ []
+with_arguments [] = action.Open ∷ action.Collector ∷ action.Queue ∷ action.Stack ∷ action.End ∷ []
 with_arguments (Number n ∷ []) = action.Owned (value.Number n) ∷ action.Shared (value.Number n) ∷ []
 with_arguments (Guard g ∷ []) = action.Epoch g ∷ action.Garbage g ∷ action.Set g ∷ action.Accelerate g ∷ action.Defer g ∷ action.Close g ∷ []
 with_arguments (Owner (Some o) ∷ []) = action.Read o ∷ action.Retire o ∷ action.Release o ∷ action.Clone o ∷ action.Drop o ∷ action.Raw o ∷ []
 with_arguments (Item (Some i) ∷ []) = action.Unraw i ∷ action.Mark i ∷ action.Unmark i ∷ action.Delete i ∷ action.LinkTag i ∷ []
 with_arguments (Cell c ∷ []) = action.Tag c ∷ action.Into c ∷ action.CloseCell c ∷ []
 with_arguments (Collector k ∷ []) = action.CloseCollector k ∷ []
+with_arguments (Queue q ∷ []) = action.CloseQueue q ∷ []
+with_arguments (Queue q ∷ Guard g ∷ []) = action.Dequeue q g ∷ []
+with_arguments (Queue q ∷ Number n ∷ Guard g ∷ []) = action.Enqueue q n g ∷ []
 with_arguments (Stack s ∷ []) = action.CloseStack s ∷ []
-with_arguments (Stack s ∷ Guard g ∷ []) = action.Pop s g ∷ []
-with_arguments (Stack s ∷ Number n ∷ Guard g ∷ []) = action.Push s n g ∷ []
+with_arguments (Stack s ∷ Guard g ∷ []) = action.Pop s g ∷ action.Peek (list.Stack s) g ∷ action.Len (list.Stack s) g ∷ action.List (list.Stack s) g ∷ []
+with_arguments (Stack s ∷ Number n ∷ Guard g ∷ []) = action.Push s n g ∷ action.PopIf (list.Stack s) n g ∷ []
+with_arguments (Stack s ∷ Number n ∷ Number m ∷ Guard g ∷ []) = action.PushIf (list.Stack s) n m g ∷ []
 with_arguments (Item (Some i) ∷ Guard g ∷ []) = action.Look i g ∷ action.Upgrade i g ∷ action.See i g ∷ []
 with_arguments (Owner (Some o) ∷ Number n ∷ []) = action.Put o n ∷ []
 with_arguments (Cell c ∷ Guard g ∷ []) = action.Load c g ∷ action.Copy c g ∷ action.Share c g ∷ []

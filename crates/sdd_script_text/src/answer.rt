@@ -5,8 +5,10 @@ ghost use Rattle.sdd_script_text.specs.Name.{tag as word_of_tag};
 ghost use Rattle.sdd_script_text.specs.Answer.{refusal, ending, text_of, text_of_all, text_of_fault};
 
 use crate::name::{
-    CellName, CollectorName, GuardName, ItemName, JobName, Names, OwnerName, PlaceName, StackName,
+    CellName, CollectorName, GuardName, ItemName, JobName, Names, OwnerName, PlaceName, QueueName,
+    StackName,
 };
+use crate::numbers::Numbers;
 use sdd_core::inner::number_of_refusal;
 use sdd_core::{Epoch, Refused, Tag};
 use sdd_participants::Tally;
@@ -14,7 +16,7 @@ use std::alloc::{AllocError, Global};
 use std::fmt;
 
 /// What a call answered.
-#[derive(Clone, Copy, Debug, PartialEq, Eq)]
+#[derive(Debug, Drop)]
 pub enum Reply {
     /// `p0`: a new participant.
     Place(PlaceName),
@@ -32,10 +34,18 @@ pub enum Reply {
     Job(JobName),
     /// `k0`: a new collector.
     Collector(CollectorName),
+    /// `q0`: a new queue.
+    Queue(QueueName),
     /// `s0`: a new stack.
     Stack(StackName),
     /// `o0 7`: the owner of an entry that was taken out, and its number.
     Popped(OwnerName, u64),
+    /// `kept 7`: a number that was not pushed.
+    Kept(u64),
+    /// `kept o0 7`: the owner of an entry that was not taken out, and its number.
+    KeptEntry(OwnerName, u64),
+    /// `1 2 3`, or `none`: the numbers of entries, in order.
+    Numbers(Numbers),
     /// `o0 i0`: a new owner of a new item.
     Item(OwnerName, ItemName),
     /// `o0`: an owner of an item that was there.
@@ -88,8 +98,12 @@ impl fmt::Display for Reply {
             Reply::Done => write!(f, "ok"),
             Reply::Job(job) => write!(f, "{job}"),
             Reply::Collector(collector) => write!(f, "{collector}"),
+            Reply::Queue(queue) => write!(f, "{queue}"),
             Reply::Stack(stack) => write!(f, "{stack}"),
             Reply::Popped(owner, number) => write!(f, "{owner} {number}"),
+            Reply::Kept(number) => write!(f, "kept {number}"),
+            Reply::KeptEntry(owner, number) => write!(f, "kept {owner} {number}"),
+            Reply::Numbers(ref numbers) => write!(f, "{numbers}"),
             Reply::Item(owner, item) => write!(f, "{owner} {item}"),
             Reply::Owner(owner) => write!(f, "{owner}"),
             Reply::Nothing => write!(f, "none"),

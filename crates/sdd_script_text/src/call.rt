@@ -3,7 +3,10 @@
 mod arguments;
 pub(crate) mod reading;
 
-use crate::name::{CellName, CollectorName, GuardName, ItemName, OwnerName, PlaceName, StackName};
+use crate::name::{
+    CellName, CollectorName, GuardName, ItemName, ListName, OwnerName, PlaceName, QueueName,
+    StackName,
+};
 use sdd_core::Tag;
 use std::str;
 
@@ -88,18 +91,36 @@ pub enum Action {
     Delete(ItemName),
     /// `linktag I`: the tag of an entry's link.
     LinkTag(ItemName),
+    /// `queue`: an empty queue of numbers.
+    Queue,
+    /// `push Q n G`: puts a number behind a queue's entries.
+    Enqueue(QueueName, u64, GuardName),
+    /// `pop Q G`: takes the oldest number out that isn't deleted.
+    Dequeue(QueueName, GuardName),
     /// `stack`: an empty stack of numbers.
     Stack,
     /// `push S n G`: puts a number in front of a stack's entries.
     Push(StackName, u64, GuardName),
+    /// `pushif L n m G`: puts the first number among a container's, if the newest that isn't deleted is the second.
+    PushIf(ListName, u64, u64, GuardName),
     /// `pop S G`: takes the first number out that isn't deleted.
     Pop(StackName, GuardName),
+    /// `popif L m G`: takes a container's first number out that isn't deleted, if it is this one.
+    PopIf(ListName, u64, GuardName),
+    /// `peek L G`: a container's first number that isn't deleted.
+    Peek(ListName, GuardName),
+    /// `len L G`: how many of a container's numbers aren't deleted.
+    Len(ListName, GuardName),
+    /// `list L G`: a container's numbers that aren't deleted, in order.
+    List(ListName, GuardName),
     /// `close G`: closes a guard.
     Close(GuardName),
     /// `close C`: closes a cell, and gives up what it holds.
     CloseCell(CellName),
     /// `close K`: closes a collector, and reclaims what waits for it.
     CloseCollector(CollectorName),
+    /// `close Q`: closes a queue, and lets go of its entries.
+    CloseQueue(QueueName),
     /// `close S`: closes a stack, and lets go of its entries.
     CloseStack(StackName),
     /// `end`: the participant takes part no more.
@@ -126,6 +147,7 @@ pub(crate) enum Argument {
     Item(Option<ItemName>),
     Cell(CellName),
     Collector(CollectorName),
+    Queue(QueueName),
     Stack(StackName),
     Tag(Tag),
     Word(Word),

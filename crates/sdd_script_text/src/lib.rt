@@ -12,6 +12,7 @@ pub mod ended;
 mod first;
 pub mod inner;
 pub mod name;
+pub mod numbers;
 mod outcome;
 pub mod script;
 
@@ -21,7 +22,9 @@ pub use call::{Action, Call, Value};
 pub use device::{Fault, ReadEnd, Reader, Sink, Source, Writer, read_to_end, write_all};
 pub use ended::Ended;
 pub use name::{
-    CellName, CollectorName, GuardName, ItemName, JobName, Names, OwnerName, PlaceName, StackName,
+    CellName, CollectorName, GuardName, ItemName, JobName, ListName, Names, OwnerName, PlaceName,
+    QueueName, StackName,
 };
+pub use numbers::Numbers;
 pub use outcome::{Outcome, after_printing, failure, line, status, without_arguments};
 pub use script::{MOST_CALLS, Script, parse_all};

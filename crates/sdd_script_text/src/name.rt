@@ -30,9 +30,19 @@ pub struct CellName(pub u64);
 #[derive(Clone, Copy, Debug, PartialEq, Eq, PartialOrd, Ord)]
 pub struct CollectorName(pub u64);
 
+/// The name of a queue, as `q0`.
+#[derive(Clone, Copy, Debug, PartialEq, Eq, PartialOrd, Ord)]
+pub struct QueueName(pub u64);
+
 /// The name of a stack, as `s0`.
 #[derive(Clone, Copy, Debug, PartialEq, Eq, PartialOrd, Ord)]
 pub struct StackName(pub u64);
+
+/// The name of a container of entries: of a stack, as `s0`.
+#[derive(Clone, Copy, Debug, PartialEq, Eq)]
+pub enum ListName {
+    Stack(StackName),
+}
 
 /// The name of a job, as `j0`. No line takes one.
 #[derive(Clone, Copy, Debug, PartialEq, Eq, PartialOrd, Ord)]
@@ -101,6 +111,17 @@ impl fmt::Display for CollectorName {
 
     fn fmt<W: fmt::Write>(&self, f: &mut fmt::Formatter<W>) -> fmt::Result {
         write!(f, "k{}", self.0)
+    }
+}
+
+impl fmt::Display for QueueName {
+    ghost use Rattle.std.specs.Prelude.{Some};
+    ghost use Rattle.sdd_script_text.specs.Name.{queue};
+
+    ghost output = { λ name. Some (queue name) };
+
+    fn fmt<W: fmt::Write>(&self, f: &mut fmt::Formatter<W>) -> fmt::Result {
+        write!(f, "q{}", self.0)
     }
 }
 

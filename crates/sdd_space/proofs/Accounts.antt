@@ -83,15 +83,6 @@ module _ {T : Type 0} (holds : T → List OwnerOrCell) where
   pub accounted-as : (outside now : ℕ → ℕ) (w : World T) → ((j : ℕ) → now j ≡ outside j) → IsAccounted holds outside w → IsAccounted holds now w
   accounted-as outside now w same a j = omega (arith, a j, same j)
 
-  -- the same standings, values and cells, at any time
-  pub accounted-same : (outside : ℕ → ℕ) (w u : World T) → u.standings ≡ w.standings → u.values ≡ w.values → u.cells ≡ w.cells →
-      IsAccounted holds outside w → IsAccounted holds outside u
-  accounted-same outside w u standings values cells a j = rw (standings, values, cells) (a j)
-
-  -- at any time
-  pub accounted-time : (outside : ℕ → ℕ) (w : World T) (t : EpochState) → IsAccounted holds outside w → IsAccounted holds outside (record w { time = t })
-  accounted-time outside w t a = a
-
   -- a world without items
   pub accounted-blank : (w : World T) (t : EpochState) (slots cells jobs : ℕ) → IsBlank t slots cells jobs w → IsAccounted holds (λ _. 0) w
   accounted-blank w t slots cells jobs blank k =
@@ -156,12 +147,6 @@ module _ {T : Type 0} (holds : T → List OwnerOrCell) where
       IsAccounted holds outside w → IsAccounted holds now (with_cell w c cell)
   accounted-with_cell w c cell outside now l moved a j =
       omega (arith, a j, moved j, sum_by-set (λ (x : Option CellContents). cond (holds_slot j x) 1 0) w.cells c (Some cell) None l)
-
-  -- a new cell holds nothing
-  pub accounted-nulled : (w : World T) (c : ℕ) (outside : ℕ → ℕ) → IsEmptyAt w.cells c → IsAccounted holds outside w → IsAccounted holds outside (nulled w c)
-  accounted-nulled w c outside empty a j =
-      let was : one_where (holds_slot j (entry_at w.cells c)) ≡ 0 = rw empty.1 refl in
-      omega (arith, a j, was, sum_by-set (λ (x : Option CellContents). cond (holds_slot j x) 1 0) w.cells c (Some (record { held = None; tag = no_tag })) None empty.0)
 
   -- it is free: what it held is outside
   pub accounted-without_cell : (w : World T) (c : ℕ) (outside now : ℕ → ℕ) →
@@ -375,38 +360,3 @@ module _ {T : Type 0} (holds : T → List OwnerOrCell) where
   pub in_value-out : (w : World T) (j k : ℕ) (outside : ℕ → ℕ) → IsAccounted holds outside w → 1 ≤ times_held holds k (value_at w j) →
       is_out (standing_at w k) ≡ true
   in_value-out w j k outside a some = accounted-out w k outside a (omega (arith, some, value-inner w j k))
-
-  -- the only owner is outside
-  pub alone-outside : (w : World T) (k : ℕ) (outside : ℕ → ℕ) → IsAccounted holds outside w → owner_count (standing_at w k) ≡ 1 → 1 ≤ outside k →
-      (outside k ≡ 1) × ((c : ℕ) → held_in (entry_at w.cells c) ≢ Some k) × ((j : ℕ) → times_held holds k (value_at w j) ≡ 0)
-  alone-outside w k outside a one there = (
-    omega (arith, a k, one, there),
-    λ c is. absurd (omega (arith, a k, one, there, cell-inner w c k is)),
-    λ j. omega (arith, a k, one, there, value-inner w j k),
-  )
-
-  -- it is in a cell
-  pub alone-in_cell : (w : World T) (c k : ℕ) (outside : ℕ → ℕ) → IsAccounted holds outside w → owner_count (standing_at w k) ≡ 1 →
-      held_in (entry_at w.cells c) ≡ Some k →
-      (outside k ≡ 0) × ((d : ℕ) → d ≢ c → held_in (entry_at w.cells d) ≢ Some k) × ((j : ℕ) → times_held holds k (value_at w j) ≡ 0)
-  alone-in_cell w c k outside a one is =
-      let there = cell-inner w c k is in (
-        omega (arith, a k, one, there),
-        λ d apart too.
-            let left = ap held_in (get_or-set_other w.cells c d None None apart) ∙ too in
-            let two = cell-inner (without_cell w c) d k left in
-            absurd (omega (arith, a k, one, two, cell-times w c k is, sum-out (λ (x : Option CellContents). cond (holds_slot k x) 1 0) refl w.cells c)),
-        λ j. omega (arith, a k, one, there, value-inner w j k),
-      )
-
-  -- it is in a value
-  pub alone-in_value : (w : World T) (j k : ℕ) (outside : ℕ → ℕ) → IsAccounted holds outside w → owner_count (standing_at w k) ≡ 1 →
-      1 ≤ times_held holds k (value_at w j) →
-      (outside k ≡ 0) × ((c : ℕ) → held_in (entry_at w.cells c) ≢ Some k) × ((i : ℕ) → i ≢ j → times_held holds k (value_at w i) ≡ 0)
-  alone-in_value w j k outside a one there = (
-    omega (arith, a k, one, there, value-inner w j k),
-    λ c is. absurd (omega (arith, a k, one, there, value-inner w j k, cell-inner w c k is)),
-    λ i apart.
-        let left = ap (times_held holds k) (get_or-set_other w.values j i None None apart) in
-        omega (arith, a k, one, there, left, value-inner (freed w j) i k, sum-out (times_held holds k) refl w.values j),
-  )

@@ -148,9 +148,6 @@ module _ {T : Type 0} (w : World T) (q k seen : ℕ) where
   pub waits-standing : IsWhole w → Waits w q k seen → is_waiting (standing_at w k) ≡ true
   waits-standing i h = once-waits (is_waiting (standing_at w k)) (omega (arith, i.once k, waits-counts h, one-place k w.time.places q))
 
-  pub waits-young : IsWhole w → Waits w q k seen → seen ≤ 2
-  waits-young i h = waiting-young w q (Item k) seen i h
-
   -- what another participant has due is not this
   pub other-due : IsWhole w → Waits w q k seen → (p : ℕ) → p ≢ q → times_among k (due_next (place_at w p)) ≡ 0
   other-due i h p apart =
@@ -183,8 +180,5 @@ module _ {T : Type 0} (holds : T → List OwnerOrCell) (w : World T) (p : ℕ) (
       (all_awaiting-waiting o.slots (time.rotated w.time.count (time.nested (place_at w p))) y (older-left what seen (place_at w p).bags.waiting young h))
 
 module _ {T : Type 0} (holds : T → List OwnerOrCell) (w : World T) (p k seen : ℕ) where
-  pub nests-waits : p < length w.time.places → Nests holds w p → Waits w p k seen → Waits (opened holds w p) p k seen
-  nests-waits l n h = nests-waiting holds w p (Item k) seen l n h
-
   pub change-waits : p < length w.time.places → IsChange holds w p → seen < 2 → Waits w p k seen → Waits (opened holds w p) p k (seen + 1)
   change-waits l c young h = change-waiting holds w p (Item k) seen l c young h

@@ -207,13 +207,6 @@ module _ {T : Type 0} (p k : ℕ) where
       | inr under ↦ record { guarded = o; stays = inr (under-waits holds v p k r j s l was under o).under }
     ]
 
-    pub safe-owner_given : (v : World T) (r j : ℕ) → r < length v.time.places → (s : Option Standing) → standing_at v j ≡ s → IsSafe v p k →
-        IsTrue (is_open (place_at (owner_given v r j s) p)) → IsSafe (owner_given v r j s) p k
-    safe-owner_given v r j l s is safe o = elim safe.stays [
-      | inl out ↦ safe-or (owner_given v r j s) o (gives-keeps r k v j s is (l, inl out))
-      | inr under ↦ record { guarded = o; stays = inr (under-owner_given holds v p k r j l s is under o).under }
-    ]
-
     -- what is out is among nothing that an opening reclaims
     out-not-due : (w : World T) (r : ℕ) → r < length w.time.places → IsWhole w → is_out (standing_at w k) ≡ true → times_among k (reclaims w r) ≡ 0
     out-not-due w r l i out = elim (how holds w r l) [

@@ -86,25 +86,6 @@ SameSize-waiting w p k s waits l out =
 pub SameSize-retired : {T : Type 0} (w : World T) (p k : ℕ) → p < length w.time.places → is_out (standing_at w k) ≡ true → SameSize w (retired w p k)
 SameSize-retired w p k l out = SameSize-waiting w p k Retired refl l out
 
--- a job begins to wait
-pub SameSize-deferred : {T : Type 0} (w : World T) (p j : ℕ) → p < length w.time.places → IsEmptyAt w.jobs j → SameSize w (deferred w p j)
-SameSize-deferred w p j l free =
-    let x : Participant = time.awaiting (Job j) (place_at w p) in
-    let places = sum_by-set waiting_count w.time.places p x nobody l in
-    let more : waiting_count x ≡ waiting_count (place_at w p) + 1 = length-append (place_at w p).bags.waiting (fresh (Job j) ∷ []) in
-    let jobs = sum_by-set free_weight w.jobs j (Some tt) None free.0 in
-    let was : free_weight (entry_at w.jobs j) ≡ 1 = ap free_weight free.1 in
-    record {
-      weight_same = omega (arith, places, more, jobs, was);
-      places_same = length-set w.time.places p x;
-      phases_same = refl;
-      slots_same = refl;
-      jobs_same = length-set w.jobs j (Some tt);
-      home_same = refl;
-      nesting_same = refl;
-      room_same = refl;
-    }
-
 -- an item that is shared has one owner more or fewer
 pub SameSize-shared : {T : Type 0} (w : World T) (k n m : ℕ) → standing_at w k ≡ Some (Shared n) → SameSize w (with_standing w k (Shared m))
 SameSize-shared w k n m is =
@@ -120,57 +101,9 @@ SameSize-shared w k n m is =
       room_same = refl;
     }
 
--- an item that is out stands otherwise, and is out
-pub SameSize-restands : {T : Type 0} (w : World T) (k : ℕ) (s : Standing) → is_out (standing_at w k) ≡ true → is_out (Some s) ≡ true →
-    SameSize w (with_standing w k s)
-SameSize-restands w k s was now =
-    record {
-      weight_same = ap (λ (n : ℕ). sum_by waiting_count w.time.places + n + count_by is_none w.jobs)
-          (stands-weight w k s (out-inside w.standings k was) (out-loose (Some s) now ∙ sym (out-loose (standing_at w k) was)));
-      places_same = refl;
-      phases_same = refl;
-      slots_same = length-set w.standings k (Some s);
-      jobs_same = refl;
-      home_same = refl;
-      nesting_same = refl;
-      room_same = refl;
-    }
-
--- a new item is loose, as a free slot is
-first-loose : (s : Standing) → IsFirst s → is_loose (Some s) ≡ true
-first-loose s (inl e) = rw e refl
-first-loose s (inr e) = rw e refl
-
-pub SameSize-made_as : {T : Type 0} (w : World T) (k : ℕ) (v : T) (s : Standing) → IsFirst s → IsEmptyAt w.standings k → SameSize w (made_as w k v s)
-SameSize-made_as w k v s first empty =
-    record {
-      weight_same = ap (λ (n : ℕ). sum_by waiting_count w.time.places + n + count_by is_none w.jobs)
-          (stands-weight w k s empty.0 (first-loose s first ∙ sym (ap is_loose empty.1)));
-      places_same = refl;
-      phases_same = refl;
-      slots_same = length-set w.standings k (Some s);
-      jobs_same = refl;
-      home_same = refl;
-      nesting_same = refl;
-      room_same = refl;
-    }
-
 -- the cells weigh nothing
 pub SameSize-cells : {T : Type 0} (w : World T) (cells : Entries CellContents) → SameSize w (record w { cells = cells })
 SameSize-cells w cells =
-    record {
-      weight_same = refl;
-      places_same = refl;
-      phases_same = refl;
-      slots_same = refl;
-      jobs_same = refl;
-      home_same = refl;
-      nesting_same = refl;
-      room_same = refl;
-    }
-
-pub SameSize-pointers : {T : Type 0} (w : World T) (pointers : List RawCellContents) → SameSize w (record w { pointers = pointers })
-SameSize-pointers w pointers =
     record {
       weight_same = refl;
       places_same = refl;

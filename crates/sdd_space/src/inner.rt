@@ -1,15 +1,16 @@
 //! What the spaces need beyond the public surface: an owner, a cell, a guard and a pointer as what they are made of.
-ghost use Rattle.std.specs.Prelude.{◌≡◌, IfErr, IfOk, MatchResult, None, Some, option_copied};
+ghost use Rattle.std.specs.Prelude.{◌≡◌, IfErr, IfOk, IfSome, MatchResult, None, Some, option_copied};
 ghost use Rattle.sdd_rights.specs.Right.{kind_of};
 ghost use Rattle.sdd_space.specs.Owned.{slot_of, right_of, cell_right};
 ghost use Rattle.sdd_space.specs.Shared as shared;
+ghost use Rattle.sdd_space.specs.HeldItems.{value_held};
 ghost use Rattle.sdd_space.specs.OwnerOrCell.{AreOf};
 ghost use Rattle.sdd_space.specs.World.{World};
 ghost use Rattle.sdd_space.specs.CallerId.{IsSeated, IsExact};
 ghost use Rattle.sdd_space.specs.Refusals.{IsRefusedBy};
 ghost use Rattle.sdd_space.specs.Undisturbed.{Undisturbed};
 ghost use Rattle.sdd_space.specs.WorldChanges.{made_as};
-ghost use Rattle.sdd_participants.specs.Slab.{IsEmptyAt, IsFull};
+ghost use Rattle.sdd_participants.specs.Slab.{IsEmptyAt, IsFull, entry_at};
 ghost use Rattle.sdd_space.specs.RawPtr as raw;
 ghost use Rattle.sdd_space.specs.Ptr.{slot_named, shown_by, tag_of};
 ghost use Rattle.sdd_space.specs.Guard.{reader_of, ReaderId};
@@ -26,7 +27,7 @@ use crate::private_collector::PrivateCollector;
 use crate::ptr::Ptr;
 use crate::raw_ptr::RawPtr;
 use crate::shared::Shared;
-use crate::space::Several;
+use crate::space::{HeldItems, Several};
 use sdd_core::{Refused, SlotName, Tag};
 use sdd_participants::{CellContents, RawCellContents, Standing};
 use sdd_rights::{RawRight, Right, StandingKind};
@@ -254,4 +255,24 @@ pub fn make_two<T: Item<T>, S: Several<T>>(
         None => Ok((Shared::of_right(first), Shared::of_right(second))),
         Some(_) => unreachable!(),
     }
+}
+
+/// The value of the item that a cell of shared owners holds, if it holds one.
+pub fn value_held_in<'a, T: Item<T>, S: HeldItems<T>>(
+    cell: &AtomicShared<T>,
+    s: &'a S,
+) -> Option<&'a T>
+    requires home { shared.cells_home cell.now ≡ (S.seat s.now).home.cells }
+    ensures held { IfSome result (λ value. AreOf (S.seat s.now).home (T.holds value.now)) }
+    ensures exact { IsExact (S.seat s.now) → option_copied result ≡ value_held (S.world s.now) (shared.cell_of cell.now) }
+{
+    s.held(cell.right())
+}
+
+/// The tag of a cell of shared owners.
+pub fn tag_held_in<T: Item<T>, S: HeldItems<T>>(cell: &AtomicShared<T>, s: &S) -> Tag
+    requires home { shared.cells_home cell.now ≡ (S.seat s.now).home.cells }
+    ensures exact { IsExact (S.seat s.now) → IfSome (entry_at (S.world s.now).cells (shared.cell_of cell.now)) (λ held. held.tag ≡ result) }
+{
+    s.contents(cell.right()).tag
 }

@@ -29,6 +29,6 @@ pub use ptr::Ptr;
 pub use raw_ptr::RawPtr;
 pub use shared::Shared;
 pub use space::{
-    Caller, Cells, Collectors, Deferrals, Guards, InPlaceItems, Items, RawCells, RawItems, Several,
-    SharedItems, SharedOwners, Space,
+    Caller, Cells, Collectors, Deferrals, Guards, HeldItems, InPlaceItems, Items, RawCells,
+    RawItems, Several, SharedItems, SharedOwners, Space,
 };

@@ -1,12 +1,12 @@
 -- The words as they are written are read as the rule asks.
-use Rattle.std.proofs.Common.{◌≡◌, ◌≢◌, ◌⊎◌, ℕ, suc, [], ◌∷◌, if◌then◌else◌, ◌+◌, ◌-◌, ◌*◌, ◌/◌, ◌%◌, ◌^◌, ◌<◌, ◌≤◌, Bool, eqb, leb, true, false, refl, sym, ap, ◌∙◌, inl, inr, ⊎_elim, eq-eqb, ne_eqb, arith}
+use Rattle.std.proofs.Common.{◌≡◌, ◌≢◌, ◌⊎◌, ℕ, suc, [], ◌∷◌, if◌then◌else◌, ◌+◌, ◌-◌, ◌*◌, ◌/◌, ◌%◌, ◌<◌, ◌≤◌, Bool, eqb, leb, true, false, refl, sym, ap, ◌∙◌, inl, inr, ⊎_elim, eq-eqb, ne_eqb, arith}
 use mathlib.Core.Logic.{dite}
 use native.Mathlib.Decide.{ℕ_discrete}
 use prog.Atomic.{either}
 use Rattle.std.proofs.lemmas.Bool.{le-leb}
 use Rattle.std.proofs.lemmas.Bool.Decides.{leb_tells}
 use Rattle.sdd_word_invariant.specs.Sums.{is, times}
-use Rattle.sdd_word_invariant.specs.Codes.{IsWordReading, codes, shared_base, free_word, owned_word, raw_word, waiting_word, private_word, emptied_word, unowned, held_slots, holding_word, kind_alive, kind_waiting, kind_full, private, emptying, emptying_word, left_word, alive, waiting, full, valued, counted, waits_for, names, claimed_word, retired_word, held_word, shared_word}
+use Rattle.sdd_word_invariant.specs.Codes.{IsWordReading, codes, shared_base, free_word, owned_word, raw_word, waiting_word, private_word, emptied_word, named, held_slots, kind_alive, kind_waiting, kind_full, private, emptying, emptying_word, left_word, alive, waiting, full, valued, counted, waits_for, names, claimed_word, retired_word, held_word, shared_word}
 
 lives : (q : ℕ) → 0 < kind_alive q → (kind_waiting q ≡ 0) × (kind_full q ≡ 1)
 lives q h = dite (ℕ_discrete q 1) (λ e. (ap kind_waiting e, ap kind_full e))
@@ -192,21 +192,16 @@ raw_plain g low = (
 pub waiting_is : (g : ℕ) → waiting_word g < shared_base → (alive (waiting_word g) ≡ 0) × (waiting (waiting_word g) ≡ 1)
 waiting_is g low = let k = kind (waiting_word g) 4 low (omega arith) in (k.0, k.1)
 
--- a cell's word that owns the slot i, of any generation
-pub cell_names : (x i t g : ℕ) → x ≡ 2 ^ 27 * g + (4 * suc i + t) → t < 4 → 4 * suc i + t < unowned → (a : ℕ) → names a x ≡ is a i
+-- a cell's word that owns the slot i
+pub cell_names : (x i : ℕ) → named x ≡ suc i → (a : ℕ) → names a x ≡ is a i
 unfolding names
-cell_names x i t g e small low a = let y : ℕ = x % 2 ^ 27 in let m : y ≡ 4 * suc i + t = omega arith in
-    let q : y / 4 ≡ suc i = omega arith in let r : y / 4 - 1 ≡ i = omega arith in
-    ap (λ (b : _). either b 0 (either (eqb (y / 4) 0) 0 (is a (y / 4 - 1)))) (below unowned y (omega arith))
-    ∙ (ap (λ (b : _). either b 0 (is a (y / 4 - 1))) (ne_eqb (y / 4) 0 (λ c. omega arith)) ∙ ap (is a) r)
+cell_names x i e a = let r : named x - 1 ≡ i = omega arith in
+    ap (λ (b : _). either b 0 (is a (named x - 1))) (ne_eqb (named x) 0 (λ c. omega arith)) ∙ ap (is a) r
 
 -- one that owns none
-pub cell_null : (x : ℕ) → (x % 2 ^ 27 < 4) ⊎ (unowned ≤ x % 2 ^ 27) → (a : ℕ) → names a x ≡ 0
+pub cell_null : (x : ℕ) → named x ≡ 0 → (a : ℕ) → names a x ≡ 0
 unfolding names
-cell_null x h a = let y : ℕ = x % 2 ^ 27 in ⊎_elim
-    (λ (l : y < 4). ap (λ (t : _). either t 0 (either (eqb (y / 4) 0) 0 (is a (y / 4 - 1)))) (below unowned y (omega arith))
-    ∙ ap (λ (t : _). either t 0 (is a (y / 4 - 1))) (eq-eqb (y / 4) 0 (omega arith)))
-    (λ (l : unowned ≤ y). ap (λ (t : _). either t 0 (either (eqb (y / 4) 0) 0 (is a (y / 4 - 1)))) (le-leb unowned y l)) h
+cell_null x e a = ap (λ (t : _). either t 0 (is a (named x - 1))) (eq-eqb (named x) 0 e)
 
 -- a word counts its slot's owners, or not
 pub counts_or_not : (x : ℕ) → (counted x ≡ 1) ⊎ (counted x ≡ 0)
@@ -215,53 +210,33 @@ counts_or_not x = ⊎_elim (λ (t : (leb shared_base x ≡ true) × (shared_base
     (λ (t : (leb shared_base x ≡ false) × (x < shared_base)). inr (ap (λ (b : Bool). either b 1 0) t.0)) (leb_tells shared_base x)
 
 -- which owner a cell holds
-pub holds_one : (slot tag : ℕ) → tag < 4 → holding_word slot tag < unowned → held_slots (holding_word slot tag) ≡ slot ∷ []
+pub holds_one : (x slot : ℕ) → named x ≡ suc slot → held_slots x ≡ slot ∷ []
 unfolding held_slots
-holds_one slot tag small low = let y : ℕ = holding_word slot tag % 2 ^ 27 in let r : y / 4 - 1 ≡ slot = omega arith in
-    ap (λ (b : Bool). if b then [] else (if eqb (y / 4) 0 then [] else (y / 4 - 1) ∷ [])) (below unowned y (omega arith))
-    ∙ (ap (λ (b : Bool). if b then [] else (y / 4 - 1) ∷ []) (ne_eqb (y / 4) 0 (λ c. omega arith)) ∙ ap (λ (k : ℕ). k ∷ []) r)
+holds_one x slot e = let r : named x - 1 ≡ slot = omega arith in
+    ap (λ (b : Bool). if b then [] else (named x - 1) ∷ []) (ne_eqb (named x) 0 (λ c. omega arith)) ∙ ap (λ (k : ℕ). k ∷ []) r
 
-pub holds_none : (x : ℕ) → (x % 2 ^ 27 < 4) ⊎ (unowned ≤ x % 2 ^ 27) → held_slots x ≡ []
+pub holds_none : (x : ℕ) → named x ≡ 0 → held_slots x ≡ []
 unfolding held_slots
-holds_none x h = let y : ℕ = x % 2 ^ 27 in ⊎_elim
-    (λ (l : y < 4). ap (λ (b : Bool). if b then [] else (if eqb (y / 4) 0 then [] else (y / 4 - 1) ∷ [])) (below unowned y (omega arith))
-    ∙ ap (λ (b : Bool). if b then [] else (y / 4 - 1) ∷ []) (eq-eqb (y / 4) 0 (omega arith)))
-    (λ (l : unowned ≤ y). ap (λ (b : Bool). if b then [] else (if eqb (y / 4) 0 then [] else (y / 4 - 1) ∷ [])) (le-leb unowned y l)) h
+holds_none x e = ap (λ (b : Bool). if b then [] else (named x - 1) ∷ []) (eq-eqb (named x) 0 e)
 
 -- so it is in the sum of owners
 pub held_in : (x a : ℕ) → times a (held_slots x) ≡ names a x
 unfolding held_slots names
-held_in x a = let y : ℕ = x % 2 ^ 27 in ⊎_elim
-    (λ (t : (leb unowned y ≡ true) × (unowned ≤ y)). (λ d. times a (if t.0 d then [] else (if eqb (y / 4) 0 then [] else (y / 4 - 1) ∷ [])))
-    ∙ sym (λ d. either (t.0 d) 0 (either (eqb (y / 4) 0) 0 (is a (y / 4 - 1)))))
-    (λ (t : (leb unowned y ≡ false) × (y < unowned)). (λ d. times a (if t.0 d then [] else (if eqb (y / 4) 0 then [] else (y / 4 - 1) ∷ [])))
-    ∙ (dite (ℕ_discrete (y / 4) 0)
-    (λ e. let z = eq-eqb (y / 4) 0 e in (λ d. times a (if z d then [] else (y / 4 - 1) ∷ [])) ∙ sym (λ d. either (z d) 0 (is a (y / 4 - 1))))
-    (λ ne. let z = ne_eqb (y / 4) 0 ne in (λ d. times a (if z d then [] else (y / 4 - 1) ∷ []))
-    ∙ (plus_none (is a (y / 4 - 1)) ∙ sym (λ d. either (z d) 0 (is a (y / 4 - 1)))))
-    ∙ sym (λ d. either (t.0 d) 0 (either (eqb (y / 4) 0) 0 (is a (y / 4 - 1)))))) (leb_tells unowned y)
+held_in x a = dite (ℕ_discrete (named x) 0)
+    (λ e. let z = eq-eqb (named x) 0 e in (λ d. times a (if z d then [] else (named x - 1) ∷ [])) ∙ sym (λ d. either (z d) 0 (is a (named x - 1))))
+    (λ ne. let z = ne_eqb (named x) 0 ne in (λ d. times a (if z d then [] else (named x - 1) ∷ []))
+    ∙ (plus_none (is a (named x - 1)) ∙ sym (λ d. either (z d) 0 (is a (named x - 1)))))
   where
     plus_none : (k : ℕ) → k + 0 ≡ k
     plus_none k = omega arith
 
 -- it holds one owner, or none
 pub held_which : (x : ℕ) → ((slot : ℕ) × (held_slots x ≡ slot ∷ [])) ⊎ (held_slots x ≡ [])
-unfolding held_slots
-held_which x = let y : ℕ = x % 2 ^ 27 in ⊎_elim
-    (λ (t : (leb unowned y ≡ true) × (unowned ≤ y)). inr (holds_none x (inr t.1)))
-    (λ (t : (leb unowned y ≡ false) × (y < unowned)). dite (ℕ_discrete (y / 4) 0) (λ e. inr (holds_none x (inl (omega arith))))
-    (λ ne. inl (
-      y / 4 - 1,
-      ap (λ (b : Bool). if b then [] else (if eqb (y / 4) 0 then [] else (y / 4 - 1) ∷ [])) t.0
-          ∙ ap (λ (b : Bool). if b then [] else (y / 4 - 1) ∷ []) (ne_eqb (y / 4) 0 ne),
-    ))) (leb_tells unowned y)
+held_which x = dite (ℕ_discrete (named x) 0) (λ e. inr (holds_none x e)) (λ ne. inl (named x - 1, holds_one x (named x - 1) (omega arith)))
 
 -- it owns one slot, or none
 pub which : (x : ℕ) → ((i : ℕ) × ((a : ℕ) → names a x ≡ is a i)) ⊎ ((a : ℕ) → names a x ≡ 0)
-which x = let y : ℕ = x % 2 ^ 27 in ⊎_elim (λ (t : (leb unowned y ≡ true) × (unowned ≤ y)). inr (cell_null x (inr t.1)))
-    (λ (t : (leb unowned y ≡ false) × (y < unowned)). let t1 = t.1 in dite (ℕ_discrete (y / 4) 0) (λ e. inr (cell_null x (inl (omega arith))))
-    (λ ne. inl (y / 4 - 1, cell_names x (y / 4 - 1) (y % 4) (x / 2 ^ 27) (omega arith) (omega arith) (omega arith))))
-    (leb_tells unowned y)
+which x = dite (ℕ_discrete (named x) 0) (λ e. inr (cell_null x e)) (λ ne. inl (named x - 1, cell_names x (named x - 1) (omega arith)))
 
 free : (alive 0 ≡ 0) × (waiting 0 ≡ 0) × (full 0 ≡ 0)
 unfolding alive waiting full
@@ -324,5 +299,5 @@ sound = record {
   empty = λ x none. valued_full x (λ e. let z = ap full e in let q = emptied_is.2 in omega arith) ∙ none;
   there = λ x some none. valued_full x (λ e. let z = ap private e in let q = emptied_is.3 in omega arith) ∙ some;
   free = free;
-  null = λ i. cell_null 0 (inl (omega arith)) i;
+  null = λ i. cell_null 0 (omega arith) i;
 }

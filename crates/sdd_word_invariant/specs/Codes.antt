@@ -3,7 +3,7 @@
 -- A slot, below 2^63: 16 * generation + kind, where the kind is 0 free, 1 owned, 2 raw, 3 held; 4 waiting; 16 * collector + 5 waiting for a collector;
 -- once the collector's close has claimed it, 7 while its value is moved out, 8 the same where its bag has let go of it meanwhile, and 6 emptied, and still
 -- in the bag. Shared by n owners: 2^63 + n; none left, it waits: 2^63.
--- A cell: 0 free; else 2^27 * generation + 4 * (slot + 1) + tag, or a mark from 2^27 - 16 on, which owns nothing: null with a tag, raw pointers, a collector.
+-- A cell: 0 free; else 2^27 * generation + 4 * (slot + 1) + tag, or the mark 2^27 + tag, which owns nothing: null with a tag, raw pointers, a collector.
 -- A cell's pointer: 4 * (slot + 1) + tag, or its tag alone, which names nothing.
 use Rattle.std.specs.Prelude.{◌≡◌, ℕ, ◌+◌, ◌-◌, ◌*◌, ◌/◌, ◌%◌, ◌^◌, ◌<◌, ◌≤◌, if◌then◌else◌, Bool, List, [], ◌∷◌, suc, eqb, leb}
 use prog.Atomic.{either}
@@ -128,27 +128,27 @@ emptying x = is emptying_word x + is left_word x
 unfoldable pub counted : ℕ → ℕ
 counted x = either (leb shared_base x) 1 0
 
--- from here on a cell's word, but for the generation, is a mark
-abbrev pub unowned : ℕ
-unowned = 2 ^ 27 - 16
+-- one more than the number of the slot that a cell's word names; 0 where it names none
+abbrev pub named : ℕ → ℕ
+named x = x % 2 ^ 27 / 4
 
 -- the slot whose owner a cell holds that has this word, if it holds one
 unfoldable pub held_slots : ℕ → List ℕ
-held_slots x = if leb unowned (x % 2 ^ 27) then [] else (if eqb (x % 2 ^ 27 / 4) 0 then [] else (x % 2 ^ 27 / 4 - 1) ∷ [])
+held_slots x = if eqb (named x) 0 then [] else (named x - 1) ∷ []
 
 -- a cell's word that holds the owner of a slot, with a tag; and one that holds none
 abbrev pub holding_word : ℕ → ℕ → ℕ
 holding_word slot tag = 4 * suc slot + tag
 
 abbrev pub null_word : ℕ → ℕ
-null_word tag = unowned + tag
+null_word tag = 2 ^ 27 + tag
 
 -- all words of pointers are below: a slot's number is below 2^32
 abbrev pub pointers_end : ℕ
 pointers_end = 4 * 2 ^ 32 + 4
 
 unfoldable pub names : ℕ → ℕ → ℕ
-names i x = either (leb unowned (x % 2 ^ 27)) 0 (either (eqb (x % 2 ^ 27 / 4) 0) 0 (is i (x % 2 ^ 27 / 4 - 1)))
+names i x = either (eqb (named x) 0) 0 (is i (named x - 1))
 
 abbrev pub codes : WordReading
 codes = record {

@@ -219,10 +219,6 @@ module _ {T : Type 0} where
   pub MovesWaiting-refl : (p : ℕ) (w : World T) → MovesWaiting p w w
   MovesWaiting-refl p w = record { waiting = (place_at w p).bags.waiting; time = moved-same w.time p }
 
-  pub MovesWaiting-here : {p : ℕ} {u v : World T} → (m : MovesWaiting p u v) → p < length u.time.places → (place_at v p).bags.waiting ≡ m.waiting
-  MovesWaiting-here {p} {u} m l =
-      rw m.time (ap (λ (x : Participant). x.bags.waiting) (moved-place u.time p (place_at u p).found (place_at u p).countdown m.waiting l))
-
   pub MovesWaiting-trans : {p : ℕ} {u v w : World T} → p < length u.time.places → MovesWaiting p u v → MovesWaiting p v w → MovesWaiting p u w
   MovesWaiting-trans {p} {u} {v} {w} l a b =
       let at_v : place_at v p ≡ record (place_at u p) { bags = record (place_at u p).bags { waiting = a.waiting } } =
@@ -255,12 +251,6 @@ module _ {T : Type 0} where
 
   pub aged_out-range : (holds : T → List OwnerOrCell) (w : World T) (p : ℕ) → p < length w.time.places → p < length (aged_out holds w p).time.places
   aged_out-range holds w p l = MovesWaiting-range l (MovesWaiting-aged_out holds w p l)
-
-  -- where nothing waits with p any more
-  pub MovesWaiting-done : {p : ℕ} {u v : World T} → p < length u.time.places → MovesWaiting p u v → (place_at v p).bags.waiting ≡ [] →
-      v.time ≡ with_place u.time p (without_waiting (place_at u p))
-  MovesWaiting-done {p} {u} {v} l m done =
-      m.time ∙ ap (λ (ws : List Waiting). moved u.time p (place_at u p).found (place_at u p).countdown ws) (sym (MovesWaiting-here m l) ∙ done)
 
   paced-ahead : (w : World T) (p : ℕ) (pace : CountdownState) → p < length w.time.places →
       ahead (place_at (paced w p pace) p).bags.waiting (paced w p pace) ≡ ahead (place_at w p).bags.waiting w

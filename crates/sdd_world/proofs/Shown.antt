@@ -10,10 +10,3 @@ module _ {T : Type 0} where
   -- what a turn shows before and after
   abbrev pub Shows : World T → World T → Type 0
   Shows old new = KeepsShown {T = T} (λ k value. value_at old k ≡ Some value) (λ k value. value_at new k ≡ Some value)
-
-  shows-same : (u v : World T) → v.values ≡ u.values → Shows u v
-  shows-same u v e = λ k value is. rw e is
-
-  pub shows-owner_given : (w : World T) (p k : ℕ) (s : Option Standing) → standing_at w k ≡ s → Shows w (owner_given w p k s)
-  shows-owner_given w p k s is =
-      owner-given (λ (u : World T). Shows w u) w p k s is (shows-same w w refl) (λ out j value is. is) (λ n several more j value is. is)

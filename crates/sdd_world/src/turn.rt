@@ -10,9 +10,9 @@ use sdd_core::{Refused, SlotName, Tag};
 use sdd_participants::{CellContents, Idle, Job, RawCellContents};
 use sdd_rights::{RawRight, Right, SharedRights, StandingKind};
 use sdd_space::{
-    Caller, Cells, Collectors, Deferrals, Guard, Guards, InPlaceItems, Item, Items, Look,
-    LookThrough, Ptr, RawCells, RawItems, RawPtr, Several, SharedItems, SharedOwners, Shows, Space,
-    inner,
+    Caller, Cells, Collectors, Deferrals, Guard, Guards, HeldItems, InPlaceItems, Item, Items,
+    Look, LookThrough, Ptr, RawCells, RawItems, RawPtr, Several, SharedItems, SharedOwners, Shows,
+    Space, inner,
 };
 
 /// One participant's turn at a world: the space in which it makes its calls.
@@ -235,6 +235,24 @@ impl<T: Item<T>, J: Job> Items<T> for Turn<'_, T, J> {
 
     #[inline]
     fn owned_is_shown(&mut self, _right: &Right) {}
+}
+
+impl<T: Item<T>, J: Job> HeldItems<T> for Turn<'_, T, J> {
+    fn is_guarded(&self) -> bool {
+        let world: &World<T, J> = self.world;
+        world.core.is_guarded()
+    }
+
+    fn held<'a>(&'a self, cell: &Right) -> Option<&'a T> {
+        let world: &World<T, J> = self.world;
+        world.core.values_are_of_home();
+        world.core.value_held(cell)
+    }
+
+    fn contents(&self, cell: &Right) -> CellContents {
+        let world: &World<T, J> = self.world;
+        world.core.cell(cell)
+    }
 }
 
 impl<T: Item<T>, J: Job> InPlaceItems<T> for Turn<'_, T, J> {

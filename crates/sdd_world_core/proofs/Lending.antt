@@ -95,12 +95,6 @@ kind-open x k i e = by (is_open x) refl where
 is-open : (x : Participant) → 0 < x.guards → is_open x ≡ true
 is-open x some = grind (arith, nat_tests, some)
 
-is-shut : (x : Participant) → x.guards ≡ 0 → is_open x ≡ false
-is-shut x none = grind (arith, nat_tests, none)
-
-some-guards : (x : Participant) → IsTrue (is_open x) → 0 < x.guards
-some-guards x o = grind (arith, nat_tests, o)
-
 no-guards : (x : Participant) → is_open x ≡ false → x.guards ≡ 0
 no-guards x e = grind (arith, nat_tests, e)
 
@@ -116,14 +110,6 @@ module _ (t : ReadSections) (p : ℕ) (k : Kept) where
 
   kept-other : (q : ℕ) → q ≢ p → kept_at set_at q ≡ kept_at t q
   kept-other q apart = get_or-set_other t.kept p q k (whole Closed 0) apart
-
--- what a guard more leaves of the tenures, nested or first
-pub shares-nested : (t new : ReadSections) (p : ℕ) → new.home ≡ t.home →
-    new.kept ≡ slice_set t.kept p (record (kept_at t p) { units = (kept_at t p).units - 1 }) → (kept_at t p).kind ≡ Open →
-    new ≡ set_at t p (record (kept_at t p) { kind = Open; units = (kept_at t p).units - 1 })
-shares-nested t new p home kept kind =
-    let there = kept ∙ ap (λ (s : SectionState). slice_set t.kept p (record (kept_at t p) { kind = s; units = (kept_at t p).units - 1 })) kind in
-    λ i. record { home = home i; kept = there i }
 
 pub shares-first : (t mid new : ReadSections) (p : ℕ) → p < length t.kept → (kept_at t p).units ≡ 2 ^ 63 → mid.home ≡ t.home →
     mid.kept ≡ slice_set t.kept p (whole Open (kept_at t p).round) → new.home ≡ mid.home →

@@ -152,20 +152,6 @@ fewer-kept s of n is more most e =
     let sum : 2 ^ 63 - (n - 1) ≡ (kept_of s).units + right_units of = omega (arith, one, units, more, most) in
     record-kept (sym (ap (λ (x : Kept). x.kind) kept)) sum
 
--- the last owner goes: all units are kept
-last-of-several : (s : Option Standing) (n : ℕ) → IsSharedBy n s → owners-or-one s ≤ 1 → (kept_of s).units + 1 ≡ 2 ^ 63
-last-of-several s n i few =
-    let same : owners-or-one s ≡ n = ap owners-or-one i.shared in
-    let units : (kept_of s).units ≡ 2 ^ 63 - n = ap (λ (x : Option Standing). (kept_of x).units) i.shared in
-    omega (arith, same, units, i.some, few)
-
-pub last-units : (of : StandingKind) (s : Option Standing) → IsOwner of → IsOwnedBy of s → owners-or-one s ≤ 1 → (kept_of s).units + right_units of ≡ 2 ^ 63
-last-units kind.Free s h o few = absurd (cc)
-last-units kind.Owned s h o few = ap (λ (x : Option Standing). (kept_of x).units + (2 ^ 63 - 1)) (o.alone refl)
-last-units kind.Raw s h o few = absurd (cc)
-last-units kind.Shared s h o few = last-of-several s (o.together refl).0 (o.together refl).1 few
-last-units kind.Retired s h o few = absurd (cc)
-
 -- so many owners more: their units are out
 pub more-kept : (s : Option Standing) (n more : ℕ) → s ≡ Some (Shared n) → n + more ≤ 2 ^ 62 →
     kept_of (Some (Shared (n + more))) ≡ record (kept_of s) { units = (kept_of s).units - more }
@@ -213,16 +199,6 @@ pub taken-there : {T : Type 0} {home : GhostName} {kept : List Kept} {standings 
 taken-there {T} {home} {kept} {standings} k of a e h =
     let same : (kept_of (slice_index_or standings k None)).kind ≡ of = ap (λ (x : Kept). x.kind) (sym (kept-there k a)) ∙ e in
     taken-only _ (rw same h)
-
--- what is in the place of a slot is a value where a standing is
-pub filled-here : {T : Type 0} {home : GhostName} {kept : List Kept} {standings : Entries Standing} {values : List (Option T)} (k : ℕ)
-    (v : Option T) → SlotsMatch home kept standings values → k < home.size → v ≡ slice_index_or values k v →
-    is_some v ≡ is_some (slice_index_or standings k None)
-filled-here {T} {home} {kept} {standings} {values} k v a h e =
-    let sized : length values ≡ home.size =
-    sym (length-map values is_some) ∙ ap (λ (bs : List Bool). length bs) a.filled ∙ length-map standings is_some ∙ a.sized in
-    let inside : k < length values = omega (arith, sized, h) in
-    ap is_some (get_or_read values k v inside e None) ∙ filled-there k a
 
 -- what is no value is none
 pub none-of : {T : Type 0} (v : Option T) → is_some v ≡ false → v ≡ None

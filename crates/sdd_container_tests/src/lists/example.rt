@@ -4,7 +4,7 @@ ghost use Rattle.sdd_space.specs.CallerId.{IsSeated};
 
 use sdd_core::Limits;
 use sdd_lists::LinkedEntry;
-use sdd_space::{Cells, Guards, Item, Items, Look, Several, SharedItems};
+use sdd_space::{Cells, Guards, HeldItems, Item, Items, Look, Several, SharedItems};
 use sdd_world::{Place, Turn, World};
 use std::marker::Model;
 use std::process::Abort;
@@ -28,7 +28,8 @@ pub trait Lists: Look<Entry>
     + Items<Entry>
     + Several<Entry>
     + SharedItems<Entry>
-    + Cells<Entry> {}
+    + Cells<Entry>
+    + HeldItems<Entry> {}
 
 impl Lists for Turn<'_, Entry> {}
 

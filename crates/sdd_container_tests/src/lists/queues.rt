@@ -152,6 +152,7 @@ impl Example for Fills {
         match queue::filled(rt, s, 4, &guard) {
             Ok(jobs) => {
                 assert!(rt; queue::walked(s, &jobs, &guard) == [Some(1), Some(2), Some(3), None]);
+                assert!(rt; queue::given(s, &jobs, &guard) == [Some(1), Some(2), Some(3), None]);
                 queue::close(s, jobs, &guard);
             }
             Err((jobs, item, refused)) => {
@@ -204,4 +205,27 @@ impl Example for Copies {
 fn a_clone_has_the_same_numbers(rt: HostRuntime) {
     in_a_world(&rt, AMPLE, &Copies, 4);
     in_a_world(&rt, Limits { slots: 3, ..AMPLE }, &Copies, 3);
+}
+
+/// What is deleted isn't given, and nothing comes behind the end.
+struct GivesWhatIsLeft;
+
+impl Example for GivesWhatIsLeft {
+    fn run<R: Abort, S: Lists>(&self, rt: &R, s: &mut S) {
+        let guard = opened(rt, s);
+        let jobs = queue::made(rt, s);
+        assert!(rt; queue::given(s, &jobs, &guard) == [None; 4]);
+        assert!(rt; queue::pushed(s, &jobs, 1, &guard) == Ok(()));
+        assert!(rt; queue::pushed(s, &jobs, 2, &guard) == Ok(()));
+        let link = links::oldest(rt, s, &jobs, &guard);
+        assert!(rt; links::deleted(rt, s, &link));
+        assert!(rt; queue::given(s, &jobs, &guard) == [Some(2), None, None, None]);
+        queue::close(s, jobs, &guard);
+        close(s, guard);
+    }
+}
+
+#[test]
+fn an_iterator_gives_what_is_not_deleted(rt: HostRuntime) {
+    in_a_world(&rt, AMPLE, &GivesWhatIsLeft, 2);
 }

@@ -6,10 +6,11 @@ ghost use Rattle.sdd_space.specs.Shared.{IsOfSlots, slots_home};
 ghost use Rattle.sdd_lists.specs.Queue.{AreOfCells};
 ghost use Rattle.sdd_lists.specs.Stack.{home_in};
 
+use crate::lists::example::{Entry, Lists};
 use sdd_core::{Limits, Refused};
-use sdd_lists::{LinkedEntry, Queue, Stack};
-use sdd_space::{Cells, Guard, Guards, Items, Look, Several, Shared, SharedItems};
-use sdd_world::{Turn, World};
+use sdd_lists::{Queue, Stack};
+use sdd_space::{Guard, Shared};
+use sdd_world::World;
 use std::process::Abort;
 
 /// So many entries are walked along in each round.
@@ -35,18 +36,6 @@ enum Work {
     /// A walk along the entries of a queue, under a guard that stays open.
     Walk,
 }
-
-type Entry = LinkedEntry<u64>;
-
-/// The parts of a space that lists of numbers are used in.
-trait Lists: Look<Entry>
-    + Guards<Entry>
-    + Items<Entry>
-    + Several<Entry>
-    + SharedItems<Entry>
-    + Cells<Entry> {}
-
-impl Lists for Turn<'_, Entry> {}
 
 /// So many rounds, in which the numbers that were popped or seen have this sum.
 fn rounds<R: Abort + AllocGlobal>(rt: &R, work: Work, turns: u64, sum: u64) {
@@ -201,6 +190,17 @@ fn sum_walked<S: Lists>(s: &mut S, queue: &Queue<u64>, guard: &Guard) -> u64
     sum
 }
 
+/// The sum of what an iterator over a queue gives.
+fn sum_given<S: Lists>(s: &S, queue: &Queue<u64>, guard: &Guard) -> u64
+    requires { AreOfCells (S.seat s.now).home.cells queue.now }
+{
+    let mut sum = 0u64;
+    for value in queue.iter(guard, s) {
+        sum = sum.wrapping_add(*value);
+    }
+    sum
+}
+
 fn walks<S: Lists>(rt: &impl Abort, s: &mut S, turns: u64) -> u64
     requires { IsSeated (S.seat s.old) }
     ensures { S.seat s.new ≡ S.seat s.old }
@@ -210,7 +210,9 @@ fn walks<S: Lists>(rt: &impl Abort, s: &mut S, turns: u64) -> u64
     fill(rt, s, &queue, &guard, WALKED);
     let mut sum = 0u64;
     for _turn in 0..turns {
-        sum = sum.wrapping_add(sum_walked(s, &queue, &guard));
+        let walked = sum_walked(s, &queue, &guard);
+        assert_eq!(rt; sum_given(s, &queue, &guard), walked);
+        sum = sum.wrapping_add(walked);
     }
     queue.close(&guard, s);
     guard.close(s);

@@ -141,6 +141,7 @@ impl Example for Fills {
         match stack::filled(rt, s, 4, &guard) {
             Ok(plates) => {
                 assert!(rt; stack::walked(s, &plates, &guard) == [Some(3), Some(2), Some(1), None]);
+                assert!(rt; stack::given(s, &plates, &guard) == [Some(3), Some(2), Some(1), None]);
                 stack::close(s, plates, &guard);
             }
             Err((plates, item, refused)) => {

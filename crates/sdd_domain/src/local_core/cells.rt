@@ -23,12 +23,14 @@ ghost use Rattle.sdd_domain_slots.specs.SpaceIds.{cells_home, home_in};
 use crate::local_core::LocalCore;
 use crate::local_core::items::is_one_of_several;
 use sdd_atomics::steps::cells::{look_in, recall_cell, see_in};
-use sdd_core::{Refused, Tag};
+use sdd_core::{Refused, SlotName, Tag};
 use sdd_domain_slots::cell_claims::{claim_with, fill, reserve};
 use sdd_domain_slots::cell_values::{
     bind, exchange, free, free_bare, loosen, retag, swap, word_for,
 };
-use sdd_domain_slots::cell_words::{contents_in, expected_word, held_slot, holds, tag_in};
+use sdd_domain_slots::cell_words::{
+    contents_in, expected_word, holds, slot_in, tag_in, value_held,
+};
 use sdd_participants::{CellContents, Job};
 use sdd_rights::{RawRight, Right, StandingKind};
 use sdd_shared_values::GhostValues;
@@ -148,11 +150,11 @@ impl<'d, T: Item<T>, J: Job> LocalCore<'d, T, J> {
         recall_cell(board, &mut self.token, cell.witness());
         let word = see_in(board, &mut self.token, cell.number());
         let tag = tag_in(word);
-        let Some(slot) = held_slot(word) else {
+        let Some(slot) = value_held(word) else {
             return (None, tag);
         };
-        let value = shelf.show(slot as usize, &mut self.token, &board.table.shared, tenure);
-        (Some((slot, value)), tag)
+        let value = shelf.show(slot, &mut self.token, &board.table.shared, tenure);
+        (Some((slot as u32, value)), tag)
     }
 
     /// A cell holds another owner, or none, and has this tag. What it held comes back, with its tag.
@@ -187,12 +189,13 @@ impl<'d, T: Item<T>, J: Job> LocalCore<'d, T, J> {
         (bind(board, slots, out, kind), tag_in(found))
     }
 
-    /// The same, if the cell's word is this one; else the owner comes back, and nothing changes.
+    /// The same, if the cell's word is this one, which names this slot; else the owner comes back, and nothing changes.
     #[inline(always)]
     fn exchange_from(
         &mut self,
         cell: &Right,
         old: u64,
+        named: Option<u32>,
         held: Option<Right>,
         tag: Tag,
         kind: StandingKind,
@@ -202,6 +205,7 @@ impl<'d, T: Item<T>, J: Job> LocalCore<'d, T, J> {
         requires owner { IsOwner kind }
         requires held { MayHold (slots_home self.old) kind held }
         requires full { IsLone self.old → 0 < old }
+        requires named { (contents_of old).held ≡ named }
         ensures exchanged { MatchResult result
             (λ out. MayHold (slots_home self.old) kind out × (slot_held out ≡ (contents_of old).held)
             × ((word : ℕ) × (0 < word) × (contents_of word ≡ cell_with held tag) × ChangesCell (number_of cell.now) old word self.old self.new))
@@ -218,6 +222,7 @@ impl<'d, T: Item<T>, J: Job> LocalCore<'d, T, J> {
             cell.number(),
             cell.witness(),
             old,
+            named,
             new,
             word,
         );
@@ -228,13 +233,14 @@ impl<'d, T: Item<T>, J: Job> LocalCore<'d, T, J> {
         Ok(bind(board, slots, out, kind))
     }
 
-    /// The same, if the cell holds what was expected, by the word that is found in it.
+    /// The same, if the cell holds the owner of this slot, or none, with this tag, by the word that is found in it.
     #[cold]
     #[inline(never)]
     fn exchange_found(
         &mut self,
         cell: &Right,
-        current: CellContents,
+        named: Option<u32>,
+        before: Tag,
         held: Option<Right>,
         tag: Tag,
         kind: StandingKind,
@@ -244,17 +250,22 @@ impl<'d, T: Item<T>, J: Job> LocalCore<'d, T, J> {
         requires owner { IsOwner kind }
         requires held { MayHold (slots_home self.old) kind held }
         ensures exchanged { MatchResult result
-            (λ out. MayHold (slots_home self.old) kind out × (slot_held out ≡ current.held)
-            × ((found : ℕ) × (word : ℕ) × (0 < word) × (contents_of word ≡ cell_with held tag) × (contents_of found ≡ current)
-            × ChangesCell (number_of cell.now) found word self.old self.new))
-            (λ _. (self.new ≡ self.old) × (IsLone self.old → (contents_of (cell_word_of self.old (number_of cell.now)) ≢ current))) }
+            (λ out. MayHold (slots_home self.old) kind out × (slot_held out ≡ named)
+            × ((found : ℕ) × (word : ℕ) × (0 < word) × (contents_of word ≡ cell_with held tag)
+            × (contents_of found ≡ record { held = named; tag = before }) × ChangesCell (number_of cell.now) found word self.old self.new))
+            (λ _. (self.new ≡ self.old)
+            × (IsLone self.old → (contents_of (cell_word_of self.old (number_of cell.now)) ≢ record { held = named; tag = before }))) }
         ensures back { IfErr result (λ back. back ≡ held) }
     {
         let old = self.word_at(cell);
+        let current = CellContents {
+            held: named.map(SlotName::of),
+            tag: before,
+        };
         if !holds(old, current) {
             return Err(held);
         }
-        self.exchange_from(cell, old, held, tag, kind)
+        self.exchange_from(cell, old, named, held, tag, kind)
     }
 
     /// The same, if the cell holds what was expected; else the owner comes back, and nothing changes.
@@ -280,13 +291,15 @@ impl<'d, T: Item<T>, J: Job> LocalCore<'d, T, J> {
             (λ _. (self.new ≡ self.old) × (IsLone self.old → (contents_of (cell_word_of self.old (number_of cell.now)) ≢ current))) }
         ensures back { IfErr result (λ back. back ≡ held) }
     {
+        let named = slot_in(&current);
+        let before = current.tag;
         let old = match expected_word(&current) {
             Some(old) => old,
-            None => return self.exchange_found(cell, current, held, tag, kind),
+            None => return self.exchange_found(cell, named, before, held, tag, kind),
         };
-        match self.exchange_from(cell, old, held, tag, kind) {
+        match self.exchange_from(cell, old, named, held, tag, kind) {
             Ok(out) => Ok(out),
-            Err(back) => self.exchange_found(cell, current, back, tag, kind),
+            Err(back) => self.exchange_found(cell, named, before, back, tag, kind),
         }
     }
 

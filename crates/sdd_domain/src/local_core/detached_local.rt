@@ -6,6 +6,7 @@ ghost use Rattle.sdd_domain_slots.specs.LocalState.{HasOpenGuard};
 use crate::domain::Domain;
 use crate::local_core::LocalCore;
 use sdd_atomics::DomainSeat;
+use sdd_atomics::words::OwnPlace;
 use sdd_core::Limits;
 use sdd_domain_slots::deferred_jobs::DeferredJobs;
 use sdd_domain_slots::due_items::DueItems;
@@ -21,7 +22,7 @@ use std::marker::Model;
 pub struct DetachedLocal<J: Job> {
     token: DomainSeat,
     limits: Limits,
-    place: usize,
+    place: OwnPlace,
     own: Participant,
     due: DueItems,
     known: FreeSlotHints,

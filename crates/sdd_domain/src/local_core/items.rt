@@ -70,19 +70,11 @@ impl<'d, T: Item<T>, J: Job> LocalCore<'d, T, J> {
             (λ right. ledger.new.entries ≡ slice_set ledger.old.entries (number_of right) (Some (value, showing T.row value)))
             (λ _. ledger.new.entries ≡ ledger.old.entries) }
     {
-        let slots = self.domain.limits.slots;
-        let tries = self.domain.limits.tries;
+        let limits = &self.domain.limits;
         let board = &self.domain.board;
         let shared = is_one_of_several(kind);
         let word = first_word(shared);
-        match claim_free(
-            board,
-            &mut self.token,
-            &mut self.known,
-            slots as u32,
-            word,
-            tries,
-        ) {
+        match claim_free(board, &mut self.token, &mut self.known, limits, word) {
             Ok(slot) => {
                 ledger.fill(slot as usize, &value);
                 let (owner, grip) = put_value(
@@ -94,7 +86,8 @@ impl<'d, T: Item<T>, J: Job> LocalCore<'d, T, J> {
                     value,
                 );
                 self.tally.count_made();
-                Ok(Right::of_witness(slot, slots as usize, kind, owner, grip))
+                let slots = limits.slots as usize;
+                Ok(Right::of_witness(slot, slots, kind, owner, grip))
             }
             Err(refused) => Err((value, refused)),
         }
@@ -118,19 +111,11 @@ impl<'d, T: Item<T>, J: Job> LocalCore<'d, T, J> {
             (λ e. (e.0 ≡ make) × (self.new ≡ self.old) × ((e.1 ≡ Refused.NoSlot) ⊎ (e.1 ≡ Refused.Contended))
             × (IsLone self.old → (e.1 ≡ Refused.NoSlot) × IsUsedUp self.old) × (ledger.new.entries ≡ ledger.old.entries)) }
     {
-        let slots = self.domain.limits.slots;
-        let tries = self.domain.limits.tries;
+        let limits = &self.domain.limits;
         let board = &self.domain.board;
         let shared = is_one_of_several(kind);
         let word = first_word(shared);
-        match claim_free(
-            board,
-            &mut self.token,
-            &mut self.known,
-            slots as u32,
-            word,
-            tries,
-        ) {
+        match claim_free(board, &mut self.token, &mut self.known, limits, word) {
             Ok(slot) => {
                 let value = make();
                 ledger.fill(slot as usize, &value);
@@ -143,7 +128,8 @@ impl<'d, T: Item<T>, J: Job> LocalCore<'d, T, J> {
                     value,
                 );
                 self.tally.count_made();
-                Ok(Right::of_witness(slot, slots as usize, kind, owner, grip))
+                let slots = limits.slots as usize;
+                Ok(Right::of_witness(slot, slots, kind, owner, grip))
             }
             Err(refused) => Err((make, refused)),
         }

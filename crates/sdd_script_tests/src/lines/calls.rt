@@ -107,6 +107,17 @@ p0 mark null
 p0 unmark i0 g0
 p0 delete none
 p0 linktag c0
+p0 pushif s0 1 g0
+p0 pushif s0 1 2
+p0 pushif o0 1 2 g0
+p0 popif s0 g0
+p0 popif s0 none g0
+p0 peek s0
+p0 peek g0 s0
+p0 len s0 1 g0
+p0 len c0 g0
+p0 list s0
+p0 list g0
 p0 cell none
 p0 cell owned
 p0 load c0

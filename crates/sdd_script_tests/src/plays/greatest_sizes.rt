@@ -38,11 +38,14 @@ fn most_calls(alloc: Global) -> Result<Vec<Call>, AllocError> {
     Ok(calls)
 }
 
-/// What the call of this number answers in a run of `most_calls`.
-fn reply_to(number: u64) -> Reply {
-    match number.checked_sub(1) {
-        None => Reply::Place(PlaceName(0)),
-        Some(made) => Reply::Item(OwnerName(made), ItemName(made)),
+/// The call of this number answers this in a run of `most_calls`.
+fn is_reply_to(number: u64, reply: &Reply) -> bool {
+    match (number.checked_sub(1), reply) {
+        (None, Reply::Place(place)) => *place == PlaceName(0),
+        (Some(made), Reply::Item(owner, item)) => {
+            *owner == OwnerName(made) && *item == ItemName(made)
+        }
+        _ => false,
     }
 }
 
@@ -57,7 +60,7 @@ fn a_run_has_the_greatest_limits_and_the_most_calls(rt: HostRuntime) -> Result<(
     assert!(rt; answers.len() == 65_536);
     let mut number = 0u64;
     for answer in &answers {
-        assert!(rt; answer.reply == reply_to(number));
+        assert!(rt; is_reply_to(number, &answer.reply));
         number = number.wrapping_add(1);
     }
     Ok(())

@@ -50,7 +50,15 @@ fn a_run_is_whole_at_the_second_try(rt: HostRuntime) {
     assert!(rt; scene.world().tally() == tally);
     assert!(rt; scene.close().reclaimed == 1);
     assert!(rt; answers.len() == 4);
-    assert!(rt; answers.as_slice().last().map(|answer| answer.reply) == Some(Reply::Tally(tally)));
+    match answers.as_slice().last() {
+        Some(
+            Answer {
+                reply: Reply::Tally(told),
+                ..
+            },
+        ) => assert!(rt; *told == tally),
+        _ => assert!(rt; false),
+    }
 }
 
 /// The same of plays, where nothing is written at the first try.

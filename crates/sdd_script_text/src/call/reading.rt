@@ -9,7 +9,10 @@ ghost use Rattle.sdd_script_text.specs.Reading.{IsNumberOf, numbered_at, argumen
 use super::arguments::Arguments;
 use super::{Action, Argument, Call, Value, Word};
 use crate::first::split_word;
-use crate::name::{CellName, CollectorName, GuardName, ItemName, OwnerName, PlaceName, StackName};
+use crate::name::{
+    CellName, CollectorName, GuardName, ItemName, ListName, OwnerName, PlaceName, QueueName,
+    StackName,
+};
 use sdd_core::Tag;
 
 /// The number that a word is in its one form: without a sign and without a leading zero.
@@ -65,6 +68,7 @@ fn numbered_argument(word: &str) -> Option<Argument>
         [b'i', ..] => Some(Argument::Item(Some(ItemName(numbered('i', word)?)))),
         [b'c', ..] => Some(Argument::Cell(CellName(numbered('c', word)?))),
         [b'k', ..] => Some(Argument::Collector(CollectorName(numbered('k', word)?))),
+        [b'q', ..] => Some(Argument::Queue(QueueName(numbered('q', word)?))),
         [b's', ..] => Some(Argument::Stack(StackName(numbered('s', word)?))),
         _ => Some(Argument::Number(number(word)?)),
     }
@@ -94,6 +98,7 @@ fn spoken(verb: &str, arguments: &[Argument]) -> Option<Action>
         [] => match verb {
             "open" => Some(Action::Open),
             "collector" => Some(Action::Collector),
+            "queue" => Some(Action::Queue),
             "stack" => Some(Action::Stack),
             "end" => Some(Action::End),
             _ => None,
@@ -196,6 +201,10 @@ fn with_one(verb: &str, argument: Argument) -> Option<Action>
         Argument::Owner(Some(owner)) => with_owner(verb, owner),
         Argument::Cell(cell) => with_cell(verb, cell),
         Argument::Item(Some(item)) => with_item(verb, item),
+        Argument::Queue(queue) => match verb {
+            "close" => Some(Action::CloseQueue(queue)),
+            _ => None,
+        },
         Argument::Stack(stack) => match verb {
             "close" => Some(Action::CloseStack(stack)),
             _ => None,
@@ -219,8 +228,15 @@ fn with_guard_behind(verb: &str, first: Argument, guard: GuardName) -> Option<Ac
             "see" => Some(Action::See(item, guard)),
             _ => None,
         },
+        Argument::Queue(queue) => match verb {
+            "pop" => Some(Action::Dequeue(queue, guard)),
+            _ => None,
+        },
         Argument::Stack(stack) => match verb {
             "pop" => Some(Action::Pop(stack, guard)),
+            "peek" => Some(Action::Peek(ListName::Stack(stack), guard)),
+            "len" => Some(Action::Len(ListName::Stack(stack), guard)),
+            "list" => Some(Action::List(ListName::Stack(stack), guard)),
             _ => None,
         },
         Argument::Cell(cell) => match verb {
@@ -288,8 +304,13 @@ fn with_three(verb: &str, first: Argument, second: Argument, third: Argument) ->
             "swap" => Some(Action::Swap(cell, held, tag)),
             _ => None,
         },
+        (Argument::Queue(queue), Argument::Number(number), Argument::Guard(guard)) => match verb {
+            "push" => Some(Action::Enqueue(queue, number, guard)),
+            _ => None,
+        },
         (Argument::Stack(stack), Argument::Number(number), Argument::Guard(guard)) => match verb {
             "push" => Some(Action::Push(stack, number, guard)),
+            "popif" => Some(Action::PopIf(ListName::Stack(stack), number, guard)),
             _ => None,
         },
         (Argument::Owner(Some(owner)), Argument::Guard(guard), Argument::Collector(collector)) =>
@@ -317,6 +338,15 @@ fn with_four(
                 "tagif" => Some(Action::TagIf(cell, tag, old)),
                 _ => None,
             },
+        (
+            Argument::Stack(stack),
+            Argument::Number(number),
+            Argument::Number(newest),
+            Argument::Guard(guard),
+        ) => match verb {
+            "pushif" => Some(Action::PushIf(ListName::Stack(stack), number, newest, guard)),
+            _ => None,
+        },
         _ => None,
     }
 }

@@ -1,11 +1,12 @@
 //! Cells hold owners.
-ghost use Rattle.std.specs.Prelude.{◌≡◌, ◌≢◌, ℕ, ◌+◌, ◌^◌, ◌<◌, ◌⊎◌, Some, IsSome, MatchOption, MatchResult, IfOk, IfSome, IsTrue, ◌↔◌};
+ghost use Rattle.std.specs.Prelude.{◌≡◌, ◌≢◌, ℕ, ◌+◌, ◌^◌, ◌<◌, ◌⊎◌, Some, IsSome, MatchOption, MatchResult, IfOk, IfSome, IsTrue, ◌↔◌, option_copied};
 ghost use Rattle.sdd_rights.specs.StandingKind.{IsOwner};
 ghost use Rattle.sdd_rights.specs.Right.{number_of, home_of, kind_of};
 ghost use Rattle.sdd_standings.specs.Slots.{IsOwnedBy, IsSharedBy};
 ghost use Rattle.sdd_standings.specs.Cells.{MayHold, cell_with, slot_held};
 ghost use Rattle.sdd_participants.specs.EpochState as time;
 ghost use Rattle.sdd_participants.specs.Slab.{entry_at, IsEmptyAt, IsFull};
+ghost use Rattle.sdd_space.specs.HeldItems.{value_held};
 ghost use Rattle.sdd_space.specs.World.{KeepsSizes, standing_at, HasPlace};
 ghost use Rattle.sdd_space.specs.WorldChanges.{with_standing, with_cell, without_cell, cell_closed};
 ghost use Rattle.sdd_space.specs.WorldInvariant.{IsWhole};
@@ -81,6 +82,17 @@ impl<T: Item<T>, J: Job> WorldCore<T, J> {
     {
         let right = self.cells.owner(cell)?;
         Some(self.slots.slot_of(right))
+    }
+
+    /// The value of the item that a cell holds, if it holds one.
+    pub fn value_held(&self, cell: &Right) -> Option<&T>
+        requires { home_of cell.now ≡ self.now.world.home.cells }
+        ensures { option_copied result ≡ value_held self.now.world (number_of cell.now) }
+    {
+        match self.cells.owner(cell) {
+            Some(owner) => Some(self.slots.value(owner)),
+            None => None,
+        }
     }
 
     /// One owner more of what a cell of shared owners holds, if it holds anything.

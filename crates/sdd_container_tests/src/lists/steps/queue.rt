@@ -183,6 +183,21 @@ pub fn walked<S: Lists>(s: &mut S, queue: &Queue<u64>, guard: &Guard) -> [Option
     [first, second, third, walk.next(guard, s).copied()]
 }
 
+/// The numbers that an iterator gives, the first four where there are more.
+pub fn given<S: Lists>(s: &S, queue: &Queue<u64>, guard: &Guard) -> [Option<u64>; 4]
+    requires { AreOfCells (S.seat s.now).home.cells queue.now }
+{
+    let mut numbers = [None; 4];
+    let mut place = 0;
+    for number in queue.iter(guard, s) {
+        if place < 4 {
+            numbers[place] = Some(*number);
+            place += 1;
+        }
+    }
+    numbers
+}
+
 /// Ends a queue.
 pub fn close<S: Lists>(s: &mut S, queue: Queue<u64>, guard: &Guard)
     requires seated { IsSeated (S.seat s.old) }

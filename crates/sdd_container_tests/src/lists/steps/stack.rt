@@ -193,6 +193,21 @@ pub fn all_of<S: Lists>(rt: &impl Abort, s: &mut S, stack: &Stack<u64>, guard: &
     stack.pop_all(guard, s).expect(rt, "a cell is free")
 }
 
+/// The numbers that an iterator gives, the first four where there are more.
+pub fn given<S: Lists>(s: &S, stack: &Stack<u64>, guard: &Guard) -> [Option<u64>; 4]
+    requires { home_in stack.now ≡ (S.seat s.now).home.cells }
+{
+    let mut numbers = [None; 4];
+    let mut place = 0;
+    for number in stack.iter(guard, s) {
+        if place < 4 {
+            numbers[place] = Some(*number);
+            place += 1;
+        }
+    }
+    numbers
+}
+
 /// Ends a stack.
 pub fn close<S: Lists>(s: &mut S, stack: Stack<u64>, guard: &Guard)
     requires seated { IsSeated (S.seat s.old) }

@@ -20,6 +20,7 @@ put_down-requires c =
     let step = c.exchange_cell.ensures shared q.1 in let hit = c.if-exchange_cell-old.true in
     let out = brought c.args.word c.args.cell c.args.old shared c.take_up.new.token.me c.exchange_cell.new.token.me
     (subst (λ (x : ℕ). BringsOut c.args.word shared c.args.cell c.take_up.new.token.me x c.exchange_cell.new.token.me) hit (step.2.0 hit)) in record {
+      named = c.requires.named;
       home = search rules;
       knows =
           let s = c.args.token.now in (

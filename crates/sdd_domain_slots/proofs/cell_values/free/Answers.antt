@@ -15,6 +15,7 @@ put_down-requires c =
     let freed = c.free_cell-word.ensures shared
     (rights_now c.args.cell shared s c.recall_cell.new.token c.take_in_right.new.token c.requires.rights a.2.0 took.3) in
     let out = brought 0 c.args.cell c.free_cell-word.result shared c.take_in_right.new.token.me freed.2.0.0 freed.2.0.1 in record {
+      named = c.held_slot.ensures.held;
       home = search rules;
       knows = (
         ap (λ (m : SeatState). m.0.sizes) freed.2.0.2 ∙ (ap (λ (m : SeatState). m.0.sizes) out.1

@@ -18,6 +18,7 @@ put_down-requires c =
     let q = c.requires.right.1 in let shared : Bool = q.0 in let a = c.recall_cell.ensures c.args.cell shared q.1 in let t = c.take_up.ensures shared q.2 in
     let step = c.swap_cell-found.ensures shared q.1 in
     let out = brought c.args.word c.args.cell c.swap_cell-found.result shared c.take_up.new.token.me c.swap_cell-found.new.token.me step.2.0 in record {
+      named = c.held_slot.ensures.held;
       home = search rules;
       knows =
           let s = c.args.token.now in (

@@ -11,6 +11,8 @@ invariant-loop-stack l = record {
   owners : l.stage.owners ≡ l.initial.stage.owners;
   cells : l.stage.cells ≡ l.initial.stage.cells;
   collectors : l.stage.collectors ≡ l.initial.stage.collectors;
+  queues : l.stage.queues ≡ l.initial.stage.queues;
+  newest : l.stage.newest ≡ l.initial.stage.newest;
   raw : (k : ℕ) → standing_at l.stage.world k ≢ Some Raw;
   made : l.stage.world.tally.made ≡ l.initial.stage.world.tally.made;
   in_place : l.stage.world.tally.in_place ≡ l.initial.stage.world.tally.in_place;

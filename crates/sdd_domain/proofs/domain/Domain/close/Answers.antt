@@ -1,4 +1,4 @@
-use Rattle.std.proofs.Common.{◌≡◌, ℕ, ◌+◌, ◌-◌, ◌≤◌, List, length, sym, ap, ◌∙◌, subst, arith}
+use Rattle.std.proofs.Common.{rules, ◌≡◌, ℕ, ◌+◌, ◌-◌, ◌≤◌, List, length, sym, ap, ◌∙◌, subst, arith}
 use Rattle.core.specs.Mem.Slots.{slots_items}
 use Rattle.sdd_rights.specs.Units as token
 use Rattle.sdd_views.specs.declared.EndedView.{EndedView}
@@ -35,7 +35,7 @@ returns-clause-settled g c = let ended : List Receipt = c.settle_all.new.receipt
   (
     c.tally_of-tally.ensures,
     c.tally_of-tally.ensures ∙ settled_sum _ c.args.receipts.items ended c.settle_all.ensures.settled,
-    c.are_over.ensures c.if-not-are_over.false,
+    c.are_over.ensures.0 (search (rules, c.if-not-are_over.false)),
   ),
 )
 

@@ -1,4 +1,4 @@
-use Rattle.std.proofs.Common.{rules, ◌≡◌, ℕ, Bool, sym, ◌∙◌}
+use Rattle.std.proofs.Common.{rules, Bool, sym, ◌∙◌}
 use Rattle.sdd_rights.specs.StandingKind.{is_shared}
 use Rattle.sdd_word_invariant.specs.Codes.{held_slots}
 use Rattle.sdd_standings.specs.Cells.{slot_held}

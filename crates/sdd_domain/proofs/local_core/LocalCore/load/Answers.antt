@@ -69,7 +69,7 @@ show-value-requires g c =
     let l = c.self.inside in let b = l.domain.now.board in let t : ℕ = c.tenure_of-tenure.result.now.round in let inv = c.self.invariant in
     let cell = c.args.cell.now in let word : ℕ = c.see_in-word.result in let f = c.see_in-word.new.token in
     let look = looked g (goal.at.show-value-requires g c).After-see_in-word in let slot : ℕ = c.in-Some.slot in
-    let one = named word slot (sym c.held_slot.ensures.held ∙ c.in-Some.is) in let hit = look.2.1 slot one in let shared : Bool = hit.0 in
+    let one = named word slot (sym c.value_held.ensures.held ∙ c.in-Some.is) in let hit = look.2.1 slot one in let shared : Bool = hit.0 in
     let shown : Gv = hit.1 in let watch : MovedAlone (SeesOwned slot shared shown) l.token f = (look.0, look.1, hit.3) in
     let seen = watched b l.place l.own t slot shared shown l.token f inv.0
     (subst (λ (t : ℕ). AreLentTo t l.token.me.1) (sym c.agree.ensures.round) inv.3) watch in record {
@@ -84,7 +84,7 @@ invariant_of-self-2 g c =
     let l = c.self.inside in let b = l.domain.now.board in let t : ℕ = c.tenure_of-tenure.result.now.round in let inv = c.self.invariant in
     let cell = c.args.cell.now in let word : ℕ = c.see_in-word.result in let f = c.see_in-word.new.token in
     let look = looked g (goal.at.invariant_of-self-2 g c).After-see_in-word in let slot : ℕ = c.in-Some.slot in
-    let one = named word slot (sym c.held_slot.ensures.held ∙ c.in-Some.is) in let hit = look.2.1 slot one in let shared : Bool = hit.0 in
+    let one = named word slot (sym c.value_held.ensures.held ∙ c.in-Some.is) in let hit = look.2.1 slot one in let shared : Bool = hit.0 in
     let shown : Gv = hit.1 in let watch : MovedAlone (SeesOwned slot shared shown) l.token f = (look.0, look.1, hit.3) in
     let seen = watched b l.place l.own t slot shared shown l.token f inv.0
     (subst (λ (t : ℕ). AreLentTo t l.token.me.1) (sym c.agree.ensures.round) inv.3) watch in
@@ -98,7 +98,7 @@ returns g c =
     let cell = c.args.cell.now in let word : ℕ = c.see_in-word.result in let f = c.see_in-word.new.token in
     let views = cell_views c.args.self.now.home cell (kind_of cell) c.witness.result.now (number_of cell) c.requires.home refl c.witness.ensures.cell refl in
     let known = c.recall_cell.ensures (number_of cell) (is_shared (kind_of cell)) views in let look = looked g (goal.at.returns g c).After-see_in-word in
-    let slot : ℕ = c.in-Some.slot in let one = named word slot (sym c.held_slot.ensures.held ∙ c.in-Some.is) in let hit = look.2.1 slot one in
+    let slot : ℕ = c.in-Some.slot in let one = named word slot (sym c.value_held.ensures.held ∙ c.in-Some.is) in let hit = look.2.1 slot one in
     let shared : Bool = hit.0 in let shown : Gv = hit.1 in let watch : MovedAlone (SeesOwned slot shared shown) l.token f = (look.0, look.1, hit.3) in
     let seen = watched b l.place l.own t slot shared shown l.token f inv.0
     (subst (λ (t : ℕ). AreLentTo t l.token.me.1) (sym c.agree.ensures.round) inv.3) watch in

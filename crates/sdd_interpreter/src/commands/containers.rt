@@ -1,0 +1,108 @@
+//! What participants are told of the entries of containers.
+ghost use Rattle.std.specs.Prelude.{◌≡◌, IfOk, List, length, map};
+ghost use Rattle.sdd_space.specs.Guard.{reader_of};
+ghost use Rattle.sdd_lists.specs.Lists.{Entry, content, first_value, left};
+ghost use Rattle.sdd_lists.specs.Walk.{shown_of};
+ghost use Rattle.sdd_script_model.specs.Containers.{TellsNumber};
+ghost use Rattle.sdd_script_model.specs.Listed.{Begins};
+ghost use Rattle.sdd_script_model.specs.Val.{Val};
+ghost use Rattle.sdd_script_model.specs.declared.val.Body.TheVariants as body;
+ghost use Rattle.sdd_interpreter.specs.Containers.{IsOfNumbers, list_cell, list_home};
+
+use crate::commands::step::ListCommand;
+use crate::holding::AnyList;
+use crate::items::number_of;
+use sdd_script_model::{Body, Val};
+use sdd_script_text::{Numbers, Reply};
+use sdd_space::{Cells, Guard, Items, LookThrough, Several, SharedItems};
+use std::alloc::{AllocError, Global};
+
+/// The first number of a container that isn't deleted, as a reply.
+pub struct PeekFirst<'a> {
+    pub list: AnyList<'a>,
+    /// One of the participant's.
+    pub guard: &'a Guard,
+}
+
+impl ListCommand for PeekFirst<'_> {
+    type Out = Reply;
+
+    ghost asks = { λ step home reader world. (list_home step.list ≡ home.cells) × (reader_of step.guard.now ≡ reader)
+        × IsOfNumbers world (list_cell step.list) };
+
+    ghost does = { λ step _ _ before told after. (after ≡ before)
+        × ((es : List (Entry Val)) → Begins before (list_cell step.list) es → TellsNumber told (first_value (left es))) };
+
+    fn done<S: Items<Val> + Several<Val> + SharedItems<Val> + Cells<Val> + LookThrough<Val>>(
+        self,
+        s: &mut S,
+    ) -> Reply {
+        let PeekFirst { list, guard } = self;
+        let first = list.peek(guard, s);
+        match first.as_ref(s) {
+            Some(value) => match number_of(value) {
+                Some(number) => Reply::Value(number),
+                None => unreachable!(),
+            },
+            None => Reply::Nothing,
+        }
+    }
+}
+
+/// How many entries of a container aren't deleted.
+pub struct CountEntries<'a> {
+    pub list: AnyList<'a>,
+    /// One of the participant's.
+    pub guard: &'a Guard,
+}
+
+impl ListCommand for CountEntries<'_> {
+    type Out = u64;
+
+    ghost asks = { λ step home reader _. (list_home step.list ≡ home.cells) × (reader_of step.guard.now ≡ reader) };
+
+    ghost does = { λ step _ _ before count after. (after ≡ before)
+        × ((es : List (Entry Val)) → Begins before (list_cell step.list) es → count ≡ length (content es)) };
+
+    fn done<S: Items<Val> + Several<Val> + SharedItems<Val> + Cells<Val> + LookThrough<Val>>(
+        self,
+        s: &mut S,
+    ) -> u64 {
+        let CountEntries { list, guard } = self;
+        list.len(guard, s)
+    }
+}
+
+/// The numbers of a container that aren't deleted, in order. Refused where memory for them is.
+pub struct ListNumbers<'a> {
+    pub list: AnyList<'a>,
+    /// One of the participant's.
+    pub guard: &'a Guard,
+    pub alloc: Global,
+}
+
+impl ListCommand for ListNumbers<'_> {
+    type Out = Result<Numbers, AllocError>;
+
+    ghost asks = { λ step home reader world. (list_home step.list ≡ home.cells) × (reader_of step.guard.now ≡ reader)
+        × IsOfNumbers world (list_cell step.list) };
+
+    ghost does = { λ step _ _ before result after. (after ≡ before)
+        × IfOk result (λ numbers. (es : List (Entry Val)) → Begins before (list_cell step.list) es → shown_of es ≡ map body.Number numbers) };
+
+    fn done<S: Items<Val> + Several<Val> + SharedItems<Val> + Cells<Val> + LookThrough<Val>>(
+        self,
+        s: &mut S,
+    ) -> Result<Numbers, AllocError> {
+        let ListNumbers { list, guard, alloc } = self;
+        let mut walk = list.walk(guard, s);
+        let mut numbers = Numbers::new(alloc);
+        while let Some(body) = walk.next(guard, s) {
+            match body {
+                Body::Number(number) => numbers.push(*number)?,
+                _ => unreachable!(),
+            }
+        }
+        Ok(numbers)
+    }
+}

@@ -1,0 +1,110 @@
+//! Names of containers of entries, and the numbers of their entries.
+ghost use Rattle.std.specs.Prelude.{◌≡◌, ◌↔◌, IsTrue, List, MatchOption, Some, length, option_copied};
+ghost use Rattle.sdd_space.specs.CallerId.{IsExact, IsSeated};
+ghost use Rattle.sdd_space.specs.Guard.{reader_of};
+ghost use Rattle.sdd_space.specs.Ptr.{PtrIsShown, slot_named};
+ghost use Rattle.sdd_space.specs.Shared.{slot_of, slots_home};
+ghost use Rattle.sdd_space.specs.Undisturbed.{Undisturbed};
+ghost use Rattle.sdd_space.specs.World.{World, value_at};
+ghost use Rattle.sdd_lists.specs.Lists.{Entry, content, first_slot, left};
+ghost use Rattle.sdd_lists.specs.Walk.{IsWalkOf, ShowsInOrder, shown_of};
+ghost use Rattle.sdd_script_model.specs.Containers.{HasNumber};
+ghost use Rattle.sdd_script_model.specs.Listed.{Begins, IsNumber};
+ghost use Rattle.sdd_script_model.specs.Val.{Val, body_of};
+ghost use Rattle.sdd_interpreter.specs.Containers.{NamesNone, StandsFor, list_cell, list_home};
+
+use crate::holding::AnyList;
+use crate::items::number_of;
+use crate::name_table::NameTable;
+use sdd_lists::{Stack, Walk};
+use sdd_script_model::{Body, Val};
+use sdd_script_text::ListName;
+use sdd_space::{Cells, Guard, Items, LookThrough, Ptr, Shared};
+use sdd_world::World;
+
+/// The container of this name, if it is there.
+pub fn list_named(stacks: &NameTable<Stack<Body>>, name: ListName) -> Option<AnyList<'_>>
+    ensures { MatchOption result (NamesNone stacks.now.entries.items name) (StandsFor stacks.now.entries.items name) }
+{
+    match name {
+        ListName::Stack(stack) => Some(AnyList::Stack(stacks.get(stack.0)?)),
+    }
+}
+
+impl AnyList<'_> {
+    /// A pointer to the first entry that isn't deleted.
+    pub fn peek<'g, S: Items<Val> + Cells<Val> + LookThrough<Val>>(
+        self,
+        guard: &'g Guard,
+        s: &mut S,
+    ) -> Ptr<'g, Val>
+        requires seated { IsSeated (S.seat s.old) }
+        requires home { list_home self ≡ (S.seat s.old).home.cells }
+        requires reader { reader_of guard.now ≡ (S.seat s.old).reader }
+        ensures undisturbed { Undisturbed S.seat S.own S.known S.shows s.old s.new }
+        ensures world { IsExact (S.seat s.old) → S.world s.new ≡ S.world s.old }
+        ensures shown { PtrIsShown (S.shows s.new) result }
+        ensures list { IsExact (S.seat s.old) → (es : List (Entry Val)) → Begins (S.world s.old) (list_cell self.entry) es →
+            slot_named result ≡ first_slot (left es) }
+    {
+        match self {
+            AnyList::Stack(stack) => stack.peek(guard, s),
+        }
+    }
+
+    /// How many entries aren't deleted.
+    pub fn len<S: Items<Val> + Cells<Val> + LookThrough<Val>>(self, guard: &Guard, s: &mut S) -> u64
+        requires seated { IsSeated (S.seat s.old) }
+        requires home { list_home self ≡ (S.seat s.old).home.cells }
+        requires reader { reader_of guard.now ≡ (S.seat s.old).reader }
+        ensures undisturbed { Undisturbed S.seat S.own S.known S.shows s.old s.new }
+        ensures world { IsExact (S.seat s.old) → S.world s.new ≡ S.world s.old }
+        ensures list { IsExact (S.seat s.old) → (es : List (Entry Val)) → Begins (S.world s.old) (list_cell self.entry) es → result ≡ length (content es) }
+    {
+        match self {
+            AnyList::Stack(stack) => stack.len(guard, s),
+        }
+    }
+
+    /// A walk along the entries that aren't deleted.
+    pub fn walk<'g, S: Items<Val> + Cells<Val> + LookThrough<Val>>(
+        self,
+        guard: &'g Guard,
+        s: &mut S,
+    ) -> Walk<'g, Body>
+        requires seated { IsSeated (S.seat s.old) }
+        requires home { list_home self ≡ (S.seat s.old).home.cells }
+        requires reader { reader_of guard.now ≡ (S.seat s.old).reader }
+        ensures undisturbed { Undisturbed S.seat S.own S.known S.shows s.old s.new }
+        ensures home { IsWalkOf (S.seat s.old).home.cells result }
+        ensures world { IsExact (S.seat s.old) → S.world s.new ≡ S.world s.old }
+        ensures list { IsExact (S.seat s.old) → (es : List (Entry Val)) → Begins (S.world s.old) (list_cell self.entry) es →
+            ShowsInOrder (S.world s.new) result (shown_of es) }
+    {
+        match self {
+            AnyList::Stack(stack) => stack.walk(guard, s),
+        }
+    }
+}
+
+/// A value is there, and is this number.
+pub fn is_this_number(value: Option<&Val>, number: u64) -> bool
+    ensures { IsTrue result ↔ HasNumber (option_copied value.entry) number }
+{
+    match value {
+        Some(value) => number_of(value) == Some(number),
+        None => false,
+    }
+}
+
+/// The number that an owner's item is.
+pub fn number_owned(owner: &Shared<Val>, world: &World<Val>) -> u64
+    requires home { slots_home owner.now ≡ world.now.home.slots }
+    requires number { (v : Val) → value_at world.now (slot_of owner.now) ≡ Some v → IsNumber (body_of v) }
+    ensures { HasNumber (value_at world.now (slot_of owner.now)) result }
+{
+    match number_of(owner.get(world)) {
+        Some(number) => number,
+        None => unreachable!(),
+    }
+}

@@ -1,0 +1,44 @@
+-- Where an iterator over a queue or a stack is, and what it gives
+use Rattle.std.specs.Prelude.{ℕ, ◌≡◌, ◌≤◌, List, Option, IfSome, drop, length, option_copied, slice_get}
+use Rattle.std.specs.Borrow.{Bor}
+use Rattle.sdd_rights.specs.Units as token
+use Rattle.sdd_space.specs.CallerId.{CallerId, IsExact}
+use Rattle.sdd_space.specs.World.{World}
+use Rattle.sdd_lists.specs.declared.iter.Iter.{Iter}
+use Rattle.sdd_lists.specs.declared.linked_entry.LinkedEntry.{LinkedEntry}
+use Rattle.sdd_lists.specs.Entries.{link_of, link_home_of}
+use Rattle.sdd_lists.specs.Lists.{AreLinked, Entry, first_value}
+use Rattle.sdd_lists.specs.Walk.{shown_of}
+
+module _ {T S : Type 0} where
+  -- the space that it looks at
+  abbrev pub space_of : Iter T S → S
+  space_of it = it.space.now
+
+  -- how many values it gives at most
+  abbrev pub values_left : Iter T S → ℕ
+  values_left it = it.most
+
+  -- the entry that is next, if there is one, is of these cells
+  abbrev pub IsIterOf : token.GhostName → Iter T S → Type 0
+  IsIterOf home it = IfSome it.next (λ entry. link_home_of entry.now ≡ home)
+
+  -- it is before these entries, of which some may be deleted
+  pub record IsBefore (w : World (LinkedEntry T)) (it : Iter T S) (es : List (Entry (LinkedEntry T))) : Type 0 where
+    pub linked : AreLinked link_of w es
+    pub next : option_copied it.next ≡ first_value es
+    pub few : length es ≤ it.most
+
+  -- it gives these values, in order
+  pub record GivesInOrder (w : World (LinkedEntry T)) (it : Iter T S) (vs : List T) : Type 0 where
+    pub entries : List (Entry (LinkedEntry T))
+    pub before : IsBefore w it entries
+    pub values : vs ≡ shown_of entries
+
+  module _ (seat : S → CallerId) (world : S → World (LinkedEntry T)) where
+    -- it looks at the same space, in which it gives what is first, and then what is behind that; at the end it stays, and may be asked again
+    pub record GoesInOrder (it : Iter T S) (given : Option (Bor T)) (after : Iter T S) : Type 0 where
+      pub space : after.space ≡ it.space
+      pub home : IsIterOf (seat it.space.now).home.cells it → IsIterOf (seat after.space.now).home.cells after
+      pub gives : IsExact (seat it.space.now) → (vs : List T) → GivesInOrder (world it.space.now) it vs →
+          (option_copied given ≡ slice_get vs 0) × GivesInOrder (world it.space.now) after (drop 1 vs)

@@ -1,0 +1,90 @@
+-- What each line that is told of a container's entries means
+use Rattle.std.proofs.Common.{◌≡◌, ℕ, List, Some, None, length, map, slice_index_or, refl, ap, inr, subst, ◌∙◌}
+use Rattle.sdd_space.specs.CallerId.{reader_at}
+use Rattle.sdd_space.specs.Guard.{ReaderId, reader_of}
+use Rattle.sdd_lists.specs.Lists.{Entry, content, first_value, left}
+use Rattle.sdd_lists.specs.Stack.{cell_in}
+use Rattle.sdd_lists.specs.Walk.{shown_of}
+use Rattle.sdd_script_text.specs.declared.name.GuardName.{GuardName}
+use Rattle.sdd_script_text.specs.declared.name.ListName.{ListName}
+use Rattle.sdd_script_text.specs.declared.name.ListName.TheVariants as list
+use Rattle.sdd_script_text.specs.declared.name.PlaceName.{PlaceName}
+use Rattle.sdd_script_text.specs.declared.call.Call.TheVariants.{At}
+use Rattle.sdd_script_text.specs.declared.call.Action.TheVariants as call
+use Rattle.sdd_script_text.specs.declared.answer.Reply.{Reply}
+use Rattle.sdd_script_text.specs.declared.answer.Reply.TheVariants as reply
+use Rattle.sdd_script_model.specs.Containers.{IsContainer, TellsNumber}
+use Rattle.sdd_script_model.specs.Listed.{AreNumbers, Begins}
+use Rattle.sdd_script_model.specs.Script.{Acts, HasOpen, IsListName}
+use Rattle.sdd_script_model.specs.Val.{Val}
+use Rattle.sdd_script_model.specs.declared.val.Body.TheVariants.{Number}
+use Rattle.sdd_interpreter.specs.Containers.{IsOfNumbers, NamesNone, StandsFor, list_cell, list_home}
+use Rattle.sdd_interpreter.specs.Interpreter.{GuardsIn, IsGuardIn, IsTied, desk_of}
+use Rattle.sdd_interpreter.specs.declared.participants.NamedGuard.{NamedGuard}
+use Rattle.sdd_interpreter.specs.declared.holding.AnyList.{AnyList}
+use Rattle.sdd_interpreter.specs.declared.holding.AnyList.TheVariants as any
+use Rattle.sdd_interpreter.specs.declared.interpreter.Environment.{Environment}
+use Rattle.sdd_interpreter.proofs.Acts.{still}
+use Rattle.sdd_interpreter.proofs.Stacks.{no-stack, stack-cell, stack-home}
+use Rattle.sdd_script_commands.proofs.StackActs.{is-stack}
+
+pub no-list : (h : Environment) (l : ListName) → NamesNone h.stacks.entries.items l → ¬ (IsListName (desk_of h) l)
+no-list h (list.Stack s) none = no-stack h s.0 none
+
+-- a guard in hand is its participant's
+pub reader-is : (h : Environment) → IsTied h → (g : ℕ) (held : NamedGuard) (p : ℕ) → slice_index_or h.guards.entries.items g None ≡ Some held →
+    held.place ≡ p → reader_of held.guard ≡ reader_at h.world p
+reader-is h t g held p here own =
+    let its : IsGuardIn h.world.home.readers (desk_of h).places held = subst (GuardsIn h.world.home.readers (desk_of h).places) here (t.guards g) in
+    its.reader ∙ ap (λ (n : ℕ). let id : ReaderId = record { home = h.world.home.readers; number = n } in id) own
+
+module _ (h : Environment) (t : IsTied h) where
+  -- the container has these entries, which are numbers
+  pub record HasEntries (l : ListName) (c : ℕ) : Type 0 where
+    pub entries : List (Entry Val)
+    pub is : IsContainer (desk_of h) l c entries
+    pub list : Begins h.world c entries
+    pub numbers : AreNumbers entries
+
+  pub entries-of : (l : ListName) (x : AnyList) → StandsFor h.stacks.entries.items l x → HasEntries l (list_cell x)
+  entries-of (list.Stack s) (any.Stack x) mine =
+      let named = stack-cell h s.0 x.now mine in
+      let first = t.sound.lists.lists (cell_in x.now) (inr (s.0, named)) in
+      record { entries = first.0; is = record { named = named; list = first.1 }; list = first.1; numbers = first.2 }
+
+  pub of-numbers : (l : ListName) (x : AnyList) → StandsFor h.stacks.entries.items l x → IsOfNumbers h.world (list_cell x)
+  of-numbers l x mine = let its = entries-of l x mine in (its.entries, its.list, its.numbers)
+
+  pub list-home : (l : ListName) (x : AnyList) → StandsFor h.stacks.entries.items l x → list_home x ≡ h.world.home.cells
+  list-home (list.Stack s) (any.Stack x) mine = stack-home h t s.0 x.now mine
+
+  is-list : (l : ListName) (x : AnyList) → StandsFor h.stacks.entries.items l x → IsListName (desk_of h) l
+  is-list (list.Stack s) (any.Stack x) mine = is-stack h s.0 x.now mine
+
+  module _ (name : PlaceName) (g : GuardName) (valid : HasOpen (desk_of h) name.0 g.0) (l : ListName) (x : AnyList)
+      (mine : StandsFor h.stacks.entries.items l x) where
+    pub acts-peeked : (given : Reply) → ((es : List (Entry Val)) → Begins h.world (list_cell x) es → TellsNumber given (first_value (left es))) →
+        Acts (desk_of h) (At name (call.Peek l g)) given (desk_of h)
+    acts-peeked reply.Nothing tells =
+        let its = entries-of l x mine in
+        still (desk_of h) (At name (call.Peek l g)) reply.Nothing
+        ((valid, is-list l x mine), ((list_cell x, its.entries, its.is, tells its.entries its.list), refl))
+    acts-peeked (reply.Value m) tells =
+        let its = entries-of l x mine in
+        still (desk_of h) (At name (call.Peek l g)) (reply.Value m)
+        ((valid, is-list l x mine), ((list_cell x, its.entries, its.is, tells its.entries its.list), refl))
+    acts-peeked other tells = let its = entries-of l x mine in absurd (tells its.entries its.list)
+
+    pub acts-counted : (m : ℕ) → ((es : List (Entry Val)) → Begins h.world (list_cell x) es → m ≡ length (content es)) →
+        Acts (desk_of h) (At name (call.Len l g)) (reply.Value m) (desk_of h)
+    acts-counted m counts =
+        let its = entries-of l x mine in
+        still (desk_of h) (At name (call.Len l g)) (reply.Value m)
+        ((valid, is-list l x mine), ((list_cell x, its.entries, its.is, counts its.entries its.list), refl))
+
+    pub acts-listed : (ns : List ℕ) → ((es : List (Entry Val)) → Begins h.world (list_cell x) es → shown_of es ≡ map Number ns) →
+        Acts (desk_of h) (At name (call.List l g)) (reply.Numbers ns) (desk_of h)
+    acts-listed ns lists =
+        let its = entries-of l x mine in
+        still (desk_of h) (At name (call.List l g)) (reply.Numbers ns)
+        ((valid, is-list l x mine), ((list_cell x, its.entries, its.is, lists its.entries its.list), refl))

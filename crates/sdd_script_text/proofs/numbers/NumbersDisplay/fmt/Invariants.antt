@@ -1,0 +1,9 @@
+use Rattle.std.proofs.Common.{◌∷◌, take}
+use Rattle.std.specs.Fmt.{HasWritten, IsPlainFormatter, decimal}
+use Rattle.std.specs.List.{flat_map}
+use Rattle.sdd_script_text.proofs.numbers.NumbersDisplay.fmt.Given as goal
+
+-- the numbers so far are written behind the first, each after a space
+abbrev pub invariant-loop-number : goal.invariant-loop-number
+invariant-loop-number g l =
+    IsPlainFormatter l.initial.f → HasWritten g.W.Write.write_str_gives l.initial.f (flat_map (λ n. 32 ∷ decimal n) (take l.number-index l.others)) l.f
