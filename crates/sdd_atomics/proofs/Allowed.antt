@@ -17,7 +17,7 @@ use Rattle.sdd_shared_values.specs.Bank.{Comes, Leaves, AllowsDeal}
 use Rattle.sdd_views.specs.declared.EpochView.{EpochView}
 use Rattle.sdd_views.specs.declared.View.{View}
 use Rattle.sdd_views.specs.declared.Sizes.{Sizes}
-use Rattle.sdd_word_invariant.specs.Words.{global_word, lock_word, state_word, count_word, slot_word, after_places}
+use Rattle.sdd_word_invariant.specs.Words.{global_word, lock_word, state_word, count_word, slot_word, IsEpochWord}
 use Rattle.sdd_word_invariant.specs.Codes.{free_word, owned_word, raw_word, waiting_word, alive, counted as counts_owners, held_word, most_owners, shared_word}
 use Rattle.sdd_word_invariant.proofs.Codes.{one_left}
 use Rattle.sdd_word_invariant.specs.Epoch.{HasPlace, IsClosed, IsOpen, Scans}
@@ -117,72 +117,79 @@ module _ (γ : ℕ) (sizes : Sizes) (slots id : ℕ) (me : SeatState) where
   May = Allows (DomainInvariant γ sizes) slots id me
 
   -- of the epoch's part, with which no place is taken or ended
-  may_epoch : (R : EpochView → ℕ → EpochView → Type 0) (i : ℕ) (f : ℕ → ℕ) → i < after_places sizes.participants
+  may_epoch : (R : EpochView → ℕ → EpochView → Type 0) (i : ℕ) (f : ℕ → ℕ) → IsEpochWord sizes i
       → ((x : ℕ) (w : EpochView) → R v x w → HasPlace w → HasPlace v) → ((x : ℕ) (w : EpochView) → R v x w → IsOpen v → w.place ≡ v.place)
       → ((x : ℕ) (w : EpochView) → R v x w → HasPlace v → HasPlace w)
       → ((s : State ValueFraction View) → DomainInvariant γ sizes s → get_elem? s.views id ≡ some me.0 → Spares sizes s.words i (f (get_or s.words i 0)))
-      → Keeps sizes.participants id v i f (R v) → May i f (Told (OnEpoch R) me)
-  may_epoch R i f low had stays lives spares keeps = lift_epoch γ sizes slots id me i f R (Told (OnEpoch R) me) (omega arith) stays lives
+      → Keeps sizes id v i f (R v) → May i f (Told (OnEpoch R) me)
+  may_epoch R i f word had stays lives spares keeps = lift_epoch γ sizes slots id me i f R (Told (OnEpoch R) me) word stays lives
       (λ s _ e t _ z. inl (had (get_or s.words i 0) e t z)) spares
-      (over.mild sizes id me.0 i f low R had keeps) (λ r w t. (refl, t))
+      (over.mild sizes id me.0 i f word R had keeps) (λ r w t. (refl, t))
 
-  may_store_epoch : (R : EpochView → ℕ → EpochView → Type 0) (i c : ℕ) → i < after_places sizes.participants
+  may_store_epoch : (R : EpochView → ℕ → EpochView → Type 0) (i c : ℕ) → IsEpochWord sizes i
       → ((w : EpochView) → R v c w → HasPlace w → HasPlace v) → ((w : EpochView) → R v c w → IsOpen v → w.place ≡ v.place)
       → ((w : EpochView) → R v c w → HasPlace v → HasPlace w)
       → ((s : State ValueFraction View) → DomainInvariant γ sizes s → get_elem? s.views id ≡ some me.0 → Spares sizes s.words i c)
-      → Keeps sizes.participants id v i (λ _. c) (λ _. R v c) → May i (λ _. c) (λ _. Told (OnEpoch R) me c)
-  may_store_epoch R i c low had stays lives spares keeps = lift_epoch γ sizes slots id me i (λ _. c) (λ u _ w. R u c w) (λ _. Told (OnEpoch R) me c)
-      (omega arith) (λ _. stays) (λ _. lives) (λ _ _ e t _ z. inl (had e t z)) spares
-      (over.mild sizes id me.0 i (λ _. c) low (λ u _ w. R u c w) (λ _. had) keeps) (λ r w t. (refl, t))
+      → Keeps sizes id v i (λ _. c) (λ _. R v c) → May i (λ _. c) (λ _. Told (OnEpoch R) me c)
+  may_store_epoch R i c word had stays lives spares keeps = lift_epoch γ sizes slots id me i (λ _. c) (λ u _ w. R u c w) (λ _. Told (OnEpoch R) me c)
+      word (λ _. stays) (λ _. lives) (λ _ _ e t _ z. inl (had e t z)) spares
+      (over.mild sizes id me.0 i (λ _. c) word (λ u _ w. R u c w) (λ _. had) keeps) (λ r w t. (refl, t))
 
   -- while its only place was free a lone domain has no owner
   taken : (p : ℕ) → p < sizes.participants → (s : State ValueFraction View) → DomainInvariant γ sizes s → (e : EpochView)
-      → Registers (state_word p) v (get_or s.words (state_word p) 0) e → sizes.participants ≡ 1 → HasPlace e
+      → Registers sizes (state_word sizes p) v (get_or s.words (state_word sizes p) 0) e → sizes.participants ≡ 1 → HasPlace e
       → HasPlace v ⊎ ((j : ℕ) → get_or s.words j 0 ≡ 0)
-  taken p inside s h e t one placed = let x : ℕ = get_or s.words (state_word p) 0 in dite (ℕ_discrete x 0)
+  taken p inside s h e t one placed = let x : ℕ = get_or s.words (state_word sizes p) 0 in dite (ℕ_discrete x 0)
       (λ free. let first : 0 ≡ p = omega arith in
-      inr (h.kept.parts.epoch.unused one (ap (λ (q : ℕ). get_or s.words (state_word q) 0) first ∙ free)))
+      inr (h.kept.parts.epoch.unused one (ap (λ (q : ℕ). get_or s.words (state_word sizes q) 0) first ∙ free)))
       (λ ne. inl (subst HasPlace ((t p refl).1 ne) placed))
 
-  pub may_register : (i p : ℕ) → i ≡ state_word p → p < sizes.participants → v ≡ nobody sizes.participants → me.0.words ≡ blank sizes
-      → May i (λ x. either (eqb x 0) 1 x) (Told (OnEpoch (Registers i)) me)
-  may_register i p is inside none_yet clean = let closed = ap (λ (u : EpochView). u.state) none_yet in
-      subst (λ (i : ℕ). May i (λ x. either (eqb x 0) 1 x) (Told (OnEpoch (Registers i)) me)) (sym is)
-      (lift_epoch γ sizes slots id me (state_word p) (λ x. either (eqb x 0) 1 x) (Registers (state_word p)) (Told (OnEpoch (Registers (state_word p))) me)
-      (omega arith) (λ r w t o. absurd (omega arith)) (λ r w t z. absurd (omega arith)) (taken p inside)
-      (λ s h at q low e was. let x : ℕ = get_or s.words (state_word p) 0 in
+  -- the token knows the sizes, so that what a step tells by these it tells by those
+  by_sizes : (f : ℕ → ℕ) (i : ℕ) (told : Sizes → ℕ → SeatState → Type 0) → me.0.sizes ≡ sizes → May i f (told sizes) → May i f (told me.0.sizes)
+  by_sizes f i told same = subst (λ (z : Sizes). May i f (told z)) (sym same)
+
+  pub may_register : (i p : ℕ) → i ≡ state_word sizes p → p < sizes.participants → me.0.sizes ≡ sizes → v ≡ nobody sizes.participants → me.0.words ≡ blank sizes
+      → May i (λ x. either (eqb x 0) 1 x) (Told (OnEpoch (Registers me.0.sizes i)) me)
+  may_register i p is inside same none_yet clean = let closed = ap (λ (u : EpochView). u.state) none_yet in
+      by_sizes (λ x. either (eqb x 0) 1 x) i (λ z. Told (OnEpoch (Registers z i)) me) same
+      (subst (λ (i : ℕ). May i (λ x. either (eqb x 0) 1 x) (Told (OnEpoch (Registers sizes i)) me)) (sym is)
+      (lift_epoch γ sizes slots id me (state_word sizes p) (λ x. either (eqb x 0) 1 x) (Registers sizes (state_word sizes p))
+      (Told (OnEpoch (Registers sizes (state_word sizes p))) me)
+      (inr (omega arith), omega arith) (λ r w t o. absurd (omega arith)) (λ r w t z. absurd (omega arith)) (taken p inside)
+      (λ s h at q low e was. let x : ℕ = get_or s.words (state_word sizes p) 0 in
       exchanged x 0 1 (λ y. x ≤ y) (λ hit. omega arith) (λ miss. omega arith))
-      (over.registers sizes id p me.0 none_yet clean inside) (λ r w t. (refl, t)))
+      (over.registers sizes id p me.0 none_yet clean inside) (λ r w t. (refl, t))))
 
   pub may_read : May global_word (λ x. x) (Told (OnEpoch Reads) me)
-  may_read = may_epoch Reads global_word (λ x. x) (omega arith) (λ _ w t z. subst HasPlace t.0 z) (λ _ w t _. ap (λ (u : EpochView). u.place) t.0)
-      (λ _ w t z. subst HasPlace (sym t.0) z) (λ s h at p low e was. omega arith) (epochs.reads sizes.participants id v)
+  may_read = may_epoch Reads global_word (λ x. x) (inl (omega arith), omega arith) (λ _ w t z. subst HasPlace t.0 z) (λ _ w t _. ap (λ (u : EpochView). u.place) t.0)
+      (λ _ w t z. subst HasPlace (sym t.0) z) (λ s h at p low e was. omega arith) (epochs.reads sizes id v)
 
-  pub may_write : (i c : ℕ) → IsClosed v → i ≡ count_word v.place → v.place < sizes.participants → May i (λ _. c) (λ _. Told (OnEpoch Counts) me c)
+  pub may_write : (i c : ℕ) → IsClosed v → i ≡ count_word sizes v.place → v.place < sizes.participants → May i (λ _. c) (λ _. Told (OnEpoch Counts) me c)
   may_write i c shut is inside = subst (λ (i : ℕ). May i (λ _. c) (λ _. Told (OnEpoch Counts) me c)) (sym is)
-      (may_store_epoch Counts (count_word v.place) c (omega arith) (λ _ _ _. omega arith) (λ w t _. ap (λ (u : EpochView). u.place) t)
-      (λ w t z. subst HasPlace (sym t) z) (λ s h at p low e was. absurd (omega arith)) (epochs.counts sizes.participants id v c shut))
+      (may_store_epoch Counts (count_word sizes v.place) c (inr (omega arith), omega arith) (λ _ _ _. omega arith) (λ w t _. ap (λ (u : EpochView). u.place) t)
+      (λ w t z. subst HasPlace (sym t) z) (λ s h at p low e was. absurd (omega arith)) (epochs.counts sizes id v c shut))
 
-  pub may_publish : (i : ℕ) → IsClosed v → v.count ≡ v.known → i ≡ state_word v.place → v.place < sizes.participants
+  pub may_publish : (i : ℕ) → IsClosed v → v.count ≡ v.known → i ≡ state_word sizes v.place → v.place < sizes.participants
       → May i (λ _. 2) (λ _. Told PublishesAll me 2)
   may_publish i shut low is inside = subst (λ (i : ℕ). May i (λ _. 2) (λ _. Told PublishesAll me 2)) (sym is)
-      (lift_publish γ sizes slots id me (state_word v.place) 2 (Told PublishesAll me) (omega arith) (omega arith) (over.publishes sizes id me.0 shut low inside)
+      (lift_publish γ sizes slots id me (state_word sizes v.place) 2 (Told PublishesAll me) (inr (omega arith), omega arith) (omega arith) (over.publishes sizes id me.0 shut low inside)
       (λ w t. ((let live : 0 < w.state = (let e = ap (λ (u : EpochView). u.state) t.1 in omega arith) in live), ap (λ (u : EpochView). u.place) t.1))
       (own_place γ sizes id me.0 (omega arith) 2) (λ w t. (refl, t)))
 
-  pub may_end : (i : ℕ) → IsClosed v → i ≡ state_word v.place → v.place < sizes.participants → me.0.stakes.moves ≡ None → me.0.slots.over ≡ None
+  pub may_end : (i : ℕ) → IsClosed v → i ≡ state_word sizes v.place → v.place < sizes.participants → me.0.stakes.moves ≡ None → me.0.slots.over ≡ None
       → May i (λ _. 3) (λ _. Told EndsAll me 3)
   may_end i shut is inside rests within = subst (λ (i : ℕ). May i (λ _. 3) (λ _. Told EndsAll me 3)) (sym is)
       (lift_end γ sizes slots id me (Told EndsAll me 3) inside shut rests within
-      (over.mild sizes id me.0 (state_word v.place) (λ _. 3) (omega arith) (λ u _ w. Ends u 3 w)
+      (over.mild sizes id me.0 (state_word sizes v.place) (λ _. 3) (inr (omega arith), omega arith) (λ u _ w. Ends u 3 w)
       (λ _ w t z. let e = ap (λ (u : EpochView). u.state) t in omega arith)
-      (epochs.ends sizes.participants id v shut))
+      (epochs.ends sizes id v shut))
       (own_place γ sizes id me.0 (omega arith) 3) (refl, refl))
 
-  pub may_bar : (i p state : ℕ) → i ≡ state_word p → p < sizes.participants → p ≡ me.0.places.ended → IsNobodys state
-      → May i (λ x. either (eqb x state) 4 x) (Told (Bars state i) me)
-  may_bar i p state is inside next nobodys = subst (λ (i : ℕ). May i (λ x. either (eqb x state) 4 x) (Told (Bars state i) me)) (sym is)
-      (steps.bars γ sizes slots id me p state inside next nobodys)
+  pub may_bar : (i p state : ℕ) → i ≡ state_word sizes p → p < sizes.participants → me.0.sizes ≡ sizes → p ≡ me.0.places.ended → IsNobodys state
+      → May i (λ x. either (eqb x state) 4 x) (Told (Bars me.0.sizes state i) me)
+  may_bar i p state is inside same next nobodys = by_sizes (λ x. either (eqb x state) 4 x) i (λ z. Told (Bars z state i) me) same
+      (subst (λ (i : ℕ). May i (λ x. either (eqb x state) 4 x) (Told (Bars sizes state i) me)) (sym is)
+      (steps.bars γ sizes slots id me p state inside next nobodys))
 
   pub may_look_for_value : (i slot : ℕ) → i ≡ slot_word sizes slot → slot ≡ me.0.places.quiet → sizes.participants ≤ me.0.places.ended
       → May i (λ x. x) (Told LooksForValue me)
@@ -190,46 +197,50 @@ module _ (γ : ℕ) (sizes : Sizes) (slots id : ℕ) (me : SeatState) where
       (steps.looks_for_value γ sizes slots id me slot next all)
 
   pub may_lock : IsOpen v → ¬ (Scans v) → May lock_word (λ x. either (eqb x 0) 1 x) (Told (OnEpoch Locks) me)
-  may_lock is_open free = may_epoch Locks lock_word (λ x. either (eqb x 0) 1 x) (omega arith) (λ _ _ _ _. omega arith)
+  may_lock is_open free = may_epoch Locks lock_word (λ x. either (eqb x 0) 1 x) (inl (omega arith), omega arith) (λ _ _ _ _. omega arith)
       (λ x w t _. which (λ (u : EpochView). u.place ≡ v.place) (scanning v) v w x 0 t.0 t.1 refl refl)
       (λ x w t z. which HasPlace (scanning v) v w x 0 t.0 t.1 z z) (λ s h at p low e was. absurd (omega arith))
-      (epochs.locks sizes.participants id v is_open free)
+      (epochs.locks sizes id v is_open free)
 
   pub may_look_at_lock : IsOpen v → ¬ (Scans v) → May lock_word (λ x. x) (Told (OnEpoch LooksAtLock) me)
-  may_look_at_lock is_open free = may_epoch LooksAtLock lock_word (λ x. x) (omega arith) (λ _ _ _ _. omega arith)
+  may_look_at_lock is_open free = may_epoch LooksAtLock lock_word (λ x. x) (inl (omega arith), omega arith) (λ _ _ _ _. omega arith)
       (λ x w t _. ap (λ (u : EpochView). u.place) t.0)
       (λ x w t z. subst HasPlace (sym t.0) z) (λ s h at p low e was. omega arith)
-      (epochs.looks_at_lock sizes.participants id v is_open free)
+      (epochs.looks_at_lock sizes id v is_open free)
 
-  pub may_look_at_state : (i q : ℕ) → i ≡ state_word q → q < sizes.participants → IsNext v q → May i (λ x. x) (Told (OnEpoch (LooksAtState i)) me)
-  may_look_at_state i q is inside next = subst (λ (i : ℕ). May i (λ x. x) (Told (OnEpoch (LooksAtState i)) me)) (sym is)
-      (may_epoch (LooksAtState (state_word q)) (state_word q) (λ x. x) (omega arith)
+  pub may_look_at_state : (i q : ℕ) → i ≡ state_word sizes q → q < sizes.participants → me.0.sizes ≡ sizes → IsNext v q
+      → May i (λ x. x) (Told (OnEpoch (LooksAtState me.0.sizes i)) me)
+  may_look_at_state i q is inside same next = by_sizes (λ x. x) i (λ z. Told (OnEpoch (LooksAtState z i)) me) same
+      (subst (λ (i : ℕ). May i (λ x. x) (Told (OnEpoch (LooksAtState sizes i)) me)) (sym is)
+      (may_epoch (LooksAtState sizes (state_word sizes q)) (state_word sizes q) (λ x. x) (inr (omega arith), omega arith)
       (λ x w t. had v v (passed_by v q) w x 2 (t q refl).1 (t q refl).0 (λ z. z) (λ z. z))
       (λ x w t _. which (λ (u : EpochView). u.place ≡ v.place) v (passed_by v q) w x 2 (t q refl).1 (t q refl).0 refl refl)
       (λ x w t z. which HasPlace v (passed_by v q) w x 2 (t q refl).1 (t q refl).0 z z) (λ s h at p low e was. omega arith)
-      (epochs.looks_at_state sizes.participants id v q next))
+      (epochs.looks_at_state sizes id v q next)))
 
-  pub may_look_at_count : (i q : ℕ) → i ≡ count_word q → q < sizes.participants → IsNext v q → May i (λ x. x) (Told (OnEpoch (LooksAtCount i)) me)
-  may_look_at_count i q is inside next = subst (λ (i : ℕ). May i (λ x. x) (Told (OnEpoch (LooksAtCount i)) me)) (sym is)
-      (may_epoch (LooksAtCount (count_word q)) (count_word q) (λ x. x) (omega arith)
+  pub may_look_at_count : (i q : ℕ) → i ≡ count_word sizes q → q < sizes.participants → me.0.sizes ≡ sizes → IsNext v q
+      → May i (λ x. x) (Told (OnEpoch (LooksAtCount me.0.sizes i)) me)
+  may_look_at_count i q is inside same next = by_sizes (λ x. x) i (λ z. Told (OnEpoch (LooksAtCount z i)) me) same
+      (subst (λ (i : ℕ). May i (λ x. x) (Told (OnEpoch (LooksAtCount sizes i)) me)) (sym is)
+      (may_epoch (LooksAtCount sizes (count_word sizes q)) (count_word sizes q) (λ x. x) (inr (omega arith), omega arith)
       (λ x w t. had v (passed_by v q) v w x v.count (t q refl).0 (t q refl).1 (λ z. z) (λ z. z))
       (λ x w t _. which (λ (u : EpochView). u.place ≡ v.place) (passed_by v q) v w x v.count (t q refl).0 (t q refl).1 refl refl)
       (λ x w t z. which HasPlace (passed_by v q) v w x v.count (t q refl).0 (t q refl).1 z z) (λ s h at p low e was. omega arith)
-      (epochs.looks_at_count sizes.participants id v q next))
+      (epochs.looks_at_count sizes id v q next)))
 
   pub may_advance : (c d : ℕ) → c ≡ v.count → d ≡ v.count + 1 → IsNext v sizes.participants
       → May global_word (λ x. either (eqb x c) d x) (Told (OnEpoch Advances) me)
   may_advance c d is is' next = subst (λ (z : ℕ × ℕ). May global_word (λ x. either (eqb x z.0) z.1 x) (Told (OnEpoch Advances) me))
       (λ i. (sym is i, sym is' i))
-      (may_epoch Advances global_word (λ x. either (eqb x v.count) (v.count + 1) x) (omega arith)
+      (may_epoch Advances global_word (λ x. either (eqb x v.count) (v.count + 1) x) (inl (omega arith), omega arith)
       (λ x w t. had v (knowing v (v.count + 1)) v w x v.count t.0 t.1 (λ z. z) (λ z. z))
       (λ x w t _. which (λ (u : EpochView). u.place ≡ v.place) (knowing v (v.count + 1)) v w x v.count t.0 t.1 refl refl)
       (λ x w t z. which HasPlace (knowing v (v.count + 1)) v w x v.count t.0 t.1 z z) (λ s h at p low e was. absurd (omega arith))
-      (epochs.advances sizes.participants id v next))
+      (epochs.advances sizes id v next))
 
   pub may_unlock : Scans v → May lock_word (λ _. 0) (λ _. Told (OnEpoch Unlocks) me 0)
-  may_unlock mine = may_store_epoch Unlocks lock_word 0 (omega arith) (λ w t z. subst HasPlace t z) (λ w t _. ap (λ (u : EpochView). u.place) t)
-      (λ w t z. subst HasPlace (sym t) z) (λ s h at p low e was. absurd (omega arith)) (epochs.unlocks sizes.participants id v mine)
+  may_unlock mine = may_store_epoch Unlocks lock_word 0 (inl (omega arith), omega arith) (λ w t z. subst HasPlace t z) (λ w t _. ap (λ (u : EpochView). u.place) t)
+      (λ w t z. subst HasPlace (sym t) z) (λ s h at p low e was. absurd (omega arith)) (epochs.unlocks sizes id v mine)
 
   -- by a participant, which knows the table's sizes and its book
   module _ (same : me.0.sizes ≡ sizes) (book : me.0.stakes.book ≡ γ) (live : HasPlace v) where
@@ -239,18 +250,21 @@ module _ (γ : ℕ) (sizes : Sizes) (slots id : ℕ) (me : SeatState) where
     as_known : (i j : ℕ) (f : ℕ → ℕ) (told : ℕ → ℕ → SeatState → Type 0) → i ≡ j → Own j f (told j) → May i f (told i)
     as_known i j f told is = subst (λ (t : ℕ × Sizes × ℕ). Allows (DomainInvariant t.0 t.1) slots id me t.2 f (told t.2)) (λ d. (book d, same d, sym is d))
 
+    at_place : (p : ℕ) → state_word sizes p ≡ state_word me.0.sizes p
+    at_place p = ap (λ (z : Sizes). state_word z p) (sym same)
+
     near_place : v.place < sizes.participants → v.place < me.0.sizes.participants
     near_place near = let e = ap (λ (z : Sizes). z.participants) same in omega arith
 
-    pub may_close : (i : ℕ) → i ≡ state_word v.place → IsOpen v → ¬ (Scans v) → v.place < sizes.participants → me.0.stakes.moves ≡ None
+    pub may_close : (i : ℕ) → i ≡ state_word sizes v.place → IsOpen v → ¬ (Scans v) → v.place < sizes.participants → me.0.stakes.moves ≡ None
         → CarriesSeen γ sizes.participants v.place me.0.stakes.sees me.1 → May i (λ _. 1) (λ _. ClosesHome me 1)
-    may_close i is is_open free near rests purse = as_known i (state_word v.place) (λ _. 1) (λ _ _. ClosesHome me 1) is
+    may_close i is is_open free near rests purse = as_known i (state_word me.0.sizes v.place) (λ _. 1) (λ _ _. ClosesHome me 1) (is ∙ at_place v.place)
         (steps.closes slots id me live is_open free (near_place near) rests
         (subst (λ (t : ℕ × Sizes). CarriesSeen t.0 t.1.participants v.place me.0.stakes.sees me.1) (λ d. (sym book d, sym same d)) purse))
 
-    pub may_look_for_guard : (i place : ℕ) → i ≡ state_word place → place < sizes.participants → place ≡ me.0.slots.looked
+    pub may_look_for_guard : (i place : ℕ) → i ≡ state_word sizes place → place < sizes.participants → place ≡ me.0.slots.looked
         → May i (λ x. x) (Told (LooksForGuard i) me)
-    may_look_for_guard i place is low next = as_known i (state_word place) (λ x. x) (λ j. Told (LooksForGuard j) me) is
+    may_look_for_guard i place is low next = as_known i (state_word me.0.sizes place) (λ x. x) (λ j. Told (LooksForGuard j) me) (is ∙ at_place place)
         (steps.looks_for_guard slots id me live place (let e = ap (λ (z : Sizes). z.participants) same in omega arith) next)
 
     row_as_known : (slot o : ℕ) (Is : Gv → Type 0) (rest : CarriedFractions) → CarriesAll γ slot sizes.participants o Is rest me.1

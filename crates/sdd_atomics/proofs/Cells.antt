@@ -62,18 +62,18 @@ one_kind v cell other a b l m = sym (kind_flag a)
     ∙ (ap (λ (rs : List CellRight). is_shared (first_right (record { cell = cell; kind = cell_kind a }) rs).kind) (sym l ∙ m) ∙ kind_flag b)
 
 module _ (γ : ℕ) (sizes : Sizes) (slots id : ℕ) (me : SeatState) (same : me.0.sizes ≡ sizes) (book : me.0.stakes.book ≡ γ) (live : HasPlace me.0.epoch)
-    (rests : me.0.stakes.moves ≡ None) (cell : ℕ) (inside : cell < sizes.cells) (i : ℕ) (is : i ≡ cell_word sizes cell) where
+    (rests : me.0.stakes.moves ≡ None) (cell : ℕ) (inside : cell < sizes.cells) (i : ℕ) (is : i ≡ cell_word cell) where
   within : cell < me.0.sizes.cells
   within = let e = ap (λ (z : Sizes). z.cells) same in omega arith
 
-  there : i ≡ cell_word me.0.sizes cell
-  there = is ∙ ap (λ (z : Sizes). cell_word z cell) (sym same)
+  there : i ≡ cell_word cell
+  there = is
 
   abbrev May : (ℕ → ℕ) → (ℕ → SeatState → Type 0) → Type 0
   May = Allows (DomainInvariant γ sizes) slots id me i
 
   as_known : (f : ℕ → ℕ) (told : ℕ → ℕ → SeatState → Type 0)
-      → Allows (DomainInvariant me.0.stakes.book me.0.sizes) slots id me (cell_word me.0.sizes cell) f (told (cell_word me.0.sizes cell)) → May f (told i)
+      → Allows (DomainInvariant me.0.stakes.book me.0.sizes) slots id me (cell_word cell) f (told (cell_word cell)) → May f (told i)
   as_known f told = subst (λ (t : ℕ × Sizes × ℕ). Allows (DomainInvariant t.0 t.1) slots id me t.2 f (told t.2)) (λ d. (book d, same d, sym there d))
 
   pub may_look_in : May (λ x. x) (OfCell LooksInCell i me)
@@ -103,7 +103,7 @@ module _ (γ : ℕ) (sizes : Sizes) (slots id : ℕ) (me : SeatState) (same : me
             a.2,
             a.3,
             λ other b where_is had. let e = one_pledge me.0 cell other shared b (p, own, shows) had in
-                subst (λ (t : Bool). SwapsOne y t other me (get_or s.words (cell_word me.0.sizes cell) 0) (a.0, carried_after me.1 a.1)) e (a.4 other where_is),
+                subst (λ (t : Bool). SwapsOne y t other me (get_or s.words (cell_word cell) 0) (a.0, carried_after me.1 a.1)) e (a.4 other where_is),
           ))
 
       pub may_exchange : (old : ℕ) → May (λ x. either (eqb x old) y x) (ExchangesPledged old y i me)
@@ -114,7 +114,7 @@ module _ (γ : ℕ) (sizes : Sizes) (slots id : ℕ) (me : SeatState) (same : me
             a.2,
             a.3,
             λ other b where_is had. let e = one_pledge me.0 cell other shared b (p, own, shows) had in
-                subst (λ (t : Bool). ExchangesOne old y t other me (get_or s.words (cell_word me.0.sizes cell) 0) (a.0, carried_after me.1 a.1)) e (a.4 other where_is),
+                subst (λ (t : Bool). ExchangesOne old y t other me (get_or s.words (cell_word cell) 0) (a.0, carried_after me.1 a.1)) e (a.4 other where_is),
           ))
 
   pub may_retag : (old y : ℕ) → held_slots y ≡ held_slots old → 0 < y → me.0.slots.holds ≡ None → May (λ x. either (eqb x old) y x) (OfCell (RetagsOne old y) i me)
@@ -143,7 +143,7 @@ module _ (γ : ℕ) (sizes : Sizes) (slots id : ℕ) (me : SeatState) (same : me
         a.2,
         a.3,
         λ other b where_is had. let e = one_kind me.0 cell other shared b mine had in
-            subst (λ (t : Bool). FreesCell t other me (get_or s.words (cell_word me.0.sizes cell) 0) (a.0, carried_after me.1 a.1)) e
+            subst (λ (t : Bool). FreesCell t other me (get_or s.words (cell_word cell) 0) (a.0, carried_after me.1 a.1)) e
             (a.4 other where_is),
       ))
 
@@ -201,7 +201,7 @@ module _ (me : SeatState) (p : Pledge) (y : ℕ) (shared : Bool) (cell : ℕ) wh
         ),
       )
 
-  module _ (is : p.view ≡ the_row.coded.code (right_to cell (cell_kind shared))) (i : ℕ) (where_is : i ≡ cell_word me.0.sizes cell) where
+  module _ (is : p.view ≡ the_row.coded.code (right_to cell (cell_kind shared))) (i : ℕ) (where_is : i ≡ cell_word cell) where
     pub swap_stays : (n : ℕ) (u : SeatState) → SwapsPledged y i with_pledge n u → u.0.pledges.own ≡ p ∷ []
     swap_stays n u done = brings_stays n u (done cell shared where_is (p, refl, is)).0
 
@@ -223,7 +223,7 @@ module _ (me : SeatState) (p : Pledge) (y : ℕ) (shared : Bool) (cell : ℕ) wh
     )
 
 -- the same of a cell that holds no owners
-module _ (me : SeatState) (p : Pledge) (y cell i : ℕ) (where_is : i ≡ cell_word me.0.sizes cell) where
+module _ (me : SeatState) (p : Pledge) (y cell i : ℕ) (where_is : i ≡ cell_word cell) where
   abbrev pledged : SeatState
   pledged = (pledging me.0 p, me.1)
 
@@ -241,8 +241,8 @@ module _ (me : SeatState) (p : Pledge) (y cell i : ℕ) (where_is : i ≡ cell_w
 
 -- the token after a step on a cell
 pub cell_moved : (s t : Seat ValueFraction View) (r : ℕ) → t.table_id ≡ s.table_id → t.id ≡ s.id → (R : ℕ → SeatState → ℕ → SeatState → Type 0) (i cell : ℕ)
-    (sizes : Sizes) → i ≡ cell_word sizes cell → s.me.0.sizes ≡ sizes → OfCell R i s.me r t.me → Moved (R cell) s r t
-cell_moved s t r home number R i cell sizes is same e = (home, number, e cell (is ∙ ap (λ (z : Sizes). cell_word z cell) (sym same)))
+    (sizes : Sizes) → i ≡ cell_word cell → s.me.0.sizes ≡ sizes → OfCell R i s.me r t.me → Moved (R cell) s r t
+cell_moved s t r home number R i cell sizes is same e = (home, number, e cell (is))
 
 pub may_find_cell : (γ : ℕ) (sizes : Sizes) (slots id : ℕ) (me : SeatState) → me.0.sizes ≡ sizes → me.0.stakes.book ≡ γ → HasPlace me.0.epoch
     → me.0.stakes.moves ≡ None → (cell : ℕ) (kind : CellKind) (jd : ℕ)

@@ -32,21 +32,21 @@ HasPledgedRight v cell shared = (p : Pledge) × (v.pledges.own ≡ p ∷ []) × 
 
 -- a swap beside its pledge
 abbrev pub SwapsPledged : ℕ → ℕ → SeatState → ℕ → SeatState → Type 0
-SwapsPledged y i me x me' = (cell : ℕ) (shared : Bool) → i ≡ cell_word me.0.sizes cell → HasPledgedRight me.0 cell shared → SwapsOne y shared cell me x me'
+SwapsPledged y i me x me' = (cell : ℕ) (shared : Bool) → i ≡ cell_word cell → HasPledgedRight me.0 cell shared → SwapsOne y shared cell me x me'
 
 -- an exchange
 abbrev pub ExchangesPledged : ℕ → ℕ → ℕ → SeatState → ℕ → SeatState → Type 0
-ExchangesPledged old y i me x me' = (cell : ℕ) (shared : Bool) → i ≡ cell_word me.0.sizes cell → HasPledgedRight me.0 cell shared
+ExchangesPledged old y i me x me' = (cell : ℕ) (shared : Bool) → i ≡ cell_word cell → HasPledgedRight me.0 cell shared
     → ExchangesOne old y shared cell me x me'
 
 -- a cell is free then, by the right that it has
 abbrev pub FreesOwn : ℕ → SeatState → ℕ → SeatState → Type 0
-FreesOwn i me x me' = (cell : ℕ) (shared : Bool) → i ≡ cell_word me.0.sizes cell → me.0.cells.rights ≡ record { cell = cell; kind = cell_kind shared } ∷ []
+FreesOwn i me x me' = (cell : ℕ) (shared : Bool) → i ≡ cell_word cell → me.0.cells.rights ≡ record { cell = cell; kind = cell_kind shared } ∷ []
     → FreesCell shared cell me x me'
 
 -- the same of a cell that holds no owners
 abbrev pub FreesOwnBare : ℕ → SeatState → ℕ → SeatState → Type 0
-FreesOwnBare i me x me' = (cell : ℕ) → i ≡ cell_word me.0.sizes cell → FreesBare cell me x me'
+FreesOwnBare i me x me' = (cell : ℕ) → i ≡ cell_word cell → FreesBare cell me x me'
 
 -- beside the token of the right to a cell
 abbrev pub RecallsCell : View → SeatState → SeatState → Type 0

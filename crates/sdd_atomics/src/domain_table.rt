@@ -10,7 +10,7 @@ ghost use Rattle.sdd_domain_invariant.specs.Counts.{made_by, gone_by, over_by, f
 ghost use Rattle.sdd_atomics.specs.Sizes.{AreSmall};
 
 use crate::plays::{Found, FoundLedger};
-use crate::words::{first_slot, state_word, word_count};
+use crate::words::{LINE, first_place, first_pointer, first_slot, word_count};
 use atomic_table::{Closed, Refused, Seat, Table, TableRule};
 use sdd_shared_values::{Bank, Treasury, ValueFraction, ValuesName};
 use sdd_views::{Sizes, View};
@@ -74,14 +74,17 @@ pub struct DomainTable {
     /// Shares of the views of owners, beside which another owner comes.
     pub ledger: Ledger<ValueFraction, View, TableLayout, DomainRule, Pledges>,
     places: usize,
-    /// Where the cells' words begin.
-    first_cell: usize,
+    /// Where the words of cells' pointers begin.
+    first_pointer: usize,
+    /// Where the places' words begin.
+    first_place: usize,
     /// Where the slots' words begin.
     first_slot: usize,
     ghost sized: { AreSmall table.shared.key.sizes × (table.shared.table_id.words ≡ all_words table.shared.key.sizes) },
     ghost banked: { (bank.table_id ≡ table.shared.table_id) × (bank.key ≡ table.shared.key) },
     ghost ledgered: { (ledger.table_id ≡ table.shared.table_id) × (ledger.key ≡ table.shared.key) },
-    ghost placed: { (places ≡ table.shared.key.sizes.participants) × (first_cell ≡ words.first_cell table.shared.key.sizes)
+    ghost placed: { (places ≡ table.shared.key.sizes.participants) × (first_pointer ≡ words.pointer_word table.shared.key.sizes 0)
+        × (first_place ≡ words.state_word table.shared.key.sizes 0)
         × (first_slot ≡ words.first_slot table.shared.key.sizes) },
 }
 
@@ -112,7 +115,8 @@ impl DomainTable {
                     bank,
                     ledger,
                     places: plan.sizes.participants as usize,
-                    first_cell: state_word(plan.sizes.participants as usize),
+                    first_pointer: first_pointer(&plan.sizes) as usize,
+                    first_place: first_place(&plan.sizes) as usize,
                     first_slot: first_slot(&plan.sizes) as usize,
                 })
             }
@@ -129,22 +133,31 @@ impl DomainTable {
         self.first_slot + slot as usize
     }
 
-    /// Where the word of a cell is.
-    #[inline]
-    pub fn cell_word(&self, cell: u32) -> usize
-        requires { cell < (sizes_of self.now).cells }
-        ensures { result ≡ words.cell_word (sizes_of self.now) cell }
-    {
-        self.first_cell + cell as usize
-    }
-
-    /// Where the word of a cell's pointer is. There are as many of these as cells, and they lie between the cells and the slots.
+    /// Where the word of a cell's pointer is. There are as many of these as cells, and they lie behind those.
     #[inline]
     pub fn pointer_word(&self, cell: u32) -> usize
         requires { cell < (sizes_of self.now).cells }
         ensures { result ≡ words.pointer_word (sizes_of self.now) cell }
     {
-        (self.first_cell + self.first_slot) / 2 + cell as usize
+        self.first_pointer + cell as usize
+    }
+
+    /// Where the state of a place is.
+    #[inline]
+    pub fn state_word(&self, place: usize) -> usize
+        requires { place < places_of self.now }
+        ensures { result ≡ words.state_word (sizes_of self.now) place }
+    {
+        LINE * place + self.first_place
+    }
+
+    /// Where the count of a place is, which nobody but its participant writes either.
+    #[inline]
+    pub fn count_word(&self, place: usize) -> usize
+        requires { place < places_of self.now }
+        ensures { result ≡ words.count_word (sizes_of self.now) place }
+    {
+        self.state_word(place) + 1
     }
 
     /// How many places there are.
@@ -172,7 +185,8 @@ impl DomainTable {
             bank: _,
             ledger: _,
             places: _,
-            first_cell: _,
+            first_pointer: _,
+            first_place: _,
             first_slot: _,
         } = self;
         table.close_with(token)

@@ -32,7 +32,7 @@ impl Play<ValueFraction, View> for NewSeat {
 pub struct Register;
 
 impl Play<ValueFraction, View> for Register {
-    ghost then = { λ step. Told (OnEpoch (Registers step.word)) };
+    ghost then = { λ step me. Told (OnEpoch (Registers me.0.sizes step.word)) me };
 }
 
 pub struct Read;
@@ -68,7 +68,7 @@ impl Play<ValueFraction, View> for End {
 pub struct Bar;
 
 impl Play<ValueFraction, View> for Bar {
-    ghost then = { λ step. Told (Bars step.first step.word) };
+    ghost then = { λ step me. Told (Bars me.0.sizes step.first step.word) me };
 }
 
 pub struct Lock;
@@ -86,13 +86,13 @@ impl Play<ValueFraction, View> for LookAtLock {
 pub struct LookAtState;
 
 impl Play<ValueFraction, View> for LookAtState {
-    ghost then = { λ step. Told (OnEpoch (LooksAtState step.word)) };
+    ghost then = { λ step me. Told (OnEpoch (LooksAtState me.0.sizes step.word)) me };
 }
 
 pub struct LookAtCount;
 
 impl Play<ValueFraction, View> for LookAtCount {
-    ghost then = { λ step. Told (OnEpoch (LooksAtCount step.word)) };
+    ghost then = { λ step me. Told (OnEpoch (LooksAtCount me.0.sizes step.word)) me };
 }
 
 pub struct Advance;

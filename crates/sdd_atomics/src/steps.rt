@@ -25,7 +25,7 @@ use crate::plays::{
     Advance, Bar, Close, End, Lock, LookAtCount, LookAtLock, LookAtState, NewSeat, Publish, Read,
     Register, Unlock, Write,
 };
-use crate::words::{GLOBAL, LOCK, OwnPlace, count_word, state_word};
+use crate::words::{GLOBAL, LOCK};
 
 /// Nobody's place.
 pub const FREE: u64 = 0;
@@ -48,14 +48,15 @@ pub fn sit(board: &DomainTable) -> DomainSeat
 /// Tries to take a place, and answers its state before.
 pub fn register(board: &DomainTable, token: &mut DomainSeat, place: usize) -> u64
     requires home { token.old.table_id ≡ id_of board.now }
+    requires sizes { (view token.old).sizes ≡ sizes_of board.now }
     requires inside { place < places_of board.now }
     requires idle { (epoch token.old ≡ nobody (places_of board.now)) × (words_known token.old ≡ blank (sizes_of board.now)) }
-    ensures { Stepped (Registers (words.state_word place)) token.old result token.new }
+    ensures { Stepped (Registers (sizes_of board.now) (words.state_word (sizes_of board.now) place)) token.old result token.new }
 {
     board
         .table
         .shared
-        .compare_exchange::<Register>(token, state_word(place), FREE, CLOSED)
+        .compare_exchange::<Register>(token, board.state_word(place), FREE, CLOSED)
 }
 
 /// Reads the global count.
@@ -67,25 +68,25 @@ pub fn read(board: &DomainTable, token: &mut DomainSeat) -> u64
     board.table.shared.load::<Read>(token, GLOBAL)
 }
 
-/// Writes the own count word, while no guard is open.
+/// Writes the own count word, which stands behind that of the state, while no guard is open.
 #[inline]
-pub fn write(board: &DomainTable, token: &mut DomainSeat, place: OwnPlace, count: u64)
+pub fn write(board: &DomainTable, token: &mut DomainSeat, state: usize, count: u64)
     requires home { token.old.table_id ≡ id_of board.now }
-    requires own { (place ≡ (epoch token.old).place) × (place < places_of board.now) }
+    requires own { (state ≡ words.state_word (sizes_of board.now) (epoch token.old).place) × ((epoch token.old).place < places_of board.now) }
     requires closed { IsClosed (epoch token.old) }
     ensures { Stepped Counts token.old count token.new }
 {
     board
         .table
         .shared
-        .store::<Write>(token, place.count_word(), count);
+        .store::<Write>(token, state + 1, count);
 }
 
-/// Publishes the count that stands in the own count word. Another one than before is a change for each item that waits.
+/// Publishes, at the state of the own place, the count that stands in the own count word. Another one than before is a change for each item that waits.
 #[inline]
-pub fn publish(board: &DomainTable, token: &mut DomainSeat, place: OwnPlace)
+pub fn publish(board: &DomainTable, token: &mut DomainSeat, state: usize)
     requires home { token.old.table_id ≡ id_of board.now }
-    requires own { (place ≡ (epoch token.old).place) × (place < places_of board.now) }
+    requires own { (state ≡ words.state_word (sizes_of board.now) (epoch token.old).place) × ((epoch token.old).place < places_of board.now) }
     requires closed { IsClosed (epoch token.old) }
     requires count { (epoch token.old).count ≡ (epoch token.old).known }
     ensures { HasPublished token.old token.new }
@@ -93,31 +94,31 @@ pub fn publish(board: &DomainTable, token: &mut DomainSeat, place: OwnPlace)
     board
         .table
         .shared
-        .store::<Publish>(token, place.state_word(), OPEN);
+        .store::<Publish>(token, state, OPEN);
 }
 
-/// Publishes that no guard is open, so that none sees anything: all stakes go home.
+/// Publishes, at the state of the own place, that no guard is open, so that none sees anything: all stakes go home.
 #[inline]
-pub fn close(board: &DomainTable, token: &mut DomainSeat, place: OwnPlace)
+pub fn close(board: &DomainTable, token: &mut DomainSeat, state: usize)
     requires home { token.old.table_id ≡ id_of board.now }
     requires knows { Knows board.now token.old }
     requires rests { (view token.old).stakes.moves ≡ None }
-    requires purse { CarriesSeen (book_of board.now) (places_of board.now) place (view token.old).stakes.sees token.old.me.1 }
-    requires own { (place ≡ (epoch token.old).place) × (place < places_of board.now) }
+    requires purse { CarriesSeen (book_of board.now) (places_of board.now) (epoch token.old).place (view token.old).stakes.sees token.old.me.1 }
+    requires own { (state ≡ words.state_word (sizes_of board.now) (epoch token.old).place) × ((epoch token.old).place < places_of board.now) }
     requires open { IsOpen (epoch token.old) × ¬ (Scans (epoch token.old)) }
     ensures { HasClosed token.old token.new }
 {
     board
         .table
         .shared
-        .store::<Close>(token, place.state_word(), CLOSED);
+        .store::<Close>(token, state, CLOSED);
 }
 
-/// Ends the own place, which the token counts from then on.
-pub fn end(board: &DomainTable, token: &mut DomainSeat, place: OwnPlace)
+/// Ends the own place, whose state this is, which the token counts from then on.
+pub fn end(board: &DomainTable, token: &mut DomainSeat, state: usize)
     requires home { token.old.table_id ≡ id_of board.now }
     requires rests { (view token.old).stakes.moves ≡ None }
-    requires own { (place ≡ (epoch token.old).place) × (place < places_of board.now) }
+    requires own { (state ≡ words.state_word (sizes_of board.now) (epoch token.old).place) × ((epoch token.old).place < places_of board.now) }
     requires closed { IsClosed (epoch token.old) }
     requires within { (slots token.old).over ≡ None }
     ensures { Taught EndsAll token.old 3 token.new }
@@ -125,21 +126,22 @@ pub fn end(board: &DomainTable, token: &mut DomainSeat, place: OwnPlace)
     board
         .table
         .shared
-        .store::<End>(token, place.state_word(), ENDED);
+        .store::<End>(token, state, ENDED);
 }
 
 /// Bars a place that is nobody's as long as it is in this state, by a token without a place. Answers its state before: it is barred then where this is
 /// that state, or `BARRED`.
 pub fn bar(board: &DomainTable, token: &mut DomainSeat, place: usize, state: u64) -> u64
     requires home { token.old.table_id ≡ id_of board.now }
+    requires sizes { (view token.old).sizes ≡ sizes_of board.now }
     requires next { (place < places_of board.now) × (place ≡ (view token.old).places.ended) }
     requires nobodys { IsNobodys state }
-    ensures { Taught (Bars state (words.state_word place)) token.old result token.new }
+    ensures { Taught (Bars (sizes_of board.now) state (words.state_word (sizes_of board.now) place)) token.old result token.new }
 {
     board
         .table
         .shared
-        .compare_exchange::<Bar>(token, state_word(place), state, BARRED)
+        .compare_exchange::<Bar>(token, board.state_word(place), state, BARRED)
 }
 
 /// Tries to take the lock of a scan. Someone else had it where this isn't 0.
@@ -166,25 +168,27 @@ pub fn look_at_lock(board: &DomainTable, token: &mut DomainSeat) -> u64
 /// Looks at the state of the next place.
 pub fn look_at_state(board: &DomainTable, token: &mut DomainSeat, place: usize) -> u64
     requires home { token.old.table_id ≡ id_of board.now }
+    requires sizes { (view token.old).sizes ≡ sizes_of board.now }
     requires next { (place < places_of board.now) × IsNext (epoch token.old) place }
-    ensures { Stepped (LooksAtState (words.state_word place)) token.old result token.new }
+    ensures { Stepped (LooksAtState (sizes_of board.now) (words.state_word (sizes_of board.now) place)) token.old result token.new }
 {
     board
         .table
         .shared
-        .load::<LookAtState>(token, state_word(place))
+        .load::<LookAtState>(token, board.state_word(place))
 }
 
 /// Looks at the count of the next place.
 pub fn look_at_count(board: &DomainTable, token: &mut DomainSeat, place: usize) -> u64
     requires home { token.old.table_id ≡ id_of board.now }
+    requires sizes { (view token.old).sizes ≡ sizes_of board.now }
     requires next { (place < places_of board.now) × IsNext (epoch token.old) place }
-    ensures { Stepped (LooksAtCount (words.count_word place)) token.old result token.new }
+    ensures { Stepped (LooksAtCount (sizes_of board.now) (words.count_word (sizes_of board.now) place)) token.old result token.new }
 {
     board
         .table
         .shared
-        .load::<LookAtCount>(token, count_word(place))
+        .load::<LookAtCount>(token, board.count_word(place))
 }
 
 /// Raises the global count, if it is the own one still, once all other places were looked at and passed.

@@ -3,94 +3,39 @@ ghost use Rattle.std.specs.Prelude.{◌≡◌, ◌^◌, ◌<◌, ◌≤◌};
 ghost use Rattle.sdd_word_invariant.specs.Words as words;
 
 use sdd_views::Sizes;
-use std::marker::Model;
 
 /// How far apart words stand that different participants write: two lines of the cache, as processors fetch them by pairs.
-const LINE: usize = 16;
+pub const LINE: usize = 16;
 /// The global count.
 pub const GLOBAL: usize = 0;
 /// The lock of a scan.
 pub const LOCK: usize = LINE;
 
-/// Where the words of places begin.
-const FIRST_PLACE: usize = 2 * LINE;
+/// Where the words of cells begin, however many of each there are.
+const FIRST_CELL: usize = 2 * LINE;
 
-/// The state of a place.
+/// Where the word of a cell is.
 #[inline]
-pub fn state_word(place: usize) -> usize
-    requires { place < 2 ^ 32 }
-    ensures { result ≡ words.state_word place }
+pub fn cell_word(cell: u32) -> usize
+    ensures { result ≡ words.cell_word cell }
 {
-    LINE * place + FIRST_PLACE
+    FIRST_CELL + cell as usize
 }
 
-/// The count of a place, which nobody but its participant writes either.
-#[inline]
-pub fn count_word(place: usize) -> usize
-    requires { place < 2 ^ 32 }
-    ensures { result ≡ words.count_word place }
+/// Where the words of pointers begin, of which there are as many as cells.
+pub fn first_pointer(sizes: &Sizes) -> u64
+    requires cells { sizes.now.cells ≤ 2 ^ 32 }
+    ensures { result ≡ words.pointer_word sizes.now 0 }
 {
-    LINE * place + FIRST_PLACE + 1
+    FIRST_CELL as u64 + sizes.cells
 }
 
-/// A participant's own place, with where its words are: each guard writes there.
-#[derive(Clone, Copy)]
-pub struct OwnPlace {
-    number: usize,
-    state: usize,
-}
-
-impl Model for OwnPlace {
-    ghost use Rattle.std.specs.Prelude.{◌≡◌, ◌^◌, ◌<◌, ℕ};
-    ghost use Rattle.std.proofs.Common.{sym};
-    ghost use Rattle.sdd_word_invariant.specs.Words as words;
-
-    ghost Value = { ℕ };
-
-    ghost view = { λ p. p.number };
-
-    ghost invariant = { λ p. (p.number < 2 ^ 32) × (p.state ≡ words.state_word p.number) };
-
-    ghost inverse = { λ number. record { number = number; state = words.state_word number } };
-
-    ghost inverse_ok = { λ p h d. record { number = p.number; state = sym h.1 d } };
-}
-
-impl OwnPlace {
-    /// The place of this number.
-    pub fn of(number: usize) -> OwnPlace
-        requires { number < 2 ^ 32 }
-        ensures { result ≡ number }
-    {
-        OwnPlace {
-            number,
-            state: state_word(number),
-        }
-    }
-
-    /// Its number.
-    #[inline]
-    pub fn number(self) -> usize
-        ensures { result ≡ self }
-    {
-        self.number
-    }
-
-    /// Its state.
-    #[inline]
-    pub fn state_word(self) -> usize
-        ensures { result ≡ words.state_word self }
-    {
-        self.state
-    }
-
-    /// Its count, which nobody but its participant writes either.
-    #[inline]
-    pub fn count_word(self) -> usize
-        ensures { result ≡ words.count_word self }
-    {
-        self.state + 1
-    }
+/// Where the words of places begin: a line apart from those of cells.
+pub fn first_place(sizes: &Sizes) -> u64
+    requires cells { sizes.now.cells ≤ 2 ^ 32 }
+    ensures { result ≡ words.state_word sizes.now 0 }
+{
+    FIRST_CELL as u64 + 2 * sizes.cells + LINE as u64
 }
 
 /// Where the slots' words begin.
@@ -99,7 +44,7 @@ pub fn first_slot(sizes: &Sizes) -> u64
     requires cells { sizes.now.cells ≤ 2 ^ 32 }
     ensures { result ≡ words.first_slot sizes.now }
 {
-    LINE as u64 * sizes.participants + FIRST_PLACE as u64 + 2 * sizes.cells
+    first_place(sizes) + LINE as u64 * sizes.participants
 }
 
 /// How many words there are.

@@ -5,7 +5,7 @@ use Rattle.sdd_bench.specs.declared.threads.Timed.TheVariants.{Guard, Nested as 
 use Rattle.sdd_bench.specs.declared.operation.Guarding.TheVariants.{Outermost, Nested, Accelerated}
 use Rattle.sdd_bench.specs.declared.operation.CellWork.TheVariants.{Loads as CellLoads, Exchanges, Reads as ConfigReads, Publishes, MostlyReads}
 use Rattle.sdd_bench.specs.declared.operation.Task.TheVariants.{Guards, Items, HalfFull, Looks, Reads, Gets, Jobs, Raws, Changes, Shares, Loads, Swaps, OfCell}
-use Rattle.sdd_bench.specs.declared.operation.Listing.TheVariants.{Queue, Stack, Walk}
+use Rattle.sdd_bench.specs.declared.operation.Listing.TheVariants.{Iter, Queue, Stack, Walk}
 use Rattle.sdd_bench.specs.declared.operation.Bagging.TheVariants.{Inside, Behind, All as AllOfBag}
 use Rattle.sdd_bench.specs.declared.operation.Operation.{Operation}
 use Rattle.sdd_bench.specs.declared.operation.Operation.TheVariants.{World, Local, Beside, Places, Item, Job, Read, Look, Load, Share, Raw, Swap, Listed, Bagged}
@@ -64,6 +64,7 @@ name_of Swap = codes "world-swap"
 name_of (Listed Queue) = codes "world-queue"
 name_of (Listed Stack) = codes "world-stack"
 name_of (Listed Walk) = codes "world-walk"
+name_of (Listed Iter) = codes "world-iter"
 name_of (Bagged Inside) = codes "world-bag"
 name_of (Bagged Behind) = codes "world-bag-behind"
 name_of (Bagged AllOfBag) = codes "world-bag-all"

@@ -66,6 +66,7 @@ pub record Stands {J : Type 0} (count : ℕ) (old new : LocalState J) : Type 0 w
   pub limits : new.limits ≡ old.limits
   pub found : new.own.found ≡ count
   pub known : new.known ≡ new.since
+  pub still : IsLone old → (count ≡ old.known) × (new.known ≡ old.known)
   pub knows : count ≤ new.since
   pub one : old.own.guards ≡ 0 → new.own.guards ≡ 1
   pub tally : new.tally ≡ old.tally
@@ -75,12 +76,13 @@ stands count b old m new is goes = let there : Stands count old m = record {
   limits = ap (λ (y : LocalState _). y.limits) is.member;
   found = ap (λ (y : LocalState _). y.own.found) is.member ∙ found_there count old.own;
   known = ap (λ (y : LocalState _). y.known) is.member;
+  still = λ one. ((is.lone one).0, ap (λ (y : LocalState _). y.known) is.member ∙ (is.lone one).1);
   knows = is.knows;
   one = λ shut. ap (λ (y : LocalState _). y.own.guards) is.member ∙ one_before count old.own shut;
   tally = ap (λ (y : LocalState _). y.tally) is.member;
 } in
     let idle : Stands count old (record m { own = settled m.own }) =
-    record { limits = there.limits; found = there.found; known = there.known; knows = there.knows; one = there.one; tally = there.tally } in
+    record { limits = there.limits; found = there.found; known = there.known; still = there.still; knows = there.knows; one = there.one; tally = there.tally } in
     ⊎_elim (λ (t : b ≡ true). subst (Stands count old) (sym (goes.change t).1) there)
     (λ (f : b ≡ false). ⊎_elim (λ (g : (old.own.found ≡ count) × (new ≡ m)). subst (Stands count old) (sym g.1) there)
     (λ (g : (old.own.found ≢ count) × (m.due ≡ []) × (new ≡ record m { own = settled m.own })). subst (Stands count old) (sym g.2) idle) (goes.over f))

@@ -7,6 +7,8 @@ pub mod DetachedLocal
 pub mod Sound
 pub mod Space
 pub mod Reclaiming
+pub mod Noted
 pub mod OpeningTally
 pub mod Laws
 pub mod ReceiptContents
+pub mod Draining

@@ -2,7 +2,6 @@
 ghost use Rattle.std.specs.Prelude.{◌≡◌, ◌-◌, ◌≤◌, ◌<◌, ◌↔◌, ℕ, [], ◌∷◌, true, false, All, IfSome, IsTrue, slice_index_or};
 ghost use Rattle.core.specs.Mem.Slots.{slots_items, slots_filled, slots_len};
 ghost use Rattle.sdd_shared_values.specs.SharedValues.{AreVacant};
-ghost use Rattle.sdd_word_invariant.specs.Barred.{past};
 ghost use Rattle.sdd_word_invariant.specs.Codes as codes;
 ghost use Rattle.sdd_word_invariant.specs.Slots.{slot_at};
 ghost use Rattle.sdd_views.specs.Views.{no_counts};
@@ -17,9 +16,7 @@ use crate::domain::Domain;
 use crate::receipt::Receipt;
 use atomic_table::Closed;
 use sdd_atomics::steps::counts::take_counts;
-use sdd_atomics::steps::slots::{FREE, look_for_value};
-use sdd_atomics::words::state_word;
-use sdd_atomics::{DomainSeat, DomainTable, steps};
+use sdd_atomics::{DomainSeat, DomainTable};
 use sdd_domain_invariant::gather_home;
 use sdd_participants::Job;
 use sdd_shared_values::{FractionList, ValueFraction, ValuesName};
@@ -27,98 +24,6 @@ use sdd_space::Item;
 use sdd_views::Sizes;
 use std::alloc::Global;
 use std::mem;
-
-/// The word of a slot in which no value is.
-fn is_free(word: u64) -> bool
-    ensures { result ≡ true → codes.full word ≡ 0 }
-{
-    word == FREE
-}
-
-/// At this moment no place is a participant's, all slots are free, and all places of jobs, which have the numbers behind those of the slots. A peek
-/// changes nothing, so that a close that is refused here leaves the places as they were.
-fn is_quiet(board: &DomainTable, numbers: u32) -> bool
-    requires { numbers ≡ most_waiting_of board.now }
-{
-    (0..board.places()).all(|place| {
-        let state = board.table.shared.peek(state_word(place));
-        state == steps::FREE || state == steps::ENDED || state == steps::BARRED
-    }) && (0..numbers).all(|slot| is_free(board.table.shared.peek(board.slot_word(slot))))
-}
-
-/// Bars the next place, unless it is a participant's: whether it is barred then.
-fn bars(board: &DomainTable, token: &mut DomainSeat, place: usize) -> bool
-    requires home { token.old.table_id ≡ id_of board.now }
-    requires next { (place < places_of board.now) × (place ≡ (view token.old).places.ended) }
-    ensures home { token.new.table_id ≡ id_of board.now }
-    ensures barred { result ≡ true → view token.new ≡ past place (view token.old) }
-{
-    let found = steps::bar(board, token, place, steps::FREE);
-    if found == steps::FREE || found == steps::BARRED {
-        return true;
-    }
-    if found != steps::ENDED {
-        return false;
-    }
-    let found = steps::bar(board, token, place, steps::ENDED);
-    found == steps::ENDED || found == steps::BARRED
-}
-
-/// Bars each place that is nobody's. A token that knows that all are barred, unless one is a participant's.
-fn bar_all(board: &DomainTable) -> Option<DomainSeat>
-    ensures home { IfSome result (λ token. token.table_id ≡ id_of board.now) }
-    ensures ended { IfSome result (λ token. places_of board.now ≤ (view token).places.ended) }
-    ensures counts { IfSome result (λ token. (view token).stakes.counts ≡ no_counts) }
-    ensures quiet { IfSome result (λ token. (view token).places.quiet ≡ 0) }
-{
-    let mut token = steps::sit(board);
-    for place in 0..board.places() {
-        if !bars(board, &mut token, place) {
-            return None;
-        }
-    }
-    Some(token)
-}
-
-/// Looks at each slot in turn, and at each job's place, once all places are barred. All are free, and stay so, which the token knows then; unless one is
-/// found that isn't.
-fn are_free(board: &DomainTable, token: &mut DomainSeat, numbers: u32) -> bool
-    requires home { token.old.table_id ≡ id_of board.now }
-    requires numbers { numbers ≡ most_waiting_of board.now }
-    requires ended { places_of board.now ≤ (view token.old).places.ended }
-    requires quiet { (view token.old).places.quiet ≡ 0 }
-    ensures home { token.new.table_id ≡ id_of board.now }
-    ensures ended { (view token.new).places.ended ≡ (view token.old).places.ended }
-    ensures counts { (view token.new).stakes.counts ≡ (view token.old).stakes.counts }
-    ensures quiet { result ≡ true → numbers ≤ (view token.new).places.quiet }
-{
-    for slot in 0..numbers {
-        if !is_free(look_for_value(board, token, slot)) {
-            return false;
-        }
-    }
-    true
-}
-
-/// A token that knows that all places are barred, and all slots and all places of jobs are free, where that is so: nothing is out any more, and nothing
-/// waits.
-pub fn settled(board: &DomainTable, numbers: u32) -> Option<DomainSeat>
-    requires { numbers ≡ most_waiting_of board.now }
-    ensures home { IfSome result (λ token. token.table_id ≡ id_of board.now) }
-    ensures ended { IfSome result (λ token. places_of board.now ≤ (view token).places.ended) }
-    ensures counts { IfSome result (λ token. (view token).stakes.counts ≡ no_counts) }
-    ensures quiet { IfSome result (λ token. numbers ≤ (view token).places.quiet) }
-{
-    if !is_quiet(board, numbers) {
-        return None;
-    }
-    let mut token = bar_all(board)?;
-    if are_free(board, &mut token, numbers) {
-        Some(token)
-    } else {
-        None
-    }
-}
 
 /// Each participant in turn reclaims what waits with it, all together as many items as are left at most.
 // The last receipt stands in the place of the one that is being settled.

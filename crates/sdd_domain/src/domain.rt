@@ -7,12 +7,13 @@ ghost use Rattle.sdd_atomics.specs.DomainTable.{sizes_of};
 ghost use Rattle.sdd_domain_slots.specs.DomainValues.{sizes_in, IsShelfOf};
 ghost use Rattle.sdd_domain_slots.specs.Receipt.{Receipt as EndedCounts, AddsUp, AreSettled, capped, sum_of, with_reclaimed};
 
-use crate::closing::{are_over, gather_all_stakes, settle_all, settled, take_all_counts};
+use crate::closing::{are_over, gather_all_stakes, settle_all, take_all_counts};
 use crate::receipt::Receipt;
 use sdd_atomics::{DomainTable, TableLayout};
 use sdd_core::{Limits, Refused};
 use sdd_domain_invariant::{gather_all, lay_all};
 use sdd_domain_slots::holds_own_domain::HoldsOwnDomain;
+use sdd_domain_slots::quiet::settled;
 use sdd_participants::{Job, Tally};
 use sdd_shared_values::{FractionList, SharedValues, VacantValues, ValueFraction};
 use sdd_space::Item;
@@ -168,7 +169,7 @@ impl<T: Item<T>> Domain<T> {
             return Err((self, receipts, Refused::OwnerOut));
         }
         let numbers = (slots + self.limits.jobs) as u32;
-        let Some(mut token) = settled(&self.board, numbers) else {
+        let Ok(mut token) = settled(&self.board, numbers) else {
             return Err((self, receipts, Refused::OwnerOut));
         };
         let Domain {

@@ -1,8 +1,9 @@
 //! A participant reclaims what waits with it, where nobody else takes part any more.
-ghost use Rattle.std.specs.Prelude.{◌≡◌, ◌-◌, ◌≤◌, [], None};
+ghost use Rattle.std.specs.Prelude.{◌≡◌, ◌≢◌, ◌+◌, ◌-◌, ◌^◌, ◌<◌, ◌≤◌, [], None, true};
 ghost use Rattle.sdd_participants.specs.EpochState.{due_next};
-ghost use Rattle.sdd_domain_slots.specs.LocalState.{HasOpenGuard};
+ghost use Rattle.sdd_domain_slots.specs.LocalState.{HasOpenGuard, IsLone, waits};
 ghost use Rattle.sdd_domain_slots.specs.Receipt.{with_reclaimed};
+ghost use Rattle.sdd_domain.specs.Draining.{IsDrained};
 ghost use Rattle.sdd_domain.specs.Space.{slots_home};
 ghost use Rattle.sdd_domain_slots.specs.WaitingItems.{items_in};
 
@@ -22,6 +23,11 @@ impl<T: Item<T>, J: Job> LocalGiver<'_, T, J> {
         ensures home { slots_home self.new ≡ slots_home self.old }
         ensures few { result.0 ≤ items_in (due_next self.old.member.own) }
         ensures reclaimed { self.new.member.tally ≡ with_reclaimed result.0 self.old.member.tally }
+        ensures limits { self.new.member.limits ≡ self.old.member.limits }
+        ensures knows { self.old.member.known ≤ self.new.member.known }
+        ensures found { IsLone self.old.member → self.new.member.own.found ≡ self.old.member.known }
+        ensures risen { IsLone self.old.member → self.old.member.known + 1 < 2 ^ 64 → self.new.member.known ≡ self.old.member.known + 1 }
+        ensures changed { IsLone self.old.member → waits self.old.member ≡ true → self.old.member.own.found ≢ self.old.member.known → result.1 ≡ true }
     {
         let (guard, goes_on) = self.membership.enter();
         let due = self.membership.now_due();
@@ -52,6 +58,7 @@ impl<T: Item<T>, J: Job> LocalGiver<'_, T, J> {
         ensures home { slots_home self.new ≡ slots_home self.old }
         ensures few { left.new ≤ left.old }
         ensures reclaimed { self.new.member.tally ≡ with_reclaimed (left.old - left.new) self.old.member.tally }
+        ensures drained { IsLone self.old.member → IsDrained left.new self.old.member self.new.member }
     {
         let slots = self.membership.domain().limits.slots as usize;
         for turn in 0..4 * (slots + 1) {

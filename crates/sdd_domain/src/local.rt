@@ -10,6 +10,7 @@ use crate::local_core::LocalCore;
 use crate::receipt::Receipt;
 use crate::reclaiming::LocalGiver;
 use sdd_core::Refused;
+use sdd_domain_slots::sightings::without_sightings;
 use sdd_participants::{Idle, Job, Tally};
 use sdd_shared_values::GhostValues;
 use sdd_space::Item;
@@ -67,7 +68,10 @@ impl<'d, T: Item<T>, J: Job> Local<'d, T, J> {
         ensures blank { IfOk result (λ local. IsLone local.member → IsBlankAlone (limits_of domain.now) (world_of local)) }
         ensures refused { IfErr result (λ e. (e ≡ Refused.NoPlace) ⊎ (e ≡ Refused.NoMemory)) }
     {
-        let membership = LocalCore::register(domain)?;
+        let membership = match LocalCore::register(domain) {
+            Ok(membership) => membership,
+            Err(missed) => return Err(without_sightings(missed)),
+        };
         let ledger = GhostValues::new(domain.limits.slots as usize);
         Ok(Local {
             partner: LocalGiver { membership, ledger },

@@ -6,14 +6,10 @@ ghost use Rattle.sdd_participants.specs.declared.waiting.LimboEntry.{LimboEntry 
 ghost use Rattle.sdd_participants.specs.declared.waiting.LimboEntry.TheVariants.{Item as item};
 ghost use Rattle.sdd_domain_slots.specs.WaitingItems.{items_in};
 ghost use Rattle.sdd_participants.specs.EpochState.{accelerated, due_next, has_garbage, nested, settled, with_garbage};
-ghost use Rattle.sdd_views.specs.Views.{nobody};
-ghost use Rattle.sdd_word_invariant.specs.EpochSteps.{Takes};
-ghost use Rattle.sdd_word_invariant.specs.SlotSteps.{blank};
-ghost use Rattle.sdd_atomics.specs.DomainTable.{id_of, sizes_of, places_of};
-ghost use Rattle.sdd_atomics.specs.DomainSeat.{epoch, words_known, IsSameBut};
 ghost use Rattle.sdd_domain.specs.Domain.{home_of, book_of, limits_of};
 ghost use Rattle.sdd_domain_slots.specs.SpaceIds.{home_at, home_in};
 ghost use Rattle.sdd_domain_slots.specs.Items.{slots_home};
+ghost use Rattle.sdd_domain_slots.specs.Sightings.{AreSeenTaken};
 ghost use Rattle.sdd_domain_slots.specs.LocalState.{waits, CanNest, HasOpenGuard, IsNew, IsEntered, GoesOn, LocalState, GuardCloses, IsTold};
 ghost use Rattle.sdd_domain.specs.Collectors.{GoesFirst};
 ghost use Rattle.sdd_domain_slots.specs.InBags.{TellsCollectors};
@@ -23,17 +19,18 @@ ghost use Rattle.sdd_space.specs.OwnerOrCell.{AreOf};
 ghost use Rattle.sdd_values.specs.declared.read_sections.SectionState.TheVariants.{Closed as is_closed};
 
 use crate::domain::Domain;
-use sdd_atomics::words::{OwnPlace, state_word};
-use sdd_atomics::{DomainSeat, DomainTable, steps};
+use sdd_atomics::{DomainSeat, steps};
 use sdd_core::Refused;
 use sdd_domain_slots::changes::arrive;
 use sdd_domain_slots::deferred_jobs::DeferredJobs;
 use sdd_domain_slots::due_items::{DueItems, count_items};
 use sdd_domain_slots::ended_counts::EndedCounts;
 use sdd_domain_slots::free_slot_hints::FreeSlotHints;
+use sdd_domain_slots::places::{take_place, want_of_memory};
 use sdd_domain_slots::private_table::PrivateTable;
 use sdd_domain_slots::scan::{ScanEnd, scan};
 use sdd_domain_slots::shut::shut;
+use sdd_domain_slots::sightings::Sightings;
 use sdd_domain_slots::values::take_value;
 use sdd_participants::{Bags, Job, LimboEntry, Participant, RunningTally, Tally};
 use sdd_rights::{GhostKeys, WHOLE};
@@ -59,7 +56,9 @@ mod raw_cells;
 pub struct LocalCore<'d, T: Item<T>, J: Job> {
     domain: &'d Domain<T>,
     token: DomainSeat,
-    place: OwnPlace,
+    place: usize,
+    /// Where the state of its place is, as an opening and a close write there.
+    state: usize,
     /// How many of its guards may be open at once, as the domain's limits say.
     nesting: u32,
     own: Participant,
@@ -67,6 +66,9 @@ pub struct LocalCore<'d, T: Item<T>, J: Job> {
     due: DueItems,
     known: FreeSlotHints,
     jobs: DeferredJobs<J>,
+    /// Where it looks for a free place of a job first: behind that of the job before. Jobs run in the order in which they were deferred, so that it is the
+    /// one that was free for longest.
+    next_job: u32,
     /// For which collectors its items wait.
     privates: PrivateTable,
     /// Where it looks for a free cell first.
@@ -79,6 +81,7 @@ pub struct LocalCore<'d, T: Item<T>, J: Job> {
 impl<'d, T: Item<T>, J: Job> Model for LocalCore<'d, T, J> {
     ghost use Rattle.std.specs.Prelude.{◌≡◌};
     ghost use Rattle.sdd_domain.specs.Domain.{book_of};
+    ghost use Rattle.sdd_domain.specs.Noted.{HasNoted};
     ghost use Rattle.sdd_domain_slots.specs.LocalState.{LocalState};
     ghost use Rattle.sdd_domain_slots.specs.BetweenCalls.{IsBetweenCalls, AreLentTo, IsTenureOf, IsReady};
     ghost use Rattle.sdd_domain_slots.specs.InBags.{known_waiting};
@@ -103,12 +106,12 @@ impl<'d, T: Item<T>, J: Job> Model for LocalCore<'d, T, J> {
       words = l.token.me.0.words;
       due = l.due.items;
       jobs = l.jobs;
-      collectors = l.privates;
+      collectors = l.privates.entries;
     } };
 
-    ghost invariant = { λ l. IsBetweenCalls l.domain.now.board l.place l.own l.token × (l.nesting ≡ l.domain.now.limits.nesting)
+    ghost invariant = { λ l. IsBetweenCalls l.domain.now.board l.place l.own l.token × HasNoted l.domain.now.board l.domain.now.limits l.place l.nesting l.state
         × IsTenureOf l.own l.tenure × AreLentTo l.tenure.round l.token.me.1
-        × IsReady l.domain.now.board l.own l.due l.known.slots l.jobs l.privates (known_waiting l.token.me.0.slots)
+        × IsReady l.domain.now.board l.own l.due l.known.slots l.jobs l.privates.entries (known_waiting l.token.me.0.slots)
         × IsTallied 0 l.tally l.token.me.0.stakes.counts };
 }
 
@@ -131,7 +134,7 @@ impl<J: Job> Room<J> {
         ensures due { IfOk result (λ room. (room.due.items ≡ []) × (slots + jobs ≤ room.due.room)) }
         ensures known { IfOk result (λ room. room.known.slots ≡ slots) }
         ensures jobs { IfOk result (λ room. room.jobs ≡ replicate jobs None) }
-        ensures privates { IfOk result (λ room. room.privates ≡ replicate slots None) }
+        ensures privates { IfOk result (λ room. room.privates.entries ≡ replicate slots None) }
     {
         let most = (slots + jobs) as usize;
         let bags = Bags::with_room(alloc, most)?;
@@ -149,32 +152,6 @@ impl<J: Job> Room<J> {
     }
 }
 
-/// A place seems to be free: a peek proves nothing of the moment after, but takes the place's line from nobody.
-fn seems_free(board: &DomainTable, place: usize) -> bool
-    requires { place < places_of board.now }
-{
-    board.table.shared.peek(state_word(place)) == steps::FREE
-}
-
-/// Takes a free place: the first one that is found so. An exchange is tried only there, since it takes a place's line from its participant.
-fn take_place(board: &DomainTable, token: &mut DomainSeat) -> Option<usize>
-    requires home { token.old.table_id ≡ id_of board.now }
-    requires idle { epoch token.old ≡ nobody (places_of board.now) }
-    requires blank { words_known token.old ≡ blank (sizes_of board.now) }
-    ensures same { IsSameBut token.old token.new }
-    ensures taken { IfSome result (λ place. (place < places_of board.now) × Takes (nobody (places_of board.now)) place (epoch token.new)) }
-{
-    for place in 0..board.places() {
-        if !seems_free(board, place) {
-            continue;
-        }
-        if steps::register(board, token, place) == steps::FREE {
-            return Some(place);
-        }
-    }
-    None
-}
-
 /// Where the share of the slots begins in which the participant of a place looks first: the places divide the slots evenly.
 fn share_of(place: usize, places: usize, slots: u32) -> u32
     requires inside { place < places }
@@ -183,17 +160,6 @@ fn share_of(place: usize, places: usize, slots: u32) -> u32
     ensures inside { result ≤ slots }
 {
     (slots as usize * place / places) as u32
-}
-
-/// What a registering without memory is refused with: where no place is free either, that goes before.
-fn want_of_memory(board: &DomainTable) -> Refused
-    ensures { (result ≡ Refused.NoPlace) ⊎ (result ≡ Refused.NoMemory) }
-{
-    if (0..board.places()).any(|place| seems_free(board, place)) {
-        Refused::NoMemory
-    } else {
-        Refused::NoPlace
-    }
 }
 
 /// A law, which does nothing when the program runs: a count that was found fits its type.
@@ -218,11 +184,13 @@ impl<'d, T: Item<T>, J: Job> LocalCore<'d, T, J> {
     /// Registers a participant.
     ///
     /// All memory is taken here, and none later: for what may wait with it, for the slots that it gave back, as many as there are slots, and for the
-    /// jobs that it defers, as many as the table of jobs has places. `NoPlace` where all places were found taken; `NoMemory` where this memory was refused.
+    /// jobs that it defers, as many as the table of jobs has places. `NoPlace` where all places were found taken, which is told for clauses; `NoMemory` where
+    /// this memory was refused.
     #[tactic(auto, using(sdd_domain_slots::proofs::Moving::no_purse, sdd_domain_slots::proofs::Moving::none_lent))]
-    pub fn register(domain: &'d Domain<T>) -> Result<LocalCore<'d, T, J>, Refused>
+    pub fn register(domain: &'d Domain<T>) -> Result<LocalCore<'d, T, J>, (Refused, Sightings)>
         ensures registered { IfOk result (IsNew (home_of domain.now) (book_of domain.now) (limits_of domain.now)) }
-        ensures refused { IfErr result (λ e. (e ≡ Refused.NoPlace) ⊎ (e ≡ Refused.NoMemory)) }
+        ensures refused { IfErr result (λ e. ((e.0 ≡ Refused.NoPlace) × AreSeenTaken 0 (limits_of domain.now).participants e.1)
+            ⊎ (e.0 ≡ Refused.NoMemory)) }
     {
         let slots = domain.limits.slots as u32;
         let jobs = domain.limits.jobs as u32;
@@ -233,27 +201,31 @@ impl<'d, T: Item<T>, J: Job> LocalCore<'d, T, J> {
             bags,
             due,
             mut known,
-            mut jobs,
+            jobs: table,
             privates,
         } = room;
         let mut token = steps::sit(&domain.board);
-        let Some(place) = take_place(&domain.board, &mut token) else {
-            jobs.destroy();
-            return Err(Refused::NoPlace);
+        let place = match take_place(&domain.board, &mut token) {
+            Ok(place) => place,
+            Err(seen) => {
+                table.destroy();
+                return Err((Refused::NoPlace, seen));
+            }
         };
-        let own = OwnPlace::of(place);
-        steps::write(&domain.board, &mut token, own, 0);
+        let state = domain.board.state_word(place);
+        steps::write(&domain.board, &mut token, state, 0);
         known.begin_at(share_of(place, domain.board.places(), slots));
-        jobs.begin_at(share_of(place, domain.board.places(), domain.limits.jobs as u32));
         Ok(LocalCore {
             domain,
             token,
-            place: own,
+            place,
+            state,
             nesting: domain.limits.nesting as u32,
             own: Participant::new(bags),
             due,
             known,
-            jobs,
+            jobs: table,
+            next_job: share_of(place, domain.board.places(), jobs),
             privates,
             next_cell: share_of(place, domain.board.places(), domain.limits.cells as u32),
             tenure: own_tenure(),
@@ -271,19 +243,21 @@ impl<'d, T: Item<T>, J: Job> LocalCore<'d, T, J> {
         let LocalCore {
             domain,
             mut token,
-            place,
+            place: _,
+            state,
             nesting: _,
             own: _,
             due: _,
             known: _,
             jobs,
+            next_job: _,
             privates: _,
             next_cell: _,
             tenure: _,
             tally,
         } = self;
         jobs.destroy();
-        steps::end(&domain.board, &mut token, place);
+        steps::end(&domain.board, &mut token, state);
         EndedCounts::new(token, domain.limits.slots, tally.total())
     }
 
@@ -370,6 +344,7 @@ impl<'d, T: Item<T>, J: Job> LocalCore<'d, T, J> {
             &self.domain.board,
             &mut self.token,
             self.place,
+            self.state,
             &mut self.own,
             &mut self.due,
         );
@@ -461,7 +436,7 @@ impl<'d, T: Item<T>, J: Job> LocalCore<'d, T, J> {
             Some(scan(
                 &self.domain.board,
                 &mut self.token,
-                self.place.number(),
+                self.place,
                 found,
             ))
         } else {
@@ -471,6 +446,7 @@ impl<'d, T: Item<T>, J: Job> LocalCore<'d, T, J> {
             &self.domain.board,
             &mut self.token,
             self.place,
+            self.state,
             &mut self.tenure,
             part,
         );

@@ -191,7 +191,7 @@ module _ (slots id : ℕ) (me : SeatState) (live : HasPlace me.0.epoch) (rests :
 
   module _ (cell : ℕ) (inside : cell < sizes.cells) where
     abbrev i : ℕ
-    i = cell_word sizes cell
+    i = cell_word cell
 
     at_once : (R : ℕ → SeatState → ℕ → SeatState → Type 0) (x : ℕ) (me' : SeatState) → R cell me x me' → OfCell R i me x me'
     at_once R x me' r other is = let same : cell ≡ other = omega arith in subst (λ (k : ℕ). R k me x me') same r
@@ -228,7 +228,7 @@ module _ (slots id : ℕ) (me : SeatState) (live : HasPlace me.0.epoch) (rests :
         here = get_or-set_same s.words i y 0 within
 
         there : (d : ℕ) → d ≢ cell → cell_at sizes after d ≡ cell_at sizes s.words d
-        there d ne = get_or-set_other s.words i (cell_word sizes d) y 0 (λ e. ne (omega arith))
+        there d ne = get_or-set_other s.words i (cell_word d) y 0 (λ e. ne (omega arith))
 
         pointers_stay : HavePointers sizes after
         pointers_stay d low = let e = there (sizes.cells + d) (λ e. omega arith) in let o = h.kinds.cells.pointers d low in omega arith
@@ -780,7 +780,7 @@ module _ (slots id : ℕ) (me : SeatState) (live : HasPlace me.0.epoch) (rests :
     -- a look
     pub looks_in : May i (λ x. x) (OfCell LooksInCell i me)
     looks_in = let told : ℕ → SeatState → Type 0 = OfCell LooksInCell i me in lift_homes γ sizes slots id me i (λ x. x) (AtCell LooksAtCell i v) told
-        (spares (λ x. x) (AtCell LooksAtCell i v) (λ r w t. ap (λ (u : View). u.places) (t cell refl).0)) (words.looks_at id v live cell)
+        (spares (λ x. x) (AtCell LooksAtCell i v) (λ r w t. ap (λ (u : View). u.places) (t cell refl).0)) (words.looks_at id v live cell inside)
         (λ s w h at t. let x : ℕ = get_or s.words i 0 in let c = t cell refl in subst (Follows γ sizes id i me told s x) (sym c.0)
         (unmoved s h at told (at_once LooksInCell x me (refl, c.1))))
 
@@ -898,7 +898,7 @@ module _ (slots id : ℕ) (me : SeatState) (live : HasPlace me.0.epoch) (rests :
       (h.kinds.cells.taken jd (right_to cell (cell_kind shared)) (record { cell = cell; kind = cell_kind shared }) there (0, refl)).inside,
       λ lone. let one = steps.one_place γ sizes s h id v at lone in let l = h.kept.parts.lone in
           let t = h.kinds.cells.taken jd (right_to cell (cell_kind shared)) (record { cell = cell; kind = cell_kind shared }) there (0, refl) in
-          let is : cell_at sizes s.words cell ≡ get_or v.words cell 0 = finds_word sizes s.words s.views l id v at one live cell in record {
+          let is : cell_at sizes s.words cell ≡ get_or v.words cell 0 = finds_word sizes s.words s.views l id v at one live cell (let near = t.inside in omega arith) in record {
             inside = t.inside;
             full = let f = t.full in omega arith;
             held = λ slot one_is. let x : ℕ = cell_at sizes s.words cell in

@@ -1,6 +1,6 @@
 -- What cells hold, after one step
 use Rattle.std.specs.Prelude.{None}
-use Rattle.std.proofs.Common.{◌≡◌, ◌≢◌, ◌⊎◌, inl, inr, ℕ, zero, suc, ◌+◌, ◌*◌, Bool, true, false, ◌<◌, List, [], ◌∷◌, ◌++◌, length, get_or, set, sym, refl, ap, ◌∙◌, subst, ⊎_elim, arith, get_or-set_other, get_or-set_same}
+use Rattle.std.proofs.Common.{◌≡◌, ◌≢◌, ◌⊎◌, inl, inr, ℕ, zero, suc, ◌+◌, ◌*◌, Bool, true, false, ◌<◌, ◌≤◌, List, [], ◌∷◌, ◌++◌, length, get_or, set, sym, refl, ap, ◌∙◌, subst, ⊎_elim, arith, get_or-set_other, get_or-set_same}
 use mathlib.Core.Logic.{dite}
 use mathlib.Core.Option.{some, some-injective, some-ne-none}
 use native.Mathlib.Decide.{ℕ_discrete, dec_lt}
@@ -12,7 +12,7 @@ use Rattle.sdd_views.specs.declared.CellRight.{CellRight}
 use Rattle.sdd_views.specs.declared.CellsView.{CellsView}
 use Rattle.sdd_views.specs.declared.View.{View}
 use Rattle.sdd_views.specs.declared.Sizes.{Sizes}
-use Rattle.sdd_word_invariant.specs.Words.{first_cell, cell_word, pointer_word, slot_word}
+use Rattle.sdd_word_invariant.specs.Words.{IsEpochWord, after_cells, first_cell, cell_word, pointer_word, slot_word}
 use Rattle.sdd_word_invariant.specs.Codes.{codes, alive, counted, names, pointers_end}
 use Rattle.sdd_word_invariant.specs.Slots.{slot_at, owners_at, SlotsInvariant}
 use Rattle.sdd_word_invariant.specs.Collectors.{one_in, Closes}
@@ -53,16 +53,17 @@ no_change sizes ws = record { cells = record { words = λ _ _. refl; pointers = 
 
 module _ (sizes : Sizes) (ws : List ℕ) where
   -- a word that is no cell's and no pointer's changes
-  cells_stay : (j y : ℕ) → ((d : ℕ) → d < 2 * sizes.cells → cell_word sizes d ≢ j) → SameCells sizes ws (set ws j y)
+  cells_stay : (j y : ℕ) → ((d : ℕ) → d < 2 * sizes.cells → cell_word d ≢ j) → SameCells sizes ws (set ws j y)
   cells_stay j y ne = record {
-    words = λ d inside. get_or-set_other ws j (cell_word sizes d) y 0 (ne d (omega arith));
-    pointers = λ p d inside. let e = get_or-set_other ws j (cell_word sizes (sizes.cells + d)) y 0 (ne (sizes.cells + d) (omega arith)) in
+    words = λ d inside. get_or-set_other ws j (cell_word d) y 0 (ne d (omega arith));
+    pointers = λ p d inside. let e = get_or-set_other ws j (cell_word (sizes.cells + d)) y 0 (ne (sizes.cells + d) (omega arith)) in
         let o = p d inside in omega arith;
   }
 
-  -- a word below the cells' changes, or a slot's, or none does
-  pub cells_below : (j y : ℕ) → j < first_cell sizes → SameCells sizes ws (set ws j y)
-  cells_below j y low = cells_stay j y (λ d inside e. omega arith)
+  -- a word of the count, the lock or a place changes, or a slot's, or none does
+  pub cells_beside : (j y : ℕ) → IsEpochWord sizes j → SameCells sizes ws (set ws j y)
+  cells_beside j y word = cells_stay j y (λ d inside e.
+      ⊎_elim (λ (low : j < first_cell). omega arith) (λ (high : after_cells sizes ≤ j). omega arith) word.0)
 
   pub cells_slot : (slot y : ℕ) → SameCells sizes ws (set ws (slot_word sizes slot) y)
   cells_slot slot y = cells_stay (slot_word sizes slot) y (λ d inside e. omega arith)
@@ -70,8 +71,8 @@ module _ (sizes : Sizes) (ws : List ℕ) where
   pub cells_same : (j : ℕ) → SameCells sizes ws (set ws j (get_or ws j 0))
   cells_same j = subst (SameCells sizes ws) (sym (set-get_or ws j 0)) (no_change sizes ws).cells
 
-  pub words_below : (j y : ℕ) → j < first_cell sizes → SameWords sizes ws (set ws j y)
-  words_below j y low = record { cells = cells_below j y low; slots = λ i. get_or-set_other ws j (slot_word sizes i) y 0 (λ e. omega arith) }
+  pub words_beside : (j y : ℕ) → IsEpochWord sizes j → SameWords sizes ws (set ws j y)
+  words_beside j y word = let low = word.1 in record { cells = cells_beside j y word; slots = λ i. get_or-set_other ws j (slot_word sizes i) y 0 (λ e. omega arith) }
 
   pub words_same : (j : ℕ) → SameWords sizes ws (set ws j (get_or ws j 0))
   words_same j = record { cells = cells_same j; slots = λ i. ap (λ (l : List ℕ). slot_at sizes l i) (set-get_or ws j 0) }
@@ -81,10 +82,10 @@ module _ (sizes : Sizes) (ws : List ℕ) where
       → SameWords sizes ws (set ws (pointer_word sizes cell) y)
   words_pointed cell y low long small = let i : ℕ = pointer_word sizes cell in record {
     cells = record {
-      words = λ d inside. get_or-set_other ws i (cell_word sizes d) y 0 (λ e. omega arith);
+      words = λ d inside. get_or-set_other ws i (cell_word d) y 0 (λ e. omega arith);
       pointers = λ p d inside. dite (ℕ_discrete d cell)
           (λ e. let here = ap (λ (k : ℕ). pointer_at sizes (set ws i y) k) e ∙ get_or-set_same ws i y 0 long in omega arith)
-          (λ ne. let there = get_or-set_other ws i (cell_word sizes (sizes.cells + d)) y 0 (λ e. ne (omega arith)) in let o = p d inside in omega arith);
+          (λ ne. let there = get_or-set_other ws i (cell_word (sizes.cells + d)) y 0 (λ e. ne (omega arith)) in let o = p d inside in omega arith);
     };
     slots = λ k. get_or-set_other ws i (slot_word sizes k) y 0 (λ e. omega arith);
   }
@@ -115,7 +116,7 @@ module _ (sizes : Sizes) (ws : List ℕ) where
   -- an owner in a cell is among those that its slot has
   module _ (vs : List View) (s : SlotsInvariant codes sizes ws vs) (i : ℕ) (c : IsInCell sizes ws i) where
     pub in_cell_alive : 0 < alive (slot_at sizes ws i)
-    in_cell_alive = let h = span_has (names i) ws (first_cell sizes) sizes.cells c.0 c.1 in let w = s.owned i in let n = c.2 in omega arith
+    in_cell_alive = let h = span_has (names i) ws first_cell sizes.cells c.0 c.1 in let w = s.owned i in let n = c.2 in omega arith
 
     pub in_cell_beside : (j : ℕ) (v : View) → get_elem? vs j ≡ some v → owners_at i v < alive (slot_at sizes ws i)
     in_cell_beside j v at = let h = named_in codes sound sizes ws vs s j c.0 i v at c.1 in let n = c.2 in omega arith

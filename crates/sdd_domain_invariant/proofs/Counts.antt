@@ -32,41 +32,41 @@ over_not : (x : ℕ) → x < 3 → over x ≡ 0
 over_not x low = ⊎_elim (λ (t : (leb 3 x ≡ true) × (3 ≤ x)). let t1 = t.1 in absurd (omega arith))
     (λ (t : (leb 3 x ≡ false) × (x < 3)). ap (λ (b : _). either b 1 0) t.0) (leb_tells 3 x)
 
-pub ended_few : (ws : List ℕ) (m : ℕ) → ended_places ws m ≤ m
-ended_few ws zero = omega arith
-ended_few ws (suc m) = let a = over_few (get_or ws (state_word m) 0) in let b = ended_few ws m in omega arith
+pub ended_few : (sizes : Sizes) (ws : List ℕ) (m : ℕ) → ended_places sizes ws m ≤ m
+ended_few sizes ws zero = omega arith
+ended_few sizes ws (suc m) = let a = over_few (get_or ws (state_word sizes m) 0) in let b = ended_few sizes ws m in omega arith
 
 within : (ws : List ℕ) (i : ℕ) → 3 ≤ get_or ws i 0 → i < length ws
 within ws i was = dite (dec_lt i (length ws)) (λ l. l) (λ far. absurd (let z = get_or_past ws i 0 (omega arith) in omega arith))
 
 -- a step that spares them makes them no fewer
-one_ended : (ws : List ℕ) (i y p : ℕ) → (i ≡ state_word p → 3 ≤ get_or ws i 0 → get_or ws i 0 ≤ y)
-    → over (get_or ws (state_word p) 0) ≤ over (get_or (set ws i y) (state_word p) 0)
-one_ended ws i y p spares = let x : ℕ = get_or ws (state_word p) 0 in dite (dec_lt 2 x)
-    (λ was. let now : 3 ≤ get_or (set ws i y) (state_word p) 0 = dite (ℕ_discrete i (state_word p))
+one_ended : (sizes : Sizes) (ws : List ℕ) (i y p : ℕ) → (i ≡ state_word sizes p → 3 ≤ get_or ws i 0 → get_or ws i 0 ≤ y)
+    → over (get_or ws (state_word sizes p) 0) ≤ over (get_or (set ws i y) (state_word sizes p) 0)
+one_ended sizes ws i y p spares = let x : ℕ = get_or ws (state_word sizes p) 0 in dite (dec_lt 2 x)
+    (λ was. let now : 3 ≤ get_or (set ws i y) (state_word sizes p) 0 = dite (ℕ_discrete i (state_word sizes p))
     (λ e. let here = ap (λ (k : ℕ). get_or ws k 0) e in let more = spares e (omega arith) in
     let there = ap (λ (k : ℕ). get_or (set ws i y) k 0) (sym e) ∙ get_or-set_same ws i y 0 (within ws i (omega arith)) in omega arith)
-    (λ ne. let same = get_or-set_other ws i (state_word p) y 0 (λ e. ne (sym e)) in omega arith) in
-    let a = over_is (get_or (set ws i y) (state_word p) 0) now in let b = over_few x in omega arith)
+    (λ ne. let same = get_or-set_other ws i (state_word sizes p) y 0 (λ e. ne (sym e)) in omega arith) in
+    let a = over_is (get_or (set ws i y) (state_word sizes p) 0) now in let b = over_few x in omega arith)
     (λ not. let o = over_not x (omega arith) in omega arith)
 
 pub ended_spared : (sizes : Sizes) (ws : List ℕ) (i y : ℕ) → Spares sizes ws i y → (m : ℕ) → m ≤ sizes.participants
-    → ended_places ws m ≤ ended_places (set ws i y) m
+    → ended_places sizes ws m ≤ ended_places sizes (set ws i y) m
 ended_spared sizes ws i y spares zero low = omega arith
-ended_spared sizes ws i y spares (suc m) low = let a = one_ended ws i y m (spares m (omega arith)) in
+ended_spared sizes ws i y spares (suc m) low = let a = one_ended sizes ws i y m (spares m (omega arith)) in
     let b = ended_spared sizes ws i y spares m (omega arith) in omega arith
 
 -- one more place ends
-pub ended_more : (ws : List ℕ) (p : ℕ) → state_word p < length ws → get_or ws (state_word p) 0 < 3 → (m : ℕ) → p < m
-    → ended_places ws m + 1 ≤ ended_places (set ws (state_word p) 3) m
-ended_more ws p low before zero inside = absurd (omega arith)
-ended_more ws p low before (suc m) inside = let i : ℕ = state_word p in let z : Sizes = record { participants = m; slots = 0; jobs = 0; cells = 0 } in
+pub ended_more : (sizes : Sizes) (ws : List ℕ) (p : ℕ) → state_word sizes p < length ws → get_or ws (state_word sizes p) 0 < 3 → (m : ℕ) → p < m
+    → ended_places sizes ws m + 1 ≤ ended_places sizes (set ws (state_word sizes p) 3) m
+ended_more sizes ws p low before zero inside = absurd (omega arith)
+ended_more sizes ws p low before (suc m) inside = let i : ℕ = state_word sizes p in let z : Sizes = record sizes { participants = m } in
     dite (ℕ_discrete p m)
-    (λ e. let here = ap (λ (k : ℕ). get_or ws (state_word k) 0) e in let was = over_not (get_or ws (state_word m) 0) (omega arith) in
-    let there = ap (λ (k : ℕ). get_or (set ws i 3) (state_word k) 0) (sym e) ∙ get_or-set_same ws i 3 0 low in
-    let now = over_is (get_or (set ws i 3) (state_word m) 0) (omega arith) in
+    (λ e. let here = ap (λ (k : ℕ). get_or ws (state_word sizes k) 0) e in let was = over_not (get_or ws (state_word sizes m) 0) (omega arith) in
+    let there = ap (λ (k : ℕ). get_or (set ws i 3) (state_word sizes k) 0) (sym e) ∙ get_or-set_same ws i 3 0 low in
+    let now = over_is (get_or (set ws i 3) (state_word sizes m) 0) (omega arith) in
     let b = ended_spared z ws i 3 (λ q l is was. let same = ap (λ (k : ℕ). get_or ws k 0) is in omega arith) m (omega arith) in omega arith)
-    (λ ne. let a = one_ended ws i 3 m (λ _ was. omega arith) in let b = ended_more ws p low before m (omega arith) in omega arith)
+    (λ ne. let a = one_ended sizes ws i 3 m (λ _ was. omega arith) in let b = ended_more sizes ws p low before m (omega arith) in omega arith)
 
 -- ---- slots that have an item
 pub as_full : (sizes : Sizes) (ws ws' : List ℕ) → ((j : ℕ) → j < sizes.slots → valued (slot_at sizes ws' j) ≡ valued (slot_at sizes ws j))
@@ -85,7 +85,7 @@ module _ (sizes : Sizes) (ws : List ℕ) (vs : List View) (c : CountsInvariant s
   module _ (id : ℕ) (v : View) (at : get_elem? vs id ≡ some v) where
     -- what is made, given back, or ends is counted
     pub counted : (ws' : List ℕ) (w : View) → made_by w + gone_by v + full_slots sizes ws ≡ made_by v + gone_by w + full_slots sizes ws'
-        → over_by w + ended_places ws n ≤ over_by v + ended_places ws' n → CountsByPlace w → CountsInvariant sizes ws' (set vs id w)
+        → over_by w + ended_places sizes ws n ≤ over_by v + ended_places sizes ws' n → CountsByPlace w → CountsInvariant sizes ws' (set vs id w)
     counted ws' w items places mine = record {
       items = let a = total_set made_by vs id v w at in let b = total_set gone_by vs id v w at in let d = c.items in omega arith;
       places = let a = total_set over_by vs id v w at in let d = c.places in omega arith;
@@ -94,7 +94,7 @@ module _ (sizes : Sizes) (ws : List ℕ) (vs : List View) (c : CountsInvariant s
 
     -- nothing is
     pub uncounted : (ws' : List ℕ) (w : View) → w.stakes.counts ≡ v.stakes.counts → (HasPlace v.epoch → HasPlace w.epoch)
-        → full_slots sizes ws' ≡ full_slots sizes ws → ended_places ws n ≤ ended_places ws' n → CountsInvariant sizes ws' (set vs id w)
+        → full_slots sizes ws' ≡ full_slots sizes ws → ended_places sizes ws n ≤ ended_places sizes ws' n → CountsInvariant sizes ws' (set vs id w)
     uncounted ws' w same lives filled ended = let m = ap (λ (x : CountsView). x.made) same in let g = ap (λ (x : CountsView). x.gone) same in
         let o = ap (λ (x : CountsView). x.over) same in counted ws' w (omega arith) (omega arith)
         (λ none never. let old = c.each id v at (dite (dec_lt 0 v.epoch.state) (λ live. absurd (let l = lives live in omega arith)) (λ z. omega arith))

@@ -131,7 +131,7 @@ module _ (sizes : Sizes) (vs : List View) (f : FilledInvariant sizes vs) where
     }
 
     -- it moved something into a slot of which nothing was told
-    pub filled_housed : (ws : List ℕ) → EpochInvariant sizes.participants ws (map epoch_of vs) → HasPlace v.epoch → (now : ShownValue)
+    pub filled_housed : (ws : List ℕ) → EpochInvariant sizes ws (map epoch_of vs) → HasPlace v.epoch → (now : ShownValue)
         → ((r : ShownValue) → IsTold vs r → now.slot ≢ r.slot) → (w : View) → w.stakes.owns ≡ now ∷ v.stakes.owns → w.stakes.waits ≡ v.stakes.waits
         → w.stakes.filled ≡ now ∷ v.stakes.filled → FilledInvariant sizes (set vs id w)
     filled_housed ws epochs live now apart w owns waits filled = record {
@@ -147,7 +147,7 @@ module _ (sizes : Sizes) (vs : List View) (f : FilledInvariant sizes vs) where
           ⊎_elim
           (λ (a : (j ≡ id) × (w ≡ x)). ap (λ (y : View). newest r.slot y.stakes.filled) (sym a.1) ∙ (ap (newest r.slot) filled ∙ mine))
           (λ (a : (j ≢ id) × (get_elem? vs j ≡ some x)).
-          absurd (no_other sizes.participants ws (map epoch_of vs) id j v.epoch x.epoch epochs one (at_map epoch_of vs id v at) live a.0
+          absurd (no_other sizes ws (map epoch_of vs) id j v.epoch x.epoch epochs one (at_map epoch_of vs id v at) live a.0
           (at_map epoch_of vs j x a.1) placed)) (at_set vs id j w x e);
     }
       where

@@ -16,7 +16,7 @@ use Rattle.sdd_shared_values.specs.declared.value_fraction.ValueFraction.{ValueF
 use Rattle.sdd_views.specs.declared.FractionsView.{FractionsView}
 use Rattle.sdd_views.specs.declared.View.{View}
 use Rattle.sdd_views.specs.declared.Sizes.{Sizes}
-use Rattle.sdd_word_invariant.specs.Words.{slot_word, cell_word, first_cell}
+use Rattle.sdd_word_invariant.specs.Words.{IsEpochWord, slot_word, cell_word}
 use Rattle.sdd_word_invariant.specs.Codes.{codes, alive, waiting, full, valued, counted, names, raw_word}
 use Rattle.sdd_word_invariant.specs.Epoch.{HasPlace}
 use Rattle.sdd_word_invariant.specs.Slots.{slot_at}
@@ -29,7 +29,7 @@ use Rattle.sdd_domain_invariant.specs.FilledInvariant.{newest}
 use Rattle.sdd_domain_invariant.specs.BankInvariant.{one_where, offices, deposited, banked, IsBank, BankInvariant}
 use Rattle.sdd_domain_invariant.specs.CellsInvariant.{IsInCell}
 use Rattle.sdd_domain_invariant.specs.LastFractions.{ShowOnly, IsRaw, IsStored, HidesItem, IsHidden, LastIs, ShowsLast, KnowsStored, KnowsHidden, LastsInvariant}
-use Rattle.sdd_domain_invariant.proofs.Cells.{SameCells, SameWords, cells_below, cells_slot, in_cell_before}
+use Rattle.sdd_domain_invariant.proofs.Cells.{SameCells, SameWords, cells_beside, cells_slot, in_cell_before}
 use Rattle.sdd_domain_invariant.proofs.Banks.{with_deposits, banked_then}
 use Rattle.sdd_domain_invariant.proofs.Records.{IsAlike}
 use Rattle.sdd_domain_invariant.proofs.Rows.{Given, given_lies}
@@ -118,7 +118,7 @@ module _ (sizes : Sizes) (ws : List ℕ) where
     λ shared is. ⊎_elim
         (λ (a : IsRaw sizes ws i × (shared ≡ false)). let r = a.0 in absurd (omega arith))
         (λ (b : IsInCell sizes ws i × (counted (slot_at sizes ws i) ≡ one_where shared)). let c = b.0 in let n = c.2 in
-        let e = ap (names i) (zeros (cell_word sizes c.0)) ∙ sound.null i in absurd (omega arith)) is,
+        let e = ap (names i) (zeros (cell_word c.0)) ∙ sound.null i in absurd (omega arith)) is,
     empty_shows (slot_at sizes ws i) (sound.empty (slot_at sizes ws i) (ap full z ∙ sound.free.2)),
   )
 
@@ -137,9 +137,9 @@ module _ (sizes : Sizes) (ws : List ℕ) where
   pub stored_kept : (ws' : List ℕ) → SameWords sizes ws ws' → NoMoreStored sizes ws ws'
   stored_kept ws' same i near = stored_still ws' same.cells i (same.slots i)
 
-  -- a word before the cells' changes
-  pub stored_before : (j y : ℕ) → j < first_cell sizes → NoMoreStored sizes ws (set ws j y)
-  stored_before j y low i near = stored_still (set ws j y) (cells_below sizes ws j y low) i
+  -- a word of the count, the lock or a place changes
+  pub stored_beside : (j y : ℕ) → IsEpochWord sizes j → NoMoreStored sizes ws (set ws j y)
+  stored_beside j y word i near = let low = word.1 in stored_still (set ws j y) (cells_beside sizes ws j y word) i
       (get_or-set_other ws j (slot_word sizes i) y 0 (λ e. omega arith))
 
   -- a word past the slots' changes

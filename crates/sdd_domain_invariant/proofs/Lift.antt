@@ -15,7 +15,7 @@ use Rattle.sdd_views.specs.declared.SlotsView.{SlotsView}
 use Rattle.sdd_views.specs.declared.FractionsView.{FractionsView}
 use Rattle.sdd_views.specs.declared.View.{View}
 use Rattle.sdd_views.specs.declared.Sizes.{Sizes}
-use Rattle.sdd_word_invariant.specs.Words.{first_cell, state_word}
+use Rattle.sdd_word_invariant.specs.Words.{IsEpochWord, state_word}
 use Rattle.sdd_word_invariant.specs.Epoch.{HasPlace, IsClosed, IsOpen}
 use Rattle.sdd_word_invariant.specs.EpochSteps.{Steps, Publishes, Ends}
 use Rattle.sdd_word_invariant.specs.Slots.{waits_in}
@@ -32,7 +32,7 @@ use Rattle.sdd_domain_invariant.specs.BankInvariant.{banked, BankInvariant}
 use Rattle.sdd_domain_invariant.proofs.Banks.{with_deposits}
 use Rattle.sdd_domain_invariant.proofs.Banks as banks
 use Rattle.sdd_domain_invariant.specs.KindsInvariant.{KindsInvariant}
-use Rattle.sdd_domain_invariant.proofs.Cells.{words_below, no_change}
+use Rattle.sdd_domain_invariant.proofs.Cells.{words_beside, no_change}
 use Rattle.sdd_domain_invariant.proofs.KindSteps.{same_post}
 use Rattle.sdd_domain_invariant.proofs.KindSteps as kind_steps
 use Rattle.sdd_domain_invariant.specs.Records.{AllShowKnown, RecordsInvariant}
@@ -47,7 +47,7 @@ use Rattle.sdd_domain_invariant.proofs.Records.{IsAlike}
 use Rattle.sdd_domain_invariant.proofs.Records as records
 use Rattle.sdd_domain_invariant.proofs.Fillings.{filled_same, filled_alike}
 use Rattle.sdd_domain_invariant.specs.LastFractions.{LastsInvariant}
-use Rattle.sdd_domain_invariant.proofs.Lasts.{NoMoreStored, none_stored, stored_before, alike_bank, lasts_fewer}
+use Rattle.sdd_domain_invariant.proofs.Lasts.{NoMoreStored, none_stored, stored_beside, alike_bank, lasts_fewer}
 use Rattle.sdd_domain_invariant.proofs.Telling.{none_told}
 
 -- what a step on the word i makes of the state, where y is in it then: what its participant knows of stakes, and what it takes or gives
@@ -73,17 +73,17 @@ module _ (γ : ℕ) (sizes : Sizes) (slots id : ℕ) (me : SeatState) (i : ℕ) 
       × (NoneQuiet s.views ⊎ Hushes sizes s.words i (f (get_or s.words i 0))) × AreQuiet sizes (set s.words i (f (get_or s.words i 0))) w
 
   -- while somebody has a place nobody knows of a quiet slot; and a step on a word before the slots' leaves theirs
-  hushes : HasPlace me.0.epoch ⊎ (i < first_cell sizes) → (s : State ValueFraction View) → DomainInvariant γ sizes s → get_elem? s.views id ≡ some me.0
+  hushes : HasPlace me.0.epoch ⊎ (IsEpochWord sizes i) → (s : State ValueFraction View) → DomainInvariant γ sizes s → get_elem? s.views id ≡ some me.0
       → NoneQuiet s.views ⊎ Hushes sizes s.words i (f (get_or s.words i 0))
   hushes mild s h at = ⊎_elim
       (λ (live : HasPlace me.0.epoch).
       inl (none_quiet sizes s.words s.views h.kept.parts.epoch h.kept.places.ended h.kept.places.quiet id me.0 at live))
-      (λ (low : i < first_cell sizes). inr (λ k is _. absurd (omega arith))) mild
+      (λ (word : IsEpochWord sizes i). let low = word.1 in inr (λ k is _. absurd (omega arith))) mild
 
   -- what is known of them stays
   pub keeps_ended : (then : ℕ → View → Type 0) → ((r : ℕ) (w : View) → then r w → w.places ≡ me.0.places)
       → ((s : State ValueFraction View) → DomainInvariant γ sizes s → get_elem? s.views id ≡ some me.0 → Spares sizes s.words i (f (get_or s.words i 0)))
-      → HasPlace me.0.epoch ⊎ (i < first_cell sizes) → Keeps then
+      → HasPlace me.0.epoch ⊎ (IsEpochWord sizes i) → Keeps then
   keeps_ended then places words mild s w h at t = let x : ℕ = get_or s.words i 0 in let y : ℕ = f x in let e = words s h at in
       let q = hushes mild s h at in (
         e,
@@ -174,7 +174,7 @@ module _ (γ : ℕ) (sizes : Sizes) (slots id : ℕ) (me : SeatState) (i : ℕ) 
   lift_calm then told ends step = lift_calm_whole then told ends (λ s h at small. step s.words s.views h.kept.parts at small)
 
   -- one of the epoch's part, under which an open guard keeps its place
-  pub lift_epoch : (R : EpochView → ℕ → EpochView → Type 0) (told : ℕ → SeatState → Type 0) → i < first_cell sizes
+  pub lift_epoch : (R : EpochView → ℕ → EpochView → Type 0) (told : ℕ → SeatState → Type 0) → IsEpochWord sizes i
       → ((r : ℕ) (e : EpochView) → R me.0.epoch r e → IsOpen me.0.epoch → e.place ≡ me.0.epoch.place)
       → ((r : ℕ) (e : EpochView) → R me.0.epoch r e → HasPlace me.0.epoch → HasPlace e)
       → ((s : State ValueFraction View) → DomainInvariant γ sizes s → (e : EpochView) → R me.0.epoch (get_or s.words i 0) e → sizes.participants ≡ 1 → HasPlace
@@ -183,21 +183,21 @@ module _ (γ : ℕ) (sizes : Sizes) (slots id : ℕ) (me : SeatState) (i : ℕ) 
       → ((s : State ValueFraction View) → DomainInvariant γ sizes s → get_elem? s.views id ≡ some me.0 → Spares sizes s.words i (f (get_or s.words i 0)))
       → Steps (Parts sizes) id me.0 i f (OnEpoch R me.0)
       → ((r : ℕ) (w : View) → OnEpoch R me.0 r w → told r (w, me.1)) → Allows (DomainInvariant γ sizes) slots id me i f told
-  lift_epoch R told low stays lives had spares step tells = lift_calm (OnEpoch R me.0) told
-      (keeps_ended (OnEpoch R me.0) (λ r w t. ap (λ (u : View). u.places) t.1) spares (inr low)) step tells (λ s w h at t.
+  lift_epoch R told word stays lives had spares step tells = lift_calm (OnEpoch R me.0) told
+      (keeps_ended (OnEpoch R me.0) (λ r w t. ap (λ (u : View). u.places) t.1) spares (inr word)) step tells (λ s w h at t.
       let y : ℕ = f (get_or s.words i 0) in let e : EpochView = t.0 in let own = h.kept.parts.slots.each id me.0 at in
       subst (IsCalm s y) (sym t.1) record {
         more = λ j p out. ⊎_elim (λ (m : Moves me.0 j). inl m)
             (λ (o : SeesFrom me.0 j p). inr (o.0, stays (get_or s.words i 0) e t.2 (own.guarded j o.0) ∙ o.1)) out;
-        same = λ j _. before_slots sizes s.words i y j (omega arith);
+        same = λ j _. before_slots sizes s.words i y j word.1;
         mover = still_mover me.0 (record me.0 { epoch = e }) refl (lives (get_or s.words i 0) e t.2) (λ _ o. o) (λ _ o. o) (λ _ o. o) (h.homes.moving id me.0 at);
         alike = (refl, refl, refl, (λ _. refl), refl);
         counts = refl;
         lives = lives (get_or s.words i 0) e t.2;
         had = had s h e t.2;
-        stored = stored_before sizes s.words i y low;
+        stored = stored_beside sizes s.words i y word;
         kinds = kind_steps.calm sizes s.words s.views h.kinds h.records.each id me.0 at (set s.words i y) (record me.0 { epoch = e })
-            (words_below sizes s.words i y low) (refl, refl, refl, (λ _. refl), refl) refl refl (λ _ o. o)
+            (words_beside sizes s.words i y word) (refl, refl, refl, (λ _. refl), refl) refl refl (λ _ o. o)
             (same_post me.0 (record me.0 { epoch = e }) refl refl refl refl (lives (get_or s.words i 0) e t.2) refl refl);
       })
 
@@ -209,17 +209,17 @@ changed_or_not v P same aged = let older_slots : SlotsView = aged_slots v.slots 
 
 module _ (γ : ℕ) (sizes : Sizes) (slots : ℕ) where
   -- a publish
-  pub lift_publish : (id : ℕ) (me : SeatState) (i y : ℕ) (told : ℕ → SeatState → Type 0) → i < first_cell sizes → HasPlace me.0.epoch
+  pub lift_publish : (id : ℕ) (me : SeatState) (i y : ℕ) (told : ℕ → SeatState → Type 0) → IsEpochWord sizes i → HasPlace me.0.epoch
       → Steps (Parts sizes) id me.0 i (λ _. y) (λ _. PublishesAll me.0 y)
       → ((e : EpochView) → Publishes me.0.epoch y e → HasPlace e × (e.place ≡ me.0.epoch.place))
       → ((s : State ValueFraction View) → DomainInvariant γ sizes s → get_elem? s.views id ≡ some me.0 → Spares sizes s.words i y)
       → ((w : View) → PublishesAll me.0 y w → told y (w, me.1)) → Allows (DomainInvariant γ sizes) slots id me i (λ _. y) (λ _. told y)
-  lift_publish id me i y told low live step stays spares tells = lift_calm γ sizes slots id me i (λ _. y) (λ _. PublishesAll me.0 y) (λ _. told y)
+  lift_publish id me i y told word live step stays spares tells = lift_calm γ sizes slots id me i (λ _. y) (λ _. PublishesAll me.0 y) (λ _. told y)
       (keeps_ended γ sizes slots id me i (λ _. y) (λ _. PublishesAll me.0 y) (λ r w t. ap (λ (u : View). u.places) t.1) spares
-      (inr low)) step (λ _ w t. tells w t)
+      (inr word)) step (λ _ w t. tells w t)
       (λ s w h at t. let v : View = me.0 in let e : EpochView = t.0 in
       let calm : SlotsView → Type 0 = λ x. IsCalm γ sizes slots id me i (λ _. y) s y (record v { epoch = e; slots = x }) in
-      let same = λ (j : ℕ) (_ : j < sizes.slots). before_slots sizes s.words i y j (omega arith) in let n : ℕ = sizes.participants in
+      let same = λ (j : ℕ) (_ : j < sizes.slots). before_slots sizes s.words i y j word.1 in let n : ℕ = sizes.participants in
       let more : (j p : ℕ) → FractionIsTaken v j p → FractionIsTaken (record v { epoch = e }) j p
       = λ j p out. ⊎_elim (λ (m : Moves v j). inl m) (λ (o : SeesFrom v j p). inr (o.0, (stays e t.2).1 ∙ o.1)) out in
       let movers = still_mover v (record v { epoch = e }) refl (λ _. (stays e t.2).0) (λ _ o. o) (λ _ o. o) (λ _ o. o) (h.homes.moving id v at) in
@@ -232,9 +232,9 @@ module _ (γ : ℕ) (sizes : Sizes) (slots : ℕ) where
         counts = refl;
         lives = λ _. (stays e t.2).0;
         had = λ _ _. inl live;
-        stored = stored_before sizes s.words i y low;
+        stored = stored_beside sizes s.words i y word;
         kinds = kind_steps.calm sizes s.words s.views h.kinds h.records.each id v at (set s.words i y) (record v { epoch = e })
-            (words_below sizes s.words i y low) (refl, refl, refl, (λ _. refl), refl) refl refl (λ _ o. o)
+            (words_beside sizes s.words i y word) (refl, refl, refl, (λ _. refl), refl) refl refl (λ _ o. o)
             (same_post v (record v { epoch = e }) refl refl refl refl (λ _. (stays e t.2).0) refl refl);
       }
       record {
@@ -246,9 +246,9 @@ module _ (γ : ℕ) (sizes : Sizes) (slots : ℕ) where
         counts = refl;
         lives = λ _. (stays e t.2).0;
         had = λ _ _. inl live;
-        stored = stored_before sizes s.words i y low;
+        stored = stored_beside sizes s.words i y word;
         kinds = kind_steps.calm sizes s.words s.views h.kinds h.records.each id v at (set s.words i y)
-            (record v { epoch = e; slots = aged_slots v.slots }) (words_below sizes s.words i y low)
+            (record v { epoch = e; slots = aged_slots v.slots }) (words_beside sizes s.words i y word)
             (refl, refl, refl, (λ j. total_map (waits_in j) older (λ x. refl) v.slots.waits), refl) refl refl (λ _ o. o)
             (same_post v (record v { epoch = e; slots = aged_slots v.slots }) refl refl refl refl (λ _. (stays e t.2).0) refl refl);
       }))
@@ -256,13 +256,13 @@ module _ (γ : ℕ) (sizes : Sizes) (slots : ℕ) where
   -- the end of a place, which is counted
   pub lift_end : (id : ℕ) (me : SeatState) (told : SeatState → Type 0) → me.0.epoch.place < sizes.participants → IsClosed me.0.epoch → me.0.stakes.moves ≡ None
       → me.0.slots.over ≡ None
-      → Steps (Parts sizes) id me.0 (state_word me.0.epoch.place) (λ _. 3) (λ _. OnEpoch (λ u _ e. Ends u 3 e) me.0 3)
-      → ((s : State ValueFraction View) → DomainInvariant γ sizes s → get_elem? s.views id ≡ some me.0 → Spares sizes s.words (state_word me.0.epoch.place) 3)
-      → told (leaving me.0, me.1) → Allows (DomainInvariant γ sizes) slots id me (state_word me.0.epoch.place) (λ _. 3) (λ _. told)
-  lift_end id me told inside shut rests over step spares tells = let v : View = me.0 in let i : ℕ = state_word v.epoch.place in
+      → Steps (Parts sizes) id me.0 (state_word sizes me.0.epoch.place) (λ _. 3) (λ _. OnEpoch (λ u _ e. Ends u 3 e) me.0 3)
+      → ((s : State ValueFraction View) → DomainInvariant γ sizes s → get_elem? s.views id ≡ some me.0 → Spares sizes s.words (state_word sizes me.0.epoch.place) 3)
+      → told (leaving me.0, me.1) → Allows (DomainInvariant γ sizes) slots id me (state_word sizes me.0.epoch.place) (λ _. 3) (λ _. told)
+  lift_end id me told inside shut rests over step spares tells = let v : View = me.0 in let i : ℕ = state_word sizes v.epoch.place in
       lift_homes γ sizes slots id me i (λ _. 3) (λ _. OnEpoch (λ u _ e. Ends u 3 e) v 3) (λ _. told)
       (keeps_ended γ sizes slots id me i (λ _. 3) (λ _. OnEpoch (λ u _ e. Ends u 3 e) v 3) (λ r w t. ap (λ (u : View). u.places) t.1) spares
-      (inr (omega arith))) step
+      (inr (inr (omega arith), omega arith))) step
       (λ s w h at t. let now : View = leaving v in let fits = h.kept.parts.epoch.each id v.epoch (at_map epoch_of s.views id v at) in
       let was = fits.state (omega arith) in let same = λ (j : ℕ) (_ : j < sizes.slots). before_slots sizes s.words i 3 j (omega arith) in
       let wide = h.kept.parts.epoch.wide in
@@ -275,13 +275,13 @@ module _ (γ : ℕ) (sizes : Sizes) (slots : ℕ) where
         records = records.calm sizes s.views s.homes h.records id v at now (refl, refl, refl, (λ _. refl), refl);
         counts = counted sizes s.words s.views h.counts id v at (set s.words i 3) now
             (let f = as_full sizes s.words (set s.words i 3) same in omega arith)
-            (let more = ended_more s.words v.epoch.place (omega arith) (omega arith) sizes.participants inside in omega arith)
+            (let more = ended_more sizes s.words v.epoch.place (omega arith) (omega arith) sizes.participants inside in omega arith)
             (λ _ none. absurd (omega arith));
         filled = filled_same sizes s.views h.filled id v at now refl refl refl (λ z. absurd (omega arith));
         bank = banks.alike γ sizes s.words s.views h.bank id v at (set s.words i 3) now (refl, refl, refl, (λ _. refl), refl) same;
         lasts = lasts_fewer sizes s.words s.views s.homes h.lasts id v at (set s.words i 3) now s.homes (λ _ _ _ _ l. l) (λ is. (is, refl)) refl
-            (λ _ live. absurd (omega arith)) (stored_before sizes s.words i 3 (omega arith));
-        kinds = kind_steps.calm sizes s.words s.views h.kinds h.records.each id v at (set s.words i 3) now (words_below sizes s.words i 3 (omega arith))
+            (λ _ live. absurd (omega arith)) (stored_beside sizes s.words i 3 (inr (omega arith), omega arith));
+        kinds = kind_steps.calm sizes s.words s.views h.kinds h.records.each id v at (set s.words i 3) now (words_beside sizes s.words i 3 (inr (omega arith), omega arith))
             (refl, refl, refl, (λ _. refl), refl) refl refl (λ _ o. o)
             record { pledges = refl; marks = refl; sizes = refl; cells = refl; place = inr over; records = λ _ r a. a; holds = λ _. refl };
         tells = tells;

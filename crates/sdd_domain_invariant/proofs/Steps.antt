@@ -71,8 +71,8 @@ use Rattle.sdd_domain_invariant.proofs.Records.{in_either, in_none, in_both, in_
 use Rattle.sdd_domain_invariant.proofs.Records as records
 use Rattle.sdd_domain_invariant.proofs.Fillings.{newest_before, TellsNoMore, has_none, has_either, has_old, told_by, tells_old, filled_after, filled_same, filled_housed}
 use Rattle.sdd_domain_invariant.specs.CellsInvariant.{IsInCell}
-use Rattle.sdd_domain_invariant.proofs.Cells.{SameWords, no_change, words_below, words_same, in_cell_alive, in_cell_beside}
-use Rattle.sdd_domain_invariant.proofs.Lasts.{none_shown, shown_leaves, shown_comes, owned_shows, waiting_shows, empty_shows, stored_before, stored_as_is, stored_same, stored_other, not_stored, stored_set, lasts_kept, lasts_fewer, lasts_given, lasts_dealt, one_bank}
+use Rattle.sdd_domain_invariant.proofs.Cells.{SameWords, no_change, words_beside, words_same, in_cell_alive, in_cell_beside}
+use Rattle.sdd_domain_invariant.proofs.Lasts.{none_shown, shown_leaves, shown_comes, owned_shows, waiting_shows, empty_shows, stored_beside, stored_as_is, stored_same, stored_other, not_stored, stored_set, lasts_kept, lasts_fewer, lasts_given, lasts_dealt, one_bank}
 use Rattle.sdd_domain_invariant.proofs.Rows.{Taken, Given, takes_row, gives_row, gives_purse, taken_lies, given_lies}
 use Rattle.sdd_domain_invariant.proofs.Telling.{one_moved, none_moved, one_view, owns_it, claimed_tells, moving_tells, held_tells, retired_tells, housed_tells, rested_tells, none_owns, none_waits, unknown_owned, unknown_waiting, comes_home}
 use Rattle.sdd_domain_invariant.proofs.Tops.{rest_is, share_one}
@@ -133,7 +133,7 @@ seen_valued γ sizes s h id v at k sees = let x : ℕ = slot_at sizes s.words k 
 
 -- the own place hasn't ended
 pub own_place : (γ : ℕ) (sizes : Sizes) (id : ℕ) (v : View) → HasPlace v.epoch → (y : ℕ) (s : State ValueFraction View) → DomainInvariant γ sizes s
-    → get_elem? s.views id ≡ some v → Spares sizes s.words (state_word v.epoch.place) y
+    → get_elem? s.views id ≡ some v → Spares sizes s.words (state_word sizes v.epoch.place) y
 own_place γ sizes id v live y s h at p low e was = let f = h.kept.parts.epoch.each id v.epoch (at_map epoch_of s.views id v at) in
     let is = f.state live in let few = f.states in absurd (omega arith)
 
@@ -248,7 +248,7 @@ module _ (slots id : ℕ) (me : SeatState) (live : HasPlace me.0.epoch) where
       wrote_long at y = length-set v.words (behind v.sizes slot) y ∙ (h.kinds.each id v at).long
 
       -- no place ends by a step on a slot
-      pub over_slot : (y : ℕ) → ended_places s.words n ≤ ended_places (set s.words i y) n
+      pub over_slot : (y : ℕ) → ended_places sizes s.words n ≤ ended_places sizes (set s.words i y) n
       over_slot y = ended_spared sizes s.words i y (λ p low e was. absurd (omega arith)) n (omega arith)
 
       -- a load leaves the words
@@ -1203,8 +1203,8 @@ module _ (slots id : ℕ) (me : SeatState) (live : HasPlace me.0.epoch) where
 
   -- look at the next place for a guard
   pub looks_for_guard : (place : ℕ) → place < n → place ≡ v.slots.looked
-      → May (state_word place) (λ x. x) (λ r me'. (me'.1 ≡ me.1) × LooksForGuard (state_word place) v r me'.0)
-  looks_for_guard place low next = let j : ℕ = state_word place in
+      → May (state_word sizes place) (λ x. x) (λ r me'. (me'.1 ≡ me.1) × LooksForGuard (state_word sizes place) v r me'.0)
+  looks_for_guard place low next = let j : ℕ = state_word sizes place in
       lift_calm γ sizes slots id me j (λ x. x) (LooksForGuard j v) (λ r me'. (me'.1 ≡ me.1) × LooksForGuard j v r me'.0)
       (keeps_ended γ sizes slots id me j (λ x. x) (LooksForGuard j v) (λ r w t. let c = t place refl in dite (ℕ_discrete r 2)
       (λ e. ap (λ (u : View). u.places) (c.1 e)) (λ ne. ap (λ (u : View). u.places) (c.0 ne))) (λ s h at p low e was. omega arith) (inl live))
@@ -1214,7 +1214,7 @@ module _ (slots id : ℕ) (me : SeatState) (live : HasPlace me.0.epoch) where
       let same = λ (k : ℕ) (_ : k < sizes.slots). ap (λ (l : List ℕ). full_at sizes l k) (set-get_or s.words j 0) in
       let calm = λ (w : View). IsCalm γ sizes slots id me j (λ x. x) s x w in
       let kinds = λ (w : View). kind_steps.calm sizes s.words s.views h.kinds h.records.each id v at (set s.words j x) w
-      (words_below sizes s.words j x (omega arith)) in
+      (words_beside sizes s.words j x (inr (omega arith), omega arith)) in
       dite (ℕ_discrete x 2)
       (λ e. subst calm (sym (c.1 e)) record {
         more = λ k p out. out;
@@ -1242,8 +1242,8 @@ module _ (slots id : ℕ) (me : SeatState) (live : HasPlace me.0.epoch) where
 
   -- the last guard is closed, whose stakes go home
   pub closes : IsOpen v.epoch → ¬ (Scans v.epoch) → v.epoch.place < n → v.stakes.moves ≡ None → CarriesSeen γ n v.epoch.place v.stakes.sees me.1
-      → May (state_word v.epoch.place) (λ _. 1) (λ _. ClosesHome me 1)
-  closes is_open free near rests purse = let j : ℕ = state_word v.epoch.place in let q : ℕ = v.epoch.place in let le : q ≤ n = omega arith in
+      → May (state_word sizes v.epoch.place) (λ _. 1) (λ _. ClosesHome me 1)
+  closes is_open free near rests purse = let j : ℕ = state_word sizes v.epoch.place in let q : ℕ = v.epoch.place in let le : q ≤ n = omega arith in
       lift_homes γ sizes slots id me j (λ _. 1) (λ _. ClosesAll v 1) (λ _. ClosesHome me 1)
       (keeps_ended γ sizes slots id me j (λ _. 1) (λ _. ClosesAll v 1) (λ r w t. ap (λ (u : View). u.places) t) (own_place γ sizes id v live 1) (inl live))
       (over.closes sizes id v is_open free near)
@@ -1295,9 +1295,9 @@ module _ (slots id : ℕ) (me : SeatState) (live : HasPlace me.0.epoch) where
             let known : IsKnown s.views k d.1 = subst (λ (l : ℕ). IsKnown s.views l d.1) (sym slot) (mine d.0 d.1 (inr (inl d.2))) in
             inr ((λ e. absurd (omega arith)), λ z last. d.4.1.1 ∙ sym (r.home k n d.1 z low' (omega arith) known last)))
             (λ (d : LiesAt n s.homes k p y). inl d) (g.home (stake_at n k p) y lies))
-            (λ b. (b, refl)) refl (λ _ _. inl live) (stored_before sizes s.words j 1 (omega arith));
+            (λ b. (b, refl)) refl (λ _ _. inl live) (stored_beside sizes s.words j 1 (inr (omega arith), omega arith));
         kinds = kind_steps.same sizes s.words s.views h.kinds h.records.each id v at (unsighted now) refl refl refl refl refl refl (set s.words j 1)
-            (words_below sizes s.words j 1 (omega arith)) (post s h at (unsighted now) refl refl refl refl (λ _. omega arith));
+            (words_beside sizes s.words j 1 (inr (omega arith), omega arith)) (post s h at (unsighted now) refl refl refl refl (λ _. omega arith));
         tells = (now, refl, refl, g.carried);
       })
 
@@ -1305,7 +1305,7 @@ module _ (slots id : ℕ) (me : SeatState) (live : HasPlace me.0.epoch) where
 module _ (γ : ℕ) (sizes : Sizes) (slots id : ℕ) (me : SeatState) (p state : ℕ) (inside : p < sizes.participants) (next : p ≡ me.0.places.ended)
     (nobodys : IsNobodys state) where
   abbrev spot : ℕ
-  spot = state_word p
+  spot = state_word sizes p
 
   abbrev bar_it : ℕ → ℕ
   bar_it x = either (eqb x state) 4 x
@@ -1334,7 +1334,7 @@ module _ (γ : ℕ) (sizes : Sizes) (slots id : ℕ) (me : SeatState) (p state :
 
     now_over : IsBarred left → AreBarred sizes (set s.words spot left) (past p me.0)
     now_over over q low l = dite (ℕ_discrete q p)
-        (λ e. let there = ap (λ (k : ℕ). get_or (set s.words spot left) (state_word k) 0) e
+        (λ e. let there = ap (λ (k : ℕ). get_or (set s.words spot left) (state_word sizes k) 0) e
         ∙ get_or-set_same s.words spot left 0 (let wide = h.kept.parts.epoch.wide in omega arith) in omega arith)
         (λ ne. still_over q low (omega arith))
 
@@ -1353,7 +1353,7 @@ module _ (γ : ℕ) (sizes : Sizes) (slots id : ℕ) (me : SeatState) (p state :
         let calm = IsCalm γ sizes slots id me spot bar_it s left in
         let mover = h.homes.moving id me.0 at in
         let kinds = λ (u : View). kind_steps.calm sizes s.words s.views h.kinds h.records.each id me.0 at (set s.words spot left) u
-        (words_below sizes s.words spot left (omega arith)) in
+        (words_beside sizes s.words spot left (inr (omega arith), omega arith)) in
         ⊎_elim (λ (e : w ≡ past p me.0). subst calm (sym e) record {
           more = λ j q out. out;
           same = same;
@@ -1362,7 +1362,7 @@ module _ (γ : ℕ) (sizes : Sizes) (slots id : ℕ) (me : SeatState) (p state :
           counts = refl;
           lives = λ l. l;
           had = λ _ l. inl l;
-          stored = stored_before sizes s.words spot left (omega arith);
+          stored = stored_beside sizes s.words spot left (inr (omega arith), omega arith);
           kinds = kinds (past p me.0) (refl, refl, refl, (λ _. refl), refl) refl refl (λ _ o. o)
               (same_post me.0 (past p me.0) refl refl refl refl (λ l. l) refl refl);
         })
@@ -1374,16 +1374,16 @@ module _ (γ : ℕ) (sizes : Sizes) (slots id : ℕ) (me : SeatState) (p state :
           counts = refl;
           lives = λ l. l;
           had = λ _ l. inl l;
-          stored = stored_before sizes s.words spot left (omega arith);
+          stored = stored_beside sizes s.words spot left (inr (omega arith), omega arith);
           kinds = kinds me.0 (refl, refl, refl, (λ _. refl), refl) refl refl (λ _ o. o) (same_post me.0 me.0 refl refl refl refl (λ l. l) refl refl);
         }) which
 
-  which_of : (r : ℕ) (w : View) → Bars state spot me.0 r w → ((r ≡ state) ⊎ IsBarred r) × (w ≡ past p me.0) ⊎ (w ≡ me.0)
+  which_of : (r : ℕ) (w : View) → Bars sizes state spot me.0 r w → ((r ≡ state) ⊎ IsBarred r) × (w ≡ past p me.0) ⊎ (w ≡ me.0)
   which_of r w t = let c = t p refl in dite (ℕ_discrete r state) (λ e. inl (inl e, c.0 (inl e)))
       (λ ne. dite (dec_lt 3 r) (λ b. inl (inr (omega arith), c.0 (inr (omega arith)))) (λ no. inr (c.1 ne (λ b. no (omega arith)))))
 
-  pub bars : Allows (DomainInvariant γ sizes) slots id me spot bar_it (λ r me'. (me'.1 ≡ me.1) × Bars state spot me.0 r me'.0)
-  bars = lift_calm γ sizes slots id me spot bar_it (Bars state spot me.0) (λ r me'. (me'.1 ≡ me.1) × Bars state spot me.0 r me'.0)
+  pub bars : Allows (DomainInvariant γ sizes) slots id me spot bar_it (λ r me'. (me'.1 ≡ me.1) × Bars sizes state spot me.0 r me'.0)
+  bars = lift_calm γ sizes slots id me spot bar_it (Bars sizes state spot me.0) (λ r me'. (me'.1 ≡ me.1) × Bars sizes state spot me.0 r me'.0)
       (λ s w h at t. let x : ℕ = get_or s.words spot 0 in let y : ℕ = bar_it x in (
         left_over s h at,
         ⊎_elim (λ (c : ((x ≡ state) ⊎ IsBarred x) × (w ≡ past p me.0)). subst (AreBarred sizes (set s.words spot y)) (sym c.1)

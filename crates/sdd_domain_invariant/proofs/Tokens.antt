@@ -157,7 +157,7 @@ module _ (γ : ℕ) (sizes : Sizes) where
         backed = λ i v q e m. absurd (no_pledge (founder sizes γ) q refl (ap (λ (u : View). u.pledges.own) (only i v e) ∙ m));
       };
       cells = record {
-        inside = λ i c. absurd (let e = ap (names i) (none (Rattle.sdd_word_invariant.specs.Words.cell_word sizes c.0)) ∙ sound.null i in let n = c.2 in
+        inside = λ i c. absurd (let e = ap (names i) (none (Rattle.sdd_word_invariant.specs.Words.cell_word c.0)) ∙ sound.null i in let n = c.2 in
             omega arith);
         single = λ d. omega arith;
         taken = λ j v r e has. absurd (no_right v (ap (λ (u : View). u.cells.rights) (sym (only j v e))) r has);
@@ -447,7 +447,7 @@ module _ (γ : ℕ) (sizes : Sizes) where
   -- a token counts no more places than there are
   pub few_over : (s : State ValueFraction View) → DomainInvariant γ sizes s → (id : ℕ) (v : View) → get_elem? s.views id ≡ some v → over_by v ≤
       sizes.participants
-  few_over s h id v at = let a = total_has over_by s.views id v at in let b = h.counts.places in let c = ended_few s.words sizes.participants in omega arith
+  few_over s h id v at = let a = total_has over_by s.views id v at in let b = h.counts.places in let c = ended_few sizes s.words sizes.participants in omega arith
 
   -- all stakes in a slot that is free are at home, and show that it is vacant
   pub free_at_home : (s : State ValueFraction View) → DomainInvariant γ sizes s → (i p : ℕ) → i < sizes.slots → p ≤ sizes.participants
@@ -484,7 +484,7 @@ module _ (γ : ℕ) (sizes : Sizes) where
   pub all_counted : (s : State ValueFraction View) → DomainInvariant γ sizes s → (id : ℕ) (v : View) → get_elem? s.views id ≡ some v → sizes.participants ≤
       v.places.ended
       → over_by v ≡ sizes.participants → made_by v ≡ gone_by v + full_slots sizes s.words
-  all_counted s h id v at all over = let c = h.counts in let few = ended_few s.words sizes.participants in let places = c.places in
+  all_counted s h id v at all over = let c = h.counts in let few = ended_few sizes s.words sizes.participants in let places = c.places in
       let none : (j : ℕ) (u : View) → j ≢ id → get_elem? s.views j ≡ some u → HasNoCounts u
       = λ j u ne e. let two = total_two over_by s.views id j v u (λ d. ne (sym d)) at e in
       c.each j u e (dite (dec_lt 0 u.epoch.state) (λ live. absurd (no_place s h id v at all j u e live)) (λ z. omega arith)) (omega arith) in

@@ -131,7 +131,7 @@ module _ (slots id : ℕ) (me : SeatState) (live : HasPlace me.0.epoch) (rests :
         ap (λ (m : ℕ). newest m u.stakes.filled) (sym b.1.3) ∙ (h.filled.knows one j a.0 u w r e placed a.2 (inl has)
         ∙ (λ d. Some (record { slot = b.1.3 d; shared = flag d; value = is d }))))
         (λ no. let sum = h.kept.parts.slots.owned slot in let o = owned in
-        let c = span_some (names slot) s.words (first_cell sizes) sizes.cells (omega arith) in
+        let c = span_some (names slot) s.words first_cell sizes.cells (omega arith) in
         h.lasts.stored one j u e placed slot true last inside (inr (c, counts)) lies)
 
     comes : Follows γ sizes id i me (OfSlot (AddsSeen word) i me) s y (one_more slot y None v)

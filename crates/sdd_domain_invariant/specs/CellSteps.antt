@@ -123,7 +123,7 @@ FindsCell cell me me' = (me' ≡ me) × (cell < me.0.sizes.cells)
 
 -- a step on the word i tells R of the cell whose word it is
 abbrev pub OfCell : (ℕ → SeatState → ℕ → SeatState → Type 0) → ℕ → SeatState → ℕ → SeatState → Type 0
-OfCell R i me x me' = (cell : ℕ) → i ≡ cell_word me.0.sizes cell → R cell me x me'
+OfCell R i me x me' = (cell : ℕ) → i ≡ cell_word cell → R cell me x me'
 
 -- a step on the word of a cell's pointer, which takes no fractions and gives none, tells R, and finds such a word
 abbrev pub FindsPointer : (ℕ → View → ℕ → View → Type 0) → ℕ → SeatState → ℕ → SeatState → Type 0

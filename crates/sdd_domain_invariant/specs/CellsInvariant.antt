@@ -14,7 +14,7 @@ use Rattle.sdd_word_invariant.specs.Slots.{slot_at}
 use Rattle.sdd_word_invariant.specs.Sums.{total, is}
 
 abbrev pub cell_at : Sizes → List ℕ → ℕ → ℕ
-cell_at sizes ws d = slice_index ws (cell_word sizes d)
+cell_at sizes ws d = slice_index ws (cell_word d)
 
 -- the word of a cell's pointer comes behind all cells'
 abbrev pub pointer_at : Sizes → List ℕ → ℕ → ℕ

@@ -24,9 +24,9 @@ abbrev pub over : ℕ → ℕ
 over state = either (leb 3 state) 1 0
 
 -- how many of the first places have ended, or are barred
-abbrev pub ended_places : List ℕ → ℕ → ℕ
-ended_places ws zero = 0
-ended_places ws (suc p) = over (slice_index ws (state_word p)) + ended_places ws p
+abbrev pub ended_places : Sizes → List ℕ → ℕ → ℕ
+ended_places sizes ws zero = 0
+ended_places sizes ws (suc p) = over (slice_index ws (state_word sizes p)) + ended_places sizes ws p
 
 -- how many slots have a value
 abbrev pub full_slots : Sizes → List ℕ → ℕ
@@ -43,5 +43,5 @@ CountsByPlace v = v.epoch.state ≡ 0 → over_by v ≡ 0 → HasNoCounts v
 -- the words, and what all participants know: what was made has gone again or lies in a slot, and each place that has ended is counted once at most
 pub record CountsInvariant (sizes : Sizes) (ws : List ℕ) (vs : List View) : Type 0 where
   pub items : total made_by vs ≡ total gone_by vs + full_slots sizes ws
-  pub places : total over_by vs ≤ ended_places ws sizes.participants
+  pub places : total over_by vs ≤ ended_places sizes ws sizes.participants
   pub each : (j : ℕ) (v : View) → get_elem? vs j ≡ some v → CountsByPlace v

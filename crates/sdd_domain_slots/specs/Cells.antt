@@ -30,7 +30,7 @@ use Rattle.sdd_domain_slots.specs.declared.cell_values.LooseOwner.{LooseOwner}
 use Rattle.sdd_word_invariant.specs.Epoch.{IsLone}
 use Rattle.sdd_word_invariant.specs.CellSteps.{cell_noted, pointer_behind}
 use Rattle.sdd_domain_invariant.specs.CellSteps.{put_in}
-use Rattle.sdd_domain_slots.specs.Claims.{IsUnmoved}
+use Rattle.sdd_domain_slots.specs.Claims.{IsBefore, IsUnmoved}
 use Rattle.sdd_domain_slots.specs.LocalState.{LocalState, AddsAt, IsLone as IsAlone, IsUsedUp, KnowsOwner, LooksAt, MakesAt, cell_word_of, pointer_word_of, word_of}
 use Rattle.sdd_space.specs.OwnerOrCell.{OwnerOrCell, AreOf}
 use Rattle.sdd_space.specs.Ptr.{shown_by, slot_named}
@@ -187,6 +187,14 @@ pub record Writes (cell found word : ℕ) (s s' : Seat ValueFraction View) : Typ
 pub record MissesCells (P : ℕ → Type 0) (s s' : Seat ValueFraction View) : Type 0 where
   pub same : IsUnmoved s s'
   pub taken : IsLone s.me.0.epoch → (cell : ℕ) → P cell → 0 < slice_index s.me.0.words cell
+
+-- a lone participant knows each of these cells to be taken
+abbrev pub AreCellsTaken : (ℕ → Type 0) → Seat ValueFraction View → Type 0
+AreCellsTaken P s = IsLone s.me.0.epoch → (cell : ℕ) → P cell → 0 < slice_index s.me.0.words cell
+
+-- of so many cells it knows those to be taken that come before this one in a walk once round that begins there
+abbrev pub CellComesFirst : ℕ → ℕ → ℕ → Seat ValueFraction View → Type 0
+CellComesFirst cells next cell = AreCellsTaken (λ k. (k < cells) × IsBefore next cell k)
 
 -- a cell that was free has this word, and the owner that the participant had is in it, if it had one
 pub record Claims (word cell : ℕ) (s s' : Seat ValueFraction View) : Type 0 where

@@ -1,5 +1,5 @@
 -- What a try at a slot makes of what is known
-use Rattle.std.specs.Prelude.{◌≡◌, ℕ, ◌<◌, slice_index}
+use Rattle.std.specs.Prelude.{◌≡◌, ◌⊎◌, ℕ, ◌<◌, ◌≤◌, slice_index}
 use Rattle.atomic_table.specs.declared.shared.Seat.{Seat}
 use Rattle.sdd_shared_values.specs.SharedValues.{IsNoValueCode}
 use Rattle.sdd_shared_values.specs.declared.value_fraction.ValueFraction.{ValueFraction}
@@ -10,6 +10,10 @@ use Rattle.sdd_word_invariant.specs.SlotSteps.{behind, DefersAt}
 use Rattle.sdd_domain_invariant.specs.FractionsAtHome.{CarriedFractions}
 use Rattle.sdd_domain_invariant.specs.KindsInvariant.{written}
 use Rattle.sdd_domain_invariant.specs.FractionSteps.{SeatState, CarriesAll, book_of, places_of, making}
+
+-- in a walk once round that begins at a number, k comes before that one
+abbrev pub IsBefore : ℕ → ℕ → ℕ → Type 0
+IsBefore next that k = ((next ≤ that) × (next ≤ k) × (k < that)) ⊎ ((that < next) × ((next ≤ k) ⊎ (k < that)))
 
 module _ {S : Type 0} where
   -- nothing has changed
@@ -23,10 +27,18 @@ module _ {S : Type 0} where
   abbrev pub IsKnownFree : Seat S View → ℕ → Type 0
   IsKnownFree s slot = slice_index s.me.0.words (behind s.me.0.sizes slot) ≡ free_word 0
 
+  -- a lone participant knows each of these slots to be taken
+  abbrev pub AreTaken : (ℕ → Type 0) → Seat S View → Type 0
+  AreTaken P s = IsLone s.me.0.epoch → (slot : ℕ) → P slot → ¬ (IsKnownFree s slot)
+
+  -- of the slots from one up to another one it knows those to be taken that come before that one in a walk once round that begins at next
+  abbrev pub ComesFirst : ℕ → ℕ → ℕ → ℕ → Seat S View → Type 0
+  ComesFirst from to next that = AreTaken (λ k. (from ≤ k) × (k < to) × IsBefore next that k)
+
   -- none of these slots was found free; a lone participant knows each of them to be taken
   pub record Misses (P : ℕ → Type 0) (s s' : Seat S View) : Type 0 where
     pub same : IsUnmoved s s'
-    pub taken : IsLone s.me.0.epoch → (slot : ℕ) → P slot → ¬ (IsKnownFree s slot)
+    pub taken : AreTaken P s
 
   -- too many exchanges were lost, to others
   pub record Loses (s s' : Seat S View) : Type 0 where

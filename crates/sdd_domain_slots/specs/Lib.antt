@@ -4,6 +4,7 @@ pub mod SeenSlots
 pub mod WaitingItems
 pub mod InBags
 pub mod Claims
+pub mod Sightings
 pub mod Scan
 pub mod LocalState
 pub mod SpaceIds

@@ -108,6 +108,7 @@ pub record GoesOn {J : Type 0} (count : ℕ) (goes_on : Bool) (old entered new :
   pub change : goes_on ≡ true → (old.own.found ≢ count) × (new ≡ entered)
   pub over : goes_on ≡ false → ((old.own.found ≡ count) × (new ≡ entered))
       ⊎ ((old.own.found ≢ count) × (entered.due ≡ []) × (new ≡ record entered { own = settled entered.own }))
+  pub idle : goes_on ≡ false → old.own.found ≢ count → old.own.bags.waiting ≡ []
 
 -- the item of the slot was due before all others, and its value, which shows this, was moved out; the slot is free. A lone participant moved that
 -- value in

@@ -3,10 +3,11 @@ ghost use Rattle.std.specs.Prelude.{◌≡◌, ◌≤◌, ℕ, [], true, false};
 ghost use Rattle.sdd_participants.specs.EpochState.{nested};
 ghost use Rattle.sdd_participants.specs.EpochState as time;
 ghost use Rattle.sdd_domain_slots.specs.WaitingItems.{due_at, Arrives, HasArrived};
+ghost use Rattle.sdd_atomics.specs.DomainTable.{sizes_of};
+ghost use Rattle.sdd_word_invariant.specs.Words as words;
 ghost use Rattle.sdd_domain_slots.specs.BetweenCalls.{IsBetweenCalls};
 
 use crate::due_items::DueItems;
-use sdd_atomics::words::OwnPlace;
 use sdd_atomics::{DomainSeat, DomainTable, steps};
 use sdd_participants::{NO_GARBAGE, Participant};
 
@@ -35,11 +36,13 @@ fn change(own: &mut Participant, due: &mut DueItems, count: u64) -> bool
 pub fn arrive(
     board: &DomainTable,
     token: &mut DomainSeat,
-    place: OwnPlace,
+    place: usize,
+    state: usize,
     own: &mut Participant,
     due: &mut DueItems,
 ) -> bool
     requires posed { IsBetweenCalls board.now place own.old token.old }
+    requires state { state ≡ words.state_word (sizes_of board.now) place }
     requires closed { own.old.guards ≡ 0 }
     requires none { due.old.items ≡ [] }
     requires room { own.old.bags.room ≤ due.old.room }
@@ -50,10 +53,10 @@ pub fn arrive(
 {
     let count = steps::read(board, token);
     if count == own.found {
-        steps::publish(board, token, place);
+        steps::publish(board, token, state);
         return false;
     }
-    steps::write(board, token, place, count);
-    steps::publish(board, token, place);
+    steps::write(board, token, state, count);
+    steps::publish(board, token, state);
     change(own, due, count)
 }

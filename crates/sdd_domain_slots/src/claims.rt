@@ -1,12 +1,15 @@
 //! The search for a free slot.
-ghost use Rattle.std.specs.Prelude.{◌≡◌, ◌⊎◌, ◌<◌, ◌≤◌, ℕ, true, false, None, IfOk, IsTrue, MatchBool, MatchOption, MatchResult};
+ghost use Rattle.std.specs.Prelude.{◌≡◌, ◌⊎◌, ◌+◌, ◌<◌, ◌≤◌, ℕ, List, [], ◌∷◌, ◌++◌, None, Ok, IfErr, IfOk, IfSome, IsTrue, MatchBool, MatchOption, MatchResult, length};
 ghost use Rattle.sdd_word_invariant.specs.Codes.{alive};
 ghost use Rattle.sdd_word_invariant.specs.Epoch.{HasPlace, IsLone};
 ghost use Rattle.sdd_atomics.specs.DomainTable.{id_of, slots_of};
 ghost use Rattle.sdd_atomics.specs.DomainSeat.{view, epoch, Knows};
-ghost use Rattle.sdd_domain_slots.specs.Claims.{IsKnownFree, IsUnmoved, Gains, Misses, Loses};
+ghost use Rattle.sdd_domain_slots.specs.Claims.{AreTaken, ComesFirst, IsKnownFree, IsUnmoved, Gains, Misses, Loses};
+ghost use Rattle.sdd_domain_slots.specs.Sightings.{AreSeenTaken, Explains, IsOver, SearchesOn};
 
 use crate::free_slot_hints::FreeSlotHints;
+use crate::search::Search;
+use crate::sightings::Sightings;
 use sdd_atomics::steps::slots::{FREE, claim, look};
 use sdd_atomics::{DomainSeat, DomainTable};
 use sdd_core::{Limits, Refused};
@@ -25,46 +28,13 @@ fn claim_at_once(board: &DomainTable, token: &mut DomainSeat, slot: u32, word: u
     claim(board, token, slot, word) == FREE
 }
 
-/// One try at a slot, which is claimed by this word, of one owner, if it is found free. So many exchanges more may be lost.
-fn attempt(
-    board: &DomainTable,
-    token: &mut DomainSeat,
-    slot: u32,
-    word: u64,
-    left: &mut u64,
-) -> Result<bool, Refused>
-    requires home { token.old.table_id ≡ id_of board.now }
-    requires knows { Knows board.now token.old }
-    requires rests { (view token.old).stakes.moves ≡ None }
-    requires inside { slot < slots_of board.now }
-    requires place { HasPlace (epoch token.old) }
-    requires one { alive word ≡ 1 }
-    requires left { 0 < left.old }
-    ensures tried { MatchResult result
-        (λ won. (won ≡ true → Gains word slot token.old token.new) × (won ≡ false → Misses (λ k. k ≡ slot) token.old token.new))
-        (λ e. (e ≡ Refused.Contended) × Loses token.old token.new) }
-    ensures left { IfOk result (λ _. 0 < left.new) }
-{
-    if look(board, token, slot) != FREE {
-        return Ok(false);
-    }
-    if claim(board, token, slot, word) == FREE {
-        return Ok(true);
-    }
-    *left -= 1;
-    if *left == 0 {
-        return Err(Refused::Contended);
-    }
-    Ok(false)
-}
-
 /// Tries the slots that were given back.
 fn try_known(
     board: &DomainTable,
     token: &mut DomainSeat,
     known: &mut FreeSlotHints,
     word: u64,
-    left: &mut u64,
+    search: &mut Search,
 ) -> Result<Option<u32>, Refused>
     requires home { token.old.table_id ≡ id_of board.now }
     requires knows { Knows board.now token.old }
@@ -72,18 +42,22 @@ fn try_known(
     requires slots { known.old.slots ≡ slots_of board.now }
     requires place { HasPlace (epoch token.old) }
     requires one { alive word ≡ 1 }
-    requires left { 0 < left.old }
+    requires left { 0 < search.old.left }
+    requires numbers { slots_of board.now ≤ length search.old.seen.taken }
     ensures tried { MatchResult result
         (λ found. MatchOption found (IsUnmoved token.old token.new) (λ slot. Gains word slot token.old token.new))
         (λ e. (e ≡ Refused.Contended) × Loses token.old token.new) }
+    ensures none { known.old.given_back.items ≡ [] → IfOk result (λ found. found ≡ None) }
+    ensures next { known.new.next ≡ known.old.next }
     ensures slots { known.new.slots ≡ known.old.slots }
-    ensures left { IfOk result (λ _. 0 < left.new) }
+    ensures on { SearchesOn search.old search.new }
+    ensures seen { MatchResult result (λ _. 0 < search.new.left) (λ _. IsOver search.new) }
 {
     for _ in 0..known.len() {
         let Some(slot) = known.pop() else {
             return Ok(None);
         };
-        if attempt(board, token, slot, word, left)? {
+        if search.slot(board, token, slot, word)? {
             return Ok(Some(slot));
         }
     }
@@ -97,7 +71,7 @@ fn walk(
     from: u32,
     to: u32,
     word: u64,
-    left: &mut u64,
+    search: &mut Search,
 ) -> Result<Option<u32>, Refused>
     requires home { token.old.table_id ≡ id_of board.now }
     requires knows { Knows board.now token.old }
@@ -105,23 +79,69 @@ fn walk(
     requires inside { to ≤ slots_of board.now }
     requires place { HasPlace (epoch token.old) }
     requires one { alive word ≡ 1 }
-    requires left { 0 < left.old }
+    requires left { 0 < search.old.left }
+    requires numbers { to ≤ length search.old.seen.taken }
     ensures tried { MatchResult result
         (λ found. MatchOption found
         (Misses (λ k. (from ≤ k) × (k < to)) token.old token.new)
         (λ slot. Gains word slot token.old token.new))
         (λ e. (e ≡ Refused.Contended) × Loses token.old token.new) }
-    ensures left { IfOk result (λ _. 0 < left.new) }
+    ensures first { IfOk result (λ found. IfSome found (λ slot. (from ≤ slot) × (slot < to) × AreTaken (λ k. (from ≤ k) × (k < slot)) token.old)) }
+    ensures on { SearchesOn search.old search.new }
+    ensures seen { MatchResult result
+        (λ found. (0 < search.new.left) × (found ≡ None → AreSeenTaken from to search.new.seen))
+        (λ _. IsOver search.new) }
 {
     for slot in from..to {
-        if attempt(board, token, slot, word, left)? {
+        if search.slot(board, token, slot, word)? {
             return Ok(Some(slot));
         }
     }
     Ok(None)
 }
 
-/// Tries the slots that were given back, and then all slots in a walk, once round. As many exchanges may be lost as the limits allow.
+/// Tries the slots that were given back, and then all slots in a walk, once round.
+fn try_all(
+    board: &DomainTable,
+    token: &mut DomainSeat,
+    known: &mut FreeSlotHints,
+    slots: u32,
+    word: u64,
+    search: &mut Search,
+) -> Result<u32, Refused>
+    requires home { token.old.table_id ≡ id_of board.now }
+    requires knows { Knows board.now token.old }
+    requires rests { (view token.old).stakes.moves ≡ None }
+    requires slots { (known.old.slots ≡ slots_of board.now) × (slots ≡ slots_of board.now) }
+    requires place { HasPlace (epoch token.old) }
+    requires one { alive word ≡ 1 }
+    requires left { 0 < search.old.left }
+    requires numbers { slots ≤ length search.old.seen.taken }
+    ensures tried { MatchResult result
+        (λ slot. Gains word slot token.old token.new)
+        (λ e. ((e ≡ Refused.NoSlot) × Misses (λ k. k < slots_of board.now) token.old token.new)
+        ⊎ ((e ≡ Refused.Contended) × Loses token.old token.new)) }
+    ensures seen { IfErr result (λ e. Explains Refused.NoSlot 0 (slots_of board.now) (length search.old.seen.lost) e search.new.seen) }
+    ensures first { known.old.given_back.items ≡ [] → IfOk result (λ slot. (known.new.next ≡ slot + 1)
+        × ComesFirst 0 (slots_of board.now) known.old.next slot token.old) }
+    ensures slots { known.new.slots ≡ known.old.slots }
+{
+    if let Some(slot) = try_known(board, token, known, word, search)? {
+        return Ok(slot);
+    }
+    let next = known.next();
+    if let Some(slot) = walk(board, token, next, slots, word, search)? {
+        known.find(slot);
+        return Ok(slot);
+    }
+    if let Some(slot) = walk(board, token, 0, next, word, search)? {
+        known.find(slot);
+        return Ok(slot);
+    }
+    Err(Refused::NoSlot)
+}
+
+/// The same search, which may lose as many exchanges as the limits allow, and tells with a refusal what it saw.
 #[cold]
 #[inline(never)]
 fn search(
@@ -130,7 +150,7 @@ fn search(
     known: &mut FreeSlotHints,
     limits: &Limits,
     word: u64,
-) -> Result<u32, Refused>
+) -> Result<u32, (Refused, Sightings)>
     requires home { token.old.table_id ≡ id_of board.now }
     requires knows { Knows board.now token.old }
     requires rests { (view token.old).stakes.moves ≡ None }
@@ -140,24 +160,19 @@ fn search(
     requires tries { 0 < limits.now.tries }
     ensures tried { MatchResult result
         (λ slot. Gains word slot token.old token.new)
-        (λ e. ((e ≡ Refused.NoSlot) × Misses (λ k. k < slots_of board.now) token.old token.new)
-        ⊎ ((e ≡ Refused.Contended) × Loses token.old token.new)) }
+        (λ e. ((e.0 ≡ Refused.NoSlot) × Misses (λ k. k < slots_of board.now) token.old token.new)
+        ⊎ ((e.0 ≡ Refused.Contended) × Loses token.old token.new)) }
+    ensures seen { IfErr result (λ e. Explains Refused.NoSlot 0 (slots_of board.now) limits.now.tries e.0 e.1) }
+    ensures first { known.old.given_back.items ≡ [] → IfOk result (λ slot. (known.new.next ≡ slot + 1)
+        × ComesFirst 0 (slots_of board.now) known.old.next slot token.old) }
     ensures slots { known.new.slots ≡ known.old.slots }
 {
-    let mut left = limits.tries;
-    if let Some(slot) = try_known(board, token, known, word, &mut left)? {
-        return Ok(slot);
+    let slots = limits.slots as u32;
+    let mut search = Search::new(slots, limits.tries);
+    match try_all(board, token, known, slots, word, &mut search) {
+        Ok(slot) => Ok(slot),
+        Err(refused) => Err((refused, search.into_seen())),
     }
-    let next = known.next();
-    if let Some(slot) = walk(board, token, next, limits.slots as u32, word, &mut left)? {
-        known.find(slot);
-        return Ok(slot);
-    }
-    if let Some(slot) = walk(board, token, 0, next, word, &mut left)? {
-        known.find(slot);
-        return Ok(slot);
-    }
-    Err(Refused::NoSlot)
 }
 
 /// A slot is found free by a walk over all of them, which claims none.
@@ -167,6 +182,7 @@ pub fn finds_free(board: &DomainTable, token: &mut DomainSeat, slots: u32) -> bo
     requires slots { slots ≡ slots_of board.now }
     requires place { HasPlace (epoch token.old) }
     ensures same { IsUnmoved token.old token.new }
+    ensures some { IsTrue result → 0 < slots }
     ensures found { IsTrue result → IsLone (epoch token.old) → (slot : ℕ) × (slot < slots_of board.now) × IsKnownFree token.old slot }
     ensures missed { ¬ (IsTrue result) → Misses (λ k. k < slots_of board.now) token.old token.new }
 {
@@ -181,8 +197,8 @@ pub fn finds_free(board: &DomainTable, token: &mut DomainSeat, slots: u32) -> bo
 /// Claims a free slot by this word, of one owner: one that was given back, or else the first one of a walk over all slots, once round.
 /// All stakes in it are out then.
 ///
-/// `NoSlot` where none was found free; `Contended` where as many exchanges were lost as the limits allow. An exchange at once at the slot that was given back
-/// last isn't counted: others may have that slot for long.
+/// `NoSlot` where none was found free; `Contended` where as many exchanges were lost as the limits allow: what was seen of that is told for clauses. An
+/// exchange at once at the slot that was given back last isn't counted: others may have that slot for long.
 #[inline(always)]
 pub fn claim_free(
     board: &DomainTable,
@@ -190,7 +206,7 @@ pub fn claim_free(
     known: &mut FreeSlotHints,
     limits: &Limits,
     word: u64,
-) -> Result<u32, Refused>
+) -> Result<u32, (Refused, Sightings)>
     requires home { token.old.table_id ≡ id_of board.now }
     requires knows { Knows board.now token.old }
     requires rests { (view token.old).stakes.moves ≡ None }
@@ -200,8 +216,13 @@ pub fn claim_free(
     requires tries { 0 < limits.now.tries }
     ensures tried { MatchResult result
         (λ slot. Gains word slot token.old token.new)
-        (λ e. ((e ≡ Refused.NoSlot) × Misses (λ k. k < slots_of board.now) token.old token.new)
-        ⊎ ((e ≡ Refused.Contended) × Loses token.old token.new)) }
+        (λ e. ((e.0 ≡ Refused.NoSlot) × Misses (λ k. k < slots_of board.now) token.old token.new)
+        ⊎ ((e.0 ≡ Refused.Contended) × Loses token.old token.new)) }
+    ensures seen { IfErr result (λ e. Explains Refused.NoSlot 0 (slots_of board.now) limits.now.tries e.0 e.1) }
+    ensures last { IsLone (epoch token.old) → (rest : List ℕ) (slot : ℕ) → known.old.given_back.items ≡ rest ++ slot ∷ [] → IsKnownFree token.old slot
+        → (result ≡ Ok slot) × (known.new.given_back.items ≡ rest) × (known.new.next ≡ known.old.next) }
+    ensures first { known.old.given_back.items ≡ [] → IfOk result (λ slot. (known.new.next ≡ slot + 1)
+        × ComesFirst 0 (slots_of board.now) known.old.next slot token.old) }
     ensures slots { known.new.slots ≡ known.old.slots }
 {
     if let Some(slot) = known.pop()

@@ -1,21 +1,17 @@
 //! The jobs that a participant deferred.
-ghost use Rattle.std.specs.Prelude.{◌≡◌, ℕ, ◌^◌, ◌<◌, ◌≤◌, IfOk, None, length, replicate, slice_index_or};
+ghost use Rattle.std.specs.Prelude.{◌≡◌, ℕ, ◌<◌, IfOk, None, length, replicate, slice_index_or};
 ghost use Rattle.sdd_participants.specs.Slab.{with_entry, without_entry};
 
 use sdd_participants::Job;
 use std::alloc::{AllocError, Global};
 use std::marker::Model;
 
-/// The jobs that wait with a participant, each by its place in the domain's table of jobs, and where it looks for a free place first.
+/// The jobs that wait with a participant, each by its place in the domain's table of jobs.
 ///
 /// It is spent by `destroy`, once no job waits any more; only where the jobs' type is `Drop` may it be let go of with what waits.
 #[derive(Drop)]
 pub struct DeferredJobs<J: Job> {
     jobs: Vec<Option<J>>,
-    /// Where the next walk over all places begins.
-    next: u32,
-    ghost inside: { next ≤ length jobs.items },
-    ghost few: { length jobs.items < 2 ^ 32 },
 }
 
 impl<J: Job> Model for DeferredJobs<J> {
@@ -44,26 +40,10 @@ impl<J: Job> DeferredJobs<J> {
     {
         Ok(DeferredJobs {
             jobs: no_jobs(alloc, places)?,
-            next: 0,
         })
     }
 
-    /// Where a walk over all places begins.
-    pub fn next(&self) -> u32
-        ensures { result ≤ length self.now }
-    {
-        self.next
-    }
-
-    /// The next walk begins at this place.
-    pub fn begin_at(&mut self, place: u32)
-        requires { place ≤ length self.old }
-        ensures { self.new ≡ self.old }
-    {
-        self.next = place;
-    }
-
-    /// A job waits in a place; the next walk begins behind it.
+    /// A job waits in a place.
     pub fn put(&mut self, place: u32, job: J)
         requires inside { place < length self.old }
         requires free { slice_index_or self.old place None ≡ None }
@@ -73,11 +53,9 @@ impl<J: Job> DeferredJobs<J> {
         if let Some(early) = self.jobs[place as usize].replace(job) {
             early.run();
         }
-        self.next = place + 1;
     }
 
-    /// Takes the job of a place out, which is free then. The next walk begins where it did: jobs run in the order in which they were deferred, so that the
-    /// place behind the last one is the one that was free for longest.
+    /// Takes the job of a place out, which is free then.
     pub fn take(&mut self, place: u32) -> Option<J>
         requires { place < length self.old }
         ensures job { result ≡ slice_index_or self.old place None }
@@ -90,7 +68,7 @@ impl<J: Job> DeferredJobs<J> {
     pub fn destroy(self)
         requires free { (place : ℕ) → slice_index_or self place None ≡ None }
     {
-        let DeferredJobs { mut jobs, next: _ } = self;
+        let DeferredJobs { mut jobs } = self;
         while let Some(job) = jobs.pop() {
             if let Some(_) = job {
                 unreachable!()

@@ -1,45 +1,17 @@
 //! The search for a free place of a job.
-ghost use Rattle.std.specs.Prelude.{◌≡◌, ◌⊎◌, ◌+◌, ◌^◌, ◌<◌, ◌≤◌, true, false, None, IfOk, MatchOption, MatchResult};
+ghost use Rattle.std.specs.Prelude.{◌≡◌, ◌⊎◌, ◌+◌, ◌^◌, ◌<◌, ◌≤◌, true, false, None, IfErr, IfOk, IfSome, MatchOption, MatchResult, length};
 ghost use Rattle.sdd_word_invariant.specs.Epoch.{HasPlace};
 ghost use Rattle.sdd_atomics.specs.DomainTable.{id_of, slots_of, most_waiting_of};
 ghost use Rattle.sdd_atomics.specs.DomainSeat.{view, epoch, Knows};
-ghost use Rattle.sdd_domain_slots.specs.Claims.{Defers, Misses, Loses};
+ghost use Rattle.sdd_domain_slots.specs.Claims.{AreTaken, ComesFirst, Defers, Misses, Loses};
+ghost use Rattle.sdd_domain_slots.specs.Sightings.{AreSeenTaken, Explains, IsOver, SearchesOn};
 
-use sdd_atomics::steps::jobs::{defer, look_at_place};
+use crate::search::Search;
+use crate::sightings::Sightings;
+use sdd_atomics::steps::jobs::defer;
 use sdd_atomics::steps::slots::FREE;
 use sdd_atomics::{DomainSeat, DomainTable};
 use sdd_core::{Limits, Refused};
-
-/// One try at a place, which is claimed for a job if it is found free. So many exchanges more may be lost.
-fn attempt(
-    board: &DomainTable,
-    token: &mut DomainSeat,
-    place: u32,
-    left: &mut u64,
-) -> Result<bool, Refused>
-    requires home { token.old.table_id ≡ id_of board.now }
-    requires knows { Knows board.now token.old }
-    requires rests { (view token.old).stakes.moves ≡ None }
-    requires inside { (slots_of board.now ≤ place) × (place < most_waiting_of board.now) }
-    requires place { HasPlace (epoch token.old) }
-    requires left { 0 < left.old }
-    ensures tried { MatchResult result
-        (λ won. (won ≡ true → Defers place token.old token.new) × (won ≡ false → Misses (λ k. k ≡ place) token.old token.new))
-        (λ e. (e ≡ Refused.Contended) × Loses token.old token.new) }
-    ensures left { IfOk result (λ _. 0 < left.new) }
-{
-    if look_at_place(board, token, place) != FREE {
-        return Ok(false);
-    }
-    if defer(board, token, place) == FREE {
-        return Ok(true);
-    }
-    *left -= 1;
-    if *left == 0 {
-        return Err(Refused::Contended);
-    }
-    Ok(false)
-}
 
 /// Tries the places from one up to another one.
 fn walk(
@@ -47,23 +19,28 @@ fn walk(
     token: &mut DomainSeat,
     from: u32,
     to: u32,
-    left: &mut u64,
+    search: &mut Search,
 ) -> Result<Option<u32>, Refused>
     requires home { token.old.table_id ≡ id_of board.now }
     requires knows { Knows board.now token.old }
     requires rests { (view token.old).stakes.moves ≡ None }
     requires inside { (slots_of board.now ≤ from) × (to ≤ most_waiting_of board.now) }
     requires place { HasPlace (epoch token.old) }
-    requires left { 0 < left.old }
+    requires left { 0 < search.old.left }
+    requires numbers { to ≤ length search.old.seen.taken }
     ensures tried { MatchResult result
         (λ found. MatchOption found
         (Misses (λ k. (from ≤ k) × (k < to)) token.old token.new)
         (λ place. (from ≤ place) × (place < to) × Defers place token.old token.new))
         (λ e. (e ≡ Refused.Contended) × Loses token.old token.new) }
-    ensures left { IfOk result (λ _. 0 < left.new) }
+    ensures first { IfOk result (λ found. IfSome found (λ place. AreTaken (λ k. (from ≤ k) × (k < place)) token.old)) }
+    ensures on { SearchesOn search.old search.new }
+    ensures seen { MatchResult result
+        (λ found. (0 < search.new.left) × (found ≡ None → AreSeenTaken from to search.new.seen))
+        (λ _. IsOver search.new) }
 {
     for place in from..to {
-        if attempt(board, token, place, left)? {
+        if search.place(board, token, place)? {
             return Ok(Some(place));
         }
     }
@@ -84,7 +61,50 @@ fn claim(board: &DomainTable, token: &mut DomainSeat, place: u32) -> bool
     defer(board, token, place) == FREE
 }
 
-/// Tries all places in a walk, once round, which begins at this one. So many exchanges may be lost.
+/// Where a walk over so many places begins: at this one, or at the first where there is no such place.
+fn start_of(next: u32, places: u32) -> u32
+    ensures inside { result ≤ places }
+    ensures same { next < places → result ≡ next }
+    ensures first { places ≤ next → result ≡ 0 }
+{
+    if next < places { next } else { 0 }
+}
+
+/// Tries all places in a walk, once round, which begins at this one, or at the first where there is no such place.
+fn try_all(
+    board: &DomainTable,
+    token: &mut DomainSeat,
+    next: u32,
+    slots: u32,
+    jobs: u32,
+    search: &mut Search,
+) -> Result<u32, Refused>
+    requires home { token.old.table_id ≡ id_of board.now }
+    requires knows { Knows board.now token.old }
+    requires rests { (view token.old).stakes.moves ≡ None }
+    requires slots { (slots ≡ slots_of board.now) × (slots + jobs ≡ most_waiting_of board.now) }
+    requires small { slots + jobs < 2 ^ 32 }
+    requires place { HasPlace (epoch token.old) }
+    requires left { 0 < search.old.left }
+    requires numbers { slots + jobs ≤ length search.old.seen.taken }
+    ensures tried { MatchResult result
+        (λ job. (job < jobs) × Defers (slots + job) token.old token.new)
+        (λ e. ((e ≡ Refused.NoJob) × Misses (λ k. (slots ≤ k) × (k < slots + jobs)) token.old token.new)
+        ⊎ ((e ≡ Refused.Contended) × Loses token.old token.new)) }
+    ensures seen { IfErr result (λ e. Explains Refused.NoJob slots (slots + jobs) (length search.old.seen.lost) e search.new.seen) }
+    ensures first { IfOk result (λ job. ComesFirst slots (slots + jobs) (slots + next) (slots + job) token.old) }
+{
+    let next = start_of(next, jobs);
+    if let Some(place) = walk(board, token, slots + next, slots + jobs, search)? {
+        return Ok(place - slots);
+    }
+    if let Some(place) = walk(board, token, slots, slots + next, search)? {
+        return Ok(place - slots);
+    }
+    Err(Refused::NoJob)
+}
+
+/// The same search, which may lose so many exchanges, and tells with a refusal what it saw.
 #[inline(never)]
 fn search(
     board: &DomainTable,
@@ -93,28 +113,26 @@ fn search(
     slots: u32,
     jobs: u32,
     tries: u64,
-) -> Result<u32, Refused>
+) -> Result<u32, (Refused, Sightings)>
     requires home { token.old.table_id ≡ id_of board.now }
     requires knows { Knows board.now token.old }
     requires rests { (view token.old).stakes.moves ≡ None }
     requires slots { (slots ≡ slots_of board.now) × (slots + jobs ≡ most_waiting_of board.now) }
     requires small { slots + jobs < 2 ^ 32 }
-    requires next { next ≤ jobs }
     requires place { HasPlace (epoch token.old) }
     requires tries { 0 < tries }
     ensures tried { MatchResult result
         (λ job. (job < jobs) × Defers (slots + job) token.old token.new)
-        (λ e. ((e ≡ Refused.NoJob) × Misses (λ k. (slots ≤ k) × (k < slots + jobs)) token.old token.new)
-        ⊎ ((e ≡ Refused.Contended) × Loses token.old token.new)) }
+        (λ e. ((e.0 ≡ Refused.NoJob) × Misses (λ k. (slots ≤ k) × (k < slots + jobs)) token.old token.new)
+        ⊎ ((e.0 ≡ Refused.Contended) × Loses token.old token.new)) }
+    ensures seen { IfErr result (λ e. Explains Refused.NoJob slots (slots + jobs) tries e.0 e.1) }
+    ensures first { IfOk result (λ job. ComesFirst slots (slots + jobs) (slots + next) (slots + job) token.old) }
 {
-    let mut left = tries;
-    if let Some(place) = walk(board, token, slots + next, slots + jobs, &mut left)? {
-        return Ok(place - slots);
+    let mut search = Search::new(slots + jobs, tries);
+    match try_all(board, token, next, slots, jobs, &mut search) {
+        Ok(place) => Ok(place),
+        Err(refused) => Err((refused, search.into_seen())),
     }
-    if let Some(place) = walk(board, token, slots, slots + next, &mut left)? {
-        return Ok(place - slots);
-    }
-    Err(Refused::NoJob)
 }
 
 /// The same search, with so many slots and places of jobs, and so many tries, as the limits say.
@@ -125,19 +143,21 @@ fn search_within(
     token: &mut DomainSeat,
     next: u32,
     limits: &Limits,
-) -> Result<u32, Refused>
+) -> Result<u32, (Refused, Sightings)>
     requires home { token.old.table_id ≡ id_of board.now }
     requires knows { Knows board.now token.old }
     requires rests { (view token.old).stakes.moves ≡ None }
     requires slots { (limits.now.slots ≡ slots_of board.now) × (limits.now.slots + limits.now.jobs ≡ most_waiting_of board.now) }
     requires small { limits.now.slots + limits.now.jobs < 2 ^ 32 }
-    requires next { next ≤ limits.now.jobs }
     requires place { HasPlace (epoch token.old) }
     requires tries { 0 < limits.now.tries }
     ensures tried { MatchResult result
         (λ job. (job < limits.now.jobs) × Defers (limits.now.slots + job) token.old token.new)
-        (λ e. ((e ≡ Refused.NoJob) × Misses (λ k. (limits.now.slots ≤ k) × (k < limits.now.slots + limits.now.jobs)) token.old token.new)
-        ⊎ ((e ≡ Refused.Contended) × Loses token.old token.new)) }
+        (λ e. ((e.0 ≡ Refused.NoJob) × Misses (λ k. (limits.now.slots ≤ k) × (k < limits.now.slots + limits.now.jobs)) token.old token.new)
+        ⊎ ((e.0 ≡ Refused.Contended) × Loses token.old token.new)) }
+    ensures seen { IfErr result (λ e. Explains Refused.NoJob limits.now.slots (limits.now.slots + limits.now.jobs) limits.now.tries e.0 e.1) }
+    ensures first { IfOk result (λ job. ComesFirst limits.now.slots (limits.now.slots + limits.now.jobs)
+        (limits.now.slots + next) (limits.now.slots + job) token.old) }
 {
     let slots = limits.slots as u32;
     let jobs = limits.jobs as u32;
@@ -148,28 +168,31 @@ fn search_within(
 }
 
 /// Claims a free place for a job: this one, by an exchange without a look before, or else the first one of a walk over all places, once round, which
-/// begins there. A job's place has the number behind those of the slots.
+/// begins there, or at the first place where there is no such one. A job's place has the number behind those of the slots.
 ///
-/// `NoJob` where none was found free; `Contended` where as many exchanges of the walk were lost as the limits allow.
+/// `NoJob` where none was found free; `Contended` where as many exchanges of the walk were lost as the limits allow: what was seen of that is told for
+/// clauses.
 #[inline]
 pub fn claim_place(
     board: &DomainTable,
     token: &mut DomainSeat,
     next: u32,
     limits: &Limits,
-) -> Result<u32, Refused>
+) -> Result<u32, (Refused, Sightings)>
     requires home { token.old.table_id ≡ id_of board.now }
     requires knows { Knows board.now token.old }
     requires rests { (view token.old).stakes.moves ≡ None }
     requires slots { (limits.now.slots ≡ slots_of board.now) × (limits.now.slots + limits.now.jobs ≡ most_waiting_of board.now) }
     requires small { limits.now.slots + limits.now.jobs < 2 ^ 32 }
-    requires next { next ≤ limits.now.jobs }
     requires place { HasPlace (epoch token.old) }
     requires tries { 0 < limits.now.tries }
     ensures tried { MatchResult result
         (λ job. (job < limits.now.jobs) × Defers (limits.now.slots + job) token.old token.new)
-        (λ e. ((e ≡ Refused.NoJob) × Misses (λ k. (limits.now.slots ≤ k) × (k < limits.now.slots + limits.now.jobs)) token.old token.new)
-        ⊎ ((e ≡ Refused.Contended) × Loses token.old token.new)) }
+        (λ e. ((e.0 ≡ Refused.NoJob) × Misses (λ k. (limits.now.slots ≤ k) × (k < limits.now.slots + limits.now.jobs)) token.old token.new)
+        ⊎ ((e.0 ≡ Refused.Contended) × Loses token.old token.new)) }
+    ensures seen { IfErr result (λ e. Explains Refused.NoJob limits.now.slots (limits.now.slots + limits.now.jobs) limits.now.tries e.0 e.1) }
+    ensures first { IfOk result (λ job. ComesFirst limits.now.slots (limits.now.slots + limits.now.jobs)
+        (limits.now.slots + next) (limits.now.slots + job) token.old) }
 {
     if next < limits.jobs as u32 && claim(board, token, limits.slots as u32 + next) {
         return Ok(next);

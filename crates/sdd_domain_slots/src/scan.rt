@@ -2,8 +2,8 @@
 ghost use Rattle.std.specs.Prelude.{◌≡◌, ℕ, ◌<◌, true, false};
 ghost use Rattle.sdd_word_invariant.specs.Epoch.{IsOpen, IsLone, Scans};
 ghost use Rattle.sdd_word_invariant.specs.EpochSteps.{IsNext, Locks, passed_by};
-ghost use Rattle.sdd_atomics.specs.DomainTable.{id_of, places_of};
-ghost use Rattle.sdd_atomics.specs.DomainSeat.{epoch, IsSameBut, Stepped};
+ghost use Rattle.sdd_atomics.specs.DomainTable.{id_of, places_of, sizes_of};
+ghost use Rattle.sdd_atomics.specs.DomainSeat.{epoch, view, IsSameBut, Stepped};
 ghost use Rattle.sdd_domain_slots.specs.Scan.{looked_to, Raises, Scanned, Tells};
 
 use sdd_atomics::{DomainSeat, DomainTable, steps};
@@ -28,6 +28,7 @@ pub enum ScanEnd {
 /// The next place has no guard open, or has published this count.
 fn passes(board: &DomainTable, token: &mut DomainSeat, place: usize, count: u64) -> bool
     requires home { token.old.table_id ≡ id_of board.now }
+    requires sizes { (view token.old).sizes ≡ sizes_of board.now }
     requires next { (place < places_of board.now) × IsNext (epoch token.old) place }
     requires count { count ≡ (epoch token.old).count }
     ensures same { IsSameBut token.old token.new }
@@ -43,6 +44,7 @@ fn passes(board: &DomainTable, token: &mut DomainSeat, place: usize, count: u64)
 /// Every place but the own one passes.
 fn all_pass(board: &DomainTable, token: &mut DomainSeat, place: usize, count: u64) -> bool
     requires home { token.old.table_id ≡ id_of board.now }
+    requires sizes { (view token.old).sizes ≡ sizes_of board.now }
     requires own { (place ≡ (epoch token.old).place) × (place < places_of board.now) }
     requires scans { Scans (epoch token.old) × ((epoch token.old).looked ≡ 0) }
     requires count { count ≡ (epoch token.old).count }
@@ -97,6 +99,7 @@ fn try_lock(board: &DomainTable, token: &mut DomainSeat) -> u64
 #[inline(never)]
 pub fn scan(board: &DomainTable, token: &mut DomainSeat, place: usize, count: u64) -> ScanEnd
     requires home { token.old.table_id ≡ id_of board.now }
+    requires sizes { (view token.old).sizes ≡ sizes_of board.now }
     requires own { (place ≡ (epoch token.old).place) × (place < places_of board.now) }
     requires sized { (epoch token.old).all ≡ places_of board.now }
     requires open { IsOpen (epoch token.old) × ¬ (Scans (epoch token.old)) }

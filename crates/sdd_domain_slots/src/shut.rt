@@ -4,22 +4,23 @@ ghost use Rattle.sdd_values.specs.declared.read_sections.SectionState.TheVariant
 ghost use Rattle.sdd_views.specs.declared.View.{View};
 ghost use Rattle.sdd_word_invariant.specs.SlotSteps.{ClosesAll};
 ghost use Rattle.sdd_word_invariant.specs.Epoch.{IsOpen, Scans};
-ghost use Rattle.sdd_atomics.specs.DomainTable.{id_of, book_of, places_of};
+ghost use Rattle.sdd_atomics.specs.DomainTable.{id_of, book_of, places_of, sizes_of};
+ghost use Rattle.sdd_word_invariant.specs.Words as words;
 ghost use Rattle.sdd_domain_invariant.specs.FractionSteps.{unsighted};
 ghost use Rattle.sdd_atomics.specs.DomainSeat.{view, epoch, Knows};
 ghost use Rattle.sdd_domain_slots.specs.BetweenCalls.{CarriesSeenOnly, AreLentTo};
 
-use sdd_atomics::words::OwnPlace;
 use sdd_atomics::{DomainSeat, DomainTable, steps};
 use sdd_rights::WHOLE;
 use sdd_shared_values::settle;
 use sdd_values::{ReadSection, SectionState, end_round};
 
-/// Ends a tenure, by the one part of it that was out, and publishes that no guard is open: all stakes that were lent to it go home.
+/// Ends a tenure of the participant of a place, whose state is that word, by the one part of it that was out, and publishes that no guard is open: all stakes that were lent to it go home.
 pub fn shut(
     board: &DomainTable,
     token: &mut DomainSeat,
-    place: OwnPlace,
+    place: usize,
+    state: usize,
     tenure: &mut ReadSection,
     part: ReadSection,
 )
@@ -27,6 +28,7 @@ pub fn shut(
     requires knows { Knows board.now token.old }
     requires rests { (view token.old).stakes.moves ≡ None }
     requires own { (place ≡ (epoch token.old).place) × (place < places_of board.now) }
+    requires state { state ≡ words.state_word (sizes_of board.now) place }
     requires open { IsOpen (epoch token.old) × ¬ (Scans (epoch token.old)) }
     requires purse { CarriesSeenOnly (book_of board.now) (places_of board.now) place (view token.old).stakes.sees token.old.me.1 }
     requires lent { AreLentTo tenure.old.round token.old.me.1 }
@@ -43,5 +45,5 @@ pub fn shut(
     tenure.set(&SectionState::Closed, &());
     let ended = end_round(tenure);
     settle(token, &board.table.shared, &ended);
-    steps::close(board, token, place);
+    steps::close(board, token, state);
 }

@@ -34,10 +34,10 @@ module _ (id : ℕ) (v : View) (live : HasPlace v.epoch) (cell : ℕ) where
   sizes = v.sizes
 
   abbrev i : ℕ
-  i = cell_word v.sizes cell
+  i = cell_word cell
 
   -- the word tells which cell it is
-  module _ (other : ℕ) (is : i ≡ cell_word sizes other) where
+  module _ (other : ℕ) (is : i ≡ cell_word other) where
     same_cell : cell ≡ other
     same_cell = omega arith
 
@@ -45,9 +45,9 @@ module _ (id : ℕ) (v : View) (live : HasPlace v.epoch) (cell : ℕ) where
     knew_too x = subst (λ (k : ℕ). KnewCell k v x) same_cell
 
   module _ (ws : List ℕ) (vs : List View) (p : Parts sizes ws vs) (at : get_elem? vs id ≡ some v) where
-    knew : KnewCell cell v (get_or ws i 0)
-    knew one = let f = p.epoch.each id v.epoch (steps.at_epoch id v live ws vs p at) in
-        finds_word sizes ws vs p.lone id v at (sym (f.all (λ z. omega arith)) ∙ one) live cell
+    knew : cell < sizes.cells → KnewCell cell v (get_or ws i 0)
+    knew inside one = let f = p.epoch.each id v.epoch (steps.at_epoch id v live ws vs p at) in
+        finds_word sizes ws vs p.lone id v at (sym (f.all (λ z. omega arith)) ∙ one) live cell (omega arith)
 
     -- the cell's word is y, and it has these owners and rights: of a slot's owners there are as many as before in the cell and its own
     changed : (inside : cell < sizes.cells) (y : ℕ) (owns : List ℕ) (rights : CellsView)
@@ -57,8 +57,8 @@ module _ (id : ℕ) (v : View) (live : HasPlace v.epoch) (cell : ℕ) where
         let w : View = record v { slots = record v.slots { owns = owns }; cells = rights; words = cell_noted cell y v } in
         let s = p.slots in let f = s.each id v at in record {
           epoch = seen_after sizes (set ws i y) vs id w
-              (epochs.behind sizes.participants ws (set (map epoch_of vs) id w.epoch) id i y w.epoch (steps.same_epochs id v live ws vs p at)
-              (set_here (map epoch_of vs) id w.epoch (epochs.at_length (map epoch_of vs) id v.epoch (steps.at_epoch id v live ws vs p at))) live (omega arith));
+              (epochs.beside sizes ws (set (map epoch_of vs) id w.epoch) id i y w.epoch (steps.same_epochs id v live ws vs p at)
+              (set_here (map epoch_of vs) id w.epoch (epochs.at_length (map epoch_of vs) id v.epoch (steps.at_epoch id v live ws vs p at))) live (omega arith, inl (omega arith)));
           slots = cell_step codes sound sizes ws vs s id v at cell y w inside as_many (λ _. refl)
               record {
                 timed = f.timed;
@@ -69,7 +69,7 @@ module _ (id : ℕ) (v : View) (live : HasPlace v.epoch) (cell : ℕ) where
               (let o = s.two id id v v at at in record { since = o.since; looked = o.looked })
               (λ j u _ e. let o = s.two id j v u at e in let o' = s.two j id u v e at in
               (record { since = o.since; looked = o.looked }, record { since = o'.since; looked = o'.looked }));
-          lone = lone_written sizes ws vs p.lone id v at p.epoch live cell y w refl;
+          lone = lone_written sizes ws vs p.lone id v at s.long p.epoch live cell y w (omega arith) refl;
           collectors = private.word_kept codes sound sizes ws vs p.collectors id v at i y w (omega arith)
               (private.aside_kept v w (refl, refl, refl, refl, refl, refl, refl, refl, refl) (omega arith) (omega arith)) (λ k h. inl (h, refl, refl));
         }
@@ -92,13 +92,13 @@ module _ (id : ℕ) (v : View) (live : HasPlace v.epoch) (cell : ℕ) where
   swaps y rights inside owns free ws vs p at small = let x : ℕ = get_or ws i 0 in (
     coming cell x y rights v,
     comes ws vs p at inside y rights owns free,
-    λ other is. (ap (λ (k : ℕ). coming k x y rights v) (same_cell other is), knew_too other is x (knew ws vs p at)),
+    λ other is. (ap (λ (k : ℕ). coming k x y rights v) (same_cell other is), knew_too other is x (knew ws vs p at inside)),
   )
 
   -- an exchange, where the word is old
   pub exchanges : (old y : ℕ) (rights : CellsView) → cell < sizes.cells → v.slots.owns ≡ held_slots y → v.slots.holds ≡ None
       → Steps (Parts sizes) id v i (λ x. either (eqb x old) y x) (AtCell (ExchangesCell old y rights) i v)
-  exchanges old y rights inside owns free ws vs p at small = let x : ℕ = get_or ws i 0 in let told = knew ws vs p at in
+  exchanges old y rights inside owns free ws vs p at small = let x : ℕ = get_or ws i 0 in let told = knew ws vs p at inside in
       exchanged x old y (λ z. (u : View) × Parts sizes (set ws i z) (set vs id u) × AtCell (ExchangesCell old y rights) i v x u)
       (λ hit. (
         coming cell x y rights v,
@@ -118,7 +118,7 @@ module _ (id : ℕ) (v : View) (live : HasPlace v.epoch) (cell : ℕ) where
   -- an exchange by which the cell holds what it held, where its word is old
   pub retags : (old y : ℕ) → cell < sizes.cells → held_slots y ≡ held_slots old → v.slots.holds ≡ None
       → Steps (Parts sizes) id v i (λ x. either (eqb x old) y x) (AtCell (RetagsCell old y) i v)
-  retags old y inside same free ws vs p at small = let x : ℕ = get_or ws i 0 in let told = knew ws vs p at in
+  retags old y inside same free ws vs p at small = let x : ℕ = get_or ws i 0 in let told = knew ws vs p at inside in
       exchanged x old y (λ z. (u : View) × Parts sizes (set ws i z) (set vs id u) × AtCell (RetagsCell old y) i v x u)
       (λ hit. (
         noting cell y v,
@@ -136,12 +136,12 @@ module _ (id : ℕ) (v : View) (live : HasPlace v.epoch) (cell : ℕ) where
       ))
 
   -- a look
-  pub looks_at : Steps (Parts sizes) id v i (λ x. x) (AtCell LooksAtCell i v)
-  looks_at ws vs p at small = (v, steps.unmoved id v live ws vs p at i, λ other is. (refl, knew_too other is (get_or ws i 0) (knew ws vs p at)))
+  pub looks_at : cell < sizes.cells → Steps (Parts sizes) id v i (λ x. x) (AtCell LooksAtCell i v)
+  looks_at inside ws vs p at small = (v, steps.unmoved id v live ws vs p at i, λ other is. (refl, knew_too other is (get_or ws i 0) (knew ws vs p at inside)))
 
   -- a look under a guard
   pub sees : cell < sizes.cells → IsOpen v.epoch → Steps (Parts sizes) id v i (λ x. x) (AtCell SeesCell i v)
-  sees inside is_open ws vs p at small = let x : ℕ = get_or ws i 0 in let told = knew ws vs p at in
+  sees inside is_open ws vs p at small = let x : ℕ = get_or ws i 0 in let told = knew ws vs p at inside in
       let stays : ((slot : ℕ) → held_slots x ≡ slot ∷ [] → Sees v slot) → (u : View) × Parts sizes (set ws i x) (set vs id u) × AtCell SeesCell i v x u
       = λ seen. (
         v,

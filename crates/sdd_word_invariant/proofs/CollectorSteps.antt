@@ -318,7 +318,7 @@ module _ (id : ℕ) (v : View) (live : HasPlace v.epoch) where
       done : (y : ℕ) (w : View) → w.epoch ≡ v.epoch → w.words ≡ noted slot y v → SlotsInvariant codes sizes (set ws i y) (set vs id w)
           → CollectorsInvariant codes sizes (set ws i y) (set vs id w) → Parts sizes (set ws i y) (set vs id w)
       done y w epoch words = steps.builds id v live ws vs p at slot y w (subst HasPlace (sym epoch) live) words
-          (subst (λ (e : EpochView). EpochInvariant sizes.participants ws (set (map epoch_of vs) id e)) (sym epoch) (steps.same_epochs id v live ws vs p at))
+          (subst (λ (e : EpochView). EpochInvariant sizes ws (set (map epoch_of vs) id e)) (sym epoch) (steps.same_epochs id v live ws vs p at))
 
     -- an item that waits does so for a collector that nobody closes
     pub collects : (collector : ℕ) (r : WaitingItem) → HasWaiting v slot r → private_word collector < shared_base → (ws : List ℕ) (vs : List View)

@@ -20,7 +20,7 @@ use Rattle.sdd_word_invariant.proofs.SlotWords.{slot_step, held_is}
 use Rattle.sdd_word_invariant.proofs.Owning.{fresh}
 
 module _ (z : WordReading) (sound : IsWordReading z) (sizes : Sizes) (ws : List ℕ) (vs : List View) (s : SlotsInvariant z sizes ws vs) (id : ℕ) (v : View)
-    (at : get_elem? vs id ≡ some v) (epochs : EpochInvariant sizes.participants ws (map epoch_of vs)) where
+    (at : get_elem? vs id ≡ some v) (epochs : EpochInvariant sizes ws (map epoch_of vs)) where
   abbrev pub deferring : ℕ → List ℕ → View
   deferring i known = record v {
     epoch = knowing v.epoch (get_or ws global_word 0);

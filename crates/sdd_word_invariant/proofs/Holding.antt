@@ -68,15 +68,15 @@ module _ (z : WordReading) (sound : IsWordReading z) (sizes : Sizes) (ws : List 
       hold_step i y v.slots.owns None known inside (omega arith) (λ k h. let c : Some i ≡ Some k = sym held ∙ h in let e : k ≡ i = cc in e)
       (omega arith) (λ _ _. refl) (l'.0 ∙ sym l.0) (λ _ _ _ _. l'.1) (λ k e. let c : None ≡ Some k = e in cc)
 
-  module _ (epochs : EpochInvariant sizes.participants ws (map epoch_of vs)) where
+  module _ (epochs : EpochInvariant sizes ws (map epoch_of vs)) where
     -- look at the next place, the own one too: no guard is open there
-    pub passes : (q : ℕ) → q ≡ v.slots.looked → get_or ws (state_word q) 0 ≢ 2
+    pub passes : (q : ℕ) → q ≡ v.slots.looked → get_or ws (state_word sizes q) 0 ≢ 2
         → SlotsInvariant z sizes ws (set vs id (holding v v.slots.owns v.slots.holds (suc q) v.words))
     passes q next shut = let w : View = holding v v.slots.owns v.slots.holds (suc q) v.words in let f = s.each id v at in
         let further : (j : ℕ) (u : View) → get_elem? vs j ≡ some u → (a : ℕ) → Sees u a → Holds v a → suc q ≤ u.epoch.place = λ j u e a sees h.
         let old = (s.two j id u v e at).looked a sees h in let is_open = (s.each j u e).guarded a sees in
         let g = (epochs.each j u.epoch (at_map epoch_of vs j u e)).state (omega arith) in
-        dite (ℕ_discrete u.epoch.place q) (λ same. absurd (shut (ap (λ (p : ℕ). get_or ws (state_word p) 0) (sym same) ∙ (g ∙ is_open)))) (λ ne. omega arith) in
+        dite (ℕ_discrete u.epoch.place q) (λ same. absurd (shut (ap (λ (p : ℕ). get_or ws (state_word sizes p) 0) (sym same) ∙ (g ∙ is_open)))) (λ ne. omega arith) in
         view_step z sound sizes ws vs s id v at w (λ _. refl) (λ _. refl)
         record { timed = f.timed; guarded = f.guarded; full = f.full; held = f.held }
         (let x = s.two id id v v at at in record { since = x.since; looked = further id v at })

@@ -51,7 +51,7 @@ blind_units sizes ws vs id u v was p t units = let us : List View = set vs id v 
     let w : View = record v { stakes = t; slots = record v.slots { drawn = units } } in
     let at : get_elem? us id ≡ some v = set_here vs id v (epochs.at_length vs id u was) in let f = p.slots.each id v at in
     subst (Parts sizes ws) (set_twice vs id v w) record {
-      epoch = subst (λ (l : List EpochView). EpochInvariant sizes.participants ws l) (sym (same_epochs us id v w at refl)) p.epoch;
+      epoch = subst (λ (l : List EpochView). EpochInvariant sizes ws l) (sym (same_epochs us id v w at refl)) p.epoch;
       slots = view_step codes sound sizes ws us p.slots id v at w (λ _. refl) (λ _. refl)
           record { timed = f.timed; guarded = f.guarded; full = f.full; held = f.held }
           (let x = p.slots.two id id v v at at in record { since = x.since; looked = x.looked })
@@ -69,7 +69,7 @@ blind sizes ws vs id u v was p t = blind_units sizes ws vs id u v was p t v.slot
 pub blind_places : (sizes : Sizes) (ws : List ℕ) (vs : List View) (id : ℕ) (v : View) → get_elem? vs id ≡ some v → Parts sizes ws vs
     → (t : EndedView) → Parts sizes ws (set vs id (record v { places = t }))
 blind_places sizes ws vs id v at p t = let w : View = record v { places = t } in let f = p.slots.each id v at in record {
-  epoch = subst (λ (l : List EpochView). EpochInvariant sizes.participants ws l) (sym (same_epochs vs id v w at refl)) p.epoch;
+  epoch = subst (λ (l : List EpochView). EpochInvariant sizes ws l) (sym (same_epochs vs id v w at refl)) p.epoch;
   slots = view_step codes sound sizes ws vs p.slots id v at w (λ _. refl) (λ _. refl)
       record { timed = f.timed; guarded = f.guarded; full = f.full; held = f.held }
       (let x = p.slots.two id id v v at at in record { since = x.since; looked = x.looked })
@@ -83,7 +83,7 @@ blind_places sizes ws vs id v at p t = let w : View = record v { places = t } in
 pub blind_tokens : (sizes : Sizes) (ws : List ℕ) (vs : List View) (id : ℕ) (v : View) → get_elem? vs id ≡ some v → Parts sizes ws vs
     → (t : PledgesView) (c : CellsView) → Parts sizes ws (set vs id (record v { pledges = t; cells = c }))
 blind_tokens sizes ws vs id v at p t c = let w : View = record v { pledges = t; cells = c } in let f = p.slots.each id v at in record {
-  epoch = subst (λ (l : List EpochView). EpochInvariant sizes.participants ws l) (sym (same_epochs vs id v w at refl)) p.epoch;
+  epoch = subst (λ (l : List EpochView). EpochInvariant sizes ws l) (sym (same_epochs vs id v w at refl)) p.epoch;
   slots = view_step codes sound sizes ws vs p.slots id v at w (λ _. refl) (λ _. refl)
       record { timed = f.timed; guarded = f.guarded; full = f.full; held = f.held }
       (let x = p.slots.two id id v v at at in record { since = x.since; looked = x.looked })
@@ -111,8 +111,8 @@ module _ {S : Type 0} (sizes : Sizes) where
     w,
     record {
       parts = record {
-        epoch = subst (λ (l : List EpochView). EpochInvariant n s.words l) (sym (map-append epoch_of s.views (w ∷ [])))
-            (seated n n (λ _. refl) s.words (map epoch_of s.views) k.parts.epoch);
+        epoch = subst (λ (l : List EpochView). EpochInvariant sizes s.words l) (sym (map-append epoch_of s.views (w ∷ [])))
+            (seated sizes n (λ _. refl) s.words (map epoch_of s.views) k.parts.epoch);
         slots = sits codes sizes s.words s.views k.parts.slots w refl;
         lone = snoc_lone sizes s.words s.views w (λ z. absurd (omega arith)) k.parts.lone;
         collectors = more codes sound sizes s.words s.views k.parts.collectors w
@@ -132,7 +132,7 @@ module _ {S : Type 0} (sizes : Sizes) where
       → WordInvariant sizes (opening ws xs (record (idle sizes book) { stakes = t; pledges = q }))
   begins book t q ws xs long none = let w : View = record (idle sizes book) { stakes = t; pledges = q } in record {
     parts = record {
-      epoch = epochs.begins sizes.participants ws (omega arith) none;
+      epoch = epochs.begins sizes ws (omega arith) none;
       slots = starts codes sound sizes ws w long none refl;
       lone = record { knows = λ one j v e z. let e' = ap (λ (x : View). x.epoch.state) (only w j v e) in absurd (omega arith) };
       collectors = more codes sound sizes ws [] (nothing codes sound sizes ws (λ i. none (slot_word sizes i))) w
@@ -158,9 +158,9 @@ module _ {S : Type 0} (sizes : Sizes) where
       let w : View = with_owners v os units mine in let t : View = record (owner_token os') { stakes = theirs } in
       let vs : List View = set s.views id w in record {
         parts = record {
-          epoch = subst (λ (l : List EpochView). EpochInvariant n s.words l)
+          epoch = subst (λ (l : List EpochView). EpochInvariant sizes s.words l)
               (sym (map-append epoch_of vs (t ∷ []) ∙ ap (λ (l : List EpochView). l ++ nobody 0 ∷ []) (same_epochs s.views id v w at refl)))
-              (seated n 0 (λ z. absurd (z refl)) s.words (map epoch_of s.views) k.parts.epoch);
+              (seated sizes 0 (λ z. absurd (z refl)) s.words (map epoch_of s.views) k.parts.epoch);
           slots = tokens.cuts codes sizes s.words s.views k.parts.slots id v at os units mine t os' refl parts held;
           lone = snoc_lone sizes s.words vs t (λ z. absurd (omega arith)) (lone_same sizes s.words s.views k.parts.lone id v at w refl (λ z. z));
           collectors = more codes sound sizes s.words vs
@@ -187,7 +187,7 @@ module _ {S : Type 0} (sizes : Sizes) where
       let t' : View = owner_token [] in let vs : List View = set s.views id w in
       let was : get_elem? s.views other ≡ some t = sym (set_else s.views id other w apart) ∙ there in record {
         parts = record {
-          epoch = subst (λ (l : List EpochView). EpochInvariant n s.words l)
+          epoch = subst (λ (l : List EpochView). EpochInvariant sizes s.words l)
               (sym (same_epochs vs other t t' there refl ∙ same_epochs s.views id v w at refl)) k.parts.epoch;
           slots = tokens.takes_in codes sizes s.words s.views k.parts.slots id v at os units mine other t t' os' refl refl parts apart was;
           lone = lone_same sizes s.words vs (lone_same sizes s.words s.views k.parts.lone id v at w refl (λ z. z)) other t there t' refl (λ z. z);

@@ -106,7 +106,7 @@ module _ (z : WordReading) (sound : IsWordReading z) (sizes : Sizes) (ws : List 
   pub fresh : (i : ℕ) → z.full (slot_at sizes ws i) ≡ 0 → (j : ℕ) (u : View) → get_elem? vs j ≡ some u → ¬ (Sees u i)
   fresh i empty j u e sees = let f = (s.each j u e).full i sees in omega arith
 
-  module _ (epochs : EpochInvariant sizes.participants ws (map epoch_of vs)) where
+  module _ (epochs : EpochInvariant sizes ws (map epoch_of vs)) where
     since_low : (j : ℕ) (u : View) → get_elem? vs j ≡ some u → IsOpen u.epoch → u.epoch.since ≤ get_or ws global_word 0
     since_low j u e is_open = let f = epochs.each j u.epoch (at_map epoch_of vs j u e) in let p = (f.published is_open).since in let k = f.known in omega arith
 

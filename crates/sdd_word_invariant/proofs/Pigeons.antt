@@ -6,6 +6,7 @@ use native.Mathlib.Decide.{ℕ_discrete, dec_lt}
 use lib.ListN.{get_elem?}
 use prog.Atomic.{either}
 use Rattle.sdd_views.specs.declared.EpochView.{EpochView}
+use Rattle.sdd_views.specs.declared.Sizes.{Sizes}
 use Rattle.sdd_word_invariant.specs.Sums.{total}
 use Rattle.sdd_word_invariant.specs.Epoch.{HasPlace, EpochInvariant}
 use Rattle.sdd_word_invariant.proofs.Sums.{total_zero}
@@ -65,8 +66,8 @@ module _ {X : Type 0} where
         (λ more. covers n v (inside j v e more)) (λ none. omega arith)) in omega arith
 
 -- so many participants add to a slot's count past its bound, each once
-pub few_adders : (n : ℕ) (ws : List ℕ) (vs : List EpochView) → EpochInvariant n ws vs → (adds : EpochView → ℕ)
-    → ((j : ℕ) (v : EpochView) → get_elem? vs j ≡ some v → (adds v ≤ 1) × (0 < adds v → HasPlace v)) → total adds vs ≤ n
-few_adders n ws vs p adds each = few (λ (v : EpochView). v.place) adds vs (λ j v e. (each j v e).0)
-    (λ j k v w ne e e' a b. (p.two j k v w ne e e').places ((each j v e).1 a) ((each k w e').1 b)) n
+pub few_adders : (sizes : Sizes) (ws : List ℕ) (vs : List EpochView) → EpochInvariant sizes ws vs → (adds : EpochView → ℕ)
+    → ((j : ℕ) (v : EpochView) → get_elem? vs j ≡ some v → (adds v ≤ 1) × (0 < adds v → HasPlace v)) → total adds vs ≤ sizes.participants
+few_adders sizes ws vs p adds each = few (λ (v : EpochView). v.place) adds vs (λ j v e. (each j v e).0)
+    (λ j k v w ne e e' a b. (p.two j k v w ne e e').places ((each j v e).1 a) ((each k w e').1 b)) sizes.participants
     (λ j v e a. (p.each j v e).inside ((each j v e).1 a))

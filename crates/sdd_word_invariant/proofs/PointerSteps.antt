@@ -38,20 +38,20 @@ module _ (id : ℕ) (v : View) (live : HasPlace v.epoch) (cell : ℕ) (inside : 
   module _ (ws : List ℕ) (vs : List View) (p : Parts sizes ws vs) (at : get_elem? vs id ≡ some v) where
     knew : KnewPointer cell v (get_or ws i 0)
     knew one = let f = p.epoch.each id v.epoch (steps.at_epoch id v live ws vs p at) in
-        finds_word sizes ws vs p.lone id v at (sym (f.all (λ z. omega arith)) ∙ one) live (pointer_behind sizes cell)
+        finds_word sizes ws vs p.lone id v at (sym (f.all (λ z. omega arith)) ∙ one) live (pointer_behind sizes cell) (omega arith)
 
     -- the word is y
     written : (y : ℕ) → Parts sizes (set ws i y) (set vs id (noting_pointer cell y v))
     written y = let w : View = noting_pointer cell y v in let s = p.slots in let f = s.each id v at in record {
       epoch = seen_after sizes (set ws i y) vs id w
-          (epochs.behind sizes.participants ws (set (map epoch_of vs) id w.epoch) id i y w.epoch (steps.same_epochs id v live ws vs p at)
-          (set_here (map epoch_of vs) id w.epoch (epochs.at_length (map epoch_of vs) id v.epoch (steps.at_epoch id v live ws vs p at))) live (omega arith));
+          (epochs.beside sizes ws (set (map epoch_of vs) id w.epoch) id i y w.epoch (steps.same_epochs id v live ws vs p at)
+          (set_here (map epoch_of vs) id w.epoch (epochs.at_length (map epoch_of vs) id v.epoch (steps.at_epoch id v live ws vs p at))) live (omega arith, inl (omega arith)));
       slots = aside codes sizes ws (set vs id w) i y (inr (omega arith)) (omega arith) (view_step codes sound sizes ws vs s id v at w (λ _. refl) (λ _. refl)
           record { timed = f.timed; guarded = f.guarded; full = f.full; held = f.held }
           (let o = s.two id id v v at at in record { since = o.since; looked = o.looked })
           (λ j u _ e. let o = s.two id j v u at e in let o' = s.two j id u v e at in
           (record { since = o.since; looked = o.looked }, record { since = o'.since; looked = o'.looked })));
-      lone = lone_written sizes ws vs p.lone id v at p.epoch live (pointer_behind sizes cell) y w refl;
+      lone = lone_written sizes ws vs p.lone id v at s.long p.epoch live (pointer_behind sizes cell) y w (omega arith) refl;
       collectors = private.word_kept codes sound sizes ws vs p.collectors id v at i y w (omega arith)
           (private.aside_kept v w (refl, refl, refl, refl, refl, refl, refl, refl, refl) (omega arith) (omega arith)) (λ k h. inl (h, refl, refl));
     }

@@ -58,7 +58,7 @@ module _ (z : WordReading) (sound : IsWordReading z) (sizes : Sizes) (ws : List 
       (λ ne. none_holds z sound sizes ws vs s j k i x u ne e there mine h))
 
   -- that which a cell owns
-  pub loads : (d i : ℕ) → d < sizes.cells → IsOpen v.epoch → 0 < z.names i (get_or ws (cell_word sizes d) 0) → SlotsInvariant z sizes ws
+  pub loads : (d i : ℕ) → d < sizes.cells → IsOpen v.epoch → 0 < z.names i (get_or ws (cell_word d) 0) → SlotsInvariant z sizes ws
       (set vs id (seeing i v))
   loads d i inside is_open names = let n = named_in z sound sizes ws vs s id d i v at inside in
       let live : 0 < z.alive (slot_at sizes ws i) = omega arith in

@@ -10,7 +10,7 @@ use Rattle.sdd_views.specs.declared.WaitingItem.{WaitingItem}
 use Rattle.sdd_views.specs.declared.SlotsView.{SlotsView}
 use Rattle.sdd_views.specs.declared.View.{View}
 use Rattle.sdd_views.specs.declared.Sizes.{Sizes}
-use Rattle.sdd_word_invariant.specs.Words.{first_cell}
+use Rattle.sdd_word_invariant.specs.Words.{IsEpochWord}
 use Rattle.sdd_word_invariant.specs.Epoch.{IsClosed, IsOpen}
 use Rattle.sdd_word_invariant.specs.EpochSteps.{Rises, published, closed}
 use Rattle.sdd_word_invariant.specs.Codes.{WordReading, IsWordReading}
@@ -18,7 +18,7 @@ use Rattle.sdd_word_invariant.specs.Slots.{waits_in, Sees, IsTimed, SlotsInvaria
 use Rattle.sdd_word_invariant.specs.SlotSteps.{older, aged as aged_slots, changed, unseeing}
 use Rattle.sdd_word_invariant.specs.WordInvariant.{with_epoch, with_both}
 use Rattle.sdd_word_invariant.proofs.Sums.{total_map}
-use Rattle.sdd_word_invariant.proofs.SlotWords.{view_step, below}
+use Rattle.sdd_word_invariant.proofs.SlotWords.{view_step, beside}
 
 pub of_map : {A B : Type 0} (f : A → B) (l : List A) (i : ℕ) (y : B) → get_elem? (map f l) i ≡ some y → (x : A) × (get_elem? l i ≡ some x) × (f x ≡ y)
 of_map f [] i y e = absurd (some-ne-none y (sym e))
@@ -26,12 +26,12 @@ of_map f (x ∷ xs) zero y e = (x, refl, some-injective _ _ e)
 of_map f (x ∷ xs) (suc i) y e = of_map f xs i y e
 
 module _ (z : WordReading) (sound : IsWordReading z) (sizes : Sizes) (ws : List ℕ) (vs : List View) (s : SlotsInvariant z sizes ws vs) (id : ℕ) (v : View)
-    (at : get_elem? vs id ≡ some v) (j y : ℕ) (low : j < first_cell sizes) where
+    (at : get_elem? vs id ≡ some v) (j y : ℕ) (word : IsEpochWord sizes j) where
   -- what is known rises, and an open guard stays as it is published
   pub mild : (w : EpochView) → Rises v.epoch w → SlotsInvariant z sizes (set ws j y) (set vs id (with_epoch v w))
   mild w up = let known = up.known in let found = up.found in let f = s.each id v at in
       let stays : (i : ℕ) → Sees v i → IsOpen w × (w.since ≡ v.epoch.since) × (w.place ≡ v.epoch.place) = λ i sees. up.guard (f.guarded i sees) in
-      below z sizes ws (set vs id (with_epoch v w)) j y low (
+      beside z sizes ws (set vs id (with_epoch v w)) j y word (
       view_step z sound sizes ws vs s id v at (with_epoch v w) (λ _. refl) (λ _. refl)
       record {
         timed = λ q x e. let g = f.timed q x e in record { known = let h = g.known in omega arith; found = λ pos. let h = g.found pos in omega arith };
@@ -59,7 +59,7 @@ module _ (z : WordReading) (sound : IsWordReading z) (sizes : Sizes) (ws : List 
     ages : v.epoch.count ≢ v.epoch.found → SlotsInvariant z sizes (set ws j y) (set vs id aged)
     ages other = let f = s.each id v at in
         let blind : (i : ℕ) → ¬ (Sees v i) = λ i h. let o = f.guarded i h in omega arith in
-        below z sizes ws (set vs id aged) j y low (view_step z sound sizes ws vs s id v at aged (λ _. refl)
+        beside z sizes ws (set vs id aged) j y word (view_step z sound sizes ws vs s id v at aged (λ _. refl)
         (λ i. sym (total_map (waits_in i) older (λ x. refl) v.slots.waits))
         record {
           timed = λ q r e. let p = of_map older v.slots.waits q r e in let x : WaitingItem = p.0 in let a = f.timed q x p.1 in
@@ -93,7 +93,7 @@ module _ (z : WordReading) (sound : IsWordReading z) (sizes : Sizes) (ws : List 
 
   -- a close: what was seen is forgotten
   pub closes : SlotsInvariant z sizes (set ws j y) (set vs id (with_both v (closed v.epoch) (unseeing v)))
-  closes = let w : View = with_both v (closed v.epoch) (unseeing v) in let f = s.each id v at in below z sizes ws (set vs id w) j y low (
+  closes = let w : View = with_both v (closed v.epoch) (unseeing v) in let f = s.each id v at in beside z sizes ws (set vs id w) j y word (
       view_step z sound sizes ws vs s id v at w (λ _. refl) (λ _. refl)
       record {
         timed = λ q x e. let g = f.timed q x e in record { known = g.known; found = g.found };

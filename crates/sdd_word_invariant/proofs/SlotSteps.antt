@@ -53,25 +53,25 @@ module _ (id : ℕ) (v : View) (live : HasPlace v.epoch) where
     at_epoch = at_map epoch_of vs id v at
 
     -- what is known of the epoch stays
-    pub same_epochs : EpochInvariant sizes.participants ws (set (map epoch_of vs) id v.epoch)
-    same_epochs = subst (λ (l : List EpochView). EpochInvariant sizes.participants ws l) (sym (set_again (map epoch_of vs) id v.epoch at_epoch)) p.epoch
+    pub same_epochs : EpochInvariant sizes ws (set (map epoch_of vs) id v.epoch)
+    same_epochs = subst (λ (l : List EpochView). EpochInvariant sizes ws l) (sym (set_again (map epoch_of vs) id v.epoch at_epoch)) p.epoch
 
     -- the other parts after a step on a slot's word
-    pub builds : (slot y : ℕ) (w : View) → HasPlace w.epoch → w.words ≡ noted slot y v → EpochInvariant sizes.participants ws (set (map epoch_of vs) id w.epoch)
+    pub builds : (slot y : ℕ) (w : View) → HasPlace w.epoch → w.words ≡ noted slot y v → EpochInvariant sizes ws (set (map epoch_of vs) id w.epoch)
         → SlotsInvariant codes sizes (set ws (slot_word sizes slot) y) (set vs id w)
         → CollectorsInvariant codes sizes (set ws (slot_word sizes slot) y) (set vs id w) → Parts sizes (set ws (slot_word sizes slot) y) (set vs id w)
     builds slot y w still is epoch slots collectors = record {
       epoch = seen_after sizes (set ws (slot_word sizes slot) y) vs id w
-          (epochs.behind sizes.participants ws (set (map epoch_of vs) id w.epoch) id (slot_word sizes slot) y w.epoch epoch
-          (set_here (map epoch_of vs) id w.epoch (epochs.at_length (map epoch_of vs) id v.epoch at_epoch)) still (omega arith));
+          (epochs.beside sizes ws (set (map epoch_of vs) id w.epoch) id (slot_word sizes slot) y w.epoch epoch
+          (set_here (map epoch_of vs) id w.epoch (epochs.at_length (map epoch_of vs) id v.epoch at_epoch)) still (omega arith, inr (omega arith)));
       slots = slots;
-      lone = lone_noted sizes ws vs p.lone id v at p.epoch live slot y w is;
+      lone = lone_noted sizes ws vs p.lone id v at p.slots.long p.epoch live slot y w is;
       collectors = collectors;
     }
 
     -- the same where the slot's item is neither private nor emptied
     pub around : (slot y : ℕ) (w : View) → HasPlace w.epoch → w.words ≡ noted slot y v → IsUnmarked codes (slot_at sizes ws slot) y → Aside v w
-        → w.slots.looked ≤ v.slots.looked → v.epoch.known ≤ w.epoch.known → EpochInvariant sizes.participants ws (set (map epoch_of vs) id w.epoch)
+        → w.slots.looked ≤ v.slots.looked → v.epoch.known ≤ w.epoch.known → EpochInvariant sizes ws (set (map epoch_of vs) id w.epoch)
         → SlotsInvariant codes sizes (set ws (slot_word sizes slot) y) (set vs id w) → Parts sizes (set ws (slot_word sizes slot) y) (set vs id w)
     around slot y w still is plain aside looked known epoch slots = builds slot y w still is epoch slots
         (private.slot_aside codes sound sizes ws vs p.collectors id v at slot y w plain aside looked known)
@@ -132,7 +132,7 @@ module _ (id : ℕ) (v : View) (live : HasPlace v.epoch) where
         around ws vs p at slot y w live refl
             (inr (plain_alive codes sound (slot_at sizes ws slot) (omega arith), plain_waiting codes sound y (omega arith)))
             (refl, refl, refl, refl, refl, refl, refl, refl, refl) (omega arith) f.known
-            (epochs.knows sizes.participants ws (map epoch_of vs) id v.epoch p.epoch (at_epoch ws vs p at))
+            (epochs.knows sizes ws (map epoch_of vs) id v.epoch p.epoch (at_epoch ws vs p at))
             (owning.retires codes sound sizes ws vs p.slots id v at p.epoch slot y (noted slot y v) inside mine last free none waits_now),
         λ other is. (
           count,
@@ -161,7 +161,7 @@ module _ (id : ℕ) (v : View) (live : HasPlace v.epoch) where
         around ws vs p at slot new w live refl
             (inr (plain_free codes sound x empty, plain_waiting codes sound new (let e = word.1 in omega arith)))
             (refl, refl, refl, refl, refl, refl, refl, refl, refl) (omega arith) f.known
-            (epochs.knows sizes.participants ws (map epoch_of vs) id v.epoch p.epoch (at_epoch ws vs p at))
+            (epochs.knows sizes ws (map epoch_of vs) id v.epoch p.epoch (at_epoch ws vs p at))
             (deferring.defers codes sound sizes ws vs p.slots id v at p.epoch slot new (noted slot new v) inside
             (ap codes.alive hit ∙ free.0) quiet empty word.0 word.1),
         λ other is. (
@@ -353,7 +353,7 @@ module _ (id : ℕ) (v : View) (live : HasPlace v.epoch) where
         → Parts sizes (set ws i (get_or ws i 0)) (set vs id w)
     loaded i w same known slots collectors = subst (λ (l : List ℕ). Parts sizes l (set vs id w)) (sym (set-get_or ws i 0)) record {
       epoch = seen_after sizes ws vs id w
-          (subst (λ (e : EpochView). EpochInvariant sizes.participants ws (set (map epoch_of vs) id e)) (sym same) (same_epochs ws vs p at));
+          (subst (λ (e : EpochView). EpochInvariant sizes ws (set (map epoch_of vs) id e)) (sym same) (same_epochs ws vs p at));
       slots = slots;
       lone = lone_same sizes ws vs p.lone id v at w known (λ z. subst HasPlace same z);
       collectors = collectors;
@@ -447,15 +447,15 @@ module _ (id : ℕ) (v : View) (live : HasPlace v.epoch) where
 
   -- look at the next place for a guard that may see it
   pub looks : (place : ℕ) → place ≡ v.slots.looked
-      → Steps (Parts sizes) id v (state_word place) (λ x. x) (LooksForGuard (state_word place) v)
-  looks place next ws vs p at small = let i : ℕ = state_word place in let x : ℕ = get_or ws i 0 in
+      → Steps (Parts sizes) id v (state_word sizes place) (λ x. x) (LooksForGuard (state_word sizes place) v)
+  looks place next ws vs p at small = let i : ℕ = state_word sizes place in let x : ℕ = get_or ws i 0 in
       let f = p.epoch.each id v.epoch (at_epoch ws vs p at) in
-      let unseen_there : (q : ℕ) → get_or ws (state_word q) 0 ≢ 2 → (j : ℕ) (u : View) → get_elem? vs j ≡ some u → (k : ℕ) → Sees u k → u.epoch.place ≢ q
+      let unseen_there : (q : ℕ) → get_or ws (state_word sizes q) 0 ≢ 2 → (j : ℕ) (u : View) → get_elem? vs j ≡ some u → (k : ℕ) → Sees u k → u.epoch.place ≢ q
       = λ q shut j u e k sees same. let is_open = (p.slots.each j u e).guarded k sees in
       let g = (p.epoch.each j u.epoch (at_map epoch_of vs j u e)).state (omega arith) in
-      shut (ap (λ (d : ℕ). get_or ws (state_word d) 0) (sym same) ∙ (g ∙ is_open)) in
-      let own : (q : ℕ) → i ≡ state_word q → HasPlace v.epoch → q ≡ v.epoch.place → x ≡ v.epoch.state
-      = λ q is z e. ap (λ (k : ℕ). get_or ws k 0) (let same : i ≡ state_word v.epoch.place = omega arith in same) ∙ f.state z in
+      shut (ap (λ (d : ℕ). get_or ws (state_word sizes d) 0) (sym same) ∙ (g ∙ is_open)) in
+      let own : (q : ℕ) → i ≡ state_word sizes q → HasPlace v.epoch → q ≡ v.epoch.place → x ≡ v.epoch.state
+      = λ q is z e. ap (λ (k : ℕ). get_or ws k 0) (let same : i ≡ state_word sizes v.epoch.place = omega arith in same) ∙ f.state z in
       dite (ℕ_discrete x 2)
       (λ e. (v, unmoved ws vs p at i, λ q is. ((λ no. absurd (no e)), (λ _. refl), own q is)))
       (λ no. let w : View = looked_past place v in (

@@ -7,7 +7,7 @@ use lib.ListN.{get_elem?}
 use Rattle.sdd_views.specs.declared.WaitingItem.{WaitingItem}
 use Rattle.sdd_views.specs.declared.View.{View}
 use Rattle.sdd_views.specs.declared.Sizes.{Sizes}
-use Rattle.sdd_word_invariant.specs.Words.{first_cell, first_slot, cell_word, slot_word, most_waiting}
+use Rattle.sdd_word_invariant.specs.Words.{first_cell, first_slot, cell_word, slot_word, most_waiting, IsEpochWord, after_cells}
 use Rattle.sdd_word_invariant.specs.Sums.{times}
 use Rattle.sdd_word_invariant.specs.Codes.{WordReading, IsWordReading}
 use Rattle.sdd_word_invariant.specs.Slots.{slot_at, owners_at, waits_in, items_at, Owns, Sees, Holds, Tallies, SeenBeforeRetired, SlotsInvariant}
@@ -29,9 +29,9 @@ module _ (z : WordReading) (sound : IsWordReading z) (sizes : Sizes) (ws : List 
   owners_in j k i u v apart atu atv = let t = total_two (owners_at i) vs j k u v apart atu atv in let w = s.owned i in omega arith
 
   pub named_in : (j d i : ℕ) (u : View) → get_elem? vs j ≡ some u → d < sizes.cells
-      → owners_at i u + z.names i (get_or ws (cell_word sizes d) 0) ≤ z.alive (slot_at sizes ws i)
+      → owners_at i u + z.names i (get_or ws (cell_word d) 0) ≤ z.alive (slot_at sizes ws i)
   named_in j d i u at inside = let t = total_has (owners_at i) vs j u at in
-      let h = span_has (z.names i) ws (first_cell sizes) sizes.cells d inside in let w = s.owned i in omega arith
+      let h = span_has (z.names i) ws first_cell sizes.cells d inside in let w = s.owned i in omega arith
 
   -- where an item has an owner, none waits for its slot
   pub none_waits : (i : ℕ) → 0 < z.alive (slot_at sizes ws i) → (j k : ℕ) (u : View) (x : WaitingItem) → get_elem? vs j ≡ some u
@@ -71,7 +71,7 @@ module _ (z : WordReading) (sound : IsWordReading z) (sizes : Sizes) (ws : List 
         = λ j ne. get_or-set_other ws (slot_word sizes i) (slot_word sizes j) y 0 (λ e. ne (omega arith)) in record {
           long = length-set ws (slot_word sizes i) y ∙ long;
           owned = λ j. let t = total_set (owners_at j) vs id v w at in
-              let o = span_out (z.names j) ws (first_cell sizes) sizes.cells (slot_word sizes i) y (inr (omega arith)) in let a = s.owned j in
+              let o = span_out (z.names j) ws first_cell sizes.cells (slot_word sizes i) y (inr (omega arith)) in let a = s.owned j in
               dite (ℕ_discrete j i)
               (λ e. let h = ap z.alive (now j e) in let g = ap (λ (a : ℕ). z.alive (slot_at sizes ws a)) e in
               let ov = ap (λ (a : ℕ). owners_at a v) e in let ow = ap (λ (a : ℕ). owners_at a w) e in omega arith)
@@ -95,19 +95,19 @@ module _ (z : WordReading) (sound : IsWordReading z) (sizes : Sizes) (ws : List 
         }
 
     pub cell_step : (d y : ℕ) (w : View) → d < sizes.cells
-        → ((i : ℕ) → z.names i (get_or ws (cell_word sizes d) 0) + owners_at i v ≡ z.names i y + owners_at i w) → ((i : ℕ) → items_at i v ≡ items_at i w)
-        → Tallies z sizes (set ws (cell_word sizes d) y) w → SeenBeforeRetired w w
+        → ((i : ℕ) → z.names i (get_or ws (cell_word d) 0) + owners_at i v ≡ z.names i y + owners_at i w) → ((i : ℕ) → items_at i v ≡ items_at i w)
+        → Tallies z sizes (set ws (cell_word d) y) w → SeenBeforeRetired w w
         → ((j : ℕ) (u : View) → j ≢ id → get_elem? vs j ≡ some u → SeenBeforeRetired w u × SeenBeforeRetired u w)
-        → SlotsInvariant z sizes (set ws (cell_word sizes d) y) (set vs id w)
+        → SlotsInvariant z sizes (set ws (cell_word d) y) (set vs id w)
     cell_step d y w inside own wait mine with_self with_others = let long = s.long in
-        let there : (j : ℕ) → slot_at sizes (set ws (cell_word sizes d) y) j ≡ slot_at sizes ws j
-        = λ j. get_or-set_other ws (cell_word sizes d) (slot_word sizes j) y 0 (λ e. omega arith) in record {
-          long = length-set ws (cell_word sizes d) y ∙ long;
+        let there : (j : ℕ) → slot_at sizes (set ws (cell_word d) y) j ≡ slot_at sizes ws j
+        = λ j. get_or-set_other ws (cell_word d) (slot_word sizes j) y 0 (λ e. omega arith) in record {
+          long = length-set ws (cell_word d) y ∙ long;
           owned = λ j. let t = total_set (owners_at j) vs id v w at in
-              let o = span_set (z.names j) ws (first_cell sizes) sizes.cells d y inside (omega arith) in let a = s.owned j in
+              let o = span_set (z.names j) ws first_cell sizes.cells d y inside (omega arith) in let a = s.owned j in
               let h = ap z.alive (there j) in let p = own j in omega arith;
           waited = λ j. let t = total_set (items_at j) vs id v w at in let a = s.waited j in let h = ap z.waiting (there j) in let p = wait j in omega arith;
-          each = each_set (Tallies z sizes ws) (Tallies z sizes (set ws (cell_word sizes d) y)) vs id w mine (λ j u apart e. let f = s.each j u e in record {
+          each = each_set (Tallies z sizes ws) (Tallies z sizes (set ws (cell_word d) y)) vs id w mine (λ j u apart e. let f = s.each j u e in record {
             timed = f.timed;
             guarded = f.guarded;
             full = λ k sees. ap z.full (there k) ∙ f.full k sees;
@@ -137,12 +137,12 @@ module _ (z : WordReading) (sound : IsWordReading z) (sizes : Sizes) (ws : List 
         (λ (t : z.counted (slot_at sizes ws i) ≢ 0). t ((s.each j u e).held i h).1) r) why
 
 -- a word that is neither a cell's nor a slot's
-pub aside : (z : WordReading) (sizes : Sizes) (ws : List ℕ) (vs : List View) (j y : ℕ) → (j < first_cell sizes) ⊎ (first_cell sizes + sizes.cells ≤ j)
+pub aside : (z : WordReading) (sizes : Sizes) (ws : List ℕ) (vs : List View) (j y : ℕ) → (j < first_cell) ⊎ (first_cell + sizes.cells ≤ j)
     → j < first_slot sizes → SlotsInvariant z sizes ws vs → SlotsInvariant z sizes (set ws j y) vs
 aside z sizes ws vs j y out low s =
     let there : (i : ℕ) → slot_at sizes (set ws j y) i ≡ slot_at sizes ws i = λ i. get_or-set_other ws j (slot_word sizes i) y 0 (λ e. omega arith) in record {
       long = length-set ws j y ∙ s.long;
-      owned = λ i. let o = span_out (z.names i) ws (first_cell sizes) sizes.cells j y out in let a = s.owned i in
+      owned = λ i. let o = span_out (z.names i) ws first_cell sizes.cells j y out in let a = s.owned i in
           let h = ap z.alive (there i) in omega arith;
       waited = λ i. ap z.waiting (there i) ∙ s.waited i;
       each = λ l u e. let f = s.each l u e in record {
@@ -154,7 +154,8 @@ aside z sizes ws vs j y out low s =
       two = s.two;
     }
 
--- a word below the cells'
-pub below : (z : WordReading) (sizes : Sizes) (ws : List ℕ) (vs : List View) (j y : ℕ) → j < first_cell sizes → SlotsInvariant z sizes ws vs
+-- a word of the count, the lock or a place
+pub beside : (z : WordReading) (sizes : Sizes) (ws : List ℕ) (vs : List View) (j y : ℕ) → IsEpochWord sizes j → SlotsInvariant z sizes ws vs
     → SlotsInvariant z sizes (set ws j y) vs
-below z sizes ws vs j y low = aside z sizes ws vs j y (inl low) (omega arith)
+beside z sizes ws vs j y word = aside z sizes ws vs j y
+    (⊎_elim (λ (low : j < first_cell). inl low) (λ (high : after_cells sizes ≤ j). inr (omega arith)) word.0) word.1

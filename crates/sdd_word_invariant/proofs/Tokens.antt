@@ -128,7 +128,7 @@ pub starts : (z : WordReading) → IsWordReading z → (sizes : Sizes) (ws : Lis
 starts z sound sizes ws t long none is = record {
   long = long;
   owned = λ i. let a = ap z.alive (none (slot_word sizes i)) in let b = sound.free.0 in
-      let c = span_zero (z.names i) ws (first_cell sizes) sizes.cells (λ d l. ap (z.names i) (none (cell_word sizes d)) ∙ sound.null i) in
+      let c = span_zero (z.names i) ws first_cell sizes.cells (λ d l. ap (z.names i) (none (cell_word d)) ∙ sound.null i) in
       let d = owners_of t [] is i in omega arith;
   waited = λ i. let a = ap z.waiting (none (slot_word sizes i)) in let b = sound.free.1 in let c = items_of t [] is i in omega arith;
   each = λ j v e. subst (Tallies z sizes ws) (only j v e) (plain_tallies t [] is z sizes ws);

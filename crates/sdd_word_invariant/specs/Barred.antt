@@ -20,7 +20,7 @@ IsBarred state = 4 ≤ state
 
 -- each place of which it is known is barred
 abbrev pub AreBarred : Sizes → List ℕ → View → Type 0
-AreBarred sizes ws v = (p : ℕ) → p < sizes.participants → p < v.places.ended → IsBarred (slice_index ws (state_word p))
+AreBarred sizes ws v = (p : ℕ) → p < sizes.participants → p < v.places.ended → IsBarred (slice_index ws (state_word sizes p))
 
 -- each slot of which it is known is quiet: it is free, and nobody can claim it, since all places are barred
 abbrev pub AreQuiet : Sizes → List ℕ → View → Type 0
@@ -35,8 +35,8 @@ abbrev pub past_quiet : View → View
 past_quiet v = record v { places = record v.places { quiet = v.places.quiet + 1 } }
 
 -- a place is barred, as long as it is in this state: it is barred then, or was before, unless another state is found
-abbrev pub Bars : ℕ → ℕ → View → ℕ → View → Type 0
-Bars state i v x w = (p : ℕ) → i ≡ state_word p → ((x ≡ state) ⊎ IsBarred x → w ≡ past p v) × (x ≢ state → ¬ (IsBarred x) → w ≡ v)
+abbrev pub Bars : Sizes → ℕ → ℕ → View → ℕ → View → Type 0
+Bars sizes state i v x w = (p : ℕ) → i ≡ state_word sizes p → ((x ≡ state) ⊎ IsBarred x → w ≡ past p v) × (x ≢ state → ¬ (IsBarred x) → w ≡ v)
 
 -- a look at the word of the next slot, once all places are barred: is it free?
 abbrev pub LooksForValue : View → ℕ → View → Type 0

@@ -9,7 +9,7 @@ use Rattle.sdd_word_invariant.specs.Epoch.{IsLone}
 use Rattle.sdd_word_invariant.specs.Slots.{Sees}
 use Rattle.sdd_word_invariant.specs.SlotSteps.{seeing}
 
--- what is known of the words behind the places' once y is in that of a cell
+-- what is known of the words once y is in that of a cell
 abbrev pub cell_noted : ℕ → ℕ → View → List ℕ
 cell_noted cell y v = slice_set v.words cell y
 
@@ -49,10 +49,10 @@ SeesCell cell v x w = ((slot : ℕ) → held_slots x ≡ slot ∷ [] → ¬ (See
 
 -- a step on the word i tells R of the cell whose word it is
 abbrev pub AtCell : (ℕ → View → ℕ → View → Type 0) → ℕ → View → ℕ → View → Type 0
-AtCell R i v x w = (cell : ℕ) → i ≡ cell_word v.sizes cell → R cell v x w
+AtCell R i v x w = (cell : ℕ) → i ≡ cell_word cell → R cell v x w
 
 -- ---- the word beside a cell's own, which is its pointer where the cell is for raw pointers
--- where it is among those behind the places'
+-- where it is among those of cells and slots
 abbrev pub pointer_behind : Sizes → ℕ → ℕ
 pointer_behind sizes cell = sizes.cells + cell
 

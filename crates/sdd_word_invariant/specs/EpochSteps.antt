@@ -3,6 +3,7 @@ use Rattle.std.specs.Prelude.{None, ◌≡◌, ◌≢◌, ◌⊎◌, ℕ, ◌+�
 use mathlib.Core.Option.{some}
 use lib.ListN.{get_elem?}
 use Rattle.sdd_views.specs.declared.EpochView.{EpochView}
+use Rattle.sdd_views.specs.declared.Sizes.{Sizes}
 use Rattle.sdd_word_invariant.specs.Words.{state_word, count_word}
 use Rattle.sdd_word_invariant.specs.Epoch.{HasPlace, IsOpen, Scans, IsLone, EpochInvariant}
 
@@ -19,9 +20,9 @@ pub record Rises (v w : EpochView) : Type 0 where
   pub guard : IsOpen v → IsOpen w × (w.since ≡ v.since) × (w.place ≡ v.place)
 
 -- the same of the epoch's part
-abbrev pub Keeps : ℕ → ℕ → EpochView → ℕ → (ℕ → ℕ) → (ℕ → EpochView → Type 0) → Type 0
-Keeps n id v i f then = (ws : List ℕ) (vs : List EpochView) → EpochInvariant n ws vs → get_elem? vs id ≡ some v → slice_index ws i < 2 ^ 64
-    → (w : EpochView) × EpochInvariant n (slice_set ws i (f (slice_index ws i))) (slice_set vs id w) × Rises v w × then (slice_index ws i) w
+abbrev pub Keeps : Sizes → ℕ → EpochView → ℕ → (ℕ → ℕ) → (ℕ → EpochView → Type 0) → Type 0
+Keeps sizes id v i f then = (ws : List ℕ) (vs : List EpochView) → EpochInvariant sizes ws vs → get_elem? vs id ≡ some v → slice_index ws i < 2 ^ 64
+    → (w : EpochView) × EpochInvariant sizes (slice_set ws i (f (slice_index ws i))) (slice_set vs id w) × Rises v w × then (slice_index ws i) w
 
 abbrev pub registered : ℕ → ℕ → ℕ → ℕ → EpochView
 registered n p c g = record { all = n; place = p; state = 1; count = c; since = 0; known = g; found = 0; scans = 0; looked = 0; ended = 0; adopts = None }
@@ -59,8 +60,8 @@ IsNext v q = Scans v × ((q ≡ v.looked) ⊎ ((v.looked ≡ v.place) × (q ≡ 
 abbrev pub Takes : EpochView → ℕ → EpochView → Type 0
 Takes v p w = (c : ℕ) × (g : ℕ) × (w ≡ registered v.all p c g) × (IsLone v → (c ≡ 0) × (g ≡ 0))
 
-abbrev pub Registers : ℕ → EpochView → ℕ → EpochView → Type 0
-Registers i v x w = (p : ℕ) → i ≡ state_word p → (x ≡ 0 → Takes v p w) × (x ≢ 0 → w ≡ v)
+abbrev pub Registers : Sizes → ℕ → EpochView → ℕ → EpochView → Type 0
+Registers sizes i v x w = (p : ℕ) → i ≡ state_word sizes p → (x ≡ 0 → Takes v p w) × (x ≢ 0 → w ≡ v)
 
 -- the count read is at least what was known; under an open guard it is the one at the publish, or one more
 abbrev pub Reads : EpochView → ℕ → EpochView → Type 0
@@ -85,11 +86,11 @@ Locks v x w = (x ≡ 0 → w ≡ scanning v) × (x ≢ 0 → w ≡ v) × (IsLone
 abbrev pub LooksAtLock : EpochView → ℕ → EpochView → Type 0
 LooksAtLock v x w = (w ≡ v) × (IsLone v → x ≡ 0)
 
-abbrev pub LooksAtState : ℕ → EpochView → ℕ → EpochView → Type 0
-LooksAtState i v x w = (q : ℕ) → i ≡ state_word q → (x ≢ 2 → w ≡ passed_by v q) × (x ≡ 2 → w ≡ v)
+abbrev pub LooksAtState : Sizes → ℕ → EpochView → ℕ → EpochView → Type 0
+LooksAtState sizes i v x w = (q : ℕ) → i ≡ state_word sizes q → (x ≢ 2 → w ≡ passed_by v q) × (x ≡ 2 → w ≡ v)
 
-abbrev pub LooksAtCount : ℕ → EpochView → ℕ → EpochView → Type 0
-LooksAtCount i v x w = (q : ℕ) → i ≡ count_word q → (x ≡ v.count → w ≡ passed_by v q) × (x ≢ v.count → w ≡ v)
+abbrev pub LooksAtCount : Sizes → ℕ → EpochView → ℕ → EpochView → Type 0
+LooksAtCount sizes i v x w = (q : ℕ) → i ≡ count_word sizes q → (x ≡ v.count → w ≡ passed_by v q) × (x ≢ v.count → w ≡ v)
 
 abbrev pub Advances : EpochView → ℕ → EpochView → Type 0
 Advances v x w = (x ≡ v.count → w ≡ knowing v (v.count + 1)) × (x ≢ v.count → w ≡ v) × (IsLone v → x ≡ v.known)

@@ -10,19 +10,16 @@ use Rattle.sdd_views.specs.declared.WaitingItem.{WaitingItem}
 use Rattle.sdd_views.specs.declared.View.{View}
 use Rattle.sdd_views.specs.declared.Sizes.{Sizes}
 use Rattle.sdd_word_invariant.specs.Words.{words_behind, most_waiting, state_word, slot_word}
+pub use Rattle.sdd_word_invariant.specs.Words.{behind}
 use Rattle.sdd_word_invariant.specs.Epoch.{HasPlace, IsOpen, IsLone}
 use Rattle.sdd_word_invariant.specs.Slots.{items_at, Sees}
 use Rattle.sdd_word_invariant.specs.Collectors.{privates_at}
 use Rattle.sdd_word_invariant.specs.Codes.{alive, counted, most_owners, held_word, shared_word}
 use Rattle.sdd_word_invariant.specs.EpochSteps.{knowing, closed, Publishes}
 
--- the words behind the places' before anybody takes part
+-- the words of cells, slots and jobs before anybody takes part
 abbrev pub blank : Sizes → List ℕ
 blank sizes = replicate (words_behind sizes) 0
-
--- where a slot's word is among those behind the places'
-abbrev pub behind : Sizes → ℕ → ℕ
-behind sizes slot = 2 * sizes.cells + slot
 
 -- what is known of these words once y is in that of a slot
 abbrev pub noted : ℕ → ℕ → View → List ℕ
@@ -251,7 +248,7 @@ Discards slot v y w = w ≡ discarded slot y v
 
 -- a look at the state of a place, whose word is i: is a guard open there, which may see what is held? Of its own place it knows
 abbrev pub LooksForGuard : ℕ → View → ℕ → View → Type 0
-LooksForGuard i v x w = (place : ℕ) → i ≡ state_word place
+LooksForGuard i v x w = (place : ℕ) → i ≡ state_word v.sizes place
     → (x ≢ 2 → w ≡ looked_past place v) × (x ≡ 2 → w ≡ v) × (HasPlace v.epoch → place ≡ v.epoch.place → x ≡ v.epoch.state)
 
 -- a step on the word i tells R of the slot whose word it is

@@ -1,12 +1,12 @@
 -- The part of the rule for slots and cells
-use Rattle.std.specs.Prelude.{◌≡◌, ℕ, ◌+◌, ◌<◌, ◌≤◌, List, length, drop, slice_index, Some}
+use Rattle.std.specs.Prelude.{◌≡◌, ℕ, ◌+◌, ◌*◌, ◌<◌, ◌≤◌, List, length, slice_index, Some}
 use mathlib.Core.Option.{some}
 use lib.ListN.{get_elem?}
 use Rattle.sdd_views.specs.declared.EpochView.{EpochView}
 use Rattle.sdd_views.specs.declared.WaitingItem.{WaitingItem}
 use Rattle.sdd_views.specs.declared.View.{View}
 use Rattle.sdd_views.specs.declared.Sizes.{Sizes}
-use Rattle.sdd_word_invariant.specs.Words.{after_places, first_cell, slot_word, all_words}
+use Rattle.sdd_word_invariant.specs.Words.{behind, cell_word, first_cell, slot_word, words_behind, all_words}
 use Rattle.sdd_word_invariant.specs.Epoch.{HasPlace, IsOpen}
 use Rattle.sdd_word_invariant.specs.Sums.{total, span, is, times}
 use Rattle.sdd_word_invariant.specs.Codes.{WordReading}
@@ -59,12 +59,17 @@ pub record SeenBeforeRetired (v w : View) : Type 0 where
 -- and an item waits with somebody exactly where the word says so
 pub record SlotsInvariant (z : WordReading) (sizes : Sizes) (ws : List ℕ) (vs : List View) : Type 0 where
   pub long : length ws ≡ all_words sizes
-  pub owned : (i : ℕ) → z.alive (slot_at sizes ws i) ≡ total (owners_at i) vs + span (z.names i) ws (first_cell sizes) sizes.cells
+  pub owned : (i : ℕ) → z.alive (slot_at sizes ws i) ≡ total (owners_at i) vs + span (z.names i) ws first_cell sizes.cells
   pub waited : (i : ℕ) → z.waiting (slot_at sizes ws i) ≡ total (items_at i) vs
   pub each : (j : ℕ) (v : View) → get_elem? vs j ≡ some v → Tallies z sizes ws v
   pub two : (j k : ℕ) (v w : View) → get_elem? vs j ≡ some v → get_elem? vs k ≡ some w → SeenBeforeRetired v w
 
--- where there is one place, its participant knows each word behind the places'
+-- what is known of the words of cells, slots and jobs, one behind the other, is what they are
+pub record KnowsWords (sizes : Sizes) (ws known : List ℕ) : Type 0 where
+  pub long : length known ≡ words_behind sizes
+  pub cells : (k : ℕ) → k < 2 * sizes.cells → slice_index known k ≡ slice_index ws (cell_word k)
+  pub slots : (i : ℕ) → slice_index known (behind sizes i) ≡ slice_index ws (slot_word sizes i)
+
+-- where there is one place, its participant knows each word of cells, slots and jobs
 pub record LoneInvariant (sizes : Sizes) (ws : List ℕ) (vs : List View) : Type 0 where
-  pub knows : sizes.participants ≡ 1 → (j : ℕ) (v : View) → get_elem? vs j ≡ some v → HasPlace v.epoch
-      → v.words ≡ drop (after_places sizes.participants) ws
+  pub knows : sizes.participants ≡ 1 → (j : ℕ) (v : View) → get_elem? vs j ≡ some v → HasPlace v.epoch → KnowsWords sizes ws v.words

@@ -41,7 +41,7 @@ idle sizes book = record {
 
 -- the parts that speak of words and of what each participant knows
 pub record Parts (sizes : Sizes) (ws : List ℕ) (vs : List View) : Type 0 where
-  pub epoch : EpochInvariant sizes.participants ws (map epoch_of vs)
+  pub epoch : EpochInvariant sizes ws (map epoch_of vs)
   pub slots : SlotsInvariant codes sizes ws vs
   pub lone : LoneInvariant sizes ws vs
   pub collectors : CollectorsInvariant codes sizes ws vs

@@ -1,5 +1,5 @@
 -- Where the words of a domain are
-use Rattle.std.specs.Prelude.{ℕ, ◌+◌, ◌*◌}
+use Rattle.std.specs.Prelude.{◌⊎◌, ◌<◌, ◌≤◌, ℕ, ◌+◌, ◌*◌}
 use Rattle.sdd_views.specs.declared.Sizes.{Sizes}
 
 -- How far apart those words stand that different participants write: a processor keeps words by lines of 8, which it fetches
@@ -17,29 +17,42 @@ lock_word = line
 abbrev pub mark_word : ℕ
 mark_word = line + 1
 
--- behind the words of n places
-abbrev pub after_places : ℕ → ℕ
-after_places n = line * n + 2 * line
+-- cells come first, so that each one's word is where it is however many of each there are: who loads from a cell adds nothing
+abbrev pub first_cell : ℕ
+first_cell = 2 * line
 
--- the state of a place: 0 free, 1 closed, 2 open, 3 ended
-abbrev pub state_word : ℕ → ℕ
-state_word place = after_places place
-
-abbrev pub count_word : ℕ → ℕ
-count_word place = after_places place + 1
-
-abbrev pub first_cell : Sizes → ℕ
-first_cell sizes = after_places sizes.participants
-
-abbrev pub cell_word : Sizes → ℕ → ℕ
-cell_word sizes cell = first_cell sizes + cell
+abbrev pub cell_word : ℕ → ℕ
+cell_word cell = first_cell + cell
 
 -- where a cell for raw pointers has its pointer, beside its mark: pointers come behind all cells
 abbrev pub pointer_word : Sizes → ℕ → ℕ
-pointer_word sizes cell = cell_word sizes (sizes.cells + cell)
+pointer_word sizes cell = cell_word (sizes.cells + cell)
+
+-- behind the words of cells
+abbrev pub after_cells : Sizes → ℕ
+after_cells sizes = cell_word (2 * sizes.cells)
+
+-- behind the words of n places, the first of which stand in a line that no cell's word is in
+abbrev pub after_places : Sizes → ℕ → ℕ
+after_places sizes n = after_cells sizes + line * n + line
+
+-- the state of a place: 0 free, 1 closed, 2 open, 3 ended
+abbrev pub state_word : Sizes → ℕ → ℕ
+state_word sizes place = after_places sizes place
+
+abbrev pub count_word : Sizes → ℕ → ℕ
+count_word sizes place = after_places sizes place + 1
 
 abbrev pub first_slot : Sizes → ℕ
-first_slot sizes = after_places sizes.participants + 2 * sizes.cells
+first_slot sizes = after_places sizes sizes.participants
+
+-- a word of a cell or a slot, or of a job
+abbrev pub IsBeside : Sizes → ℕ → Type 0
+IsBeside sizes word = (first_cell ≤ word) × ((word < after_cells sizes) ⊎ (first_slot sizes ≤ word))
+
+-- a word of the count, the lock or a place: it is neither a cell's nor a slot's
+abbrev pub IsEpochWord : Sizes → ℕ → Type 0
+IsEpochWord sizes word = ((word < first_cell) ⊎ (after_cells sizes ≤ word)) × (word < first_slot sizes)
 
 abbrev pub slot_word : Sizes → ℕ → ℕ
 slot_word sizes slot = first_slot sizes + slot
@@ -56,10 +69,14 @@ job_word sizes job = slot_word sizes (job_slot sizes job)
 abbrev pub most_waiting : Sizes → ℕ
 most_waiting sizes = sizes.slots + sizes.jobs
 
--- how many words there are behind the places'
+-- where the word of a slot is among those of cells and slots, as if these stood one behind the other
+abbrev pub behind : Sizes → ℕ → ℕ
+behind sizes slot = 2 * sizes.cells + slot
+
+-- how many of these there are, with those of jobs
 abbrev pub words_behind : Sizes → ℕ
-words_behind sizes = 2 * sizes.cells + most_waiting sizes
+words_behind sizes = behind sizes (most_waiting sizes)
 
 -- and in all
 abbrev pub all_words : Sizes → ℕ
-all_words sizes = after_places sizes.participants + words_behind sizes
+all_words sizes = first_slot sizes + most_waiting sizes

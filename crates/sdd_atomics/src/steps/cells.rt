@@ -16,6 +16,7 @@ ghost use Rattle.sdd_atomics.specs.Cells.{cells_of, FitsCell};
 ghost use Rattle.sdd_atomics.specs.DomainSeat.{view, epoch, slots, Taught, Moved, MovedAlone, Knows};
 
 use crate::domain_table::{DomainSeat, DomainTable};
+use crate::words::cell_word;
 use crate::plays::{
     ClaimForOwned, ClaimForRaw, ClaimForShared, CutRight, ExchangeCell, FillForOwned,
     FillForShared, FindCell, FreeBareCell, FreeCell, JoinRight, LearnCell, LookIn, RetagCell,
@@ -41,7 +42,7 @@ pub fn look_in(board: &DomainTable, token: &mut DomainSeat, cell: u32) -> u64
     board
         .table
         .shared
-        .load::<LookIn>(token, board.cell_word(cell))
+        .load::<LookIn>(token, cell_word(cell))
 }
 
 /// Looks into a cell under the open guard, which sees the item whose owner the cell held at this moment from now on, and has the stake of its place out.
@@ -58,7 +59,7 @@ pub fn see_in(board: &DomainTable, token: &mut DomainSeat, cell: u32) -> u64
     board
         .table
         .shared
-        .load::<SeeIn>(token, board.cell_word(cell))
+        .load::<SeeIn>(token, cell_word(cell))
 }
 
 /// Tries to claim a cell of this kind by this word, and answers its word before. It was free where this is `FREE_CELL`: then the participant has the right to it,
@@ -82,7 +83,7 @@ pub fn claim_cell(
     ensures { Moved (ClaimsCell word kind cell) token.old result token.new }
 {
     let shared = &board.table.shared;
-    let at = board.cell_word(cell);
+    let at = cell_word(cell);
     match kind {
         CellKind::Owned => shared.compare_exchange::<ClaimForOwned>(token, at, FREE_CELL, word),
         CellKind::Shared => shared.compare_exchange::<ClaimForShared>(token, at, FREE_CELL, word),
@@ -116,12 +117,12 @@ pub fn fill_bare_cell(
         board
             .table
             .shared
-            .swap::<FillForShared>(token, board.cell_word(cell), word)
+            .swap::<FillForShared>(token, cell_word(cell), word)
     } else {
         board
             .table
             .shared
-            .swap::<FillForOwned>(token, board.cell_word(cell), word)
+            .swap::<FillForOwned>(token, cell_word(cell), word)
     }
 }
 
@@ -148,7 +149,7 @@ pub fn retag_cell(
     board
         .table
         .shared
-        .compare_exchange::<RetagCell>(token, board.cell_word(cell), old, word)
+        .compare_exchange::<RetagCell>(token, cell_word(cell), old, word)
 }
 
 /// Puts this word into a cell that holds no owners, beside the token of the right to it, and answers its word before.
@@ -172,7 +173,7 @@ pub fn swap_bare_cell(
     ensures { Moved (SwapsBare word cell) token.old result token.new }
 {
     let deed = Swap::<SwapBareCell> {
-        word: board.cell_word(cell),
+        word: cell_word(cell),
         new: word,
         marker: PhantomData,
     };
@@ -205,7 +206,7 @@ pub fn swap_cell(
         → Moved (SwapsOne word shared cell) token.old result token.new }
 {
     let deed = Swap::<SwapCell> {
-        word: board.cell_word(cell),
+        word: cell_word(cell),
         new: word,
         marker: PhantomData,
     };
@@ -238,7 +239,7 @@ pub fn exchange_cell(
         → Moved (ExchangesOne old word shared cell) token.old result token.new }
 {
     let deed = CompareExchange::<ExchangeCell> {
-        word: board.cell_word(cell),
+        word: cell_word(cell),
         old,
         new: word,
         marker: PhantomData,
@@ -264,7 +265,7 @@ pub fn free_cell(board: &DomainTable, token: &mut DomainSeat, cell: u32) -> u64
     board
         .table
         .shared
-        .swap::<FreeCell>(token, board.cell_word(cell), FREE_CELL)
+        .swap::<FreeCell>(token, cell_word(cell), FREE_CELL)
 }
 
 /// The same of a cell that holds no owners.
@@ -282,7 +283,7 @@ pub fn free_bare_cell(board: &DomainTable, token: &mut DomainSeat, cell: u32) ->
     board
         .table
         .shared
-        .swap::<FreeBareCell>(token, board.cell_word(cell), FREE_CELL)
+        .swap::<FreeBareCell>(token, cell_word(cell), FREE_CELL)
 }
 
 /// Cuts the right to a cell off that the participant has, as a token of its own. No word is touched.

@@ -32,7 +32,6 @@ use crate::plays::{
     Hold, JoinOwner, LearnOwned, Leave, LetGo, LookAtGuard, LookAtSlot, LookForValue, ReleaseHold,
     Retire, SeeOwned, ShareAgain, TakeHeld, TakeOut, TryHold,
 };
-use crate::words::state_word;
 use sdd_shared_values::ValueFraction;
 use sdd_witness::{Witness, part, step_beside};
 
@@ -327,12 +326,12 @@ pub fn look_for_guard(board: &DomainTable, token: &mut DomainSeat, place: usize)
     requires inside { place < places_of board.now }
     requires place { HasPlace (epoch token.old) }
     requires next { place ≡ (slots token.old).looked }
-    ensures { Taught (LooksForGuard (words.state_word place)) token.old result token.new }
+    ensures { Taught (LooksForGuard (words.state_word (view token.old).sizes place)) token.old result token.new }
 {
     board
         .table
         .shared
-        .load::<LookAtGuard>(token, state_word(place))
+        .load::<LookAtGuard>(token, board.state_word(place))
 }
 
 /// Lets go of the slot that is held by its only owner. Answers its word.

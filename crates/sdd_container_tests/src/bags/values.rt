@@ -4,7 +4,7 @@ ghost use Rattle.sdd_bag.specs.There.{MayCall};
 
 use crate::bags::example::{AMPLE, Bags, Entry, Example, StorageBag, in_a_world};
 use crate::bags::steps::{
-    closed, counted, filled, full_of, made, opened, popped, pushed, shut, summed,
+    changed, closed, counted, filled, full_of, made, opened, popped, pushed, shut, summed,
 };
 use sdd_bag::Bag;
 use sdd_core::{Limits, Refused};
@@ -78,6 +78,27 @@ impl Example<Entry<u64, DEFAULT>> for RetiresAStorage {
 #[test]
 fn a_storage_is_retired_with_its_last_value(rt: HostRuntime) {
     in_a_world(&rt, AMPLE, &RetiresAStorage, 2);
+}
+
+/// 2 values are in the bag itself, and 5 in three storages. None is lent while a guard is open.
+struct LendsNone;
+
+impl Example<Entry<u64, 2>> for LendsNone {
+    fn run<R: Abort, S: Bags<Entry<u64, 2>>>(&self, rt: &R, s: &mut S) {
+        let guard = opened(rt, s);
+        let mut bag: StorageBag<u64, 2> = full_of(rt, s, &mut (0..7), &guard);
+        let tenfold = |value: &mut u64| *value = value.wrapping_mul(10);
+        assert!(rt; changed(s, &mut bag, tenfold) == Err(Refused::GuardOpen));
+        assert!(rt; bag.len() == 7);
+        assert!(rt; summed(s, &mut bag, &guard) == 21);
+        closed(s, bag, &guard);
+        shut(s, guard);
+    }
+}
+
+#[test]
+fn no_value_is_lent_while_a_guard_is_open(rt: HostRuntime) {
+    in_a_world(&rt, AMPLE, &LendsNone, 3);
 }
 
 /// So many numbers are in a bag.

@@ -31,6 +31,7 @@ use sdd_domain_slots::cell_values::{
 use sdd_domain_slots::cell_words::{
     contents_in, expected_word, holds, slot_in, tag_in, value_held,
 };
+use sdd_domain_slots::sightings::without_sightings;
 use sdd_participants::{CellContents, Job};
 use sdd_rights::{RawRight, Right, StandingKind};
 use sdd_shared_values::GhostValues;
@@ -92,7 +93,7 @@ impl<'d, T: Item<T>, J: Job> LocalCore<'d, T, J> {
                 self.next_cell = cell + 1;
                 Ok(Right::of_cell(cell, MOST_CELLS, kind, right))
             }
-            Err((back, refused)) => Err((bind(board, slots, back, kind), refused)),
+            Err((back, missed)) => Err((bind(board, slots, back, kind), without_sightings(missed))),
         }
     }
 
@@ -367,7 +368,10 @@ impl<'d, T: Item<T>, J: Job> LocalCore<'d, T, J> {
         let next = self.first_cell();
         let cells = self.domain.limits.cells as u32;
         let tries = self.domain.limits.tries;
-        let (cell, right) = reserve(&self.domain.board, &mut self.token, next, cells, tries)?;
+        let (cell, right) = match reserve(&self.domain.board, &mut self.token, next, cells, tries) {
+            Ok(reserved) => reserved,
+            Err(missed) => return Err(without_sightings(missed)),
+        };
         self.next_cell = cell + 1;
         Ok(RawRight::of_cell(cell, MOST_CELLS, right))
     }

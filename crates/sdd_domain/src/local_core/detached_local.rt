@@ -6,7 +6,6 @@ ghost use Rattle.sdd_domain_slots.specs.LocalState.{HasOpenGuard};
 use crate::domain::Domain;
 use crate::local_core::LocalCore;
 use sdd_atomics::DomainSeat;
-use sdd_atomics::words::OwnPlace;
 use sdd_core::Limits;
 use sdd_domain_slots::deferred_jobs::DeferredJobs;
 use sdd_domain_slots::due_items::DueItems;
@@ -22,11 +21,12 @@ use std::marker::Model;
 pub struct DetachedLocal<J: Job> {
     token: DomainSeat,
     limits: Limits,
-    place: OwnPlace,
+    place: usize,
     own: Participant,
     due: DueItems,
     known: FreeSlotHints,
     jobs: DeferredJobs<J>,
+    next_job: u32,
     privates: PrivateTable,
     next_cell: u32,
     tenure: ReadSection,
@@ -56,10 +56,10 @@ impl<J: Job> Model for DetachedLocal<J> {
       words = d.token.me.0.words;
       due = d.due.items;
       jobs = d.jobs;
-      collectors = d.privates;
+      collectors = d.privates.entries;
     } };
 
-    ghost invariant = { λ d. IsDormant d.limits d.place d.own d.due d.known.slots d.jobs d.privates d.tenure d.token d.tally };
+    ghost invariant = { λ d. IsDormant d.limits d.place d.own d.due d.known.slots d.jobs d.privates.entries d.tenure d.token d.tally };
 }
 
 impl<T: Item<T>, J: Job> LocalCore<'_, T, J> {
@@ -74,11 +74,13 @@ impl<T: Item<T>, J: Job> LocalCore<'_, T, J> {
             domain,
             token,
             place,
+            state: _,
             nesting: _,
             own,
             due,
             known,
             jobs,
+            next_job,
             privates,
             next_cell,
             tenure,
@@ -92,6 +94,7 @@ impl<T: Item<T>, J: Job> LocalCore<'_, T, J> {
             due,
             known,
             jobs,
+            next_job,
             privates,
             next_cell,
             tenure,
@@ -130,6 +133,7 @@ impl<J: Job> DetachedLocal<J> {
             due,
             known,
             jobs,
+            next_job,
             privates,
             next_cell,
             tenure,
@@ -139,11 +143,13 @@ impl<J: Job> DetachedLocal<J> {
             domain,
             token,
             place,
+            state: domain.board.state_word(place),
             nesting: domain.limits.nesting as u32,
             own,
             due,
             known,
             jobs,
+            next_job,
             privates,
             next_cell,
             tenure,

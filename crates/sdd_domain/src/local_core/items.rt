@@ -21,6 +21,7 @@ use sdd_core::{Refused, SlotName};
 use sdd_domain_slots::cell_values::bind;
 use sdd_domain_slots::claims::{claim_free, finds_free};
 use sdd_domain_slots::seen_owners::own_seen;
+use sdd_domain_slots::sightings::without_sightings;
 use sdd_domain_slots::values::{let_one_go, put_value};
 use sdd_participants::{Job, LimboEntry};
 use sdd_rights::{Right, StandingKind};
@@ -89,7 +90,7 @@ impl<'d, T: Item<T>, J: Job> LocalCore<'d, T, J> {
                 let slots = limits.slots as usize;
                 Ok(Right::of_witness(slot, slots, kind, owner, grip))
             }
-            Err(refused) => Err((value, refused)),
+            Err(missed) => Err((value, without_sightings(missed))),
         }
     }
 
@@ -131,7 +132,7 @@ impl<'d, T: Item<T>, J: Job> LocalCore<'d, T, J> {
                 let slots = limits.slots as usize;
                 Ok(Right::of_witness(slot, slots, kind, owner, grip))
             }
-            Err(refused) => Err((make, refused)),
+            Err(missed) => Err((make, without_sightings(missed))),
         }
     }
 

@@ -8,6 +8,7 @@ use crate::local_core::LocalCore;
 use sdd_atomics::steps::jobs::give_place_back;
 use sdd_core::Refused;
 use sdd_domain_slots::job_claims::claim_place;
+use sdd_domain_slots::sightings::without_sightings;
 use sdd_participants::{Job, LimboEntry};
 use sdd_space::Item;
 
@@ -24,15 +25,15 @@ impl<'d, T: Item<T>, J: Job> LocalCore<'d, T, J> {
             × (IsLone self.old → AllPlacesTaken self.old)) }
     {
         let board = &self.domain.board;
-        let next = self.jobs.next();
-        match claim_place(board, &mut self.token, next, &self.domain.limits) {
+        match claim_place(board, &mut self.token, self.next_job, &self.domain.limits) {
             Ok(place) => {
                 self.jobs.put(place, job);
+                self.next_job = place + 1;
                 self.own.bags.push(LimboEntry::Job(place));
                 self.own.set_has_garbage();
                 Ok(place)
             }
-            Err(refused) => Err((job, refused)),
+            Err(missed) => Err((job, without_sightings(missed))),
         }
     }
 

@@ -5,7 +5,7 @@ use Rattle.sdd_atomics.proofs.steps.end.Goals as goal
 
 pub store-requires : goal.store-requires
 store-requires c = let sized = c.args.board.now.sized in let r = c.requires in
-    (r.home, omega arith, may_end _ _ _ _ _ _ r.closed (omega (arith, r.own)) (omega (arith, r.own)) r.rests r.within)
+    (r.home, omega arith, may_end _ _ _ _ _ _ r.closed r.own.0 r.own.1 r.rests r.within)
 
 pub returns : goal.returns
 returns c = let e = c.store.ensures in taught c.args.token.now _ 3 e.0 e.1 EndsAll e.2

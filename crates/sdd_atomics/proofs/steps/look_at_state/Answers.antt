@@ -1,14 +1,15 @@
 use Rattle.std.proofs.Common.{ℕ, arith, subst}
 use Rattle.sdd_word_invariant.specs.EpochSteps.{LooksAtState}
+use Rattle.sdd_views.specs.declared.Sizes.{Sizes}
 use Rattle.sdd_atomics.specs.DomainSeat.{Stepped}
 use Rattle.sdd_atomics.proofs.Allowed.{told, may_look_at_state}
 use Rattle.sdd_atomics.proofs.steps.look_at_state.Goals as goal
 
 pub load-requires : goal.load-requires
 load-requires c = let sized = c.args.board.now.sized in let r = c.requires in
-    (r.home, omega arith, may_look_at_state _ _ _ _ _ _ _ c.state_word.ensures (omega arith) r.next.1)
+    (r.home, omega arith, may_look_at_state _ _ _ _ _ _ _ c.state_word.ensures (omega arith) r.sizes r.next.1)
 
 pub returns : goal.returns
-returns c = let e = c.load.ensures in
-    subst (λ (i : ℕ). Stepped (LooksAtState i) c.args.token.now c.load.result c.load.new.seat) c.state_word.ensures
-    (told c.args.token.now _ c.load.result e.0 e.1 (LooksAtState c.state_word.result) e.2)
+returns c = let e = c.load.ensures in 
+    subst (λ (t : Sizes × ℕ). Stepped (LooksAtState t.0 t.1) c.args.token.now c.load.result c.load.new.seat) (λ d. (c.requires.sizes d, c.state_word.ensures d))
+    (told c.args.token.now _ c.load.result e.0 e.1 (LooksAtState c.args.token.now.me.0.sizes c.state_word.result) e.2)

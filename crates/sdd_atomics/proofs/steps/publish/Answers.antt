@@ -4,7 +4,7 @@ use Rattle.sdd_atomics.proofs.steps.publish.Goals as goal
 
 pub store-requires : goal.store-requires
 store-requires c = let sized = c.args.board.now.sized in let r = c.requires in
-    (r.home, omega arith, may_publish _ _ _ _ _ _ r.closed r.count (omega (arith, r.own)) (omega (arith, r.own)))
+    (r.home, omega arith, may_publish _ _ _ _ _ _ r.closed r.count r.own.0 r.own.1)
 
 pub returns : goal.returns
 returns c = let e = c.store.ensures in published c.args.token.now _ 2 e.0 e.1 e.2

@@ -5,7 +5,7 @@ use Rattle.sdd_atomics.proofs.steps.write.Goals as goal
 
 pub store-requires : goal.store-requires
 store-requires c = let sized = c.args.board.now.sized in let r = c.requires in
-    (r.home, omega arith, may_write _ _ _ _ _ _ _ r.closed (omega (arith, r.own)) (omega (arith, r.own)))
+    (r.home, omega arith, may_write _ _ _ _ _ _ _ r.closed (let at = r.own.0 in omega arith) r.own.1)
 
 pub returns : goal.returns
 returns c = let e = c.store.ensures in told c.args.token.now _ c.args.count e.0 e.1 Counts e.2

@@ -1,9 +1,12 @@
 use Rattle.std.proofs.Common.{ℕ, ◌<◌, ◌≤◌}
 use Rattle.sdd_domain_slots.specs.Claims.{Misses}
+use Rattle.sdd_domain_slots.specs.Sightings.{AreSeenTaken, SearchesOn}
 use Rattle.sdd_domain_slots.proofs.claims.walk.Given as goal
 
 abbrev pub invariant-loop-slot : goal.invariant-loop-slot
 invariant-loop-slot l = record {
   misses : Misses (λ (k : ℕ). (l.from ≤ k) × (k < l.slot)) l.fn.token l.token;
-  left : 0 < l.left;
+  left : 0 < l.search.left;
+  on : SearchesOn l.fn.search l.search;
+  seen : AreSeenTaken l.from l.slot l.search.seen;
 }

@@ -1,4 +1,4 @@
-use Rattle.std.proofs.Common.{List, ap, sym, ◌∙◌, subst}
+use Rattle.std.proofs.Common.{ℕ, List, ap, sym, ◌∙◌, subst}
 use Rattle.atomic_table.specs.declared.shared.Seat.{Seat}
 use Rattle.sdd_rights.specs.declared.fraction.Fraction.{Fraction}
 use Rattle.sdd_values.specs.declared.read_sections.SectionState.{SectionState}
@@ -18,8 +18,9 @@ settle-requires-clause-lent c = may_settle c.args.tenure.now.round c.end_round-e
 
 pub close-requires-clause-purse : goal.close-requires-clause-purse
 close-requires-clause-purse c = let b = c.args.board.now in let settled = c.settle.ensures in
-    subst (λ (sees : List ShownValue). CarriesSeen (book_of b) (places_of b) c.args.place sees c.settle.new.seat.me.1)
-    (sym (ap (λ (s : Seat ValueFraction View). s.me.0.stakes.sees) settled))
+    let place = c.requires.own.0 ∙ sym (ap (λ (s : Seat ValueFraction View). s.me.0.epoch.place) settled) in
+    subst (λ (t : ℕ × List ShownValue). CarriesSeen (book_of b) (places_of b) t.0 t.1 c.settle.new.seat.me.1)
+    (λ d. (place d, sym (ap (λ (s : Seat ValueFraction View). s.me.0.stakes.sees) settled) d))
     (all_settled (book_of b) (places_of b) c.args.place c.args.token.now.me.0.stakes.sees c.args.token.now.me.1 c.settle.new.seat.me.1
     (ap (λ (s : Seat ValueFraction View). s.me.1) settled) c.requires.purse)
 

@@ -16,7 +16,7 @@ use Rattle.sdd_atomics.proofs.steps.cells.exchange_cell.Goals as goal
 pub beside-requires : goal.beside-requires
 beside-requires c = let r = c.requires in let b = c.args.board.now in let cell : ℕ = c.args.cell in let me = c.args.token.now.me in
     let shared = r.right.1.0 in let γ : ℕ = book_of b in let z : Sizes = sizes_of b in let i : ℕ = c.cell_word.result in
-    let known = c.cell_word.ensures ∙ ap (λ (x : Sizes). cell_word x cell) (sym r.knows.0) in
+    let known = c.cell_word.ensures in
     let pledge : Share → Pledge
     = λ q. record { who = c.args.token.now.id; seat = c.args.right.now.id; view = the_row.coded.code (right_to cell (cell_kind shared)); share = q } in (
       r.home,
@@ -40,7 +40,7 @@ beside-requires c = let r = c.requires in let b = c.args.board.now in let cell :
 
 pub returns : goal.returns
 returns c = λ shared views. let r = c.requires in let e = c.beside.ensures in let cell : ℕ = c.args.cell in
-    let known = c.cell_word.ensures ∙ ap (λ (x : Sizes). cell_word x cell) (sym r.knows.0) in
+    let known = c.cell_word.ensures in
     let is = view_is e.2.0 (right_to cell (cell_kind shared)) (sym e.2.1 ∙ views) in let s = e.2.2 in (
       e.0,
       e.1,

@@ -16,5 +16,5 @@ pub returns : goal.returns
 returns c = λ shared mine. let e = c.swap.ensures in (
   e.0,
   e.1,
-  e.2 c.args.cell shared (c.cell_word.ensures ∙ ap (λ (z : Sizes). cell_word z c.args.cell) (sym c.requires.knows.0)) mine,
+  e.2 c.args.cell shared (c.cell_word.ensures) mine,
 )

@@ -13,7 +13,7 @@ use Rattle.sdd_atomics.proofs.steps.cells.swap_bare_cell.Goals as goal
 pub beside-requires : goal.beside-requires
 beside-requires c = let r = c.requires in let b = c.args.board.now in let cell : ℕ = c.args.cell in let me = c.args.token.now.me in
     let kind = r.right.1.0 in let γ : ℕ = book_of b in let z : Sizes = sizes_of b in let i : ℕ = c.cell_word.result in
-    let known = c.cell_word.ensures ∙ ap (λ (x : Sizes). cell_word x cell) (sym r.knows.0) in
+    let known = c.cell_word.ensures in
     let pledge : Share → Pledge
     = λ q. record { who = c.args.token.now.id; seat = c.args.right.now.id; view = the_row.coded.code (right_to cell kind); share = q } in (
       r.home,
@@ -37,7 +37,7 @@ beside-requires c = let r = c.requires in let b = c.args.board.now in let cell :
 
 pub returns : goal.returns
 returns c = let r = c.requires in let e = c.beside.ensures in let cell : ℕ = c.args.cell in
-    let known = c.cell_word.ensures ∙ ap (λ (x : Sizes). cell_word x cell) (sym r.knows.0) in let s = e.2.2 in (
+    let known = c.cell_word.ensures in let s = e.2.2 in (
       e.0,
       e.1,
       bare_swapped c.args.token.now.me _ c.args.word cell c.cell_word.result known r.free c.beside.result s.1 _ s.2 s.3,

@@ -1,4 +1,6 @@
-use Rattle.std.proofs.Common.{ℕ, arith, subst}
+use Rattle.std.proofs.Common.{ℕ, ◌∙◌, sym, ap, arith, subst}
+use Rattle.sdd_views.specs.declared.Sizes.{Sizes}
+use Rattle.sdd_word_invariant.specs.Words.{state_word}
 use Rattle.sdd_word_invariant.specs.SlotSteps.{LooksForGuard}
 use Rattle.sdd_atomics.specs.DomainSeat.{Taught}
 use Rattle.sdd_atomics.proofs.Allowed.{taught, may_look_for_guard}
@@ -10,5 +12,5 @@ load-requires c = let sized = c.args.board.now.sized in let r = c.requires in
 
 pub returns : goal.returns
 returns c = let e = c.load.ensures in
-    subst (λ (i : ℕ). Taught (LooksForGuard i) c.args.token.now c.load.result c.load.new.seat) c.state_word.ensures
+    subst (λ (i : ℕ). Taught (LooksForGuard i) c.args.token.now c.load.result c.load.new.seat) (c.state_word.ensures ∙ ap (λ (z : Sizes). state_word z c.args.place) (sym c.requires.knows.0))
     (taught c.args.token.now _ c.load.result e.0 e.1 (LooksForGuard c.state_word.result) e.2)

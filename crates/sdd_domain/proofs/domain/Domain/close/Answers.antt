@@ -47,7 +47,7 @@ returns-clause-whole g c = let z = sizes_of c.args.self.board in let ended : Lis
     let slots : z.slots ≡ c.args.self.limits.slots = ap (λ (z : Sizes). z.slots) c.args.self.limited.1 in
     let few : length ended ≤ z.participants = subst (λ (n : ℕ). n ≤ z.participants) taken.over closed.places in
     let quiet : c.args.self.limits.slots ≤ c.take_all_counts.new.token.me.0.places.quiet =
-    (let found = c.in-Some.ensures.quiet in let same = ap (λ (v : EndedView). v.quiet) c.take_all_counts.ensures.places in omega arith) in
+    (let found = c.in-Ok.ensures.quiet in let same = ap (λ (v : EndedView). v.quiet) c.take_all_counts.ensures.places in omega arith) in
     let ws : List ℕ = slots_items c.close-closed.result.words in
     let free : full_slots z ws ≡ 0 = none_full z ws (λ i low. closed.quiet i (omega arith)) in (
       (omega arith),

@@ -31,7 +31,7 @@ take_for-requires-clause-room g c = let l = c.self.inside in let b = l.domain.no
 pub invariant_of-self : goal.invariant_of-self
 invariant_of-self g c = let l = c.self.inside in let b = l.domain.now.board in let i = c.self.invariant in let r = i.4 in let n : ℕ = slots_of b in
     let k : ℕ = c.number-cell.result in let v : View = l.token.me.0 in let u = c.begin_where_shut.new.token in let begun = c.in-Ok.ensures.begun.0.seat in
-    let chosen : LimboEntry → Bool = is_kept_for k (standings_of l.privates) in
+    let chosen : LimboEntry → Bool = is_kept_for k (standings_of l.privates.entries) in
     let due : l.due.items ≡ [] = ap (λ (m : LocalState _). m.due) c.self.view_is ∙ c.requires.settled in
     let left : List Waiting = rest_of chosen l.own.bags.waiting in
     let own : record l.own { bags = record l.own.bags { waiting = left } } ≡ record l.own { bags = c.take_for.new.bags }
@@ -42,13 +42,13 @@ invariant_of-self g c = let l = c.self.inside in let b = l.domain.now.board in l
     let bags = begins_close n (known_waiting v.slots) l.own.bags.waiting l.due.items r.bags chosen k due
     (λ j x at. let once = known_once n (known_waiting v.slots) l.own.bags.waiting l.due.items r.bags x.slot in
     let one = is_same x.slot x.slot refl in let has = total_has (waits_in x.slot) v.slots.waits j x at in
-    choice_plain n l.privates v.slots.privates r.told k x (omega arith))
-    (λ j x at. choice_private n l.privates v.slots.privates r.told k j x at) in (
+    choice_plain n l.privates.entries v.slots.privates r.told k x (omega arith))
+    (λ j x at. choice_private n l.privates.entries v.slots.privates r.told k j x at) in (
       subst (λ (o : Participant). IsBetweenCalls b l.place o u) own posed,
       i.1,
       record { units = i.2.units; kind = i.2.kind },
       subst (AreLentTo l.tenure.round) (sym begun.others) i.3,
-      subst (λ (w : View). IsReady b (record l.own { bags = c.take_for.new.bags }) c.take_for.new.self l.known.slots l.jobs l.privates (known_waiting w.slots))
+      subst (λ (w : View). IsReady b (record l.own { bags = c.take_for.new.bags }) c.take_for.new.self l.known.slots l.jobs l.privates.entries (known_waiting w.slots))
           (sym begun.view) record {
             bags = subst (λ (z : List Waiting × List LimboEntry). AreInBags n (record (known_waiting v.slots) { closes = Some k }) z.0 z.1)
                 (λ d. ((sym c.take_for.ensures.kept d).waiting, sym c.take_for.ensures.taken d)) bags;

@@ -1,4 +1,5 @@
 use Rattle.std.proofs.Common.{rules, Bool, refl, sym, ap, ◌∙◌, subst}
+use Rattle.sdd_core.specs.declared.refused.Refused.{Refused}
 use Rattle.sdd_views.specs.declared.View.{View}
 use Rattle.sdd_views.specs.declared.Sizes.{Sizes}
 use Rattle.sdd_domain_slots.specs.LocalState.{LocalState}
@@ -16,6 +17,6 @@ pub returns-in-Err-clause-claimed : goal.returns-in-Err-clause-claimed
 returns-in-Err-clause-claimed g c = let l = c.self.inside in let v : View = l.token.me.0 in let m : LocalState g.row.J.Denot = c.self.view_is 0 in
     let all = c.self.invariant.0.all ∙ ap (λ (z : Sizes). z.participants) l.domain.now.limited.1 in (
       search rules,
-      subst (λ (y : LocalState g.row.J.Denot). ClaimsNone c.in-Err.refused y) c.self.view_is
-          (none_claimed g.row.J.Denot m v l.domain.now.limits.cells c.in-Err.refused c.in-Err.ensures.claimed.1 all refl refl),
+      subst (λ (z : Refused × LocalState g.row.J.Denot). ClaimsNone z.0 z.1) (λ d. (sym c.without_sightings.ensures d, c.self.view_is d))
+          (none_claimed g.row.J.Denot m v l.domain.now.limits.cells c.in-Err.missed.0 c.in-Err.ensures.claimed.1 all refl refl),
     )

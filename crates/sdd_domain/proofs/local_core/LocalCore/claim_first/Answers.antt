@@ -29,10 +29,10 @@ pub returns-in_default : goal.returns-in_default
 returns-in_default g c = let l = c.self.inside in let r = c.self.invariant.4 in let n : ℕ = slots_of l.domain.now.board in let slot : ℕ = c.args.slot in
     let ps : List PrivateItem = l.token.me.0.slots.privates in let known = known_waiting l.token.me.0.slots in
     let due = ap (λ (m : LocalState _). m.due) c.self.view_is ∙ c.requires.first.1 in
-    let none : total (private_in slot) ps ≡ 0 = told_none n l.privates ps r.told slot (sym c.take.ensures.collector ∙ c.in_default.is) in
+    let none : total (private_in slot) ps ≡ 0 = told_none n l.privates.entries ps r.told slot (sym c.take.ensures.collector ∙ c.in_default.is) in
     let once = first_once n known l.own.bags.waiting l.due.items r.bags (Item slot) c.requires.first.0 due in
     let both = known_in n known l.own.bags.waiting l.due.items r.bags slot in let old : LocalState _ = c.self.view_is 0 in
-    let now : LocalState _ = record old { collectors = c.take.new.self } in
+    let now : LocalState _ = record old { collectors = c.take.new.self.entries } in
     subst (λ (m : LocalState _). ClaimsFirst slot m now) c.self.view_is record {
       member = λ d. record old { slots = record old.slots { privates = sym (none_private slot ps none) d }; collectors = c.take.ensures.taken d };
       others = refl;
@@ -43,7 +43,7 @@ returns-in_default g c = let l = c.self.inside in let r = c.self.invariant.4 in 
 
 pub claim_back-requires-clause-waits : goal.claim_back-requires-clause-waits
 claim_back-requires-clause-waits g c = let l = c.self.inside in let r = c.self.invariant.4 in
-    let one = told_some (slots_of l.domain.now.board) l.privates l.token.me.0.slots.privates r.told c.args.slot c.in-Some.collector
+    let one = told_some (slots_of l.domain.now.board) l.privates.entries l.token.me.0.slots.privates r.told c.args.slot c.in-Some.collector
     (sym c.take.ensures.collector ∙ c.in-Some.is) in (one.1, (one.0, one.2), one.3, one.4)
 
 -- it waits as any other from now on
@@ -63,7 +63,7 @@ invariant_of-self-then-claim_back g c = let l = c.self.inside in let b = l.domai
         slots = c.if-claim_back.ensures.known ∙ r.slots;
         told = subst (λ (z : List (Option ℕ) × List PrivateItem). TellsCollectors n z.0 z.1)
             (λ d. (sym c.take.ensures.taken d, sym (claimed_privates b l.place l.own slot s u claims) d))
-            (told_out n l.privates s.me.0.slots.privates r.told slot low);
+            (told_out n l.privates.entries s.me.0.slots.privates r.told slot low);
         places = r.places;
         jobs = still_jobs n (sizes_of b).jobs l.jobs s.me.0.slots.waits r.jobs u.me.0.slots.waits
             (λ j _. claimed_others b l.place l.own slot s u claims (n + j) (λ e. omega arith));
@@ -78,7 +78,7 @@ returns-then-claim_back g c = let l = c.self.inside in let b = l.domain.now.boar
     let once = first_once n known l.own.bags.waiting l.due.items r.bags (Item slot) c.requires.first.0 due in
     let both = known_in n known l.own.bags.waiting l.due.items r.bags slot in let there = claimed_there b l.place l.own slot s u claims in
     let old : LocalState _ = c.self.view_is 0 in
-    let now : LocalState _ = record (with_view old u.table_id u.me.0) { collectors = c.take.new.self } in
+    let now : LocalState _ = record (with_view old u.table_id u.me.0) { collectors = c.take.new.self.entries } in
     subst (λ (m : LocalState _). ClaimsFirst slot m now) c.self.view_is record {
       member = λ d. record (with_view old (claims.seat.table d) (record (claims.seat.view d) {
         slots = record (claims.seat.view d).slots { waits = u.me.0.slots.waits };
@@ -97,7 +97,7 @@ invariant_of-self-2 g c = let l = c.self.inside in let b = l.domain.now.board in
     let due = ap (λ (m : LocalState _). m.due) c.self.view_is ∙ c.requires.first.1 in
     let next = next_goes l.due c.next.new.self c.next.result (Item slot) c.requires.first.0 c.next.ensures.next due in
     let low = first_slot n (known_waiting s.me.0.slots) l.own.bags.waiting l.due.items r.bags slot c.requires.first.0 due in
-    let there = told_in n l.privates s.me.0.slots.privates r.told slot c.in-Some.collector (sym c.take.ensures.collector ∙ c.in-Some.is) in (
+    let there = told_in n l.privates.entries s.me.0.slots.privates r.told slot c.in-Some.collector (sym c.take.ensures.collector ∙ c.in-Some.is) in (
       lost_posed b l.place l.own c.in-Some.collector slot s u lets i.0,
       i.1,
       i.2,
@@ -108,7 +108,7 @@ invariant_of-self-2 g c = let l = c.self.inside in let b = l.domain.now.board in
         slots = c.if-claim_back.ensures.known ∙ r.slots;
         told = subst (λ (z : List (Option ℕ) × List PrivateItem). TellsCollectors n z.0 z.1)
             (λ d. (sym c.take.ensures.taken d, sym (ap (λ (v : View). v.slots.privates) lets.seat.view) d))
-            (told_out n l.privates s.me.0.slots.privates r.told slot low);
+            (told_out n l.privates.entries s.me.0.slots.privates r.told slot low);
         places = r.places;
         jobs = still_jobs n (sizes_of b).jobs l.jobs s.me.0.slots.waits r.jobs u.me.0.slots.waits
             (λ j _. ap (λ (v : View). total (waits_in (n + j)) v.slots.waits) lets.seat.view);
@@ -123,7 +123,7 @@ returns g c = let l = c.self.inside in let b = l.domain.now.board in let i = c.s
     let next = next_goes l.due c.next.new.self c.next.result (Item slot) c.requires.first.0 c.next.ensures.next due in
     let old : LocalState _ = c.self.view_is 0 in
     let all : l.token.me.0.epoch.all ≡ l.domain.now.limits.participants = i.0.all ∙ ap (λ (z : Sizes). z.participants) l.domain.now.limited.1 in
-    let now : LocalState _ = record (with_view old u.table_id u.me.0) { due = c.next.new.self.items; collectors = c.take.new.self } in
+    let now : LocalState _ = record (with_view old u.table_id u.me.0) { due = c.next.new.self.items; collectors = c.take.new.self.entries } in
     subst (λ (m : LocalState _). LosesItem slot m now) c.self.view_is record {
       first = next;
       member = λ d. record (with_view old (lets.seat.table d) (record (lets.seat.view d) { words = u.me.0.words })) {

@@ -56,7 +56,7 @@ invariant_of-self g c =
     let a = c.add_owner.new.token in let n : ℕ = c.add_owner.result in let adds = c.add_owner.ensures value known.views in
     let many = counts_most n adds.2.several c.if-add_owner-ge-MOST_SHARED.true in let u = a in let full = full_view b slot value t a n adds many in
     let words : List ℕ = noted slot full.0 t.me.0 in
-    noted_on b l.place l.own l.tenure.round l.due l.known.slots l.jobs l.privates l.tally l.token c.self.invariant t known.same u words adds.0 full.2 full.1
+    noted_on b l.place l.own l.tenure.round l.due l.known.slots l.jobs l.privates.entries l.tally l.token c.self.invariant t known.same u words adds.0 full.2 full.1
 
 pub returns-then-add_owner-ge-MOST_SHARED : goal.returns-then-add_owner-ge-MOST_SHARED
 returns-then-add_owner-ge-MOST_SHARED g c =
@@ -155,7 +155,7 @@ invariant_of-self-2 g c =
     let left = left_view b slot value t a n adds few none c.draw_unit.result.lot c.draw_unit.new.token c.draw_unit.ensures q.knows u
     c.cut-other.ensures.participant in
     let words : List ℕ = noted slot (n + 1) t.me.0 in
-    noted_on b l.place l.own l.tenure.round l.due l.known.slots l.jobs l.privates l.tally l.token c.self.invariant t known.same u words left.0 left.1 left.2
+    noted_on b l.place l.own l.tenure.round l.due l.known.slots l.jobs l.privates.entries l.tally l.token c.self.invariant t known.same u words left.0 left.1 left.2
 
 pub returns : goal.returns
 returns g c =

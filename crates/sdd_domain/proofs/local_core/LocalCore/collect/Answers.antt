@@ -41,8 +41,8 @@ invariant_of-self g c = let l = c.self.inside in let b = l.domain.now.board in l
         bags = collected_bags b l.place l.own cell slot s u moved l.own.bags.waiting l.due.items r.bags low none;
         large = r.large;
         slots = r.slots;
-        told = subst (λ (t : List (Option ℕ)). TellsCollectors n t u.me.0.slots.privates) (sym c.put.ensures)
-            (collected_told b l.place l.own cell slot s u moved l.own.bags.waiting l.due.items r.bags l.privates low r.told);
+        told = subst (λ (t : List (Option ℕ)). TellsCollectors n t u.me.0.slots.privates) (sym c.put.ensures.entry)
+            (collected_told b l.place l.own cell slot s u moved l.own.bags.waiting l.due.items r.bags l.privates.entries low r.told);
         places = r.places;
         jobs = still_jobs n (sizes_of b).jobs l.jobs s.me.0.slots.waits r.jobs u.me.0.slots.waits
             (λ j _. collected_others b l.place l.own cell slot s u moved l.own.bags.waiting l.due.items r.bags c.args.self.now.slots.waits went.0 newest (n + j)
@@ -59,9 +59,9 @@ returns-clause-went g c = let l = c.self.inside in let b = l.domain.now.board in
     let retires = subst (λ (z : ℕ × LocalState _). RetiresAt z.0 shared went.0 old z.1) (λ d. (sym c.number-slot.ensures d, sym c.self.view_is d)) went.1 in
     let newest = ap (λ (m : LocalState _). m.slots.waits) retires.member in
     let view = newest_collected b l.place l.own cell slot s u moved l.own.bags.waiting l.due.items r.bags old.slots.waits went.0 newest in
-    let now : LocalState _ = record (with_view mid u.table_id u.me.0) { collectors = c.put.new.self } in (
+    let now : LocalState _ = record (with_view mid u.table_id u.me.0) { collectors = c.put.new.self.entries } in (
       went.0,
       subst (λ (z : ℕ × ℕ). CollectsAt z.0 z.1 shared went.0 old now) (λ d. (c.number-number.ensures d, c.number-slot.ensures d))
           (collects_to old mid now cell slot went.0 shared retires
-          (λ d. record (with_view mid (moved.0 d) (view d)) { collectors = c.put.ensures d }) (omega arith)),
+          (λ d. record (with_view mid (moved.0 d) (view d)) { collectors = c.put.ensures.entry d }) (omega arith)),
     )

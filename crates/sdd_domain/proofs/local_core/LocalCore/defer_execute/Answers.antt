@@ -20,6 +20,7 @@ use Rattle.sdd_domain.proofs.JobTables.{job_put, not-there}
 use Rattle.sdd_domain_slots.proofs.Members.{with_view}
 use Rattle.sdd_domain_slots.proofs.InBags.{job_plain, one_more, room_left}
 use Rattle.sdd_domain_slots.proofs.Reclaims.{what_job}
+use Rattle.sdd_domain.specs.Noted.{HasNoted}
 use Rattle.sdd_domain.proofs.local_core.LocalCore.defer_execute.Goals as goal
 
 pub put-requires-clause-free : goal.put-requires-clause-free
@@ -49,8 +50,8 @@ invariant_of-self g c = let l = c.self.inside in let b = l.domain.now.board in l
     let d = subst (λ (k : ℕ). DefersAt (k + place) 4 l.token.me.0 token.me.0) (sym (ap (λ (z : Sizes). z.slots) l.domain.now.limited.1)) did.view in
     let low : place < (sizes_of b).jobs = subst (λ (z : Sizes). place < z.jobs) (sym l.domain.now.limited.1) c.in-Ok.ensures.tried.0 in
     let inside : place < length l.jobs = (let long = r.places in omega arith) in
-    subst (λ (o : Participant). IsBetweenCalls b l.place o token × l.nesting ≡ l.domain.now.limits.nesting × IsTenureOf o l.tenure
-    × AreLentTo l.tenure.round token.me.1 × IsReady {J = g.row.J.Denot} b o l.due l.known.slots c.put.new.self l.privates (known_waiting token.me.0.slots)
+    subst (λ (o : Participant). IsBetweenCalls b l.place o token × HasNoted b l.domain.now.limits l.place l.nesting l.state × IsTenureOf o l.tenure
+    × AreLentTo l.tenure.round token.me.1 × IsReady {J = g.row.J.Denot} b o l.due l.known.slots c.put.new.self l.privates.entries (known_waiting token.me.0.slots)
     × IsTallied 0 l.tally token.me.0.stakes.counts) (sym own_is) (
       posed_defers b l.place l.own l.token token i.0 did.table did.others place (omega arith) d,
       i.1,
@@ -62,7 +63,7 @@ invariant_of-self g c = let l = c.self.inside in let b = l.domain.now.board in l
             (one_more n (known_waiting l.token.me.0.slots) l.own.bags.waiting l.due.items r.bags (retired_now (n + place) d.0) (Job place) refl
             (what_job n (retired_now (n + place) d.0) (omega arith) ∙ ap (λ (k : ℕ). Job k) (omega arith)) d.6
             (job_plain n (known_waiting l.token.me.0.slots) l.own.bags.waiting l.due.items r.bags place));
-        told = subst (TellsCollectors n l.privates) (sym (ap (λ (v : View). v.slots.privates) d.3)) r.told;
+        told = subst (TellsCollectors n l.privates.entries) (sym (ap (λ (v : View). v.slots.privates) d.3)) r.told;
         large = r.large;
         slots = r.slots;
         places = ap length c.put.ensures ∙ (length-set l.jobs place _ ∙ r.places);

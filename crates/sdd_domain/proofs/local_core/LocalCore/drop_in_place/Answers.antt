@@ -73,7 +73,7 @@ invariant_of-self g c =
       i.1,
       i.2,
       subst (AreLentTo l.tenure.round) (sym (gone.others ∙ ap (λ (x : Seat ValueFraction View). x.me.1) same)) i.3,
-      subst (λ (z : ℕ × KnownWaiting). IsReady b l.own l.due z.0 l.jobs l.privates z.1)
+      subst (λ (z : ℕ × KnownWaiting). IsReady b l.own l.due z.0 l.jobs l.privates.entries z.1)
           (λ d. (sym c.remember.ensures.slots d, sym (ap (λ (v : View). known_waiting v.slots) here) d)) i.4,
       subst (λ (x : Tally). IsTallied 0 x u.me.0.stakes.counts) (sym c.count_in_place.ensures)
           (subst (IsTallied 0 (one_in_place l.tally)) (sym (ap (λ (v : View). v.stakes.counts) here))
@@ -87,7 +87,7 @@ invariant_of-self-in-None g c =
     let t = c.recall.new.token in let u = c.go_in_place.new.token in
     let beside = subst (λ (o : Option g.row.T.Denot). Goes g.row.T slot c.is_one_of_several-shared.result w.views o t u) c.in-None.is c.in-Ok.ensures.0 in
     let gone = beside.gone in let words : List ℕ = noted slot (beside.word - 1) t.me.0 in
-    noted_on b l.place l.own l.tenure.round l.due l.known.slots l.jobs l.privates l.tally l.token c.self.invariant t known.same u words gone.table gone.others
+    noted_on b l.place l.own l.tenure.round l.due l.known.slots l.jobs l.privates.entries l.tally l.token c.self.invariant t known.same u words gone.table gone.others
     gone.view
 
 pub of_witness-requires : goal.of_witness-requires
@@ -108,7 +108,7 @@ invariant_of-self-in-Err g c =
     let l = c.self.inside in let b = l.domain.now.board in let known = recalled g (goal.at.invariant_of-self-in-Err g c).After-recall in
     let same = known.same in let slot : ℕ = c.number-slot.result in let t = c.recall.new.token in let shared : Bool = c.is_one_of_several-shared.result in
     let u = c.go_in_place.new.token in let e = back_view slot shared c.in-Err.refused t u c.in-Err.ensures.3 in
-    noted_on b l.place l.own l.tenure.round l.due l.known.slots l.jobs l.privates l.tally l.token c.self.invariant t known.same u e.0 e.1 e.2 e.3
+    noted_on b l.place l.own l.tenure.round l.due l.known.slots l.jobs l.privates.entries l.tally l.token c.self.invariant t known.same u e.0 e.1 e.2 e.3
 
 pub returns-in-Some : goal.returns-in-Some
 returns-in-Some g c =

@@ -27,7 +27,7 @@ use Rattle.sdd_domain.proofs.local_core.LocalCore.empty_first.Goals as goal
 
 pub empty_own-requires-clause-waits : goal.empty_own-requires-clause-waits
 empty_own-requires-clause-waits g c = let l = c.self.inside in let r = c.self.invariant.4 in
-    let one = told_some (slots_of l.domain.now.board) l.privates l.token.me.0.slots.privates r.told c.args.slot c.args.collector
+    let one = told_some (slots_of l.domain.now.board) l.privates.entries l.token.me.0.slots.privates r.told c.args.slot c.args.collector
     (ap (λ (m : LocalState _). entry_at m.collectors c.args.slot) c.self.view_is ∙ c.requires.kept) in (one.1, (one.0, one.2), one.3, one.4)
 
 -- a close of another came first
@@ -37,7 +37,7 @@ invariant_of-self g c = let l = c.self.inside in let b = l.domain.now.board in l
     let due = ap (λ (m : LocalState _). m.due) c.self.view_is ∙ c.requires.first.1 in
     let next = next_goes l.due c.next.new.self c.next.result (Item slot) c.requires.first.0 c.next.ensures.next due in
     let low = first_slot n (known_waiting s.me.0.slots) l.own.bags.waiting l.due.items r.bags slot c.requires.first.0 due in
-    let there = told_in n l.privates s.me.0.slots.privates r.told slot c.args.collector
+    let there = told_in n l.privates.entries s.me.0.slots.privates r.told slot c.args.collector
     (ap (λ (m : LocalState _). entry_at m.collectors slot) c.self.view_is ∙ c.requires.kept) in (
       lost_posed b l.place l.own c.args.collector slot s u lets i.0,
       i.1,
@@ -49,7 +49,7 @@ invariant_of-self g c = let l = c.self.inside in let b = l.domain.now.board in l
         slots = c.in_err-value.ensures.known ∙ r.slots;
         told = subst (λ (z : List (Option ℕ) × List PrivateItem). TellsCollectors n z.0 z.1)
             (λ d. (sym c.take.ensures.taken d, sym (ap (λ (v : View). v.slots.privates) lets.seat.view) d))
-            (told_out n l.privates s.me.0.slots.privates r.told slot low);
+            (told_out n l.privates.entries s.me.0.slots.privates r.told slot low);
         places = r.places;
         jobs = still_jobs n (sizes_of b).jobs l.jobs s.me.0.slots.waits r.jobs u.me.0.slots.waits
             (λ j _. ap (λ (v : View). total (waits_in (n + j)) v.slots.waits) lets.seat.view);
@@ -64,7 +64,7 @@ invariant_of-self-2 g c = let l = c.self.inside in let b = l.domain.now.board in
     let due = ap (λ (m : LocalState _). m.due) c.self.view_is ∙ c.requires.first.1 in
     let next = next_goes l.due c.next.new.self c.next.result (Item slot) c.requires.first.0 c.next.ensures.next due in
     let low = first_slot n (known_waiting s.me.0.slots) l.own.bags.waiting l.due.items r.bags slot c.requires.first.0 due in
-    let there = told_in n l.privates s.me.0.slots.privates r.told slot c.args.collector
+    let there = told_in n l.privates.entries s.me.0.slots.privates r.told slot c.args.collector
     (ap (λ (m : LocalState _). entry_at m.collectors slot) c.self.view_is ∙ c.requires.kept) in (
       emptied_posed b l.place l.own slot (showing g.row.T c.in_ok-value.value) s u empties i.0,
       i.1,
@@ -77,7 +77,7 @@ invariant_of-self-2 g c = let l = c.self.inside in let b = l.domain.now.board in
         slots = c.in_ok-value.ensures.known ∙ r.slots;
         told = subst (λ (z : List (Option ℕ) × List PrivateItem). TellsCollectors n z.0 z.1)
             (λ d. (sym c.take.ensures.taken d, sym (ap (λ (v : View). v.slots.privates) empties.seat.view) d))
-            (told_out n l.privates s.me.0.slots.privates r.told slot low);
+            (told_out n l.privates.entries s.me.0.slots.privates r.told slot low);
         places = r.places;
         jobs = still_jobs n (sizes_of b).jobs l.jobs s.me.0.slots.waits r.jobs u.me.0.slots.waits
             (λ j _. ap (λ (v : View). total (waits_in (n + j)) v.slots.waits) empties.seat.view);
@@ -104,10 +104,10 @@ returns-clause-gone g c = let l = c.self.inside in let b = l.domain.now.board in
     let low = first_slot n known l.own.bags.waiting l.due.items r.bags slot rest next in
     let once = first_once n known l.own.bags.waiting l.due.items r.bags (Item slot) rest next in
     let both = known_in n known l.own.bags.waiting l.due.items r.bags slot in
-    let there = told_in n l.privates l.token.me.0.slots.privates r.told slot c.args.collector
+    let there = told_in n l.privates.entries l.token.me.0.slots.privates r.told slot c.args.collector
     (ap (λ (m : LocalState _). entry_at m.collectors slot) c.self.view_is ∙ c.requires.kept) in
     let none : total (waits_in slot) l.token.me.0.slots.waits ≡ 0 = (let most = known_once n known l.own.bags.waiting l.due.items r.bags slot in omega arith) in
-    let now : LocalState _ = record (with_view old u.table_id u.me.0) { tally = c.count_reclaimed.new.self; due = rest; collectors = c.take.new.self } in
+    let now : LocalState _ = record (with_view old u.table_id u.me.0) { tally = c.count_reclaimed.new.self; due = rest; collectors = c.take.new.self.entries } in
     subst (λ (m : LocalState _). Reclaims slot (showing g.row.T c.in_ok-value.value) m now) c.self.view_is record {
       inside = subst (λ (k : ℕ). slot < k) (sym on.slots) low;
       first = next;

@@ -25,7 +25,7 @@ invariant_of-self g c = let l = c.self.inside in let b = l.domain.now.board in l
       i.1,
       i.2,
       subst (AreLentTo l.tenure.round) (sym others) i.3,
-      subst (λ (w : View). IsReady b l.own l.due l.known.slots l.jobs l.privates (known_waiting w.slots)) (sym is) record {
+      subst (λ (w : View). IsReady b l.own l.due l.known.slots l.jobs l.privates.entries (known_waiting w.slots)) (sym is) record {
         bags = ends_close (slots_of b) (known_waiting v.slots) l.own.bags.waiting l.due.items r.bags
             (ap (λ (m : LocalState _). m.due) c.self.view_is ∙ c.requires.settled);
         large = r.large;

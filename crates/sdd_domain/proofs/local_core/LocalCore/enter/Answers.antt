@@ -49,8 +49,8 @@ invariant_of-self g c =
         bags = subst (λ (z : SlotsView × List LimboEntry). AreInBags (slots_of b) (known_waiting z.0) own.bags.waiting z.1)
             (λ d. (sym arrives.slots d, sym a.3 d))
             (bags_arrived count l.own (slots_of b) c.arrive-goes_on.result own a.2 l.token.me.0.slots l.due.items i.4.bags none);
-        told = subst (TellsCollectors (slots_of b) l.privates) (sym (ap (λ (s : SlotsView). s.privates) arrives.slots))
-            (told_aged count l.own (slots_of b) l.privates l.token.me.0.slots i.4.told);
+        told = subst (TellsCollectors (slots_of b) l.privates.entries) (sym (ap (λ (s : SlotsView). s.privates) arrives.slots))
+            (told_aged count l.own (slots_of b) l.privates.entries l.token.me.0.slots i.4.told);
         large = subst (λ (n : ℕ). n ≤ c.arrive-goes_on.new.due.room) (sym large) c.arrive-goes_on.ensures.room;
         slots = i.4.slots;
         places = i.4.places;
@@ -102,6 +102,8 @@ returns-clause-entered g c = let l = c.self.inside in let i = c.self.invariant i
           (λ (h : (l.own.found ≢ count) × (l.own.bags.waiting ≡ []) × (own ≡ settled (arrived_at count l.own))).
           inr (h.0, due_moved count l.own h.0 ∙ quiet_due l.own h.1, with_it (settled (nested (arrived_at count l.own))) (opened ∙ ap nested h.2)))
           (has.over f);
+      idle = λ f other. ⊎_elim (λ (h : (l.own.found ≡ count) × (own ≡ arrived_at count l.own)). absurd (other h.0))
+          (λ (h : (l.own.found ≢ count) × (l.own.bags.waiting ≡ []) × (own ≡ settled (arrived_at count l.own))). h.1) (has.over f);
     } in (
       count,
       m,

@@ -59,7 +59,7 @@ invariant_of-self g c =
     let some_open : 0 < l.own.guards = search rules in
     let seen = watched b l.place l.own t slot shared shown l.token c.watch.new.token inv.0
     (subst (λ (t : ℕ). AreLentTo t l.token.me.1) (sym c.agree.ensures.round) inv.3) watch in
-    shown_on b l.place l.own l.tenure.round l.due l.known.slots l.jobs l.privates l.tally l.token inv t c.agree.ensures.round slot shown
+    shown_on b l.place l.own l.tenure.round l.due l.known.slots l.jobs l.privates.entries l.tally l.token inv t c.agree.ensures.round slot shown
     c.watch.new.token c.show.new.seat some_open watch.0 seen c.show.ensures.seat c.show.ensures.lent
 
 pub returns : goal.returns

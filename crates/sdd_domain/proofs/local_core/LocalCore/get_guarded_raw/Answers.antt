@@ -43,7 +43,7 @@ invariant_of-self-2 g c = let l = c.self.inside in let b = l.domain.now.board in
     let seen = watched b l.place l.own t slot false shown l.token c.look_for_raw.new.token inv.0
     (subst (λ (t : ℕ). AreLentTo t l.token.me.1) (sym c.agree.ensures.round) inv.3) watch in
     let some_open : 0 < l.own.guards = search rules in
-    shown_on b l.place l.own l.tenure.round l.due l.known.slots l.jobs l.privates l.tally l.token inv t c.agree.ensures.round slot shown
+    shown_on b l.place l.own l.tenure.round l.due l.known.slots l.jobs l.privates.entries l.tally l.token inv t c.agree.ensures.round slot shown
     c.look_for_raw.new.token c.show.new.seat some_open watch.0 seen c.show.ensures.seat c.show.ensures.lent
 
 pub returns : goal.returns

@@ -102,7 +102,7 @@ invariant_of-self g c =
       i.1,
       i.2,
       subst (AreLentTo l.tenure.round) (sym (others ∙ ap (λ (x : Seat ValueFraction View). x.me.1) same)) i.3,
-      subst (IsReady b l.own l.due l.known.slots l.jobs l.privates) (sym (ap (λ (v : View). known_waiting v.slots) here)) i.4,
+      subst (IsReady b l.own l.due l.known.slots l.jobs l.privates.entries) (sym (ap (λ (v : View). known_waiting v.slots) here)) i.4,
       subst (IsTallied 0 l.tally) (sym (ap (λ (v : View). v.stakes.counts) here)) i.5,
     )
 
@@ -111,7 +111,7 @@ invariant_of-self-in-Err g c =
     let l = c.self.inside in let b = l.domain.now.board in let known = recalled g (goal.at.invariant_of-self-in-Err g c).After-recall in
     let same = known.same in let slot : ℕ = c.number-slot.result in let t = c.recall.new.token in let h = c.hold_alone.new.token in
     let e = hindered_view slot c.is_one_of_several-shared.result c.in-Err.hindrance t h c.in-Err.ensures.0 in
-    noted_on b l.place l.own l.tenure.round l.due l.known.slots l.jobs l.privates l.tally l.token c.self.invariant t known.same h e.0 e.1 e.2 e.3
+    noted_on b l.place l.own l.tenure.round l.due l.known.slots l.jobs l.privates.entries l.tally l.token c.self.invariant t known.same h e.0 e.1 e.2 e.3
 
 pub returns-in-Ok : goal.returns-in-Ok
 returns-in-Ok g c =

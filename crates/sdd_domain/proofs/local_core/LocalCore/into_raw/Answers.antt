@@ -74,7 +74,7 @@ invariant_of-self g c = let l = c.self.inside in let board = l.domain.now.board 
       i.1,
       i.2,
       subst (AreLentTo l.tenure.round) (sym (put_others board l.place l.own slot shown l.token c.take_in.new.token c.put_out.new.token q took put)) i.3,
-      subst (IsReady board l.own l.due l.known.slots l.jobs l.privates) (sym (ap (λ (v : View). known_waiting v.slots) is)) i.4,
+      subst (IsReady board l.own l.due l.known.slots l.jobs l.privates.entries) (sym (ap (λ (v : View). known_waiting v.slots) is)) i.4,
       subst (IsTallied 0 l.tally) (sym (ap (λ (v : View). v.stakes.counts) is)) i.5,
     )
 

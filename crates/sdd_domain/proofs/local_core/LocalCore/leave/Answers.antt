@@ -15,6 +15,9 @@ few_known g c lone one = let l = c.self.inside in let b = l.domain.now.board in
     (λ lone one. known_fits b l.place l.own l.token c.self.invariant.0 (omega arith) c.is_a_count.ensures
     (c.self.invariant.0.all ∙ (ap (λ (z : Sizes). z.participants) l.domain.now.limited.1 ∙ lone))) lone one
 
+pub invariant_of-self : goal.invariant_of-self
+invariant_of-self g c = (search rules, record { nesting_is = search rules; state_is = search rules }, search rules, search rules, search rules, search rules)
+
 pub returns-clause-closed : goal.returns-clause-closed
 returns-clause-closed g c = record {
   member = search rules;

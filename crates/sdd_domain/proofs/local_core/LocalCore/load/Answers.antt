@@ -53,7 +53,7 @@ invariant_of-self g c =
       inv.1,
       inv.2,
       subst (λ (x : Seat ValueFraction View). AreLentTo l.tenure.round x.me.1) (sym still) inv.3,
-      subst (λ (x : Seat ValueFraction View). IsReady b l.own l.due l.known.slots l.jobs l.privates (known_waiting x.me.0.slots)) (sym still) inv.4,
+      subst (λ (x : Seat ValueFraction View). IsReady b l.own l.due l.known.slots l.jobs l.privates.entries (known_waiting x.me.0.slots)) (sym still) inv.4,
       subst (λ (x : Seat ValueFraction View). IsTallied 0 l.tally x.me.0.stakes.counts) (sym still) inv.5,
     )
 
@@ -89,7 +89,7 @@ invariant_of-self-2 g c =
     let seen = watched b l.place l.own t slot shared shown l.token f inv.0
     (subst (λ (t : ℕ). AreLentTo t l.token.me.1) (sym c.agree.ensures.round) inv.3) watch in
     let some_open : 0 < l.own.guards = search rules in
-    shown_on b l.place l.own l.tenure.round l.due l.known.slots l.jobs l.privates l.tally l.token inv t c.agree.ensures.round slot shown
+    shown_on b l.place l.own l.tenure.round l.due l.known.slots l.jobs l.privates.entries l.tally l.token inv t c.agree.ensures.round slot shown
     f c.show-value.new.seat some_open watch.0 seen c.show-value.ensures.seat c.show-value.ensures.lent
 
 pub returns : goal.returns

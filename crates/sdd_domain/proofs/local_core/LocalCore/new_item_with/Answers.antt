@@ -44,7 +44,7 @@ invariant_of-self g c = let l = c.self.inside in let b = l.domain.now.board in l
       inv.1,
       inv.2,
       subst (AreLentTo l.tenure.round) (sym posed.1) inv.3,
-      subst (IsReady b l.own l.due c.claim_free.new.known.slots l.jobs l.privates) (sym (ap (λ (v : View). known_waiting v.slots)
+      subst (IsReady b l.own l.due c.claim_free.new.known.slots l.jobs l.privates.entries) (sym (ap (λ (v : View). known_waiting v.slots)
           (made_view b l.place l.own y slot shared made l.token claimed token inv.0 c.in-Ok.ensures.tried put.view)))
           (record {
             bags = inv.4.bags;

@@ -18,7 +18,7 @@ use Rattle.sdd_domain.proofs.local_core.LocalCore.own_seen.Goals as goal
 pub invariant_of-self-2 : goal.invariant_of-self-2
 invariant_of-self-2 g c = let l = c.self.inside in let b = l.domain.now.board in let inv = c.self.invariant in let u = c.own_seen.new.token in
     let e = ends_with b c.args.slot c.in-Ok.loose l.token u c.in-Ok.ensures in let is = e.1 in
-    noted_on b l.place l.own l.tenure.round l.due l.known.slots l.jobs l.privates l.tally l.token c.self.invariant l.token refl u e.0 is.table is.others is.view
+    noted_on b l.place l.own l.tenure.round l.due l.known.slots l.jobs l.privates.entries l.tally l.token c.self.invariant l.token refl u e.0 is.table is.others is.view
 
 pub own_seen-requires-clause-still : goal.own_seen-requires-clause-still
 own_seen-requires-clause-still g c = let l = c.self.inside in let slot : ℕ = c.args.slot in

@@ -16,6 +16,7 @@ use Rattle.sdd_domain_slots.proofs.Housed.{on_board}
 use Rattle.sdd_domain_slots.proofs.InPlace.{owner_inside, owner_table}
 use Rattle.sdd_domain_slots.proofs.Members.{with_token, recalls_to, has_tables}
 use Rattle.sdd_domain_slots.proofs.Posing.{same_recalled}
+use Rattle.sdd_domain.specs.Noted.{HasNoted}
 use Rattle.sdd_domain.proofs.local_core.LocalCore.recall_owner.Goals as goal
 
 pub recall-requires-clause-owner : goal.recall-requires-clause-owner
@@ -41,8 +42,8 @@ invariant_of-self g c =
     let shown : Gv = (c.witness.ensures.owner (has_tables c.args.self.now c.args.right.now c.requires)).0.shown in
     let own = (c.witness.ensures.owner (has_tables c.args.self.now c.args.right.now c.requires)).1 in
     let same = same_recalled board l.place slot shared shown l.token c.recall.new.token (c.recall.ensures slot shared shown own.owner) in
-    subst (λ (x : Seat ValueFraction View). IsBetweenCalls board l.place l.own x × l.nesting ≡ l.domain.now.limits.nesting × IsTenureOf l.own l.tenure
-    × AreLentTo l.tenure.round x.me.1 × IsReady board l.own l.due l.known.slots l.jobs l.privates (known_waiting x.me.0.slots) × IsTallied 0 l.tally
+    subst (λ (x : Seat ValueFraction View). IsBetweenCalls board l.place l.own x × HasNoted board l.domain.now.limits l.place l.nesting l.state × IsTenureOf l.own l.tenure
+    × AreLentTo l.tenure.round x.me.1 × IsReady board l.own l.due l.known.slots l.jobs l.privates.entries (known_waiting x.me.0.slots) × IsTallied 0 l.tally
     x.me.0.stakes.counts)
     (sym same) c.self.invariant
 

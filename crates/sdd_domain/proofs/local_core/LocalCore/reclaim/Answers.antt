@@ -65,7 +65,7 @@ invariant_of-self g c = let l = c.self.inside in let b = l.domain.now.board in l
       record {
         bags = subst (λ (k : KnownWaiting). AreInBags n k l.own.bags.waiting c.next.new.self.items) (sym (ap (λ (v : View). known_waiting v.slots) gives.3.0))
             (first_plain_out n (known_waiting l.token.me.0.slots) l.own.bags.waiting l.due.items r.bags (Item slot) c.next.new.self.items next gives.3.1);
-        told = subst (TellsCollectors n l.privates) (sym (ap (λ (v : View). v.slots.privates) gives.3.0)) r.told;
+        told = subst (TellsCollectors n l.privates.entries) (sym (ap (λ (v : View). v.slots.privates) gives.3.0)) r.told;
         large = subst (λ (n : ℕ). l.own.bags.room ≤ n) (sym c.next.ensures.room) r.large;
         slots = c.remember.ensures.slots ∙ r.slots;
         places = r.places;

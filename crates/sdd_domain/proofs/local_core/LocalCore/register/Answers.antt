@@ -14,9 +14,6 @@ use Rattle.sdd_domain_slots.proofs.PrivateTables.{told_nothing}
 use Rattle.sdd_domain.proofs.local_core.LocalCore.register.Given.{Over}
 use Rattle.sdd_domain.proofs.local_core.LocalCore.register.Goals as goal
 
-blank_jobs : (g : Over) (c : goal.After-new-3 g) → c.begin_at-2.new.self ≡ replicate c.args.domain.now.limits.jobs None
-blank_jobs g c = c.begin_at-2.ensures ∙ c.in-Ok.ensures.jobs
-
 pub invariant_of-result : goal.invariant_of-result
 invariant_of-result g c = let jobs : ℕ = c.args.domain.now.limits.jobs in let none : c.write.new.token.me.0.slots.waits ≡ [] = search rules in
     let none_private : c.write.new.token.me.0.slots.privates ≡ [] = search rules in (
@@ -45,7 +42,7 @@ invariant_of-result g c = let jobs : ℕ = c.args.domain.now.limits.jobs in let 
         pace = search rules;
         idle = search rules;
       },
-      refl,
+      record { nesting_is = refl; state_is = search rules },
       search rules,
       none_lent _ _ (search rules),
       record {
@@ -54,10 +51,10 @@ invariant_of-result g c = let jobs : ℕ = c.args.domain.now.limits.jobs in let 
             none_private;
         large = search rules;
         slots = search rules;
-        places = ap length (blank_jobs g c) ∙ (length-replicate jobs None ∙ sym (ap (λ (z : Sizes). z.jobs) c.args.domain.now.limited.1));
+        places = ap length (c.in-Ok.ensures.jobs) ∙ (length-replicate jobs None ∙ sym (ap (λ (z : Sizes). z.jobs) c.args.domain.now.limited.1));
         jobs = λ j low. (
           (λ there. absurd (true≢false (sym (subst (λ (o : Option g.row.J.Denot). IsSome o)
-              (ap (λ (t : List (Option g.row.J.Denot)). slice_index_or t j None) (blank_jobs g c) ∙ blank-at jobs j) there)))),
+              (ap (λ (t : List (Option g.row.J.Denot)). slice_index_or t j None) (c.in-Ok.ensures.jobs) ∙ blank-at jobs j) there)))),
           (λ waits. absurd (let e = ap (λ (xs : List WaitingItem). total (waits_in (slots_of c.args.domain.now.board + j)) xs) none in omega arith)),
         );
       },
@@ -81,6 +78,6 @@ returns-clause-registered g c = record {
   filled = search rules;
   words = search rules;
   due = search rules;
-  jobs = blank_jobs g c;
+  jobs = c.in-Ok.ensures.jobs;
   collectors = c.in-Ok.ensures.privates;
 }

@@ -37,6 +37,7 @@ use Rattle.sdd_domain_slots.specs.LocalState.{LocalState, IsLone, KnowsOwner, Re
 use Rattle.sdd_domain_slots.proofs.Members.{with_view, recalls_to, has_tables}
 use Rattle.sdd_domain_slots.proofs.Posing.{has_place, posed_retires, retires_to, posed_leaves, leaves_to, same_recalled}
 use Rattle.sdd_domain.proofs.local_core.LocalCore.release.Given.{Over}
+use Rattle.sdd_domain.specs.Noted.{HasNoted}
 use Rattle.sdd_domain.proofs.local_core.LocalCore.release.Goals.{After-take_in}
 use Rattle.sdd_domain.proofs.local_core.LocalCore.release.Goals as goal
 
@@ -77,8 +78,8 @@ invariant_of-self-2 g c =
     (Item k) l.own) (c.of.ensures ∙ c.number-slot.ensures)) in
     let board = l.domain.now.board in let i = c.self.invariant in let inside : slot < slots_of board = search rules in
     subst (λ (o : Participant). IsBetweenCalls board l.place o c.let_one_go.new.token
-    × l.nesting ≡ l.domain.now.limits.nesting × IsTenureOf o l.tenure × AreLentTo l.tenure.round c.let_one_go.new.token.me.1
-    × IsReady board o l.due l.known.slots l.jobs l.privates (known_waiting c.let_one_go.new.token.me.0.slots)
+    × HasNoted board l.domain.now.limits l.place l.nesting l.state × IsTenureOf o l.tenure × AreLentTo l.tenure.round c.let_one_go.new.token.me.1
+    × IsReady board o l.due l.known.slots l.jobs l.privates.entries (known_waiting c.let_one_go.new.token.me.0.slots)
     × IsTallied 0 l.tally c.let_one_go.new.token.me.0.stakes.counts)
     (sym own_is) (
       posed_retires board l.place l.own y slot shared shown l.token c.take_in.new.token c.let_one_go.new.token i.0 inside took waits,
@@ -90,7 +91,7 @@ invariant_of-self-2 g c =
             (sym (ap (λ (v : View). known_waiting v.slots) retired.1))
             (one_more (slots_of board) (known_waiting l.token.me.0.slots) l.own.bags.waiting l.due.items i.4.bags (retired_now slot retired.0) (Item slot) refl
             (what_item (slots_of board) (retired_now slot retired.0) inside) retired.5 retired.6);
-        told = subst (TellsCollectors (slots_of board) l.privates) (sym (ap (λ (v : View). v.slots.privates) retired.1)) i.4.told;
+        told = subst (TellsCollectors (slots_of board) l.privates.entries) (sym (ap (λ (v : View). v.slots.privates) retired.1)) i.4.told;
         large = i.4.large;
         slots = i.4.slots;
         places = i.4.places;
@@ -115,7 +116,7 @@ invariant_of-self g c =
       i.1,
       i.2,
       subst (AreLentTo l.tenure.round) (sym left.1) i.3,
-      subst (IsReady board l.own l.due l.known.slots l.jobs l.privates) (sym (ap (λ (v : View). known_waiting v.slots) left.0)) i.4,
+      subst (IsReady board l.own l.due l.known.slots l.jobs l.privates.entries) (sym (ap (λ (v : View). known_waiting v.slots) left.0)) i.4,
       subst (IsTallied 0 l.tally) (sym (ap (λ (v : View). v.stakes.counts) left.0)) i.5,
     )
 

@@ -67,7 +67,7 @@ invariant_of-self g c = let first = first_due g (goal.at.invariant_of-self g c).
       record {
         bags = subst (λ (k : KnownWaiting). AreInBags n k l.own.bags.waiting c.next.new.self.items) (sym (ap (λ (v : View). known_waiting v.slots) gives.2.1.0))
             (first_plain_out n (known_waiting l.token.me.0.slots) l.own.bags.waiting l.due.items r.bags (Job place) c.next.new.self.items first gives.2.1.1);
-        told = subst (TellsCollectors n l.privates) (sym (ap (λ (v : View). v.slots.privates) gives.2.1.0)) r.told;
+        told = subst (TellsCollectors n l.privates.entries) (sym (ap (λ (v : View). v.slots.privates) gives.2.1.0)) r.told;
         large = subst (λ (n : ℕ). l.own.bags.room ≤ n) (sym c.next.ensures.room) r.large;
         slots = r.slots;
         places = ap length c.take-job.ensures.free ∙ (length-set l.jobs place None ∙ r.places);

@@ -11,10 +11,10 @@ invariant_of-result g c = let same : c.self.inside.limits ≡ c.args.domain.now.
     let sizes = i.sizes ∙ (ap sizes_in same ∙ sym d.limited.1) in
     let book = sym i.posed.knows.1 ∙ (ap (λ (m : LocalState _). m.book) c.self.view_is ∙ c.requires.home.1) in (
       posed_on i.board d.board ids sizes book c.self.inside.place c.self.inside.own c.self.inside.token i.posed,
-      refl,
+      record { nesting_is = refl; state_is = c.state_word.ensures },
       i.tenure_is,
       i.lent,
-      ready_on i.board d.board ids sizes book c.self.inside.own c.self.inside.due c.self.inside.known.slots c.self.inside.jobs c.self.inside.privates
+      ready_on i.board d.board ids sizes book c.self.inside.own c.self.inside.due c.self.inside.known.slots c.self.inside.jobs c.self.inside.privates.entries
           (known_waiting c.self.inside.token.me.0.slots) i.ready,
       i.tallied,
     )
