@@ -1,7 +1,7 @@
 use Rattle.sdd_bench.specs.declared.operation.Guarding.TheVariants.{Outermost, Nested, Accelerated}
 use Rattle.sdd_bench.specs.declared.operation.CellWork.TheVariants.{Loads as CellLoads, Exchanges, Reads as ConfigReads, Publishes, MostlyReads}
 use Rattle.sdd_bench.specs.declared.operation.Task.TheVariants.{Guards, Items, HalfFull, Looks, Reads, Gets, Jobs, Raws, Changes, Shares, Loads, Swaps, OfCell}
-use Rattle.sdd_bench.specs.declared.operation.Listing.TheVariants.{Queue, Stack, Walk}
+use Rattle.sdd_bench.specs.declared.operation.Listing.TheVariants.{Iter, Queue, Stack, Walk}
 use Rattle.sdd_bench.specs.declared.operation.Bagging.TheVariants.{Inside, Behind, All}
 use Rattle.sdd_bench.specs.declared.operation.Operation.TheVariants.{World, Local, Beside, Places, Item, Job, Read, Look, Load, Share, Raw, Swap, Listed, Bagged}
 use Rattle.sdd_bench.proofs.operation.named.Goals as goal
@@ -61,6 +61,7 @@ returns-in_default c Places is = c.in_default.not-text-50 is
 returns-in_default c (Listed Queue) is = c.in_default.not-text-51 is
 returns-in_default c (Listed Stack) is = c.in_default.not-text-52 is
 returns-in_default c (Listed Walk) is = c.in_default.not-text-53 is
-returns-in_default c (Bagged Inside) is = c.in_default.not-text-54 is
-returns-in_default c (Bagged Behind) is = c.in_default.not-text-55 is
-returns-in_default c (Bagged All) is = c.in_default.not-text-56 is
+returns-in_default c (Listed Iter) is = c.in_default.not-text-54 is
+returns-in_default c (Bagged Inside) is = c.in_default.not-text-55 is
+returns-in_default c (Bagged Behind) is = c.in_default.not-text-56 is
+returns-in_default c (Bagged All) is = c.in_default.not-text-57 is
