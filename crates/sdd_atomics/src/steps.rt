@@ -76,10 +76,7 @@ pub fn write(board: &DomainTable, token: &mut DomainSeat, state: usize, count: u
     requires closed { IsClosed (epoch token.old) }
     ensures { Stepped Counts token.old count token.new }
 {
-    board
-        .table
-        .shared
-        .store::<Write>(token, state + 1, count);
+    board.table.shared.store::<Write>(token, state + 1, count);
 }
 
 /// Publishes, at the state of the own place, the count that stands in the own count word. Another one than before is a change for each item that waits.
@@ -91,10 +88,7 @@ pub fn publish(board: &DomainTable, token: &mut DomainSeat, state: usize)
     requires count { (epoch token.old).count ≡ (epoch token.old).known }
     ensures { HasPublished token.old token.new }
 {
-    board
-        .table
-        .shared
-        .store::<Publish>(token, state, OPEN);
+    board.table.shared.store::<Publish>(token, state, OPEN);
 }
 
 /// Publishes, at the state of the own place, that no guard is open, so that none sees anything: all stakes go home.
@@ -108,10 +102,7 @@ pub fn close(board: &DomainTable, token: &mut DomainSeat, state: usize)
     requires open { IsOpen (epoch token.old) × ¬ (Scans (epoch token.old)) }
     ensures { HasClosed token.old token.new }
 {
-    board
-        .table
-        .shared
-        .store::<Close>(token, state, CLOSED);
+    board.table.shared.store::<Close>(token, state, CLOSED);
 }
 
 /// Ends the own place, whose state this is, which the token counts from then on.
@@ -123,10 +114,7 @@ pub fn end(board: &DomainTable, token: &mut DomainSeat, state: usize)
     requires within { (slots token.old).over ≡ None }
     ensures { Taught EndsAll token.old 3 token.new }
 {
-    board
-        .table
-        .shared
-        .store::<End>(token, state, ENDED);
+    board.table.shared.store::<End>(token, state, ENDED);
 }
 
 /// Bars a place that is nobody's as long as it is in this state, by a token without a place. Answers its state before: it is barred then where this is

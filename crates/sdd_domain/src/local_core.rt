@@ -433,12 +433,7 @@ impl<'d, T: Item<T>, J: Job> LocalCore<'d, T, J> {
         self.own.leave(false);
         let told = if scans {
             let found = self.own.found;
-            Some(scan(
-                &self.domain.board,
-                &mut self.token,
-                self.place,
-                found,
-            ))
+            Some(scan(&self.domain.board, &mut self.token, self.place, found))
         } else {
             None
         };

@@ -16,12 +16,12 @@ ghost use Rattle.sdd_atomics.specs.Cells.{cells_of, FitsCell};
 ghost use Rattle.sdd_atomics.specs.DomainSeat.{view, epoch, slots, Taught, Moved, MovedAlone, Knows};
 
 use crate::domain_table::{DomainSeat, DomainTable};
-use crate::words::cell_word;
 use crate::plays::{
     ClaimForOwned, ClaimForRaw, ClaimForShared, CutRight, ExchangeCell, FillForOwned,
     FillForShared, FindCell, FreeBareCell, FreeCell, JoinRight, LearnCell, LookIn, RetagCell,
     SeeIn, SwapBareCell, SwapCell,
 };
+use crate::words::cell_word;
 use sdd_views::CellKind;
 use sdd_witness::{CompareExchange, Swap, Witness, part, step_beside};
 use std::marker::PhantomData;
@@ -39,10 +39,7 @@ pub fn look_in(board: &DomainTable, token: &mut DomainSeat, cell: u32) -> u64
     requires rests { (view token.old).stakes.moves ≡ None }
     ensures { Moved (LooksInCell cell) token.old result token.new }
 {
-    board
-        .table
-        .shared
-        .load::<LookIn>(token, cell_word(cell))
+    board.table.shared.load::<LookIn>(token, cell_word(cell))
 }
 
 /// Looks into a cell under the open guard, which sees the item whose owner the cell held at this moment from now on, and has the stake of its place out.
@@ -56,10 +53,7 @@ pub fn see_in(board: &DomainTable, token: &mut DomainSeat, cell: u32) -> u64
     requires rests { (view token.old).stakes.moves ≡ None }
     ensures { Moved (SeesInCell cell) token.old result token.new }
 {
-    board
-        .table
-        .shared
-        .load::<SeeIn>(token, cell_word(cell))
+    board.table.shared.load::<SeeIn>(token, cell_word(cell))
 }
 
 /// Tries to claim a cell of this kind by this word, and answers its word before. It was free where this is `FREE_CELL`: then the participant has the right to it,

@@ -10,6 +10,6 @@ compare_exchange-requires c = let sized = c.args.board.now.sized in let r = c.re
     (r.home, omega arith, may_register _ _ _ _ _ _ _ c.state_word.ensures (omega arith) r.sizes r.idle.0 r.idle.1)
 
 pub returns : goal.returns
-returns c = let e = c.compare_exchange.ensures in 
+returns c = let e = c.compare_exchange.ensures in
     subst (λ (t : Sizes × ℕ). Stepped (Registers t.0 t.1) c.args.token.now c.compare_exchange.result c.compare_exchange.new.seat) (λ d. (c.requires.sizes d, c.state_word.ensures d))
     (told c.args.token.now _ c.compare_exchange.result e.0 e.1 (Registers c.args.token.now.me.0.sizes c.state_word.result) e.2)
