@@ -13,7 +13,8 @@ pub struct Limits {
     pub jobs: u64,
     /// Guards of one participant that are open at once, 1 to 2^32 - 1.
     pub nesting: u64,
-    /// How often a call of a domain tries an exchange, 1 to 65535.
+    /// How many exchanges a call of a domain may lose, 1 to 65535: with as many it is refused, with `Contended`. One that is tried at once isn't counted,
+    /// at the slot that the participant gave back last or at the place behind its job before.
     pub tries: u64,
 }
 
