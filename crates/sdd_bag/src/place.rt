@@ -5,7 +5,6 @@ ghost use Rattle.sdd_bag.specs.KeptValues.{inserted};
 ghost use Rattle.sdd_bag.specs.Storage.{empty_place, kept_place, names_of, value_at, with_value_at};
 
 use crate::keyed_place::{KeyedPlace, PlaceKeys};
-use crate::never::never;
 use std::mem::ManuallyDrop;
 
 /// A place for a value, or none.
@@ -59,12 +58,12 @@ pub(crate) fn lend<T, F: FnMut(&mut T)>(
     let mut change = change;
     let mut value = match exchange(keys, at, place, None) {
         Some(value) => value,
-        None => never(),
+        None => unreachable!(),
     };
     change(&mut value);
     match exchange(keys, at, place, Some(value)) {
         None => {}
-        Some(_) => never(),
+        Some(_) => unreachable!(),
     }
     change
 }

@@ -5,7 +5,6 @@ ghost use Rattle.sdd_bag.specs.Folding.{FoldsOn};
 ghost use Rattle.sdd_bag.specs.Changing.{ChangesOn};
 ghost use Rattle.sdd_bag.specs.KeyedPlaces.{PlaceName};
 
-use crate::never::never;
 use crate::place::{Keys, Place, exchange, lend, new_place};
 use std::array;
 use std::marker::Model;
@@ -114,7 +113,7 @@ impl<T, const LEN: usize> Places<T, LEN> {
             left -= 1;
             let value = match self.exchange(keys, left, None) {
                 Some(value) => value,
-                None => never(),
+                None => unreachable!(),
             };
             made = fold(made, value);
         }

@@ -6,7 +6,6 @@ ghost use Rattle.sdd_bag.specs.Values.{HasOneMore};
 ghost use Rattle.sdd_bag.specs.Folding.{FoldsOn};
 ghost use Rattle.sdd_bag.specs.Changing.{ChangesOn};
 
-use crate::never::never;
 use crate::place::{Keys, forget};
 use crate::places::Places;
 use std::marker::Model;
@@ -102,7 +101,7 @@ impl<T, const LEN: usize> StorageKeys<T, LEN> {
         }
         match places.exchange(&mut self.keys, self.count, Some(value)) {
             None => {}
-            Some(_) => never(),
+            Some(_) => unreachable!(),
         }
         self.count += 1;
         Ok(())
@@ -123,7 +122,7 @@ impl<T, const LEN: usize> StorageKeys<T, LEN> {
         self.count -= 1;
         match places.exchange(&mut self.keys, self.count, None) {
             Some(value) => Some(value),
-            None => never(),
+            None => unreachable!(),
         }
     }
 

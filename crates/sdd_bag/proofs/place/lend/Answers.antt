@@ -20,8 +20,8 @@ exchange-requires-2-clause-key g c =
     let names = ap (λ (rs : List (KeptPlace g.row.T.Denot)). names_of rs) c.exchange.ensures.now ∙ names-same ps c.args.at None in
     ap (λ (ns : List PlaceName). slice_get ns c.args.at) names ∙ c.requires.key
 
-pub never-requires-in-Some-exchange : goal.never-requires-in-Some-exchange
-never-requires-in-Some-exchange g c =
+pub unreachable-requires-in-Some-exchange : goal.unreachable-requires-in-Some-exchange
+unreachable-requires-in-Some-exchange g c =
     let ps = map kept_place c.args.keys.now.kept in
     let inside : c.args.at < length ps = omega (arith, c.requires.inside, length-map c.args.keys.now.kept kept_place) in
     not-there c.in-Some-exchange.field-0
