@@ -1,48 +1,70 @@
--- What a push and a pop of a stack answer that ask whether the first entry is a number, as a step says it
+-- What a push and a pop answer that ask whether an entry is a number, as a step says it
 use Rattle.std.proofs.Common.{◌≡◌, ℕ, List, ◌∷◌, Bool, true, false, Option, Some, None, refl, sym, subst}
 use Rattle.std.proofs.lemmas.Bool.{false≢true}
 use Rattle.std.specs.Prelude.{◌↔◌, IsTrue, MatchResult, Result, Ok, Err}
 use Rattle.std.specs.Borrow.{Bor}
 use Rattle.sdd_rights.specs.Units as token
-use Rattle.sdd_space.specs.Shared.{IsOfSlots}
+use Rattle.sdd_space.specs.Shared.{IsOfSlots, slots_home}
 use Rattle.sdd_space.specs.World.{World}
 use Rattle.sdd_space.specs.declared.shared.Shared.{Shared}
 use Rattle.sdd_lists.specs.Asking.{kept_by}
-use Rattle.sdd_lists.specs.Lists.{Entry, first_value, left}
-use Rattle.sdd_lists.specs.Stack as stack
+use Rattle.sdd_lists.specs.Lists.{Entry, IsKept, first_value, left}
+use Rattle.sdd_lists.specs.Queue.{DequeuesIf, cells_in}
+use Rattle.sdd_lists.specs.Stack as stacks
+use Rattle.sdd_lists.specs.declared.queue.Queue.{Queue}
+use Rattle.sdd_lists.specs.declared.stack.Stack.{Stack}
 use Rattle.sdd_lists.specs.declared.unpopped.Unpopped.{Unpopped}
 use Rattle.sdd_lists.specs.declared.unpopped.Unpopped.TheVariants.{Kept, Refused as RefusedBy}
 use Rattle.sdd_script_model.specs.Containers.{HasNumber}
 use Rattle.sdd_script_model.specs.Val.{Val}
 use Rattle.sdd_script_model.specs.declared.val.Body.{Body}
 use Rattle.sdd_interpreter.specs.Containers.{PopsIf}
-use Rattle.sdd_interpreter.proofs.Popped.{pops-off}
+use Rattle.sdd_interpreter.specs.declared.holding.AnyList.{AnyList}
+use Rattle.sdd_interpreter.specs.declared.holding.AnyList.TheVariants as any
+use Rattle.sdd_interpreter.proofs.Popped.{pops-newest, pops-oldest}
 
--- where a push was asked for, the first entry is the number
-pub push-held : (es : List (Entry Val)) (m : ℕ) (value : Option Val) → value ≡ first_value (left es) → IsTrue true ↔ HasNumber value m →
-    HasNumber (first_value (left es)) m
-push-held es m value same says = subst (λ (v : Option Val). HasNumber v m) same (says.0 refl)
+-- where a push was asked for, the entry that it asks of is the number
+pub push-held : (m : ℕ) (v value : Option Val) → value ≡ v → IsTrue true ↔ HasNumber value m → HasNumber v m
+push-held m v value same says = subst (λ (x : Option Val). HasNumber x m) same (says.0 refl)
 
-module _ (home : token.GhostName) (w : World Val) (p c : ℕ) (es : List (Entry Val)) (m : ℕ) where
-  -- a pop, of which a condition says this, which has captured something
-  module _ {X : Type 0} (captured : X → Type 0) where
-    abbrev Asked : Val → Bool → Type 0
-    Asked value held = (shown : Bor Val) × (shown.now ≡ value) × ((x : X) × ((IsTrue held ↔ HasNumber (Some shown.now) m) × captured x))
+-- and where it was not, it is not
+pub push-not_held : (m : ℕ) (v value : Option Val) → value ≡ v → IsTrue false ↔ HasNumber value m → ¬ (HasNumber v m)
+push-not_held m v value same says has = false≢true (says.1 (subst (λ (x : Option Val). HasNumber x m) (sym same) has))
 
-    held-so : (e : Entry Val) (rest : List (Entry Val)) (held : Bool) → left es ≡ e ∷ rest → Asked e.value held →
-        IsTrue held ↔ HasNumber (first_value (left es)) m
-    held-so e rest held first told =
-        subst (λ (gs : List (Entry Val)). IsTrue held ↔ HasNumber (first_value gs) m) (sym first)
-        (subst (λ (v : Val). IsTrue held ↔ HasNumber (Some v) m) told.1 told.2.1.0)
+-- a pop, of which a condition says this, which has captured something
+module _ (home : token.GhostName) (w : World Val) (p : ℕ) (es : List (Entry Val)) (second : Option ℕ) (m : ℕ) {X : Type 0} (captured : X → Type 0) where
+  abbrev Asked : Val → Bool → Type 0
+  Asked value held = (shown : Bor Val) × (shown.now ≡ value) × ((x : X) × ((IsTrue held ↔ HasNumber (Some shown.now) m) × captured x))
 
-    pub pops-if : (r : Result (Option (Shared Val)) (Unpopped Body)) (new : World Val) → stack.PopsIf Asked w p c es r new →
-        MatchResult r (IsOfSlots home) (λ e. IsOfSlots home (kept_by e)) → PopsIf home w p c es m r new
-    pops-if (Ok None) new pops at = record { none = pops.none; world = pops.world }
-    pops-if (Ok (Some owner)) new (e, rest, first, told, taken) at =
-        ((held-so e rest true first told).0 refl, pops-off home w p c es (Ok (Some owner)) new at (e, rest, first, taken))
-    pops-if (Err (Kept owner)) new (e, rest, first, told, kept) at = (
-      (λ has. false≢true ((held-so e rest false first told).1 has)),
-      at,
-      (e, rest, first, kept.slot, (kept.owners, kept.shared, kept.few, kept.world)),
-    )
-    pops-if (Err (RefusedBy why)) new pops at = pops-off home w p c es (Err why) new tt pops
+  held-so : (e : Entry Val) (rest : List (Entry Val)) (held : Bool) → left es ≡ e ∷ rest → Asked e.value held →
+      IsTrue held ↔ HasNumber (first_value (left es)) m
+  held-so e rest held first told =
+      subst (λ (gs : List (Entry Val)). IsTrue held ↔ HasNumber (first_value gs) m) (sym first)
+      (subst (λ (v : Val). IsTrue held ↔ HasNumber (Some v) m) told.1 told.2.1.0)
+
+  -- the first entry stays
+  kept-so : (x : AnyList) (owner : Shared Val) (new : World Val) (e : Entry Val) (rest : List (Entry Val)) → left es ≡ e ∷ rest → Asked e.value false →
+      IsKept w e owner new → slots_home owner ≡ home → PopsIf home w p x es second (Some m) (Err (Kept owner)) new
+  kept-so x owner new e rest first told kept at = (
+    (λ has. false≢true ((held-so e rest false first told).1 has)),
+    at,
+    (e, rest, first, kept.slot, (kept.owners, kept.shared, kept.few, kept.world)),
+  )
+
+  pub queue-pops-if : (queue : Bor (Queue Body)) (r : Result (Option (Shared Val)) (Unpopped Body)) (new : World Val) →
+      DequeuesIf Asked w p (cells_in queue.now) es second r new → MatchResult r (IsOfSlots home) (λ e. IsOfSlots home (kept_by e)) →
+      PopsIf home w p (any.Queue queue) es second (Some m) r new
+  queue-pops-if queue (Ok None) new pops at = pops-oldest home w p queue es second (Ok None) new tt pops
+  queue-pops-if queue (Ok (Some owner)) new (e, rest, first, told, taken) at =
+      ((held-so e rest true first told).0 refl, pops-oldest home w p queue es second (Ok (Some owner)) new at (e, rest, first, taken))
+  queue-pops-if queue (Err (Kept owner)) new (e, rest, first, told, kept) at = kept-so (any.Queue queue) owner new e rest first told kept at
+  queue-pops-if queue (Err (RefusedBy why)) new pops at = pops-oldest home w p queue es second (Err why) new tt pops
+
+  pub stack-pops-if : (stack : Bor (Stack Body)) (r : Result (Option (Shared Val)) (Unpopped Body)) (new : World Val) →
+      stacks.PopsIf Asked w p (stacks.cell_in stack.now) es r new → MatchResult r (IsOfSlots home) (λ e. IsOfSlots home (kept_by e)) →
+      PopsIf home w p (any.Stack stack) es second (Some m) r new
+  stack-pops-if stack (Ok None) new pops at = pops-newest home w p stack es second (Ok None) new tt pops
+  stack-pops-if stack (Ok (Some owner)) new (e, rest, first, told, taken) at =
+      ((held-so e rest true first told).0 refl, pops-newest home w p stack es second (Ok (Some owner)) new at (e, rest, first, taken))
+  stack-pops-if stack (Err (Kept owner)) new (e, rest, first, told, kept) at = kept-so (any.Stack stack) owner new e rest first told kept at
+  stack-pops-if stack (Err (RefusedBy why)) new pops at = pops-newest home w p stack es second (Err why) new tt pops

@@ -1,5 +1,6 @@
 -- What a pop of a stack or a queue answers, as a step says it
 use Rattle.std.proofs.Common.{ℕ, List, Option, Some, None}
+use Rattle.std.specs.Borrow.{Bor}
 use Rattle.std.specs.Prelude.{IfOk, Result, Ok, Err}
 use Rattle.sdd_core.specs.declared.refused.Refused.{Refused}
 use Rattle.sdd_core.specs.declared.tag.Tag.TheVariants.{None as no_tag}
@@ -8,15 +9,20 @@ use Rattle.sdd_space.specs.Shared.{IsOfSlots}
 use Rattle.sdd_space.specs.World.{World}
 use Rattle.sdd_space.specs.declared.shared.Shared.{Shared}
 use Rattle.sdd_lists.specs.Lists.{Entry, Pops}
-use Rattle.sdd_lists.specs.Queue.{Dequeues, QueueCells}
+use Rattle.sdd_lists.specs.Queue.{Dequeues, cells_in}
+use Rattle.sdd_lists.specs.Stack.{cell_in}
+use Rattle.sdd_lists.specs.declared.queue.Queue.{Queue}
+use Rattle.sdd_lists.specs.declared.stack.Stack.{Stack}
 use Rattle.sdd_script_model.specs.Val.{Val, link_of}
-use Rattle.sdd_interpreter.specs.Queues.{PopsOldest}
-use Rattle.sdd_interpreter.specs.Stacks.{PopsOff}
+use Rattle.sdd_script_model.specs.declared.val.Body.{Body}
+use Rattle.sdd_interpreter.specs.Containers.{PopsOff}
+use Rattle.sdd_interpreter.specs.declared.holding.AnyList.TheVariants as any
 
-pub pops-off : (home : token.GhostName) (w : World Val) (p c : ℕ) (es : List (Entry Val)) (r : Result (Option (Shared Val)) Refused) (new : World Val) →
-    IfOk r (IsOfSlots home) → Pops link_of w p c no_tag es r new → PopsOff home w p c es r new
-pops-off home w p c es (Ok None) new at pops = record { none = pops.none; world = pops.world }
-pops-off home w p c es (Ok (Some owner)) new at (e, rest, same, taken) = (
+pub pops-newest : (home : token.GhostName) (w : World Val) (p : ℕ) (stack : Bor (Stack Body)) (es : List (Entry Val)) (second : Option ℕ)
+    (r : Result (Option (Shared Val)) Refused) (new : World Val) → IfOk r (IsOfSlots home) → Pops link_of w p (cell_in stack.now) no_tag es r new →
+    PopsOff home w p (any.Stack stack) es second r new
+pops-newest home w p stack es second (Ok None) new at pops = record { none = pops.none; world = pops.world }
+pops-newest home w p stack es second (Ok (Some owner)) new at (e, rest, same, taken) = (
   at,
   (
     e,
@@ -24,17 +30,17 @@ pops-off home w p c es (Ok (Some owner)) new at (e, rest, same, taken) = (
     record { rest = rest; first = same; owners = taken.owners; shared = taken.shared; few = taken.few; world = taken.world },
   ),
 )
-pops-off home w p c es (Err why) new at (e, rest, same, crowded) = (
+pops-newest home w p stack es second (Err why) new at (e, rest, same, crowded) = (
   record { entry = e; rest = rest; first = same; full = crowded.full },
   crowded.why,
   crowded.same,
 )
 
-pub pops-oldest : (home : token.GhostName) (w : World Val) (p : ℕ) (q : QueueCells) (es : List (Entry Val)) (second : Option ℕ)
-    (r : Result (Option (Shared Val)) Refused) (new : World Val) → IfOk r (IsOfSlots home) → Dequeues link_of w p q es second r new →
-    PopsOldest home w p q es second r new
-pops-oldest home w p q es second (Ok None) new at pops = record { none = pops.none; world = pops.world; queue = pops.queue }
-pops-oldest home w p q es second (Ok (Some owner)) new at (e, rest, same, taken) = (
+pub pops-oldest : (home : token.GhostName) (w : World Val) (p : ℕ) (queue : Bor (Queue Body)) (es : List (Entry Val)) (second : Option ℕ)
+    (r : Result (Option (Shared Val)) Refused) (new : World Val) → IfOk r (IsOfSlots home) →
+    Dequeues link_of w p (cells_in queue.now) es second r new → PopsOff home w p (any.Queue queue) es second r new
+pops-oldest home w p queue es second (Ok None) new at pops = record { none = pops.none; world = pops.world; queue = pops.queue }
+pops-oldest home w p queue es second (Ok (Some owner)) new at (e, rest, same, taken) = (
   at,
   (
     e,
@@ -50,7 +56,7 @@ pops-oldest home w p q es second (Ok (Some owner)) new at (e, rest, same, taken)
     },
   ),
 )
-pops-oldest home w p q es second (Err why) new at (e, rest, same, crowded) = (
+pops-oldest home w p queue es second (Err why) new at (e, rest, same, crowded) = (
   record { entry = e; rest = rest; first = same; full = crowded.full },
   crowded.why,
   crowded.same,

@@ -12,6 +12,14 @@ use Rattle.sdd_script_model.specs.Listed.{AreNumbers, Begins, IsNumber}
 use Rattle.sdd_script_model.specs.Val.{Val, body_of, link_of}
 use Rattle.sdd_script_model.specs.declared.val.Body.{Body}
 use Rattle.sdd_script_model.specs.declared.val.Body.TheVariants.{Number}
+use Rattle.sdd_interpreter.specs.Containers.{HasEntries, list_cell}
+use Rattle.sdd_interpreter.specs.declared.holding.AnyList.{AnyList}
+use Rattle.sdd_interpreter.specs.declared.holding.AnyList.TheVariants as any
+
+-- the list of a container begins in its first cell
+pub begun-list : (w : World Val) (x : AnyList) (es : List (Entry Val)) (second : Option ℕ) → HasEntries w x es second → Begins w (list_cell x) es
+begun-list w (any.Queue queue) es second has = has.list
+begun-list w (any.Stack stack) es second has = has
 
 -- a pointer to the first entry that isn't deleted shows its value
 module _ (w : World Val) (shows : ℕ → Val → Type 0) (value : (k : ℕ) (v : Val) → shows k v → value_at w k ≡ Some v) (ptr : Ptr Val)
@@ -22,10 +30,10 @@ module _ (w : World Val) (shows : ℕ → Val → Type 0) (value : (k : ℕ) (v 
       let there = shown.full e.slot named in
       there.1 ∙ sym (value e.slot there.0 there.2) ∙ linked.0.there
 
-  pub points-left : (v : World Val) (c : ℕ) (es : List (Entry Val)) → w ≡ v → Begins v c es → slot_named ptr ≡ first_slot (left es) →
-      shown_by ptr ≡ first_value (left es)
-  points-left v c es same list named =
-      let linked = subst (λ (u : World Val). AreLinked link_of u es) (sym same) list.linked in
+  pub points-left : (v : World Val) (x : AnyList) (es : List (Entry Val)) (second : Option ℕ) → w ≡ v → HasEntries v x es second →
+      slot_named ptr ≡ first_slot (left es) → shown_by ptr ≡ first_value (left es)
+  points-left v x es second same has named =
+      let linked = subst (λ (u : World Val). AreLinked link_of u es) (sym same) (begun-list v x es second has).linked in
       points-first (left es) (linked-left link_of w es linked) named
 
 -- the first entry that isn't deleted is a number, where all are

@@ -8,6 +8,8 @@ pub mod guards;
 pub mod items;
 pub mod links;
 pub mod owners;
+pub mod pops;
+pub mod pushes;
 pub mod queues;
 pub mod raw;
 pub mod stacks;

@@ -1,5 +1,5 @@
 //! Names of containers of entries, and the numbers of their entries.
-ghost use Rattle.std.specs.Prelude.{◌≡◌, ◌↔◌, IsTrue, List, MatchOption, Some, length, option_copied};
+ghost use Rattle.std.specs.Prelude.{◌≡◌, ◌↔◌, ℕ, IsTrue, List, MatchOption, Option, Some, length, option_copied};
 ghost use Rattle.sdd_space.specs.CallerId.{IsExact, IsSeated};
 ghost use Rattle.sdd_space.specs.Guard.{reader_of};
 ghost use Rattle.sdd_space.specs.Ptr.{PtrIsShown, slot_named};
@@ -9,24 +9,30 @@ ghost use Rattle.sdd_space.specs.World.{World, value_at};
 ghost use Rattle.sdd_lists.specs.Lists.{Entry, content, first_slot, left};
 ghost use Rattle.sdd_lists.specs.Walk.{IsWalkOf, ShowsInOrder, shown_of};
 ghost use Rattle.sdd_script_model.specs.Containers.{HasNumber};
-ghost use Rattle.sdd_script_model.specs.Listed.{Begins, IsNumber};
+ghost use Rattle.sdd_script_model.specs.Listed.{IsNumber};
 ghost use Rattle.sdd_script_model.specs.Val.{Val, body_of};
-ghost use Rattle.sdd_interpreter.specs.Containers.{NamesNone, StandsFor, list_cell, list_home};
+ghost use Rattle.sdd_interpreter.specs.Containers.{HasEntries, IsListOf, NamesNone, StandsFor};
 
 use crate::holding::AnyList;
 use crate::items::number_of;
 use crate::name_table::NameTable;
-use sdd_lists::{Stack, Walk};
+use sdd_lists::{Queue, Stack, Walk};
 use sdd_script_model::{Body, Val};
 use sdd_script_text::ListName;
 use sdd_space::{Cells, Guard, Items, LookThrough, Ptr, Shared};
 use sdd_world::World;
 
 /// The container of this name, if it is there.
-pub fn list_named(stacks: &NameTable<Stack<Body>>, name: ListName) -> Option<AnyList<'_>>
-    ensures { MatchOption result (NamesNone stacks.now.entries.items name) (StandsFor stacks.now.entries.items name) }
+pub fn list_named<'a>(
+    queues: &'a NameTable<Queue<Body>>,
+    stacks: &'a NameTable<Stack<Body>>,
+    name: ListName,
+) -> Option<AnyList<'a>>
+    ensures { MatchOption result (NamesNone queues.now.entries.items stacks.now.entries.items name)
+        (StandsFor queues.now.entries.items stacks.now.entries.items name) }
 {
     match name {
+        ListName::Queue(queue) => Some(AnyList::Queue(queues.get(queue.0)?)),
         ListName::Stack(stack) => Some(AnyList::Stack(stacks.get(stack.0)?)),
     }
 }
@@ -39,15 +45,16 @@ impl AnyList<'_> {
         s: &mut S,
     ) -> Ptr<'g, Val>
         requires seated { IsSeated (S.seat s.old) }
-        requires home { list_home self ≡ (S.seat s.old).home.cells }
+        requires home { IsListOf (S.seat s.old).home.cells self }
         requires reader { reader_of guard.now ≡ (S.seat s.old).reader }
         ensures undisturbed { Undisturbed S.seat S.own S.known S.shows s.old s.new }
         ensures world { IsExact (S.seat s.old) → S.world s.new ≡ S.world s.old }
         ensures shown { PtrIsShown (S.shows s.new) result }
-        ensures list { IsExact (S.seat s.old) → (es : List (Entry Val)) → Begins (S.world s.old) (list_cell self.entry) es →
+        ensures list { IsExact (S.seat s.old) → (es : List (Entry Val)) (second : Option ℕ) → HasEntries (S.world s.old) self.entry es second →
             slot_named result ≡ first_slot (left es) }
     {
         match self {
+            AnyList::Queue(queue) => queue.peek(guard, s),
             AnyList::Stack(stack) => stack.peek(guard, s),
         }
     }
@@ -55,13 +62,15 @@ impl AnyList<'_> {
     /// How many entries aren't deleted.
     pub fn len<S: Items<Val> + Cells<Val> + LookThrough<Val>>(self, guard: &Guard, s: &mut S) -> u64
         requires seated { IsSeated (S.seat s.old) }
-        requires home { list_home self ≡ (S.seat s.old).home.cells }
+        requires home { IsListOf (S.seat s.old).home.cells self }
         requires reader { reader_of guard.now ≡ (S.seat s.old).reader }
         ensures undisturbed { Undisturbed S.seat S.own S.known S.shows s.old s.new }
         ensures world { IsExact (S.seat s.old) → S.world s.new ≡ S.world s.old }
-        ensures list { IsExact (S.seat s.old) → (es : List (Entry Val)) → Begins (S.world s.old) (list_cell self.entry) es → result ≡ length (content es) }
+        ensures list { IsExact (S.seat s.old) → (es : List (Entry Val)) (second : Option ℕ) → HasEntries (S.world s.old) self.entry es second →
+            result ≡ length (content es) }
     {
         match self {
+            AnyList::Queue(queue) => queue.len(guard, s),
             AnyList::Stack(stack) => stack.len(guard, s),
         }
     }
@@ -73,17 +82,29 @@ impl AnyList<'_> {
         s: &mut S,
     ) -> Walk<'g, Body>
         requires seated { IsSeated (S.seat s.old) }
-        requires home { list_home self ≡ (S.seat s.old).home.cells }
+        requires home { IsListOf (S.seat s.old).home.cells self }
         requires reader { reader_of guard.now ≡ (S.seat s.old).reader }
         ensures undisturbed { Undisturbed S.seat S.own S.known S.shows s.old s.new }
         ensures home { IsWalkOf (S.seat s.old).home.cells result }
         ensures world { IsExact (S.seat s.old) → S.world s.new ≡ S.world s.old }
-        ensures list { IsExact (S.seat s.old) → (es : List (Entry Val)) → Begins (S.world s.old) (list_cell self.entry) es →
+        ensures list { IsExact (S.seat s.old) → (es : List (Entry Val)) (second : Option ℕ) → HasEntries (S.world s.old) self.entry es second →
             ShowsInOrder (S.world s.new) result (shown_of es) }
     {
         match self {
+            AnyList::Queue(queue) => queue.walk(guard, s),
             AnyList::Stack(stack) => stack.walk(guard, s),
         }
+    }
+}
+
+/// Why a number was refused.
+pub fn refusal_of<R>(back: (Body, R)) -> R
+    requires { IsNumber back.0 }
+    ensures { result ≡ back.1 }
+{
+    match back {
+        (Body::Number(_), refused) => refused,
+        _ => unreachable!(),
     }
 }
 

@@ -5,7 +5,7 @@ ghost use Rattle.sdd_script_model.specs.ScriptState.{slot_of};
 ghost use Rattle.sdd_space.specs.Owned as owned;
 ghost use Rattle.sdd_space.specs.Shared as shared;
 
-use sdd_lists::Stack;
+use sdd_lists::{Queue, Stack};
 use sdd_script_model::{Body, OwnerKind, Val};
 use sdd_space::inner::{slot_of_owner, slot_of_shared};
 use sdd_space::{AtomicOwned, AtomicShared, Owned, Shared};
@@ -31,6 +31,7 @@ pub enum CellOwner {
 /// A container of entries of a script.
 #[derive(Clone, Copy)]
 pub enum AnyList<'a> {
+    Queue(&'a Queue<Body>),
     Stack(&'a Stack<Body>),
 }
 

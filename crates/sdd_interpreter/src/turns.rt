@@ -2,6 +2,7 @@
 
 pub mod cells;
 pub mod collectors;
+pub mod containers;
 pub mod exchanges;
 pub mod guards;
 pub mod items;

@@ -16,4 +16,4 @@ pub mod StackEnding
 pub mod QueueEnding
 pub mod StackLeaving
 pub mod ContainerActs
-pub mod ConditionActs
+pub mod EntryActs

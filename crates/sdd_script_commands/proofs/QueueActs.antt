@@ -37,7 +37,6 @@ use Rattle.sdd_script_model.proofs.QueuePushing.{enqueued-leaves}
 use Rattle.sdd_interpreter.specs.declared.holding.AnyOwner.{AnyOwner}
 use Rattle.sdd_interpreter.specs.declared.holding.AnyOwner.TheVariants.{Share}
 use Rattle.sdd_interpreter.specs.Owners.{newest_holding, oldest_holding, owner_holding}
-use Rattle.sdd_interpreter.specs.Queues.{EnqueuesNumber, PopsOldest}
 use Rattle.sdd_interpreter.specs.declared.participants.NamedParticipant.{NamedParticipant}
 use Rattle.sdd_interpreter.specs.Environment.{attending}
 use Rattle.sdd_interpreter.specs.declared.interpreter.Environment.{Environment}
@@ -75,9 +74,6 @@ module _ (h : Environment) (t : IsTied h) (whole : IsWhole h.world) (name : Plac
 
   place-is : place_of (desk_of h) n ≡ p
   place-is = acts.is h t whole name a there
-
-  named-next : (o : OwnerName) → o.0 ≡ length h.owners.entries.items → o.0 ≡ length (desk_of h).owners
-  named-next o is = is ∙ sym (length-map h.owners.entries.items (option_map owner_holding))
 
   -- ---- a queue is made
 
@@ -117,146 +113,6 @@ module _ (h : Environment) (t : IsTied h) (whole : IsWhole h.world) (name : Plac
 
     named-so : IsQueueName (desk_of h) q.0
     named-so = is-queue h q.0 x mine
-
-    -- what a push of a number answers, of whatever entries there are, and a pop
-    abbrev Pushes : ℕ → Result (Shared Val) Refused → World Val → Type 0
-    Pushes number r w = (fs : List (Entry Val)) (held : Option ℕ) → IsQueue link_of h.world (cells_in x) fs held →
-        EnqueuesNumber h.world.home.slots h.world p (cells_in x) fs held number r w
-
-    abbrev Pops : Result (Option (Shared Val)) Refused → World Val → Type 0
-    Pops r w = (fs : List (Entry Val)) (held : Option ℕ) → IsQueue link_of h.world (cells_in x) fs held →
-        PopsOldest h.world.home.slots h.world p (cells_in x) fs held r w
-
-    -- the slot of a number that is pushed was free
-    pub slot-free : (number : ℕ) (owner : Shared Val) (w : World Val) → Pushes number (Ok owner) w → slot_of owner < length h.names.items
-    slot-free number owner w did =
-        let made = (did es second is.queue).1 in
-        omega (arith, made.pushed.free.0, t.sound.stocked.names)
-
-    -- a number is pushed
-    module _ (g : GuardName) (valid : HasOpen (desk_of h) n g.0) (number : ℕ) where
-      pub acts-enqueue_refused : (refused : Refused) (w : World Val) → Pushes number (Err refused) w →
-          Acts (desk_of h) (At name (call.Enqueue q number g)) (reply.Refused refused) (desk_of h) × (w ≡ h.world)
-      acts-enqueue_refused refused w did =
-          let told = did es second is.queue in
-          (still (desk_of h) (At name (call.Enqueue q number g)) (reply.Refused refused) ((valid, named-so), (told.0, refl)), told.1)
-
-      pub acts-enqueued : (waited : List Bool) → AreTold h waited → (owner : Shared Val) (w : World Val) (owners : Vec (Option AnyOwner))
-          (slots names dates : Vec ℕ)
-          (o : OwnerName) (i : ItemName) → Pushes number (Ok owner) w → owners.items ≡ h.owners.entries.items ++ Some (Share owner) ∷ [] →
-          slots.items ≡ h.slots.items ++ slot_of owner ∷ [] → names.items ≡ slice_set h.names.items (slot_of owner) (length h.slots.items) →
-          AreDatedNow h w waited dates → length h.slots.items + 1 < 2 ^ 128 → o.0 ≡ length h.owners.entries.items → i.0 ≡ length h.slots.items →
-          Does (desk_of h) (At name (call.Enqueue q number g)) (reply.Item o i)
-          (record h { world = w; owners = record { entries = owners }; slots = slots; names = names; dates = dates })
-      acts-enqueued waited told owner w owners slots names dates o i did pushed longer written now few owner_name item_name =
-          let made = did es second is.queue in
-          let k = slot_of owner in
-          let more : map (option_map owner_holding) owners.items ≡ (desk_of h).owners ++ Some (holding.shared k h.world.home.slots) ∷ [] =
-          owner-more h t whole owners (Share owner) pushed ∙ ap (λ z. (desk_of h).owners ++ Some (holding.shared k z) ∷ []) made.0 in
-          leads h t (At name (call.Enqueue q number g)) (reply.Item o i) refl (cc (more, longer, written))
-          (enqueued-leaves (desk_of h) t.sound whole p live q.0 cells es second is number k w made.1 few dates.items
-          (dated-within h t waited told w dates now)) (
-            (valid, named-so),
-            (
-              item_name,
-              (
-                cells,
-                es,
-                second,
-                k,
-                w,
-                is,
-                subst (λ (i : ℕ). Enqueues h.world i (cells_in x) es second number k w) (sym place-is) made.1,
-                (named-next o owner_name, refl),
-              ),
-            ),
-          )
-
-    -- one is popped
-    module _ (g : GuardName) (valid : HasOpen (desk_of h) n g.0) where
-      pub acts-dequeue_refused : (refused : Refused) (w : World Val) → Pops (Err refused) w →
-          Acts (desk_of h) (At name (call.Dequeue q g)) (reply.Refused refused) (desk_of h) × (w ≡ h.world)
-      acts-dequeue_refused refused w did =
-          let told = did es second is.queue in (
-            subst (λ e. Acts (desk_of h) (At name (call.Dequeue q g)) (reply.Refused e) (desk_of h)) (sym told.1)
-                (still (desk_of h) (At name (call.Dequeue q g)) (reply.Refused TooManyOwners)
-                ((valid, named-so), ((cells, es, second, is, told.0), refl))),
-            told.2,
-          )
-
-      -- none is left: room was made for a name
-      pub acts-queue_drained : (waited : List Bool) → AreTold h waited → (w : World Val) (owners : Vec (Option AnyOwner)) (dates : Vec ℕ) → Pops (Ok None) w →
-          owners.items ≡ h.owners.entries.items → AreDatedNow h w waited dates →
-          Does (desk_of h) (At name (call.Dequeue q g)) reply.Nothing (record h { world = w; owners = record { entries = owners }; dates = dates })
-      acts-queue_drained waited told w owners dates did kept now =
-          let drains = did es second is.queue in
-          let same : map (option_map owner_holding) owners.items ≡ (desk_of h).owners = ap (map (option_map owner_holding)) kept in
-          leads h t (At name (call.Dequeue q g)) reply.Nothing refl (cc (same))
-          (queue_drained-leaves (desk_of h) t.sound whole p live q.0 cells es second is w drains dates.items (dated-within h t waited told w dates now)) (
-            (valid, named-so),
-            (
-              cells,
-              es,
-              second,
-              w,
-              is,
-              subst (λ (i : ℕ). DrainsQueue h.world i (cells_in x) es second w) (sym place-is) drains,
-              refl,
-            ),
-          )
-
-      module _ (owner : Shared Val) (w : World Val) (did : Pops (Ok (Some owner)) w) where
-        abbrev e : Entry Val
-        e = (did es second is.queue).1.0
-
-        abbrev slot-is : slot_of owner ≡ e.slot
-        slot-is = (did es second is.queue).1.1
-
-        abbrev takes : TakesOldest h.world p (cells_in x) es second e w
-        takes = (did es second is.queue).1.2
-
-        pub taken-at_home : w.home ≡ h.world.home
-        taken-at_home = taken-home (desk_of h) t.sound whole p live q.0 cells es second is e w takes
-
-        pub taken-home_slots : slots_home owner ≡ h.world.home.slots
-        taken-home_slots = (did es second is.queue).0
-
-        -- what it has is a number
-        taken-is : (v : Val) → value_at w (slot_of owner) ≡ Some v → v ≡ e.value
-        taken-is v at =
-            let now = taken-value (desk_of h) t.sound whole p live q.0 cells es second is e w takes in
-            let both : Some v ≡ Some e.value = sym at ∙ ap (λ (i : ℕ). value_at w i) slot-is ∙ now in
-            cc
-
-        pub taken-counts : (v : Val) → value_at w (slot_of owner) ≡ Some v → IsNumber (body_of v)
-        taken-counts v at =
-            subst (λ (y : Val). IsNumber (body_of y)) (sym (taken-is v at))
-            (taken-number (desk_of h) t.sound whole p live q.0 cells es second is e w takes)
-
-        pub acts-dequeued : (waited : List Bool) → AreTold h waited → (v : Val) (number : ℕ) (owners : Vec (Option AnyOwner)) (dates : Vec ℕ) (o : OwnerName) →
-            value_at w (slot_of owner) ≡ Some v → body_of v ≡ Number number → owners.items ≡ h.owners.entries.items ++ Some (Share owner) ∷ [] →
-            AreDatedNow h w waited dates → o.0 ≡ length h.owners.entries.items →
-            Does (desk_of h) (At name (call.Dequeue q g)) (reply.Popped o number)
-            (record h { world = w; owners = record { entries = owners }; dates = dates })
-        acts-dequeued waited told v number owners dates o at told_number pushed now owner_name =
-            let more : map (option_map owner_holding) owners.items ≡ (desk_of h).owners ++ Some (holding.shared e.slot h.world.home.slots) ∷ [] =
-            owner-more h t whole owners (Share owner) pushed ∙ ap (λ z. (desk_of h).owners ++ Some (holding.shared (slot_of owner) z) ∷ []) taken-home_slots
-            ∙ ap (λ (i : ℕ). (desk_of h).owners ++ Some (holding.shared i h.world.home.slots) ∷ []) slot-is in
-            leads h t (At name (call.Dequeue q g)) (reply.Popped o number) refl (cc (more))
-            (taken-leaves (desk_of h) t.sound whole p live q.0 cells es second is e w takes dates.items (dated-within h t waited told w dates now)) (
-              (valid, named-so),
-              (
-                cells,
-                es,
-                second,
-                e,
-                w,
-                is,
-                ap body_of (sym (taken-is v at)) ∙ told_number,
-                subst (λ (i : ℕ). TakesOldest h.world i (cells_in x) es second e w) (sym place-is) takes,
-                (named-next o owner_name, refl),
-              ),
-            )
 
     -- it is closed
     pub acts-queue_closed : (waited : List Bool) → AreTold h waited → (w : World Val) (queues : Vec (Option (Queue Body))) (dates : Vec ℕ) →

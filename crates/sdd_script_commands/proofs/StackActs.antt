@@ -39,7 +39,6 @@ use Rattle.sdd_script_model.proofs.StackPushing.{pushed-leaves}
 use Rattle.sdd_interpreter.specs.declared.holding.AnyOwner.{AnyOwner}
 use Rattle.sdd_interpreter.specs.declared.holding.AnyOwner.TheVariants.{Share}
 use Rattle.sdd_interpreter.specs.Owners.{owner_holding, stack_holding}
-use Rattle.sdd_interpreter.specs.Stacks.{PopsOff, PushesNumber}
 use Rattle.sdd_interpreter.specs.declared.participants.NamedParticipant.{NamedParticipant}
 use Rattle.sdd_interpreter.specs.Environment.{attending, date_now}
 use Rattle.sdd_interpreter.specs.declared.interpreter.Environment.{Environment}
@@ -106,9 +105,6 @@ module _ (h : Environment) (t : IsTied h) (whole : IsWhole h.world) (name : Plac
   place-is : place_of (desk_of h) n ≡ p
   place-is = acts.is h t whole name a there
 
-  named-next : (o : OwnerName) → o.0 ≡ length h.owners.entries.items → o.0 ≡ length (desk_of h).owners
-  named-next o is = is ∙ sym (length-map h.owners.entries.items (option_map owner_holding))
-
   -- ---- a stack is made
 
   pub acts-no_cell : IsFull h.world.cells → Acts (desk_of h) (At name call.Stack) (reply.Refused NoCell) (desk_of h)
@@ -134,152 +130,7 @@ module _ (h : Environment) (t : IsTied h) (whole : IsWhole h.world) (name : Plac
     abbrev is : IsStack (desk_of h) s.0 (cell_in x) es
     is = (stack-entries h t s.0 x mine).1
 
-    -- the slot of a number that is pushed was free
-    pub slot-free : (number : ℕ) (owner : Shared Val) (w : World Val) →
-        ((fs : List (Entry Val)) → Begins h.world (cell_in x) fs → PushesNumber h.world.home.slots h.world p (cell_in x) fs number (Ok owner) w) →
-        slot_of owner < length h.names.items
-    slot-free number owner w did =
-        let made = (did es is.list).1 in
-        omega (arith, made.pushed.free.0, t.sound.stocked.names)
-
     module _ (waited : List Bool) (told : AreTold h waited) where
-      -- a number is pushed
-      module _ (g : GuardName) (valid : HasOpen (desk_of h) n g.0) (number : ℕ) where
-        pub acts-push_refused : (refused : Refused) (w : World Val) →
-            ((fs : List (Entry Val)) → Begins h.world (cell_in x) fs → PushesNumber h.world.home.slots h.world p (cell_in x) fs number (Err refused) w) →
-            Acts (desk_of h) (At name (call.Push s number g)) (reply.Refused refused) (desk_of h) × (w ≡ h.world)
-        acts-push_refused refused w did =
-            let here = did es is.list in (
-              still (desk_of h) (At name (call.Push s number g)) (reply.Refused refused) ((valid, is-stack h s.0 x mine), (here.0, refl)),
-              here.1,
-            )
-
-        pub acts-pushed : (owner : Shared Val) (w : World Val) (owners : Vec (Option AnyOwner)) (slots names dates : Vec ℕ) (o : OwnerName) (i : ItemName) →
-            ((fs : List (Entry Val)) → Begins h.world (cell_in x) fs → PushesNumber h.world.home.slots h.world p (cell_in x) fs number (Ok owner) w) →
-            owners.items ≡ h.owners.entries.items ++ Some (Share owner) ∷ [] → slots.items ≡ h.slots.items ++ slot_of owner ∷ [] →
-            names.items ≡ slice_set h.names.items (slot_of owner) (length h.slots.items) → AreDatedNow h w waited dates →
-            length h.slots.items + 1 < 2 ^ 128 → o.0 ≡ length h.owners.entries.items → i.0 ≡ length h.slots.items →
-            Does (desk_of h) (At name (call.Push s number g)) (reply.Item o i)
-            (record h { world = w; owners = record { entries = owners }; slots = slots; names = names; dates = dates })
-        acts-pushed owner w owners slots names dates o i did pushed longer written now few owner_name item_name =
-            let made = did es is.list in
-            let k = slot_of owner in
-            let more : map (option_map owner_holding) owners.items ≡ (desk_of h).owners ++ Some (holding.shared k h.world.home.slots) ∷ [] =
-            owner-more h t whole owners (Share owner) pushed ∙ ap (λ z. (desk_of h).owners ++ Some (holding.shared k z) ∷ []) made.0 in
-            leads h t (At name (call.Push s number g)) (reply.Item o i) refl (cc (more, longer, written))
-            (pushed-leaves (desk_of h) t.sound whole p (cell_in x) live s.0 es is number k w made.1 few dates.items
-            (dated-within h t waited told w dates now)) (
-              (valid, is-stack h s.0 x mine),
-              (
-                item_name,
-                (
-                  cell_in x,
-                  es,
-                  k,
-                  w,
-                  is,
-                  subst (λ (q : ℕ). Pushes h.world q (cell_in x) es number k w) (sym place-is) made.1,
-                  (named-next o owner_name, refl),
-                ),
-              ),
-            )
-
-      -- one is popped
-      module _ (g : GuardName) (valid : HasOpen (desk_of h) n g.0) where
-        pub acts-pop_refused : (refused : Refused) (w : World Val) →
-            ((fs : List (Entry Val)) → Begins h.world (cell_in x) fs → PopsOff h.world.home.slots h.world p (cell_in x) fs (Err refused) w) →
-            Acts (desk_of h) (At name (call.Pop s g)) (reply.Refused refused) (desk_of h) × (w ≡ h.world)
-        acts-pop_refused refused w did =
-            let here = did es is.list in (
-              subst (λ e. Acts (desk_of h) (At name (call.Pop s g)) (reply.Refused e) (desk_of h)) (sym here.1)
-                  (still (desk_of h) (At name (call.Pop s g)) (reply.Refused TooManyOwners)
-                  ((valid, is-stack h s.0 x mine), ((cell_in x, es, is, here.0), refl))),
-              here.2,
-            )
-
-        pub acts-drained : (w : World Val) (dates : Vec ℕ) →
-            ((fs : List (Entry Val)) → Begins h.world (cell_in x) fs → PopsOff h.world.home.slots h.world p (cell_in x) fs (Ok None) w) →
-            AreDatedNow h w waited dates → Does (desk_of h) (At name (call.Pop s g)) reply.Nothing (record h { world = w; dates = dates })
-        acts-drained w dates did now =
-            let drains = did es is.list in
-            leads h t (At name (call.Pop s g)) reply.Nothing refl refl
-            (drained-leaves (desk_of h) t.sound whole p (cell_in x) live s.0 es is w drains dates.items (dated-within h t waited told w dates now)) (
-              (valid, is-stack h s.0 x mine),
-              (
-                cell_in x,
-                es,
-                w,
-                is,
-                subst (λ (q : ℕ). Drains h.world q (cell_in x) es w) (sym place-is) drains,
-                refl,
-              ),
-            )
-
-        -- the same where room was made for a name
-        pub drained-as : (w : World Val) (owners : Vec (Option AnyOwner)) (dates : Vec ℕ) →
-            ((fs : List (Entry Val)) → Begins h.world (cell_in x) fs → PopsOff h.world.home.slots h.world p (cell_in x) fs (Ok None) w) →
-            owners.items ≡ h.owners.entries.items → AreDatedNow h w waited dates →
-            Does (desk_of h) (At name (call.Pop s g)) reply.Nothing (record h { world = w; owners = record { entries = owners }; dates = dates })
-        drained-as w owners dates did kept now =
-            let both = acts-drained w dates did now in
-            let same : map (option_map owner_holding) owners.items ≡ (desk_of h).owners = ap (map (option_map owner_holding)) kept in
-            let desk : desk_of (record h { world = w; owners = record { entries = owners }; dates = dates }) ≡ desk_of (record h { world = w; dates = dates }) =
-            cc (same) in
-            does (desk_of h) (At name (call.Pop s g)) reply.Nothing (goes desk both.0.sound both.0.guards) both.1
-
-        module _ (owner : Shared Val) (w : World Val)
-            (did : (fs : List (Entry Val)) → Begins h.world (cell_in x) fs → PopsOff h.world.home.slots h.world p (cell_in x) fs (Ok (Some owner)) w) where
-          abbrev e : Entry Val
-          e = (did es is.list).1.0
-
-          abbrev slot-is : slot_of owner ≡ e.slot
-          slot-is = (did es is.list).1.1
-
-          abbrev takes : Takes h.world p (cell_in x) es e w
-          takes = (did es is.list).1.2
-
-          pub popped-at_home : w.home ≡ h.world.home
-          popped-at_home = popped-home (desk_of h) t.sound whole p (cell_in x) live s.0 es is e w takes
-
-          pub popped-home_slots : slots_home owner ≡ h.world.home.slots
-          popped-home_slots = (did es is.list).0
-
-          -- what it has is a number
-          popped-is : (v : Val) → value_at w (slot_of owner) ≡ Some v → v ≡ e.value
-          popped-is v at =
-              let there = popped-value (desk_of h) t.sound whole p (cell_in x) live s.0 es is e w takes in
-              let both : Some v ≡ Some e.value = sym at ∙ ap (λ (i : ℕ). value_at w i) slot-is ∙ there in
-              cc
-
-          pub popped-counts : (v : Val) → value_at w (slot_of owner) ≡ Some v → IsNumber (body_of v)
-          popped-counts v at =
-              subst (λ (y : Val). IsNumber (body_of y)) (sym (popped-is v at))
-              (popped-number (desk_of h) t.sound whole p (cell_in x) live s.0 es is e w takes)
-
-          pub acts-popped : (v : Val) (number : ℕ) (owners : Vec (Option AnyOwner)) (dates : Vec ℕ) (o : OwnerName) →
-              value_at w (slot_of owner) ≡ Some v → body_of v ≡ Number number → owners.items ≡ h.owners.entries.items ++ Some (Share owner) ∷ [] →
-              AreDatedNow h w waited dates → o.0 ≡ length h.owners.entries.items →
-              Does (desk_of h) (At name (call.Pop s g)) (reply.Popped o number)
-              (record h { world = w; owners = record { entries = owners }; dates = dates })
-          acts-popped v number owners dates o at told_number pushed now owner_name =
-              let more : map (option_map owner_holding) owners.items ≡ (desk_of h).owners ++ Some (holding.shared e.slot h.world.home.slots) ∷ [] =
-              owner-more h t whole owners (Share owner) pushed ∙ ap (λ z. (desk_of h).owners ++ Some (holding.shared (slot_of owner) z) ∷ []) popped-home_slots
-              ∙ ap (λ (i : ℕ). (desk_of h).owners ++ Some (holding.shared i h.world.home.slots) ∷ []) slot-is in
-              leads h t (At name (call.Pop s g)) (reply.Popped o number) refl (cc (more))
-              (popped-leaves (desk_of h) t.sound whole p (cell_in x) live s.0 es is e w takes dates.items (dated-within h t waited told w dates now)) (
-                (valid, is-stack h s.0 x mine),
-                (
-                  cell_in x,
-                  es,
-                  e,
-                  w,
-                  is,
-                  ap body_of (sym (popped-is v at)) ∙ told_number,
-                  subst (λ (q : ℕ). Takes h.world q (cell_in x) es e w) (sym place-is) takes,
-                  (named-next o owner_name, refl),
-                ),
-              )
-
       -- it is closed
       pub acts-closed : (w : World Val) (stacks : Vec (Option (Stack Body))) (dates : Vec ℕ) → IsUnderGuard (desk_of h) n →
           ((fs : List (Entry Val)) → Begins h.world (cell_in x) fs → w ≡ stack_closed h.world p (cell_in x) fs) →

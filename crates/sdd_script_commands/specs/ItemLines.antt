@@ -4,12 +4,13 @@ use Rattle.sdd_script_model.specs.declared.owner_kind.OwnerKind.{OwnerKind}
 use Rattle.sdd_script_text.specs.declared.call.Value.{Value}
 use Rattle.sdd_script_text.specs.declared.call.Action.{Action}
 use Rattle.sdd_script_text.specs.declared.call.Action.TheVariants as call
-use Rattle.sdd_script_text.specs.declared.name.ListName.TheVariants as list
+use Rattle.sdd_script_text.specs.declared.name.GuardName.{GuardName}
+use Rattle.sdd_script_text.specs.declared.name.ListName.{ListName}
 use Rattle.sdd_script_text.specs.declared.name.OwnerName.{OwnerName}
 use Rattle.sdd_script_text.specs.declared.name.ItemName.{ItemName}
 use Rattle.sdd_script_model.specs.declared.link_change.LinkChange.{LinkChange}
 use Rattle.sdd_script_model.specs.declared.link_change.LinkChange.TheVariants as change
-use Rattle.std.specs.Prelude.{Option}
+use Rattle.std.specs.Prelude.{ℕ, None, Option, Some}
 
 -- an action on an item or an owner
 abbrev pub IsItemAct : Action → Type 0
@@ -66,30 +67,37 @@ IsLinkAct (call.Delete item) = Unit {0}
 IsLinkAct (call.LinkTag item) = Unit {0}
 IsLinkAct other = ⊥
 
--- an action on a queue
+-- an action on a queue as a whole
 abbrev pub IsQueueAct : Action → Type 0
 IsQueueAct call.Queue = Unit {0}
-IsQueueAct (call.Enqueue queue number guard) = Unit {0}
-IsQueueAct (call.Dequeue queue guard) = Unit {0}
 IsQueueAct (call.CloseQueue queue) = Unit {0}
 IsQueueAct other = ⊥
 
--- an action on a stack
+-- an action on a stack as a whole
 abbrev pub IsStackAct : Action → Type 0
 IsStackAct call.Stack = Unit {0}
-IsStackAct (call.Push stack number guard) = Unit {0}
-IsStackAct (call.PushIf (list.Stack stack) number newest guard) = Unit {0}
-IsStackAct (call.Pop stack guard) = Unit {0}
-IsStackAct (call.PopIf (list.Stack stack) first guard) = Unit {0}
 IsStackAct (call.CloseStack stack) = Unit {0}
 IsStackAct other = ⊥
 
--- an action that is told of a container's entries
+-- an action on the entries of a container
 abbrev pub IsListAct : Action → Type 0
+IsListAct (call.Push container number guard) = Unit {0}
+IsListAct (call.PushIf container number newest guard) = Unit {0}
+IsListAct (call.Pop container guard) = Unit {0}
+IsListAct (call.PopIf container first guard) = Unit {0}
 IsListAct (call.Peek container guard) = Unit {0}
 IsListAct (call.Len container guard) = Unit {0}
 IsListAct (call.List container guard) = Unit {0}
 IsListAct other = ⊥
+
+-- the line that puts a number among a container's entries, and the one that takes the first out: if a number is what is asked, where one is
+abbrev pub pushing : ListName → ℕ → Option ℕ → GuardName → Action
+pushing l number None guard = call.Push l number guard
+pushing l number (Some newest) guard = call.PushIf l number newest guard
+
+abbrev pub popping : ListName → Option ℕ → GuardName → Action
+popping l None guard = call.Pop l guard
+popping l (Some first) guard = call.PopIf l first guard
 
 -- the line that changes a link so
 abbrev pub changing : LinkChange → ItemName → Action

@@ -19,7 +19,7 @@ pub fn peek(stage: &mut Interpreter, name: PlaceName, list: ListName, guard: Gua
     let Some((attending, held)) = under(&stage.hand.places, &stage.hand.guards, name, guard) else {
         return Reply::Invalid;
     };
-    let Some(list) = list_named(&stage.hand.stacks, list) else {
+    let Some(list) = list_named(&stage.hand.queues, &stage.hand.stacks, list) else {
         return Reply::Invalid;
     };
     stage.hand.world.is_whole();
@@ -35,7 +35,7 @@ pub fn len(stage: &mut Interpreter, name: PlaceName, list: ListName, guard: Guar
     let Some((attending, held)) = under(&stage.hand.places, &stage.hand.guards, name, guard) else {
         return Reply::Invalid;
     };
-    let Some(list) = list_named(&stage.hand.stacks, list) else {
+    let Some(list) = list_named(&stage.hand.queues, &stage.hand.stacks, list) else {
         return Reply::Invalid;
     };
     stage.hand.world.is_whole();
@@ -56,7 +56,7 @@ pub fn list(
     let Some((attending, held)) = under(&stage.hand.places, &stage.hand.guards, name, guard) else {
         return Ok(Reply::Invalid);
     };
-    let Some(list) = list_named(&stage.hand.stacks, list) else {
+    let Some(list) = list_named(&stage.hand.queues, &stage.hand.stacks, list) else {
         return Ok(Reply::Invalid);
     };
     stage.hand.world.is_whole();

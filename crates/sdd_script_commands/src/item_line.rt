@@ -4,12 +4,12 @@ ghost use Rattle.sdd_script_model.specs.Script.{Acts};
 ghost use Rattle.sdd_script_commands.specs.ItemLines.{IsItemAct, IsRawAct, IsCellAct, IsHeldAct, IsLinkAct, IsQueueAct, IsStackAct, IsListAct};
 
 use crate::{
-    cells, collectors, conditions, containers, exchanges, items, links, owners, queues, raw, stacks,
+    cells, collectors, containers, entries, exchanges, items, links, owners, queues, raw, stacks,
 };
 use sdd_core::Refused;
 use sdd_interpreter::Interpreter;
 use sdd_script_model::{LinkChange, OwnerKind};
-use sdd_script_text::{Action, Call, ListName, PlaceName, Reply};
+use sdd_script_text::{Action, Call, PlaceName, Reply};
 
 /// An action on an item or an owner. None where the action is another.
 pub fn act_on_item(
@@ -119,7 +119,7 @@ pub fn act_on_link(stage: &mut Interpreter, name: PlaceName, action: Action) -> 
     })
 }
 
-/// An action on a queue. None where the action is another.
+/// An action on a queue as a whole. None where the action is another.
 pub fn act_on_queue(
     stage: &mut Interpreter,
     name: PlaceName,
@@ -132,16 +132,12 @@ pub fn act_on_queue(
 {
     Ok(Some(match action {
         Action::Queue => queues::make_queue(stage, name)?,
-        Action::Enqueue(queue, number, guard) => {
-            queues::enqueue(stage, name, queue, number, guard)?
-        }
-        Action::Dequeue(queue, guard) => queues::dequeue(stage, name, queue, guard)?,
         Action::CloseQueue(queue) => queues::close_queue(stage, name, queue)?,
         _ => return Ok(None),
     }))
 }
 
-/// An action on a stack. None where the action is another.
+/// An action on a stack as a whole. None where the action is another.
 pub fn act_on_stack(
     stage: &mut Interpreter,
     name: PlaceName,
@@ -154,20 +150,12 @@ pub fn act_on_stack(
 {
     Ok(Some(match action {
         Action::Stack => stacks::make_stack(stage, name)?,
-        Action::Push(stack, number, guard) => stacks::push(stage, name, stack, number, guard)?,
-        Action::PushIf(ListName::Stack(stack), number, newest, guard) => {
-            conditions::push_if(stage, name, stack, number, newest, guard)?
-        }
-        Action::Pop(stack, guard) => stacks::pop(stage, name, stack, guard)?,
-        Action::PopIf(ListName::Stack(stack), first, guard) => {
-            conditions::pop_if(stage, name, stack, first, guard)?
-        }
         Action::CloseStack(stack) => stacks::close_stack(stage, name, stack)?,
         _ => return Ok(None),
     }))
 }
 
-/// An action that is told of a container's entries. None where the action is another.
+/// An action on the entries of a container. None where the action is another.
 pub fn act_on_list(
     stage: &mut Interpreter,
     name: PlaceName,
@@ -179,6 +167,14 @@ pub fn act_on_list(
         (λ refused. (refused ≡ Refused.NoMemory) × (stage.new ≡ stage.old)) }
 {
     Ok(Some(match action {
+        Action::Push(list, number, guard) => {
+            entries::push(stage, name, list, number, None, guard)?
+        }
+        Action::PushIf(list, number, newest, guard) => {
+            entries::push(stage, name, list, number, Some(newest), guard)?
+        }
+        Action::Pop(list, guard) => entries::pop(stage, name, list, None, guard)?,
+        Action::PopIf(list, first, guard) => entries::pop(stage, name, list, Some(first), guard)?,
         Action::Peek(list, guard) => containers::peek(stage, name, list, guard),
         Action::Len(list, guard) => containers::len(stage, name, list, guard),
         Action::List(list, guard) => containers::list(stage, name, list, guard)?,

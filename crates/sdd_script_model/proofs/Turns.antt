@@ -3,6 +3,7 @@ use Rattle.std.proofs.lemmas.List.{set-get_or}
 use Rattle.sdd_core.specs.declared.refused.Refused.TheVariants.{NoPlace, NoCell, NoJob, TooManyGuards, GuardOpen, TooManyOwners}
 use Rattle.sdd_script_text.specs.declared.name.PlaceName.{PlaceName}
 use Rattle.sdd_script_text.specs.declared.name.GuardName.{GuardName}
+use Rattle.sdd_script_text.specs.declared.name.ItemName.{ItemName}
 use Rattle.sdd_script_text.specs.declared.name.OwnerName.{OwnerName}
 use Rattle.sdd_core.specs.Epoch.{epoch_of}
 use Rattle.sdd_core.specs.declared.epoch.Epoch.{Epoch}
@@ -16,6 +17,7 @@ use Rattle.sdd_space.proofs.Own.{Gives, Gives-retired, Gives-owner_given, Gives-
 use Rattle.sdd_script_text.specs.declared.call.Call.{Call}
 use Rattle.sdd_script_text.specs.declared.call.Call.TheVariants.{Register, Tally, At}
 use Rattle.sdd_script_text.specs.declared.call.Action.{Action}
+use Rattle.sdd_script_text.specs.declared.name.ListName.{ListName}
 use Rattle.sdd_script_text.specs.declared.name.ListName.TheVariants as list
 use Rattle.sdd_script_text.specs.declared.call.Action.TheVariants as call
 use Rattle.sdd_script_text.specs.declared.answer.Reply.{Reply}
@@ -32,7 +34,7 @@ use Rattle.sdd_script_model.specs.InPlace.{Drops}
 use Rattle.sdd_script_model.specs.declared.link_change.LinkChange.{LinkChange}
 use Rattle.sdd_script_model.specs.declared.link_change.LinkChange.TheVariants as change
 use Rattle.sdd_script_model.specs.Link.{Retags, tag_after}
-use Rattle.sdd_script_model.specs.Script.{AddsOwner, Does, GivesOwner, IsParticipant, IsValid, MakesCell, Meets, cell_as, shared_once_more}
+use Rattle.sdd_script_model.specs.Script.{AddsOwner, Does, GivesOwner, IsDrainedOf, IsParticipant, IsValid, MakesCell, Meets, PutsIn, TakesOut, cell_as, shared_once_more}
 use Rattle.sdd_script_model.specs.ScriptState as desk
 use Rattle.sdd_script_model.specs.ScriptState.{place_of, place_in}
 use Rattle.sdd_script_model.proofs.Calm.{Calmly, calm-accelerated, calm-collector, calm-deferred, calm-gives, calm-still, calm-stirred, still-begins}
@@ -191,6 +193,33 @@ module _ (d new : ScriptState) (whole : IsWhole d.world) (after : IsWhole new.wo
   places-left : {e : ScriptState} → new ≡ e → new.places ≡ e.places
   places-left same = ap (λ (x : ScriptState). x.places) same
 
+  -- a number is put among a container's entries, one is taken out, or all are let go of
+  module _ {n : PlaceName} {action : Action} {given : Reply} where
+    puts-in : (l : ListName) (number : ℕ) (o : OwnerName) (i : ItemName) → Quiet (At n action) given → IsParticipant d n.0 →
+        PutsIn d (place_of d n.0) l number o i new → Turn d new (At n action) given
+    puts-in (list.Queue q) number o i quiet there (name, (cells, es, second, k, w, is, puts, left)) =
+        gives w quiet there (places-left left.1) (world-left left.1)
+        (gives-enqueued (place_of d n.0) d.world cells es second number k w (live n.0 there).0 puts)
+    puts-in (list.Stack s) number o i quiet there (name, (c, es, k, w, is, pushes, left)) =
+        gives w quiet there (places-left left.1) (world-left left.1) (gives-pushed (place_of d n.0) d.world c es number k w (live n.0 there).0 pushes)
+
+    takes-out : (l : ListName) (number : ℕ) (o : OwnerName) → Quiet (At n action) given → IsParticipant d n.0 →
+        TakesOut d (place_of d n.0) l number o new → Turn d new (At n action) given
+    takes-out (list.Queue q) number o quiet there (cells, es, second, e, w, is, told, takes, left) =
+        gives w quiet there (places-left left.1) (world-left left.1)
+        (gives-dequeued (place_of d n.0) d.world cells es second e w (live n.0 there).0 takes)
+    takes-out (list.Stack s) number o quiet there (c, es, e, w, is, told, takes, left) =
+        gives w quiet there (places-left left.1) (world-left left.1) (gives-taken (place_of d n.0) d.world c es e w (live n.0 there).0 takes)
+
+    drains-all : (l : ListName) → Quiet (At n action) given → IsParticipant d n.0 → IsDrainedOf d (place_of d n.0) l new → Turn d new (At n action) given
+    drains-all (list.Queue q) quiet there (cells, es, second, w, is, drains, leaves) =
+        gives w quiet there (places-left leaves) (world-left leaves)
+        (gives-queue_drained (place_of d n.0) d.world cells es second w (live n.0 there).0 drains)
+    drains-all (list.Stack s) quiet there (c, es, w, is, drains, leaves) =
+        gives w quiet there (places-left leaves) (world-left leaves)
+        (subst (λ (u : World Val). Gives (place_of d n.0) d.world u) (sym drains.world)
+        (gives-trimmed (place_of d n.0) d.world c no_tag es (live n.0 there).0))
+
   turn-does : (n : PlaceName) (action : Action) (given : Reply) → IsValid d n.0 action → Does d n.0 (place_of d n.0) action given new →
       Turn d new (At n action) given
   turn-does n call.Open (reply.Guard g epoch) valid (nests, name, is, leaves) = opens n g epoch valid is (world-left leaves) (places-left leaves)
@@ -264,46 +293,21 @@ module _ (d new : ScriptState) (whole : IsWhole d.world) (after : IsWhole new.wo
   turn-does n call.Queue (reply.Queue q) valid (name, (cells, free, other, apart, leaves)) =
       still (λ k. (refl, refl, refl)) (time-left leaves, places-left leaves)
   turn-does n call.Queue (reply.Refused NoCell) valid (full, e) = still (λ k. (refl, refl, refl)) (same-desk d new e)
-  turn-does n (call.Enqueue q number g) (reply.Item o i) valid (name, (cells, es, second, k, w, is, puts, given)) =
-      gives w (λ k. (refl, refl, refl)) valid.0.0 (places-left given.1) (world-left given.1)
-      (gives-enqueued (place_of d n.0) d.world cells es second number k w (live n.0 valid.0.0).0 puts)
-  turn-does n (call.Enqueue q number g) (reply.Refused r) valid (is, e) = still (λ k. (refl, refl, refl)) (same-desk d new e)
-  turn-does n (call.Dequeue q g) (reply.Popped o number) valid (cells, es, second, e, w, is, told, takes, given) =
-      gives w (λ k. (refl, refl, refl)) valid.0.0 (places-left given.1) (world-left given.1)
-      (gives-dequeued (place_of d n.0) d.world cells es second e w (live n.0 valid.0.0).0 takes)
-  turn-does n (call.Dequeue q g) reply.Nothing valid (cells, es, second, w, is, drains, leaves) =
-      gives w (λ k. (refl, refl, refl)) valid.0.0 (places-left leaves) (world-left leaves)
-      (gives-queue_drained (place_of d n.0) d.world cells es second w (live n.0 valid.0.0).0 drains)
-  turn-does n (call.Dequeue q g) (reply.Refused TooManyOwners) valid (is, e) = still (λ k. (refl, refl, refl)) (same-desk d new e)
   turn-does n (call.CloseQueue q) reply.Done valid (cells, es, second, is, leaves) =
       gives (queue_closed link_of d.world (place_of d n.0) cells es second) (λ k. (refl, refl, refl)) valid.0.1.0 (places-left leaves) (world-left leaves)
       (gives-queue_closed (place_of d n.0) d.world cells es second (live n.0 valid.0.1.0).0)
   turn-does n call.Stack (reply.Stack s) valid (name, (c, free, leaves)) = still (λ k. (refl, refl, refl)) (time-left leaves, places-left leaves)
   turn-does n call.Stack (reply.Refused NoCell) valid (full, e) = still (λ k. (refl, refl, refl)) (same-desk d new e)
-  turn-does n (call.Push s number g) (reply.Item o i) valid (name, (c, es, k, w, is, pushes, given)) =
-      gives w (λ k. (refl, refl, refl)) valid.0.0 (places-left given.1) (world-left given.1)
-      (gives-pushed (place_of d n.0) d.world c es number k w (live n.0 valid.0.0).0 pushes)
-  turn-does n (call.Push s number g) (reply.Refused r) valid (is, e) = still (λ k. (refl, refl, refl)) (same-desk d new e)
-  turn-does n (call.PushIf (list.Stack s) number m g) (reply.Item o i) valid (newest, (name, (c, es, k, w, is, pushes, given))) =
-      gives w (λ k. (refl, refl, refl)) valid.0.0 (places-left given.1) (world-left given.1)
-      (gives-pushed (place_of d n.0) d.world c es number k w (live n.0 valid.0.0).0 pushes)
+  turn-does n (call.Push l number g) (reply.Item o i) valid puts = puts-in l number o i (λ k. (refl, refl, refl)) valid.0.0 puts
+  turn-does n (call.Push l number g) (reply.Refused r) valid (is, e) = still (λ k. (refl, refl, refl)) (same-desk d new e)
+  turn-does n (call.PushIf l number m g) (reply.Item o i) valid (newest, puts) = puts-in l number o i (λ k. (refl, refl, refl)) valid.0.0 puts
   turn-does n (call.PushIf l number m g) (reply.Kept back) valid (same, other, e) = still (λ k. (refl, refl, refl)) (same-desk d new e)
   turn-does n (call.PushIf l number m g) (reply.Refused r) valid (newest, is, e) = still (λ k. (refl, refl, refl)) (same-desk d new e)
-  turn-does n (call.Pop s g) (reply.Popped o number) valid (c, es, e, w, is, told, takes, given) =
-      gives w (λ k. (refl, refl, refl)) valid.0.0 (places-left given.1) (world-left given.1)
-      (gives-taken (place_of d n.0) d.world c es e w (live n.0 valid.0.0).0 takes)
-  turn-does n (call.Pop s g) reply.Nothing valid (c, es, w, is, drains, leaves) =
-      gives w (λ k. (refl, refl, refl)) valid.0.0 (places-left leaves) (world-left leaves)
-      (subst (λ (u : World Val). Gives (place_of d n.0) d.world u) (sym drains.world)
-      (gives-trimmed (place_of d n.0) d.world c no_tag es (live n.0 valid.0.0).0))
-  turn-does n (call.Pop s g) (reply.Refused TooManyOwners) valid (is, e) = still (λ k. (refl, refl, refl)) (same-desk d new e)
-  turn-does n (call.PopIf (list.Stack s) m g) (reply.Popped o number) valid (same, (c, es, e, w, is, told, takes, given)) =
-      gives w (λ k. (refl, refl, refl)) valid.0.0 (places-left given.1) (world-left given.1)
-      (gives-taken (place_of d n.0) d.world c es e w (live n.0 valid.0.0).0 takes)
-  turn-does n (call.PopIf (list.Stack s) m g) reply.Nothing valid (c, es, w, is, drains, leaves) =
-      gives w (λ k. (refl, refl, refl)) valid.0.0 (places-left leaves) (world-left leaves)
-      (subst (λ (u : World Val). Gives (place_of d n.0) d.world u) (sym drains.world)
-      (gives-trimmed (place_of d n.0) d.world c no_tag es (live n.0 valid.0.0).0))
+  turn-does n (call.Pop l g) (reply.Popped o number) valid takes = takes-out l number o (λ k. (refl, refl, refl)) valid.0.0 takes
+  turn-does n (call.Pop l g) reply.Nothing valid drained = drains-all l (λ k. (refl, refl, refl)) valid.0.0 drained
+  turn-does n (call.Pop l g) (reply.Refused TooManyOwners) valid (is, e) = still (λ k. (refl, refl, refl)) (same-desk d new e)
+  turn-does n (call.PopIf l m g) (reply.Popped o number) valid (same, takes) = takes-out l number o (λ k. (refl, refl, refl)) valid.0.0 takes
+  turn-does n (call.PopIf l m g) reply.Nothing valid drained = drains-all l (λ k. (refl, refl, refl)) valid.0.0 drained
   turn-does n (call.PopIf l m g) (reply.KeptEntry o number) valid (other, (c, es, e, rest, is, first, told, adds)) =
       still (λ k. (refl, refl, refl)) (still-adds d e.slot (reply.Owner o) new adds)
   turn-does n (call.PopIf l m g) (reply.Refused TooManyOwners) valid (is, e) = still (λ k. (refl, refl, refl)) (same-desk d new e)

@@ -98,6 +98,7 @@ IsQueueName d q = IsSome (shared_cell (holding_at d.queues q))
 
 -- the name is that of a container of entries
 abbrev pub IsListName : ScriptState → ListName → Type 0
+IsListName d (list.Queue q) = IsQueueName d q.0
 IsListName d (list.Stack s) = IsStackName d s.0
 
 -- what goes into a cell of this kind is none, or there and of its kind
@@ -175,12 +176,10 @@ IsValid d n (call.Unmark i) = IsUnderGuard d n × CanPointTo d n i.0
 IsValid d n (call.Delete i) = IsUnderGuard d n × CanPointTo d n i.0
 IsValid d n (call.LinkTag i) = IsUnderGuard d n × CanPointTo d n i.0
 IsValid d n call.Queue = IsParticipant d n
-IsValid d n (call.Enqueue q number g) = HasOpen d n g.0 × IsQueueName d q.0
-IsValid d n (call.Dequeue q g) = HasOpen d n g.0 × IsQueueName d q.0
 IsValid d n call.Stack = IsParticipant d n
-IsValid d n (call.Push s number g) = HasOpen d n g.0 × IsStackName d s.0
+IsValid d n (call.Push l number g) = HasOpen d n g.0 × IsListName d l
 IsValid d n (call.PushIf l number m g) = HasOpen d n g.0 × IsListName d l
-IsValid d n (call.Pop s g) = HasOpen d n g.0 × IsStackName d s.0
+IsValid d n (call.Pop l g) = HasOpen d n g.0 × IsListName d l
 IsValid d n (call.PopIf l m g) = HasOpen d n g.0 × IsListName d l
 IsValid d n (call.Peek l g) = HasOpen d n g.0 × IsListName d l
 IsValid d n (call.Len l g) = HasOpen d n g.0 × IsListName d l
@@ -287,18 +286,28 @@ IsShareFull w (Some k) = IsSharedBy (2 ^ 62) (standing_at w k)
 
 -- p puts the number among the entries of the container of this name: its item and an owner of that are named
 abbrev pub PutsIn : ScriptState → (p : ℕ) → ListName → ℕ → OwnerName → ItemName → ScriptState → Type 0
+PutsIn d p (list.Queue q) number o i new =
+    (i.0 ≡ length d.slots) × ((cells : QueueCells) × (es : List (Entry Val)) × (second : Option ℕ) × (k : ℕ) × (w : World Val)
+    × IsNamedQueue d q.0 cells es second × Enqueues d.world p cells es second number k w
+    × GivesOwner (with_item d k) w (shared k d.world.home.slots) o new)
 PutsIn d p (list.Stack s) number o i new =
     (i.0 ≡ length d.slots) × ((c : ℕ) × (es : List (Entry Val)) × (k : ℕ) × (w : World Val) × IsStack d s.0 c es × Pushes d.world p c es number k w
     × GivesOwner (with_item d k) w (shared k d.world.home.slots) o new)
 
 -- p takes out the first entry that isn't deleted, which has the number, and is given an owner of it
 abbrev pub TakesOut : ScriptState → (p : ℕ) → ListName → ℕ → OwnerName → ScriptState → Type 0
+TakesOut d p (list.Queue q) number o new =
+    (cells : QueueCells) × (es : List (Entry Val)) × (second : Option ℕ) × (e : Entry Val) × (w : World Val) × IsNamedQueue d q.0 cells es second
+    × (body_of e.value ≡ body.Number number) × TakesOldest d.world p cells es second e w × GivesOwner d w (shared e.slot d.world.home.slots) o new
 TakesOut d p (list.Stack s) number o new =
     (c : ℕ) × (es : List (Entry Val)) × (e : Entry Val) × (w : World Val) × IsStack d s.0 c es × (body_of e.value ≡ body.Number number)
     × Takes d.world p c es e w × GivesOwner d w (shared e.slot d.world.home.slots) o new
 
 -- each entry is deleted, and p lets go of all
 abbrev pub IsDrainedOf : ScriptState → (p : ℕ) → ListName → ScriptState → Type 0
+IsDrainedOf d p (list.Queue q) new =
+    (cells : QueueCells) × (es : List (Entry Val)) × (second : Option ℕ) × (w : World Val) × IsNamedQueue d q.0 cells es second
+    × DrainsQueue d.world p cells es second w × Leaves (in_world d w) new
 IsDrainedOf d p (list.Stack s) new =
     (c : ℕ) × (es : List (Entry Val)) × (w : World Val) × IsStack d s.0 c es × Drains d.world p c es w × Leaves (in_world d w) new
 
@@ -403,33 +412,19 @@ Does d n p call.Queue (reply.Queue q) new =
     × (cells.oldest ≢ cells.newest)
     × Leaves (in_world (with_queue d cells.oldest cells.newest) (nulled (nulled d.world cells.oldest) cells.newest)) new)
 Does d n p call.Queue (reply.Refused NoCell) new = HasOneAtMost d.world.cells × (new ≡ d)
--- a free cell and a free slot are taken, whichever
-Does d n p (call.Enqueue q number g) (reply.Item o i) new =
-    (i.0 ≡ length d.slots) × ((cells : QueueCells) × (es : List (Entry Val)) × (second : Option ℕ) × (k : ℕ) × (w : World Val)
-    × IsNamedQueue d q.0 cells es second × Enqueues d.world p cells es second number k w
-    × GivesOwner (with_item d k) w (shared k d.world.home.slots) o new)
-Does d n p (call.Enqueue q number g) (reply.Refused refused) new = RefusesEntry d.world refused × (new ≡ d)
-Does d n p (call.Dequeue q g) (reply.Popped o number) new =
-    (cells : QueueCells) × (es : List (Entry Val)) × (second : Option ℕ) × (e : Entry Val) × (w : World Val) × IsNamedQueue d q.0 cells es second
-    × (body_of e.value ≡ body.Number number) × TakesOldest d.world p cells es second e w × GivesOwner d w (shared e.slot d.world.home.slots) o new
-Does d n p (call.Dequeue q g) reply.Nothing new =
-    (cells : QueueCells) × (es : List (Entry Val)) × (second : Option ℕ) × (w : World Val) × IsNamedQueue d q.0 cells es second
-    × DrainsQueue d.world p cells es second w × Leaves (in_world d w) new
-Does d n p (call.Dequeue q g) (reply.Refused TooManyOwners) new =
-    ((cells : QueueCells) × (es : List (Entry Val)) × (second : Option ℕ) × IsNamedQueue d q.0 cells es second × IsOwnedEnough d.world es) × (new ≡ d)
 -- a free cell is taken, whichever
 Does d n p call.Stack (reply.Stack s) new =
     (s.0 ≡ length d.stacks) × ((c : ℕ) × IsEmptyAt d.world.cells c × Leaves (in_world (with_stack d c) (nulled d.world c)) new)
 Does d n p call.Stack (reply.Refused NoCell) new = IsFull d.world.cells × (new ≡ d)
 -- a free cell and a free slot are taken, whichever
-Does d n p (call.Push s number g) (reply.Item o i) new = PutsIn d p (list.Stack s) number o i new
-Does d n p (call.Push s number g) (reply.Refused refused) new = RefusesEntry d.world refused × (new ≡ d)
+Does d n p (call.Push l number g) (reply.Item o i) new = PutsIn d p l number o i new
+Does d n p (call.Push l number g) (reply.Refused refused) new = RefusesEntry d.world refused × (new ≡ d)
 Does d n p (call.PushIf l number m g) (reply.Item o i) new = HasNewest d l m × PutsIn d p l number o i new
 Does d n p (call.PushIf l number m g) (reply.Kept back) new = (back ≡ number) × ¬ (HasNewest d l m) × (new ≡ d)
 Does d n p (call.PushIf l number m g) (reply.Refused refused) new = HasNewest d l m × RefusesEntry d.world refused × (new ≡ d)
-Does d n p (call.Pop s g) (reply.Popped o number) new = TakesOut d p (list.Stack s) number o new
-Does d n p (call.Pop s g) reply.Nothing new = IsDrainedOf d p (list.Stack s) new
-Does d n p (call.Pop s g) (reply.Refused TooManyOwners) new = HasCrowdedFirst d (list.Stack s) × (new ≡ d)
+Does d n p (call.Pop l g) (reply.Popped o number) new = TakesOut d p l number o new
+Does d n p (call.Pop l g) reply.Nothing new = IsDrainedOf d p l new
+Does d n p (call.Pop l g) (reply.Refused TooManyOwners) new = HasCrowdedFirst d l × (new ≡ d)
 Does d n p (call.PopIf l m g) (reply.Popped o number) new = (number ≡ m) × TakesOut d p l number o new
 Does d n p (call.PopIf l m g) reply.Nothing new = IsDrainedOf d p l new
 Does d n p (call.PopIf l m g) (reply.KeptEntry o number) new =

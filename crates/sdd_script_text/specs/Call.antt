@@ -49,6 +49,7 @@ word_of (Word w) = fixed w
 
 -- the name of a container as an argument
 abbrev pub named : ListName → Argument
+named (list.Queue q) = Queue q
 named (list.Stack s) = Stack s
 
 -- the verb of an action, and its arguments
@@ -92,12 +93,10 @@ spoken (action.Unmark i) = (codes "unmark", Item (Some i) ∷ [])
 spoken (action.Delete i) = (codes "delete", Item (Some i) ∷ [])
 spoken (action.LinkTag i) = (codes "linktag", Item (Some i) ∷ [])
 spoken action.Queue = (codes "queue", [])
-spoken (action.Enqueue q n g) = (codes "push", Queue q ∷ Number n ∷ Guard g ∷ [])
-spoken (action.Dequeue q g) = (codes "pop", Queue q ∷ Guard g ∷ [])
 spoken action.Stack = (codes "stack", [])
-spoken (action.Push s n g) = (codes "push", Stack s ∷ Number n ∷ Guard g ∷ [])
+spoken (action.Push l n g) = (codes "push", named l ∷ Number n ∷ Guard g ∷ [])
 spoken (action.PushIf l n m g) = (codes "pushif", named l ∷ Number n ∷ Number m ∷ Guard g ∷ [])
-spoken (action.Pop s g) = (codes "pop", Stack s ∷ Guard g ∷ [])
+spoken (action.Pop l g) = (codes "pop", named l ∷ Guard g ∷ [])
 spoken (action.PopIf l m g) = (codes "popif", named l ∷ Number m ∷ Guard g ∷ [])
 spoken (action.Peek l g) = (codes "peek", named l ∷ Guard g ∷ [])
 spoken (action.Len l g) = (codes "len", named l ∷ Guard g ∷ [])

@@ -6,6 +6,8 @@ use Rattle.std.specs.Str.{bytes_eq}
 use Rattle.std.specs.Str.Parse.{digits_value}
 use Rattle.sdd_core.specs.declared.tag.Tag.TheVariants as tag
 use Rattle.sdd_script_text.specs.Call.{words, spoken, word_of, IsWordOf}
+use Rattle.sdd_script_text.specs.declared.name.GuardName.{GuardName}
+use Rattle.sdd_script_text.specs.declared.name.ListName.{ListName}
 use Rattle.sdd_script_text.specs.declared.name.ListName.TheVariants as list
 use Rattle.sdd_script_text.specs.declared.call.Action.{Action}
 use Rattle.sdd_script_text.specs.declared.call.Action.TheVariants as action
@@ -76,6 +78,13 @@ most_arguments = 8
 abbrev pub few_arguments_at : List (List ℕ) → Option (List Argument)
 few_arguments_at words = if nat_lt most_arguments (length words) then None else arguments_at words
 
+-- the actions on a container with a guard, and those with a number too
+abbrev pub with_list : ListName → GuardName → List Action
+with_list l g = action.Pop l g ∷ action.Peek l g ∷ action.Len l g ∷ action.List l g ∷ []
+
+abbrev pub with_list_number : ListName → ℕ → GuardName → List Action
+with_list_number l n g = action.Push l n g ∷ action.PopIf l n g ∷ []
+
 -- the actions with these arguments
 abbrev pub with_arguments : List Argument → List Action
 with_arguments [] = action.Open ∷ action.Collector ∷ action.Queue ∷ action.Stack ∷ action.End ∷ []
@@ -86,11 +95,12 @@ with_arguments (Item (Some i) ∷ []) = action.Unraw i ∷ action.Mark i ∷ act
 with_arguments (Cell c ∷ []) = action.Tag c ∷ action.Into c ∷ action.CloseCell c ∷ []
 with_arguments (Collector k ∷ []) = action.CloseCollector k ∷ []
 with_arguments (Queue q ∷ []) = action.CloseQueue q ∷ []
-with_arguments (Queue q ∷ Guard g ∷ []) = action.Dequeue q g ∷ []
-with_arguments (Queue q ∷ Number n ∷ Guard g ∷ []) = action.Enqueue q n g ∷ []
+with_arguments (Queue q ∷ Guard g ∷ []) = with_list (list.Queue q) g
+with_arguments (Queue q ∷ Number n ∷ Guard g ∷ []) = with_list_number (list.Queue q) n g
+with_arguments (Queue q ∷ Number n ∷ Number m ∷ Guard g ∷ []) = action.PushIf (list.Queue q) n m g ∷ []
 with_arguments (Stack s ∷ []) = action.CloseStack s ∷ []
-with_arguments (Stack s ∷ Guard g ∷ []) = action.Pop s g ∷ action.Peek (list.Stack s) g ∷ action.Len (list.Stack s) g ∷ action.List (list.Stack s) g ∷ []
-with_arguments (Stack s ∷ Number n ∷ Guard g ∷ []) = action.Push s n g ∷ action.PopIf (list.Stack s) n g ∷ []
+with_arguments (Stack s ∷ Guard g ∷ []) = with_list (list.Stack s) g
+with_arguments (Stack s ∷ Number n ∷ Guard g ∷ []) = with_list_number (list.Stack s) n g
 with_arguments (Stack s ∷ Number n ∷ Number m ∷ Guard g ∷ []) = action.PushIf (list.Stack s) n m g ∷ []
 with_arguments (Item (Some i) ∷ Guard g ∷ []) = action.Look i g ∷ action.Upgrade i g ∷ action.See i g ∷ []
 with_arguments (Owner (Some o) ∷ Number n ∷ []) = action.Put o n ∷ []

@@ -93,18 +93,14 @@ pub enum Action {
     LinkTag(ItemName),
     /// `queue`: an empty queue of numbers.
     Queue,
-    /// `push Q n G`: puts a number behind a queue's entries.
-    Enqueue(QueueName, u64, GuardName),
-    /// `pop Q G`: takes the oldest number out that isn't deleted.
-    Dequeue(QueueName, GuardName),
     /// `stack`: an empty stack of numbers.
     Stack,
-    /// `push S n G`: puts a number in front of a stack's entries.
-    Push(StackName, u64, GuardName),
+    /// `push L n G`: puts a number behind a queue's entries, or in front of a stack's.
+    Push(ListName, u64, GuardName),
     /// `pushif L n m G`: puts the first number among a container's, if the newest that isn't deleted is the second.
     PushIf(ListName, u64, u64, GuardName),
-    /// `pop S G`: takes the first number out that isn't deleted.
-    Pop(StackName, GuardName),
+    /// `pop L G`: takes a container's first number out that isn't deleted: the oldest of a queue, the newest of a stack.
+    Pop(ListName, GuardName),
     /// `popif L m G`: takes a container's first number out that isn't deleted, if it is this one.
     PopIf(ListName, u64, GuardName),
     /// `peek L G`: a container's first number that isn't deleted.

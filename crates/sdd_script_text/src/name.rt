@@ -38,9 +38,10 @@ pub struct QueueName(pub u64);
 #[derive(Clone, Copy, Debug, PartialEq, Eq, PartialOrd, Ord)]
 pub struct StackName(pub u64);
 
-/// The name of a container of entries: of a stack, as `s0`.
+/// The name of a container of entries: of a queue, as `q0`, or of a stack, as `s0`.
 #[derive(Clone, Copy, Debug, PartialEq, Eq)]
 pub enum ListName {
+    Queue(QueueName),
     Stack(StackName),
 }
 

@@ -1,13 +1,12 @@
 //! What participants are told of the entries of containers.
-ghost use Rattle.std.specs.Prelude.{◌≡◌, IfOk, List, length, map};
+ghost use Rattle.std.specs.Prelude.{◌≡◌, ℕ, IfOk, List, Option, length, map};
 ghost use Rattle.sdd_space.specs.Guard.{reader_of};
 ghost use Rattle.sdd_lists.specs.Lists.{Entry, content, first_value, left};
 ghost use Rattle.sdd_lists.specs.Walk.{shown_of};
 ghost use Rattle.sdd_script_model.specs.Containers.{TellsNumber};
-ghost use Rattle.sdd_script_model.specs.Listed.{Begins};
 ghost use Rattle.sdd_script_model.specs.Val.{Val};
 ghost use Rattle.sdd_script_model.specs.declared.val.Body.TheVariants as body;
-ghost use Rattle.sdd_interpreter.specs.Containers.{IsOfNumbers, list_cell, list_home};
+ghost use Rattle.sdd_interpreter.specs.Containers.{HasEntries, IsListOf, IsOfNumbers};
 
 use crate::commands::step::ListCommand;
 use crate::holding::AnyList;
@@ -27,11 +26,11 @@ pub struct PeekFirst<'a> {
 impl ListCommand for PeekFirst<'_> {
     type Out = Reply;
 
-    ghost asks = { λ step home reader world. (list_home step.list ≡ home.cells) × (reader_of step.guard.now ≡ reader)
-        × IsOfNumbers world (list_cell step.list) };
+    ghost asks = { λ step home reader world. IsListOf home.cells step.list × (reader_of step.guard.now ≡ reader)
+        × IsOfNumbers world step.list };
 
     ghost does = { λ step _ _ before told after. (after ≡ before)
-        × ((es : List (Entry Val)) → Begins before (list_cell step.list) es → TellsNumber told (first_value (left es))) };
+        × ((es : List (Entry Val)) (second : Option ℕ) → HasEntries before step.list es second → TellsNumber told (first_value (left es))) };
 
     fn done<S: Items<Val> + Several<Val> + SharedItems<Val> + Cells<Val> + LookThrough<Val>>(
         self,
@@ -59,10 +58,10 @@ pub struct CountEntries<'a> {
 impl ListCommand for CountEntries<'_> {
     type Out = u64;
 
-    ghost asks = { λ step home reader _. (list_home step.list ≡ home.cells) × (reader_of step.guard.now ≡ reader) };
+    ghost asks = { λ step home reader _. IsListOf home.cells step.list × (reader_of step.guard.now ≡ reader) };
 
     ghost does = { λ step _ _ before count after. (after ≡ before)
-        × ((es : List (Entry Val)) → Begins before (list_cell step.list) es → count ≡ length (content es)) };
+        × ((es : List (Entry Val)) (second : Option ℕ) → HasEntries before step.list es second → count ≡ length (content es)) };
 
     fn done<S: Items<Val> + Several<Val> + SharedItems<Val> + Cells<Val> + LookThrough<Val>>(
         self,
@@ -84,11 +83,11 @@ pub struct ListNumbers<'a> {
 impl ListCommand for ListNumbers<'_> {
     type Out = Result<Numbers, AllocError>;
 
-    ghost asks = { λ step home reader world. (list_home step.list ≡ home.cells) × (reader_of step.guard.now ≡ reader)
-        × IsOfNumbers world (list_cell step.list) };
+    ghost asks = { λ step home reader world. IsListOf home.cells step.list × (reader_of step.guard.now ≡ reader)
+        × IsOfNumbers world step.list };
 
     ghost does = { λ step _ _ before result after. (after ≡ before)
-        × IfOk result (λ numbers. (es : List (Entry Val)) → Begins before (list_cell step.list) es → shown_of es ≡ map body.Number numbers) };
+        × IfOk result (λ numbers. (es : List (Entry Val)) (second : Option ℕ) → HasEntries before step.list es second → shown_of es ≡ map body.Number numbers) };
 
     fn done<S: Items<Val> + Several<Val> + SharedItems<Val> + Cells<Val> + LookThrough<Val>>(
         self,

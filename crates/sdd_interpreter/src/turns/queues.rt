@@ -9,14 +9,13 @@ ghost use Rattle.sdd_lists.specs.Lists.{Entry};
 ghost use Rattle.sdd_lists.specs.Queue.{AreOfCells, HasOneAtMost, IsQueue, cells_in, queue_closed};
 ghost use Rattle.sdd_world.specs.Place.{index_of};
 ghost use Rattle.sdd_script_model.specs.Val.{Val, link_of};
-ghost use Rattle.sdd_interpreter.specs.Queues.{EnqueuesNumber, PopsOldest};
 
-use crate::commands::queues::{CloseQueue, Dequeue, Enqueue, MakeQueue};
+use crate::commands::queues::{CloseQueue, MakeQueue};
 use crate::turns::turn::list_step_at;
 use sdd_core::Refused;
 use sdd_lists::Queue;
 use sdd_script_model::{Body, Val};
-use sdd_space::{Guard, Shared};
+use sdd_space::Guard;
 use sdd_world::{Place, World};
 
 /// A new queue, without entries.
@@ -30,47 +29,6 @@ pub fn queue_at(world: &mut World<Val>, place: &Place) -> Result<Queue<Body>, Re
         (λ e. HasOneAtMost world.old.cells × (e ≡ Refused.NoCell) × (world.new ≡ world.old)) }
 {
     list_step_at(world, place, MakeQueue)
-}
-
-/// A number is put behind a queue's entries, under a guard of the participant.
-pub fn enqueue_at(
-    world: &mut World<Val>,
-    place: &Place,
-    queue: &Queue<Body>,
-    number: u64,
-    guard: &Guard,
-) -> Result<Shared<Val>, Refused>
-    requires place { IsPlaceOf world.old (index_of place.now) }
-    requires queue { AreOfCells world.old.home.cells queue.now }
-    requires reader { reader_of guard.now ≡ reader_at world.old (index_of place.now) }
-    ensures pushed { (es : List (Entry Val)) (second : Option ℕ) → IsQueue link_of world.old (cells_in queue.now) es second →
-        EnqueuesNumber world.old.home.slots world.old (index_of place.now) (cells_in queue.now) es second number result world.new }
-{
-    list_step_at(
-        world,
-        place,
-        Enqueue {
-            queue,
-            number,
-            guard,
-        },
-    )
-}
-
-/// The first entry that isn't deleted is taken out of a queue, under a guard of the participant.
-pub fn dequeue_at(
-    world: &mut World<Val>,
-    place: &Place,
-    queue: &Queue<Body>,
-    guard: &Guard,
-) -> Result<Option<Shared<Val>>, Refused>
-    requires place { IsPlaceOf world.old (index_of place.now) }
-    requires queue { AreOfCells world.old.home.cells queue.now }
-    requires reader { reader_of guard.now ≡ reader_at world.old (index_of place.now) }
-    ensures popped { (es : List (Entry Val)) (second : Option ℕ) → IsQueue link_of world.old (cells_in queue.now) es second →
-        PopsOldest world.old.home.slots world.old (index_of place.now) (cells_in queue.now) es second result world.new }
-{
-    list_step_at(world, place, Dequeue { queue, guard })
 }
 
 /// A queue is closed, under a guard of the participant.

@@ -11,14 +11,13 @@ ghost use Rattle.sdd_world.specs.Place.{index_of};
 ghost use Rattle.sdd_script_model.specs.Listed.{Begins};
 ghost use Rattle.sdd_script_model.specs.Stacks.{stack_closed};
 ghost use Rattle.sdd_script_model.specs.Val.{Val};
-ghost use Rattle.sdd_interpreter.specs.Stacks.{PopsOff, PushesNumber};
 
-use crate::commands::stacks::{CloseStack, MakeStack, PopFirst, PushNumber};
+use crate::commands::stacks::{CloseStack, MakeStack};
 use crate::turns::turn::{cell_step_at, list_step_at};
 use sdd_core::Refused;
 use sdd_lists::Stack;
 use sdd_script_model::{Body, Val};
-use sdd_space::{Guard, Shared};
+use sdd_space::Guard;
 use sdd_world::{Place, World};
 
 /// A new stack, without entries.
@@ -30,47 +29,6 @@ pub fn stack_at(world: &mut World<Val>, place: &Place) -> Result<Stack<Body>, Re
         (λ e. IsFull world.old.cells × (e ≡ Refused.NoCell) × (world.new ≡ world.old)) }
 {
     cell_step_at(world, place, MakeStack)
-}
-
-/// A number is put in front of a stack's entries, under a guard of the participant.
-pub fn push_at(
-    world: &mut World<Val>,
-    place: &Place,
-    stack: &Stack<Body>,
-    number: u64,
-    guard: &Guard,
-) -> Result<Shared<Val>, Refused>
-    requires place { IsPlaceOf world.old (index_of place.now) }
-    requires stack { home_in stack.now ≡ world.old.home.cells }
-    requires reader { reader_of guard.now ≡ reader_at world.old (index_of place.now) }
-    ensures pushed { (es : List (Entry Val)) → Begins world.old (cell_in stack.now) es →
-        PushesNumber world.old.home.slots world.old (index_of place.now) (cell_in stack.now) es number result world.new }
-{
-    list_step_at(
-        world,
-        place,
-        PushNumber {
-            stack,
-            number,
-            guard,
-        },
-    )
-}
-
-/// The first entry that isn't deleted is taken out of a stack, under a guard of the participant.
-pub fn pop_at(
-    world: &mut World<Val>,
-    place: &Place,
-    stack: &Stack<Body>,
-    guard: &Guard,
-) -> Result<Option<Shared<Val>>, Refused>
-    requires place { IsPlaceOf world.old (index_of place.now) }
-    requires stack { home_in stack.now ≡ world.old.home.cells }
-    requires reader { reader_of guard.now ≡ reader_at world.old (index_of place.now) }
-    ensures popped { (es : List (Entry Val)) → Begins world.old (cell_in stack.now) es →
-        PopsOff world.old.home.slots world.old (index_of place.now) (cell_in stack.now) es result world.new }
-{
-    list_step_at(world, place, PopFirst { stack, guard })
 }
 
 /// A stack is closed, under a guard of the participant.

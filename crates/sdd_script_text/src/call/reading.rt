@@ -4,7 +4,7 @@ ghost use Rattle.std.specs.Prelude.{◌≡◌, [], ◌∷◌, ◌<◌, Some, IfS
 ghost use Rattle.std.specs.List.{AllByRecursion};
 ghost use Rattle.std.specs.Fmt.{decimal};
 ghost use Rattle.sdd_script_text.specs.Call.{IsNumber, HasNumber, word_of, spoken, HasNumbers, words, words_of};
-ghost use Rattle.sdd_script_text.specs.Reading.{IsNumberOf, numbered_at, argument_at, numbered_argument_at, few_arguments_at, with_arguments, called, action_at, call_at};
+ghost use Rattle.sdd_script_text.specs.Reading.{IsNumberOf, numbered_at, argument_at, numbered_argument_at, few_arguments_at, with_arguments, with_list, with_list_number, called, action_at, call_at};
 
 use super::arguments::Arguments;
 use super::{Action, Argument, Call, Value, Word};
@@ -217,6 +217,30 @@ fn with_one(verb: &str, argument: Argument) -> Option<Action>
     }
 }
 
+/// The verbs with a container and a guard.
+fn with_list(verb: &str, list: ListName, guard: GuardName) -> Option<Action>
+    ensures { result ≡ called verb.now (with_list list guard) }
+{
+    match verb {
+        "pop" => Some(Action::Pop(list, guard)),
+        "peek" => Some(Action::Peek(list, guard)),
+        "len" => Some(Action::Len(list, guard)),
+        "list" => Some(Action::List(list, guard)),
+        _ => None,
+    }
+}
+
+/// The verbs with a container, a number and a guard.
+fn with_list_number(verb: &str, list: ListName, number: u64, guard: GuardName) -> Option<Action>
+    ensures { result ≡ called verb.now (with_list_number list number guard) }
+{
+    match verb {
+        "push" => Some(Action::Push(list, number, guard)),
+        "popif" => Some(Action::PopIf(list, number, guard)),
+        _ => None,
+    }
+}
+
 /// The verbs with a guard behind another argument.
 fn with_guard_behind(verb: &str, first: Argument, guard: GuardName) -> Option<Action>
     ensures { result ≡ called verb.now (with_arguments (first ∷ Argument.Guard guard ∷ [])) }
@@ -228,17 +252,8 @@ fn with_guard_behind(verb: &str, first: Argument, guard: GuardName) -> Option<Ac
             "see" => Some(Action::See(item, guard)),
             _ => None,
         },
-        Argument::Queue(queue) => match verb {
-            "pop" => Some(Action::Dequeue(queue, guard)),
-            _ => None,
-        },
-        Argument::Stack(stack) => match verb {
-            "pop" => Some(Action::Pop(stack, guard)),
-            "peek" => Some(Action::Peek(ListName::Stack(stack), guard)),
-            "len" => Some(Action::Len(ListName::Stack(stack), guard)),
-            "list" => Some(Action::List(ListName::Stack(stack), guard)),
-            _ => None,
-        },
+        Argument::Queue(queue) => with_list(verb, ListName::Queue(queue), guard),
+        Argument::Stack(stack) => with_list(verb, ListName::Stack(stack), guard),
         Argument::Cell(cell) => match verb {
             "load" => Some(Action::Load(cell, guard)),
             "copy" => Some(Action::Copy(cell, guard)),
@@ -304,15 +319,12 @@ fn with_three(verb: &str, first: Argument, second: Argument, third: Argument) ->
             "swap" => Some(Action::Swap(cell, held, tag)),
             _ => None,
         },
-        (Argument::Queue(queue), Argument::Number(number), Argument::Guard(guard)) => match verb {
-            "push" => Some(Action::Enqueue(queue, number, guard)),
-            _ => None,
-        },
-        (Argument::Stack(stack), Argument::Number(number), Argument::Guard(guard)) => match verb {
-            "push" => Some(Action::Push(stack, number, guard)),
-            "popif" => Some(Action::PopIf(ListName::Stack(stack), number, guard)),
-            _ => None,
-        },
+        (Argument::Queue(queue), Argument::Number(number), Argument::Guard(guard)) => {
+            with_list_number(verb, ListName::Queue(queue), number, guard)
+        }
+        (Argument::Stack(stack), Argument::Number(number), Argument::Guard(guard)) => {
+            with_list_number(verb, ListName::Stack(stack), number, guard)
+        }
         (Argument::Owner(Some(owner)), Argument::Guard(guard), Argument::Collector(collector)) =>
             match verb {
                 "collect" => Some(Action::Collect(owner, guard, collector)),
@@ -338,6 +350,15 @@ fn with_four(
                 "tagif" => Some(Action::TagIf(cell, tag, old)),
                 _ => None,
             },
+        (
+            Argument::Queue(queue),
+            Argument::Number(number),
+            Argument::Number(newest),
+            Argument::Guard(guard),
+        ) => match verb {
+            "pushif" => Some(Action::PushIf(ListName::Queue(queue), number, newest, guard)),
+            _ => None,
+        },
         (
             Argument::Stack(stack),
             Argument::Number(number),

@@ -11,9 +11,9 @@ loop-body-init g c = record {
   seat = c.walk-walk.ensures.undisturbed.seat;
   world = c.walk-walk.ensures.world c.requires.exact;
   walk = c.walk-walk.ensures.home;
-  shown = λ es list. (
+  shown = λ es second list. (
     shown_of es,
-    c.walk-walk.ensures.list c.requires.exact es list,
+    c.walk-walk.ensures.list c.requires.exact es second list,
     ap (λ (ns : List ℕ). map Number ns ++ shown_of es) (sym c.new-numbers.ensures),
   );
 }
@@ -26,8 +26,8 @@ loop-body-preserved g c =
       seat = c.in-Some.ensures.undisturbed.seat ∙ before.seat;
       world = c.in-Some.ensures.world exact ∙ before.world;
       walk = subst (λ (s : CallerId). IsWalkOf s.home.cells c.next.new.self) before.seat c.in-Some.ensures.home;
-      shown = λ es list.
-          (let shows = before.shown es list in
+      shown = λ es second list.
+          (let shows = before.shown es second list in
           let next = c.in-Some.ensures.list exact shows.0 shows.1 in (
             drop 1 shows.0,
             next.1,
@@ -40,9 +40,9 @@ pub unreachable-requires : goal.unreachable-requires
 unreachable-requires g c =
     let before = c.loop-body.invariant in
     let exact : IsExact (g.S.Caller.seat c.loop-body.s) = subst (λ (s : CallerId). IsExact s) (sym before.seat) c.requires.exact in
-    let shows = before.shown c.requires.asked.2.0 c.requires.asked.2.1 in
+    let shows = before.shown c.requires.asked.2.0 c.requires.asked.2.1 c.requires.asked.2.2 in
     let next = c.in-Some.ensures.list exact shows.0 shows.1 in
-    let is = next-number c.requires.asked.2.0 c.loop-body.numbers shows.0 shows.2 c.in-Some.body.now c.requires.asked.2.2 next.0 in
+    let is = next-number c.requires.asked.2.0 c.loop-body.numbers shows.0 shows.2 c.in-Some.body.now c.requires.asked.2.3 next.0 in
     c.in_default-body.not-Number is.0 is.1
 
 pub returns-clause-done : goal.returns-clause-done
@@ -50,7 +50,7 @@ returns-clause-done g c =
     let before = c.loop-body.invariant in
     let exact : IsExact (g.S.Caller.seat c.loop-body.s) = subst (λ (s : CallerId). IsExact s) (sym before.seat) c.requires.exact in (
       c.in_default.ensures.world exact ∙ before.world,
-      (λ es list.
-          let shows = before.shown es list in
+      (λ es second list.
+          let shows = before.shown es second list in
           shown-all es c.loop-body.numbers shows.0 shows.2 (c.in_default.ensures.list exact shows.0 shows.1).0),
     )

@@ -1,12 +1,11 @@
-use Rattle.std.proofs.Common.{◌≡◌, ◌++◌, List}
+use Rattle.std.proofs.Common.{◌≡◌, ◌++◌, ℕ, List, Option}
 use Rattle.std.specs.Prelude.{map}
 use Rattle.sdd_lists.specs.Lists.{Entry}
 use Rattle.sdd_lists.specs.Walk.{IsWalkOf, ShowsInOrder, shown_of, steps_left}
-use Rattle.sdd_script_model.specs.Listed.{Begins}
 use Rattle.sdd_script_model.specs.Val.{Val}
 use Rattle.sdd_script_model.specs.declared.val.Body.{Body}
 use Rattle.sdd_script_model.specs.declared.val.Body.TheVariants.{Number}
-use Rattle.sdd_interpreter.specs.Containers.{list_cell}
+use Rattle.sdd_interpreter.specs.Containers.{HasEntries}
 use Rattle.sdd_interpreter.proofs.commands.containers.ListNumbersListCommand.done.Given as goal
 
 -- the numbers so far are those that were shown, and the walk shows the others
@@ -15,7 +14,7 @@ invariant-loop-body g l = record {
   seat : g.S.Caller.seat l.s ≡ g.S.Caller.seat l.fn.s;
   world : g.S.Caller.world l.s ≡ g.S.Caller.world l.fn.s;
   walk : IsWalkOf (g.S.Caller.seat l.fn.s).home.cells l.walk;
-  shown : (es : List (Entry Val)) → Begins (g.S.Caller.world l.fn.s) (list_cell l.fn.self.list) es →
+  shown : (es : List (Entry Val)) (second : Option ℕ) → HasEntries (g.S.Caller.world l.fn.s) l.fn.self.list es second →
       (vs : List Body) × ShowsInOrder (g.S.Caller.world l.s) l.walk vs × (shown_of es ≡ map Number l.numbers ++ vs);
 }
 

@@ -12,10 +12,11 @@ unreachable-requires g c =
     subst (λ (s : CallerId). IsExact s) (sym c.peek-first.ensures.undisturbed.seat) c.requires.exact in
     let value = λ (k : ℕ) (v : Val). (g.met.S.Caller.shows_is_value c.peek-first.new.s exact k v).0 in
     let es = c.requires.asked.2.0 in
-    let list = c.requires.asked.2.1 in
-    let first = points-left _ _ value _ c.peek-first.ensures.shown _ _ es (c.peek-first.ensures.world c.requires.exact) list
-    (c.peek-first.ensures.list c.requires.exact es list) in
-    c.in-None-number_of.ensures (first-number es c.in-Some.value.now c.requires.asked.2.2 (sym first ∙ sym c.in-Some.ensures.shown))
+    let second = c.requires.asked.2.1 in
+    let list = c.requires.asked.2.2 in
+    let first = points-left _ _ value _ c.peek-first.ensures.shown _ c.args.self.list es second (c.peek-first.ensures.world c.requires.exact) list
+    (c.peek-first.ensures.list c.requires.exact es second list) in
+    c.in-None-number_of.ensures (first-number es c.in-Some.value.now c.requires.asked.2.3 (sym first ∙ sym c.in-Some.ensures.shown))
 
 pub returns-in-Some-number_of-clause-done : goal.returns-in-Some-number_of-clause-done
 returns-in-Some-number_of-clause-done g c =
@@ -23,9 +24,9 @@ returns-in-Some-number_of-clause-done g c =
     subst (λ (s : CallerId). IsExact s) (sym c.peek-first.ensures.undisturbed.seat) c.requires.exact in
     let value = λ (k : ℕ) (v : Val). (g.met.S.Caller.shows_is_value c.peek-first.new.s exact k v).0 in (
       c.peek-first.ensures.world c.requires.exact,
-      (λ es list.
-          let first = points-left _ _ value _ c.peek-first.ensures.shown _ _ es (c.peek-first.ensures.world c.requires.exact) list
-          (c.peek-first.ensures.list c.requires.exact es list) in
+      (λ es second list.
+          let first = points-left _ _ value _ c.peek-first.ensures.shown _ c.args.self.list es second (c.peek-first.ensures.world c.requires.exact) list
+          (c.peek-first.ensures.list c.requires.exact es second list) in
           subst (λ (v : Option Val). HasNumber v c.in-Some-number_of.number) (c.in-Some.ensures.shown ∙ first) c.in-Some-number_of.ensures),
     )
 
@@ -35,8 +36,8 @@ returns-in-None-clause-done g c =
     subst (λ (s : CallerId). IsExact s) (sym c.peek-first.ensures.undisturbed.seat) c.requires.exact in
     let value = λ (k : ℕ) (v : Val). (g.met.S.Caller.shows_is_value c.peek-first.new.s exact k v).0 in (
       c.peek-first.ensures.world c.requires.exact,
-      (λ es list.
-          let first = points-left _ _ value _ c.peek-first.ensures.shown _ _ es (c.peek-first.ensures.world c.requires.exact) list
-          (c.peek-first.ensures.list c.requires.exact es list) in
+      (λ es second list.
+          let first = points-left _ _ value _ c.peek-first.ensures.shown _ c.args.self.list es second (c.peek-first.ensures.world c.requires.exact) list
+          (c.peek-first.ensures.list c.requires.exact es second list) in
           sym first ∙ sym c.in-None.ensures.shown),
     )
