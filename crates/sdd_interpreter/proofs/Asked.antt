@@ -27,10 +27,6 @@ use Rattle.sdd_interpreter.proofs.Popped.{pops-newest, pops-oldest}
 pub push-held : (m : ℕ) (v value : Option Val) → value ≡ v → IsTrue true ↔ HasNumber value m → HasNumber v m
 push-held m v value same says = subst (λ (x : Option Val). HasNumber x m) same (says.0 refl)
 
--- and where it was not, it is not
-pub push-not_held : (m : ℕ) (v value : Option Val) → value ≡ v → IsTrue false ↔ HasNumber value m → ¬ (HasNumber v m)
-push-not_held m v value same says has = false≢true (says.1 (subst (λ (x : Option Val). HasNumber x m) (sym same) has))
-
 -- a pop, of which a condition says this, which has captured something
 module _ (home : token.GhostName) (w : World Val) (p : ℕ) (es : List (Entry Val)) (second : Option ℕ) (m : ℕ) {X : Type 0} (captured : X → Type 0) where
   abbrev Asked : Val → Bool → Type 0

@@ -166,19 +166,19 @@ module _ (h : Environment) (t : IsTied h) where
 
   -- ---- what each change leaves, and that it is what the line means
 
-  abbrev after_put : (k : ℕ) → World Val → List ℕ → ScriptState
+  abbrev pub after_put : (k : ℕ) → World Val → List ℕ → ScriptState
   after_put k w dates = record (with_owner (in_world (with_item (desk_of h) k) w) (holding.shared k h.world.home.slots)) { dates = dates }
 
-  abbrev after_taken : Entry Val → World Val → List ℕ → ScriptState
+  abbrev pub after_taken : Entry Val → World Val → List ℕ → ScriptState
   after_taken e w dates = record (with_owner (in_world (desk_of h) w) (holding.shared e.slot h.world.home.slots)) { dates = dates }
 
-  abbrev after_drained : World Val → List ℕ → ScriptState
+  abbrev pub after_drained : World Val → List ℕ → ScriptState
   after_drained w dates = record (in_world (desk_of h) w) { dates = dates }
 
   module _ (whole : IsWhole h.world) (p : ℕ) (live : IsPlaceOf h.world p) where
-    record Put (l : ListName) (number k : ℕ) (w : World Val) (dates : List ℕ) : Type 0 where
-      leaves : IsDatedWithin (desk_of h) (after_put k w dates) → LeavesSound (desk_of h) (after_put k w dates)
-      means : (o : OwnerName) (i : ItemName) → i.0 ≡ length h.slots.items → o.0 ≡ length (desk_of h).owners →
+    pub record Put (l : ListName) (number k : ℕ) (w : World Val) (dates : List ℕ) : Type 0 where
+      pub leaves : IsDatedWithin (desk_of h) (after_put k w dates) → LeavesSound (desk_of h) (after_put k w dates)
+      pub means : (o : OwnerName) (i : ItemName) → i.0 ≡ length h.slots.items → o.0 ≡ length (desk_of h).owners →
           PutsIn (desk_of h) p l number o i (after_put k w dates)
 
     put : (l : ListName) (x : AnyList) (mine : Names h l x) (number k : ℕ) (w : World Val) (dates : List ℕ) → length h.slots.items + 1 < 2 ^ 128 →
@@ -195,14 +195,14 @@ module _ (h : Environment) (t : IsTied h) where
         }
     put l x never number k w dates few puts = absurd never
 
-    record Taken (l : ListName) (es : List (Entry Val)) (e : Entry Val) (w : World Val) : Type 0 where
-      rest : List (Entry Val)
-      first : left es ≡ e ∷ rest
-      home : w.home ≡ h.world.home
-      number : IsNumber (body_of e.value)
-      value : value_at w e.slot ≡ Some e.value
-      leaves : (dates : List ℕ) → IsDatedWithin (desk_of h) (after_taken e w dates) → LeavesSound (desk_of h) (after_taken e w dates)
-      means : (dates : List ℕ) (m : ℕ) (o : OwnerName) → body_of e.value ≡ Number m → o.0 ≡ length (desk_of h).owners →
+    pub record Taken (l : ListName) (es : List (Entry Val)) (e : Entry Val) (w : World Val) : Type 0 where
+      pub rest : List (Entry Val)
+      pub first : left es ≡ e ∷ rest
+      pub home : w.home ≡ h.world.home
+      pub number : IsNumber (body_of e.value)
+      pub value : value_at w e.slot ≡ Some e.value
+      pub leaves : (dates : List ℕ) → IsDatedWithin (desk_of h) (after_taken e w dates) → LeavesSound (desk_of h) (after_taken e w dates)
+      pub means : (dates : List ℕ) (m : ℕ) (o : OwnerName) → body_of e.value ≡ Number m → o.0 ≡ length (desk_of h).owners →
           TakesOut (desk_of h) p l m o (after_taken e w dates)
 
     taken : (l : ListName) (x : AnyList) (mine : Names h l x) (e : Entry Val) (w : World Val) →
@@ -229,9 +229,9 @@ module _ (h : Environment) (t : IsTied h) where
         }
     taken l x never e w takes = absurd never
 
-    record Drained (l : ListName) (w : World Val) (dates : List ℕ) : Type 0 where
-      leaves : IsDatedWithin (desk_of h) (after_drained w dates) → LeavesSound (desk_of h) (after_drained w dates)
-      means : IsDrainedOf (desk_of h) p l (after_drained w dates)
+    pub record Drained (l : ListName) (w : World Val) (dates : List ℕ) : Type 0 where
+      pub leaves : IsDatedWithin (desk_of h) (after_drained w dates) → LeavesSound (desk_of h) (after_drained w dates)
+      pub means : IsDrainedOf (desk_of h) p l (after_drained w dates)
 
     drained : (l : ListName) (x : AnyList) (mine : Names h l x) (w : World Val) (dates : List ℕ) →
         DrainsList h.world p x (entries-of h t l x mine).entries (entries-of h t l x mine).second w → Drained l w dates
@@ -355,7 +355,7 @@ module _ (h : Environment) (t : IsTied h) where
         value = ap (λ (i : ℕ). value_at w i) did.1.1.1 ∙ its.value
 
         pub popped-home_slots : slots_home owner ≡ w.home.slots
-        popped-home_slots = did.1.0 ∙ ap (λ z. z.slots) (sym its.home)
+        popped-home_slots = did.1.0 ∙ ap (λ (y : holding.SpaceId). y.slots) (sym its.home)
 
         pub popped-counts : (v : Val) → value_at w (slot_of owner) ≡ Some v → IsNumber (body_of v)
         popped-counts v at =

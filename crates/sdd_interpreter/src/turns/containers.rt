@@ -30,11 +30,15 @@ pub fn push_at(
     requires place { IsPlaceOf world.old (index_of place.now) }
     requires list { IsListOf world.old.home.cells list }
     requires reader { reader_of guard.now ≡ reader_at world.old (index_of place.now) }
-    ensures pushed { (es : List (Entry Val)) (second : Option ℕ) → HasEntries world.old list es second →
-        PushesIf world.old.home.slots world.old (index_of place.now) list es second number newest result world.new }
+    ensures pushed { (es : List (Entry Val)) (second : Option ℕ) → HasEntries world.old list.entry es second →
+        PushesIf world.old.home.slots world.old (index_of place.now) list.entry es second number newest result world.new }
 {
     let Some(newest) = newest else {
-        let step = PushNumber { list, number, guard };
+        let step = PushNumber {
+            list,
+            number,
+            guard,
+        };
         return match list_step_at(world, place, step) {
             Ok(owner) => Ok(owner),
             Err(refused) => Err(Some(refused)),
@@ -60,8 +64,8 @@ pub fn pop_at(
     requires place { IsPlaceOf world.old (index_of place.now) }
     requires list { IsListOf world.old.home.cells list }
     requires reader { reader_of guard.now ≡ reader_at world.old (index_of place.now) }
-    ensures popped { (es : List (Entry Val)) (second : Option ℕ) → HasEntries world.old list es second →
-        PopsIf world.old.home.slots world.old (index_of place.now) list es second first result world.new }
+    ensures popped { (es : List (Entry Val)) (second : Option ℕ) → HasEntries world.old list.entry es second →
+        PopsIf world.old.home.slots world.old (index_of place.now) list.entry es second first result world.new }
 {
     let Some(first) = first else {
         return match list_step_at(world, place, PopFirst { list, guard }) {
