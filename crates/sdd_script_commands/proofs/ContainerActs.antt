@@ -27,10 +27,10 @@ use Rattle.sdd_interpreter.specs.declared.holding.AnyList.TheVariants as any
 use Rattle.sdd_interpreter.specs.declared.interpreter.Environment.{Environment}
 use Rattle.sdd_interpreter.proofs.Acts.{still}
 use Rattle.sdd_interpreter.proofs.Queues.{no-queue, queue-home}
-use Rattle.sdd_interpreter.proofs.Stacks.{no-stack, stack-cell, stack-home}
+use Rattle.sdd_interpreter.proofs.Stacks.{no-stack, stack-home}
 use Rattle.sdd_script_model.proofs.Listed.{same-list}
 use Rattle.sdd_script_commands.proofs.QueueActs.{is-queue, queue-entries}
-use Rattle.sdd_script_commands.proofs.StackActs.{is-stack}
+use Rattle.sdd_script_commands.proofs.StackActs.{is-stack, stack-entries}
 
 -- the name stands for this container
 abbrev pub Names : Environment → ListName → AnyList → Type 0
@@ -56,7 +56,7 @@ module _ (h : Environment) (t : IsTied h) where
     pub has : HasEntries h.world x entries second
     pub numbers : AreNumbers entries
 
-  pub entries-of : (l : ListName) (x : AnyList) → Names h l x → Holds l x
+  unfoldable pub entries-of : (l : ListName) (x : AnyList) → Names h l x → Holds l x
   entries-of (list.Queue q) (any.Queue x) mine =
       let found = queue-entries h t q.0 x.now mine in
       let first = t.sound.lists.lists (cells_in x.now).oldest (inl (q.0, found.2.oldest)) in
@@ -68,9 +68,15 @@ module _ (h : Environment) (t : IsTied h) where
         numbers = subst AreNumbers (same-list h.world (cells_in x.now).oldest first.0 found.0 first.1 found.2.queue.list) first.2;
       }
   entries-of (list.Stack s) (any.Stack x) mine =
-      let named = stack-cell h s.0 x.now mine in
-      let first = t.sound.lists.lists (cell_in x.now) (inr (s.0, named)) in
-      record { entries = first.0; second = None; is = record { named = named; list = first.1 }; has = first.1; numbers = first.2 }
+      let found = stack-entries h t s.0 x.now mine in
+      let first = t.sound.lists.lists (cell_in x.now) (inr (s.0, found.1.named)) in
+      record {
+        entries = found.0;
+        second = None;
+        is = found.1;
+        has = found.1.list;
+        numbers = subst AreNumbers (same-list h.world (cell_in x.now) first.0 found.0 first.1 found.1.list) first.2;
+      }
   entries-of l x never = absurd never
 
   pub of-numbers : (l : ListName) (x : AnyList) → Names h l x → IsOfNumbers h.world x

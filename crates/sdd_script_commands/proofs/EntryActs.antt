@@ -139,6 +139,7 @@ module _ (h : Environment) (t : IsTied h) where
 
   newest-is : (l : ListName) (x : AnyList) (mine : Names h l x) (m : Option ℕ) → IsAsked (newest_value x (entries-of h t l x mine).entries) m →
       IsNewestAsked (desk_of h) l m
+  unfolding entries-of
   newest-is l x mine None asked = tt
   newest-is (list.Queue q) (any.Queue x) mine (Some m) asked =
       let found = queue-entries h t q.0 x.now mine in (cells_in x.now, found.0, found.1, found.2, asked)
@@ -148,6 +149,7 @@ module _ (h : Environment) (t : IsTied h) where
 
   asked-newest : (l : ListName) (x : AnyList) (mine : Names h l x) (m : Option ℕ) → IsNewestAsked (desk_of h) l m →
       IsAsked (newest_value x (entries-of h t l x mine).entries) m
+  unfolding entries-of
   asked-newest l x mine None newest = tt
   asked-newest (list.Queue q) (any.Queue x) mine (Some m) (cells, fs, held, at, has) =
       let found = queue-entries h t q.0 x.now mine in
@@ -183,6 +185,7 @@ module _ (h : Environment) (t : IsTied h) where
 
     put : (l : ListName) (x : AnyList) (mine : Names h l x) (number k : ℕ) (w : World Val) (dates : List ℕ) → length h.slots.items + 1 < 2 ^ 128 →
         PutsOn h.world p x (entries-of h t l x mine).entries (entries-of h t l x mine).second number k w → Put l number k w dates
+    unfolding entries-of
     put (list.Queue q) (any.Queue x) mine number k w dates few puts =
         let found = queue-entries h t q.0 x.now mine in record {
           leaves = enqueued-leaves (desk_of h) t.sound whole p live q.0 (cells_in x.now) found.0 found.1 found.2 number k w puts few dates;
@@ -207,6 +210,7 @@ module _ (h : Environment) (t : IsTied h) where
 
     taken : (l : ListName) (x : AnyList) (mine : Names h l x) (e : Entry Val) (w : World Val) →
         TakesOff h.world p x (entries-of h t l x mine).entries (entries-of h t l x mine).second e w → Taken l (entries-of h t l x mine).entries e w
+    unfolding entries-of
     taken (list.Queue q) (any.Queue x) mine e w takes =
         let found = queue-entries h t q.0 x.now mine in record {
           rest = takes.rest;
@@ -235,6 +239,7 @@ module _ (h : Environment) (t : IsTied h) where
 
     drained : (l : ListName) (x : AnyList) (mine : Names h l x) (w : World Val) (dates : List ℕ) →
         DrainsList h.world p x (entries-of h t l x mine).entries (entries-of h t l x mine).second w → Drained l w dates
+    unfolding entries-of
     drained (list.Queue q) (any.Queue x) mine w dates drains =
         let found = queue-entries h t q.0 x.now mine in record {
           leaves = queue_drained-leaves (desk_of h) t.sound whole p live q.0 (cells_in x.now) found.0 found.1 found.2 w drains dates;
