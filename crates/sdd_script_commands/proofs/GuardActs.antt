@@ -1,6 +1,6 @@
 -- What coming and going, and each action of a guard leaves in hand: it is sound, and it is what the call means
 use Rattle.std.proofs.Common.{◌≡◌, ◌≢◌, ℕ, ◌+◌, Bool, true, false, if◌then◌else◌, List, [], ◌∷◌, ◌++◌, Option, Some, None, map, length, slice_index, slice_index_or, slice_set, inl, inr, refl, sym, ap, ◌∙◌, subst, arith}
-use Rattle.std.specs.Prelude.{Contains, IsTrue, ◌↔◌, ◌-◌}
+use Rattle.std.specs.Prelude.{Contains, IsTrue, ◌↔◌}
 use Rattle.std.specs.List.Sorted.{IsPermutation, IsNonDecreasingBy}
 use Rattle.std.specs.Option.{option_map}
 use Rattle.std.specs.Global.{Vec}
@@ -10,7 +10,6 @@ use Rattle.std.proofs.lemmas.List.{get_or_past, length-map, map-set, map_push}
 use Rattle.sdd_rights.specs.Units as token
 use Rattle.sdd_core.specs.Epoch.{epoch_of}
 use Rattle.sdd_core.specs.declared.epoch.Epoch.{Epoch}
-use Rattle.sdd_core.specs.declared.refused.Refused.{Refused}
 use Rattle.sdd_core.specs.declared.refused.Refused.TheVariants.{GuardOpen, NoJob, NoPlace, TooManyGuards}
 use Rattle.sdd_participants.specs.Slab.{IsEmptyAt, IsFull}
 use Rattle.sdd_participants.specs.EpochState as time

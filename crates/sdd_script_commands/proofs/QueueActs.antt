@@ -1,42 +1,30 @@
 -- What each action on a queue leaves in hand: it is sound, and it is what the call means
-use Rattle.std.proofs.Common.{◌≡◌, ◌≢◌, ◌+◌, ◌^◌, ◌<◌, ℕ, Bool, List, [], ◌∷◌, ◌++◌, Option, Some, None, is_some, map, length, slice_index_or, slice_set, refl, sym, ap, ◌∙◌, subst, arith}
-use Rattle.std.specs.Prelude.{Result, Ok, Err}
+use Rattle.std.proofs.Common.{◌≡◌, ◌≢◌, ℕ, Bool, List, [], ◌∷◌, ◌++◌, Option, Some, None, is_some, map, length, slice_index_or, slice_set, refl, sym, ap, ◌∙◌, subst}
 use Rattle.std.specs.Option.{option_map}
 use Rattle.std.specs.Global.{Vec}
 use Rattle.std.proofs.lemmas.List.{length-map}
-use Rattle.sdd_core.specs.declared.refused.Refused.{Refused}
-use Rattle.sdd_core.specs.declared.refused.Refused.TheVariants.{NoCell, TooManyOwners}
+use Rattle.sdd_core.specs.declared.refused.Refused.TheVariants.{NoCell}
 use Rattle.sdd_participants.specs.Slab.{IsEmptyAt}
 use Rattle.sdd_space.specs.OwnerOrCell as holding
-use Rattle.sdd_space.specs.Shared.{slot_of, slots_home}
-use Rattle.sdd_space.specs.World.{World, IsPlaceOf, value_at}
+use Rattle.sdd_space.specs.World.{World, IsPlaceOf}
 use Rattle.sdd_space.specs.WorldChanges.{nulled}
 use Rattle.sdd_space.specs.WorldInvariant.{IsWhole}
-use Rattle.sdd_space.specs.declared.shared.Shared.{Shared}
 use Rattle.sdd_lists.specs.Lists.{Entry}
 use Rattle.sdd_lists.specs.Queue.{AreOfCells, HasOneAtMost, IsQueue, QueueCells, cells_in, queue_closed}
 use Rattle.sdd_lists.specs.declared.queue.Queue.{Queue}
 use Rattle.sdd_world.specs.Place.{index_of}
 use Rattle.sdd_script_text.specs.declared.name.PlaceName.{PlaceName}
-use Rattle.sdd_script_text.specs.declared.name.GuardName.{GuardName}
-use Rattle.sdd_script_text.specs.declared.name.OwnerName.{OwnerName}
-use Rattle.sdd_script_text.specs.declared.name.ItemName.{ItemName}
 use Rattle.sdd_script_text.specs.declared.name.QueueName.{QueueName}
 use Rattle.sdd_script_text.specs.declared.call.Call.TheVariants.{At}
 use Rattle.sdd_script_text.specs.declared.call.Action.TheVariants as call
 use Rattle.sdd_script_text.specs.declared.answer.Reply.TheVariants as reply
 use Rattle.sdd_script_model.specs.declared.val.Body.{Body}
-use Rattle.sdd_script_model.specs.declared.val.Body.TheVariants.{Number}
-use Rattle.sdd_script_model.specs.Listed.{IsNumber}
 use Rattle.sdd_script_model.specs.ScriptState.{in_world, opening_at, place_of, without_queue}
-use Rattle.sdd_script_model.specs.Script.{Acts, HasOpen, IsParticipant, IsQueueName, IsUnderGuard}
-use Rattle.sdd_script_model.specs.Queues.{DrainsQueue, Enqueues, IsNamedQueue, TakesOldest}
-use Rattle.sdd_script_model.specs.Val.{Val, body_of, link_of}
-use Rattle.sdd_script_model.proofs.QueueGoing.{queue-there, queue_begun-leaves, queue_closed-leaves, queue_drained-leaves, taken-home, taken-leaves, taken-number, taken-value}
-use Rattle.sdd_script_model.proofs.QueuePushing.{enqueued-leaves}
-use Rattle.sdd_interpreter.specs.declared.holding.AnyOwner.{AnyOwner}
-use Rattle.sdd_interpreter.specs.declared.holding.AnyOwner.TheVariants.{Share}
-use Rattle.sdd_interpreter.specs.Owners.{newest_holding, oldest_holding, owner_holding}
+use Rattle.sdd_script_model.specs.Script.{Acts, IsParticipant, IsQueueName, IsUnderGuard}
+use Rattle.sdd_script_model.specs.Queues.{IsNamedQueue}
+use Rattle.sdd_script_model.specs.Val.{Val, link_of}
+use Rattle.sdd_script_model.proofs.QueueGoing.{queue-there, queue_begun-leaves, queue_closed-leaves}
+use Rattle.sdd_interpreter.specs.Owners.{newest_holding, oldest_holding}
 use Rattle.sdd_interpreter.specs.declared.participants.NamedParticipant.{NamedParticipant}
 use Rattle.sdd_interpreter.specs.Environment.{attending}
 use Rattle.sdd_interpreter.specs.declared.interpreter.Environment.{Environment}

@@ -42,7 +42,14 @@ pub fn push(
     let slots = stage.hand.names.len();
     let waited = waiting_by_slot(stage.hand.alloc, &stage.hand.world, slots)?;
     let place = &attending.place;
-    let owner = match push_at(&mut stage.hand.world, place, list, number, newest, &held.guard) {
+    let owner = match push_at(
+        &mut stage.hand.world,
+        place,
+        list,
+        number,
+        newest,
+        &held.guard,
+    ) {
         Ok(owner) => owner,
         Err(Some(refused)) => return Ok(Reply::Refused(refused)),
         Err(None) => return Ok(Reply::Kept(number)),

@@ -6,7 +6,7 @@ use Rattle.sdd_interpreter.specs.Owners.{owner_holding}
 use Rattle.sdd_interpreter.specs.Interpreter.{desk_of}
 use Rattle.sdd_interpreter.proofs.Acts.{Does, does, goes}
 use Rattle.sdd_script_commands.specs.ItemLines.{popping}
-use Rattle.sdd_script_commands.proofs.ContainerActs.{entries-of, list-home, no-list, reader-is}
+use Rattle.sdd_script_commands.proofs.ContainerActs.{entries-of, list-home, no-list}
 use Rattle.sdd_script_commands.proofs.EntryActs.{acts-drained, acts-pop_kept, acts-pop_refused, acts-popped, kept-home, kept-number, pop-invalid, popped-counts, popped-home_slots}
 use Rattle.sdd_script_commands.proofs.StackActs.{AreTold}
 use Rattle.sdd_script_commands.proofs.entries.pop.Goals as goal

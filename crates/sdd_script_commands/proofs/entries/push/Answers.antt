@@ -9,7 +9,7 @@ use Rattle.sdd_interpreter.specs.Interpreter.{desk_of}
 use Rattle.sdd_interpreter.specs.declared.interpreter.Environment.{Environment}
 use Rattle.sdd_interpreter.proofs.Acts.{Does, does, goes}
 use Rattle.sdd_script_commands.specs.ItemLines.{pushing}
-use Rattle.sdd_script_commands.proofs.ContainerActs.{entries-of, list-home, no-list, reader-is}
+use Rattle.sdd_script_commands.proofs.ContainerActs.{entries-of, list-home, no-list}
 use Rattle.sdd_script_commands.proofs.EntryActs.{acts-push_kept, acts-push_refused, acts-pushed, push-invalid, slot-free}
 use Rattle.sdd_script_commands.proofs.StackActs.{AreTold}
 use Rattle.sdd_script_commands.proofs.entries.push.Goals as goal

@@ -1,15 +1,11 @@
-use Rattle.std.proofs.Common.{◌≡◌, ℕ, List, refl, sym, ap, ◌∙◌, subst}
-use Rattle.sdd_lists.specs.Lists.{Entry}
+use Rattle.std.proofs.Common.{refl, sym, ap, ◌∙◌, subst}
 use Rattle.sdd_lists.specs.Stack.{cell_in}
-use Rattle.sdd_space.specs.CallerId.{reader_at}
 use Rattle.sdd_space.specs.World.{World}
 use Rattle.sdd_space.specs.WorldChanges.{closed, opened}
-use Rattle.sdd_space.specs.WorldInvariant.{IsWhole}
 use Rattle.sdd_world.specs.Place.{index_of}
 use Rattle.sdd_script_model.specs.Listed.{Begins}
 use Rattle.sdd_script_model.specs.Stacks.{stack_closed}
 use Rattle.sdd_script_model.specs.Val.{Val, holdings_of}
-use Rattle.sdd_script_commands.specs.Leaving.{revived}
 use Rattle.sdd_script_commands.proofs.StackLeaving.{can-nest, closed-home, closed-live, open-home, open-live}
 use Rattle.sdd_script_commands.proofs.leaving.leave_stack.Goals as goal
 

@@ -1,6 +1,5 @@
-use Rattle.std.proofs.Common.{◌≡◌, ℕ, Option, Some, None, sym, subst, ◌∙◌}
+use Rattle.std.proofs.Common.{ℕ, Option, sym, subst, ◌∙◌}
 use Rattle.sdd_space.specs.CallerId.{CallerId, IsExact}
-use Rattle.sdd_lists.specs.Lists.{first_value, left}
 use Rattle.sdd_script_model.specs.Containers.{HasNumber}
 use Rattle.sdd_script_model.specs.Val.{Val}
 use Rattle.sdd_interpreter.proofs.Shown.{first-number, points-left}
