@@ -93,7 +93,7 @@ impl<T> KeyedPlace<T> {
 
 impl<T> PlaceKey<T> {
     /// Puts the key among others, at that index, before the one that was there; behind all where there are fewer.
-    pub fn put(self, keys: &mut PlaceKeys<T>, at: usize)
+    pub fn put(self, keys: &mut PlaceKeys<T>, at: u128)
         ensures { keys.new ≡ record keys.old { kept = inserted keys.old.kept at (kept_as self.name self.value) } }
     {
         let _ = keys;
@@ -111,7 +111,7 @@ impl<T> PlaceKeys<T> {
     }
 
     /// The key at that index, which is no longer among these.
-    pub fn take(&mut self, at: usize) -> PlaceKey<T>
+    pub fn take(&mut self, at: u128) -> PlaceKey<T>
         requires { at < length self.old.kept }
         ensures rest { self.new ≡ record self.old { kept = without_at self.old.kept at } }
         ensures key { slice_get self.old.kept at ≡ Some (kept_as result.name result.value) }

@@ -14,6 +14,7 @@ mod front;
 mod giving;
 pub mod into_iter;
 mod keyed_place;
+mod never;
 mod place;
 mod places;
 mod primary;

@@ -17,14 +17,14 @@ pub(crate) fn new_place<T>(keys: &mut Keys<T>, at: usize) -> Place<T>
     ensures { map kept_place keys.new.kept ≡ inserted (map kept_place keys.old.kept) at (empty_place result) }
 {
     let (place, key) = KeyedPlace::new(unsafe { ManuallyDrop::new_unchecked(None) });
-    key.put(keys, at);
+    key.put(keys, at as u128);
     place
 }
 
 /// Moves a value into the place, or none, and the one that was there out, if there was one.
 pub(crate) fn exchange<T>(
     keys: &mut Keys<T>,
-    at: usize,
+    at: u128,
     place: &Place<T>,
     value: Option<T>,
 ) -> Option<T>

@@ -4,6 +4,7 @@ ghost use Rattle.sdd_bag.specs.Storage.{StandInFront, empty_place, kept_place, n
 ghost use Rattle.sdd_bag.specs.Folding.{FoldsOn};
 ghost use Rattle.sdd_bag.specs.KeyedPlaces.{PlaceName};
 
+use crate::never::never;
 use crate::place::{Keys, Place, exchange, new_place};
 use std::array;
 use std::marker::Model;
@@ -52,7 +53,7 @@ impl<T, const LEN: usize> Places<T, LEN> {
         let Some(place) = self.at(at) else {
             unreachable!()
         };
-        exchange(keys, at, place, value)
+        exchange(keys, at as u128, place, value)
     }
 
     /// Moves the values of the first so many places out, each of which has one, and folds them, the last one first. What is made comes back, with `fold` as
@@ -80,8 +81,9 @@ impl<T, const LEN: usize> Places<T, LEN> {
         let mut left = count;
         while left > 0 {
             left -= 1;
-            let Some(value) = self.exchange(keys, left, None) else {
-                unreachable!()
+            let value = match self.exchange(keys, left, None) {
+                Some(value) => value,
+                None => never(),
             };
             made = fold(made, value);
         }

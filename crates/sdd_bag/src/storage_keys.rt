@@ -5,6 +5,7 @@ ghost use Rattle.sdd_bag.specs.Storage.{KeptPlace, empty_place, value_at, with_v
 ghost use Rattle.sdd_bag.specs.Values.{HasOneMore};
 ghost use Rattle.sdd_bag.specs.Folding.{FoldsOn};
 
+use crate::never::never;
 use crate::place::{Keys, forget};
 use crate::places::Places;
 use std::marker::Model;
@@ -100,7 +101,7 @@ impl<T, const LEN: usize> StorageKeys<T, LEN> {
         }
         match places.exchange(&mut self.keys, self.count, Some(value)) {
             None => {}
-            Some(_) => unreachable!(),
+            Some(_) => never(),
         }
         self.count += 1;
         Ok(())
@@ -119,10 +120,10 @@ impl<T, const LEN: usize> StorageKeys<T, LEN> {
             return None;
         }
         self.count -= 1;
-        let Some(value) = places.exchange(&mut self.keys, self.count, None) else {
-            unreachable!()
-        };
-        Some(value)
+        match places.exchange(&mut self.keys, self.count, None) {
+            Some(value) => Some(value),
+            None => never(),
+        }
     }
 
     /// Moves all values of the first array out, and folds them. What is made comes back, with `fold` as it is then.

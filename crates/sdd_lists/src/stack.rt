@@ -430,6 +430,19 @@ impl<T: Item<LinkedEntry<T>>> Stack<T> {
         iter_in(&self.newest, s)
     }
 
+    /// The values that `iter` gives, without a guard: what a cell holds stays, since nobody changes the space while it is borrowed.
+    pub fn iter_unguarded<'a, S: Items<LinkedEntry<T>> + HeldItems<LinkedEntry<T>>>(
+        &self,
+        s: &'a S,
+    ) -> Iter<'a, T, S>
+        requires home { home_in self.now ≡ (S.seat s.now).home.cells }
+        ensures space { space_of result ≡ s.now }
+        ensures home { IsIterOf (S.seat s.now).home.cells result }
+        ensures list { IsExact (S.seat s.now) → (vs : List T) → StackHas (S.world s.now) self.now vs → GivesInOrder (S.world s.now) result vs }
+    {
+        iter_in(&self.newest, s)
+    }
+
     /// A walk along the entries that aren't deleted, the newest first.
     pub fn walk<'g, S: Items<LinkedEntry<T>> + Cells<LinkedEntry<T>> + LookThrough<LinkedEntry<T>>>(
         &self,
