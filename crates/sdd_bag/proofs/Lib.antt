@@ -1,4 +1,5 @@
 pub mod Changes
+pub mod Changing
 pub mod Fronts
 pub mod Lying
 pub mod Still

@@ -6,6 +6,8 @@ pub mod There
 pub mod Closing
 pub mod Filling
 pub mod Folding
+pub mod Changing
+pub mod Lending
 pub mod IntoIter
 pub mod Counting
 pub mod Storage

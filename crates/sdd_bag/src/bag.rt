@@ -1,5 +1,5 @@
 //! The bag.
-ghost use Rattle.std.specs.Prelude.{◌≡◌, ◌≢◌, ◌↔◌, ◌⊎◌, ◌+◌, ◌^◌, ◌<◌, ◌≤◌, ◌++◌, ℕ, All, IfErr, IfOk, IfSome, IsTrue, List, MatchOption, MatchResult, None, Some, [], drop, length, map};
+ghost use Rattle.std.specs.Prelude.{◌≡◌, ◌≢◌, ◌↔◌, ◌⊎◌, ◌+◌, ◌^◌, ◌<◌, ◌≤◌, ◌++◌, ℕ, All, IfErr, IfOk, IfSome, IsTrue, List, MatchOption, MatchResult, None, Some, [], drop, is_some, length, map};
 ghost use Rattle.sdd_bag.specs.KeyedPlaces.{PlaceName};
 ghost use Rattle.sdd_bag.specs.Storage.{AreEmpty, AreFull, IsEmptyAt, IsFullWith, empty_place, value_at, with_value_at};
 ghost use Rattle.sdd_bag.specs.Values.{AreInSomeOrder, HasOneMore};
@@ -15,6 +15,7 @@ ghost use Rattle.sdd_lists.specs.Stack.{IsStack, cell_in, home_in};
 ghost use Rattle.sdd_space.specs.OwnerOrCell.{AreOf};
 ghost use Rattle.sdd_bag.specs.Closing.{AreBeside, ClosesBag, EmptiesStorages};
 ghost use Rattle.sdd_bag.specs.Counting.{HasStoragesFor};
+ghost use Rattle.sdd_bag.specs.Changing.{ChangesEach};
 ghost use Rattle.sdd_bag.specs.Folding.{Folds, FoldsOn};
 ghost use Rattle.sdd_bag.specs.Overflow.{AddsStorage, KeepsPlaces, Lies, LiesOn, MayEmpty, OverflowParts, RefusesStorage, RemovesStorage, RemovesStorages};
 ghost use Rattle.sdd_participants.specs.Slab.{IsEmptyAt as IsEmptyCell};
@@ -35,7 +36,7 @@ use sdd_core::Refused;
 use sdd_lists::{LinkedEntry, Stack};
 use sdd_space::inner::{right_of_shared_cell, shared_cell_with};
 use sdd_space::{
-    AtomicShared, Cells, Guard, Item, Items, LookThrough, RawCells, Several, SharedItems,
+    AtomicShared, Cells, Guard, HeldItems, Item, Items, LookThrough, RawCells, Several, SharedItems,
 };
 use std::marker::Model;
 
@@ -390,6 +391,43 @@ impl<T, const ARRAY_LEN: usize, B: Shelf<T, ARRAY_LEN>> Bag<T, ARRAY_LEN, B> {
         let done = self.fold_front(init, fold, guard, s);
         self.remove_storage(guard, s);
         done
+    }
+
+    /// Lends all values that lie in the bag itself to be changed, one after another. `change` comes back as it is then.
+    pub(crate) fn lend_inside<F: FnMut(&mut T)>(&mut self, change: F) -> F
+        requires callable { F.IsAlwaysCallable change }
+        ensures callable { F.IsAlwaysCallable result }
+        ensures overflow { self.new.overflow ≡ self.old.overflow }
+        ensures storage { self.new.primary.storage ≡ self.old.primary.storage }
+        ensures changed { ChangesEach F.FnMut change (primary_of self.old) (primary_of self.new) result }
+    {
+        self.primary.lend_all(change)
+    }
+
+    /// Lends all values of the other storages to be changed, one after another. `change` comes back as it is then.
+    pub(crate) fn lend_behind<
+        F: FnMut(&mut T),
+        S: Items<LinkedEntry<B>> + HeldItems<LinkedEntry<B>>,
+    >(&mut self, change: F, s: &S) -> F
+        requires home { home_in self.old.overflow.stack ≡ (S.seat s.now).home.cells }
+        requires exact { IsExact (S.seat s.now) }
+        requires lies { Lies B.shown ARRAY_LEN (S.world s.now) self.old.overflow }
+        requires callable { F.IsAlwaysCallable change }
+        ensures keeps { KeepsStorages self.old self.new }
+        ensures same { (k : ℕ) → is_some (value_at self.new.overflow.places k) ≡ is_some (value_at self.old.overflow.places k) }
+        ensures changed { ChangesEach F.FnMut change (overflow_of self.old) (overflow_of self.new) result }
+    {
+        let mut change = change;
+        let mut start = 0u128;
+        let mut storages = self.stack.iter_unguarded(s);
+        while let Some(shelf) = storages.next() {
+            let Some(storage) = shelf.storage() else {
+                unreachable!()
+            };
+            change = self.keys.lend_array(start, storage.places(), change);
+            start += ARRAY_LEN as u128;
+        }
+        change
     }
 
     /// An empty bag. It holds 1 to 32 values itself, and has two cells.

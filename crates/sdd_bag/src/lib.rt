@@ -14,6 +14,7 @@ mod front;
 mod giving;
 pub mod into_iter;
 mod keyed_place;
+mod lending;
 mod never;
 mod place;
 mod places;

@@ -1,11 +1,12 @@
 //! Places side by side.
-ghost use Rattle.std.specs.Prelude.{◌≡◌, ◌<◌, ◌≤◌, ◌++◌, ℕ, List, IsSome, None, is_some, length, map, option_copied, slice_get, true};
+ghost use Rattle.std.specs.Prelude.{◌≡◌, ◌+◌, ◌^◌, ◌<◌, ◌≤◌, ◌++◌, ℕ, List, IsSome, None, Some, is_some, length, map, option_copied, slice_get, true};
 ghost use Rattle.sdd_bag.specs.Storage.{StandInFront, empty_place, kept_place, names_of, value_at, values_in, with_value_at};
 ghost use Rattle.sdd_bag.specs.Folding.{FoldsOn};
+ghost use Rattle.sdd_bag.specs.Changing.{ChangesOn};
 ghost use Rattle.sdd_bag.specs.KeyedPlaces.{PlaceName};
 
 use crate::never::never;
-use crate::place::{Keys, Place, exchange, new_place};
+use crate::place::{Keys, Place, exchange, lend, new_place};
 use std::array;
 use std::marker::Model;
 
@@ -54,6 +55,36 @@ impl<T, const LEN: usize> Places<T, LEN> {
             unreachable!()
         };
         exchange(keys, at as u128, place, value)
+    }
+
+    /// Lends the values of the first so many places, each of which has one, to be changed there, one after another. The keys of these places are those from
+    /// `start` on. `change` comes back as it is then.
+    pub(crate) fn lend_first<F: FnMut(&mut T)>(
+        &self,
+        keys: &mut Keys<T>,
+        start: u128,
+        count: usize,
+        change: F,
+    ) -> F
+        requires inside { count ≤ LEN }
+        requires few { start < 2 ^ 120 }
+        requires keys { (k : ℕ) (name : PlaceName) → slice_get self.now k ≡ Some name →
+            slice_get (names_of (map kept_place keys.old.kept)) (start + k) ≡ Some name }
+        requires full { (k : ℕ) → k < count → is_some (value_at (map kept_place keys.old.kept) (start + k)) ≡ true }
+        requires callable { F.IsAlwaysCallable change }
+        ensures callable { F.IsAlwaysCallable result }
+        ensures names { names_of (map kept_place keys.new.kept) ≡ names_of (map kept_place keys.old.kept) }
+        ensures same { (k : ℕ) → is_some (value_at (map kept_place keys.new.kept) k) ≡ is_some (value_at (map kept_place keys.old.kept) k) }
+        ensures changed { ChangesOn F.FnMut start (start + count) change (map kept_place keys.old.kept) (map kept_place keys.new.kept) result }
+    {
+        let mut change = change;
+        for at in 0..count {
+            let Some(place) = self.at(at) else {
+                unreachable!()
+            };
+            change = lend(keys, start + at as u128, place, change);
+        }
+        change
     }
 
     /// Moves the values of the first so many places out, each of which has one, and folds them, the last one first. What is made comes back, with `fold` as

@@ -10,6 +10,7 @@ ghost use Rattle.sdd_space.specs.ParticipantChanges.{KeepsMoreWaiting};
 ghost use Rattle.sdd_space.specs.Undisturbed.{Unmoved};
 ghost use Rattle.sdd_space.specs.WorldChanges.{cell_closed};
 ghost use Rattle.sdd_bag.specs.Folding.{FoldsOn};
+ghost use Rattle.sdd_bag.specs.Changing.{ChangesEach};
 
 use crate::giving::give_up;
 use crate::storage::Storage;
@@ -82,6 +83,16 @@ impl<T, const ARRAY_LEN: usize> Primary<T, ARRAY_LEN> {
         ensures folded { FoldsOn F.step fold init (held_by self.old) result.1 result.0 [] }
     {
         self.keys.fold_front(self.storage.places(), init, fold)
+    }
+
+    /// Lends all values to be changed, one after another. `change` comes back as it is then.
+    pub(crate) fn lend_all<F: FnMut(&mut T)>(&mut self, change: F) -> F
+        requires callable { F.IsAlwaysCallable change }
+        ensures callable { F.IsAlwaysCallable result }
+        ensures storage { self.new.storage ≡ self.old.storage }
+        ensures changed { ChangesEach F.FnMut change (held_by self.old) (held_by self.new) result }
+    {
+        self.keys.lend_array(0, self.storage.places(), change)
     }
 
     /// How many values there are.

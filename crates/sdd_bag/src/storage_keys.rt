@@ -1,9 +1,10 @@
 //! The keys of a bag's storages.
-ghost use Rattle.std.specs.Prelude.{◌≡◌, ◌≢◌, ◌↔◌, ◌^◌, ◌<◌, ◌≤◌, ◌++◌, ℕ, IfOk, IfSome, IsTrue, List, [], MatchOption, MatchResult, None, Some, drop, is_some, length, map, take};
+ghost use Rattle.std.specs.Prelude.{◌≡◌, ◌≢◌, ◌↔◌, ◌⊎◌, ◌+◌, ◌^◌, ◌<◌, ◌≤◌, ◌++◌, ℕ, IfOk, IfSome, IsTrue, List, [], MatchOption, MatchResult, None, Some, drop, false, is_some, length, map, slice_get, take, true};
 ghost use Rattle.sdd_bag.specs.KeyedPlaces.{PlaceName};
 ghost use Rattle.sdd_bag.specs.Storage.{KeptPlace, empty_place, value_at, with_value_at, IsEmptyAt, IsFullWith, AreFull, AreEmpty, StandInFront, names_of, values_in};
 ghost use Rattle.sdd_bag.specs.Values.{HasOneMore};
 ghost use Rattle.sdd_bag.specs.Folding.{FoldsOn};
+ghost use Rattle.sdd_bag.specs.Changing.{ChangesOn};
 
 use crate::never::never;
 use crate::place::{Keys, forget};
@@ -144,5 +145,42 @@ impl<T, const LEN: usize> StorageKeys<T, LEN> {
         let done = places.fold_out(&mut self.keys, self.count, init, fold);
         self.count = 0;
         done
+    }
+
+    /// How many places of an array have a value, which are its first ones. The keys of its places are those from `start` on: it is the first array, or one of
+    /// the others.
+    fn count_from(&self, start: u128) -> usize
+        requires { (start ≡ 0) ⊎ (LEN ≤ start) }
+        ensures most { result ≤ LEN }
+        ensures full { (k : ℕ) → k < result → start + k < length self.now → is_some (value_at self.now (start + k)) ≡ true }
+        ensures empty { (k : ℕ) → result ≤ k → k < LEN → start + k < length self.now → is_some (value_at self.now (start + k)) ≡ false }
+        ensures few { length self.now < 2 ^ 120 }
+    {
+        if start == 0 {
+            return self.count;
+        }
+        LEN
+    }
+
+    /// Lends the values of an array to be changed there, one after another. The keys of its places are those from `start` on: it is the first array, or one of
+    /// the others. `change` comes back as it is then.
+    pub fn lend_array<F: FnMut(&mut T)>(
+        &mut self,
+        start: u128,
+        places: &Places<T, LEN>,
+        change: F,
+    ) -> F
+        requires start { (start ≡ 0) ⊎ (LEN ≤ start) }
+        requires long { length places.now ≡ LEN }
+        requires keys { (k : ℕ) (name : PlaceName) → slice_get places.now k ≡ Some name → slice_get (names_of self.old) (start + k) ≡ Some name }
+        requires callable { F.IsAlwaysCallable change }
+        ensures callable { F.IsAlwaysCallable result }
+        ensures few { start < 2 ^ 120 }
+        ensures names { names_of self.new ≡ names_of self.old }
+        ensures same { (k : ℕ) → is_some (value_at self.new k) ≡ is_some (value_at self.old k) }
+        ensures changed { ChangesOn F.FnMut start (start + LEN) change self.old self.new result }
+    {
+        let count = self.count_from(start);
+        places.lend_first(&mut self.keys, start, count, change)
     }
 }
