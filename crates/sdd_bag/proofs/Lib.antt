@@ -1,5 +1,6 @@
 pub mod Changes
 pub mod Changing
+pub mod Lent
 pub mod Fronts
 pub mod Lying
 pub mod Still

@@ -13,14 +13,14 @@ invariant-loop-shelf g l = record {
   can : (goal.iterator-loop-shelf g).can_next l.storages;
   finite : (goal.iterator-loop-shelf g).is_finite l.storages;
   callable : goal.F-IsAlwaysCallable g l.change;
-  space : space_of l.storages ≡ l.fn.s.now;
+  space : space_of l.storages ≡ l.fn.s;
   start : (l.start ≡ 0) ⊎ (g.row.ARRAY_LEN ≤ l.start);
-  primary : l.self-inside.primary ≡ l.initial.self.primary;
-  stack : l.self-inside.stack ≡ l.initial.self.overflow.stack;
-  names : names_of l.self-inside.keys ≡ names_of l.initial.self.overflow.places;
-  same : (k : ℕ) → is_some (value_at l.self-inside.keys k) ≡ is_some (value_at l.initial.self.overflow.places k);
-  changed : ChangesFirst g.F.FnMut l.start l.fn.change l.initial.self.overflow.places l.self-inside.keys l.change;
-  left : (es : List (Entry _)) × AreShelves g.B.Shelf.shown g.row.ARRAY_LEN (g.S.Caller.world l.fn.s.now) es
+  primary : l.self-inside.primary ≡ l.initial.self-inside.primary;
+  stack : l.self-inside.stack ≡ l.initial.self-inside.stack;
+  names : names_of l.self-inside.keys ≡ names_of l.initial.self-inside.keys;
+  same : (k : ℕ) → is_some (value_at l.self-inside.keys k) ≡ is_some (value_at l.initial.self-inside.keys k);
+  changed : ChangesFirst g.F.FnMut l.start l.fn.change l.initial.self-inside.keys l.self-inside.keys l.change;
+  left : (es : List (Entry _)) × AreShelves g.B.Shelf.shown g.row.ARRAY_LEN (g.S.Caller.world l.fn.s) es
       × GivesInOrder (g.S.Caller.world (space_of l.storages)) l.storages (shown_of es)
       × (names_of (drop l.start l.self-inside.keys) ≡ places_on g.B.Shelf.shown g.row.ARRAY_LEN es);
 }
