@@ -1,5 +1,5 @@
 -- Values that are lent one after another, and changed in their places
-use Rattle.std.proofs.Common.{◌≡◌, ℕ, zero, suc, ◌+◌, ◌*◌, ◌^◌, nat_lt, ◌<◌, ◌≤◌, List, [], ◌∷◌, Option, Some, None, length, map, slice_get, is_some, true, false, refl, sym, ap, ◌∙◌, subst, arith}
+use Rattle.std.proofs.Common.{◌≡◌, ℕ, zero, suc, ◌+◌, ◌*◌, ◌^◌, ◌<◌, ◌≤◌, List, [], ◌∷◌, Option, Some, None, length, slice_get, is_some, true, false, refl, sym, ap, ◌∙◌, subst, arith}
 use Rattle.core.specs.Fn.{CalledAtMut, Mut}
 use Rattle.std.specs.Borrow.{MutBor}
 use Rattle.sdd_bag.specs.KeyedPlaces.{PlaceName}

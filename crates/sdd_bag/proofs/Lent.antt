@@ -1,19 +1,22 @@
 -- The storages of a bag, one after another, and the keys of their places
-use Rattle.std.proofs.Common.{◌≡◌, ℕ, zero, suc, ◌+◌, ◌<◌, ◌≤◌, List, [], ◌∷◌, ◌++◌, Option, None, Some, length, drop, map, slice_get, refl, sym, ap, ◌∙◌, subst, arith}
+use Rattle.std.proofs.Common.{◌≡◌, ℕ, zero, suc, ◌+◌, ◌≤◌, List, [], ◌∷◌, ◌++◌, Option, None, Some, length, drop, is_some, slice_get, refl, sym, ap, ◌∙◌, subst, arith}
 use Rattle.std.proofs.Math.Seq.{drop-append_seam}
 use Rattle.std.proofs.lemmas.List.{length-drop, length-map}
 use Rattle.sdd_space.specs.World.{World}
 use Rattle.sdd_lists.specs.declared.linked_entry.LinkedEntry.{LinkedEntry}
 use Rattle.sdd_lists.specs.Entries.{value_of}
-use Rattle.sdd_lists.specs.Lists.{Entry, left}
+use Rattle.sdd_lists.specs.Lists.{Entry}
 use Rattle.sdd_lists.specs.Walk.{shown_of}
+use Rattle.sdd_lists.specs.declared.stack.Stack.{Stack}
+use Rattle.sdd_lists.specs.Stack.{IsStack, cell_in}
 use Rattle.sdd_lists.proofs.Walking.{shown-first, shown-left}
 use Rattle.sdd_bag.specs.KeyedPlaces.{PlaceName}
-use Rattle.sdd_bag.specs.Storage.{KeptPlace, names_of}
+use Rattle.sdd_bag.specs.Storage.{KeptPlace, names_of, value_at}
 use Rattle.sdd_bag.specs.Storages.{StorageName}
-use Rattle.sdd_bag.specs.Overflow.{AreShelves}
+use Rattle.sdd_bag.specs.Overflow.{AreShelves, KeepsPlaces, LiesOn, OverflowParts}
 use Rattle.sdd_bag.proofs.Kept.{map-drop, not-there, same-there}
 use Rattle.sdd_bag.proofs.Lying.{plain-left}
+use Rattle.sdd_bag.proofs.Prefixes.{as-long}
 
 module _ {A : Type 0} where
   drop-none : (n : ℕ) → drop {A = A} n [] ≡ []
@@ -84,3 +87,13 @@ module _ {B : Type 0} (shown : B → Option StorageName) (len : ℕ) (w : World 
   pub none-next : (es : List (Entry (LinkedEntry B))) → AreShelves shown len w es → None ≡ slice_get (shown_of es) 0 → es ≡ []
   none-next [] are is = refl
   none-next (e ∷ rest) are is = absurd (not-there (value_of e.value) (is ∙ ap (λ (vs : List B). slice_get vs 0) (shown-shelf e rest are)))
+
+  -- where other values are in the same places, the storages lie as before
+  pub lies-lent : {T : Type 0} (es : List (Entry (LinkedEntry B))) (o o' : OverflowParts T B) → KeepsPlaces o o'
+      → ((k : ℕ) → is_some (value_at o'.places k) ≡ is_some (value_at o.places k)) → LiesOn shown len w es o → LiesOn shown len w es o'
+  lies-lent es o o' keeps same lies = record {
+    stack = subst (λ (st : Stack B). IsStack w (cell_in st) es) (sym keeps.stack) lies.stack;
+    shelves = lies.shelves;
+    keys = keeps.names ∙ lies.keys;
+    full = λ k far near. same k ∙ lies.full k far (omega (arith, near, as-long o.places o'.places keeps.names));
+  }

@@ -5,7 +5,9 @@ ghost use Rattle.sdd_bag.specs.There.{MayCall};
 use sdd_bag::{Bag, Storage};
 use sdd_core::Limits;
 use sdd_lists::LinkedEntry;
-use sdd_space::{Cells, Guards, Item, Items, LookThrough, RawCells, Several, SharedItems};
+use sdd_space::{
+    Cells, Guards, HeldItems, Item, Items, LookThrough, RawCells, Several, SharedItems,
+};
 use sdd_world::{Place, Turn, World};
 use std::marker::Model;
 use std::process::Abort;
@@ -33,7 +35,8 @@ pub trait Bags<I: Item<I>>: LookThrough<I>
     + Several<I>
     + SharedItems<I>
     + Cells<I>
-    + RawCells<I> {}
+    + RawCells<I>
+    + HeldItems<I> {}
 
 impl<I: Item<I>> Bags<I> for Turn<'_, I> {}
 

@@ -147,6 +147,20 @@ pub fn summed<const LEN: usize, B: Shelf<u64, LEN>, S: Bags<LinkedEntry<B>>>(
     bag.pop_all(0, |sum: u64, number| sum.wrapping_add(number), guard, s)
 }
 
+/// Lends each value of the bag to be changed in its place.
+pub fn changed<T, const LEN: usize, B: Shelf<T, LEN>, F: FnMut(&mut T), S: Bags<LinkedEntry<B>>>(
+    s: &S,
+    bag: &mut Bag<T, LEN, B>,
+    change: F,
+) -> Result<(), Refused>
+    requires may { MayCall (S.seat s.now) }
+    requires there { IsThere B.shown LEN (S.seat s.now) (S.world s.now) bag.old }
+    requires callable { F.IsAlwaysCallable change }
+    ensures there { IsThere B.shown LEN (S.seat s.now) (S.world s.now) bag.new }
+{
+    bag.for_each_mut(change, s)
+}
+
 /// Ends a bag of what holds nothing.
 pub fn closed<T, const LEN: usize, B: Shelf<T, LEN>, S: Bags<LinkedEntry<B>>>(
     s: &mut S,

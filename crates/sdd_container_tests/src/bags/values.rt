@@ -4,7 +4,7 @@ ghost use Rattle.sdd_bag.specs.There.{MayCall};
 
 use crate::bags::example::{AMPLE, Bags, Entry, Example, StorageBag, in_a_world};
 use crate::bags::steps::{
-    closed, counted, filled, full_of, made, opened, popped, pushed, shut, summed,
+    changed, closed, counted, filled, full_of, made, opened, popped, pushed, shut, summed,
 };
 use sdd_bag::Bag;
 use sdd_core::{Limits, Refused};
@@ -80,12 +80,36 @@ fn a_storage_is_retired_with_its_last_value(rt: HostRuntime) {
     in_a_world(&rt, AMPLE, &RetiresAStorage, 2);
 }
 
+/// 2 values are in the bag itself, and 5 in three storages. They are lent where no guard is open, and come out as they were left.
+struct LendsEach;
+
+impl Example<Entry<u64, 2>> for LendsEach {
+    fn run<R: Abort, S: Bags<Entry<u64, 2>>>(&self, rt: &R, s: &mut S) {
+        let guard = opened(rt, s);
+        let mut bag: StorageBag<u64, 2> = full_of(rt, s, &mut (0..7), &guard);
+        let tenfold = |value: &mut u64| *value = value.wrapping_mul(10);
+        assert!(rt; changed(s, &mut bag, tenfold) == Err(Refused::GuardOpen));
+        shut(s, guard);
+        assert!(rt; changed(s, &mut bag, tenfold) == Ok(()));
+        let guard = opened(rt, s);
+        assert!(rt; bag.len() == 7);
+        assert!(rt; summed(s, &mut bag, &guard) == 210);
+        closed(s, bag, &guard);
+        shut(s, guard);
+    }
+}
+
+#[test]
+fn each_value_is_lent_where_no_guard_is_open(rt: HostRuntime) {
+    in_a_world(&rt, AMPLE, &LendsEach, 3);
+}
+
 /// So many numbers are in a bag.
 #[derive(Clone, Copy)]
 struct Counts(u64);
 
 impl Counts {
-    /// Makes the bag, and takes the numbers out again.
+    /// Makes the bag, lends each number, and takes them out again.
     fn count<const LEN: usize, R: Abort, S: Bags<Entry<u64, LEN>>>(self, rt: &R, s: &mut S)
         requires some { 0 < LEN }
         requires fits { LEN ≤ 32 }
@@ -93,8 +117,14 @@ impl Counts {
         ensures seat { S.seat s.new ≡ S.seat s.old }
     {
         let guard = opened(rt, s);
-        let bag: StorageBag<u64, LEN> = full_of(rt, s, &mut (0..self.0), &guard);
+        let mut bag: StorageBag<u64, LEN> = full_of(rt, s, &mut (0..self.0), &guard);
         assert!(rt; bag.len() == u128::from(self.0));
+        shut(s, guard);
+        let mut lent = 0u64;
+        let count = |_value: &mut u64| lent = lent.wrapping_add(1);
+        assert!(rt; changed(s, &mut bag, count) == Ok(()));
+        assert!(rt; lent == self.0);
+        let guard = opened(rt, s);
         assert!(rt; counted(s, bag, &guard) == self.0);
         shut(s, guard);
     }

@@ -142,6 +142,7 @@ impl Example for Fills {
             Ok(plates) => {
                 assert!(rt; stack::walked(s, &plates, &guard) == [Some(3), Some(2), Some(1), None]);
                 assert!(rt; stack::given(s, &plates, &guard) == [Some(3), Some(2), Some(1), None]);
+                assert!(rt; stack::first_given(s, &plates) == Some(3));
                 stack::close(s, plates, &guard);
             }
             Err((plates, item, refused)) => {

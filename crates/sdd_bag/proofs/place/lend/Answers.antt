@@ -1,4 +1,4 @@
-use Rattle.std.proofs.Common.{◌≡◌, ◌<◌, Some, None, length, map, slice_get, refl, sym, ap, ◌∙◌, List, arith}
+use Rattle.std.proofs.Common.{◌<◌, Some, None, length, map, slice_get, refl, sym, ap, ◌∙◌, List, arith}
 use Rattle.std.proofs.lemmas.List.{length-map}
 use Rattle.sdd_bag.specs.KeyedPlaces.{PlaceName}
 use Rattle.sdd_bag.specs.Storage.{KeptPlace, kept_place, names_of, value_at, with_value_at}

@@ -208,6 +208,14 @@ pub fn given<S: Lists>(s: &S, stack: &Stack<u64>, guard: &Guard) -> [Option<u64>
     numbers
 }
 
+/// The first number that an iterator gives, without a guard.
+pub fn first_given<S: Lists>(s: &S, stack: &Stack<u64>) -> Option<u64>
+    requires { home_in stack.now ≡ (S.seat s.now).home.cells }
+{
+    let mut numbers = stack.iter_unguarded(s);
+    numbers.next().copied()
+}
+
 /// Ends a stack.
 pub fn close<S: Lists>(s: &mut S, stack: Stack<u64>, guard: &Guard)
     requires seated { IsSeated (S.seat s.old) }

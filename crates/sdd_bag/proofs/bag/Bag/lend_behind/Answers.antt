@@ -1,5 +1,4 @@
-use Rattle.std.proofs.Common.{rules, of_calls, ◌≡◌, ◌+◌, ◌<◌, ◌++◌, List, [], ◌∷◌, None, Some, length, slice_get, is_some, refl, ap, ◌∙◌, sym, subst, inl, inr, arith}
-use Rattle.std.specs.Prelude.{drop}
+use Rattle.std.proofs.Common.{rules, ◌≡◌, ◌++◌, List, None, length, slice_get, is_some, refl, ap, ◌∙◌, sym, subst, inl, inr, arith}
 use Rattle.sdd_space.specs.CallerId.{IsExact}
 use Rattle.sdd_lists.specs.Iter.{GivesInOrder, space_of}
 use Rattle.sdd_lists.specs.Lists.{Entry}
@@ -8,11 +7,11 @@ use Rattle.sdd_bag.specs.KeyedPlaces.{PlaceName}
 use Rattle.sdd_bag.specs.Bag.{BagParts, overflow_of}
 use Rattle.sdd_bag.specs.Changing.{ChangesEach}
 use Rattle.sdd_bag.specs.Overflow.{AreShelves, LiesOn, OverflowParts, places_in, places_on}
-use Rattle.sdd_bag.specs.Storage.{names_of, value_at, values_in}
-use Rattle.sdd_bag.specs.Storages.{StorageName, places_shown}
+use Rattle.sdd_bag.specs.Storage.{value_at, values_in}
+use Rattle.sdd_bag.specs.Storages.{places_shown}
 use Rattle.sdd_bag.proofs.Changing.{each-changed, none-changed}
 use Rattle.sdd_bag.proofs.Kept.{get-front}
-use Rattle.sdd_bag.proofs.Lent.{Next, key-next, keys-behind, next-shelf, none-behind, none-next}
+use Rattle.sdd_bag.proofs.Lent.{key-next, keys-behind, next-shelf, none-behind, none-next}
 use Rattle.sdd_bag.proofs.Prefixes.{as-long}
 use Rattle.sdd_bag.proofs.bag.Bag.lend_behind.Goals as goal
 

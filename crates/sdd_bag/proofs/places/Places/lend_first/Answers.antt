@@ -1,4 +1,4 @@
-use Rattle.std.proofs.Common.{of_calls, ◌≡◌, ◌+◌, ℕ, suc, List, Some, is_some, map, sym, ap, ◌∙◌, subst, arith}
+use Rattle.std.proofs.Common.{◌≡◌, ◌+◌, ℕ, suc, List, Some, is_some, map, sym, ap, ◌∙◌, subst, arith}
 use Rattle.sdd_bag.specs.Changing.{ChangesFirst}
 use Rattle.sdd_bag.specs.Storage.{KeptPlace, kept_place, names_of, value_at, with_value_at}
 use Rattle.sdd_bag.proofs.Changing.{one-changed, some-kept}

@@ -1,7 +1,7 @@
-use Rattle.std.proofs.Common.{rules, of_calls, ◌≡◌, ◌+◌, ◌-◌, ◌<◌, ℕ, List, false, is_some, map, length, slice_get, ap, ◌∙◌, sym, subst, arith}
+use Rattle.std.proofs.Common.{rules, of_calls, ◌≡◌, ◌+◌, ◌-◌, ◌<◌, ℕ, List, is_some, map, length, slice_get, ap, ◌∙◌, sym, subst, arith}
 use Rattle.sdd_bag.specs.Changing.{ChangesFirst}
 use Rattle.sdd_bag.specs.Storage.{KeptPlace, kept_place, names_of, value_at}
-use Rattle.sdd_bag.proofs.Changing.{all-passed, few-counted, keys-inside, same-counted}
+use Rattle.sdd_bag.proofs.Changing.{all-passed, keys-inside, same-counted}
 use Rattle.sdd_bag.proofs.storage_keys.StorageKeys.lend_array.Goals as goal
 
 pub lend_first-requires : goal.lend_first-requires
@@ -35,9 +35,11 @@ invariant_of-self g c =
 
 pub returns-clause-few : goal.returns-clause-few
 returns-clause-few g c =
-    omega (arith,
-    keys-inside c.args.places.now c.args.self.now c.args.start g.row.LEN c.requires.long c.requires.keys 0 c.self.invariant.some,
-    c.count_from-count.ensures.few)
+    omega (
+      arith,
+      keys-inside c.args.places.now c.args.self.now c.args.start g.row.LEN c.requires.long c.requires.keys 0 c.self.invariant.some,
+      c.count_from-count.ensures.few,
+    )
 
 pub returns-clause-changed : goal.returns-clause-changed
 returns-clause-changed g c = λ first before so.
@@ -50,8 +52,8 @@ returns-clause-changed g c = λ first before so.
     subst (λ (n : ℕ). ChangesFirst calls n first before qs g') all
     (all-passed calls (len - count) (start + count) first before qs g' done
     (λ k near.
-        let here : (start + count) + k ≡ start + (count + k) = omega arith in
-        let less : count + k < len = omega (arith, near) in
-        ap (λ (n : ℕ). is_some (value_at qs n)) here ∙ c.lend_first.ensures.same (start + (count + k))
-        ∙ ap (λ (rs : Places). is_some (value_at rs (start + (count + k)))) c.self.view_is
-        ∙ c.count_from-count.ensures.empty (count + k) (omega arith) less (at (count + k) less)))
+    let here : (start + count) + k ≡ start + (count + k) = omega arith in
+    let less : count + k < len = omega (arith, near) in
+    ap (λ (n : ℕ). is_some (value_at qs n)) here ∙ c.lend_first.ensures.same (start + (count + k))
+    ∙ ap (λ (rs : Places). is_some (value_at rs (start + (count + k)))) c.self.view_is
+    ∙ c.count_from-count.ensures.empty (count + k) (omega arith) less (at (count + k) less)))
