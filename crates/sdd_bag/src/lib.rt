@@ -5,7 +5,7 @@
 //!   can lie in a slot that guards look at.
 //! - `StorageKeys` have the keys of all places of any number of such arrays, and know how many places of the first one have a value; those of all others do.
 //! - A `KeyedPlace` is one such place, and its `PlaceKey` the whole right to the value: it says which value there is, moves one in and out behind a `&`, and
-//!   there is one key of each place. A key takes no bytes. This is proved by hand, and nothing else is.
+//!   there is one key of each place. A key takes no bytes. This is proved by hand, and so is `never`, and nothing else is.
 #![tactic(auto)]
 
 pub mod bag;
