@@ -142,22 +142,41 @@ impl DomainTable {
         self.first_pointer + cell as usize
     }
 
+    /// Where the state of the first place is. Those of the others come behind it, a line apart.
+    #[inline]
+    pub fn first_state(&self) -> usize
+        ensures { result ≡ words.state_word (sizes_of self.now) 0 }
+    {
+        self.first_place
+    }
+
+    /// Where the state of a place is, by where that of the first one is: who looks at all places reads that once.
+    #[inline]
+    pub fn state_from(&self, first: usize, place: usize) -> usize
+        requires first { first ≡ words.state_word (sizes_of self.now) 0 }
+        requires inside { place < places_of self.now }
+        ensures { result ≡ words.state_word (sizes_of self.now) place }
+    {
+        LINE * place + first
+    }
+
+    /// Where the count of a place is, which nobody but its participant writes either.
+    #[inline]
+    pub fn count_from(&self, first: usize, place: usize) -> usize
+        requires first { first ≡ words.state_word (sizes_of self.now) 0 }
+        requires inside { place < places_of self.now }
+        ensures { result ≡ words.count_word (sizes_of self.now) place }
+    {
+        self.state_from(first, place) + 1
+    }
+
     /// Where the state of a place is.
     #[inline]
     pub fn state_word(&self, place: usize) -> usize
         requires { place < places_of self.now }
         ensures { result ≡ words.state_word (sizes_of self.now) place }
     {
-        LINE * place + self.first_place
-    }
-
-    /// Where the count of a place is, which nobody but its participant writes either.
-    #[inline]
-    pub fn count_word(&self, place: usize) -> usize
-        requires { place < places_of self.now }
-        ensures { result ≡ words.count_word (sizes_of self.now) place }
-    {
-        self.state_word(place) + 1
+        self.state_from(self.first_place, place)
     }
 
     /// How many places there are.

@@ -153,30 +153,42 @@ pub fn look_at_lock(board: &DomainTable, token: &mut DomainSeat) -> u64
     board.table.shared.load::<LookAtLock>(token, LOCK)
 }
 
-/// Looks at the state of the next place.
-pub fn look_at_state(board: &DomainTable, token: &mut DomainSeat, place: usize) -> u64
+/// Looks at the state of the next place, by where that of the first one is.
+pub fn look_at_state(
+    board: &DomainTable,
+    token: &mut DomainSeat,
+    first: usize,
+    place: usize,
+) -> u64
     requires home { token.old.table_id ≡ id_of board.now }
     requires sizes { (view token.old).sizes ≡ sizes_of board.now }
+    requires first { first ≡ words.state_word (sizes_of board.now) 0 }
     requires next { (place < places_of board.now) × IsNext (epoch token.old) place }
     ensures { Stepped (LooksAtState (sizes_of board.now) (words.state_word (sizes_of board.now) place)) token.old result token.new }
 {
     board
         .table
         .shared
-        .load::<LookAtState>(token, board.state_word(place))
+        .load::<LookAtState>(token, board.state_from(first, place))
 }
 
-/// Looks at the count of the next place.
-pub fn look_at_count(board: &DomainTable, token: &mut DomainSeat, place: usize) -> u64
+/// Looks at the count of the next place, by where the state of the first one is.
+pub fn look_at_count(
+    board: &DomainTable,
+    token: &mut DomainSeat,
+    first: usize,
+    place: usize,
+) -> u64
     requires home { token.old.table_id ≡ id_of board.now }
     requires sizes { (view token.old).sizes ≡ sizes_of board.now }
+    requires first { first ≡ words.state_word (sizes_of board.now) 0 }
     requires next { (place < places_of board.now) × IsNext (epoch token.old) place }
     ensures { Stepped (LooksAtCount (sizes_of board.now) (words.count_word (sizes_of board.now) place)) token.old result token.new }
 {
     board
         .table
         .shared
-        .load::<LookAtCount>(token, board.count_word(place))
+        .load::<LookAtCount>(token, board.count_from(first, place))
 }
 
 /// Raises the global count, if it is the own one still, once all other places were looked at and passed.

@@ -6,6 +6,7 @@ ghost use Rattle.sdd_bag.specs.Changing.{ChangesOn};
 ghost use Rattle.sdd_bag.specs.KeyedPlaces.{PlaceName};
 
 use crate::place::{Keys, Place, exchange, lend, new_place};
+use sdd_core::hint::assert_unchecked;
 use std::array;
 use std::marker::Model;
 
@@ -111,10 +112,9 @@ impl<T, const LEN: usize> Places<T, LEN> {
         let mut left = count;
         while left > 0 {
             left -= 1;
-            let value = match self.exchange(keys, left, None) {
-                Some(value) => value,
-                None => unreachable!(),
-            };
+            let value = self.exchange(keys, left, None);
+            assert_unchecked(value.is_some());
+            let Some(value) = value else { unreachable!() };
             made = fold(made, value);
         }
         (made, fold)

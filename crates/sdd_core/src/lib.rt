@@ -1,7 +1,8 @@
-//! What the rest stands on: epochs, tags and refusals.
+//! What the rest stands on: epochs, tags and refusals, and a hint to the compiler, which is proved by hand.
 #![tactic(auto)]
 
 pub mod epoch;
+pub mod hint;
 pub mod inner;
 pub mod limits;
 pub mod refused;

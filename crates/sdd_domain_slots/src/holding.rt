@@ -66,8 +66,9 @@ pub fn none_is_open(board: &DomainTable, token: &mut DomainSeat) -> bool
     requires first { (slots token.old).looked ≡ 0 }
     ensures { LooksAround (places_of board.now) result token.old token.new }
 {
+    let first = board.first_state();
     for place in 0..board.places() {
-        if look_for_guard(board, token, place) == OPEN {
+        if look_for_guard(board, token, first, place) == OPEN {
             return false;
         }
     }

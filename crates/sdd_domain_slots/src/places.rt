@@ -3,6 +3,7 @@ ghost use Rattle.std.specs.Prelude.{◌≡◌, ◌⊎◌, ◌<◌, IfErr, IfOk};
 ghost use Rattle.sdd_views.specs.Views.{nobody};
 ghost use Rattle.sdd_word_invariant.specs.EpochSteps.{Takes};
 ghost use Rattle.sdd_word_invariant.specs.SlotSteps.{blank};
+ghost use Rattle.sdd_word_invariant.specs.Words.{state_word};
 ghost use Rattle.sdd_atomics.specs.DomainTable.{id_of, sizes_of, places_of};
 ghost use Rattle.sdd_atomics.specs.DomainSeat.{epoch, view, words_known, IsSameBut};
 ghost use Rattle.sdd_domain_slots.specs.Sightings.{AreSeenTaken};
@@ -11,11 +12,13 @@ use crate::sightings::Sightings;
 use sdd_atomics::{DomainSeat, DomainTable, steps};
 use sdd_core::Refused;
 
-/// A place seems to be free: a peek proves nothing of the moment after, but takes the place's line from nobody.
-fn seems_free(board: &DomainTable, place: usize) -> bool
-    requires { place < places_of board.now }
+/// A place seems to be free, where the state of the first one is at that word: a peek proves nothing of the moment after, but takes the place's line from
+/// nobody.
+fn seems_free(board: &DomainTable, first: usize, place: usize) -> bool
+    requires first { first ≡ state_word (sizes_of board.now) 0 }
+    requires inside { place < places_of board.now }
 {
-    board.table.shared.peek(board.state_word(place)) == steps::FREE
+    board.table.shared.peek(board.state_from(first, place)) == steps::FREE
 }
 
 /// Takes a free place: the first one that is found so. An exchange is tried only there, since it takes a place's line from its participant. Where there is
@@ -30,8 +33,9 @@ pub fn take_place(board: &DomainTable, token: &mut DomainSeat) -> Result<usize, 
     ensures seen { IfErr result (AreSeenTaken 0 (places_of board.now)) }
 {
     let mut seen = Sightings::new(board.places(), 0);
+    let first = board.first_state();
     for place in 0..board.places() {
-        if !seems_free(board, place) {
+        if !seems_free(board, first, place) {
             seen.note(place);
             continue;
         }
@@ -48,8 +52,9 @@ pub fn want_of_memory(board: &DomainTable) -> (Refused, Sightings)
     ensures { ((result.0 ≡ Refused.NoPlace) × AreSeenTaken 0 (places_of board.now) result.1) ⊎ (result.0 ≡ Refused.NoMemory) }
 {
     let mut seen = Sightings::new(board.places(), 0);
+    let first = board.first_state();
     for place in 0..board.places() {
-        if seems_free(board, place) {
+        if seems_free(board, first, place) {
             return (Refused::NoMemory, seen);
         }
         seen.note(place);

@@ -24,8 +24,9 @@ fn are_nobodys(board: &DomainTable, seen: &mut Sightings) -> bool
     ensures kept { KeepsMarks seen.old.taken seen.new.taken }
     ensures seen { result ≡ false → IsAnyTaken seen.new }
 {
+    let first = board.first_state();
     for place in 0..board.places() {
-        let state = board.table.shared.peek(board.state_word(place));
+        let state = board.table.shared.peek(board.state_from(first, place));
         if state != steps::FREE && state != steps::ENDED && state != steps::BARRED {
             seen.note(place);
             return false;

@@ -2,6 +2,7 @@
 ghost use Rattle.std.specs.Prelude.{◌≡◌, ℕ, ◌<◌, true, false};
 ghost use Rattle.sdd_word_invariant.specs.Epoch.{IsOpen, IsLone, Scans};
 ghost use Rattle.sdd_word_invariant.specs.EpochSteps.{IsNext, Locks, passed_by};
+ghost use Rattle.sdd_word_invariant.specs.Words.{state_word};
 ghost use Rattle.sdd_atomics.specs.DomainTable.{id_of, places_of, sizes_of};
 ghost use Rattle.sdd_atomics.specs.DomainSeat.{epoch, view, IsSameBut, Stepped};
 ghost use Rattle.sdd_domain_slots.specs.Scan.{looked_to, Raises, Scanned, Tells};
@@ -25,20 +26,27 @@ pub enum ScanEnd {
     Last,
 }
 
-/// The next place has no guard open, or has published this count.
-fn passes(board: &DomainTable, token: &mut DomainSeat, place: usize, count: u64) -> bool
+/// The next place has no guard open, or has published this count. The state of the first one is at that word.
+fn passes(
+    board: &DomainTable,
+    token: &mut DomainSeat,
+    first: usize,
+    place: usize,
+    count: u64,
+) -> bool
     requires home { token.old.table_id ≡ id_of board.now }
     requires sizes { (view token.old).sizes ≡ sizes_of board.now }
+    requires first { first ≡ state_word (sizes_of board.now) 0 }
     requires next { (place < places_of board.now) × IsNext (epoch token.old) place }
     requires count { count ≡ (epoch token.old).count }
     ensures same { IsSameBut token.old token.new }
     ensures passed { result ≡ true → epoch token.new ≡ passed_by (epoch token.old) place }
     ensures failed { result ≡ false → epoch token.new ≡ epoch token.old }
 {
-    if steps::look_at_state(board, token, place) != steps::OPEN {
+    if steps::look_at_state(board, token, first, place) != steps::OPEN {
         return true;
     }
-    steps::look_at_count(board, token, place) == count
+    steps::look_at_count(board, token, first, place) == count
 }
 
 /// Every place but the own one passes.
@@ -53,8 +61,9 @@ fn all_pass(board: &DomainTable, token: &mut DomainSeat, place: usize, count: u6
     ensures looked { (k : ℕ) × (epoch token.new ≡ looked_to (epoch token.old) k) }
     ensures passed { result ≡ true → IsNext (epoch token.new) (places_of board.now) }
 {
+    let first = board.first_state();
     for other in 0..board.places() {
-        if other != place && !passes(board, token, other, count) {
+        if other != place && !passes(board, token, first, other, count) {
             return false;
         }
     }

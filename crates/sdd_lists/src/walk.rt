@@ -65,10 +65,10 @@ impl<'g, T: Item<LinkedEntry<T>>> Walk<'g, T> {
         let Some(front) = self.next.take() else {
             return None;
         };
-        if self.most == 0 {
+        let Some(most) = self.most.checked_sub(1) else {
             return None;
-        }
-        self.most -= 1;
+        };
+        self.most = most;
         self.next = front_in(front.link, guard, s);
         Some(front.entry.as_ref())
     }

@@ -10,6 +10,7 @@ use crate::ended_section::EndedSection;
 use crate::raw_slice::RawSlice;
 use crate::uninit_block::{Freeable, UninitBlock};
 use core::slots::Slots;
+use sdd_core::hint::assert_unchecked;
 use sdd_rights::Fraction;
 use std::alloc::{AllocError, Global};
 use std::marker::Model;
@@ -99,9 +100,9 @@ impl<T> LentValues<T> {
         requires filled { IsSome (value_at self.now at) }
         ensures { value_at self.now at ≡ Some result.now }
     {
-        let Some(value) = self.block.get(at) else {
-            unreachable!()
-        };
+        let value = self.block.get(at);
+        assert_unchecked(value.is_some());
+        let Some(value) = value else { unreachable!() };
         value
     }
 
@@ -125,9 +126,9 @@ impl<T> LentValues<T> {
         ensures value { value_at self.old at ≡ Some result }
         ensures taken { self.new ≡ record self.old { values = slice_set self.old.values at None } }
     {
-        let Some(value) = self.block.edit(at).take() else {
-            unreachable!()
-        };
+        let value = self.block.edit(at).take();
+        assert_unchecked(value.is_some());
+        let Some(value) = value else { unreachable!() };
         value
     }
 
@@ -140,9 +141,9 @@ impl<T> LentValues<T> {
         ensures value { value_at self.old at ≡ Some result.now }
         ensures lent { self.new ≡ record self.old { stakes = lent at reader tenure.now.round self.old.stakes } }
     {
-        let Some(value) = self.block.look(at, reader, tenure) else {
-            unreachable!()
-        };
+        let value = self.block.look(at, reader, tenure);
+        assert_unchecked(value.is_some());
+        let Some(value) = value else { unreachable!() };
         value
     }
 

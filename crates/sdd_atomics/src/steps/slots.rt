@@ -318,11 +318,17 @@ pub fn hold(board: &DomainTable, token: &mut DomainSeat, slot: u32) -> u64
         .load::<Hold>(token, board.slot_word(slot))
 }
 
-/// Looks at the state of the next place, while a slot is held: no guard there sees it where this isn't `OPEN`.
+/// Looks at the state of the next place, by where that of the first one is, while a slot is held: no guard there sees it where this isn't `OPEN`.
 #[inline]
-pub fn look_for_guard(board: &DomainTable, token: &mut DomainSeat, place: usize) -> u64
+pub fn look_for_guard(
+    board: &DomainTable,
+    token: &mut DomainSeat,
+    first: usize,
+    place: usize,
+) -> u64
     requires home { token.old.table_id ≡ id_of board.now }
     requires knows { Knows board.now token.old }
+    requires first { first ≡ words.state_word (sizes_of board.now) 0 }
     requires inside { place < places_of board.now }
     requires place { HasPlace (epoch token.old) }
     requires next { place ≡ (slots token.old).looked }
@@ -331,7 +337,7 @@ pub fn look_for_guard(board: &DomainTable, token: &mut DomainSeat, place: usize)
     board
         .table
         .shared
-        .load::<LookAtGuard>(token, board.state_word(place))
+        .load::<LookAtGuard>(token, board.state_from(first, place))
 }
 
 /// Lets go of the slot that is held by its only owner. Answers its word.

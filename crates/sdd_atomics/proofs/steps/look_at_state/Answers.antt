@@ -7,9 +7,9 @@ use Rattle.sdd_atomics.proofs.steps.look_at_state.Goals as goal
 
 pub load-requires : goal.load-requires
 load-requires c = let sized = c.args.board.now.sized in let r = c.requires in
-    (r.home, omega arith, may_look_at_state _ _ _ _ _ _ _ c.state_word.ensures (omega arith) r.sizes r.next.1)
+    (r.home, omega arith, may_look_at_state _ _ _ _ _ _ _ c.state_from.ensures (omega arith) r.sizes r.next.1)
 
 pub returns : goal.returns
 returns c = let e = c.load.ensures in
-    subst (λ (t : Sizes × ℕ). Stepped (LooksAtState t.0 t.1) c.args.token.now c.load.result c.load.new.seat) (λ d. (c.requires.sizes d, c.state_word.ensures d))
-    (told c.args.token.now _ c.load.result e.0 e.1 (LooksAtState c.args.token.now.me.0.sizes c.state_word.result) e.2)
+    subst (λ (t : Sizes × ℕ). Stepped (LooksAtState t.0 t.1) c.args.token.now c.load.result c.load.new.seat) (λ d. (c.requires.sizes d, c.state_from.ensures d))
+    (told c.args.token.now _ c.load.result e.0 e.1 (LooksAtState c.args.token.now.me.0.sizes c.state_from.result) e.2)

@@ -8,9 +8,9 @@ use Rattle.sdd_atomics.proofs.steps.slots.look_for_guard.Goals as goal
 
 pub load-requires : goal.load-requires
 load-requires c = let sized = c.args.board.now.sized in let r = c.requires in
-    (r.home, omega arith, may_look_for_guard _ _ _ _ _ r.knows.0 r.knows.1 r.place _ c.args.place c.state_word.ensures r.inside r.next)
+    (r.home, omega arith, may_look_for_guard _ _ _ _ _ r.knows.0 r.knows.1 r.place _ c.args.place c.state_from.ensures r.inside r.next)
 
 pub returns : goal.returns
 returns c = let e = c.load.ensures in
-    subst (λ (i : ℕ). Taught (LooksForGuard i) c.args.token.now c.load.result c.load.new.seat) (c.state_word.ensures ∙ ap (λ (z : Sizes). state_word z c.args.place) (sym c.requires.knows.0))
-    (taught c.args.token.now _ c.load.result e.0 e.1 (LooksForGuard c.state_word.result) e.2)
+    subst (λ (i : ℕ). Taught (LooksForGuard i) c.args.token.now c.load.result c.load.new.seat) (c.state_from.ensures ∙ ap (λ (z : Sizes). state_word z c.args.place) (sym c.requires.knows.0))
+    (taught c.args.token.now _ c.load.result e.0 e.1 (LooksForGuard c.state_from.result) e.2)
