@@ -8,6 +8,7 @@ ghost use Rattle.sdd_participants.specs.Slab.{IsEmptyAt, IsFull};
 ghost use Rattle.sdd_standings.specs.Slots.{standing_at, value_at, with_made, with_standing, with_value, without_slot, first_standing, released_standing, released_to, has_others, owners_of, IsOwnedBy, IsSharedBy, IsWaiting};
 
 use sdd_core::SlotName;
+use sdd_core::hint::assert_unchecked;
 use sdd_participants::{Slab, Standing, StandingLookup};
 use sdd_rights::{NameWitness, Right, RightsAuthority, SharedRights, StandingKind};
 use sdd_values::{EndedSection, LentValues, ReadSection};
@@ -189,7 +190,9 @@ impl<T> WorldSlots<T> {
         requires kind { kind_of right.now ≡ StandingKind.Shared }
         ensures { IsSharedBy result (standing_at self.now (number_of right.now)) }
     {
-        match self.standings.at(self.slot_of(right)) {
+        let standing = self.standings.at(self.slot_of(right));
+        assert_unchecked(matches!(standing, Standing::Shared(_)));
+        match standing {
             Standing::Shared(owners) => owners,
             _ => unreachable!(),
         }

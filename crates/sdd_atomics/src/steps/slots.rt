@@ -15,7 +15,7 @@ ghost use Rattle.sdd_shared_values.specs.SharedValues.{IsNoValueCode, lot};
 ghost use Rattle.sdd_domain_invariant.specs.FractionsAtHome.{CarriedFractions, Moves, spare};
 ghost use Rattle.sdd_domain_invariant.specs.Records.{IsIn};
 ghost use Rattle.sdd_domain_invariant.specs.FractionSteps.{CarriesAll, IsValue, ClaimsAll, FillsSlot, EntersUnit, TakesOut, TakesHeld, IsDeposit, GivesAll, DiscardsAll, RetiresOne, SeesOwned, LearnsOwned, DrawsUnit, AddsSeen, IsStill, parting, regained, ReleasesOne, LeavesOne};
-ghost use Rattle.sdd_atomics.specs.DomainTable.{id_of, book_of, places_of, slots_of, most_waiting_of};
+ghost use Rattle.sdd_atomics.specs.DomainTable.{id_of, book_of, places_of, slots_of, sizes_of, most_waiting_of};
 ghost use Rattle.sdd_domain_invariant.specs.BankInvariant.{one_where};
 ghost use Rattle.sdd_domain_invariant.specs.FilledInvariant.{HasRecord};
 ghost use Rattle.sdd_domain_invariant.specs.KindsInvariant.{written};
