@@ -11,16 +11,16 @@ use Rattle.sdd_bag.proofs.places.Places.fold_out.Goals as goal
 pub loop-left-preserved : goal.loop-left-preserved
 loop-left-preserved g c =
     let Places : Type 0 = List (KeptPlace g.row.T.Denot) in let inv = c.loop-left.invariant in let at = c.loop-left.left - 1 in
-    let ps : Places = map kept_place c.loop-left.keys.kept in let qs : Places = map kept_place c.exchange.new.keys.kept in
-    let now : qs ≡ with_value_at ps at None = c.exchange.ensures.now in let v = c.in-Some.value in
-    let one = subst (λ (rs : Places). HasOneMore v (values_in rs) (values_in ps)) (sym now) (one-out ps at v (sym c.in-Some.ensures.was)) in
+    let ps : Places = map kept_place c.loop-left.keys.kept in let qs : Places = map kept_place c.exchange-value.new.keys.kept in
+    let now : qs ≡ with_value_at ps at None = c.exchange-value.ensures.now in let v = c.in-Some.value in
+    let one = subst (λ (rs : Places). HasOneMore v (values_in rs) (values_in ps)) (sym now) (one-out ps at v (sym c.exchange-value.ensures.was ∙ c.in-Some.is)) in
     record {
       callable = search of_calls;
       fewer = omega (arith, inv.fewer);
       names = ap (λ (rs : Places). names_of rs) now ∙ names-same ps at None ∙ inv.names;
       empty = λ k near far.
           ap (λ (rs : Places). value_at rs k) now
-          ∙ dite (ℕ_discrete k at) (λ same. with-none ps at k c.exchange.ensures.there same)
+          ∙ dite (ℕ_discrete k at) (λ same. with-none ps at k c.exchange-value.ensures.there same)
           (λ other. with-other ps at None k other ∙ inv.empty k (omega (arith, near, other)) far);
       first = λ k less.
           ap (λ (rs : Places). value_at rs k) now ∙ with-other ps at None k (λ same. absurd (omega (arith, less, same)))
