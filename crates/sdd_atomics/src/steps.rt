@@ -154,12 +154,7 @@ pub fn look_at_lock(board: &DomainTable, token: &mut DomainSeat) -> u64
 }
 
 /// Looks at the state of the next place, by where that of the first one is.
-pub fn look_at_state(
-    board: &DomainTable,
-    token: &mut DomainSeat,
-    first: usize,
-    place: usize,
-) -> u64
+pub fn look_at_state(board: &DomainTable, token: &mut DomainSeat, first: usize, place: usize) -> u64
     requires home { token.old.table_id ≡ id_of board.now }
     requires sizes { (view token.old).sizes ≡ sizes_of board.now }
     requires first { first ≡ words.state_word (sizes_of board.now) 0 }
@@ -173,12 +168,7 @@ pub fn look_at_state(
 }
 
 /// Looks at the count of the next place, by where the state of the first one is.
-pub fn look_at_count(
-    board: &DomainTable,
-    token: &mut DomainSeat,
-    first: usize,
-    place: usize,
-) -> u64
+pub fn look_at_count(board: &DomainTable, token: &mut DomainSeat, first: usize, place: usize) -> u64
     requires home { token.old.table_id ≡ id_of board.now }
     requires sizes { (view token.old).sizes ≡ sizes_of board.now }
     requires first { first ≡ words.state_word (sizes_of board.now) 0 }

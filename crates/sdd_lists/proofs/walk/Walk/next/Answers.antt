@@ -17,7 +17,7 @@ returns-clause-list g c = λ e vs shows.
     let short : c.in-Some-checked_sub.most ≡ walk.most - 1 = omega arith in (
       next.0,
       subst (λ (y : World _). ShowsInOrder y (record { next = o; most = c.in-Some-checked_sub.most }) (drop 1 vs)) (sym (c.front_in-self.ensures.world e))
-      (subst (λ (m : ℕ). ShowsInOrder w (record { next = o; most = m }) (drop 1 vs)) (sym short) next.1),
+          (subst (λ (m : ℕ). ShowsInOrder w (record { next = o; most = m }) (drop 1 vs)) (sym short) next.1),
     )
 
 pub returns-clause-entries : goal.returns-clause-entries
@@ -31,5 +31,5 @@ returns-clause-entries g c = λ e es stood.
     let short : c.in-Some-checked_sub.most ≡ walk.most - 1 = omega arith in (
       next.0,
       subst (λ (y : World _). StandsBefore y (record { next = o; most = c.in-Some-checked_sub.most }) (left (drop 1 es))) (sym (c.front_in-self.ensures.world e))
-      (subst (λ (m : ℕ). StandsBefore w (record { next = o; most = m }) (left (drop 1 es))) (sym short) next.1),
+          (subst (λ (m : ℕ). StandsBefore w (record { next = o; most = m }) (left (drop 1 es))) (sym short) next.1),
     )
