@@ -312,7 +312,7 @@ module _ (h : Environment) (t : IsTied h) where
 
         pub acts-pushed : (waited : List Bool) → AreTold h waited → (owners : Vec (Option AnyOwner)) (slots names dates : Vec ℕ) (o : OwnerName) (i : ItemName) →
             owners.items ≡ h.owners.entries.items ++ Some (Share owner) ∷ [] → slots.items ≡ h.slots.items ++ slot_of owner ∷ [] →
-            names.items ≡ slice_set h.names.items (slot_of owner) (length h.slots.items) → AreDatedNow h w waited dates →
+            names.items ≡ slice_set h.names.items (slot_of owner) (Some (length h.slots.items)) → AreDatedNow h w waited dates →
             length h.slots.items + 1 < 2 ^ 128 → o.0 ≡ length h.owners.entries.items → i.0 ≡ length h.slots.items →
             Does (desk_of h) (At name (pushing l number m g)) (reply.Item o i)
             (record h { world = w; owners = record { entries = owners }; slots = slots; names = names; dates = dates })

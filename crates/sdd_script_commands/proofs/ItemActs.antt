@@ -155,7 +155,7 @@ module _ (h : Environment) (t : IsTied h) (whole : IsWhole h.world) where
           IsEmptyAt h.world.cells c → IsEmptyAt h.world.standings k → link_of v ≡ c → link_home v ≡ h.world.home.cells →
           w ≡ made_as (nulled h.world c) k v (standing_first own) → owner_holding x ≡ holding_first own k h.world.home.slots →
           owners.items ≡ between.items ++ Some x ∷ [] → slots.items ≡ h.slots.items ++ k ∷ [] →
-          named.items ≡ slice_set h.names.items k (length h.slots.items) → length h.slots.items + 1 < 2 ^ 128 →
+          named.items ≡ slice_set h.names.items k (Some (length h.slots.items)) → length h.slots.items + 1 < 2 ^ 128 →
           o.0 ≡ length h.owners.entries.items → i.0 ≡ length h.slots.items →
           Does d (At name (making own value)) (reply.Item o i)
           (record h { world = w; owners = record { entries = owners }; slots = slots; names = named })
