@@ -397,37 +397,31 @@ contain-slots (Job j ∷ xs) s (suc n, l, e) = contain-slots xs s (n, omega (ari
 -- what is told of some is told of one of them, and of each that it tells something of
 filter-contains : {X Y : Type 0} (h : X → Option Y) (xs : List X) (y : Y) → Contains (filter_map h xs) y → (x : X) × Contains xs x × (h x ≡ Some y)
 filter-contains h [] y c = absurd (omega (arith, c.1))
-filter-contains {X} {Y} h (x ∷ xs) y c = by (h x) refl c where
-  behind : Contains (filter_map h xs) y → (z : X) × Contains (x ∷ xs) z × (h z ≡ Some y)
-  behind c = let rest = filter-contains h xs y c in (rest.0, (suc rest.1.0, (let lt = rest.1.1 in omega arith), rest.1.2), rest.2)
+filter-contains {X} {Y} h (x ∷ xs) y c = by (filter-contains h xs y) (h x) refl c where
+  behind : (z : X) × Contains xs z × (h z ≡ Some y) → (z : X) × Contains (x ∷ xs) z × (h z ≡ Some y)
+  behind rest = (rest.0, (suc rest.1.0, (let lt = rest.1.1 in omega arith), rest.1.2), rest.2)
 
-  by : (o : Option Y) → h x ≡ o → Contains (cons_option o (filter_map h xs)) y → (z : X) × Contains (x ∷ xs) z × (h z ≡ Some y)
-  by None e c = behind c
-  by (Some z) e (zero, l, is) = (x, (0, omega arith, refl), e ∙ ap (λ (u : Y). Some u) is)
-  by (Some z) e (suc n, l, is) = behind (n, omega (arith, l), is)
+  by : (Contains (filter_map h xs) y → (z : X) × Contains xs z × (h z ≡ Some y)) → (o : Option Y) → h x ≡ o →
+      Contains (cons_option o (filter_map h xs)) y → (z : X) × Contains (x ∷ xs) z × (h z ≡ Some y)
+  by rest None e c = behind (rest c)
+  by rest (Some z) e (zero, l, is) = (x, (0, omega arith, refl), e ∙ ap (λ (u : Y). Some u) is)
+  by rest (Some z) e (suc n, l, is) = behind (rest (n, omega (arith, l), is))
 
 contains-filter : {X Y : Type 0} (h : X → Option Y) (xs : List X) (x : X) (y : Y) → Contains xs x → h x ≡ Some y → Contains (filter_map h xs) y
 contains-filter h [] x y c e = absurd (omega (arith, c.1))
 contains-filter {X} {Y} h (z ∷ xs) x y (zero, l, is) e = rw (ap h is ∙ e) (0, omega arith, refl)
-contains-filter {X} {Y} h (z ∷ xs) x y (suc n, l, is) e = by (h z) where
-  rest : Contains (filter_map h xs) y
-  rest = contains-filter h xs x y (n, omega (arith, l), is) e
-
-  by : (o : Option Y) → Contains (cons_option o (filter_map h xs)) y
-  by None = rest
-  by (Some u) = (suc rest.0, (let lt = rest.1 in omega arith), rest.2)
+contains-filter {X} {Y} h (z ∷ xs) x y (suc n, l, is) e = by (contains-filter h xs x y (n, omega (arith, l), is) e) (h z) where
+  by : Contains (filter_map h xs) y → (o : Option Y) → Contains (cons_option o (filter_map h xs)) y
+  by rest None = rest
+  by rest (Some u) = (suc rest.0, (let lt = rest.1 in omega arith), rest.2)
 
 filter-counts : {X Y : Type 0} (h : X → Option Y) (p : Y → Bool) (q : X → Bool) (xs : List X) →
     ((x : X) → Contains xs x → (y : Y) → h x ≡ Some y → p y ≡ true → q x ≡ true) → count_by p (filter_map h xs) ≤ count_by q xs
 filter-counts h p q [] t = omega arith
-filter-counts {X} {Y} h p q (x ∷ xs) t = by (h x) refl where
-  rest : count_by p (filter_map h xs) ≤ count_by q xs
-  rest = filter-counts h p q xs (λ z c. t z (suc c.0, (let lt = c.1 in omega arith), c.2))
-
-  by : (o : Option Y) → h x ≡ o → count_by p (cons_option o (filter_map h xs)) ≤ count_by q (x ∷ xs)
-  by None e = omega (arith, rest, count-cons q x xs)
-  by (Some y) e =
-      let rest = rest in
+filter-counts {X} {Y} h p q (x ∷ xs) t = by (filter-counts h p q xs (λ z c. t z (suc c.0, (let lt = c.1 in omega arith), c.2))) (h x) refl where
+  by : count_by p (filter_map h xs) ≤ count_by q xs → (o : Option Y) → h x ≡ o → count_by p (cons_option o (filter_map h xs)) ≤ count_by q (x ∷ xs)
+  by rest None e = omega (arith, rest, count-cons q x xs)
+  by rest (Some y) e =
       let first = t x (0, omega arith, refl) y e in
       let here = count-cons p y (filter_map h xs) in
       let there = count-cons q x xs in

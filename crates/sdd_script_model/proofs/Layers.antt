@@ -67,7 +67,7 @@ module _ (d : ScriptState) (l : HoldsOnlyOlder d) (a : AreCounted d d.world) (st
       let held : 1 ≤ times_in i (body_of v) = omega (arith, some, ap (times_held holdings_of i) value, times-held v i) in
       let out = outside-out holdings_of d.world i (named_owners d) a (omega (arith, held, moved i)) in
       let own : number_at j ≡ length d.slots =
-      ap number_in (rw same (get_or-set_same d.names k (Some (length d.slots)) None (omega (arith, free.0, stocked.names)))) in
+      ap number_at same ∙ ap number_in (get_or-set_same d.names k (Some (length d.slots)) None (omega (arith, free.0, stocked.names))) in
       omega (arith, own, older-name i out)
   made-older j i (inr apart) some =
       let value = get_or-set_other d.world.values k j (Some v) None apart in

@@ -5,12 +5,12 @@ use Rattle.sdd_space.specs.WorldChanges.{retired, with_standing, owner_given, ce
 use Rattle.std.specs.Prelude.{IfSome}
 use Rattle.std.proofs.lemmas.Bool.{false≢true}
 use Rattle.sdd_standings.specs.Slots.{is_waiting}
-use Rattle.sdd_space.proofs.Standings.{out-some}
+use Rattle.sdd_space.proofs.Standings.{out-some, out-waits-not}
 use Rattle.sdd_script_model.specs.ScriptState.{ScriptState, IsThere, slot_at, name_at}
 use Rattle.sdd_script_model.specs.Sound.{IsCalled, SlotsHaveNames}
 use Rattle.sdd_script_model.proofs.Entry.{at-same, at-other, at-pushed, at-end, as-each, inside, not-free, set-either}
 use Rattle.sdd_script_model.proofs.SmallSteps.{keeps-given, keeps-closed, keeps-all_given, keeps-all, keeps-opened}
-use Rattle.sdd_script_model.proofs.StockWords.{◌≡◌, ◌≢◌, ℕ, ◌<◌, true, List, [], ◌∷◌, ◌++◌, Option, Some, None, IsSome, is_some, length, slice_index_or, slice_set, inl, inr, refl, sym, ap, ◌∙◌, subst, arith, cases_eq, length-set, IsEmptyAt, with_entry, without_entry, LimboEntry, Standing, is_out, World, standing_at, value_at, Val, holdings_of}
+use Rattle.sdd_script_model.proofs.StockWords.{◌≡◌, ◌≢◌, ℕ, ◌<◌, false, true, List, [], ◌∷◌, ◌++◌, Option, Some, None, IsSome, is_some, length, slice_index_or, slice_set, inl, inr, refl, sym, ap, ◌∙◌, subst, arith, cases_eq, length-set, IsEmptyAt, with_entry, without_entry, LimboEntry, Standing, is_out, World, standing_at, value_at, Val, holdings_of}
 use Rattle.std.proofs.lemmas.List.{length_push}
 
 -- the same slots are there, none is taken that was free, what waits does so until its slot is free, no item is made, and the home is the same
@@ -45,9 +45,9 @@ slots-set w u k s some waits is home made = record {
   taken = λ j now. subst (λ b. b ≡ true) (as-each is_some w.standings k (Some s) None (sym some) j) (rw is at now);
   waits = λ j was now. elim (cases_eq j k) [
     | inl same ↦
-        ap (λ ss. is_waiting (slice_index_or ss j None)) is
-        ∙ ap is_waiting (rw same (at-same w.standings k (Some s) None (inside w.standings k some)))
-        ∙ waits (ap (λ (i : ℕ). is_waiting (standing_at w i)) (sym same) ∙ was)
+        (let now : standing_at u k ≡ Some s = ap (λ ss. slice_index_or ss k None) is ∙ at-same w.standings k (Some s) None (inside w.standings k some) in
+        ap (λ (i : ℕ). is_waiting (standing_at u i)) same ∙ ap is_waiting now
+        ∙ waits (ap (λ (i : ℕ). is_waiting (standing_at w i)) (sym same) ∙ was))
     | inr far ↦ ap (λ ss. is_waiting (slice_index_or ss j None)) is ∙ ap is_waiting (at-other w.standings k j (Some s) None far) ∙ was
   ];
   slots = ap length is ∙ length-set w.standings k (Some s);
