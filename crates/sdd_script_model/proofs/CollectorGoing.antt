@@ -1,5 +1,5 @@
 -- What is always true of a desk is true after a collector is closed, where no guard is open
-use Rattle.std.proofs.Common.{◌≡◌, ℕ, ◌≤◌, true, false, if◌then◌else◌, List, [], Option, Some, None, IsSome, length, map, slice_index, slice_set, refl, sym, ap, ◌∙◌, subst, lt-ltb, arith}
+use Rattle.std.proofs.Common.{◌≡◌, ℕ, ◌≤◌, true, false, if◌then◌else◌, List, [], Option, Some, None, IsSome, length, slice_index, slice_set, refl, sym, ap, ◌∙◌, subst, lt-ltb, arith}
 use Rattle.std.specs.Prelude.{Contains}
 use Rattle.std.specs.List.Sorted.{IsPermutation, IsNonDecreasingBy}
 use Rattle.sdd_participants.specs.Slab.{entry_at}

@@ -1,5 +1,5 @@
 -- What is always true of a desk is true after each call
-use Rattle.std.proofs.Common.{◌≡◌, ℕ, zero, suc, ◌+◌, ◌^◌, ◌<◌, ◌≤◌, Bool, true, false, nat_lt, if◌then◌else◌, List, Option, Some, None, IsSome, is_some, map, length, count_by, slice_index, slice_index_or, slice_set, inl, inr, refl, sym, ap, ◌∙◌, arith}
+use Rattle.std.proofs.Common.{◌≡◌, ℕ, zero, suc, ◌+◌, ◌<◌, ◌≤◌, Bool, true, false, nat_lt, if◌then◌else◌, List, Option, Some, None, IsSome, is_some, map, length, count_by, slice_index, slice_index_or, slice_set, inl, inr, refl, sym, ap, ◌∙◌, arith}
 use Rattle.std.specs.Prelude.{All, Contains, IsTrue, replicate, ◌↔◌}
 use Rattle.std.specs.List.Sorted.{IsPermutation, IsNonDecreasingBy, IsStrictlyIncreasing}
 use Rattle.std.proofs.lemmas.List.{length_push, length-replicate}
@@ -278,7 +278,7 @@ module _ (d : ScriptState) (s : IsSound d) where
 
     -- ---- an item is made
     module _ (own : OwnerKind) (value : Value) (p k c : ℕ) (v : Val) (live : IsPlaceOf d.world p) (cell : IsEmptyAt d.world.cells c)
-        (slot : IsEmptyAt d.world.standings k) (put : IsPutIn d value (body_of v)) (link : link_of v ≡ c) (few : length d.slots + 1 < 2 ^ 128) where
+        (slot : IsEmptyAt d.world.standings k) (put : IsPutIn d value (body_of v)) (link : link_of v ≡ c) where
       abbrev after_made : ScriptState
       after_made =
           with_owner (in_world (with_item (put_in d value) k) (made_as (nulled d.world c) k v (standing_first own))) (holding_first own k d.world.home.slots)

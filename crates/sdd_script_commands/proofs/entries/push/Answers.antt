@@ -105,7 +105,7 @@ pushed c =
     (ap (λ (n : ℕ). slice_set c.stage.inside.hand.names.items c.slot_of_share-slot.result (Some n)) next
     ∙ ap (λ k. slice_set c.stage.inside.hand.names.items k (Some (length c.stage.inside.hand.slots.items))) slot)
     (rw c.as_slice.ensures.value at c.date_new.ensures.dated, c.date_new.ensures.long)
-    (omega (arith, next, c.len-item.type_inv)) (c.give-name.ensures.name ∙ ap length c.make_room.ensures.kept) next
+    (c.give-name.ensures.name ∙ ap length c.make_room.ensures.kept) next
 
 pub invariant_of-stage-2 : goal.invariant_of-stage-2
 invariant_of-stage-2 c = (pushed c).0

@@ -65,7 +65,7 @@ made c =
     m.6 m.4 m.5 m.7 m.8 m.9 m.3 c.give-name.ensures.given (rw (c.reserve.ensures.items, slot) at c.push_reserved.ensures.items)
     (ap (λ (n : ℕ). slice_set c.stage.inside.hand.names.items c.slot-slot.result (Some n)) next
     ∙ ap (λ k. slice_set c.stage.inside.hand.names.items k (Some (length c.stage.inside.hand.slots.items))) slot)
-    (omega (arith, next, c.len-item.type_inv)) (c.give-name.ensures.name ∙ long ∙ ap length c.make_room.ensures.kept) next
+    (c.give-name.ensures.name ∙ long ∙ ap length c.make_room.ensures.kept) next
 
 pub invariant_of-stage-2 : goal.invariant_of-stage-2
 invariant_of-stage-2 c = (made c).0
