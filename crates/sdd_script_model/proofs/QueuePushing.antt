@@ -40,7 +40,7 @@ use Rattle.sdd_script_model.proofs.StackGoing.{IsDatedWithin}
 use Rattle.sdd_script_model.proofs.StackPushing.{after_entered, clear-mid, entered-leaves, link-off, link-off_all, list-mid, made, mid, mid-whole, number-in, stands-once, there-mid}
 
 -- entries stay linked where their links stay as they are
-linked-where : (v w : World Val) → w.values ≡ v.values → (gs : List (Entry Val)) → AreLinked link_of v gs →
+pub linked-where : (v w : World Val) → w.values ≡ v.values → (gs : List (Entry Val)) → AreLinked link_of v gs →
     ((j : ℕ) (z : Val) → IsAmong j gs → value_at v j ≡ Some z → entry_at w.cells (link_of z) ≡ entry_at v.cells (link_of z)) → AreLinked link_of w gs
 linked-where v w values [] linked still = tt
 linked-where v w values (g ∷ gs) linked still = (
@@ -297,7 +297,7 @@ module _ (d : ScriptState) (s : IsSound d) (whole : IsWhole d.world) (p : ℕ) (
 
   -- ---- the second cell is put back
 
-  done : IsMidway entered w (named entered)
+  pub done : IsMidway entered w (named entered)
   done =
       second-back entered sound-in whole-in n q is.oldest is.newest
       (midway (subst (λ (u : World Val). IsBetween without_second u rest) last-is with-last) lists-now)

@@ -11,9 +11,9 @@ use Rattle.sdd_standings.specs.Slots.{IsSharedBy, is_waiting}
 use Rattle.sdd_space.specs.OwnerOrCell.{OwnerOrCell}
 use Rattle.sdd_space.specs.OwnerOrCell as holding
 use Rattle.sdd_space.specs.Ledger.{Claim, owner_of, one}
-use Rattle.sdd_space.specs.Ledger.Moves.{shares}
+use Rattle.sdd_space.specs.Ledger.Moves.{releases, retires, shares}
 use Rattle.sdd_space.specs.World.{World, IsPlaceOf, standing_at, value_at}
-use Rattle.sdd_space.specs.WorldChanges.{made_as, nulled, with_cell, with_standing}
+use Rattle.sdd_space.specs.WorldChanges.{made_as, nulled, owner_given, with_cell, with_standing}
 use Rattle.sdd_space.specs.WorldInvariant.{IsWhole}
 use Rattle.sdd_space.proofs.Ledger.{ledger-laws}
 use Rattle.sdd_space.proofs.Whole.{filled-there}
@@ -29,10 +29,11 @@ use Rattle.sdd_script_model.specs.Listed.{Begins, IsListed, IsNumber}
 use Rattle.sdd_script_model.specs.Script.{AreCalls}
 use Rattle.sdd_script_model.specs.Script.AreCalls.{none as no_call, one_more}
 use Rattle.sdd_script_model.specs.ScriptState.{ScriptState, IsDated, IsListCell, IsSecondCell, in_world, with_item, with_owner}
-use Rattle.sdd_script_model.specs.Sound.{IsSound, contained, named}
+use Rattle.sdd_script_model.specs.Sound.{IsSound, contained, named, named_among}
 use Rattle.sdd_script_model.specs.Stacks.{IsStack, Pushes}
 use Rattle.sdd_script_model.specs.Val.{Val, body_of, holdings_of, link_of}
-use Rattle.sdd_script_model.proofs.Chains.{IsMidway, LeavesSound, finishes, moves, starts}
+use Rattle.sdd_script_model.proofs.Attending.{keeps-live}
+use Rattle.sdd_script_model.proofs.Chains.{AtHome, IsMidway, LeavesSound, finishes, midway-as, moves, starts}
 use Rattle.sdd_script_model.proofs.Counting.{owner-given}
 use Rattle.sdd_script_model.proofs.Entry.{at-other, at-same}
 use Rattle.sdd_script_model.proofs.Entry.{inside as inside-list}
@@ -142,18 +143,43 @@ module _ (d : ScriptState) (s : IsSound d) (whole : IsWhole d.world) (p : ℕ) (
     | inr far ↦ ap is_waiting (at-other d.world.standings k j (Some (Shared 1)) None far)
   ]
 
+  -- in which these owners have names in the end
+  module _ (w : World Val) (dates : List ℕ) (owners : List (Option OwnerOrCell)) where
+    abbrev after_put : ScriptState
+    after_put = record (in_world (with_item d k) w) { owners = owners; dates = dates }
+
+    pub put-leaves : {outside : Claim → ℕ} → IsMidway mid w outside → ((u : Claim) → named_among owners d.cells d.collectors u ≡ outside u) →
+        AtHome d.world.home owners → IsDatedWithin d after_put → LeavesSound d after_put
+    put-leaves done same home within =
+        let long = done.frames.slots.slots ∙ length-set d.world.standings k (Some (Shared 1)) in
+        let dated = dated-all d after_put s.stocked long within in
+        let later : IsDated mid after_put = record { dated = λ j. rw (waits-as j) (dated.dated j); long = dated.long } in
+        leaves-then made
+        (finishes mid w owners mid.cells mid.collectors dates made.sound done
+        same (home, made.sound.home.cells, made.sound.home.collectors) later p live) dated
+
+  -- the owner has its name
   module _ (w : World Val) (dates : List ℕ) where
     abbrev pub after_entered : ScriptState
     after_entered = record (with_owner (in_world (with_item d k) w) owner) { dates = dates }
 
     pub entered-leaves : IsMidway mid w (named mid) → IsDatedWithin d after_entered → LeavesSound d after_entered
-    entered-leaves done within =
-        let long = done.frames.slots.slots ∙ length-set d.world.standings k (Some (Shared 1)) in
-        let dated = dated-all d after_entered s.stocked long within in
-        let later : IsDated mid after_entered = record { dated = λ j. rw (waits-as j) (dated.dated j); long = dated.long } in
-        leaves-then made
-        (finishes mid w mid.owners mid.cells mid.collectors dates made.sound done
-        (λ u. refl) (made.sound.home.owners, made.sound.home.cells, made.sound.home.collectors) later p live) dated
+    entered-leaves done within = put-leaves w dates mid.owners done (λ u. refl) made.sound.home.owners within
+
+  -- or it is given up
+  pub given-up : (u : World Val) → IsMidway mid u (named mid) → IsMidway mid (owner_given u p k (standing_at u k)) (named d)
+  given-up u m =
+      let live_there = keeps-live m.frames.passes.guards p live in
+      let mine = owner-given d.owners d.cells d.collectors owner k refl in
+      let stands = ((ledger-laws holdings_of u).tells _ m.ledger).stands k (omega (arith, mine (owner_of k), same-once k)) in
+      elim stands [
+        | inl owned ↦
+            subst (λ (x : Option Standing). IsMidway mid (owner_given u p k x) (named d)) (sym owned.0)
+            (midway-as (moves m (retires u p k live_there owned.0) tt (named d) mine (λ y never. absurd never)) (λ y. omega arith))
+        | inr several ↦
+            subst (λ (x : Option Standing). IsMidway mid (owner_given u p k x) (named d)) (sym several.1)
+            (midway-as (moves m (releases u p k several.0 live_there several.1) tt (named d) mine (λ y never. absurd never)) (λ y. omega arith))
+      ]
 
 -- ---- a push
 

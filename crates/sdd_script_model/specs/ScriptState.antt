@@ -189,6 +189,15 @@ without_owner d o = record d { owners = slice_set d.owners o None }
 abbrev pub with_item : ScriptState → ℕ → ScriptState
 with_item d k = record d { slots = d.slots ++ k ∷ []; names = slice_set d.names k (Some (length d.slots)) }
 
+-- these slots, in order, have items with the next names
+abbrev pub names_from : List (Option ℕ) → (next : ℕ) → List ℕ → List (Option ℕ)
+names_from names next [] = names
+names_from names next (k ∷ ks) = names_from (slice_set names k (Some next)) (next + 1) ks
+
+-- the next items are in these slots, in order
+abbrev pub with_items : ScriptState → List ℕ → ScriptState
+with_items d ks = record d { slots = d.slots ++ ks; names = names_from d.names (length d.slots) ks }
+
 -- the next job is in place k of the table of jobs, since this line
 abbrev pub with_job : ScriptState → ℕ → ScriptState
 with_job d k =
