@@ -1,35 +1,44 @@
 -- What is always true of a desk is true after a new queue or stack is filled with numbers, each of which it owns alone
-use Rattle.std.proofs.Common.{◌≡◌, ◌≢◌, ◌⊎◌, ◌+◌, inl, inr, ℕ, List, [], ◌∷◌, ◌++◌, Option, Some, None, length, slice_index_or, slice_set, refl, sym, ap, ◌∙◌, subst, true, arith}
+use Rattle.std.proofs.Common.{◌≡◌, ◌≢◌, ◌⊎◌, ◌+◌, inl, inr, ℕ, List, [], ◌∷◌, ◌++◌, Option, Some, None, length, map, slice_index_or, slice_set, refl, sym, ap, ◌∙◌, append_assoc, append-nil, subst, true, arith}
 use Rattle.std.proofs.lemmas.Bool.{cases_eq, false≢true}
+use Rattle.std.proofs.lemmas.List.{length-append, map-append}
 use Rattle.sdd_core.specs.declared.tag.Tag.TheVariants.{None as no_tag}
-use Rattle.sdd_participants.specs.declared.standing.Standing.TheVariants.{Shared}
+use Rattle.sdd_participants.specs.declared.standing.Standing.TheVariants.{Shared as shared_by}
 use Rattle.sdd_standings.specs.Slots.{is_waiting}
 use Rattle.sdd_space.specs.Ledger.{Claim}
 use Rattle.sdd_space.specs.World.{World, IsPlaceOf, standing_at}
+use Rattle.sdd_space.specs.Shared.{slot_of}
 use Rattle.sdd_space.specs.WorldChanges.{made_as, nulled, owner_given, spilled, with_cell}
 use Rattle.sdd_space.specs.WorldInvariant.{IsWhole}
 use Rattle.sdd_space.proofs.Ledger.{ledger-laws}
 use Rattle.sdd_lists.specs.Ends.{IsAmong, appended, through_last}
 use Rattle.sdd_lists.specs.Lists.{Entry}
-use Rattle.sdd_lists.specs.Queue.{IsNoneOrAmong, QueueCells, made_newest}
+use Rattle.sdd_lists.specs.Queue.{IsNoneOrAmong, IsQueue, QueueCells, made_newest}
+use Rattle.sdd_lists.specs.QueueFilling.{AddsAllBehind, AddsBehind, adds_behind, begins_behind}
+use Rattle.sdd_lists.specs.StackCloning.{AppendsAll, AppendsTo, appends, starts as starts_stack}
 use Rattle.sdd_lists.proofs.Ending.{among-last}
 use Rattle.sdd_lists.proofs.Lists.{bare, list-same}
-use Rattle.sdd_script_model.specs.Listed.{Begins, IsListed}
+use Rattle.sdd_script_model.specs.declared.val.Body.{Body}
+use Rattle.sdd_script_model.specs.declared.val.Body.TheVariants.{Number, Owned, Shared}
+use Rattle.sdd_script_model.specs.Listed.{Begins, IsListed, IsNumber}
 use Rattle.sdd_script_model.specs.Queues.{Enqueues, IsNamedQueue}
-use Rattle.sdd_script_model.specs.ScriptState.{ScriptState, IsListCell, in_world, names_from, with_item}
+use Rattle.sdd_script_model.specs.ScriptState.{ScriptState, IsListCell, holding_at, in_world, names_from, shared_cell, with_item, with_items}
+use Rattle.sdd_script_model.specs.Script.AreCalls.{none as no_call}
 use Rattle.sdd_script_model.specs.Sound.{IsSound, contained, named}
 use Rattle.sdd_script_model.specs.Stacks.{Appends, IsStack}
 use Rattle.sdd_script_model.specs.Val.{Val, holdings_of, link_of}
+use Rattle.sdd_script_model.proofs.Attending.{keeps-live}
 use Rattle.sdd_script_model.proofs.Chains.{IsMidway, LeavesSound}
 use Rattle.sdd_script_model.proofs.Dates.{dated-kept}
+use Rattle.sdd_script_model.proofs.Due.{whole-calls}
 use Rattle.sdd_script_model.proofs.Entry.{at-other}
 use Rattle.sdd_script_model.proofs.Gone.{given-other}
 use Rattle.sdd_script_model.proofs.Listed.{listed-inside}
-use Rattle.sdd_script_model.proofs.Plain.{ArePlain, appended-plain, through-plain}
+use Rattle.sdd_script_model.proofs.Plain.{ArePlain, appended-plain, plain-last, through-plain}
 use Rattle.sdd_script_model.proofs.QueueEnds.{among-before}
 use Rattle.sdd_script_model.proofs.QueuePushing as pushing
 use Rattle.sdd_script_model.proofs.StackAppending as appending
-use Rattle.sdd_script_model.proofs.StackPushing.{given-up, mid, put-leaves}
+use Rattle.sdd_script_model.proofs.StackPushing.{given-up, leaves-then, mid, put-leaves}
 
 -- ---- names in order
 
@@ -97,12 +106,12 @@ module _ (d : ScriptState) (s : IsSound d) (whole : IsWhole d.world) (p : ℕ) (
   stands-queue : (j : ℕ) → j ≢ k → second ≢ Some j → standing_at given j ≡ standing_at d.world j
   stands-queue j far off =
       let v : World Val = nulled d.world (link_of x) in
-      let fresh : World Val = with_cell (made_as v k x (Shared 3)) q.newest (record { held = Some k; tag = no_tag }) in
+      let fresh : World Val = with_cell (made_as v k x (shared_by 3)) q.newest (record { held = Some k; tag = no_tag }) in
       given-other w p k j (standing_at w k) refl far
       ∙ ap (λ (u : World Val). standing_at u j) puts.pushed.world
       ∙ ap (λ ss. slice_index_or ss j None) (appended-plain (made_newest v p q.newest k x second) p q.oldest no_tag es (link_of x) k plain)
       ∙ spilled-other fresh p second j off
-      ∙ at-other d.world.standings k j (Some (Shared 3)) None far
+      ∙ at-other d.world.standings k j (Some (shared_by 3)) None far
 
   idle-queue : StillIdle d given
   idle-queue j =
@@ -142,12 +151,12 @@ module _ (d : ScriptState) (s : IsSound d) (whole : IsWhole d.world) (p c : ℕ)
 
   stands-stack : (j : ℕ) → j ≢ k → standing_at w j ≡ standing_at d.world j
   stands-stack j far =
-      let u : World Val = made_as (nulled d.world (link_of y)) k y (Shared 2) in
+      let u : World Val = made_as (nulled d.world (link_of y)) k y (shared_by 2) in
       let last : World Val = appended link_of u p c no_tag es (link_of y) k in
       ap (λ (v : World Val). standing_at v j) puts.appended.world
       ∙ given-other last p k j (standing_at last k) refl far
       ∙ ap (λ ss. slice_index_or ss j None) (appended-plain u p c no_tag es (link_of y) k plain)
-      ∙ at-other d.world.standings k j (Some (Shared 2)) None far
+      ∙ at-other d.world.standings k j (Some (shared_by 2)) None far
 
   idle-stack : StillIdle d w
   idle-stack j =
@@ -163,3 +172,126 @@ module _ (d : ScriptState) (s : IsSound d) (whole : IsWhole d.world) (p c : ℕ)
       let dated = dated-kept d new refl idle-stack in
       put-leaves d s whole p live number k y puts.free puts.appended.free puts.body w d.dates d.owners midway-stack (λ u. refl) s.home.owners
       ((λ j lt. dated.dated j), dated.long)
+
+-- ---- one after another
+
+-- all of these are numbers
+abbrev pub AreAllNumbers : List Body → Type 0
+AreAllNumbers [] = Unit {0}
+AreAllNumbers (b ∷ bs) = IsNumber b × AreAllNumbers bs
+
+all-before : (xs : List Body) (x : Body) → AreAllNumbers (xs ++ x ∷ []) → AreAllNumbers xs × IsNumber x
+all-before [] x all = (tt, all.0)
+all-before (y ∷ ys) x all = let more = all-before ys x all.1 in ((all.0, more.0), more.1)
+
+module _ (d : ScriptState) (s : IsSound d) (whole : IsWhole d.world) (p : ℕ) (live : IsPlaceOf d.world p) where
+  -- what the line has by then, whose entries are these
+  abbrev pub filled_with : World Val → List (Entry Val) → ScriptState
+  filled_with w es = in_world (with_items d (map (λ (e : Entry Val). e.slot) es)) w
+
+  pub record IsFilled (w : World Val) (es : List (Entry Val)) : Type 0 where
+    pub leaves : LeavesSound d (filled_with w es)
+    pub plain : ArePlain es
+    pub idle : StillIdle d w
+    pub placed : IsPlaceOf w p
+
+  pub not-filled : IsFilled d.world []
+  not-filled = record {
+    leaves = subst (λ (e : ScriptState). LeavesSound d e)
+        (ap (λ (ks : List ℕ). record d { slots = ks }) (sym (append-nil d.slots)))
+        (record { line = refl; places = refl; sound = s; dated = dated-kept d d refl (λ j waits. waits); calls = no_call d.world; home = refl });
+    plain = tt;
+    idle = λ j waits. waits;
+    placed = live;
+  }
+
+  -- one more
+  still-whole : (v : World Val) (es : List (Entry Val)) → IsFilled v es → IsWhole v
+  still-whole v es was = whole-calls was.leaves.calls whole
+
+  module _ (v w : World Val) (es : List (Entry Val)) (was : IsFilled v es) (k : ℕ) (x : Val) where
+    abbrev entry-last : Entry Val
+    entry-last = record { slot = k; value = x; tag = no_tag }
+
+    same-items : with_item (filled_with v es) k ≡ in_world (with_items d (map (λ (e : Entry Val). e.slot) (es ++ entry-last ∷ []))) v
+    same-items =
+        let ks = map (λ (e : Entry Val). e.slot) es in
+        ap (λ (ns : List (Option ℕ)). record (in_world d v) { slots = (d.slots ++ ks) ++ k ∷ []; names = ns })
+        (ap (λ (m : ℕ). slice_set (names_from d.names (length d.slots) ks) k (Some m)) (length-append d.slots ks)
+        ∙ sym (names-last d.names (length d.slots) ks k))
+        ∙ ap (λ (js : List ℕ). record (in_world d v) { slots = js; names = names_from d.names (length d.slots) (ks ++ k ∷ []) }) (append_assoc d.slots ks (k ∷ []))
+        ∙ ap (λ (js : List ℕ). in_world (with_items d js) v) (sym (map-append (λ (e : Entry Val). e.slot) es (entry-last ∷ [])))
+
+    pub filled-more : LeavesSound (filled_with v es) (in_world (with_item (filled_with v es) k) w) → StillIdle (filled_with v es) w → IsPlaceOf w p →
+        IsFilled w (through_last es ++ entry-last ∷ [])
+    filled-more more idle there =
+        let through = through-plain es was.plain in
+        subst (λ (fs : List (Entry Val)). IsFilled w (fs ++ entry-last ∷ [])) (sym through) (record {
+          leaves =
+              let new = filled_with w (es ++ entry-last ∷ []) in
+              leaves-then was.leaves (subst (λ (e : ScriptState). LeavesSound (filled_with v es) (in_world e w)) same-items more)
+              (dated-kept d new refl (λ j waits. was.idle j (idle j waits)));
+          plain = plain-last es entry-last was.plain refl;
+          idle = λ j waits. was.idle j (idle j waits);
+          placed = there;
+        })
+
+  -- a queue that has no entries is filled
+  module _ (n : ℕ) (q : QueueCells) (oldest : shared_cell (holding_at d.queues n) ≡ Some q.oldest) (newest : shared_cell (holding_at d.newest n) ≡ Some q.newest)
+      (empty : IsQueue link_of d.world q [] None) where
+    one-behind : (v w : World Val) (es fs : List (Entry Val)) (second held : Option ℕ) (x : Body) → IsFilled v es → IsQueue link_of v q es second →
+        IsNumber x → AddsBehind v p q es second x w fs held → IsFilled w fs × IsQueue link_of w q fs held
+    one-behind v w es fs second held (Number m) was queue number adds =
+        let e = filled_with v es in
+        let k = slot_of adds.owner in
+        let puts : Enqueues v p q es second m k adds.between =
+        record { entry = adds.pushes.entry; body = adds.pushes.value; free = adds.pushes.link; pushed = adds.pushes.queue } in
+        let is : IsNamedQueue e n q es second = record { oldest = oldest; newest = newest; queue = queue } in
+        let sound = was.leaves.sound in
+        let now = still-whole v es was in
+        let more = queue-leaves e sound now p was.placed n q es second is was.plain m k adds.between puts in
+        let idle = idle-queue e sound now p was.placed n q es second is was.plain m k adds.between puts in
+        let there = keeps-live (midway-queue e sound now p was.placed n q es second is was.plain m k adds.between puts).frames.passes.guards p was.placed in
+        let filled = filled-more v (owner_given adds.between p k (standing_at adds.between k)) es was k adds.pushes.entry more idle there in
+        let gs : List (Entry Val) = through_last es ++ record { slot = k; value = adds.pushes.entry; tag = no_tag } ∷ [] in (
+          subst (λ (hs : List (Entry Val)). IsFilled w hs) (sym adds.entries) (subst (λ (u : World Val). IsFilled u gs) (sym adds.world) filled),
+          adds.queue,
+        )
+    one-behind v w es fs second held (Owned o) was queue number adds = absurd number
+    one-behind v w es fs second held (Shared o) was queue number adds = absurd number
+
+    pub fills-queue : {xs : List Body} {w : World Val} {fs : List (Entry Val)} {held : Option ℕ} → AddsAllBehind p q d.world [] None xs w fs held →
+        AreAllNumbers xs → IsFilled w fs × IsQueue link_of w q fs held
+    fills-queue begins_behind all = (not-filled, empty)
+    fills-queue (adds_behind ys v new gs hs was holds x before adds) all =
+        let both = all-before ys x all in
+        let so_far = fills-queue before both.0 in
+        one-behind v new gs hs was holds x so_far.0 so_far.1 both.1 adds
+
+  -- and so is a stack
+  module _ (n c : ℕ) (begins : shared_cell (holding_at d.stacks n) ≡ Some c) (empty : Begins d.world c []) where
+    one-appended : (v w : World Val) (es fs : List (Entry Val)) (x : Body) → IsFilled v es → Begins v c es → IsNumber x →
+        AppendsTo v p c es x w fs → IsFilled w fs × Begins w c fs
+    one-appended v w es fs (Number m) was list number adds =
+        let e = filled_with v es in
+        let puts : Appends v p c es m adds.slot w = record { entry = adds.entry; body = adds.value; free = adds.free; appended = adds.last } in
+        let is : IsStack e n c es = record { named = begins; list = list } in
+        let sound = was.leaves.sound in
+        let now = still-whole v es was in
+        let more = stack-leaves e sound now p c was.placed n es is was.plain m adds.slot w puts in
+        let idle = idle-stack e sound now p c was.placed n es is was.plain m adds.slot w puts in
+        let there = keeps-live (midway-stack e sound now p c was.placed n es is was.plain m adds.slot w puts).frames.passes.guards p was.placed in
+        let filled = filled-more v w es was adds.slot adds.entry more idle there in (
+          subst (λ (gs : List (Entry Val)). IsFilled w gs) (sym adds.entries) filled,
+          subst (λ (gs : List (Entry Val)). Begins w c gs) (sym adds.entries) adds.last.list,
+        )
+    one-appended v w es fs (Owned o) was list number adds = absurd number
+    one-appended v w es fs (Shared o) was list number adds = absurd number
+
+    pub fills-stack : {xs : List Body} {w : World Val} {fs : List (Entry Val)} → AppendsAll p c d.world [] xs w fs → AreAllNumbers xs →
+        IsFilled w fs × Begins w c fs
+    fills-stack starts_stack all = (not-filled, empty)
+    fills-stack (appends ys v new gs hs x before adds) all =
+        let both = all-before ys x all in
+        let so_far = fills-stack before both.0 in
+        one-appended v new gs hs x so_far.0 so_far.1 both.1 adds
