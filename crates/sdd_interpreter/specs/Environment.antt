@@ -89,10 +89,10 @@ date_now w waited line dates s =
     if is_waiting (standing_at w s) then (if slice_index_or waited s false then slice_index dates s else line) else slice_index dates s
 
 -- the slot of the owner that a body is has an item with a name
-abbrev pub SlotInside : List ℕ → Body → Type 0
-SlotInside names (body.Number n) = Unit {0}
-SlotInside names (body.Owned o) = owned.slot_of o < length names
-SlotInside names (body.Shared o) = shared.slot_of o < length names
+abbrev pub IsOfNamed : List (Option ℕ) → Body → Type 0
+IsOfNamed names (body.Number n) = Unit {0}
+IsOfNamed names (body.Owned o) = IsSome (slice_index_or names (owned.slot_of o) None)
+IsOfNamed names (body.Shared o) = IsSome (slice_index_or names (shared.slot_of o) None)
 
 -- what a value takes of these owners is not there
 abbrev pub IsMissing : List (Option AnyOwner) → Value → Type 0
@@ -106,12 +106,12 @@ BecomesBody owners (Of o) new b =
     (owner : AnyOwner) × (slice_index_or owners o.0 None ≡ Some owner) × (owner_in b ≡ owner_holding owner ∷ []) × (new ≡ slice_set owners o.0 None)
 
 -- an item is there, and did not begin to wait before this line
-pub record CanPointAt (w : World Val) (slots names dates : List ℕ) (i since : ℕ) : Type 0 where
-  pub last : slice_index names (slice_index_or slots i 0) ≡ i
+pub record CanPointAt (w : World Val) (slots : List ℕ) (names : List (Option ℕ)) (dates : List ℕ) (i since : ℕ) : Type 0 where
+  pub last : slice_index_or names (slice_index_or slots i 0) None ≡ Some i
   pub taken : IsSome (standing_at w (slice_index_or slots i 0))
   pub fresh : IsTrue (is_waiting (standing_at w (slice_index_or slots i 0))) → since ≤ slice_index dates (slice_index_or slots i 0)
 
 -- an item that an exchange compares with is so; to null anybody can point
-abbrev pub CanCompareAt : World Val → (slots names dates : List ℕ) → Option ItemName → (since : ℕ) → Type 0
+abbrev pub CanCompareAt : World Val → (slots : List ℕ) (names : List (Option ℕ)) (dates : List ℕ) → Option ItemName → (since : ℕ) → Type 0
 CanCompareAt w slots names dates None since = Unit {0}
 CanCompareAt w slots names dates (Some i) since = CanPointAt w slots names dates i.0 since

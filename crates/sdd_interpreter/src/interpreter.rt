@@ -28,8 +28,8 @@ pub struct Environment {
     pub stacks: NameTable<Stack<Body>>,
     /// Of each item its slot.
     pub slots: Vec<u32>,
-    /// Of each slot the name of the item that it had last.
-    pub names: Vec<u64>,
+    /// Of each slot the name of the item that it had last, if that had one.
+    pub names: Vec<Option<u64>>,
     /// Of each slot the line in which its item began to wait.
     pub dates: Vec<u64>,
     /// How many jobs there were.
@@ -74,7 +74,7 @@ impl Interpreter {
         if !limits.are_in_range() {
             return Err(Refused::BadLimits);
         }
-        let names = vec![in alloc; 0; limits.slots as usize]?;
+        let names = vec![in alloc; None; limits.slots as usize]?;
         let dates = vec![in alloc; 0; limits.slots as usize]?;
         let deferred = vec![in alloc; 0; limits.jobs as usize]?;
         let job_dates = vec![in alloc; 0; limits.jobs as usize]?;

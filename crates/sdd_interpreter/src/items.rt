@@ -5,9 +5,9 @@ ghost use Rattle.std.specs.Option.{option_map};
 ghost use Rattle.sdd_space.specs.World.{World, standing_at, value_at};
 ghost use Rattle.sdd_standings.specs.Slots.{is_waiting};
 ghost use Rattle.sdd_script_model.specs.Val.{Val, body_of};
-ghost use Rattle.sdd_script_model.specs.Shown.{told_of, item_in};
+ghost use Rattle.sdd_script_model.specs.Shown.{told_of, item_in, names_in};
 ghost use Rattle.sdd_script_model.specs.Listed.{IsNumber};
-ghost use Rattle.sdd_interpreter.specs.Environment.{date_now, SlotInside, CanPointAt, CanCompareAt, dated_if_waiting};
+ghost use Rattle.sdd_interpreter.specs.Environment.{date_now, IsOfNamed, CanPointAt, CanCompareAt, dated_if_waiting};
 ghost use Rattle.sdd_script_model.specs.Held.{owners_in, slots_among, slots_waiting_for, waits_among, slot_held};
 ghost use Rattle.sdd_script_model.specs.declared.val.Body.TheVariants.{Number};
 ghost use Rattle.sdd_script_text.specs.declared.name.ItemName.{ItemName as Named};
@@ -26,14 +26,25 @@ use sdd_world::inner::{standing_of, value_in};
 use std::alloc::{AllocError, Global};
 
 /// What the value of an item holds, as a reply.
-pub fn told(value: &Val, names: &[u64]) -> Reply
-    requires { SlotInside names.now (body_of value.now) }
+pub fn told(value: &Val, names: &[Option<u64>]) -> Reply
+    requires { IsOfNamed names.now (body_of value.now) }
     ensures { result ≡ told_of names.now (body_of value.now) }
 {
     match value.as_ref() {
         Body::Number(number) => Reply::Value(*number),
-        Body::Owned(owner) => Reply::Holding(ItemName(names[slot_of_sole(owner) as usize])),
-        Body::Shared(owner) => Reply::Holding(ItemName(names[slot_of_share(owner) as usize])),
+        Body::Owned(owner) => Reply::Holding(item_at(names, slot_of_sole(owner))),
+        Body::Shared(owner) => Reply::Holding(item_at(names, slot_of_share(owner))),
+    }
+}
+
+/// The item that a slot had last, which has a name.
+pub fn item_at(names: &[Option<u64>], slot: u32) -> ItemName
+    requires { IsSome (slice_index_or names.now slot None) }
+    ensures { result ≡ item_in names.now slot }
+{
+    match names[slot as usize] {
+        Some(item) => ItemName(item),
+        None => unreachable!(),
     }
 }
 
@@ -41,21 +52,21 @@ pub fn told(value: &Val, names: &[u64]) -> Reply
 pub fn slot_since(
     world: &World<Val>,
     slots: &[u32],
-    names: &[u64],
+    names: &[Option<u64>],
     dates: &[u64],
     item: ItemName,
     since: u64,
 ) -> Option<u32>
     requires names { length names.now ≡ length world.now.standings }
     requires dates { length dates.now ≡ length world.now.standings }
-    requires inside { (s : ℕ) → IsSome (standing_at world.now s) → slice_index names.now s < length slots.now }
+    requires inside { (s : ℕ) → IsSome (standing_at world.now s) → IfSome (slice_index_or names.now s None) (λ i. i < length slots.now) }
     ensures { MatchOption result
         (¬ (CanPointAt world.now slots.now names.now dates.now item.0 since))
         (λ slot. CanPointAt world.now slots.now names.now dates.now item.0 since × (slot ≡ slice_index_or slots.now item.0 0)) }
 {
     let index = usize::try_from(item.0).ok()?;
     let slot = *slots.get(index)?;
-    if *names.get(slot as usize)? != item.0 || standing_of(world, slot).is_none() {
+    if *names.get(slot as usize)? != Some(item.0) || standing_of(world, slot).is_none() {
         return None;
     }
     if is_waiting(world, slot) && dates[slot as usize] < since {
@@ -68,14 +79,14 @@ pub fn slot_since(
 pub fn slot_compared(
     world: &World<Val>,
     slots: &[u32],
-    names: &[u64],
+    names: &[Option<u64>],
     dates: &[u64],
     item: Option<ItemName>,
     since: u64,
 ) -> Option<Option<SlotName>>
     requires names { length names.now ≡ length world.now.standings }
     requires dates { length dates.now ≡ length world.now.standings }
-    requires inside { (s : ℕ) → IsSome (standing_at world.now s) → slice_index names.now s < length slots.now }
+    requires inside { (s : ℕ) → IsSome (standing_at world.now s) → IfSome (slice_index_or names.now s None) (λ i. i < length slots.now) }
     ensures { MatchOption result
         (¬ (CanCompareAt world.now slots.now names.now dates.now item since))
         (λ slot. CanCompareAt world.now slots.now names.now dates.now item since
@@ -91,12 +102,11 @@ pub fn slot_compared(
 }
 
 /// The item that a slot had last, if it is that of one.
-pub fn item_seen(names: &[u64], slot: Option<SlotName>) -> Option<ItemName>
-    requires inside { IfSome slot (λ s. s < length names.now) }
+pub fn item_seen(names: &[Option<u64>], slot: Option<SlotName>) -> Option<ItemName>
+    requires named { IfSome slot (λ s. IsSome (slice_index_or names.now s None)) }
     ensures { result ≡ option_map (item_in names.now) slot }
 {
-    let slot = slot?.number();
-    Some(ItemName(names[slot as usize]))
+    Some(item_at(names, slot?.number()))
 }
 
 /// The item in a slot waits to be reclaimed.
@@ -182,16 +192,16 @@ fn waits_for(world: &World<Val>, slot: u32, collector: u32) -> bool
     }
 }
 
-/// The items that these slots had last, in ascending order, and the slots whose owners their values hold.
+/// The items with names that these slots had last, in ascending order, and the slots whose owners their values hold.
 pub fn items_in(
     alloc: Global,
     world: &World<Val>,
     slots: &[u32],
-    names: &[u64],
+    names: &[Option<u64>],
 ) -> Result<(Vec<ItemName>, Vec<u32>), AllocError>
     requires named { All (λ slot. slot < length names.now) slots.now }
     requires taken { All (λ slot. IsSome (value_at world.now slot)) slots.now }
-    ensures items { IfOk result (λ found. IsPermutation (map (item_in names.now) slots.now) found.0.items) }
+    ensures items { IfOk result (λ found. IsPermutation (names_in names.now slots.now) found.0.items) }
     ensures ascending { IfOk result (λ found. IsNonDecreasingBy (λ (i : Named). i.0) found.0.items) }
     ensures owners { IfOk result (λ found. found.1.items ≡ owners_in world.now slots.now) }
 {
@@ -201,14 +211,16 @@ pub fn items_in(
     Ok((items, owners))
 }
 
-/// The names of the items that these slots had last.
-fn names_of(alloc: Global, slots: &[u32], names: &[u64]) -> Result<Vec<ItemName>, AllocError>
+/// The names of the items that these slots had last, of those that had one.
+fn names_of(alloc: Global, slots: &[u32], names: &[Option<u64>]) -> Result<Vec<ItemName>, AllocError>
     requires inside { All (λ slot. slot < length names.now) slots.now }
-    ensures { IfOk result (λ found. found.items ≡ map (item_in names.now) slots.now) }
+    ensures { IfOk result (λ found. found.items ≡ names_in names.now slots.now) }
 {
     let mut found = Vec::with_capacity(alloc, slots.len())?;
     for slot in slots {
-        found.push_reserved(ItemName(names[*slot as usize]));
+        if let Some(item) = names[*slot as usize] {
+            found.push_reserved(ItemName(item));
+        }
     }
     Ok(found)
 }

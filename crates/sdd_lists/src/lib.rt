@@ -3,6 +3,7 @@
 
 mod asking;
 mod behind;
+pub mod clone_value;
 pub mod iter;
 pub mod laws;
 pub mod link;
@@ -19,6 +20,7 @@ pub mod unpopped;
 pub mod walk;
 mod walks;
 
+pub use clone_value::CloneValue;
 pub use iter::Iter;
 pub use link::Link;
 pub use linked_entry::LinkedEntry;

@@ -9,6 +9,7 @@ ghost use Rattle.sdd_space.specs.Shared.{cell_of, cells_home};
 ghost use Rattle.sdd_space.specs.WorldChanges.{cell_closed, nulled};
 ghost use Rattle.sdd_participants.specs.Slab.{IsEmptyAt, IsFull};
 
+use crate::clone_value::CloneValue;
 use crate::linked_list::LinkedList;
 use sdd_core::Refused;
 use sdd_space::{AtomicShared, Cells, Giver, Item, Items};
@@ -57,7 +58,7 @@ impl<T: Item<LinkedEntry<T>>> LinkedEntry<T> {
         s: &mut S,
     ) -> Result<LinkedEntry<T>, Refused>
     where
-        T: Clone,
+        T: CloneValue,
         requires seated { IsSeated (S.seat s.old) }
         ensures unmoved { Unmoved S.seat S.known S.shows s.old s.new }
         ensures own { KeepsMoreWaiting (S.own s.old) (S.own s.new) }
@@ -73,7 +74,7 @@ impl<T: Item<LinkedEntry<T>>> LinkedEntry<T> {
             Ok(next) => next,
             Err(refused) => return Err(refused),
         };
-        match self.instance.clone() {
+        match self.instance.clone_value() {
             Ok(instance) => Ok(LinkedEntry { instance, next }),
             Err(_) => {
                 next.close(s);

@@ -25,6 +25,7 @@ ghost use Rattle.sdd_lists.specs.Iter.{GivesInOrder, GoesInOrder, IsIterOf, spac
 ghost use Rattle.sdd_lists.specs.Lists.{Entry, content, first_slot, first_value, left};
 
 use crate::asking::{asks, asks_of_any};
+use crate::clone_value::CloneValue;
 use crate::iter::{Iter, iter_in};
 use crate::linked_entry::LinkedEntry;
 use crate::moves::{give_up, let_go_of_all};
@@ -366,7 +367,7 @@ impl<T: Item<LinkedEntry<T>>> Queue<T> {
             + LookThrough<LinkedEntry<T>>,
     >(&self, value: &T, guard: &Guard, s: &mut S) -> Result<(), (Option<T>, Refused)>
     where
-        T: Clone,
+        T: CloneValue,
         requires seated { IsSeated (S.seat s.old) }
         requires home { AreOfCells (S.seat s.old).home.cells self.now }
         requires values { (v : T) → T.is_clone value.now v → AreOf (S.seat s.old).home (T.holds v) }
@@ -385,7 +386,7 @@ impl<T: Item<LinkedEntry<T>>> Queue<T> {
         if let Err(refused) = has_room::<LinkedEntry<T>, S>(s) {
             return Err((None, refused));
         }
-        let copied = match value.clone() {
+        let copied = match value.clone_value() {
             Ok(copied) => copied,
             Err(_) => return Err((None, Refused::NoMemory)),
         };
@@ -404,7 +405,7 @@ impl<T: Item<LinkedEntry<T>>> Queue<T> {
             + LookThrough<LinkedEntry<T>>,
     >(&self, walk: Walk<'g, T>, guard: &'g Guard, s: &mut S) -> Result<(), (Option<T>, Refused)>
     where
-        T: Clone,
+        T: CloneValue,
         requires seated { IsSeated (S.seat s.old) }
         requires home { AreOfCells (S.seat s.old).home.cells self.now }
         requires walk { IsWalkOf (S.seat s.old).home.cells walk }
@@ -445,7 +446,7 @@ impl<T: Item<LinkedEntry<T>>> Queue<T> {
             + LookThrough<LinkedEntry<T>>,
     >(&self, guard: &Guard, s: &mut S) -> Result<Queue<T>, Unfinished<Queue<T>, T>>
     where
-        T: Clone,
+        T: CloneValue,
         requires seated { IsSeated (S.seat s.old) }
         requires home { AreOfCells (S.seat s.old).home.cells self.now }
         requires values { (u v : T) → T.is_clone u v → AreOf (S.seat s.old).home (T.holds v) }

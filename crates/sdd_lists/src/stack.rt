@@ -24,6 +24,7 @@ ghost use Rattle.sdd_lists.specs.Iter.{GivesInOrder, GoesInOrder, IsIterOf, spac
 ghost use Rattle.sdd_lists.specs.Lists.{Entry, Pops, content, emptied, first_slot, first_value, left};
 
 use crate::asking::{asks, asks_of_any};
+use crate::clone_value::CloneValue;
 use crate::iter::{Iter, iter_in};
 use crate::linked_entry::LinkedEntry;
 use crate::moves::{give_up, let_go_of_all, trim};
@@ -264,7 +265,7 @@ impl<T: Item<LinkedEntry<T>>> Stack<T> {
         s: &mut S,
     ) -> Result<Front<'g, LinkedEntry<T>>, (Option<T>, Refused)>
     where
-        T: Clone,
+        T: CloneValue,
         requires seated { IsSeated (S.seat s.old) }
         requires home { home_in self.now ≡ (S.seat s.old).home.cells }
         requires last { IfSome last (λ f. cells_home f.link.now ≡ (S.seat s.old).home.cells) }
@@ -283,7 +284,7 @@ impl<T: Item<LinkedEntry<T>>> Stack<T> {
         if let Err(refused) = has_room::<LinkedEntry<T>, S>(s) {
             return Err((None, refused));
         }
-        let copied = match value.clone() {
+        let copied = match value.clone_value() {
             Ok(copied) => copied,
             Err(_) => return Err((None, Refused::NoMemory)),
         };
@@ -302,7 +303,7 @@ impl<T: Item<LinkedEntry<T>>> Stack<T> {
             + LookThrough<LinkedEntry<T>>,
     >(&self, walk: Walk<'g, T>, guard: &'g Guard, s: &mut S) -> Result<(), (Option<T>, Refused)>
     where
-        T: Clone,
+        T: CloneValue,
         requires seated { IsSeated (S.seat s.old) }
         requires home { home_in self.now ≡ (S.seat s.old).home.cells }
         requires walk { IsWalkOf (S.seat s.old).home.cells walk }
@@ -342,7 +343,7 @@ impl<T: Item<LinkedEntry<T>>> Stack<T> {
             + LookThrough<LinkedEntry<T>>,
     >(&self, guard: &Guard, s: &mut S) -> Result<Stack<T>, Unfinished<Stack<T>, T>>
     where
-        T: Clone,
+        T: CloneValue,
         requires seated { IsSeated (S.seat s.old) }
         requires home { home_in self.now ≡ (S.seat s.old).home.cells }
         requires values { (u v : T) → T.is_clone u v → AreOf (S.seat s.old).home (T.holds v) }

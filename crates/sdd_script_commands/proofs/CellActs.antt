@@ -42,7 +42,7 @@ use Rattle.sdd_interpreter.specs.Interpreter.{desk_of, IsTied}
 use Rattle.sdd_script_commands.specs.ItemLines.{making_cell}
 use Rattle.sdd_interpreter.proofs.Acts.{Does, does, goes, leads, still, is, is-there, in_range}
 use Rattle.sdd_script_model.proofs.Counting.{IsPut}
-use Rattle.sdd_script_model.proofs.CellGoing.{after_celled, put-sole, put-shared, cell-there, held-inside, dates_spilled, celled-leaves, tagged-leaves, cell_closed-leaves}
+use Rattle.sdd_script_model.proofs.CellGoing.{after_celled, put-sole, put-shared, cell-there, held-dated, held-named, dates_spilled, celled-leaves, tagged-leaves, cell_closed-leaves}
 
 pub numbered : (x : AnyCell) → cell_of (Some (cell_holding x)) ≡ Some (cell_number x)
 numbered (Sole c) = refl
@@ -73,17 +73,6 @@ valid-celling d n ownership.Sole None valid = (valid.0, tt)
 valid-celling d n ownership.Sole (Some o) valid = valid
 valid-celling d n ownership.Shared None valid = (valid.0, tt)
 valid-celling d n ownership.Shared (Some o) valid = valid
-
-abbrev named_item : ℕ → Option ItemName
-named_item i = Some (record { 0 = i })
-
--- the item that a cell holds, as it is told
-pub told-item : (names : List ℕ) (cell : CellContents) (j i : ℕ) (item : Option ItemName) → cell.held ≡ Some j → i ≡ slice_index names j →
-    item ≡ Some (record { 0 = i }) → item ≡ option_map (item_in names) cell.held
-told-item names cell j i item held named told = told ∙ ap named_item named ∙ sym (ap (option_map (item_in names)) held)
-
-pub told-none : (names : List ℕ) (cell : CellContents) (item : Option ItemName) → cell.held ≡ None → item ≡ None → item ≡ option_map (item_in names) cell.held
-told-none names cell item held told = told ∙ sym (ap (option_map (item_in names)) held)
 
 module _ (h : Environment) (t : IsTied h) where
   abbrev d : ScriptState
@@ -193,16 +182,18 @@ module _ (h : Environment) (t : IsTied h) where
       acts-tag_told cell tag holds told =
           still d (At name (call.Tag c)) (reply.Tag tag) ((here, known), ((k, cell, is-cell c.0 x cell mine holds, told), refl))
 
-      -- the slot whose item it holds has a name and a date
-      pub slot-inside : (cell : CellContents) (j : ℕ) → entry_at h.world.cells k ≡ Some cell → cell.held ≡ Some j →
-          (j < length h.names.items) × (j < length h.dates.items)
-      slot-inside cell j holds held = held-inside d t.sound c.0 k j cell (is-cell c.0 x cell mine holds) held
+      -- the item that it holds has a name
+      pub seen-named : (cell : CellContents) → entry_at h.world.cells k ≡ Some cell → IfSome cell.held (λ j. IsSome (slice_index_or h.names.items j None))
+      seen-named cell holds = by cell.held refl where
+        by : (held : Option ℕ) → cell.held ≡ held → IfSome held (λ j. IsSome (slice_index_or h.names.items j None))
+        by None e = tt
+        by (Some j) e = held-named d t.sound c.0 k j cell (is-cell c.0 x cell mine holds) e
 
-      -- and so has the slot whose item a cell held that is closed
+      -- the slot whose item a cell held that is closed has a date
       pub held-within : IfSome (held_in (entry_at h.world.cells k)) (λ j. j < length h.dates.items)
       held-within =
           let found = cell-there d t.sound c.0 k (number-is c.0 x mine) in
-          rw found.1.holds (by found.0.held (λ j e. (slot-inside found.0 j found.1.holds e).1)) where
+          rw found.1.holds (by found.0.held (λ j e. held-dated d t.sound c.0 k j found.0 (is-cell c.0 x found.0 mine found.1.holds) e)) where
             by : (held : Option ℕ) → ((j : ℕ) → held ≡ Some j → j < length h.dates.items) → IfSome held (λ j. j < length h.dates.items)
             by None all = tt
             by (Some j) all = all j refl

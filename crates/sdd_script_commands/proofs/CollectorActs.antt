@@ -32,7 +32,7 @@ use Rattle.sdd_script_model.specs.Collecting.{Collects}
 use Rattle.sdd_script_model.specs.ScriptState.{ScriptState, IsDated, collector_of, holding_at, in_world, opening_at, slot_of, without_collector}
 use Rattle.sdd_script_model.specs.Held.{owners_in, slots_waiting_for, waits_among}
 use Rattle.sdd_script_model.specs.Script.{Acts, Answers, HasOpen, IsCollector, IsOwnerName, IsParticipant, Meets}
-use Rattle.sdd_script_model.specs.Shown.{item_in}
+use Rattle.sdd_script_model.specs.Shown.{names_in}
 use Rattle.sdd_interpreter.specs.declared.holding.AnyOwner.{AnyOwner}
 use Rattle.sdd_interpreter.specs.declared.holding.AnyOwner.TheVariants.{Sole, Share}
 use Rattle.sdd_interpreter.specs.Owners.{collector_holding, owner_holding}
@@ -203,7 +203,7 @@ module _ (h : Environment) (t : IsTied h) (whole : IsWhole h.world) (name : Plac
     pub tied-closed : IsTied after_close
     tied-closed = closes-to.tied
 
-    pub answers-closed : (sorted : List ItemName) → IsPermutation (map (item_in h.names.items) slots) sorted →
+    pub answers-closed : (sorted : List ItemName) → IsPermutation (names_in h.names.items slots) sorted →
         IsNonDecreasingBy (λ (i : ItemName). i.0) sorted →
         Answers (desk_of h) (At name (call.CloseCollector r)) (record { reply = reply.Done; reclaimed = sorted; ran = [] }) (desk_of after_close)
     answers-closed sorted moved up =
@@ -215,6 +215,6 @@ module _ (h : Environment) (t : IsTied h) (whole : IsWhole h.world) (name : Plac
             line = refl;
             calls = left.calls;
           };
-          goes = goes-uncollected d t.sound whole c name r number quiet (map (item_in h.names.items) slots) sorted refl moved up;
+          goes = goes-uncollected d t.sound whole c name r number quiet (names_in h.names.items slots) sorted refl moved up;
           runs = runs-uncollected d t.sound whole c name r number quiet;
         })

@@ -49,7 +49,7 @@ use Rattle.sdd_script_text.specs.declared.call.Action.TheVariants as call
 use Rattle.sdd_script_text.specs.declared.answer.Reply.{Reply}
 use Rattle.sdd_script_text.specs.declared.answer.Reply.TheVariants as reply
 use Rattle.sdd_script_model.proofs.Entry.{at-same, as-each, inside, set-either, spent_twice}
-use Rattle.sdd_script_model.proofs.Stocked.{stocked-as, slots-cell_closed, slots-given, slots-same, slots-set}
+use Rattle.sdd_script_model.proofs.Stocked.{out-named, stocked-as, slots-cell_closed, slots-given, slots-same, slots-set}
 use Rattle.sdd_script_model.proofs.SmallSteps.{keeps-closed, keeps-given}
 use Rattle.sdd_script_model.proofs.Attending.{KeepsGuards, attended-same, placed-still}
 use Rattle.sdd_script_model.proofs.Chains.{are-own, at_home-spent}
@@ -141,7 +141,13 @@ module _ (d : ScriptState) (s : IsSound d) (shut : (g : ℕ) → opening_at d.gu
           (placed-still d new s.attended still-guards (ap (λ (xs : List ℕ). length xs) slots) cells queues stacks);
       kept = λ n k x e o waits since. absurd (still-shut x.place o);
       early = rw (dates, moment) s.early;
-      made = ap (λ (t : Tally). t.made) l.tally ∙ s.made ∙ ap (λ (xs : List ℕ). length xs) (sym slots);
+      made = omega (
+        arith,
+        ap (λ (t : Tally). t.made) l.tally,
+        s.made,
+        ap (λ (xs : List ℕ). length xs) slots,
+        ap (λ (m : ℕ). m * 2 ^ 32) moment,
+      );
       deferred = rw (jobs, deferred, l.jobs) s.deferred;
       jobs = job_dates-shut d new s.jobs job_dates moment still-shut l.jobs;
       few = rw (jobs, moment) s.few;
@@ -256,7 +262,7 @@ module _ (d : ScriptState) (s : IsSound d) (shut : (g : ℕ) → opening_at d.gu
     sound-left =
         let e = with_it_left in
         sound-let e lets-left refl refl refl refl refl refl refl refl refl refl refl s.lists
-        (stocked-as d e s.stocked refl refl refl (slots-set d.world e.world k Retired (ap is_some raw) refl refl refl)) ledger-left
+        (stocked-as d e s.stocked refl refl refl (slots-set d.world e.world k Retired (ap is_some raw) (λ was. refl) refl refl refl)) ledger-left
         (sheds-same d.world e.world refl refl) refl
         (record {
           owners = s.home.owners;
@@ -285,12 +291,12 @@ module _ (w : World Val) (p k : ℕ) where
       let never : Some Retired ≡ Some Raw = sym now ∙ raw in
       cc
 
--- where no item with a name is out as raw any more, none is: each slot that isn't free has its item's name
+-- where no item with a name is out as raw any more, none is: one without a name waits
 pub none-raw : (d : ScriptState) → IsSound d → (w : World Val) → ((k : ℕ) → standing_at w k ≡ Some Raw → standing_at d.world k ≡ Some Raw) →
     ((i : ℕ) → i < length d.slots → standing_at w (slot_at d i) ≢ Some Raw) → (k : ℕ) → standing_at w k ≢ Some Raw
 none-raw d s w was none k raw =
-    let named = s.stocked.named k (ap is_some (was k raw)) in
-    none (name_at d k) named.0 (ap (λ (j : ℕ). standing_at w j) named.1 ∙ raw)
+    let named = out-named d s.stocked k (ap is_out (was k raw)) in
+    none named.name named.given (ap (λ (j : ℕ). standing_at w j) named.slot ∙ raw)
 
 -- ---- nothing is left
 
@@ -338,7 +344,7 @@ module _ (d : ScriptState) (s : IsSound d) (whole : IsWhole d.world) (owners : (
   -- all that is out goes with what waits, where no item is out as raw
   pub goes-all : ((k : ℕ) → standing_at d.world k ≢ Some Raw) → AllGo holdings_of d.world
   goes-all none_raw =
-      all-go holdings_of d.world whole.filled (name_at d) no-owners idle none_raw s.layered
+      all-go holdings_of d.world whole.filled (λ k. number_in (name_at d k)) no-owners idle none_raw s.layered
       (λ c some. let at = linked d s c (no-rights c) some in (
         at.0,
         length (owner_in (body_of at.1)),
@@ -361,7 +367,7 @@ module _ (d : ScriptState) (s : IsSound d) where
   pub placed-owner : (o : ℕ) (h : OwnerOrCell) (k : ℕ) → holding_at d.owners o ≡ Some h → slot_of (Some h) ≡ Some k → (p : ℕ) × IsSome (phase_at d.world.time p)
   placed-owner o h k there slot =
       let out = owned-out d (accounts d s) o h k there slot in
-      s.attended.placed (omega (arith, (s.stocked.named k (out-there d.world k out)).0))
+      s.attended.placed (omega (arith, (out-named d s.stocked k out).given))
 
   pub placed-cell : (n : ℕ) → IsSome (holding_at d.cells n) → (p : ℕ) × IsSome (phase_at d.world.time p)
   placed-cell n some = s.attended.placed (omega (arith, inside d.cells n some))
@@ -498,7 +504,7 @@ module _ (h : Environment) (t : IsTied h) where
       })
 
   pub raw-placed : (k : ℕ) → standing_at h.world k ≡ Some Raw → (p : ℕ) × IsSome (phase_at h.world.time p)
-  raw-placed k raw = t.sound.attended.placed (omega (arith, (t.sound.stocked.named k (ap is_some raw)).0))
+  raw-placed k raw = t.sound.attended.placed (omega (arith, (out-named d t.sound.stocked k (ap is_out raw)).given))
 
   pub leaves-nothing : (k : ℕ) → standing_at h.world k ≢ Some Raw → LeavesRaw k d d
   leaves-nothing k other = record { gone = other; others = λ j o. o; rest = refl; tally = refl }

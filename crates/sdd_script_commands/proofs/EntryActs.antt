@@ -183,20 +183,20 @@ module _ (h : Environment) (t : IsTied h) where
       pub means : (o : OwnerName) (i : ItemName) → i.0 ≡ length h.slots.items → o.0 ≡ length (desk_of h).owners →
           PutsIn (desk_of h) p l number o i (after_put k w dates)
 
-    put : (l : ListName) (x : AnyList) (mine : Names h l x) (number k : ℕ) (w : World Val) (dates : List ℕ) → length h.slots.items + 1 < 2 ^ 128 →
+    put : (l : ListName) (x : AnyList) (mine : Names h l x) (number k : ℕ) (w : World Val) (dates : List ℕ) →
         PutsOn h.world p x (entries-of h t l x mine).entries (entries-of h t l x mine).second number k w → Put l number k w dates
     unfolding entries-of
-    put (list.Queue q) (any.Queue x) mine number k w dates few puts =
+    put (list.Queue q) (any.Queue x) mine number k w dates puts =
         let found = queue-entries h t q.0 x.now mine in record {
-          leaves = enqueued-leaves (desk_of h) t.sound whole p live q.0 (cells_in x.now) found.0 found.1 found.2 number k w puts few dates;
+          leaves = enqueued-leaves (desk_of h) t.sound whole p live q.0 (cells_in x.now) found.0 found.1 found.2 number k w puts dates;
           means = λ o i item owner. (item, (cells_in x.now, found.0, found.1, k, w, found.2, puts, (owner, refl)));
         }
-    put (list.Stack s) (any.Stack x) mine number k w dates few puts =
+    put (list.Stack s) (any.Stack x) mine number k w dates puts =
         let found = stack-entries h t s.0 x.now mine in record {
-          leaves = pushed-leaves (desk_of h) t.sound whole p (cell_in x.now) live s.0 found.0 found.1 number k w puts few dates;
+          leaves = pushed-leaves (desk_of h) t.sound whole p (cell_in x.now) live s.0 found.0 found.1 number k w puts dates;
           means = λ o i item owner. (item, (cell_in x.now, found.0, k, w, found.1, puts, (owner, refl)));
         }
-    put l x never number k w dates few puts = absurd never
+    put l x never number k w dates puts = absurd never
 
     pub record Taken (l : ListName) (es : List (Entry Val)) (e : Entry Val) (w : World Val) : Type 0 where
       pub rest : List (Entry Val)
@@ -312,13 +312,13 @@ module _ (h : Environment) (t : IsTied h) where
 
         pub acts-pushed : (waited : List Bool) → AreTold h waited → (owners : Vec (Option AnyOwner)) (slots names dates : Vec ℕ) (o : OwnerName) (i : ItemName) →
             owners.items ≡ h.owners.entries.items ++ Some (Share owner) ∷ [] → slots.items ≡ h.slots.items ++ slot_of owner ∷ [] →
-            names.items ≡ slice_set h.names.items (slot_of owner) (length h.slots.items) → AreDatedNow h w waited dates →
-            length h.slots.items + 1 < 2 ^ 128 → o.0 ≡ length h.owners.entries.items → i.0 ≡ length h.slots.items →
+            names.items ≡ slice_set h.names.items (slot_of owner) (Some (length h.slots.items)) → AreDatedNow h w waited dates →
+            o.0 ≡ length h.owners.entries.items → i.0 ≡ length h.slots.items →
             Does (desk_of h) (At name (pushing l number m g)) (reply.Item o i)
             (record h { world = w; owners = record { entries = owners }; slots = slots; names = names; dates = dates })
-        acts-pushed waited told owners slots names dates o i pushed longer written now few owner_name item_name =
+        acts-pushed waited told owners slots names dates o i pushed longer written now owner_name item_name =
             let k = slot_of owner in
-            let its = put whole p live l x mine number k w dates.items few did.1.1 in
+            let its = put whole p live l x mine number k w dates.items did.1.1 in
             let more = one-named owner owners did.1.0 pushed in
             leads h t (At name (pushing l number m g)) (reply.Item o i) refl (cc (more, longer, written))
             (its.leaves (dated-within h t waited told w dates now))

@@ -50,7 +50,7 @@ use Rattle.sdd_interpreter.specs.Environment.{attending, named_owner, Fills, Fit
 use Rattle.sdd_interpreter.specs.Owners.{owner_holding, cell_holding, cell_kind, cell_number, filling_holding, held_as}
 use Rattle.sdd_interpreter.specs.Interpreter.{desk_of, IsTied}
 use Rattle.sdd_script_model.specs.Held.{holding_first}
-use Rattle.sdd_script_model.proofs.CellGoing.{put-fits, held-inside, swapped-leaves, taken-leaves, copied-leaves}
+use Rattle.sdd_script_model.proofs.CellGoing.{put-fits, held-named, swapped-leaves, taken-leaves, copied-leaves}
 use Rattle.sdd_script_model.proofs.Entry.{at-default, inside}
 use Rattle.sdd_interpreter.proofs.Missing.{points, points-not}
 use Rattle.sdd_script_commands.proofs.CellActs.{numbered, slot-of-put}
@@ -348,9 +348,9 @@ module _ (h : Environment) (t : IsTied h) (whole : IsWhole h.world) where
         differs g i was j valid can apart seen = ((valid, can, put), ((cell_number x, held, is-cell, apart, seen, refl), refl))
 
       -- the item that it holds has a name
-      pub seen-inside : (o : Option ℕ) → held.held ≡ o → IfSome o (λ s. s < length h.names.items)
-      seen-inside None e = tt
-      seen-inside (Some s) e = (held-inside d t.sound c.0 (cell_number x) s held is-cell e).0
+      pub seen-named : (o : Option ℕ) → held.held ≡ o → IfSome o (λ s. IsSome (slice_index_or h.names.items s None))
+      seen-named None e = tt
+      seen-named (Some s) e = held-named d t.sound c.0 (cell_number x) s held is-cell e
 
     -- what an exchange compares with stays
     pub compared-stays : (g : ℕ) (held : NamedGuard) → slice_index_or h.guards.entries.items g None ≡ Some held → held.place ≡ p →

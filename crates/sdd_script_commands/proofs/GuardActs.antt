@@ -37,7 +37,7 @@ use Rattle.sdd_script_model.specs.Val.{Val, holdings_of}
 use Rattle.sdd_script_model.specs.ScriptState.{ScriptState, OpenSince, BeginsLine, IsThere, WaitsAt, with_guard, opening_at, place_of, slot_at, in_world, with_newcomer, without_participant, without_guard}
 use Rattle.sdd_script_model.specs.Script.{Acts, Answers, HasOpen, IsParticipant}
 use Rattle.sdd_script_model.specs.Script.AreCalls.{none as no_call, one_more}
-use Rattle.sdd_script_model.specs.Shown.{item_in, job_in}
+use Rattle.sdd_script_model.specs.Shown.{names_in, job_in}
 use Rattle.sdd_interpreter.specs.Environment.{attending, guarding, opened_since}
 use Rattle.sdd_interpreter.specs.Interpreter.{desk_of, IsTied, GuardsIn}
 use Rattle.sdd_script_model.specs.Held.{owners_in, slots_among, places_among, waits_among}
@@ -256,14 +256,14 @@ module _ (h : Environment) (t : IsTied h) (whole : IsWhole h.world) where
       pub tied-opened : IsTied after_opening
       tied-opened = opens-to.tied
 
-      pub answers-opened : (sorted : List ItemName) (g : GuardName) (epoch : Epoch) → IsPermutation (map (item_in h.names.items) slots) sorted →
+      pub answers-opened : (sorted : List ItemName) (g : GuardName) (epoch : Epoch) → IsPermutation (names_in h.names.items slots) sorted →
           IsNonDecreasingBy (λ (i : ItemName). i.0) sorted →
           CanNest h.world.time p → g.0 ≡ length h.guards.entries.items → epoch ≡ epoch_of w.time.count →
           (ran : List JobName) → IsPermutation (map (job_in h.deferred.items) (places_among (reclaims h.world p))) ran →
           IsNonDecreasingBy (λ (j : JobName). j.0) ran →
           Answers d (At name call.Open) (record { reply = reply.Guard g epoch; reclaimed = sorted; ran = ran }) (desk_of after_opening)
       answers-opened sorted g epoch moved up nests given_name now_is ran jobs_moved jobs_up =
-          let all = names-go d t.sound whole p slots (map (item_in h.names.items) slots) sorted are refl moved up in
+          let all = names-go d t.sound whole p slots (names_in h.names.items slots) sorted are refl moved up in
           let all_at : (i : ItemName) → Contains sorted i ↔ (IsThere d i.0 × Contains (reclaims d.world (place_of d n)) (Item (slot_at d i.0))) = rw is all.1 in
           let run = names-run d t.sound whole p in_range ran jobs_moved jobs_up in
           let run_at : (j : JobName) → Contains ran j ↔ ((k : ℕ) × WaitsAt d j.0 k × Contains (reclaims d.world (place_of d n)) (Job k)) = rw is run.1 in

@@ -155,18 +155,18 @@ module _ (h : Environment) (t : IsTied h) (whole : IsWhole h.world) where
           IsEmptyAt h.world.cells c → IsEmptyAt h.world.standings k → link_of v ≡ c → link_home v ≡ h.world.home.cells →
           w ≡ made_as (nulled h.world c) k v (standing_first own) → owner_holding x ≡ holding_first own k h.world.home.slots →
           owners.items ≡ between.items ++ Some x ∷ [] → slots.items ≡ h.slots.items ++ k ∷ [] →
-          named.items ≡ slice_set h.names.items k (length h.slots.items) → length h.slots.items + 1 < 2 ^ 128 →
+          named.items ≡ slice_set h.names.items k (Some (length h.slots.items)) →
           o.0 ≡ length h.owners.entries.items → i.0 ≡ length h.slots.items →
           Does d (At name (making own value)) (reply.Item o i)
           (record h { world = w; owners = record { entries = owners }; slots = slots; names = named })
-      acts-made w between owners slots named x b o i becomes is_body cell slot link home world holding pushed longer written few owner_name item_name =
+      acts-made w between owners slots named x b o i becomes is_body cell slot link home world holding pushed longer written owner_name item_name =
           let put = put-is value b between.items becomes in
           let body_put : IsPutIn d value (body_of v) = subst (IsPutIn d value) (sym is_body) put.0 in
           let more_owners : map (option_map owner_holding) owners.items ≡ owners_left d.owners value ++ Some (holding_first own k h.world.home.slots) ∷ [] =
           ap (map (option_map owner_holding)) pushed ∙ map_push (option_map owner_holding) between.items (Some x)
           ∙ ap (λ hs. hs ++ Some (owner_holding x) ∷ []) put.2 ∙ ap (λ z. owners_left d.owners value ++ Some z ∷ []) holding in
           leads h t (At name (making own value)) (reply.Item o i) refl (cc (world, more_owners, longer, written))
-          (made-leaves d t.sound whole own value p k c v in_range cell slot body_put link few)
+          (made-leaves d t.sound whole own value p k c v in_range cell slot body_put link)
           (made-meets o i put.1 cell slot body_put link home (owner_name ∙ sym (length-map h.owners.entries.items (option_map owner_holding))) item_name own refl)
 
     pub acts-refused : (own : OwnerKind) (value : Value) (refused : Refused) → IsThereToPut d value → RefusesItem h.world refused →

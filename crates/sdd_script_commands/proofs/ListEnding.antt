@@ -345,7 +345,7 @@ module _ (d : ScriptState) (s : IsSound d) (shut : (g : ℕ) → opening_at d.gu
         };
         kept = λ m k x at o waits since. absurd (last-shut x.place o);
         early = s.early;
-        made = slots.made ∙ s.made;
+        made = omega (arith, slots.made, s.made);
         deferred = deferred-left;
         jobs = record {
           kept = λ m k x at o there since. absurd (last-shut x.place o);

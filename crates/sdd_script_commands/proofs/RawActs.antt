@@ -41,6 +41,7 @@ use Rattle.sdd_interpreter.specs.Owners.{owner_holding}
 use Rattle.sdd_interpreter.specs.Interpreter.{desk_of, IsTied}
 use Rattle.sdd_script_model.proofs.CellGoing.{dates_spilled}
 use Rattle.sdd_script_model.proofs.InPlaceGoing.{raw-leaves, back-leaves, put-leaves, after_drop, drop-leaves, value-held-out}
+use Rattle.sdd_script_model.specs.Shown.{item_in}
 use Rattle.sdd_script_model.proofs.Stocked.{slot-inside}
 use Rattle.sdd_script_model.proofs.Counting.{out-there}
 use Rattle.std.specs.Prelude.{IfSome, ◌<◌}
@@ -114,7 +115,7 @@ module _ (h : Environment) (t : IsTied h) (whole : IsWhole h.world) (name : Plac
   pub acts-raw : (o : OwnerName) (i : ItemName) (w : World Val) (owners : Vec (Option AnyOwner)) (x : Owned Val) →
       slice_index_or h.owners.entries.items o.0 None ≡ Some (Sole x) → owners.items ≡ slice_set h.owners.entries.items o.0 None →
       standing_at h.world (owned.slot_of x) ≡ Some standing.Owned → w ≡ with_standing h.world (owned.slot_of x) standing.Raw →
-      i.0 ≡ slice_index h.names.items (owned.slot_of x) →
+      i ≡ item_in h.names.items (owned.slot_of x) →
       Does d (At name (call.Raw o)) (reply.Raw i) (record h { world = w; owners = record { entries = owners } })
   acts-raw o i w owners x mine taken stands world named =
       let k = owned.slot_of x in
@@ -123,7 +124,7 @@ module _ (h : Environment) (t : IsTied h) (whole : IsWhole h.world) (name : Plac
       let live = in_range h t whole name a there in
       leads h t (At name (call.Raw o)) (reply.Raw i) refl (cc (world, gone))
       (raw-leaves d t.sound whole p k live o.0 (ap sole_slot entry) stands)
-      ((is-there h t whole name a there, ap (λ s. is_some (sole_slot s)) entry), (k, ap sole_slot entry, ap (λ n. record i { 0 = n }) named, refl))
+      ((is-there h t whole name a there, ap (λ s. is_some (sole_slot s)) entry), (k, ap sole_slot entry, named, refl))
 
   -- ---- and comes back
   pub acts-back : (i : ItemName) (r : OwnerName) (w : World Val) (owners : Vec (Option AnyOwner)) (x : Owned Val) → IsThere d i.0 →

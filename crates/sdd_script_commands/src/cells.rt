@@ -8,7 +8,7 @@ ghost use Rattle.sdd_script_model.specs.Script.{Acts};
 
 use sdd_core::{Refused, Tag};
 use sdd_interpreter::Interpreter;
-use sdd_interpreter::items::date_if_waiting;
+use sdd_interpreter::items::{date_if_waiting, item_seen};
 use sdd_interpreter::owners::{fits, take_filling};
 use sdd_interpreter::participants::under;
 use sdd_interpreter::turns::cells::{cell_around, cell_loaded, close_at, slot_in, tag_if, tag_of};
@@ -57,10 +57,7 @@ pub fn load(stage: &mut Interpreter, name: PlaceName, cell: CellName, guard: Gua
     };
     stage.hand.world.is_whole();
     let loaded = cell_loaded(&mut stage.hand.world, &attending.place, cell, &held.guard);
-    let item = match loaded.held {
-        Some(slot) => Some(ItemName(stage.hand.names[slot.number() as usize])),
-        None => None,
-    };
+    let item = item_seen(stage.hand.names.as_slice(), loaded.held);
     Reply::Pointer(item, loaded.tag)
 }
 

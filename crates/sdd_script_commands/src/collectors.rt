@@ -6,7 +6,7 @@ ghost use Rattle.std.specs.List.Sorted.{IsPermutation, IsNonDecreasingBy};
 ghost use Rattle.sdd_space.specs.World.{value_at};
 ghost use Rattle.sdd_script_text.specs.declared.name.ItemName.{ItemName as Named};
 ghost use Rattle.sdd_script_model.specs.Held.{owners_in, slots_waiting_for};
-ghost use Rattle.sdd_script_model.specs.Shown.{item_in};
+ghost use Rattle.sdd_script_model.specs.Shown.{names_in};
 ghost use Rattle.sdd_script_model.specs.Script.{Acts, Answers};
 
 use sdd_core::Refused;
@@ -113,18 +113,18 @@ pub fn close_collector(
     })
 }
 
-/// The items that wait for a collector, in ascending order, and the slots whose owners they hold.
+/// The items with names that wait for a collector, in ascending order, and the slots whose owners they hold.
 fn found_for(
     alloc: Global,
     world: &World<Val>,
-    names: &[u64],
+    names: &[Option<u64>],
     collector: u32,
 ) -> Result<(Vec<ItemName>, Vec<u32>), AllocError>
     requires small { length names.now ≤ 2 ^ 32 }
     requires named { All (λ slot. slot < length names.now) (slots_waiting_for world.now collector (length names.now)) }
     requires taken { All (λ slot. IsSome (value_at world.now slot)) (slots_waiting_for world.now collector (length names.now)) }
     ensures items { IfOk result (λ found.
-        IsPermutation (map (item_in names.now) (slots_waiting_for world.now collector (length names.now))) found.0.items) }
+        IsPermutation (names_in names.now (slots_waiting_for world.now collector (length names.now))) found.0.items) }
     ensures ascending { IfOk result (λ found. IsNonDecreasingBy (λ (i : Named). i.0) found.0.items) }
     ensures owners { IfOk result (λ found. found.1.items ≡ owners_in world.now (slots_waiting_for world.now collector (length names.now))) }
 {

@@ -56,7 +56,7 @@ pub fn push(
     };
     let slot = slot_of_share(&owner);
     let item = stage.hand.slots.len() as u64;
-    stage.hand.names[slot as usize] = item;
+    stage.hand.names[slot as usize] = Some(item);
     stage.hand.slots.push_reserved(slot);
     let line = stage.hand.moment;
     date_new(

@@ -6,7 +6,7 @@ ghost use Rattle.std.specs.List.Sorted.{IsPermutation, IsNonDecreasingBy};
 ghost use Rattle.sdd_space.specs.World.{value_at};
 ghost use Rattle.sdd_script_text.specs.declared.name.ItemName.{ItemName as Named};
 ghost use Rattle.sdd_script_model.specs.Held.{owners_in, slots_among};
-ghost use Rattle.sdd_script_model.specs.Shown.{item_in};
+ghost use Rattle.sdd_script_model.specs.Shown.{names_in};
 ghost use Rattle.sdd_script_model.specs.ScriptState.{BeginsLine};
 ghost use Rattle.sdd_script_model.specs.Script.{Acts, Answers};
 
@@ -160,16 +160,16 @@ pub fn close_guard(stage: &mut Interpreter, name: PlaceName, guard: GuardName) -
     Reply::Done
 }
 
-/// The items among what waits, in ascending order, and the slots whose owners they hold.
+/// The items with names among what waits, in ascending order, and the slots whose owners they hold.
 fn items_among(
     alloc: Global,
     world: &World<Val>,
     waiting: &[LimboEntry],
-    names: &[u64],
+    names: &[Option<u64>],
 ) -> Result<(Vec<ItemName>, Vec<u32>), AllocError>
     requires named { All (λ slot. slot < length names.now) (slots_among waiting.now) }
     requires taken { All (λ slot. IsSome (value_at world.now slot)) (slots_among waiting.now) }
-    ensures items { IfOk result (λ found. IsPermutation (map (item_in names.now) (slots_among waiting.now)) found.0.items) }
+    ensures items { IfOk result (λ found. IsPermutation (names_in names.now (slots_among waiting.now)) found.0.items) }
     ensures ascending { IfOk result (λ found. IsNonDecreasingBy (λ (i : Named). i.0) found.0.items) }
     ensures owners { IfOk result (λ found. found.1.items ≡ owners_in world.now (slots_among waiting.now)) }
 {

@@ -47,7 +47,7 @@ pub fn make(
     let owner = make_item(&mut stage.hand.world, &attending.place, body, ownership);
     let slot = owner.slot();
     let item = stage.hand.slots.len() as u64;
-    stage.hand.names[slot as usize] = item;
+    stage.hand.names[slot as usize] = Some(item);
     stage.hand.slots.push_reserved(slot);
     let name = stage.hand.owners.give(owner);
     Ok(Reply::Item(OwnerName(name), ItemName(item)))

@@ -8,7 +8,7 @@ use sdd_core::Refused;
 use sdd_interpreter::Interpreter;
 use sdd_interpreter::commands::raw::{ComeBack, DropOwner, GoRaw, PutNumber, SeeRaw};
 use sdd_interpreter::holding::{AnyOwner, slot_of_sole};
-use sdd_interpreter::items::{date_if_waiting, is_number, slot_given, slot_since, told};
+use sdd_interpreter::items::{date_if_waiting, is_number, item_at, slot_given, slot_since, told};
 use sdd_interpreter::owners::{take_sole, value_of};
 use sdd_interpreter::participants::under;
 use sdd_interpreter::turns::{in_place_step_at, raw_step_at};
@@ -85,7 +85,7 @@ pub fn put_out_raw(stage: &mut Interpreter, name: PlaceName, owner: OwnerName) -
     stage.hand.world.is_whole();
     let slot = slot_of_sole(&owner);
     raw_step_at(&mut stage.hand.world, &attending.place, GoRaw { owner });
-    Reply::Raw(ItemName(stage.hand.names[slot as usize]))
+    Reply::Raw(item_at(stage.hand.names.as_slice(), slot))
 }
 
 /// `P unraw I`: the owner of an item that is out as raw, or none. Refused where memory for its name is, and then nothing has changed.

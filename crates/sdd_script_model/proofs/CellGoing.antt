@@ -17,11 +17,11 @@ use Rattle.sdd_space.specs.World.{World, IsPlaceOf, standing_at, value_at}
 use Rattle.sdd_space.proofs.Standings.{out-some, out-waits-not}
 use Rattle.sdd_script_text.specs.declared.name.OwnerName.{OwnerName}
 use Rattle.sdd_script_model.specs.Val.{Val, link_of}
-use Rattle.sdd_script_model.specs.ScriptState.{ScriptState, IsDated, holding_at, cell_of, slot_of, sole_slot, shared_slot, in_world}
+use Rattle.sdd_script_model.specs.ScriptState.{ScriptState, IsDated, holding_at, name_at, cell_of, slot_of, sole_slot, shared_slot, in_world}
 use Rattle.sdd_script_model.specs.Script.{FitsSole, FitsShared, FitsCell, MayShare, shared_once_more, slot_put, owners_put, owners_taken, cell_as, owner_as}
 use Rattle.sdd_script_model.specs.Shown.{IsCell}
 use Rattle.sdd_script_model.specs.Sound.{IsSound, named, named_among}
-use Rattle.sdd_script_model.proofs.Stocked.{slot-inside}
+use Rattle.sdd_script_model.proofs.Stocked.{name-some, slot-inside}
 use Rattle.sdd_script_model.proofs.Dates.{closed-other, dated-same, dated-stands, dated-either}
 use Rattle.sdd_script_model.proofs.Counting.{IsPut, accounts, cell-given, cell-out, cell-spent, put-spent, some-holding, taken-given, tells}
 use Rattle.sdd_script_model.proofs.Links.{closed-bare, same-once}
@@ -130,8 +130,11 @@ module _ (d : ScriptState) (s : IsSound d) where
   pub held-out : (n c k : ℕ) (cell : CellContents) → IsCell d n c cell → cell.held ≡ Some k → is_out (standing_at d.world k) ≡ true
   held-out n c k cell is held = cell-out d (accounts d s) c k (ap held_in is.holds ∙ held)
 
-  pub held-inside : (n c k : ℕ) (cell : CellContents) → IsCell d n c cell → cell.held ≡ Some k → (k < length d.names) × (k < length d.dates)
-  held-inside n c k cell is held = slot-inside d s.stocked k (out-some (standing_at d.world k) (held-out n c k cell is held))
+  pub held-named : (n c k : ℕ) (cell : CellContents) → IsCell d n c cell → cell.held ≡ Some k → IsSome (name_at d k)
+  held-named n c k cell is held = name-some d s.stocked k (held-out n c k cell is held)
+
+  pub held-dated : (n c k : ℕ) (cell : CellContents) → IsCell d n c cell → cell.held ≡ Some k → k < length d.dates
+  held-dated n c k cell is held = (slot-inside d s.stocked k (out-some (standing_at d.world k) (held-out n c k cell is held))).1
 
   module _ (whole : IsWhole d.world) where
     -- ---- a cell is made, for owners of the kind of another one
@@ -252,7 +255,7 @@ module _ (d : ScriptState) (s : IsSound d) where
             (ap (λ (w : World Val). w.standings) (closed-bare d.world p c (held-in ∙ e)))
         by (Some k) e =
             let idle = out-waits-not (standing_at d.world k) (held-out n c k cell is e) in
-            dated-either d after_cell_closed k idle (held-inside n c k cell is e).1 (ap (dates_spilled d (cell_closed d.world p c)) e)
+            dated-either d after_cell_closed k idle (held-dated n c k cell is e) (ap (dates_spilled d (cell_closed d.world p c)) e)
             (λ j apart waits. sym (ap is_waiting (closed-other d.world p c j (λ same. apart (one-slot j k (sym same ∙ held-in ∙ e))))) ∙ waits)
 
       pub cell_closed-leaves : LeavesSound d after_cell_closed

@@ -1,5 +1,5 @@
 -- A line as a chain of calls of its world, each with what it takes from outside and what it gives
-use Rattle.std.specs.Prelude.{max}
+use Rattle.std.specs.Prelude.{◌*◌, ◌^◌, max}
 use Rattle.std.proofs.Common.{◌≡◌, ◌≢◌, ℕ, ◌+◌, ◌≤◌, List, [], ◌∷◌, ◌++◌, Option, Some, None, is_some, length, slice_set, inl, inr, refl, sym, ap, ◌∙◌, subst, arith}
 use Rattle.sdd_core.specs.declared.tag.Tag.TheVariants.{Both}
 use Rattle.sdd_participants.specs.Slab.{entry_at}
@@ -69,7 +69,7 @@ IsSameLine d new =
 -- what is always true is so after calls that pass, of which one is p's
 pub sound-after : (d new : ScriptState) → IsSound d → Passes d.world new.world → IsSameLine d new → IsDated d new → (p : ℕ) → IsPlaceOf d.world p →
     SlotsHaveNames new → IsLedger holdings_of (λ u. named new u + contained new u) new.world → HasLists (IsListCell new) (IsSecondCell new) new.world →
-    HoldsOnlyOlder new → NamesAreAtHome new → new.world.tally.made ≡ length new.slots → IsSound new
+    HoldsOnlyOlder new → NamesAreAtHome new → new.world.tally.made ≤ length new.slots + new.moment * 2 ^ 32 → IsSound new
 sound-after d new s passes (moment, places, guards, jobs, deferred, job_dates) dated p live stocked ledger lists layered home made =
     let were = were-same d new places passes.guards.guards in
     record {
@@ -291,7 +291,7 @@ module _ (d : ScriptState) (w : World Val) (owners cells collectors : List (Opti
               newest = s.home.newest;
               stacks = s.home.stacks;
             }))
-            (f.slots.made ∙ s.made);
+            (omega (arith, f.slots.made, s.made));
         dated = dated;
         calls = f.passes.calls;
         home = f.slots.home;

@@ -1,5 +1,5 @@
 -- What is always true of a desk is true after a collector is closed, where no guard is open
-use Rattle.std.proofs.Common.{◌≡◌, ℕ, ◌≤◌, true, false, if◌then◌else◌, List, [], Option, Some, None, IsSome, length, map, slice_index, slice_set, refl, sym, ap, ◌∙◌, subst, lt-ltb, arith}
+use Rattle.std.proofs.Common.{◌≡◌, ℕ, ◌≤◌, true, false, if◌then◌else◌, List, [], Option, Some, None, IsSome, length, slice_index, slice_set, refl, sym, ap, ◌∙◌, subst, lt-ltb, arith}
 use Rattle.std.specs.Prelude.{Contains}
 use Rattle.std.specs.List.Sorted.{IsPermutation, IsNonDecreasingBy}
 use Rattle.sdd_participants.specs.Slab.{entry_at}
@@ -26,7 +26,7 @@ use Rattle.sdd_script_model.specs.Held.{owners_in, slots_among, waits_among}
 use Rattle.sdd_script_model.specs.Val.{Val, holdings_of, link_of}
 use Rattle.sdd_script_model.specs.ScriptState.{ScriptState, OpenSince, IsDated, date_at, holding_at, collector_of, in_world, opening_at, slot_at, without_collector}
 use Rattle.sdd_script_model.specs.Script.{NamesWhatGoes, NamesWhatRuns}
-use Rattle.sdd_script_model.specs.Shown.{item_in}
+use Rattle.sdd_script_model.specs.Shown.{names_in}
 use Rattle.sdd_script_model.specs.Sound.{IsSound, named_among}
 use Rattle.sdd_script_model.proofs.Chains.{LeavesSound, at_home-spent, finishes, moves, starts}
 use Rattle.sdd_script_model.proofs.Counting.{accounts, collector-spent, some-holding, tells}
@@ -108,7 +108,7 @@ module _ (d : ScriptState) (s : IsSound d) (whole : IsWhole d.world) (c : ℕ) (
   no-guard g y e = quiet (guarded d.world y.place (lt-ltb 0 (place_at d.world y.place).guards (open-guard d s g y e)))
 
   -- the names found, and sorted
-  pub goes-uncollected : (found sorted : List ItemName) → found ≡ map (item_in d.names) (slots_for d s.stocked whole c) → IsPermutation found sorted →
+  pub goes-uncollected : (found sorted : List ItemName) → found ≡ names_in d.names (slots_for d s.stocked whole c) → IsPermutation found sorted →
       IsNonDecreasingBy (λ (i : ItemName). i.0) sorted → NamesWhatGoes d (At name (call.CloseCollector k)) reply.Done sorted
   goes-uncollected found sorted is moved up =
       let all = names-waiting d s.stocked whole c found sorted is moved up in

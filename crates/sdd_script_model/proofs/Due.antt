@@ -89,7 +89,7 @@ tells-start limits d start =
 
 -- ---- one line
 
-whole-calls : {v w : World Val} → AreCalls v w → IsWhole v → IsWhole w
+pub whole-calls : {v w : World Val} → AreCalls v w → IsWhole v → IsWhole w
 whole-calls (no_call w) i = i
 whole-calls (one_more u v w calls step) i = Whole-called holdings_of step (whole-calls calls i)
 

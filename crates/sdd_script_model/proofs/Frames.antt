@@ -38,7 +38,7 @@ use Rattle.sdd_script_model.proofs.Deferred.{jobs-given, jobs-closed, jobs-given
 use Rattle.sdd_script_model.proofs.JobDates.{KeepsUnder, under-call}
 use Rattle.sdd_script_model.proofs.Kept.{KeepsSafe, BeginsOut}
 use Rattle.sdd_script_model.proofs.Links.{HoldsLess, less-same, less-shed, less-then, less-edited}
-use Rattle.sdd_script_model.proofs.Stocked.{KeepsSlots, slots-same, slots-then, slots-set, slots-given, slots-cell_closed, slots-dropped, slots-all}
+use Rattle.sdd_script_model.proofs.Stocked.{KeepsSlots, slots-same, slots-then, slots-set, slots-given, slots-cell_closed, slots-dropped, slots-all, waits-not}
 
 -- ---- calls by which nobody comes or goes, no guard is opened or closed, and no job is deferred
 
@@ -192,10 +192,11 @@ leaves (accelerates w p l) quiet = record {
 leaves (changes_pointers w pointers same) quiet =
     in-time w _ (WorldStep.changes_pointers w pointers same) (slots-same w _ refl refl refl) refl refl refl
 leaves (shares w k n is) quiet =
-    in-time w _ (WorldStep.shares w k n is.shared) (slots-set w _ k (standing.Shared (n + 1)) (ap is_some is.shared) refl refl refl) refl refl refl
+    in-time w _ (WorldStep.shares w k n is.shared) (slots-set w _ k (standing.Shared (n + 1)) (ap is_some is.shared)
+    (waits-not (standing_at w k) (standing.Shared (n + 1)) (ap is_waiting is.shared)) refl refl refl) refl refl refl
 leaves (retires w p k l is) quiet = record {
   call = WorldStep.retires w p k l is;
-  slots = slots-set w (retired w p k) k standing.Retired (ap is_some is) refl refl refl;
+  slots = slots-set w (retired w p k) k standing.Retired (ap is_some is) (λ was. refl) refl refl refl;
   guards = keeps-retired w p k;
   jobs = refl;
   values = less-same w (retired w p k) refl;
@@ -209,7 +210,7 @@ leaves (releases w p k n l is) quiet = record {
 }
 leaves (collects w p c k l alone) quiet = record {
   call = WorldStep.collects w p c k l alone;
-  slots = slots-set w (collected w p c k) k (privately c) (alone-some (standing_at w k) alone) refl refl refl;
+  slots = slots-set w (collected w p c k) k (privately c) (alone-some (standing_at w k) alone) (λ was. refl) refl refl refl;
   guards = keeps-place w (collected w p c k) p (time.awaiting (Item k) (place_at w p)) refl refl;
   jobs = refl;
   values = less-same w (collected w p c k) refl;
@@ -222,9 +223,9 @@ leaves (drops w p k l may) quiet = record {
   values = less-shed (sheds-dropped holdings_of p w k);
 }
 leaves (puts_out_raw w k is) quiet =
-    in-time w _ (WorldStep.puts_out_raw w k is) (slots-set w _ k standing.Raw (ap is_some is) refl refl refl) refl refl refl
+    in-time w _ (WorldStep.puts_out_raw w k is) (slots-set w _ k standing.Raw (ap is_some is) (waits-not (standing_at w k) standing.Raw (ap is_waiting is)) refl refl refl) refl refl refl
 leaves (takes_back_raw w k is) quiet =
-    in-time w _ (WorldStep.takes_back_raw w k is) (slots-set w _ k standing.Owned (ap is_some is) refl refl refl) refl refl refl
+    in-time w _ (WorldStep.takes_back_raw w k is) (slots-set w _ k standing.Owned (ap is_some is) (waits-not (standing_at w k) standing.Owned (ap is_waiting is)) refl refl refl) refl refl refl
 leaves (edits w k old value may is) quiet = record {
   call = WorldStep.edits w k value may;
   slots = slots-same w _ refl refl refl;

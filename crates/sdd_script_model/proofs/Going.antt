@@ -1,5 +1,5 @@
 -- What is always true of a desk is true after each call
-use Rattle.std.proofs.Common.{◌≡◌, ℕ, zero, suc, ◌+◌, ◌^◌, ◌<◌, ◌≤◌, Bool, true, false, nat_lt, if◌then◌else◌, List, Option, Some, None, IsSome, is_some, map, length, count_by, slice_index, slice_index_or, slice_set, inl, inr, refl, sym, ap, ◌∙◌, arith}
+use Rattle.std.proofs.Common.{◌≡◌, ℕ, zero, suc, ◌+◌, ◌<◌, ◌≤◌, Bool, true, false, nat_lt, if◌then◌else◌, List, Option, Some, None, IsSome, is_some, map, length, count_by, slice_index, slice_index_or, slice_set, inl, inr, refl, sym, ap, ◌∙◌, arith}
 use Rattle.std.specs.Prelude.{All, Contains, IsTrue, replicate, ◌↔◌}
 use Rattle.std.specs.List.Sorted.{IsPermutation, IsNonDecreasingBy, IsStrictlyIncreasing}
 use Rattle.std.proofs.lemmas.List.{length_push, length-replicate}
@@ -38,7 +38,7 @@ use Rattle.sdd_script_model.specs.ScriptState.{ScriptState, OpenSince, BeginsLin
 use Rattle.sdd_script_model.specs.Script.AreCalls.{none as no_call, one_more}
 use Rattle.sdd_script_model.specs.Listed.{HasLists}
 use Rattle.sdd_script_model.specs.Made.{IsPutIn, owners_left, put_in}
-use Rattle.sdd_script_model.specs.Shown.{item_in, job_in}
+use Rattle.sdd_script_model.specs.Shown.{names_in, job_in}
 use Rattle.sdd_script_model.specs.Sound.{IsSound, ParticipantsMatch, contained, has_right, named, named_among, owns}
 use Rattle.sdd_script_model.specs.Held.{owners_in, slots_among, places_among, standing_first, holding_first, waits_among}
 use Rattle.sdd_script_model.proofs.Entry.{at-same, not-free}
@@ -278,7 +278,7 @@ module _ (d : ScriptState) (s : IsSound d) where
 
     -- ---- an item is made
     module _ (own : OwnerKind) (value : Value) (p k c : ℕ) (v : Val) (live : IsPlaceOf d.world p) (cell : IsEmptyAt d.world.cells c)
-        (slot : IsEmptyAt d.world.standings k) (put : IsPutIn d value (body_of v)) (link : link_of v ≡ c) (few : length d.slots + 1 < 2 ^ 128) where
+        (slot : IsEmptyAt d.world.standings k) (put : IsPutIn d value (body_of v)) (link : link_of v ≡ c) where
       abbrev after_made : ScriptState
       after_made =
           with_owner (in_world (with_item (put_in d value) k) (made_as (nulled d.world c) k v (standing_first own))) (holding_first own k d.world.home.slots)
@@ -353,7 +353,7 @@ module _ (d : ScriptState) (s : IsSound d) where
               newest = s.home.newest;
               stacks = s.home.stacks;
             })
-            (omega (arith, s.made, few, length_push d.slots k));
+            (omega (arith, s.made, length_push d.slots k));
         dated = dated-made;
         calls = passes-made.calls;
         home = refl;
@@ -400,7 +400,7 @@ module _ (d : ScriptState) (s : IsSound d) where
             attended = attended-opened d s.attended n x there after_opening refl refl refl (omega arith);
             kept = kept-opened d after_opening s.attended s.kept whole dated-opened line n x there refl refl;
             early = early-dated d after_opening dated-opened (omega arith) s.early;
-            made = slots.made ∙ s.made;
+            made = omega (arith, slots.made, s.made);
             deferred = deferred-opened d.world x.place whole live d.jobs d.deferred s.deferred;
             jobs = job_dates-opened d after_opening s.jobs s.attended s.kept whole dated-opened line n x there refl refl refl refl;
             few = s.few;
@@ -408,7 +408,7 @@ module _ (d : ScriptState) (s : IsSound d) where
 
     -- the names found, and sorted
     pub names-go : (p : ℕ) (slots : List ℕ) (found sorted : List ItemName) → slots ≡ slots_among (reclaims d.world p) →
-        found ≡ map (item_in d.names) slots → IsPermutation found sorted → IsNonDecreasingBy (λ (i : ItemName). i.0) sorted →
+        found ≡ names_in d.names slots → IsPermutation found sorted → IsNonDecreasingBy (λ (i : ItemName). i.0) sorted →
         IsStrictlyIncreasing (map (λ (i : ItemName). i.0) sorted)
         × ((i : ItemName) → Contains sorted i ↔ (IsThere d i.0 × Contains (reclaims d.world p) (Item (slot_at d i.0))))
     names-go p slots found sorted are named moved up = gone.names-go d p s.stocked whole slots are found named sorted moved up
@@ -473,7 +473,7 @@ sound-start l d start names ranges = record {
   attended = attended-start d start;
   kept = kept-start d start;
   early = early-start d start;
-  made = ap (λ (t : Tally). t.made) start.world.tally ∙ sym (ap length start.slots);
+  made = omega (arith, ap (λ (t : Tally). t.made) start.world.tally);
   deferred = record {
     named = λ k some. absurd (not-free (entry_at d.world.jobs k) some (places k));
     apart = λ k m some other same. absurd (not-free (entry_at d.world.jobs k) some (places k));
@@ -525,7 +525,7 @@ sound-later d s = record {
   attended = attended-later d s.attended;
   kept = kept-later d s.kept;
   early = early-later d s.early;
-  made = s.made;
+  made = omega (arith, s.made);
   deferred = s.deferred;
   jobs = job_dates-later d s.jobs;
   few = omega (arith, s.few);

@@ -1,4 +1,6 @@
 -- What an opening does to a script's slots: which are freed, which begin to wait, and which names it answers
+use Rattle.std.specs.List.{cons_option, filter_map}
+use Rattle.std.specs.Option.{option_map}
 use Rattle.std.specs.List.Sorted.{IsPermutation, IsNonDecreasingBy, IsStrictlyIncreasing}
 use Rattle.std.proofs.lemmas.List.{get_or-map as get_or-map_in}
 use Rattle.std.proofs.Math.ListN.{get_or-map}
@@ -30,7 +32,7 @@ use Rattle.sdd_script_model.specs.declared.val.Body.{Body}
 use Rattle.sdd_script_model.specs.Val.{owner_in, link_home}
 use Rattle.sdd_script_model.specs.declared.val.Body.TheVariants.{Number, Owned, Shared}
 use Rattle.sdd_script_model.specs.ScriptState.{ScriptState, IsThere, IsDated, slot_at, name_at, date_at}
-use Rattle.sdd_script_model.specs.Shown.{item_in}
+use Rattle.sdd_script_model.specs.Shown.{named_in, names_in}
 use Rattle.sdd_script_model.specs.Sound.{SlotsHaveNames, named_owners}
 use Rattle.sdd_script_model.specs.Held.{slots_of, slots_in, owners_in, slots_among, waits_among}
 use Rattle.sdd_script_model.proofs.Stocked.{item-there, slot-inside}
@@ -392,32 +394,67 @@ contain-slots (Job j ∷ xs) s (suc n, l, e) = contain-slots xs s (n, omega (ari
 
 -- ---- the names of slots that are taken, each there once
 
+-- what is told of some is told of one of them, and of each that it tells something of
+filter-contains : {X Y : Type 0} (h : X → Option Y) (xs : List X) (y : Y) → Contains (filter_map h xs) y → (x : X) × Contains xs x × (h x ≡ Some y)
+filter-contains h [] y c = absurd (omega (arith, c.1))
+filter-contains {X} {Y} h (x ∷ xs) y c = by (filter-contains h xs y) (h x) refl c where
+  behind : (z : X) × Contains xs z × (h z ≡ Some y) → (z : X) × Contains (x ∷ xs) z × (h z ≡ Some y)
+  behind rest = (rest.0, (suc rest.1.0, (let lt = rest.1.1 in omega arith), rest.1.2), rest.2)
+
+  by : (Contains (filter_map h xs) y → (z : X) × Contains xs z × (h z ≡ Some y)) → (o : Option Y) → h x ≡ o →
+      Contains (cons_option o (filter_map h xs)) y → (z : X) × Contains (x ∷ xs) z × (h z ≡ Some y)
+  by rest None e c = behind (rest c)
+  by rest (Some z) e (zero, l, is) = (x, (0, omega arith, refl), e ∙ ap (λ (u : Y). Some u) is)
+  by rest (Some z) e (suc n, l, is) = behind (rest (n, omega (arith, l), is))
+
+contains-filter : {X Y : Type 0} (h : X → Option Y) (xs : List X) (x : X) (y : Y) → Contains xs x → h x ≡ Some y → Contains (filter_map h xs) y
+contains-filter h [] x y c e = absurd (omega (arith, c.1))
+contains-filter {X} {Y} h (z ∷ xs) x y (zero, l, is) e = rw (ap h is ∙ e) (0, omega arith, refl)
+contains-filter {X} {Y} h (z ∷ xs) x y (suc n, l, is) e = by (contains-filter h xs x y (n, omega (arith, l), is) e) (h z) where
+  by : Contains (filter_map h xs) y → (o : Option Y) → Contains (cons_option o (filter_map h xs)) y
+  by rest None = rest
+  by rest (Some u) = (suc rest.0, (let lt = rest.1 in omega arith), rest.2)
+
+filter-counts : {X Y : Type 0} (h : X → Option Y) (p : Y → Bool) (q : X → Bool) (xs : List X) →
+    ((x : X) → Contains xs x → (y : Y) → h x ≡ Some y → p y ≡ true → q x ≡ true) → count_by p (filter_map h xs) ≤ count_by q xs
+filter-counts h p q [] t = omega arith
+filter-counts {X} {Y} h p q (x ∷ xs) t = by (filter-counts h p q xs (λ z c. t z (suc c.0, (let lt = c.1 in omega arith), c.2))) (h x) refl where
+  by : count_by p (filter_map h xs) ≤ count_by q xs → (o : Option Y) → h x ≡ o → count_by p (cons_option o (filter_map h xs)) ≤ count_by q (x ∷ xs)
+  by rest None e = omega (arith, rest, count-cons q x xs)
+  by rest (Some y) e =
+      let first = t x (0, omega arith, refl) y e in
+      let here = count-cons p y (filter_map h xs) in
+      let there = count-cons q x xs in
+      grind arith
+
+name-told : (x : Option ℕ) (i : ItemName) → option_map (λ (n : ℕ). record first_item { 0 = n }) x ≡ Some i → x ≡ Some i.0
+name-told None i e = absurd (cc)
+name-told (Some n) i e = ap (option_map number) e
+
 module _ (d : ScriptState) (stocked : SlotsHaveNames d) (slots : List ℕ) (taken : (s : ℕ) → Contains slots s → IsSome (standing_at d.world s))
-    (once : (s : ℕ) → times_in s slots ≤ 1) (found : List ItemName) (is : found ≡ map (item_in d.names) slots) where
+    (once : (s : ℕ) → times_in s slots ≤ 1) (found : List ItemName) (is : found ≡ names_in d.names slots) where
   -- a name is found exactly if its item is there, in one of them
   found-there : (i : ItemName) → Contains found i ↔ (IsThere d i.0 × Contains slots (slot_at d i.0))
   found-there i = rw is (there, back) where
-    there : Contains (map (item_in d.names) slots) i → IsThere d i.0 × Contains slots (slot_at d i.0)
+    there : Contains (names_in d.names slots) i → IsThere d i.0 × Contains slots (slot_at d i.0)
     there c =
-        let from = map-contains (item_in d.names) slots 0 i c in
+        let from = filter-contains (named_in d.names) slots i c in
         let s = from.0 in
-        let name : name_at d s ≡ i.0 = ap number from.2 in
-        let home = item-there d stocked s (taken s from.1) in
-        let slot : slot_at d i.0 ≡ s = ap (slot_at d) (sym name) ∙ home.1 in
-        (rw name at home.0, rw slot from.1)
+        let home = item-there d stocked s (taken s from.1) i.0 (name-told (name_at d s) i from.2) in
+        (home.0, rw home.1 from.1)
 
-    back : IsThere d i.0 × Contains slots (slot_at d i.0) → Contains (map (item_in d.names) slots) i
-    back h = rw (ap (λ n. record i { 0 = n }) h.0.last) at (contains-map (item_in d.names) slots (slot_at d i.0) h.1)
+    back : IsThere d i.0 × Contains slots (slot_at d i.0) → Contains (names_in d.names slots) i
+    back h = contains-filter (named_in d.names) slots (slot_at d i.0) i h.1 (ap (option_map (λ n. record i { 0 = n })) h.0.last)
 
   -- each of them once
   found-once : (n : ℕ) → count_by (λ (i : ItemName). i.0 == n) found ≤ 1
   found-once n =
-      let all : count_by (λ (i : ItemName). i.0 == n) found ≡ count_by (λ s. name_at d s == n) slots =
-      ap (count_by (λ (i : ItemName). i.0 == n)) is ∙ count-map (item_in d.names) (λ (i : ItemName). i.0 == n) slots in
-      let le : count_by (λ s. name_at d s == n) slots ≤ count_by (λ s. s == slot_at d n) slots =
-      counts-le (λ s. name_at d s == n) (λ s. s == slot_at d n) slots (λ s c e.
-      let home = (item-there d stocked s (taken s c)).1 in
-      let name : name_at d s ≡ n = grind (arith, nat_tests, e) in
+      let all : count_by (λ (i : ItemName). i.0 == n) found ≡ count_by (λ (i : ItemName). i.0 == n) (names_in d.names slots) =
+      ap (count_by (λ (i : ItemName). i.0 == n)) is in
+      let le : count_by (λ (i : ItemName). i.0 == n) (names_in d.names slots) ≤ count_by (λ s. s == slot_at d n) slots =
+      filter-counts (named_in d.names) (λ (i : ItemName). i.0 == n) (λ s. s == slot_at d n) slots (λ s c i told e.
+      let home = (item-there d stocked s (taken s c) i.0 (name-told (name_at d s) i told)).1 in
+      let name : i.0 ≡ n = grind (arith, nat_tests, e) in
       eq-eqb s (slot_at d n) (sym home ∙ ap (slot_at d) name)) in
       omega (arith, all, le, once (slot_at d n))
 
@@ -456,7 +493,7 @@ module _ (d : ScriptState) (p : ℕ) (stocked : SlotsHaveNames d) (whole : IsWho
   slots-once s = omega (arith, times-slots s, reclaims-once d.world p s whole, once-bound (is_waiting (standing_at d.world s)))
 
   -- what is answered rises, and names exactly the items that are reclaimed
-  pub names-go : (found : List ItemName) → found ≡ map (item_in d.names) slots → (sorted : List ItemName) → IsPermutation found sorted →
+  pub names-go : (found : List ItemName) → found ≡ names_in d.names slots → (sorted : List ItemName) → IsPermutation found sorted →
       IsNonDecreasingBy (λ (i : ItemName). i.0) sorted →
       IsStrictlyIncreasing (map (λ (i : ItemName). i.0) sorted)
       × ((i : ItemName) → Contains sorted i ↔ (IsThere d i.0 × Contains (reclaims d.world p) (Item (slot_at d i.0))))

@@ -1,6 +1,6 @@
 -- Which item is older, after each call
 use Rattle.std.proofs.Common.{◌≡◌, ◌≢◌, ◌⊎◌, inl, inr, ℕ, zero, suc, ◌+◌, ◌<◌, ◌≤◌, List, length, Bool, true, false, Option, Some, None, map, is_some, slice_index_or, slice_set, count_by, refl, sym, ap, ◌∙◌, arith}
-use Rattle.std.specs.Prelude.{replicate, slice_index}
+use Rattle.std.specs.Prelude.{replicate}
 use Rattle.std.proofs.lemmas.Bool.{cases_eq}
 use Rattle.std.proofs.lemmas.List.{length-map, get_or-set_same, get_or-set_other}
 use Rattle.sdd_participants.specs.Slab.{IsEmptyAt}
@@ -12,14 +12,16 @@ use Rattle.sdd_space.specs.WorldChanges.{made_as, nulled}
 use Rattle.sdd_space.proofs.Accounts.{outside-out, in_value-out}
 use Rattle.sdd_script_model.specs.Val.{Val, body_of, holdings_of}
 use Rattle.sdd_script_model.specs.ScriptState.{ScriptState, name_at}
+use Rattle.sdd_script_model.specs.Shown.{number_in}
 use Rattle.sdd_script_model.specs.Sound.{HoldsOnlyOlder, SlotsHaveNames, named_owners}
-use Rattle.sdd_script_model.proofs.Counting.{AreCounted, times_in, times-held, out-there}
+use Rattle.sdd_script_model.proofs.Counting.{AreCounted, times_in, times-held}
 use Rattle.sdd_script_model.proofs.Links.{HoldsLess}
+use Rattle.sdd_script_model.proofs.Stocked.{out-named}
 
 -- where values hold no more than before, and names are the same
 pub layered-less : (d new : ScriptState) → HoldsOnlyOlder d → HoldsLess d.world new.world → new.names ≡ d.names → HoldsOnlyOlder new
 layered-less d new older less names j k some = rw names (by (value_at new.world j) refl some) where
-  by : (x : Option Val) → value_at new.world j ≡ x → 1 ≤ times_held holdings_of k x → name_at d k < name_at d j
+  by : (x : Option Val) → value_at new.world j ≡ x → 1 ≤ times_held holdings_of k x → number_in (name_at d k) < number_in (name_at d j)
   by None e some = absurd (omega (arith, some))
   by (Some v) e some =
       let was = less j v e in
@@ -39,8 +41,11 @@ filled-long vs ss e = sym (length-map vs is_some) ∙ ap (λ (bs : List Bool). l
 module _ (d : ScriptState) (l : HoldsOnlyOlder d) (a : AreCounted d d.world) (stocked : SlotsHaveNames d) (filled : map is_some d.world.values ≡ map is_some d.world.standings)
     (e : ScriptState) (c k : ℕ) (v : Val) (s : Standing) (free : IsEmptyAt d.world.standings k)
     (moved : (j : ℕ) → named_owners d j ≡ named_owners e j + times_in j (body_of v)) where
-  abbrev made_names : List ℕ
-  made_names = slice_set d.names k (length d.slots)
+  abbrev made_names : List (Option ℕ)
+  made_names = slice_set d.names k (Some (length d.slots))
+
+  abbrev number_at : ℕ → ℕ
+  number_at i = number_in (slice_index_or made_names i None)
 
   -- what is out is elsewhere, and has a name that was given
   elsewhere : (i : ℕ) → is_out (standing_at d.world i) ≡ true → i ≢ k
@@ -48,26 +53,28 @@ module _ (d : ScriptState) (l : HoldsOnlyOlder d) (a : AreCounted d d.world) (st
       let none : is_out (standing_at d.world i) ≡ false = ap (λ (n : ℕ). is_out (standing_at d.world n)) same ∙ ap is_out free.1 in
       let never : true ≡ false = sym out ∙ none in cc
 
-  older-name : (i : ℕ) → is_out (standing_at d.world i) ≡ true → slice_index made_names i < length d.slots
+  older-name : (i : ℕ) → is_out (standing_at d.world i) ≡ true → number_at i < length d.slots
   older-name i out =
-      let was : slice_index made_names i ≡ name_at d i = get_or-set_other d.names k i (length d.slots) 0 (elsewhere i out) in
-      omega (arith, was, (stocked.named i (out-there d.world i out)).0)
+      let was = get_or-set_other d.names k i (Some (length d.slots)) None (elsewhere i out) in
+      let own = out-named d stocked i out in
+      omega (arith, ap number_in (was ∙ own.is), own.given)
 
   made-older : (j i : ℕ) → (j ≡ k) ⊎ (j ≢ k) → 1 ≤ times_held holdings_of i (slice_index_or (slice_set d.world.values k (Some v)) j None) →
-      slice_index made_names i < slice_index made_names j
+      number_at i < number_at j
   made-older j i (inl same) some =
       let long : k < length d.world.values = omega (arith, free.0, filled-long d.world.values d.world.standings filled) in
       let value : slice_index_or (slice_set d.world.values k (Some v)) j None ≡ Some v = rw same (get_or-set_same d.world.values k (Some v) None long) in
       let held : 1 ≤ times_in i (body_of v) = omega (arith, some, ap (times_held holdings_of i) value, times-held v i) in
       let out = outside-out holdings_of d.world i (named_owners d) a (omega (arith, held, moved i)) in
-      let own : slice_index made_names j ≡ length d.slots = rw same (get_or-set_same d.names k (length d.slots) 0 (omega (arith, free.0, stocked.names))) in
+      let own : number_at j ≡ length d.slots =
+      ap number_at same ∙ ap number_in (get_or-set_same d.names k (Some (length d.slots)) None (omega (arith, free.0, stocked.names))) in
       omega (arith, own, older-name i out)
   made-older j i (inr apart) some =
       let value = get_or-set_other d.world.values k j (Some v) None apart in
       let before : 1 ≤ times_held holdings_of i (value_at d.world j) = omega (arith, some, ap (times_held holdings_of i) value) in
       let out = in_value-out holdings_of d.world j i (named_owners d) a before in
-      let mine : slice_index made_names i ≡ name_at d i = get_or-set_other d.names k i (length d.slots) 0 (elsewhere i out) in
-      let its : slice_index made_names j ≡ name_at d j = get_or-set_other d.names k j (length d.slots) 0 apart in
+      let mine = ap number_in (get_or-set_other d.names k i (Some (length d.slots)) None (elsewhere i out)) in
+      let its = ap number_in (get_or-set_other d.names k j (Some (length d.slots)) None apart) in
       omega (arith, mine, its, l j i before)
 
   pub layered-made : (new : ScriptState) → new.world ≡ made_as (nulled d.world c) k v s → new.names ≡ made_names → HoldsOnlyOlder new

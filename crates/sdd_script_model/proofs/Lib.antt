@@ -23,6 +23,8 @@ pub mod StackPushing
 pub mod QueueGoing
 pub mod QueueEnds
 pub mod QueuePushing
+pub mod Plain
+pub mod StackAppending
 pub mod QueueTurns
 pub mod WaitingFor
 pub mod Collected
@@ -39,3 +41,4 @@ pub mod Telling
 pub mod Leaving
 pub mod Entering
 pub mod Due
+pub mod Filling

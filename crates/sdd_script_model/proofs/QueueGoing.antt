@@ -481,7 +481,7 @@ module _ (d : ScriptState) (s : IsSound d) (whole : IsWhole d.world) (p : ℕ) (
                 newest = at_home-spent d.world.home d.newest n s.home.newest;
                 stacks = s.home.stacks;
               }))
-              (frames.slots.made ∙ s.made);
+              (omega (arith, frames.slots.made, s.made));
           dated = dated;
           calls = frames.passes.calls;
           home = frames.slots.home;

@@ -1,5 +1,5 @@
 -- What is always true of a desk is true after a push onto a queue: an item is made, and then put behind the last entry
-use Rattle.std.proofs.Common.{◌≡◌, ◌≢◌, ◌⊎◌, ◌+◌, ◌^◌, ◌<◌, inl, inr, ℕ, List, [], ◌∷◌, ◌++◌, Option, Some, None, is_some, length, slice_index_or, slice_set, refl, sym, ap, ◌∙◌, subst, arith}
+use Rattle.std.proofs.Common.{◌≡◌, ◌≢◌, ◌⊎◌, ◌+◌, ◌<◌, inl, inr, ℕ, List, [], ◌∷◌, ◌++◌, Option, Some, None, is_some, length, slice_index_or, slice_set, refl, sym, ap, ◌∙◌, subst, arith}
 use Rattle.std.specs.Prelude.{max}
 use Rattle.std.proofs.lemmas.Bool.{cases_eq}
 use Rattle.std.proofs.lemmas.List.{set-set}
@@ -40,7 +40,7 @@ use Rattle.sdd_script_model.proofs.StackGoing.{IsDatedWithin}
 use Rattle.sdd_script_model.proofs.StackPushing.{after_entered, clear-mid, entered-leaves, link-off, link-off_all, list-mid, made, mid, mid-whole, number-in, stands-once, there-mid}
 
 -- entries stay linked where their links stay as they are
-linked-where : (v w : World Val) → w.values ≡ v.values → (gs : List (Entry Val)) → AreLinked link_of v gs →
+pub linked-where : (v w : World Val) → w.values ≡ v.values → (gs : List (Entry Val)) → AreLinked link_of v gs →
     ((j : ℕ) (z : Val) → IsAmong j gs → value_at v j ≡ Some z → entry_at w.cells (link_of z) ≡ entry_at v.cells (link_of z)) → AreLinked link_of w gs
 linked-where v w values [] linked still = tt
 linked-where v w values (g ∷ gs) linked still = (
@@ -53,8 +53,7 @@ linked-where v w values (g ∷ gs) linked still = (
 )
 
 module _ (d : ScriptState) (s : IsSound d) (whole : IsWhole d.world) (p : ℕ) (live : IsPlaceOf d.world p) (n : ℕ) (q : QueueCells) (es : List (Entry Val))
-    (second : Option ℕ) (is : IsNamedQueue d n q es second) (number k : ℕ) (w : World Val) (puts : Enqueues d.world p q es second number k w)
-    (few : length d.slots + 1 < 2 ^ 128) (dates : List ℕ) where
+    (second : Option ℕ) (is : IsNamedQueue d n q es second) (number k : ℕ) (w : World Val) (puts : Enqueues d.world p q es second number k w) (dates : List ℕ) where
   abbrev x : Val
   x = puts.entry
 
@@ -64,37 +63,37 @@ module _ (d : ScriptState) (s : IsSound d) (whole : IsWhole d.world) (p : ℕ) (
   -- ---- the item is made
 
   abbrev entered : ScriptState
-  entered = mid d s whole p live number k x puts.free puts.pushed.free puts.body few
+  entered = mid d s whole p live number k x puts.free puts.pushed.free puts.body
 
   abbrev v : World Val
   v = entered.world
 
   abbrev pub after_enqueued : ScriptState
-  after_enqueued = after_entered d s whole p live number k x puts.free puts.pushed.free puts.body few w dates
+  after_enqueued = after_entered d s whole p live number k x puts.free puts.pushed.free puts.body w dates
 
   sound-in : IsSound entered
-  sound-in = (made d s whole p live number k x puts.free puts.pushed.free puts.body few).sound
+  sound-in = (made d s whole p live number k x puts.free puts.pushed.free puts.body).sound
 
   whole-in : IsWhole entered.world
-  whole-in = mid-whole d s whole p live number k x puts.free puts.pushed.free puts.body few
+  whole-in = mid-whole d s whole p live number k x puts.free puts.pushed.free puts.body
 
   list-in : Begins v q.oldest es
-  list-in = list-mid d s whole p live number k x puts.free puts.pushed.free puts.body few q.oldest es is.queue.list
+  list-in = list-mid d s whole p live number k x puts.free puts.pushed.free puts.body q.oldest es is.queue.list
 
   there-in : value_at v k ≡ Some x
-  there-in = there-mid d s whole p live number k x puts.free puts.pushed.free puts.body few
+  there-in = there-mid d s whole p live number k x puts.free puts.pushed.free puts.body
 
   off-first : q.oldest ≢ l
-  off-first = link-off d s whole p live number k x puts.free puts.pushed.free puts.body few q.oldest _ is.queue.list.begins
+  off-first = link-off d s whole p live number k x puts.free puts.pushed.free puts.body q.oldest _ is.queue.list.begins
 
   off-second : q.newest ≢ l
-  off-second = link-off d s whole p live number k x puts.free puts.pushed.free puts.body few q.newest _ is.queue.newest
+  off-second = link-off d s whole p live number k x puts.free puts.pushed.free puts.body q.newest _ is.queue.newest
 
   off-links : Apart link_of l es
-  off-links = link-off_all d s whole p live number k x puts.free puts.pushed.free puts.body few es is.queue.list.linked
+  off-links = link-off_all d s whole p live number k x puts.free puts.pushed.free puts.body es is.queue.list.linked
 
   once-in : standing_at v k ≡ Some (Shared 1)
-  once-in = stands-once d s whole p live number k x puts.free puts.pushed.free puts.body few
+  once-in = stands-once d s whole p live number k x puts.free puts.pushed.free puts.body
 
   inside-in : k < length v.standings
   inside-in = inside-list v.standings k (ap is_some once-in)
@@ -178,7 +177,7 @@ module _ (d : ScriptState) (s : IsSound d) (whole : IsWhole d.world) (p : ℕ) (
 
   clear-spent : entry_at spent.cells l ≡ Some null
   clear-spent =
-      spent-other l (λ same. off-second (sym same)) ∙ clear-mid d s whole p live number k x puts.free puts.pushed.free puts.body few
+      spent-other l (λ same. off-second (sym same)) ∙ clear-mid d s whole p live number k x puts.free puts.pushed.free puts.body
 
   -- the other goes to the end of the list
   abbrev last : World Val
@@ -289,7 +288,7 @@ module _ (d : ScriptState) (s : IsSound d) (whole : IsWhole d.world) (p : ℕ) (
   numbers-now =
       numbers-last (through_last es) (record { slot = k; value = x; tag = no_tag })
       (numbers-through es (its-numbers entered sound-in whole-in n q is.oldest is.newest es list-in))
-      (number-in d s whole p live number k x puts.free puts.pushed.free puts.body few)
+      (number-in d s whole p live number k x puts.free puts.pushed.free puts.body)
 
   lists-now : HasLists (IsListCell without_second) (IsSecondCell without_second) w
   lists-now =
@@ -298,7 +297,7 @@ module _ (d : ScriptState) (s : IsSound d) (whole : IsWhole d.world) (p : ℕ) (
 
   -- ---- the second cell is put back
 
-  done : IsMidway entered w (named entered)
+  pub done : IsMidway entered w (named entered)
   done =
       second-back entered sound-in whole-in n q is.oldest is.newest
       (midway (subst (λ (u : World Val). IsBetween without_second u rest) last-is with-last) lists-now)
@@ -309,4 +308,4 @@ module _ (d : ScriptState) (s : IsSound d) (whole : IsWhole d.world) (p : ℕ) (
       })
 
   pub enqueued-leaves : IsDatedWithin d after_enqueued → LeavesSound d after_enqueued
-  enqueued-leaves within = entered-leaves d s whole p live number k x puts.free puts.pushed.free puts.body few w dates done within
+  enqueued-leaves within = entered-leaves d s whole p live number k x puts.free puts.pushed.free puts.body w dates done within

@@ -215,7 +215,7 @@ module _ (d : ScriptState) (s : IsSound d) (whole : IsWhole d.world) (p c : ℕ)
                   newest = s.home.newest;
                   stacks = at_home-spent d.world.home d.stacks n s.home.stacks;
                 }))
-                (frames.slots.made ∙ s.made);
+                (omega (arith, frames.slots.made, s.made));
             dated = dated;
             calls = frames.passes.calls;
             home = frames.slots.home;

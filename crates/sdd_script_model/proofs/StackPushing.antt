@@ -1,5 +1,5 @@
 -- What is always true of a desk is true after a push: an item is made, and then put into a list; here into a stack
-use Rattle.std.proofs.Common.{◌≡◌, ◌≢◌, ◌+◌, ◌^◌, ◌<◌, inl, inr, ℕ, List, [], ◌∷◌, Bool, true, false, Option, Some, None, is_some, length, slice_index_or, refl, sym, ap, ◌∙◌, subst, arith}
+use Rattle.std.proofs.Common.{◌≡◌, ◌≢◌, ◌+◌, inl, inr, ℕ, List, [], ◌∷◌, Bool, true, false, Option, Some, None, is_some, slice_index_or, refl, sym, ap, ◌∙◌, subst, arith}
 use Rattle.std.specs.Prelude.{max, if◌then◌else◌}
 use Rattle.std.proofs.lemmas.Bool.{cases_eq}
 use Rattle.std.proofs.lemmas.List.{length-set, set-set}
@@ -11,9 +11,9 @@ use Rattle.sdd_standings.specs.Slots.{IsSharedBy, is_waiting}
 use Rattle.sdd_space.specs.OwnerOrCell.{OwnerOrCell}
 use Rattle.sdd_space.specs.OwnerOrCell as holding
 use Rattle.sdd_space.specs.Ledger.{Claim, owner_of, one}
-use Rattle.sdd_space.specs.Ledger.Moves.{shares}
+use Rattle.sdd_space.specs.Ledger.Moves.{releases, retires, shares}
 use Rattle.sdd_space.specs.World.{World, IsPlaceOf, standing_at, value_at}
-use Rattle.sdd_space.specs.WorldChanges.{made_as, nulled, with_cell, with_standing}
+use Rattle.sdd_space.specs.WorldChanges.{made_as, nulled, owner_given, with_cell, with_standing}
 use Rattle.sdd_space.specs.WorldInvariant.{IsWhole}
 use Rattle.sdd_space.proofs.Ledger.{ledger-laws}
 use Rattle.sdd_space.proofs.Whole.{filled-there}
@@ -29,10 +29,11 @@ use Rattle.sdd_script_model.specs.Listed.{Begins, IsListed, IsNumber}
 use Rattle.sdd_script_model.specs.Script.{AreCalls}
 use Rattle.sdd_script_model.specs.Script.AreCalls.{none as no_call, one_more}
 use Rattle.sdd_script_model.specs.ScriptState.{ScriptState, IsDated, IsListCell, IsSecondCell, in_world, with_item, with_owner}
-use Rattle.sdd_script_model.specs.Sound.{IsSound, contained, named}
+use Rattle.sdd_script_model.specs.Sound.{IsSound, contained, named, named_among}
 use Rattle.sdd_script_model.specs.Stacks.{IsStack, Pushes}
 use Rattle.sdd_script_model.specs.Val.{Val, body_of, holdings_of, link_of}
-use Rattle.sdd_script_model.proofs.Chains.{IsMidway, LeavesSound, finishes, moves, starts}
+use Rattle.sdd_script_model.proofs.Attending.{keeps-live}
+use Rattle.sdd_script_model.proofs.Chains.{AtHome, IsMidway, LeavesSound, finishes, midway-as, moves, starts}
 use Rattle.sdd_script_model.proofs.Counting.{owner-given}
 use Rattle.sdd_script_model.proofs.Entry.{at-other, at-same}
 use Rattle.sdd_script_model.proofs.Entry.{inside as inside-list}
@@ -85,8 +86,7 @@ stands-still w p c k (e ∷ es) not =
 -- ---- an item is made that has a number, and then put into a list
 
 module _ (d : ScriptState) (s : IsSound d) (whole : IsWhole d.world) (p : ℕ) (live : IsPlaceOf d.world p) (number k : ℕ) (x : Val)
-    (free : IsEmptyAt d.world.cells (link_of x)) (slot : IsEmptyAt d.world.standings k) (body : body_of x ≡ Number number)
-    (few : length d.slots + 1 < 2 ^ 128) where
+    (free : IsEmptyAt d.world.cells (link_of x)) (slot : IsEmptyAt d.world.standings k) (body : body_of x ≡ Number number) where
   abbrev owner : OwnerOrCell
   owner = holding.shared k d.world.home.slots
 
@@ -95,10 +95,10 @@ module _ (d : ScriptState) (s : IsSound d) (whole : IsWhole d.world) (p : ℕ) (
   mid = with_owner (in_world (with_item d k) (made_as (nulled d.world (link_of x)) k x (Shared 1))) owner
 
   pub made : LeavesSound d mid
-  made = made-leaves d s whole ownership.Shared (value.Number number) p k (link_of x) x live free slot body refl few
+  made = made-leaves d s whole ownership.Shared (value.Number number) p k (link_of x) x live free slot body refl
 
   pub mid-whole : IsWhole mid.world
-  mid-whole = made-whole d s whole ownership.Shared (value.Number number) p k (link_of x) x live free slot body refl few
+  mid-whole = made-whole d s whole ownership.Shared (value.Number number) p k (link_of x) x live free slot body refl
 
   free-value : value_at d.world k ≡ None
   free-value = none-of (value_at d.world k) (filled-there d.world k whole.filled ∙ ap is_some slot.1) where
@@ -143,23 +143,48 @@ module _ (d : ScriptState) (s : IsSound d) (whole : IsWhole d.world) (p : ℕ) (
     | inr far ↦ ap is_waiting (at-other d.world.standings k j (Some (Shared 1)) None far)
   ]
 
+  -- in which these owners have names in the end
+  module _ (w : World Val) (dates : List ℕ) (owners : List (Option OwnerOrCell)) where
+    abbrev after_put : ScriptState
+    after_put = record (in_world (with_item d k) w) { owners = owners; dates = dates }
+
+    pub put-leaves : {outside : Claim → ℕ} → IsMidway mid w outside → ((u : Claim) → named_among owners d.cells d.collectors u ≡ outside u) →
+        AtHome d.world.home owners → IsDatedWithin d after_put → LeavesSound d after_put
+    put-leaves done same home within =
+        let long = done.frames.slots.slots ∙ length-set d.world.standings k (Some (Shared 1)) in
+        let dated = dated-all d after_put s.stocked long within in
+        let later : IsDated mid after_put = record { dated = λ j. rw (waits-as j) (dated.dated j); long = dated.long } in
+        leaves-then made
+        (finishes mid w owners mid.cells mid.collectors dates made.sound done
+        same (home, made.sound.home.cells, made.sound.home.collectors) later p live) dated
+
+  -- the owner has its name
   module _ (w : World Val) (dates : List ℕ) where
     abbrev pub after_entered : ScriptState
     after_entered = record (with_owner (in_world (with_item d k) w) owner) { dates = dates }
 
     pub entered-leaves : IsMidway mid w (named mid) → IsDatedWithin d after_entered → LeavesSound d after_entered
-    entered-leaves done within =
-        let long = done.frames.slots.slots ∙ length-set d.world.standings k (Some (Shared 1)) in
-        let dated = dated-all d after_entered s.stocked long within in
-        let later : IsDated mid after_entered = record { dated = λ j. rw (waits-as j) (dated.dated j); long = dated.long } in
-        leaves-then made
-        (finishes mid w mid.owners mid.cells mid.collectors dates made.sound done
-        (λ u. refl) (made.sound.home.owners, made.sound.home.cells, made.sound.home.collectors) later p live) dated
+    entered-leaves done within = put-leaves w dates mid.owners done (λ u. refl) made.sound.home.owners within
+
+  -- or it is given up
+  pub given-up : (u : World Val) → IsMidway mid u (named mid) → IsMidway mid (owner_given u p k (standing_at u k)) (named d)
+  given-up u m =
+      let live_there = keeps-live m.frames.passes.guards p live in
+      let mine = owner-given d.owners d.cells d.collectors owner k refl in
+      let stands = ((ledger-laws holdings_of u).tells _ m.ledger).stands k (omega (arith, mine (owner_of k), same-once k)) in
+      elim stands [
+        | inl owned ↦
+            subst (λ (x : Option Standing). IsMidway mid (owner_given u p k x) (named d)) (sym owned.0)
+            (midway-as (moves m (retires u p k live_there owned.0) tt (named d) mine (λ y never. absurd never)) (λ y. omega arith))
+        | inr several ↦
+            subst (λ (x : Option Standing). IsMidway mid (owner_given u p k x) (named d)) (sym several.1)
+            (midway-as (moves m (releases u p k several.0 live_there several.1) tt (named d) mine (λ y never. absurd never)) (λ y. omega arith))
+      ]
 
 -- ---- a push
 
 module _ (d : ScriptState) (s : IsSound d) (whole : IsWhole d.world) (p c : ℕ) (live : IsPlaceOf d.world p) (n : ℕ) (es : List (Entry Val)) (is : IsStack d n c es)
-    (number k : ℕ) (w : World Val) (pushes : Pushes d.world p c es number k w) (few : length d.slots + 1 < 2 ^ 128) (dates : List ℕ) where
+    (number k : ℕ) (w : World Val) (pushes : Pushes d.world p c es number k w) (dates : List ℕ) where
   abbrev x : Val
   x = pushes.entry
 
@@ -167,17 +192,17 @@ module _ (d : ScriptState) (s : IsSound d) (whole : IsWhole d.world) (p c : ℕ)
   l = link_of pushes.entry
 
   abbrev entered : ScriptState
-  entered = mid d s whole p live number k x pushes.free pushes.pushed.free pushes.body few
+  entered = mid d s whole p live number k x pushes.free pushes.pushed.free pushes.body
 
   abbrev pub after_pushed : ScriptState
-  after_pushed = after_entered d s whole p live number k x pushes.free pushes.pushed.free pushes.body few w dates
+  after_pushed = after_entered d s whole p live number k x pushes.free pushes.pushed.free pushes.body w dates
 
   sound-in : LeavesSound d entered
-  sound-in = made d s whole p live number k x pushes.free pushes.pushed.free pushes.body few
+  sound-in = made d s whole p live number k x pushes.free pushes.pushed.free pushes.body
 
   once : IsSharedBy 1 (standing_at entered.world k)
   once = record {
-    shared = stands-once d s whole p live number k x pushes.free pushes.pushed.free pushes.body few;
+    shared = stands-once d s whole p live number k x pushes.free pushes.pushed.free pushes.body;
     some = omega arith;
     most = omega arith;
   }
@@ -191,7 +216,7 @@ module _ (d : ScriptState) (s : IsSound d) (whole : IsWhole d.world) (p c : ℕ)
 
   in-hand : IsMidway entered twice outside
   in-hand =
-      moves (starts entered sound-in.sound (mid-whole d s whole p live number k x pushes.free pushes.pushed.free pushes.body few))
+      moves (starts entered sound-in.sound (mid-whole d s whole p live number k x pushes.free pushes.pushed.free pushes.body))
       (shares entered.world k 1 once) tt (named entered) (λ u. omega arith) (λ u never. absurd never)
 
   its : IsSingle entered c
@@ -200,7 +225,7 @@ module _ (d : ScriptState) (s : IsSound d) (whole : IsWhole d.world) (p c : ℕ)
   list-twice : Begins twice c es
   list-twice =
       list-same link_of entered.world twice c no_tag es refl refl
-      (list-mid d s whole p live number k x pushes.free pushes.pushed.free pushes.body few c es is.list)
+      (list-mid d s whole p live number k x pushes.free pushes.pushed.free pushes.body c es is.list)
 
   with-it : IsWith entered outside p c its live twice es
   with-it = record { midway = in-hand; list = list-twice; numbers = numbers d s whole p c live n es is }
@@ -215,18 +240,18 @@ module _ (d : ScriptState) (s : IsSound d) (whole : IsWhole d.world) (p c : ℕ)
   there : value_at freed_front k ≡ Some x
   there =
       ap (λ (vs : List (Option Val)). slice_index_or vs k None) (trim-values link_of twice p c no_tag es)
-      ∙ there-mid d s whole p live number k x pushes.free pushes.pushed.free pushes.body few
+      ∙ there-mid d s whole p live number k x pushes.free pushes.pushed.free pushes.body
 
   clear : entry_at freed_front.cells l ≡ Some null
   clear =
       trim-other link_of twice p c no_tag es l
-      (λ same. link-off d s whole p live number k x pushes.free pushes.pushed.free pushes.body few c _ is.list.begins (sym same))
-      (link-off_all d s whole p live number k x pushes.free pushes.pushed.free pushes.body few es is.list.linked)
-      ∙ clear-mid d s whole p live number k x pushes.free pushes.pushed.free pushes.body few
+      (λ same. link-off d s whole p live number k x pushes.free pushes.pushed.free pushes.body c _ is.list.begins (sym same))
+      (link-off_all d s whole p live number k x pushes.free pushes.pushed.free pushes.body es is.list.linked)
+      ∙ clear-mid d s whole p live number k x pushes.free pushes.pushed.free pushes.body
 
   stands-twice : standing_at freed_front k ≡ Some (Shared 2)
   stands-twice =
-      stands-still twice p c k es (not-among d s whole p live number k x pushes.free pushes.pushed.free pushes.body few c es is.list)
+      stands-still twice p c k es (not-among d s whole p live number k x pushes.free pushes.pushed.free pushes.body c es is.list)
       ∙ at-same entered.world.standings k (Some (Shared 2)) None (inside-list entered.world.standings k (ap is_some once.shared))
 
   -- both its owners are outside, so it is in no list
@@ -247,7 +272,7 @@ module _ (d : ScriptState) (s : IsSound d) (whole : IsWhole d.world) (p c : ℕ)
   put : IsMidway entered (linked_in freed_front c no_tag (link_of pushes.entry) k (first_slot (left es))) (named entered)
   put =
       puts-in trimmed-so.midway p c its k x (left es) trimmed-so.list trimmed-so.numbers there clear
-      (number-in d s whole p live number k x pushes.free pushes.pushed.free pushes.body few) unlisted (named entered) (λ u. refl)
+      (number-in d s whole p live number k x pushes.free pushes.pushed.free pushes.body) unlisted (named entered) (λ u. refl)
 
   -- two owners at once, or one after the other
   made-twice : twice ≡ made_as (nulled d.world (link_of pushes.entry)) k pushes.entry (Shared 2)
@@ -261,5 +286,5 @@ module _ (d : ScriptState) (s : IsSound d) (whole : IsWhole d.world) (p c : ℕ)
 
   pub pushed-leaves : IsDatedWithin d after_pushed → LeavesSound d after_pushed
   pushed-leaves within =
-      entered-leaves d s whole p live number k x pushes.free pushes.pushed.free pushes.body few w dates
+      entered-leaves d s whole p live number k x pushes.free pushes.pushed.free pushes.body w dates
       (subst (λ (u : World Val). IsMidway entered u (named entered)) world-is put) within

@@ -2,33 +2,54 @@
 use Rattle.sdd_participants.specs.EpochState.{EpochState}
 use Rattle.sdd_participants.specs.declared.standing.Standing.TheVariants.{Shared, Retired}
 use Rattle.sdd_space.specs.WorldChanges.{retired, with_standing, owner_given, cell_closed, freed, all_reclaimed, vacated, dropped_out, dropped, opened, ran}
-use Rattle.sdd_space.proofs.Standings.{out-some}
+use Rattle.std.specs.Prelude.{IfSome}
+use Rattle.std.proofs.lemmas.Bool.{false≢true}
+use Rattle.sdd_standings.specs.Slots.{is_waiting}
+use Rattle.sdd_space.proofs.Standings.{out-some, out-waits-not}
 use Rattle.sdd_script_model.specs.ScriptState.{ScriptState, IsThere, slot_at, name_at}
-use Rattle.sdd_script_model.specs.Sound.{SlotsHaveNames}
+use Rattle.sdd_script_model.specs.Sound.{IsCalled, SlotsHaveNames}
 use Rattle.sdd_script_model.proofs.Entry.{at-same, at-other, at-pushed, at-end, as-each, inside, not-free, set-either}
 use Rattle.sdd_script_model.proofs.SmallSteps.{keeps-given, keeps-closed, keeps-all_given, keeps-all, keeps-opened}
-use Rattle.sdd_script_model.proofs.StockWords.{◌≡◌, ◌≢◌, ℕ, ◌<◌, true, List, [], ◌∷◌, ◌++◌, Option, Some, None, IsSome, is_some, length, slice_index_or, slice_set, inl, inr, refl, sym, ap, ◌∙◌, subst, arith, cases_eq, length-set, IsEmptyAt, with_entry, without_entry, LimboEntry, Standing, is_out, World, standing_at, value_at, Val, holdings_of}
+use Rattle.sdd_script_model.proofs.StockWords.{◌≡◌, ◌≢◌, ℕ, ◌<◌, false, true, List, [], ◌∷◌, ◌++◌, Option, Some, None, IsSome, is_some, length, slice_index_or, slice_set, inl, inr, refl, sym, ap, ◌∙◌, subst, arith, cases_eq, length-set, IsEmptyAt, with_entry, without_entry, LimboEntry, Standing, is_out, World, standing_at, value_at, Val, holdings_of}
 use Rattle.std.proofs.lemmas.List.{length_push}
 
--- the same slots are there, none is taken that was free, no item is made, and the home is the same
+-- the same slots are there, none is taken that was free, what waits does so until its slot is free, no item is made, and the home is the same
 pub record KeepsSlots (old new : World Val) : Type 0 where
   pub taken : (s : ℕ) → IsSome (standing_at new s) → IsSome (standing_at old s)
+  pub waits : (s : ℕ) → is_waiting (standing_at old s) ≡ true → IsSome (standing_at new s) → is_waiting (standing_at new s) ≡ true
   pub slots : length new.standings ≡ length old.standings
   pub home : new.home ≡ old.home
   pub made : new.tally.made ≡ old.tally.made
 
 -- only time, values, cells or jobs change
 pub slots-same : (w u : World Val) → u.standings ≡ w.standings → u.home ≡ w.home → u.tally.made ≡ w.tally.made → KeepsSlots w u
-slots-same w u e home made = record { taken = λ s t. rw e at t; slots = ap length e; home = home; made = made }
+slots-same w u e home made = record { taken = λ s t. rw e at t; waits = λ s was t. rw e was; slots = ap length e; home = home; made = made }
 
 pub slots-then : {u v w : World Val} → KeepsSlots u v → KeepsSlots v w → KeepsSlots u w
-slots-then a b = record { taken = λ s t. a.taken s (b.taken s t); slots = b.slots ∙ a.slots; home = b.home ∙ a.home; made = b.made ∙ a.made }
+slots-then a b = record {
+  taken = λ s t. a.taken s (b.taken s t);
+  waits = λ s was t. b.waits s (a.waits s was (b.taken s t)) t;
+  slots = b.slots ∙ a.slots;
+  home = b.home ∙ a.home;
+  made = b.made ∙ a.made;
+}
+
+-- one that didn't wait may stand in any way
+pub waits-not : (x : Option Standing) (s : Standing) → is_waiting x ≡ false → is_waiting x ≡ true → is_waiting (Some s) ≡ true
+waits-not x s idle was = absurd (false≢true (sym idle ∙ was))
 
 -- a slot that is taken stands otherwise
-pub slots-set : (w u : World Val) (k : ℕ) (s : Standing) → IsSome (standing_at w k) → u.standings ≡ with_entry w.standings k s → u.home ≡ w.home →
-    u.tally.made ≡ w.tally.made → KeepsSlots w u
-slots-set w u k s some is home made = record {
+pub slots-set : (w u : World Val) (k : ℕ) (s : Standing) → IsSome (standing_at w k) → (is_waiting (standing_at w k) ≡ true → is_waiting (Some s) ≡ true) →
+    u.standings ≡ with_entry w.standings k s → u.home ≡ w.home → u.tally.made ≡ w.tally.made → KeepsSlots w u
+slots-set w u k s some waits is home made = record {
   taken = λ j now. subst (λ b. b ≡ true) (as-each is_some w.standings k (Some s) None (sym some) j) (rw is at now);
+  waits = λ j was now. elim (cases_eq j k) [
+    | inl same ↦
+        (let now : standing_at u k ≡ Some s = ap (λ ss. slice_index_or ss k None) is ∙ at-same w.standings k (Some s) None (inside w.standings k some) in
+        ap (λ (i : ℕ). is_waiting (standing_at u i)) same ∙ ap is_waiting now
+        ∙ waits (ap (λ (i : ℕ). is_waiting (standing_at w i)) (sym same) ∙ was))
+    | inr far ↦ ap (λ ss. is_waiting (slice_index_or ss j None)) is ∙ ap is_waiting (at-other w.standings k j (Some s) None far) ∙ was
+  ];
   slots = ap length is ∙ length-set w.standings k (Some s);
   home = home;
   made = made;
@@ -41,6 +62,10 @@ slots-freed w u k is home made = record {
     | inl gone ↦ absurd (not-free (standing_at u s) t (rw is gone))
     | inr same ↦ subst (λ (x : Option Standing). IsSome x) (ap (λ ss. slice_index_or ss s None) is ∙ same) t
   ];
+  waits = λ s was t. elim (set-either w.standings k s None None) [
+    | inl gone ↦ absurd (not-free (standing_at u s) t (rw is gone))
+    | inr same ↦ ap is_waiting (ap (λ ss. slice_index_or ss s None) is ∙ same) ∙ was
+  ];
   slots = ap length is ∙ length-set w.standings k None;
   home = home;
   made = made;
@@ -51,22 +76,23 @@ module _ (w : World Val) where
   P = KeepsSlots w
 
   retires : (u : World Val) (p k : ℕ) → is_out (standing_at u k) ≡ true → P u → P (retired u p k)
-  retires u p k out i = slots-then i (slots-set u (retired u p k) k Retired (out-some (standing_at u k) out) refl refl refl)
+  retires u p k out i = slots-then i (slots-set u (retired u p k) k Retired (out-some (standing_at u k) out) (λ was. refl) refl refl refl)
 
   frees_cell : (u : World Val) (c : ℕ) → P u → P (record u { cells = without_entry u.cells c })
-  frees_cell u c i = record { taken = i.taken; slots = i.slots; home = i.home; made = i.made }
+  frees_cell u c i = record { taken = i.taken; waits = i.waits; slots = i.slots; home = i.home; made = i.made }
 
   shares : (u : World Val) (k n m : ℕ) → standing_at u k ≡ Some (Shared n) → P u → P (with_standing u k (Shared m))
-  shares u k n m is i = slots-then i (slots-set u (with_standing u k (Shared m)) k (Shared m) (ap is_some is) refl refl refl)
+  shares u k n m is i = slots-then i (slots-set u (with_standing u k (Shared m)) k (Shared m) (ap is_some is)
+      (waits-not (standing_at u k) (Shared m) (ap is_waiting is)) refl refl refl)
 
   frees : (u : World Val) (k : ℕ) → P u → P (freed u k)
   frees u k i = slots-then i (slots-freed u (freed u k) k refl refl refl)
 
   times : (u : World Val) (t : EpochState) → P u → P (record u { time = t })
-  times u t i = record { taken = i.taken; slots = i.slots; home = i.home; made = i.made }
+  times u t i = record { taken = i.taken; waits = i.waits; slots = i.slots; home = i.home; made = i.made }
 
   runs : (u : World Val) (j : ℕ) → P u → P (ran u j)
-  runs u j i = record { taken = i.taken; slots = i.slots; home = i.home; made = i.made }
+  runs u j i = record { taken = i.taken; waits = i.waits; slots = i.slots; home = i.home; made = i.made }
 
   start : P w
   start = slots-same w w refl refl refl
@@ -93,58 +119,92 @@ module _ (w : World Val) where
 pub stocked-as : (d new : ScriptState) → SlotsHaveNames d → new.slots ≡ d.slots → new.names ≡ d.names → length new.dates ≡ length d.dates →
     KeepsSlots d.world new.world → SlotsHaveNames new
 stocked-as d new i slots names dates none = record {
-  named = λ s t. rw (slots, names) (i.named s (none.taken s t));
+  named = λ s t. called s (name_at d s) (i.named s (none.taken s t)) (ap (λ ns. slice_index_or ns s None) names) t;
   names = ap length names ∙ i.names ∙ sym none.slots;
   dates = dates ∙ i.dates ∙ sym none.slots;
   few = rw names i.few;
-}
+} where
+  called : (s : ℕ) (x : Option ℕ) → IsCalled d s x → name_at new s ≡ x → IsSome (standing_at new.world s) → IsCalled new s (name_at new s)
+  called s None waits is t = rw is (none.waits s waits t)
+  called s (Some i) (lt, its) is t = rw (is, slots) (lt, its)
 
 -- the next item is made in slot k, which was free
 module _ (d : ScriptState) (k : ℕ) (i : SlotsHaveNames d) (empty : IsEmptyAt d.world.standings k) where
   abbrev more : List ℕ
   more = d.slots ++ k ∷ []
 
-  abbrev called : ℕ → ℕ
-  called s = slice_index_or (slice_set d.names k (length d.slots)) s 0
+  abbrev called : ℕ → Option ℕ
+  called s = slice_index_or (slice_set d.names k (Some (length d.slots))) s None
 
-  own : (called k < length more) × (slice_index_or more (called k) 0 ≡ k)
-  own =
-      let name : called k ≡ length d.slots = at-same d.names k (length d.slots) 0 (omega (arith, empty.0, i.names)) in
-      rw name (omega (arith, length_push d.slots k), at-end d.slots k 0)
+  module _ (new : ScriptState) (first : Standing) (slots : new.slots ≡ more) (names : new.names ≡ slice_set d.names k (Some (length d.slots)))
+      (stands : new.world.standings ≡ with_entry d.world.standings k first) where
+    own : IsCalled new k (name_at new k)
+    own =
+        let name : name_at new k ≡ Some (length d.slots) = ap (λ ns. slice_index_or ns k None) names
+        ∙ at-same d.names k (Some (length d.slots)) None (omega (arith, empty.0, i.names)) in
+        rw (name, slots) (omega (arith, length_push d.slots k), at-end d.slots k 0)
 
-  other : (s : ℕ) → s ≢ k → (name_at d s < length d.slots) × (slot_at d (name_at d s) ≡ s) →
-      (called s < length more) × (slice_index_or more (called s) 0 ≡ s)
-  other s ne was =
-      let name : called s ≡ name_at d s = at-other d.names k s (length d.slots) 0 ne in
-      let lt = was.0 in
-      rw name (omega (arith, lt, length_push d.slots k), at-pushed d.slots k 0 (name_at d s) (omega (arith, lt)) ∙ was.1)
+    other : (s : ℕ) → s ≢ k → (x : Option ℕ) → name_at d s ≡ x → IsCalled d s x → IsCalled new s (name_at new s)
+    other s ne x is was =
+        let name : name_at new s ≡ x = ap (λ ns. slice_index_or ns s None) names ∙ at-other d.names k s (Some (length d.slots)) None ne ∙ is in
+        subst (λ (y : Option ℕ). IsCalled new s y) (sym name) (by x was) where
+          by : (x : Option ℕ) → IsCalled d s x → IsCalled new s x
+          by None waits =
+              ap (λ ss. is_waiting (slice_index_or ss s None)) stands ∙ ap is_waiting (at-other d.world.standings k s (Some first) None ne) ∙ waits
+          by (Some n) (lt, its) = rw slots (omega (arith, lt, length_push d.slots k), at-pushed d.slots k 0 n (omega (arith, lt)) ∙ its)
 
-  pub stocked-made : (new : ScriptState) (first : Standing) → new.slots ≡ d.slots ++ k ∷ [] → new.names ≡ slice_set d.names k (length d.slots) →
+  pub stocked-made : (new : ScriptState) (first : Standing) → new.slots ≡ d.slots ++ k ∷ [] → new.names ≡ slice_set d.names k (Some (length d.slots)) →
       length new.dates ≡ length d.dates → new.world.standings ≡ with_entry d.world.standings k first → SlotsHaveNames new
   stocked-made new first slots names dates stands = record {
     named = λ s t.
-        rw (slots, names) (
         elim (cases_eq s k) [
-          | inl e ↦ rw e own
-          | inr ne ↦ other s ne (i.named s (rw (stands, at-other d.world.standings k s (Some first) None ne) at t))
-        ]
-        );
-    names = ap length names ∙ length-set d.names k (length d.slots) ∙ i.names ∙ sym (length-set d.world.standings k (Some first))
+          | inl e ↦ subst (λ (j : ℕ). IsCalled new j (name_at new j)) (sym e) (own new first slots names stands)
+          | inr ne ↦
+              other new first slots names stands s ne (name_at d s) refl
+              (i.named s (rw (stands, at-other d.world.standings k s (Some first) None ne) at t))
+        ];
+    names = ap length names ∙ length-set d.names k (Some (length d.slots)) ∙ i.names ∙ sym (length-set d.world.standings k (Some first))
         ∙ sym (ap length stands);
     dates = dates ∙ i.dates ∙ sym (length-set d.world.standings k (Some first)) ∙ sym (ap length stands);
-    few = omega (arith, ap length names, length-set d.names k (length d.slots), i.few);
+    few = omega (arith, ap length names, length-set d.names k (Some (length d.slots)), i.few);
   }
 
 -- ---- what is in a slot that is taken
 
 module _ (d : ScriptState) (i : SlotsHaveNames d) (s : ℕ) (some : IsSome (standing_at d.world s)) where
-  -- the item that it has last is there, in this slot
-  pub item-there : IsThere d (name_at d s) × (slot_at d (name_at d s) ≡ s)
-  item-there =
-      let home = (i.named s some).1 in
-      (record { last = ap (name_at d) home; taken = rw home some }, home)
+  -- the item of this name is there, in this slot
+  pub item-there : (n : ℕ) → name_at d s ≡ Some n → IsThere d n × (slot_at d n ≡ s)
+  item-there n is =
+      let home = (subst (λ (x : Option ℕ). IsCalled d s x) is (i.named s some)).1 in
+      (record { last = ap (name_at d) home ∙ is; taken = rw home some }, home)
 
   pub slot-inside : (s < length d.names) × (s < length d.dates)
   slot-inside =
       let lt = inside d.world.standings s some in
       (omega (arith, lt, i.names), omega (arith, lt, i.dates))
+
+-- an item that doesn't wait has a name
+pub record HasName (d : ScriptState) (s : ℕ) : Type 0 where
+  pub name : ℕ
+  pub is : name_at d s ≡ Some name
+  pub given : name < length d.slots
+  pub slot : slot_at d name ≡ s
+
+pub idle-named : (d : ScriptState) → SlotsHaveNames d → (s : ℕ) → IsSome (standing_at d.world s) → is_waiting (standing_at d.world s) ≡ false → HasName d s
+idle-named d i s some idle = by (name_at d s) refl (i.named s some) where
+  by : (x : Option ℕ) → name_at d s ≡ x → IsCalled d s x → HasName d s
+  by None is waits = absurd (false≢true (sym idle ∙ waits))
+  by (Some n) is (lt, its) = record { name = n; is = is; given = lt; slot = its }
+
+pub out-named : (d : ScriptState) → SlotsHaveNames d → (s : ℕ) → is_out (standing_at d.world s) ≡ true → HasName d s
+out-named d i s out = idle-named d i s (out-some (standing_at d.world s) out) (out-waits-not (standing_at d.world s) out)
+
+pub name-some : (d : ScriptState) → SlotsHaveNames d → (s : ℕ) → is_out (standing_at d.world s) ≡ true → IsSome (name_at d s)
+name-some d i s out = ap is_some (out-named d i s out).is
+
+-- a name is that of an item that was made
+pub name-given : (d : ScriptState) → SlotsHaveNames d → (s : ℕ) → IsSome (standing_at d.world s) → IfSome (name_at d s) (λ n. n < length d.slots)
+name-given d i s some = by (name_at d s) (i.named s some) where
+  by : (x : Option ℕ) → IsCalled d s x → IfSome x (λ n. n < length d.slots)
+  by None waits = tt
+  by (Some n) (lt, its) = lt

@@ -11,7 +11,7 @@ use Rattle.sdd_space.proofs.Listed.{listed-without, none-left, none-taken}
 use Rattle.sdd_script_text.specs.declared.name.ItemName.{ItemName}
 use Rattle.sdd_script_model.specs.ScriptState.{ScriptState, IsThere, slot_at}
 use Rattle.sdd_script_model.specs.Held.{owners_in, slots_among, slots_in, slots_waiting_for}
-use Rattle.sdd_script_model.specs.Shown.{item_in}
+use Rattle.sdd_script_model.specs.Shown.{names_in}
 use Rattle.sdd_script_model.specs.Sound.{SlotsHaveNames}
 use Rattle.sdd_script_model.proofs.StockWords.{◌≡◌, ℕ, zero, suc, ◌+◌, ◌<◌, ◌≤◌, ◌==◌, Bool, true, false, if◌then◌else◌, List, [], ◌∷◌, ◌++◌, Option, Some, None, IsSome, map, length, slice_index_or, inl, inr, refl, sym, ap, ◌∙◌, eq-eqb, arith, nat_tests, All, Contains, ◌↔◌, cases_eq, cases_lt, LimboEntry, Item, Job, Standing, is_waiting, IsWhole, is_of_slot, World, standing_at, value_at, one_where, times_among, count-cons, some-waits, filled-there, Val}
 use Rattle.sdd_script_model.proofs.Gone.{among-slots, counted-contains, counted-there, names-found, slots-contain, times_in}
@@ -164,7 +164,7 @@ module _ (d : ScriptState) (stocked : SlotsHaveNames d) (whole : IsWhole d.world
       owners-within d.world k (slots_among (waiting_for d.world c)) slots_for (λ j there. waits-found j (slots-contain (waiting_for d.world c) j there))
 
   -- the names found, and sorted, are exactly those of the items that wait for the collector
-  pub names-waiting : (found sorted : List ItemName) → found ≡ map (item_in d.names) slots_for → IsPermutation found sorted →
+  pub names-waiting : (found sorted : List ItemName) → found ≡ names_in d.names slots_for → IsPermutation found sorted →
       IsNonDecreasingBy (λ (i : ItemName). i.0) sorted →
       IsStrictlyIncreasing (map (λ (i : ItemName). i.0) sorted)
       × ((i : ItemName) → Contains sorted i ↔ (IsThere d i.0 × Contains (waiting_for d.world c) (Item (slot_at d i.0))))

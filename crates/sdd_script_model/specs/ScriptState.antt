@@ -35,8 +35,8 @@ pub record ScriptState : Type 0 where
   pub stacks : List (Option OwnerOrCell)
   -- of each item its slot
   pub slots : List ℕ
-  -- of each slot the item that it had last
-  pub names : List ℕ
+  -- of each slot the name of the item that it had last, if that had one
+  pub names : List (Option ℕ)
   -- of each slot the line in which its item began to wait
   pub dates : List ℕ
   -- how many jobs there were
@@ -59,8 +59,9 @@ holding_at xs n = slice_index_or xs n None
 abbrev pub slot_at : ScriptState → ℕ → ℕ
 slot_at d i = slice_index_or d.slots i 0
 
-abbrev pub name_at : ScriptState → ℕ → ℕ
-name_at d s = slice_index d.names s
+-- the name of the item that a slot had last: one that a refused copy of a list made has none
+abbrev pub name_at : ScriptState → ℕ → Option ℕ
+name_at d s = slice_index_or d.names s None
 
 abbrev pub date_at : ScriptState → ℕ → ℕ
 date_at d s = slice_index d.dates s
@@ -80,7 +81,7 @@ pub record WaitsAt (d : ScriptState) (j k : ℕ) : Type 0 where
 
 -- an item is there until it is reclaimed: its slot has it last, and is not free
 pub record IsThere (d : ScriptState) (i : ℕ) : Type 0 where
-  pub last : name_at d (slot_at d i) ≡ i
+  pub last : name_at d (slot_at d i) ≡ Some i
   pub taken : IsSome (standing_at d.world (slot_at d i))
 
 -- ---- places
@@ -186,7 +187,16 @@ without_owner d o = record d { owners = slice_set d.owners o None }
 
 -- the next item is in slot k
 abbrev pub with_item : ScriptState → ℕ → ScriptState
-with_item d k = record d { slots = d.slots ++ k ∷ []; names = slice_set d.names k (length d.slots) }
+with_item d k = record d { slots = d.slots ++ k ∷ []; names = slice_set d.names k (Some (length d.slots)) }
+
+-- these slots, in order, have items with the next names
+abbrev pub names_from : List (Option ℕ) → (next : ℕ) → List ℕ → List (Option ℕ)
+names_from names next [] = names
+names_from names next (k ∷ ks) = names_from (slice_set names k (Some next)) (next + 1) ks
+
+-- the next items are in these slots, in order
+abbrev pub with_items : ScriptState → List ℕ → ScriptState
+with_items d ks = record d { slots = d.slots ++ ks; names = names_from d.names (length d.slots) ks }
 
 -- the next job is in place k of the table of jobs, since this line
 abbrev pub with_job : ScriptState → ℕ → ScriptState

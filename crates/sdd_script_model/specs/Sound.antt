@@ -1,5 +1,5 @@
 -- What is always true of a desk
-use Rattle.std.specs.Prelude.{ℕ, ◌+◌, ◌^◌, ◌<◌, ◌≤◌, ◌≡◌, ◌==◌, Bool, false, IsTrue, IsSome, List, Option, None, Some, count_by, length, slice_index}
+use Rattle.std.specs.Prelude.{ℕ, ◌+◌, ◌*◌, ◌^◌, ◌<◌, ◌≤◌, ◌≡◌, ◌==◌, Bool, false, IsTrue, IsSome, List, Option, None, Some, count_by, length, slice_index}
 use Rattle.sdd_participants.specs.EpochState.{is_open, phase_at}
 use Rattle.sdd_participants.specs.Slab.{Entries, IsEmptyAt, entry_at}
 use Rattle.sdd_standings.specs.Slots.{is_waiting}
@@ -11,13 +11,19 @@ use Rattle.sdd_space.specs.Ledger.{Claim, owner_of, right_to, is_right_to, IsLed
 use Rattle.sdd_space.specs.OwnerCounts.{is_owner_of, times_held}
 use Rattle.sdd_space.specs.UnderGuards.{CallsUnder, IsSafe}
 use Rattle.sdd_script_model.specs.Listed.{HasLists}
+use Rattle.sdd_script_model.specs.Shown.{number_in}
 use Rattle.sdd_script_model.specs.Val.{Val, holdings_of}
 use Rattle.sdd_script_model.specs.ScriptState.{ScriptState, OpenSince, IsListCell, IsSecondCell, opening_at, holding_at, slot_at, name_at, date_at, job_date_at}
+
+-- the item in slot s has this name, which is that of no other slot; or it has none, and waits
+abbrev pub IsCalled : ScriptState → (s : ℕ) → Option ℕ → Type 0
+IsCalled d s None = IsTrue (is_waiting (standing_at d.world s))
+IsCalled d s (Some i) = (i < length d.slots) × (slot_at d i ≡ s)
 
 -- which item is in which slot
 pub record SlotsHaveNames (d : ScriptState) : Type 0 where
   -- a slot that is not free is that of the item that it has: so what is out as raw is out under its item's name
-  pub named : (s : ℕ) → IsSome (standing_at d.world s) → (name_at d s < length d.slots) × (slot_at d (name_at d s) ≡ s)
+  pub named : (s : ℕ) → IsSome (standing_at d.world s) → IsCalled d s (name_at d s)
   pub names : length d.names ≡ length d.world.standings
   pub dates : length d.dates ≡ length d.world.standings
   -- a slot is numbered by 32 bits
@@ -115,7 +121,7 @@ pub record JobsHaveDates (d : ScriptState) : Type 0 where
 
 -- what a value holds is an owner of an item that was made before its own: so with no owner outside, and none out as raw, all goes
 abbrev pub HoldsOnlyOlder : ScriptState → Type 0
-HoldsOnlyOlder d = (j k : ℕ) → 1 ≤ times_held holdings_of k (value_at d.world j) → name_at d k < name_at d j
+HoldsOnlyOlder d = (j k : ℕ) → 1 ≤ times_held holdings_of k (value_at d.world j) → number_in (name_at d k) < number_in (name_at d j)
 
 -- each place of the table of jobs that is taken has a job's name, no two the same
 pub record AreDeferred (jobs : ℕ) (deferred : List ℕ) (table : Entries (Unit {0})) : Type 0 where
@@ -135,8 +141,8 @@ pub record IsSound (d : ScriptState) : Type 0 where
   pub kept : KeepsRecentItems d
   -- in a line so far
   pub early : (s : ℕ) → date_at d s ≤ d.moment
-  -- by this the tally balances at the end: no number of it is full
-  pub made : d.world.tally.made ≡ length d.slots
+  -- beside those with names a line makes at most 2^32 items, one in each slot; by this the tally balances at the end: no number of it is full
+  pub made : d.world.tally.made ≤ length d.slots + d.moment * 2 ^ 32
   pub deferred : AreDeferred d.jobs d.deferred d.world.jobs
   pub jobs : JobsHaveDates d
   -- a line defers one job at most

@@ -7,6 +7,7 @@ use Rattle.sdd_participants.specs.Slab.{IsEmptyAt, IsFull}
 use Rattle.sdd_standings.specs.Slots.{IsSharedBy}
 use Rattle.sdd_space.specs.World.{World, standing_at}
 use Rattle.sdd_space.specs.WorldChanges.{nulled, without_cell}
+use Rattle.sdd_lists.specs.StackCloning.{IsAppended}
 use Rattle.sdd_lists.specs.Lists.{Entry, IsPushed, emptied, left, popped, trimmed}
 use Rattle.sdd_script_model.specs.declared.val.Body.TheVariants.{Number}
 use Rattle.sdd_script_model.specs.Val.{Val, body_of, link_of}
@@ -24,6 +25,13 @@ pub record Pushes (w : World Val) (p c : ℕ) (es : List (Entry Val)) (number k 
   pub body : body_of entry ≡ Number number
   pub free : IsEmptyAt w.cells (link_of entry)
   pub pushed : IsPushed link_of (nulled w (link_of entry)) p c no_tag es k entry new
+
+-- p puts the number behind the last entry that isn't deleted: an entry in slot k has it, which the list alone owns, and deleted ones there are let go of
+pub record Appends (w : World Val) (p c : ℕ) (es : List (Entry Val)) (number k : ℕ) (new : World Val) : Type 0 where
+  pub entry : Val
+  pub body : body_of entry ≡ Number number
+  pub free : IsEmptyAt w.cells (link_of entry)
+  pub appended : IsAppended link_of (nulled w (link_of entry)) p c no_tag es k entry new
 
 -- p takes out the first entry that isn't deleted, and has one more owner of it
 pub record Takes (w : World Val) (p c : ℕ) (es : List (Entry Val)) (e : Entry Val) (new : World Val) : Type 0 where

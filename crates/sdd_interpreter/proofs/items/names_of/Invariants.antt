@@ -1,6 +1,7 @@
-use Rattle.std.proofs.Common.{◌≡◌, ◌≤◌, map, length, take, vec_capacity}
-use Rattle.sdd_script_model.specs.Shown.{item_in}
+use Rattle.std.proofs.Common.{◌≡◌, ◌≤◌, length, take, vec_capacity}
+use Rattle.sdd_script_model.specs.Shown.{names_in}
 use Rattle.sdd_interpreter.proofs.items.names_of.Given as goal
 
 abbrev pub invariant-loop-slot : goal.invariant-loop-slot
-invariant-loop-slot l = (l.found.items ≡ map (item_in l.names) (take l.slot-index l.slots)) × (length l.slots ≤ vec_capacity l.found)
+invariant-loop-slot l =
+    (l.found.items ≡ names_in l.names (take l.slot-index l.slots)) × (length l.found.items ≤ l.slot-index) × (length l.slots ≤ vec_capacity l.found)

@@ -82,7 +82,7 @@ left c = record c.stage.inside.hand {
   world = c.push_at.new.world;
   owners = c.give-name.new.self;
   slots = c.push_reserved.new.self;
-  names = with_item c.stage.inside.hand.names c.slot_of_share-slot.result c.len-item.result;
+  names = with_item c.stage.inside.hand.names c.slot_of_share-slot.result (Some c.len-item.result);
   dates = c.date_new.new.dates;
 }
 
@@ -99,13 +99,13 @@ pushed c =
     acts-pushed h c.stage.invariant c.is_whole.ensures c.args.name _ c.in-Some.ensures.found.0 c.args.guard c.in-Some.ensures.valid
     c.args.list _ c.in-Some-list_named.ensures c.args.newest c.args.number c.push_at.new.world c.in-Ok.owner
     (c.in-Ok.ensures.pushed its.entries its.second its.has) c.in_ok-waited.waited.items told_so c.give-name.new.self.entries c.push_reserved.new.self
-    (with_item c.stage.inside.hand.names c.slot_of_share-slot.result c.len-item.result) c.date_new.new.dates (record { 0 = c.give-name.result })
+    (with_item c.stage.inside.hand.names c.slot_of_share-slot.result (Some c.len-item.result)) c.date_new.new.dates (record { 0 = c.give-name.result })
     (record { 0 = c.len-item.result }) (rw c.make_room.ensures.kept at c.give-name.ensures.given)
     (rw (c.reserve.ensures.items, slot) at c.push_reserved.ensures.items)
-    (ap (slice_set c.stage.inside.hand.names.items c.slot_of_share-slot.result) next
-    ∙ ap (λ k. slice_set c.stage.inside.hand.names.items k (length c.stage.inside.hand.slots.items)) slot)
+    (ap (λ (n : ℕ). slice_set c.stage.inside.hand.names.items c.slot_of_share-slot.result (Some n)) next
+    ∙ ap (λ k. slice_set c.stage.inside.hand.names.items k (Some (length c.stage.inside.hand.slots.items))) slot)
     (rw c.as_slice.ensures.value at c.date_new.ensures.dated, c.date_new.ensures.long)
-    (omega (arith, next, c.len-item.type_inv)) (c.give-name.ensures.name ∙ ap length c.make_room.ensures.kept) next
+    (c.give-name.ensures.name ∙ ap length c.make_room.ensures.kept) next
 
 pub invariant_of-stage-2 : goal.invariant_of-stage-2
 invariant_of-stage-2 c = (pushed c).0

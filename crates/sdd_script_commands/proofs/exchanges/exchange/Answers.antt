@@ -1,4 +1,4 @@
-use Rattle.std.proofs.Common.{◌≡◌, ◌<◌, ℕ, List, length, refl, sym, ◌∙◌, subst}
+use Rattle.std.proofs.Common.{◌≡◌, ℕ, List, None, Option, IsSome, length, slice_index_or, refl, sym, ◌∙◌, subst}
 use Rattle.std.specs.Prelude.{IfSome}
 use Rattle.std.proofs.lemmas.Bool.{false≢true}
 use Rattle.sdd_script_text.specs.declared.call.Call.TheVariants.{At}
@@ -8,7 +8,7 @@ use Rattle.sdd_interpreter.specs.Owners.{cell_kind}
 use Rattle.sdd_interpreter.specs.Interpreter.{desk_of}
 use Rattle.sdd_interpreter.proofs.Acts.{Does, goes}
 use Rattle.sdd_interpreter.proofs.Missing.{invalid}
-use Rattle.sdd_script_commands.proofs.ExchangeActs.{cell-home, no-fit, fits-not, put-home, room-kept, can-put-back, same-back, compares, compares-not, slot-compared, compared-stays, seen-as, seen-inside, acts-exchanged, differs}
+use Rattle.sdd_script_commands.proofs.ExchangeActs.{cell-home, no-fit, fits-not, put-home, room-kept, can-put-back, same-back, compares, compares-not, slot-compared, compared-stays, seen-as, seen-named, acts-exchanged, differs}
 use Rattle.sdd_interpreter.proofs.Acts.{still-as}
 use Rattle.sdd_script_commands.proofs.exchanges.exchange.Goals as goal
 
@@ -90,9 +90,11 @@ pub item_seen-requires : goal.item_seen-requires
 item_seen-requires c =
     let h = c.stage.inside.hand in
     let out = c.in-Err.ensures.exchanged in
-    let all = seen-inside h c.stage.invariant c.is_whole.ensures c.args.name _ c.in-Some.ensures.found.0 c.args.cell c.in-Some-get.holder.now c.in-Err.seen
+    let all = seen-named h c.stage.invariant c.is_whole.ensures c.args.name _ c.in-Some.ensures.found.0 c.args.cell c.in-Some-get.holder.now c.in-Err.seen
     (sym c.in-Some-get.ensures) out.1 c.in-Err.seen.held refl in
-    record { inside = subst (λ (names : List ℕ). IfSome c.in-Err.seen.held (λ s. s < length names)) (sym c.as_slice-names.ensures.value) all }
+    record {
+      named = subst (λ (names : List (Option ℕ)). IfSome c.in-Err.seen.held (λ s. IsSome (slice_index_or names s None))) (sym c.as_slice-names.ensures.value) all;
+    }
 
 -- where it differs, the desk is as it was
 back : (c : goal.After-item_seen) → desk_of (record c.stage.inside.hand { world = c.exchange_at.new.world; owners = c.put_back.new.owners })

@@ -4,7 +4,8 @@ use Rattle.sdd_script_model.specs.Val.{body_of}
 use Rattle.sdd_script_commands.proofs.ItemActs.{acts-looked}
 use Rattle.sdd_interpreter.proofs.Acts.{stays-here}
 use Rattle.sdd_interpreter.proofs.Missing.{invalid, points, points-not}
-use Rattle.sdd_interpreter.proofs.Inside.{value-inside}
+use Rattle.sdd_interpreter.proofs.Inside.{value-named}
+use Rattle.sdd_script_model.proofs.Stocked.{name-given}
 use Rattle.sdd_script_commands.proofs.items.look.Goals as goal
 
 pub returns-in_default : goal.returns-in_default
@@ -14,7 +15,7 @@ returns-in_default c = record {
 
 pub slot_since-requires-clause-inside : goal.slot_since-requires-clause-inside
 slot_since-requires-clause-inside c s some =
-    rw (c.as_slice-slots.ensures.value, c.as_slice-names.ensures.value) (c.stage.invariant.sound.stocked.named s some).0
+    rw (c.as_slice-slots.ensures.value, c.as_slice-names.ensures.value) (name-given _ c.stage.invariant.sound.stocked s some)
 
 pub returns-in_default-slot_since : goal.returns-in_default-slot_since
 returns-in_default-slot_since c =
@@ -33,7 +34,7 @@ value_shown-requires-clause-stays c =
     (points c.stage.inside.hand c.args.name.0 _ found.0 c.args.item.0 can))
 
 pub told-requires : goal.told-requires
-told-requires c = rw c.as_slice-names.ensures.value (value-inside c.stage.inside.hand c.stage.invariant _ _ c.value_shown.ensures.shown)
+told-requires c = rw c.as_slice-names.ensures.value (value-named c.stage.inside.hand c.stage.invariant _ _ c.value_shown.ensures.shown)
 
 pub returns : goal.returns
 returns c =

@@ -1,4 +1,4 @@
-use Rattle.std.proofs.Common.{◌≡◌, Some, refl, length, slice_set, sym, ap, ◌∙◌, arith, rules}
+use Rattle.std.proofs.Common.{◌≡◌, ℕ, Some, refl, length, slice_set, sym, ap, ◌∙◌, arith, rules}
 use Rattle.std.specs.Vec.{with_item}
 use Rattle.std.proofs.lemmas.Bool.{false≢true}
 use Rattle.sdd_script_model.specs.ScriptState.{slot_of}
@@ -49,7 +49,7 @@ left c = record c.stage.inside.hand {
   world = c.make_item-owner.new.world;
   owners = c.give-name.new.self;
   slots = c.push_reserved.new.self;
-  names = with_item c.stage.inside.hand.names c.slot-slot.result c.len-item.result;
+  names = with_item c.stage.inside.hand.names c.slot-slot.result (Some c.len-item.result);
 }
 
 made : (c : goal.After-give-name) → IsTied (left c) × Acts (desk_of c.stage.inside.hand) (At c.args.name (making c.args.ownership c.args.value))
@@ -63,9 +63,9 @@ made c =
     c.args.ownership c.args.value
     m.0 m.1 m.2 _ c.body_from.new.owners.entries _ _ _ _ c.in-Some-body_from.body _ _ (rw c.make_room.ensures.kept at c.in-Some-body_from.ensures.becomes)
     m.6 m.4 m.5 m.7 m.8 m.9 m.3 c.give-name.ensures.given (rw (c.reserve.ensures.items, slot) at c.push_reserved.ensures.items)
-    (ap (slice_set c.stage.inside.hand.names.items c.slot-slot.result) next
-    ∙ ap (λ k. slice_set c.stage.inside.hand.names.items k (length c.stage.inside.hand.slots.items)) slot)
-    (omega (arith, next, c.len-item.type_inv)) (c.give-name.ensures.name ∙ long ∙ ap length c.make_room.ensures.kept) next
+    (ap (λ (n : ℕ). slice_set c.stage.inside.hand.names.items c.slot-slot.result (Some n)) next
+    ∙ ap (λ k. slice_set c.stage.inside.hand.names.items k (Some (length c.stage.inside.hand.slots.items))) slot)
+    (c.give-name.ensures.name ∙ long ∙ ap length c.make_room.ensures.kept) next
 
 pub invariant_of-stage-2 : goal.invariant_of-stage-2
 invariant_of-stage-2 c = (made c).0

@@ -1,7 +1,7 @@
 use Rattle.sdd_interpreter.proofs.Acts.{got, owner-home}
 use Rattle.sdd_script_commands.proofs.ItemActs.{acts-read}
 use Rattle.sdd_interpreter.proofs.Missing.{invalid, no-owner, nobody}
-use Rattle.sdd_interpreter.proofs.Inside.{value-inside}
+use Rattle.sdd_interpreter.proofs.Inside.{value-named}
 use Rattle.std.proofs.Common.{◌≡◌, sym}
 use Rattle.sdd_script_model.specs.Shown.{told_of}
 use Rattle.sdd_script_model.specs.Val.{body_of}
@@ -21,7 +21,7 @@ value_of-requires c = record {
 }
 
 pub told-requires : goal.told-requires
-told-requires c = rw c.as_slice.ensures.value (value-inside c.stage.inside.hand c.stage.invariant _ _ c.value_of.ensures.2)
+told-requires c = rw c.as_slice.ensures.value (value-named c.stage.inside.hand c.stage.invariant _ _ c.value_of.ensures.2)
 
 pub returns : goal.returns
 returns c = record {

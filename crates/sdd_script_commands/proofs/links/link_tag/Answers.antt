@@ -2,6 +2,7 @@ use Rattle.std.proofs.Common.{slice_index_or, ap, ◌∙◌}
 use Rattle.sdd_interpreter.proofs.Acts.{stays-here}
 use Rattle.sdd_interpreter.proofs.Missing.{invalid, points, points-not}
 use Rattle.sdd_script_commands.proofs.LinkActs.{acts-link_told}
+use Rattle.sdd_script_model.proofs.Stocked.{name-given}
 use Rattle.sdd_script_commands.proofs.links.link_tag.Goals as goal
 
 pub returns-in_default : goal.returns-in_default
@@ -12,7 +13,7 @@ returns-in_default c = record {
 
 pub slot_since-requires-clause-inside : goal.slot_since-requires-clause-inside
 slot_since-requires-clause-inside c s some =
-    rw (c.as_slice-slots.ensures.value, c.as_slice-names.ensures.value) (c.stage.invariant.sound.stocked.named s some).0
+    rw (c.as_slice-slots.ensures.value, c.as_slice-names.ensures.value) (name-given _ c.stage.invariant.sound.stocked s some)
 
 pub returns-in_default-slot_since : goal.returns-in_default-slot_since
 returns-in_default-slot_since c =

@@ -1,9 +1,10 @@
 use Rattle.sdd_participants.specs.declared.standing.Standing.TheVariants.{Owned}
 use Rattle.sdd_space.specs.World.{standing_at}
 use Rattle.sdd_interpreter.specs.declared.interpreter.Environment.{Environment}
-use Rattle.std.proofs.Common.{◌≡◌, ℕ, Some, ◌<◌, length, is_some, slice_index, ap, ◌∙◌}
-use Rattle.std.proofs.lemmas.List.{get_or_read}
-use Rattle.sdd_script_model.proofs.Stocked.{slot-inside}
+use Rattle.std.proofs.Common.{◌≡◌, ℕ, None, Some, IsSome, slice_index_or, ap, ◌∙◌}
+use Rattle.sdd_space.specs.Out.{is_out}
+use Rattle.sdd_script_model.specs.Shown.{item_in}
+use Rattle.sdd_script_model.proofs.Stocked.{name-some}
 use Rattle.sdd_script_text.specs.declared.call.Action.TheVariants as call
 use Rattle.sdd_script_text.specs.declared.call.Call.TheVariants.{At}
 use Rattle.sdd_script_text.specs.declared.answer.Reply.TheVariants as reply
@@ -28,16 +29,21 @@ pub raw_step_at-requires-clause-asked : goal.raw_step_at-requires-clause-asked
 raw_step_at-requires-clause-asked c = owner-home c.stage.inside.hand c.stage.invariant c.is_whole.ensures c.args.owner.0 _ c.in-Some-take_sole.ensures.0
 
 -- the item has a name
-named : (h : Environment) → IsTied h → (k s : ℕ) → s ≡ k → standing_at h.world k ≡ Some Owned → s < length h.names.items
-named h t k s is stands = rw is (slot-inside (desk_of h) t.sound.stocked k (ap is_some stands)).0
+named : (h : Environment) → IsTied h → (k s : ℕ) → s ≡ k → standing_at h.world k ≡ Some Owned → IsSome (slice_index_or h.names.items s None)
+named h t k s is stands = rw is (name-some (desk_of h) t.sound.stocked k (ap is_out stands))
 
-went : (c : goal.After-row_known-1) → Does (desk_of c.stage.inside.hand) (At c.args.name (call.Raw c.args.owner))
-    (reply.Raw (record { 0 = c.index.result.now })) (record c.stage.inside.hand { world = c.raw_step_at.new.world; owners = c.take_sole.new.owners })
+pub item_at-requires : goal.item_at-requires
+item_at-requires c =
+    let h = c.stage.inside.hand in
+    rw c.as_slice.ensures.value (named h c.stage.invariant _ _ c.slot_of_sole-slot.ensures c.raw_step_at.ensures.done.0)
+
+went : (c : goal.After-item_at) → Does (desk_of c.stage.inside.hand) (At c.args.name (call.Raw c.args.owner))
+    (reply.Raw c.item_at.result) (record c.stage.inside.hand { world = c.raw_step_at.new.world; owners = c.take_sole.new.owners })
 went c =
     let h = c.stage.inside.hand in
-    let slot = c.slot_of_sole-slot.ensures in
     let name =
-    get_or_read h.names.items _ _ (named h c.stage.invariant _ _ slot c.raw_step_at.ensures.done.0) c.index.ensures 0 ∙ ap (slice_index h.names.items) slot in
+    c.item_at.ensures ∙ ap (λ names. item_in names c.slot_of_sole-slot.result) c.as_slice.ensures.value
+    ∙ ap (item_in h.names.items) c.slot_of_sole-slot.ensures in
     acts-raw h c.stage.invariant c.is_whole.ensures c.args.name _ (got h.places c.args.name.0 _ c.in-Some.ensures) c.args.owner _ _ _ _
     c.in-Some-take_sole.ensures.0 c.in-Some-take_sole.ensures.1 c.raw_step_at.ensures.done.0 c.raw_step_at.ensures.done.1 name
 

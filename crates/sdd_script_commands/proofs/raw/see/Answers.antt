@@ -3,9 +3,10 @@ use Rattle.sdd_script_text.specs.declared.call.Action.TheVariants as call
 use Rattle.sdd_script_model.specs.Shown.{told_of}
 use Rattle.sdd_script_model.specs.Val.{body_of}
 use Rattle.sdd_interpreter.specs.Interpreter.{desk_of}
-use Rattle.sdd_interpreter.proofs.Inside.{value-inside}
+use Rattle.sdd_interpreter.proofs.Inside.{value-named}
 use Rattle.sdd_interpreter.proofs.Missing.{invalid}
 use Rattle.sdd_script_commands.proofs.RawActs.{acts-seen, acts-unseen, there-from, there-not}
+use Rattle.sdd_script_model.proofs.Stocked.{name-given}
 use Rattle.sdd_script_commands.proofs.raw.see.Goals as goal
 
 pub returns-in_default : goal.returns-in_default
@@ -17,7 +18,7 @@ returns-in_default c =
 
 pub slot_since-requires-clause-inside : goal.slot_since-requires-clause-inside
 slot_since-requires-clause-inside c s some =
-    rw (c.as_slice-slots.ensures.value, c.as_slice-names.ensures.value) (c.stage.invariant.sound.stocked.named s some).0
+    rw (c.as_slice-slots.ensures.value, c.as_slice-names.ensures.value) (name-given _ c.stage.invariant.sound.stocked s some)
 
 pub returns-in_default-slot_since : goal.returns-in_default-slot_since
 returns-in_default-slot_since c =
@@ -40,7 +41,7 @@ returns-in_default-raw_step_at c =
     }
 
 pub told-requires : goal.told-requires
-told-requires c = rw c.as_slice-names.ensures.value (value-inside c.stage.inside.hand c.stage.invariant _ _ c.in-Some-raw_step_at.ensures.done.0.1)
+told-requires c = rw c.as_slice-names.ensures.value (value-named c.stage.inside.hand c.stage.invariant _ _ c.in-Some-raw_step_at.ensures.done.0.1)
 
 pub returns : goal.returns
 returns c =

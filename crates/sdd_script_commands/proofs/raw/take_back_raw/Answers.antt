@@ -7,6 +7,7 @@ use Rattle.sdd_interpreter.proofs.Acts.{Does, got}
 use Rattle.sdd_interpreter.proofs.Missing.{invalid, nobody}
 use Rattle.sdd_interpreter.proofs.Acts.{same-owners, still-as}
 use Rattle.sdd_script_commands.proofs.RawActs.{acts-back, none-back, there-from, there-not}
+use Rattle.sdd_script_model.proofs.Stocked.{name-given}
 use Rattle.sdd_script_commands.proofs.raw.take_back_raw.Goals as goal
 
 pub returns-in_default : goal.returns-in_default
@@ -14,7 +15,7 @@ returns-in_default c = record { acts = rw (← c.stage.view_is) (nobody c.stage.
 
 pub slot_since-requires-clause-inside : goal.slot_since-requires-clause-inside
 slot_since-requires-clause-inside c s some =
-    rw (c.as_slice-slots.ensures.value, c.as_slice-names.ensures.value) (c.stage.invariant.sound.stocked.named s some).0
+    rw (c.as_slice-slots.ensures.value, c.as_slice-names.ensures.value) (name-given _ c.stage.invariant.sound.stocked s some)
 
 pub returns-in_default-slot_since : goal.returns-in_default-slot_since
 returns-in_default-slot_since c =

@@ -12,13 +12,13 @@ use Rattle.sdd_lists.proofs.Fresh.{freed-again}
 use Rattle.sdd_lists.proofs.Grows.{grows-not, grows-spilled}
 use Rattle.sdd_lists.proofs.linked_entry.LinkedEntry.clone.Goals as goal
 
-pub returns-in-Err-clone-clause-own : goal.returns-in-Err-clone-clause-own
-returns-in-Err-clone-clause-own g c = λ start grown.
+pub returns-in-Err-clone_value-clause-own : goal.returns-in-Err-clone_value-clause-own
+returns-in-Err-clone_value-clause-own g c = λ start grown.
     grows-spilled _ _ c.close.ensures.own start (grows-not (g.S.Caller.own c.args.s.now) _ c.in-Ok.ensures.undisturbed.own start grown)
 
 -- the cell is freed again
-pub returns-in-Err-clone-clause-exact : goal.returns-in-Err-clone-clause-exact
-returns-in-Err-clone-clause-exact g c = λ e.
+pub returns-in-Err-clone_value-clause-exact : goal.returns-in-Err-clone_value-clause-exact
+returns-in-Err-clone_value-clause-exact g c = λ e.
     let w = g.S.Caller.world c.args.s.now in
     let o : ℕ = cell_of c.in-Ok.next in
     let at1 = c.in-Ok.ensures.undisturbed.seat in

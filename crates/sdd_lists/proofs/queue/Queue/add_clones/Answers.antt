@@ -68,7 +68,7 @@ loop-value-preserved g c = record {
         stands.1,
         got.7 ∙ ap (λ (ys : List _). got.1 ++ ys) (shown-step v c.loop-value.walk rest x got.5 next.0)
             ∙ sym (append_assoc got.1 (x ∷ []) (shown_of (left (drop 1 rest)))),
-        AllZip-push g.T.Clone.is_clone got.1 got.2 x more.0 got.8 more.1,
+        AllZip-push g.T.CloneValue.is_clone got.1 got.2 x more.0 got.8 more.1,
         one-behind place q w u new es got.3 more.2 second got.4 more.3 got.2 more.0 filled adds,
         queue-still u new place q got.3 more.2 got.4 more.3 more.0 adds unused from fs held
             (subst (λ (y : World _). IsQueueBeside y from fs held q got.3) (sym same) got.10),
@@ -106,7 +106,7 @@ returns-in-Err-clause-list g c = λ e es second queue from now fs held stood bes
         x,
         shown_of (left (drop 1 rest)),
         shown-step v c.loop-value.walk rest x got.5 next.0,
-        subst (λ (y : World _). RefusesClone g.T.Clone.is_clone g.T.Clone.is_infallible y x c.in-Err.back.1) (sym why.0) why.2,
+        subst (λ (y : World _). RefusesClone g.T.CloneValue.is_clone g.T.CloneValue.is_infallible y x c.in-Err.back.1) (sym why.0) why.2,
       ),
     )
 

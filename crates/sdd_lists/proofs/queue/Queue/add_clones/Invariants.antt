@@ -26,7 +26,7 @@ invariant-loop-value g l = record {
       IsQueueBeside (g.S.Caller.world l.initial.s) from fs held (cells_in l.self) es →
       (rest : List (Entry _)) × (first xs : List _) × (gs : List (Entry _)) × (holds : Option ℕ) × StandsBefore (g.S.Caller.world l.s) l.walk rest ×
       AreBeside rest (cells_in l.self) gs × (shown_of now ≡ first ++ shown_of rest) ×
-      AllZip g.T.Clone.is_clone first xs ×
+      AllZip g.T.CloneValue.is_clone first xs ×
       FillsQueue (g.S.Caller.seat l.initial.s).place (cells_in l.self) (g.S.Caller.world l.initial.s) es second xs (g.S.Caller.world l.s) gs holds ×
       IsQueueBeside (g.S.Caller.world l.s) from fs held (cells_in l.self) gs;
 }

@@ -28,7 +28,7 @@ invariant-loop-value g l = record {
       IsStackBeside (g.S.Caller.world l.initial.s) from fs (cell_in l.self) [] →
       (rest : List (Entry _)) × (first xs : List _) × (gs : List (Entry _)) × StandsBefore (g.S.Caller.world l.s) l.walk rest ×
       AreBeside rest (both (cell_in l.self)) gs × (shown_of now ≡ first ++ shown_of rest) ×
-      AllZip g.T.Clone.is_clone first xs ×
+      AllZip g.T.CloneValue.is_clone first xs ×
       ExtendsStack (g.S.Caller.seat l.initial.s).place (cell_in l.self) (g.S.Caller.world l.initial.s) [] xs (g.S.Caller.world l.s) gs ×
       IsStackBeside (g.S.Caller.world l.s) from fs (cell_in l.self) gs × LastIs link_of l.last gs;
 }

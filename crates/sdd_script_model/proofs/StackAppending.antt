@@ -1,0 +1,209 @@
+-- What is always true of a desk is true after a number is put behind a stack's entries, which the stack alone owns
+use Rattle.std.proofs.Common.{◌≡◌, ◌≢◌, ◌⊎◌, ◌+◌, inl, inr, ℕ, List, [], ◌∷◌, ◌++◌, Option, Some, None, slice_index_or, refl, sym, ap, ◌∙◌, subst, arith}
+use Rattle.std.specs.Prelude.{max}
+use Rattle.std.proofs.lemmas.Bool.{cases_eq}
+use Rattle.std.proofs.lemmas.List.{set-set}
+use Rattle.sdd_core.specs.declared.tag.Tag.TheVariants.{None as no_tag}
+use Rattle.sdd_participants.specs.Slab.{Entries, entry_at}
+use Rattle.sdd_participants.specs.declared.standing.Standing.{Standing}
+use Rattle.sdd_participants.specs.declared.standing.Standing.TheVariants.{Owned, Shared}
+use Rattle.sdd_space.specs.OwnerOrCell as holding
+use Rattle.sdd_space.specs.Ledger.{Claim, owner_of, one}
+use Rattle.sdd_space.specs.Ledger.Moves.{shares}
+use Rattle.sdd_space.specs.World.{World, IsPlaceOf, standing_at, value_at}
+use Rattle.sdd_space.specs.WorldChanges.{held_in, owner_given, with_standing}
+use Rattle.sdd_space.specs.WorldInvariant.{IsWhole}
+use Rattle.sdd_space.proofs.Ledger.{ledger-laws}
+use Rattle.sdd_lists.specs.Ends.{IsAmong, appended, end_of, through_last}
+use Rattle.sdd_lists.specs.Lists.{Apart, Entry}
+use Rattle.sdd_lists.proofs.Ending.{among-last, appended-other, put-values}
+use Rattle.sdd_lists.proofs.Lists.{bare, list-same}
+use Rattle.sdd_script_model.specs.Listed.{AreNumbers, Begins, HasLists, IsListed}
+use Rattle.sdd_script_model.specs.Stacks.{Appends, IsStack}
+use Rattle.sdd_script_model.specs.ScriptState.{ScriptState, IsListCell, IsSecondCell}
+use Rattle.sdd_script_model.specs.Sound.{IsSound, contained, named}
+use Rattle.sdd_script_model.specs.Val.{Val, holdings_of, link_of}
+use Rattle.sdd_script_model.proofs.Chains.{IsMidway, are-own, starts}
+use Rattle.sdd_script_model.proofs.Counting.{owner-given}
+use Rattle.sdd_script_model.proofs.Links.{same-once}
+use Rattle.sdd_script_model.proofs.Listed.{AreOwn, apart-item, apart-own, has-changed, link-apart, links-apart, listed-inside, same-list}
+use Rattle.sdd_script_model.proofs.ListChanges.{among-or}
+use Rattle.sdd_script_model.proofs.QueueEnds.{among-before, among-either, among-through, dropped, numbers-last, numbers-through, put-last}
+use Rattle.sdd_script_model.proofs.QueuePushing.{linked-where}
+use Rattle.sdd_script_model.proofs.StackChains.{IsBetween, IsSingle, between, goes-on, midway}
+use Rattle.sdd_script_model.proofs.StackGoing.{is-single, numbers}
+use Rattle.sdd_script_model.proofs.StackPushing.{clear-mid, given-up, link-off, link-off_all, list-mid, made, mid, mid-whole, number-in, stands-once, there-mid}
+
+module _ (d : ScriptState) (s : IsSound d) (whole : IsWhole d.world) (p c : ℕ) (live : IsPlaceOf d.world p) (n : ℕ) (es : List (Entry Val)) (is : IsStack d n c es)
+    (number k : ℕ) (w : World Val) (puts : Appends d.world p c es number k w) where
+  abbrev x : Val
+  x = puts.entry
+
+  abbrev l : ℕ
+  l = link_of puts.entry
+
+  -- ---- the item is made
+
+  abbrev entered : ScriptState
+  entered = mid d s whole p live number k x puts.free puts.appended.free puts.body
+
+  abbrev v : World Val
+  v = entered.world
+
+  sound-in : IsSound entered
+  sound-in = (made d s whole p live number k x puts.free puts.appended.free puts.body).sound
+
+  list-in : Begins v c es
+  list-in = list-mid d s whole p live number k x puts.free puts.appended.free puts.body c es is.list
+
+  there-in : value_at v k ≡ Some x
+  there-in = there-mid d s whole p live number k x puts.free puts.appended.free puts.body
+
+  off-first : c ≢ l
+  off-first = link-off d s whole p live number k x puts.free puts.appended.free puts.body c _ is.list.begins
+
+  off-links : Apart link_of l es
+  off-links = link-off_all d s whole p live number k x puts.free puts.appended.free puts.body es is.list.linked
+
+  once-in : standing_at v k ≡ Some (Shared 1)
+  once-in = stands-once d s whole p live number k x puts.free puts.appended.free puts.body
+
+  -- its one owner has a name, so it is in no list
+  unlisted : IsListed (IsListCell entered) v k → ⊥
+  unlisted at =
+      let inner = listed-inside v (λ u. named entered u + contained entered u) sound-in.ledger (IsListCell entered) k at in
+      let mine = owner-given d.owners d.cells d.collectors (holding.shared k d.world.home.slots) k refl (owner_of k) in
+      let stands = ((ledger-laws holdings_of v).tells _ sound-in.ledger).stands k (omega (arith, inner)) in
+      elim stands [
+        | inl sole ↦ (let never : Some (Shared 1) ≡ Some Owned = sym once-in ∙ sole.0 in absurd (cc))
+        | inr several ↦
+            (let both : Some (Shared 1) ≡ Some (Shared several.0) = sym once-in ∙ several.1 in
+            let one_only : several.0 ≡ 1 = cc in
+            absurd (omega (arith, several.2, ap (max 1) one_only, inner, mine, same-once k)))
+      ]
+
+  its : IsSingle entered c
+  its = is-single entered sound-in n c is.named
+
+  -- ---- one owner more is made, and goes to the end of the list
+
+  abbrev twice : World Val
+  twice = with_standing v k (Shared 2)
+
+  with-two : IsBetween entered twice (λ u. named entered u + one (owner_of k) u)
+  with-two =
+      goes-on (between (starts entered sound-in (mid-whole d s whole p live number k x puts.free puts.appended.free puts.body)))
+      (shares v k 1 (record { shared = once-in; some = omega arith; most = omega arith })) tt (named entered) (λ u. omega arith)
+
+  list-twice : Begins twice c es
+  list-twice = list-same link_of v twice c no_tag es refl refl list-in
+
+  abbrev last : World Val
+  last = appended link_of twice p c no_tag es l k
+
+  with-last : IsBetween entered last (named entered)
+  with-last =
+      put-last p k x live (named entered) twice with-two c no_tag es list-twice
+      (clear-mid d s whole p live number k x puts.free puts.appended.free puts.body) off-first off-links
+
+  -- two owners at once, or one after the other
+  last-is : w ≡ owner_given last p k (standing_at last k)
+  last-is =
+      puts.appended.world
+      ∙ ap (λ (u : World Val). let y : World Val = appended link_of u p c no_tag es l k in owner_given y p k (standing_at y k))
+      (ap (λ (ss : Entries Standing). record v { standings = ss }) (sym (set-set d.world.standings k (Some (Shared 1)) (Some (Shared 2)))))
+
+  -- ---- the lists
+
+  abbrev pub now : List (Entry Val)
+  now = through_last es ++ record { slot = k; value = x; tag = no_tag } ∷ []
+
+  list-now : Begins last c now
+  list-now =
+      let given = bare last p k (standing_at last k) in
+      list-same link_of w last c no_tag now (sym (ap (λ (u : World Val). u.cells) last-is ∙ given.cells))
+      (sym (ap (λ (u : World Val). u.values) last-is ∙ given.values)) puts.appended.list
+
+  abbrev all : Claim → ℕ
+  all u = named entered u + contained entered u
+
+  own : AreOwn (IsListCell entered) (IsSecondCell entered) all
+  own = are-own entered v all all sound-in.ledger (λ u. omega arith) (λ u. omega arith)
+
+  had : HasLists (IsListCell entered) (IsSecondCell entered) v
+  had = sound-in.lists
+
+  values-same : last.values ≡ v.values
+  values-same = put-values link_of twice p (end_of link_of c no_tag es) l k
+
+  cell-still : (i : ℕ) → i ≢ c → Apart link_of i es → i ≢ l → entry_at last.cells i ≡ entry_at v.cells i
+  cell-still i a b e = appended-other link_of twice p c no_tag es l k i a b e
+
+  -- the link of an item that is neither the new one nor in this list
+  link-still : (j : ℕ) (z : Val) → value_at v j ≡ Some z → (IsAmong j es → ⊥) → j ≢ k → entry_at last.cells (link_of z) ≡ entry_at v.cells (link_of z)
+  link-still j z at not far =
+      cell-still (link_of z) (λ same. link-apart v all sound-in.ledger c j z (own.first c its.begins) at (sym same))
+      (apart-item v all sound-in.ledger j z at es list-in.linked not) (λ same. far (links-apart v all sound-in.ledger j k z x at there-in same))
+
+  forward : (b : ℕ) → IsListCell entered b → b ≢ c → (gs : List (Entry Val)) → Begins v b gs → Begins last b gs
+  forward b y far gs list = record {
+    begins =
+        cell-still b far (apart-own v all sound-in.ledger b (own.first b y) es list-in.linked)
+        (link-apart v all sound-in.ledger b k x (own.first b y) there-in) ∙ list.begins;
+    linked = linked-where v last values-same gs list.linked
+        (λ j z among at. link-still j z at (λ also. far (had.apart b c j gs es y its.begins list list-in among also))
+        (λ same. unlisted (record { cell = b; entries = gs; begun = y; list = list; among = subst (λ (i : ℕ). IsAmong i gs) same among })));
+  }
+
+  stays : (a b : ℕ) → IsSecondCell entered a b → entry_at last.cells b ≡ entry_at v.cells b
+  stays a b y =
+      cell-still b (λ same. own.two c a b its.begins y (sym same)) (apart-own v all sound-in.ledger b (own.second a b y) es list-in.linked)
+      (link-apart v all sound-in.ledger b k x (own.second a b y) there-in)
+
+  from : (j : ℕ) → IsAmong j now → IsAmong j es ⊎ (IsListed (IsListCell entered) v j → ⊥)
+  from j among = elim (among-either j (through_last es) _ among) [
+    | inl through ↦ inl (among-through j es through)
+    | inr same ↦ inr (λ at. unlisted (subst (λ (i : ℕ). IsListed (IsListCell entered) v i) (sym same) at))
+  ]
+
+  links : (j : ℕ) (z : Val) → value_at last j ≡ Some z → (held_in (entry_at last.cells (link_of z)) ≡ None) ⊎ (IsAmong j now
+      ⊎ ((at : IsListed (IsListCell entered) v j) × (at.cell ≢ c)))
+  links j z e =
+      let was : value_at v j ≡ Some z = ap (λ (vs : List (Option Val)). slice_index_or vs j None) (sym values-same) ∙ e in
+      elim (cases_eq j k) [
+        | inl same ↦ inr (inl (among-last j (through_last es) (record { slot = k; value = x; tag = no_tag }) (sym same)))
+        | inr far ↦ elim (among-or j es) [
+          | inl among ↦
+              elim (dropped p k x twice c no_tag es list-twice off-links j z among was) [
+                | inl stay ↦ inr (inl (among-before j (through_last es) (record { slot = k; value = x; tag = no_tag }) stay))
+                | inr none ↦ inl none
+              ]
+          | inr not ↦ elim (had.linked j z was) [
+            | inl none ↦ inl (ap held_in (link-still j z was not far) ∙ none)
+            | inr at ↦ elim (cases_eq at.cell c) [
+              | inl same ↦
+                  absurd (not (subst (λ (fs : List (Entry Val)). IsAmong j fs)
+                  (same-list v c at.entries es (subst (λ (i : ℕ). Begins v i at.entries) same at.list) list-in) at.among))
+              | inr off ↦ inr (inr (at, off))
+            ]
+          ]
+        ]
+      ]
+
+  numbers-now : AreNumbers now
+  numbers-now =
+      numbers-last (through_last es) (record { slot = k; value = x; tag = no_tag })
+      (numbers-through es (numbers entered sound-in (mid-whole d s whole p live number k x puts.free puts.appended.free puts.body) p c live n es
+      (record { named = is.named; list = list-in })))
+      (number-in d s whole p live number k x puts.free puts.appended.free puts.body)
+
+  lists-now : HasLists (IsListCell entered) (IsSecondCell entered) last
+  lists-now =
+      has-changed (IsListCell entered) (IsSecondCell entered) v last had c its.begins its.single stays es now list-in list-now numbers-now forward from links
+
+  -- ---- the other owner is given up
+
+  pub appended-midway : IsMidway entered w (named d)
+  appended-midway =
+      subst (λ (u : World Val). IsMidway entered u (named d)) (sym last-is)
+      (given-up d s whole p live number k x puts.free puts.appended.free puts.body last (midway with-last lists-now))
