@@ -76,6 +76,7 @@ IsQueueAct other = ⊥
 -- an action on a stack as a whole
 abbrev pub IsStackAct : Action → Type 0
 IsStackAct call.Stack = Unit {0}
+IsStackAct (call.All stack guard) = Unit {0}
 IsStackAct (call.CloseStack stack) = Unit {0}
 IsStackAct other = ⊥
 

@@ -150,6 +150,7 @@ pub fn act_on_stack(
 {
     Ok(Some(match action {
         Action::Stack => stacks::make_stack(stage, name)?,
+        Action::All(stack, guard) => stacks::pour(stage, name, stack, guard)?,
         Action::CloseStack(stack) => stacks::close_stack(stage, name, stack)?,
         _ => return Ok(None),
     }))

@@ -311,6 +311,9 @@ module _ (d new : ScriptState) (whole : IsWhole d.world) (after : IsWhole new.wo
   turn-does n (call.PopIf l m g) (reply.KeptEntry o number) valid (other, (c, es, e, rest, is, first, told, adds)) =
       still (λ k. (refl, refl, refl)) (still-adds d e.slot (reply.Owner o) new adds)
   turn-does n (call.PopIf l m g) (reply.Refused TooManyOwners) valid (is, e) = still (λ k. (refl, refl, refl)) (same-desk d new e)
+  turn-does n (call.All s g) (reply.Stack r) valid (name, (c, es, k, is, free, leaves)) =
+      still (λ k. (refl, refl, refl)) (time-left leaves, places-left leaves)
+  turn-does n (call.All s g) (reply.Refused NoCell) valid (full, e) = still (λ k. (refl, refl, refl)) (same-desk d new e)
   turn-does n (call.Peek l g) given valid (is, e) = still (λ k. (refl, refl, refl)) (same-desk d new e)
   turn-does n (call.Len l g) (reply.Value m) valid (is, e) = still (λ k. (refl, refl, refl)) (same-desk d new e)
   turn-does n (call.List l g) (reply.Numbers ns) valid (is, e) = still (λ k. (refl, refl, refl)) (same-desk d new e)

@@ -39,6 +39,7 @@ use Rattle.sdd_script_model.specs.declared.val.Body.TheVariants as body
 use Rattle.sdd_script_model.specs.Val.{Val, body_of, holdings_of, link_of}
 use Rattle.sdd_script_model.specs.declared.link_change.LinkChange.TheVariants as change
 use Rattle.sdd_lists.specs.Lists.{Entry, content, first_value, left}
+use Rattle.sdd_lists.specs.Stack.{poured}
 use Rattle.sdd_lists.specs.Walk.{shown_of}
 use Rattle.sdd_script_model.specs.Link.{IsLink, Retags}
 use Rattle.sdd_script_model.specs.Stacks.{Drains, IsOwnedEnough, IsStack, Pushes, RefusesEntry, Takes, stack_closed}
@@ -181,6 +182,7 @@ IsValid d n (call.Push l number g) = HasOpen d n g.0 × IsListName d l
 IsValid d n (call.PushIf l number m g) = HasOpen d n g.0 × IsListName d l
 IsValid d n (call.Pop l g) = HasOpen d n g.0 × IsListName d l
 IsValid d n (call.PopIf l m g) = HasOpen d n g.0 × IsListName d l
+IsValid d n (call.All s g) = HasOpen d n g.0 × IsStackName d s.0
 IsValid d n (call.Peek l g) = HasOpen d n g.0 × IsListName d l
 IsValid d n (call.Len l g) = HasOpen d n g.0 × IsListName d l
 IsValid d n (call.List l g) = HasOpen d n g.0 × IsListName d l
@@ -431,6 +433,11 @@ Does d n p (call.PopIf l m g) (reply.KeptEntry o number) new =
     (number ≢ m) × ((c : ℕ) × (es : List (Entry Val)) × (e : Entry Val) × (rest : List (Entry Val)) × IsContainer d l c es × (left es ≡ e ∷ rest)
     × (body_of e.value ≡ body.Number number) × AddsOwner d e.slot (reply.Owner o) new)
 Does d n p (call.PopIf l m g) (reply.Refused TooManyOwners) new = HasCrowdedFirst d l × (new ≡ d)
+-- a free cell is taken, whichever
+Does d n p (call.All s g) (reply.Stack r) new =
+    (r.0 ≡ length d.stacks) × ((c : ℕ) × (es : List (Entry Val)) × (k : ℕ) × IsStack d s.0 c es × IsEmptyAt d.world.cells k
+    × Leaves (in_world (with_stack d k) (poured d.world c k es)) new)
+Does d n p (call.All s g) (reply.Refused NoCell) new = IsFull d.world.cells × (new ≡ d)
 Does d n p (call.Peek l g) given new = ((c : ℕ) × (es : List (Entry Val)) × IsContainer d l c es × TellsNumber given (first_value (left es))) × (new ≡ d)
 Does d n p (call.Len l g) (reply.Value m) new = ((c : ℕ) × (es : List (Entry Val)) × IsContainer d l c es × (m ≡ length (content es))) × (new ≡ d)
 Does d n p (call.List l g) (reply.Numbers ns) new =

@@ -98,6 +98,7 @@ spoken (action.Push l n g) = (codes "push", named l ∷ Number n ∷ Guard g ∷
 spoken (action.PushIf l n m g) = (codes "pushif", named l ∷ Number n ∷ Number m ∷ Guard g ∷ [])
 spoken (action.Pop l g) = (codes "pop", named l ∷ Guard g ∷ [])
 spoken (action.PopIf l m g) = (codes "popif", named l ∷ Number m ∷ Guard g ∷ [])
+spoken (action.All s g) = (codes "all", Stack s ∷ Guard g ∷ [])
 spoken (action.Peek l g) = (codes "peek", named l ∷ Guard g ∷ [])
 spoken (action.Len l g) = (codes "len", named l ∷ Guard g ∷ [])
 spoken (action.List l g) = (codes "list", named l ∷ Guard g ∷ [])

@@ -103,6 +103,8 @@ pub enum Action {
     Pop(ListName, GuardName),
     /// `popif L m G`: takes a container's first number out that isn't deleted, if it is this one.
     PopIf(ListName, u64, GuardName),
+    /// `all S G`: puts all entries of a stack onto a new one.
+    All(StackName, GuardName),
     /// `peek L G`: a container's first number that isn't deleted.
     Peek(ListName, GuardName),
     /// `len L G`: how many of a container's numbers aren't deleted.

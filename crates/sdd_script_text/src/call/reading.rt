@@ -253,7 +253,10 @@ fn with_guard_behind(verb: &str, first: Argument, guard: GuardName) -> Option<Ac
             _ => None,
         },
         Argument::Queue(queue) => with_list(verb, ListName::Queue(queue), guard),
-        Argument::Stack(stack) => with_list(verb, ListName::Stack(stack), guard),
+        Argument::Stack(stack) => match verb {
+            "all" => Some(Action::All(stack, guard)),
+            _ => with_list(verb, ListName::Stack(stack), guard),
+        },
         Argument::Cell(cell) => match verb {
             "load" => Some(Action::Load(cell, guard)),
             "copy" => Some(Action::Copy(cell, guard)),
