@@ -1,5 +1,5 @@
 -- All entries of a stack go to a new one, and what the script's desk is then
-use Rattle.std.proofs.Common.{◌≡◌, ◌≢◌, ◌⊎◌, ◌+◌, ◌≤◌, ◌×◌, inl, inr, ℕ, Bool, true, false, List, [], ◌∷◌, ◌++◌, Option, Some, None, is_some, length, slice_set, refl, sym, ap, ◌∙◌, subst, arith}
+use Rattle.std.proofs.Common.{◌≡◌, ◌≢◌, ◌⊎◌, ◌+◌, inl, inr, ℕ, List, [], Option, Some, None, is_some, length, slice_set, refl, sym, ap, ◌∙◌, subst, arith}
 use Rattle.std.proofs.lemmas.Bool.{cases_eq}
 use Rattle.std.proofs.lemmas.List.{get_or_push, length-set}
 use Rattle.sdd_core.specs.declared.tag.Tag.TheVariants.{None as no_tag}
@@ -10,7 +10,7 @@ use Rattle.sdd_space.specs.OwnerOrCell as holding
 use Rattle.sdd_space.specs.Ledger.{Claim, IsLedger, one, right_to}
 use Rattle.sdd_space.specs.Ledger.Moves.{changes_cell, makes_cell}
 use Rattle.sdd_space.specs.World.{World, IsPlaceOf, value_at}
-use Rattle.sdd_space.specs.WorldChanges.{held_in, nulled, with_cell}
+use Rattle.sdd_space.specs.WorldChanges.{held_in, nulled}
 use Rattle.sdd_space.specs.WorldInvariant.{IsWhole, once_if}
 use Rattle.sdd_lists.specs.Ends.{IsAmong}
 use Rattle.sdd_lists.specs.Lists.{Entry, first_slot}
@@ -30,7 +30,7 @@ use Rattle.sdd_script_model.proofs.Entry.{inside as inside-list}
 use Rattle.sdd_script_model.proofs.Layers.{layered-less}
 use Rattle.sdd_script_model.proofs.Links.{null}
 use Rattle.sdd_script_model.proofs.Listed.{AreOwn, apart-own, link-apart, link-inside, same-list}
-use Rattle.sdd_script_model.proofs.ListChanges.{apart-free, list-beside, none-still, off, third}
+use Rattle.sdd_script_model.proofs.ListChanges.{apart-free, list-beside, off, third}
 use Rattle.sdd_script_model.proofs.StackChains.{IsBetween, between, goes-on}
 use Rattle.sdd_script_model.proofs.StackGoing.{begun-old, begun-or, is-single}
 use Rattle.sdd_script_model.proofs.Stocked.{stocked-as}
@@ -180,10 +180,11 @@ module _ (d : ScriptState) (s : IsSound d) (whole : IsWhole d.world) (p c k : �
   abbrev pub after_poured : ScriptState
   after_poured = in_world (with_stack d k) (poured d.world c k es)
 
+  abbrev first_held : CellContents
+  first_held = record { held = first_slot es; tag = no_tag }
+
   away-k : k ≢ c
-  away-k same =
-      let never : None ≡ Some (record { held = first_slot es; tag = no_tag }) =
-      sym free.1 ∙ ap (λ (i : ℕ). entry_at d.world.cells i) same ∙ is.list.begins in cc
+  away-k same = absurd (let never : None ≡ Some first_held = sym free.1 ∙ ap (λ (i : ℕ). entry_at d.world.cells i) same ∙ is.list.begins in cc)
 
   -- the first entry's owner is taken out of the cell, and goes into the new one
   out : IsBetween d (poured d.world c k es) (λ u. named d u + one (right_to k) u)
