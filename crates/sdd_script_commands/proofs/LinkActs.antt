@@ -1,7 +1,7 @@
 -- What a change of a link leaves in hand: it is sound, and it is what the call means
-use Rattle.std.proofs.Common.{◌≡◌, ◌≢◌, ℕ, Bool, true, false, Some, refl, ap}
+use Rattle.std.proofs.Common.{◌≡◌, ◌≢◌, ℕ, Bool, true, false, Some, refl, ap, ◌∙◌}
 use Rattle.sdd_core.specs.declared.tag.Tag.{Tag}
-use Rattle.sdd_core.specs.declared.tag.Tag.TheVariants.{Both}
+use Rattle.sdd_core.specs.declared.tag.Tag.TheVariants.{Both, Second}
 use Rattle.sdd_participants.specs.Slab.{entry_at}
 use Rattle.sdd_participants.specs.declared.standing.CellContents.{CellContents}
 use Rattle.sdd_space.specs.World.{World, value_at}
@@ -31,6 +31,12 @@ no-both : (how : LinkChange) → tag_after how ≢ Both
 no-both Mark same = absurd (cc)
 no-both Unmark same = absurd (cc)
 no-both Delete same = absurd (cc)
+
+-- and none changes the link of a deleted entry
+no-deleted : (how : LinkChange) → may_change how Second ≡ false
+no-deleted Mark = refl
+no-deleted Unmark = refl
+no-deleted Delete = refl
 
 -- who changes a link has a guard open, and can point to its item
 pub valid-changing : (d : ScriptState) (n : ℕ) (how : LinkChange) (i : ItemName) → IsValid d n (changing how i) → IsUnderGuard d n × CanPointTo d n i.0
@@ -62,7 +68,7 @@ module _ (h : Environment) (t : IsTied h) (i : ItemName) (name : PlaceName) (v :
   acts-changed whole a there how true w may world =
       leads h t (At name (changing how i)) (reply.Truth true) refl (ap (in_world d) world)
       (link-leaves d t.sound whole (index_of a.place) (link_of v) cell (in_range h t whole name a there) holds (tag_after how) (slot_at d i.0) v shown refl
-      (no-both how)) (meets how true may)
+      (no-both how) (λ same. absurd (let never : true ≡ false = may ∙ ap (may_change how) same ∙ no-deleted how in cc))) (meets how true may)
   acts-changed whole a there how false w may world =
       does d (At name (changing how i)) (reply.Truth false) (goes (ap (in_world d) world) t.sound t.guards)
       (still d (At name (changing how i)) (reply.Truth false) (meets how false may))

@@ -14,8 +14,9 @@ use Rattle.sdd_space.specs.WorldChanges.{held_in, nulled}
 use Rattle.sdd_space.specs.WorldInvariant.{IsWhole, once_if}
 use Rattle.sdd_lists.specs.Ends.{IsAmong}
 use Rattle.sdd_lists.specs.Lists.{Entry, first_slot}
-use Rattle.sdd_lists.specs.Queue.{IsNoneOrAmong}
+use Rattle.sdd_lists.specs.Queue.{IsSecond}
 use Rattle.sdd_lists.specs.Stack.{poured}
+use Rattle.sdd_lists.proofs.LetGo.{KeepsGone, gone, gone-then, gone-written, second-kept}
 use Rattle.sdd_lists.proofs.Lists.{linked-set}
 use Rattle.sdd_script_model.specs.Listed.{AreNumbers, Begins, HasLists}
 use Rattle.sdd_script_model.specs.ScriptState.{ScriptState, IsListCell, IsSecondCell, in_world, shared_cell, with_stack}
@@ -121,6 +122,14 @@ module _ (begins more : ℕ → Type 0) (seconds : (c b : ℕ) → Type 0) (v : 
       ap (λ (i : ℕ). once_if (is_some (entry_at v.cells i))) same ∙ ap (λ (y : Option CellContents). once_if (is_some y)) free.1 in
       omega (arith, none, ledger (right_to (link_of z)), link-inside v outside ledger s z at)
 
+  -- what was let go of by a queue stays so
+  keeps-gone : KeepsGone v w
+  keeps-gone =
+      let room : entry_at (nulled v c).cells k ≡ None =
+      at-other v.cells c k (Some null) None (λ same. away c _ list.begins (sym same)) ∙ free.1 in
+      gone-then v (nulled v c) w (gone-written v c null (λ is. absurd (let never : Some now ≡ Some gone = sym list.begins ∙ is in cc)))
+      (gone-written (nulled v c) k now (λ is. absurd (let never : None ≡ Some gone = sym room ∙ is in cc)))
+
   pub has-poured : HasLists more seconds w
   has-poured = record {
     lists = λ b x. lists-now b (new b x) (cases_eq b c);
@@ -164,8 +173,8 @@ module _ (begins more : ℕ → Type 0) (seconds : (c b : ℕ) → Type 0) (v : 
               record {
                 second = held.second;
                 holds = third v w c k null now refl refl b (λ same. own.two c a b its y (sym same)) (away b _ held.holds) ∙ held.holds;
-                among = subst (λ (fs : List (Entry Val)). IsNoneOrAmong held.second fs) (same-list w a first.0 gs (stays a far first.0 first.1) begun)
-                    held.among;
+                among = subst (λ (fs : List (Entry Val)). IsSecond link_of w held.second fs) (same-list w a first.0 gs (stays a far first.0 first.1) begun)
+                    (second-kept link_of v w held.second first.0 first.0 keeps-gone (λ s among. inl among) held.among);
               }),
         ));
   }
