@@ -18,8 +18,7 @@ use Rattle.sdd_lists.proofs.Leaving.{list-apart, list-without}
 use Rattle.sdd_lists.proofs.Lists.{bare, behind, list-same}
 use Rattle.sdd_lists.proofs.Marking.{retagged-list}
 use Rattle.sdd_lists.proofs.Pushing.{pushed}
-use Rattle.sdd_lists.proofs.Fronts.{tag_in}
-use Rattle.sdd_lists.proofs.LetGo.{KeepsGone, gone as gone_link, gone-first, gone-same, gone-then, gone-written, let-go-kept, second-kept}
+use Rattle.sdd_lists.proofs.LetGo.{KeepsGone, gone-first, gone-same, gone-then, gone-written, let-go-kept, other-free, other-tag, second-kept}
 use Rattle.sdd_lists.specs.Queue.{IsSecond}
 use Rattle.sdd_script_model.specs.Listed.{AreNumbers, Begins, HasLists, HoldsEntry, IsListed, IsNumber}
 use Rattle.sdd_script_model.specs.Val.{Val, body_of, holdings_of, link_of}
@@ -180,10 +179,10 @@ module _ (begins : ℕ → Type 0) (seconds : (c b : ℕ) → Type 0) (v : World
     gone-stays a b s y holds was =
         let half : World Val = with_cell v (link_of x) behind_it in
         let first : KeepsGone v half =
-        gone-written v (link_of x) behind_it (λ is. absurd (let never : Some null ≡ Some gone_link = sym clear ∙ is in cc)) in
+        gone-written v (link_of x) behind_it (other-tag (entry_at v.cells (link_of x)) null clear (λ same. absurd (cc))) in
         let begun : entry_at half.cells c ≡ Some behind_it = at-other v.cells (link_of x) c (Some behind_it) None far-link ∙ old.begins in
         let second : KeepsGone half wider =
-        gone-written half c in_front (λ is. absurd (let never : Some behind_it ≡ Some gone_link = sym begun ∙ is in cc)) in
+        gone-written half c in_front (other-tag (entry_at half.cells c) behind_it begun (λ same. absurd (cc))) in
         let-go-kept link_of v wider s (gone-then v half wider first second) was
 
     pub has-put_in : HasLists begins seconds wider
@@ -281,7 +280,7 @@ module _ (begins : ℕ → Type 0) (seconds : (c b : ℕ) → Type 0) (v : World
       ])
       (λ c b y. at-other v.cells (link_of x) b (Some now) None (link-apart v outside ledger b k x (own.second c b y) there))
       (λ c b s y held was.
-      let-go-kept link_of v tagged s (gone-written v (link_of x) now (λ is. kept (ap tag_in (sym holds ∙ is)))) was)
+      let-go-kept link_of v tagged s (gone-written v (link_of x) now (other-tag (entry_at v.cells (link_of x)) cell holds kept)) was)
 
 -- ---- a list begins in a cell that was free
 
@@ -345,7 +344,7 @@ module _ (begins more : ℕ → Type 0) (seconds : (c b : ℕ) → Type 0) (v : 
                 among = subst (λ (fs : List (Entry Val)). IsSecond link_of begun held.second fs)
                     (same-list begun a was.0 es (stays-begun a was.0 was.1) list)
                     (second-kept link_of v begun held.second was.0 was.0
-                    (gone-written v c null (λ is. absurd (let never : None ≡ Some gone_link = sym free.1 ∙ is in cc))) (λ s among. inl among)
+                    (gone-written v c null (other-free (entry_at v.cells c) free.1)) (λ s among. inl among)
                     held.among);
               }),
         ));

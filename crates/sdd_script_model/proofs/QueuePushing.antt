@@ -20,7 +20,7 @@ use Rattle.sdd_lists.specs.Lists.{Apart, AreLinked, Entry}
 use Rattle.sdd_lists.specs.Queue.{IsSecond, QueueCells}
 use Rattle.sdd_lists.proofs.Ending.{among-last, appended-other, put-values}
 use Rattle.sdd_lists.proofs.Leaving.{list-apart, spilled-cells, spilled-values}
-use Rattle.sdd_lists.proofs.LetGo.{KeepsGone, gone, gone-appended, gone-same, gone-then, gone-written, let-go-kept}
+use Rattle.sdd_lists.proofs.LetGo.{KeepsGone, gone-appended, gone-same, gone-then, gone-written, let-go-kept, other-tag}
 use Rattle.sdd_lists.proofs.Lists.{list-same}
 use Rattle.sdd_script_model.specs.Listed.{AreNumbers, Begins, HasLists, IsListed}
 use Rattle.sdd_script_model.specs.Queues.{Enqueues, IsNamedQueue}
@@ -259,7 +259,7 @@ module _ (d : ScriptState) (s : IsSound d) (whole : IsWhole d.world) (p : ℕ) (
   keeps-gone : KeepsGone v w
   keeps-gone =
       let first : KeepsGone thrice fronted =
-      gone-written thrice q.newest newest (λ is. absurd (let never : Some held_second ≡ Some gone = sym second-in ∙ is in cc)) in
+      gone-written thrice q.newest newest (other-tag (entry_at v.cells q.newest) held_second second-in (λ same. absurd (cc))) in
       let second_gone : KeepsGone v spent =
       gone-then v thrice spent (gone-same v thrice refl refl)
       (gone-then thrice fronted spent first (gone-same fronted spent (spilled-cells fronted p second) (spilled-values fronted p second))) in

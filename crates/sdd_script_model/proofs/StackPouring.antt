@@ -16,7 +16,7 @@ use Rattle.sdd_lists.specs.Ends.{IsAmong}
 use Rattle.sdd_lists.specs.Lists.{Entry, first_slot}
 use Rattle.sdd_lists.specs.Queue.{IsSecond}
 use Rattle.sdd_lists.specs.Stack.{poured}
-use Rattle.sdd_lists.proofs.LetGo.{KeepsGone, gone, gone-then, gone-written, second-kept}
+use Rattle.sdd_lists.proofs.LetGo.{KeepsGone, gone-then, gone-written, other-free, other-tag, second-kept}
 use Rattle.sdd_lists.proofs.Lists.{linked-set}
 use Rattle.sdd_script_model.specs.Listed.{AreNumbers, Begins, HasLists}
 use Rattle.sdd_script_model.specs.ScriptState.{ScriptState, IsListCell, IsSecondCell, in_world, shared_cell, with_stack}
@@ -127,8 +127,8 @@ module _ (begins more : ℕ → Type 0) (seconds : (c b : ℕ) → Type 0) (v : 
   keeps-gone =
       let room : entry_at (nulled v c).cells k ≡ None =
       at-other v.cells c k (Some null) None (λ same. away c _ list.begins (sym same)) ∙ free.1 in
-      gone-then v (nulled v c) w (gone-written v c null (λ is. absurd (let never : Some now ≡ Some gone = sym list.begins ∙ is in cc)))
-      (gone-written (nulled v c) k now (λ is. absurd (let never : None ≡ Some gone = sym room ∙ is in cc)))
+      gone-then v (nulled v c) w (gone-written v c null (other-tag (entry_at v.cells c) now list.begins (λ same. absurd (cc))))
+      (gone-written (nulled v c) k now (other-free (entry_at (nulled v c).cells k) room))
 
   pub has-poured : HasLists more seconds w
   has-poured = record {
