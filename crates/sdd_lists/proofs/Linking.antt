@@ -107,7 +107,7 @@ module _ {T : Type 0} (link : T → ℕ) (w : World T) (p : ℕ) (e : Entry T) (
   abbrev pub cut : World T
   cut = trimmed link w p (link e.value) e.tag rest
 
-  tail-cut : (es : List (Entry T)) → AreLinked link w es → EndsWith es e rest → IsList link cut (link e.value) e.tag (left rest) →
+  pub tail-cut : (es : List (Entry T)) → AreLinked link w es → EndsWith es e rest → IsList link cut (link e.value) e.tag (left rest) →
       AreLinked link cut (e ∷ left rest)
   tail-cut es linked at after =
       let before = linked-ends link w es e rest at linked in

@@ -63,7 +63,7 @@ module _ {T : Type 0} (link : T → ℕ) (w new : World T) (e : Entry T) (rest :
       rw (other-slot x xs list.linked at) changed
 
   -- an entry is there still, or what became of those that others came for
-  among-spliced : (k : ℕ) (es : List (Entry T)) → AreLinked link w es → EndsWith es e rest →
+  pub among-spliced : (k : ℕ) (es : List (Entry T)) → AreLinked link w es → EndsWith es e rest →
       (IsAmong k (e ∷ rest) → IsAmong k (f ∷ others) ⊎ IsLetGo link new k) → IsAmong k es →
       IsAmong k (spliced e.slot (f ∷ others) es) ⊎ IsLetGo link new k
   among-spliced k [] linked at keeps among = absurd at

@@ -118,7 +118,8 @@ module _ (begins : ℕ → Type 0) (seconds : (c b : ℕ) → Type 0) (v : World
     stays-gone a b s y holds was = let-go-kept link_of v w s (gone-first link_of v p c no_tag e es old) was
 
     pub has-let_go : HasLists begins seconds w
-    has-let_go = has-changed begins seconds v w had c its single stays stays-gone (e ∷ es) es old new numbers.1 forward (λ s among. inl (inr among)) links
+    has-let_go = has-changed begins seconds v w had c its stays stays-gone (e ∷ es) es old new numbers.1
+        (λ b y. absurd (single b y)) forward (λ s among. inl (inr among)) links
 
   -- ---- an item is put in front, whose link holds nothing
 
@@ -187,7 +188,8 @@ module _ (begins : ℕ → Type 0) (seconds : (c b : ℕ) → Type 0) (v : World
 
     pub has-put_in : HasLists begins seconds wider
     has-put_in =
-        has-changed begins seconds v wider had c its single seconds-stay gone-stays es (entry ∷ es) old longer (number, numbers) kept-others fresh-or linked-or
+        has-changed begins seconds v wider had c its seconds-stay gone-stays es (entry ∷ es) old longer (number, numbers)
+        (λ b y. absurd (single b y)) kept-others fresh-or linked-or
 
     pub put_in-list : Begins wider c (entry ∷ es)
     put_in-list = longer

@@ -16,7 +16,7 @@ use Rattle.sdd_lists.specs.Lists.{Apart, AreLinked, Entry, first_slot}
 use Rattle.sdd_lists.specs.Queue.{IsLetGo, IsSecond}
 use Rattle.sdd_lists.proofs.Ending.{among-ends, linked-ends}
 use Rattle.sdd_lists.proofs.Fronts.{tag_in}
-use Rattle.sdd_script_model.specs.Listed.{AreNumbers, Begins, HasLists, IsListed}
+use Rattle.sdd_script_model.specs.Listed.{AreNumbers, Begins, HasLists, HoldsEntry, IsListed}
 use Rattle.sdd_script_model.specs.Val.{Val, holdings_of, link_of}
 use Rattle.sdd_script_model.proofs.Entry.{at-other}
 use Rattle.sdd_script_model.proofs.Entry.{inside as inside-list}
@@ -250,8 +250,8 @@ module _ {v w : World Val} {ins outs : Claim → ℕ} (move : Moves holdings_of 
 -- ---- one list changes
 
 module _ (begins : ℕ → Type 0) (seconds : (c b : ℕ) → Type 0) (v w : World Val) (had : HasLists begins seconds v) (c : ℕ) (its : begins c)
-    (single : (b : ℕ) → seconds c b → ⊥) (stays : (a b : ℕ) → seconds a b → entry_at w.cells b ≡ entry_at v.cells b)
-    (gone : StaysGone seconds v w) (es now : List (Entry Val)) (old : Begins v c es) (new : Begins w c now) (numbers : AreNumbers now)
+    (stays : (a b : ℕ) → seconds a b → entry_at w.cells b ≡ entry_at v.cells b) (gone : StaysGone seconds v w) (es now : List (Entry Val)) (old : Begins v c es) (new : Begins w c now) (numbers : AreNumbers now)
+    (of_it : (b : ℕ) → seconds c b → HoldsEntry w b now)
     (forward : (b : ℕ) → begins b → b ≢ c → (gs : List (Entry Val)) → Begins v b gs → Begins w b gs)
     (from : (s : ℕ) → IsAmong s now → IsAmong s es ⊎ (IsListed begins v s → ⊥)) where
   back : (b : ℕ) → begins b → b ≢ c → (gs : List (Entry Val)) → Begins w b gs → Begins v b gs
@@ -302,12 +302,16 @@ module _ (begins : ℕ → Type 0) (seconds : (c b : ℕ) → Type 0) (v w : Wor
     second = λ a b y.
         (let own = had.second a b y in (
           own.0,
-          (λ gs list.
-              let held = own.1 gs (back a own.0 (λ same. single b (subst (λ i. seconds i b) same y)) gs list) in
-              record {
-                second = held.second;
-                holds = stays a b y ∙ held.holds;
-                among = still-among v w held.second gs gs (λ s among. among) (λ s same. gone a b s y (ap held_in held.holds ∙ same)) held.among;
-              }),
+          (λ gs list. elim (cases_eq a c) [
+            | inl same ↦
+                subst (λ (fs : List (Entry Val)). HoldsEntry w b fs) (same-list w c now gs new (subst (λ (i : ℕ). Begins w i gs) same list))
+                (of_it b (subst (λ (i : ℕ). seconds i b) same y))
+            | inr far ↦
+                (let held = own.1 gs (back a own.0 far gs list) in record {
+                  second = held.second;
+                  holds = stays a b y ∙ held.holds;
+                  among = still-among v w held.second gs gs (λ s among. among) (λ s same. gone a b s y (ap held_in held.holds ∙ same)) held.among;
+                })
+          ]),
         ));
   }

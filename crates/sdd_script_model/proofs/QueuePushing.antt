@@ -41,7 +41,7 @@ use Rattle.sdd_script_model.proofs.StackGoing.{IsDatedWithin}
 use Rattle.sdd_script_model.proofs.StackPushing.{after_entered, clear-mid, entered-leaves, link-off, link-off_all, list-mid, made, mid, mid-whole, number-in, stands-once, there-mid}
 
 -- entries stay linked where their links stay as they are
-linked-where : (v w : World Val) → w.values ≡ v.values → (gs : List (Entry Val)) → AreLinked link_of v gs →
+pub linked-where : (v w : World Val) → w.values ≡ v.values → (gs : List (Entry Val)) → AreLinked link_of v gs →
     ((j : ℕ) (z : Val) → IsAmong j gs → value_at v j ≡ Some z → entry_at w.cells (link_of z) ≡ entry_at v.cells (link_of z)) → AreLinked link_of w gs
 linked-where v w values [] linked still = tt
 linked-where v w values (g ∷ gs) linked still = (
@@ -311,8 +311,8 @@ module _ (d : ScriptState) (s : IsSound d) (whole : IsWhole d.world) (p : ℕ) (
 
   lists-now : HasLists (IsListCell without_second) (IsSecondCell without_second) w
   lists-now =
-      has-changed (IsListCell without_second) (IsSecondCell without_second) v w had q.oldest its.begins its.single stays stays-gone es now list-in puts.pushed.queue.list
-      numbers-now forward from links
+      has-changed (IsListCell without_second) (IsSecondCell without_second) v w had q.oldest its.begins stays stays-gone es now list-in
+      puts.pushed.queue.list numbers-now (λ b y. absurd (its.single b y)) forward from links
 
   -- ---- the second cell is put back
 

@@ -1,5 +1,5 @@
 -- The meaning of a script: what its calls answer, and what they leave
-use Rattle.std.specs.Prelude.{ℕ, IsTrue, ◌≡◌, ◌≢◌, ◌+◌, ◌^◌, ◌<◌, ◌≤◌, List, [], ◌∷◌, ◌++◌, Option, None, Some, IsSome, Contains, length, map, slice_set, ◌↔◌, if◌then◌else◌}
+use Rattle.std.specs.Prelude.{ℕ, IsTrue, ◌≡◌, ◌≢◌, ◌+◌, ◌^◌, ◌<◌, ◌≤◌, List, [], ◌∷◌, ◌++◌, Option, None, Some, IsSome, Contains, length, map, option_map, slice_set, ◌↔◌, if◌then◌else◌}
 use Rattle.std.specs.List.Sorted.{IsStrictlyIncreasing}
 use Rattle.sdd_core.specs.Epoch.{epoch_of}
 use Rattle.sdd_core.specs.declared.tag.Tag.{Tag}
@@ -38,10 +38,10 @@ use Rattle.sdd_script_text.specs.declared.answer.Reply.TheVariants as reply
 use Rattle.sdd_script_model.specs.declared.val.Body.TheVariants as body
 use Rattle.sdd_script_model.specs.Val.{Val, body_of, holdings_of, link_of}
 use Rattle.sdd_script_model.specs.declared.link_change.LinkChange.TheVariants as change
-use Rattle.sdd_lists.specs.Lists.{Entry, content, first_value, left}
+use Rattle.sdd_lists.specs.Lists.{Entry, content, first_slot, first_value, left, trimmed}
 use Rattle.sdd_lists.specs.Stack.{poured}
 use Rattle.sdd_lists.specs.Walk.{shown_of}
-use Rattle.sdd_script_model.specs.Link.{IsLink, Retags}
+use Rattle.sdd_script_model.specs.Link.{IsBehind, IsLink, Retags}
 use Rattle.sdd_script_model.specs.Stacks.{Drains, IsOwnedEnough, IsStack, Pushes, RefusesEntry, Takes, stack_closed}
 use Rattle.sdd_script_model.specs.Containers.{HasNewest, IsContainer, TellsNumber}
 use Rattle.sdd_lists.specs.Queue.{HasOneAtMost, QueueCells, queue_closed}
@@ -176,6 +176,7 @@ IsValid d n (call.Mark i) = IsUnderGuard d n × CanPointTo d n i.0
 IsValid d n (call.Unmark i) = IsUnderGuard d n × CanPointTo d n i.0
 IsValid d n (call.Delete i) = IsUnderGuard d n × CanPointTo d n i.0
 IsValid d n (call.LinkTag i) = IsUnderGuard d n × CanPointTo d n i.0
+IsValid d n (call.Next i g) = HasOpen d n g.0 × CanPointTo d n i.0
 IsValid d n call.Queue = IsParticipant d n
 IsValid d n call.Stack = IsParticipant d n
 IsValid d n (call.Push l number g) = HasOpen d n g.0 × IsListName d l
@@ -408,6 +409,10 @@ Does d n p (call.Mark i) (reply.Truth b) new = Retags d i.0 change.Mark b new
 Does d n p (call.Unmark i) (reply.Truth b) new = Retags d i.0 change.Unmark b new
 Does d n p (call.Delete i) (reply.Truth b) new = Retags d i.0 change.Delete b new
 Does d n p (call.LinkTag i) (reply.Tag tag) new = ((k : ℕ) × (cell : CellContents) × IsLink d i.0 k cell × (tag ≡ cell.tag)) × (new ≡ d)
+-- p lets go of the deleted ones between the item and the one that is told
+Does d n p (call.Next i g) (reply.Pointer j tag) new =
+    (k : ℕ) × (t : Tag) × (es : List (Entry Val)) × IsBehind d i.0 k t es × (j ≡ option_map (item_in d.names) (first_slot (left es))) × (tag ≡ no_tag)
+    × Leaves (in_world d (trimmed link_of d.world p k t es)) new
 -- two free cells are taken, whichever
 Does d n p call.Queue (reply.Queue q) new =
     (q.0 ≡ length d.queues) × ((cells : QueueCells) × IsEmptyAt d.world.cells cells.oldest × IsEmptyAt d.world.cells cells.newest

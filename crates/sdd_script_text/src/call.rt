@@ -91,6 +91,8 @@ pub enum Action {
     Delete(ItemName),
     /// `linktag I`: the tag of an entry's link.
     LinkTag(ItemName),
+    /// `next I G`: the next item behind one in its list that isn't deleted; the deleted ones between are let go of.
+    Next(ItemName, GuardName),
     /// `queue`: an empty queue of numbers.
     Queue,
     /// `stack`: an empty stack of numbers.

@@ -250,6 +250,7 @@ fn with_guard_behind(verb: &str, first: Argument, guard: GuardName) -> Option<Ac
             "look" => Some(Action::Look(item, guard)),
             "upgrade" => Some(Action::Upgrade(item, guard)),
             "see" => Some(Action::See(item, guard)),
+            "next" => Some(Action::Next(item, guard)),
             _ => None,
         },
         Argument::Queue(queue) => with_list(verb, ListName::Queue(queue), guard),
