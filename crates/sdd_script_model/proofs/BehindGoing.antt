@@ -1,14 +1,16 @@
 -- The deleted entries behind an item are let go of, and what the script's desk is then
-use Rattle.std.proofs.Common.{◌≡◌, ◌≢◌, ◌⊎◌, ◌+◌, ◌≤◌, inl, inr, ℕ, Bool, true, false, List, [], ◌∷◌, Option, Some, None, slice_index_or, refl, sym, ap, ◌∙◌, subst, arith}
+use Rattle.std.proofs.Common.{◌≡◌, ◌≢◌, ◌⊎◌, ◌+◌, ◌≤◌, inl, inr, ℕ, Bool, true, false, List, [], ◌∷◌, Option, Some, None, is_some, slice_index_or, refl, sym, ap, ◌∙◌, subst, arith}
 use Rattle.std.specs.Prelude.{◌==◌, if◌then◌else◌}
 use Rattle.std.proofs.lemmas.Bool.{cases_eq}
 use Rattle.sdd_core.specs.declared.tag.Tag.{Tag}
 use Rattle.sdd_core.specs.declared.tag.Tag.TheVariants.{None as no_tag}
 use Rattle.sdd_participants.specs.Slab.{entry_at}
+use Rattle.sdd_participants.specs.declared.standing.CellContents.{CellContents}
 use Rattle.sdd_space.specs.Ledger.{Claim, IsLedger, right_to}
 use Rattle.sdd_space.specs.World.{World, IsPlaceOf, value_at}
 use Rattle.sdd_space.specs.WorldChanges.{held_in}
 use Rattle.sdd_space.specs.WorldInvariant.{IsWhole}
+use Rattle.sdd_space.proofs.Entries.{once-waits}
 use Rattle.sdd_lists.specs.Behind.{spliced}
 use Rattle.sdd_lists.specs.Ends.{EndsWith, IsAmong}
 use Rattle.sdd_lists.specs.Lists.{Apart, AreLinked, Entry, IsList, first_slot, is_deleted, left, trimmed}
@@ -25,7 +27,7 @@ use Rattle.sdd_script_model.specs.ScriptState.{ScriptState, IsListCell, IsSecond
 use Rattle.sdd_script_model.specs.Sound.{IsSound, contained, named}
 use Rattle.sdd_script_model.specs.Val.{Val, holdings_of, link_of}
 use Rattle.sdd_script_model.proofs.Chains.{IsMidway, LeavesSound, finishes, own-midway, starts}
-use Rattle.sdd_script_model.proofs.Listed.{AreOwn, StaysGone, among-link, apart-item, apart-own, has-changed, link-apart, links-apart, same-list, unique}
+use Rattle.sdd_script_model.proofs.Listed.{AreOwn, StaysGone, among-link, apart-item, apart-own, has-changed, link-apart, link-inside, links-apart, same-list, unique}
 use Rattle.sdd_script_model.proofs.ListChanges.{among-or}
 use Rattle.sdd_script_model.proofs.QueuePushing.{linked-where}
 use Rattle.sdd_script_model.proofs.StackChains.{between, front-goes, midway}
@@ -192,6 +194,48 @@ module _ (begins : ℕ → Type 0) (seconds : (c b : ℕ) → Type 0) (v : World
       has-changed begins seconds v w had c its (λ a b y. own-still b (own.second a b y)) gone full now list new
       (numbers-spliced e.slot (e ∷ left rest) full
       (let tail = numbers-ends full e rest at numbers in (tail.0, numbers-left rest tail.1)) numbers) of-it forward from links
+
+-- ---- what is behind an item
+
+module _ (d : ScriptState) (s : IsSound d) (i : ℕ) (v : Val) (there : value_at d.world (slot_at d i) ≡ Some v) where
+  taken-is : (x : Option CellContents) → is_some x ≡ true → (cell : CellContents) × (x ≡ Some cell)
+  taken-is None never = absurd (let wrong : false ≡ true = never in cc)
+  taken-is (Some cell) taken = (cell, refl)
+
+  link-there : (cell : CellContents) × (entry_at d.world.cells (link_of v) ≡ Some cell)
+  link-there =
+      let inner = link-inside d.world (λ u. named d u + contained d u) s.ledger (slot_at d i) v there in
+      taken-is (entry_at d.world.cells (link_of v))
+      (once-waits (is_some (entry_at d.world.cells (link_of v))) (omega (arith, s.ledger (right_to (link_of v)), inner)))
+
+  -- there is such a list, which may be empty
+  pub behind-there : (t : Tag) × (es : List (Entry Val)) × IsBehind d i (link_of v) t es
+  behind-there = elim (s.lists.linked (slot_at d i) v there) [
+    | inl none ↦
+        (let cell = link-there in
+        let bare : cell.0.held ≡ None = sym (ap held_in cell.1) ∙ none in
+        let begins : entry_at d.world.cells (link_of v) ≡ Some (record { held = None; tag = cell.0.tag }) =
+        cell.1 ∙ ap (λ (x : Option ℕ). let c : CellContents = record { held = x; tag = cell.0.tag } in Some c) bare in
+        (cell.0.tag, [], record { entry = v; there = there; link = refl; list = record { begins = begins; linked = tt } }))
+    | inr at ↦
+        (let found = among-link d.world (slot_at d i) v at.entries at.list.linked at.among there in
+        let list = list-ends link_of d.world at.entries found.0 found.1 found.2 at.list.linked in
+        (
+          found.0.tag,
+          found.1,
+          record {
+            entry = v;
+            there = there;
+            link = refl;
+            list = subst (λ (x : Val). IsList link_of d.world (link_of x) found.0.tag found.1) found.4 list;
+          },
+        ))
+  ]
+
+-- the first of some entries is there
+pub first-there : (w : World Val) (es : List (Entry Val)) → AreLinked link_of w es → (s : ℕ) → first_slot es ≡ Some s → is_some (value_at w s) ≡ true
+first-there w [] linked s is = absurd (cc)
+first-there w (e ∷ es) linked s is = let same : e.slot ≡ s = cc in ap (λ (j : ℕ). is_some (value_at w j)) (sym same) ∙ ap is_some linked.0.there
 
 -- ---- the line
 
