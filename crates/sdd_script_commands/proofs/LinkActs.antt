@@ -111,7 +111,7 @@ module _ (h : Environment) (t : IsTied h) (whole : IsWhole h.world) (name : Plac
       (next ≡ first_slot (left es)) × (w ≡ trimmed link_of h.world p (link_of v) u es)) →
       item ≡ option_map (item_in h.names.items) next → AreDatedNow h w waited dates →
       Does (desk_of h) (At name (call.Next i g)) (reply.Pointer item no_tag) (record h { world = w; dates = dates })
-  acts-next g waited w dates next item open can told did seen now =
+  acts-next g waited w dates next item under can told did seen now =
       let u : Tag = behind.0 in
       let es : List (Entry Val) = behind.1 in
       let done = did u es behind.2.list in
@@ -120,7 +120,7 @@ module _ (h : Environment) (t : IsTied h) (whole : IsWhole h.world) (name : Plac
       (ap (λ (x : World Val). record (in_world (desk_of h) x) { dates = dates.items }) done.1)
       (next-leaves (desk_of h) t.sound whole p (in_range h t whole name a there) i.0 (link_of v) u es behind.2 dates.items
       (dated-within h t waited told after dates (subst (λ (x : World Val). AreDatedNow h x waited dates) done.1 now))) (
-        (open, can),
+        (under, can),
         (
           link_of v,
           u,

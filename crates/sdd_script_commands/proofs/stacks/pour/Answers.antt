@@ -1,9 +1,12 @@
-use Rattle.std.proofs.Common.{◌≡◌, Some, None, length, slice_index_or, ap, ◌∙◌}
+use Rattle.std.proofs.Common.{◌≡◌, map, length, ap, ◌∙◌}
+use Rattle.std.specs.Option.{option_map}
+use Rattle.sdd_core.specs.declared.refused.Refused.TheVariants.{NoCell}
 use Rattle.sdd_script_text.specs.declared.call.Call.TheVariants.{At}
 use Rattle.sdd_script_text.specs.declared.call.Action.TheVariants as call
 use Rattle.sdd_script_text.specs.declared.answer.Reply.TheVariants as reply
 use Rattle.sdd_interpreter.specs.Interpreter.{desk_of}
-use Rattle.sdd_interpreter.proofs.Acts.{Does}
+use Rattle.sdd_interpreter.specs.Owners.{stack_holding}
+use Rattle.sdd_interpreter.proofs.Acts.{Does, does, goes}
 use Rattle.sdd_interpreter.proofs.Missing.{invalid}
 use Rattle.sdd_interpreter.proofs.Stacks.{no-stack, stack-home}
 use Rattle.sdd_script_commands.proofs.StackActs.{acts-pour_refused, acts-poured, stack-entries}
@@ -36,7 +39,22 @@ returns-in-Err c =
           c.in-Some.ensures.valid refused.0);
     }
 
-poured : (c : goal.After-in-Ok) → Does (desk_of c.stage.inside.hand) (At c.args.name (call.All c.args.stack c.args.guard))
+refused : (c : goal.In-Err) → Does (desk_of c.stage.inside.hand) (At c.args.name (call.All c.args.stack c.args.guard)) (reply.Refused NoCell)
+    (record c.stage.inside.hand { world = c.pour_at.new.world; stacks = c.make_room.new.self })
+refused c =
+    let h = c.stage.inside.hand in
+    let mine = rw c.make_room.ensures.kept at c.in-Some-get.ensures in
+    let its = stack-entries h c.stage.invariant c.args.stack.0 _ mine in
+    let full = c.in-Err.ensures.all its.0 its.1.list in
+    let world = full.2 in
+    does (desk_of h) _ _ (goes (cc (world)) c.stage.invariant.sound c.stage.invariant.guards)
+    (acts-pour_refused h c.stage.invariant c.is_whole.ensures c.args.name _ c.in-Some.ensures.found.0 c.args.stack _ mine c.args.guard
+    c.in-Some.ensures.valid full.0)
+
+pub invariant_of-stage-in-Err : goal.invariant_of-stage-in-Err
+invariant_of-stage-in-Err c = (refused c).0
+
+poured : (c : goal.After-give-name) → Does (desk_of c.stage.inside.hand) (At c.args.name (call.All c.args.stack c.args.guard))
     (reply.Stack (record { 0 = c.give-name.result }))
     (record c.stage.inside.hand { world = c.pour_at.new.world; stacks = c.give-name.new.self })
 poured c =
